@@ -1,0 +1,222 @@
+-- Demand 3: a well-formed program whose obligations are derived is true to its outline in every run. One induction over the list of steps.
+use mathlib.Core.Path.{_≡_, refl, sym, subst}
+use mathlib.Core.Bool.{Bool, true, false, cond, not}
+use mathlib.Core.List.{List, [], _∷_, _++_, map}
+use mathlib.Core.Logic.{_≢_}
+use Prim.Native.Nat.{ℕ, zero, suc, _-_, _<_}
+use native.Mathlib.Omega.{arith}
+use lib.Dec.{T, ltb, ltb→lt, leb→le}
+use lib.ListN.{length, getD}
+use borrow.Author.Tests.{ne-eqb}
+use Rattle.logic.specs.Base.{All, upd, Within}
+use Rattle.logic.specs.Formula.{Formula, Test, Assertion, Formula.bothA, Formula.holds}
+use Rattle.logic.specs.Names.{names, only, isReg, startless}
+use Rattle.logic.specs.Eval.{test, onRegs}
+use Rattle.logic.specs.Machine
+use Rattle.logic.specs.Machine.{State, Program, Action, Instr, Instr.act, Instr.branch, Start, Step, withPoint, exec, allowed, instrAt, permitted, step, run}
+use Rattle.logic.specs.Truth.{True, world}
+use Rattle.logic.specs.Statement.{Statement, implies, triple}
+use Rattle.logic.specs.Obligations
+use Rattle.logic.specs.Obligations.{Outline, Obligation, below, upTo, flat, own, acting, instructed, actions, obligations, wants}
+use Rattle.logic.specs.EveryRun.{proper, WellFormed, Derived, by-rule, Proved, Holds, EveryRun}
+use Rattle.logic.proofs.Base.{by-word, upds, and-left, and-right, and-both, is-true, All-left, All-right}
+use Rattle.logic.proofs.Agreement.{keep, agree-refl, only-any}
+use Rattle.logic.proofs.Invariant.{Wf, start-wf}
+use Rattle.logic.proofs.Halves.{access, notesOf, pick, finish}
+use Rattle.logic.proofs.Arrived.{pick-moved, triple-moved}
+use Rattle.logic.proofs.Steps.{may-pick, exec-halves}
+use Rattle.logic.proofs.Sound.{Valid, ValidTriple, good, finish-wf, sound}
+
+-- what is derived is valid
+all-of : (Q : Statement → Type 0) (d : Statement) (ps : List Statement) → ((i : ℕ) → i < length ps → Q (getD ps i d)) → All Q ps
+all-of Q d [] h = tt
+all-of Q d (p ∷ ps) h = (h 0 (omega arith), all-of Q d ps (λ i b. h (suc i) (omega arith)))
+
+module _ (P : Program) (ok : (t k : ℕ) → Within (P .threads) t → suc k < P .points t → T (proper P (P .points t) (P .code t k))) where
+  derived-valid : {s : Statement} → Derived P s → Valid P s
+  derived-valid (by-rule {n = n} {ps = ps} {s = s} d a f) = sound P ok n s ps d a (all-of (Valid P) s ps (λ i b. derived-valid (f i b)))
+
+-- members of the list of obligations
+flat-in : {A B : Type 0} (Q : B → Type 0) (f : A → List B) (l : List A) → All Q (flat f l) → All (λ a. All Q (f a)) l
+flat-in Q f [] h = tt
+flat-in Q f (a ∷ l) h = (All-left Q (f a) (flat f l) h, flat-in Q f l (All-right Q (f a) (flat f l) h))
+
+map-in : {A B : Type 0} (Q : B → Type 0) (f : A → B) (l : List A) → All Q (map f l) → All (λ a. Q (f a)) l
+map-in Q f [] h = tt
+map-in Q f (a ∷ l) h = (h .0, map-in Q f l (h .1))
+
+below-in : (Q : ℕ → Type 0) (n : ℕ) → All Q (below n) → (k : ℕ) → k < n → Q k
+below-in Q zero h k b = absurd (omega arith)
+below-in Q (suc n) h k b =
+    by-word n (λ k. k < suc n → Q k) (λ b. All-right Q (below n) (n ∷ []) h .0)
+    (λ k q b. below-in Q n (All-left Q (below n) (n ∷ []) h) k (omega arith)) k b
+
+up-in : (Q : ℕ → Type 0) (n : ℕ) → All Q (upTo n) → (k : ℕ) → Within n k → Q k
+up-in Q n h zero w = absurd (omega (arith, w .0))
+up-in Q n h (suc k) w = below-in (λ k. Q (suc k)) n (map-in Q suc (below n) h) k (omega (arith, w .1))
+
+module _ (P : Program) (Q : Obligation → Type 0) (h : All Q (obligations P)) where
+  abbrev starts : List Obligation
+  starts = map Obligations.start (upTo (P .threads))
+
+  abbrev steps : List Obligation
+  steps = flat (λ t. flat (λ k. own P t k (P .code t k)) (instructed P t)) (upTo (P .threads))
+
+  abbrev others : List Obligation
+  others = flat (λ u. flat (λ j. flat (λ t. actions P u j t) (upTo (P .threads))) (below (P .points u))) (upTo (P .threads))
+
+  -- class 1; 2 and 3; 4
+  each-start : (t : ℕ) → Within (P .threads) t → Q (Obligations.start t)
+  each-start = up-in (λ t. Q (Obligations.start t)) (P .threads) (map-in Q Obligations.start (upTo (P .threads)) (All-left Q starts (steps ++ others) h))
+
+  each-step : (t k : ℕ) → Within (P .threads) t → suc k < P .points t → All Q (own P t k (P .code t k))
+  each-step t k w b =
+      below-in (λ k. All Q (own P t k (P .code t k))) (P .points t - 1)
+      (flat-in Q (λ k. own P t k (P .code t k)) (instructed P t)
+      (up-in (λ t. All Q (flat (λ k. own P t k (P .code t k)) (instructed P t))) (P .threads)
+      (flat-in Q (λ t. flat (λ k. own P t k (P .code t k)) (instructed P t)) (upTo (P .threads))
+      (All-left Q steps others (All-right Q starts (steps ++ others) h))) t w)) k (omega arith)
+
+  differ : (u j t : ℕ) → u ≢ t → All Q (actions P u j t) → All Q (flat (λ k. acting P u j t k (P .code t k)) (instructed P t))
+  differ u j t q g =
+      subst (λ (z : Bool). All Q (elim z as (λ y. List Obligation) [ true ↦ [] | false ↦ flat (λ k. acting P u j t k (P .code t k)) (instructed P t) ]))
+      (ne-eqb t u (λ (e : t ≡ u). q (sym e))) g
+
+  each-other : (u j t k : ℕ) → Within (P .threads) u → j < P .points u → Within (P .threads) t → suc k < P .points t → u ≢ t → All Q (acting P u j t k (P .code t k))
+  each-other u j t k w b v c q =
+      below-in (λ k. All Q (acting P u j t k (P .code t k))) (P .points t - 1)
+      (flat-in Q (λ k. acting P u j t k (P .code t k)) (instructed P t) (differ u j t q
+      (up-in (λ t. All Q (actions P u j t)) (P .threads)
+      (flat-in Q (λ t. actions P u j t) (upTo (P .threads))
+      (below-in (λ j. All Q (flat (λ t. actions P u j t) (upTo (P .threads)))) (P .points u)
+      (flat-in Q (λ j. flat (λ t. actions P u j t) (upTo (P .threads))) (below (P .points u))
+      (up-in (λ u. All Q (flat (λ j. flat (λ t. actions P u j t) (upTo (P .threads))) (below (P .points u)))) (P .threads)
+      (flat-in Q (λ u. flat (λ j. flat (λ t. actions P u j t) (upTo (P .threads))) (below (P .points u))) (upTo (P .threads))
+      (All-right Q steps others (All-right Q starts (steps ++ others) h))) u w)) j b)) t v))) k (omega arith)
+
+-- what a run keeps
+record Inv (P : Program) (O : Outline) (s : State) : Type 0 where
+  wf : Wf P s
+  point : (t : ℕ) → Within (P .threads) t → s .point t < P .points t
+  true-there : Holds P O s
+
+module _ (P : Program) (O : Outline) (W : WellFormed P O) (D : Proved P O) where
+  abbrev Wanted : Obligation → Type 0
+  Wanted o = Derived P (wants P O o)
+
+  -- the points change, and nothing else
+  moved-on : (s : State) (t k : ℕ) (a : Assertion) → T (startless a) → True P s a → True P (withPoint s t k) a
+  moved-on s t k a z = keep P (λ n. true) (world P s) (world P (withPoint s t k)) (λ u i c h. h) agree-refl a z (only-any (names a))
+
+  module _ (s : State) (inv : Inv P O s) (t : ℕ) (t-in : Within (P .threads) t) (more : suc (s .point t) < P .points t) where
+    no-start-at : (u : ℕ) → Within (P .threads) u → T (startless (O u (s .point u)))
+    no-start-at u b = W .no-start u (s .point u) b (inv .point u b)
+
+    module _ (c : Action) (e : instrAt P s t ≡ act c) (p : ℕ) (may : T (allowed (act c) t p s)) where
+      its-proper : T (proper P (P .points t) (act c))
+      its-proper = subst (λ (i : Instr). T (proper P (P .points t) i)) e (W .instructions t (s .point t) t-in more)
+
+      halves : finish P (access c) (notesOf c) t p (pick (access c) t p s) ≡ exec P (act c) t p s
+      halves = exec-halves P t p s (inv .wf) (P .points t) c its-proper may
+
+      -- a derived triple takes what is true before to what is true after
+      goes-on : (a b : Assertion) → Derived P (triple t (s .point t) a b) → T (startless a) → True P s a → True P (exec P (act c) t p s) b
+      goes-on a b d z h =
+          subst (λ (s : State). True P s b) halves
+          (triple-moved (inv .wf) t p (access c) (notesOf c) a b
+          (subst (λ (i : Instr). ValidTriple P t i a b) e (derived-valid P (W .instructions) d)) z (may-pick c t p s may) h)
+
+      acted-wf : Wf P (exec P (act c) t p s)
+      acted-wf =
+          let k = pick-moved (inv .wf) t p (access c) (may-pick c t p s may) in
+          subst (Wf P) halves (finish-wf P t (access c) (notesOf c) (good P (P .points t) c its-proper) (pick (access c) t p s) (k .wf) p (k .arrived))
+
+      -- only the acting thread's point changes, to the next one
+      acted-points : exec P (act c) t p s .point ≡ upd (s .point) t (suc (s .point t))
+      acted-points = go c
+        where
+          go : (c : Action) → exec P (act c) t p s .point ≡ upd (s .point) t (suc (s .point t))
+          go (Machine.assign r f) = refl
+          go (Machine.load a r x) = refl
+          go (Machine.write (Machine.store b) x f) = refl
+          go (Machine.write Machine.swap x f) = refl
+
+      acted : Inv P O (exec P (act c) t p s)
+      acted = record {
+        wf = acted-wf;
+        point = λ u b. subst (λ (z : ℕ → ℕ). z u < P .points u) (sym acted-points)
+            (by-word t (λ u. Within (P .threads) u → upd (s .point) t (suc (s .point t)) u < P .points u) (λ b. simp upds more) (λ u n b. simp upds (inv .point u b)) u b);
+        true-there = λ u b. subst (λ (z : ℕ → ℕ). True P (exec P (act c) t p s) (O u (z u))) (sym acted-points)
+            (by-word t (λ u. Within (P .threads) u → True P (exec P (act c) t p s) (O u (upd (s .point) t (suc (s .point t)) u)))
+            (λ b. simp upds (goes-on (O t (s .point t)) (O t (suc (s .point t))) next (no-start-at t b) (inv .true-there t b)))
+            (λ u n b. simp upds (goes-on (bothA (O u (s .point u)) (O t (s .point t))) (O u (s .point u)) (kept u b n)
+            (and-both (startless (O u (s .point u))) (startless (O t (s .point t))) (no-start-at u b) (no-start-at t t-in)) (inv .true-there u b, inv .true-there t t-in)))
+            u b);
+      }
+        where
+          next : Derived P (triple t (s .point t) (O t (s .point t)) (O t (suc (s .point t))))
+          next = rw e at (rw e at (each-step P Wanted D t (s .point t) t-in more)) .0
+
+          kept : (u : ℕ) → Within (P .threads) u → u ≢ t → Derived P (triple t (s .point t) (bothA (O u (s .point u)) (O t (s .point t))) (O u (s .point u)))
+          kept u b n = (rw e at (each-other P Wanted D u (s .point u) t (s .point t) b (inv .point u b) t-in more n)) .0
+
+    -- a branch that goes to the point k
+    goes : (k : ℕ) → k < P .points t → True P s (O t k) → Inv P O (withPoint s t k)
+    goes k b h = record {
+      wf = record { outer = inv .wf .outer; view-in = inv .wf .view-in; stored-in = inv .wf .stored-in; own = inv .wf .own; small = inv .wf .small; reg-small = inv .wf .reg-small };
+      point = by-word t _ (λ c. simp upds b) (λ u n c. simp upds (inv .point u c));
+      true-there = by-word t _ (λ c. simp upds (moved-on s t k (O t k) (W .no-start t k c b) h))
+          (λ u n c. simp upds (moved-on s t k (O u (s .point u)) (no-start-at u c) (inv .true-there u c)));
+    }
+
+    branched : (e : Test) (a : ℕ) → instrAt P s t ≡ branch e a → (p : ℕ) → Inv P O (exec P (branch e a) t p s)
+    branched e a q p = go (test (P .range) (onRegs (s .reg)) e) refl
+      where
+        obs : All Wanted (own P t (s .point t) (branch e a))
+        obs = subst (λ (i : Instr). All Wanted (own P t (s .point t) i)) q (each-step P Wanted D t (s .point t) t-in more)
+
+        target : a < P .points t
+        target = ltb→lt a (P .points t) (and-right (only isReg e) (ltb a (P .points t)) (subst (λ (i : Instr). T (proper P (P .points t) i)) q (W .instructions t (s .point t) t-in more)))
+
+        to-target : Derived P (implies (bothA (O t (s .point t)) (holds e)) (O t a))
+        to-target = rw q at (obs .0)
+
+        to-next : Derived P (implies (bothA (O t (s .point t)) (holds (Formula.not e))) (O t (suc (s .point t))))
+        to-next = rw q at (obs .1 .0)
+
+        go : (b : Bool) → test (P .range) (onRegs (s .reg)) e ≡ b → Inv P O (withPoint s t (cond b a (suc (s .point t))))
+        go true z = goes a target (derived-valid P (W .instructions) to-target s (inv .wf) (inv .true-there t t-in, is-true z))
+        go false z = goes (suc (s .point t)) more (derived-valid P (W .instructions) to-next s (inv .wf) (inv .true-there t t-in, subst (λ (b : Bool). T (not b)) (sym z) tt))
+
+    stepped : (c : Instr) → instrAt P s t ≡ c → (p : ℕ) → T (allowed c t p s) → Inv P O (exec P c t p s)
+    stepped (act c) e p may = acted c e p may
+    stepped (branch f a) e p may = branched f a e p
+
+  -- each step, refused or not
+  step-keeps : (s : State) → Inv P O s → (m : Step) → Inv P O (step P s m)
+  step-keeps s inv m = go (permitted P m s) refl
+    where
+      go : (b : Bool) → permitted P m s ≡ b → Inv P O (cond b (exec P (instrAt P s (m .thread)) (m .thread) (m .position) s) s)
+      go true e =
+          let ok : T (permitted P m s) = is-true e in
+          let t-in : Within (P .threads) (m .thread) = (leb→le 1 (m .thread) (search (and-left, and-right)), leb→le (m .thread) (P .threads) (search (and-left, and-right))) in
+          let more : suc (s .point (m .thread)) < P .points (m .thread) = ltb→lt (suc (s .point (m .thread))) (P .points (m .thread)) (search (and-left, and-right)) in
+          stepped s inv (m .thread) t-in more (instrAt P s (m .thread)) refl (m .position) (search (and-left, and-right))
+      go false e = inv
+
+  run-keeps : (l : List Step) (s : State) → Inv P O s → Inv P O (run P s l)
+  run-keeps [] s inv = inv
+  run-keeps (m ∷ l) s inv = run-keeps l (step P s m) (step-keeps s inv m)
+
+  start-inv : (s : State) → Start P s → Inv P O s
+  start-inv s st =
+      let wf : Wf P s = start-wf (W .some-value) (W .start-values) st in
+      record {
+        wf = wf;
+        point = λ t b. omega (arith, st .points t, W .some-point t b);
+        true-there = λ t b. rw (st .points t) (derived-valid P (W .instructions) (each-start P Wanted D t b) s wf st);
+      }
+
+-- the theorem
+pub every-run : (P : Program) (O : Outline) → WellFormed P O → Proved P O → EveryRun P O
+every-run P O W D = record { holds = λ s st l. run-keeps P O W D l s (start-inv P O W D s st) .true-there }

@@ -1,0 +1,236 @@
+-- Each rule is sound against the machine: where its premises are valid, what it says is valid.
+use mathlib.Core.Path.{_≡_, refl, ap, sym, _∙_, subst}
+use mathlib.Core.Bool.{Bool, true, false, not, _&&_}
+use mathlib.Core.List.{List, [], _∷_, map}
+use mathlib.Core.Logic.{_⊎_, inl, inr}
+use Prim.Native.Nat.{ℕ, suc, _≤_, _<_}
+use native.Mathlib.Omega.{arith}
+use lib.Dec.{T, eqb, ltb, ltb→lt, leb→le}
+use borrow.Author.Tests.{eq-eqb}
+use lib.ListN.{take, drop}
+use Rattle.logic.specs.Base.{All, all, Within, within}
+use Rattle.logic.specs.Formula.{Value, Test, Interval, Assertion, Formula.const, Formula.word, Formula.and, Formula.unsync, Formula.cov, Formula.box, Formula.one, Formula.chop, Formula.sees, Formula.bothA, Formula.eitherA, Formula.holds}
+use Rattle.logic.specs.Names.{Name, n-reg, n-word, n-unsync, n-cov, names, only, isReg, notReg, notWord, startless, plain}
+use Rattle.logic.specs.Eval.{Env, test, onRegs, bounded}
+use Rattle.logic.specs.Table.{Imp}
+use Rattle.logic.specs.Machine
+use Rattle.logic.specs.Machine.{View, State, Program, Mode, Mode.store, Mode.swap, Action, Instr, Instr.act, Instr.branch, Start, at}
+use Rattle.logic.specs.Truth.{Sat, True, Prospect, Sees, Names}
+use Rattle.logic.specs.Statement.{Statement, inside, implies, triple, isBranch, admitted, isImp, impOf}
+use Rattle.logic.specs.Rules.{Rule}
+use Rattle.logic.specs.Inference
+use Rattle.logic.specs.Inference.{Inference, newest, keeps}
+use Rattle.logic.specs.EveryRun.{proper}
+use Rattle.logic.proofs.Base.{and-left, and-right, and-both, is-true, all-All}
+use Rattle.logic.proofs.Cuts.{All-take, All-drop, All-map}
+use Rattle.logic.proofs.Intervals.{rule-33, rule-34, rule-35, rule-36, rule-37, rule-38}
+use Rattle.logic.proofs.Prospects.{from-all}
+use Rattle.logic.proofs.Agreement.{test-agree}
+use Rattle.logic.proofs.Rows.{Small, by-rows}
+use Rattle.logic.proofs.Tables.{by-table}
+use Rattle.logic.proofs.Rule20.{rule-20}
+use Rattle.logic.proofs.Registers.{regs-same, given-small}
+use Rattle.logic.proofs.Invariant.{Wf}
+use Rattle.logic.proofs.Halves.{Note, Access, Access.none, Access.load, Access.write, access, notesOf, Good, memory, finish, untouched}
+use Rattle.logic.proofs.Arrived.{Arrived, Triple}
+use Rattle.logic.proofs.Actions.{write-wf, all-weaken, rule-1, rule-2, rule-3, rule-4, rule-5-load, rule-5-swap, rule-6, rule-7, rule-8, rule-9, rule-10, rule-11, rule-12, rule-13}
+
+-- a triple: of every well-formed state in which the thread has arrived at its pick
+abbrev pub ValidTriple : Program → ℕ → Instr → Assertion → Assertion → Type 0
+ValidTriple P t (act c) a b = Triple P t (access c) (notesOf c) a b
+ValidTriple P t (branch e k) a b = Unit {0}
+
+-- an inclusion: of every list of views whose values are below the range; an implication: of every well-formed state
+abbrev pub Valid : Program → Statement → Type 0
+Valid P (inside i j) = (ρ : View → Env) (l : List View) → All (λ v. Small (P .range) (ρ v)) l → Sat (P .range) ρ i l → Sat (P .range) ρ j l
+Valid P (implies a b) = (s : State) → Wf P s → True P s a → True P s b
+Valid P (triple t k a b) = ValidTriple P t (P .code t k) a b
+
+-- THE SECOND HALF keeps the invariant
+module _ (P : Program) (t : ℕ) where
+  given-in : (A : Access) (ns : List Note) → Good P A ns → (s : State) → Wf P s → (r : ℕ) → finish P A ns t 0 s .reg r < P .range
+  given-in none ns g s wf = given-small P s t ns wf (all-All _ ns g)
+  given-in (load a x) ns g s wf = given-small P s t ns wf (all-All _ ns g)
+  given-in (write m x f) ns g s wf = given-small P s t ns wf (all-All _ ns (g .2))
+
+  memory-wf : (A : Access) (ns : List Note) → Good P A ns → (s : State) → Wf P s → (p : ℕ) → Arrived A t p s → Wf P (memory P A t p s)
+  memory-wf none ns g s wf p arr = wf
+  memory-wf (load a x) ns g s wf p arr = wf
+  memory-wf (write m x f) ns g s wf p arr = write-wf m x f ns g wf p arr
+
+  pub finish-wf : (A : Access) (ns : List Note) → Good P A ns → (s : State) → Wf P s → (p : ℕ) → Arrived A t p s → Wf P (finish P A ns t p s)
+  finish-wf A ns g s wf p arr =
+      let k = memory-wf A ns g s wf p arr in
+      record { outer = k .outer; view-in = k .view-in; stored-in = k .stored-in; own = k .own; small = k .small; reg-small = given-in A ns g s wf }
+
+-- a proper instruction, as the halves ask for it
+pub good : (P : Program) (n : ℕ) (c : Action) → T (proper P n (act c)) → Good P (access c) (notesOf c)
+good P n (Machine.assign r f) h = and-both (bounded (P .range) f) true (search (and-left, and-right)) tt
+good P n (Machine.load a r x) h = tt
+good P n (Machine.write m x f) h = ((leb→le 1 x (search (and-left, and-right)), leb→le x (P .words) (search (and-left, and-right))), search (and-left, and-right), tt)
+
+-- WHAT VALUES VIEWS HAVE
+module _ {P : Program} {s : State} (wf : Wf P s) where
+  small-at : (v : View) → Names (s .size) v → Small (P .range) (at P s v)
+  small-at v h = record { reg = wf .reg-small; word = λ x. wf .small x (v x) (h x) }
+
+  small-held : Small (P .range) (onRegs (s .reg))
+  small-held = record { reg = wf .reg-small; word = λ x. omega (arith, wf .reg-small 0) }
+
+  small-all : (t : ℕ) (l : List View) → Prospect (s .size) (s .view t) l → All (λ v. Small (P .range) (at P s v)) l
+  small-all t (v ∷ l) pr = All-map _ _ (λ w h. small-at w (h .0)) (v ∷ l) (from-all (s .size) (s .view t) (v ∷ l) pr)
+
+  -- a test of registers is the same at every view
+  at-held : (v : View) (e : Test) → T (only isReg e) → test (P .range) (at P s v) e ≡ test (P .range) (onRegs (s .reg)) e
+  at-held v e c = test-agree (P .range) (regs-same refl) e c
+
+-- INTERVALS: 30, 45
+module _ (R : ℕ) (ρ : View → Env) where
+  rule-30 : (e f : Test) → ((v : View) → Small R (ρ v) → T (test R (ρ v) e) → T (test R (ρ v) f))
+      → (l : List View) → All (λ v. Small R (ρ v)) l → All (λ v. T (test R (ρ v) e)) l → All (λ v. T (test R (ρ v) f)) l
+  rule-30 e f g [] s h = tt
+  rule-30 e f g (v ∷ l) s h = (g v (s .0) (h .0), rule-30 e f g l (s .1) (h .1))
+
+  rule-45 : (e f : Test) (l : List View) → All (λ v. T (test R (ρ v) e)) l → All (λ v. T (test R (ρ v) f)) l → All (λ v. T (test R (ρ v) (and e f))) l
+  rule-45 e f [] h g = tt
+  rule-45 e f (v ∷ l) h g = (and-both (test R (ρ v) e) (test R (ρ v) f) (h .0) (g .0), rule-45 e f l (h .1) (g .1))
+
+either-of : {A B C D : Type 0} → (A → C) → (B → D) → A ⊎ B → C ⊎ D
+either-of f g (inl h) = inl (f h)
+either-of f g (inr h) = inr (g h)
+
+one-of : {A B C : Type 0} → (A → C) → (B → C) → A ⊎ B → C
+one-of f g (inl h) = f h
+one-of f g (inr h) = g h
+
+-- rule 1's side condition, as the halves ask for it
+load-keeps : (a : Bool) (r x : ℕ) (n : Name) → T (notReg r n) → T (untouched (load a x) (notesOf (Machine.load a r x)) n)
+load-keeps a r x (n-reg q) h = and-both (not (eqb q r)) true h tt
+load-keeps a r x (n-word q) h = tt
+load-keeps a r x (n-unsync q) h = tt
+load-keeps a r x (n-cov q) h = tt
+
+write-keeps : (m : Mode) (x : ℕ) (f : Value) (n : Name) → T (notWord x n) → T (untouched (write m x f) [] n)
+write-keeps m x f (n-reg q) h = tt
+write-keeps m x f (n-word q) h = h
+write-keeps m x f (n-unsync q) h = h
+write-keeps m x f (n-cov q) h = h
+
+module _ (P : Program) where
+  kept : (t n : ℕ) (c : Instr) (a : Assertion) → T (proper P n c) → T (startless a) → T (keeps c a) → ValidTriple P t c a a
+  kept t n (act (Machine.assign r f)) a ok z h = absurd h
+  kept t n (act (Machine.load q r x)) a ok z h = rule-1 P t (load q x) (notesOf (Machine.load q r x)) tt a z (all-weaken _ _ (load-keeps q r x) (names a) h)
+  kept t n (act (Machine.write m x f)) a ok z h = rule-1 P t (write m x f) [] (good P n (Machine.write m x f) ok) a z (all-weaken _ _ (write-keeps m x f) (names a) h)
+  kept t n (branch e k) a ok z h = absurd h
+
+  -- 14 to 16, of any instruction
+  both-triples : (t : ℕ) (c : Instr) (a b q r : Assertion) → ValidTriple P t c a q → ValidTriple P t c b r → ValidTriple P t c (bothA a b) (bothA q r)
+  both-triples t (act c) a b q r d e = λ s wf p arr h. (d s wf p arr (h .0), e s wf p arr (h .1))
+  both-triples t (branch e k) a b q r d _ = tt
+
+  either-triples : (t : ℕ) (c : Instr) (a b q r : Assertion) → ValidTriple P t c a q → ValidTriple P t c b r → ValidTriple P t c (eitherA a b) (eitherA q r)
+  either-triples t (act c) a b q r d e = λ s wf p arr h. either-of (d s wf p arr) (e s wf p arr) h
+  either-triples t (branch e k) a b q r d _ = tt
+
+  weakened : (t n : ℕ) (c : Instr) (a b q r : Assertion) → T (proper P n c) → Valid P (implies a b) → ValidTriple P t c b q → Valid P (implies q r) → ValidTriple P t c a r
+  weakened t n (act c) a b q r ok i d j = λ s wf p arr h. j _ (finish-wf P t (access c) (notesOf c) (good P n c ok) s wf p arr) (d s wf p arr (i s wf h))
+  weakened t n (branch e k) a b q r ok i d j = tt
+
+  -- 26
+  start-sees : (s : State) → Start P s → (t x : ℕ) → Sees P s t (newest x (const (P .init x)))
+  start-sees s st t x (v ∷ l) pr =
+      let zeros : All (λ (w : View). w x ≡ 0) (v ∷ l) = All-map _ _ (λ w h. omega (arith, h .0 x, st .one-write x)) (v ∷ l) (from-all (s .size) (s .view t) (v ∷ l) pr) in
+      ((0, zeros), All-map _ _ (λ (w : View) e. is-true (eq-eqb (s .row x (w x) .value) (P .init x) (ap (λ i. s .row x i .value) e ∙ st .given-value x))) (v ∷ l) zeros)
+
+  -- 20: the implications among the premises
+  implications : (ps : List Statement) → T (all isImp ps) → All (Valid P) ps → (s : State) → Wf P s
+      → All (λ (p : Imp). True P s (p .left) → True P s (p .right)) (map impOf ps)
+  implications [] h vs s wf = tt
+  implications (inside i j ∷ ps) h vs s wf = absurd h
+  implications (implies a b ∷ ps) h vs s wf = (vs .0 s wf, implications ps h (vs .1) s wf)
+  implications (triple t k a b ∷ ps) h vs s wf = absurd h
+
+  -- every instruction is proper
+  module _ (ok : (t k : ℕ) → Within (P .threads) t → suc k < P .points t → T (proper P (P .points t) (P .code t k))) where
+    -- the instruction of an admitted triple
+    abbrev Proper : Statement → Type 0
+    Proper (inside i j) = Unit {0}
+    Proper (implies a b) = Unit {0}
+    Proper (triple t k a b) = T (proper P (P .points t) (P .code t k))
+
+    its-proper : (s : Statement) → T (admitted P s) → Proper s
+    its-proper (inside i j) h = tt
+    its-proper (implies a b) h = tt
+    its-proper (triple t k a b) h =
+        ok t k (leb→le 1 t (search (and-left, and-right)), leb→le t (P .threads) (search (and-left, and-right))) (ltb→lt (suc k) (P .points t) (search (and-left, and-right)))
+
+    its-good : (t k : ℕ) (c : Action) → P .code t k ≡ act c → T (proper P (P .points t) (P .code t k)) → Good P (access c) (notesOf c)
+    its-good t k c e h = good P (P .points t) c (subst (λ (z : Instr). T (proper P (P .points t) z)) e h)
+
+    -- its formula is over registers
+    written : (t k : ℕ) (m : Mode) (x : ℕ) (f : Value) → P .code t k ≡ act (Machine.write m x f) → T (proper P (P .points t) (P .code t k)) → T (only isReg f)
+    written t k m x f e h =
+        let g : T (proper P (P .points t) (act (Machine.write m x f))) = subst (λ (z : Instr). T (proper P (P .points t) z)) e h in
+        search (and-left, and-right)
+
+    assigned : (t k r : ℕ) (f : Value) → P .code t k ≡ act (Machine.assign r f) → T (proper P (P .points t) (P .code t k)) → T (only isReg f)
+    assigned t k r f e h = and-left (only isReg f) (bounded (P .range) f) (subst (λ (z : Instr). T (proper P (P .points t) z)) e h)
+
+    pub sound : (n : Rule) (s : Statement) (ps : List Statement) → Inference P n ps s → T (admitted P s) → All (Valid P) ps → Valid P s
+    sound n s ps (Inference.i1 {t = t} {k = k} {p = p} c) h vs = kept t (P .points t) (P .code t k) p (its-proper s h) (search (and-left, and-right)) c
+    sound n s ps (Inference.i2 {t = t} {k = k} {r = r} {f = f} {q = q} e) h vs =
+        rw e (rule-2 P t (notesOf (Machine.assign r f)) q (search (and-left, and-right)) (and-both (only isReg f) true (assigned t k r f e (its-proper s h)) tt))
+    sound n s ps (Inference.i3 {t = t} {r = r} {x = x} {acq = acq} {e = e} c) h vs = rw c (rule-3 P t (load acq x) (notesOf (Machine.load acq r x)) e (search (and-left, and-right)))
+    sound n s ps (Inference.i4 {t = t} {r = r} {x = x} {acq = acq} {e = e} {i = i} {q = q} c) h vs =
+        rw c (rule-4 P t (load acq x) (notesOf (Machine.load acq r x)) e (search (and-left, and-right)) i q (rw c at (vs .0)))
+    sound n s ps (Inference.i5-load {t = t} {r = r} {x = x} {i = i} {q = q} e) h vs = rw e (rule-5-load P t x (notesOf (Machine.load true r x)) i q (rw e at (vs .0)))
+    sound n s ps (Inference.i5-swap {t = t} {x = x} {f = f} {i = i} {q = q} e) h vs = rw e (rule-5-swap P t x [] i q f (rw e at (vs .0)))
+    sound n s ps (Inference.i6 {t = t} {k = k} {x = x} {rel = rel} {f = f} e) h vs =
+        rw e (rule-6 P t x f rel (its-good t k (Machine.write (store rel) x f) e (its-proper s h)) (written t k (store rel) x f e (its-proper s h)))
+    sound n s ps (Inference.i7 {t = t} {k = k} {x = x} {u = u} {rel = rel} {f = f} {i = i} e) h vs =
+        rw e (rule-7 P t x f rel (its-good t k (Machine.write (store rel) x f) e (its-proper s h)) (written t k (store rel) x f e (its-proper s h)) u i)
+    sound n s ps (Inference.i8 {t = t} {k = k} {x = x} {u = u} {f = f} {i = i} {j = j} e c) h vs =
+        rw e (rule-8 P t x f (its-good t k (Machine.write (store true) x f) e (its-proper s h)) u i j c)
+    sound n s ps (Inference.i9 {t = t} {k = k} {x = x} {u = u} {m = m} {f = f} {e = e} q c) h vs =
+        rw q (rule-9 P t x f m (its-good t k (Machine.write m x f) q (its-proper s h)) (written t k m x f q (its-proper s h)) u e c)
+    sound n s ps (Inference.i10 {t = t} {x = x} {m = m} {f = f} {i = i} {q = q} e) h vs = rw e (rule-10 P t x [] i q m f (rw e at (vs .0)))
+    sound n s ps (Inference.i11 {t = t} {k = k} {x = x} {f = f} e) h vs =
+        rw e (rule-11 P t x f (its-good t k (Machine.write swap x f) e (its-proper s h)) (written t k swap x f e (its-proper s h)))
+    sound n s ps (Inference.i12 {t = t} {k = k} {x = x} {u = u} {f = f} e) h vs =
+        rw e (rule-12 P t x f (its-good t k (Machine.write swap x f) e (its-proper s h)) (written t k swap x f e (its-proper s h)) u)
+    sound n s ps (Inference.i13 {t = t} {k = k} {x = x} {u = u} {f = f} {j = j} e c) h vs =
+        rw e (rule-13 P t x f (its-good t k (Machine.write swap x f) e (its-proper s h)) u j c)
+    sound n s ps (Inference.i14 {t = t} {k = k} {a = a} {b = b} {q = q} {r = r} z) h vs = both-triples t (P .code t k) a b q r (vs .0) (vs .1 .0)
+    sound n s ps (Inference.i15 {t = t} {k = k} {a = a} {b = b} {q = q} {r = r} z) h vs = either-triples t (P .code t k) a b q r (vs .0) (vs .1 .0)
+    sound n s ps (Inference.i16 {t = t} {k = k} {a = a} {b = b} {q = q} {r = r} z) h vs =
+        weakened t (P .points t) (P .code t k) a b q r (its-proper s h) (vs .0) (vs .1 .0) (vs .1 .1 .0)
+    sound n s ps (Inference.i20 {a = a} {b = b} l i c) h vs = λ s wf g.
+        rule-20 P s (map impOf ps) (record { left = a; right = b }) (by-table (map impOf ps) (record { left = a; right = b }) c) (implications ps i vs s wf) g
+    sound n s ps (Inference.i21 {e = e} {f = f} c) h vs = λ s wf g. by-rows (P .range) e f c (onRegs (s .reg)) (small-held wf) g
+    sound n s ps (Inference.i22 {t = t}) h vs = λ s wf g l pr. vs .0 (at P s) l (small-all wf t l pr) (g l pr)
+    sound n s ps (Inference.i23 {t = t} {e = e} {f = f} c) h vs = λ s wf g.
+        subst T (at-held wf (s .view t) f h)
+        (by-rows (P .range) e f c (at P s (s .view t)) (small-at wf (s .view t) (wf .view-in t)) (g (s .view t ∷ []) (wf .view-in t, (λ y. omega arith), tt) .0))
+    sound n s ps (Inference.i24 {t = t} {e = e} {f = f} c) h vs = λ s wf g l pr.
+        All-map _ _ (λ v k. by-rows (P .range) e f c (at P s v) k (subst T (sym (at-held wf v e (and-left (only isReg e) true h))) g)) l (small-all wf t l pr)
+    sound n s ps Inference.i25 h vs = λ s wf g l pr. (g .0 l pr, g .1 l pr)
+    sound n s ps (Inference.i26 {t = t} {x = x}) h vs = λ s wf g. start-sees s g t x
+    sound n s ps (Inference.i27 {r = r}) h vs = λ s wf g. is-true (eq-eqb (s .reg r) 0 (g .registers r))
+    sound n s ps (Inference.i30 {e = e} {f = f} c) h vs = λ ρ l small g. rule-30 (P .range) ρ e f (λ v. by-rows (P .range) e f c (ρ v)) l small g
+    sound n s ps Inference.i31 h vs = λ ρ l small g. vs .1 .0 ρ l small (vs .0 ρ l small g)
+    sound n s ps Inference.i32 h vs = λ ρ l small g.
+        (g .0, vs .0 ρ (take (g .0) l) (All-take _ (g .0) l small) (g .1), vs .1 .0 ρ (drop (g .0) l) (All-drop _ (g .0) l small) (g .2))
+    sound n s ps (Inference.i33 {a = a} {b = b} {d = d}) h vs = λ ρ l small g. rule-33 (P .range) ρ a b d l g
+    sound n s ps (Inference.i34 {a = a} {b = b} {d = d}) h vs = λ ρ l small g. rule-34 (P .range) ρ a b d l g
+    sound n s ps (Inference.i35 {a = a} {b = b}) h vs = λ ρ l small g. rule-35 (P .range) ρ a b l g
+    sound n s ps (Inference.i36 {a = a} {b = b}) h vs = λ ρ l small g. rule-36 (P .range) ρ a b l g
+    sound n s ps (Inference.i37 {e = e}) h vs = λ ρ l small g. rule-37 (P .range) ρ e l g
+    sound n s ps (Inference.i38 {k = k} {a = a} {b = b}) h vs = λ ρ l small g. rule-38 (P .range) ρ k a b l g
+    sound n s ps Inference.i39 h vs = λ ρ l small g. g .0
+    sound n s ps Inference.i40 h vs = λ ρ l small g. g .1
+    sound n s ps Inference.i41 h vs = λ ρ l small g. (vs .0 ρ l small g, vs .1 .0 ρ l small g)
+    sound n s ps Inference.i42 h vs = λ ρ l small g. inl g
+    sound n s ps Inference.i43 h vs = λ ρ l small g. inr g
+    sound n s ps Inference.i44 h vs = λ ρ l small g. one-of (vs .0 ρ l small) (vs .1 .0 ρ l small) g
+    sound n s ps (Inference.i45 {e = e} {f = f}) h vs = λ ρ l small g. rule-45 (P .range) ρ e f l (g .0) (g .1)
+    sound n s ps Inference.i46 h vs = λ ρ l small g. g

@@ -1,0 +1,42 @@
+-- Values and tests are read plainly, over what the names stand for.
+use mathlib.Core.Bool.{Bool, true, false, not, _&&_, _||_}
+use Prim.Native.Nat.{ℕ, _+_, _%_}
+use lib.Dec.{eqb, ltb}
+use Rattle.logic.specs.Formula.{Formula, Value, Test, Formula.const, Formula.reg, Formula.word, Formula.sum, Formula.equal, Formula.less, Formula.and, Formula.or, Formula.unsync, Formula.cov}
+
+-- what the names stand for
+pub record Env : Type 0 where
+  pub reg : ℕ → ℕ
+  pub word : ℕ → ℕ
+  pub unsync : ℕ → Bool
+  pub cov : ℕ → Bool
+
+-- registers alone: what `holds` and the formulas of instructions are read over
+abbrev pub onRegs : (ℕ → ℕ) → Env
+onRegs g = record { reg = g; word = λ x. 0; unsync = λ x. false; cov = λ x. false }
+
+-- R: how many values there are
+module _ (R : ℕ) where
+  -- sums are modulo R
+  abbrev pub value : Env → Value → ℕ
+  value ρ (const n) = n
+  value ρ (reg r) = ρ .reg r
+  value ρ (word x) = ρ .word x
+  value ρ (sum a b) = (value ρ a + value ρ b) % R
+
+  abbrev pub test : Env → Test → Bool
+  test ρ Formula.false = false
+  test ρ (equal a b) = eqb (value ρ a) (value ρ b)
+  test ρ (less a b) = ltb (value ρ a) (value ρ b)
+  test ρ (Formula.not e) = not (test ρ e)
+  test ρ (and e f) = test ρ e && test ρ f
+  test ρ (or e f) = test ρ e || test ρ f
+  test ρ (unsync x) = ρ .unsync x
+  test ρ (cov x) = ρ .cov x
+
+  -- its constants are values
+  abbrev pub bounded : Value → Bool
+  bounded (const n) = ltb n R
+  bounded (reg r) = true
+  bounded (word x) = true
+  bounded (sum a b) = bounded a && bounded b

@@ -1,0 +1,267 @@
+-- Whether a line fits its row of the table, as a test that computes: what stands in the holes is found, and the pattern so filled is compared.
+-- That this is what the rules say is proved (proofs/Rules.antt), so nothing here has to be believed.
+use mathlib.Core.Bool.{Bool, true, false, _&&_, _||_}
+use mathlib.Core.List.{List, [], _∷_, map}
+use Prim.Native.Nat.{ℕ}
+use lib.Dec.{eqb, leb}
+use lib.ListN.{length}
+use Rattle.logic.specs.Base.{upd, all}
+use Rattle.logic.specs.Limits
+use Rattle.logic.specs.Opcode
+use Rattle.logic.specs.Formula.{Sort, Formula, Value, Test, Interval, Assertion, Formula.const, Formula.reg, Formula.word, Formula.sum, Formula.equal, Formula.less, Formula.and, Formula.or, Formula.unsync, Formula.cov, Formula.box, Formula.one, Formula.chop, Formula.both, Formula.either, Formula.sees, Formula.bothA, Formula.eitherA, Formula.start, Formula.holds, same}
+use Rattle.logic.specs.Names.{only, notWord, notFlag}
+use Rattle.logic.specs.Rows.{byRows}
+use Rattle.logic.specs.Table.{byTable}
+use Rattle.logic.specs.Machine.{Program, Mode.store, Mode.swap, Action.assign, Action.load, Action.write, Instr, Instr.act, Instr.branch}
+use Rattle.logic.specs.Statement.{Statement, inside, implies, triple, isImp, impOf}
+use Rattle.logic.specs.Pattern
+use Rattle.logic.specs.Pattern.{Num, Pattern, Given, Fill, inst}
+use Rattle.logic.specs.Rules.{Rule, Shape, Premises, these, implications, Side, kept, lacks-x, no-flag, by-rows, by-table, Row, row}
+use Rattle.logic.specs.Inference.{keeps}
+
+-- the number, the first and the second part of a formula; where there is none, any
+abbrev pub numberV : Value → ℕ
+numberV (const n) = n
+numberV (reg n) = n
+numberV (word n) = n
+numberV (sum a b) = 0
+
+abbrev pub numberT : Test → ℕ
+numberT Formula.false = 0
+numberT (equal a b) = 0
+numberT (less a b) = 0
+numberT (Formula.not e) = 0
+numberT (and a b) = 0
+numberT (or a b) = 0
+numberT (unsync n) = n
+numberT (cov n) = n
+
+abbrev pub values : Test → Value × Value
+values Formula.false = (const 0, const 0)
+values (equal a b) = (a, b)
+values (less a b) = (a, b)
+values (Formula.not e) = (const 0, const 0)
+values (and a b) = (const 0, const 0)
+values (or a b) = (const 0, const 0)
+values (unsync n) = (const 0, const 0)
+values (cov n) = (const 0, const 0)
+
+abbrev pub tests : Test → Test × Test
+tests Formula.false = (Formula.false, Formula.false)
+tests (equal a b) = (Formula.false, Formula.false)
+tests (less a b) = (Formula.false, Formula.false)
+tests (Formula.not e) = (e, Formula.false)
+tests (and a b) = (a, b)
+tests (or a b) = (a, b)
+tests (unsync n) = (Formula.false, Formula.false)
+tests (cov n) = (Formula.false, Formula.false)
+
+abbrev pub numberI : Interval → ℕ
+numberI (box e) = 0
+numberI (one n) = n
+numberI (chop i j) = 0
+numberI (both i j) = 0
+numberI (either i j) = 0
+
+abbrev pub boxed : Interval → Test
+boxed (box e) = e
+boxed (one n) = Formula.false
+boxed (chop i j) = Formula.false
+boxed (both i j) = Formula.false
+boxed (either i j) = Formula.false
+
+abbrev pub intervals : Interval → Interval × Interval
+intervals (box e) = (one 0, one 0)
+intervals (one n) = (one 0, one 0)
+intervals (chop i j) = (i, j)
+intervals (both i j) = (i, j)
+intervals (either i j) = (i, j)
+
+abbrev pub numberA : Assertion → ℕ
+numberA (sees n i) = n
+numberA (bothA a b) = 0
+numberA (eitherA a b) = 0
+numberA start = 0
+numberA (holds e) = 0
+
+abbrev pub seen : Assertion → Interval
+seen (sees n i) = i
+seen (bothA a b) = one 0
+seen (eitherA a b) = one 0
+seen start = one 0
+seen (holds e) = one 0
+
+abbrev pub assertions : Assertion → Assertion × Assertion
+assertions (sees n i) = (start, start)
+assertions (bothA a b) = (a, b)
+assertions (eitherA a b) = (a, b)
+assertions start = (start, start)
+assertions (holds e) = (start, start)
+
+abbrev pub held : Assertion → Test
+held (sees n i) = Formula.false
+held (bothA a b) = Formula.false
+held (eitherA a b) = Formula.false
+held start = Formula.false
+held (holds e) = e
+
+abbrev pub empty : Fill
+empty = record { u = 0; y = 0; assertion = λ k. start; interval = λ k. one 0; test = λ k. Formula.false }
+
+abbrev pub findN : Num → ℕ → Fill → Fill
+findN Pattern.t n σ = σ
+findN Pattern.x n σ = σ
+findN Pattern.r n σ = σ
+findN Pattern.u n σ = record { u = n; y = σ .y; assertion = σ .assertion; interval = σ .interval; test = σ .test }
+findN Pattern.y n σ = record { u = σ .u; y = n; assertion = σ .assertion; interval = σ .interval; test = σ .test }
+
+-- σ with the holes of the pattern as they stand in the formula; nothing is found in what is replaced
+abbrev pub find : {s : Sort} → Pattern s → Formula s → Fill → Fill
+find (Pattern.anyA k) a σ = record { u = σ .u; y = σ .y; assertion = upd (σ .assertion) k a; interval = σ .interval; test = σ .test }
+find (Pattern.anyI k) a σ = record { u = σ .u; y = σ .y; assertion = σ .assertion; interval = upd (σ .interval) k a; test = σ .test }
+find (Pattern.anyE k) a σ = record { u = σ .u; y = σ .y; assertion = σ .assertion; interval = σ .interval; test = upd (σ .test) k a }
+find Pattern.f a σ = σ
+find Pattern.startOf-y a σ = σ
+find (Pattern.with b p) a σ = σ
+find (Pattern.const n) a σ = σ
+find (Pattern.reg n) a σ = findN n (numberV a) σ
+find (Pattern.word n) a σ = findN n (numberV a) σ
+find (Pattern.equal p q) a σ = find q (values a .1) (find p (values a .0) σ)
+find (Pattern.and p q) a σ = find q (tests a .1) (find p (tests a .0) σ)
+find (Pattern.unsync n) a σ = findN n (numberT a) σ
+find (Pattern.cov n) a σ = findN n (numberT a) σ
+find (Pattern.box p) a σ = find p (boxed a) σ
+find (Pattern.one n) a σ = findN n (numberI a) σ
+find (Pattern.chop p q) a σ = find q (intervals a .1) (find p (intervals a .0) σ)
+find (Pattern.both p q) a σ = find q (intervals a .1) (find p (intervals a .0) σ)
+find (Pattern.either p q) a σ = find q (intervals a .1) (find p (intervals a .0) σ)
+find (Pattern.sees n p) a σ = find p (seen a) (findN n (numberA a) σ)
+find (Pattern.bothA p q) a σ = find q (assertions a .1) (find p (assertions a .0) σ)
+find (Pattern.eitherA p q) a σ = find q (assertions a .1) (find p (assertions a .0) σ)
+find Pattern.start a σ = σ
+find (Pattern.holds p) a σ = find p (held a) σ
+
+abbrev pub findLine : Shape → Statement → Fill → Fill
+findLine (Shape.inside p q) (inside i j) σ = find q j (find p i σ)
+findLine (Shape.inside p q) (implies a b) σ = σ
+findLine (Shape.inside p q) (triple t k a b) σ = σ
+findLine (Shape.implies p q) (inside i j) σ = σ
+findLine (Shape.implies p q) (implies a b) σ = find q b (find p a σ)
+findLine (Shape.implies p q) (triple t k a b) σ = σ
+findLine (Shape.triple p q) (inside i j) σ = σ
+findLine (Shape.triple p q) (implies a b) σ = σ
+findLine (Shape.triple p q) (triple t k a b) σ = find q b (find p a σ)
+
+abbrev pub findAll : List Shape → List Statement → Fill → Fill
+findAll [] ps σ = σ
+findAll (p ∷ l) [] σ = σ
+findAll (p ∷ l) (s ∷ ps) σ = findAll l ps (findLine p s σ)
+
+abbrev pub findPremises : Premises → List Statement → Fill → Fill
+findPremises (these l) ps σ = findAll l ps σ
+findPremises implications ps σ = σ
+
+-- the holes of the row as they stand in the line and its premises
+abbrev pub found : Row → Statement → List Statement → Fill
+found R s ps = findPremises (R .premises) ps (findLine (R .says) s empty)
+
+abbrev pub sameStatement : Statement → Statement → Bool
+sameStatement (inside i j) (inside k l) = same i k && same j l
+sameStatement (inside i j) (implies c d) = false
+sameStatement (inside i j) (triple t k c d) = false
+sameStatement (implies a b) (inside k l) = false
+sameStatement (implies a b) (implies c d) = same a c && same b d
+sameStatement (implies a b) (triple t k c d) = false
+sameStatement (triple t k a b) (inside i j) = false
+sameStatement (triple t k a b) (implies c d) = false
+sameStatement (triple t k a b) (triple u j c d) = (eqb t u && eqb k j) && (same a c && same b d)
+
+abbrev pub sameAll : List Statement → List Statement → Bool
+sameAll [] [] = true
+sameAll [] (s ∷ l) = false
+sameAll (s ∷ l) [] = false
+sameAll (s ∷ l) (r ∷ m) = sameStatement s r && sameAll l m
+
+abbrev pub isAmong : ℕ → List ℕ → Bool
+isAmong n [] = false
+isAmong n (m ∷ l) = eqb n m || isAmong n l
+
+abbrev pub opcode : Instr → ℕ
+opcode (act (assign r f)) = Opcode.assign
+opcode (act (load false r x)) = Opcode.load
+opcode (act (load true r x)) = Opcode.acquire
+opcode (act (write (store false) x f)) = Opcode.store
+opcode (act (write (store true) x f)) = Opcode.release
+opcode (act (write swap x f)) = Opcode.swap
+opcode (branch e a) = Opcode.branch
+
+-- the instruction's word, register, formula
+abbrev pub wordOf : Instr → ℕ
+wordOf (act (assign r f)) = 0
+wordOf (act (load acquires r x)) = x
+wordOf (act (write m x f)) = x
+wordOf (branch e a) = 0
+
+abbrev pub regOf : Instr → ℕ
+regOf (act (assign r f)) = r
+regOf (act (load acquires r x)) = r
+regOf (act (write m x f)) = 0
+regOf (branch e a) = 0
+
+abbrev pub formulaOf : Instr → Value
+formulaOf (act (assign r f)) = f
+formulaOf (act (load acquires r x)) = const 0
+formulaOf (act (write m x f)) = f
+formulaOf (branch e a) = const 0
+
+-- where the line stands
+abbrev pub threadOf : Statement → ℕ
+threadOf (inside i j) = 0
+threadOf (implies a b) = 0
+threadOf (triple t k a b) = t
+
+abbrev pub pointOf : Statement → ℕ
+pointOf (inside i j) = 0
+pointOf (implies a b) = 0
+pointOf (triple t k a b) = k
+
+module _ (P : Program) where
+  module _ (t k : ℕ) where
+    -- with the instruction at the point k of t
+    abbrev pub given : Given
+    given = record { t = t; x = wordOf (P .code t k); r = regOf (P .code t k); f = formulaOf (P .code t k); init = P .init }
+
+    abbrev pub filled : Fill → Shape → Statement
+    filled σ (Shape.inside p q) = inside (inst given σ p) (inst given σ q)
+    filled σ (Shape.implies p q) = implies (inst given σ p) (inst given σ q)
+    filled σ (Shape.triple p q) = triple t k (inst given σ p) (inst given σ q)
+
+    abbrev pub filledAll : Fill → List Shape → List Statement
+    filledAll σ [] = []
+    filledAll σ (p ∷ l) = filled σ p ∷ filledAll σ l
+
+    abbrev pub premisesFit : Fill → Premises → List Statement → Bool
+    premisesFit σ (these l) ps = sameAll (filledAll σ l) ps
+    premisesFit σ implications ps = leb (length ps) Limits.premises && all isImp ps
+
+    abbrev pub sideHolds : Fill → Statement → List Statement → Side → Bool
+    sideHolds σ s ps (kept p) = keeps (P .code t k) (inst given σ p)
+    sideHolds σ s ps (lacks-x p) = only (notWord (wordOf (P .code t k))) (inst given σ p)
+    sideHolds σ s ps (no-flag p) = only (notFlag (wordOf (P .code t k))) (inst given σ p)
+    sideHolds σ s ps (by-rows p q) = byRows (P .range) (inst given σ p) (inst given σ q)
+    sideHolds σ s ps by-table = byTable (map impOf ps) (impOf s)
+
+    abbrev pub operationFits : Shape → List ℕ → Bool
+    operationFits (Shape.inside p q) ops = true
+    operationFits (Shape.implies p q) ops = true
+    operationFits (Shape.triple p q) ops = isAmong (opcode (P .code t k)) ops
+
+    -- the line says the shape filled so, its premises too, and the operation and the side conditions are right
+    abbrev pub fitsBy : Fill → Row → Statement → List Statement → Bool
+    fitsBy σ R s ps =
+        (sameStatement (filled σ (R .says)) s && premisesFit σ (R .premises) ps)
+        && (operationFits (R .says) (R .operations) && all (sideHolds σ s ps) (R .sides))
+
+  -- the statement fits the rule's row, with these premises
+  abbrev pub fits : Rule → Statement → List Statement → Bool
+  fits n s ps = fitsBy (threadOf s) (pointOf s) (found (row n) s ps) (row n) s ps

@@ -1,0 +1,75 @@
+-- The obligations of a program and its outline, in order, and what each asks for.
+use mathlib.Core.Bool.{true, false}
+use mathlib.Core.List.{List, [], _∷_, _++_, map}
+use Prim.Native.Nat.{ℕ, zero, suc, _-_}
+use lib.Dec.{eqb}
+use Rattle.logic.specs.Formula.{Formula, Assertion, Formula.bothA, Formula.holds}
+use Rattle.logic.specs.Machine.{Program, Instr, Instr.act, Instr.branch}
+use Rattle.logic.specs.Statement.{Statement, implies, triple}
+
+-- class 1: start t. Class 2: step t k, the instruction at point k of t leads to the next point. Class 3: taken t k, a branch leads to its target.
+-- Class 4: interference u j t k, the assertion of u at its point j under the instruction at point k of t
+pub data Obligation : Type 0 where
+  start : ℕ → Obligation
+  step taken : ℕ → ℕ → Obligation
+  interference : ℕ → ℕ → ℕ → ℕ → Obligation
+
+-- an assertion for each thread and point
+abbrev pub Outline : Type 0
+Outline = ℕ → ℕ → Assertion
+
+-- 0 to n - 1; 1 to n
+abbrev pub below : ℕ → List ℕ
+below zero = []
+below (suc n) = below n ++ (n ∷ [])
+
+abbrev pub upTo : ℕ → List ℕ
+upTo n = map suc (below n)
+
+abbrev pub flat : {A B : Type 0} → (A → List B) → List A → List B
+flat f [] = []
+flat f (a ∷ l) = f a ++ flat f l
+
+module _ (P : Program) where
+  -- an instruction takes its point's assertion to the next; a branch first gives its target, then the next point
+  abbrev pub own : ℕ → ℕ → Instr → List Obligation
+  own t k (act c) = step t k ∷ []
+  own t k (branch e a) = taken t k ∷ step t k ∷ []
+
+  -- the action is no branch
+  abbrev pub acting : ℕ → ℕ → ℕ → ℕ → Instr → List Obligation
+  acting u j t k (act c) = interference u j t k ∷ []
+  acting u j t k (branch e a) = []
+
+  -- the points of t that have an instruction: all but the last
+  abbrev pub instructed : ℕ → List ℕ
+  instructed t = below (P .points t - 1)
+
+  -- threads differ
+  abbrev pub actions : ℕ → ℕ → ℕ → List Obligation
+  actions u j t = elim (eqb t u) [ true ↦ [] | false ↦ flat (λ k. acting u j t k (P .code t k)) (instructed t) ]
+
+  -- class 1; then by thread and point 2, 3; then 4 by asserting thread, its point, acting thread, acting point
+  abbrev pub obligations : List Obligation
+  obligations =
+      map start (upTo (P .threads))
+      ++ (flat (λ t. flat (λ k. own t k (P .code t k)) (instructed t)) (upTo (P .threads))
+      ++ flat (λ u. flat (λ j. flat (λ t. actions u j t) (upTo (P .threads))) (below (P .points u))) (upTo (P .threads)))
+
+  module _ (O : Outline) where
+    -- the next point: from the assertion by the instruction, or from the assertion and the negated test of a branch
+    abbrev pub wantsNext : ℕ → ℕ → Instr → Statement
+    wantsNext t k (act c) = triple t k (O t k) (O t (suc k))
+    wantsNext t k (branch e a) = implies (bothA (O t k) (holds (Formula.not e))) (O t (suc k))
+
+    -- the target: from the assertion and the test of a branch; an action has none
+    abbrev pub wantsTarget : ℕ → ℕ → Instr → Statement
+    wantsTarget t k (act c) = wantsNext t k (act c)
+    wantsTarget t k (branch e a) = implies (bothA (O t k) (holds e)) (O t a)
+
+    -- what a line has to say; class 4: both(its assertion, the actor's) is kept as the first
+    abbrev pub wants : Obligation → Statement
+    wants (start t) = implies Formula.start (O t 0)
+    wants (step t k) = wantsNext t k (P .code t k)
+    wants (taken t k) = wantsTarget t k (P .code t k)
+    wants (interference u j t k) = triple t k (bothA (O u j) (O t k)) (O u j)

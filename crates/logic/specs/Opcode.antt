@@ -1,0 +1,25 @@
+-- The operations of instructions.
+use Prim.Native.Nat.{ℕ}
+
+abbrev pub assign : ℕ
+assign = 0
+
+abbrev pub load : ℕ
+load = 1
+
+-- an acquiring load
+abbrev pub acquire : ℕ
+acquire = 2
+
+abbrev pub store : ℕ
+store = 3
+
+-- a releasing store
+abbrev pub release : ℕ
+release = 4
+
+abbrev pub swap : ℕ
+swap = 5
+
+abbrev pub branch : ℕ
+branch = 6

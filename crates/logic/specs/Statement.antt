@@ -1,0 +1,38 @@
+-- What a line of a certificate says.
+use mathlib.Core.Bool.{Bool, true, false, not, _&&_}
+use Prim.Native.Nat.{ℕ, suc}
+use lib.Dec.{ltb}
+use Rattle.logic.specs.Base.{within}
+use Rattle.logic.specs.Formula.{Interval, Assertion, Formula.start}
+use Rattle.logic.specs.Names.{startless, plain}
+use Rattle.logic.specs.Table.{Imp}
+use Rattle.logic.specs.Machine.{Program, Instr, Instr.act, Instr.branch}
+
+-- I in J; P to Q; a Hoare triple of the instruction at a point of a thread
+pub data Statement : Type 0 where
+  inside : Interval → Interval → Statement
+  implies : Assertion → Assertion → Statement
+  triple : ℕ → ℕ → Assertion → Assertion → Statement
+
+abbrev pub isBranch : Instr → Bool
+isBranch (act c) = false
+isBranch (branch e a) = true
+
+-- as an image may say it: under holds registers alone (7); a triple names an instruction that is no branch (6), and start is not in it (8)
+abbrev pub admitted : Program → Statement → Bool
+admitted P (inside i j) = true
+admitted P (implies a b) = plain a && plain b
+admitted P (triple t k a b) =
+    ((within (P .threads) t && ltb (suc k) (P .points t)) && not (isBranch (P .code t k)))
+    && ((plain a && plain b) && (startless a && startless b))
+
+abbrev pub isImp : Statement → Bool
+isImp (inside i j) = false
+isImp (implies a b) = true
+isImp (triple t k a b) = false
+
+-- the implication that it is; for the others, any
+abbrev pub impOf : Statement → Imp
+impOf (inside i j) = record { left = start; right = start }
+impOf (implies a b) = record { left = a; right = b }
+impOf (triple t k a b) = record { left = start; right = start }

@@ -1,0 +1,79 @@
+-- Truth tables (rule 20): assertions over what their leaves are taken for.
+use mathlib.Core.Bool.{Bool, true, false, not, _&&_, _||_}
+use mathlib.Core.List.{List, [], _∷_, _++_}
+use Prim.Native.Nat.{ℕ}
+use lib.Dec.{eqb, leb}
+use lib.ListN.{length}
+use Rattle.logic.specs.Base.{all}
+use Rattle.logic.specs.Limits
+use Rattle.logic.specs.Rows.{distinct, everyRow}
+use Rattle.logic.specs.Formula.{Formula, Test, Assertion, Formula.equal, Formula.less, Formula.and, Formula.or, Formula.unsync, Formula.cov, Formula.sees, Formula.bothA, Formula.eitherA, Formula.start, Formula.holds, same}
+
+-- a test and an assertion, where τ and α say which leaves are true. (Flags do not stand under holds; they would be leaves)
+abbrev pub tableT : (Test → Bool) → Test → Bool
+tableT τ Formula.false = false
+tableT τ (equal a b) = τ (equal a b)
+tableT τ (less a b) = τ (less a b)
+tableT τ (Formula.not e) = not (tableT τ e)
+tableT τ (and e f) = tableT τ e && tableT τ f
+tableT τ (or e f) = tableT τ e || tableT τ f
+tableT τ (unsync x) = τ (unsync x)
+tableT τ (cov x) = τ (cov x)
+
+abbrev pub table : (Test → Bool) → (Assertion → Bool) → Assertion → Bool
+table τ α (sees t i) = α (sees t i)
+table τ α (bothA a b) = table τ α a && table τ α b
+table τ α (eitherA a b) = table τ α a || table τ α b
+table τ α start = α start
+table τ α (holds e) = tableT τ e
+
+-- leaves: 24, 27; 9, 10
+pub data Leaf : Type 0 where
+  l-assertion : Assertion → Leaf
+  l-test : Test → Leaf
+
+-- two leaves are one if their bytes are equal
+unfoldable pub same-leaf : Leaf → Leaf → Bool
+same-leaf (l-assertion a) (l-assertion b) = same a b
+same-leaf (l-assertion a) (l-test f) = false
+same-leaf (l-test e) (l-assertion b) = false
+same-leaf (l-test e) (l-test f) = same e f
+
+abbrev pub leavesT : Test → List Leaf
+leavesT Formula.false = []
+leavesT (equal a b) = l-test (equal a b) ∷ []
+leavesT (less a b) = l-test (less a b) ∷ []
+leavesT (Formula.not e) = leavesT e
+leavesT (and e f) = leavesT e ++ leavesT f
+leavesT (or e f) = leavesT e ++ leavesT f
+leavesT (unsync x) = l-test (unsync x) ∷ []
+leavesT (cov x) = l-test (cov x) ∷ []
+
+abbrev pub leaves : Assertion → List Leaf
+leaves (sees t i) = l-assertion (sees t i) ∷ []
+leaves (bothA a b) = leaves a ++ leaves b
+leaves (eitherA a b) = leaves a ++ leaves b
+leaves start = l-assertion start ∷ []
+leaves (holds e) = leavesT e
+
+-- an implication: left and right
+pub record Imp : Type 0 where
+  pub left : Assertion
+  pub right : Assertion
+
+abbrev pub leavesAll : List Imp → List Leaf
+leavesAll [] = []
+leavesAll (p ∷ ps) = (leaves (p .left) ++ leaves (p .right)) ++ leavesAll ps
+
+-- in a row of the table, 1 for true
+abbrev pub inRow : (Leaf → ℕ) → Assertion → Bool
+inRow ν a = table (λ e. eqb (ν (l-test e)) 1) (λ b. eqb (ν (l-assertion b)) 1) a
+
+abbrev pub impRow : (Leaf → ℕ) → Imp → Bool
+impRow ν p = not (inRow ν (p .left)) || inRow ν (p .right)
+
+-- in each row in which every premise is true the conclusion is, and there are at most ten distinct leaves
+abbrev pub byTable : List Imp → Imp → Bool
+byTable ps c =
+    leb (length (distinct same-leaf (leavesAll (c ∷ ps)))) Limits.leaves
+    && everyRow same-leaf (λ l. 2) (leavesAll (c ∷ ps)) (λ ν. not (all (impRow ν) ps) || impRow ν c)

@@ -1,0 +1,1 @@
+// The program logic has no code: its definitions are under specs/, its theorems under proofs/.
