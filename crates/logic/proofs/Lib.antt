@@ -20,3 +20,4 @@ pub mod Sound
 pub mod Runs
 pub mod Fit
 pub mod Rules
+pub mod Computed

@@ -17,7 +17,7 @@ use Rattle.logic.specs.Machine.{State, Program, Action, Instr, Instr.act
 use Rattle.logic.specs.Truth.{True, world}
 use Rattle.logic.specs.Statement.{Statement, implies, triple}
 use Rattle.logic.specs.Obligations
-use Rattle.logic.specs.Obligations.{Outline, Obligation, below, upTo, flat, own, acting, instructed, actions, obligations, wants}
+use Rattle.logic.specs.Obligations.{Outline, Obligation, below, upTo, flat, own, acting, instructed, actions, starts, steps, interferences, obligations, wants}
 use Rattle.logic.specs.EveryRun.{proper, WellFormed, Derived, by-rule, Proved, Holds, EveryRun}
 use Rattle.logic.proofs.Base.{by-word, upds, and-left, and-right, and-both, is-true, All-left, All-right}
 use Rattle.logic.proofs.Agreement.{keep, agree-refl, only-any}
@@ -56,18 +56,9 @@ up-in Q n h zero w = absurd (omega (arith, w .0))
 up-in Q n h (suc k) w = below-in (λ k. Q (suc k)) n (map-in Q suc (below n) h) k (omega (arith, w .1))
 
 module _ (P : Program) (Q : Obligation → Type 0) (h : All Q (obligations P)) where
-  abbrev starts : List Obligation
-  starts = map Obligations.start (upTo (P .threads))
-
-  abbrev steps : List Obligation
-  steps = flat (λ t. flat (λ k. own P t k (P .code t k)) (instructed P t)) (upTo (P .threads))
-
-  abbrev others : List Obligation
-  others = flat (λ u. flat (λ j. flat (λ t. actions P u j t) (upTo (P .threads))) (below (P .points u))) (upTo (P .threads))
-
   -- class 1; 2 and 3; 4
   each-start : (t : ℕ) → Within (P .threads) t → Q (Obligations.start t)
-  each-start = up-in (λ t. Q (Obligations.start t)) (P .threads) (map-in Q Obligations.start (upTo (P .threads)) (All-left Q starts (steps ++ others) h))
+  each-start = up-in (λ t. Q (Obligations.start t)) (P .threads) (map-in Q Obligations.start (upTo (P .threads)) (All-left Q (starts P) (steps P ++ interferences P) h))
 
   each-step : (t k : ℕ) → Within (P .threads) t → suc k < P .points t → All Q (own P t k (P .code t k))
   each-step t k w b =
@@ -75,7 +66,7 @@ module _ (P : Program) (Q : Obligation → Type 0) (h : All Q (obligations P)) w
       (flat-in Q (λ k. own P t k (P .code t k)) (instructed P t)
       (up-in (λ t. All Q (flat (λ k. own P t k (P .code t k)) (instructed P t))) (P .threads)
       (flat-in Q (λ t. flat (λ k. own P t k (P .code t k)) (instructed P t)) (upTo (P .threads))
-      (All-left Q steps others (All-right Q starts (steps ++ others) h))) t w)) k (omega arith)
+      (All-left Q (steps P) (interferences P) (All-right Q (starts P) (steps P ++ interferences P) h))) t w)) k (omega arith)
 
   differ : (u j t : ℕ) → u ≢ t → All Q (actions P u j t) → All Q (flat (λ k. acting P u j t k (P .code t k)) (instructed P t))
   differ u j t q g =
@@ -92,7 +83,7 @@ module _ (P : Program) (Q : Obligation → Type 0) (h : All Q (obligations P)) w
       (flat-in Q (λ j. flat (λ t. actions P u j t) (upTo (P .threads))) (below (P .points u))
       (up-in (λ u. All Q (flat (λ j. flat (λ t. actions P u j t) (upTo (P .threads))) (below (P .points u)))) (P .threads)
       (flat-in Q (λ u. flat (λ j. flat (λ t. actions P u j t) (upTo (P .threads))) (below (P .points u))) (upTo (P .threads))
-      (All-right Q steps others (All-right Q starts (steps ++ others) h))) u w)) j b)) t v))) k (omega arith)
+      (All-right Q (steps P) (interferences P) (All-right Q (starts P) (steps P ++ interferences P) h))) u w)) j b)) t v))) k (omega arith)
 
 -- what a run keeps
 record Inv (P : Program) (O : Outline) (s : State) : Type 0 where

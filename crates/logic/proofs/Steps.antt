@@ -24,8 +24,8 @@ next s t = withPoints s (upd (s .point) t (suc (s .point t)))
 -- the position that is allowed may be picked
 pub may-pick : (c : Action) (t p : ℕ) (s : State) → T (allowed (act c) t p s) → T (mayPick (access c) t p s)
 may-pick (Machine.assign r f) t p s h = h
-may-pick (Machine.load a r x) t p s h = h
-may-pick (Machine.write m x f) t p s h = h
+may-pick (Machine.load a r x) t p s h = search (and-left, and-right)
+may-pick (Machine.write m x f) t p s h = search (and-left, and-right)
 
 module _ (P : Program) (t p : ℕ) where
   -- over registers alone a formula is worked out the same at every view
@@ -69,7 +69,7 @@ module _ (P : Program) (t p : ℕ) where
     load-halves a r x ok = fun-ext (by-word r _ here (λ q n. simp upds))
       where
         here : workedAt P (withView s t (readView s a t x p)) t (upd reg r (word x) r) ≡ upd (s .reg) r (s .row x p .value) r
-        here = simp upds (ap (λ i. s .row x i .value) (simp upds at (pick-moved wf t p (load a x) ok .arrived .here)))
+        here = simp upds (ap (λ i. s .row x i .value) (simp upds at (pick-moved wf t p (load a x) (may-pick (Machine.load a r x) t p s ok) .arrived .here)))
 
     pub exec-halves : (n : ℕ) (c : Action) → T (proper P n (act c)) → T (allowed (act c) t p s)
         → finish P (access c) (notesOf c) t p (pick (access c) t p s) ≡ exec P (act c) t p s

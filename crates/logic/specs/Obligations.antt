@@ -49,12 +49,18 @@ module _ (P : Program) where
   abbrev pub actions : ℕ → ℕ → ℕ → List Obligation
   actions u j t = elim (eqb t u) [ true ↦ [] | false ↦ flat (λ k. acting u j t k (P .code t k)) (instructed t) ]
 
-  -- class 1; then by thread and point 2, 3; then 4 by asserting thread, its point, acting thread, acting point
+  -- class 1; 2 and 3 by thread and point; 4 by asserting thread, its point, acting thread, acting point
+  abbrev pub starts : List Obligation
+  starts = map start (upTo (P .threads))
+
+  abbrev pub steps : List Obligation
+  steps = flat (λ t. flat (λ k. own t k (P .code t k)) (instructed t)) (upTo (P .threads))
+
+  abbrev pub interferences : List Obligation
+  interferences = flat (λ u. flat (λ j. flat (λ t. actions u j t) (upTo (P .threads))) (below (P .points u))) (upTo (P .threads))
+
   abbrev pub obligations : List Obligation
-  obligations =
-      map start (upTo (P .threads))
-      ++ (flat (λ t. flat (λ k. own t k (P .code t k)) (instructed t)) (upTo (P .threads))
-      ++ flat (λ u. flat (λ j. flat (λ t. actions u j t) (upTo (P .threads))) (below (P .points u))) (upTo (P .threads)))
+  obligations = starts ++ (steps ++ interferences)
 
   module _ (O : Outline) where
     -- the next point: from the assertion by the instruction, or from the assertion and the negated test of a branch
