@@ -7,16 +7,18 @@ use lib.Dec.{T, leb, leb→le, le→leb}
 use lib.ListN.{length}
 use Rattle.logic.specs.Base.{upd, all}
 use Rattle.logic.specs.Limits
-use Rattle.logic.specs.Formula.{Value, Assertion}
+use Rattle.logic.specs.Formula.{Value, Test, Assertion, Formula.const, Formula.word, Formula.box, Formula.chop, Formula.sees, Formula.bothA, Formula.eitherA, Formula.start, Formula.holds}
+use Rattle.logic.specs.Replace.{replace, regBy, wordBy}
 use Rattle.logic.specs.Table.{byTable}
 use Rattle.logic.specs.Machine.{Program, Mode, Mode.store, Mode.swap, Action.assign, Action.load, Action.write, Instr, Instr.act, Instr.branch}
-use Rattle.logic.specs.Statement.{Statement, isBranch, isImp, impOf}
+use Rattle.logic.specs.Statement.{Statement, implies, triple, isBranch, isImp, impOf}
 use Rattle.logic.specs.Pattern.{Fill}
 use Rattle.logic.specs.Rules
 use Rattle.logic.specs.Rules.{Rule, row, r1, r2, r3, r4, r5, r6, r7, r8, r9, r10, r11, r12, r13, r14, r15, r16, r20, r21, r22, r23, r24, r25, r26, r27, r30, r31, r32, r33, r34, r35, r36, r37, r38, r39, r40, r41, r42, r43, r44, r45, r46}
-use Rattle.logic.specs.Inference.{Inference, keeps, i1, i2, i3, i4, i5-load, i5-swap, i6, i7, i8, i9, i10, i11, i12, i13, i14, i15, i16, i20, i21, i22, i23, i24, i25, i26, i27, i30, i31, i32, i33, i34, i35, i36, i37, i38, i39, i40, i41, i42, i43, i44, i45, i46}
+use Rattle.logic.specs.Inference.{Inference, newest, keeps, i1, i2, i3, i4, i5-load, i5-swap, i6, i7, i8, i9, i10, i11, i12, i13, i14, i15, i16, i20, i21, i22, i23, i24, i25, i26, i27, i30, i31, i32, i33, i34, i35, i36, i37, i38, i39, i40, i41, i42, i43, i44, i45, i46}
 use Rattle.logic.specs.Fits.{isAmong, opcode, threadOf, pointOf, found, fits}
 use Rattle.logic.proofs.Base.{and-left, and-right, and-both}
+use Rattle.logic.proofs.Encoding.{same-eq, same-refl}
 use Rattle.logic.proofs.Fit.{fit, fit-back, Fit, as-assign, as-load, as-acquire, as-store, as-release, as-write, as-swap}
 
 -- an operation that is no branch
@@ -61,11 +63,17 @@ module _ (P : Program) where
   pub rule-of : (n : Rule) (σ : Fill) (s : Statement) (ps : List Statement) → Fit P (threadOf s) (pointOf s) σ (row n) s ps → Inference P n ps s
   rule-of r1 σ s ps g = subst₂ (Inference P r1) (g .premises) (g .says) (i1 (g .side .0))
   rule-of r2 σ s ps g =
-      subst₂ (Inference P r2) (g .premises) (g .says) (as-assign (P .code (threadOf s) (pointOf s)) (g .op) (λ r f e. rw e (i2 {q = σ .assertion 1} e)))
+      subst₂ (Inference P r2) (g .premises) (g .says) (as-assign (P .code (threadOf s) (pointOf s)) (g .op) (λ r f e.
+      subst (λ (a : Assertion). Inference P r2 [] (triple (threadOf s) (pointOf s) a (σ .assertion 1)))
+      (sym (same-eq (σ .assertion 0) (replace (regBy r f) (σ .assertion 1)) (rw e at (g .side .0)))) (i2 {q = σ .assertion 1} e)))
   rule-of r3 σ s ps g =
-      subst₂ (Inference P r3) (g .premises) (g .says) (as-load (P .code (threadOf s) (pointOf s)) (g .op) (λ acq r x e. rw e (i3 {e = σ .test 0} e)))
+      subst₂ (Inference P r3) (g .premises) (g .says) (as-load (P .code (threadOf s) (pointOf s)) (g .op) (λ acq r x e.
+      subst (λ (a : Test). Inference P r3 [] (triple (threadOf s) (pointOf s) (sees (threadOf s) (box a)) (holds (σ .test 0))))
+      (sym (same-eq (σ .test 1) (replace (regBy r (word x)) (σ .test 0)) (rw e at (g .side .0)))) (i3 {e = σ .test 0} e)))
   rule-of r4 σ s ps g =
-      subst₂ (Inference P r4) (g .premises) (g .says) (as-load (P .code (threadOf s) (pointOf s)) (g .op) (λ acq r x e. rw e (i4 {e = σ .test 0} e)))
+      subst₂ (Inference P r4) (g .premises) (g .says) (as-load (P .code (threadOf s) (pointOf s)) (g .op) (λ acq r x e.
+      subst (λ (a : Test). Inference P r4 (triple (threadOf s) (pointOf s) (sees (threadOf s) (σ .interval 0)) (σ .assertion 1) ∷ []) (triple (threadOf s) (pointOf s) (sees (threadOf s) (chop (box a) (σ .interval 0))) (eitherA (holds (σ .test 0)) (σ .assertion 1))))
+      (sym (same-eq (σ .test 1) (replace (regBy r (word x)) (σ .test 0)) (rw e at (g .side .0)))) (i4 {e = σ .test 0} e)))
   rule-of r5 σ s ps g =
       subst₂ (Inference P r5) (g .premises) (g .says) (as-acquire (P .code (threadOf s) (pointOf s)) (g .op) (λ r x e. rw e (i5-load e)) (λ x f e. rw e (i5-swap e)))
   rule-of r6 σ s ps g =
@@ -75,7 +83,9 @@ module _ (P : Program) where
   rule-of r8 σ s ps g =
       subst₂ (Inference P r8) (g .premises) (g .says) (as-release (P .code (threadOf s) (pointOf s)) (g .op) (λ x f e. rw e (i8 e (rw e at (g .side .0)))))
   rule-of r9 σ s ps g =
-      subst₂ (Inference P r9) (g .premises) (g .says) (as-write (P .code (threadOf s) (pointOf s)) (g .op) (λ m x f e. rw e (i9 {e = σ .test 0} e (rw e at (g .side .0)))))
+      subst₂ (Inference P r9) (g .premises) (g .says) (as-write (P .code (threadOf s) (pointOf s)) (g .op) (λ m x f e.
+      subst (λ (a : Test). Inference P r9 [] (triple (threadOf s) (pointOf s) (bothA (sees (σ .u) (box (σ .test 0))) (sees (σ .u) (box a))) (sees (σ .u) (box (σ .test 0)))))
+      (sym (same-eq (σ .test 1) (replace (wordBy x f) (σ .test 0)) (rw e at (g .side .0)))) (i9 {e = σ .test 0} e (rw e at (g .side .1 .0)))))
   rule-of r10 σ s ps g =
       subst₂ (Inference P r10) (g .premises) (g .says) (as-write (P .code (threadOf s) (pointOf s)) (g .op) (λ m x f e. rw e (i10 e)))
   rule-of r11 σ s ps g =
@@ -96,7 +106,9 @@ module _ (P : Program) where
   rule-of r23 σ s ps g = subst₂ (Inference P r23) (g .premises) (g .says) (i23 (g .side .0))
   rule-of r24 σ s ps g = subst₂ (Inference P r24) (g .premises) (g .says) (i24 (g .side .0))
   rule-of r25 σ s ps g = subst₂ (Inference P r25) (g .premises) (g .says) i25
-  rule-of r26 σ s ps g = subst₂ (Inference P r26) (g .premises) (g .says) i26
+  rule-of r26 σ s ps g =
+      subst₂ (Inference P r26) (g .premises) (g .says)
+      (subst (λ (n : Value). Inference P r26 [] (implies start (sees (σ .u) (newest (σ .y) n)))) (sym (same-eq (σ .value 0) (const (P .init (σ .y))) (g .side .0))) i26)
   rule-of r27 σ s ps g = subst₂ (Inference P r27) (g .premises) (g .says) i27
   rule-of r30 σ s ps g = subst₂ (Inference P r30) (g .premises) (g .says) (i30 (g .side .0))
   rule-of r31 σ s ps g = subst₂ (Inference P r31) (g .premises) (g .says) i31
@@ -120,15 +132,15 @@ module _ (P : Program) where
   pub fits-of : (n : Rule) (s : Statement) (ps : List Statement) → Inference P n ps s → Fit P (threadOf s) (pointOf s) (found (row n) s ps) (row n) s ps
   unfolding upd
   fits-of r1 s ps (i1 {t = t} {k = k} {p = p} c) = record { says = refl; premises = refl; op = op-kept (P .code t k) p c; side = (c, tt) }
-  fits-of r2 s ps (i2 e) = record { says = rw e; premises = refl; op = rw e tt; side = tt }
-  fits-of r3 s ps (i3 {r = r} {x = x} {acq = acq} e) = record { says = rw e; premises = refl; op = rw e (op-load acq r x); side = tt }
-  fits-of r4 s ps (i4 {r = r} {x = x} {acq = acq} e) = record { says = rw e; premises = refl; op = rw e (op-load acq r x); side = tt }
+  fits-of r2 s ps (i2 {r = r} {f = f} {q = q} e) = record { says = refl; premises = refl; op = rw e tt; side = (rw e (same-refl (replace (regBy r f) q)), tt) }
+  fits-of r3 s ps (i3 {r = r} {x = x} {acq = acq} {e = q} e) = record { says = refl; premises = refl; op = rw e (op-load acq r x); side = (rw e (same-refl (replace (regBy r (word x)) q)), tt) }
+  fits-of r4 s ps (i4 {r = r} {x = x} {acq = acq} {e = q} e) = record { says = refl; premises = refl; op = rw e (op-load acq r x); side = (rw e (same-refl (replace (regBy r (word x)) q)), tt) }
   fits-of r5 s ps (i5-load e) = record { says = rw e; premises = refl; op = rw e tt; side = tt }
   fits-of r5 s ps (i5-swap e) = record { says = rw e; premises = refl; op = rw e tt; side = tt }
   fits-of r6 s ps (i6 {x = x} {rel = rel} {f = f} e) = record { says = rw e; premises = refl; op = rw e (op-store rel x f); side = tt }
   fits-of r7 s ps (i7 {x = x} {rel = rel} {f = f} e) = record { says = rw e; premises = refl; op = rw e (op-store rel x f); side = tt }
   fits-of r8 s ps (i8 e c) = record { says = rw e; premises = refl; op = rw e tt; side = (rw e c, tt) }
-  fits-of r9 s ps (i9 {x = x} {m = m} {f = f} e c) = record { says = rw e; premises = refl; op = rw e (op-write m x f); side = (rw e c, tt) }
+  fits-of r9 s ps (i9 {x = x} {m = m} {f = f} {e = q} e c) = record { says = refl; premises = refl; op = rw e (op-write m x f); side = (rw e (same-refl (replace (wordBy x f) q)), (rw e c, tt)) }
   fits-of r10 s ps (i10 {x = x} {m = m} {f = f} e) = record { says = rw e; premises = refl; op = rw e (op-write m x f); side = tt }
   fits-of r11 s ps (i11 e) = record { says = rw e; premises = refl; op = rw e tt; side = tt }
   fits-of r12 s ps (i12 e) = record { says = rw e; premises = refl; op = rw e tt; side = tt }
@@ -142,7 +154,7 @@ module _ (P : Program) where
   fits-of r23 s ps (i23 c) = record { says = refl; premises = refl; op = tt; side = (c, tt) }
   fits-of r24 s ps (i24 c) = record { says = refl; premises = refl; op = tt; side = (c, tt) }
   fits-of r25 s ps i25 = record { says = refl; premises = refl; op = tt; side = tt }
-  fits-of r26 s ps i26 = record { says = refl; premises = refl; op = tt; side = tt }
+  fits-of r26 s ps (i26 {x = x}) = record { says = refl; premises = refl; op = tt; side = (same-refl (const (P .init x)), tt) }
   fits-of r27 s ps i27 = record { says = refl; premises = refl; op = tt; side = tt }
   fits-of r30 s ps (i30 c) = record { says = refl; premises = refl; op = tt; side = (c, tt) }
   fits-of r31 s ps i31 = record { says = refl; premises = refl; op = tt; side = tt }

@@ -10,13 +10,14 @@ use Rattle.logic.specs.Limits
 use Rattle.logic.specs.Opcode
 use Rattle.logic.specs.Formula.{Sort, Formula, Value, Test, Interval, Assertion, Formula.const, Formula.reg, Formula.word, Formula.sum, Formula.equal, Formula.less, Formula.and, Formula.or, Formula.unsync, Formula.cov, Formula.box, Formula.one, Formula.chop, Formula.both, Formula.either, Formula.sees, Formula.bothA, Formula.eitherA, Formula.start, Formula.holds, same}
 use Rattle.logic.specs.Names.{only, notWord, notFlag}
+use Rattle.logic.specs.Replace.{Sub, replace, regBy, wordBy}
 use Rattle.logic.specs.Rows.{byRows}
 use Rattle.logic.specs.Table.{byTable}
 use Rattle.logic.specs.Machine.{Program, Mode.store, Mode.swap, Action.assign, Action.load, Action.write, Instr, Instr.act, Instr.branch}
 use Rattle.logic.specs.Statement.{Statement, inside, implies, triple, isImp, impOf}
 use Rattle.logic.specs.Pattern
-use Rattle.logic.specs.Pattern.{Num, Pattern, Given, Fill, inst}
-use Rattle.logic.specs.Rules.{Rule, Shape, Premises, these, implications, Side, kept, lacks-x, no-flag, by-rows, by-table, Row, row}
+use Rattle.logic.specs.Pattern.{Num, Pattern, Given, Fill, number, inst}
+use Rattle.logic.specs.Rules.{Rule, Shape, Premises, these, implications, By, r-by-f, r-by-x, x-by-f, Side, _is_with_, start-of, kept, lacks-x, no-flag, by-rows, by-table, Row, row}
 use Rattle.logic.specs.Inference.{keeps}
 
 -- the number, the first and the second part of a formula; where there is none, any
@@ -106,23 +107,22 @@ held start = Formula.false
 held (holds e) = e
 
 abbrev pub empty : Fill
-empty = record { u = 0; y = 0; assertion = λ k. start; interval = λ k. one 0; test = λ k. Formula.false }
+empty = record { u = 0; y = 0; assertion = λ k. start; interval = λ k. one 0; test = λ k. Formula.false; value = λ k. const 0 }
 
 abbrev pub findN : Num → ℕ → Fill → Fill
 findN Pattern.t n σ = σ
 findN Pattern.x n σ = σ
 findN Pattern.r n σ = σ
-findN Pattern.u n σ = record { u = n; y = σ .y; assertion = σ .assertion; interval = σ .interval; test = σ .test }
-findN Pattern.y n σ = record { u = σ .u; y = n; assertion = σ .assertion; interval = σ .interval; test = σ .test }
+findN Pattern.u n σ = record { u = n; y = σ .y; assertion = σ .assertion; interval = σ .interval; test = σ .test; value = σ .value }
+findN Pattern.y n σ = record { u = σ .u; y = n; assertion = σ .assertion; interval = σ .interval; test = σ .test; value = σ .value }
 
--- σ with the holes of the pattern as they stand in the formula; nothing is found in what is replaced
+-- σ with the holes of the pattern as they stand in the formula
 abbrev pub find : {s : Sort} → Pattern s → Formula s → Fill → Fill
-find (Pattern.anyA k) a σ = record { u = σ .u; y = σ .y; assertion = upd (σ .assertion) k a; interval = σ .interval; test = σ .test }
-find (Pattern.anyI k) a σ = record { u = σ .u; y = σ .y; assertion = σ .assertion; interval = upd (σ .interval) k a; test = σ .test }
-find (Pattern.anyE k) a σ = record { u = σ .u; y = σ .y; assertion = σ .assertion; interval = σ .interval; test = upd (σ .test) k a }
+find (Pattern.anyA k) a σ = record { u = σ .u; y = σ .y; assertion = upd (σ .assertion) k a; interval = σ .interval; test = σ .test; value = σ .value }
+find (Pattern.anyI k) a σ = record { u = σ .u; y = σ .y; assertion = σ .assertion; interval = upd (σ .interval) k a; test = σ .test; value = σ .value }
+find (Pattern.anyE k) a σ = record { u = σ .u; y = σ .y; assertion = σ .assertion; interval = σ .interval; test = upd (σ .test) k a; value = σ .value }
+find (Pattern.anyV k) a σ = record { u = σ .u; y = σ .y; assertion = σ .assertion; interval = σ .interval; test = σ .test; value = upd (σ .value) k a }
 find Pattern.f a σ = σ
-find Pattern.startOf-y a σ = σ
-find (Pattern.with b p) a σ = σ
 find (Pattern.const n) a σ = σ
 find (Pattern.reg n) a σ = findN n (numberV a) σ
 find (Pattern.word n) a σ = findN n (numberV a) σ
@@ -229,7 +229,7 @@ module _ (P : Program) where
   module _ (t k : ℕ) where
     -- with the instruction at the point k of t
     abbrev pub given : Given
-    given = record { t = t; x = wordOf (P .code t k); r = regOf (P .code t k); f = formulaOf (P .code t k); init = P .init }
+    given = record { t = t; x = wordOf (P .code t k); r = regOf (P .code t k); f = formulaOf (P .code t k) }
 
     abbrev pub filled : Fill → Shape → Statement
     filled σ (Shape.inside p q) = inside (inst given σ p) (inst given σ q)
@@ -244,7 +244,14 @@ module _ (P : Program) where
     premisesFit σ (these l) ps = sameAll (filledAll σ l) ps
     premisesFit σ implications ps = leb (length ps) Limits.premises && all isImp ps
 
+    abbrev pub by : By → Sub
+    by r-by-f = regBy (given .r) (given .f)
+    by r-by-x = regBy (given .r) (word (given .x))
+    by x-by-f = wordBy (given .x) (given .f)
+
     abbrev pub sideHolds : Fill → Statement → List Statement → Side → Bool
+    sideHolds σ s ps (p is q with b) = same (inst given σ p) (replace (by b) (inst given σ q))
+    sideHolds σ s ps (start-of n p) = same (inst given σ p) (const (P .init (number given σ n)))
     sideHolds σ s ps (kept p) = keeps (P .code t k) (inst given σ p)
     sideHolds σ s ps (lacks-x p) = only (notWord (wordOf (P .code t k))) (inst given σ p)
     sideHolds σ s ps (no-flag p) = only (notFlag (wordOf (P .code t k))) (inst given σ p)

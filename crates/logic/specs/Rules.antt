@@ -3,7 +3,7 @@ use mathlib.Core.List.{List, [], _∷_}
 use Prim.Native.Nat.{ℕ}
 use Rattle.logic.specs.Formula.{Sort}
 use Rattle.logic.specs.Opcode
-use Rattle.logic.specs.Pattern.{Num, Pattern, t, x, r, u, y, r-by-f, r-by-x, x-by-f, anyA, anyI, anyE, f, startOf-y, with, const, reg, word, equal, and, unsync, cov, box, one, chop, both, either, sees, bothA, eitherA, start, holds}
+use Rattle.logic.specs.Pattern.{Num, Pattern, t, x, r, u, y, anyA, anyI, anyE, anyV, f, const, reg, word, equal, and, unsync, cov, box, one, chop, both, either, sees, bothA, eitherA, start, holds}
 
 pub data Rule : Type 0 where
   r1 r2 r3 r4 r5 r6 r7 r8 r9 r10 r11 r12 r13 r14 r15 r16 : Rule
@@ -20,9 +20,17 @@ pub data Premises : Type 0 where
   these : List Shape → Premises
   implications : Premises
 
+-- the replacements that rules name
+pub data By : Type 0 where
+  r-by-f r-by-x x-by-f : By
+
+infix 30 _is_with_
+-- what is asked besides. The first is the second with something replaced; it is the start value of the word;
 -- kept: a load's register is not in it, or a store's or swap's word in no role; lacks-x: the word x in no role;
 -- no-flag: neither unsync x nor cov x; wherever the one test is true the other is, by rows; by truth table
 pub data Side : Type 0 where
+  _is_with_ : {s : Sort} → Pattern s → Pattern s → By → Side
+  start-of : Num → Pattern Sort.value → Side
   kept : Pattern Sort.assertion → Side
   lacks-x : Pattern Sort.interval → Side
   no-flag : Pattern Sort.test → Side
@@ -73,7 +81,7 @@ imp p q l sides = record { says = implies p q; premises = these l; operations = 
 abbrev pub inc : Pattern Sort.interval → Pattern Sort.interval → List Shape → List Side → Row
 inc p q l sides = record { says = inside p q; premises = these l; operations = []; sides = sides }
 
--- any assertions, intervals, tests
+-- any assertions, intervals, tests, values
 abbrev pub P : Pattern Sort.assertion
 P = anyA 0
 
@@ -104,6 +112,9 @@ E = anyE 0
 abbrev pub F : Pattern Sort.test
 F = anyE 1
 
+abbrev pub N : Pattern Sort.value
+N = anyV 0
+
 -- one x, and x = f
 abbrev pub newest : Pattern Sort.interval
 newest = both (one x) (box (equal (word x) f))
@@ -114,14 +125,14 @@ C = chop (box (cov x)) (one x)
 
 abbrev pub row : Rule → Row
 row r1 = tri accesses P P [] (kept P ∷ [])
-row r2 = tri assigns (with r-by-f Q) Q [] []
-row r3 = tri loads (sees t (box (with r-by-x E))) (holds E) [] []
-row r4 = tri loads (sees t (chop (box (with r-by-x E)) I)) (eitherA (holds E) Q) (triple (sees t I) Q ∷ []) []
+row r2 = tri assigns P Q [] ((P is Q with r-by-f) ∷ [])
+row r3 = tri loads (sees t (box F)) (holds E) [] ((F is E with r-by-x) ∷ [])
+row r4 = tri loads (sees t (chop (box F) I)) (eitherA (holds E) Q) (triple (sees t I) Q ∷ []) ((F is E with r-by-x) ∷ [])
 row r5 = tri acquiring (sees t (chop (box (unsync x)) I)) Q (triple (sees t I) Q ∷ []) []
 row r6 = tri stores (sees t (one x)) (sees t newest) [] []
 row r7 = tri stores (bothA (sees t (one x)) (sees u I)) (sees u (chop I newest)) [] []
 row r8 = tri releasing (bothA (sees t (one x)) (bothA (sees u I) (sees t J))) (sees u (chop I (chop (box (unsync x)) J))) [] (lacks-x J ∷ [])
-row r9 = tri storesSwaps (bothA (sees u (box E)) (sees u (box (with x-by-f E)))) (sees u (box E)) [] (no-flag E ∷ [])
+row r9 = tri storesSwaps (bothA (sees u (box E)) (sees u (box F))) (sees u (box E)) [] ((F is E with x-by-f) ∷ no-flag E ∷ [])
 row r10 = tri storesSwaps (sees t (chop (box (cov x)) I)) Q (triple (sees t I) Q ∷ []) []
 row r11 = tri swaps (sees t C) (sees t newest) [] []
 row r12 = tri swaps (bothA (sees t C) (sees u C)) (sees u (chop (box (cov x)) newest)) [] []
@@ -135,7 +146,7 @@ row r22 = imp (sees u I) (sees u J) (inside I J ∷ []) []
 row r23 = imp (sees u (box E)) (holds F) [] (by-rows E F ∷ [])
 row r24 = imp (holds E) (sees u (box F)) [] (by-rows E F ∷ [])
 row r25 = imp (bothA (sees u I) (sees u J)) (sees u (both I J)) [] []
-row r26 = imp start (sees u (both (one y) (box (equal (word y) startOf-y)))) [] []
+row r26 = imp start (sees u (both (one y) (box (equal (word y) N)))) [] (start-of y N ∷ [])
 row r27 = imp start (holds (equal (reg y) (const 0))) [] []
 row r30 = inc (box E) (box F) [] (by-rows E F ∷ [])
 row r31 = inc I K (inside I J ∷ inside J K ∷ []) []
