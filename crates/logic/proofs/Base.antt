@@ -122,3 +122,10 @@ is-within n k = go (leb 1 k) (leb k n) refl refl
 -- a Boolean given by its value
 pub is-true : {b : Bool} → b ≡ true → T b
 is-true e = subst T (sym e) tt
+
+-- two tests that are true of the same are one
+pub bool-ext : (a b : Bool) → (T a → T b) → (T b → T a) → a ≡ b
+bool-ext true true f g = refl
+bool-ext true false f g = absurd (f tt)
+bool-ext false true f g = absurd (g tt)
+bool-ext false false f g = refl

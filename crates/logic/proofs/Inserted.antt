@@ -7,7 +7,7 @@ use Prim.Native.Nat.{ℕ, zero, suc, _≤_, _<_}
 use native.Mathlib.Omega.{arith}
 use lib.Dec.{T, ltb, lt→ltb, ltb→lt}
 use Rattle.logic.proofs.Agreement.{Same, transport, All-every}
-use Rattle.logic.proofs.Base.{upd-same, upd-other, by-word, upds, not-eqb}
+use Rattle.logic.proofs.Base.{bool-ext, upd-same, upd-other, by-word, upds, not-eqb}
 use Rattle.logic.proofs.Halves.{downView, put}
 use Rattle.logic.proofs.Invariant.{Wf}
 use Rattle.logic.specs.Base.{Within}
@@ -15,12 +15,6 @@ use Rattle.logic.specs.Formula.{Interval}
 use Rattle.logic.specs.Machine.{View, State, Write, Program, up, down, upView, upWrite, moveTo, at, later}
 use Rattle.logic.specs.Names.{only, notWord, Name, n-reg, n-word, n-unsync, n-cov}
 use Rattle.logic.specs.Truth.{From, Prospect, Names, Sees}
-
-pub bool-ext : (a b : Bool) → (T a → T b) → (T b → T a) → a ≡ b
-bool-ext true true f g = refl
-bool-ext true false f g = absurd (f tt)
-bool-ext false true f g = absurd (g tt)
-bool-ext false false f g = refl
 
 -- a test is the other where each gives the other
 pub same-test : (a b c d : ℕ) → (b < a → d < c) → (d < c → b < a) → ltb b a ≡ ltb d c

@@ -68,12 +68,12 @@ module _ (P : Program) where
       (sym (same-eq (σ .assertion 0) (replace (regBy r f) (σ .assertion 1)) (rw e at (g .side .0)))) (i2 {q = σ .assertion 1} e)))
   rule-of r3 σ s ps g =
       subst₂ (Inference P r3) (g .premises) (g .says) (as-load (P .code (threadOf s) (pointOf s)) (g .op) (λ acq r x e.
-      subst (λ (a : Test). Inference P r3 [] (triple (threadOf s) (pointOf s) (sees (threadOf s) (box a)) (holds (σ .test 0))))
-      (sym (same-eq (σ .test 1) (replace (regBy r (word x)) (σ .test 0)) (rw e at (g .side .0)))) (i3 {e = σ .test 0} e)))
+      subst (λ (a : Test). Inference P r3 [] (triple (threadOf s) (pointOf s) (sees (threadOf s) (box a)) (holds (σ .test 2))))
+      (sym (same-eq (σ .test 3) (replace (regBy r (word x)) (σ .test 2)) (rw e at (g .side .0)))) (i3 {e = σ .test 2} e)))
   rule-of r4 σ s ps g =
       subst₂ (Inference P r4) (g .premises) (g .says) (as-load (P .code (threadOf s) (pointOf s)) (g .op) (λ acq r x e.
-      subst (λ (a : Test). Inference P r4 (triple (threadOf s) (pointOf s) (sees (threadOf s) (σ .interval 0)) (σ .assertion 1) ∷ []) (triple (threadOf s) (pointOf s) (sees (threadOf s) (chop (box a) (σ .interval 0))) (eitherA (holds (σ .test 0)) (σ .assertion 1))))
-      (sym (same-eq (σ .test 1) (replace (regBy r (word x)) (σ .test 0)) (rw e at (g .side .0)))) (i4 {e = σ .test 0} e)))
+      subst (λ (a : Test). Inference P r4 (triple (threadOf s) (pointOf s) (sees (threadOf s) (σ .interval 0)) (σ .assertion 1) ∷ []) (triple (threadOf s) (pointOf s) (sees (threadOf s) (chop (box a) (σ .interval 0))) (eitherA (holds (σ .test 2)) (σ .assertion 1))))
+      (sym (same-eq (σ .test 3) (replace (regBy r (word x)) (σ .test 2)) (rw e at (g .side .0)))) (i4 {e = σ .test 2} e)))
   rule-of r5 σ s ps g =
       subst₂ (Inference P r5) (g .premises) (g .says) (as-acquire (P .code (threadOf s) (pointOf s)) (g .op) (λ r x e. rw e (i5-load e)) (λ x f e. rw e (i5-swap e)))
   rule-of r6 σ s ps g =
@@ -84,8 +84,8 @@ module _ (P : Program) where
       subst₂ (Inference P r8) (g .premises) (g .says) (as-release (P .code (threadOf s) (pointOf s)) (g .op) (λ x f e. rw e (i8 e (rw e at (g .side .0)))))
   rule-of r9 σ s ps g =
       subst₂ (Inference P r9) (g .premises) (g .says) (as-write (P .code (threadOf s) (pointOf s)) (g .op) (λ m x f e.
-      subst (λ (a : Test). Inference P r9 [] (triple (threadOf s) (pointOf s) (bothA (sees (σ .u) (box (σ .test 0))) (sees (σ .u) (box a))) (sees (σ .u) (box (σ .test 0)))))
-      (sym (same-eq (σ .test 1) (replace (wordBy x f) (σ .test 0)) (rw e at (g .side .0)))) (i9 {e = σ .test 0} e (rw e at (g .side .1 .0)))))
+      subst (λ (a : Test). Inference P r9 [] (triple (threadOf s) (pointOf s) (bothA (sees (σ .u) (box (σ .test 2))) (sees (σ .u) (box a))) (sees (σ .u) (box (σ .test 2)))))
+      (sym (same-eq (σ .test 3) (replace (wordBy x f) (σ .test 2)) (rw e at (g .side .0)))) (i9 {e = σ .test 2} e (rw e at (g .side .1 .0)))))
   rule-of r10 σ s ps g =
       subst₂ (Inference P r10) (g .premises) (g .says) (as-write (P .code (threadOf s) (pointOf s)) (g .op) (λ m x f e. rw e (i10 e)))
   rule-of r11 σ s ps g =

@@ -81,7 +81,7 @@ imp p q l sides = record { says = implies p q; premises = these l; operations = 
 abbrev pub inc : Pattern Sort.interval → Pattern Sort.interval → List Shape → List Side → Row
 inc p q l sides = record { says = inside p q; premises = these l; operations = []; sides = sides }
 
--- any assertions, intervals, tests, values
+-- any assertions, intervals, tests, values. No two holes of one rule have one number
 abbrev pub P : Pattern Sort.assertion
 P = anyA 0
 
@@ -107,10 +107,10 @@ abbrev pub L : Pattern Sort.interval
 L = anyI 3
 
 abbrev pub E : Pattern Sort.test
-E = anyE 0
+E = anyE 2
 
 abbrev pub F : Pattern Sort.test
-F = anyE 1
+F = anyE 3
 
 abbrev pub N : Pattern Sort.value
 N = anyV 0

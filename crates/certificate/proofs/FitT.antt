@@ -1,0 +1,522 @@
+-- What the code works out on trees is whether the line fits its rule.
+use mathlib.Core.Path.{_≡_, refl, ap, ap₂, sym, _∙_, subst, subst₂}
+use mathlib.Core.Bool.{Bool, true, false, not, _&&_, _||_}
+use mathlib.Core.List.{List, [], _∷_, map}
+use mathlib.Core.Option.{Option, none, some}
+use Prim.Native.Nat.{ℕ, suc, _-_}
+use native.Mathlib.Omega.{arith}
+use lib.Dec.{T, eqb, ltb, leb, eqb→eq, eqb-refl}
+use borrow.Author.Tests.{eqb-true}
+use lib.ListN.{length}
+use Rattle.logic.specs.Base.{upd, all, All}
+use Rattle.logic.specs.Limits
+use Rattle.logic.specs.Formula.{Sort, Formula, Assertion, Test, Formula.const, Formula.word, same}
+use Rattle.logic.specs.Names.{only, notReg, notWord, notFlag}
+use Rattle.logic.specs.Replace.{replace, regBy, wordBy}
+use Rattle.logic.specs.Rows.{byRows}
+use Rattle.logic.specs.Table.{Imp, byTable}
+use Rattle.logic.specs.Machine.{Program, Mode.store, Mode.swap, Action.assign, Action.load, Action.write, Instr, Instr.act, Instr.branch}
+use Rattle.logic.specs.Statement
+use Rattle.logic.specs.Statement.{Statement, isImp}
+use Rattle.logic.specs.Pattern
+use Rattle.logic.specs.Pattern.{Num, Pattern, Given, Fill, number, inst}
+use Rattle.logic.specs.Rules
+use Rattle.logic.specs.Rules.{Rule, Shape, Shape.inside, Shape.implies, Shape.triple, Premises, these, implications, By, r-by-f, r-by-x, x-by-f, Side, _is_with_, start-of, kept, lacks-x, no-flag, by-rows, by-table, Row, row, r1, r2, r3, r4, r5, r6, r7, r8, r9, r10, r11, r12, r13, r14, r15, r16, r20, r21, r22, r23, r24, r25, r26, r27, r30, r31, r32, r33, r34, r35, r36, r37, r38, r39, r40, r41, r42, r43, r44, r45, r46}
+use Rattle.logic.specs.Inference.{keeps}
+use Rattle.logic.specs.Fits.{isAmong, opcode, wordOf, regOf, formulaOf, threadOf, pointOf, given, by, filled, filledAll, sideHolds, operationFits, found, fits}
+use Rattle.logic.proofs.Base.{bool-ext, and-left, and-right, and-both, all-All}
+use Rattle.logic.proofs.Encoding.{same-eq, same-refl}
+use Rattle.logic.proofs.Fit.{All-all, Fit, PremisesFit, fit}
+use Rattle.logic.proofs.Rules.{rule-of, rule-fits}
+use Rattle.formula.specs.Codes.{hasOperand}
+use Rattle.formula.specs.Tree.{Tree, Tree.node}
+use Rattle.compare.specs.Same.{sameTree}
+use Rattle.compare.specs.Replace.{replaceT, oneName}
+use Rattle.occurs.specs.Occurs.{occurs, register, wordAnyRole, flag}
+use Rattle.trees.specs.Raw.{raw, shaped}
+use Rattle.trees.specs.Rows.{ImpT, rowsT, tableT}
+use Rattle.trees.proofs.Raw.{shaped-raw, raw-same}
+use Rattle.trees.proofs.Replace.{raw-reg, raw-word}
+use Rattle.trees.proofs.Occurs
+use Rattle.trees.proofs.Occurs.{no-register, no-word}
+use Rattle.trees.proofs.Rows.{rawImp, raw-rows, raw-table}
+use Rattle.certificate.specs.Template.{firstHole, firstNumber, formulaHole, numHole, rawP, Holes, instT, fillOf}
+use Rattle.certificate.specs.Match.{Taken, andThen, when, matchT}
+use Rattle.certificate.specs.FitT
+use Rattle.certificate.specs.FitT.{inclusion, implication, hoare, Said, said, Acting, acting, formOf, leftOf, rightOf, placed, matchLine, matchAll, isImplication, matchPremises, preset, orElse, holesFrom, ofWord, replacedNumber, replacing, keepsT, sideT, operationT, restT, answer, fitsAt, fitsT}
+use Rattle.certificate.proofs.Match.{Has, match-sound, then-some, when-some, Goes, goes-then, goes-when, match-goes}
+use Rattle.certificate.proofs.Template.{Agrees, from-tree}
+
+-- LINES AGAINST SHAPES
+
+-- the line has the shape's form and place, and its sides are the templates filled
+pub record Fits (c : Holes) (i k : ℕ) (m : Shape) (v : Said) : Type 0 where
+  pub placed : T (placed (formOf m) i k v)
+  pub left : instT c (leftOf m) ≡ v .left
+  pub right : instT c (rightOf m) ≡ v .right
+
+abbrev pub FitAll : Holes → ℕ → ℕ → List Shape → List Said → Type 0
+FitAll c i k [] [] = Unit {0}
+FitAll c i k [] (v ∷ vs) = ⊥
+FitAll c i k (p ∷ l) [] = ⊥
+FitAll c i k (p ∷ l) (v ∷ vs) = Fits c i k p v × FitAll c i k l vs
+
+abbrev pub FitPremises : Holes → ℕ → ℕ → Premises → List Said → Type 0
+FitPremises c i k (these l) vs = FitAll c i k l vs
+FitPremises c i k implications vs = T (leb (length vs) Limits.premises && all isImplication vs)
+
+none-some : {Z : Type 0} (z : Taken) → none ≡ some z → Z
+none-some z e = let q : _≡_ {A = ℕ} 0 1 = cc in absurd (omega arith)
+
+module _ (c : Holes) (i k : ℕ) where
+  -- what was matched fits
+  line-sound : (m : Shape) (v : Said) (b z : Taken) → matchLine i k m v b ≡ some z → Has c z → Has c b × Fits c i k m v
+  line-sound m v b z e h =
+      then-some (when (placed (formOf m) i k v) b) _ z e λ b₀ e₀ k₀.
+      then-some (matchT (leftOf m) (v .left) b₀) _ z k₀ λ b₁ e₁ k₁.
+      let y = match-sound c (rightOf m) (v .right) b₁ z k₁ h in
+      let x = match-sound c (leftOf m) (v .left) b₀ b₁ e₁ (y .0) in
+      let w = when-some (placed (formOf m) i k v) b b₀ e₀ in
+      (subst (Has c) (sym (w .1)) (x .0), record { placed = w .0; left = x .1; right = y .1 })
+
+  all-sound : (l : List Shape) (vs : List Said) (b z : Taken) → matchAll i k l vs b ≡ some z → Has c z → Has c b × FitAll c i k l vs
+  all-sound [] [] b z e h = (subst (Has c) (let q : z ≡ b = cc in q) h, tt)
+  all-sound [] (v ∷ vs) b z e h = none-some z e
+  all-sound (p ∷ l) [] b z e h = none-some z e
+  all-sound (p ∷ l) (v ∷ vs) b z e h = go (λ b z e h. all-sound l vs b z e h)
+    where
+      go : ((b z : Taken) → matchAll i k l vs b ≡ some z → Has c z → Has c b × FitAll c i k l vs) → Has c b × FitAll c i k (p ∷ l) (v ∷ vs)
+      go ih =
+          then-some (matchLine i k p v b) (matchAll i k l vs) z e λ b₁ e₁ k₁.
+          let y = ih b₁ z k₁ h in
+          let x = line-sound p v b b₁ e₁ (y .0) in
+          (x .0, (x .1, y .1))
+
+  premises-sound : (W : Premises) (vs : List Said) (b z : Taken) → matchPremises i k W vs b ≡ some z → Has c z → Has c b × FitPremises c i k W vs
+  premises-sound (these l) vs b z e h = all-sound l vs b z e h
+  premises-sound implications vs b z e h = let y = when-some (leb (length vs) Limits.premises && all isImplication vs) b z e in (subst (Has c) (sym (y .1)) h, y .0)
+
+  -- what fits is matched
+  line-goes : (m : Shape) (v : Said) (b : Taken) → Fits c i k m v → Has c b → Goes c (matchLine i k m v b)
+  line-goes m v b f h =
+      goes-then c (when (placed (formOf m) i k v) b) _ (goes-when c (placed (formOf m) i k v) b (f .placed) h) λ b₀ h₀.
+      goes-then c (matchT (leftOf m) (v .left) b₀) _ (subst (λ (u : Tree). Goes c (matchT (leftOf m) u b₀)) (f .left) (match-goes c (leftOf m) b₀ h₀)) λ b₁ h₁.
+      subst (λ (u : Tree). Goes c (matchT (rightOf m) u b₁)) (f .right) (match-goes c (rightOf m) b₁ h₁)
+
+  all-goes : (l : List Shape) (vs : List Said) (b : Taken) → FitAll c i k l vs → Has c b → Goes c (matchAll i k l vs b)
+  all-goes [] [] b f h = record { to = b; is = refl; has = h }
+  all-goes [] (v ∷ vs) b f h = absurd f
+  all-goes (p ∷ l) [] b f h = absurd f
+  all-goes (p ∷ l) (v ∷ vs) b f h = goes-then c (matchLine i k p v b) (matchAll i k l vs) (line-goes p v b (f .0) h) (λ z hz. all-goes l vs z (f .1) hz)
+
+  premises-goes : (W : Premises) (vs : List Said) (b : Taken) → FitPremises c i k W vs → Has c b → Goes c (matchPremises i k W vs b)
+  premises-goes (these l) vs b f h = all-goes l vs b f h
+  premises-goes implications vs b f h = goes-when c (leb (length vs) Limits.premises && all isImplication vs) b f h
+
+-- a filling that has what was taken
+has-from : (b : Taken) → Has (holesFrom b) b
+has-from b = record { num = λ j n e. ap (orElse 0) e; tree = λ j u e. ap (orElse Tree.none) e }
+
+-- STATEMENTS
+
+imp-said : (s : Statement) → isImplication (said s) ≡ isImp s
+imp-said (Statement.inside a b) = refl
+imp-said (Statement.implies a b) = refl
+imp-said (Statement.triple j m a b) = refl
+
+all-imp-said : (ps : List Statement) → all isImplication (map said ps) ≡ all isImp ps
+all-imp-said [] = refl
+all-imp-said (s ∷ ps) = ap₂ _&&_ (imp-said s) (all-imp-said ps)
+
+length-said : (ps : List Statement) → length (map said ps) ≡ length ps
+length-said [] = refl
+length-said (s ∷ ps) = ap (λ (n : ℕ). suc n) (length-said ps)
+
+-- the implications among them; of the others any: they have none
+imps-said : (ps : List Statement) → T (all isImp ps) → map FitT.impOf (map said ps) ≡ map rawImp (map Statement.impOf ps)
+imps-said [] h = refl
+imps-said (Statement.inside a b ∷ ps) h = absurd h
+imps-said (Statement.implies a b ∷ ps) h = ap (λ (l : List ImpT). rawImp (record { left = a; right = b }) ∷ l) (imps-said ps h)
+imps-said (Statement.triple j m a b ∷ ps) h = absurd h
+
+module _ (P : Program) (i k : ℕ) (c : Holes) (ag : Agrees (given P i k) c) where
+  -- a line that fits is the shape filled
+  says-from : (m : Shape) (s : Statement) → Fits c i k m (said s) → filled P i k (fillOf c) m ≡ s
+  says-from (inside p q) (Statement.inside a b) f = ap₂ Statement.inside (from-tree (given P i k) c ag p a (f .left)) (from-tree (given P i k) c ag q b (f .right))
+  says-from (inside p q) (Statement.implies a b) f = absurd (f .placed)
+  says-from (inside p q) (Statement.triple j l a b) f = absurd (f .placed)
+  says-from (implies p q) (Statement.inside a b) f = absurd (f .placed)
+  says-from (implies p q) (Statement.implies a b) f = ap₂ Statement.implies (from-tree (given P i k) c ag p a (f .left)) (from-tree (given P i k) c ag q b (f .right))
+  says-from (implies p q) (Statement.triple j l a b) f = absurd (f .placed)
+  says-from (triple p q) (Statement.inside a b) f = absurd (f .placed)
+  says-from (triple p q) (Statement.implies a b) f = absurd (f .placed)
+  says-from (triple p q) (Statement.triple j l a b) f =
+      go (eqb→eq j i (and-left (eqb j i) (eqb l k) (f .placed))) (eqb→eq l k (and-right (eqb j i) (eqb l k) (f .placed)))
+      (from-tree (given P i k) c ag p a (f .left)) (from-tree (given P i k) c ag q b (f .right))
+    where
+      go : j ≡ i → l ≡ k → inst (given P i k) (fillOf c) p ≡ a → inst (given P i k) (fillOf c) q ≡ b
+          → Statement.triple i k (inst (given P i k) (fillOf c) p) (inst (given P i k) (fillOf c) q) ≡ Statement.triple j l a b
+      go x y z w = cc
+
+  all-from : (l : List Shape) (ps : List Statement) → FitAll c i k l (map said ps) → filledAll P i k (fillOf c) l ≡ ps
+  all-from [] [] f = refl
+  all-from [] (s ∷ ps) f = absurd f
+  all-from (m ∷ l) [] f = absurd f
+  all-from (m ∷ l) (s ∷ ps) f = ap₂ (λ (s : Statement) (l : List Statement). s ∷ l) (says-from m s (f .0)) (all-from l ps (f .1))
+
+  premises-from : (W : Premises) (ps : List Statement) → FitPremises c i k W (map said ps) → PremisesFit P i k (fillOf c) W ps
+  premises-from (these l) ps f = all-from l ps f
+  premises-from implications ps f = subst T (ap₂ (λ n b. leb n Limits.premises && b) (length-said ps) (all-imp-said ps)) f
+
+same-comm : {s : Sort} (f h : Formula s) → same f h ≡ same h f
+same-comm f h = bool-ext (same f h) (same h f) (λ z. subst (λ (w : Formula _). T (same w f)) (same-eq f h z) (same-refl f)) (λ z. subst (λ (w : Formula _). T (same w h)) (same-eq h f z) (same-refl h))
+
+-- SIDE CONDITIONS: each is the same of trees and of formulas, if the trees in the holes are those of the formulas
+module _ (P : Program) (i k : ℕ) (σ : Fill) (d : Holes) where
+  abbrev g : Given
+  g = given P i k
+
+  abbrev a : Acting
+  a = acting (P .code i k)
+
+  not-of : (u v : Bool) → u ≡ not v → not u ≡ v
+  not-of u true e = rw e
+  not-of u false e = rw e
+
+  replaced-same : {s : Sort} (b : By) (f h : Formula s) → sameTree (replaceT (oneName (ofWord (P .range) (P .init) a b) (replacedNumber (P .range) (P .init) a b) (replacing (P .range) (P .init) a b)) (raw f)) (raw h) ≡ same h (replace (by P i k b) f)
+  replaced-same r-by-f f h = ap (λ (t : Tree). sameTree t (raw h)) (raw-reg (g .r) (g .f) f) ∙ (raw-same (replace (regBy (g .r) (g .f)) f) h ∙ same-comm (replace (regBy (g .r) (g .f)) f) h)
+  replaced-same r-by-x f h = ap (λ (t : Tree). sameTree t (raw h)) (raw-reg (g .r) (word (g .x)) f) ∙ (raw-same (replace (regBy (g .r) (word (g .x))) f) h ∙ same-comm (replace (regBy (g .r) (word (g .x))) f) h)
+  replaced-same x-by-f f h = ap (λ (t : Tree). sameTree t (raw h)) (raw-word (g .x) (g .f) f) ∙ (raw-same (replace (wordBy (g .x) (g .f)) f) h ∙ same-comm (replace (wordBy (g .x) (g .f)) f) h)
+
+  keeps-same : (c : Instr) (h : Assertion) → keepsT (P .range) (P .init) (acting c) (raw h) ≡ keeps c h
+  keeps-same (act (assign r f)) h = refl
+  keeps-same (act (load true r x)) h = not-of (occurs (register r) [] (raw h)) (only (notReg r) h) (no-register r h)
+  keeps-same (act (load false r x)) h = not-of (occurs (register r) [] (raw h)) (only (notReg r) h) (no-register r h)
+  keeps-same (act (write (store true) x f)) h = not-of (occurs (wordAnyRole x) [] (raw h)) (only (notWord x) h) (no-word x h)
+  keeps-same (act (write (store false) x f)) h = not-of (occurs (wordAnyRole x) [] (raw h)) (only (notWord x) h) (no-word x h)
+  keeps-same (act (write swap x f)) h = not-of (occurs (wordAnyRole x) [] (raw h)) (only (notWord x) h) (no-word x h)
+  keeps-same (branch e n) h = refl
+
+  -- the holes of a side condition
+  abbrev Same : Statement → List Statement → Side → Type 0
+  Same s ps z = sideT (P .range) (P .init) a d (said s) (map said ps) z ≡ sideHolds P i k σ s ps z
+
+  is-same : {r : Sort} (p q : Pattern r) (b : By) (s : Statement) (ps : List Statement) → instT d (rawP p) ≡ raw (inst g σ p) → instT d (rawP q) ≡ raw (inst g σ q) → Same s ps (p is q with b)
+  is-same p q b s ps e f =
+      ap₂ (λ (u v : Tree). sameTree (replaceT (oneName (ofWord (P .range) (P .init) a b) (replacedNumber (P .range) (P .init) a b) (replacing (P .range) (P .init) a b)) u) v) f e
+      ∙ replaced-same b (inst g σ q) (inst g σ p)
+
+  kept-same : (p : Pattern Sort.assertion) (s : Statement) (ps : List Statement) → instT d (rawP p) ≡ raw (inst g σ p) → Same s ps (kept p)
+  kept-same p s ps e = ap (keepsT (P .range) (P .init) a) e ∙ keeps-same (P .code i k) (inst g σ p)
+
+  lacks-same : (p : Pattern Sort.interval) (s : Statement) (ps : List Statement) → instT d (rawP p) ≡ raw (inst g σ p) → Same s ps (lacks-x p)
+  lacks-same p s ps e = ap (λ (u : Tree). not (occurs (wordAnyRole (g .x)) [] u)) e ∙ not-of (occurs (wordAnyRole (g .x)) [] (raw (inst g σ p))) (only (notWord (g .x)) (inst g σ p)) (no-word (g .x) (inst g σ p))
+
+  flag-same : (p : Pattern Sort.test) (s : Statement) (ps : List Statement) → instT d (rawP p) ≡ raw (inst g σ p) → Same s ps (no-flag p)
+  flag-same p s ps e = ap (λ (u : Tree). not (occurs (flag (g .x)) [] u)) e ∙ not-of (occurs (flag (g .x)) [] (raw (inst g σ p))) (only (notFlag (g .x)) (inst g σ p)) (Occurs.no-flag (g .x) (inst g σ p))
+
+  rows-same : (p q : Pattern Sort.test) (s : Statement) (ps : List Statement) → instT d (rawP p) ≡ raw (inst g σ p) → instT d (rawP q) ≡ raw (inst g σ q) → Same s ps (by-rows p q)
+  rows-same p q s ps e f = ap₂ (rowsT (P .range)) e f ∙ raw-rows (P .range) (inst g σ p) (inst g σ q)
+
+  -- the line's sides, as trees: the templates filled with d are the patterns filled with σ
+  abbrev Line : Shape → Type 0
+  Line m = (instT d (leftOf m) ≡ said (filled P i k σ m) .left) × (instT d (rightOf m) ≡ said (filled P i k σ m) .right)
+
+  abbrev Sides : Rule → List Statement → Type 0
+  Sides n ps = All (Same (filled P i k σ (row n .says)) ps) (row n .sides)
+
+  -- by rule: what stands in the holes that are asked about
+  sides-same : (n : Rule) (ps : List Statement) → Line (row n .says) → PremisesFit P i k σ (row n .premises) ps → Sides n ps
+  unfolding hasOperand
+  sides-same r1 ps (e₁, e₂) f = let q0 : d .tree 0 ≡ raw (σ .assertion 0) = cc in (kept-same Rules.P (filled P i k σ (row r1 .says)) ps q0, tt)
+  sides-same r2 ps (e₁, e₂) f = let q0 : d .tree 0 ≡ raw (σ .assertion 0) = cc in let q1 : d .tree 1 ≡ raw (σ .assertion 1) = cc in (is-same Rules.P Rules.Q r-by-f (filled P i k σ (row r2 .says)) ps q0 q1, tt)
+  sides-same r3 ps (e₁, e₂) f = let q3 : d .tree 3 ≡ raw (σ .test 3) = cc in let q2 : d .tree 2 ≡ raw (σ .test 2) = cc in (is-same Rules.F Rules.E r-by-x (filled P i k σ (row r3 .says)) ps q3 q2, tt)
+  sides-same r4 ps (e₁, e₂) f = let q3 : d .tree 3 ≡ raw (σ .test 3) = cc in let q2 : d .tree 2 ≡ raw (σ .test 2) = cc in (is-same Rules.F Rules.E r-by-x (filled P i k σ (row r4 .says)) ps q3 q2, tt)
+  sides-same r5 ps e f = tt
+  sides-same r6 ps e f = tt
+  sides-same r7 ps e f = tt
+  sides-same r8 ps (e₁, e₂) f = let q1 : d .tree 1 ≡ raw (σ .interval 1) = cc in (lacks-same Rules.J (filled P i k σ (row r8 .says)) ps q1, tt)
+  sides-same r9 ps (e₁, e₂) f = let q3 : d .tree 3 ≡ raw (σ .test 3) = cc in let q2 : d .tree 2 ≡ raw (σ .test 2) = cc in (is-same Rules.F Rules.E x-by-f (filled P i k σ (row r9 .says)) ps q3 q2, (flag-same Rules.E (filled P i k σ (row r9 .says)) ps q2, tt))
+  sides-same r10 ps e f = tt
+  sides-same r11 ps e f = tt
+  sides-same r12 ps e f = tt
+  sides-same r13 ps (e₁, e₂) f = let q1 : d .tree 1 ≡ raw (σ .interval 1) = cc in (lacks-same Rules.J (filled P i k σ (row r13 .says)) ps q1, tt)
+  sides-same r14 ps e f = tt
+  sides-same r15 ps e f = tt
+  sides-same r16 ps e f = tt
+  sides-same r20 ps (e₁, e₂) f = (ap (λ (l : List ImpT). tableT l (rawImp (record { left = σ .assertion 0; right = σ .assertion 1 }))) (imps-said ps (and-right (leb (length ps) Limits.premises) (all isImp ps) f)) ∙ raw-table (map Statement.impOf ps) (record { left = σ .assertion 0; right = σ .assertion 1 }), tt)
+  sides-same r21 ps (e₁, e₂) f = let q2 : d .tree 2 ≡ raw (σ .test 2) = cc in let q3 : d .tree 3 ≡ raw (σ .test 3) = cc in (rows-same Rules.E Rules.F (filled P i k σ (row r21 .says)) ps q2 q3, tt)
+  sides-same r22 ps e f = tt
+  sides-same r23 ps (e₁, e₂) f = let q2 : d .tree 2 ≡ raw (σ .test 2) = cc in let q3 : d .tree 3 ≡ raw (σ .test 3) = cc in (rows-same Rules.E Rules.F (filled P i k σ (row r23 .says)) ps q2 q3, tt)
+  sides-same r24 ps (e₁, e₂) f = let q2 : d .tree 2 ≡ raw (σ .test 2) = cc in let q3 : d .tree 3 ≡ raw (σ .test 3) = cc in (rows-same Rules.E Rules.F (filled P i k σ (row r24 .says)) ps q2 q3, tt)
+  sides-same r25 ps e f = tt
+  sides-same r26 ps (e₁, e₂) f = let q0 : d .tree 0 ≡ raw (σ .value 0) = cc in let qy : d .num 4 ≡ σ .y = cc in (ap₂ (λ (u : Tree) (y : ℕ). sameTree u (raw (const (P .init y)))) q0 qy ∙ raw-same (σ .value 0) (const (P .init (σ .y))), tt)
+  sides-same r27 ps e f = tt
+  sides-same r30 ps (e₁, e₂) f = let q2 : d .tree 2 ≡ raw (σ .test 2) = cc in let q3 : d .tree 3 ≡ raw (σ .test 3) = cc in (rows-same Rules.E Rules.F (filled P i k σ (row r30 .says)) ps q2 q3, tt)
+  sides-same r31 ps e f = tt
+  sides-same r32 ps e f = tt
+  sides-same r33 ps e f = tt
+  sides-same r34 ps e f = tt
+  sides-same r35 ps e f = tt
+  sides-same r36 ps e f = tt
+  sides-same r37 ps e f = tt
+  sides-same r38 ps e f = tt
+  sides-same r39 ps e f = tt
+  sides-same r40 ps e f = tt
+  sides-same r41 ps e f = tt
+  sides-same r42 ps e f = tt
+  sides-same r43 ps e f = tt
+  sides-same r44 ps e f = tt
+  sides-same r45 ps e f = tt
+  sides-same r46 ps e f = tt
+
+-- WHAT STANDS IN THE HOLES of a line, found in it
+abbrev leftPart : Tree → Tree
+leftPart Tree.none = Tree.none
+leftPart (node d o l r) = l
+
+abbrev rightPart : Tree → Tree
+rightPart Tree.none = Tree.none
+rightPart (node d o l r) = r
+
+abbrev operandOf : Tree → ℕ
+operandOf Tree.none = 0
+operandOf (node d o l r) = o
+
+-- what is set before the match stays
+abbrev findNum : ℕ → ℕ → Holes → Holes
+findNum o n c = elim (ltb o (numHole Pattern.u)) [ true ↦ c | false ↦ record { num = upd (c .num) o n; tree = c .tree } ]
+
+abbrev findTree : ℕ → Tree → Holes → Holes
+findTree j u c = elim (eqb j formulaHole) [ true ↦ c | false ↦ record { num = c .num; tree = upd (c .tree) j u } ]
+
+abbrev findT : Tree → Tree → Holes → Holes
+findT Tree.none u c = c
+findT (node d o l r) u c = elim (leb firstHole d) [
+  | true ↦ findTree (d - firstHole) u c
+  | false ↦ findT r (rightPart u) (findT l (leftPart u) (elim (ltb o firstNumber) [ true ↦ elim (hasOperand d) [ true ↦ findNum o (operandOf u) c | false ↦ c ] | false ↦ c ]))
+]
+
+abbrev findLine : Shape → Said → Holes → Holes
+findLine m v c = findT (rightOf m) (v .right) (findT (leftOf m) (v .left) c)
+
+abbrev findAll : List Shape → List Said → Holes → Holes
+findAll [] vs c = c
+findAll (m ∷ l) [] c = c
+findAll (m ∷ l) (v ∷ vs) c = findAll l vs (findLine m v c)
+
+abbrev findPremises : Premises → List Said → Holes → Holes
+findPremises (these l) vs c = findAll l vs c
+findPremises implications vs c = c
+
+module _ (P : Program) (i k : ℕ) (σ : Fill) where
+  abbrev first : Holes
+  first = record {
+    num = λ j. elim (eqb j (numHole Pattern.t)) [ true ↦ i | false ↦ elim (eqb j (numHole Pattern.x)) [ true ↦ wordOf (P .code i k) | false ↦ regOf (P .code i k) ] ];
+    tree = λ j. raw (formulaOf (P .code i k));
+  }
+
+  abbrev premisesOf : Premises → List Statement
+  premisesOf (these l) = filledAll P i k σ l
+  premisesOf implications = []
+
+  abbrev holes : Rule → Holes
+  holes n = findPremises (row n .premises) (map said (premisesOf (row n .premises))) (findLine (row n .says) (said (filled P i k σ (row n .says))) first)
+
+  -- the line and its premises are the templates filled with them
+  record Filled (n : Rule) : Type 0 where
+    left : instT (holes n) (leftOf (row n .says)) ≡ said (filled P i k σ (row n .says)) .left
+    right : instT (holes n) (rightOf (row n .says)) ≡ said (filled P i k σ (row n .says)) .right
+    premises : FitPremises (holes n) i k (row n .premises) (map said (premisesOf (row n .premises)))
+    t : holes n .num (numHole Pattern.t) ≡ i
+    x : holes n .num (numHole Pattern.x) ≡ wordOf (P .code i k)
+    r : holes n .num (numHole Pattern.r) ≡ regOf (P .code i k)
+    f : holes n .tree formulaHole ≡ raw (formulaOf (P .code i k))
+
+  same-place : T (not (eqb hoare hoare) || (eqb i i && eqb k k))
+  same-place = and-both (eqb i i) (eqb k k) (eqb-refl i) (eqb-refl k)
+
+  filled-of : (n : Rule) → Filled n
+  unfolding upd hasOperand
+  filled-of r1 = record { left = refl; right = refl; premises = tt; t = refl; x = refl; r = refl; f = refl }
+  filled-of r2 = record { left = refl; right = refl; premises = tt; t = refl; x = refl; r = refl; f = refl }
+  filled-of r3 = record { left = refl; right = refl; premises = tt; t = refl; x = refl; r = refl; f = refl }
+  filled-of r4 = record { left = refl; right = refl; premises = (record { placed = same-place; left = refl; right = refl }, tt); t = refl; x = refl; r = refl; f = refl }
+  filled-of r5 = record { left = refl; right = refl; premises = (record { placed = same-place; left = refl; right = refl }, tt); t = refl; x = refl; r = refl; f = refl }
+  filled-of r6 = record { left = refl; right = refl; premises = tt; t = refl; x = refl; r = refl; f = refl }
+  filled-of r7 = record { left = refl; right = refl; premises = tt; t = refl; x = refl; r = refl; f = refl }
+  filled-of r8 = record { left = refl; right = refl; premises = tt; t = refl; x = refl; r = refl; f = refl }
+  filled-of r9 = record { left = refl; right = refl; premises = tt; t = refl; x = refl; r = refl; f = refl }
+  filled-of r10 = record { left = refl; right = refl; premises = (record { placed = same-place; left = refl; right = refl }, tt); t = refl; x = refl; r = refl; f = refl }
+  filled-of r11 = record { left = refl; right = refl; premises = tt; t = refl; x = refl; r = refl; f = refl }
+  filled-of r12 = record { left = refl; right = refl; premises = tt; t = refl; x = refl; r = refl; f = refl }
+  filled-of r13 = record { left = refl; right = refl; premises = tt; t = refl; x = refl; r = refl; f = refl }
+  filled-of r14 = record { left = refl; right = refl; premises = (record { placed = same-place; left = refl; right = refl }, (record { placed = same-place; left = refl; right = refl }, tt)); t = refl; x = refl; r = refl; f = refl }
+  filled-of r15 = record { left = refl; right = refl; premises = (record { placed = same-place; left = refl; right = refl }, (record { placed = same-place; left = refl; right = refl }, tt)); t = refl; x = refl; r = refl; f = refl }
+  filled-of r16 = record { left = refl; right = refl; premises = (record { placed = tt; left = refl; right = refl }, (record { placed = same-place; left = refl; right = refl }, (record { placed = tt; left = refl; right = refl }, tt))); t = refl; x = refl; r = refl; f = refl }
+  filled-of r20 = record { left = refl; right = refl; premises = tt; t = refl; x = refl; r = refl; f = refl }
+  filled-of r21 = record { left = refl; right = refl; premises = tt; t = refl; x = refl; r = refl; f = refl }
+  filled-of r22 = record { left = refl; right = refl; premises = (record { placed = tt; left = refl; right = refl }, tt); t = refl; x = refl; r = refl; f = refl }
+  filled-of r23 = record { left = refl; right = refl; premises = tt; t = refl; x = refl; r = refl; f = refl }
+  filled-of r24 = record { left = refl; right = refl; premises = tt; t = refl; x = refl; r = refl; f = refl }
+  filled-of r25 = record { left = refl; right = refl; premises = tt; t = refl; x = refl; r = refl; f = refl }
+  filled-of r26 = record { left = refl; right = refl; premises = tt; t = refl; x = refl; r = refl; f = refl }
+  filled-of r27 = record { left = refl; right = refl; premises = tt; t = refl; x = refl; r = refl; f = refl }
+  filled-of r30 = record { left = refl; right = refl; premises = tt; t = refl; x = refl; r = refl; f = refl }
+  filled-of r31 = record { left = refl; right = refl; premises = (record { placed = tt; left = refl; right = refl }, (record { placed = tt; left = refl; right = refl }, tt)); t = refl; x = refl; r = refl; f = refl }
+  filled-of r32 = record { left = refl; right = refl; premises = (record { placed = tt; left = refl; right = refl }, (record { placed = tt; left = refl; right = refl }, tt)); t = refl; x = refl; r = refl; f = refl }
+  filled-of r33 = record { left = refl; right = refl; premises = tt; t = refl; x = refl; r = refl; f = refl }
+  filled-of r34 = record { left = refl; right = refl; premises = tt; t = refl; x = refl; r = refl; f = refl }
+  filled-of r35 = record { left = refl; right = refl; premises = tt; t = refl; x = refl; r = refl; f = refl }
+  filled-of r36 = record { left = refl; right = refl; premises = tt; t = refl; x = refl; r = refl; f = refl }
+  filled-of r37 = record { left = refl; right = refl; premises = tt; t = refl; x = refl; r = refl; f = refl }
+  filled-of r38 = record { left = refl; right = refl; premises = tt; t = refl; x = refl; r = refl; f = refl }
+  filled-of r39 = record { left = refl; right = refl; premises = tt; t = refl; x = refl; r = refl; f = refl }
+  filled-of r40 = record { left = refl; right = refl; premises = tt; t = refl; x = refl; r = refl; f = refl }
+  filled-of r41 = record { left = refl; right = refl; premises = (record { placed = tt; left = refl; right = refl }, (record { placed = tt; left = refl; right = refl }, tt)); t = refl; x = refl; r = refl; f = refl }
+  filled-of r42 = record { left = refl; right = refl; premises = tt; t = refl; x = refl; r = refl; f = refl }
+  filled-of r43 = record { left = refl; right = refl; premises = tt; t = refl; x = refl; r = refl; f = refl }
+  filled-of r44 = record { left = refl; right = refl; premises = (record { placed = tt; left = refl; right = refl }, (record { placed = tt; left = refl; right = refl }, tt)); t = refl; x = refl; r = refl; f = refl }
+  filled-of r45 = record { left = refl; right = refl; premises = tt; t = refl; x = refl; r = refl; f = refl }
+  filled-of r46 = record { left = refl; right = refl; premises = tt; t = refl; x = refl; r = refl; f = refl }
+
+-- BOTH WAYS
+answer-some : {Z : Type 0} (R : ℕ) (init : ℕ → ℕ) (a : Acting) (o : Option Taken) (f : Taken → Bool) → T (answer R init a o f) → ((z : Taken) → o ≡ some z → T (f z) → Z) → Z
+answer-some R init a none f h k = absurd h
+answer-some R init a (some z) f h k = k z refl h
+
+module _ (P : Program) (i k : ℕ) (n : Rule) (s : Statement) (ps : List Statement) where
+  abbrev c₀ : Acting
+  c₀ = acting (P .code i k)
+
+  operation-same : (m : Shape) (ops : List ℕ) → operationT (P .range) (P .init) c₀ (formOf m) ops ≡ operationFits P i k m ops
+  operation-same (inside p q) ops = refl
+  operation-same (implies p q) ops = refl
+  operation-same (triple p q) ops = refl
+
+  -- what was found in the match of a line that is σ's
+  module _ (σ : Fill) (z b : Taken) (e : matchLine i k (row n .says) (said s) (preset i c₀) ≡ some b) (e′ : matchPremises i k (row n .premises) (map said ps) b ≡ some z) where
+    line-fits : Has (holesFrom z) (preset i c₀) × Fits (holesFrom z) i k (row n .says) (said s)
+    line-fits = line-sound (holesFrom z) i k (row n .says) (said s) (preset i c₀) b e (premises-sound (holesFrom z) i k (row n .premises) (map said ps) b z e′ (has-from z) .0)
+
+    premises-fit : FitPremises (holesFrom z) i k (row n .premises) (map said ps)
+    premises-fit = premises-sound (holesFrom z) i k (row n .premises) (map said ps) b z e′ (has-from z) .1
+
+    -- the side conditions are the same, for any filling that the line is
+    sides-at : filled P i k σ (row n .says) ≡ s → PremisesFit P i k σ (row n .premises) ps
+        → All (λ d. sideT (P .range) (P .init) c₀ (holesFrom z) (said s) (map said ps) d ≡ sideHolds P i k σ s ps d) (row n .sides)
+    sides-at q f =
+        subst (λ (w : Statement). All (λ d. sideT (P .range) (P .init) c₀ (holesFrom z) (said w) (map said ps) d ≡ sideHolds P i k σ w ps d) (row n .sides)) q
+        (sides-same P i k σ (holesFrom z) n ps
+        (line-fits .1 .left ∙ ap (λ (w : Statement). said w .left) (sym q), line-fits .1 .right ∙ ap (λ (w : Statement). said w .right) (sym q)) f)
+
+  all-over : (f h : Side → Bool) (l : List Side) → All (λ d. f d ≡ h d) l → All (λ d. T (f d)) l → All (λ d. T (h d)) l
+  all-over f h [] e t = tt
+  all-over f h (d ∷ l) e t = (subst T (e .0) (t .0), all-over f h l (e .1) (t .1))
+
+  all-back : (f h : Side → Bool) (l : List Side) → All (λ d. f d ≡ h d) l → All (λ d. T (h d)) l → All (λ d. T (f d)) l
+  all-back f h [] e t = tt
+  all-back f h (d ∷ l) e t = (subst T (sym (e .0)) (t .0), all-back f h l (e .1) (t .1))
+
+  -- fits on trees: the row's shapes, filled with what stands in the holes
+  pub tree-fit : {Z : Type 0} → T (fitsAt (P .range) (P .init) c₀ i k (row n) (said s) (map said ps)) → ((σ : Fill) → Fit P i k σ (row n) s ps → Z) → Z
+  tree-fit {Z} h goal =
+      answer-some (P .range) (P .init) c₀ (andThen (matchLine i k (row n .says) (said s) (preset i c₀)) (matchPremises i k (row n .premises) (map said ps))) _ h λ z ez rest.
+      then-some (matchLine i k (row n .says) (said s) (preset i c₀)) (matchPremises i k (row n .premises) (map said ps)) z ez λ b eb kb.
+      goal (fillOf (holesFrom z)) (fitting z b eb kb rest)
+    where
+      fitting : (z b : Taken) → matchLine i k (row n .says) (said s) (preset i c₀) ≡ some b → matchPremises i k (row n .premises) (map said ps) b ≡ some z
+          → T (restT (P .range) (P .init) c₀ (row n) (said s) (map said ps) z) → Fit P i k (fillOf (holesFrom z)) (row n) s ps
+      fitting z b eb kb rest =
+          let c : Holes = holesFrom z in
+          let x : Has c (preset i c₀) × Fits c i k (row n .says) (said s) = line-fits (fillOf c) z b eb kb in
+          let ag : Agrees (given P i k) c = record {
+            t = x .0 .num (numHole Pattern.t) i refl;
+            x = x .0 .num (numHole Pattern.x) (wordOf (P .code i k)) refl;
+            r = x .0 .num (numHole Pattern.r) (regOf (P .code i k)) refl;
+            f = ap (shaped Sort.value) (x .0 .tree formulaHole (raw (formulaOf (P .code i k))) refl) ∙ shaped-raw (formulaOf (P .code i k));
+          } in
+          let says : filled P i k (fillOf c) (row n .says) ≡ s = says-from P i k c ag (row n .says) s (x .1) in
+          let premises : PremisesFit P i k (fillOf c) (row n .premises) ps = premises-from P i k c ag (row n .premises) ps (premises-fit (fillOf c) z b eb kb) in
+          let ops : Bool = operationT (P .range) (P .init) c₀ (formOf (row n .says)) (row n .operations) in
+          let sides : Bool = all (sideT (P .range) (P .init) c₀ c (said s) (map said ps)) (row n .sides) in
+          record {
+            says = says;
+            premises = premises;
+            op = subst T (operation-same (row n .says) (row n .operations)) (and-left ops sides rest);
+            side = all-over _ _ (row n .sides) (sides-at (fillOf c) z b eb kb says premises) (all-All _ (row n .sides) (and-right ops sides rest));
+          }
+
+  -- what is set before the match is in the holes
+  has-preset : (σ : Fill) → Has (holes P i k σ n) (preset i c₀)
+  has-preset σ = record { num = nums; tree = trees }
+    where
+      c : Holes
+      c = holes P i k σ n
+
+      nums : (j m : ℕ) → preset i c₀ .num j ≡ some m → c .num j ≡ m
+      nums j m e = go (eqb j (numHole Pattern.t)) (eqb j (numHole Pattern.x)) (eqb j (numHole Pattern.r)) refl refl refl e
+        where
+          go : (b d f : Bool) → eqb j (numHole Pattern.t) ≡ b → eqb j (numHole Pattern.x) ≡ d → eqb j (numHole Pattern.r) ≡ f
+              → _≡_ {A = Option ℕ} (elim b [ true ↦ some i | false ↦ elim d [ true ↦ some (wordOf (P .code i k)) | false ↦ elim f [ true ↦ some (regOf (P .code i k)) | false ↦ none ] ] ]) (some m) → c .num j ≡ m
+          go true d f p q r e = ap (c .num) (eqb-true j (numHole Pattern.t) p) ∙ filled-of P i k σ n .t ∙ (let z : i ≡ m = cc in z)
+          go false true f p q r e = ap (c .num) (eqb-true j (numHole Pattern.x) q) ∙ filled-of P i k σ n .x ∙ (let z : wordOf (P .code i k) ≡ m = cc in z)
+          go false false true p q r e = ap (c .num) (eqb-true j (numHole Pattern.r) r) ∙ filled-of P i k σ n .r ∙ (let z : regOf (P .code i k) ≡ m = cc in z)
+          go false false false p q r e = let z : _≡_ {A = ℕ} 0 1 = cc in absurd (omega arith)
+
+      trees : (j : ℕ) (u : Tree) → preset i c₀ .tree j ≡ some u → c .tree j ≡ u
+      trees j u e = go (eqb j formulaHole) refl e
+        where
+          go : (b : Bool) → eqb j formulaHole ≡ b → _≡_ {A = Option Tree} (elim b [ true ↦ some (raw (formulaOf (P .code i k))) | false ↦ none ]) (some u) → c .tree j ≡ u
+          go true q e = ap (c .tree) (eqb-true j formulaHole q) ∙ filled-of P i k σ n .f ∙ (let d : raw (formulaOf (P .code i k)) ≡ u = cc in d)
+          go false q e = let q : _≡_ {A = ℕ} 0 1 = cc in absurd (omega arith)
+
+  -- a filled shape stands in its place
+  its-place : (σ : Fill) (m : Shape) → T (placed (formOf m) i k (said (filled P i k σ m)))
+  its-place σ (inside p q) = tt
+  its-place σ (implies p q) = tt
+  its-place σ (triple p q) = same-place P i k σ
+
+  premises-to : (c : Holes) (σ : Fill) (W : Premises) → FitPremises c i k W (map said (premisesOf P i k σ W)) → PremisesFit P i k σ W ps → FitPremises c i k W (map said ps)
+  premises-to c σ (these l) f e = subst (λ (qs : List Statement). FitAll c i k l (map said qs)) e f
+  premises-to c σ implications f e = subst T (sym (ap₂ (λ n b. leb n Limits.premises && b) (length-said ps) (all-imp-said ps))) e
+
+  -- the row's shapes filled: fits on trees
+  pub fit-tree : (σ : Fill) → Fit P i k σ (row n) s ps → T (fitsAt (P .range) (P .init) c₀ i k (row n) (said s) (map said ps))
+  fit-tree σ f =
+      let c : Holes = holes P i k σ n in
+      let fl : Filled P i k σ n = filled-of P i k σ n in
+      let here : Fits c i k (row n .says) (said s) =
+      subst (λ (w : Statement). Fits c i k (row n .says) (said w)) (f .says) (record { placed = its-place σ (row n .says); left = fl .left; right = fl .right }) in
+      let ga : Goes c (andThen (matchLine i k (row n .says) (said s) (preset i c₀)) (matchPremises i k (row n .premises) (map said ps))) =
+      goes-then c (matchLine i k (row n .says) (said s) (preset i c₀)) (matchPremises i k (row n .premises) (map said ps))
+      (line-goes c i k (row n .says) (said s) (preset i c₀) here (has-preset σ))
+      (λ z hz. premises-goes c i k (row n .premises) (map said ps) z (premises-to c σ (row n .premises) (fl .premises) (f .premises)) hz) in
+      subst (λ (o : Option Taken). T (answer (P .range) (P .init) c₀ o (restT (P .range) (P .init) c₀ (row n) (said s) (map said ps)))) (sym (ga .is)) (rest (ga .to) (ga .is))
+    where
+      rest : (z : Taken) → andThen (matchLine i k (row n .says) (said s) (preset i c₀)) (matchPremises i k (row n .premises) (map said ps)) ≡ some z
+          → T (restT (P .range) (P .init) c₀ (row n) (said s) (map said ps) z)
+      rest z ez =
+          then-some (matchLine i k (row n .says) (said s) (preset i c₀)) (matchPremises i k (row n .premises) (map said ps)) z ez λ b eb kb.
+          and-both (operationT (P .range) (P .init) c₀ (formOf (row n .says)) (row n .operations)) (all (sideT (P .range) (P .init) c₀ (holesFrom z) (said s) (map said ps)) (row n .sides))
+          (subst T (sym (operation-same (row n .says) (row n .operations))) (f .op))
+          (All-all _ (row n .sides) (all-back _ _ (row n .sides) (sides-at σ z b eb kb (f .says) (f .premises)) (f .side)))
+
+thread-said : (s : Statement) → said s .thread ≡ threadOf s
+thread-said (Statement.inside a b) = refl
+thread-said (Statement.implies a b) = refl
+thread-said (Statement.triple j m a b) = refl
+
+point-said : (s : Statement) → said s .point ≡ pointOf s
+point-said (Statement.inside a b) = refl
+point-said (Statement.implies a b) = refl
+point-said (Statement.triple j m a b) = refl
+
+-- THE BRIDGE
+pub bridge : (P : Program) (n : Rule) (s : Statement) (ps : List Statement)
+    → fitsT (P .range) (P .init) (acting (P .code (said s .thread) (said s .point))) n (said s) (map said ps) ≡ fits P n s ps
+bridge P n s ps =
+    subst₂ (λ (i k : ℕ). fitsAt (P .range) (P .init) (acting (P .code i k)) i k (row n) (said s) (map said ps) ≡ fits P n s ps) (sym (thread-said s)) (sym (point-said s))
+    (bool-ext (fitsAt (P .range) (P .init) (acting (P .code (threadOf s) (pointOf s))) (threadOf s) (pointOf s) (row n) (said s) (map said ps)) (fits P n s ps)
+    (λ h. tree-fit P (threadOf s) (pointOf s) n s ps h (λ σ f. rule-fits P n s ps (rule-of P n σ s ps f)))
+    (λ h. fit-tree P (threadOf s) (pointOf s) n s ps (found (row n) s ps) (fit P n s ps h)))

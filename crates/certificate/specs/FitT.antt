@@ -1,0 +1,162 @@
+-- Whether a line fits its rule, on trees: what the code works out.
+use mathlib.Core.Bool.{Bool, true, false, not, _&&_, _||_}
+use mathlib.Core.List.{List, [], _∷_, map}
+use mathlib.Core.Option.{Option, none, some}
+use Prim.Native.Nat.{ℕ}
+use lib.Dec.{eqb, leb}
+use lib.ListN.{length}
+use Rattle.logic.specs.Base.{all}
+use Rattle.logic.specs.Limits
+use Rattle.logic.specs.Code
+use Rattle.logic.specs.Code.{byte}
+use Rattle.logic.specs.Opcode
+use Rattle.logic.specs.Machine.{Program, Instr}
+use Rattle.logic.specs.Statement
+use Rattle.logic.specs.Statement.{Statement}
+use Rattle.logic.specs.Pattern
+use Rattle.logic.specs.Rules
+use Rattle.logic.specs.Rules.{Rule, Shape, Shape.inside, Shape.implies, Shape.triple, Premises, these, implications, By, r-by-f, r-by-x, x-by-f, Side, _is_with_, start-of, kept, lacks-x, no-flag, by-rows, by-table, Row, row}
+use Rattle.logic.specs.Fits.{isAmong, opcode, wordOf, regOf, formulaOf, threadOf, pointOf}
+use Rattle.formula.specs.Tree.{Tree, Tree.node}
+use Rattle.compare.specs.Same.{sameTree}
+use Rattle.compare.specs.Replace.{replaceT, oneName}
+use Rattle.occurs.specs.Occurs.{occurs, register, wordAnyRole, flag}
+use Rattle.trees.specs.Raw.{raw}
+use Rattle.trees.specs.Rows.{ImpT, rowsT, tableT}
+use Rattle.certificate.specs.Template.{numHole, formulaHole, rawP, Holes, instT}
+use Rattle.certificate.specs.Match.{Taken, andThen, when, matchT}
+
+-- the form of a line, by number
+abbrev pub inclusion : ℕ
+inclusion = 0
+
+abbrev pub implication : ℕ
+implication = 1
+
+abbrev pub hoare : ℕ
+hoare = 2
+
+-- what a line says
+pub record Said : Type 0 where
+  pub form : ℕ
+  pub thread : ℕ
+  pub point : ℕ
+  pub left : Tree
+  pub right : Tree
+
+abbrev pub said : Statement → Said
+said (Statement.inside i j) = record { form = inclusion; thread = 0; point = 0; left = raw i; right = raw j }
+said (Statement.implies a b) = record { form = implication; thread = 0; point = 0; left = raw a; right = raw b }
+said (Statement.triple t k a b) = record { form = hoare; thread = t; point = k; left = raw a; right = raw b }
+
+-- the instruction of a line
+pub record Acting : Type 0 where
+  pub operation : ℕ
+  pub word : ℕ
+  pub register : ℕ
+  pub formula : Tree
+
+abbrev pub acting : Instr → Acting
+acting c = record { operation = opcode c; word = wordOf c; register = regOf c; formula = raw (formulaOf c) }
+
+abbrev pub formOf : Shape → ℕ
+formOf (inside p q) = inclusion
+formOf (implies p q) = implication
+formOf (triple p q) = hoare
+
+abbrev pub leftOf : Shape → Tree
+leftOf (inside p q) = rawP p
+leftOf (implies p q) = rawP p
+leftOf (triple p q) = rawP p
+
+abbrev pub rightOf : Shape → Tree
+rightOf (inside p q) = rawP q
+rightOf (implies p q) = rawP q
+rightOf (triple p q) = rawP q
+
+-- a triple is for the same thread and point
+abbrev pub placed : ℕ → ℕ → ℕ → Said → Bool
+placed f i k v = eqb (v .form) f && (not (eqb f hoare) || (eqb (v .thread) i && eqb (v .point) k))
+
+abbrev pub matchLine : ℕ → ℕ → Shape → Said → Taken → Option Taken
+matchLine i k m v b = andThen (when (placed (formOf m) i k v) b) (λ b₀. andThen (matchT (leftOf m) (v .left) b₀) (matchT (rightOf m) (v .right)))
+
+abbrev pub matchAll : ℕ → ℕ → List Shape → List Said → Taken → Option Taken
+matchAll i k [] [] b = some b
+matchAll i k [] (v ∷ vs) b = none
+matchAll i k (p ∷ l) [] b = none
+matchAll i k (p ∷ l) (v ∷ vs) b = andThen (matchLine i k p v b) (matchAll i k l vs)
+
+abbrev pub isImplication : Said → Bool
+isImplication v = eqb (v .form) implication
+
+abbrev pub matchPremises : ℕ → ℕ → Premises → List Said → Taken → Option Taken
+matchPremises i k (these l) vs b = matchAll i k l vs b
+matchPremises i k implications vs b = when (leb (length vs) Limits.premises && all isImplication vs) b
+
+-- before the match: the thread, the word, the register and the formula of the instruction are set
+abbrev pub preset : ℕ → Acting → Taken
+preset t c = record {
+  num = λ j. elim (eqb j (numHole Pattern.t)) [ true ↦ some t | false ↦ elim (eqb j (numHole Pattern.x)) [ true ↦ some (c .word) | false ↦ elim (eqb j (numHole Pattern.r)) [ true ↦ some (c .register) | false ↦ none ] ] ];
+  tree = λ j. elim (eqb j formulaHole) [ true ↦ some (c .formula) | false ↦ none ];
+}
+
+abbrev pub orElse : {A : Type 0} → A → Option A → A
+orElse d none = d
+orElse d (some a) = a
+
+abbrev pub holesFrom : Taken → Holes
+holesFrom b = record { num = λ j. orElse 0 (b .num j); tree = λ j. orElse Tree.none (b .tree j) }
+
+abbrev pub impOf : Said → ImpT
+impOf v = record { left = v .left; right = v .right }
+
+-- R: how many values there are; init: the start values; a: the instruction
+module _ (R : ℕ) (init : ℕ → ℕ) (a : Acting) where
+  -- the name that is replaced: whether it is a word, and its number; and by what
+  abbrev pub ofWord : By → Bool
+  ofWord r-by-f = false
+  ofWord r-by-x = false
+  ofWord x-by-f = true
+
+  abbrev pub replacedNumber : By → ℕ
+  replacedNumber r-by-f = a .register
+  replacedNumber r-by-x = a .register
+  replacedNumber x-by-f = a .word
+
+  abbrev pub replacing : By → Tree
+  replacing r-by-f = a .formula
+  replacing r-by-x = node (byte Code.word) (a .word) Tree.none Tree.none
+  replacing x-by-f = a .formula
+
+  abbrev pub keepsT : Tree → Bool
+  keepsT u = elim (isAmong (a .operation) Rules.loads) [
+    | true ↦ not (occurs (register (a .register)) [] u)
+    | false ↦ elim (isAmong (a .operation) Rules.storesSwaps) [ true ↦ not (occurs (wordAnyRole (a .word)) [] u) | false ↦ false ]
+  ]
+
+  abbrev pub sideT : Holes → Said → List Said → Side → Bool
+  sideT c v vs (p is q with b) = sameTree (replaceT (oneName (ofWord b) (replacedNumber b) (replacing b)) (instT c (rawP q))) (instT c (rawP p))
+  sideT c v vs (start-of n p) = sameTree (instT c (rawP p)) (node (byte Code.const) (init (c .num (numHole n))) Tree.none Tree.none)
+  sideT c v vs (kept p) = keepsT (instT c (rawP p))
+  sideT c v vs (lacks-x p) = not (occurs (wordAnyRole (a .word)) [] (instT c (rawP p)))
+  sideT c v vs (no-flag p) = not (occurs (flag (a .word)) [] (instT c (rawP p)))
+  sideT c v vs (by-rows p q) = rowsT R (instT c (rawP p)) (instT c (rawP q))
+  sideT c v vs by-table = tableT (map impOf vs) (impOf v)
+
+  abbrev pub operationT : ℕ → List ℕ → Bool
+  operationT f ops = not (eqb f hoare) || isAmong (a .operation) ops
+
+  abbrev pub restT : Row → Said → List Said → Taken → Bool
+  restT W v vs b = operationT (formOf (W .says)) (W .operations) && all (sideT (holesFrom b) v vs) (W .sides)
+
+  abbrev pub answer : Option Taken → (Taken → Bool) → Bool
+  answer none f = false
+  answer (some b) f = f b
+
+  -- for the instruction at the point k of thread i
+  abbrev pub fitsAt : ℕ → ℕ → Row → Said → List Said → Bool
+  fitsAt i k W v vs = answer (andThen (matchLine i k (W .says) v (preset i a)) (matchPremises i k (W .premises) vs)) (restT W v vs)
+
+  abbrev pub fitsT : Rule → Said → List Said → Bool
+  fitsT n v vs = fitsAt (v .thread) (v .point) (row n) v vs

@@ -1,0 +1,126 @@
+-- Patterns as the code has them: trees, and bytes in prefix form, with holes. A code from 64 on is a hole for a formula;
+-- an operand below 8 is a hole for a number, and 8 + n is the number n.
+use mathlib.Core.Bool.{Bool, true, false}
+use mathlib.Core.List.{List, [], _∷_}
+use Prim.Native.Nat.{ℕ, _+_, _-_}
+use lib.Dec.{ltb, leb}
+use Rattle.logic.specs.Code
+use Rattle.logic.specs.Code.{byte}
+use Rattle.logic.specs.Formula.{Sort}
+use Rattle.logic.specs.Pattern.{Num, Pattern, Fill, t, x, r, u, y, anyA, anyI, anyE, anyV, f, const, reg, word, equal, and, unsync, cov, box, one, chop, both, either, sees, bothA, eitherA, start, holds}
+use Rattle.logic.specs.Rules.{Rule, Shape, Shape.inside, Shape.implies, Shape.triple, Premises, these, implications, Row, row}
+use Rattle.formula.specs.Codes.{hasOperand}
+use Rattle.formula.specs.Tree.{Tree, none, node}
+use Rattle.trees.specs.Raw.{shaped}
+
+-- holes for formulas begin here; the hole for the instruction's formula
+abbrev pub firstHole : ℕ
+firstHole = 64
+
+abbrev pub formulaHole : ℕ
+formulaHole = 4
+
+-- numbers begin here
+abbrev pub firstNumber : ℕ
+firstNumber = 8
+
+abbrev pub numHole : Num → ℕ
+numHole t = 0
+numHole x = 1
+numHole r = 2
+numHole u = 3
+numHole y = 4
+
+abbrev pub hole : ℕ → Tree
+hole k = node (firstHole + k) 0 none none
+
+abbrev pub rawP : {s : Sort} → Pattern s → Tree
+rawP (anyA k) = hole k
+rawP (anyI k) = hole k
+rawP (anyE k) = hole k
+rawP (anyV k) = hole k
+rawP f = hole formulaHole
+rawP (const n) = node (byte Code.const) (firstNumber + n) none none
+rawP (reg n) = node (byte Code.reg) (numHole n) none none
+rawP (word n) = node (byte Code.word) (numHole n) none none
+rawP (unsync n) = node (byte Code.unsync) (numHole n) none none
+rawP (cov n) = node (byte Code.cov) (numHole n) none none
+rawP (one n) = node (byte Code.one) (numHole n) none none
+rawP (equal p q) = node (byte Code.equal) 0 (rawP p) (rawP q)
+rawP (and p q) = node (byte Code.and) 0 (rawP p) (rawP q)
+rawP (chop p q) = node (byte Code.chop) 0 (rawP p) (rawP q)
+rawP (both p q) = node (byte Code.both) 0 (rawP p) (rawP q)
+rawP (either p q) = node (byte Code.either) 0 (rawP p) (rawP q)
+rawP (bothA p q) = node (byte Code.bothA) 0 (rawP p) (rawP q)
+rawP (eitherA p q) = node (byte Code.eitherA) 0 (rawP p) (rawP q)
+rawP (box p) = node (byte Code.box) 0 (rawP p) none
+rawP (holds p) = node (byte Code.holds) 0 (rawP p) none
+rawP (sees n p) = node (byte Code.sees) (numHole n) (rawP p) none
+rawP start = node (byte Code.start) 0 none none
+
+-- the bytes of a pattern, before the bytes l: what stands in the code's table
+abbrev pub encodeP : {s : Sort} → Pattern s → List ℕ → List ℕ
+encodeP (anyA k) l = (firstHole + k) ∷ l
+encodeP (anyI k) l = (firstHole + k) ∷ l
+encodeP (anyE k) l = (firstHole + k) ∷ l
+encodeP (anyV k) l = (firstHole + k) ∷ l
+encodeP f l = (firstHole + formulaHole) ∷ l
+encodeP (const n) l = byte Code.const ∷ (firstNumber + n) ∷ l
+encodeP (reg n) l = byte Code.reg ∷ numHole n ∷ l
+encodeP (word n) l = byte Code.word ∷ numHole n ∷ l
+encodeP (unsync n) l = byte Code.unsync ∷ numHole n ∷ l
+encodeP (cov n) l = byte Code.cov ∷ numHole n ∷ l
+encodeP (one n) l = byte Code.one ∷ numHole n ∷ l
+encodeP (equal p q) l = byte Code.equal ∷ encodeP p (encodeP q l)
+encodeP (and p q) l = byte Code.and ∷ encodeP p (encodeP q l)
+encodeP (chop p q) l = byte Code.chop ∷ encodeP p (encodeP q l)
+encodeP (both p q) l = byte Code.both ∷ encodeP p (encodeP q l)
+encodeP (either p q) l = byte Code.either ∷ encodeP p (encodeP q l)
+encodeP (bothA p q) l = byte Code.bothA ∷ encodeP p (encodeP q l)
+encodeP (eitherA p q) l = byte Code.eitherA ∷ encodeP p (encodeP q l)
+encodeP (box p) l = byte Code.box ∷ encodeP p l
+encodeP (holds p) l = byte Code.holds ∷ encodeP p l
+encodeP (sees n p) l = byte Code.sees ∷ numHole n ∷ encodeP p l
+encodeP start l = byte Code.start ∷ l
+
+abbrev pub encodeShape : Shape → List ℕ → List ℕ
+encodeShape (inside p q) l = encodeP p (encodeP q l)
+encodeShape (implies p q) l = encodeP p (encodeP q l)
+encodeShape (triple p q) l = encodeP p (encodeP q l)
+
+abbrev pub encodeAll : List Shape → List ℕ
+encodeAll [] = []
+encodeAll (p ∷ l) = encodeShape p (encodeAll l)
+
+-- the premises of a rule; of rule 20 no shapes
+abbrev pub shapes : Premises → List Shape
+shapes (these l) = l
+shapes implications = []
+
+-- a rule's template: left and right, then those of its premises
+abbrev pub template : Rule → List ℕ
+template n = encodeAll (row n .says ∷ shapes (row n .premises))
+
+-- what stands in the holes
+pub record Holes : Type 0 where
+  pub num : ℕ → ℕ
+  pub tree : ℕ → Tree
+
+abbrev pub operandT : Holes → ℕ → ℕ → ℕ
+operandT c d o = elim (hasOperand d) [ false ↦ 0 | true ↦ elim (ltb o firstNumber) [ true ↦ c .num o | false ↦ o - firstNumber ] ]
+
+-- the template filled
+abbrev pub instT : Holes → Tree → Tree
+instT c none = none
+instT c (node d o l m) = elim (leb firstHole d) [ true ↦ c .tree (d - firstHole) | false ↦ node d (operandT c d o) (instT c l) (instT c m) ]
+
+-- the same filling for patterns: each hole read as a formula of its sort
+abbrev pub fillOf : Holes → Fill
+fillOf c = record {
+  u = c .num (numHole u);
+  y = c .num (numHole y);
+  assertion = λ k. shaped Sort.assertion (c .tree k);
+  interval = λ k. shaped Sort.interval (c .tree k);
+  test = λ k. shaped Sort.test (c .tree k);
+  value = λ k. shaped Sort.value (c .tree k);
+}

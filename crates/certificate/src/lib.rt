@@ -1,0 +1,1 @@
+// Certificates: no code yet; the definitions are under specs/, what follows from them under proofs/.

@@ -1,0 +1,17 @@
+use Rattle.compare.proofs.Pairs.{pairs}
+use Rattle.formula.proofs.Auto.{tests}
+use borrow.Author.Needs.{needs}
+use Rattle.compare.proofs.same.pair_at.Statement.{statement}
+use Rattle.compare.proofs.same.pair_at.Tie as tie
+
+pub pair-at-spec : {M : Type 1} → statement M
+pair-at-spec =
+    tie.close
+    (tie.spec
+    (λ c. search (pairs, tests))
+    (λ c. search (pairs, tests))
+    (λ c. search (pairs, tests))
+    (λ c κs. search needs)
+    (λ c κs. search needs)
+    (λ c κs. search needs)
+    (λ c. search (pairs, tests)))

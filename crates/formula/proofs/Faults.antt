@@ -1,0 +1,231 @@
+-- The ways through the reader, one law for each.
+use Prim.Native.Nat.{ℕ, zero, suc, _+_, _-_, _/_, _≤_, _<_}
+use mathlib.Core.Path.{_≡_, refl, ap, sym, _∙_}
+use mathlib.Core.List.{List}
+use mathlib.Core.Bool.{Bool, true, false}
+use native.Mathlib.Numerals.{sub-one}
+use native.Mathlib.Omega.{arith}
+use lib.ListN.{length, getD}
+use lib.Dec.{ltb, eqb}
+use borrow.Author.Tests.{lt-ltb, le-ltb, eq-eqb, ne-eqb, eqb-true, eqb-false, ltb-true, ltb-false}
+use Rattle.formula.specs.Limits.{nesting}
+use Rattle.formula.specs.Codes.{pick, fitsAt, hasOperand, partCount, partPlace}
+use Rattle.formula.specs.Tree.{nodeAt, skim, grow}
+use Rattle.formula.specs.Reader.{range, malformed, limit, answer, inRange, operandFault, operandAnswer, headFault, headAnswer, first, faultAt, readAnswer, sortOf, readingOf}
+use Rattle.formula.specs.declared.node.Node.{Node}
+use Rattle.formula.specs.declared.reader.Counts.{Counts}
+use Rattle.formula.specs.declared.reader.Reading.{Reading}
+use Rattle.formula.specs.declared.reader.Reading.the-variants.{Formula, Fault}
+use Rattle.formula.proofs.Nodes.{skim-step}
+
+module _ (s : List ℕ) (n : Counts) (c at : ℕ) where
+  pub operand-past : length s ≤ at → malformed ≡ operandAnswer s n c at
+  unfolding operandAnswer operandFault
+  operand-past h = rw (le-ltb _ _ h)
+
+  module _ (g : Bool) (h : at < length s) (e : g ≡ inRange n c (getD s at 0)) where
+    pub operand-range : g ≡ false → range ≡ operandAnswer s n c at
+    unfolding operandAnswer operandFault
+    operand-range d = rw (lt-ltb _ _ h, ← e, d)
+
+    pub operand-fine : g ≡ true → at + 9 ≡ operandAnswer s n c at
+    unfolding operandAnswer operandFault
+    operand-fine d = rw (lt-ltb _ _ h, ← e, d) (omega arith)
+
+module _ (s : List ℕ) (n : Counts) (p at : ℕ) where
+  pub head-past : length s ≤ at → malformed ≡ headAnswer s n p at
+  unfolding headAnswer headFault
+  head-past h = rw (le-ltb _ _ h)
+
+  module _ (f : Bool) (h : at < length s) (ef : f ≡ fitsAt (getD s at 0) p) where
+    pub head-unfit : f ≡ false → malformed ≡ headAnswer s n p at
+    unfolding headAnswer headFault
+    head-unfit d = rw (lt-ltb _ _ h, ← ef, d)
+
+    module _ (o : Bool) (d : f ≡ true) (eo : o ≡ hasOperand (getD s at 0)) where
+      pub head-plain : o ≡ false → at + 9 ≡ headAnswer s n p at
+      unfolding headAnswer headFault nodeAt
+      head-plain z = rw (lt-ltb _ _ h, ← ef, d, ← eo, z) (omega arith)
+
+      pub head-operand : (r : ℕ) → o ≡ true → r ≡ operandAnswer s n (getD s at 0) (at + 1) → r ≡ headAnswer s n p at
+      unfolding headAnswer headFault nodeAt operandAnswer
+      head-operand r z e = rw (lt-ltb _ _ h, ← ef, d, ← eo, z) (e ∙ ap (λ (i : ℕ). answer (operandFault s n (getD s at 0) (at + 1)) i) (omega arith))
+
+pub ruleset heads = (operand-past, operand-range, operand-fine, head-past, head-unfit, head-plain, head-operand)
+
+-- what an answer says
+module _ (r f e : ℕ) (small : f < limit) (a : r ≡ answer f e) where
+  said-fault : r < limit → (f ≡ r) × (eqb f 0 ≡ false)
+  said-fault l = go (eqb f 0) refl a
+    where
+      go : (b : Bool) → eqb f 0 ≡ b → r ≡ pick b (e + limit) f → (f ≡ r) × (eqb f 0 ≡ false)
+      go true d q = absurd (omega arith)
+      go false d q = (sym q, d)
+
+  said-end : limit ≤ r → (f ≡ 0) × (r - limit ≡ e)
+  said-end l = go (eqb f 0) refl a
+    where
+      go : (b : Bool) → eqb f 0 ≡ b → r ≡ pick b (e + limit) f → (f ≡ 0) × (r - limit ≡ e)
+      go true d q = (eqb-true f 0 d, omega arith)
+      go false d q = absurd (omega arith)
+
+-- faults are below the limit
+small-pick : (b : Bool) (x y : ℕ) → x < limit → y < limit → pick b x y < limit
+small-pick true x y h g = h
+small-pick false x y h g = g
+
+head-small : (s : List ℕ) (n : Counts) (p at : ℕ) → headFault s n p at < limit
+unfolding headFault operandFault
+head-small s n p at =
+    small-pick (ltb at (length s)) _ _
+    (small-pick (fitsAt (getD s at 0) p) _ _
+    (small-pick (hasOperand (getD s at 0)) _ _
+    (small-pick (ltb (at + 1) (length s)) _ _ (small-pick (inRange n (getD s at 0) (getD s (at + 1) 0)) _ _ (omega arith) (omega arith)) (omega arith))
+    (omega arith))
+    (omega arith))
+    (omega arith)
+
+pub fault-small : (s : List ℕ) (n : Counts) (k p at : ℕ) → faultAt s n k p at < limit
+unfolding faultAt
+fault-small s n zero p at = omega arith
+fault-small s n (suc k) p at =
+    small-pick (eqb (headFault s n p at) 0) _ _
+    (small-pick (eqb (nodeAt s at .parts) 0) _ _ (omega arith)
+    (small-pick (eqb (faultAt s n k (partPlace (nodeAt s at .code) p) (nodeAt s at .next)) 0) _ _
+    (small-pick (eqb (nodeAt s at .parts) 1) _ _ (omega arith) (fault-small s n k (partPlace (nodeAt s at .code) p) (skim s k (nodeAt s at .next) .end)))
+    (fault-small s n k (partPlace (nodeAt s at .code) p) (nodeAt s at .next))))
+    (head-small s n p at)
+
+pub fault-step : (s : List ℕ) (n : Counts) (k p at : ℕ) → (k ≡ 0 → ⊥)
+    → faultAt s n k p at ≡ first (headFault s n p at) (pick (eqb (nodeAt s at .parts) 0) 0 (first (faultAt s n (k - 1) (partPlace (nodeAt s at .code) p) (nodeAt s at .next)) (pick (eqb (nodeAt s at .parts) 1) 0 (faultAt s n (k - 1) (partPlace (nodeAt s at .code) p) (skim s (k - 1) (nodeAt s at .next) .end)))))
+unfolding faultAt
+fault-step s n zero p at h = absurd (h refl)
+fault-step s n (suc k) p at h = rw (sub-one (suc k))
+
+-- a node without a fault of its own is inside
+inside : (s : List ℕ) (n : Counts) (p at : ℕ) → headFault s n p at ≡ 0 → at < length s
+unfolding headFault
+inside s n p at = go (ltb at (length s)) refl
+  where
+    go : (b : Bool) → ltb at (length s) ≡ b → pick b (pick (fitsAt (getD s at 0) p) (pick (hasOperand (getD s at 0)) (operandFault s n (getD s at 0) (at + 1)) 0) malformed) malformed ≡ 0 → at < length s
+    go true e h = ltb-true at (length s) e
+    go false e h = absurd (omega arith)
+
+-- the node there
+node-inside : (s : List ℕ) (at : ℕ) → at < length s → (nodeAt s at .code ≡ getD s at 0) × (nodeAt s at .parts ≡ partCount (getD s at 0))
+unfolding nodeAt
+node-inside s at h = rw (lt-ltb _ _ h) (go (hasOperand (getD s at 0)))
+  where
+    n : Bool → Node
+    n b = pick b (record { code = getD s at 0; operand = getD s (at + 1) 0; parts = partCount (getD s at 0); next = at + 2 }) (record { code = getD s at 0; operand = 0; parts = partCount (getD s at 0); next = at + 1 })
+
+    go : (b : Bool) → (n b .code ≡ getD s at 0) × (n b .parts ≡ partCount (getD s at 0))
+    go true = (refl, refl)
+    go false = (refl, refl)
+
+pub read-inside : (s : List ℕ) (n : Counts) (p at h : ℕ) → h ≡ headAnswer s n p at → limit ≤ h → at < length s
+unfolding headAnswer
+read-inside s n p at h e l = inside s n p at (said-end h (headFault s n p at) (nodeAt s at .next) (head-small s n p at) e l .0)
+
+module _ (s : List ℕ) (n : Counts) (k p at : ℕ) where
+  pub read-zero : k ≡ 0 → malformed ≡ readAnswer s n k p at
+  unfolding readAnswer faultAt
+  read-zero z = rw z
+
+  module _ (h : ℕ) (z : k ≡ 0 → ⊥) (e : h ≡ headAnswer s n p at) where
+    head-said : (h < limit → (headFault s n p at ≡ h) × (eqb (headFault s n p at) 0 ≡ false)) × (limit ≤ h → (headFault s n p at ≡ 0) × (h - limit ≡ nodeAt s at .next))
+    unfolding headAnswer
+    head-said = (said-fault h (headFault s n p at) (nodeAt s at .next) (head-small s n p at) e, said-end h (headFault s n p at) (nodeAt s at .next) (head-small s n p at) e)
+
+    pub read-head : h < limit → h ≡ readAnswer s n k p at
+    unfolding readAnswer
+    read-head l = let q = head-said .0 l in rw (fault-step s n k p at z, q .1) (rw (q .1) (sym (q .0)))
+
+    module _ (c w : ℕ) (l : limit ≤ h) (ec : c ≡ partCount (getD s at 0)) where
+      own : headFault s n p at ≡ 0
+      own = head-said .1 l .0
+
+      next : h - limit ≡ nodeAt s at .next
+      next = head-said .1 l .1
+
+      count : nodeAt s at .parts ≡ c
+      count = node-inside s at (inside s n p at own) .1 ∙ sym ec
+
+      code : nodeAt s at .code ≡ getD s at 0
+      code = node-inside s at (inside s n p at own) .0
+
+      pub read-leaf : c ≡ 0 → h ≡ readAnswer s n k p at
+      unfolding readAnswer
+      read-leaf d = rw (fault-step s n k p at z, own, count, d, skim-step s k at z, count, d) (omega (arith, next))
+
+      module _ (g : ℕ) (b : c ≡ 0 → ⊥) (ew : w ≡ partPlace (getD s at 0) p) (eg : g ≡ readAnswer s n (k - 1) w (h - limit)) where
+        abbrev fa : ℕ
+        fa = faultAt s n (k - 1) w (nodeAt s at .next)
+
+        abbrev en : ℕ
+        en = skim s (k - 1) (nodeAt s at .next) .end
+
+        is : g ≡ answer fa en
+        unfolding readAnswer
+        is = eg ∙ rw next refl
+
+        pub read-one : c ≡ 1 → g ≡ readAnswer s n k p at
+        unfolding readAnswer
+        read-one o = rw (fault-step s n k p at z, skim-step s k at z, own, count, o, code, ← ew) (is ∙ same fa en)
+          where
+            same : (f e : ℕ) → answer f e ≡ answer (first f 0) e
+            same f e = go (eqb f 0) refl
+              where
+                go : (b : Bool) → eqb f 0 ≡ b → answer f e ≡ answer (first f 0) e
+                go true d = rw (eqb-true f 0 d)
+                go false d = simp d
+
+        pub read-part : (c ≡ 1 → ⊥) → g < limit → g ≡ readAnswer s n k p at
+        unfolding readAnswer
+        read-part o f =
+            let q = said-fault g fa en (fault-small s n (k - 1) w (nodeAt s at .next)) is f in
+            rw (fault-step s n k p at z, own, count, ne-eqb _ _ b, code, ← ew, q .1) (rw (q .1) (sym (q .0)))
+
+        pub read-two : (r : ℕ) → limit ≤ g → (c ≡ 1 → ⊥) → r ≡ readAnswer s n (k - 1) w (g - limit) → r ≡ readAnswer s n k p at
+        unfolding readAnswer
+        read-two r f o er =
+            let q = said-end g fa en (fault-small s n (k - 1) w (nodeAt s at .next)) is f in
+            let t₀ : 0 < c = omega arith in
+            let t₁ : 1 < c = omega arith in
+            rw (fault-step s n k p at z, skim-step s k at z, own, count, ne-eqb _ _ b, ne-eqb _ _ o, code, ← ew, lt-ltb _ _ t₀, lt-ltb _ _ t₁, q .0) (er ∙ rw (q .1) refl)
+
+pub lower : (m t : ℕ) → m ≡ t → (m ≡ 0 → ⊥) → m - 1 < t
+lower m t e h = omega arith
+
+pub ruleset reads = (read-zero, read-head, read-inside, read-leaf, read-part, read-one, read-two, lower)
+
+-- a whole body
+pub whole-empty : (s : List ℕ) (n : Counts) → length s ≡ 0 → Fault malformed ≡ readingOf s n
+unfolding readingOf headFault
+whole-empty s n z = let h : length s ≤ 0 = omega arith in rw (fault-step s n nesting (sortOf s) 0 (λ (e : 16 ≡ 0). omega arith), le-ltb _ _ h)
+
+module _ (s : List ℕ) (n : Counts) (e : ℕ) (is : e ≡ readAnswer s n nesting (sortOf s) 0) where
+  abbrev fault : ℕ
+  fault = faultAt s n nesting (sortOf s) 0
+
+  abbrev end : ℕ
+  end = skim s nesting 0 .end
+
+  pub whole-fault : e < limit → Fault e ≡ readingOf s n
+  unfolding readingOf readAnswer
+  whole-fault l = let q = said-fault e fault end (fault-small s n nesting (sortOf s) 0) is l in rw (q .1, q .0)
+
+  module _ (l : limit ≤ e) where
+    ended : (fault ≡ 0) × (e - limit ≡ end)
+    unfolding readAnswer
+    ended = said-end e fault end (fault-small s n nesting (sortOf s) 0) is l
+
+    pub whole-formula : e - limit ≡ length s → Formula (sortOf s) ≡ readingOf s n
+    unfolding readingOf
+    whole-formula d = rw (ended .0, eq-eqb _ _ (sym (ended .1) ∙ d))
+
+    pub whole-over : (e - limit ≡ length s → ⊥) → Fault malformed ≡ readingOf s n
+    unfolding readingOf
+    whole-over d = rw (ended .0, ne-eqb _ _ (λ (z : end ≡ length s). d (ended .1 ∙ z)))
+
+pub ruleset wholes = (whole-empty, whole-fault, whole-formula, whole-over)

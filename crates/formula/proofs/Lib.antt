@@ -1,0 +1,4 @@
+pub mod Auto
+pub mod Codes
+pub mod Nodes
+pub mod Faults

@@ -1,0 +1,8 @@
+use Rattle.formula.proofs.Codes.{codes}
+use Rattle.formula.proofs.Auto.{tests}
+use borrow.Author.Needs.{needs}
+use Rattle.formula.proofs.code.fits.Statement.{statement}
+use Rattle.formula.proofs.code.fits.Tie as tie
+
+pub fits-spec : {M : Type 1} → statement M
+fits-spec = tie.close (tie.spec (λ c κs. search needs) (λ c κs. search needs) (λ c. search (codes, tests)))

@@ -1,0 +1,21 @@
+use Rattle.formula.proofs.Auto.{tests}
+use Rattle.formula.proofs.Nodes.{nodes}
+use borrow.Author.Needs.{needs}
+use Rattle.formula.proofs.node.node_at.Statement.{statement}
+use Rattle.formula.proofs.node.node_at.Tie as tie
+
+pub node-at-spec : {M : Type 1} → statement M
+node-at-spec =
+    tie.close
+    (tie.spec
+    (λ c. search (nodes, tests))
+    (λ c. search needs)
+    (λ c κs. search needs)
+    (λ c. search needs)
+    (λ c κs. search needs)
+    (λ c κs. search needs)
+    (λ c. search needs)
+    (λ c. search (nodes, tests))
+    (λ c κs. search needs)
+    (λ c. search needs)
+    (λ c. search (nodes, tests)))

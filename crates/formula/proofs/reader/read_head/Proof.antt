@@ -1,0 +1,20 @@
+use Rattle.formula.proofs.Faults.{heads}
+use Rattle.formula.proofs.Auto.{tests}
+use borrow.Author.Needs.{needs}
+use Rattle.formula.proofs.reader.read_head.Statement.{statement}
+use Rattle.formula.proofs.reader.read_head.Tie as tie
+
+pub read-head-spec : {M : Type 1} → statement M
+read-head-spec =
+    tie.close
+    (tie.spec
+    (λ c. search (heads, tests))
+    (λ c. search needs)
+    (λ c κs. search needs)
+    (λ c κs. search needs)
+    (λ c. search needs)
+    (λ c κs. search needs)
+    (λ c. search (heads, tests))
+    (λ c. search needs)
+    (λ c. search (heads, tests))
+    (λ c. search (heads, tests)))

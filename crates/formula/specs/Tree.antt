@@ -1,0 +1,42 @@
+-- Formulas as uniform trees, and the tree that stands at a position.
+use Prim.Native.Nat.{ℕ, zero, suc, _+_}
+use mathlib.Core.List.{List}
+use mathlib.Core.Bool.{Bool, true, false}
+use lib.ListN.{length, getD}
+use lib.Dec.{ltb}
+use Rattle.formula.specs.Codes.{pick, hasOperand, partCount}
+use Rattle.formula.specs.declared.node.Node.{Node}
+
+-- a code, an operand (0 where there is none) and two parts; a part that is not there is none
+pub data Tree : Type 0 where
+  none : Tree
+  node : ℕ → ℕ → Tree → Tree → Tree
+
+unfoldable pub nodeAt : List ℕ → ℕ → Node
+nodeAt s at =
+    pick (ltb at (length s))
+    (pick (hasOperand (getD s at 0))
+    (record { code = getD s at 0; operand = getD s (at + 1) 0; parts = partCount (getD s at 0); next = at + 2 })
+    (record { code = getD s at 0; operand = 0; parts = partCount (getD s at 0); next = at + 1 }))
+    (record { code = 0; operand = 0; parts = 0; next = at })
+
+-- a tree, and the position past it
+pub record Skim : Type 0 where
+  pub tree : Tree
+  pub end : ℕ
+
+abbrev pub part : (ℕ → Skim) → Bool → ℕ → Skim
+part f true at = f at
+part f false at = record { tree = none; end = at }
+
+-- the tree of a node, its parts read by f one after the other
+abbrev pub grow : (ℕ → Skim) → Node → Skim
+grow f n =
+    let l = part f (ltb 0 (n .parts)) (n .next) in
+    let r = part f (ltb 1 (n .parts)) (l .end) in
+    record { tree = node (n .code) (n .operand) (l .tree) (r .tree); end = r .end }
+
+-- what stands at a position, down to the nesting k; total: past the end and below the nesting there is nothing
+unfoldable pub skim : List ℕ → ℕ → ℕ → Skim
+skim s zero at = record { tree = none; end = at }
+skim s (suc k) at = grow (λ p. skim s k p) (nodeAt s at)

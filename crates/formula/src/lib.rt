@@ -1,0 +1,5 @@
+// Formulas of an image, in prefix form: their codes, their nodes, and the reader.
+pub mod code;
+pub mod limits;
+pub mod node;
+pub mod reader;

@@ -1,0 +1,50 @@
+// The nodes of formulas, by their positions.
+use crate::code::has_operand;
+use crate::code::parts;
+ghost use mathlib.Core.Path.{_≡_};
+ghost use lib.ListN.{getD};
+ghost use Rattle.formula.specs.Tree.{nodeAt};
+
+// A code and its operand (0 where it has none), how many parts it has, and the position past its own bytes.
+pub struct Node {
+    pub code: u8,
+    pub operand: u8,
+    pub parts: u8,
+    pub next: usize,
+}
+
+// 0 past the end.
+pub fn byte_at(s: &[u8], at: usize) -> u8
+    ensures { λ r. ⌜ r ≡ getD (now (s .entry)) at 0 ⌝ }
+{
+    if at < s.len() { s[at] } else { 0 }
+}
+
+// Past the end, a leaf of no bytes.
+pub fn node_at(s: &[u8], at: usize) -> Node
+    ensures { λ r. ⌜ r ≡ nodeAt (now (s .entry)) at ⌝ }
+{
+    if s.len() <= at {
+        return Node {
+            code: 0,
+            operand: 0,
+            parts: 0,
+            next: at,
+        };
+    }
+    let code = s[at];
+    if has_operand(code) {
+        return Node {
+            code,
+            operand: byte_at(s, at + 1),
+            parts: parts(code),
+            next: at + 2,
+        };
+    }
+    Node {
+        code,
+        operand: 0,
+        parts: parts(code),
+        next: at + 1,
+    }
+}

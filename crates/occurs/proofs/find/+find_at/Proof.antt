@@ -1,0 +1,43 @@
+use Rattle.occurs.proofs.Search.{finds}
+use Rattle.formula.proofs.Auto.{tests}
+use Prim.Native.Nat.{ℕ, _<_}
+use borrow.Fn.Kinds.{In}
+use borrow.Fn.PlainCycle.{Measures, is, falls, and}
+use Rattle.occurs.proofs.find.find_at.Reads as find-at
+use Rattle.occurs.proofs.find.find_at.Kinds as find-at-kinds
+use Rattle.occurs.proofs.find.+find_at.Lts-find_at as find-at-lts
+use Rattle.formula.proofs.node.node_at.Reads as node-at-reads
+use Rattle.occurs.proofs.find.is_sought.Reads as is-sought-reads
+use Rattle.occurs.proofs.find.+find_at.{statement}
+use Rattle.occurs.proofs.find.+find_at.Tie.{close}
+
+abbrev μ-find-at : Measures 2 find-at-kinds.ps ℕ
+μ-find-at κs a = a .1 .1 .0
+
+abbrev find-at-at : ℕ → In 2 find-at-kinds.ps
+find-at-at t = and 2 find-at-kinds.ps (is 2 find-at-kinds.ps μ-find-at t) find-at.Pre
+
+abbrev find-at-below : ℕ → In 2 find-at-kinds.ps
+find-at-below t = and 2 find-at-kinds.ps (falls 2 find-at-kinds.ps _<_ μ-find-at t) find-at.Pre
+
+abbrev find-at-calls : ℕ → find-at-lts.Claims
+find-at-calls t = (node-at-reads.Asked, node-at-reads.Learnt, is-sought-reads.Asked, is-sought-reads.Learnt, find-at-below t, find-at.Post)
+
+pub +find-at-spec : {M : Type 1} → statement M
++find-at-spec = close μ-find-at λ t. find-at-lts.spec (find-at-calls t)
+    (find-at-at t)
+    find-at.Post
+    (λ c. search (finds, tests))
+    (λ c κs. search (finds, tests))
+    (λ c κs. search (finds, tests))
+    (λ c. search (finds, tests))
+    (λ c. search (finds, tests))
+    (λ c. search (finds, tests))
+    (λ c κs. search (finds, tests))
+    (λ c. search (finds, tests))
+    (λ c. search (finds, tests))
+    (λ c. search (finds, tests))
+    (λ c. search (finds, tests))
+    (λ c κs. search (finds, tests))
+    (λ c. search (finds, tests))
+    (λ c. search (finds, tests))

@@ -1,0 +1,62 @@
+-- What occurs in a tree.
+use Prim.Native.Nat.{ℕ, _-_}
+use mathlib.Core.List.{List, [], _∷_}
+use mathlib.Core.Bool.{Bool, true, false, not}
+use lib.ListN.{getD}
+use lib.Dec.{eqb}
+use Rattle.logic.specs.Code
+use Rattle.formula.specs.Codes.{pick, member, setOf}
+use Rattle.formula.specs.Tree.{Tree, none, node, Skim}
+use Rattle.occurs.specs.declared.find.Sought.{Sought}
+use Rattle.occurs.specs.declared.find.Found.{Found}
+use Rattle.occurs.specs.declared.find.Found.the-variants.{Yes, No}
+
+-- registers count from 1
+unfoldable pub ownerOf : List ℕ → ℕ → ℕ
+ownerOf owners r = pick (eqb r 0) 0 (getD owners (r - 1) 0)
+
+-- which operands are looked for
+abbrev pub any : ℕ
+any = 0
+
+abbrev pub equal : ℕ
+equal = 1
+
+abbrev pub notOwned : ℕ
+notOwned = 2
+
+unfoldable pub isSought : Sought → List ℕ → ℕ → ℕ → Bool
+isSought w owners c o =
+    pick (member (w .codes) c)
+    (pick (eqb (w .operand) any) true (pick (eqb (w .operand) equal) (eqb o (w .number)) (not (eqb (ownerOf owners o) (w .number)))))
+    false
+
+unfoldable pub occurs : Sought → List ℕ → Tree → Bool
+occurs w owners none = false
+occurs w owners (node c o l r) = pick (isSought w owners c o) true (pick (occurs w owners l) true (occurs w owners r))
+
+abbrev pub foundIn : Sought → List ℕ → Skim → Found
+foundIn w owners u = pick (occurs w owners (u .tree)) Yes (No (u .end))
+
+-- the register r
+abbrev pub register : ℕ → Sought
+register r = record { codes = setOf (Code.reg ∷ []); operand = equal; number = r }
+
+-- the word x in any role
+abbrev pub wordAnyRole : ℕ → Sought
+wordAnyRole x = record { codes = setOf (Code.word ∷ Code.unsync ∷ Code.cov ∷ Code.one ∷ []); operand = equal; number = x }
+
+-- a flag of x
+abbrev pub flag : ℕ → Sought
+flag x = record { codes = setOf (Code.unsync ∷ Code.cov ∷ []); operand = equal; number = x }
+
+abbrev pub start : Sought
+start = record { codes = setOf (Code.start ∷ []); operand = any; number = 0 }
+
+-- a word in any role
+abbrev pub shared : Sought
+shared = record { codes = setOf (Code.word ∷ Code.unsync ∷ Code.cov ∷ Code.one ∷ []); operand = any; number = 0 }
+
+-- a register that the thread t does not own
+abbrev pub foreign : ℕ → Sought
+foreign t = record { codes = setOf (Code.reg ∷ []); operand = notOwned; number = t }

@@ -1,0 +1,4 @@
+pub mod Raw
+pub mod Replace
+pub mod Occurs
+pub mod Rows
