@@ -1,0 +1,69 @@
+#!/usr/bin/env bash
+# Changes one clause of the reference checker at a time and judges the stored sets
+# again. A change that no stored verdict shows is reported as SURVIVES.
+#
+# Usage: mutants.sh [EDIT-FILE...]
+#
+# An edit file has lines "file PATH", and pairs of lines "- OLD" and "+ NEW": OLD
+# occurs in the file, its first occurrence becomes NEW.
+set -euo pipefail
+
+here=$(cd "$(dirname "${BASH_SOURCE[0]}")" && pwd)
+if [ $# -eq 0 ]; then
+    set -- "$here"/mutants/*.edit
+fi
+lists=()
+for list in "$@"; do
+    lists+=("$(realpath "$list")")
+done
+work=$(mktemp -d)
+trap 'rm -rf "$work"' EXIT
+cp -r "$here/src" "$here/Cargo.toml" "$work/"
+cp -r "$here/src" "$work/original"
+cd "$work"
+export CARGO_TARGET_DIR="$work/target" CARGO_PROFILE_DEV_DEBUG=0 RUSTFLAGS="-Awarnings"
+
+cargo build --quiet --offline -j1 --bin vectors --bin recheck
+"$work/target/debug/vectors" "$work/sets" >"$work/log"
+"$work/target/debug/recheck" "$work/sets" >"$work/log"
+
+tried=0 survived=0 unfit=0
+
+# Builds the changed copy and says what became of the stored verdicts.
+judge() {
+    if ! cargo build --quiet --offline -j1 --bin recheck 2>"$work/log"; then
+        echo "DOES NOT BUILD  $1"
+        unfit=$((unfit + 1))
+    elif timeout 120 "$work/target/debug/recheck" "$work/sets" >"$work/log" 2>&1; then
+        echo "SURVIVES        $1"
+        survived=$((survived + 1))
+    fi
+}
+
+# Applies one edit, judges, and puts the file back.
+try_edit() {
+    local file=$1 old=$2 new=$3 content
+    content=$(<"$work/original/${file#src/}")
+    tried=$((tried + 1))
+    if [[ "$content" != *"$old"* ]]; then
+        echo "NOT FOUND       $file: $old"
+        unfit=$((unfit + 1))
+        return
+    fi
+    printf '%s\n' "${content/"$old"/"$new"}" >"$file"
+    judge "$file: $old -> $new"
+    printf '%s\n' "$content" >"$file"
+}
+
+for edits in "${lists[@]}"; do
+    file='' old=''
+    while IFS= read -r line; do
+        case $line in
+        'file '*) file=${line#file } ;;
+        '- '*) old=${line#- } ;;
+        '+ '*) try_edit "$file" "$old" "${line#+ }" ;;
+        esac
+    done <"$edits"
+done
+echo "$tried tried, $survived survive, $unfit could not be tried"
+[ "$survived" -eq 0 ] && [ "$unfit" -eq 0 ]

@@ -1,0 +1,16 @@
+//! Seeded images, valid and damaged, in which every code and every rule occurs.
+
+pub mod coverage;
+pub mod damage;
+pub mod harness;
+pub mod image;
+pub mod instances;
+pub mod mutate;
+pub mod programs;
+pub mod random;
+pub mod vocabulary;
+
+pub use image::image;
+
+#[cfg(test)]
+mod tests;

@@ -1,0 +1,136 @@
+//! Search for implications: rule 20 over premises that cover every case.
+
+use crate::formula::*;
+use crate::search::cases::cases;
+use crate::search::prover::{Line, Prover};
+use crate::table;
+use Node::*;
+
+impl Prover<'_> {
+    /// A line for P to Q, if the search finds one.
+    pub fn implied(&mut self, p: &F, q: &F) -> Option<Line> {
+        if let Some(line) = self.lines.find(crate::rules::Form::Implication, p, q) {
+            return Some(line);
+        }
+        let key = (p.clone(), q.clone());
+        if self.refuted.contains(&key) {
+            return None;
+        }
+        let found = self.implied_by_shape(p, q);
+        if found.is_none() {
+            self.refuted.insert(key);
+        }
+        found
+    }
+
+    fn implied_by_shape(&mut self, p: &F, q: &F) -> Option<Line> {
+        if p == q {
+            return self.identity(p);
+        }
+        if let Some(line) = self.fact(20, p, q, &[]) {
+            return Some(line);
+        }
+        let premises = self.premises_for(p, q)?;
+        if let Some(line) = self.by_table(p, q, &premises) {
+            return Some(line);
+        }
+        self.split_goal(p, q).or_else(|| self.split_cases(p, q)).or_else(|| self.drop_parts(p, q))
+    }
+
+    /// Implications that together cover every case of p.
+    pub fn premises_for(&mut self, p: &F, q: &F) -> Option<Vec<Line>> {
+        let mut all = Vec::new();
+        for case in cases(p)? {
+            for line in self.support(&case, q)? {
+                if !all.contains(&line) {
+                    all.push(line);
+                }
+            }
+        }
+        Some(all)
+    }
+
+    /// One line of rule 20, with as few of the premises as will do.
+    fn by_table(&mut self, p: &F, q: &F, premises: &[Line]) -> Option<Line> {
+        let mut kept = premises.to_vec();
+        for line in premises {
+            let fewer: Vec<Line> = kept.iter().copied().filter(|l| l != line).collect();
+            if self.enough(p, q, &fewer) {
+                kept = fewer;
+            }
+        }
+        if kept.len() == 1 && self.left(kept[0]) == *p && self.right(kept[0]) == *q {
+            return Some(kept[0]);
+        }
+        self.fact(20, p, q, &kept)
+    }
+
+    fn enough(&self, p: &F, q: &F, premises: &[Line]) -> bool {
+        let pairs: Vec<(F, F)> = premises.iter().map(|l| (self.left(*l), self.right(*l))).collect();
+        table::gives(p, q, &pairs)
+    }
+
+    /// Too many premises at once: prove the two halves of the goal apart.
+    fn split_goal(&mut self, p: &F, q: &F) -> Option<Line> {
+        let Both(a, b) = &**q else { return None };
+        let premises = [self.implied(p, a)?, self.implied(p, b)?];
+        self.fact(20, p, q, &premises)
+    }
+
+    /// Too many premises at once: prove the sides of a disjunction in p apart.
+    fn split_cases(&mut self, p: &F, q: &F) -> Option<Line> {
+        let parts = conjuncts(p);
+        let at = parts.iter().position(|c| matches!(&**c, Either(..)))?;
+        let Either(a, b) = &*parts[at].clone() else { return None };
+        let mut premises = Vec::new();
+        for side in [a, b] {
+            let mut own = parts.clone();
+            own[at] = side.clone();
+            premises.push(self.implied(&fold_right(&own, both)?, q)?);
+        }
+        self.fact(20, p, q, &premises)
+    }
+
+    /// Too many leaves at once: leave out parts of p that are not needed.
+    fn drop_parts(&mut self, p: &F, q: &F) -> Option<Line> {
+        let small = self.least_part(p, q)?;
+        if small == *p {
+            return None;
+        }
+        let first = self.fact(20, p, &small, &[])?;
+        let second = self.implied(&small, q)?;
+        self.fact(20, p, q, &[first, second])
+    }
+
+    /// The conjuncts of p that q needs, joined again.
+    pub fn least_part(&mut self, p: &F, q: &F) -> Option<F> {
+        let mut parts = conjuncts(p);
+        let mut at = 0;
+        while at < parts.len() && parts.len() > 1 {
+            let mut fewer = parts.clone();
+            fewer.remove(at);
+            let smaller = fold_right(&fewer, both)?;
+            if self.premises_for(&smaller, q).is_some() {
+                parts = fewer;
+            } else {
+                at += 1;
+            }
+        }
+        fold_right(&parts, both)
+    }
+}
+
+/// The parts of nested `both`, each once.
+pub fn conjuncts(a: &F) -> Vec<F> {
+    let mut all: Vec<F> = Vec::new();
+    let parts = match &**a {
+        Both(p, q) => [conjuncts(p), conjuncts(q)].concat(),
+        _ => vec![a.clone()],
+    };
+    for part in parts {
+        if !all.contains(&part) {
+            all.push(part);
+        }
+    }
+    all
+}

@@ -1,0 +1,21 @@
+//! The search for certificate lines.
+//!
+//! Backwards from a goal: `triple` makes a plan of all ways to it (`write`,
+//! `head`, `clauses`), the `cases` of the left side choose among them, and
+//! `implication` closes the gap with premises that `support` and `interval` find.
+
+mod case_by_case;
+pub mod cases;
+pub mod certificate;
+mod clauses;
+mod head;
+mod implication;
+mod interval;
+mod named;
+mod plan;
+pub mod prover;
+mod support;
+mod support_sees;
+mod tried;
+mod triple;
+mod write;

@@ -1,0 +1,221 @@
+//! Does a case give a wanted assertion, and by which implications?
+
+use crate::formula::*;
+use crate::search::cases::Case;
+use crate::search::interval::{hull, meet_parts};
+use crate::search::prover::{Line, Prover};
+use crate::table;
+use Node::*;
+
+/// A test with `not` pushed inwards and `and`, `or` turned into assertions, so that each leaf is alone.
+pub fn expand(e: &F) -> F {
+    match &**e {
+        And(a, b) => both(&expand(a), &expand(b)),
+        Or(a, b) => either(&expand(a), &expand(b)),
+        Not(n) => match &**n {
+            And(a, b) => either(&expand(&not(a)), &expand(&not(b))),
+            Or(a, b) => both(&expand(&not(a)), &expand(&not(b))),
+            Not(a) => expand(a),
+            _ => holds(e),
+        },
+        _ => holds(e),
+    }
+}
+
+impl Prover<'_> {
+    /// The implications by which the case gives the goal; none are needed if it is plain.
+    pub fn support(&mut self, case: &Case, goal: &F) -> Option<Vec<Line>> {
+        let (case, named) = self.with_facts(case);
+        let mut found = match self.support_parts(&case, goal) {
+            Some(found) => found,
+            None => vec![self.contradiction(&case)?],
+        };
+        found.extend(named);
+        Some(found)
+    }
+
+    /// Does the case give the goal without being impossible?
+    pub fn serves(&mut self, case: &Case, goal: &F) -> bool {
+        let (case, _) = self.with_facts(case);
+        self.support_parts(&case, goal).is_some()
+    }
+
+    /// Is the case impossible, as far as the rules can say so?
+    pub fn impossible(&mut self, case: &Case) -> bool {
+        let (case, _) = self.with_facts(case);
+        self.contradiction(&case).is_some()
+    }
+
+    /// The case with what the writer's facts add to it.
+    fn with_facts(&mut self, case: &Case) -> (Case, Vec<Line>) {
+        let (mut more, mut used) = (case.clone(), Vec::new());
+        for line in self.facts.clone() {
+            if more.satisfies(&self.left(line)) {
+                add_leaves(&self.right(line), &mut more);
+                used.push(line);
+            }
+        }
+        (more, used)
+    }
+
+    fn support_parts(&mut self, case: &Case, goal: &F) -> Option<Vec<Line>> {
+        if case.satisfies(goal) {
+            return Some(Vec::new());
+        }
+        match &**goal {
+            Both(a, b) => {
+                let mut found = self.support_parts(case, a)?;
+                found.extend(self.support_parts(case, b)?);
+                Some(found)
+            }
+            Either(a, b) => {
+                let (x, y) = (self.support_parts(case, a), self.support_parts(case, b));
+                match (x, y) {
+                    (Some(x), Some(y)) => Some(if y.len() < x.len() { y } else { x }),
+                    (x, y) => x.or(y),
+                }
+            }
+            Sees(u, j) => Some(vec![self.support_sees(case, *u, j)?]),
+            Holds(e) => self.support_test(case, e),
+            _ => None,
+        }
+    }
+
+    fn support_test(&mut self, case: &Case, e: &F) -> Option<Vec<Line>> {
+        if let Some(known) = fold_right(&case.tests, and) {
+            if table::gives(&holds(&known), &holds(e), &[]) {
+                return Some(Vec::new());
+            }
+        }
+        let goal = holds(e);
+        if let Some(near) = case.tests_about(e) {
+            if let Some(line) = self.fact(21, &holds(&near), &goal, &[]) {
+                return Some(vec![line]);
+            }
+        }
+        if let Some(line) = self.fact(21, &holds(&truth()), &goal, &[]) {
+            return Some(vec![line]);
+        }
+        if let Some(line) = self.test_from_views(case, e) {
+            return Some(vec![line]);
+        }
+        let apart = expand(e);
+        if apart != goal {
+            return self.support_parts(case, &apart);
+        }
+        None
+    }
+
+    /// Rule 23: what a thread sees tells of registers, alone or with what is known of them.
+    fn test_from_views(&mut self, case: &Case, e: &F) -> Option<Line> {
+        if case.start {
+            return self.start_gives_test(e);
+        }
+        let near = case.tests_about(e);
+        for u in self.program.thread_numbers() {
+            for i in case.seen_by(u) {
+                for h in hulls(&i) {
+                    let goals = [Some(e.clone()), near.as_ref().map(|n| or(&not(n), e))];
+                    if let Some(goal) = goals.into_iter().flatten().find(|g| self.by_rows(&h, g)) {
+                        return self.view_gives_test(u, &i, &h, &goal);
+                    }
+                }
+            }
+        }
+        None
+    }
+
+    /// `u sees I` to `holds e`, by the test h that holds throughout I.
+    pub fn view_gives_test(&mut self, u: u8, i: &F, h: &F, e: &F) -> Option<Line> {
+        let (seen, plain) = (sees(u, i), sees(u, &test(h)));
+        let inclusion = self.include(i, &test(h))?;
+        let first = self.fact(22, &seen, &plain, &[inclusion])?;
+        let second = self.fact(23, &plain, &holds(e), &[])?;
+        self.chain(first, second)
+    }
+
+    /// Tests or views that cannot be true together: an implication to `false`.
+    pub fn contradiction(&mut self, case: &Case) -> Option<Line> {
+        let nothing = holds(&f(False));
+        if let Some(all) = fold_right(&case.tests, and) {
+            if let Some(line) = self.fact(21, &holds(&all), &nothing, &[]) {
+                return Some(line);
+            }
+        }
+        for u in self.program.thread_numbers() {
+            let seen = case.seen_by(u);
+            for (n, i) in seen.iter().enumerate() {
+                if let Some(line) = self.views_clash(case, u, i, &seen[n + 1..]) {
+                    return Some(line);
+                }
+            }
+        }
+        None
+    }
+
+    /// One view against the tests, then against each of the others.
+    fn views_clash(&mut self, case: &Case, u: u8, i: &F, others: &[F]) -> Option<Line> {
+        for h in hulls(i) {
+            if self.by_rows(&h, &f(False)) {
+                return self.view_gives_test(u, i, &h, &f(False));
+            }
+            if let Some(near) = case.tests_about(&h) {
+                if self.by_rows(&h, &not(&near)) {
+                    return self.view_gives_test(u, i, &h, &not(&near));
+                }
+            }
+            for k in others {
+                for g in hulls(k) {
+                    if self.by_rows(&and(&h, &g), &f(False)) {
+                        return self.pair_clashes(u, (i, &h), (k, &g));
+                    }
+                }
+            }
+        }
+        None
+    }
+
+    /// Two views whose tests h and g exclude each other.
+    fn pair_clashes(&mut self, u: u8, (i, h): (&F, &F), (k, g): (&F, &F)) -> Option<Line> {
+        let (first, pair) = self.gather(u, &[self.seen(u, i), self.seen(u, k)])?;
+        let second = self.view_gives_test(u, &pair, &and(h, g), &f(False))?;
+        self.chain(first, second)
+    }
+}
+
+/// Tests that hold throughout an interval: of each part joined by `&`, of the whole, and at last
+/// the parts of those joined by `and`, since fewer names make fewer rows.
+fn hulls(i: &F) -> Vec<F> {
+    let mut all: Vec<F> = meet_parts(i).iter().filter_map(hull).collect();
+    all.extend(hull(i));
+    let parts: Vec<F> = all.iter().flat_map(and_parts).collect();
+    all.extend(parts);
+    let mut each: Vec<F> = Vec::new();
+    all.into_iter().for_each(|h| {
+        if !each.contains(&h) {
+            each.push(h);
+        }
+    });
+    each
+}
+
+/// The parts of nested `and`.
+fn and_parts(e: &F) -> Vec<F> {
+    match &**e {
+        And(a, b) => [and_parts(a), and_parts(b)].concat(),
+        _ => vec![e.clone()],
+    }
+}
+
+/// Adds the leaves of a conjunction to a case.
+fn add_leaves(a: &F, case: &mut Case) {
+    match &**a {
+        Both(p, q) => {
+            add_leaves(p, case);
+            add_leaves(q, case);
+        }
+        Sees(..) if !case.sees.contains(a) => case.sees.push(a.clone()),
+        Holds(e) if !case.tests.contains(e) => case.tests.push(e.clone()),
+        _ => {}
+    }
+}

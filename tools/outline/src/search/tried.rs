@@ -1,0 +1,92 @@
+//! What was tried for an obligation that stays open.
+
+use crate::formula::*;
+use crate::search::cases::{cases, Case};
+use crate::search::implication::conjuncts;
+use crate::search::plan::{Choice, Plan};
+use crate::search::prover::{Line, Prover};
+use Node::*;
+
+/// How many of the ways tried are listed in a message.
+const MOST_TOLD: usize = 12;
+
+impl Prover<'_> {
+    fn tell_known(&mut self, case: &Case) {
+        let tests = case.tests.iter().map(holds);
+        let leaves: Vec<String> =
+            case.sees.iter().cloned().chain(tests).map(|a| self.names.show(&a)).collect();
+        let start = case.start.then(|| "start".to_string());
+        let known: Vec<String> = start.into_iter().chain(leaves).collect();
+        let text = if known.is_empty() { "nothing is known".into() } else { known.join("; ") };
+        self.tried.push(format!("open case    {text}"));
+    }
+
+    /// A case that nothing served: which parts of the goal, and what their rules would ask for.
+    pub fn tell_case(&mut self, case: &Case, plan: &Plan) {
+        self.tell_known(case);
+        for part in self.missing(case, plan) {
+            let text = format!("not reached  {}", self.names.show(&self.goal(&part)));
+            self.tried.push(text);
+            self.tell_ways(&part);
+        }
+    }
+
+    /// The preconditions by which a goal could be reached.
+    fn tell_ways(&mut self, plan: &Plan) {
+        let mut ways = Vec::new();
+        self.ways(plan, &mut ways);
+        ways.retain(|w| **w != Holds(f(False)));
+        let first = if ways.is_empty() { "no rule leads there" } else { "would need" };
+        for (n, way) in ways.iter().take(MOST_TOLD).enumerate() {
+            let lead = if n == 0 { first } else { "or" };
+            let text = format!("  {lead:<10} {}", self.names.show(way));
+            self.tried.push(text);
+        }
+        if ways.len() > MOST_TOLD {
+            self.tried.push(format!("  or one of {} more", ways.len() - MOST_TOLD));
+        }
+        if ways.is_empty() {
+            self.tried.push(format!("  {first}"));
+        }
+    }
+
+    /// The parts of a plan's conjunctions that the case does not serve.
+    fn missing(&mut self, case: &Case, plan: &Plan) -> Vec<Plan> {
+        if self.choose(case, &mut Choice::new(plan.clone())) {
+            return Vec::new();
+        }
+        let parts = match plan {
+            Plan::Any(_, ways) => ways.iter().find(|w| matches!(w, Plan::All(..))),
+            _ => Some(plan),
+        };
+        match parts {
+            Some(Plan::All(a, b)) => [self.missing(case, a), self.missing(case, b)].concat(),
+            _ => vec![plan.clone()],
+        }
+    }
+
+    /// The first case of p that does not give q, and the parts of q that are missing there.
+    pub fn tell_implication(&mut self, p: &F, q: &F) -> Option<Line> {
+        let Some(all) = cases(p) else {
+            self.tried
+                .push("tried        nothing: more than 10 leaves are too many for rule 20".into());
+            return None;
+        };
+        for case in all {
+            if self.support(&case, q).is_some() {
+                continue;
+            }
+            self.tell_known(&case);
+            for part in conjuncts(q) {
+                if !self.serves(&case, &part) {
+                    let text = format!("missing      {}", self.names.show(&part));
+                    self.tried.push(text);
+                }
+            }
+            return None;
+        }
+        self.tried.push("tried        each case has its reasons, but together".into());
+        self.tried.push("             they pass 10 leaves or 4 premises of rule 20".into());
+        None
+    }
+}

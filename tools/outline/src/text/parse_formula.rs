@@ -1,0 +1,373 @@
+//! Text to formulas. Right-nested throughout, as `print` writes them.
+
+use crate::formula::*;
+use crate::text::lex::{Mistake, Token};
+use crate::text::scope::{describe, Meaning, Scope};
+use Node::*;
+
+/// A place in the tokens, with the names in force.
+pub struct Cursor<'a> {
+    pub tokens: &'a [(Token, usize)],
+    pub at: usize,
+    pub scope: Scope,
+}
+
+type Parsed = Result<F, Mistake>;
+
+impl Cursor<'_> {
+    pub fn peek(&self) -> &Token {
+        &self.tokens[self.at.min(self.tokens.len() - 1)].0
+    }
+    pub fn line(&self) -> usize {
+        self.tokens[self.at.min(self.tokens.len() - 1)].1
+    }
+    pub fn fail<T>(&self, text: String) -> Result<T, Mistake> {
+        Err(Mistake { line: self.line(), text })
+    }
+    pub fn wanted<T>(&self, what: &str) -> Result<T, Mistake> {
+        self.fail(format!("{what} is wanted, found {}", self.peek().shown()))
+    }
+    /// Takes the mark or keyword if it is next.
+    pub fn take(&mut self, text: &str) -> bool {
+        let found = self.sees_next(text);
+        self.at += found as usize;
+        found
+    }
+    pub fn sees_next(&self, text: &str) -> bool {
+        match self.peek() {
+            Token::Mark(m) => *m == text,
+            Token::Name(n) => n == text,
+            _ => false,
+        }
+    }
+    pub fn expect(&mut self, text: &str) -> Result<(), Mistake> {
+        if self.take(text) {
+            return Ok(());
+        }
+        self.wanted(&format!("`{text}`"))
+    }
+    pub fn name(&mut self) -> Result<String, Mistake> {
+        let Token::Name(n) = self.peek().clone() else { return self.wanted("a name") };
+        self.at += 1;
+        Ok(n)
+    }
+    pub fn number(&mut self) -> Result<usize, Mistake> {
+        let Token::Number(n) = *self.peek() else { return self.wanted("a number") };
+        self.at += 1;
+        Ok(n)
+    }
+
+    /// The meaning of the name that is next, if a name is next.
+    pub fn meaning(&self) -> Option<&Meaning> {
+        match self.peek() {
+            Token::Name(n) => self.scope.get(n),
+            _ => None,
+        }
+    }
+
+    /// A `let` name of the wanted sort, taken if it is next.
+    fn short(&mut self, sort: Sort) -> Option<F> {
+        match self.meaning() {
+            Some(Meaning::Short(a)) if a.sort() == sort => {
+                let a = a.clone();
+                self.at += 1;
+                Some(a)
+            }
+            _ => None,
+        }
+    }
+
+    /// Nothing fits: say what stands here instead.
+    fn unfit<T>(&self, want: &str) -> Result<T, Mistake> {
+        if let Token::Name(n) = self.peek() {
+            if !crate::text::lex::KEYWORDS.contains(&n.as_str()) {
+                let is = describe(self.scope.get(n));
+                return self.fail(format!("{want} is wanted, but `{n}` {is}"));
+            }
+        }
+        self.wanted(want)
+    }
+
+    /// `e => P` is short for `not e or P`.
+    pub fn assertion(&mut self) -> Parsed {
+        let line = self.line();
+        let left = self.either()?;
+        if !self.take("=>") {
+            return Ok(left);
+        }
+        let Some(e) = as_test(&left) else {
+            let text = "only a test of registers may stand before `=>`".into();
+            return Err(Mistake { line, text });
+        };
+        Ok(either(&holds(&not(&e)), &self.assertion()?))
+    }
+
+    fn either(&mut self) -> Parsed {
+        let a = self.both()?;
+        Ok(if self.take("or") { either(&a, &self.either()?) } else { a })
+    }
+
+    fn both(&mut self) -> Parsed {
+        let a = self.assertion_unit()?;
+        Ok(if self.take("and") { both(&a, &self.both()?) } else { a })
+    }
+
+    fn assertion_unit(&mut self) -> Parsed {
+        if let Some(a) = self.short(Sort::Assertion) {
+            return Ok(a);
+        }
+        if let Some(Meaning::Thread(t)) = self.meaning() {
+            let t = *t;
+            self.at += 1;
+            self.expect("sees")?;
+            return Ok(sees(t, &self.interval()?));
+        }
+        if self.take("start") {
+            return Ok(f(Start));
+        }
+        if self.take("(") {
+            let a = self.assertion()?;
+            self.expect(")")?;
+            return Ok(a);
+        }
+        let line = self.line();
+        let e = if self.take("holds") || self.at_test() {
+            self.test_unit()?
+        } else {
+            return self.unfit("an assertion");
+        };
+        if registers_only(&e) {
+            return Ok(holds(&e));
+        }
+        let text = "a test outside [ ] is about registers only; words need `THREAD sees [..]`";
+        Err(Mistake { line, text: text.into() })
+    }
+
+    /// May a bare test start here, without `holds`?
+    fn at_test(&self) -> bool {
+        match self.meaning() {
+            Some(Meaning::Reg(_) | Meaning::Word(_)) => return true,
+            Some(Meaning::Short(a)) => return matches!(a.sort(), Sort::Test | Sort::Value),
+            _ => {}
+        }
+        matches!(self.peek(), Token::Number(_)) || self.sees_next("true") || self.sees_next("false")
+    }
+
+    /// Chop binds least, then `|`, then `&`.
+    pub fn interval(&mut self) -> Parsed {
+        let a = self.join()?;
+        Ok(if self.take(";") { chop(&a, &self.interval()?) } else { a })
+    }
+
+    fn join(&mut self) -> Parsed {
+        let a = self.meet()?;
+        Ok(if self.take("|") { f(Join(a, self.join()?)) } else { a })
+    }
+
+    fn meet(&mut self) -> Parsed {
+        let a = self.interval_unit()?;
+        Ok(if self.take("&") { meet(&a, &self.meet()?) } else { a })
+    }
+
+    fn interval_unit(&mut self) -> Parsed {
+        if let Some(i) = self.short(Sort::Interval) {
+            return Ok(i);
+        }
+        if self.take("[") {
+            let e = self.test()?;
+            self.expect("]")?;
+            return Ok(test(&e));
+        }
+        if self.take("one") {
+            let x = self.word()?;
+            return Ok(if self.take("=") { one_of(x, &self.value()?) } else { f(One(x)) });
+        }
+        if self.take("(") {
+            let i = self.interval()?;
+            self.expect(")")?;
+            return Ok(i);
+        }
+        self.unfit("an interval")
+    }
+
+    pub fn word(&mut self) -> Result<u8, Mistake> {
+        let Some(Meaning::Word(x)) = self.meaning() else { return self.unfit("a word") };
+        let x = *x;
+        self.at += 1;
+        Ok(x)
+    }
+
+    pub fn test(&mut self) -> Parsed {
+        let a = self.test_and()?;
+        Ok(if self.take("or") { or(&a, &self.test()?) } else { a })
+    }
+
+    fn test_and(&mut self) -> Parsed {
+        let a = self.test_unit()?;
+        Ok(if self.take("and") { and(&a, &self.test_and()?) } else { a })
+    }
+
+    fn test_unit(&mut self) -> Parsed {
+        if let Some(e) = self.short(Sort::Test) {
+            return Ok(e);
+        }
+        if self.take("not") {
+            return Ok(not(&self.test_unit()?));
+        }
+        if self.take("true") {
+            return Ok(truth());
+        }
+        if self.take("false") {
+            return Ok(f(False));
+        }
+        if self.take("unsync") {
+            return Ok(f(Unsync(self.word()?)));
+        }
+        if self.take("cov") {
+            return Ok(f(Cov(self.word()?)));
+        }
+        match self.bracketed_test() {
+            Some(e) => Ok(e),
+            None => self.comparison(),
+        }
+    }
+
+    /// A test in parentheses; if a value in parentheses stands here instead, nothing is taken.
+    fn bracketed_test(&mut self) -> Option<F> {
+        let start = self.at;
+        if self.take("(") {
+            if let Ok(e) = self.test() {
+                if self.take(")") {
+                    return Some(e);
+                }
+            }
+        }
+        self.at = start;
+        None
+    }
+
+    fn comparison(&mut self) -> Parsed {
+        let a = self.value()?;
+        for mark in ["=", "!=", "<=", ">=", "<", ">"] {
+            if self.take(mark) {
+                let b = self.value()?;
+                return Ok(match mark {
+                    "=" => equal(&a, &b),
+                    "!=" => not(&equal(&a, &b)),
+                    "<" => f(Less(a, b)),
+                    ">" => f(Less(b, a)),
+                    "<=" => not(&f(Less(b, a))),
+                    _ => not(&f(Less(a, b))),
+                });
+            }
+        }
+        self.wanted("a comparison (=, !=, <, >, <=, >=)")
+    }
+
+    /// Sums nest to the left.
+    pub fn value(&mut self) -> Parsed {
+        let mut a = self.value_unit()?;
+        while self.take("+") {
+            a = f(Sum(a, self.value_unit()?));
+        }
+        Ok(a)
+    }
+
+    fn value_unit(&mut self) -> Parsed {
+        if let Some(v) = self.short(Sort::Value) {
+            return Ok(v);
+        }
+        if let Token::Number(n) = *self.peek() {
+            if n > 7 {
+                return self.fail(format!("{n} is no value: values are 0 to 7"));
+            }
+            self.at += 1;
+            return Ok(constant(n as u8));
+        }
+        if self.take("(") {
+            let v = self.value()?;
+            self.expect(")")?;
+            return Ok(v);
+        }
+        let v = match self.meaning() {
+            Some(Meaning::Word(x)) => word(*x),
+            Some(Meaning::Reg(r)) => reg(*r),
+            _ => return self.unfit("a value"),
+        };
+        self.at += 1;
+        Ok(v)
+    }
+
+    /// A formula of a known sort.
+    pub fn of_sort(&mut self, sort: Sort) -> Parsed {
+        match sort {
+            Sort::Value => self.value(),
+            Sort::Test => self.test(),
+            Sort::Interval => self.interval(),
+            Sort::Assertion => self.assertion(),
+        }
+    }
+}
+
+/// An assertion made of tests of registers alone, as one test.
+fn as_test(a: &F) -> Option<F> {
+    match &**a {
+        Holds(e) => Some(e.clone()),
+        Both(p, q) => Some(and(&as_test(p)?, &as_test(q)?)),
+        Either(p, q) => Some(or(&as_test(p)?, &as_test(q)?)),
+        _ => None,
+    }
+}
+
+#[cfg(test)]
+mod tests {
+    use super::*;
+    use crate::text::lex::tokens;
+
+    fn parse(text: &str) -> Result<F, Mistake> {
+        let all = format!("word x = 0 word y = 0 thread a registers r, q thread b {{ {text} }}");
+        let list = tokens(&all).unwrap();
+        let scope = Scope::scan(&list).unwrap();
+        let at = list.iter().position(|t| t.0 == Token::Mark("{")).unwrap() + 1;
+        let mut cursor = Cursor { tokens: &list, at, scope };
+        let a = cursor.assertion()?;
+        cursor.expect("}")?;
+        Ok(a)
+    }
+
+    /// Printing and reading again gives the same formula.
+    fn same(text: &str) {
+        let a = parse(text).unwrap();
+        let names = crate::text::print::Names {
+            words: vec!["x".into(), "y".into()],
+            regs: vec!["r".into(), "q".into()],
+            threads: vec!["a".into(), "b".into()],
+        };
+        assert_eq!(parse(&names.show(&a)).unwrap(), a, "{}", names.show(&a));
+    }
+
+    #[test]
+    fn printed_text_reads_back() {
+        same("a sees [x = 0] ; [unsync x] ; [y = 1] and b sees one x = r + 1");
+        same("(r = 1 or q != 2) and holds (r = 1 or q != 2) or false");
+        same("r = 1 and q = 2 => a sees (([x = 0] ; one y) ; [not cov x]) & one x | [true]");
+        same("r + (q + 1) < 2 and holds (not (not (r < 1))) and (r = 1 and true) or true");
+        same("holds not (r = 1 and q = 1) and r <= q");
+        same("a sees ([x = 0] | [x = 1]) & one y & [(x + 1) + y = 2 or not not unsync y]");
+    }
+
+    #[test]
+    fn arrow_is_not_or() {
+        let want = either(&holds(&not(&equal(&reg(1), &constant(1)))), &holds(&truth()));
+        assert_eq!(parse("r = 1 => true").unwrap(), want);
+    }
+
+    #[test]
+    fn mistakes_are_told() {
+        assert!(parse("x = 1").unwrap_err().text.contains("registers only"));
+        assert!(parse("a sees r").unwrap_err().text.contains("`r` is a register"));
+        assert!(parse("r = 8").unwrap_err().text.contains("0 to 7"));
+        assert!(parse("a sees one z").unwrap_err().text.contains("not declared"));
+        assert!(parse("a sees one x => true").unwrap_err().text.contains("before `=>`"));
+    }
+}

@@ -1,0 +1,154 @@
+//! What the names in a source stand for.
+
+use crate::formula::{Sort, F};
+use crate::text::lex::{Mistake, Token, KEYWORDS};
+use crate::text::print::Names;
+use std::collections::BTreeMap;
+
+/// What one name stands for.
+#[derive(Debug, Clone)]
+pub enum Meaning {
+    Word(u8),
+    Reg(u8),
+    Thread(u8),
+    Short(F),
+}
+
+/// All names of a source; words, registers and threads count from 1.
+#[derive(Debug, Clone, Default)]
+pub struct Scope {
+    meanings: BTreeMap<String, Meaning>,
+    pub names: Names,
+    pub starts: Vec<u8>,
+    pub owners: Vec<u8>,
+}
+
+impl Scope {
+    pub fn get(&self, name: &str) -> Option<&Meaning> {
+        self.meanings.get(name)
+    }
+
+    /// Adds a `let` name.
+    pub fn short(&mut self, name: &str, formula: F, line: usize) -> Result<(), Mistake> {
+        self.add(name, Meaning::Short(formula), line)
+    }
+
+    fn add(&mut self, name: &str, meaning: Meaning, line: usize) -> Result<(), Mistake> {
+        let fault = |text: String| Err(Mistake { line, text });
+        if KEYWORDS.contains(&name) {
+            return fault(format!("`{name}` is a word of the language and cannot be a name"));
+        }
+        if self.meanings.insert(name.to_string(), meaning).is_some() {
+            return fault(format!("the name `{name}` is given twice"));
+        }
+        Ok(())
+    }
+
+    /// Declares words, registers and threads ahead of reading, since assertions look ahead.
+    pub fn scan(tokens: &[(Token, usize)]) -> Result<Scope, Mistake> {
+        let mut scope = Scope::default();
+        let mut owners_by_name = Vec::new();
+        for i in 0..tokens.len() {
+            match &tokens[i].0 {
+                Token::Name(n) if n == "word" => scope.scan_word(tokens, i)?,
+                Token::Name(n) if n == "thread" => {
+                    let (name, line) = name_at(tokens, i + 1)?;
+                    scope.names.threads.push(name.clone());
+                    scope.add(&name, Meaning::Thread(scope.names.threads.len() as u8), line)?;
+                }
+                Token::Name(n) if n == "registers" => scope.scan_registers(tokens, i)?,
+                Token::Name(n) if n == "register" => {
+                    let (name, line) = name_at(tokens, i + 1)?;
+                    scope.add_register(&name, 0, line)?;
+                    owners_by_name.push((scope.owners.len() - 1, name_at(tokens, i + 3)?));
+                }
+                _ => {}
+            }
+        }
+        for (r, (owner, line)) in owners_by_name {
+            scope.owners[r] = scope.thread(&owner, line)?;
+        }
+        scope.limits(tokens[tokens.len() - 1].1)?;
+        Ok(scope)
+    }
+
+    /// The number of a thread by its name.
+    pub fn thread(&self, name: &str, line: usize) -> Result<u8, Mistake> {
+        match self.get(name) {
+            Some(Meaning::Thread(t)) => Ok(*t),
+            _ => Err(Mistake { line, text: format!("`{name}` is no thread") }),
+        }
+    }
+
+    fn scan_word(&mut self, tokens: &[(Token, usize)], i: usize) -> Result<(), Mistake> {
+        let (name, line) = name_at(tokens, i + 1)?;
+        self.names.words.push(name.clone());
+        self.add(&name, Meaning::Word(self.names.words.len() as u8), line)?;
+        match &tokens[(i + 3).min(tokens.len() - 1)].0 {
+            Token::Number(v) if *v <= 7 => self.starts.push(*v as u8),
+            t => {
+                let text = format!("word {name} needs a start value 0 to 7, found {}", t.shown());
+                return Err(Mistake { line, text });
+            }
+        }
+        Ok(())
+    }
+
+    fn scan_registers(&mut self, tokens: &[(Token, usize)], i: usize) -> Result<(), Mistake> {
+        let owner = self.names.threads.len() as u8;
+        let mut at = i + 1;
+        loop {
+            let (name, line) = name_at(tokens, at)?;
+            self.add_register(&name, owner, line)?;
+            if tokens.get(at + 1).map(|t| &t.0) != Some(&Token::Mark(",")) {
+                return Ok(());
+            }
+            at += 2;
+        }
+    }
+
+    fn add_register(&mut self, name: &str, owner: u8, line: usize) -> Result<(), Mistake> {
+        self.names.regs.push(name.to_string());
+        self.owners.push(owner);
+        self.add(name, Meaning::Reg(self.names.regs.len() as u8), line)
+    }
+
+    fn limits(&self, line: usize) -> Result<(), Mistake> {
+        let checks = [
+            ("threads", self.names.threads.len(), 1, 3),
+            ("words", self.names.words.len(), 1, 8),
+            ("registers", self.names.regs.len(), 0, 16),
+        ];
+        for (what, n, least, most) in checks {
+            if n < least || n > most {
+                let text = format!("{n} {what}; an image has {least} to {most}");
+                return Err(Mistake { line, text });
+            }
+        }
+        Ok(())
+    }
+}
+
+fn name_at(tokens: &[(Token, usize)], i: usize) -> Result<(String, usize), Mistake> {
+    match tokens.get(i).or(tokens.last()) {
+        Some((Token::Name(n), line)) => Ok((n.clone(), *line)),
+        Some((t, line)) => {
+            Err(Mistake { line: *line, text: format!("a name is wanted, found {}", t.shown()) })
+        }
+        None => Err(Mistake { line: 1, text: "the text is empty".into() }),
+    }
+}
+
+/// The sort of a `let` name, for messages.
+pub fn describe(meaning: Option<&Meaning>) -> String {
+    match meaning {
+        None => "is not declared".into(),
+        Some(Meaning::Word(_)) => "is a word".into(),
+        Some(Meaning::Reg(_)) => "is a register".into(),
+        Some(Meaning::Thread(_)) => "is a thread".into(),
+        Some(Meaning::Short(a)) => match a.sort() {
+            Sort::Assertion => "stands for an assertion".into(),
+            s => format!("stands for a {}", s.word()),
+        },
+    }
+}

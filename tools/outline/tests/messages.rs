@@ -1,0 +1,120 @@
+//! Mistakes are told with their line, open obligations with their place; the exit status says which.
+
+use outline::build::build;
+use outline::text::parse_source::parse;
+use outline::text::report;
+use std::process::Command;
+
+#[test]
+fn mistakes_have_lines_and_words() {
+    let cases = [
+        ("word x = 9\nthread a { true }", 1, "start value 0 to 7"),
+        ("word x = 0\nthread a { true }\n x := y\n { true }", 3, "`y` is not declared"),
+        ("word x = 0\nthread a { true } x := x { true }", 2, "may not stand in an instruction"),
+        ("word x = 0\nthread a { a sees [x = 1 }", 2, "`]` is wanted"),
+        (
+            "word x = 0\nthread a registers r { true }\nthread b { true } r := 1 { true }",
+            3,
+            "another thread",
+        ),
+        ("word x = 0\nlet P = a sees [x = 0] ?\nthread a { P }", 2, "`?` means nothing"),
+        ("word x = 0\nlet P = a sees [x = 0] and\nthread a { P }", 3, "an assertion is wanted"),
+        ("word x = 0\nthread a { true } if true goto 5 { true }", 2, "no point of this thread"),
+        ("word x = 0\nthread a { true } x := 1", 2, "a point"),
+        ("word x = 0\nthread a { true }\nword x = 1", 3, "given twice"),
+        ("word sees = 0\nthread a { true }", 1, "word of the language"),
+        ("word x = 0\nthread a { start }", 2, "may not stand in an outline"),
+        ("word x = 0\nthread a { x = 0 }", 2, "registers only"),
+        ("thread a { true }", 1, "0 words"),
+        (
+            "word x = 0 thread a { true } thread b { true }\nthread c { true } thread d { true }",
+            2,
+            "4 threads",
+        ),
+    ];
+    for (text, line, words) in cases {
+        let mistake = parse(text).expect_err(text);
+        assert_eq!(mistake.line, line, "{text}: {mistake}");
+        assert!(mistake.text.contains(words), "{text}: {mistake}");
+    }
+}
+
+#[test]
+fn big_formulas_are_refused_in_words() {
+    let deep = format!("word x = 0\nthread a {{ holds ({}false) }}", "not ".repeat(16));
+    assert!(parse(&deep).expect_err("too deep").text.contains("nesting 18"));
+    let long = ["a sees [x = 0] ; [x = 1] ; [x = 2]"; 12].join(" or ");
+    let wide = format!("word x = 0\nthread a {{ {long} }}");
+    assert!(parse(&wide).expect_err("too long").text.contains("255 bytes"));
+}
+
+#[test]
+fn wrong_hints_and_certificates_are_told() {
+    let cases = [
+        ("proof step a 0: { true } to { true }", "no instruction"),
+        ("proof fact { true } to { false }", "was not found"),
+        (
+            "certificate formula 1: assertion true line 1: rule 20 1 to 1 obligations 1 1",
+            "2 obligations",
+        ),
+        ("certificate formula 1: assertion false line 1: rule 20 1 to 1 obligations 0", ""),
+    ];
+    for (part, words) in cases {
+        let source = parse(&format!("word x = 0\nthread a {{ true }}\n{part}")).expect(part);
+        match build(&source) {
+            Ok(built) => assert!(words.is_empty() && built.open.len() == 1, "{part}"),
+            Err(e) => assert!(!words.is_empty() && e.text.contains(words), "{part}: {e}"),
+        }
+    }
+}
+
+const RELAXED: &str = "word x = 0
+word y = 0
+thread writer
+  { writer sees one y and reader sees [y = 0] and writer sees [x = 1] }
+    y := 1
+  { true }
+thread reader
+  { reader sees [y = 0] ; [unsync y] ; [x = 1] }
+";
+
+#[test]
+fn an_open_obligation_names_place_case_and_need() {
+    let source = parse(RELAXED).expect("well formed");
+    let built = build(&source).expect("no hints");
+    let all: Vec<String> = built.open.iter().map(|o| report::open(&source, o, true)).collect();
+    assert_eq!(all.len(), 2);
+    assert!(all[0].starts_with("open: class 1, thread 1 (writer) point 0 (line 4)"), "{}", all[0]);
+    assert!(all[0].contains("missing      writer sees [x = 1]"), "{}", all[0]);
+    let place = "class 4, thread 2 (reader) point 0 (line 8): not kept by thread 1 (writer) point 0 (line 4)";
+    assert!(
+        all[1].contains(place)
+            && all[1].contains("would need reader sees [y = 0] and reader sees [1 = 0]"),
+        "{}",
+        all[1]
+    );
+}
+
+#[test]
+fn the_exit_status_tells_open_from_closed() {
+    let folder = std::env::temp_dir().join(format!("outline-test-{}", std::process::id()));
+    std::fs::create_dir_all(&folder).expect("a place for files");
+    let (text, image) = (folder.join("relaxed.outline"), folder.join("relaxed.image"));
+    std::fs::write(&text, RELAXED).expect("written");
+    let run = |more: &[&str]| {
+        let program = env!("CARGO_BIN_EXE_outline");
+        Command::new(program)
+            .arg("build")
+            .arg(&text)
+            .arg("-o")
+            .arg(&image)
+            .args(more)
+            .output()
+            .expect("run")
+    };
+    assert_eq!(run(&[]).status.code(), Some(1));
+    assert!(!image.exists());
+    assert_eq!(run(&["--partial"]).status.code(), Some(0));
+    assert!(image.exists());
+    std::fs::remove_dir_all(&folder).expect("cleared away");
+}
