@@ -40,12 +40,12 @@ use Rattle.trees.proofs.Replace.{raw-reg, raw-word}
 use Rattle.trees.proofs.Occurs
 use Rattle.trees.proofs.Occurs.{no-register, no-word}
 use Rattle.trees.proofs.Rows.{rawImp, raw-rows, raw-table}
-use Rattle.certificate.specs.Template.{firstHole, firstNumber, formulaHole, numHole, rawP, Holes, instT, fillOf}
-use Rattle.certificate.specs.Match.{Taken, andThen, when, matchT}
+use Rattle.matcher.specs.Template.{firstHole, firstNumber, formulaHole, numHole, rawP, Holes, instT, fillOf}
+use Rattle.matcher.specs.Match.{Taken, andThen, when, matchT}
 use Rattle.certificate.specs.FitT
 use Rattle.certificate.specs.FitT.{inclusion, implication, hoare, Said, said, Acting, acting, formOf, leftOf, rightOf, placed, matchLine, matchAll, isImplication, matchPremises, preset, orElse, holesFrom, ofWord, replacedNumber, replacing, keepsT, sideT, operationT, restT, answer, fitsAt, fitsT}
-use Rattle.certificate.proofs.Match.{Has, match-sound, then-some, when-some, Goes, goes-then, goes-when, match-goes}
-use Rattle.certificate.proofs.Template.{Agrees, from-tree}
+use Rattle.matcher.proofs.Match.{Has, match-sound, then-some, when-some, Goes, goes-then, goes-when, match-goes}
+use Rattle.matcher.proofs.Template.{Agrees, from-tree}
 
 -- LINES AGAINST SHAPES
 

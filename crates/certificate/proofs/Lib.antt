@@ -1,4 +1,2 @@
-pub mod Match
-pub mod Template
 pub mod FitT
 pub mod Marks

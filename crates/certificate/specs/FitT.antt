@@ -23,8 +23,8 @@ use Rattle.compare.specs.Replace.{replaceT, oneName}
 use Rattle.occurs.specs.Occurs.{occurs, register, wordAnyRole, flag}
 use Rattle.trees.specs.Raw.{raw}
 use Rattle.trees.specs.Rows.{ImpT, rowsT, tableT}
-use Rattle.certificate.specs.Template.{numHole, formulaHole, rawP, Holes, instT}
-use Rattle.certificate.specs.Match.{Taken, andThen, when, matchT}
+use Rattle.matcher.specs.Template.{numHole, formulaHole, rawP, Holes, instT}
+use Rattle.matcher.specs.Match.{Taken, andThen, when, matchT}
 
 -- the form of a line, by number
 abbrev pub inclusion : ℕ

@@ -1,0 +1,32 @@
+-- Formulas.
+use Prim.Native.Nat.{ℕ, _/_}
+use mathlib.Core.Path.{_≡_}
+use mathlib.Core.List.{List}
+use mathlib.Core.Bool.{Bool}
+use lib.ListN.{getD}
+use lib.Dec.{eqb}
+use Rattle.frames.specs.declared.fault.Fault.{Fault}
+use Rattle.frames.specs.declared.fault.Checked.{Checked}
+use Rattle.frames.specs.declared.fault.Checked.the-variants.{Passed, Faulty}
+use Rattle.formula.specs.declared.reader.Counts.{Counts}
+use Rattle.formula.specs.declared.reader.Reading.{Reading}
+use Rattle.formula.specs.declared.reader.Reading.the-variants as Reading
+use Rattle.formula.specs.Reader.{readingOf, sortOf}
+use Rattle.program.specs.declared.sizes.Sizes.{Sizes}
+use Rattle.bodies.specs.Formula.{countsOf, faultOf, read}
+
+-- what the reader answered
+
+module _ (z : Sizes) (b : List ℕ) (n : Counts) (r : Reading) (en : n ≡ countsOf z) (er : r ≡ readingOf b n) where
+  pub read-formula : (s : ℕ) → r ≡ Reading.Formula s → Passed ≡ read (readingOf b (countsOf z))
+  unfolding read
+  read-formula s q = rw (← en, ← er, q)
+
+  pub read-fault : (c : ℕ) (f : Fault) → r ≡ Reading.Fault c → f ≡ faultOf c → Faulty f ≡ read (readingOf b (countsOf z))
+  unfolding read
+  read-fault c f q e = rw (← en, ← er, q, e)
+
+pub ruleset read-so = (read-formula, read-fault)
+
+pub sort-is : (b : List ℕ) (x s : ℕ) → x ≡ getD b 0 0 → eqb (x / 8) s ≡ eqb (sortOf b) s
+sort-is b x s e = rw e

@@ -1,0 +1,10 @@
+use Rattle.bodies.proofs.Laws.Uses.{instructed}
+use Rattle.limits.proofs.Auto.{tests}
+use borrow.Author.Needs.{needs}
+use Rattle.bodies.proofs.thread_body.instruction_sorted.Statement.{statement}
+use Rattle.bodies.proofs.thread_body.instruction_sorted.Tie as tie
+
+pub instruction-sorted-spec : {M : Type 1} → statement M
+instruction-sorted-spec =
+    tie.close
+    (tie.spec (λ c. search (instructed, tests)) (λ c κs. search needs) (λ c κs. search needs) (λ c κs. search needs) (λ c. search (instructed, tests)))

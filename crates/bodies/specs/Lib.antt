@@ -1,0 +1,5 @@
+pub mod Formula
+pub mod Use
+pub mod Thread
+pub mod Lists
+pub mod Line

@@ -1,0 +1,42 @@
+-- A thread's record: codes 5 to 9.
+use mathlib.Core.Bool.{Bool, true, not, _&&_}
+use mathlib.Core.List.{List, []}
+use Prim.Native.Nat.{ℕ}
+use lib.Dec.{eqb, leb}
+use lib.ListN.{getD}
+use Rattle.logic.specs.Opcode as Opcode
+use Rattle.limits.specs.Numbers.{pick, nth, every}
+use Rattle.frames.specs.Fault.{unless, also}
+use Rattle.frames.specs.declared.fault.Fault.the-variants.{Sort, Owner}
+use Rattle.frames.specs.declared.fault.Checked.{Checked}
+use Rattle.frames.specs.declared.fault.Checked.the-variants.{Passed}
+use Rattle.formula.specs.Codes as Codes
+use Rattle.occurs.specs.Occurs.{occurs, foreign}
+use Rattle.program.specs.declared.sizes.Sizes.{Sizes}
+use Rattle.program.specs.declared.instruction.Instruction.{Instruction}
+use Rattle.program.specs.Header.{owners}
+use Rattle.program.specs.Thread.{instructions, threadNumbers}
+use Rattle.bodies.specs.Use.{treeOf, plainOf}
+
+-- instruction formulas are values, for a branch a test
+unfoldable pub wanted : ℕ → ℕ
+wanted op = pick (eqb op Opcode.branch) Codes.test Codes.value
+
+-- 8: of its sort, without 2, 14, 15. Formula k is body k of the image; a load has none
+unfoldable pub sorted : List (List ℕ) → Instruction → Bool
+sorted l i = pick (eqb (i .formula) 0) true (plainOf (wanted (i .operation)) (getD l (i .formula) []))
+
+-- 9: assignments and loads set a register of the thread
+unfoldable pub targetOwned : List (List ℕ) → ℕ → Instruction → Bool
+targetOwned l t i = pick (leb (i .operation) Opcode.acquire) (eqb (nth (owners (getD l 0 [])) (i .a) 0) t) true
+
+-- and formulas are over its registers
+unfoldable pub formulaOwned : List (List ℕ) → ℕ → Instruction → Bool
+formulaOwned l t i = pick (eqb (i .formula) 0) true (not (occurs (foreign t) (owners (getD l 0 [])) (treeOf (getD l (i .formula) []))))
+
+unfoldable pub owned : List (List ℕ) → ℕ → Instruction → Bool
+owned l t i = targetOwned l t i && formulaOwned l t i
+
+-- thread t
+unfoldable pub thread : Sizes → List (List ℕ) → ℕ → List ℕ → Checked
+thread z l t b = also (threadNumbers z b) (unless (every (sorted l) (instructions b)) Sort (unless (every (owned l t) (instructions b)) Owner Passed))

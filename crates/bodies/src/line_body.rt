@@ -1,0 +1,73 @@
+// A line's record: its numbers, then its formulas.
+use crate::list_body::formula_outlined;
+use crate::use_of::Sort;
+use crate::use_of::is_sort;
+use frames::fault::Checked;
+use frames::fault::Fault;
+use frames::index::body_of;
+use limits::read::word_at;
+use program::sizes::Sizes;
+use records::line::Form;
+use records::line::check_line_numbers;
+use records::line::line_form;
+ghost use mathlib.Core.Path.{_≡_};
+ghost use lib.ListN.{getD};
+ghost use Rattle.frames.specs.Records.{bodies, indexOf};
+ghost use Rattle.records.specs.Line.{formOf};
+ghost use Rattle.bodies.specs.Line.{sortAt, sortedBy, lineSorted, line};
+
+fn formula_of_sort<'a, 'b>(s: &'a [u8], ix: &'b [usize], sort: usize, k: usize) -> bool
+    requires { ⌜ now ix ≡ indexOf (now s) ⌝ }
+    ensures { λ r. ⌜ r ≡ sortAt (bodies (now (s .entry))) sort k ⌝ }
+{
+    let b = body_of(s, ix, k);
+    is_sort(b, sort)
+}
+
+// Formula k may be a side of a line of this form.
+fn formula_fits<'a, 'b>(s: &'a [u8], ix: &'b [usize], f: Form, k: usize) -> bool
+    requires { ⌜ now ix ≡ indexOf (now s) ⌝ }
+    ensures { λ r. ⌜ r ≡ sortedBy (bodies (now (s .entry))) f k ⌝ }
+{
+    match f {
+        Form::Triple => formula_outlined(s, ix, k),
+        Form::Implication => formula_of_sort(s, ix, Sort::ASSERTION, k),
+        Form::Inclusion => formula_of_sort(s, ix, Sort::INTERVAL, k),
+        Form::Unlisted => true,
+    }
+}
+
+fn line_sorted<'a, 'b>(s: &'a [u8], ix: &'b [usize], b: &'a [u8]) -> bool
+    requires { ⌜ now ix ≡ indexOf (now s) ⌝ }
+    ensures { λ r. ⌜ r ≡ lineSorted (bodies (now (s .entry))) (now (b .entry)) ⌝ }
+{
+    let f = line_form(b);
+    let left = word_at(b, 3);
+    if formula_fits(s, ix, f, left) {
+        let right = word_at(b, 5);
+        return formula_fits(s, ix, f, right);
+    }
+    false
+}
+
+// The line that has so many lines before it.
+pub fn check_line<'a, 'b>(
+    s: &'a [u8],
+    ix: &'b [usize],
+    z: Sizes,
+    lower: usize,
+    b: &'a [u8],
+) -> Checked
+    requires { ⌜ now ix ≡ indexOf (now s) ⌝ }
+    ensures { λ r. ⌜ r ≡ line z (bodies (now (s .entry))) lower (now (b .entry)) ⌝ }
+{
+    match check_line_numbers(s, ix, z, lower, b) {
+        Checked::Faulty(fault) => Checked::Faulty(fault),
+        Checked::Passed => {
+            if line_sorted(s, ix, b) {
+                return Checked::Passed;
+            }
+            Checked::Faulty(Fault::Sort)
+        }
+    }
+}

@@ -1,0 +1,134 @@
+// A thread's record: its numbers, then the formulas of its instructions, then the registers that it names.
+use crate::use_of::Sort;
+use crate::use_of::is_plain_of;
+use formula::limits::Limits;
+use frames::fault::Checked;
+use frames::fault::Fault;
+use frames::index::body_of;
+use occurs::has::has_foreign;
+use program::header::owner_of;
+use program::header::owners_of;
+use program::instruction::Instruction;
+use program::sizes::Sizes;
+use program::thread::check_thread_numbers;
+use program::thread::instruction_at;
+use program::thread::last_point;
+ghost use mathlib.Core.Path.{_≡_};
+ghost use Rattle.limits.specs.Numbers.{every};
+ghost use Rattle.frames.specs.Records.{bodies, indexOf};
+ghost use Rattle.program.specs.Thread.{instructions};
+ghost use Rattle.bodies.specs.Thread.{wanted, sorted, targetOwned, formulaOwned, owned, thread};
+
+// The sort of an instruction's formula.
+fn wanted_sort(operation: usize) -> usize
+    ensures { λ r. ⌜ r ≡ wanted operation ⌝ }
+{
+    if operation == Instruction::BRANCH {
+        return Sort::TEST;
+    }
+    Sort::VALUE
+}
+
+// The instruction's formula, if it has one, is of the wanted sort over registers alone.
+fn instruction_sorted<'a, 'b>(s: &'a [u8], ix: &'b [usize], i: Instruction) -> bool
+    requires { ⌜ now ix ≡ indexOf (now s) ⌝ }
+    ensures { λ r. ⌜ r ≡ sorted (bodies (now (s .entry))) i ⌝ }
+{
+    if i.formula == 0 {
+        return true;
+    }
+    let b = body_of(s, ix, i.formula);
+    is_plain_of(b, wanted_sort(i.operation))
+}
+
+// The register that is set, if there is one, is the thread's.
+fn target_owned<'a, 'b>(s: &'a [u8], ix: &'b [usize], t: u8, i: Instruction) -> bool
+    requires { ⌜ now ix ≡ indexOf (now s) ⌝ }
+    ensures { λ r. ⌜ r ≡ targetOwned (bodies (now (s .entry))) t i ⌝ }
+{
+    if i.operation <= Instruction::ACQUIRE {
+        let h = body_of(s, ix, 0);
+        return owner_of(h, i.a) == (t as usize);
+    }
+    true
+}
+
+// The registers of the formula, if there is one, are the thread's.
+fn formula_owned<'a, 'b>(s: &'a [u8], ix: &'b [usize], t: u8, i: Instruction) -> bool
+    requires { ⌜ now ix ≡ indexOf (now s) ⌝ }
+    ensures { λ r. ⌜ r ≡ formulaOwned (bodies (now (s .entry))) t i ⌝ }
+{
+    if i.formula == 0 {
+        return true;
+    }
+    let b = body_of(s, ix, i.formula);
+    let h = body_of(s, ix, 0);
+    let owners = owners_of(h);
+    if has_foreign(b, 0, Limits::NESTING, t, owners) {
+        return false;
+    }
+    true
+}
+
+fn instruction_owned<'a, 'b>(s: &'a [u8], ix: &'b [usize], t: u8, i: Instruction) -> bool
+    requires { ⌜ now ix ≡ indexOf (now s) ⌝ }
+    ensures { λ r. ⌜ r ≡ owned (bodies (now (s .entry))) t i ⌝ }
+{
+    if target_owned(s, ix, t, i) {
+        return formula_owned(s, ix, t, i);
+    }
+    false
+}
+
+fn instructions_sorted<'a, 'b>(s: &'a [u8], ix: &'b [usize], b: &'a [u8]) -> bool
+    requires { ⌜ now ix ≡ indexOf (now s) ⌝ }
+    ensures { λ r. ⌜ r ≡ every (sorted (bodies (now (s .entry)))) (instructions (now (b .entry))) ⌝ }
+{
+    let last = last_point(b);
+    let mut p: usize = 0;
+    while p < last {
+        let i = instruction_at(b, p);
+        if instruction_sorted(s, ix, i) {
+            p += 1;
+        } else {
+            return false;
+        }
+    }
+    true
+}
+
+fn instructions_owned<'a, 'b>(s: &'a [u8], ix: &'b [usize], t: u8, b: &'a [u8]) -> bool
+    requires { ⌜ now ix ≡ indexOf (now s) ⌝ }
+    ensures { λ r. ⌜ r ≡ every (owned (bodies (now (s .entry))) t) (instructions (now (b .entry))) ⌝ }
+{
+    let last = last_point(b);
+    let mut p: usize = 0;
+    while p < last {
+        let i = instruction_at(b, p);
+        if instruction_owned(s, ix, t, i) {
+            p += 1;
+        } else {
+            return false;
+        }
+    }
+    true
+}
+
+// Thread t.
+pub fn check_thread<'a, 'b>(s: &'a [u8], ix: &'b [usize], z: Sizes, t: u8, b: &'a [u8]) -> Checked
+    requires { ⌜ now ix ≡ indexOf (now s) ⌝ }
+    ensures { λ r. ⌜ r ≡ thread z (bodies (now (s .entry))) t (now (b .entry)) ⌝ }
+{
+    match check_thread_numbers(b, z) {
+        Checked::Faulty(fault) => Checked::Faulty(fault),
+        Checked::Passed => {
+            if instructions_sorted(s, ix, b) {
+                if instructions_owned(s, ix, t, b) {
+                    return Checked::Passed;
+                }
+                return Checked::Faulty(Fault::Owner);
+            }
+            Checked::Faulty(Fault::Sort)
+        }
+    }
+}

@@ -1,0 +1,44 @@
+// What the program writes.
+use crate::tally::Tally;
+use libc::STDERR_FILENO;
+use libc::STDOUT_FILENO;
+
+fn write_count(n: u64, what: &[u8]) {
+    io::print_decimal(STDOUT_FILENO, n);
+    io::write_all(STDOUT_FILENO, what);
+}
+
+fn write_first(number: u64) {
+    io::write_all(STDOUT_FILENO, b", first case ");
+    io::print_decimal(STDOUT_FILENO, number);
+}
+
+pub fn write_counts(t: Tally) {
+    write_count(t.cases, b" cases: ");
+    write_count(t.values, b" values, ");
+    write_count(t.tests, b" tests, ");
+    write_count(t.intervals, b" intervals, ");
+    write_count(t.assertions, b" assertions, ");
+    write_count(t.range, b" of fault 6, ");
+    write_count(t.malformed, b" of fault 7; ");
+    write_count(t.differ, b" differ");
+    if t.differ != 0 {
+        write_first(t.first);
+    }
+    io::write_all(STDOUT_FILENO, b"\n");
+}
+
+// A line to standard error: the file, and what is wrong with it.
+pub fn complain(path: &[u8], what: &[u8]) {
+    io::write_all(STDERR_FILENO, path);
+    io::write_all(STDERR_FILENO, b": ");
+    io::write_all(STDERR_FILENO, what);
+    io::write_all(STDERR_FILENO, b"\n");
+}
+
+pub fn complain_of_case(path: &[u8], number: u64) {
+    io::write_all(STDERR_FILENO, path);
+    io::write_all(STDERR_FILENO, b": the file ends within case ");
+    io::print_decimal(STDERR_FILENO, number);
+    io::write_all(STDERR_FILENO, b"\n");
+}

@@ -1,0 +1,4 @@
+pub mod Checks
+pub mod Frame
+pub mod Walk
+pub mod Index

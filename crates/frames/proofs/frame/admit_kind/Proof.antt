@@ -1,0 +1,26 @@
+use Rattle.frames.proofs.Laws.Frame.{room}
+use Rattle.limits.proofs.Auto.{tests}
+use Rattle.frames.specs.Kinds.{most}
+use Rattle.frames.specs.Frames.{admit}
+use borrow.Author.Needs.{needs}
+use Rattle.frames.proofs.frame.admit_kind.Statement.{statement}
+use Rattle.frames.proofs.frame.admit_kind.Tie as tie
+
+pub admit-kind-spec : {M : Type 1} → statement M
+unfolding admit most
+admit-kind-spec =
+    tie.close
+    (tie.spec
+    (λ c. search tests)
+    (λ c. search tests)
+    (λ c. search needs)
+    (λ c. search tests)
+    (λ c. search needs)
+    (λ c. search needs)
+    (λ c. search needs)
+    (λ c. search needs)
+    (λ c. search (room, tests))
+    (λ c. search needs)
+    (λ c. search needs)
+    (λ c. search tests)
+    (λ c. search tests))

@@ -1,0 +1,22 @@
+use Rattle.frames.proofs.Laws.Frame.{framing}
+use Rattle.limits.proofs.Auto.{tests}
+use borrow.Author.Needs.{needs}
+use Rattle.frames.proofs.frame.frame_at.Statement.{statement}
+use Rattle.frames.proofs.frame.frame_at.Tie as tie
+
+pub frame-at-spec : {M : Type 1} → statement M
+frame-at-spec =
+    tie.close
+    (tie.spec
+    (λ c. search (framing, tests))
+    (λ c. search needs)
+    (λ c. search (framing, tests))
+    (λ c κs. search needs)
+    (λ c. search (framing, tests))
+    (λ c. search needs)
+    (λ c. search needs)
+    (λ c. search (framing, tests))
+    (λ c. search needs)
+    (λ c κs. search needs)
+    (λ c κs. search needs)
+    (λ c. search (framing, tests)))

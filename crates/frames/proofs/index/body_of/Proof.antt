@@ -1,0 +1,10 @@
+use Rattle.frames.proofs.Laws.Index.{found}
+use Rattle.limits.proofs.Auto.{tests}
+use borrow.Author.Needs.{needs}
+use Rattle.frames.proofs.index.body_of.Statement.{statement}
+use Rattle.frames.proofs.index.body_of.Tie as tie
+
+pub body-of-spec : {M : Type 1} → statement M
+body-of-spec =
+    tie.close
+    (tie.spec (λ c. search needs) (λ c. search needs) (λ c κs. search needs) (λ c. search (found, tests)) (λ c κs. search needs) (λ c. search (found, tests)))

@@ -1,0 +1,11 @@
+use Rattle.frames.specs.Frames.{ended}
+use Rattle.limits.proofs.Auto.{tests}
+use borrow.Author.Needs.{needs}
+use Rattle.frames.proofs.walk.end_of.Statement.{statement}
+use Rattle.frames.proofs.walk.end_of.Tie as tie
+
+pub end-of-spec : {M : Type 1} → statement M
+unfolding ended
+end-of-spec =
+    tie.close
+    (tie.spec (λ c. search needs) (λ c. search needs) (λ c. search needs) (λ c. search tests) (λ c. search tests))

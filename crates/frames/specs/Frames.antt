@@ -1,0 +1,73 @@
+-- The whole image and its record frames: codes 2, 3 and 4.
+use mathlib.Core.Bool.{Bool, true, false}
+use mathlib.Core.List.{List, [], _∷_}
+use Prim.Native.Nat.{ℕ, zero, suc, _+_, _-_}
+use lib.Dec.{eqb, ltb}
+use lib.ListN.{length, getD, drop, set}
+use Rattle.limits.specs.Limits as Limits
+use Rattle.limits.specs.Numbers.{pick, word, has}
+use Rattle.frames.specs.Kinds as Kinds
+use Rattle.frames.specs.Kinds.{most}
+use Rattle.frames.specs.declared.fault.Fault.{Fault}
+use Rattle.frames.specs.declared.fault.Fault.the-variants.{Size, Length, Kind}
+use Rattle.frames.specs.declared.fault.Checked.{Checked}
+use Rattle.frames.specs.declared.fault.Checked.the-variants.{Passed, Faulty}
+use Rattle.frames.specs.declared.frame.Seen.{Seen}
+use Rattle.frames.specs.declared.frame.Step.{Step}
+use Rattle.frames.specs.declared.walk.Framing.{Framing}
+use Rattle.frames.specs.declared.walk.Framing.the-variants.{Refused, Sound}
+
+abbrev pub refuse : Fault → Seen → Step
+refuse f c = record { check = Faulty f; seen = c }
+
+-- a record of kind k more
+abbrev pub counted : Seen → ℕ → Seen
+counted c k = record { last = k; count = set (c .count) k (getD (c .count) k 0 + 1) }
+
+-- a record of kind k comes: unknown, earlier than the last kind, later than the next one, too often, or counted
+unfoldable pub admit : Seen → ℕ → Step
+admit c k =
+    pick (ltb Kinds.obligations k) (refuse Kind c)
+    (pick (ltb k (c .last)) (refuse Kind c)
+    (pick (ltb 1 (k - c .last)) (refuse Kind c)
+    (pick (ltb (getD (c .count) k 0) (most k)) (record { check = Passed; seen = counted c k })
+    (refuse Kind c))))
+
+-- the record in front: length cut short, under 2, past the end; then its kind
+unfoldable pub frame : Seen → List ℕ → Step
+frame c l =
+    pick (has 2 l)
+    (pick (ltb (word l) 2) (refuse Length c)
+    (pick (has (2 + word l) l) (admit c (word (drop 2 l)))
+    (refuse Length c)))
+    (refuse Length c)
+
+-- the image ends where record i would come
+unfoldable pub ended : ℕ → Seen → Framing
+ended i c =
+    pick (eqb (c .last) Kinds.obligations)
+    (Sound (getD (c .count) Kinds.formula 0) (getD (c .count) Kinds.thread 0) (getD (c .count) Kinds.line 0))
+    (Refused Kind i)
+
+-- the fault of record i, or what comes after it
+abbrev pub unlessFaulty : Checked → ℕ → Framing → Framing
+unlessFaulty Passed i g = g
+unlessFaulty (Faulty f) i g = Refused f i
+
+-- the frames from record i on; the first number, which falls, is no smaller than the number of bytes left
+unfoldable pub walk : ℕ → ℕ → Seen → List ℕ → Framing
+walk zero i c l = ended i c
+walk (suc k) i c [] = ended i c
+walk (suc k) i c (x ∷ l) =
+    let f = frame c (x ∷ l) in
+    unlessFaulty (f .check) i (walk k (i + 1) (f .seen) (drop (2 + word (x ∷ l)) (x ∷ l)))
+
+abbrev pub none : Seen
+none = record { last = 0; count = 0 ∷ 0 ∷ 0 ∷ 0 ∷ 0 ∷ 0 ∷ 0 ∷ [] }
+
+unfoldable pub frames : List ℕ → Framing
+frames s = walk (length s) 1 none s
+
+-- empty or too long; then the frames
+unfoldable pub wholeImage : List ℕ → Framing
+wholeImage s = pick (eqb (length s) 0) (Refused Size 0) (pick (ltb Limits.imageBytes (length s)) (Refused Size 0) (frames s))

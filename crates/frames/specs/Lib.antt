@@ -1,0 +1,4 @@
+pub mod Fault
+pub mod Kinds
+pub mod Frames
+pub mod Records

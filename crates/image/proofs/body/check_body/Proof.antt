@@ -1,0 +1,29 @@
+use Rattle.image.proofs.Laws.Whole.{placed}
+use Rattle.limits.proofs.Auto.{tests}
+use borrow.Author.Needs.{needs}
+use Rattle.image.proofs.body.check_body.Statement.{statement}
+use Rattle.image.proofs.body.check_body.Tie as tie
+
+pub check-body-spec : {M : Type 1} → statement M
+check-body-spec =
+    tie.close
+    (tie.spec
+    (λ c κs. search needs)
+    (λ c. search needs)
+    (λ c κs. search needs)
+    (λ c. search needs)
+    (λ c κs. search needs)
+    (λ c. search needs)
+    (λ c κs. search needs)
+    (λ c. search needs)
+    (λ c κs. search needs)
+    (λ c. search needs)
+    (λ c κs. search needs)
+    (λ c. search needs)
+    (λ c κs. search needs)
+    (λ c. search (placed, tests))
+    (λ c. search (placed, tests))
+    (λ c. search (placed, tests))
+    (λ c. search (placed, tests))
+    (λ c. search (placed, tests))
+    (λ c. search (placed, tests)))

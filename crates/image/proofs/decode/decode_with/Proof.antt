@@ -1,0 +1,19 @@
+use Rattle.image.proofs.Laws.Whole.{opening}
+use Rattle.limits.proofs.Auto.{tests}
+use borrow.Author.Needs.{needs}
+use Rattle.image.proofs.decode.decode_with.Statement.{statement}
+use Rattle.image.proofs.decode.decode_with.Tie as tie
+
+pub decode-with-spec : {M : Type 1} → statement M
+decode-with-spec =
+    tie.close
+    (tie.spec
+    (λ c κs. search needs)
+    (λ c. search needs)
+    (λ c. search needs)
+    (λ c κs. search needs)
+    (λ c κs. search needs)
+    (λ c. search needs)
+    (λ c κs. search needs)
+    (λ c. search (opening, tests))
+    (λ c. search (opening, tests)))

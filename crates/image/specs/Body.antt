@@ -1,0 +1,46 @@
+-- The body of one record, by its place: header, formulas, threads, outline, lines, obligations.
+use mathlib.Core.List.{List}
+use Prim.Native.Nat.{ℕ, _+_, _-_}
+use lib.Dec.{eqb, leb}
+use Rattle.limits.specs.Numbers.{pick}
+use Rattle.frames.specs.declared.fault.Checked.{Checked}
+use Rattle.program.specs.declared.sizes.Sizes.{Sizes}
+use Rattle.program.specs.Header.{header}
+use Rattle.bodies.specs.Formula as Formulas
+use Rattle.bodies.specs.Thread as Threads
+use Rattle.bodies.specs.Lists as Lists
+use Rattle.bodies.specs.Line as Lines
+use Rattle.image.specs.declared.body.Place.{Place}
+use Rattle.image.specs.declared.body.Place.the-variants.{Header, Formula, Thread, Outline, Line, Obligations}
+
+-- the last formula, the last thread, the outline, the last line
+abbrev pub formulasEnd : Sizes → ℕ
+formulasEnd z = 1 + z .formulas
+
+abbrev pub threadsEnd : Sizes → ℕ
+threadsEnd z = formulasEnd z + z .threads
+
+abbrev pub outlineAt : Sizes → ℕ
+outlineAt z = threadsEnd z + 1
+
+abbrev pub linesEnd : Sizes → ℕ
+linesEnd z = outlineAt z + z .lines
+
+-- record i, counted from 1: with a thread its number, with a line how many lines stand before it
+unfoldable pub placeOf : Sizes → ℕ → Place
+placeOf z i =
+    pick (eqb i 1) Header
+    (pick (leb i (formulasEnd z)) Formula
+    (pick (leb i (threadsEnd z)) (Thread (i - formulasEnd z))
+    (pick (leb i (outlineAt z)) Outline
+    (pick (leb i (linesEnd z)) (Line (i - outlineAt z - 1))
+    Obligations))))
+
+-- in an image with bodies l, where t thread records were counted
+unfoldable pub check : ℕ → Sizes → List (List ℕ) → Place → List ℕ → Checked
+check t z l Header b = header t b
+check t z l Formula b = Formulas.formula z b
+check t z l (Thread u) b = Threads.thread z l u b
+check t z l Outline b = Lists.outline z l b
+check t z l (Line lower) b = Lines.line z l lower b
+check t z l Obligations b = Lists.obligations z l b

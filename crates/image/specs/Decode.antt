@@ -1,0 +1,46 @@
+-- The whole image: codes 2 to 9 with the record, or how much there is.
+use mathlib.Core.List.{List, []}
+use Prim.Native.Nat.{ℕ, zero, suc, _+_}
+use lib.ListN.{getD, drop}
+use Rattle.frames.specs.Frames.{wholeImage}
+use Rattle.frames.specs.Records.{bodies, indexOf}
+use Rattle.frames.specs.declared.fault.Checked.{Checked}
+use Rattle.frames.specs.declared.fault.Checked.the-variants.{Passed, Faulty}
+use Rattle.frames.specs.declared.walk.Framing.{Framing}
+use Rattle.frames.specs.declared.walk.Framing.the-variants as Framing
+use Rattle.program.specs.declared.sizes.Sizes.{Sizes}
+use Rattle.image.specs.Body.{placeOf, check}
+use Rattle.image.specs.declared.decode.Decoded.{Decoded}
+use Rattle.image.specs.declared.decode.Decoded.the-variants.{Refused, Sound}
+use Rattle.image.specs.declared.decode.Opened.{Opened}
+
+unfoldable pub recordCount : Sizes → ℕ
+recordCount z = 3 + z .formulas + z .threads + z .lines
+
+-- the header's counts as written, and what the frames counted
+unfoldable pub sizesOf : List ℕ → ℕ → ℕ → Sizes
+sizesOf h formulas lines = record { threads = getD h 0 0; words = getD h 1 0; registers = getD h 2 0; formulas = formulas; lines = lines }
+
+-- the fault of record i, or what comes after it
+abbrev pub unlessFaulty : Checked → ℕ → Decoded → Decoded
+unlessFaulty Passed i d = d
+unlessFaulty (Faulty f) i d = Refused f i
+
+-- the first fault of n records from record i on, with the bodies m
+unfoldable pub firstFault : ℕ → Sizes → List (List ℕ) → ℕ → ℕ → List (List ℕ) → Decoded
+firstFault t z l i zero m = Sound z
+firstFault t z l i (suc n) m = unlessFaulty (check t z l (placeOf z i) (getD m 0 [])) i (firstFault t z l (i + 1) n (drop 1 m))
+
+abbrev pub behindFrames : List (List ℕ) → Framing → Decoded
+behindFrames l (Framing.Refused f r) = Refused f r
+behindFrames l (Framing.Sound formulas threads lines) =
+    let z = sizesOf (getD l 0 []) formulas lines in
+    firstFault threads z l 1 (recordCount z) l
+
+-- all frames, then the bodies first to last
+unfoldable pub decoded : List ℕ → Decoded
+decoded s = behindFrames (bodies s) (wholeImage s)
+
+-- with the index of the records
+unfoldable pub opened : List ℕ → Opened
+opened s = record { answer = decoded s; index = record { at = indexOf s } }

@@ -1,0 +1,93 @@
+// All bodies, first to last, behind the frames.
+use crate::body::check_body;
+use frames::fault::Checked;
+use frames::fault::Fault;
+use frames::index::Index;
+use frames::index::body_of;
+use frames::index::index_of;
+use frames::walk::Framing;
+use frames::walk::read_frames;
+use limits::read::byte_at;
+use program::sizes::Sizes;
+ghost use mathlib.Core.Path.{_≡_};
+ghost use Prim.Native.Nat.{_<_};
+ghost use Rattle.frames.specs.Records.{bodies, indexOf};
+ghost use Rattle.image.specs.Decode.{recordCount, sizesOf, firstFault, decoded, opened};
+
+// The first fault with its record, or how much there is.
+pub enum Decoded {
+    Refused { fault: Fault, record: usize },
+    Sound(Sizes),
+}
+
+fn record_count(z: Sizes) -> usize
+    ensures { λ r. ⌜ (r ≡ recordCount z) × (r < 1000000) ⌝ }
+{
+    3 + (z.formulas as usize) + (z.threads as usize) + (z.lines as usize)
+}
+
+// By the header's bytes and what the frames counted.
+fn sizes_of(h: &[u8], formulas: u16, lines: u16) -> Sizes
+    ensures { λ r. ⌜ r ≡ sizesOf (now (h .entry)) formulas lines ⌝ }
+{
+    Sizes {
+        threads: byte_at(h, 0) as u8,
+        words: byte_at(h, 1) as u8,
+        registers: byte_at(h, 2) as u8,
+        formulas,
+        lines,
+    }
+}
+
+fn check_bodies<'a, 'b>(s: &'a [u8], ix: &'b [usize], t: usize, z: Sizes) -> Decoded
+    requires { ⌜ now ix ≡ indexOf (now s) ⌝ }
+    ensures { λ r. ⌜ r ≡ firstFault t z (bodies (now (s .entry))) 1 (recordCount z) (bodies (now (s .entry))) ⌝ }
+{
+    let n = record_count(z);
+    let mut i: usize = 1;
+    while i <= n {
+        let b = body_of(s, ix, i - 1);
+        match check_body(s, ix, t, z, i, b) {
+            Checked::Faulty(fault) => {
+                return Decoded::Refused { fault, record: i };
+            }
+            Checked::Passed => {
+                i += 1;
+            }
+        }
+    }
+    Decoded::Sound(z)
+}
+
+// With the index of the records at hand.
+fn decode_with<'a, 'b>(s: &'a [u8], ix: &'b [usize]) -> Decoded
+    requires { ⌜ now ix ≡ indexOf (now s) ⌝ }
+    ensures { λ r. ⌜ r ≡ decoded (now (s .entry)) ⌝ }
+{
+    match read_frames(s) {
+        Framing::Refused { fault, record } => Decoded::Refused { fault, record },
+        Framing::Sound {
+            formulas,
+            threads,
+            lines,
+        } => {
+            let h = body_of(s, ix, 0);
+            let z = sizes_of(h, formulas, lines);
+            check_bodies(s, ix, threads as usize, z)
+        }
+    }
+}
+
+// The answer, and the index for look-ups. (An enum holds no array, so the index stands beside the answer.)
+pub struct Opened {
+    pub answer: Decoded,
+    pub index: Index,
+}
+
+pub fn open_image(s: &[u8]) -> Opened
+    ensures { λ r. ⌜ r ≡ opened (now (s .entry)) ⌝ }
+{
+    let index = index_of(s);
+    let answer = decode_with(s, &index.at);
+    Opened { answer, index }
+}

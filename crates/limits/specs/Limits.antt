@@ -1,0 +1,40 @@
+-- How much an image may hold.
+use Prim.Native.Nat.{ℕ, _+_}
+
+-- values are 0 to 7
+abbrev pub values : ℕ
+values = 8
+
+abbrev pub threads : ℕ
+threads = 3
+
+abbrev pub words : ℕ
+words = 8
+
+abbrev pub registers : ℕ
+registers = 16
+
+abbrev pub points : ℕ
+points = 8
+
+abbrev pub formulas : ℕ
+formulas = 500
+
+abbrev pub formulaBytes : ℕ
+formulaBytes = 255
+
+abbrev pub nesting : ℕ
+nesting = 16
+
+abbrev pub lines : ℕ
+lines = 1000
+
+abbrev pub premises : ℕ
+premises = 4
+
+abbrev pub imageBytes : ℕ
+imageBytes = 65535
+
+-- a header, an outline and an obligations record, and what there may be many of
+abbrev pub records : ℕ
+records = 3 + formulas + threads + lines

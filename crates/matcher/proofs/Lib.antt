@@ -1,0 +1,4 @@
+pub mod Match
+pub mod Template
+pub mod Ways
+pub mod Follow

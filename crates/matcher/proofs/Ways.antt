@@ -1,0 +1,152 @@
+-- The ways through the matcher, one law for each.
+use Prim.Native.Nat.{ℕ, zero, suc, _+_, _-_, _≤_, _<_}
+use mathlib.Core.Path.{_≡_, refl, ap, sym, _∙_}
+use mathlib.Core.List.{List}
+use mathlib.Core.Bool.{Bool, true, false}
+use native.Mathlib.Numerals.{sub-one}
+use native.Mathlib.Omega.{arith}
+use lib.ListN.{length, getD, set}
+use lib.Dec.{ltb, eqb}
+use borrow.Author.Tests.{lt-ltb, le-ltb, eq-eqb, ne-eqb}
+use Rattle.formula.specs.Codes.{pick, among, onePart, twoParts, hasOperand, partCount}
+use Rattle.formula.specs.Tree.{Tree, Skim, nodeAt, skim}
+use Rattle.formula.specs.declared.node.Node.{Node}
+use Rattle.formula.proofs.Nodes.{skim-zero, skim-step, parts-of}
+use Rattle.compare.specs.Same.{sameOf}
+use Rattle.compare.specs.declared.same.Same.{Same}
+use Rattle.compare.specs.declared.same.Same.the-variants.{Yes, No}
+use Rattle.matcher.specs.Template.{firstHole, firstNumber}
+use Rattle.matcher.specs.Places.{holeCount, refused, holeAt, operandOf, rooted, nodeOf, rootAt, grown, matchAt}
+use Rattle.matcher.specs.declared.bind.Bind.{Bind}
+use Rattle.matcher.specs.declared.bind.Root.{Root}
+use Rattle.matcher.specs.declared.bind.Taken.{Taken}
+use Rattle.matcher.specs.declared.matching.Match.{Match}
+
+-- where a formula ends
+pub end-zero : (s : List ℕ) (at k : ℕ) → k ≡ 0 → at ≡ skim s k at .end
+end-zero s at k e = rw (skim-zero s k at e)
+
+module _ (s : List ℕ) (at k : ℕ) (x : Node) (z : k ≡ 0 → ⊥) (e : x ≡ nodeAt s at) where
+  pub end-leaf : x .parts ≡ 0 → x .next ≡ skim s k at .end
+  end-leaf p = rw (skim-step s k at z, ← e, p)
+
+  module _ (m : ℕ) (n : x .parts ≡ 0 → ⊥) (f : m ≡ skim s (k - 1) (x .next) .end) where
+    pub end-one : x .parts ≡ 1 → m ≡ skim s k at .end
+    end-one p = rw (skim-step s k at z, ← e, p) f
+
+    pub end-two : (r : ℕ) → (x .parts ≡ 1 → ⊥) → r ≡ skim s (k - 1) m .end → r ≡ skim s k at .end
+    end-two r p g =
+        let t₀ : 0 < x .parts = omega arith in
+        let t₁ : 1 < x .parts = omega arith in
+        rw (skim-step s k at z, ← e, lt-ltb _ _ t₀, lt-ltb _ _ t₁, ← f) g
+
+pub lower : (m t : ℕ) → m ≡ t → (m ≡ 0 → ⊥) → m - 1 < t
+lower m t e h = omega arith
+
+pub ruleset ends = (end-zero, end-leaf, end-one, end-two, lower)
+
+module _ (s : List ℕ) (tpl j at k : ℕ) (b : Bind) where
+  pub hole-new : (next : ℕ) → getD (b .left) j 0 ≡ 0 → next ≡ skim s k at .end
+      → record { kind = 1; tpl = tpl; next = next; bind = record { at = set (b .at) j at; left = set (b .left) j k; num = b .num } } ≡ holeAt s tpl j at k b
+  unfolding holeAt
+  hole-new next z e = rw (eq-eqb _ _ z, ← e)
+
+  module _ (r : Same) (z : getD (b .left) j 0 ≡ 0 → ⊥) (e : r ≡ sameOf (skim s (getD (b .left) j 0) (getD (b .at) j 0)) (skim s k at)) where
+    pub hole-no : r ≡ No → refused b ≡ holeAt s tpl j at k b
+    unfolding holeAt
+    hole-no d = rw (ne-eqb _ _ z, ← e, d)
+
+    pub hole-held : (p q : ℕ) → r ≡ Yes p q → record { kind = 1; tpl = tpl; next = q; bind = b } ≡ holeAt s tpl j at k b
+    unfolding holeAt
+    hole-held p q d = rw (ne-eqb _ _ z, ← e, d)
+
+pub ruleset holes = (hole-new, hole-no, hole-held)
+
+module _ (h x : Node) (b : Bind) where
+  pub node-code : (h .code ≡ x .code → ⊥) → refused b ≡ nodeOf h x b
+  unfolding nodeOf
+  node-code e = rw (ne-eqb _ _ e)
+
+  module _ (o : Bool) (c : h .code ≡ x .code) (eo : o ≡ hasOperand (h .code)) where
+    pub node-plain : o ≡ false → rooted h x b ≡ nodeOf h x b
+    unfolding nodeOf
+    node-plain z = rw (eq-eqb _ _ c, ← eo, z)
+
+    module _ (t : Taken) (z : o ≡ true) (e : t ≡ operandOf (h .operand) (x .operand) b) where
+      pub node-taken : t .ok ≡ true → rooted h x (t .bind) ≡ nodeOf h x b
+      unfolding nodeOf
+      node-taken k = rw (eq-eqb _ _ c, ← eo, z, ← e, k)
+
+      pub node-refused : t .ok ≡ false → refused b ≡ nodeOf h x b
+      unfolding nodeOf
+      node-refused k = rw (eq-eqb _ _ c, ← eo, z, ← e, k)
+
+pub ruleset nodes = (node-code, node-plain, node-taken, node-refused)
+
+-- a node has at most two parts
+pub few-parts : (c : ℕ) → partCount c < 3
+unfolding partCount
+few-parts c = go (among c twoParts) (among c onePart)
+  where
+    go : (a b : Bool) → pick {A = ℕ} a 2 (pick b 1 0) < 3
+    go true b = omega arith
+    go false true = omega arith
+    go false false = omega arith
+
+pub part-small : (s : List ℕ) (at : ℕ) (x : Node) → x ≡ nodeAt s at → x .parts < 3
+part-small s at x e = rw (e, parts-of s at) (few-parts (nodeAt s at .code))
+
+module _ (s t : List ℕ) (i at k : ℕ) (b : Bind) where
+  pub root-zero : k ≡ 0 → record { kind = 1; tpl = i; next = at; bind = b } ≡ rootAt s t i at k b
+  unfolding rootAt
+  root-zero z = rw (eq-eqb _ _ z)
+
+  module _ (h : Node) (z : k ≡ 0 → ⊥) (eh : h ≡ nodeAt t i) where
+    pub root-node : (x : Node) (r : Root) → h .code < firstHole → x ≡ nodeAt s at → r ≡ nodeOf h x b → r ≡ rootAt s t i at k b
+    unfolding rootAt
+    root-node x r l e d = rw (ne-eqb _ _ z, ← eh, lt-ltb _ _ l, ← e) d
+
+    pub root-hole : (r : Root) → firstHole ≤ h .code → h .code - firstHole < holeCount → r ≡ holeAt s (h .next) (h .code - firstHole) at k b → r ≡ rootAt s t i at k b
+    unfolding rootAt
+    root-hole r l u e = rw (ne-eqb _ _ z, ← eh, le-ltb _ _ l, lt-ltb _ _ u) e
+
+    pub root-bad : firstHole ≤ h .code → holeCount ≤ h .code - firstHole → refused b ≡ rootAt s t i at k b
+    unfolding rootAt
+    root-bad l u = rw (ne-eqb _ _ z, ← eh, le-ltb _ _ l, le-ltb _ _ u)
+
+pub ruleset roots = (root-zero, root-node, root-hole, root-bad, part-small)
+
+pub match-step : (s t : List ℕ) (k i at : ℕ) (b : Bind) → matchAt s t k i at b ≡ grown (λ i' at' b'. matchAt s t (k - 1) i' at' b') (rootAt s t i at k b)
+unfolding matchAt rootAt
+match-step s t zero i at b = refl
+match-step s t (suc k) i at b = rw (sub-one (suc k))
+
+-- parts are left only where nesting is
+root-deep : (s t : List ℕ) (i at k : ℕ) (b : Bind) (r : Root) → r ≡ rootAt s t i at k b → (r .kind ≡ 1 → ⊥) → k ≡ 0 → ⊥
+unfolding rootAt
+root-deep s t i at k b r e n z = n (ap (λ (r : Root). r .kind) e ∙ (rw (eq-eqb _ _ z)))
+
+module _ (s t : List ℕ) (i at k : ℕ) (b : Bind) (r : Root) (e : r ≡ rootAt s t i at k b) where
+  pub match-differ : r .kind ≡ 0 → record { ok = false; tpl = r .tpl; next = r .next; bind = r .bind } ≡ matchAt s t k i at b
+  match-differ z = rw (match-step, ← e, eq-eqb _ _ z)
+
+  pub match-whole : (r .kind ≡ 0 → ⊥) → r .kind ≡ 1 → record { ok = true; tpl = r .tpl; next = r .next; bind = r .bind } ≡ matchAt s t k i at b
+  match-whole n z = rw (match-step, ← e, ne-eqb _ _ n, eq-eqb _ _ z)
+
+  pub match-left : (r .kind ≡ 1 → ⊥) → 1 ≤ k
+  match-left n = let d : k ≡ 0 → ⊥ = root-deep s t i at k b r e n in omega arith
+
+  module _ (m : Match) (n₀ : r .kind ≡ 0 → ⊥) (n₁ : r .kind ≡ 1 → ⊥) (em : m ≡ matchAt s t (k - 1) (r .tpl) (r .next) (r .bind)) where
+    pub match-first-no : m .ok ≡ false → m ≡ matchAt s t k i at b
+    match-first-no o = rw (match-step, ← e, ne-eqb _ _ n₀, ne-eqb _ _ n₁, ← em, o)
+
+    pub match-one : m .ok ≡ true → r .kind ≡ 2 → m ≡ matchAt s t k i at b
+    match-one o q = rw (match-step, ← e, ne-eqb _ _ n₀, ne-eqb _ _ n₁, ← em, o, eq-eqb _ _ q)
+
+    pub match-two : (m₂ : Match) → m .ok ≡ true → (r .kind ≡ 2 → ⊥) → m₂ ≡ matchAt s t (k - 1) (m .tpl) (m .next) (m .bind) → m₂ ≡ matchAt s t k i at b
+    match-two m₂ o q d = rw (match-step, ← e, ne-eqb _ _ n₀, ne-eqb _ _ n₁, ← em, o, ne-eqb _ _ q) d
+
+pub falls : (s t : List ℕ) (i at k m : ℕ) (b : Bind) (r : Root) → r ≡ rootAt s t i at k b → k ≡ m → (r .kind ≡ 1 → ⊥) → k - 1 < m
+falls s t i at k m b r e d n = let l : 1 ≤ k = match-left s t i at k b r e n in omega arith
+
+pub ruleset matches = (match-differ, match-whole, match-left, match-first-no, match-one, match-two, falls)

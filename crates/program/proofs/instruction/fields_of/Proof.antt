@@ -1,0 +1,11 @@
+use Rattle.program.specs.Instruction.{fieldsOf}
+use Rattle.limits.proofs.Auto.{tests}
+use borrow.Author.Needs.{needs}
+use Rattle.program.proofs.instruction.fields_of.Statement.{statement}
+use Rattle.program.proofs.instruction.fields_of.Tie as tie
+
+pub fields-of-spec : {M : Type 1} → statement M
+unfolding fieldsOf
+fields-of-spec =
+    tie.close
+    (tie.spec (λ c. search needs) (λ c. search needs) (λ c. search needs) (λ c. search tests) (λ c. search tests) (λ c. search tests) (λ c. search tests) (λ c. search tests))

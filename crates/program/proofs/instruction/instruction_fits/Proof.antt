@@ -1,0 +1,8 @@
+use Rattle.program.proofs.Laws.Program.{threading}
+use Rattle.limits.proofs.Auto.{tests}
+use borrow.Author.Needs.{needs}
+use Rattle.program.proofs.instruction.instruction_fits.Statement.{statement}
+use Rattle.program.proofs.instruction.instruction_fits.Tie as tie
+
+pub instruction-fits-spec : {M : Type 1} → statement M
+instruction-fits-spec = tie.close (tie.spec (λ c κs. search needs) (λ c κs. search needs) (λ c. search (threading, tests)))

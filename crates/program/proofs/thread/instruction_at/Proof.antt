@@ -1,0 +1,17 @@
+use Rattle.program.proofs.Laws.Program.{threading}
+use Rattle.limits.proofs.Auto.{tests}
+use borrow.Author.Needs.{needs}
+use Rattle.program.proofs.thread.instruction_at.Statement.{statement}
+use Rattle.program.proofs.thread.instruction_at.Tie as tie
+
+pub instruction-at-spec : {M : Type 1} → statement M
+instruction-at-spec =
+    tie.close
+    (tie.spec
+    (λ c κs. search needs)
+    (λ c. search (threading, tests))
+    (λ c. search needs)
+    (λ c. search needs)
+    (λ c κs. search needs)
+    (λ c κs. search needs)
+    (λ c. search (threading, tests)))

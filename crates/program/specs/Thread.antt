@@ -1,0 +1,43 @@
+-- A thread's record: points n, then n - 1 instructions.
+use mathlib.Core.Bool.{Bool, true, false, _&&_}
+use mathlib.Core.List.{List, [], _∷_}
+use Prim.Native.Nat.{ℕ, zero, suc, _+_, _-_, _*_}
+use lib.Dec.{eqb}
+use lib.ListN.{length, getD, drop}
+use Rattle.logic.specs.Opcode as Opcode
+use Rattle.limits.specs.Limits as Limits
+use Rattle.limits.specs.Numbers.{has, within, every}
+use Rattle.frames.specs.Fault.{unless}
+use Rattle.frames.specs.declared.fault.Fault.the-variants.{Body, Number}
+use Rattle.frames.specs.declared.fault.Checked.{Checked}
+use Rattle.frames.specs.declared.fault.Checked.the-variants.{Passed}
+use Rattle.program.specs.declared.sizes.Sizes.{Sizes}
+use Rattle.program.specs.declared.instruction.Instruction.{Instruction}
+use Rattle.program.specs.Instruction.{instruction, ranged}
+
+-- points are 0 to n - 1; no points are counted as 1, since 0 - 1 is 0
+unfoldable pub lastPoint : List ℕ → ℕ
+lastPoint b = getD b 0 0 - 1
+
+-- n instructions
+unfoldable pub cut : ℕ → List ℕ → List Instruction
+cut zero l = []
+cut (suc n) l = instruction l ∷ cut n (drop 5 l)
+
+-- one for each point but the last
+unfoldable pub instructions : List ℕ → List Instruction
+instructions b = cut (lastPoint b) (drop 1 b)
+
+-- what stands at a point without an instruction
+abbrev pub nothing : Instruction
+nothing = record { operation = Opcode.branch; a = 0; b = 0; formula = 0 }
+
+unfoldable pub threadSize : List ℕ → ℕ
+threadSize b = 1 + 5 * lastPoint b
+
+unfoldable pub numbered : Sizes → List ℕ → Bool
+numbered z b = within 1 Limits.points (getD b 0 0) && every (ranged (lastPoint b) z) (instructions b)
+
+-- 5, then 6
+unfoldable pub threadNumbers : Sizes → List ℕ → Checked
+threadNumbers z b = unless (has 1 b) Body (unless (eqb (length b) (threadSize b)) Body (unless (numbered z b) Number Passed))

@@ -1,0 +1,89 @@
+// The header: how many threads, words and registers there are; a start value per word; an owning thread per register.
+use frames::fault::Checked;
+use frames::fault::Fault;
+use limits::Limits;
+use limits::range::byte_within;
+use limits::range::bytes_within;
+use limits::read::byte_at;
+use limits::read::nth_byte;
+use limits::read::part;
+ghost use mathlib.Core.Path.{_≡_};
+ghost use Rattle.limits.specs.Numbers.{nth};
+ghost use Rattle.program.specs.Header.{headerSize, counted, startValues, owners, headed, header};
+
+fn header_size(b: &[u8]) -> usize
+    ensures { λ r. ⌜ r ≡ headerSize (now (b .entry)) ⌝ }
+{
+    3 + byte_at(b, 1) + byte_at(b, 2)
+}
+
+fn start_values(b: &[u8]) -> &[u8]
+    ensures { λ r. ⌜ now r ≡ startValues (now (b .entry)) ⌝ }
+{
+    part(b, 3, byte_at(b, 1))
+}
+
+pub fn owners_of(b: &[u8]) -> &[u8]
+    ensures { λ r. ⌜ now r ≡ owners (now (b .entry)) ⌝ }
+{
+    part(b, 3 + byte_at(b, 1), byte_at(b, 2))
+}
+
+// The start value of a word.
+pub fn start_value(b: &[u8], x: usize) -> usize
+    ensures { λ r. ⌜ r ≡ nth (startValues (now (b .entry))) x 0 ⌝ }
+{
+    let l = start_values(b);
+    nth_byte(l, x)
+}
+
+// The thread that owns a register.
+pub fn owner_of(b: &[u8], r: usize) -> usize
+    ensures { λ t. ⌜ t ≡ nth (owners (now (b .entry))) r 0 ⌝ }
+{
+    let l = owners_of(b);
+    nth_byte(l, r)
+}
+
+// The three counts; t thread records follow.
+fn counts_fit(b: &[u8], t: usize) -> bool
+    ensures { λ r. ⌜ r ≡ counted t (now (b .entry)) ⌝ }
+{
+    if byte_within(b, 0, t, t) {
+        if byte_within(b, 0, 1, Limits::THREADS) {
+            if byte_within(b, 1, 1, Limits::WORDS) {
+                return byte_within(b, 2, 0, Limits::REGISTERS);
+            }
+        }
+    }
+    false
+}
+
+// Every number of the header is in its range.
+fn header_fits(b: &[u8], t: usize) -> bool
+    ensures { λ r. ⌜ r ≡ headed t (now (b .entry)) ⌝ }
+{
+    if counts_fit(b, t) {
+        let l = start_values(b);
+        if bytes_within(l, 0, Limits::VALUES - 1) {
+            let m = owners_of(b);
+            return bytes_within(m, 1, byte_at(b, 0));
+        }
+    }
+    false
+}
+
+pub fn check_header(b: &[u8], t: usize) -> Checked
+    ensures { λ r. ⌜ r ≡ header t (now (b .entry)) ⌝ }
+{
+    if b.len() < 3 {
+        return Checked::Faulty(Fault::Body);
+    }
+    if b.len() != header_size(b) {
+        return Checked::Faulty(Fault::Body);
+    }
+    if header_fits(b, t) {
+        return Checked::Passed;
+    }
+    Checked::Faulty(Fault::Number)
+}

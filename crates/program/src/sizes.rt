@@ -1,0 +1,8 @@
+// How much there is of what a body may name.
+pub struct Sizes {
+    pub threads: u8,
+    pub words: u8,
+    pub registers: u8,
+    pub formulas: u16,
+    pub lines: u16,
+}

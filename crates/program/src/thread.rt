@@ -1,0 +1,92 @@
+// A thread's record: points n, then n - 1 instructions. 0 points are counted as 1.
+use crate::instruction::Instruction;
+use crate::instruction::instruction_fits;
+use crate::instruction::read_instruction;
+use crate::sizes::Sizes;
+use frames::fault::Checked;
+use frames::fault::Fault;
+use limits::Limits;
+use limits::range::byte_within;
+use limits::read::byte_at;
+use limits::read::rest;
+ghost use mathlib.Core.Path.{_≡_};
+ghost use Prim.Native.Nat.{_<_, _-_};
+ghost use lib.ListN.{getD};
+ghost use Rattle.limits.specs.Numbers.{every};
+ghost use Rattle.program.specs.Instruction.{ranged};
+ghost use Rattle.program.specs.Thread.{lastPoint, instructions, nothing, threadSize, numbered, threadNumbers};
+
+// The last point, which is also the number of instructions.
+pub fn last_point(b: &[u8]) -> usize
+    ensures { λ r. ⌜ (r ≡ lastPoint (now (b .entry))) × (r < 256) ⌝ }
+{
+    let n = byte_at(b, 0);
+    if n == 0 {
+        return 0;
+    }
+    n - 1
+}
+
+// The instruction at a point; where there is none, a branch to point 0.
+pub fn instruction_at(b: &[u8], p: usize) -> Instruction
+    ensures { λ r. ⌜ r ≡ getD (instructions (now (b .entry))) p nothing ⌝ }
+{
+    let last = last_point(b);
+    if last <= p {
+        return Instruction {
+            operation: Instruction::BRANCH,
+            a: 0,
+            b: 0,
+            formula: 0,
+        };
+    }
+    let l = rest(b, 1 + 5 * p);
+    read_instruction(l)
+}
+
+// Every instruction has its fields in range.
+fn instructions_fit(b: &[u8], z: Sizes) -> bool
+    ensures { λ r. ⌜ r ≡ every (ranged (lastPoint (now (b .entry))) z) (instructions (now (b .entry))) ⌝ }
+{
+    let last = last_point(b);
+    let mut p: usize = 0;
+    while p < last {
+        let i = instruction_at(b, p);
+        if instruction_fits(i, last, z) {
+            p += 1;
+        } else {
+            return false;
+        }
+    }
+    true
+}
+
+fn thread_size(b: &[u8]) -> usize
+    ensures { λ r. ⌜ r ≡ threadSize (now (b .entry)) ⌝ }
+{
+    1 + 5 * last_point(b)
+}
+
+fn thread_fits(b: &[u8], z: Sizes) -> bool
+    ensures { λ r. ⌜ r ≡ numbered z (now (b .entry)) ⌝ }
+{
+    if byte_within(b, 0, 1, Limits::POINTS) {
+        return instructions_fit(b, z);
+    }
+    false
+}
+
+pub fn check_thread_numbers(b: &[u8], z: Sizes) -> Checked
+    ensures { λ r. ⌜ r ≡ threadNumbers z (now (b .entry)) ⌝ }
+{
+    if b.len() < 1 {
+        return Checked::Faulty(Fault::Body);
+    }
+    if b.len() != thread_size(b) {
+        return Checked::Faulty(Fault::Body);
+    }
+    if thread_fits(b, z) {
+        return Checked::Passed;
+    }
+    Checked::Faulty(Fault::Number)
+}

@@ -1,0 +1,22 @@
+use Rattle.records.proofs.Laws.Line.{standing}
+use Rattle.limits.proofs.Auto.{tests}
+use borrow.Author.Needs.{needs}
+use Rattle.records.proofs.line.line_placed.Statement.{statement}
+use Rattle.records.proofs.line.line_placed.Tie as tie
+
+pub line-placed-spec : {M : Type 1} → statement M
+line-placed-spec =
+    tie.close
+    (tie.spec
+    (λ c κs. search needs)
+    (λ c. search needs)
+    (λ c κs. search needs)
+    (λ c. search needs)
+    (λ c κs. search needs)
+    (λ c. search needs)
+    (λ c κs. search needs)
+    (λ c. search needs)
+    (λ c. search (standing, tests))
+    (λ c. search (standing, tests))
+    (λ c. search (standing, tests))
+    (λ c. search (standing, tests)))

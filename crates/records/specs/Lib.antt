@@ -1,0 +1,4 @@
+pub mod Places
+pub mod Tally
+pub mod List
+pub mod Line

@@ -1,0 +1,39 @@
+// The instruction at a thread's point, by the index of records.
+use frames::index::body_of;
+use program::instruction::Instruction;
+use program::sizes::Sizes;
+use program::thread::instruction_at;
+ghost use mathlib.Core.Path.{_≡_};
+ghost use Rattle.frames.specs.Records.{bodies, indexOf};
+ghost use Rattle.records.specs.Places.{instructionOf};
+
+// Where there is none, a branch to point 0.
+pub fn instruction_of<'a, 'b>(
+    s: &'a [u8],
+    ix: &'b [usize],
+    z: Sizes,
+    t: usize,
+    p: usize,
+) -> Instruction
+    requires { ⌜ now ix ≡ indexOf (now s) ⌝ }
+    ensures { λ r. ⌜ r ≡ instructionOf z (bodies (now (s .entry))) t p ⌝ }
+{
+    if t == 0 {
+        return Instruction {
+            operation: Instruction::BRANCH,
+            a: 0,
+            b: 0,
+            formula: 0,
+        };
+    }
+    if (z.threads as usize) < t {
+        return Instruction {
+            operation: Instruction::BRANCH,
+            a: 0,
+            b: 0,
+            formula: 0,
+        };
+    }
+    let b = body_of(s, ix, (z.formulas as usize) + t);
+    instruction_at(b, p)
+}
