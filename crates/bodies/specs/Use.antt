@@ -4,7 +4,7 @@ use mathlib.Core.List.{List, []}
 use Prim.Native.Nat.{ℕ}
 use lib.Dec.{eqb}
 use Rattle.formula.specs.Codes as Codes
-use Rattle.formula.specs.Limits.{nesting}
+use Rattle.limits.specs.Limits.{nesting}
 use Rattle.formula.specs.Reader.{sortOf}
 use Rattle.formula.specs.Tree.{Tree, skim}
 use Rattle.occurs.specs.Occurs.{occurs, start, shared}

@@ -1,10 +1,10 @@
 // A thread's record: its numbers, then the formulas of its instructions, then the registers that it names.
 use crate::use_of::Sort;
 use crate::use_of::is_plain_of;
-use formula::limits::Limits;
 use frames::fault::Checked;
 use frames::fault::Fault;
 use frames::index::body_of;
+use limits::Limits;
 use occurs::has::has_foreign;
 use program::header::owner_of;
 use program::header::owners_of;

@@ -1,6 +1,6 @@
 // What a formula has to be where it is used.
-use formula::limits::Limits;
 use frames::index::body_of;
+use limits::Limits;
 use limits::read::byte_at;
 use occurs::has::has_shared;
 use occurs::has::has_start;

@@ -8,10 +8,10 @@ use native.Mathlib.Omega.{arith}
 use lib.ListN.{length, getD}
 use lib.Dec.{ltb, eqb}
 use borrow.Author.Tests.{lt-ltb, le-ltb, eq-eqb, ne-eqb, eqb-true, eqb-false, ltb-true, ltb-false}
-use Rattle.formula.specs.Limits.{nesting}
+use Rattle.limits.specs.Limits.{nesting}
 use Rattle.formula.specs.Codes.{pick, fitsAt, hasOperand, partCount, partPlace}
 use Rattle.formula.specs.Tree.{nodeAt, skim, grow}
-use Rattle.formula.specs.Reader.{range, malformed, limit, answer, inRange, operandFault, operandAnswer, headFault, headAnswer, first, faultAt, readAnswer, sortOf, readingOf}
+use Rattle.formula.specs.Reader.{range, malformed, limit, answer, inRange, operandFault, operandAnswer, headFault, headAnswer, first, partFault, faultAt, readAnswer, sortOf, readingOf}
 use Rattle.formula.specs.declared.node.Node.{Node}
 use Rattle.formula.specs.declared.reader.Counts.{Counts}
 use Rattle.formula.specs.declared.reader.Reading.{Reading}
@@ -74,6 +74,10 @@ small-pick : (b : Bool) (x y : ℕ) → x < limit → y < limit → pick b x y <
 small-pick true x y h g = h
 small-pick false x y h g = g
 
+small-part : (f : ℕ → ℕ) (b : Bool) (at : ℕ) → ((q : ℕ) → f q < limit) → partFault f b at < limit
+small-part f true at h = h at
+small-part f false at h = omega arith
+
 head-small : (s : List ℕ) (n : Counts) (p at : ℕ) → headFault s n p at < limit
 unfolding headFault operandFault
 head-small s n p at =
@@ -90,17 +94,28 @@ unfolding faultAt
 fault-small s n zero p at = omega arith
 fault-small s n (suc k) p at =
     small-pick (eqb (headFault s n p at) 0) _ _
-    (small-pick (eqb (nodeAt s at .parts) 0) _ _ (omega arith)
-    (small-pick (eqb (faultAt s n k (partPlace (nodeAt s at .code) p) (nodeAt s at .next)) 0) _ _
-    (small-pick (eqb (nodeAt s at .parts) 1) _ _ (omega arith) (fault-small s n k (partPlace (nodeAt s at .code) p) (skim s k (nodeAt s at .next) .end)))
-    (fault-small s n k (partPlace (nodeAt s at .code) p) (nodeAt s at .next))))
+    (small-pick (eqb (partFault (λ q. faultAt s n k (partPlace (nodeAt s at .code) p) q) (ltb 0 (nodeAt s at .parts)) (nodeAt s at .next)) 0) _ _
+    (small-part (λ q. faultAt s n k (partPlace (nodeAt s at .code) p) (skim s k q .end)) (ltb 1 (nodeAt s at .parts)) (nodeAt s at .next) (λ q. fault-small s n k (partPlace (nodeAt s at .code) p) (skim s k q .end)))
+    (small-part (λ q. faultAt s n k (partPlace (nodeAt s at .code) p) q) (ltb 0 (nodeAt s at .parts)) (nodeAt s at .next) (λ q. fault-small s n k (partPlace (nodeAt s at .code) p) q)))
     (head-small s n p at)
 
 pub fault-step : (s : List ℕ) (n : Counts) (k p at : ℕ) → (k ≡ 0 → ⊥)
     → faultAt s n k p at ≡ first (headFault s n p at) (pick (eqb (nodeAt s at .parts) 0) 0 (first (faultAt s n (k - 1) (partPlace (nodeAt s at .code) p) (nodeAt s at .next)) (pick (eqb (nodeAt s at .parts) 1) 0 (faultAt s n (k - 1) (partPlace (nodeAt s at .code) p) (skim s (k - 1) (nodeAt s at .next) .end)))))
 unfolding faultAt
 fault-step s n zero p at h = absurd (h refl)
-fault-step s n (suc k) p at h = rw (sub-one (suc k))
+fault-step s n (suc k) p at h =
+    rw (sub-one (suc k))
+    (ap (first (headFault s n p at)) (by-count (λ q. faultAt s n k (partPlace (nodeAt s at .code) p) q) (λ q. faultAt s n k (partPlace (nodeAt s at .code) p) (skim s k q .end)) (nodeAt s at .parts) (nodeAt s at .next)))
+  where
+    by-count : (f g : ℕ → ℕ) (c at : ℕ) → first (partFault f (ltb 0 c) at) (partFault g (ltb 1 c) at) ≡ pick (eqb c 0) 0 (first (f at) (pick (eqb c 1) 0 (g at)))
+    by-count f g zero at = refl
+    by-count f g (suc zero) at = refl
+    by-count f g (suc (suc c)) at =
+        let a : 0 < suc (suc c) = omega arith in
+        let b : 1 < suc (suc c) = omega arith in
+        let d : suc (suc c) ≡ 0 → ⊥ = omega arith in
+        let e : suc (suc c) ≡ 1 → ⊥ = omega arith in
+        rw (lt-ltb _ _ a, lt-ltb _ _ b, ne-eqb _ _ d, ne-eqb _ _ e)
 
 -- a node without a fault of its own is inside
 inside : (s : List ℕ) (n : Counts) (p at : ℕ) → headFault s n p at ≡ 0 → at < length s

@@ -1,4 +1,3 @@
-pub mod Limits
 pub mod Codes
 pub mod Tree
 pub mod Reader

@@ -6,7 +6,7 @@ use lib.ListN.{length, getD}
 use lib.Dec.{ltb, leb, eqb}
 use Rattle.logic.specs.Code
 use Rattle.logic.specs.Code.{byte}
-use Rattle.formula.specs.Limits.{nesting}
+use Rattle.limits.specs.Limits.{nesting}
 use Rattle.formula.specs.Codes.{pick, fitsAt, hasOperand, partCount, partPlace}
 use Rattle.formula.specs.Tree.{nodeAt, skim}
 use Rattle.formula.specs.declared.reader.Counts.{Counts}
@@ -53,14 +53,18 @@ headAnswer s n place at = answer (headFault s n place at) (nodeAt s at .next)
 abbrev pub first : ℕ → ℕ → ℕ
 first a b = pick (eqb a 0) b a
 
--- the first fault of the formula at a position, nested at most k deep
+-- the fault of a part, if it is there
+abbrev pub partFault : (ℕ → ℕ) → Bool → ℕ → ℕ
+partFault f true at = f at
+partFault f false at = 0
+
+-- the first fault of the formula at a position, nested at most k deep: its own, then those of its parts
 unfoldable pub faultAt : List ℕ → Counts → ℕ → ℕ → ℕ → ℕ
 faultAt s n zero place at = malformed
 faultAt s n (suc k) place at =
     first (headFault s n place at)
-    (pick (eqb (nodeAt s at .parts) 0) 0
-    (first (faultAt s n k (partPlace (nodeAt s at .code) place) (nodeAt s at .next))
-    (pick (eqb (nodeAt s at .parts) 1) 0 (faultAt s n k (partPlace (nodeAt s at .code) place) (skim s k (nodeAt s at .next) .end)))))
+    (first (partFault (λ p. faultAt s n k (partPlace (nodeAt s at .code) place) p) (ltb 0 (nodeAt s at .parts)) (nodeAt s at .next))
+    (partFault (λ p. faultAt s n k (partPlace (nodeAt s at .code) place) (skim s k p .end)) (ltb 1 (nodeAt s at .parts)) (nodeAt s at .next)))
 
 unfoldable pub readAnswer : List ℕ → Counts → ℕ → ℕ → ℕ → ℕ
 readAnswer s n k place at = answer (faultAt s n k place at) (skim s k at .end)

@@ -4,7 +4,7 @@ use crate::code::fits;
 use crate::code::has_operand;
 use crate::code::part_place;
 use crate::code::parts;
-use crate::limits::Limits;
+use limits::Limits;
 ghost use mathlib.Core.Path.{_≡_};
 ghost use Rattle.formula.specs.Reader.{inRange, operandAnswer, headAnswer, readAnswer, readingOf};
 

@@ -1,10 +1,10 @@
 // The stored cases, one after the other: a formula's length (16 bits), its bytes, threads, words and registers (a byte
 // each), the result (16 bits: 0 accepted, else the fault) and the sort (16 bits; 0 where refused). Low byte first.
 use crate::tally::Tally;
-use formula::limits::Limits;
 use formula::reader::Counts;
 use formula::reader::Reading;
 use formula::reader::read_formula;
+use limits::Limits;
 ghost use Prim.Native.Nat.{_<_};
 ghost use Rattle.formula_cases.specs.Onward.{Onward};
 
@@ -75,7 +75,7 @@ pub fn judge_at(s: &[u8], at: usize) -> Step
         threads: s[end],
         words: s[end + 1],
         registers: s[end + 2],
-        values: Limits::RANGE,
+        values: Limits::VALUES as u8,
     };
     let reading = read_formula(&s[from..end], n);
     let same = is_answer(

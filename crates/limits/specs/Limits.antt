@@ -1,9 +1,9 @@
--- How much an image may hold.
+-- How much an image may hold. What the logic knows too is taken from there.
 use Prim.Native.Nat.{ℕ, _+_}
+use Rattle.logic.specs.Limits as Logic
 
--- values are 0 to 7
 abbrev pub values : ℕ
-values = 8
+values = Logic.range
 
 abbrev pub threads : ℕ
 threads = 3
@@ -30,7 +30,13 @@ abbrev pub lines : ℕ
 lines = 1000
 
 abbrev pub premises : ℕ
-premises = 4
+premises = Logic.premises
+
+abbrev pub rows : ℕ
+rows = Logic.rows
+
+abbrev pub leaves : ℕ
+leaves = Logic.leaves
 
 abbrev pub imageBytes : ℕ
 imageBytes = 65535

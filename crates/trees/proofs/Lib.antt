@@ -2,3 +2,12 @@ pub mod Raw
 pub mod Replace
 pub mod Occurs
 pub mod Rows
+pub mod Shapes
+pub mod Heads
+pub mod Passed
+pub mod Within
+pub mod Encoded
+pub mod Accepted
+pub mod Body
+pub mod Part
+pub mod Bytes

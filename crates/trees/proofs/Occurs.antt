@@ -7,7 +7,7 @@ use lib.Dec.{eqb}
 use Rattle.logic.specs.Base.{all}
 use Rattle.logic.specs.Code
 use Rattle.logic.specs.Code.{byte}
-use Rattle.logic.specs.Formula.{Sort, Formula, Assertion, Formula.const, Formula.reg, Formula.word, Formula.sum, Formula.equal, Formula.less, Formula.and, Formula.or, Formula.unsync, Formula.cov, Formula.box, Formula.one, Formula.chop, Formula.both, Formula.either, Formula.sees, Formula.bothA, Formula.eitherA, Formula.start, Formula.holds}
+use Rattle.logic.specs.Formula.{Sort, Formula, Value, Test, Interval, Assertion, Formula.const, Formula.reg, Formula.word, Formula.sum, Formula.equal, Formula.less, Formula.and, Formula.or, Formula.unsync, Formula.cov, Formula.box, Formula.one, Formula.chop, Formula.both, Formula.either, Formula.sees, Formula.bothA, Formula.eitherA, Formula.start, Formula.holds}
 use Rattle.logic.specs.Names.{Name, n-reg, n-word, n-unsync, n-cov, names, only, notReg, notWord, notFlag, isReg, regsIn, startless}
 use Rattle.formula.specs.Codes.{pick, member, setOf}
 use Rattle.formula.specs.Tree.{Tree, none, node}
@@ -16,7 +16,7 @@ use Rattle.occurs.specs.Occurs.{isSought, occurs, register, wordAnyRole, flag, 
 use Rattle.occurs.specs.declared.find.Sought.{Sought}
 use Rattle.trees.specs.Raw.{raw}
 
-all-join : (ok : Name → Bool) (l m : List Name) → all ok (l ++ m) ≡ all ok l && all ok m
+pub all-join : (ok : Name → Bool) (l m : List Name) → all ok (l ++ m) ≡ all ok l && all ok m
 all-join ok [] m = refl
 all-join ok (n ∷ l) m = ap (λ b. ok n && b) (all-join ok l m) ∙ assoc (ok n) (all ok l) (all ok m)
   where
@@ -118,6 +118,14 @@ flag-is : (x : ℕ) → Is (flag x) [] (notFlag x)
 unfolding isSought member
 flag-is x = record { const = λ n. refl; reg = λ n. refl; word = λ n. refl; sum = refl; falsehood = refl; equal = refl; less = refl; negation = refl; and = refl; or = refl; unsync = λ n. not-not (eqb n x); cov = λ n. not-not (eqb n x); box = refl; one = λ n. refl; chop = refl; both = refl; either = refl; sees = λ n. refl; bothA = refl; eitherA = refl; start = refl; holds = refl }
 
+shared-is : Is shared [] isReg
+unfolding isSought member
+shared-is = record { const = λ n. refl; reg = λ n. refl; word = λ n. refl; sum = refl; falsehood = refl; equal = refl; less = refl; negation = refl; and = refl; or = refl; unsync = λ n. refl; cov = λ n. refl; box = refl; one = λ n. refl; chop = refl; both = refl; either = refl; sees = λ n. refl; bothA = refl; eitherA = refl; start = refl; holds = refl }
+
+foreign-is : (t : ℕ) (owners : List ℕ) → Is (foreign t) owners (regsIn (λ r. eqb (ownerOf owners r) t))
+unfolding isSought member
+foreign-is t owners = record { const = λ n. refl; reg = λ n. refl; word = λ n. refl; sum = refl; falsehood = refl; equal = refl; less = refl; negation = refl; and = refl; or = refl; unsync = λ n. refl; cov = λ n. refl; box = refl; one = λ n. refl; chop = refl; both = refl; either = refl; sees = λ n. refl; bothA = refl; eitherA = refl; start = refl; holds = refl }
+
 pub no-register : (r : ℕ) {s : Sort} (f : Formula s) → occurs (register r) [] (raw f) ≡ not (only (notReg r) f)
 no-register r f = absent (register r) [] (notReg r) (register-is r) f
 
@@ -126,3 +134,51 @@ no-word x f = absent (wordAnyRole x) [] (notWord x) (word-is x) f
 
 pub no-flag : (x : ℕ) {s : Sort} (f : Formula s) → occurs (flag x) [] (raw f) ≡ not (only (notFlag x) f)
 no-flag x f = absent (flag x) [] (notFlag x) (flag-is x) f
+
+pub no-shared : {s : Sort} (f : Formula s) → occurs shared [] (raw f) ≡ not (only isReg f)
+no-shared f = absent shared [] isReg shared-is f
+
+pub no-foreign : (t : ℕ) (owners : List ℕ) {s : Sort} (f : Formula s) → occurs (foreign t) owners (raw f) ≡ not (only (regsIn (λ r. eqb (ownerOf owners r) t)) f)
+no-foreign t owners f = absent (foreign t) owners (regsIn (λ r. eqb (ownerOf owners r) t)) (foreign-is t owners) f
+
+-- start: in assertions only
+neither : (a b : Bool) → a ≡ false → b ≡ false → pick a true b ≡ false
+neither a b e d = rw (e, d)
+
+pub no-start-value : (f : Value) → occurs Occurs.start [] (raw f) ≡ false
+unfolding occurs isSought member
+no-start-value (const n) = refl
+no-start-value (reg n) = refl
+no-start-value (word n) = refl
+no-start-value (sum f g) = neither (occurs Occurs.start [] (raw f)) (occurs Occurs.start [] (raw g)) (no-start-value f) (no-start-value g)
+
+pub no-start-test : (f : Test) → occurs Occurs.start [] (raw f) ≡ false
+unfolding occurs isSought member
+no-start-test Formula.false = refl
+no-start-test (equal f g) = neither (occurs Occurs.start [] (raw f)) (occurs Occurs.start [] (raw g)) (no-start-value f) (no-start-value g)
+no-start-test (less f g) = neither (occurs Occurs.start [] (raw f)) (occurs Occurs.start [] (raw g)) (no-start-value f) (no-start-value g)
+no-start-test (Formula.not f) = neither (occurs Occurs.start [] (raw f)) false (no-start-test f) refl
+no-start-test (and f g) = neither (occurs Occurs.start [] (raw f)) (occurs Occurs.start [] (raw g)) (no-start-test f) (no-start-test g)
+no-start-test (or f g) = neither (occurs Occurs.start [] (raw f)) (occurs Occurs.start [] (raw g)) (no-start-test f) (no-start-test g)
+no-start-test (unsync n) = refl
+no-start-test (cov n) = refl
+
+pub no-start-interval : (f : Interval) → occurs Occurs.start [] (raw f) ≡ false
+unfolding occurs isSought member
+no-start-interval (box f) = neither (occurs Occurs.start [] (raw f)) false (no-start-test f) refl
+no-start-interval (one n) = refl
+no-start-interval (chop f g) = neither (occurs Occurs.start [] (raw f)) (occurs Occurs.start [] (raw g)) (no-start-interval f) (no-start-interval g)
+no-start-interval (both f g) = neither (occurs Occurs.start [] (raw f)) (occurs Occurs.start [] (raw g)) (no-start-interval f) (no-start-interval g)
+no-start-interval (either f g) = neither (occurs Occurs.start [] (raw f)) (occurs Occurs.start [] (raw g)) (no-start-interval f) (no-start-interval g)
+
+either-start : (a b c d : Bool) → a ≡ not c → b ≡ not d → pick a true b ≡ not (c && d)
+either-start a b true d e h = rw e h
+either-start a b false d e h = rw e
+
+pub no-start : (a : Assertion) → occurs Occurs.start [] (raw a) ≡ not (startless a)
+unfolding occurs isSought member
+no-start (sees n f) = neither (occurs Occurs.start [] (raw f)) false (no-start-interval f) refl
+no-start (bothA f g) = either-start (occurs Occurs.start [] (raw f)) (occurs Occurs.start [] (raw g)) (startless f) (startless g) (no-start f) (no-start g)
+no-start (eitherA f g) = either-start (occurs Occurs.start [] (raw f)) (occurs Occurs.start [] (raw g)) (startless f) (startless g) (no-start f) (no-start g)
+no-start start = refl
+no-start (holds f) = neither (occurs Occurs.start [] (raw f)) false (no-start-test f) refl

@@ -1,0 +1,2 @@
+pub mod Rulebook
+pub mod Listed
