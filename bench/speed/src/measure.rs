@@ -1,31 +1,32 @@
-//! How long each reader takes.
+//! How long tasks take.
 
-use crate::answer::{Counts, Reader};
-use std::hint::black_box;
 use std::time::Instant;
 
 const ROUNDS: usize = 100;
 const PASSES: usize = 10;
 
-/// Reads all formulas, each of which is well formed.
-fn read_all(formulas: &[Vec<u8>], n: Counts, read: Reader) {
-    for formula in formulas {
-        assert!(read(formula, n).is_ok(), "{formula:?}");
-    }
-}
-
-/// The best time of each reader for all formulas, in seconds. The best, and by turns, since the machine
-/// may be busy: what else runs only makes a round longer.
-pub fn best(formulas: &[Vec<u8>], n: Counts, readers: &[(&str, Reader)]) -> Vec<f64> {
-    let mut best = vec![f64::MAX; readers.len()];
+/// The best time of each task, in seconds. The best, and by turns, since the machine may be busy: what
+/// else runs only makes a round longer.
+pub fn best(tasks: &[Box<dyn Fn() + '_>]) -> Vec<f64> {
+    let mut best = vec![f64::MAX; tasks.len()];
     for _ in 0..ROUNDS {
-        for (seconds, (_, read)) in best.iter_mut().zip(readers) {
+        for (seconds, task) in best.iter_mut().zip(tasks) {
             let start = Instant::now();
             for _ in 0..PASSES {
-                read_all(black_box(formulas), black_box(n), black_box(*read));
+                task();
             }
             *seconds = seconds.min(start.elapsed().as_secs_f64() / PASSES as f64);
         }
     }
     best
+}
+
+/// The speed of each task over so many bytes, and how long the first takes beside the others.
+pub fn print(names: &[&str], bytes: usize, seconds: &[f64]) {
+    for (name, own) in names.iter().zip(seconds) {
+        println!("{name}: {:.3} ms, {:.0} MB/s", own * 1e3, bytes as f64 / own / 1e6);
+    }
+    for (name, own) in names.iter().zip(seconds).skip(1) {
+        println!("{} takes {:.2} times as long as {name}", names[0], seconds[0] / own);
+    }
 }

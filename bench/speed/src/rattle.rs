@@ -1,9 +1,11 @@
-//! The proved reader, from the crate `exports`.
+//! The proved readers, from the crate `exports`.
 
-use crate::answer::{Answer, Counts, Fault};
+use crate::formulas::answer::{Answer, Counts, Fault};
+use crate::images::answer::{self, Refusal};
 
+// A `&[u8]` of Rattle is a pointer and a length.
 extern "C" {
-    /// A `&[u8]` of Rattle is a pointer and a length. The answer is a fault's code, or 8 and the sort.
+    /// The answer is a fault's code, or 8 and the sort.
     fn formula_answer(
         body: *const u8,
         length: usize,
@@ -12,9 +14,12 @@ extern "C" {
         registers: u8,
         values: u8,
     ) -> usize;
+
+    /// The answer is 0, or the code times 65,536 and the record.
+    fn image_answer(image: *const u8, length: usize) -> usize;
 }
 
-pub fn read(body: &[u8], n: Counts) -> Answer {
+pub fn formula(body: &[u8], n: Counts) -> Answer {
     // SAFETY: pointer and length are those of a slice that lives until the call returns, and the
     // function has no `requires`.
     let answer = unsafe {
@@ -25,5 +30,14 @@ pub fn read(body: &[u8], n: Counts) -> Answer {
         7 => Err(Fault::Form),
         8..=11 => Ok((answer - 8) as u8),
         _ => panic!("{answer} is no answer of the reader"),
+    }
+}
+
+pub fn image(bytes: &[u8]) -> answer::Answer {
+    // SAFETY: as above.
+    let answer = unsafe { image_answer(bytes.as_ptr(), bytes.len()) };
+    match answer {
+        0 => Ok(()),
+        _ => Err(Refusal { code: answer / 65_536, record: answer % 65_536 }),
     }
 }

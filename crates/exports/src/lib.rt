@@ -1,8 +1,11 @@
-// Functions of the formula crate for Rust to call, in benchmarks.
+// Functions for Rust to call, in benchmarks.
 use formula::reader::Counts;
 use formula::reader::Fault;
 use formula::reader::Reading;
 use formula::reader::read_formula;
+use image::code::code_of;
+use image::decode::Decoded;
+use image::decode::open_image;
 
 // The number of a sort, past those of the faults.
 fn past_faults(sort: u8) -> usize {
@@ -27,5 +30,17 @@ pub extern "C" fn formula_answer(
     match read_formula(body, n) {
         Reading::Formula(sort) => past_faults(sort),
         Reading::Fault(fault) => fault,
+    }
+}
+
+// The answer of `open_image` as one number: 0 for a sound image, else the code times 65,536 and the record. (No image
+// has so many records; the remainder spares a proof of that.)
+#[no_mangle]
+pub extern "C" fn image_answer(image: &[u8]) -> usize {
+    let opened = open_image(image);
+    let answer = opened.answer;
+    match answer {
+        Decoded::Sound(_) => 0,
+        Decoded::Refused { fault, record } => code_of(fault) * 65536 + record % 65536,
     }
 }

@@ -1,4 +1,5 @@
-// Formulas of an image, in prefix form: their codes, their nodes, and the reader.
+// Formulas of an image, in prefix form: their codes, their nodes, where they end, and the reader.
 pub mod code;
+pub mod end;
 pub mod node;
 pub mod reader;

@@ -1,49 +1,25 @@
 -- The ways through the matcher, one law for each.
-use Prim.Native.Nat.{ℕ, zero, suc, _+_, _-_, _≤_, _<_}
-use mathlib.Core.Path.{_≡_, refl, ap, sym, _∙_}
+use Prim.Native.Nat.{ℕ, zero, suc, _-_, _≤_, _<_}
+use mathlib.Core.Path.{_≡_, refl, ap, _∙_}
 use mathlib.Core.List.{List}
 use mathlib.Core.Bool.{Bool, true, false}
 use native.Mathlib.Numerals.{sub-one}
 use native.Mathlib.Omega.{arith}
-use lib.ListN.{length, getD, set}
-use lib.Dec.{ltb, eqb}
+use lib.ListN.{getD, set}
 use borrow.Author.Tests.{lt-ltb, le-ltb, eq-eqb, ne-eqb}
 use Rattle.formula.specs.Codes.{pick, among, onePart, twoParts, hasOperand, partCount}
-use Rattle.formula.specs.Tree.{Tree, Skim, nodeAt, skim}
+use Rattle.formula.specs.Tree.{nodeAt, skim}
 use Rattle.formula.specs.declared.node.Node.{Node}
-use Rattle.formula.proofs.Nodes.{skim-zero, skim-step, parts-of}
+use Rattle.formula.proofs.Nodes.{parts-of}
 use Rattle.compare.specs.Same.{sameOf}
 use Rattle.compare.specs.declared.same.Same.{Same}
 use Rattle.compare.specs.declared.same.Same.the-variants.{Yes, No}
-use Rattle.matcher.specs.Template.{firstHole, firstNumber}
+use Rattle.matcher.specs.Template.{firstHole}
 use Rattle.matcher.specs.Places.{holeCount, refused, holeAt, operandOf, rooted, nodeOf, rootAt, grown, matchAt}
 use Rattle.matcher.specs.declared.bind.Bind.{Bind}
 use Rattle.matcher.specs.declared.bind.Root.{Root}
 use Rattle.matcher.specs.declared.bind.Taken.{Taken}
 use Rattle.matcher.specs.declared.matching.Match.{Match}
-
--- where a formula ends
-pub end-zero : (s : List ℕ) (at k : ℕ) → k ≡ 0 → at ≡ skim s k at .end
-end-zero s at k e = rw (skim-zero s k at e)
-
-module _ (s : List ℕ) (at k : ℕ) (x : Node) (z : k ≡ 0 → ⊥) (e : x ≡ nodeAt s at) where
-  pub end-leaf : x .parts ≡ 0 → x .next ≡ skim s k at .end
-  end-leaf p = rw (skim-step s k at z, ← e, p)
-
-  module _ (m : ℕ) (n : x .parts ≡ 0 → ⊥) (f : m ≡ skim s (k - 1) (x .next) .end) where
-    pub end-one : x .parts ≡ 1 → m ≡ skim s k at .end
-    end-one p = rw (skim-step s k at z, ← e, p) f
-
-    pub end-two : (r : ℕ) → (x .parts ≡ 1 → ⊥) → r ≡ skim s (k - 1) m .end → r ≡ skim s k at .end
-    end-two r p g =
-        let t₀ : 0 < x .parts = omega arith in
-        let t₁ : 1 < x .parts = omega arith in
-        rw (skim-step s k at z, ← e, lt-ltb _ _ t₀, lt-ltb _ _ t₁, ← f) g
-
-pub lower : (m t : ℕ) → m ≡ t → (m ≡ 0 → ⊥) → m - 1 < t
-lower m t e h = omega arith
-
-pub ruleset ends = (end-zero, end-leaf, end-one, end-two, lower)
 
 module _ (s : List ℕ) (tpl j at k : ℕ) (b : Bind) where
   pub hole-new : (next : ℕ) → getD (b .left) j 0 ≡ 0 → next ≡ skim s k at .end

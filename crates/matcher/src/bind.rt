@@ -1,7 +1,7 @@
 // What the holes of a template stand for, and how a hole takes a formula or a number.
-use crate::end::end_at;
 use compare::same::Same;
 use compare::same::same_at;
+use formula::end::end_at;
 ghost use mathlib.Core.Path.{_≡_};
 ghost use Prim.Native.Nat.{_<_};
 ghost use Rattle.matcher.specs.Places.{holeAt, operandOf};

@@ -1,4 +1,3 @@
 // Formulas of an image matched against templates: formulas in prefix form with holes.
 pub mod bind;
-pub mod end;
 pub mod matching;

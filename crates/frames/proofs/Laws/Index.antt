@@ -116,12 +116,12 @@ cut-past (suc k) i [] h = refl
 cut-past (suc k) zero (x ∷ l) h = absurd (omega arith)
 cut-past (suc k) (suc i) (x ∷ l) h = cut-past k i (drop (2 + word (x ∷ l)) (x ∷ l)) (omega arith)
 
-index-length : (s : List ℕ) (n : ℕ) → length (indexTo s n) ≡ Limits.records
+pub index-length : (s : List ℕ) (n : ℕ) → length (indexTo s n) ≡ Limits.records
 unfolding indexTo
 index-length s zero = length-replicate {A = ℕ} Limits.records 0
 index-length s (suc n) = length-set (indexTo s n) n (startOf s n) ∙ index-length s n
 
-index-in : (s : List ℕ) (n i : ℕ) → i < n → n ≤ Limits.records → getD (indexTo s n) i 0 ≡ startOf s i
+pub index-in : (s : List ℕ) (n i : ℕ) → i < n → n ≤ Limits.records → getD (indexTo s n) i 0 ≡ startOf s i
 unfolding indexTo
 index-in s zero i h g = absurd (omega arith)
 index-in s (suc n) i h g = go (eqb i n) refl (λ a. index-in s n i a (omega arith))

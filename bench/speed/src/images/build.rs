@@ -1,0 +1,278 @@
+//! Random images whose bytes are in order. Their lines follow from nothing; the readers do not ask.
+
+use crate::formulas::generate::{append, Names, LONGEST};
+use crate::random::Random;
+
+/// How much an image holds.
+pub struct Size {
+    pub threads: usize,
+    pub words: usize,
+    pub registers: usize,
+    /// At most so many points in each thread.
+    pub points: usize,
+    pub formulas: usize,
+    pub lines: usize,
+    /// How long its assertions are, about: each is joined from shorter ones until it is.
+    pub assertion: usize,
+}
+
+impl Size {
+    /// As much as fits: 500 formulas and 1,000 lines in just under 65,536 bytes.
+    pub const LARGEST: Size = Size {
+        threads: 3,
+        words: 8,
+        registers: 16,
+        points: 8,
+        formulas: 500,
+        lines: 1000,
+        assertion: 50,
+    };
+
+    /// A few hundred bytes.
+    pub fn small(random: &mut Random) -> Size {
+        let threads = 1 + random.below(3);
+        Size {
+            threads,
+            words: 1 + random.below(8),
+            registers: random.below(17),
+            points: 1 + random.below(8),
+            formulas: 2 * threads + 2 + random.below(8),
+            lines: 1 + random.below(8),
+            assertion: 1 + random.below(20),
+        }
+    }
+}
+
+/// The sorts of formulas.
+const VALUE: u8 = 0;
+const TEST: u8 = 1;
+const INTERVAL: u8 = 2;
+const ASSERTION: u8 = 3;
+
+const ACTION: [u8; 6] = [0, 1, 2, 3, 4, 5];
+const BRANCH: u8 = 6;
+
+fn record(kind: u8, body: &[u8]) -> Vec<u8> {
+    let length = (body.len() + 2) as u16;
+    [&length.to_le_bytes()[..], &[kind, 0], body].concat()
+}
+
+/// A formula that fits in a record.
+fn formula(random: &mut Random, names: &Names, sort: u8, plain: bool, left: usize) -> Vec<u8> {
+    loop {
+        let mut bytes = Vec::new();
+        append(random, names, sort, plain, left, &mut bytes);
+        if bytes.len() <= LONGEST {
+            return bytes;
+        }
+    }
+}
+
+/// An assertion of at least so many bytes, or as many as five joined ones have.
+fn assertion(random: &mut Random, names: &Names, least: usize) -> Vec<u8> {
+    loop {
+        let mut bytes = formula(random, names, ASSERTION, false, 10);
+        for _ in 0..4 {
+            if bytes.len() < least {
+                let left = formula(random, names, ASSERTION, false, 10);
+                bytes = [&[25 + random.below(2) as u8], &left[..], &bytes].concat();
+            }
+        }
+        if bytes.len() <= LONGEST {
+            return bytes;
+        }
+    }
+}
+
+/// A program with formulas for its instructions, its outline and its lines. Formula numbers, from 1:
+/// for each thread a value and a test; then an interval; then assertions without `start` and, last, of
+/// which a quarter may have it.
+struct Program<'a> {
+    size: &'a Size,
+    owners: Vec<u8>,
+    /// Each thread's operations.
+    threads: Vec<Vec<u8>>,
+}
+
+impl Program<'_> {
+    fn new<'a>(random: &mut Random, size: &'a Size) -> Program<'a> {
+        let owner = |random: &mut Random| 1 + random.below(size.threads) as u8;
+        let owners: Vec<u8> = (0..size.registers).map(|_| owner(random)).collect();
+        let threads = (1..=size.threads).map(|thread| {
+            let owned = owners.contains(&(thread as u8));
+            let steps = random.below(size.points);
+            // Operations 0 to 2 set a register.
+            let actions = if owned { &ACTION[..] } else { &ACTION[3..] };
+            let operation = |random: &mut Random| match random.below(4) {
+                0 => BRANCH,
+                _ => actions[random.below(actions.len())],
+            };
+            (0..steps).map(|_| operation(random)).collect()
+        });
+        let threads = threads.collect();
+        Program { size, owners, threads }
+    }
+
+    fn registers_of(&self, thread: usize) -> Vec<u8> {
+        (1..)
+            .zip(&self.owners)
+            .filter(|(_, &owner)| owner as usize == thread)
+            .map(|(r, _)| r)
+            .collect()
+    }
+
+    fn names(&self, registers: Vec<u8>, start: bool) -> Names {
+        let Size { threads, words, .. } = *self.size;
+        Names { threads: threads as u8, words: words as u8, registers, values: 8, start }
+    }
+
+    fn header(&self, random: &mut Random) -> Vec<u8> {
+        let Size { threads, words, registers, .. } = *self.size;
+        let mut body = vec![threads as u8, words as u8, registers as u8];
+        body.extend((0..words).map(|_| random.below(8) as u8));
+        body.extend(&self.owners);
+        body
+    }
+
+    /// The number of the interval; assertions follow.
+    fn interval(&self) -> usize {
+        2 * self.size.threads + 1
+    }
+
+    /// How many assertions have no `start`.
+    fn startless(&self) -> usize {
+        let assertions = self.size.formulas - self.interval();
+        assertions - assertions / 4
+    }
+
+    fn formulas(&self, random: &mut Random) -> Vec<Vec<u8>> {
+        let mut formulas = Vec::new();
+        for thread in 1..=self.size.threads {
+            let own = self.names(self.registers_of(thread), true);
+            formulas.push(formula(random, &own, VALUE, true, 6));
+            formulas.push(formula(random, &own, TEST, true, 6));
+        }
+        let all: Vec<u8> = (1..=self.size.registers as u8).collect();
+        let any = self.names(all.clone(), true);
+        let startless = self.names(all, false);
+        formulas.push(formula(random, &any, INTERVAL, false, 10));
+        for i in 0..self.size.formulas - self.interval() {
+            let names = if i < self.startless() { &startless } else { &any };
+            formulas.push(assertion(random, names, self.size.assertion));
+        }
+        formulas
+    }
+
+    fn thread(&self, random: &mut Random, thread: usize) -> Vec<u8> {
+        let operations = &self.threads[thread - 1];
+        let registers = self.registers_of(thread);
+        let points = operations.len() + 1;
+        let value = 2 * thread as u16 - 1;
+        let mut body = vec![points as u8];
+        for &operation in operations {
+            let word = 1 + random.below(self.size.words) as u8;
+            let mut register = || registers[random.below(registers.len())];
+            let (a, b, formula) = match operation {
+                0 => (register(), 0, value),
+                1 | 2 => (register(), word, 0),
+                BRANCH => (random.below(points) as u8, 0, value + 1),
+                _ => (word, 0, value),
+            };
+            let [low, high] = formula.to_le_bytes();
+            body.extend([operation, a, b, low, high]);
+        }
+        body
+    }
+
+    /// The number of an assertion, with or without `start`.
+    fn any_assertion(&self, random: &mut Random) -> u16 {
+        let behind = self.interval();
+        (behind + 1 + random.below(self.size.formulas - behind)) as u16
+    }
+
+    fn startless_assertion(&self, random: &mut Random) -> u16 {
+        (self.interval() + 1 + random.below(self.startless())) as u16
+    }
+
+    fn outline(&self, random: &mut Random) -> Vec<u8> {
+        let points: usize = self.threads.iter().map(|operations| operations.len() + 1).sum();
+        (0..points).flat_map(|_| self.startless_assertion(random).to_le_bytes()).collect()
+    }
+
+    /// Thread and point of each instruction that is no branch.
+    fn actions(&self) -> Vec<[u8; 2]> {
+        let of_thread = |(thread, operations): (u8, &Vec<u8>)| -> Vec<[u8; 2]> {
+            let actions = (0..).zip(operations).filter(|(_, &operation)| operation != BRANCH);
+            actions.map(|(point, _)| [thread, point]).collect()
+        };
+        (1..).zip(&self.threads).flat_map(of_thread).collect()
+    }
+
+    /// The line that has so many before it. Half of the lines are triples, where there are actions.
+    fn line(&self, random: &mut Random, before: usize, actions: &[[u8; 2]]) -> Vec<u8> {
+        let (rule, place, left, right) = match random.below(8) {
+            0 => (30 + random.below(17), [0, 0], self.interval() as u16, self.interval() as u16),
+            4.. if !actions.is_empty() => {
+                let place = actions[random.below(actions.len())];
+                let side = |random: &mut Random| self.startless_assertion(random);
+                (1 + random.below(16), place, side(random), side(random))
+            }
+            _ => {
+                let side = |random: &mut Random| self.any_assertion(random);
+                (20 + random.below(8), [0, 0], side(random), side(random))
+            }
+        };
+        let premises = if before == 0 { 0 } else { random.below(5) };
+        let mut body = vec![rule as u8, place[0], place[1]];
+        body.extend(left.to_le_bytes());
+        body.extend(right.to_le_bytes());
+        body.push(premises as u8);
+        for _ in 0..premises {
+            body.extend((1 + random.below(before) as u16).to_le_bytes());
+        }
+        body
+    }
+
+    /// A line number for each obligation: the start of each thread; each instruction, a branch twice;
+    /// each point with each action of another thread.
+    fn obligations(&self, random: &mut Random) -> Vec<u8> {
+        let branches =
+            |thread: &Vec<u8>| thread.iter().filter(|&&operation| operation == BRANCH).count();
+        let mut count = 0;
+        for (i, own) in self.threads.iter().enumerate() {
+            count += 1 + own.len() + branches(own);
+            for (j, other) in self.threads.iter().enumerate() {
+                if i != j {
+                    count += (own.len() + 1) * (other.len() - branches(other));
+                }
+            }
+        }
+        let line = |random: &mut Random| random.below(self.size.lines + 1) as u16;
+        (0..count).flat_map(|_| line(random).to_le_bytes()).collect()
+    }
+}
+
+pub fn image(random: &mut Random, size: &Size) -> Vec<u8> {
+    let program = Program::new(random, size);
+    let mut bytes = record(1, &program.header(random));
+    for body in program.formulas(random) {
+        bytes.extend(record(2, &body));
+    }
+    for thread in 1..=size.threads {
+        bytes.extend(record(3, &program.thread(random, thread)));
+    }
+    bytes.extend(record(4, &program.outline(random)));
+    let actions = program.actions();
+    for before in 0..size.lines {
+        bytes.extend(record(5, &program.line(random, before, &actions)));
+    }
+    bytes.extend(record(6, &program.obligations(random)));
+    bytes
+}
+
+/// An image with 500 formulas and 1,000 lines, as near to 65,535 bytes as comes in some tries.
+pub fn largest(random: &mut Random) -> Vec<u8> {
+    let images = (0..64).map(|_| image(random, &Size::LARGEST));
+    let fitting = images.filter(|image| image.len() <= 65_535);
+    fitting.max_by_key(Vec::len).expect("some of the tries fit")
+}

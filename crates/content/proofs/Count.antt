@@ -1,0 +1,187 @@
+-- As many obligations as the obligations record has numbers.
+use mathlib.Core.Path.{_≡_, refl, ap, sym, _∙_}
+use mathlib.Core.Bool.{Bool, true, false}
+use mathlib.Core.List.{List, [], _∷_, _++_}
+use Prim.Native.Nat.{ℕ, zero, suc, _+_, _-_, _*_, _≤_, _<_}
+use native.Mathlib.Omega.{arith}
+use lib.Dec.{eqb, eqb·suc-suc}
+use lib.ListN.{length, getD, length-append, length-map}
+use Rattle.logic.specs.Machine.{Program, Instr, Instr.act, Instr.branch}
+use Rattle.logic.specs.Statement as Statement
+use Rattle.logic.specs.Obligations.{Obligation, Obligation.start, below, upTo, flat, own, acting, instructed, actions, starts, steps, interferences, obligations}
+use Rattle.limits.specs.Numbers.{pick}
+use Rattle.program.specs.declared.sizes.Sizes.{Sizes}
+use Rattle.program.specs.declared.instruction.Instruction.{Instruction}
+use Rattle.program.specs.Thread.{lastPoint, instructions, nothing}
+use Rattle.program.proofs.Laws.Program.{instructions-length}
+use Rattle.records.specs.Places.{threadBody, instructionOf}
+use Rattle.records.specs.Tally.{isBranch, branches, threadTally, tallyTo, tally, obligationCount}
+use Rattle.content.specs.Program.{instr, pointCount, programOf}
+use Rattle.content.specs.Image.{imageOf}
+use Rattle.content.proofs.Sums.{sum, sum-same, sum-front, sum-const, but, sum-cross, flat-below, flat-upTo, below-length}
+use Rattle.content.proofs.Instr.{branch-is, instruction-there}
+
+-- over the instructions of a thread
+
+branch-small : (i : Instruction) → isBranch i ≤ 1
+unfolding isBranch
+branch-small i = go (eqb (i .operation) 6)
+  where
+    go : (b : Bool) → pick b 1 0 ≤ 1
+    go true = omega arith
+    go false = omega arith
+
+branches-small : (is : List Instruction) → branches is ≤ length is
+unfolding branches
+branches-small [] = omega arith
+branches-small (i ∷ is) = let h = branches-small is in let b = branch-small i in omega arith
+
+-- each instruction counts for one and for one more if it is a branch; or for one if it is none
+step-sum : (is : List Instruction) → sum (λ k. 1 + isBranch (getD is k nothing)) (length is) ≡ length is + branches is
+unfolding sum branches
+step-sum [] = refl
+step-sum (i ∷ is) = let e = sum-front (λ k. 1 + isBranch (getD (i ∷ is) k nothing)) (length is) in let h = step-sum is in omega arith
+
+action-sum : (is : List Instruction) → sum (λ k. 1 - isBranch (getD is k nothing)) (length is) ≡ length is - branches is
+unfolding sum branches
+action-sum [] = refl
+action-sum (i ∷ is) =
+    let e = sum-front (λ k. 1 - isBranch (getD (i ∷ is) k nothing)) (length is) in
+    let h = action-sum is in
+    let b = branch-small i in
+    let c = branches-small is in
+    omega arith
+
+-- over the threads: what each adds to the tally
+
+module _ (z : Sizes) (l : List (List ℕ)) where
+  abbrev body : ℕ → List ℕ
+  body u = threadBody z l (suc u)
+
+  abbrev pub pointsOf : ℕ → ℕ
+  pointsOf u = pointCount z l (suc u)
+
+  abbrev stepsOf : ℕ → ℕ
+  stepsOf u = lastPoint (body u) + branches (instructions (body u))
+
+  abbrev actionsOf : ℕ → ℕ
+  actionsOf u = lastPoint (body u) - branches (instructions (body u))
+
+  pub tally-points : (n : ℕ) → tallyTo z l n .points ≡ sum pointsOf n
+  unfolding tallyTo threadTally sum pointCount
+  tally-points zero = refl
+  tally-points (suc n) = ap (λ (k : ℕ). k + pointsOf n) (tally-points n)
+
+  tally-steps : (n : ℕ) → tallyTo z l n .steps ≡ sum stepsOf n
+  unfolding tallyTo threadTally sum
+  tally-steps zero = refl
+  tally-steps (suc n) = ap (λ (k : ℕ). k + stepsOf n) (tally-steps n)
+
+  tally-actions : (n : ℕ) → tallyTo z l n .actions ≡ sum actionsOf n
+  unfolding tallyTo threadTally sum
+  tally-actions zero = refl
+  tally-actions (suc n) = ap (λ (k : ℕ). k + actionsOf n) (tally-actions n)
+
+  tally-own : (n : ℕ) → tallyTo z l n .own ≡ sum (λ u. pointsOf u * actionsOf u) n
+  unfolding tallyTo threadTally sum pointCount
+  tally-own zero = refl
+  tally-own (suc n) = ap (λ (k : ℕ). k + pointsOf n * actionsOf n) (tally-own n)
+
+-- the obligations of one instruction
+
+module _ (z : Sizes) (l : List (List ℕ)) where
+  abbrev P : Program
+  P = programOf z l
+
+  own-length : (t k : ℕ) (i : Instruction) → length (own P t k (instr l i)) ≡ 1 + isBranch i
+  unfolding isBranch
+  own-length t k i = go (instr l i) ∙ ap (λ (b : Bool). 1 + pick b 1 0) (branch-is l i)
+    where
+      go : (c : Instr) → length (own P t k c) ≡ 1 + pick (Statement.isBranch c) 1 0
+      go (act c) = refl
+      go (branch e a) = refl
+
+  acting-length : (u j t k : ℕ) (i : Instruction) → length (acting P u j t k (instr l i)) ≡ 1 - isBranch i
+  unfolding isBranch
+  acting-length u j t k i = go (instr l i) ∙ ap (λ (b : Bool). 1 - pick b 1 0) (branch-is l i)
+    where
+      go : (c : Instr) → length (acting P u j t k c) ≡ 1 - pick (Statement.isBranch c) 1 0
+      go (act c) = refl
+      go (branch e a) = refl
+
+  -- a sum over the points of a thread that have an instruction
+  instructed-sum : {B : Type 0} (f : ℕ → List B) (g : Instruction → ℕ) (u : ℕ) → u < z .threads → ((k : ℕ) → length (f k) ≡ g (instructionOf z l (suc u) k))
+      → length (flat f (instructed P (suc u))) ≡ sum (λ k. g (getD (instructions (body z l u)) k nothing)) (length (instructions (body z l u)))
+  unfolding pointCount
+  instructed-sum f g u b h =
+      let q : pointCount z l (suc u) - 1 ≡ length (instructions (body z l u)) = let e = instructions-length (body z l u) in omega arith in
+      rw q (flat-below f (length (instructions (body z l u)))
+      ∙ sum-same (λ k. length (f k)) (λ k. g (getD (instructions (body z l u)) k nothing)) (length (instructions (body z l u)))
+      (λ k m. h k ∙ ap g (instruction-there z l (suc u) k (omega arith) (omega arith))))
+
+  thread-steps : (u : ℕ) → u < z .threads → length (flat (λ k. own P (suc u) k (P .code (suc u) k)) (instructed P (suc u))) ≡ stepsOf z l u
+  thread-steps u b =
+      let e = instructed-sum (λ k. own P (suc u) k (P .code (suc u) k)) (λ i. 1 + isBranch i) u b (λ k. own-length (suc u) k (instructionOf z l (suc u) k)) in
+      let d = step-sum (instructions (body z l u)) in
+      let c = instructions-length (body z l u) in
+      omega arith
+
+  thread-actions : (u j t : ℕ) → t < z .threads → length (flat (λ k. acting P u j (suc t) k (P .code (suc t) k)) (instructed P (suc t))) ≡ actionsOf z l t
+  thread-actions u j t b =
+      let e = instructed-sum (λ k. acting P u j (suc t) k (P .code (suc t) k)) (λ i. 1 - isBranch i) t b (λ k. acting-length u j (suc t) k (instructionOf z l (suc t) k)) in
+      let d = action-sum (instructions (body z l t)) in
+      let c = instructions-length (body z l t) in
+      omega arith
+
+  other-actions : (u j t : ℕ) → t < z .threads → length (actions P (suc u) j (suc t)) ≡ but u (actionsOf z l) t
+  other-actions u j t b = go (eqb (suc t) (suc u)) refl ∙ ap (λ (c : Bool). pick c 0 (actionsOf z l t)) (eqb·suc-suc t u)
+    where
+      go : (c : Bool) → eqb (suc t) (suc u) ≡ c → length (actions P (suc u) j (suc t)) ≡ pick (eqb (suc t) (suc u)) 0 (actionsOf z l t)
+      go true e = rw (e, actions)
+      go false e = rw (e, actions) (thread-actions (suc u) j t b)
+
+  -- the three groups
+
+  starts-length : length (starts P) ≡ z .threads
+  starts-length =
+      let e = length-map (upTo (z .threads)) Obligation.start in
+      let d = length-map (below (z .threads)) suc in
+      let c = below-length (z .threads) in
+      omega arith
+
+  steps-length : length (steps P) ≡ tally z l .steps
+  unfolding tally
+  steps-length =
+      flat-upTo (λ t. flat (λ k. own P t k (P .code t k)) (instructed P t)) (z .threads)
+      ∙ sum-same (λ u. length (flat (λ k. own P (suc u) k (P .code (suc u) k)) (instructed P (suc u)))) (stepsOf z l) (z .threads) thread-steps
+      ∙ sym (tally-steps z l (z .threads))
+
+  -- at one point of a thread, the actions of the others
+  point-length : (u j : ℕ) → length (flat (λ t. actions P (suc u) j t) (upTo (z .threads))) ≡ sum (but u (actionsOf z l)) (z .threads)
+  point-length u j =
+      flat-upTo (λ t. actions P (suc u) j t) (z .threads)
+      ∙ sum-same (λ t. length (actions P (suc u) j (suc t))) (but u (actionsOf z l)) (z .threads) (λ t b. other-actions u j t b)
+
+  thread-length : (u : ℕ) → length (flat (λ j. flat (λ t. actions P (suc u) j t) (upTo (z .threads))) (below (P .points (suc u)))) ≡ pointsOf z l u * sum (but u (actionsOf z l)) (z .threads)
+  thread-length u =
+      flat-below (λ j. flat (λ t. actions P (suc u) j t) (upTo (z .threads))) (pointsOf z l u)
+      ∙ sum-same (λ j. length (flat (λ t. actions P (suc u) j t) (upTo (z .threads)))) (λ j. sum (but u (actionsOf z l)) (z .threads)) (pointsOf z l u) (λ j b. point-length u j)
+      ∙ sum-const (sum (but u (actionsOf z l)) (z .threads)) (pointsOf z l u)
+
+  interferences-length : length (interferences P) ≡ tally z l .points * tally z l .actions - tally z l .own
+  unfolding tally
+  interferences-length =
+      flat-upTo (λ u. flat (λ j. flat (λ t. actions P u j t) (upTo (z .threads))) (below (P .points u))) (z .threads)
+      ∙ sum-same _ (λ u. pointsOf z l u * sum (but u (actionsOf z l)) (z .threads)) (z .threads) (λ u b. thread-length u)
+      ∙ sum-cross (pointsOf z l) (actionsOf z l) (z .threads)
+      ∙ rw (tally-points z l (z .threads), tally-actions z l (z .threads), tally-own z l (z .threads))
+
+  pub count-is : obligationCount z l ≡ length (obligations (imageOf z l .program))
+  unfolding obligationCount
+  count-is =
+      let e = length-append (starts P) (steps P ++ interferences P) in
+      let d = length-append (steps P) (interferences P) in
+      let a = starts-length in
+      let b = steps-length in
+      let c = interferences-length in
+      omega arith

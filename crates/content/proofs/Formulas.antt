@@ -1,0 +1,88 @@
+-- The formulas of a sound image, each of the sort by which it is read.
+use mathlib.Core.Path.{_≡_, refl, ap, sym, _∙_}
+use mathlib.Core.Bool.{Bool, true, false}
+use mathlib.Core.List.{List, []}
+use Prim.Native.Nat.{ℕ, _≤_}
+use lib.Dec.{T, eqb}
+use lib.ListN.{length, getD}
+use borrow.Author.Tests.{not-true, not-false}
+use Rattle.logic.specs.Formula.{Sort, Formula}
+use Rattle.logic.specs.Names as Names
+use Rattle.logic.specs.Names.{only, isReg}
+use Rattle.logic.specs.Eval.{bounded}
+use Rattle.logic.proofs.Base.{is-true}
+use Rattle.limits.specs.Limits as Limits
+use Rattle.formula.specs.Codes as Codes
+use Rattle.formula.specs.Codes.{pick}
+use Rattle.limits.specs.Limits.{nesting}
+use Rattle.formula.specs.Tree.{Tree, skim}
+use Rattle.formula.specs.Reader.{malformed, faultAt, sortOf, readingOf}
+use Rattle.formula.specs.declared.reader.Counts.{Counts}
+use Rattle.formula.specs.declared.reader.Reading.{Reading}
+use Rattle.formula.specs.declared.reader.Reading.the-variants as Reading
+use Rattle.frames.specs.declared.fault.Checked.the-variants.{Passed}
+use Rattle.occurs.specs.Occurs.{occurs, start, shared}
+use Rattle.program.specs.declared.sizes.Sizes.{Sizes}
+use Rattle.bodies.specs.Use.{treeOf, startless, plain}
+use Rattle.bodies.specs.Formula as Formulas
+use Rattle.bodies.specs.Formula.{countsOf, faultOf, read}
+use Rattle.trees.specs.Raw.{raw, shaped, Sorted}
+use Rattle.trees.specs.Place.{sortAt}
+use Rattle.trees.proofs.Occurs.{no-shared, no-start}
+use Rattle.trees.proofs.Within.{reads-bounded, reads-plain}
+use Rattle.trees.proofs.Body.{reading-fault, reading-sorted}
+use Rattle.content.specs.Formula.{formula}
+use Rattle.content.proofs.Checked.{Checks, formula-passed}
+use Rattle.content.proofs.Inverse.{unless-passed, faulty-passed}
+
+-- what is read without a fault is a formula of its first code's sort
+read-passed : (b : List ℕ) (n : Counts) → read (readingOf b n) ≡ Passed → readingOf b n ≡ Reading.Formula (sortOf b)
+unfolding read readingOf
+read-passed b n e = go (eqb (faultAt b n nesting (sortOf b) 0) 0) (eqb (skim b nesting 0 .end) (length b)) e
+  where
+    go : (c d : Bool) → read (pick c (pick d (Reading.Formula (sortOf b)) (Reading.Fault malformed)) (Reading.Fault (faultAt b n nesting (sortOf b) 0))) ≡ Passed
+        → pick c (pick d (Reading.Formula (sortOf b)) (Reading.Fault malformed)) (Reading.Fault (faultAt b n nesting (sortOf b) 0)) ≡ Reading.Formula (sortOf b)
+    go true true h = refl
+    go true false h = absurd (faulty-passed (faultOf malformed) h)
+    go false d h = absurd (faulty-passed (faultOf (faultAt b n nesting (sortOf b) 0)) h)
+
+module _ (z : Sizes) (l : List (List ℕ)) (c : Checks z l) (k : ℕ) (low : 1 ≤ k) (high : k ≤ z .formulas) where
+  abbrev body : List ℕ
+  body = getD l k []
+
+  pub formula-read : (p : ℕ) → sortOf body ≡ p → readingOf body (countsOf z) ≡ Reading.Formula p
+  unfolding Formulas.formula
+  formula-read p e =
+      read-passed body (countsOf z) (unless-passed _ _ _ (formula-passed z l c k low high) .1) ∙ ap Reading.Formula e
+
+  sorted : (p : ℕ) → sortOf body ≡ p → Sorted (sortAt p) (treeOf body)
+  sorted p e = reading-sorted body (countsOf z) p (formula-read p e)
+
+  pub formula-tree : (p : ℕ) → sortOf body ≡ p → raw (formula l (sortAt p) k) ≡ treeOf body
+  unfolding formula
+  formula-tree p e = sorted p e
+
+  -- a value: its constants are values
+  pub value-bounded : sortOf body ≡ Codes.value → T (bounded Limits.values (formula l Sort.value k))
+  unfolding formula countsOf
+  value-bounded e = reads-bounded body (countsOf z) nesting 0 (reading-fault body (countsOf z) Codes.value (formula-read Codes.value e))
+
+  -- an assertion: registers alone under holds
+  pub assertion-plain : sortOf body ≡ Codes.assertion → T (Names.plain (formula l Sort.assertion k))
+  unfolding formula
+  assertion-plain e = reads-plain body (countsOf z) nesting 0 (reading-fault body (countsOf z) Codes.assertion (formula-read Codes.assertion e))
+
+  regs-only : (s : Sort) → Sorted s (treeOf body) → plain body ≡ true → T (only isReg (formula l s k))
+  unfolding formula plain
+  regs-only s e h = is-true (not-false (only isReg (shaped s (treeOf body))) (sym (no-shared (shaped s (treeOf body))) ∙ ap (λ (t : Tree). occurs shared [] t) e ∙ not-true (occurs shared [] (treeOf body)) h))
+
+  pub value-regs : sortOf body ≡ Codes.value → plain body ≡ true → T (only isReg (formula l Sort.value k))
+  value-regs e h = regs-only Sort.value (sorted Codes.value e) h
+
+  pub test-regs : sortOf body ≡ Codes.test → plain body ≡ true → T (only isReg (formula l Sort.test k))
+  test-regs e h = regs-only Sort.test (sorted Codes.test e) h
+
+  pub assertion-startless : sortOf body ≡ Codes.assertion → startless body ≡ true → T (Names.startless (formula l Sort.assertion k))
+  unfolding formula startless
+  assertion-startless e h =
+      is-true (not-false (Names.startless (shaped Sort.assertion (treeOf body))) (sym (no-start (shaped Sort.assertion (treeOf body))) ∙ ap (λ (t : Tree). occurs start [] t) (sorted Codes.assertion e) ∙ not-true (occurs start [] (treeOf body)) h))

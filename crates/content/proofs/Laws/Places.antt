@@ -1,0 +1,157 @@
+-- The laws of the look-ups.
+use mathlib.Core.Path.{_≡_, refl, ap, sym, _∙_}
+use mathlib.Core.List.{List, []}
+use Prim.Native.Nat.{ℕ, zero, suc, _+_, _-_, _≤_, _<_}
+use native.Mathlib.Omega.{arith}
+use lib.ListN.{length, getD, drop}
+use borrow.Author.Tests.{eq-eqb, ne-eqb, lt-ltb, le-ltb, le-leb, lt-leb}
+use Rattle.limits.specs.Limits as Limits
+use Rattle.limits.specs.Numbers.{word, numbers}
+use Rattle.limits.proofs.Numbers.{number-past}
+use Rattle.frames.specs.Records.{body, bodies, indexOf}
+use Rattle.frames.proofs.Laws.Index.{index-in, index-length, found-past}
+use Rattle.program.specs.declared.sizes.Sizes.{Sizes}
+use Rattle.program.specs.declared.instruction.Instruction.{Instruction}
+use Rattle.records.specs.Line.{premises}
+use Rattle.records.specs.Places.{threadBody}
+use Rattle.records.specs.declared.tally.Tally.{Tally}
+use Rattle.records.specs.Tally.{tallyTo, tally, Small, obligationCount}
+use Rattle.content.specs.Program.{outlineNumber}
+use Rattle.content.specs.Certificate.{left, right, lineBody}
+use Rattle.content.specs.Image.{namedLine}
+use Rattle.content.specs.Places.{bodyStart, formulaAt, lineIn, acts, actingOf}
+use Rattle.content.specs.declared.line.Line.{Line}
+use Rattle.content.specs.declared.acting.Acting.{Acting}
+
+-- formulas
+
+module _ (s : List ℕ) where
+  pub start-past : (p : ℕ) → length s ≤ p → length s ≡ bodyStart s p
+  unfolding bodyStart
+  start-past p h = rw (le-ltb p (length s) h)
+
+  pub start-in : (p : ℕ) → p < length s → p + 4 ≡ bodyStart s p
+  unfolding bodyStart
+  start-in p h = rw (lt-ltb p (length s) h)
+
+  pub at-none : (k : ℕ) → k ≡ 0 → length s ≡ formulaAt s k
+  unfolding formulaAt
+  at-none k h = rw (eq-eqb k 0 h)
+
+  module _ (ix : List ℕ) (k : ℕ) (e : ix ≡ indexOf s) (z : k ≡ 0 → ⊥) where
+    index-size : length ix ≡ Limits.records
+    unfolding indexOf
+    index-size = ap length e ∙ index-length s Limits.records
+
+    pub at-in : (r : ℕ) → k < length ix → r ≡ bodyStart s (getD ix k 0) → r ≡ formulaAt s k
+    unfolding formulaAt indexOf
+    at-in r h d =
+        let q : k < Limits.records = omega (arith, index-size) in
+        d ∙ rw (ne-eqb k 0 z, lt-ltb k Limits.records q, e, index-in s Limits.records k q (omega arith))
+
+    pub at-past : length ix ≤ k → length s ≡ formulaAt s k
+    unfolding formulaAt
+    at-past h = let q : Limits.records ≤ k = omega (arith, index-size) in rw (ne-eqb k 0 z, le-ltb k Limits.records q)
+
+pub ruleset positions = (start-past, start-in, at-none, at-in, at-past)
+
+-- lines
+
+-- past the last record that an image may have there is no body
+no-body : (s : List ℕ) (i : ℕ) → Limits.records ≤ i → body (drop (length s) s) ≡ getD (bodies s) i []
+unfolding indexOf
+no-body s i h = found-past s (indexOf s) i (body (drop (length s) s)) refl (let q = index-length s Limits.records in omega arith) refl
+
+module _ (s : List ℕ) (z : Sizes) (n : ℕ) where
+  pub line-past : (r : List ℕ) → Limits.records ≤ n → r ≡ getD (bodies s) n [] → r ≡ lineBody z (bodies s) n
+  unfolding lineBody
+  line-past r h d = d ∙ sym (no-body s n h) ∙ no-body s (z .formulas + z .threads + 1 + n) (omega arith)
+
+  pub line-there : (r : List ℕ) → r ≡ getD (bodies s) (z .formulas + z .threads + 1 + n) [] → r ≡ lineBody z (bodies s) n
+  unfolding lineBody
+  line-there r d = d
+
+  module _ (b : List ℕ) (e : b ≡ lineBody z (bodies s) n) where
+    pub line-read : (r : Line) → r ≡ lineIn s b → r ≡ lineIn s (lineBody z (bodies s) n)
+    line-read r d = rw (← e) d
+
+    pub premise-read : (j r : ℕ) → r ≡ getD (premises b) j 0 → r ≡ getD (premises (lineBody z (bodies s) n)) j 0
+    premise-read j r d = rw (← e) d
+
+pub line-is : (s b : List ℕ) (rule t p x y l r c : ℕ) → rule ≡ getD b 0 0 → t ≡ getD b 1 0 → p ≡ getD b 2 0 → x ≡ word (drop 3 b) → l ≡ formulaAt s x → y ≡ word (drop 5 b) → r ≡ formulaAt s y → c ≡ getD b 7 0
+    → record { rule = rule; thread = t; point = p; left = l; right = r; count = c } ≡ lineIn s b
+unfolding lineIn
+line-is s b rule t p x y l r c e₀ e₁ e₂ ex el ey er ec = rw (e₀, e₁, e₂, el, er, ec, ex, ey)
+
+pub ruleset lining = (line-past, line-there, line-read, premise-read, line-is)
+
+-- instructions
+
+module _ (s : List ℕ) (i : Instruction) where
+  pub acts-early : (f : ℕ) → i .operation ≤ 2 → f ≡ formulaAt s (i .formula) → acts (i .operation) (i .b) (i .a) f ≡ actingOf s i
+  unfolding actingOf
+  acts-early f h e = rw (le-leb (i .operation) 2 h, e)
+
+  module _ (h : 2 < i .operation) where
+    pub acts-writing : (f : ℕ) → i .operation ≤ 5 → f ≡ formulaAt s (i .formula) → acts (i .operation) (i .a) 0 f ≡ actingOf s i
+    unfolding actingOf
+    acts-writing f g e = rw (lt-leb (i .operation) 2 h, le-leb (i .operation) 5 g, e)
+
+    pub acts-not : 5 < i .operation → acts (i .operation) 0 0 (length s) ≡ actingOf s i
+    unfolding actingOf
+    acts-not g = rw (lt-leb (i .operation) 2 h, lt-leb (i .operation) 5 g)
+
+pub acts-at : (s : List ℕ) (i j : Instruction) (r : Acting) → i ≡ j → r ≡ actingOf s i → r ≡ actingOf s j
+acts-at s i j r e d = rw (← e) d
+
+pub ruleset acting = (acts-early, acts-writing, acts-not, acts-at)
+
+-- the lines that obligations name
+
+pub named-is : (s : List ℕ) (z : Sizes) (b : List ℕ) (n i r : ℕ) → b ≡ getD (bodies s) (z .formulas + z .threads + 1 + z .lines + 1) [] → n ≡ obligationCount z (bodies s) → r ≡ getD (numbers n b) i 0
+    → r ≡ namedLine z (bodies s) i
+unfolding namedLine
+named-is s z b n i r eb en d = rw (← eb, ← en) d
+
+pub ruleset naming = (named-is)
+
+-- the outline
+
+-- the tally goes by the thread records alone
+tally-same : (y z : Sizes) (l : List (List ℕ)) (n : ℕ) → y .formulas ≡ z .formulas → tallyTo y l n ≡ tallyTo z l n
+unfolding tallyTo threadBody
+tally-same y z l zero e = refl
+tally-same y z l (suc n) e = rw (tally-same y z l n e, e)
+
+module _ (z : Sizes) (l : List (List ℕ)) (t : ℕ) where
+  pub before-is : (c : Tally) → c ≡ tally (record { threads = t - 1; words = z .words; registers = z .registers; formulas = z .formulas; lines = z .lines }) l → c .points ≡ tallyTo z l (t - 1) .points
+  unfolding tally
+  before-is c e = ap (λ (d : Tally). d .points) (e ∙ tally-same (record { threads = t - 1; words = z .words; registers = z .registers; formulas = z .formulas; lines = z .lines }) z l (t - 1) refl)
+
+  pub number-none : (p : ℕ) → t ≡ 0 → 0 ≡ outlineNumber z l t p
+  unfolding outlineNumber
+  number-none p h = rw (eq-eqb t 0 h)
+
+  module _ (p : ℕ) (h : t ≡ 0 → ⊥) where
+    pub number-absent : z .threads < t → 0 ≡ outlineNumber z l t p
+    unfolding outlineNumber
+    number-absent g = rw (ne-eqb t 0 h, lt-ltb (z .threads) t g)
+
+    module _ (g : t ≤ z .threads) (c : Tally) (e : c ≡ tally z l) where
+      pub number-over : c .points ≤ p → 0 ≡ outlineNumber z l t p
+      unfolding outlineNumber
+      number-over b =
+          let q : tally z l .points ≤ tallyTo z l (t - 1) .points + p = let d = ap (λ (x : Tally). x .points) e in omega arith in
+          rw (ne-eqb t 0 h, le-ltb (z .threads) t g) (number-past (tally z l .points) (getD l (z .formulas + z .threads + 1) []) (tallyTo z l (t - 1) .points + p) q)
+
+      pub number-there : (n r : ℕ) (b : List ℕ) → n ≡ tallyTo z l (t - 1) .points → b ≡ getD l (z .formulas + z .threads + 1) [] → r ≡ getD (numbers (c .points) b) (n + p) 0 → r ≡ outlineNumber z l t p
+      unfolding outlineNumber
+      number-there n r b en eb d = rw (ne-eqb t 0 h, le-ltb (z .threads) t g, ← en, ← eb, ← e) d
+
+pub small-points : (c : Tally) → Small 256 c → c .points ≤ 65536
+small-points c h = omega (arith, h .points)
+
+pub found-at : (s : List ℕ) (k m r : ℕ) → k ≡ m → r ≡ formulaAt s k → r ≡ formulaAt s m
+found-at s k m r e d = rw (← e) d
+
+pub ruleset outlining = (before-is, number-none, number-absent, number-over, number-there, small-points, found-at)

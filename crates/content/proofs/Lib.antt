@@ -1,0 +1,14 @@
+pub mod Sums
+pub mod Instr
+pub mod Count
+pub mod Small
+pub mod Inverse
+pub mod Checked
+pub mod Formulas
+pub mod Program
+pub mod Lines
+pub mod Rule
+pub mod Admitted
+pub mod Laws
+pub mod Positions
+pub mod Trees

@@ -1,0 +1,175 @@
+-- The lines of a sound image say what an image may say, and rest on lines before them.
+use mathlib.Core.Path.{_≡_, refl, _∙_}
+use mathlib.Core.Bool.{Bool, true, false, not, _&&_, true≢false}
+use mathlib.Core.List.{List, []}
+use Prim.Native.Nat.{ℕ, suc, _-_, _≤_, _<_}
+use native.Mathlib.Omega.{arith}
+use lib.Dec.{T, eqb, ltb, lt→ltb}
+use lib.ListN.{length, getD, drop, List·getD-eq-default}
+use borrow.Author.Tests.{eqb-true, eqb-false, ltb-true, ltb-false, ne-eqb, le-leb, not-true}
+use Rattle.logic.specs.Base as Base
+use Rattle.logic.specs.Formula.{Sort, Assertion}
+use Rattle.logic.specs.Opcode as Opcode
+use Rattle.logic.specs.Names as Names
+use Rattle.logic.specs.Machine.{Program}
+use Rattle.logic.specs.Statement.{isBranch, admitted}
+use Rattle.logic.proofs.Base.{and-both}
+use Rattle.limits.specs.Limits as Limits
+use Rattle.limits.specs.Numbers.{numbers, within, every}
+use Rattle.limits.proofs.Numbers.{numbers-length}
+use Rattle.formula.specs.Codes as Codes
+use Rattle.formula.specs.Reader.{sortOf}
+use Rattle.program.specs.declared.sizes.Sizes.{Sizes}
+use Rattle.program.specs.Thread.{lastPoint, instructions, nothing}
+use Rattle.program.proofs.Laws.Program.{instructions-length}
+use Rattle.records.specs.Places.{threadBody, instructionOf}
+use Rattle.records.specs.declared.line.Form.{Form}
+use Rattle.records.specs.declared.line.Form.the-variants.{Triple, Implication, Inclusion, Unlisted}
+use Rattle.records.specs.Line.{formOf, premises, tripleAt, placed, numbered, lineNumbers}
+use Rattle.records.specs.List.{exactly}
+use Rattle.records.specs.Tally.{obligationCount}
+use Rattle.bodies.specs.Lists.{outlinedAt, obligations}
+use Rattle.bodies.specs.Line.{sortAt, sortedBy, lineSorted, line}
+use Rattle.content.specs.Formula.{formula}
+use Rattle.content.specs.Program.{pointCount, programOf}
+use Rattle.content.specs.Certificate.{left, right, saying, lineBody}
+use Rattle.content.specs.Image.{obligationsBody, namedLine}
+use Rattle.content.proofs.Inverse.{unless-passed, also-passed, and-true, within-true, every-at, every-or}
+use Rattle.content.proofs.Instr.{branch-is, instruction-there}
+use Rattle.content.proofs.Checked.{Checks, line-passed, obligations-passed}
+use Rattle.content.proofs.Formulas.{assertion-plain, assertion-startless}
+use Rattle.content.proofs.Program.{within-there, outlined-fine}
+
+-- an instruction that is no branch is there
+module _ (z : Sizes) (l : List (List ℕ)) (t k : ℕ) (e : eqb (instructionOf z l t k .operation) Opcode.branch ≡ false) where
+  nothing-not : instructionOf z l t k ≡ nothing → ⊥
+  nothing-not h = true≢false (rw h at e)
+
+  thread-low : 1 ≤ t
+  unfolding instructionOf
+  thread-low = go (eqb t 0) refl
+    where
+      go : (b : Bool) → eqb t 0 ≡ b → 1 ≤ t
+      go true h = absurd (nothing-not (rw h))
+      go false h = let q = eqb-false t 0 h in omega arith
+
+  thread-high : t ≤ z .threads
+  unfolding instructionOf
+  thread-high = go (ltb (z .threads) t) refl
+    where
+      go : (b : Bool) → ltb (z .threads) t ≡ b → t ≤ z .threads
+      go true h = let q : t ≡ 0 → ⊥ = let m = thread-low in omega arith in absurd (nothing-not (rw (ne-eqb t 0 q, h)))
+      go false h = ltb-false (z .threads) t h
+
+  point-low : suc k < pointCount z l t
+  unfolding pointCount
+  point-low = go (ltb k (lastPoint (threadBody z l t))) refl
+    where
+      go : (b : Bool) → ltb k (lastPoint (threadBody z l t)) ≡ b → suc k < pointCount z l t
+      go true h = let q = ltb-true k (lastPoint (threadBody z l t)) h in omega arith
+      go false h =
+          let q = ltb-false k (lastPoint (threadBody z l t)) h in
+          let m : length (instructions (threadBody z l t)) ≤ k = let n = instructions-length (threadBody z l t) in omega arith in
+          absurd (nothing-not (instruction-there z l t k thread-low thread-high ∙ List·getD-eq-default (instructions (threadBody z l t)) nothing m))
+
+-- an obligation names a line that is there, or none
+pub named-there : (z : Sizes) (l : List (List ℕ)) → Checks z l → (i : ℕ) → namedLine z l i ≤ z .lines
+unfolding obligations exactly namedLine within
+named-there z l c i =
+    let numbered = unless-passed _ _ _ (unless-passed _ _ _ (obligations-passed z l c) .1) .0 in
+    within-true 0 (z .lines) (namedLine z l i) (every-or (within 0 (z .lines)) (numbers (obligationCount z l) (obligationsBody z l)) i 0 numbered (le-leb 0 (z .lines) (omega arith))) .1
+
+module _ (z : Sizes) (l : List (List ℕ)) (c : Checks z l) (n : ℕ) (low : 1 ≤ n) (high : n ≤ z .lines) where
+  abbrev P : Program
+  P = programOf z l
+
+  abbrev pub body : List ℕ
+  body = lineBody z l n
+
+  abbrev pub form : Form
+  form = formOf (getD body 0 0)
+
+  pub numbers-passed : (placed z l form body ≡ true) × (numbered z (n - 1) body ≡ true)
+  unfolding line lineNumbers
+  numbers-passed =
+      let h = unless-passed _ _ _ (unless-passed _ _ _ (unless-passed _ _ _ (also-passed _ _ (line-passed z l c n low high) .0) .1) .1) in
+      (h .0, unless-passed _ _ _ (h .1) .0)
+
+  pub sorted-passed : (sortedBy l form (left body) ≡ true) × (sortedBy l form (right body) ≡ true)
+  unfolding line lineSorted
+  sorted-passed = and-true (sortedBy l form (left body)) (sortedBy l form (right body)) (unless-passed _ _ _ (also-passed _ _ (line-passed z l c n low high) .1) .0)
+
+  -- its formulas are there; its premises have lower numbers
+  pub in-range : ((1 ≤ left body) × (left body ≤ z .formulas)) × ((1 ≤ right body) × (right body ≤ z .formulas)) × (every (within 1 (n - 1)) (premises body) ≡ true)
+  unfolding numbered
+  in-range =
+      let few : Bool = within 0 Limits.premises (getD body 7 0) in
+      let lower : Bool = every (within 1 (n - 1)) (premises body) in
+      let h = and-true (within 1 (z .formulas) (left body)) (within 1 (z .formulas) (right body) && (few && lower)) (numbers-passed .1) in
+      let g = and-true (within 1 (z .formulas) (right body)) (few && lower) (h .1) in
+      (within-true 1 (z .formulas) (left body) (h .0), within-true 1 (z .formulas) (right body) (g .0), and-true few lower (g .1) .1)
+
+  pub line-lower : (i : ℕ) → i < length (premises body) → getD (premises body) i 0 < n
+  line-lower i b = let h = within-true 1 (n - 1) (getD (premises body) i 0) (every-at (within 1 (n - 1)) (premises body) i 0 (in-range .2) b) in omega (arith, h .0, h .1)
+
+  -- as many premises as it says
+  pub premise-count : length (premises body) ≡ getD body 7 0
+  unfolding premises
+  premise-count = numbers-length (getD body 7 0) (drop 8 body)
+
+  -- its sides as assertions
+
+  abbrev before : Assertion
+  before = formula l Sort.assertion (left body)
+
+  abbrev after : Assertion
+  after = formula l Sort.assertion (right body)
+
+  abbrev isAssertion : ℕ → Type 0
+  isAssertion k = sortOf (getD l k []) ≡ Codes.assertion
+
+  sides-plain : isAssertion (left body) → isAssertion (right body) → T (Names.plain before && Names.plain after)
+  sides-plain e d =
+      and-both (Names.plain before) (Names.plain after) (assertion-plain z l c (left body) (in-range .0 .0) (in-range .0 .1) e)
+      (assertion-plain z l c (right body) (in-range .1 .0) (in-range .1 .1) d)
+
+  sides-startless : outlinedAt l (left body) ≡ true → outlinedAt l (right body) ≡ true → T (Names.startless before && Names.startless after)
+  sides-startless e d =
+      let a = outlined-fine z l c (left body) e in
+      let b = outlined-fine z l c (right body) d in
+      and-both (Names.startless before) (Names.startless after) (assertion-startless z l c (left body) (in-range .0 .0) (in-range .0 .1) (a .0) (a .1))
+      (assertion-startless z l c (right body) (in-range .1 .0) (in-range .1 .1) (b .0) (b .1))
+
+  -- its thread and point, if it is a triple
+
+  abbrev t : ℕ
+  t = getD body 1 0
+
+  abbrev k : ℕ
+  k = getD body 2 0
+
+  abbrev instructed : Bool
+  instructed = Base.within (z .threads) t && ltb (suc k) (P .points t)
+
+  abbrev acts : Bool
+  acts = not (isBranch (P .code t k))
+
+  action-there : placed z l Triple body ≡ true → T (instructed && acts)
+  unfolding placed tripleAt
+  action-there e =
+      let h = not-true (eqb (instructionOf z l t k .operation) Opcode.branch) e in
+      and-both instructed acts
+      (and-both (Base.within (z .threads) t) (ltb (suc k) (P .points t)) (within-there (z .threads) t (thread-low z l t k h) (thread-high z l t k h)) (lt→ltb (suc k) (P .points t) (point-low z l t k h)))
+      (rw (branch-is l (instructionOf z l t k), h) tt)
+
+  line-fine : (f : Form) → placed z l f body ≡ true → sortedBy l f (left body) ≡ true → sortedBy l f (right body) ≡ true → T (admitted P (saying l f body))
+  unfolding saying sortedBy sortAt
+  line-fine Triple e p q =
+      and-both (instructed && acts) ((Names.plain before && Names.plain after) && (Names.startless before && Names.startless after)) (action-there e)
+      (and-both (Names.plain before && Names.plain after) (Names.startless before && Names.startless after) (sides-plain (outlined-fine z l c (left body) p .0) (outlined-fine z l c (right body) q .0)) (sides-startless p q))
+  line-fine Implication e p q = sides-plain (eqb-true (sortOf (getD l (left body) [])) Codes.assertion p) (eqb-true (sortOf (getD l (right body) [])) Codes.assertion q)
+  line-fine Inclusion e p q = tt
+  line-fine Unlisted e p q = tt
+
+  pub line-admitted : T (admitted P (saying l form body))
+  line-admitted = line-fine form (numbers-passed .0) (sorted-passed .0) (sorted-passed .1)

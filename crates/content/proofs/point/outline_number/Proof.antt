@@ -1,0 +1,24 @@
+use Rattle.content.proofs.Laws.Places.{outlining}
+use Rattle.limits.proofs.Auto.{tests}
+use borrow.Author.Needs.{needs}
+use Rattle.content.proofs.point.outline_number.Statement.{statement}
+use Rattle.content.proofs.point.outline_number.Tie as tie
+
+pub outline-number-spec : {M : Type 1} → statement M
+outline-number-spec =
+    tie.close
+    (tie.spec
+    (λ c. search (outlining, tests))
+    (λ c. search needs)
+    (λ c. search (outlining, tests))
+    (λ c κs. search needs)
+    (λ c. search (outlining, tests))
+    (λ c κs. search needs)
+    (λ c. search needs)
+    (λ c. search needs)
+    (λ c. search needs)
+    (λ c. search needs)
+    (λ c κs. search needs)
+    (λ c. search needs)
+    (λ c κs. search needs)
+    (λ c. search (outlining, tests)))

@@ -1,0 +1,11 @@
+-- The formulas of an image. Formula k is body k of the bodies l of all records, whose body 0 is the header.
+use mathlib.Core.List.{List, []}
+use Prim.Native.Nat.{ℕ}
+use lib.ListN.{getD}
+use Rattle.logic.specs.Formula.{Sort, Formula}
+use Rattle.bodies.specs.Use.{treeOf}
+use Rattle.trees.specs.Raw.{shaped}
+
+-- formula k, read as one of a sort
+unfoldable pub formula : List (List ℕ) → (s : Sort) → ℕ → Formula s
+formula l s k = shaped s (treeOf (getD l k []))

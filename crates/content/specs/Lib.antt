@@ -1,0 +1,7 @@
+pub mod Formula
+pub mod Rule
+pub mod Program
+pub mod Certificate
+pub mod Image
+pub mod Places
+pub mod Trees

@@ -1,0 +1,65 @@
+-- The program of an image and its outline.
+use mathlib.Core.Bool.{true, false}
+use mathlib.Core.List.{List, []}
+use Prim.Native.Nat.{ℕ, _+_, _-_}
+use lib.Dec.{eqb, ltb}
+use lib.ListN.{getD}
+use Rattle.logic.specs.Formula.{Sort, Formula.const}
+use Rattle.logic.specs.Opcode as Opcode
+use Rattle.logic.specs.Machine.{Program, Mode.store, Mode.swap, Action.assign, Action.load, Action.write, Instr, Instr.act, Instr.branch}
+use Rattle.logic.specs.Obligations.{Outline}
+use Rattle.limits.specs.Limits as Limits
+use Rattle.limits.specs.Numbers.{pick, nth, numbers}
+use Rattle.program.specs.declared.sizes.Sizes.{Sizes}
+use Rattle.program.specs.declared.instruction.Instruction.{Instruction}
+use Rattle.program.specs.Header.{startValues}
+use Rattle.program.specs.Thread.{lastPoint}
+use Rattle.records.specs.Places.{threadBody, instructionOf}
+use Rattle.records.specs.Tally.{tallyTo, tally}
+use Rattle.content.specs.Formula.{formula}
+
+-- for an operation that is not there
+abbrev pub idle : Instr
+idle = act (assign 0 (const 0))
+
+module _ (l : List (List ℕ)) where
+  -- an instruction as its operation says
+  unfoldable pub instr : Instruction → Instr
+  instr i =
+      pick (eqb (i .operation) Opcode.assign) (act (assign (i .a) (formula l Sort.value (i .formula))))
+      (pick (eqb (i .operation) Opcode.load) (act (load false (i .a) (i .b)))
+      (pick (eqb (i .operation) Opcode.acquire) (act (load true (i .a) (i .b)))
+      (pick (eqb (i .operation) Opcode.store) (act (write (store false) (i .a) (formula l Sort.value (i .formula))))
+      (pick (eqb (i .operation) Opcode.release) (act (write (store true) (i .a) (formula l Sort.value (i .formula))))
+      (pick (eqb (i .operation) Opcode.swap) (act (write swap (i .a) (formula l Sort.value (i .formula))))
+      (pick (eqb (i .operation) Opcode.branch) (branch (formula l Sort.test (i .formula)) (i .a))
+      idle))))))
+
+module _ (z : Sizes) (l : List (List ℕ)) where
+  -- a thread's points, 0 to its last
+  unfoldable pub pointCount : ℕ → ℕ
+  pointCount t = lastPoint (threadBody z l t) + 1
+
+  -- words that are not there start with 0
+  abbrev pub programOf : Program
+  programOf = record {
+    threads = z .threads;
+    words = z .words;
+    range = Limits.values;
+    init = λ x. nth (startValues (getD l 0 [])) x 0;
+    points = pointCount;
+    code = λ t k. instr l (instructionOf z l t k);
+  }
+
+  abbrev pub outlineBody : List ℕ
+  outlineBody = getD l (z .formulas + z .threads + 1) []
+
+  -- the formula of point k of thread t: a formula per point, threads in order. 0 where there is none
+  unfoldable pub outlineNumber : ℕ → ℕ → ℕ
+  outlineNumber t k =
+      pick (eqb t 0) 0
+      (pick (ltb (z .threads) t) 0
+      (getD (numbers (tally z l .points) outlineBody) (tallyTo z l (t - 1) .points + k) 0))
+
+  abbrev pub outlineOf : Outline
+  outlineOf t k = formula l Sort.assertion (outlineNumber t k)

@@ -1,0 +1,22 @@
+// The line that an obligation names.
+use frames::index::body_of;
+use limits::read::number_at;
+use program::sizes::Sizes;
+use records::tally::count_obligations;
+ghost use mathlib.Core.Path.{_≡_};
+ghost use Prim.Native.Nat.{_<_};
+ghost use Rattle.frames.specs.Records.{bodies, indexOf};
+ghost use Rattle.content.specs.Image.{namedLine};
+
+// Obligations count from 0 here; 0 for no line.
+pub fn named_line<'a, 'b>(s: &'a [u8], ix: &'b [usize], z: Sizes, i: usize) -> usize
+    requires { ⌜ now ix ≡ indexOf (now s) ⌝ }
+    ensures { λ r. ⌜ (r ≡ namedLine z (bodies (now (s .entry))) i) × (r < 65536) ⌝ }
+{
+    let b = body_of(
+        s,
+        ix,
+        (z.formulas as usize) + (z.threads as usize) + 1 + (z.lines as usize) + 1,
+    );
+    number_at(b, count_obligations(s, ix, z), i)
+}

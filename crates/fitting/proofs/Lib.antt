@@ -1,0 +1,4 @@
+pub mod Ways
+pub mod Follow
+pub mod Sides
+pub mod Known

@@ -1,0 +1,4 @@
+// Whether a line fits its rule: its claim and those of its premises against the rule's templates, and what is asked besides.
+pub mod claim;
+pub mod preset;
+pub mod side;

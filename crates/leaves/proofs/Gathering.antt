@@ -1,0 +1,215 @@
+-- Leaves gathered: what the slots hold, and the ways through the functions, one law for each.
+use Prim.Native.Nat.{ℕ, zero, suc, _+_, _-_, _*_, _≤_, _<_}
+use mathlib.Core.Path.{_≡_, refl, ap, ap₂, sym, _∙_}
+use mathlib.Core.List.{List, [], _∷_}
+use mathlib.Core.Bool.{Bool, true, false, _||_}
+use native.Mathlib.Omega.{arith}
+use lib.ListN.{length, getD, set, length-set}
+use lib.Seq.{getD-set-same, getD-set-other}
+use lib.Dec.{ltb, eqb}
+use borrow.Author.Tests.{lt-ltb, le-ltb, eq-eqb, ne-eqb, ltb-true, ltb-false}
+use Rattle.logic.specs.Rows.{isIn}
+use Rattle.formula.specs.Codes.{pick, member}
+use Rattle.formula.specs.Tree.{Tree, none, node, nodeAt, skim, grow, part, Skim}
+use Rattle.formula.specs.declared.node.Node.{Node}
+use Rattle.formula.proofs.Nodes.{skim-zero, skim-step}
+use Rattle.formula.proofs.Ends.{lower}
+use Rattle.compare.specs.Same.{sameTree}
+use Rattle.leaves.specs.Slots.{slots, slotTree, leafSlot, numbers, slotAt, slotFrom, slotOf, kept}
+use Rattle.leaves.specs.Gather.{Gathered, many, keys, putT, gatherT, view, withSlot}
+use Rattle.leaves.specs.declared.slot.Slot.{Slot}
+use Rattle.leaves.specs.declared.gather.Leaves.{Leaves}
+use Rattle.leaves.proofs.Slots.{leaf-slot, from-next, of-is}
+
+pub kept-none : (s q : List ℕ) → kept s q 0 ≡ []
+unfolding kept
+kept-none s q = refl
+
+pub kept-step : (s q : List ℕ) (n : ℕ) → kept s q (suc n) ≡ slotAt s q n ∷ kept s q n
+unfolding kept
+kept-step s q n = refl
+
+kept-length : (s q : List ℕ) (n : ℕ) → length (kept s q n) ≡ n
+kept-length s q zero = rw kept-none
+kept-length s q (suc n) = rw (kept-step s q n) (ap suc (kept-length s q n))
+
+in-none : (t : Tree) → isIn sameTree t [] ≡ false
+unfolding isIn
+in-none t = refl
+
+in-step : (t u : Tree) (l : List Tree) → isIn sameTree t (u ∷ l) ≡ (sameTree t u || isIn sameTree t l)
+unfolding isIn
+in-step t u l = refl
+
+-- a tree is among the first n if its slot is below n
+module _ (s q : List ℕ) (t : Tree) where
+  pub from-least : (d j : ℕ) → j ≤ slotFrom s q d j t
+  unfolding slotFrom
+  from-least zero j = omega arith
+  from-least (suc d) j = go (sameTree t (slotAt s q j)) (from-least d (suc j))
+    where
+      go : (b : Bool) → suc j ≤ slotFrom s q d (suc j) t → j ≤ pick b j (slotFrom s q d (suc j) t)
+      go true h = omega arith
+      go false h = omega arith
+
+  from-skip : (n : ℕ) → n ≤ slots → n ≤ slotOf s q t → slotOf s q t ≡ slotFrom s q (slots - n) n t
+  from-skip zero h g = of-is s q t
+  from-skip (suc n) h g = go (sameTree t (slotAt s q n)) (from-skip n (omega arith) (omega arith) ∙ from-next s q n t (omega arith))
+    where
+      go : (b : Bool) → slotOf s q t ≡ pick b n (slotFrom s q (slots - (n + 1)) (n + 1) t) → slotOf s q t ≡ slotFrom s q (slots - suc n) (suc n) t
+      go true e = absurd (omega arith)
+      go false e = let f : n + 1 ≡ suc n = omega arith in rw (← f) e
+
+  pub in-kept : (n : ℕ) → n ≤ slots → isIn sameTree t (kept s q n) ≡ ltb (slotOf s q t) n
+  in-kept zero h = let e : 0 ≤ slotOf s q t = omega arith in rw (kept-none, in-none, le-ltb _ _ e)
+  in-kept (suc n) h = rw (kept-step s q n, in-step) (go (ltb (slotOf s q t) n) (sameTree t (slotAt s q n)) refl refl (in-kept n (omega arith)))
+    where
+      go : (a b : Bool) → ltb (slotOf s q t) n ≡ a → sameTree t (slotAt s q n) ≡ b → isIn sameTree t (kept s q n) ≡ ltb (slotOf s q t) n → (sameTree t (slotAt s q n) || isIn sameTree t (kept s q n)) ≡ ltb (slotOf s q t) (suc n)
+      go true true ea eb ih = let l : slotOf s q t < suc n = omega (arith, ltb-true (slotOf s q t) n ea) in rw (eb, lt-ltb _ _ l)
+      go true false ea eb ih = let l : slotOf s q t < suc n = omega (arith, ltb-true (slotOf s q t) n ea) in rw (eb, ih, ea, lt-ltb _ _ l)
+      go false true ea eb ih =
+          let f : slotOf s q t ≡ n = from-skip n (omega arith) (ltb-false (slotOf s q t) n ea) ∙ from-next s q n t (omega arith) ∙ rw eb in
+          let l : slotOf s q t < suc n = omega arith in
+          rw (eb, lt-ltb _ _ l)
+      go false false ea eb ih =
+          let f : slotOf s q t ≡ slotFrom s q (slots - (n + 1)) (n + 1) t = from-skip n (omega arith) (ltb-false (slotOf s q t) n ea) ∙ from-next s q n t (omega arith) ∙ rw eb in
+          let l : suc n ≤ slotOf s q t = omega (arith, from-least (slots - (n + 1)) (n + 1)) in
+          rw (eb, ih, ea, le-ltb _ _ l)
+
+-- a slot that is written
+module _ (q : List ℕ) (n : ℕ) (p : Slot) where
+  abbrev written : List ℕ
+  written = set (set (set q (3 * n) (p .place)) (3 * n + 1) (p .operand)) (3 * n + 2) (p .left)
+
+  other : (i : ℕ) → i < 3 * n → getD written i 0 ≡ getD q i 0
+  other i h =
+      getD-set-other (set (set q (3 * n) (p .place)) (3 * n + 1) (p .operand)) (3 * n + 2) i (p .left) 0 (λ e. omega arith)
+      ∙ getD-set-other (set q (3 * n) (p .place)) (3 * n + 1) i (p .operand) 0 (λ e. omega arith)
+      ∙ getD-set-other q (3 * n) i (p .place) 0 (λ e. omega arith)
+
+  numbers-other : (j : ℕ) → j < n → numbers written j ≡ numbers q j
+  unfolding numbers
+  numbers-other j h i = record { place = other (3 * j) (omega arith) i; operand = other (3 * j + 1) (omega arith) i; left = other (3 * j + 2) (omega arith) i }
+
+  module _ (b : 3 * n + 2 < length q) where
+    first : getD written (3 * n) 0 ≡ p .place
+    first =
+        getD-set-other (set (set q (3 * n) (p .place)) (3 * n + 1) (p .operand)) (3 * n + 2) (3 * n) (p .left) 0 (λ e. omega arith)
+        ∙ getD-set-other (set q (3 * n) (p .place)) (3 * n + 1) (3 * n) (p .operand) 0 (λ e. omega arith)
+        ∙ getD-set-same q (3 * n) (p .place) 0 (omega arith)
+
+    second : getD written (3 * n + 1) 0 ≡ p .operand
+    second =
+        getD-set-other (set (set q (3 * n) (p .place)) (3 * n + 1) (p .operand)) (3 * n + 2) (3 * n + 1) (p .left) 0 (λ e. omega arith)
+        ∙ getD-set-same (set q (3 * n) (p .place)) (3 * n + 1) (p .operand) 0 (omega (arith, length-set q (3 * n) (p .place)))
+
+    third : getD written (3 * n + 2) 0 ≡ p .left
+    third = getD-set-same (set (set q (3 * n) (p .place)) (3 * n + 1) (p .operand)) (3 * n + 2) (p .left) 0 (omega (arith, length-set q (3 * n) (p .place), length-set (set q (3 * n) (p .place)) (3 * n + 1) (p .operand)))
+
+    numbers-same : numbers written n ≡ p
+    unfolding numbers
+    numbers-same i = record { place = first i; operand = second i; left = third i }
+
+  kept-other : (s : List ℕ) (m : ℕ) → m ≤ n → kept s written m ≡ kept s q m
+  unfolding slotAt
+  kept-other s zero h = kept-none s written ∙ sym (kept-none s q)
+  kept-other s (suc m) h =
+      kept-step s written m
+      ∙ ap₂ (λ (p : Slot) (l : List Tree). slotTree s p ∷ l) (numbers-other m (omega arith)) (kept-other s m (omega arith))
+      ∙ sym (kept-step s q m)
+
+  kept-written : (s : List ℕ) → 3 * n + 2 < length q → kept s written (n + 1) ≡ slotTree s p ∷ kept s q n
+  unfolding slotAt
+  kept-written s b =
+      let e : n + 1 ≡ suc n = omega arith in
+      rw e (kept-step s written n ∙ ap₂ (λ (p : Slot) (l : List Tree). slotTree s p ∷ l) (numbers-same b) (kept-other s n (omega arith)))
+
+-- a leaf put among the others
+put-none : (m : Gathered) → putT none m ≡ m
+unfolding putT
+put-none many = refl
+put-none (keys k) = refl
+
+put-many : (c o : ℕ) (l r : Tree) → putT (node c o l r) many ≡ many
+unfolding putT
+put-many c o l r = refl
+
+put-keys : (c o : ℕ) (l r : Tree) (k : List Tree) → putT (node c o l r) (keys k) ≡ pick (isIn sameTree (node c o l r) k) (keys k) (pick (ltb (length k) slots) (keys (node c o l r ∷ k)) many)
+unfolding putT
+put-keys c o l r k = refl
+
+put-some : (c o : ℕ) (l r t : Tree) (k : List Tree) → t ≡ node c o l r → putT t (keys k) ≡ pick (isIn sameTree t k) (keys k) (pick (ltb (length k) slots) (keys (t ∷ k)) many)
+put-some c o l r t k e = rw e (put-keys c o l r k)
+
+pub view-keys : (s : List ℕ) (g : Leaves) → g .count ≤ slots → view s g ≡ keys (kept s (g .slots) (g .count))
+unfolding view
+view-keys s g h = rw (le-ltb _ _ h)
+
+pub view-many : (s : List ℕ) (g : Leaves) → slots < g .count → view s g ≡ many
+unfolding view
+view-many s g h = rw (lt-ltb _ _ h)
+
+module _ (s : List ℕ) (at left : ℕ) (g : Leaves) where
+  pub put-zero : left ≡ 0 → view s g ≡ putT (skim s left at .tree) (view s g)
+  put-zero z = rw (skim-zero s left at z, put-none)
+
+  pub put-over : (left ≡ 0 → ⊥) → slots < g .count → view s g ≡ putT (skim s left at .tree) (view s g)
+  put-over z h = rw (view-many s g h, skim-step s left at z, put-many)
+
+  module _ (r : ℕ) (z : left ≡ 0 → ⊥) (h : g .count ≤ slots) (er : r ≡ slotOf s (g .slots) (skim s left at .tree)) where
+    put-by : putT (skim s left at .tree) (view s g) ≡ pick (ltb r (g .count)) (keys (kept s (g .slots) (g .count))) (pick (ltb (g .count) slots) (keys (skim s left at .tree ∷ kept s (g .slots) (g .count))) many)
+    put-by =
+        ap (putT (skim s left at .tree)) (view-keys s g h)
+        ∙ put-some _ _ _ _ (skim s left at .tree) (kept s (g .slots) (g .count)) (ap (λ (u : Skim). u .tree) (skim-step s left at z))
+        ∙ rw (kept-length s (g .slots) (g .count), in-kept s (g .slots) (skim s left at .tree) (g .count) h, er)
+
+    pub put-there : r < g .count → view s g ≡ putT (skim s left at .tree) (view s g)
+    put-there l = view-keys s g h ∙ sym (put-by ∙ rw (lt-ltb _ _ l))
+
+    pub put-new : (p : Slot) (w : Leaves) → length (g .slots) ≡ 36 → g .count ≤ r → p ≡ leafSlot s at left → w ≡ withSlot g p → view s w ≡ putT (skim s left at .tree) (view s g)
+    unfolding withSlot
+    put-new p w len l ep ew = ap (view s) ew ∙ go (ltb (g .count) slots) refl ∙ sym (put-by ∙ rw (le-ltb _ _ l))
+      where
+        go : (b : Bool) → ltb (g .count) slots ≡ b → view s (withSlot g p) ≡ pick (ltb (g .count) slots) (keys (skim s left at .tree ∷ kept s (g .slots) (g .count))) many
+        go true e =
+            let n : g .count < slots = ltb-true (g .count) slots e in
+            let m : g .count + 1 ≤ slots = omega arith in
+            let b : 3 * g .count + 2 < length (g .slots) = omega arith in
+            rw e (view-keys s (record { count = g .count + 1; slots = written (g .slots) (g .count) p }) m ∙ ap keys (kept-written (g .slots) (g .count) p s b ∙ ap (λ (t : Tree). t ∷ kept s (g .slots) (g .count)) (ap (slotTree s) ep ∙ leaf-slot s at left z)))
+        go false e =
+            let m : slots < slots + 1 = omega arith in
+            rw e (view-many s (record { count = slots + 1; slots = g .slots }) m)
+
+pub ruleset puts = (put-zero, put-over, put-there, put-new)
+
+-- the leaves of a tree
+gather-none : (w : ℕ) (m : Gathered) → gatherT w none m ≡ m
+unfolding gatherT
+gather-none w m = refl
+
+gather-node : (w c o : ℕ) (l r : Tree) (m : Gathered) → gatherT w (node c o l r) m ≡ pick (member w c) (putT (node c o l r) m) (gatherT w l (gatherT w r m))
+unfolding gatherT
+gather-node w c o l r m = refl
+
+module _ (s : List ℕ) (k at w : ℕ) (g : Leaves) where
+  pub gather-zero : k ≡ 0 → view s g ≡ gatherT w (skim s k at .tree) (view s g)
+  gather-zero z = rw (skim-zero s k at z, gather-none)
+
+  module _ (x : Node) (b : Bool) (z : k ≡ 0 → ⊥) (e : x ≡ nodeAt s at) (eb : b ≡ member w (x .code)) where
+    pub gather-here : (h : Leaves) → b ≡ true → view s h ≡ putT (skim s k at .tree) (view s g) → view s h ≡ gatherT w (skim s k at .tree) (view s g)
+    gather-here h d f = f ∙ rw (skim-step s k at z, ← e, gather-node, ← eb, d)
+
+    pub gather-leaf : b ≡ false → x .parts ≡ 0 → view s g ≡ gatherT w (skim s k at .tree) (view s g)
+    gather-leaf d p = rw (skim-step s k at z, ← e, gather-node, ← eb, d, p) (simp gather-none)
+
+    pub gather-one : (h : Leaves) → b ≡ false → (x .parts ≡ 0 → ⊥) → x .parts ≡ 1 → view s h ≡ gatherT w (skim s (k - 1) (x .next) .tree) (view s g) → view s h ≡ gatherT w (skim s k at .tree) (view s g)
+    gather-one h d p o f = f ∙ rw (skim-step s k at z, ← e, gather-node, ← eb, d, o, gather-none)
+
+    pub gather-two : (m : ℕ) (h i : Leaves) → b ≡ false → (x .parts ≡ 0 → ⊥) → (x .parts ≡ 1 → ⊥) → m ≡ skim s (k - 1) (x .next) .end
+        → view s h ≡ gatherT w (skim s (k - 1) m .tree) (view s g) → view s i ≡ gatherT w (skim s (k - 1) (x .next) .tree) (view s h) → view s i ≡ gatherT w (skim s k at .tree) (view s g)
+    gather-two m h i d p o em f f₂ =
+        let t₀ : 0 < x .parts = omega arith in
+        let t₁ : 1 < x .parts = omega arith in
+        f₂ ∙ rw (f, em, skim-step s k at z, ← e, gather-node, ← eb, d, lt-ltb _ _ t₀, lt-ltb _ _ t₁)
+
+pub ruleset gathers = (gather-zero, gather-here, gather-leaf, gather-one, gather-two, lower)

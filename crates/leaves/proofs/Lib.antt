@@ -1,0 +1,3 @@
+pub mod Slots
+pub mod Counts
+pub mod Gathering

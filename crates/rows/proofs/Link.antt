@@ -1,0 +1,339 @@
+-- The link to the logic: by rows and by truth table of formulas' trees are the logic's own. One fact on rows serves both, `embedded`.
+use Prim.Native.Nat.{ℕ, zero, suc, _+_, _*_, _%_, _^_, _≤_, _<_}
+use mathlib.Core.Path.{_≡_, refl, ap, ap₂, sym, _∙_, subst, fun-ext}
+use mathlib.Core.List.{List, [], _∷_, _++_, map}
+use mathlib.Core.Bool.{Bool, true, false, cond, not, _&&_, _||_}
+use native.Mathlib.Omega.{arith}
+use native.Mathlib.Nat.{pow-suc, pow-le-pow-right, mul-comm}
+use native.Mathlib.Decide.{ℕ-discrete}
+use lib.ListN.{length}
+use lib.Dec.{T, eqb, ltb, leb, leb→le, le→leb}
+use borrow.Author.Tests.{le-ltb, ne-eqb, leb-false}
+use Rattle.logic.specs.Base.{all}
+use Rattle.logic.specs.Code
+use Rattle.logic.specs.Code.{byte}
+use Rattle.logic.specs.Eval.{Env, value, test}
+use Rattle.logic.specs.Formula.{Sort, Formula, Value, Test, Assertion, same, Formula.const, Formula.reg, Formula.word, Formula.sum, Formula.equal, Formula.less, Formula.and, Formula.or, Formula.unsync, Formula.cov, Formula.sees, Formula.bothA, Formula.eitherA, Formula.start, Formula.holds}
+use Rattle.logic.specs.Limits
+use Rattle.logic.specs.Names.{Name, n-reg, n-word, n-unsync, n-cov, Name-discrete, names}
+use Rattle.logic.specs.Rows.{choose, isIn, distinct, allBelow, allRows, rowCount, everyRow, same-name, meaning, choices, byRows}
+use Rattle.logic.specs.Table
+use Rattle.logic.specs.Table.{Imp, Leaf, l-assertion, l-test, same-leaf, inRow, impRow, byTable}
+use Rattle.logic.proofs.Base.{bool-ext, is-true}
+use Rattle.formula.specs.Codes.{pick, member}
+use Rattle.formula.specs.Tree.{Tree, none, node}
+use Rattle.compare.specs.Same.{sameTree}
+use Rattle.trees.specs.Raw.{raw}
+use Rattle.trees.proofs.Raw.{raw-same, tree-eq, tree-refl}
+use Rattle.leaves.specs.Gather.{leavesT}
+use Rattle.leaves.specs.Count.{choicesBy, choicesT}
+use Rattle.rows.specs.Value.{sumOf, combine, valueT}
+use Rattle.rows.specs.Claim.{ImpT, impT, claimT, leavesAll}
+use Rattle.rows.specs.Every.{everyT}
+use Rattle.rows.specs.Rows.{byNames, rowsT, byClaims, tableT}
+
+map-join : {A B : Type 0} (g : A → B) (l m : List A) → map g (l ++ m) ≡ map g l ++ map g m
+map-join g [] m = refl
+map-join g (x ∷ l) m = ap (λ (k : List _). g x ∷ k) (map-join g l m)
+
+join-none : {A : Type 0} (l : List A) → l ++ [] ≡ l
+join-none [] = refl
+join-none (x ∷ l) = ap (λ (k : List _). x ∷ k) (join-none l)
+
+-- keys that stand for others, one for one: what is counted and tried over the ones is over the others
+module _ {K L : Type 0} (eqK : K → K → Bool) (eqL : L → L → Bool) (g : K → L) (alike : (a b : K) → eqL (g a) (g b) ≡ eqK a b) where
+  in-map : (m : K) (l : List K) → isIn eqL (g m) (map g l) ≡ isIn eqK m l
+  unfolding isIn
+  in-map m [] = refl
+  in-map m (n ∷ l) = ap₂ (λ (a b : Bool). a || b) (alike m n) (in-map m l)
+
+  distinct-map : (l : List K) → distinct eqL (map g l) ≡ map g (distinct eqK l)
+  unfolding distinct
+  distinct-map [] = refl
+  distinct-map (n ∷ l) = ap₂ (λ (b : Bool) (k : List L). cond b k (g n ∷ k)) (in-map n l) (distinct-map l) ∙ go (isIn eqK n l)
+    where
+      go : (b : Bool) → cond b (map g (distinct eqK l)) (g n ∷ map g (distinct eqK l)) ≡ map g (cond b (distinct eqK l) (n ∷ distinct eqK l))
+      go true = refl
+      go false = refl
+
+  module _ (cK : K → ℕ) (cL : L → ℕ) (as-many : (k : K) → cL (g k) ≡ cK k) where
+    count-map : (l : List K) → rowCount eqL cL (map g l) ≡ rowCount eqK cK l
+    count-map [] = refl
+    count-map (n ∷ l) = ap₂ (λ (a b : ℕ). a * b) (as-many n) (count-map l)
+
+    module _ (f : (L → ℕ) → Bool) (h : (K → ℕ) → Bool) (say : (ν : L → ℕ) → f ν ≡ h (λ k. ν (g k))) where
+      rows-map : (l : List K) (ν : L → ℕ) → allRows eqL cL (map g l) f ν ≡ allRows eqK cK l h (λ k. ν (g k))
+      unfolding choose
+      rows-map [] ν = say ν
+      rows-map (n ∷ l) ν =
+          ap₂ allBelow (as-many n)
+          (fun-ext (λ k. rows-map l (choose eqL ν (g n) k) ∙ ap (allRows eqK cK l h) (fun-ext (λ m. ap (λ (b : Bool). cond b k (ν (g m))) (alike m n)))))
+
+      pub embedded : (l : List K) → everyRow eqL cL (map g l) f ≡ everyRow eqK cK l h
+      embedded l = ap (λ (k : List L). allRows eqL cL k f (λ x. 0)) (distinct-map l) ∙ rows-map (distinct eqK l) (λ x. 0)
+
+    pub embedded-count : (l : List K) → rowCount eqL cL (distinct eqL (map g l)) ≡ rowCount eqK cK (distinct eqK l)
+    embedded-count l = ap (rowCount eqL cL) (distinct-map l) ∙ count-map (distinct eqK l)
+
+-- names and their trees
+rawName : Name → Tree
+rawName (n-reg r) = node (byte Code.reg) r none none
+rawName (n-word x) = node (byte Code.word) x none none
+rawName (n-unsync x) = node (byte Code.unsync) x none none
+rawName (n-cov x) = node (byte Code.cov) x none none
+
+nameOf : Tree → Name
+nameOf none = n-reg 0
+nameOf (node c o l r) = pick (eqb c (byte Code.reg)) (n-reg o) (pick (eqb c (byte Code.word)) (n-word o) (pick (eqb c (byte Code.unsync)) (n-unsync o) (n-cov o)))
+
+name-of : (n : Name) → nameOf (rawName n) ≡ n
+unfolding rawName nameOf
+name-of (n-reg r) = refl
+name-of (n-word x) = refl
+name-of (n-unsync x) = refl
+name-of (n-cov x) = refl
+
+name-alike : (m n : Name) → sameTree (rawName m) (rawName n) ≡ same-name m n
+unfolding same-name
+name-alike m n = go (Name-discrete ℕ-discrete m n)
+  where
+    go : (d : Dec (m ≡ n)) → sameTree (rawName m) (rawName n) ≡ elim d as (λ x. Bool) [ yes q ↦ true | no q ↦ false ]
+    go (yes q) = bool-ext (sameTree (rawName m) (rawName n)) true (λ h. tt) (λ h. subst (λ (k : Name). T (sameTree (rawName m) (rawName k))) q (tree-refl (rawName m)))
+    go (no q) = bool-ext (sameTree (rawName m) (rawName n)) false (λ h. q (sym (name-of m) ∙ ap nameOf (tree-eq (rawName m) (rawName n) h) ∙ name-of n)) (λ h. absurd h)
+
+name-choices : (R : ℕ) (n : Name) → choicesT R (rawName n) ≡ choices R n
+unfolding choicesT choicesBy rawName
+name-choices R (n-reg r) = refl
+name-choices R (n-word x) = refl
+name-choices R (n-unsync x) = refl
+name-choices R (n-cov x) = refl
+
+module _ (R : ℕ) where
+  abbrev N : ℕ
+  N = byNames R .leaves
+
+  names-value : (a : Value) → leavesT N (raw a) ≡ map rawName (names a)
+  unfolding leavesT member rawName
+  names-value (const n) = refl
+  names-value (reg r) = refl
+  names-value (word x) = refl
+  names-value (sum a b) = ap₂ (λ (l m : List Tree). l ++ m) (names-value a) (names-value b) ∙ sym (map-join rawName (names a) (names b))
+
+  names-test : (e : Test) → leavesT N (raw e) ≡ map rawName (names e)
+  unfolding leavesT member rawName
+  names-test Formula.false = refl
+  names-test (equal a b) = ap₂ (λ (l m : List Tree). l ++ m) (names-value a) (names-value b) ∙ sym (map-join rawName (names a) (names b))
+  names-test (less a b) = ap₂ (λ (l m : List Tree). l ++ m) (names-value a) (names-value b) ∙ sym (map-join rawName (names a) (names b))
+  names-test (Formula.not e) = ap (λ (l : List Tree). l ++ []) (names-test e) ∙ join-none (map rawName (names e))
+  names-test (and e f) = ap₂ (λ (l m : List Tree). l ++ m) (names-test e) (names-test f) ∙ sym (map-join rawName (names e) (names f))
+  names-test (or e f) = ap₂ (λ (l m : List Tree). l ++ m) (names-test e) (names-test f) ∙ sym (map-join rawName (names e) (names f))
+  names-test (unsync x) = refl
+  names-test (cov x) = refl
+
+-- tests by their numbers: 1 for true
+bit : (b : Bool) → eqb (pick {A = ℕ} b 1 0) 1 ≡ b
+bit true = refl
+bit false = refl
+
+bit-not : (b : Bool) → eqb (pick {A = ℕ} b 0 1) 1 ≡ not b
+bit-not true = refl
+bit-not false = refl
+
+bit-and : (b : Bool) (n : ℕ) → eqb (pick b n 0) 1 ≡ (b && eqb n 1)
+bit-and true n = refl
+bit-and false n = refl
+
+bit-or : (b : Bool) (n : ℕ) → eqb (pick b 1 n) 1 ≡ (b || eqb n 1)
+bit-or true n = refl
+bit-or false n = refl
+
+module _ (R : ℕ) (some : R ≡ 0 → ⊥) (ν : Tree → ℕ) where
+  abbrev ρ : Env
+  ρ = meaning (λ n. ν (rawName n))
+
+  abbrev v : Tree → ℕ
+  v = valueT (byNames R) ν
+
+  sum-is : (a b : ℕ) → sumOf R a b ≡ (a + b) % R
+  unfolding sumOf
+  sum-is a b = rw (ne-eqb R 0 some)
+
+  raw-value : (a : Value) → v (raw a) ≡ value R ρ a
+  unfolding valueT combine member rawName
+  raw-value (const n) = refl
+  raw-value (reg r) = refl
+  raw-value (word x) = refl
+  raw-value (sum a b) = sum-is (v (raw a)) (v (raw b)) ∙ ap₂ (λ (m n : ℕ). (m + n) % R) (raw-value a) (raw-value b)
+
+  raw-test : (e : Test) → eqb (v (raw e)) 1 ≡ test R ρ e
+  unfolding valueT combine member rawName
+  raw-test Formula.false = refl
+  raw-test (equal a b) = bit (eqb (v (raw a)) (v (raw b))) ∙ ap₂ eqb (raw-value a) (raw-value b)
+  raw-test (less a b) = bit (ltb (v (raw a)) (v (raw b))) ∙ ap₂ ltb (raw-value a) (raw-value b)
+  raw-test (Formula.not e) = bit-not (eqb (v (raw e)) 1) ∙ ap not (raw-test e)
+  raw-test (and e f) = bit-and (eqb (v (raw e)) 1) (v (raw f)) ∙ ap₂ (λ (a b : Bool). a && b) (raw-test e) (raw-test f)
+  raw-test (or e f) = bit-or (eqb (v (raw e)) 1) (v (raw f)) ∙ ap₂ (λ (a b : Bool). a || b) (raw-test e) (raw-test f)
+  raw-test (unsync x) = refl
+  raw-test (cov x) = refl
+
+pub raw-rows : (R : ℕ) → 2 ≤ R → (e f : Test) → rowsT R (raw e) (raw f) ≡ byRows R e f
+unfolding rowsT
+raw-rows R two e f =
+    rw (le-ltb R 2 two)
+    (ap₂ (λ (a b : Bool). a && b)
+    (ap (λ (l : List Tree). leb (rowCount sameTree (choicesT R) (distinct sameTree l)) Limits.rows) listed
+    ∙ ap (λ (n : ℕ). leb n Limits.rows) (embedded-count same-name sameTree rawName name-alike (choices R) (choicesT R) (name-choices R) (names e ++ names f)))
+    (ap (λ (l : List Tree). everyRow sameTree (choicesT R) l (claimT (byNames R) [] c)) listed
+    ∙ embedded same-name sameTree rawName name-alike (choices R) (choicesT R) (name-choices R) (claimT (byNames R) [] c) (λ ν. not (test R (meaning ν) e) || test R (meaning ν) f)
+    (λ ν. ap₂ (λ (a b : Bool). not a || b) (raw-test R (λ z. omega arith) ν e) (raw-test R (λ z. omega arith) ν f)) (names e ++ names f)))
+  where
+    c : ImpT
+    c = record { left = raw e; right = raw f }
+
+    listed : leavesAll (byNames R .leaves) (c ∷ []) ≡ map rawName (names e ++ names f)
+    listed = join-none (leavesT (byNames R .leaves) (raw e) ++ leavesT (byNames R .leaves) (raw f)) ∙ ap₂ (λ (l m : List Tree). l ++ m) (names-test R e) (names-test R f) ∙ sym (map-join rawName (names e) (names f))
+
+-- leaves and their trees
+rawLeaf : Leaf → Tree
+rawLeaf (l-assertion a) = raw a
+rawLeaf (l-test e) = raw e
+
+-- an assertion's code is above a test's
+codeOf : Tree → ℕ
+codeOf none = 0
+codeOf (node c o l r) = c
+
+assertion-code : (a : Assertion) → 24 ≤ codeOf (raw a)
+unfolding codeOf
+assertion-code (sees t i) = omega arith
+assertion-code (bothA a b) = omega arith
+assertion-code (eitherA a b) = omega arith
+assertion-code start = omega arith
+assertion-code (holds e) = omega arith
+
+test-code : (e : Test) → codeOf (raw e) < 24
+unfolding codeOf
+test-code Formula.false = omega arith
+test-code (equal a b) = omega arith
+test-code (less a b) = omega arith
+test-code (Formula.not e) = omega arith
+test-code (and e f) = omega arith
+test-code (or e f) = omega arith
+test-code (unsync x) = omega arith
+test-code (cov x) = omega arith
+
+leaf-alike : (a b : Leaf) → sameTree (rawLeaf a) (rawLeaf b) ≡ same-leaf a b
+unfolding same-leaf rawLeaf
+leaf-alike (l-assertion a) (l-assertion b) = raw-same a b
+leaf-alike (l-assertion a) (l-test f) =
+    bool-ext (sameTree (raw a) (raw f)) false (λ h. let e = ap codeOf (tree-eq (raw a) (raw f) h) in omega (arith, assertion-code a, test-code f)) (λ h. absurd h)
+leaf-alike (l-test e) (l-assertion b) =
+    bool-ext (sameTree (raw e) (raw b)) false (λ h. let d = ap codeOf (tree-eq (raw e) (raw b) h) in omega (arith, assertion-code b, test-code e)) (λ h. absurd h)
+leaf-alike (l-test e) (l-test f) = raw-same e f
+
+two-choices : (t : Tree) → choicesT 2 t ≡ 2
+unfolding choicesT choicesBy
+two-choices none = refl
+two-choices (node c o l r) = go (eqb c (byte Code.reg)) (eqb c (byte Code.word))
+  where
+    go : (a b : Bool) → pick a 2 (pick {A = ℕ} b 2 2) ≡ 2
+    go true b = refl
+    go false true = refl
+    go false false = refl
+
+abbrev C : ℕ
+C = byClaims .leaves
+
+leaves-test : (e : Test) → leavesT C (raw e) ≡ map rawLeaf (Table.leavesT e)
+unfolding leavesT member rawLeaf
+leaves-test Formula.false = refl
+leaves-test (equal a b) = refl
+leaves-test (less a b) = refl
+leaves-test (Formula.not e) = ap (λ (l : List Tree). l ++ []) (leaves-test e) ∙ join-none (map rawLeaf (Table.leavesT e))
+leaves-test (and e f) = ap₂ (λ (l m : List Tree). l ++ m) (leaves-test e) (leaves-test f) ∙ sym (map-join rawLeaf (Table.leavesT e) (Table.leavesT f))
+leaves-test (or e f) = ap₂ (λ (l m : List Tree). l ++ m) (leaves-test e) (leaves-test f) ∙ sym (map-join rawLeaf (Table.leavesT e) (Table.leavesT f))
+leaves-test (unsync x) = refl
+leaves-test (cov x) = refl
+
+leaves-assertion : (a : Assertion) → leavesT C (raw a) ≡ map rawLeaf (Table.leaves a)
+unfolding leavesT member rawLeaf
+leaves-assertion (sees t i) = refl
+leaves-assertion (bothA a b) = ap₂ (λ (l m : List Tree). l ++ m) (leaves-assertion a) (leaves-assertion b) ∙ sym (map-join rawLeaf (Table.leaves a) (Table.leaves b))
+leaves-assertion (eitherA a b) = ap₂ (λ (l m : List Tree). l ++ m) (leaves-assertion a) (leaves-assertion b) ∙ sym (map-join rawLeaf (Table.leaves a) (Table.leaves b))
+leaves-assertion start = refl
+leaves-assertion (holds e) = ap (λ (l : List Tree). l ++ []) (leaves-test e) ∙ join-none (map rawLeaf (Table.leavesT e))
+
+abbrev pub rawImp : Imp → ImpT
+rawImp p = record { left = raw (p .left); right = raw (p .right) }
+
+leaves-all : (ps : List Imp) → leavesAll C (map rawImp ps) ≡ map rawLeaf (Table.leavesAll ps)
+leaves-all [] = refl
+leaves-all (p ∷ ps) =
+    ap₂ (λ (l m : List Tree). l ++ m)
+    (ap₂ (λ (l m : List Tree). l ++ m) (leaves-assertion (p .left)) (leaves-assertion (p .right)) ∙ sym (map-join rawLeaf (Table.leaves (p .left)) (Table.leaves (p .right))))
+    (leaves-all ps)
+    ∙ sym (map-join rawLeaf (Table.leaves (p .left) ++ Table.leaves (p .right)) (Table.leavesAll ps))
+
+module _ (ν : Tree → ℕ) where
+  abbrev at : Leaf → ℕ
+  at l = ν (rawLeaf l)
+
+  abbrev tv : Tree → ℕ
+  tv = valueT byClaims ν
+
+  table-test : (e : Test) → eqb (tv (raw e)) 1 ≡ Table.tableT (λ e. eqb (at (l-test e)) 1) e
+  unfolding valueT combine member rawLeaf
+  table-test Formula.false = refl
+  table-test (equal a b) = refl
+  table-test (less a b) = refl
+  table-test (Formula.not e) = bit-not (eqb (tv (raw e)) 1) ∙ ap not (table-test e)
+  table-test (and e f) = bit-and (eqb (tv (raw e)) 1) (tv (raw f)) ∙ ap₂ (λ (a b : Bool). a && b) (table-test e) (table-test f)
+  table-test (or e f) = bit-or (eqb (tv (raw e)) 1) (tv (raw f)) ∙ ap₂ (λ (a b : Bool). a || b) (table-test e) (table-test f)
+  table-test (unsync x) = refl
+  table-test (cov x) = refl
+
+  table-assertion : (a : Assertion) → eqb (tv (raw a)) 1 ≡ inRow at a
+  unfolding valueT combine member rawLeaf
+  table-assertion (sees t i) = refl
+  table-assertion (bothA a b) = bit-and (eqb (tv (raw a)) 1) (tv (raw b)) ∙ ap₂ (λ (a b : Bool). a && b) (table-assertion a) (table-assertion b)
+  table-assertion (eitherA a b) = bit-or (eqb (tv (raw a)) 1) (tv (raw b)) ∙ ap₂ (λ (a b : Bool). a || b) (table-assertion a) (table-assertion b)
+  table-assertion start = refl
+  table-assertion (holds e) = table-test e
+
+  table-imp : (p : Imp) → impT byClaims ν (rawImp p) ≡ impRow at p
+  table-imp p = ap₂ (λ (a b : Bool). not a || b) (table-assertion (p .left)) (table-assertion (p .right))
+
+  table-all : (ps : List Imp) → all (impT byClaims ν) (map rawImp ps) ≡ all (impRow at) ps
+  table-all [] = refl
+  table-all (p ∷ ps) = ap₂ (λ (a b : Bool). a && b) (table-imp p) (table-all ps)
+
+-- ten leaves of two choices each: so many rows
+module _ {K : Type 0} (eq : K → K → Bool) where
+  power : (l : List K) → rowCount eq (λ k. 2) l ≡ 2 ^ length l
+  power [] = refl
+  power (k ∷ l) = ap (λ (n : ℕ). 2 * n) (power l) ∙ mul-comm 2 (2 ^ length l) ∙ sym (pow-suc 2 (length l))
+
+power-limit : (n m : ℕ) → leb (2 ^ n) (2 ^ m) ≡ leb n m
+power-limit n m = bool-ext (leb (2 ^ n) (2 ^ m)) (leb n m) (λ h. go (leb n m) refl (leb→le (2 ^ n) (2 ^ m) h)) (λ h. le→leb (2 ^ n) (2 ^ m) (pow-le-pow-right (omega arith) (leb→le n m h)))
+  where
+    positive : (m : ℕ) → 1 ≤ 2 ^ m
+    positive zero = omega arith
+    positive (suc m) = omega (arith, pow-suc 2 m, positive m)
+
+    go : (b : Bool) → leb n m ≡ b → 2 ^ n ≤ 2 ^ m → T b
+    go true e h = tt
+    go false e h =
+        let k : suc m ≤ n = leb-false n m e in
+        let p : 2 ^ suc m ≤ 2 ^ n = pow-le-pow-right (omega arith) k in
+        omega (arith, pow-suc 2 m, positive m)
+
+pub raw-table : (ps : List Imp) (c : Imp) → tableT (map rawImp ps) (rawImp c) ≡ byTable ps c
+unfolding tableT
+raw-table ps c =
+    ap₂ (λ (a b : Bool). a && b)
+    (ap (λ (l : List Tree). leb (rowCount sameTree (choicesT 2) (distinct sameTree l)) (2 ^ Limits.leaves)) (leaves-all (c ∷ ps))
+    ∙ ap (λ (n : ℕ). leb n (2 ^ Limits.leaves)) (embedded-count same-leaf sameTree rawLeaf leaf-alike (λ l. 2) (choicesT 2) (λ l. two-choices (rawLeaf l)) (Table.leavesAll (c ∷ ps)) ∙ power same-leaf (distinct same-leaf (Table.leavesAll (c ∷ ps))))
+    ∙ power-limit (length (distinct same-leaf (Table.leavesAll (c ∷ ps)))) Limits.leaves)
+    (ap (λ (l : List Tree). everyRow sameTree (choicesT 2) l (claimT byClaims (map rawImp ps) (rawImp c))) (leaves-all (c ∷ ps))
+    ∙ embedded same-leaf sameTree rawLeaf leaf-alike (λ l. 2) (choicesT 2) (λ l. two-choices (rawLeaf l)) (claimT byClaims (map rawImp ps) (rawImp c)) (λ ν. not (all (impRow ν) ps) || impRow ν c)
+    (λ ν. ap₂ (λ (a b : Bool). not a || b) (table-all ν ps) (table-imp ν c)) (Table.leavesAll (c ∷ ps)))

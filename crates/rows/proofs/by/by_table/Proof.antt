@@ -1,0 +1,16 @@
+use Rattle.rows.proofs.Entry.{entries}
+use Rattle.formula.proofs.Auto.{tests}
+use Rattle.rows.proofs.by.by_table.Statement.{statement}
+use Rattle.rows.proofs.by.by_table.Tie as tie
+
+pub by-table-spec : {M : Type 1} → statement M
+by-table-spec =
+    tie.close
+    (tie.spec
+    (λ c κs. search (entries, tests))
+    (λ c. search (entries, tests))
+    (λ c. search (entries, tests))
+    (λ c. search (entries, tests))
+    (λ c. search (entries, tests))
+    (λ c κs. search (entries, tests))
+    (λ c. search (entries, tests)))

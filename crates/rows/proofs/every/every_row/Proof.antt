@@ -1,0 +1,15 @@
+use Rattle.rows.proofs.Trying.{everys}
+use Rattle.formula.proofs.Auto.{tests}
+use Rattle.rows.proofs.every.every_row.Statement.{statement}
+use Rattle.rows.proofs.every.every_row.Tie as tie
+
+pub every-row-spec : {M : Type 1} → statement M
+every-row-spec =
+    tie.close
+    (tie.spec
+    (λ c κs. search (everys, tests))
+    (λ c. search (everys, tests))
+    (λ c κs. search (everys, tests))
+    (λ c. search (everys, tests))
+    (λ c κs. search (everys, tests))
+    (λ c. search (everys, tests)))

@@ -1,0 +1,4 @@
+pub mod Value
+pub mod Claim
+pub mod Every
+pub mod Rows

@@ -1,0 +1,43 @@
+-- By rows, and by truth table.
+use Prim.Native.Nat.{ℕ, _-_, _^_}
+use mathlib.Core.List.{List, [], _∷_}
+use mathlib.Core.Bool.{Bool, true, false}
+use lib.ListN.{getD}
+use lib.Dec.{ltb}
+use Rattle.logic.specs.Code
+use Rattle.logic.specs.Code.{Code}
+use Rattle.logic.specs.Limits
+use Rattle.limits.specs.Limits.{nesting}
+use Rattle.formula.specs.Codes.{pick, setOf}
+use Rattle.formula.specs.Tree.{Tree}
+use Rattle.rows.specs.Claim.{ImpT, impOf, premisesFrom}
+use Rattle.rows.specs.Every.{everyT}
+use Rattle.rows.specs.declared.value.Reading.{Reading}
+use Rattle.rows.specs.declared.claim.Task.{Task}
+use Rattle.rows.specs.declared.by.Implications.{Implications}
+
+-- by rows the leaves are names
+abbrev pub byNames : ℕ → Reading
+byNames R = record { leaves = setOf (Code.reg ∷ Code.word ∷ Code.unsync ∷ Code.cov ∷ []); range = R }
+
+-- wherever the left test is true the right one is, at every row, of which there are at most 4,096. (A range of one value or none has no rows to try)
+unfoldable pub rowsT : ℕ → Tree → Tree → Bool
+rowsT R u v = pick (ltb R 2) false (everyT (byNames R) Limits.rows [] (record { left = u; right = v }))
+
+-- in a truth table the leaves are what a thread sees, start and comparisons; each is true or false. (Flags do not stand under `holds`)
+abbrev pub byClaims : Reading
+byClaims = record { leaves = setOf (Code.sees ∷ Code.start ∷ Code.equal ∷ Code.less ∷ Code.unsync ∷ Code.cov ∷ []); range = 2 }
+
+-- the line is true in each row in which every premise is; ten leaves at most, so many rows
+unfoldable pub tableT : List ImpT → ImpT → Bool
+tableT ps c = everyT byClaims (2 ^ Limits.leaves) ps c
+
+-- the line, and its premises
+abbrev pub taskOf : Implications → Task
+taskOf p = record { premises = p .count - 1; left = nesting; right = nesting }
+
+abbrev pub lineOf : List ℕ → Implications → ImpT
+lineOf s p = impOf s (p .left) (p .right) (taskOf p) 0
+
+abbrev pub premisesOf : List ℕ → Implications → List ImpT
+premisesOf s p = premisesFrom s (p .left) (p .right) (taskOf p) 0

@@ -1,0 +1,5 @@
+// Tests by rows, and truth tables: one mechanism for both, by what stands as a leaf.
+pub mod by;
+pub mod claim;
+pub mod every;
+pub mod value;
