@@ -1,7 +1,7 @@
 //! Tools that judge the proved checker from outside.
 //!
 //! Everything here is written from the public description of the image format,
-//! the rules and the machine (document 01), and from nothing else.
+//! the rules and the machine (the scope page), and from nothing else.
 
 pub mod assemble;
 pub mod checker;

@@ -90,7 +90,7 @@ fn start_is_the_start_state_only() {
     assert!(!super::truth::is_true(&Assertion::Start, &other, &state));
 }
 
-/// Whether a list of views satisfies an interval, as document 01 says it.
+/// Whether a list of views satisfies an interval, as the scope page says it.
 fn satisfies(state: &State, interval: &Interval, list: &[View]) -> bool {
     match interval {
         Interval::All(test) => list.iter().all(|&view| test.evaluate(&state.seen_at(view))),

@@ -1,7 +1,7 @@
 //! Stored sets of images with their verdicts.
 //!
 //! The verdicts are the independent checker's. Each case has a label that names
-//! the clause of document 01 that it tests.
+//! the clause of the scope page that it tests.
 
 pub mod edits;
 pub mod formulas;

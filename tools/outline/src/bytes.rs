@@ -3,7 +3,7 @@
 use crate::formula::*;
 use Node::*;
 
-/// Limits of paper 01 on one formula.
+/// Limits of the scope page on one formula.
 pub const MOST_BYTES: usize = 255;
 pub const MOST_NESTING: usize = 16;
 

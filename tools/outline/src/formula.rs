@@ -9,7 +9,7 @@ use std::rc::Rc;
 /// A formula; shared, so that copies are cheap.
 pub type F = Rc<Node>;
 
-/// The formula codes of paper 01, one constructor each.
+/// The formula codes of the scope page, one constructor each.
 #[derive(Debug, Clone, PartialEq, Eq, Hash, PartialOrd, Ord)]
 pub enum Node {
     Const(u8),
@@ -223,7 +223,7 @@ pub fn any(a: &F, like: &dyn Fn(&Node) -> bool) -> bool {
     like(a) || a.kids().any(|k| any(k, like))
 }
 
-/// Nesting as paper 01 counts it: a formula without a sub-formula has 1.
+/// Nesting as the scope page counts it: a formula without a sub-formula has 1.
 pub fn nesting(a: &F) -> usize {
     1 + a.kids().map(nesting).max().unwrap_or(0)
 }

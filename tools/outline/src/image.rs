@@ -259,7 +259,7 @@ fn read_line(image: &mut Image, body: &[u8]) -> Result<(), String> {
 mod tests {
     use super::*;
 
-    /// Paper 01's first small image.
+    /// The scope page's first small image.
     pub const SMALL: [u8; 51] = [
         6, 0, 1, 0, 1, 1, 0, 0, 5, 0, 2, 0, 0x1c, 0x0b, 8, 3, 0, 2, 0, 0x1b, 3, 0, 3, 0, 1, 4, 0,
         4, 0, 1, 0, 10, 0, 5, 0, 0x14, 0, 0, 2, 0, 1, 0, 0, 4, 0, 6, 0, 1, 0, 0, 0,

@@ -1,4 +1,4 @@
-//! The obligations of an outline, in the order of paper 01.
+//! The obligations of an outline, in the order of the scope page.
 
 use crate::formula::*;
 use crate::program::{Op, Program};

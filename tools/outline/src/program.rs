@@ -3,7 +3,7 @@
 use crate::bytes::Counts;
 use crate::formula::F;
 
-/// The operations of paper 01, numbered as in the image.
+/// The operations of the scope page, numbered as in the image.
 #[derive(Debug, Clone, Copy, PartialEq, Eq)]
 pub enum Op {
     Assign = 0,
