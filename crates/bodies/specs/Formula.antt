@@ -1,10 +1,11 @@
 -- A formula's record.
+use mathlib.Core.Bool.{cond}
 use mathlib.Core.List.{List}
 use Prim.Native.Nat.{ℕ}
 use lib.Dec.{eqb}
 use lib.ListN.{length}
 use Rattle.limits.specs.Limits as Limits
-use Rattle.limits.specs.Numbers.{pick, within}
+use Rattle.limits.specs.Numbers.{within}
 use Rattle.frames.specs.Fault.{unless}
 use Rattle.frames.specs.declared.fault.Fault.{Fault}
 use Rattle.frames.specs.declared.fault.Fault.the-variants.{Body, Number, Formula}
@@ -20,7 +21,7 @@ unfoldable pub countsOf : Sizes → Counts
 countsOf z = record { threads = z .threads; words = z .words; registers = z .registers; values = Limits.values }
 
 unfoldable pub faultOf : ℕ → Fault
-faultOf c = pick (eqb c range) Number Formula
+faultOf c = cond (eqb c range) Number Formula
 
 unfoldable pub read : Reading → Checked
 read (Reading.Formula s) = Passed

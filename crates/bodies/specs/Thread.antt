@@ -1,11 +1,11 @@
 -- A thread's record: codes 5 to 9.
-use mathlib.Core.Bool.{Bool, true, not, _&&_}
+use mathlib.Core.Bool.{Bool, true, not, _&&_, cond}
 use mathlib.Core.List.{List, []}
 use Prim.Native.Nat.{ℕ}
 use lib.Dec.{eqb, leb}
 use lib.ListN.{getD}
 use Rattle.logic.specs.Opcode as Opcode
-use Rattle.limits.specs.Numbers.{pick, nth, every}
+use Rattle.limits.specs.Numbers.{nth, every}
 use Rattle.frames.specs.Fault.{unless, also}
 use Rattle.frames.specs.declared.fault.Fault.the-variants.{Sort, Owner}
 use Rattle.frames.specs.declared.fault.Checked.{Checked}
@@ -20,19 +20,19 @@ use Rattle.bodies.specs.Use.{treeOf, plainOf}
 
 -- instruction formulas are values, for a branch a test
 unfoldable pub wanted : ℕ → ℕ
-wanted op = pick (eqb op Opcode.branch) Codes.test Codes.value
+wanted op = cond (eqb op Opcode.branch) Codes.test Codes.value
 
 -- 8: of its sort, without 2, 14, 15. Formula k is body k of the image; a load has none
 unfoldable pub sorted : List (List ℕ) → Instruction → Bool
-sorted l i = pick (eqb (i .formula) 0) true (plainOf (wanted (i .operation)) (getD l (i .formula) []))
+sorted l i = cond (eqb (i .formula) 0) true (plainOf (wanted (i .operation)) (getD l (i .formula) []))
 
 -- 9: assignments and loads set a register of the thread
 unfoldable pub targetOwned : List (List ℕ) → ℕ → Instruction → Bool
-targetOwned l t i = pick (leb (i .operation) Opcode.acquire) (eqb (nth (owners (getD l 0 [])) (i .a) 0) t) true
+targetOwned l t i = cond (leb (i .operation) Opcode.acquire) (eqb (nth (owners (getD l 0 [])) (i .a) 0) t) true
 
 -- and formulas are over its registers
 unfoldable pub formulaOwned : List (List ℕ) → ℕ → Instruction → Bool
-formulaOwned l t i = pick (eqb (i .formula) 0) true (not (occurs (foreign t) (owners (getD l 0 [])) (treeOf (getD l (i .formula) []))))
+formulaOwned l t i = cond (eqb (i .formula) 0) true (not (occurs (foreign t) (owners (getD l 0 [])) (treeOf (getD l (i .formula) []))))
 
 unfoldable pub owned : List (List ℕ) → ℕ → Instruction → Bool
 owned l t i = targetOwned l t i && formulaOwned l t i

@@ -2,18 +2,18 @@
 use Prim.Native.Nat.{ℕ, zero, suc, _+_, _-_, _≤_, _<_}
 use mathlib.Core.Path.{_≡_, refl, ap, sym, _∙_}
 use mathlib.Core.List.{List, [], _∷_}
-use mathlib.Core.Bool.{Bool, true, false}
+use mathlib.Core.Bool.{Bool, true, false, cond, _&&_}
 use native.Mathlib.Omega.{arith}
 use lib.ListN.{length, getD}
 use lib.Dec.{ltb, eqb}
 use borrow.Author.Tests.{lt-ltb, eq-eqb, ne-eqb, eqb-true, eqb-false}
 use Rattle.logic.specs.Code
 use Rattle.logic.specs.Code.{byte}
-use Rattle.formula.specs.Codes.{pick, among, partCount}
+use Rattle.formula.specs.Codes.{among, partCount}
 use Rattle.formula.specs.Tree.{Tree, none, node, Skim, nodeAt, skim, part, grow}
 use Rattle.formula.specs.declared.node.Node.{Node}
 use Rattle.formula.proofs.Nodes.{skim-zero, skim-step, parts-of}
-use Rattle.compare.specs.Same.{both, sameTree, sameOf, pairOf, pairAt}
+use Rattle.compare.specs.Same.{sameTree, sameOf, pairOf, pairAt}
 use Rattle.compare.specs.Replace.{isName, replaceT, nameCode, oneName, wordOnly, standsFor, replacedOf, hitAt}
 use Rattle.compare.specs.declared.replace.Replacing.{Replacing}
 use Rattle.compare.specs.declared.replace.Replacing.the-variants.{Formula, Word}
@@ -26,29 +26,29 @@ use Rattle.compare.specs.declared.same.Same.{Same}
 use Rattle.compare.specs.declared.same.Same.the-variants.{Yes, No}
 
 -- the clauses of comparison
-same-none : sameTree none none ≡ true
+pub same-none : sameTree none none ≡ true
 unfolding sameTree
 same-none = refl
 
-same-none-node : (c o : ℕ) (l r : Tree) → sameTree none (node c o l r) ≡ false
+pub same-none-node : (c o : ℕ) (l r : Tree) → sameTree none (node c o l r) ≡ false
 unfolding sameTree
 same-none-node c o l r = refl
 
-same-node-none : (c o : ℕ) (l r : Tree) → sameTree (node c o l r) none ≡ false
+pub same-node-none : (c o : ℕ) (l r : Tree) → sameTree (node c o l r) none ≡ false
 unfolding sameTree
 same-node-none c o l r = refl
 
-same-nodes : (c o d p : ℕ) (l r m s : Tree) → sameTree (node c o l r) (node d p m s) ≡ both (eqb c d) (both (eqb o p) (both (sameTree l m) (sameTree r s)))
+pub same-nodes : (c o d p : ℕ) (l r m s : Tree) → sameTree (node c o l r) (node d p m s) ≡ (eqb c d && (eqb o p && (sameTree l m && sameTree r s)))
 unfolding sameTree
 same-nodes c o d p l r m s = refl
 
-both-true : (a : Bool) → both a true ≡ a
-both-true true = refl
-both-true false = refl
+and-true : (a : Bool) → (a && true) ≡ a
+and-true true = refl
+and-true false = refl
 
 -- g of one tree compared with another
 abbrev simOf : (Tree → Tree) → Skim → Skim → Same
-simOf g u v = pick (sameTree (g (u .tree)) (v .tree)) (Yes (u .end) (v .end)) No
+simOf g u v = cond (sameTree (g (u .tree)) (v .tree)) (Yes (u .end) (v .end)) No
 
 abbrev thenSame : Same → (ℕ → ℕ → Same) → Same
 thenSame (Yes p q) f = f p q
@@ -61,9 +61,9 @@ follow f (Ended p q) = Yes p q
 follow f (One p q) = f p q
 follow f (Two p q) = thenSame (f p q) f
 
-both-then : (x : Bool) (e d : ℕ) (y : ℕ → ℕ → Bool) (a : ℕ → ℕ → Same) → pick (both x (y e d)) (a e d) No ≡ thenSame (pick x (Yes e d) No) (λ p q. pick (y p q) (a p q) No)
-both-then true e d y a = refl
-both-then false e d y a = refl
+and-then : (x : Bool) (e d : ℕ) (y : ℕ → ℕ → Bool) (a : ℕ → ℕ → Same) → cond (x && y e d) (a e d) No ≡ thenSame (cond x (Yes e d) No) (λ p q. cond (y p q) (a p q) No)
+and-then true e d y a = refl
+and-then false e d y a = refl
 
 -- the parts of a node, read by f
 abbrev leftOf : (ℕ → Skim) → Node → Tree
@@ -107,24 +107,24 @@ module _ (g : Tree → Tree) (g0 : g none ≡ none) (s : List ℕ) (a m b k : �
           rw (e₁, e₂, skim-step s m a (eqb-false _ _ e₁), skim-step s k b (eqb-false _ _ e₂), gn (eqb-false _ _ e₁) (λ p. skim s (m - 1) p), same-nodes, e₃, e₄, e₅, alike e₃, n, g0, same-none)
       go false false true true false true e₁ e₂ e₃ e₄ e₅ e₆ =
           let n : x .parts ≡ 1 = eqb-true _ _ e₆ in
-          rw (e₁, e₂, skim-step s m a (eqb-false _ _ e₁), skim-step s k b (eqb-false _ _ e₂), gn (eqb-false _ _ e₁) (λ p. skim s (m - 1) p), same-nodes, e₃, e₄, e₅, e₆, alike e₃, n, g0, same-none, both-true)
+          rw (e₁, e₂, skim-step s m a (eqb-false _ _ e₁), skim-step s k b (eqb-false _ _ e₂), gn (eqb-false _ _ e₁) (λ p. skim s (m - 1) p), same-nodes, e₃, e₄, e₅, e₆, alike e₃, n, g0, same-none, and-true)
       go false false true true false false e₁ e₂ e₃ e₄ e₅ e₆ =
           let z₀ : x .parts ≡ 0 → ⊥ = eqb-false _ _ e₅ in
           let z₁ : x .parts ≡ 1 → ⊥ = eqb-false _ _ e₆ in
           let t₀ : 0 < x .parts = omega arith in
           let t₁ : 1 < x .parts = omega arith in
           rw (e₁, e₂, skim-step s m a (eqb-false _ _ e₁), skim-step s k b (eqb-false _ _ e₂), gn (eqb-false _ _ e₁) (λ p. skim s (m - 1) p), same-nodes, e₃, e₄, e₅, e₆, alike e₃, lt-ltb _ _ t₀, lt-ltb _ _ t₁)
-          (both-then (sameTree (g (skim s (m - 1) (x .next) .tree)) (skim s (k - 1) (y .next) .tree)) (skim s (m - 1) (x .next) .end) (skim s (k - 1) (y .next) .end) (λ p q. sameTree (g (skim s (m - 1) p .tree)) (skim s (k - 1) q .tree)) (λ p q. Yes (skim s (m - 1) p .end) (skim s (k - 1) q .end)))
+          (and-then (sameTree (g (skim s (m - 1) (x .next) .tree)) (skim s (k - 1) (y .next) .tree)) (skim s (m - 1) (x .next) .end) (skim s (k - 1) (y .next) .end) (λ p q. sameTree (g (skim s (m - 1) p .tree)) (skim s (k - 1) q .tree)) (λ p q. Yes (skim s (m - 1) p .end) (skim s (k - 1) q .end)))
 
 -- parts are read only where nesting is left, on both sides
-shallow : (m k a b : ℕ) (t : Pair) (u : Pair) → t ≡ pick (eqb m 0) (pick (eqb k 0) (Ended a b) Differ) (pick (eqb k 0) Differ u)
+shallow : (m k a b : ℕ) (t : Pair) (u : Pair) → t ≡ cond (eqb m 0) (cond (eqb k 0) (Ended a b) Differ) (cond (eqb k 0) Differ u)
     → ((p q : ℕ) → t ≡ One p q → (1 ≤ m) × (1 ≤ k)) × ((p q : ℕ) → t ≡ Two p q → (1 ≤ m) × (1 ≤ k))
 shallow m k a b t u = go (eqb m 0) (eqb k 0) refl refl
   where
     Deep : Type 0
     Deep = ((p q : ℕ) → t ≡ One p q → (1 ≤ m) × (1 ≤ k)) × ((p q : ℕ) → t ≡ Two p q → (1 ≤ m) × (1 ≤ k))
 
-    go : (i j : Bool) → eqb m 0 ≡ i → eqb k 0 ≡ j → t ≡ pick i (pick j (Ended a b) Differ) (pick j Differ u) → Deep
+    go : (i j : Bool) → eqb m 0 ≡ i → eqb k 0 ≡ j → t ≡ cond i (cond j (Ended a b) Differ) (cond j Differ u) → Deep
     go true true d e h = ((λ p q o. let z : _≡_ {A = ℕ} 0 1 = cc in absurd (omega arith)), (λ p q o. let z : _≡_ {A = ℕ} 0 1 = cc in absurd (omega arith)))
     go true false d e h = ((λ p q o. let z : _≡_ {A = ℕ} 0 1 = cc in absurd (omega arith)), (λ p q o. let z : _≡_ {A = ℕ} 0 1 = cc in absurd (omega arith)))
     go false true d e h = ((λ p q o. let z : _≡_ {A = ℕ} 0 1 = cc in absurd (omega arith)), (λ p q o. let z : _≡_ {A = ℕ} 0 1 = cc in absurd (omega arith)))
@@ -215,7 +215,7 @@ pub ruleset hits = (hit-zero, hit-name, hit-operand, hit-code)
 
 pub ruleset pairs = (pair-ended, pair-left, pair-right, pair-deep)
 
-replace-node : (σ : ℕ → ℕ → Tree) (c o : ℕ) (l r : Tree) → replaceT σ (node c o l r) ≡ pick (isName c) (σ c o) (node c o (replaceT σ l) (replaceT σ r))
+replace-node : (σ : ℕ → ℕ → Tree) (c o : ℕ) (l r : Tree) → replaceT σ (node c o l r) ≡ cond (isName c) (σ c o) (node c o (replaceT σ l) (replaceT σ r))
 unfolding replaceT
 replace-node σ c o l r = refl
 
@@ -228,7 +228,7 @@ name-parts : (c : ℕ) → isName c ≡ true → partCount c ≡ 0
 unfolding isName partCount
 name-parts c h = go (eqb c (byte Code.reg)) (eqb c (byte Code.word)) refl refl h
   where
-    go : (i j : Bool) → eqb c (byte Code.reg) ≡ i → eqb c (byte Code.word) ≡ j → pick i true (pick j true false) ≡ true → partCount c ≡ 0
+    go : (i j : Bool) → eqb c (byte Code.reg) ≡ i → eqb c (byte Code.word) ≡ j → cond i true (cond j true false) ≡ true → partCount c ≡ 0
     go true j e d h = rw (eqb-true c (byte Code.reg) e)
     go false true e d h = rw (eqb-true c (byte Code.word) d)
     go false false e d h = let z : _≡_ {A = ℕ} 0 1 = cc in absurd (omega arith)
@@ -241,19 +241,19 @@ is-name : (w : Substitution) (c : ℕ) → c ≡ nameCode (w .word) → isName c
 unfolding nameCode isName
 is-name w c = go (w .word)
   where
-    go : (b : Bool) → c ≡ pick b (byte Code.word) (byte Code.reg) → among c (Code.reg ∷ Code.word ∷ []) ≡ true
+    go : (b : Bool) → c ≡ cond b (byte Code.word) (byte Code.reg) → among c (Code.reg ∷ Code.word ∷ []) ≡ true
     go true e = rw e
     go false e = rw e
 
 -- what `hitAt` says
 abbrev isIt : List ℕ → ℕ → Substitution → Bool
-isIt s a w = both (eqb (nodeAt s a .code) (nameCode (w .word))) (eqb (nodeAt s a .operand) (w .number))
+isIt s a w = eqb (nodeAt s a .code) (nameCode (w .word)) && eqb (nodeAt s a .operand) (w .number)
 
 hit-other : (s : List ℕ) (a k : ℕ) (w : Substitution) → hitAt s a k w ≡ Other → (k ≡ 0 → ⊥) → isIt s a w ≡ false
 unfolding hitAt
 hit-other s a k w e z = go (eqb (nodeAt s a .code) (nameCode (w .word))) (eqb (nodeAt s a .operand) (w .number)) (rw (ne-eqb _ _ z) at e)
   where
-    go : (i j : Bool) → pick i (pick j (Name (nodeAt s a .next)) Other) Other ≡ Other → both i j ≡ false
+    go : (i j : Bool) → cond i (cond j (Name (nodeAt s a .next)) Other) Other ≡ Other → (i && j) ≡ false
     go false j d = refl
     go true false d = refl
     go true true d = let z : _≡_ {A = ℕ} 0 1 = cc in absurd (omega arith)
@@ -262,7 +262,7 @@ hit-is : (s : List ℕ) (a k : ℕ) (w : Substitution) (n : ℕ) → hitAt s a k
 unfolding hitAt
 hit-is s a k w n e = go (eqb k 0) (eqb (nodeAt s a .code) (nameCode (w .word))) (eqb (nodeAt s a .operand) (w .number)) refl refl e
   where
-    go : (z i j : Bool) → eqb k 0 ≡ z → eqb (nodeAt s a .code) (nameCode (w .word)) ≡ i → pick z Other (pick i (pick j (Name (nodeAt s a .next)) Other) Other) ≡ Name n → (k ≡ 0 → ⊥) × (both i j ≡ true) × (nodeAt s a .code ≡ nameCode (w .word)) × (nodeAt s a .next ≡ n)
+    go : (z i j : Bool) → eqb k 0 ≡ z → eqb (nodeAt s a .code) (nameCode (w .word)) ≡ i → cond z Other (cond i (cond j (Name (nodeAt s a .next)) Other) Other) ≡ Name n → (k ≡ 0 → ⊥) × ((i && j) ≡ true) × (nodeAt s a .code ≡ nameCode (w .word)) × (nodeAt s a .next ≡ n)
     go true i j e₁ e₂ d = let z : _≡_ {A = ℕ} 0 1 = cc in absurd (omega arith)
     go false false j e₁ e₂ d = let z : _≡_ {A = ℕ} 0 1 = cc in absurd (omega arith)
     go false true false e₁ e₂ d = let z : _≡_ {A = ℕ} 0 1 = cc in absurd (omega arith)
@@ -304,14 +304,14 @@ pub ruleset stands = (stands-formula, stands-word)
 said-yes : (u v : Skim) (p q : ℕ) → sameOf u v ≡ Yes p q → (sameTree (u .tree) (v .tree) ≡ true) × (u .end ≡ p) × (v .end ≡ q)
 said-yes u v p q = go (sameTree (u .tree) (v .tree))
   where
-    go : (t : Bool) → pick t (Yes (u .end) (v .end)) No ≡ Yes p q → (t ≡ true) × (u .end ≡ p) × (v .end ≡ q)
+    go : (t : Bool) → cond t (Yes (u .end) (v .end)) No ≡ Yes p q → (t ≡ true) × (u .end ≡ p) × (v .end ≡ q)
     go true h = (refl, (cc), (cc))
     go false h = let z : _≡_ {A = ℕ} 0 1 = cc in absurd (omega arith)
 
 said-no : (u v : Skim) → sameOf u v ≡ No → sameTree (u .tree) (v .tree) ≡ false
 said-no u v = go (sameTree (u .tree) (v .tree))
   where
-    go : (t : Bool) → pick t (Yes (u .end) (v .end)) No ≡ No → t ≡ false
+    go : (t : Bool) → cond t (Yes (u .end) (v .end)) No ≡ No → t ≡ false
     go true h = let z : _≡_ {A = ℕ} 0 1 = cc in absurd (omega arith)
     go false h = refl
 
@@ -326,7 +326,7 @@ module _ (s : List ℕ) (a m b k : ℕ) (w : Substitution) (h : Hit) (eh : h ≡
   abbrev want : Same
   want = replacedOf w (standsFor s (w .by)) (skim s m a) (skim s k b)
 
-  replaced-name : (n : ℕ) → h ≡ Name n → want ≡ pick (sameTree by (skim s k b .tree)) (Yes n (skim s k b .end)) No
+  replaced-name : (n : ℕ) → h ≡ Name n → want ≡ cond (sameTree by (skim s k b .tree)) (Yes n (skim s k b .end)) No
   unfolding oneName
   replaced-name n d =
       let i = hit-is s a m w n (sym eh ∙ d) in
@@ -349,7 +349,7 @@ module _ (s : List ℕ) (a m b k : ℕ) (w : Substitution) (h : Hit) (eh : h ≡
     through z f = rw replace-node (go (isName (nodeAt s a .code)) refl)
       where
         go : (i : Bool) → isName (nodeAt s a .code) ≡ i
-            → pick i (pick (isIt s a w) by (node (nodeAt s a .code) (nodeAt s a .operand) none none)) (node (nodeAt s a .code) (nodeAt s a .operand) (put (leftOf f (nodeAt s a))) (put (rightOf f (nodeAt s a)))) ≡ node (nodeAt s a .code) (nodeAt s a .operand) (put (leftOf f (nodeAt s a))) (put (rightOf f (nodeAt s a)))
+            → cond i (cond (isIt s a w) by (node (nodeAt s a .code) (nodeAt s a .operand) none none)) (node (nodeAt s a .code) (nodeAt s a .operand) (put (leftOf f (nodeAt s a))) (put (rightOf f (nodeAt s a)))) ≡ node (nodeAt s a .code) (nodeAt s a .operand) (put (leftOf f (nodeAt s a))) (put (rightOf f (nodeAt s a)))
         go true e =
             let p : nodeAt s a .parts ≡ 0 = parts-of s a ∙ name-parts (nodeAt s a .code) e in
             rw (hit-other s a m w (sym eh ∙ o) z, p) (simp replace-none)

@@ -1,13 +1,13 @@
 -- Replacement of names by trees.
 use Prim.Native.Nat.{ℕ}
 use mathlib.Core.List.{List, [], _∷_}
-use mathlib.Core.Bool.{Bool, true, false}
+use mathlib.Core.Bool.{Bool, true, false, cond, _&&_}
 use lib.Dec.{eqb}
 use Rattle.logic.specs.Code
 use Rattle.logic.specs.Code.{byte}
-use Rattle.formula.specs.Codes.{pick, among}
+use Rattle.formula.specs.Codes.{among}
 use Rattle.formula.specs.Tree.{Tree, none, node, Skim, nodeAt, skim}
-use Rattle.compare.specs.Same.{both, sameTree}
+use Rattle.compare.specs.Same.{sameTree}
 use Rattle.compare.specs.declared.same.Same.{Same}
 use Rattle.compare.specs.declared.same.Same.the-variants.{Yes, No}
 use Rattle.compare.specs.declared.replace.Replacing.{Replacing}
@@ -23,14 +23,14 @@ isName c = among c (Code.reg ∷ Code.word ∷ [])
 -- each name of the code c and the number o by σ c o, all at once
 unfoldable pub replaceT : (ℕ → ℕ → Tree) → Tree → Tree
 replaceT σ none = none
-replaceT σ (node c o l r) = pick (isName c) (σ c o) (node c o (replaceT σ l) (replaceT σ r))
+replaceT σ (node c o l r) = cond (isName c) (σ c o) (node c o (replaceT σ l) (replaceT σ r))
 
 unfoldable pub nameCode : Bool → ℕ
-nameCode word = pick word (byte Code.word) (byte Code.reg)
+nameCode word = cond word (byte Code.word) (byte Code.reg)
 
 -- one name, a word's value or a register, by f; the others stay
 unfoldable pub oneName : Bool → ℕ → Tree → ℕ → ℕ → Tree
-oneName word number f c o = pick (both (eqb c (nameCode word)) (eqb o number)) f (node c o none none)
+oneName word number f c o = cond (eqb c (nameCode word) && eqb o number) f (node c o none none)
 
 -- what replaces it
 abbrev pub wordOnly : ℕ → Skim
@@ -41,10 +41,10 @@ standsFor s (Formula at left) = skim s left at
 standsFor s (Word x) = wordOnly x
 
 abbrev pub replacedOf : Substitution → Skim → Skim → Skim → Same
-replacedOf w f u v = pick (sameTree (replaceT (oneName (w .word) (w .number) (f .tree)) (u .tree)) (v .tree)) (Yes (u .end) (v .end)) No
+replacedOf w f u v = cond (sameTree (replaceT (oneName (w .word) (w .number) (f .tree)) (u .tree)) (v .tree)) (Yes (u .end) (v .end)) No
 
 -- whether the name that is replaced stands there
 unfoldable pub hitAt : List ℕ → ℕ → ℕ → Substitution → Hit
 hitAt s a k w =
-    pick (eqb k 0) Other
-    (pick (eqb (nodeAt s a .code) (nameCode (w .word))) (pick (eqb (nodeAt s a .operand) (w .number)) (Name (nodeAt s a .next)) Other) Other)
+    cond (eqb k 0) Other
+    (cond (eqb (nodeAt s a .code) (nameCode (w .word))) (cond (eqb (nodeAt s a .operand) (w .number)) (Name (nodeAt s a .next)) Other) Other)

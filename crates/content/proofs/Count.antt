@@ -1,6 +1,6 @@
 -- As many obligations as the obligations record has numbers.
 use mathlib.Core.Path.{_≡_, refl, ap, sym, _∙_}
-use mathlib.Core.Bool.{Bool, true, false}
+use mathlib.Core.Bool.{Bool, true, false, cond}
 use mathlib.Core.List.{List, [], _∷_, _++_}
 use Prim.Native.Nat.{ℕ, zero, suc, _+_, _-_, _*_, _≤_, _<_}
 use native.Mathlib.Omega.{arith}
@@ -9,7 +9,6 @@ use lib.ListN.{length, getD, length-append, length-map}
 use Rattle.logic.specs.Machine.{Program, Instr, Instr.act, Instr.branch}
 use Rattle.logic.specs.Statement as Statement
 use Rattle.logic.specs.Obligations.{Obligation, Obligation.start, below, upTo, flat, own, acting, instructed, actions, starts, steps, interferences, obligations}
-use Rattle.limits.specs.Numbers.{pick}
 use Rattle.program.specs.declared.sizes.Sizes.{Sizes}
 use Rattle.program.specs.declared.instruction.Instruction.{Instruction}
 use Rattle.program.specs.Thread.{lastPoint, instructions, nothing}
@@ -27,7 +26,7 @@ branch-small : (i : Instruction) → isBranch i ≤ 1
 unfolding isBranch
 branch-small i = go (eqb (i .operation) 6)
   where
-    go : (b : Bool) → pick b 1 0 ≤ 1
+    go : (b : Bool) → cond b 1 0 ≤ 1
     go true = omega arith
     go false = omega arith
 
@@ -95,17 +94,17 @@ module _ (z : Sizes) (l : List (List ℕ)) where
 
   own-length : (t k : ℕ) (i : Instruction) → length (own P t k (instr l i)) ≡ 1 + isBranch i
   unfolding isBranch
-  own-length t k i = go (instr l i) ∙ ap (λ (b : Bool). 1 + pick b 1 0) (branch-is l i)
+  own-length t k i = go (instr l i) ∙ ap (λ (b : Bool). 1 + cond b 1 0) (branch-is l i)
     where
-      go : (c : Instr) → length (own P t k c) ≡ 1 + pick (Statement.isBranch c) 1 0
+      go : (c : Instr) → length (own P t k c) ≡ 1 + cond (Statement.isBranch c) 1 0
       go (act c) = refl
       go (branch e a) = refl
 
   acting-length : (u j t k : ℕ) (i : Instruction) → length (acting P u j t k (instr l i)) ≡ 1 - isBranch i
   unfolding isBranch
-  acting-length u j t k i = go (instr l i) ∙ ap (λ (b : Bool). 1 - pick b 1 0) (branch-is l i)
+  acting-length u j t k i = go (instr l i) ∙ ap (λ (b : Bool). 1 - cond b 1 0) (branch-is l i)
     where
-      go : (c : Instr) → length (acting P u j t k c) ≡ 1 - pick (Statement.isBranch c) 1 0
+      go : (c : Instr) → length (acting P u j t k c) ≡ 1 - cond (Statement.isBranch c) 1 0
       go (act c) = refl
       go (branch e a) = refl
 
@@ -134,9 +133,9 @@ module _ (z : Sizes) (l : List (List ℕ)) where
       omega arith
 
   other-actions : (u j t : ℕ) → t < z .threads → length (actions P (suc u) j (suc t)) ≡ but u (actionsOf z l) t
-  other-actions u j t b = go (eqb (suc t) (suc u)) refl ∙ ap (λ (c : Bool). pick c 0 (actionsOf z l t)) (eqb·suc-suc t u)
+  other-actions u j t b = go (eqb (suc t) (suc u)) refl ∙ ap (λ (c : Bool). cond c 0 (actionsOf z l t)) (eqb·suc-suc t u)
     where
-      go : (c : Bool) → eqb (suc t) (suc u) ≡ c → length (actions P (suc u) j (suc t)) ≡ pick (eqb (suc t) (suc u)) 0 (actionsOf z l t)
+      go : (c : Bool) → eqb (suc t) (suc u) ≡ c → length (actions P (suc u) j (suc t)) ≡ cond (eqb (suc t) (suc u)) 0 (actionsOf z l t)
       go true e = rw (e, actions)
       go false e = rw (e, actions) (thread-actions (suc u) j t b)
 

@@ -1,6 +1,6 @@
 -- The formulas of a sound image, each of the sort by which it is read.
 use mathlib.Core.Path.{_≡_, refl, ap, sym, _∙_}
-use mathlib.Core.Bool.{Bool, true, false}
+use mathlib.Core.Bool.{Bool, true, false, cond}
 use mathlib.Core.List.{List, []}
 use Prim.Native.Nat.{ℕ, _≤_}
 use lib.Dec.{T, eqb}
@@ -13,7 +13,6 @@ use Rattle.logic.specs.Eval.{bounded}
 use Rattle.logic.proofs.Base.{is-true}
 use Rattle.limits.specs.Limits as Limits
 use Rattle.formula.specs.Codes as Codes
-use Rattle.formula.specs.Codes.{pick}
 use Rattle.limits.specs.Limits.{nesting}
 use Rattle.formula.specs.Tree.{Tree, skim}
 use Rattle.formula.specs.Reader.{malformed, faultAt, sortOf, readingOf}
@@ -40,8 +39,8 @@ read-passed : (b : List ℕ) (n : Counts) → read (readingOf b n) ≡ Passed �
 unfolding read readingOf
 read-passed b n e = go (eqb (faultAt b n nesting (sortOf b) 0) 0) (eqb (skim b nesting 0 .end) (length b)) e
   where
-    go : (c d : Bool) → read (pick c (pick d (Reading.Formula (sortOf b)) (Reading.Fault malformed)) (Reading.Fault (faultAt b n nesting (sortOf b) 0))) ≡ Passed
-        → pick c (pick d (Reading.Formula (sortOf b)) (Reading.Fault malformed)) (Reading.Fault (faultAt b n nesting (sortOf b) 0)) ≡ Reading.Formula (sortOf b)
+    go : (c d : Bool) → read (cond c (cond d (Reading.Formula (sortOf b)) (Reading.Fault malformed)) (Reading.Fault (faultAt b n nesting (sortOf b) 0))) ≡ Passed
+        → cond c (cond d (Reading.Formula (sortOf b)) (Reading.Fault malformed)) (Reading.Fault (faultAt b n nesting (sortOf b) 0)) ≡ Reading.Formula (sortOf b)
     go true true h = refl
     go true false h = absurd (faulty-passed (faultOf malformed) h)
     go false d h = absurd (faulty-passed (faultOf (faultAt b n nesting (sortOf b) 0)) h)

@@ -1,6 +1,6 @@
 -- Instructions as the logic has them.
 use mathlib.Core.Path.{_≡_, refl, sym, _∙_}
-use mathlib.Core.Bool.{Bool, true, false}
+use mathlib.Core.Bool.{Bool, true, false, cond}
 use mathlib.Core.List.{List}
 use Prim.Native.Nat.{ℕ, _≤_}
 use native.Mathlib.Omega.{arith}
@@ -10,14 +10,13 @@ use borrow.Author.Tests.{eqb-true, ne-eqb, le-ltb}
 use Rattle.logic.specs.Opcode as Opcode
 use Rattle.logic.specs.Machine.{Action, Instr, Instr.act, Instr.branch}
 use Rattle.logic.specs.Statement.{isBranch}
-use Rattle.limits.specs.Numbers.{pick}
 use Rattle.program.specs.declared.sizes.Sizes.{Sizes}
 use Rattle.program.specs.declared.instruction.Instruction.{Instruction}
 use Rattle.program.specs.Thread.{instructions, nothing}
 use Rattle.records.specs.Places.{threadBody, instructionOf}
 use Rattle.content.specs.Program.{instr}
 
-act-first : (b : Bool) (c : Action) (i : Instr) → isBranch i ≡ false → isBranch (pick b (act c) i) ≡ false
+act-first : (b : Bool) (c : Action) (i : Instr) → isBranch i ≡ false → isBranch (cond b (act c) i) ≡ false
 act-first true c i h = refl
 act-first false c i h = h
 

@@ -1,6 +1,6 @@
 -- Sums over 0 to n - 1, and the lengths of lists that have a part for each number.
 use mathlib.Core.Path.{_≡_, refl, ap, ap₂, sym, _∙_}
-use mathlib.Core.Bool.{Bool, true, false}
+use mathlib.Core.Bool.{Bool, true, false, cond}
 use mathlib.Core.List.{List, [], _∷_, _++_, map}
 use Prim.Native.Nat.{ℕ, zero, suc, _+_, _-_, _*_, _≤_, _<_}
 use native.Mathlib.Nat.{mul-add, add-mul}
@@ -9,7 +9,6 @@ use lib.Dec.{eqb}
 use lib.ListN.{length, length-append}
 use borrow.Author.Tests.{ne-eqb, eqb-true, eqb-false}
 use Rattle.logic.specs.Obligations.{below, upTo, flat}
-use Rattle.limits.specs.Numbers.{pick}
 
 unfoldable pub sum : (ℕ → ℕ) → ℕ → ℕ
 sum f zero = 0
@@ -46,7 +45,7 @@ sum-least f n u h = let i = sum-part f n u h in omega arith
 
 -- the sum but for the number u
 abbrev pub but : ℕ → (ℕ → ℕ) → ℕ → ℕ
-but u f k = pick (eqb k u) 0 (f k)
+but u f k = cond (eqb k u) 0 (f k)
 
 but-past : (f : ℕ → ℕ) (u n : ℕ) → n ≤ u → sum (but u f) n ≡ sum f n
 but-past f u n h = sum-same (but u f) f n (λ k b. let q : k ≡ u → ⊥ = omega arith in rw (ne-eqb k u q))

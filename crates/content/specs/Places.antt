@@ -1,11 +1,11 @@
 -- Where the code finds what an image says: a formula by its position in the image, a line and an instruction by their numbers and positions.
+use mathlib.Core.Bool.{cond}
 use mathlib.Core.List.{List}
 use Prim.Native.Nat.{ℕ, _+_}
 use lib.Dec.{eqb, leb, ltb}
 use lib.ListN.{length, getD}
 use Rattle.logic.specs.Opcode as Opcode
 use Rattle.limits.specs.Limits as Limits
-use Rattle.limits.specs.Numbers.{pick}
 use Rattle.frames.specs.Records.{startOf}
 use Rattle.program.specs.declared.instruction.Instruction.{Instruction}
 use Rattle.content.specs.Certificate.{left, right}
@@ -14,11 +14,11 @@ use Rattle.content.specs.declared.acting.Acting.{Acting}
 
 -- the body of the record at a position: behind its length and its kind. Past the last record there is none
 unfoldable pub bodyStart : List ℕ → ℕ → ℕ
-bodyStart s p = pick (ltb p (length s)) (p + 4) (length s)
+bodyStart s p = cond (ltb p (length s)) (p + 4) (length s)
 
 -- where formula k stands; where there is none, the end of the image, whose tree is that of the constant 0
 unfoldable pub formulaAt : List ℕ → ℕ → ℕ
-formulaAt s k = pick (eqb k 0) (length s) (pick (ltb k Limits.records) (bodyStart s (startOf s k)) (length s))
+formulaAt s k = cond (eqb k 0) (length s) (cond (ltb k Limits.records) (bodyStart s (startOf s k)) (length s))
 
 -- the line in a body
 unfoldable pub lineIn : List ℕ → List ℕ → Line
@@ -37,6 +37,6 @@ acts op x r f = record { operation = op; word = x; register = r; formula = f }
 -- an instruction's word, register and formula: assignments and loads have a register, loads, stores and swaps a word
 unfoldable pub actingOf : List ℕ → Instruction → Acting
 actingOf s i =
-    pick (leb (i .operation) Opcode.acquire) (acts (i .operation) (i .b) (i .a) (formulaAt s (i .formula)))
-    (pick (leb (i .operation) Opcode.swap) (acts (i .operation) (i .a) 0 (formulaAt s (i .formula)))
+    cond (leb (i .operation) Opcode.acquire) (acts (i .operation) (i .b) (i .a) (formulaAt s (i .formula)))
+    (cond (leb (i .operation) Opcode.swap) (acts (i .operation) (i .a) 0 (formulaAt s (i .formula)))
     (acts (i .operation) 0 0 (length s)))

@@ -1,5 +1,5 @@
 -- The program of an image and its outline.
-use mathlib.Core.Bool.{true, false}
+use mathlib.Core.Bool.{true, false, cond}
 use mathlib.Core.List.{List, []}
 use Prim.Native.Nat.{ℕ, _+_, _-_}
 use lib.Dec.{eqb, ltb}
@@ -9,7 +9,7 @@ use Rattle.logic.specs.Opcode as Opcode
 use Rattle.logic.specs.Machine.{Program, Mode.store, Mode.swap, Action.assign, Action.load, Action.write, Instr, Instr.act, Instr.branch}
 use Rattle.logic.specs.Obligations.{Outline}
 use Rattle.limits.specs.Limits as Limits
-use Rattle.limits.specs.Numbers.{pick, nth, numbers}
+use Rattle.limits.specs.Numbers.{nth, numbers}
 use Rattle.program.specs.declared.sizes.Sizes.{Sizes}
 use Rattle.program.specs.declared.instruction.Instruction.{Instruction}
 use Rattle.program.specs.Header.{startValues}
@@ -26,13 +26,13 @@ module _ (l : List (List ℕ)) where
   -- an instruction as its operation says
   unfoldable pub instr : Instruction → Instr
   instr i =
-      pick (eqb (i .operation) Opcode.assign) (act (assign (i .a) (formula l Sort.value (i .formula))))
-      (pick (eqb (i .operation) Opcode.load) (act (load false (i .a) (i .b)))
-      (pick (eqb (i .operation) Opcode.acquire) (act (load true (i .a) (i .b)))
-      (pick (eqb (i .operation) Opcode.store) (act (write (store false) (i .a) (formula l Sort.value (i .formula))))
-      (pick (eqb (i .operation) Opcode.release) (act (write (store true) (i .a) (formula l Sort.value (i .formula))))
-      (pick (eqb (i .operation) Opcode.swap) (act (write swap (i .a) (formula l Sort.value (i .formula))))
-      (pick (eqb (i .operation) Opcode.branch) (branch (formula l Sort.test (i .formula)) (i .a))
+      cond (eqb (i .operation) Opcode.assign) (act (assign (i .a) (formula l Sort.value (i .formula))))
+      (cond (eqb (i .operation) Opcode.load) (act (load false (i .a) (i .b)))
+      (cond (eqb (i .operation) Opcode.acquire) (act (load true (i .a) (i .b)))
+      (cond (eqb (i .operation) Opcode.store) (act (write (store false) (i .a) (formula l Sort.value (i .formula))))
+      (cond (eqb (i .operation) Opcode.release) (act (write (store true) (i .a) (formula l Sort.value (i .formula))))
+      (cond (eqb (i .operation) Opcode.swap) (act (write swap (i .a) (formula l Sort.value (i .formula))))
+      (cond (eqb (i .operation) Opcode.branch) (branch (formula l Sort.test (i .formula)) (i .a))
       idle))))))
 
 module _ (z : Sizes) (l : List (List ℕ)) where
@@ -57,8 +57,8 @@ module _ (z : Sizes) (l : List (List ℕ)) where
   -- the formula of point k of thread t: a formula per point, threads in order. 0 where there is none
   unfoldable pub outlineNumber : ℕ → ℕ → ℕ
   outlineNumber t k =
-      pick (eqb t 0) 0
-      (pick (ltb (z .threads) t) 0
+      cond (eqb t 0) 0
+      (cond (ltb (z .threads) t) 0
       (getD (numbers (tally z l .points) outlineBody) (tallyTo z l (t - 1) .points + k) 0))
 
   abbrev pub outlineOf : Outline

@@ -6,9 +6,16 @@ use formula::reader::read_formula;
 use image::code::code_of;
 use image::decode::Decoded;
 use image::decode::open_image;
+ghost use mathlib.Core.Path.{_≡_};
+ghost use Prim.Native.Nat.{_+_};
+ghost use Rattle.formula.specs.Reader.{limit, readingOf};
+ghost use Rattle.image.specs.Decode.{decoded};
+ghost use Rattle.exports.specs.Answers.{ofReading, ofDecoded};
 
 // The number of a sort, past those of the faults.
-fn past_faults(sort: u8) -> usize {
+fn past_faults(sort: u8) -> usize
+    ensures { λ r. ⌜ r ≡ limit + sort ⌝ }
+{
     Fault::LIMIT + sort as usize
 }
 
@@ -20,7 +27,9 @@ pub extern "C" fn formula_answer(
     words: u8,
     registers: u8,
     values: u8,
-) -> usize {
+) -> usize
+    ensures { λ r. ⌜ r ≡ ofReading (readingOf (now (body .entry)) (record { threads = threads; words = words; registers = registers; values = values })) ⌝ }
+{
     let n = Counts {
         threads,
         words,
@@ -36,7 +45,9 @@ pub extern "C" fn formula_answer(
 // The answer of `open_image` as one number: 0 for a sound image, else the code times 65,536 and the record. (No image
 // has so many records; the remainder spares a proof of that.)
 #[no_mangle]
-pub extern "C" fn image_answer(image: &[u8]) -> usize {
+pub extern "C" fn image_answer(image: &[u8]) -> usize
+    ensures { λ r. ⌜ r ≡ ofDecoded (decoded (now (image .entry))) ⌝ }
+{
     let opened = open_image(image);
     let answer = opened.answer;
     match answer {

@@ -1,6 +1,6 @@
 -- Claims by positions, matched against the bytes of templates, are claims by trees, matched against shapes.
 use mathlib.Core.Path.{_≡_, refl, ap, sym, _∙_, subst}
-use mathlib.Core.Bool.{Bool, true, false, not, _&&_, _||_, false≢true}
+use mathlib.Core.Bool.{Bool, true, false, not, _&&_, _||_, false≢true, cond}
 use mathlib.Core.List.{List, [], _∷_, map}
 use Prim.Native.Nat.{ℕ, zero, suc, _+_, _*_, _/_, _%_}
 use native.Mathlib.Omega.{arith}
@@ -9,7 +9,6 @@ use lib.ListN.{length}
 use lib.Dec.{T, eqb}
 use Rattle.logic.specs.Rules.{Shape}
 use Rattle.limits.specs.Limits.{nesting}
-use Rattle.formula.specs.Codes.{pick}
 use Rattle.formula.specs.Tree.{skim}
 use Rattle.matcher.specs.Match.{andThen, matchT}
 use Rattle.matcher.specs.Places.{matchAt, takenOf, proper}
@@ -26,7 +25,7 @@ placed-same : (s : List ℕ) (form t k : ℕ) (c : Claim) → placed form t k (s
 unfolding placedAt
 placed-same s form t k c = go (eqb (c .form) form) (eqb form hoare) (eqb (c .thread) t) (eqb (c .point) k)
   where
-    go : (a b d e : Bool) → (a && (not b || (d && e))) ≡ pick a (pick b (pick d e false) true) false
+    go : (a b d e : Bool) → (a && (not b || (d && e))) ≡ cond a (cond b (cond d e false) true) false
     go true true true e = refl
     go true true false e = refl
     go true false d e = refl
@@ -83,7 +82,7 @@ module _ (s t : List ℕ) (i thread point : ℕ) (m : Shape) (c : Claim) (b : Bi
   claim-follows = go (placedAt (formOf m) thread point c) refl (first .ok) refl
     where
       go : (p : Bool) → placedAt (formOf m) thread point c ≡ p → (o : Bool) → first .ok ≡ o
-          → ClaimFollows s t i thread point m c b (pick p (pick (first .ok) second first) (record { ok = false; tpl = i; next = c .left; bind = b }))
+          → ClaimFollows s t i thread point m c b (cond p (cond (first .ok) second first) (record { ok = false; tpl = i; next = c .left; bind = b }))
       go false p o e = record { same = rw (placed-same s (formOf m) thread point c, p); tpl = λ h. absurd (false≢true h); sized = z }
       go true p true e = record {
         same = rw (placed-same s (formOf m) thread point c, p, e) (both-same e);
@@ -126,7 +125,7 @@ module _ (s t : List ℕ) (thread point : ℕ) (p : Premises) where
     one-follows : ClaimFollows s t i thread point m (claimAt p j) b one
     one-follows = claim-follows s t i thread point m (claimAt p j) b z st
 
-    more-follow : (o : Bool) → one .ok ≡ o → (o ≡ true → FromFollows s thread point p l (j + 1) (one .bind) rest) → FromFollows s thread point p (m ∷ l) j b (pick o rest one)
+    more-follow : (o : Bool) → one .ok ≡ o → (o ≡ true → FromFollows s thread point p l (j + 1) (one .bind) rest) → FromFollows s thread point p (m ∷ l) j b (cond o rest one)
     more-follow true o g = record { same = rw (one-follows .same, o) (g refl .same); sized = g refl .sized }
     more-follow false o g = record { same = rw (one-follows .same, o); sized = one-follows .sized }
 

@@ -1,4 +1,5 @@
 -- Before the templates are read, the holes hold the line's thread and its instruction's word, register and formula.
+use mathlib.Core.Bool.{cond}
 use mathlib.Core.Path.{_≡_, refl, ap, fun-ext}
 use mathlib.Core.List.{List, [], _∷_}
 use mathlib.Core.Option.{none, some}
@@ -8,7 +9,6 @@ use lib.ListN.{getD}
 use lib.Dec.{eqb}
 use borrow.Author.Tests.{ne-eqb}
 use Rattle.limits.specs.Limits.{nesting}
-use Rattle.formula.specs.Codes.{pick}
 use Rattle.formula.specs.Tree.{skim}
 use Rattle.matcher.specs.Places.{takenOf}
 use Rattle.matcher.proofs.Follow.{Sized}
@@ -31,7 +31,7 @@ module _ (s : List ℕ) (t op x r f : ℕ) where
   back n = omega arith
 
   -- a number that is kept one higher
-  kept : (n : ℕ) → pick (eqb (n + 1) 0) none (some (n + 1 - 1)) ≡ some n
+  kept : (n : ℕ) → cond (eqb (n + 1) 0) none (some (n + 1 - 1)) ≡ some n
   kept n = let z : n + 1 ≡ 0 → ⊥ = omega arith in rw (ne-eqb _ _ z) (ap (λ (i : ℕ). some i) (back n))
 
   nums : (j : ℕ) → takenOf s (presetAt t x r f) .num j ≡ preset t acting .num j
@@ -45,7 +45,7 @@ module _ (s : List ℕ) (t op x r f : ℕ) where
       let d : suc (suc (suc j)) ≡ 2 → ⊥ = omega arith in
       rw (preset, ne-eqb _ _ a, ne-eqb _ _ b, ne-eqb _ _ d) (past j)
     where
-      past : (j : ℕ) → pick (eqb (getD (0 ∷ 0 ∷ []) j 0) 0) none (some (getD (0 ∷ 0 ∷ []) j 0 - 1)) ≡ none
+      past : (j : ℕ) → cond (eqb (getD (0 ∷ 0 ∷ []) j 0) 0) none (some (getD (0 ∷ 0 ∷ []) j 0 - 1)) ≡ none
       past zero = refl
       past (suc zero) = refl
       past (suc (suc j)) = refl

@@ -1,13 +1,12 @@
 -- The ways through the side conditions, one law for each.
 use mathlib.Core.Path.{_≡_, refl, sym, _∙_, subst}
-use mathlib.Core.Bool.{Bool, true, false, not}
+use mathlib.Core.Bool.{Bool, true, false, not, cond}
 use mathlib.Core.List.{List, []}
 use Prim.Native.Nat.{ℕ, _≤_, _<_}
 use lib.ListN.{getD}
 use borrow.Author.Tests.{lt-ltb, le-ltb, le-leb, lt-leb}
 use Rattle.logic.specs.Opcode
 use Rattle.limits.specs.Limits.{nesting}
-use Rattle.formula.specs.Codes.{pick}
 use Rattle.formula.specs.Tree.{Tree, skim}
 use Rattle.compare.specs.Same.{sameTree}
 use Rattle.compare.specs.Replace.{replaceT, oneName, standsFor, replacedOf}
@@ -57,7 +56,7 @@ module _ (s : List ℕ) (w : Substitution) (p q : Stand) (r : Same) (e : r ≡ r
   unfolding isWith
   with-no n = go (sameTree (replaceT (oneName (w .word) (w .number) (standsFor s (w .by) .tree)) (treeOf s q)) (treeOf s p)) (sym n ∙ e)
     where
-      go : (b : Bool) → No ≡ pick b (Yes (skim s (q .left) (q .at) .end) (skim s (p .left) (p .at) .end)) No → false ≡ b
+      go : (b : Bool) → No ≡ cond b (Yes (skim s (q .left) (q .at) .end) (skim s (p .left) (p .at) .end)) No → false ≡ b
       go true h = absurd (no-yes h)
       go false h = refl
 
@@ -65,7 +64,7 @@ module _ (s : List ℕ) (w : Substitution) (p q : Stand) (r : Same) (e : r ≡ r
   unfolding isWith
   with-yes i j n = go (sameTree (replaceT (oneName (w .word) (w .number) (standsFor s (w .by) .tree)) (treeOf s q)) (treeOf s p)) (sym n ∙ e)
     where
-      go : (b : Bool) → Yes i j ≡ pick b (Yes (skim s (q .left) (q .at) .end) (skim s (p .left) (p .at) .end)) No → true ≡ b
+      go : (b : Bool) → Yes i j ≡ cond b (Yes (skim s (q .left) (q .at) .end) (skim s (p .left) (p .at) .end)) No → true ≡ b
       go true h = refl
       go false h = absurd (no-yes (sym h))
 

@@ -9,6 +9,7 @@ use lib.ListN.{getD}
 use lib.Dec.{eqb}
 use borrow.Author.Tests.{lt-ltb, le-ltb, eq-eqb, ne-eqb}
 use Rattle.limits.specs.Limits.{nesting, premises}
+use Rattle.formula.proofs.Auto.{lower}
 use Rattle.matcher.specs.Places.{matchAt, thenMatch}
 use Rattle.matcher.specs.declared.bind.Bind.{Bind}
 use Rattle.matcher.specs.declared.matching.Match.{Match}
@@ -83,8 +84,5 @@ module _ (s t : List ℕ) (thread point : ℕ) (p : Premises) where
 
       pub from-more : (r : Match) → m .ok ≡ true → r ≡ matchFrom s t thread point p (n - 1) (m .tpl) (forms / 4) (j + 1) (m .bind) → r ≡ matchFrom s t thread point p n i forms j b
       from-more r o g = rw (from-step n i forms j b z, ← e, ← d, o) g
-
-pub lower : (n t : ℕ) → n ≡ t → (n ≡ 0 → ⊥) → n - 1 < t
-lower n t e z = omega arith
 
 pub ruleset following = (from-none, from-no, from-more, lower)

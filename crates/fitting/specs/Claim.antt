@@ -1,11 +1,10 @@
 -- What a line says, by positions, against a rule's templates one after the other.
-use mathlib.Core.Bool.{Bool, true, false}
-use mathlib.Core.List.{List, [], _∷_, map}
+use mathlib.Core.Bool.{Bool, true, false, cond}
+use mathlib.Core.List.{List, [], _∷_}
 use Prim.Native.Nat.{ℕ, zero, suc, _+_, _/_, _%_}
 use lib.Dec.{eqb, ltb}
 use lib.ListN.{getD}
 use Rattle.limits.specs.Limits.{nesting, premises}
-use Rattle.formula.specs.Codes.{pick}
 use Rattle.formula.specs.Tree.{skim}
 use Rattle.matcher.specs.Places.{matchAt, thenMatch}
 use Rattle.matcher.specs.declared.bind.Bind.{Bind}
@@ -20,12 +19,12 @@ saidAt s c = record { form = c .form; thread = c .thread; point = c .point; left
 
 -- of the form that is wanted; a Hoare triple is for the same thread and point
 unfoldable pub placedAt : ℕ → ℕ → ℕ → Claim → Bool
-placedAt form t k c = pick (eqb (c .form) form) (pick (eqb form hoare) (pick (eqb (c .thread) t) (eqb (c .point) k) false) true) false
+placedAt form t k c = cond (eqb (c .form) form) (cond (eqb form hoare) (cond (eqb (c .thread) t) (eqb (c .point) k) false) true) false
 
 -- the left side against the template at i, then the right side against the one behind it
 unfoldable pub matchClaim : List ℕ → List ℕ → ℕ → ℕ → ℕ → ℕ → Claim → Bind → Match
 matchClaim s t i form thread point c b =
-    pick (placedAt form thread point c)
+    cond (placedAt form thread point c)
     (thenMatch (matchAt s t nesting i (c .left) b) (λ m. matchAt s t nesting (m .tpl) (c .right) (m .bind)))
     (record { ok = false; tpl = i; next = c .left; bind = b })
 
@@ -34,16 +33,12 @@ abbrev pub noClaim : Claim
 noClaim = record { form = 0; thread = 0; point = 0; left = 0; right = 0 }
 
 unfoldable pub claimAt : Premises → ℕ → Claim
-claimAt p j = pick (ltb j premises) (getD (p .claims) j noClaim) noClaim
+claimAt p j = cond (ltb j premises) (getD (p .claims) j noClaim) noClaim
 
 -- so many premises from number j on
 abbrev pub claimsFrom : Premises → ℕ → ℕ → List Claim
 claimsFrom p zero j = []
 claimsFrom p (suc n) j = claimAt p j ∷ claimsFrom p n (j + 1)
-
--- what they say
-abbrev pub saidBy : List ℕ → Premises → List Said
-saidBy s p = map (saidAt s) (claimsFrom p (p .count) 0)
 
 -- premises from number j on, each against the templates behind those of the one before; their forms, two bits each from the lowest
 unfoldable pub matchFrom : List ℕ → List ℕ → ℕ → ℕ → Premises → ℕ → ℕ → ℕ → ℕ → Bind → Match

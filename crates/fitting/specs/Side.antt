@@ -1,12 +1,11 @@
 -- What rules ask besides their templates, of the trees that the holes stand for.
-use mathlib.Core.Bool.{Bool, true, false, not}
+use mathlib.Core.Bool.{Bool, true, false, not, cond}
 use mathlib.Core.List.{List, []}
 use Prim.Native.Nat.{ℕ}
 use lib.ListN.{getD}
 use lib.Dec.{ltb, leb}
 use Rattle.logic.specs.Opcode
 use Rattle.limits.specs.Limits.{nesting}
-use Rattle.formula.specs.Codes.{pick}
 use Rattle.formula.specs.Tree.{Tree, skim}
 use Rattle.compare.specs.Same.{sameTree}
 use Rattle.compare.specs.Replace.{replaceT, oneName, standsFor}
@@ -25,9 +24,9 @@ treeOf s p = skim s (p .left) (p .at) .tree
 -- a load keeps what has not its register; a store or a swap what has not its word
 unfoldable pub keeps : ℕ → ℕ → ℕ → Tree → Bool
 keeps op x r u =
-    pick (ltb op Opcode.load) false
-    (pick (leb op Opcode.acquire) (not (occurs (register r) [] u))
-    (pick (leb op Opcode.swap) (not (occurs (wordAnyRole x) [] u)) false))
+    cond (ltb op Opcode.load) false
+    (cond (leb op Opcode.acquire) (not (occurs (register r) [] u))
+    (cond (leb op Opcode.swap) (not (occurs (wordAnyRole x) [] u)) false))
 
 -- u is v with a name replaced
 unfoldable pub isWith : List ℕ → Substitution → Tree → Tree → Bool
@@ -35,4 +34,4 @@ isWith s w u v = sameTree (replaceT (oneName (w .word) (w .number) (standsFor s 
 
 -- u is v with the word's value replaced by the formula at a position; no flag of the word is in v
 unfoldable pub storedBy : List ℕ → ℕ → ℕ → Tree → Tree → Bool
-storedBy s x f u v = pick (occurs (flag x) [] v) false (isWith s (record { word = true; number = x; by = Formula f nesting }) u v)
+storedBy s x f u v = cond (occurs (flag x) [] v) false (isWith s (record { word = true; number = x; by = Formula f nesting }) u v)

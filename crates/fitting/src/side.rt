@@ -8,6 +8,7 @@ use matcher::bind::Bind;
 use occurs::has::has_flag;
 use occurs::has::has_register;
 use occurs::has::has_word;
+use program::instruction::Instruction;
 ghost use mathlib.Core.Path.{_≡_};
 ghost use Prim.Native.Nat.{_<_};
 ghost use Rattle.fitting.specs.Side.{holeOf, treeOf, keeps, isWith, storedBy};
@@ -28,27 +29,17 @@ pub fn hole_of(b: Bind, j: usize) -> Stand
     }
 }
 
-pub struct Operation {}
-
-impl Operation {
-    pub const LOAD: u8 = 1;
-
-    pub const ACQUIRE: u8 = 2;
-
-    pub const SWAP: u8 = 5;
-}
-
 // A load keeps what has not its register; a store or a swap what has not its word.
-pub fn is_kept(s: &[u8], operation: u8, word: u8, register: u8, p: Stand) -> bool
+pub fn is_kept(s: &[u8], operation: usize, word: u8, register: u8, p: Stand) -> bool
     ensures { λ r. ⌜ r ≡ keeps operation word register (treeOf (now (s .entry)) p) ⌝ }
 {
-    if operation < Operation::LOAD {
+    if operation < Instruction::LOAD {
         return false;
     }
-    if operation <= Operation::ACQUIRE {
+    if operation <= Instruction::ACQUIRE {
         return !has_register(s, p.at, p.left, register);
     }
-    if operation <= Operation::SWAP {
+    if operation <= Instruction::SWAP {
         return !has_word(s, p.at, p.left, word);
     }
     false

@@ -2,13 +2,13 @@
 use Prim.Native.Nat.{ℕ, zero, suc, _+_, _-_, _^_, _≤_, _<_}
 use mathlib.Core.Path.{_≡_, refl, sym, _∙_}
 use mathlib.Core.List.{List, [], _∷_}
-use mathlib.Core.Bool.{Bool, true, false, _&&_}
+use mathlib.Core.Bool.{Bool, true, false, _&&_, cond}
 use native.Mathlib.Omega.{arith}
 use lib.Dec.{T, ltb, eqb}
 use borrow.Author.Tests.{eqb-true, eqb-false, ltb-true, ltb-false, ne-eqb}
 use Rattle.logic.specs.Code
 use Rattle.logic.specs.Code.{Code, byte}
-use Rattle.formula.specs.Codes.{pick, among, member, value, test, interval, assertion, regValue, regTest, codesAt, setOf, setAt, fitsAt, operandCodes, onePart, twoParts, lowerParts, hasOperand, partCount, partPlace}
+use Rattle.formula.specs.Codes.{among, member, value, test, interval, assertion, regValue, regTest, codesAt, setOf, setAt, fitsAt, operandCodes, onePart, twoParts, lowerParts, hasOperand, partCount, partPlace}
 
 abbrev pub agree : Bool → Bool → Bool
 agree true b = b
@@ -24,17 +24,17 @@ agrees false false h = refl
 -- the number has what the list has, below k
 abbrev pub asListed : ℕ → ℕ → List Code → Bool
 asListed zero n l = true
-asListed (suc k) n l = pick (agree (member n k) (among k l)) (asListed k n l) false
+asListed (suc k) n l = cond (agree (member n k) (among k l)) (asListed k n l) false
 
 abbrev pub low : List Code → Bool
 low [] = true
-low (k ∷ l) = pick (ltb (byte k) 32) (low l) false
+low (k ∷ l) = cond (ltb (byte k) 32) (low l) false
 
 below : (n : ℕ) (l : List Code) (k : ℕ) → T (asListed k n l) → (c : ℕ) → c < k → member n c ≡ among c l
 below n l zero h c lt = absurd (omega arith)
 below n l (suc k) h c lt = go (agree (member n k) (among k l)) (eqb c k) refl refl h (λ g m. below n l k g c m)
   where
-    go : (a b : Bool) → agree (member n k) (among k l) ≡ a → eqb c k ≡ b → T (pick a (asListed k n l) false) → (T (asListed k n l) → c < k → member n c ≡ among c l) → member n c ≡ among c l
+    go : (a b : Bool) → agree (member n k) (among k l) ≡ a → eqb c k ≡ b → T (cond a (asListed k n l) false) → (T (asListed k n l) → c < k → member n c ≡ among c l) → member n c ≡ among c l
     go true true e d g ih = rw (eqb-true c k d) (agrees (member n k) (among k l) (rw e tt))
     go true false e d g ih = let q = eqb-false c k d in ih g (omega arith)
     go false b e d g ih = absurd g
@@ -43,7 +43,7 @@ above : (c : ℕ) (l : List Code) → 32 ≤ c → T (low l) → among c l ≡ f
 above c [] h t = refl
 above c (k ∷ l) h t = go (ltb (byte k) 32) refl t (λ u. above c l h u)
   where
-    go : (b : Bool) → ltb (byte k) 32 ≡ b → T (pick b (low l) false) → (T (low l) → among c l ≡ false) → pick (eqb c (byte k)) true (among c l) ≡ false
+    go : (b : Bool) → ltb (byte k) 32 ≡ b → T (cond b (low l) false) → (T (low l) → among c l ≡ false) → cond (eqb c (byte k)) true (among c l) ≡ false
     go true e t ih = let q = ltb-true (byte k) 32 e in rw (ne-eqb c (byte k) (λ (d : c ≡ byte k). omega arith)) (ih t)
     go false e t ih = absurd t
 
@@ -89,7 +89,7 @@ module _ (c : ℕ) (r : Bool) where
       where
         at : Bool → Bool → Bool → Bool → Bool → Bool → List Code
         at i j k l m n =
-            pick i (codesAt value) (pick j (codesAt test) (pick k (codesAt interval) (pick l (codesAt assertion) (pick m (codesAt regValue) (pick n (codesAt regTest) [])))))
+            cond i (codesAt value) (cond j (codesAt test) (cond k (codesAt interval) (cond l (codesAt assertion) (cond m (codesAt regValue) (cond n (codesAt regTest) [])))))
 
         go : (i j k l m n : Bool) → member (setOf (at i j k l m n)) c ≡ among c (at i j k l m n)
         go true j k l m n = member-among (setOf (codesAt value)) (codesAt value) tt tt c

@@ -7,6 +7,7 @@ use borrow.Author.Tests.{lt-ltb}
 use Rattle.formula.specs.Tree.{nodeAt, skim}
 use Rattle.formula.specs.declared.node.Node.{Node}
 use Rattle.formula.proofs.Nodes.{skim-zero, skim-step}
+use Rattle.formula.proofs.Auto.{lower}
 
 pub end-zero : (s : List ℕ) (at k : ℕ) → k ≡ 0 → at ≡ skim s k at .end
 end-zero s at k e = rw (skim-zero s k at e)
@@ -24,8 +25,5 @@ module _ (s : List ℕ) (at k : ℕ) (x : Node) (z : k ≡ 0 → ⊥) (e : x ≡
         let t₀ : 0 < x .parts = omega arith in
         let t₁ : 1 < x .parts = omega arith in
         rw (skim-step s k at z, ← e, lt-ltb _ _ t₀, lt-ltb _ _ t₁, ← f) g
-
-pub lower : (m t : ℕ) → m ≡ t → (m ≡ 0 → ⊥) → m - 1 < t
-lower m t e h = omega arith
 
 pub ruleset ends = (end-zero, end-leaf, end-one, end-two, lower)

@@ -2,14 +2,14 @@
 use Prim.Native.Nat.{ℕ, zero, suc, _+_, _-_, _/_, _≤_, _<_}
 use mathlib.Core.Path.{_≡_, refl, ap, sym, _∙_}
 use mathlib.Core.List.{List}
-use mathlib.Core.Bool.{Bool, true, false}
+use mathlib.Core.Bool.{Bool, true, false, cond}
 use native.Mathlib.Numerals.{sub-one}
 use native.Mathlib.Omega.{arith}
 use lib.ListN.{length, getD}
 use lib.Dec.{ltb, eqb}
 use borrow.Author.Tests.{lt-ltb, le-ltb, eq-eqb, ne-eqb, eqb-true, eqb-false, ltb-true, ltb-false}
 use Rattle.limits.specs.Limits.{nesting}
-use Rattle.formula.specs.Codes.{pick, fitsAt, hasOperand, partCount, partPlace}
+use Rattle.formula.specs.Codes.{fitsAt, hasOperand, partCount, partPlace}
 use Rattle.formula.specs.Tree.{nodeAt, skim, grow}
 use Rattle.formula.specs.Reader.{range, malformed, limit, answer, inRange, operandFault, operandAnswer, headFault, headAnswer, first, partFault, faultAt, readAnswer, sortOf, readingOf}
 use Rattle.formula.specs.declared.node.Node.{Node}
@@ -17,6 +17,7 @@ use Rattle.formula.specs.declared.reader.Counts.{Counts}
 use Rattle.formula.specs.declared.reader.Reading.{Reading}
 use Rattle.formula.specs.declared.reader.Reading.the-variants.{Formula, Fault}
 use Rattle.formula.proofs.Nodes.{skim-step}
+use Rattle.formula.proofs.Auto.{lower}
 
 module _ (s : List ℕ) (n : Counts) (c at : ℕ) where
   pub operand-past : length s ≤ at → malformed ≡ operandAnswer s n c at
@@ -58,19 +59,19 @@ module _ (r f e : ℕ) (small : f < limit) (a : r ≡ answer f e) where
   said-fault : r < limit → (f ≡ r) × (eqb f 0 ≡ false)
   said-fault l = go (eqb f 0) refl a
     where
-      go : (b : Bool) → eqb f 0 ≡ b → r ≡ pick b (e + limit) f → (f ≡ r) × (eqb f 0 ≡ false)
+      go : (b : Bool) → eqb f 0 ≡ b → r ≡ cond b (e + limit) f → (f ≡ r) × (eqb f 0 ≡ false)
       go true d q = absurd (omega arith)
       go false d q = (sym q, d)
 
   said-end : limit ≤ r → (f ≡ 0) × (r - limit ≡ e)
   said-end l = go (eqb f 0) refl a
     where
-      go : (b : Bool) → eqb f 0 ≡ b → r ≡ pick b (e + limit) f → (f ≡ 0) × (r - limit ≡ e)
+      go : (b : Bool) → eqb f 0 ≡ b → r ≡ cond b (e + limit) f → (f ≡ 0) × (r - limit ≡ e)
       go true d q = (eqb-true f 0 d, omega arith)
       go false d q = absurd (omega arith)
 
 -- faults are below the limit
-small-pick : (b : Bool) (x y : ℕ) → x < limit → y < limit → pick b x y < limit
+small-pick : (b : Bool) (x y : ℕ) → x < limit → y < limit → cond b x y < limit
 small-pick true x y h g = h
 small-pick false x y h g = g
 
@@ -100,14 +101,14 @@ fault-small s n (suc k) p at =
     (head-small s n p at)
 
 pub fault-step : (s : List ℕ) (n : Counts) (k p at : ℕ) → (k ≡ 0 → ⊥)
-    → faultAt s n k p at ≡ first (headFault s n p at) (pick (eqb (nodeAt s at .parts) 0) 0 (first (faultAt s n (k - 1) (partPlace (nodeAt s at .code) p) (nodeAt s at .next)) (pick (eqb (nodeAt s at .parts) 1) 0 (faultAt s n (k - 1) (partPlace (nodeAt s at .code) p) (skim s (k - 1) (nodeAt s at .next) .end)))))
+    → faultAt s n k p at ≡ first (headFault s n p at) (cond (eqb (nodeAt s at .parts) 0) 0 (first (faultAt s n (k - 1) (partPlace (nodeAt s at .code) p) (nodeAt s at .next)) (cond (eqb (nodeAt s at .parts) 1) 0 (faultAt s n (k - 1) (partPlace (nodeAt s at .code) p) (skim s (k - 1) (nodeAt s at .next) .end)))))
 unfolding faultAt
 fault-step s n zero p at h = absurd (h refl)
 fault-step s n (suc k) p at h =
     rw (sub-one (suc k))
     (ap (first (headFault s n p at)) (by-count (λ q. faultAt s n k (partPlace (nodeAt s at .code) p) q) (λ q. faultAt s n k (partPlace (nodeAt s at .code) p) (skim s k q .end)) (nodeAt s at .parts) (nodeAt s at .next)))
   where
-    by-count : (f g : ℕ → ℕ) (c at : ℕ) → first (partFault f (ltb 0 c) at) (partFault g (ltb 1 c) at) ≡ pick (eqb c 0) 0 (first (f at) (pick (eqb c 1) 0 (g at)))
+    by-count : (f g : ℕ → ℕ) (c at : ℕ) → first (partFault f (ltb 0 c) at) (partFault g (ltb 1 c) at) ≡ cond (eqb c 0) 0 (first (f at) (cond (eqb c 1) 0 (g at)))
     by-count f g zero at = refl
     by-count f g (suc zero) at = refl
     by-count f g (suc (suc c)) at =
@@ -122,7 +123,7 @@ inside : (s : List ℕ) (n : Counts) (p at : ℕ) → headFault s n p at ≡ 0 �
 unfolding headFault
 inside s n p at = go (ltb at (length s)) refl
   where
-    go : (b : Bool) → ltb at (length s) ≡ b → pick b (pick (fitsAt (getD s at 0) p) (pick (hasOperand (getD s at 0)) (operandFault s n (getD s at 0) (at + 1)) 0) malformed) malformed ≡ 0 → at < length s
+    go : (b : Bool) → ltb at (length s) ≡ b → cond b (cond (fitsAt (getD s at 0) p) (cond (hasOperand (getD s at 0)) (operandFault s n (getD s at 0) (at + 1)) 0) malformed) malformed ≡ 0 → at < length s
     go true e h = ltb-true at (length s) e
     go false e h = absurd (omega arith)
 
@@ -132,7 +133,7 @@ unfolding nodeAt
 node-inside s at h = rw (lt-ltb _ _ h) (go (hasOperand (getD s at 0)))
   where
     n : Bool → Node
-    n b = pick b (record { code = getD s at 0; operand = getD s (at + 1) 0; parts = partCount (getD s at 0); next = at + 2 }) (record { code = getD s at 0; operand = 0; parts = partCount (getD s at 0); next = at + 1 })
+    n b = cond b (record { code = getD s at 0; operand = getD s (at + 1) 0; parts = partCount (getD s at 0); next = at + 2 }) (record { code = getD s at 0; operand = 0; parts = partCount (getD s at 0); next = at + 1 })
 
     go : (b : Bool) → (n b .code ≡ getD s at 0) × (n b .parts ≡ partCount (getD s at 0))
     go true = (refl, refl)
@@ -208,9 +209,6 @@ module _ (s : List ℕ) (n : Counts) (k p at : ℕ) where
             let t₀ : 0 < c = omega arith in
             let t₁ : 1 < c = omega arith in
             rw (fault-step s n k p at z, skim-step s k at z, own, count, ne-eqb _ _ b, ne-eqb _ _ o, code, ← ew, lt-ltb _ _ t₀, lt-ltb _ _ t₁, q .0) (er ∙ rw (q .1) refl)
-
-pub lower : (m t : ℕ) → m ≡ t → (m ≡ 0 → ⊥) → m - 1 < t
-lower m t e h = omega arith
 
 pub ruleset reads = (read-zero, read-head, read-inside, read-leaf, read-part, read-one, read-two, lower)
 

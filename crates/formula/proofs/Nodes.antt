@@ -2,18 +2,16 @@
 use Prim.Native.Nat.{ℕ, zero, suc, _+_, _-_, _≤_, _<_}
 use mathlib.Core.Path.{_≡_, refl, sym, _∙_}
 use mathlib.Core.List.{List}
-use mathlib.Core.Bool.{Bool, true, false}
+use mathlib.Core.Bool.{Bool, true, false, cond}
 use native.Mathlib.Numerals.{sub-one}
 use native.Mathlib.Omega.{arith}
 use lib.ListN.{length, getD, List·getD-eq-default}
 use lib.Dec.{ltb}
 use borrow.Author.Tests.{lt-ltb, le-ltb}
-use Rattle.formula.specs.Codes.{pick, hasOperand, partCount}
+use Rattle.limits.proofs.Numbers.{byte-past}
+use Rattle.formula.specs.Codes.{hasOperand, partCount}
 use Rattle.formula.specs.Tree.{Tree, nodeAt, skim, grow}
 use Rattle.formula.specs.declared.node.Node.{Node}
-
-pub past : (s : List ℕ) (at : ℕ) → length s ≤ at → 0 ≡ getD s at 0
-past s at h = sym (List·getD-eq-default s 0 h)
 
 pub node-past : (s : List ℕ) (at : ℕ) → length s ≤ at → record { code = 0; operand = 0; parts = 0; next = at } ≡ nodeAt s at
 unfolding nodeAt
@@ -28,7 +26,7 @@ module _ (s : List ℕ) (at p : ℕ) (o : Bool) (h : at < length s) (e : o ≡ h
   unfolding nodeAt
   node-operand b z d = rw (lt-ltb _ _ h, ← e, z, ← q, d)
 
-pub ruleset nodes = (past, node-past, node-plain, node-operand)
+pub ruleset nodes = (byte-past, node-past, node-plain, node-operand)
 
 pub skim-zero : (s : List ℕ) (k at : ℕ) → k ≡ 0 → skim s k at ≡ record { tree = Tree.none; end = at }
 unfolding skim
@@ -46,8 +44,8 @@ parts-of s at = go (ltb at (length s)) (hasOperand (getD s at 0))
   where
     n : Bool → Bool → Node
     n a b =
-        pick a
-        (pick b
+        cond a
+        (cond b
         (record { code = getD s at 0; operand = getD s (at + 1) 0; parts = partCount (getD s at 0); next = at + 2 })
         (record { code = getD s at 0; operand = 0; parts = partCount (getD s at 0); next = at + 1 }))
         (record { code = 0; operand = 0; parts = 0; next = at })

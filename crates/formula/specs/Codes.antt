@@ -1,19 +1,15 @@
 -- What goes by a formula's code alone: where it may stand, its operand, its parts.
 use Prim.Native.Nat.{ℕ, _+_, _-_, _/_, _%_, _^_}
-use mathlib.Core.Bool.{Bool, true, false}
+use mathlib.Core.Bool.{Bool, true, false, cond}
 use mathlib.Core.List.{List, [], _∷_}
 use lib.Dec.{ltb, eqb}
 use Rattle.logic.specs.Code
 use Rattle.logic.specs.Code.{Code, byte}
 
-abbrev pub pick : {A : Type 0} → Bool → A → A → A
-pick true a b = a
-pick false a b = b
-
 -- the byte of one of these codes
 abbrev pub among : ℕ → List Code → Bool
 among c [] = false
-among c (k ∷ l) = pick (eqb c (byte k)) true (among c l)
+among c (k ∷ l) = cond (eqb c (byte k)) true (among c l)
 
 -- places: a formula of a sort, or one over registers alone, as under `holds`
 abbrev pub value : ℕ
@@ -37,12 +33,12 @@ regTest = 5
 -- the codes that may stand at a place
 abbrev pub codesAt : ℕ → List Code
 codesAt p =
-    pick (eqb p value) (Code.const ∷ Code.reg ∷ Code.word ∷ Code.sum ∷ [])
-    (pick (eqb p test) (Code.false ∷ Code.equal ∷ Code.less ∷ Code.not ∷ Code.and ∷ Code.or ∷ Code.unsync ∷ Code.cov ∷ [])
-    (pick (eqb p interval) (Code.box ∷ Code.one ∷ Code.chop ∷ Code.both ∷ Code.either ∷ [])
-    (pick (eqb p assertion) (Code.sees ∷ Code.bothA ∷ Code.eitherA ∷ Code.start ∷ Code.holds ∷ [])
-    (pick (eqb p regValue) (Code.const ∷ Code.reg ∷ Code.sum ∷ [])
-    (pick (eqb p regTest) (Code.false ∷ Code.equal ∷ Code.less ∷ Code.not ∷ Code.and ∷ Code.or ∷ []) [])))))
+    cond (eqb p value) (Code.const ∷ Code.reg ∷ Code.word ∷ Code.sum ∷ [])
+    (cond (eqb p test) (Code.false ∷ Code.equal ∷ Code.less ∷ Code.not ∷ Code.and ∷ Code.or ∷ Code.unsync ∷ Code.cov ∷ [])
+    (cond (eqb p interval) (Code.box ∷ Code.one ∷ Code.chop ∷ Code.both ∷ Code.either ∷ [])
+    (cond (eqb p assertion) (Code.sees ∷ Code.bothA ∷ Code.eitherA ∷ Code.start ∷ Code.holds ∷ [])
+    (cond (eqb p regValue) (Code.const ∷ Code.reg ∷ Code.sum ∷ [])
+    (cond (eqb p regTest) (Code.false ∷ Code.equal ∷ Code.less ∷ Code.not ∷ Code.and ∷ Code.or ∷ []) [])))))
 
 unfoldable pub fitsAt : ℕ → ℕ → Bool
 fitsAt c p = among c (codesAt p)
@@ -64,11 +60,11 @@ unfoldable pub hasOperand : ℕ → Bool
 hasOperand c = among c operandCodes
 
 unfoldable pub partCount : ℕ → ℕ
-partCount c = pick (among c twoParts) 2 (pick (among c onePart) 1 0)
+partCount c = cond (among c twoParts) 2 (cond (among c onePart) 1 0)
 
 -- the place of a code's parts; registers alone stay so
 unfoldable pub partPlace : ℕ → ℕ → ℕ
-partPlace c p = pick (eqb c (byte Code.holds)) regTest (pick (among c lowerParts) (p - 1) p)
+partPlace c p = cond (eqb c (byte Code.holds)) regTest (cond (among c lowerParts) (p - 1) p)
 
 -- a set of codes as a number with a bit for each
 abbrev pub setOf : List Code → ℕ
@@ -79,4 +75,4 @@ unfoldable pub setAt : ℕ → ℕ
 setAt p = setOf (codesAt p)
 
 unfoldable pub member : ℕ → ℕ → Bool
-member n c = pick (ltb c 32) (eqb ((n / (2 ^ c)) % 2) 1) false
+member n c = cond (ltb c 32) (eqb ((n / (2 ^ c)) % 2) 1) false

@@ -1,13 +1,13 @@
 -- The first fault of a formula from the left, 0 for none. Its tree and its end are those of `skim`.
 use Prim.Native.Nat.{ℕ, zero, suc, _+_, _/_}
 use mathlib.Core.List.{List}
-use mathlib.Core.Bool.{Bool, true, false}
+use mathlib.Core.Bool.{Bool, true, false, cond}
 use lib.ListN.{length, getD}
 use lib.Dec.{ltb, leb, eqb}
 use Rattle.logic.specs.Code
 use Rattle.logic.specs.Code.{byte}
 use Rattle.limits.specs.Limits.{nesting}
-use Rattle.formula.specs.Codes.{pick, fitsAt, hasOperand, partCount, partPlace}
+use Rattle.formula.specs.Codes.{fitsAt, hasOperand, partCount, partPlace}
 use Rattle.formula.specs.Tree.{nodeAt, skim}
 use Rattle.formula.specs.declared.reader.Counts.{Counts}
 use Rattle.formula.specs.declared.reader.Reading.{Reading}
@@ -25,17 +25,17 @@ abbrev pub limit : ℕ
 limit = 8
 
 abbrev pub answer : ℕ → ℕ → ℕ
-answer fault end = pick (eqb fault 0) (end + limit) fault
+answer fault end = cond (eqb fault 0) (end + limit) fault
 
 -- constants from 0; registers, threads and words from 1
 unfoldable pub inRange : Counts → ℕ → ℕ → Bool
 inRange n c o =
-    pick (eqb c (byte Code.const)) (ltb o (n .values))
-    (pick (eqb o 0) false
-    (pick (eqb c (byte Code.reg)) (leb o (n .registers)) (pick (eqb c (byte Code.sees)) (leb o (n .threads)) (leb o (n .words)))))
+    cond (eqb c (byte Code.const)) (ltb o (n .values))
+    (cond (eqb o 0) false
+    (cond (eqb c (byte Code.reg)) (leb o (n .registers)) (cond (eqb c (byte Code.sees)) (leb o (n .threads)) (leb o (n .words)))))
 
 unfoldable pub operandFault : List ℕ → Counts → ℕ → ℕ → ℕ
-operandFault s n c at = pick (ltb at (length s)) (pick (inRange n c (getD s at 0)) 0 range) malformed
+operandFault s n c at = cond (ltb at (length s)) (cond (inRange n c (getD s at 0)) 0 range) malformed
 
 unfoldable pub operandAnswer : List ℕ → Counts → ℕ → ℕ → ℕ
 operandAnswer s n c at = answer (operandFault s n c at) (at + 1)
@@ -43,15 +43,15 @@ operandAnswer s n c at = answer (operandFault s n c at) (at + 1)
 -- the fault of a node's own bytes
 unfoldable pub headFault : List ℕ → Counts → ℕ → ℕ → ℕ
 headFault s n place at =
-    pick (ltb at (length s))
-    (pick (fitsAt (getD s at 0) place) (pick (hasOperand (getD s at 0)) (operandFault s n (getD s at 0) (at + 1)) 0) malformed)
+    cond (ltb at (length s))
+    (cond (fitsAt (getD s at 0) place) (cond (hasOperand (getD s at 0)) (operandFault s n (getD s at 0) (at + 1)) 0) malformed)
     malformed
 
 unfoldable pub headAnswer : List ℕ → Counts → ℕ → ℕ → ℕ
 headAnswer s n place at = answer (headFault s n place at) (nodeAt s at .next)
 
 abbrev pub first : ℕ → ℕ → ℕ
-first a b = pick (eqb a 0) b a
+first a b = cond (eqb a 0) b a
 
 -- the fault of a part, if it is there
 abbrev pub partFault : (ℕ → ℕ) → Bool → ℕ → ℕ
@@ -75,6 +75,6 @@ sortOf s = getD s 0 0 / 8
 
 unfoldable pub readingOf : List ℕ → Counts → Reading
 readingOf s n =
-    pick (eqb (faultAt s n nesting (sortOf s) 0) 0)
-    (pick (eqb (skim s nesting 0 .end) (length s)) (Formula (sortOf s)) (Fault malformed))
+    cond (eqb (faultAt s n nesting (sortOf s) 0) 0)
+    (cond (eqb (skim s nesting 0 .end) (length s)) (Formula (sortOf s)) (Fault malformed))
     (Fault (faultAt s n nesting (sortOf s) 0))

@@ -1,10 +1,10 @@
 -- Formulas as uniform trees, and the tree that stands at a position.
 use Prim.Native.Nat.{ℕ, zero, suc, _+_}
 use mathlib.Core.List.{List}
-use mathlib.Core.Bool.{Bool, true, false}
+use mathlib.Core.Bool.{Bool, true, false, cond}
 use lib.ListN.{length, getD}
 use lib.Dec.{ltb}
-use Rattle.formula.specs.Codes.{pick, hasOperand, partCount}
+use Rattle.formula.specs.Codes.{hasOperand, partCount}
 use Rattle.formula.specs.declared.node.Node.{Node}
 
 -- a code, an operand (0 where there is none) and two parts; a part that is not there is none
@@ -14,8 +14,8 @@ pub data Tree : Type 0 where
 
 unfoldable pub nodeAt : List ℕ → ℕ → Node
 nodeAt s at =
-    pick (ltb at (length s))
-    (pick (hasOperand (getD s at 0))
+    cond (ltb at (length s))
+    (cond (hasOperand (getD s at 0))
     (record { code = getD s at 0; operand = getD s (at + 1) 0; parts = partCount (getD s at 0); next = at + 2 })
     (record { code = getD s at 0; operand = 0; parts = partCount (getD s at 0); next = at + 1 }))
     (record { code = 0; operand = 0; parts = 0; next = at })

@@ -1,11 +1,11 @@
 -- The whole image and its record frames: codes 2, 3 and 4.
-use mathlib.Core.Bool.{Bool, true, false}
+use mathlib.Core.Bool.{Bool, true, false, cond}
 use mathlib.Core.List.{List, [], _∷_}
 use Prim.Native.Nat.{ℕ, zero, suc, _+_, _-_}
 use lib.Dec.{eqb, ltb}
 use lib.ListN.{length, getD, drop, set}
 use Rattle.limits.specs.Limits as Limits
-use Rattle.limits.specs.Numbers.{pick, word, has}
+use Rattle.limits.specs.Numbers.{word, has}
 use Rattle.frames.specs.Kinds as Kinds
 use Rattle.frames.specs.Kinds.{most}
 use Rattle.frames.specs.declared.fault.Fault.{Fault}
@@ -27,25 +27,25 @@ counted c k = record { last = k; count = set (c .count) k (getD (c .count) k 0 +
 -- a record of kind k comes: unknown, earlier than the last kind, later than the next one, too often, or counted
 unfoldable pub admit : Seen → ℕ → Step
 admit c k =
-    pick (ltb Kinds.obligations k) (refuse Kind c)
-    (pick (ltb k (c .last)) (refuse Kind c)
-    (pick (ltb 1 (k - c .last)) (refuse Kind c)
-    (pick (ltb (getD (c .count) k 0) (most k)) (record { check = Passed; seen = counted c k })
+    cond (ltb Kinds.obligations k) (refuse Kind c)
+    (cond (ltb k (c .last)) (refuse Kind c)
+    (cond (ltb 1 (k - c .last)) (refuse Kind c)
+    (cond (ltb (getD (c .count) k 0) (most k)) (record { check = Passed; seen = counted c k })
     (refuse Kind c))))
 
 -- the record in front: length cut short, under 2, past the end; then its kind
 unfoldable pub frame : Seen → List ℕ → Step
 frame c l =
-    pick (has 2 l)
-    (pick (ltb (word l) 2) (refuse Length c)
-    (pick (has (2 + word l) l) (admit c (word (drop 2 l)))
+    cond (has 2 l)
+    (cond (ltb (word l) 2) (refuse Length c)
+    (cond (has (2 + word l) l) (admit c (word (drop 2 l)))
     (refuse Length c)))
     (refuse Length c)
 
 -- the image ends where record i would come
 unfoldable pub ended : ℕ → Seen → Framing
 ended i c =
-    pick (eqb (c .last) Kinds.obligations)
+    cond (eqb (c .last) Kinds.obligations)
     (Sound (getD (c .count) Kinds.formula 0) (getD (c .count) Kinds.thread 0) (getD (c .count) Kinds.line 0))
     (Refused Kind i)
 
@@ -70,4 +70,4 @@ frames s = walk (length s) 1 none s
 
 -- empty or too long; then the frames
 unfoldable pub wholeImage : List ℕ → Framing
-wholeImage s = pick (eqb (length s) 0) (Refused Size 0) (pick (ltb Limits.imageBytes (length s)) (Refused Size 0) (frames s))
+wholeImage s = cond (eqb (length s) 0) (Refused Size 0) (cond (ltb Limits.imageBytes (length s)) (Refused Size 0) (frames s))

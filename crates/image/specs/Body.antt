@@ -1,8 +1,8 @@
 -- The body of one record, by its place: header, formulas, threads, outline, lines, obligations.
+use mathlib.Core.Bool.{cond}
 use mathlib.Core.List.{List}
 use Prim.Native.Nat.{ℕ, _+_, _-_}
 use lib.Dec.{eqb, leb}
-use Rattle.limits.specs.Numbers.{pick}
 use Rattle.frames.specs.declared.fault.Checked.{Checked}
 use Rattle.program.specs.declared.sizes.Sizes.{Sizes}
 use Rattle.program.specs.Header.{header}
@@ -29,11 +29,11 @@ linesEnd z = outlineAt z + z .lines
 -- record i, counted from 1: with a thread its number, with a line how many lines stand before it
 unfoldable pub placeOf : Sizes → ℕ → Place
 placeOf z i =
-    pick (eqb i 1) Header
-    (pick (leb i (formulasEnd z)) Formula
-    (pick (leb i (threadsEnd z)) (Thread (i - formulasEnd z))
-    (pick (leb i (outlineAt z)) Outline
-    (pick (leb i (linesEnd z)) (Line (i - outlineAt z - 1))
+    cond (eqb i 1) Header
+    (cond (leb i (formulasEnd z)) Formula
+    (cond (leb i (threadsEnd z)) (Thread (i - formulasEnd z))
+    (cond (leb i (outlineAt z)) Outline
+    (cond (leb i (linesEnd z)) (Line (i - outlineAt z - 1))
     Obligations))))
 
 -- in an image with bodies l, where t thread records were counted

@@ -9,7 +9,6 @@ use lib.ListN.{getD}
 use lib.Dec.{ltb, eqb}
 use borrow.Author.Tests.{lt-ltb, le-ltb, eq-eqb, ne-eqb, eqb-true, eqb-false, ltb-true, ltb-false}
 use Rattle.logic.specs.Rows.{rowCount}
-use Rattle.formula.specs.Codes.{pick}
 use Rattle.formula.specs.Tree.{Tree, none, node, nodeAt, skim}
 use Rattle.formula.specs.declared.node.Node.{Node}
 use Rattle.formula.proofs.Nodes.{skim-step}

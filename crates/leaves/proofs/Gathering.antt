@@ -2,18 +2,18 @@
 use Prim.Native.Nat.{ℕ, zero, suc, _+_, _-_, _*_, _≤_, _<_}
 use mathlib.Core.Path.{_≡_, refl, ap, ap₂, sym, _∙_}
 use mathlib.Core.List.{List, [], _∷_}
-use mathlib.Core.Bool.{Bool, true, false, _||_}
+use mathlib.Core.Bool.{Bool, true, false, _||_, cond}
 use native.Mathlib.Omega.{arith}
 use lib.ListN.{length, getD, set, length-set}
 use lib.Seq.{getD-set-same, getD-set-other}
 use lib.Dec.{ltb, eqb}
 use borrow.Author.Tests.{lt-ltb, le-ltb, eq-eqb, ne-eqb, ltb-true, ltb-false}
 use Rattle.logic.specs.Rows.{isIn}
-use Rattle.formula.specs.Codes.{pick, member}
+use Rattle.formula.specs.Codes.{member}
 use Rattle.formula.specs.Tree.{Tree, none, node, nodeAt, skim, grow, part, Skim}
 use Rattle.formula.specs.declared.node.Node.{Node}
 use Rattle.formula.proofs.Nodes.{skim-zero, skim-step}
-use Rattle.formula.proofs.Ends.{lower}
+use Rattle.formula.proofs.Auto.{lower}
 use Rattle.compare.specs.Same.{sameTree}
 use Rattle.leaves.specs.Slots.{slots, slotTree, leafSlot, numbers, slotAt, slotFrom, slotOf, kept}
 use Rattle.leaves.specs.Gather.{Gathered, many, keys, putT, gatherT, view, withSlot}
@@ -48,7 +48,7 @@ module _ (s q : List ℕ) (t : Tree) where
   from-least zero j = omega arith
   from-least (suc d) j = go (sameTree t (slotAt s q j)) (from-least d (suc j))
     where
-      go : (b : Bool) → suc j ≤ slotFrom s q d (suc j) t → j ≤ pick b j (slotFrom s q d (suc j) t)
+      go : (b : Bool) → suc j ≤ slotFrom s q d (suc j) t → j ≤ cond b j (slotFrom s q d (suc j) t)
       go true h = omega arith
       go false h = omega arith
 
@@ -56,7 +56,7 @@ module _ (s q : List ℕ) (t : Tree) where
   from-skip zero h g = of-is s q t
   from-skip (suc n) h g = go (sameTree t (slotAt s q n)) (from-skip n (omega arith) (omega arith) ∙ from-next s q n t (omega arith))
     where
-      go : (b : Bool) → slotOf s q t ≡ pick b n (slotFrom s q (slots - (n + 1)) (n + 1) t) → slotOf s q t ≡ slotFrom s q (slots - suc n) (suc n) t
+      go : (b : Bool) → slotOf s q t ≡ cond b n (slotFrom s q (slots - (n + 1)) (n + 1) t) → slotOf s q t ≡ slotFrom s q (slots - suc n) (suc n) t
       go true e = absurd (omega arith)
       go false e = let f : n + 1 ≡ suc n = omega arith in rw (← f) e
 
@@ -134,11 +134,11 @@ put-many : (c o : ℕ) (l r : Tree) → putT (node c o l r) many ≡ many
 unfolding putT
 put-many c o l r = refl
 
-put-keys : (c o : ℕ) (l r : Tree) (k : List Tree) → putT (node c o l r) (keys k) ≡ pick (isIn sameTree (node c o l r) k) (keys k) (pick (ltb (length k) slots) (keys (node c o l r ∷ k)) many)
+pub put-keys : (c o : ℕ) (l r : Tree) (k : List Tree) → putT (node c o l r) (keys k) ≡ cond (isIn sameTree (node c o l r) k) (keys k) (cond (ltb (length k) slots) (keys (node c o l r ∷ k)) many)
 unfolding putT
 put-keys c o l r k = refl
 
-put-some : (c o : ℕ) (l r t : Tree) (k : List Tree) → t ≡ node c o l r → putT t (keys k) ≡ pick (isIn sameTree t k) (keys k) (pick (ltb (length k) slots) (keys (t ∷ k)) many)
+put-some : (c o : ℕ) (l r t : Tree) (k : List Tree) → t ≡ node c o l r → putT t (keys k) ≡ cond (isIn sameTree t k) (keys k) (cond (ltb (length k) slots) (keys (t ∷ k)) many)
 put-some c o l r t k e = rw e (put-keys c o l r k)
 
 pub view-keys : (s : List ℕ) (g : Leaves) → g .count ≤ slots → view s g ≡ keys (kept s (g .slots) (g .count))
@@ -157,7 +157,7 @@ module _ (s : List ℕ) (at left : ℕ) (g : Leaves) where
   put-over z h = rw (view-many s g h, skim-step s left at z, put-many)
 
   module _ (r : ℕ) (z : left ≡ 0 → ⊥) (h : g .count ≤ slots) (er : r ≡ slotOf s (g .slots) (skim s left at .tree)) where
-    put-by : putT (skim s left at .tree) (view s g) ≡ pick (ltb r (g .count)) (keys (kept s (g .slots) (g .count))) (pick (ltb (g .count) slots) (keys (skim s left at .tree ∷ kept s (g .slots) (g .count))) many)
+    put-by : putT (skim s left at .tree) (view s g) ≡ cond (ltb r (g .count)) (keys (kept s (g .slots) (g .count))) (cond (ltb (g .count) slots) (keys (skim s left at .tree ∷ kept s (g .slots) (g .count))) many)
     put-by =
         ap (putT (skim s left at .tree)) (view-keys s g h)
         ∙ put-some _ _ _ _ (skim s left at .tree) (kept s (g .slots) (g .count)) (ap (λ (u : Skim). u .tree) (skim-step s left at z))
@@ -170,7 +170,7 @@ module _ (s : List ℕ) (at left : ℕ) (g : Leaves) where
     unfolding withSlot
     put-new p w len l ep ew = ap (view s) ew ∙ go (ltb (g .count) slots) refl ∙ sym (put-by ∙ rw (le-ltb _ _ l))
       where
-        go : (b : Bool) → ltb (g .count) slots ≡ b → view s (withSlot g p) ≡ pick (ltb (g .count) slots) (keys (skim s left at .tree ∷ kept s (g .slots) (g .count))) many
+        go : (b : Bool) → ltb (g .count) slots ≡ b → view s (withSlot g p) ≡ cond (ltb (g .count) slots) (keys (skim s left at .tree ∷ kept s (g .slots) (g .count))) many
         go true e =
             let n : g .count < slots = ltb-true (g .count) slots e in
             let m : g .count + 1 ≤ slots = omega arith in
@@ -187,7 +187,7 @@ gather-none : (w : ℕ) (m : Gathered) → gatherT w none m ≡ m
 unfolding gatherT
 gather-none w m = refl
 
-gather-node : (w c o : ℕ) (l r : Tree) (m : Gathered) → gatherT w (node c o l r) m ≡ pick (member w c) (putT (node c o l r) m) (gatherT w l (gatherT w r m))
+pub gather-node : (w c o : ℕ) (l r : Tree) (m : Gathered) → gatherT w (node c o l r) m ≡ cond (member w c) (putT (node c o l r) m) (gatherT w l (gatherT w r m))
 unfolding gatherT
 gather-node w c o l r m = refl
 

@@ -2,17 +2,18 @@
 use Prim.Native.Nat.{ℕ, zero, suc, _+_, _-_, _≤_, _<_}
 use mathlib.Core.Path.{_≡_, refl, ap, ap₂, sym, _∙_}
 use mathlib.Core.List.{List}
-use mathlib.Core.Bool.{Bool, true, false}
+use mathlib.Core.Bool.{Bool, true, false, cond, _&&_}
 use native.Mathlib.Omega.{arith}
 use lib.Dec.{ltb, eqb}
 use borrow.Author.Tests.{lt-ltb, eq-eqb, ne-eqb, eqb-true, eqb-false}
-use Rattle.formula.specs.Codes.{pick, partCount}
+use Rattle.formula.specs.Codes.{partCount}
 use Rattle.formula.specs.Tree.{Tree, none, node, nodeAt, skim, part, Skim}
 use Rattle.formula.specs.declared.node.Node.{Node}
 use Rattle.formula.proofs.Nodes.{skim-zero, skim-step, parts-of}
-use Rattle.compare.specs.Same.{both, sameTree, sameOf}
+use Rattle.compare.specs.Same.{sameTree, sameOf}
 use Rattle.compare.specs.declared.same.Same.{Same}
 use Rattle.compare.specs.declared.same.Same.the-variants.{Yes, No}
+use Rattle.compare.proofs.Pairs.{same-none, same-none-node, same-node-none, same-nodes}
 use Rattle.leaves.specs.Slots.{slots, slotTree, leafSlot, samePlain, sameSlot, numbers, slotAt, slotFrom, slotOf}
 use Rattle.leaves.specs.declared.slot.Slot.{Slot}
 
@@ -57,11 +58,11 @@ module _ (s : List ℕ) (at left : ℕ) (x : Node) (p : Slot) where
     abbrev t : Bool
     t = sameTree (skim s left at .tree) (skim s (p .left) (p .place) .tree)
 
-    said-yes : (b : Bool) (i j k l : ℕ) → pick b (Yes i j) No ≡ Yes k l → true ≡ b
+    said-yes : (b : Bool) (i j k l : ℕ) → cond b (Yes i j) No ≡ Yes k l → true ≡ b
     said-yes true i j k l h = refl
     said-yes false i j k l h = let z : _≡_ {A = ℕ} 0 1 = cc in absurd (omega arith)
 
-    said-no : (b : Bool) (i j : ℕ) → pick b (Yes i j) No ≡ No → false ≡ b
+    said-no : (b : Bool) (i j : ℕ) → cond b (Yes i j) No ≡ No → false ≡ b
     said-no true i j h = let z : _≡_ {A = ℕ} 0 1 = cc in absurd (omega arith)
     said-no false i j h = refl
 
@@ -100,23 +101,6 @@ module _ (s : List ℕ) (c o : ℕ) (p : Slot) where
     plain-there n = rw (ne-eqb _ _ z, ← ey, eq-eqb _ _ n)
 
 pub ruleset plains = (plain-code, plain-operand, plain-other, plain-there)
-
--- the clauses of comparison that are used here
-same-nodes : (c o d p : ℕ) (l r m s : Tree) → sameTree (node c o l r) (node d p m s) ≡ both (eqb c d) (both (eqb o p) (both (sameTree l m) (sameTree r s)))
-unfolding sameTree
-same-nodes c o d p l r m s = refl
-
-same-none : sameTree none none ≡ true
-unfolding sameTree
-same-none = refl
-
-same-none-node : (c o : ℕ) (l r : Tree) → sameTree none (node c o l r) ≡ false
-unfolding sameTree
-same-none-node c o l r = refl
-
-same-node-none : (c o : ℕ) (l r : Tree) → sameTree (node c o l r) none ≡ false
-unfolding sameTree
-same-node-none c o l r = refl
 
 -- comparison with a slot is comparison with its tree
 module _ (s : List ℕ) (at left : ℕ) (z : left ≡ 0 → ⊥) (p : Slot) where
@@ -157,7 +141,7 @@ module _ (s : List ℕ) (c o : ℕ) (none-of : partCount c ≡ 0) (p : Slot) whe
   unfolding samePlain slotTree
   same-plain = go (eqb (p .left) 0) (eqb c (nodeAt s (p .place) .code)) refl refl
     where
-      join : (a b : Bool) → pick a b false ≡ both a (both b (both (sameTree none none) (sameTree none none)))
+      join : (a b : Bool) → cond a b false ≡ (a && (b && (sameTree none none && sameTree none none)))
       join true true = rw same-none
       join true false = refl
       join false b = refl
@@ -174,7 +158,7 @@ slot-node : (s : List ℕ) (p : Slot) → sameTree none (slotTree s p) ≡ false
 unfolding slotTree
 slot-node s p = go (eqb (p .left) 0) refl
   where
-    go : (b : Bool) → eqb (p .left) 0 ≡ b → sameTree none (pick b (node (p .place) (p .operand) none none) (skim s (p .left) (p .place) .tree)) ≡ false
+    go : (b : Bool) → eqb (p .left) 0 ≡ b → sameTree none (cond b (node (p .place) (p .operand) none none) (skim s (p .left) (p .place) .tree)) ≡ false
     go true e = same-none-node (p .place) (p .operand) none none
     go false e = rw (skim-step s (p .left) (p .place) (eqb-false (p .left) 0 e), same-none-node)
 
@@ -184,7 +168,7 @@ unfolding slotTree leafSlot
 leaf-slot s at left z = go (eqb (nodeAt s at .parts) 0) refl
   where
     at-slot : Bool → Slot
-    at-slot b = pick b (record { place = nodeAt s at .code; operand = nodeAt s at .operand; left = 0 }) (record { place = at; operand = 0; left = left })
+    at-slot b = cond b (record { place = nodeAt s at .code; operand = nodeAt s at .operand; left = 0 }) (record { place = at; operand = 0; left = left })
 
     go : (b : Bool) → eqb (nodeAt s at .parts) 0 ≡ b → slotTree s (at-slot b) ≡ skim s left at .tree
     go true e =
@@ -193,11 +177,11 @@ leaf-slot s at left z = go (eqb (nodeAt s at .parts) 0) refl
     go false e = rw (ne-eqb _ _ z)
 
 -- from one slot to the next
-from-step : (s q : List ℕ) (d j : ℕ) (t : Tree) → slotFrom s q (suc d) j t ≡ pick (sameTree t (slotAt s q j)) j (slotFrom s q d (suc j) t)
+from-step : (s q : List ℕ) (d j : ℕ) (t : Tree) → slotFrom s q (suc d) j t ≡ cond (sameTree t (slotAt s q j)) j (slotFrom s q d (suc j) t)
 unfolding slotFrom
 from-step s q d j t = refl
 
-pub from-next : (s q : List ℕ) (j : ℕ) (t : Tree) → j < slots → slotFrom s q (slots - j) j t ≡ pick (sameTree t (slotAt s q j)) j (slotFrom s q (slots - (j + 1)) (j + 1) t)
+pub from-next : (s q : List ℕ) (j : ℕ) (t : Tree) → j < slots → slotFrom s q (slots - j) j t ≡ cond (sameTree t (slotAt s q j)) j (slotFrom s q (slots - (j + 1)) (j + 1) t)
 from-next s q j t h =
     let e : slots - j ≡ suc (slots - (j + 1)) = omega arith in
     let f : suc j ≡ j + 1 = omega arith in

@@ -1,18 +1,17 @@
 -- Rows counted.
 use Prim.Native.Nat.{ℕ, zero, suc, _+_, _*_}
 use mathlib.Core.List.{List, [], _∷_}
-use mathlib.Core.Bool.{Bool, true, false}
+use mathlib.Core.Bool.{Bool, true, false, cond}
 use lib.Dec.{eqb, ltb}
 use Rattle.logic.specs.Code
 use Rattle.logic.specs.Code.{byte}
 use Rattle.logic.specs.Rows.{rowCount}
-use Rattle.formula.specs.Codes.{pick}
 use Rattle.formula.specs.Tree.{Tree, none, node}
 use Rattle.compare.specs.Same.{sameTree}
 use Rattle.leaves.specs.Slots.{kept}
 
 unfoldable pub choicesBy : ℕ → ℕ → ℕ
-choicesBy R c = pick (eqb c (byte Code.reg)) R (pick (eqb c (byte Code.word)) R 2)
+choicesBy R c = cond (eqb c (byte Code.reg)) R (cond (eqb c (byte Code.word)) R 2)
 
 -- so many choices for a register or a word as there are values; true and false for any other leaf
 unfoldable pub choicesT : ℕ → Tree → ℕ
@@ -21,7 +20,7 @@ choicesT R (node c o l r) = choicesBy R c
 
 -- the product, or the limit and 1 if it is above the limit
 unfoldable pub capped : ℕ → ℕ → ℕ → ℕ
-capped limit n rows = pick (ltb limit (n * rows)) (limit + 1) (n * rows)
+capped limit n rows = cond (ltb limit (n * rows)) (limit + 1) (n * rows)
 
 -- the number of rows, or the limit and 1 if it is above the limit
 unfoldable pub rowsUpTo : List ℕ → List ℕ → ℕ → ℕ → ℕ → ℕ

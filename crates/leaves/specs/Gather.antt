@@ -1,11 +1,11 @@
 -- Leaves gathered, each once.
 use Prim.Native.Nat.{ℕ, zero, suc, _+_, _*_}
 use mathlib.Core.List.{List, [], _∷_, _++_}
-use mathlib.Core.Bool.{Bool, true, false}
+use mathlib.Core.Bool.{Bool, true, false, cond}
 use lib.ListN.{length, set}
 use lib.Dec.{ltb}
 use Rattle.logic.specs.Rows.{isIn}
-use Rattle.formula.specs.Codes.{pick, member}
+use Rattle.formula.specs.Codes.{member}
 use Rattle.formula.specs.Tree.{Tree, none, node}
 use Rattle.compare.specs.Same.{sameTree}
 use Rattle.leaves.specs.Slots.{slots, kept}
@@ -15,7 +15,7 @@ use Rattle.leaves.specs.declared.gather.Leaves.{Leaves}
 -- the leaves of a tree: its nodes whose code is in the set, from left to right, whole
 unfoldable pub leavesT : ℕ → Tree → List Tree
 leavesT w none = []
-leavesT w (node c o l r) = pick (member w c) (node c o l r ∷ []) (leavesT w l ++ leavesT w r)
+leavesT w (node c o l r) = cond (member w c) (node c o l r ∷ []) (leavesT w l ++ leavesT w r)
 
 -- leaves, each once, the newest first; or too many for the slots
 pub data Gathered : Type 0 where
@@ -25,19 +25,19 @@ pub data Gathered : Type 0 where
 unfoldable pub putT : Tree → Gathered → Gathered
 putT none m = m
 putT (node c o l r) many = many
-putT (node c o l r) (keys k) = pick (isIn sameTree (node c o l r) k) (keys k) (pick (ltb (length k) slots) (keys (node c o l r ∷ k)) many)
+putT (node c o l r) (keys k) = cond (isIn sameTree (node c o l r) k) (keys k) (cond (ltb (length k) slots) (keys (node c o l r ∷ k)) many)
 
 -- with the leaves of a tree, from right to left
 unfoldable pub gatherT : ℕ → Tree → Gathered → Gathered
 gatherT w none m = m
-gatherT w (node c o l r) m = pick (member w c) (putT (node c o l r) m) (gatherT w l (gatherT w r m))
+gatherT w (node c o l r) m = cond (member w c) (putT (node c o l r) m) (gatherT w l (gatherT w r m))
 
 -- what the slots hold
 unfoldable pub view : List ℕ → Leaves → Gathered
-view s g = pick (ltb slots (g .count)) many (keys (kept s (g .slots) (g .count)))
+view s g = cond (ltb slots (g .count)) many (keys (kept s (g .slots) (g .count)))
 
 unfoldable pub withSlot : Leaves → Slot → Leaves
 withSlot g p =
-    pick (ltb (g .count) slots)
+    cond (ltb (g .count) slots)
     (record { count = g .count + 1; slots = set (set (set (g .slots) (3 * g .count) (p .place)) (3 * g .count + 1) (p .operand)) (3 * g .count + 2) (p .left) })
     (record { count = slots + 1; slots = g .slots })

@@ -1,10 +1,9 @@
 -- Slots of leaves.
 use Prim.Native.Nat.{ℕ, zero, suc, _+_, _*_}
 use mathlib.Core.List.{List, [], _∷_}
-use mathlib.Core.Bool.{Bool, true, false}
+use mathlib.Core.Bool.{Bool, true, false, cond}
 use lib.ListN.{getD}
 use lib.Dec.{eqb}
-use Rattle.formula.specs.Codes.{pick}
 use Rattle.formula.specs.Tree.{Tree, none, node, nodeAt, skim}
 use Rattle.formula.specs.declared.node.Node.{Node}
 use Rattle.compare.specs.Same.{sameTree}
@@ -15,25 +14,25 @@ slots = 12
 
 -- a leaf without parts by its code and operand; any other where it stands
 unfoldable pub slotTree : List ℕ → Slot → Tree
-slotTree s p = pick (eqb (p .left) 0) (node (p .place) (p .operand) none none) (skim s (p .left) (p .place) .tree)
+slotTree s p = cond (eqb (p .left) 0) (node (p .place) (p .operand) none none) (skim s (p .left) (p .place) .tree)
 
 unfoldable pub leafSlot : List ℕ → ℕ → ℕ → Slot
 leafSlot s at left =
-    pick (eqb (nodeAt s at .parts) 0)
+    cond (eqb (nodeAt s at .parts) 0)
     (record { place = nodeAt s at .code; operand = nodeAt s at .operand; left = 0 })
     (record { place = at; operand = 0; left = left })
 
 -- whether a leaf without parts is the one in the slot
 unfoldable pub samePlain : List ℕ → ℕ → ℕ → Slot → Bool
 samePlain s c o p =
-    pick (eqb (p .left) 0) (pick (eqb c (p .place)) (eqb o (p .operand)) false)
-    (pick (eqb c (nodeAt s (p .place) .code)) (eqb o (nodeAt s (p .place) .operand)) false)
+    cond (eqb (p .left) 0) (cond (eqb c (p .place)) (eqb o (p .operand)) false)
+    (cond (eqb c (nodeAt s (p .place) .code)) (eqb o (nodeAt s (p .place) .operand)) false)
 
 -- whether the formula at a position, whose root is x, is the one in the slot
 unfoldable pub sameSlot : List ℕ → ℕ → ℕ → Node → Slot → Bool
 sameSlot s at left x p =
-    pick (eqb (p .left) 0)
-    (pick (eqb (x .code) (p .place)) (pick (eqb (x .operand) (p .operand)) (pick (eqb (x .parts) 0) true (eqb left 1)) false) false)
+    cond (eqb (p .left) 0)
+    (cond (eqb (x .code) (p .place)) (cond (eqb (x .operand) (p .operand)) (cond (eqb (x .parts) 0) true (eqb left 1)) false) false)
     (sameTree (skim s left at .tree) (skim s (p .left) (p .place) .tree))
 
 -- three numbers for each slot
@@ -46,7 +45,7 @@ slotAt s q j = slotTree s (numbers q j)
 -- the first of d slots from j that has the tree, or the one behind them
 unfoldable pub slotFrom : List ℕ → List ℕ → ℕ → ℕ → Tree → ℕ
 slotFrom s q zero j t = j
-slotFrom s q (suc d) j t = pick (sameTree t (slotAt s q j)) j (slotFrom s q d (suc j) t)
+slotFrom s q (suc d) j t = cond (sameTree t (slotAt s q j)) j (slotFrom s q d (suc j) t)
 
 unfoldable pub slotOf : List ℕ → List ℕ → Tree → ℕ
 slotOf s q t = slotFrom s q slots 0 t

@@ -5,10 +5,6 @@ use Prim.Native.Nat.{ℕ, zero, suc, _+_, _*_}
 use lib.Dec.{leb}
 use lib.ListN.{getD, drop}
 
-abbrev pub pick : {A : Type 0} → Bool → A → A → A
-pick true a b = a
-pick false a b = b
-
 -- the 16-bit number in front, little-endian
 unfoldable pub word : List ℕ → ℕ
 word l = getD l 0 0 + 256 * getD l 1 0

@@ -58,6 +58,10 @@ by-word x P h g y = go (eqb y x) refl
 
 pub ruleset upds = (upd-same, upd-other, upd-same₁, upd-other₁)
 
+pub holds-true : (b : Bool) → T b → b ≡ true
+holds-true true h = refl
+holds-true false h = absurd h
+
 pub and-left : (a b : Bool) → T (a && b) → T a
 and-left true b h = tt
 and-left false b h = h

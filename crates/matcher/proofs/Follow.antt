@@ -3,7 +3,7 @@ use Prim.Native.Nat.{ℕ, zero, suc, _+_, _-_, _≤_, _<_}
 use mathlib.Core.Path.{_≡_, refl, ap, ap₂, sym, _∙_, subst, fun-ext}
 use mathlib.Core.List.{List, [], _∷_}
 use mathlib.Core.Logic.{_≢_}
-use mathlib.Core.Bool.{Bool, true, false, _&&_}
+use mathlib.Core.Bool.{Bool, true, false, _&&_, cond}
 use mathlib.Core.Option.{Option, none, some}
 use native.Mathlib.Omega.{arith}
 use lib.ListN.{length, getD, set, length-set}
@@ -13,7 +13,7 @@ use borrow.Author.Tests.{lt-ltb, le-ltb, le-leb, lt-leb, eq-eqb, ne-eqb, eqb-tru
 use Rattle.logic.specs.Base.{upd}
 use Rattle.logic.specs.Code.{Code, byte}
 use Rattle.logic.proofs.Base.{upd-same, upd-other, by-word, and-left, and-right}
-use Rattle.formula.specs.Codes.{pick, among, onePart, twoParts, operandCodes, hasOperand, partCount}
+use Rattle.formula.specs.Codes.{among, onePart, twoParts, operandCodes, hasOperand, partCount}
 use Rattle.formula.specs.Tree.{Tree, Tree.node, Skim, part, nodeAt, skim}
 use Rattle.formula.specs.declared.node.Node.{Node}
 use Rattle.formula.proofs.Nodes.{skim-zero, skim-step, parts-of}
@@ -42,7 +42,7 @@ module _ (s : List ℕ) (b : Bind) (z : Sized b) where
   num-set j n h = λ q. record { num = nums q; tree = takenOf s b .tree }
     where
       value : ℕ → Option ℕ
-      value m = pick (eqb m 0) none (some (m - 1))
+      value m = cond (eqb m 0) none (some (m - 1))
 
       suc-value : value (n + 1) ≡ some n
       suc-value = let e : n + 1 ≢ 0 = omega arith in let d : n + 1 - 1 ≡ n = omega arith in rw (ne-eqb (n + 1) 0 e, d)
@@ -58,7 +58,7 @@ module _ (s : List ℕ) (b : Bind) (z : Sized b) where
   tree-set j at k h n = λ q. record { num = takenOf s b .num; tree = trees q }
     where
       value : ℕ → ℕ → Option Tree
-      value m p = pick (eqb m 0) none (some (skim s m p .tree))
+      value m p = cond (eqb m 0) none (some (skim s m p .tree))
 
       trees : (λ (i : ℕ). value (getD (set (b .left) j k) i 0) (getD (set (b .at) j at) i 0)) ≡ upd (λ (i : ℕ). value (getD (b .left) i 0) (getD (b .at) i 0)) j (some (skim s k at .tree))
       trees = fun-ext (by-word j _
@@ -69,7 +69,7 @@ module _ (s : List ℕ) (b : Bind) (z : Sized b) where
 
 -- what is taken, if it is
 abbrev pub given : List ℕ → Bool → Bind → Option Trees.Taken
-given s ok b = pick ok (some (takenOf s b)) none
+given s ok b = cond ok (some (takenOf s b)) none
 
 when-given : (s : List ℕ) (x : Bool) (b : Bind) → when x (takenOf s b) ≡ given s x b
 when-given s true b = refl
@@ -78,13 +78,13 @@ when-given s false b = refl
 -- an operand: by what the tests show
 abbrev taking : Bind → ℕ → ℕ → Bool → Bool → Bool → Taken
 taking b o n i j e =
-    pick i
-    (pick j
-    (pick e (record { ok = true; bind = record { at = b .at; left = b .left; num = set (b .num) o (n + 1) } }) (record { ok = eqb (getD (b .num) o 0) (n + 1); bind = b }))
+    cond i
+    (cond j
+    (cond e (record { ok = true; bind = record { at = b .at; left = b .left; num = set (b .num) o (n + 1) } }) (record { ok = eqb (getD (b .num) o 0) (n + 1); bind = b }))
     (record { ok = false; bind = b }))
     (record { ok = eqb (o - firstNumber) n; bind = b })
 
-operand-follows : (s : List ℕ) (b : Bind) → Sized b → (d o n : ℕ) → hasOperand d ≡ true → T (pick (ltb o firstNumber) (ltb o holeCount) true)
+operand-follows : (s : List ℕ) (b : Bind) → Sized b → (d o n : ℕ) → hasOperand d ≡ true → T (cond (ltb o firstNumber) (ltb o holeCount) true)
     → takeOperand d o n (takenOf s b) ≡ given s (operandOf o n b .ok) (operandOf o n b .bind)
 unfolding operandOf
 operand-follows s b z d o n h p = go (hasOperand d) (ltb o firstNumber) (ltb o holeCount) (eqb (getD (b .num) o 0) 0) h refl refl refl p
@@ -99,8 +99,8 @@ operand-follows s b z d o n h p = go (hasOperand d) (ltb o firstNumber) (ltb o h
             cases true e = let f = eqb-true (m - 1) n e in sym (eq-eqb m (n + 1) (omega arith))
             cases false e = let f = eqb-false (m - 1) n e in sym (ne-eqb m (n + 1) (λ (g : m ≡ n + 1). f (omega arith)))
 
-    go : (a i j e : Bool) → a ≡ true → ltb o firstNumber ≡ i → ltb o holeCount ≡ j → eqb (getD (b .num) o 0) 0 ≡ e → T (pick i j true)
-        → _≡_ {A = Option Trees.Taken} (elim a [ false ↦ when (eqb 0 n) (takenOf s b) | true ↦ elim i [ true ↦ takeNum o n (takenOf s b) (pick e none (some (getD (b .num) o 0 - 1))) | false ↦ when (eqb (o - firstNumber) n) (takenOf s b) ] ])
+    go : (a i j e : Bool) → a ≡ true → ltb o firstNumber ≡ i → ltb o holeCount ≡ j → eqb (getD (b .num) o 0) 0 ≡ e → T (cond i j true)
+        → _≡_ {A = Option Trees.Taken} (elim a [ false ↦ when (eqb 0 n) (takenOf s b) | true ↦ elim i [ true ↦ takeNum o n (takenOf s b) (cond e none (some (getD (b .num) o 0 - 1))) | false ↦ when (eqb (o - firstNumber) n) (takenOf s b) ] ])
         (given s (taking b o n i j e .ok) (taking b o n i j e .bind))
     go false i j e h q r w p = let y : _≡_ {A = ℕ} 0 1 = cc in absurd (omega arith)
     go true true true true h q r w p = ap some (sym (num-set s b z o n (ltb-true o holeCount r)))
@@ -147,8 +147,8 @@ hole-leaf c h = rw (high c twoParts tt h, high c onePart tt h)
 -- of a node without an operand the tree has 0
 abbrev shown : List ℕ → ℕ → Bool → Bool → Node
 shown s at a b =
-    pick a
-    (pick b
+    cond a
+    (cond b
     (record { code = getD s at 0; operand = getD s (at + 1) 0; parts = partCount (getD s at 0); next = at + 2 })
     (record { code = getD s at 0; operand = 0; parts = partCount (getD s at 0); next = at + 1 }))
     (record { code = 0; operand = 0; parts = 0; next = at })
@@ -180,7 +180,7 @@ match-none : (b : Trees.Taken) → matchT Tree.none Tree.none b ≡ some b
 unfolding matchT
 match-none b = refl
 
-proper-node : (d o : ℕ) (l r : Tree) → proper (node d o l r) ≡ pick (ltb d firstHole) (pick (hasOperand d) (pick (ltb o firstNumber) (ltb o holeCount) true) true && (proper l && proper r)) (ltb (d - firstHole) holeCount)
+proper-node : (d o : ℕ) (l r : Tree) → proper (node d o l r) ≡ cond (ltb d firstHole) (cond (hasOperand d) (cond (ltb o firstNumber) (ltb o holeCount) true) true && (proper l && proper r)) (ltb (d - firstHole) holeCount)
 unfolding proper
 proper-node d o l r = refl
 
@@ -270,7 +270,7 @@ module _ (s t : List ℕ) (k : ℕ) (ih : (i at : ℕ) (b : Bind) → Sized b �
         sized = f .sized;
       })
         where
-          settle : (o : Bool) → m .ok ≡ o → pick o m m ≡ m
+          settle : (o : Bool) → m .ok ≡ o → cond o m m ≡ m
           settle true q = refl
           settle false q = refl
 
@@ -330,7 +330,7 @@ module _ (s t : List ℕ) (k : ℕ) (ih : (i at : ℕ) (b : Bind) → Sized b �
     its-tree = refl
 
     abbrev operand-ok : Bool
-    operand-ok = pick (hasOperand (h .code)) (pick (ltb (h .operand) firstNumber) (ltb (h .operand) holeCount) true) true
+    operand-ok = cond (hasOperand (h .code)) (cond (ltb (h .operand) firstNumber) (ltb (h .operand) holeCount) true) true
 
     -- on trees: the codes, the operands, the parts
     by-tree : matchT (skim t (suc k) i .tree) (skim s (suc k) at .tree) (takenOf s b)

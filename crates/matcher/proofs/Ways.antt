@@ -2,12 +2,12 @@
 use Prim.Native.Nat.{ℕ, zero, suc, _-_, _≤_, _<_}
 use mathlib.Core.Path.{_≡_, refl, ap, _∙_}
 use mathlib.Core.List.{List}
-use mathlib.Core.Bool.{Bool, true, false}
+use mathlib.Core.Bool.{Bool, true, false, cond}
 use native.Mathlib.Numerals.{sub-one}
 use native.Mathlib.Omega.{arith}
 use lib.ListN.{getD, set}
 use borrow.Author.Tests.{lt-ltb, le-ltb, eq-eqb, ne-eqb}
-use Rattle.formula.specs.Codes.{pick, among, onePart, twoParts, hasOperand, partCount}
+use Rattle.formula.specs.Codes.{among, onePart, twoParts, hasOperand, partCount}
 use Rattle.formula.specs.Tree.{nodeAt, skim}
 use Rattle.formula.specs.declared.node.Node.{Node}
 use Rattle.formula.proofs.Nodes.{parts-of}
@@ -64,7 +64,7 @@ pub few-parts : (c : ℕ) → partCount c < 3
 unfolding partCount
 few-parts c = go (among c twoParts) (among c onePart)
   where
-    go : (a b : Bool) → pick {A = ℕ} a 2 (pick b 1 0) < 3
+    go : (a b : Bool) → cond {A = ℕ} a 2 (cond b 1 0) < 3
     go true b = omega arith
     go false true = omega arith
     go false false = omega arith

@@ -1,11 +1,11 @@
 -- The matcher by positions: a template and a formula where they stand, the holes by position too.
 use Prim.Native.Nat.{ℕ, zero, suc, _+_, _-_}
 use mathlib.Core.List.{List}
-use mathlib.Core.Bool.{Bool, true, false, _&&_}
+use mathlib.Core.Bool.{Bool, true, false, _&&_, cond}
 use mathlib.Core.Option.{Option, none, some}
-use lib.ListN.{getD, set, replicate}
+use lib.ListN.{getD, set}
 use lib.Dec.{ltb, eqb}
-use Rattle.formula.specs.Codes.{pick, hasOperand}
+use Rattle.formula.specs.Codes.{hasOperand}
 use Rattle.formula.specs.Tree.{Tree, skim, nodeAt}
 use Rattle.formula.specs.declared.node.Node.{Node}
 use Rattle.compare.specs.Same.{sameOf}
@@ -31,15 +31,15 @@ heldAt b tpl (Yes p q) = record { kind = 1; tpl = tpl; next = q; bind = b }
 
 unfoldable pub holeAt : List ℕ → ℕ → ℕ → ℕ → ℕ → Bind → Root
 holeAt s tpl j at k b =
-    pick (eqb (getD (b .left) j 0) 0)
+    cond (eqb (getD (b .left) j 0) 0)
     (record { kind = 1; tpl = tpl; next = skim s k at .end; bind = record { at = set (b .at) j at; left = set (b .left) j k; num = b .num } })
     (heldAt b tpl (sameOf (skim s (getD (b .left) j 0) (getD (b .at) j 0)) (skim s k at)))
 
 unfoldable pub operandOf : ℕ → ℕ → Bind → Taken
 operandOf want has b =
-    pick (ltb want firstNumber)
-    (pick (ltb want holeCount)
-    (pick (eqb (getD (b .num) want 0) 0)
+    cond (ltb want firstNumber)
+    (cond (ltb want holeCount)
+    (cond (eqb (getD (b .num) want 0) 0)
     (record { ok = true; bind = record { at = b .at; left = b .left; num = set (b .num) want (has + 1) } })
     (record { ok = eqb (getD (b .num) want 0) (has + 1); bind = b }))
     (record { ok = false; bind = b }))
@@ -50,45 +50,41 @@ rooted h x b = record { kind = x .parts + 1; tpl = h .next; next = x .next; bind
 
 unfoldable pub nodeOf : Node → Node → Bind → Root
 nodeOf h x b =
-    pick (eqb (h .code) (x .code))
-    (pick (hasOperand (h .code))
-    (pick (operandOf (h .operand) (x .operand) b .ok) (rooted h x (operandOf (h .operand) (x .operand) b .bind)) (refused b))
+    cond (eqb (h .code) (x .code))
+    (cond (hasOperand (h .code))
+    (cond (operandOf (h .operand) (x .operand) b .ok) (rooted h x (operandOf (h .operand) (x .operand) b .bind)) (refused b))
     (rooted h x b))
     (refused b)
 
 unfoldable pub rootAt : List ℕ → List ℕ → ℕ → ℕ → ℕ → Bind → Root
 rootAt s t i at k b =
-    pick (eqb k 0) (record { kind = 1; tpl = i; next = at; bind = b })
-    (pick (ltb (nodeAt t i .code) firstHole) (nodeOf (nodeAt t i) (nodeAt s at) b)
-    (pick (ltb (nodeAt t i .code - firstHole) holeCount) (holeAt s (nodeAt t i .next) (nodeAt t i .code - firstHole) at k b) (refused b)))
+    cond (eqb k 0) (record { kind = 1; tpl = i; next = at; bind = b })
+    (cond (ltb (nodeAt t i .code) firstHole) (nodeOf (nodeAt t i) (nodeAt s at) b)
+    (cond (ltb (nodeAt t i .code - firstHole) holeCount) (holeAt s (nodeAt t i .next) (nodeAt t i .code - firstHole) at k b) (refused b)))
 
 abbrev pub thenMatch : Match → (Match → Match) → Match
-thenMatch m f = pick (m .ok) (f m) m
+thenMatch m f = cond (m .ok) (f m) m
 
 -- from the roots, the parts matched by f one after the other
 abbrev pub grown : (ℕ → ℕ → Bind → Match) → Root → Match
 grown f r =
-    pick (eqb (r .kind) 0) (record { ok = false; tpl = r .tpl; next = r .next; bind = r .bind })
-    (pick (eqb (r .kind) 1) (record { ok = true; tpl = r .tpl; next = r .next; bind = r .bind })
-    (thenMatch (f (r .tpl) (r .next) (r .bind)) (λ m. pick (eqb (r .kind) 2) m (f (m .tpl) (m .next) (m .bind)))))
+    cond (eqb (r .kind) 0) (record { ok = false; tpl = r .tpl; next = r .next; bind = r .bind })
+    (cond (eqb (r .kind) 1) (record { ok = true; tpl = r .tpl; next = r .next; bind = r .bind })
+    (thenMatch (f (r .tpl) (r .next) (r .bind)) (λ m. cond (eqb (r .kind) 2) m (f (m .tpl) (m .next) (m .bind)))))
 
 unfoldable pub matchAt : List ℕ → List ℕ → ℕ → ℕ → ℕ → Bind → Match
 matchAt s t zero i at b = record { ok = true; tpl = i; next = at; bind = b }
 matchAt s t (suc k) i at b = grown (λ i' at' b'. matchAt s t k i' at' b') (rootAt s t i at (suc k) b)
 
--- nothing taken yet
-abbrev pub unbound : Bind
-unbound = record { at = replicate holeCount 0; left = replicate holeCount 0; num = replicate holeCount 0 }
-
 -- what the holes have taken, as trees and numbers
 abbrev pub takenOf : List ℕ → Bind → Match.Taken
 takenOf s b = record {
-  num = λ j. pick (eqb (getD (b .num) j 0) 0) none (some (getD (b .num) j 0 - 1));
-  tree = λ j. pick (eqb (getD (b .left) j 0) 0) none (some (skim s (getD (b .left) j 0) (getD (b .at) j 0) .tree));
+  num = λ j. cond (eqb (getD (b .num) j 0) 0) none (some (getD (b .num) j 0 - 1));
+  tree = λ j. cond (eqb (getD (b .left) j 0) 0) none (some (skim s (getD (b .left) j 0) (getD (b .at) j 0) .tree));
 }
 
 -- a template whose holes are among those that there are
 unfoldable pub proper : Tree → Bool
 proper Tree.none = true
 proper (Tree.node d o l r) =
-    pick (ltb d firstHole) (pick (hasOperand d) (pick (ltb o firstNumber) (ltb o holeCount) true) true && (proper l && proper r)) (ltb (d - firstHole) holeCount)
+    cond (ltb d firstHole) (cond (hasOperand d) (cond (ltb o firstNumber) (ltb o holeCount) true) true && (proper l && proper r)) (ltb (d - firstHole) holeCount)

@@ -2,14 +2,15 @@
 use Prim.Native.Nat.{ℕ, zero, suc, _-_, _≤_, _<_}
 use mathlib.Core.Path.{_≡_, refl, sym, _∙_}
 use mathlib.Core.List.{List}
-use mathlib.Core.Bool.{Bool, true, false, not}
+use mathlib.Core.Bool.{Bool, true, false, not, cond}
 use native.Mathlib.Omega.{arith}
 use lib.Dec.{ltb, eqb}
 use borrow.Author.Tests.{lt-ltb, eq-eqb, ne-eqb}
-use Rattle.formula.specs.Codes.{pick, member}
+use Rattle.formula.specs.Codes.{member}
 use Rattle.formula.specs.Tree.{Tree, none, node, Skim, nodeAt, skim}
 use Rattle.formula.specs.declared.node.Node.{Node}
 use Rattle.formula.proofs.Nodes.{skim-zero, skim-step}
+use Rattle.formula.proofs.Auto.{lower}
 use Rattle.occurs.specs.Occurs.{ownerOf, any, equal, isSought, occurs, foundIn}
 use Rattle.occurs.specs.declared.find.Sought.{Sought}
 use Rattle.occurs.specs.declared.find.Found.{Found}
@@ -34,7 +35,7 @@ module _ (w : Sought) (owners : List ℕ) (c o : ℕ) (t : Bool) (e : t ≡ memb
 
 pub ruleset soughts = (sought-no, sought-any, sought-equal, sought-foreign)
 
-occurs-node : (w : Sought) (owners : List ℕ) (c o : ℕ) (l r : Tree) → occurs w owners (node c o l r) ≡ pick (isSought w owners c o) true (pick (occurs w owners l) true (occurs w owners r))
+occurs-node : (w : Sought) (owners : List ℕ) (c o : ℕ) (l r : Tree) → occurs w owners (node c o l r) ≡ cond (isSought w owners c o) true (cond (occurs w owners l) true (occurs w owners r))
 unfolding occurs
 occurs-node w owners c o l r = refl
 
@@ -42,11 +43,11 @@ occurs-none : (w : Sought) (owners : List ℕ) → occurs w owners none ≡ fals
 unfolding occurs
 occurs-none w owners = refl
 
-said-yes : (b : Bool) (e : ℕ) (f : Found) → f ≡ pick b Yes (No e) → f ≡ Yes → b ≡ true
+said-yes : (b : Bool) (e : ℕ) (f : Found) → f ≡ cond b Yes (No e) → f ≡ Yes → b ≡ true
 said-yes true e f h d = refl
 said-yes false e f h d = let z : _≡_ {A = ℕ} 0 1 = cc in absurd (omega arith)
 
-said-no : (b : Bool) (e m : ℕ) (f : Found) → f ≡ pick b Yes (No e) → f ≡ No m → (b ≡ false) × (e ≡ m)
+said-no : (b : Bool) (e m : ℕ) (f : Found) → f ≡ cond b Yes (No e) → f ≡ No m → (b ≡ false) × (e ≡ m)
 said-no true e m f h d = let z : _≡_ {A = ℕ} 0 1 = cc in absurd (omega arith)
 said-no false e m f h d = (refl, (cc))
 
@@ -87,9 +88,6 @@ module _ (w : Sought) (owners : List ℕ) (s : List ℕ) (k at : ℕ) where
 
   pub found-no : (f : Found) (m : ℕ) → f ≡ foundIn w owners (skim s k at) → f ≡ No m → false ≡ occurs w owners (skim s k at .tree)
   found-no f m e d = sym (said-no (occurs w owners (skim s k at .tree)) (skim s k at .end) m f e d .0)
-
-pub lower : (m t : ℕ) → m ≡ t → (m ≡ 0 → ⊥) → m - 1 < t
-lower m t e h = omega arith
 
 pub ruleset finds = (find-zero, find-here, find-leaf, find-part, find-one, find-two, lower)
 

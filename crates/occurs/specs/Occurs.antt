@@ -1,11 +1,11 @@
 -- What occurs in a tree.
 use Prim.Native.Nat.{ℕ, _-_}
 use mathlib.Core.List.{List, [], _∷_}
-use mathlib.Core.Bool.{Bool, true, false, not}
+use mathlib.Core.Bool.{Bool, true, false, not, cond}
 use lib.ListN.{getD}
 use lib.Dec.{eqb}
 use Rattle.logic.specs.Code
-use Rattle.formula.specs.Codes.{pick, member, setOf}
+use Rattle.formula.specs.Codes.{member, setOf}
 use Rattle.formula.specs.Tree.{Tree, none, node, Skim}
 use Rattle.occurs.specs.declared.find.Sought.{Sought}
 use Rattle.occurs.specs.declared.find.Found.{Found}
@@ -13,7 +13,7 @@ use Rattle.occurs.specs.declared.find.Found.the-variants.{Yes, No}
 
 -- registers count from 1
 unfoldable pub ownerOf : List ℕ → ℕ → ℕ
-ownerOf owners r = pick (eqb r 0) 0 (getD owners (r - 1) 0)
+ownerOf owners r = cond (eqb r 0) 0 (getD owners (r - 1) 0)
 
 -- which operands are looked for
 abbrev pub any : ℕ
@@ -27,16 +27,16 @@ notOwned = 2
 
 unfoldable pub isSought : Sought → List ℕ → ℕ → ℕ → Bool
 isSought w owners c o =
-    pick (member (w .codes) c)
-    (pick (eqb (w .operand) any) true (pick (eqb (w .operand) equal) (eqb o (w .number)) (not (eqb (ownerOf owners o) (w .number)))))
+    cond (member (w .codes) c)
+    (cond (eqb (w .operand) any) true (cond (eqb (w .operand) equal) (eqb o (w .number)) (not (eqb (ownerOf owners o) (w .number)))))
     false
 
 unfoldable pub occurs : Sought → List ℕ → Tree → Bool
 occurs w owners none = false
-occurs w owners (node c o l r) = pick (isSought w owners c o) true (pick (occurs w owners l) true (occurs w owners r))
+occurs w owners (node c o l r) = cond (isSought w owners c o) true (cond (occurs w owners l) true (occurs w owners r))
 
 abbrev pub foundIn : Sought → List ℕ → Skim → Found
-foundIn w owners u = pick (occurs w owners (u .tree)) Yes (No (u .end))
+foundIn w owners u = cond (occurs w owners (u .tree)) Yes (No (u .end))
 
 -- the register r
 abbrev pub register : ℕ → Sought

@@ -13,16 +13,12 @@ use Rattle.logic.specs.Statement.{Statement}
 use Rattle.logic.specs.Fits.{sameStatement}
 use Rattle.logic.specs.Obligations.{Obligation, Obligation.start, obligations}
 use Rattle.logic.specs.EveryRun.{Derived, EveryRun}
-use Rattle.logic.proofs.Base.{is-true}
+use Rattle.logic.proofs.Base.{is-true, holds-true}
 use Rattle.logic.proofs.Fit.{statement-eq, statement-refl}
 use Rattle.logic.proofs.Runs.{every-run}
 use Rattle.certificate.specs.Lines.{marked, Justified}
 use Rattle.certificate.proofs.Marks.{marked-justified, justified-marked, justified-derived}
 use Rattle.outline.specs.Verdict.{Image, Outcome, met, failed, codeOf, asks, code, judge, outcome, Met, AllMet, Admitted}
-
-to-true : (b : Bool) → T b → b ≡ true
-to-true true h = refl
-to-true false h = absurd h
 
 module _ (D : Image) where
   pub code-met : (o : Obligation) (n : ℕ) → code D o n ≡ 0 → Met D o n
@@ -46,8 +42,8 @@ module _ (D : Image) where
   met-code A o n m =
       rw (
         ne-eqb n 0 (m .there),
-        to-true (sameStatement (asks D o) (D .certificate .line n .says)) (subst (λ (z : Statement). T (sameStatement (asks D o) z)) (m .says) (statement-refl (asks D o))),
-        to-true (marked (D .program) (D .certificate) (D .certificate .count) n) (justified-marked (D .program) (D .certificate) (record { lower = A .lower }) n (m .just)),
+        holds-true (sameStatement (asks D o) (D .certificate .line n .says)) (subst (λ (z : Statement). T (sameStatement (asks D o) z)) (m .says) (statement-refl (asks D o))),
+        holds-true (marked (D .program) (D .certificate) (D .certificate .count) n) (justified-marked (D .program) (D .certificate) (record { lower = A .lower }) n (m .just)),
       )
 
   abbrev Step : ℕ → Obligation → List Obligation → ℕ → Bool → Outcome

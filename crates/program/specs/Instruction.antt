@@ -1,11 +1,11 @@
 -- One instruction: operation, a, b, formula.
-use mathlib.Core.Bool.{Bool, true, false, _&&_}
+use mathlib.Core.Bool.{Bool, true, false, _&&_, cond}
 use mathlib.Core.List.{List}
 use Prim.Native.Nat.{ℕ}
 use lib.Dec.{eqb, leb}
 use lib.ListN.{getD, drop}
 use Rattle.logic.specs.Opcode as Opcode
-use Rattle.limits.specs.Numbers.{pick, word, within}
+use Rattle.limits.specs.Numbers.{word, within}
 use Rattle.program.specs.declared.sizes.Sizes.{Sizes}
 use Rattle.program.specs.declared.instruction.Instruction.{Instruction}
 use Rattle.program.specs.declared.instruction.Range.{Range}
@@ -27,10 +27,10 @@ fields a b f = record { a = a; b = b; formula = f }
 -- which fields an operation has, in a thread whose last point is given; for an unknown one, no number is from 1 to 0
 unfoldable pub fieldsOf : ℕ → ℕ → Sizes → Fields
 fieldsOf op last z =
-    pick (eqb op Opcode.assign) (fields (range 1 (z .registers)) unused (range 1 (z .formulas)))
-    (pick (leb op Opcode.acquire) (fields (range 1 (z .registers)) (range 1 (z .words)) unused)
-    (pick (leb op Opcode.swap) (fields (range 1 (z .words)) unused (range 1 (z .formulas)))
-    (pick (eqb op Opcode.branch) (fields (range 0 last) unused (range 1 (z .formulas)))
+    cond (eqb op Opcode.assign) (fields (range 1 (z .registers)) unused (range 1 (z .formulas)))
+    (cond (leb op Opcode.acquire) (fields (range 1 (z .registers)) (range 1 (z .words)) unused)
+    (cond (leb op Opcode.swap) (fields (range 1 (z .words)) unused (range 1 (z .formulas)))
+    (cond (eqb op Opcode.branch) (fields (range 0 last) unused (range 1 (z .formulas)))
     (fields (range 1 0) unused (range 1 (z .formulas))))))
 
 abbrev pub inside : Range → ℕ → Bool

@@ -1,12 +1,12 @@
 -- A line: rule, thread, point (bytes), left and right formula (16 bits), premise count (byte), premises (16 bits).
-use mathlib.Core.Bool.{Bool, true, false, not, _&&_}
+use mathlib.Core.Bool.{Bool, true, false, not, _&&_, cond}
 use mathlib.Core.List.{List}
 use Prim.Native.Nat.{ℕ, _+_, _*_}
 use lib.Dec.{eqb, leb, ltb}
 use lib.ListN.{length, getD, drop}
 use Rattle.logic.specs.Opcode as Opcode
 use Rattle.limits.specs.Limits as Limits
-use Rattle.limits.specs.Numbers.{pick, word, has, numbers, within, every}
+use Rattle.limits.specs.Numbers.{word, has, numbers, within, every}
 use Rattle.frames.specs.Fault.{unless}
 use Rattle.frames.specs.declared.fault.Fault.the-variants.{Body, Number}
 use Rattle.frames.specs.declared.fault.Checked.{Checked}
@@ -19,12 +19,12 @@ use Rattle.records.specs.declared.line.Form.the-variants.{Triple, Implic
 -- rules run 1 to 16, 20 to 27, 30 to 46
 unfoldable pub formOf : ℕ → Form
 formOf r =
-    pick (ltb r 1) Unlisted
-    (pick (leb r 16) Triple
-    (pick (ltb r 20) Unlisted
-    (pick (leb r 27) Implication
-    (pick (ltb r 30) Unlisted
-    (pick (leb r 46) Inclusion
+    cond (ltb r 1) Unlisted
+    (cond (leb r 16) Triple
+    (cond (ltb r 20) Unlisted
+    (cond (leb r 27) Implication
+    (cond (ltb r 30) Unlisted
+    (cond (leb r 46) Inclusion
     Unlisted)))))
 
 unfoldable pub premises : List ℕ → List ℕ

@@ -1,9 +1,9 @@
 -- Which body is whose: the bodies of all records, header first, then formulas, threads, outline, lines, obligations.
+use mathlib.Core.Bool.{cond}
 use mathlib.Core.List.{List, []}
 use Prim.Native.Nat.{ℕ, _+_}
 use lib.Dec.{eqb, ltb}
 use lib.ListN.{getD}
-use Rattle.limits.specs.Numbers.{pick}
 use Rattle.program.specs.declared.sizes.Sizes.{Sizes}
 use Rattle.program.specs.declared.instruction.Instruction.{Instruction}
 use Rattle.program.specs.Thread.{instructions, nothing}
@@ -13,4 +13,4 @@ threadBody z l t = getD l (z .formulas + t) []
 
 -- the instruction at point p of thread t
 unfoldable pub instructionOf : Sizes → List (List ℕ) → ℕ → ℕ → Instruction
-instructionOf z l t p = pick (eqb t 0) nothing (pick (ltb (z .threads) t) nothing (getD (instructions (threadBody z l t)) p nothing))
+instructionOf z l t p = cond (eqb t 0) nothing (cond (ltb (z .threads) t) nothing (getD (instructions (threadBody z l t)) p nothing))

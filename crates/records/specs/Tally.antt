@@ -1,9 +1,9 @@
 -- How many points and how many obligations there are.
+use mathlib.Core.Bool.{cond}
 use mathlib.Core.List.{List, [], _∷_}
 use Prim.Native.Nat.{ℕ, zero, suc, _+_, _-_, _*_, _≤_}
 use lib.Dec.{eqb}
 use Rattle.logic.specs.Opcode as Opcode
-use Rattle.limits.specs.Numbers.{pick}
 use Rattle.program.specs.declared.sizes.Sizes.{Sizes}
 use Rattle.program.specs.declared.instruction.Instruction.{Instruction}
 use Rattle.program.specs.Thread.{lastPoint, instructions}
@@ -11,7 +11,7 @@ use Rattle.records.specs.Places.{threadBody}
 use Rattle.records.specs.declared.tally.Tally.{Tally}
 
 unfoldable pub isBranch : Instruction → ℕ
-isBranch i = pick (eqb (i .operation) Opcode.branch) 1 0
+isBranch i = cond (eqb (i .operation) Opcode.branch) 1 0
 
 unfoldable pub branches : List Instruction → ℕ
 branches [] = 0

@@ -2,12 +2,12 @@
 use Prim.Native.Nat.{ℕ, zero, suc, _+_, _-_, _≤_, _<_}
 use mathlib.Core.Path.{_≡_, refl, ap, ap₂, sym, _∙_}
 use mathlib.Core.List.{List, [], _∷_}
-use mathlib.Core.Bool.{Bool, true, false, not}
+use mathlib.Core.Bool.{Bool, true, false, not, cond}
 use native.Mathlib.Omega.{arith}
 use lib.ListN.{length, getD, List·getD-eq-default}
 use lib.Dec.{eqb}
 use borrow.Author.Tests.{eq-eqb, ne-eqb, le-ltb}
-use Rattle.formula.specs.Codes.{pick}
+use Rattle.limits.proofs.Numbers.{byte-past}
 use Rattle.formula.specs.Tree.{Tree, skim}
 use Rattle.leaves.specs.Slots.{kept}
 use Rattle.leaves.specs.Gather.{Gathered, keys, view, gatherT}
@@ -19,10 +19,7 @@ use Rattle.rows.specs.declared.value.Reading.{Reading}
 use Rattle.rows.specs.declared.value.Val.{Val}
 use Rattle.rows.specs.declared.claim.Task.{Task}
 
-pub past : (l : List ℕ) (i : ℕ) → length l ≤ i → 0 ≡ getD l i 0
-past l i h = sym (List·getD-eq-default l 0 h)
-
-pub ruleset numbers = (past)
+pub ruleset numbers = (byte-past)
 
 -- the premises one after the other
 module _ (s lefts rights : List ℕ) (t : Task) where
@@ -66,7 +63,7 @@ module _ (s lefts rights : List ℕ) (t : Task) where
       unfolding impAt
       imp-right r b z er eb = rw (left-is, eq-eqb _ _ z) (ap (λ (n : ℕ). eqb n 1) (right-is i r b er eb))
 
-    all-step : (p : ImpT) (ps : List ImpT) → allAt s w q v (p ∷ ps) ≡ pick (impAt s w q v p) (allAt s w q v ps) false
+    all-step : (p : ImpT) (ps : List ImpT) → allAt s w q v (p ∷ ps) ≡ cond (impAt s w q v p) (allAt s w q v ps) false
     unfolding allAt
     all-step p ps = refl
 

@@ -13,13 +13,14 @@ use Rattle.logic.specs.Code.{byte}
 use Rattle.logic.specs.Rows.{isIn, distinct, allRows, rowCount}
 use Rattle.logic.proofs.Rows.{Equality}
 use Rattle.logic.proofs.Base.{is-true}
-use Rattle.formula.specs.Codes.{pick, member}
+use Rattle.formula.specs.Codes.{member}
 use Rattle.formula.specs.Tree.{Tree, none, node}
 use Rattle.compare.specs.Same.{sameTree}
 use Rattle.trees.proofs.Raw.{tree-eq, tree-refl}
 use Rattle.leaves.specs.Slots.{slots}
 use Rattle.leaves.specs.Gather.{Gathered, many, keys, leavesT, putT, gatherT}
 use Rattle.leaves.specs.Count.{choicesBy, choicesT}
+use Rattle.leaves.proofs.Gathering.{put-keys, gather-node}
 use Rattle.rows.specs.Claim.{ImpT, claimT, leavesAll, gatherImp, gatherImps}
 use Rattle.rows.specs.Every.{everyBy}
 use Rattle.rows.specs.declared.value.Reading.{Reading}
@@ -54,7 +55,7 @@ trees-equal = record { equal = tree-eq; self = tree-refl }
 
 -- what fits in the slots
 abbrev pub cut : List Tree → Gathered
-cut l = pick (ltb slots (length l)) many (keys l)
+cut l = cond (ltb slots (length l)) many (keys l)
 
 abbrev each : List Tree → List Tree
 each = distinct sameTree
@@ -63,10 +64,6 @@ put-many : (t : Tree) → putT t many ≡ many
 unfolding putT
 put-many none = refl
 put-many (node c o l r) = refl
-
-put-keys : (c o : ℕ) (l r : Tree) (k : List Tree) → putT (node c o l r) (keys k) ≡ pick (isIn sameTree (node c o l r) k) (keys k) (pick (ltb (length k) slots) (keys (node c o l r ∷ k)) many)
-unfolding putT
-put-keys c o l r k = refl
 
 put-cut : (c o : ℕ) (l r : Tree) (m : List Tree) → putT (node c o l r) (cut (each m)) ≡ cut (each (node c o l r ∷ m))
 put-cut c o l r m = go (ltb slots (length (each m))) (isIn sameTree t m) (ltb (length (each m)) slots) refl refl refl
@@ -87,11 +84,7 @@ put-cut c o l r m = go (ltb slots (length (each m))) (isIn sameTree t m) (ltb (l
         let h : slots < suc (length (each m)) = omega (arith, ltb-false (length (each m)) slots ed) in
         rw (ea, put-keys, in-distinct trees-equal t m, eb, ed, distinct-step trees-equal t m, eb, lt-ltb slots (suc (length (each m))) h)
 
-gather-node : (w c o : ℕ) (l r : Tree) (m : Gathered) → gatherT w (node c o l r) m ≡ pick (member w c) (putT (node c o l r) m) (gatherT w l (gatherT w r m))
-unfolding gatherT
-gather-node w c o l r m = refl
-
-leaves-node : (w c o : ℕ) (l r : Tree) → leavesT w (node c o l r) ≡ pick (member w c) (node c o l r ∷ []) (leavesT w l ++ leavesT w r)
+leaves-node : (w c o : ℕ) (l r : Tree) → leavesT w (node c o l r) ≡ cond (member w c) (node c o l r ∷ []) (leavesT w l ++ leavesT w r)
 unfolding leavesT
 leaves-node w c o l r = refl
 
@@ -101,7 +94,7 @@ gather-cut w none m = refl
 gather-cut w (node c o l r) m = gather-node w c o l r (cut (each m)) ∙ go (member w c) refl (gather-cut w r m) (gather-cut w l (leavesT w r ++ m))
   where
     go : (b : Bool) → member w c ≡ b → gatherT w r (cut (each m)) ≡ cut (each (leavesT w r ++ m)) → gatherT w l (cut (each (leavesT w r ++ m))) ≡ cut (each (leavesT w l ++ (leavesT w r ++ m)))
-        → pick (member w c) (putT (node c o l r) (cut (each m))) (gatherT w l (gatherT w r (cut (each m)))) ≡ cut (each (leavesT w (node c o l r) ++ m))
+        → cond (member w c) (putT (node c o l r) (cut (each m))) (gatherT w l (gatherT w r (cut (each m)))) ≡ cut (each (leavesT w (node c o l r) ++ m))
     go true e f g = rw (leaves-node, e) (put-cut c o l r m)
     go false e f g = rw (leaves-node, e) (ap (gatherT w l) f ∙ g ∙ ap (λ (k : List Tree). cut (each k)) (sym (append-assoc (leavesT w l) (leavesT w r) m)))
 
@@ -128,7 +121,7 @@ module _ (R : ℕ) (two : 2 ≤ R) where
   choices-two none = omega arith
   choices-two (node c o l r) = two-pick (eqb c (byte Code.reg)) (two-pick (eqb c (byte Code.word)) (omega arith))
     where
-      two-pick : (b : Bool) {n : ℕ} → 2 ≤ n → 2 ≤ pick b R n
+      two-pick : (b : Bool) {n : ℕ} → 2 ≤ n → 2 ≤ cond b R n
       two-pick true h = two
       two-pick false h = h
 

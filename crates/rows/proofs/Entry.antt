@@ -8,7 +8,7 @@ use lib.Dec.{ltb}
 use borrow.Author.Tests.{lt-ltb, le-ltb}
 use Rattle.logic.specs.Rows.{distinct}
 use Rattle.logic.specs.Limits
-use Rattle.formula.specs.Codes.{pick, setOf}
+use Rattle.formula.specs.Codes.{setOf}
 use Rattle.limits.specs.Limits.{nesting}
 use Rattle.formula.specs.Tree.{Tree, skim}
 use Rattle.compare.specs.Same.{sameTree}

@@ -20,7 +20,7 @@ use Rattle.logic.specs.Rows.{choose, isIn, distinct, allBelow, allRows, rowCoun
 use Rattle.logic.specs.Table
 use Rattle.logic.specs.Table.{Imp, Leaf, l-assertion, l-test, same-leaf, inRow, impRow, byTable}
 use Rattle.logic.proofs.Base.{bool-ext, is-true}
-use Rattle.formula.specs.Codes.{pick, member}
+use Rattle.formula.specs.Codes.{member}
 use Rattle.formula.specs.Tree.{Tree, none, node}
 use Rattle.compare.specs.Same.{sameTree}
 use Rattle.trees.specs.Raw.{raw}
@@ -84,7 +84,7 @@ rawName (n-cov x) = node (byte Code.cov) x none none
 
 nameOf : Tree → Name
 nameOf none = n-reg 0
-nameOf (node c o l r) = pick (eqb c (byte Code.reg)) (n-reg o) (pick (eqb c (byte Code.word)) (n-word o) (pick (eqb c (byte Code.unsync)) (n-unsync o) (n-cov o)))
+nameOf (node c o l r) = cond (eqb c (byte Code.reg)) (n-reg o) (cond (eqb c (byte Code.word)) (n-word o) (cond (eqb c (byte Code.unsync)) (n-unsync o) (n-cov o)))
 
 name-of : (n : Name) → nameOf (rawName n) ≡ n
 unfolding rawName nameOf
@@ -131,19 +131,19 @@ module _ (R : ℕ) where
   names-test (cov x) = refl
 
 -- tests by their numbers: 1 for true
-bit : (b : Bool) → eqb (pick {A = ℕ} b 1 0) 1 ≡ b
+bit : (b : Bool) → eqb (cond {A = ℕ} b 1 0) 1 ≡ b
 bit true = refl
 bit false = refl
 
-bit-not : (b : Bool) → eqb (pick {A = ℕ} b 0 1) 1 ≡ not b
+bit-not : (b : Bool) → eqb (cond {A = ℕ} b 0 1) 1 ≡ not b
 bit-not true = refl
 bit-not false = refl
 
-bit-and : (b : Bool) (n : ℕ) → eqb (pick b n 0) 1 ≡ (b && eqb n 1)
+bit-and : (b : Bool) (n : ℕ) → eqb (cond b n 0) 1 ≡ (b && eqb n 1)
 bit-and true n = refl
 bit-and false n = refl
 
-bit-or : (b : Bool) (n : ℕ) → eqb (pick b 1 n) 1 ≡ (b || eqb n 1)
+bit-or : (b : Bool) (n : ℕ) → eqb (cond b 1 n) 1 ≡ (b || eqb n 1)
 bit-or true n = refl
 bit-or false n = refl
 
@@ -236,7 +236,7 @@ unfolding choicesT choicesBy
 two-choices none = refl
 two-choices (node c o l r) = go (eqb c (byte Code.reg)) (eqb c (byte Code.word))
   where
-    go : (a b : Bool) → pick a 2 (pick {A = ℕ} b 2 2) ≡ 2
+    go : (a b : Bool) → cond a 2 (cond {A = ℕ} b 2 2) ≡ 2
     go true b = refl
     go false true = refl
     go false false = refl

@@ -11,8 +11,8 @@ use lib.Dec.{eqb, leb, ltb}
 use borrow.Author.Tests.{eq-eqb, ne-eqb, le-leb, lt-leb, lt-ltb, le-ltb, ltb-true, ltb-false}
 use Rattle.logic.specs.Base.{all}
 use Rattle.logic.specs.Rows.{choose, allBelow, allRows, rowCount}
-use Rattle.formula.specs.Codes.{pick}
 use Rattle.formula.specs.Tree.{Tree, skim}
+use Rattle.formula.proofs.Auto.{lower}
 use Rattle.compare.specs.Same.{sameTree}
 use Rattle.leaves.specs.Slots.{slots, slotTree, numbers, slotAt, slotFrom, slotOf, kept}
 use Rattle.leaves.specs.Gather.{Gathered, many, keys, view}
@@ -38,24 +38,24 @@ module _ (s : List ℕ) (w : Reading) (q values : List ℕ) where
   unfolding impAt rowValue slotOf
   imp-is p = go (eqb (rowValue s w q values (p .left)) 1)
     where
-      go : (a : Bool) → pick a (eqb (rowValue s w q values (p .right)) 1) true ≡ (not a || eqb (rowValue s w q values (p .right)) 1)
+      go : (a : Bool) → cond a (eqb (rowValue s w q values (p .right)) 1) true ≡ (not a || eqb (rowValue s w q values (p .right)) 1)
       go true = refl
       go false = refl
 
   all-is : (ps : List ImpT) → allAt s w q values ps ≡ all (impT w (rowAt s q 0 values)) ps
   unfolding allAt
   all-is [] = refl
-  all-is (p ∷ ps) = ap₂ (λ (a b : Bool). pick a b false) (imp-is p) (all-is ps) ∙ go (impT w (rowAt s q 0 values) p) (all (impT w (rowAt s q 0 values)) ps)
+  all-is (p ∷ ps) = ap₂ (λ (a b : Bool). cond a b false) (imp-is p) (all-is ps) ∙ go (impT w (rowAt s q 0 values) p) (all (impT w (rowAt s q 0 values)) ps)
     where
-      go : (a b : Bool) → pick a b false ≡ (a && b)
+      go : (a b : Bool) → cond a b false ≡ (a && b)
       go true b = refl
       go false b = refl
 
   claim-is : (lefts rights : List ℕ) (t : Task) → claimAt s lefts rights t w q values ≡ claimT w (premisesFrom s lefts rights t 0) (impOf s lefts rights t 0) (rowAt s q 0 values)
   unfolding claimAt
-  claim-is lefts rights t = ap₂ (λ (a b : Bool). pick a true (not b)) (imp-is (impOf s lefts rights t 0)) (all-is (premisesFrom s lefts rights t 0)) ∙ go (impT w (rowAt s q 0 values) (impOf s lefts rights t 0)) (all (impT w (rowAt s q 0 values)) (premisesFrom s lefts rights t 0))
+  claim-is lefts rights t = ap₂ (λ (a b : Bool). cond a true (not b)) (imp-is (impOf s lefts rights t 0)) (all-is (premisesFrom s lefts rights t 0)) ∙ go (impT w (rowAt s q 0 values) (impOf s lefts rights t 0)) (all (impT w (rowAt s q 0 values)) (premisesFrom s lefts rights t 0))
     where
-      go : (a b : Bool) → pick a true (not b) ≡ (not b || a)
+      go : (a b : Bool) → cond a true (not b) ≡ (not b || a)
       go true true = refl
       go true false = refl
       go false true = refl
@@ -68,7 +68,7 @@ row-chosen s q values j k l h = fun-ext (λ u. go u (sameTree u (slotAt s q j)) 
   where
     go : (u : Tree) (b : Bool) → sameTree u (slotAt s q j) ≡ b → cond (sameTree u (slotAt s q j)) k (rowAt s q (j + 1) values u) ≡ rowAt s q j (set values j k) u
     go u true e = rw (from-next s q j u h, e, lt-ltb _ _ h) (sym (getD-set-same values j k 0 (omega arith)))
-    go u false e = rw (from-next s q j u h, e) (ap (λ (n : ℕ). pick (ltb (slotFrom s q (slots - (j + 1)) (j + 1) u) slots) n 0) (sym (getD-set-other values j (slotFrom s q (slots - (j + 1)) (j + 1) u) k 0 (λ d. omega (arith, from-least s q u (slots - (j + 1)) (j + 1))))))
+    go u false e = rw (from-next s q j u h, e) (ap (λ (n : ℕ). cond (ltb (slotFrom s q (slots - (j + 1)) (j + 1) u) slots) n 0) (sym (getD-set-other values j (slotFrom s q (slots - (j + 1)) (j + 1) u) k 0 (λ d. omega (arith, from-least s q u (slots - (j + 1)) (j + 1))))))
 
 module _ (s lefts rights : List ℕ) (t : Task) (w : Reading) (q : List ℕ) where
   rows-step : (j : ℕ) (values : List ℕ) → length values ≡ slots → j < slots → rowsFrom s lefts rights t w q (j + 1) values ≡ rowsBelow s lefts rights t w q j values (choicesT (w .range) (slotAt s q j))
@@ -84,14 +84,14 @@ module _ (s lefts rights : List ℕ) (t : Task) (w : Reading) (q : List ℕ) whe
   unfolding rowsBelow
   below-none j v values h = let e : v ≡ 0 = omega arith in rw e
 
-  below-step : (j v : ℕ) (values : List ℕ) → 0 < v → rowsBelow s lefts rights t w q j values v ≡ pick (rowsFrom s lefts rights t w q j (set values j (v - 1))) (rowsBelow s lefts rights t w q j values (v - 1)) false
+  below-step : (j v : ℕ) (values : List ℕ) → 0 < v → rowsBelow s lefts rights t w q j values v ≡ cond (rowsFrom s lefts rights t w q j (set values j (v - 1))) (rowsBelow s lefts rights t w q j values (v - 1)) false
   unfolding rowsBelow
   below-step j v values h = let e : v ≡ suc (v - 1) = omega arith in ap (λ (n : ℕ). allBelow n g) e ∙ go (g (v - 1)) (allBelow (v - 1) g)
     where
       g : ℕ → Bool
       g k = rowsFrom s lefts rights t w q j (set values j k)
 
-      go : (a b : Bool) → elim a as (λ x. Bool) [ true ↦ b | false ↦ false ] ≡ pick a b false
+      go : (a b : Bool) → elim a as (λ x. Bool) [ true ↦ b | false ↦ false ] ≡ cond a b false
       go true b = refl
       go false b = refl
 
@@ -117,11 +117,11 @@ module _ (s lefts rights : List ℕ) (t : Task) (w : Reading) (q : List ℕ) whe
       try-end h = sym (e ∙ below-none (j - 1) v (row .values) h)
 
       module _ (next : Row) (r : Bool) (h : 0 < v) (en : next ≡ withValue row (j - 1) (v - 1)) (er : r ≡ rowsFrom s lefts rights t w q (j - 1) (next .values)) where
-        by : rowsFrom s lefts rights t w q j (row .values) ≡ pick r (rowsBelow s lefts rights t w q (j - 1) (row .values) (v - 1)) false
+        by : rowsFrom s lefts rights t w q j (row .values) ≡ cond r (rowsBelow s lefts rights t w q (j - 1) (row .values) (v - 1)) false
         unfolding withValue
         by =
             e ∙ below-step (j - 1) v (row .values) h
-            ∙ ap (λ (b : Bool). pick b (rowsBelow s lefts rights t w q (j - 1) (row .values) (v - 1)) false) (sym (er ∙ ap (λ (n : Row). rowsFrom s lefts rights t w q (j - 1) (n .values)) en))
+            ∙ ap (λ (b : Bool). cond b (rowsBelow s lefts rights t w q (j - 1) (row .values) (v - 1)) false) (sym (er ∙ ap (λ (n : Row). rowsFrom s lefts rights t w q (j - 1) (n .values)) en))
 
         pub try-next : r ≡ true → rowsFrom s lefts rights t w q j (row .values) ≡ rowsBelow s lefts rights t w q (j - 1) (row .values) (v - 1)
         try-next d = by ∙ rw d
@@ -157,7 +157,7 @@ zero-in : (i : ℕ) → valueIn (replicate 12 0) i ≡ 0
 unfolding valueIn
 zero-in i = go (ltb i slots)
   where
-    go : (b : Bool) → pick b (getD (replicate {A = ℕ} 12 0) i 0) 0 ≡ 0
+    go : (b : Bool) → cond b (getD (replicate {A = ℕ} 12 0) i 0) 0 ≡ 0
     go true = zeros 12 i
     go false = refl
 
@@ -171,7 +171,7 @@ module _ (s lefts rights : List ℕ) (t : Task) (w : Reading) (limit : ℕ) (g :
     count = rowCount sameTree (choicesT (w .range)) (kept s (g .slots) (g .count))
 
     -- the count is above the limit if what is told is
-    told : (b : Bool) → ltb limit (1 * count) ≡ b → r ≡ pick b (limit + 1) (1 * count) → (limit < r → limit < count) × (r ≤ limit → count ≤ limit)
+    told : (b : Bool) → ltb limit (1 * count) ≡ b → r ≡ cond b (limit + 1) (1 * count) → (limit < r → limit < count) × (r ≤ limit → count ≤ limit)
     told true e d = (λ l. omega (arith, one-mul count, ltb-true limit (1 * count) e), λ l. absurd (omega arith))
     told false e d = (λ l. omega (arith, one-mul count, ltb-false limit (1 * count) e), λ l. omega (arith, one-mul count, ltb-false limit (1 * count) e))
 
@@ -188,8 +188,5 @@ module _ (s lefts rights : List ℕ) (t : Task) (w : Reading) (limit : ℕ) (g :
     every-try b l e = e ∙ rw (← eg, view-keys s g h, le-leb count limit (counted .1 l)) (ap (allRows sameTree (choicesT (w .range)) (kept s (g .slots) (g .count)) (claimT w (premisesFrom s lefts rights t 0) (impOf s lefts rights t 0))) (fun-ext (λ u. zero-in (slotFrom s (g .slots) (slots - g .count) (g .count) u))))
 
 pub ruleset everys = (every-many, every-over, every-try)
-
-pub lower : (m t : ℕ) → m ≡ t → (m ≡ 0 → ⊥) → m - 1 < t
-lower m t e h = omega arith
 
 pub ruleset tries = (try-zero, try-one, try-begin, try-end, try-next, try-fails, lower)

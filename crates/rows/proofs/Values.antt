@@ -2,17 +2,18 @@
 use Prim.Native.Nat.{ℕ, zero, suc, _+_, _-_, _%_, _≤_, _<_}
 use mathlib.Core.Path.{_≡_, refl, ap, sym, _∙_}
 use mathlib.Core.List.{List}
-use mathlib.Core.Bool.{Bool, true, false}
+use mathlib.Core.Bool.{Bool, true, false, cond}
 use native.Mathlib.Omega.{arith}
 use native.Mathlib.Nat.{mod-lt}
 use lib.Dec.{ltb, eqb}
 use borrow.Author.Tests.{lt-ltb, le-ltb, eq-eqb, ne-eqb}
 use Rattle.logic.specs.Code
 use Rattle.logic.specs.Code.{byte}
-use Rattle.formula.specs.Codes.{pick, member, partCount}
+use Rattle.formula.specs.Codes.{member, partCount}
 use Rattle.formula.specs.Tree.{Tree, none, node, nodeAt, skim}
 use Rattle.formula.specs.declared.node.Node.{Node}
 use Rattle.formula.proofs.Nodes.{skim-zero, skim-step, parts-of}
+use Rattle.formula.proofs.Auto.{lower}
 use Rattle.leaves.specs.Slots.{slotOf}
 use Rattle.rows.specs.Value.{sumOf, combine, valueT, valueIn, rowValue, valOf}
 use Rattle.rows.specs.declared.value.Reading.{Reading}
@@ -42,31 +43,31 @@ module _ (R c o a b : ℕ) where
   unfolding combine
   combine-sum e = rw e
 
-  pub combine-equal : c ≡ byte Code.equal → combine R c o a b ≡ pick (eqb a b) 1 0
+  pub combine-equal : c ≡ byte Code.equal → combine R c o a b ≡ cond (eqb a b) 1 0
   unfolding combine
   combine-equal e = rw e
 
-  pub combine-less : c ≡ byte Code.less → combine R c o a b ≡ pick (ltb a b) 1 0
+  pub combine-less : c ≡ byte Code.less → combine R c o a b ≡ cond (ltb a b) 1 0
   unfolding combine
   combine-less e = rw e
 
-  pub combine-not : c ≡ byte Code.not → combine R c o a b ≡ pick (eqb a 1) 0 1
+  pub combine-not : c ≡ byte Code.not → combine R c o a b ≡ cond (eqb a 1) 0 1
   unfolding combine
   combine-not e = rw e
 
-  pub combine-and : c ≡ byte Code.and → combine R c o a b ≡ pick (eqb a 1) b 0
+  pub combine-and : c ≡ byte Code.and → combine R c o a b ≡ cond (eqb a 1) b 0
   unfolding combine
   combine-and e = rw e
 
-  pub combine-or : c ≡ byte Code.or → combine R c o a b ≡ pick (eqb a 1) 1 b
+  pub combine-or : c ≡ byte Code.or → combine R c o a b ≡ cond (eqb a 1) 1 b
   unfolding combine
   combine-or e = rw e
 
-  pub combine-both : c ≡ byte Code.bothA → combine R c o a b ≡ pick (eqb a 1) b 0
+  pub combine-both : c ≡ byte Code.bothA → combine R c o a b ≡ cond (eqb a 1) b 0
   unfolding combine
   combine-both e = rw e
 
-  pub combine-either : c ≡ byte Code.eitherA → combine R c o a b ≡ pick (eqb a 1) 1 b
+  pub combine-either : c ≡ byte Code.eitherA → combine R c o a b ≡ cond (eqb a 1) 1 b
   unfolding combine
   combine-either e = rw e
 
@@ -94,7 +95,7 @@ module _ (s : List ℕ) (w : Reading) (q v : List ℕ) where
   unfolding rowValue valueT
   value-none = refl
 
-  value-node : (c o : ℕ) (l r : Tree) → rowValue s w q v (node c o l r) ≡ pick (member (w .leaves) c) (valueIn v (slotOf s q (node c o l r))) (combine (w .range) c o (rowValue s w q v l) (rowValue s w q v r))
+  value-node : (c o : ℕ) (l r : Tree) → rowValue s w q v (node c o l r) ≡ cond (member (w .leaves) c) (valueIn v (slotOf s q (node c o l r))) (combine (w .range) c o (rowValue s w q v l) (rowValue s w q v r))
   unfolding rowValue valueT
   value-node c o l r = refl
 
@@ -129,8 +130,5 @@ module _ (s : List ℕ) (w : Reading) (q v : List ℕ) (c o : ℕ) (b : Bool) (e
   plain-other n d f = f ∙ rw (value-node, ← eb, d) (simp value-none)
 
 pub ruleset plains = (plain-leaf, plain-other)
-
-pub lower : (m t : ℕ) → m ≡ t → (m ≡ 0 → ⊥) → m - 1 < t
-lower m t e h = omega arith
 
 pub ruleset values = (value-zero, no-parts, value-leaf, value-plain, value-one, value-two, lower)

@@ -1,11 +1,10 @@
 -- What is claimed of each row: that the line is true where all premises are.
 use Prim.Native.Nat.{ℕ, zero, suc, _+_, _-_}
 use mathlib.Core.List.{List, [], _∷_, _++_}
-use mathlib.Core.Bool.{Bool, true, false, not, _||_}
+use mathlib.Core.Bool.{Bool, true, false, not, _||_, cond}
 use lib.ListN.{getD}
 use lib.Dec.{eqb}
 use Rattle.logic.specs.Base.{all}
-use Rattle.formula.specs.Codes.{pick}
 use Rattle.formula.specs.Tree.{Tree, skim}
 use Rattle.leaves.specs.Gather.{Gathered, keys, leavesT, gatherT}
 use Rattle.rows.specs.Value.{valueT, rowValue}
@@ -52,14 +51,14 @@ premisesFrom s lefts rights t i = impsFrom s lefts rights t (i + 1) (t .premises
 
 -- at the row that the slots hold
 unfoldable pub impAt : List ℕ → Reading → List ℕ → List ℕ → ImpT → Bool
-impAt s w q values p = pick (eqb (rowValue s w q values (p .left)) 1) (eqb (rowValue s w q values (p .right)) 1) true
+impAt s w q values p = cond (eqb (rowValue s w q values (p .left)) 1) (eqb (rowValue s w q values (p .right)) 1) true
 
 unfoldable pub allAt : List ℕ → Reading → List ℕ → List ℕ → List ImpT → Bool
 allAt s w q values [] = true
-allAt s w q values (p ∷ ps) = pick (impAt s w q values p) (allAt s w q values ps) false
+allAt s w q values (p ∷ ps) = cond (impAt s w q values p) (allAt s w q values ps) false
 
 unfoldable pub claimAt : List ℕ → List ℕ → List ℕ → Task → Reading → List ℕ → List ℕ → Bool
-claimAt s lefts rights t w q values = pick (impAt s w q values (impOf s lefts rights t 0)) true (not (allAt s w q values (premisesFrom s lefts rights t 0)))
+claimAt s lefts rights t w q values = cond (impAt s w q values (impOf s lefts rights t 0)) true (not (allAt s w q values (premisesFrom s lefts rights t 0)))
 
 unfoldable pub gatherAll : List ℕ → List ℕ → List ℕ → Task → ℕ → Gathered
 gatherAll s lefts rights t w = gatherImp w (impOf s lefts rights t 0) (gatherImps w (premisesFrom s lefts rights t 0) (keys []))

@@ -5,7 +5,6 @@ use mathlib.Core.Bool.{Bool, true, false, _&&_}
 use lib.ListN.{set}
 use lib.Dec.{leb}
 use Rattle.logic.specs.Rows.{allBelow, allRows, everyRow, rowCount, distinct}
-use Rattle.formula.specs.Codes.{pick}
 use Rattle.formula.specs.Tree.{Tree}
 use Rattle.compare.specs.Same.{sameTree}
 use Rattle.leaves.specs.Slots.{slots, slotFrom, kept}

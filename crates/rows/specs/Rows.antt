@@ -1,14 +1,14 @@
 -- By rows, and by truth table.
 use Prim.Native.Nat.{ℕ, _-_, _^_}
 use mathlib.Core.List.{List, [], _∷_}
-use mathlib.Core.Bool.{Bool, true, false}
+use mathlib.Core.Bool.{Bool, true, false, cond}
 use lib.ListN.{getD}
 use lib.Dec.{ltb}
 use Rattle.logic.specs.Code
 use Rattle.logic.specs.Code.{Code}
 use Rattle.logic.specs.Limits
 use Rattle.limits.specs.Limits.{nesting}
-use Rattle.formula.specs.Codes.{pick, setOf}
+use Rattle.formula.specs.Codes.{setOf}
 use Rattle.formula.specs.Tree.{Tree}
 use Rattle.rows.specs.Claim.{ImpT, impOf, premisesFrom}
 use Rattle.rows.specs.Every.{everyT}
@@ -22,7 +22,7 @@ byNames R = record { leaves = setOf (Code.reg ∷ Code.word ∷ Code.unsync ∷ 
 
 -- wherever the left test is true the right one is, at every row, of which there are at most 4,096. (A range of one value or none has no rows to try)
 unfoldable pub rowsT : ℕ → Tree → Tree → Bool
-rowsT R u v = pick (ltb R 2) false (everyT (byNames R) Limits.rows [] (record { left = u; right = v }))
+rowsT R u v = cond (ltb R 2) false (everyT (byNames R) Limits.rows [] (record { left = u; right = v }))
 
 -- in a truth table the leaves are what a thread sees, start and comparisons; each is true or false. (Flags do not stand under `holds`)
 abbrev pub byClaims : Reading

@@ -1,6 +1,6 @@
 -- The bytes of a formula within the counts and the nesting pass the reader.
 use mathlib.Core.Path.{_≡_, refl, ap, _∙_}
-use mathlib.Core.Bool.{Bool, true, false, _&&_}
+use mathlib.Core.Bool.{Bool, true, false, _&&_, cond}
 use mathlib.Core.List.{List, _∷_}
 use Prim.Native.Nat.{ℕ, zero, suc, _+_, _≤_}
 use native.Mathlib.Omega.{arith}
@@ -8,8 +8,8 @@ use lib.ListN.{length, drop}
 use lib.Dec.{T}
 use borrow.Author.Tests.{lt-ltb}
 use Rattle.logic.specs.Formula.{Sort, Formula, encode, nesting}
-use Rattle.logic.proofs.Base.{and-left, and-right}
-use Rattle.formula.specs.Codes.{pick, fitsAt, hasOperand}
+use Rattle.logic.proofs.Base.{holds-true, and-left, and-right}
+use Rattle.formula.specs.Codes.{fitsAt, hasOperand}
 use Rattle.formula.specs.Reader.{inRange, operandFault, headFault, faultAt}
 use Rattle.formula.specs.declared.reader.Counts.{Counts}
 use Rattle.trees.specs.Place.{place, alone, inCounts}
@@ -17,16 +17,12 @@ use Rattle.trees.proofs.Shapes.{after, ranged, Leaf, One, Two, by-shape
 use Rattle.trees.proofs.Heads.{nodeOf, partsFault, fault-parts}
 use Rattle.trees.proofs.Encoded.{own, size, cons-at, drop-encode, node-back, skim-encode}
 
-holds-true : (b : Bool) → T b → b ≡ true
-holds-true true h = refl
-holds-true false h = absurd h
-
 module _ (s : List ℕ) (n : Counts) (p at c o : ℕ) (l : List ℕ) (e : drop at s ≡ after c o l) (f : fitsAt c p ≡ true) (r : T (ranged n c o)) where
   head-back : headFault s n p at ≡ 0
   unfolding headFault operandFault
   head-back = go (hasOperand c) refl e r
     where
-      go : (b : Bool) → hasOperand c ≡ b → drop at s ≡ c ∷ pick b (o ∷ l) l → T (pick b (inRange n c o) true) → headFault s n p at ≡ 0
+      go : (b : Bool) → hasOperand c ≡ b → drop at s ≡ c ∷ cond b (o ∷ l) l → T (cond b (inRange n c o) true) → headFault s n p at ≡ 0
       go true d q i =
           let h = cons-at s at c (o ∷ l) q in
           let g = cons-at s (at + 1) o l (h .2) in

@@ -1,6 +1,6 @@
 -- A whole body is read as a formula exactly if it is the bytes of one within the counts and the nesting.
 use mathlib.Core.Path.{_≡_, refl, ap, sym, _∙_, subst}
-use mathlib.Core.Bool.{Bool, true, false}
+use mathlib.Core.Bool.{Bool, true, false, cond}
 use mathlib.Core.List.{List, []}
 use Prim.Native.Nat.{ℕ, zero, suc, _+_, _/_, _≤_, _<_}
 use native.Mathlib.Omega.{arith}
@@ -10,7 +10,6 @@ use lib.Dec.{T, eqb}
 use borrow.Author.Tests.{eqb-true, eq-eqb, ne-eqb}
 use Rattle.logic.specs.Formula.{Sort, Formula, encode, nesting}
 use Rattle.limits.specs.Limits.{nesting as most}
-use Rattle.formula.specs.Codes.{pick}
 use Rattle.formula.specs.Tree.{skim}
 use Rattle.formula.specs.Reader.{malformed, faultAt, sortOf, readingOf}
 use Rattle.formula.specs.declared.reader.Counts.{Counts}
@@ -33,7 +32,7 @@ module _ (b : List ℕ) (n : Counts) (p : ℕ) (r : readingOf b n ≡ Read p) wh
   read = go (eqb (faultAt b n most (sortOf b) 0) 0) (eqb (skim b most 0 .end) (length b)) refl refl r
     where
       go : (c d : Bool) → eqb (faultAt b n most (sortOf b) 0) 0 ≡ c → eqb (skim b most 0 .end) (length b) ≡ d
-          → pick c (pick d (Read (sortOf b)) (Fault malformed)) (Fault (faultAt b n most (sortOf b) 0)) ≡ Read p
+          → cond c (cond d (Read (sortOf b)) (Fault malformed)) (Fault (faultAt b n most (sortOf b) 0)) ≡ Read p
           → (p ≡ sortOf b) × (faultAt b n most p 0 ≡ 0) × (skim b most 0 .end ≡ length b)
       go true true e f h = let q : sortOf b ≡ p = cc in (sym q, rw (← q) (eqb-true (faultAt b n most (sortOf b) 0) 0 e), eqb-true (skim b most 0 .end) (length b) f)
       go true false e f h = absurd (other malformed p h)

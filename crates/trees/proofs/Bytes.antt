@@ -1,13 +1,13 @@
 -- Formulas that the reader passes have equal trees exactly if they have equal bytes, whatever their sorts.
 use mathlib.Core.Path.{_≡_, refl, ap, sym, _∙_}
-use mathlib.Core.Bool.{Bool, true, false}
+use mathlib.Core.Bool.{Bool, true, false, cond}
 use mathlib.Core.List.{List, [], _∷_}
 use Prim.Native.Nat.{ℕ, _<_, max}
 use native.Mathlib.Omega.{arith}
 use lib.ListN.{length, take, drop}
 use lib.Seq.{length-take-le, take-append-seam, take-add, drop-at}
 use Rattle.logic.specs.Formula.{Sort, Formula, encode, nesting}
-use Rattle.formula.specs.Codes.{pick, hasOperand}
+use Rattle.formula.specs.Codes.{hasOperand}
 use Rattle.formula.specs.Tree.{Tree, none, node, Skim, skim}
 use Rattle.formula.specs.Reader.{faultAt}
 use Rattle.formula.specs.declared.reader.Counts.{Counts}
@@ -26,7 +26,7 @@ bytesOf (node c o t u) l = after c o (bytesOf t (bytesOf u l))
 after-operand : (c o : ℕ) (l : List ℕ) → after c o l ≡ after c (operand c o) l
 after-operand c o l = go (hasOperand c)
   where
-    go : (b : Bool) → c ∷ pick b (o ∷ l) l ≡ c ∷ pick b (pick b o 0 ∷ l) l
+    go : (b : Bool) → c ∷ cond b (o ∷ l) l ≡ c ∷ cond b (cond b o 0 ∷ l) l
     go true = refl
     go false = refl
 

@@ -1,6 +1,6 @@
 -- Bytes: where a formula's bytes stand, its tree stands.
 use mathlib.Core.Path.{_≡_, refl, ap, sym, _∙_}
-use mathlib.Core.Bool.{Bool, true, false}
+use mathlib.Core.Bool.{Bool, true, false, cond}
 use mathlib.Core.List.{List, [], _∷_, _++_}
 use Prim.Native.Nat.{ℕ, zero, suc, _+_, _≤_, _<_}
 use native.Mathlib.Omega.{arith}
@@ -8,7 +8,7 @@ use lib.ListN.{length, getD, drop, length-append, length-drop}
 use lib.Seq.{drop-drop, drop-append-seam}
 use borrow.Author.Tests.{lt-ltb}
 use Rattle.logic.specs.Formula.{Sort, Formula, encode, nesting}
-use Rattle.formula.specs.Codes.{pick, hasOperand, partCount}
+use Rattle.formula.specs.Codes.{hasOperand, partCount}
 use Rattle.formula.specs.Tree.{Tree, none, node, nodeAt, Skim, grow, skim}
 use Rattle.trees.specs.Raw.{raw}
 use Rattle.trees.proofs.Shapes.{after, operand, Leaf, One, Two, by-shape}
@@ -18,13 +18,13 @@ use Rattle.trees.proofs.Heads.{drop-next, nodeOf}
 pub after-append : (c o : ℕ) (l m : List ℕ) → after c o l ++ m ≡ after c o (l ++ m)
 after-append c o l m = go (hasOperand c)
   where
-    go : (b : Bool) → (c ∷ pick b (o ∷ l) l) ++ m ≡ c ∷ pick b (o ∷ l ++ m) (l ++ m)
+    go : (b : Bool) → (c ∷ cond b (o ∷ l) l) ++ m ≡ c ∷ cond b (o ∷ l ++ m) (l ++ m)
     go true = refl
     go false = refl
 
 -- how many bytes a code has with its operand; how many a formula has
 abbrev pub own : ℕ → ℕ
-own c = pick (hasOperand c) 2 1
+own c = cond (hasOperand c) 2 1
 
 abbrev pub size : {s : Sort} → Formula s → ℕ
 size f = length (encode f [])
@@ -32,7 +32,7 @@ size f = length (encode f [])
 length-after : (c o : ℕ) (l : List ℕ) → length (after c o l) ≡ own c + length l
 length-after c o l = go (hasOperand c)
   where
-    go : (b : Bool) → length (c ∷ pick b (o ∷ l) l) ≡ pick b 2 1 + length l
+    go : (b : Bool) → length (c ∷ cond b (o ∷ l) l) ≡ cond b 2 1 + length l
     go true = omega arith
     go false = omega arith
 
@@ -71,8 +71,8 @@ module _ (s : List ℕ) (at c o : ℕ) (l : List ℕ) (e : drop at s ≡ after c
   unfolding nodeAt
   node-back = go (hasOperand c) refl e
     where
-      go : (b : Bool) → hasOperand c ≡ b → drop at s ≡ c ∷ pick b (o ∷ l) l
-          → (nodeAt s at ≡ record { code = c; operand = pick b o 0; parts = partCount c; next = at + pick b 2 1 }) × (drop (at + pick b 2 1) s ≡ l)
+      go : (b : Bool) → hasOperand c ≡ b → drop at s ≡ c ∷ cond b (o ∷ l) l
+          → (nodeAt s at ≡ record { code = c; operand = cond b o 0; parts = partCount c; next = at + cond b 2 1 }) × (drop (at + cond b 2 1) s ≡ l)
       go true d q =
           let h = cons-at s at c (o ∷ l) q in
           let g = cons-at s (at + 1) o l (h .2) in

@@ -1,6 +1,6 @@
 -- A code that fits is one of its place's; what a node's own bytes are if they have no fault.
 use mathlib.Core.Path.{_≡_, refl, ap, sym, _∙_, subst}
-use mathlib.Core.Bool.{Bool, true, false, false≢true}
+use mathlib.Core.Bool.{Bool, true, false, false≢true, cond}
 use mathlib.Core.List.{List, [], _∷_}
 use Prim.Native.Nat.{ℕ, zero, suc, _+_, _<_}
 use native.Mathlib.Numerals.{add-one, sub-one}
@@ -11,7 +11,7 @@ use lib.Dec.{T, eqb, ltb}
 use borrow.Author.Tests.{eqb-true, ltb-true, lt-ltb}
 use Rattle.logic.specs.Base.{All}
 use Rattle.logic.specs.Code.{Code, byte}
-use Rattle.formula.specs.Codes.{pick, among, value, test, interval, assertion, regValue, regTest, codesAt, fitsAt, hasOperand, partCount, partPlace}
+use Rattle.formula.specs.Codes.{among, value, test, interval, assertion, regValue, regTest, codesAt, fitsAt, hasOperand, partCount, partPlace}
 use Rattle.formula.specs.Tree.{nodeAt, skim}
 use Rattle.formula.specs.Reader.{malformed, range, inRange, operandFault, headFault, first, faultAt}
 use Rattle.formula.proofs.Faults.{fault-step}
@@ -29,7 +29,7 @@ by-code : (Q : ℕ → Type 0) (l : List Code) → All (λ k. Q (byte k)) l → 
 by-code Q [] q c h = absurd (false≢true h)
 by-code Q (k ∷ l) q c h = go (eqb c (byte k)) refl h (λ g. by-code Q l (q .1) c g)
   where
-    go : (b : Bool) → eqb c (byte k) ≡ b → pick b true (among c l) ≡ true → (among c l ≡ true → Q c) → Q c
+    go : (b : Bool) → eqb c (byte k) ≡ b → cond b true (among c l) ≡ true → (among c l ≡ true → Q c) → Q c
     go true e h ih = subst Q (sym (eqb-true c (byte k) e)) (q .0)
     go false e h ih = ih h
 
@@ -38,10 +38,10 @@ module _ (Q : ℕ → ℕ → Type 0) where
   Each p = All (λ k. Q p (byte k)) (codesAt p)
 
   module _ (p c : ℕ) where
-    at-place : (q : ℕ) (l : List Code) → Each q → (among c l ≡ true → Q p c) → among c (pick (eqb p q) (codesAt q) l) ≡ true → Q p c
+    at-place : (q : ℕ) (l : List Code) → Each q → (among c l ≡ true → Q p c) → among c (cond (eqb p q) (codesAt q) l) ≡ true → Q p c
     at-place q l a ih = go (eqb p q) refl
       where
-        go : (b : Bool) → eqb p q ≡ b → among c (pick b (codesAt q) l) ≡ true → Q p c
+        go : (b : Bool) → eqb p q ≡ b → among c (cond b (codesAt q) l) ≡ true → Q p c
         go true e h = subst (λ z. Q z c) (sym (eqb-true p q e)) (by-code (Q q) (codesAt q) a c h)
         go false e h = ih h
 
@@ -54,7 +54,7 @@ module _ (Q : ℕ → ℕ → Type 0) where
 pub first-left : (a b : ℕ) → first a b ≡ 0 → a ≡ 0
 first-left a b = go (eqb a 0) refl
   where
-    go : (c : Bool) → eqb a 0 ≡ c → pick c b a ≡ 0 → a ≡ 0
+    go : (c : Bool) → eqb a 0 ≡ c → cond c b a ≡ 0 → a ≡ 0
     go true e h = eqb-true a 0 e
     go false e h = h
 
@@ -76,8 +76,8 @@ nodeOf c o m = record { code = c; operand = operand c o; parts = partCount c; ne
 -- the first fault of a node's parts
 abbrev pub partsFault : List ℕ → Counts → ℕ → ℕ → Node → ℕ
 partsFault s n k p d =
-    pick (eqb (d .parts) 0) 0
-    (first (faultAt s n k (partPlace (d .code) p) (d .next)) (pick (eqb (d .parts) 1) 0 (faultAt s n k (partPlace (d .code) p) (skim s k (d .next) .end))))
+    cond (eqb (d .parts) 0) 0
+    (first (faultAt s n k (partPlace (d .code) p) (d .next)) (cond (eqb (d .parts) 1) 0 (faultAt s n k (partPlace (d .code) p) (skim s k (d .next) .end))))
 
 pub fault-parts : (s : List ℕ) (n : Counts) (k p at : ℕ) → faultAt s n (suc k) p at ≡ first (headFault s n p at) (partsFault s n k p (nodeAt s at))
 fault-parts s n k p at = let e = fault-step s n (suc k) p at (omega arith) in rw (sub-one (suc k)) at e
@@ -91,14 +91,14 @@ module _ (s : List ℕ) (n : Counts) (p at : ℕ) (h : headFault s n p at ≡ 0)
   o = getD s (at + 1) 0
 
   abbrev pub next : ℕ
-  next = pick (hasOperand c) (at + 2) (at + 1)
+  next = cond (hasOperand c) (at + 2) (at + 1)
 
-  pub head : (at < length s) × (fitsAt c p ≡ true) × (pick (hasOperand c) (operandFault s n c (at + 1)) 0 ≡ 0)
+  pub head : (at < length s) × (fitsAt c p ≡ true) × (cond (hasOperand c) (operandFault s n c (at + 1)) 0 ≡ 0)
   unfolding headFault
   head = go (ltb at (length s)) (fitsAt c p) refl refl h
     where
-      go : (a b : Bool) → ltb at (length s) ≡ a → fitsAt c p ≡ b → pick a (pick b (pick (hasOperand c) (operandFault s n c (at + 1)) 0) malformed) malformed ≡ 0
-          → (at < length s) × (fitsAt c p ≡ true) × (pick (hasOperand c) (operandFault s n c (at + 1)) 0 ≡ 0)
+      go : (a b : Bool) → ltb at (length s) ≡ a → fitsAt c p ≡ b → cond a (cond b (cond (hasOperand c) (operandFault s n c (at + 1)) 0) malformed) malformed ≡ 0
+          → (at < length s) × (fitsAt c p ≡ true) × (cond (hasOperand c) (operandFault s n c (at + 1)) 0 ≡ 0)
       go true true d e h = (ltb-true at (length s) d, e, h)
       go true false d e h = absurd (omega arith)
       go false b d e h = absurd (omega arith)
@@ -107,7 +107,7 @@ module _ (s : List ℕ) (n : Counts) (p at : ℕ) (h : headFault s n p at ≡ 0)
   unfolding operandFault
   operand-fine = go (ltb (at + 1) (length s)) (inRange n c o) refl refl
     where
-      go : (a b : Bool) → ltb (at + 1) (length s) ≡ a → inRange n c o ≡ b → pick a (pick b 0 range) malformed ≡ 0 → (at + 1 < length s) × (inRange n c o ≡ true)
+      go : (a b : Bool) → ltb (at + 1) (length s) ≡ a → inRange n c o ≡ b → cond a (cond b 0 range) malformed ≡ 0 → (at + 1 < length s) × (inRange n c o ≡ true)
       go true true d e h = (ltb-true (at + 1) (length s) d, e)
       go true false d e h = absurd (omega arith)
       go false b d e h = absurd (omega arith)
@@ -117,15 +117,15 @@ module _ (s : List ℕ) (n : Counts) (p at : ℕ) (h : headFault s n p at ≡ 0)
   own-node = rw (lt-ltb at (length s) (head .0)) (go (hasOperand c))
     where
       go : (b : Bool)
-          → _≡_ {A = Node} (pick b (record { code = c; operand = o; parts = partCount c; next = at + 2 }) (record { code = c; operand = 0; parts = partCount c; next = at + 1 }))
-          (record { code = c; operand = pick b o 0; parts = partCount c; next = pick b (at + 2) (at + 1) })
+          → _≡_ {A = Node} (cond b (record { code = c; operand = o; parts = partCount c; next = at + 2 }) (record { code = c; operand = 0; parts = partCount c; next = at + 1 }))
+          (record { code = c; operand = cond b o 0; parts = partCount c; next = cond b (at + 2) (at + 1) })
       go true = refl
       go false = refl
 
   pub own-bytes : drop at s ≡ after c o (drop next s)
   own-bytes = go (hasOperand c) (head .2)
     where
-      go : (b : Bool) → pick b (operandFault s n c (at + 1)) 0 ≡ 0 → drop at s ≡ c ∷ pick b (o ∷ drop (pick b (at + 2) (at + 1)) s) (drop (pick b (at + 2) (at + 1)) s)
+      go : (b : Bool) → cond b (operandFault s n c (at + 1)) 0 ≡ 0 → drop at s ≡ c ∷ cond b (o ∷ drop (cond b (at + 2) (at + 1)) s) (drop (cond b (at + 2) (at + 1)) s)
       go true e =
           let two : at + 1 + 1 ≡ at + 2 = omega arith in
           drop-next s at (head .0) ∙ ap (λ (l : List ℕ). c ∷ l) (drop-next s (at + 1) (operand-fine e .0) ∙ ap (λ (i : ℕ). o ∷ drop i s) two)
@@ -134,6 +134,6 @@ module _ (s : List ℕ) (n : Counts) (p at : ℕ) (h : headFault s n p at ≡ 0)
   pub own-range : T (ranged n c o)
   own-range = go (hasOperand c) (head .2)
     where
-      go : (b : Bool) → pick b (operandFault s n c (at + 1)) 0 ≡ 0 → T (pick b (inRange n c o) true)
+      go : (b : Bool) → cond b (operandFault s n c (at + 1)) 0 ≡ 0 → T (cond b (inRange n c o) true)
       go true e = rw (operand-fine e .1) tt
       go false e = tt

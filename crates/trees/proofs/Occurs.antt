@@ -1,6 +1,6 @@
 -- What does not occur in a formula's tree: the names that a formula may not have, whatever the sort; start.
 use mathlib.Core.Path.{_≡_, refl, ap, ap₂, sym, _∙_}
-use mathlib.Core.Bool.{Bool, true, false, not, _&&_}
+use mathlib.Core.Bool.{Bool, true, false, not, _&&_, cond}
 use mathlib.Core.List.{List, [], _∷_, _++_}
 use Prim.Native.Nat.{ℕ}
 use lib.Dec.{eqb}
@@ -9,7 +9,7 @@ use Rattle.logic.specs.Code
 use Rattle.logic.specs.Code.{byte}
 use Rattle.logic.specs.Formula.{Sort, Formula, Value, Test, Interval, Assertion, Formula.const, Formula.reg, Formula.word, Formula.sum, Formula.equal, Formula.less, Formula.and, Formula.or, Formula.unsync, Formula.cov, Formula.box, Formula.one, Formula.chop, Formula.both, Formula.either, Formula.sees, Formula.bothA, Formula.eitherA, Formula.start, Formula.holds}
 use Rattle.logic.specs.Names.{Name, n-reg, n-word, n-unsync, n-cov, names, only, notReg, notWord, notFlag, isReg, regsIn, startless}
-use Rattle.formula.specs.Codes.{pick, member, setOf}
+use Rattle.formula.specs.Codes.{member, setOf}
 use Rattle.formula.specs.Tree.{Tree, none, node}
 use Rattle.occurs.specs.Occurs
 use Rattle.occurs.specs.Occurs.{isSought, occurs, register, wordAnyRole, flag, shared, foreign, ownerOf}
@@ -49,18 +49,18 @@ pub record Is (w : Sought) (owners : List ℕ) (ok : Name → Bool) : Type 0 whe
   pub start : isSought w owners (byte Code.start) 0 ≡ false
   pub holds : isSought w owners (byte Code.holds) 0 ≡ false
 
-leaf-name : (a b : Bool) → a ≡ not b → pick a true (pick false true false) ≡ not (b && true)
+leaf-name : (a b : Bool) → a ≡ not b → cond a true (cond false true false) ≡ not (b && true)
 leaf-name a true e = rw e
 leaf-name a false e = rw e
 
-leaf-other : (a : Bool) → a ≡ false → pick a true (pick false true false) ≡ not true
+leaf-other : (a : Bool) → a ≡ false → cond a true (cond false true false) ≡ not true
 leaf-other a e = rw e
 
-one-part : (a b c : Bool) → a ≡ false → b ≡ not c → pick a true (pick b true false) ≡ not c
+one-part : (a b c : Bool) → a ≡ false → b ≡ not c → cond a true (cond b true false) ≡ not c
 one-part a b true e d = rw (e, d)
 one-part a b false e d = rw (e, d)
 
-two-parts : (a b c d e : Bool) → a ≡ false → b ≡ not d → c ≡ not e → pick a true (pick b true c) ≡ not (d && e)
+two-parts : (a b c d e : Bool) → a ≡ false → b ≡ not d → c ≡ not e → cond a true (cond b true c) ≡ not (d && e)
 two-parts a b c true e p q r = rw (p, q, r)
 two-parts a b c false e p q r = rw (p, q)
 
@@ -142,7 +142,7 @@ pub no-foreign : (t : ℕ) (owners : List ℕ) {s : Sort} (f : Formula s) → oc
 no-foreign t owners f = absent (foreign t) owners (regsIn (λ r. eqb (ownerOf owners r) t)) (foreign-is t owners) f
 
 -- start: in assertions only
-neither : (a b : Bool) → a ≡ false → b ≡ false → pick a true b ≡ false
+neither : (a b : Bool) → a ≡ false → b ≡ false → cond a true b ≡ false
 neither a b e d = rw (e, d)
 
 pub no-start-value : (f : Value) → occurs Occurs.start [] (raw f) ≡ false
@@ -171,7 +171,7 @@ no-start-interval (chop f g) = neither (occurs Occurs.start [] (raw f)) (occurs 
 no-start-interval (both f g) = neither (occurs Occurs.start [] (raw f)) (occurs Occurs.start [] (raw g)) (no-start-interval f) (no-start-interval g)
 no-start-interval (either f g) = neither (occurs Occurs.start [] (raw f)) (occurs Occurs.start [] (raw g)) (no-start-interval f) (no-start-interval g)
 
-either-start : (a b c d : Bool) → a ≡ not c → b ≡ not d → pick a true b ≡ not (c && d)
+either-start : (a b c d : Bool) → a ≡ not c → b ≡ not d → cond a true b ≡ not (c && d)
 either-start a b true d e h = rw e h
 either-start a b false d e h = rw e
 

@@ -1,13 +1,13 @@
 -- Trees and formulas: reading a formula's tree gives the formula; comparison agrees.
 use mathlib.Core.Path.{_≡_, refl, ap, ap₂, sym, _∙_, subst}
-use mathlib.Core.Bool.{Bool, true, false}
+use mathlib.Core.Bool.{true, _&&_}
 use Prim.Native.Nat.{ℕ}
 use lib.Dec.{T, eqb, eqb→eq, eqb-refl}
 use Rattle.logic.specs.Formula.{Sort, Formula, same, Formula.const, Formula.reg, Formula.word, Formula.sum, Formula.equal, Formula.less, Formula.and, Formula.or, Formula.unsync, Formula.cov, Formula.box, Formula.one, Formula.chop, Formula.both, Formula.either, Formula.sees, Formula.bothA, Formula.eitherA, Formula.start, Formula.holds}
-use Rattle.logic.proofs.Base.{bool-ext}
+use Rattle.logic.proofs.Base.{bool-ext, and-left, and-right, and-both}
 use Rattle.logic.proofs.Encoding.{same-eq, same-refl}
 use Rattle.formula.specs.Tree.{Tree, none, node}
-use Rattle.compare.specs.Same.{both as conj, sameTree}
+use Rattle.compare.specs.Same.{sameTree}
 use Rattle.trees.specs.Raw.{raw, shaped, Sorted}
 
 pub shaped-raw : {s : Sort} (f : Formula s) → shaped s (raw f) ≡ f
@@ -41,25 +41,13 @@ pub raw-eq : {s : Sort} (f g : Formula s) → raw f ≡ raw g → f ≡ g
 raw-eq {s} f g e = sym (shaped-raw f) ∙ ap (shaped s) e ∙ shaped-raw g
 
 -- trees that are the same are equal
-pub both-left : (a b : Bool) → T (conj a b) → T a
-both-left true b h = tt
-both-left false b h = h
-
-pub both-right : (a b : Bool) → T (conj a b) → T b
-both-right true b h = h
-both-right false b h = absurd h
-
-pub both-both : (a b : Bool) → T a → T b → T (conj a b)
-both-both true b h g = g
-both-both false b h g = h
-
 pub tree-eq : (t u : Tree) → T (sameTree t u) → t ≡ u
 unfolding sameTree
 tree-eq none none h = refl
 tree-eq none (node d p m s) h = absurd h
 tree-eq (node c o l r) none h = absurd h
 tree-eq (node c o l r) (node d p m s) h =
-    go (eqb→eq c d (search both-left)) (eqb→eq o p (search (both-left, both-right))) (tree-eq l m (search (both-left, both-right))) (tree-eq r s (search (both-left, both-right)))
+    go (eqb→eq c d (search and-left)) (eqb→eq o p (search (and-left, and-right))) (tree-eq l m (search (and-left, and-right))) (tree-eq r s (search (and-left, and-right)))
   where
     go : c ≡ d → o ≡ p → l ≡ m → r ≡ s → node c o l r ≡ node d p m s
     go a b c d = cc
@@ -68,8 +56,8 @@ pub tree-refl : (t : Tree) → T (sameTree t t)
 unfolding sameTree
 tree-refl none = tt
 tree-refl (node c o l r) =
-    both-both (eqb c c) (conj (eqb o o) (conj (sameTree l l) (sameTree r r))) (eqb-refl c)
-    (both-both (eqb o o) (conj (sameTree l l) (sameTree r r)) (eqb-refl o) (both-both (sameTree l l) (sameTree r r) (tree-refl l) (tree-refl r)))
+    and-both (eqb c c) (eqb o o && (sameTree l l && sameTree r r)) (eqb-refl c)
+    (and-both (eqb o o) (sameTree l l && sameTree r r) (eqb-refl o) (and-both (sameTree l l) (sameTree r r) (tree-refl l) (tree-refl r)))
 
 -- comparison
 pub raw-same : {s : Sort} (f g : Formula s) → sameTree (raw f) (raw g) ≡ same f g

@@ -8,7 +8,6 @@ use Rattle.logic.specs.Code
 use Rattle.logic.specs.Code.{byte}
 use Rattle.logic.specs.Formula.{Sort, Formula, Value, Formula.const, Formula.reg, Formula.word, Formula.sum, Formula.equal, Formula.less, Formula.and, Formula.or, Formula.unsync, Formula.cov, Formula.box, Formula.one, Formula.chop, Formula.both, Formula.either, Formula.sees, Formula.bothA, Formula.eitherA, Formula.start, Formula.holds}
 use Rattle.logic.specs.Replace.{Sub, replace, regBy, wordBy}
-use Rattle.formula.specs.Codes.{pick}
 use Rattle.formula.specs.Tree.{Tree, none, node}
 use Rattle.compare.specs.Replace.{isName, replaceT, nameCode, oneName}
 use Rattle.trees.specs.Raw.{raw}
@@ -40,7 +39,7 @@ module _ (τ : ℕ → ℕ → Tree) (σ : Sub) (on-reg : (r : ℕ) → τ (byte
   replaced start = refl
   replaced (holds f) = ap (λ t. node (byte Code.holds) 0 t none) (replaced f)
 
-raw-if : (b : Bool) (v w : Value) → pick b (raw v) (raw w) ≡ raw (cond b v w)
+raw-if : (b : Bool) (v w : Value) → cond b (raw v) (raw w) ≡ raw (cond b v w)
 raw-if true v w = refl
 raw-if false v w = refl
 

@@ -1,6 +1,6 @@
 -- The constructors by their shape: a code with no part, one part or two; what each of a formula's readings makes of it.
 use mathlib.Core.Path.{_≡_, refl, ap}
-use mathlib.Core.Bool.{Bool, true, false, _&&_}
+use mathlib.Core.Bool.{Bool, true, false, _&&_, cond}
 use mathlib.Core.List.{List, _∷_, _++_}
 use Prim.Native.Nat.{ℕ, zero, suc, _/_, max}
 use lib.Dec.{T, eqb, leb, leb·zero, leb·suc-suc, eqb·suc-zero}
@@ -9,7 +9,7 @@ use Rattle.logic.specs.Code
 use Rattle.logic.specs.Code.{byte}
 use Rattle.logic.specs.Formula.{Sort, Formula, encode, nesting, Formula.const, Formula.reg, Formula.word, Formula.sum, Formula.equal, Formula.less, Formula.and, Formula.or, Formula.unsync, Formula.cov, Formula.box, Formula.one, Formula.chop, Formula.both, Formula.either, Formula.sees, Formula.bothA, Formula.eitherA, Formula.start, Formula.holds}
 use Rattle.logic.specs.Names.{names, isReg}
-use Rattle.formula.specs.Codes.{pick, value, test, regValue, regTest, hasOperand, partCount, partPlace, fitsAt}
+use Rattle.formula.specs.Codes.{value, test, regValue, regTest, hasOperand, partCount, partPlace, fitsAt}
 use Rattle.formula.specs.Tree.{none, node}
 use Rattle.formula.specs.Reader.{inRange}
 use Rattle.formula.specs.declared.reader.Counts.{Counts}
@@ -19,13 +19,13 @@ use Rattle.trees.proofs.Occurs.{all-join}
 
 -- what follows a code: its operand, if it has one
 abbrev pub after : ℕ → ℕ → List ℕ → List ℕ
-after c o l = c ∷ pick (hasOperand c) (o ∷ l) l
+after c o l = c ∷ cond (hasOperand c) (o ∷ l) l
 
 abbrev pub operand : ℕ → ℕ → ℕ
-operand c o = pick (hasOperand c) o 0
+operand c o = cond (hasOperand c) o 0
 
 abbrev pub ranged : Counts → ℕ → ℕ → Bool
-ranged n c o = pick (hasOperand c) (inRange n c o) true
+ranged n c o = cond (hasOperand c) (inRange n c o) true
 
 pub record Leaf (c : ℕ) (p : Sort) : Type 0 where
   pub make : ℕ → Formula p
@@ -65,16 +65,16 @@ pub record Two (c : ℕ) (p q : Sort) : Type 0 where
   pub inside : (r : Bool) → partPlace c (place r p) ≡ place r q
 
 -- from 1 to a count
-pub from-one : (m o : ℕ) → within m o ≡ pick (eqb o 0) false (leb o m)
+pub from-one : (m o : ℕ) → within m o ≡ cond (eqb o 0) false (leb o m)
 from-one m zero = refl
 from-one m (suc o) = rw (eqb·suc-zero o, leb·suc-suc 0 o, leb·zero o)
 
-pub lone-two : {p : Sort} (r : Bool) (f g : Formula p) → pick r (all isReg (names f ++ names g)) true ≡ pick r (all isReg (names f)) true && pick r (all isReg (names g)) true
+pub lone-two : {p : Sort} (r : Bool) (f g : Formula p) → cond r (all isReg (names f ++ names g)) true ≡ cond r (all isReg (names f)) true && cond r (all isReg (names g)) true
 lone-two true f g = all-join isReg (names f) (names g)
 lone-two false f g = refl
 
 -- a code that does not fit where registers are alone
-pub unfit : (c p q : ℕ) → fitsAt c q ≡ true → (r : Bool) (o : ℕ) → T (pick r false true) → fitsAt c (pick r p q) ≡ true
+pub unfit : (c p q : ℕ) → fitsAt c q ≡ true → (r : Bool) (o : ℕ) → T (cond r false true) → fitsAt c (cond r p q) ≡ true
 unfit c p q e true o h = absurd h
 unfit c p q e false o h = e
 

@@ -4,10 +4,10 @@ use mathlib.Core.List.{List}
 use Prim.Native.Nat.{ℕ, _≤_}
 use lib.Dec.{T}
 use Rattle.logic.specs.Formula.{Formula, Value, nesting, Formula.const, Formula.reg, Formula.word, Formula.sum}
-use Rattle.logic.specs.Names.{only, isReg, plain}
+use Rattle.logic.specs.Names.{plain}
 use Rattle.logic.specs.Eval.{bounded}
 use Rattle.logic.proofs.Base.{and-left, and-right, and-both}
-use Rattle.formula.specs.Codes.{value, assertion, regValue, regTest}
+use Rattle.formula.specs.Codes.{value, assertion}
 use Rattle.formula.specs.Reader.{faultAt}
 use Rattle.formula.specs.declared.reader.Counts.{Counts}
 use Rattle.trees.specs.Place.{sortAt, formulaAt, overRegs, alone, inCounts}
@@ -35,18 +35,9 @@ module _ (s : List ℕ) (n : Counts) (k at : ℕ) where
   pub reads-alone : (p : ℕ) → faultAt s n k p at ≡ 0 → T (alone (overRegs p) (formulaAt s k p at))
   reads-alone p h = there p (λ f. T (alone (overRegs p) f)) h (λ q. q .lone)
 
-  -- by place: values, over registers alone; tests over registers alone; assertions
+  -- by place: values; assertions
   pub reads-bounded : faultAt s n k value at ≡ 0 → T (bounded (n .values) (formulaAt s k value at))
   reads-bounded h = counts-bounded n (formulaAt s k value at) (reads-counts value h)
-
-  pub reads-regs-bounded : faultAt s n k regValue at ≡ 0 → T (bounded (n .values) (formulaAt s k regValue at))
-  reads-regs-bounded h = counts-bounded n (formulaAt s k regValue at) (reads-counts regValue h)
-
-  pub reads-regs-value : faultAt s n k regValue at ≡ 0 → T (only isReg (formulaAt s k regValue at))
-  reads-regs-value h = reads-alone regValue h
-
-  pub reads-regs-test : faultAt s n k regTest at ≡ 0 → T (only isReg (formulaAt s k regTest at))
-  reads-regs-test h = reads-alone regTest h
 
   pub reads-plain : faultAt s n k assertion at ≡ 0 → T (plain (formulaAt s k assertion at))
   reads-plain h = reads-alone assertion h

@@ -1,6 +1,6 @@
 -- What a formula is at a place of the reader: its sort, its numbers within the counts, registers alone where they must be.
 use mathlib.Core.Path.{_≡_}
-use mathlib.Core.Bool.{Bool, true, false, _&&_}
+use mathlib.Core.Bool.{Bool, true, false, _&&_, cond}
 use mathlib.Core.List.{List, []}
 use Prim.Native.Nat.{ℕ, _≤_, _<_}
 use lib.Seq.{slice}
@@ -9,7 +9,7 @@ use Rattle.logic.specs.Base.{within}
 use Rattle.logic.specs.Formula.{Sort, Formula, encode, nesting, Formula.const, Formula.reg, Formula.word, Formula.sum, Formula.equal, Formula.less, Formula.and, Formula.or, Formula.unsync, Formula.cov, Formula.box, Formula.one, Formula.chop, Formula.both, Formula.either, Formula.sees, Formula.bothA, Formula.eitherA, Formula.start, Formula.holds}
 use Rattle.logic.specs.Names.{only, isReg, plain}
 use Rattle.limits.specs.Limits.{nesting as most}
-use Rattle.formula.specs.Codes.{pick, value, test, interval, assertion, regValue, regTest}
+use Rattle.formula.specs.Codes.{value, test, interval, assertion, regValue, regTest}
 use Rattle.formula.specs.Tree.{skim}
 use Rattle.formula.specs.declared.reader.Counts.{Counts}
 use Rattle.trees.specs.Raw.{shaped}
@@ -17,12 +17,12 @@ use Rattle.trees.specs.Raw.{shaped}
 -- the sort of a place; where no code fits, any will do
 abbrev pub sortAt : ℕ → Sort
 sortAt p =
-    pick (eqb p value) Sort.value (pick (eqb p test) Sort.test (pick (eqb p interval) Sort.interval (pick (eqb p assertion) Sort.assertion (pick (eqb p regValue) Sort.value Sort.test))))
+    cond (eqb p value) Sort.value (cond (eqb p test) Sort.test (cond (eqb p interval) Sort.interval (cond (eqb p assertion) Sort.assertion (cond (eqb p regValue) Sort.value Sort.test))))
 
 -- the place of a sort, over registers alone if r
 abbrev pub place : Bool → Sort → ℕ
-place r Sort.value = pick r regValue value
-place r Sort.test = pick r regTest test
+place r Sort.value = cond r regValue value
+place r Sort.test = cond r regTest test
 place r Sort.interval = interval
 place r Sort.assertion = assertion
 
@@ -36,12 +36,12 @@ bytesAt s k at = slice at (skim s k at .end) s
 
 -- a place over registers alone
 abbrev pub overRegs : ℕ → Bool
-overRegs p = pick (eqb p regValue) true (eqb p regTest)
+overRegs p = cond (eqb p regValue) true (eqb p regTest)
 
 -- registers alone: in a value or test if asked for, in an assertion under holds
 abbrev pub alone : {s : Sort} → Bool → Formula s → Bool
-alone {s = Sort.value} r f = pick r (only isReg f) true
-alone {s = Sort.test} r f = pick r (only isReg f) true
+alone {s = Sort.value} r f = cond r (only isReg f) true
+alone {s = Sort.test} r f = cond r (only isReg f) true
 alone {s = Sort.interval} r f = true
 alone {s = Sort.assertion} r f = plain f
 

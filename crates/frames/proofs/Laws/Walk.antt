@@ -2,13 +2,13 @@
 use Prim.Native.Nat.{ℕ, zero, suc, _+_, _-_, _≤_, _<_}
 use mathlib.Core.Path.{_≡_, refl, ap, sym, _∙_}
 use mathlib.Core.List.{List, [], _∷_}
-use mathlib.Core.Bool.{Bool, true, false}
+use mathlib.Core.Bool.{Bool, true, false, cond}
 use native.Mathlib.Numerals.{sub-one}
 use native.Mathlib.Omega.{arith}
 use lib.ListN.{length, drop, drop-of-length-le, length-drop}
 use lib.Seq.{drop-drop}
 use lib.Dec.{ltb}
-use Rattle.limits.specs.Numbers.{pick, word, has}
+use Rattle.limits.specs.Numbers.{word, has}
 use Rattle.limits.proofs.Numbers.{has-true}
 use Rattle.frames.specs.Frames.{refuse, admit, frame, ended, unlessFaulty, walk, none, frames}
 use Rattle.frames.specs.declared.fault.Fault.{Fault}
@@ -41,7 +41,7 @@ frame-fits s at c f n lt e z en = go (has 2 (drop at s)) (ltb (word (drop at s))
     never h = let q : _≡_ {A = ℕ} 0 1 = cc in absurd (omega arith)
 
     go : (i j m : Bool) → has (2 + word (drop at s)) (drop at s) ≡ m
-        → pick i (pick j (refuse Length c) (pick m (admit c (word (drop 2 (drop at s)))) (refuse Length c))) (refuse Length c) .check ≡ Passed → at + 2 + n ≤ length s
+        → cond i (cond j (refuse Length c) (cond m (admit c (word (drop 2 (drop at s)))) (refuse Length c))) (refuse Length c) .check ≡ Passed → at + 2 + n ≤ length s
     go true true m d h = never h
     go true false true d h = let q = has-true (2 + word (drop at s)) (drop at s) d in omega (arith, length-drop at s)
     go true false false d h = never h
