@@ -4,6 +4,7 @@
 //! the clause of the scope page that it tests.
 
 pub mod edits;
+pub mod expected;
 pub mod formulas;
 pub mod images;
 mod nesting;

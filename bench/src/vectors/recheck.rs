@@ -5,6 +5,12 @@ use crate::checker::formula::parse::Counts;
 use crate::vectors::formulas::FormulaCase;
 use crate::vectors::store::answer;
 
+/// An image of a container, with the nine fields stored for it.
+pub struct StoredImage<'a> {
+    pub image: &'a [u8],
+    pub fields: [u16; 9],
+}
+
 /// A front part of the bytes, which is taken off; none if they are too few.
 fn take<'a>(bytes: &mut &'a [u8], count: usize) -> Option<&'a [u8]> {
     let (front, rest) = bytes.split_at_checked(count)?;
@@ -18,9 +24,9 @@ fn number(bytes: &mut &[u8]) -> Option<u16> {
     Some(u16::from_le_bytes([pair[0], pair[1]]))
 }
 
-/// For each case of a container of images whether its verdict is still the same.
-pub fn images(mut bytes: &[u8]) -> Option<Vec<bool>> {
-    let mut results = Vec::new();
+/// The cases of a container of images; none if it is cut short.
+pub fn stored_images(mut bytes: &[u8]) -> Option<Vec<StoredImage<'_>>> {
+    let mut cases = Vec::new();
     while !bytes.is_empty() {
         let length = number(&mut bytes)?;
         let image = take(&mut bytes, usize::from(length))?;
@@ -28,9 +34,15 @@ pub fn images(mut bytes: &[u8]) -> Option<Vec<bool>> {
         for field in &mut fields {
             *field = number(&mut bytes)?;
         }
-        results.push(check(image).fields() == fields);
+        cases.push(StoredImage { image, fields });
     }
-    Some(results)
+    Some(cases)
+}
+
+/// For each case of a container of images whether its verdict is still the same.
+pub fn images(bytes: &[u8]) -> Option<Vec<bool>> {
+    let cases = stored_images(bytes)?;
+    Some(cases.iter().map(|case| check(case.image).fields() == case.fields).collect())
 }
 
 /// For each case of a container of formulas whether its answer is still the same.

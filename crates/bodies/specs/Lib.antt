@@ -3,3 +3,4 @@ pub mod Use
 pub mod Thread
 pub mod Lists
 pub mod Line
+pub mod Outlined

@@ -1,7 +1,7 @@
 // A line's record: its numbers, then its formulas.
-use crate::list_body::formula_outlined;
-use crate::use_of::Sort;
+use crate::outlined::formula_outlined;
 use crate::use_of::is_sort;
+use formula::code::Place;
 use frames::fault::Checked;
 use frames::fault::Fault;
 use frames::index::body_of;
@@ -11,12 +11,11 @@ use records::line::Form;
 use records::line::check_line_numbers;
 use records::line::line_form;
 ghost use mathlib.Core.Path.{_≡_};
-ghost use lib.ListN.{getD};
 ghost use Rattle.frames.specs.Records.{bodies, indexOf};
-ghost use Rattle.records.specs.Line.{formOf};
+ghost use Rattle.bodies.specs.Outlined.{outlinedOf};
 ghost use Rattle.bodies.specs.Line.{sortAt, sortedBy, lineSorted, line};
 
-fn formula_of_sort<'a, 'b>(s: &'a [u8], ix: &'b [usize], sort: usize, k: usize) -> bool
+fn formula_of_sort<'a, 'b>(s: &'a [u8], ix: &'b [usize], sort: u8, k: usize) -> bool
     requires { ⌜ now ix ≡ indexOf (now s) ⌝ }
     ensures { λ r. ⌜ r ≡ sortAt (bodies (now (s .entry))) sort k ⌝ }
 {
@@ -25,46 +24,60 @@ fn formula_of_sort<'a, 'b>(s: &'a [u8], ix: &'b [usize], sort: usize, k: usize) 
 }
 
 // Formula k may be a side of a line of this form.
-fn formula_fits<'a, 'b>(s: &'a [u8], ix: &'b [usize], f: Form, k: usize) -> bool
-    requires { ⌜ now ix ≡ indexOf (now s) ⌝ }
+fn formula_fits<'a, 'b, 'c>(
+    s: &'a [u8],
+    ix: &'b [usize],
+    on: &'c [bool],
+    z: Sizes,
+    f: Form,
+    k: usize,
+) -> bool
+    requires { ⌜ (now ix ≡ indexOf (now s)) × (now on ≡ outlinedOf z (bodies (now s))) ⌝ }
     ensures { λ r. ⌜ r ≡ sortedBy (bodies (now (s .entry))) f k ⌝ }
 {
     match f {
-        Form::Triple => formula_outlined(s, ix, k),
-        Form::Implication => formula_of_sort(s, ix, Sort::ASSERTION, k),
-        Form::Inclusion => formula_of_sort(s, ix, Sort::INTERVAL, k),
+        Form::Triple => formula_outlined(s, ix, on, z, k),
+        Form::Implication => formula_of_sort(s, ix, Place::ASSERTION, k),
+        Form::Inclusion => formula_of_sort(s, ix, Place::INTERVAL, k),
         Form::Unlisted => true,
     }
 }
 
-fn line_sorted<'a, 'b>(s: &'a [u8], ix: &'b [usize], b: &'a [u8]) -> bool
-    requires { ⌜ now ix ≡ indexOf (now s) ⌝ }
+fn line_sorted<'a, 'b, 'c>(
+    s: &'a [u8],
+    ix: &'b [usize],
+    on: &'c [bool],
+    z: Sizes,
+    b: &'a [u8],
+) -> bool
+    requires { ⌜ (now ix ≡ indexOf (now s)) × (now on ≡ outlinedOf z (bodies (now s))) ⌝ }
     ensures { λ r. ⌜ r ≡ lineSorted (bodies (now (s .entry))) (now (b .entry)) ⌝ }
 {
     let f = line_form(b);
     let left = word_at(b, 3);
-    if formula_fits(s, ix, f, left) {
+    if formula_fits(s, ix, on, z, f, left) {
         let right = word_at(b, 5);
-        return formula_fits(s, ix, f, right);
+        return formula_fits(s, ix, on, z, f, right);
     }
     false
 }
 
 // The line that has so many lines before it.
-pub fn check_line<'a, 'b>(
+pub fn check_line<'a, 'b, 'c>(
     s: &'a [u8],
     ix: &'b [usize],
+    on: &'c [bool],
     z: Sizes,
     lower: usize,
     b: &'a [u8],
 ) -> Checked
-    requires { ⌜ now ix ≡ indexOf (now s) ⌝ }
+    requires { ⌜ (now ix ≡ indexOf (now s)) × (now on ≡ outlinedOf z (bodies (now s))) ⌝ }
     ensures { λ r. ⌜ r ≡ line z (bodies (now (s .entry))) lower (now (b .entry)) ⌝ }
 {
     match check_line_numbers(s, ix, z, lower, b) {
         Checked::Faulty(fault) => Checked::Faulty(fault),
         Checked::Passed => {
-            if line_sorted(s, ix, b) {
+            if line_sorted(s, ix, on, z, b) {
                 return Checked::Passed;
             }
             Checked::Faulty(Fault::Sort)

@@ -1,6 +1,6 @@
 // A thread's record: its numbers, then the formulas of its instructions, then the registers that it names.
-use crate::use_of::Sort;
 use crate::use_of::is_plain_of;
+use formula::code::Place;
 use frames::fault::Checked;
 use frames::fault::Fault;
 use frames::index::body_of;
@@ -20,13 +20,13 @@ ghost use Rattle.program.specs.Thread.{instructions};
 ghost use Rattle.bodies.specs.Thread.{wanted, sorted, targetOwned, formulaOwned, owned, thread};
 
 // The sort of an instruction's formula.
-fn wanted_sort(operation: usize) -> usize
+fn wanted_sort(operation: u8) -> u8
     ensures { λ r. ⌜ r ≡ wanted operation ⌝ }
 {
     if operation == Instruction::BRANCH {
-        return Sort::TEST;
+        return Place::TEST;
     }
-    Sort::VALUE
+    Place::VALUE
 }
 
 // The instruction's formula, if it has one, is of the wanted sort over registers alone.
@@ -48,7 +48,7 @@ fn target_owned<'a, 'b>(s: &'a [u8], ix: &'b [usize], t: u8, i: Instruction) -> 
 {
     if i.operation <= Instruction::ACQUIRE {
         let h = body_of(s, ix, 0);
-        return owner_of(h, i.a) == (t as usize);
+        return owner_of(h, i.a as usize) == (t as usize);
     }
     true
 }

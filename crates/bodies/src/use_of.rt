@@ -1,7 +1,8 @@
 // What a formula has to be where it is used.
-use frames::index::body_of;
+use formula::code::Code;
+use formula::code::Place;
 use limits::Limits;
-use limits::read::byte_at;
+use limits::read::octet_at;
 use occurs::has::has_shared;
 use occurs::has::has_start;
 ghost use mathlib.Core.Path.{_≡_};
@@ -9,26 +10,10 @@ ghost use lib.Dec.{eqb};
 ghost use Rattle.formula.specs.Reader.{sortOf};
 ghost use Rattle.bodies.specs.Use.{startless, plain, outlined, plainOf};
 
-// The sorts of formulas.
-pub struct Sort;
-
-impl Sort {
-    pub const VALUE: usize = 0;
-
-    pub const TEST: usize = 1;
-
-    pub const INTERVAL: usize = 2;
-
-    pub const ASSERTION: usize = 3;
-
-    // A code's sort is its eighth.
-    pub const CODES: usize = 8;
-}
-
-pub fn is_sort(b: &[u8], sort: usize) -> bool
+pub fn is_sort(b: &[u8], sort: u8) -> bool
     ensures { λ r. ⌜ r ≡ eqb (sortOf (now (b .entry))) sort ⌝ }
 {
-    byte_at(b, 0) / Sort::CODES == sort
+    octet_at(b, 0) / Code::PER_SORT == sort
 }
 
 // Start does not occur in it.
@@ -55,14 +40,14 @@ fn is_plain(b: &[u8]) -> bool
 pub fn is_outlined(b: &[u8]) -> bool
     ensures { λ r. ⌜ r ≡ outlined (now (b .entry)) ⌝ }
 {
-    if is_sort(b, Sort::ASSERTION) {
+    if is_sort(b, Place::ASSERTION) {
         return is_startless(b);
     }
     false
 }
 
 // A formula of the sort over registers alone.
-pub fn is_plain_of(b: &[u8], sort: usize) -> bool
+pub fn is_plain_of(b: &[u8], sort: u8) -> bool
     ensures { λ r. ⌜ r ≡ plainOf sort (now (b .entry)) ⌝ }
 {
     if is_sort(b, sort) {

@@ -3,7 +3,7 @@ use mathlib.Core.Path.{_≡_, refl, ap, ap₂, sym, _∙_, subst, subst₂}
 use mathlib.Core.Bool.{Bool, true, false, not, _&&_, _||_}
 use mathlib.Core.List.{List, [], _∷_, map}
 use mathlib.Core.Option.{Option, none, some}
-use Prim.Native.Nat.{ℕ, suc, _-_}
+use Prim.Native.Nat.{ℕ, suc, _-_, _≤_}
 use native.Mathlib.Omega.{arith}
 use lib.Dec.{T, eqb, ltb, leb, eqb→eq, eqb-refl}
 use borrow.Author.Tests.{eqb-true}
@@ -34,26 +34,30 @@ use Rattle.compare.specs.Same.{sameTree}
 use Rattle.compare.specs.Replace.{replaceT, oneName}
 use Rattle.occurs.specs.Occurs.{occurs, register, wordAnyRole, flag}
 use Rattle.trees.specs.Raw.{raw, shaped}
-use Rattle.trees.specs.Rows.{ImpT, rowsT, tableT}
+use Rattle.rows.specs.Claim.{ImpT}
+use Rattle.rows.specs.Rows.{rowsT, tableT}
 use Rattle.trees.proofs.Raw.{shaped-raw, raw-same}
 use Rattle.trees.proofs.Replace.{raw-reg, raw-word}
 use Rattle.trees.proofs.Occurs
 use Rattle.trees.proofs.Occurs.{no-register, no-word}
-use Rattle.trees.proofs.Rows.{rawImp, raw-rows, raw-table}
+use Rattle.rows.proofs.Link.{rawImp, raw-rows, raw-table}
 use Rattle.matcher.specs.Template.{firstHole, firstNumber, formulaHole, numHole, rawP, Holes, instT, fillOf}
 use Rattle.matcher.specs.Match.{Taken, andThen, when, matchT}
 use Rattle.certificate.specs.FitT
-use Rattle.certificate.specs.FitT.{inclusion, implication, hoare, Said, said, Acting, acting, formOf, leftOf, rightOf, placed, matchLine, matchAll, isImplication, matchPremises, preset, orElse, holesFrom, ofWord, replacedNumber, replacing, keepsT, sideT, operationT, restT, answer, fitsAt, fitsT}
+use Rattle.certificate.specs.FitT.{inclusion, implication, hoare, Said, said, Acting, acting, formOf, leftOf, rightOf, placed, matchSides, matchLine, matchAll, isImplication, matchPremises, preset, orElse, holesFrom, ofWord, replacedNumber, replacing, keepsT, sideT, operationT, restT, answer, fitsAt, fitsT}
 use Rattle.matcher.proofs.Match.{Has, match-sound, then-some, when-some, Goes, goes-then, goes-when, match-goes}
 use Rattle.matcher.proofs.Template.{Agrees, from-tree}
 
 -- LINES AGAINST SHAPES
 
--- the line has the shape's form and place, and its sides are the templates filled
-pub record Fits (c : Holes) (i k : ℕ) (m : Shape) (v : Said) : Type 0 where
-  pub placed : T (placed (formOf m) i k v)
-  pub left : instT c (leftOf m) ≡ v .left
-  pub right : instT c (rightOf m) ≡ v .right
+-- the line has the form and place, and its sides are the templates filled
+pub record FitSides (c : Holes) (i k f : ℕ) (p q : Tree) (v : Said) : Type 0 where
+  pub placed : T (placed f i k v)
+  pub left : instT c p ≡ v .left
+  pub right : instT c q ≡ v .right
+
+abbrev pub Fits : Holes → ℕ → ℕ → Shape → Said → Type 0
+Fits c i k m v = FitSides c i k (formOf m) (leftOf m) (rightOf m) v
 
 abbrev pub FitAll : Holes → ℕ → ℕ → List Shape → List Said → Type 0
 FitAll c i k [] [] = Unit {0}
@@ -70,14 +74,17 @@ none-some z e = let q : _≡_ {A = ℕ} 0 1 = cc in absurd (omega arith)
 
 module _ (c : Holes) (i k : ℕ) where
   -- what was matched fits
-  line-sound : (m : Shape) (v : Said) (b z : Taken) → matchLine i k m v b ≡ some z → Has c z → Has c b × Fits c i k m v
-  line-sound m v b z e h =
-      then-some (when (placed (formOf m) i k v) b) _ z e λ b₀ e₀ k₀.
-      then-some (matchT (leftOf m) (v .left) b₀) _ z k₀ λ b₁ e₁ k₁.
-      let y = match-sound c (rightOf m) (v .right) b₁ z k₁ h in
-      let x = match-sound c (leftOf m) (v .left) b₀ b₁ e₁ (y .0) in
-      let w = when-some (placed (formOf m) i k v) b b₀ e₀ in
+  pub sides-sound : (f : ℕ) (p q : Tree) (v : Said) (b z : Taken) → matchSides i k f p q v b ≡ some z → Has c z → Has c b × FitSides c i k f p q v
+  sides-sound f p q v b z e h =
+      then-some (when (placed f i k v) b) _ z e λ b₀ e₀ k₀.
+      then-some (matchT p (v .left) b₀) _ z k₀ λ b₁ e₁ k₁.
+      let y = match-sound c q (v .right) b₁ z k₁ h in
+      let x = match-sound c p (v .left) b₀ b₁ e₁ (y .0) in
+      let w = when-some (placed f i k v) b b₀ e₀ in
       (subst (Has c) (sym (w .1)) (x .0), record { placed = w .0; left = x .1; right = y .1 })
+
+  line-sound : (m : Shape) (v : Said) (b z : Taken) → matchLine i k m v b ≡ some z → Has c z → Has c b × Fits c i k m v
+  line-sound m = sides-sound (formOf m) (leftOf m) (rightOf m)
 
   all-sound : (l : List Shape) (vs : List Said) (b z : Taken) → matchAll i k l vs b ≡ some z → Has c z → Has c b × FitAll c i k l vs
   all-sound [] [] b z e h = (subst (Has c) (let q : z ≡ b = cc in q) h, tt)
@@ -97,11 +104,14 @@ module _ (c : Holes) (i k : ℕ) where
   premises-sound implications vs b z e h = let y = when-some (leb (length vs) Limits.premises && all isImplication vs) b z e in (subst (Has c) (sym (y .1)) h, y .0)
 
   -- what fits is matched
+  pub sides-goes : (f : ℕ) (p q : Tree) (v : Said) (b : Taken) → FitSides c i k f p q v → Has c b → Goes c (matchSides i k f p q v b)
+  sides-goes f p q v b g h =
+      goes-then c (when (placed f i k v) b) _ (goes-when c (placed f i k v) b (g .placed) h) λ b₀ h₀.
+      goes-then c (matchT p (v .left) b₀) _ (subst (λ (u : Tree). Goes c (matchT p u b₀)) (g .left) (match-goes c p b₀ h₀)) λ b₁ h₁.
+      subst (λ (u : Tree). Goes c (matchT q u b₁)) (g .right) (match-goes c q b₁ h₁)
+
   line-goes : (m : Shape) (v : Said) (b : Taken) → Fits c i k m v → Has c b → Goes c (matchLine i k m v b)
-  line-goes m v b f h =
-      goes-then c (when (placed (formOf m) i k v) b) _ (goes-when c (placed (formOf m) i k v) b (f .placed) h) λ b₀ h₀.
-      goes-then c (matchT (leftOf m) (v .left) b₀) _ (subst (λ (u : Tree). Goes c (matchT (leftOf m) u b₀)) (f .left) (match-goes c (leftOf m) b₀ h₀)) λ b₁ h₁.
-      subst (λ (u : Tree). Goes c (matchT (rightOf m) u b₁)) (f .right) (match-goes c (rightOf m) b₁ h₁)
+  line-goes m = sides-goes (formOf m) (leftOf m) (rightOf m)
 
   all-goes : (l : List Shape) (vs : List Said) (b : Taken) → FitAll c i k l vs → Has c b → Goes c (matchAll i k l vs b)
   all-goes [] [] b f h = record { to = b; is = refl; has = h }
@@ -114,7 +124,7 @@ module _ (c : Holes) (i k : ℕ) where
   premises-goes implications vs b f h = goes-when c (leb (length vs) Limits.premises && all isImplication vs) b f h
 
 -- a filling that has what was taken
-has-from : (b : Taken) → Has (holesFrom b) b
+pub has-from : (b : Taken) → Has (holesFrom b) b
 has-from b = record { num = λ j n e. ap (orElse 0) e; tree = λ j u e. ap (orElse Tree.none) e }
 
 -- STATEMENTS
@@ -172,7 +182,7 @@ same-comm : {s : Sort} (f h : Formula s) → same f h ≡ same h f
 same-comm f h = bool-ext (same f h) (same h f) (λ z. subst (λ (w : Formula _). T (same w f)) (same-eq f h z) (same-refl f)) (λ z. subst (λ (w : Formula _). T (same w h)) (same-eq h f z) (same-refl h))
 
 -- SIDE CONDITIONS: each is the same of trees and of formulas, if the trees in the holes are those of the formulas
-module _ (P : Program) (i k : ℕ) (σ : Fill) (d : Holes) where
+module _ (P : Program) (i k : ℕ) (σ : Fill) (d : Holes) (two : 2 ≤ P .range) where
   abbrev g : Given
   g = given P i k
 
@@ -216,7 +226,7 @@ module _ (P : Program) (i k : ℕ) (σ : Fill) (d : Holes) where
   flag-same p s ps e = ap (λ (u : Tree). not (occurs (flag (g .x)) [] u)) e ∙ not-of (occurs (flag (g .x)) [] (raw (inst g σ p))) (only (notFlag (g .x)) (inst g σ p)) (Occurs.no-flag (g .x) (inst g σ p))
 
   rows-same : (p q : Pattern Sort.test) (s : Statement) (ps : List Statement) → instT d (rawP p) ≡ raw (inst g σ p) → instT d (rawP q) ≡ raw (inst g σ q) → Same s ps (by-rows p q)
-  rows-same p q s ps e f = ap₂ (rowsT (P .range)) e f ∙ raw-rows (P .range) (inst g σ p) (inst g σ q)
+  rows-same p q s ps e f = ap₂ (rowsT (P .range)) e f ∙ raw-rows (P .range) two (inst g σ p) (inst g σ q)
 
   -- the line's sides, as trees: the templates filled with d are the patterns filled with σ
   abbrev Line : Shape → Type 0
@@ -385,7 +395,7 @@ answer-some : {Z : Type 0} (R : ℕ) (init : ℕ → ℕ) (a : Acting) (o : Opti
 answer-some R init a none f h k = absurd h
 answer-some R init a (some z) f h k = k z refl h
 
-module _ (P : Program) (i k : ℕ) (n : Rule) (s : Statement) (ps : List Statement) where
+module _ (P : Program) (two : 2 ≤ P .range) (i k : ℕ) (n : Rule) (s : Statement) (ps : List Statement) where
   abbrev c₀ : Acting
   c₀ = acting (P .code i k)
 
@@ -407,7 +417,7 @@ module _ (P : Program) (i k : ℕ) (n : Rule) (s : Statement) (ps : List Stateme
         → All (λ d. sideT (P .range) (P .init) c₀ (holesFrom z) (said s) (map said ps) d ≡ sideHolds P i k σ s ps d) (row n .sides)
     sides-at q f =
         subst (λ (w : Statement). All (λ d. sideT (P .range) (P .init) c₀ (holesFrom z) (said w) (map said ps) d ≡ sideHolds P i k σ w ps d) (row n .sides)) q
-        (sides-same P i k σ (holesFrom z) n ps
+        (sides-same P i k σ (holesFrom z) two n ps
         (line-fits .1 .left ∙ ap (λ (w : Statement). said w .left) (sym q), line-fits .1 .right ∙ ap (λ (w : Statement). said w .right) (sym q)) f)
 
   all-over : (f h : Side → Bool) (l : List Side) → All (λ d. f d ≡ h d) l → All (λ d. T (f d)) l → All (λ d. T (h d)) l
@@ -513,10 +523,11 @@ point-said (Statement.implies a b) = refl
 point-said (Statement.triple j m a b) = refl
 
 -- THE BRIDGE
-pub bridge : (P : Program) (n : Rule) (s : Statement) (ps : List Statement)
+-- with two values at least, so that there are rows
+pub bridge : (P : Program) → 2 ≤ P .range → (n : Rule) (s : Statement) (ps : List Statement)
     → fitsT (P .range) (P .init) (acting (P .code (said s .thread) (said s .point))) n (said s) (map said ps) ≡ fits P n s ps
-bridge P n s ps =
+bridge P two n s ps =
     subst₂ (λ (i k : ℕ). fitsAt (P .range) (P .init) (acting (P .code i k)) i k (row n) (said s) (map said ps) ≡ fits P n s ps) (sym (thread-said s)) (sym (point-said s))
     (bool-ext (fitsAt (P .range) (P .init) (acting (P .code (threadOf s) (pointOf s))) (threadOf s) (pointOf s) (row n) (said s) (map said ps)) (fits P n s ps)
-    (λ h. tree-fit P (threadOf s) (pointOf s) n s ps h (λ σ f. rule-fits P n s ps (rule-of P n σ s ps f)))
-    (λ h. fit-tree P (threadOf s) (pointOf s) n s ps (found (row n) s ps) (fit P n s ps h)))
+    (λ h. tree-fit P two (threadOf s) (pointOf s) n s ps h (λ σ f. rule-fits P n s ps (rule-of P n σ s ps f)))
+    (λ h. fit-tree P two (threadOf s) (pointOf s) n s ps (found (row n) s ps) (fit P n s ps h)))

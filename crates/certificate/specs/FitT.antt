@@ -22,7 +22,8 @@ use Rattle.compare.specs.Same.{sameTree}
 use Rattle.compare.specs.Replace.{replaceT, oneName}
 use Rattle.occurs.specs.Occurs.{occurs, register, wordAnyRole, flag}
 use Rattle.trees.specs.Raw.{raw}
-use Rattle.trees.specs.Rows.{ImpT, rowsT, tableT}
+use Rattle.rows.specs.Claim.{ImpT}
+use Rattle.rows.specs.Rows.{rowsT, tableT}
 use Rattle.matcher.specs.Template.{numHole, formulaHole, rawP, Holes, instT}
 use Rattle.matcher.specs.Match.{Taken, andThen, when, matchT}
 
@@ -78,8 +79,12 @@ rightOf (triple p q) = rawP q
 abbrev pub placed : ℕ → ℕ → ℕ → Said → Bool
 placed f i k v = eqb (v .form) f && (not (eqb f hoare) || (eqb (v .thread) i && eqb (v .point) k))
 
+-- a form, and templates for the left side and the right side
+abbrev pub matchSides : ℕ → ℕ → ℕ → Tree → Tree → Said → Taken → Option Taken
+matchSides i k f p q v b = andThen (when (placed f i k v) b) (λ b₀. andThen (matchT p (v .left) b₀) (matchT q (v .right)))
+
 abbrev pub matchLine : ℕ → ℕ → Shape → Said → Taken → Option Taken
-matchLine i k m v b = andThen (when (placed (formOf m) i k v) b) (λ b₀. andThen (matchT (leftOf m) (v .left) b₀) (matchT (rightOf m) (v .right)))
+matchLine i k m v b = matchSides i k (formOf m) (leftOf m) (rightOf m) v b
 
 abbrev pub matchAll : ℕ → ℕ → List Shape → List Said → Taken → Option Taken
 matchAll i k [] [] b = some b

@@ -14,7 +14,7 @@ use Rattle.formula.specs.Tree.{Tree, none, node, Skim, nodeAt, skim, part, grow
 use Rattle.formula.specs.declared.node.Node.{Node}
 use Rattle.formula.proofs.Nodes.{skim-zero, skim-step, parts-of}
 use Rattle.compare.specs.Same.{sameTree, sameOf, pairOf, pairAt}
-use Rattle.compare.specs.Replace.{isName, replaceT, nameCode, oneName, wordOnly, standsFor, replacedOf, hitAt}
+use Rattle.compare.specs.Replace.{isName, replaceT, nameCode, oneName, leafOnly, standsFor, replacedOf, hitAt}
 use Rattle.compare.specs.declared.replace.Replacing.{Replacing}
 use Rattle.compare.specs.declared.replace.Replacing.the-variants.{Formula, Word}
 use Rattle.compare.specs.declared.replace.Substitution.{Substitution}
@@ -268,38 +268,35 @@ hit-is s a k w n e = go (eqb k 0) (eqb (nodeAt s a .code) (nameCode (w .word))) 
     go false true false e₁ e₂ d = let z : _≡_ {A = ℕ} 0 1 = cc in absurd (omega arith)
     go false true true e₁ e₂ d = (eqb-false _ _ e₁, refl, eqb-true _ _ e₂, (cc))
 
--- the value of a word
-pub word-zero : (s : List ℕ) (x b k : ℕ) → k ≡ 0 → No ≡ sameOf (wordOnly x) (skim s k b)
-word-zero s x b k e = rw (skim-zero s k b e, same-node-none)
+-- a node without parts
+pub leaf-zero : (s : List ℕ) (c o b k : ℕ) → k ≡ 0 → No ≡ sameOf (leafOnly c o) (skim s k b)
+leaf-zero s c o b k e = rw (skim-zero s k b e, same-node-none)
 
-module _ (s : List ℕ) (x b k : ℕ) (n : Node) (z : k ≡ 0 → ⊥) (e : n ≡ nodeAt s b) where
-  pub word-there : n .code ≡ byte Code.word → n .operand ≡ x → Yes 0 (n .next) ≡ sameOf (wordOnly x) (skim s k b)
-  word-there c o =
-      let p : n .parts ≡ 0 = ap (λ (n : Node). n .parts) e ∙ parts-of s b ∙ ap partCount (ap (λ (n : Node). n .code) (sym e) ∙ c) ∙ word-parts in
-      rw (skim-step s k b z, ← e, same-nodes, eq-eqb _ _ (sym c), eq-eqb _ _ (sym o), p, same-none)
-    where
-      word-parts : partCount (byte Code.word) ≡ 0
-      word-parts = name-parts (byte Code.word) its-name
-        where
-          its-name : isName (byte Code.word) ≡ true
-          its-name = is-word
+module _ (s : List ℕ) (c o b k : ℕ) (n : Node) (z : k ≡ 0 → ⊥) (e : n ≡ nodeAt s b) where
+  pub leaf-there : partCount c ≡ 0 → n .code ≡ c → n .operand ≡ o → Yes 0 (n .next) ≡ sameOf (leafOnly c o) (skim s k b)
+  leaf-there q d x =
+      let p : n .parts ≡ 0 = ap (λ (n : Node). n .parts) e ∙ parts-of s b ∙ ap partCount (ap (λ (n : Node). n .code) (sym e) ∙ d) ∙ q in
+      rw (skim-step s k b z, ← e, same-nodes, eq-eqb _ _ (sym d), eq-eqb _ _ (sym x), p, same-none)
 
-  pub word-operand : n .code ≡ byte Code.word → (n .operand ≡ x → ⊥) → No ≡ sameOf (wordOnly x) (skim s k b)
-  word-operand c o = rw (skim-step s k b z, ← e, same-nodes, eq-eqb _ _ (sym c), ne-eqb _ _ (λ (q : x ≡ n .operand). o (sym q)))
+  pub leaf-operand : n .code ≡ c → (n .operand ≡ o → ⊥) → No ≡ sameOf (leafOnly c o) (skim s k b)
+  leaf-operand d x = rw (skim-step s k b z, ← e, same-nodes, eq-eqb _ _ (sym d), ne-eqb _ _ (λ (q : o ≡ n .operand). x (sym q)))
 
-  pub word-code : (n .code ≡ byte Code.word → ⊥) → No ≡ sameOf (wordOnly x) (skim s k b)
-  word-code c = rw (skim-step s k b z, ← e, same-nodes, ne-eqb _ _ (λ (q : byte Code.word ≡ n .code). c (sym q)))
+  pub leaf-code : (n .code ≡ c → ⊥) → No ≡ sameOf (leafOnly c o) (skim s k b)
+  leaf-code d = rw (skim-step s k b z, ← e, same-nodes, ne-eqb _ _ (λ (q : c ≡ n .code). d (sym q)))
 
-pub ruleset words = (word-zero, word-there, word-operand, word-code)
+pub ruleset leaves = (leaf-zero, leaf-there, leaf-operand, leaf-code)
+
+pub word-parts : partCount (byte Code.word) ≡ 0
+word-parts = name-parts (byte Code.word) is-word
 
 module _ (s : List ℕ) (by : Replacing) (b k : ℕ) (r : Same) where
   pub stands-formula : (at left : ℕ) → by ≡ Formula at left → r ≡ sameOf (skim s left at) (skim s k b) → r ≡ sameOf (standsFor s by) (skim s k b)
   stands-formula at left e d = rw e d
 
-  pub stands-word : (x : ℕ) → by ≡ Word x → r ≡ sameOf (wordOnly x) (skim s k b) → r ≡ sameOf (standsFor s by) (skim s k b)
+  pub stands-word : (x : ℕ) → by ≡ Word x → r ≡ sameOf (leafOnly (byte Code.word) x) (skim s k b) → r ≡ sameOf (standsFor s by) (skim s k b)
   stands-word x e d = rw e d
 
-pub ruleset stands = (stands-formula, stands-word)
+pub ruleset stands = (stands-formula, stands-word, word-parts)
 
 said-yes : (u v : Skim) (p q : ℕ) → sameOf u v ≡ Yes p q → (sameTree (u .tree) (v .tree) ≡ true) × (u .end ≡ p) × (v .end ≡ q)
 said-yes u v p q = go (sameTree (u .tree) (v .tree))

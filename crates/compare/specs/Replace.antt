@@ -32,13 +32,14 @@ nameCode word = cond word (byte Code.word) (byte Code.reg)
 unfoldable pub oneName : Bool → ℕ → Tree → ℕ → ℕ → Tree
 oneName word number f c o = cond (eqb c (nameCode word) && eqb o number) f (node c o none none)
 
--- what replaces it
-abbrev pub wordOnly : ℕ → Skim
-wordOnly x = record { tree = node (byte Code.word) x none none; end = 0 }
+-- a node without parts, which stands nowhere
+abbrev pub leafOnly : ℕ → ℕ → Skim
+leafOnly c o = record { tree = node c o none none; end = 0 }
 
+-- what replaces it
 abbrev pub standsFor : List ℕ → Replacing → Skim
 standsFor s (Formula at left) = skim s left at
-standsFor s (Word x) = wordOnly x
+standsFor s (Word x) = leafOnly (byte Code.word) x
 
 abbrev pub replacedOf : Substitution → Skim → Skim → Skim → Same
 replacedOf w f u v = cond (sameTree (replaceT (oneName (w .word) (w .number) (f .tree)) (u .tree)) (v .tree)) (Yes (u .end) (v .end)) No

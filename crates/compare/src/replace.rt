@@ -6,9 +6,10 @@ use crate::same::same_at;
 use formula::code::Code;
 use formula::node::node_at;
 ghost use mathlib.Core.Path.{_≡_};
+ghost use Rattle.formula.specs.Codes.{partCount};
 ghost use Rattle.formula.specs.Tree.{skim};
 ghost use Rattle.compare.specs.Same.{sameOf};
-ghost use Rattle.compare.specs.Replace.{nameCode, hitAt, wordOnly, standsFor, replacedOf};
+ghost use Rattle.compare.specs.Replace.{nameCode, hitAt, leafOnly, standsFor, replacedOf};
 
 // What a name is replaced by: the formula at a position, nested at most so deep, or a word's value.
 pub enum Replacing {
@@ -50,15 +51,16 @@ pub fn hit_at(s: &[u8], a: usize, m: usize, w: Substitution) -> Hit
     Hit::Other
 }
 
-// Whether the value of a word stands at b.
-pub fn word_stands(s: &[u8], number: u8, b: usize, k: usize) -> Same
-    ensures { λ r. ⌜ r ≡ sameOf (wordOnly number) (skim (now (s .entry)) k b) ⌝ }
+// Whether the code stands at b with this operand. It is a code without parts.
+pub fn leaf_stands(s: &[u8], code: u8, number: u8, b: usize, k: usize) -> Same
+    requires { ⌜ partCount code ≡ 0 ⌝ }
+    ensures { λ r. ⌜ r ≡ sameOf (leafOnly code number) (skim (now (s .entry)) k b) ⌝ }
 {
     if k == 0 {
         return Same::No;
     }
     let x = node_at(s, b);
-    if x.code == Code::WORD {
+    if x.code == code {
         if x.operand == number {
             return Same::Yes(0, x.next);
         }
@@ -72,7 +74,7 @@ pub fn stands_at(s: &[u8], by: Replacing, b: usize, k: usize) -> Same
 {
     match by {
         Replacing::Formula(at, left) => same_at(s, at, left, b, k),
-        Replacing::Word(number) => word_stands(s, number, b, k),
+        Replacing::Word(number) => leaf_stands(s, Code::WORD, number, b, k),
     }
 }
 

@@ -6,7 +6,9 @@ use native.Mathlib.Omega.{arith}
 use lib.ListN.{getD, drop}
 use lib.Seq.{getD-drop}
 use borrow.Author.Tests.{ne-eqb, le-leb, lt-leb}
+use Rattle.limits.specs.Limits as Limits
 use Rattle.frames.specs.Frames.{wholeImage}
+use Rattle.frames.proofs.Counted.{lines-few}
 use Rattle.frames.specs.Records.{bodies}
 use Rattle.frames.specs.declared.fault.Fault.{Fault}
 use Rattle.frames.specs.declared.fault.Checked.{Checked}
@@ -33,6 +35,7 @@ use Rattle.content.specs.Image.{obligationsBody}
 pub record Checks (z : Sizes) (l : List (List ℕ)) : Type 0 where
   -- how many thread records there are
   pub counted : ℕ
+  pub few : z .lines ≤ Limits.lines
   pub sizes : z ≡ sizesOf (getD l 0 []) (z .formulas) (z .lines)
   pub passed : (i : ℕ) → i < recordCount z → check counted z l (placeOf z (i + 1)) (getD l i []) ≡ Passed
 
@@ -71,12 +74,13 @@ module _ (t : ℕ) (z : Sizes) (l : List (List ℕ)) (y : Sizes) where
 
 pub sound-checks : (s : List ℕ) (z : Sizes) → decoded s ≡ Sound z → Checks z (bodies s)
 unfolding decoded sizesOf
-sound-checks s z e = go (wholeImage s) e
+sound-checks s z e = go (wholeImage s) refl e
   where
-    go : (g : Framing) → behindFrames (bodies s) g ≡ Sound z → Checks z (bodies s)
-    go (Framing.Refused f r) d = absurd (refused-sound f r z d)
-    go (Framing.Sound f t n) d = subst (λ (x : Sizes). Checks x (bodies s)) (fault-sizes t y (bodies s) z 1 (recordCount y) (bodies s) d) (record {
+    go : (g : Framing) → wholeImage s ≡ g → behindFrames (bodies s) g ≡ Sound z → Checks z (bodies s)
+    go (Framing.Refused f r) w d = absurd (refused-sound f r z d)
+    go (Framing.Sound f t n) w d = subst (λ (x : Sizes). Checks x (bodies s)) (fault-sizes t y (bodies s) z 1 (recordCount y) (bodies s) d) (record {
       counted = t;
+      few = lines-few s f t n w;
       sizes = refl;
       passed = λ i m. let q : i + 1 ≡ 1 + i = omega arith in rw q (fault-passed t y (bodies s) z 1 (recordCount y) i (bodies s) m d);
     })

@@ -1,5 +1,5 @@
 -- Instructions as the logic has them.
-use mathlib.Core.Path.{_≡_, refl, sym, _∙_}
+use mathlib.Core.Path.{_≡_, refl, ap, sym, _∙_}
 use mathlib.Core.Bool.{Bool, true, false, cond}
 use mathlib.Core.List.{List}
 use Prim.Native.Nat.{ℕ, _≤_}
@@ -7,6 +7,7 @@ use native.Mathlib.Omega.{arith}
 use lib.Dec.{eqb}
 use lib.ListN.{getD}
 use borrow.Author.Tests.{eqb-true, ne-eqb, le-ltb}
+use Rattle.logic.specs.Formula.{Sort}
 use Rattle.logic.specs.Opcode as Opcode
 use Rattle.logic.specs.Machine.{Action, Instr, Instr.act, Instr.branch}
 use Rattle.logic.specs.Statement.{isBranch}
@@ -14,6 +15,7 @@ use Rattle.program.specs.declared.sizes.Sizes.{Sizes}
 use Rattle.program.specs.declared.instruction.Instruction.{Instruction}
 use Rattle.program.specs.Thread.{instructions, nothing}
 use Rattle.records.specs.Places.{threadBody, instructionOf}
+use Rattle.content.specs.Formula.{formula}
 use Rattle.content.specs.Program.{instr}
 
 act-first : (b : Bool) (c : Action) (i : Instr) → isBranch i ≡ false → isBranch (cond b (act c) i) ≡ false
@@ -25,9 +27,13 @@ module _ (l : List (List ℕ)) (i : Instruction) where
   unfolding instr
   branch-not e = rw e (search act-first depth 7)
 
-  branch-so : eqb (i .operation) Opcode.branch ≡ true → isBranch (instr l i) ≡ true
+  -- its test and its target
+  pub branch-read : i .operation ≡ Opcode.branch → instr l i ≡ branch (formula l Sort.test (i .formula)) (i .a)
   unfolding instr
-  branch-so e = rw (eqb-true (i .operation) Opcode.branch e)
+  branch-read e = rw e
+
+  branch-so : eqb (i .operation) Opcode.branch ≡ true → isBranch (instr l i) ≡ true
+  branch-so e = ap isBranch (branch-read (eqb-true (i .operation) Opcode.branch e))
 
   -- operation 6 alone is a branch
   pub branch-is : isBranch (instr l i) ≡ eqb (i .operation) Opcode.branch

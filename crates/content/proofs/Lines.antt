@@ -8,6 +8,7 @@ use lib.Dec.{T, eqb, ltb, lt→ltb}
 use lib.ListN.{length, getD, drop, List·getD-eq-default}
 use borrow.Author.Tests.{eqb-true, eqb-false, ltb-true, ltb-false, ne-eqb, le-leb, not-true}
 use Rattle.logic.specs.Base as Base
+use Rattle.logic.specs.Base.{Within}
 use Rattle.logic.specs.Formula.{Sort, Assertion}
 use Rattle.logic.specs.Opcode as Opcode
 use Rattle.logic.specs.Names as Names
@@ -99,15 +100,26 @@ module _ (z : Sizes) (l : List (List ℕ)) (c : Checks z l) (n : ℕ) (low : 1 �
   unfolding line lineSorted
   sorted-passed = and-true (sortedBy l form (left body)) (sortedBy l form (right body)) (unless-passed _ _ _ (also-passed _ _ (line-passed z l c n low high) .1) .0)
 
-  -- its formulas are there; its premises have lower numbers
-  pub in-range : ((1 ≤ left body) × (left body ≤ z .formulas)) × ((1 ≤ right body) × (right body ≤ z .formulas)) × (every (within 1 (n - 1)) (premises body) ≡ true)
+  -- its formulas are there; its premises are few and have lower numbers
+  abbrev few : Bool
+  few = within 0 Limits.premises (getD body 7 0)
+
+  abbrev lower : Bool
+  lower = every (within 1 (n - 1)) (premises body)
+
+  ranges : (within 1 (z .formulas) (left body) ≡ true) × (within 1 (z .formulas) (right body) ≡ true) × (few ≡ true) × (lower ≡ true)
   unfolding numbered
-  in-range =
-      let few : Bool = within 0 Limits.premises (getD body 7 0) in
-      let lower : Bool = every (within 1 (n - 1)) (premises body) in
+  ranges =
       let h = and-true (within 1 (z .formulas) (left body)) (within 1 (z .formulas) (right body) && (few && lower)) (numbers-passed .1) in
       let g = and-true (within 1 (z .formulas) (right body)) (few && lower) (h .1) in
-      (within-true 1 (z .formulas) (left body) (h .0), within-true 1 (z .formulas) (right body) (g .0), and-true few lower (g .1) .1)
+      let f = and-true few lower (g .1) in
+      (h .0, g .0, f .0, f .1)
+
+  pub in-range : ((1 ≤ left body) × (left body ≤ z .formulas)) × ((1 ≤ right body) × (right body ≤ z .formulas)) × (lower ≡ true)
+  in-range = (within-true 1 (z .formulas) (left body) (ranges .0), within-true 1 (z .formulas) (right body) (ranges .1), ranges .3)
+
+  pub premises-few : getD body 7 0 ≤ Limits.premises
+  premises-few = within-true 0 Limits.premises (getD body 7 0) (ranges .2) .1
 
   pub line-lower : (i : ℕ) → i < length (premises body) → getD (premises body) i 0 < n
   line-lower i b = let h = within-true 1 (n - 1) (getD (premises body) i 0) (every-at (within 1 (n - 1)) (premises body) i 0 (in-range .2) b) in omega (arith, h .0, h .1)
@@ -154,13 +166,19 @@ module _ (z : Sizes) (l : List (List ℕ)) (c : Checks z l) (n : ℕ) (low : 1 �
   abbrev acts : Bool
   acts = not (isBranch (P .code t k))
 
-  action-there : placed z l Triple body ≡ true → T (instructed && acts)
-  unfolding placed tripleAt
-  action-there e =
-      let h = not-true (eqb (instructionOf z l t k .operation) Opcode.branch) e in
-      and-both instructed acts
-      (and-both (Base.within (z .threads) t) (ltb (suc k) (P .points t)) (within-there (z .threads) t (thread-low z l t k h) (thread-high z l t k h)) (lt→ltb (suc k) (P .points t) (point-low z l t k h)))
-      (rw (branch-is l (instructionOf z l t k), h) tt)
+  module _ (e : placed z l Triple body ≡ true) where
+    no-branch : eqb (instructionOf z l t k .operation) Opcode.branch ≡ false
+    unfolding placed tripleAt
+    no-branch = not-true (eqb (instructionOf z l t k .operation) Opcode.branch) e
+
+    pub triple-there : Within (z .threads) t × (suc k < P .points t)
+    triple-there = ((thread-low z l t k no-branch, thread-high z l t k no-branch), point-low z l t k no-branch)
+
+    action-there : T (instructed && acts)
+    action-there =
+        and-both instructed acts
+        (and-both (Base.within (z .threads) t) (ltb (suc k) (P .points t)) (within-there (z .threads) t (triple-there .0 .0) (triple-there .0 .1)) (lt→ltb (suc k) (P .points t) (triple-there .1)))
+        (rw (branch-is l (instructionOf z l t k), no-branch) tt)
 
   line-fine : (f : Form) → placed z l f body ≡ true → sortedBy l f (left body) ≡ true → sortedBy l f (right body) ≡ true → T (admitted P (saying l f body))
   unfolding saying sortedBy sortAt

@@ -80,19 +80,6 @@ module _ (z : Sizes) (l : List (List ℕ)) (c : Checks z l) where
   unfolding headed
   header-starts = and-true started owning (and-true (counted (c .counted) (getD l 0 [])) (started && owning) header-fits .1) .0
 
-  -- the sizes are those that the header says, and in their ranges
-  pub sizes-fit : ((1 ≤ z .threads) × (z .threads ≤ Limits.threads)) × ((1 ≤ z .words) × (z .words ≤ Limits.words)) × (z .registers ≤ Limits.registers)
-  unfolding headed counted sizesOf
-  sizes-fit =
-      let h : List ℕ = getD l 0 [] in
-      let ts : Bool = within 1 Limits.threads (getD h 0 0) in
-      let ws : Bool = within 1 Limits.words (getD h 1 0) in
-      let rs : Bool = within 0 Limits.registers (getD h 2 0) in
-      let a = and-true (counted (c .counted) h) (started && owning) header-fits .0 in
-      let b = and-true ts (ws && rs) (and-true (within (c .counted) (c .counted) (getD h 0 0)) (ts && (ws && rs)) a .1) in
-      let d = and-true ws rs (b .1) in
-      rw (c .sizes) (within-true 1 Limits.threads (getD h 0 0) (b .0), within-true 1 Limits.words (getD h 1 0) (d .0), within-true 0 Limits.registers (getD h 2 0) (d .1) .1)
-
   start-value : (x : ℕ) → P .init x < P .range
   unfolding nth within
   start-value zero = omega arith
@@ -153,11 +140,18 @@ module _ (z : Sizes) (l : List (List ℕ)) (c : Checks z l) where
     abbrev pub body : List ℕ
     body = threadBody z l t
 
-    pub thread-ranged : every (ranged (lastPoint body) z) (instructions body) ≡ true
+    thread-numbered : (within 1 Limits.points (getD body 0 0) ≡ true) × (every (ranged (lastPoint body) z) (instructions body) ≡ true)
     unfolding thread threadNumbers numbered
-    thread-ranged =
+    thread-numbered =
         and-true (within 1 Limits.points (getD body 0 0)) (every (ranged (lastPoint body) z) (instructions body))
-        (unless-passed _ _ _ (unless-passed _ _ _ (unless-passed _ _ _ (also-passed _ _ (thread-passed z l c t low high) .0) .1) .1) .0) .1
+        (unless-passed _ _ _ (unless-passed _ _ _ (unless-passed _ _ _ (also-passed _ _ (thread-passed z l c t low high) .0) .1) .1) .0)
+
+    pub points-few : pointCount z l t ≤ Limits.points
+    unfolding pointCount lastPoint
+    points-few = let h = within-true 1 Limits.points (getD body 0 0) (thread-numbered .0) in omega (arith, h .0, h .1)
+
+    pub thread-ranged : every (ranged (lastPoint body) z) (instructions body) ≡ true
+    thread-ranged = thread-numbered .1
 
     pub thread-sorted : every (sorted l) (instructions body) ≡ true
     unfolding thread

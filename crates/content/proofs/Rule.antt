@@ -36,6 +36,10 @@ below-at (suc n) i h = go (eqb i n) refl (λ g. below-at n i g)
         let g : i < n = let q = eqb-false i n e in omega arith in
         List·getD-append (below n) (n ∷ []) 0 i (rw (below-length n) g) ∙ f g
 
+-- a test of the numbers up to the last rule's, one by one, is one of each of them
+pub by-number : (f : ℕ → Bool) → every f (below 47) ≡ true → (n : ℕ) → n < 47 → f n ≡ true
+by-number f e n h = subst (λ (i : ℕ). f i ≡ true) (below-at 47 n h) (every-at f (below 47) n 0 e h)
+
 past : (n : ℕ) → 47 ≤ n → rowForm n ≡ formNumber (formOf n)
 unfolding ruleOf formOf
 past n h =
@@ -46,7 +50,5 @@ rule-form n = go (ltb n 47) refl
   where
     go : (b : Bool) → ltb n 47 ≡ b → rowForm n ≡ formNumber (formOf n)
     go true e =
-        let h = ltb-true n 47 e in
-        eqb-true (rowForm n) (formNumber (formOf n))
-        (subst (λ (i : ℕ). eqb (rowForm i) (formNumber (formOf i)) ≡ true) (below-at 47 n h) (every-at (λ i. eqb (rowForm i) (formNumber (formOf i))) (below 47) n 0 listed h))
+        eqb-true (rowForm n) (formNumber (formOf n)) (by-number (λ i. eqb (rowForm i) (formNumber (formOf i))) listed n (ltb-true n 47 e))
     go false e = past n (ltb-false n 47 e)

@@ -1,7 +1,7 @@
 -- Sums over 0 to n - 1, and the lengths of lists that have a part for each number.
 use mathlib.Core.Path.{_≡_, refl, ap, ap₂, sym, _∙_}
 use mathlib.Core.Bool.{Bool, true, false, cond}
-use mathlib.Core.List.{List, [], _∷_, _++_, map}
+use mathlib.Core.List.{List, [], _∷_, _++_, map, append-assoc}
 use Prim.Native.Nat.{ℕ, zero, suc, _+_, _-_, _*_, _≤_, _<_}
 use native.Mathlib.Nat.{mul-add, add-mul}
 use native.Mathlib.Omega.{arith}
@@ -82,13 +82,12 @@ sum-cross p a n =
 
 -- lengths
 
+pub flat-append : {A B : Type 0} (f : A → List B) (l m : List A) → flat f (l ++ m) ≡ flat f l ++ flat f m
+flat-append f [] m = refl
+flat-append f (a ∷ l) m = ap (λ k. f a ++ k) (flat-append f l m) ∙ sym (append-assoc (f a) (flat f l) (flat f m))
+
 flat-join : {A B : Type 0} (f : A → List B) (l m : List A) → length (flat f (l ++ m)) ≡ length (flat f l) + length (flat f m)
-flat-join f [] m = omega arith
-flat-join f (a ∷ l) m =
-    let i = flat-join f l m in
-    let p = length-append (f a) (flat f (l ++ m)) in
-    let q = length-append (f a) (flat f l) in
-    omega arith
+flat-join f l m = ap length (flat-append f l m) ∙ length-append (flat f l) (flat f m)
 
 pub flat-below : {B : Type 0} (f : ℕ → List B) (n : ℕ) → length (flat f (below n)) ≡ sum (λ k. length (f k)) n
 unfolding sum
@@ -99,7 +98,7 @@ flat-below f (suc n) =
     let q = length-append (f n) [] in
     omega arith
 
-flat-map : {A B C : Type 0} (f : B → List C) (g : A → B) (l : List A) → flat f (map g l) ≡ flat (λ a. f (g a)) l
+pub flat-map : {A B C : Type 0} (f : B → List C) (g : A → B) (l : List A) → flat f (map g l) ≡ flat (λ a. f (g a)) l
 flat-map f g [] = refl
 flat-map f g (a ∷ l) = ap (λ m. f (g a) ++ m) (flat-map f g l)
 

@@ -1,5 +1,5 @@
 -- What the look-ups find is what a sound image says, as trees.
-use mathlib.Core.Path.{_≡_, refl, ap, ap₂, sym, _∙_}
+use mathlib.Core.Path.{_≡_, refl, ap, ap₂, sym, _∙_, subst, subst₂}
 use mathlib.Core.Bool.{true, true≢false}
 use mathlib.Core.List.{List, [], _∷_, map}
 use Prim.Native.Nat.{ℕ, zero, suc, _-_, _≤_, _<_}
@@ -8,6 +8,7 @@ use lib.ListN.{length, getD}
 use borrow.Author.Tests.{eqb-true}
 use Rattle.logic.specs.Base.{Within}
 use Rattle.logic.specs.Formula.{Sort, Formula.const}
+use Rattle.logic.specs.Opcode as Opcode
 use Rattle.logic.specs.Machine.{Program}
 use Rattle.limits.specs.Numbers.{within, every}
 use Rattle.frames.specs.Records.{bodies}
@@ -39,7 +40,7 @@ use Rattle.content.proofs.Instr.{instruction-there}
 use Rattle.content.proofs.Checked.{Checks}
 use Rattle.content.proofs.Formulas.{formula-tree}
 use Rattle.content.proofs.Program.{fields-in, formula-sorted, made, none-above, body, thread-ranged, thread-sorted, outlined-fine, outline-range, outline-fine}
-use Rattle.content.proofs.Lines.{numbers-passed, sorted-passed, in-range}
+use Rattle.content.proofs.Lines.{numbers-passed, sorted-passed, in-range, triple-there}
 use Rattle.content.proofs.Positions.{position-tree, none-tree}
 
 module _ (s : List ℕ) (z : Sizes) (c : Checks z (bodies s)) where
@@ -68,7 +69,7 @@ module _ (s : List ℕ) (z : Sizes) (c : Checks z (bodies s)) where
     sides-are p e d = let r = in-range z l c n (w .0) (w .1) in (tree-is p (left b) (r .0 .0) (r .0 .1) e, tree-is p (right b) (r .1 .0) (r .1 .1) d)
 
     -- thread and point are 0
-    nowhere-is : nowhere b ≡ true → (getD b 1 0 ≡ 0) × (getD b 2 0 ≡ 0)
+    pub nowhere-is : nowhere b ≡ true → (getD b 1 0 ≡ 0) × (getD b 2 0 ≡ 0)
     unfolding nowhere
     nowhere-is e =
         let h = and-true (within 0 0 (getD b 1 0)) (within 0 0 (getD b 2 0)) e in
@@ -99,20 +100,6 @@ module _ (s : List ℕ) (z : Sizes) (c : Checks z (bodies s)) where
     unfolding lineIn
     line-is = by-form (formOf (getD b 0 0)) (numbers-passed z l c n (w .0) (w .1) .0) (sorted-passed z l c n (w .0) (w .1) .0) (sorted-passed z l c n (w .0) (w .1) .1)
 
-  -- what its premises say, in order
-  module _ (n : ℕ) (w : Within (z .lines) n) where
-    lower-are : (ps : List ℕ) → every (within 1 (n - 1)) ps ≡ true
-        → map said (map (λ m. certificateOf z l .line m .says) ps) ≡ map (λ m. saidAt s (lineIn s (lineBody z l m))) ps
-    unfolding every
-    lower-are [] e = refl
-    lower-are (m ∷ ps) e =
-        let h = and-true (within 1 (n - 1) m) (every (within 1 (n - 1)) ps) e in
-        let r = within-true 1 (n - 1) m (h .0) in
-        ap₂ _∷_ (line-is m (r .0, omega (arith, r .1, w .1))) (lower-are ps (h .1))
-
-    pub premises-are : map said (map (λ m. certificateOf z l .line m .says) (certificateOf z l .line n .premises)) ≡ map (λ m. saidAt s (lineIn s (lineBody z l m))) (premises (lineBody z l n))
-    premises-are = lower-are (premises (lineBody z l n)) (in-range z l c n (w .0) (w .1) .2)
-
   -- instructions
 
   abbrev acts : ℕ → ℕ → ℕ → Tree → FitT.Acting
@@ -140,11 +127,50 @@ module _ (s : List ℕ) (z : Sizes) (c : Checks z (bodies s)) where
   instr-is last (suc (suc (suc (suc (suc (suc zero)))))) a b f e d = ap (acts 6 0 0) (sym (none-tree s))
   instr-is last (suc (suc (suc (suc (suc (suc (suc n))))))) a b f e d = absurd (none-above z l c last (suc (suc (suc (suc (suc (suc (suc n))))))) a b f (omega arith) e)
 
-  pub acting-is : (t k : ℕ) → Within (z .threads) t → suc k < P .points t → acting (P .code t k) ≡ actingAt s (actingOf s (instructionOf z l t k))
+  -- an instruction of a thread: its fields are in their ranges, its formula is of the sort that it wants
+  fields-there : (t k : ℕ) (w : Within (z .threads) t) → suc k < P .points t → (ranged (lastPoint (body z l c t (w .0) (w .1))) z (instructionOf z l t k) ≡ true) × (sorted l (instructionOf z l t k) ≡ true)
   unfolding pointCount
-  acting-is t k w h =
+  fields-there t k w h =
       let x : List ℕ = body z l c t (w .0) (w .1) in
       let m : k < length (instructions x) = let q = instructions-length x in omega arith in
-      let i : Instruction = getD (instructions x) k nothing in
       rw (instruction-there z l t k (w .0) (w .1))
-      (instr-is (lastPoint x) (i .operation) (i .a) (i .b) (i .formula) (every-at (ranged (lastPoint x) z) (instructions x) k nothing (thread-ranged z l c t (w .0) (w .1)) m) (every-at (sorted l) (instructions x) k nothing (thread-sorted z l c t (w .0) (w .1)) m))
+      (every-at (ranged (lastPoint x) z) (instructions x) k nothing (thread-ranged z l c t (w .0) (w .1)) m, every-at (sorted l) (instructions x) k nothing (thread-sorted z l c t (w .0) (w .1)) m)
+
+  pub acting-is : (t k : ℕ) → Within (z .threads) t → suc k < P .points t → acting (P .code t k) ≡ actingAt s (actingOf s (instructionOf z l t k))
+  acting-is t k w h =
+      let i : Instruction = instructionOf z l t k in
+      let f = fields-there t k w h in
+      instr-is (lastPoint (body z l c t (w .0) (w .1))) (i .operation) (i .a) (i .b) (i .formula) (f .0) (f .1)
+
+  -- the test of a branch
+  test-read : (last a b f : ℕ) → ranged last z (made Opcode.branch a b f) ≡ true → sorted l (made Opcode.branch a b f) ≡ true → raw (formula l Sort.test f) ≡ treeAt s (formulaAt s f)
+  unfolding ranged fieldsOf wanted
+  test-read last a b f e d = let h = fields-in _ _ e in tree-is Codes.test f (h .2 .0) (h .2 .1) (formula-sorted z l c (made Opcode.branch a b f) (h .2 .0) d .0)
+
+  pub test-is : (t k : ℕ) → Within (z .threads) t → suc k < P .points t → instructionOf z l t k .operation ≡ Opcode.branch
+      → raw (formula l Sort.test (instructionOf z l t k .formula)) ≡ treeAt s (formulaAt s (instructionOf z l t k .formula))
+  test-is t k w h e =
+      let i : Instruction = instructionOf z l t k in
+      let f = fields-there t k w h in
+      test-read (lastPoint (body z l c t (w .0) (w .1))) (i .a) (i .b) (i .formula)
+      (subst (λ (op : ℕ). ranged (lastPoint (body z l c t (w .0) (w .1))) z (made op (i .a) (i .b) (i .formula)) ≡ true) e (f .0))
+      (subst (λ (op : ℕ). sorted l (made op (i .a) (i .b) (i .formula)) ≡ true) e (f .1))
+
+  -- the instruction of a line: of a triple its own; other lines have none
+  none-acting : acting (P .code 0 0) ≡ actingAt s (actingOf s (instructionOf z l 0 0))
+  unfolding instr actingOf instructionOf
+  none-acting = ap (acts 6 0 0) (sym (none-tree s))
+
+  module _ (n : ℕ) (w : Within (z .lines) n) where
+    pub line-acting : acting (P .code (getD (lineBody z l n) 1 0) (getD (lineBody z l n) 2 0)) ≡ actingAt s (actingOf s (instructionOf z l (getD (lineBody z l n) 1 0) (getD (lineBody z l n) 2 0)))
+    unfolding placed
+    line-acting = go (formOf (getD (lineBody z l n) 0 0)) (numbers-passed z l c n (w .0) (w .1) .0)
+      where
+        nowhere-acting : nowhere (lineBody z l n) ≡ true → acting (P .code (getD (lineBody z l n) 1 0) (getD (lineBody z l n) 2 0)) ≡ actingAt s (actingOf s (instructionOf z l (getD (lineBody z l n) 1 0) (getD (lineBody z l n) 2 0)))
+        nowhere-acting e = let g = nowhere-is n w e in subst₂ (λ (t k : ℕ). acting (P .code t k) ≡ actingAt s (actingOf s (instructionOf z l t k))) (sym (g .0)) (sym (g .1)) none-acting
+
+        go : (f : Form) → placed z l f (lineBody z l n) ≡ true → acting (P .code (getD (lineBody z l n) 1 0) (getD (lineBody z l n) 2 0)) ≡ actingAt s (actingOf s (instructionOf z l (getD (lineBody z l n) 1 0) (getD (lineBody z l n) 2 0)))
+        go Triple e = let r = triple-there z l c n (w .0) (w .1) e in acting-is (getD (lineBody z l n) 1 0) (getD (lineBody z l n) 2 0) (r .0) (r .1)
+        go Implication e = nowhere-acting e
+        go Inclusion e = nowhere-acting e
+        go Unlisted e = absurd (true≢false (sym e))

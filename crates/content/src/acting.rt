@@ -10,9 +10,9 @@ ghost use Rattle.content.specs.Places.{actingOf};
 
 // What an instruction has not is 0, and for a formula the end of the image.
 pub struct Acting {
-    pub operation: usize,
-    pub word: usize,
-    pub register: usize,
+    pub operation: u8,
+    pub word: u8,
+    pub register: u8,
     pub formula: usize,
 }
 

@@ -16,12 +16,12 @@ ghost use Rattle.content.specs.Places.{lineIn};
 
 // What a line says: its rule, thread and point, the positions of its formulas, how many premises it has.
 pub struct Line {
-    pub rule: usize,
-    pub thread: usize,
-    pub point: usize,
+    pub rule: u8,
+    pub thread: u8,
+    pub point: u8,
     pub left: usize,
     pub right: usize,
-    pub count: usize,
+    pub count: u8,
 }
 
 // The body of line n. An image has no record with such a number as is tested for.
@@ -43,12 +43,12 @@ fn read_line<'a, 'b>(s: &'a [u8], ix: &'b [usize], b: &'a [u8]) -> Line
     let left = formula_at(s, ix, word_at(b, 3));
     let right = formula_at(s, ix, word_at(b, 5));
     Line {
-        rule: byte_at(b, 0),
-        thread: byte_at(b, 1),
-        point: byte_at(b, 2),
+        rule: byte_at(b, 0) as u8,
+        thread: byte_at(b, 1) as u8,
+        point: byte_at(b, 2) as u8,
         left,
         right,
-        count: byte_at(b, 7),
+        count: byte_at(b, 7) as u8,
     }
 }
 

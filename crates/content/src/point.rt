@@ -1,35 +1,42 @@
 // The outline: where the formula of a point stands.
 use crate::position::formula_at;
+use crate::totals::Sums;
+use crate::totals::before_thread;
 use frames::index::body_of;
+use limits::Limits;
 use limits::read::number_at;
 use program::sizes::Sizes;
-use records::tally::tally_of;
+use program::thread::last_point;
 ghost use mathlib.Core.Path.{_≡_};
-ghost use Prim.Native.Nat.{_-_, _≤_, _<_};
+ghost use Prim.Native.Nat.{_<_};
 ghost use Rattle.frames.specs.Records.{bodies, indexOf};
-ghost use Rattle.records.specs.Tally.{tallyTo};
+ghost use Rattle.program.specs.Thread.{lastPoint};
+ghost use Rattle.records.specs.Places.{threadBody};
+ghost use Rattle.content.specs.Sums.{sumsOf};
 ghost use Rattle.content.specs.Program.{outlineNumber};
 ghost use Rattle.content.specs.Places.{formulaAt};
 
-// The points of the threads before thread t: a tally with fewer threads.
-fn points_before<'a, 'b>(s: &'a [u8], ix: &'b [usize], z: Sizes, t: usize) -> usize
-    requires { ⌜ (now ix ≡ indexOf (now s)) × ((1 ≤ t) × (t ≤ z .threads)) ⌝ }
-    ensures { λ r. ⌜ (r ≡ tallyTo z (bodies (now (s .entry))) (t - 1) .points) × (r ≤ 65536) ⌝ }
+// The last point of thread t. An image has no record with such a number as is tested for.
+pub fn last_point_of<'a, 'b>(s: &'a [u8], ix: &'b [usize], z: Sizes, t: usize) -> usize
+    requires { ⌜ now ix ≡ indexOf (now s) ⌝ }
+    ensures { λ r. ⌜ (r ≡ lastPoint (threadBody z (bodies (now (s .entry))) t)) × (r < 256) ⌝ }
 {
-    let before = Sizes {
-        threads: (t - 1) as u8,
-        words: z.words,
-        registers: z.registers,
-        formulas: z.formulas,
-        lines: z.lines,
-    };
-    let c = tally_of(s, ix, before);
-    c.points
+    if Limits::RECORDS <= t {
+        return last_point(body_of(s, ix, t));
+    }
+    last_point(body_of(s, ix, (z.formulas as usize) + t))
 }
 
 // The number of the formula at point p of thread t; 0 where there is none.
-fn outline_number<'a, 'b>(s: &'a [u8], ix: &'b [usize], z: Sizes, t: usize, p: usize) -> usize
-    requires { ⌜ now ix ≡ indexOf (now s) ⌝ }
+fn outline_number<'a, 'b>(
+    s: &'a [u8],
+    ix: &'b [usize],
+    z: Sizes,
+    y: Sums,
+    t: usize,
+    p: usize,
+) -> usize
+    requires { ⌜ (now ix ≡ indexOf (now s)) × (y ≡ sumsOf z (bodies (now s))) ⌝ }
     ensures { λ r. ⌜ r ≡ outlineNumber z (bodies (now (s .entry))) t p ⌝ }
 {
     if t == 0 {
@@ -38,19 +45,29 @@ fn outline_number<'a, 'b>(s: &'a [u8], ix: &'b [usize], z: Sizes, t: usize, p: u
     if (z.threads as usize) < t {
         return 0;
     }
-    let c = tally_of(s, ix, z);
-    if c.points <= p {
+    let points = y.points;
+    if points <= p {
         return 0;
     }
-    let n = points_before(s, ix, z, t);
+    let n = before_thread(s, ix, z, y, t);
+    if points - p <= n {
+        return 0;
+    }
     let b = body_of(s, ix, (z.formulas as usize) + (z.threads as usize) + 1);
-    number_at(b, c.points, n + p)
+    number_at(b, points, n + p)
 }
 
 // Where that formula stands.
-pub fn outline_at<'a, 'b>(s: &'a [u8], ix: &'b [usize], z: Sizes, t: usize, p: usize) -> usize
-    requires { ⌜ now ix ≡ indexOf (now s) ⌝ }
+pub fn outline_at<'a, 'b>(
+    s: &'a [u8],
+    ix: &'b [usize],
+    z: Sizes,
+    y: Sums,
+    t: usize,
+    p: usize,
+) -> usize
+    requires { ⌜ (now ix ≡ indexOf (now s)) × (y ≡ sumsOf z (bodies (now s))) ⌝ }
     ensures { λ r. ⌜ r ≡ formulaAt (now (s .entry)) (outlineNumber z (bodies (now (s .entry))) t p) ⌝ }
 {
-    formula_at(s, ix, outline_number(s, ix, z, t, p))
+    formula_at(s, ix, outline_number(s, ix, z, y, t, p))
 }

@@ -9,13 +9,13 @@ use lib.ListN.{length}
 use lib.Dec.{T, eqb}
 use Rattle.logic.specs.Rules.{Shape}
 use Rattle.limits.specs.Limits.{nesting}
-use Rattle.formula.specs.Tree.{skim}
+use Rattle.formula.specs.Tree.{Tree, skim}
 use Rattle.matcher.specs.Match.{andThen, matchT}
 use Rattle.matcher.specs.Places.{matchAt, takenOf, proper}
 use Rattle.matcher.specs.declared.bind.Bind.{Bind}
 use Rattle.matcher.specs.declared.matching.Match.{Match}
 use Rattle.matcher.proofs.Follow.{Sized, given, Follows, match-follows}
-use Rattle.certificate.specs.FitT.{hoare, formOf, leftOf, rightOf, placed, matchLine, matchAll}
+use Rattle.certificate.specs.FitT.{hoare, formOf, leftOf, rightOf, placed, matchSides, matchAll}
 use Rattle.rulebook.specs.Listed.{packed}
 use Rattle.fitting.specs.Claim.{saidAt, placedAt, matchClaim, claimAt, claimsFrom, matchFrom}
 use Rattle.fitting.specs.declared.claim.Claim.{Claim}
@@ -35,19 +35,26 @@ placed-same s form t k c = go (eqb (c .form) form) (eqb form hoare) (eqb (c .thr
 abbrev pub behind : List ℕ → ℕ → ℕ
 behind t i = skim t nesting (skim t nesting i .end) .end
 
--- the templates of a shape stand at a position
-pub record Stands (t : List ℕ) (i : ℕ) (m : Shape) : Type 0 where
-  pub left : skim t nesting i .tree ≡ leftOf m
-  pub right : skim t nesting (skim t nesting i .end) .tree ≡ rightOf m
-  pub holes-left : T (proper (leftOf m))
-  pub holes-right : T (proper (rightOf m))
+-- templates for the two sides stand at a position
+pub record StandSides (t : List ℕ) (i : ℕ) (p q : Tree) : Type 0 where
+  pub left : skim t nesting i .tree ≡ p
+  pub right : skim t nesting (skim t nesting i .end) .tree ≡ q
+  pub holes-left : T (proper p)
+  pub holes-right : T (proper q)
 
-pub record ClaimFollows (s t : List ℕ) (i thread point : ℕ) (m : Shape) (c : Claim) (b : Bind) (r : Match) : Type 0 where
-  pub same : matchLine thread point m (saidAt s c) (takenOf s b) ≡ given s (r .ok) (r .bind)
+-- those of a shape
+abbrev pub Stands : List ℕ → ℕ → Shape → Type 0
+Stands t i m = StandSides t i (leftOf m) (rightOf m)
+
+pub record SidesFollow (s t : List ℕ) (i thread point form : ℕ) (p q : Tree) (c : Claim) (b : Bind) (r : Match) : Type 0 where
+  pub same : matchSides thread point form p q (saidAt s c) (takenOf s b) ≡ given s (r .ok) (r .bind)
   pub tpl : r .ok ≡ true → r .tpl ≡ behind t i
   pub sized : Sized (r .bind)
 
-module _ (s t : List ℕ) (i thread point : ℕ) (m : Shape) (c : Claim) (b : Bind) (z : Sized b) (st : Stands t i m) where
+abbrev pub ClaimFollows : List ℕ → List ℕ → ℕ → ℕ → ℕ → Shape → Claim → Bind → Match → Type 0
+ClaimFollows s t i thread point m c b r = SidesFollow s t i thread point (formOf m) (leftOf m) (rightOf m) c b r
+
+module _ (s t : List ℕ) (i thread point form : ℕ) (p q : Tree) (c : Claim) (b : Bind) (z : Sized b) (st : StandSides t i p q) where
   abbrev first : Match
   first = matchAt s t nesting i (c .left) b
 
@@ -58,42 +65,45 @@ module _ (s t : List ℕ) (i thread point : ℕ) (m : Shape) (c : Claim) (b : Bi
   left-follows = match-follows s t nesting i (c .left) b z (subst (λ u. T (proper u)) (sym (st .left)) (st .holes-left))
 
   module _ (o : first .ok ≡ true) where
-    at-right : skim t nesting (first .tpl) .tree ≡ rightOf m
-    at-right = ap (λ (q : ℕ). skim t nesting q .tree) (left-follows .tpl o) ∙ st .right
+    at-right : skim t nesting (first .tpl) .tree ≡ q
+    at-right = ap (λ (k : ℕ). skim t nesting k .tree) (left-follows .tpl o) ∙ st .right
 
     right-follows : Follows s t nesting (first .tpl) (c .right) (first .bind) second
     right-follows = match-follows s t nesting (first .tpl) (c .right) (first .bind) (left-follows .sized) (subst (λ u. T (proper u)) (sym at-right) (st .holes-right))
 
-  left-same : matchT (leftOf m) (skim s nesting (c .left) .tree) (takenOf s b) ≡ given s (first .ok) (first .bind)
+  left-same : matchT p (skim s nesting (c .left) .tree) (takenOf s b) ≡ given s (first .ok) (first .bind)
   left-same = subst (λ u. matchT u (skim s nesting (c .left) .tree) (takenOf s b) ≡ given s (first .ok) (first .bind)) (st .left) (left-follows .same)
 
-  right-same : (o : first .ok ≡ true) → matchT (rightOf m) (skim s nesting (c .right) .tree) (takenOf s (first .bind)) ≡ given s (second .ok) (second .bind)
+  right-same : (o : first .ok ≡ true) → matchT q (skim s nesting (c .right) .tree) (takenOf s (first .bind)) ≡ given s (second .ok) (second .bind)
   right-same o = subst (λ u. matchT u (skim s nesting (c .right) .tree) (takenOf s (first .bind)) ≡ given s (second .ok) (second .bind)) (at-right o) (right-follows o .same)
 
   both-same : first .ok ≡ true
-      → andThen (matchT (leftOf m) (skim s nesting (c .left) .tree) (takenOf s b)) (matchT (rightOf m) (skim s nesting (c .right) .tree)) ≡ given s (second .ok) (second .bind)
+      → andThen (matchT p (skim s nesting (c .left) .tree) (takenOf s b)) (matchT q (skim s nesting (c .right) .tree)) ≡ given s (second .ok) (second .bind)
   both-same o = rw (left-same, o) (right-same o)
 
-  first-fails : first .ok ≡ false → andThen (matchT (leftOf m) (skim s nesting (c .left) .tree) (takenOf s b)) (matchT (rightOf m) (skim s nesting (c .right) .tree)) ≡ none
+  first-fails : first .ok ≡ false → andThen (matchT p (skim s nesting (c .left) .tree) (takenOf s b)) (matchT q (skim s nesting (c .right) .tree)) ≡ none
   first-fails o = rw (left-same, o)
 
-  pub claim-follows : ClaimFollows s t i thread point m c b (matchClaim s t i (formOf m) thread point c b)
+  pub sides-follow : SidesFollow s t i thread point form p q c b (matchClaim s t i form thread point c b)
   unfolding matchClaim
-  claim-follows = go (placedAt (formOf m) thread point c) refl (first .ok) refl
+  sides-follow = go (placedAt form thread point c) refl (first .ok) refl
     where
-      go : (p : Bool) → placedAt (formOf m) thread point c ≡ p → (o : Bool) → first .ok ≡ o
-          → ClaimFollows s t i thread point m c b (cond p (cond (first .ok) second first) (record { ok = false; tpl = i; next = c .left; bind = b }))
-      go false p o e = record { same = rw (placed-same s (formOf m) thread point c, p); tpl = λ h. absurd (false≢true h); sized = z }
-      go true p true e = record {
-        same = rw (placed-same s (formOf m) thread point c, p, e) (both-same e);
-        tpl = rw e (λ h. right-follows e .tpl h ∙ ap (λ (q : ℕ). skim t nesting q .end) (left-follows .tpl e));
+      go : (here : Bool) → placedAt form thread point c ≡ here → (o : Bool) → first .ok ≡ o
+          → SidesFollow s t i thread point form p q c b (cond here (cond (first .ok) second first) (record { ok = false; tpl = i; next = c .left; bind = b }))
+      go false h o e = record { same = rw (placed-same s form thread point c, h); tpl = λ y. absurd (false≢true y); sized = z }
+      go true h true e = record {
+        same = rw (placed-same s form thread point c, h, e) (both-same e);
+        tpl = rw e (λ y. right-follows e .tpl y ∙ ap (λ (k : ℕ). skim t nesting k .end) (left-follows .tpl e));
         sized = rw e (right-follows e .sized);
       }
-      go true p false e = record {
-        same = rw (placed-same s (formOf m) thread point c, p, e) (first-fails e);
-        tpl = rw e (λ h. absurd (false≢true h));
+      go true h false e = record {
+        same = rw (placed-same s form thread point c, h, e) (first-fails e);
+        tpl = rw e (λ y. absurd (false≢true y));
         sized = rw e (left-follows .sized);
       }
+
+pub claim-follows : (s t : List ℕ) (i thread point : ℕ) (m : Shape) (c : Claim) (b : Bind) → Sized b → Stands t i m → ClaimFollows s t i thread point m c b (matchClaim s t i (formOf m) thread point c b)
+claim-follows s t i thread point m = sides-follow s t i thread point (formOf m) (leftOf m) (rightOf m)
 
 -- the templates of shapes stand one after the other
 abbrev pub StandAll : List ℕ → ℕ → List Shape → Type 0

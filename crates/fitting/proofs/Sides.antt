@@ -2,21 +2,26 @@
 use mathlib.Core.Path.{_≡_, refl, sym, _∙_, subst}
 use mathlib.Core.Bool.{Bool, true, false, not, cond}
 use mathlib.Core.List.{List, []}
-use Prim.Native.Nat.{ℕ, _≤_, _<_}
+use Prim.Native.Nat.{ℕ, _-_, _≤_, _<_}
 use lib.ListN.{getD}
 use borrow.Author.Tests.{lt-ltb, le-ltb, le-leb, lt-leb}
+use Rattle.logic.specs.Code
+use Rattle.logic.specs.Code.{byte}
 use Rattle.logic.specs.Opcode
 use Rattle.limits.specs.Limits.{nesting}
+use Rattle.limits.specs.Numbers.{nth}
+use Rattle.formula.specs.Codes.{partCount}
 use Rattle.formula.specs.Tree.{Tree, skim}
-use Rattle.compare.specs.Same.{sameTree}
-use Rattle.compare.specs.Replace.{replaceT, oneName, standsFor, replacedOf}
+use Rattle.compare.specs.Same.{sameTree, sameOf}
+use Rattle.compare.specs.Replace.{replaceT, oneName, leafOnly, standsFor, replacedOf}
 use Rattle.compare.specs.declared.same.Same.{Same}
 use Rattle.compare.specs.declared.same.Same.the-variants.{Yes, No}
 use Rattle.compare.specs.declared.replace.Substitution.{Substitution}
 use Rattle.compare.specs.declared.replace.Replacing.the-variants.{Formula}
 use Rattle.occurs.specs.Occurs.{occurs, register, wordAnyRole, flag}
+use Rattle.program.specs.Header.{startValues}
 use Rattle.matcher.specs.declared.bind.Bind.{Bind}
-use Rattle.fitting.specs.Side.{holeOf, treeOf, keeps, isWith, storedBy}
+use Rattle.fitting.specs.Side.{holeOf, numberIn, treeOf, keeps, isWith, storedBy, isStart}
 use Rattle.fitting.specs.declared.side.Stand.{Stand}
 
 pub hole-is : (b : Bind) (j : ℕ) → record { at = getD (b .at) j 0; left = getD (b .left) j 0 } ≡ holeOf b j
@@ -51,22 +56,23 @@ no-yes h = subst isNo h tt
     isNo No = Unit {0}
     isNo (Yes i j) = ⊥
 
+-- what an answer says of the test that it comes from
+answer-no : (b : Bool) (i j : ℕ) → No ≡ cond b (Yes i j) No → false ≡ b
+answer-no true i j h = absurd (no-yes h)
+answer-no false i j h = refl
+
+answer-yes : (b : Bool) (i j p q : ℕ) → Yes p q ≡ cond b (Yes i j) No → true ≡ b
+answer-yes true i j p q h = refl
+answer-yes false i j p q h = absurd (no-yes (sym h))
+
 module _ (s : List ℕ) (w : Substitution) (p q : Stand) (r : Same) (e : r ≡ replacedOf w (standsFor s (w .by)) (skim s (q .left) (q .at)) (skim s (p .left) (p .at))) where
   pub with-no : r ≡ No → false ≡ isWith s w (treeOf s p) (treeOf s q)
   unfolding isWith
-  with-no n = go (sameTree (replaceT (oneName (w .word) (w .number) (standsFor s (w .by) .tree)) (treeOf s q)) (treeOf s p)) (sym n ∙ e)
-    where
-      go : (b : Bool) → No ≡ cond b (Yes (skim s (q .left) (q .at) .end) (skim s (p .left) (p .at) .end)) No → false ≡ b
-      go true h = absurd (no-yes h)
-      go false h = refl
+  with-no n = answer-no _ (skim s (q .left) (q .at) .end) (skim s (p .left) (p .at) .end) (sym n ∙ e)
 
   pub with-yes : (i j : ℕ) → r ≡ Yes i j → true ≡ isWith s w (treeOf s p) (treeOf s q)
   unfolding isWith
-  with-yes i j n = go (sameTree (replaceT (oneName (w .word) (w .number) (standsFor s (w .by) .tree)) (treeOf s q)) (treeOf s p)) (sym n ∙ e)
-    where
-      go : (b : Bool) → Yes i j ≡ cond b (Yes (skim s (q .left) (q .at) .end) (skim s (p .left) (p .at) .end)) No → true ≡ b
-      go true h = refl
-      go false h = absurd (no-yes (sym h))
+  with-yes i j n = answer-yes _ (skim s (q .left) (q .at) .end) (skim s (p .left) (p .at) .end) i j (sym n ∙ e)
 
 pub ruleset withs = (with-no, with-yes)
 
@@ -80,3 +86,26 @@ module _ (s : List ℕ) (x f : ℕ) (p q : Stand) (o : Bool) (e : o ≡ occurs (
   stored-with b h d = rw (← e, h) d
 
 pub ruleset storing = (stored-flag, stored-with)
+
+pub number-none : (b : Bind) (j n : ℕ) → n ≡ getD (b .num) j 0 → n ≡ 0 → 0 ≡ numberIn b j
+unfolding numberIn
+number-none b j n e z = rw (← e, z)
+
+pub number-taken : (b : Bind) (j n : ℕ) → n ≡ getD (b .num) j 0 → n - 1 ≡ numberIn b j
+unfolding numberIn
+number-taken b j n e = rw (← e)
+
+module _ (s h : List ℕ) (x v : ℕ) (p : Stand) (r : Same) (e : v ≡ nth (startValues h) x 0) (d : r ≡ sameOf (leafOnly (byte Code.const) v) (skim s (p .left) (p .at))) where
+  pub start-no : r ≡ No → false ≡ isStart h x (treeOf s p)
+  unfolding isStart
+  start-no n = rw (← e) (answer-no (sameTree (leafOnly (byte Code.const) v .tree) (treeOf s p)) 0 (skim s (p .left) (p .at) .end) (sym n ∙ d))
+
+  pub start-yes : (i j : ℕ) → r ≡ Yes i j → true ≡ isStart h x (treeOf s p)
+  unfolding isStart
+  start-yes i j n = rw (← e) (answer-yes (sameTree (leafOnly (byte Code.const) v .tree) (treeOf s p)) 0 (skim s (p .left) (p .at) .end) i j (sym n ∙ d))
+
+pub const-parts : partCount (byte Code.const) ≡ 0
+unfolding partCount
+const-parts = refl
+
+pub ruleset starting = (number-none, number-taken, start-no, start-yes, const-parts)

@@ -10,14 +10,14 @@ ghost use Rattle.fitting.specs.Claim.{placedAt, matchClaim, claimAt, mat
 
 pub struct Claim {
     pub form: u8,
-    pub thread: u8,
-    pub point: u8,
+    pub thread: usize,
+    pub point: usize,
     pub left: usize,
     pub right: usize,
 }
 
 // Of the form that is wanted; a Hoare triple is for the same thread and point.
-pub fn is_placed(form: u8, thread: u8, point: u8, c: Claim) -> bool
+pub fn is_placed(form: u8, thread: usize, point: usize, c: Claim) -> bool
     ensures { λ r. ⌜ r ≡ placedAt form thread point c ⌝ }
 {
     if c.form == form {
@@ -38,8 +38,8 @@ pub fn match_claim(
     t: &[u8],
     i: usize,
     form: u8,
-    thread: u8,
-    point: u8,
+    thread: usize,
+    point: usize,
     c: Claim,
     b: Bind,
 ) -> Match
@@ -65,12 +65,12 @@ pub fn match_claim(
 
 // The claims of a line's premises.
 pub struct Premises {
-    pub count: usize,
+    pub count: u8,
     pub claims: [Claim; Limits::PREMISES],
 }
 
 // For a premise that is not there.
-const NO_CLAIM: Claim = Claim {
+pub const NO_CLAIM: Claim = Claim {
     form: 0,
     thread: 0,
     point: 0,
@@ -94,8 +94,8 @@ pub fn match_from(
     t: &[u8],
     i: usize,
     forms: u8,
-    thread: u8,
-    point: u8,
+    thread: usize,
+    point: usize,
     p: Premises,
     j: usize,
     left: usize,

@@ -1,17 +1,20 @@
 // What rules ask besides their templates, of the formulas that the holes stand for.
 use compare::replace::Replacing;
 use compare::replace::Substitution;
+use compare::replace::leaf_stands;
 use compare::replace::replaced_at;
 use compare::same::Same;
+use formula::code::Code;
 use limits::Limits;
 use matcher::bind::Bind;
 use occurs::has::has_flag;
 use occurs::has::has_register;
 use occurs::has::has_word;
+use program::header::start_value;
 use program::instruction::Instruction;
 ghost use mathlib.Core.Path.{_≡_};
 ghost use Prim.Native.Nat.{_<_};
-ghost use Rattle.fitting.specs.Side.{holeOf, treeOf, keeps, isWith, storedBy};
+ghost use Rattle.fitting.specs.Side.{holeOf, numberIn, treeOf, keeps, isWith, storedBy, isStart};
 
 // Where a formula stands, with the nesting that is left there.
 pub struct Stand {
@@ -30,7 +33,7 @@ pub fn hole_of(b: Bind, j: usize) -> Stand
 }
 
 // A load keeps what has not its register; a store or a swap what has not its word.
-pub fn is_kept(s: &[u8], operation: usize, word: u8, register: u8, p: Stand) -> bool
+pub fn is_kept(s: &[u8], operation: u8, word: u8, register: u8, p: Stand) -> bool
     ensures { λ r. ⌜ r ≡ keeps operation word register (treeOf (now (s .entry)) p) ⌝ }
 {
     if operation < Instruction::LOAD {
@@ -68,4 +71,26 @@ pub fn is_stored(s: &[u8], p: Stand, q: Stand, word: u8, formula: usize) -> bool
         by: Replacing::Formula(formula, Limits::NESTING),
     };
     is_with(s, p, q, w)
+}
+
+// The number in a hole; 0 where it has taken none.
+pub fn number_in(b: Bind, j: usize) -> usize
+    requires { ⌜ j < 5 ⌝ }
+    ensures { λ r. ⌜ r ≡ numberIn b j ⌝ }
+{
+    let n = b.num[j];
+    if n == 0 {
+        return 0;
+    }
+    n - 1
+}
+
+// The formula is the constant with which the word starts, by the header's body.
+pub fn is_start(s: &[u8], h: &[u8], p: Stand, word: usize) -> bool
+    ensures { λ r. ⌜ r ≡ isStart (now (h .entry)) word (treeOf (now (s .entry)) p) ⌝ }
+{
+    match leaf_stands(s, Code::CONST, start_value(h, word), p.at, p.left) {
+        Same::No => false,
+        Same::Yes(_, _) => true,
+    }
 }

@@ -1,5 +1,5 @@
 -- The ways through the reader, one law for each.
-use Prim.Native.Nat.{ℕ, zero, suc, _+_, _-_, _/_, _≤_, _<_}
+use Prim.Native.Nat.{ℕ, zero, suc, _+_, _-_, _≤_, _<_}
 use mathlib.Core.Path.{_≡_, refl, ap, sym, _∙_}
 use mathlib.Core.List.{List}
 use mathlib.Core.Bool.{Bool, true, false, cond}
@@ -7,11 +7,11 @@ use native.Mathlib.Numerals.{sub-one}
 use native.Mathlib.Omega.{arith}
 use lib.ListN.{length, getD}
 use lib.Dec.{ltb, eqb}
-use borrow.Author.Tests.{lt-ltb, le-ltb, eq-eqb, ne-eqb, eqb-true, eqb-false, ltb-true, ltb-false}
+use borrow.Author.Tests.{lt-ltb, le-ltb, eq-eqb, ne-eqb, eqb-true, ltb-true}
 use Rattle.limits.specs.Limits.{nesting}
 use Rattle.formula.specs.Codes.{fitsAt, hasOperand, partCount, partPlace}
-use Rattle.formula.specs.Tree.{nodeAt, skim, grow}
-use Rattle.formula.specs.Reader.{range, malformed, limit, answer, inRange, operandFault, operandAnswer, headFault, headAnswer, first, partFault, faultAt, readAnswer, sortOf, readingOf}
+use Rattle.formula.specs.Tree.{nodeAt, skim}
+use Rattle.formula.specs.Reader.{range, malformed, limit, answer, inRange, operandFault, operandAnswer, headFault, headAnswer, first, partFault, faultAt, readAnswer, sortFrom, readingFrom}
 use Rattle.formula.specs.declared.node.Node.{Node}
 use Rattle.formula.specs.declared.reader.Counts.{Counts}
 use Rattle.formula.specs.declared.reader.Reading.{Reading}
@@ -212,33 +212,31 @@ module _ (s : List ℕ) (n : Counts) (k p at : ℕ) where
 
 pub ruleset reads = (read-zero, read-head, read-inside, read-leaf, read-part, read-one, read-two, lower)
 
--- a whole body
-pub whole-empty : (s : List ℕ) (n : Counts) → length s ≡ 0 → Fault malformed ≡ readingOf s n
-unfolding readingOf headFault
-whole-empty s n z = let h : length s ≤ 0 = omega arith in rw (fault-step s n nesting (sortOf s) 0 (λ (e : 16 ≡ 0). omega arith), le-ltb _ _ h)
+-- a body from a position on
+pub body-past : (s : List ℕ) (n : Counts) (at : ℕ) → length s ≤ at → Fault malformed ≡ readingFrom s n at
+unfolding headFault
+body-past s n at h = rw (fault-step s n nesting (sortFrom s at) at (λ (e : 16 ≡ 0). omega arith), le-ltb _ _ h)
 
-module _ (s : List ℕ) (n : Counts) (e : ℕ) (is : e ≡ readAnswer s n nesting (sortOf s) 0) where
+module _ (s : List ℕ) (n : Counts) (at e : ℕ) (is : e ≡ readAnswer s n nesting (sortFrom s at) at) where
   abbrev fault : ℕ
-  fault = faultAt s n nesting (sortOf s) 0
+  fault = faultAt s n nesting (sortFrom s at) at
 
   abbrev end : ℕ
-  end = skim s nesting 0 .end
+  end = skim s nesting at .end
 
-  pub whole-fault : e < limit → Fault e ≡ readingOf s n
-  unfolding readingOf readAnswer
-  whole-fault l = let q = said-fault e fault end (fault-small s n nesting (sortOf s) 0) is l in rw (q .1, q .0)
+  pub body-fault : e < limit → Fault e ≡ readingFrom s n at
+  unfolding readAnswer
+  body-fault l = let q = said-fault e fault end (fault-small s n nesting (sortFrom s at) at) is l in rw (q .1, q .0)
 
   module _ (l : limit ≤ e) where
     ended : (fault ≡ 0) × (e - limit ≡ end)
     unfolding readAnswer
-    ended = said-end e fault end (fault-small s n nesting (sortOf s) 0) is l
+    ended = said-end e fault end (fault-small s n nesting (sortFrom s at) at) is l
 
-    pub whole-formula : e - limit ≡ length s → Formula (sortOf s) ≡ readingOf s n
-    unfolding readingOf
-    whole-formula d = rw (ended .0, eq-eqb _ _ (sym (ended .1) ∙ d))
+    pub body-formula : e - limit ≡ length s → Formula (sortFrom s at) ≡ readingFrom s n at
+    body-formula d = rw (ended .0, eq-eqb _ _ (sym (ended .1) ∙ d))
 
-    pub whole-over : (e - limit ≡ length s → ⊥) → Fault malformed ≡ readingOf s n
-    unfolding readingOf
-    whole-over d = rw (ended .0, ne-eqb _ _ (λ (z : end ≡ length s). d (ended .1 ∙ z)))
+    pub body-over : (e - limit ≡ length s → ⊥) → Fault malformed ≡ readingFrom s n at
+    body-over d = rw (ended .0, ne-eqb _ _ (λ (z : end ≡ length s). d (ended .1 ∙ z)))
 
-pub ruleset wholes = (whole-empty, whole-fault, whole-formula, whole-over)
+pub ruleset body-reads = (body-past, body-fault, body-formula, body-over)

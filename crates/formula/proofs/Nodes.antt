@@ -8,7 +8,6 @@ use native.Mathlib.Omega.{arith}
 use lib.ListN.{length, getD, List·getD-eq-default}
 use lib.Dec.{ltb}
 use borrow.Author.Tests.{lt-ltb, le-ltb}
-use Rattle.limits.proofs.Numbers.{byte-past}
 use Rattle.formula.specs.Codes.{hasOperand, partCount}
 use Rattle.formula.specs.Tree.{Tree, nodeAt, skim, grow}
 use Rattle.formula.specs.declared.node.Node.{Node}
@@ -26,7 +25,7 @@ module _ (s : List ℕ) (at p : ℕ) (o : Bool) (h : at < length s) (e : o ≡ h
   unfolding nodeAt
   node-operand b z d = rw (lt-ltb _ _ h, ← e, z, ← q, d)
 
-pub ruleset nodes = (byte-past, node-past, node-plain, node-operand)
+pub ruleset nodes = (node-past, node-plain, node-operand)
 
 pub skim-zero : (s : List ℕ) (k at : ℕ) → k ≡ 0 → skim s k at ≡ record { tree = Tree.none; end = at }
 unfolding skim

@@ -7,7 +7,7 @@ use lib.Dec.{ltb, leb, eqb}
 use Rattle.logic.specs.Code
 use Rattle.logic.specs.Code.{byte}
 use Rattle.limits.specs.Limits.{nesting}
-use Rattle.formula.specs.Codes.{fitsAt, hasOperand, partCount, partPlace}
+use Rattle.formula.specs.Codes.{fitsAt, hasOperand, partPlace}
 use Rattle.formula.specs.Tree.{nodeAt, skim}
 use Rattle.formula.specs.declared.reader.Counts.{Counts}
 use Rattle.formula.specs.declared.reader.Reading.{Reading}
@@ -69,12 +69,20 @@ faultAt s n (suc k) place at =
 unfoldable pub readAnswer : List ℕ → Counts → ℕ → ℕ → ℕ → ℕ
 readAnswer s n k place at = answer (faultAt s n k place at) (skim s k at .end)
 
--- a whole body: its sort, which is its first code's eighth, or its first fault; bytes left over come last
+-- a code's sort is its eighth
+abbrev pub sortFrom : List ℕ → ℕ → ℕ
+sortFrom s at = getD s at 0 / 8
+
+-- a body from a position on: the sort of its first code, or its first fault; bytes left over come last
+abbrev pub readingFrom : List ℕ → Counts → ℕ → Reading
+readingFrom s n at =
+    cond (eqb (faultAt s n nesting (sortFrom s at) at) 0)
+    (cond (eqb (skim s nesting at .end) (length s)) (Formula (sortFrom s at)) (Fault malformed))
+    (Fault (faultAt s n nesting (sortFrom s at) at))
+
+-- a whole body
 abbrev pub sortOf : List ℕ → ℕ
-sortOf s = getD s 0 0 / 8
+sortOf s = sortFrom s 0
 
 unfoldable pub readingOf : List ℕ → Counts → Reading
-readingOf s n =
-    cond (eqb (faultAt s n nesting (sortOf s) 0) 0)
-    (cond (eqb (skim s nesting 0 .end) (length s)) (Formula (sortOf s)) (Fault malformed))
-    (Fault (faultAt s n nesting (sortOf s) 0))
+readingOf s n = readingFrom s n 0

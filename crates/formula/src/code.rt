@@ -5,6 +5,9 @@ ghost use Rattle.formula.specs.Codes.{member, setAt, fitsAt, hasOperand,
 pub struct Code {}
 
 impl Code {
+    // A code's sort is its eighth.
+    pub const PER_SORT: u8 = 8;
+
     // Values.
     pub const CONST: u8 = 0;
 

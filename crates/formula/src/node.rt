@@ -1,8 +1,8 @@
 // The nodes of formulas, by their positions.
 use crate::code::has_operand;
 use crate::code::parts;
+use limits::read::octet_at;
 ghost use mathlib.Core.Path.{_≡_};
-ghost use lib.ListN.{getD};
 ghost use Rattle.formula.specs.Tree.{nodeAt};
 
 // A code and its operand (0 where it has none), how many parts it has, and the position past its own bytes.
@@ -11,13 +11,6 @@ pub struct Node {
     pub operand: u8,
     pub parts: u8,
     pub next: usize,
-}
-
-// 0 past the end.
-pub fn byte_at(s: &[u8], at: usize) -> u8
-    ensures { λ r. ⌜ r ≡ getD (now (s .entry)) at 0 ⌝ }
-{
-    if at < s.len() { s[at] } else { 0 }
 }
 
 // Past the end, a leaf of no bytes.
@@ -36,7 +29,7 @@ pub fn node_at(s: &[u8], at: usize) -> Node
     if has_operand(code) {
         return Node {
             code,
-            operand: byte_at(s, at + 1),
+            operand: octet_at(s, at + 1),
             parts: parts(code),
             next: at + 2,
         };

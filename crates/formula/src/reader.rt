@@ -4,9 +4,10 @@ use crate::code::fits;
 use crate::code::has_operand;
 use crate::code::part_place;
 use crate::code::parts;
+use crate::cursor::Cursor;
 use limits::Limits;
 ghost use mathlib.Core.Path.{_≡_};
-ghost use Rattle.formula.specs.Reader.{inRange, operandAnswer, headAnswer, readAnswer, readingOf};
+ghost use Rattle.formula.specs.Reader.{inRange, operandAnswer, headAnswer, readAnswer, readingFrom, readingOf};
 
 // How many threads, words and registers there are, and how many values.
 pub struct Counts {
@@ -113,15 +114,15 @@ pub enum Reading {
     Fault(usize),
 }
 
-pub fn read_formula(body: &[u8], n: Counts) -> Reading
-    ensures { λ r. ⌜ r ≡ readingOf (now (body .entry)) n ⌝ }
+// From a position on.
+pub fn read_record(body: &[u8], at: usize, n: Counts) -> Reading
+    ensures { λ r. ⌜ r ≡ readingFrom (now (body .entry)) n at ⌝ }
 {
-    if body.len() == 0 {
+    if body.len() <= at {
         return Reading::Fault(Fault::MALFORMED);
     }
-    // A code's sort is its eighth.
-    let sort = body[0] / 8;
-    let end = read_at(body, 0, Limits::NESTING, sort, n);
+    let sort = body[at] / Code::PER_SORT;
+    let end = read_at(body, at, Limits::NESTING, sort, n);
     if end < Fault::LIMIT {
         return Reading::Fault(end);
     }
@@ -129,4 +130,11 @@ pub fn read_formula(body: &[u8], n: Counts) -> Reading
         return Reading::Formula(sort);
     }
     Reading::Fault(Fault::MALFORMED)
+}
+
+// The whole body.
+pub fn read_formula(body: &[u8], n: Counts) -> Reading
+    ensures { λ r. ⌜ r ≡ readingOf (now (body .entry)) n ⌝ }
+{
+    Cursor::new(body, 0).formula(n)
 }

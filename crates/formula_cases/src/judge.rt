@@ -1,112 +1,71 @@
-// The stored cases, one after the other: a formula's length (16 bits), its bytes, threads, words and registers (a byte
-// each), the result (16 bits: 0 accepted, else the fault) and the sort (16 bits; 0 where refused). Low byte first.
-use crate::tally::Tally;
+// The cases of the file: a formula as the body; as the tail threads, words and registers (a byte each), the result and
+// the sort (16 bits each).
+use crate::answer::is_answer;
+use crate::answer::kind_of;
 use formula::reader::Counts;
-use formula::reader::Reading;
 use formula::reader::read_formula;
 use limits::Limits;
-ghost use Prim.Native.Nat.{_<_};
-ghost use Rattle.formula_cases.specs.Onward.{Onward};
+use limits::read::byte_at;
+use limits::read::word_at;
+use stored::case::Next;
+use stored::case::read_case;
+use stored::end::End;
+use stored::tally::Judged;
+use stored::tally::Tally;
+use stored::tally::no_case;
+use stored::tally::with_case;
+ghost use mathlib.Core.Path.{_≡_};
+ghost use Rattle.stored.specs.Tallied.{FromCases};
+ghost use Rattle.formula_cases.specs.Judge.{countsAt, withFormula};
 
-// A case that was judged (what the reader answered, whether that is the stored answer, where the next case starts), or
-// one that the end of the file cuts.
-pub enum Step {
-    Case {
-        reading: Reading,
-        same: bool,
-        next: usize,
-    },
-    Cut,
+struct Stored;
+
+impl Stored {
+    pub const BYTES: usize = 7;
 }
 
-// The tally of all cases, or the number of the case that the end of the file cuts.
-pub enum Outcome {
-    Whole(Tally),
-    Cut(u64),
-}
-
-// How many bytes follow the formula.
-const TAIL: usize = 7;
-
-fn pair(low: u8, high: u8) -> usize
-    ensures { λ r. ⌜ r < 65536 ⌝ }
+fn counts_at(s: &[u8]) -> Counts
+    ensures { λ r. ⌜ r ≡ countsAt (now (s .entry)) ⌝ }
 {
-    low as usize + 256 * (high as usize)
-}
-
-fn wide(byte: u8) -> usize {
-    byte as usize
-}
-
-// Whether a reading is the stored result and sort.
-fn is_answer(reading: Reading, result: usize, sort: usize) -> bool {
-    match reading {
-        Reading::Formula(found) => {
-            if result == 0 {
-                return wide(found) == sort;
-            }
-            false
-        }
-        Reading::Fault(fault) => {
-            if sort == 0 {
-                return fault == result;
-            }
-            false
-        }
-    }
-}
-
-// The case at a position.
-pub fn judge_at(s: &[u8], at: usize) -> Step
-    ensures { λ r. ⌜ Onward at r ⌝ }
-{
-    if s.len() <= at {
-        return Step::Cut;
-    }
-    if s.len() <= at + 1 {
-        return Step::Cut;
-    }
-    let from = at + 2;
-    let end = from + pair(s[at], s[at + 1]);
-    if s.len() < end + TAIL {
-        return Step::Cut;
-    }
-    let n = Counts {
-        threads: s[end],
-        words: s[end + 1],
-        registers: s[end + 2],
+    Counts {
+        threads: byte_at(s, 0) as u8,
+        words: byte_at(s, 1) as u8,
+        registers: byte_at(s, 2) as u8,
         values: Limits::VALUES as u8,
-    };
-    let reading = read_formula(&s[from..end], n);
-    let same = is_answer(
-        reading,
-        pair(s[end + 3], s[end + 4]),
-        pair(s[end + 5], s[end + 6]),
-    );
-    Step::Case {
-        reading,
-        same,
-        next: end + TAIL,
     }
 }
 
-pub fn judge_all(s: &[u8]) -> Outcome {
-    let mut tally = Tally::new();
-    let mut at = 0;
-    while at < s.len() {
-        match judge_at(s, at) {
-            Step::Case {
-                reading,
-                same,
-                next,
-            } => {
-                tally = tally.with(reading, same);
-                at = next;
+// The tally with a formula more, and whether its reading is the stored one.
+fn with_formula<'a, 'b>(t: Tally, body: &'a [u8], stored: &'b [u8]) -> Tally
+    ensures { λ r. ⌜ r ≡ withFormula t (now (body .entry)) (now (stored .entry)) ⌝ }
+{
+    let reading = read_formula(body, counts_at(stored));
+    let same = is_answer(reading, word_at(stored, 3), word_at(stored, 5));
+    with_case(t, kind_of(reading), same)
+}
+
+pub fn judge_all(fd: i32) -> Judged
+    ensures { λ r. ⌜ FromCases (r .tally) ⌝ }
+{
+    // Far more than a formula has.
+    let mut space = io::buffer();
+    let mut stored = [0u8; Stored::BYTES];
+    let mut tally = no_case();
+    // One more shows that there are too many.
+    let mut left = Judged::MOST + 1;
+    while 0 < left {
+        match read_case(fd, &mut space, &mut stored) {
+            Next::Case(n) => {
+                tally = with_formula(tally, &space[..n], &stored);
+                left -= 1;
             }
-            Step::Cut => {
-                return Outcome::Cut(tally.next_number());
+            Next::Over(end) => {
+                return Judged { end, tally };
             }
         }
     }
-    Outcome::Whole(tally)
+    Judged {
+        end: End::Many,
+        tally,
+    }
 }

@@ -9,6 +9,7 @@ use program::header::check_header;
 use program::sizes::Sizes;
 ghost use mathlib.Core.Path.{_≡_};
 ghost use Rattle.frames.specs.Records.{bodies, indexOf};
+ghost use Rattle.bodies.specs.Outlined.{outlinedOf};
 ghost use Rattle.image.specs.Body.{placeOf, check};
 
 // What a record is: thread t; the line that has so many lines before it.
@@ -47,23 +48,24 @@ fn place_of(z: Sizes, i: usize) -> Place
 }
 
 // Where t thread records were counted.
-pub fn check_body<'a, 'b>(
+pub fn check_body<'a, 'b, 'c>(
     s: &'a [u8],
     ix: &'b [usize],
+    on: &'c [bool],
     t: usize,
     z: Sizes,
     i: usize,
     b: &'a [u8],
 ) -> Checked
-    requires { ⌜ now ix ≡ indexOf (now s) ⌝ }
+    requires { ⌜ (now ix ≡ indexOf (now s)) × (now on ≡ outlinedOf z (bodies (now s))) ⌝ }
     ensures { λ r. ⌜ r ≡ check t z (bodies (now (s .entry))) (placeOf z i) (now (b .entry)) ⌝ }
 {
     match place_of(z, i) {
         Place::Header => check_header(b, t),
         Place::Formula => check_formula(b, z),
         Place::Thread(u) => check_thread(s, ix, z, u, b),
-        Place::Outline => check_outline(s, ix, z, b),
-        Place::Line(lower) => check_line(s, ix, z, lower, b),
+        Place::Outline => check_outline(s, ix, on, z, b),
+        Place::Line(lower) => check_line(s, ix, on, z, lower, b),
         Place::Obligations => check_obligations(s, ix, z, b),
     }
 }

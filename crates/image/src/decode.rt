@@ -1,5 +1,6 @@
 // All bodies, first to last, behind the frames.
 use crate::body::check_body;
+use bodies::outlined::outlined_of;
 use frames::fault::Checked;
 use frames::fault::Fault;
 use frames::index::Index;
@@ -12,6 +13,7 @@ use program::sizes::Sizes;
 ghost use mathlib.Core.Path.{_≡_};
 ghost use Prim.Native.Nat.{_<_};
 ghost use Rattle.frames.specs.Records.{bodies, indexOf};
+ghost use Rattle.bodies.specs.Outlined.{outlinedOf};
 ghost use Rattle.image.specs.Decode.{recordCount, sizesOf, firstFault, decoded, opened};
 
 // The first fault with its record, or how much there is.
@@ -39,15 +41,22 @@ fn sizes_of(h: &[u8], formulas: u16, lines: u16) -> Sizes
     }
 }
 
-fn check_bodies<'a, 'b>(s: &'a [u8], ix: &'b [usize], t: usize, z: Sizes) -> Decoded
-    requires { ⌜ now ix ≡ indexOf (now s) ⌝ }
+// With the table of formulas that may stand in an outline or a triple.
+fn check_bodies<'a, 'b, 'c>(
+    s: &'a [u8],
+    ix: &'b [usize],
+    on: &'c [bool],
+    t: usize,
+    z: Sizes,
+) -> Decoded
+    requires { ⌜ (now ix ≡ indexOf (now s)) × (now on ≡ outlinedOf z (bodies (now s))) ⌝ }
     ensures { λ r. ⌜ r ≡ firstFault t z (bodies (now (s .entry))) 1 (recordCount z) (bodies (now (s .entry))) ⌝ }
 {
     let n = record_count(z);
     let mut i: usize = 1;
     while i <= n {
         let b = body_of(s, ix, i - 1);
-        match check_body(s, ix, t, z, i, b) {
+        match check_body(s, ix, on, t, z, i, b) {
             Checked::Faulty(fault) => {
                 return Decoded::Refused { fault, record: i };
             }
@@ -73,7 +82,8 @@ fn decode_with<'a, 'b>(s: &'a [u8], ix: &'b [usize]) -> Decoded
         } => {
             let h = body_of(s, ix, 0);
             let z = sizes_of(h, formulas, lines);
-            check_bodies(s, ix, threads as usize, z)
+            let outlined = outlined_of(s, ix, z);
+            check_bodies(s, ix, &outlined.on, threads as usize, z)
         }
     }
 }

@@ -15,13 +15,20 @@ fn wide(x: u8) -> usize
 }
 
 // The byte at a position.
-pub fn byte_at(s: &[u8], at: usize) -> usize
-    ensures { λ r. ⌜ (r ≡ getD (now (s .entry)) at 0) × (r < 256) ⌝ }
+pub fn octet_at(s: &[u8], at: usize) -> u8
+    ensures { λ r. ⌜ r ≡ getD (now (s .entry)) at 0 ⌝ }
 {
     if s.len() <= at {
         return 0;
     }
-    wide(s[at])
+    s[at]
+}
+
+// The same, as a number that sums may take further.
+pub fn byte_at(s: &[u8], at: usize) -> usize
+    ensures { λ r. ⌜ (r ≡ getD (now (s .entry)) at 0) × (r < 256) ⌝ }
+{
+    wide(octet_at(s, at))
 }
 
 // The 16-bit number at a position.

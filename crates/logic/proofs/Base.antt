@@ -133,3 +133,7 @@ bool-ext true true f g = refl
 bool-ext true false f g = absurd (f tt)
 bool-ext false true f g = absurd (g tt)
 bool-ext false false f g = refl
+
+pub map-or : {A B C D : Type 0} → (A → C) → (B → D) → A ⊎ B → C ⊎ D
+map-or f g (inl a) = inl (f a)
+map-or f g (inr b) = inr (g b)

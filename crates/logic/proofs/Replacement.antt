@@ -2,7 +2,6 @@
 use mathlib.Core.Path.{_≡_, refl, ap, ap₂, subst}
 use mathlib.Core.Bool.{not, _&&_, _||_}
 use mathlib.Core.List.{List}
-use mathlib.Core.Logic.{_⊎_, inl, inr}
 use Prim.Native.Nat.{ℕ, _+_, _%_}
 use lib.Dec.{T, eqb, ltb}
 use lib.ListN.{take, drop}
@@ -12,6 +11,7 @@ use Rattle.logic.specs.Formula.{Sort, Formula, Formula.const, Formula.re
 use Rattle.logic.specs.Machine.{View, Program}
 use Rattle.logic.specs.Replace.{Sub, replace}
 use Rattle.logic.specs.Truth.{Sat, World, Truth}
+use Rattle.logic.proofs.Base.{map-or}
 
 -- the names as the values that replace them
 abbrev pub under : ℕ → Sub → Env → Env
@@ -29,10 +29,6 @@ module _ (P : Program) (σ : Sub) where
   Replaced Sort.test e = (ρ : Env) → test R ρ (replace σ e) ≡ test R (under R σ ρ) e
   Replaced Sort.interval i = (ρ : View → Env) (l : List View) → Sat R ρ (replace σ i) l → Sat R (λ v. under R σ (ρ v)) i l
   Replaced Sort.assertion a = (w : World) → Truth P w (replace σ a) → Truth P (underWorld R σ w) a
-
-  map-or : {A B C D : Type 0} → (A → C) → (B → D) → A ⊎ B → C ⊎ D
-  map-or f g (inl a) = inl (f a)
-  map-or f g (inr b) = inr (g b)
 
   pub replaced : {s : Sort} (f : Formula s) → Replaced s f
   replaced (const n) = λ ρ. refl

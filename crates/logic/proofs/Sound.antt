@@ -21,7 +21,7 @@ use Rattle.logic.specs.Rules.{Rule}
 use Rattle.logic.specs.Inference
 use Rattle.logic.specs.Inference.{Inference, newest, keeps}
 use Rattle.logic.specs.EveryRun.{proper}
-use Rattle.logic.proofs.Base.{and-left, and-right, and-both, is-true, all-All}
+use Rattle.logic.proofs.Base.{and-left, and-right, and-both, is-true, all-All, map-or}
 use Rattle.logic.proofs.Cuts.{All-take, All-drop, All-map}
 use Rattle.logic.proofs.Intervals.{rule-33, rule-34, rule-35, rule-36, rule-37, rule-38}
 use Rattle.logic.proofs.Prospects.{from-all}
@@ -95,10 +95,6 @@ module _ (R : ℕ) (ρ : View → Env) where
   rule-45 e f [] h g = tt
   rule-45 e f (v ∷ l) h g = (and-both (test R (ρ v) e) (test R (ρ v) f) (h .0) (g .0), rule-45 e f l (h .1) (g .1))
 
-either-of : {A B C D : Type 0} → (A → C) → (B → D) → A ⊎ B → C ⊎ D
-either-of f g (inl h) = inl (f h)
-either-of f g (inr h) = inr (g h)
-
 one-of : {A B C : Type 0} → (A → C) → (B → C) → A ⊎ B → C
 one-of f g (inl h) = f h
 one-of f g (inr h) = g h
@@ -129,7 +125,7 @@ module _ (P : Program) where
   both-triples t (branch e k) a b q r d _ = tt
 
   either-triples : (t : ℕ) (c : Instr) (a b q r : Assertion) → ValidTriple P t c a q → ValidTriple P t c b r → ValidTriple P t c (eitherA a b) (eitherA q r)
-  either-triples t (act c) a b q r d e = λ s wf p arr h. either-of (d s wf p arr) (e s wf p arr) h
+  either-triples t (act c) a b q r d e = λ s wf p arr h. map-or (d s wf p arr) (e s wf p arr) h
   either-triples t (branch e k) a b q r d _ = tt
 
   weakened : (t n : ℕ) (c : Instr) (a b q r : Assertion) → T (proper P n c) → Valid P (implies a b) → ValidTriple P t c b q → Valid P (implies q r) → ValidTriple P t c a r

@@ -71,7 +71,7 @@ module _ (s : List ℕ) (b : Bind) (z : Sized b) where
 abbrev pub given : List ℕ → Bool → Bind → Option Trees.Taken
 given s ok b = cond ok (some (takenOf s b)) none
 
-when-given : (s : List ℕ) (x : Bool) (b : Bind) → when x (takenOf s b) ≡ given s x b
+pub when-given : (s : List ℕ) (x : Bool) (b : Bind) → when x (takenOf s b) ≡ given s x b
 when-given s true b = refl
 when-given s false b = refl
 

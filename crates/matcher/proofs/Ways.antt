@@ -1,31 +1,58 @@
 -- The ways through the matcher, one law for each.
 use Prim.Native.Nat.{ℕ, zero, suc, _-_, _≤_, _<_}
-use mathlib.Core.Path.{_≡_, refl, ap, _∙_}
+use mathlib.Core.Path.{_≡_, refl, ap, sym, _∙_}
 use mathlib.Core.List.{List}
-use mathlib.Core.Bool.{Bool, true, false, cond}
+use mathlib.Core.Bool.{Bool, true, false, cond, true≢false}
 use native.Mathlib.Numerals.{sub-one}
 use native.Mathlib.Omega.{arith}
+use lib.Dec.{eqb}
 use lib.ListN.{getD, set}
-use borrow.Author.Tests.{lt-ltb, le-ltb, eq-eqb, ne-eqb}
+use borrow.Author.Tests.{lt-ltb, le-ltb, eq-eqb, ne-eqb, eqb-true}
 use Rattle.formula.specs.Codes.{among, onePart, twoParts, hasOperand, partCount}
 use Rattle.formula.specs.Tree.{nodeAt, skim}
 use Rattle.formula.specs.declared.node.Node.{Node}
+use Rattle.logic.proofs.Base.{holds-true}
 use Rattle.formula.proofs.Nodes.{parts-of}
-use Rattle.compare.specs.Same.{sameOf}
+use Rattle.compare.specs.Same.{sameTree, sameOf}
 use Rattle.compare.specs.declared.same.Same.{Same}
 use Rattle.compare.specs.declared.same.Same.the-variants.{Yes, No}
+use Rattle.trees.proofs.Raw.{tree-refl}
 use Rattle.matcher.specs.Template.{firstHole}
-use Rattle.matcher.specs.Places.{holeCount, refused, holeAt, operandOf, rooted, nodeOf, rootAt, grown, matchAt}
+use Rattle.matcher.specs.Places.{holeCount, refused, isThere, holeAt, operandOf, rooted, nodeOf, rootAt, grown, matchAt}
 use Rattle.matcher.specs.declared.bind.Bind.{Bind}
 use Rattle.matcher.specs.declared.bind.Root.{Root}
 use Rattle.matcher.specs.declared.bind.Taken.{Taken}
 use Rattle.matcher.specs.declared.matching.Match.{Match}
+
+pub there-not : (p m q k : ℕ) → (p ≡ q → ⊥) → false ≡ isThere p m q k
+unfolding isThere
+there-not p m q k h = rw (ne-eqb _ _ h)
+
+pub there-left : (p m q k : ℕ) (o : Bool) → p ≡ q → o ≡ eqb m k → o ≡ isThere p m q k
+unfolding isThere
+there-left p m q k o h e = rw (eq-eqb _ _ h) e
+
+there-same : (p m q k : ℕ) → isThere p m q k ≡ true → (p ≡ q) × (m ≡ k)
+unfolding isThere
+there-same p m q k = go (eqb p q) refl
+  where
+    go : (x : Bool) → eqb p q ≡ x → cond x (eqb m k) false ≡ true → (p ≡ q) × (m ≡ k)
+    go true e h = (eqb-true p q e, eqb-true m k h)
+    go false e h = absurd (true≢false (sym h))
 
 module _ (s : List ℕ) (tpl j at k : ℕ) (b : Bind) where
   pub hole-new : (next : ℕ) → getD (b .left) j 0 ≡ 0 → next ≡ skim s k at .end
       → record { kind = 1; tpl = tpl; next = next; bind = record { at = set (b .at) j at; left = set (b .left) j k; num = b .num } } ≡ holeAt s tpl j at k b
   unfolding holeAt
   hole-new next z e = rw (eq-eqb _ _ z, ← e)
+
+  -- one formula at one place is equal to itself
+  pub hole-same : (next : ℕ) (o : Bool) → (getD (b .left) j 0 ≡ 0 → ⊥) → o ≡ isThere (getD (b .at) j 0) (getD (b .left) j 0) at k → o ≡ true → next ≡ skim s k at .end
+      → record { kind = 1; tpl = tpl; next = next; bind = b } ≡ holeAt s tpl j at k b
+  unfolding holeAt
+  hole-same next o z d h e =
+      let q = there-same (getD (b .at) j 0) (getD (b .left) j 0) at k (sym d ∙ h) in
+      rw (ne-eqb _ _ z, q .0, q .1, holds-true (sameTree (skim s k at .tree) (skim s k at .tree)) (tree-refl (skim s k at .tree)), ← e)
 
   module _ (r : Same) (z : getD (b .left) j 0 ≡ 0 → ⊥) (e : r ≡ sameOf (skim s (getD (b .left) j 0) (getD (b .at) j 0)) (skim s k at)) where
     pub hole-no : r ≡ No → refused b ≡ holeAt s tpl j at k b
@@ -36,7 +63,7 @@ module _ (s : List ℕ) (tpl j at k : ℕ) (b : Bind) where
     unfolding holeAt
     hole-held p q d = rw (ne-eqb _ _ z, ← e, d)
 
-pub ruleset holes = (hole-new, hole-no, hole-held)
+pub ruleset holes = (there-not, there-left, hole-new, hole-same, hole-no, hole-held)
 
 module _ (h x : Node) (b : Bind) where
   pub node-code : (h .code ≡ x .code → ⊥) → refused b ≡ nodeOf h x b

@@ -29,6 +29,10 @@ abbrev pub heldAt : Bind → ℕ → Same → Root
 heldAt b tpl No = refused b
 heldAt b tpl (Yes p q) = record { kind = 1; tpl = tpl; next = q; bind = b }
 
+-- one formula at one place, with the same nesting left
+unfoldable pub isThere : ℕ → ℕ → ℕ → ℕ → Bool
+isThere p m q k = cond (eqb p q) (eqb m k) false
+
 unfoldable pub holeAt : List ℕ → ℕ → ℕ → ℕ → ℕ → Bind → Root
 holeAt s tpl j at k b =
     cond (eqb (getD (b .left) j 0) 0)

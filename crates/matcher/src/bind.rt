@@ -4,7 +4,7 @@ use compare::same::same_at;
 use formula::end::end_at;
 ghost use mathlib.Core.Path.{_≡_};
 ghost use Prim.Native.Nat.{_<_};
-ghost use Rattle.matcher.specs.Places.{holeAt, operandOf};
+ghost use Rattle.matcher.specs.Places.{isThere, holeAt, operandOf};
 
 // Codes and operands of templates that are holes.
 pub struct Hole {}
@@ -34,6 +34,16 @@ pub struct Root {
     pub bind: Bind,
 }
 
+// One formula at one place, with the same nesting left: there is nothing to compare.
+fn is_there(place: usize, held: usize, at: usize, left: usize) -> bool
+    ensures { λ r. ⌜ r ≡ isThere place held at left ⌝ }
+{
+    if place == at {
+        return held == left;
+    }
+    false
+}
+
 // A hole takes the formula that comes first, and is compared with those that come later.
 pub fn match_hole(s: &[u8], tpl: usize, j: usize, at: usize, left: usize, b: Bind) -> Root
     requires { ⌜ j < 5 ⌝ }
@@ -53,6 +63,15 @@ pub fn match_hole(s: &[u8], tpl: usize, j: usize, at: usize, left: usize, b: Bin
         };
     }
     let place = b.at[j];
+    if is_there(place, held, at, left) {
+        let next = end_at(s, at, left);
+        return Root {
+            kind: 1,
+            tpl,
+            next,
+            bind: b,
+        };
+    }
     match same_at(s, place, held, at, left) {
         Same::No => Root {
             kind: 0,

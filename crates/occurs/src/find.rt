@@ -1,7 +1,7 @@
 // Whether something occurs in a formula.
 use formula::code::contains;
-use formula::node::byte_at;
 use formula::node::node_at;
+use limits::read::octet_at;
 ghost use mathlib.Core.Path.{_≡_};
 ghost use Rattle.formula.specs.Tree.{skim};
 ghost use Rattle.occurs.specs.Occurs.{ownerOf, isSought, foundIn, occurs};
@@ -37,7 +37,7 @@ pub fn owner(owners: &[u8], register: u8) -> u8
     if register == 0 {
         return 0;
     }
-    byte_at(owners, (register - 1) as usize)
+    octet_at(owners, (register - 1) as usize)
 }
 
 pub fn is_sought(w: Sought, owners: &[u8], code: u8, operand: u8) -> bool

@@ -30,11 +30,11 @@ pub fn owners_of(b: &[u8]) -> &[u8]
 }
 
 // The start value of a word.
-pub fn start_value(b: &[u8], x: usize) -> usize
+pub fn start_value(b: &[u8], x: usize) -> u8
     ensures { λ r. ⌜ r ≡ nth (startValues (now (b .entry))) x 0 ⌝ }
 {
     let l = start_values(b);
-    nth_byte(l, x)
+    nth_byte(l, x) as u8
 }
 
 // The thread that owns a register.

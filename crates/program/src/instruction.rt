@@ -7,31 +7,31 @@ ghost use mathlib.Core.Path.{_≡_};
 ghost use Rattle.program.specs.Instruction.{instruction, fieldsOf, fieldsFit, ranged};
 
 pub struct Instruction {
-    pub operation: usize,
-    pub a: usize,
-    pub b: usize,
+    pub operation: u8,
+    pub a: u8,
+    pub b: u8,
     pub formula: usize,
 }
 
 impl Instruction {
     // register a := formula
-    pub const ASSIGN: usize = 0;
+    pub const ASSIGN: u8 = 0;
 
     // load into register a of word b, the second one acquiring
-    pub const LOAD: usize = 1;
+    pub const LOAD: u8 = 1;
 
-    pub const ACQUIRE: usize = 2;
+    pub const ACQUIRE: u8 = 2;
 
     // store of the formula to word a, the second one releasing
-    pub const STORE: usize = 3;
+    pub const STORE: u8 = 3;
 
-    pub const RELEASE: usize = 4;
+    pub const RELEASE: u8 = 4;
 
     // swap of the formula into word a
-    pub const SWAP: usize = 5;
+    pub const SWAP: u8 = 5;
 
     // branch on the formula to point a
-    pub const BRANCH: usize = 6;
+    pub const BRANCH: u8 = 6;
 }
 
 pub struct Range {
@@ -51,15 +51,15 @@ pub fn read_instruction(b: &[u8]) -> Instruction
     ensures { λ r. ⌜ r ≡ instruction (now (b .entry)) ⌝ }
 {
     Instruction {
-        operation: byte_at(b, 0),
-        a: byte_at(b, 1),
-        b: byte_at(b, 2),
+        operation: byte_at(b, 0) as u8,
+        a: byte_at(b, 1) as u8,
+        b: byte_at(b, 2) as u8,
         formula: word_at(b, 3),
     }
 }
 
 // The fields of an operation in a thread with this last point. An unknown operation has no field a that fits.
-pub fn fields_of(operation: usize, last: usize, z: Sizes) -> Fields
+pub fn fields_of(operation: u8, last: usize, z: Sizes) -> Fields
     ensures { λ r. ⌜ r ≡ fieldsOf operation last z ⌝ }
 {
     let unused = Range { low: 0, high: 0 };
@@ -115,8 +115,8 @@ pub fn fields_of(operation: usize, last: usize, z: Sizes) -> Fields
 fn fields_fit(i: Instruction, f: Fields) -> bool
     ensures { λ r. ⌜ r ≡ fieldsFit i f ⌝ }
 {
-    if in_range(i.a, f.a.low, f.a.high) {
-        if in_range(i.b, f.b.low, f.b.high) {
+    if in_range(i.a as usize, f.a.low, f.a.high) {
+        if in_range(i.b as usize, f.b.low, f.b.high) {
             return in_range(i.formula, f.formula.low, f.formula.high);
         }
     }

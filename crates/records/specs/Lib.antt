@@ -1,4 +1,5 @@
 pub mod Places
 pub mod Tally
 pub mod List
+pub mod Rules
 pub mod Line

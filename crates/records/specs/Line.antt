@@ -1,5 +1,5 @@
 -- A line: rule, thread, point (bytes), left and right formula (16 bits), premise count (byte), premises (16 bits).
-use mathlib.Core.Bool.{Bool, true, false, not, _&&_, cond}
+use mathlib.Core.Bool.{Bool, false, not, _&&_, cond}
 use mathlib.Core.List.{List}
 use Prim.Native.Nat.{ℕ, _+_, _*_}
 use lib.Dec.{eqb, leb, ltb}
@@ -13,18 +13,18 @@ use Rattle.frames.specs.declared.fault.Checked.{Checked}
 use Rattle.frames.specs.declared.fault.Checked.the-variants.{Passed}
 use Rattle.program.specs.declared.sizes.Sizes.{Sizes}
 use Rattle.records.specs.Places.{instructionOf}
+use Rattle.records.specs.Rules as Rules
 use Rattle.records.specs.declared.line.Form.{Form}
 use Rattle.records.specs.declared.line.Form.the-variants.{Triple, Implication, Inclusion, Unlisted}
 
--- rules run 1 to 16, 20 to 27, 30 to 46
 unfoldable pub formOf : ℕ → Form
 formOf r =
-    cond (ltb r 1) Unlisted
-    (cond (leb r 16) Triple
-    (cond (ltb r 20) Unlisted
-    (cond (leb r 27) Implication
-    (cond (ltb r 30) Unlisted
-    (cond (leb r 46) Inclusion
+    cond (ltb r Rules.firstTriple) Unlisted
+    (cond (leb r Rules.lastTriple) Triple
+    (cond (ltb r Rules.firstImplication) Unlisted
+    (cond (leb r Rules.lastImplication) Implication
+    (cond (ltb r Rules.firstInclusion) Unlisted
+    (cond (leb r Rules.lastInclusion) Inclusion
     Unlisted)))))
 
 unfoldable pub premises : List ℕ → List ℕ

@@ -2,12 +2,13 @@
 use mathlib.Core.Bool.{Bool, true, false, _&&_}
 use mathlib.Core.List.{List, [], _∷_}
 use Prim.Native.Nat.{ℕ, _+_, _*_, _^_, _/_, _%_}
-use lib.Dec.{eqb}
+use lib.Dec.{eqb, leb}
 use lib.ListN.{length}
 use Rattle.logic.specs.Base.{all}
 use Rattle.logic.specs.Opcode
 use Rattle.logic.specs.Rules.{Rule, Shape, Premises, these, implications, By, r-by-f, r-by-x, x-by-f, Side, _is_with_, start-of, kept, lacks-x, no-flag, by-rows, by-table, row, r1, r2, r3, r4, r5, r6, r7, r8, r9, r10, r11, r12, r13, r14, r15, r16, r20, r21, r22, r23, r24, r25, r26, r27, r30, r31, r32, r33, r34, r35, r36, r37, r38, r39, r40, r41, r42, r43, r44, r45, r46}
 use Rattle.logic.specs.Fits.{isAmong}
+use Rattle.limits.specs.Limits as Limits
 use Rattle.limits.specs.Limits.{nesting}
 use Rattle.formula.specs.Tree.{Tree, skim}
 use Rattle.compare.specs.Same.{sameTree}
@@ -102,9 +103,13 @@ sideNumber (no-flag p ∷ l) = nothing
 sideNumber (by-rows p q ∷ l) = byRows
 sideNumber (by-table ∷ l) = byTable
 
+-- the number of premises, no more than a line may have
+abbrev pub premisesRight : Rule → Bool
+premisesRight n = eqb (ruleRow (numberOf n) .premises) (premiseCount (row n .premises)) && leb (length (shapes (row n .premises))) Limits.premises
+
 -- the code's row of the rule says what the logic's says
 abbrev pub listedRight : Rule → Bool
 listedRight n =
-    (eqb (ruleRow (numberOf n) .form) (formOf (row n .says)) && (eqb (ruleRow (numberOf n) .premises) (premiseCount (row n .premises)) && eqb (ruleRow (numberOf n) .forms) (packed (shapes (row n .premises)))))
+    (eqb (ruleRow (numberOf n) .form) (formOf (row n .says)) && (premisesRight n && eqb (ruleRow (numberOf n) .forms) (packed (shapes (row n .premises)))))
     && ((all (λ op. sameBit (allows (ruleRow (numberOf n) .operations) op) (isAmong op (row n .operations))) operations && eqb (ruleRow (numberOf n) .side) (sideNumber (row n .sides)))
     && standAt (ruleRow (numberOf n) .template) (trees (row n .says ∷ shapes (row n .premises))))

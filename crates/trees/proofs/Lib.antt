@@ -1,7 +1,6 @@
 pub mod Raw
 pub mod Replace
 pub mod Occurs
-pub mod Rows
 pub mod Shapes
 pub mod Heads
 pub mod Passed

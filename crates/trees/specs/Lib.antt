@@ -1,3 +1,2 @@
 pub mod Raw
-pub mod Rows
 pub mod Place

@@ -153,11 +153,11 @@ fn the_first_record_and_in_it_the_lowest_code_is_named() {
     expect(&bytes(&two), refused(4, 11));
 }
 
-/// The cases of `image_cases`: a length, the image, nine fields of 16 bits each, the code and the record
+/// The set `images` of `cases`: a length, the image, nine fields of 16 bits each, the code and the record
 /// first.
 #[test]
 fn stored_verdicts_are_met() {
-    let path = concat!(env!("CARGO_MANIFEST_DIR"), "/../../crates/image_cases/data/images.bin");
+    let path = concat!(env!("CARGO_MANIFEST_DIR"), "/../../crates/cases/data/images.bin");
     let stored = std::fs::read(path).expect("the stored set is there");
     let (mut rest, mut cases) = (&stored[..], 0);
     let number = |bytes: &[u8]| u16::from_le_bytes([bytes[0], bytes[1]]) as usize;

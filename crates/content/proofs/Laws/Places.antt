@@ -1,6 +1,6 @@
 -- The laws of the look-ups.
 use mathlib.Core.Path.{_≡_, refl, ap, sym, _∙_}
-use mathlib.Core.List.{List, []}
+use mathlib.Core.List.{List, [], _∷_}
 use Prim.Native.Nat.{ℕ, zero, suc, _+_, _-_, _≤_, _<_}
 use native.Mathlib.Omega.{arith}
 use lib.ListN.{length, getD, drop}
@@ -15,7 +15,10 @@ use Rattle.program.specs.declared.instruction.Instruction.{Instruction}
 use Rattle.records.specs.Line.{premises}
 use Rattle.records.specs.Places.{threadBody}
 use Rattle.records.specs.declared.tally.Tally.{Tally}
-use Rattle.records.specs.Tally.{tallyTo, tally, Small, obligationCount}
+use Rattle.records.specs.Tally.{tallyTo, tally, obligationCount}
+use Rattle.program.specs.Thread.{lastPoint}
+use Rattle.content.specs.Sums.{sumsOf}
+use Rattle.content.specs.declared.totals.Sums.{Sums}
 use Rattle.content.specs.Program.{outlineNumber}
 use Rattle.content.specs.Certificate.{left, right, lineBody}
 use Rattle.content.specs.Image.{namedLine}
@@ -106,16 +109,7 @@ acts-at s i j r e d = rw (← e) d
 
 pub ruleset acting = (acts-early, acts-writing, acts-not, acts-at)
 
--- the lines that obligations name
-
-pub named-is : (s : List ℕ) (z : Sizes) (b : List ℕ) (n i r : ℕ) → b ≡ getD (bodies s) (z .formulas + z .threads + 1 + z .lines + 1) [] → n ≡ obligationCount z (bodies s) → r ≡ getD (numbers n b) i 0
-    → r ≡ namedLine z (bodies s) i
-unfolding namedLine
-named-is s z b n i r eb en d = rw (← eb, ← en) d
-
-pub ruleset naming = (named-is)
-
--- the outline
+-- sums over the threads
 
 -- the tally goes by the thread records alone
 tally-same : (y z : Sizes) (l : List (List ℕ)) (n : ℕ) → y .formulas ≡ z .formulas → tallyTo y l n ≡ tallyTo z l n
@@ -123,11 +117,50 @@ unfolding tallyTo threadBody
 tally-same y z l zero e = refl
 tally-same y z l (suc n) e = rw (tally-same y z l n e, e)
 
-module _ (z : Sizes) (l : List (List ℕ)) (t : ℕ) where
-  pub before-is : (c : Tally) → c ≡ tally (record { threads = t - 1; words = z .words; registers = z .registers; formulas = z .formulas; lines = z .lines }) l → c .points ≡ tallyTo z l (t - 1) .points
-  unfolding tally
-  before-is c e = ap (λ (d : Tally). d .points) (e ∙ tally-same (record { threads = t - 1; words = z .words; registers = z .registers; formulas = z .formulas; lines = z .lines }) z l (t - 1) refl)
+pub before-is : (z : Sizes) (l : List (List ℕ)) (t : ℕ) (c : Tally) → c ≡ tally (record { threads = t - 1; words = z .words; registers = z .registers; formulas = z .formulas; lines = z .lines }) l → c .points ≡ tallyTo z l (t - 1) .points
+unfolding tally
+before-is z l t c e = ap (λ (d : Tally). d .points) (e ∙ tally-same (record { threads = t - 1; words = z .words; registers = z .registers; formulas = z .formulas; lines = z .lines }) z l (t - 1) refl)
 
+pub sums-are : (z : Sizes) (l : List (List ℕ)) (c : Tally) (a b d n : ℕ) → c ≡ tally z l → a ≡ tallyTo z l 0 .points → b ≡ tallyTo z l 1 .points → d ≡ tallyTo z l 2 .points → n ≡ obligationCount z l
+    → record { points = c .points; before = a ∷ b ∷ d ∷ []; obligations = n } ≡ sumsOf z l
+unfolding sumsOf
+sums-are z l c a b d n ec ea eb ed en = rw (ec, ea, eb, ed, en)
+
+pub before-known : (z : Sizes) (l : List (List ℕ)) (y : Sums) (t : ℕ) → y ≡ sumsOf z l → 1 ≤ t → t ≤ Limits.threads → getD (y .before) (t - 1) 0 ≡ tallyTo z l (t - 1) .points
+unfolding sumsOf
+before-known z l y zero e a b = absurd (omega arith)
+before-known z l y (suc zero) e a b = rw e
+before-known z l y (suc (suc zero)) e a b = rw e
+before-known z l y (suc (suc (suc zero))) e a b = rw e
+before-known z l y (suc (suc (suc (suc n)))) e a b = absurd (omega arith)
+
+pub ruleset sums = (before-is, sums-are, before-known)
+
+-- the lines that obligations name
+
+pub named-is : (s : List ℕ) (z : Sizes) (y : Sums) (b : List ℕ) (i r : ℕ) → y ≡ sumsOf z (bodies s) → b ≡ getD (bodies s) (z .formulas + z .threads + 1 + z .lines + 1) [] → r ≡ getD (numbers (y .obligations) b) i 0
+    → r ≡ namedLine z (bodies s) i
+unfolding namedLine sumsOf
+named-is s z y b i r ey eb d = rw (← eb) (d ∙ (rw ey))
+
+pub ruleset naming = (named-is)
+
+-- a thread's last point
+
+module _ (s : List ℕ) (z : Sizes) (t : ℕ) (b : List ℕ) (r : ℕ) where
+  pub last-past : Limits.records ≤ t → b ≡ getD (bodies s) t [] → r ≡ lastPoint b → r ≡ lastPoint (threadBody z (bodies s) t)
+  unfolding threadBody
+  last-past h e d = d ∙ ap lastPoint (e ∙ sym (no-body s t h) ∙ no-body s (z .formulas + t) (omega arith))
+
+  pub last-there : b ≡ getD (bodies s) (z .formulas + t) [] → r ≡ lastPoint b → r ≡ lastPoint (threadBody z (bodies s) t)
+  unfolding threadBody
+  last-there e d = d ∙ ap lastPoint e
+
+pub ruleset pointing = (last-past, last-there)
+
+-- the outline
+
+module _ (z : Sizes) (l : List (List ℕ)) (t : ℕ) where
   pub number-none : (p : ℕ) → t ≡ 0 → 0 ≡ outlineNumber z l t p
   unfolding outlineNumber
   number-none p h = rw (eq-eqb t 0 h)
@@ -137,21 +170,26 @@ module _ (z : Sizes) (l : List (List ℕ)) (t : ℕ) where
     unfolding outlineNumber
     number-absent g = rw (ne-eqb t 0 h, lt-ltb (z .threads) t g)
 
-    module _ (g : t ≤ z .threads) (c : Tally) (e : c ≡ tally z l) where
-      pub number-over : c .points ≤ p → 0 ≡ outlineNumber z l t p
-      unfolding outlineNumber
-      number-over b =
-          let q : tally z l .points ≤ tallyTo z l (t - 1) .points + p = let d = ap (λ (x : Tally). x .points) e in omega arith in
-          rw (ne-eqb t 0 h, le-ltb (z .threads) t g) (number-past (tally z l .points) (getD l (z .formulas + z .threads + 1) []) (tallyTo z l (t - 1) .points + p) q)
+    module _ (g : t ≤ z .threads) (y : Sums) (e : y ≡ sumsOf z l) where
+      points-are : y .points ≡ tally z l .points
+      unfolding sumsOf
+      points-are = rw e
 
-      pub number-there : (n r : ℕ) (b : List ℕ) → n ≡ tallyTo z l (t - 1) .points → b ≡ getD l (z .formulas + z .threads + 1) [] → r ≡ getD (numbers (c .points) b) (n + p) 0 → r ≡ outlineNumber z l t p
+      past-number : tally z l .points ≤ tallyTo z l (t - 1) .points + p → 0 ≡ outlineNumber z l t p
       unfolding outlineNumber
-      number-there n r b en eb d = rw (ne-eqb t 0 h, le-ltb (z .threads) t g, ← en, ← eb, ← e) d
+      past-number q = rw (ne-eqb t 0 h, le-ltb (z .threads) t g) (number-past (tally z l .points) (getD l (z .formulas + z .threads + 1) []) (tallyTo z l (t - 1) .points + p) q)
 
-pub small-points : (c : Tally) → Small 256 c → c .points ≤ 65536
-small-points c h = omega (arith, h .points)
+      pub number-over : y .points ≤ p → 0 ≡ outlineNumber z l t p
+      number-over b = past-number (let d = points-are in omega arith)
+
+      pub number-late : (n : ℕ) → n ≡ tallyTo z l (t - 1) .points → y .points - p ≤ n → 0 ≡ outlineNumber z l t p
+      number-late n en b = past-number (let d = points-are in omega arith)
+
+      pub number-there : (n r : ℕ) (b : List ℕ) → n ≡ tallyTo z l (t - 1) .points → b ≡ getD l (z .formulas + z .threads + 1) [] → r ≡ getD (numbers (y .points) b) (n + p) 0 → r ≡ outlineNumber z l t p
+      unfolding outlineNumber
+      number-there n r b en eb d = rw (ne-eqb t 0 h, le-ltb (z .threads) t g, ← en, ← eb, ← points-are) d
 
 pub found-at : (s : List ℕ) (k m r : ℕ) → k ≡ m → r ≡ formulaAt s k → r ≡ formulaAt s m
 found-at s k m r e d = rw (← e) d
 
-pub ruleset outlining = (before-is, number-none, number-absent, number-over, number-there, small-points, found-at)
+pub ruleset outlining = (number-none, number-absent, number-over, number-late, number-there, found-at)

@@ -10,10 +10,10 @@ use Rattle.bodies.proofs.list_body.all_outlined.Statement.{statement}
 use Rattle.bodies.proofs.list_body.all_outlined.Tie as tie
 
 abbrev Inv-loop : tie.InvT-loop
-Inv-loop s ix b n i₀ i = (i ≤ n) × (every (outlinedAt (bodies s)) (numbers n b) ≡ every (outlinedAt (bodies s)) (drop i (numbers n b)))
+Inv-loop s ix on z b n i₀ i = (i ≤ n) × (every (outlinedAt (bodies s)) (numbers n b) ≡ every (outlinedAt (bodies s)) (drop i (numbers n b)))
 
 abbrev μ-loop : tie.MeasureT-loop
-μ-loop s ix b n i₀ i = n - i
+μ-loop s ix on z b n i₀ i = n - i
 
 pub all-outlined-spec : {M : Type 1} → statement M
 all-outlined-spec =

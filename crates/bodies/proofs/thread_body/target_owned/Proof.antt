@@ -5,4 +5,5 @@ use Rattle.bodies.proofs.thread_body.target_owned.Statement.{statement}
 use Rattle.bodies.proofs.thread_body.target_owned.Tie as tie
 
 pub target-owned-spec : {M : Type 1} → statement M
-target-owned-spec = tie.close (tie.spec (λ c κs. search needs) (λ c κs. search needs) (λ c. search (instructed, tests)) (λ c. search (instructed, tests)))
+target-owned-spec =
+    tie.close (tie.spec (λ c κs. search needs) (λ c. search needs) (λ c κs. search needs) (λ c. search (instructed, tests)) (λ c. search (instructed, tests)))

@@ -9,8 +9,8 @@ stands-at-spec =
     tie.close
     (tie.spec
     (λ c. search needs)
-    (λ c κs. search needs)
+    (λ c κs. search (stands, needs))
     (λ c. search needs)
-    (λ c κs. search needs)
+    (λ c κs. search (stands, needs))
     (λ c. search (stands, tests))
     (λ c. search (stands, tests)))

@@ -1,15 +1,17 @@
-use Rattle.formula_cases.proofs.Steps.{fewer}
-use Prim.Native.Nat.{_-_}
+use mathlib.Core.Path.{_≡_}
 use lib.ListN.{length}
 use borrow.Author.Needs.{needs}
+use Rattle.stored.proofs.Cases.{bodies}
+use Rattle.stored.proofs.Tallies.{Running}
+use Rattle.formula_cases.proofs.Gathered.{gathered}
 use Rattle.formula_cases.proofs.judge.judge_all.Statement.{statement}
 use Rattle.formula_cases.proofs.judge.judge_all.Tie as tie
 
 abbrev Inv-loop : tie.InvT-loop
-Inv-loop s tally₀ at₀ tally at = Unit {0}
+Inv-loop fd space₀ stored₀ tally₀ left₀ space stored tally left = (4096 ≡ length space) × ((7 ≡ length stored) × Running tally left)
 
 abbrev μ-loop : tie.MeasureT-loop
-μ-loop s tally₀ at₀ tally at = length s - at
+μ-loop fd space₀ stored₀ tally₀ left₀ space stored tally left = left
 
 pub judge-all-spec : {M : Type 1} → statement M
 judge-all-spec =
@@ -17,14 +19,21 @@ judge-all-spec =
     (tie.spec
     Inv-loop
     μ-loop
-    (λ c κs. search needs)
-    (λ c. search needs)
-    (λ c κs. search needs)
-    (λ c. search needs)
-    (λ c κs. search needs)
-    (λ c. search (fewer, needs))
-    (λ c. search needs)
-    (λ c. search needs)
-    (λ c κs. search needs)
-    (λ c. search needs)
-    (λ c. search needs))
+    (λ c κs. search (gathered, bodies, needs))
+    (λ c κs. search (gathered, bodies, needs))
+    (λ c. search (gathered, bodies, needs))
+    (λ c. search (gathered, bodies, needs))
+    (λ c. search (gathered, bodies, needs))
+    (λ c. search (gathered, bodies, needs))
+    (λ c κs. search (gathered, bodies, needs))
+    (λ c. search (gathered, bodies, needs))
+    (λ c. search (gathered, bodies, needs))
+    (λ c. search (gathered, bodies, needs))
+    (λ c. search (gathered, bodies, needs))
+    (λ c κs. search (gathered, bodies, needs))
+    (λ c. search (gathered, bodies, needs))
+    (λ c. search (gathered, bodies, needs))
+    (λ c. search (gathered, bodies, needs))
+    (λ c. search (gathered, bodies, needs))
+    (λ c. search (gathered, bodies, needs))
+    (λ c. search (gathered, bodies, needs)))

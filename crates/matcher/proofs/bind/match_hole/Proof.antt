@@ -1,5 +1,5 @@
 use Rattle.matcher.proofs.Ways.{holes}
-use Rattle.formula.proofs.Auto.{tests}
+use Rattle.limits.proofs.Auto.{tests}
 use borrow.Author.Needs.{needs}
 use Rattle.matcher.proofs.bind.match_hole.Statement.{statement}
 use Rattle.matcher.proofs.bind.match_hole.Tie as tie
@@ -18,6 +18,9 @@ match-hole-spec =
     (λ c. search (holes, tests))
     (λ c. search needs)
     (λ c. search needs)
+    (λ c κs. search needs)
+    (λ c κs. search needs)
+    (λ c. search (holes, tests))
     (λ c κs. search needs)
     (λ c. search needs)
     (λ c. search needs)

@@ -5,4 +5,4 @@ use Rattle.program.proofs.header.start_value.Statement.{statement}
 use Rattle.program.proofs.header.start_value.Tie as tie
 
 pub start-value-spec : {M : Type 1} → statement M
-start-value-spec = tie.close (tie.spec (λ c κs. search needs) (λ c κs. search needs) (λ c. search (given, tests)))
+start-value-spec = tie.close (tie.spec (λ c κs. search needs) (λ c κs. search needs) (λ c. search needs) (λ c. search (given, tests)))

@@ -1,6 +1,6 @@
 use Rattle.frames.proofs.Laws.Checks.{joining}
-use Rattle.program.specs.Instruction.{fieldsFit}
 use Rattle.limits.proofs.Auto.{tests}
+use Rattle.program.specs.Instruction.{fieldsFit}
 use borrow.Author.Needs.{needs}
 use Rattle.program.proofs.instruction.fields_fit.Statement.{statement}
 use Rattle.program.proofs.instruction.fields_fit.Tie as tie
@@ -10,7 +10,9 @@ unfolding fieldsFit
 fields-fit-spec =
     tie.close
     (tie.spec
+    (λ c. search needs)
     (λ c κs. search needs)
+    (λ c. search needs)
     (λ c κs. search needs)
     (λ c κs. search needs)
     (λ c. search (joining, tests))

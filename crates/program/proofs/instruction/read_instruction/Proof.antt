@@ -7,4 +7,12 @@ use Rattle.program.proofs.instruction.read_instruction.Tie as tie
 pub read-instruction-spec : {M : Type 1} → statement M
 read-instruction-spec =
     tie.close
-    (tie.spec (λ c κs. search needs) (λ c κs. search needs) (λ c κs. search needs) (λ c κs. search needs) (λ c. search (threading, tests)))
+    (tie.spec
+    (λ c κs. search needs)
+    (λ c. search needs)
+    (λ c κs. search needs)
+    (λ c. search needs)
+    (λ c κs. search needs)
+    (λ c. search needs)
+    (λ c κs. search needs)
+    (λ c. search (threading, tests)))

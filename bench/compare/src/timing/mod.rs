@@ -1,0 +1,90 @@
+//! How long both checkers take, on images that ask much of one part each and on images that grow.
+
+mod images;
+mod measure;
+
+use crate::proved;
+use hidokpalu_bench::checker::{self, decode, frames, rules};
+pub use measure::median;
+use measure::medians;
+use std::hint::black_box;
+use std::path::Path;
+
+/// The target: the proved checker takes no longer than the independent one.
+const TARGET: f64 = 1.0;
+
+/// Times both checkers on the images with these names, or on all; false if an image is not accepted.
+pub fn run(names: &[&str]) -> bool {
+    println!("image                  bytes  formulas  lines   proved µs  independent µs  ratio");
+    let mut above = Vec::new();
+    for (name, make) in images::all() {
+        if !names.is_empty() && !names.contains(&name) {
+            continue;
+        }
+        let image = &make();
+        if let Err(fault) = accepted(image) {
+            println!("{name}: {fault}");
+            return false;
+        }
+        let ratio = time(name, image);
+        if ratio > TARGET {
+            above.push(name);
+        }
+    }
+    match above.is_empty() {
+        true => println!("no ratio is above {TARGET}"),
+        false => println!("above {TARGET}: {}", above.join(", ")),
+    }
+    true
+}
+
+/// Writes the images that are timed into a folder, each by its name.
+pub fn write(folder: &str) -> bool {
+    let file = |name: &str| Path::new(folder).join(format!("{}.image", name.replace(' ', "-")));
+    let written = std::fs::create_dir_all(folder).and_then(|()| {
+        images::all().iter().try_for_each(|(name, make)| std::fs::write(file(name), make()))
+    });
+    if let Err(error) = &written {
+        eprintln!("{folder}: {error}");
+    }
+    written.is_ok()
+}
+
+/// Whether both checkers accept the image, and all its lines are justified.
+fn accepted(image: &[u8]) -> Result<(), String> {
+    let codes = [proved::check_into, checker::check_into].map(|check| check(image, &mut [0; 22]));
+    if codes != [0, 0] {
+        return Err(format!("not accepted: proved {}, independent {}", codes[0], codes[1]));
+    }
+    let image = decode(image).map_err(|refusal| format!("{refusal:?}"))?;
+    match rules::justified_lines(&image).iter().position(|&justified| !justified) {
+        Some(index) => Err(format!("line {} is not justified", index + 1)),
+        None => Ok(()),
+    }
+}
+
+/// Prints how long both take, and answers with the ratio.
+fn time(name: &str, image: &[u8]) -> f64 {
+    let task = |check: fn(&[u8], &mut [u8]) -> u16| {
+        move || {
+            let mut out = [0; 22];
+            assert_eq!(black_box(check)(black_box(image), &mut out), 0);
+            black_box(out);
+        }
+    };
+    let [proved, independent] = medians(task(proved::check_into), task(checker::check_into));
+    let ratio = proved / independent;
+    let (formulas, lines) = (records(image, frames::FORMULA), records(image, frames::LINE));
+    println!(
+        "{name:<20} {:>7} {formulas:>9} {lines:>6} {:>11.2} {:>15.2} {ratio:>6.2}",
+        image.len(),
+        proved * 1e6,
+        independent * 1e6,
+    );
+    ratio
+}
+
+fn records(image: &[u8], kind: u16) -> usize {
+    let records = frames::split(image).expect("the image is accepted");
+    records.iter().filter(|record| record.kind == kind).count()
+}

@@ -1,0 +1,21 @@
+#!/usr/bin/env bash
+# Writes every stored set: those that `vectors` makes, and `examples`, the images of ../examples and the two with
+# proofs written by hand.
+#
+# Usage: stored.sh FOLDER
+set -euo pipefail
+
+mkdir -p "$1"
+folder=$(realpath "$1")
+cd "$(dirname "${BASH_SOURCE[0]}")"
+images=$(mktemp -d)
+trap 'rm -rf "$images"' EXIT
+
+(cd ../tools/outline && cargo build --quiet --release --offline -j1)
+../examples/build-all.sh "$images" >/dev/null
+cargo build --quiet --release --offline -j1 --bin vectors --bin pack
+target/release/vectors "$folder"
+for name in message-passing two-writes; do
+    cp "$folder/$name.image" "$images/$name-by-hand.image"
+done
+target/release/pack "$images" "$folder" examples

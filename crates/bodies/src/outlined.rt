@@ -1,0 +1,60 @@
+// Which formulas may stand in an outline or a triple. Many lines may name one formula, so this is found out once for
+// each formula, and a look-up costs the same however long the formula is.
+use crate::use_of::is_outlined;
+use frames::index::body_of;
+use limits::Limits;
+use program::sizes::Sizes;
+ghost use mathlib.Core.Path.{_≡_};
+ghost use Rattle.frames.specs.Records.{bodies, indexOf};
+ghost use Rattle.bodies.specs.Lists.{outlinedAt};
+ghost use Rattle.bodies.specs.Outlined.{entries, outlinedOf};
+
+// Entry k: formula k is an assertion without start. Entry 0 is the header's.
+pub struct Outlined {
+    pub on: [bool; Limits::FORMULAS + 1],
+}
+
+// How many entries are filled.
+fn entry_count(z: Sizes) -> usize
+    ensures { λ r. ⌜ r ≡ entries z ⌝ }
+{
+    if Limits::FORMULAS <= (z.formulas as usize) {
+        return Limits::FORMULAS + 1;
+    }
+    (z.formulas as usize) + 1
+}
+
+pub fn outlined_of<'a, 'b>(s: &'a [u8], ix: &'b [usize], z: Sizes) -> Outlined
+    requires { ⌜ now ix ≡ indexOf (now s) ⌝ }
+    ensures { λ r. ⌜ r .on ≡ outlinedOf z (bodies (now (s .entry))) ⌝ }
+{
+    let n = entry_count(z);
+    let mut o = Outlined {
+        on: [false; Limits::FORMULAS + 1],
+    };
+    let mut k: usize = 0;
+    while k < n {
+        let b = body_of(s, ix, k);
+        o.on[k] = is_outlined(b);
+        k += 1;
+    }
+    o
+}
+
+// Formula k. With a number that no formula has, the body is looked at.
+pub fn formula_outlined<'a, 'b, 'c>(
+    s: &'a [u8],
+    ix: &'b [usize],
+    on: &'c [bool],
+    z: Sizes,
+    k: usize,
+) -> bool
+    requires { ⌜ (now ix ≡ indexOf (now s)) × (now on ≡ outlinedOf z (bodies (now s))) ⌝ }
+    ensures { λ r. ⌜ r ≡ outlinedAt (bodies (now (s .entry))) k ⌝ }
+{
+    if k < entry_count(z) {
+        return on[k];
+    }
+    let b = body_of(s, ix, k);
+    is_outlined(b)
+}

@@ -1,0 +1,61 @@
+-- Code 0 is given to accepted images alone, and these are true in every run.
+use mathlib.Core.Path.{_≡_, refl, ap, sym, _∙_, subst}
+use mathlib.Core.Bool.{Bool, true, false, cond}
+use mathlib.Core.List.{List}
+use mathlib.Core.Logic.{_≢_}
+use Prim.Native.Nat.{ℕ, _<_}
+use native.Mathlib.Omega.{arith}
+use lib.Dec.{ltb}
+use lib.ListN.{length}
+use Rattle.frames.specs.Fault.{codeOf}
+use Rattle.frames.specs.declared.fault.Fault.{Fault}
+use Rattle.frames.specs.declared.fault.Fault.the-variants.{Size, Length, Kind, Body, Number, Formula, Sort, Owner}
+use Rattle.outline.specs.Verdict.{Image, Outcome, met, failed, outcome}
+use Rattle.outline.proofs.Accept.{failed-first}
+use Rattle.content.specs.Image.{Result, refused, read, decode}
+use Rattle.content.proofs.Admitted.{accepted-every-run}
+use Rattle.report.specs.Fields.{fieldsOf}
+use Rattle.report.specs.Output.{codeFor, bytesFor}
+use Rattle.report.specs.Record.{size}
+use Rattle.report.specs.declared.verdict.Verdict.{Verdict}
+use Rattle.checker.specs.Answer.{judged, answered, verdict}
+use Rattle.checker.specs.Promise.{TrueInEveryRun, Promise}
+
+fault-code : (f : Fault) → codeOf f ≢ 0
+unfolding codeOf
+fault-code Size e = omega arith
+fault-code Length e = omega arith
+fault-code Kind e = omega arith
+fault-code Body e = omega arith
+fault-code Number e = omega arith
+fault-code Formula e = omega arith
+fault-code Sort e = omega arith
+fault-code Owner e = omega arith
+
+module _ (s : List ℕ) where
+  abbrev code : Result → ℕ
+  code d = fieldsOf (answered d) .code
+
+  met-true : (D : Image) → decode s ≡ read D → (o : Outcome) → outcome D ≡ o → fieldsOf (judged o) .code ≡ 0 → TrueInEveryRun s
+  unfolding fieldsOf
+  met-true D d (met n) e h = record { content = D; says = d; holds = accepted-every-run s D n d e }
+  met-true D d (failed c o l n) e h = absurd (failed-first D c o l n e .bad h)
+
+  read-true : (d : Result) → decode s ≡ d → code d ≡ 0 → TrueInEveryRun s
+  unfolding fieldsOf
+  read-true (refused f i) e h = absurd (fault-code f h)
+  read-true (read D) e h = met-true D e (outcome D) refl h
+
+  accepted-true : (b : List ℕ) → codeFor (verdict s) b ≡ 0 → TrueInEveryRun s
+  unfolding codeFor verdict
+  accepted-true b h = go (ltb (length b) size) h
+    where
+      go : (x : Bool) → cond x 1 (code (decode s)) ≡ 0 → TrueInEveryRun s
+      go true h = absurd (omega arith)
+      go false h = read-true (decode s) refl h
+
+  -- DEMANDS 1, 2 AND 3, of what the code answers and leaves in the buffer
+  pub promised : (b : List ℕ) (v : Verdict) (c : ℕ) (after : List ℕ) → v ≡ verdict s → c ≡ codeFor v b → after ≡ bytesFor v b → Promise s b c after
+  promised b v c after e f g =
+      let q : c ≡ codeFor (verdict s) b = f ∙ ap (λ (w : Verdict). codeFor w b) e in
+      record { returned = q; written = g ∙ ap (λ (w : Verdict). bytesFor w b) e; accepted = λ h. accepted-true b (sym q ∙ h) }

@@ -1,0 +1,8 @@
+use Rattle.checker.proofs.Accepted.{promised}
+use Rattle.limits.proofs.Auto.{tests}
+use borrow.Author.Needs.{needs}
+use Rattle.checker.proofs.entry.check_image.Statement.{statement}
+use Rattle.checker.proofs.entry.check_image.Tie as tie
+
+pub check-image-spec : {M : Type 1} → statement M
+check-image-spec = tie.close (tie.spec (λ c κs. search needs) (λ c κs. search needs) (λ c. search needs) (λ c. search (promised, tests)))

@@ -1,0 +1,16 @@
+use Rattle.checker.proofs.Ways.{sound}
+use Rattle.limits.proofs.Auto.{tests}
+use borrow.Author.Needs.{needs}
+use Rattle.checker.proofs.judge.judge_sound.Statement.{statement}
+use Rattle.checker.proofs.judge.judge_sound.Tie as tie
+
+pub judge-sound-spec : {M : Type 1} → statement M
+judge-sound-spec =
+    tie.close
+    (tie.spec
+    (λ c κs. search needs)
+    (λ c κs. search needs)
+    (λ c. search needs)
+    (λ c. search needs)
+    (λ c. search (sound, tests))
+    (λ c. search (sound, tests)))

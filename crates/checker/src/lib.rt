@@ -1,0 +1,3 @@
+// The checker: one image in, one verdict out. `check_image` is its entry point.
+pub mod entry;
+pub mod judge;

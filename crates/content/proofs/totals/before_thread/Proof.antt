@@ -1,0 +1,16 @@
+use Rattle.content.proofs.Laws.Places.{sums}
+use Rattle.limits.proofs.Auto.{tests}
+use borrow.Author.Needs.{needs}
+use Rattle.content.proofs.totals.before_thread.Statement.{statement}
+use Rattle.content.proofs.totals.before_thread.Tie as tie
+
+pub before-thread-spec : {M : Type 1} → statement M
+before-thread-spec =
+    tie.close
+    (tie.spec
+    (λ c. search needs)
+    (λ c. search needs)
+    (λ c. search needs)
+    (λ c. search (sums, tests))
+    (λ c κs. search needs)
+    (λ c. search needs))

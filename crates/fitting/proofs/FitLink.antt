@@ -1,0 +1,185 @@
+-- A line fits by positions exactly if it fits by trees.
+use mathlib.Core.Path.{_≡_, refl, ap, ap₂, sym, _∙_, subst, subst₂}
+use mathlib.Core.Bool.{Bool, true, false, not, cond, _&&_, _||_}
+use mathlib.Core.List.{List, [], _∷_, map}
+use mathlib.Core.Option.{Option, none, some}
+use Prim.Native.Nat.{ℕ, zero, suc, _+_, _≤_, _<_}
+use native.Mathlib.Omega.{arith}
+use lib.Dec.{eqb, ltb, leb}
+use lib.ListN.{length}
+use borrow.Author.Tests.{eqb-true, eqb-false, eq-eqb, ne-eqb, lt-ltb}
+use Rattle.logic.specs.Base.{all}
+use Rattle.logic.specs.Opcode
+use Rattle.logic.specs.Rules.{Rule, Shape, Premises, these, implications, Row, row}
+use Rattle.logic.specs.Fits.{isAmong}
+use Rattle.limits.specs.Limits as Limits
+use Rattle.formula.specs.Codes.{member}
+use Rattle.matcher.specs.Match.{Taken, andThen}
+use Rattle.matcher.specs.Places.{takenOf}
+use Rattle.matcher.specs.Template.{shapes}
+use Rattle.matcher.specs.declared.bind.Bind.{Bind}
+use Rattle.matcher.specs.declared.matching.Match.{Match}
+use Rattle.matcher.proofs.Follow.{Sized, given, when-given}
+use Rattle.certificate.specs.FitT as FitT
+use Rattle.certificate.specs.FitT.{Said, hoare, implication, formOf, matchLine, matchAll, isImplication, preset, holesFrom, sideT, operationT, restT, answer, fitsT}
+use Rattle.content.specs.Trees.{actingAt}
+use Rattle.content.specs.declared.line.Line.{Line}
+use Rattle.content.specs.declared.acting.Acting.{Acting}
+use Rattle.rulebook.specs.Rulebook.{anyImplications, ruleRow, templates}
+use Rattle.rulebook.specs.Listed.{numberOf, packed, premiseCount, allows, sideNumber}
+use Rattle.rulebook.specs.declared.rule.Rule as Code
+use Rattle.fitting.specs.Claim.{saidAt, claimAt, claimsFrom, matchClaim, matchFrom}
+use Rattle.fitting.specs.LineClaim.{claimBy}
+use Rattle.fitting.specs.Premises.{isImplicationAt, allImplications, matchPremises}
+use Rattle.fitting.specs.Preset.{presetAt}
+use Rattle.fitting.specs.Asked.{asked}
+use Rattle.fitting.specs.Fit.{isAllowed, restAt, thenAsk, fitsRow}
+use Rattle.fitting.specs.declared.claim.Claim.{Claim}
+use Rattle.fitting.specs.declared.claim.Premises as Claims
+use Rattle.fitting.proofs.Follow.{StandAll, behind, ClaimFollows, claim-follows, from-follows}
+use Rattle.fitting.proofs.Known.{preset-sized, preset-taken}
+use Rattle.fitting.proofs.Row.{row-form, row-premises, row-few, row-forms, row-side, row-stands, row-operations}
+use Rattle.fitting.proofs.SidesLink.{startOf, sides-are}
+
+and-cond : (a b : Bool) → a && b ≡ cond a b false
+and-cond true b = refl
+and-cond false b = refl
+
+-- PREMISES
+
+then-none : {A B : Type 0} (o : Option A) (f : A → Option B) → ((a : A) → f a ≡ none) → andThen o f ≡ none
+then-none none f h = refl
+then-none (some a) f h = h a
+
+-- not as many as the rule has
+other-count : (i k : ℕ) (l : List Shape) (vs : List Said) (b : Taken) → (length l ≡ length vs → ⊥) → matchAll i k l vs b ≡ none
+other-count i k [] [] b n = absurd (n refl)
+other-count i k [] (v ∷ vs) b n = refl
+other-count i k (m ∷ l) [] b n = refl
+other-count i k (m ∷ l) (v ∷ vs) b n = then-none (matchLine i k m v b) (matchAll i k l vs) (λ z. other-count i k l vs z (λ e. n (omega arith)))
+
+four : (a b c d : Bool) → a && (b && (c && (d && true))) ≡ cond a (cond b (cond c d false) false) false
+four true true true true = refl
+four true true true false = refl
+four true true false d = refl
+four true false c d = refl
+four false b c d = refl
+
+module _ (s : List ℕ) (p : Claims.Premises) where
+  abbrev is : ℕ → Bool
+  is j = eqb (claimAt p j .form) implication
+
+  claims-length : (n j : ℕ) → length (map (saidAt s) (claimsFrom p n j)) ≡ n
+  claims-length zero j = refl
+  claims-length (suc n) j = ap (λ (m : ℕ). suc m) (claims-length n (j + 1))
+
+  abbrev pub says : List Said
+  says = map (saidAt s) (claimsFrom p (p .count) 0)
+
+  -- at most four, implications all of them
+  implications-are : (n : ℕ) → p .count ≡ n → n ≤ Limits.premises → leb (length (map (saidAt s) (claimsFrom p n 0))) Limits.premises && all isImplication (map (saidAt s) (claimsFrom p n 0)) ≡ allImplications p
+  unfolding allImplications isImplicationAt claimAt
+  implications-are zero e h = rw e
+  implications-are (suc zero) e h = rw e (four (is 0) true true true)
+  implications-are (suc (suc zero)) e h = rw e (four (is 0) (is 1) true true)
+  implications-are (suc (suc (suc zero))) e h = rw e (four (is 0) (is 1) (is 2) true)
+  implications-are (suc (suc (suc (suc zero)))) e h = rw e (four (is 0) (is 1) (is 2) (is 3))
+  implications-are (suc (suc (suc (suc (suc n))))) e h = absurd (omega arith)
+
+  module _ (thread point i : ℕ) (w : Code.Rule) (b : Bind) (z : Sized b) (few : p .count ≤ Limits.premises) where
+    abbrev found : Match
+    found = matchPremises s templates i w thread point p b
+
+    premises-same : (W : Premises) → w .premises ≡ premiseCount W → w .forms ≡ packed (shapes W) → length (shapes W) ≤ Limits.premises → StandAll templates i (shapes W)
+        → FitT.matchPremises thread point W says (takenOf s b) ≡ given s (found .ok) (found .bind)
+    unfolding matchPremises
+    premises-same implications e f h st =
+        rw (eq-eqb (w .premises) anyImplications e) (when-given s (leb (length says) Limits.premises && all isImplication says) b ∙ ap (λ (x : Bool). given s x b) (implications-are (p .count) refl few))
+    premises-same (these l) e f h st = rw (ne-eqb (w .premises) anyImplications (λ (q : w .premises ≡ anyImplications). omega arith)) (go (eqb (w .premises) (p .count)) refl)
+      where
+        go : (x : Bool) → eqb (w .premises) (p .count) ≡ x
+            → matchAll thread point l says (takenOf s b)
+            ≡ given s (cond x (matchFrom s templates thread point p (p .count) i (w .forms) 0 b) (record { ok = false; tpl = i; next = 0; bind = b }) .ok)
+            (cond x (matchFrom s templates thread point p (p .count) i (w .forms) 0 b) (record { ok = false; tpl = i; next = 0; bind = b }) .bind)
+        go true d =
+            let q : p .count ≡ length l = sym (eqb-true (w .premises) (p .count) d) ∙ e in
+            subst₂
+            (λ (n g : ℕ). matchAll thread point l (map (saidAt s) (claimsFrom p n 0)) (takenOf s b) ≡ given s (matchFrom s templates thread point p n i g 0 b .ok) (matchFrom s templates thread point p n i g 0 b .bind))
+            (sym q) (sym f) (from-follows s templates thread point p l i 0 b z st .same)
+        go false d = other-count thread point l says (takenOf s b) (λ q. eqb-false (w .premises) (p .count) d (e ∙ q ∙ claims-length (p .count) 0))
+
+-- THE LINE
+
+module _ (s : List ℕ) (n : Rule) (l : Line) (named : l .rule ≡ numberOf n) (a : Acting) (known : a .operation ≤ Opcode.branch) (p : Claims.Premises) (few : p .count ≤ Limits.premises) where
+  abbrev c : Claim
+  c = claimBy l
+
+  abbrev w : Code.Rule
+  w = ruleRow (l .rule)
+
+  abbrev A : FitT.Acting
+  A = actingAt s a
+
+  -- the row of its rule
+  its : {B : Type 0} (f : Code.Rule → B) → f w ≡ f (ruleRow (numberOf n))
+  its f = ap (λ (k : ℕ). f (ruleRow k)) named
+
+  form-is : w .form ≡ formOf (row n .says)
+  form-is = its (λ r. r .form) ∙ row-form n
+
+  operation-is : operationT Limits.values (startOf s) A (formOf (row n .says)) (row n .operations) ≡ isAllowed w (a .operation)
+  unfolding isAllowed member
+  operation-is = rw (form-is, lt-ltb (a .operation) 32 (omega arith)) (go (eqb (formOf (row n .says)) hoare) ∙ ap (λ (x : Bool). cond (eqb (formOf (row n .says)) hoare) x true) bits)
+    where
+      go : (h : Bool) → not h || isAmong (a .operation) (row n .operations) ≡ cond h (isAmong (a .operation) (row n .operations)) true
+      go true = refl
+      go false = refl
+
+      bits : isAmong (a .operation) (row n .operations) ≡ allows (w .operations) (a .operation)
+      bits = sym (its (λ r. allows (r .operations) (a .operation)) ∙ row-operations n (a .operation) known)
+
+  rest-is : (b : Bind) → restT Limits.values (startOf s) A (row n) (saidAt s c) (says s p) (takenOf s b) ≡ restAt s w a c p b
+  unfolding restAt
+  rest-is b = ap₂ _&&_ operation-is (sides-are s b a c p few n ∙ ap (λ (k : ℕ). asked s k b a c p) (sym (its (λ r. r .side) ∙ row-side n))) ∙ and-cond (isAllowed w (a .operation)) (asked s (w .side) b a c p)
+
+  abbrev b₀ : Bind
+  b₀ = presetAt (l .thread) (a .word) (a .register) (a .formula)
+
+  abbrev m : Match
+  m = matchClaim s templates (w .template) (w .form) (c .thread) (c .point) c b₀
+
+  stands : StandAll templates (w .template) (row n .says ∷ shapes (row n .premises))
+  stands = subst (λ (i : ℕ). StandAll templates i (row n .says ∷ shapes (row n .premises))) (sym (its (λ r. r .template))) (row-stands n)
+
+  follows : ClaimFollows s templates (w .template) (c .thread) (c .point) (row n .says) c b₀ m
+  follows =
+      subst (λ (f : ℕ). ClaimFollows s templates (w .template) (c .thread) (c .point) (row n .says) c b₀ (matchClaim s templates (w .template) f (c .thread) (c .point) c b₀)) (sym form-is)
+      (claim-follows s templates (w .template) (c .thread) (c .point) (row n .says) c b₀ (preset-sized (l .thread) (a .word) (a .register) (a .formula)) (stands .0))
+
+  line-same : matchLine (c .thread) (c .point) (row n .says) (saidAt s c) (preset (c .thread) A) ≡ given s (m .ok) (m .bind)
+  unfolding claimBy
+  line-same = ap (matchLine (c .thread) (c .point) (row n .says) (saidAt s c)) (sym (preset-taken s (l .thread) (a .operation) (a .word) (a .register) (a .formula))) ∙ follows .same
+
+  abbrev q : Match
+  q = matchPremises s templates (m .tpl) w (c .thread) (c .point) p (m .bind)
+
+  rests-same : m .ok ≡ true → FitT.matchPremises (c .thread) (c .point) (row n .premises) (says s p) (takenOf s (m .bind)) ≡ given s (q .ok) (q .bind)
+  rests-same o =
+      premises-same s p (c .thread) (c .point) (m .tpl) w (m .bind) (follows .sized) few (row n .premises) (its (λ r. r .premises) ∙ row-premises n) (its (λ r. r .forms) ∙ row-forms n) (row-few n)
+      (subst (λ (i : ℕ). StandAll templates i (shapes (row n .premises))) (sym (follows .tpl o)) (stands .1))
+
+  abbrev asks : Taken → Bool
+  asks = restT Limits.values (startOf s) A (row n) (saidAt s c) (says s p)
+
+  pub fits-same : fitsT Limits.values (startOf s) A n (saidAt s c) (says s p) ≡ fitsRow s templates l a p
+  unfolding fitsRow
+  fits-same = ap (λ (o : Option Taken). answer Limits.values (startOf s) A (andThen o (FitT.matchPremises (c .thread) (c .point) (row n .premises) (says s p))) asks) line-same ∙ go (m .ok) refl
+    where
+      then : (k : Bool) → answer Limits.values (startOf s) A (given s k (q .bind)) asks ≡ cond k (restAt s w a c p (q .bind)) false
+      then true = rest-is (q .bind)
+      then false = refl
+
+      go : (k : Bool) → m .ok ≡ k → answer Limits.values (startOf s) A (andThen (given s k (m .bind)) (FitT.matchPremises (c .thread) (c .point) (row n .premises) (says s p))) asks
+          ≡ cond k (cond (q .ok) (restAt s w a c p (q .bind)) false) false
+      go true e = ap (λ (o : Option Taken). answer Limits.values (startOf s) A o asks) (rests-same e) ∙ then (q .ok)
+      go false e = refl

@@ -1,0 +1,17 @@
+use Rattle.fitting.proofs.Judging.{fitting}
+use Rattle.limits.proofs.Auto.{tests}
+use borrow.Author.Needs.{needs}
+use Rattle.fitting.proofs.fit.fits_line.Statement.{statement}
+use Rattle.fitting.proofs.fit.fits_line.Tie as tie
+
+pub fits-line-spec : {M : Type 1} → statement M
+fits-line-spec =
+    tie.close
+    (tie.spec
+    (λ c κs. search needs)
+    (λ c. search needs)
+    (λ c. search needs)
+    (λ c κs. search needs)
+    (λ c κs. search needs)
+    (λ c κs. search needs)
+    (λ c. search (fitting, tests)))

@@ -1,0 +1,50 @@
+-- Whether a line fits its rule, by positions.
+use mathlib.Core.Bool.{Bool, true, false, cond}
+use mathlib.Core.List.{List}
+use Prim.Native.Nat.{ℕ}
+use lib.Dec.{eqb}
+use Rattle.formula.specs.Codes.{member}
+use Rattle.frames.specs.Records.{bodies}
+use Rattle.program.specs.declared.sizes.Sizes.{Sizes}
+use Rattle.records.specs.Places.{instructionOf}
+use Rattle.matcher.specs.declared.bind.Bind.{Bind}
+use Rattle.matcher.specs.declared.matching.Match.{Match}
+use Rattle.certificate.specs.FitT.{hoare}
+use Rattle.content.specs.Places.{actingOf}
+use Rattle.content.specs.declared.line.Line.{Line}
+use Rattle.content.specs.declared.acting.Acting.{Acting}
+use Rattle.rulebook.specs.Rulebook.{ruleRow}
+use Rattle.rulebook.specs.declared.rule.Rule.{Rule}
+use Rattle.fitting.specs.Claim.{matchClaim}
+use Rattle.fitting.specs.LineClaim.{claimBy, lineAt}
+use Rattle.fitting.specs.Premises.{premisesOf, matchPremises}
+use Rattle.fitting.specs.Preset.{presetAt}
+use Rattle.fitting.specs.Asked.{asked}
+use Rattle.fitting.specs.declared.claim.Claim.{Claim}
+use Rattle.fitting.specs.declared.claim.Premises.{Premises}
+
+-- a triple's rule has the operation among its own
+unfoldable pub isAllowed : Rule → ℕ → Bool
+isAllowed w op = cond (eqb (w .form) hoare) (member (w .operations) op) true
+
+-- what is left to ask once the templates are matched
+unfoldable pub restAt : List ℕ → Rule → Acting → Claim → Premises → Bind → Bool
+restAt s w a c p b = cond (isAllowed w (a .operation)) (asked s (w .side) b a c p) false
+
+-- if it matches, what comes then
+abbrev pub thenAsk : Match → (Match → Bool) → Bool
+thenAsk m f = cond (m .ok) (f m) false
+
+-- line, premises, then the rest, with the templates t
+unfoldable pub fitsRow : List ℕ → List ℕ → Line → Acting → Premises → Bool
+fitsRow s t l a p =
+    thenAsk (matchClaim s t (ruleRow (l .rule) .template) (ruleRow (l .rule) .form) (claimBy l .thread) (claimBy l .point) (claimBy l) (presetAt (l .thread) (a .word) (a .register) (a .formula)))
+    (λ m. thenAsk (matchPremises s t (m .tpl) (ruleRow (l .rule)) (claimBy l .thread) (claimBy l .point) p (m .bind)) (λ q. restAt s (ruleRow (l .rule)) a (claimBy l) p (q .bind)))
+
+-- the instruction of a line
+unfoldable pub actingIn : List ℕ → Sizes → Line → Acting
+actingIn s z l = actingOf s (instructionOf z (bodies s) (l .thread) (l .point))
+
+-- line n
+unfoldable pub fitsLine : List ℕ → List ℕ → Sizes → ℕ → Bool
+fitsLine s t z n = fitsRow s t (lineAt s z n) (actingIn s z (lineAt s z n)) (premisesOf s z n (lineAt s z n .count))

@@ -1,0 +1,89 @@
+// Whether a line fits its rule.
+use crate::asked::is_asked;
+use crate::claim::Claim;
+use crate::claim::Premises;
+use crate::claim::match_claim;
+use crate::line_claim::claim_by;
+use crate::premises::match_premises;
+use crate::premises::premises_of;
+use crate::preset::preset_at;
+use content::acting::Acting;
+use content::acting::acting_of;
+use content::line::Line;
+use content::line::line_of;
+use formula::code::contains;
+use matcher::bind::Bind;
+use program::sizes::Sizes;
+use rulebook::rule::Form;
+use rulebook::rule::Rule;
+use rulebook::rule::rule_at;
+ghost use mathlib.Core.Path.{_≡_};
+ghost use Rattle.frames.specs.Records.{indexOf};
+ghost use Rattle.fitting.specs.Fit.{isAllowed, restAt, fitsRow, fitsLine};
+
+// A triple's rule has the operation among its own.
+fn is_allowed(w: Rule, operation: u8) -> bool
+    ensures { λ r. ⌜ r ≡ isAllowed w operation ⌝ }
+{
+    if w.form == Form::TRIPLE {
+        return contains(w.operations as u32, operation);
+    }
+    true
+}
+
+// What is left to ask once the templates are matched.
+fn fits_rest<'a, 'b>(
+    s: &'a [u8],
+    ix: &'b [usize],
+    w: Rule,
+    a: Acting,
+    c: Claim,
+    p: Premises,
+    b: Bind,
+) -> bool
+    requires { ⌜ now ix ≡ indexOf (now s) ⌝ }
+    ensures { λ r. ⌜ r ≡ restAt (now (s .entry)) w a c p b ⌝ }
+{
+    if is_allowed(w, a.operation) {
+        return is_asked(s, ix, w.side, b, a, c, p);
+    }
+    false
+}
+
+// Line, premises, then the rest, with the templates t.
+fn fits_row<'a, 'b, 'c>(
+    s: &'a [u8],
+    ix: &'b [usize],
+    t: &'c [u8],
+    l: Line,
+    a: Acting,
+    p: Premises,
+) -> bool
+    requires { ⌜ now ix ≡ indexOf (now s) ⌝ }
+    ensures { λ r. ⌜ r ≡ fitsRow (now (s .entry)) (now (t .entry)) l a p ⌝ }
+{
+    let w = rule_at(l.rule);
+    let c = claim_by(l);
+    let b = preset_at(l.thread, a.word, a.register, a.formula);
+    let m = match_claim(s, t, w.template, w.form, c.thread, c.point, c, b);
+    if m.ok {
+        let n = m.bind;
+        let q = match_premises(s, t, m.tpl, w, c.thread, c.point, p, n);
+        if q.ok {
+            let d = q.bind;
+            return fits_rest(s, ix, w, a, c, p, d);
+        }
+    }
+    false
+}
+
+// Whether line n fits its rule.
+pub fn fits_line<'a, 'b, 'c>(s: &'a [u8], ix: &'b [usize], t: &'c [u8], z: Sizes, n: usize) -> bool
+    requires { ⌜ now ix ≡ indexOf (now s) ⌝ }
+    ensures { λ r. ⌜ r ≡ fitsLine (now (s .entry)) (now (t .entry)) z n ⌝ }
+{
+    let l = line_of(s, ix, z, n);
+    let a = acting_of(s, ix, z, l.thread as usize, l.point as usize);
+    let p = premises_of(s, ix, z, n, l.count);
+    fits_row(s, ix, t, l, a, p)
+}

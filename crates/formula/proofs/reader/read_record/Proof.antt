@@ -1,0 +1,10 @@
+use Rattle.formula.proofs.Faults.{body-reads}
+use Rattle.formula.proofs.Auto.{tests}
+use borrow.Author.Needs.{needs}
+use Rattle.formula.proofs.reader.read_record.Statement.{statement}
+use Rattle.formula.proofs.reader.read_record.Tie as tie
+
+pub read-record-spec : {M : Type 1} → statement M
+read-record-spec =
+    tie.close
+    (tie.spec (λ c. search (body-reads, tests)) (λ c. search needs) (λ c κs. search needs) (λ c. search (body-reads, tests)) (λ c. search (body-reads, tests)) (λ c. search (body-reads, tests)))

@@ -1,0 +1,26 @@
+// A cursor onto a record: the record's bytes, and the position at which reading begins.
+use crate::reader::Counts;
+use crate::reader::Reading;
+use crate::reader::read_record;
+ghost use mathlib.Core.Path.{_≡_};
+ghost use Rattle.formula.specs.Reader.{readingFrom};
+
+pub struct Cursor<'a> {
+    pub src: &'a [u8],
+    pub at: usize,
+}
+
+impl<'a> Cursor<'a> {
+    pub fn new(src: &'a [u8], at: usize) -> Cursor<'a>
+        ensures { λ r. ⌜ (r .src ≡ src .entry) × (r .at ≡ at) ⌝ }
+    {
+        Cursor { src, at }
+    }
+
+    // The formula that the rest of the record is.
+    pub fn formula(self, n: Counts) -> Reading
+        ensures { λ r. ⌜ r ≡ readingFrom (now (self .entry .src)) n (self .entry .at) ⌝ }
+    {
+        read_record(self.src, self.at, n)
+    }
+}

@@ -1,0 +1,18 @@
+-- The tally of a file, case by case.
+use mathlib.Core.Path.{_≡_}
+use mathlib.Core.List.{List}
+use Prim.Native.Nat.{ℕ, _-_, _<_}
+use lib.ListN.{drop}
+use Rattle.limits.specs.Numbers.{word}
+use Rattle.formula.specs.Reader.{readingOf}
+use Rattle.stored.specs.declared.tally.Tally.{Tally}
+use Rattle.stored.proofs.Tallies.{Running, running-none, running-more, running-over}
+use Rattle.formula_cases.specs.Answer.{kindOf, isAnswer}
+use Rattle.formula_cases.specs.Judge.{countsAt, withFormula}
+
+pub running-formula : (t q : Tally) (left : ℕ) (body s : List ℕ) → 0 < left → Running t left → q ≡ withFormula t body s → Running q (left - 1)
+unfolding withFormula
+running-formula t q left body s h f e =
+    running-more t q left (kindOf (readingOf body (countsAt s))) (isAnswer (readingOf body (countsAt s)) (word (drop 3 s)) (word (drop 5 s))) h f e
+
+pub ruleset gathered = (running-none, running-formula, running-over)

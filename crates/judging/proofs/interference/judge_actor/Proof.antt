@@ -1,0 +1,31 @@
+use Rattle.judging.proofs.Walks.{acting-all, acting-more, acting-none, actions-self}
+use Prim.Native.Nat.{_-_, _≤_, _<_}
+use mathlib.Core.Path.{_≡_}
+use Rattle.frames.specs.Records.{bodies}
+use Rattle.program.specs.Thread.{lastPoint}
+use Rattle.records.specs.Places.{threadBody}
+use Rattle.judging.specs.Walk.{actingTo}
+use Rattle.limits.proofs.Auto.{tests}
+use Rattle.judging.proofs.interference.judge_actor.Statement.{statement}
+use Rattle.judging.proofs.interference.judge_actor.Tie as tie
+
+abbrev Inv-loop : tie.InvT-loop
+Inv-loop s ix z y m u j t last q₀ k₀ q k = (last ≡ lastPoint (threadBody z (bodies s) t)) × ((last < 256) × ((k ≤ last) × (q ≡ actingTo s z m u j t k q₀)))
+
+abbrev μ-loop : tie.MeasureT-loop
+μ-loop s ix z y m u j t last q₀ k₀ q k = last - k
+
+pub judge-actor-spec : {M : Type 1} → statement M
+judge-actor-spec =
+    tie.close
+    (tie.spec
+    Inv-loop
+    μ-loop
+    (λ c. search (actions-self, acting-all, tests))
+    (λ c κs. search tests)
+    (λ c. (search tests, (search tests, (search tests, search (acting-none, tests)))))
+    (λ c κs. search tests)
+    (λ c. search tests)
+    (λ c. search tests)
+    (λ c. (search tests, (search tests, (search tests, search (acting-more, tests)))))
+    (λ c. search (actions-self, acting-all, tests)))

@@ -1,0 +1,30 @@
+use Rattle.judging.proofs.Walks.{asserted-all, asserted-more, asserted-none}
+use Prim.Native.Nat.{_+_, _-_, _≤_, _<_}
+use mathlib.Core.Path.{_≡_}
+use Rattle.frames.specs.Records.{bodies}
+use Rattle.program.specs.Thread.{lastPoint}
+use Rattle.records.specs.Places.{threadBody}
+use Rattle.judging.specs.Walk.{assertedTo}
+use Rattle.limits.proofs.Auto.{tests}
+use Rattle.judging.proofs.interference.judge_asserting.Statement.{statement}
+use Rattle.judging.proofs.interference.judge_asserting.Tie as tie
+
+abbrev Inv-loop : tie.InvT-loop
+Inv-loop s ix z y m u last q₀ j₀ q j = (last ≡ lastPoint (threadBody z (bodies s) u)) × ((last < 256) × ((j ≤ last + 1) × (q ≡ assertedTo s z m u j q₀)))
+
+abbrev μ-loop : tie.MeasureT-loop
+μ-loop s ix z y m u last q₀ j₀ q j = last + 1 - j
+
+pub judge-asserting-spec : {M : Type 1} → statement M
+judge-asserting-spec =
+    tie.close
+    (tie.spec
+    Inv-loop
+    μ-loop
+    (λ c κs. search tests)
+    (λ c. (search tests, (search tests, (search tests, search (asserted-none, tests)))))
+    (λ c κs. search tests)
+    (λ c. search tests)
+    (λ c. search tests)
+    (λ c. (search tests, (search tests, (search tests, search (asserted-more, tests)))))
+    (λ c. search (asserted-all, tests)))

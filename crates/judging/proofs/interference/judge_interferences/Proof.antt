@@ -1,0 +1,27 @@
+use Rattle.judging.proofs.Walks.{interferences-all, interferences-more, interferences-none}
+use Prim.Native.Nat.{_-_, _≤_, _<_}
+use mathlib.Core.Path.{_≡_}
+use Rattle.judging.specs.Walk.{interferencesTo}
+use Rattle.limits.proofs.Auto.{tests}
+use Rattle.judging.proofs.interference.judge_interferences.Statement.{statement}
+use Rattle.judging.proofs.interference.judge_interferences.Tie as tie
+
+abbrev Inv-loop : tie.InvT-loop
+Inv-loop s ix z y m threads q₀ u₀ q u = (threads ≡ z .threads) × ((threads < 256) × ((u ≤ threads) × (q ≡ interferencesTo s z m u q₀)))
+
+abbrev μ-loop : tie.MeasureT-loop
+μ-loop s ix z y m threads q₀ u₀ q u = threads - u
+
+pub judge-interferences-spec : {M : Type 1} → statement M
+judge-interferences-spec =
+    tie.close
+    (tie.spec
+    Inv-loop
+    μ-loop
+    (λ c. search tests)
+    (λ c. (search tests, (search tests, (search tests, search (interferences-none, tests)))))
+    (λ c. search tests)
+    (λ c κs. search tests)
+    (λ c. search tests)
+    (λ c. (search tests, (search tests, (search tests, search (interferences-more, tests)))))
+    (λ c. search (interferences-all, tests)))

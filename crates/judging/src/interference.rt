@@ -1,0 +1,150 @@
+// Each assertion under the actions of the other threads: by asserting thread, its point, acting thread, acting point.
+use crate::outcome::Outcome;
+use crate::outcome::judge_next;
+use content::point::last_point_of;
+use content::totals::Sums;
+use marks::Marks;
+use program::instruction::Instruction;
+use program::sizes::Sizes;
+use records::place::instruction_of;
+use report::obligation::Obligation;
+ghost use mathlib.Core.Path.{_≡_};
+ghost use Rattle.frames.specs.Records.{bodies, indexOf};
+ghost use Rattle.content.specs.Sums.{sumsOf};
+ghost use Prim.Native.Nat.{_+_};
+ghost use Rattle.program.specs.Thread.{lastPoint};
+ghost use Rattle.records.specs.Places.{threadBody};
+ghost use Rattle.judging.specs.Walk.{actingAt, actionsAt, actionsTo, assertedTo, interferencesTo};
+
+// A branch is no action.
+fn judge_action<'a, 'b>(
+    s: &'a [u8],
+    ix: &'b [usize],
+    z: Sizes,
+    y: Sums,
+    m: Marks,
+    u: usize,
+    j: usize,
+    t: usize,
+    k: usize,
+    r: Outcome,
+) -> Outcome
+    requires { ⌜ (now ix ≡ indexOf (now s)) × (y ≡ sumsOf z (bodies (now s))) ⌝ }
+    ensures { λ q. ⌜ q ≡ actingAt (now (s .entry)) z m u j t k r ⌝ }
+{
+    let i = instruction_of(s, ix, z, t, k);
+    if i.operation == Instruction::BRANCH {
+        return r;
+    }
+    judge_next(
+        s,
+        ix,
+        z,
+        y,
+        m,
+        Obligation::Interference {
+            thread: u,
+            point: j,
+            other: t,
+            other_point: k,
+        },
+        r,
+    )
+}
+
+// A thread does not interfere with itself.
+fn judge_actor<'a, 'b>(
+    s: &'a [u8],
+    ix: &'b [usize],
+    z: Sizes,
+    y: Sums,
+    m: Marks,
+    u: usize,
+    j: usize,
+    t: usize,
+    r: Outcome,
+) -> Outcome
+    requires { ⌜ (now ix ≡ indexOf (now s)) × (y ≡ sumsOf z (bodies (now s))) ⌝ }
+    ensures { λ q. ⌜ q ≡ actionsAt (now (s .entry)) z m u j t r ⌝ }
+{
+    if t == u {
+        return r;
+    }
+    let last = last_point_of(s, ix, z, t);
+    let mut q = r;
+    let mut k: usize = 0;
+    while k < last {
+        q = judge_action(s, ix, z, y, m, u, j, t, k, q);
+        k += 1;
+    }
+    q
+}
+
+// One assertion under all threads.
+fn judge_assertion<'a, 'b>(
+    s: &'a [u8],
+    ix: &'b [usize],
+    z: Sizes,
+    y: Sums,
+    m: Marks,
+    u: usize,
+    j: usize,
+    r: Outcome,
+) -> Outcome
+    requires { ⌜ (now ix ≡ indexOf (now s)) × (y ≡ sumsOf z (bodies (now s))) ⌝ }
+    ensures { λ q. ⌜ q ≡ actionsTo (now (s .entry)) z m u j (z .threads) r ⌝ }
+{
+    let threads = z.threads as usize;
+    let mut q = r;
+    let mut t: usize = 0;
+    while t < threads {
+        t += 1;
+        q = judge_actor(s, ix, z, y, m, u, j, t, q);
+    }
+    q
+}
+
+// The assertions of thread u, the last one too.
+fn judge_asserting<'a, 'b>(
+    s: &'a [u8],
+    ix: &'b [usize],
+    z: Sizes,
+    y: Sums,
+    m: Marks,
+    u: usize,
+    r: Outcome,
+) -> Outcome
+    requires { ⌜ (now ix ≡ indexOf (now s)) × (y ≡ sumsOf z (bodies (now s))) ⌝ }
+    ensures { λ q. ⌜ q ≡ assertedTo (now (s .entry)) z m u (lastPoint (threadBody z (bodies (now (s .entry))) u) + 1) r ⌝ }
+{
+    let last = last_point_of(s, ix, z, u);
+    let mut q = r;
+    let mut j: usize = 0;
+    while j <= last {
+        q = judge_assertion(s, ix, z, y, m, u, j, q);
+        j += 1;
+    }
+    q
+}
+
+// Those of all threads.
+pub fn judge_interferences<'a, 'b>(
+    s: &'a [u8],
+    ix: &'b [usize],
+    z: Sizes,
+    y: Sums,
+    m: Marks,
+    r: Outcome,
+) -> Outcome
+    requires { ⌜ (now ix ≡ indexOf (now s)) × (y ≡ sumsOf z (bodies (now s))) ⌝ }
+    ensures { λ q. ⌜ q ≡ interferencesTo (now (s .entry)) z m (z .threads) r ⌝ }
+{
+    let threads = z.threads as usize;
+    let mut q = r;
+    let mut u: usize = 0;
+    while u < threads {
+        u += 1;
+        q = judge_asserting(s, ix, z, y, m, u, q);
+    }
+    q
+}

@@ -1,0 +1,23 @@
+// All obligations of an image, in order.
+use crate::interference::judge_interferences;
+use crate::outcome::Outcome;
+use crate::steps::judge_starts;
+use crate::steps::judge_steps;
+use content::totals::sums_of;
+use marks::Marks;
+use program::sizes::Sizes;
+ghost use mathlib.Core.Path.{_≡_};
+ghost use Rattle.logic.specs.Obligations.{obligations};
+ghost use Rattle.frames.specs.Records.{bodies, indexOf};
+ghost use Rattle.content.specs.Program.{programOf};
+ghost use Rattle.judging.specs.Judge.{judgeAt};
+
+pub fn judge_obligations<'a, 'b>(s: &'a [u8], ix: &'b [usize], z: Sizes, m: Marks) -> Outcome
+    requires { ⌜ now ix ≡ indexOf (now s) ⌝ }
+    ensures { λ r. ⌜ r ≡ judgeAt (now (s .entry)) z m (obligations (programOf z (bodies (now (s .entry))))) 0 ⌝ }
+{
+    let y = sums_of(s, ix, z);
+    let a = judge_starts(s, ix, z, y, m, Outcome::Met(0));
+    let b = judge_steps(s, ix, z, y, m, a);
+    judge_interferences(s, ix, z, y, m, b)
+}

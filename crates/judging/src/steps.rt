@@ -1,0 +1,138 @@
+// Starts, steps and branches taken, thread by thread.
+use crate::outcome::Outcome;
+use crate::outcome::judge_next;
+use content::point::last_point_of;
+use content::totals::Sums;
+use marks::Marks;
+use program::instruction::Instruction;
+use program::sizes::Sizes;
+use records::place::instruction_of;
+use report::obligation::Obligation;
+ghost use mathlib.Core.Path.{_≡_};
+ghost use Rattle.frames.specs.Records.{bodies, indexOf};
+ghost use Rattle.content.specs.Sums.{sumsOf};
+ghost use Rattle.program.specs.Thread.{lastPoint};
+ghost use Rattle.records.specs.Places.{threadBody};
+ghost use Rattle.judging.specs.Walk.{startsTo, ownAt, ownTo, stepsTo};
+
+// Each thread's start.
+pub fn judge_starts<'a, 'b>(
+    s: &'a [u8],
+    ix: &'b [usize],
+    z: Sizes,
+    y: Sums,
+    m: Marks,
+    r: Outcome,
+) -> Outcome
+    requires { ⌜ (now ix ≡ indexOf (now s)) × (y ≡ sumsOf z (bodies (now s))) ⌝ }
+    ensures { λ q. ⌜ q ≡ startsTo (now (s .entry)) z m (z .threads) r ⌝ }
+{
+    let threads = z.threads as usize;
+    let mut q = r;
+    let mut t: usize = 0;
+    while t < threads {
+        t += 1;
+        q = judge_next(s, ix, z, y, m, Obligation::Start { thread: t }, q);
+    }
+    q
+}
+
+// An instruction leads to the next point; a branch first to its target.
+fn judge_own<'a, 'b>(
+    s: &'a [u8],
+    ix: &'b [usize],
+    z: Sizes,
+    y: Sums,
+    m: Marks,
+    t: usize,
+    k: usize,
+    r: Outcome,
+) -> Outcome
+    requires { ⌜ (now ix ≡ indexOf (now s)) × (y ≡ sumsOf z (bodies (now s))) ⌝ }
+    ensures { λ q. ⌜ q ≡ ownAt (now (s .entry)) z m t k r ⌝ }
+{
+    let i = instruction_of(s, ix, z, t, k);
+    if i.operation == Instruction::BRANCH {
+        let q = judge_next(
+            s,
+            ix,
+            z,
+            y,
+            m,
+            Obligation::Taken {
+                thread: t,
+                point: k,
+            },
+            r,
+        );
+        return judge_next(
+            s,
+            ix,
+            z,
+            y,
+            m,
+            Obligation::Step {
+                thread: t,
+                point: k,
+            },
+            q,
+        );
+    }
+    judge_next(
+        s,
+        ix,
+        z,
+        y,
+        m,
+        Obligation::Step {
+            thread: t,
+            point: k,
+        },
+        r,
+    )
+}
+
+// The instructions of thread t.
+fn judge_thread<'a, 'b>(
+    s: &'a [u8],
+    ix: &'b [usize],
+    z: Sizes,
+    y: Sums,
+    m: Marks,
+    t: usize,
+    r: Outcome,
+) -> Outcome
+    requires { ⌜ (now ix ≡ indexOf (now s)) × (y ≡ sumsOf z (bodies (now s))) ⌝ }
+    ensures { λ q. ⌜ q ≡ ownTo (now (s .entry)) z m t (lastPoint (threadBody z (bodies (now (s .entry))) t)) r ⌝ }
+{
+    let last = last_point_of(s, ix, z, t);
+    let mut q = r;
+    let mut k: usize = 0;
+    while k < last {
+        q = judge_own(s, ix, z, y, m, t, k, q);
+        k += 1;
+    }
+    q
+}
+
+// Those of all threads.
+pub fn judge_steps<'a, 'b>(
+    s: &'a [u8],
+    ix: &'b [usize],
+    z: Sizes,
+    y: Sums,
+    m: Marks,
+    r: Outcome,
+) -> Outcome
+    requires { ⌜ (now ix ≡ indexOf (now s)) × (y ≡ sumsOf z (bodies (now s))) ⌝ }
+    ensures { λ q. ⌜ q ≡ stepsTo (now (s .entry)) z m (z .threads) r ⌝ }
+{
+    let threads = z.threads as usize;
+    let mut q = r;
+    let mut t: usize = 0;
+    while t < threads {
+        t += 1;
+        q = judge_thread(s, ix, z, y, m, t, q);
+    }
+    q
+}

@@ -1,0 +1,29 @@
+use Rattle.justify.proofs.Ways.{premises-more, premising}
+use Rattle.limits.proofs.Auto.{tests}
+use Rattle.justify.specs.Pass.{premisesMarked}
+use mathlib.Core.Path.{_≡_}
+use mathlib.Core.Bool.{true}
+use Prim.Native.Nat.{_≤_, _-_}
+use Rattle.justify.proofs.pass.premises_marked.Statement.{statement}
+use Rattle.justify.proofs.pass.premises_marked.Tie as tie
+
+abbrev Inv-loop : tie.InvT-loop
+Inv-loop s ix z n count m j₀ j = (true ≡ premisesMarked s z n m j) × (j ≤ count)
+
+abbrev μ-loop : tie.MeasureT-loop
+μ-loop s ix z n count m j₀ j = count - j
+
+pub premises-marked-spec : {M : Type 1} → statement M
+premises-marked-spec =
+    tie.close
+    (tie.spec
+    Inv-loop
+    μ-loop
+    (λ c. (search (premising, tests), search tests))
+    (λ c κs. search (premising, tests))
+    (λ c κs. search (premising, tests))
+    (λ c. search (premising, tests))
+    (λ c. search (premising, tests))
+    (λ c. (search (premises-more, tests), search tests))
+    (λ c. search (premising, tests))
+    (λ c. search (premising, tests)))

@@ -1,0 +1,2 @@
+// Which lines of a certificate are justified: each line is judged once, in order.
+pub mod pass;

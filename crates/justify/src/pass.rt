@@ -1,0 +1,73 @@
+// One pass over the lines. A line rests on lower lines alone, whose marks are set by then.
+use content::line::line_of;
+use content::line::premise_of;
+use fitting::fit::fits_line;
+use marks::Marks;
+use marks::is_marked;
+use marks::no_marks;
+use marks::with_mark;
+use program::sizes::Sizes;
+use rulebook::template::all_templates;
+ghost use mathlib.Core.Path.{_≡_};
+ghost use Rattle.frames.specs.Records.{indexOf};
+ghost use Rattle.justify.specs.Pass.{premisesMarked, isJustified, marksTo};
+
+// The first so many premises of line n have marks.
+fn premises_marked<'a, 'b>(
+    s: &'a [u8],
+    ix: &'b [usize],
+    z: Sizes,
+    n: usize,
+    count: usize,
+    m: Marks,
+) -> bool
+    requires { ⌜ now ix ≡ indexOf (now s) ⌝ }
+    ensures { λ r. ⌜ r ≡ premisesMarked (now (s .entry)) z n m count ⌝ }
+{
+    let mut j: usize = 0;
+    while j < count {
+        if is_marked(m, premise_of(s, ix, z, n, j)) {
+            j += 1;
+        } else {
+            return false;
+        }
+    }
+    true
+}
+
+// Line n fits its rule, and all its premises have marks. (These are asked first: it is quicker.)
+fn is_justified<'a, 'b, 'c>(
+    s: &'a [u8],
+    ix: &'b [usize],
+    t: &'c [u8],
+    z: Sizes,
+    n: usize,
+    m: Marks,
+) -> bool
+    requires { ⌜ now ix ≡ indexOf (now s) ⌝ }
+    ensures { λ r. ⌜ r ≡ isJustified (now (s .entry)) (now (t .entry)) z n m ⌝ }
+{
+    let l = line_of(s, ix, z, n);
+    if premises_marked(s, ix, z, n, l.count as usize, m) {
+        return fits_line(s, ix, t, z, n);
+    }
+    false
+}
+
+// The marks of all lines.
+pub fn judge_lines<'a, 'b>(s: &'a [u8], ix: &'b [usize], z: Sizes) -> Marks
+    requires { ⌜ now ix ≡ indexOf (now s) ⌝ }
+    ensures { λ r. ⌜ r ≡ marksTo (now (s .entry)) z (z .lines) ⌝ }
+{
+    let t = all_templates();
+    let bytes = t.bytes;
+    let last = z.lines as usize;
+    let mut m = no_marks();
+    let mut n: usize = 0;
+    while n < last {
+        n += 1;
+        let b = is_justified(s, ix, &bytes, z, n, m);
+        m = with_mark(m, n, b);
+    }
+    m
+}

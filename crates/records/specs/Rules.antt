@@ -1,0 +1,20 @@
+-- The numbers of rules, by the form of their lines.
+use Prim.Native.Nat.{ℕ}
+
+abbrev pub firstTriple : ℕ
+firstTriple = 1
+
+abbrev pub lastTriple : ℕ
+lastTriple = 16
+
+abbrev pub firstImplication : ℕ
+firstImplication = 20
+
+abbrev pub lastImplication : ℕ
+lastImplication = 27
+
+abbrev pub firstInclusion : ℕ
+firstInclusion = 30
+
+abbrev pub lastInclusion : ℕ
+lastInclusion = 46

@@ -1,0 +1,75 @@
+-- The ways through the functions of a verdict, one law for each.
+use mathlib.Core.Path.{_≡_}
+use mathlib.Core.List.{List, _++_}
+use Prim.Native.Nat.{ℕ, _≤_, _<_}
+use lib.ListN.{length, drop}
+use borrow.Author.Tests.{lt-ltb, le-ltb}
+use Rattle.frames.specs.Fault.{codeOf}
+use Rattle.frames.specs.declared.fault.Fault.{Fault}
+use Rattle.report.specs.Place.{placeOf}
+use Rattle.report.specs.Fields.{fieldsOf}
+use Rattle.report.specs.Record.{size, recordBytes}
+use Rattle.report.specs.Output.{codeFor, bytesFor}
+use Rattle.report.specs.declared.obligation.Obligation.{Obligation}
+use Rattle.report.specs.declared.obligation.Obligation.the-variants.{Start, Step, Taken, Interference}
+use Rattle.report.specs.declared.obligation.Place.{Place}
+use Rattle.report.specs.declared.verdict.Verdict.{Verdict}
+use Rattle.report.specs.declared.verdict.Verdict.the-variants.{Accepted, Refused, Failed}
+use Rattle.report.specs.declared.verdict.Fields.{Fields}
+
+module _ (o : Obligation) (t k : ℕ) where
+  pub place-start : o ≡ Start t → record { class = 1; thread = t; point = 0; «other_thread» = 0; «other_point» = 0 } ≡ placeOf o
+  unfolding placeOf
+  place-start e = rw e
+
+  pub place-step : o ≡ Step t k → record { class = 2; thread = t; point = k; «other_thread» = 0; «other_point» = 0 } ≡ placeOf o
+  unfolding placeOf
+  place-step e = rw e
+
+  pub place-taken : o ≡ Taken t k → record { class = 3; thread = t; point = k; «other_thread» = 0; «other_point» = 0 } ≡ placeOf o
+  unfolding placeOf
+  place-taken e = rw e
+
+  pub place-interference : (u j : ℕ) → o ≡ Interference t k u j → record { class = 4; thread = t; point = k; «other_thread» = u; «other_point» = j } ≡ placeOf o
+  unfolding placeOf
+  place-interference u j e = rw e
+
+pub ruleset placing = (place-start, place-step, place-taken, place-interference)
+
+module _ (v : Verdict) where
+  pub fields-accepted : (n : ℕ) → v ≡ Accepted n
+      → record { code = 0; «record» = 0; class = 0; thread = 0; point = 0; «other_thread» = 0; «other_point» = 0; line = 0; count = n } ≡ fieldsOf v
+  unfolding fieldsOf
+  fields-accepted n e = rw e
+
+  pub fields-refused : (f : Fault) (i c : ℕ) → v ≡ Refused f i → c ≡ codeOf f
+      → record { code = c; «record» = i; class = 0; thread = 0; point = 0; «other_thread» = 0; «other_point» = 0; line = 0; count = 0 } ≡ fieldsOf v
+  unfolding fieldsOf
+  fields-refused f i c e d = rw (e, d)
+
+  pub fields-failed : (o : Obligation) (c l n : ℕ) (p : Place) → v ≡ Failed o c l n → p ≡ placeOf o
+      → record { code = c; «record» = 0; class = p .class; thread = p .thread; point = p .point; «other_thread» = p .«other_thread»; «other_point» = p .«other_point»; line = l; count = n } ≡ fieldsOf v
+  unfolding fieldsOf
+  fields-failed o c l n p e d = rw (e, d)
+
+pub ruleset numbering = (fields-accepted, fields-refused, fields-failed)
+
+module _ (v : Verdict) (out : List ℕ) where
+  pub short-code : length out < size → 1 ≡ codeFor v out
+  unfolding codeFor
+  short-code h = rw (lt-ltb _ _ h)
+
+  pub short-bytes : length out < size → out ≡ bytesFor v out
+  unfolding bytesFor
+  short-bytes h = rw (lt-ltb _ _ h)
+
+  module _ (h : size ≤ length out) (f : Fields) (e : f ≡ fieldsOf v) where
+    pub report-code : f .code ≡ codeFor v out
+    unfolding codeFor
+    report-code = rw (le-ltb _ _ h, e)
+
+    pub report-bytes : (b w : List ℕ) → b ≡ recordBytes f → w ≡ b ++ drop size out → w ≡ bytesFor v out
+    unfolding bytesFor
+    report-bytes b w d q = rw (le-ltb _ _ h, ← e, ← d) q
+
+pub ruleset reporting = (short-code, short-bytes, report-code, report-bytes)

@@ -1,0 +1,19 @@
+use Rattle.report.proofs.Ways.{numbering}
+use borrow.Author.Needs.{needs}
+use Rattle.report.proofs.verdict.fields_of.Statement.{statement}
+use Rattle.report.proofs.verdict.fields_of.Tie as tie
+
+pub fields-of-spec : {M : Type 1} → statement M
+fields-of-spec =
+    tie.close
+    (tie.spec
+    (λ c. search needs)
+    (λ c. search needs)
+    (λ c κs. search needs)
+    (λ c. search needs)
+    (λ c. search needs)
+    (λ c κs. search needs)
+    (λ c. search needs)
+    (λ c. search (numbering, needs))
+    (λ c. search (numbering, needs))
+    (λ c. search (numbering, needs)))

@@ -1,0 +1,86 @@
+// The verdict on an image, and the nine numbers that it is published as.
+use crate::obligation::Obligation;
+use crate::obligation::place_of;
+use frames::fault::Fault;
+use image::code::code_of;
+ghost use mathlib.Core.Path.{_≡_};
+ghost use Rattle.report.specs.Fields.{fieldsOf};
+
+pub enum Verdict {
+    // So many obligations are met.
+    Accepted {
+        count: usize,
+    },
+    Refused {
+        fault: Fault,
+        record: usize,
+    },
+    // The first obligation that is not met: why, the line that it names, and how many are met before it.
+    Failed {
+        what: Obligation,
+        code: u8,
+        line: usize,
+        count: usize,
+    },
+}
+
+// In the order of the record; those that don't apply are 0.
+pub struct Fields {
+    pub code: u16,
+    pub record: usize,
+    pub class: usize,
+    pub thread: usize,
+    pub point: usize,
+    pub other_thread: usize,
+    pub other_point: usize,
+    pub line: usize,
+    pub count: usize,
+}
+
+pub fn fields_of(v: Verdict) -> Fields
+    ensures { λ r. ⌜ r ≡ fieldsOf v ⌝ }
+{
+    match v {
+        Verdict::Accepted { count } => Fields {
+            code: 0,
+            record: 0,
+            class: 0,
+            thread: 0,
+            point: 0,
+            other_thread: 0,
+            other_point: 0,
+            line: 0,
+            count,
+        },
+        Verdict::Refused { fault, record } => Fields {
+            code: code_of(fault) as u16,
+            record,
+            class: 0,
+            thread: 0,
+            point: 0,
+            other_thread: 0,
+            other_point: 0,
+            line: 0,
+            count: 0,
+        },
+        Verdict::Failed {
+            what,
+            code,
+            line,
+            count,
+        } => {
+            let p = place_of(what);
+            Fields {
+                code: code as u16,
+                record: 0,
+                class: p.class,
+                thread: p.thread,
+                point: p.point,
+                other_thread: p.other_thread,
+                other_point: p.other_point,
+                line,
+                count,
+            }
+        }
+    }
+}

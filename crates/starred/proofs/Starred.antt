@@ -1,0 +1,51 @@
+-- The starred cases hold of the definitions.
+use native.Mathlib.Decide.{ℕ-discrete}
+use lib.Dec.{T}
+use Rattle.logic.specs.Formula.{same}
+use Rattle.logic.specs.Base.{upd, all}
+use Rattle.logic.specs.Rows.{same-name, choose, isIn, distinct}
+use Rattle.logic.specs.Table.{same-leaf}
+use Rattle.limits.specs.Numbers.{word, has, numbers, within, every}
+use Rattle.frames.specs.Records.{body, cut, bodies}
+use Rattle.frames.specs.Frames.{admit, frame, ended, walk, frames, wholeImage}
+use Rattle.frames.specs.Kinds.{most}
+use Rattle.frames.specs.Fault.{codeOf, unless, also}
+use Rattle.image.specs.Decode.{recordCount, sizesOf, firstFault, decoded}
+use Rattle.image.specs.Body.{placeOf, check}
+use Rattle.bodies.specs.Formula as Formulas
+use Rattle.bodies.specs.Formula.{countsOf, read}
+use Rattle.bodies.specs.Thread.{thread}
+use Rattle.bodies.specs.Lists.{outlinedAt, outline, obligations}
+use Rattle.bodies.specs.Line.{sortAt, sortedBy, lineSorted, line}
+use Rattle.bodies.specs.Use as Use
+use Rattle.bodies.specs.Use.{startless}
+use Rattle.occurs.specs.Occurs.{isSought, occurs}
+use Rattle.formula.specs.Reader.{inRange, operandFault, headFault, faultAt, readingOf}
+use Rattle.program.specs.Header as Header
+use Rattle.program.specs.Header.{startValues, owners, headerSize, headed, header}
+use Rattle.records.specs.List.{exactly}
+use Rattle.records.specs.Line as Line
+use Rattle.program.specs.Thread as Thread
+use Rattle.program.specs.Thread.{lastPoint, instructions, threadSize, threadNumbers}
+use Rattle.records.specs.Places.{threadBody}
+use Rattle.records.specs.Tally.{branches, threadTally, tallyTo, tally, obligationCount}
+use Rattle.records.specs.Line.{formOf, premises, lineSize, nowhere, placed, lineNumbers}
+use Rattle.formula.specs.Codes.{hasOperand, partCount, partPlace, fitsAt, member}
+use Rattle.formula.specs.Tree.{nodeAt, skim}
+use Rattle.outline.specs.Verdict.{code, judge}
+use Rattle.certificate.specs.Lines.{marked}
+use Rattle.content.specs.Formula.{formula}
+use Rattle.content.specs.Rule.{ruleOf}
+use Rattle.content.specs.Program.{pointCount, outlineNumber}
+use Rattle.content.specs.Certificate.{saying, lineBody}
+use Rattle.content.specs.Image.{namedLine, decode}
+use Rattle.report.specs.Place as Place
+use Rattle.report.specs.Fields.{fieldsOf}
+use Rattle.report.specs.Record.{recordBytes}
+use Rattle.report.specs.Output.{codeFor, bytesFor}
+use Rattle.checker.specs.Answer.{verdict}
+use Rattle.starred.specs.Table.{holds, table}
+
+pub starred : T (all holds table)
+unfolding verdict codeFor bytesFor fieldsOf Place.placeOf recordBytes codeOf Formulas.formula Formulas.faultOf Header.counted Line.numbered Thread.cut Thread.numbered Use.outlined admit also bodies body branches check choose code countsOf cut decode decoded distinct ended every exactly faultAt firstFault fitsAt formOf formula frame frames has hasOperand headFault headed header headerSize inRange instructions isIn isSought judge lastPoint line lineBody lineNumbers lineSize lineSorted marked member most namedLine nodeAt nowhere numbers obligationCount obligations occurs operandFault outline outlineNumber outlinedAt owners partCount partPlace placeOf placed pointCount premises read readingOf recordCount ruleOf same same-leaf saying sizesOf skim sortAt sortedBy startValues startless tally tallyTo thread threadBody threadNumbers threadSize threadTally unless upd walk wholeImage within word same-name ℕ-discrete
+starred = tt

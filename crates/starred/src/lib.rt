@@ -1,0 +1,1 @@
+// The scope page's starred cases, as rows of one table: they hold of the definitions. No code.

@@ -1,0 +1,14 @@
+// What programs over stored cases share.
+//
+// A file holds its cases one after the other: the length of a body (16 bits, low byte first), the body, and a tail whose
+// length is the same for each case of the file.
+//
+// A contract cannot speak of what an operating system call read or wrote. So a function that reads promises only how
+// much of a buffer it filled, and one that writes promises nothing; what is made of the bytes is left to functions on
+// slices and values, which equal their definitions.
+pub mod case;
+pub mod complaint;
+pub mod counts;
+pub mod end;
+pub mod file;
+pub mod tally;

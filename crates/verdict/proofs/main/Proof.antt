@@ -1,0 +1,25 @@
+use Rattle.input.proofs.Ends.{ended}
+use borrow.Author.Needs.{needs}
+use Rattle.verdict.proofs.main.Statement.{statement}
+use Rattle.verdict.proofs.main.Tie as tie
+
+pub main-spec : {M : Type 1} → statement M
+main-spec =
+    tie.close
+    (tie.spec
+    (λ c κs. search needs)
+    (λ c. search needs)
+    (λ c κs. search needs)
+    (λ c. search needs)
+    (λ c. search needs)
+    (λ c κs. search needs)
+    (λ c. search needs)
+    (λ c. search (ended, needs))
+    (λ c. search (ended, needs))
+    (λ c κs. search needs)
+    (λ c. search needs)
+    (λ c. search needs)
+    (λ c κs. search needs)
+    (λ c. search needs)
+    (λ c. search needs)
+    (λ c. search needs))

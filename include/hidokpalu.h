@@ -1,0 +1,101 @@
+/*
+ * Hidokpalu: a proved checker of proof outlines for C11 release-acquire programs.
+ *
+ * Link target/staticlib/libchecker.a, which `rt staticlib checker` writes (x86-64 Linux). Besides `check_image` it
+ * needs memcpy and memset of the C library, and nothing else: no heap, no files, no state from one call to the next.
+ * So any number of threads may call it at once. It needs some tens of kilobytes of stack.
+ */
+#ifndef HIDOKPALU_H
+#define HIDOKPALU_H
+
+#include <stddef.h>
+#include <stdint.h>
+
+#ifdef __cplusplus
+extern "C" {
+#endif
+
+/* The verdict's code. */
+enum hidokpalu_code {
+    HIDOKPALU_ACCEPTED = 0,
+    HIDOKPALU_SHORT_OUTPUT = 1,   /* the buffer has fewer than HIDOKPALU_RECORD_BYTES; nothing is written */
+    /* The image as a whole. */
+    HIDOKPALU_SIZE = 2,           /* empty, or above HIDOKPALU_IMAGE_BYTES */
+    /* A record's frame. */
+    HIDOKPALU_LENGTH = 3,         /* length cut short, under 2 or past the end */
+    HIDOKPALU_KIND = 4,           /* kind unknown, misplaced, too often there or missing */
+    /* A record's body. */
+    HIDOKPALU_BODY = 5,           /* too short or too long */
+    HIDOKPALU_NUMBER = 6,         /* a number outside its range, or an unused field that is not 0 */
+    HIDOKPALU_FORMULA = 7,        /* the bytes of a formula are malformed */
+    HIDOKPALU_SORT = 8,           /* a formula of the wrong sort where it is used */
+    HIDOKPALU_OWNER = 9,          /* another thread's register in an instruction */
+    /* The first obligation that is not met. */
+    HIDOKPALU_NO_LINE = 20,       /* it names no line of the certificate */
+    HIDOKPALU_OTHER_CLAIM = 21,   /* its line concludes something else */
+    HIDOKPALU_UNJUSTIFIED = 22    /* its line is not justified */
+};
+
+/* The class of an obligation. */
+enum hidokpalu_class {
+    HIDOKPALU_START = 1,          /* the start state gives the thread's point 0 */
+    HIDOKPALU_STEP = 2,           /* the instruction at the point leads to the next point's assertion */
+    HIDOKPALU_TAKEN = 3,          /* the branch at the point, taken, leads to its target's assertion */
+    HIDOKPALU_INTERFERENCE = 4    /* the other thread's instruction keeps the assertion at the point */
+};
+
+/* The most bytes of an image. */
+#define HIDOKPALU_IMAGE_BYTES 65535
+
+/*
+ * The verdict as a record: eleven numbers of 16 bits, low byte first. Fields that don't apply are 0. Records, threads
+ * and lines count from 1, points from 0.
+ */
+#define HIDOKPALU_RECORD_BYTES 22
+#define HIDOKPALU_RECORD_KIND 7
+
+/* Where each number stands. */
+enum hidokpalu_offset {
+    HIDOKPALU_AT_LENGTH = 0,      /* 20: the bytes that follow */
+    HIDOKPALU_AT_KIND = 2,        /* HIDOKPALU_RECORD_KIND */
+    HIDOKPALU_AT_CODE = 4,
+    HIDOKPALU_AT_RECORD = 6,      /* codes 3 to 9: the record at fault */
+    HIDOKPALU_AT_CLASS = 8,       /* from here to the line, codes 20 to 22: the obligation */
+    HIDOKPALU_AT_THREAD = 10,
+    HIDOKPALU_AT_POINT = 12,
+    HIDOKPALU_AT_OTHER_THREAD = 14, /* interference: the thread that acts */
+    HIDOKPALU_AT_OTHER_POINT = 16,
+    HIDOKPALU_AT_LINE = 18,       /* the line that it names, if any */
+    HIDOKPALU_AT_COUNT = 20       /* codes 0 and 20 to 22: how many obligations are met before the answer */
+};
+
+/*
+ * Judges an image. Answers the verdict's code and writes the verdict to the buffer.
+ *
+ * Every byte string is judged, and every buffer will do; the call always returns. Result and buffer follow from the
+ * image and the buffer's length alone:
+ *
+ * - A buffer below HIDOKPALU_RECORD_BYTES: the answer is HIDOKPALU_SHORT_OUTPUT whatever the image holds, and nothing
+ *   is written.
+ * - Otherwise the first HIDOKPALU_RECORD_BYTES of the buffer become the verdict's record, its code is the answer, and
+ *   the bytes behind it stay.
+ *
+ * HIDOKPALU_ACCEPTED means: for the program and the assertions that the image holds, after every finite list of steps
+ * from the start state, refused steps among them, each thread's assertion at its point is true. It does not say that
+ * the program ends.
+ *
+ * The caller sees to it that
+ *
+ * - `image` points to `image_len` bytes that may be read, and `out` to `out_len` bytes that may be written. With
+ *   length 0 the pointer may be anything, NULL too: it is not used.
+ * - the two do not overlap.
+ * - until the call returns nothing else writes the image, or reads or writes the buffer: no other thread, and no other
+ *   process through shared or mapped memory. Copy such an image first.
+ */
+uint16_t check_image(const uint8_t *image, size_t image_len, uint8_t *out, size_t out_len);
+
+#ifdef __cplusplus
+}
+#endif
+
+#endif
