@@ -4,20 +4,21 @@ use mathlib.Core.Path.{_≡_, refl, ap, ap₂, sym, _∙_}
 use mathlib.Core.List.{List, [], _∷_}
 use mathlib.Core.Bool.{Bool, true, false, not, cond}
 use native.Mathlib.Omega.{arith}
-use lib.ListN.{length, getD, List·getD-eq-default}
+use lib.ListN.{getD, take}
 use lib.Dec.{eqb}
-use borrow.Author.Tests.{eq-eqb, ne-eqb, le-ltb}
 use Rattle.limits.proofs.Numbers.{byte-past}
 use Rattle.formula.specs.Tree.{Tree, skim}
 use Rattle.leaves.specs.Slots.{kept}
 use Rattle.leaves.specs.Gather.{Gathered, keys, view, gatherT}
 use Rattle.leaves.specs.declared.gather.Leaves.{Leaves}
 use Rattle.leaves.proofs.Gathering.{kept-none}
-use Rattle.rows.specs.Value.{rowValue, valOf}
-use Rattle.rows.specs.Claim.{ImpT, impOf, impsFrom, premisesFrom, impAt, allAt, claimAt, gatherImp, gatherImps, gatherAll}
+use Rattle.columns.specs.Column.{rowIn, denied}
+use Rattle.columns.proofs.Listed.{column-same, column-at}
+use Rattle.rows.specs.Value.{rowValue, columnOf}
+use Rattle.rows.specs.Claim.{ImpT, impOf, impsFrom, premisesFrom, impAt, allAt, impFails, keptWhere, failsFrom, gatherImp, gatherImps, gatherAll}
 use Rattle.rows.specs.declared.value.Reading.{Reading}
-use Rattle.rows.specs.declared.value.Val.{Val}
 use Rattle.rows.specs.declared.claim.Task.{Task}
+use Rattle.rows.proofs.Values.{column-value}
 
 pub ruleset numbers = (byte-past)
 
@@ -44,58 +45,79 @@ module _ (s lefts rights : List ℕ) (t : Task) where
   unfolding premisesFrom impsFrom
   prems-end i h = let e : t .premises - i ≡ 0 = omega arith in rw e
 
-  -- an implication at a row
-  module _ (w : Reading) (q v : List ℕ) where
-    right-is : (i r : ℕ) (b : Val) → r ≡ getD rights i 0 → b ≡ valOf s w q v (skim s (t .right) r) → b .value ≡ rowValue s w q v (imp i .right)
-    unfolding impOf
-    right-is i r b er eb = ap (λ (u : Val). u .value) eb ∙ ap (λ (n : ℕ). rowValue s w q v (skim s (t .right) n .tree)) er
+  module _ (w : Reading) (q cells : List ℕ) (n : ℕ) where
+    abbrev holds : ℕ → ImpT → Bool
+    holds i = impAt s w q (rowIn cells i)
 
-    module _ (i l : ℕ) (a : Val) (el : l ≡ getD lefts i 0) (ea : a ≡ valOf s w q v (skim s (t .left) l)) where
-      left-is : rowValue s w q v (imp i .left) ≡ a .value
-      unfolding impOf
-      left-is = sym (ap (λ (u : Val). u .value) ea ∙ ap (λ (n : ℕ). rowValue s w q v (skim s (t .left) n .tree)) el)
+    abbrev allHold : ℕ → ℕ → Bool
+    allHold k i = allAt s w q (rowIn cells i) (prems k)
 
-      pub imp-idle : (a .value ≡ 1 → ⊥) → true ≡ impAt s w q v (imp i)
-      unfolding impAt
-      imp-idle z = rw (left-is, ne-eqb _ _ z)
+    -- an implication fails where the left side is true and the right side is not
+    pub imp-fails : (i l r : ℕ) (a b o : List ℕ) → l ≡ getD lefts i 0 → take n a ≡ columnOf s w q cells n (skim s (t .left) l .tree) → r ≡ getD rights i 0
+        → take n b ≡ columnOf s w q cells n (skim s (t .right) r .tree) → take n o ≡ denied n a b → take n o ≡ impFails s w q cells n (imp i)
+    unfolding denied impFails impAt impOf
+    imp-fails i l r a b o el ea er eb eo = eo ∙ column-same (λ (k : ℕ). cond (eqb (getD a k 0) 1) (cond (eqb (getD b k 0) 1) 0 1) 0) (λ (k : ℕ). cond (holds k (imp i)) 0 1) n (λ k h.
+        ap₂ (λ (x y : ℕ). cond (eqb x 1) (cond (eqb y 1) 0 1) 0)
+        (column-value s w q cells n (skim s (t .left) l .tree) a ea k h ∙ ap (λ (x : ℕ). rowValue s w q (rowIn cells k) (skim s (t .left) x .tree)) el)
+        (column-value s w q cells n (skim s (t .right) r .tree) b eb k h ∙ ap (λ (x : ℕ). rowValue s w q (rowIn cells k) (skim s (t .right) x .tree)) er)
+        ∙ go (eqb (rowValue s w q (rowIn cells k) (imp i .left)) 1) (eqb (rowValue s w q (rowIn cells k) (imp i .right)) 1))
+      where
+        go : (x y : Bool) → _≡_ {A = ℕ} (cond x (cond y 0 1) 0) (cond (cond x y true) 0 1)
+        go true y = refl
+        go false y = refl
 
-      pub imp-right : (r : ℕ) (b : Val) → a .value ≡ 1 → r ≡ getD rights i 0 → b ≡ valOf s w q v (skim s (t .right) r) → eqb (b .value) 1 ≡ impAt s w q v (imp i)
-      unfolding impAt
-      imp-right r b z er eb = rw (left-is, eq-eqb _ _ z) (ap (λ (n : ℕ). eqb n 1) (right-is i r b er eb))
-
-    all-step : (p : ImpT) (ps : List ImpT) → allAt s w q v (p ∷ ps) ≡ cond (impAt s w q v p) (allAt s w q v ps) false
+    all-step : (k i : ℕ) → k < t .premises → allHold k i ≡ cond (holds i (imp (k + 1))) (allHold (k + 1) i) false
     unfolding allAt
-    all-step p ps = refl
+    all-step k i h = rw (prems-step k h)
 
-    all-none : allAt s w q v [] ≡ true
+    all-back : (k i : ℕ) → k ≤ t .premises → 0 < k → allHold (k - 1) i ≡ cond (holds i (imp k)) (allHold k i) false
+    all-back k i h z =
+        let f : k - 1 + 1 ≡ k = omega arith in
+        all-step (k - 1) i (omega arith) ∙ ap (λ (m : ℕ). cond (holds i (imp m)) (allHold m i) false) f
+
+    all-none : (k i : ℕ) → t .premises ≤ k → allHold k i ≡ true
     unfolding allAt
-    all-none = refl
+    all-none k i h = rw (prems-end k h)
 
-    module _ (i : ℕ) (e : allAt s w q v (premisesFrom s lefts rights t 0) ≡ allAt s w q v (premisesFrom s lefts rights t i)) where
-      pub prems-all : t .premises ≤ i → true ≡ allAt s w q v (premisesFrom s lefts rights t 0)
-      prems-all h = sym (e ∙ rw (prems-end i h, all-none))
+    -- the line fails, and the premises from k on hold
+    abbrev failing : ℕ → ℕ → ℕ
+    failing k i = cond (holds i (imp 0)) 0 (cond (allHold k i) 1 0)
 
-      module _ (c : Bool) (h : i < t .premises) (ec : c ≡ impAt s w q v (imp (i + 1))) where
-        pub prems-next : c ≡ true → allAt s w q v (premisesFrom s lefts rights t 0) ≡ allAt s w q v (premisesFrom s lefts rights t (i + 1))
-        prems-next d = e ∙ rw (prems-step i h, all-step, ← ec, d)
+    pub fails-begin : (o : List ℕ) → take n o ≡ impFails s w q cells n (imp 0) → take n o ≡ failsFrom s lefts rights t w q cells n (t .premises)
+    unfolding impFails failsFrom
+    fails-begin o e = e ∙ column-same (λ (i : ℕ). cond (holds i (imp 0)) 0 1) (failing (t .premises)) n (λ i h. ap (λ (b : Bool). cond (holds i (imp 0)) 0 (cond b 1 0)) (sym (all-none (t .premises) i (omega arith))))
 
-        pub prems-fail : c ≡ false → false ≡ allAt s w q v (premisesFrom s lefts rights t 0)
-        prems-fail d = sym (e ∙ rw (prems-step i h, all-step, ← ec, d))
+    pub kept-where : (k : ℕ) (a b o : List ℕ) → take n b ≡ impFails s w q cells n (imp k) → take n o ≡ denied n a b → take n o ≡ keptWhere s w q cells n (imp k) a
+    unfolding denied impFails keptWhere
+    kept-where k a b o eb eo = eo ∙ column-same (λ (i : ℕ). cond (eqb (getD a i 0) 1) (cond (eqb (getD b i 0) 1) 0 1) 0) (λ (i : ℕ). cond (eqb (getD a i 0) 1) (cond (holds i (imp k)) 1 0) 0) n (λ i l.
+        ap (λ (x : ℕ). cond (eqb (getD a i 0) 1) (cond (eqb x 1) 0 1) 0) (column-at (λ (i : ℕ). cond (holds i (imp k)) 0 1) 0 b n i eb l)
+        ∙ ap (λ (x : ℕ). cond (eqb (getD a i 0) 1) x 0) (go (holds i (imp k))))
+      where
+        go : (x : Bool) → _≡_ {A = ℕ} (cond (eqb (cond x 0 1) 1) 0 1) (cond x 1 0)
+        go true = refl
+        go false = refl
 
-    module _ (b : Bool) (eb : b ≡ impAt s w q v (imp 0)) where
-      pub claim-line : b ≡ true → true ≡ claimAt s lefts rights t w q v
-      unfolding claimAt
-      claim-line d = rw (← eb, d)
+    pub fails-next : (k : ℕ) (a o : List ℕ) → k ≤ t .premises → 0 < k → take n a ≡ failsFrom s lefts rights t w q cells n k → take n o ≡ keptWhere s w q cells n (imp k) a
+        → take n o ≡ failsFrom s lefts rights t w q cells n (k - 1)
+    unfolding keptWhere failsFrom
+    fails-next k a o h z ea eo = eo ∙ column-same (λ (i : ℕ). cond (eqb (getD a i 0) 1) (cond (holds i (imp k)) 1 0) 0) (failing (k - 1)) n (λ i l.
+        ap (λ (x : ℕ). cond (eqb x 1) (cond (holds i (imp k)) 1 0) 0) (column-at (failing k) 0 a n i ea l)
+        ∙ go (holds i (imp 0)) (allHold k i) (holds i (imp k))
+        ∙ ap (λ (x : Bool). cond (holds i (imp 0)) 0 (cond x 1 0)) (sym (all-back k i h z)))
+      where
+        go : (x y u : Bool) → _≡_ {A = ℕ} (cond (eqb (cond x 0 (cond y 1 0)) 1) (cond u 1 0) 0) (cond x 0 (cond (cond u y false) 1 0))
+        go true y u = refl
+        go false true true = refl
+        go false true false = refl
+        go false false true = refl
+        go false false false = refl
 
-      pub claim-premises : (c : Bool) → b ≡ false → c ≡ allAt s w q v (premisesFrom s lefts rights t 0) → not c ≡ claimAt s lefts rights t w q v
-      unfolding claimAt
-      claim-premises c d ec = rw (← eb, d, ← ec)
+    pub fails-end : (k : ℕ) (o : List ℕ) → k ≤ 0 → take n o ≡ failsFrom s lefts rights t w q cells n k → take n o ≡ failsFrom s lefts rights t w q cells n 0
+    fails-end k o h e = let z : k ≡ 0 = omega arith in e ∙ ap (failsFrom s lefts rights t w q cells n) z
 
-pub ruleset imps = (imp-idle, imp-right)
+pub ruleset implications = (imp-fails, kept-where)
 
-pub ruleset premises = (prems-all, prems-next, prems-fail)
-
-pub ruleset claims = (claim-line, claim-premises)
+pub ruleset claims = (fails-begin, fails-next, fails-end)
 
 -- the leaves of implications
 pub gather-imp : (s lefts rights : List ℕ) (t : Task) (i w l r : ℕ) (g h k : Leaves) → r ≡ getD rights i 0 → view s h ≡ gatherT w (skim s (t .right) r .tree) (view s g) → l ≡ getD lefts i 0

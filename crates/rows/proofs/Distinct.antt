@@ -116,7 +116,7 @@ imps-cut w (p ∷ ps) = ap (gatherImp w p) (imps-cut w ps) ∙ imp-cut w p (leav
 
 -- of more leaves than slots there are too many rows
 module _ (R : ℕ) (two : 2 ≤ R) where
-  choices-two : (t : Tree) → 2 ≤ choicesT R t
+  pub choices-two : (t : Tree) → 2 ≤ choicesT R t
   unfolding choicesT choicesBy
   choices-two none = omega arith
   choices-two (node c o l r) = two-pick (eqb c (byte Code.reg)) (two-pick (eqb c (byte Code.word)) (omega arith))

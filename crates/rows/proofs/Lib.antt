@@ -1,6 +1,7 @@
 pub mod Values
 pub mod Claims
-pub mod Trying
 pub mod Distinct
+pub mod Numbered
+pub mod Trying
 pub mod Entry
 pub mod Link

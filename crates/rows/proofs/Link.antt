@@ -27,7 +27,8 @@ use Rattle.trees.specs.Raw.{raw}
 use Rattle.trees.proofs.Raw.{raw-same, tree-eq, tree-refl}
 use Rattle.leaves.specs.Gather.{leavesT}
 use Rattle.leaves.specs.Count.{choicesBy, choicesT}
-use Rattle.rows.specs.Value.{sumOf, combine, valueT}
+use Rattle.columns.specs.Combine.{sumOf, combine}
+use Rattle.rows.specs.Value.{valueT}
 use Rattle.rows.specs.Claim.{ImpT, impT, claimT, leavesAll}
 use Rattle.rows.specs.Every.{everyT}
 use Rattle.rows.specs.Rows.{byNames, rowsT, byClaims, tableT}

@@ -1,151 +1,85 @@
--- Every row tried: the ways through the functions, one law for each. A row in the slots is a row of the logic.
-use Prim.Native.Nat.{ℕ, zero, suc, _+_, _-_, _*_, _≤_, _<_}
+-- Every row tried: the ways through the functions, one law for each.
+use Prim.Native.Nat.{ℕ, zero, suc, _+_, _-_, _*_, _/_, _%_, _≤_, _<_}
 use mathlib.Core.Path.{_≡_, refl, ap, ap₂, sym, _∙_, fun-ext}
 use mathlib.Core.List.{List, [], _∷_}
-use mathlib.Core.Bool.{Bool, true, false, cond, not, _&&_, _||_}
+use mathlib.Core.Bool.{Bool, true, false, cond, not, _&&_}
 use native.Mathlib.Omega.{arith}
+use native.Mathlib.Numerals.{add-one}
 use native.Mathlib.Nat.{one-mul}
-use lib.ListN.{length, getD, set, replicate}
-use lib.Seq.{getD-set-same, getD-set-other}
+use lib.ListN.{length, getD, set, take, replicate}
+use lib.Seq.{ext-getD}
 use lib.Dec.{eqb, leb, ltb}
-use borrow.Author.Tests.{eq-eqb, ne-eqb, le-leb, lt-leb, lt-ltb, le-ltb, ltb-true, ltb-false}
-use Rattle.logic.specs.Base.{all}
-use Rattle.logic.specs.Rows.{choose, allBelow, allRows, rowCount}
-use Rattle.formula.specs.Tree.{Tree, skim}
-use Rattle.formula.proofs.Auto.{lower}
+use mir.Val.{Fits}
+use mir.Syntax.{w64}
+use borrow.Author.Needs.{fits-under}
+use borrow.Author.Tests.{le-leb, lt-leb, lt-ltb, le-ltb, ltb-true, ltb-false}
+use Rattle.logic.specs.Rows.{allBelow, allRows, rowCount}
+use Rattle.formula.specs.Tree.{Tree}
 use Rattle.compare.specs.Same.{sameTree}
-use Rattle.leaves.specs.Slots.{slots, slotTree, numbers, slotAt, slotFrom, slotOf, kept}
+use Rattle.leaves.specs.Slots.{slots, slotTree, numbers, slotAt, slotFrom, kept}
 use Rattle.leaves.specs.Gather.{Gathered, many, keys, view}
 use Rattle.leaves.specs.Count.{choicesT, capped, rowsUpTo}
 use Rattle.leaves.specs.declared.slot.Slot.{Slot}
 use Rattle.leaves.specs.declared.gather.Leaves.{Leaves}
-use Rattle.leaves.proofs.Slots.{from-next}
-use Rattle.leaves.proofs.Gathering.{kept-none, kept-step, from-least, view-keys, view-many}
-use Rattle.rows.specs.Value.{valueIn, rowValue}
-use Rattle.rows.specs.Claim.{ImpT, impT, claimT, impOf, premisesFrom, impAt, allAt, claimAt, gatherAll}
-use Rattle.rows.specs.Every.{everyBy, withValue, rowsFrom, rowsBelow, everyOf}
+use Rattle.leaves.proofs.Gathering.{view-keys, view-many}
+use Rattle.columns.specs.Column.{rows, column, noneBelow, valueIn, rowIn}
+use Rattle.columns.specs.Digits.{numbered, divided, columnSet}
+use Rattle.columns.proofs.Listed.{column-length, column-getD, column-is, column-at, column-same}
+use Rattle.columns.proofs.Numbering.{row-set}
+use Rattle.rows.specs.Claim.{ImpT, claimT, impOf, premisesFrom, impAt, allAt, claimAt, failsFrom, gatherAll}
+use Rattle.rows.specs.Every.{quotientOf, rowWith, blockRows, numberedRows, rowsHold, blockSize, everyBy, everyOf}
 use Rattle.rows.specs.declared.value.Reading.{Reading}
 use Rattle.rows.specs.declared.claim.Task.{Task}
-use Rattle.rows.specs.declared.every.Row.{Row}
+use Rattle.rows.proofs.Distinct.{choices-two}
+use Rattle.rows.proofs.Numbered.{below-same, below-split, quotient-step, row-step, row-none, rows-numbered}
 
--- the row that the slots from j on hold
-abbrev rowAt : List ℕ → List ℕ → ℕ → List ℕ → Tree → ℕ
-rowAt s q j values u = valueIn values (slotFrom s q (slots - j) j u)
+-- the numbers of n rows behind the digits of the first j slots
+unfoldable pub quotients : List ℕ → List ℕ → ℕ → ℕ → ℕ → ℕ → List ℕ
+quotients s q R j base n = column (λ i. quotientOf s q R j (base + i)) n
 
--- the claim at the row in the slots
-module _ (s : List ℕ) (w : Reading) (q values : List ℕ) where
-  imp-is : (p : ImpT) → impAt s w q values p ≡ impT w (rowAt s q 0 values) p
-  unfolding impAt rowValue slotOf
-  imp-is p = go (eqb (rowValue s w q values (p .left)) 1)
-    where
-      go : (a : Bool) → cond a (eqb (rowValue s w q values (p .right)) 1) true ≡ (not a || eqb (rowValue s w q values (p .right)) 1)
-      go true = refl
-      go false = refl
+-- a block filled slot by slot
+module _ (s q : List ℕ) (R base n : ℕ) (cells₀ : List ℕ) where
+  pub fill-begin : (a : List ℕ) → take n a ≡ numbered base n → take n a ≡ quotients s q R 0 base n
+  unfolding numbered quotients quotientOf
+  fill-begin a e = e
 
-  all-is : (ps : List ImpT) → allAt s w q values ps ≡ all (impT w (rowAt s q 0 values)) ps
-  unfolding allAt
-  all-is [] = refl
-  all-is (p ∷ ps) = ap₂ (λ (a b : Bool). cond a b false) (imp-is p) (all-is ps) ∙ go (impT w (rowAt s q 0 values) p) (all (impT w (rowAt s q 0 values)) ps)
-    where
-      go : (a b : Bool) → cond a b false ≡ (a && b)
-      go true b = refl
-      go false b = refl
+  pub fill-none : blockRows cells₀ n ≡ numberedRows s q R 0 base n cells₀
+  unfolding blockRows numberedRows rowWith
+  fill-none = refl
 
-  claim-is : (lefts rights : List ℕ) (t : Task) → claimAt s lefts rights t w q values ≡ claimT w (premisesFrom s lefts rights t 0) (impOf s lefts rights t 0) (rowAt s q 0 values)
-  unfolding claimAt
-  claim-is lefts rights t = ap₂ (λ (a b : Bool). cond a true (not b)) (imp-is (impOf s lefts rights t 0)) (all-is (premisesFrom s lefts rights t 0)) ∙ go (impT w (rowAt s q 0 values) (impOf s lefts rights t 0)) (all (impT w (rowAt s q 0 values)) (premisesFrom s lefts rights t 0))
-    where
-      go : (a b : Bool) → cond a true (not b) ≡ (not b || a)
-      go true true = refl
-      go true false = refl
-      go false true = refl
-      go false false = refl
+  -- there is a choice
+  pub some-choice : (j c : ℕ) (p : Slot) → 2 ≤ R → p ≡ numbers q j → c ≡ choicesT R (slotTree s p) → 0 < c
+  some-choice j c p two ep ec = let h = choices-two R two (slotTree s p) in omega arith
 
--- a value set in a slot is a choice for its leaf
-row-chosen : (s q values : List ℕ) (j k : ℕ) → length values ≡ slots → j < slots → choose sameTree (rowAt s q (j + 1) values) (slotAt s q j) k ≡ rowAt s q j (set values j k)
-unfolding choose valueIn
-row-chosen s q values j k l h = fun-ext (λ u. go u (sameTree u (slotAt s q j)) refl)
-  where
-    go : (u : Tree) (b : Bool) → sameTree u (slotAt s q j) ≡ b → cond (sameTree u (slotAt s q j)) k (rowAt s q (j + 1) values u) ≡ rowAt s q j (set values j k) u
-    go u true e = rw (from-next s q j u h, e, lt-ltb _ _ h) (sym (getD-set-same values j k 0 (omega arith)))
-    go u false e = rw (from-next s q j u h, e) (ap (λ (n : ℕ). cond (ltb (slotFrom s q (slots - (j + 1)) (j + 1) u) slots) n 0) (sym (getD-set-other values j (slotFrom s q (slots - (j + 1)) (j + 1) u) k 0 (λ d. omega (arith, from-least s q u (slots - (j + 1)) (j + 1))))))
-
-module _ (s lefts rights : List ℕ) (t : Task) (w : Reading) (q : List ℕ) where
-  rows-step : (j : ℕ) (values : List ℕ) → length values ≡ slots → j < slots → rowsFrom s lefts rights t w q (j + 1) values ≡ rowsBelow s lefts rights t w q j values (choicesT (w .range) (slotAt s q j))
-  unfolding rowsFrom rowsBelow
-  rows-step j values l h =
-      ap (λ (l : List Tree). allRows sameTree (choicesT (w .range)) l f (rowAt s q (j + 1) values)) (ap (kept s q) (omega arith) ∙ kept-step s q j)
-      ∙ ap (allBelow (choicesT (w .range) (slotAt s q j))) (fun-ext (λ k. ap (allRows sameTree (choicesT (w .range)) (kept s q j) f) (row-chosen s q values j k l h)))
-    where
-      f : (Tree → ℕ) → Bool
-      f = claimT w (premisesFrom s lefts rights t 0) (impOf s lefts rights t 0)
-
-  below-none : (j v : ℕ) (values : List ℕ) → v ≤ 0 → rowsBelow s lefts rights t w q j values v ≡ true
-  unfolding rowsBelow
-  below-none j v values h = let e : v ≡ 0 = omega arith in rw e
-
-  below-step : (j v : ℕ) (values : List ℕ) → 0 < v → rowsBelow s lefts rights t w q j values v ≡ cond (rowsFrom s lefts rights t w q j (set values j (v - 1))) (rowsBelow s lefts rights t w q j values (v - 1)) false
-  unfolding rowsBelow
-  below-step j v values h = let e : v ≡ suc (v - 1) = omega arith in ap (λ (n : ℕ). allBelow n g) e ∙ go (g (v - 1)) (allBelow (v - 1) g)
-    where
-      g : ℕ → Bool
-      g k = rowsFrom s lefts rights t w q j (set values j k)
-
-      go : (a b : Bool) → elim a as (λ x. Bool) [ true ↦ b | false ↦ false ] ≡ cond a b false
-      go true b = refl
-      go false b = refl
-
-  module _ (j : ℕ) (row : Row) where
-    pub try-zero : (r : Bool) → j ≡ 0 → r ≡ claimAt s lefts rights t w q (row .values) → r ≡ rowsFrom s lefts rights t w q j (row .values)
-    unfolding rowsFrom
-    try-zero r z e = e ∙ claim-is s w q (row .values) lefts rights t ∙ rw (z, kept-none)
-
-    pub try-one : (r : Bool) → j ≡ 1 → r ≡ rowsFrom s lefts rights t w q 1 (row .values) → r ≡ rowsFrom s lefts rights t w q j (row .values)
-    try-one r z e = e ∙ ap (λ (n : ℕ). rowsFrom s lefts rights t w q n (row .values)) (sym z)
-
-    pub try-begin : (p : Slot) (c : ℕ) → (j ≡ 0 → ⊥) → j ≤ 12 → length (row .values) ≡ 12 → p ≡ numbers q (j - 1) → c ≡ choicesT (w .range) (slotTree s p) → rowsFrom s lefts rights t w q j (row .values) ≡ rowsBelow s lefts rights t w q (j - 1) (row .values) c
+  module _ (j c : ℕ) (p : Slot) (a : List ℕ) (ep : p ≡ numbers q j) (ec : c ≡ choicesT R (slotTree s p)) (ea : take n a ≡ quotients s q R j base n) where
+    chosen : c ≡ choicesT R (slotAt s q j)
     unfolding slotAt
-    try-begin p c z h l ep ec =
-        let e : j ≡ j - 1 + 1 = omega arith in
-        let k : j - 1 < slots = omega arith in
-        ap (λ (n : ℕ). rowsFrom s lefts rights t w q n (row .values)) e
-        ∙ rows-step (j - 1) (row .values) l k
-        ∙ sym (ap (rowsBelow s lefts rights t w q (j - 1) (row .values)) (ec ∙ ap (λ (p : Slot). choicesT (w .range) (slotTree s p)) ep))
+    chosen = ec ∙ ap (λ (p : Slot). choicesT R (slotTree s p)) ep
 
-    module _ (v : ℕ) (e : rowsFrom s lefts rights t w q j (row .values) ≡ rowsBelow s lefts rights t w q (j - 1) (row .values) v) where
-      pub try-end : v ≤ 0 → true ≡ rowsFrom s lefts rights t w q j (row .values)
-      try-end h = sym (e ∙ below-none (j - 1) v (row .values) h)
+    number : (i : ℕ) → i < n → getD a i 0 ≡ quotientOf s q R j (base + i)
+    unfolding quotients
+    number i h = column-at (λ (i : ℕ). quotientOf s q R j (base + i)) 0 a n i ea h
 
-      module _ (next : Row) (r : Bool) (h : 0 < v) (en : next ≡ withValue row (j - 1) (v - 1)) (er : r ≡ rowsFrom s lefts rights t w q (j - 1) (next .values)) where
-        by : rowsFrom s lefts rights t w q j (row .values) ≡ cond r (rowsBelow s lefts rights t w q (j - 1) (row .values) (v - 1)) false
-        unfolding withValue
-        by =
-            e ∙ below-step (j - 1) v (row .values) h
-            ∙ ap (λ (b : Bool). cond b (rowsBelow s lefts rights t w q (j - 1) (row .values) (v - 1)) false) (sym (er ∙ ap (λ (n : Row). rowsFrom s lefts rights t w q (j - 1) (n .values)) en))
+    pub fill-divided : (b : List ℕ) → take n b ≡ divided c n a → take n b ≡ quotients s q R (j + 1) base n
+    unfolding divided quotients quotientOf
+    fill-divided b e =
+        e ∙ column-same (λ (i : ℕ). getD a i 0 / c) (λ (i : ℕ). quotientOf s q R j (base + i) / choicesT R (slotAt s q j)) n (λ i h. ap₂ (λ (m d : ℕ). m / d) (number i h) chosen)
+        ∙ ap (λ (k : ℕ). column (λ i. quotientOf s q R k (base + i)) n) (sym (add-one j))
 
-        pub try-next : r ≡ true → rowsFrom s lefts rights t w q j (row .values) ≡ rowsBelow s lefts rights t w q (j - 1) (row .values) (v - 1)
-        try-next d = by ∙ rw d
+    pub fill-set : (k : ℕ) (cells next : List ℕ) → j < k → k ≤ 12 → n ≤ 1024 → length cells ≡ 12288 → blockRows cells n ≡ numberedRows s q R j base n cells₀ → next ≡ columnSet j c n a cells → blockRows next n ≡ numberedRows s q R (j + 1) base n cells₀
+    unfolding blockRows numberedRows rowWith
+    fill-set k cells next hj hk hn l e f =
+        column-same (rowIn next) (λ (i : ℕ). set (rowWith s q R j (base + i) (rowIn cells₀ i)) j (quotientOf s q R j (base + i) % choicesT R (slotAt s q j))) n (λ i h.
+        ap (λ (d : List ℕ). rowIn d i) f
+        ∙ row-set j c n i a cells (omega arith) h hn l
+        ∙ ap₂ (λ (v : List ℕ) (m : ℕ). set v j m) (sym (column-getD (rowIn cells) [] n i h) ∙ ap (λ (l : List (List ℕ)). getD l i []) e ∙ column-getD (λ (i : ℕ). rowWith s q R j (base + i) (rowIn cells₀ i)) [] n i h)
+        (ap₂ (λ (m d : ℕ). m % d) (number i h) chosen))
+        ∙ ap (λ (k : ℕ). column (λ i. rowWith s q R k (base + i) (rowIn cells₀ i)) n) (sym (add-one j))
 
-        pub try-fails : r ≡ false → false ≡ rowsFrom s lefts rights t w q j (row .values)
-        try-fails d = sym (by ∙ rw d)
+  pub fill-end : (j k : ℕ) (cells : List ℕ) → j ≤ k → k ≤ j → blockRows cells n ≡ numberedRows s q R j base n cells₀ → blockRows cells n ≡ numberedRows s q R k base n cells₀
+  fill-end j k cells h l e = let z : j ≡ k = omega arith in e ∙ ap (λ (k : ℕ). numberedRows s q R k base n cells₀) z
 
-  -- the same for the first slot alone
-  module _ (row : Row) where
-    pub first-begin : (p : Slot) (c : ℕ) → length (row .values) ≡ 12 → p ≡ numbers q 0 → c ≡ choicesT (w .range) (slotTree s p) → rowsFrom s lefts rights t w q 1 (row .values) ≡ rowsBelow s lefts rights t w q 0 (row .values) c
-    first-begin p c l ep ec = try-begin 1 row p c (λ z. omega arith) (omega arith) l ep ec
-
-    module _ (v : ℕ) (e : rowsFrom s lefts rights t w q 1 (row .values) ≡ rowsBelow s lefts rights t w q 0 (row .values) v) where
-      pub first-end : v ≤ 0 → true ≡ rowsFrom s lefts rights t w q 1 (row .values)
-      first-end h = try-end 1 row v e h
-
-      module _ (next : Row) (r : Bool) (h : 0 < v) (en : next ≡ withValue row 0 (v - 1)) (er : r ≡ claimAt s lefts rights t w q (next .values)) where
-        pub first-next : r ≡ true → rowsFrom s lefts rights t w q 1 (row .values) ≡ rowsBelow s lefts rights t w q 0 (row .values) (v - 1)
-        first-next d = try-next 1 row v e next r h en (try-zero 0 next r refl er) d
-
-        pub first-fails : r ≡ false → false ≡ rowsFrom s lefts rights t w q 1 (row .values)
-        first-fails d = try-fails 1 row v e next r h en (try-zero 0 next r refl er) d
-
-pub ruleset firsts = (first-begin, first-end, first-next, first-fails)
+pub ruleset filling = (fill-begin, fill-none, some-choice, fill-divided, fill-set, fill-end)
 
 -- where all values are 0 the row is 0 everywhere
 zeros : (n i : ℕ) → getD (replicate {A = ℕ} n 0) i 0 ≡ 0
@@ -160,6 +94,90 @@ zero-in i = go (ltb i slots)
     go : (b : Bool) → cond b (getD (replicate {A = ℕ} 12 0) i 0) 0 ≡ 0
     go true = zeros 12 i
     go false = refl
+
+zero-row : (i : ℕ) → rowIn (replicate 12288 0) i ≡ replicate slots 0
+unfolding rowIn
+zero-row i =
+    ext-getD 0 (column f slots) (replicate slots 0) (column-length f slots) (λ j h. column-getD f 0 slots j (let l = column-length f slots in omega arith) ∙ zeros 12288 (rows * j + i) ∙ sym (zeros slots j))
+  where
+    f : ℕ → ℕ
+    f j = getD (replicate 12288 0) (rows * j + i) 0
+
+module _ (s lefts rights : List ℕ) (t : Task) (w : Reading) (q : List ℕ) (k : ℕ) where
+  -- the rows of a block at which nothing fails
+  pub block-is : (base n : ℕ) (cells fails : List ℕ) (r : Bool) → blockRows cells n ≡ numberedRows s q (w .range) k base n (replicate 12288 0) → take n fails ≡ failsFrom s lefts rights t w q cells n 0 → r ≡ noneBelow fails n
+      → r ≡ rowsHold s lefts rights t w q k base n
+  unfolding blockRows numberedRows failsFrom noneBelow rowsHold claimAt
+  block-is base n cells fails r ec ef er = er ∙ below-same n (λ i. not (eqb (getD fails i 0) 1)) (λ i. claimAt s lefts rights t w q (rowWith s q (w .range) k (base + i) (replicate slots 0))) (λ i h.
+      ap (λ (m : ℕ). not (eqb m 1)) (column-at failing 0 fails n i ef h)
+      ∙ go (impAt s w q (rowIn cells i) (impOf s lefts rights t 0)) (allAt s w q (rowIn cells i) (premisesFrom s lefts rights t 0))
+      ∙ ap (claimAt s lefts rights t w q) (sym (column-getD (rowIn cells) [] n i h) ∙ ap (λ (l : List (List ℕ)). getD l i []) ec ∙ column-getD (λ (i : ℕ). rowWith s q (w .range) k (base + i) (rowIn (replicate 12288 0) i)) [] n i h ∙ ap (rowWith s q (w .range) k (base + i)) (zero-row i)))
+    where
+      failing : ℕ → ℕ
+      failing i = cond (impAt s w q (rowIn cells i) (impOf s lefts rights t 0)) 0 (cond (allAt s w q (rowIn cells i) (premisesFrom s lefts rights t 0)) 1 0)
+
+      go : (x y : Bool) → not (eqb (cond x 0 (cond y 1 0)) 1) ≡ cond x true (not y)
+      go true y = refl
+      go false true = refl
+      go false false = refl
+
+  -- block after block
+  pub hold-begin : (n : ℕ) → rowsHold s lefts rights t w q k 0 n ≡ rowsHold s lefts rights t w q k 0 (n - 0)
+  hold-begin n = let e : n ≡ n - 0 = omega arith in ap (rowsHold s lefts rights t w q k 0) e
+
+  module _ (base n m : ℕ) (e : rowsHold s lefts rights t w q k 0 n ≡ rowsHold s lefts rights t w q k base (n - base)) where
+    pub hold-end : n ≤ base → true ≡ rowsHold s lefts rights t w q k 0 n
+    unfolding rowsHold
+    hold-end h = let z : n - base ≡ 0 = omega arith in sym (e ∙ ap (λ (i : ℕ). allBelow i (λ i. claimAt s lefts rights t w q (rowWith s q (w .range) k (base + i) (replicate slots 0)))) z)
+
+    module _ (r : Bool) (h : m ≤ n - base) (er : r ≡ rowsHold s lefts rights t w q k base m) where
+      by : rowsHold s lefts rights t w q k 0 n ≡ cond r (rowsHold s lefts rights t w q k (base + m) (n - (base + m))) false
+      unfolding rowsHold
+      by =
+          let d : n - base ≡ m + (n - (base + m)) = omega arith in
+          e ∙ ap (λ (i : ℕ). allBelow i f) d ∙ below-split m (n - (base + m)) f
+          ∙ ap₂ (λ (a b : Bool). cond a b false) (sym er) (below-same (n - (base + m)) (λ i. f (m + i)) (λ i. claimAt s lefts rights t w q (rowWith s q (w .range) k (base + m + i) (replicate slots 0))) (λ i l.
+          let g : base + (m + i) ≡ base + m + i = omega arith in
+          ap (λ (x : ℕ). claimAt s lefts rights t w q (rowWith s q (w .range) k x (replicate slots 0))) g))
+        where
+          f : ℕ → Bool
+          f i = claimAt s lefts rights t w q (rowWith s q (w .range) k (base + i) (replicate slots 0))
+
+      pub hold-next : r ≡ true → rowsHold s lefts rights t w q k 0 n ≡ rowsHold s lefts rights t w q k (base + m) (n - (base + m))
+      hold-next d = by ∙ rw d
+
+      pub hold-fails : r ≡ false → false ≡ rowsHold s lefts rights t w q k 0 n
+      hold-fails d = sym (by ∙ rw d)
+
+-- how many rows a block takes
+module _ (m n base : ℕ) (e : m ≡ blockSize (n - base)) where
+  size : (b : Bool) → ltb (n - base) rows ≡ b → m ≡ cond b (n - base) rows → (m ≤ 1024) × ((m ≤ n - base) × (base < n → 0 < m))
+  size true f g = let h = ltb-true (n - base) rows f in (omega arith, (omega arith, λ l. omega arith))
+  size false f g = let h = ltb-false (n - base) rows f in (omega arith, (omega arith, λ l. omega arith))
+
+  sizes : (m ≤ 1024) × ((m ≤ n - base) × (base < n → 0 < m))
+  unfolding blockSize
+  sizes = size (ltb (n - base) rows) refl e
+
+  pub size-rows : m ≤ 1024
+  size-rows = sizes .0
+
+  pub size-left : m ≤ n - base
+  size-left = sizes .1 .0
+
+  pub size-end : base < n → n < 65536 → base + m < 65536
+  size-end h l = let d = sizes .1 .0 in omega arith
+
+  pub size-fits : base < n → n < 65536 → Fits w64 (base + m)
+  size-fits h l = fits-under w64 (base + m) 65536 (size-end h l) tt
+
+  pub size-within : base < n → base + m ≤ n
+  size-within h = let d = sizes .1 .0 in omega arith
+
+  pub size-less : base < n → n - (base + m) < n - base
+  size-less h = let d = sizes .1 .0 in let p = sizes .1 .1 h in omega arith
+
+pub ruleset holding = (hold-begin, hold-end, hold-next, hold-fails, size-rows, size-left, size-end, size-fits, size-within, size-less)
 
 module _ (s lefts rights : List ℕ) (t : Task) (w : Reading) (limit : ℕ) (g : Leaves) (eg : view s g ≡ gatherAll s lefts rights t (w .leaves)) where
   pub every-many : slots < g .count → false ≡ everyOf s lefts rights t w limit
@@ -179,14 +197,27 @@ module _ (s lefts rights : List ℕ) (t : Task) (w : Reading) (limit : ℕ) (g :
     unfolding rowsUpTo capped
     counted = told (ltb limit (1 * count)) refl er
 
+    -- the count itself if it is not above
+    exact : r ≤ limit → r ≡ count
+    unfolding rowsUpTo capped
+    exact l = go (ltb limit (1 * count)) refl er
+      where
+        go : (b : Bool) → ltb limit (1 * count) ≡ b → r ≡ cond b (limit + 1) (1 * count) → r ≡ count
+        go true e d = absurd (omega arith)
+        go false e d = d ∙ one-mul count
+
     pub every-over : limit < r → false ≡ everyOf s lefts rights t w limit
     unfolding everyOf
     every-over l = rw (← eg, view-keys s g h, lt-leb count limit (counted .0 l))
 
-    pub every-try : (b : Bool) → r ≤ limit → b ≡ rowsFrom s lefts rights t w (g .slots) (g .count) (replicate 12 0) → b ≡ everyOf s lefts rights t w limit
-    unfolding everyOf rowsFrom
-    every-try b l e = e ∙ rw (← eg, view-keys s g h, le-leb count limit (counted .1 l)) (ap (allRows sameTree (choicesT (w .range)) (kept s (g .slots) (g .count)) (claimT w (premisesFrom s lefts rights t 0) (impOf s lefts rights t 0))) (fun-ext (λ u. zero-in (slotFrom s (g .slots) (slots - g .count) (g .count) u))))
+    pub every-try : (b : Bool) → 2 ≤ w .range → r ≤ limit → b ≡ rowsHold s lefts rights t w (g .slots) (g .count) 0 r → b ≡ everyOf s lefts rights t w limit
+    unfolding everyOf rowsHold
+    every-try b two l e =
+        e ∙ ap (λ (n : ℕ). allBelow n (λ i. claimAt s lefts rights t w (g .slots) (rowWith s (g .slots) (w .range) (g .count) (0 + i) (replicate slots 0)))) (exact l)
+        ∙ below-same count (λ i. claimAt s lefts rights t w (g .slots) (rowWith s (g .slots) (w .range) (g .count) (0 + i) (replicate slots 0))) (λ i. claimAt s lefts rights t w (g .slots) (rowWith s (g .slots) (w .range) (g .count) i (replicate slots 0))) (λ i _.
+        let z : 0 + i ≡ i = omega arith in
+        ap (λ (m : ℕ). claimAt s lefts rights t w (g .slots) (rowWith s (g .slots) (w .range) (g .count) m (replicate slots 0))) z)
+        ∙ sym (rows-numbered s lefts rights t w (g .slots) two (g .count) (replicate slots 0) refl h)
+        ∙ rw (← eg, view-keys s g h, le-leb count limit (counted .1 l)) (ap (allRows sameTree (choicesT (w .range)) (kept s (g .slots) (g .count)) (claimT w (premisesFrom s lefts rights t 0) (impOf s lefts rights t 0))) (fun-ext (λ u. zero-in (slotFrom s (g .slots) (slots - g .count) (g .count) u))))
 
 pub ruleset everys = (every-many, every-over, every-try)
-
-pub ruleset tries = (try-zero, try-one, try-begin, try-end, try-next, try-fails, lower)

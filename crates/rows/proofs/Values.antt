@@ -1,134 +1,189 @@
--- The value of a formula at a row: the ways through the functions, one law for each.
-use Prim.Native.Nat.{ℕ, zero, suc, _+_, _-_, _%_, _≤_, _<_}
-use mathlib.Core.Path.{_≡_, refl, ap, sym, _∙_}
+-- The values of a formula at the rows of a block: the ways through the functions, one law for each.
+use Prim.Native.Nat.{ℕ, zero, suc, _+_, _-_, _≤_, _<_}
+use mathlib.Core.Path.{_≡_, refl, ap, ap₂, sym, _∙_}
 use mathlib.Core.List.{List}
-use mathlib.Core.Bool.{Bool, true, false, cond}
+use mathlib.Core.Bool.{Bool, true, false, cond, true≢false}
 use native.Mathlib.Omega.{arith}
-use native.Mathlib.Nat.{mod-lt}
-use lib.Dec.{ltb, eqb}
-use borrow.Author.Tests.{lt-ltb, le-ltb, eq-eqb, ne-eqb}
-use Rattle.logic.specs.Code
-use Rattle.logic.specs.Code.{byte}
+use lib.ListN.{getD, take}
+use lib.Dec.{eqb, ltb}
+use borrow.Author.Tests.{lt-ltb, le-ltb, eq-eqb, ne-eqb, eqb-false, ltb-true, ltb-false}
 use Rattle.formula.specs.Codes.{member, partCount}
-use Rattle.formula.specs.Tree.{Tree, none, node, nodeAt, skim}
+use Rattle.formula.specs.Tree.{Tree, none, node, nodeAt, Skim, part, skim}
 use Rattle.formula.specs.declared.node.Node.{Node}
 use Rattle.formula.proofs.Nodes.{skim-zero, skim-step, parts-of}
-use Rattle.formula.proofs.Auto.{lower}
 use Rattle.leaves.specs.Slots.{slotOf}
-use Rattle.rows.specs.Value.{sumOf, combine, valueT, valueIn, rowValue, valOf}
+use Rattle.columns.specs.Combine.{combine}
+use Rattle.columns.specs.Column.{rows, column, constant, combined, valueIn, rowIn, slotColumn}
+use Rattle.columns.proofs.Listed.{column-at, column-same}
+use Rattle.rows.specs.Value.{valueT, rowValue, columnOf, leafAt, leafColumn, secondLeft}
 use Rattle.rows.specs.declared.value.Reading.{Reading}
-use Rattle.rows.specs.declared.value.Val.{Val}
-
-module _ (R a b : ℕ) where
-  pub sum-none : R ≡ 0 → 0 ≡ sumOf R a b
-  unfolding sumOf
-  sum-none z = rw (eq-eqb _ _ z)
-
-  pub sum-some : (R ≡ 0 → ⊥) → (a + b) % R ≡ sumOf R a b
-  unfolding sumOf
-  sum-some z = rw (ne-eqb _ _ z)
-
-  -- the sum is a byte
-  pub sum-small : (R ≡ 0 → ⊥) → R < 256 → (a + b) % R < 256
-  sum-small z h = let p : 0 < R = omega arith in let q = mod-lt (a + b) p in omega arith
-
-pub ruleset sums = (sum-none, sum-some, sum-small)
-
-module _ (R c o a b : ℕ) where
-  pub combine-const : c ≡ byte Code.const → combine R c o a b ≡ o
-  unfolding combine
-  combine-const e = rw e
-
-  pub combine-sum : c ≡ byte Code.sum → combine R c o a b ≡ sumOf R a b
-  unfolding combine
-  combine-sum e = rw e
-
-  pub combine-equal : c ≡ byte Code.equal → combine R c o a b ≡ cond (eqb a b) 1 0
-  unfolding combine
-  combine-equal e = rw e
-
-  pub combine-less : c ≡ byte Code.less → combine R c o a b ≡ cond (ltb a b) 1 0
-  unfolding combine
-  combine-less e = rw e
-
-  pub combine-not : c ≡ byte Code.not → combine R c o a b ≡ cond (eqb a 1) 0 1
-  unfolding combine
-  combine-not e = rw e
-
-  pub combine-and : c ≡ byte Code.and → combine R c o a b ≡ cond (eqb a 1) b 0
-  unfolding combine
-  combine-and e = rw e
-
-  pub combine-or : c ≡ byte Code.or → combine R c o a b ≡ cond (eqb a 1) 1 b
-  unfolding combine
-  combine-or e = rw e
-
-  pub combine-both : c ≡ byte Code.bothA → combine R c o a b ≡ cond (eqb a 1) b 0
-  unfolding combine
-  combine-both e = rw e
-
-  pub combine-either : c ≡ byte Code.eitherA → combine R c o a b ≡ cond (eqb a 1) 1 b
-  unfolding combine
-  combine-either e = rw e
-
-  pub combine-holds : c ≡ byte Code.holds → combine R c o a b ≡ a
-  unfolding combine
-  combine-holds e = rw e
-
-  pub combine-other : (c ≡ byte Code.const → ⊥) → (c ≡ byte Code.sum → ⊥) → (c ≡ byte Code.equal → ⊥) → (c ≡ byte Code.less → ⊥) → (c ≡ byte Code.not → ⊥) → (c ≡ byte Code.and → ⊥)
-      → (c ≡ byte Code.or → ⊥) → (c ≡ byte Code.bothA → ⊥) → (c ≡ byte Code.eitherA → ⊥) → (c ≡ byte Code.holds → ⊥) → 0 ≡ combine R c o a b
-  unfolding combine
-  combine-other a b c d e f g h i j = rw (ne-eqb _ _ a, ne-eqb _ _ b, ne-eqb _ _ c, ne-eqb _ _ d, ne-eqb _ _ e, ne-eqb _ _ f, ne-eqb _ _ g, ne-eqb _ _ h, ne-eqb _ _ i, ne-eqb _ _ j)
-
-pub ruleset combines = (combine-const, combine-sum, combine-equal, combine-less, combine-not, combine-and, combine-or, combine-both, combine-either, combine-holds, combine-other)
-
--- the value in a slot
-pub leaf-is : (v : List ℕ) (j k n : ℕ) → j ≡ k → n ≡ valueIn v j → n ≡ valueIn v k
-leaf-is v j k n e f = f ∙ ap (valueIn v) e
 
 -- a node without parts has a code without parts
 pub no-parts : (s : List ℕ) (at : ℕ) (x : Node) → x ≡ nodeAt s at → x .parts ≡ 0 → partCount (x .code) ≡ 0
 no-parts s at x e p = rw e (sym (parts-of s at) ∙ ap (λ (x : Node). x .parts) (sym e) ∙ p)
 
-module _ (s : List ℕ) (w : Reading) (q v : List ℕ) where
-  value-none : rowValue s w q v none ≡ 0
+module _ (s : List ℕ) (w : Reading) (q : List ℕ) where
+  value-none : (v : List ℕ) → rowValue s w q v none ≡ 0
   unfolding rowValue valueT
-  value-none = refl
+  value-none v = refl
 
-  value-node : (c o : ℕ) (l r : Tree) → rowValue s w q v (node c o l r) ≡ cond (member (w .leaves) c) (valueIn v (slotOf s q (node c o l r))) (combine (w .range) c o (rowValue s w q v l) (rowValue s w q v r))
+  value-node : (v : List ℕ) (c o : ℕ) (l r : Tree) → rowValue s w q v (node c o l r) ≡ cond (member (w .leaves) c) (valueIn v (slotOf s q (node c o l r))) (combine (w .range) c o (rowValue s w q v l) (rowValue s w q v r))
   unfolding rowValue valueT
-  value-node c o l r = refl
+  value-node v c o l r = refl
 
-  module _ (k at : ℕ) where
-    pub value-zero : k ≡ 0 → record { value = 0; next = at } ≡ valOf s w q v (skim s k at)
-    value-zero z = rw (skim-zero s k at z, value-none)
+  module _ (cells : List ℕ) (n : ℕ) where
+    column-none : constant 0 n ≡ columnOf s w q cells n none
+    unfolding constant columnOf
+    column-none = column-same (λ (i : ℕ). 0) (λ (i : ℕ). rowValue s w q (rowIn cells i) none) n (λ i h. sym (value-none (rowIn cells i)))
 
-    module _ (x : Node) (z : k ≡ 0 → ⊥) (e : x ≡ nodeAt s at) where
-      pub value-plain : (n : ℕ) → x .parts ≡ 0 → n ≡ rowValue s w q v (node (x .code) (x .operand) none none) → record { value = n; next = x .next } ≡ valOf s w q v (skim s k at)
-      value-plain n p f = rw (f, skim-step s k at z, ← e, p)
+    column-leaf : (c o : ℕ) (l r : Tree) → member (w .leaves) c ≡ true → slotColumn cells (slotOf s q (node c o l r)) n ≡ columnOf s w q cells n (node c o l r)
+    unfolding slotColumn columnOf
+    column-leaf c o l r e = column-same (λ (i : ℕ). valueIn (rowIn cells i) (slotOf s q (node c o l r))) (λ (i : ℕ). rowValue s w q (rowIn cells i) (node c o l r)) n (λ i h. sym (value-node (rowIn cells i) c o l r ∙ rw e))
 
-      module _ (b : Bool) (p : x .parts ≡ 0 → ⊥) (eb : b ≡ member (w .leaves) (x .code)) where
-        pub value-leaf : (n m : ℕ) → b ≡ true → n ≡ valueIn v (slotOf s q (skim s k at .tree)) → m ≡ skim s k at .end → record { value = n; next = m } ≡ valOf s w q v (skim s k at)
-        value-leaf n m d f g = rw (f, g, skim-step s k at z, ← e, value-node, ← eb, d)
+    column-node : (c o : ℕ) (l r : Tree) (a b : List ℕ) → member (w .leaves) c ≡ false → ((i : ℕ) → i < n → getD a i 0 ≡ rowValue s w q (rowIn cells i) l)
+        → ((i : ℕ) → i < n → getD b i 0 ≡ rowValue s w q (rowIn cells i) r) → combined (w .range) c o n a b ≡ columnOf s w q cells n (node c o l r)
+    unfolding combined columnOf
+    column-node c o l r a b e f g =
+        column-same (λ (i : ℕ). combine (w .range) c o (getD a i 0) (getD b i 0)) (λ (i : ℕ). rowValue s w q (rowIn cells i) (node c o l r)) n
+        (λ i h. ap₂ (combine (w .range) c o) (f i h) (g i h) ∙ sym (value-node (rowIn cells i) c o l r ∙ rw e))
 
-        module _ (a : Val) (d : b ≡ false) (ea : a ≡ valOf s w q v (skim s (k - 1) (x .next))) where
-          pub value-one : (n : ℕ) → x .parts ≡ 1 → n ≡ combine (w .range) (x .code) (x .operand) (a .value) 0 → record { value = n; next = a .next } ≡ valOf s w q v (skim s k at)
-          value-one n o f = rw (f, ea, skim-step s k at z, ← e, value-node, ← eb, d, o, value-none)
+    -- what stands in a formula's column
+    pub column-value : (t : Tree) (a : List ℕ) → take n a ≡ columnOf s w q cells n t → (i : ℕ) → i < n → getD a i 0 ≡ rowValue s w q (rowIn cells i) t
+    unfolding columnOf
+    column-value t a e i h = column-at (λ (i : ℕ). rowValue s w q (rowIn cells i) t) 0 a n i e h
 
-          pub value-two : (c : Val) (n : ℕ) → (x .parts ≡ 1 → ⊥) → c ≡ valOf s w q v (skim s (k - 1) (a .next)) → n ≡ combine (w .range) (x .code) (x .operand) (a .value) (c .value) → record { value = n; next = c .next } ≡ valOf s w q v (skim s k at)
-          value-two c n o ec f =
-              let t₀ : 0 < x .parts = omega arith in
-              let t₁ : 1 < x .parts = omega arith in
-              rw (f, ec, ea, skim-step s k at z, ← e, value-node, ← eb, d, lt-ltb _ _ t₀, lt-ltb _ _ t₁)
+    -- nothing to combine
+    module _ (k at : ℕ) (a o : List ℕ) where
+      pub leaf-zero : k ≡ 0 → true ≡ leafAt s w k at
+      unfolding leafAt
+      leaf-zero z = rw (eq-eqb _ _ z)
+
+      pub zero-column : k ≡ 0 → take n a ≡ constant 0 n → take n a ≡ leafColumn s w q cells n k at o
+      unfolding leafColumn
+      zero-column z e = e ∙ column-none ∙ rw (← leaf-zero z, skim-zero s k at z)
+
+      module _ (x : Node) (z : k ≡ 0 → ⊥) (e : x ≡ nodeAt s at) where
+        pub leaf-plain : x .parts ≡ 0 → true ≡ leafAt s w k at
+        unfolding leafAt
+        leaf-plain p = rw (ne-eqb _ _ z, ← e, eq-eqb _ _ p)
+
+        pub plain-column : x .parts ≡ 0 → take n a ≡ columnOf s w q cells n (node (x .code) (x .operand) none none) → take n a ≡ leafColumn s w q cells n k at o
+        unfolding leafColumn
+        plain-column p f = f ∙ rw (← leaf-plain p) (rw (skim-step s k at z, ← e, p))
+
+        module _ (b : Bool) (p : x .parts ≡ 0 → ⊥) (eb : b ≡ member (w .leaves) (x .code)) where
+          pub leaf-inner : (d : Bool) → b ≡ d → d ≡ leafAt s w k at
+          unfolding leafAt
+          leaf-inner d f = sym f ∙ eb ∙ rw (ne-eqb _ _ z, ← e, ne-eqb _ _ p)
+
+          pub inner-column : (j : ℕ) → b ≡ true → j ≡ slotOf s q (skim s k at .tree) → take n a ≡ slotColumn cells j n → take n a ≡ leafColumn s w q cells n k at o
+          unfolding leafColumn
+          inner-column j d f g =
+              g ∙ ap (λ (j : ℕ). slotColumn cells j n) f
+              ∙ rw (← leaf-inner true d) (rw (skim-step s k at z, ← e) (column-leaf (x .code) (x .operand) (first .tree) (part (λ p. skim s (k - 1) p) (ltb 1 (x .parts)) (first .end) .tree) (sym eb ∙ d)))
+            where
+              first : Skim
+              first = part (λ p. skim s (k - 1) p) (ltb 0 (x .parts)) (x .next)
+
+          pub other-column : b ≡ false → take n a ≡ leafColumn s w q cells n k at a
+          unfolding leafColumn
+          other-column d = rw (← leaf-inner false d)
+
+    -- all formulas
+    module _ (k at : ℕ) (b : Bool) (eb : b ≡ leafAt s w k at) where
+      pub value-leaf : (a o : List ℕ) → b ≡ true → take n a ≡ leafColumn s w q cells n k at o → take n a ≡ columnOf s w q cells n (skim s k at .tree)
+      unfolding leafColumn
+      value-leaf a o d f = f ∙ rw (← eb, d)
+
+      -- neither a leaf nor without parts, and some nesting is left
+      inner : (u v : Bool) → eqb k 0 ≡ u → eqb (nodeAt s at .parts) 0 ≡ v → cond u true (cond v true (member (w .leaves) (nodeAt s at .code))) ≡ false
+          → (k ≡ 0 → ⊥) × ((nodeAt s at .parts ≡ 0 → ⊥) × (member (w .leaves) (nodeAt s at .code) ≡ false))
+      inner true v f g h = absurd (true≢false h)
+      inner false true f g h = absurd (true≢false h)
+      inner false false f g h = (eqb-false k 0 f, (eqb-false (nodeAt s at .parts) 0 g, h))
+
+      module _ (d : b ≡ false) where
+        split : (k ≡ 0 → ⊥) × ((nodeAt s at .parts ≡ 0 → ⊥) × (member (w .leaves) (nodeAt s at .code) ≡ false))
+        unfolding leafAt
+        split = inner (eqb k 0) (eqb (nodeAt s at .parts) 0) refl refl (sym eb ∙ d)
+
+        pub some-left : 1 ≤ k
+        some-left = go k refl
+          where
+            go : (i : ℕ) → k ≡ i → 1 ≤ k
+            go zero f = absurd (split .0 f)
+            go (suc i) f = omega arith
+
+        some-parts : 0 < nodeAt s at .parts
+        some-parts = go (nodeAt s at .parts) refl
+          where
+            go : (i : ℕ) → nodeAt s at .parts ≡ i → 0 < nodeAt s at .parts
+            go zero f = absurd (split .1 .0 f)
+            go (suc i) f = omega arith
+
+        pub first-less : (t : ℕ) → k ≡ t → k - 1 < t
+        first-less t e = let h = some-left in omega arith
+
+        pub second-less : (t p j : ℕ) → k ≡ t → j ≡ secondLeft p k → j < t
+        unfolding secondLeft
+        second-less t p j e f = let h = some-left in go (ltb p 2) f
+          where
+            go : (u : Bool) → j ≡ cond u 0 (k - 1) → j < t
+            go true g = let h = some-left in omega arith
+            go false g = let h = some-left in omega arith
+
+        module _ (x : Node) (m j y : ℕ) (e : x ≡ nodeAt s at) (em : m ≡ skim s (k - 1) (x .next) .end) (ej : j ≡ secondLeft (x .parts) k) (ey : y ≡ skim s j m .end) where
+          -- the second part
+          second : (u : Bool) → ltb (nodeAt s at .parts) 2 ≡ u → skim s j m ≡ part (λ p. skim s (k - 1) p) (ltb 1 (nodeAt s at .parts)) m
+          unfolding secondLeft
+          second true f =
+              let h : nodeAt s at .parts ≤ 1 = omega (arith, ltb-true (nodeAt s at .parts) 2 f) in
+              let g : j ≡ 0 = ej ∙ rw (e, f) in
+              rw (g, le-ltb _ _ h) (skim-zero s 0 m refl)
+          second false f =
+              let h : 1 < nodeAt s at .parts = omega (arith, ltb-false (nodeAt s at .parts) 2 f) in
+              let g : j ≡ k - 1 = ej ∙ rw (e, f) in
+              rw (g, lt-ltb _ _ h)
+
+          whole : skim s k at ≡ record { tree = node (x .code) (x .operand) (skim s (k - 1) (x .next) .tree) (skim s j m .tree); end = skim s j m .end }
+          whole = skim-step s k at (split .0) ∙ rw (second (ltb (nodeAt s at .parts) 2) refl, em, e, lt-ltb _ _ some-parts)
+
+          pub end-two : y ≡ skim s k at .end
+          end-two = ey ∙ sym (ap (λ (u : Skim). u .end) whole)
+
+          pub value-two : (a c g : List ℕ) → take n c ≡ columnOf s w q cells n (skim s (k - 1) (x .next) .tree) → take n g ≡ columnOf s w q cells n (skim s j m .tree)
+              → take n a ≡ combined (w .range) (x .code) (x .operand) n c g → take n a ≡ columnOf s w q cells n (skim s k at .tree)
+          value-two a c g ec eg f =
+              f ∙ column-node (x .code) (x .operand) (skim s (k - 1) (x .next) .tree) (skim s j m .tree) c g (rw e (split .1 .1)) (column-value (skim s (k - 1) (x .next) .tree) c ec) (column-value (skim s j m .tree) g eg)
+              ∙ ap (columnOf s w q cells n) (sym (ap (λ (u : Skim). u .tree) whole))
 
 -- a formula without parts
-module _ (s : List ℕ) (w : Reading) (q v : List ℕ) (c o : ℕ) (b : Bool) (eb : b ≡ member (w .leaves) c) where
-  pub plain-leaf : (j n : ℕ) → b ≡ true → j ≡ slotOf s q (node c o none none) → n ≡ valueIn v j → n ≡ rowValue s w q v (node c o none none)
-  plain-leaf j n d e f = f ∙ rw (value-node, ← eb, d, e)
+module _ (s : List ℕ) (w : Reading) (q cells : List ℕ) (n c o : ℕ) (a : List ℕ) (b : Bool) (eb : b ≡ member (w .leaves) c) where
+  pub plain-leaf : (j : ℕ) → b ≡ true → j ≡ slotOf s q (node c o none none) → take n a ≡ slotColumn cells j n → take n a ≡ columnOf s w q cells n (node c o none none)
+  plain-leaf j d e f = f ∙ ap (λ (j : ℕ). slotColumn cells j n) e ∙ column-leaf s w q cells n c o none none (sym eb ∙ d)
 
-  pub plain-other : (n : ℕ) → b ≡ false → n ≡ combine (w .range) c o 0 0 → n ≡ rowValue s w q v (node c o none none)
-  plain-other n d f = f ∙ rw (value-node, ← eb, d) (simp value-none)
+  pub plain-other : (v : ℕ) → b ≡ false → v ≡ combine (w .range) c o 0 0 → take n a ≡ constant v n → take n a ≡ columnOf s w q cells n (node c o none none)
+  unfolding constant columnOf
+  plain-other v d e f =
+      f ∙ column-same (λ (i : ℕ). v) (λ (i : ℕ). rowValue s w q (rowIn cells i) (node c o none none)) n
+      (λ i h. e ∙ sym (value-node s w q (rowIn cells i) c o none none ∙ rw (← eb, d) (ap₂ (combine (w .range) c o) (value-none s w q (rowIn cells i)) (value-none s w q (rowIn cells i)))))
 
 pub ruleset plains = (plain-leaf, plain-other)
 
-pub ruleset values = (value-zero, no-parts, value-leaf, value-plain, value-one, value-two, lower)
+pub ruleset leafs = (no-parts, leaf-zero, zero-column, leaf-plain, plain-column, leaf-inner, inner-column, other-column)
+
+pub second-none : (p k : ℕ) → p < 2 → 0 ≡ secondLeft p k
+unfolding secondLeft
+second-none p k h = rw (lt-ltb _ _ h)
+
+pub second-cut : (p k : ℕ) → 2 ≤ p → k ≡ 0 → 0 ≡ secondLeft p k
+unfolding secondLeft
+second-cut p k h z = rw (le-ltb _ _ h, z)
+
+pub second-some : (p k : ℕ) → 2 ≤ p → k - 1 ≡ secondLeft p k
+unfolding secondLeft
+second-some p k h = rw (le-ltb _ _ h)
+
+pub ruleset seconds = (second-none, second-cut, second-some)
+
+pub ruleset values = (value-leaf, some-left, first-less, second-less, end-two, value-two)

@@ -1,13 +1,16 @@
 // What is claimed of each row: that the line is true where all premises are. Line and premises are implications.
 use crate::value::Reading;
-use crate::value::value_at;
+use crate::value::column_at;
+use columns::block::Block;
+use columns::column::deny;
 use leaves::gather::Leaves;
 use leaves::gather::gather_at;
 use leaves::slot::Slots;
 ghost use mathlib.Core.Path.{_≡_};
-ghost use lib.ListN.{getD};
+ghost use Prim.Native.Nat.{_≤_};
+ghost use lib.ListN.{getD, length, take};
 ghost use Rattle.leaves.specs.Gather.{view, Gathered, keys};
-ghost use Rattle.rows.specs.Claim.{impOf, premisesFrom, impAt, allAt, claimAt, gatherImp, gatherAll};
+ghost use Rattle.rows.specs.Claim.{impOf, impFails, keptWhere, failsFrom, gatherImp, gatherAll};
 
 pub struct Sizes {}
 
@@ -30,8 +33,8 @@ pub fn number_at(l: &[usize], i: usize) -> usize
     if i < l.len() { l[i] } else { 0 }
 }
 
-// Whether an implication is true at the row.
-pub fn imp_holds(
+// The rows at which an implication fails: 1 there, 0 elsewhere.
+pub fn imp_fails(
     s: &[u8],
     lefts: &[usize],
     rights: &[usize],
@@ -39,57 +42,61 @@ pub fn imp_holds(
     i: usize,
     w: Reading,
     slots: &[usize; Slots::NUMBERS],
-    values: &[u8; Slots::COUNT],
-) -> bool
-    ensures { λ r. ⌜ r ≡ impAt (now (s .entry)) w (now (slots .entry)) (now (values .entry)) (impOf (now (s .entry)) (now (lefts .entry)) (now (rights .entry)) t i) ⌝ }
+    cells: &[u8; Block::CELLS],
+    n: usize,
+    out: &mut [u8],
+)
+    requires { ⌜ (n ≤ 1024) × (n ≤ length (now out)) ⌝ }
+    ensures { λ _. ⌜ take n (now (out .exit)) ≡ impFails (now (s .entry)) w (now (slots .entry)) (now (cells .entry)) n (impOf (now (s .entry)) (now (lefts .entry)) (now (rights .entry)) t i) ⌝ }
 {
-    let a = value_at(s, number_at(lefts, i), t.left, w, slots, values);
-    if a.value == 1 {
-        let b = value_at(s, number_at(rights, i), t.right, w, slots, values);
-        return b.value == 1;
-    }
-    true
+    column_at(s, number_at(lefts, i), t.left, w, slots, cells, n, out);
+    let mut b: [u8; Block::ROWS] = [0; Block::ROWS];
+    column_at(s, number_at(rights, i), t.right, w, slots, cells, n, &mut b);
+    deny(n, out, &mut b);
 }
 
-// Whether every premise is true at the row.
-pub fn premises_hold(
+// Of the rows that are 1, those at which an implication is true.
+pub fn keep_where(
+    s: &[u8],
+    lefts: &[usize],
+    rights: &[usize],
+    t: Task,
+    i: usize,
+    w: Reading,
+    slots: &[usize; Slots::NUMBERS],
+    cells: &[u8; Block::CELLS],
+    n: usize,
+    out: &mut [u8],
+)
+    requires { ⌜ (n ≤ 1024) × (n ≤ length (now out)) ⌝ }
+    ensures { λ _. ⌜ take n (now (out .exit)) ≡ keptWhere (now (s .entry)) w (now (slots .entry)) (now (cells .entry)) n (impOf (now (s .entry)) (now (lefts .entry)) (now (rights .entry)) t i) (now (out .entry)) ⌝ }
+{
+    let mut b: [u8; Block::ROWS] = [0; Block::ROWS];
+    imp_fails(s, lefts, rights, t, i, w, slots, cells, n, &mut b);
+    deny(n, out, &mut b);
+}
+
+// The rows at which the claim fails: the line does, and every premise is true.
+pub fn claim_fails(
     s: &[u8],
     lefts: &[usize],
     rights: &[usize],
     t: Task,
     w: Reading,
     slots: &[usize; Slots::NUMBERS],
-    values: &[u8; Slots::COUNT],
-) -> bool
-    ensures { λ r. ⌜ r ≡ allAt (now (s .entry)) w (now (slots .entry)) (now (values .entry)) (premisesFrom (now (s .entry)) (now (lefts .entry)) (now (rights .entry)) t 0) ⌝ }
+    cells: &[u8; Block::CELLS],
+    n: usize,
+    out: &mut [u8],
+)
+    requires { ⌜ (n ≤ 1024) × (n ≤ length (now out)) ⌝ }
+    ensures { λ _. ⌜ take n (now (out .exit)) ≡ failsFrom (now (s .entry)) (now (lefts .entry)) (now (rights .entry)) t w (now (slots .entry)) (now (cells .entry)) n 0 ⌝ }
 {
-    let mut i: usize = 0;
-    while i < t.premises {
-        if imp_holds(s, lefts, rights, t, i + 1, w, slots, values) {
-            i += 1;
-        } else {
-            return false;
-        }
+    imp_fails(s, lefts, rights, t, 0, w, slots, cells, n, out);
+    let mut i = t.premises;
+    while 0 < i {
+        keep_where(s, lefts, rights, t, i, w, slots, cells, n, out);
+        i -= 1;
     }
-    true
-}
-
-// Whether the line is true at the row, or some premise is not.
-pub fn row_holds(
-    s: &[u8],
-    lefts: &[usize],
-    rights: &[usize],
-    t: Task,
-    w: Reading,
-    slots: &[usize; Slots::NUMBERS],
-    values: &[u8; Slots::COUNT],
-) -> bool
-    ensures { λ r. ⌜ r ≡ claimAt (now (s .entry)) (now (lefts .entry)) (now (rights .entry)) t w (now (slots .entry)) (now (values .entry)) ⌝ }
-{
-    if imp_holds(s, lefts, rights, t, 0, w, slots, values) {
-        return true;
-    }
-    !premises_hold(s, lefts, rights, t, w, slots, values)
 }
 
 // With the leaves of an implication.

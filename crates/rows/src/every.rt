@@ -1,105 +1,98 @@
-// Every row tried, until one fails.
-use crate::claim::Sizes;
+// Every row tried, a block at a time, until one fails.
 use crate::claim::Task;
+use crate::claim::claim_fails;
 use crate::claim::gather_all;
-use crate::claim::row_holds;
 use crate::value::Reading;
+use columns::block::Block;
+use columns::column::none_below;
+use columns::digits::divide;
+use columns::digits::number_rows;
+use columns::digits::set_column;
 use leaves::count::choices;
 use leaves::count::count_rows;
 use leaves::slot::Slots;
 use leaves::slot::slot_at;
 ghost use mathlib.Core.Path.{_≡_};
-ghost use Prim.Native.Nat.{_≤_, _<_};
-ghost use Rattle.rows.specs.Claim.{claimAt};
-ghost use Rattle.rows.specs.Every.{withValue, rowsFrom, everyOf};
+ghost use Prim.Native.Nat.{_+_, _≤_, _<_};
+ghost use lib.ListN.{length};
+ghost use Rattle.rows.specs.Every.{blockRows, numberedRows, rowsHold, blockSize, everyOf};
 
-// A value for each slot.
-pub struct Row {
-    pub values: [u8; Slots::COUNT],
-}
-
-pub fn with_value(row: Row, j: usize, value: u8) -> Row
-    requires { ⌜ j < 12 ⌝ }
-    ensures { λ r. ⌜ r ≡ withValue row j value ⌝ }
+// The rows with the numbers from the base on, by their digits in the first k slots.
+pub fn fill_block(
+    s: &[u8],
+    range: u8,
+    slots: &[usize; Slots::NUMBERS],
+    k: usize,
+    base: u16,
+    n: usize,
+    cells: &mut [u8],
+)
+    requires { ⌜ (k ≤ 12) × ((n ≤ 1024) × ((base + n < 65536) × (2 ≤ range))) ⌝ }
+    requires { ⌜ length (now cells) ≡ 12288 ⌝ }
+    ensures { λ _. ⌜ blockRows (now (cells .exit)) n ≡ numberedRows (now (s .entry)) (now (slots .entry)) range k base n (now (cells .entry)) ⌝ }
 {
-    let mut next = row;
-    next.values[j] = value;
-    next
+    let mut numbers: [u16; Block::ROWS] = [0; Block::ROWS];
+    number_rows(base, n, &mut numbers);
+    let mut j: usize = 0;
+    while j < k {
+        let c = choices(s, range, slot_at(slots, j));
+        set_column(j, c, n, &numbers, cells);
+        divide(c, n, &mut numbers);
+        j += 1;
+    }
 }
 
-// Whether the claim is true at the row.
-pub fn row_at(
+// Whether the claim is true at n rows from the one with the number of the base on.
+pub fn block_holds(
     s: &[u8],
     lefts: &[usize],
     rights: &[usize],
     t: Task,
     w: Reading,
     slots: &[usize; Slots::NUMBERS],
-    row: Row,
+    k: usize,
+    base: u16,
+    n: usize,
 ) -> bool
-    ensures { λ r. ⌜ r ≡ claimAt (now (s .entry)) (now (lefts .entry)) (now (rights .entry)) t w (now (slots .entry)) (row .values) ⌝ }
+    requires { ⌜ (k ≤ 12) × ((n ≤ 1024) × ((base + n < 65536) × (2 ≤ w .range))) ⌝ }
+    ensures { λ r. ⌜ r ≡ rowsHold (now (s .entry)) (now (lefts .entry)) (now (rights .entry)) t w (now (slots .entry)) k base n ⌝ }
 {
-    let values = row.values;
-    row_holds(s, lefts, rights, t, w, slots, &values)
+    let mut cells: [u8; Block::CELLS] = [0; Block::CELLS];
+    fill_block(s, w.range, slots, k, base, n, &mut cells);
+    let mut fails: [u8; Block::ROWS] = [0; Block::ROWS];
+    claim_fails(s, lefts, rights, t, w, slots, &cells, n, &mut fails);
+    none_below(&fails, n)
 }
 
-// Whether the claim is true at every value of the first slot; the others are as in the row. (Apart from the others, since it
-// is quicker so: most rows are here.)
-pub fn try_first(
+fn block_size(left: usize) -> usize
+    ensures { λ r. ⌜ r ≡ blockSize left ⌝ }
+{
+    if left < Block::ROWS {
+        left
+    } else {
+        Block::ROWS
+    }
+}
+
+// Whether the claim is true at each of so many rows.
+pub fn rows_hold(
     s: &[u8],
     lefts: &[usize],
     rights: &[usize],
     t: Task,
     w: Reading,
     slots: &[usize; Slots::NUMBERS],
-    row: Row,
+    k: usize,
+    rows: usize,
 ) -> bool
-    ensures { λ r. ⌜ r ≡ rowsFrom (now (s .entry)) (now (lefts .entry)) (now (rights .entry)) t w (now (slots .entry)) 1 (row .values) ⌝ }
+    requires { ⌜ (k ≤ 12) × ((rows < 65536) × (2 ≤ w .range)) ⌝ }
+    ensures { λ r. ⌜ r ≡ rowsHold (now (s .entry)) (now (lefts .entry)) (now (rights .entry)) t w (now (slots .entry)) k 0 rows ⌝ }
 {
-    let mut above = choices(s, w.range, slot_at(slots, 0));
-    while 0 < above {
-        if row_at(s, lefts, rights, t, w, slots, with_value(row, 0, above - 1)) {
-            above -= 1;
-        } else {
-            return false;
-        }
-    }
-    true
-}
-
-// Whether the claim is true at every choice of values for the first j slots; the others are as in the row.
-pub fn try_rows(
-    s: &[u8],
-    lefts: &[usize],
-    rights: &[usize],
-    t: Task,
-    w: Reading,
-    slots: &[usize; Slots::NUMBERS],
-    j: usize,
-    row: Row,
-) -> bool
-    requires { ⌜ j ≤ 12 ⌝ }
-    ensures { λ r. ⌜ r ≡ rowsFrom (now (s .entry)) (now (lefts .entry)) (now (rights .entry)) t w (now (slots .entry)) j (row .values) ⌝ }
-{
-    if j == 0 {
-        return row_at(s, lefts, rights, t, w, slots, row);
-    }
-    if j == 1 {
-        return try_first(s, lefts, rights, t, w, slots, row);
-    }
-    let mut v = choices(s, w.range, slot_at(slots, j - 1));
-    while 0 < v {
-        if try_rows(
-            s,
-            lefts,
-            rights,
-            t,
-            w,
-            slots,
-            j - 1,
-            with_value(row, j - 1, v - 1),
-        ) {
-            v -= 1;
+    let mut base: usize = 0;
+    while base < rows {
+        let n = block_size(rows - base);
+        if block_holds(s, lefts, rights, t, w, slots, k, base as u16, n) {
+            base += n;
         } else {
             return false;
         }
@@ -116,27 +109,18 @@ pub fn every_row(
     w: Reading,
     limit: u16,
 ) -> bool
+    requires { ⌜ 2 ≤ w .range ⌝ }
     ensures { λ r. ⌜ r ≡ everyOf (now (s .entry)) (now (lefts .entry)) (now (rights .entry)) t w limit ⌝ }
 {
     let g = gather_all(s, lefts, rights, t, w.leaves);
-    let n = g.count;
-    if Slots::COUNT < n {
+    let k = g.count;
+    if Slots::COUNT < k {
         return false;
     }
     let slots = g.slots;
-    if (limit as u32) < count_rows(s, &slots, n, w.range, limit) {
+    let rows = count_rows(s, &slots, k, w.range, limit);
+    if (limit as u32) < rows {
         return false;
     }
-    try_rows(
-        s,
-        lefts,
-        rights,
-        t,
-        w,
-        &slots,
-        n,
-        Row {
-            values: [0; Slots::COUNT],
-        },
-    )
+    rows_hold(s, lefts, rights, t, w, &slots, k, rows as usize)
 }

@@ -1,16 +1,23 @@
-// The value of a formula at a row. A test's value is 1 for true.
-use formula::code::Code;
+// The values of a formula at the rows of a block. A test's value is 1 for true.
+use columns::block::Block;
+use columns::block::fill;
+use columns::block::take_slot;
+use columns::column::combine_columns;
+use columns::combine::combine_parts;
 use formula::code::contains;
 use formula::end::end_at;
+use formula::node::Node;
 use formula::node::node_at;
 use leaves::slot::Slots;
 use leaves::slot::plain_slot;
 use leaves::slot::slot_of;
 ghost use mathlib.Core.Path.{_≡_};
+ghost use Prim.Native.Nat.{_≤_};
+ghost use lib.ListN.{length, take};
 ghost use Rattle.formula.specs.Codes.{partCount};
 ghost use Rattle.formula.specs.Tree.{none, node, skim};
-ghost use Rattle.leaves.specs.Slots.{slotOf};
-ghost use Rattle.rows.specs.Value.{sumOf, combine, valueIn, rowValue, valOf};
+ghost use Rattle.columns.specs.Column.{combined};
+ghost use Rattle.rows.specs.Value.{columnOf, leafAt, leafColumn, secondLeft};
 
 // The codes that stand as leaves, and how many values there are.
 pub struct Reading {
@@ -18,116 +25,102 @@ pub struct Reading {
     pub range: u8,
 }
 
-// A value, and the position past the formula.
-pub struct Val {
-    pub value: u8,
-    pub next: usize,
-}
-
-// Modulo the range.
-pub fn sum_of(range: u8, a: u8, b: u8) -> u8
-    ensures { λ r. ⌜ r ≡ sumOf range a b ⌝ }
-{
-    if range == 0 {
-        return 0;
-    }
-    (((a as u32) + (b as u32)) % (range as u32)) as u8
-}
-
-// A node's value from the values of its parts.
-pub fn combine_parts(range: u8, code: u8, operand: u8, a: u8, b: u8) -> u8
-    ensures { λ r. ⌜ r ≡ combine range code operand a b ⌝ }
-{
-    match code {
-        Code::CONST => operand,
-        Code::SUM => sum_of(range, a, b),
-        Code::EQUAL => if a == b { 1 } else { 0 },
-        Code::LESS => if a < b { 1 } else { 0 },
-        Code::NOT => if a == 1 { 0 } else { 1 },
-        Code::AND => if a == 1 { b } else { 0 },
-        Code::OR => if a == 1 { 1 } else { b },
-        Code::BOTH_A => if a == 1 { b } else { 0 },
-        Code::EITHER_A => if a == 1 { 1 } else { b },
-        Code::HOLDS => a,
-        _ => 0,
-    }
-}
-
-// The value in a slot; 0 past the last.
-pub fn value_in(values: &[u8; Slots::COUNT], j: usize) -> u8
-    ensures { λ r. ⌜ r ≡ valueIn (now (values .entry)) j ⌝ }
-{
-    if j < Slots::COUNT { values[j] } else { 0 }
-}
-
-// The value in the slot of the leaf at a position.
-pub fn leaf_value(
-    s: &[u8],
-    at: usize,
-    left: usize,
-    slots: &[usize; Slots::NUMBERS],
-    values: &[u8; Slots::COUNT],
-) -> u8
-    ensures { λ r. ⌜ r ≡ valueIn (now (values .entry)) (slotOf (now (s .entry)) (now (slots .entry)) (skim (now (s .entry)) left at .tree)) ⌝ }
-{
-    value_in(values, slot_of(s, at, left, slots))
-}
-
-// The value of a formula without parts.
-pub fn plain_value(
+// The column of a formula without parts.
+pub fn plain_column(
     s: &[u8],
     code: u8,
     operand: u8,
     w: Reading,
     slots: &[usize; Slots::NUMBERS],
-    values: &[u8; Slots::COUNT],
-) -> u8
+    cells: &[u8; Block::CELLS],
+    n: usize,
+    out: &mut [u8],
+)
     requires { ⌜ partCount code ≡ 0 ⌝ }
-    ensures { λ r. ⌜ r ≡ rowValue (now (s .entry)) w (now (slots .entry)) (now (values .entry)) (node code operand none none) ⌝ }
+    requires { ⌜ (n ≤ 1024) × (n ≤ length (now out)) ⌝ }
+    ensures { λ _. ⌜ take n (now (out .exit)) ≡ columnOf (now (s .entry)) w (now (slots .entry)) (now (cells .entry)) n (node code operand none none) ⌝ }
 {
     if contains(w.leaves, code) {
-        return value_in(values, plain_slot(s, code, operand, slots));
+        take_slot(cells, plain_slot(s, code, operand, slots), n, out);
+        return;
     }
-    combine_parts(w.range, code, operand, 0, 0)
+    fill(combine_parts(w.range, code, operand, 0, 0), n, out);
 }
 
-// The value of the formula at a position, nested at most `left` deep.
-pub fn value_at(
+// Whether there is nothing to combine at a position: no nesting is left, a formula without parts, or a leaf. If so, its column.
+pub fn leaf_column(
     s: &[u8],
     at: usize,
     left: usize,
     w: Reading,
     slots: &[usize; Slots::NUMBERS],
-    values: &[u8; Slots::COUNT],
-) -> Val
-    ensures { λ r. ⌜ r ≡ valOf (now (s .entry)) w (now (slots .entry)) (now (values .entry)) (skim (now (s .entry)) left at) ⌝ }
+    cells: &[u8; Block::CELLS],
+    n: usize,
+    out: &mut [u8],
+) -> bool
+    requires { ⌜ (n ≤ 1024) × (n ≤ length (now out)) ⌝ }
+    ensures { λ r. ⌜ r ≡ leafAt (now (s .entry)) w left at ⌝ }
+    ensures { λ _. ⌜ take n (now (out .exit)) ≡ leafColumn (now (s .entry)) w (now (slots .entry)) (now (cells .entry)) n left at (now (out .entry)) ⌝ }
 {
     if left == 0 {
-        return Val { value: 0, next: at };
+        fill(0, n, out);
+        return true;
     }
     let x = node_at(s, at);
     if x.parts == 0 {
-        return Val {
-            value: plain_value(s, x.code, x.operand, w, slots, values),
-            next: x.next,
-        };
+        plain_column(s, x.code, x.operand, w, slots, cells, n, out);
+        return true;
     }
     if contains(w.leaves, x.code) {
-        return Val {
-            value: leaf_value(s, at, left, slots, values),
-            next: end_at(s, at, left),
-        };
+        take_slot(cells, slot_of(s, at, left, slots), n, out);
+        return true;
     }
-    let a = value_at(s, x.next, left - 1, w, slots, values);
-    if x.parts == 1 {
-        return Val {
-            value: combine_parts(w.range, x.code, x.operand, a.value, 0),
-            next: a.next,
-        };
+    false
+}
+
+// A node's column, in the place of its first part's.
+fn combine_node(w: Reading, x: Node, n: usize, a: &mut [u8], b: &[u8])
+    requires { ⌜ (n ≤ length (now a)) × (n ≤ length (now b)) ⌝ }
+    ensures { λ _. ⌜ take n (now (a .exit)) ≡ combined (w .range) (x .code) (x .operand) n (now (a .entry)) (now (b .entry)) ⌝ }
+{
+    combine_columns(w.range, x.code, x.operand, n, a, b);
+}
+
+// How deep a node's second part may be nested: not at all if there is none.
+fn second_left(parts: u8, left: usize) -> usize
+    ensures { λ r. ⌜ r ≡ secondLeft parts left ⌝ }
+{
+    if parts < 2 {
+        return 0;
     }
-    let b = value_at(s, a.next, left - 1, w, slots, values);
-    Val {
-        value: combine_parts(w.range, x.code, x.operand, a.value, b.value),
-        next: b.next,
+    if left == 0 {
+        return 0;
     }
+    left - 1
+}
+
+// The column of the formula at a position, nested at most `left` deep; answers the position past it.
+pub fn column_at(
+    s: &[u8],
+    at: usize,
+    left: usize,
+    w: Reading,
+    slots: &[usize; Slots::NUMBERS],
+    cells: &[u8; Block::CELLS],
+    n: usize,
+    out: &mut [u8],
+) -> usize
+    requires { ⌜ (n ≤ 1024) × (n ≤ length (now out)) ⌝ }
+    ensures { λ r. ⌜ r ≡ skim (now (s .entry)) left at .end ⌝ }
+    ensures { λ _. ⌜ take n (now (out .exit)) ≡ columnOf (now (s .entry)) w (now (slots .entry)) (now (cells .entry)) n (skim (now (s .entry)) left at .tree) ⌝ }
+{
+    if leaf_column(s, at, left, w, slots, cells, n, out) {
+        return end_at(s, at, left);
+    }
+    let x = node_at(s, at);
+    let m = column_at(s, x.next, left - 1, w, slots, cells, n, out);
+    let mut b: [u8; Block::ROWS] = [0; Block::ROWS];
+    let e = column_at(s, m, second_left(x.parts, left), w, slots, cells, n, &mut b);
+    combine_node(w, x, n, out, &b);
+    e
 }

@@ -1,5 +1,6 @@
 use Rattle.rows.proofs.Trying.{everys}
-use Rattle.formula.proofs.Auto.{tests}
+use Rattle.limits.proofs.Auto.{tests}
+use borrow.Author.Needs.{needs}
 use Rattle.rows.proofs.every.every_row.Statement.{statement}
 use Rattle.rows.proofs.every.every_row.Tie as tie
 
@@ -7,9 +8,10 @@ pub every-row-spec : {M : Type 1} → statement M
 every-row-spec =
     tie.close
     (tie.spec
-    (λ c κs. search (everys, tests))
+    (λ c κs. search needs)
     (λ c. search (everys, tests))
-    (λ c κs. search (everys, tests))
+    (λ c κs. search needs)
     (λ c. search (everys, tests))
-    (λ c κs. search (everys, tests))
+    (λ c. search needs)
+    (λ c κs. search needs)
     (λ c. search (everys, tests)))

@@ -1,0 +1,79 @@
+-- A node's value from the values of its parts: the ways through the functions, one law for each.
+use Prim.Native.Nat.{ℕ, _+_, _%_, _≤_, _<_}
+use mathlib.Core.Path.{_≡_}
+use mathlib.Core.Bool.{cond}
+use native.Mathlib.Omega.{arith}
+use native.Mathlib.Nat.{mod-lt}
+use lib.Dec.{ltb, eqb}
+use borrow.Author.Tests.{eq-eqb, ne-eqb}
+use Rattle.logic.specs.Code
+use Rattle.logic.specs.Code.{byte}
+use Rattle.columns.specs.Combine.{sumOf, combine}
+
+module _ (R a b : ℕ) where
+  pub sum-none : R ≡ 0 → 0 ≡ sumOf R a b
+  unfolding sumOf
+  sum-none z = rw (eq-eqb _ _ z)
+
+  pub sum-some : (R ≡ 0 → ⊥) → (a + b) % R ≡ sumOf R a b
+  unfolding sumOf
+  sum-some z = rw (ne-eqb _ _ z)
+
+  -- the usual range
+  pub sum-usual : R ≡ 8 → (a + b) % 8 ≡ sumOf R a b
+  unfolding sumOf
+  sum-usual e = rw e
+
+  -- the sum is a byte
+  pub sum-small : (R ≡ 0 → ⊥) → R < 256 → (a + b) % R < 256
+  sum-small z h = let p : 0 < R = omega arith in let q = mod-lt (a + b) p in omega arith
+
+pub ruleset sums = (sum-none, sum-some, sum-usual, sum-small)
+
+module _ (R c o a b : ℕ) where
+  pub combine-const : c ≡ byte Code.const → combine R c o a b ≡ o
+  unfolding combine
+  combine-const e = rw e
+
+  pub combine-sum : c ≡ byte Code.sum → combine R c o a b ≡ sumOf R a b
+  unfolding combine
+  combine-sum e = rw e
+
+  pub combine-equal : c ≡ byte Code.equal → combine R c o a b ≡ cond (eqb a b) 1 0
+  unfolding combine
+  combine-equal e = rw e
+
+  pub combine-less : c ≡ byte Code.less → combine R c o a b ≡ cond (ltb a b) 1 0
+  unfolding combine
+  combine-less e = rw e
+
+  pub combine-not : c ≡ byte Code.not → combine R c o a b ≡ cond (eqb a 1) 0 1
+  unfolding combine
+  combine-not e = rw e
+
+  pub combine-and : c ≡ byte Code.and → combine R c o a b ≡ cond (eqb a 1) b 0
+  unfolding combine
+  combine-and e = rw e
+
+  pub combine-or : c ≡ byte Code.or → combine R c o a b ≡ cond (eqb a 1) 1 b
+  unfolding combine
+  combine-or e = rw e
+
+  pub combine-both : c ≡ byte Code.bothA → combine R c o a b ≡ cond (eqb a 1) b 0
+  unfolding combine
+  combine-both e = rw e
+
+  pub combine-either : c ≡ byte Code.eitherA → combine R c o a b ≡ cond (eqb a 1) 1 b
+  unfolding combine
+  combine-either e = rw e
+
+  pub combine-holds : c ≡ byte Code.holds → combine R c o a b ≡ a
+  unfolding combine
+  combine-holds e = rw e
+
+  pub combine-other : (c ≡ byte Code.const → ⊥) → (c ≡ byte Code.sum → ⊥) → (c ≡ byte Code.equal → ⊥) → (c ≡ byte Code.less → ⊥) → (c ≡ byte Code.not → ⊥) → (c ≡ byte Code.and → ⊥)
+      → (c ≡ byte Code.or → ⊥) → (c ≡ byte Code.bothA → ⊥) → (c ≡ byte Code.eitherA → ⊥) → (c ≡ byte Code.holds → ⊥) → 0 ≡ combine R c o a b
+  unfolding combine
+  combine-other a b c d e f g h i j = rw (ne-eqb _ _ a, ne-eqb _ _ b, ne-eqb _ _ c, ne-eqb _ _ d, ne-eqb _ _ e, ne-eqb _ _ f, ne-eqb _ _ g, ne-eqb _ _ h, ne-eqb _ _ i, ne-eqb _ _ j)
+
+pub ruleset combines = (combine-const, combine-sum, combine-equal, combine-less, combine-not, combine-and, combine-or, combine-both, combine-either, combine-holds, combine-other)

@@ -1,0 +1,4 @@
+pub mod Listed
+pub mod Combining
+pub mod Writing
+pub mod Numbering

@@ -1,0 +1,47 @@
+-- Columns as lists.
+use Prim.Native.Nat.{ℕ, zero, suc, _+_, _≤_, _<_}
+use mathlib.Core.Path.{_≡_, refl, ap, sym, _∙_}
+use mathlib.Core.List.{List, [], _∷_, _++_}
+use mathlib.Core.Bool.{Bool, true, false}
+use native.Mathlib.Omega.{arith}
+use lib.ListN.{length, getD, set, take, length-append, List·getD-append}
+use lib.Seq.{take-suc, getD-take, getD-at}
+use lib.Dec.{ltb}
+use borrow.Author.Tests.{ltb-true, ltb-false}
+use Rattle.columns.specs.Column.{column}
+
+module _ {A : Type 0} (f : ℕ → A) where
+  pub column-none : column f 0 ≡ []
+  unfolding column
+  column-none = refl
+
+  pub column-step : (n : ℕ) → column f (suc n) ≡ column f n ++ (f n ∷ [])
+  unfolding column
+  column-step n = refl
+
+  pub column-length : (n : ℕ) → length (column f n) ≡ n
+  column-length zero = ap length column-none
+  column-length (suc n) = rw (column-step n, length-append) (let e = column-length n in omega arith)
+
+  -- what stands in a column
+  pub column-getD : (d : A) (n i : ℕ) → i < n → getD (column f n) i d ≡ f i
+  column-getD d zero i h = absurd (omega arith)
+  column-getD d (suc n) i h = ap (λ (l : List A). getD l i d) (column-step n) ∙ go (ltb i n) refl (column-getD d n i)
+    where
+      go : (b : Bool) → ltb i n ≡ b → (i < n → getD (column f n) i d ≡ f i) → getD (column f n ++ (f n ∷ [])) i d ≡ f i
+      go true e ih = List·getD-append (column f n) (f n ∷ []) d i (let k = column-length n in omega (arith, ltb-true i n e)) ∙ ih (ltb-true i n e)
+      go false e ih =
+          let q : i ≡ n = omega (arith, ltb-false i n e) in
+          rw q (getD-at (column f n) (f n) [] d n (column-length n))
+
+  -- the front of a list is the column if it has the column's values; and the other way
+  pub column-is : (d : A) (l : List A) (n : ℕ) → n ≤ length l → ((i : ℕ) → i < n → getD l i d ≡ f i) → take n l ≡ column f n
+  column-is d l zero h g = sym column-none
+  column-is d l (suc n) h g = take-suc l n d (omega arith) ∙ rw (column-is d l n (omega arith) (λ i k. g i (omega arith)), g n (omega arith), column-step n)
+
+  pub column-at : (d : A) (l : List A) (n i : ℕ) → take n l ≡ column f n → i < n → getD l i d ≡ f i
+  column-at d l n i e h = sym (getD-take n l i d h) ∙ ap (λ (l : List A). getD l i d) e ∙ column-getD d n i h
+
+pub column-same : {A : Type 0} (f g : ℕ → A) (n : ℕ) → ((i : ℕ) → i < n → f i ≡ g i) → column f n ≡ column g n
+column-same f g zero h = column-none f ∙ sym (column-none g)
+column-same f g (suc n) h = column-step f n ∙ rw (column-same f g n (λ i k. h i (omega arith)), h n (omega arith), column-step g n)

@@ -1,0 +1,133 @@
+-- Columns written from the first row on: the ways through the functions, one law for each.
+use Prim.Native.Nat.{ℕ, zero, suc, _+_, _-_, _*_, _≤_, _<_}
+use mathlib.Core.Path.{_≡_, refl, ap, ap₂, sym, _∙_}
+use mathlib.Core.List.{List, [], _∷_, _++_}
+use mathlib.Core.Bool.{Bool, true, false, cond, not}
+use native.Mathlib.Omega.{arith}
+use native.Mathlib.Numerals.{add-one}
+use lib.ListN.{length, getD, set, take, drop, length-set}
+use lib.Seq.{take-suc-set, drop-set-lt, drop-drop, getD-drop}
+use lib.Dec.{eqb, ltb}
+use borrow.Author.Tests.{lt-ltb, le-ltb, eq-eqb, ne-eqb}
+use Rattle.logic.specs.Code
+use Rattle.logic.specs.Code.{byte}
+use Rattle.logic.specs.Rows.{allBelow}
+use Rattle.leaves.specs.Slots.{slots}
+use Rattle.columns.specs.Combine.{combine}
+use Rattle.columns.specs.Column.{rows, column, constant, combined, denied, noneBelow, valueIn, rowIn, slotColumn}
+use Rattle.columns.proofs.Listed.{column-none, column-step, column-getD, column-is, column-at, column-same}
+use Rattle.columns.proofs.Combining.{combine-not, combine-and}
+
+-- one more value written
+pub column-more : (f : ℕ → ℕ) (o a : List ℕ) (i n x : ℕ) → i < n → n ≤ length o → length a ≡ length o → take i a ≡ column f i → x ≡ f i → take (i + 1) (set a i x) ≡ column f (i + 1)
+column-more f o a i n x h k l e d = rw (add-one i) (take-suc-set a i x (omega arith) ∙ rw (e, d, column-step f i))
+
+-- the values that are still to be written are as they were
+pub rest-more : (a b : List ℕ) (i x : ℕ) → drop i a ≡ drop i b → drop (i + 1) (set a i x) ≡ drop (i + 1) b
+rest-more a b i x e = drop-set-lt (i + 1) a i x (omega arith) ∙ sym (drop-drop 1 i a) ∙ ap (drop 1) e ∙ drop-drop 1 i b
+
+pub rest-at : (a b : List ℕ) (i : ℕ) → drop i a ≡ drop i b → getD a i 0 ≡ getD b i 0
+rest-at a b i e = let z : i + 0 ≡ i = omega arith in sym (rw z at (getD-drop i a 0 0)) ∙ ap (λ (l : List ℕ). getD l 0 0) e ∙ rw z at (getD-drop i b 0 0)
+
+pub column-begin : (f : ℕ → ℕ) (a : List ℕ) → take 0 a ≡ column f 0
+column-begin f a = sym (column-none f)
+
+pub column-end : (f : ℕ → ℕ) (a : List ℕ) (i n : ℕ) → i ≤ n → n ≤ i → take i a ≡ column f i → take n a ≡ column f n
+column-end f a i n h k e = let q : i ≡ n = omega arith in rw q at e
+
+-- the same value at every row
+module _ (v : ℕ) (a : List ℕ) where
+  pub fill-begin : take 0 a ≡ constant v 0
+  unfolding constant
+  fill-begin = column-begin (λ (i : ℕ). v) a
+
+  pub fill-more : (o : List ℕ) (i n : ℕ) → i < n → n ≤ length o → length a ≡ length o → take i a ≡ constant v i → take (i + 1) (set a i v) ≡ constant v (i + 1)
+  unfolding constant
+  fill-more o i n h k l e = column-more (λ (i : ℕ). v) o a i n v h k l e refl
+
+  pub fill-end : (i n : ℕ) → i ≤ n → n ≤ i → take i a ≡ constant v i → take n a ≡ constant v n
+  unfolding constant
+  fill-end i n h k e = column-end (λ (i : ℕ). v) a i n h k e
+
+pub ruleset fills = (fill-begin, fill-more, fill-end)
+
+-- a slot's column
+row-getD : (cells : List ℕ) (i j : ℕ) → j < slots → getD (rowIn cells i) j 0 ≡ getD cells (rows * j + i) 0
+unfolding rowIn
+row-getD cells i j h = column-getD (λ (j : ℕ). getD cells (rows * j + i) 0) 0 slots j h
+
+pub slot-value : (cells : List ℕ) (i j : ℕ) → j < slots → valueIn (rowIn cells i) j ≡ getD cells (rows * j + i) 0
+unfolding valueIn
+slot-value cells i j h = rw (lt-ltb _ _ h) (row-getD cells i j h)
+
+module _ (cells : List ℕ) (j : ℕ) (a : List ℕ) where
+  pub slot-begin : take 0 a ≡ slotColumn cells j 0
+  unfolding slotColumn
+  slot-begin = column-begin (λ (i : ℕ). valueIn (rowIn cells i) j) a
+
+  pub slot-more : (o : List ℕ) (i n : ℕ) → j < 12 → i < n → n ≤ length o → length a ≡ length o → take i a ≡ slotColumn cells j i → take (i + 1) (set a i (getD cells (rows * j + i) 0)) ≡ slotColumn cells j (i + 1)
+  unfolding slotColumn
+  slot-more o i n g h k l e = column-more (λ (i : ℕ). valueIn (rowIn cells i) j) o a i n (getD cells (rows * j + i) 0) h k l e (sym (slot-value cells i j g))
+
+  pub slot-end : (i n : ℕ) → i ≤ n → n ≤ i → take i a ≡ slotColumn cells j i → take n a ≡ slotColumn cells j n
+  unfolding slotColumn
+  slot-end i n h k e = column-end (λ (i : ℕ). valueIn (rowIn cells i) j) a i n h k e
+
+  -- past the last slot
+  pub slot-past : (n : ℕ) → 12 ≤ j → take n a ≡ constant 0 n → take n a ≡ slotColumn cells j n
+  unfolding slotColumn constant valueIn
+  slot-past n h e = e ∙ column-same (λ (i : ℕ). 0) (λ (i : ℕ). cond (ltb j slots) (getD (rowIn cells i) j 0) 0) n (λ i k. sym (rw (le-ltb _ _ h)))
+
+pub ruleset cells = (slot-begin, slot-more, slot-end, slot-past)
+
+-- columns combined, in the place of the first
+module _ (R c o : ℕ) (a₀ b a : List ℕ) where
+  abbrev made : ℕ → ℕ
+  made i = combine R c o (getD a₀ i 0) (getD b i 0)
+
+  pub mix-begin : take 0 a ≡ combined R c o 0 a₀ b
+  unfolding combined
+  mix-begin = column-begin made a
+
+  module _ (i : ℕ) (e : take i a ≡ combined R c o i a₀ b) where
+    pub mix-more : (n x : ℕ) → i < n → n ≤ length a₀ → length a ≡ length a₀ → drop i a ≡ drop i a₀ → x ≡ combine R c o (getD a i 0) (getD b i 0) → take (i + 1) (set a i x) ≡ combined R c o (i + 1) a₀ b
+    unfolding combined
+    mix-more n x h k l d f = column-more made a₀ a i n x h k l e (f ∙ ap (λ (n : ℕ). combine R c o n (getD b i 0)) (rest-at a a₀ i d))
+
+    pub mix-end : (n : ℕ) → i ≤ n → n ≤ i → take n a ≡ combined R c o n a₀ b
+    unfolding combined
+    mix-end n h k = column-end made a i n h k e
+
+pub ruleset mixes = (mix-begin, mix-more, mix-end, rest-more)
+
+-- a code that was named in the call
+pub named : (R c k o n : ℕ) (a₀ b a : List ℕ) → c ≡ k → take n a ≡ combined R k o n a₀ b → take n a ≡ combined R c o n a₀ b
+named R c k o n a₀ b a e h = h ∙ ap (λ (m : ℕ). combined R m o n a₀ b) (sym e)
+
+pub deny-is : (n : ℕ) (a₀ a b₀ b z : List ℕ) → take n b ≡ combined 0 (byte Code.not) 0 n b₀ z → take n a ≡ combined 0 (byte Code.and) 0 n a₀ b → take n a ≡ denied n a₀ b₀
+unfolding combined denied
+deny-is n a₀ a b₀ b z eb ea = ea ∙ column-same (λ (i : ℕ). combine 0 (byte Code.and) 0 (getD a₀ i 0) (getD b i 0)) (λ (i : ℕ). cond (eqb (getD a₀ i 0) 1) (cond (eqb (getD b₀ i 0) 1) 0 1) 0) n (λ i h.
+    combine-and 0 (byte Code.and) 0 (getD a₀ i 0) (getD b i 0) refl
+    ∙ ap (λ (m : ℕ). cond (eqb (getD a₀ i 0) 1) m 0) (column-at (λ (i : ℕ). combine 0 (byte Code.not) 0 (getD b₀ i 0) (getD z i 0)) 0 b n i eb h ∙ combine-not 0 (byte Code.not) 0 (getD b₀ i 0) (getD z i 0) refl))
+
+-- no row is 1
+module _ (a : List ℕ) (n i : ℕ) (e : noneBelow a n ≡ noneBelow a i) where
+  pub none-end : i ≤ 0 → true ≡ noneBelow a n
+  unfolding noneBelow
+  none-end h = let z : i ≡ 0 = omega arith in sym (e ∙ rw z)
+
+  none-step : 0 < i → noneBelow a n ≡ cond (not (eqb (getD a (i - 1) 0) 1)) (noneBelow a (i - 1)) false
+  unfolding noneBelow
+  none-step h = let s : i ≡ suc (i - 1) = omega arith in e ∙ ap (λ (m : ℕ). allBelow m (λ (i : ℕ). not (eqb (getD a i 0) 1))) s ∙ go (not (eqb (getD a (i - 1) 0) 1)) (noneBelow a (i - 1))
+    where
+      go : (x y : Bool) → elim x as (λ z. Bool) [ true ↦ y | false ↦ false ] ≡ cond x y false
+      go true y = refl
+      go false y = refl
+
+  pub none-found : 0 < i → getD a (i - 1) 0 ≡ 1 → false ≡ noneBelow a n
+  none-found h d = sym (none-step h ∙ rw (eq-eqb _ _ d))
+
+  pub none-next : 0 < i → (getD a (i - 1) 0 ≡ 1 → ⊥) → noneBelow a n ≡ noneBelow a (i - 1)
+  none-next h d = none-step h ∙ rw (ne-eqb _ _ d)
+
+pub ruleset nones = (none-end, none-found, none-next)

@@ -1,0 +1,37 @@
+use Rattle.columns.proofs.Writing.{named}
+use Rattle.limits.proofs.Auto.{tests}
+use borrow.Author.Needs.{needs}
+use Rattle.columns.proofs.column.combine_columns.Statement.{statement}
+use Rattle.columns.proofs.column.combine_columns.Tie as tie
+
+pub combine-columns-spec : {M : Type 1} → statement M
+combine-columns-spec =
+    tie.close
+    (tie.spec
+    (λ c κs. search needs)
+    (λ c κs. search needs)
+    (λ c κs. search needs)
+    (λ c κs. search needs)
+    (λ c κs. search needs)
+    (λ c κs. search needs)
+    (λ c κs. search needs)
+    (λ c κs. search needs)
+    (λ c κs. search needs)
+    (λ c. search needs)
+    (λ c. search (named, tests))
+    (λ c. search needs)
+    (λ c. search (named, tests))
+    (λ c. search needs)
+    (λ c. search (named, tests))
+    (λ c. search needs)
+    (λ c. search (named, tests))
+    (λ c. search needs)
+    (λ c. search (named, tests))
+    (λ c. search needs)
+    (λ c. search (named, tests))
+    (λ c. search needs)
+    (λ c. search (named, tests))
+    (λ c. search needs)
+    (λ c. search (named, tests))
+    (λ c. search needs)
+    (λ c. search needs))

@@ -1,0 +1,28 @@
+use Rattle.columns.proofs.Writing.{nones}
+use Prim.Native.Nat.{_≤_, _-_}
+use mathlib.Core.Path.{_≡_}
+use Rattle.columns.specs.Column.{noneBelow}
+use Rattle.limits.proofs.Auto.{tests}
+use Rattle.columns.proofs.column.none_below.Statement.{statement}
+use Rattle.columns.proofs.column.none_below.Tie as tie
+
+abbrev Inv-loop : tie.InvT-loop
+Inv-loop a n i₀ i = (i ≤ n) × (noneBelow a n ≡ noneBelow a i)
+
+abbrev μ-loop : tie.MeasureT-loop
+μ-loop a n i₀ i = i
+
+pub none-below-spec : {M : Type 1} → statement M
+none-below-spec =
+    tie.close
+    (tie.spec
+    Inv-loop
+    μ-loop
+    (λ c. search (nones, tests))
+    (λ c. search (nones, tests))
+    (λ c. search (nones, tests))
+    (λ c. search (nones, tests))
+    (λ c. search (nones, tests))
+    (λ c. search (nones, tests))
+    (λ c. search (nones, tests))
+    (λ c. search (nones, tests)))

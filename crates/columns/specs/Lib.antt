@@ -1,0 +1,3 @@
+pub mod Combine
+pub mod Column
+pub mod Digits

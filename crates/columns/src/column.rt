@@ -1,0 +1,65 @@
+// Columns combined, row by row.
+use crate::block::Block;
+use crate::block::fill;
+use crate::combine::combine_parts;
+use formula::code::Code;
+ghost use mathlib.Core.Path.{_≡_};
+ghost use Prim.Native.Nat.{_≤_};
+ghost use lib.ListN.{length, take};
+ghost use Rattle.columns.specs.Column.{combined, denied, noneBelow};
+
+// A loop with nothing in it but the one operation: the compiler makes it work on many rows at a time.
+fn mix(range: u8, code: u8, operand: u8, n: usize, a: &mut [u8], b: &[u8])
+    requires { ⌜ (n ≤ length (now a)) × (n ≤ length (now b)) ⌝ }
+    ensures { λ _. ⌜ take n (now (a .exit)) ≡ combined range code operand n (now (a .entry)) (now (b .entry)) ⌝ }
+{
+    let mut i: usize = 0;
+    while i < n {
+        a[i] = combine_parts(range, code, operand, a[i], b[i]);
+        i += 1;
+    }
+}
+
+// A node's column from the columns of its parts. (Each code is named in its call, so that the loop is made for it alone.)
+pub fn combine_columns(range: u8, code: u8, operand: u8, n: usize, a: &mut [u8], b: &[u8])
+    requires { ⌜ (n ≤ length (now a)) × (n ≤ length (now b)) ⌝ }
+    ensures { λ _. ⌜ take n (now (a .exit)) ≡ combined range code operand n (now (a .entry)) (now (b .entry)) ⌝ }
+{
+    match code {
+        Code::SUM => mix(range, Code::SUM, operand, n, a, b),
+        Code::EQUAL => mix(range, Code::EQUAL, operand, n, a, b),
+        Code::LESS => mix(range, Code::LESS, operand, n, a, b),
+        Code::NOT => mix(range, Code::NOT, operand, n, a, b),
+        Code::AND => mix(range, Code::AND, operand, n, a, b),
+        Code::OR => mix(range, Code::OR, operand, n, a, b),
+        Code::BOTH_A => mix(range, Code::BOTH_A, operand, n, a, b),
+        Code::EITHER_A => mix(range, Code::EITHER_A, operand, n, a, b),
+        _ => mix(range, code, operand, n, a, b),
+    }
+}
+
+// The rows that are 1 in a and not in b.
+pub fn deny(n: usize, a: &mut [u8], b: &mut [u8])
+    requires { ⌜ (n ≤ 1024) × ((n ≤ length (now a)) × (n ≤ length (now b))) ⌝ }
+    ensures { λ _. ⌜ take n (now (a .exit)) ≡ denied n (now (a .entry)) (now (b .entry)) ⌝ }
+{
+    let none: [u8; Block::ROWS] = [0; Block::ROWS];
+    mix(0, Code::NOT, 0, n, b, &none);
+    mix(0, Code::AND, 0, n, a, b);
+}
+
+// Whether none of the first n rows is 1.
+pub fn none_below(a: &[u8], n: usize) -> bool
+    requires { ⌜ n ≤ length (now a) ⌝ }
+    ensures { λ r. ⌜ r ≡ noneBelow (now (a .entry)) n ⌝ }
+{
+    let mut i = n;
+    while 0 < i {
+        if a[i - 1] == 1 {
+            return false;
+        } else {
+            i -= 1;
+        }
+    }
+    true
+}

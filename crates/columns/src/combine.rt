@@ -1,0 +1,37 @@
+// A node's value from the values of its parts. A test's value is 1 for true.
+use formula::code::Code;
+use limits::Limits;
+ghost use mathlib.Core.Path.{_≡_};
+ghost use Rattle.columns.specs.Combine.{sumOf, combine};
+
+// Modulo the range. (The usual one apart: a division by a constant is quicker.)
+pub fn sum_of(range: u8, a: u8, b: u8) -> u8
+    ensures { λ r. ⌜ r ≡ sumOf range a b ⌝ }
+{
+    if range == 0 {
+        return 0;
+    }
+    if range == Limits::VALUES as u8 {
+        return (((a as u32) + (b as u32)) % (Limits::VALUES as u32)) as u8;
+    }
+    (((a as u32) + (b as u32)) % (range as u32)) as u8
+}
+
+// A node's value from the values of its parts.
+pub fn combine_parts(range: u8, code: u8, operand: u8, a: u8, b: u8) -> u8
+    ensures { λ r. ⌜ r ≡ combine range code operand a b ⌝ }
+{
+    match code {
+        Code::CONST => operand,
+        Code::SUM => sum_of(range, a, b),
+        Code::EQUAL => if a == b { 1 } else { 0 },
+        Code::LESS => if a < b { 1 } else { 0 },
+        Code::NOT => if a == 1 { 0 } else { 1 },
+        Code::AND => if a == 1 { b } else { 0 },
+        Code::OR => if a == 1 { 1 } else { b },
+        Code::BOTH_A => if a == 1 { b } else { 0 },
+        Code::EITHER_A => if a == 1 { 1 } else { b },
+        Code::HOLDS => a,
+        _ => 0,
+    }
+}
