@@ -16,9 +16,8 @@ use Rattle.formula.proofs.Nodes.{skim-zero, skim-step}
 use Rattle.formula.proofs.Auto.{lower}
 use Rattle.compare.specs.Same.{sameTree}
 use Rattle.leaves.specs.Slots.{slots, slotTree, leafSlot, numbers, slotAt, slotFrom, slotOf, kept}
-use Rattle.leaves.specs.Gather.{Gathered, many, keys, putT, gatherT, view, withSlot}
+use Rattle.leaves.specs.Gather.{Gathered, many, keys, putT, gatherT, view, countPut, slotPut}
 use Rattle.leaves.specs.declared.slot.Slot.{Slot}
-use Rattle.leaves.specs.declared.gather.Leaves.{Leaves}
 use Rattle.leaves.proofs.Slots.{leaf-slot, from-next, of-is}
 
 pub kept-none : (s q : List ℕ) → kept s q 0 ≡ []
@@ -141,46 +140,59 @@ put-keys c o l r k = refl
 put-some : (c o : ℕ) (l r t : Tree) (k : List Tree) → t ≡ node c o l r → putT t (keys k) ≡ cond (isIn sameTree t k) (keys k) (cond (ltb (length k) slots) (keys (t ∷ k)) many)
 put-some c o l r t k e = rw e (put-keys c o l r k)
 
-pub view-keys : (s : List ℕ) (g : Leaves) → g .count ≤ slots → view s g ≡ keys (kept s (g .slots) (g .count))
+pub view-keys : (s : List ℕ) (n : ℕ) (q : List ℕ) → n ≤ slots → view s n q ≡ keys (kept s q n)
 unfolding view
-view-keys s g h = rw (le-ltb _ _ h)
+view-keys s n q h = rw (le-ltb _ _ h)
 
-pub view-many : (s : List ℕ) (g : Leaves) → slots < g .count → view s g ≡ many
+pub view-many : (s : List ℕ) (n : ℕ) (q : List ℕ) → slots < n → view s n q ≡ many
 unfolding view
-view-many s g h = rw (lt-ltb _ _ h)
+view-many s n q h = rw (lt-ltb _ _ h)
 
-module _ (s : List ℕ) (at left : ℕ) (g : Leaves) where
-  pub put-zero : left ≡ 0 → view s g ≡ putT (skim s left at .tree) (view s g)
+module _ (s : List ℕ) (at left n : ℕ) (q : List ℕ) where
+  pub put-zero : left ≡ 0 → view s n q ≡ putT (skim s left at .tree) (view s n q)
   put-zero z = rw (skim-zero s left at z, put-none)
 
-  pub put-over : (left ≡ 0 → ⊥) → slots < g .count → view s g ≡ putT (skim s left at .tree) (view s g)
-  put-over z h = rw (view-many s g h, skim-step s left at z, put-many)
+  pub put-over : (left ≡ 0 → ⊥) → slots < n → view s n q ≡ putT (skim s left at .tree) (view s n q)
+  put-over z h = rw (view-many s n q h, skim-step s left at z, put-many)
 
-  module _ (r : ℕ) (z : left ≡ 0 → ⊥) (h : g .count ≤ slots) (er : r ≡ slotOf s (g .slots) (skim s left at .tree)) where
-    put-by : putT (skim s left at .tree) (view s g) ≡ cond (ltb r (g .count)) (keys (kept s (g .slots) (g .count))) (cond (ltb (g .count) slots) (keys (skim s left at .tree ∷ kept s (g .slots) (g .count))) many)
+  module _ (r : ℕ) (z : left ≡ 0 → ⊥) (h : n ≤ slots) (er : r ≡ slotOf s q (skim s left at .tree)) where
+    put-by : putT (skim s left at .tree) (view s n q) ≡ cond (ltb r n) (keys (kept s q n)) (cond (ltb n slots) (keys (skim s left at .tree ∷ kept s q n)) many)
     put-by =
-        ap (putT (skim s left at .tree)) (view-keys s g h)
-        ∙ put-some _ _ _ _ (skim s left at .tree) (kept s (g .slots) (g .count)) (ap (λ (u : Skim). u .tree) (skim-step s left at z))
-        ∙ rw (kept-length s (g .slots) (g .count), in-kept s (g .slots) (skim s left at .tree) (g .count) h, er)
+        ap (putT (skim s left at .tree)) (view-keys s n q h)
+        ∙ put-some _ _ _ _ (skim s left at .tree) (kept s q n) (ap (λ (u : Skim). u .tree) (skim-step s left at z))
+        ∙ rw (kept-length s q n, in-kept s q (skim s left at .tree) n h, er)
 
-    pub put-there : r < g .count → view s g ≡ putT (skim s left at .tree) (view s g)
-    put-there l = view-keys s g h ∙ sym (put-by ∙ rw (lt-ltb _ _ l))
+    pub put-there : r < n → view s n q ≡ putT (skim s left at .tree) (view s n q)
+    put-there l = view-keys s n q h ∙ sym (put-by ∙ rw (lt-ltb _ _ l))
 
-    pub put-new : (p : Slot) (w : Leaves) → length (g .slots) ≡ 36 → g .count ≤ r → p ≡ leafSlot s at left → w ≡ withSlot g p → view s w ≡ putT (skim s left at .tree) (view s g)
-    unfolding withSlot
-    put-new p w len l ep ew = ap (view s) ew ∙ go (ltb (g .count) slots) refl ∙ sym (put-by ∙ rw (le-ltb _ _ l))
+    pub put-new : (p : Slot) (m : ℕ) (q₂ : List ℕ) → length q ≡ 36 → n ≤ r → p ≡ leafSlot s at left → m ≡ countPut n → q₂ ≡ slotPut n p q → view s m q₂ ≡ putT (skim s left at .tree) (view s n q)
+    unfolding countPut slotPut
+    put-new p m q₂ len l ep em eq = ap₂ (view s) em eq ∙ go (ltb n slots) refl ∙ sym (put-by ∙ rw (le-ltb _ _ l))
       where
-        go : (b : Bool) → ltb (g .count) slots ≡ b → view s (withSlot g p) ≡ cond (ltb (g .count) slots) (keys (skim s left at .tree ∷ kept s (g .slots) (g .count))) many
+        go : (b : Bool) → ltb n slots ≡ b → view s (countPut n) (slotPut n p q) ≡ cond (ltb n slots) (keys (skim s left at .tree ∷ kept s q n)) many
         go true e =
-            let n : g .count < slots = ltb-true (g .count) slots e in
-            let m : g .count + 1 ≤ slots = omega arith in
-            let b : 3 * g .count + 2 < length (g .slots) = omega arith in
-            rw e (view-keys s (record { count = g .count + 1; slots = written (g .slots) (g .count) p }) m ∙ ap keys (kept-written (g .slots) (g .count) p s b ∙ ap (λ (t : Tree). t ∷ kept s (g .slots) (g .count)) (ap (slotTree s) ep ∙ leaf-slot s at left z)))
+            let h : n < slots = ltb-true n slots e in
+            let m : n + 1 ≤ slots = omega arith in
+            let b : 3 * n + 2 < length q = omega arith in
+            rw e (view-keys s (n + 1) (written q n p) m ∙ ap keys (kept-written q n p s b ∙ ap (λ (t : Tree). t ∷ kept s q n) (ap (slotTree s) ep ∙ leaf-slot s at left z)))
         go false e =
             let m : slots < slots + 1 = omega arith in
-            rw e (view-many s (record { count = slots + 1; slots = g .slots }) m)
+            rw e (view-many s (slots + 1) q m)
 
-pub ruleset puts = (put-zero, put-over, put-there, put-new)
+-- as many numbers as before
+pub put-length : (n : ℕ) (p : Slot) (q q₂ : List ℕ) → length q ≡ 36 → q₂ ≡ slotPut n p q → length q₂ ≡ 36
+unfolding slotPut
+put-length n p q q₂ l e = ap length e ∙ go (ltb n slots)
+  where
+    go : (b : Bool) → length (cond b (written q n p) q) ≡ 36
+    go true =
+        length-set (set (set q (3 * n) (p .place)) (3 * n + 1) (p .operand)) (3 * n + 2) (p .left)
+        ∙ length-set (set q (3 * n) (p .place)) (3 * n + 1) (p .operand)
+        ∙ length-set q (3 * n) (p .place)
+        ∙ l
+    go false = l
+
+pub ruleset puts = (put-zero, put-over, put-there, put-new, put-length)
 
 -- the leaves of a tree
 gather-none : (w : ℕ) (m : Gathered) → gatherT w none m ≡ m
@@ -191,23 +203,23 @@ pub gather-node : (w c o : ℕ) (l r : Tree) (m : Gathered) → gatherT w (node 
 unfolding gatherT
 gather-node w c o l r m = refl
 
-module _ (s : List ℕ) (k at w : ℕ) (g : Leaves) where
-  pub gather-zero : k ≡ 0 → view s g ≡ gatherT w (skim s k at .tree) (view s g)
+module _ (s : List ℕ) (k at w n : ℕ) (q : List ℕ) where
+  pub gather-zero : k ≡ 0 → view s n q ≡ gatherT w (skim s k at .tree) (view s n q)
   gather-zero z = rw (skim-zero s k at z, gather-none)
 
   module _ (x : Node) (b : Bool) (z : k ≡ 0 → ⊥) (e : x ≡ nodeAt s at) (eb : b ≡ member w (x .code)) where
-    pub gather-here : (h : Leaves) → b ≡ true → view s h ≡ putT (skim s k at .tree) (view s g) → view s h ≡ gatherT w (skim s k at .tree) (view s g)
-    gather-here h d f = f ∙ rw (skim-step s k at z, ← e, gather-node, ← eb, d)
+    pub gather-here : (m : ℕ) (q₂ : List ℕ) → b ≡ true → view s m q₂ ≡ putT (skim s k at .tree) (view s n q) → view s m q₂ ≡ gatherT w (skim s k at .tree) (view s n q)
+    gather-here m q₂ d f = f ∙ rw (skim-step s k at z, ← e, gather-node, ← eb, d)
 
-    pub gather-leaf : b ≡ false → x .parts ≡ 0 → view s g ≡ gatherT w (skim s k at .tree) (view s g)
+    pub gather-leaf : b ≡ false → x .parts ≡ 0 → view s n q ≡ gatherT w (skim s k at .tree) (view s n q)
     gather-leaf d p = rw (skim-step s k at z, ← e, gather-node, ← eb, d, p) (simp gather-none)
 
-    pub gather-one : (h : Leaves) → b ≡ false → (x .parts ≡ 0 → ⊥) → x .parts ≡ 1 → view s h ≡ gatherT w (skim s (k - 1) (x .next) .tree) (view s g) → view s h ≡ gatherT w (skim s k at .tree) (view s g)
-    gather-one h d p o f = f ∙ rw (skim-step s k at z, ← e, gather-node, ← eb, d, o, gather-none)
+    pub gather-one : (m : ℕ) (q₂ : List ℕ) → b ≡ false → (x .parts ≡ 0 → ⊥) → x .parts ≡ 1 → view s m q₂ ≡ gatherT w (skim s (k - 1) (x .next) .tree) (view s n q) → view s m q₂ ≡ gatherT w (skim s k at .tree) (view s n q)
+    gather-one m q₂ d p o f = f ∙ rw (skim-step s k at z, ← e, gather-node, ← eb, d, o, gather-none)
 
-    pub gather-two : (m : ℕ) (h i : Leaves) → b ≡ false → (x .parts ≡ 0 → ⊥) → (x .parts ≡ 1 → ⊥) → m ≡ skim s (k - 1) (x .next) .end
-        → view s h ≡ gatherT w (skim s (k - 1) m .tree) (view s g) → view s i ≡ gatherT w (skim s (k - 1) (x .next) .tree) (view s h) → view s i ≡ gatherT w (skim s k at .tree) (view s g)
-    gather-two m h i d p o em f f₂ =
+    pub gather-two : (y m m₂ : ℕ) (q₂ q₃ : List ℕ) → b ≡ false → (x .parts ≡ 0 → ⊥) → (x .parts ≡ 1 → ⊥) → y ≡ skim s (k - 1) (x .next) .end
+        → view s m q₂ ≡ gatherT w (skim s (k - 1) y .tree) (view s n q) → view s m₂ q₃ ≡ gatherT w (skim s (k - 1) (x .next) .tree) (view s m q₂) → view s m₂ q₃ ≡ gatherT w (skim s k at .tree) (view s n q)
+    gather-two y m m₂ q₂ q₃ d p o em f f₂ =
         let t₀ : 0 < x .parts = omega arith in
         let t₁ : 1 < x .parts = omega arith in
         f₂ ∙ rw (f, em, skim-step s k at z, ← e, gather-node, ← eb, d, lt-ltb _ _ t₀, lt-ltb _ _ t₁)

@@ -10,7 +10,6 @@ use Rattle.formula.specs.Tree.{Tree, none, node}
 use Rattle.compare.specs.Same.{sameTree}
 use Rattle.leaves.specs.Slots.{slots, kept}
 use Rattle.leaves.specs.declared.slot.Slot.{Slot}
-use Rattle.leaves.specs.declared.gather.Leaves.{Leaves}
 
 -- the leaves of a tree: its nodes whose code is in the set, from left to right, whole
 unfoldable pub leavesT : ℕ → Tree → List Tree
@@ -32,12 +31,13 @@ unfoldable pub gatherT : ℕ → Tree → Gathered → Gathered
 gatherT w none m = m
 gatherT w (node c o l r) m = cond (member w c) (putT (node c o l r) m) (gatherT w l (gatherT w r m))
 
--- what the slots hold
-unfoldable pub view : List ℕ → Leaves → Gathered
-view s g = cond (ltb slots (g .count)) many (keys (kept s (g .slots) (g .count)))
+-- what the first n slots hold
+unfoldable pub view : List ℕ → ℕ → List ℕ → Gathered
+view s n q = cond (ltb slots n) many (keys (kept s q n))
 
-unfoldable pub withSlot : Leaves → Slot → Leaves
-withSlot g p =
-    cond (ltb (g .count) slots)
-    (record { count = g .count + 1; slots = set (set (set (g .slots) (3 * g .count) (p .place)) (3 * g .count + 1) (p .operand)) (3 * g .count + 2) (p .left) })
-    (record { count = slots + 1; slots = g .slots })
+-- with a leaf in the slot n, if there is one: how many there are, and the slots
+unfoldable pub countPut : ℕ → ℕ
+countPut n = cond (ltb n slots) (n + 1) (slots + 1)
+
+unfoldable pub slotPut : ℕ → Slot → List ℕ → List ℕ
+slotPut n p q = cond (ltb n slots) (set (set (set q (3 * n) (p .place)) (3 * n + 1) (p .operand)) (3 * n + 2) (p .left)) q

@@ -1,4 +1,5 @@
 // The leaves of formulas, each once. Formulas are walked from right to left, and the newest leaf is the first of the list.
+// The slots are written where they stand, and each function answers how many there are; above Slots::COUNT: too many.
 use crate::slot::Slot;
 use crate::slot::Slots;
 use crate::slot::leaf_slot;
@@ -8,66 +9,74 @@ use formula::end::end_at;
 use formula::node::node_at;
 ghost use mathlib.Core.Path.{_≡_};
 ghost use Rattle.formula.specs.Tree.{skim};
-ghost use Rattle.leaves.specs.Gather.{withSlot, view, putT, gatherT};
+ghost use lib.ListN.{length};
+ghost use Rattle.leaves.specs.Gather.{countPut, slotPut, view, putT, gatherT};
 
-// The leaves so far: how many, and their slots. A count above Slots::COUNT: too many.
-pub struct Leaves {
-    pub count: usize,
-    pub slots: [usize; Slots::NUMBERS],
-}
-
-pub fn with_slot(g: Leaves, p: Slot) -> Leaves
-    ensures { λ r. ⌜ r ≡ withSlot g p ⌝ }
+// With a leaf in the next slot, if there is one.
+fn put_slot(n: usize, p: Slot, slots: &mut [usize; Slots::NUMBERS]) -> usize
+    ensures { λ r. ⌜ r ≡ countPut n ⌝ }
+    ensures { λ _. ⌜ now (slots .exit) ≡ slotPut n p (now (slots .entry)) ⌝ }
 {
-    let n = g.count;
-    let mut h = g;
     if n < Slots::COUNT {
-        h.slots[3 * n] = p.place;
-        h.slots[3 * n + 1] = p.operand;
-        h.slots[3 * n + 2] = p.left;
-        h.count = n + 1;
-        return h;
+        slots[3 * n] = p.place;
+        slots[3 * n + 1] = p.operand;
+        slots[3 * n + 2] = p.left;
+        return n + 1;
     }
-    h.count = Slots::COUNT + 1;
-    h
+    Slots::COUNT + 1
 }
 
 // With the leaf at a position, if it is not there yet.
-pub fn add_leaf(s: &[u8], at: usize, left: usize, g: Leaves) -> Leaves
-    ensures { λ r. ⌜ view (now (s .entry)) r ≡ putT (skim (now (s .entry)) left at .tree) (view (now (s .entry)) g) ⌝ }
+pub fn add_leaf(
+    s: &[u8],
+    at: usize,
+    left: usize,
+    n: usize,
+    slots: &mut [usize; Slots::NUMBERS],
+) -> usize
+    requires { ⌜ length (now slots) ≡ 36 ⌝ }
+    ensures { λ r. ⌜ view (now (s .entry)) r (now (slots .exit)) ≡ putT (skim (now (s .entry)) left at .tree) (view (now (s .entry)) n (now (slots .entry))) ⌝ }
+    ensures { λ _. ⌜ length (now (slots .exit)) ≡ 36 ⌝ }
 {
     if left == 0 {
-        return g;
+        return n;
     }
-    let n = g.count;
     if Slots::COUNT < n {
-        return g;
+        return n;
     }
-    let slots = g.slots;
-    if slot_of(s, at, left, &slots) < n {
-        return g;
+    if slot_of(s, at, left, slots) < n {
+        return n;
     }
-    with_slot(g, leaf_slot(s, at, left))
+    put_slot(n, leaf_slot(s, at, left), slots)
 }
 
 // With the leaves of the formula at a position: the nodes whose code is in the set.
-pub fn gather_at(s: &[u8], at: usize, left: usize, set: u32, g: Leaves) -> Leaves
-    ensures { λ r. ⌜ view (now (s .entry)) r ≡ gatherT set (skim (now (s .entry)) left at .tree) (view (now (s .entry)) g) ⌝ }
+pub fn gather_at(
+    s: &[u8],
+    at: usize,
+    left: usize,
+    set: u32,
+    n: usize,
+    slots: &mut [usize; Slots::NUMBERS],
+) -> usize
+    requires { ⌜ length (now slots) ≡ 36 ⌝ }
+    ensures { λ r. ⌜ view (now (s .entry)) r (now (slots .exit)) ≡ gatherT set (skim (now (s .entry)) left at .tree) (view (now (s .entry)) n (now (slots .entry))) ⌝ }
+    ensures { λ _. ⌜ length (now (slots .exit)) ≡ 36 ⌝ }
 {
     if left == 0 {
-        return g;
+        return n;
     }
     let x = node_at(s, at);
     if contains(set, x.code) {
-        return add_leaf(s, at, left, g);
+        return add_leaf(s, at, left, n, slots);
     }
     if x.parts == 0 {
-        return g;
+        return n;
     }
     if x.parts == 1 {
-        return gather_at(s, x.next, left - 1, set, g);
+        return gather_at(s, x.next, left - 1, set, n, slots);
     }
     let m = end_at(s, x.next, left - 1);
-    let h = gather_at(s, m, left - 1, set, g);
-    gather_at(s, x.next, left - 1, set, h)
+    let k = gather_at(s, m, left - 1, set, n, slots);
+    gather_at(s, x.next, left - 1, set, k, slots)
 }

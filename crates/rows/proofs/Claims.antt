@@ -10,7 +10,6 @@ use Rattle.limits.proofs.Numbers.{byte-past}
 use Rattle.formula.specs.Tree.{Tree, skim}
 use Rattle.leaves.specs.Slots.{kept}
 use Rattle.leaves.specs.Gather.{Gathered, keys, view, gatherT}
-use Rattle.leaves.specs.declared.gather.Leaves.{Leaves}
 use Rattle.leaves.proofs.Gathering.{kept-none}
 use Rattle.columns.specs.Column.{rowIn, denied}
 use Rattle.columns.proofs.Listed.{column-same, column-at}
@@ -120,32 +119,32 @@ pub ruleset implications = (imp-fails, kept-where)
 pub ruleset claims = (fails-begin, fails-next, fails-end)
 
 -- the leaves of implications
-pub gather-imp : (s lefts rights : List ℕ) (t : Task) (i w l r : ℕ) (g h k : Leaves) → r ≡ getD rights i 0 → view s h ≡ gatherT w (skim s (t .right) r .tree) (view s g) → l ≡ getD lefts i 0
-    → view s k ≡ gatherT w (skim s (t .left) l .tree) (view s h) → view s k ≡ gatherImp w (impOf s lefts rights t i) (view s g)
+pub gather-imp : (s lefts rights : List ℕ) (t : Task) (i w l r n m k : ℕ) (q q₂ q₃ : List ℕ) → r ≡ getD rights i 0 → view s m q₂ ≡ gatherT w (skim s (t .right) r .tree) (view s n q) → l ≡ getD lefts i 0
+    → view s k q₃ ≡ gatherT w (skim s (t .left) l .tree) (view s m q₂) → view s k q₃ ≡ gatherImp w (impOf s lefts rights t i) (view s n q)
 unfolding gatherImp impOf
-gather-imp s lefts rights t i w l r g h k er eh el ek = ek ∙ rw (el, eh, er)
+gather-imp s lefts rights t i w l r n m k q q₂ q₃ er eh el ek = ek ∙ rw (el, eh, er)
 
 module _ (s lefts rights : List ℕ) (t : Task) (w : ℕ) where
   imps-step : (p : ImpT) (ps : List ImpT) (m : Gathered) → gatherImps w (p ∷ ps) m ≡ gatherImp w p (gatherImps w ps m)
   unfolding gatherImps
   imps-step p ps m = refl
 
-  pub all-begin : (g : Leaves) → g .count ≡ 0 → view s g ≡ gatherImps w (premisesFrom s lefts rights t (t .premises)) (keys [])
+  pub all-begin : (q : List ℕ) → view s 0 q ≡ gatherImps w (premisesFrom s lefts rights t (t .premises)) (keys [])
   unfolding view gatherImps
-  all-begin g z =
+  all-begin q =
       let h : t .premises ≤ t .premises = omega arith in
-      rw (z, kept-none, prems-end s lefts rights t (t .premises) h)
+      rw (kept-none, prems-end s lefts rights t (t .premises) h)
 
-  pub all-next : (i : ℕ) (g h : Leaves) → i ≤ t .premises → 0 < i → view s g ≡ gatherImps w (premisesFrom s lefts rights t i) (keys []) → view s h ≡ gatherImp w (impOf s lefts rights t i) (view s g)
-      → view s h ≡ gatherImps w (premisesFrom s lefts rights t (i - 1)) (keys [])
-  all-next i g h l z e f =
+  pub all-next : (i n m : ℕ) (q q₂ : List ℕ) → i ≤ t .premises → 0 < i → view s n q ≡ gatherImps w (premisesFrom s lefts rights t i) (keys []) → view s m q₂ ≡ gatherImp w (impOf s lefts rights t i) (view s n q)
+      → view s m q₂ ≡ gatherImps w (premisesFrom s lefts rights t (i - 1)) (keys [])
+  all-next i n m q q₂ l z e f =
       let k : i - 1 < t .premises = omega arith in
-      let n : i - 1 + 1 ≡ i = omega arith in
-      f ∙ rw (e, prems-step s lefts rights t (i - 1) k, imps-step, n)
+      let d : i - 1 + 1 ≡ i = omega arith in
+      f ∙ rw (e, prems-step s lefts rights t (i - 1) k, imps-step, d)
 
-  pub all-end : (i : ℕ) (g h : Leaves) → i ≤ 0 → view s g ≡ gatherImps w (premisesFrom s lefts rights t i) (keys []) → view s h ≡ gatherImp w (impOf s lefts rights t 0) (view s g)
-      → view s h ≡ gatherAll s lefts rights t w
+  pub all-end : (i n m : ℕ) (q q₂ : List ℕ) → i ≤ 0 → view s n q ≡ gatherImps w (premisesFrom s lefts rights t i) (keys []) → view s m q₂ ≡ gatherImp w (impOf s lefts rights t 0) (view s n q)
+      → view s m q₂ ≡ gatherAll s lefts rights t w
   unfolding gatherAll
-  all-end i g h z e f = let n : i ≡ 0 = omega arith in f ∙ rw (e, n)
+  all-end i n m q q₂ z e f = let d : i ≡ 0 = omega arith in f ∙ rw (e, d)
 
 pub ruleset gathered = (all-begin, all-next, all-end)

@@ -20,7 +20,6 @@ use Rattle.leaves.specs.Slots.{slots, slotTree, numbers, slotAt, slotFrom, kept
 use Rattle.leaves.specs.Gather.{Gathered, many, keys, view}
 use Rattle.leaves.specs.Count.{choicesT, capped, rowsUpTo}
 use Rattle.leaves.specs.declared.slot.Slot.{Slot}
-use Rattle.leaves.specs.declared.gather.Leaves.{Leaves}
 use Rattle.leaves.proofs.Gathering.{view-keys, view-many}
 use Rattle.columns.specs.Column.{rows, column, noneBelow, valueIn, rowIn}
 use Rattle.columns.specs.Digits.{numbered, divided, columnSet}
@@ -179,14 +178,14 @@ module _ (m n base : ℕ) (e : m ≡ blockSize (n - base)) where
 
 pub ruleset holding = (hold-begin, hold-end, hold-next, hold-fails, size-rows, size-left, size-end, size-fits, size-within, size-less)
 
-module _ (s lefts rights : List ℕ) (t : Task) (w : Reading) (limit : ℕ) (g : Leaves) (eg : view s g ≡ gatherAll s lefts rights t (w .leaves)) where
-  pub every-many : slots < g .count → false ≡ everyOf s lefts rights t w limit
+module _ (s lefts rights : List ℕ) (t : Task) (w : Reading) (limit n : ℕ) (q : List ℕ) (eg : view s n q ≡ gatherAll s lefts rights t (w .leaves)) where
+  pub every-many : slots < n → false ≡ everyOf s lefts rights t w limit
   unfolding everyOf
-  every-many h = rw (← eg, view-many s g h)
+  every-many h = rw (← eg, view-many s n q h)
 
-  module _ (r : ℕ) (h : g .count ≤ slots) (er : r ≡ rowsUpTo s (g .slots) (w .range) limit (g .count)) where
+  module _ (r : ℕ) (h : n ≤ slots) (er : r ≡ rowsUpTo s q (w .range) limit n) where
     abbrev count : ℕ
-    count = rowCount sameTree (choicesT (w .range)) (kept s (g .slots) (g .count))
+    count = rowCount sameTree (choicesT (w .range)) (kept s q n)
 
     -- the count is above the limit if what is told is
     told : (b : Bool) → ltb limit (1 * count) ≡ b → r ≡ cond b (limit + 1) (1 * count) → (limit < r → limit < count) × (r ≤ limit → count ≤ limit)
@@ -208,16 +207,16 @@ module _ (s lefts rights : List ℕ) (t : Task) (w : Reading) (limit : ℕ) (g :
 
     pub every-over : limit < r → false ≡ everyOf s lefts rights t w limit
     unfolding everyOf
-    every-over l = rw (← eg, view-keys s g h, lt-leb count limit (counted .0 l))
+    every-over l = rw (← eg, view-keys s n q h, lt-leb count limit (counted .0 l))
 
-    pub every-try : (b : Bool) → 2 ≤ w .range → r ≤ limit → b ≡ rowsHold s lefts rights t w (g .slots) (g .count) 0 r → b ≡ everyOf s lefts rights t w limit
+    pub every-try : (b : Bool) → 2 ≤ w .range → r ≤ limit → b ≡ rowsHold s lefts rights t w q n 0 r → b ≡ everyOf s lefts rights t w limit
     unfolding everyOf rowsHold
     every-try b two l e =
-        e ∙ ap (λ (n : ℕ). allBelow n (λ i. claimAt s lefts rights t w (g .slots) (rowWith s (g .slots) (w .range) (g .count) (0 + i) (replicate slots 0)))) (exact l)
-        ∙ below-same count (λ i. claimAt s lefts rights t w (g .slots) (rowWith s (g .slots) (w .range) (g .count) (0 + i) (replicate slots 0))) (λ i. claimAt s lefts rights t w (g .slots) (rowWith s (g .slots) (w .range) (g .count) i (replicate slots 0))) (λ i _.
+        e ∙ ap (λ (m : ℕ). allBelow m (λ i. claimAt s lefts rights t w q (rowWith s q (w .range) n (0 + i) (replicate slots 0)))) (exact l)
+        ∙ below-same count (λ i. claimAt s lefts rights t w q (rowWith s q (w .range) n (0 + i) (replicate slots 0))) (λ i. claimAt s lefts rights t w q (rowWith s q (w .range) n i (replicate slots 0))) (λ i _.
         let z : 0 + i ≡ i = omega arith in
-        ap (λ (m : ℕ). claimAt s lefts rights t w (g .slots) (rowWith s (g .slots) (w .range) (g .count) m (replicate slots 0))) z)
-        ∙ sym (rows-numbered s lefts rights t w (g .slots) two (g .count) (replicate slots 0) refl h)
-        ∙ rw (← eg, view-keys s g h, le-leb count limit (counted .1 l)) (ap (allRows sameTree (choicesT (w .range)) (kept s (g .slots) (g .count)) (claimT w (premisesFrom s lefts rights t 0) (impOf s lefts rights t 0))) (fun-ext (λ u. zero-in (slotFrom s (g .slots) (slots - g .count) (g .count) u))))
+        ap (λ (m : ℕ). claimAt s lefts rights t w q (rowWith s q (w .range) n m (replicate slots 0))) z)
+        ∙ sym (rows-numbered s lefts rights t w q two n (replicate slots 0) refl h)
+        ∙ rw (← eg, view-keys s n q h, le-leb count limit (counted .1 l)) (ap (allRows sameTree (choicesT (w .range)) (kept s q n) (claimT w (premisesFrom s lefts rights t 0) (impOf s lefts rights t 0))) (fun-ext (λ u. zero-in (slotFrom s q (slots - n) n u))))
 
 pub ruleset everys = (every-many, every-over, every-try)

@@ -3,13 +3,12 @@ use crate::value::Reading;
 use crate::value::column_at;
 use columns::block::Block;
 use columns::column::deny;
-use leaves::gather::Leaves;
 use leaves::gather::gather_at;
 use leaves::slot::Slots;
 ghost use mathlib.Core.Path.{_≡_};
 ghost use Prim.Native.Nat.{_≤_};
 ghost use lib.ListN.{getD, length, take};
-ghost use Rattle.leaves.specs.Gather.{view, Gathered, keys};
+ghost use Rattle.leaves.specs.Gather.{view};
 ghost use Rattle.rows.specs.Claim.{impOf, impFails, keptWhere, failsFrom, gatherImp, gatherAll};
 
 pub struct Sizes {}
@@ -107,26 +106,34 @@ pub fn gather_imp(
     t: Task,
     i: usize,
     set: u32,
-    g: Leaves,
-) -> Leaves
-    ensures { λ r. ⌜ view (now (s .entry)) r ≡ gatherImp set (impOf (now (s .entry)) (now (lefts .entry)) (now (rights .entry)) t i) (view (now (s .entry)) g) ⌝ }
+    n: usize,
+    slots: &mut [usize; Slots::NUMBERS],
+) -> usize
+    requires { ⌜ length (now slots) ≡ 36 ⌝ }
+    ensures { λ r. ⌜ view (now (s .entry)) r (now (slots .exit)) ≡ gatherImp set (impOf (now (s .entry)) (now (lefts .entry)) (now (rights .entry)) t i) (view (now (s .entry)) n (now (slots .entry))) ⌝ }
+    ensures { λ _. ⌜ length (now (slots .exit)) ≡ 36 ⌝ }
 {
-    let h = gather_at(s, number_at(rights, i), t.right, set, g);
-    gather_at(s, number_at(lefts, i), t.left, set, h)
+    let m = gather_at(s, number_at(rights, i), t.right, set, n, slots);
+    gather_at(s, number_at(lefts, i), t.left, set, m, slots)
 }
 
-// The leaves of the line and its premises.
-pub fn gather_all(s: &[u8], lefts: &[usize], rights: &[usize], t: Task, set: u32) -> Leaves
-    ensures { λ r. ⌜ view (now (s .entry)) r ≡ gatherAll (now (s .entry)) (now (lefts .entry)) (now (rights .entry)) t set ⌝ }
+// The leaves of the line and its premises; answers how many there are.
+pub fn gather_all(
+    s: &[u8],
+    lefts: &[usize],
+    rights: &[usize],
+    t: Task,
+    set: u32,
+    slots: &mut [usize; Slots::NUMBERS],
+) -> usize
+    requires { ⌜ length (now slots) ≡ 36 ⌝ }
+    ensures { λ r. ⌜ view (now (s .entry)) r (now (slots .exit)) ≡ gatherAll (now (s .entry)) (now (lefts .entry)) (now (rights .entry)) t set ⌝ }
 {
-    let mut g = Leaves {
-        count: 0,
-        slots: [0; Slots::NUMBERS],
-    };
+    let mut n: usize = 0;
     let mut i = t.premises;
     while 0 < i {
-        g = gather_imp(s, lefts, rights, t, i, set, g);
+        n = gather_imp(s, lefts, rights, t, i, set, n, slots);
         i -= 1;
     }
-    gather_imp(s, lefts, rights, t, 0, set, g)
+    gather_imp(s, lefts, rights, t, 0, set, n, slots)
 }

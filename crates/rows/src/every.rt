@@ -112,12 +112,11 @@ pub fn every_row(
     requires { ⌜ 2 ≤ w .range ⌝ }
     ensures { λ r. ⌜ r ≡ everyOf (now (s .entry)) (now (lefts .entry)) (now (rights .entry)) t w limit ⌝ }
 {
-    let g = gather_all(s, lefts, rights, t, w.leaves);
-    let k = g.count;
+    let mut slots: [usize; Slots::NUMBERS] = [0; Slots::NUMBERS];
+    let k = gather_all(s, lefts, rights, t, w.leaves, &mut slots);
     if Slots::COUNT < k {
         return false;
     }
-    let slots = g.slots;
     let rows = count_rows(s, &slots, k, w.range, limit);
     if (limit as u32) < rows {
         return false;

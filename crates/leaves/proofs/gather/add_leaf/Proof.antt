@@ -1,5 +1,6 @@
 use Rattle.leaves.proofs.Gathering.{puts}
-use Rattle.formula.proofs.Auto.{tests}
+use Rattle.limits.proofs.Auto.{tests}
+use borrow.Author.Needs.{needs}
 use Rattle.leaves.proofs.gather.add_leaf.Statement.{statement}
 use Rattle.leaves.proofs.gather.add_leaf.Tie as tie
 
@@ -9,8 +10,8 @@ add-leaf-spec =
     (tie.spec
     (λ c. search (puts, tests))
     (λ c. search (puts, tests))
-    (λ c κs. search (puts, tests))
+    (λ c κs. search needs)
     (λ c. search (puts, tests))
-    (λ c κs. search (puts, tests))
-    (λ c κs. search (puts, tests))
+    (λ c κs. search needs)
+    (λ c κs. search needs)
     (λ c. search (puts, tests)))
