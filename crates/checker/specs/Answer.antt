@@ -3,7 +3,7 @@ use mathlib.Core.List.{List}
 use Prim.Native.Nat.{ℕ}
 use Rattle.outline.specs.Verdict.{Outcome, met, failed, outcome}
 use Rattle.content.specs.Image.{Result, refused, read, decode}
-use Rattle.judging.specs.Judge.{obligation}
+use Rattle.report.specs.Place.{obligation}
 use Rattle.report.specs.declared.verdict.Verdict.{Verdict}
 use Rattle.report.specs.declared.verdict.Verdict.the-variants.{Accepted, Refused, Failed}
 

@@ -1,7 +1,6 @@
 pub mod Sums
 pub mod Instr
 pub mod Count
-pub mod Small
 pub mod Inverse
 pub mod Checked
 pub mod Formulas

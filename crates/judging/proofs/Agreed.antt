@@ -24,7 +24,8 @@ use Rattle.marks.specs.declared.Marks.{Marks}
 use Rattle.report.specs.declared.obligation.Obligation.{Obligation}
 use Rattle.judging.specs.declared.outcome.Outcome.{Outcome}
 use Rattle.judging.specs.declared.outcome.Outcome.the-variants.{Met, Failed}
-use Rattle.judging.specs.Judge.{obligation, concludesAt, codeAt, judgeOne, next, judged, judgeAt, toOutcome}
+use Rattle.report.specs.Place.{obligation}
+use Rattle.judging.specs.Judge.{concludesAt, codeAt, judgeOne, next, judged, judgeAt, toOutcome}
 use Rattle.judging.proofs.Asked.{InRange, concludes-asked}
 use Rattle.judging.proofs.Ranged.{obligations-ranged}
 

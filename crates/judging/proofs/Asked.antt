@@ -43,7 +43,8 @@ use Rattle.fitting.specs.Claim.{saidAt}
 use Rattle.fitting.specs.LineClaim.{claimOf}
 use Rattle.fitting.proofs.Claimed.{claim-said}
 use Rattle.judging.specs.Wanted.{nextPoint, assertedAt, wantedStart, wantedAction, wantedNext, wantedStep, wantedTarget, wantedKept, wantedAt}
-use Rattle.judging.specs.Judge.{obligation, meets, concludesAt}
+use Rattle.report.specs.Place.{obligation}
+use Rattle.judging.specs.Judge.{meets, concludesAt}
 use Rattle.judging.proofs.Compared.{starting, both, holding, negated, compared, start-compared, step-compared, kept-compared, next-compared, target-compared}
 
 eqb-same : (a b : ℕ) → eqb a b ≡ eqb b a

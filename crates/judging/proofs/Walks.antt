@@ -23,7 +23,8 @@ use Rattle.marks.specs.declared.Marks.{Marks}
 use Rattle.report.specs.declared.obligation.Obligation.the-variants.{Start, Step, Taken, Interference}
 use Rattle.judging.specs.declared.outcome.Outcome.{Outcome}
 use Rattle.judging.specs.declared.outcome.Outcome.the-variants.{Met}
-use Rattle.judging.specs.Judge.{obligation, next, judged, judgeAt}
+use Rattle.report.specs.Place.{obligation}
+use Rattle.judging.specs.Judge.{next, judged, judgeAt}
 use Rattle.judging.specs.Walk.{program, startsTo, ownAt, ownTo, stepsTo, actingAt, actingTo, actionsAt, actionsTo, assertedTo, interferencesTo}
 
 flat-single : {A B : Type 0} (f : A → B) (l : List A) → map f l ≡ flat (λ a. f a ∷ []) l

@@ -4,7 +4,6 @@ use mathlib.Core.List.{List, [], _∷_}
 use Prim.Native.Nat.{ℕ, _+_}
 use lib.Dec.{eqb}
 use Rattle.logic.specs.Obligations as Logic
-use Rattle.logic.specs.Obligations.{Obligation.start, Obligation.step, Obligation.taken, Obligation.interference}
 use Rattle.outline.specs.Verdict as Verdict
 use Rattle.outline.specs.Verdict.{Outcome.met, Outcome.failed}
 use Rattle.frames.specs.Records.{bodies}
@@ -15,18 +14,11 @@ use Rattle.fitting.specs.LineClaim.{claimOf}
 use Rattle.marks.specs.Marks.{isMarked}
 use Rattle.marks.specs.declared.Marks.{Marks}
 use Rattle.report.specs.declared.obligation.Obligation.{Obligation}
-use Rattle.report.specs.declared.obligation.Obligation.the-variants.{Start, Step, Taken, Interference}
+use Rattle.report.specs.Place.{obligation}
 use Rattle.judging.specs.declared.wanted.Wanted.{Wanted}
 use Rattle.judging.specs.declared.outcome.Outcome.{Outcome}
 use Rattle.judging.specs.declared.outcome.Outcome.the-variants.{Met, Failed}
 use Rattle.judging.specs.Wanted.{wantedBytes, wantedAt}
-
--- an obligation of the logic as the code has it
-abbrev pub obligation : Logic.Obligation → Obligation
-obligation (start t) = Start t
-obligation (step t k) = Step t k
-obligation (taken t k) = Taken t k
-obligation (interference u j t k) = Interference u j t k
 
 module _ (s : List ℕ) (z : Sizes) where
   -- a line with this number meets what is wanted

@@ -37,17 +37,6 @@ module _ {ℓ} {A : Type ℓ} where
       go true e = g (eqb-true y x e)
       go false e = h (eqb-false y x e)
 
-  pub upd-twice : (f : ℕ → A) (x : ℕ) (a b : A) → upd (upd f x a) x b ≡ upd f x b
-  unfolding upd
-  upd-twice f x a b = fun-ext (λ y. go y (eqb y x))
-    where
-      go : (y : ℕ) (c : Bool) → cond c b (cond c a (f y)) ≡ cond c b (f y)
-      go y true = refl
-      go y false = refl
-
-  pub upd-self : (f : ℕ → A) (x : ℕ) (a : A) → f x ≡ a → upd f x a ≡ f
-  upd-self f x a e = fun-ext (λ y. upd-case (λ c. c ≡ f y) f x a y (λ q. sym e ∙ ap f (sym q)) (λ q. refl))
-
 -- to show a thing of every word, show it of x and of the others
 pub by-word {ℓ} : (x : ℕ) (P : ℕ → Type ℓ) → P x → ((y : ℕ) → y ≢ x → P y) → (y : ℕ) → P y
 by-word x P h g y = go (eqb y x) refl

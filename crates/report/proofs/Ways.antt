@@ -7,7 +7,7 @@ use borrow.Author.Tests.{lt-ltb, le-ltb}
 use Rattle.frames.specs.Fault.{codeOf}
 use Rattle.frames.specs.declared.fault.Fault.{Fault}
 use Rattle.report.specs.Place.{placeOf}
-use Rattle.report.specs.Fields.{fieldsOf}
+use Rattle.report.specs.Fields.{nowhere, gathered, fieldsOf}
 use Rattle.report.specs.Record.{size, recordBytes}
 use Rattle.report.specs.Output.{codeFor, bytesFor}
 use Rattle.report.specs.declared.obligation.Obligation.{Obligation}
@@ -37,20 +37,17 @@ module _ (o : Obligation) (t k : ℕ) where
 pub ruleset placing = (place-start, place-step, place-taken, place-interference)
 
 module _ (v : Verdict) where
-  pub fields-accepted : (n : ℕ) → v ≡ Accepted n
-      → record { code = 0; «record» = 0; class = 0; thread = 0; point = 0; «other_thread» = 0; «other_point» = 0; line = 0; count = n } ≡ fieldsOf v
+  pub fields-accepted : (n : ℕ) (r : Fields) → v ≡ Accepted n → r ≡ gathered 0 0 nowhere 0 n → r ≡ fieldsOf v
   unfolding fieldsOf
-  fields-accepted n e = rw e
+  fields-accepted n r e d = rw (d, e)
 
-  pub fields-refused : (f : Fault) (i c : ℕ) → v ≡ Refused f i → c ≡ codeOf f
-      → record { code = c; «record» = i; class = 0; thread = 0; point = 0; «other_thread» = 0; «other_point» = 0; line = 0; count = 0 } ≡ fieldsOf v
+  pub fields-refused : (f : Fault) (i c : ℕ) (r : Fields) → v ≡ Refused f i → c ≡ codeOf f → r ≡ gathered c i nowhere 0 0 → r ≡ fieldsOf v
   unfolding fieldsOf
-  fields-refused f i c e d = rw (e, d)
+  fields-refused f i c r e h d = rw (d, e, h)
 
-  pub fields-failed : (o : Obligation) (c l n : ℕ) (p : Place) → v ≡ Failed o c l n → p ≡ placeOf o
-      → record { code = c; «record» = 0; class = p .class; thread = p .thread; point = p .point; «other_thread» = p .«other_thread»; «other_point» = p .«other_point»; line = l; count = n } ≡ fieldsOf v
+  pub fields-failed : (o : Obligation) (c l n : ℕ) (p : Place) (r : Fields) → v ≡ Failed o c l n → p ≡ placeOf o → r ≡ gathered c 0 p l n → r ≡ fieldsOf v
   unfolding fieldsOf
-  fields-failed o c l n p e d = rw (e, d)
+  fields-failed o c l n p r e h d = rw (d, e, h)
 
 pub ruleset numbering = (fields-accepted, fields-refused, fields-failed)
 

@@ -1,22 +1,31 @@
 -- The nine numbers of a verdict.
+use Prim.Native.Nat.{ℕ}
 use Rattle.frames.specs.Fault.{codeOf}
 use Rattle.report.specs.Place.{placeOf}
+use Rattle.report.specs.declared.obligation.Place.{Place}
 use Rattle.report.specs.declared.verdict.Verdict.{Verdict}
 use Rattle.report.specs.declared.verdict.Verdict.the-variants.{Accepted, Refused, Failed}
 use Rattle.report.specs.declared.verdict.Fields.{Fields}
 
-unfoldable pub fieldsOf : Verdict → Fields
-fieldsOf (Accepted n) = record { code = 0; «record» = 0; class = 0; thread = 0; point = 0; «other_thread» = 0; «other_point» = 0; line = 0; count = n }
-fieldsOf (Refused f i) = record { code = codeOf f; «record» = i; class = 0; thread = 0; point = 0; «other_thread» = 0; «other_point» = 0; line = 0; count = 0 }
-fieldsOf (Failed o c l n) =
+-- of a verdict that names no obligation
+abbrev pub nowhere : Place
+nowhere = record { class = 0; thread = 0; point = 0; «other_thread» = 0; «other_point» = 0 }
+
+unfoldable pub gathered : ℕ → ℕ → Place → ℕ → ℕ → Fields
+gathered c i p l n =
     record {
       code = c;
-      «record» = 0;
-      class = placeOf o .class;
-      thread = placeOf o .thread;
-      point = placeOf o .point;
-      «other_thread» = placeOf o .«other_thread»;
-      «other_point» = placeOf o .«other_point»;
+      «record» = i;
+      class = p .class;
+      thread = p .thread;
+      point = p .point;
+      «other_thread» = p .«other_thread»;
+      «other_point» = p .«other_point»;
       line = l;
       count = n;
     }
+
+unfoldable pub fieldsOf : Verdict → Fields
+fieldsOf (Accepted n) = gathered 0 0 nowhere 0 n
+fieldsOf (Refused f i) = gathered (codeOf f) i nowhere 0 0
+fieldsOf (Failed o c l n) = gathered c 0 (placeOf o) l n

@@ -32,6 +32,15 @@ pub struct Place {
     pub other_point: usize,
 }
 
+// Of a verdict that names no obligation.
+pub const NOWHERE: Place = Place {
+    class: 0,
+    thread: 0,
+    point: 0,
+    other_thread: 0,
+    other_point: 0,
+};
+
 pub fn place_of(what: Obligation) -> Place
     ensures { λ r. ⌜ r ≡ placeOf what ⌝ }
 {

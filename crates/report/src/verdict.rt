@@ -1,10 +1,12 @@
 // The verdict on an image, and the nine numbers that it is published as.
+use crate::obligation::NOWHERE;
 use crate::obligation::Obligation;
+use crate::obligation::Place;
 use crate::obligation::place_of;
 use frames::fault::Fault;
 use image::code::code_of;
 ghost use mathlib.Core.Path.{_≡_};
-ghost use Rattle.report.specs.Fields.{fieldsOf};
+ghost use Rattle.report.specs.Fields.{gathered, fieldsOf};
 
 pub enum Verdict {
     // So many obligations are met.
@@ -37,50 +39,35 @@ pub struct Fields {
     pub count: usize,
 }
 
+fn gather(code: u16, record: usize, p: Place, line: usize, count: usize) -> Fields
+    ensures { λ r. ⌜ r ≡ gathered code «record» p line count ⌝ }
+{
+    Fields {
+        code,
+        record,
+        class: p.class,
+        thread: p.thread,
+        point: p.point,
+        other_thread: p.other_thread,
+        other_point: p.other_point,
+        line,
+        count,
+    }
+}
+
 pub fn fields_of(v: Verdict) -> Fields
     ensures { λ r. ⌜ r ≡ fieldsOf v ⌝ }
 {
     match v {
-        Verdict::Accepted { count } => Fields {
-            code: 0,
-            record: 0,
-            class: 0,
-            thread: 0,
-            point: 0,
-            other_thread: 0,
-            other_point: 0,
-            line: 0,
-            count,
-        },
-        Verdict::Refused { fault, record } => Fields {
-            code: code_of(fault) as u16,
-            record,
-            class: 0,
-            thread: 0,
-            point: 0,
-            other_thread: 0,
-            other_point: 0,
-            line: 0,
-            count: 0,
-        },
+        Verdict::Accepted { count } => gather(0, 0, NOWHERE, 0, count),
+        Verdict::Refused { fault, record } => {
+            gather(code_of(fault) as u16, record, NOWHERE, 0, 0)
+        }
         Verdict::Failed {
             what,
             code,
             line,
             count,
-        } => {
-            let p = place_of(what);
-            Fields {
-                code: code as u16,
-                record: 0,
-                class: p.class,
-                thread: p.thread,
-                point: p.point,
-                other_thread: p.other_thread,
-                other_point: p.other_point,
-                line,
-                count,
-            }
-        }
+        } => gather(code as u16, 0, place_of(what), line, count),
     }
 }

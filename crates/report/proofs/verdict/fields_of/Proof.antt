@@ -1,4 +1,5 @@
 use Rattle.report.proofs.Ways.{numbering}
+use Rattle.limits.proofs.Auto.{tests}
 use borrow.Author.Needs.{needs}
 use Rattle.report.proofs.verdict.fields_of.Statement.{statement}
 use Rattle.report.proofs.verdict.fields_of.Tie as tie
@@ -8,12 +9,15 @@ fields-of-spec =
     tie.close
     (tie.spec
     (λ c. search needs)
+    (λ c κs. search needs)
+    (λ c. search needs)
+    (λ c κs. search needs)
     (λ c. search needs)
     (λ c κs. search needs)
     (λ c. search needs)
     (λ c. search needs)
     (λ c κs. search needs)
-    (λ c. search needs)
-    (λ c. search (numbering, needs))
-    (λ c. search (numbering, needs))
-    (λ c. search (numbering, needs)))
+    (λ c κs. search needs)
+    (λ c. search (numbering, tests))
+    (λ c. search (numbering, tests))
+    (λ c. search (numbering, tests)))
