@@ -14,7 +14,7 @@ use Rattle.outline.specs.Verdict.{Image, Outcome, met, failed, outcome}
 use Rattle.outline.proofs.Accept.{failed-first}
 use Rattle.content.specs.Image.{Result, refused, read, decode}
 use Rattle.content.proofs.Admitted.{accepted-every-run}
-use Rattle.report.specs.Fields.{fieldsOf}
+use Rattle.report.specs.Fields.{gathered, fieldsOf}
 use Rattle.report.specs.Output.{codeFor, bytesFor}
 use Rattle.report.specs.Record.{size}
 use Rattle.report.specs.declared.verdict.Verdict.{Verdict}
@@ -37,12 +37,12 @@ module _ (s : List ℕ) where
   code d = fieldsOf (answered d) .code
 
   met-true : (D : Image) → decode s ≡ read D → (o : Outcome) → outcome D ≡ o → fieldsOf (judged o) .code ≡ 0 → TrueInEveryRun s
-  unfolding fieldsOf
+  unfolding fieldsOf gathered
   met-true D d (met n) e h = record { content = D; says = d; holds = accepted-every-run s D n d e }
   met-true D d (failed c o l n) e h = absurd (failed-first D c o l n e .bad h)
 
   read-true : (d : Result) → decode s ≡ d → code d ≡ 0 → TrueInEveryRun s
-  unfolding fieldsOf
+  unfolding fieldsOf gathered
   read-true (refused f i) e h = absurd (fault-code f h)
   read-true (read D) e h = met-true D e (outcome D) refl h
 

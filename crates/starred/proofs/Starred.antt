@@ -40,12 +40,12 @@ use Rattle.content.specs.Program.{pointCount, outlineNumber}
 use Rattle.content.specs.Certificate.{saying, lineBody}
 use Rattle.content.specs.Image.{namedLine, decode}
 use Rattle.report.specs.Place as Place
-use Rattle.report.specs.Fields.{fieldsOf}
+use Rattle.report.specs.Fields.{gathered, fieldsOf}
 use Rattle.report.specs.Record.{recordBytes}
 use Rattle.report.specs.Output.{codeFor, bytesFor}
 use Rattle.checker.specs.Answer.{verdict}
 use Rattle.starred.specs.Table.{holds, table}
 
 pub starred : T (all holds table)
-unfolding verdict codeFor bytesFor fieldsOf Place.placeOf recordBytes codeOf Formulas.formula Formulas.faultOf Header.counted Line.numbered Thread.cut Thread.numbered Use.outlined admit also bodies body branches check choose code countsOf cut decode decoded distinct ended every exactly faultAt firstFault fitsAt formOf formula frame frames has hasOperand headFault headed header headerSize inRange instructions isIn isSought judge lastPoint line lineBody lineNumbers lineSize lineSorted marked member most namedLine nodeAt nowhere numbers obligationCount obligations occurs operandFault outline outlineNumber outlinedAt owners partCount partPlace placeOf placed pointCount premises read readingOf recordCount ruleOf same same-leaf saying sizesOf skim sortAt sortedBy startValues startless tally tallyTo thread threadBody threadNumbers threadSize threadTally unless upd walk wholeImage within word same-name ℕ-discrete
+unfolding verdict codeFor bytesFor fieldsOf gathered Place.placeOf recordBytes codeOf Formulas.formula Formulas.faultOf Header.counted Line.numbered Thread.cut Thread.numbered Use.outlined admit also bodies body branches check choose code countsOf cut decode decoded distinct ended every exactly faultAt firstFault fitsAt formOf formula frame frames has hasOperand headFault headed header headerSize inRange instructions isIn isSought judge lastPoint line lineBody lineNumbers lineSize lineSorted marked member most namedLine nodeAt nowhere numbers obligationCount obligations occurs operandFault outline outlineNumber outlinedAt owners partCount partPlace placeOf placed pointCount premises read readingOf recordCount ruleOf same same-leaf saying sizesOf skim sortAt sortedBy startValues startless tally tallyTo thread threadBody threadNumbers threadSize threadTally unless upd walk wholeImage within word same-name ℕ-discrete
 starred = tt
