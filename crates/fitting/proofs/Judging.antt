@@ -9,7 +9,7 @@ use Rattle.frames.specs.Records.{bodies}
 use Rattle.program.specs.declared.sizes.Sizes.{Sizes}
 use Rattle.records.specs.Places.{instructionOf}
 use Rattle.matcher.specs.declared.bind.Bind.{Bind}
-use Rattle.matcher.specs.declared.matching.Match.{Match}
+use Rattle.matcher.specs.declared.whole.Whole.{Whole}
 use Rattle.certificate.specs.FitT.{hoare}
 use Rattle.content.specs.Certificate.{lineBody}
 use Rattle.content.specs.Places.{actingOf, lineIn}
@@ -46,14 +46,14 @@ module _ (s : List ℕ) (w : Rule) (a : Acting) (c : Claim) (p : Premises) (b : 
 
 pub ruleset allowing = (allowed-triple, allowed-other, rest-asked, rest-refused)
 
-module _ (s t : List ℕ) (l : Line) (a : Acting) (p : Premises) (w : Rule) (c : Claim) (b : Bind) (m : Match)
+module _ (s t : List ℕ) (l : Line) (a : Acting) (p : Premises) (w : Rule) (c : Claim) (b : Bind) (m : Whole)
     (ew : w ≡ ruleRow (l .rule)) (ec : c ≡ claimBy l) (eb : b ≡ presetAt (l .thread) (a .word) (a .register) (a .formula))
     (em : m ≡ matchClaim s t (w .template) (w .form) (c .thread) (c .point) c b) where
   pub row-claim : m .ok ≡ false → false ≡ fitsRow s t l a p
   unfolding fitsRow
   row-claim h = rw (← ew, ← ec, ← eb, ← em, h)
 
-  module _ (h : m .ok ≡ true) (q : Match) (eq : q ≡ matchPremises s t (m .tpl) w (c .thread) (c .point) p (m .bind)) where
+  module _ (h : m .ok ≡ true) (q : Whole) (eq : q ≡ matchPremises s t (m .tpl) w (c .thread) (c .point) p (m .bind)) where
     pub row-premises : q .ok ≡ false → false ≡ fitsRow s t l a p
     unfolding fitsRow
     row-premises g = rw (← ew, ← ec, ← eb, ← em, h, ← eq, g)

@@ -8,7 +8,7 @@ use Rattle.frames.specs.Records.{bodies}
 use Rattle.program.specs.declared.sizes.Sizes.{Sizes}
 use Rattle.records.specs.Places.{instructionOf}
 use Rattle.matcher.specs.declared.bind.Bind.{Bind}
-use Rattle.matcher.specs.declared.matching.Match.{Match}
+use Rattle.matcher.specs.declared.whole.Whole.{Whole}
 use Rattle.certificate.specs.FitT.{hoare}
 use Rattle.content.specs.Places.{actingOf}
 use Rattle.content.specs.declared.line.Line.{Line}
@@ -32,7 +32,7 @@ unfoldable pub restAt : List ℕ → Rule → Acting → Claim → Premises → 
 restAt s w a c p b = cond (isAllowed w (a .operation)) (asked s (w .side) b a c p) false
 
 -- if it matches, what comes then
-abbrev pub thenAsk : Match → (Match → Bool) → Bool
+abbrev pub thenAsk : Whole → (Whole → Bool) → Bool
 thenAsk m f = cond (m .ok) (f m) false
 
 -- line, premises, then the rest, with the templates t

@@ -1,7 +1,6 @@
 // What the holes of a template stand for, and how a hole takes a formula or a number.
 use compare::same::Same;
 use compare::same::same_at;
-use formula::end::end_at;
 ghost use mathlib.Core.Path.{_≡_};
 ghost use Prim.Native.Nat.{_<_};
 ghost use Rattle.matcher.specs.Places.{isThere, holeAt, operandOf};
@@ -26,7 +25,8 @@ pub struct Bind {
     pub num: [usize; 5],
 }
 
-// What the roots of a template and a formula show. Kind: 0 they differ, 1 all is matched, 2 and 3 one and two parts are left.
+// What the roots of a template and a formula show. Kind: 0 they differ, 1 all is matched, 2 and 3 one and two parts are left,
+// 4 a hole has taken the formula, and where it ends is not known yet.
 pub struct Root {
     pub kind: u8,
     pub tpl: usize,
@@ -54,21 +54,19 @@ pub fn match_hole(s: &[u8], tpl: usize, j: usize, at: usize, left: usize, b: Bin
         let mut n = b;
         n.at[j] = at;
         n.left[j] = left;
-        let next = end_at(s, at, left);
         return Root {
-            kind: 1,
+            kind: 4,
             tpl,
-            next,
+            next: 0,
             bind: n,
         };
     }
     let place = b.at[j];
     if is_there(place, held, at, left) {
-        let next = end_at(s, at, left);
         return Root {
-            kind: 1,
+            kind: 4,
             tpl,
-            next,
+            next: 0,
             bind: b,
         };
     }
