@@ -33,7 +33,7 @@ use Rattle.fitting.specs.LineClaim.{claimBy}
 use Rattle.fitting.specs.Premises.{isImplicationAt, allImplications, matchPremises}
 use Rattle.fitting.specs.Preset.{presetAt}
 use Rattle.fitting.specs.Asked.{asked}
-use Rattle.fitting.specs.Fit.{isAllowed, restAt, thenAsk, fitsRow}
+use Rattle.fitting.specs.Fit.{isAllowed, restAt, lineMatch, fitsRow}
 use Rattle.fitting.specs.declared.claim.Claim.{Claim}
 use Rattle.fitting.specs.declared.claim.Premises as Claims
 use Rattle.fitting.proofs.Follow.{StandAll, behind, ClaimFollows, claim-follows, from-follows}
@@ -172,7 +172,7 @@ module _ (s : List ℕ) (n : Rule) (l : Line) (named : l .rule ≡ numberOf n) (
   asks = restT Limits.values (startOf s) A (row n) (saidAt s c) (says s p)
 
   pub fits-same : fitsT Limits.values (startOf s) A n (saidAt s c) (says s p) ≡ fitsRow s templates l a p
-  unfolding fitsRow
+  unfolding fitsRow lineMatch
   fits-same = ap (λ (o : Option Taken). answer Limits.values (startOf s) A (andThen o (FitT.matchPremises (c .thread) (c .point) (row n .premises) (says s p))) asks) line-same ∙ go (m .ok) refl
     where
       then : (k : Bool) → answer Limits.values (startOf s) A (given s k (q .bind)) asks ≡ cond k (restAt s w a c p (q .bind)) false
