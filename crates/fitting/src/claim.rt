@@ -48,10 +48,10 @@ pub fn match_claim(
     let left = c.left;
     let right = c.right;
     if is_placed(form, thread, point, c) {
-        let m = match_whole(s, t, i, left, Limits::NESTING, b);
+        let m = match_whole(s, t, i, left, Bind::WHOLE, b);
         if m.ok {
             let n = m.bind;
-            return match_whole(s, t, m.tpl, right, Limits::NESTING, n);
+            return match_whole(s, t, m.tpl, right, Bind::WHOLE, n);
         }
         return m;
     }

@@ -59,7 +59,7 @@ pub fn match_node(h: Node, x: Node, b: Bind) -> Root
     }
 }
 
-pub fn match_root(s: &[u8], t: &[u8], i: usize, at: usize, left: usize, b: Bind) -> Root
+pub fn match_root(s: &[u8], t: &[u8], i: usize, at: usize, left: u8, b: Bind) -> Root
     ensures { λ r. ⌜ r ≡ rootAt (now (s .entry)) (now (t .entry)) i at left b ⌝ }
 {
     if left == 0 {
@@ -87,7 +87,7 @@ pub fn match_root(s: &[u8], t: &[u8], i: usize, at: usize, left: usize, b: Bind)
 }
 
 // The formula at a position against the template at i.
-pub fn match_at(s: &[u8], t: &[u8], i: usize, at: usize, left: usize, b: Bind) -> Match
+pub fn match_at(s: &[u8], t: &[u8], i: usize, at: usize, left: u8, b: Bind) -> Match
     ensures { λ r. ⌜ r ≡ matchAt (now (s .entry)) (now (t .entry)) left i at b ⌝ }
 {
     let r = match_root(s, t, i, at, left, b);
@@ -107,7 +107,7 @@ pub fn match_at(s: &[u8], t: &[u8], i: usize, at: usize, left: usize, b: Bind) -
         return Match {
             ok: true,
             tpl: r.tpl,
-            next: end_at(s, at, left),
+            next: end_at(s, at, left as usize),
             bind: n,
         };
     }

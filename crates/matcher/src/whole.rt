@@ -13,7 +13,7 @@ pub struct Whole {
 }
 
 // The formula at a position against the template at i.
-pub fn match_whole(s: &[u8], t: &[u8], i: usize, at: usize, left: usize, b: Bind) -> Whole
+pub fn match_whole(s: &[u8], t: &[u8], i: usize, at: usize, left: u8, b: Bind) -> Whole
     ensures { λ r. ⌜ r ≡ wholeAt (now (s .entry)) (now (t .entry)) left i at b ⌝ }
 {
     let r = match_root(s, t, i, at, left, b);
