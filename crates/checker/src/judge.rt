@@ -17,7 +17,7 @@ fn judge_sound<'a, 'b>(s: &'a [u8], ix: &'b [usize], z: Sizes) -> Verdict
     ensures { λ r. ⌜ r ≡ soundVerdict (now (s .entry)) z ⌝ }
 {
     let m = judge_lines(s, ix, z);
-    match judge_obligations(s, ix, z, m) {
+    match judge_obligations(s, ix, z, &m.on) {
         Outcome::Met(count) => Verdict::Accepted { count },
         Outcome::Failed {
             what,

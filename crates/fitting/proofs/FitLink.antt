@@ -18,7 +18,7 @@ use Rattle.matcher.specs.Match.{Taken, andThen}
 use Rattle.matcher.specs.Places.{takenOf}
 use Rattle.matcher.specs.Template.{shapes}
 use Rattle.matcher.specs.declared.bind.Bind.{Bind}
-use Rattle.matcher.specs.declared.matching.Match.{Match}
+use Rattle.matcher.specs.declared.whole.Whole.{Whole}
 use Rattle.matcher.proofs.Follow.{Sized, given, when-given}
 use Rattle.certificate.specs.FitT as FitT
 use Rattle.certificate.specs.FitT.{Said, hoare, implication, formOf, matchLine, matchAll, isImplication, preset, holesFrom, sideT, operationT, restT, answer, fitsT}
@@ -33,7 +33,7 @@ use Rattle.fitting.specs.LineClaim.{claimBy}
 use Rattle.fitting.specs.Premises.{isImplicationAt, allImplications, matchPremises}
 use Rattle.fitting.specs.Preset.{presetAt}
 use Rattle.fitting.specs.Asked.{asked}
-use Rattle.fitting.specs.Fit.{isAllowed, restAt, thenAsk, fitsRow}
+use Rattle.fitting.specs.Fit.{isAllowed, restAt, lineMatch, fitsRow}
 use Rattle.fitting.specs.declared.claim.Claim.{Claim}
 use Rattle.fitting.specs.declared.claim.Premises as Claims
 use Rattle.fitting.proofs.Follow.{StandAll, behind, ClaimFollows, claim-follows, from-follows}
@@ -87,7 +87,7 @@ module _ (s : List ℕ) (p : Claims.Premises) where
   implications-are (suc (suc (suc (suc (suc n))))) e h = absurd (omega arith)
 
   module _ (thread point i : ℕ) (w : Code.Rule) (b : Bind) (z : Sized b) (few : p .count ≤ Limits.premises) where
-    abbrev found : Match
+    abbrev found : Whole
     found = matchPremises s templates i w thread point p b
 
     premises-same : (W : Premises) → w .premises ≡ premiseCount W → w .forms ≡ packed (shapes W) → length (shapes W) ≤ Limits.premises → StandAll templates i (shapes W)
@@ -99,8 +99,8 @@ module _ (s : List ℕ) (p : Claims.Premises) where
       where
         go : (x : Bool) → eqb (w .premises) (p .count) ≡ x
             → matchAll thread point l says (takenOf s b)
-            ≡ given s (cond x (matchFrom s templates thread point p (p .count) i (w .forms) 0 b) (record { ok = false; tpl = i; next = 0; bind = b }) .ok)
-            (cond x (matchFrom s templates thread point p (p .count) i (w .forms) 0 b) (record { ok = false; tpl = i; next = 0; bind = b }) .bind)
+            ≡ given s (cond x (matchFrom s templates thread point p (p .count) i (w .forms) 0 b) (record { ok = false; tpl = i; bind = b }) .ok)
+            (cond x (matchFrom s templates thread point p (p .count) i (w .forms) 0 b) (record { ok = false; tpl = i; bind = b }) .bind)
         go true d =
             let q : p .count ≡ length l = sym (eqb-true (w .premises) (p .count) d) ∙ e in
             subst₂
@@ -145,7 +145,7 @@ module _ (s : List ℕ) (n : Rule) (l : Line) (named : l .rule ≡ numberOf n) (
   abbrev b₀ : Bind
   b₀ = presetAt (l .thread) (a .word) (a .register) (a .formula)
 
-  abbrev m : Match
+  abbrev m : Whole
   m = matchClaim s templates (w .template) (w .form) (c .thread) (c .point) c b₀
 
   stands : StandAll templates (w .template) (row n .says ∷ shapes (row n .premises))
@@ -160,7 +160,7 @@ module _ (s : List ℕ) (n : Rule) (l : Line) (named : l .rule ≡ numberOf n) (
   unfolding claimBy
   line-same = ap (matchLine (c .thread) (c .point) (row n .says) (saidAt s c)) (sym (preset-taken s (l .thread) (a .operation) (a .word) (a .register) (a .formula))) ∙ follows .same
 
-  abbrev q : Match
+  abbrev q : Whole
   q = matchPremises s templates (m .tpl) w (c .thread) (c .point) p (m .bind)
 
   rests-same : m .ok ≡ true → FitT.matchPremises (c .thread) (c .point) (row n .premises) (says s p) (takenOf s (m .bind)) ≡ given s (q .ok) (q .bind)
@@ -172,7 +172,7 @@ module _ (s : List ℕ) (n : Rule) (l : Line) (named : l .rule ≡ numberOf n) (
   asks = restT Limits.values (startOf s) A (row n) (saidAt s c) (says s p)
 
   pub fits-same : fitsT Limits.values (startOf s) A n (saidAt s c) (says s p) ≡ fitsRow s templates l a p
-  unfolding fitsRow
+  unfolding fitsRow lineMatch
   fits-same = ap (λ (o : Option Taken). answer Limits.values (startOf s) A (andThen o (FitT.matchPremises (c .thread) (c .point) (row n .premises) (says s p))) asks) line-same ∙ go (m .ok) refl
     where
       then : (k : Bool) → answer Limits.values (startOf s) A (given s k (q .bind)) asks ≡ cond k (restAt s w a c p (q .bind)) false

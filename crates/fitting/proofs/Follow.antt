@@ -11,9 +11,10 @@ use Rattle.logic.specs.Rules.{Shape}
 use Rattle.limits.specs.Limits.{nesting}
 use Rattle.formula.specs.Tree.{Tree, skim}
 use Rattle.matcher.specs.Match.{andThen, matchT}
-use Rattle.matcher.specs.Places.{matchAt, takenOf, proper}
+use Rattle.matcher.specs.Places.{matchAt, wholeOf, wholeAt, takenOf, proper}
 use Rattle.matcher.specs.declared.bind.Bind.{Bind}
 use Rattle.matcher.specs.declared.matching.Match.{Match}
+use Rattle.matcher.specs.declared.whole.Whole.{Whole}
 use Rattle.matcher.proofs.Follow.{Sized, given, Follows, match-follows}
 use Rattle.certificate.specs.FitT.{hoare, formOf, leftOf, rightOf, placed, matchSides, matchAll}
 use Rattle.rulebook.specs.Listed.{packed}
@@ -46,12 +47,12 @@ pub record StandSides (t : List ℕ) (i : ℕ) (p q : Tree) : Type 0 where
 abbrev pub Stands : List ℕ → ℕ → Shape → Type 0
 Stands t i m = StandSides t i (leftOf m) (rightOf m)
 
-pub record SidesFollow (s t : List ℕ) (i thread point form : ℕ) (p q : Tree) (c : Claim) (b : Bind) (r : Match) : Type 0 where
+pub record SidesFollow (s t : List ℕ) (i thread point form : ℕ) (p q : Tree) (c : Claim) (b : Bind) (r : Whole) : Type 0 where
   pub same : matchSides thread point form p q (saidAt s c) (takenOf s b) ≡ given s (r .ok) (r .bind)
   pub tpl : r .ok ≡ true → r .tpl ≡ behind t i
   pub sized : Sized (r .bind)
 
-abbrev pub ClaimFollows : List ℕ → List ℕ → ℕ → ℕ → ℕ → Shape → Claim → Bind → Match → Type 0
+abbrev pub ClaimFollows : List ℕ → List ℕ → ℕ → ℕ → ℕ → Shape → Claim → Bind → Whole → Type 0
 ClaimFollows s t i thread point m c b r = SidesFollow s t i thread point (formOf m) (leftOf m) (rightOf m) c b r
 
 module _ (s t : List ℕ) (i thread point form : ℕ) (p q : Tree) (c : Claim) (b : Bind) (z : Sized b) (st : StandSides t i p q) where
@@ -85,11 +86,11 @@ module _ (s t : List ℕ) (i thread point form : ℕ) (p q : Tree) (c : Claim) (
   first-fails o = rw (left-same, o)
 
   pub sides-follow : SidesFollow s t i thread point form p q c b (matchClaim s t i form thread point c b)
-  unfolding matchClaim
+  unfolding matchClaim wholeAt
   sides-follow = go (placedAt form thread point c) refl (first .ok) refl
     where
       go : (here : Bool) → placedAt form thread point c ≡ here → (o : Bool) → first .ok ≡ o
-          → SidesFollow s t i thread point form p q c b (cond here (cond (first .ok) second first) (record { ok = false; tpl = i; next = c .left; bind = b }))
+          → SidesFollow s t i thread point form p q c b (cond here (cond (first .ok) (wholeOf second) (wholeOf first)) (record { ok = false; tpl = i; bind = b }))
       go false h o e = record { same = rw (placed-same s form thread point c, h); tpl = λ y. absurd (false≢true y); sized = z }
       go true h true e = record {
         same = rw (placed-same s form thread point c, h, e) (both-same e);
@@ -120,16 +121,16 @@ forms-left (Shape.inside a b) q = omega arith
 forms-left (Shape.implies a b) q = omega arith
 forms-left (Shape.triple a b) q = omega arith
 
-pub record FromFollows (s : List ℕ) (thread point : ℕ) (p : Premises) (l : List Shape) (j : ℕ) (b : Bind) (r : Match) : Type 0 where
+pub record FromFollows (s : List ℕ) (thread point : ℕ) (p : Premises) (l : List Shape) (j : ℕ) (b : Bind) (r : Whole) : Type 0 where
   pub same : matchAll thread point l (map (saidAt s) (claimsFrom p (length l) j)) (takenOf s b) ≡ given s (r .ok) (r .bind)
   pub sized : Sized (r .bind)
 
 module _ (s t : List ℕ) (thread point : ℕ) (p : Premises) where
   module _ (m : Shape) (l : List Shape) (i j : ℕ) (b : Bind) (z : Sized b) (st : Stands t i m) where
-    abbrev one : Match
+    abbrev one : Whole
     one = matchClaim s t i (formOf m) thread point (claimAt p j) b
 
-    abbrev rest : Match
+    abbrev rest : Whole
     rest = matchFrom s t thread point p (length l) (one .tpl) (packed l) (j + 1) (one .bind)
 
     one-follows : ClaimFollows s t i thread point m (claimAt p j) b one

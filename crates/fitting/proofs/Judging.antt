@@ -9,7 +9,7 @@ use Rattle.frames.specs.Records.{bodies}
 use Rattle.program.specs.declared.sizes.Sizes.{Sizes}
 use Rattle.records.specs.Places.{instructionOf}
 use Rattle.matcher.specs.declared.bind.Bind.{Bind}
-use Rattle.matcher.specs.declared.matching.Match.{Match}
+use Rattle.matcher.specs.declared.whole.Whole.{Whole}
 use Rattle.certificate.specs.FitT.{hoare}
 use Rattle.content.specs.Certificate.{lineBody}
 use Rattle.content.specs.Places.{actingOf, lineIn}
@@ -22,7 +22,7 @@ use Rattle.fitting.specs.LineClaim.{claimBy, lineAt}
 use Rattle.fitting.specs.Premises.{premisesOf, matchPremises}
 use Rattle.fitting.specs.Preset.{presetAt}
 use Rattle.fitting.specs.Asked.{asked}
-use Rattle.fitting.specs.Fit.{isAllowed, restAt, fitsRow, actingIn, fitsLine}
+use Rattle.fitting.specs.Fit.{isAllowed, restAt, lineMatch, fitsRow, actingIn, fitsLine}
 use Rattle.fitting.specs.declared.claim.Claim.{Claim}
 use Rattle.fitting.specs.declared.claim.Premises.{Premises}
 
@@ -46,25 +46,28 @@ module _ (s : List ℕ) (w : Rule) (a : Acting) (c : Claim) (p : Premises) (b : 
 
 pub ruleset allowing = (allowed-triple, allowed-other, rest-asked, rest-refused)
 
-module _ (s t : List ℕ) (l : Line) (a : Acting) (p : Premises) (w : Rule) (c : Claim) (b : Bind) (m : Match)
-    (ew : w ≡ ruleRow (l .rule)) (ec : c ≡ claimBy l) (eb : b ≡ presetAt (l .thread) (a .word) (a .register) (a .formula))
-    (em : m ≡ matchClaim s t (w .template) (w .form) (c .thread) (c .point) c b) where
+pub line-matched : (s t : List ℕ) (w : Rule) (l : Line) (a : Acting) (c : Claim) (b : Bind) (r : Whole) → b ≡ presetAt (l .thread) (a .word) (a .register) (a .formula)
+    → r ≡ matchClaim s t (w .template) (w .form) (c .thread) (c .point) c b → r ≡ lineMatch s t w l a c
+unfolding lineMatch
+line-matched s t w l a c b r e d = rw (← e) d
+
+module _ (s t : List ℕ) (l : Line) (a : Acting) (p : Premises) (w : Rule) (c : Claim) (m : Whole) (ew : w ≡ ruleRow (l .rule)) (ec : c ≡ claimBy l) (em : m ≡ lineMatch s t w l a c) where
   pub row-claim : m .ok ≡ false → false ≡ fitsRow s t l a p
   unfolding fitsRow
-  row-claim h = rw (← ew, ← ec, ← eb, ← em, h)
+  row-claim h = rw (← ew, ← ec, ← em, h)
 
-  module _ (h : m .ok ≡ true) (q : Match) (eq : q ≡ matchPremises s t (m .tpl) w (c .thread) (c .point) p (m .bind)) where
+  module _ (h : m .ok ≡ true) (q : Whole) (eq : q ≡ matchPremises s t (m .tpl) w (c .thread) (c .point) p (m .bind)) where
     pub row-premises : q .ok ≡ false → false ≡ fitsRow s t l a p
     unfolding fitsRow
-    row-premises g = rw (← ew, ← ec, ← eb, ← em, h, ← eq, g)
+    row-premises g = rw (← ew, ← ec, ← em, h, ← eq, g)
 
     pub row-rest : (r : Bool) → q .ok ≡ true → r ≡ restAt s w a c p (q .bind) → r ≡ fitsRow s t l a p
     unfolding fitsRow
-    row-rest r g d = rw (← ew, ← ec, ← eb, ← em, h, ← eq, g) d
+    row-rest r g d = rw (← ew, ← ec, ← em, h, ← eq, g) d
 
 pub line-fits : (s t : List ℕ) (z : Sizes) (n : ℕ) (l : Line) (a : Acting) (p : Premises) (r : Bool)
     → l ≡ lineIn s (lineBody z (bodies s) n) → a ≡ actingOf s (instructionOf z (bodies s) (l .thread) (l .point)) → p ≡ premisesOf s z n (l .count) → r ≡ fitsRow s t l a p → r ≡ fitsLine s t z n
 unfolding fitsLine actingIn lineAt
 line-fits s t z n l a p r e d f g = rw (← e, ← d, ← f) g
 
-pub ruleset fitting = (row-claim, row-premises, row-rest, line-fits)
+pub ruleset fitting = (line-matched, row-claim, row-premises, row-rest, line-fits)

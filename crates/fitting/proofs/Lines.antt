@@ -8,13 +8,12 @@ use Rattle.content.specs.Certificate.{lineBody}
 use Rattle.content.specs.Places.{lineIn}
 use Rattle.content.specs.declared.line.Line.{Line}
 use Rattle.rulebook.specs.Rulebook.{ruleRow}
-use Rattle.rulebook.specs.declared.rule.Rule.{Rule}
 use Rattle.fitting.specs.LineClaim.{claimBy, lineAt, claimOf}
 use Rattle.fitting.specs.declared.claim.Claim.{Claim}
 
-pub claim-by : (l : Line) (w : Rule) → w ≡ ruleRow (l .rule) → record { form = w .form; thread = l .thread; point = l .point; left = l .left; right = l .right } ≡ claimBy l
+pub claim-by : (l : Line) (f : ℕ) → f ≡ ruleRow (l .rule) .form → record { form = f; thread = l .thread; point = l .point; left = l .left; right = l .right } ≡ claimBy l
 unfolding claimBy
-claim-by l w e = rw (← e)
+claim-by l f e = rw (← e)
 
 pub claim-is : (s : List ℕ) (z : Sizes) (n : ℕ) (l : Line) (c : Claim) → l ≡ lineIn s (lineBody z (bodies s) n) → c ≡ claimBy l → c ≡ claimOf s z n
 unfolding claimOf lineAt

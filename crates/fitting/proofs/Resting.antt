@@ -11,7 +11,7 @@ use Rattle.frames.specs.Records.{bodies}
 use Rattle.program.specs.declared.sizes.Sizes.{Sizes}
 use Rattle.records.specs.Line as Lines
 use Rattle.matcher.specs.declared.bind.Bind.{Bind}
-use Rattle.matcher.specs.declared.matching.Match.{Match}
+use Rattle.matcher.specs.declared.whole.Whole.{Whole}
 use Rattle.certificate.specs.FitT.{implication}
 use Rattle.content.specs.Certificate.{lineBody}
 use Rattle.rulebook.specs.Rulebook.{anyImplications}
@@ -69,15 +69,15 @@ module _ (p : Premises) where
 pub ruleset premising = (premise-past, premise-there, premises-is, implication-past, implication-there, too-many, not-first, not-second, not-third, by-fourth)
 
 module _ (s t : List ℕ) (i : ℕ) (w : Rule) (thread point : ℕ) (p : Premises) (b : Bind) where
-  pub premises-any : (o : Bool) → w .premises ≡ anyImplications → o ≡ allImplications p → record { ok = o; tpl = i; next = 0; bind = b } ≡ matchPremises s t i w thread point p b
+  pub premises-any : (o : Bool) → w .premises ≡ anyImplications → o ≡ allImplications p → record { ok = o; tpl = i; bind = b } ≡ matchPremises s t i w thread point p b
   unfolding matchPremises
   premises-any o e d = rw (eq-eqb _ _ e, d)
 
-  pub premises-counted : (r : Match) → (w .premises ≡ anyImplications → ⊥) → w .premises ≡ p .count → r ≡ matchFrom s t thread point p (p .count) i (w .forms) 0 b → r ≡ matchPremises s t i w thread point p b
+  pub premises-counted : (r : Whole) → (w .premises ≡ anyImplications → ⊥) → w .premises ≡ p .count → r ≡ matchFrom s t thread point p (p .count) i (w .forms) 0 b → r ≡ matchPremises s t i w thread point p b
   unfolding matchPremises
   premises-counted r n e d = rw (ne-eqb _ _ n, eq-eqb _ _ e) d
 
-  pub premises-other : (w .premises ≡ anyImplications → ⊥) → (w .premises ≡ p .count → ⊥) → record { ok = false; tpl = i; next = 0; bind = b } ≡ matchPremises s t i w thread point p b
+  pub premises-other : (w .premises ≡ anyImplications → ⊥) → (w .premises ≡ p .count → ⊥) → record { ok = false; tpl = i; bind = b } ≡ matchPremises s t i w thread point p b
   unfolding matchPremises
   premises-other n m = rw (ne-eqb _ _ n, ne-eqb _ _ m)
 

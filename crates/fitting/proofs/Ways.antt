@@ -10,9 +10,9 @@ use lib.Dec.{eqb}
 use borrow.Author.Tests.{lt-ltb, le-ltb, eq-eqb, ne-eqb}
 use Rattle.limits.specs.Limits.{nesting, premises}
 use Rattle.formula.proofs.Auto.{lower}
-use Rattle.matcher.specs.Places.{matchAt, thenMatch}
+use Rattle.matcher.specs.Places.{wholeAt, thenWhole}
 use Rattle.matcher.specs.declared.bind.Bind.{Bind}
-use Rattle.matcher.specs.declared.matching.Match.{Match}
+use Rattle.matcher.specs.declared.whole.Whole.{Whole}
 use Rattle.certificate.specs.FitT.{hoare}
 use Rattle.fitting.specs.Claim.{placedAt, matchClaim, noClaim, claimAt, matchFrom}
 use Rattle.fitting.specs.declared.claim.Claim.{Claim}
@@ -40,16 +40,16 @@ module _ (form t k : ℕ) (c : Claim) where
 pub ruleset placing = (placed-other, placed-form, placed-thread, placed-point)
 
 module _ (s t : List ℕ) (i form thread point : ℕ) (c : Claim) (b : Bind) (p : Bool) (e : p ≡ placedAt form thread point c) where
-  pub claim-elsewhere : p ≡ false → record { ok = false; tpl = i; next = c .left; bind = b } ≡ matchClaim s t i form thread point c b
+  pub claim-elsewhere : p ≡ false → record { ok = false; tpl = i; bind = b } ≡ matchClaim s t i form thread point c b
   unfolding matchClaim
   claim-elsewhere n = rw (← e, n)
 
-  module _ (h : p ≡ true) (m : Match) (d : m ≡ matchAt s t nesting i (c .left) b) where
+  module _ (h : p ≡ true) (m : Whole) (d : m ≡ wholeAt s t nesting i (c .left) b) where
     pub claim-left : m .ok ≡ false → m ≡ matchClaim s t i form thread point c b
     unfolding matchClaim
     claim-left n = rw (← e, h, ← d, n)
 
-    pub claim-both : (r : Match) → m .ok ≡ true → r ≡ matchAt s t nesting (m .tpl) (c .right) (m .bind) → r ≡ matchClaim s t i form thread point c b
+    pub claim-both : (r : Whole) → m .ok ≡ true → r ≡ wholeAt s t nesting (m .tpl) (c .right) (m .bind) → r ≡ matchClaim s t i form thread point c b
     unfolding matchClaim
     claim-both r o g = rw (← e, h, ← d, o) g
 
@@ -68,21 +68,21 @@ pub ruleset claims = (claim-there, claim-missing)
 module _ (s t : List ℕ) (thread point : ℕ) (p : Premises) where
   from-step : (n i forms j : ℕ) (b : Bind) → (n ≡ 0 → ⊥)
       → matchFrom s t thread point p n i forms j b
-      ≡ thenMatch (matchClaim s t i (forms % 4) thread point (claimAt p j) b) (λ m. matchFrom s t thread point p (n - 1) (m .tpl) (forms / 4) (j + 1) (m .bind))
+      ≡ thenWhole (matchClaim s t i (forms % 4) thread point (claimAt p j) b) (λ m. matchFrom s t thread point p (n - 1) (m .tpl) (forms / 4) (j + 1) (m .bind))
   unfolding matchFrom
   from-step zero i forms j b z = absurd (z refl)
   from-step (suc n) i forms j b z = rw (sub-one (suc n))
 
   module _ (n i forms j : ℕ) (b : Bind) where
-    pub from-none : n ≡ 0 → record { ok = true; tpl = i; next = 0; bind = b } ≡ matchFrom s t thread point p n i forms j b
+    pub from-none : n ≡ 0 → record { ok = true; tpl = i; bind = b } ≡ matchFrom s t thread point p n i forms j b
     unfolding matchFrom
     from-none e = rw e
 
-    module _ (z : n ≡ 0 → ⊥) (c : Claim) (e : c ≡ claimAt p j) (m : Match) (d : m ≡ matchClaim s t i (forms % 4) thread point c b) where
+    module _ (z : n ≡ 0 → ⊥) (c : Claim) (e : c ≡ claimAt p j) (m : Whole) (d : m ≡ matchClaim s t i (forms % 4) thread point c b) where
       pub from-no : m .ok ≡ false → m ≡ matchFrom s t thread point p n i forms j b
       from-no o = rw (from-step n i forms j b z, ← e, ← d, o)
 
-      pub from-more : (r : Match) → m .ok ≡ true → r ≡ matchFrom s t thread point p (n - 1) (m .tpl) (forms / 4) (j + 1) (m .bind) → r ≡ matchFrom s t thread point p n i forms j b
+      pub from-more : (r : Whole) → m .ok ≡ true → r ≡ matchFrom s t thread point p (n - 1) (m .tpl) (forms / 4) (j + 1) (m .bind) → r ≡ matchFrom s t thread point p n i forms j b
       from-more r o g = rw (from-step n i forms j b z, ← e, ← d, o) g
 
 pub ruleset following = (from-none, from-no, from-more, lower)

@@ -6,9 +6,9 @@ use lib.Dec.{eqb, ltb}
 use lib.ListN.{getD}
 use Rattle.limits.specs.Limits.{nesting, premises}
 use Rattle.formula.specs.Tree.{skim}
-use Rattle.matcher.specs.Places.{matchAt, thenMatch}
+use Rattle.matcher.specs.Places.{wholeAt, thenWhole}
 use Rattle.matcher.specs.declared.bind.Bind.{Bind}
-use Rattle.matcher.specs.declared.matching.Match.{Match}
+use Rattle.matcher.specs.declared.whole.Whole.{Whole}
 use Rattle.certificate.specs.FitT.{Said, hoare}
 use Rattle.fitting.specs.declared.claim.Claim.{Claim}
 use Rattle.fitting.specs.declared.claim.Premises.{Premises}
@@ -22,11 +22,11 @@ unfoldable pub placedAt : ℕ → ℕ → ℕ → Claim → Bool
 placedAt form t k c = cond (eqb (c .form) form) (cond (eqb form hoare) (cond (eqb (c .thread) t) (eqb (c .point) k) false) true) false
 
 -- the left side against the template at i, then the right side against the one behind it
-unfoldable pub matchClaim : List ℕ → List ℕ → ℕ → ℕ → ℕ → ℕ → Claim → Bind → Match
+unfoldable pub matchClaim : List ℕ → List ℕ → ℕ → ℕ → ℕ → ℕ → Claim → Bind → Whole
 matchClaim s t i form thread point c b =
     cond (placedAt form thread point c)
-    (thenMatch (matchAt s t nesting i (c .left) b) (λ m. matchAt s t nesting (m .tpl) (c .right) (m .bind)))
-    (record { ok = false; tpl = i; next = c .left; bind = b })
+    (thenWhole (wholeAt s t nesting i (c .left) b) (λ m. wholeAt s t nesting (m .tpl) (c .right) (m .bind)))
+    (record { ok = false; tpl = i; bind = b })
 
 -- premise j; one that is not there says nothing that a rule wants
 abbrev pub noClaim : Claim
@@ -41,7 +41,7 @@ claimsFrom p zero j = []
 claimsFrom p (suc n) j = claimAt p j ∷ claimsFrom p n (j + 1)
 
 -- premises from number j on, each against the templates behind those of the one before; their forms, two bits each from the lowest
-unfoldable pub matchFrom : List ℕ → List ℕ → ℕ → ℕ → Premises → ℕ → ℕ → ℕ → ℕ → Bind → Match
-matchFrom s t thread point p zero i forms j b = record { ok = true; tpl = i; next = 0; bind = b }
+unfoldable pub matchFrom : List ℕ → List ℕ → ℕ → ℕ → Premises → ℕ → ℕ → ℕ → ℕ → Bind → Whole
+matchFrom s t thread point p zero i forms j b = record { ok = true; tpl = i; bind = b }
 matchFrom s t thread point p (suc n) i forms j b =
-    thenMatch (matchClaim s t i (forms % 4) thread point (claimAt p j) b) (λ m. matchFrom s t thread point p n (m .tpl) (forms / 4) (j + 1) (m .bind))
+    thenWhole (matchClaim s t i (forms % 4) thread point (claimAt p j) b) (λ m. matchFrom s t thread point p n (m .tpl) (forms / 4) (j + 1) (m .bind))

@@ -8,7 +8,7 @@ use Rattle.frames.specs.Records.{bodies}
 use Rattle.program.specs.declared.sizes.Sizes.{Sizes}
 use Rattle.records.specs.Places.{instructionOf}
 use Rattle.matcher.specs.declared.bind.Bind.{Bind}
-use Rattle.matcher.specs.declared.matching.Match.{Match}
+use Rattle.matcher.specs.declared.whole.Whole.{Whole}
 use Rattle.certificate.specs.FitT.{hoare}
 use Rattle.content.specs.Places.{actingOf}
 use Rattle.content.specs.declared.line.Line.{Line}
@@ -32,13 +32,17 @@ unfoldable pub restAt : List ℕ → Rule → Acting → Claim → Premises → 
 restAt s w a c p b = cond (isAllowed w (a .operation)) (asked s (w .side) b a c p) false
 
 -- if it matches, what comes then
-abbrev pub thenAsk : Match → (Match → Bool) → Bool
+abbrev pub thenAsk : Whole → (Whole → Bool) → Bool
 thenAsk m f = cond (m .ok) (f m) false
+
+-- the line's own claim against its rule's templates, with what is known of their holes
+unfoldable pub lineMatch : List ℕ → List ℕ → Rule → Line → Acting → Claim → Whole
+lineMatch s t w l a c = matchClaim s t (w .template) (w .form) (c .thread) (c .point) c (presetAt (l .thread) (a .word) (a .register) (a .formula))
 
 -- line, premises, then the rest, with the templates t
 unfoldable pub fitsRow : List ℕ → List ℕ → Line → Acting → Premises → Bool
 fitsRow s t l a p =
-    thenAsk (matchClaim s t (ruleRow (l .rule) .template) (ruleRow (l .rule) .form) (claimBy l .thread) (claimBy l .point) (claimBy l) (presetAt (l .thread) (a .word) (a .register) (a .formula)))
+    thenAsk (lineMatch s t (ruleRow (l .rule)) l a (claimBy l))
     (λ m. thenAsk (matchPremises s t (m .tpl) (ruleRow (l .rule)) (claimBy l .thread) (claimBy l .point) p (m .bind)) (λ q. restAt s (ruleRow (l .rule)) a (claimBy l) p (q .bind)))
 
 -- the instruction of a line

@@ -9,7 +9,7 @@ use Rattle.frames.specs.Records.{bodies}
 use Rattle.program.specs.declared.sizes.Sizes.{Sizes}
 use Rattle.records.specs.Line as Lines
 use Rattle.matcher.specs.declared.bind.Bind.{Bind}
-use Rattle.matcher.specs.declared.matching.Match.{Match}
+use Rattle.matcher.specs.declared.whole.Whole.{Whole}
 use Rattle.certificate.specs.FitT.{implication}
 use Rattle.content.specs.Certificate.{lineBody}
 use Rattle.rulebook.specs.Rulebook.{anyImplications}
@@ -38,8 +38,8 @@ allImplications p =
     (cond (isImplicationAt p 0) (cond (isImplicationAt p 1) (cond (isImplicationAt p 2) (isImplicationAt p 3) false) false) false)
 
 -- against the templates from i on: as many as the rule has, each of its form; or any implications
-unfoldable pub matchPremises : List ℕ → List ℕ → ℕ → Rule → ℕ → ℕ → Premises → Bind → Match
+unfoldable pub matchPremises : List ℕ → List ℕ → ℕ → Rule → ℕ → ℕ → Premises → Bind → Whole
 matchPremises s t i w thread point p b =
-    cond (eqb (w .premises) anyImplications) (record { ok = allImplications p; tpl = i; next = 0; bind = b })
+    cond (eqb (w .premises) anyImplications) (record { ok = allImplications p; tpl = i; bind = b })
     (cond (eqb (w .premises) (p .count)) (matchFrom s t thread point p (p .count) i (w .forms) 0 b)
-    (record { ok = false; tpl = i; next = 0; bind = b }))
+    (record { ok = false; tpl = i; bind = b }))

@@ -1,8 +1,8 @@
 // What lines say, with their formulas by position, against a rule's templates.
 use limits::Limits;
 use matcher::bind::Bind;
-use matcher::matching::Match;
-use matcher::matching::match_at;
+use matcher::whole::Whole;
+use matcher::whole::match_whole;
 use rulebook::rule::Form;
 ghost use mathlib.Core.Path.{_≡_};
 ghost use Prim.Native.Nat.{_+_, _<_};
@@ -42,23 +42,22 @@ pub fn match_claim(
     point: usize,
     c: Claim,
     b: Bind,
-) -> Match
+) -> Whole
     ensures { λ r. ⌜ r ≡ matchClaim (now (s .entry)) (now (t .entry)) i form thread point c b ⌝ }
 {
     let left = c.left;
     let right = c.right;
     if is_placed(form, thread, point, c) {
-        let m = match_at(s, t, i, left, Limits::NESTING, b);
+        let m = match_whole(s, t, i, left, Bind::WHOLE, b);
         if m.ok {
             let n = m.bind;
-            return match_at(s, t, m.tpl, right, Limits::NESTING, n);
+            return match_whole(s, t, m.tpl, right, Bind::WHOLE, n);
         }
         return m;
     }
-    Match {
+    Whole {
         ok: false,
         tpl: i,
-        next: left,
         bind: b,
     }
 }
@@ -100,15 +99,14 @@ pub fn match_from(
     j: usize,
     left: usize,
     b: Bind,
-) -> Match
+) -> Whole
     requires { ⌜ j + left < 1000 ⌝ }
     ensures { λ r. ⌜ r ≡ matchFrom (now (s .entry)) (now (t .entry)) thread point p left i forms j b ⌝ }
 {
     if left == 0 {
-        return Match {
+        return Whole {
             ok: true,
             tpl: i,
-            next: 0,
             bind: b,
         };
     }

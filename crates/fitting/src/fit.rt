@@ -13,13 +13,14 @@ use content::line::Line;
 use content::line::line_of;
 use formula::code::contains;
 use matcher::bind::Bind;
+use matcher::whole::Whole;
 use program::sizes::Sizes;
 use rulebook::rule::Form;
 use rulebook::rule::Rule;
 use rulebook::rule::rule_at;
 ghost use mathlib.Core.Path.{_≡_};
 ghost use Rattle.frames.specs.Records.{indexOf};
-ghost use Rattle.fitting.specs.Fit.{isAllowed, restAt, fitsRow, fitsLine};
+ghost use Rattle.fitting.specs.Fit.{isAllowed, restAt, lineMatch, fitsRow, fitsLine};
 
 // A triple's rule has the operation among its own.
 fn is_allowed(w: Rule, operation: u8) -> bool
@@ -50,6 +51,14 @@ fn fits_rest<'a, 'b>(
     false
 }
 
+// The line's own claim against its rule's templates, with what is known of their holes.
+fn match_line(s: &[u8], t: &[u8], w: Rule, l: Line, a: Acting, c: Claim) -> Whole
+    ensures { λ r. ⌜ r ≡ lineMatch (now (s .entry)) (now (t .entry)) w l a c ⌝ }
+{
+    let b = preset_at(l.thread, a.word, a.register, a.formula);
+    match_claim(s, t, w.template as usize, w.form, c.thread, c.point, c, b)
+}
+
 // Line, premises, then the rest, with the templates t.
 fn fits_row<'a, 'b, 'c>(
     s: &'a [u8],
@@ -64,8 +73,7 @@ fn fits_row<'a, 'b, 'c>(
 {
     let w = rule_at(l.rule);
     let c = claim_by(l);
-    let b = preset_at(l.thread, a.word, a.register, a.formula);
-    let m = match_claim(s, t, w.template, w.form, c.thread, c.point, c, b);
+    let m = match_line(s, t, w, l, a, c);
     if m.ok {
         let n = m.bind;
         let q = match_premises(s, t, m.tpl, w, c.thread, c.point, p, n);

@@ -3,7 +3,7 @@ use crate::claim::Claim;
 use content::line::Line;
 use content::line::line_of;
 use program::sizes::Sizes;
-use rulebook::rule::rule_at;
+use rulebook::rule::form_at;
 ghost use mathlib.Core.Path.{_≡_};
 ghost use Rattle.frames.specs.Records.{indexOf};
 ghost use Rattle.fitting.specs.LineClaim.{claimBy, claimOf};
@@ -12,9 +12,8 @@ ghost use Rattle.fitting.specs.LineClaim.{claimBy, claimOf};
 pub fn claim_by(l: Line) -> Claim
     ensures { λ r. ⌜ r ≡ claimBy l ⌝ }
 {
-    let w = rule_at(l.rule);
     Claim {
-        form: w.form,
+        form: form_at(l.rule),
         thread: l.thread as usize,
         point: l.point as usize,
         left: l.left,

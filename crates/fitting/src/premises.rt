@@ -8,7 +8,7 @@ use crate::line_claim::claim_of;
 use content::line::premise_of;
 use limits::Limits;
 use matcher::bind::Bind;
-use matcher::matching::Match;
+use matcher::whole::Whole;
 use program::sizes::Sizes;
 use rulebook::rule::Form;
 use rulebook::rule::Rule;
@@ -88,14 +88,13 @@ pub fn match_premises(
     point: usize,
     p: Premises,
     b: Bind,
-) -> Match
+) -> Whole
     ensures { λ r. ⌜ r ≡ matchPremises (now (s .entry)) (now (t .entry)) i w thread point p b ⌝ }
 {
     if w.premises == Rules::IMPLICATIONS {
-        return Match {
+        return Whole {
             ok: all_implications(p),
             tpl: i,
-            next: 0,
             bind: b,
         };
     }
@@ -103,10 +102,9 @@ pub fn match_premises(
     if w.premises == count {
         return match_from(s, t, i, w.forms, thread, point, p, 0, count as usize, b);
     }
-    Match {
+    Whole {
         ok: false,
         tpl: i,
-        next: 0,
         bind: b,
     }
 }

@@ -28,7 +28,7 @@ pub fn hole_of(b: Bind, j: usize) -> Stand
 {
     Stand {
         at: b.at[j],
-        left: b.left[j],
+        left: b.left[j] as usize,
     }
 }
 
@@ -78,7 +78,7 @@ pub fn number_in(b: Bind, j: usize) -> usize
     requires { ⌜ j < 5 ⌝ }
     ensures { λ r. ⌜ r ≡ numberIn b j ⌝ }
 {
-    let n = b.num[j];
+    let n = b.num[j] as usize;
     if n == 0 {
         return 0;
     }

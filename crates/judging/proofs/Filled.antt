@@ -14,7 +14,7 @@ use Rattle.matcher.specs.Template.{Holes, instT}
 use Rattle.matcher.specs.Match.{Taken}
 use Rattle.matcher.specs.Places.{takenOf}
 use Rattle.matcher.specs.declared.bind.Bind.{Bind}
-use Rattle.matcher.specs.declared.matching.Match.{Match}
+use Rattle.matcher.specs.declared.whole.Whole.{Whole}
 use Rattle.matcher.proofs.Match.{Has}
 use Rattle.matcher.proofs.Follow.{Sized, given}
 use Rattle.certificate.specs.FitT.{Said, placed, holesFrom}
@@ -31,7 +31,7 @@ module _ (s t : List ℕ) (i thread point form : ℕ) (p q : Tree) (b : Bind) (c
   abbrev v : Said
   v = saidAt s c
 
-  abbrev result : Match
+  abbrev result : Whole
   result = matchClaim s t i form thread point c b
 
   abbrev taken : Taken

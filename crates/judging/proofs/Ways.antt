@@ -12,7 +12,7 @@ use Rattle.program.specs.declared.instruction.Instruction.{Instruction}
 use Rattle.records.specs.Places.{instructionOf}
 use Rattle.records.specs.Tally.{obligationCount}
 use Rattle.matcher.specs.declared.bind.Bind.{Bind}
-use Rattle.matcher.specs.declared.matching.Match.{Match}
+use Rattle.matcher.specs.declared.whole.Whole.{Whole}
 use Rattle.content.specs.Places.{formulaAt}
 use Rattle.content.specs.Image.{obligationsBody, namedLine}
 use Rattle.content.specs.Sums.{sumsOf}
@@ -86,11 +86,11 @@ pub ruleset choosing = (wanted-start, wanted-step, wanted-taken, wanted-kept)
 
 -- a line against what is wanted
 
-pub concludes-is : (s : List ℕ) (z : Sizes) (o : Obligation) (n : ℕ) (w : Wanted) (c : Claim) (m : Match) → w ≡ wantedAt s z o → c ≡ claimOf s z n
+pub concludes-is : (s : List ℕ) (z : Sizes) (o : Obligation) (n : ℕ) (w : Wanted) (c : Claim) (m : Whole) → w ≡ wantedAt s z o → c ≡ claimOf s z n
     → m ≡ matchClaim s wantedBytes (w .template) (w .form) (w .thread) (w .point) c (w .bind) → m .ok ≡ concludesAt s z o n
 unfolding concludesAt
 concludes-is s z o n w c m ew ec em =
-    ap (λ (q : Match). q .ok) (em ∙ ap₂ (λ (v : Wanted) (d : Claim). matchClaim s wantedBytes (v .template) (v .form) (v .thread) (v .point) d (v .bind)) ew ec)
+    ap (λ (q : Whole). q .ok) (em ∙ ap₂ (λ (v : Wanted) (d : Claim). matchClaim s wantedBytes (v .template) (v .form) (v .thread) (v .point) d (v .bind)) ew ec)
 
 pub ruleset concluding = (concludes-is)
 

@@ -4,13 +4,13 @@ use crate::wanted::wanted_of;
 use content::totals::Sums;
 use fitting::claim::match_claim;
 use fitting::line_claim::claim_of;
-use marks::Marks;
 use marks::is_marked;
 use program::sizes::Sizes;
 use report::obligation::Obligation;
 ghost use mathlib.Core.Path.{_≡_};
 ghost use Rattle.frames.specs.Records.{bodies, indexOf};
 ghost use Rattle.content.specs.Sums.{sumsOf};
+ghost use Rattle.marks.specs.Marks.{asMarks};
 ghost use Rattle.judging.specs.Judge.{concludesAt, codeAt};
 
 pub struct Unmet {}
@@ -46,17 +46,17 @@ pub fn concludes<'a, 'b>(
 }
 
 // What is wrong with line n, first of all; 0 for nothing.
-pub fn code_at<'a, 'b>(
+pub fn code_at<'a, 'b, 'c>(
     s: &'a [u8],
     ix: &'b [usize],
     z: Sizes,
     y: Sums,
-    m: Marks,
+    m: &'c [bool],
     o: Obligation,
     n: usize,
 ) -> u8
     requires { ⌜ (now ix ≡ indexOf (now s)) × (y ≡ sumsOf z (bodies (now s))) ⌝ }
-    ensures { λ r. ⌜ r ≡ codeAt (now (s .entry)) z m o n ⌝ }
+    ensures { λ r. ⌜ r ≡ codeAt (now (s .entry)) z (asMarks (now (m .entry))) o n ⌝ }
 {
     if n == 0 {
         return Unmet::NO_LINE;

@@ -3,7 +3,6 @@ use crate::outcome::Outcome;
 use crate::outcome::judge_next;
 use content::point::last_point_of;
 use content::totals::Sums;
-use marks::Marks;
 use program::instruction::Instruction;
 use program::sizes::Sizes;
 use records::place::instruction_of;
@@ -14,15 +13,16 @@ ghost use Rattle.content.specs.Sums.{sumsOf};
 ghost use Prim.Native.Nat.{_+_};
 ghost use Rattle.program.specs.Thread.{lastPoint};
 ghost use Rattle.records.specs.Places.{threadBody};
+ghost use Rattle.marks.specs.Marks.{asMarks};
 ghost use Rattle.judging.specs.Walk.{actingAt, actionsAt, actionsTo, assertedTo, interferencesTo};
 
 // A branch is no action.
-fn judge_action<'a, 'b>(
+fn judge_action<'a, 'b, 'c>(
     s: &'a [u8],
     ix: &'b [usize],
     z: Sizes,
     y: Sums,
-    m: Marks,
+    m: &'c [bool],
     u: usize,
     j: usize,
     t: usize,
@@ -30,7 +30,7 @@ fn judge_action<'a, 'b>(
     r: Outcome,
 ) -> Outcome
     requires { ⌜ (now ix ≡ indexOf (now s)) × (y ≡ sumsOf z (bodies (now s))) ⌝ }
-    ensures { λ q. ⌜ q ≡ actingAt (now (s .entry)) z m u j t k r ⌝ }
+    ensures { λ q. ⌜ q ≡ actingAt (now (s .entry)) z (asMarks (now (m .entry))) u j t k r ⌝ }
 {
     let i = instruction_of(s, ix, z, t, k);
     if i.operation == Instruction::BRANCH {
@@ -53,19 +53,19 @@ fn judge_action<'a, 'b>(
 }
 
 // A thread does not interfere with itself.
-fn judge_actor<'a, 'b>(
+fn judge_actor<'a, 'b, 'c>(
     s: &'a [u8],
     ix: &'b [usize],
     z: Sizes,
     y: Sums,
-    m: Marks,
+    m: &'c [bool],
     u: usize,
     j: usize,
     t: usize,
     r: Outcome,
 ) -> Outcome
     requires { ⌜ (now ix ≡ indexOf (now s)) × (y ≡ sumsOf z (bodies (now s))) ⌝ }
-    ensures { λ q. ⌜ q ≡ actionsAt (now (s .entry)) z m u j t r ⌝ }
+    ensures { λ q. ⌜ q ≡ actionsAt (now (s .entry)) z (asMarks (now (m .entry))) u j t r ⌝ }
 {
     if t == u {
         return r;
@@ -81,18 +81,18 @@ fn judge_actor<'a, 'b>(
 }
 
 // One assertion under all threads.
-fn judge_assertion<'a, 'b>(
+fn judge_assertion<'a, 'b, 'c>(
     s: &'a [u8],
     ix: &'b [usize],
     z: Sizes,
     y: Sums,
-    m: Marks,
+    m: &'c [bool],
     u: usize,
     j: usize,
     r: Outcome,
 ) -> Outcome
     requires { ⌜ (now ix ≡ indexOf (now s)) × (y ≡ sumsOf z (bodies (now s))) ⌝ }
-    ensures { λ q. ⌜ q ≡ actionsTo (now (s .entry)) z m u j (z .threads) r ⌝ }
+    ensures { λ q. ⌜ q ≡ actionsTo (now (s .entry)) z (asMarks (now (m .entry))) u j (z .threads) r ⌝ }
 {
     let threads = z.threads as usize;
     let mut q = r;
@@ -105,17 +105,17 @@ fn judge_assertion<'a, 'b>(
 }
 
 // The assertions of thread u, the last one too.
-fn judge_asserting<'a, 'b>(
+fn judge_asserting<'a, 'b, 'c>(
     s: &'a [u8],
     ix: &'b [usize],
     z: Sizes,
     y: Sums,
-    m: Marks,
+    m: &'c [bool],
     u: usize,
     r: Outcome,
 ) -> Outcome
     requires { ⌜ (now ix ≡ indexOf (now s)) × (y ≡ sumsOf z (bodies (now s))) ⌝ }
-    ensures { λ q. ⌜ q ≡ assertedTo (now (s .entry)) z m u (lastPoint (threadBody z (bodies (now (s .entry))) u) + 1) r ⌝ }
+    ensures { λ q. ⌜ q ≡ assertedTo (now (s .entry)) z (asMarks (now (m .entry))) u (lastPoint (threadBody z (bodies (now (s .entry))) u) + 1) r ⌝ }
 {
     let last = last_point_of(s, ix, z, u);
     let mut q = r;
@@ -128,16 +128,16 @@ fn judge_asserting<'a, 'b>(
 }
 
 // Those of all threads.
-pub fn judge_interferences<'a, 'b>(
+pub fn judge_interferences<'a, 'b, 'c>(
     s: &'a [u8],
     ix: &'b [usize],
     z: Sizes,
     y: Sums,
-    m: Marks,
+    m: &'c [bool],
     r: Outcome,
 ) -> Outcome
     requires { ⌜ (now ix ≡ indexOf (now s)) × (y ≡ sumsOf z (bodies (now s))) ⌝ }
-    ensures { λ q. ⌜ q ≡ interferencesTo (now (s .entry)) z m (z .threads) r ⌝ }
+    ensures { λ q. ⌜ q ≡ interferencesTo (now (s .entry)) z (asMarks (now (m .entry))) (z .threads) r ⌝ }
 {
     let threads = z.threads as usize;
     let mut q = r;

@@ -4,17 +4,22 @@ use crate::outcome::Outcome;
 use crate::steps::judge_starts;
 use crate::steps::judge_steps;
 use content::totals::sums_of;
-use marks::Marks;
 use program::sizes::Sizes;
 ghost use mathlib.Core.Path.{_≡_};
 ghost use Rattle.logic.specs.Obligations.{obligations};
 ghost use Rattle.frames.specs.Records.{bodies, indexOf};
 ghost use Rattle.content.specs.Program.{programOf};
+ghost use Rattle.marks.specs.Marks.{asMarks};
 ghost use Rattle.judging.specs.Judge.{judgeAt};
 
-pub fn judge_obligations<'a, 'b>(s: &'a [u8], ix: &'b [usize], z: Sizes, m: Marks) -> Outcome
+pub fn judge_obligations<'a, 'b, 'c>(
+    s: &'a [u8],
+    ix: &'b [usize],
+    z: Sizes,
+    m: &'c [bool],
+) -> Outcome
     requires { ⌜ now ix ≡ indexOf (now s) ⌝ }
-    ensures { λ r. ⌜ r ≡ judgeAt (now (s .entry)) z m (obligations (programOf z (bodies (now (s .entry))))) 0 ⌝ }
+    ensures { λ r. ⌜ r ≡ judgeAt (now (s .entry)) z (asMarks (now (m .entry))) (obligations (programOf z (bodies (now (s .entry))))) 0 ⌝ }
 {
     let y = sums_of(s, ix, z);
     let a = judge_starts(s, ix, z, y, m, Outcome::Met(0));

@@ -3,12 +3,12 @@ use crate::concluding::Unmet;
 use crate::concluding::code_at;
 use content::named::named_line;
 use content::totals::Sums;
-use marks::Marks;
 use program::sizes::Sizes;
 use report::obligation::Obligation;
 ghost use mathlib.Core.Path.{_≡_};
 ghost use Rattle.frames.specs.Records.{bodies, indexOf};
 ghost use Rattle.content.specs.Sums.{sumsOf};
+ghost use Rattle.marks.specs.Marks.{asMarks};
 ghost use Rattle.judging.specs.Judge.{judgeOne, next};
 
 // How many are met; or the first that is not, its code and line, and how many are met before it.
@@ -23,17 +23,17 @@ pub enum Outcome {
 }
 
 // The obligation with number c, from 0. Past the last there is no line, so that the count stays in its bounds.
-fn judge_one<'a, 'b>(
+fn judge_one<'a, 'b, 'c>(
     s: &'a [u8],
     ix: &'b [usize],
     z: Sizes,
     y: Sums,
-    m: Marks,
+    m: &'c [bool],
     o: Obligation,
     c: usize,
 ) -> Outcome
     requires { ⌜ (now ix ≡ indexOf (now s)) × (y ≡ sumsOf z (bodies (now s))) ⌝ }
-    ensures { λ r. ⌜ r ≡ judgeOne (now (s .entry)) z m o c ⌝ }
+    ensures { λ r. ⌜ r ≡ judgeOne (now (s .entry)) z (asMarks (now (m .entry))) o c ⌝ }
 {
     if y.obligations <= c {
         return Outcome::Failed {
@@ -57,17 +57,17 @@ fn judge_one<'a, 'b>(
 }
 
 // Once an obligation is not met, the outcome stays.
-pub fn judge_next<'a, 'b>(
+pub fn judge_next<'a, 'b, 'c>(
     s: &'a [u8],
     ix: &'b [usize],
     z: Sizes,
     y: Sums,
-    m: Marks,
+    m: &'c [bool],
     o: Obligation,
     r: Outcome,
 ) -> Outcome
     requires { ⌜ (now ix ≡ indexOf (now s)) × (y ≡ sumsOf z (bodies (now s))) ⌝ }
-    ensures { λ q. ⌜ q ≡ next (now (s .entry)) z m o r ⌝ }
+    ensures { λ q. ⌜ q ≡ next (now (s .entry)) z (asMarks (now (m .entry))) o r ⌝ }
 {
     match r {
         Outcome::Met(c) => judge_one(s, ix, z, y, m, o, c),

@@ -3,7 +3,6 @@ use crate::outcome::Outcome;
 use crate::outcome::judge_next;
 use content::point::last_point_of;
 use content::totals::Sums;
-use marks::Marks;
 use program::instruction::Instruction;
 use program::sizes::Sizes;
 use records::place::instruction_of;
@@ -13,19 +12,20 @@ ghost use Rattle.frames.specs.Records.{bodies, indexOf};
 ghost use Rattle.content.specs.Sums.{sumsOf};
 ghost use Rattle.program.specs.Thread.{lastPoint};
 ghost use Rattle.records.specs.Places.{threadBody};
+ghost use Rattle.marks.specs.Marks.{asMarks};
 ghost use Rattle.judging.specs.Walk.{startsTo, ownAt, ownTo, stepsTo};
 
 // Each thread's start.
-pub fn judge_starts<'a, 'b>(
+pub fn judge_starts<'a, 'b, 'c>(
     s: &'a [u8],
     ix: &'b [usize],
     z: Sizes,
     y: Sums,
-    m: Marks,
+    m: &'c [bool],
     r: Outcome,
 ) -> Outcome
     requires { ⌜ (now ix ≡ indexOf (now s)) × (y ≡ sumsOf z (bodies (now s))) ⌝ }
-    ensures { λ q. ⌜ q ≡ startsTo (now (s .entry)) z m (z .threads) r ⌝ }
+    ensures { λ q. ⌜ q ≡ startsTo (now (s .entry)) z (asMarks (now (m .entry))) (z .threads) r ⌝ }
 {
     let threads = z.threads as usize;
     let mut q = r;
@@ -38,18 +38,18 @@ pub fn judge_starts<'a, 'b>(
 }
 
 // An instruction leads to the next point; a branch first to its target.
-fn judge_own<'a, 'b>(
+fn judge_own<'a, 'b, 'c>(
     s: &'a [u8],
     ix: &'b [usize],
     z: Sizes,
     y: Sums,
-    m: Marks,
+    m: &'c [bool],
     t: usize,
     k: usize,
     r: Outcome,
 ) -> Outcome
     requires { ⌜ (now ix ≡ indexOf (now s)) × (y ≡ sumsOf z (bodies (now s))) ⌝ }
-    ensures { λ q. ⌜ q ≡ ownAt (now (s .entry)) z m t k r ⌝ }
+    ensures { λ q. ⌜ q ≡ ownAt (now (s .entry)) z (asMarks (now (m .entry))) t k r ⌝ }
 {
     let i = instruction_of(s, ix, z, t, k);
     if i.operation == Instruction::BRANCH {
@@ -93,17 +93,17 @@ fn judge_own<'a, 'b>(
 }
 
 // The instructions of thread t.
-fn judge_thread<'a, 'b>(
+fn judge_thread<'a, 'b, 'c>(
     s: &'a [u8],
     ix: &'b [usize],
     z: Sizes,
     y: Sums,
-    m: Marks,
+    m: &'c [bool],
     t: usize,
     r: Outcome,
 ) -> Outcome
     requires { ⌜ (now ix ≡ indexOf (now s)) × (y ≡ sumsOf z (bodies (now s))) ⌝ }
-    ensures { λ q. ⌜ q ≡ ownTo (now (s .entry)) z m t (lastPoint (threadBody z (bodies (now (s .entry))) t)) r ⌝ }
+    ensures { λ q. ⌜ q ≡ ownTo (now (s .entry)) z (asMarks (now (m .entry))) t (lastPoint (threadBody z (bodies (now (s .entry))) t)) r ⌝ }
 {
     let last = last_point_of(s, ix, z, t);
     let mut q = r;
@@ -116,16 +116,16 @@ fn judge_thread<'a, 'b>(
 }
 
 // Those of all threads.
-pub fn judge_steps<'a, 'b>(
+pub fn judge_steps<'a, 'b, 'c>(
     s: &'a [u8],
     ix: &'b [usize],
     z: Sizes,
     y: Sums,
-    m: Marks,
+    m: &'c [bool],
     r: Outcome,
 ) -> Outcome
     requires { ⌜ (now ix ≡ indexOf (now s)) × (y ≡ sumsOf z (bodies (now s))) ⌝ }
-    ensures { λ q. ⌜ q ≡ stepsTo (now (s .entry)) z m (z .threads) r ⌝ }
+    ensures { λ q. ⌜ q ≡ stepsTo (now (s .entry)) z (asMarks (now (m .entry))) (z .threads) r ⌝ }
 {
     let threads = z.threads as usize;
     let mut q = r;

@@ -66,7 +66,7 @@ fn one_hole(a: usize) -> Bind
 {
     Bind {
         at: [a, 0, 0, 0, 0],
-        left: [Limits::NESTING, 0, 0, 0, 0],
+        left: [Bind::WHOLE, 0, 0, 0, 0],
         num: [0, 0, 0, 0, 0],
     }
 }
@@ -76,7 +76,7 @@ fn two_holes(a: usize, b: usize) -> Bind
 {
     Bind {
         at: [a, b, 0, 0, 0],
-        left: [Limits::NESTING, Limits::NESTING, 0, 0, 0],
+        left: [Bind::WHOLE, Bind::WHOLE, 0, 0, 0],
         num: [0, 0, 0, 0, 0],
     }
 }
@@ -86,7 +86,7 @@ fn three_holes(a: usize, b: usize, c: usize) -> Bind
 {
     Bind {
         at: [a, b, c, 0, 0],
-        left: [Limits::NESTING, Limits::NESTING, Limits::NESTING, 0, 0],
+        left: [Bind::WHOLE, Bind::WHOLE, Bind::WHOLE, 0, 0],
         num: [0, 0, 0, 0, 0],
     }
 }

@@ -6,8 +6,9 @@ use Prim.Native.Nat.{ℕ, zero, suc, _+_, _≤_, _<_}
 use native.Mathlib.Numerals.{add-one}
 use native.Mathlib.Omega.{arith}
 use lib.Dec.{eqb}
-use lib.ListN.{getD}
+use lib.ListN.{getD, replicate}
 use borrow.Author.Tests.{eqb-true, eqb-false}
+use Rattle.limits.specs.Limits.{lines}
 use Rattle.frames.specs.Records.{bodies}
 use Rattle.program.specs.declared.sizes.Sizes.{Sizes}
 use Rattle.records.specs.Line.{premises}
@@ -17,7 +18,7 @@ use Rattle.content.specs.declared.line.Line.{Line}
 use Rattle.rulebook.specs.Rulebook.{templates}
 use Rattle.fitting.specs.LineClaim.{lineAt}
 use Rattle.fitting.specs.Fit.{fitsLine}
-use Rattle.marks.specs.Marks.{noMarks, isMarked, withMark}
+use Rattle.marks.specs.Marks.{asMarks, noMarks, isMarked, withMark}
 use Rattle.marks.specs.declared.Marks.{Marks}
 use Rattle.justify.specs.Pass.{premisesMarked, isJustified, marksTo}
 
@@ -64,18 +65,22 @@ module _ (s t : List ℕ) (z : Sizes) (n : ℕ) (m : Marks) (l : Line) (a : Bool
 pub ruleset justifying = (justified-fits, justified-not)
 
 module _ (s : List ℕ) (z : Sizes) where
-  pub marks-none : (m : Marks) → m ≡ noMarks → m ≡ marksTo s z 0
-  unfolding marksTo
-  marks-none m e = e
+  abbrev These : List Bool → ℕ → Type 0
+  These on n = asMarks on ≡ marksTo s z n
+
+  pub marks-none : These (replicate lines false) 0
+  unfolding marksTo noMarks
+  marks-none = refl
 
   marks-step : (n : ℕ) → marksTo s z (n + 1) ≡ withMark (marksTo s z n) (n + 1) (isJustified s templates z (n + 1) (marksTo s z n))
   unfolding marksTo
   marks-step n = rw (add-one n)
 
-  pub marks-more : (t : List ℕ) (n : ℕ) (m r : Marks) (b : Bool) → t ≡ templates → m ≡ marksTo s z n → b ≡ isJustified s t z (n + 1) m → r ≡ withMark m (n + 1) b → r ≡ marksTo s z (n + 1)
-  marks-more t n m r b e d f g = rw (marks-step n, ← d, ← e, ← f) g
+  pub marks-more : (t : List ℕ) (n : ℕ) (on after : List Bool) (b : Bool) → t ≡ templates → These on n → b ≡ isJustified s t z (n + 1) (asMarks on)
+      → after ≡ withMark (asMarks on) (n + 1) b .on → These after (n + 1)
+  marks-more t n on after b e d f g = rw (marks-step n, ← d, ← e, ← f, g)
 
-  pub marks-all : (n last : ℕ) (m : Marks) → m ≡ marksTo s z n → n ≤ last → last ≤ n → m ≡ marksTo s z last
-  marks-all n last m e a b = let q : n ≡ last = omega arith in rw (← q) e
+  pub marks-all : (n last : ℕ) (on : List Bool) → These on n → n ≤ last → last ≤ n → These on last
+  marks-all n last on e a b = let q : n ≡ last = omega arith in rw (← q) e
 
 pub ruleset passing = (marks-none, marks-more, marks-all)

@@ -2,27 +2,28 @@
 use content::line::line_of;
 use content::line::premise_of;
 use fitting::fit::fits_line;
+use limits::Limits;
 use marks::Marks;
 use marks::is_marked;
-use marks::no_marks;
-use marks::with_mark;
+use marks::set_mark;
 use program::sizes::Sizes;
 use rulebook::template::all_templates;
 ghost use mathlib.Core.Path.{_≡_};
 ghost use Rattle.frames.specs.Records.{indexOf};
+ghost use Rattle.marks.specs.Marks.{asMarks};
 ghost use Rattle.justify.specs.Pass.{premisesMarked, isJustified, marksTo};
 
 // The first so many premises of line n have marks.
-fn premises_marked<'a, 'b>(
+fn premises_marked<'a, 'b, 'c>(
     s: &'a [u8],
     ix: &'b [usize],
     z: Sizes,
     n: usize,
     count: usize,
-    m: Marks,
+    m: &'c [bool],
 ) -> bool
     requires { ⌜ now ix ≡ indexOf (now s) ⌝ }
-    ensures { λ r. ⌜ r ≡ premisesMarked (now (s .entry)) z n m count ⌝ }
+    ensures { λ r. ⌜ r ≡ premisesMarked (now (s .entry)) z n (asMarks (now (m .entry))) count ⌝ }
 {
     let mut j: usize = 0;
     while j < count {
@@ -36,16 +37,16 @@ fn premises_marked<'a, 'b>(
 }
 
 // Line n fits its rule, and all its premises have marks. (These are asked first: it is quicker.)
-fn is_justified<'a, 'b, 'c>(
+fn is_justified<'a, 'b, 'c, 'd>(
     s: &'a [u8],
     ix: &'b [usize],
     t: &'c [u8],
     z: Sizes,
     n: usize,
-    m: Marks,
+    m: &'d [bool],
 ) -> bool
     requires { ⌜ now ix ≡ indexOf (now s) ⌝ }
-    ensures { λ r. ⌜ r ≡ isJustified (now (s .entry)) (now (t .entry)) z n m ⌝ }
+    ensures { λ r. ⌜ r ≡ isJustified (now (s .entry)) (now (t .entry)) z n (asMarks (now (m .entry))) ⌝ }
 {
     let l = line_of(s, ix, z, n);
     if premises_marked(s, ix, z, n, l.count as usize, m) {
@@ -54,7 +55,7 @@ fn is_justified<'a, 'b, 'c>(
     false
 }
 
-// The marks of all lines.
+// The marks of all lines, which are set where they stand.
 pub fn judge_lines<'a, 'b>(s: &'a [u8], ix: &'b [usize], z: Sizes) -> Marks
     requires { ⌜ now ix ≡ indexOf (now s) ⌝ }
     ensures { λ r. ⌜ r ≡ marksTo (now (s .entry)) z (z .lines) ⌝ }
@@ -62,12 +63,12 @@ pub fn judge_lines<'a, 'b>(s: &'a [u8], ix: &'b [usize], z: Sizes) -> Marks
     let t = all_templates();
     let bytes = t.bytes;
     let last = z.lines as usize;
-    let mut m = no_marks();
+    let mut on = [false; Limits::LINES];
     let mut n: usize = 0;
     while n < last {
         n += 1;
-        let b = is_justified(s, ix, &bytes, z, n, m);
-        m = with_mark(m, n, b);
+        let b = is_justified(s, ix, &bytes, z, n, &on);
+        set_mark(&mut on, n, b);
     }
-    m
+    Marks { on }
 }

@@ -1,45 +1,35 @@
 // Which lines are justified: a mark for each line that an image may have.
 use limits::Limits;
 ghost use mathlib.Core.Path.{_≡_};
-ghost use Rattle.marks.specs.Marks.{noMarks, isMarked, withMark};
+ghost use Rattle.marks.specs.Marks.{asMarks, isMarked, withMark};
 
 // The mark of line n stands at n - 1.
 pub struct Marks {
     pub on: [bool; Limits::LINES],
 }
 
-pub fn no_marks() -> Marks
-    ensures { λ r. ⌜ r ≡ noMarks ⌝ }
-{
-    Marks {
-        on: [false; Limits::LINES],
-    }
-}
-
 // A line that there cannot be is not marked.
-pub fn is_marked(m: Marks, n: usize) -> bool
-    ensures { λ r. ⌜ r ≡ isMarked m n ⌝ }
+pub fn is_marked(on: &[bool], n: usize) -> bool
+    ensures { λ r. ⌜ r ≡ isMarked (asMarks (now (on .entry))) n ⌝ }
 {
     if n == 0 {
         return false;
     }
-    if n <= Limits::LINES {
-        return m.on[n - 1];
+    if on.len() < n {
+        return false;
     }
-    false
+    on[n - 1]
 }
 
 // For a line that there cannot be, the marks stay.
-pub fn with_mark(m: Marks, n: usize, b: bool) -> Marks
-    ensures { λ r. ⌜ r ≡ withMark m n b ⌝ }
+pub fn set_mark(on: &mut [bool], n: usize, b: bool)
+    ensures { λ r. ⌜ now (on .exit) ≡ withMark (asMarks (now (on .entry))) n b .on ⌝ }
 {
     if n == 0 {
-        return m;
+        return;
     }
-    if n <= Limits::LINES {
-        let mut r = m;
-        r.on[n - 1] = b;
-        return r;
+    if on.len() < n {
+        return;
     }
-    m
+    on[n - 1] = b;
 }

@@ -3,7 +3,7 @@ use Prim.Native.Nat.{ℕ, zero, suc, _+_, _-_, _≤_, _<_}
 use mathlib.Core.Path.{_≡_, refl, ap, ap₂, sym, _∙_, subst, fun-ext}
 use mathlib.Core.List.{List, [], _∷_}
 use mathlib.Core.Logic.{_≢_}
-use mathlib.Core.Bool.{Bool, true, false, _&&_, cond}
+use mathlib.Core.Bool.{Bool, true, false, _&&_, cond, true≢false}
 use mathlib.Core.Option.{Option, none, some}
 use native.Mathlib.Omega.{arith}
 use lib.ListN.{length, getD, set, length-set}
@@ -12,17 +12,18 @@ use lib.Dec.{T, ltb, leb, eqb, ltb→lt}
 use borrow.Author.Tests.{lt-ltb, le-ltb, le-leb, lt-leb, eq-eqb, ne-eqb, eqb-true, eqb-false, ltb-true, ltb-false}
 use Rattle.logic.specs.Base.{upd}
 use Rattle.logic.specs.Code.{Code, byte}
-use Rattle.logic.proofs.Base.{upd-same, upd-other, by-word, and-left, and-right}
+use Rattle.logic.proofs.Base.{upd-same, upd-other, by-word, and-left, and-right, holds-true}
 use Rattle.formula.specs.Codes.{among, onePart, twoParts, operandCodes, hasOperand, partCount}
 use Rattle.formula.specs.Tree.{Tree, Tree.node, Skim, part, nodeAt, skim}
 use Rattle.formula.specs.declared.node.Node.{Node}
 use Rattle.formula.proofs.Nodes.{skim-zero, skim-step, parts-of}
 use Rattle.compare.specs.Same.{sameTree, sameOf}
 use Rattle.compare.specs.declared.same.Same.the-variants.{Yes, No}
+use Rattle.trees.proofs.Raw.{tree-refl}
 use Rattle.matcher.specs.Template.{firstHole, firstNumber}
 use Rattle.matcher.specs.Match as Trees
 use Rattle.matcher.specs.Match.{andThen, when, takeTree, takeNum, takeOperand, isNode, matchT}
-use Rattle.matcher.specs.Places.{holeCount, refused, heldAt, holeAt, operandOf, rooted, nodeOf, rootAt, grown, matchAt, takenOf, proper}
+use Rattle.matcher.specs.Places.{holeCount, refused, opened, heldAt, isThere, holeAt, operandOf, rooted, nodeOf, rootAt, grown, matchAt, takenOf, proper}
 use Rattle.matcher.specs.declared.bind.Bind.{Bind}
 use Rattle.matcher.specs.declared.bind.Root.{Root}
 use Rattle.matcher.specs.declared.bind.Taken.{Taken}
@@ -184,6 +185,15 @@ proper-node : (d o : ℕ) (l r : Tree) → proper (node d o l r) ≡ cond (ltb d
 unfolding proper
 proper-node d o l r = refl
 
+-- one formula at one place is equal to itself
+there-equal : (s : List ℕ) (p m q k : ℕ) → isThere p m q k ≡ true → sameTree (skim s m p .tree) (skim s k q .tree) ≡ true
+unfolding isThere
+there-equal s p m q k = go (eqb p q) refl
+  where
+    go : (x : Bool) → eqb p q ≡ x → cond x (eqb m k) false ≡ true → sameTree (skim s m p .tree) (skim s k q .tree) ≡ true
+    go true e h = rw (eqb-true p q e, eqb-true m k h) (holds-true (sameTree (skim s k q .tree) (skim s k q .tree)) (tree-refl (skim s k q .tree)))
+    go false e h = absurd (true≢false (sym h))
+
 -- a hole
 module _ (s t : List ℕ) (k i at : ℕ) (b : Bind) (z : Sized b) where
   abbrev h₀ : Node
@@ -205,8 +215,24 @@ module _ (s t : List ℕ) (k i at : ℕ) (b : Bind) (z : Sized b) where
       taken : matchT (skim t (suc k) i .tree) (skim s (suc k) at .tree) (takenOf s b) ≡ takeTree j₀ (skim s (suc k) at .tree) (takenOf s b) (takenOf s b .tree j₀)
       taken = let n : suc k ≡ 0 → ⊥ = omega arith in rw (skim-step t (suc k) i n, match-node, le-leb firstHole (h₀ .code) large)
 
-      root : matchAt s t (suc k) i at b ≡ grown (λ i' at' b'. matchAt s t k i' at' b') (holeAt s (h₀ .next) j₀ at (suc k) b)
+      root : matchAt s t (suc k) i at b ≡ grown (λ i' at' b'. matchAt s t k i' at' b') (skim s (suc k) at .end) (holeAt s (h₀ .next) j₀ at (suc k) b)
       root = let n : suc k ≡ 0 → ⊥ = omega arith in rw (ne-eqb (suc k) 0 n, le-ltb (h₀ .code) firstHole large, lt-ltb j₀ holeCount below)
+
+      there : Bool
+      there = isThere (getD (b .at) j₀ 0) (getD (b .left) j₀ 0) at (suc k)
+
+      alike : Bool
+      alike = sameTree (skim s (getD (b .left) j₀ 0) (getD (b .at) j₀ 0) .tree) (skim s (suc k) at .tree)
+
+      held : (x : Bool) → alike ≡ true → grown (λ i' at' b'. matchAt s t k i' at' b') (skim s (suc k) at .end)
+          (cond x (opened (h₀ .next) b) (heldAt b (h₀ .next) (sameOf (skim s (getD (b .left) j₀ 0) (getD (b .at) j₀ 0)) (skim s (suc k) at))))
+          ≡ record { ok = true; tpl = h₀ .next; next = skim s (suc k) at .end; bind = b }
+      held true d = refl
+      held false d = rw d
+
+      elsewhere : (x : Bool) → there ≡ x → alike ≡ false → x ≡ false
+      elsewhere true y d = absurd (true≢false (sym (there-equal s (getD (b .at) j₀ 0) (getD (b .left) j₀ 0) at (suc k) y) ∙ d))
+      elsewhere false y d = refl
 
       go : (e : Bool) → eqb (getD (b .left) j₀ 0) 0 ≡ e → (q : Bool) → sameTree (skim s (getD (b .left) j₀ 0) (getD (b .at) j₀ 0) .tree) (skim s (suc k) at .tree) ≡ q
           → Follows s t (suc k) i at b (matchAt s t (suc k) i at b)
@@ -219,7 +245,7 @@ module _ (s t : List ℕ) (k i at : ℕ) (b : Bind) (z : Sized b) where
             sized = record { at = length-set (b .at) j₀ at ∙ z .at; left = length-set (b .left) j₀ (suc k) ∙ z .left; num = z .num };
           })
       go false e true d =
-          let r : matchAt s t (suc k) i at b ≡ record { ok = true; tpl = h₀ .next; next = skim s (suc k) at .end; bind = b } = root ∙ (rw (e, d)) in
+          let r : matchAt s t (suc k) i at b ≡ record { ok = true; tpl = h₀ .next; next = skim s (suc k) at .end; bind = b } = root ∙ (rw e (held there d)) in
           subst (Follows s t (suc k) i at b) (sym r) (record {
             same = taken ∙ (rw (e, d));
             tpl = λ o. ended;
@@ -227,7 +253,8 @@ module _ (s t : List ℕ) (k i at : ℕ) (b : Bind) (z : Sized b) where
             sized = z;
           })
       go false e false d =
-          let r : matchAt s t (suc k) i at b ≡ record { ok = false; tpl = 0; next = 0; bind = b } = root ∙ (rw (e, d)) in
+          let n : there ≡ false = elsewhere there refl d in
+          let r : matchAt s t (suc k) i at b ≡ record { ok = false; tpl = 0; next = 0; bind = b } = root ∙ (rw (e, n, d)) in
           subst (Follows s t (suc k) i at b) (sym r) (record {
             same = taken ∙ (rw (e, d));
             tpl = λ (o : _≡_ {A = Bool} false true). let y : _≡_ {A = ℕ} 0 1 = cc in absurd (omega arith);
@@ -252,38 +279,34 @@ module _ (s t : List ℕ) (k : ℕ) (ih : (i at : ℕ) (b : Bind) → Sized b �
   abbrev subMatch : ℕ → ℕ → Bind → Match
   subMatch i at b = matchAt s t k i at b
 
-  parts-follow : (h x : Node) (b : Bind) → Sized b → (p : ℕ) → h .parts ≡ p → x .parts ≡ p → p < 3 → T (proper (first t h .tree)) → T (proper (second t h .tree))
-      → PartsFollow h x b (grown subMatch (rooted h x b))
-  parts-follow h x b z zero eh ex l pf ps = record {
+  parts-follow : (h x : Node) (b : Bind) → Sized b → (end p : ℕ) → h .parts ≡ p → x .parts ≡ p → p < 3 → T (proper (first t h .tree)) → T (proper (second t h .tree))
+      → PartsFollow h x b (grown subMatch end (rooted h x b))
+  parts-follow h x b z end zero eh ex l pf ps = record {
     same = rw (eh, ex, match-none, match-none);
     tpl = λ o. rw (eh, ex);
     next = λ o. rw ex;
     sized = rw ex z;
   }
-  parts-follow h x b z (suc zero) eh ex l pf ps = go (subMatch (h .next) (x .next) b) (ih (h .next) (x .next) b z (rw eh at pf)) refl
+  parts-follow h x b z end (suc zero) eh ex l pf ps = go (subMatch (h .next) (x .next) b) (ih (h .next) (x .next) b z (rw eh at pf)) refl
     where
-      go : (m : Match) → Follows s t k (h .next) (x .next) b m → subMatch (h .next) (x .next) b ≡ m → PartsFollow h x b (grown subMatch (rooted h x b))
-      go m f e = let q : grown subMatch (rooted h x b) ≡ m = rw (ex, e) (settle (m .ok) refl) in subst (PartsFollow h x b) (sym q) (record {
+      go : (m : Match) → Follows s t k (h .next) (x .next) b m → subMatch (h .next) (x .next) b ≡ m → PartsFollow h x b (grown subMatch end (rooted h x b))
+      go m f e = let q : grown subMatch end (rooted h x b) ≡ m = rw (ex, e) in subst (PartsFollow h x b) (sym q) (record {
         same = rw (eh, ex, f .same) (last (m .ok));
         tpl = λ o. f .tpl o ∙ (rw eh);
         next = λ o. f .next o ∙ (rw ex);
         sized = f .sized;
       })
         where
-          settle : (o : Bool) → m .ok ≡ o → cond o m m ≡ m
-          settle true q = refl
-          settle false q = refl
-
           last : (o : Bool) → andThen (given s o (m .bind)) (λ b₂. matchT Tree.none Tree.none b₂) ≡ given s o (m .bind)
           last true = match-none (takenOf s (m .bind))
           last false = refl
-  parts-follow h x b z (suc (suc zero)) eh ex l pf ps = go (subMatch (h .next) (x .next) b) (ih (h .next) (x .next) b z (rw eh at pf)) refl
+  parts-follow h x b z end (suc (suc zero)) eh ex l pf ps = go (subMatch (h .next) (x .next) b) (ih (h .next) (x .next) b z (rw eh at pf)) refl
     where
-      two : (m : Match) → Follows s t k (h .next) (x .next) b m → subMatch (h .next) (x .next) b ≡ m → m .ok ≡ true → PartsFollow h x b (grown subMatch (rooted h x b))
+      two : (m : Match) → Follows s t k (h .next) (x .next) b m → subMatch (h .next) (x .next) b ≡ m → m .ok ≡ true → PartsFollow h x b (grown subMatch end (rooted h x b))
       two m f e o =
           let pr : T (proper (skim t k (m .tpl) .tree)) = subst (λ (n : ℕ). T (proper (skim t k n .tree))) (sym (f .tpl o)) (rw eh at ps) in
           let g : Follows s t k (m .tpl) (m .next) (m .bind) (subMatch (m .tpl) (m .next) (m .bind)) = ih (m .tpl) (m .next) (m .bind) (f .sized) pr in
-          let q : grown subMatch (rooted h x b) ≡ subMatch (m .tpl) (m .next) (m .bind) = rw (ex, e, o) in
+          let q : grown subMatch end (rooted h x b) ≡ subMatch (m .tpl) (m .next) (m .bind) = rw (ex, e, o) in
           subst (PartsFollow h x b) (sym q) (record {
             same = rw (eh, ex, f .same, o, ← f .tpl o, ← f .next o) (g .same);
             tpl = λ y. rw (eh, ← f .tpl o) (g .tpl y);
@@ -291,18 +314,18 @@ module _ (s t : List ℕ) (k : ℕ) (ih : (i at : ℕ) (b : Bind) → Sized b �
             sized = g .sized;
           })
 
-      go : (m : Match) → Follows s t k (h .next) (x .next) b m → subMatch (h .next) (x .next) b ≡ m → PartsFollow h x b (grown subMatch (rooted h x b))
+      go : (m : Match) → Follows s t k (h .next) (x .next) b m → subMatch (h .next) (x .next) b ≡ m → PartsFollow h x b (grown subMatch end (rooted h x b))
       go m f e = split (m .ok) refl
         where
-          split : (o : Bool) → m .ok ≡ o → PartsFollow h x b (grown subMatch (rooted h x b))
+          split : (o : Bool) → m .ok ≡ o → PartsFollow h x b (grown subMatch end (rooted h x b))
           split true o = two m f e o
-          split false o = let q : grown subMatch (rooted h x b) ≡ m = rw (ex, e, o) in subst (PartsFollow h x b) (sym q) (record {
+          split false o = let q : grown subMatch end (rooted h x b) ≡ m = rw (ex, e, o) in subst (PartsFollow h x b) (sym q) (record {
             same = rw (eh, ex, f .same, o);
             tpl = λ y. let w : _≡_ {A = Bool} true false = sym y ∙ o in let v : _≡_ {A = ℕ} 0 1 = cc in absurd (omega arith);
             next = λ y. let w : _≡_ {A = Bool} true false = sym y ∙ o in let v : _≡_ {A = ℕ} 0 1 = cc in absurd (omega arith);
             sized = f .sized;
           })
-  parts-follow h x b z (suc (suc (suc p))) eh ex l pf ps = absurd (omega arith)
+  parts-follow h x b z end (suc (suc (suc p))) eh ex l pf ps = absurd (omega arith)
 
   -- two nodes, the template's no hole
   module _ (i at : ℕ) (b : Bind) (z : Sized b) (low : nodeAt t i .code < firstHole) where
@@ -311,6 +334,9 @@ module _ (s t : List ℕ) (k : ℕ) (ih : (i at : ℕ) (b : Bind) → Sized b �
 
     abbrev x : Node
     x = nodeAt s at
+
+    abbrev end : ℕ
+    end = skim s (suc k) at .end
 
     abbrev left-tpl : Tree
     left-tpl = first t h .tree
@@ -338,7 +364,7 @@ module _ (s t : List ℕ) (k : ℕ) (ih : (i at : ℕ) (b : Bind) → Sized b �
     by-tree = rw (tpl-tree, its-tree, match-node, lt-leb firstHole (h .code) low)
 
     -- by positions
-    by-place : matchAt s t (suc k) i at b ≡ grown subMatch (nodeOf h x b)
+    by-place : matchAt s t (suc k) i at b ≡ grown subMatch end (nodeOf h x b)
     unfolding matchAt rootAt
     by-place = rw (ne-eqb (suc k) 0 not-zero, lt-ltb (h .code) firstHole low)
 
@@ -358,8 +384,8 @@ module _ (s t : List ℕ) (k : ℕ) (ih : (i at : ℕ) (b : Bind) → Sized b �
         → Follows s t (suc k) i at b (matchAt s t (suc k) i at b)
     goes-on b′ z′ c pl pr d e =
         let hp : h .parts ≡ x .parts = parts-of t i ∙ ap partCount c ∙ sym (parts-of s at) in
-        let f : PartsFollow h x b′ (grown subMatch (rooted h x b′)) = parts-follow h x b′ z′ (x .parts) hp refl (part-small s at x refl) pl pr in
-        let q : matchAt s t (suc k) i at b ≡ grown subMatch (rooted h x b′) = by-place ∙ (rw d) in
+        let f : PartsFollow h x b′ (grown subMatch end (rooted h x b′)) = parts-follow h x b′ z′ end (x .parts) hp refl (part-small s at x refl) pl pr in
+        let q : matchAt s t (suc k) i at b ≡ grown subMatch end (rooted h x b′) = by-place ∙ (rw d) in
         subst (Follows s t (suc k) i at b) (sym q) (record {
           same = e ∙ f .same;
           tpl = λ o. f .tpl o ∙ ap (λ (u : Skim). u .end) (sym tpl-tree);

@@ -1,24 +1,22 @@
 -- The ways through the matcher, one law for each.
 use Prim.Native.Nat.{ℕ, zero, suc, _-_, _≤_, _<_}
-use mathlib.Core.Path.{_≡_, refl, ap, sym, _∙_}
+use mathlib.Core.Path.{_≡_, refl, ap, _∙_}
 use mathlib.Core.List.{List}
-use mathlib.Core.Bool.{Bool, true, false, cond, true≢false}
+use mathlib.Core.Bool.{Bool, true, false, cond}
 use native.Mathlib.Numerals.{sub-one}
 use native.Mathlib.Omega.{arith}
-use lib.Dec.{eqb}
+use lib.Dec.{eqb, ltb}
 use lib.ListN.{getD, set}
-use borrow.Author.Tests.{lt-ltb, le-ltb, eq-eqb, ne-eqb, eqb-true}
+use borrow.Author.Tests.{lt-ltb, le-ltb, eq-eqb, ne-eqb}
 use Rattle.formula.specs.Codes.{among, onePart, twoParts, hasOperand, partCount}
 use Rattle.formula.specs.Tree.{nodeAt, skim}
 use Rattle.formula.specs.declared.node.Node.{Node}
-use Rattle.logic.proofs.Base.{holds-true}
 use Rattle.formula.proofs.Nodes.{parts-of}
-use Rattle.compare.specs.Same.{sameTree, sameOf}
+use Rattle.compare.specs.Same.{sameOf}
 use Rattle.compare.specs.declared.same.Same.{Same}
 use Rattle.compare.specs.declared.same.Same.the-variants.{Yes, No}
-use Rattle.trees.proofs.Raw.{tree-refl}
 use Rattle.matcher.specs.Template.{firstHole}
-use Rattle.matcher.specs.Places.{holeCount, refused, isThere, holeAt, operandOf, rooted, nodeOf, rootAt, grown, matchAt}
+use Rattle.matcher.specs.Places.{holeCount, refused, opened, isThere, holeAt, operandOf, rooted, nodeOf, rootAt, grown, matchAt}
 use Rattle.matcher.specs.declared.bind.Bind.{Bind}
 use Rattle.matcher.specs.declared.bind.Root.{Root}
 use Rattle.matcher.specs.declared.bind.Taken.{Taken}
@@ -32,36 +30,24 @@ pub there-left : (p m q k : ℕ) (o : Bool) → p ≡ q → o ≡ eqb m k → o 
 unfolding isThere
 there-left p m q k o h e = rw (eq-eqb _ _ h) e
 
-there-same : (p m q k : ℕ) → isThere p m q k ≡ true → (p ≡ q) × (m ≡ k)
-unfolding isThere
-there-same p m q k = go (eqb p q) refl
-  where
-    go : (x : Bool) → eqb p q ≡ x → cond x (eqb m k) false ≡ true → (p ≡ q) × (m ≡ k)
-    go true e h = (eqb-true p q e, eqb-true m k h)
-    go false e h = absurd (true≢false (sym h))
-
 module _ (s : List ℕ) (tpl j at k : ℕ) (b : Bind) where
-  pub hole-new : (next : ℕ) → getD (b .left) j 0 ≡ 0 → next ≡ skim s k at .end
-      → record { kind = 1; tpl = tpl; next = next; bind = record { at = set (b .at) j at; left = set (b .left) j k; num = b .num } } ≡ holeAt s tpl j at k b
+  pub hole-new : getD (b .left) j 0 ≡ 0 → opened tpl (record { at = set (b .at) j at; left = set (b .left) j k; num = b .num }) ≡ holeAt s tpl j at k b
   unfolding holeAt
-  hole-new next z e = rw (eq-eqb _ _ z, ← e)
+  hole-new z = rw (eq-eqb _ _ z)
 
-  -- one formula at one place is equal to itself
-  pub hole-same : (next : ℕ) (o : Bool) → (getD (b .left) j 0 ≡ 0 → ⊥) → o ≡ isThere (getD (b .at) j 0) (getD (b .left) j 0) at k → o ≡ true → next ≡ skim s k at .end
-      → record { kind = 1; tpl = tpl; next = next; bind = b } ≡ holeAt s tpl j at k b
-  unfolding holeAt
-  hole-same next o z d h e =
-      let q = there-same (getD (b .at) j 0) (getD (b .left) j 0) at k (sym d ∙ h) in
-      rw (ne-eqb _ _ z, q .0, q .1, holds-true (sameTree (skim s k at .tree) (skim s k at .tree)) (tree-refl (skim s k at .tree)), ← e)
-
-  module _ (r : Same) (z : getD (b .left) j 0 ≡ 0 → ⊥) (e : r ≡ sameOf (skim s (getD (b .left) j 0) (getD (b .at) j 0)) (skim s k at)) where
-    pub hole-no : r ≡ No → refused b ≡ holeAt s tpl j at k b
+  module _ (o : Bool) (z : getD (b .left) j 0 ≡ 0 → ⊥) (d : o ≡ isThere (getD (b .at) j 0) (getD (b .left) j 0) at k) where
+    pub hole-same : o ≡ true → opened tpl b ≡ holeAt s tpl j at k b
     unfolding holeAt
-    hole-no d = rw (ne-eqb _ _ z, ← e, d)
+    hole-same h = rw (ne-eqb _ _ z, ← d, h)
 
-    pub hole-held : (p q : ℕ) → r ≡ Yes p q → record { kind = 1; tpl = tpl; next = q; bind = b } ≡ holeAt s tpl j at k b
-    unfolding holeAt
-    hole-held p q d = rw (ne-eqb _ _ z, ← e, d)
+    module _ (r : Same) (h : o ≡ false) (e : r ≡ sameOf (skim s (getD (b .left) j 0) (getD (b .at) j 0)) (skim s k at)) where
+      pub hole-no : r ≡ No → refused b ≡ holeAt s tpl j at k b
+      unfolding holeAt
+      hole-no c = rw (ne-eqb _ _ z, ← d, h, ← e, c)
+
+      pub hole-held : (p q : ℕ) → r ≡ Yes p q → record { kind = 1; tpl = tpl; next = q; bind = b } ≡ holeAt s tpl j at k b
+      unfolding holeAt
+      hole-held p q c = rw (ne-eqb _ _ z, ← d, h, ← e, c)
 
 pub ruleset holes = (there-not, there-left, hole-new, hole-same, hole-no, hole-held)
 
@@ -119,7 +105,7 @@ module _ (s t : List ℕ) (i at k : ℕ) (b : Bind) where
 
 pub ruleset roots = (root-zero, root-node, root-hole, root-bad, part-small)
 
-pub match-step : (s t : List ℕ) (k i at : ℕ) (b : Bind) → matchAt s t k i at b ≡ grown (λ i' at' b'. matchAt s t (k - 1) i' at' b') (rootAt s t i at k b)
+pub match-step : (s t : List ℕ) (k i at : ℕ) (b : Bind) → matchAt s t k i at b ≡ grown (λ i' at' b'. matchAt s t (k - 1) i' at' b') (skim s k at .end) (rootAt s t i at k b)
 unfolding matchAt rootAt
 match-step s t zero i at b = refl
 match-step s t (suc k) i at b = rw (sub-one (suc k))
@@ -130,26 +116,39 @@ unfolding rootAt
 root-deep s t i at k b r e n z = n (ap (λ (r : Root). r .kind) e ∙ (rw (eq-eqb _ _ z)))
 
 module _ (s t : List ℕ) (i at k : ℕ) (b : Bind) (r : Root) (e : r ≡ rootAt s t i at k b) where
-  pub match-differ : r .kind ≡ 0 → record { ok = false; tpl = r .tpl; next = r .next; bind = r .bind } ≡ matchAt s t k i at b
-  match-differ z = rw (match-step, ← e, eq-eqb _ _ z)
+  root-left : (r .kind ≡ 1 → ⊥) → 1 ≤ k
+  root-left n = let d : k ≡ 0 → ⊥ = root-deep s t i at k b r e n in omega arith
 
-  pub match-whole : (r .kind ≡ 0 → ⊥) → r .kind ≡ 1 → record { ok = true; tpl = r .tpl; next = r .next; bind = r .bind } ≡ matchAt s t k i at b
-  match-whole n z = rw (match-step, ← e, ne-eqb _ _ n, eq-eqb _ _ z)
+  pub left-one : r .kind ≡ 2 → 1 ≤ k
+  left-one q = root-left (λ (n : r .kind ≡ 1). omega arith)
 
-  pub match-left : (r .kind ≡ 1 → ⊥) → 1 ≤ k
-  match-left n = let d : k ≡ 0 → ⊥ = root-deep s t i at k b r e n in omega arith
+  pub left-two : r .kind ≡ 3 → 1 ≤ k
+  left-two q = root-left (λ (n : r .kind ≡ 1). omega arith)
 
-  module _ (m : Match) (n₀ : r .kind ≡ 0 → ⊥) (n₁ : r .kind ≡ 1 → ⊥) (em : m ≡ matchAt s t (k - 1) (r .tpl) (r .next) (r .bind)) where
-    pub match-first-no : m .ok ≡ false → m ≡ matchAt s t k i at b
-    match-first-no o = rw (match-step, ← e, ne-eqb _ _ n₀, ne-eqb _ _ n₁, ← em, o)
+  pub match-one : (m : Match) → r .kind ≡ 2 → m ≡ matchAt s t (k - 1) (r .tpl) (r .next) (r .bind) → m ≡ matchAt s t k i at b
+  match-one m q d = rw (match-step, ← e, eq-eqb _ _ q) d
 
-    pub match-one : m .ok ≡ true → r .kind ≡ 2 → m ≡ matchAt s t k i at b
-    match-one o q = rw (match-step, ← e, ne-eqb _ _ n₀, ne-eqb _ _ n₁, ← em, o, eq-eqb _ _ q)
+  module _ (n₂ : r .kind ≡ 2 → ⊥) where
+    module _ (m : Match) (q : r .kind ≡ 3) (em : m ≡ matchAt s t (k - 1) (r .tpl) (r .next) (r .bind)) where
+      pub match-first-no : m .ok ≡ false → m ≡ matchAt s t k i at b
+      match-first-no o = rw (match-step, ← e, ne-eqb _ _ n₂, eq-eqb _ _ q, ← em, o)
 
-    pub match-two : (m₂ : Match) → m .ok ≡ true → (r .kind ≡ 2 → ⊥) → m₂ ≡ matchAt s t (k - 1) (m .tpl) (m .next) (m .bind) → m₂ ≡ matchAt s t k i at b
-    match-two m₂ o q d = rw (match-step, ← e, ne-eqb _ _ n₀, ne-eqb _ _ n₁, ← em, o, ne-eqb _ _ q) d
+      pub match-two : (m₂ : Match) → m .ok ≡ true → m₂ ≡ matchAt s t (k - 1) (m .tpl) (m .next) (m .bind) → m₂ ≡ matchAt s t k i at b
+      match-two m₂ o d = rw (match-step, ← e, ne-eqb _ _ n₂, eq-eqb _ _ q, ← em, o) d
 
-pub falls : (s t : List ℕ) (i at k m : ℕ) (b : Bind) (r : Root) → r ≡ rootAt s t i at k b → k ≡ m → (r .kind ≡ 1 → ⊥) → k - 1 < m
-falls s t i at k m b r e d n = let l : 1 ≤ k = match-left s t i at k b r e n in omega arith
+    module _ (n₃ : r .kind ≡ 3 → ⊥) where
+      pub match-open : (next : ℕ) → r .kind ≡ 4 → next ≡ skim s k at .end → record { ok = true; tpl = r .tpl; next = next; bind = r .bind } ≡ matchAt s t k i at b
+      match-open next q d = rw (match-step, ← e, ne-eqb _ _ n₂, ne-eqb _ _ n₃, eq-eqb _ _ q, ← d)
 
-pub ruleset matches = (match-differ, match-whole, match-left, match-first-no, match-one, match-two, falls)
+      pub match-root : (r .kind ≡ 4 → ⊥) → record { ok = ltb 0 (r .kind); tpl = r .tpl; next = r .next; bind = r .bind } ≡ matchAt s t k i at b
+      match-root n₄ = rw (match-step, ← e, ne-eqb _ _ n₂, ne-eqb _ _ n₃, ne-eqb _ _ n₄)
+
+  pub falls-one : (m : ℕ) → k ≡ m → r .kind ≡ 2 → k - 1 < m
+  falls-one m d q = let l : 1 ≤ k = left-one q in omega arith
+
+  pub falls-two : (m : ℕ) → k ≡ m → r .kind ≡ 3 → k - 1 < m
+  falls-two m d q = let l : 1 ≤ k = left-two q in omega arith
+
+pub ruleset parting = (left-one, left-two, falls-one, falls-two)
+
+pub ruleset matches = (match-one, match-first-no, match-two, match-open, match-root, parting)

@@ -17,6 +17,7 @@ use Rattle.matcher.specs.declared.bind.Bind.{Bind}
 use Rattle.matcher.specs.declared.bind.Root.{Root}
 use Rattle.matcher.specs.declared.bind.Taken.{Taken}
 use Rattle.matcher.specs.declared.matching.Match.{Match}
+use Rattle.matcher.specs.declared.whole.Whole.{Whole}
 
 -- how many holes there may be for formulas, and for numbers
 abbrev pub holeCount : ℕ
@@ -24,6 +25,10 @@ holeCount = 5
 
 abbrev pub refused : Bind → Root
 refused b = record { kind = 0; tpl = 0; next = 0; bind = b }
+
+-- a hole has taken the formula; where it ends is not known yet
+abbrev pub opened : ℕ → Bind → Root
+opened tpl b = record { kind = 4; tpl = tpl; next = 0; bind = b }
 
 abbrev pub heldAt : Bind → ℕ → Same → Root
 heldAt b tpl No = refused b
@@ -36,8 +41,9 @@ isThere p m q k = cond (eqb p q) (eqb m k) false
 unfoldable pub holeAt : List ℕ → ℕ → ℕ → ℕ → ℕ → Bind → Root
 holeAt s tpl j at k b =
     cond (eqb (getD (b .left) j 0) 0)
-    (record { kind = 1; tpl = tpl; next = skim s k at .end; bind = record { at = set (b .at) j at; left = set (b .left) j k; num = b .num } })
-    (heldAt b tpl (sameOf (skim s (getD (b .left) j 0) (getD (b .at) j 0)) (skim s k at)))
+    (opened tpl (record { at = set (b .at) j at; left = set (b .left) j k; num = b .num }))
+    (cond (isThere (getD (b .at) j 0) (getD (b .left) j 0) at k) (opened tpl b)
+    (heldAt b tpl (sameOf (skim s (getD (b .left) j 0) (getD (b .at) j 0)) (skim s k at))))
 
 unfoldable pub operandOf : ℕ → ℕ → Bind → Taken
 operandOf want has b =
@@ -69,16 +75,27 @@ rootAt s t i at k b =
 abbrev pub thenMatch : Match → (Match → Match) → Match
 thenMatch m f = cond (m .ok) (f m) m
 
--- from the roots, the parts matched by f one after the other
-abbrev pub grown : (ℕ → ℕ → Bind → Match) → Root → Match
-grown f r =
-    cond (eqb (r .kind) 0) (record { ok = false; tpl = r .tpl; next = r .next; bind = r .bind })
-    (cond (eqb (r .kind) 1) (record { ok = true; tpl = r .tpl; next = r .next; bind = r .bind })
-    (thenMatch (f (r .tpl) (r .next) (r .bind)) (λ m. cond (eqb (r .kind) 2) m (f (m .tpl) (m .next) (m .bind)))))
+-- from the roots, the parts matched by f one after the other; the formula's end, for a hole
+abbrev pub grown : (ℕ → ℕ → Bind → Match) → ℕ → Root → Match
+grown f end r =
+    cond (eqb (r .kind) 2) (f (r .tpl) (r .next) (r .bind))
+    (cond (eqb (r .kind) 3) (thenMatch (f (r .tpl) (r .next) (r .bind)) (λ m. f (m .tpl) (m .next) (m .bind)))
+    (cond (eqb (r .kind) 4) (record { ok = true; tpl = r .tpl; next = end; bind = r .bind })
+    (record { ok = ltb 0 (r .kind); tpl = r .tpl; next = r .next; bind = r .bind })))
 
 unfoldable pub matchAt : List ℕ → List ℕ → ℕ → ℕ → ℕ → Bind → Match
 matchAt s t zero i at b = record { ok = true; tpl = i; next = at; bind = b }
-matchAt s t (suc k) i at b = grown (λ i' at' b'. matchAt s t k i' at' b') (rootAt s t i at (suc k) b)
+matchAt s t (suc k) i at b = grown (λ i' at' b'. matchAt s t k i' at' b') (skim s (suc k) at .end) (rootAt s t i at (suc k) b)
+
+-- all but the formula's end
+abbrev pub wholeOf : Match → Whole
+wholeOf m = record { ok = m .ok; tpl = m .tpl; bind = m .bind }
+
+unfoldable pub wholeAt : List ℕ → List ℕ → ℕ → ℕ → ℕ → Bind → Whole
+wholeAt s t k i at b = wholeOf (matchAt s t k i at b)
+
+abbrev pub thenWhole : Whole → (Whole → Whole) → Whole
+thenWhole m f = cond (m .ok) (f m) m
 
 -- what the holes have taken, as trees and numbers
 abbrev pub takenOf : List ℕ → Bind → Match.Taken

@@ -1,7 +1,7 @@
 // What the holes of a template stand for, and how a hole takes a formula or a number.
 use compare::same::Same;
 use compare::same::same_at;
-use formula::end::end_at;
+use limits::Limits;
 ghost use mathlib.Core.Path.{_≡_};
 ghost use Prim.Native.Nat.{_<_};
 ghost use Rattle.matcher.specs.Places.{isThere, holeAt, operandOf};
@@ -19,14 +19,20 @@ impl Hole {
 }
 
 // Formulas by position, with the nesting that is left there (0: nothing taken yet), and numbers, each one more than it
-// is (0: nothing taken yet).
+// is (0: nothing taken yet). It is handed on by value at each node, so it is kept small.
 pub struct Bind {
     pub at: [usize; 5],
-    pub left: [usize; 5],
-    pub num: [usize; 5],
+    pub left: [u8; 5],
+    pub num: [u16; 5],
 }
 
-// What the roots of a template and a formula show. Kind: 0 they differ, 1 all is matched, 2 and 3 one and two parts are left.
+impl Bind {
+    // The nesting that is left at a whole formula.
+    pub const WHOLE: u8 = Limits::NESTING as u8;
+}
+
+// What the roots of a template and a formula show. Kind: 0 they differ, 1 all is matched, 2 and 3 one and two parts are left,
+// 4 a hole has taken the formula, and where it ends is not known yet.
 pub struct Root {
     pub kind: u8,
     pub tpl: usize,
@@ -35,7 +41,7 @@ pub struct Root {
 }
 
 // One formula at one place, with the same nesting left: there is nothing to compare.
-fn is_there(place: usize, held: usize, at: usize, left: usize) -> bool
+fn is_there(place: usize, held: u8, at: usize, left: u8) -> bool
     ensures { λ r. ⌜ r ≡ isThere place held at left ⌝ }
 {
     if place == at {
@@ -45,7 +51,7 @@ fn is_there(place: usize, held: usize, at: usize, left: usize) -> bool
 }
 
 // A hole takes the formula that comes first, and is compared with those that come later.
-pub fn match_hole(s: &[u8], tpl: usize, j: usize, at: usize, left: usize, b: Bind) -> Root
+pub fn match_hole(s: &[u8], tpl: usize, j: usize, at: usize, left: u8, b: Bind) -> Root
     requires { ⌜ j < 5 ⌝ }
     ensures { λ r. ⌜ r ≡ holeAt (now (s .entry)) tpl j at left b ⌝ }
 {
@@ -54,25 +60,23 @@ pub fn match_hole(s: &[u8], tpl: usize, j: usize, at: usize, left: usize, b: Bin
         let mut n = b;
         n.at[j] = at;
         n.left[j] = left;
-        let next = end_at(s, at, left);
         return Root {
-            kind: 1,
+            kind: 4,
             tpl,
-            next,
+            next: 0,
             bind: n,
         };
     }
     let place = b.at[j];
     if is_there(place, held, at, left) {
-        let next = end_at(s, at, left);
         return Root {
-            kind: 1,
+            kind: 4,
             tpl,
-            next,
+            next: 0,
             bind: b,
         };
     }
-    match same_at(s, place, held, at, left) {
+    match same_at(s, place, held as usize, at, left as usize) {
         Same::No => Root {
             kind: 0,
             tpl: 0,
@@ -108,7 +112,7 @@ pub fn match_operand(want: u8, has: u8, b: Bind) -> Taken
     }
     let j = want as usize;
     let held = b.num[j];
-    let number = has as usize + 1;
+    let number = has as u16 + 1;
     if held == 0 {
         let mut n = b;
         n.num[j] = number;

@@ -5,6 +5,7 @@ use crate::bind::Root;
 use crate::bind::match_hole;
 use crate::bind::match_operand;
 use formula::code::has_operand;
+use formula::end::end_at;
 use formula::node::Node;
 use formula::node::node_at;
 ghost use mathlib.Core.Path.{_≡_};
@@ -58,7 +59,7 @@ pub fn match_node(h: Node, x: Node, b: Bind) -> Root
     }
 }
 
-pub fn match_root(s: &[u8], t: &[u8], i: usize, at: usize, left: usize, b: Bind) -> Root
+pub fn match_root(s: &[u8], t: &[u8], i: usize, at: usize, left: u8, b: Bind) -> Root
     ensures { λ r. ⌜ r ≡ rootAt (now (s .entry)) (now (t .entry)) i at left b ⌝ }
 {
     if left == 0 {
@@ -86,34 +87,34 @@ pub fn match_root(s: &[u8], t: &[u8], i: usize, at: usize, left: usize, b: Bind)
 }
 
 // The formula at a position against the template at i.
-pub fn match_at(s: &[u8], t: &[u8], i: usize, at: usize, left: usize, b: Bind) -> Match
+pub fn match_at(s: &[u8], t: &[u8], i: usize, at: usize, left: u8, b: Bind) -> Match
     ensures { λ r. ⌜ r ≡ matchAt (now (s .entry)) (now (t .entry)) left i at b ⌝ }
 {
     let r = match_root(s, t, i, at, left, b);
     let n = r.bind;
-    if r.kind == 0 {
-        return Match {
-            ok: false,
-            tpl: r.tpl,
-            next: r.next,
-            bind: n,
-        };
+    if r.kind == 2 {
+        return match_at(s, t, r.tpl, r.next, left - 1, n);
     }
-    if r.kind == 1 {
+    if r.kind == 3 {
+        let m = match_at(s, t, r.tpl, r.next, left - 1, n);
+        if m.ok {
+            let o = m.bind;
+            return match_at(s, t, m.tpl, m.next, left - 1, o);
+        }
+        return m;
+    }
+    if r.kind == 4 {
         return Match {
             ok: true,
             tpl: r.tpl,
-            next: r.next,
+            next: end_at(s, at, left as usize),
             bind: n,
         };
     }
-    let m = match_at(s, t, r.tpl, r.next, left - 1, n);
-    if m.ok {
-        if r.kind == 2 {
-            return m;
-        }
-        let o = m.bind;
-        return match_at(s, t, m.tpl, m.next, left - 1, o);
+    Match {
+        ok: 0 < r.kind,
+        tpl: r.tpl,
+        next: r.next,
+        bind: n,
     }
-    m
 }

@@ -42,7 +42,7 @@ impl Side {
 // 20 has any number up to four, here 5); the operations, a bit each; what is asked besides.
 pub struct Rule {
     pub form: u8,
-    pub template: usize,
+    pub template: u16,
     pub premises: u8,
     pub forms: u8,
     pub operations: u8,
@@ -412,4 +412,29 @@ pub fn rule_at(number: u8) -> Rule
         return RULES[n];
     }
     UNLISTED
+}
+
+// The form alone, quicker than by the table: rules 1 to 16 are of triples, 20 to 27 of implications, 30 to 46 of inclusions.
+pub fn form_at(number: u8) -> u8
+    ensures { λ r. ⌜ r ≡ ruleRow number .form ⌝ }
+{
+    if number == 0 {
+        return Form::UNLISTED;
+    }
+    if number <= 16 {
+        return Form::TRIPLE;
+    }
+    if number < 20 {
+        return Form::UNLISTED;
+    }
+    if number <= 27 {
+        return Form::IMPLICATION;
+    }
+    if number < 30 {
+        return Form::UNLISTED;
+    }
+    if number < Rules::COUNT {
+        return Form::INCLUSION;
+    }
+    Form::UNLISTED
 }

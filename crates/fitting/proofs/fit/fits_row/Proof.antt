@@ -13,7 +13,6 @@ fits-row-spec =
     (λ c κs. search needs)
     (λ c κs. search needs)
     (λ c κs. search needs)
-    (λ c κs. search needs)
     (λ c. search (fitting, tests))
     (λ c. search (fitting, tests))
     (λ c. search (fitting, tests)))

@@ -1,3 +1,4 @@
+use Rattle.marks.specs.Marks.{asMarks}
 use Rattle.judging.proofs.Walks.{asserted-all, asserted-more, asserted-none}
 use Prim.Native.Nat.{_+_, _-_, _≤_, _<_}
 use mathlib.Core.Path.{_≡_}
@@ -10,7 +11,7 @@ use Rattle.judging.proofs.interference.judge_asserting.Statement.{state
 use Rattle.judging.proofs.interference.judge_asserting.Tie as tie
 
 abbrev Inv-loop : tie.InvT-loop
-Inv-loop s ix z y m u last q₀ j₀ q j = (last ≡ lastPoint (threadBody z (bodies s) u)) × ((last < 256) × ((j ≤ last + 1) × (q ≡ assertedTo s z m u j q₀)))
+Inv-loop s ix z y m u last q₀ j₀ q j = (last ≡ lastPoint (threadBody z (bodies s) u)) × ((last < 256) × ((j ≤ last + 1) × (q ≡ assertedTo s z (asMarks m) u j q₀)))
 
 abbrev μ-loop : tie.MeasureT-loop
 μ-loop s ix z y m u last q₀ j₀ q j = last + 1 - j

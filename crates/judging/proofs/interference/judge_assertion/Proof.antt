@@ -1,3 +1,4 @@
+use Rattle.marks.specs.Marks.{asMarks}
 use Rattle.judging.proofs.Walks.{actions-all, actions-more, actions-none}
 use Prim.Native.Nat.{_-_, _≤_, _<_}
 use mathlib.Core.Path.{_≡_}
@@ -7,7 +8,7 @@ use Rattle.judging.proofs.interference.judge_assertion.Statement.{state
 use Rattle.judging.proofs.interference.judge_assertion.Tie as tie
 
 abbrev Inv-loop : tie.InvT-loop
-Inv-loop s ix z y m u j threads q₀ t₀ q t = (threads ≡ z .threads) × ((threads < 256) × ((t ≤ threads) × (q ≡ actionsTo s z m u j t q₀)))
+Inv-loop s ix z y m u j threads q₀ t₀ q t = (threads ≡ z .threads) × ((threads < 256) × ((t ≤ threads) × (q ≡ actionsTo s z (asMarks m) u j t q₀)))
 
 abbrev μ-loop : tie.MeasureT-loop
 μ-loop s ix z y m u j threads q₀ t₀ q t = threads - t

@@ -1,3 +1,4 @@
+use Rattle.marks.specs.Marks.{asMarks}
 use Rattle.judging.proofs.Walks.{interferences-all, interferences-more, interferences-none}
 use Prim.Native.Nat.{_-_, _≤_, _<_}
 use mathlib.Core.Path.{_≡_}
@@ -7,7 +8,7 @@ use Rattle.judging.proofs.interference.judge_interferences.Statement.{s
 use Rattle.judging.proofs.interference.judge_interferences.Tie as tie
 
 abbrev Inv-loop : tie.InvT-loop
-Inv-loop s ix z y m threads q₀ u₀ q u = (threads ≡ z .threads) × ((threads < 256) × ((u ≤ threads) × (q ≡ interferencesTo s z m u q₀)))
+Inv-loop s ix z y m threads q₀ u₀ q u = (threads ≡ z .threads) × ((threads < 256) × ((u ≤ threads) × (q ≡ interferencesTo s z (asMarks m) u q₀)))
 
 abbrev μ-loop : tie.MeasureT-loop
 μ-loop s ix z y m threads q₀ u₀ q u = threads - u

@@ -1,3 +1,4 @@
+use Rattle.marks.specs.Marks.{asMarks}
 use Rattle.judging.proofs.Walks.{starts-all, starts-more, starts-none}
 use Prim.Native.Nat.{_-_, _≤_, _<_}
 use mathlib.Core.Path.{_≡_}
@@ -7,7 +8,7 @@ use Rattle.judging.proofs.steps.judge_starts.Statement.{statement}
 use Rattle.judging.proofs.steps.judge_starts.Tie as tie
 
 abbrev Inv-loop : tie.InvT-loop
-Inv-loop s ix z y m threads q₀ t₀ q t = (threads ≡ z .threads) × ((threads < 256) × ((t ≤ threads) × (q ≡ startsTo s z m t q₀)))
+Inv-loop s ix z y m threads q₀ t₀ q t = (threads ≡ z .threads) × ((threads < 256) × ((t ≤ threads) × (q ≡ startsTo s z (asMarks m) t q₀)))
 
 abbrev μ-loop : tie.MeasureT-loop
 μ-loop s ix z y m threads q₀ t₀ q t = threads - t

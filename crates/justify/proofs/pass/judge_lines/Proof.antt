@@ -1,17 +1,20 @@
+use Rattle.marks.specs.Marks.{asMarks}
 use Rattle.rulebook.specs.Rulebook.{templates}
 use Rattle.justify.proofs.Ways.{marks-more, passing}
 use Rattle.limits.proofs.Auto.{tests}
+use Rattle.limits.specs.Limits.{lines}
 use Rattle.justify.specs.Pass.{marksTo}
 use mathlib.Core.Path.{_≡_}
 use Prim.Native.Nat.{_≤_, _-_}
+use lib.ListN.{length}
 use Rattle.justify.proofs.pass.judge_lines.Statement.{statement}
 use Rattle.justify.proofs.pass.judge_lines.Tie as tie
 
 abbrev Inv-loop : tie.InvT-loop
-Inv-loop s ix z bytes last m₀ n₀ m n = (bytes ≡ templates) × ((n ≤ last) × (m ≡ marksTo s z n))
+Inv-loop s ix z bytes last on₀ n₀ on n = (bytes ≡ templates) × ((n ≤ last) × ((length on ≡ lines) × (asMarks on ≡ marksTo s z n)))
 
 abbrev μ-loop : tie.MeasureT-loop
-μ-loop s ix z bytes last m₀ n₀ m n = last - n
+μ-loop s ix z bytes last on₀ n₀ on n = last - n
 
 pub judge-lines-spec : {M : Type 1} → statement M
 judge-lines-spec =
@@ -21,12 +24,13 @@ judge-lines-spec =
     μ-loop
     (λ c κs. search (passing, tests))
     (λ c. search (passing, tests))
+    (λ c. search (passing, tests))
+    (λ c. search (passing, tests))
+    (λ c. search (passing, tests))
+    (λ c. search (passing, tests))
     (λ c κs. search (passing, tests))
     (λ c. search (passing, tests))
-    (λ c. search (passing, tests))
-    (λ c. search (passing, tests))
-    (λ c κs. search (passing, tests))
     (λ c κs. search (passing, tests))
     (λ c. search (passing, tests))
-    (λ c. (search tests, (search tests, search (marks-more, tests))))
+    (λ c. (search tests, (search tests, (search tests, search (marks-more, tests)))))
     (λ c. search (passing, tests)))

@@ -1,3 +1,4 @@
+use Rattle.marks.specs.Marks.{asMarks}
 use Rattle.justify.proofs.Ways.{premises-more, premising}
 use Rattle.limits.proofs.Auto.{tests}
 use Rattle.justify.specs.Pass.{premisesMarked}
@@ -8,7 +9,7 @@ use Rattle.justify.proofs.pass.premises_marked.Statement.{statement}
 use Rattle.justify.proofs.pass.premises_marked.Tie as tie
 
 abbrev Inv-loop : tie.InvT-loop
-Inv-loop s ix z n count m j₀ j = (true ≡ premisesMarked s z n m j) × (j ≤ count)
+Inv-loop s ix z n count m j₀ j = (true ≡ premisesMarked s z n (asMarks m) j) × (j ≤ count)
 
 abbrev μ-loop : tie.MeasureT-loop
 μ-loop s ix z n count m j₀ j = count - j

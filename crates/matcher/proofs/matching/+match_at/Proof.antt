@@ -6,6 +6,7 @@ use borrow.Fn.PlainCycle.{Measures, is, falls, and}
 use Rattle.matcher.proofs.matching.match_at.Reads as match-at
 use Rattle.matcher.proofs.matching.match_at.Kinds as match-at-kinds
 use Rattle.matcher.proofs.matching.+match_at.Lts-match_at as match-at-lts
+use Rattle.formula.proofs.end.end_at.Reads as end-at-reads
 use Rattle.matcher.proofs.matching.match_root.Reads as match-root-reads
 use Rattle.matcher.proofs.matching.+match_at.{statement}
 use Rattle.matcher.proofs.matching.+match_at.Tie.{close}
@@ -21,7 +22,7 @@ match-at-below t =
     and 2 match-at-kinds.ps (falls 2 match-at-kinds.ps _<_ μ-match-at t) match-at.Pre
 
 abbrev match-at-calls : ℕ → match-at-lts.Claims
-match-at-calls t = (match-root-reads.Asked, match-root-reads.Learnt, match-at-below t, match-at.Post)
+match-at-calls t = (match-root-reads.Asked, match-root-reads.Learnt, match-at-below t, match-at.Post, end-at-reads.Asked, end-at-reads.Learnt)
 
 pub +match-at-spec : {M : Type 1} → statement M
 +match-at-spec = close μ-match-at λ t. match-at-lts.spec (match-at-calls t)
@@ -29,7 +30,10 @@ pub +match-at-spec : {M : Type 1} → statement M
     match-at.Post
     (λ c κs. search (matches, tests))
     (λ c. search (matches, tests))
+    (λ c κs. search (matches, tests))
     (λ c. search (matches, tests))
+    (λ c. search (matches, tests))
+    (λ c κs. search (matches, tests))
     (λ c. search (matches, tests))
     (λ c κs. search (matches, tests))
     (λ c. search (matches, tests))
