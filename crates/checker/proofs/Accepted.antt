@@ -18,6 +18,7 @@ use Rattle.report.specs.Fields.{gathered, fieldsOf}
 use Rattle.report.specs.Output.{codeFor, bytesFor}
 use Rattle.report.specs.Record.{size}
 use Rattle.report.specs.declared.verdict.Verdict.{Verdict}
+use Rattle.report.proofs.Ways.{short-code, short-bytes}
 use Rattle.checker.specs.Answer.{judged, answered, verdict}
 use Rattle.checker.specs.Promise.{TrueInEveryRun, Promise}
 
@@ -59,3 +60,7 @@ module _ (s : List ℕ) where
   promised b v c after e f g =
       let q : c ≡ codeFor (verdict s) b = f ∙ ap (λ (w : Verdict). codeFor w b) e in
       record { returned = q; written = g ∙ ap (λ (w : Verdict). bytesFor w b) e; accepted = λ h. accepted-true b (sym q ∙ h) }
+
+  -- a buffer that is too short: the answer is 1 whatever the image holds
+  pub promised-short : (b : List ℕ) → length b < size → Promise s b 1 b
+  promised-short b h = promised b (verdict s) 1 b refl (short-code (verdict s) b h) (short-bytes (verdict s) b h)

@@ -1,6 +1,8 @@
 // The entry point, for C and Rust.
 use crate::judge::judge;
+use report::output::Output;
 use report::output::report;
+use report::record::VerdictRecord;
 ghost use Rattle.checker.specs.Promise.{Promise};
 
 // Judges the image and writes the verdict's record to the buffer. For every byte string and every buffer: a buffer of
@@ -10,5 +12,8 @@ ghost use Rattle.checker.specs.Promise.{Promise};
 pub extern "C" fn check_image(image: &[u8], out: &mut [u8]) -> u16
     ensures { λ r. ⌜ Promise (now (image .entry)) (now (out .entry)) r (now (out .exit)) ⌝ }
 {
+    if out.len() < VerdictRecord::SIZE {
+        return Output::SHORT;
+    }
     report(judge(image), out)
 }

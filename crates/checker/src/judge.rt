@@ -1,9 +1,11 @@
 // The verdict on an image: the first fault of its bytes, or the first obligation that is not met, or accepted.
+use frames::index::fill_index;
 use image::decode::Decoded;
-use image::decode::open_image;
+use image::decode::decode_image;
 use judging::judge::judge_obligations;
 use judging::outcome::Outcome;
 use justify::pass::judge_lines;
+use limits::Limits;
 use program::sizes::Sizes;
 use report::verdict::Verdict;
 ghost use mathlib.Core.Path.{_≡_};
@@ -36,13 +38,10 @@ fn judge_sound<'a, 'b>(s: &'a [u8], ix: &'b [usize], z: Sizes) -> Verdict
 pub fn judge(image: &[u8]) -> Verdict
     ensures { λ r. ⌜ r ≡ verdict (now (image .entry)) ⌝ }
 {
-    let opened = open_image(image);
-    let answer = opened.answer;
-    match answer {
+    let mut index = [0usize; Limits::RECORDS];
+    fill_index(image, &mut index);
+    match decode_image(image, &index) {
         Decoded::Refused { fault, record } => Verdict::Refused { fault, record },
-        Decoded::Sound(z) => {
-            let index = opened.index;
-            judge_sound(image, &index.at, z)
-        }
+        Decoded::Sound(z) => judge_sound(image, &index, z),
     }
 }

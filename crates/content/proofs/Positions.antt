@@ -12,7 +12,7 @@ use Rattle.logic.specs.Formula.{Formula.const}
 use Rattle.limits.specs.Limits as Limits
 use Rattle.limits.specs.Numbers.{word}
 use Rattle.frames.specs.Records.{body, bodies, indexOf, startOf}
-use Rattle.frames.proofs.Laws.Index.{index-in, index-length, found-in, found-past}
+use Rattle.frames.proofs.Laws.Index.{index-length, body-is, found-past}
 use Rattle.limits.specs.Limits.{nesting}
 use Rattle.formula.specs.Reader.{sortOf}
 use Rattle.formula.specs.Tree.{Skim, nodeAt, skim}
@@ -45,10 +45,7 @@ module _ (s : List ℕ) (k : ℕ) (full : 1 ≤ length (getD (bodies s) k [])) w
           absurd (omega (arith, empty-body))
 
   its-body : getD (bodies s) k [] ≡ body (drop (startOf s k) s)
-  unfolding indexOf
-  its-body =
-      let h : k < length (indexOf s) = let q = index-length s Limits.records in let p = number-there in omega arith in
-      sym (found-in s (indexOf s) k (body (drop (getD (indexOf s) k 0) s)) refl h refl) ∙ ap (λ (p : ℕ). body (drop p s)) (index-in s Limits.records k number-there (omega arith))
+  its-body = body-is s k number-there
 
   start-there : startOf s k < length s
   start-there = go (ltb (startOf s k) (length s)) refl

@@ -22,7 +22,7 @@ pub fn formula_at<'a, 'b>(s: &'a [u8], ix: &'b [usize], k: usize) -> usize
         return s.len();
     }
     if k < ix.len() {
-        let p = ix[k];
+        let p = s.len() - ix[k];
         return body_start(s, p);
     }
     s.len()

@@ -8,10 +8,9 @@ use Rattle.formula.specs.declared.reader.Reading.the-variants.{Formula, Fault}
 use Rattle.frames.specs.Fault as Faults
 use Rattle.frames.specs.declared.fault.Fault as Frame
 use Rattle.program.specs.declared.sizes.Sizes.{Sizes}
-use Rattle.image.specs.Decode.{decoded, opened}
+use Rattle.image.specs.Decode.{decoded}
 use Rattle.image.specs.declared.decode.Decoded.{Decoded}
 use Rattle.image.specs.declared.decode.Decoded.the-variants.{Refused, Sound}
-use Rattle.image.specs.declared.decode.Opened.{Opened}
 use Rattle.exports.specs.Answers.{ofReading, ofDecoded}
 
 module _ (q r : Reading) (e : r ≡ q) where
@@ -21,15 +20,11 @@ module _ (q r : Reading) (e : r ≡ q) where
   pub is-fault : (k : ℕ) → r ≡ Fault k → k ≡ ofReading q
   is-fault k h = ap ofReading (sym h ∙ e)
 
-module _ (s : List ℕ) (o : Opened) (e : o ≡ opened s) where
-  same : o .answer ≡ decoded s
-  unfolding opened
-  same = ap (λ (o : Opened). o .answer) e
+module _ (s : List ℕ) (d : Decoded) (e : d ≡ decoded s) where
+  pub is-sound : (z : Sizes) → d ≡ Sound z → 0 ≡ ofDecoded (decoded s)
+  is-sound z h = ap ofDecoded (sym h ∙ e)
 
-  pub is-sound : (z : Sizes) → o .answer ≡ Sound z → 0 ≡ ofDecoded (decoded s)
-  is-sound z h = ap ofDecoded (sym h ∙ same)
-
-  pub is-refused : (f : Frame.Fault) (n x : ℕ) → o .answer ≡ Refused f n → x ≡ Faults.codeOf f → x * 65536 + n % 65536 ≡ ofDecoded (decoded s)
-  is-refused f n x h g = ap (λ (c : ℕ). c * 65536 + n % 65536) g ∙ ap ofDecoded (sym h ∙ same)
+  pub is-refused : (f : Frame.Fault) (n x : ℕ) → d ≡ Refused f n → x ≡ Faults.codeOf f → x * 65536 + n % 65536 ≡ ofDecoded (decoded s)
+  is-refused f n x h g = ap (λ (c : ℕ). c * 65536 + n % 65536) g ∙ ap ofDecoded (sym h ∙ e)
 
 pub ruleset answers = (is-sort, is-fault, is-sound, is-refused)

@@ -3,9 +3,11 @@ use formula::reader::Counts;
 use formula::reader::Fault;
 use formula::reader::Reading;
 use formula::reader::read_formula;
+use frames::index::fill_index;
 use image::code::code_of;
 use image::decode::Decoded;
-use image::decode::open_image;
+use image::decode::decode_image;
+use limits::Limits;
 ghost use mathlib.Core.Path.{_≡_};
 ghost use Prim.Native.Nat.{_+_};
 ghost use Rattle.formula.specs.Reader.{limit, readingOf};
@@ -42,15 +44,15 @@ pub extern "C" fn formula_answer(
     }
 }
 
-// The answer of `open_image` as one number: 0 for a sound image, else the code times 65,536 and the record. (No image
+// The answer of `decode_image` as one number: 0 for a sound image, else the code times 65,536 and the record. (No image
 // has so many records; the remainder spares a proof of that.)
 #[no_mangle]
 pub extern "C" fn image_answer(image: &[u8]) -> usize
     ensures { λ r. ⌜ r ≡ ofDecoded (decoded (now (image .entry))) ⌝ }
 {
-    let opened = open_image(image);
-    let answer = opened.answer;
-    match answer {
+    let mut index = [0usize; Limits::RECORDS];
+    fill_index(image, &mut index);
+    match decode_image(image, &index) {
         Decoded::Sound(_) => 0,
         Decoded::Refused { fault, record } => code_of(fault) * 65536 + record % 65536,
     }

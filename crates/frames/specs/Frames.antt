@@ -13,34 +13,30 @@ use Rattle.frames.specs.declared.fault.Fault.the-variants.{Size, Length,
 use Rattle.frames.specs.declared.fault.Checked.{Checked}
 use Rattle.frames.specs.declared.fault.Checked.the-variants.{Passed, Faulty}
 use Rattle.frames.specs.declared.frame.Seen.{Seen}
-use Rattle.frames.specs.declared.frame.Step.{Step}
 use Rattle.frames.specs.declared.walk.Framing.{Framing}
 use Rattle.frames.specs.declared.walk.Framing.the-variants.{Refused, Sound}
-
-abbrev pub refuse : Fault → Seen → Step
-refuse f c = record { check = Faulty f; seen = c }
 
 -- a record of kind k more
 abbrev pub counted : Seen → ℕ → Seen
 counted c k = record { last = k; count = set (c .count) k (getD (c .count) k 0 + 1) }
 
--- a record of kind k comes: unknown, earlier than the last kind, later than the next one, too often, or counted
-unfoldable pub admit : Seen → ℕ → Step
+-- a record of kind k comes: unknown, earlier than the last kind, later than the next one, too often, or it passes
+unfoldable pub admit : Seen → ℕ → Checked
 admit c k =
-    cond (ltb Kinds.obligations k) (refuse Kind c)
-    (cond (ltb k (c .last)) (refuse Kind c)
-    (cond (ltb 1 (k - c .last)) (refuse Kind c)
-    (cond (ltb (getD (c .count) k 0) (most k)) (record { check = Passed; seen = counted c k })
-    (refuse Kind c))))
+    cond (ltb Kinds.obligations k) (Faulty Kind)
+    (cond (ltb k (c .last)) (Faulty Kind)
+    (cond (ltb 1 (k - c .last)) (Faulty Kind)
+    (cond (ltb (getD (c .count) k 0) (most k)) Passed
+    (Faulty Kind))))
 
 -- the record in front: length cut short, under 2, past the end; then its kind
-unfoldable pub frame : Seen → List ℕ → Step
+unfoldable pub frame : Seen → List ℕ → Checked
 frame c l =
     cond (has 2 l)
-    (cond (ltb (word l) 2) (refuse Length c)
+    (cond (ltb (word l) 2) (Faulty Length)
     (cond (has (2 + word l) l) (admit c (word (drop 2 l)))
-    (refuse Length c)))
-    (refuse Length c)
+    (Faulty Length)))
+    (Faulty Length)
 
 -- the image ends where record i would come
 unfoldable pub ended : ℕ → Seen → Framing
@@ -59,8 +55,7 @@ unfoldable pub walk : ℕ → ℕ → Seen → List ℕ → Framing
 walk zero i c l = ended i c
 walk (suc k) i c [] = ended i c
 walk (suc k) i c (x ∷ l) =
-    let f = frame c (x ∷ l) in
-    unlessFaulty (f .check) i (walk k (i + 1) (f .seen) (drop (2 + word (x ∷ l)) (x ∷ l)))
+    unlessFaulty (frame c (x ∷ l)) i (walk k (i + 1) (counted c (word (drop 2 (x ∷ l)))) (drop (2 + word (x ∷ l)) (x ∷ l)))
 
 abbrev pub none : Seen
 none = record { last = 0; count = 0 ∷ 0 ∷ 0 ∷ 0 ∷ 0 ∷ 0 ∷ 0 ∷ [] }

@@ -1,21 +1,17 @@
-// Where the records stand: one walk makes a table of their starts, so that a look-up costs the same for each record.
+// Where the records stand: one walk makes a table of them, so that a look-up costs the same for each record.
 //
 // The table is filled by a loop of its own, not by the walk over the frames. It then has a meaning for any bytes, sound
-// frames or not, and past the last record it stays at the image's end: each look-up has an equation without a condition.
-use limits::Limits;
+// frames or not. An entry counts the bytes from the record's start to the image's end: it is 0 for a record that is not
+// there, so that a table of zeros need be filled as far as there are records only.
 use limits::read::part;
 use limits::read::word_at;
 ghost use mathlib.Core.Path.{_≡_};
 ghost use mathlib.Core.List.{[]};
 ghost use Prim.Native.Nat.{_+_, min};
-ghost use lib.ListN.{length, getD, drop};
+ghost use lib.ListN.{length, getD, drop, replicate};
+ghost use Rattle.limits.specs.Limits.{records};
 ghost use Rattle.limits.specs.Numbers.{word};
 ghost use Rattle.frames.specs.Records.{body, bodies, indexOf};
-
-// Where each record starts.
-pub struct Index {
-    pub at: [usize; Limits::RECORDS],
-}
 
 // The start of the record behind the one at a position.
 fn next_start(s: &[u8], at: usize) -> usize
@@ -34,20 +30,21 @@ fn next_start(s: &[u8], at: usize) -> usize
     at + 2 + n
 }
 
-pub fn index_of(s: &[u8]) -> Index
-    ensures { λ r. ⌜ r .at ≡ indexOf (now (s .entry)) ⌝ }
+// Fills a table of zeros.
+pub fn fill_index<'a, 'b>(s: &'a [u8], ix: &'b mut [usize])
+    requires { ⌜ now ix ≡ replicate records 0 ⌝ }
+    ensures { λ _. ⌜ now (ix .exit) ≡ indexOf (now (s .entry)) ⌝ }
 {
-    let mut x = Index {
-        at: [0; Limits::RECORDS],
-    };
     let mut p: usize = 0;
     let mut i: usize = 0;
-    while i < Limits::RECORDS {
-        x.at[i] = p;
+    while i < ix.len() {
+        if s.len() <= p {
+            return;
+        }
+        ix[i] = s.len() - p;
         p = next_start(s, p);
         i += 1;
     }
-    x
 }
 
 // The body of the record at a position.
@@ -70,7 +67,7 @@ pub fn body_of<'a, 'b>(s: &'a [u8], ix: &'b [usize], i: usize) -> &'a [u8]
     ensures { λ r. ⌜ now r ≡ getD (bodies (now (s .entry))) i [] ⌝ }
 {
     if i < ix.len() {
-        let p = ix[i];
+        let p = s.len() - ix[i];
         return body_at(s, p);
     }
     body_at(s, s.len())

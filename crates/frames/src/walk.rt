@@ -49,14 +49,14 @@ fn walk_frames(s: &[u8]) -> Framing
     let mut at: usize = 0;
     let mut i: usize = 1;
     while 0 < s.len() - at {
-        let f = frame_at(s, at, c);
-        let check = f.check;
-        match check {
+        match frame_at(s, at, c.last, &c.count) {
             Checked::Faulty(fault) => {
                 return Framing::Refused { fault, record: i };
             }
             Checked::Passed => {
-                c = f.seen;
+                let k = word_at(s, at + 2);
+                c.count[k] = c.count[k] + 1;
+                c.last = k;
                 at = at + 2 + word_at(s, at);
                 i += 1;
             }

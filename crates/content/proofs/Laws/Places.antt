@@ -9,7 +9,7 @@ use Rattle.limits.specs.Limits as Limits
 use Rattle.limits.specs.Numbers.{word, numbers}
 use Rattle.limits.proofs.Numbers.{number-past}
 use Rattle.frames.specs.Records.{body, bodies, indexOf}
-use Rattle.frames.proofs.Laws.Index.{index-in, index-length, found-past}
+use Rattle.frames.proofs.Laws.Index.{index-length, entry-fits, start-is, found-past}
 use Rattle.program.specs.declared.sizes.Sizes.{Sizes}
 use Rattle.program.specs.declared.instruction.Instruction.{Instruction}
 use Rattle.records.specs.Line.{premises}
@@ -46,17 +46,17 @@ module _ (s : List ℕ) where
     unfolding indexOf
     index-size = ap length e ∙ index-length s Limits.records
 
-    pub at-in : (r : ℕ) → k < length ix → r ≡ bodyStart s (getD ix k 0) → r ≡ formulaAt s k
-    unfolding formulaAt indexOf
+    pub at-in : (r : ℕ) → k < length ix → r ≡ bodyStart s (length s - getD ix k 0) → r ≡ formulaAt s k
+    unfolding formulaAt
     at-in r h d =
         let q : k < Limits.records = omega (arith, index-size) in
-        d ∙ rw (ne-eqb k 0 z, lt-ltb k Limits.records q, e, index-in s Limits.records k q (omega arith))
+        d ∙ rw (ne-eqb k 0 z, lt-ltb k Limits.records q, start-is s ix k e h)
 
     pub at-past : length ix ≤ k → length s ≡ formulaAt s k
     unfolding formulaAt
     at-past h = let q : Limits.records ≤ k = omega (arith, index-size) in rw (ne-eqb k 0 z, le-ltb k Limits.records q)
 
-pub ruleset positions = (start-past, start-in, at-none, at-in, at-past)
+pub ruleset positions = (start-past, start-in, at-none, entry-fits, at-in, at-past)
 
 -- lines
 

@@ -7,6 +7,9 @@ pub image-answer-spec : {M : Type 1} → statement M
 image-answer-spec =
     tie.close
     (tie.spec
+    (λ c. search needs)
+    (λ c κs. search needs)
+    (λ c. search needs)
     (λ c κs. search needs)
     (λ c. search needs)
     (λ c. search needs)

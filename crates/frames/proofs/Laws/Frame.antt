@@ -10,10 +10,11 @@ use borrow.Author.Tests.{lt-ltb, le-ltb}
 use Rattle.limits.specs.Numbers.{word, has}
 use Rattle.limits.proofs.Numbers.{has-all, has-not}
 use Rattle.frames.specs.Kinds.{most}
-use Rattle.frames.specs.Frames.{refuse, admit, frame}
+use Rattle.frames.specs.Frames.{admit, frame}
 use Rattle.frames.specs.declared.fault.Fault.the-variants.{Length}
 use Rattle.frames.specs.declared.frame.Seen.{Seen}
-use Rattle.frames.specs.declared.frame.Step.{Step}
+use Rattle.frames.specs.declared.fault.Checked.{Checked}
+use Rattle.frames.specs.declared.fault.Checked.the-variants.{Faulty}
 
 -- one record more is a number that fits
 pub most-small : (k : ℕ) → most k ≤ 65535
@@ -31,11 +32,11 @@ pub room : (c : List ℕ) (k : ℕ) → getD c k 0 < most k → getD c k 0 + 1 <
 room c k h = omega (arith, most-small k)
 
 module _ (s : List ℕ) (at : ℕ) (c : Seen) where
-  pub frame-none : length s ≤ at → refuse Length c ≡ frame c (drop at s)
+  pub frame-none : length s ≤ at → Faulty Length ≡ frame c (drop at s)
   unfolding frame has
   frame-none h = rw (drop-of-length-le s h)
 
-  pub frame-short : length s - at < 2 → refuse Length c ≡ frame c (drop at s)
+  pub frame-short : length s - at < 2 → Faulty Length ≡ frame c (drop at s)
   unfolding frame
   frame-short h = let q : length (drop at s) < 2 = rw (length-drop at s) h in rw (has-not 2 (drop at s) q)
 
@@ -43,17 +44,17 @@ module _ (s : List ℕ) (at : ℕ) (c : Seen) where
     two : has 2 (drop at s) ≡ true
     two = has-all 2 (drop at s) (rw (length-drop at s) h)
 
-    pub frame-under : n < 2 → refuse Length c ≡ frame c (drop at s)
+    pub frame-under : n < 2 → Faulty Length ≡ frame c (drop at s)
     unfolding frame
     frame-under g = rw (two, ← e, lt-ltb _ _ g)
 
-    pub frame-past : 2 ≤ n → length s - at - 2 < n → refuse Length c ≡ frame c (drop at s)
+    pub frame-past : 2 ≤ n → length s - at - 2 < n → Faulty Length ≡ frame c (drop at s)
     unfolding frame
     frame-past g p =
         let q : length (drop at s) < 2 + n = rw (length-drop at s) (omega arith) in
         rw (two, ← e, le-ltb _ _ g, has-not (2 + n) (drop at s) q)
 
-    pub frame-kind : (k : ℕ) (f : Step) → 2 ≤ n → n ≤ length s - at - 2 → k ≡ word (drop (at + 2) s) → f ≡ admit c k → f ≡ frame c (drop at s)
+    pub frame-kind : (k : ℕ) (f : Checked) → 2 ≤ n → n ≤ length s - at - 2 → k ≡ word (drop (at + 2) s) → f ≡ admit c k → f ≡ frame c (drop at s)
     unfolding frame
     frame-kind k f g p ek ef =
         let q : 2 + n ≤ length (drop at s) = rw (length-drop at s) (omega arith) in

@@ -1,12 +1,13 @@
 -- The table of starts, and the body that it leads to.
 use Prim.Native.Nat.{ℕ, zero, suc, _+_, _-_, _≤_, _<_, min}
-use mathlib.Core.Path.{_≡_, refl, ap, sym, _∙_}
+use mathlib.Core.Path.{_≡_, refl, ap, sym, _∙_, subst}
 use mathlib.Core.List.{List, [], _∷_}
 use mathlib.Core.Bool.{Bool, true, false}
 use native.Mathlib.Numerals.{add-one}
 use native.Mathlib.Omega.{arith}
-use lib.ListN.{length, getD, set, drop, take, replicate, drop-of-length-le, length-set, length-replicate}
-use lib.Seq.{drop-drop, drop-length, getD-set-same, getD-set-other}
+use mathlib.Core.Logic.{_≢_}
+use lib.ListN.{length, getD, set, drop, take, replicate, drop-of-length-le, length-set, length-replicate, getD-replicate}
+use lib.Seq.{drop-drop, drop-length, getD-set-same, getD-set-other, set-getD}
 use lib.Dec.{leb, eqb}
 use borrow.Author.Tests.{leb-true, leb-false, eqb-true, eqb-false}
 use Rattle.limits.specs.Limits as Limits
@@ -15,15 +16,15 @@ use Rattle.frames.specs.Records.{body, cut, bodies, startOf, indexTo, in
 
 -- the table
 
-pub index-none : (s : List ℕ) → replicate Limits.records 0 ≡ indexTo s 0
+pub index-none : (s l : List ℕ) → l ≡ replicate Limits.records 0 → l ≡ indexTo s 0
 unfolding indexTo
-index-none s = refl
+index-none s l e = e
 
 pub start-none : (s : List ℕ) → 0 ≡ startOf s 0
 unfolding startOf
 start-none s = refl
 
-pub index-more : (s l : List ℕ) (i p : ℕ) → l ≡ indexTo s i → p ≡ startOf s i → set l i p ≡ indexTo s (i + 1)
+pub index-more : (s l : List ℕ) (i p : ℕ) → l ≡ indexTo s i → p ≡ startOf s i → set l i (length s - p) ≡ indexTo s (i + 1)
 unfolding indexTo
 index-more s l i p e d = rw (add-one i, d, e)
 
@@ -31,14 +32,41 @@ pub start-more : (s : List ℕ) (i p q : ℕ) → p ≡ startOf s i → q ≡ mi
 unfolding startOf
 start-more s i p q e d = rw (add-one i, d, e)
 
-pub index-all : (s l : List ℕ) (i : ℕ) → i ≤ Limits.records → Limits.records ≤ i → l ≡ indexTo s i → l ≡ indexOf s
+pub index-all : (s l : List ℕ) (i : ℕ) → i ≤ Limits.records → length l ≡ Limits.records → length l ≤ i → l ≡ indexTo s i → l ≡ indexOf s
 unfolding indexOf
-index-all s l i a b e = let q : i ≡ Limits.records = omega arith in rw q at e
+index-all s l i a n b e = let q : i ≡ Limits.records = omega arith in rw q at e
+
+-- past the last record the table stays as it is
+
+unfilled : (s : List ℕ) (n i : ℕ) → n ≤ i → i < Limits.records → getD (indexTo s n) i 0 ≡ 0
+unfolding indexTo
+unfilled s zero i h g = getD-replicate Limits.records i 0 0 g
+unfilled s (suc n) i h g = let q : i ≢ n = λ e. omega arith in getD-set-other (indexTo s n) n i (length s - startOf s n) 0 q ∙ unfilled s n i (omega arith) g
+
+stays : (s : List ℕ) (i n : ℕ) → length s ≤ startOf s i → i ≤ n → n ≤ Limits.records → (length s ≤ startOf s n) × (indexTo s n ≡ indexTo s i)
+unfolding startOf indexTo
+stays s i zero h a g = let q : i ≡ 0 = omega arith in subst (λ (m : ℕ). (length s ≤ startOf s m) × (indexTo s m ≡ indexTo s i)) q (h, refl)
+stays s i (suc n) h a g = go (eqb i (suc n)) refl (λ b. stays s i n h b (omega arith))
+  where
+    go : (b : Bool) → eqb i (suc n) ≡ b → (i ≤ n → (length s ≤ startOf s n) × (indexTo s n ≡ indexTo s i)) → (length s ≤ startOf s (suc n)) × (indexTo s (suc n) ≡ indexTo s i)
+    go true e f = subst (λ (m : ℕ). (length s ≤ startOf s m) × (indexTo s m ≡ indexTo s i)) (eqb-true i (suc n) e) (h, refl)
+    go false e f =
+        let q = eqb-false i (suc n) e in
+        let p = f (omega arith) in
+        let z : length s - startOf s n ≡ getD (indexTo s n) n 0 = rw (unfilled s n n (omega arith) (omega arith)) (omega (arith, p .0)) in
+        (omega (arith, p .0), rw z (set-getD (indexTo s n) n 0) ∙ p .1)
+
+pub index-ended : (s l : List ℕ) (i p : ℕ) → i ≤ Limits.records → l ≡ indexTo s i → p ≡ startOf s i → length s ≤ p → l ≡ indexOf s
+unfolding indexOf
+index-ended s l i p h e d g = e ∙ sym (stays s i Limits.records (rw d at g) h (omega arith) .1)
 
 pub long : (l : List ℕ) (i v n : ℕ) → length l ≡ n → length (set l i v) ≡ n
 long l i v n e = length-set l i v ∙ e
 
-pub ruleset indexing = (index-none, start-none, index-more, start-more, index-all, long)
+pub long-zeros : (l : List ℕ) → l ≡ replicate Limits.records 0 → length l ≡ Limits.records
+long-zeros l e = ap length e ∙ length-replicate {A = ℕ} Limits.records 0
+
+pub ruleset indexing = (index-none, start-none, index-more, start-more, index-all, index-ended, long, long-zeros)
 
 -- a record's body
 
@@ -119,28 +147,51 @@ cut-past (suc k) (suc i) (x ∷ l) h = cut-past k i (drop (2 + word (x ∷ l)) (
 pub index-length : (s : List ℕ) (n : ℕ) → length (indexTo s n) ≡ Limits.records
 unfolding indexTo
 index-length s zero = length-replicate {A = ℕ} Limits.records 0
-index-length s (suc n) = length-set (indexTo s n) n (startOf s n) ∙ index-length s n
+index-length s (suc n) = length-set (indexTo s n) n (length s - startOf s n) ∙ index-length s n
 
-pub index-in : (s : List ℕ) (n i : ℕ) → i < n → n ≤ Limits.records → getD (indexTo s n) i 0 ≡ startOf s i
+start-low : (s : List ℕ) (i : ℕ) → startOf s i ≤ length s
+unfolding startOf
+start-low s zero = omega arith
+start-low s (suc i) = omega arith
+
+entry-is : (s : List ℕ) (n i : ℕ) → i < n → n ≤ Limits.records → getD (indexTo s n) i 0 ≡ length s - startOf s i
 unfolding indexTo
-index-in s zero i h g = absurd (omega arith)
-index-in s (suc n) i h g = go (eqb i n) refl (λ a. index-in s n i a (omega arith))
+entry-is s zero i h g = absurd (omega arith)
+entry-is s (suc n) i h g = go (eqb i n) refl (λ a. entry-is s n i a (omega arith))
   where
-    go : (b : Bool) → eqb i n ≡ b → (i < n → getD (indexTo s n) i 0 ≡ startOf s i) → getD (set (indexTo s n) n (startOf s n)) i 0 ≡ startOf s i
+    go : (b : Bool) → eqb i n ≡ b → (i < n → getD (indexTo s n) i 0 ≡ length s - startOf s i) → getD (set (indexTo s n) n (length s - startOf s n)) i 0 ≡ length s - startOf s i
     go true e f =
         let q = eqb-true i n e in
         let z : n < length (indexTo s n) = rw (index-length s n) (omega arith) in
-        rw q (getD-set-same (indexTo s n) n (startOf s n) 0 z)
+        rw q (getD-set-same (indexTo s n) n (length s - startOf s n) 0 z)
     go false e f =
         let q = eqb-false i n e in
-        getD-set-other (indexTo s n) n i (startOf s n) 0 q ∙ f (omega arith)
+        getD-set-other (indexTo s n) n i (length s - startOf s n) 0 q ∙ f (omega arith)
+
+-- what a look-up takes from the table: no more bytes than there are, and the record's start
+
+module _ (s ix : List ℕ) (i : ℕ) (e : ix ≡ indexOf s) (h : i < length ix) where
+  low : i < Limits.records
+  unfolding indexOf
+  low = omega (arith, ap length e ∙ index-length s Limits.records)
+
+  found : getD ix i 0 ≡ length s - startOf s i
+  unfolding indexOf
+  found = ap (λ (l : List ℕ). getD l i 0) e ∙ entry-is s Limits.records i low (omega arith)
+
+  pub entry-fits : getD ix i 0 ≤ length s
+  entry-fits = omega (arith, found)
+
+  pub start-is : length s - getD ix i 0 ≡ startOf s i
+  start-is = omega (arith, found, start-low s i)
+
+pub body-is : (s : List ℕ) (i : ℕ) → i < Limits.records → getD (bodies s) i [] ≡ body (drop (startOf s i) s)
+unfolding bodies
+body-is s i h = rw (cut-in Limits.records i s h, start-skip s i)
 
 module _ (s ix : List ℕ) (i : ℕ) (r : List ℕ) (e : ix ≡ indexOf s) where
-  pub found-in : i < length ix → r ≡ body (drop (getD ix i 0) s) → r ≡ getD (bodies s) i []
-  unfolding indexOf bodies
-  found-in h d =
-      let z : i < Limits.records = omega (arith, ap length e ∙ index-length s Limits.records) in
-      d ∙ (rw (e, index-in s Limits.records i z (omega arith), cut-in Limits.records i s z, start-skip s i))
+  pub found-in : i < length ix → r ≡ body (drop (length s - getD ix i 0) s) → r ≡ getD (bodies s) i []
+  found-in h d = d ∙ (rw (start-is s ix i e h, body-is s i (low s ix i e h)))
 
   pub found-past : length ix ≤ i → r ≡ body (drop (length s) s) → r ≡ getD (bodies s) i []
   unfolding indexOf bodies
@@ -148,4 +199,4 @@ module _ (s ix : List ℕ) (i : ℕ) (r : List ℕ) (e : ix ≡ indexOf s) where
       let z : Limits.records ≤ i = omega (arith, ap length e ∙ index-length s Limits.records) in
       d ∙ (rw (cut-past Limits.records i s z, drop-length s) body-nil)
 
-pub ruleset found = (found-in, found-past)
+pub ruleset looking = (entry-fits, found-in, found-past)

@@ -8,11 +8,10 @@ use native.Mathlib.Omega.{arith}
 use lib.ListN.{getD, drop}
 use lib.Seq.{getD-drop, drop-drop}
 use Rattle.frames.specs.Frames.{wholeImage}
-use Rattle.frames.specs.Records.{bodies, indexOf}
+use Rattle.frames.specs.Records.{bodies}
 use Rattle.frames.specs.declared.fault.Fault.{Fault}
 use Rattle.frames.specs.declared.fault.Checked.{Checked}
 use Rattle.frames.specs.declared.fault.Checked.the-variants.{Passed, Faulty}
-use Rattle.frames.specs.declared.index.Index.{Index}
 use Rattle.frames.specs.declared.walk.Framing.{Framing}
 use Rattle.frames.specs.declared.walk.Framing.the-variants as Framing
 use Rattle.program.specs.declared.sizes.Sizes.{Sizes}
@@ -24,10 +23,9 @@ use Rattle.bodies.specs.Line as Lines
 use Rattle.image.specs.declared.body.Place.{Place}
 use Rattle.image.specs.declared.body.Place.the-variants.{Header, Formula, Thread, Outline, Line, Obligations}
 use Rattle.image.specs.Body.{placeOf, check}
-use Rattle.image.specs.Decode.{recordCount, sizesOf, unlessFaulty, firstFault, decoded, opened}
+use Rattle.image.specs.Decode.{recordCount, sizesOf, unlessFaulty, firstFault, decoded}
 use Rattle.image.specs.declared.decode.Decoded.{Decoded}
 use Rattle.image.specs.declared.decode.Decoded.the-variants.{Refused, Sound}
-use Rattle.image.specs.declared.decode.Opened.{Opened}
 
 pub sizes-are : (h : List ℕ) (t w r f n : ℕ) → t ≡ getD h 0 0 → w ≡ getD h 1 0 → r ≡ getD h 2 0
     → record { threads = t; words = w; registers = r; formulas = f; lines = n } ≡ sizesOf h f n
@@ -106,8 +104,4 @@ pub frames-sound : (s : List ℕ) (g : Framing) (nf nt nl : ℕ) (h : List ℕ) 
 unfolding decoded
 frames-sound s g nf nt nl h z d e q eh ez ed = rw (← e, q, ← eh, ← ez) ed
 
-pub opened-is : (s : List ℕ) (x : Index) (d : Decoded) → x .at ≡ indexOf s → d ≡ decoded s → record { answer = d; index = x } ≡ opened s
-unfolding opened
-opened-is s x d e h = rw (h, ← e)
-
-pub ruleset opening = (sizes-are, frames-refused, frames-sound, opened-is)
+pub ruleset opening = (sizes-are, frames-refused, frames-sound)

@@ -1,8 +1,9 @@
-use Rattle.checker.proofs.Accepted.{promised}
+use Rattle.checker.proofs.Accepted.{promised, promised-short}
 use Rattle.limits.proofs.Auto.{tests}
 use borrow.Author.Needs.{needs}
 use Rattle.checker.proofs.entry.check_image.Statement.{statement}
 use Rattle.checker.proofs.entry.check_image.Tie as tie
 
 pub check-image-spec : {M : Type 1} → statement M
-check-image-spec = tie.close (tie.spec (λ c κs. search needs) (λ c κs. search needs) (λ c. search needs) (λ c. search (promised, tests)))
+check-image-spec =
+    tie.close (tie.spec (λ c. promised-short _ _ (search tests)) (λ c κs. search needs) (λ c κs. search needs) (λ c. search needs) (λ c. search (promised, tests)))

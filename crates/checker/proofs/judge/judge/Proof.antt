@@ -8,9 +8,13 @@ pub judge-spec : {M : Type 1} → statement M
 judge-spec =
     tie.close
     (tie.spec
+    (λ c. search needs)
+    (λ c κs. search needs)
+    (λ c. search needs)
     (λ c κs. search needs)
     (λ c. search needs)
     (λ c. search needs)
-    (λ c κs. search (judging, tests))
+    (λ c. search needs)
+    (λ c κs. search needs)
     (λ c. search (judging, tests))
     (λ c. search (judging, tests)))

@@ -1,7 +1,6 @@
-use Rattle.frames.proofs.Laws.Frame.{room}
-use Rattle.limits.proofs.Auto.{tests}
 use Rattle.frames.specs.Kinds.{most}
 use Rattle.frames.specs.Frames.{admit}
+use Rattle.limits.proofs.Auto.{tests}
 use borrow.Author.Needs.{needs}
 use Rattle.frames.proofs.frame.admit_kind.Statement.{statement}
 use Rattle.frames.proofs.frame.admit_kind.Tie as tie
@@ -13,13 +12,9 @@ admit-kind-spec =
     (tie.spec
     (λ c. search tests)
     (λ c. search tests)
-    (λ c. search needs)
     (λ c. search tests)
     (λ c. search needs)
     (λ c. search needs)
-    (λ c. search needs)
-    (λ c. search needs)
-    (λ c. search (room, tests))
     (λ c. search needs)
     (λ c. search needs)
     (λ c. search tests)

@@ -1,4 +1,4 @@
-use Rattle.frames.proofs.Laws.Index.{found}
+use Rattle.frames.proofs.Laws.Index.{looking}
 use Rattle.limits.proofs.Auto.{tests}
 use borrow.Author.Needs.{needs}
 use Rattle.frames.proofs.index.body_of.Statement.{statement}
@@ -7,4 +7,11 @@ use Rattle.frames.proofs.index.body_of.Tie as tie
 pub body-of-spec : {M : Type 1} → statement M
 body-of-spec =
     tie.close
-    (tie.spec (λ c. search needs) (λ c. search needs) (λ c κs. search needs) (λ c. search (found, tests)) (λ c κs. search needs) (λ c. search (found, tests)))
+    (tie.spec
+    (λ c. search needs)
+    (λ c. search needs)
+    (λ c. search (looking, tests))
+    (λ c κs. search needs)
+    (λ c. search (looking, tests))
+    (λ c κs. search needs)
+    (λ c. search (looking, tests)))

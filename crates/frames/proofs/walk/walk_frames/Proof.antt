@@ -2,13 +2,14 @@ use Prim.Native.Nat.{_≤_, _-_, _+_}
 use mathlib.Core.Path.{_≡_}
 use lib.ListN.{length, drop}
 use Rattle.frames.specs.Frames.{frames, walk}
-use Rattle.frames.proofs.Laws.Walk.{walking, frame-fits, walk-more}
+use Rattle.frames.proofs.Laws.Walk.{walking, kind-known, frame-fits, walk-more}
+use Rattle.frames.proofs.Laws.Index.{long}
 use Rattle.limits.proofs.Auto.{tests}
 use Rattle.frames.proofs.walk.walk_frames.Statement.{statement}
 use Rattle.frames.proofs.walk.walk_frames.Tie as tie
 
 abbrev Inv-loop : tie.InvT-loop
-Inv-loop s c₀ at₀ i₀ c at i = (1 ≤ i) × ((i ≤ at + 1) × ((at ≤ length s) × (frames s ≡ walk (length s + 1 - i) i c (drop at s))))
+Inv-loop s c₀ at₀ i₀ c at i = (1 ≤ i) × ((i ≤ at + 1) × ((at ≤ length s) × ((frames s ≡ walk (length s + 1 - i) i c (drop at s)) × (length (c .count) ≡ 7))))
 
 abbrev μ-loop : tie.MeasureT-loop
 μ-loop s c₀ at₀ i₀ c at i = length s - at
@@ -28,8 +29,15 @@ walk-frames-spec =
     (λ c. search (walking, tests))
     (λ c κs. search (walking, tests))
     (λ c. search (walking, tests))
+    (λ c. search (kind-known, tests))
     (λ c. search (walking, tests))
     (λ c. search (walking, tests))
-    (λ c. (search tests, (search tests, (search (frame-fits, tests), search (walk-more, tests)))))
+    (λ c. search (kind-known, tests))
+    (λ c. search (walking, tests))
+    (λ c κs. search (walking, tests))
+    (λ c. search (walking, tests))
+    (λ c. search (walking, tests))
+    (λ c. search (walking, tests))
+    (λ c. (search tests, (search tests, (search (frame-fits, tests), (search (walk-more, tests), search (long, tests))))))
     (λ c κs. search (walking, tests))
     (λ c. search (walking, tests)))

@@ -1,11 +1,11 @@
 use Rattle.image.proofs.Laws.Whole.{opening}
 use Rattle.limits.proofs.Auto.{tests}
 use borrow.Author.Needs.{needs}
-use Rattle.image.proofs.decode.decode_with.Statement.{statement}
-use Rattle.image.proofs.decode.decode_with.Tie as tie
+use Rattle.image.proofs.decode.decode_image.Statement.{statement}
+use Rattle.image.proofs.decode.decode_image.Tie as tie
 
-pub decode-with-spec : {M : Type 1} → statement M
-decode-with-spec =
+pub decode-image-spec : {M : Type 1} → statement M
+decode-image-spec =
     tie.close
     (tie.spec
     (λ c κs. search needs)
