@@ -3,11 +3,10 @@ use mathlib.Core.Path.{_≡_, refl, ap, ap₂, sym, _∙_}
 use mathlib.Core.List.{List}
 use Prim.Native.Nat.{ℕ}
 use Rattle.logic.specs.Obligations.{obligations}
-use Rattle.frames.specs.Records.{bodies, indexOf}
+use Rattle.frames.specs.Records.{bodies}
 use Rattle.frames.specs.declared.fault.Fault.{Fault}
 use Rattle.program.specs.declared.sizes.Sizes.{Sizes}
-use Rattle.image.specs.Decode.{decoded, opened}
-use Rattle.image.specs.declared.decode.Opened.{Opened}
+use Rattle.image.specs.Decode.{decoded}
 use Rattle.image.specs.declared.decode.Decoded.{Decoded}
 use Rattle.image.specs.declared.decode.Decoded.the-variants as Decoded
 use Rattle.outline.specs.Verdict as Outline
@@ -41,28 +40,20 @@ module _ (s : List ℕ) (z : Sizes) (m : Marks) (r : Outcome) (e : m ≡ marksTo
 
 pub ruleset sound = (sound-met, sound-failed)
 
-module _ (s : List ℕ) (o : Opened) (e : o ≡ opened s) where
-  answer-is : o .answer ≡ decoded s
-  unfolding opened
-  answer-is = ap (λ (x : Opened). x .answer) e
-
-  pub index-is : o .index .at ≡ indexOf s
-  unfolding opened
-  index-is = ap (λ (x : Opened). x .index .at) e
-
-  pub judge-refused : (f : Fault) (i : ℕ) → o .answer ≡ Decoded.Refused f i → Verdict.Refused f i ≡ verdict s
+module _ (s : List ℕ) (a : Decoded) (e : a ≡ decoded s) where
+  pub judge-refused : (f : Fault) (i : ℕ) → a ≡ Decoded.Refused f i → Verdict.Refused f i ≡ verdict s
   unfolding verdict decode
-  judge-refused f i h = ap (λ (d : Decoded). answered (resultOf (bodies s) d)) (sym h ∙ answer-is)
+  judge-refused f i h = ap (λ (d : Decoded). answered (resultOf (bodies s) d)) (sym h ∙ e)
 
   agree : (x : Outline.Outcome) → verdictOf (toOutcome x) ≡ judged x
   agree (Outline.met n) = refl
   agree (Outline.failed c o l n) = refl
 
-  pub judge-found : (z : Sizes) (r : Verdict) → o .answer ≡ Decoded.Sound z → r ≡ soundVerdict s z → r ≡ verdict s
+  pub judge-found : (z : Sizes) (r : Verdict) → a ≡ Decoded.Sound z → r ≡ soundVerdict s z → r ≡ verdict s
   unfolding verdict decode soundVerdict
   judge-found z r h d =
-      let q : decoded s ≡ Decoded.Sound z = sym answer-is ∙ h in
+      let q : decoded s ≡ Decoded.Sound z = sym e ∙ h in
       let c = sound-checks s z q in
       d ∙ ap verdictOf (judged-is s z c (marksTo s z (z .lines)) (λ k w. marks-are s z c k)) ∙ agree (outcome (imageOf z (bodies s))) ∙ ap (λ (d : Decoded). answered (resultOf (bodies s) d)) (sym q)
 
-pub ruleset judging = (index-is, judge-refused, judge-found)
+pub ruleset judging = (judge-refused, judge-found)

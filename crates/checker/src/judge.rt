@@ -1,6 +1,7 @@
 // The verdict on an image: the first fault of its bytes, or the first obligation that is not met, or accepted.
+use frames::index::index_of;
 use image::decode::Decoded;
-use image::decode::open_image;
+use image::decode::decode_with;
 use judging::judge::judge_obligations;
 use judging::outcome::Outcome;
 use justify::pass::judge_lines;
@@ -33,16 +34,13 @@ fn judge_sound<'a, 'b>(s: &'a [u8], ix: &'b [usize], z: Sizes) -> Verdict
     }
 }
 
+// The index stays where it is made: it has 12,000 bytes.
 pub fn judge(image: &[u8]) -> Verdict
     ensures { λ r. ⌜ r ≡ verdict (now (image .entry)) ⌝ }
 {
-    let opened = open_image(image);
-    let answer = opened.answer;
-    match answer {
+    let index = index_of(image);
+    match decode_with(image, &index.at) {
         Decoded::Refused { fault, record } => Verdict::Refused { fault, record },
-        Decoded::Sound(z) => {
-            let index = opened.index;
-            judge_sound(image, &index.at, z)
-        }
+        Decoded::Sound(z) => judge_sound(image, &index.at, z),
     }
 }

@@ -69,7 +69,7 @@ fn check_bodies<'a, 'b, 'c>(
 }
 
 // With the index of the records at hand.
-fn decode_with<'a, 'b>(s: &'a [u8], ix: &'b [usize]) -> Decoded
+pub fn decode_with<'a, 'b>(s: &'a [u8], ix: &'b [usize]) -> Decoded
     requires { ⌜ now ix ≡ indexOf (now s) ⌝ }
     ensures { λ r. ⌜ r ≡ decoded (now (s .entry)) ⌝ }
 {

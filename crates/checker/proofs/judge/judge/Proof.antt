@@ -9,8 +9,9 @@ judge-spec =
     tie.close
     (tie.spec
     (λ c κs. search needs)
+    (λ c κs. search needs)
     (λ c. search needs)
     (λ c. search needs)
-    (λ c κs. search (judging, tests))
+    (λ c κs. search needs)
     (λ c. search (judging, tests))
     (λ c. search (judging, tests)))
