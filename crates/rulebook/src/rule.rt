@@ -38,14 +38,15 @@ impl Side {
     pub const START_VALUE: u8 = 8;
 }
 
-// The form of a line; where its template begins; how many premises, and their forms, two bits each from the lowest (rule
-// 20 has any number up to four, here 5); the operations, a bit each; what is asked besides.
+// Where a rule's template begins; the operations that it allows, a bit each; the form of its lines; how many premises, and
+// their forms, two bits each from the lowest (rule 20 has any number up to four, here 5); what is asked besides. A row has
+// eight bytes and no gap: the table is made anew for each look-up.
 pub struct Rule {
-    pub form: u8,
     pub template: u16,
+    pub operations: u16,
+    pub form: u8,
     pub premises: u8,
     pub forms: u8,
-    pub operations: u8,
     pub side: u8,
 }
 
