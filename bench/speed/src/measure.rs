@@ -21,10 +21,11 @@ pub fn best(tasks: &[Box<dyn Fn() + '_>]) -> Vec<f64> {
     best
 }
 
-/// The speed of each task over so many bytes, and how long the first takes beside the others.
-pub fn print(names: &[&str], bytes: usize, seconds: &[f64]) {
+/// The speed of each task over so many bytes or rows, the unit a million of them in a second, and how
+/// long the first takes beside the others.
+pub fn print(names: &[&str], amount: usize, unit: &str, seconds: &[f64]) {
     for (name, own) in names.iter().zip(seconds) {
-        println!("{name}: {:.3} ms, {:.0} MB/s", own * 1e3, bytes as f64 / own / 1e6);
+        println!("{name}: {:.4} ms, {:.0} {unit}", own * 1e3, amount as f64 / own / 1e6);
     }
     for (name, own) in names.iter().zip(seconds).skip(1) {
         println!("{} takes {:.2} times as long as {name}", names[0], seconds[0] / own);

@@ -1,7 +1,8 @@
-//! The proved readers, from the crate `exports`.
+//! The proved functions, from the crate `exports`.
 
 use crate::formulas::answer::{Answer, Counts, Fault};
 use crate::images::answer::{self, Refusal};
+use crate::rows::input::{Input, Kind};
 
 // A `&[u8]` of Rattle is a pointer and a length.
 extern "C" {
@@ -17,6 +18,17 @@ extern "C" {
 
     /// The answer is 0, or the code times 65,536 and the record.
     fn image_answer(image: *const u8, length: usize) -> usize;
+
+    /// The answer is 1 or 0.
+    fn rows_answer(body: *const u8, length: usize, left: usize, right: usize) -> usize;
+
+    /// The answer is 1 or 0. The places are those of the line and its premises, as in `Input`.
+    fn table_answer(
+        body: *const u8,
+        length: usize,
+        places: *const u8,
+        places_length: usize,
+    ) -> usize;
 }
 
 pub fn formula(body: &[u8], n: Counts) -> Answer {
@@ -40,4 +52,16 @@ pub fn image(bytes: &[u8]) -> answer::Answer {
         0 => Ok(()),
         _ => Err(Refusal { code: answer / 65_536, record: answer % 65_536 }),
     }
+}
+
+pub fn judge(input: &Input) -> bool {
+    let (body, places) = (&input.body, &input.places);
+    // SAFETY: as above.
+    let answer = unsafe {
+        match input.kind {
+            Kind::Tests => rows_answer(body.as_ptr(), body.len(), input.place(0), input.place(1)),
+            Kind::Table => table_answer(body.as_ptr(), body.len(), places.as_ptr(), places.len()),
+        }
+    };
+    answer == 1
 }

@@ -1,5 +1,6 @@
 -- Answers as one number each.
 use Prim.Native.Nat.{ℕ, _+_, _*_, _%_}
+use mathlib.Core.Bool.{Bool, cond}
 use Rattle.formula.specs.Reader.{limit}
 use Rattle.formula.specs.declared.reader.Reading.{Reading}
 use Rattle.formula.specs.declared.reader.Reading.the-variants.{Formula, Fault}
@@ -16,3 +17,6 @@ ofReading (Fault fault) = fault
 abbrev pub ofDecoded : Decoded → ℕ
 ofDecoded (Refused fault number) = codeOf fault * 65536 + number % 65536
 ofDecoded (Sound z) = 0
+
+abbrev pub ofTruth : Bool → ℕ
+ofTruth b = cond b 1 0

@@ -1,4 +1,6 @@
 // Functions for Rust to call, in benchmarks.
+pub mod trying;
+
 use formula::reader::Counts;
 use formula::reader::Fault;
 use formula::reader::Reading;

@@ -41,6 +41,6 @@ pub fn run(random: &mut Random) -> bool {
     let tasks = readers.map(|(_, read)| -> Box<dyn Fn()> {
         Box::new(move || read_all(black_box(formulas), black_box(Counts::HIGHEST), black_box(read)))
     });
-    measure::print(&readers.map(|(name, _)| name), bytes, &measure::best(&tasks));
+    measure::print(&readers.map(|(name, _)| name), bytes, "MB/s", &measure::best(&tasks));
     true
 }

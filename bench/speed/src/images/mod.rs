@@ -34,7 +34,7 @@ pub fn run(random: &mut Random) -> bool {
     let tasks = readers.map(|(_, read)| -> Box<dyn Fn()> {
         Box::new(move || assert_eq!(black_box(read)(black_box(image)), Ok(())))
     });
-    measure::print(&readers.map(|(name, _)| name), image.len(), &measure::best(&tasks));
+    measure::print(&readers.map(|(name, _)| name), image.len(), "MB/s", &measure::best(&tasks));
     true
 }
 

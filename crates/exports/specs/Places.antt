@@ -1,0 +1,19 @@
+-- Positions of implications in bytes: left and right of the line, then of each premise, 16 bits each, little-endian. Past the end they are 0.
+use Prim.Native.Nat.{ℕ, _/_}
+use mathlib.Core.List.{List, [], _∷_}
+use mathlib.Core.Bool.{cond}
+use lib.ListN.{length, drop}
+use lib.Dec.{ltb}
+use Rattle.limits.specs.Numbers.{word}
+use Rattle.rows.specs.declared.by.Implications.{Implications}
+
+-- a pair has four bytes; what is left over of one does not count, nor does a sixth pair
+unfoldable pub pairsIn : ℕ → ℕ
+pairsIn n = cond (ltb (n / 4) 5) (n / 4) 5
+
+-- those of one side: every other number
+unfoldable pub sideIn : List ℕ → List ℕ
+sideIn p = word (drop 0 p) ∷ word (drop 4 p) ∷ word (drop 8 p) ∷ word (drop 12 p) ∷ word (drop 16 p) ∷ []
+
+unfoldable pub implicationsIn : List ℕ → Implications
+implicationsIn p = record { count = pairsIn (length p); left = sideIn p; right = sideIn (drop 2 p) }
