@@ -1,7 +1,8 @@
 //! The answers on random tests or tables.
 
 use super::claim::Claim;
-use super::input::{Input, Judge};
+use super::generate::Generator;
+use super::input::Judge;
 use crate::random::Random;
 use std::fmt;
 
@@ -34,7 +35,7 @@ pub fn on_random(
     random: &mut Random,
     judges: &[(&str, Judge)],
     inputs: usize,
-    input: fn(&mut Random) -> Input,
+    input: Generator,
 ) -> Compared {
     let mut compared = Compared { inputs, differ: 0, yes: 0, no: 0, many: 0 };
     for _ in 0..inputs {

@@ -4,6 +4,8 @@ use super::input::{Input, Kind};
 use crate::formulas::generate::{append, Names};
 use crate::random::Random;
 
+pub type Generator = fn(&mut Random) -> Input;
+
 const TEST: u8 = 1;
 const ASSERTION: u8 = 3;
 

@@ -1,6 +1,7 @@
 //! What is timed: lines that are true and have as many rows as there may be, so that each row is tried.
 
 use super::claim::Claim;
+use super::generate::Generator;
 use super::input::{Input, Judge, Kind};
 use crate::random::Random;
 
@@ -39,12 +40,7 @@ pub fn table() -> Input {
 }
 
 /// So many random ones that are true and have as many rows as there may be.
-pub fn several(
-    random: &mut Random,
-    count: usize,
-    input: fn(&mut Random) -> Input,
-    judge: Judge,
-) -> Vec<Input> {
+pub fn several(random: &mut Random, count: usize, input: Generator, judge: Judge) -> Vec<Input> {
     let inputs = std::iter::repeat_with(|| input(random));
     let largest = |input: &Input| Claim::new(input).bits == input.kind.bits();
     inputs.filter(|input| largest(input) && judge(input)).take(count).collect()
