@@ -14,7 +14,7 @@ use Rattle.logic.specs.Code.{byte}
 use Rattle.logic.specs.Rows.{allBelow}
 use Rattle.leaves.specs.Slots.{slots}
 use Rattle.columns.specs.Combine.{combine}
-use Rattle.columns.specs.Column.{rows, column, constant, combined, denied, noneBelow, valueIn, rowIn, slotColumn}
+use Rattle.columns.specs.Column.{rows, column, constant, combined, denied, seenOf, noneBelow, valueIn, rowIn, slotColumn}
 use Rattle.columns.proofs.Listed.{column-none, column-step, column-getD, column-is, column-at, column-same}
 use Rattle.columns.proofs.Combining.{combine-not, combine-and}
 
@@ -111,23 +111,24 @@ deny-is n a₀ a b₀ b z eb ea = ea ∙ column-same (λ (i : ℕ). combine 0 (b
     ∙ ap (λ (m : ℕ). cond (eqb (getD a₀ i 0) 1) m 0) (column-at (λ (i : ℕ). combine 0 (byte Code.not) 0 (getD b₀ i 0) (getD z i 0)) 0 b n i eb h ∙ combine-not 0 (byte Code.not) 0 (getD b₀ i 0) (getD z i 0) refl))
 
 -- no row is 1
-module _ (a : List ℕ) (n i : ℕ) (e : noneBelow a n ≡ noneBelow a i) where
-  pub none-end : i ≤ 0 → true ≡ noneBelow a n
+module _ (a : List ℕ) where
+  pub none-begin : _≡_ {A = ℕ} 0 (cond (noneBelow a 0) 0 1)
   unfolding noneBelow
-  none-end h = let z : i ≡ 0 = omega arith in sym (e ∙ rw z)
+  none-begin = refl
 
-  none-step : 0 < i → noneBelow a n ≡ cond (not (eqb (getD a (i - 1) 0) 1)) (noneBelow a (i - 1)) false
-  unfolding noneBelow
-  none-step h = let s : i ≡ suc (i - 1) = omega arith in e ∙ ap (λ (m : ℕ). allBelow m (λ (i : ℕ). not (eqb (getD a i 0) 1))) s ∙ go (not (eqb (getD a (i - 1) 0) 1)) (noneBelow a (i - 1))
+  pub none-next : (i found v : ℕ) → found ≡ cond (noneBelow a i) 0 1 → v ≡ seenOf found (getD a i 0) → v ≡ cond (noneBelow a (i + 1)) 0 1
+  unfolding noneBelow seenOf
+  none-next i found v e d = d ∙ ap (cond (eqb (getD a i 0) 1) 1) e ∙ go (eqb (getD a i 0) 1) (noneBelow a i) ∙ ap (λ (m : ℕ). cond (noneBelow a m) 0 1) (sym (add-one i))
     where
-      go : (x y : Bool) → elim x as (λ z. Bool) [ true ↦ y | false ↦ false ] ≡ cond x y false
+      go : (x y : Bool) → _≡_ {A = ℕ} (cond x 1 (cond y 0 1)) (cond (elim (not x) as (λ z. Bool) [ true ↦ y | false ↦ false ]) 0 1)
       go true y = refl
       go false y = refl
 
-  pub none-found : 0 < i → getD a (i - 1) 0 ≡ 1 → false ≡ noneBelow a n
-  none-found h d = sym (none-step h ∙ rw (eq-eqb _ _ d))
+  pub none-end : (i n found : ℕ) → i ≤ n → n ≤ i → found ≡ cond (noneBelow a i) 0 1 → eqb found 0 ≡ noneBelow a n
+  none-end i n found h k e = let q : i ≡ n = omega arith in ap (λ (m : ℕ). eqb m 0) (e ∙ ap (λ (m : ℕ). cond (noneBelow a m) 0 1) q) ∙ go (noneBelow a n)
+    where
+      go : (x : Bool) → eqb (cond x 0 1) 0 ≡ x
+      go true = refl
+      go false = refl
 
-  pub none-next : 0 < i → (getD a (i - 1) 0 ≡ 1 → ⊥) → noneBelow a n ≡ noneBelow a (i - 1)
-  none-next h d = none-step h ∙ rw (ne-eqb _ _ d)
-
-pub ruleset nones = (none-end, none-found, none-next)
+pub ruleset nones = (none-begin, none-next, none-end)

@@ -27,6 +27,10 @@ combined R c o n a b = column (λ i. combine R c o (getD a i 0) (getD b i 0)) n
 unfoldable pub denied : ℕ → List ℕ → List ℕ → List ℕ
 denied n a b = column (λ i. cond (eqb (getD a i 0) 1) (cond (eqb (getD b i 0) 1) 0 1) 0) n
 
+-- 1 from the first 1 on
+unfoldable pub seenOf : ℕ → ℕ → ℕ
+seenOf found v = cond (eqb v 1) 1 found
+
 unfoldable pub noneBelow : List ℕ → ℕ → Bool
 noneBelow a n = allBelow n (λ i. not (eqb (getD a i 0) 1))
 

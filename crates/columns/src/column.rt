@@ -6,7 +6,7 @@ use formula::code::Code;
 ghost use mathlib.Core.Path.{_≡_};
 ghost use Prim.Native.Nat.{_≤_};
 ghost use lib.ListN.{length, take};
-ghost use Rattle.columns.specs.Column.{combined, denied, noneBelow};
+ghost use Rattle.columns.specs.Column.{combined, denied, seenOf, noneBelow};
 
 // A loop with nothing in it but the one operation: the compiler makes it work on many rows at a time.
 fn mix(range: u8, code: u8, operand: u8, n: usize, a: &mut [u8], b: &[u8])
@@ -34,6 +34,7 @@ pub fn combine_columns(range: u8, code: u8, operand: u8, n: usize, a: &mut [u8],
         Code::OR => mix(range, Code::OR, operand, n, a, b),
         Code::BOTH_A => mix(range, Code::BOTH_A, operand, n, a, b),
         Code::EITHER_A => mix(range, Code::EITHER_A, operand, n, a, b),
+        Code::HOLDS => mix(range, Code::HOLDS, operand, n, a, b),
         _ => mix(range, code, operand, n, a, b),
     }
 }
@@ -48,18 +49,23 @@ pub fn deny(n: usize, a: &mut [u8], b: &mut [u8])
     mix(0, Code::AND, 0, n, a, b);
 }
 
-// Whether none of the first n rows is 1.
+// 1 from the first 1 on.
+fn seen(found: u8, value: u8) -> u8
+    ensures { λ r. ⌜ r ≡ seenOf found value ⌝ }
+{
+    if value == 1 { 1 } else { found }
+}
+
+// Whether none of the first n rows is 1. (All are looked at: the compiler takes many at a time, which is quicker than to stop.)
 pub fn none_below(a: &[u8], n: usize) -> bool
     requires { ⌜ n ≤ length (now a) ⌝ }
     ensures { λ r. ⌜ r ≡ noneBelow (now (a .entry)) n ⌝ }
 {
-    let mut i = n;
-    while 0 < i {
-        if a[i - 1] == 1 {
-            return false;
-        } else {
-            i -= 1;
-        }
+    let mut found: u8 = 0;
+    let mut i: usize = 0;
+    while i < n {
+        found = seen(found, a[i]);
+        i += 1;
     }
-    true
+    found == 0
 }

@@ -1,16 +1,17 @@
 use Rattle.columns.proofs.Writing.{nones}
 use Prim.Native.Nat.{_≤_, _-_}
 use mathlib.Core.Path.{_≡_}
+use mathlib.Core.Bool.{cond}
 use Rattle.columns.specs.Column.{noneBelow}
 use Rattle.limits.proofs.Auto.{tests}
 use Rattle.columns.proofs.column.none_below.Statement.{statement}
 use Rattle.columns.proofs.column.none_below.Tie as tie
 
 abbrev Inv-loop : tie.InvT-loop
-Inv-loop a n i₀ i = (i ≤ n) × (noneBelow a n ≡ noneBelow a i)
+Inv-loop a n found₀ i₀ found i = (i ≤ n) × (found ≡ cond (noneBelow a i) 0 1)
 
 abbrev μ-loop : tie.MeasureT-loop
-μ-loop a n i₀ i = i
+μ-loop a n found₀ i₀ found i = n - i
 
 pub none-below-spec : {M : Type 1} → statement M
 none-below-spec =
@@ -20,9 +21,8 @@ none-below-spec =
     μ-loop
     (λ c. search (nones, tests))
     (λ c. search (nones, tests))
+    (λ c κs. search (nones, tests))
     (λ c. search (nones, tests))
     (λ c. search (nones, tests))
-    (λ c. search (nones, tests))
-    (λ c. search (nones, tests))
-    (λ c. search (nones, tests))
+    (λ c. (search tests, search (nones, tests)))
     (λ c. search (nones, tests)))
