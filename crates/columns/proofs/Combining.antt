@@ -19,16 +19,11 @@ module _ (R a b : ℕ) where
   unfolding sumOf
   sum-some z = rw (ne-eqb _ _ z)
 
-  -- the usual range
-  pub sum-usual : R ≡ 8 → (a + b) % 8 ≡ sumOf R a b
-  unfolding sumOf
-  sum-usual e = rw e
-
   -- the sum is a byte
   pub sum-small : (R ≡ 0 → ⊥) → R < 256 → (a + b) % R < 256
   sum-small z h = let p : 0 < R = omega arith in let q = mod-lt (a + b) p in omega arith
 
-pub ruleset sums = (sum-none, sum-some, sum-usual, sum-small)
+pub ruleset sums = (sum-none, sum-some, sum-small)
 
 module _ (R c o a b : ℕ) where
   pub combine-const : c ≡ byte Code.const → combine R c o a b ≡ o

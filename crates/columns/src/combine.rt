@@ -1,18 +1,14 @@
 // A node's value from the values of its parts. A test's value is 1 for true.
 use formula::code::Code;
-use limits::Limits;
 ghost use mathlib.Core.Path.{_≡_};
 ghost use Rattle.columns.specs.Combine.{sumOf, combine};
 
-// Modulo the range. (The usual one apart: a division by a constant is quicker.)
+// Modulo the range.
 pub fn sum_of(range: u8, a: u8, b: u8) -> u8
     ensures { λ r. ⌜ r ≡ sumOf range a b ⌝ }
 {
     if range == 0 {
         return 0;
-    }
-    if range == Limits::VALUES as u8 {
-        return (((a as u32) + (b as u32)) % (Limits::VALUES as u32)) as u8;
     }
     (((a as u32) + (b as u32)) % (range as u32)) as u8
 }
