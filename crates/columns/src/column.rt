@@ -1,6 +1,5 @@
 // Columns combined, row by row.
 use crate::block::Block;
-use crate::block::fill;
 use crate::combine::combine_parts;
 use formula::code::Code;
 use limits::Limits;

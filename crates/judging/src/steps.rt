@@ -51,45 +51,20 @@ fn judge_own<'a, 'b, 'c>(
     requires { ⌜ (now ix ≡ indexOf (now s)) × (y ≡ sumsOf z (bodies (now s))) ⌝ }
     ensures { λ q. ⌜ q ≡ ownAt (now (s .entry)) z (asMarks (now (m .entry))) t k r ⌝ }
 {
+    let step = Obligation::Step {
+        thread: t,
+        point: k,
+    };
     let i = instruction_of(s, ix, z, t, k);
     if i.operation == Instruction::BRANCH {
-        let q = judge_next(
-            s,
-            ix,
-            z,
-            y,
-            m,
-            Obligation::Taken {
-                thread: t,
-                point: k,
-            },
-            r,
-        );
-        return judge_next(
-            s,
-            ix,
-            z,
-            y,
-            m,
-            Obligation::Step {
-                thread: t,
-                point: k,
-            },
-            q,
-        );
-    }
-    judge_next(
-        s,
-        ix,
-        z,
-        y,
-        m,
-        Obligation::Step {
+        let taken = Obligation::Taken {
             thread: t,
             point: k,
-        },
-        r,
-    )
+        };
+        let q = judge_next(s, ix, z, y, m, taken, r);
+        return judge_next(s, ix, z, y, m, step, q);
+    }
+    judge_next(s, ix, z, y, m, step, r)
 }
 
 // The instructions of thread t.

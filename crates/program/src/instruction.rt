@@ -58,6 +58,12 @@ pub fn read_instruction(b: &[u8]) -> Instruction
     }
 }
 
+fn three(a: Range, b: Range, formula: Range) -> Fields
+    ensures { λ r. ⌜ r ≡ record { a = a; b = b; formula = formula } ⌝ }
+{
+    Fields { a, b, formula }
+}
+
 // The fields of an operation in a thread with this last point. An unknown operation has no field a that fits.
 pub fn fields_of(operation: u8, last: usize, z: Sizes) -> Fields
     ensures { λ r. ⌜ r ≡ fieldsOf operation last z ⌝ }
@@ -76,40 +82,20 @@ pub fn fields_of(operation: u8, last: usize, z: Sizes) -> Fields
         high: z.formulas as usize,
     };
     if operation == Instruction::ASSIGN {
-        return Fields {
-            a: register,
-            b: unused,
-            formula,
-        };
+        return three(register, unused, formula);
     }
     if operation <= Instruction::ACQUIRE {
-        return Fields {
-            a: register,
-            b: word,
-            formula: unused,
-        };
+        return three(register, word, unused);
     }
     if operation <= Instruction::SWAP {
-        return Fields {
-            a: word,
-            b: unused,
-            formula,
-        };
+        return three(word, unused, formula);
     }
     if operation == Instruction::BRANCH {
         let point = Range { low: 0, high: last };
-        return Fields {
-            a: point,
-            b: unused,
-            formula,
-        };
+        return three(point, unused, formula);
     }
     let nowhere = Range { low: 1, high: 0 };
-    Fields {
-        a: nowhere,
-        b: unused,
-        formula,
-    }
+    three(nowhere, unused, formula)
 }
 
 fn fields_fit(i: Instruction, f: Fields) -> bool
