@@ -1,5 +1,5 @@
 -- A node's value from the values of its parts: the ways through the functions, one law for each.
-use Prim.Native.Nat.{ℕ, _+_, _%_, _≤_, _<_}
+use Prim.Native.Nat.{ℕ, _+_, _%_, _<_}
 use mathlib.Core.Path.{_≡_}
 use mathlib.Core.Bool.{cond}
 use native.Mathlib.Omega.{arith}

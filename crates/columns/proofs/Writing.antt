@@ -1,21 +1,20 @@
 -- Columns written from the first row on: the ways through the functions, one law for each.
-use Prim.Native.Nat.{ℕ, zero, suc, _+_, _-_, _*_, _≤_, _<_}
-use mathlib.Core.Path.{_≡_, refl, ap, ap₂, sym, _∙_}
-use mathlib.Core.List.{List, [], _∷_, _++_}
+use Prim.Native.Nat.{ℕ, _+_, _-_, _*_, _≤_, _<_}
+use mathlib.Core.Path.{_≡_, refl, ap, sym, _∙_}
+use mathlib.Core.List.{List}
 use mathlib.Core.Bool.{Bool, true, false, cond, not}
 use native.Mathlib.Omega.{arith}
 use native.Mathlib.Numerals.{add-one}
-use lib.ListN.{length, getD, set, take, drop, length-set}
+use lib.ListN.{length, getD, set, take, drop}
 use lib.Seq.{take-suc-set, drop-set-lt, drop-drop, getD-drop}
 use lib.Dec.{eqb, ltb}
-use borrow.Author.Tests.{lt-ltb, le-ltb, eq-eqb, ne-eqb}
+use borrow.Author.Tests.{lt-ltb, le-ltb}
 use Rattle.logic.specs.Code
 use Rattle.logic.specs.Code.{byte}
-use Rattle.logic.specs.Rows.{allBelow}
 use Rattle.leaves.specs.Slots.{slots}
 use Rattle.columns.specs.Combine.{combine}
 use Rattle.columns.specs.Column.{rows, column, constant, combined, denied, seenOf, noneBelow, valueIn, rowIn, slotColumn}
-use Rattle.columns.proofs.Listed.{column-none, column-step, column-getD, column-is, column-at, column-same}
+use Rattle.columns.proofs.Listed.{column-none, column-step, column-getD, column-at, column-same}
 use Rattle.columns.proofs.Combining.{combine-not, combine-and}
 
 -- one more value written

@@ -35,7 +35,6 @@ use Rattle.records.specs.Tally.{tallyTo, tally}
 use Rattle.bodies.specs.Use.{startless, plain, outlined, plainOf}
 use Rattle.bodies.specs.Thread.{wanted, sorted, thread}
 use Rattle.bodies.specs.Lists.{outlinedAt, outline}
-use Rattle.image.specs.Decode.{sizesOf}
 use Rattle.content.specs.Formula.{formula}
 use Rattle.content.specs.Program.{instr, pointCount, programOf, outlineBody, outlineNumber, outlineOf}
 use Rattle.content.proofs.Inverse.{unless-passed, also-passed, and-true, within-true, every-at, every-or}

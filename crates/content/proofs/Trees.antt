@@ -1,7 +1,7 @@
 -- What the look-ups find is what a sound image says, as trees.
 use mathlib.Core.Path.{_≡_, refl, ap, ap₂, sym, _∙_, subst, subst₂}
 use mathlib.Core.Bool.{true, true≢false}
-use mathlib.Core.List.{List, [], _∷_, map}
+use mathlib.Core.List.{List, []}
 use Prim.Native.Nat.{ℕ, zero, suc, _-_, _≤_, _<_}
 use native.Mathlib.Omega.{arith}
 use lib.ListN.{length, getD}
@@ -10,7 +10,7 @@ use Rattle.logic.specs.Base.{Within}
 use Rattle.logic.specs.Formula.{Sort, Formula.const}
 use Rattle.logic.specs.Opcode as Opcode
 use Rattle.logic.specs.Machine.{Program}
-use Rattle.limits.specs.Numbers.{within, every}
+use Rattle.limits.specs.Numbers.{within}
 use Rattle.frames.specs.Records.{bodies}
 use Rattle.formula.specs.Codes as Codes
 use Rattle.formula.specs.Reader.{sortOf}
@@ -23,7 +23,7 @@ use Rattle.program.proofs.Laws.Program.{instructions-length}
 use Rattle.records.specs.Places.{instructionOf}
 use Rattle.records.specs.declared.line.Form.{Form}
 use Rattle.records.specs.declared.line.Form.the-variants.{Triple, Implication, Inclusion, Unlisted}
-use Rattle.records.specs.Line.{formOf, premises, nowhere, placed}
+use Rattle.records.specs.Line.{formOf, nowhere, placed}
 use Rattle.bodies.specs.Thread.{wanted, sorted}
 use Rattle.bodies.specs.Line.{sortAt, sortedBy}
 use Rattle.trees.specs.Raw.{raw}

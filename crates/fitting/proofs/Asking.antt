@@ -1,5 +1,5 @@
 -- The ways through what is asked besides, one law for each.
-use mathlib.Core.Path.{_≡_, refl}
+use mathlib.Core.Path.{_≡_}
 use mathlib.Core.Bool.{Bool, true, false, not}
 use mathlib.Core.List.{List, [], _∷_}
 use Prim.Native.Nat.{ℕ, _+_}
@@ -7,7 +7,6 @@ use lib.ListN.{getD}
 use borrow.Author.Tests.{eq-eqb, ne-eqb}
 use Rattle.limits.specs.Limits as Limits
 use Rattle.limits.specs.Limits.{nesting}
-use Rattle.compare.specs.declared.replace.Substitution.{Substitution}
 use Rattle.compare.specs.declared.replace.Replacing.the-variants.{Formula, Word}
 use Rattle.occurs.specs.Occurs.{occurs, wordAnyRole}
 use Rattle.rows.specs.Rows.{rowsT, tableT, lineOf, premisesOf}

@@ -1,16 +1,15 @@
 -- What a line of a sound image claims, by positions, is what it says in the logic.
-use mathlib.Core.Path.{_≡_, refl, ap, sym, _∙_, subst}
-use mathlib.Core.Bool.{Bool, true, false, not, _||_, _&&_, true≢false}
+use mathlib.Core.Path.{_≡_, refl, ap, sym, _∙_}
+use mathlib.Core.Bool.{Bool, true, false, not, _||_, true≢false}
 use mathlib.Core.List.{List}
-use Prim.Native.Nat.{ℕ, _≤_, _<_}
+use Prim.Native.Nat.{ℕ, _≤_}
 use native.Mathlib.Omega.{arith}
-use lib.Dec.{T, eqb, ltb, eqb→eq}
+use lib.Dec.{eqb, ltb}
 use lib.ListN.{getD}
 use borrow.Author.Tests.{eqb-true, ltb-true, ltb-false, lt-leb, le-ltb}
 use Rattle.logic.specs.Base.{Within}
 use Rattle.logic.specs.Obligations.{below}
-use Rattle.logic.specs.Rules.{Rule, row}
-use Rattle.logic.proofs.Base.{and-left}
+use Rattle.logic.specs.Rules.{row}
 use Rattle.limits.specs.Numbers.{every}
 use Rattle.frames.specs.Records.{bodies}
 use Rattle.program.specs.declared.sizes.Sizes.{Sizes}
@@ -28,8 +27,7 @@ use Rattle.content.proofs.Lines.{numbers-passed}
 use Rattle.content.proofs.Rule.{by-number, rule-form}
 use Rattle.content.proofs.Trees.{line-is}
 use Rattle.rulebook.specs.Rulebook.{ruleRow}
-use Rattle.rulebook.specs.Listed.{numberOf, listedRight}
-use Rattle.rulebook.proofs.Table.{listed-right}
+use Rattle.rulebook.specs.Listed.{numberOf}
 use Rattle.fitting.specs.Claim.{saidAt}
 use Rattle.fitting.specs.LineClaim.{claimBy, lineAt, claimOf}
 use Rattle.fitting.proofs.Row.{row-form}

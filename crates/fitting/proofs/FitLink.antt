@@ -3,14 +3,14 @@ use mathlib.Core.Path.{_≡_, refl, ap, ap₂, sym, _∙_, subst, subst₂}
 use mathlib.Core.Bool.{Bool, true, false, not, cond, _&&_, _||_}
 use mathlib.Core.List.{List, [], _∷_, map}
 use mathlib.Core.Option.{Option, none, some}
-use Prim.Native.Nat.{ℕ, zero, suc, _+_, _≤_, _<_}
+use Prim.Native.Nat.{ℕ, zero, suc, _+_, _≤_}
 use native.Mathlib.Omega.{arith}
-use lib.Dec.{eqb, ltb, leb}
+use lib.Dec.{eqb, leb}
 use lib.ListN.{length}
 use borrow.Author.Tests.{eqb-true, eqb-false, eq-eqb, ne-eqb, lt-ltb}
 use Rattle.logic.specs.Base.{all}
 use Rattle.logic.specs.Opcode
-use Rattle.logic.specs.Rules.{Rule, Shape, Premises, these, implications, Row, row}
+use Rattle.logic.specs.Rules.{Rule, Shape, Premises, these, implications, row}
 use Rattle.logic.specs.Fits.{isAmong}
 use Rattle.limits.specs.Limits as Limits
 use Rattle.formula.specs.Codes.{member}
@@ -21,12 +21,12 @@ use Rattle.matcher.specs.declared.bind.Bind.{Bind}
 use Rattle.matcher.specs.declared.whole.Whole.{Whole}
 use Rattle.matcher.proofs.Follow.{Sized, given, when-given}
 use Rattle.certificate.specs.FitT as FitT
-use Rattle.certificate.specs.FitT.{Said, hoare, implication, formOf, matchLine, matchAll, isImplication, preset, holesFrom, sideT, operationT, restT, answer, fitsT}
+use Rattle.certificate.specs.FitT.{Said, hoare, implication, formOf, matchLine, matchAll, isImplication, preset, operationT, restT, answer, fitsT}
 use Rattle.content.specs.Trees.{actingAt}
 use Rattle.content.specs.declared.line.Line.{Line}
 use Rattle.content.specs.declared.acting.Acting.{Acting}
 use Rattle.rulebook.specs.Rulebook.{anyImplications, ruleRow, templates}
-use Rattle.rulebook.specs.Listed.{numberOf, packed, premiseCount, allows, sideNumber}
+use Rattle.rulebook.specs.Listed.{numberOf, packed, premiseCount, allows}
 use Rattle.rulebook.specs.declared.rule.Rule as Code
 use Rattle.fitting.specs.Claim.{saidAt, claimAt, claimsFrom, matchClaim, matchFrom}
 use Rattle.fitting.specs.LineClaim.{claimBy}
@@ -36,7 +36,7 @@ use Rattle.fitting.specs.Asked.{asked}
 use Rattle.fitting.specs.Fit.{isAllowed, restAt, lineMatch, fitsRow}
 use Rattle.fitting.specs.declared.claim.Claim.{Claim}
 use Rattle.fitting.specs.declared.claim.Premises as Claims
-use Rattle.fitting.proofs.Follow.{StandAll, behind, ClaimFollows, claim-follows, from-follows}
+use Rattle.fitting.proofs.Follow.{StandAll, ClaimFollows, claim-follows, from-follows}
 use Rattle.fitting.proofs.Known.{preset-sized, preset-taken}
 use Rattle.fitting.proofs.Row.{row-form, row-premises, row-few, row-forms, row-side, row-stands, row-operations}
 use Rattle.fitting.proofs.SidesLink.{startOf, sides-are}

@@ -1,10 +1,10 @@
 -- A line of a sound image fits by positions exactly if it fits its rule in the logic.
-use mathlib.Core.Path.{_≡_, refl, ap, ap₂, sym, _∙_, subst, subst₂}
+use mathlib.Core.Path.{_≡_, refl, ap, ap₂, sym, _∙_, subst}
 use mathlib.Core.Bool.{Bool, true, false}
 use mathlib.Core.List.{List, [], _∷_, map}
-use Prim.Native.Nat.{ℕ, zero, suc, _-_, _≤_, _<_}
+use Prim.Native.Nat.{ℕ, _-_, _≤_}
 use native.Mathlib.Omega.{arith}
-use lib.ListN.{length, getD}
+use lib.ListN.{length}
 use Rattle.logic.specs.Base.{Within}
 use Rattle.logic.specs.Opcode
 use Rattle.logic.specs.Machine.{Program, Mode.store, Mode.swap, Action.assign, Action.load, Action.write, Instr, Instr.act, Instr.branch}
@@ -15,13 +15,12 @@ use Rattle.limits.specs.Numbers.{within, every}
 use Rattle.frames.specs.Records.{bodies}
 use Rattle.program.specs.declared.sizes.Sizes.{Sizes}
 use Rattle.records.specs.Line.{premises}
-use Rattle.records.specs.Places.{instructionOf}
 use Rattle.certificate.specs.FitT as FitT
 use Rattle.certificate.specs.FitT.{Said, said, acting, fitsT}
 use Rattle.certificate.specs.Lines.{Certificate, lineFits}
 use Rattle.certificate.proofs.FitT.{bridge}
 use Rattle.content.specs.Certificate.{lineBody, certificateOf}
-use Rattle.content.specs.Places.{lineIn, actingOf}
+use Rattle.content.specs.Places.{lineIn}
 use Rattle.content.specs.Program.{programOf}
 use Rattle.content.specs.Rule.{ruleOf}
 use Rattle.content.specs.Trees.{actingAt}
@@ -36,7 +35,6 @@ use Rattle.fitting.specs.Claim.{saidAt, claimAt, claimsFrom}
 use Rattle.fitting.specs.LineClaim.{claimBy, lineAt, claimOf}
 use Rattle.fitting.specs.Premises.{premiseClaim, premisesOf}
 use Rattle.fitting.specs.Fit.{actingIn, fitsLine}
-use Rattle.fitting.specs.declared.claim.Claim.{Claim}
 use Rattle.fitting.specs.declared.claim.Premises as Claims
 use Rattle.fitting.proofs.Claimed.{rule-number, line-listed, claim-said}
 use Rattle.fitting.proofs.SidesLink.{startOf}

@@ -1,5 +1,5 @@
 -- The ways through the look-ups of claims, one law for each.
-use mathlib.Core.Path.{_≡_, refl}
+use mathlib.Core.Path.{_≡_}
 use mathlib.Core.List.{List}
 use Prim.Native.Nat.{ℕ}
 use Rattle.frames.specs.Records.{bodies}

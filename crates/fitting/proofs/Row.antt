@@ -14,14 +14,14 @@ use Rattle.logic.specs.Opcode
 use Rattle.logic.proofs.Base.{and-left, and-right}
 use Rattle.limits.specs.Limits as Limits
 use Rattle.limits.specs.Limits.{nesting}
-use Rattle.formula.specs.Tree.{Tree, skim}
+use Rattle.formula.specs.Tree.{skim}
 use Rattle.compare.specs.Same.{sameTree}
 use Rattle.trees.proofs.Raw.{tree-eq}
 use Rattle.matcher.specs.Template.{shapes}
 use Rattle.matcher.specs.Places.{proper}
 use Rattle.certificate.specs.FitT.{formOf, leftOf, rightOf}
 use Rattle.rulebook.specs.Rulebook.{ruleRow, templates}
-use Rattle.rulebook.specs.Listed.{numberOf, trees, standAt, packed, premiseCount, premisesRight, allows, sameBit, operations, sideNumber, listedRight}
+use Rattle.rulebook.specs.Listed.{numberOf, trees, standAt, packed, premiseCount, premisesRight, allows, sameBit, operations, sideNumber}
 use Rattle.rulebook.proofs.Table.{listed-right}
 use Rattle.fitting.proofs.Follow.{StandAll}
 

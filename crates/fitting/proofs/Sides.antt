@@ -13,7 +13,7 @@ use Rattle.limits.specs.Numbers.{nth}
 use Rattle.formula.specs.Codes.{partCount}
 use Rattle.formula.specs.Tree.{Tree, skim}
 use Rattle.compare.specs.Same.{sameTree, sameOf}
-use Rattle.compare.specs.Replace.{replaceT, oneName, leafOnly, standsFor, replacedOf}
+use Rattle.compare.specs.Replace.{leafOnly, standsFor, replacedOf}
 use Rattle.compare.specs.declared.same.Same.{Same}
 use Rattle.compare.specs.declared.same.Same.the-variants.{Yes, No}
 use Rattle.compare.specs.declared.replace.Substitution.{Substitution}

@@ -1,9 +1,9 @@
 -- What is asked by number, of holes by position, is what the logic's rows ask of trees.
 use mathlib.Core.Path.{_≡_, refl, ap, ap₂, sym, _∙_, subst}
 use mathlib.Core.Bool.{Bool, true, false, not, cond, _&&_, _||_}
-use mathlib.Core.List.{List, [], _∷_, map}
+use mathlib.Core.List.{List, [], map}
 use mathlib.Core.Option.{none, some}
-use Prim.Native.Nat.{ℕ, zero, suc, _+_, _-_, _≤_, _<_}
+use Prim.Native.Nat.{ℕ, zero, suc, _-_, _≤_}
 use native.Mathlib.Omega.{arith}
 use lib.Dec.{T, eqb}
 use lib.ListN.{getD}
@@ -18,12 +18,10 @@ use Rattle.limits.specs.Limits.{nesting}
 use Rattle.limits.specs.Numbers.{nth}
 use Rattle.formula.specs.Tree.{Tree, Tree.node, skim}
 use Rattle.compare.specs.Same.{sameTree}
-use Rattle.compare.specs.Replace.{replaceT, oneName, standsFor}
-use Rattle.compare.specs.declared.replace.Substitution.{Substitution}
-use Rattle.compare.specs.declared.replace.Replacing.the-variants.{Formula, Word}
+use Rattle.compare.specs.Replace.{replaceT, oneName}
 use Rattle.occurs.specs.Occurs.{occurs, register, wordAnyRole, flag}
 use Rattle.trees.proofs.Raw.{tree-eq, tree-refl}
-use Rattle.rows.specs.Claim.{ImpT, impOf, impsFrom, premisesFrom}
+use Rattle.rows.specs.Claim.{impOf, impsFrom, premisesFrom}
 use Rattle.rows.specs.Rows.{rowsT, tableT, lineOf, premisesOf}
 use Rattle.frames.specs.Records.{bodies}
 use Rattle.program.specs.Header.{startValues}
@@ -34,7 +32,7 @@ use Rattle.certificate.specs.FitT.{Said, holesFrom, orElse, keepsT, sideT}
 use Rattle.content.specs.Trees.{actingAt}
 use Rattle.content.specs.declared.acting.Acting.{Acting}
 use Rattle.rulebook.specs.Listed.{sideNumber}
-use Rattle.fitting.specs.Claim.{saidAt, claimAt, claimsFrom}
+use Rattle.fitting.specs.Claim.{saidAt, claimsFrom}
 use Rattle.fitting.specs.Side.{holeOf, numberIn, treeOf, keeps, isWith, storedBy, isStart}
 use Rattle.fitting.specs.Asked.{assignedBy, loadedBy, ofInstruction, implicationsOf, ofNames, asked}
 use Rattle.fitting.specs.declared.claim.Claim.{Claim}

@@ -6,7 +6,6 @@ use lib.Dec.{eqb}
 use lib.ListN.{getD}
 use Rattle.limits.specs.Limits as Limits
 use Rattle.limits.specs.Limits.{nesting}
-use Rattle.compare.specs.declared.replace.Substitution.{Substitution}
 use Rattle.compare.specs.declared.replace.Replacing.the-variants.{Formula, Word}
 use Rattle.occurs.specs.Occurs.{occurs, wordAnyRole}
 use Rattle.rows.specs.Rows.{rowsT, tableT, lineOf, premisesOf}

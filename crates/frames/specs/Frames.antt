@@ -1,5 +1,5 @@
 -- The whole image and its record frames: codes 2, 3 and 4.
-use mathlib.Core.Bool.{Bool, true, false, cond}
+use mathlib.Core.Bool.{cond}
 use mathlib.Core.List.{List, [], _∷_}
 use Prim.Native.Nat.{ℕ, zero, suc, _+_, _-_}
 use lib.Dec.{eqb, ltb}
@@ -8,7 +8,6 @@ use Rattle.limits.specs.Limits as Limits
 use Rattle.limits.specs.Numbers.{word, has}
 use Rattle.frames.specs.Kinds as Kinds
 use Rattle.frames.specs.Kinds.{most}
-use Rattle.frames.specs.declared.fault.Fault.{Fault}
 use Rattle.frames.specs.declared.fault.Fault.the-variants.{Size, Length, Kind}
 use Rattle.frames.specs.declared.fault.Checked.{Checked}
 use Rattle.frames.specs.declared.fault.Checked.the-variants.{Passed, Faulty}

@@ -1,5 +1,5 @@
 -- The kinds of records, in the order in which they come, and how many there may be of each.
-use mathlib.Core.List.{List, [], _∷_}
+use mathlib.Core.List.{[], _∷_}
 use Prim.Native.Nat.{ℕ}
 use lib.ListN.{getD}
 use Rattle.limits.specs.Limits as Limits

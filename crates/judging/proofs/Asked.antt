@@ -39,7 +39,6 @@ use Rattle.content.proofs.Instr.{branch-is, branch-read}
 use Rattle.content.proofs.Checked.{Checks}
 use Rattle.content.proofs.Program.{points-few, well-formed}
 use Rattle.content.proofs.Trees.{outline-is, test-is}
-use Rattle.fitting.specs.Claim.{saidAt}
 use Rattle.fitting.specs.LineClaim.{claimOf}
 use Rattle.fitting.proofs.Claimed.{claim-said}
 use Rattle.judging.specs.Wanted.{nextPoint, assertedAt, wantedStart, wantedAction, wantedNext, wantedStep, wantedTarget, wantedKept, wantedAt}

@@ -23,9 +23,8 @@ use Rattle.content.proofs.Checked.{Checks}
 use Rattle.content.proofs.Lines.{premise-count}
 use Rattle.rulebook.specs.Rulebook.{templates}
 use Rattle.fitting.specs.LineClaim.{lineAt}
-use Rattle.fitting.specs.Fit.{fitsLine}
 use Rattle.fitting.proofs.Fitted.{fits-is}
-use Rattle.marks.specs.Marks.{noMarks, isMarked, withMark}
+use Rattle.marks.specs.Marks.{isMarked, withMark}
 use Rattle.marks.specs.declared.Marks.{Marks}
 use Rattle.marks.proofs.Marked.{none-marked, none-length, with-length, marked-same, marked-other}
 use Rattle.justify.specs.Pass.{premisesMarked, isJustified, marksTo}

@@ -1,19 +1,18 @@
 -- Rows counted: the ways through the count, one law for each.
 use Prim.Native.Nat.{ℕ, zero, suc, _+_, _-_, _*_, _^_, _≤_, _<_}
-use mathlib.Core.Path.{_≡_, refl, ap, ap₂, sym, _∙_}
-use mathlib.Core.List.{List, [], _∷_}
+use mathlib.Core.Path.{_≡_, refl, ap, _∙_}
+use mathlib.Core.List.{List, _∷_}
 use mathlib.Core.Bool.{Bool, true, false}
 use native.Mathlib.Omega.{arith}
-use native.Mathlib.Nat.{mul-le-mul, mul-le-mul-left, one-mul}
-use lib.ListN.{getD}
-use lib.Dec.{ltb, eqb}
-use borrow.Author.Tests.{lt-ltb, le-ltb, eq-eqb, ne-eqb, eqb-true, eqb-false, ltb-true, ltb-false}
+use native.Mathlib.Nat.{mul-le-mul, one-mul}
+use lib.Dec.{ltb}
+use borrow.Author.Tests.{lt-ltb, le-ltb, eq-eqb, ne-eqb, ltb-true, ltb-false}
 use Rattle.logic.specs.Rows.{rowCount}
-use Rattle.formula.specs.Tree.{Tree, none, node, nodeAt, skim}
+use Rattle.formula.specs.Tree.{Tree, node, nodeAt}
 use Rattle.formula.specs.declared.node.Node.{Node}
 use Rattle.formula.proofs.Nodes.{skim-step}
 use Rattle.compare.specs.Same.{sameTree}
-use Rattle.leaves.specs.Slots.{slots, slotTree, numbers, slotAt, kept}
+use Rattle.leaves.specs.Slots.{slotTree, numbers, slotAt, kept}
 use Rattle.leaves.specs.Count.{choicesBy, choicesT, capped, rowsUpTo}
 use Rattle.leaves.specs.declared.slot.Slot.{Slot}
 

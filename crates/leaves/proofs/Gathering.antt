@@ -6,11 +6,11 @@ use mathlib.Core.Bool.{Bool, true, false, _||_, cond}
 use native.Mathlib.Omega.{arith}
 use lib.ListN.{length, getD, set, length-set}
 use lib.Seq.{getD-set-same, getD-set-other}
-use lib.Dec.{ltb, eqb}
-use borrow.Author.Tests.{lt-ltb, le-ltb, eq-eqb, ne-eqb, ltb-true, ltb-false}
+use lib.Dec.{ltb}
+use borrow.Author.Tests.{lt-ltb, le-ltb, ltb-true, ltb-false}
 use Rattle.logic.specs.Rows.{isIn}
 use Rattle.formula.specs.Codes.{member}
-use Rattle.formula.specs.Tree.{Tree, none, node, nodeAt, skim, grow, part, Skim}
+use Rattle.formula.specs.Tree.{Tree, none, node, nodeAt, skim, Skim}
 use Rattle.formula.specs.declared.node.Node.{Node}
 use Rattle.formula.proofs.Nodes.{skim-zero, skim-step}
 use Rattle.formula.proofs.Auto.{lower}

@@ -1,7 +1,7 @@
 -- Rows counted.
-use Prim.Native.Nat.{ℕ, zero, suc, _+_, _*_}
-use mathlib.Core.List.{List, [], _∷_}
-use mathlib.Core.Bool.{Bool, true, false, cond}
+use Prim.Native.Nat.{ℕ, _+_, _*_}
+use mathlib.Core.List.{List}
+use mathlib.Core.Bool.{true, false, cond}
 use lib.Dec.{eqb, ltb}
 use Rattle.logic.specs.Code
 use Rattle.logic.specs.Code.{byte}

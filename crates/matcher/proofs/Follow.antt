@@ -13,19 +13,17 @@ use borrow.Author.Tests.{lt-ltb, le-ltb, le-leb, lt-leb, eq-eqb, ne-eqb, eqb-tru
 use Rattle.logic.specs.Base.{upd}
 use Rattle.logic.specs.Code.{Code, byte}
 use Rattle.logic.proofs.Base.{upd-same, upd-other, by-word, and-left, and-right, holds-true}
-use Rattle.formula.specs.Codes.{among, onePart, twoParts, operandCodes, hasOperand, partCount}
+use Rattle.formula.specs.Codes.{among, onePart, twoParts, hasOperand, partCount}
 use Rattle.formula.specs.Tree.{Tree, Tree.node, Skim, part, nodeAt, skim}
 use Rattle.formula.specs.declared.node.Node.{Node}
 use Rattle.formula.proofs.Nodes.{skim-zero, skim-step, parts-of}
 use Rattle.compare.specs.Same.{sameTree, sameOf}
-use Rattle.compare.specs.declared.same.Same.the-variants.{Yes, No}
 use Rattle.trees.proofs.Raw.{tree-refl}
 use Rattle.matcher.specs.Template.{firstHole, firstNumber}
 use Rattle.matcher.specs.Match as Trees
 use Rattle.matcher.specs.Match.{andThen, when, takeTree, takeNum, takeOperand, isNode, matchT}
 use Rattle.matcher.specs.Places.{holeCount, refused, opened, heldAt, isThere, holeAt, operandOf, rooted, nodeOf, rootAt, grown, matchAt, takenOf, proper}
 use Rattle.matcher.specs.declared.bind.Bind.{Bind}
-use Rattle.matcher.specs.declared.bind.Root.{Root}
 use Rattle.matcher.specs.declared.bind.Taken.{Taken}
 use Rattle.matcher.specs.declared.matching.Match.{Match}
 use Rattle.matcher.proofs.Ways.{part-small}

@@ -1,14 +1,12 @@
 -- The matcher finds a filling exactly if there is one that has what was taken before.
-use mathlib.Core.Path.{_≡_, refl, ap, ap₂, sym, _∙_, subst}
-use mathlib.Core.Bool.{Bool, true, false, cond, true≢false}
+use mathlib.Core.Path.{_≡_, refl, sym, _∙_, subst}
+use mathlib.Core.Bool.{Bool, true, false}
 use mathlib.Core.Option.{Option, none, some}
-use mathlib.Core.Logic.{_≢_}
 use Prim.Native.Nat.{ℕ, _-_}
 use native.Mathlib.Omega.{arith}
 use lib.Dec.{T, eqb, ltb, leb, eqb→eq, eqb-refl}
-use borrow.Author.Tests.{eqb-true, eqb-false, eq-eqb}
 use Rattle.logic.specs.Base.{upd}
-use Rattle.logic.proofs.Base.{upd-same, upd-other, by-word, is-true}
+use Rattle.logic.proofs.Base.{upd-same, upd-other, by-word}
 use Rattle.formula.specs.Tree.{Tree, Tree.node}
 use Rattle.compare.specs.Same.{sameTree}
 use Rattle.matcher.specs.Template.{firstHole, firstNumber, Holes, operandT, instT}

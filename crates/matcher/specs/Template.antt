@@ -1,6 +1,6 @@
 -- Patterns as the code has them: trees, and bytes in prefix form, with holes. A code from 64 on is a hole for a formula;
 -- an operand below 8 is a hole for a number, and 8 + n is the number n.
-use mathlib.Core.Bool.{Bool, true, false}
+use mathlib.Core.Bool.{true, false}
 use mathlib.Core.List.{List, [], _∷_}
 use Prim.Native.Nat.{ℕ, _+_, _-_}
 use lib.Dec.{ltb, leb}
@@ -8,7 +8,7 @@ use Rattle.logic.specs.Code
 use Rattle.logic.specs.Code.{byte}
 use Rattle.logic.specs.Formula.{Sort}
 use Rattle.logic.specs.Pattern.{Num, Pattern, Fill, t, x, r, u, y, anyA, anyI, anyE, anyV, f, const, reg, word, equal, and, unsync, cov, box, one, chop, both, either, sees, bothA, eitherA, start, holds}
-use Rattle.logic.specs.Rules.{Rule, Shape, Shape.inside, Shape.implies, Shape.triple, Premises, these, implications, Row, row}
+use Rattle.logic.specs.Rules.{Rule, Shape, Shape.inside, Shape.implies, Shape.triple, Premises, these, implications, row}
 use Rattle.formula.specs.Codes.{hasOperand}
 use Rattle.formula.specs.Tree.{Tree, none, node}
 use Rattle.trees.specs.Raw.{shaped}

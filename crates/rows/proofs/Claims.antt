@@ -1,5 +1,5 @@
 -- What is claimed of a row: the ways through the functions, one law for each.
-use Prim.Native.Nat.{ℕ, zero, suc, _+_, _-_, _≤_, _<_}
+use Prim.Native.Nat.{ℕ, suc, _+_, _-_, _≤_, _<_}
 use mathlib.Core.Path.{_≡_, refl, ap, ap₂, sym, _∙_}
 use mathlib.Core.List.{List, [], _∷_}
 use mathlib.Core.Bool.{Bool, true, false, not, cond}
@@ -7,8 +7,7 @@ use native.Mathlib.Omega.{arith}
 use lib.ListN.{getD, take}
 use lib.Dec.{eqb}
 use Rattle.limits.proofs.Numbers.{byte-past}
-use Rattle.formula.specs.Tree.{Tree, skim}
-use Rattle.leaves.specs.Slots.{kept}
+use Rattle.formula.specs.Tree.{skim}
 use Rattle.leaves.specs.Gather.{Gathered, keys, view, gatherT}
 use Rattle.leaves.proofs.Gathering.{kept-none}
 use Rattle.columns.specs.Column.{rowIn, denied}

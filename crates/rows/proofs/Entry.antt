@@ -1,19 +1,17 @@
 -- By rows and by truth table: the ways through the entry points, one law for each.
-use Prim.Native.Nat.{ℕ, zero, suc, _-_, _^_, _≤_, _<_}
-use mathlib.Core.Path.{_≡_, refl, ap, sym, _∙_}
+use Prim.Native.Nat.{ℕ, _-_, _≤_, _<_}
+use mathlib.Core.Path.{_≡_, refl, ap, _∙_}
 use mathlib.Core.List.{List, [], _∷_}
-use mathlib.Core.Bool.{Bool, true, false}
+use mathlib.Core.Bool.{Bool, false}
 use native.Mathlib.Omega.{arith}
-use lib.Dec.{ltb}
 use borrow.Author.Tests.{lt-ltb, le-ltb}
 use Rattle.logic.specs.Rows.{distinct}
 use Rattle.logic.specs.Limits
-use Rattle.formula.specs.Codes.{setOf}
 use Rattle.limits.specs.Limits.{nesting}
 use Rattle.formula.specs.Tree.{Tree, skim}
 use Rattle.compare.specs.Same.{sameTree}
-use Rattle.leaves.specs.Gather.{Gathered, keys}
-use Rattle.rows.specs.Claim.{ImpT, leavesAll, impOf, impsFrom, premisesFrom, gatherImp, gatherImps, gatherAll}
+use Rattle.leaves.specs.Gather.{Gathered}
+use Rattle.rows.specs.Claim.{leavesAll, impOf, impsFrom, premisesFrom, gatherImps, gatherAll}
 use Rattle.rows.specs.Every.{everyT, everyBy, everyOf}
 use Rattle.rows.specs.Rows.{byNames, rowsT, byClaims, tableT, lineOf, premisesOf}
 use Rattle.rows.specs.declared.value.Reading.{Reading}

@@ -13,13 +13,13 @@ use Rattle.logic.specs.Base.{all}
 use Rattle.logic.specs.Code
 use Rattle.logic.specs.Code.{byte}
 use Rattle.logic.specs.Eval.{Env, value, test}
-use Rattle.logic.specs.Formula.{Sort, Formula, Value, Test, Assertion, same, Formula.const, Formula.reg, Formula.word, Formula.sum, Formula.equal, Formula.less, Formula.and, Formula.or, Formula.unsync, Formula.cov, Formula.sees, Formula.bothA, Formula.eitherA, Formula.start, Formula.holds}
+use Rattle.logic.specs.Formula.{Formula, Value, Test, Assertion, Formula.const, Formula.reg, Formula.word, Formula.sum, Formula.equal, Formula.less, Formula.and, Formula.or, Formula.unsync, Formula.cov, Formula.sees, Formula.bothA, Formula.eitherA, Formula.start, Formula.holds}
 use Rattle.logic.specs.Limits
 use Rattle.logic.specs.Names.{Name, n-reg, n-word, n-unsync, n-cov, Name-discrete, names}
 use Rattle.logic.specs.Rows.{choose, isIn, distinct, allBelow, allRows, rowCount, everyRow, same-name, meaning, choices, byRows}
 use Rattle.logic.specs.Table
 use Rattle.logic.specs.Table.{Imp, Leaf, l-assertion, l-test, same-leaf, inRow, impRow, byTable}
-use Rattle.logic.proofs.Base.{bool-ext, is-true}
+use Rattle.logic.proofs.Base.{bool-ext}
 use Rattle.formula.specs.Codes.{member}
 use Rattle.formula.specs.Tree.{Tree, none, node}
 use Rattle.compare.specs.Same.{sameTree}
@@ -30,7 +30,6 @@ use Rattle.leaves.specs.Count.{choicesBy, choicesT}
 use Rattle.columns.specs.Combine.{sumOf, combine}
 use Rattle.rows.specs.Value.{valueT}
 use Rattle.rows.specs.Claim.{ImpT, impT, claimT, leavesAll}
-use Rattle.rows.specs.Every.{everyT}
 use Rattle.rows.specs.Rows.{byNames, rowsT, byClaims, tableT}
 
 map-join : {A B : Type 0} (g : A → B) (l m : List A) → map g (l ++ m) ≡ map g l ++ map g m

@@ -5,7 +5,7 @@ use mathlib.Core.List.{List, [], _∷_}
 use mathlib.Core.Bool.{Bool, true, false, cond, not, _&&_, _||_}
 use native.Mathlib.Omega.{arith}
 use native.Mathlib.Nat.{mul-assoc, suc-mul, zero-mul, one-mul, mul-one, add-suc, mul-add-div-right, div-lt-iff-lt-mul, mul-add-mod-self-right, mod-eq-of-lt}
-use lib.ListN.{length, getD, set, length-set}
+use lib.ListN.{length, set, length-set}
 use lib.Seq.{getD-set-same, getD-set-other, set-comm}
 use lib.Dec.{eqb, ltb}
 use borrow.Author.Tests.{lt-ltb}

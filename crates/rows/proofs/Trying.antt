@@ -1,36 +1,35 @@
 -- Every row tried: the ways through the functions, one law for each.
 use Prim.Native.Nat.{ℕ, zero, suc, _+_, _-_, _*_, _/_, _%_, _≤_, _<_}
 use mathlib.Core.Path.{_≡_, refl, ap, ap₂, sym, _∙_, fun-ext}
-use mathlib.Core.List.{List, [], _∷_}
-use mathlib.Core.Bool.{Bool, true, false, cond, not, _&&_}
+use mathlib.Core.List.{List, []}
+use mathlib.Core.Bool.{Bool, true, false, cond, not}
 use native.Mathlib.Omega.{arith}
 use native.Mathlib.Numerals.{add-one}
 use native.Mathlib.Nat.{one-mul}
 use lib.ListN.{length, getD, set, take, replicate}
 use lib.Seq.{ext-getD}
-use lib.Dec.{eqb, leb, ltb}
+use lib.Dec.{eqb, ltb}
 use mir.Val.{Fits}
 use mir.Syntax.{w64}
 use borrow.Author.Needs.{fits-under}
-use borrow.Author.Tests.{le-leb, lt-leb, lt-ltb, le-ltb, ltb-true, ltb-false}
+use borrow.Author.Tests.{le-leb, lt-leb, ltb-true, ltb-false}
 use Rattle.logic.specs.Rows.{allBelow, allRows, rowCount}
-use Rattle.formula.specs.Tree.{Tree}
 use Rattle.compare.specs.Same.{sameTree}
 use Rattle.leaves.specs.Slots.{slots, slotTree, numbers, slotAt, slotFrom, kept}
-use Rattle.leaves.specs.Gather.{Gathered, many, keys, view}
+use Rattle.leaves.specs.Gather.{many, view}
 use Rattle.leaves.specs.Count.{choicesT, capped, rowsUpTo}
 use Rattle.leaves.specs.declared.slot.Slot.{Slot}
 use Rattle.leaves.proofs.Gathering.{view-keys, view-many}
 use Rattle.columns.specs.Column.{rows, column, noneBelow, valueIn, rowIn}
 use Rattle.columns.specs.Digits.{numbered, divided, columnSet}
-use Rattle.columns.proofs.Listed.{column-length, column-getD, column-is, column-at, column-same}
+use Rattle.columns.proofs.Listed.{column-length, column-getD, column-at, column-same}
 use Rattle.columns.proofs.Numbering.{row-set}
-use Rattle.rows.specs.Claim.{ImpT, claimT, impOf, premisesFrom, impAt, allAt, claimAt, failsFrom, gatherAll}
-use Rattle.rows.specs.Every.{quotientOf, rowWith, blockRows, numberedRows, rowsHold, blockSize, everyBy, everyOf}
+use Rattle.rows.specs.Claim.{claimT, impOf, premisesFrom, impAt, allAt, claimAt, failsFrom, gatherAll}
+use Rattle.rows.specs.Every.{quotientOf, rowWith, blockRows, numberedRows, rowsHold, blockSize, everyOf}
 use Rattle.rows.specs.declared.value.Reading.{Reading}
 use Rattle.rows.specs.declared.claim.Task.{Task}
 use Rattle.rows.proofs.Distinct.{choices-two}
-use Rattle.rows.proofs.Numbered.{below-same, below-split, quotient-step, row-step, row-none, rows-numbered}
+use Rattle.rows.proofs.Numbered.{below-same, below-split, rows-numbered}
 
 -- the numbers of n rows behind the digits of the first j slots
 unfoldable pub quotients : List ℕ → List ℕ → ℕ → ℕ → ℕ → ℕ → List ℕ

@@ -1,11 +1,10 @@
 -- Every row.
 use Prim.Native.Nat.{ℕ, zero, suc, _+_, _/_, _%_}
-use mathlib.Core.List.{List, [], _∷_}
+use mathlib.Core.List.{List, _∷_}
 use mathlib.Core.Bool.{Bool, true, false, cond, _&&_}
 use lib.ListN.{set, replicate}
 use lib.Dec.{leb, ltb}
 use Rattle.logic.specs.Rows.{allBelow, allRows, everyRow, rowCount, distinct}
-use Rattle.formula.specs.Tree.{Tree}
 use Rattle.compare.specs.Same.{sameTree}
 use Rattle.leaves.specs.Slots.{slots, slotAt}
 use Rattle.leaves.specs.Gather.{Gathered, many, keys}

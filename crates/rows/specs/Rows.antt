@@ -2,7 +2,6 @@
 use Prim.Native.Nat.{ℕ, _-_, _^_}
 use mathlib.Core.List.{List, [], _∷_}
 use mathlib.Core.Bool.{Bool, true, false, cond}
-use lib.ListN.{getD}
 use lib.Dec.{ltb}
 use Rattle.logic.specs.Code
 use Rattle.logic.specs.Code.{Code}

@@ -1,6 +1,6 @@
 -- The bodies first to last, behind the frames.
 use Prim.Native.Nat.{ℕ, zero, suc, _+_, _-_, _≤_, _<_}
-use mathlib.Core.Path.{_≡_, ap, sym, _∙_}
+use mathlib.Core.Path.{_≡_, sym, _∙_}
 use mathlib.Core.List.{List, []}
 use native.Mathlib.Numerals.{sub-one}
 use native.Mathlib.Nat.{add-zero}
