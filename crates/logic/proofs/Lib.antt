@@ -20,4 +20,9 @@ pub mod Sound
 pub mod Runs
 pub mod Fit
 pub mod Rules
+pub mod Permitted
 pub mod Computed
+pub mod Flags
+pub mod Meaning
+pub mod Facts
+pub mod Effects
