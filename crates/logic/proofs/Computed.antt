@@ -7,7 +7,7 @@ use Prim.Native.Nat.{ℕ, zero, suc}
 use Rattle.logic.specs.Base.{upd}
 use Rattle.logic.specs.Limits
 use Rattle.logic.specs.Formula.{Formula.const, Formula.reg, Formula.sum, Formula.equal}
-use Rattle.logic.specs.Machine.{View, Write, State, Program, Mode.store, Mode.swap, Action.assign, Action.load, Action.write, Instr, Instr.act, Instr.branch, Start, Step, run}
+use Rattle.logic.specs.Machine.{View, Write, State, Program, Mode.store, Mode.swap, Access.none, Access.load, Access.write, Instr, Instr.act, Instr.branch, Start, Step, run}
 use Rattle.logic.specs.Obligations.{below, upTo}
 
 -- there is a start state
@@ -70,7 +70,7 @@ by t p = record { thread = t; position = p }
 
 -- what stands where a thread has no instruction
 unfoldable pub nothing : Instr
-nothing = act (assign 1 (const 0))
+nothing = act none (record { to = 1; by = const 0 } ∷ [])
 
 -- the instructions of a thread, from point 0
 unfoldable pub at-points : List Instr → ℕ → Instr
@@ -81,10 +81,10 @@ at-points (c ∷ l) (suc k) = at-points l k
 -- MESSAGE PASSING. Word 1 is the message, word 2 the flag. Thread 1 stores 1 to the message and, releasing, 1 to the flag;
 -- thread 2 polls the flag by acquiring loads into register 1 until it is not 0, then loads the message into register 2
 unfoldable pub sender : List Instr
-sender = act (write (store false) 1 (const 1)) ∷ act (write (store true) 2 (const 1)) ∷ []
+sender = act (write (store false) 1 (const 1)) [] ∷ act (write (store true) 2 (const 1)) [] ∷ []
 
 unfoldable pub receiver : List Instr
-receiver = act (load true 1 2) ∷ branch (equal (reg 1) (const 0)) 0 ∷ act (load false 2 1) ∷ []
+receiver = act (load true 1 2) [] ∷ branch (equal (reg 1) (const 0)) 0 ∷ act (load false 2 1) [] ∷ []
 
 unfoldable pub message-passing : Program
 message-passing = record {
@@ -151,8 +151,8 @@ mixed = record {
   range = Limits.range;
   init = λ x. 0;
   points = upd (λ t. 2) 3 3;
-  code = upd (upd (upd (λ t k. nothing) 1 (at-points (act (write (store false) 1 (const 1)) ∷ []))) 2 (at-points (act (write swap 1 (const 2)) ∷ [])))
-      3 (at-points (act (load false 3 1) ∷ act (write (store false) 1 (const 3)) ∷ []));
+  code = upd (upd (upd (λ t k. nothing) 1 (at-points (act (write (store false) 1 (const 1)) [] ∷ []))) 2 (at-points (act (write swap 1 (const 2)) [] ∷ [])))
+      3 (at-points (act (load false 3 1) [] ∷ act (write (store false) 1 (const 3)) [] ∷ []));
 }
 
 middle : List Step
@@ -185,9 +185,9 @@ handed = record {
   range = Limits.range;
   init = λ x. 0;
   points = upd (upd (λ t. 2) 1 4) 3 5;
-  code = upd (upd (upd (λ t k. nothing) 1 (at-points (act (write (store false) 1 (const 1)) ∷ act (write (store true) 2 (const 1)) ∷ act (write (store true) 2 (const 5)) ∷ [])))
-      2 (at-points (act (write swap 2 (const 2)) ∷ [])))
-      3 (at-points (act (load false 1 2) ∷ act (load true 2 2) ∷ act (assign 3 (sum (reg 2) (sum (reg 2) (const 7)))) ∷ act (write (store true) 2 (const 3)) ∷ []));
+  code = upd (upd (upd (λ t k. nothing) 1 (at-points (act (write (store false) 1 (const 1)) [] ∷ act (write (store true) 2 (const 1)) [] ∷ act (write (store true) 2 (const 5)) [] ∷ [])))
+      2 (at-points (act (write swap 2 (const 2)) [] ∷ [])))
+      3 (at-points (act (load false 1 2) [] ∷ act (load true 2 2) [] ∷ act none (record { to = 3; by = sum (reg 2) (sum (reg 2) (const 7)) } ∷ []) ∷ act (write (store true) 2 (const 3)) [] ∷ []));
 }
 
 hand-over : List Step
@@ -230,7 +230,7 @@ dropped = record {
   range = Limits.range;
   init = λ x. 0;
   points = upd (λ t. 2) 1 3;
-  code = upd (upd (λ t k. nothing) 1 (at-points (act (write (store false) 2 (const 1)) ∷ act (write (store false) 1 (const 1)) ∷ []))) 2 (at-points (act (write swap 1 (const 4)) ∷ []));
+  code = upd (upd (λ t k. nothing) 1 (at-points (act (write (store false) 2 (const 1)) [] ∷ act (write (store false) 1 (const 1)) [] ∷ []))) 2 (at-points (act (write swap 1 (const 4)) [] ∷ []));
 }
 
 not-joined : map (run dropped (begin dropped) (by 1 0 ∷ by 1 0 ∷ by 2 1 ∷ []) .view 2) (upTo 2) ≡ 2 ∷ 0 ∷ []

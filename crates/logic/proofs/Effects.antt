@@ -1,6 +1,7 @@
 -- What each instruction does, in the scope page's sentences, for every program and state: each part of the state after it, at every place.
 use mathlib.Core.Path.{_≡_, refl, sym, _∙_, ap, subst}
 use mathlib.Core.Bool.{Bool, true, false, cond, _&&_, true≢false}
+use mathlib.Core.List.{List, [], _∷_}
 use mathlib.Core.Logic.{_≢_, _⊎_, inl, inr}
 use Prim.Native.Nat.{ℕ, suc, max, _≤_, _<_}
 use native.Mathlib.Omega.{arith}
@@ -8,8 +9,9 @@ use lib.Dec.{eqb, leb}
 use borrow.Author.Tests.{eqb-true, eqb-false, leb-true, leb-false}
 use Rattle.logic.specs.Base.{upd}
 use Rattle.logic.specs.Formula.{Value, Test}
+use Rattle.logic.specs.Replace.{Note}
 use Rattle.logic.specs.Eval.{onRegs, test}
-use Rattle.logic.specs.Machine.{View, Write, State, Program, Mode.store, Mode.swap, Action, Action.assign, Action.load, Action.write, Instr.act, Instr.branch, worked, join, down, upView, upWrite, moveTo, insert, cover, swapView, done, exec}
+use Rattle.logic.specs.Machine.{View, Write, State, Program, Mode.store, Mode.swap, Access, Access.none, Access.load, Access.write, Instr.act, Instr.branch, worked, join, down, upView, upWrite, moveTo, insert, cover, swapView, done, exec}
 use Rattle.logic.proofs.Base.{upds, upd-other₁}
 
 -- INSERTION of a write behind the position p of x. The write that was at i of y is at j: nothing moves but the writes of x after p
@@ -169,10 +171,10 @@ covers x p s = record {
 }
 
 module _ (P : Program) (t p : ℕ) (s : State) where
-  pub assigns : (r : ℕ) (f : Value) → Assigns r (worked P s f) s (done P (assign r f) t p s)
+  pub assigns : (r : ℕ) (f : Value) → Assigns r (worked P s f) s (done P none (record { to = r; by = f } ∷ []) t p s)
   assigns r f = record { value = simp upds; registers = λ q h. simp upds; views = λ u y. refl; sizes = λ y. refl; rows = λ y i. refl }
 
-  pub loads : (acquires : Bool) (r x : ℕ) → Loads acquires r x t p s (done P (load acquires r x) t p s)
+  pub loads : (acquires : Bool) (r x : ℕ) → Loads acquires r x t p s (done P (load acquires r x) [] t p s)
   loads acquires r x = record {
     value = simp upds;
     registers = λ q h. simp upds;
@@ -192,10 +194,10 @@ module _ (P : Program) (t p : ℕ) (s : State) where
       only-moved true true (inr e) = absurd (true≢false e)
 
   -- a store; a swap, which is a releasing store that also covers the picked write
-  pub stores : (releasing : Bool) (x : ℕ) (f : Value) → Inserts releasing x (worked P s f) t p (s .view t) s (done P (write (store releasing) x f) t p s)
+  pub stores : (releasing : Bool) (x : ℕ) (f : Value) → Inserts releasing x (worked P s f) t p (s .view t) s (done P (write (store releasing) x f) [] t p s)
   stores releasing x f = inserts releasing x (worked P s f) t p (s .view t) s
 
-  pub swaps : (x : ℕ) (f : Value) → Swaps x (worked P s f) t p s (done P (write swap x f) t p s)
+  pub swaps : (x : ℕ) (f : Value) → Swaps x (worked P s f) t p s (done P (write swap x f) [] t p s)
   swaps x f = record {
     between = cover x p s;
     covers = covers x p s;
@@ -206,14 +208,14 @@ module _ (P : Program) (t p : ℕ) (s : State) where
   }
 
   -- an action leads to the next point, and a branch to its target or to the next point; all else is the action's, or stays
-  pub still : (c : Action) (u : ℕ) → done P c t p s .point u ≡ s .point u
-  still (assign r f) u = refl
-  still (load a r x) u = refl
-  still (write (store b) x f) u = refl
-  still (write swap x f) u = refl
+  pub still : (A : Access) (ns : List Note) (u : ℕ) → done P A ns t p s .point u ≡ s .point u
+  still none ns u = refl
+  still (load a r x) ns u = refl
+  still (write (store b) x f) ns u = refl
+  still (write swap x f) ns u = refl
 
-  pub goes-on : (c : Action) → Goes (suc (s .point t)) t (done P c t p s) (exec P (act c) t p s)
-  goes-on c = record { point = simp upds; points = λ u q. simp upds; sizes = λ y. refl; rows = λ y i. refl; views = λ u y. refl; registers = λ r. refl }
+  pub goes-on : (A : Access) (ns : List Note) → Goes (suc (s .point t)) t (done P A ns t p s) (exec P (act A ns) t p s)
+  goes-on A ns = record { point = simp upds; points = λ u q. simp upds; sizes = λ y. refl; rows = λ y i. refl; views = λ u y. refl; registers = λ r. refl }
 
   pub taken : (e : Test) (a : ℕ) → test (P .range) (onRegs (s .reg)) e ≡ true → Goes a t s (exec P (branch e a) t p s)
   taken e a h = record { point = simp (upds, h); points = λ u q. simp upds; sizes = λ y. refl; rows = λ y i. refl; views = λ u y. refl; registers = λ r. refl }

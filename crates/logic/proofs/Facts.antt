@@ -13,7 +13,7 @@ use Rattle.logic.specs.Base.{upd, All}
 use Rattle.logic.specs.Limits
 use Rattle.logic.specs.Formula.{Test, Formula, Formula.const, Formula.reg, Formula.word, Formula.equal, Formula.unsync, Formula.cov, Formula.box, Formula.one, Formula.chop, Formula.both, Formula.either, Formula.sees, Formula.start, Formula.holds}
 use Rattle.logic.specs.Eval.{Env, test}
-use Rattle.logic.specs.Machine.{View, State, Program, Mode.store, Action.write, Instr.act, at, run}
+use Rattle.logic.specs.Machine.{View, State, Program, Mode.store, Access.write, Instr.act, at, run}
 use Rattle.logic.specs.Truth.{Sat, From, Names, Prospect, True}
 use Rattle.logic.proofs.Base.{upds, by-word}
 use Rattle.logic.proofs.Cuts.{All-map}
@@ -148,7 +148,7 @@ twins = record {
   range = Limits.range;
   init = λ x. 0;
   points = upd (λ t. 1) 1 2;
-  code = upd (λ t k. nothing) 1 (at-points (act (write (store false) 1 (const 0)) ∷ []));
+  code = upd (λ t k. nothing) 1 (at-points (act (write (store false) 1 (const 0)) [] ∷ []));
 }
 
 twinned : State

@@ -9,8 +9,9 @@ use lib.ListN.{length}
 use Rattle.logic.specs.Base.{all, All}
 use Rattle.logic.specs.Limits
 use Rattle.logic.specs.Formula.{Value, Interval, Assertion, same}
-use Rattle.logic.specs.Machine.{Program, Mode, Mode.store, Mode.swap, Action.assign, Action.load, Action.write, Instr, Instr.act, Instr.branch}
-use Rattle.logic.specs.Statement.{Statement, inside, implies, triple, isImp}
+use Rattle.logic.specs.Replace.{Note}
+use Rattle.logic.specs.Machine.{Program, Mode, Mode.store, Mode.swap, Access.none, Access.load, Access.write, Instr, Instr.act, Instr.branch}
+use Rattle.logic.specs.Statement.{Statement, inside, implies, triple, first, isImp}
 use Rattle.logic.specs.Pattern.{Fill}
 use Rattle.logic.specs.Rules
 use Rattle.logic.specs.Rules.{Rule, Shape, Side, Row, row, Premises, these, implications}
@@ -95,62 +96,67 @@ fit-back P n s ps g = go (threadOf s) (pointOf s) (found (row n) s ps) (row n) g
         (subst (λ (z : Statement). T (sameStatement (filled P t k σ (R .says)) z)) (g .says) (statement-refl (filled P t k σ (R .says)))) (premises-back P t k σ (R .premises) ps (g .premises)))
         (and-both (operationFits P t k (R .says) (R .operations)) (all (sideHolds P t k σ s ps) (R .sides)) (g .op) (All-all (sideHolds P t k σ s ps) (R .sides) (g .side)))
 
--- an operation among those allowed
-pub as-assign : {Z : Type 0} (c : Instr) → T (isAmong (opcode c) Rules.assigns) → ((r : ℕ) (f : Value) → c ≡ act (assign r f) → Z) → Z
-as-assign (act (assign r f)) h g = g r f refl
-as-assign (act (load true r x)) h g = absurd h
-as-assign (act (load false r x)) h g = absurd h
-as-assign (act (write (store true) x f)) h g = absurd h
-as-assign (act (write (store false) x f)) h g = absurd h
-as-assign (act (write swap x f)) h g = absurd h
+-- AN OPERATION AMONG THOSE ALLOWED, as a triple reads the instruction
+pub as-assign : {Z : Type 0} (c : Instr) → T (isAmong (opcode (first c)) Rules.assigns) → ((ns : List Note) → first c ≡ act none ns → Z) → Z
+as-assign (act none ns) h g = g ns refl
+as-assign (act (load true r x) ns) h g = absurd h
+as-assign (act (load false r x) ns) h g = absurd h
+as-assign (act (write (store true) x f) ns) h g = absurd h
+as-assign (act (write (store false) x f) ns) h g = absurd h
+as-assign (act (write swap x f) ns) h g = absurd h
 as-assign (branch e a) h g = absurd h
 
-pub as-load : {Z : Type 0} (c : Instr) → T (isAmong (opcode c) Rules.loads) → ((acq : Bool) (r x : ℕ) → c ≡ act (load acq r x) → Z) → Z
-as-load (act (assign r f)) h g = absurd h
-as-load (act (load acq r x)) h g = g acq r x refl
-as-load (act (write (store true) x f)) h g = absurd h
-as-load (act (write (store false) x f)) h g = absurd h
-as-load (act (write swap x f)) h g = absurd h
+pub as-load : {Z : Type 0} (c : Instr) → T (isAmong (opcode (first c)) Rules.loads) → ((acq : Bool) (r x : ℕ) → first c ≡ act (load acq r x) [] → Z) → Z
+as-load (act none ns) h g = absurd h
+as-load (act (load true r x) ns) h g = g true r x refl
+as-load (act (load false r x) ns) h g = g false r x refl
+as-load (act (write (store true) x f) ns) h g = absurd h
+as-load (act (write (store false) x f) ns) h g = absurd h
+as-load (act (write swap x f) ns) h g = absurd h
 as-load (branch e a) h g = absurd h
 
-pub as-acquire : {Z : Type 0} (c : Instr) → T (isAmong (opcode c) Rules.acquiring) → ((r x : ℕ) → c ≡ act (load true r x) → Z) → ((x : ℕ) (f : Value) → c ≡ act (write swap x f) → Z) → Z
-as-acquire (act (assign r f)) h g k = absurd h
-as-acquire (act (load true r x)) h g k = g r x refl
-as-acquire (act (load false r x)) h g k = absurd h
-as-acquire (act (write (store true) x f)) h g k = absurd h
-as-acquire (act (write (store false) x f)) h g k = absurd h
-as-acquire (act (write swap x f)) h g k = k x f refl
+pub as-acquire : {Z : Type 0} (c : Instr) → T (isAmong (opcode (first c)) Rules.acquiring) → ((r x : ℕ) → first c ≡ act (load true r x) [] → Z)
+    → ((x : ℕ) (f : Value) → first c ≡ act (write swap x f) [] → Z) → Z
+as-acquire (act none ns) h g k = absurd h
+as-acquire (act (load true r x) ns) h g k = g r x refl
+as-acquire (act (load false r x) ns) h g k = absurd h
+as-acquire (act (write (store true) x f) ns) h g k = absurd h
+as-acquire (act (write (store false) x f) ns) h g k = absurd h
+as-acquire (act (write swap x f) ns) h g k = k x f refl
 as-acquire (branch e a) h g k = absurd h
 
-pub as-store : {Z : Type 0} (c : Instr) → T (isAmong (opcode c) Rules.stores) → ((rel : Bool) (x : ℕ) (f : Value) → c ≡ act (write (store rel) x f) → Z) → Z
-as-store (act (assign r f)) h g = absurd h
-as-store (act (load true r x)) h g = absurd h
-as-store (act (load false r x)) h g = absurd h
-as-store (act (write (store rel) x f)) h g = g rel x f refl
-as-store (act (write swap x f)) h g = absurd h
+pub as-store : {Z : Type 0} (c : Instr) → T (isAmong (opcode (first c)) Rules.stores) → ((rel : Bool) (x : ℕ) (f : Value) → first c ≡ act (write (store rel) x f) [] → Z) → Z
+as-store (act none ns) h g = absurd h
+as-store (act (load true r x) ns) h g = absurd h
+as-store (act (load false r x) ns) h g = absurd h
+as-store (act (write (store true) x f) ns) h g = g true x f refl
+as-store (act (write (store false) x f) ns) h g = g false x f refl
+as-store (act (write swap x f) ns) h g = absurd h
 as-store (branch e a) h g = absurd h
 
-pub as-release : {Z : Type 0} (c : Instr) → T (isAmong (opcode c) Rules.releasing) → ((x : ℕ) (f : Value) → c ≡ act (write (store true) x f) → Z) → Z
-as-release (act (assign r f)) h g = absurd h
-as-release (act (load true r x)) h g = absurd h
-as-release (act (load false r x)) h g = absurd h
-as-release (act (write (store true) x f)) h g = g x f refl
-as-release (act (write (store false) x f)) h g = absurd h
-as-release (act (write swap x f)) h g = absurd h
+pub as-release : {Z : Type 0} (c : Instr) → T (isAmong (opcode (first c)) Rules.releasing) → ((x : ℕ) (f : Value) → first c ≡ act (write (store true) x f) [] → Z) → Z
+as-release (act none ns) h g = absurd h
+as-release (act (load true r x) ns) h g = absurd h
+as-release (act (load false r x) ns) h g = absurd h
+as-release (act (write (store true) x f) ns) h g = g x f refl
+as-release (act (write (store false) x f) ns) h g = absurd h
+as-release (act (write swap x f) ns) h g = absurd h
 as-release (branch e a) h g = absurd h
 
-pub as-write : {Z : Type 0} (c : Instr) → T (isAmong (opcode c) Rules.storesSwaps) → ((m : Mode) (x : ℕ) (f : Value) → c ≡ act (write m x f) → Z) → Z
-as-write (act (assign r f)) h g = absurd h
-as-write (act (load true r x)) h g = absurd h
-as-write (act (load false r x)) h g = absurd h
-as-write (act (write m x f)) h g = g m x f refl
+pub as-write : {Z : Type 0} (c : Instr) → T (isAmong (opcode (first c)) Rules.storesSwaps) → ((m : Mode) (x : ℕ) (f : Value) → first c ≡ act (write m x f) [] → Z) → Z
+as-write (act none ns) h g = absurd h
+as-write (act (load true r x) ns) h g = absurd h
+as-write (act (load false r x) ns) h g = absurd h
+as-write (act (write (store true) x f) ns) h g = g (store true) x f refl
+as-write (act (write (store false) x f) ns) h g = g (store false) x f refl
+as-write (act (write swap x f) ns) h g = g swap x f refl
 as-write (branch e a) h g = absurd h
 
-pub as-swap : {Z : Type 0} (c : Instr) → T (isAmong (opcode c) Rules.swaps) → ((x : ℕ) (f : Value) → c ≡ act (write swap x f) → Z) → Z
-as-swap (act (assign r f)) h g = absurd h
-as-swap (act (load true r x)) h g = absurd h
-as-swap (act (load false r x)) h g = absurd h
-as-swap (act (write (store true) x f)) h g = absurd h
-as-swap (act (write (store false) x f)) h g = absurd h
-as-swap (act (write swap x f)) h g = g x f refl
+pub as-swap : {Z : Type 0} (c : Instr) → T (isAmong (opcode (first c)) Rules.swaps) → ((x : ℕ) (f : Value) → first c ≡ act (write swap x f) [] → Z) → Z
+as-swap (act none ns) h g = absurd h
+as-swap (act (load true r x) ns) h g = absurd h
+as-swap (act (load false r x) ns) h g = absurd h
+as-swap (act (write (store true) x f) ns) h g = absurd h
+as-swap (act (write (store false) x f) ns) h g = absurd h
+as-swap (act (write swap x f) ns) h g = g x f refl
 as-swap (branch e a) h g = absurd h

@@ -1,11 +1,13 @@
 -- The steps that are not refused, in the scope page's sentences: they are the permitted ones, for every program, state and step.
 use mathlib.Core.Path.{_≡_, refl}
 use mathlib.Core.Bool.{Bool, true, false, not, _&&_}
+use mathlib.Core.List.{List, []}
 use Prim.Native.Nat.{ℕ, suc, _≤_, _<_}
 use lib.Dec.{T, ltb, leb, eqb→eq, ltb→lt, lt→ltb, leb→le, le→leb}
 use Rattle.logic.specs.Base.{Within, within}
 use Rattle.logic.specs.Formula.{Value, Test, Formula.const}
-use Rattle.logic.specs.Machine.{State, Program, Mode, Mode.store, Mode.swap, Action.assign, Action.load, Action.write, Instr, Instr.act, Instr.branch, Step, instrAt, reachable, allowed, permitted, step, exec}
+use Rattle.logic.specs.Replace.{Note}
+use Rattle.logic.specs.Machine.{State, Program, Mode, Mode.store, Mode.swap, Access.none, Access.load, Access.write, Instr, Instr.act, Instr.branch, Step, instrAt, reachable, allowed, permitted, step, exec}
 use Rattle.logic.proofs.Base.{and-left, and-right, and-both, not-true, holds-true}
 
 -- a write of x that the thread t may reach: it is there, and it is at or after the thread's own in that row
@@ -16,12 +18,12 @@ pub record Reached (s : State) (t x p : ℕ) : Type 0 where
 -- the positions of an instruction by t
 pub data Picked (s : State) (t p : ℕ) : Instr → Type 0 where
   -- assignment and branch: 0
-  by-assignment : {r : ℕ} {f : Value} → p ≡ 0 → Picked s t p (act (assign r f))
+  by-assignment : {ns : List Note} → p ≡ 0 → Picked s t p (act none ns)
   by-branch : {e : Test} {a : ℕ} → p ≡ 0 → Picked s t p (branch e a)
   -- a load: any write at or after the thread's own, covered or not, releasing or not
-  by-load : {acquires : Bool} {r x : ℕ} → Reached s t x p → Picked s t p (act (load acquires r x))
+  by-load : {acquires : Bool} {r x : ℕ} {ns : List Note} → Reached s t x p → Picked s t p (act (load acquires r x) ns)
   -- a store or a swap: an uncovered one
-  by-write : {m : Mode} {x : ℕ} {f : Value} → Reached s t x p → s .row x p .covered ≡ false → Picked s t p (act (write m x f))
+  by-write : {m : Mode} {x : ℕ} {f : Value} {ns : List Note} → Reached s t x p → s .row x p .covered ≡ false → Picked s t p (act (write m x f) ns)
 
 -- a step that is not refused: its thread is there and not at its last point, and its position is one of its instruction
 pub record Permitted (P : Program) (m : Step) (s : State) : Type 0 where
@@ -40,16 +42,16 @@ module _ (s : State) (t : ℕ) where
   reached-reachable x p h = and-both (ltb p (s .size x)) (leb (s .view t x) p) (lt→ltb p (s .size x) (h .there)) (le→leb (s .view t x) p (h .at-or-after))
 
   pub allowed-picked : (c : Instr) (p : ℕ) → T (allowed c t p s) → Picked s t p c
-  allowed-picked (act (assign r f)) p h = by-assignment (eqb→eq p 0 h)
-  allowed-picked (act (load acquires r x)) p h = by-load (reachable-reached x p h)
-  allowed-picked (act (write m x f)) p h =
+  allowed-picked (act none ns) p h = by-assignment (eqb→eq p 0 h)
+  allowed-picked (act (load acquires r x) ns) p h = by-load (reachable-reached x p h)
+  allowed-picked (act (write m x f) ns) p h =
       by-write (reachable-reached x p (and-left (reachable s t x p) (not (s .row x p .covered)) h)) (not-true (s .row x p .covered) (and-right (reachable s t x p) (not (s .row x p .covered)) h))
   allowed-picked (branch e a) p h = by-branch (eqb→eq p 0 h)
 
   pub picked-allowed : (c : Instr) (p : ℕ) → Picked s t p c → T (allowed c t p s)
-  picked-allowed (act (assign r f)) p (by-assignment e) = rw e tt
-  picked-allowed (act (load acquires r x)) p (by-load h) = reached-reachable x p h
-  picked-allowed (act (write m x f)) p (by-write h e) = and-both (reachable s t x p) (not (s .row x p .covered)) (reached-reachable x p h) (rw e tt)
+  picked-allowed (act none ns) p (by-assignment e) = rw e tt
+  picked-allowed (act (load acquires r x) ns) p (by-load h) = reached-reachable x p h
+  picked-allowed (act (write m x f) ns) p (by-write h e) = and-both (reachable s t x p) (not (s .row x p .covered)) (reached-reachable x p h) (rw e tt)
   picked-allowed (branch e a) p (by-branch q) = rw q tt
 
 module _ (P : Program) (m : Step) (s : State) where
@@ -104,6 +106,6 @@ wide = record {
   point = λ t. 0;
 }
 
-far : allowed (act (load false 1 1)) 1 4000 wide && (allowed (act (write (store true) 1 (const 0))) 1 4000 wide && allowed (act (write swap 1 (const 0))) 1 4000 wide) ≡ true
+far : allowed (act (load false 1 1) []) 1 4000 wide && (allowed (act (write (store true) 1 (const 0)) []) 1 4000 wide && allowed (act (write swap 1 (const 0)) []) 1 4000 wide) ≡ true
 unfolding wide
 far = refl

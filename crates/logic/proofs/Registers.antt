@@ -9,15 +9,15 @@ use lib.Dec.{T, eqb, ltb→lt}
 use Rattle.logic.proofs.Agreement.{Same, Agree, value-agree, test-agree, sat-agree, keep, only-any}
 use Rattle.logic.proofs.Base.{upd-other, upd-case, and-left, and-right, not-eqb}
 use Rattle.logic.proofs.Cuts.{All-map}
-use Rattle.logic.proofs.Halves.{Note, noted, notes, workedAt, withRegs, withPoints, kept}
+use Rattle.logic.proofs.Halves.{workedAt, withPoints, kept}
 use Rattle.logic.proofs.Invariant.{Wf}
 use Rattle.logic.proofs.Replacement.{replaced, under}
 use Rattle.logic.specs.Base.{All}
 use Rattle.logic.specs.Eval.{Env, onRegs, value, test, bounded}
 use Rattle.logic.specs.Formula.{Value, Test, Assertion, Formula.const, Formula.reg, Formula.word, Formula.sum}
-use Rattle.logic.specs.Machine.{View, State, Program, at}
+use Rattle.logic.specs.Machine.{View, State, Program, at, withRegs}
 use Rattle.logic.specs.Names.{only, regsIn, isReg, startless, Name, n-reg, n-word, n-unsync, n-cov, names}
-use Rattle.logic.specs.Replace.{replace}
+use Rattle.logic.specs.Replace.{Note, noted, notes, replace}
 use Rattle.logic.specs.Truth.{True, Truth, world}
 
 -- meanings with the same registers

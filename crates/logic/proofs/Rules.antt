@@ -8,10 +8,10 @@ use lib.ListN.{length}
 use Rattle.logic.specs.Base.{upd, all}
 use Rattle.logic.specs.Limits
 use Rattle.logic.specs.Formula.{Value, Test, Assertion, Formula.const, Formula.word, Formula.box, Formula.chop, Formula.sees, Formula.bothA, Formula.eitherA, Formula.start, Formula.holds}
-use Rattle.logic.specs.Replace.{replace, regBy, wordBy}
+use Rattle.logic.specs.Replace.{Note, notes, replace, regBy, wordBy}
 use Rattle.logic.specs.Table.{byTable}
-use Rattle.logic.specs.Machine.{Program, Mode, Mode.store, Mode.swap, Action.assign, Action.load, Action.write, Instr, Instr.act, Instr.branch}
-use Rattle.logic.specs.Statement.{Statement, implies, triple, isBranch, isImp, impOf}
+use Rattle.logic.specs.Machine.{Program, Mode, Mode.store, Mode.swap, Access.none, Access.load, Access.write, Instr, Instr.act, Instr.branch}
+use Rattle.logic.specs.Statement.{Statement, implies, triple, isBranch, first, isImp, impOf}
 use Rattle.logic.specs.Pattern.{Fill}
 use Rattle.logic.specs.Rules
 use Rattle.logic.specs.Rules.{Rule, row, r1, r2, r3, r4, r5, r6, r7, r8, r9, r10, r11, r12, r13, r14, r15, r16, r20, r21, r22, r23, r24, r25, r26, r27, r30, r31, r32, r33, r34, r35, r36, r37, r38, r39, r40, r41, r42, r43, r44, r45, r46}
@@ -23,39 +23,39 @@ use Rattle.logic.proofs.Fit.{fit, fit-back, Fit, as-assign, as-load, as
 
 -- an operation that is no branch
 acts : (c : Instr) → T (isAmong (opcode c) Rules.actions) → T (not (isBranch c))
-acts (act c) h = tt
+acts (act A ns) h = tt
 acts (branch e k) h = absurd h
 
 op-acts : (c : Instr) → T (not (isBranch c)) → T (isAmong (opcode c) Rules.actions)
-op-acts (act (assign r f)) h = tt
-op-acts (act (load true r x)) h = tt
-op-acts (act (load false r x)) h = tt
-op-acts (act (write (store true) x f)) h = tt
-op-acts (act (write (store false) x f)) h = tt
-op-acts (act (write swap x f)) h = tt
+op-acts (act none ns) h = tt
+op-acts (act (load true r x) ns) h = tt
+op-acts (act (load false r x) ns) h = tt
+op-acts (act (write (store true) x f) ns) h = tt
+op-acts (act (write (store false) x f) ns) h = tt
+op-acts (act (write swap x f) ns) h = tt
 op-acts (branch e k) h = absurd h
 
 -- the operations of a load, a store, a store or swap; of what keeps an assertion
-op-load : (acq : Bool) (r x : ℕ) → T (isAmong (opcode (act (load acq r x))) Rules.loads)
+op-load : (acq : Bool) (r x : ℕ) → T (isAmong (opcode (act (load acq r x) [])) Rules.loads)
 op-load true r x = tt
 op-load false r x = tt
 
-op-store : (rel : Bool) (x : ℕ) (f : Value) → T (isAmong (opcode (act (write (store rel) x f))) Rules.stores)
+op-store : (rel : Bool) (x : ℕ) (f : Value) → T (isAmong (opcode (act (write (store rel) x f) [])) Rules.stores)
 op-store true x f = tt
 op-store false x f = tt
 
-op-write : (m : Mode) (x : ℕ) (f : Value) → T (isAmong (opcode (act (write m x f))) Rules.storesSwaps)
+op-write : (m : Mode) (x : ℕ) (f : Value) → T (isAmong (opcode (act (write m x f) [])) Rules.storesSwaps)
 op-write (store true) x f = tt
 op-write (store false) x f = tt
 op-write swap x f = tt
 
 op-kept : (c : Instr) (a : Assertion) → T (keeps c a) → T (isAmong (opcode c) Rules.accesses)
-op-kept (act (assign r f)) a h = absurd h
-op-kept (act (load true r x)) a h = tt
-op-kept (act (load false r x)) a h = tt
-op-kept (act (write (store true) x f)) a h = tt
-op-kept (act (write (store false) x f)) a h = tt
-op-kept (act (write swap x f)) a h = tt
+op-kept (act none ns) a h = absurd h
+op-kept (act (load true r x) ns) a h = tt
+op-kept (act (load false r x) ns) a h = tt
+op-kept (act (write (store true) x f) ns) a h = tt
+op-kept (act (write (store false) x f) ns) a h = tt
+op-kept (act (write swap x f) ns) a h = tt
 op-kept (branch e k) a h = absurd h
 
 module _ (P : Program) where
@@ -63,9 +63,9 @@ module _ (P : Program) where
   pub rule-of : (n : Rule) (σ : Fill) (s : Statement) (ps : List Statement) → Fit P (threadOf s) (pointOf s) σ (row n) s ps → Inference P n ps s
   rule-of r1 σ s ps g = subst₂ (Inference P r1) (g .premises) (g .says) (i1 (g .side .0))
   rule-of r2 σ s ps g =
-      subst₂ (Inference P r2) (g .premises) (g .says) (as-assign (P .code (threadOf s) (pointOf s)) (g .op) (λ r f e.
+      subst₂ (Inference P r2) (g .premises) (g .says) (as-assign (P .code (threadOf s) (pointOf s)) (g .op) (λ ns e.
       subst (λ (a : Assertion). Inference P r2 [] (triple (threadOf s) (pointOf s) a (σ .assertion 1)))
-      (sym (same-eq (σ .assertion 0) (replace (regBy r f) (σ .assertion 1)) (rw e at (g .side .0)))) (i2 {q = σ .assertion 1} e)))
+      (sym (same-eq (σ .assertion 0) (replace (notes ns) (σ .assertion 1)) (rw e at (g .side .0)))) (i2 {q = σ .assertion 1} e)))
   rule-of r3 σ s ps g =
       subst₂ (Inference P r3) (g .premises) (g .says) (as-load (P .code (threadOf s) (pointOf s)) (g .op) (λ acq r x e.
       subst (λ (a : Test). Inference P r3 [] (triple (threadOf s) (pointOf s) (sees (threadOf s) (box a)) (holds (σ .test 2))))
@@ -94,9 +94,9 @@ module _ (P : Program) where
       subst₂ (Inference P r12) (g .premises) (g .says) (as-swap (P .code (threadOf s) (pointOf s)) (g .op) (λ x f e. rw e (i12 e)))
   rule-of r13 σ s ps g =
       subst₂ (Inference P r13) (g .premises) (g .says) (as-swap (P .code (threadOf s) (pointOf s)) (g .op) (λ x f e. rw e (i13 e (rw e at (g .side .0)))))
-  rule-of r14 σ s ps g = subst₂ (Inference P r14) (g .premises) (g .says) (i14 (acts (P .code (threadOf s) (pointOf s)) (g .op)))
-  rule-of r15 σ s ps g = subst₂ (Inference P r15) (g .premises) (g .says) (i15 (acts (P .code (threadOf s) (pointOf s)) (g .op)))
-  rule-of r16 σ s ps g = subst₂ (Inference P r16) (g .premises) (g .says) (i16 (acts (P .code (threadOf s) (pointOf s)) (g .op)))
+  rule-of r14 σ s ps g = subst₂ (Inference P r14) (g .premises) (g .says) (i14 (acts (first (P .code (threadOf s) (pointOf s))) (g .op)))
+  rule-of r15 σ s ps g = subst₂ (Inference P r15) (g .premises) (g .says) (i15 (acts (first (P .code (threadOf s) (pointOf s))) (g .op)))
+  rule-of r16 σ s ps g = subst₂ (Inference P r16) (g .premises) (g .says) (i16 (acts (first (P .code (threadOf s) (pointOf s))) (g .op)))
   rule-of r20 σ s ps g =
       subst (Inference P r20 ps) (g .says)
       (i20 (leb→le (length ps) Limits.premises (and-left (leb (length ps) Limits.premises) (all isImp ps) (g .premises))) (and-right (leb (length ps) Limits.premises) (all isImp ps) (g .premises))
@@ -131,8 +131,8 @@ module _ (P : Program) where
   -- the rule: the row's shapes, filled with what is found in the line
   pub fits-of : (n : Rule) (s : Statement) (ps : List Statement) → Inference P n ps s → Fit P (threadOf s) (pointOf s) (found (row n) s ps) (row n) s ps
   unfolding upd
-  fits-of r1 s ps (i1 {t = t} {k = k} {p = p} c) = record { says = refl; premises = refl; op = op-kept (P .code t k) p c; side = (c, tt) }
-  fits-of r2 s ps (i2 {r = r} {f = f} {q = q} e) = record { says = refl; premises = refl; op = rw e tt; side = (rw e (same-refl (replace (regBy r f) q)), tt) }
+  fits-of r1 s ps (i1 {t = t} {k = k} {p = p} c) = record { says = refl; premises = refl; op = op-kept (first (P .code t k)) p c; side = (c, tt) }
+  fits-of r2 s ps (i2 {ns = ns} {q = q} e) = record { says = refl; premises = refl; op = rw e tt; side = (rw e (same-refl (replace (notes ns) q)), tt) }
   fits-of r3 s ps (i3 {r = r} {x = x} {acq = acq} {e = q} e) = record { says = refl; premises = refl; op = rw e (op-load acq r x); side = (rw e (same-refl (replace (regBy r (word x)) q)), tt) }
   fits-of r4 s ps (i4 {r = r} {x = x} {acq = acq} {e = q} e) = record { says = refl; premises = refl; op = rw e (op-load acq r x); side = (rw e (same-refl (replace (regBy r (word x)) q)), tt) }
   fits-of r5 s ps (i5-load e) = record { says = rw e; premises = refl; op = rw e tt; side = tt }
@@ -145,9 +145,9 @@ module _ (P : Program) where
   fits-of r11 s ps (i11 e) = record { says = rw e; premises = refl; op = rw e tt; side = tt }
   fits-of r12 s ps (i12 e) = record { says = rw e; premises = refl; op = rw e tt; side = tt }
   fits-of r13 s ps (i13 e c) = record { says = rw e; premises = refl; op = rw e tt; side = (rw e c, tt) }
-  fits-of r14 s ps (i14 {t = t} {k = k} c) = record { says = refl; premises = refl; op = op-acts (P .code t k) c; side = tt }
-  fits-of r15 s ps (i15 {t = t} {k = k} c) = record { says = refl; premises = refl; op = op-acts (P .code t k) c; side = tt }
-  fits-of r16 s ps (i16 {t = t} {k = k} c) = record { says = refl; premises = refl; op = op-acts (P .code t k) c; side = tt }
+  fits-of r14 s ps (i14 {t = t} {k = k} c) = record { says = refl; premises = refl; op = op-acts (first (P .code t k)) c; side = tt }
+  fits-of r15 s ps (i15 {t = t} {k = k} c) = record { says = refl; premises = refl; op = op-acts (first (P .code t k)) c; side = tt }
+  fits-of r16 s ps (i16 {t = t} {k = k} c) = record { says = refl; premises = refl; op = op-acts (first (P .code t k)) c; side = tt }
   fits-of r20 s ps (i20 l i c) = record { says = refl; premises = and-both (leb (length ps) Limits.premises) (all isImp ps) (le→leb (length ps) Limits.premises l) i; op = tt; side = (c, tt) }
   fits-of r21 s ps (i21 c) = record { says = refl; premises = refl; op = tt; side = (c, tt) }
   fits-of r22 s ps i22 = record { says = refl; premises = refl; op = tt; side = tt }

@@ -1,24 +1,32 @@
 -- Demand 3: what is asked of a program and its outline, what a derivation is, and the claim about every run.
-use mathlib.Core.Bool.{Bool, true, _&&_}
+use mathlib.Core.Bool.{Bool, true, not, _&&_}
 use mathlib.Core.List.{List}
 use Prim.Native.Nat.{ℕ, suc, _<_}
 use lib.Dec.{T, ltb}
 use lib.ListN.{length, getD}
-use Rattle.logic.specs.Base.{All, Within, within}
+use Rattle.logic.specs.Base.{All, all, Within, within}
+use Rattle.logic.specs.Formula.{Value}
 use Rattle.logic.specs.Names.{only, isReg, startless}
+use Rattle.logic.specs.Replace.{Note}
 use Rattle.logic.specs.Eval.{bounded}
-use Rattle.logic.specs.Machine.{State, Program, Action.assign, Action.load, Action.write, Instr, Instr.act, Instr.branch, Start, Step, run}
+use Rattle.logic.specs.Machine.{State, Program, Access, Access.none, Access.load, Access.write, Instr, Instr.act, Instr.branch, Start, Step, run}
 use Rattle.logic.specs.Truth.{True}
-use Rattle.logic.specs.Statement.{Statement, admitted}
+use Rattle.logic.specs.Statement.{Statement, isPair, admitted}
 use Rattle.logic.specs.Rules.{Rule}
 use Rattle.logic.specs.Inference.{Inference}
 use Rattle.logic.specs.Obligations.{Outline, Obligation, obligations, wants}
 
 -- an instruction as an image may have it, in a thread of n points: numbers in range (6), formulas over registers (8)
+abbrev pub properValue : Program → Value → Bool
+properValue P f = only isReg f && bounded (P .range) f
+
+abbrev pub properAccess : Program → Access → Bool
+properAccess P none = true
+properAccess P (load acquires r x) = within (P .words) x
+properAccess P (write m x f) = within (P .words) x && properValue P f
+
 abbrev pub proper : Program → ℕ → Instr → Bool
-proper P n (act (assign r f)) = only isReg f && bounded (P .range) f
-proper P n (act (load acquires r x)) = within (P .words) x
-proper P n (act (write m x f)) = within (P .words) x && (only isReg f && bounded (P .range) f)
+proper P n (act A ns) = not (isPair (act A ns)) && (properAccess P A && all (λ (n : Note). properValue P (n .by)) ns)
 proper P n (branch e a) = only isReg e && ltb a n
 
 -- what codes 5 to 9 leave of programs and outlines

@@ -10,14 +10,14 @@ use Rattle.logic.specs.Limits
 use Rattle.logic.specs.Opcode
 use Rattle.logic.specs.Formula.{Sort, Formula, Value, Test, Interval, Assertion, Formula.const, Formula.reg, Formula.word, Formula.sum, Formula.equal, Formula.less, Formula.and, Formula.or, Formula.unsync, Formula.cov, Formula.box, Formula.one, Formula.chop, Formula.both, Formula.either, Formula.sees, Formula.bothA, Formula.eitherA, Formula.start, Formula.holds, same}
 use Rattle.logic.specs.Names.{only, notWord, notFlag}
-use Rattle.logic.specs.Replace.{Sub, replace, regBy, wordBy}
+use Rattle.logic.specs.Replace.{Note, Sub, replace, notes, regBy, wordBy}
 use Rattle.logic.specs.Rows.{byRows}
 use Rattle.logic.specs.Table.{byTable}
-use Rattle.logic.specs.Machine.{Program, Mode.store, Mode.swap, Action.assign, Action.load, Action.write, Instr, Instr.act, Instr.branch}
-use Rattle.logic.specs.Statement.{Statement, inside, implies, triple, isImp, impOf}
+use Rattle.logic.specs.Machine.{Program, Mode.store, Mode.swap, Access.none, Access.load, Access.write, Instr, Instr.act, Instr.branch}
+use Rattle.logic.specs.Statement.{Statement, inside, implies, triple, half, isImp, impOf}
 use Rattle.logic.specs.Pattern
 use Rattle.logic.specs.Pattern.{Num, Pattern, Given, Fill, number, inst}
-use Rattle.logic.specs.Rules.{Rule, Shape, Premises, these, implications, By, r-by-f, r-by-x, x-by-f, Side, _is_with_, start-of, kept, lacks-x, no-flag, by-rows, by-table, Row, row}
+use Rattle.logic.specs.Rules.{Rule, Shape, Premises, these, implications, By, by-notes, r-by-x, x-by-f, Side, _is_with_, start-of, kept, lacks-x, no-flag, by-rows, by-table, Row, row}
 use Rattle.logic.specs.Inference.{keeps}
 
 -- the number, the first and the second part of a formula; where there is none, any
@@ -187,32 +187,36 @@ isAmong n [] = false
 isAmong n (m ∷ l) = eqb n m || isAmong n l
 
 abbrev pub opcode : Instr → ℕ
-opcode (act (assign r f)) = Opcode.assign
-opcode (act (load false r x)) = Opcode.load
-opcode (act (load true r x)) = Opcode.acquire
-opcode (act (write (store false) x f)) = Opcode.store
-opcode (act (write (store true) x f)) = Opcode.release
-opcode (act (write swap x f)) = Opcode.swap
+opcode (act none ns) = Opcode.assign
+opcode (act (load false r x) ns) = Opcode.load
+opcode (act (load true r x) ns) = Opcode.acquire
+opcode (act (write (store false) x f) ns) = Opcode.store
+opcode (act (write (store true) x f) ns) = Opcode.release
+opcode (act (write swap x f) ns) = Opcode.swap
 opcode (branch e a) = Opcode.branch
 
--- the instruction's word, register, formula
+-- the instruction's word, register, formula, notes
 abbrev pub wordOf : Instr → ℕ
-wordOf (act (assign r f)) = 0
-wordOf (act (load acquires r x)) = x
-wordOf (act (write m x f)) = x
+wordOf (act none ns) = 0
+wordOf (act (load acquires r x) ns) = x
+wordOf (act (write m x f) ns) = x
 wordOf (branch e a) = 0
 
 abbrev pub regOf : Instr → ℕ
-regOf (act (assign r f)) = r
-regOf (act (load acquires r x)) = r
-regOf (act (write m x f)) = 0
+regOf (act none ns) = 0
+regOf (act (load acquires r x) ns) = r
+regOf (act (write m x f) ns) = 0
 regOf (branch e a) = 0
 
 abbrev pub formulaOf : Instr → Value
-formulaOf (act (assign r f)) = f
-formulaOf (act (load acquires r x)) = const 0
-formulaOf (act (write m x f)) = f
+formulaOf (act none ns) = const 0
+formulaOf (act (load acquires r x) ns) = const 0
+formulaOf (act (write m x f) ns) = f
 formulaOf (branch e a) = const 0
+
+abbrev pub notesOf : Instr → List Note
+notesOf (act A ns) = ns
+notesOf (branch e a) = []
 
 -- where the line stands
 abbrev pub threadOf : Statement → ℕ
@@ -229,7 +233,7 @@ module _ (P : Program) where
   module _ (t k : ℕ) where
     -- with the instruction at the point k of t
     abbrev pub given : Given
-    given = record { t = t; x = wordOf (P .code t k); r = regOf (P .code t k); f = formulaOf (P .code t k) }
+    given = record { t = t; x = wordOf (half P t k); r = regOf (half P t k); f = formulaOf (half P t k) }
 
     abbrev pub filled : Fill → Shape → Statement
     filled σ (Shape.inside p q) = inside (inst given σ p) (inst given σ q)
@@ -245,23 +249,23 @@ module _ (P : Program) where
     premisesFit σ implications ps = leb (length ps) Limits.premises && all isImp ps
 
     abbrev pub by : By → Sub
-    by r-by-f = regBy (given .r) (given .f)
+    by by-notes = notes (notesOf (half P t k))
     by r-by-x = regBy (given .r) (word (given .x))
     by x-by-f = wordBy (given .x) (given .f)
 
     abbrev pub sideHolds : Fill → Statement → List Statement → Side → Bool
     sideHolds σ s ps (p is q with b) = same (inst given σ p) (replace (by b) (inst given σ q))
     sideHolds σ s ps (start-of n p) = same (inst given σ p) (const (P .init (number given σ n)))
-    sideHolds σ s ps (kept p) = keeps (P .code t k) (inst given σ p)
-    sideHolds σ s ps (lacks-x p) = only (notWord (wordOf (P .code t k))) (inst given σ p)
-    sideHolds σ s ps (no-flag p) = only (notFlag (wordOf (P .code t k))) (inst given σ p)
+    sideHolds σ s ps (kept p) = keeps (half P t k) (inst given σ p)
+    sideHolds σ s ps (lacks-x p) = only (notWord (wordOf (half P t k))) (inst given σ p)
+    sideHolds σ s ps (no-flag p) = only (notFlag (wordOf (half P t k))) (inst given σ p)
     sideHolds σ s ps (by-rows p q) = byRows (P .range) (inst given σ p) (inst given σ q)
     sideHolds σ s ps by-table = byTable (map impOf ps) (impOf s)
 
     abbrev pub operationFits : Shape → List ℕ → Bool
     operationFits (Shape.inside p q) ops = true
     operationFits (Shape.implies p q) ops = true
-    operationFits (Shape.triple p q) ops = isAmong (opcode (P .code t k)) ops
+    operationFits (Shape.triple p q) ops = isAmong (opcode (half P t k)) ops
 
     -- the line says the shape filled so, its premises too, and the operation and the side conditions are right
     abbrev pub fitsBy : Fill → Row → Statement → List Statement → Bool

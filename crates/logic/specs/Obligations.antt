@@ -33,12 +33,12 @@ flat f (a ∷ l) = f a ++ flat f l
 module _ (P : Program) where
   -- an instruction takes its point's assertion to the next; a branch first gives its target, then the next point
   abbrev pub own : ℕ → ℕ → Instr → List Obligation
-  own t k (act c) = step t k ∷ []
+  own t k (act A ns) = step t k ∷ []
   own t k (branch e a) = taken t k ∷ step t k ∷ []
 
   -- the action is no branch
   abbrev pub acting : ℕ → ℕ → ℕ → ℕ → Instr → List Obligation
-  acting u j t k (act c) = interference u j t k ∷ []
+  acting u j t k (act A ns) = interference u j t k ∷ []
   acting u j t k (branch e a) = []
 
   -- the points of t that have an instruction: all but the last
@@ -65,12 +65,12 @@ module _ (P : Program) where
   module _ (O : Outline) where
     -- the next point: from the assertion by the instruction, or from the assertion and the negated test of a branch
     abbrev pub wantsNext : ℕ → ℕ → Instr → Statement
-    wantsNext t k (act c) = triple t k (O t k) (O t (suc k))
+    wantsNext t k (act A ns) = triple t k (O t k) (O t (suc k))
     wantsNext t k (branch e a) = implies (bothA (O t k) (holds (Formula.not e))) (O t (suc k))
 
     -- the target: from the assertion and the test of a branch; an action has none
     abbrev pub wantsTarget : ℕ → ℕ → Instr → Statement
-    wantsTarget t k (act c) = wantsNext t k (act c)
+    wantsTarget t k (act A ns) = wantsNext t k (act A ns)
     wantsTarget t k (branch e a) = implies (bothA (O t k) (holds e)) (O t a)
 
     -- what a line has to say; class 4: both(its assertion, the actor's) is kept as the first

@@ -20,9 +20,9 @@ pub data Premises : Type 0 where
   these : List Shape → Premises
   implications : Premises
 
--- the replacements that rules name
+-- the replacements that rules name: by-notes replaces each noted register by its formula, all at once
 pub data By : Type 0 where
-  r-by-f r-by-x x-by-f : By
+  by-notes r-by-x x-by-f : By
 
 infix 30 _is_with_
 -- what is asked besides. The first is the second with something replaced; it is the start value of the word;
@@ -125,7 +125,7 @@ C = chop (box (cov x)) (one x)
 
 abbrev pub row : Rule → Row
 row r1 = tri accesses P P [] (kept P ∷ [])
-row r2 = tri assigns P Q [] ((P is Q with r-by-f) ∷ [])
+row r2 = tri assigns P Q [] ((P is Q with by-notes) ∷ [])
 row r3 = tri loads (sees t (box F)) (holds E) [] ((F is E with r-by-x) ∷ [])
 row r4 = tri loads (sees t (chop (box F) I)) (eitherA (holds E) Q) (triple (sees t I) Q ∷ []) ((F is E with r-by-x) ∷ [])
 row r5 = tri acquiring (sees t (chop (box (unsync x)) I)) Q (triple (sees t I) Q ∷ []) []
