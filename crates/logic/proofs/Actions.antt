@@ -24,7 +24,7 @@ use Rattle.logic.specs.Inference.{newest, C}
 use Rattle.logic.specs.Machine.{View, State, Write, Program, at}
 use Rattle.logic.specs.Names.{only, notWord, regsIn, notFlag, isReg, startless, Name, n-reg, n-word, n-unsync, n-cov, names}
 use Rattle.logic.specs.Replace.{Note, noted, notes, replace, wordBy}
-use Rattle.logic.specs.Truth.{Sat, True, Prospect, Names, Sees, world}
+use Rattle.logic.specs.Truth.{Sat, True, Prospect, Names, Sees}
 
 pub all-weaken : (f g : Name → Bool) → ((n : Name) → T (f n) → T (g n)) → (l : List Name) → T (all f l) → T (all g l)
 all-weaken f g h [] c = tt
@@ -84,7 +84,7 @@ module _ {P : Program} {t : ℕ} (rel swaps : Bool) (x : ℕ) (f : Value) (ns : 
   write-sees u i c h = result-kept write-act u i c (cover-sees P swaps x p s u i c h)
 
   write-keeps : (q : Assertion) → T (startless q) → T (only (notWord x) q) → True P s q → True P (memory P (write rel swaps x f) t p s) q
-  write-keeps = keep P (notWord x) (world P s) (world P (memory P (write rel swaps x f) t p s)) write-sees agree-refl
+  write-keeps = keep P (notWord x) s (memory P (write rel swaps x f) t p s) write-sees agree-refl
 
 -- 9: a write of f to x keeps a test that held, and would hold with f for x
 module _ {P : Program} {s : State} (d : Insertion P s) (f : Value) (e : Test) (no-flag : T (only (notFlag (d .x)) e)) (ρ : View → Env)

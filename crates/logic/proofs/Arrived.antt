@@ -16,7 +16,7 @@ use Rattle.logic.specs.Formula.{Test, Interval, Assertion, Formula.unsyn
 use Rattle.logic.specs.Machine.{View, State, Program, at, later, join, withView, readView}
 use Rattle.logic.specs.Names.{startless, names}
 use Rattle.logic.specs.Replace.{Note}
-use Rattle.logic.specs.Truth.{Sat, True, Prospect, Sees, world}
+use Rattle.logic.specs.Truth.{Sat, True, Prospect, Sees}
 
 -- t's view names the write at p of x, and all that this write stored if it acquires it
 pub record Here (s : State) (acquires : Bool) (t x p : ℕ) : Type 0 where
@@ -75,7 +75,7 @@ module _ {P : Program} {s : State} (wf : Wf P s) (a : Bool) (t x p : ℕ) (ok : 
   readView-has e y = rw e (omega arith)
 
   readView-true : (q : Assertion) → T (startless q) → True P s q → True P (withView s t v) q
-  readView-true q z h = keep P (λ n. true) (world P s) (world P (withView s t v)) (λ u i c g l pr. g l (lower u l pr)) agree-refl q z (only-any (names q)) h
+  readView-true q z h = keep P (λ n. true) s (withView s t v) (λ u i c g l pr. g l (lower u l pr)) agree-refl q z (only-any (names q)) h
     where
       above : (u y : ℕ) → s .view u y ≤ upd (s .view) t v u y
       above = by-word t _ (λ y. simp upds (readView-above y)) (λ u q y. simp upds (omega arith))

@@ -5,6 +5,7 @@ pub mod Intervals
 pub mod Halves
 pub mod Invariant
 pub mod Prospects
+pub mod World
 pub mod Agreement
 pub mod Replacement
 pub mod Rows

@@ -10,8 +10,9 @@ use Rattle.logic.specs.Eval.{Env, value, test}
 use Rattle.logic.specs.Formula.{Sort, Formula, Formula.const, Formula.reg, Formula.word, Formula.sum, Formula.equal, Formula.less, Formula.and, Formula.or, Formula.unsync, Formula.cov, Formula.box, Formula.one, Formula.chop, Formula.both, Formula.either, Formula.sees, Formula.bothA, Formula.eitherA, Formula.start, Formula.holds}
 use Rattle.logic.specs.Machine.{View, Program}
 use Rattle.logic.specs.Replace.{Sub, replace}
-use Rattle.logic.specs.Truth.{Sat, World, Truth}
+use Rattle.logic.specs.Truth.{Sat}
 use Rattle.logic.proofs.Base.{map-or}
+use Rattle.logic.proofs.World.{World, Truth}
 
 -- the names as the values that replace them
 abbrev pub under : ℕ → Sub → Env → Env

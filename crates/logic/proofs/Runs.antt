@@ -14,7 +14,7 @@ use Rattle.logic.specs.Names.{names, only, isReg, startless}
 use Rattle.logic.specs.Eval.{test, onRegs}
 use Rattle.logic.specs.Replace.{Note}
 use Rattle.logic.specs.Machine.{State, Program, Access, Access.none, Access.load, Access.write, Mode.store, Mode.swap, Instr, Instr.act, Instr.branch, Start, Step, withPoint, exec, allowed, instrAt, permitted, step, run}
-use Rattle.logic.specs.Truth.{True, world}
+use Rattle.logic.specs.Truth.{True}
 use Rattle.logic.specs.Statement.{Statement, implies, triple, first}
 use Rattle.logic.specs.Obligations
 use Rattle.logic.specs.Obligations.{Outline, Obligation, below, upTo, flat, own, acting, instructed, actions, starts, steps, interferences, obligations, wants}
@@ -97,7 +97,7 @@ module _ (P : Program) (O : Outline) (W : WellFormed P O) (D : Proved P O) where
 
   -- the points change, and nothing else
   moved-on : (s : State) (t k : ℕ) (a : Assertion) → T (startless a) → True P s a → True P (withPoint s t k) a
-  moved-on s t k a z = keep P (λ n. true) (world P s) (world P (withPoint s t k)) (λ u i c h. h) agree-refl a z (only-any (names a))
+  moved-on s t k a z = keep P (λ n. true) s (withPoint s t k) (λ u i c h. h) agree-refl a z (only-any (names a))
 
   module _ (s : State) (inv : Inv P O s) (t : ℕ) (t-in : Within (P .threads) t) (more : suc (s .point t) < P .points t) where
     no-start-at : (u : ℕ) → Within (P .threads) u → T (startless (O u (s .point u)))
