@@ -18,16 +18,17 @@ use Rattle.logic.specs.Table.{Imp, byTable}
 use Rattle.logic.specs.Machine.{Program, Mode.store, Mode.swap, Action.assign, Action.load, Action.write, Instr, Instr.act, Instr.branch}
 use Rattle.logic.specs.Statement
 use Rattle.logic.specs.Statement.{Statement, isImp}
-use Rattle.logic.specs.Pattern
-use Rattle.logic.specs.Pattern.{Num, Pattern, Given, Fill, number, inst}
-use Rattle.logic.specs.Rules
-use Rattle.logic.specs.Rules.{Rule, Shape, Shape.inside, Shape.implies, Shape.triple, Premises, these, implications, By, r-by-f, r-by-x, x-by-f, Side, _is_with_, start-of, kept, lacks-x, no-flag, by-rows, by-table, Row, row, r1, r2, r3, r4, r5, r6, r7, r8, r9, r10, r11, r12, r13, r14, r15, r16, r20, r21, r22, r23, r24, r25, r26, r27, r30, r31, r32, r33, r34, r35, r36, r37, r38, r39, r40, r41, r42, r43, r44, r45, r46}
+use Rattle.patterns.specs.Pattern
+use Rattle.patterns.specs.Pattern.{Num, Pattern, Given, Fill, number, inst}
+use Rattle.patterns.specs.Rules
+use Rattle.logic.specs.Rule.{Rule, r1, r2, r3, r4, r5, r6, r7, r8, r9, r10, r11, r12, r13, r14, r15, r16, r20, r21, r22, r23, r24, r25, r26, r27, r30, r31, r32, r33, r34, r35, r36, r37, r38, r39, r40, r41, r42, r43, r44, r45, r46}
+use Rattle.patterns.specs.Rules.{Shape, Shape.inside, Shape.implies, Shape.triple, Premises, these, implications, By, r-by-f, r-by-x, x-by-f, Side, _is_with_, start-of, kept, lacks-x, no-flag, by-rows, by-table, Row, row}
 use Rattle.logic.specs.Inference.{keeps}
-use Rattle.logic.specs.Fits.{isAmong, opcode, wordOf, regOf, formulaOf, threadOf, pointOf, given, by, filled, filledAll, sideHolds, operationFits, found, fits}
+use Rattle.patterns.specs.Fits.{isAmong, opcode, wordOf, regOf, formulaOf, threadOf, pointOf, given, by, filled, filledAll, sideHolds, operationFits, found, fits}
 use Rattle.logic.proofs.Base.{bool-ext, and-left, and-right, and-both, all-All}
 use Rattle.logic.proofs.Encoding.{same-eq, same-refl}
-use Rattle.logic.proofs.Fit.{All-all, Fit, PremisesFit, fit}
-use Rattle.logic.proofs.Rules.{rule-of, rule-fits}
+use Rattle.patterns.proofs.Fit.{All-all, Fit, PremisesFit, fit}
+use Rattle.patterns.proofs.Rules.{rule-of, rule-fits}
 use Rattle.formula.specs.Codes.{hasOperand}
 use Rattle.formula.specs.Tree.{Tree, Tree.node}
 use Rattle.compare.specs.Same.{sameTree}

@@ -13,10 +13,11 @@ use Rattle.logic.specs.Opcode
 use Rattle.logic.specs.Machine.{Program, Instr}
 use Rattle.logic.specs.Statement
 use Rattle.logic.specs.Statement.{Statement}
-use Rattle.logic.specs.Pattern
-use Rattle.logic.specs.Rules
-use Rattle.logic.specs.Rules.{Rule, Shape, Shape.inside, Shape.implies, Shape.triple, Premises, these, implications, By, r-by-f, r-by-x, x-by-f, Side, _is_with_, start-of, kept, lacks-x, no-flag, by-rows, by-table, Row, row}
-use Rattle.logic.specs.Fits.{isAmong, opcode, wordOf, regOf, formulaOf, threadOf, pointOf}
+use Rattle.patterns.specs.Pattern
+use Rattle.patterns.specs.Rules
+use Rattle.logic.specs.Rule.{Rule}
+use Rattle.patterns.specs.Rules.{Shape, Shape.inside, Shape.implies, Shape.triple, Premises, these, implications, By, r-by-f, r-by-x, x-by-f, Side, _is_with_, start-of, kept, lacks-x, no-flag, by-rows, by-table, Row, row}
+use Rattle.patterns.specs.Fits.{isAmong, opcode, wordOf, regOf, formulaOf, threadOf, pointOf}
 use Rattle.formula.specs.Tree.{Tree, Tree.node}
 use Rattle.compare.specs.Same.{sameTree}
 use Rattle.compare.specs.Replace.{replaceT, oneName}

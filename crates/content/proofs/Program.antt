@@ -15,7 +15,7 @@ use Rattle.logic.specs.Names.{only, isReg}
 use Rattle.logic.specs.Eval.{bounded}
 use Rattle.logic.specs.Opcode as Opcode
 use Rattle.logic.specs.Machine.{Program}
-use Rattle.logic.specs.EveryRun.{proper, WellFormed}
+use Rattle.logic.specs.WellFormed.{proper, WellFormed}
 use Rattle.logic.proofs.Base.{and-both}
 use Rattle.limits.specs.Limits as Limits
 use Rattle.limits.specs.Numbers.{nth, numbers, within, every}

@@ -9,7 +9,7 @@ use lib.ListN.{getD, List·getD-eq-default, List·getD-append}
 use lib.Seq.{getD-at}
 use borrow.Author.Tests.{eqb-true, eqb-false, ltb-true, ltb-false, lt-leb, le-ltb}
 use Rattle.logic.specs.Obligations.{below}
-use Rattle.logic.specs.Rules.{row}
+use Rattle.patterns.specs.Rules.{row}
 use Rattle.limits.specs.Numbers.{every}
 use Rattle.records.specs.Line.{formOf}
 use Rattle.certificate.specs.FitT as FitT

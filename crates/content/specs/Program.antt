@@ -7,7 +7,7 @@ use lib.ListN.{getD}
 use Rattle.logic.specs.Formula.{Sort, Formula.const}
 use Rattle.logic.specs.Opcode as Opcode
 use Rattle.logic.specs.Machine.{Program, Mode.store, Mode.swap, Action.assign, Action.load, Action.write, Instr, Instr.act, Instr.branch}
-use Rattle.logic.specs.Obligations.{Outline}
+use Rattle.logic.specs.EveryRun.{Outline}
 use Rattle.limits.specs.Limits as Limits
 use Rattle.limits.specs.Numbers.{nth, numbers}
 use Rattle.program.specs.declared.sizes.Sizes.{Sizes}

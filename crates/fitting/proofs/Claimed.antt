@@ -9,7 +9,7 @@ use lib.ListN.{getD}
 use borrow.Author.Tests.{eqb-true, ltb-true, ltb-false, lt-leb, le-ltb}
 use Rattle.logic.specs.Base.{Within}
 use Rattle.logic.specs.Obligations.{below}
-use Rattle.logic.specs.Rules.{row}
+use Rattle.patterns.specs.Rules.{row}
 use Rattle.limits.specs.Numbers.{every}
 use Rattle.frames.specs.Records.{bodies}
 use Rattle.program.specs.declared.sizes.Sizes.{Sizes}

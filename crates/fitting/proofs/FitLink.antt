@@ -10,8 +10,9 @@ use lib.ListN.{length}
 use borrow.Author.Tests.{eqb-true, eqb-false, eq-eqb, ne-eqb, lt-ltb}
 use Rattle.logic.specs.Base.{all}
 use Rattle.logic.specs.Opcode
-use Rattle.logic.specs.Rules.{Rule, Shape, Premises, these, implications, row}
-use Rattle.logic.specs.Fits.{isAmong}
+use Rattle.logic.specs.Rule.{Rule}
+use Rattle.patterns.specs.Rules.{Shape, Premises, these, implications, row}
+use Rattle.patterns.specs.Fits.{isAmong}
 use Rattle.limits.specs.Limits as Limits
 use Rattle.formula.specs.Codes.{member}
 use Rattle.matcher.specs.Match.{Taken, andThen}

@@ -9,7 +9,7 @@ use Rattle.logic.specs.Base.{Within}
 use Rattle.logic.specs.Opcode
 use Rattle.logic.specs.Machine.{Program, Mode.store, Mode.swap, Action.assign, Action.load, Action.write, Instr, Instr.act, Instr.branch}
 use Rattle.logic.specs.Statement.{Statement}
-use Rattle.logic.specs.Fits.{opcode}
+use Rattle.patterns.specs.Fits.{opcode}
 use Rattle.limits.specs.Limits as Limits
 use Rattle.limits.specs.Numbers.{within, every}
 use Rattle.frames.specs.Records.{bodies}

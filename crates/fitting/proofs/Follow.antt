@@ -7,7 +7,7 @@ use native.Mathlib.Omega.{arith}
 use mathlib.Core.Option.{none}
 use lib.ListN.{length}
 use lib.Dec.{T, eqb}
-use Rattle.logic.specs.Rules.{Shape}
+use Rattle.patterns.specs.Rules.{Shape}
 use Rattle.limits.specs.Limits.{nesting}
 use Rattle.formula.specs.Tree.{Tree, skim}
 use Rattle.matcher.specs.Match.{andThen, matchT}

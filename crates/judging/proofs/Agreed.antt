@@ -8,7 +8,7 @@ use native.Mathlib.Omega.{arith}
 use lib.Dec.{eqb}
 use borrow.Author.Tests.{eqb-false}
 use Rattle.logic.specs.Base.{All, Within}
-use Rattle.logic.specs.Fits.{sameStatement}
+use Rattle.patterns.specs.Fits.{sameStatement}
 use Rattle.logic.specs.Obligations as Logic
 use Rattle.logic.specs.Obligations.{obligations}
 use Rattle.frames.specs.Records.{bodies}

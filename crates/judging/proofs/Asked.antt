@@ -13,10 +13,11 @@ use Rattle.logic.specs.Opcode as Opcode
 use Rattle.logic.specs.Names.{only, isReg}
 use Rattle.logic.specs.Machine.{Program, Instr, Instr.act, Instr.branch}
 use Rattle.logic.specs.Statement.{Statement, inside, implies, triple, isBranch}
-use Rattle.logic.specs.Fits.{sameStatement}
+use Rattle.patterns.specs.Fits.{sameStatement}
 use Rattle.logic.specs.Obligations as Logic
-use Rattle.logic.specs.Obligations.{Outline, wantsNext, wantsTarget}
-use Rattle.logic.specs.EveryRun.{proper}
+use Rattle.logic.specs.EveryRun.{Outline}
+use Rattle.logic.specs.Obligations.{wantsNext, wantsTarget}
+use Rattle.logic.specs.WellFormed.{proper}
 use Rattle.logic.proofs.Base.{and-right}
 use Rattle.limits.specs.Limits as Limits
 use Rattle.frames.specs.Records.{bodies}

@@ -19,8 +19,6 @@ pub mod Actions
 pub mod Steps
 pub mod Sound
 pub mod Runs
-pub mod Fit
-pub mod Rules
 pub mod Permitted
 pub mod Computed
 pub mod Flags

@@ -17,8 +17,10 @@ use Rattle.logic.specs.Machine.{State, Program, Access, Access.none, Acc
 use Rattle.logic.specs.Truth.{True}
 use Rattle.logic.specs.Statement.{Statement, implies, triple, first}
 use Rattle.logic.specs.Obligations
-use Rattle.logic.specs.Obligations.{Outline, Obligation, below, upTo, flat, own, acting, instructed, actions, starts, steps, interferences, obligations, wants}
-use Rattle.logic.specs.EveryRun.{proper, WellFormed, Derived, by-rule, Proved, Holds, EveryRun}
+use Rattle.logic.specs.EveryRun.{Outline, Holds, EveryRun}
+use Rattle.logic.specs.Obligations.{Obligation, below, upTo, flat, own, acting, instructed, actions, starts, steps, interferences, obligations, wants}
+use Rattle.logic.specs.WellFormed.{proper, WellFormed}
+use Rattle.logic.specs.Derivation.{Derived, by-rule, Proved}
 use Rattle.logic.proofs.Base.{by-word, upds, and-left, and-right, and-both, is-true, All-left, All-right}
 use Rattle.logic.proofs.Agreement.{keep, agree-refl, only-any}
 use Rattle.logic.proofs.Invariant.{Wf, start-wf}

@@ -18,10 +18,10 @@ use Rattle.logic.specs.Machine
 use Rattle.logic.specs.Machine.{View, State, Program, Mode, Mode.store, Mode.swap, Access, Instr, Instr.act, Instr.branch, Start, at}
 use Rattle.logic.specs.Truth.{Sat, True, Prospect, Sees, Names}
 use Rattle.logic.specs.Statement.{Statement, inside, implies, triple, isPair, first, half, admitted, isImp, impOf}
-use Rattle.logic.specs.Rules.{Rule}
+use Rattle.logic.specs.Rule.{Rule}
 use Rattle.logic.specs.Inference
 use Rattle.logic.specs.Inference.{Inference, newest, keeps}
-use Rattle.logic.specs.EveryRun.{properValue, properAccess, proper}
+use Rattle.logic.specs.WellFormed.{properValue, properAccess, proper}
 use Rattle.logic.proofs.Base.{and-left, and-right, and-both, is-true, all-All, map-or}
 use Rattle.logic.proofs.Cuts.{All-take, All-drop, All-map}
 use Rattle.logic.proofs.Intervals.{rule-33, rule-34, rule-35, rule-36, rule-37, rule-38}

@@ -10,7 +10,7 @@ use Rattle.logic.specs.Names.{only, isReg}
 use Rattle.logic.specs.Replace.{Note, noted}
 use Rattle.logic.specs.Eval.{onRegs}
 use Rattle.logic.specs.Machine.{View, State, Program, Mode.store, Mode.swap, Access, Access.none, Access.load, Access.write, Instr.act, at, join, worked, shared, given, returned, withView, withRegs, moveTo, upView, inserted, insert, cover, readView, swapView, exec, allowed}
-use Rattle.logic.specs.EveryRun.{properValue, properAccess, proper}
+use Rattle.logic.specs.WellFormed.{properValue, properAccess, proper}
 use Rattle.logic.proofs.Base.{upds, upd-same, upd-other, by-word, and-left, and-right}
 use Rattle.logic.proofs.Agreement.{value-agree}
 use Rattle.logic.proofs.Halves

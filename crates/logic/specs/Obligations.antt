@@ -3,9 +3,10 @@ use mathlib.Core.Bool.{true, false}
 use mathlib.Core.List.{List, [], _∷_, _++_, map}
 use Prim.Native.Nat.{ℕ, zero, suc, _-_}
 use lib.Dec.{eqb}
-use Rattle.logic.specs.Formula.{Formula, Assertion, Formula.bothA, Formula.holds}
+use Rattle.logic.specs.Formula.{Formula, Formula.bothA, Formula.holds}
 use Rattle.logic.specs.Machine.{Program, Instr, Instr.act, Instr.branch}
 use Rattle.logic.specs.Statement.{Statement, implies, triple}
+use Rattle.logic.specs.EveryRun.{Outline}
 
 -- class 1: start t. Class 2: step t k, the instruction at point k of t leads to the next point. Class 3: taken t k, a branch leads to its target.
 -- Class 4: interference u j t k, the assertion of u at its point j under the instruction at point k of t
@@ -13,10 +14,6 @@ pub data Obligation : Type 0 where
   start : ℕ → Obligation
   step taken : ℕ → ℕ → Obligation
   interference : ℕ → ℕ → ℕ → ℕ → Obligation
-
--- an assertion for each thread and point
-abbrev pub Outline : Type 0
-Outline = ℕ → ℕ → Assertion
 
 -- 0 to n - 1; 1 to n
 abbrev pub below : ℕ → List ℕ

@@ -8,7 +8,7 @@ use lib.Dec.{ltb, leb}
 use Rattle.logic.specs.Code
 use Rattle.logic.specs.Code.{byte}
 use Rattle.logic.specs.Formula.{Sort, Formula}
-use Rattle.logic.specs.Pattern.{Num, Pattern, Given, t, x, r, u, y, anyA, anyI, anyE, anyV, f, const, reg, word, equal, and, unsync, cov, box, one, chop, both, either, sees, bothA, eitherA, start, holds, number, inst}
+use Rattle.patterns.specs.Pattern.{Num, Pattern, Given, t, x, r, u, y, anyA, anyI, anyE, anyV, f, const, reg, word, equal, and, unsync, cov, box, one, chop, both, either, sees, bothA, eitherA, start, holds, number, inst}
 use Rattle.formula.specs.Codes.{hasOperand}
 use Rattle.formula.specs.Tree.{Tree, node}
 use Rattle.trees.specs.Raw.{raw, shaped}

@@ -10,10 +10,10 @@ use borrow.Author.Tests.{eqb-true, eqb-false}
 use lib.ListN.{length, getD, take}
 use lib.Seq.{take-length}
 use Rattle.logic.specs.Statement.{Statement}
-use Rattle.logic.specs.Fits.{sameStatement}
+use Rattle.patterns.specs.Fits.{sameStatement}
 use Rattle.logic.specs.Obligations.{Obligation, Obligation.start, obligations}
 use Rattle.logic.proofs.Base.{is-true, holds-true}
-use Rattle.logic.proofs.Fit.{statement-eq, statement-refl}
+use Rattle.patterns.proofs.Fit.{statement-eq, statement-refl}
 use Rattle.certificate.specs.Lines.{marked}
 use Rattle.certificate.proofs.Marks.{justified-marked}
 use Rattle.outline.specs.Verdict.{Image, Outcome, met, failed, codeOf, asks, code, outcome, Met, AllMet, Admitted}

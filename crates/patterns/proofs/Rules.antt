@@ -5,21 +5,22 @@ use mathlib.Core.List.{List, [], _∷_, map}
 use Prim.Native.Nat.{ℕ, _≤_}
 use lib.Dec.{T, leb, leb→le, le→leb}
 use lib.ListN.{length}
 use Rattle.logic.specs.Base.{upd, all}
 use Rattle.logic.specs.Limits
 use Rattle.logic.specs.Formula.{Value, Test, Assertion, Formula.const, Formula.word, Formula.box, Formula.chop, Formula.sees, Formula.bothA, Formula.eitherA, Formula.start, Formula.holds}
 use Rattle.logic.specs.Replace.{Note, notes, replace, regBy, wordBy}
 use Rattle.logic.specs.Table.{byTable}
 use Rattle.logic.specs.Machine.{Program, Mode, Mode.store, Mode.swap, Access.none, Access.load, Access.write, Instr, Instr.act, Instr.branch}
 use Rattle.logic.specs.Statement.{Statement, implies, triple, isBranch, first, isImp, impOf}
-use Rattle.logic.specs.Pattern.{Fill}
-use Rattle.logic.specs.Rules
-use Rattle.logic.specs.Rules.{Rule, row, r1, r2, r3, r4, r5, r6, r7, r8, r9, r10, r11, r12, r13, r14, r15, r16, r20, r21, r22, r23, r24, r25, r26, r27, r30, r31, r32, r33, r34, r35, r36, r37, r38, r39, r40, r41, r42, r43, r44, r45, r46}
+use Rattle.patterns.specs.Pattern.{Fill}
+use Rattle.patterns.specs.Rules
+use Rattle.logic.specs.Rule.{Rule, r1, r2, r3, r4, r5, r6, r7, r8, r9, r10, r11, r12, r13, r14, r15, r16, r20, r21, r22, r23, r24, r25, r26, r27, r30, r31, r32, r33, r34, r35, r36, r37, r38, r39, r40, r41, r42, r43, r44, r45, r46}
+use Rattle.patterns.specs.Rules.{row}
 use Rattle.logic.specs.Inference.{Inference, newest, keeps, i1, i2, i3, i4, i5-load, i5-swap, i6, i7, i8, i9, i10, i11, i12, i13, i14, i15, i16, i20, i21, i22, i23, i24, i25, i26, i27, i30, i31, i32, i33, i34, i35, i36, i37, i38, i39, i40, i41, i42, i43, i44, i45, i46}
-use Rattle.logic.specs.Fits.{isAmong, opcode, threadOf, pointOf, found, fits}
+use Rattle.patterns.specs.Fits.{isAmong, opcode, threadOf, pointOf, found, fits}
 use Rattle.logic.proofs.Base.{and-left, and-right, and-both}
 use Rattle.logic.proofs.Encoding.{same-eq, same-refl}
-use Rattle.logic.proofs.Fit.{fit, fit-back, Fit, as-assign, as-load, as-acquire, as-store, as-release, as-write, as-swap}
+use Rattle.patterns.proofs.Fit.{fit, fit-back, Fit, as-assign, as-load, as-acquire, as-store, as-release, as-write, as-swap}
 
 -- an operation that is no branch
 acts : (c : Instr) → T (isAmong (opcode c) Rules.actions) → T (not (isBranch c))

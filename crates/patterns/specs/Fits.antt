@@ -5,20 +5,21 @@ use mathlib.Core.List.{List, [], _∷_, map}
 use Prim.Native.Nat.{ℕ}
 use lib.Dec.{eqb, leb}
 use lib.ListN.{length}
 use Rattle.logic.specs.Base.{upd, all}
 use Rattle.logic.specs.Limits
 use Rattle.logic.specs.Opcode
 use Rattle.logic.specs.Formula.{Sort, Formula, Value, Test, Interval, Assertion, Formula.const, Formula.reg, Formula.word, Formula.sum, Formula.equal, Formula.less, Formula.and, Formula.or, Formula.unsync, Formula.cov, Formula.box, Formula.one, Formula.chop, Formula.both, Formula.either, Formula.sees, Formula.bothA, Formula.eitherA, Formula.start, Formula.holds, same}
 use Rattle.logic.specs.Names.{only, notWord, notFlag}
 use Rattle.logic.specs.Replace.{Note, Sub, replace, notes, regBy, wordBy}
 use Rattle.logic.specs.Rows.{byRows}
 use Rattle.logic.specs.Table.{byTable}
 use Rattle.logic.specs.Machine.{Program, Mode.store, Mode.swap, Access.none, Access.load, Access.write, Instr, Instr.act, Instr.branch}
 use Rattle.logic.specs.Statement.{Statement, inside, implies, triple, half, isImp, impOf}
-use Rattle.logic.specs.Pattern
-use Rattle.logic.specs.Pattern.{Num, Pattern, Given, Fill, number, inst}
-use Rattle.logic.specs.Rules.{Rule, Shape, Premises, these, implications, By, by-notes, r-by-x, x-by-f, Side, _is_with_, start-of, kept, lacks-x, no-flag, by-rows, by-table, Row, row}
+use Rattle.patterns.specs.Pattern
+use Rattle.patterns.specs.Pattern.{Num, Pattern, Given, Fill, number, inst}
+use Rattle.logic.specs.Rule.{Rule}
+use Rattle.patterns.specs.Rules.{Shape, Premises, these, implications, By, by-notes, r-by-x, x-by-f, Side, _is_with_, start-of, kept, lacks-x, no-flag, by-rows, by-table, Row, row}
 use Rattle.logic.specs.Inference.{keeps}
 
 -- the number, the first and the second part of a formula; where there is none, any
 abbrev pub numberV : Value → ℕ
