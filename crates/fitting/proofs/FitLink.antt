@@ -29,18 +29,18 @@ use Rattle.content.specs.declared.acting.Acting.{Acting}
 use Rattle.rulebook.specs.Rulebook.{anyImplications, ruleRow, templates}
 use Rattle.rulebook.specs.Listed.{numberOf, packed, premiseCount, allows}
 use Rattle.rulebook.specs.declared.rule.Rule as Code
-use Rattle.fitting.specs.Claim.{saidAt, claimAt, claimsFrom, matchClaim, matchFrom}
-use Rattle.fitting.specs.LineClaim.{claimBy}
-use Rattle.fitting.specs.Premises.{isImplicationAt, allImplications, matchPremises}
+use Rattle.conclusions.specs.Claim.{saidAt, claimAt, claimsFrom, matchClaim, matchFrom}
+use Rattle.conclusions.specs.LineClaim.{claimBy}
+use Rattle.conclusions.specs.Premises.{isImplicationAt, allImplications, matchPremises}
 use Rattle.fitting.specs.Preset.{presetAt}
-use Rattle.fitting.specs.Asked.{asked}
+use Rattle.sides.specs.Asked.{asked}
 use Rattle.fitting.specs.Fit.{isAllowed, restAt, lineMatch, fitsRow}
-use Rattle.fitting.specs.declared.claim.Claim.{Claim}
-use Rattle.fitting.specs.declared.claim.Premises as Claims
-use Rattle.fitting.proofs.Follow.{StandAll, ClaimFollows, claim-follows, from-follows}
+use Rattle.conclusions.specs.declared.claim.Claim.{Claim}
+use Rattle.conclusions.specs.declared.claim.Premises as Claims
+use Rattle.conclusions.proofs.Follow.{StandAll, ClaimFollows, claim-follows, from-follows}
 use Rattle.fitting.proofs.Known.{preset-sized, preset-taken}
-use Rattle.fitting.proofs.Row.{row-form, row-premises, row-few, row-forms, row-side, row-stands, row-operations}
-use Rattle.fitting.proofs.SidesLink.{startOf, sides-are}
+use Rattle.conclusions.proofs.Row.{row-form, row-premises, row-few, row-forms, row-side, row-stands, row-operations}
+use Rattle.sides.proofs.SidesLink.{startOf, sides-are}
 
 and-cond : (a b : Bool) → a && b ≡ cond a b false
 and-cond true b = refl

@@ -31,13 +31,13 @@ use Rattle.content.proofs.Checked.{Checks}
 use Rattle.content.proofs.Lines.{in-range, premises-few, premise-count}
 use Rattle.content.proofs.Trees.{line-acting}
 use Rattle.rulebook.specs.Rulebook.{templates}
-use Rattle.fitting.specs.Claim.{saidAt, claimAt, claimsFrom}
-use Rattle.fitting.specs.LineClaim.{claimBy, lineAt, claimOf}
-use Rattle.fitting.specs.Premises.{premiseClaim, premisesOf}
+use Rattle.conclusions.specs.Claim.{saidAt, claimAt, claimsFrom}
+use Rattle.conclusions.specs.LineClaim.{claimBy, lineAt, claimOf}
+use Rattle.conclusions.specs.Premises.{premiseClaim, premisesOf}
 use Rattle.fitting.specs.Fit.{actingIn, fitsLine}
-use Rattle.fitting.specs.declared.claim.Premises as Claims
-use Rattle.fitting.proofs.Claimed.{rule-number, line-listed, claim-said}
-use Rattle.fitting.proofs.SidesLink.{startOf}
+use Rattle.conclusions.specs.declared.claim.Premises as Claims
+use Rattle.conclusions.proofs.Claimed.{rule-number, line-listed, claim-said}
+use Rattle.sides.proofs.SidesLink.{startOf}
 use Rattle.fitting.proofs.FitLink.{says, fits-same}
 
 -- operations are 0 to 6

@@ -1,12 +1,11 @@
 // Whether a line fits its rule.
-use crate::asked::is_asked;
-use crate::claim::Claim;
-use crate::claim::Premises;
-use crate::claim::match_claim;
-use crate::line_claim::claim_by;
-use crate::premises::match_premises;
-use crate::premises::premises_of;
 use crate::preset::preset_at;
+use conclusions::claim::Claim;
+use conclusions::claim::Premises;
+use conclusions::claim::match_claim;
+use conclusions::line_claim::claim_by;
+use conclusions::premises::match_premises;
+use conclusions::premises::premises_of;
 use content::acting::Acting;
 use content::acting::acting_of;
 use content::line::Line;
@@ -18,6 +17,7 @@ use program::sizes::Sizes;
 use rulebook::rule::Form;
 use rulebook::rule::Rule;
 use rulebook::rule::rule_at;
+use sides::asked::is_asked;
 ghost use mathlib.Core.Path.{_≡_};
 ghost use Rattle.frames.specs.Records.{indexOf};
 ghost use Rattle.fitting.specs.Fit.{isAllowed, restAt, lineMatch, fitsRow, fitsLine};

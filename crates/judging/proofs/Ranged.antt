@@ -9,7 +9,7 @@ use Rattle.logic.specs.Base.{All, Within}
 use Rattle.logic.specs.Machine.{Program, Instr, Instr.act, Instr.branch}
 use Rattle.logic.specs.Statement.{isBranch}
 use Rattle.logic.specs.Obligations.{Obligation, Obligation.start, below, upTo, flat, own, acting, instructed, actions, starts, steps, interferences, obligations}
-use Rattle.judging.proofs.Asked.{InRange}
+use Rattle.wanted.proofs.Asked.{InRange}
 
 all-append : {A : Type 0} (Q : A → Type 0) (l m : List A) → All Q l → All Q m → All Q (l ++ m)
 all-append Q [] m h g = g

@@ -1,10 +1,10 @@
 // The outcome so far, and one obligation more.
-use crate::concluding::Unmet;
-use crate::concluding::code_at;
 use content::named::named_line;
 use content::totals::Sums;
 use program::sizes::Sizes;
 use report::obligation::Obligation;
+use wanted::concluding::Unmet;
+use wanted::concluding::code_at;
 ghost use mathlib.Core.Path.{_≡_};
 ghost use Rattle.frames.specs.Records.{bodies, indexOf};
 ghost use Rattle.content.specs.Sums.{sumsOf};

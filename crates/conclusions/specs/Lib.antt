@@ -1,0 +1,3 @@
+pub mod Claim
+pub mod LineClaim
+pub mod Premises
