@@ -12,19 +12,19 @@ use Rattle.logic.specs.Base.{upd, all, All}
 use Rattle.logic.specs.Limits
 use Rattle.logic.specs.Formula.{Sort, Formula, Assertion, Test, Formula.const, Formula.word, same}
 use Rattle.logic.specs.Names.{only, notReg, notWord, notFlag}
-use Rattle.logic.specs.Replace.{replace, regBy, wordBy}
+use Rattle.logic.specs.Replace.{Sub, replace, notes, regBy, wordBy}
 use Rattle.logic.specs.Rows.{byRows}
 use Rattle.logic.specs.Table.{Imp, byTable}
-use Rattle.logic.specs.Machine.{Program, Mode.store, Mode.swap, Action.assign, Action.load, Action.write, Instr, Instr.act, Instr.branch}
+use Rattle.logic.specs.Machine.{Program, Mode.store, Mode.swap, Access.none, Access.load, Access.write, Instr, Instr.act, Instr.branch}
 use Rattle.logic.specs.Statement
-use Rattle.logic.specs.Statement.{Statement, isImp}
+use Rattle.logic.specs.Statement.{Statement, half, isImp}
 use Rattle.patterns.specs.Pattern
 use Rattle.patterns.specs.Pattern.{Num, Pattern, Given, Fill, number, inst}
 use Rattle.patterns.specs.Rules
 use Rattle.logic.specs.Rule.{Rule, r1, r2, r3, r4, r5, r6, r7, r8, r9, r10, r11, r12, r13, r14, r15, r16, r20, r21, r22, r23, r24, r25, r26, r27, r30, r31, r32, r33, r34, r35, r36, r37, r38, r39, r40, r41, r42, r43, r44, r45, r46}
-use Rattle.patterns.specs.Rules.{Shape, Shape.inside, Shape.implies, Shape.triple, Premises, these, implications, By, r-by-f, r-by-x, x-by-f, Side, _is_with_, start-of, kept, lacks-x, no-flag, by-rows, by-table, Row, row}
+use Rattle.patterns.specs.Rules.{Shape, Shape.inside, Shape.implies, Shape.triple, Premises, these, implications, By, by-notes, r-by-x, x-by-f, Side, _is_with_, start-of, kept, lacks-x, no-flag, by-rows, by-table, Row, row}
 use Rattle.logic.specs.Inference.{keeps}
-use Rattle.patterns.specs.Fits.{isAmong, opcode, wordOf, regOf, formulaOf, threadOf, pointOf, given, by, filled, filledAll, sideHolds, operationFits, found, fits}
+use Rattle.patterns.specs.Fits.{isAmong, opcode, wordOf, regOf, formulaOf, notesOf, threadOf, pointOf, given, by, filled, filledAll, sideHolds, operationFits, found, fits}
 use Rattle.logic.proofs.Base.{bool-ext, and-left, and-right, and-both, all-All}
 use Rattle.logic.proofs.Encoding.{same-eq, same-refl}
 use Rattle.patterns.proofs.Fit.{All-all, Fit, PremisesFit, fit}
@@ -32,20 +32,20 @@ use Rattle.patterns.proofs.Rules.{rule-of, rule-fits}
 use Rattle.formula.specs.Codes.{hasOperand}
 use Rattle.formula.specs.Tree.{Tree, Tree.node}
 use Rattle.compare.specs.Same.{sameTree}
-use Rattle.compare.specs.Replace.{replaceT, oneName}
+use Rattle.compare.specs.Replace.{replaceT}
 use Rattle.occurs.specs.Occurs.{occurs, register, wordAnyRole, flag}
 use Rattle.trees.specs.Raw.{raw, shaped}
 use Rattle.rows.specs.Claim.{ImpT}
 use Rattle.rows.specs.Rows.{rowsT, tableT}
 use Rattle.trees.proofs.Raw.{shaped-raw, raw-same}
-use Rattle.trees.proofs.Replace.{raw-reg, raw-word}
+use Rattle.trees.proofs.Replace.{raw-reg, raw-word, raw-notes}
 use Rattle.trees.proofs.Occurs
 use Rattle.trees.proofs.Occurs.{no-register, no-word}
 use Rattle.rows.proofs.Link.{rawImp, raw-rows, raw-table}
 use Rattle.matcher.specs.Template.{firstHole, firstNumber, formulaHole, numHole, rawP, Holes, instT, fillOf}
 use Rattle.matcher.specs.Match.{Taken, andThen, when, matchT}
 use Rattle.certificate.specs.FitT
-use Rattle.certificate.specs.FitT.{inclusion, implication, hoare, Said, said, Acting, acting, formOf, leftOf, rightOf, placed, matchSides, matchLine, matchAll, isImplication, matchPremises, preset, orElse, holesFrom, ofWord, replacedNumber, replacing, keepsT, sideT, operationT, restT, answer, fitsAt, fitsT}
+use Rattle.certificate.specs.FitT.{inclusion, implication, hoare, Said, said, Acting, acting, formOf, leftOf, rightOf, placed, matchSides, matchLine, matchAll, isImplication, matchPremises, preset, orElse, holesFrom, replacing, keepsT, sideT, operationT, restT, answer, fitsAt, fitsT}
 use Rattle.matcher.proofs.Match.{Has, match-sound, then-some, when-some, Goes, goes-then, goes-when, match-goes}
 use Rattle.matcher.proofs.Template.{Agrees, from-tree}
 
@@ -182,30 +182,34 @@ module _ (P : Program) (i k : ℕ) (c : Holes) (ag : Agrees (given P i k) c) whe
 same-comm : {s : Sort} (f h : Formula s) → same f h ≡ same h f
 same-comm f h = bool-ext (same f h) (same h f) (λ z. subst (λ (w : Formula _). T (same w f)) (same-eq f h z) (same-refl f)) (λ z. subst (λ (w : Formula _). T (same w h)) (same-eq h f z) (same-refl h))
 
+-- a replacement in trees that is one in formulas
+as-formula : {s : Sort} {τ : Tree} (σ : Sub) (f h : Formula s) → τ ≡ raw (replace σ f) → sameTree τ (raw h) ≡ same h (replace σ f)
+as-formula σ f h e = ap (λ (t : Tree). sameTree t (raw h)) e ∙ (raw-same (replace σ f) h ∙ same-comm (replace σ f) h)
+
 -- SIDE CONDITIONS: each is the same of trees and of formulas, if the trees in the holes are those of the formulas
 module _ (P : Program) (i k : ℕ) (σ : Fill) (d : Holes) (two : 2 ≤ P .range) where
   abbrev g : Given
   g = given P i k
 
   abbrev a : Acting
-  a = acting (P .code i k)
+  a = acting (half P i k)
 
   not-of : (u v : Bool) → u ≡ not v → not u ≡ v
   not-of u true e = rw e
   not-of u false e = rw e
 
-  replaced-same : {s : Sort} (b : By) (f h : Formula s) → sameTree (replaceT (oneName (ofWord (P .range) (P .init) a b) (replacedNumber (P .range) (P .init) a b) (replacing (P .range) (P .init) a b)) (raw f)) (raw h) ≡ same h (replace (by P i k b) f)
-  replaced-same r-by-f f h = ap (λ (t : Tree). sameTree t (raw h)) (raw-reg (g .r) (g .f) f) ∙ (raw-same (replace (regBy (g .r) (g .f)) f) h ∙ same-comm (replace (regBy (g .r) (g .f)) f) h)
-  replaced-same r-by-x f h = ap (λ (t : Tree). sameTree t (raw h)) (raw-reg (g .r) (word (g .x)) f) ∙ (raw-same (replace (regBy (g .r) (word (g .x))) f) h ∙ same-comm (replace (regBy (g .r) (word (g .x))) f) h)
-  replaced-same x-by-f f h = ap (λ (t : Tree). sameTree t (raw h)) (raw-word (g .x) (g .f) f) ∙ (raw-same (replace (wordBy (g .x) (g .f)) f) h ∙ same-comm (replace (wordBy (g .x) (g .f)) f) h)
+  replaced-same : {s : Sort} (b : By) (f h : Formula s) → sameTree (replaceT (replacing (P .range) (P .init) a b) (raw f)) (raw h) ≡ same h (replace (by P i k b) f)
+  replaced-same by-notes f h = as-formula (notes (notesOf (half P i k))) f h (raw-notes (notesOf (half P i k)) f)
+  replaced-same r-by-x f h = as-formula (regBy (g .r) (word (g .x))) f h (raw-reg (g .r) (word (g .x)) f)
+  replaced-same x-by-f f h = as-formula (wordBy (g .x) (g .f)) f h (raw-word (g .x) (g .f) f)
 
   keeps-same : (c : Instr) (h : Assertion) → keepsT (P .range) (P .init) (acting c) (raw h) ≡ keeps c h
-  keeps-same (act (assign r f)) h = refl
-  keeps-same (act (load true r x)) h = not-of (occurs (register r) [] (raw h)) (only (notReg r) h) (no-register r h)
-  keeps-same (act (load false r x)) h = not-of (occurs (register r) [] (raw h)) (only (notReg r) h) (no-register r h)
-  keeps-same (act (write (store true) x f)) h = not-of (occurs (wordAnyRole x) [] (raw h)) (only (notWord x) h) (no-word x h)
-  keeps-same (act (write (store false) x f)) h = not-of (occurs (wordAnyRole x) [] (raw h)) (only (notWord x) h) (no-word x h)
-  keeps-same (act (write swap x f)) h = not-of (occurs (wordAnyRole x) [] (raw h)) (only (notWord x) h) (no-word x h)
+  keeps-same (act none ns) h = refl
+  keeps-same (act (load true r x) ns) h = not-of (occurs (register r) [] (raw h)) (only (notReg r) h) (no-register r h)
+  keeps-same (act (load false r x) ns) h = not-of (occurs (register r) [] (raw h)) (only (notReg r) h) (no-register r h)
+  keeps-same (act (write (store true) x f) ns) h = not-of (occurs (wordAnyRole x) [] (raw h)) (only (notWord x) h) (no-word x h)
+  keeps-same (act (write (store false) x f) ns) h = not-of (occurs (wordAnyRole x) [] (raw h)) (only (notWord x) h) (no-word x h)
+  keeps-same (act (write swap x f) ns) h = not-of (occurs (wordAnyRole x) [] (raw h)) (only (notWord x) h) (no-word x h)
   keeps-same (branch e n) h = refl
 
   -- the holes of a side condition
@@ -214,11 +218,11 @@ module _ (P : Program) (i k : ℕ) (σ : Fill) (d : Holes) (two : 2 ≤ P .range
 
   is-same : {r : Sort} (p q : Pattern r) (b : By) (s : Statement) (ps : List Statement) → instT d (rawP p) ≡ raw (inst g σ p) → instT d (rawP q) ≡ raw (inst g σ q) → Same s ps (p is q with b)
   is-same p q b s ps e f =
-      ap₂ (λ (u v : Tree). sameTree (replaceT (oneName (ofWord (P .range) (P .init) a b) (replacedNumber (P .range) (P .init) a b) (replacing (P .range) (P .init) a b)) u) v) f e
+      ap₂ (λ (u v : Tree). sameTree (replaceT (replacing (P .range) (P .init) a b) u) v) f e
       ∙ replaced-same b (inst g σ q) (inst g σ p)
 
   kept-same : (p : Pattern Sort.assertion) (s : Statement) (ps : List Statement) → instT d (rawP p) ≡ raw (inst g σ p) → Same s ps (kept p)
-  kept-same p s ps e = ap (keepsT (P .range) (P .init) a) e ∙ keeps-same (P .code i k) (inst g σ p)
+  kept-same p s ps e = ap (keepsT (P .range) (P .init) a) e ∙ keeps-same (half P i k) (inst g σ p)
 
   lacks-same : (p : Pattern Sort.interval) (s : Statement) (ps : List Statement) → instT d (rawP p) ≡ raw (inst g σ p) → Same s ps (lacks-x p)
   lacks-same p s ps e = ap (λ (u : Tree). not (occurs (wordAnyRole (g .x)) [] u)) e ∙ not-of (occurs (wordAnyRole (g .x)) [] (raw (inst g σ p))) (only (notWord (g .x)) (inst g σ p)) (no-word (g .x) (inst g σ p))
@@ -240,7 +244,7 @@ module _ (P : Program) (i k : ℕ) (σ : Fill) (d : Holes) (two : 2 ≤ P .range
   sides-same : (n : Rule) (ps : List Statement) → Line (row n .says) → PremisesFit P i k σ (row n .premises) ps → Sides n ps
   unfolding hasOperand
   sides-same r1 ps (e₁, e₂) f = let q0 : d .tree 0 ≡ raw (σ .assertion 0) = cc in (kept-same Rules.P (filled P i k σ (row r1 .says)) ps q0, tt)
-  sides-same r2 ps (e₁, e₂) f = let q0 : d .tree 0 ≡ raw (σ .assertion 0) = cc in let q1 : d .tree 1 ≡ raw (σ .assertion 1) = cc in (is-same Rules.P Rules.Q r-by-f (filled P i k σ (row r2 .says)) ps q0 q1, tt)
+  sides-same r2 ps (e₁, e₂) f = let q0 : d .tree 0 ≡ raw (σ .assertion 0) = cc in let q1 : d .tree 1 ≡ raw (σ .assertion 1) = cc in (is-same Rules.P Rules.Q by-notes (filled P i k σ (row r2 .says)) ps q0 q1, tt)
   sides-same r3 ps (e₁, e₂) f = let q3 : d .tree 3 ≡ raw (σ .test 3) = cc in let q2 : d .tree 2 ≡ raw (σ .test 2) = cc in (is-same Rules.F Rules.E r-by-x (filled P i k σ (row r3 .says)) ps q3 q2, tt)
   sides-same r4 ps (e₁, e₂) f = let q3 : d .tree 3 ≡ raw (σ .test 3) = cc in let q2 : d .tree 2 ≡ raw (σ .test 2) = cc in (is-same Rules.F Rules.E r-by-x (filled P i k σ (row r4 .says)) ps q3 q2, tt)
   sides-same r5 ps e f = tt
@@ -323,8 +327,8 @@ findPremises implications vs c = c
 module _ (P : Program) (i k : ℕ) (σ : Fill) where
   abbrev first : Holes
   first = record {
-    num = λ j. elim (eqb j (numHole Pattern.t)) [ true ↦ i | false ↦ elim (eqb j (numHole Pattern.x)) [ true ↦ wordOf (P .code i k) | false ↦ regOf (P .code i k) ] ];
-    tree = λ j. raw (formulaOf (P .code i k));
+    num = λ j. elim (eqb j (numHole Pattern.t)) [ true ↦ i | false ↦ elim (eqb j (numHole Pattern.x)) [ true ↦ wordOf (half P i k) | false ↦ regOf (half P i k) ] ];
+    tree = λ j. raw (formulaOf (half P i k));
   }
 
   abbrev premisesOf : Premises → List Statement
@@ -340,9 +344,9 @@ module _ (P : Program) (i k : ℕ) (σ : Fill) where
     right : instT (holes n) (rightOf (row n .says)) ≡ said (filled P i k σ (row n .says)) .right
     premises : FitPremises (holes n) i k (row n .premises) (map said (premisesOf (row n .premises)))
     t : holes n .num (numHole Pattern.t) ≡ i
-    x : holes n .num (numHole Pattern.x) ≡ wordOf (P .code i k)
-    r : holes n .num (numHole Pattern.r) ≡ regOf (P .code i k)
-    f : holes n .tree formulaHole ≡ raw (formulaOf (P .code i k))
+    x : holes n .num (numHole Pattern.x) ≡ wordOf (half P i k)
+    r : holes n .num (numHole Pattern.r) ≡ regOf (half P i k)
+    f : holes n .tree formulaHole ≡ raw (formulaOf (half P i k))
 
   same-place : T (not (eqb hoare hoare) || (eqb i i && eqb k k))
   same-place = and-both (eqb i i) (eqb k k) (eqb-refl i) (eqb-refl k)
@@ -398,7 +402,7 @@ answer-some R init a (some z) f h k = k z refl h
 
 module _ (P : Program) (two : 2 ≤ P .range) (i k : ℕ) (n : Rule) (s : Statement) (ps : List Statement) where
   abbrev c₀ : Acting
-  c₀ = acting (P .code i k)
+  c₀ = acting (half P i k)
 
   operation-same : (m : Shape) (ops : List ℕ) → operationT (P .range) (P .init) c₀ (formOf m) ops ≡ operationFits P i k m ops
   operation-same (inside p q) ops = refl
@@ -443,9 +447,9 @@ module _ (P : Program) (two : 2 ≤ P .range) (i k : ℕ) (n : Rule) (s : Statem
           let x : Has c (preset i c₀) × Fits c i k (row n .says) (said s) = line-fits (fillOf c) z b eb kb in
           let ag : Agrees (given P i k) c = record {
             t = x .0 .num (numHole Pattern.t) i refl;
-            x = x .0 .num (numHole Pattern.x) (wordOf (P .code i k)) refl;
-            r = x .0 .num (numHole Pattern.r) (regOf (P .code i k)) refl;
-            f = ap (shaped Sort.value) (x .0 .tree formulaHole (raw (formulaOf (P .code i k))) refl) ∙ shaped-raw (formulaOf (P .code i k));
+            x = x .0 .num (numHole Pattern.x) (wordOf (half P i k)) refl;
+            r = x .0 .num (numHole Pattern.r) (regOf (half P i k)) refl;
+            f = ap (shaped Sort.value) (x .0 .tree formulaHole (raw (formulaOf (half P i k))) refl) ∙ shaped-raw (formulaOf (half P i k));
           } in
           let says : filled P i k (fillOf c) (row n .says) ≡ s = says-from P i k c ag (row n .says) s (x .1) in
           let premises : PremisesFit P i k (fillOf c) (row n .premises) ps = premises-from P i k c ag (row n .premises) ps (premises-fit (fillOf c) z b eb kb) in
@@ -469,17 +473,17 @@ module _ (P : Program) (two : 2 ≤ P .range) (i k : ℕ) (n : Rule) (s : Statem
       nums j m e = go (eqb j (numHole Pattern.t)) (eqb j (numHole Pattern.x)) (eqb j (numHole Pattern.r)) refl refl refl e
         where
           go : (b d f : Bool) → eqb j (numHole Pattern.t) ≡ b → eqb j (numHole Pattern.x) ≡ d → eqb j (numHole Pattern.r) ≡ f
-              → _≡_ {A = Option ℕ} (elim b [ true ↦ some i | false ↦ elim d [ true ↦ some (wordOf (P .code i k)) | false ↦ elim f [ true ↦ some (regOf (P .code i k)) | false ↦ none ] ] ]) (some m) → c .num j ≡ m
+              → _≡_ {A = Option ℕ} (elim b [ true ↦ some i | false ↦ elim d [ true ↦ some (wordOf (half P i k)) | false ↦ elim f [ true ↦ some (regOf (half P i k)) | false ↦ none ] ] ]) (some m) → c .num j ≡ m
           go true d f p q r e = ap (c .num) (eqb-true j (numHole Pattern.t) p) ∙ filled-of P i k σ n .t ∙ (let z : i ≡ m = cc in z)
-          go false true f p q r e = ap (c .num) (eqb-true j (numHole Pattern.x) q) ∙ filled-of P i k σ n .x ∙ (let z : wordOf (P .code i k) ≡ m = cc in z)
-          go false false true p q r e = ap (c .num) (eqb-true j (numHole Pattern.r) r) ∙ filled-of P i k σ n .r ∙ (let z : regOf (P .code i k) ≡ m = cc in z)
+          go false true f p q r e = ap (c .num) (eqb-true j (numHole Pattern.x) q) ∙ filled-of P i k σ n .x ∙ (let z : wordOf (half P i k) ≡ m = cc in z)
+          go false false true p q r e = ap (c .num) (eqb-true j (numHole Pattern.r) r) ∙ filled-of P i k σ n .r ∙ (let z : regOf (half P i k) ≡ m = cc in z)
           go false false false p q r e = let z : _≡_ {A = ℕ} 0 1 = cc in absurd (omega arith)
 
       trees : (j : ℕ) (u : Tree) → preset i c₀ .tree j ≡ some u → c .tree j ≡ u
       trees j u e = go (eqb j formulaHole) refl e
         where
-          go : (b : Bool) → eqb j formulaHole ≡ b → _≡_ {A = Option Tree} (elim b [ true ↦ some (raw (formulaOf (P .code i k))) | false ↦ none ]) (some u) → c .tree j ≡ u
-          go true q e = ap (c .tree) (eqb-true j formulaHole q) ∙ filled-of P i k σ n .f ∙ (let d : raw (formulaOf (P .code i k)) ≡ u = cc in d)
+          go : (b : Bool) → eqb j formulaHole ≡ b → _≡_ {A = Option Tree} (elim b [ true ↦ some (raw (formulaOf (half P i k))) | false ↦ none ]) (some u) → c .tree j ≡ u
+          go true q e = ap (c .tree) (eqb-true j formulaHole q) ∙ filled-of P i k σ n .f ∙ (let d : raw (formulaOf (half P i k)) ≡ u = cc in d)
           go false q e = let q : _≡_ {A = ℕ} 0 1 = cc in absurd (omega arith)
 
   -- a filled shape stands in its place
@@ -526,9 +530,9 @@ point-said (Statement.triple j m a b) = refl
 -- THE BRIDGE
 -- with two values at least, so that there are rows
 pub bridge : (P : Program) → 2 ≤ P .range → (n : Rule) (s : Statement) (ps : List Statement)
-    → fitsT (P .range) (P .init) (acting (P .code (said s .thread) (said s .point))) n (said s) (map said ps) ≡ fits P n s ps
+    → fitsT (P .range) (P .init) (acting (half P (said s .thread) (said s .point))) n (said s) (map said ps) ≡ fits P n s ps
 bridge P two n s ps =
-    subst₂ (λ (i k : ℕ). fitsAt (P .range) (P .init) (acting (P .code i k)) i k (row n) (said s) (map said ps) ≡ fits P n s ps) (sym (thread-said s)) (sym (point-said s))
-    (bool-ext (fitsAt (P .range) (P .init) (acting (P .code (threadOf s) (pointOf s))) (threadOf s) (pointOf s) (row n) (said s) (map said ps)) (fits P n s ps)
+    subst₂ (λ (i k : ℕ). fitsAt (P .range) (P .init) (acting (half P i k)) i k (row n) (said s) (map said ps) ≡ fits P n s ps) (sym (thread-said s)) (sym (point-said s))
+    (bool-ext (fitsAt (P .range) (P .init) (acting (half P (threadOf s) (pointOf s))) (threadOf s) (pointOf s) (row n) (said s) (map said ps)) (fits P n s ps)
     (λ h. tree-fit P two (threadOf s) (pointOf s) n s ps h (λ σ f. rule-fits P n s ps (rule-of P n σ s ps f)))
     (λ h. fit-tree P two (threadOf s) (pointOf s) n s ps (found (row n) s ps) (fit P n s ps h)))

@@ -16,13 +16,13 @@ use Rattle.logic.specs.Statement.{Statement}
 use Rattle.patterns.specs.Pattern
 use Rattle.patterns.specs.Rules
 use Rattle.logic.specs.Rule.{Rule}
-use Rattle.patterns.specs.Rules.{Shape, Shape.inside, Shape.implies, Shape.triple, Premises, these, implications, By, r-by-f, r-by-x, x-by-f, Side, _is_with_, start-of, kept, lacks-x, no-flag, by-rows, by-table, Row, row}
-use Rattle.patterns.specs.Fits.{isAmong, opcode, wordOf, regOf, formulaOf, threadOf, pointOf}
+use Rattle.patterns.specs.Rules.{Shape, Shape.inside, Shape.implies, Shape.triple, Premises, these, implications, By, by-notes, r-by-x, x-by-f, Side, _is_with_, start-of, kept, lacks-x, no-flag, by-rows, by-table, Row, row}
+use Rattle.patterns.specs.Fits.{isAmong, opcode, wordOf, regOf, formulaOf, notesOf, threadOf, pointOf}
 use Rattle.formula.specs.Tree.{Tree, Tree.node}
 use Rattle.compare.specs.Same.{sameTree}
-use Rattle.compare.specs.Replace.{replaceT, oneName}
+use Rattle.compare.specs.Replace.{NoteT, replaceT, oneName, named}
 use Rattle.occurs.specs.Occurs.{occurs, register, wordAnyRole, flag}
-use Rattle.trees.specs.Raw.{raw}
+use Rattle.trees.specs.Raw.{raw, noteT}
 use Rattle.rows.specs.Claim.{ImpT}
 use Rattle.rows.specs.Rows.{rowsT, tableT}
 use Rattle.matcher.specs.Template.{numHole, formulaHole, rawP, Holes, instT}
@@ -51,15 +51,16 @@ said (Statement.inside i j) = record { form = inclusion; thread = 0; point = 0; 
 said (Statement.implies a b) = record { form = implication; thread = 0; point = 0; left = raw a; right = raw b }
 said (Statement.triple t k a b) = record { form = hoare; thread = t; point = k; left = raw a; right = raw b }
 
--- the instruction of a line
+-- the instruction of a line; notes: what rule 2 replaces
 pub record Acting : Type 0 where
   pub operation : ℕ
   pub word : ℕ
   pub register : ℕ
   pub formula : Tree
+  pub notes : List NoteT
 
 abbrev pub acting : Instr → Acting
-acting c = record { operation = opcode c; word = wordOf c; register = regOf c; formula = raw (formulaOf c) }
+acting c = record { operation = opcode c; word = wordOf c; register = regOf c; formula = raw (formulaOf c); notes = map noteT (notesOf c) }
 
 abbrev pub formOf : Shape → ℕ
 formOf (inside p q) = inclusion
@@ -119,21 +120,11 @@ impOf v = record { left = v .left; right = v .right }
 
 -- R: how many values there are; init: the start values; a: the instruction
 module _ (R : ℕ) (init : ℕ → ℕ) (a : Acting) where
-  -- the name that is replaced: whether it is a word, and its number; and by what
-  abbrev pub ofWord : By → Bool
-  ofWord r-by-f = false
-  ofWord r-by-x = false
-  ofWord x-by-f = true
-
-  abbrev pub replacedNumber : By → ℕ
-  replacedNumber r-by-f = a .register
-  replacedNumber r-by-x = a .register
-  replacedNumber x-by-f = a .word
-
-  abbrev pub replacing : By → Tree
-  replacing r-by-f = a .formula
-  replacing r-by-x = node (byte Code.word) (a .word) Tree.none Tree.none
-  replacing x-by-f = a .formula
+  -- what is replaced by what
+  abbrev pub replacing : By → ℕ → ℕ → Tree
+  replacing by-notes = named (a .notes)
+  replacing r-by-x = oneName false (a .register) (node (byte Code.word) (a .word) Tree.none Tree.none)
+  replacing x-by-f = oneName true (a .word) (a .formula)
 
   abbrev pub keepsT : Tree → Bool
   keepsT u = elim (isAmong (a .operation) Rules.loads) [
@@ -142,7 +133,7 @@ module _ (R : ℕ) (init : ℕ → ℕ) (a : Acting) where
   ]
 
   abbrev pub sideT : Holes → Said → List Said → Side → Bool
-  sideT c v vs (p is q with b) = sameTree (replaceT (oneName (ofWord b) (replacedNumber b) (replacing b)) (instT c (rawP q))) (instT c (rawP p))
+  sideT c v vs (p is q with b) = sameTree (replaceT (replacing b) (instT c (rawP q))) (instT c (rawP p))
   sideT c v vs (start-of n p) = sameTree (instT c (rawP p)) (node (byte Code.const) (init (c .num (numHole n))) Tree.none Tree.none)
   sideT c v vs (kept p) = keepsT (instT c (rawP p))
   sideT c v vs (lacks-x p) = not (occurs (wordAnyRole (a .word)) [] (instT c (rawP p)))

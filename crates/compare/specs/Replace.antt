@@ -32,6 +32,16 @@ nameCode word = cond word (byte Code.word) (byte Code.reg)
 unfoldable pub oneName : Bool → ℕ → Tree → ℕ → ℕ → Tree
 oneName word number f c o = cond (eqb c (nameCode word) && eqb o number) f (node c o none none)
 
+-- a register and what replaces it
+pub record NoteT : Type 0 where
+  pub to : ℕ
+  pub by : Tree
+
+-- several registers at once, so that none feeds another
+abbrev pub named : List NoteT → ℕ → ℕ → Tree
+named [] c o = node c o none none
+named (n ∷ l) c o = cond (eqb c (nameCode false) && eqb o (n .to)) (n .by) (named l c o)
+
 -- a node without parts, which stands nowhere
 abbrev pub leafOnly : ℕ → ℕ → Skim
 leafOnly c o = record { tree = node c o none none; end = 0 }

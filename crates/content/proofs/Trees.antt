@@ -1,15 +1,17 @@
 -- What the look-ups find is what a sound image says, as trees.
 use mathlib.Core.Path.{_≡_, refl, ap, ap₂, sym, _∙_, subst, subst₂}
-use mathlib.Core.Bool.{true, true≢false}
-use mathlib.Core.List.{List, []}
+use mathlib.Core.Bool.{true, cond, true≢false}
+use mathlib.Core.List.{List, [], _∷_}
 use Prim.Native.Nat.{ℕ, zero, suc, _-_, _≤_, _<_}
 use native.Mathlib.Omega.{arith}
+use lib.Dec.{eqb}
 use lib.ListN.{length, getD}
 use borrow.Author.Tests.{eqb-true}
 use Rattle.logic.specs.Base.{Within}
 use Rattle.logic.specs.Formula.{Sort, Formula.const}
 use Rattle.logic.specs.Opcode as Opcode
 use Rattle.logic.specs.Machine.{Program}
+use Rattle.logic.specs.Statement.{first, half}
 use Rattle.limits.specs.Numbers.{within}
 use Rattle.frames.specs.Records.{bodies}
 use Rattle.formula.specs.Codes as Codes
@@ -103,7 +105,7 @@ module _ (s : List ℕ) (z : Sizes) (c : Checks z (bodies s)) where
   -- instructions
 
   abbrev acts : ℕ → ℕ → ℕ → Tree → FitT.Acting
-  acts op x r f = record { operation = op; word = x; register = r; formula = f }
+  acts op x r f = record { operation = op; word = x; register = r; formula = f; notes = cond (eqb op Opcode.assign) (record { to = r; by = f } ∷ []) [] }
 
   -- a load and a branch have no formula: it is taken for the constant 0
   no-formula : (f : ℕ) → f ≡ 0 → raw (const 0) ≡ treeAt s (formulaAt s f)
@@ -113,7 +115,7 @@ module _ (s : List ℕ) (z : Sizes) (c : Checks z (bodies s)) where
   value-is : (i : Instruction) → wanted (i .operation) ≡ Codes.value → (1 ≤ i .formula) × (i .formula ≤ z .formulas) → sorted l i ≡ true → raw (formula l Sort.value (i .formula)) ≡ treeAt s (formulaAt s (i .formula))
   value-is i w r d = tree-is Codes.value (i .formula) (r .0) (r .1) (formula-sorted z l c i (r .0) d .0 ∙ w)
 
-  instr-is : (last op a b f : ℕ) → ranged last z (made op a b f) ≡ true → sorted l (made op a b f) ≡ true → acting (instr l (made op a b f)) ≡ actingAt s (actingOf s (made op a b f))
+  instr-is : (last op a b f : ℕ) → ranged last z (made op a b f) ≡ true → sorted l (made op a b f) ≡ true → acting (first (instr l (made op a b f))) ≡ actingAt s (actingOf s (made op a b f))
   unfolding ranged fieldsOf instr actingOf wanted
   instr-is last zero a b f e d =
       let h = fields-in _ _ e in
@@ -136,7 +138,7 @@ module _ (s : List ℕ) (z : Sizes) (c : Checks z (bodies s)) where
       rw (instruction-there z l t k (w .0) (w .1))
       (every-at (ranged (lastPoint x) z) (instructions x) k nothing (thread-ranged z l c t (w .0) (w .1)) m, every-at (sorted l) (instructions x) k nothing (thread-sorted z l c t (w .0) (w .1)) m)
 
-  pub acting-is : (t k : ℕ) → Within (z .threads) t → suc k < P .points t → acting (P .code t k) ≡ actingAt s (actingOf s (instructionOf z l t k))
+  pub acting-is : (t k : ℕ) → Within (z .threads) t → suc k < P .points t → acting (half P t k) ≡ actingAt s (actingOf s (instructionOf z l t k))
   acting-is t k w h =
       let i : Instruction = instructionOf z l t k in
       let f = fields-there t k w h in
@@ -157,19 +159,19 @@ module _ (s : List ℕ) (z : Sizes) (c : Checks z (bodies s)) where
       (subst (λ (op : ℕ). sorted l (made op (i .a) (i .b) (i .formula)) ≡ true) e (f .1))
 
   -- the instruction of a line: of a triple its own; other lines have none
-  none-acting : acting (P .code 0 0) ≡ actingAt s (actingOf s (instructionOf z l 0 0))
+  none-acting : acting (half P 0 0) ≡ actingAt s (actingOf s (instructionOf z l 0 0))
   unfolding instr actingOf instructionOf
   none-acting = ap (acts 6 0 0) (sym (none-tree s))
 
   module _ (n : ℕ) (w : Within (z .lines) n) where
-    pub line-acting : acting (P .code (getD (lineBody z l n) 1 0) (getD (lineBody z l n) 2 0)) ≡ actingAt s (actingOf s (instructionOf z l (getD (lineBody z l n) 1 0) (getD (lineBody z l n) 2 0)))
+    pub line-acting : acting (half P (getD (lineBody z l n) 1 0) (getD (lineBody z l n) 2 0)) ≡ actingAt s (actingOf s (instructionOf z l (getD (lineBody z l n) 1 0) (getD (lineBody z l n) 2 0)))
     unfolding placed
     line-acting = go (formOf (getD (lineBody z l n) 0 0)) (numbers-passed z l c n (w .0) (w .1) .0)
       where
-        nowhere-acting : nowhere (lineBody z l n) ≡ true → acting (P .code (getD (lineBody z l n) 1 0) (getD (lineBody z l n) 2 0)) ≡ actingAt s (actingOf s (instructionOf z l (getD (lineBody z l n) 1 0) (getD (lineBody z l n) 2 0)))
-        nowhere-acting e = let g = nowhere-is n w e in subst₂ (λ (t k : ℕ). acting (P .code t k) ≡ actingAt s (actingOf s (instructionOf z l t k))) (sym (g .0)) (sym (g .1)) none-acting
+        nowhere-acting : nowhere (lineBody z l n) ≡ true → acting (half P (getD (lineBody z l n) 1 0) (getD (lineBody z l n) 2 0)) ≡ actingAt s (actingOf s (instructionOf z l (getD (lineBody z l n) 1 0) (getD (lineBody z l n) 2 0)))
+        nowhere-acting e = let g = nowhere-is n w e in subst₂ (λ (t k : ℕ). acting (half P t k) ≡ actingAt s (actingOf s (instructionOf z l t k))) (sym (g .0)) (sym (g .1)) none-acting
 
-        go : (f : Form) → placed z l f (lineBody z l n) ≡ true → acting (P .code (getD (lineBody z l n) 1 0) (getD (lineBody z l n) 2 0)) ≡ actingAt s (actingOf s (instructionOf z l (getD (lineBody z l n) 1 0) (getD (lineBody z l n) 2 0)))
+        go : (f : Form) → placed z l f (lineBody z l n) ≡ true → acting (half P (getD (lineBody z l n) 1 0) (getD (lineBody z l n) 2 0)) ≡ actingAt s (actingOf s (instructionOf z l (getD (lineBody z l n) 1 0) (getD (lineBody z l n) 2 0)))
         go Triple e = let r = triple-there z l c n (w .0) (w .1) e in acting-is (getD (lineBody z l n) 1 0) (getD (lineBody z l n) 2 0) (r .0) (r .1)
         go Implication e = nowhere-acting e
         go Inclusion e = nowhere-acting e

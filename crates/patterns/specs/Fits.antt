@@ -196,7 +196,7 @@ opcode (act (write (store true) x f) ns) = Opcode.release
 opcode (act (write swap x f) ns) = Opcode.swap
 opcode (branch e a) = Opcode.branch
 
--- the instruction's word, register, formula, notes
+-- the instruction's word, register, formula, notes; of an assignment its first note's register and formula
 abbrev pub wordOf : Instr → ℕ
 wordOf (act none ns) = 0
 wordOf (act (load acquires r x) ns) = x
@@ -204,13 +204,15 @@ wordOf (act (write m x f) ns) = x
 wordOf (branch e a) = 0
 
 abbrev pub regOf : Instr → ℕ
-regOf (act none ns) = 0
+regOf (act none []) = 0
+regOf (act none (n ∷ ns)) = n .to
 regOf (act (load acquires r x) ns) = r
 regOf (act (write m x f) ns) = 0
 regOf (branch e a) = 0
 
 abbrev pub formulaOf : Instr → Value
-formulaOf (act none ns) = const 0
+formulaOf (act none []) = const 0
+formulaOf (act none (n ∷ ns)) = n .by
 formulaOf (act (load acquires r x) ns) = const 0
 formulaOf (act (write m x f) ns) = f
 formulaOf (branch e a) = const 0

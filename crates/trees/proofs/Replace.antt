@@ -1,16 +1,17 @@
 -- Replacement in trees is replacement in formulas, whatever the sort.
-use mathlib.Core.Path.{_≡_, refl, ap, ap₂}
+use mathlib.Core.Path.{_≡_, refl, ap, ap₂, _∙_}
 use mathlib.Core.Bool.{Bool, true, false, cond}
+use mathlib.Core.List.{List, [], _∷_, map}
 use Prim.Native.Nat.{ℕ}
 use lib.Dec.{eqb}
 use Rattle.logic.specs.Base.{upd}
 use Rattle.logic.specs.Code
 use Rattle.logic.specs.Code.{byte}
 use Rattle.logic.specs.Formula.{Sort, Formula, Value, Formula.const, Formula.reg, Formula.word, Formula.sum, Formula.equal, Formula.less, Formula.and, Formula.or, Formula.unsync, Formula.cov, Formula.box, Formula.one, Formula.chop, Formula.both, Formula.either, Formula.sees, Formula.bothA, Formula.eitherA, Formula.start, Formula.holds}
-use Rattle.logic.specs.Replace.{Sub, replace, regBy, wordBy}
+use Rattle.logic.specs.Replace.{Note, Sub, replace, noted, notes, regBy, wordBy}
 use Rattle.formula.specs.Tree.{Tree, none, node}
-use Rattle.compare.specs.Replace.{isName, replaceT, nameCode, oneName}
-use Rattle.trees.specs.Raw.{raw}
+use Rattle.compare.specs.Replace.{isName, replaceT, nameCode, oneName, named}
+use Rattle.trees.specs.Raw.{raw, noteT}
 
 -- τ stands for the trees of what σ puts for each name
 module _ (τ : ℕ → ℕ → Tree) (σ : Sub) (on-reg : (r : ℕ) → τ (byte Code.reg) r ≡ raw (σ .reg r)) (on-word : (x : ℕ) → τ (byte Code.word) x ≡ raw (σ .word x)) where
@@ -51,3 +52,17 @@ raw-reg r v f = replaced (oneName false r (raw v)) (regBy r v) (λ q. raw-if (eq
 pub raw-word : (x : ℕ) {s : Sort} (v : Value) (f : Formula s) → replaceT (oneName true x (raw v)) (raw f) ≡ raw (replace (wordBy x v) f)
 unfolding oneName nameCode upd
 raw-word x v f = replaced (oneName true x (raw v)) (wordBy x v) (λ r. refl) (λ y. raw-if (eqb y x) v (word y)) f
+
+-- several registers at once
+noted-reg : (ns : List Note) (q : ℕ) → named (map noteT ns) (byte Code.reg) q ≡ raw (noted ns q)
+unfolding nameCode upd
+noted-reg [] q = refl
+noted-reg (n ∷ l) q = ap (cond (eqb q (n .to)) (raw (n .by))) (noted-reg l q) ∙ raw-if (eqb q (n .to)) (n .by) (noted l q)
+
+noted-word : (ns : List Note) (x : ℕ) → named (map noteT ns) (byte Code.word) x ≡ raw (word x)
+unfolding nameCode
+noted-word [] x = refl
+noted-word (n ∷ l) x = noted-word l x
+
+pub raw-notes : (ns : List Note) {s : Sort} (f : Formula s) → replaceT (named (map noteT ns)) (raw f) ≡ raw (replace (notes ns) f)
+raw-notes ns f = replaced (named (map noteT ns)) (notes ns) (noted-reg ns) (noted-word ns) f

@@ -6,7 +6,9 @@ use lib.Dec.{eqb}
 use Rattle.logic.specs.Code
 use Rattle.logic.specs.Code.{byte}
 use Rattle.logic.specs.Formula.{Sort, Formula, Formula.const, Formula.reg, Formula.word, Formula.sum, Formula.equal, Formula.less, Formula.and, Formula.or, Formula.unsync, Formula.cov, Formula.box, Formula.one, Formula.chop, Formula.both, Formula.either, Formula.sees, Formula.bothA, Formula.eitherA, Formula.start, Formula.holds}
+use Rattle.logic.specs.Replace.{Note}
 use Rattle.formula.specs.Tree.{Tree, none, node}
+use Rattle.compare.specs.Replace.{NoteT}
 
 abbrev pub raw : {s : Sort} → Formula s → Tree
 raw (const n) = node (byte Code.const) n none none
@@ -58,3 +60,7 @@ shaped Sort.assertion (node c o l r) =
 -- the tree is a formula of the sort
 abbrev pub Sorted : Sort → Tree → Type 0
 Sorted s t = raw (shaped s t) ≡ t
+
+-- what a register is given, as a tree
+abbrev pub noteT : Note → NoteT
+noteT n = record { to = n .to; by = raw (n .by) }
