@@ -42,10 +42,6 @@ use Rattle.fitting.proofs.Known.{preset-sized, preset-taken}
 use Rattle.conclusions.proofs.Row.{row-form, row-premises, row-few, row-forms, row-side, row-stands, row-operations}
 use Rattle.sides.proofs.SidesLink.{startOf, sides-are}
 
-and-cond : (a b : Bool) → a && b ≡ cond a b false
-and-cond true b = refl
-and-cond false b = refl
-
 -- PREMISES
 
 then-none : {A B : Type 0} (o : Option A) (f : A → Option B) → ((a : A) → f a ≡ none) → andThen o f ≡ none
@@ -109,6 +105,11 @@ module _ (s : List ℕ) (p : Claims.Premises) where
             (sym q) (sym f) (from-follows s templates thread point p l i 0 b z st .same)
         go false d = other-count thread point l says (takenOf s b) (λ q. eqb-false (w .premises) (p .count) d (e ∙ q ∙ claims-length (p .count) 0))
 
+-- what is asked besides is asked where the operation is allowed
+and-where : (x y h k : Bool) → x ≡ y → (x ≡ true → h ≡ k) → x && h ≡ cond y k false
+and-where true y h k e f = subst (λ (z : Bool). h ≡ cond z k false) e (f refl)
+and-where false y h k e f = subst (λ (z : Bool). false ≡ cond z k false) e refl
+
 -- THE LINE
 
 module _ (s : List ℕ) (n : Rule) (l : Line) (named : l .rule ≡ numberOf n) (a : Acting) (known : a .operation ≤ Opcode.branch) (p : Claims.Premises) (few : p .count ≤ Limits.premises) where
@@ -141,7 +142,7 @@ module _ (s : List ℕ) (n : Rule) (l : Line) (named : l .rule ≡ numberOf n) (
 
   rest-is : (b : Bind) → restT Limits.values (startOf s) A (row n) (saidAt s c) (says s p) (takenOf s b) ≡ restAt s w a c p b
   unfolding restAt
-  rest-is b = ap₂ _&&_ operation-is (sides-are s b a c p few n ∙ ap (λ (k : ℕ). asked s k b a c p) (sym (its (λ r. r .side) ∙ row-side n))) ∙ and-cond (isAllowed w (a .operation)) (asked s (w .side) b a c p)
+  rest-is b = and-where _ _ _ _ operation-is (λ e. sides-are s b a c p few n e ∙ ap (λ (k : ℕ). asked s k b a c p) (sym (its (λ r. r .side) ∙ row-side n)))
 
   abbrev b₀ : Bind
   b₀ = presetAt (l .thread) (a .word) (a .register) (a .formula)
@@ -159,7 +160,7 @@ module _ (s : List ℕ) (n : Rule) (l : Line) (named : l .rule ≡ numberOf n) (
 
   line-same : matchLine (c .thread) (c .point) (row n .says) (saidAt s c) (preset (c .thread) A) ≡ given s (m .ok) (m .bind)
   unfolding claimBy
-  line-same = ap (matchLine (c .thread) (c .point) (row n .says) (saidAt s c)) (sym (preset-taken s (l .thread) (a .operation) (a .word) (a .register) (a .formula))) ∙ follows .same
+  line-same = ap (matchLine (c .thread) (c .point) (row n .says) (saidAt s c)) (sym (preset-taken s (l .thread) (a .operation) (a .word) (a .register) (a .formula) (A .notes))) ∙ follows .same
 
   abbrev q : Whole
   q = matchPremises s templates (m .tpl) w (c .thread) (c .point) p (m .bind)

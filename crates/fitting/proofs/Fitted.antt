@@ -7,8 +7,8 @@ use native.Mathlib.Omega.{arith}
 use lib.ListN.{length}
 use Rattle.logic.specs.Base.{Within}
 use Rattle.logic.specs.Opcode
-use Rattle.logic.specs.Machine.{Program, Mode.store, Mode.swap, Action.assign, Action.load, Action.write, Instr, Instr.act, Instr.branch}
-use Rattle.logic.specs.Statement.{Statement}
+use Rattle.logic.specs.Machine.{Program, Mode.store, Mode.swap, Access.none, Access.load, Access.write, Instr, Instr.act, Instr.branch}
+use Rattle.logic.specs.Statement.{Statement, half}
 use Rattle.patterns.specs.Fits.{opcode}
 use Rattle.limits.specs.Limits as Limits
 use Rattle.limits.specs.Numbers.{within, every}
@@ -42,12 +42,12 @@ use Rattle.fitting.proofs.FitLink.{says, fits-same}
 
 -- operations are 0 to 6
 opcode-known : (c : Instr) → opcode c ≤ Opcode.branch
-opcode-known (act (assign r f)) = omega arith
-opcode-known (act (load true r x)) = omega arith
-opcode-known (act (load false r x)) = omega arith
-opcode-known (act (write (store true) x f)) = omega arith
-opcode-known (act (write (store false) x f)) = omega arith
-opcode-known (act (write swap x f)) = omega arith
+opcode-known (act none ns) = omega arith
+opcode-known (act (load true r x) ns) = omega arith
+opcode-known (act (load false r x) ns) = omega arith
+opcode-known (act (write (store true) x f) ns) = omega arith
+opcode-known (act (write (store false) x f) ns) = omega arith
+opcode-known (act (write swap x f) ns) = omega arith
 opcode-known (branch e a) = omega arith
 
 module _ (s : List ℕ) (z : Sizes) (c : Checks z (bodies s)) where
@@ -99,12 +99,12 @@ module _ (s : List ℕ) (z : Sizes) (c : Checks z (bodies s)) where
     premises-said : says s p ≡ map said (map (λ m. C .line m .says) ps)
     premises-said = ap (map (saidAt s)) (claims-are ps refl (subst (λ (k : ℕ). k ≤ Limits.premises) count-is count-few) count-is) ∙ lower-said ps (in-range z l c n (w .0) (w .1) .2)
 
-    acting-said : acting (P .code (its .thread) (its .point)) ≡ actingAt s (actingIn s z its)
+    acting-said : acting (half P (its .thread) (its .point)) ≡ actingAt s (actingIn s z its)
     unfolding actingIn lineAt lineIn
     acting-said = line-acting s z c n w
 
     acting-known : actingIn s z its .operation ≤ Opcode.branch
-    acting-known = subst (λ (k : ℕ). k ≤ Opcode.branch) (ap (λ (a : FitT.Acting). a .operation) acting-said) (opcode-known (P .code (its .thread) (its .point)))
+    acting-known = subst (λ (k : ℕ). k ≤ Opcode.branch) (ap (λ (a : FitT.Acting). a .operation) acting-said) (opcode-known (half P (its .thread) (its .point)))
 
     premises-few-here : p .count ≤ Limits.premises
     unfolding premisesOf
@@ -113,9 +113,9 @@ module _ (s : List ℕ) (z : Sizes) (c : Checks z (bodies s)) where
     abbrev S : Statement
     S = C .line n .says
 
-    acting-there : actingAt s (actingIn s z its) ≡ acting (P .code (said S .thread) (said S .point))
+    acting-there : actingAt s (actingIn s z its) ≡ acting (half P (said S .thread) (said S .point))
     unfolding claimOf claimBy
-    acting-there = sym acting-said ∙ ap₂ (λ (t k : ℕ). acting (P .code t k)) (ap (λ (v : Said). v .thread) (claim-said s z c n w)) (ap (λ (v : Said). v .point) (claim-said s z c n w))
+    acting-there = sym acting-said ∙ ap₂ (λ (t k : ℕ). acting (half P t k)) (ap (λ (v : Said). v .thread) (claim-said s z c n w)) (ap (λ (v : Said). v .point) (claim-said s z c n w))
 
     abbrev fitted : FitT.Acting → Said → List Said → Bool
     fitted a v vs = fitsT Limits.values (startOf s) a (ruleOf (its .rule)) v vs

@@ -10,6 +10,7 @@ use lib.Dec.{eqb}
 use borrow.Author.Tests.{ne-eqb}
 use Rattle.limits.specs.Limits.{nesting}
 use Rattle.formula.specs.Tree.{skim}
+use Rattle.compare.specs.Replace.{NoteT}
 use Rattle.matcher.specs.Places.{takenOf}
 use Rattle.matcher.proofs.Follow.{Sized}
 use Rattle.certificate.specs.FitT.{Acting, preset}
@@ -23,9 +24,9 @@ pub preset-sized : (t x r f : ℕ) → Sized (presetAt t x r f)
 unfolding presetAt
 preset-sized t x r f = record { at = refl; left = refl; num = refl }
 
-module _ (s : List ℕ) (t op x r f : ℕ) where
+module _ (s : List ℕ) (t op x r f : ℕ) (ns : List NoteT) where
   abbrev acting : Acting
-  acting = record { operation = op; word = x; register = r; formula = skim s nesting f .tree }
+  acting = record { operation = op; word = x; register = r; formula = skim s nesting f .tree; notes = ns }
 
   back : (n : ℕ) → n + 1 - 1 ≡ n
   back n = omega arith

@@ -72,7 +72,7 @@ module _ (s : List ℕ) (z : Sizes) (m : Marks) where
 
   module _ (t k : ℕ) (i : Instruction) (h : i ≡ instructionOf z (bodies s) t k) where
     own-is : (c : Instr) → own P t k c ≡ cond (isBranch c) (taken t k ∷ step t k ∷ []) (step t k ∷ [])
-    own-is (act c) = refl
+    own-is (act A ns) = refl
     own-is (branch e a) = refl
 
     pub own-branch : (r q p : Outcome) → i .operation ≡ Opcode.branch → q ≡ next s z m (Taken t k) r → p ≡ next s z m (Step t k) q → p ≡ ownAt s z m t k r
@@ -85,7 +85,7 @@ module _ (s : List ℕ) (z : Sizes) (m : Marks) where
 
     module _ (u j : ℕ) where
       acting-is : (c : Instr) → acting P u j t k c ≡ cond (isBranch c) [] (interference u j t k ∷ [])
-      acting-is (act c) = refl
+      acting-is (act A ns) = refl
       acting-is (branch e a) = refl
 
       pub acting-branch : (r : Outcome) → i .operation ≡ Opcode.branch → r ≡ actingAt s z m u j t k r

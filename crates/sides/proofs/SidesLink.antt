@@ -11,6 +11,7 @@ use borrow.Author.Tests.{eqb-true, ne-eqb, le-ltb, lt-leb}
 use Rattle.logic.specs.Base.{all}
 use Rattle.logic.specs.Code
 use Rattle.logic.specs.Code.{byte}
+use Rattle.logic.specs.Opcode
 use Rattle.logic.specs.Rule.{Rule, r1, r2, r3, r4, r5, r6, r7, r8, r9, r10, r11, r12, r13, r14, r15, r16, r20, r21, r22, r23, r24, r25, r26, r27, r30, r31, r32, r33, r34, r35, r36, r37, r38, r39, r40, r41, r42, r43, r44, r45, r46}
 use Rattle.patterns.specs.Rules.{row}
 use Rattle.logic.proofs.Base.{bool-ext}
@@ -19,7 +20,7 @@ use Rattle.limits.specs.Limits.{nesting}
 use Rattle.limits.specs.Numbers.{nth}
 use Rattle.formula.specs.Tree.{Tree, Tree.node, skim}
 use Rattle.compare.specs.Same.{sameTree}
-use Rattle.compare.specs.Replace.{replaceT, oneName}
+use Rattle.compare.specs.Replace.{NoteT, replaceT, nameCode, oneName}
 use Rattle.occurs.specs.Occurs.{occurs, register, wordAnyRole, flag}
 use Rattle.trees.proofs.Raw.{tree-eq, tree-refl}
 use Rattle.rows.specs.Claim.{impOf, impsFrom, premisesFrom}
@@ -29,7 +30,7 @@ use Rattle.program.specs.Header.{startValues}
 use Rattle.matcher.specs.Places.{takenOf}
 use Rattle.matcher.specs.declared.bind.Bind.{Bind}
 use Rattle.certificate.specs.FitT as FitT
-use Rattle.certificate.specs.FitT.{Said, holesFrom, orElse, keepsT, sideT}
+use Rattle.certificate.specs.FitT.{Said, formOf, holesFrom, orElse, keepsT, sideT, operationT}
 use Rattle.content.specs.Trees.{actingAt}
 use Rattle.content.specs.declared.acting.Acting.{Acting}
 use Rattle.rulebook.specs.Listed.{sideNumber}
@@ -50,15 +51,15 @@ and-one false = refl
 same-sym : (u v : Tree) → sameTree u v ≡ sameTree v u
 same-sym u v = bool-ext (sameTree u v) (sameTree v u) (λ h. subst (λ w. T (sameTree w u)) (tree-eq u v h) (tree-refl u)) (λ h. subst (λ w. T (sameTree w v)) (tree-eq v u h) (tree-refl v))
 
-keeps-is : (R : ℕ) (init : ℕ → ℕ) (op x r : ℕ) (u v : Tree) → keepsT R init (record { operation = op; word = x; register = r; formula = v }) u ≡ keeps op x r u
+keeps-is : (R : ℕ) (init : ℕ → ℕ) (op x r : ℕ) (u v : Tree) (ns : List NoteT) → keepsT R init (record { operation = op; word = x; register = r; formula = v; notes = ns }) u ≡ keeps op x r u
 unfolding keeps
-keeps-is R init zero x r u v = refl
-keeps-is R init (suc zero) x r u v = refl
-keeps-is R init (suc (suc zero)) x r u v = refl
-keeps-is R init (suc (suc (suc zero))) x r u v = refl
-keeps-is R init (suc (suc (suc (suc zero)))) x r u v = refl
-keeps-is R init (suc (suc (suc (suc (suc zero))))) x r u v = refl
-keeps-is R init (suc (suc (suc (suc (suc (suc op)))))) x r u v =
+keeps-is R init zero x r u v ns = refl
+keeps-is R init (suc zero) x r u v ns = refl
+keeps-is R init (suc (suc zero)) x r u v ns = refl
+keeps-is R init (suc (suc (suc zero))) x r u v ns = refl
+keeps-is R init (suc (suc (suc (suc zero)))) x r u v ns = refl
+keeps-is R init (suc (suc (suc (suc (suc zero))))) x r u v ns = refl
+keeps-is R init (suc (suc (suc (suc (suc (suc op)))))) x r u v ns =
     let n : ℕ = suc (suc (suc (suc (suc (suc op))))) in
     go (eqb n 1) (eqb n 2) (eqb n 3) (eqb n 4) (eqb n 5) (ne-eqb n 1 (λ e. omega arith)) (ne-eqb n 2 (λ e. omega arith)) (ne-eqb n 3 (λ e. omega arith)) (ne-eqb n 4 (λ e. omega arith)) (ne-eqb n 5 (λ e. omega arith))
     ∙ sym (rw (le-ltb n 1 (omega arith), lt-leb n 2 (omega arith), lt-leb n 5 (omega arith)))
@@ -92,6 +93,10 @@ module _ (s : List ℕ) (b : Bind) (a : Acting) (c : Claim) (p : Premises) (few 
   abbrev holds : Rule → Bool
   holds n = all (sideT Limits.values (startOf s) (actingAt s a) (holesFrom (takenOf s b)) (saidAt s c) vs) (row n .sides)
 
+  -- the rule's row allows the operation
+  abbrev allowed : Rule → Bool
+  allowed n = operationT Limits.values (startOf s) (actingAt s a) (formOf (row n .says)) (row n .operations)
+
   -- the line's premises, as implications
   table-is : (n : ℕ) → p .count ≡ n → n ≤ Limits.premises → map FitT.impOf (map (saidAt s) (claimsFrom p n 0)) ≡ premisesOf s (implicationsOf c p)
   unfolding implicationsOf premisesFrom impsFrom impOf
@@ -109,11 +114,18 @@ module _ (s : List ℕ) (b : Bind) (a : Acting) (c : Claim) (p : Premises) (few 
   -- each condition, of the holes that it speaks of
   kept-is : holds r1 ≡ asked s (sideNumber (row r1 .sides)) b a c p
   unfolding asked ofInstruction
-  kept-is = and-one _ ∙ keeps-is Limits.values (startOf s) (a .operation) (a .word) (a .register) (holesFrom (takenOf s b) .tree 0) (actingAt s a .formula) ∙ ap (keeps (a .operation) (a .word) (a .register)) (hole-tree s b 0)
+  kept-is = and-one _ ∙ keeps-is Limits.values (startOf s) (a .operation) (a .word) (a .register) (holesFrom (takenOf s b) .tree 0) (actingAt s a .formula) (actingAt s a .notes) ∙ ap (keeps (a .operation) (a .word) (a .register)) (hole-tree s b 0)
 
-  assigned-is : holds r2 ≡ asked s (sideNumber (row r2 .sides)) b a c p
-  unfolding asked ofInstruction assignedBy isWith
-  assigned-is = and-one _ ∙ ap₂ (λ (u v : Tree). sameTree (replaceT (oneName false (a .register) (skim s nesting (a .formula) .tree)) v) u) (hole-tree s b 0) (hole-tree s b 1)
+  assigned-is : allowed r2 ≡ true → holds r2 ≡ asked s (sideNumber (row r2 .sides)) b a c p
+  unfolding asked ofInstruction assignedBy isWith oneName nameCode
+  assigned-is e = rw (only-one e) (and-one _ ∙ ap₂ (λ (u v : Tree). sameTree (replaceT (oneName false (a .register) (skim s nesting (a .formula) .tree)) v) u) (hole-tree s b 0) (hole-tree s b 1))
+    where
+      only-one : allowed r2 ≡ true → eqb (a .operation) Opcode.assign ≡ true
+      only-one h = go (eqb (a .operation) Opcode.assign) h
+        where
+          go : (x : Bool) → (x || false) ≡ true → x ≡ true
+          go true q = refl
+          go false q = q
 
   loaded-is : holds r3 ≡ asked s (sideNumber (row r3 .sides)) b a c p
   unfolding asked ofInstruction loadedBy isWith
@@ -154,45 +166,45 @@ module _ (s : List ℕ) (b : Bind) (a : Acting) (c : Claim) (p : Premises) (few 
   unfolding asked
   none-asked = refl
 
-  pub sides-are : (n : Rule) → holds n ≡ asked s (sideNumber (row n .sides)) b a c p
-  sides-are r1 = kept-is
-  sides-are r2 = assigned-is
-  sides-are r3 = loaded-is
-  sides-are r4 = loaded-is
-  sides-are r5 = none-asked
-  sides-are r6 = none-asked
-  sides-are r7 = none-asked
-  sides-are r8 = absent-is
-  sides-are r9 = stored-is
-  sides-are r10 = none-asked
-  sides-are r11 = none-asked
-  sides-are r12 = none-asked
-  sides-are r13 = absent-is
-  sides-are r14 = none-asked
-  sides-are r15 = none-asked
-  sides-are r16 = none-asked
-  sides-are r20 = table-asked
-  sides-are r21 = rows-asked
-  sides-are r22 = none-asked
-  sides-are r23 = rows-asked
-  sides-are r24 = rows-asked
-  sides-are r25 = none-asked
-  sides-are r26 = start-asked
-  sides-are r27 = none-asked
-  sides-are r30 = rows-asked
-  sides-are r31 = none-asked
-  sides-are r32 = none-asked
-  sides-are r33 = none-asked
-  sides-are r34 = none-asked
-  sides-are r35 = none-asked
-  sides-are r36 = none-asked
-  sides-are r37 = none-asked
-  sides-are r38 = none-asked
-  sides-are r39 = none-asked
-  sides-are r40 = none-asked
-  sides-are r41 = none-asked
-  sides-are r42 = none-asked
-  sides-are r43 = none-asked
-  sides-are r44 = none-asked
-  sides-are r45 = none-asked
-  sides-are r46 = none-asked
+  pub sides-are : (n : Rule) → allowed n ≡ true → holds n ≡ asked s (sideNumber (row n .sides)) b a c p
+  sides-are r1 e = kept-is
+  sides-are r2 e = assigned-is e
+  sides-are r3 e = loaded-is
+  sides-are r4 e = loaded-is
+  sides-are r5 e = none-asked
+  sides-are r6 e = none-asked
+  sides-are r7 e = none-asked
+  sides-are r8 e = absent-is
+  sides-are r9 e = stored-is
+  sides-are r10 e = none-asked
+  sides-are r11 e = none-asked
+  sides-are r12 e = none-asked
+  sides-are r13 e = absent-is
+  sides-are r14 e = none-asked
+  sides-are r15 e = none-asked
+  sides-are r16 e = none-asked
+  sides-are r20 e = table-asked
+  sides-are r21 e = rows-asked
+  sides-are r22 e = none-asked
+  sides-are r23 e = rows-asked
+  sides-are r24 e = rows-asked
+  sides-are r25 e = none-asked
+  sides-are r26 e = start-asked
+  sides-are r27 e = none-asked
+  sides-are r30 e = rows-asked
+  sides-are r31 e = none-asked
+  sides-are r32 e = none-asked
+  sides-are r33 e = none-asked
+  sides-are r34 e = none-asked
+  sides-are r35 e = none-asked
+  sides-are r36 e = none-asked
+  sides-are r37 e = none-asked
+  sides-are r38 e = none-asked
+  sides-are r39 e = none-asked
+  sides-are r40 e = none-asked
+  sides-are r41 e = none-asked
+  sides-are r42 e = none-asked
+  sides-are r43 e = none-asked
+  sides-are r44 e = none-asked
+  sides-are r45 e = none-asked
+  sides-are r46 e = none-asked

@@ -160,7 +160,7 @@ module _ (s : List ℕ) (z : Sizes) (c : Checks z (bodies s)) where
 
       -- an action, or a branch
       act-wants : (x : Instr) → isBranch x ≡ false → wantsNext P O t k x ≡ triple t k (O t k) (O t (suc k))
-      act-wants (act a) e = refl
+      act-wants (act A ns) e = refl
       act-wants (branch a b) e = absurd (true≢false e)
 
       step-asked : meets s z (wantedStep s z t k) n ≡ sameStatement (wantsNext P O t k (P .code t k)) (says n)
