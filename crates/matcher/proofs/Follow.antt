@@ -409,9 +409,6 @@ module _ (s t : List ℕ) (k : ℕ) (ih : (i at : ℕ) (b : Bind) → Sized b �
         right-fine : T (proper right-tpl)
         right-fine = and-right (proper left-tpl) (proper right-tpl) (and-right operand-ok (proper left-tpl && proper right-tpl) fine)
 
-        after : (b₀ : Trees.Taken) → Option Trees.Taken
-        after b₀ = andThen (matchT left-tpl (first s x .tree) b₀) (λ b₂. matchT right-tpl (second s x .tree) b₂)
-
         with-operand : (c : eqb (h .code) (x .code) ≡ true) → hasOperand (h .code) ≡ true → (o : Bool) → operandOf (h .operand) (x .operand) b .ok ≡ o → Follows s t (suc k) i at b (matchAt s t (suc k) i at b)
         with-operand c p o e =
             let w : takeOperand (h .code) (h .operand) (x .operand) (takenOf s b) ≡ given s (operandOf (h .operand) (x .operand) b .ok) (operandOf (h .operand) (x .operand) b .bind) =

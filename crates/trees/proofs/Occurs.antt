@@ -8,11 +8,11 @@ use Rattle.logic.specs.Base.{all}
 use Rattle.logic.specs.Code
 use Rattle.logic.specs.Code.{byte}
 use Rattle.logic.specs.Formula.{Sort, Formula, Value, Test, Interval, Assertion, Formula.const, Formula.reg, Formula.word, Formula.sum, Formula.equal, Formula.less, Formula.and, Formula.or, Formula.unsync, Formula.cov, Formula.box, Formula.one, Formula.chop, Formula.both, Formula.either, Formula.sees, Formula.bothA, Formula.eitherA, Formula.start, Formula.holds}
-use Rattle.logic.specs.Names.{Name, n-reg, n-word, n-unsync, n-cov, names, only, notReg, notWord, notFlag, isReg, regsIn, startless}
+use Rattle.logic.specs.Names.{Name, n-reg, n-word, n-unsync, n-cov, names, only, notReg, notWord, notFlag, isReg, startless}
 use Rattle.formula.specs.Codes.{member, setOf}
 use Rattle.formula.specs.Tree.{Tree, none, node}
 use Rattle.occurs.specs.Occurs
-use Rattle.occurs.specs.Occurs.{isSought, occurs, register, wordAnyRole, flag, shared, foreign, ownerOf}
+use Rattle.occurs.specs.Occurs.{isSought, occurs, register, wordAnyRole, flag, shared}
 use Rattle.occurs.specs.declared.find.Sought.{Sought}
 use Rattle.trees.specs.Raw.{raw}
 
@@ -105,7 +105,7 @@ not-not : (b : Bool) → b ≡ not (not b)
 not-not true = refl
 not-not false = refl
 
--- the register r; the word x in any role; a flag of x; anything but registers; a register that another thread owns
+-- the register r; the word x in any role; a flag of x; anything but registers
 register-is : (r : ℕ) → Is (register r) [] (notReg r)
 unfolding isSought member
 register-is r = record { const = λ n. refl; reg = λ n. not-not (eqb n r); word = λ n. refl; sum = refl; falsehood = refl; equal = refl; less = refl; negation = refl; and = refl; or = refl; unsync = λ n. refl; cov = λ n. refl; box = refl; one = λ n. refl; chop = refl; both = refl; either = refl; sees = λ n. refl; bothA = refl; eitherA = refl; start = refl; holds = refl }
@@ -122,10 +122,6 @@ shared-is : Is shared [] isReg
 unfolding isSought member
 shared-is = record { const = λ n. refl; reg = λ n. refl; word = λ n. refl; sum = refl; falsehood = refl; equal = refl; less = refl; negation = refl; and = refl; or = refl; unsync = λ n. refl; cov = λ n. refl; box = refl; one = λ n. refl; chop = refl; both = refl; either = refl; sees = λ n. refl; bothA = refl; eitherA = refl; start = refl; holds = refl }
 
-foreign-is : (t : ℕ) (owners : List ℕ) → Is (foreign t) owners (regsIn (λ r. eqb (ownerOf owners r) t))
-unfolding isSought member
-foreign-is t owners = record { const = λ n. refl; reg = λ n. refl; word = λ n. refl; sum = refl; falsehood = refl; equal = refl; less = refl; negation = refl; and = refl; or = refl; unsync = λ n. refl; cov = λ n. refl; box = refl; one = λ n. refl; chop = refl; both = refl; either = refl; sees = λ n. refl; bothA = refl; eitherA = refl; start = refl; holds = refl }
-
 pub no-register : (r : ℕ) {s : Sort} (f : Formula s) → occurs (register r) [] (raw f) ≡ not (only (notReg r) f)
 no-register r f = absent (register r) [] (notReg r) (register-is r) f
 
@@ -137,9 +133,6 @@ no-flag x f = absent (flag x) [] (notFlag x) (flag-is x) f
 
 pub no-shared : {s : Sort} (f : Formula s) → occurs shared [] (raw f) ≡ not (only isReg f)
 no-shared f = absent shared [] isReg shared-is f
-
-pub no-foreign : (t : ℕ) (owners : List ℕ) {s : Sort} (f : Formula s) → occurs (foreign t) owners (raw f) ≡ not (only (regsIn (λ r. eqb (ownerOf owners r) t)) f)
-no-foreign t owners f = absent (foreign t) owners (regsIn (λ r. eqb (ownerOf owners r) t)) (foreign-is t owners) f
 
 -- start: in assertions only
 neither : (a b : Bool) → a ≡ false → b ≡ false → cond a true b ≡ false

@@ -1,11 +1,10 @@
 -- A formula that is read in a part of an image stands in the whole image.
 use mathlib.Core.Path.{_≡_, ap, sym, _∙_}
-use mathlib.Core.List.{List, [], _∷_, _++_}
-use Prim.Native.Nat.{ℕ, zero, suc, _+_, _-_, _≤_, _<_}
-use native.Mathlib.Nat.{sub-zero, zero-sub, suc-sub-suc}
+use mathlib.Core.List.{List, _++_}
+use Prim.Native.Nat.{ℕ, _+_, _≤_, _<_}
 use native.Mathlib.Omega.{arith}
 use lib.ListN.{length, take, drop, take-append-drop}
-use lib.Seq.{slice, take-nil, drop-drop, drop-append-le}
+use lib.Seq.{drop-drop, drop-append-le}
 use Rattle.limits.specs.Limits.{nesting}
 use Rattle.formula.specs.Tree.{skim}
 use Rattle.formula.specs.Reader.{faultAt, readingOf}
@@ -22,13 +21,6 @@ drop-part : (image b : List ℕ) (m p at : ℕ) → b ≡ take m (drop p image) 
 drop-part image b m p at e h =
     sym (drop-drop at p image) ∙ ap (drop at) (sym (take-append-drop m (drop p image)) ∙ ap (λ (l : List ℕ). l ++ drop m (drop p image)) (sym e))
     ∙ drop-append-le at b (drop m (drop p image)) h
-
--- a slice is such a part
-pub slice-part : (i j : ℕ) (l : List ℕ) → slice i j l ≡ take (j - i) (drop i l)
-slice-part zero j l = rw sub-zero
-slice-part (suc i) zero l = rw zero-sub
-slice-part (suc i) (suc j) [] = rw take-nil
-slice-part (suc i) (suc j) (x ∷ l) = rw suc-sub-suc (slice-part i j l)
 
 module _ (image b : List ℕ) (n : Counts) (m p : ℕ) (e : b ≡ take m (drop p image)) where
   pub part-skim : (k place at : ℕ) → faultAt b n k place at ≡ 0 → skim image k (p + at) ≡ record { tree = skim b k at .tree; end = p + skim b k at .end }
