@@ -4,13 +4,12 @@ use mathlib.Core.Bool.{Bool, true, false, not, _||_, true≢false}
 use mathlib.Core.List.{List}
 use Prim.Native.Nat.{ℕ, _≤_}
 use native.Mathlib.Omega.{arith}
-use lib.Dec.{eqb, ltb}
+use lib.Dec.{T, eqb, ltb, eqb→eq}
 use lib.ListN.{getD}
-use borrow.Author.Tests.{eqb-true, ltb-true, ltb-false, lt-leb, le-ltb}
+use borrow.Author.Tests.{ltb-true, ltb-false, lt-leb, le-ltb}
 use Rattle.logic.specs.Base.{Within}
-use Rattle.logic.specs.Obligations.{below}
-use Rattle.logic.specs.Rules.{row}
-use Rattle.limits.specs.Numbers.{every}
+use Rattle.logic.specs.Rows.{allBelow}
+use Rattle.logic.proofs.Rows.{allBelow-at}
 use Rattle.frames.specs.Records.{bodies}
 use Rattle.program.specs.declared.sizes.Sizes.{Sizes}
 use Rattle.records.specs.declared.line.Form.{Form}
@@ -24,7 +23,7 @@ use Rattle.content.specs.Rule.{ruleOf}
 use Rattle.content.specs.Trees.{treeAt, formNumber}
 use Rattle.content.proofs.Checked.{Checks}
 use Rattle.content.proofs.Lines.{numbers-passed}
-use Rattle.content.proofs.Rule.{by-number, rule-form}
+use Rattle.content.proofs.Rule.{rule-form}
 use Rattle.content.proofs.Trees.{line-is}
 use Rattle.rulebook.specs.Rulebook.{ruleRow}
 use Rattle.rulebook.specs.Listed.{numberOf}
@@ -39,9 +38,9 @@ isListed Inclusion = true
 isListed Unlisted = false
 
 -- a number that a rule has is that rule's number
-numbers-back : every (λ n. not (isListed (formOf n)) || eqb (numberOf (ruleOf n)) n) (below 47) ≡ true
-unfolding every ruleOf formOf
-numbers-back = refl
+numbers-back : T (allBelow 47 (λ n. not (isListed (formOf n)) || eqb (numberOf (ruleOf n)) n))
+unfolding ruleOf formOf
+numbers-back = tt
 
 none-past : (n : ℕ) → 47 ≤ n → isListed (formOf n) ≡ false
 unfolding formOf
@@ -52,8 +51,8 @@ rule-number n l = go (ltb n 47) refl
   where
     go : (b : Bool) → ltb n 47 ≡ b → numberOf (ruleOf n) ≡ n
     go true e =
-        let h : not (isListed (formOf n)) || eqb (numberOf (ruleOf n)) n ≡ true = by-number (λ i. not (isListed (formOf i)) || eqb (numberOf (ruleOf i)) i) numbers-back n (ltb-true n 47 e) in
-        eqb-true (numberOf (ruleOf n)) n (rw l at h)
+        let h : T (not (isListed (formOf n)) || eqb (numberOf (ruleOf n)) n) = allBelow-at 47 (λ i. not (isListed (formOf i)) || eqb (numberOf (ruleOf i)) i) numbers-back n (ltb-true n 47 e) in
+        eqb→eq (numberOf (ruleOf n)) n (rw l at h)
     go false e = absurd (true≢false (sym l ∙ none-past n (ltb-false n 47 e)))
 
 -- the form of its row

@@ -1,5 +1,5 @@
 -- What does not occur in a formula's tree: the names that a formula may not have, whatever the sort; start.
-use mathlib.Core.Path.{_≡_, refl, ap, ap₂, sym, _∙_}
+use mathlib.Core.Path.{_≡_, refl, ap, sym, _∙_}
 use mathlib.Core.Bool.{Bool, true, false, not, _&&_, cond}
 use mathlib.Core.List.{List, [], _∷_, _++_}
 use Prim.Native.Nat.{ℕ}
@@ -9,8 +9,8 @@ use Rattle.logic.specs.Code
 use Rattle.logic.specs.Code.{byte}
 use Rattle.logic.specs.Formula.{Sort, Formula, Value, Test, Interval, Assertion, Formula.const, Formula.reg, Formula.word, Formula.sum, Formula.equal, Formula.less, Formula.and, Formula.or, Formula.unsync, Formula.cov, Formula.box, Formula.one, Formula.chop, Formula.both, Formula.either, Formula.sees, Formula.bothA, Formula.eitherA, Formula.start, Formula.holds}
 use Rattle.logic.specs.Names.{Name, n-reg, n-word, n-unsync, n-cov, names, only, notReg, notWord, notFlag, isReg, startless}
-use Rattle.formula.specs.Codes.{member, setOf}
-use Rattle.formula.specs.Tree.{Tree, none, node}
+use Rattle.formula.specs.Codes.{member}
+use Rattle.formula.specs.Tree.{none, node}
 use Rattle.occurs.specs.Occurs
 use Rattle.occurs.specs.Occurs.{isSought, occurs, register, wordAnyRole, flag, shared}
 use Rattle.occurs.specs.declared.find.Sought.{Sought}
