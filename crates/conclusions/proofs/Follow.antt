@@ -1,4 +1,4 @@
--- Claims by positions, matched against the bytes of templates, are claims by trees, matched against shapes.
+-- Conclusions by positions, matched against the bytes of templates, are conclusions by trees, matched against shapes.
 use mathlib.Core.Path.{_≡_, refl, ap, sym, _∙_, subst}
 use mathlib.Core.Bool.{Bool, true, false, not, _&&_, _||_, false≢true, cond}
 use mathlib.Core.List.{List, [], _∷_, map}
@@ -18,11 +18,11 @@ use Rattle.matcher.specs.declared.whole.Whole.{Whole}
 use Rattle.matcher.proofs.Follow.{Sized, given, Follows, match-follows}
 use Rattle.certificate.specs.FitT.{hoare, formOf, leftOf, rightOf, placed, matchSides, matchAll}
 use Rattle.rulebook.specs.Listed.{packed}
-use Rattle.conclusions.specs.Claim.{saidAt, placedAt, matchClaim, claimAt, claimsFrom, matchFrom}
-use Rattle.conclusions.specs.declared.claim.Claim.{Claim}
-use Rattle.conclusions.specs.declared.claim.Premises.{Premises}
+use Rattle.conclusions.specs.Conclusion.{saidAt, placedAt, matchConclusion, conclusionAt, conclusionsFrom, matchFrom}
+use Rattle.conclusions.specs.declared.conclusion.Conclusion.{Conclusion}
+use Rattle.conclusions.specs.declared.conclusion.Premises.{Premises}
 
-placed-same : (s : List ℕ) (form t k : ℕ) (c : Claim) → placed form t k (saidAt s c) ≡ placedAt form t k c
+placed-same : (s : List ℕ) (form t k : ℕ) (c : Conclusion) → placed form t k (saidAt s c) ≡ placedAt form t k c
 unfolding placedAt
 placed-same s form t k c = go (eqb (c .form) form) (eqb form hoare) (eqb (c .thread) t) (eqb (c .point) k)
   where
@@ -47,15 +47,15 @@ pub record StandSides (t : List ℕ) (i : ℕ) (p q : Tree) : Type 0 where
 abbrev pub Stands : List ℕ → ℕ → Shape → Type 0
 Stands t i m = StandSides t i (leftOf m) (rightOf m)
 
-pub record SidesFollow (s t : List ℕ) (i thread point form : ℕ) (p q : Tree) (c : Claim) (b : Bind) (r : Whole) : Type 0 where
+pub record SidesFollow (s t : List ℕ) (i thread point form : ℕ) (p q : Tree) (c : Conclusion) (b : Bind) (r : Whole) : Type 0 where
   pub same : matchSides thread point form p q (saidAt s c) (takenOf s b) ≡ given s (r .ok) (r .bind)
   pub tpl : r .ok ≡ true → r .tpl ≡ behind t i
   pub sized : Sized (r .bind)
 
-abbrev pub ClaimFollows : List ℕ → List ℕ → ℕ → ℕ → ℕ → Shape → Claim → Bind → Whole → Type 0
-ClaimFollows s t i thread point m c b r = SidesFollow s t i thread point (formOf m) (leftOf m) (rightOf m) c b r
+abbrev pub ConclusionFollows : List ℕ → List ℕ → ℕ → ℕ → ℕ → Shape → Conclusion → Bind → Whole → Type 0
+ConclusionFollows s t i thread point m c b r = SidesFollow s t i thread point (formOf m) (leftOf m) (rightOf m) c b r
 
-module _ (s t : List ℕ) (i thread point form : ℕ) (p q : Tree) (c : Claim) (b : Bind) (z : Sized b) (st : StandSides t i p q) where
+module _ (s t : List ℕ) (i thread point form : ℕ) (p q : Tree) (c : Conclusion) (b : Bind) (z : Sized b) (st : StandSides t i p q) where
   abbrev first : Match
   first = matchAt s t nesting i (c .left) b
 
@@ -85,8 +85,8 @@ module _ (s t : List ℕ) (i thread point form : ℕ) (p q : Tree) (c : Claim) (
   first-fails : first .ok ≡ false → andThen (matchT p (skim s nesting (c .left) .tree) (takenOf s b)) (matchT q (skim s nesting (c .right) .tree)) ≡ none
   first-fails o = rw (left-same, o)
 
-  pub sides-follow : SidesFollow s t i thread point form p q c b (matchClaim s t i form thread point c b)
-  unfolding matchClaim wholeAt
+  pub sides-follow : SidesFollow s t i thread point form p q c b (matchConclusion s t i form thread point c b)
+  unfolding matchConclusion wholeAt
   sides-follow = go (placedAt form thread point c) refl (first .ok) refl
     where
       go : (here : Bool) → placedAt form thread point c ≡ here → (o : Bool) → first .ok ≡ o
@@ -103,8 +103,8 @@ module _ (s t : List ℕ) (i thread point form : ℕ) (p q : Tree) (c : Claim) (
         sized = rw e (left-follows .sized);
       }
 
-pub claim-follows : (s t : List ℕ) (i thread point : ℕ) (m : Shape) (c : Claim) (b : Bind) → Sized b → Stands t i m → ClaimFollows s t i thread point m c b (matchClaim s t i (formOf m) thread point c b)
-claim-follows s t i thread point m = sides-follow s t i thread point (formOf m) (leftOf m) (rightOf m)
+pub conclusion-follows : (s t : List ℕ) (i thread point : ℕ) (m : Shape) (c : Conclusion) (b : Bind) → Sized b → Stands t i m → ConclusionFollows s t i thread point m c b (matchConclusion s t i (formOf m) thread point c b)
+conclusion-follows s t i thread point m = sides-follow s t i thread point (formOf m) (leftOf m) (rightOf m)
 
 -- the templates of shapes stand one after the other
 abbrev pub StandAll : List ℕ → ℕ → List Shape → Type 0
@@ -122,19 +122,19 @@ forms-left (Shape.implies a b) q = omega arith
 forms-left (Shape.triple a b) q = omega arith
 
 pub record FromFollows (s : List ℕ) (thread point : ℕ) (p : Premises) (l : List Shape) (j : ℕ) (b : Bind) (r : Whole) : Type 0 where
-  pub same : matchAll thread point l (map (saidAt s) (claimsFrom p (length l) j)) (takenOf s b) ≡ given s (r .ok) (r .bind)
+  pub same : matchAll thread point l (map (saidAt s) (conclusionsFrom p (length l) j)) (takenOf s b) ≡ given s (r .ok) (r .bind)
   pub sized : Sized (r .bind)
 
 module _ (s t : List ℕ) (thread point : ℕ) (p : Premises) where
   module _ (m : Shape) (l : List Shape) (i j : ℕ) (b : Bind) (z : Sized b) (st : Stands t i m) where
     abbrev one : Whole
-    one = matchClaim s t i (formOf m) thread point (claimAt p j) b
+    one = matchConclusion s t i (formOf m) thread point (conclusionAt p j) b
 
     abbrev rest : Whole
     rest = matchFrom s t thread point p (length l) (one .tpl) (packed l) (j + 1) (one .bind)
 
-    one-follows : ClaimFollows s t i thread point m (claimAt p j) b one
-    one-follows = claim-follows s t i thread point m (claimAt p j) b z st
+    one-follows : ConclusionFollows s t i thread point m (conclusionAt p j) b one
+    one-follows = conclusion-follows s t i thread point m (conclusionAt p j) b z st
 
     more-follow : (o : Bool) → one .ok ≡ o → (o ≡ true → FromFollows s thread point p l (j + 1) (one .bind) rest) → FromFollows s thread point p (m ∷ l) j b (cond o rest one)
     more-follow true o g = record { same = rw (one-follows .same, o) (g refl .same); sized = g refl .sized }

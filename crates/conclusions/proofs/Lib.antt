@@ -2,5 +2,5 @@ pub mod Ways
 pub mod Follow
 pub mod Lines
 pub mod Row
-pub mod Claimed
+pub mod Stated
 pub mod Resting

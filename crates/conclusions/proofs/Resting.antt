@@ -16,23 +16,23 @@ use Rattle.certificate.specs.FitT.{implication}
 use Rattle.content.specs.Certificate.{lineBody}
 use Rattle.rulebook.specs.Rulebook.{anyImplications}
 use Rattle.rulebook.specs.declared.rule.Rule.{Rule}
-use Rattle.conclusions.specs.Claim.{noClaim, claimAt, matchFrom}
-use Rattle.conclusions.specs.LineClaim.{claimOf}
-use Rattle.conclusions.specs.Premises.{premiseClaim, premisesOf, isImplicationAt, allImplications, matchPremises}
-use Rattle.conclusions.specs.declared.claim.Claim.{Claim}
-use Rattle.conclusions.specs.declared.claim.Premises.{Premises}
+use Rattle.conclusions.specs.Conclusion.{noConclusion, conclusionAt, matchFrom}
+use Rattle.conclusions.specs.LineConclusion.{conclusionOf}
+use Rattle.conclusions.specs.Premises.{premiseConclusion, premisesOf, isImplicationAt, allImplications, matchPremises}
+use Rattle.conclusions.specs.declared.conclusion.Conclusion.{Conclusion}
+use Rattle.conclusions.specs.declared.conclusion.Premises.{Premises}
 
 module _ (s : List ℕ) (z : Sizes) (n count : ℕ) where
-  pub premise-past : (j : ℕ) → count ≤ j → noClaim ≡ premiseClaim s z n count j
-  unfolding premiseClaim
+  pub premise-past : (j : ℕ) → count ≤ j → noConclusion ≡ premiseConclusion s z n count j
+  unfolding premiseConclusion
   premise-past j h = rw (le-leb _ _ h)
 
-  pub premise-there : (j m : ℕ) (c : Claim) → j < count → m ≡ getD (Lines.premises (lineBody z (bodies s) n)) j 0 → c ≡ claimOf s z m → c ≡ premiseClaim s z n count j
-  unfolding premiseClaim
+  pub premise-there : (j m : ℕ) (c : Conclusion) → j < count → m ≡ getD (Lines.premises (lineBody z (bodies s) n)) j 0 → c ≡ conclusionOf s z m → c ≡ premiseConclusion s z n count j
+  unfolding premiseConclusion
   premise-there j m c h e d = rw (lt-leb _ _ h, ← e) d
 
-  pub premises-is : (a b c d : Claim) → a ≡ premiseClaim s z n count 0 → b ≡ premiseClaim s z n count 1 → c ≡ premiseClaim s z n count 2 → d ≡ premiseClaim s z n count 3
-      → record { count = count; claims = a ∷ b ∷ c ∷ d ∷ [] } ≡ premisesOf s z n count
+  pub premises-is : (a b c d : Conclusion) → a ≡ premiseConclusion s z n count 0 → b ≡ premiseConclusion s z n count 1 → c ≡ premiseConclusion s z n count 2 → d ≡ premiseConclusion s z n count 3
+      → record { count = count; conclusions = a ∷ b ∷ c ∷ d ∷ [] } ≡ premisesOf s z n count
   unfolding premisesOf
   premises-is a b c d e f g h = rw (e, f, g, h)
 
@@ -41,7 +41,7 @@ module _ (p : Premises) where
   unfolding isImplicationAt
   implication-past j h = rw (le-leb _ _ h)
 
-  pub implication-there : (j : ℕ) (c : Claim) (b : Bool) → j < p .count → c ≡ claimAt p j → b ≡ eqb (c .form) implication → b ≡ isImplicationAt p j
+  pub implication-there : (j : ℕ) (c : Conclusion) (b : Bool) → j < p .count → c ≡ conclusionAt p j → b ≡ eqb (c .form) implication → b ≡ isImplicationAt p j
   unfolding isImplicationAt
   implication-there j c b h e d = rw (lt-leb _ _ h, ← e) d
 

@@ -80,23 +80,23 @@ module _ (n : Rule) where
   abbrev stands : Bool
   stands = standAt (ruleRow (numberOf n) .template) (trees (row n .says ∷ shapes (row n .premises)))
 
-  claims : T (form && (count && forms))
-  claims = and-left (form && (count && forms)) ((bits && side) && stands) (listed-right n)
+  conclusions : T (form && (count && forms))
+  conclusions = and-left (form && (count && forms)) ((bits && side) && stands) (listed-right n)
 
   asks : T ((bits && side) && stands)
   asks = and-right (form && (count && forms)) ((bits && side) && stands) (listed-right n)
 
   pub row-form : ruleRow (numberOf n) .form ≡ formOf (row n .says)
-  row-form = eqb→eq _ _ (and-left form (count && forms) claims)
+  row-form = eqb→eq _ _ (and-left form (count && forms) conclusions)
 
   pub row-premises : ruleRow (numberOf n) .premises ≡ premiseCount (row n .premises)
-  row-premises = eqb→eq _ _ (and-left counted few (and-left count forms (and-right form (count && forms) claims)))
+  row-premises = eqb→eq _ _ (and-left counted few (and-left count forms (and-right form (count && forms) conclusions)))
 
   pub row-few : length (shapes (row n .premises)) ≤ Limits.premises
-  row-few = leb→le _ _ (and-right counted few (and-left count forms (and-right form (count && forms) claims)))
+  row-few = leb→le _ _ (and-right counted few (and-left count forms (and-right form (count && forms) conclusions)))
 
   pub row-forms : ruleRow (numberOf n) .forms ≡ packed (shapes (row n .premises))
-  row-forms = eqb→eq _ _ (and-right count forms (and-right form (count && forms) claims))
+  row-forms = eqb→eq _ _ (and-right count forms (and-right form (count && forms) conclusions))
 
   pub row-side : ruleRow (numberOf n) .side ≡ sideNumber (row n .sides)
   row-side = eqb→eq _ _ (and-right bits side (and-left (bits && side) stands asks))

@@ -13,11 +13,11 @@ use Rattle.matcher.specs.Places.{wholeAt, thenWhole}
 use Rattle.matcher.specs.declared.bind.Bind.{Bind}
 use Rattle.matcher.specs.declared.whole.Whole.{Whole}
 use Rattle.certificate.specs.FitT.{hoare}
-use Rattle.conclusions.specs.Claim.{placedAt, matchClaim, noClaim, claimAt, matchFrom}
-use Rattle.conclusions.specs.declared.claim.Claim.{Claim}
-use Rattle.conclusions.specs.declared.claim.Premises.{Premises}
+use Rattle.conclusions.specs.Conclusion.{placedAt, matchConclusion, noConclusion, conclusionAt, matchFrom}
+use Rattle.conclusions.specs.declared.conclusion.Conclusion.{Conclusion}
+use Rattle.conclusions.specs.declared.conclusion.Premises.{Premises}
 
-module _ (form t k : ℕ) (c : Claim) where
+module _ (form t k : ℕ) (c : Conclusion) where
   pub placed-other : (c .form ≡ form → ⊥) → false ≡ placedAt form t k c
   unfolding placedAt
   placed-other n = rw (ne-eqb _ _ n)
@@ -38,36 +38,36 @@ module _ (form t k : ℕ) (c : Claim) where
 
 pub ruleset placing = (placed-other, placed-form, placed-thread, placed-point)
 
-module _ (s t : List ℕ) (i form thread point : ℕ) (c : Claim) (b : Bind) (p : Bool) (e : p ≡ placedAt form thread point c) where
-  pub claim-elsewhere : p ≡ false → record { ok = false; tpl = i; bind = b } ≡ matchClaim s t i form thread point c b
-  unfolding matchClaim
-  claim-elsewhere n = rw (← e, n)
+module _ (s t : List ℕ) (i form thread point : ℕ) (c : Conclusion) (b : Bind) (p : Bool) (e : p ≡ placedAt form thread point c) where
+  pub conclusion-elsewhere : p ≡ false → record { ok = false; tpl = i; bind = b } ≡ matchConclusion s t i form thread point c b
+  unfolding matchConclusion
+  conclusion-elsewhere n = rw (← e, n)
 
   module _ (h : p ≡ true) (m : Whole) (d : m ≡ wholeAt s t nesting i (c .left) b) where
-    pub claim-left : m .ok ≡ false → m ≡ matchClaim s t i form thread point c b
-    unfolding matchClaim
-    claim-left n = rw (← e, h, ← d, n)
+    pub conclusion-left : m .ok ≡ false → m ≡ matchConclusion s t i form thread point c b
+    unfolding matchConclusion
+    conclusion-left n = rw (← e, h, ← d, n)
 
-    pub claim-both : (r : Whole) → m .ok ≡ true → r ≡ wholeAt s t nesting (m .tpl) (c .right) (m .bind) → r ≡ matchClaim s t i form thread point c b
-    unfolding matchClaim
-    claim-both r o g = rw (← e, h, ← d, o) g
+    pub conclusion-both : (r : Whole) → m .ok ≡ true → r ≡ wholeAt s t nesting (m .tpl) (c .right) (m .bind) → r ≡ matchConclusion s t i form thread point c b
+    unfolding matchConclusion
+    conclusion-both r o g = rw (← e, h, ← d, o) g
 
-pub ruleset claiming = (claim-elsewhere, claim-left, claim-both)
+pub ruleset placing-sides = (conclusion-elsewhere, conclusion-left, conclusion-both)
 
-pub claim-there : (p : Premises) (j : ℕ) → j < premises → getD (p .claims) j noClaim ≡ claimAt p j
-unfolding claimAt
-claim-there p j h = rw (lt-ltb _ _ h)
+pub conclusion-there : (p : Premises) (j : ℕ) → j < premises → getD (p .conclusions) j noConclusion ≡ conclusionAt p j
+unfolding conclusionAt
+conclusion-there p j h = rw (lt-ltb _ _ h)
 
-pub claim-missing : (p : Premises) (j : ℕ) → premises ≤ j → noClaim ≡ claimAt p j
-unfolding claimAt
-claim-missing p j h = rw (le-ltb _ _ h)
+pub conclusion-missing : (p : Premises) (j : ℕ) → premises ≤ j → noConclusion ≡ conclusionAt p j
+unfolding conclusionAt
+conclusion-missing p j h = rw (le-ltb _ _ h)
 
-pub ruleset claims = (claim-there, claim-missing)
+pub ruleset conclusions = (conclusion-there, conclusion-missing)
 
 module _ (s t : List ℕ) (thread point : ℕ) (p : Premises) where
   from-step : (n i forms j : ℕ) (b : Bind) → (n ≡ 0 → ⊥)
       → matchFrom s t thread point p n i forms j b
-      ≡ thenWhole (matchClaim s t i (forms % 4) thread point (claimAt p j) b) (λ m. matchFrom s t thread point p (n - 1) (m .tpl) (forms / 4) (j + 1) (m .bind))
+      ≡ thenWhole (matchConclusion s t i (forms % 4) thread point (conclusionAt p j) b) (λ m. matchFrom s t thread point p (n - 1) (m .tpl) (forms / 4) (j + 1) (m .bind))
   unfolding matchFrom
   from-step zero i forms j b z = absurd (z refl)
   from-step (suc n) i forms j b z = rw (sub-one (suc n))
@@ -77,7 +77,7 @@ module _ (s t : List ℕ) (thread point : ℕ) (p : Premises) where
     unfolding matchFrom
     from-none e = rw e
 
-    module _ (z : n ≡ 0 → ⊥) (c : Claim) (e : c ≡ claimAt p j) (m : Whole) (d : m ≡ matchClaim s t i (forms % 4) thread point c b) where
+    module _ (z : n ≡ 0 → ⊥) (c : Conclusion) (e : c ≡ conclusionAt p j) (m : Whole) (d : m ≡ matchConclusion s t i (forms % 4) thread point c b) where
       pub from-no : m .ok ≡ false → m ≡ matchFrom s t thread point p n i forms j b
       from-no o = rw (from-step n i forms j b z, ← e, ← d, o)
 

@@ -17,14 +17,14 @@ use Rattle.content.specs.declared.line.Line.{Line}
 use Rattle.content.specs.declared.acting.Acting.{Acting}
 use Rattle.rulebook.specs.Rulebook.{ruleRow}
 use Rattle.rulebook.specs.declared.rule.Rule.{Rule}
-use Rattle.conclusions.specs.Claim.{matchClaim}
-use Rattle.conclusions.specs.LineClaim.{claimBy, lineAt}
+use Rattle.conclusions.specs.Conclusion.{matchConclusion}
+use Rattle.conclusions.specs.LineConclusion.{conclusionBy, lineAt}
 use Rattle.conclusions.specs.Premises.{premisesOf, matchPremises}
 use Rattle.fitting.specs.Preset.{presetAt}
 use Rattle.sides.specs.Asked.{asked}
 use Rattle.fitting.specs.Fit.{isAllowed, restAt, lineMatch, fitsRow, actingIn, fitsLine}
-use Rattle.conclusions.specs.declared.claim.Claim.{Claim}
-use Rattle.conclusions.specs.declared.claim.Premises.{Premises}
+use Rattle.conclusions.specs.declared.conclusion.Conclusion.{Conclusion}
+use Rattle.conclusions.specs.declared.conclusion.Premises.{Premises}
 
 module _ (w : Rule) (op : ℕ) where
   pub allowed-triple : (b : Bool) → w .form ≡ hoare → b ≡ member (w .operations) op → b ≡ isAllowed w op
@@ -35,7 +35,7 @@ module _ (w : Rule) (op : ℕ) where
   unfolding isAllowed
   allowed-other n = rw (ne-eqb _ _ n)
 
-module _ (s : List ℕ) (w : Rule) (a : Acting) (c : Claim) (p : Premises) (b : Bind) (o : Bool) (e : o ≡ isAllowed w (a .operation)) where
+module _ (s : List ℕ) (w : Rule) (a : Acting) (c : Conclusion) (p : Premises) (b : Bind) (o : Bool) (e : o ≡ isAllowed w (a .operation)) where
   pub rest-asked : (r : Bool) → o ≡ true → r ≡ asked s (w .side) b a c p → r ≡ restAt s w a c p b
   unfolding restAt
   rest-asked r h d = rw (← e, h) d
@@ -46,15 +46,15 @@ module _ (s : List ℕ) (w : Rule) (a : Acting) (c : Claim) (p : Premises) (b : 
 
 pub ruleset allowing = (allowed-triple, allowed-other, rest-asked, rest-refused)
 
-pub line-matched : (s t : List ℕ) (w : Rule) (l : Line) (a : Acting) (c : Claim) (b : Bind) (r : Whole) → b ≡ presetAt (l .thread) (a .word) (a .register) (a .formula)
-    → r ≡ matchClaim s t (w .template) (w .form) (c .thread) (c .point) c b → r ≡ lineMatch s t w l a c
+pub line-matched : (s t : List ℕ) (w : Rule) (l : Line) (a : Acting) (c : Conclusion) (b : Bind) (r : Whole) → b ≡ presetAt (l .thread) (a .word) (a .register) (a .formula)
+    → r ≡ matchConclusion s t (w .template) (w .form) (c .thread) (c .point) c b → r ≡ lineMatch s t w l a c
 unfolding lineMatch
 line-matched s t w l a c b r e d = rw (← e) d
 
-module _ (s t : List ℕ) (l : Line) (a : Acting) (p : Premises) (w : Rule) (c : Claim) (m : Whole) (ew : w ≡ ruleRow (l .rule)) (ec : c ≡ claimBy l) (em : m ≡ lineMatch s t w l a c) where
-  pub row-claim : m .ok ≡ false → false ≡ fitsRow s t l a p
+module _ (s t : List ℕ) (l : Line) (a : Acting) (p : Premises) (w : Rule) (c : Conclusion) (m : Whole) (ew : w ≡ ruleRow (l .rule)) (ec : c ≡ conclusionBy l) (em : m ≡ lineMatch s t w l a c) where
+  pub row-conclusion : m .ok ≡ false → false ≡ fitsRow s t l a p
   unfolding fitsRow
-  row-claim h = rw (← ew, ← ec, ← em, h)
+  row-conclusion h = rw (← ew, ← ec, ← em, h)
 
   module _ (h : m .ok ≡ true) (q : Whole) (eq : q ≡ matchPremises s t (m .tpl) w (c .thread) (c .point) p (m .bind)) where
     pub row-premises : q .ok ≡ false → false ≡ fitsRow s t l a p
@@ -70,4 +70,4 @@ pub line-fits : (s t : List ℕ) (z : Sizes) (n : ℕ) (l : Line) (a : Acting) (
 unfolding fitsLine actingIn lineAt
 line-fits s t z n l a p r e d f g = rw (← e, ← d, ← f) g
 
-pub ruleset fitting = (line-matched, row-claim, row-premises, row-rest, line-fits)
+pub ruleset fitting = (line-matched, row-conclusion, row-premises, row-rest, line-fits)

@@ -16,7 +16,7 @@ use Rattle.content.specs.Certificate.{lineBody}
 use Rattle.content.specs.Places.{lineIn}
 use Rattle.content.specs.declared.line.Line.{Line}
 use Rattle.rulebook.specs.Rulebook.{templates}
-use Rattle.conclusions.specs.LineClaim.{lineAt}
+use Rattle.conclusions.specs.LineConclusion.{lineAt}
 use Rattle.fitting.specs.Fit.{fitsLine}
 use Rattle.marks.specs.Marks.{asMarks, noMarks, isMarked, withMark}
 use Rattle.marks.specs.declared.Marks.{Marks}

@@ -15,11 +15,11 @@ use Rattle.frames.specs.Records.{bodies}
 use Rattle.matcher.specs.declared.bind.Bind.{Bind}
 use Rattle.content.specs.declared.acting.Acting.{Acting}
 use Rattle.rulebook.specs.Rulebook.{nothing, isKept, assigned, loaded, stored, byRows, byTable, startValue}
-use Rattle.conclusions.specs.Claim.{claimAt}
+use Rattle.conclusions.specs.Conclusion.{conclusionAt}
 use Rattle.sides.specs.Side.{holeOf, numberIn, treeOf, keeps, isWith, storedBy, isStart}
 use Rattle.sides.specs.Asked.{assignedBy, loadedBy, ofInstruction, implicationsOf, ofNames, asked}
-use Rattle.conclusions.specs.declared.claim.Claim.{Claim}
-use Rattle.conclusions.specs.declared.claim.Premises.{Premises}
+use Rattle.conclusions.specs.declared.conclusion.Conclusion.{Conclusion}
+use Rattle.conclusions.specs.declared.conclusion.Premises.{Premises}
 use Rattle.sides.specs.declared.side.Stand.{Stand}
 
 module _ (s : List ℕ) (b : Bind) (a : Acting) (p q : Stand) (r : Bool) where
@@ -59,7 +59,7 @@ module _ (s : List ℕ) (side : ℕ) (b : Bind) (a : Acting) (r : Bool) where
 
 pub ruleset instructing = (asks-kept, asks-assigned, asks-loaded, asks-stored, asks-absent)
 
-pub implications-is : (c d e f g : Claim) (p : Premises) → d ≡ claimAt p 0 → e ≡ claimAt p 1 → f ≡ claimAt p 2 → g ≡ claimAt p 3
+pub implications-is : (c d e f g : Conclusion) (p : Premises) → d ≡ conclusionAt p 0 → e ≡ conclusionAt p 1 → f ≡ conclusionAt p 2 → g ≡ conclusionAt p 3
     → record { count = p .count + 1; left = c .left ∷ d .left ∷ e .left ∷ f .left ∷ g .left ∷ []; right = c .right ∷ d .right ∷ e .right ∷ f .right ∷ g .right ∷ [] } ≡ implicationsOf c p
 unfolding implicationsOf
 implications-is c d e f g p x y z w = rw (x, y, z, w)
@@ -68,9 +68,9 @@ pub names-is : (s : List ℕ) (b : Bind) (p q : Stand) (r : Bool) → p ≡ hole
 unfolding ofNames
 names-is s b p q r e d g = rw (← e, ← d) g
 
-pub ruleset claiming = (implications-is, names-is)
+pub ruleset implying = (implications-is, names-is)
 
-module _ (s : List ℕ) (side : ℕ) (b : Bind) (a : Acting) (c : Claim) (p : Premises) where
+module _ (s : List ℕ) (side : ℕ) (b : Bind) (a : Acting) (c : Conclusion) (p : Premises) where
   pub asks-nothing : side ≡ nothing → true ≡ asked s side b a c p
   unfolding asked
   asks-nothing k = rw (eq-eqb _ _ k)

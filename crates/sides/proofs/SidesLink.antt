@@ -32,11 +32,11 @@ use Rattle.certificate.specs.FitT.{Said, holesFrom, orElse, keepsT, sideT}
 use Rattle.content.specs.Trees.{actingAt}
 use Rattle.content.specs.declared.acting.Acting.{Acting}
 use Rattle.rulebook.specs.Listed.{sideNumber}
-use Rattle.conclusions.specs.Claim.{saidAt, claimsFrom}
+use Rattle.conclusions.specs.Conclusion.{saidAt, conclusionsFrom}
 use Rattle.sides.specs.Side.{holeOf, numberIn, treeOf, keeps, isWith, storedBy, isStart}
 use Rattle.sides.specs.Asked.{assignedBy, loadedBy, ofInstruction, implicationsOf, ofNames, asked}
-use Rattle.conclusions.specs.declared.claim.Claim.{Claim}
-use Rattle.conclusions.specs.declared.claim.Premises.{Premises}
+use Rattle.conclusions.specs.declared.conclusion.Conclusion.{Conclusion}
+use Rattle.conclusions.specs.declared.conclusion.Premises.{Premises}
 
 -- the start values of an image
 abbrev pub startOf : List ℕ → ℕ → ℕ
@@ -84,15 +84,15 @@ module _ (s : List ℕ) (b : Bind) where
       go n true e = rw (eqb-true n 0 e)
       go n false e = refl
 
-module _ (s : List ℕ) (b : Bind) (a : Acting) (c : Claim) (p : Premises) (few : p .count ≤ Limits.premises) where
+module _ (s : List ℕ) (b : Bind) (a : Acting) (c : Conclusion) (p : Premises) (few : p .count ≤ Limits.premises) where
   abbrev vs : List Said
-  vs = map (saidAt s) (claimsFrom p (p .count) 0)
+  vs = map (saidAt s) (conclusionsFrom p (p .count) 0)
 
   abbrev holds : Rule → Bool
   holds n = all (sideT Limits.values (startOf s) (actingAt s a) (holesFrom (takenOf s b)) (saidAt s c) vs) (row n .sides)
 
   -- the line's premises, as implications
-  table-is : (n : ℕ) → p .count ≡ n → n ≤ Limits.premises → map FitT.impOf (map (saidAt s) (claimsFrom p n 0)) ≡ premisesOf s (implicationsOf c p)
+  table-is : (n : ℕ) → p .count ≡ n → n ≤ Limits.premises → map FitT.impOf (map (saidAt s) (conclusionsFrom p n 0)) ≡ premisesOf s (implicationsOf c p)
   unfolding implicationsOf premisesFrom impsFrom impOf
   table-is zero e h = rw e
   table-is (suc zero) e h = rw e

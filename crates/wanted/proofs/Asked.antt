@@ -39,8 +39,8 @@ use Rattle.content.proofs.Instr.{branch-is, branch-read}
 use Rattle.content.proofs.Checked.{Checks}
 use Rattle.content.proofs.Program.{points-few, well-formed}
 use Rattle.content.proofs.Trees.{outline-is, test-is}
-use Rattle.conclusions.specs.LineClaim.{claimOf}
-use Rattle.conclusions.proofs.Claimed.{claim-said}
+use Rattle.conclusions.specs.LineConclusion.{conclusionOf}
+use Rattle.conclusions.proofs.Stated.{conclusion-said}
 use Rattle.wanted.specs.Wanted.{nextPoint, assertedAt, wantedStart, wantedAction, wantedNext, wantedStep, wantedTarget, wantedKept, wantedAt}
 use Rattle.report.specs.Place.{obligation}
 use Rattle.wanted.specs.Concluding.{meets, concludesAt}
@@ -105,8 +105,8 @@ module _ (s : List ℕ) (z : Sizes) (c : Checks z (bodies s)) where
     start-asked : (t : ℕ) → Within (z .threads) t → meets s z (wantedStart s z t) n ≡ sameStatement (implies start (O t 0)) (says n)
     unfolding wantedStart pointCount
     start-asked t w =
-        start-compared s (claimOf s z n) (assertedAt s z t 0)
-        ∙ ap (compared implication 0 0 starting (treeAt s (assertedAt s z t 0))) (claim-said s z c n wn)
+        start-compared s (conclusionOf s z n) (assertedAt s z t 0)
+        ∙ ap (compared implication 0 0 starting (treeAt s (assertedAt s z t 0))) (conclusion-said s z c n wn)
         ∙ implied-same start (O t 0) starting (treeAt s (assertedAt s z t 0)) refl (asserted-is t 0 w (omega arith)) (says n)
 
     module _ (t k : ℕ) (w : Within (z .threads) t) (h : suc k < P .points t) where
@@ -128,16 +128,16 @@ module _ (s : List ℕ) (z : Sizes) (c : Checks z (bodies s)) where
       action-asked : meets s z (wantedAction s z t k) n ≡ sameStatement (triple t k (O t k) (O t (suc k))) (says n)
       unfolding wantedAction
       action-asked =
-          step-compared s (claimOf s z n) (assertedAt s z t k) (assertedAt s z t (nextPoint k)) t k
-          ∙ ap (compared hoare t k here following) (claim-said s z c n wn)
+          step-compared s (conclusionOf s z n) (assertedAt s z t k) (assertedAt s z t (nextPoint k)) t k
+          ∙ ap (compared hoare t k here following) (conclusion-said s z c n wn)
           ∙ kept-same (O t k) (O t (suc k)) here following here-is (behind-is t k w h) t k (says n)
 
       module _ (e : its t k .operation ≡ Opcode.branch) where
         next-asked : meets s z (wantedNext s z t k (its t k)) n ≡ sameStatement (implies (bothA (O t k) (holds (Formula.not test))) (O t (suc k))) (says n)
         unfolding wantedNext
         next-asked =
-            next-compared s (claimOf s z n) (assertedAt s z t k) (formulaAt s (its t k .formula)) (assertedAt s z t (nextPoint k))
-            ∙ ap (compared implication 0 0 (both here (holding (negated tested))) following) (claim-said s z c n wn)
+            next-compared s (conclusionOf s z n) (assertedAt s z t k) (formulaAt s (its t k .formula)) (assertedAt s z t (nextPoint k))
+            ∙ ap (compared implication 0 0 (both here (holding (negated tested))) following) (conclusion-said s z c n wn)
             ∙ implied-same (bothA (O t k) (holds (Formula.not test))) (O t (suc k)) (both here (holding (negated tested))) following
             (ap₂ (λ (x y : Tree). both x (holding (negated y))) here-is (test-is s z c t k w h e)) (behind-is t k w h) (says n)
 
@@ -152,8 +152,8 @@ module _ (s : List ℕ) (z : Sizes) (c : Checks z (bodies s)) where
         target-asked : meets s z (wantedTarget s z t k) n ≡ sameStatement (implies (bothA (O t k) (holds test)) (O t (its t k .a))) (says n)
         unfolding wantedTarget
         target-asked =
-            target-compared s (claimOf s z n) (assertedAt s z t k) (formulaAt s (its t k .formula)) (assertedAt s z t (its t k .a))
-            ∙ ap (compared implication 0 0 (both here (holding tested)) aim) (claim-said s z c n wn)
+            target-compared s (conclusionOf s z n) (assertedAt s z t k) (formulaAt s (its t k .formula)) (assertedAt s z t (its t k .a))
+            ∙ ap (compared implication 0 0 (both here (holding tested)) aim) (conclusion-said s z c n wn)
             ∙ implied-same (bothA (O t k) (holds test)) (O t (its t k .a)) (both here (holding tested)) aim
             (ap₂ (λ (x y : Tree). both x (holding y)) here-is (test-is s z c t k w h e)) (asserted-is t (its t k .a) w target-there) (says n)
 
@@ -181,8 +181,8 @@ module _ (s : List ℕ) (z : Sizes) (c : Checks z (bodies s)) where
     kept-asked u j t k w h y g =
         let p = asserted-is u j w h in
         let q = asserted-is t k y (omega arith) in
-        kept-compared s (claimOf s z n) (assertedAt s z u j) (assertedAt s z t k) t k
-        ∙ ap (compared hoare t k (both (treeAt s (assertedAt s z u j)) (treeAt s (assertedAt s z t k))) (treeAt s (assertedAt s z u j))) (claim-said s z c n wn)
+        kept-compared s (conclusionOf s z n) (assertedAt s z u j) (assertedAt s z t k) t k
+        ∙ ap (compared hoare t k (both (treeAt s (assertedAt s z u j)) (treeAt s (assertedAt s z t k))) (treeAt s (assertedAt s z u j))) (conclusion-said s z c n wn)
         ∙ kept-same (bothA (O u j) (O t k)) (O u j) (both (treeAt s (assertedAt s z u j)) (treeAt s (assertedAt s z t k))) (treeAt s (assertedAt s z u j)) (ap₂ both p q) p t k (says n)
 
     -- a line that is there concludes what is wanted exactly if it says what is asked for

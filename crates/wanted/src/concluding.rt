@@ -1,8 +1,8 @@
 // Whether a line concludes what an obligation wants, and the code of what is wrong with it.
 use crate::wanted::WANTED;
 use crate::wanted::wanted_of;
-use conclusions::claim::match_claim;
-use conclusions::line_claim::claim_of;
+use conclusions::conclusion::match_conclusion;
+use conclusions::line_conclusion::conclusion_of;
 use content::totals::Sums;
 use marks::is_marked;
 use program::sizes::Sizes;
@@ -38,10 +38,10 @@ pub fn concludes<'a, 'b>(
     ensures { λ r. ⌜ r ≡ concludesAt (now (s .entry)) z o n ⌝ }
 {
     let w = wanted_of(s, ix, z, y, o);
-    let c = claim_of(s, ix, z, n);
+    let c = conclusion_of(s, ix, z, n);
     let t = WANTED;
     let b = w.bind;
-    let m = match_claim(s, &t, w.template, w.form, w.thread, w.point, c, b);
+    let m = match_conclusion(s, &t, w.template, w.form, w.thread, w.point, c, b);
     m.ok
 }
 

@@ -3,13 +3,13 @@ use Rattle.formula.proofs.Auto.{tests}
 use Prim.Native.Nat.{ℕ, _<_}
 use borrow.Fn.Kinds.{In}
 use borrow.Fn.PlainCycle.{Measures, is, falls, and}
-use Rattle.conclusions.proofs.claim.match_from.Reads as match-from
-use Rattle.conclusions.proofs.claim.match_from.Kinds as match-from-kinds
-use Rattle.conclusions.proofs.claim.+match_from.Lts-match_from as match-from-lts
-use Rattle.conclusions.proofs.claim.claim_at.Reads as claim-at-reads
-use Rattle.conclusions.proofs.claim.match_claim.Reads as match-claim-reads
-use Rattle.conclusions.proofs.claim.+match_from.{statement}
-use Rattle.conclusions.proofs.claim.+match_from.Tie.{close}
+use Rattle.conclusions.proofs.conclusion.match_from.Reads as match-from
+use Rattle.conclusions.proofs.conclusion.match_from.Kinds as match-from-kinds
+use Rattle.conclusions.proofs.conclusion.+match_from.Lts-match_from as match-from-lts
+use Rattle.conclusions.proofs.conclusion.conclusion_at.Reads as conclusion-at-reads
+use Rattle.conclusions.proofs.conclusion.match_conclusion.Reads as match-conclusion-reads
+use Rattle.conclusions.proofs.conclusion.+match_from.{statement}
+use Rattle.conclusions.proofs.conclusion.+match_from.Tie.{close}
 
 abbrev μ-match-from : Measures 2 match-from-kinds.ps ℕ
 μ-match-from κs a = a .1 .1 .1 .1 .1 .1 .1 .1 .0
@@ -22,7 +22,7 @@ match-from-below t =
     and 2 match-from-kinds.ps (falls 2 match-from-kinds.ps _<_ μ-match-from t) match-from.Pre
 
 abbrev match-from-calls : ℕ → match-from-lts.Claims
-match-from-calls t = (claim-at-reads.Asked, claim-at-reads.Learnt, match-claim-reads.Asked, match-claim-reads.Learnt, match-from-below t, match-from.Post)
+match-from-calls t = (conclusion-at-reads.Asked, conclusion-at-reads.Learnt, match-conclusion-reads.Asked, match-conclusion-reads.Learnt, match-from-below t, match-from.Post)
 
 pub +match-from-spec : {M : Type 1} → statement M
 +match-from-spec = close μ-match-from λ t. match-from-lts.spec (match-from-calls t)

@@ -1,7 +1,7 @@
 use Rattle.conclusions.proofs.Ways.{placing}
 use Rattle.formula.proofs.Auto.{tests}
-use Rattle.conclusions.proofs.claim.is_placed.Statement.{statement}
-use Rattle.conclusions.proofs.claim.is_placed.Tie as tie
+use Rattle.conclusions.proofs.conclusion.is_placed.Statement.{statement}
+use Rattle.conclusions.proofs.conclusion.is_placed.Tie as tie
 
 pub is-placed-spec : {M : Type 1} → statement M
 is-placed-spec =

@@ -1,4 +1,4 @@
--- What a line of a sound image claims, by positions, is what it says in the logic.
+-- What a line of a sound image concludes, by positions, is what it says in the logic.
 use mathlib.Core.Path.{_≡_, refl, ap, sym, _∙_}
 use mathlib.Core.Bool.{Bool, true, false, not, _||_, true≢false}
 use mathlib.Core.List.{List}
@@ -27,8 +27,8 @@ use Rattle.content.proofs.Rule.{rule-form}
 use Rattle.content.proofs.Trees.{line-is}
 use Rattle.rulebook.specs.Rulebook.{ruleRow}
 use Rattle.rulebook.specs.Listed.{numberOf}
-use Rattle.conclusions.specs.Claim.{saidAt}
-use Rattle.conclusions.specs.LineClaim.{claimBy, lineAt, claimOf}
+use Rattle.conclusions.specs.Conclusion.{saidAt}
+use Rattle.conclusions.specs.LineConclusion.{conclusionBy, lineAt, conclusionOf}
 use Rattle.conclusions.proofs.Row.{row-form}
 
 abbrev isListed : Form → Bool
@@ -56,8 +56,8 @@ rule-number n l = go (ltb n 47) refl
     go false e = absurd (true≢false (sym l ∙ none-past n (ltb-false n 47 e)))
 
 -- the form of its row
-pub claim-form : (n : ℕ) → isListed (formOf n) ≡ true → ruleRow n .form ≡ formNumber (formOf n)
-claim-form n l = ap (λ (k : ℕ). ruleRow k .form) (sym (rule-number n l)) ∙ row-form (ruleOf n) ∙ rule-form n
+pub conclusion-form : (n : ℕ) → isListed (formOf n) ≡ true → ruleRow n .form ≡ formNumber (formOf n)
+conclusion-form n l = ap (λ (k : ℕ). ruleRow k .form) (sym (rule-number n l)) ∙ row-form (ruleOf n) ∙ rule-form n
 
 module _ (s : List ℕ) (z : Sizes) (c : Checks z (bodies s)) (n : ℕ) (w : Within (z .lines) n) where
   -- a line of a sound image has a rule
@@ -71,8 +71,8 @@ module _ (s : List ℕ) (z : Sizes) (c : Checks z (bodies s)) (n : ℕ) (w : Wit
       go Inclusion e = refl
       go Unlisted e = absurd (true≢false (sym e))
 
-  pub claim-said : saidAt s (claimOf s z n) ≡ said (certificateOf z (bodies s) .line n .says)
-  unfolding claimOf claimBy lineAt
-  claim-said =
-      ap (λ (f : ℕ). record { form = f; thread = lineAt s z n .thread; point = lineAt s z n .point; left = treeAt s (lineAt s z n .left); right = treeAt s (lineAt s z n .right) }) (claim-form (lineAt s z n .rule) line-listed)
+  pub conclusion-said : saidAt s (conclusionOf s z n) ≡ said (certificateOf z (bodies s) .line n .says)
+  unfolding conclusionOf conclusionBy lineAt
+  conclusion-said =
+      ap (λ (f : ℕ). record { form = f; thread = lineAt s z n .thread; point = lineAt s z n .point; left = treeAt s (lineAt s z n .left); right = treeAt s (lineAt s z n .right) }) (conclusion-form (lineAt s z n .rule) line-listed)
       ∙ sym (line-is s z c n w)

@@ -6,9 +6,9 @@ use matcher::whole::match_whole;
 use rulebook::rule::Form;
 ghost use mathlib.Core.Path.{_≡_};
 ghost use Prim.Native.Nat.{_+_, _<_};
-ghost use Rattle.conclusions.specs.Claim.{placedAt, matchClaim, claimAt, matchFrom};
+ghost use Rattle.conclusions.specs.Conclusion.{placedAt, matchConclusion, conclusionAt, matchFrom};
 
-pub struct Claim {
+pub struct Conclusion {
     pub form: u8,
     pub thread: usize,
     pub point: usize,
@@ -17,7 +17,7 @@ pub struct Claim {
 }
 
 // Of the form that is wanted; a Hoare triple is for the same thread and point.
-pub fn is_placed(form: u8, thread: usize, point: usize, c: Claim) -> bool
+pub fn is_placed(form: u8, thread: usize, point: usize, c: Conclusion) -> bool
     ensures { λ r. ⌜ r ≡ placedAt form thread point c ⌝ }
 {
     if c.form == form {
@@ -33,17 +33,17 @@ pub fn is_placed(form: u8, thread: usize, point: usize, c: Claim) -> bool
 }
 
 // The left side against the template at i, then the right side against the one behind it.
-pub fn match_claim(
+pub fn match_conclusion(
     s: &[u8],
     t: &[u8],
     i: usize,
     form: u8,
     thread: usize,
     point: usize,
-    c: Claim,
+    c: Conclusion,
     b: Bind,
 ) -> Whole
-    ensures { λ r. ⌜ r ≡ matchClaim (now (s .entry)) (now (t .entry)) i form thread point c b ⌝ }
+    ensures { λ r. ⌜ r ≡ matchConclusion (now (s .entry)) (now (t .entry)) i form thread point c b ⌝ }
 {
     let left = c.left;
     let right = c.right;
@@ -62,14 +62,14 @@ pub fn match_claim(
     }
 }
 
-// The claims of a line's premises.
+// What a line's premises conclude.
 pub struct Premises {
     pub count: u8,
-    pub claims: [Claim; Limits::PREMISES],
+    pub conclusions: [Conclusion; Limits::PREMISES],
 }
 
 // For a premise that is not there.
-pub const NO_CLAIM: Claim = Claim {
+pub const NO_CONCLUSION: Conclusion = Conclusion {
     form: 0,
     thread: 0,
     point: 0,
@@ -77,13 +77,13 @@ pub const NO_CLAIM: Claim = Claim {
     right: 0,
 };
 
-pub fn claim_at(p: Premises, j: usize) -> Claim
-    ensures { λ r. ⌜ r ≡ claimAt p j ⌝ }
+pub fn conclusion_at(p: Premises, j: usize) -> Conclusion
+    ensures { λ r. ⌜ r ≡ conclusionAt p j ⌝ }
 {
     if j < Limits::PREMISES {
-        return p.claims[j];
+        return p.conclusions[j];
     }
-    NO_CLAIM
+    NO_CONCLUSION
 }
 
 // Premises from number j on, so many as are left, each against the templates behind those of the one before; their forms,
@@ -110,7 +110,7 @@ pub fn match_from(
             bind: b,
         };
     }
-    let m = match_claim(s, t, i, forms % 4, thread, point, claim_at(p, j), b);
+    let m = match_conclusion(s, t, i, forms % 4, thread, point, conclusion_at(p, j), b);
     if m.ok {
         let n = m.bind;
         return match_from(s, t, m.tpl, forms / 4, thread, point, p, j + 1, left - 1, n);
