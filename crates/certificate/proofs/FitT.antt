@@ -34,7 +34,7 @@ use Rattle.compare.specs.Same.{sameTree}
 use Rattle.compare.specs.Replace.{replaceT, oneName}
 use Rattle.occurs.specs.Occurs.{occurs, register, wordAnyRole, flag}
 use Rattle.trees.specs.Raw.{raw, shaped}
-use Rattle.rows.specs.Claim.{ImpT}
+use Rattle.rows.specs.Entailment.{ImpT}
 use Rattle.rows.specs.Rows.{rowsT, tableT}
 use Rattle.trees.proofs.Raw.{shaped-raw, raw-same}
 use Rattle.trees.proofs.Replace.{raw-reg, raw-word}

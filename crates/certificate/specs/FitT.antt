@@ -22,7 +22,7 @@ use Rattle.compare.specs.Same.{sameTree}
 use Rattle.compare.specs.Replace.{replaceT, oneName}
 use Rattle.occurs.specs.Occurs.{occurs, register, wordAnyRole, flag}
 use Rattle.trees.specs.Raw.{raw}
-use Rattle.rows.specs.Claim.{ImpT}
+use Rattle.rows.specs.Entailment.{ImpT}
 use Rattle.rows.specs.Rows.{rowsT, tableT}
 use Rattle.matcher.specs.Template.{numHole, formulaHole, rawP, Holes, instT}
 use Rattle.matcher.specs.Match.{Taken, andThen, when, matchT}

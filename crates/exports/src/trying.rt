@@ -5,7 +5,7 @@ use limits::read::word_at;
 use rows::by::Implications;
 use rows::by::by_rows;
 use rows::by::by_table;
-use rows::claim::Sizes;
+use rows::entailment::Sizes;
 ghost use mathlib.Core.Path.{_≡_};
 ghost use Rattle.limits.specs.Limits.{nesting, values};
 ghost use Rattle.formula.specs.Tree.{skim};

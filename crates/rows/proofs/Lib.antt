@@ -1,5 +1,5 @@
 pub mod Values
-pub mod Claims
+pub mod Entailing
 pub mod Distinct
 pub mod Numbered
 pub mod Trying

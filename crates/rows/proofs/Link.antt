@@ -29,8 +29,8 @@ use Rattle.leaves.specs.Gather.{leavesT}
 use Rattle.leaves.specs.Count.{choicesBy, choicesT}
 use Rattle.columns.specs.Combine.{sumOf, combine}
 use Rattle.rows.specs.Value.{valueT}
-use Rattle.rows.specs.Claim.{ImpT, impT, claimT, leavesAll}
-use Rattle.rows.specs.Rows.{byNames, rowsT, byClaims, tableT}
+use Rattle.rows.specs.Entailment.{ImpT, impT, entailsT, leavesAll}
+use Rattle.rows.specs.Rows.{byNames, rowsT, byLeaves, tableT}
 
 map-join : {A B : Type 0} (g : A → B) (l m : List A) → map g (l ++ m) ≡ map g l ++ map g m
 map-join g [] m = refl
@@ -183,8 +183,8 @@ raw-rows R two e f =
     (ap₂ (λ (a b : Bool). a && b)
     (ap (λ (l : List Tree). leb (rowCount sameTree (choicesT R) (distinct sameTree l)) Limits.rows) listed
     ∙ ap (λ (n : ℕ). leb n Limits.rows) (embedded-count same-name sameTree rawName name-alike (choices R) (choicesT R) (name-choices R) (names e ++ names f)))
-    (ap (λ (l : List Tree). everyRow sameTree (choicesT R) l (claimT (byNames R) [] c)) listed
-    ∙ embedded same-name sameTree rawName name-alike (choices R) (choicesT R) (name-choices R) (claimT (byNames R) [] c) (λ ν. not (test R (meaning ν) e) || test R (meaning ν) f)
+    (ap (λ (l : List Tree). everyRow sameTree (choicesT R) l (entailsT (byNames R) [] c)) listed
+    ∙ embedded same-name sameTree rawName name-alike (choices R) (choicesT R) (name-choices R) (entailsT (byNames R) [] c) (λ ν. not (test R (meaning ν) e) || test R (meaning ν) f)
     (λ ν. ap₂ (λ (a b : Bool). not a || b) (raw-test R (λ z. omega arith) ν e) (raw-test R (λ z. omega arith) ν f)) (names e ++ names f)))
   where
     c : ImpT
@@ -242,7 +242,7 @@ two-choices (node c o l r) = go (eqb c (byte Code.reg)) (eqb c (byte Code.word))
     go false false = refl
 
 abbrev C : ℕ
-C = byClaims .leaves
+C = byLeaves .leaves
 
 leaves-test : (e : Test) → leavesT C (raw e) ≡ map rawLeaf (Table.leavesT e)
 unfolding leavesT member rawLeaf
@@ -279,7 +279,7 @@ module _ (ν : Tree → ℕ) where
   at l = ν (rawLeaf l)
 
   abbrev tv : Tree → ℕ
-  tv = valueT byClaims ν
+  tv = valueT byLeaves ν
 
   table-test : (e : Test) → eqb (tv (raw e)) 1 ≡ Table.tableT (λ e. eqb (at (l-test e)) 1) e
   unfolding valueT combine member rawLeaf
@@ -300,10 +300,10 @@ module _ (ν : Tree → ℕ) where
   table-assertion start = refl
   table-assertion (holds e) = table-test e
 
-  table-imp : (p : Imp) → impT byClaims ν (rawImp p) ≡ impRow at p
+  table-imp : (p : Imp) → impT byLeaves ν (rawImp p) ≡ impRow at p
   table-imp p = ap₂ (λ (a b : Bool). not a || b) (table-assertion (p .left)) (table-assertion (p .right))
 
-  table-all : (ps : List Imp) → all (impT byClaims ν) (map rawImp ps) ≡ all (impRow at) ps
+  table-all : (ps : List Imp) → all (impT byLeaves ν) (map rawImp ps) ≡ all (impRow at) ps
   table-all [] = refl
   table-all (p ∷ ps) = ap₂ (λ (a b : Bool). a && b) (table-imp p) (table-all ps)
 
@@ -334,6 +334,6 @@ raw-table ps c =
     (ap (λ (l : List Tree). leb (rowCount sameTree (choicesT 2) (distinct sameTree l)) (2 ^ Limits.leaves)) (leaves-all (c ∷ ps))
     ∙ ap (λ (n : ℕ). leb n (2 ^ Limits.leaves)) (embedded-count same-leaf sameTree rawLeaf leaf-alike (λ l. 2) (choicesT 2) (λ l. two-choices (rawLeaf l)) (Table.leavesAll (c ∷ ps)) ∙ power same-leaf (distinct same-leaf (Table.leavesAll (c ∷ ps))))
     ∙ power-limit (length (distinct same-leaf (Table.leavesAll (c ∷ ps)))) Limits.leaves)
-    (ap (λ (l : List Tree). everyRow sameTree (choicesT 2) l (claimT byClaims (map rawImp ps) (rawImp c))) (leaves-all (c ∷ ps))
-    ∙ embedded same-leaf sameTree rawLeaf leaf-alike (λ l. 2) (choicesT 2) (λ l. two-choices (rawLeaf l)) (claimT byClaims (map rawImp ps) (rawImp c)) (λ ν. not (all (impRow ν) ps) || impRow ν c)
+    (ap (λ (l : List Tree). everyRow sameTree (choicesT 2) l (entailsT byLeaves (map rawImp ps) (rawImp c))) (leaves-all (c ∷ ps))
+    ∙ embedded same-leaf sameTree rawLeaf leaf-alike (λ l. 2) (choicesT 2) (λ l. two-choices (rawLeaf l)) (entailsT byLeaves (map rawImp ps) (rawImp c)) (λ ν. not (all (impRow ν) ps) || impRow ν c)
     (λ ν. ap₂ (λ (a b : Bool). not a || b) (table-all ν ps) (table-imp ν c)) (Table.leavesAll (c ∷ ps)))

@@ -24,10 +24,10 @@ use Rattle.columns.specs.Column.{rows, column, noneBelow, valueIn, rowIn}
 use Rattle.columns.specs.Digits.{numbered, divided, columnSet}
 use Rattle.columns.proofs.Listed.{column-length, column-getD, column-at, column-same}
 use Rattle.columns.proofs.Numbering.{row-set}
-use Rattle.rows.specs.Claim.{claimT, impOf, premisesFrom, impAt, allAt, claimAt, failsFrom, gatherAll}
+use Rattle.rows.specs.Entailment.{entailsT, impOf, premisesFrom, impAt, allAt, entailsAt, failsFrom, gatherAll}
 use Rattle.rows.specs.Every.{quotientOf, rowWith, blockRows, numberedRows, rowsHold, blockSize, everyOf}
 use Rattle.rows.specs.declared.value.Reading.{Reading}
-use Rattle.rows.specs.declared.claim.Task.{Task}
+use Rattle.rows.specs.declared.entailment.Task.{Task}
 use Rattle.rows.proofs.Distinct.{choices-two}
 use Rattle.rows.proofs.Numbered.{below-same, below-split, rows-numbered}
 
@@ -105,11 +105,11 @@ module _ (s lefts rights : List ℕ) (t : Task) (w : Reading) (q : List ℕ) (k 
   -- the rows of a block at which nothing fails
   pub block-is : (base n : ℕ) (cells fails : List ℕ) (r : Bool) → blockRows cells n ≡ numberedRows s q (w .range) k base n (replicate 12288 0) → take n fails ≡ failsFrom s lefts rights t w q cells n 0 → r ≡ noneBelow fails n
       → r ≡ rowsHold s lefts rights t w q k base n
-  unfolding blockRows numberedRows failsFrom noneBelow rowsHold claimAt
-  block-is base n cells fails r ec ef er = er ∙ below-same n (λ i. not (eqb (getD fails i 0) 1)) (λ i. claimAt s lefts rights t w q (rowWith s q (w .range) k (base + i) (replicate slots 0))) (λ i h.
+  unfolding blockRows numberedRows failsFrom noneBelow rowsHold entailsAt
+  block-is base n cells fails r ec ef er = er ∙ below-same n (λ i. not (eqb (getD fails i 0) 1)) (λ i. entailsAt s lefts rights t w q (rowWith s q (w .range) k (base + i) (replicate slots 0))) (λ i h.
       ap (λ (m : ℕ). not (eqb m 1)) (column-at failing 0 fails n i ef h)
       ∙ go (impAt s w q (rowIn cells i) (impOf s lefts rights t 0)) (allAt s w q (rowIn cells i) (premisesFrom s lefts rights t 0))
-      ∙ ap (claimAt s lefts rights t w q) (sym (column-getD (rowIn cells) [] n i h) ∙ ap (λ (l : List (List ℕ)). getD l i []) ec ∙ column-getD (λ (i : ℕ). rowWith s q (w .range) k (base + i) (rowIn (replicate 12288 0) i)) [] n i h ∙ ap (rowWith s q (w .range) k (base + i)) (zero-row i)))
+      ∙ ap (entailsAt s lefts rights t w q) (sym (column-getD (rowIn cells) [] n i h) ∙ ap (λ (l : List (List ℕ)). getD l i []) ec ∙ column-getD (λ (i : ℕ). rowWith s q (w .range) k (base + i) (rowIn (replicate 12288 0) i)) [] n i h ∙ ap (rowWith s q (w .range) k (base + i)) (zero-row i)))
     where
       failing : ℕ → ℕ
       failing i = cond (impAt s w q (rowIn cells i) (impOf s lefts rights t 0)) 0 (cond (allAt s w q (rowIn cells i) (premisesFrom s lefts rights t 0)) 1 0)
@@ -126,7 +126,7 @@ module _ (s lefts rights : List ℕ) (t : Task) (w : Reading) (q : List ℕ) (k 
   module _ (base n m : ℕ) (e : rowsHold s lefts rights t w q k 0 n ≡ rowsHold s lefts rights t w q k base (n - base)) where
     pub hold-end : n ≤ base → true ≡ rowsHold s lefts rights t w q k 0 n
     unfolding rowsHold
-    hold-end h = let z : n - base ≡ 0 = omega arith in sym (e ∙ ap (λ (i : ℕ). allBelow i (λ i. claimAt s lefts rights t w q (rowWith s q (w .range) k (base + i) (replicate slots 0)))) z)
+    hold-end h = let z : n - base ≡ 0 = omega arith in sym (e ∙ ap (λ (i : ℕ). allBelow i (λ i. entailsAt s lefts rights t w q (rowWith s q (w .range) k (base + i) (replicate slots 0)))) z)
 
     module _ (r : Bool) (h : m ≤ n - base) (er : r ≡ rowsHold s lefts rights t w q k base m) where
       by : rowsHold s lefts rights t w q k 0 n ≡ cond r (rowsHold s lefts rights t w q k (base + m) (n - (base + m))) false
@@ -134,12 +134,12 @@ module _ (s lefts rights : List ℕ) (t : Task) (w : Reading) (q : List ℕ) (k 
       by =
           let d : n - base ≡ m + (n - (base + m)) = omega arith in
           e ∙ ap (λ (i : ℕ). allBelow i f) d ∙ below-split m (n - (base + m)) f
-          ∙ ap₂ (λ (a b : Bool). cond a b false) (sym er) (below-same (n - (base + m)) (λ i. f (m + i)) (λ i. claimAt s lefts rights t w q (rowWith s q (w .range) k (base + m + i) (replicate slots 0))) (λ i l.
+          ∙ ap₂ (λ (a b : Bool). cond a b false) (sym er) (below-same (n - (base + m)) (λ i. f (m + i)) (λ i. entailsAt s lefts rights t w q (rowWith s q (w .range) k (base + m + i) (replicate slots 0))) (λ i l.
           let g : base + (m + i) ≡ base + m + i = omega arith in
-          ap (λ (x : ℕ). claimAt s lefts rights t w q (rowWith s q (w .range) k x (replicate slots 0))) g))
+          ap (λ (x : ℕ). entailsAt s lefts rights t w q (rowWith s q (w .range) k x (replicate slots 0))) g))
         where
           f : ℕ → Bool
-          f i = claimAt s lefts rights t w q (rowWith s q (w .range) k (base + i) (replicate slots 0))
+          f i = entailsAt s lefts rights t w q (rowWith s q (w .range) k (base + i) (replicate slots 0))
 
       pub hold-next : r ≡ true → rowsHold s lefts rights t w q k 0 n ≡ rowsHold s lefts rights t w q k (base + m) (n - (base + m))
       hold-next d = by ∙ rw d
@@ -211,11 +211,11 @@ module _ (s lefts rights : List ℕ) (t : Task) (w : Reading) (limit n : ℕ) (q
     pub every-try : (b : Bool) → 2 ≤ w .range → r ≤ limit → b ≡ rowsHold s lefts rights t w q n 0 r → b ≡ everyOf s lefts rights t w limit
     unfolding everyOf rowsHold
     every-try b two l e =
-        e ∙ ap (λ (m : ℕ). allBelow m (λ i. claimAt s lefts rights t w q (rowWith s q (w .range) n (0 + i) (replicate slots 0)))) (exact l)
-        ∙ below-same count (λ i. claimAt s lefts rights t w q (rowWith s q (w .range) n (0 + i) (replicate slots 0))) (λ i. claimAt s lefts rights t w q (rowWith s q (w .range) n i (replicate slots 0))) (λ i _.
+        e ∙ ap (λ (m : ℕ). allBelow m (λ i. entailsAt s lefts rights t w q (rowWith s q (w .range) n (0 + i) (replicate slots 0)))) (exact l)
+        ∙ below-same count (λ i. entailsAt s lefts rights t w q (rowWith s q (w .range) n (0 + i) (replicate slots 0))) (λ i. entailsAt s lefts rights t w q (rowWith s q (w .range) n i (replicate slots 0))) (λ i _.
         let z : 0 + i ≡ i = omega arith in
-        ap (λ (m : ℕ). claimAt s lefts rights t w q (rowWith s q (w .range) n m (replicate slots 0))) z)
+        ap (λ (m : ℕ). entailsAt s lefts rights t w q (rowWith s q (w .range) n m (replicate slots 0))) z)
         ∙ sym (rows-numbered s lefts rights t w q two n (replicate slots 0) refl h)
-        ∙ rw (← eg, view-keys s n q h, le-leb count limit (counted .1 l)) (ap (allRows sameTree (choicesT (w .range)) (kept s q n) (claimT w (premisesFrom s lefts rights t 0) (impOf s lefts rights t 0))) (fun-ext (λ u. zero-in (slotFrom s q (slots - n) n u))))
+        ∙ rw (← eg, view-keys s n q h, le-leb count limit (counted .1 l)) (ap (allRows sameTree (choicesT (w .range)) (kept s q n) (entailsT w (premisesFrom s lefts rights t 0) (impOf s lefts rights t 0))) (fun-ext (λ u. zero-in (slotFrom s q (slots - n) n u))))
 
 pub ruleset everys = (every-many, every-over, every-try)

@@ -1,6 +1,6 @@
 // By rows, and by truth table.
-use crate::claim::Sizes;
-use crate::claim::Task;
+use crate::entailment::Sizes;
+use crate::entailment::Task;
 use crate::every::every_row;
 use crate::value::Reading;
 use formula::code::Code;
@@ -27,7 +27,7 @@ impl LeafCodes {
         + (1 << Code::COV);
 
     // By truth table: what a thread sees, start, comparisons. (Flags do not stand under `holds`.)
-    pub const CLAIMS: u32 = (1 << Code::SEES)
+    pub const TABLE: u32 = (1 << Code::SEES)
         + (1 << Code::START)
         + (1 << Code::EQUAL)
         + (1 << Code::LESS)
@@ -77,7 +77,7 @@ pub fn by_table(s: &[u8], imps: Implications) -> bool
         right: Limits::NESTING,
     };
     let w = Reading {
-        leaves: LeafCodes::CLAIMS,
+        leaves: LeafCodes::TABLE,
         range: 2,
     };
     every_row(s, &lefts, &rights, t, w, 1 << Limits::LEAVES)

@@ -21,7 +21,7 @@ use Rattle.compare.specs.Same.{sameTree}
 use Rattle.compare.specs.Replace.{replaceT, oneName}
 use Rattle.occurs.specs.Occurs.{occurs, register, wordAnyRole, flag}
 use Rattle.trees.proofs.Raw.{tree-eq, tree-refl}
-use Rattle.rows.specs.Claim.{impOf, impsFrom, premisesFrom}
+use Rattle.rows.specs.Entailment.{impOf, impsFrom, premisesFrom}
 use Rattle.rows.specs.Rows.{rowsT, tableT, lineOf, premisesOf}
 use Rattle.frames.specs.Records.{bodies}
 use Rattle.program.specs.Header.{startValues}

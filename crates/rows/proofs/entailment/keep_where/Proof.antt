@@ -1,8 +1,8 @@
-use Rattle.rows.proofs.Claims.{implications}
+use Rattle.rows.proofs.Entailing.{implications}
 use Rattle.limits.proofs.Auto.{tests}
 use borrow.Author.Needs.{needs}
-use Rattle.rows.proofs.claim.keep_where.Statement.{statement}
-use Rattle.rows.proofs.claim.keep_where.Tie as tie
+use Rattle.rows.proofs.entailment.keep_where.Statement.{statement}
+use Rattle.rows.proofs.entailment.keep_where.Tie as tie
 
 pub keep-where-spec : {M : Type 1} → statement M
 keep-where-spec =

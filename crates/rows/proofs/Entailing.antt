@@ -1,4 +1,4 @@
--- What is claimed of a row: the ways through the functions, one law for each.
+-- Entailment at a row: the ways through the functions, one law for each.
 use Prim.Native.Nat.{ℕ, suc, _+_, _-_, _≤_, _<_}
 use mathlib.Core.Path.{_≡_, refl, ap, ap₂, sym, _∙_}
 use mathlib.Core.List.{List, [], _∷_}
@@ -13,9 +13,9 @@ use Rattle.leaves.proofs.Gathering.{kept-none}
 use Rattle.columns.specs.Column.{rowIn, denied}
 use Rattle.columns.proofs.Listed.{column-same, column-at}
 use Rattle.rows.specs.Value.{rowValue, columnOf}
-use Rattle.rows.specs.Claim.{ImpT, impOf, impsFrom, premisesFrom, impAt, allAt, impFails, keptWhere, failsFrom, gatherImp, gatherImps, gatherAll}
+use Rattle.rows.specs.Entailment.{ImpT, impOf, impsFrom, premisesFrom, impAt, allAt, impFails, keptWhere, failsFrom, gatherImp, gatherImps, gatherAll}
 use Rattle.rows.specs.declared.value.Reading.{Reading}
-use Rattle.rows.specs.declared.claim.Task.{Task}
+use Rattle.rows.specs.declared.entailment.Task.{Task}
 use Rattle.rows.proofs.Values.{column-value}
 
 pub ruleset numbers = (byte-past)
@@ -115,7 +115,7 @@ module _ (s lefts rights : List ℕ) (t : Task) where
 
 pub ruleset implications = (imp-fails, kept-where)
 
-pub ruleset claims = (fails-begin, fails-next, fails-end)
+pub ruleset entailing = (fails-begin, fails-next, fails-end)
 
 -- the leaves of implications
 pub gather-imp : (s lefts rights : List ℕ) (t : Task) (i w l r n m k : ℕ) (q q₂ q₃ : List ℕ) → r ≡ getD rights i 0 → view s m q₂ ≡ gatherT w (skim s (t .right) r .tree) (view s n q) → l ≡ getD lefts i 0

@@ -1,8 +1,8 @@
-use Rattle.rows.proofs.Claims.{implications}
+use Rattle.rows.proofs.Entailing.{implications}
 use Rattle.limits.proofs.Auto.{tests}
 use borrow.Author.Needs.{needs}
-use Rattle.rows.proofs.claim.imp_fails.Statement.{statement}
-use Rattle.rows.proofs.claim.imp_fails.Tie as tie
+use Rattle.rows.proofs.entailment.imp_fails.Statement.{statement}
+use Rattle.rows.proofs.entailment.imp_fails.Tie as tie
 
 pub imp-fails-spec : {M : Type 1} → statement M
 imp-fails-spec =

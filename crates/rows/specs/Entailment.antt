@@ -1,4 +1,4 @@
--- What is claimed of each row: that the line is true where all premises are.
+-- Entailment at each row: that the line is true where all premises are.
 use Prim.Native.Nat.{ℕ, zero, suc, _+_, _-_}
 use mathlib.Core.List.{List, [], _∷_, _++_}
 use mathlib.Core.Bool.{Bool, true, false, not, _||_, cond}
@@ -10,7 +10,7 @@ use Rattle.leaves.specs.Gather.{Gathered, keys, leavesT, gatherT}
 use Rattle.columns.specs.Column.{column, rowIn}
 use Rattle.rows.specs.Value.{valueT, rowValue}
 use Rattle.rows.specs.declared.value.Reading.{Reading}
-use Rattle.rows.specs.declared.claim.Task.{Task}
+use Rattle.rows.specs.declared.entailment.Task.{Task}
 
 -- an implication: left and right
 pub record ImpT : Type 0 where
@@ -22,8 +22,8 @@ module _ (w : Reading) where
   impT ν p = not (eqb (valueT w ν (p .left)) 1) || eqb (valueT w ν (p .right)) 1
 
   -- the line c is true, or some premise is not
-  abbrev pub claimT : List ImpT → ImpT → (Tree → ℕ) → Bool
-  claimT ps c ν = not (all (impT ν) ps) || impT ν c
+  abbrev pub entailsT : List ImpT → ImpT → (Tree → ℕ) → Bool
+  entailsT ps c ν = not (all (impT ν) ps) || impT ν c
 
 abbrev pub leavesAll : ℕ → List ImpT → List Tree
 leavesAll w [] = []
@@ -58,8 +58,8 @@ unfoldable pub allAt : List ℕ → Reading → List ℕ → List ℕ → List I
 allAt s w q values [] = true
 allAt s w q values (p ∷ ps) = cond (impAt s w q values p) (allAt s w q values ps) false
 
-unfoldable pub claimAt : List ℕ → List ℕ → List ℕ → Task → Reading → List ℕ → List ℕ → Bool
-claimAt s lefts rights t w q values = cond (impAt s w q values (impOf s lefts rights t 0)) true (not (allAt s w q values (premisesFrom s lefts rights t 0)))
+unfoldable pub entailsAt : List ℕ → List ℕ → List ℕ → Task → Reading → List ℕ → List ℕ → Bool
+entailsAt s lefts rights t w q values = cond (impAt s w q values (impOf s lefts rights t 0)) true (not (allAt s w q values (premisesFrom s lefts rights t 0)))
 
 unfoldable pub gatherAll : List ℕ → List ℕ → List ℕ → Task → ℕ → Gathered
 gatherAll s lefts rights t w = gatherImp w (impOf s lefts rights t 0) (gatherImps w (premisesFrom s lefts rights t 0) (keys []))

@@ -1,4 +1,4 @@
-// What is claimed of each row: that the line is true where all premises are. Line and premises are implications.
+// Entailment at each row: that the line is true where all premises are. Line and premises are implications.
 use crate::value::Reading;
 use crate::value::column_at;
 use columns::block::Block;
@@ -9,7 +9,7 @@ ghost use mathlib.Core.Path.{_≡_};
 ghost use Prim.Native.Nat.{_≤_};
 ghost use lib.ListN.{getD, length, take};
 ghost use Rattle.leaves.specs.Gather.{view};
-ghost use Rattle.rows.specs.Claim.{impOf, impFails, keptWhere, failsFrom, gatherImp, gatherAll};
+ghost use Rattle.rows.specs.Entailment.{impOf, impFails, keptWhere, failsFrom, gatherImp, gatherAll};
 
 pub struct Sizes {}
 
@@ -75,8 +75,8 @@ pub fn keep_where(
     deny(n, out, &mut b);
 }
 
-// The rows at which the claim fails: the line does, and every premise is true.
-pub fn claim_fails(
+// The rows at which the entailment fails: the line does, and every premise is true.
+pub fn entailment_fails(
     s: &[u8],
     lefts: &[usize],
     rights: &[usize],

@@ -1,8 +1,8 @@
-use Rattle.rows.proofs.Claims.{gather-imp}
+use Rattle.rows.proofs.Entailing.{gather-imp}
 use Rattle.limits.proofs.Auto.{tests}
 use borrow.Author.Needs.{needs}
-use Rattle.rows.proofs.claim.gather_imp.Statement.{statement}
-use Rattle.rows.proofs.claim.gather_imp.Tie as tie
+use Rattle.rows.proofs.entailment.gather_imp.Statement.{statement}
+use Rattle.rows.proofs.entailment.gather_imp.Tie as tie
 
 pub gather-imp-spec : {M : Type 1} → statement M
 gather-imp-spec =
