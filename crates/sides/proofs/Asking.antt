@@ -20,9 +20,9 @@ use Rattle.sides.specs.Side.{holeOf, numberIn, treeOf, keeps, isWith, st
 use Rattle.sides.specs.Asked.{assignedBy, loadedBy, ofInstruction, implicationsOf, ofNames, asked}
 use Rattle.conclusions.specs.declared.conclusion.Conclusion.{Conclusion}
 use Rattle.conclusions.specs.declared.conclusion.Premises.{Premises}
-use Rattle.sides.specs.declared.side.Stand.{Stand}
+use Rattle.sides.specs.declared.side.Position.{Position}
 
-module _ (s : List ℕ) (b : Bind) (a : Acting) (p q : Stand) (r : Bool) where
+module _ (s : List ℕ) (b : Bind) (a : Acting) (p q : Position) (r : Bool) where
   pub assigned-is : p ≡ holeOf b 0 → q ≡ holeOf b 1 → r ≡ isWith s (record { word = false; number = a .register; by = Formula (a .formula) nesting }) (treeOf s p) (treeOf s q) → r ≡ assignedBy s b a
   unfolding assignedBy
   assigned-is e d g = rw (← e, ← d) g
@@ -34,7 +34,7 @@ module _ (s : List ℕ) (b : Bind) (a : Acting) (p q : Stand) (r : Bool) where
 pub ruleset replacing = (assigned-is, loaded-is)
 
 module _ (s : List ℕ) (side : ℕ) (b : Bind) (a : Acting) (r : Bool) where
-  pub asks-kept : (p : Stand) → side ≡ isKept → p ≡ holeOf b 0 → r ≡ keeps (a .operation) (a .word) (a .register) (treeOf s p) → r ≡ ofInstruction s side b a
+  pub asks-kept : (p : Position) → side ≡ isKept → p ≡ holeOf b 0 → r ≡ keeps (a .operation) (a .word) (a .register) (treeOf s p) → r ≡ ofInstruction s side b a
   unfolding ofInstruction
   asks-kept p k e d = rw (eq-eqb _ _ k, ← e) d
 
@@ -49,11 +49,11 @@ module _ (s : List ℕ) (side : ℕ) (b : Bind) (a : Acting) (r : Bool) where
       asks-loaded k d = rw (ne-eqb _ _ nk, ne-eqb _ _ na, eq-eqb _ _ k) d
 
       module _ (nl : side ≡ loaded → ⊥) where
-        pub asks-stored : (p q : Stand) → side ≡ stored → p ≡ holeOf b 3 → q ≡ holeOf b 2 → r ≡ storedBy s (a .word) (a .formula) (treeOf s p) (treeOf s q) → r ≡ ofInstruction s side b a
+        pub asks-stored : (p q : Position) → side ≡ stored → p ≡ holeOf b 3 → q ≡ holeOf b 2 → r ≡ storedBy s (a .word) (a .formula) (treeOf s p) (treeOf s q) → r ≡ ofInstruction s side b a
         unfolding ofInstruction
         asks-stored p q k e g d = rw (ne-eqb _ _ nk, ne-eqb _ _ na, ne-eqb _ _ nl, eq-eqb _ _ k, ← e, ← g) d
 
-        pub asks-absent : (p : Stand) → (side ≡ stored → ⊥) → p ≡ holeOf b 1 → r ≡ occurs (wordAnyRole (a .word)) [] (treeOf s p) → not r ≡ ofInstruction s side b a
+        pub asks-absent : (p : Position) → (side ≡ stored → ⊥) → p ≡ holeOf b 1 → r ≡ occurs (wordAnyRole (a .word)) [] (treeOf s p) → not r ≡ ofInstruction s side b a
         unfolding ofInstruction
         asks-absent p ns e d = rw (ne-eqb _ _ nk, ne-eqb _ _ na, ne-eqb _ _ nl, ne-eqb _ _ ns, ← e, d)
 
@@ -64,7 +64,7 @@ pub implications-is : (c d e f g : Conclusion) (p : Premises) → d ≡ conclusi
 unfolding implicationsOf
 implications-is c d e f g p x y z w = rw (x, y, z, w)
 
-pub names-is : (s : List ℕ) (b : Bind) (p q : Stand) (r : Bool) → p ≡ holeOf b 2 → q ≡ holeOf b 3 → r ≡ rowsT Limits.values (treeOf s p) (treeOf s q) → r ≡ ofNames s b
+pub names-is : (s : List ℕ) (b : Bind) (p q : Position) (r : Bool) → p ≡ holeOf b 2 → q ≡ holeOf b 3 → r ≡ rowsT Limits.values (treeOf s p) (treeOf s q) → r ≡ ofNames s b
 unfolding ofNames
 names-is s b p q r e d g = rw (← e, ← d) g
 
@@ -86,7 +86,7 @@ module _ (s : List ℕ) (side : ℕ) (b : Bind) (a : Acting) (c : Conclusion) (p
       asks-table i k e d = rw (ne-eqb _ _ nn, ne-eqb _ _ nr, eq-eqb _ _ k, ← e) d
 
       module _ (nt : side ≡ byTable → ⊥) where
-        pub asks-start : (h : List ℕ) (q : Stand) (x : ℕ) → side ≡ startValue → h ≡ getD (bodies s) 0 [] → q ≡ holeOf b 0 → x ≡ numberIn b 4 → r ≡ isStart h x (treeOf s q) → r ≡ asked s side b a c p
+        pub asks-start : (h : List ℕ) (q : Position) (x : ℕ) → side ≡ startValue → h ≡ getD (bodies s) 0 [] → q ≡ holeOf b 0 → x ≡ numberIn b 4 → r ≡ isStart h x (treeOf s q) → r ≡ asked s side b a c p
         unfolding asked
         asks-start h q x k e f g d = rw (ne-eqb _ _ nn, ne-eqb _ _ nr, ne-eqb _ _ nt, eq-eqb _ _ k, ← e, ← f, ← g) d
 
