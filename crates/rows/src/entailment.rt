@@ -2,7 +2,7 @@
 use crate::value::Reading;
 use crate::value::column_at;
 use columns::block::Block;
-use columns::column::deny;
+use columns::column::and_not;
 use leaves::gather::gather_at;
 use leaves::slot::Slots;
 ghost use mathlib.Core.Path.{_≡_};
@@ -51,7 +51,7 @@ pub fn imp_fails(
     column_at(s, number_at(lefts, i), t.left, w, slots, cells, n, out);
     let mut b: [u8; Block::ROWS] = [0; Block::ROWS];
     column_at(s, number_at(rights, i), t.right, w, slots, cells, n, &mut b);
-    deny(n, out, &mut b);
+    and_not(n, out, &mut b);
 }
 
 // Of the rows that are 1, those at which an implication is true.
@@ -72,7 +72,7 @@ pub fn keep_where(
 {
     let mut b: [u8; Block::ROWS] = [0; Block::ROWS];
     imp_fails(s, lefts, rights, t, i, w, slots, cells, n, &mut b);
-    deny(n, out, &mut b);
+    and_not(n, out, &mut b);
 }
 
 // The rows at which the entailment fails: the line does, and every premise is true.
