@@ -11,35 +11,35 @@ use Rattle.formula.specs.Tree.{Tree, none, node, Skim, nodeAt, skim}
 use Rattle.formula.specs.declared.node.Node.{Node}
 use Rattle.formula.proofs.Nodes.{skim-zero, skim-step}
 use Rattle.formula.proofs.Auto.{lower}
-use Rattle.occurs.specs.Occurs.{ownerOf, any, equal, isSought, occurs, foundIn}
-use Rattle.occurs.specs.declared.find.Sought.{Sought}
+use Rattle.occurs.specs.Occurs.{ownerOf, any, equal, isQueried, occurs, foundIn}
+use Rattle.occurs.specs.declared.find.Query.{Query}
 use Rattle.occurs.specs.declared.find.Found.{Found}
 use Rattle.occurs.specs.declared.find.Found.the-variants.{Yes, No}
 
-module _ (w : Sought) (owners : List ℕ) (c o : ℕ) (t : Bool) (e : t ≡ member (w .codes) c) where
-  pub sought-no : t ≡ false → false ≡ isSought w owners c o
-  unfolding isSought
-  sought-no d = rw (← e, d)
+module _ (w : Query) (owners : List ℕ) (c o : ℕ) (t : Bool) (e : t ≡ member (w .codes) c) where
+  pub query-no : t ≡ false → false ≡ isQueried w owners c o
+  unfolding isQueried
+  query-no d = rw (← e, d)
 
-  pub sought-any : t ≡ true → w .operand ≡ any → true ≡ isSought w owners c o
-  unfolding isSought
-  sought-any d z = rw (← e, d, eq-eqb _ _ z)
+  pub query-any : t ≡ true → w .operand ≡ any → true ≡ isQueried w owners c o
+  unfolding isQueried
+  query-any d z = rw (← e, d, eq-eqb _ _ z)
 
-  pub sought-equal : t ≡ true → (w .operand ≡ any → ⊥) → w .operand ≡ equal → eqb o (w .number) ≡ isSought w owners c o
-  unfolding isSought
-  sought-equal d z q = rw (← e, d, ne-eqb _ _ z, eq-eqb _ _ q)
+  pub query-equal : t ≡ true → (w .operand ≡ any → ⊥) → w .operand ≡ equal → eqb o (w .number) ≡ isQueried w owners c o
+  unfolding isQueried
+  query-equal d z q = rw (← e, d, ne-eqb _ _ z, eq-eqb _ _ q)
 
-  pub sought-foreign : (n : ℕ) → t ≡ true → (w .operand ≡ any → ⊥) → (w .operand ≡ equal → ⊥) → n ≡ ownerOf owners o → not (eqb n (w .number)) ≡ isSought w owners c o
-  unfolding isSought
-  sought-foreign n d z q f = rw (← e, d, ne-eqb _ _ z, ne-eqb _ _ q, f)
+  pub query-foreign : (n : ℕ) → t ≡ true → (w .operand ≡ any → ⊥) → (w .operand ≡ equal → ⊥) → n ≡ ownerOf owners o → not (eqb n (w .number)) ≡ isQueried w owners c o
+  unfolding isQueried
+  query-foreign n d z q f = rw (← e, d, ne-eqb _ _ z, ne-eqb _ _ q, f)
 
-pub ruleset soughts = (sought-no, sought-any, sought-equal, sought-foreign)
+pub ruleset queries = (query-no, query-any, query-equal, query-foreign)
 
-occurs-node : (w : Sought) (owners : List ℕ) (c o : ℕ) (l r : Tree) → occurs w owners (node c o l r) ≡ cond (isSought w owners c o) true (cond (occurs w owners l) true (occurs w owners r))
+occurs-node : (w : Query) (owners : List ℕ) (c o : ℕ) (l r : Tree) → occurs w owners (node c o l r) ≡ cond (isQueried w owners c o) true (cond (occurs w owners l) true (occurs w owners r))
 unfolding occurs
 occurs-node w owners c o l r = refl
 
-occurs-none : (w : Sought) (owners : List ℕ) → occurs w owners none ≡ false
+occurs-none : (w : Query) (owners : List ℕ) → occurs w owners none ≡ false
 unfolding occurs
 occurs-none w owners = refl
 
@@ -51,11 +51,11 @@ said-no : (b : Bool) (e m : ℕ) (f : Found) → f ≡ cond b Yes (No e) → f �
 said-no true e m f h d = let z : _≡_ {A = ℕ} 0 1 = cc in absurd (omega arith)
 said-no false e m f h d = (refl, (cc))
 
-module _ (w : Sought) (owners : List ℕ) (s : List ℕ) (k at : ℕ) where
+module _ (w : Query) (owners : List ℕ) (s : List ℕ) (k at : ℕ) where
   pub find-zero : k ≡ 0 → No at ≡ foundIn w owners (skim s k at)
   find-zero z = rw (skim-zero s k at z, occurs-none)
 
-  module _ (x : Node) (t : Bool) (z : k ≡ 0 → ⊥) (e : x ≡ nodeAt s at) (et : t ≡ isSought w owners (x .code) (x .operand)) where
+  module _ (x : Node) (t : Bool) (z : k ≡ 0 → ⊥) (e : x ≡ nodeAt s at) (et : t ≡ isQueried w owners (x .code) (x .operand)) where
     pub find-here : t ≡ true → Yes ≡ foundIn w owners (skim s k at)
     find-here h = rw (skim-step s k at z, ← e, occurs-node, ← et, h)
 

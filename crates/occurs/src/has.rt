@@ -1,6 +1,6 @@
 // What is asked of formulas: which names, and in which roles, and `start`.
 use crate::find::Operand;
-use crate::find::Sought;
+use crate::find::Query;
 use crate::find::occurs_at;
 use formula::code::Code;
 ghost use mathlib.Core.Path.{_≡_};
@@ -21,7 +21,7 @@ impl Roles {
 pub fn has_register(s: &[u8], at: usize, left: usize, number: u8) -> bool
     ensures { λ r. ⌜ r ≡ occurs (register number) [] (skim (now (s .entry)) left at .tree) ⌝ }
 {
-    let w = Sought {
+    let w = Query {
         codes: 1 << Code::REG,
         operand: Operand::EQUAL,
         number,
@@ -33,7 +33,7 @@ pub fn has_register(s: &[u8], at: usize, left: usize, number: u8) -> bool
 pub fn has_word(s: &[u8], at: usize, left: usize, number: u8) -> bool
     ensures { λ r. ⌜ r ≡ occurs (wordAnyRole number) [] (skim (now (s .entry)) left at .tree) ⌝ }
 {
-    let w = Sought {
+    let w = Query {
         codes: Roles::WORD,
         operand: Operand::EQUAL,
         number,
@@ -45,7 +45,7 @@ pub fn has_word(s: &[u8], at: usize, left: usize, number: u8) -> bool
 pub fn has_flag(s: &[u8], at: usize, left: usize, number: u8) -> bool
     ensures { λ r. ⌜ r ≡ occurs (flag number) [] (skim (now (s .entry)) left at .tree) ⌝ }
 {
-    let w = Sought {
+    let w = Query {
         codes: (1 << Code::UNSYNC) + (1 << Code::COV),
         operand: Operand::EQUAL,
         number,
@@ -56,7 +56,7 @@ pub fn has_flag(s: &[u8], at: usize, left: usize, number: u8) -> bool
 pub fn has_start(s: &[u8], at: usize, left: usize) -> bool
     ensures { λ r. ⌜ r ≡ occurs start [] (skim (now (s .entry)) left at .tree) ⌝ }
 {
-    let w = Sought {
+    let w = Query {
         codes: 1 << Code::START,
         operand: Operand::ANY,
         number: 0,
@@ -68,7 +68,7 @@ pub fn has_start(s: &[u8], at: usize, left: usize) -> bool
 pub fn has_shared(s: &[u8], at: usize, left: usize) -> bool
     ensures { λ r. ⌜ r ≡ occurs shared [] (skim (now (s .entry)) left at .tree) ⌝ }
 {
-    let w = Sought {
+    let w = Query {
         codes: Roles::WORD,
         operand: Operand::ANY,
         number: 0,
@@ -80,7 +80,7 @@ pub fn has_shared(s: &[u8], at: usize, left: usize) -> bool
 pub fn has_foreign(s: &[u8], at: usize, left: usize, thread: u8, owners: &[u8]) -> bool
     ensures { λ r. ⌜ r ≡ occurs (foreign thread) (now (owners .entry)) (skim (now (s .entry)) left at .tree) ⌝ }
 {
-    let w = Sought {
+    let w = Query {
         codes: 1 << Code::REG,
         operand: Operand::FOREIGN,
         number: thread,
