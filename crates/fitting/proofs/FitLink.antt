@@ -37,7 +37,7 @@ use Rattle.fitting.specs.Fit.{isAllowed, restAt, lineMatch, fitsRow}
 use Rattle.conclusions.specs.declared.conclusion.Conclusion.{Conclusion}
 use Rattle.conclusions.specs.declared.conclusion.Premises as Conclusions
 use Rattle.conclusions.proofs.Follow.{StandAll, ConclusionFollows, conclusion-follows, from-follows}
-use Rattle.fitting.proofs.Known.{preset-sized, preset-taken}
+use Rattle.fitting.proofs.Presets.{preset-sized, preset-taken}
 use Rattle.conclusions.proofs.Row.{row-form, row-premises, row-few, row-forms, row-side, row-stands, row-operations}
 use Rattle.sides.proofs.SidesLink.{startOf, sides-are}
 

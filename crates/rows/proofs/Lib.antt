@@ -2,6 +2,6 @@ pub mod Values
 pub mod Entailing
 pub mod Distinct
 pub mod Numbered
-pub mod Trying
+pub mod RowsTried
 pub mod Entry
 pub mod Link

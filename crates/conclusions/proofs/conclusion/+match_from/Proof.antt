@@ -1,4 +1,4 @@
-use Rattle.conclusions.proofs.Ways.{following}
+use Rattle.conclusions.proofs.Matching.{following}
 use Rattle.formula.proofs.Auto.{tests}
 use Prim.Native.Nat.{ℕ, _<_}
 use borrow.Fn.Kinds.{In}

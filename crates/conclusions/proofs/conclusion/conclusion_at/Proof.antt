@@ -1,4 +1,4 @@
-use Rattle.conclusions.proofs.Ways.{conclusions}
+use Rattle.conclusions.proofs.Matching.{conclusions}
 use Rattle.formula.proofs.Auto.{tests}
 use borrow.Author.Needs.{needs}
 use Rattle.conclusions.proofs.conclusion.conclusion_at.Statement.{statement}

@@ -1,4 +1,4 @@
-use Rattle.conclusions.proofs.Ways.{placing}
+use Rattle.conclusions.proofs.Matching.{placing}
 use Rattle.formula.proofs.Auto.{tests}
 use Rattle.conclusions.proofs.conclusion.is_placed.Statement.{statement}
 use Rattle.conclusions.proofs.conclusion.is_placed.Tie as tie

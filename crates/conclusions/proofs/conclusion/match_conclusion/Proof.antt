@@ -1,4 +1,4 @@
-use Rattle.conclusions.proofs.Ways.{placing-sides}
+use Rattle.conclusions.proofs.Matching.{placing-sides}
 use Rattle.formula.proofs.Auto.{tests}
 use borrow.Author.Needs.{needs}
 use Rattle.conclusions.proofs.conclusion.match_conclusion.Statement.{statement}

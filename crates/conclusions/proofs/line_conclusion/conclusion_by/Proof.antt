@@ -1,4 +1,4 @@
-use Rattle.conclusions.proofs.Lines.{lining}
+use Rattle.conclusions.proofs.LineConclusions.{lining}
 use Rattle.limits.proofs.Auto.{tests}
 use borrow.Author.Needs.{needs}
 use Rattle.conclusions.proofs.line_conclusion.conclusion_by.Statement.{statement}

@@ -1,4 +1,4 @@
--- The ways through the functions that judge a line, one law for each.
+-- Conclusions against templates: the ways through the functions, one law for each.
 use mathlib.Core.Path.{_≡_, refl}
 use mathlib.Core.Bool.{Bool, true, false}
 use mathlib.Core.List.{List}
