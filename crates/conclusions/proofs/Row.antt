@@ -16,7 +16,7 @@ use Rattle.limits.specs.Limits as Limits
 use Rattle.limits.specs.Limits.{nesting}
 use Rattle.formula.specs.Tree.{skim}
 use Rattle.compare.specs.Same.{sameTree}
-use Rattle.trees.proofs.Raw.{tree-eq}
+use Rattle.trees.proofs.ToTree.{tree-eq}
 use Rattle.matcher.specs.Template.{shapes}
 use Rattle.matcher.specs.Places.{proper}
 use Rattle.certificate.specs.FitT.{formOf, leftOf, rightOf}

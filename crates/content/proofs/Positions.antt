@@ -20,7 +20,7 @@ use Rattle.program.specs.declared.sizes.Sizes.{Sizes}
 use Rattle.bodies.specs.Formula as Formulas
 use Rattle.bodies.specs.Formula.{countsOf}
 use Rattle.bodies.specs.Use.{treeOf}
-use Rattle.trees.specs.Raw.{raw}
+use Rattle.trees.specs.ToTree.{toTree}
 use Rattle.trees.proofs.Part.{part-reading}
 use Rattle.content.specs.Places.{bodyStart, formulaAt}
 use Rattle.content.proofs.Inverse.{unless-passed, within-true}
@@ -78,6 +78,6 @@ module _ (s : List ℕ) (z : Sizes) (c : Checks z (bodies s)) (k : ℕ) (low : 1
   position-tree = ap (λ (u : Skim). u .tree) position-skim
 
 -- where there is no formula, the constant 0
-pub none-tree : (s : List ℕ) → skim s nesting (length s) .tree ≡ raw (const 0)
+pub none-tree : (s : List ℕ) → skim s nesting (length s) .tree ≡ toTree (const 0)
 unfolding skim nodeAt
 none-tree s = rw (le-ltb (length s) (length s) (omega arith))

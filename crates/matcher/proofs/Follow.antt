@@ -18,7 +18,7 @@ use Rattle.formula.specs.Tree.{Tree, Tree.node, Skim, part, nodeAt, skim}
 use Rattle.formula.specs.declared.node.Node.{Node}
 use Rattle.formula.proofs.Nodes.{skim-zero, skim-step, parts-of}
 use Rattle.compare.specs.Same.{sameTree, sameOf}
-use Rattle.trees.proofs.Raw.{tree-refl}
+use Rattle.trees.proofs.ToTree.{tree-refl}
 use Rattle.matcher.specs.Template.{firstHole, firstNumber}
 use Rattle.matcher.specs.Match as Trees
 use Rattle.matcher.specs.Match.{andThen, when, takeTree, takeNum, takeOperand, isNode, matchT}

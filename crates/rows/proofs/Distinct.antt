@@ -16,7 +16,7 @@ use Rattle.logic.proofs.Base.{is-true}
 use Rattle.formula.specs.Codes.{member}
 use Rattle.formula.specs.Tree.{Tree, none, node}
 use Rattle.compare.specs.Same.{sameTree}
-use Rattle.trees.proofs.Raw.{tree-eq, tree-refl}
+use Rattle.trees.proofs.ToTree.{tree-eq, tree-refl}
 use Rattle.leaves.specs.Slots.{slots}
 use Rattle.leaves.specs.Gather.{Gathered, many, keys, leavesT, putT, gatherT}
 use Rattle.leaves.specs.Count.{choicesBy, choicesT}

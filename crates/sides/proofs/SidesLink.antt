@@ -20,7 +20,7 @@ use Rattle.formula.specs.Tree.{Tree, Tree.node, skim}
 use Rattle.compare.specs.Same.{sameTree}
 use Rattle.compare.specs.Replace.{replaceT, oneName}
 use Rattle.occurs.specs.Occurs.{occurs, register, wordAnyRole, flag}
-use Rattle.trees.proofs.Raw.{tree-eq, tree-refl}
+use Rattle.trees.proofs.ToTree.{tree-eq, tree-refl}
 use Rattle.rows.specs.Entailment.{impOf, impsFrom, premisesFrom}
 use Rattle.rows.specs.Rows.{rowsT, tableT, lineOf, premisesOf}
 use Rattle.frames.specs.Records.{bodies}

@@ -14,7 +14,7 @@ use Rattle.formula.specs.Tree.{skim}
 use Rattle.formula.specs.Reader.{malformed, faultAt, sortOf, readingOf}
 use Rattle.formula.specs.declared.reader.Counts.{Counts}
 use Rattle.formula.specs.declared.reader.Reading.the-variants.{Formula as Read, Fault}
-use Rattle.trees.specs.Raw.{Sorted}
+use Rattle.trees.specs.ToTree.{Sorted}
 use Rattle.trees.specs.Place.{sortAt, place, formulaAt, overRegs, alone, inCounts, Readable}
 use Rattle.trees.proofs.Shapes.{by-shape}
 use Rattle.trees.proofs.Heads.{by-place, head, head-fine}

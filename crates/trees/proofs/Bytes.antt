@@ -11,7 +11,7 @@ use Rattle.formula.specs.Codes.{hasOperand}
 use Rattle.formula.specs.Tree.{Tree, none, node, Skim, skim}
 use Rattle.formula.specs.Reader.{faultAt}
 use Rattle.formula.specs.declared.reader.Counts.{Counts}
-use Rattle.trees.specs.Raw.{raw}
+use Rattle.trees.specs.ToTree.{toTree}
 use Rattle.trees.specs.Place.{formulaAt, bytesAt}
 use Rattle.trees.proofs.Shapes.{after, operand, by-shape}
 use Rattle.trees.proofs.Heads.{head, head-fine}
@@ -30,17 +30,17 @@ after-operand c o l = go (hasOperand c)
     go true = refl
     go false = refl
 
-encode-raw : {s : Sort} (f : Formula s) (l : List ℕ) → encode f l ≡ bytesOf (raw f) l
-encode-raw = by-shape (λ s f. (l : List ℕ) → encode f l ≡ bytesOf (raw f) l) (λ c p t o l. t .bytes o l ∙ after-operand c o l ∙ rw (t .tree o))
-    (λ c p q t o f h l. t .bytes o f l ∙ ap (after c o) (h l) ∙ after-operand c o (bytesOf (raw f) l) ∙ rw (t .tree o f))
-    (λ c p q t f g h k l. t .bytes 0 f g l ∙ ap (after c 0) (h (encode g l) ∙ ap (bytesOf (raw f)) (k l)) ∙ after-operand c 0 (bytesOf (raw f) (bytesOf (raw g) l)) ∙ rw (t .tree 0 f g))
+encode-toTree : {s : Sort} (f : Formula s) (l : List ℕ) → encode f l ≡ bytesOf (toTree f) l
+encode-toTree = by-shape (λ s f. (l : List ℕ) → encode f l ≡ bytesOf (toTree f) l) (λ c p t o l. t .bytes o l ∙ after-operand c o l ∙ rw (t .tree o))
+    (λ c p q t o f h l. t .bytes o f l ∙ ap (after c o) (h l) ∙ after-operand c o (bytesOf (toTree f) l) ∙ rw (t .tree o f))
+    (λ c p q t f g h k l. t .bytes 0 f g l ∙ ap (after c 0) (h (encode g l) ∙ ap (bytesOf (toTree f)) (k l)) ∙ after-operand c 0 (bytesOf (toTree f) (bytesOf (toTree g) l)) ∙ rw (t .tree 0 f g))
 
 module _ {r q : Sort} (f : Formula r) (g : Formula q) where
-  pub raw-bytes : raw f ≡ raw g → encode f [] ≡ encode g []
-  raw-bytes e = encode-raw f [] ∙ ap (λ (t : Tree). bytesOf t []) e ∙ sym (encode-raw g [])
+  pub tree-bytes : toTree f ≡ toTree g → encode f [] ≡ encode g []
+  tree-bytes e = encode-toTree f [] ∙ ap (λ (t : Tree). bytesOf t []) e ∙ sym (encode-toTree g [])
 
-  pub bytes-raw : encode f [] ≡ encode g [] → raw f ≡ raw g
-  bytes-raw e =
+  pub bytes-tree : encode f [] ≡ encode g [] → toTree f ≡ toTree g
+  bytes-tree e =
       let k : ℕ = max (nesting f) (nesting g) in
       ap (λ (u : Skim). u .tree) (sym (skim-encode f (encode f []) k 0 [] refl (omega arith)) ∙ skim-encode g (encode f []) k 0 [] e (omega arith))
 
@@ -72,7 +72,7 @@ module _ (s : List ℕ) (n : Counts) (k p at : ℕ) (h : faultAt s n k p at ≡ 
   there-bytes = passed-bytes t m j q to there (head t m q to (head-fine t m j q to g) .0)
 
   pub same-bytes : skim s k at .tree ≡ skim t j to .tree → bytesAt s k at ≡ bytesAt t j to
-  same-bytes e = here-bytes ∙ raw-bytes (here .formula) (there .formula) (sym (here .tree) ∙ e ∙ there .tree) ∙ sym there-bytes
+  same-bytes e = here-bytes ∙ tree-bytes (here .formula) (there .formula) (sym (here .tree) ∙ e ∙ there .tree) ∙ sym there-bytes
 
   pub same-trees : bytesAt s k at ≡ bytesAt t j to → skim s k at .tree ≡ skim t j to .tree
-  same-trees e = here .tree ∙ bytes-raw (here .formula) (there .formula) (sym here-bytes ∙ e ∙ there-bytes) ∙ sym (there .tree)
+  same-trees e = here .tree ∙ bytes-tree (here .formula) (there .formula) (sym here-bytes ∙ e ∙ there-bytes) ∙ sym (there .tree)

@@ -10,7 +10,7 @@ use borrow.Author.Tests.{lt-ltb}
 use Rattle.logic.specs.Formula.{Sort, Formula, encode, nesting}
 use Rattle.formula.specs.Codes.{hasOperand, partCount}
 use Rattle.formula.specs.Tree.{Tree, none, node, nodeAt, Skim, grow, skim}
-use Rattle.trees.specs.Raw.{raw}
+use Rattle.trees.specs.ToTree.{toTree}
 use Rattle.trees.proofs.Shapes.{after, operand, Leaf, One, Two, by-shape}
 use Rattle.trees.proofs.Heads.{drop-next, nodeOf}
 
@@ -83,7 +83,7 @@ module _ (s : List ℕ) (at c o : ℕ) (l : List ℕ) (e : drop at s ≡ after c
 -- a formula's bytes are followed by its end, and its tree stands there
 abbrev Stands : (s : Sort) → Formula s → Type 0
 Stands r f =
-    (s : List ℕ) (k at : ℕ) (l : List ℕ) → drop at s ≡ encode f l → nesting f ≤ k → skim s k at ≡ record { tree = raw f; end = at + size f }
+    (s : List ℕ) (k at : ℕ) (l : List ℕ) → drop at s ≡ encode f l → nesting f ≤ k → skim s k at ≡ record { tree = toTree f; end = at + size f }
 
 skim-back : (s : List ℕ) (k at c o : ℕ) (l : List ℕ) → drop at s ≡ after c o l → skim s (suc k) at ≡ grow (λ i. skim s k i) (nodeOf c o (at + own c))
 unfolding skim
@@ -95,7 +95,7 @@ skim-of t u i j e d = λ x. record { tree = e x; end = d x }
 leaf-stands : (c : ℕ) (p : Sort) (t : Leaf c p) (o : ℕ) → Stands p (t .make o)
 leaf-stands c p t o s zero at l e h = let d = t .deep o in absurd (omega arith)
 leaf-stands c p t o s (suc k) at l e h =
-    skim-back s k at c o l (e ∙ t .bytes o l) ∙ rw (t .parts) (skim-of (node c (operand c o) none none) (raw (t .make o)) (at + own c) (at + size (t .make o)) (sym (t .tree o)) ends)
+    skim-back s k at c o l (e ∙ t .bytes o l) ∙ rw (t .parts) (skim-of (node c (operand c o) none none) (toTree (t .make o)) (at + own c) (at + size (t .make o)) (sym (t .tree o)) ends)
   where
     ends : at + own c ≡ at + size (t .make o)
     ends = omega (arith, ap length (t .bytes o []), length-after c o [])
@@ -105,7 +105,7 @@ one-stands c p q t o f ih s zero at l e h = let d = t .deep o f in absurd (omega
 one-stands c p q t o f ih s (suc k) at l e h =
     skim-back s k at c o (encode f l) b
     ∙ rw (t .parts, ih s k (at + own c) l (node-back s at c o (encode f l) b .1) (omega (arith, t .deep o f)))
-    (skim-of (node c (operand c o) (raw f) none) (raw (t .make o f)) (at + own c + size f) (at + size (t .make o f)) (sym (t .tree o f)) ends)
+    (skim-of (node c (operand c o) (toTree f) none) (toTree (t .make o f)) (at + own c + size f) (at + size (t .make o f)) (sym (t .tree o f)) ends)
   where
     b : drop at s ≡ after c o (encode f l)
     b = e ∙ t .bytes o f l
@@ -118,7 +118,7 @@ two-stands c p q t f g ih jh s zero at l e h = let d = t .deep f g in absurd (om
 two-stands c p q t f g ih jh s (suc k) at l e h =
     skim-back s k at c 0 (encode f (encode g l)) b
     ∙ rw (t .parts, ih s k (at + own c) (encode g l) d (omega (arith, t .deep f g)), jh s k (at + own c + size f) l (drop-encode f s (at + own c) (encode g l) d) (omega (arith, t .deep f g)))
-    (skim-of (node c (operand c 0) (raw f) (raw g)) (raw (t .make f g)) (at + own c + size f + size g) (at + size (t .make f g)) (sym (t .tree 0 f g)) ends)
+    (skim-of (node c (operand c 0) (toTree f) (toTree g)) (toTree (t .make f g)) (at + own c + size f + size g) (at + size (t .make f g)) (sym (t .tree 0 f g)) ends)
   where
     b : drop at s ≡ after c 0 (encode f (encode g l))
     b = e ∙ t .bytes 0 f g l
@@ -130,5 +130,5 @@ two-stands c p q t f g ih jh s (suc k) at l e h =
     ends = omega (arith, ap length (t .bytes 0 f g []), length-after c 0 (encode f (encode g [])), length-encode f (encode g []))
 
 pub skim-encode : {r : Sort} (f : Formula r) (s : List ℕ) (k at : ℕ) (l : List ℕ) → drop at s ≡ encode f l → nesting f ≤ k
-    → skim s k at ≡ record { tree = raw f; end = at + length (encode f []) }
+    → skim s k at ≡ record { tree = toTree f; end = at + length (encode f []) }
 skim-encode = by-shape Stands leaf-stands one-stands two-stands

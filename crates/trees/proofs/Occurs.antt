@@ -14,7 +14,7 @@ use Rattle.formula.specs.Tree.{none, node}
 use Rattle.occurs.specs.Occurs
 use Rattle.occurs.specs.Occurs.{isQueried, occurs, register, wordAnyRole, flag, shared}
 use Rattle.occurs.specs.declared.find.Query.{Query}
-use Rattle.trees.specs.Raw.{raw}
+use Rattle.trees.specs.ToTree.{toTree}
 
 pub all-join : (ok : Name → Bool) (l m : List Name) → all ok (l ++ m) ≡ all ok l && all ok m
 all-join ok [] m = refl
@@ -65,18 +65,18 @@ two-parts a b c true e p q r = rw (p, q, r)
 two-parts a b c false e p q r = rw (p, q)
 
 module _ (w : Query) (owners : List ℕ) (ok : Name → Bool) (is : Is w owners ok) where
-  part : {r : Sort} (c n : ℕ) (f : Formula r) → isQueried w owners c n ≡ false → occurs w owners (raw f) ≡ not (only ok f) → occurs w owners (node c n (raw f) none) ≡ not (only ok f)
+  part : {r : Sort} (c n : ℕ) (f : Formula r) → isQueried w owners c n ≡ false → occurs w owners (toTree f) ≡ not (only ok f) → occurs w owners (node c n (toTree f) none) ≡ not (only ok f)
   unfolding occurs
-  part c n f e h = one-part (isQueried w owners c n) (occurs w owners (raw f)) (only ok f) e h
+  part c n f e h = one-part (isQueried w owners c n) (occurs w owners (toTree f)) (only ok f) e h
 
-  parts : {r : Sort} (c : ℕ) (f g : Formula r) → isQueried w owners c 0 ≡ false → occurs w owners (raw f) ≡ not (only ok f) → occurs w owners (raw g) ≡ not (only ok g)
-      → occurs w owners (node c 0 (raw f) (raw g)) ≡ not (all ok (names f ++ names g))
+  parts : {r : Sort} (c : ℕ) (f g : Formula r) → isQueried w owners c 0 ≡ false → occurs w owners (toTree f) ≡ not (only ok f) → occurs w owners (toTree g) ≡ not (only ok g)
+      → occurs w owners (node c 0 (toTree f) (toTree g)) ≡ not (all ok (names f ++ names g))
   unfolding occurs
   parts c f g e h k =
-      two-parts (isQueried w owners c 0) (occurs w owners (raw f)) (occurs w owners (raw g)) (only ok f) (only ok g) e h k
+      two-parts (isQueried w owners c 0) (occurs w owners (toTree f)) (occurs w owners (toTree g)) (only ok f) (only ok g) e h k
       ∙ ap not (sym (all-join ok (names f) (names g)))
 
-  pub absent : {s : Sort} (f : Formula s) → occurs w owners (raw f) ≡ not (only ok f)
+  pub absent : {s : Sort} (f : Formula s) → occurs w owners (toTree f) ≡ not (only ok f)
   unfolding occurs
   absent (const n) = leaf-other (isQueried w owners (byte Code.const) n) (is .const n)
   absent (reg n) = leaf-name (isQueried w owners (byte Code.reg) n) (ok (n-reg n)) (is .reg n)
@@ -122,56 +122,56 @@ shared-is : Is shared [] isReg
 unfolding isQueried member
 shared-is = record { const = λ n. refl; reg = λ n. refl; word = λ n. refl; sum = refl; falsehood = refl; equal = refl; less = refl; negation = refl; and = refl; or = refl; unsync = λ n. refl; cov = λ n. refl; box = refl; one = λ n. refl; chop = refl; both = refl; either = refl; sees = λ n. refl; bothA = refl; eitherA = refl; start = refl; holds = refl }
 
-pub no-register : (r : ℕ) {s : Sort} (f : Formula s) → occurs (register r) [] (raw f) ≡ not (only (notReg r) f)
+pub no-register : (r : ℕ) {s : Sort} (f : Formula s) → occurs (register r) [] (toTree f) ≡ not (only (notReg r) f)
 no-register r f = absent (register r) [] (notReg r) (register-is r) f
 
-pub no-word : (x : ℕ) {s : Sort} (f : Formula s) → occurs (wordAnyRole x) [] (raw f) ≡ not (only (notWord x) f)
+pub no-word : (x : ℕ) {s : Sort} (f : Formula s) → occurs (wordAnyRole x) [] (toTree f) ≡ not (only (notWord x) f)
 no-word x f = absent (wordAnyRole x) [] (notWord x) (word-is x) f
 
-pub no-flag : (x : ℕ) {s : Sort} (f : Formula s) → occurs (flag x) [] (raw f) ≡ not (only (notFlag x) f)
+pub no-flag : (x : ℕ) {s : Sort} (f : Formula s) → occurs (flag x) [] (toTree f) ≡ not (only (notFlag x) f)
 no-flag x f = absent (flag x) [] (notFlag x) (flag-is x) f
 
-pub no-shared : {s : Sort} (f : Formula s) → occurs shared [] (raw f) ≡ not (only isReg f)
+pub no-shared : {s : Sort} (f : Formula s) → occurs shared [] (toTree f) ≡ not (only isReg f)
 no-shared f = absent shared [] isReg shared-is f
 
 -- start: in assertions only
 neither : (a b : Bool) → a ≡ false → b ≡ false → cond a true b ≡ false
 neither a b e d = rw (e, d)
 
-pub no-start-value : (f : Value) → occurs Occurs.start [] (raw f) ≡ false
+pub no-start-value : (f : Value) → occurs Occurs.start [] (toTree f) ≡ false
 unfolding occurs isQueried member
 no-start-value (const n) = refl
 no-start-value (reg n) = refl
 no-start-value (word n) = refl
-no-start-value (sum f g) = neither (occurs Occurs.start [] (raw f)) (occurs Occurs.start [] (raw g)) (no-start-value f) (no-start-value g)
+no-start-value (sum f g) = neither (occurs Occurs.start [] (toTree f)) (occurs Occurs.start [] (toTree g)) (no-start-value f) (no-start-value g)
 
-pub no-start-test : (f : Test) → occurs Occurs.start [] (raw f) ≡ false
+pub no-start-test : (f : Test) → occurs Occurs.start [] (toTree f) ≡ false
 unfolding occurs isQueried member
 no-start-test Formula.false = refl
-no-start-test (equal f g) = neither (occurs Occurs.start [] (raw f)) (occurs Occurs.start [] (raw g)) (no-start-value f) (no-start-value g)
-no-start-test (less f g) = neither (occurs Occurs.start [] (raw f)) (occurs Occurs.start [] (raw g)) (no-start-value f) (no-start-value g)
-no-start-test (Formula.not f) = neither (occurs Occurs.start [] (raw f)) false (no-start-test f) refl
-no-start-test (and f g) = neither (occurs Occurs.start [] (raw f)) (occurs Occurs.start [] (raw g)) (no-start-test f) (no-start-test g)
-no-start-test (or f g) = neither (occurs Occurs.start [] (raw f)) (occurs Occurs.start [] (raw g)) (no-start-test f) (no-start-test g)
+no-start-test (equal f g) = neither (occurs Occurs.start [] (toTree f)) (occurs Occurs.start [] (toTree g)) (no-start-value f) (no-start-value g)
+no-start-test (less f g) = neither (occurs Occurs.start [] (toTree f)) (occurs Occurs.start [] (toTree g)) (no-start-value f) (no-start-value g)
+no-start-test (Formula.not f) = neither (occurs Occurs.start [] (toTree f)) false (no-start-test f) refl
+no-start-test (and f g) = neither (occurs Occurs.start [] (toTree f)) (occurs Occurs.start [] (toTree g)) (no-start-test f) (no-start-test g)
+no-start-test (or f g) = neither (occurs Occurs.start [] (toTree f)) (occurs Occurs.start [] (toTree g)) (no-start-test f) (no-start-test g)
 no-start-test (unsync n) = refl
 no-start-test (cov n) = refl
 
-pub no-start-interval : (f : Interval) → occurs Occurs.start [] (raw f) ≡ false
+pub no-start-interval : (f : Interval) → occurs Occurs.start [] (toTree f) ≡ false
 unfolding occurs isQueried member
-no-start-interval (box f) = neither (occurs Occurs.start [] (raw f)) false (no-start-test f) refl
+no-start-interval (box f) = neither (occurs Occurs.start [] (toTree f)) false (no-start-test f) refl
 no-start-interval (one n) = refl
-no-start-interval (chop f g) = neither (occurs Occurs.start [] (raw f)) (occurs Occurs.start [] (raw g)) (no-start-interval f) (no-start-interval g)
-no-start-interval (both f g) = neither (occurs Occurs.start [] (raw f)) (occurs Occurs.start [] (raw g)) (no-start-interval f) (no-start-interval g)
-no-start-interval (either f g) = neither (occurs Occurs.start [] (raw f)) (occurs Occurs.start [] (raw g)) (no-start-interval f) (no-start-interval g)
+no-start-interval (chop f g) = neither (occurs Occurs.start [] (toTree f)) (occurs Occurs.start [] (toTree g)) (no-start-interval f) (no-start-interval g)
+no-start-interval (both f g) = neither (occurs Occurs.start [] (toTree f)) (occurs Occurs.start [] (toTree g)) (no-start-interval f) (no-start-interval g)
+no-start-interval (either f g) = neither (occurs Occurs.start [] (toTree f)) (occurs Occurs.start [] (toTree g)) (no-start-interval f) (no-start-interval g)
 
 either-start : (a b c d : Bool) → a ≡ not c → b ≡ not d → cond a true b ≡ not (c && d)
 either-start a b true d e h = rw e h
 either-start a b false d e h = rw e
 
-pub no-start : (a : Assertion) → occurs Occurs.start [] (raw a) ≡ not (startless a)
+pub no-start : (a : Assertion) → occurs Occurs.start [] (toTree a) ≡ not (startless a)
 unfolding occurs isQueried member
-no-start (sees n f) = neither (occurs Occurs.start [] (raw f)) false (no-start-interval f) refl
-no-start (bothA f g) = either-start (occurs Occurs.start [] (raw f)) (occurs Occurs.start [] (raw g)) (startless f) (startless g) (no-start f) (no-start g)
-no-start (eitherA f g) = either-start (occurs Occurs.start [] (raw f)) (occurs Occurs.start [] (raw g)) (startless f) (startless g) (no-start f) (no-start g)
+no-start (sees n f) = neither (occurs Occurs.start [] (toTree f)) false (no-start-interval f) refl
+no-start (bothA f g) = either-start (occurs Occurs.start [] (toTree f)) (occurs Occurs.start [] (toTree g)) (startless f) (startless g) (no-start f) (no-start g)
+no-start (eitherA f g) = either-start (occurs Occurs.start [] (toTree f)) (occurs Occurs.start [] (toTree g)) (startless f) (startless g) (no-start f) (no-start g)
 no-start start = refl
-no-start (holds f) = neither (occurs Occurs.start [] (raw f)) false (no-start-test f) refl
+no-start (holds f) = neither (occurs Occurs.start [] (toTree f)) false (no-start-test f) refl

@@ -10,7 +10,7 @@ use Rattle.formula.specs.Tree.{skim}
 use Rattle.formula.specs.Reader.{faultAt, readingOf}
 use Rattle.formula.specs.declared.reader.Counts.{Counts}
 use Rattle.formula.specs.declared.reader.Reading.the-variants.{Formula}
-use Rattle.trees.specs.Raw.{raw}
+use Rattle.trees.specs.ToTree.{toTree}
 use Rattle.trees.proofs.Heads.{head, head-fine}
 use Rattle.trees.proofs.Passed.{Passed, passed}
 use Rattle.trees.proofs.Encoded.{size, encode-append, skim-encode}
@@ -31,7 +31,7 @@ module _ (image b : List ℕ) (n : Counts) (m p : ℕ) (e : b ≡ take m (drop p
           let f = q .formula in
           let l : List ℕ = drop (skim b k at .end) b in
           let rest : List ℕ = drop m (drop p image) in
-          let here : skim b k at ≡ record { tree = raw f; end = at + size f } = skim-encode f b k at l (q .bytes) (q .deep) in
+          let here : skim b k at ≡ record { tree = toTree f; end = at + size f } = skim-encode f b k at l (q .bytes) (q .deep) in
           let there = skim-encode f image k (p + at) (l ++ rest) (drop-part image b m p at e (omega arith) ∙ ap (λ (z : List ℕ). z ++ rest) (q .bytes) ∙ encode-append f l rest) (q .deep) in
           let ends : p + at + size f ≡ p + (at + size f) = omega arith in
           there ∙ rw (here, ends)

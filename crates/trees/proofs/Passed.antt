@@ -12,15 +12,15 @@ use Rattle.formula.specs.Tree.{Tree, none, node, nodeAt, Skim, grow, skim}
 use Rattle.formula.specs.Reader.{inRange, headFault, first, faultAt}
 use Rattle.formula.specs.declared.node.Node.{Node}
 use Rattle.formula.specs.declared.reader.Counts.{Counts}
-use Rattle.trees.specs.Raw.{raw, shaped, Sorted}
+use Rattle.trees.specs.ToTree.{toTree, ofTree, Sorted}
 use Rattle.trees.specs.Place.{sortAt, formulaAt, overRegs, alone, inCounts}
-use Rattle.trees.proofs.Raw.{shaped-raw, raw-sorted}
+use Rattle.trees.proofs.ToTree.{ofTree-toTree, toTree-sorted}
 use Rattle.trees.proofs.Shapes.{after, operand, ranged, Leaf, One, Two, and-two, both-two, bothA-two, box-one, chop-two, const-leaf, cov-leaf, either-two, eitherA-two, equal-two, falsehood-leaf, holds-one, less-two, negation-one, one-leaf, or-two, reg-leaf, sees-one, start-leaf, sum-two, unsync-leaf, word-leaf}
 use Rattle.trees.proofs.Heads.{_▹_, Each, by-place, nodeOf, partsFault, fault-parts, first-left, first-right, head, next, own-node, own-bytes, own-range}
 
 pub record Passed (s : List ℕ) (n : Counts) (k p at : ℕ) : Type 0 where
   pub formula : Formula (sortAt p)
-  pub tree : skim s k at .tree ≡ raw formula
+  pub tree : skim s k at .tree ≡ toTree formula
   pub bytes : drop at s ≡ encode formula (drop (skim s k at .end) s)
   pub deep : nesting formula ≤ k
   pub counted : T (inCounts n formula)
@@ -165,10 +165,10 @@ passed s n (suc k) p at h = step s n k at (λ q m g. passed s n k q m g) p h
 
 -- the formula passed is the one that stands there
 pub is-formula : (s : List ℕ) (n : Counts) (k p at : ℕ) (q : Passed s n k p at) → formulaAt s k p at ≡ q .formula
-is-formula s n k p at q = ap (shaped (sortAt p)) (q .tree) ∙ shaped-raw (q .formula)
+is-formula s n k p at q = ap (ofTree (sortAt p)) (q .tree) ∙ ofTree-toTree (q .formula)
 
 pub reads-sorted : (s : List ℕ) (n : Counts) (k p at : ℕ) → faultAt s n k p at ≡ 0 → Sorted (sortAt p) (skim s k at .tree)
 reads-sorted s n k p at h = go (passed s n k p at h)
   where
     go : Passed s n k p at → Sorted (sortAt p) (skim s k at .tree)
-    go q = rw (q .tree) (raw-sorted (q .formula))
+    go q = rw (q .tree) (toTree-sorted (q .formula))

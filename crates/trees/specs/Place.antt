@@ -12,7 +12,7 @@ use Rattle.limits.specs.Limits.{nesting as most}
 use Rattle.formula.specs.Codes.{value, test, interval, assertion, regValue, regTest}
 use Rattle.formula.specs.Tree.{skim}
 use Rattle.formula.specs.declared.reader.Counts.{Counts}
-use Rattle.trees.specs.Raw.{shaped}
+use Rattle.trees.specs.ToTree.{ofTree}
 
 -- the sort of a place; where no code fits, any will do
 abbrev pub sortAt : ℕ → Sort
@@ -28,7 +28,7 @@ place r Sort.assertion = assertion
 
 -- the formula of the place's sort that stands at a position, down to the nesting k
 abbrev pub formulaAt : List ℕ → ℕ → (p : ℕ) → ℕ → Formula (sortAt p)
-formulaAt s k p at = shaped (sortAt p) (skim s k at .tree)
+formulaAt s k p at = ofTree (sortAt p) (skim s k at .tree)
 
 -- the bytes from a position to the end of what stands there
 abbrev pub bytesAt : List ℕ → ℕ → ℕ → List ℕ

@@ -25,8 +25,8 @@ use Rattle.program.specs.declared.sizes.Sizes.{Sizes}
 use Rattle.program.specs.declared.instruction.Instruction.{Instruction}
 use Rattle.records.specs.Places.{instructionOf}
 use Rattle.compare.specs.Same.{sameTree}
-use Rattle.trees.specs.Raw.{raw}
-use Rattle.trees.proofs.Raw.{raw-same}
+use Rattle.trees.specs.ToTree.{toTree}
+use Rattle.trees.proofs.ToTree.{toTree-same}
 use Rattle.certificate.specs.FitT.{said, implication, hoare}
 use Rattle.outline.specs.Verdict.{asks}
 use Rattle.content.specs.Formula.{formula}
@@ -54,9 +54,9 @@ eqb-same a b = go (eqb b a) refl
     go false e = ne-eqb a b (λ q. eqb-false b a e (sym q)) ∙ sym e
 
 -- trees are compared as formulas are
-module _ (f g : Assertion) (u w : Tree) (p : raw f ≡ u) (q : raw g ≡ w) where
-  sides-same : (a b : Assertion) → (sameTree u (raw a) && sameTree w (raw b)) ≡ (same f a && same g b)
-  sides-same a b = rw (← p, ← q) (ap₂ _&&_ (raw-same f a) (raw-same g b))
+module _ (f g : Assertion) (u w : Tree) (p : toTree f ≡ u) (q : toTree g ≡ w) where
+  sides-same : (a b : Assertion) → (sameTree u (toTree a) && sameTree w (toTree b)) ≡ (same f a && same g b)
+  sides-same a b = rw (← p, ← q) (ap₂ _&&_ (toTree-same f a) (toTree-same g b))
 
   implied-same : (x : Statement) → compared implication 0 0 u w (said x) ≡ sameStatement (implies f g) x
   implied-same (inside i j) = refl
@@ -91,14 +91,14 @@ module _ (s : List ℕ) (z : Sizes) (c : Checks z (bodies s)) where
   abbrev its : ℕ → ℕ → Instruction
   its t k = instructionOf z l t k
 
-  asserted-is : (t k : ℕ) → Within (z .threads) t → k < P .points t → raw (O t k) ≡ treeAt s (assertedAt s z t k)
+  asserted-is : (t k : ℕ) → Within (z .threads) t → k < P .points t → toTree (O t k) ≡ treeAt s (assertedAt s z t k)
   asserted-is = outline-is s z c
 
   next-is : (t k : ℕ) → Within (z .threads) t → suc k < P .points t → nextPoint k ≡ suc k
   unfolding nextPoint
   next-is t k w h = rw (lt-ltb k Limits.points (let q = points-few z l c t (w .0) (w .1) in omega arith)) (add-one k)
 
-  behind-is : (t k : ℕ) → Within (z .threads) t → suc k < P .points t → raw (O t (suc k)) ≡ treeAt s (assertedAt s z t (nextPoint k))
+  behind-is : (t k : ℕ) → Within (z .threads) t → suc k < P .points t → toTree (O t (suc k)) ≡ treeAt s (assertedAt s z t (nextPoint k))
   behind-is t k w h = rw (next-is t k w h) (asserted-is t (suc k) w h)
 
   module _ (n : ℕ) (wn : Within (z .lines) n) where
@@ -122,7 +122,7 @@ module _ (s : List ℕ) (z : Sizes) (c : Checks z (bodies s)) where
       abbrev test : Test
       test = formula l Sort.test (its t k .formula)
 
-      here-is : raw (O t k) ≡ here
+      here-is : toTree (O t k) ≡ here
       here-is = asserted-is t k w (omega arith)
 
       action-asked : meets s z (wantedAction s z t k) n ≡ sameStatement (triple t k (O t k) (O t (suc k))) (says n)

@@ -9,7 +9,7 @@ use lib.Dec.{T}
 use Rattle.logic.proofs.Base.{bool-ext, and-left, and-right, and-both, holds-true}
 use Rattle.formula.specs.Tree.{Tree}
 use Rattle.compare.specs.Same.{sameTree}
-use Rattle.trees.proofs.Raw.{tree-eq, tree-refl}
+use Rattle.trees.proofs.ToTree.{tree-eq, tree-refl}
 use Rattle.matcher.specs.Template.{Holes, instT}
 use Rattle.matcher.specs.Match.{Taken}
 use Rattle.matcher.specs.Places.{takenOf}
