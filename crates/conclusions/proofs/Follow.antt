@@ -9,7 +9,7 @@ use lib.ListN.{length}
 use lib.Dec.{T, eqb}
 use Rattle.logic.specs.Rules.{Shape}
 use Rattle.limits.specs.Limits.{nesting}
-use Rattle.formula.specs.Tree.{Tree, skim}
+use Rattle.formula.specs.Tree.{Tree, parseTree}
 use Rattle.matcher.specs.Match.{andThen, matchT}
 use Rattle.matcher.specs.Places.{matchAt, wholeOf, wholeAt, takenOf, proper}
 use Rattle.matcher.specs.declared.bind.Bind.{Bind}
@@ -34,12 +34,12 @@ placed-same s form t k c = go (eqb (c .form) form) (eqb form hoare) (eqb (c .thr
 
 -- the position behind two templates
 abbrev pub behind : List ℕ → ℕ → ℕ
-behind t i = skim t nesting (skim t nesting i .end) .end
+behind t i = parseTree t nesting (parseTree t nesting i .end) .end
 
 -- templates for the two sides stand at a position
 pub record StandSides (t : List ℕ) (i : ℕ) (p q : Tree) : Type 0 where
-  pub left : skim t nesting i .tree ≡ p
-  pub right : skim t nesting (skim t nesting i .end) .tree ≡ q
+  pub left : parseTree t nesting i .tree ≡ p
+  pub right : parseTree t nesting (parseTree t nesting i .end) .tree ≡ q
   pub holes-left : T (proper p)
   pub holes-right : T (proper q)
 
@@ -66,23 +66,23 @@ module _ (s t : List ℕ) (i thread point form : ℕ) (p q : Tree) (c : Conclusi
   left-follows = match-follows s t nesting i (c .left) b z (subst (λ u. T (proper u)) (sym (st .left)) (st .holes-left))
 
   module _ (o : first .ok ≡ true) where
-    at-right : skim t nesting (first .tpl) .tree ≡ q
-    at-right = ap (λ (k : ℕ). skim t nesting k .tree) (left-follows .tpl o) ∙ st .right
+    at-right : parseTree t nesting (first .tpl) .tree ≡ q
+    at-right = ap (λ (k : ℕ). parseTree t nesting k .tree) (left-follows .tpl o) ∙ st .right
 
     right-follows : Follows s t nesting (first .tpl) (c .right) (first .bind) second
     right-follows = match-follows s t nesting (first .tpl) (c .right) (first .bind) (left-follows .sized) (subst (λ u. T (proper u)) (sym at-right) (st .holes-right))
 
-  left-same : matchT p (skim s nesting (c .left) .tree) (takenOf s b) ≡ given s (first .ok) (first .bind)
-  left-same = subst (λ u. matchT u (skim s nesting (c .left) .tree) (takenOf s b) ≡ given s (first .ok) (first .bind)) (st .left) (left-follows .same)
+  left-same : matchT p (parseTree s nesting (c .left) .tree) (takenOf s b) ≡ given s (first .ok) (first .bind)
+  left-same = subst (λ u. matchT u (parseTree s nesting (c .left) .tree) (takenOf s b) ≡ given s (first .ok) (first .bind)) (st .left) (left-follows .same)
 
-  right-same : (o : first .ok ≡ true) → matchT q (skim s nesting (c .right) .tree) (takenOf s (first .bind)) ≡ given s (second .ok) (second .bind)
-  right-same o = subst (λ u. matchT u (skim s nesting (c .right) .tree) (takenOf s (first .bind)) ≡ given s (second .ok) (second .bind)) (at-right o) (right-follows o .same)
+  right-same : (o : first .ok ≡ true) → matchT q (parseTree s nesting (c .right) .tree) (takenOf s (first .bind)) ≡ given s (second .ok) (second .bind)
+  right-same o = subst (λ u. matchT u (parseTree s nesting (c .right) .tree) (takenOf s (first .bind)) ≡ given s (second .ok) (second .bind)) (at-right o) (right-follows o .same)
 
   both-same : first .ok ≡ true
-      → andThen (matchT p (skim s nesting (c .left) .tree) (takenOf s b)) (matchT q (skim s nesting (c .right) .tree)) ≡ given s (second .ok) (second .bind)
+      → andThen (matchT p (parseTree s nesting (c .left) .tree) (takenOf s b)) (matchT q (parseTree s nesting (c .right) .tree)) ≡ given s (second .ok) (second .bind)
   both-same o = rw (left-same, o) (right-same o)
 
-  first-fails : first .ok ≡ false → andThen (matchT p (skim s nesting (c .left) .tree) (takenOf s b)) (matchT q (skim s nesting (c .right) .tree)) ≡ none
+  first-fails : first .ok ≡ false → andThen (matchT p (parseTree s nesting (c .left) .tree) (takenOf s b)) (matchT q (parseTree s nesting (c .right) .tree)) ≡ none
   first-fails o = rw (left-same, o)
 
   pub sides-follow : SidesFollow s t i thread point form p q c b (matchConclusion s t i form thread point c b)
@@ -94,7 +94,7 @@ module _ (s t : List ℕ) (i thread point form : ℕ) (p q : Tree) (c : Conclusi
       go false h o e = record { same = rw (placed-same s form thread point c, h); tpl = λ y. absurd (false≢true y); sized = z }
       go true h true e = record {
         same = rw (placed-same s form thread point c, h, e) (both-same e);
-        tpl = rw e (λ y. right-follows e .tpl y ∙ ap (λ (k : ℕ). skim t nesting k .end) (left-follows .tpl e));
+        tpl = rw e (λ y. right-follows e .tpl y ∙ ap (λ (k : ℕ). parseTree t nesting k .end) (left-follows .tpl e));
         sized = rw e (right-follows e .sized);
       }
       go true h false e = record {

@@ -14,7 +14,7 @@ use Rattle.logic.specs.Opcode
 use Rattle.logic.proofs.Base.{and-left, and-right}
 use Rattle.limits.specs.Limits as Limits
 use Rattle.limits.specs.Limits.{nesting}
-use Rattle.formula.specs.Tree.{skim}
+use Rattle.formula.specs.Tree.{parseTree}
 use Rattle.compare.specs.Same.{sameTree}
 use Rattle.trees.proofs.ToTree.{tree-eq}
 use Rattle.matcher.specs.Template.{shapes}
@@ -34,18 +34,18 @@ same-bits false true h = absurd h
 stand-all : (i : ℕ) (l : List Shape) → T (standAt i (trees l)) → StandAll templates i l
 stand-all i [] h = tt
 stand-all i (m ∷ l) h =
-    let j : ℕ = skim templates nesting i .end in
-    let k : ℕ = skim templates nesting j .end in
-    let a : Bool = sameTree (skim templates nesting i .tree) (leftOf m) in
-    let b : Bool = sameTree (skim templates nesting j .tree) (rightOf m) in
+    let j : ℕ = parseTree templates nesting i .end in
+    let k : ℕ = parseTree templates nesting j .end in
+    let a : Bool = sameTree (parseTree templates nesting i .tree) (leftOf m) in
+    let b : Bool = sameTree (parseTree templates nesting j .tree) (rightOf m) in
     let c : Bool = b && proper (rightOf m) in
     let d : Bool = standAt k (trees l) in
     let x = and-left (a && proper (leftOf m)) (c && d) h in
     let r = and-right (a && proper (leftOf m)) (c && d) h in
     let y = and-left c d r in (
       record {
-        left = tree-eq (skim templates nesting i .tree) (leftOf m) (and-left a (proper (leftOf m)) x);
-        right = tree-eq (skim templates nesting j .tree) (rightOf m) (and-left b (proper (rightOf m)) y);
+        left = tree-eq (parseTree templates nesting i .tree) (leftOf m) (and-left a (proper (leftOf m)) x);
+        right = tree-eq (parseTree templates nesting j .tree) (rightOf m) (and-left b (proper (rightOf m)) y);
         holes-left = and-right a (proper (leftOf m)) x;
         holes-right = and-right b (proper (rightOf m)) y;
       },

@@ -5,7 +5,7 @@ use Prim.Native.Nat.{ℕ, zero, suc, _+_, _/_, _%_}
 use lib.Dec.{eqb, ltb}
 use lib.ListN.{getD}
 use Rattle.limits.specs.Limits.{nesting, premises}
-use Rattle.formula.specs.Tree.{skim}
+use Rattle.formula.specs.Tree.{parseTree}
 use Rattle.matcher.specs.Places.{wholeAt, thenWhole}
 use Rattle.matcher.specs.declared.bind.Bind.{Bind}
 use Rattle.matcher.specs.declared.whole.Whole.{Whole}
@@ -15,7 +15,7 @@ use Rattle.conclusions.specs.declared.conclusion.Premises.{Premises}
 
 -- what a conclusion says, as trees
 abbrev pub saidAt : List ℕ → Conclusion → Said
-saidAt s c = record { form = c .form; thread = c .thread; point = c .point; left = skim s nesting (c .left) .tree; right = skim s nesting (c .right) .tree }
+saidAt s c = record { form = c .form; thread = c .thread; point = c .point; left = parseTree s nesting (c .left) .tree; right = parseTree s nesting (c .right) .tree }
 
 -- of the form that is wanted; a Hoare triple is for the same thread and point
 unfoldable pub placedAt : ℕ → ℕ → ℕ → Conclusion → Bool

@@ -14,7 +14,7 @@ use Rattle.logic.proofs.Base.{is-true}
 use Rattle.limits.specs.Limits as Limits
 use Rattle.formula.specs.Codes as Codes
 use Rattle.limits.specs.Limits.{nesting}
-use Rattle.formula.specs.Tree.{Tree, skim}
+use Rattle.formula.specs.Tree.{Tree, parseTree}
 use Rattle.formula.specs.Reader.{malformed, faultAt, sortOf, readingOf}
 use Rattle.formula.specs.declared.reader.Counts.{Counts}
 use Rattle.formula.specs.declared.reader.Reading.{Reading}
@@ -37,7 +37,7 @@ use Rattle.content.proofs.Inverse.{unless-passed, faulty-passed}
 -- what is read without a fault is a formula of its first code's sort
 read-passed : (b : List ℕ) (n : Counts) → read (readingOf b n) ≡ Passed → readingOf b n ≡ Reading.Formula (sortOf b)
 unfolding read readingOf
-read-passed b n e = go (eqb (faultAt b n nesting (sortOf b) 0) 0) (eqb (skim b nesting 0 .end) (length b)) e
+read-passed b n e = go (eqb (faultAt b n nesting (sortOf b) 0) 0) (eqb (parseTree b nesting 0 .end) (length b)) e
   where
     go : (c d : Bool) → read (cond c (cond d (Reading.Formula (sortOf b)) (Reading.Fault malformed)) (Reading.Fault (faultAt b n nesting (sortOf b) 0))) ≡ Passed
         → cond c (cond d (Reading.Formula (sortOf b)) (Reading.Fault malformed)) (Reading.Fault (faultAt b n nesting (sortOf b) 0)) ≡ Reading.Formula (sortOf b)

@@ -9,7 +9,7 @@ use lib.ListN.{getD}
 use lib.Dec.{eqb}
 use borrow.Author.Tests.{ne-eqb}
 use Rattle.limits.specs.Limits.{nesting}
-use Rattle.formula.specs.Tree.{skim}
+use Rattle.formula.specs.Tree.{parseTree}
 use Rattle.matcher.specs.Places.{takenOf}
 use Rattle.matcher.proofs.Follow.{Sized}
 use Rattle.certificate.specs.FitT.{Acting, preset}
@@ -25,7 +25,7 @@ preset-sized t x r f = record { at = refl; left = refl; num = refl }
 
 module _ (s : List ℕ) (t op x r f : ℕ) where
   abbrev acting : Acting
-  acting = record { operation = op; word = x; register = r; formula = skim s nesting f .tree }
+  acting = record { operation = op; word = x; register = r; formula = parseTree s nesting f .tree }
 
   back : (n : ℕ) → n + 1 - 1 ≡ n
   back n = omega arith

@@ -6,7 +6,7 @@ use lib.ListN.{getD}
 use lib.Dec.{eqb}
 use Rattle.logic.specs.Code
 use Rattle.formula.specs.Codes.{member, setOf}
-use Rattle.formula.specs.Tree.{Tree, none, node, Skim}
+use Rattle.formula.specs.Tree.{Tree, none, node, ParsedTree}
 use Rattle.occurs.specs.declared.find.Query.{Query}
 use Rattle.occurs.specs.declared.find.Found.{Found}
 use Rattle.occurs.specs.declared.find.Found.the-variants.{Yes, No}
@@ -35,7 +35,7 @@ unfoldable pub occurs : Query → List ℕ → Tree → Bool
 occurs w owners none = false
 occurs w owners (node c o l r) = cond (isQueried w owners c o) true (cond (occurs w owners l) true (occurs w owners r))
 
-abbrev pub foundIn : Query → List ℕ → Skim → Found
+abbrev pub foundIn : Query → List ℕ → ParsedTree → Found
 foundIn w owners u = cond (occurs w owners (u .tree)) Yes (No (u .end))
 
 -- the register r

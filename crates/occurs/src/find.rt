@@ -3,7 +3,7 @@ use formula::code::contains;
 use formula::node::node_at;
 use limits::read::octet_at;
 ghost use mathlib.Core.Path.{_≡_};
-ghost use Rattle.formula.specs.Tree.{skim};
+ghost use Rattle.formula.specs.Tree.{parseTree};
 ghost use Rattle.occurs.specs.Occurs.{ownerOf, isQueried, foundIn, occurs};
 
 // What is looked for: nodes of some codes, whose operand is anything, is a number, or is a register that a thread of
@@ -56,7 +56,7 @@ pub fn is_queried(w: Query, owners: &[u8], code: u8, operand: u8) -> bool
 }
 
 pub fn find_at(s: &[u8], at: usize, left: usize, w: Query, owners: &[u8]) -> Found
-    ensures { λ r. ⌜ r ≡ foundIn w (now (owners .entry)) (skim (now (s .entry)) left at) ⌝ }
+    ensures { λ r. ⌜ r ≡ foundIn w (now (owners .entry)) (parseTree (now (s .entry)) left at) ⌝ }
 {
     if left == 0 {
         return Found::No(at);
@@ -80,7 +80,7 @@ pub fn find_at(s: &[u8], at: usize, left: usize, w: Query, owners: &[u8]) -> Fou
 }
 
 pub fn occurs_at(s: &[u8], at: usize, left: usize, w: Query, owners: &[u8]) -> bool
-    ensures { λ r. ⌜ r ≡ occurs w (now (owners .entry)) (skim (now (s .entry)) left at .tree) ⌝ }
+    ensures { λ r. ⌜ r ≡ occurs w (now (owners .entry)) (parseTree (now (s .entry)) left at .tree) ⌝ }
 {
     match find_at(s, at, left, w, owners) {
         Found::Yes => true,

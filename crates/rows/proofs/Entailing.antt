@@ -7,7 +7,7 @@ use native.Mathlib.Omega.{arith}
 use lib.ListN.{getD, take}
 use lib.Dec.{eqb}
 use Rattle.limits.proofs.Numbers.{byte-past}
-use Rattle.formula.specs.Tree.{skim}
+use Rattle.formula.specs.Tree.{parseTree}
 use Rattle.leaves.specs.Gather.{Gathered, keys, view, gatherT}
 use Rattle.leaves.proofs.Gathering.{kept-none}
 use Rattle.columns.specs.Column.{rowIn, denied}
@@ -51,13 +51,13 @@ module _ (s lefts rights : List ℕ) (t : Task) where
     allHold k i = allAt s w q (rowIn cells i) (prems k)
 
     -- an implication fails where the left side is true and the right side is not
-    pub imp-fails : (i l r : ℕ) (a b o : List ℕ) → l ≡ getD lefts i 0 → take n a ≡ columnOf s w q cells n (skim s (t .left) l .tree) → r ≡ getD rights i 0
-        → take n b ≡ columnOf s w q cells n (skim s (t .right) r .tree) → take n o ≡ denied n a b → take n o ≡ impFails s w q cells n (imp i)
+    pub imp-fails : (i l r : ℕ) (a b o : List ℕ) → l ≡ getD lefts i 0 → take n a ≡ columnOf s w q cells n (parseTree s (t .left) l .tree) → r ≡ getD rights i 0
+        → take n b ≡ columnOf s w q cells n (parseTree s (t .right) r .tree) → take n o ≡ denied n a b → take n o ≡ impFails s w q cells n (imp i)
     unfolding denied impFails impAt impOf
     imp-fails i l r a b o el ea er eb eo = eo ∙ column-same (λ (k : ℕ). cond (eqb (getD a k 0) 1) (cond (eqb (getD b k 0) 1) 0 1) 0) (λ (k : ℕ). cond (holds k (imp i)) 0 1) n (λ k h.
         ap₂ (λ (x y : ℕ). cond (eqb x 1) (cond (eqb y 1) 0 1) 0)
-        (column-value s w q cells n (skim s (t .left) l .tree) a ea k h ∙ ap (λ (x : ℕ). rowValue s w q (rowIn cells k) (skim s (t .left) x .tree)) el)
-        (column-value s w q cells n (skim s (t .right) r .tree) b eb k h ∙ ap (λ (x : ℕ). rowValue s w q (rowIn cells k) (skim s (t .right) x .tree)) er)
+        (column-value s w q cells n (parseTree s (t .left) l .tree) a ea k h ∙ ap (λ (x : ℕ). rowValue s w q (rowIn cells k) (parseTree s (t .left) x .tree)) el)
+        (column-value s w q cells n (parseTree s (t .right) r .tree) b eb k h ∙ ap (λ (x : ℕ). rowValue s w q (rowIn cells k) (parseTree s (t .right) x .tree)) er)
         ∙ go (eqb (rowValue s w q (rowIn cells k) (imp i .left)) 1) (eqb (rowValue s w q (rowIn cells k) (imp i .right)) 1))
       where
         go : (x y : Bool) → _≡_ {A = ℕ} (cond x (cond y 0 1) 0) (cond (cond x y true) 0 1)
@@ -118,8 +118,8 @@ pub ruleset implications = (imp-fails, kept-where)
 pub ruleset entailing = (fails-begin, fails-next, fails-end)
 
 -- the leaves of implications
-pub gather-imp : (s lefts rights : List ℕ) (t : Task) (i w l r n m k : ℕ) (q q₂ q₃ : List ℕ) → r ≡ getD rights i 0 → view s m q₂ ≡ gatherT w (skim s (t .right) r .tree) (view s n q) → l ≡ getD lefts i 0
-    → view s k q₃ ≡ gatherT w (skim s (t .left) l .tree) (view s m q₂) → view s k q₃ ≡ gatherImp w (impOf s lefts rights t i) (view s n q)
+pub gather-imp : (s lefts rights : List ℕ) (t : Task) (i w l r n m k : ℕ) (q q₂ q₃ : List ℕ) → r ≡ getD rights i 0 → view s m q₂ ≡ gatherT w (parseTree s (t .right) r .tree) (view s n q) → l ≡ getD lefts i 0
+    → view s k q₃ ≡ gatherT w (parseTree s (t .left) l .tree) (view s m q₂) → view s k q₃ ≡ gatherImp w (impOf s lefts rights t i) (view s n q)
 unfolding gatherImp impOf
 gather-imp s lefts rights t i w l r n m k q q₂ q₃ er eh el ek = ek ∙ rw (el, eh, er)
 

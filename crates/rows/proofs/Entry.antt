@@ -8,7 +8,7 @@ use borrow.Author.Tests.{lt-ltb, le-ltb}
 use Rattle.logic.specs.Rows.{distinct}
 use Rattle.logic.specs.Limits
 use Rattle.limits.specs.Limits.{nesting}
-use Rattle.formula.specs.Tree.{Tree, skim}
+use Rattle.formula.specs.Tree.{Tree, parseTree}
 use Rattle.compare.specs.Same.{sameTree}
 use Rattle.leaves.specs.Gather.{Gathered}
 use Rattle.rows.specs.Entailment.{leavesAll, impOf, impsFrom, premisesFrom, gatherImps, gatherAll}
@@ -35,7 +35,7 @@ unfolding rowsT
 by-few R u v h = rw (lt-ltb _ _ h)
 
 pub by-names : (s : List ℕ) (a m b k R : ℕ) (r : Bool) → 2 ≤ R → r ≡ everyOf s (a ∷ 0 ∷ 0 ∷ 0 ∷ 0 ∷ []) (b ∷ 0 ∷ 0 ∷ 0 ∷ 0 ∷ []) (record { premises = 0; left = m; right = k }) (byNames R) Limits.rows
-    → r ≡ rowsT R (skim s m a .tree) (skim s k b .tree)
+    → r ≡ rowsT R (parseTree s m a .tree) (parseTree s k b .tree)
 unfolding rowsT premisesFrom impsFrom impOf
 by-names s a m b k R r h e = e ∙ every-is s lefts rights t (byNames R) Limits.rows h (omega arith) ∙ rw (le-ltb _ _ h) both
   where
@@ -48,7 +48,7 @@ by-names s a m b k R r h e = e ∙ every-is s lefts rights t (byNames R) Limits.
     t : Task
     t = record { premises = 0; left = m; right = k }
 
-    both : everyT (byNames R) Limits.rows (premisesFrom s lefts rights t 0) (impOf s lefts rights t 0) ≡ everyT (byNames R) Limits.rows [] (record { left = skim s m a .tree; right = skim s k b .tree })
+    both : everyT (byNames R) Limits.rows (premisesFrom s lefts rights t 0) (impOf s lefts rights t 0) ≡ everyT (byNames R) Limits.rows [] (record { left = parseTree s m a .tree; right = parseTree s k b .tree })
     both = refl
 
 pub by-leaves : (s : List ℕ) (p : Implications) (n : ℕ) (r : Bool) → n ≡ p .count - 1 → r ≡ everyOf s (p .left) (p .right) (record { premises = n; left = nesting; right = nesting }) byLeaves 1024

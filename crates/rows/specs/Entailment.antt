@@ -5,7 +5,7 @@ use mathlib.Core.Bool.{Bool, true, false, not, _||_, cond}
 use lib.ListN.{getD}
 use lib.Dec.{eqb}
 use Rattle.logic.specs.Base.{all}
-use Rattle.formula.specs.Tree.{Tree, skim}
+use Rattle.formula.specs.Tree.{Tree, parseTree}
 use Rattle.leaves.specs.Gather.{Gathered, keys, leavesT, gatherT}
 use Rattle.columns.specs.Column.{column, rowIn}
 use Rattle.rows.specs.Value.{valueT, rowValue}
@@ -39,7 +39,7 @@ gatherImps w (p ∷ ps) m = gatherImp w p (gatherImps w ps m)
 
 -- the implication with the number i, by positions: 0 is the line, the premises begin at 1
 unfoldable pub impOf : List ℕ → List ℕ → List ℕ → Task → ℕ → ImpT
-impOf s lefts rights t i = record { left = skim s (t .left) (getD lefts i 0) .tree; right = skim s (t .right) (getD rights i 0) .tree }
+impOf s lefts rights t i = record { left = parseTree s (t .left) (getD lefts i 0) .tree; right = parseTree s (t .right) (getD rights i 0) .tree }
 
 -- d implications from the number i
 unfoldable pub impsFrom : List ℕ → List ℕ → List ℕ → Task → ℕ → ℕ → List ImpT

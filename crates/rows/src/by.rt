@@ -7,7 +7,7 @@ use formula::code::Code;
 use limits::Limits;
 ghost use mathlib.Core.Path.{_≡_};
 ghost use Prim.Native.Nat.{_-_};
-ghost use Rattle.formula.specs.Tree.{skim};
+ghost use Rattle.formula.specs.Tree.{parseTree};
 ghost use Rattle.rows.specs.Rows.{rowsT, tableT, lineOf, premisesOf};
 
 // Implications between formulas by their positions: the first is the line, the others, as far as the count goes, are its premises.
@@ -37,7 +37,7 @@ impl LeafCodes {
 
 // Whether the test at b is true wherever the one at a is.
 pub fn by_rows(s: &[u8], a: usize, m: usize, b: usize, k: usize, range: u8) -> bool
-    ensures { λ r. ⌜ r ≡ rowsT range (skim (now (s .entry)) m a .tree) (skim (now (s .entry)) k b .tree) ⌝ }
+    ensures { λ r. ⌜ r ≡ rowsT range (parseTree (now (s .entry)) m a .tree) (parseTree (now (s .entry)) k b .tree) ⌝ }
 {
     if range < 2 {
         return false;

@@ -16,7 +16,7 @@ use Rattle.logic.proofs.Base.{bool-ext}
 use Rattle.limits.specs.Limits as Limits
 use Rattle.limits.specs.Limits.{nesting}
 use Rattle.limits.specs.Numbers.{nth}
-use Rattle.formula.specs.Tree.{Tree, Tree.node, skim}
+use Rattle.formula.specs.Tree.{Tree, Tree.node, parseTree}
 use Rattle.compare.specs.Same.{sameTree}
 use Rattle.compare.specs.Replace.{replaceT, oneName}
 use Rattle.occurs.specs.Occurs.{occurs, register, wordAnyRole, flag}
@@ -69,10 +69,10 @@ keeps-is R init (suc (suc (suc (suc (suc (suc op)))))) x r u v =
 module _ (s : List ℕ) (b : Bind) where
   -- what stands in a hole; where nothing was taken, no tree and 0
   hole-tree : (j : ℕ) → holesFrom (takenOf s b) .tree j ≡ treeOf s (holeOf b j)
-  unfolding holeOf skim
+  unfolding holeOf parseTree
   hole-tree j = go (getD (b .left) j 0) (eqb (getD (b .left) j 0) 0) refl
     where
-      go : (k : ℕ) (e : Bool) → eqb k 0 ≡ e → orElse Tree.none (cond e none (some (skim s k (getD (b .at) j 0) .tree))) ≡ skim s k (getD (b .at) j 0) .tree
+      go : (k : ℕ) (e : Bool) → eqb k 0 ≡ e → orElse Tree.none (cond e none (some (parseTree s k (getD (b .at) j 0) .tree))) ≡ parseTree s k (getD (b .at) j 0) .tree
       go k true e = rw (eqb-true k 0 e)
       go k false e = refl
 
@@ -112,7 +112,7 @@ module _ (s : List ℕ) (b : Bind) (a : Acting) (c : Conclusion) (p : Premises) 
 
   assigned-is : holds r2 ≡ asked s (sideNumber (row r2 .sides)) b a c p
   unfolding asked ofInstruction assignedBy isWith
-  assigned-is = and-one _ ∙ ap₂ (λ (u v : Tree). sameTree (replaceT (oneName false (a .register) (skim s nesting (a .formula) .tree)) v) u) (hole-tree s b 0) (hole-tree s b 1)
+  assigned-is = and-one _ ∙ ap₂ (λ (u v : Tree). sameTree (replaceT (oneName false (a .register) (parseTree s nesting (a .formula) .tree)) v) u) (hole-tree s b 0) (hole-tree s b 1)
 
   loaded-is : holds r3 ≡ asked s (sideNumber (row r3 .sides)) b a c p
   unfolding asked ofInstruction loadedBy isWith
@@ -125,7 +125,7 @@ module _ (s : List ℕ) (b : Bind) (a : Acting) (c : Conclusion) (p : Premises) 
   stored-is : holds r9 ≡ asked s (sideNumber (row r9 .sides)) b a c p
   unfolding asked ofInstruction storedBy isWith
   stored-is =
-      ap₂ (λ (u v : Tree). sameTree (replaceT (oneName true (a .word) (skim s nesting (a .formula) .tree)) v) u && (not (occurs (flag (a .word)) [] v) && true)) (hole-tree s b 3) (hole-tree s b 2)
+      ap₂ (λ (u v : Tree). sameTree (replaceT (oneName true (a .word) (parseTree s nesting (a .formula) .tree)) v) u && (not (occurs (flag (a .word)) [] v) && true)) (hole-tree s b 3) (hole-tree s b 2)
       ∙ go (occurs (flag (a .word)) [] (treeOf s (holeOf b 2))) _
     where
       go : (o e : Bool) → e && (not o && true) ≡ cond o false e

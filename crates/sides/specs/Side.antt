@@ -9,7 +9,7 @@ use Rattle.logic.specs.Code.{byte}
 use Rattle.logic.specs.Opcode
 use Rattle.limits.specs.Limits.{nesting}
 use Rattle.limits.specs.Numbers.{nth}
-use Rattle.formula.specs.Tree.{Tree, none, node, skim}
+use Rattle.formula.specs.Tree.{Tree, none, node, parseTree}
 use Rattle.program.specs.Header.{startValues}
 use Rattle.compare.specs.Same.{sameTree}
 use Rattle.compare.specs.Replace.{replaceT, oneName, standsFor}
@@ -27,7 +27,7 @@ unfoldable pub numberIn : Bind → ℕ → ℕ
 numberIn b j = getD (b .num) j 0 - 1
 
 abbrev pub treeOf : List ℕ → Position → Tree
-treeOf s p = skim s (p .left) (p .at) .tree
+treeOf s p = parseTree s (p .left) (p .at) .tree
 
 -- a load keeps what has not its register; a store or a swap what has not its word
 unfoldable pub keeps : ℕ → ℕ → ℕ → Tree → Bool

@@ -6,7 +6,7 @@ use Prim.Native.Nat.{ℕ}
 use Rattle.logic.specs.Code
 use Rattle.logic.specs.Code.{byte}
 use Rattle.formula.specs.Codes.{hasOperand, partCount}
-use Rattle.formula.specs.Tree.{Tree, none, node, nodeAt, skim}
+use Rattle.formula.specs.Tree.{Tree, none, node, nodeAt, parseTree}
 use Rattle.compare.specs.Same.{sameTree}
 use Rattle.matcher.specs.Template.{hole}
 use Rattle.matcher.specs.Places.{proper}
@@ -35,23 +35,23 @@ negated p = node (byte Code.not) 0 p none
 -- where the templates stand
 
 start-stands : StandSides wantedBytes startAt starting (hole 0)
-unfolding skim nodeAt hasOperand partCount proper
+unfolding parseTree nodeAt hasOperand partCount proper
 start-stands = record { left = refl; right = refl; holes-left = tt; holes-right = tt }
 
 step-stands : StandSides wantedBytes stepAt (hole 0) (hole 1)
-unfolding skim nodeAt hasOperand partCount proper
+unfolding parseTree nodeAt hasOperand partCount proper
 step-stands = record { left = refl; right = refl; holes-left = tt; holes-right = tt }
 
 next-stands : StandSides wantedBytes nextAt (both (hole 0) (holding (negated (hole 1)))) (hole 2)
-unfolding skim nodeAt hasOperand partCount proper
+unfolding parseTree nodeAt hasOperand partCount proper
 next-stands = record { left = refl; right = refl; holes-left = tt; holes-right = tt }
 
 target-stands : StandSides wantedBytes targetAt (both (hole 0) (holding (hole 1))) (hole 2)
-unfolding skim nodeAt hasOperand partCount proper
+unfolding parseTree nodeAt hasOperand partCount proper
 target-stands = record { left = refl; right = refl; holes-left = tt; holes-right = tt }
 
 kept-stands : StandSides wantedBytes keptAt (both (hole 0) (hole 1)) (hole 0)
-unfolding skim nodeAt hasOperand partCount proper
+unfolding parseTree nodeAt hasOperand partCount proper
 kept-stands = record { left = refl; right = refl; holes-left = tt; holes-right = tt }
 
 -- what comes of the match
