@@ -21,6 +21,7 @@ use Rattle.report.specs.declared.verdict.Verdict.{Verdict}
 use Rattle.report.proofs.Ways.{short-code, short-bytes}
 use Rattle.checker.specs.Answer.{judged, answered, verdict}
 use Rattle.checker.specs.Promise.{TrueInEveryRun, Promise}
+use Rattle.checker.proofs.Uncut.{verdict-uncut}
 
 fault-code : (f : Fault) → codeOf f ≢ 0
 unfolding codeOf
@@ -59,7 +60,7 @@ module _ (s : List ℕ) where
   pub promised : (b : List ℕ) (v : Verdict) (c : ℕ) (after : List ℕ) → v ≡ verdict s → c ≡ codeFor v b → after ≡ bytesFor v b → Promise s b c after
   promised b v c after e f g =
       let q : c ≡ codeFor (verdict s) b = f ∙ ap (λ (w : Verdict). codeFor w b) e in
-      record { returned = q; written = g ∙ ap (λ (w : Verdict). bytesFor w b) e; accepted = λ h. accepted-true b (sym q ∙ h) }
+      record { returned = q; written = g ∙ ap (λ (w : Verdict). bytesFor w b) e; accepted = λ h. accepted-true b (sym q ∙ h); uncut = verdict-uncut s }
 
   -- a buffer that is too short: the answer is 1 whatever the image holds
   pub promised-short : (b : List ℕ) → length b < size → Promise s b 1 b

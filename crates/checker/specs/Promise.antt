@@ -5,8 +5,10 @@ use Prim.Native.Nat.{ℕ}
 use Rattle.logic.specs.EveryRun.{EveryRun}
 use Rattle.outline.specs.Verdict.{Image}
 use Rattle.content.specs.Image.{read, decode}
+use Rattle.report.specs.Fields.{fieldsOf}
 use Rattle.report.specs.Output.{codeFor, bytesFor}
 use Rattle.checker.specs.Answer.{verdict}
+use Rattle.checker.specs.Uncut.{Uncut}
 
 -- the image says what `content` has, and after every finite list of steps of that program, refused ones among them, each thread's assertion at its point is true
 pub record TrueInEveryRun (image : List ℕ) : Type 0 where
@@ -22,3 +24,5 @@ pub record Promise (image buffer : List ℕ) (code : ℕ) (after : List ℕ) : T
   pub written : after ≡ bytesFor (verdict image) buffer
   -- accepted
   pub accepted : code ≡ 0 → TrueInEveryRun image
+  -- the record and the line of text have each number of the verdict whole
+  pub uncut : Uncut (fieldsOf (verdict image))
