@@ -36,11 +36,11 @@ FewPoints P = (t : ℕ) → Within (P .threads) t → P .points t ≤ Limits.poi
 
 module _ (P : Program) (few-threads : P .threads ≤ Limits.threads) (few-points : FewPoints P) where
   own-few : (t k : ℕ) (x : Instr) → length (own P t k x) ≤ 2
-  own-few t k (act c) = omega arith
+  own-few t k (act A ns) = omega arith
   own-few t k (branch e a) = omega arith
 
   acting-few : (u j t k : ℕ) (x : Instr) → length (acting P u j t k x) ≤ 1
-  acting-few u j t k (act c) = omega arith
+  acting-few u j t k (act A ns) = omega arith
   acting-few u j t k (branch e a) = omega arith
 
   actions-few : (u j t : ℕ) → Within (P .threads) t → length (actions P u j t) ≤ Limits.points

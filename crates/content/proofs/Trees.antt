@@ -31,12 +31,12 @@ use Rattle.bodies.specs.Line.{sortAt, sortedBy}
 use Rattle.trees.specs.ToTree.{toTree}
 use Rattle.trees.specs.Place as Place
 use Rattle.certificate.specs.FitT as FitT
-use Rattle.certificate.specs.FitT.{Said, said, acting}
+use Rattle.certificate.specs.FitT.{TreeConclusion, concluded, acting}
 use Rattle.content.specs.Formula.{formula}
 use Rattle.content.specs.Program.{instr, pointCount, programOf, outlineNumber, outlineOf}
 use Rattle.content.specs.Certificate.{left, right, saying, lineBody, certificateOf}
 use Rattle.content.specs.Places.{formulaAt, lineIn, actingOf}
-use Rattle.content.specs.Trees.{treeAt, formNumber, saidAt, actingAt}
+use Rattle.content.specs.Trees.{treeAt, formNumber, concludedAt, actingAt}
 use Rattle.content.proofs.Inverse.{and-true, within-true, every-at}
 use Rattle.content.proofs.Instr.{instruction-there}
 use Rattle.content.proofs.Checked.{Checks}
@@ -79,11 +79,11 @@ module _ (s : List ℕ) (z : Sizes) (c : Checks z (bodies s)) where
         let y = within-true 0 0 (getD b 2 0) (h .1) in
         (omega (arith, x .1), omega (arith, y .1))
 
-    abbrev says : ℕ → ℕ → ℕ → Tree → Tree → Said
+    abbrev says : ℕ → ℕ → ℕ → Tree → Tree → TreeConclusion
     says f t k u v = record { form = f; thread = t; point = k; left = u; right = v }
 
     by-form : (f : Form) → placed z l f b ≡ true → sortedBy l f (left b) ≡ true → sortedBy l f (right b) ≡ true
-        → said (saying l f b) ≡ says (formNumber f) (getD b 1 0) (getD b 2 0) (treeAt s (formulaAt s (left b))) (treeAt s (formulaAt s (right b)))
+        → concluded (saying l f b) ≡ says (formNumber f) (getD b 1 0) (getD b 2 0) (treeAt s (formulaAt s (left b))) (treeAt s (formulaAt s (right b)))
     unfolding saying placed sortedBy sortAt
     by-form Triple e p q =
         let h = sides-are Codes.assertion (outlined-fine z l c (left b) p .0) (outlined-fine z l c (right b) q .0) in
@@ -98,7 +98,7 @@ module _ (s : List ℕ) (z : Sizes) (c : Checks z (bodies s)) where
         ap₂ (λ (u v : Tree). says FitT.inclusion 0 0 u v) (h .0) (h .1) ∙ ap₂ (λ (t k : ℕ). says FitT.inclusion t k (treeAt s (formulaAt s (left b))) (treeAt s (formulaAt s (right b)))) (sym (g .0)) (sym (g .1))
     by-form Unlisted e p q = absurd (true≢false (sym e))
 
-    pub line-is : said (certificateOf z l .line n .says) ≡ saidAt s (lineIn s b)
+    pub line-is : concluded (certificateOf z l .line n .says) ≡ concludedAt s (lineIn s b)
     unfolding lineIn
     line-is = by-form (formOf (getD b 0 0)) (numbers-passed z l c n (w .0) (w .1) .0) (sorted-passed z l c n (w .0) (w .1) .0) (sorted-passed z l c n (w .0) (w .1) .1)
 

@@ -88,10 +88,10 @@ module _ (P : Program) (Q : Obligation → Type 0) (h : All Q (obligations P)) w
       (All-right Q (steps P) (interferences P) (All-right Q (starts P) (steps P ++ interferences P) h))) u w)) j b)) t v))) k (omega arith)
 
 -- class 4 has every action, of each kind
-every-action : (P : Program) (u j t k : ℕ) (c : Action) → acting P u j t k (act c) ≡ Obligations.interference u j t k ∷ []
-every-action P u j t k (Machine.assign r f) = refl
-every-action P u j t k (Machine.load a r x) = refl
-every-action P u j t k (Machine.write m x f) = refl
+every-action : (P : Program) (u j t k : ℕ) (A : Access) (ns : List Note) → acting P u j t k (act A ns) ≡ Obligations.interference u j t k ∷ []
+every-action P u j t k none ns = refl
+every-action P u j t k (load a r x) ns = refl
+every-action P u j t k (write m x f) ns = refl
 
 -- what a run keeps
 record Inv (P : Program) (O : Outline) (s : State) : Type 0 where
@@ -162,7 +162,7 @@ module _ (P : Program) (O : Outline) (W : WellFormed P O) (D : Proved P O) where
           kept : (u : ℕ) → Within (P .threads) u → u ≢ t → Derived P (triple t (s .point t) (bothA (O u (s .point u)) (O t (s .point t))) (O u (s .point u)))
           kept u b n =
               let all = rw e at (each-other P Wanted D u (s .point u) t (s .point t) b (inv .point u b) t-in more n) in
-              subst (All Wanted) (every-action P u (s .point u) t (s .point t) c) all .0
+              subst (All Wanted) (every-action P u (s .point u) t (s .point t) A ns) all .0
 
     -- a branch that goes to the point k
     goes : (k : ℕ) → k < P .points t → True P s (O t k) → Inv P O (withPoint s t k)

@@ -30,11 +30,11 @@ use Rattle.program.specs.Header.{startValues}
 use Rattle.matcher.specs.Places.{takenOf}
 use Rattle.matcher.specs.declared.bind.Bind.{Bind}
 use Rattle.certificate.specs.FitT as FitT
-use Rattle.certificate.specs.FitT.{Said, formOf, holesFrom, orElse, keepsT, sideT, operationT}
+use Rattle.certificate.specs.FitT.{TreeConclusion, formOf, holesFrom, orElse, keepsT, sideT, operationT}
 use Rattle.content.specs.Trees.{actingAt}
 use Rattle.content.specs.declared.acting.Acting.{Acting}
 use Rattle.rulebook.specs.Listed.{sideNumber}
-use Rattle.conclusions.specs.Conclusion.{saidAt, conclusionsFrom}
+use Rattle.conclusions.specs.Conclusion.{concludedAt, conclusionsFrom}
 use Rattle.sides.specs.Side.{holeOf, numberIn, treeOf, keeps, isWith, storedBy, isStart}
 use Rattle.sides.specs.Asked.{assignedBy, loadedBy, ofInstruction, implicationsOf, ofNames, asked}
 use Rattle.conclusions.specs.declared.conclusion.Conclusion.{Conclusion}
@@ -87,18 +87,18 @@ module _ (s : List ℕ) (b : Bind) where
       go n false e = refl
 
 module _ (s : List ℕ) (b : Bind) (a : Acting) (c : Conclusion) (p : Premises) (few : p .count ≤ Limits.premises) where
-  abbrev vs : List Said
-  vs = map (saidAt s) (conclusionsFrom p (p .count) 0)
+  abbrev vs : List TreeConclusion
+  vs = map (concludedAt s) (conclusionsFrom p (p .count) 0)
 
   abbrev holds : Rule → Bool
-  holds n = all (sideT Limits.values (startOf s) (actingAt s a) (holesFrom (takenOf s b)) (saidAt s c) vs) (row n .sides)
+  holds n = all (sideT Limits.values (startOf s) (actingAt s a) (holesFrom (takenOf s b)) (concludedAt s c) vs) (row n .sides)
 
   -- the rule's row allows the operation
   abbrev allowed : Rule → Bool
   allowed n = operationT Limits.values (startOf s) (actingAt s a) (formOf (row n .says)) (row n .operations)
 
   -- the line's premises, as implications
-  table-is : (n : ℕ) → p .count ≡ n → n ≤ Limits.premises → map FitT.impOf (map (saidAt s) (conclusionsFrom p n 0)) ≡ premisesOf s (implicationsOf c p)
+  table-is : (n : ℕ) → p .count ≡ n → n ≤ Limits.premises → map FitT.impOf (map (concludedAt s) (conclusionsFrom p n 0)) ≡ premisesOf s (implicationsOf c p)
   unfolding implicationsOf premisesFrom impsFrom impOf
   table-is zero e h = rw e
   table-is (suc zero) e h = rw e
@@ -107,7 +107,7 @@ module _ (s : List ℕ) (b : Bind) (a : Acting) (c : Conclusion) (p : Premises) 
   table-is (suc (suc (suc (suc zero)))) e h = rw e
   table-is (suc (suc (suc (suc (suc n))))) e h = absurd (omega arith)
 
-  line-is : FitT.impOf (saidAt s c) ≡ lineOf s (implicationsOf c p)
+  line-is : FitT.impOf (concludedAt s c) ≡ lineOf s (implicationsOf c p)
   unfolding implicationsOf impOf
   line-is = refl
 
