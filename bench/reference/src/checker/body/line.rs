@@ -1,0 +1,67 @@
+//! A certificate line: rule, place, two formulas, premises.
+
+use super::outline::startless_assertion;
+use super::{demand, formula_numbered, numbers, Read, LENGTH, RANGE, SORT};
+use crate::checker::rules::Form;
+use crate::formula::{Assertion, Formula, Interval};
+use crate::image::{Line, Statement, Thread};
+use std::rc::Rc;
+
+const FIXED_BYTES: usize = 8;
+const MOST_PREMISES: u8 = 4;
+
+/// Reads the line with this number, counted from 1.
+pub fn read(body: &[u8], number: usize, threads: &[Thread], formulas: &[Formula]) -> Read<Line> {
+    demand(body.len() >= FIXED_BYTES, LENGTH)?;
+    let (fixed, behind) = body.split_at(FIXED_BYTES);
+    let &[rule, thread, point, l0, l1, r0, r1, count] = fixed else {
+        return Err(LENGTH);
+    };
+    demand(behind.len() == 2 * usize::from(count), LENGTH)?;
+
+    let form = Form::of_rule(rule).ok_or(RANGE)?;
+    demand(place_fits(form, thread, point, threads), RANGE)?;
+    let left = formula_numbered(formulas, u16::from_le_bytes([l0, l1]))?;
+    let right = formula_numbered(formulas, u16::from_le_bytes([r0, r1]))?;
+    demand(count <= MOST_PREMISES, RANGE)?;
+    let premises = numbers(behind);
+    demand(premises.iter().all(|&premise| premise != 0 && usize::from(premise) < number), RANGE)?;
+
+    let statement = match form {
+        Form::Triple => Statement::Triple {
+            thread,
+            point,
+            left: startless_assertion(left)?,
+            right: startless_assertion(right)?,
+        },
+        Form::Implication => {
+            Statement::Implication { left: assertion(left)?, right: assertion(right)? }
+        }
+        Form::Inclusion => Statement::Inclusion { left: interval(left)?, right: interval(right)? },
+    };
+    Ok(Line { rule, statement, premises })
+}
+
+/// A triple names an instruction that is no branch; other lines name no place.
+fn place_fits(form: Form, thread: u8, point: u8, threads: &[Thread]) -> bool {
+    if form != Form::Triple {
+        return thread == 0 && point == 0;
+    }
+    let code = usize::from(thread).checked_sub(1).and_then(|index| threads.get(index));
+    let instruction = code.and_then(|code| code.get(usize::from(point)));
+    instruction.is_some_and(|instruction| !instruction.is_branch())
+}
+
+fn assertion(formula: &Formula) -> Read<Rc<Assertion>> {
+    match formula {
+        Formula::Assertion(tree) => Ok(tree.clone()),
+        _ => Err(SORT),
+    }
+}
+
+fn interval(formula: &Formula) -> Read<Rc<Interval>> {
+    match formula {
+        Formula::Interval(tree) => Ok(tree.clone()),
+        _ => Err(SORT),
+    }
+}

@@ -1,0 +1,68 @@
+//! Which lines of a certificate are justified.
+
+mod actions;
+mod implications;
+mod inclusions;
+mod loads;
+mod parts;
+mod rows;
+mod stores;
+mod structure;
+mod swaps;
+mod table;
+mod triples;
+
+use crate::image::{Image, Line, Statement};
+
+/// What kind of statement a rule concludes.
+#[derive(Clone, Copy, Debug, PartialEq, Eq)]
+pub enum Form {
+    Triple,
+    Implication,
+    Inclusion,
+}
+
+impl Form {
+    /// The form of a rule's lines; none for a rule that is not listed.
+    pub fn of_rule(rule: u8) -> Option<Form> {
+        match rule {
+            1..=16 => Some(Form::Triple),
+            20..=27 => Some(Form::Implication),
+            30..=46 => Some(Form::Inclusion),
+            _ => None,
+        }
+    }
+}
+
+/// Whether a line has the shape of its rule: `None` and `Some(false)` both say no.
+/// `None` arises where a part is missing before anything can be compared.
+type Fit = Option<bool>;
+
+/// For each line whether it is justified.
+pub fn justified_lines(image: &Image) -> Vec<bool> {
+    let mut justified: Vec<bool> = Vec::new();
+    for line in &image.lines {
+        let rests_well = line.premises.iter().all(|&number| justified[usize::from(number) - 1]);
+        justified.push(rests_well && fits(image, line));
+    }
+    justified
+}
+
+/// Whether the line follows from what its premises say, by its rule.
+pub fn fits(image: &Image, line: &Line) -> bool {
+    let said = |&number: &u16| &image.lines[usize::from(number) - 1].statement;
+    let premises: Vec<&Statement> = line.premises.iter().map(said).collect();
+    let fit = match &line.statement {
+        Statement::Triple { thread, point, left, right } => {
+            let action =
+                image.program.instruction(*thread, *point).expect("a triple has an instruction");
+            let triple = triples::Triple { thread: *thread, point: *point, action, left, right };
+            triples::fits(line.rule, &triple, &premises)
+        }
+        Statement::Implication { left, right } => {
+            implications::fits(line.rule, left, right, &premises, &image.program.header)
+        }
+        Statement::Inclusion { left, right } => inclusions::fits(line.rule, left, right, &premises),
+    };
+    fit == Some(true)
+}
