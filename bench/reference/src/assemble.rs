@@ -2,36 +2,12 @@
 //!
 //! Equal formulas become one formula record and equal lines one line record.
 
-use crate::checker::frames;
 use crate::formula::encode::Encode;
+use crate::image::written::{self, Record, Written};
 use crate::image::{Header, Instruction, Program, Statement, Thread};
 use crate::proof::Proof;
 use std::collections::HashMap;
 use std::rc::Rc;
-
-/// One record to be written.
-#[derive(Clone, Debug, PartialEq, Eq)]
-pub struct Record {
-    pub kind: u16,
-    pub body: Vec<u8>,
-}
-
-impl Record {
-    pub fn new(kind: u16, body: impl Into<Vec<u8>>) -> Record {
-        Record { kind, body: body.into() }
-    }
-
-    /// The record's bytes, its length field first.
-    pub fn bytes(&self) -> Vec<u8> {
-        let length = (self.body.len() + 2) as u16;
-        [&length.to_le_bytes()[..], &self.kind.to_le_bytes(), &self.body].concat()
-    }
-}
-
-/// The bytes of an image with these records.
-pub fn image_bytes(records: &[Record]) -> Vec<u8> {
-    records.iter().flat_map(Record::bytes).collect()
-}
 
 /// All that an image says.
 #[derive(Clone, Debug, PartialEq, Eq)]
@@ -44,119 +20,104 @@ pub struct Plan {
 }
 
 impl Plan {
+    /// The image as it is written.
+    pub fn written(&self) -> Written {
+        let mut image = Assembly::of(&self.program);
+        for proof in &self.spare {
+            image.proof(proof);
+        }
+        for proof in &self.obligations {
+            let line = proof.as_ref().map_or(0, |proof| image.proof(proof));
+            image.obligation(line);
+        }
+        image.written()
+    }
+
     /// The records of the image, in their order.
     pub fn records(&self) -> Vec<Record> {
-        let mut tables = Tables::default();
-        let threads = self.program.threads.iter().map(|thread| tables.thread(thread));
-        let threads: Vec<Record> = threads.collect();
-        let points = self.program.outline.iter().flatten();
-        let outline = points.flat_map(|tree| tables.formula(tree.encode()).to_le_bytes());
-        let outline = Record::new(frames::OUTLINE, outline.collect::<Vec<u8>>());
-        for proof in &self.spare {
-            tables.line(proof);
-        }
-        let named = self
-            .obligations
-            .iter()
-            .flat_map(|proof| proof.as_ref().map_or(0, |proof| tables.line(proof)).to_le_bytes());
-        let obligations = Record::new(frames::OBLIGATIONS, named.collect::<Vec<u8>>());
-
-        let mut records = vec![header(&self.program.header)];
-        records.extend(tables.formulas.records(frames::FORMULA));
-        records.extend(threads);
-        records.push(outline);
-        records.extend(tables.lines.records(frames::LINE));
-        records.push(obligations);
-        records
+        self.written().records()
     }
 
     /// The bytes of the image.
     pub fn bytes(&self) -> Vec<u8> {
-        image_bytes(&self.records())
+        self.written().bytes()
     }
 }
 
-fn header(header: &Header) -> Record {
-    let counts = header.counts;
-    let front = [counts.threads, counts.words, counts.registers];
-    Record::new(frames::HEADER, [&front[..], &header.start, &header.owners].concat())
+/// An image in the making: a formula or a line gets its number where it first occurs.
+pub struct Assembly {
+    written: Written,
+    formulas: HashMap<Vec<u8>, u16>,
+    lines: HashMap<written::Line, u16>,
 }
 
-/// Bodies of one kind, each once, numbered from 1.
-#[derive(Default)]
-struct Table {
-    bodies: Vec<Vec<u8>>,
-    numbers: HashMap<Vec<u8>, u16>,
-}
-
-impl Table {
-    fn number(&mut self, body: Vec<u8>) -> u16 {
-        if let Some(&number) = self.numbers.get(&body) {
-            return number;
+impl Assembly {
+    /// An image of this program and outline, without lines.
+    pub fn of(program: &Program) -> Assembly {
+        let mut image = Assembly::with(program.header.clone());
+        for thread in &program.threads {
+            image.thread(thread);
         }
-        self.bodies.push(body.clone());
-        let number = self.bodies.len() as u16;
-        self.numbers.insert(body, number);
-        number
+        for assertion in program.outline.iter().flatten() {
+            let number = image.formula(assertion.encode());
+            image.written.outline.push(number);
+        }
+        image
     }
 
-    fn records(self, kind: u16) -> impl Iterator<Item = Record> {
-        self.bodies.into_iter().map(move |body| Record { kind, body })
+    fn with(header: Header) -> Assembly {
+        let written = Written {
+            header,
+            formulas: Vec::new(),
+            threads: Vec::new(),
+            outline: Vec::new(),
+            lines: Vec::new(),
+            obligations: Vec::new(),
+        };
+        Assembly { written, formulas: HashMap::new(), lines: HashMap::new() }
     }
-}
 
-#[derive(Default)]
-struct Tables {
-    formulas: Table,
-    lines: Table,
-}
+    pub fn written(self) -> Written {
+        self.written
+    }
 
-impl Tables {
     fn formula(&mut self, bytes: Vec<u8>) -> u16 {
-        self.formulas.number(bytes)
+        *self.formulas.entry(bytes).or_insert_with_key(|bytes| {
+            self.written.formulas.push(bytes.clone());
+            self.written.formulas.len() as u16
+        })
     }
 
-    fn thread(&mut self, thread: &Thread) -> Record {
-        let mut body = vec![thread.len() as u8 + 1];
-        for instruction in thread {
-            body.extend(self.instruction(instruction));
-        }
-        Record::new(frames::THREAD, body)
+    fn thread(&mut self, thread: &Thread) {
+        let code = thread.iter().map(|instruction| self.instruction(instruction)).collect();
+        self.written.threads.push(code);
     }
 
-    /// The five bytes of an instruction.
-    fn instruction(&mut self, instruction: &Instruction) -> [u8; 5] {
-        let (operation, a, b, formula) = match instruction {
-            Instruction::Assign { register, value } => (0, *register, 0, Some(value.encode())),
-            Instruction::Load { register, word, acquiring } => {
-                (1 + u8::from(*acquiring), *register, *word, None)
-            }
-            Instruction::Store { word, value, releasing } => {
-                (3 + u8::from(*releasing), *word, 0, Some(value.encode()))
-            }
-            Instruction::Swap { word, value } => (5, *word, 0, Some(value.encode())),
-            Instruction::Branch { test, target } => (6, *target, 0, Some(test.encode())),
-        };
-        let number = formula.map_or(0, |bytes| self.formula(bytes));
-        let [low, high] = number.to_le_bytes();
-        [operation, a, b, low, high]
+    fn instruction(&mut self, instruction: &Instruction) -> written::Instruction {
+        let operand = instruction.operand();
+        instruction.fields(operand.map_or(0, |formula| self.formula(formula.encode())))
     }
 
-    /// The number of the line, which is written if it is new; premises come first.
-    fn line(&mut self, proof: &Proof) -> u16 {
-        let premises: Vec<u16> = proof.premises.iter().map(|premise| self.line(premise)).collect();
-        let (place, left, right) = match &proof.statement {
-            Statement::Triple { thread, point, left, right } => {
-                ([*thread, *point], left.encode(), right.encode())
-            }
-            Statement::Implication { left, right } => ([0, 0], left.encode(), right.encode()),
-            Statement::Inclusion { left, right } => ([0, 0], left.encode(), right.encode()),
-        };
-        let mut body = vec![proof.rule, place[0], place[1]];
-        body.extend(self.formula(left).to_le_bytes());
-        body.extend(self.formula(right).to_le_bytes());
-        body.push(premises.len() as u8);
-        body.extend(premises.iter().flat_map(|number| number.to_le_bytes()));
-        self.lines.number(body)
+    /// The number of a proof's last line; premises come first.
+    fn proof(&mut self, proof: &Proof) -> u16 {
+        let premises = proof.premises.iter().map(|premise| self.proof(premise)).collect();
+        self.line(proof.rule, &proof.statement, premises)
+    }
+
+    /// The number of the line, which is written if it is new.
+    pub fn line(&mut self, rule: u8, statement: &Statement, premises: Vec<u16>) -> u16 {
+        let (thread, point) = statement.place();
+        let (left, right) = statement.sides();
+        let (left, right) = (self.formula(left.encode()), self.formula(right.encode()));
+        let line = written::Line { rule, thread, point, left, right, premises };
+        *self.lines.entry(line).or_insert_with_key(|line| {
+            self.written.lines.push(line.clone());
+            self.written.lines.len() as u16
+        })
+    }
+
+    /// The line of the next obligation, 0 for none.
+    pub fn obligation(&mut self, line: u16) {
+        self.written.obligations.push(line);
     }
 }

@@ -50,20 +50,12 @@ pub fn line(rule: u8, statement: Statement, premises: &[&Lemma]) -> Lemma {
 impl Proof {
     /// Left and right of a triple or an implication.
     pub fn assertions(&self) -> (&A, &A) {
-        match &self.statement {
-            Statement::Triple { left, right, .. } | Statement::Implication { left, right } => {
-                (left, right)
-            }
-            Statement::Inclusion { .. } => panic!("an inclusion has no assertions"),
-        }
+        self.statement.assertions()
     }
 
     /// Left and right of an inclusion.
     pub fn intervals(&self) -> (&I, &I) {
-        match &self.statement {
-            Statement::Inclusion { left, right } => (left, right),
-            _ => panic!("only an inclusion has intervals"),
-        }
+        self.statement.intervals()
     }
 }
 

@@ -6,6 +6,7 @@ pub mod atoms;
 pub mod build;
 pub mod encode;
 pub mod evaluate;
+pub mod nesting;
 pub mod parse;
 pub mod replace;
 mod show;

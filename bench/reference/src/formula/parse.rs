@@ -3,11 +3,9 @@
 //! Bytes are taken from the left, each is judged when it is taken, and the first
 //! fault ends the reading; so the fault reported is the first from the left.
 
+use super::nesting::NESTING;
 use super::{Assertion, Formula, Interval, Sort, Test, Value, RANGE};
 use std::rc::Rc;
-
-/// The deepest nesting of a formula; one without a sub-formula has 1.
-pub const NESTING: usize = 16;
 
 /// Why the bytes are no formula.
 #[derive(Clone, Copy, Debug, PartialEq, Eq)]

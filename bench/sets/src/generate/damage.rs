@@ -1,8 +1,8 @@
 //! Damage to the records and bytes of an image.
 
 use super::random::Random;
-use reference::assemble::{image_bytes, Record};
 use reference::checker::frames;
+use reference::image::written::{image_bytes, Record};
 
 /// The bytes of the records with one or two faults put in.
 pub fn damaged(random: &mut Random, mut records: Vec<Record>) -> Vec<u8> {

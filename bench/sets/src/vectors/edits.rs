@@ -2,8 +2,8 @@
 
 use super::tour::{self, Spare, SPARE_FORMULAS};
 use super::Case;
-use reference::assemble::{image_bytes, Record};
 use reference::checker::frames::{FORMULA, LINE};
+use reference::image::written::{image_bytes, Record};
 
 /// The tour image, to be changed and turned into a case.
 #[derive(Clone)]

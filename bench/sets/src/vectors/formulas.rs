@@ -1,9 +1,9 @@
 //! Formula byte strings, well formed and not, and small images that hold them.
 
 use super::{nesting, Case};
-use reference::assemble::{image_bytes, Record};
 use reference::checker::frames::{FORMULA, HEADER, LINE, OBLIGATIONS, OUTLINE, THREAD};
 use reference::formula::parse::Counts;
+use reference::image::written::{image_bytes, Record};
 
 /// Formula bytes and the header counts that bound their numbers.
 #[derive(Clone, Debug, PartialEq, Eq)]

@@ -2,9 +2,9 @@
 //! lines of all three forms, 46 obligations.
 
 use crate::generate::harness;
-use reference::assemble::Record;
 use reference::formula::parse::Counts;
 use reference::formula::{Assertion, Interval, Test, Value};
+use reference::image::written::Record;
 use reference::image::{Header, Instruction, Thread};
 use reference::proof::{implies, included, seen};
 use std::rc::Rc;

@@ -2,11 +2,12 @@
 
 use super::deep::chops;
 use super::{MOST_BYTES, MOST_LINES};
-use reference::assemble::{image_bytes, Plan, Record};
+use reference::assemble::Plan;
 use reference::checker::frames;
 use reference::checker::obligations::{duties, Duty};
 use reference::formula::parse::Counts;
 use reference::formula::{Assertion, Interval, Test, Value};
+use reference::image::written::{image_bytes, Record};
 use reference::image::{Header, Instruction, Program, Thread};
 use reference::proof::{around, consequence, implies, included, seen, triple, Lemma};
 use std::rc::Rc;

@@ -7,8 +7,9 @@ mod matching;
 mod rows;
 mod tables;
 
-use reference::assemble::{image_bytes, Plan, Record};
+use reference::assemble::Plan;
 use reference::checker::frames;
+use reference::image::written::{image_bytes, Record};
 use sets::examples::message_passing;
 use sets::vectors::images::SMALL;
 

@@ -1,30 +1,24 @@
 //! A certificate line: rule, place, two formulas, premises.
 
 use super::outline::startless_assertion;
-use super::{demand, formula_numbered, numbers, Read, LENGTH, RANGE, SORT};
+use super::{demand, formula_numbered, Read, LENGTH, RANGE, SORT};
 use crate::checker::rules::Form;
 use crate::formula::{Assertion, Formula, Interval};
-use crate::image::{Line, Statement, Thread};
+use crate::image::{written, Line, Statement, Thread};
 use std::rc::Rc;
 
-const FIXED_BYTES: usize = 8;
-const MOST_PREMISES: u8 = 4;
+const MOST_PREMISES: usize = 4;
 
 /// Reads the line with this number, counted from 1.
 pub fn read(body: &[u8], number: usize, threads: &[Thread], formulas: &[Formula]) -> Read<Line> {
-    demand(body.len() >= FIXED_BYTES, LENGTH)?;
-    let (fixed, behind) = body.split_at(FIXED_BYTES);
-    let &[rule, thread, point, l0, l1, r0, r1, count] = fixed else {
-        return Err(LENGTH);
-    };
-    demand(behind.len() == 2 * usize::from(count), LENGTH)?;
+    let written::Line { rule, thread, point, left, right, premises } =
+        written::Line::read(body).ok_or(LENGTH)?;
 
     let form = Form::of_rule(rule).ok_or(RANGE)?;
     demand(place_fits(form, thread, point, threads), RANGE)?;
-    let left = formula_numbered(formulas, u16::from_le_bytes([l0, l1]))?;
-    let right = formula_numbered(formulas, u16::from_le_bytes([r0, r1]))?;
-    demand(count <= MOST_PREMISES, RANGE)?;
-    let premises = numbers(behind);
+    let left = formula_numbered(formulas, left)?;
+    let right = formula_numbered(formulas, right)?;
+    demand(premises.len() <= MOST_PREMISES, RANGE)?;
     demand(premises.iter().all(|&premise| premise != 0 && usize::from(premise) < number), RANGE)?;
 
     let statement = match form {

@@ -85,11 +85,6 @@ fn sole<'a, T>(
     Ok(read_records.pop().expect("the frames hold each kind"))
 }
 
-/// The numbers of a body that consists of 16-bit numbers.
-fn numbers(body: &[u8]) -> Vec<u16> {
-    body.chunks_exact(2).map(|pair| u16::from_le_bytes([pair[0], pair[1]])).collect()
-}
-
 /// The formula with this number, counted from 1.
 fn formula_numbered(formulas: &[Formula], number: u16) -> Read<&Formula> {
     usize::from(number).checked_sub(1).and_then(|index| formulas.get(index)).ok_or(RANGE)

@@ -1,9 +1,9 @@
 //! The outline: a formula number per point, threads in order.
 
-use super::{demand, formula_numbered, numbers, Read, LENGTH, SORT};
+use super::{demand, formula_numbered, Read, LENGTH, SORT};
 use crate::formula::atoms::{Atom, Atoms};
 use crate::formula::{Assertion, Formula};
-use crate::image::Thread;
+use crate::image::{written, Thread};
 use std::rc::Rc;
 
 /// Reads the outline as one list of assertions per thread.
@@ -13,8 +13,9 @@ pub fn read(
     formulas: &[Formula],
 ) -> Read<Vec<Vec<Rc<Assertion>>>> {
     let points: usize = threads.iter().map(|thread| thread.len() + 1).sum();
-    demand(body.len() == 2 * points, LENGTH)?;
-    let named = numbers(body)
+    let numbers = written::numbers(body).ok_or(LENGTH)?;
+    demand(numbers.len() == points, LENGTH)?;
+    let named = numbers
         .into_iter()
         .map(|number| formula_numbered(formulas, number))
         .collect::<Read<Vec<&Formula>>>()?;

@@ -3,24 +3,19 @@
 use super::{demand, formula_numbered, Context, Read, LENGTH, OWNER, RANGE, SORT};
 use crate::formula::atoms::{Atom, Atoms};
 use crate::formula::{Formula, Test, Value};
-use crate::image::{Header, Instruction, Thread};
+use crate::image::{written, Header, Instruction, Thread};
 use std::rc::Rc;
-
-const INSTRUCTION_BYTES: usize = 5;
 
 /// Reads the record of the thread with this number, counted from 1.
 pub fn read(body: &[u8], thread: usize, context: &Context) -> Read<Thread> {
-    let (&points, rest) = body.split_first().ok_or(LENGTH)?;
-    // A count of 0 is no count of points, but for the length it is taken as 1.
-    let instructions = usize::from(points.max(1)) - 1;
-    demand(rest.len() == INSTRUCTION_BYTES * instructions, LENGTH)?;
+    let code = written::instructions(body).ok_or(LENGTH)?;
+    let points = body[0];
     demand((1..=8).contains(&points), RANGE)?;
 
-    let raw: Vec<Raw> = rest.chunks_exact(INSTRUCTION_BYTES).map(Raw::new).collect();
-    each(&raw, |raw| raw.check_numbers(points, context))?;
-    let thread_code = each(&raw, |raw| raw.instruction(context.formulas))?;
-    each(&thread_code, |instruction| check_owner(instruction, thread, context.header))?;
-    Ok(thread_code)
+    each(&code, |fields| fields.check_numbers(points, context))?;
+    let instructions = each(&code, |fields| fields.instruction(context.formulas))?;
+    each(&instructions, |instruction| check_owner(instruction, thread, context.header))?;
+    Ok(instructions)
 }
 
 /// Applies a check to all instructions before the next check begins.
@@ -28,20 +23,7 @@ fn each<A, B>(items: &[A], check: impl Fn(&A) -> Read<B>) -> Read<Vec<B>> {
     items.iter().map(check).collect()
 }
 
-/// The fields of an instruction as written.
-struct Raw {
-    operation: u8,
-    a: u8,
-    b: u8,
-    formula: u16,
-}
-
-impl Raw {
-    fn new(bytes: &[u8]) -> Raw {
-        let formula = u16::from_le_bytes([bytes[3], bytes[4]]);
-        Raw { operation: bytes[0], a: bytes[1], b: bytes[2], formula }
-    }
-
+impl written::Instruction {
     /// Code 6: every field is in its range, every unused field is 0.
     fn check_numbers(&self, points: u8, context: &Context) -> Read<()> {
         let counts = context.header.counts;
@@ -102,15 +84,7 @@ fn asks_registers_only(tree: &impl Atoms) -> bool {
 fn check_owner(instruction: &Instruction, thread: usize, header: &Header) -> Read<()> {
     let foreign = |register: u8| usize::from(header.owners[usize::from(register) - 1]) != thread;
     let foreign_atom = |atom: Atom| matches!(atom, Atom::Register(register) if foreign(register));
-    let fault = match instruction {
-        Instruction::Assign { register, value } => {
-            foreign(*register) || value.as_ref().has_atom(foreign_atom)
-        }
-        Instruction::Load { register, .. } => foreign(*register),
-        Instruction::Store { value, .. } | Instruction::Swap { value, .. } => {
-            value.as_ref().has_atom(foreign_atom)
-        }
-        Instruction::Branch { test, .. } => test.as_ref().has_atom(foreign_atom),
-    };
-    demand(!fault, OWNER)
+    let result = instruction.result().is_some_and(foreign);
+    let operand = instruction.operand().is_some_and(|formula| formula.has_atom(foreign_atom));
+    demand(!result && !operand, OWNER)
 }

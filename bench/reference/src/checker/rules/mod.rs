@@ -5,14 +5,14 @@ mod implications;
 mod inclusions;
 mod loads;
 mod parts;
-mod rows;
+pub mod rows;
 mod stores;
 mod structure;
 mod swaps;
-mod table;
-mod triples;
+pub mod table;
+pub mod triples;
 
-use crate::image::{Image, Line, Statement};
+use crate::image::{Image, Line, Program, Statement};
 
 /// What kind of statement a rule concludes.
 #[derive(Clone, Copy, Debug, PartialEq, Eq)]
@@ -52,17 +52,26 @@ pub fn justified_lines(image: &Image) -> Vec<bool> {
 pub fn fits(image: &Image, line: &Line) -> bool {
     let said = |&number: &u16| &image.lines[usize::from(number) - 1].statement;
     let premises: Vec<&Statement> = line.premises.iter().map(said).collect();
-    let fit = match &line.statement {
+    follows(&image.program, line.rule, &line.statement, &premises)
+}
+
+/// Whether the statement follows from the premises by the rule, in this program.
+pub fn follows(
+    program: &Program,
+    rule: u8,
+    statement: &Statement,
+    premises: &[&Statement],
+) -> bool {
+    let fit = match statement {
         Statement::Triple { thread, point, left, right } => {
-            let action =
-                image.program.instruction(*thread, *point).expect("a triple has an instruction");
+            let action = program.instruction(*thread, *point).expect("a triple has an instruction");
             let triple = triples::Triple { thread: *thread, point: *point, action, left, right };
-            triples::fits(line.rule, &triple, &premises)
+            triples::fits(rule, &triple, premises)
         }
         Statement::Implication { left, right } => {
-            implications::fits(line.rule, left, right, &premises, &image.program.header)
+            implications::fits(rule, left, right, premises, &program.header)
         }
-        Statement::Inclusion { left, right } => inclusions::fits(line.rule, left, right, &premises),
+        Statement::Inclusion { left, right } => inclusions::fits(rule, left, right, premises),
     };
     fit == Some(true)
 }

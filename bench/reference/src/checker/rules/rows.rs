@@ -6,17 +6,23 @@ use crate::formula::evaluate::Environment;
 use crate::formula::{Test, RANGE};
 
 /// More rows than this make a line unjustified.
-const MOST_ROWS: usize = 4096;
+pub const MOST_ROWS: usize = 4096;
 
 /// Whether the right test is true in every row in which the left one is.
 pub fn implies_by_rows(left: &Test, right: &Test) -> Fit {
     let names = names_of(left, right);
-    let rows = row_count(&names)?;
-    let holds_in = |number: usize| {
-        let row = Row::numbered(number, &names);
-        !left.evaluate(&row) || right.evaluate(&row)
-    };
-    Some((0..rows).all(holds_in))
+    if !within_limit(&names) {
+        return None;
+    }
+    let mut row = Row::default();
+    loop {
+        if left.evaluate(&row) && !right.evaluate(&row) {
+            return Some(false);
+        }
+        if !row.advance(&names) {
+            return Some(true);
+        }
+    }
 }
 
 /// The names and flags of both tests, each once.
@@ -33,20 +39,20 @@ fn names_of(left: &Test, right: &Test) -> Vec<Atom> {
 }
 
 /// How many choices there are for one name.
-fn choices(name: Atom) -> usize {
+fn choices(name: Atom) -> u8 {
     match name {
-        Atom::Register(_) | Atom::Word(_) => usize::from(RANGE),
+        Atom::Register(_) | Atom::Word(_) => RANGE,
         Atom::Unsync(_) | Atom::Covered(_) => 2,
         Atom::One(_) | Atom::Start => unreachable!("no test has this atom"),
     }
 }
 
-/// The number of rows; none if there are too many.
-fn row_count(names: &[Atom]) -> Option<usize> {
-    names.iter().try_fold(1, |rows, &name| {
-        let more = rows * choices(name);
-        (more <= MOST_ROWS).then_some(more)
-    })
+/// Whether there are not too many rows.
+fn within_limit(names: &[Atom]) -> bool {
+    let rows = names.iter().try_fold(1_usize, |rows, &name| {
+        rows.checked_mul(usize::from(choices(name))).filter(|&rows| rows <= MOST_ROWS)
+    });
+    rows.is_some()
 }
 
 /// One choice for each name. Numbers of names count from 1; place 0 is not used.
@@ -59,15 +65,27 @@ struct Row {
 }
 
 impl Row {
-    /// The row whose choices are the digits of `number`, one place per name.
-    fn numbered(number: usize, names: &[Atom]) -> Row {
-        let mut row = Row::default();
-        let mut rest = number;
+    /// Goes on to the next row, names counted up like digits; false after the last.
+    fn advance(&mut self, names: &[Atom]) -> bool {
         for &name in names {
-            row.choose(name, (rest % choices(name)) as u8);
-            rest /= choices(name);
+            let next = self.choice(name) + 1;
+            if next < choices(name) {
+                self.choose(name, next);
+                return true;
+            }
+            self.choose(name, 0);
         }
-        row
+        false
+    }
+
+    fn choice(&self, name: Atom) -> u8 {
+        match name {
+            Atom::Register(number) => self.registers[usize::from(number)],
+            Atom::Word(number) => self.words[usize::from(number)],
+            Atom::Unsync(number) => self.unsync[usize::from(number)].into(),
+            Atom::Covered(number) => self.covered[usize::from(number)].into(),
+            Atom::One(_) | Atom::Start => unreachable!("no test has this atom"),
+        }
     }
 
     fn choose(&mut self, name: Atom, choice: u8) {

@@ -6,7 +6,7 @@ use crate::formula::{Assertion, Formula, Test};
 use std::rc::Rc;
 
 /// More distinct leaves than this make a line unjustified.
-const MOST_LEAVES: usize = 10;
+pub const MOST_LEAVES: usize = 10;
 
 /// Whether the line is true in every row in which all premises are.
 pub fn implies_by_table(line: Sides, premises: &[Sides]) -> Fit {
@@ -22,7 +22,7 @@ pub fn implies_by_table(line: Sides, premises: &[Sides]) -> Fit {
 }
 
 /// A formula of which only the truth of its leaves matters.
-enum Proposition {
+pub enum Proposition {
     False,
     Leaf(usize),
     Not(Box<Proposition>),
@@ -32,7 +32,7 @@ enum Proposition {
 
 impl Proposition {
     /// The truth in a row, in which leaf number i has the truth of bit i.
-    fn is_true(&self, row: u32) -> bool {
+    pub fn is_true(&self, row: u32) -> bool {
         match self {
             Proposition::False => false,
             Proposition::Leaf(number) => row >> number & 1 == 1,
@@ -56,9 +56,16 @@ impl Implication {
 
 /// The distinct leaves met so far: formulas 24 and 27, and tests 9 and 10 under 28.
 #[derive(Default)]
-struct Leaves(Vec<Formula>);
+pub struct Leaves(pub Vec<Formula>);
 
 impl Leaves {
+    /// The leaves of an assertion, in the order in which they occur.
+    pub fn of(tree: &Rc<Assertion>) -> Leaves {
+        let mut leaves = Leaves::default();
+        leaves.assertion(tree);
+        leaves
+    }
+
     fn leaf(&mut self, formula: Formula) -> Proposition {
         let known = self.0.iter().position(|leaf| *leaf == formula);
         Proposition::Leaf(known.unwrap_or_else(|| {
@@ -71,7 +78,8 @@ impl Leaves {
         Implication { left: self.assertion(left), right: self.assertion(right) }
     }
 
-    fn assertion(&mut self, tree: &Rc<Assertion>) -> Proposition {
+    /// The assertion as a proposition; leaves that are new are added.
+    pub fn assertion(&mut self, tree: &Rc<Assertion>) -> Proposition {
         match tree.as_ref() {
             Assertion::Sees(..) | Assertion::Start => self.leaf(Formula::Assertion(tree.clone())),
             Assertion::Both(a, b) => and(self.assertion(a), self.assertion(b)),

@@ -2,8 +2,8 @@
 
 use super::{Case, Draft, SMALL};
 use crate::vectors::formulas::long_formula;
-use reference::assemble::Record;
 use reference::checker::frames::{FORMULA, LINE, THREAD};
+use reference::image::written::Record;
 
 pub fn cases() -> Vec<Case> {
     [whole_image(), cut(), lengths(), kinds(), counts_of_kinds()].concat()
