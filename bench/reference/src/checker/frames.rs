@@ -59,7 +59,7 @@ pub fn number_at(bytes: &[u8], place: usize) -> Option<u16> {
 }
 
 /// How many records of a kind an image has at most; 0 for an unknown kind.
-fn most(kind: u16) -> usize {
+pub fn most(kind: u16) -> usize {
     match kind {
         HEADER | OUTLINE | OBLIGATIONS => 1,
         FORMULA => 500,

@@ -52,6 +52,12 @@ impl Interval {
     pub fn either(a: impl Into<Rc<Interval>>, b: impl Into<Rc<Interval>>) -> Interval {
         Interval::Either(a.into(), b.into())
     }
+
+    /// both(one x, [x = v])
+    pub fn one_equal(word: u8, value: impl Into<Rc<Value>>) -> Interval {
+        let equation = Test::equal(Value::Word(word), value);
+        Interval::both(Interval::One(word), Interval::all(equation))
+    }
 }
 
 impl Assertion {

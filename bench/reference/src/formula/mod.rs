@@ -89,4 +89,36 @@ impl Formula {
             Formula::Assertion(_) => Sort::Assertion,
         }
     }
+
+    /// The tree of a value; none for another sort.
+    pub fn value(&self) -> Option<Rc<Value>> {
+        match self {
+            Formula::Value(tree) => Some(tree.clone()),
+            _ => None,
+        }
+    }
+
+    /// The tree of a test; none for another sort.
+    pub fn test(&self) -> Option<Rc<Test>> {
+        match self {
+            Formula::Test(tree) => Some(tree.clone()),
+            _ => None,
+        }
+    }
+
+    /// The tree of an interval; none for another sort.
+    pub fn interval(&self) -> Option<Rc<Interval>> {
+        match self {
+            Formula::Interval(tree) => Some(tree.clone()),
+            _ => None,
+        }
+    }
+
+    /// The tree of an assertion; none for another sort.
+    pub fn assertion(&self) -> Option<Rc<Assertion>> {
+        match self {
+            Formula::Assertion(tree) => Some(tree.clone()),
+            _ => None,
+        }
+    }
 }

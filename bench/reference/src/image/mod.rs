@@ -4,6 +4,7 @@ pub mod written;
 
 use crate::formula::parse::Counts;
 use crate::formula::{Assertion, Formula, Interval, Test, Value};
+use std::ops::RangeInclusive;
 use std::rc::Rc;
 
 /// Counts, start values and owners.
@@ -142,6 +143,10 @@ impl Program {
     /// The instruction at a point of a thread, if there is one.
     pub fn instruction(&self, thread: u8, point: u8) -> Option<&Instruction> {
         self.threads.get(usize::from(thread).checked_sub(1)?)?.get(usize::from(point))
+    }
+
+    pub fn thread_numbers(&self) -> RangeInclusive<u8> {
+        1..=self.threads.len() as u8
     }
 
     /// The assertion at a point of a thread.

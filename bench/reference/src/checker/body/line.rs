@@ -2,12 +2,9 @@
 
 use super::outline::startless_assertion;
 use super::{demand, formula_numbered, Read, LENGTH, RANGE, SORT};
-use crate::checker::rules::Form;
-use crate::formula::{Assertion, Formula, Interval};
+use crate::checker::rules::{Form, MOST_PREMISES};
+use crate::formula::Formula;
 use crate::image::{written, Line, Statement, Thread};
-use std::rc::Rc;
-
-const MOST_PREMISES: usize = 4;
 
 /// Reads the line with this number, counted from 1.
 pub fn read(body: &[u8], number: usize, threads: &[Thread], formulas: &[Formula]) -> Read<Line> {
@@ -29,9 +26,13 @@ pub fn read(body: &[u8], number: usize, threads: &[Thread], formulas: &[Formula]
             right: startless_assertion(right)?,
         },
         Form::Implication => {
+            let assertion = |formula: &Formula| formula.assertion().ok_or(SORT);
             Statement::Implication { left: assertion(left)?, right: assertion(right)? }
         }
-        Form::Inclusion => Statement::Inclusion { left: interval(left)?, right: interval(right)? },
+        Form::Inclusion => {
+            let interval = |formula: &Formula| formula.interval().ok_or(SORT);
+            Statement::Inclusion { left: interval(left)?, right: interval(right)? }
+        }
     };
     Ok(Line { rule, statement, premises })
 }
@@ -44,18 +45,4 @@ fn place_fits(form: Form, thread: u8, point: u8, threads: &[Thread]) -> bool {
     let code = usize::from(thread).checked_sub(1).and_then(|index| threads.get(index));
     let instruction = code.and_then(|code| code.get(usize::from(point)));
     instruction.is_some_and(|instruction| !instruction.is_branch())
-}
-
-fn assertion(formula: &Formula) -> Read<Rc<Assertion>> {
-    match formula {
-        Formula::Assertion(tree) => Ok(tree.clone()),
-        _ => Err(SORT),
-    }
-}
-
-fn interval(formula: &Formula) -> Read<Rc<Interval>> {
-    match formula {
-        Formula::Interval(tree) => Ok(tree.clone()),
-        _ => Err(SORT),
-    }
 }

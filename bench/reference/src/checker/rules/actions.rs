@@ -1,6 +1,6 @@
 //! The operands of the instruction, by the operations that a rule allows.
 
-use crate::formula::{Interval, Test, Value};
+use crate::formula::{Interval, Value};
 use crate::image::Instruction;
 use std::rc::Rc;
 
@@ -13,8 +13,7 @@ pub struct Write<'a> {
 impl Write<'_> {
     /// both(one x, [x = f])
     pub fn settled(&self) -> Interval {
-        let equation = Test::equal(Value::Word(self.word), self.value.clone());
-        Interval::both(Interval::One(self.word), Interval::all(equation))
+        Interval::one_equal(self.word, self.value.clone())
     }
 }
 
@@ -25,14 +24,14 @@ pub struct Load {
 }
 
 impl Instruction {
-    pub(super) fn assignment(&self) -> Option<(u8, &Rc<Value>)> {
+    pub fn assignment(&self) -> Option<(u8, &Rc<Value>)> {
         match self {
             Instruction::Assign { register, value } => Some((*register, value)),
             _ => None,
         }
     }
 
-    pub(super) fn load(&self) -> Option<Load> {
+    pub fn load(&self) -> Option<Load> {
         match self {
             Instruction::Load { register, word, .. } => {
                 Some(Load { register: *register, word: *word })
@@ -42,7 +41,7 @@ impl Instruction {
     }
 
     /// The word of an acquiring load or a swap: the operations that join views.
-    pub(super) fn joined_word(&self) -> Option<u8> {
+    pub fn joined_word(&self) -> Option<u8> {
         match self {
             Instruction::Load { word, acquiring: true, .. } => Some(*word),
             Instruction::Swap { word, .. } => Some(*word),
@@ -50,28 +49,28 @@ impl Instruction {
         }
     }
 
-    pub(super) fn store(&self) -> Option<Write<'_>> {
+    pub fn store(&self) -> Option<Write<'_>> {
         match self {
             Instruction::Store { word, value, .. } => Some(Write { word: *word, value }),
             _ => None,
         }
     }
 
-    pub(super) fn releasing_store(&self) -> Option<Write<'_>> {
+    pub fn releasing_store(&self) -> Option<Write<'_>> {
         match self {
             Instruction::Store { releasing: true, .. } => self.store(),
             _ => None,
         }
     }
 
-    pub(super) fn swap(&self) -> Option<Write<'_>> {
+    pub fn swap(&self) -> Option<Write<'_>> {
         match self {
             Instruction::Swap { word, value } => Some(Write { word: *word, value }),
             _ => None,
         }
     }
 
-    pub(super) fn store_or_swap(&self) -> Option<Write<'_>> {
+    pub fn store_or_swap(&self) -> Option<Write<'_>> {
         self.store().or_else(|| self.swap())
     }
 }

@@ -65,8 +65,7 @@ fn rule_26(left: &Assertion, right: &Assertion, header: &Header) -> Fit {
         return None;
     };
     let value = header.start[usize::from(word) - 1];
-    let equation = Test::equal(Value::Word(word), Value::Constant(value));
-    let initial = Interval::both(Interval::One(word), Interval::all(equation));
+    let initial = Interval::one_equal(word, Value::Constant(value));
     Some(*left == Assertion::Start && *right == Assertion::sees(t, initial))
 }
 

@@ -8,7 +8,7 @@ use crate::formula::{Assertion, Interval, Test, Value};
 use std::rc::Rc;
 
 /// [e with r replaced by x]: the word has what the register is to have.
-fn before_load(e: &Test, load: &Load) -> Interval {
+pub fn before_load(e: &Test, load: &Load) -> Interval {
     let word = Rc::new(Value::Word(load.word));
     Interval::All(e.replace(&Replacement { leaf: Value::Register(load.register), by: &word }))
 }

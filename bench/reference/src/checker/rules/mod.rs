@@ -13,6 +13,12 @@ pub mod table;
 pub mod triples;
 
 use crate::image::{Image, Line, Program, Statement};
+pub use loads::before_load;
+pub use structure::keeps;
+pub use swaps::covered_till_last;
+
+/// The most premises of a line.
+pub const MOST_PREMISES: usize = 4;
 
 /// What kind of statement a rule concludes.
 #[derive(Clone, Copy, Debug, PartialEq, Eq)]

@@ -6,28 +6,28 @@ use std::rc::Rc;
 type Pair<'a, T> = Option<(&'a Rc<T>, &'a Rc<T>)>;
 
 impl Assertion {
-    pub(super) fn as_sees(&self) -> Option<(u8, &Rc<Interval>)> {
+    pub fn as_sees(&self) -> Option<(u8, &Rc<Interval>)> {
         match self {
             Assertion::Sees(thread, interval) => Some((*thread, interval)),
             _ => None,
         }
     }
 
-    pub(super) fn as_both(&self) -> Pair<'_, Assertion> {
+    pub fn as_both(&self) -> Pair<'_, Assertion> {
         match self {
             Assertion::Both(a, b) => Some((a, b)),
             _ => None,
         }
     }
 
-    pub(super) fn as_either(&self) -> Pair<'_, Assertion> {
+    pub fn as_either(&self) -> Pair<'_, Assertion> {
         match self {
             Assertion::Either(a, b) => Some((a, b)),
             _ => None,
         }
     }
 
-    pub(super) fn as_holds(&self) -> Option<&Rc<Test>> {
+    pub fn as_holds(&self) -> Option<&Rc<Test>> {
         match self {
             Assertion::Holds(test) => Some(test),
             _ => None,
@@ -36,28 +36,28 @@ impl Assertion {
 }
 
 impl Interval {
-    pub(super) fn as_all(&self) -> Option<&Rc<Test>> {
+    pub fn as_all(&self) -> Option<&Rc<Test>> {
         match self {
             Interval::All(test) => Some(test),
             _ => None,
         }
     }
 
-    pub(super) fn as_chop(&self) -> Pair<'_, Interval> {
+    pub fn as_chop(&self) -> Pair<'_, Interval> {
         match self {
             Interval::Chop(a, b) => Some((a, b)),
             _ => None,
         }
     }
 
-    pub(super) fn as_both(&self) -> Pair<'_, Interval> {
+    pub fn as_both(&self) -> Pair<'_, Interval> {
         match self {
             Interval::Both(a, b) => Some((a, b)),
             _ => None,
         }
     }
 
-    pub(super) fn as_either(&self) -> Pair<'_, Interval> {
+    pub fn as_either(&self) -> Pair<'_, Interval> {
         match self {
             Interval::Either(a, b) => Some((a, b)),
             _ => None,

@@ -6,15 +6,19 @@ use super::Fit;
 use crate::formula::atoms::Atoms;
 use crate::formula::replace::{Replace, Replacement};
 use crate::formula::{Assertion, Value};
-use crate::image::Statement;
+use crate::image::{Instruction, Statement};
 
 /// 1 load, store, swap: P kept (load: r absent; others: x absent in any role).
 pub fn rule_1(c: &Triple) -> Fit {
-    let untouched = match c.action.load() {
-        Some(load) => !c.left.as_ref().has_register(load.register),
-        None => !c.left.as_ref().has_word(c.action.store_or_swap()?.word),
-    };
-    Some(untouched && c.left == c.right)
+    Some(keeps(c.action, c.left.as_ref())? && c.left == c.right)
+}
+
+/// Whether rule 1 lets the instruction keep what this formula says.
+pub fn keeps(action: &Instruction, kept: &impl Atoms) -> Fit {
+    Some(match action.load() {
+        Some(load) => !kept.has_register(load.register),
+        None => !kept.has_word(action.store_or_swap()?.word),
+    })
 }
 
 /// 2 assignment: left is right with r replaced by f.

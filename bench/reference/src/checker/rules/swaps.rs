@@ -10,7 +10,7 @@ fn covered(word: u8) -> Interval {
 }
 
 /// C = [cov x];one x
-fn covered_till_last(word: u8) -> Interval {
+pub fn covered_till_last(word: u8) -> Interval {
     Interval::chop(covered(word), Interval::One(word))
 }
 
