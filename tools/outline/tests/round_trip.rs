@@ -101,7 +101,7 @@ const OPERANDS: [[u16; 3]; 2] = [[0, 2, 3], [1, 3, 0]];
 fn line(dice: &mut Dice, before: usize) -> Line {
     let premises =
         (0..dice.roll(before.min(4) + 1)).map(|_| 1 + dice.roll(before) as u16).collect();
-    let (rule, thread, point) = if before % 2 == 0 { (16, 2, 1) } else { (20, 0, 0) };
+    let (rule, thread, point) = if before.is_multiple_of(2) { (16, 2, 1) } else { (20, 0, 0) };
     let (left, right) = (4 + dice.roll(12) as u16, 4 + dice.roll(13) as u16);
     Line { rule, thread, point, left, right, premises }
 }

@@ -1,5 +1,9 @@
 //! Verdicts worked out by hand.
+use super::obligations::{duties, Duty};
 use super::{check, check_into};
+use crate::formula::Test;
+use crate::image::Instruction;
+use std::rc::Rc;
 
 const SMALL: &str = "06 00 01 00 01 01 00 00  05 00 02 00 1C 0B 08  03 00 02 00 1B  \
     03 00 03 00 01  04 00 04 00 01 00  0A 00 05 00 14 00 00 02 00 01 00 00  04 00 06 00 01 00";
@@ -79,4 +83,20 @@ fn output() {
     assert_eq!(check_into(&image, &mut long), 0);
     let expected = "14 00 07 00 00 00 00 00 00 00 00 00 00 00 00 00 00 00 00 00 01 00 09";
     assert_eq!(long.to_vec(), bytes(expected));
+}
+
+#[test]
+fn obligations_are_in_order() {
+    let load = || Instruction::Load { register: 1, word: 1, acquiring: false };
+    let branch = Instruction::Branch { test: Rc::new(Test::False), target: 0 };
+    let list = duties(&[vec![load(), branch], vec![load()]]);
+    let class = |duty: &Duty| match duty {
+        Duty::Start { .. } => 1,
+        Duty::Next { .. } => 2,
+        Duty::Taken { .. } => 3,
+        Duty::Kept { .. } => 4,
+    };
+    let classes: Vec<u8> = list.iter().map(class).collect();
+    assert_eq!(classes, [1, 1, 2, 3, 2, 2, 4, 4, 4, 4, 4]);
+    assert_eq!(list[10], Duty::Kept { thread: 2, point: 1, actor: 1, action: 0 });
 }

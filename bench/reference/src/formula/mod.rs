@@ -122,3 +122,6 @@ impl Formula {
         }
     }
 }
+
+#[cfg(test)]
+mod tests;

@@ -81,3 +81,6 @@ pub fn follows(
     };
     fit == Some(true)
 }
+
+#[cfg(test)]
+mod tests;
