@@ -1,7 +1,7 @@
 //! Judges the image in a file with the proved checker and prints the nine fields of its verdict.
 //!
 //!     rt staticlib checker
-//!     (cd examples/rust && cargo run --release --offline FILE)
+//!     cargo run --release --offline -p check FILE
 
 const RECORD_BYTES: usize = 22;
 
