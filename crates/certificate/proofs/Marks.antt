@@ -10,9 +10,9 @@ use lib.ListN.{length, getD}
 use Rattle.logic.specs.Base.{all, Within}
 use Rattle.logic.specs.Machine.{Program}
 use Rattle.logic.specs.Statement.{Statement, admitted}
-use Rattle.logic.specs.EveryRun.{Derived, by-rule}
+use Rattle.logic.specs.Derivation.{Derived, by-rule}
 use Rattle.logic.proofs.Base.{and-left, and-right, and-both}
-use Rattle.logic.proofs.Rules.{fits-rule, rule-fits}
+use Rattle.patterns.proofs.Rules.{fits-rule, rule-fits}
 use Rattle.certificate.specs.Lines.{Line, Certificate, saying, lineFits, marked, Justified, justified}
 
 -- each member of a list, by its place

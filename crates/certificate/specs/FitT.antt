@@ -13,18 +13,19 @@ use Rattle.logic.specs.Opcode
 use Rattle.logic.specs.Machine.{Program, Instr}
 use Rattle.logic.specs.Statement
 use Rattle.logic.specs.Statement.{Statement}
-use Rattle.logic.specs.Pattern
-use Rattle.logic.specs.Rules
-use Rattle.logic.specs.Rules.{Rule, Shape, Shape.inside, Shape.implies, Shape.triple, Premises, these, implications, By, r-by-f, r-by-x, x-by-f, Side, _is_with_, start-of, kept, lacks-x, no-flag, by-rows, by-table, Row, row}
-use Rattle.logic.specs.Fits.{isAmong, opcode, wordOf, regOf, formulaOf, threadOf, pointOf}
+use Rattle.patterns.specs.Pattern
+use Rattle.patterns.specs.Rules
+use Rattle.logic.specs.Rule.{Rule}
+use Rattle.patterns.specs.Rules.{Shape, Shape.inside, Shape.implies, Shape.triple, Premises, these, implications, By, by-notes, r-by-x, x-by-f, Side, _is_with_, start-of, kept, lacks-x, no-flag, by-rows, by-table, Row, row}
+use Rattle.patterns.specs.Fits.{isAmong, opcode, wordOf, regOf, formulaOf, notesOf, threadOf, pointOf}
 use Rattle.formula.specs.Tree.{Tree, Tree.node}
 use Rattle.compare.specs.Same.{sameTree}
-use Rattle.compare.specs.Replace.{replaceT, oneName}
+use Rattle.compare.specs.Replace.{NoteT, replaceT, oneName, named}
 use Rattle.occurs.specs.Occurs.{occurs, register, wordAnyRole, flag}
-use Rattle.trees.specs.Raw.{raw}
-use Rattle.rows.specs.Claim.{ImpT}
+use Rattle.trees.specs.ToTree.{toTree, noteT}
+use Rattle.rows.specs.Entailment.{ImpT}
 use Rattle.rows.specs.Rows.{rowsT, tableT}
-use Rattle.matcher.specs.Template.{numHole, formulaHole, rawP, Holes, instT}
+use Rattle.matcher.specs.Template.{numHole, formulaHole, patternToTree, Holes, instT}
 use Rattle.matcher.specs.Match.{Taken, andThen, when, matchT}
 
 -- the form of a line, by number
@@ -38,27 +39,28 @@ abbrev pub hoare : ℕ
 hoare = 2
 
 -- what a line says
-pub record Said : Type 0 where
+pub record TreeConclusion : Type 0 where
   pub form : ℕ
   pub thread : ℕ
   pub point : ℕ
   pub left : Tree
   pub right : Tree
 
-abbrev pub said : Statement → Said
-said (Statement.inside i j) = record { form = inclusion; thread = 0; point = 0; left = raw i; right = raw j }
-said (Statement.implies a b) = record { form = implication; thread = 0; point = 0; left = raw a; right = raw b }
-said (Statement.triple t k a b) = record { form = hoare; thread = t; point = k; left = raw a; right = raw b }
+abbrev pub concluded : Statement → TreeConclusion
+concluded (Statement.inside i j) = record { form = inclusion; thread = 0; point = 0; left = toTree i; right = toTree j }
+concluded (Statement.implies a b) = record { form = implication; thread = 0; point = 0; left = toTree a; right = toTree b }
+concluded (Statement.triple t k a b) = record { form = hoare; thread = t; point = k; left = toTree a; right = toTree b }
 
--- the instruction of a line
+-- the instruction of a line; notes: what rule 2 replaces
 pub record Acting : Type 0 where
   pub operation : ℕ
   pub word : ℕ
   pub register : ℕ
   pub formula : Tree
+  pub notes : List NoteT
 
 abbrev pub acting : Instr → Acting
-acting c = record { operation = opcode c; word = wordOf c; register = regOf c; formula = raw (formulaOf c) }
+acting c = record { operation = opcode c; word = wordOf c; register = regOf c; formula = toTree (formulaOf c); notes = map noteT (notesOf c) }
 
 abbrev pub formOf : Shape → ℕ
 formOf (inside p q) = inclusion
@@ -66,36 +68,36 @@ formOf (implies p q) = implication
 formOf (triple p q) = hoare
 
 abbrev pub leftOf : Shape → Tree
-leftOf (inside p q) = rawP p
-leftOf (implies p q) = rawP p
-leftOf (triple p q) = rawP p
+leftOf (inside p q) = patternToTree p
+leftOf (implies p q) = patternToTree p
+leftOf (triple p q) = patternToTree p
 
 abbrev pub rightOf : Shape → Tree
-rightOf (inside p q) = rawP q
-rightOf (implies p q) = rawP q
-rightOf (triple p q) = rawP q
+rightOf (inside p q) = patternToTree q
+rightOf (implies p q) = patternToTree q
+rightOf (triple p q) = patternToTree q
 
 -- a triple is for the same thread and point
-abbrev pub placed : ℕ → ℕ → ℕ → Said → Bool
+abbrev pub placed : ℕ → ℕ → ℕ → TreeConclusion → Bool
 placed f i k v = eqb (v .form) f && (not (eqb f hoare) || (eqb (v .thread) i && eqb (v .point) k))
 
 -- a form, and templates for the left side and the right side
-abbrev pub matchSides : ℕ → ℕ → ℕ → Tree → Tree → Said → Taken → Option Taken
+abbrev pub matchSides : ℕ → ℕ → ℕ → Tree → Tree → TreeConclusion → Taken → Option Taken
 matchSides i k f p q v b = andThen (when (placed f i k v) b) (λ b₀. andThen (matchT p (v .left) b₀) (matchT q (v .right)))
 
-abbrev pub matchLine : ℕ → ℕ → Shape → Said → Taken → Option Taken
+abbrev pub matchLine : ℕ → ℕ → Shape → TreeConclusion → Taken → Option Taken
 matchLine i k m v b = matchSides i k (formOf m) (leftOf m) (rightOf m) v b
 
-abbrev pub matchAll : ℕ → ℕ → List Shape → List Said → Taken → Option Taken
+abbrev pub matchAll : ℕ → ℕ → List Shape → List TreeConclusion → Taken → Option Taken
 matchAll i k [] [] b = some b
 matchAll i k [] (v ∷ vs) b = none
 matchAll i k (p ∷ l) [] b = none
 matchAll i k (p ∷ l) (v ∷ vs) b = andThen (matchLine i k p v b) (matchAll i k l vs)
 
-abbrev pub isImplication : Said → Bool
+abbrev pub isImplication : TreeConclusion → Bool
 isImplication v = eqb (v .form) implication
 
-abbrev pub matchPremises : ℕ → ℕ → Premises → List Said → Taken → Option Taken
+abbrev pub matchPremises : ℕ → ℕ → Premises → List TreeConclusion → Taken → Option Taken
 matchPremises i k (these l) vs b = matchAll i k l vs b
 matchPremises i k implications vs b = when (leb (length vs) Limits.premises && all isImplication vs) b
 
@@ -113,26 +115,16 @@ orElse d (some a) = a
 abbrev pub holesFrom : Taken → Holes
 holesFrom b = record { num = λ j. orElse 0 (b .num j); tree = λ j. orElse Tree.none (b .tree j) }
 
-abbrev pub impOf : Said → ImpT
+abbrev pub impOf : TreeConclusion → ImpT
 impOf v = record { left = v .left; right = v .right }
 
 -- R: how many values there are; init: the start values; a: the instruction
 module _ (R : ℕ) (init : ℕ → ℕ) (a : Acting) where
-  -- the name that is replaced: whether it is a word, and its number; and by what
-  abbrev pub ofWord : By → Bool
-  ofWord r-by-f = false
-  ofWord r-by-x = false
-  ofWord x-by-f = true
-
-  abbrev pub replacedNumber : By → ℕ
-  replacedNumber r-by-f = a .register
-  replacedNumber r-by-x = a .register
-  replacedNumber x-by-f = a .word
-
-  abbrev pub replacing : By → Tree
-  replacing r-by-f = a .formula
-  replacing r-by-x = node (byte Code.word) (a .word) Tree.none Tree.none
-  replacing x-by-f = a .formula
+  -- what is replaced by what
+  abbrev pub replacing : By → ℕ → ℕ → Tree
+  replacing by-notes = named (a .notes)
+  replacing r-by-x = oneName false (a .register) (node (byte Code.word) (a .word) Tree.none Tree.none)
+  replacing x-by-f = oneName true (a .word) (a .formula)
 
   abbrev pub keepsT : Tree → Bool
   keepsT u = elim (isAmong (a .operation) Rules.loads) [
@@ -140,19 +132,19 @@ module _ (R : ℕ) (init : ℕ → ℕ) (a : Acting) where
     | false ↦ elim (isAmong (a .operation) Rules.storesSwaps) [ true ↦ not (occurs (wordAnyRole (a .word)) [] u) | false ↦ false ]
   ]
 
-  abbrev pub sideT : Holes → Said → List Said → Side → Bool
-  sideT c v vs (p is q with b) = sameTree (replaceT (oneName (ofWord b) (replacedNumber b) (replacing b)) (instT c (rawP q))) (instT c (rawP p))
-  sideT c v vs (start-of n p) = sameTree (instT c (rawP p)) (node (byte Code.const) (init (c .num (numHole n))) Tree.none Tree.none)
-  sideT c v vs (kept p) = keepsT (instT c (rawP p))
-  sideT c v vs (lacks-x p) = not (occurs (wordAnyRole (a .word)) [] (instT c (rawP p)))
-  sideT c v vs (no-flag p) = not (occurs (flag (a .word)) [] (instT c (rawP p)))
-  sideT c v vs (by-rows p q) = rowsT R (instT c (rawP p)) (instT c (rawP q))
+  abbrev pub sideT : Holes → TreeConclusion → List TreeConclusion → Side → Bool
+  sideT c v vs (p is q with b) = sameTree (replaceT (replacing b) (instT c (patternToTree q))) (instT c (patternToTree p))
+  sideT c v vs (start-of n p) = sameTree (instT c (patternToTree p)) (node (byte Code.const) (init (c .num (numHole n))) Tree.none Tree.none)
+  sideT c v vs (kept p) = keepsT (instT c (patternToTree p))
+  sideT c v vs (lacks-x p) = not (occurs (wordAnyRole (a .word)) [] (instT c (patternToTree p)))
+  sideT c v vs (no-flag p) = not (occurs (flag (a .word)) [] (instT c (patternToTree p)))
+  sideT c v vs (by-rows p q) = rowsT R (instT c (patternToTree p)) (instT c (patternToTree q))
   sideT c v vs by-table = tableT (map impOf vs) (impOf v)
 
   abbrev pub operationT : ℕ → List ℕ → Bool
   operationT f ops = not (eqb f hoare) || isAmong (a .operation) ops
 
-  abbrev pub restT : Row → Said → List Said → Taken → Bool
+  abbrev pub restT : Row → TreeConclusion → List TreeConclusion → Taken → Bool
   restT W v vs b = operationT (formOf (W .says)) (W .operations) && all (sideT (holesFrom b) v vs) (W .sides)
 
   abbrev pub answer : Option Taken → (Taken → Bool) → Bool
@@ -160,8 +152,8 @@ module _ (R : ℕ) (init : ℕ → ℕ) (a : Acting) where
   answer (some b) f = f b
 
   -- for the instruction at the point k of thread i
-  abbrev pub fitsAt : ℕ → ℕ → Row → Said → List Said → Bool
+  abbrev pub fitsAt : ℕ → ℕ → Row → TreeConclusion → List TreeConclusion → Bool
   fitsAt i k W v vs = answer (andThen (matchLine i k (W .says) v (preset i a)) (matchPremises i k (W .premises) vs)) (restT W v vs)
 
-  abbrev pub fitsT : Rule → Said → List Said → Bool
+  abbrev pub fitsT : Rule → TreeConclusion → List TreeConclusion → Bool
   fitsT n v vs = fitsAt (v .thread) (v .point) (row n) v vs

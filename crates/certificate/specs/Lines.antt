@@ -7,9 +7,9 @@ use lib.ListN.{length, getD}
 use Rattle.logic.specs.Base.{all, Within}
 use Rattle.logic.specs.Machine.{Program}
 use Rattle.logic.specs.Statement.{Statement}
-use Rattle.logic.specs.Rules.{Rule}
+use Rattle.logic.specs.Rule.{Rule}
 use Rattle.logic.specs.Inference.{Inference}
-use Rattle.logic.specs.Fits.{fits}
+use Rattle.patterns.specs.Fits.{fits}
 
 pub record Line : Type 0 where
   pub rule : Rule

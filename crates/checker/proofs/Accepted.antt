@@ -1,26 +1,31 @@
 -- Code 0 is given to accepted images alone, and these are true in every run.
-use mathlib.Core.Path.{_≡_, refl, ap, sym, _∙_}
+use mathlib.Core.Path.{_≡_, refl, ap, sym, _∙_, subst}
 use mathlib.Core.Bool.{Bool, true, false, cond}
 use mathlib.Core.List.{List}
 use mathlib.Core.Logic.{_≢_}
 use Prim.Native.Nat.{ℕ, _<_}
 use native.Mathlib.Omega.{arith}
 use lib.Dec.{ltb}
+use borrow.Author.Tests.{le-ltb}
 use lib.ListN.{length}
 use Rattle.frames.specs.Fault.{codeOf}
 use Rattle.frames.specs.declared.fault.Fault.{Fault}
 use Rattle.frames.specs.declared.fault.Fault.the-variants.{Size, Length, Kind, Body, Number, Formula, Sort, Owner}
-use Rattle.outline.specs.Verdict.{Image, Outcome, met, failed, outcome}
+use Rattle.outline.specs.Verdict.{Image, Outcome, met, failed, outcome, Admitted}
+use Rattle.outline.specs.Judged as Outline
+use Rattle.outline.specs.Judged.{total, EachMet, no-line, other-statement, not-justified, each-met, first-unmet}
 use Rattle.outline.proofs.Accept.{failed-first}
+use Rattle.outline.proofs.Judged.{outcome-judged, each-accepted}
 use Rattle.content.specs.Image.{Result, refused, read, decode}
-use Rattle.content.proofs.Admitted.{accepted-every-run}
+use Rattle.content.proofs.Admitted.{decode-admitted, accepted-every-run}
 use Rattle.report.specs.Fields.{gathered, fieldsOf}
 use Rattle.report.specs.Output.{codeFor, bytesFor}
 use Rattle.report.specs.Record.{size}
 use Rattle.report.specs.declared.verdict.Verdict.{Verdict}
 use Rattle.report.proofs.Ways.{short-code, short-bytes}
 use Rattle.checker.specs.Answer.{judged, answered, verdict}
-use Rattle.checker.specs.Promise.{TrueInEveryRun, Promise}
+use Rattle.checker.specs.Promise.{TrueInEveryRun, Judged, Promise}
+use Rattle.checker.proofs.Uncut.{verdict-uncut}
 
 fault-code : (f : Fault) → codeOf f ≢ 0
 unfolding codeOf
@@ -55,11 +60,52 @@ module _ (s : List ℕ) where
       go true h = absurd (omega arith)
       go false h = read-true (decode s) refl h
 
+  -- a right outcome whose code is 0 has every obligation met
+  right-met : (D : Image) (o : Outcome) → Outline.Judged D o → fieldsOf (judged o) .code ≡ 0 → EachMet D
+  unfolding fieldsOf gathered
+  right-met D (met n) (each-met h) e = h
+  right-met D (failed c o l n) (first-unmet k b f (no-line q)) e = absurd (omega arith)
+  right-met D (failed c o l n) (first-unmet k b f (other-statement q r)) e = absurd (omega arith)
+  right-met D (failed c o l n) (first-unmet k b f (not-justified q r u)) e = absurd (omega arith)
+
+  met-code : (n : ℕ) → fieldsOf (judged (met n)) .code ≡ 0
+  unfolding fieldsOf gathered
+  met-code n = refl
+
+  judged-right : (b : List ℕ) (D : Image) → decode s ≡ read D → Judged D (verdict s) b (codeFor (verdict s) b)
+  unfolding codeFor verdict
+  judged-right b D e = record {
+    only-if = λ h. right-met D (outcome D) right (coded (ltb (length b) size) h);
+    if-met = λ r h. rw (le-ltb _ _ r) (ap (λ (v : Verdict). fieldsOf v .code) (answer ∙ ap judged (each-accepted D A h)) ∙ met-code (total D));
+    outcome = outcome D;
+    right = right;
+    answer = answer;
+  }
+    where
+      A : Admitted D
+      A = decode-admitted s D e
+
+      right : Outline.Judged D (outcome D)
+      right = outcome-judged D A
+
+      answer : answered (decode s) ≡ judged (outcome D)
+      answer = ap answered e
+
+      coded : (x : Bool) → cond x 1 (code (decode s)) ≡ 0 → fieldsOf (judged (outcome D)) .code ≡ 0
+      coded true h = absurd (omega arith)
+      coded false h = subst (λ (v : Verdict). fieldsOf v .code ≡ 0) answer h
+
   -- DEMANDS 1, 2 AND 3, of what the code answers and leaves in the buffer
   pub promised : (b : List ℕ) (v : Verdict) (c : ℕ) (after : List ℕ) → v ≡ verdict s → c ≡ codeFor v b → after ≡ bytesFor v b → Promise s b c after
   promised b v c after e f g =
       let q : c ≡ codeFor (verdict s) b = f ∙ ap (λ (w : Verdict). codeFor w b) e in
-      record { returned = q; written = g ∙ ap (λ (w : Verdict). bytesFor w b) e; accepted = λ h. accepted-true b (sym q ∙ h) }
+      record {
+        returned = q;
+        written = g ∙ ap (λ (w : Verdict). bytesFor w b) e;
+        judged = λ D d. subst (Judged D (verdict s) b) (sym q) (judged-right b D d);
+        accepted = λ h. accepted-true b (sym q ∙ h);
+        uncut = verdict-uncut s;
+      }
 
   -- a buffer that is too short: the answer is 1 whatever the image holds
   pub promised-short : (b : List ℕ) → length b < size → Promise s b 1 b

@@ -97,7 +97,7 @@ module _ (z : Sizes) (l : List (List ℕ)) where
   own-length t k i = go (instr l i) ∙ ap (λ (b : Bool). 1 + cond b 1 0) (branch-is l i)
     where
       go : (c : Instr) → length (own P t k c) ≡ 1 + cond (Statement.isBranch c) 1 0
-      go (act c) = refl
+      go (act A ns) = refl
       go (branch e a) = refl
 
   acting-length : (u j t k : ℕ) (i : Instruction) → length (acting P u j t k (instr l i)) ≡ 1 - isBranch i
@@ -105,7 +105,7 @@ module _ (z : Sizes) (l : List (List ℕ)) where
   acting-length u j t k i = go (instr l i) ∙ ap (λ (b : Bool). 1 - cond b 1 0) (branch-is l i)
     where
       go : (c : Instr) → length (acting P u j t k c) ≡ 1 - cond (Statement.isBranch c) 1 0
-      go (act c) = refl
+      go (act A ns) = refl
       go (branch e a) = refl
 
   -- a sum over the points of a thread that have an instruction

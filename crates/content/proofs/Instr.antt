@@ -9,7 +9,8 @@ use lib.ListN.{getD}
 use borrow.Author.Tests.{eqb-true, ne-eqb, le-ltb}
 use Rattle.logic.specs.Formula.{Sort}
 use Rattle.logic.specs.Opcode as Opcode
-use Rattle.logic.specs.Machine.{Action, Instr, Instr.act, Instr.branch}
+use Rattle.logic.specs.Replace.{Note}
+use Rattle.logic.specs.Machine.{Access, Instr, Instr.act, Instr.branch}
 use Rattle.logic.specs.Statement.{isBranch}
 use Rattle.program.specs.declared.sizes.Sizes.{Sizes}
 use Rattle.program.specs.declared.instruction.Instruction.{Instruction}
@@ -18,9 +19,9 @@ use Rattle.records.specs.Places.{threadBody, instructionOf}
 use Rattle.content.specs.Formula.{formula}
 use Rattle.content.specs.Program.{instr}
 
-act-first : (b : Bool) (c : Action) (i : Instr) → isBranch i ≡ false → isBranch (cond b (act c) i) ≡ false
-act-first true c i h = refl
-act-first false c i h = h
+act-first : (b : Bool) (A : Access) (ns : List Note) (i : Instr) → isBranch i ≡ false → isBranch (cond b (act A ns) i) ≡ false
+act-first true A ns i h = refl
+act-first false A ns i h = h
 
 module _ (l : List (List ℕ)) (i : Instruction) where
   branch-not : eqb (i .operation) Opcode.branch ≡ false → isBranch (instr l i) ≡ false

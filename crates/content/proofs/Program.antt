@@ -15,7 +15,7 @@ use Rattle.logic.specs.Names.{only, isReg}
 use Rattle.logic.specs.Eval.{bounded}
 use Rattle.logic.specs.Opcode as Opcode
 use Rattle.logic.specs.Machine.{Program}
-use Rattle.logic.specs.EveryRun.{proper, WellFormed}
+use Rattle.logic.specs.WellFormed.{proper, WellFormed}
 use Rattle.logic.proofs.Base.{and-both}
 use Rattle.limits.specs.Limits as Limits
 use Rattle.limits.specs.Numbers.{nth, numbers, within, every}
@@ -121,14 +121,21 @@ module _ (z : Sizes) (l : List (List ℕ)) (c : Checks z l) where
         let h = fields-in _ _ (rw (ne-eqb op 0 p, lt-leb op 2 (omega arith), lt-leb op 5 (omega arith), ne-eqb op 6 q) at e) in
         omega arith
 
+    abbrev valued : ℕ → Bool
+    valued f = only isReg (formula l Sort.value f) && bounded Limits.values (formula l Sort.value f)
+
+    -- one thing is asked
+    alone : (b : Bool) → T b → T (b && true)
+    alone b h = and-both b true h tt
+
     instr-proper : (op a b f : ℕ) → Proper (made op a b f)
     unfolding ranged fieldsOf instr wanted
-    instr-proper zero a b f e d = let h = fields-in _ _ e in value-fine f (h .2 .0) (h .2 .1) (formula-sorted (made 0 a b f) (h .2 .0) d)
-    instr-proper (suc zero) a b f e d = let h = fields-in _ _ e in within-there (z .words) b (h .1 .0) (h .1 .1)
-    instr-proper (suc (suc zero)) a b f e d = let h = fields-in _ _ e in within-there (z .words) b (h .1 .0) (h .1 .1)
-    instr-proper (suc (suc (suc zero))) a b f e d = write-fine 3 a b f refl refl e d
-    instr-proper (suc (suc (suc (suc zero)))) a b f e d = write-fine 4 a b f refl refl e d
-    instr-proper (suc (suc (suc (suc (suc zero))))) a b f e d = write-fine 5 a b f refl refl e d
+    instr-proper zero a b f e d = let h = fields-in _ _ e in alone (valued f) (value-fine f (h .2 .0) (h .2 .1) (formula-sorted (made 0 a b f) (h .2 .0) d))
+    instr-proper (suc zero) a b f e d = let h = fields-in _ _ e in alone (Base.within (z .words) b) (within-there (z .words) b (h .1 .0) (h .1 .1))
+    instr-proper (suc (suc zero)) a b f e d = let h = fields-in _ _ e in alone (Base.within (z .words) b) (within-there (z .words) b (h .1 .0) (h .1 .1))
+    instr-proper (suc (suc (suc zero))) a b f e d = alone (Base.within (z .words) a && valued f) (write-fine 3 a b f refl refl e d)
+    instr-proper (suc (suc (suc (suc zero)))) a b f e d = alone (Base.within (z .words) a && valued f) (write-fine 4 a b f refl refl e d)
+    instr-proper (suc (suc (suc (suc (suc zero))))) a b f e d = alone (Base.within (z .words) a && valued f) (write-fine 5 a b f refl refl e d)
     instr-proper (suc (suc (suc (suc (suc (suc zero)))))) a b f e d =
         let h = fields-in _ _ e in
         let s = formula-sorted (made 6 a b f) (h .2 .0) d in

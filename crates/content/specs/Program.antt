@@ -1,13 +1,13 @@
 -- The program of an image and its outline.
 use mathlib.Core.Bool.{true, false, cond}
-use mathlib.Core.List.{List, []}
+use mathlib.Core.List.{List, [], _∷_}
 use Prim.Native.Nat.{ℕ, _+_, _-_}
 use lib.Dec.{eqb, ltb}
 use lib.ListN.{getD}
-use Rattle.logic.specs.Formula.{Sort, Formula.const}
+use Rattle.logic.specs.Formula.{Sort, Value, Formula.const}
 use Rattle.logic.specs.Opcode as Opcode
-use Rattle.logic.specs.Machine.{Program, Mode.store, Mode.swap, Action.assign, Action.load, Action.write, Instr, Instr.act, Instr.branch}
-use Rattle.logic.specs.Obligations.{Outline}
+use Rattle.logic.specs.Machine.{Program, Mode.store, Mode.swap, Access.none, Access.load, Access.write, Instr, Instr.act, Instr.branch}
+use Rattle.logic.specs.EveryRun.{Outline}
 use Rattle.limits.specs.Limits as Limits
 use Rattle.limits.specs.Numbers.{nth, numbers}
 use Rattle.program.specs.declared.sizes.Sizes.{Sizes}
@@ -18,20 +18,24 @@ use Rattle.records.specs.Places.{threadBody, instructionOf}
 use Rattle.records.specs.Tally.{tallyTo, tally}
 use Rattle.content.specs.Formula.{formula}
 
+-- an assignment is a note without an access
+abbrev pub assign : ℕ → Value → Instr
+assign r f = act none (record { to = r; by = f } ∷ [])
+
 -- for an operation that is not there
 abbrev pub idle : Instr
-idle = act (assign 0 (const 0))
+idle = assign 0 (const 0)
 
 module _ (l : List (List ℕ)) where
   -- an instruction as its operation says
   unfoldable pub instr : Instruction → Instr
   instr i =
-      cond (eqb (i .operation) Opcode.assign) (act (assign (i .a) (formula l Sort.value (i .formula))))
-      (cond (eqb (i .operation) Opcode.load) (act (load false (i .a) (i .b)))
-      (cond (eqb (i .operation) Opcode.acquire) (act (load true (i .a) (i .b)))
-      (cond (eqb (i .operation) Opcode.store) (act (write (store false) (i .a) (formula l Sort.value (i .formula))))
-      (cond (eqb (i .operation) Opcode.release) (act (write (store true) (i .a) (formula l Sort.value (i .formula))))
-      (cond (eqb (i .operation) Opcode.swap) (act (write swap (i .a) (formula l Sort.value (i .formula))))
+      cond (eqb (i .operation) Opcode.assign) (assign (i .a) (formula l Sort.value (i .formula)))
+      (cond (eqb (i .operation) Opcode.load) (act (load false (i .a) (i .b)) [])
+      (cond (eqb (i .operation) Opcode.acquire) (act (load true (i .a) (i .b)) [])
+      (cond (eqb (i .operation) Opcode.store) (act (write (store false) (i .a) (formula l Sort.value (i .formula))) [])
+      (cond (eqb (i .operation) Opcode.release) (act (write (store true) (i .a) (formula l Sort.value (i .formula))) [])
+      (cond (eqb (i .operation) Opcode.swap) (act (write swap (i .a) (formula l Sort.value (i .formula))) [])
       (cond (eqb (i .operation) Opcode.branch) (branch (formula l Sort.test (i .formula)) (i .a))
       idle))))))
 

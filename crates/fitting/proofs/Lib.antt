@@ -1,13 +1,4 @@
-pub mod Ways
-pub mod Follow
-pub mod Sides
-pub mod Known
-pub mod Lines
-pub mod Row
-pub mod Claimed
-pub mod Resting
-pub mod Asking
-pub mod Judging
-pub mod SidesLink
+pub mod Presets
+pub mod Fits
 pub mod FitLink
 pub mod Fitted

@@ -8,7 +8,7 @@ use native.Mathlib.Omega.{arith}
 use lib.Dec.{eqb}
 use borrow.Author.Tests.{eqb-false}
 use Rattle.logic.specs.Base.{All, Within}
-use Rattle.logic.specs.Fits.{sameStatement}
+use Rattle.patterns.specs.Fits.{sameStatement}
 use Rattle.logic.specs.Obligations as Logic
 use Rattle.logic.specs.Obligations.{obligations}
 use Rattle.frames.specs.Records.{bodies}
@@ -25,8 +25,9 @@ use Rattle.report.specs.declared.obligation.Obligation.{Obligation}
 use Rattle.judging.specs.declared.outcome.Outcome.{Outcome}
 use Rattle.judging.specs.declared.outcome.Outcome.the-variants.{Met, Failed}
 use Rattle.report.specs.Place.{obligation}
-use Rattle.judging.specs.Judge.{concludesAt, codeAt, judgeOne, next, judged, judgeAt, toOutcome}
-use Rattle.judging.proofs.Asked.{InRange, concludes-asked}
+use Rattle.wanted.specs.Concluding.{concludesAt, codeAt}
+use Rattle.judging.specs.Judge.{judgeOne, next, judged, judgeAt, toOutcome}
+use Rattle.wanted.proofs.Asked.{InRange, concludes-asked}
 use Rattle.judging.proofs.Ranged.{obligations-ranged}
 
 codes-same : (a b c : Bool) → cond a 20 (cond b (cond c 0 22) 21) ≡ codeOf a b c

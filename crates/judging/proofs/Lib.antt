@@ -1,7 +1,4 @@
-pub mod Ways
-pub mod Walks
-pub mod Filled
-pub mod Compared
-pub mod Asked
+pub mod Outcomes
+pub mod Groups
 pub mod Ranged
 pub mod Agreed

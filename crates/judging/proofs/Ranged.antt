@@ -9,7 +9,7 @@ use Rattle.logic.specs.Base.{All, Within}
 use Rattle.logic.specs.Machine.{Program, Instr, Instr.act, Instr.branch}
 use Rattle.logic.specs.Statement.{isBranch}
 use Rattle.logic.specs.Obligations.{Obligation, Obligation.start, below, upTo, flat, own, acting, instructed, actions, starts, steps, interferences, obligations}
-use Rattle.judging.proofs.Asked.{InRange}
+use Rattle.wanted.proofs.Asked.{InRange}
 
 all-append : {A : Type 0} (Q : A → Type 0) (l m : List A) → All Q l → All Q m → All Q (l ++ m)
 all-append Q [] m h g = g
@@ -35,11 +35,11 @@ module _ (P : Program) where
   Fine = InRange P
 
   own-ranged : (t k : ℕ) (x : Instr) → P .code t k ≡ x → Within (P .threads) t → suc k < P .points t → All Fine (own P t k x)
-  own-ranged t k (act a) e w h = ((w, h), tt)
+  own-ranged t k (act A ns) e w h = ((w, h), tt)
   own-ranged t k (branch a b) e w h = ((w, (h, ap isBranch e)), ((w, h), tt))
 
   acting-ranged : (u j t k : ℕ) (x : Instr) → Within (P .threads) u → j < P .points u → Within (P .threads) t → suc k < P .points t → All Fine (acting P u j t k x)
-  acting-ranged u j t k (act a) w h y g = (((w, h), (y, g)), tt)
+  acting-ranged u j t k (act A ns) w h y g = (((w, h), (y, g)), tt)
   acting-ranged u j t k (branch a b) w h y g = tt
 
   actions-ranged : (u j t : ℕ) → Within (P .threads) u → j < P .points u → Within (P .threads) t → All Fine (actions P u j t)

@@ -1,3 +1,2 @@
-pub mod Wanted
 pub mod Judge
 pub mod Walk

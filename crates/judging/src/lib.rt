@@ -1,7 +1,5 @@
 // The obligations of a well-formed image in order, each against the line that it names: how many are met, or the first that is not.
-pub mod concluding;
 pub mod interference;
 pub mod judge;
 pub mod outcome;
 pub mod steps;
-pub mod wanted;

@@ -10,7 +10,7 @@ use Rattle.logic.proofs.Agreement.{Same, same-trans, Agree, agree-refl,
 use Rattle.logic.proofs.Arrived.{Arrived, Triple, head-off, synced, bare, sees-last}
 use Rattle.logic.proofs.Base.{upd-same, upd-other, upds, by-word, and-left, and-right, and-both, not-eqb, all-All, is-true}
 use Rattle.logic.proofs.Cuts.{All-map}
-use Rattle.logic.proofs.Halves.{Note, noted, notes, releases, swaps, Access, Access.none, Access.load, Access.write, workedAt, coverIf, memory, finish, kept, untouched, Good}
+use Rattle.logic.proofs.Halves.{Touch, Touch.none, Touch.load, Touch.write, workedAt, coverIf, memory, finish, kept, untouched, Good}
 use Rattle.logic.proofs.Inserted.{Insertion, result, old, row-new, result-same, result-prospect, result-kept, result-wf}
 use Rattle.logic.proofs.Invariant.{Wf, cover-wf}
 use Rattle.logic.proofs.Last.{last-own, last-other, last-sync}
@@ -21,10 +21,10 @@ use Rattle.logic.specs.Base.{All, all, upd}
 use Rattle.logic.specs.Eval.{Env, value, test}
 use Rattle.logic.specs.Formula.{Value, Test, Interval, Assertion, Formula.word, Formula.unsync, Formula.cov, Formula.box, Formula.one, Formula.chop, Formula.sees, Formula.bothA, Formula.eitherA, Formula.holds}
 use Rattle.logic.specs.Inference.{newest, C}
-use Rattle.logic.specs.Machine.{View, State, Write, Program, Mode, Mode.store, Mode.swap, at}
+use Rattle.logic.specs.Machine.{View, State, Write, Program, at}
 use Rattle.logic.specs.Names.{only, notWord, regsIn, notFlag, isReg, startless, Name, n-reg, n-word, n-unsync, n-cov, names}
-use Rattle.logic.specs.Replace.{replace, wordBy}
-use Rattle.logic.specs.Truth.{Sat, True, Prospect, Names, Sees, world}
+use Rattle.logic.specs.Replace.{Note, noted, notes, replace, wordBy}
+use Rattle.logic.specs.Truth.{Sat, True, Prospect, Names, Sees}
 
 pub all-weaken : (f g : Name → Bool) → ((n : Name) → T (f n) → T (g n)) → (l : List Name) → T (all f l) → T (all g l)
 all-weaken f g h [] c = tt
@@ -55,15 +55,16 @@ cover-sees P b x p s u i c h l pr =
     sat-agree (P .range) (notFlag x) (at P s) (at P (coverIf b x p s)) (cover-same P b x p s) i (all-weaken (notWord x) (notFlag x) (flag-word x) (names i) c) l (h l pr)
 
 -- a word is written
-module _ {P : Program} {t : ℕ} (m : Mode) (x : ℕ) (f : Value) (ns : List Note) (g : Good P (write m x f) ns) {s : State} (wf : Wf P s) (p : ℕ) (arr : Arrived (write m x f) t p s) where
-  unfoldable pub write-act : Insertion P (coverIf (swaps m) x p s)
+module _ {P : Program} {t : ℕ} (rel swaps : Bool) (x : ℕ) (f : Value) (ns : List Note) (g : Good P (write rel swaps x f) ns) {s : State} (wf : Wf P s) (p : ℕ)
+    (arr : Arrived (write rel swaps x f) t p s) where
+  unfoldable pub write-act : Insertion P (coverIf swaps x p s)
   write-act = record {
     t = t;
     x = x;
     p = p;
     n = workedAt P s t f;
-    releasing = releases m;
-    wf = cover-wf wf (swaps m) x p (arr .0 .inside);
+    releasing = rel;
+    wf = cover-wf wf swaps x p (arr .0 .inside);
     x-in = g .0;
     inside = arr .0 .inside;
     here = arr .0 .here;
@@ -74,16 +75,16 @@ module _ {P : Program} {t : ℕ} (m : Mode) (x : ℕ) (f : Value) (ns : List Not
   unfolding write-act
   write-value c v = value-agree (P .range) (regs-same refl) f c
 
-  pub write-wf : Wf P (memory P (write m x f) t p s)
+  pub write-wf : Wf P (memory P (write rel swaps x f) t p s)
   unfolding write-act
   write-wf = result-wf write-act
 
-  write-sees : (u : ℕ) (i : Interval) → T (only (notWord x) i) → Sees P s u i → Sees P (memory P (write m x f) t p s) u i
+  write-sees : (u : ℕ) (i : Interval) → T (only (notWord x) i) → Sees P s u i → Sees P (memory P (write rel swaps x f) t p s) u i
   unfolding write-act
-  write-sees u i c h = result-kept write-act u i c (cover-sees P (swaps m) x p s u i c h)
+  write-sees u i c h = result-kept write-act u i c (cover-sees P swaps x p s u i c h)
 
-  write-keeps : (q : Assertion) → T (startless q) → T (only (notWord x) q) → True P s q → True P (memory P (write m x f) t p s) q
-  write-keeps = keep P (notWord x) (world P s) (world P (memory P (write m x f) t p s)) write-sees agree-refl
+  write-keeps : (q : Assertion) → T (startless q) → T (only (notWord x) q) → True P s q → True P (memory P (write rel swaps x f) t p s) q
+  write-keeps = keep P (notWord x) s (memory P (write rel swaps x f) t p s) write-sees agree-refl
 
 -- 9: a write of f to x keeps a test that held, and would hold with f for x
 module _ {P : Program} {s : State} (d : Insertion P s) (f : Value) (e : Test) (no-flag : T (only (notFlag (d .x)) e)) (ρ : View → Env)
@@ -140,7 +141,7 @@ both-right : (a b : Name → Bool) (l : List Name) → T (all (λ n. a n && b n)
 both-right a b = all-weaken (λ n. a n && b n) b (λ n. and-right (a n) (b n))
 
 module _ (P : Program) (t : ℕ) where
-  module _ (A : Access) (ns : List Note) where
+  module _ (A : Touch) (ns : List Note) where
     pub rule-3 : (e : Test) → T (only isReg e) → Triple P t A ns (sees t (box (replace (notes ns) e))) (holds e)
     rule-3 e c s wf p arr h = subst T (given-test P s t ns e c) (h (s .view t ∷ []) (wf .view-in t, (λ y. omega arith), tt) .0)
 
@@ -152,13 +153,13 @@ module _ (P : Program) (t : ℕ) where
         go true z = inl (is-true (sym (given-test P s t ns e c) ∙ z))
         go false z = inr (prem s wf p arr (head-off wf t (replace (notes ns) e) i z h))
 
-  pub rule-1 : (A : Access) (ns : List Note) → Good P A ns → (q : Assertion) → T (startless q) → T (only (untouched A ns) q) → Triple P t A ns q q
+  pub rule-1 : (A : Touch) (ns : List Note) → Good P A ns → (q : Assertion) → T (startless q) → T (only (untouched A ns) q) → Triple P t A ns q q
   rule-1 none ns g q z c s wf p arr h = regs-kept P s (λ r. workedAt P s t (noted ns r)) (upd (s .point) t (suc (s .point t))) (kept ns) (given-kept P s t ns) q z c h
   rule-1 (load a x) ns g q z c s wf p arr h = regs-kept P s (λ r. workedAt P s t (noted ns r)) (upd (s .point) t (suc (s .point t))) (kept ns) (given-kept P s t ns) q z c h
-  rule-1 (write m x f) ns g q z c s wf p arr h =
-      regs-kept P (memory P (write m x f) t p s) (λ r. workedAt P s t (noted ns r)) (upd (s .point) t (suc (s .point t))) (kept ns) (given-kept P s t ns) q z
+  rule-1 (write rel swaps x f) ns g q z c s wf p arr h =
+      regs-kept P (memory P (write rel swaps x f) t p s) (λ r. workedAt P s t (noted ns r)) (upd (s .point) t (suc (s .point t))) (kept ns) (given-kept P s t ns) q z
       (both-left (regsIn (kept ns)) (notWord x) (names q) c)
-      (write-keeps m x f ns g wf p arr q z (both-right (regsIn (kept ns)) (notWord x) (names q) c) h)
+      (write-keeps rel swaps x f ns g wf p arr q z (both-right (regsIn (kept ns)) (notWord x) (names q) c) h)
 
   pub rule-2 : (ns : List Note) (q : Assertion) → T (startless q) → T (all (λ (n : Note). only isReg (n .by)) ns) → Triple P t none ns (replace (notes ns) q) q
   rule-2 ns q z c s wf p arr h = given-true P s t ns (upd (s .point) t (suc (s .point t))) (all-All _ ns c) q z h
@@ -167,57 +168,57 @@ module _ (P : Program) (t : ℕ) where
     pub rule-5-load : Triple P t (load true x) ns (sees t i) q → Triple P t (load true x) ns (sees t (chop (box (unsync x)) i)) q
     rule-5-load prem s wf p arr h = prem s wf p arr (head-off wf t (unsync x) i (synced wf arr) h)
 
-    pub rule-5-swap : (f : Value) → Triple P t (write swap x f) ns (sees t i) q → Triple P t (write swap x f) ns (sees t (chop (box (unsync x)) i)) q
+    pub rule-5-swap : (f : Value) → Triple P t (write true true x f) ns (sees t i) q → Triple P t (write true true x f) ns (sees t (chop (box (unsync x)) i)) q
     rule-5-swap f prem s wf p arr h = prem s wf p arr (head-off wf t (unsync x) i (synced wf (arr .0)) h)
 
-    pub rule-10 : (m : Mode) (f : Value) → Triple P t (write m x f) ns (sees t i) q → Triple P t (write m x f) ns (sees t (chop (box (cov x)) i)) q
-    rule-10 m f prem s wf p arr h = prem s wf p arr (head-off wf t (cov x) i (bare wf (arr .0) (arr .1)) h)
+    pub rule-10 : (rel swaps : Bool) (f : Value) → Triple P t (write rel swaps x f) ns (sees t i) q → Triple P t (write rel swaps x f) ns (sees t (chop (box (cov x)) i)) q
+    rule-10 rel swaps f prem s wf p arr h = prem s wf p arr (head-off wf t (cov x) i (bare wf (arr .0) (arr .1)) h)
 
   module _ (x : ℕ) (f : Value) where
     -- 6 to 8, for stores
-    module _ (rel : Bool) (g : Good P (write (store rel) x f) []) where
-      store-last : (s : State) → Wf P s → (p : ℕ) → Arrived (write (store rel) x f) t p s → Sees P s t (one x) → suc p ≡ s .size x
+    module _ (rel : Bool) (g : Good P (write rel false x f) []) where
+      store-last : (s : State) → Wf P s → (p : ℕ) → Arrived (write rel false x f) t p s → Sees P s t (one x) → suc p ≡ s .size x
       store-last s wf p arr h = omega (arith, sees-last wf t x h, arr .0 .here)
 
-      pub rule-6 : T (only isReg f) → Triple P t (write (store rel) x f) [] (sees t (one x)) (sees t (newest x f))
+      pub rule-6 : T (only isReg f) → Triple P t (write rel false x f) [] (sees t (one x)) (sees t (newest x f))
       unfolding write-act
-      rule-6 c s wf p arr h = last-own (write-act (store rel) x f [] g wf p arr) (store-last s wf p arr h) f (write-value (store rel) x f [] g wf p arr c)
+      rule-6 c s wf p arr h = last-own (write-act rel false x f [] g wf p arr) (store-last s wf p arr h) f (write-value rel false x f [] g wf p arr c)
 
-      pub rule-7 : T (only isReg f) → (u : ℕ) (i : Interval) → Triple P t (write (store rel) x f) [] (bothA (sees t (one x)) (sees u i)) (sees u (chop i (newest x f)))
+      pub rule-7 : T (only isReg f) → (u : ℕ) (i : Interval) → Triple P t (write rel false x f) [] (bothA (sees t (one x)) (sees u i)) (sees u (chop i (newest x f)))
       unfolding write-act
       rule-7 c u i s wf p arr h =
-          last-other (write-act (store rel) x f [] g wf p arr) (store-last s wf p arr (h .0)) f (write-value (store rel) x f [] g wf p arr c) u i (h .1)
+          last-other (write-act rel false x f [] g wf p arr) (store-last s wf p arr (h .0)) f (write-value rel false x f [] g wf p arr c) u i (h .1)
 
-    pub rule-8 : Good P (write (store true) x f) [] → (u : ℕ) (i j : Interval) → T (only (notWord x) j)
-        → Triple P t (write (store true) x f) [] (bothA (sees t (one x)) (bothA (sees u i) (sees t j))) (sees u (chop i (chop (box (unsync x)) j)))
+    pub rule-8 : Good P (write true false x f) [] → (u : ℕ) (i j : Interval) → T (only (notWord x) j)
+        → Triple P t (write true false x f) [] (bothA (sees t (one x)) (bothA (sees u i) (sees t j))) (sees u (chop i (chop (box (unsync x)) j)))
     unfolding write-act
     rule-8 g u i j no-x s wf p arr h =
-        last-sync (write-act (store true) x f [] g wf p arr) (store-last true g s wf p arr (h .0)) refl j no-x (h .1 .1) u i (h .1 .0)
+        last-sync (write-act true false x f [] g wf p arr) (store-last true g s wf p arr (h .0)) refl j no-x (h .1 .1) u i (h .1 .0)
 
     -- 11 to 13, for swaps
-    module _ (g : Good P (write swap x f) []) where
-      pub swap-last : (s : State) → Wf P s → (p : ℕ) → Arrived (write swap x f) t p s → Sees P s t (C x) → suc p ≡ s .size x
+    module _ (g : Good P (write true true x f) []) where
+      pub swap-last : (s : State) → Wf P s → (p : ℕ) → Arrived (write true true x f) t p s → Sees P s t (C x) → suc p ≡ s .size x
       swap-last s wf p arr h = omega (arith, sees-last wf t x (head-off wf t (cov x) (one x) (bare wf (arr .0) (arr .1)) h), arr .0 .here)
 
-      pub rule-11 : T (only isReg f) → Triple P t (write swap x f) [] (sees t (C x)) (sees t (newest x f))
+      pub rule-11 : T (only isReg f) → Triple P t (write true true x f) [] (sees t (C x)) (sees t (newest x f))
       unfolding write-act
-      rule-11 c s wf p arr h = last-own (write-act swap x f [] g wf p arr) (swap-last s wf p arr h) f (write-value swap x f [] g wf p arr c)
+      rule-11 c s wf p arr h = last-own (write-act true true x f [] g wf p arr) (swap-last s wf p arr h) f (write-value true true x f [] g wf p arr c)
 
-      pub rule-12 : T (only isReg f) → (u : ℕ) → Triple P t (write swap x f) [] (bothA (sees t (C x)) (sees u (C x))) (sees u (chop (box (cov x)) (newest x f)))
+      pub rule-12 : T (only isReg f) → (u : ℕ) → Triple P t (write true true x f) [] (bothA (sees t (C x)) (sees u (C x))) (sees u (chop (box (cov x)) (newest x f)))
       unfolding write-act
       rule-12 c u s wf p arr h =
-          last-other (write-act swap x f [] g wf p arr) (swap-last s wf p arr (h .0)) f (write-value swap x f [] g wf p arr c) u (box (cov x))
+          last-other (write-act true true x f [] g wf p arr) (swap-last s wf p arr (h .0)) f (write-value true true x f [] g wf p arr c) u (box (cov x))
           (covered P s p x (swap-last s wf p arr (h .0)) u (h .1))
 
       pub rule-13 : (u : ℕ) (j : Interval) → T (only (notWord x) j)
-          → Triple P t (write swap x f) [] (bothA (sees t (C x)) (bothA (sees u (C x)) (sees t j))) (sees u (chop (box (cov x)) (chop (box (unsync x)) j)))
+          → Triple P t (write true true x f) [] (bothA (sees t (C x)) (bothA (sees u (C x)) (sees t j))) (sees u (chop (box (cov x)) (chop (box (unsync x)) j)))
       unfolding write-act
       rule-13 u j no-x s wf p arr h =
-          last-sync (write-act swap x f [] g wf p arr) (swap-last s wf p arr (h .0)) refl j no-x (cover-sees P true x p s t j no-x (h .1 .1)) u (box (cov x))
+          last-sync (write-act true true x f [] g wf p arr) (swap-last s wf p arr (h .0)) refl j no-x (cover-sees P true x p s t j no-x (h .1 .1)) u (box (cov x))
           (covered P s p x (swap-last s wf p arr (h .0)) u (h .1 .0))
 
-    pub rule-9 : (m : Mode) → Good P (write m x f) [] → T (only isReg f) → (u : ℕ) (e : Test) → T (only (notFlag x) e)
-        → Triple P t (write m x f) [] (bothA (sees u (box e)) (sees u (box (replace (wordBy x f) e)))) (sees u (box e))
+    pub rule-9 : (rel swaps : Bool) → Good P (write rel swaps x f) [] → T (only isReg f) → (u : ℕ) (e : Test) → T (only (notFlag x) e)
+        → Triple P t (write rel swaps x f) [] (bothA (sees u (box e)) (sees u (box (replace (wordBy x f) e)))) (sees u (box e))
     unfolding write-act
-    rule-9 m g c u e no-flag s wf p arr h =
-        nine (write-act m x f [] g wf p arr) f e no-flag (at P s) (cover-same P (swaps m) x p s) (λ v. value-agree (P .range) (regs-same refl) f c) u (h .0) (h .1)
+    rule-9 rel swaps g c u e no-flag s wf p arr h =
+        nine (write-act rel swaps x f [] g wf p arr) f e no-flag (at P s) (cover-same P swaps x p s) (λ v. value-agree (P .range) (regs-same refl) f c) u (h .0) (h .1)

@@ -3,17 +3,18 @@ use mathlib.Core.Path.{_≡_, refl, ap, ap₂, sym, _∙_, subst}
 use mathlib.Core.Bool.{Bool, true, false, not, _&&_, _||_}
 use mathlib.Core.List.{List, [], _∷_, map}
 use mathlib.Core.Logic.{inl, inr}
-use Prim.Native.Nat.{ℕ, zero, suc, _+_, _%_}
+use Prim.Native.Nat.{ℕ, zero, suc}
 use lib.Dec.{T, eqb, ltb}
 use lib.ListN.{take, drop}
 use Rattle.logic.proofs.Base.{and-left, and-right, all-All, All-left, All-right, all-left, all-right}
 use Rattle.logic.proofs.Cuts.{All-take, All-drop, All-map}
 use Rattle.logic.specs.Base.{All, all}
-use Rattle.logic.specs.Eval.{Env, value, test}
+use Rattle.logic.specs.Eval.{Env, onRegs, value, test}
 use Rattle.logic.specs.Formula.{Formula, Value, Test, Interval, Assertion, Formula.const, Formula.reg, Formula.word, Formula.sum, Formula.equal, Formula.less, Formula.and, Formula.or, Formula.unsync, Formula.cov, Formula.box, Formula.one, Formula.chop, Formula.both, Formula.either, Formula.sees, Formula.bothA, Formula.eitherA, Formula.start, Formula.holds}
-use Rattle.logic.specs.Machine.{View, Program}
+use Rattle.logic.specs.Machine.{View, State, Program}
 use Rattle.logic.specs.Names.{Name, n-reg, n-word, n-unsync, n-cov, names, only, startless}
-use Rattle.logic.specs.Truth.{Sat, World, Seen, Truth}
+use Rattle.logic.specs.Truth.{Sat, Sees, True}
+use Rattle.logic.proofs.World.{World, world, Seen, Truth, true-world, world-true}
 
 -- the name stands for the same
 abbrev pub Same : Env → Env → Name → Type 0
@@ -33,7 +34,7 @@ module _ (R : ℕ) (ρ σ : Env) where
   value-same (const n) h = refl
   value-same (reg r) h = h .0
   value-same (word y) h = h .0
-  value-same (sum a b) h = ap₂ (λ m n. (m + n) % R) (value-same a (search All-left)) (value-same b (search All-right))
+  value-same (sum a b) h = rw (value-same a (search All-left), value-same b (search All-right))
 
   pub test-same : (e : Test) → All (Same ρ σ) (names e) → test R ρ e ≡ test R σ e
   test-same Formula.false h = refl
@@ -118,13 +119,17 @@ sat-agree R ok ρ σ ag i c l h =
 
 -- from what each thread sees, what the assertions say
 module _ (P : Program) (ok : Name → Bool) (w w′ : World) (f : (u : ℕ) (i : Interval) → T (only ok i) → Seen P w u i → Seen P w′ u i) (ag : Agree ok (w .held) (w′ .held)) where
-  pub keep : (a : Assertion) → T (startless a) → T (only ok a) → Truth P w a → Truth P w′ a
-  keep (sees u i) z c h = f u i c h
-  keep (bothA a b) z c h = (keep a (search and-left) (search all-left) (h .0), keep b (search and-right) (search all-right) (h .1))
-  keep (eitherA a b) z c (inl h) = inl (keep a (search and-left) (search all-left) h)
-  keep (eitherA a b) z c (inr h) = inr (keep b (search and-right) (search all-right) h)
-  keep start z c h = absurd z
-  keep (holds e) z c h = subst T (test-agree (P .range) ag e c) h
+  pub keep-truth : (a : Assertion) → T (startless a) → T (only ok a) → Truth P w a → Truth P w′ a
+  keep-truth (sees u i) z c h = f u i c h
+  keep-truth (bothA a b) z c h = (keep-truth a (search and-left) (search all-left) (h .0), keep-truth b (search and-right) (search all-right) (h .1))
+  keep-truth (eitherA a b) z c (inl h) = inl (keep-truth a (search and-left) (search all-left) h)
+  keep-truth (eitherA a b) z c (inr h) = inr (keep-truth b (search and-right) (search all-right) h)
+  keep-truth start z c h = absurd z
+  keep-truth (holds e) z c h = subst T (test-agree (P .range) ag e c) h
+
+pub keep : (P : Program) (ok : Name → Bool) (s s′ : State) → ((u : ℕ) (i : Interval) → T (only ok i) → Sees P s u i → Sees P s′ u i)
+    → Agree ok (onRegs (s .reg)) (onRegs (s′ .reg)) → (a : Assertion) → T (startless a) → T (only ok a) → True P s a → True P s′ a
+keep P ok s s′ f ag a z c h = world-true P s′ a (keep-truth P ok (world P s) (world P s′) f ag a z c (true-world P s a h))
 
 -- every name passes
 pub only-any : (l : List Name) → T (all (λ n. true) l)

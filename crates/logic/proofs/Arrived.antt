@@ -7,7 +7,7 @@ use native.Mathlib.Omega.{arith}
 use lib.Dec.{T, ltb, leb, ltb→lt, leb→le}
 use Rattle.logic.proofs.Agreement.{agree-refl, keep, only-any}
 use Rattle.logic.proofs.Base.{upd-same, upds, by-word, and-left, and-right, not-true, later-not}
-use Rattle.logic.proofs.Halves.{Note, Access, Access.none, Access.load, Access.write, swaps, pick, finish, mayPick}
+use Rattle.logic.proofs.Halves.{Touch, Touch.none, Touch.load, Touch.write, pick, finish, mayPick}
 use Rattle.logic.proofs.Intervals.{sat-drop}
 use Rattle.logic.proofs.Invariant.{Wf, view-wf}
 use Rattle.logic.specs.Base.{upd}
@@ -15,7 +15,8 @@ use Rattle.logic.specs.Eval.{Env, test}
 use Rattle.logic.specs.Formula.{Test, Interval, Assertion, Formula.unsync, Formula.cov, Formula.box, Formula.chop, Formula.one}
 use Rattle.logic.specs.Machine.{View, State, Program, at, later, join, withView, readView}
 use Rattle.logic.specs.Names.{startless, names}
-use Rattle.logic.specs.Truth.{Sat, True, Prospect, Sees, world}
+use Rattle.logic.specs.Replace.{Note}
+use Rattle.logic.specs.Truth.{Sat, True, Prospect, Sees}
 
 -- t's view names the write at p of x, and all that this write stored if it acquires it
 pub record Here (s : State) (acquires : Bool) (t x p : ℕ) : Type 0 where
@@ -23,17 +24,17 @@ pub record Here (s : State) (acquires : Bool) (t x p : ℕ) : Type 0 where
   pub here : s .view t x ≡ p
   pub has : (acquires && s .row x p .releasing) ≡ true → (y : ℕ) → s .row x p .stored y ≤ s .view t y
 
-abbrev pub Arrived : Access → ℕ → ℕ → State → Type 0
+abbrev pub Arrived : Touch → ℕ → ℕ → State → Type 0
 Arrived none t p s = Unit {0}
 Arrived (load a x) t p s = Here s a t x p
-Arrived (write m x f) t p s = Here s (swaps m) t x p × (s .row x p .covered ≡ false)
+Arrived (write rel swaps x f) t p s = Here s swaps t x p × (s .row x p .covered ≡ false)
 
 -- {a} c by t {b}: of every well-formed state in which t has arrived at its pick
-abbrev pub Triple : Program → ℕ → Access → List Note → Assertion → Assertion → Type 0
+abbrev pub Triple : Program → ℕ → Touch → List Note → Assertion → Assertion → Type 0
 Triple P t A ns a b = (s : State) → Wf P s → (p : ℕ) → Arrived A t p s → True P s a → True P (finish P A ns t p s) b
 
 -- once t has readView, in s′, the write that it may pick in s
-pub record Moved (P : Program) (A : Access) (t p : ℕ) (s s′ : State) : Type 0 where
+pub record Moved (P : Program) (A : Touch) (t p : ℕ) (s s′ : State) : Type 0 where
   pub wf : Wf P s′
   pub arrived : Arrived A t p s′
   pub points : s′ .point ≡ s .point
@@ -74,7 +75,7 @@ module _ {P : Program} {s : State} (wf : Wf P s) (a : Bool) (t x p : ℕ) (ok : 
   readView-has e y = rw e (omega arith)
 
   readView-true : (q : Assertion) → T (startless q) → True P s q → True P (withView s t v) q
-  readView-true q z h = keep P (λ n. true) (world P s) (world P (withView s t v)) (λ u i c g l pr. g l (lower u l pr)) agree-refl q z (only-any (names q)) h
+  readView-true q z h = keep P (λ n. true) s (withView s t v) (λ u i c g l pr. g l (lower u l pr)) agree-refl q z (only-any (names q)) h
     where
       above : (u y : ℕ) → s .view u y ≤ upd (s .view) t v u y
       above = by-word t _ (λ y. simp upds (readView-above y)) (λ u q y. simp upds (omega arith))
@@ -92,15 +93,15 @@ module _ {P : Program} {s : State} (wf : Wf P s) (a : Bool) (t x p : ℕ) (ok : 
   }
 
 module _ {P : Program} {s : State} (wf : Wf P s) (t p : ℕ) where
-  pub pick-moved : (A : Access) → T (mayPick A t p s) → Moved P A t p s (pick A t p s)
+  pub pick-moved : (A : Touch) → T (mayPick A t p s) → Moved P A t p s (pick A t p s)
   pick-moved none ok = record { wf = wf; arrived = tt; points = refl; still = λ q z h. h }
   pick-moved (load a x) ok = readView-moved wf a t x p ok
-  pick-moved (write m x f) ok =
-      let k = readView-moved wf (swaps m) t x p (and-left (ltb p (s .size x) && leb (s .view t x) p) (not (s .row x p .covered)) ok) in
+  pick-moved (write rel swaps x f) ok =
+      let k = readView-moved wf swaps t x p (and-left (ltb p (s .size x) && leb (s .view t x) p) (not (s .row x p .covered)) ok) in
       record { wf = k .wf; arrived = (k .arrived, not-true (s .row x p .covered) (search and-right)); points = refl; still = k .still }
 
   -- the triple, of every permitted pick
-  pub triple-moved : (A : Access) (ns : List Note) (a b : Assertion) → Triple P t A ns a b → T (startless a) → T (mayPick A t p s) → True P s a → True P (finish P A ns t p (pick A t p s)) b
+  pub triple-moved : (A : Touch) (ns : List Note) (a b : Assertion) → Triple P t A ns a b → T (startless a) → T (mayPick A t p s) → True P s a → True P (finish P A ns t p (pick A t p s)) b
   triple-moved A ns a b tr z ok h = let k = pick-moved A ok in tr (pick A t p s) (k .wf) p (k .arrived) (k .still a z h)
 
 -- 4, 5, 10: where the test fails at the thread's own view, the cut has nothing to its left

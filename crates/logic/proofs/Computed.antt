@@ -1,16 +1,17 @@
--- Computed runs, worked out by hand from the scope page: message passing; a swap, a write in the middle of a row, a covered write that is read.
+-- Computed runs, worked out by hand from the scope page: message passing; a swap, a write in the middle of a row, a covered write that is read;
+-- marks and views handed on.
 use mathlib.Core.Path.{_≡_, refl}
 use mathlib.Core.Bool.{Bool, true, false, cond}
 use mathlib.Core.List.{List, [], _∷_, map}
 use Prim.Native.Nat.{ℕ, zero, suc}
 use Rattle.logic.specs.Base.{upd}
 use Rattle.logic.specs.Limits
-use Rattle.logic.specs.Formula.{Formula.const, Formula.reg, Formula.equal}
-use Rattle.logic.specs.Machine.{View, Write, State, Program, Mode.store, Mode.swap, Action.assign, Action.load, Action.write, Instr, Instr.act, Instr.branch, Start, Step, run}
+use Rattle.logic.specs.Formula.{Formula.const, Formula.reg, Formula.sum, Formula.equal}
+use Rattle.logic.specs.Machine.{View, Write, State, Program, Mode.store, Mode.swap, Access.none, Access.load, Access.write, Instr, Instr.act, Instr.branch, Start, Step, run}
 use Rattle.logic.specs.Obligations.{below, upTo}
 
 -- there is a start state
-begin : Program → State
+unfoldable pub begin : Program → State
 begin P = record {
   size = λ x. 1;
   row = λ x i. record { value = P .init x; releasing = false; covered = false; stored = λ y. 0 };
@@ -19,7 +20,7 @@ begin P = record {
   point = λ t. 0;
 }
 
-begins : (P : Program) → Start P (begin P)
+pub begins : (P : Program) → Start P (begin P)
 unfolding begin
 begins P = record {
   one-write = λ x. refl;
@@ -39,7 +40,7 @@ record Drawn : Type 0 where
   covered : ℕ
   stored : List ℕ
 
-yes-no : Bool → ℕ
+unfoldable pub yes-no : Bool → ℕ
 yes-no b = cond b 1 0
 
 draw : Write → Drawn
@@ -64,28 +65,28 @@ write-of : ℕ → ℕ → ℕ → List ℕ → Drawn
 write-of v r c l = record { value = v; releasing = r; covered = c; stored = l }
 
 -- the thread, and the position that it picks
-by : ℕ → ℕ → Step
+unfoldable pub by : ℕ → ℕ → Step
 by t p = record { thread = t; position = p }
 
 -- what stands where a thread has no instruction
-nothing : Instr
-nothing = act (assign 1 (const 0))
+unfoldable pub nothing : Instr
+nothing = act none (record { to = 1; by = const 0 } ∷ [])
 
 -- the instructions of a thread, from point 0
-at-points : List Instr → ℕ → Instr
+unfoldable pub at-points : List Instr → ℕ → Instr
 at-points [] k = nothing
 at-points (c ∷ l) zero = c
 at-points (c ∷ l) (suc k) = at-points l k
 
 -- MESSAGE PASSING. Word 1 is the message, word 2 the flag. Thread 1 stores 1 to the message and, releasing, 1 to the flag;
 -- thread 2 polls the flag by acquiring loads into register 1 until it is not 0, then loads the message into register 2
-sender : List Instr
-sender = act (write (store false) 1 (const 1)) ∷ act (write (store true) 2 (const 1)) ∷ []
+unfoldable pub sender : List Instr
+sender = act (write (store false) 1 (const 1)) [] ∷ act (write (store true) 2 (const 1)) [] ∷ []
 
-receiver : List Instr
-receiver = act (load true 1 2) ∷ branch (equal (reg 1) (const 0)) 0 ∷ act (load false 2 1) ∷ []
+unfoldable pub receiver : List Instr
+receiver = act (load true 1 2) [] ∷ branch (equal (reg 1) (const 0)) 0 ∷ act (load false 2 1) [] ∷ []
 
-message-passing : Program
+unfoldable pub message-passing : Program
 message-passing = record {
   threads = 2;
   words = 2;
@@ -143,15 +144,15 @@ unfolding begin draw yes-no picture write-of by nothing at-points sender receive
 after = refl
 
 -- ONE WORD, three threads: 1 stores 1; 2 swaps 2 in; 3 loads into register 3 and stores 3
-mixed : Program
+unfoldable pub mixed : Program
 mixed = record {
   threads = 3;
   words = 1;
   range = Limits.range;
   init = λ x. 0;
   points = upd (λ t. 2) 3 3;
-  code = upd (upd (upd (λ t k. nothing) 1 (at-points (act (write (store false) 1 (const 1)) ∷ []))) 2 (at-points (act (write swap 1 (const 2)) ∷ [])))
-      3 (at-points (act (load false 3 1) ∷ act (write (store false) 1 (const 3)) ∷ []));
+  code = upd (upd (upd (λ t k. nothing) 1 (at-points (act (write (store false) 1 (const 1)) [] ∷ []))) 2 (at-points (act (write swap 1 (const 2)) [] ∷ [])))
+      3 (at-points (act (load false 3 1) [] ∷ act (write (store false) 1 (const 3)) [] ∷ []));
 }
 
 middle : List Step
@@ -174,3 +175,64 @@ covered-read : picture (run mixed (begin mixed) middle) ≡ record {
 }
 unfolding begin draw yes-no picture write-of by nothing at-points mixed middle upd
 covered-read = refl
+
+-- MARKS AND MIDDLES, two words. Thread 1 stores 1 to word 1, releasing 1 to word 2, then releasing 5 to word 2; thread 2 swaps 2 into word 2;
+-- thread 3 loads word 2, relaxed and then acquiring, assigns, and stores 3 to word 2, releasing
+unfoldable pub handed : Program
+handed = record {
+  threads = 3;
+  words = 2;
+  range = Limits.range;
+  init = λ x. 0;
+  points = upd (upd (λ t. 2) 1 4) 3 5;
+  code = upd (upd (upd (λ t k. nothing) 1 (at-points (act (write (store false) 1 (const 1)) [] ∷ act (write (store true) 2 (const 1)) [] ∷ act (write (store true) 2 (const 5)) [] ∷ [])))
+      2 (at-points (act (write swap 2 (const 2)) [] ∷ [])))
+      3 (at-points (act (load false 1 2) [] ∷ act (load true 2 2) [] ∷ act none (record { to = 3; by = sum (reg 2) (sum (reg 2) (const 7)) } ∷ []) ∷ act (write (store true) 2 (const 3)) [] ∷ []));
+}
+
+hand-over : List Step
+hand-over =
+    by 1 0
+    ∷ by 1 0
+    ∷ by 2 1  -- swaps behind the releasing write: its stored view is joined in, and it keeps its mark
+    ∷ by 3 1  -- a relaxed load of a covered, releasing write in the middle of its row: only that word moves
+    ∷ by 3 1  -- an acquiring load of it: its stored view is joined in
+    ∷ by 3 2  -- refused: an assignment picks 0
+    ∷ by 3 2  -- refused again
+    ∷ by 1 2  -- a releasing store behind a releasing write
+    ∷ by 3 0
+    ∷ by 3 2  -- a releasing store in the middle of a row
+    ∷ by 4 0  -- refused: no thread 4, though it has an instruction, which would set register 1
+    ∷ []
+
+handed-over : picture (run handed (begin handed) hand-over) ≡ record {
+  rows =
+      (write-of 0 0 0 (0 ∷ 0 ∷ []) ∷ write-of 1 0 0 (1 ∷ 0 ∷ []) ∷ [])
+      ∷ (write-of 0 0 0 (0 ∷ 0 ∷ []) ∷ write-of 1 1 1 (1 ∷ 1 ∷ []) ∷ write-of 2 1 0 (1 ∷ 2 ∷ []) ∷ write-of 3 1 0 (1 ∷ 3 ∷ []) ∷ write-of 5 1 0 (1 ∷ 4 ∷ []) ∷ [])
+      ∷ [];
+  views = (1 ∷ 4 ∷ []) ∷ (1 ∷ 2 ∷ []) ∷ (1 ∷ 3 ∷ []) ∷ [];
+  registers = 1 ∷ 1 ∷ 1 ∷ [];
+  points = 3 ∷ 1 ∷ 4 ∷ [];
+}
+unfolding begin draw yes-no picture write-of by nothing at-points handed hand-over upd
+handed-over = refl
+
+-- after the relaxed load alone
+seen-relaxed : map (run handed (begin handed) (by 1 0 ∷ by 1 0 ∷ by 2 1 ∷ by 3 1 ∷ []) .view 3) (upTo 2) ≡ 0 ∷ 1 ∷ []
+unfolding begin by nothing at-points handed upd
+seen-relaxed = refl
+
+-- a swap behind a write that is not releasing joins no view
+unfoldable pub dropped : Program
+dropped = record {
+  threads = 2;
+  words = 2;
+  range = Limits.range;
+  init = λ x. 0;
+  points = upd (λ t. 2) 1 3;
+  code = upd (upd (λ t k. nothing) 1 (at-points (act (write (store false) 2 (const 1)) [] ∷ act (write (store false) 1 (const 1)) [] ∷ []))) 2 (at-points (act (write swap 1 (const 4)) [] ∷ []));
+}
+
+not-joined : map (run dropped (begin dropped) (by 1 0 ∷ by 1 0 ∷ by 2 1 ∷ []) .view 2) (upTo 2) ≡ 2 ∷ 0 ∷ []
+unfolding begin by nothing at-points dropped upd
+not-joined = refl

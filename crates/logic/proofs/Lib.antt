@@ -5,6 +5,7 @@ pub mod Intervals
 pub mod Halves
 pub mod Invariant
 pub mod Prospects
+pub mod World
 pub mod Agreement
 pub mod Replacement
 pub mod Rows
@@ -18,6 +19,9 @@ pub mod Actions
 pub mod Steps
 pub mod Sound
 pub mod Runs
-pub mod Fit
-pub mod Rules
+pub mod Permitted
 pub mod Computed
+pub mod Flags
+pub mod Meaning
+pub mod Facts
+pub mod Effects

@@ -2,23 +2,24 @@
 use mathlib.Core.Path.{_≡_, refl, ap, sym, _∙_}
 use mathlib.Core.Bool.{Bool, true, not}
 use mathlib.Core.List.{List, [], _∷_}
-use Prim.Native.Nat.{ℕ, _+_, _<_}
+use Prim.Native.Nat.{ℕ, _<_}
 use native.Mathlib.Omega.{arith}
 use native.Mathlib.Nat.{mod-lt}
 use lib.Dec.{T, eqb, ltb→lt}
-use Rattle.logic.proofs.Agreement.{Same, Agree, value-agree, test-agree, sat-agree, keep, only-any}
+use Rattle.logic.proofs.Agreement.{Same, Agree, value-agree, test-agree, sat-agree, keep-truth, only-any}
 use Rattle.logic.proofs.Base.{upd-other, upd-case, and-left, and-right, not-eqb}
 use Rattle.logic.proofs.Cuts.{All-map}
-use Rattle.logic.proofs.Halves.{Note, noted, notes, workedAt, withRegs, withPoints, kept}
+use Rattle.logic.proofs.Halves.{workedAt, withPoints, kept}
 use Rattle.logic.proofs.Invariant.{Wf}
 use Rattle.logic.proofs.Replacement.{replaced, under}
 use Rattle.logic.specs.Base.{All}
 use Rattle.logic.specs.Eval.{Env, onRegs, value, test, bounded}
 use Rattle.logic.specs.Formula.{Value, Test, Assertion, Formula.const, Formula.reg, Formula.word, Formula.sum}
-use Rattle.logic.specs.Machine.{View, State, Program, at}
+use Rattle.logic.specs.Machine.{View, State, Program, at, withRegs}
 use Rattle.logic.specs.Names.{only, regsIn, isReg, startless, Name, n-reg, n-word, n-unsync, n-cov, names}
-use Rattle.logic.specs.Replace.{replace}
-use Rattle.logic.specs.Truth.{True, Truth, world}
+use Rattle.logic.specs.Replace.{Note, noted, notes, replace}
+use Rattle.logic.specs.Truth.{True}
+use Rattle.logic.proofs.World.{Truth, world, true-world, world-true}
 
 -- meanings with the same registers
 pub regs-same : {ρ σ : Env} → ρ .reg ≡ σ .reg → Agree isReg ρ σ
@@ -62,12 +63,15 @@ module _ (P : Program) (s : State) (g pt : ℕ → ℕ) where
   -- from any world with the same views and prospects
   pub regs-true : (ok : Name → Bool) (ρ : View → Env) (held : Env) → ((v : View) → Agree ok (ρ v) (at P after v)) → Agree ok held (onRegs g)
       → (q : Assertion) → T (startless q) → T (only ok q) → Truth P (record { state = s; at = ρ; held = held }) q → True P after q
-  regs-true ok ρ held f k = keep P ok (record { state = s; at = ρ; held = held }) (world P after)
-      (λ u i c h l pr. sat-agree (P .range) ok ρ (at P after) f i c l (h l pr)) k
+  regs-true ok ρ held f k q z c h =
+      world-true P after q
+      (keep-truth P ok (record { state = s; at = ρ; held = held }) (world P after) (λ u i d g l pr. sat-agree (P .range) ok ρ (at P after) f i d l (g l pr)) k q z c h)
 
   -- 1: registers that pass keep their value
   pub regs-kept : (ok : ℕ → Bool) → ((r : ℕ) → T (ok r) → s .reg r ≡ g r) → (q : Assertion) → T (startless q) → T (only (regsIn ok) q) → True P s q → True P after q
-  regs-kept ok e = regs-true (regsIn ok) (at P s) (onRegs (s .reg)) (λ v. reg-agree (regsIn ok) (at P s v) g e) (reg-agree (regsIn ok) (onRegs (s .reg)) g e)
+  regs-kept ok e q z c h =
+      regs-true (regsIn ok) (at P s) (onRegs (s .reg)) (λ v. reg-agree (regsIn ok) (at P s v) g e) (reg-agree (regsIn ok) (onRegs (s .reg)) g e)
+      q z c (true-world P s q h)
 
 module _ (P : Program) (s : State) (t : ℕ) (ns : List Note) where
   abbrev given : ℕ → ℕ
@@ -83,7 +87,7 @@ module _ (P : Program) (s : State) (t : ℕ) (ns : List Note) where
       regs-true P s given pt (λ n. true) (λ v. under (P .range) (notes ns) (at P s v)) (under (P .range) (notes ns) (onRegs (s .reg)))
       (λ v. reg-agree (λ n. true) (under (P .range) (notes ns) (at P s v)) given (λ r k. anywhere (at P s v) refl r))
       (reg-agree (λ n. true) (under (P .range) (notes ns) (onRegs (s .reg))) given (λ r k. anywhere (onRegs (s .reg)) refl r))
-      q z (only-any (names q)) (replaced P (notes ns) q (world P s) h)
+      q z (only-any (names q)) (replaced P (notes ns) q (world P s) (true-world P s (replace (notes ns) q) h))
     where
       anywhere : (ρ : Env) → ρ .reg ≡ s .reg → (r : ℕ) → value (P .range) ρ (noted ns r) ≡ given r
       anywhere ρ e r = value-agree (P .range) (regs-same e) (noted ns r) (noted-all (λ f. T (only isReg f)) (λ r. tt) ns plain r)
@@ -97,7 +101,7 @@ module _ (P : Program) (s : State) (t : ℕ) (ns : List Note) where
   worked-small wf (const n) k = ltb→lt n (P .range) k
   worked-small wf (reg r) k = wf .reg-small r
   worked-small wf (word x) k = wf .small x (s .view t x) (wf .view-in t x)
-  worked-small wf (sum a b) k = mod-lt (value (P .range) (at P s (s .view t)) a + value (P .range) (at P s (s .view t)) b) (omega (arith, wf .reg-small 0))
+  worked-small wf (sum a b) k = mod-lt _ (omega (arith, wf .reg-small 0))
 
   pub given-small : Wf P s → All (λ (n : Note). T (bounded (P .range) (n .by))) ns → (r : ℕ) → given r < P .range
   given-small wf h = noted-all (λ f. workedAt P s t f < P .range) (wf .reg-small) ns (All-map _ _ (λ (n : Note) k. worked-small wf (n .by) k) ns h)

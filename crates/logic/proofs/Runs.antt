@@ -1,5 +1,5 @@
 -- Demand 3: a well-formed program whose obligations are derived is true to its outline in every run. One induction over the list of steps.
-use mathlib.Core.Path.{_≡_, refl, sym, subst}
+use mathlib.Core.Path.{_≡_, refl, ap, sym, _∙_, subst}
 use mathlib.Core.Bool.{Bool, true, false, cond, not}
 use mathlib.Core.List.{List, [], _∷_, _++_, map}
 use mathlib.Core.Logic.{_≢_}
@@ -12,20 +12,22 @@ use Rattle.logic.specs.Base.{All, upd, Within}
 use Rattle.logic.specs.Formula.{Formula, Test, Assertion, Formula.bothA, Formula.holds}
 use Rattle.logic.specs.Names.{names, only, isReg, startless}
 use Rattle.logic.specs.Eval.{test, onRegs}
-use Rattle.logic.specs.Machine
-use Rattle.logic.specs.Machine.{State, Program, Action, Instr, Instr.act, Instr.branch, Start, Step, withPoint, exec, allowed, instrAt, permitted, step, run}
-use Rattle.logic.specs.Truth.{True, world}
-use Rattle.logic.specs.Statement.{Statement, implies, triple}
+use Rattle.logic.specs.Replace.{Note}
+use Rattle.logic.specs.Machine.{State, Program, Access, Access.none, Access.load, Access.write, Mode.store, Mode.swap, Instr, Instr.act, Instr.branch, Start, Step, withPoint, exec, allowed, instrAt, permitted, step, run}
+use Rattle.logic.specs.Truth.{True}
+use Rattle.logic.specs.Statement.{Statement, implies, triple, first}
 use Rattle.logic.specs.Obligations
-use Rattle.logic.specs.Obligations.{Outline, Obligation, below, upTo, flat, own, acting, instructed, actions, starts, steps, interferences, obligations, wants}
-use Rattle.logic.specs.EveryRun.{proper, WellFormed, Derived, by-rule, Proved, Holds, EveryRun}
+use Rattle.logic.specs.EveryRun.{Outline, Holds, EveryRun}
+use Rattle.logic.specs.Obligations.{Obligation, below, upTo, flat, own, acting, instructed, actions, starts, steps, interferences, obligations, wants}
+use Rattle.logic.specs.WellFormed.{proper, WellFormed}
+use Rattle.logic.specs.Derivation.{Derived, by-rule, Proved}
 use Rattle.logic.proofs.Base.{by-word, upds, and-left, and-right, and-both, is-true, All-left, All-right}
 use Rattle.logic.proofs.Agreement.{keep, agree-refl, only-any}
 use Rattle.logic.proofs.Invariant.{Wf, start-wf}
-use Rattle.logic.proofs.Halves.{access, notesOf, pick, finish}
+use Rattle.logic.proofs.Halves.{touch, allNotes, pick, finish}
 use Rattle.logic.proofs.Arrived.{pick-moved, triple-moved}
 use Rattle.logic.proofs.Steps.{may-pick, exec-halves}
-use Rattle.logic.proofs.Sound.{Valid, ValidTriple, good, finish-wf, sound}
+use Rattle.logic.proofs.Sound.{Valid, ValidTriple, good, first-alone, finish-wf, sound}
 
 -- what is derived is valid
 all-of : (Q : Statement → Type 0) (d : Statement) (ps : List Statement) → ((i : ℕ) → i < length ps → Q (getD ps i d)) → All Q ps
@@ -85,6 +87,12 @@ module _ (P : Program) (Q : Obligation → Type 0) (h : All Q (obligations P)) w
       (flat-in Q (λ u. flat (λ j. flat (λ t. actions P u j t) (upTo (P .threads))) (below (P .points u))) (upTo (P .threads))
       (All-right Q (steps P) (interferences P) (All-right Q (starts P) (steps P ++ interferences P) h))) u w)) j b)) t v))) k (omega arith)
 
+-- class 4 has every action, of each kind
+every-action : (P : Program) (u j t k : ℕ) (A : Access) (ns : List Note) → acting P u j t k (act A ns) ≡ Obligations.interference u j t k ∷ []
+every-action P u j t k none ns = refl
+every-action P u j t k (load a r x) ns = refl
+every-action P u j t k (write m x f) ns = refl
+
 -- what a run keeps
 record Inv (P : Program) (O : Outline) (s : State) : Type 0 where
   wf : Wf P s
@@ -97,48 +105,51 @@ module _ (P : Program) (O : Outline) (W : WellFormed P O) (D : Proved P O) where
 
   -- the points change, and nothing else
   moved-on : (s : State) (t k : ℕ) (a : Assertion) → T (startless a) → True P s a → True P (withPoint s t k) a
-  moved-on s t k a z = keep P (λ n. true) (world P s) (world P (withPoint s t k)) (λ u i c h. h) agree-refl a z (only-any (names a))
+  moved-on s t k a z = keep P (λ n. true) s (withPoint s t k) (λ u i c h. h) agree-refl a z (only-any (names a))
 
   module _ (s : State) (inv : Inv P O s) (t : ℕ) (t-in : Within (P .threads) t) (more : suc (s .point t) < P .points t) where
     no-start-at : (u : ℕ) → Within (P .threads) u → T (startless (O u (s .point u)))
     no-start-at u b = W .no-start u (s .point u) b (inv .point u b)
 
-    module _ (c : Action) (e : instrAt P s t ≡ act c) (p : ℕ) (may : T (allowed (act c) t p s)) where
-      its-proper : T (proper P (P .points t) (act c))
+    module _ (A : Access) (ns : List Note) (e : instrAt P s t ≡ act A ns) (p : ℕ) (may : T (allowed (act A ns) t p s)) where
+      its-proper : T (proper P (P .points t) (act A ns))
       its-proper = subst (λ (i : Instr). T (proper P (P .points t) i)) e (W .instructions t (s .point t) t-in more)
 
-      halves : finish P (access c) (notesOf c) t p (pick (access c) t p s) ≡ exec P (act c) t p s
-      halves = exec-halves P t p s (inv .wf) (P .points t) c its-proper may
+      halves : finish P (touch A) (allNotes A ns) t p (pick (touch A) t p s) ≡ exec P (act A ns) t p s
+      halves = exec-halves P t p s (inv .wf) ns (P .points t) A its-proper may
 
-      -- a derived triple takes what is true before to what is true after
-      goes-on : (a b : Assertion) → Derived P (triple t (s .point t) a b) → T (startless a) → True P s a → True P (exec P (act c) t p s) b
-      goes-on a b d z h =
+      -- what is valid of the instruction takes what is true before to what is true after
+      moves-on : (a b : Assertion) → ValidTriple P t (act A ns) a b → T (startless a) → True P s a → True P (exec P (act A ns) t p s) b
+      moves-on a b v z h =
           subst (λ (s : State). True P s b) halves
-          (triple-moved (inv .wf) t p (access c) (notesOf c) a b
-          (subst (λ (i : Instr). ValidTriple P t i a b) e (derived-valid P (W .instructions) d)) z (may-pick c t p s may) h)
+          (triple-moved (inv .wf) t p (touch A) (allNotes A ns) a b v z (may-pick A ns t p s may) h)
 
-      acted-wf : Wf P (exec P (act c) t p s)
+      -- so does a derived triple
+      goes-on : (a b : Assertion) → Derived P (triple t (s .point t) a b) → T (startless a) → True P s a → True P (exec P (act A ns) t p s) b
+      goes-on a b d = moves-on a b (subst (λ (i : Instr). ValidTriple P t i a b) (ap first e ∙ first-alone (act A ns) (search (its-proper, and-left))) (derived-valid P (W .instructions) d))
+
+      acted-wf : Wf P (exec P (act A ns) t p s)
       acted-wf =
-          let k = pick-moved (inv .wf) t p (access c) (may-pick c t p s may) in
-          subst (Wf P) halves (finish-wf P t (access c) (notesOf c) (good P (P .points t) c its-proper) (pick (access c) t p s) (k .wf) p (k .arrived))
+          let k = pick-moved (inv .wf) t p (touch A) (may-pick A ns t p s may) in
+          subst (Wf P) halves (finish-wf P t (touch A) (allNotes A ns) (good P (P .points t) A ns its-proper) (pick (touch A) t p s) (k .wf) p (k .arrived))
 
       -- only the acting thread's point changes, to the next one
-      acted-points : exec P (act c) t p s .point ≡ upd (s .point) t (suc (s .point t))
-      acted-points = go c
+      acted-points : exec P (act A ns) t p s .point ≡ upd (s .point) t (suc (s .point t))
+      acted-points = go A
         where
-          go : (c : Action) → exec P (act c) t p s .point ≡ upd (s .point) t (suc (s .point t))
-          go (Machine.assign r f) = refl
-          go (Machine.load a r x) = refl
-          go (Machine.write (Machine.store b) x f) = refl
-          go (Machine.write Machine.swap x f) = refl
+          go : (A : Access) → exec P (act A ns) t p s .point ≡ upd (s .point) t (suc (s .point t))
+          go none = refl
+          go (load a r x) = refl
+          go (write (store b) x f) = refl
+          go (write swap x f) = refl
 
-      acted : Inv P O (exec P (act c) t p s)
+      acted : Inv P O (exec P (act A ns) t p s)
       acted = record {
         wf = acted-wf;
         point = λ u b. subst (λ (z : ℕ → ℕ). z u < P .points u) (sym acted-points)
             (by-word t (λ u. Within (P .threads) u → upd (s .point) t (suc (s .point t)) u < P .points u) (λ b. simp upds more) (λ u n b. simp upds (inv .point u b)) u b);
-        true-there = λ u b. subst (λ (z : ℕ → ℕ). True P (exec P (act c) t p s) (O u (z u))) (sym acted-points)
-            (by-word t (λ u. Within (P .threads) u → True P (exec P (act c) t p s) (O u (upd (s .point) t (suc (s .point t)) u)))
+        true-there = λ u b. subst (λ (z : ℕ → ℕ). True P (exec P (act A ns) t p s) (O u (z u))) (sym acted-points)
+            (by-word t (λ u. Within (P .threads) u → True P (exec P (act A ns) t p s) (O u (upd (s .point) t (suc (s .point t)) u)))
             (λ b. simp upds (goes-on (O t (s .point t)) (O t (suc (s .point t))) next (no-start-at t b) (inv .true-there t b)))
             (λ u n b. simp upds (goes-on (bothA (O u (s .point u)) (O t (s .point t))) (O u (s .point u)) (kept u b n)
             (and-both (startless (O u (s .point u))) (startless (O t (s .point t))) (no-start-at u b) (no-start-at t t-in)) (inv .true-there u b, inv .true-there t t-in)))
@@ -149,7 +160,9 @@ module _ (P : Program) (O : Outline) (W : WellFormed P O) (D : Proved P O) where
           next = rw e at (rw e at (each-step P Wanted D t (s .point t) t-in more)) .0
 
           kept : (u : ℕ) → Within (P .threads) u → u ≢ t → Derived P (triple t (s .point t) (bothA (O u (s .point u)) (O t (s .point t))) (O u (s .point u)))
-          kept u b n = (rw e at (each-other P Wanted D u (s .point u) t (s .point t) b (inv .point u b) t-in more n)) .0
+          kept u b n =
+              let all = rw e at (each-other P Wanted D u (s .point u) t (s .point t) b (inv .point u b) t-in more n) in
+              subst (All Wanted) (every-action P u (s .point u) t (s .point t) A ns) all .0
 
     -- a branch that goes to the point k
     goes : (k : ℕ) → k < P .points t → True P s (O t k) → Inv P O (withPoint s t k)
@@ -180,7 +193,7 @@ module _ (P : Program) (O : Outline) (W : WellFormed P O) (D : Proved P O) where
         go false z = goes (suc (s .point t)) more (derived-valid P (W .instructions) to-next s (inv .wf) (inv .true-there t t-in, subst (λ (b : Bool). T (not b)) (sym z) tt))
 
     stepped : (c : Instr) → instrAt P s t ≡ c → (p : ℕ) → T (allowed c t p s) → Inv P O (exec P c t p s)
-    stepped (act c) e p may = acted c e p may
+    stepped (act A ns) e p may = acted A ns e p may
     stepped (branch f a) e p may = branched f a e p
 
   -- each step, refused or not

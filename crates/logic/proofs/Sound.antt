@@ -12,15 +12,16 @@ use Rattle.logic.specs.Base.{All, all, Within, within}
 use Rattle.logic.specs.Formula.{Value, Test, Interval, Assertion, Formula.const, Formula.word, Formula.and, Formula.unsync, Formula.cov, Formula.box, Formula.one, Formula.chop, Formula.sees, Formula.bothA, Formula.eitherA, Formula.holds}
 use Rattle.logic.specs.Names.{Name, n-reg, n-word, n-unsync, n-cov, names, only, isReg, notReg, notWord, startless, plain}
 use Rattle.logic.specs.Eval.{Env, test, onRegs, bounded}
+use Rattle.logic.specs.Replace.{Note}
 use Rattle.logic.specs.Table.{Imp}
 use Rattle.logic.specs.Machine
-use Rattle.logic.specs.Machine.{View, State, Program, Mode, Mode.store, Mode.swap, Action, Instr, Instr.act, Instr.branch, Start, at}
+use Rattle.logic.specs.Machine.{View, State, Program, Mode, Mode.store, Mode.swap, Access, Instr, Instr.act, Instr.branch, Start, at}
 use Rattle.logic.specs.Truth.{Sat, True, Prospect, Sees, Names}
-use Rattle.logic.specs.Statement.{Statement, inside, implies, triple, isBranch, admitted, isImp, impOf}
-use Rattle.logic.specs.Rules.{Rule}
+use Rattle.logic.specs.Statement.{Statement, inside, implies, triple, isPair, first, half, admitted, isImp, impOf}
+use Rattle.logic.specs.Rule.{Rule}
 use Rattle.logic.specs.Inference
 use Rattle.logic.specs.Inference.{Inference, newest, keeps}
-use Rattle.logic.specs.EveryRun.{proper}
+use Rattle.logic.specs.WellFormed.{properValue, properAccess, proper}
 use Rattle.logic.proofs.Base.{and-left, and-right, and-both, is-true, all-All, map-or}
 use Rattle.logic.proofs.Cuts.{All-take, All-drop, All-map}
 use Rattle.logic.proofs.Intervals.{rule-33, rule-34, rule-35, rule-36, rule-37, rule-38}
@@ -31,43 +32,69 @@ use Rattle.logic.proofs.Tables.{by-table}
 use Rattle.logic.proofs.Rule20.{rule-20}
 use Rattle.logic.proofs.Registers.{regs-same, given-small}
 use Rattle.logic.proofs.Invariant.{Wf}
-use Rattle.logic.proofs.Halves.{Note, Access, Access.none, Access.load, Access.write, access, notesOf, Good, memory, finish, untouched}
+use Rattle.logic.proofs.Halves.{Touch, Touch.none, Touch.load, Touch.write, releases, covers, touch, allNotes, Good, memory, finish, untouched}
 use Rattle.logic.proofs.Arrived.{Arrived, Triple}
 use Rattle.logic.proofs.Actions.{write-wf, all-weaken, rule-1, rule-2, rule-3, rule-4, rule-5-load, rule-5-swap, rule-6, rule-7, rule-8, rule-9, rule-10, rule-11, rule-12, rule-13}
 
 -- a triple: of every well-formed state in which the thread has arrived at its pick
 abbrev pub ValidTriple : Program → ℕ → Instr → Assertion → Assertion → Type 0
-ValidTriple P t (act c) a b = Triple P t (access c) (notesOf c) a b
+ValidTriple P t (act A ns) a b = Triple P t (touch A) (allNotes A ns) a b
 ValidTriple P t (branch e k) a b = Unit {0}
 
 -- an inclusion: of every list of views whose values are below the range; an implication: of every well-formed state
 abbrev pub Valid : Program → Statement → Type 0
 Valid P (inside i j) = (ρ : View → Env) (l : List View) → All (λ v. Small (P .range) (ρ v)) l → Sat (P .range) ρ i l → Sat (P .range) ρ j l
 Valid P (implies a b) = (s : State) → Wf P s → True P s a → True P s b
-Valid P (triple t k a b) = ValidTriple P t (P .code t k) a b
+Valid P (triple t k a b) = ValidTriple P t (half P t k) a b
 
 -- THE SECOND HALF keeps the invariant
 module _ (P : Program) (t : ℕ) where
-  given-in : (A : Access) (ns : List Note) → Good P A ns → (s : State) → Wf P s → (r : ℕ) → finish P A ns t 0 s .reg r < P .range
+  given-in : (A : Touch) (ns : List Note) → Good P A ns → (s : State) → Wf P s → (r : ℕ) → finish P A ns t 0 s .reg r < P .range
   given-in none ns g s wf = given-small P s t ns wf (all-All _ ns g)
   given-in (load a x) ns g s wf = given-small P s t ns wf (all-All _ ns g)
-  given-in (write m x f) ns g s wf = given-small P s t ns wf (all-All _ ns (g .2))
+  given-in (write rel swaps x f) ns g s wf = given-small P s t ns wf (all-All _ ns (g .2))
 
-  memory-wf : (A : Access) (ns : List Note) → Good P A ns → (s : State) → Wf P s → (p : ℕ) → Arrived A t p s → Wf P (memory P A t p s)
+  memory-wf : (A : Touch) (ns : List Note) → Good P A ns → (s : State) → Wf P s → (p : ℕ) → Arrived A t p s → Wf P (memory P A t p s)
   memory-wf none ns g s wf p arr = wf
   memory-wf (load a x) ns g s wf p arr = wf
-  memory-wf (write m x f) ns g s wf p arr = write-wf m x f ns g wf p arr
+  memory-wf (write rel swaps x f) ns g s wf p arr = write-wf rel swaps x f ns g wf p arr
 
-  pub finish-wf : (A : Access) (ns : List Note) → Good P A ns → (s : State) → Wf P s → (p : ℕ) → Arrived A t p s → Wf P (finish P A ns t p s)
+  pub finish-wf : (A : Touch) (ns : List Note) → Good P A ns → (s : State) → Wf P s → (p : ℕ) → Arrived A t p s → Wf P (finish P A ns t p s)
   finish-wf A ns g s wf p arr =
       let k = memory-wf A ns g s wf p arr in
       record { outer = k .outer; view-in = k .view-in; stored-in = k .stored-in; own = k .own; small = k .small; reg-small = given-in A ns g s wf }
 
 -- a proper instruction, as the halves ask for it
-pub good : (P : Program) (n : ℕ) (c : Action) → T (proper P n (act c)) → Good P (access c) (notesOf c)
-good P n (Machine.assign r f) h = and-both (bounded (P .range) f) true (search (and-left, and-right)) tt
-good P n (Machine.load a r x) h = tt
-good P n (Machine.write m x f) h = ((leb→le 1 x (search (and-left, and-right)), leb→le x (P .words) (search (and-left, and-right))), search (and-left, and-right), tt)
+bounded-notes : (P : Program) (ns : List Note) → T (all (λ (n : Note). properValue P (n .by)) ns) → T (all (λ (n : Note). bounded (P .range) (n .by)) ns)
+bounded-notes P [] h = tt
+bounded-notes P (n ∷ ns) h =
+    and-both (bounded (P .range) (n .by)) (all (λ (n : Note). bounded (P .range) (n .by)) ns) (search (and-left, and-right))
+    (bounded-notes P ns (search (and-left, and-right)))
+
+pub good : (P : Program) (n : ℕ) (A : Access) (ns : List Note) → T (proper P n (act A ns)) → Good P (touch A) (allNotes A ns)
+good P n Machine.none ns h = bounded-notes P ns (search (and-left, and-right))
+good P n (Machine.load a r x) ns h = bounded-notes P ns (search (and-left, and-right))
+good P n (Machine.write m x f) ns h = (
+  (leb→le 1 x (search (and-left, and-right)), leb→le x (P .words) (search (and-left, and-right))),
+  search (and-left, and-right),
+  bounded-notes P ns (search (and-left, and-right)),
+)
+
+-- so is its first half
+pub first-proper : (P : Program) (n : ℕ) (c : Instr) → T (proper P n c) → T (proper P n (first c))
+first-proper P n (act Machine.none ns) h = h
+first-proper P n (act (Machine.load a r x) ns) h = and-both (within (P .words) x) true (search (and-left, and-right)) tt
+first-proper P n (act (Machine.write m x f) ns) h = and-both (properAccess P (Machine.write m x f)) true (search (and-left, and-right)) tt
+first-proper P n (branch e a) h = h
+
+-- an instruction that is no pair is its first half
+pub first-alone : (c : Instr) → T (not (isPair c)) → first c ≡ c
+first-alone (act Machine.none ns) h = refl
+first-alone (act (Machine.load a r x) []) h = refl
+first-alone (act (Machine.load a r x) (n ∷ ns)) h = absurd h
+first-alone (act (Machine.write m x f) []) h = refl
+first-alone (act (Machine.write m x f) (n ∷ ns)) h = absurd h
+first-alone (branch e a) h = refl
 
 -- WHAT VALUES VIEWS HAVE
 module _ {P : Program} {s : State} (wf : Wf P s) where
@@ -100,36 +127,38 @@ one-of f g (inl h) = f h
 one-of f g (inr h) = g h
 
 -- rule 1's side condition, as the halves ask for it
-load-keeps : (a : Bool) (r x : ℕ) (n : Name) → T (notReg r n) → T (untouched (load a x) (notesOf (Machine.load a r x)) n)
+load-keeps : (a : Bool) (r x : ℕ) (n : Name) → T (notReg r n) → T (untouched (load a x) (allNotes (Machine.load a r x) []) n)
 load-keeps a r x (n-reg q) h = and-both (not (eqb q r)) true h tt
 load-keeps a r x (n-word q) h = tt
 load-keeps a r x (n-unsync q) h = tt
 load-keeps a r x (n-cov q) h = tt
 
-write-keeps : (m : Mode) (x : ℕ) (f : Value) (n : Name) → T (notWord x n) → T (untouched (write m x f) [] n)
+write-keeps : (m : Mode) (x : ℕ) (f : Value) (n : Name) → T (notWord x n) → T (untouched (touch (Machine.write m x f)) [] n)
 write-keeps m x f (n-reg q) h = tt
 write-keeps m x f (n-word q) h = h
 write-keeps m x f (n-unsync q) h = h
 write-keeps m x f (n-cov q) h = h
 
 module _ (P : Program) where
-  kept : (t n : ℕ) (c : Instr) (a : Assertion) → T (proper P n c) → T (startless a) → T (keeps c a) → ValidTriple P t c a a
-  kept t n (act (Machine.assign r f)) a ok z h = absurd h
-  kept t n (act (Machine.load q r x)) a ok z h = rule-1 P t (load q x) (notesOf (Machine.load q r x)) tt a z (all-weaken _ _ (load-keeps q r x) (names a) h)
-  kept t n (act (Machine.write m x f)) a ok z h = rule-1 P t (write m x f) [] (good P n (Machine.write m x f) ok) a z (all-weaken _ _ (write-keeps m x f) (names a) h)
+  kept : (t n : ℕ) (c : Instr) (a : Assertion) → T (proper P n (first c)) → T (startless a) → T (keeps (first c) a) → ValidTriple P t (first c) a a
+  kept t n (act Machine.none ns) a ok z h = absurd h
+  kept t n (act (Machine.load q r x) ns) a ok z h =
+      rule-1 P t (load q x) (allNotes (Machine.load q r x) []) tt a z (all-weaken _ _ (load-keeps q r x) (names a) h)
+  kept t n (act (Machine.write m x f) ns) a ok z h =
+      rule-1 P t (touch (Machine.write m x f)) [] (good P n (Machine.write m x f) [] ok) a z (all-weaken _ _ (write-keeps m x f) (names a) h)
   kept t n (branch e k) a ok z h = absurd h
 
   -- 14 to 16, of any instruction
   both-triples : (t : ℕ) (c : Instr) (a b q r : Assertion) → ValidTriple P t c a q → ValidTriple P t c b r → ValidTriple P t c (bothA a b) (bothA q r)
-  both-triples t (act c) a b q r d e = λ s wf p arr h. (d s wf p arr (h .0), e s wf p arr (h .1))
+  both-triples t (act A ns) a b q r d e = λ s wf p arr h. (d s wf p arr (h .0), e s wf p arr (h .1))
   both-triples t (branch e k) a b q r d _ = tt
 
   either-triples : (t : ℕ) (c : Instr) (a b q r : Assertion) → ValidTriple P t c a q → ValidTriple P t c b r → ValidTriple P t c (eitherA a b) (eitherA q r)
-  either-triples t (act c) a b q r d e = λ s wf p arr h. map-or (d s wf p arr) (e s wf p arr) h
+  either-triples t (act A ns) a b q r d e = λ s wf p arr h. map-or (d s wf p arr) (e s wf p arr) h
   either-triples t (branch e k) a b q r d _ = tt
 
   weakened : (t n : ℕ) (c : Instr) (a b q r : Assertion) → T (proper P n c) → Valid P (implies a b) → ValidTriple P t c b q → Valid P (implies q r) → ValidTriple P t c a r
-  weakened t n (act c) a b q r ok i d j = λ s wf p arr h. j _ (finish-wf P t (access c) (notesOf c) (good P n c ok) s wf p arr) (d s wf p arr (i s wf h))
+  weakened t n (act A ns) a b q r ok i d j = λ s wf p arr h. j _ (finish-wf P t (touch A) (allNotes A ns) (good P n A ns ok) s wf p arr) (d s wf p arr (i s wf h))
   weakened t n (branch e k) a b q r ok i d j = tt
 
   -- 26
@@ -152,54 +181,60 @@ module _ (P : Program) where
     abbrev Proper : Statement → Type 0
     Proper (inside i j) = Unit {0}
     Proper (implies a b) = Unit {0}
-    Proper (triple t k a b) = T (proper P (P .points t) (P .code t k))
+    Proper (triple t k a b) = T (proper P (P .points t) (half P t k))
 
     its-proper : (s : Statement) → T (admitted P s) → Proper s
     its-proper (inside i j) h = tt
     its-proper (implies a b) h = tt
     its-proper (triple t k a b) h =
-        ok t k (leb→le 1 t (search (and-left, and-right)), leb→le t (P .threads) (search (and-left, and-right))) (ltb→lt (suc k) (P .points t) (search (and-left, and-right)))
+        first-proper P (P .points t) (P .code t k)
+        (ok t k (leb→le 1 t (search (and-left, and-right)), leb→le t (P .threads) (search (and-left, and-right)))
+        (ltb→lt (suc k) (P .points t) (search (and-left, and-right))))
 
-    its-good : (t k : ℕ) (c : Action) → P .code t k ≡ act c → T (proper P (P .points t) (P .code t k)) → Good P (access c) (notesOf c)
-    its-good t k c e h = good P (P .points t) c (subst (λ (z : Instr). T (proper P (P .points t) z)) e h)
+    its-good : (t k : ℕ) (A : Access) (ns : List Note) → half P t k ≡ act A ns → T (proper P (P .points t) (half P t k)) → Good P (touch A) (allNotes A ns)
+    its-good t k A ns e h = good P (P .points t) A ns (subst (λ (z : Instr). T (proper P (P .points t) z)) e h)
 
     -- its formula is over registers
-    written : (t k : ℕ) (m : Mode) (x : ℕ) (f : Value) → P .code t k ≡ act (Machine.write m x f) → T (proper P (P .points t) (P .code t k)) → T (only isReg f)
+    written : (t k : ℕ) (m : Mode) (x : ℕ) (f : Value) → half P t k ≡ act (Machine.write m x f) [] → T (proper P (P .points t) (half P t k)) → T (only isReg f)
     written t k m x f e h =
-        let g : T (proper P (P .points t) (act (Machine.write m x f))) = subst (λ (z : Instr). T (proper P (P .points t) z)) e h in
+        let g : T (properAccess P (Machine.write m x f)) = and-left (properAccess P (Machine.write m x f)) true (subst (λ (z : Instr). T (proper P (P .points t) z)) e h) in
         search (and-left, and-right)
 
-    assigned : (t k r : ℕ) (f : Value) → P .code t k ≡ act (Machine.assign r f) → T (proper P (P .points t) (P .code t k)) → T (only isReg f)
-    assigned t k r f e h = and-left (only isReg f) (bounded (P .range) f) (subst (λ (z : Instr). T (proper P (P .points t) z)) e h)
+    assigned : (t k : ℕ) (ns : List Note) → half P t k ≡ act Machine.none ns → T (proper P (P .points t) (half P t k)) → T (all (λ (n : Note). only isReg (n .by)) ns)
+    assigned t k ns e h = go ns (subst (λ (z : Instr). T (proper P (P .points t) z)) e h)
+      where
+        go : (ns : List Note) → T (all (λ (n : Note). properValue P (n .by)) ns) → T (all (λ (n : Note). only isReg (n .by)) ns)
+        go [] h = tt
+        go (n ∷ ns) h = and-both (only isReg (n .by)) (all (λ (n : Note). only isReg (n .by)) ns) (search (and-left, and-right)) (go ns (search (and-left, and-right)))
 
     pub sound : (n : Rule) (s : Statement) (ps : List Statement) → Inference P n ps s → T (admitted P s) → All (Valid P) ps → Valid P s
     sound n s ps (Inference.i1 {t = t} {k = k} {p = p} c) h vs = kept t (P .points t) (P .code t k) p (its-proper s h) (search (and-left, and-right)) c
-    sound n s ps (Inference.i2 {t = t} {k = k} {r = r} {f = f} {q = q} e) h vs =
-        rw e (rule-2 P t (notesOf (Machine.assign r f)) q (search (and-left, and-right)) (and-both (only isReg f) true (assigned t k r f e (its-proper s h)) tt))
-    sound n s ps (Inference.i3 {t = t} {r = r} {x = x} {acq = acq} {e = e} c) h vs = rw c (rule-3 P t (load acq x) (notesOf (Machine.load acq r x)) e (search (and-left, and-right)))
+    sound n s ps (Inference.i2 {t = t} {k = k} {ns = ns} {q = q} e) h vs =
+        rw e (rule-2 P t ns q (search (and-left, and-right)) (assigned t k ns e (its-proper s h)))
+    sound n s ps (Inference.i3 {t = t} {r = r} {x = x} {acq = acq} {e = e} c) h vs = rw c (rule-3 P t (load acq x) (allNotes (Machine.load acq r x) []) e (search (and-left, and-right)))
     sound n s ps (Inference.i4 {t = t} {r = r} {x = x} {acq = acq} {e = e} {i = i} {q = q} c) h vs =
-        rw c (rule-4 P t (load acq x) (notesOf (Machine.load acq r x)) e (search (and-left, and-right)) i q (rw c at (vs .0)))
-    sound n s ps (Inference.i5-load {t = t} {r = r} {x = x} {i = i} {q = q} e) h vs = rw e (rule-5-load P t x (notesOf (Machine.load true r x)) i q (rw e at (vs .0)))
+        rw c (rule-4 P t (load acq x) (allNotes (Machine.load acq r x) []) e (search (and-left, and-right)) i q (rw c at (vs .0)))
+    sound n s ps (Inference.i5-load {t = t} {r = r} {x = x} {i = i} {q = q} e) h vs = rw e (rule-5-load P t x (allNotes (Machine.load true r x) []) i q (rw e at (vs .0)))
     sound n s ps (Inference.i5-swap {t = t} {x = x} {f = f} {i = i} {q = q} e) h vs = rw e (rule-5-swap P t x [] i q f (rw e at (vs .0)))
     sound n s ps (Inference.i6 {t = t} {k = k} {x = x} {rel = rel} {f = f} e) h vs =
-        rw e (rule-6 P t x f rel (its-good t k (Machine.write (store rel) x f) e (its-proper s h)) (written t k (store rel) x f e (its-proper s h)))
+        rw e (rule-6 P t x f rel (its-good t k (Machine.write (store rel) x f) [] e (its-proper s h)) (written t k (store rel) x f e (its-proper s h)))
     sound n s ps (Inference.i7 {t = t} {k = k} {x = x} {u = u} {rel = rel} {f = f} {i = i} e) h vs =
-        rw e (rule-7 P t x f rel (its-good t k (Machine.write (store rel) x f) e (its-proper s h)) (written t k (store rel) x f e (its-proper s h)) u i)
+        rw e (rule-7 P t x f rel (its-good t k (Machine.write (store rel) x f) [] e (its-proper s h)) (written t k (store rel) x f e (its-proper s h)) u i)
     sound n s ps (Inference.i8 {t = t} {k = k} {x = x} {u = u} {f = f} {i = i} {j = j} e c) h vs =
-        rw e (rule-8 P t x f (its-good t k (Machine.write (store true) x f) e (its-proper s h)) u i j c)
+        rw e (rule-8 P t x f (its-good t k (Machine.write (store true) x f) [] e (its-proper s h)) u i j c)
     sound n s ps (Inference.i9 {t = t} {k = k} {x = x} {u = u} {m = m} {f = f} {e = e} q c) h vs =
-        rw q (rule-9 P t x f m (its-good t k (Machine.write m x f) q (its-proper s h)) (written t k m x f q (its-proper s h)) u e c)
-    sound n s ps (Inference.i10 {t = t} {x = x} {m = m} {f = f} {i = i} {q = q} e) h vs = rw e (rule-10 P t x [] i q m f (rw e at (vs .0)))
+        rw q (rule-9 P t x f (releases m) (covers m) (its-good t k (Machine.write m x f) [] q (its-proper s h)) (written t k m x f q (its-proper s h)) u e c)
+    sound n s ps (Inference.i10 {t = t} {x = x} {m = m} {f = f} {i = i} {q = q} e) h vs = rw e (rule-10 P t x [] i q (releases m) (covers m) f (rw e at (vs .0)))
     sound n s ps (Inference.i11 {t = t} {k = k} {x = x} {f = f} e) h vs =
-        rw e (rule-11 P t x f (its-good t k (Machine.write swap x f) e (its-proper s h)) (written t k swap x f e (its-proper s h)))
+        rw e (rule-11 P t x f (its-good t k (Machine.write swap x f) [] e (its-proper s h)) (written t k swap x f e (its-proper s h)))
     sound n s ps (Inference.i12 {t = t} {k = k} {x = x} {u = u} {f = f} e) h vs =
-        rw e (rule-12 P t x f (its-good t k (Machine.write swap x f) e (its-proper s h)) (written t k swap x f e (its-proper s h)) u)
+        rw e (rule-12 P t x f (its-good t k (Machine.write swap x f) [] e (its-proper s h)) (written t k swap x f e (its-proper s h)) u)
     sound n s ps (Inference.i13 {t = t} {k = k} {x = x} {u = u} {f = f} {j = j} e c) h vs =
-        rw e (rule-13 P t x f (its-good t k (Machine.write swap x f) e (its-proper s h)) u j c)
-    sound n s ps (Inference.i14 {t = t} {k = k} {a = a} {b = b} {q = q} {r = r} z) h vs = both-triples t (P .code t k) a b q r (vs .0) (vs .1 .0)
-    sound n s ps (Inference.i15 {t = t} {k = k} {a = a} {b = b} {q = q} {r = r} z) h vs = either-triples t (P .code t k) a b q r (vs .0) (vs .1 .0)
+        rw e (rule-13 P t x f (its-good t k (Machine.write swap x f) [] e (its-proper s h)) u j c)
+    sound n s ps (Inference.i14 {t = t} {k = k} {a = a} {b = b} {q = q} {r = r} z) h vs = both-triples t (half P t k) a b q r (vs .0) (vs .1 .0)
+    sound n s ps (Inference.i15 {t = t} {k = k} {a = a} {b = b} {q = q} {r = r} z) h vs = either-triples t (half P t k) a b q r (vs .0) (vs .1 .0)
     sound n s ps (Inference.i16 {t = t} {k = k} {a = a} {b = b} {q = q} {r = r} z) h vs =
-        weakened t (P .points t) (P .code t k) a b q r (its-proper s h) (vs .0) (vs .1 .0) (vs .1 .1 .0)
+        weakened t (P .points t) (half P t k) a b q r (its-proper s h) (vs .0) (vs .1 .0) (vs .1 .1 .0)
     sound n s ps (Inference.i20 {a = a} {b = b} l i c) h vs = λ s wf g.
         rule-20 P s (map impOf ps) (record { left = a; right = b }) (by-table (map impOf ps) (record { left = a; right = b }) c) (implications ps i vs s wf) g
     sound n s ps (Inference.i21 {e = e} {f = f} c) h vs = λ s wf g. by-rows (P .range) e f c (onRegs (s .reg)) (small-held wf) g

@@ -1,19 +1,20 @@
 -- A step of the machine is its two halves, in every well-formed state and for every position that is allowed.
-use mathlib.Core.Path.{_≡_, refl, ap, sym, _∙_, fun-ext}
+use mathlib.Core.Path.{_≡_, refl, ap, ap₂, sym, _∙_, fun-ext}
 use mathlib.Core.Bool.{Bool, true, false, cond, _&&_}
-use mathlib.Core.List.{[], _∷_}
+use mathlib.Core.List.{List, [], _∷_}
 use Prim.Native.Nat.{ℕ, suc}
 use lib.Dec.{T}
-use Rattle.logic.specs.Base.{upd, within}
-use Rattle.logic.specs.Formula.{Value, Formula.reg, Formula.word}
+use Rattle.logic.specs.Base.{upd, all}
+use Rattle.logic.specs.Formula.{Value, Formula.word}
 use Rattle.logic.specs.Names.{only, isReg}
-use Rattle.logic.specs.Eval.{onRegs, bounded}
-use Rattle.logic.specs.Machine
-use Rattle.logic.specs.Machine.{View, State, Program, Mode, Mode.store, Mode.swap, Action, Instr.act, at, join, worked, withView, moveTo, upView, inserted, insert, cover, readView, swapView, exec, allowed}
-use Rattle.logic.specs.EveryRun.{proper}
-use Rattle.logic.proofs.Base.{upds, upd-same, by-word, and-left, and-right}
+use Rattle.logic.specs.Replace.{Note, noted}
+use Rattle.logic.specs.Eval.{onRegs}
+use Rattle.logic.specs.Machine.{View, State, Program, Mode.store, Mode.swap, Access, Access.none, Access.load, Access.write, Instr.act, at, join, worked, shared, given, returned, withView, withRegs, moveTo, upView, inserted, insert, cover, readView, swapView, exec, allowed}
+use Rattle.logic.specs.WellFormed.{properValue, properAccess, proper}
+use Rattle.logic.proofs.Base.{upds, upd-same, upd-other, by-word, and-left, and-right}
 use Rattle.logic.proofs.Agreement.{value-agree}
-use Rattle.logic.proofs.Halves.{access, notesOf, Access.load, withRegs, withPoints, workedAt, put, pick, mayPick, finish}
+use Rattle.logic.proofs.Halves
+use Rattle.logic.proofs.Halves.{touch, allNotes, withPoints, workedAt, put, pick, mayPick, memory, finish}
 use Rattle.logic.proofs.Invariant.{Wf}
 use Rattle.logic.proofs.Registers.{regs-same}
 use Rattle.logic.proofs.Arrived.{pick-moved}
@@ -22,15 +23,15 @@ abbrev next : State → ℕ → State
 next s t = withPoints s (upd (s .point) t (suc (s .point t)))
 
 -- the position that is allowed may be picked
-pub may-pick : (c : Action) (t p : ℕ) (s : State) → T (allowed (act c) t p s) → T (mayPick (access c) t p s)
-may-pick (Machine.assign r f) t p s h = h
-may-pick (Machine.load a r x) t p s h = search (and-left, and-right)
-may-pick (Machine.write m x f) t p s h = search (and-left, and-right)
+pub may-pick : (A : Access) (ns : List Note) (t p : ℕ) (s : State) → T (allowed (act A ns) t p s) → T (mayPick (touch A) t p s)
+may-pick none ns t p s h = h
+may-pick (load a r x) ns t p s h = h
+may-pick (write m x f) ns t p s h = h
 
 module _ (P : Program) (t p : ℕ) where
   -- over registers alone a formula is worked out the same at every view
-  worked-same : (f : Value) → T (only isReg f) → (s : State) → workedAt P s t f ≡ worked P s f
-  worked-same f plain s = value-agree (P .range) (regs-same {ρ = at P s (s .view t)} {σ = onRegs (s .reg)} refl) f plain
+  worked-same : (f : Value) → T (only isReg f) → (s s′ : State) → s′ .reg ≡ s .reg → workedAt P s′ t f ≡ worked P s f
+  worked-same f plain s s′ e = value-agree (P .range) (regs-same {ρ = at P s′ (s′ .view t)} {σ = onRegs (s .reg)} e) f plain
 
   -- an insertion after the view has moved, from a view that comes to the same
   moved-first : (x : ℕ) (releasing : Bool) (m n : ℕ) (v w : View) (s : State) → m ≡ n → moveTo x p v ≡ moveTo x p w
@@ -60,26 +61,44 @@ module _ (P : Program) (t p : ℕ) where
       go true = refl
       go false = move-over x (s .view t)
 
-  module _ (s : State) (wf : Wf P s) where
-    assign-halves : (r : ℕ) (f : Value) → T (only isReg f) → (λ (q : ℕ). workedAt P s t (upd reg r f q)) ≡ upd (s .reg) r (worked P s f)
-    assign-halves r f plain = fun-ext (by-word r _ (simp upds (worked-same f plain s)) (λ q n. simp upds))
+  -- what the notes give the registers
+  notes-halves : (ns : List Note) → T (all (λ (n : Note). properValue P (n .by)) ns) → (s s′ : State) → s′ .reg ≡ s .reg
+      → (q : ℕ) → workedAt P s′ t (noted ns q) ≡ given P s ns (s .reg) q
+  notes-halves [] ok s s′ e = λ q. ap (λ (g : ℕ → ℕ). g q) e
+  notes-halves (n ∷ ns) ok s s′ e =
+      by-word (n .to) _ (simp upds (worked-same (n .by) (search (and-left, and-right)) s s′ e))
+      (λ q d. simp upds (notes-halves ns (search (and-left, and-right)) s s′ e q))
 
-    load-halves : (a : Bool) (r x : ℕ) → T (allowed (act (Machine.load a r x)) t p s)
-        → (λ (q : ℕ). workedAt P (withView s t (readView s a t x p)) t (upd reg r (word x) q)) ≡ upd (s .reg) r (s .row x p .value)
-    load-halves a r x ok = fun-ext (by-word r _ here (λ q n. simp upds))
+  module _ (s : State) (wf : Wf P s) (ns : List Note) where
+    -- the shared words
+    memory-halves : (A : Access) → T (properAccess P A) → memory P (touch A) t p (pick (touch A) t p s) ≡ shared P A t p s
+    memory-halves none ok = refl
+    memory-halves (load a r x) ok = refl
+    memory-halves (write (store releasing) x f) ok =
+        moved-first x releasing (workedAt P (withView s t (upd (s .view t) x p)) t f) (worked P s f) (upd (s .view t) x p) (s .view t) s
+        (worked-same f (search (and-left, and-right)) s (withView s t (upd (s .view t) x p)) refl) (move-over x (s .view t))
+    memory-halves (write swap x f) ok =
+        moved-first x true (workedAt P (withView s t (readView s true t x p)) t f) (worked P s f) (readView s true t x p) (swapView s t x p) (cover x p s)
+        (worked-same f (search (and-left, and-right)) s (withView s t (readView s true t x p)) refl) (swap-over x s)
+
+    -- the registers
+    regs-halves : (A : Access) → T (all (λ (n : Note). properValue P (n .by)) ns) → T (allowed (act A ns) t p s)
+        → (q : ℕ) → workedAt P (pick (touch A) t p s) t (noted (allNotes A ns) q) ≡ returned A p s (given P s ns (s .reg)) q
+    regs-halves none ok may = notes-halves ns ok s s refl
+    regs-halves (load a r x) ok may =
+        by-word r _ (simp upds (ap (λ i. s .row x i .value) (simp upds at (pick-moved wf t p (Halves.load a x) may .arrived .here))))
+        (λ q n. ap (workedAt P (withView s t (readView s a t x p)) t) (upd-other (noted ns) r (word x) q n)
+        ∙ notes-halves ns ok s (withView s t (readView s a t x p)) refl q ∙ sym (upd-other (given P s ns (s .reg)) r (s .row x p .value) q n))
+    regs-halves (write m x f) ok may = notes-halves ns ok s (pick (touch (write m x f)) t p s) refl
+
+    pub exec-halves : (n : ℕ) (A : Access) → T (proper P n (act A ns)) → T (allowed (act A ns) t p s)
+        → finish P (touch A) (allNotes A ns) t p (pick (touch A) t p s) ≡ exec P (act A ns) t p s
+    exec-halves n A ok may = go A (memory-halves A (search (and-left, and-right))) (fun-ext (regs-halves A (search (and-left, and-right)) may))
       where
-        here : workedAt P (withView s t (readView s a t x p)) t (upd reg r (word x) r) ≡ upd (s .reg) r (s .row x p .value) r
-        here = simp upds (ap (λ i. s .row x i .value) (simp upds at (pick-moved wf t p (load a x) (may-pick (Machine.load a r x) t p s ok) .arrived .here)))
-
-    pub exec-halves : (n : ℕ) (c : Action) → T (proper P n (act c)) → T (allowed (act c) t p s)
-        → finish P (access c) (notesOf c) t p (pick (access c) t p s) ≡ exec P (act c) t p s
-    exec-halves n (Machine.assign r f) ok may = ap (λ (g : ℕ → ℕ). next (withRegs s g) t) (assign-halves r f (and-left (only isReg f) (bounded (P .range) f) ok))
-    exec-halves n (Machine.load a r x) ok may = ap (λ (g : ℕ → ℕ). next (withRegs (withView s t (readView s a t x p)) g) t) (load-halves a r x may)
-    exec-halves n (Machine.write (store releasing) x f) ok may =
-        ap (λ (z : State). next z t)
-        (moved-first x releasing (workedAt P (withView s t (upd (s .view t) x p)) t f) (worked P s f) (upd (s .view t) x p) (s .view t) s
-        (worked-same f (search (and-left, and-right)) (withView s t (upd (s .view t) x p))) (move-over x (s .view t)))
-    exec-halves n (Machine.write swap x f) ok may =
-        ap (λ (z : State). next z t)
-        (moved-first x true (workedAt P (withView s t (readView s true t x p)) t f) (worked P s f) (readView s true t x p) (swapView s t x p) (cover x p s)
-        (worked-same f (search (and-left, and-right)) (withView s t (readView s true t x p))) (swap-over x s))
+        go : (A : Access) → memory P (touch A) t p (pick (touch A) t p s) ≡ shared P A t p s
+            → (λ (q : ℕ). workedAt P (pick (touch A) t p s) t (noted (allNotes A ns) q)) ≡ returned A p s (given P s ns (s .reg))
+            → finish P (touch A) (allNotes A ns) t p (pick (touch A) t p s) ≡ exec P (act A ns) t p s
+        go none e g = ap₂ (λ (z : State) (g : ℕ → ℕ). next (withRegs z g) t) e g
+        go (load a r x) e g = ap₂ (λ (z : State) (g : ℕ → ℕ). next (withRegs z g) t) e g
+        go (write (store releasing) x f) e g = ap₂ (λ (z : State) (g : ℕ → ℕ). next (withRegs z g) t) e g
+        go (write swap x f) e g = ap₂ (λ (z : State) (g : ℕ → ℕ). next (withRegs z g) t) e g

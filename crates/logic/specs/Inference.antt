@@ -10,12 +10,12 @@ use Rattle.logic.specs.Base.{all}
 use Rattle.logic.specs.Limits
 use Rattle.logic.specs.Formula.{Value, Test, Interval, Assertion, Formula.const, Formula.reg, Formula.word, Formula.equal, Formula.and, Formula.unsync, Formula.cov, Formula.box, Formula.one, Formula.chop, Formula.both, Formula.either, Formula.sees, Formula.bothA, Formula.eitherA, Formula.start, Formula.holds}
 use Rattle.logic.specs.Names.{only, notWord, notFlag, notReg}
-use Rattle.logic.specs.Replace.{replace, regBy, wordBy}
+use Rattle.logic.specs.Replace.{Note, replace, notes, regBy, wordBy}
 use Rattle.logic.specs.Rows.{byRows}
 use Rattle.logic.specs.Table.{byTable}
-use Rattle.logic.specs.Machine.{Program, Mode, Mode.store, Mode.swap, Action.assign, Action.load, Action.write, Instr, Instr.act, Instr.branch}
-use Rattle.logic.specs.Statement.{Statement, inside, implies, triple, isBranch, isImp, impOf}
-use Rattle.logic.specs.Rules.{Rule, r1, r2, r3, r4, r5, r6, r7, r8, r9, r10, r11, r12, r13, r14, r15, r16, r20, r21, r22, r23, r24, r25, r26, r27, r30, r31, r32, r33, r34, r35, r36, r37, r38, r39, r40, r41, r42, r43, r44, r45, r46}
+use Rattle.logic.specs.Machine.{Program, Mode, Mode.store, Mode.swap, Access.none, Access.load, Access.write, Instr, Instr.act, Instr.branch}
+use Rattle.logic.specs.Statement.{Statement, inside, implies, triple, isBranch, half, isImp, impOf}
+use Rattle.logic.specs.Rule.{Rule, r1, r2, r3, r4, r5, r6, r7, r8, r9, r10, r11, r12, r13, r14, r15, r16, r20, r21, r22, r23, r24, r25, r26, r27, r30, r31, r32, r33, r34, r35, r36, r37, r38, r39, r40, r41, r42, r43, r44, r45, r46}
 
 -- one x, and x = f
 abbrev pub newest : ℕ → Value → Interval
@@ -27,39 +27,39 @@ C x = chop (box (cov x)) (one x)
 
 -- rule 1: load: r absent; store, swap: x absent in any role
 abbrev pub keeps : Instr → Assertion → Bool
-keeps (act (assign r f)) a = false
-keeps (act (load acquires r x)) a = only (notReg r) a
-keeps (act (write m x f)) a = only (notWord x) a
+keeps (act none ns) a = false
+keeps (act (load acquires r x) ns) a = only (notReg r) a
+keeps (act (write m x f) ns) a = only (notWord x) a
 keeps (branch e k) a = false
 
 -- by the rule, from the premises: the statement
 pub data Inference (P : Program) : Rule → List Statement → Statement → Type 0 where
-  i1 : {t k : ℕ} {p : Assertion} → T (keeps (P .code t k) p) → Inference P r1 [] (triple t k p p)
-  i2 : {t k r : ℕ} {f : Value} {q : Assertion} → P .code t k ≡ act (assign r f) → Inference P r2 [] (triple t k (replace (regBy r f) q) q)
-  i3 : {t k r x : ℕ} {acq : Bool} {e : Test} → P .code t k ≡ act (load acq r x) → Inference P r3 [] (triple t k (sees t (box (replace (regBy r (word x)) e))) (holds e))
-  i4 : {t k r x : ℕ} {acq : Bool} {e : Test} {i : Interval} {q : Assertion} → P .code t k ≡ act (load acq r x)
+  i1 : {t k : ℕ} {p : Assertion} → T (keeps (half P t k) p) → Inference P r1 [] (triple t k p p)
+  i2 : {t k : ℕ} {ns : List Note} {q : Assertion} → half P t k ≡ act none ns → Inference P r2 [] (triple t k (replace (notes ns) q) q)
+  i3 : {t k r x : ℕ} {acq : Bool} {e : Test} → half P t k ≡ act (load acq r x) [] → Inference P r3 [] (triple t k (sees t (box (replace (regBy r (word x)) e))) (holds e))
+  i4 : {t k r x : ℕ} {acq : Bool} {e : Test} {i : Interval} {q : Assertion} → half P t k ≡ act (load acq r x) []
       → Inference P r4 (triple t k (sees t i) q ∷ []) (triple t k (sees t (chop (box (replace (regBy r (word x)) e)) i)) (eitherA (holds e) q))
-  i5-load : {t k r x : ℕ} {i : Interval} {q : Assertion} → P .code t k ≡ act (load true r x)
+  i5-load : {t k r x : ℕ} {i : Interval} {q : Assertion} → half P t k ≡ act (load true r x) []
       → Inference P r5 (triple t k (sees t i) q ∷ []) (triple t k (sees t (chop (box (unsync x)) i)) q)
-  i5-swap : {t k x : ℕ} {f : Value} {i : Interval} {q : Assertion} → P .code t k ≡ act (write swap x f)
+  i5-swap : {t k x : ℕ} {f : Value} {i : Interval} {q : Assertion} → half P t k ≡ act (write swap x f) []
       → Inference P r5 (triple t k (sees t i) q ∷ []) (triple t k (sees t (chop (box (unsync x)) i)) q)
-  i6 : {t k x : ℕ} {rel : Bool} {f : Value} → P .code t k ≡ act (write (store rel) x f) → Inference P r6 [] (triple t k (sees t (one x)) (sees t (newest x f)))
-  i7 : {t k x u : ℕ} {rel : Bool} {f : Value} {i : Interval} → P .code t k ≡ act (write (store rel) x f)
+  i6 : {t k x : ℕ} {rel : Bool} {f : Value} → half P t k ≡ act (write (store rel) x f) [] → Inference P r6 [] (triple t k (sees t (one x)) (sees t (newest x f)))
+  i7 : {t k x u : ℕ} {rel : Bool} {f : Value} {i : Interval} → half P t k ≡ act (write (store rel) x f) []
       → Inference P r7 [] (triple t k (bothA (sees t (one x)) (sees u i)) (sees u (chop i (newest x f))))
-  i8 : {t k x u : ℕ} {f : Value} {i j : Interval} → P .code t k ≡ act (write (store true) x f) → T (only (notWord x) j)
+  i8 : {t k x u : ℕ} {f : Value} {i j : Interval} → half P t k ≡ act (write (store true) x f) [] → T (only (notWord x) j)
       → Inference P r8 [] (triple t k (bothA (sees t (one x)) (bothA (sees u i) (sees t j))) (sees u (chop i (chop (box (unsync x)) j))))
-  i9 : {t k x u : ℕ} {m : Mode} {f : Value} {e : Test} → P .code t k ≡ act (write m x f) → T (only (notFlag x) e)
+  i9 : {t k x u : ℕ} {m : Mode} {f : Value} {e : Test} → half P t k ≡ act (write m x f) [] → T (only (notFlag x) e)
       → Inference P r9 [] (triple t k (bothA (sees u (box e)) (sees u (box (replace (wordBy x f) e)))) (sees u (box e)))
-  i10 : {t k x : ℕ} {m : Mode} {f : Value} {i : Interval} {q : Assertion} → P .code t k ≡ act (write m x f)
+  i10 : {t k x : ℕ} {m : Mode} {f : Value} {i : Interval} {q : Assertion} → half P t k ≡ act (write m x f) []
       → Inference P r10 (triple t k (sees t i) q ∷ []) (triple t k (sees t (chop (box (cov x)) i)) q)
-  i11 : {t k x : ℕ} {f : Value} → P .code t k ≡ act (write swap x f) → Inference P r11 [] (triple t k (sees t (C x)) (sees t (newest x f)))
-  i12 : {t k x u : ℕ} {f : Value} → P .code t k ≡ act (write swap x f)
+  i11 : {t k x : ℕ} {f : Value} → half P t k ≡ act (write swap x f) [] → Inference P r11 [] (triple t k (sees t (C x)) (sees t (newest x f)))
+  i12 : {t k x u : ℕ} {f : Value} → half P t k ≡ act (write swap x f) []
       → Inference P r12 [] (triple t k (bothA (sees t (C x)) (sees u (C x))) (sees u (chop (box (cov x)) (newest x f))))
-  i13 : {t k x u : ℕ} {f : Value} {j : Interval} → P .code t k ≡ act (write swap x f) → T (only (notWord x) j)
+  i13 : {t k x u : ℕ} {f : Value} {j : Interval} → half P t k ≡ act (write swap x f) [] → T (only (notWord x) j)
       → Inference P r13 [] (triple t k (bothA (sees t (C x)) (bothA (sees u (C x)) (sees t j))) (sees u (chop (box (cov x)) (chop (box (unsync x)) j))))
-  i14 : {t k : ℕ} {a b q r : Assertion} → T (not (isBranch (P .code t k))) → Inference P r14 (triple t k a q ∷ triple t k b r ∷ []) (triple t k (bothA a b) (bothA q r))
-  i15 : {t k : ℕ} {a b q r : Assertion} → T (not (isBranch (P .code t k))) → Inference P r15 (triple t k a q ∷ triple t k b r ∷ []) (triple t k (eitherA a b) (eitherA q r))
-  i16 : {t k : ℕ} {a b q r : Assertion} → T (not (isBranch (P .code t k))) → Inference P r16 (implies a b ∷ triple t k b q ∷ implies q r ∷ []) (triple t k a r)
+  i14 : {t k : ℕ} {a b q r : Assertion} → T (not (isBranch (half P t k))) → Inference P r14 (triple t k a q ∷ triple t k b r ∷ []) (triple t k (bothA a b) (bothA q r))
+  i15 : {t k : ℕ} {a b q r : Assertion} → T (not (isBranch (half P t k))) → Inference P r15 (triple t k a q ∷ triple t k b r ∷ []) (triple t k (eitherA a b) (eitherA q r))
+  i16 : {t k : ℕ} {a b q r : Assertion} → T (not (isBranch (half P t k))) → Inference P r16 (implies a b ∷ triple t k b q ∷ implies q r ∷ []) (triple t k a r)
   i20 : {ps : List Statement} {a b : Assertion} → length ps ≤ Limits.premises → T (all isImp ps) → T (byTable (map impOf ps) (record { left = a; right = b })) → Inference P r20 ps (implies a b)
   i21 : {e f : Test} → T (byRows (P .range) e f) → Inference P r21 [] (implies (holds e) (holds f))
   i22 : {t : ℕ} {i j : Interval} → Inference P r22 (inside i j ∷ []) (implies (sees t i) (sees t j))

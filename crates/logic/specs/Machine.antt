@@ -6,6 +6,7 @@ use Prim.Native.Nat.{ℕ, suc, _+_, _-_, min, max}
 use lib.Dec.{eqb, ltb, leb}
 use Rattle.logic.specs.Base.{upd, some, within}
 use Rattle.logic.specs.Formula.{Value, Test}
+use Rattle.logic.specs.Replace.{Note}
 use Rattle.logic.specs.Eval.{Env, onRegs, value, test}
 
 -- STATES
@@ -36,15 +37,15 @@ pub data Mode : Type 0 where
   store : Bool → Mode
   swap : Mode
 
--- assign r f; load acquires r x; write mode x f
-pub data Action : Type 0 where
-  assign : ℕ → Value → Action
-  load : Bool → ℕ → ℕ → Action
-  write : Mode → ℕ → Value → Action
+-- what is done with a shared word: nothing; load acquires r x; write mode x f
+pub data Access : Type 0 where
+  none : Access
+  load : Bool → ℕ → ℕ → Access
+  write : Mode → ℕ → Value → Access
 
--- an action, or a branch on a test to a point
+-- an access with notes, all in one step, or a branch on a test to a point. An assignment is a note without an access
 pub data Instr : Type 0 where
-  act : Action → Instr
+  act : Access → List Note → Instr
   branch : Test → ℕ → Instr
 
 pub record Program : Type 0 where
@@ -127,8 +128,8 @@ cover x p s = record {
 abbrev pub withView : State → ℕ → View → State
 withView s t v = record { size = s .size; row = s .row; view = upd (s .view) t v; reg = s .reg; point = s .point }
 
-abbrev pub withReg : State → ℕ → ℕ → State
-withReg s r n = record { size = s .size; row = s .row; view = s .view; reg = upd (s .reg) r n; point = s .point }
+abbrev pub withRegs : State → (ℕ → ℕ) → State
+withRegs s g = record { size = s .size; row = s .row; view = s .view; reg = g; point = s .point }
 
 abbrev pub withPoint : State → ℕ → ℕ → State
 withPoint s t k = record { size = s .size; row = s .row; view = s .view; reg = s .reg; point = upd (s .point) t k }
@@ -146,16 +147,31 @@ swapView s t x p = cond (s .row x p .releasing) (join (s .view t) (s .row x p .s
 abbrev pub worked : Program → State → Value → ℕ
 worked P s f = value (P .range) (onRegs (s .reg)) f
 
--- what an action does to shared words and registers
-abbrev pub done : Program → Action → ℕ → ℕ → State → State
-done P (assign r f) t p s = withReg s r (worked P s f)
-done P (load acquires r x) t p s = withReg (withView s t (readView s acquires t x p)) r (s .row x p .value)
-done P (write (store releasing) x f) t p s = insert releasing x (worked P s f) t p (s .view t) s
-done P (write swap x f) t p s = insert true x (worked P s f) t p (swapView s t x p) (cover x p s)
+-- what an access does to shared words and views
+abbrev pub shared : Program → Access → ℕ → ℕ → State → State
+shared P none t p s = s
+shared P (load acquires r x) t p s = withView s t (readView s acquires t x p)
+shared P (write (store releasing) x f) t p s = insert releasing x (worked P s f) t p (s .view t) s
+shared P (write swap x f) t p s = insert true x (worked P s f) t p (swapView s t x p) (cover x p s)
+
+-- the registers g with the notes, each worked out in the state s
+abbrev pub given : Program → State → List Note → (ℕ → ℕ) → ℕ → ℕ
+given P s [] g = g
+given P s (n ∷ l) g = upd (given P s l g) (n .to) (worked P s (n .by))
+
+-- the registers g with what an access puts into its register: a load the value read
+abbrev pub returned : Access → ℕ → State → (ℕ → ℕ) → ℕ → ℕ
+returned none p s g = g
+returned (load acquires r x) p s g = upd g r (s .row x p .value)
+returned (write m x f) p s g = g
+
+-- an access and its notes in one step
+abbrev pub done : Program → Access → List Note → ℕ → ℕ → State → State
+done P A ns t p s = withRegs (shared P A t p s) (returned A p s (given P s ns (s .reg)))
 
 -- every step but a branch leads to the next point; a branch goes to its target if its test is true, else to the next point
 abbrev pub exec : Program → Instr → ℕ → ℕ → State → State
-exec P (act c) t p s = withPoint (done P c t p s) t (suc (s .point t))
+exec P (act A ns) t p s = withPoint (done P A ns t p s) t (suc (s .point t))
 exec P (branch e a) t p s = withPoint s t (cond (test (P .range) (onRegs (s .reg)) e) a (suc (s .point t)))
 
 -- the position is there, at or after the thread's own
@@ -164,9 +180,9 @@ reachable s t x p = ltb p (s .size x) && leb (s .view t x) p
 
 -- a load reads any such write, covered or not; a store or a swap picks an uncovered one; for assignment and branch the position is 0
 abbrev pub allowed : Instr → ℕ → ℕ → State → Bool
-allowed (act (assign r f)) t p s = eqb p 0
-allowed (act (load acquires r x)) t p s = reachable s t x p
-allowed (act (write m x f)) t p s = reachable s t x p && not (s .row x p .covered)
+allowed (act none ns) t p s = eqb p 0
+allowed (act (load acquires r x) ns) t p s = reachable s t x p
+allowed (act (write m x f) ns) t p s = reachable s t x p && not (s .row x p .covered)
 allowed (branch e a) t p s = eqb p 0
 
 -- RUNS

@@ -3,9 +3,10 @@ use mathlib.Core.Bool.{true, false}
 use mathlib.Core.List.{List, [], _∷_, _++_, map}
 use Prim.Native.Nat.{ℕ, zero, suc, _-_}
 use lib.Dec.{eqb}
-use Rattle.logic.specs.Formula.{Formula, Assertion, Formula.bothA, Formula.holds}
+use Rattle.logic.specs.Formula.{Formula, Formula.bothA, Formula.holds}
 use Rattle.logic.specs.Machine.{Program, Instr, Instr.act, Instr.branch}
 use Rattle.logic.specs.Statement.{Statement, implies, triple}
+use Rattle.logic.specs.EveryRun.{Outline}
 
 -- class 1: start t. Class 2: step t k, the instruction at point k of t leads to the next point. Class 3: taken t k, a branch leads to its target.
 -- Class 4: interference u j t k, the assertion of u at its point j under the instruction at point k of t
@@ -13,10 +14,6 @@ pub data Obligation : Type 0 where
   start : ℕ → Obligation
   step taken : ℕ → ℕ → Obligation
   interference : ℕ → ℕ → ℕ → ℕ → Obligation
-
--- an assertion for each thread and point
-abbrev pub Outline : Type 0
-Outline = ℕ → ℕ → Assertion
 
 -- 0 to n - 1; 1 to n
 abbrev pub below : ℕ → List ℕ
@@ -33,12 +30,12 @@ flat f (a ∷ l) = f a ++ flat f l
 module _ (P : Program) where
   -- an instruction takes its point's assertion to the next; a branch first gives its target, then the next point
   abbrev pub own : ℕ → ℕ → Instr → List Obligation
-  own t k (act c) = step t k ∷ []
+  own t k (act A ns) = step t k ∷ []
   own t k (branch e a) = taken t k ∷ step t k ∷ []
 
   -- the action is no branch
   abbrev pub acting : ℕ → ℕ → ℕ → ℕ → Instr → List Obligation
-  acting u j t k (act c) = interference u j t k ∷ []
+  acting u j t k (act A ns) = interference u j t k ∷ []
   acting u j t k (branch e a) = []
 
   -- the points of t that have an instruction: all but the last
@@ -65,12 +62,12 @@ module _ (P : Program) where
   module _ (O : Outline) where
     -- the next point: from the assertion by the instruction, or from the assertion and the negated test of a branch
     abbrev pub wantsNext : ℕ → ℕ → Instr → Statement
-    wantsNext t k (act c) = triple t k (O t k) (O t (suc k))
+    wantsNext t k (act A ns) = triple t k (O t k) (O t (suc k))
     wantsNext t k (branch e a) = implies (bothA (O t k) (holds (Formula.not e))) (O t (suc k))
 
     -- the target: from the assertion and the test of a branch; an action has none
     abbrev pub wantsTarget : ℕ → ℕ → Instr → Statement
-    wantsTarget t k (act c) = wantsNext t k (act c)
+    wantsTarget t k (act A ns) = wantsNext t k (act A ns)
     wantsTarget t k (branch e a) = implies (bothA (O t k) (holds e)) (O t a)
 
     -- what a line has to say; class 4: both(its assertion, the actor's) is kept as the first

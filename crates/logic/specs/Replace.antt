@@ -1,4 +1,5 @@
 -- Replacement of registers and words by values, of any number of them at once, so that none feeds another.
+use mathlib.Core.List.{List, [], _∷_}
 use Prim.Native.Nat.{ℕ}
 use Rattle.logic.specs.Base.{upd}
 use Rattle.logic.specs.Formula.{Sort, Formula, Value, Formula.const, Formula.reg, Formula.word, Formula.sum, Formula.equal, Formula.less, Formula.and, Formula.or, Formula.unsync, Formula.cov, Formula.box, Formula.one, Formula.chop, Formula.both, Formula.either, Formula.sees, Formula.bothA, Formula.eitherA, Formula.start, Formula.holds}
@@ -35,6 +36,19 @@ replace σ (holds e) = holds (replace σ e)
 -- the register r by f
 abbrev pub regBy : ℕ → Value → Sub
 regBy r f = record { reg = upd reg r f; word = word }
+
+-- a register and the value that it is given
+pub record Note : Type 0 where
+  pub to : ℕ
+  pub by : Value
+
+-- each register that is given a value, by that value, all at once
+abbrev pub noted : List Note → ℕ → Value
+noted [] = reg
+noted (n ∷ l) = upd (noted l) (n .to) (n .by)
+
+abbrev pub notes : List Note → Sub
+notes l = record { reg = noted l; word = word }
 
 -- the word x by f
 abbrev pub wordBy : ℕ → Value → Sub

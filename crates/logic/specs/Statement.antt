@@ -1,12 +1,13 @@
 -- What a line of a certificate says.
 use mathlib.Core.Bool.{Bool, true, false, not, _&&_}
+use mathlib.Core.List.{[], _∷_}
 use Prim.Native.Nat.{ℕ, suc}
 use lib.Dec.{ltb}
 use Rattle.logic.specs.Base.{within}
 use Rattle.logic.specs.Formula.{Interval, Assertion, Formula.start}
 use Rattle.logic.specs.Names.{startless, plain}
 use Rattle.logic.specs.Table.{Imp}
-use Rattle.logic.specs.Machine.{Program, Instr, Instr.act, Instr.branch}
+use Rattle.logic.specs.Machine.{Program, Access.none, Access.load, Access.write, Instr, Instr.act, Instr.branch}
 
 -- I in J; P to Q; a Hoare triple of the instruction at a point of a thread
 pub data Statement : Type 0 where
@@ -15,8 +16,27 @@ pub data Statement : Type 0 where
   triple : ℕ → ℕ → Assertion → Assertion → Statement
 
 abbrev pub isBranch : Instr → Bool
-isBranch (act c) = false
+isBranch (act A ns) = false
 isBranch (branch e a) = true
+
+-- an access together with a note
+abbrev pub isPair : Instr → Bool
+isPair (act none ns) = false
+isPair (act (load acquires r x) []) = false
+isPair (act (load acquires r x) (n ∷ ns)) = true
+isPair (act (write m x f) []) = false
+isPair (act (write m x f) (n ∷ ns)) = true
+isPair (branch e a) = false
+
+-- the instruction as a triple reads it: an access without its notes
+abbrev pub first : Instr → Instr
+first (act none ns) = act none ns
+first (act (load acquires r x) ns) = act (load acquires r x) []
+first (act (write m x f) ns) = act (write m x f) []
+first (branch e a) = branch e a
+
+abbrev pub half : Program → ℕ → ℕ → Instr
+half P t k = first (P .code t k)
 
 -- as an image may say it: under holds registers alone (7); a triple names an instruction that is no branch (6), and start is not in it (8)
 abbrev pub admitted : Program → Statement → Bool

@@ -34,29 +34,14 @@ abbrev pub Prospect : (ℕ → ℕ) → View → List View → Type 0
 Prospect size v [] = ⊥
 Prospect size v (w ∷ l) = From size v (w ∷ l)
 
--- a state as assertions read it: what the names stand for at each view, and under `holds`
-pub record World : Type 0 where
-  pub state : State
-  pub at : View → Env
-  pub held : Env
-
-abbrev pub world : Program → State → World
-world P s = record { state = s; at = at P s; held = onRegs (s .reg) }
-
 -- every prospect of t satisfies the interval
-abbrev pub Seen : Program → World → ℕ → Interval → Type 0
-Seen P w t i = (l : List View) → Prospect (w .state .size) (w .state .view t) l → Sat (P .range) (w .at) i l
-
-abbrev pub Truth : Program → World → Assertion → Type 0
-Truth P w (sees t i) = Seen P w t i
-Truth P w (bothA a b) = Truth P w a × Truth P w b
-Truth P w (eitherA a b) = Truth P w a ⊎ Truth P w b
-Truth P w start = Start P (w .state)
-Truth P w (holds e) = T (test (P .range) (w .held) e)
-
--- the assertion is true in the state
-abbrev pub True : Program → State → Assertion → Type 0
-True P s a = Truth P (world P s) a
-
 abbrev pub Sees : Program → State → ℕ → Interval → Type 0
-Sees P s t i = Seen P (world P s) t i
+Sees P s t i = (l : List View) → Prospect (s .size) (s .view t) l → Sat (P .range) (at P s) i l
+
+-- the assertion is true in the state. "holds e": e is true of the registers; start is true of the start state only
+abbrev pub True : Program → State → Assertion → Type 0
+True P s (sees t i) = Sees P s t i
+True P s (bothA a b) = True P s a × True P s b
+True P s (eitherA a b) = True P s a ⊎ True P s b
+True P s start = Start P s
+True P s (holds e) = T (test (P .range) (onRegs (s .reg)) e)

@@ -10,11 +10,12 @@ use borrow.Author.Tests.{eqb-true, eqb-false, eq-eqb, ne-eqb}
 use lib.ListN.{length, getD, take}
 use Rattle.logic.specs.Base.{All}
 use Rattle.logic.specs.Statement.{Statement}
-use Rattle.logic.specs.Fits.{sameStatement}
+use Rattle.patterns.specs.Fits.{sameStatement}
 use Rattle.logic.specs.Obligations.{Obligation, Obligation.start, obligations}
-use Rattle.logic.specs.EveryRun.{Derived, EveryRun}
+use Rattle.logic.specs.EveryRun.{EveryRun}
+use Rattle.logic.specs.Derivation.{Derived}
 use Rattle.logic.proofs.Base.{is-true, holds-true}
-use Rattle.logic.proofs.Fit.{statement-eq, statement-refl}
+use Rattle.patterns.proofs.Fit.{statement-eq, statement-refl}
 use Rattle.logic.proofs.Runs.{every-run}
 use Rattle.certificate.specs.Lines.{marked, Justified}
 use Rattle.certificate.proofs.Marks.{marked-justified, justified-marked, justified-derived}

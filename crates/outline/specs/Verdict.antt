@@ -9,9 +9,10 @@ use lib.ListN.{length, getD}
 use Rattle.logic.specs.Base.{Within}
 use Rattle.logic.specs.Machine.{Program}
 use Rattle.logic.specs.Statement.{Statement, admitted}
-use Rattle.logic.specs.Fits.{sameStatement}
-use Rattle.logic.specs.Obligations.{Obligation, Outline, obligations, wants}
-use Rattle.logic.specs.EveryRun.{WellFormed}
+use Rattle.patterns.specs.Fits.{sameStatement}
+use Rattle.logic.specs.EveryRun.{Outline}
+use Rattle.logic.specs.Obligations.{Obligation, obligations, wants}
+use Rattle.logic.specs.WellFormed.{WellFormed}
 use Rattle.certificate.specs.Lines.{Line, Certificate, marked, Justified}
 
 pub record Image : Type 0 where

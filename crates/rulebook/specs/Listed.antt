@@ -6,11 +6,12 @@ use lib.Dec.{eqb, leb}
 use lib.ListN.{length}
 use Rattle.logic.specs.Base.{all}
 use Rattle.logic.specs.Opcode
-use Rattle.logic.specs.Rules.{Rule, Shape, Premises, these, implications, r-by-f, r-by-x, x-by-f, Side, _is_with_, start-of, kept, lacks-x, no-flag, by-rows, by-table, row, r1, r2, r3, r4, r5, r6, r7, r8, r9, r10, r11, r12, r13, r14, r15, r16, r20, r21, r22, r23, r24, r25, r26, r27, r30, r31, r32, r33, r34, r35, r36, r37, r38, r39, r40, r41, r42, r43, r44, r45, r46}
-use Rattle.logic.specs.Fits.{isAmong}
+use Rattle.logic.specs.Rule.{Rule, r1, r2, r3, r4, r5, r6, r7, r8, r9, r10, r11, r12, r13, r14, r15, r16, r20, r21, r22, r23, r24, r25, r26, r27, r30, r31, r32, r33, r34, r35, r36, r37, r38, r39, r40, r41, r42, r43, r44, r45, r46}
+use Rattle.patterns.specs.Rules.{Shape, Premises, these, implications, by-notes, r-by-x, x-by-f, Side, _is_with_, start-of, kept, lacks-x, no-flag, by-rows, by-table, row}
+use Rattle.patterns.specs.Fits.{isAmong}
 use Rattle.limits.specs.Limits as Limits
 use Rattle.limits.specs.Limits.{nesting}
-use Rattle.formula.specs.Tree.{Tree, skim}
+use Rattle.formula.specs.Tree.{Tree, parseTree}
 use Rattle.compare.specs.Same.{sameTree}
 use Rattle.matcher.specs.Template.{shapes}
 use Rattle.matcher.specs.Places.{proper}
@@ -67,7 +68,7 @@ trees (m ∷ l) = leftOf m ∷ rightOf m ∷ trees l
 
 abbrev pub standAt : ℕ → List Tree → Bool
 standAt i [] = true
-standAt i (t ∷ ts) = (sameTree (skim templates nesting i .tree) t && proper t) && standAt (skim templates nesting i .end) ts
+standAt i (t ∷ ts) = (sameTree (parseTree templates nesting i .tree) t && proper t) && standAt (parseTree templates nesting i .end) ts
 
 -- the forms of the premises, two bits each from the lowest
 abbrev pub packed : List Shape → ℕ
@@ -93,7 +94,7 @@ operations = Opcode.assign ∷ Opcode.load ∷ Opcode.acquire ∷ Opcode.store �
 -- what is asked besides, by number
 abbrev pub sideNumber : List Side → ℕ
 sideNumber [] = nothing
-sideNumber (_is_with_ p q r-by-f ∷ l) = assigned
+sideNumber (_is_with_ p q by-notes ∷ l) = assigned
 sideNumber (_is_with_ p q r-by-x ∷ l) = loaded
 sideNumber (_is_with_ p q x-by-f ∷ l) = stored
 sideNumber (start-of n p ∷ l) = startValue

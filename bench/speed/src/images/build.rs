@@ -2,6 +2,11 @@
 
 use crate::formulas::generate::{append, Names, LONGEST};
 use crate::random::Random;
+use reference::checker::obligations::duties;
+use reference::formula::parse::Counts;
+use reference::formula::{Test, Value};
+use reference::image::written::{Instruction, Line, Written};
+use reference::image::{self, Header, Thread};
 
 /// How much an image holds.
 pub struct Size {
@@ -51,11 +56,6 @@ const ASSERTION: u8 = 3;
 
 const ACTION: [u8; 6] = [0, 1, 2, 3, 4, 5];
 const BRANCH: u8 = 6;
-
-fn record(kind: u8, body: &[u8]) -> Vec<u8> {
-    let length = (body.len() + 2) as u16;
-    [&length.to_le_bytes()[..], &[kind, 0], body].concat()
-}
 
 /// A formula that fits in a record.
 fn formula(random: &mut Random, names: &Names, sort: u8, plain: bool, left: usize) -> Vec<u8> {
@@ -126,12 +126,12 @@ impl Program<'_> {
         Names { threads: threads as u8, words: words as u8, registers, values: 8, start }
     }
 
-    fn header(&self, random: &mut Random) -> Vec<u8> {
+    fn header(&self, random: &mut Random) -> Header {
         let Size { threads, words, registers, .. } = *self.size;
-        let mut body = vec![threads as u8, words as u8, registers as u8];
-        body.extend((0..words).map(|_| random.below(8) as u8));
-        body.extend(&self.owners);
-        body
+        let counts =
+            Counts { threads: threads as u8, words: words as u8, registers: registers as u8 };
+        let start = (0..words).map(|_| random.below(8) as u8).collect();
+        Header { counts, start, owners: self.owners.clone() }
     }
 
     /// The number of the interval; assertions follow.
@@ -163,13 +163,12 @@ impl Program<'_> {
         formulas
     }
 
-    fn thread(&self, random: &mut Random, thread: usize) -> Vec<u8> {
+    fn thread(&self, random: &mut Random, thread: usize) -> Vec<Instruction> {
         let operations = &self.threads[thread - 1];
         let registers = self.registers_of(thread);
         let points = operations.len() + 1;
         let value = 2 * thread as u16 - 1;
-        let mut body = vec![points as u8];
-        for &operation in operations {
+        let instruction = |&operation: &u8| {
             let word = 1 + random.below(self.size.words) as u8;
             let mut register = || registers[random.below(registers.len())];
             let (a, b, formula) = match operation {
@@ -178,10 +177,9 @@ impl Program<'_> {
                 BRANCH => (random.below(points) as u8, 0, value + 1),
                 _ => (word, 0, value),
             };
-            let [low, high] = formula.to_le_bytes();
-            body.extend([operation, a, b, low, high]);
-        }
-        body
+            Instruction { operation, a, b, formula }
+        };
+        operations.iter().map(instruction).collect()
     }
 
     /// The number of an assertion, with or without `start`.
@@ -194,9 +192,9 @@ impl Program<'_> {
         (self.interval() + 1 + random.below(self.startless())) as u16
     }
 
-    fn outline(&self, random: &mut Random) -> Vec<u8> {
+    fn outline(&self, random: &mut Random) -> Vec<u16> {
         let points: usize = self.threads.iter().map(|operations| operations.len() + 1).sum();
-        (0..points).flat_map(|_| self.startless_assertion(random).to_le_bytes()).collect()
+        (0..points).map(|_| self.startless_assertion(random)).collect()
     }
 
     /// Thread and point of each instruction that is no branch.
@@ -209,8 +207,8 @@ impl Program<'_> {
     }
 
     /// The line that has so many before it. Half of the lines are triples, where there are actions.
-    fn line(&self, random: &mut Random, before: usize, actions: &[[u8; 2]]) -> Vec<u8> {
-        let (rule, place, left, right) = match random.below(8) {
+    fn line(&self, random: &mut Random, before: usize, actions: &[[u8; 2]]) -> Line {
+        let (rule, [thread, point], left, right) = match random.below(8) {
             0 => (30 + random.below(17), [0, 0], self.interval() as u16, self.interval() as u16),
             4.. if !actions.is_empty() => {
                 let place = actions[random.below(actions.len())];
@@ -223,51 +221,36 @@ impl Program<'_> {
             }
         };
         let premises = if before == 0 { 0 } else { random.below(5) };
-        let mut body = vec![rule as u8, place[0], place[1]];
-        body.extend(left.to_le_bytes());
-        body.extend(right.to_le_bytes());
-        body.push(premises as u8);
-        for _ in 0..premises {
-            body.extend((1 + random.below(before) as u16).to_le_bytes());
-        }
-        body
+        let premises = (0..premises).map(|_| 1 + random.below(before) as u16).collect();
+        Line { rule: rule as u8, thread, point, left, right, premises }
     }
 
-    /// A line number for each obligation: the start of each thread; each instruction, a branch twice;
-    /// each point with each action of another thread.
-    fn obligations(&self, random: &mut Random) -> Vec<u8> {
-        let branches =
-            |thread: &Vec<u8>| thread.iter().filter(|&&operation| operation == BRANCH).count();
-        let mut count = 0;
-        for (i, own) in self.threads.iter().enumerate() {
-            count += 1 + own.len() + branches(own);
-            for (j, other) in self.threads.iter().enumerate() {
-                if i != j {
-                    count += (own.len() + 1) * (other.len() - branches(other));
-                }
-            }
-        }
-        let line = |random: &mut Random| random.below(self.size.lines + 1) as u16;
-        (0..count).flat_map(|_| line(random).to_le_bytes()).collect()
+    /// A line number for each obligation. How many there are goes by the branches alone.
+    fn obligations(&self, random: &mut Random) -> Vec<u16> {
+        let stand_in = |&operation: &u8| match operation {
+            BRANCH => image::Instruction::Branch { test: Test::False.into(), target: 0 },
+            _ => image::Instruction::Assign { register: 1, value: Value::Constant(0).into() },
+        };
+        let code = |operations: &Vec<u8>| operations.iter().map(stand_in).collect();
+        let threads: Vec<Thread> = self.threads.iter().map(code).collect();
+        let line = |_| random.below(self.size.lines + 1) as u16;
+        duties(&threads).iter().map(line).collect()
     }
 }
 
 pub fn image(random: &mut Random, size: &Size) -> Vec<u8> {
     let program = Program::new(random, size);
-    let mut bytes = record(1, &program.header(random));
-    for body in program.formulas(random) {
-        bytes.extend(record(2, &body));
-    }
-    for thread in 1..=size.threads {
-        bytes.extend(record(3, &program.thread(random, thread)));
-    }
-    bytes.extend(record(4, &program.outline(random)));
     let actions = program.actions();
-    for before in 0..size.lines {
-        bytes.extend(record(5, &program.line(random, before, &actions)));
-    }
-    bytes.extend(record(6, &program.obligations(random)));
-    bytes
+    // Fields are worked out in the order in which they stand here.
+    let image = Written {
+        header: program.header(random),
+        formulas: program.formulas(random),
+        threads: (1..=size.threads).map(|thread| program.thread(random, thread)).collect(),
+        outline: program.outline(random),
+        lines: (0..size.lines).map(|before| program.line(random, before, &actions)).collect(),
+        obligations: program.obligations(random),
+    };
+    image.bytes()
 }
 
 /// An image with 500 formulas and 1,000 lines, as near to 65,535 bytes as comes in some tries.

@@ -19,7 +19,8 @@ const OFTEN: usize = 100;
 
 impl Compared {
     fn count(&mut self, answer: Answer) {
-        self.codes[answer.map_or_else(|refusal| refusal.code, |()| 0)] += 1;
+        let code = answer.map_or_else(|refusal| refusal.code, |()| 0);
+        self.codes[usize::from(code)] += 1;
     }
 
     /// Whether each of the codes 0 and 2 to 9 came often.

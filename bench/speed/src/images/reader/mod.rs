@@ -9,25 +9,26 @@ mod lists;
 mod thread;
 mod uses;
 
-use super::answer::{Answer, Refusal};
+use super::answer::Answer;
 use crate::formulas::answer::{Counts, Fault};
 use crate::formulas::readers::by_sets;
 use frames::Frames;
+use reference::checker::Refusal;
 pub use uses::{ByScan, ByTree, Search};
 
 /// Codes of faults in a body.
-const LENGTH: usize = 5;
-const RANGE: usize = 6;
-const FORM: usize = 7;
-const SORT: usize = 8;
-const OWNER: usize = 9;
+const LENGTH: u16 = 5;
+const RANGE: u16 = 6;
+const FORM: u16 = 7;
+const SORT: u16 = 8;
+const OWNER: u16 = 9;
 
 /// The code of a body's first fault, if it has one.
-type Checked = Result<(), usize>;
+type Checked = Result<(), u16>;
 
 /// Fails with the code unless the condition holds.
 #[inline(always)]
-fn demand(condition: bool, code: usize) -> Checked {
+fn demand(condition: bool, code: u16) -> Checked {
     if condition {
         Ok(())
     } else {
@@ -61,7 +62,7 @@ pub fn read<S: Search>(image: &[u8]) -> Answer {
     // Checks the body of the next record.
     let mut next = |check: &dyn Fn(&[u8]) -> Checked| {
         record += 1;
-        check(frames.body(record)).map_err(|code| Refusal { code, record })
+        check(frames.body(record)).map_err(|code| Refusal::at(code, record))
     };
     next(&|body| header::check(body, frames.threads))?;
     let n = header::counts(frames.body(1));

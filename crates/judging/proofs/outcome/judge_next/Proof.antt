@@ -1,4 +1,4 @@
-use Rattle.judging.proofs.Ways.{nexting}
+use Rattle.judging.proofs.Outcomes.{nexting}
 use Rattle.limits.proofs.Auto.{tests}
 use borrow.Author.Needs.{needs}
 use Rattle.judging.proofs.outcome.judge_next.Statement.{statement}

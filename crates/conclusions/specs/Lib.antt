@@ -1,0 +1,3 @@
+pub mod Conclusion
+pub mod LineConclusion
+pub mod Premises

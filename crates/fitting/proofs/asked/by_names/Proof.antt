@@ -1,9 +1,0 @@
-use Rattle.fitting.proofs.Asking.{claiming}
-use Rattle.limits.proofs.Auto.{tests}
-use borrow.Author.Needs.{needs}
-use Rattle.fitting.proofs.asked.by_names.Statement.{statement}
-use Rattle.fitting.proofs.asked.by_names.Tie as tie
-
-pub by-names-spec : {M : Type 1} → statement M
-by-names-spec =
-    tie.close (tie.spec (λ c κs. search needs) (λ c κs. search needs) (λ c. search needs) (λ c κs. search needs) (λ c. search (claiming, tests)))

@@ -1,8 +1,0 @@
-use Rattle.fitting.proofs.Asking.{replacing}
-use Rattle.limits.proofs.Auto.{tests}
-use borrow.Author.Needs.{needs}
-use Rattle.fitting.proofs.asked.is_loaded.Statement.{statement}
-use Rattle.fitting.proofs.asked.is_loaded.Tie as tie
-
-pub is-loaded-spec : {M : Type 1} → statement M
-is-loaded-spec = tie.close (tie.spec (λ c κs. search needs) (λ c κs. search needs) (λ c κs. search needs) (λ c. search (replacing, tests)))

@@ -1,8 +1,0 @@
-use Rattle.fitting.proofs.Resting.{premising}
-use Rattle.limits.proofs.Auto.{tests}
-use borrow.Author.Needs.{needs}
-use Rattle.fitting.proofs.premises.is_implication.Statement.{statement}
-use Rattle.fitting.proofs.premises.is_implication.Tie as tie
-
-pub is-implication-spec : {M : Type 1} → statement M
-is-implication-spec = tie.close (tie.spec (λ c. search needs) (λ c. search (premising, tests)) (λ c κs. search needs) (λ c. search (premising, tests)))

@@ -1,9 +1,0 @@
-use Rattle.judging.proofs.Ways.{wanting}
-use Rattle.limits.proofs.Auto.{tests}
-use borrow.Author.Needs.{needs}
-use Rattle.judging.proofs.wanted.wanted_kept.Statement.{statement}
-use Rattle.judging.proofs.wanted.wanted_kept.Tie as tie
-
-pub wanted-kept-spec : {M : Type 1} → statement M
-wanted-kept-spec =
-    tie.close (tie.spec (λ c κs. search needs) (λ c κs. search needs) (λ c κs. search needs) (λ c. search (wanting, tests)))

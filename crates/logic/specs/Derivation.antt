@@ -1,0 +1,21 @@
+-- Derivations: what the rules give to the last premise; a program and an outline whose obligations are all derived.
+use mathlib.Core.List.{List}
+use Prim.Native.Nat.{ℕ, _<_}
+use lib.Dec.{T}
+use lib.ListN.{length, getD}
+use Rattle.logic.specs.Base.{All}
+use Rattle.logic.specs.Machine.{Program}
+use Rattle.logic.specs.Statement.{Statement, admitted}
+use Rattle.logic.specs.Rule.{Rule}
+use Rattle.logic.specs.Inference.{Inference}
+use Rattle.logic.specs.EveryRun.{Outline}
+use Rattle.logic.specs.Obligations.{obligations, wants}
+
+-- a statement that some rule gives from premises that are derived
+pub data Derived (P : Program) : Statement → Type 0 where
+  by-rule : {n : Rule} {ps : List Statement} {s : Statement} → Inference P n ps s → T (admitted P s)
+      → ((i : ℕ) → i < length ps → Derived P (getD ps i s)) → Derived P s
+
+-- each obligation's statement is derived
+abbrev pub Proved : Program → Outline → Type 0
+Proved P O = All (λ o. Derived P (wants P O o)) (obligations P)

@@ -1,0 +1,32 @@
+-- What codes 5 to 9 leave of programs and outlines.
+use mathlib.Core.Bool.{Bool, true, not, _&&_}
+use Prim.Native.Nat.{ℕ, suc, _<_}
+use lib.Dec.{T, ltb}
+use Rattle.logic.specs.Base.{all, Within, within}
+use Rattle.logic.specs.Formula.{Value}
+use Rattle.logic.specs.Names.{only, isReg, startless}
+use Rattle.logic.specs.Replace.{Note}
+use Rattle.logic.specs.Eval.{bounded}
+use Rattle.logic.specs.Machine.{Program, Access, Access.none, Access.load, Access.write, Instr, Instr.act, Instr.branch}
+use Rattle.logic.specs.Statement.{isPair}
+use Rattle.logic.specs.EveryRun.{Outline}
+
+-- an instruction as an image may have it, in a thread of n points: numbers in range (6), formulas over registers (8)
+abbrev pub properValue : Program → Value → Bool
+properValue P f = only isReg f && bounded (P .range) f
+
+abbrev pub properAccess : Program → Access → Bool
+properAccess P none = true
+properAccess P (load acquires r x) = within (P .words) x
+properAccess P (write m x f) = within (P .words) x && properValue P f
+
+abbrev pub proper : Program → ℕ → Instr → Bool
+proper P n (act A ns) = not (isPair (act A ns)) && (properAccess P A && all (λ (n : Note). properValue P (n .by)) ns)
+proper P n (branch e a) = only isReg e && ltb a n
+
+pub record WellFormed (P : Program) (O : Outline) : Type 0 where
+  pub some-value : 0 < P .range
+  pub start-values : (x : ℕ) → P .init x < P .range
+  pub some-point : (t : ℕ) → Within (P .threads) t → 0 < P .points t
+  pub instructions : (t k : ℕ) → Within (P .threads) t → suc k < P .points t → T (proper P (P .points t) (P .code t k))
+  pub no-start : (t k : ℕ) → Within (P .threads) t → k < P .points t → T (startless (O t k))

@@ -1,0 +1,210 @@
+-- What is asked by number, of holes by position, is what the logic's rows ask of trees.
+use mathlib.Core.Path.{_≡_, refl, ap, ap₂, sym, _∙_, subst}
+use mathlib.Core.Bool.{Bool, true, false, not, cond, _&&_, _||_}
+use mathlib.Core.List.{List, [], map}
+use mathlib.Core.Option.{none, some}
+use Prim.Native.Nat.{ℕ, zero, suc, _-_, _≤_}
+use native.Mathlib.Omega.{arith}
+use lib.Dec.{T, eqb}
+use lib.ListN.{getD}
+use borrow.Author.Tests.{eqb-true, ne-eqb, le-ltb, lt-leb}
+use Rattle.logic.specs.Base.{all}
+use Rattle.logic.specs.Code
+use Rattle.logic.specs.Code.{byte}
+use Rattle.logic.specs.Opcode
+use Rattle.logic.specs.Rule.{Rule, r1, r2, r3, r4, r5, r6, r7, r8, r9, r10, r11, r12, r13, r14, r15, r16, r20, r21, r22, r23, r24, r25, r26, r27, r30, r31, r32, r33, r34, r35, r36, r37, r38, r39, r40, r41, r42, r43, r44, r45, r46}
+use Rattle.patterns.specs.Rules.{row}
+use Rattle.logic.proofs.Base.{bool-ext}
+use Rattle.limits.specs.Limits as Limits
+use Rattle.limits.specs.Limits.{nesting}
+use Rattle.limits.specs.Numbers.{nth}
+use Rattle.formula.specs.Tree.{Tree, Tree.node, parseTree}
+use Rattle.compare.specs.Same.{sameTree}
+use Rattle.compare.specs.Replace.{NoteT, replaceT, nameCode, oneName}
+use Rattle.occurs.specs.Occurs.{occurs, register, wordAnyRole, flag}
+use Rattle.trees.proofs.ToTree.{tree-eq, tree-refl}
+use Rattle.rows.specs.Entailment.{impOf, impsFrom, premisesFrom}
+use Rattle.rows.specs.Rows.{rowsT, tableT, lineOf, premisesOf}
+use Rattle.frames.specs.Records.{bodies}
+use Rattle.program.specs.Header.{startValues}
+use Rattle.matcher.specs.Places.{takenOf}
+use Rattle.matcher.specs.declared.bind.Bind.{Bind}
+use Rattle.certificate.specs.FitT as FitT
+use Rattle.certificate.specs.FitT.{TreeConclusion, formOf, holesFrom, orElse, keepsT, sideT, operationT}
+use Rattle.content.specs.Trees.{actingAt}
+use Rattle.content.specs.declared.acting.Acting.{Acting}
+use Rattle.rulebook.specs.Listed.{sideNumber}
+use Rattle.conclusions.specs.Conclusion.{concludedAt, conclusionsFrom}
+use Rattle.sides.specs.Side.{holeOf, numberIn, treeOf, keeps, isWith, storedBy, isStart}
+use Rattle.sides.specs.Asked.{assignedBy, loadedBy, ofInstruction, implicationsOf, ofNames, asked}
+use Rattle.conclusions.specs.declared.conclusion.Conclusion.{Conclusion}
+use Rattle.conclusions.specs.declared.conclusion.Premises.{Premises}
+
+-- the start values of an image
+abbrev pub startOf : List ℕ → ℕ → ℕ
+startOf s x = nth (startValues (getD (bodies s) 0 [])) x 0
+
+and-one : (b : Bool) → b && true ≡ b
+and-one true = refl
+and-one false = refl
+
+same-sym : (u v : Tree) → sameTree u v ≡ sameTree v u
+same-sym u v = bool-ext (sameTree u v) (sameTree v u) (λ h. subst (λ w. T (sameTree w u)) (tree-eq u v h) (tree-refl u)) (λ h. subst (λ w. T (sameTree w v)) (tree-eq v u h) (tree-refl v))
+
+keeps-is : (R : ℕ) (init : ℕ → ℕ) (op x r : ℕ) (u v : Tree) (ns : List NoteT) → keepsT R init (record { operation = op; word = x; register = r; formula = v; notes = ns }) u ≡ keeps op x r u
+unfolding keeps
+keeps-is R init zero x r u v ns = refl
+keeps-is R init (suc zero) x r u v ns = refl
+keeps-is R init (suc (suc zero)) x r u v ns = refl
+keeps-is R init (suc (suc (suc zero))) x r u v ns = refl
+keeps-is R init (suc (suc (suc (suc zero)))) x r u v ns = refl
+keeps-is R init (suc (suc (suc (suc (suc zero))))) x r u v ns = refl
+keeps-is R init (suc (suc (suc (suc (suc (suc op)))))) x r u v ns =
+    let n : ℕ = suc (suc (suc (suc (suc (suc op))))) in
+    go (eqb n 1) (eqb n 2) (eqb n 3) (eqb n 4) (eqb n 5) (ne-eqb n 1 (λ e. omega arith)) (ne-eqb n 2 (λ e. omega arith)) (ne-eqb n 3 (λ e. omega arith)) (ne-eqb n 4 (λ e. omega arith)) (ne-eqb n 5 (λ e. omega arith))
+    ∙ sym (rw (le-ltb n 1 (omega arith), lt-leb n 2 (omega arith), lt-leb n 5 (omega arith)))
+  where
+    go : (h i j k l : Bool) → h ≡ false → i ≡ false → j ≡ false → k ≡ false → l ≡ false
+        → elim (h || (i || false)) as (λ x. Bool) [ true ↦ not (occurs (register r) [] u) | false ↦ elim (j || (k || (l || false))) as (λ x. Bool) [ true ↦ not (occurs (wordAnyRole x) [] u) | false ↦ false ] ] ≡ false
+    go h i j k l a b c d e = rw (a, b, c, d, e)
+
+module _ (s : List ℕ) (b : Bind) where
+  -- what stands in a hole; where nothing was taken, no tree and 0
+  hole-tree : (j : ℕ) → holesFrom (takenOf s b) .tree j ≡ treeOf s (holeOf b j)
+  unfolding holeOf parseTree
+  hole-tree j = go (getD (b .left) j 0) (eqb (getD (b .left) j 0) 0) refl
+    where
+      go : (k : ℕ) (e : Bool) → eqb k 0 ≡ e → orElse Tree.none (cond e none (some (parseTree s k (getD (b .at) j 0) .tree))) ≡ parseTree s k (getD (b .at) j 0) .tree
+      go k true e = rw (eqb-true k 0 e)
+      go k false e = refl
+
+  hole-number : (j : ℕ) → holesFrom (takenOf s b) .num j ≡ numberIn b j
+  unfolding numberIn
+  hole-number j = go (getD (b .num) j 0) (eqb (getD (b .num) j 0) 0) refl
+    where
+      go : (n : ℕ) (e : Bool) → eqb n 0 ≡ e → orElse 0 (cond e none (some (n - 1))) ≡ n - 1
+      go n true e = rw (eqb-true n 0 e)
+      go n false e = refl
+
+module _ (s : List ℕ) (b : Bind) (a : Acting) (c : Conclusion) (p : Premises) (few : p .count ≤ Limits.premises) where
+  abbrev vs : List TreeConclusion
+  vs = map (concludedAt s) (conclusionsFrom p (p .count) 0)
+
+  abbrev holds : Rule → Bool
+  holds n = all (sideT Limits.values (startOf s) (actingAt s a) (holesFrom (takenOf s b)) (concludedAt s c) vs) (row n .sides)
+
+  -- the rule's row allows the operation
+  abbrev allowed : Rule → Bool
+  allowed n = operationT Limits.values (startOf s) (actingAt s a) (formOf (row n .says)) (row n .operations)
+
+  -- the line's premises, as implications
+  table-is : (n : ℕ) → p .count ≡ n → n ≤ Limits.premises → map FitT.impOf (map (concludedAt s) (conclusionsFrom p n 0)) ≡ premisesOf s (implicationsOf c p)
+  unfolding implicationsOf premisesFrom impsFrom impOf
+  table-is zero e h = rw e
+  table-is (suc zero) e h = rw e
+  table-is (suc (suc zero)) e h = rw e
+  table-is (suc (suc (suc zero))) e h = rw e
+  table-is (suc (suc (suc (suc zero)))) e h = rw e
+  table-is (suc (suc (suc (suc (suc n))))) e h = absurd (omega arith)
+
+  line-is : FitT.impOf (concludedAt s c) ≡ lineOf s (implicationsOf c p)
+  unfolding implicationsOf impOf
+  line-is = refl
+
+  -- each condition, of the holes that it speaks of
+  kept-is : holds r1 ≡ asked s (sideNumber (row r1 .sides)) b a c p
+  unfolding asked ofInstruction
+  kept-is = and-one _ ∙ keeps-is Limits.values (startOf s) (a .operation) (a .word) (a .register) (holesFrom (takenOf s b) .tree 0) (actingAt s a .formula) (actingAt s a .notes) ∙ ap (keeps (a .operation) (a .word) (a .register)) (hole-tree s b 0)
+
+  assigned-is : allowed r2 ≡ true → holds r2 ≡ asked s (sideNumber (row r2 .sides)) b a c p
+  unfolding asked ofInstruction assignedBy isWith oneName nameCode
+  assigned-is e = rw (only-one e) (and-one _ ∙ ap₂ (λ (u v : Tree). sameTree (replaceT (oneName false (a .register) (parseTree s nesting (a .formula) .tree)) v) u) (hole-tree s b 0) (hole-tree s b 1))
+    where
+      only-one : allowed r2 ≡ true → eqb (a .operation) Opcode.assign ≡ true
+      only-one h = go (eqb (a .operation) Opcode.assign) h
+        where
+          go : (x : Bool) → (x || false) ≡ true → x ≡ true
+          go true q = refl
+          go false q = q
+
+  loaded-is : holds r3 ≡ asked s (sideNumber (row r3 .sides)) b a c p
+  unfolding asked ofInstruction loadedBy isWith
+  loaded-is = and-one _ ∙ ap₂ (λ (u v : Tree). sameTree (replaceT (oneName false (a .register) (node (byte Code.word) (a .word) Tree.none Tree.none)) v) u) (hole-tree s b 3) (hole-tree s b 2)
+
+  absent-is : holds r8 ≡ asked s (sideNumber (row r8 .sides)) b a c p
+  unfolding asked ofInstruction
+  absent-is = and-one _ ∙ ap (λ (u : Tree). not (occurs (wordAnyRole (a .word)) [] u)) (hole-tree s b 1)
+
+  stored-is : holds r9 ≡ asked s (sideNumber (row r9 .sides)) b a c p
+  unfolding asked ofInstruction storedBy isWith
+  stored-is =
+      ap₂ (λ (u v : Tree). sameTree (replaceT (oneName true (a .word) (parseTree s nesting (a .formula) .tree)) v) u && (not (occurs (flag (a .word)) [] v) && true)) (hole-tree s b 3) (hole-tree s b 2)
+      ∙ go (occurs (flag (a .word)) [] (treeOf s (holeOf b 2))) _
+    where
+      go : (o e : Bool) → e && (not o && true) ≡ cond o false e
+      go true true = refl
+      go true false = refl
+      go false true = refl
+      go false false = refl
+
+  table-asked : holds r20 ≡ asked s (sideNumber (row r20 .sides)) b a c p
+  unfolding asked
+  table-asked = and-one _ ∙ ap₂ tableT (table-is (p .count) refl few) line-is
+
+  rows-asked : holds r21 ≡ asked s (sideNumber (row r21 .sides)) b a c p
+  unfolding asked ofNames
+  rows-asked = and-one _ ∙ ap₂ (rowsT Limits.values) (hole-tree s b 2) (hole-tree s b 3)
+
+  start-asked : holds r26 ≡ asked s (sideNumber (row r26 .sides)) b a c p
+  unfolding asked isStart
+  start-asked =
+      and-one _
+      ∙ ap₂ (λ (u : Tree) (x : ℕ). sameTree u (node (byte Code.const) (startOf s x) Tree.none Tree.none)) (hole-tree s b 0) (hole-number s b 4)
+      ∙ same-sym (treeOf s (holeOf b 0)) (node (byte Code.const) (startOf s (numberIn b 4)) Tree.none Tree.none)
+
+  none-asked : true ≡ asked s 0 b a c p
+  unfolding asked
+  none-asked = refl
+
+  pub sides-are : (n : Rule) → allowed n ≡ true → holds n ≡ asked s (sideNumber (row n .sides)) b a c p
+  sides-are r1 e = kept-is
+  sides-are r2 e = assigned-is e
+  sides-are r3 e = loaded-is
+  sides-are r4 e = loaded-is
+  sides-are r5 e = none-asked
+  sides-are r6 e = none-asked
+  sides-are r7 e = none-asked
+  sides-are r8 e = absent-is
+  sides-are r9 e = stored-is
+  sides-are r10 e = none-asked
+  sides-are r11 e = none-asked
+  sides-are r12 e = none-asked
+  sides-are r13 e = absent-is
+  sides-are r14 e = none-asked
+  sides-are r15 e = none-asked
+  sides-are r16 e = none-asked
+  sides-are r20 e = table-asked
+  sides-are r21 e = rows-asked
+  sides-are r22 e = none-asked
+  sides-are r23 e = rows-asked
+  sides-are r24 e = rows-asked
+  sides-are r25 e = none-asked
+  sides-are r26 e = start-asked
+  sides-are r27 e = none-asked
+  sides-are r30 e = rows-asked
+  sides-are r31 e = none-asked
+  sides-are r32 e = none-asked
+  sides-are r33 e = none-asked
+  sides-are r34 e = none-asked
+  sides-are r35 e = none-asked
+  sides-are r36 e = none-asked
+  sides-are r37 e = none-asked
+  sides-are r38 e = none-asked
+  sides-are r39 e = none-asked
+  sides-are r40 e = none-asked
+  sides-are r41 e = none-asked
+  sides-are r42 e = none-asked
+  sides-are r43 e = none-asked
+  sides-are r44 e = none-asked
+  sides-are r45 e = none-asked
+  sides-are r46 e = none-asked

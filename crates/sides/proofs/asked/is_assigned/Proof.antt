@@ -1,0 +1,9 @@
+use Rattle.sides.proofs.SidesByNumber.{replacing}
+use Rattle.limits.proofs.Auto.{tests}
+use borrow.Author.Needs.{needs}
+use Rattle.sides.proofs.asked.is_assigned.Statement.{statement}
+use Rattle.sides.proofs.asked.is_assigned.Tie as tie
+
+pub is-assigned-spec : {M : Type 1} → statement M
+is-assigned-spec =
+    tie.close (tie.spec (λ c κs. search needs) (λ c κs. search needs) (λ c κs. search needs) (λ c. search (replacing, tests)))

@@ -1,0 +1,58 @@
+-- What a rule asks besides its templates, by the number in its row; which holes it speaks of.
+use mathlib.Core.Bool.{Bool, true, false, not, cond}
+use mathlib.Core.List.{List, [], _∷_}
+use Prim.Native.Nat.{ℕ, _+_}
+use lib.Dec.{eqb}
+use lib.ListN.{getD}
+use Rattle.limits.specs.Limits as Limits
+use Rattle.limits.specs.Limits.{nesting}
+use Rattle.compare.specs.declared.replace.Replacing.the-variants.{Formula, Word}
+use Rattle.occurs.specs.Occurs.{occurs, wordAnyRole}
+use Rattle.rows.specs.Rows.{rowsT, tableT, lineOf, premisesOf}
+use Rattle.rows.specs.declared.by.Implications.{Implications}
+use Rattle.frames.specs.Records.{bodies}
+use Rattle.matcher.specs.declared.bind.Bind.{Bind}
+use Rattle.content.specs.declared.acting.Acting.{Acting}
+use Rattle.rulebook.specs.Rulebook.{nothing, isKept, assigned, loaded, stored, byRows, byTable, startValue}
+use Rattle.conclusions.specs.Conclusion.{conclusionAt}
+use Rattle.sides.specs.Side.{holeOf, numberIn, treeOf, keeps, isWith, storedBy, isStart}
+use Rattle.conclusions.specs.declared.conclusion.Conclusion.{Conclusion}
+use Rattle.conclusions.specs.declared.conclusion.Premises.{Premises}
+
+-- the left side is the right one with the instruction's register replaced by its formula
+unfoldable pub assignedBy : List ℕ → Bind → Acting → Bool
+assignedBy s b a = isWith s (record { word = false; number = a .register; by = Formula (a .formula) nesting }) (treeOf s (holeOf b 0)) (treeOf s (holeOf b 1))
+
+-- the left test is the right one with the instruction's register replaced by its word
+unfoldable pub loadedBy : List ℕ → Bind → Acting → Bool
+loadedBy s b a = isWith s (record { word = false; number = a .register; by = Word (a .word) }) (treeOf s (holeOf b 3)) (treeOf s (holeOf b 2))
+
+-- of the instruction; the last one left is that its word is absent
+unfoldable pub ofInstruction : List ℕ → ℕ → Bind → Acting → Bool
+ofInstruction s side b a =
+    cond (eqb side isKept) (keeps (a .operation) (a .word) (a .register) (treeOf s (holeOf b 0)))
+    (cond (eqb side assigned) (assignedBy s b a)
+    (cond (eqb side loaded) (loadedBy s b a)
+    (cond (eqb side stored) (storedBy s (a .word) (a .formula) (treeOf s (holeOf b 3)) (treeOf s (holeOf b 2)))
+    (not (occurs (wordAnyRole (a .word)) [] (treeOf s (holeOf b 1)))))))
+
+-- a line and its premises, as implications
+unfoldable pub implicationsOf : Conclusion → Premises → Implications
+implicationsOf c p = record {
+  count = p .count + 1;
+  left = c .left ∷ conclusionAt p 0 .left ∷ conclusionAt p 1 .left ∷ conclusionAt p 2 .left ∷ conclusionAt p 3 .left ∷ [];
+  right = c .right ∷ conclusionAt p 0 .right ∷ conclusionAt p 1 .right ∷ conclusionAt p 2 .right ∷ conclusionAt p 3 .right ∷ [];
+}
+
+-- by rows, of the tests in holes 2 and 3
+unfoldable pub ofNames : List ℕ → Bind → Bool
+ofNames s b = rowsT Limits.values (treeOf s (holeOf b 2)) (treeOf s (holeOf b 3))
+
+-- by rows, by truth table, by the start values; else of the instruction
+unfoldable pub asked : List ℕ → ℕ → Bind → Acting → Conclusion → Premises → Bool
+asked s side b a c p =
+    cond (eqb side nothing) true
+    (cond (eqb side byRows) (ofNames s b)
+    (cond (eqb side byTable) (tableT (premisesOf s (implicationsOf c p)) (lineOf s (implicationsOf c p)))
+    (cond (eqb side startValue) (isStart (getD (bodies s) 0 []) (numberIn b 4) (treeOf s (holeOf b 0)))
+    (ofInstruction s side b a))))

@@ -1,0 +1,121 @@
+// What a rule asks besides its templates, by the number in its row.
+use crate::side::hole_of;
+use crate::side::is_kept;
+use crate::side::is_start;
+use crate::side::is_stored;
+use crate::side::is_with;
+use crate::side::number_in;
+use compare::replace::Replacing;
+use compare::replace::Substitution;
+use conclusions::conclusion::Conclusion;
+use conclusions::conclusion::Premises;
+use conclusions::conclusion::conclusion_at;
+use content::acting::Acting;
+use frames::index::body_of;
+use limits::Limits;
+use matcher::bind::Bind;
+use occurs::has::has_word;
+use rows::by::Implications;
+use rows::by::by_rows;
+use rows::by::by_table;
+use rulebook::rule::Side;
+ghost use mathlib.Core.Path.{_≡_};
+ghost use Rattle.frames.specs.Records.{indexOf};
+ghost use Rattle.sides.specs.Asked.{assignedBy, loadedBy, ofInstruction, implicationsOf, ofNames, asked};
+
+// The left side is the right one with the instruction's register replaced by its formula.
+fn is_assigned(s: &[u8], b: Bind, a: Acting) -> bool
+    ensures { λ r. ⌜ r ≡ assignedBy (now (s .entry)) b a ⌝ }
+{
+    let w = Substitution {
+        word: false,
+        number: a.register,
+        by: Replacing::Formula(a.formula, Limits::NESTING),
+    };
+    is_with(s, hole_of(b, 0), hole_of(b, 1), w)
+}
+
+// The left test is the right one with the instruction's register replaced by its word.
+fn is_loaded(s: &[u8], b: Bind, a: Acting) -> bool
+    ensures { λ r. ⌜ r ≡ loadedBy (now (s .entry)) b a ⌝ }
+{
+    let w = Substitution {
+        word: false,
+        number: a.register,
+        by: Replacing::Word(a.word),
+    };
+    is_with(s, hole_of(b, 3), hole_of(b, 2), w)
+}
+
+// Of the instruction; the last one left is that its word is absent.
+fn of_instruction(s: &[u8], side: u8, b: Bind, a: Acting) -> bool
+    ensures { λ r. ⌜ r ≡ ofInstruction (now (s .entry)) side b a ⌝ }
+{
+    if side == Side::KEPT {
+        return is_kept(s, a.operation, a.word, a.register, hole_of(b, 0));
+    }
+    if side == Side::ASSIGNED {
+        return is_assigned(s, b, a);
+    }
+    if side == Side::LOADED {
+        return is_loaded(s, b, a);
+    }
+    if side == Side::STORED {
+        return is_stored(s, hole_of(b, 3), hole_of(b, 2), a.word, a.formula);
+    }
+    let p = hole_of(b, 1);
+    !has_word(s, p.at, p.left, a.word)
+}
+
+// A line and its premises, as implications.
+fn implications_of(c: Conclusion, p: Premises) -> Implications
+    ensures { λ r. ⌜ r ≡ implicationsOf c p ⌝ }
+{
+    let d = conclusion_at(p, 0);
+    let e = conclusion_at(p, 1);
+    let f = conclusion_at(p, 2);
+    let g = conclusion_at(p, 3);
+    Implications {
+        count: (p.count as usize) + 1,
+        left: [c.left, d.left, e.left, f.left, g.left],
+        right: [c.right, d.right, e.right, f.right, g.right],
+    }
+}
+
+// By rows, of the tests in holes 2 and 3.
+fn by_names(s: &[u8], b: Bind) -> bool
+    ensures { λ r. ⌜ r ≡ ofNames (now (s .entry)) b ⌝ }
+{
+    let p = hole_of(b, 2);
+    let q = hole_of(b, 3);
+    by_rows(s, p.at, p.left, q.at, q.left, Limits::VALUES as u8)
+}
+
+// By rows, by truth table, by the start values; else of the instruction.
+pub fn is_asked<'a, 'b>(
+    s: &'a [u8],
+    ix: &'b [usize],
+    side: u8,
+    b: Bind,
+    a: Acting,
+    c: Conclusion,
+    p: Premises,
+) -> bool
+    requires { ⌜ now ix ≡ indexOf (now s) ⌝ }
+    ensures { λ r. ⌜ r ≡ asked (now (s .entry)) side b a c p ⌝ }
+{
+    if side == Side::NONE {
+        return true;
+    }
+    if side == Side::BY_ROWS {
+        return by_names(s, b);
+    }
+    if side == Side::BY_TABLE {
+        return by_table(s, implications_of(c, p));
+    }
+    if side == Side::START_VALUE {
+        let h = body_of(s, ix, 0);
+        return is_start(s, h, hole_of(b, 0), number_in(b, 4));
+    }
+    of_instruction(s, side, b, a)
+}

@@ -1,0 +1,3 @@
+// What a rule asks besides its templates.
+pub mod asked;
+pub mod side;

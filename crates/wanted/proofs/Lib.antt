@@ -1,0 +1,5 @@
+pub mod Wants
+pub mod Concluded
+pub mod Filled
+pub mod Compared
+pub mod Asked

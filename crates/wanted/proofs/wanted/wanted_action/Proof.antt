@@ -1,0 +1,15 @@
+use Rattle.wanted.proofs.Wants.{wanting}
+use Rattle.limits.proofs.Auto.{tests}
+use borrow.Author.Needs.{needs}
+use Rattle.wanted.proofs.wanted.wanted_action.Statement.{statement}
+use Rattle.wanted.proofs.wanted.wanted_action.Tie as tie
+
+pub wanted-action-spec : {M : Type 1} → statement M
+wanted-action-spec =
+    tie.close
+    (tie.spec
+    (λ c κs. search needs)
+    (λ c κs. search needs)
+    (λ c κs. search needs)
+    (λ c κs. search needs)
+    (λ c. search (wanting, tests)))

@@ -1,0 +1,9 @@
+use Rattle.wanted.proofs.Wants.{wanting}
+use Rattle.limits.proofs.Auto.{tests}
+use borrow.Author.Needs.{needs}
+use Rattle.wanted.proofs.wanted.wanted_kept.Statement.{statement}
+use Rattle.wanted.proofs.wanted.wanted_kept.Tie as tie
+
+pub wanted-kept-spec : {M : Type 1} → statement M
+wanted-kept-spec =
+    tie.close (tie.spec (λ c κs. search needs) (λ c κs. search needs) (λ c κs. search needs) (λ c. search (wanting, tests)))

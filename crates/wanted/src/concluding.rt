@@ -1,0 +1,71 @@
+// Whether a line concludes what an obligation wants, and the code of what is wrong with it.
+use crate::wanted::WANTED;
+use crate::wanted::wanted_of;
+use conclusions::conclusion::match_conclusion;
+use conclusions::line_conclusion::conclusion_of;
+use content::totals::Totals;
+use marks::is_marked;
+use program::sizes::Sizes;
+use report::obligation::Obligation;
+ghost use mathlib.Core.Path.{_≡_};
+ghost use Rattle.frames.specs.Records.{bodies, indexOf};
+ghost use Rattle.content.specs.Totals.{totalsOf};
+ghost use Rattle.marks.specs.Marks.{asMarks};
+ghost use Rattle.wanted.specs.Concluding.{concludesAt, codeAt};
+
+pub struct Unmet {}
+
+impl Unmet {
+    pub const NONE: u8 = 0;
+
+    pub const NO_LINE: u8 = 20;
+
+    pub const SAYS_ELSE: u8 = 21;
+
+    pub const UNJUSTIFIED: u8 = 22;
+}
+
+// Line n says what the obligation wants.
+pub fn concludes<'a, 'b>(
+    s: &'a [u8],
+    ix: &'b [usize],
+    z: Sizes,
+    y: Totals,
+    o: Obligation,
+    n: usize,
+) -> bool
+    requires { ⌜ (now ix ≡ indexOf (now s)) × (y ≡ totalsOf z (bodies (now s))) ⌝ }
+    ensures { λ r. ⌜ r ≡ concludesAt (now (s .entry)) z o n ⌝ }
+{
+    let w = wanted_of(s, ix, z, y, o);
+    let c = conclusion_of(s, ix, z, n);
+    let t = WANTED;
+    let b = w.bind;
+    let m = match_conclusion(s, &t, w.template, w.form, w.thread, w.point, c, b);
+    m.ok
+}
+
+// What is wrong with line n, first of all; 0 for nothing.
+pub fn code_at<'a, 'b, 'c>(
+    s: &'a [u8],
+    ix: &'b [usize],
+    z: Sizes,
+    y: Totals,
+    m: &'c [bool],
+    o: Obligation,
+    n: usize,
+) -> u8
+    requires { ⌜ (now ix ≡ indexOf (now s)) × (y ≡ totalsOf z (bodies (now s))) ⌝ }
+    ensures { λ r. ⌜ r ≡ codeAt (now (s .entry)) z (asMarks (now (m .entry))) o n ⌝ }
+{
+    if n == 0 {
+        return Unmet::NO_LINE;
+    }
+    if concludes(s, ix, z, y, o, n) {
+        if is_marked(m, n) {
+            return Unmet::NONE;
+        }
+        return Unmet::UNJUSTIFIED;
+    }
+    Unmet::SAYS_ELSE
+}

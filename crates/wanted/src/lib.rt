@@ -1,0 +1,3 @@
+// What an obligation wants of a line, and whether a line concludes it.
+pub mod concluding;
+pub mod wanted;
