@@ -13,7 +13,7 @@ use Rattle.logic.specs.Formula.{Formula, Test, Assertion, Formula.bothA,
 use Rattle.logic.specs.Names.{names, only, isReg, startless}
 use Rattle.logic.specs.Eval.{test, onRegs}
 use Rattle.logic.specs.Replace.{Note}
-use Rattle.logic.specs.Machine.{State, Program, Access, Access.none, Access.load, Access.write, Mode.store, Mode.swap, Instr, Instr.act, Instr.branch, Start, Step, withPoint, exec, allowed, instrAt, permitted, step, run}
+use Rattle.logic.specs.Machine.{State, Program, Access, Access.none, Access.load, Access.write, Mode.store, Mode.swap, Mode.exchange, Mode.fetchAdd, Instr, Instr.act, Instr.branch, Start, Step, withPoint, exec, allowed, instrAt, permitted, step, run}
 use Rattle.logic.specs.Truth.{True}
 use Rattle.logic.specs.Statement.{Statement, implies, triple, first}
 use Rattle.logic.specs.Obligations
@@ -136,6 +136,8 @@ module _ (P : Program) (O : Outline) (W : WellFormed P O) (D : Proved P O) where
           go (load a r x) = refl
           go (write (store b) x f) = refl
           go (write swap x f) = refl
+          go (write (exchange r) x f) = refl
+          go (write (fetchAdd r) x f) = refl
 
       acted : Inv P O (exec P (act A ns) t p s)
       acted = record {
