@@ -6,12 +6,12 @@ use lib.Dec.{eqb}
 use Rattle.formula.specs.Codes as Codes
 use Rattle.limits.specs.Limits.{nesting}
 use Rattle.formula.specs.Reader.{sortOf}
-use Rattle.formula.specs.Tree.{Tree, skim}
+use Rattle.formula.specs.Tree.{Tree, parseTree}
 use Rattle.occurs.specs.Occurs.{occurs, start, shared}
 
 -- the tree of a formula's body
 abbrev pub treeOf : List ℕ → Tree
-treeOf b = skim b nesting 0 .tree
+treeOf b = parseTree b nesting 0 .tree
 
 -- 27 does not occur in it
 unfoldable pub startless : List ℕ → Bool

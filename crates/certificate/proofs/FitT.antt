@@ -34,15 +34,15 @@ use Rattle.formula.specs.Tree.{Tree, Tree.node}
 use Rattle.compare.specs.Same.{sameTree}
 use Rattle.compare.specs.Replace.{replaceT}
 use Rattle.occurs.specs.Occurs.{occurs, register, wordAnyRole, flag}
-use Rattle.trees.specs.Raw.{raw, shaped}
-use Rattle.rows.specs.Claim.{ImpT}
+use Rattle.trees.specs.ToTree.{toTree, ofTree}
+use Rattle.rows.specs.Entailment.{ImpT}
 use Rattle.rows.specs.Rows.{rowsT, tableT}
-use Rattle.trees.proofs.Raw.{shaped-raw, raw-same}
-use Rattle.trees.proofs.Replace.{raw-reg, raw-word, raw-notes}
+use Rattle.trees.proofs.ToTree.{ofTree-toTree, toTree-same}
+use Rattle.trees.proofs.Replace.{toTree-reg, toTree-word, toTree-notes}
 use Rattle.trees.proofs.Occurs
 use Rattle.trees.proofs.Occurs.{no-register, no-word}
-use Rattle.rows.proofs.Link.{rawImp, raw-rows, raw-table}
-use Rattle.matcher.specs.Template.{firstHole, firstNumber, formulaHole, numHole, rawP, Holes, instT, fillOf}
+use Rattle.rows.proofs.Link.{impToTree, toTree-rows, toTree-table}
+use Rattle.matcher.specs.Template.{firstHole, firstNumber, formulaHole, numHole, patternToTree, Holes, instT, fillOf}
 use Rattle.matcher.specs.Match.{Taken, andThen, when, matchT}
 use Rattle.certificate.specs.FitT
 use Rattle.certificate.specs.FitT.{inclusion, implication, hoare, Said, said, Acting, acting, formOf, leftOf, rightOf, placed, matchSides, matchLine, matchAll, isImplication, matchPremises, preset, orElse, holesFrom, replacing, keepsT, sideT, operationT, restT, answer, fitsAt, fitsT}
@@ -144,10 +144,10 @@ length-said [] = refl
 length-said (s ∷ ps) = ap (λ (n : ℕ). suc n) (length-said ps)
 
 -- the implications among them; of the others any: they have none
-imps-said : (ps : List Statement) → T (all isImp ps) → map FitT.impOf (map said ps) ≡ map rawImp (map Statement.impOf ps)
+imps-said : (ps : List Statement) → T (all isImp ps) → map FitT.impOf (map said ps) ≡ map impToTree (map Statement.impOf ps)
 imps-said [] h = refl
 imps-said (Statement.inside a b ∷ ps) h = absurd h
-imps-said (Statement.implies a b ∷ ps) h = ap (λ (l : List ImpT). rawImp (record { left = a; right = b }) ∷ l) (imps-said ps h)
+imps-said (Statement.implies a b ∷ ps) h = ap (λ (l : List ImpT). impToTree (record { left = a; right = b }) ∷ l) (imps-said ps h)
 imps-said (Statement.triple j m a b ∷ ps) h = absurd h
 
 module _ (P : Program) (i k : ℕ) (c : Holes) (ag : Agrees (given P i k) c) where
@@ -183,8 +183,8 @@ same-comm : {s : Sort} (f h : Formula s) → same f h ≡ same h f
 same-comm f h = bool-ext (same f h) (same h f) (λ z. subst (λ (w : Formula _). T (same w f)) (same-eq f h z) (same-refl f)) (λ z. subst (λ (w : Formula _). T (same w h)) (same-eq h f z) (same-refl h))
 
 -- a replacement in trees that is one in formulas
-as-formula : {s : Sort} {τ : Tree} (σ : Sub) (f h : Formula s) → τ ≡ raw (replace σ f) → sameTree τ (raw h) ≡ same h (replace σ f)
-as-formula σ f h e = ap (λ (t : Tree). sameTree t (raw h)) e ∙ (raw-same (replace σ f) h ∙ same-comm (replace σ f) h)
+as-formula : {s : Sort} {τ : Tree} (σ : Sub) (f h : Formula s) → τ ≡ toTree (replace σ f) → sameTree τ (toTree h) ≡ same h (replace σ f)
+as-formula σ f h e = ap (λ (t : Tree). sameTree t (toTree h)) e ∙ (toTree-same (replace σ f) h ∙ same-comm (replace σ f) h)
 
 -- SIDE CONDITIONS: each is the same of trees and of formulas, if the trees in the holes are those of the formulas
 module _ (P : Program) (i k : ℕ) (σ : Fill) (d : Holes) (two : 2 ≤ P .range) where
@@ -198,40 +198,40 @@ module _ (P : Program) (i k : ℕ) (σ : Fill) (d : Holes) (two : 2 ≤ P .range
   not-of u true e = rw e
   not-of u false e = rw e
 
-  replaced-same : {s : Sort} (b : By) (f h : Formula s) → sameTree (replaceT (replacing (P .range) (P .init) a b) (raw f)) (raw h) ≡ same h (replace (by P i k b) f)
-  replaced-same by-notes f h = as-formula (notes (notesOf (half P i k))) f h (raw-notes (notesOf (half P i k)) f)
-  replaced-same r-by-x f h = as-formula (regBy (g .r) (word (g .x))) f h (raw-reg (g .r) (word (g .x)) f)
-  replaced-same x-by-f f h = as-formula (wordBy (g .x) (g .f)) f h (raw-word (g .x) (g .f) f)
+  replaced-same : {s : Sort} (b : By) (f h : Formula s) → sameTree (replaceT (replacing (P .range) (P .init) a b) (toTree f)) (toTree h) ≡ same h (replace (by P i k b) f)
+  replaced-same by-notes f h = as-formula (notes (notesOf (half P i k))) f h (toTree-notes (notesOf (half P i k)) f)
+  replaced-same r-by-x f h = as-formula (regBy (g .r) (word (g .x))) f h (toTree-reg (g .r) (word (g .x)) f)
+  replaced-same x-by-f f h = as-formula (wordBy (g .x) (g .f)) f h (toTree-word (g .x) (g .f) f)
 
-  keeps-same : (c : Instr) (h : Assertion) → keepsT (P .range) (P .init) (acting c) (raw h) ≡ keeps c h
+  keeps-same : (c : Instr) (h : Assertion) → keepsT (P .range) (P .init) (acting c) (toTree h) ≡ keeps c h
   keeps-same (act none ns) h = refl
-  keeps-same (act (load true r x) ns) h = not-of (occurs (register r) [] (raw h)) (only (notReg r) h) (no-register r h)
-  keeps-same (act (load false r x) ns) h = not-of (occurs (register r) [] (raw h)) (only (notReg r) h) (no-register r h)
-  keeps-same (act (write (store true) x f) ns) h = not-of (occurs (wordAnyRole x) [] (raw h)) (only (notWord x) h) (no-word x h)
-  keeps-same (act (write (store false) x f) ns) h = not-of (occurs (wordAnyRole x) [] (raw h)) (only (notWord x) h) (no-word x h)
-  keeps-same (act (write swap x f) ns) h = not-of (occurs (wordAnyRole x) [] (raw h)) (only (notWord x) h) (no-word x h)
+  keeps-same (act (load true r x) ns) h = not-of (occurs (register r) [] (toTree h)) (only (notReg r) h) (no-register r h)
+  keeps-same (act (load false r x) ns) h = not-of (occurs (register r) [] (toTree h)) (only (notReg r) h) (no-register r h)
+  keeps-same (act (write (store true) x f) ns) h = not-of (occurs (wordAnyRole x) [] (toTree h)) (only (notWord x) h) (no-word x h)
+  keeps-same (act (write (store false) x f) ns) h = not-of (occurs (wordAnyRole x) [] (toTree h)) (only (notWord x) h) (no-word x h)
+  keeps-same (act (write swap x f) ns) h = not-of (occurs (wordAnyRole x) [] (toTree h)) (only (notWord x) h) (no-word x h)
   keeps-same (branch e n) h = refl
 
   -- the holes of a side condition
   abbrev Same : Statement → List Statement → Side → Type 0
   Same s ps z = sideT (P .range) (P .init) a d (said s) (map said ps) z ≡ sideHolds P i k σ s ps z
 
-  is-same : {r : Sort} (p q : Pattern r) (b : By) (s : Statement) (ps : List Statement) → instT d (rawP p) ≡ raw (inst g σ p) → instT d (rawP q) ≡ raw (inst g σ q) → Same s ps (p is q with b)
+  is-same : {r : Sort} (p q : Pattern r) (b : By) (s : Statement) (ps : List Statement) → instT d (patternToTree p) ≡ toTree (inst g σ p) → instT d (patternToTree q) ≡ toTree (inst g σ q) → Same s ps (p is q with b)
   is-same p q b s ps e f =
       ap₂ (λ (u v : Tree). sameTree (replaceT (replacing (P .range) (P .init) a b) u) v) f e
       ∙ replaced-same b (inst g σ q) (inst g σ p)
 
-  kept-same : (p : Pattern Sort.assertion) (s : Statement) (ps : List Statement) → instT d (rawP p) ≡ raw (inst g σ p) → Same s ps (kept p)
+  kept-same : (p : Pattern Sort.assertion) (s : Statement) (ps : List Statement) → instT d (patternToTree p) ≡ toTree (inst g σ p) → Same s ps (kept p)
   kept-same p s ps e = ap (keepsT (P .range) (P .init) a) e ∙ keeps-same (half P i k) (inst g σ p)
 
-  lacks-same : (p : Pattern Sort.interval) (s : Statement) (ps : List Statement) → instT d (rawP p) ≡ raw (inst g σ p) → Same s ps (lacks-x p)
-  lacks-same p s ps e = ap (λ (u : Tree). not (occurs (wordAnyRole (g .x)) [] u)) e ∙ not-of (occurs (wordAnyRole (g .x)) [] (raw (inst g σ p))) (only (notWord (g .x)) (inst g σ p)) (no-word (g .x) (inst g σ p))
+  lacks-same : (p : Pattern Sort.interval) (s : Statement) (ps : List Statement) → instT d (patternToTree p) ≡ toTree (inst g σ p) → Same s ps (lacks-x p)
+  lacks-same p s ps e = ap (λ (u : Tree). not (occurs (wordAnyRole (g .x)) [] u)) e ∙ not-of (occurs (wordAnyRole (g .x)) [] (toTree (inst g σ p))) (only (notWord (g .x)) (inst g σ p)) (no-word (g .x) (inst g σ p))
 
-  flag-same : (p : Pattern Sort.test) (s : Statement) (ps : List Statement) → instT d (rawP p) ≡ raw (inst g σ p) → Same s ps (no-flag p)
-  flag-same p s ps e = ap (λ (u : Tree). not (occurs (flag (g .x)) [] u)) e ∙ not-of (occurs (flag (g .x)) [] (raw (inst g σ p))) (only (notFlag (g .x)) (inst g σ p)) (Occurs.no-flag (g .x) (inst g σ p))
+  flag-same : (p : Pattern Sort.test) (s : Statement) (ps : List Statement) → instT d (patternToTree p) ≡ toTree (inst g σ p) → Same s ps (no-flag p)
+  flag-same p s ps e = ap (λ (u : Tree). not (occurs (flag (g .x)) [] u)) e ∙ not-of (occurs (flag (g .x)) [] (toTree (inst g σ p))) (only (notFlag (g .x)) (inst g σ p)) (Occurs.no-flag (g .x) (inst g σ p))
 
-  rows-same : (p q : Pattern Sort.test) (s : Statement) (ps : List Statement) → instT d (rawP p) ≡ raw (inst g σ p) → instT d (rawP q) ≡ raw (inst g σ q) → Same s ps (by-rows p q)
-  rows-same p q s ps e f = ap₂ (rowsT (P .range)) e f ∙ raw-rows (P .range) two (inst g σ p) (inst g σ q)
+  rows-same : (p q : Pattern Sort.test) (s : Statement) (ps : List Statement) → instT d (patternToTree p) ≡ toTree (inst g σ p) → instT d (patternToTree q) ≡ toTree (inst g σ q) → Same s ps (by-rows p q)
+  rows-same p q s ps e f = ap₂ (rowsT (P .range)) e f ∙ toTree-rows (P .range) two (inst g σ p) (inst g σ q)
 
   -- the line's sides, as trees: the templates filled with d are the patterns filled with σ
   abbrev Line : Shape → Type 0
@@ -243,31 +243,31 @@ module _ (P : Program) (i k : ℕ) (σ : Fill) (d : Holes) (two : 2 ≤ P .range
   -- by rule: what stands in the holes that are asked about
   sides-same : (n : Rule) (ps : List Statement) → Line (row n .says) → PremisesFit P i k σ (row n .premises) ps → Sides n ps
   unfolding hasOperand
-  sides-same r1 ps (e₁, e₂) f = let q0 : d .tree 0 ≡ raw (σ .assertion 0) = cc in (kept-same Rules.P (filled P i k σ (row r1 .says)) ps q0, tt)
-  sides-same r2 ps (e₁, e₂) f = let q0 : d .tree 0 ≡ raw (σ .assertion 0) = cc in let q1 : d .tree 1 ≡ raw (σ .assertion 1) = cc in (is-same Rules.P Rules.Q by-notes (filled P i k σ (row r2 .says)) ps q0 q1, tt)
-  sides-same r3 ps (e₁, e₂) f = let q3 : d .tree 3 ≡ raw (σ .test 3) = cc in let q2 : d .tree 2 ≡ raw (σ .test 2) = cc in (is-same Rules.F Rules.E r-by-x (filled P i k σ (row r3 .says)) ps q3 q2, tt)
-  sides-same r4 ps (e₁, e₂) f = let q3 : d .tree 3 ≡ raw (σ .test 3) = cc in let q2 : d .tree 2 ≡ raw (σ .test 2) = cc in (is-same Rules.F Rules.E r-by-x (filled P i k σ (row r4 .says)) ps q3 q2, tt)
+  sides-same r1 ps (e₁, e₂) f = let q0 : d .tree 0 ≡ toTree (σ .assertion 0) = cc in (kept-same Rules.P (filled P i k σ (row r1 .says)) ps q0, tt)
+  sides-same r2 ps (e₁, e₂) f = let q0 : d .tree 0 ≡ toTree (σ .assertion 0) = cc in let q1 : d .tree 1 ≡ toTree (σ .assertion 1) = cc in (is-same Rules.P Rules.Q by-notes (filled P i k σ (row r2 .says)) ps q0 q1, tt)
+  sides-same r3 ps (e₁, e₂) f = let q3 : d .tree 3 ≡ toTree (σ .test 3) = cc in let q2 : d .tree 2 ≡ toTree (σ .test 2) = cc in (is-same Rules.F Rules.E r-by-x (filled P i k σ (row r3 .says)) ps q3 q2, tt)
+  sides-same r4 ps (e₁, e₂) f = let q3 : d .tree 3 ≡ toTree (σ .test 3) = cc in let q2 : d .tree 2 ≡ toTree (σ .test 2) = cc in (is-same Rules.F Rules.E r-by-x (filled P i k σ (row r4 .says)) ps q3 q2, tt)
   sides-same r5 ps e f = tt
   sides-same r6 ps e f = tt
   sides-same r7 ps e f = tt
-  sides-same r8 ps (e₁, e₂) f = let q1 : d .tree 1 ≡ raw (σ .interval 1) = cc in (lacks-same Rules.J (filled P i k σ (row r8 .says)) ps q1, tt)
-  sides-same r9 ps (e₁, e₂) f = let q3 : d .tree 3 ≡ raw (σ .test 3) = cc in let q2 : d .tree 2 ≡ raw (σ .test 2) = cc in (is-same Rules.F Rules.E x-by-f (filled P i k σ (row r9 .says)) ps q3 q2, (flag-same Rules.E (filled P i k σ (row r9 .says)) ps q2, tt))
+  sides-same r8 ps (e₁, e₂) f = let q1 : d .tree 1 ≡ toTree (σ .interval 1) = cc in (lacks-same Rules.J (filled P i k σ (row r8 .says)) ps q1, tt)
+  sides-same r9 ps (e₁, e₂) f = let q3 : d .tree 3 ≡ toTree (σ .test 3) = cc in let q2 : d .tree 2 ≡ toTree (σ .test 2) = cc in (is-same Rules.F Rules.E x-by-f (filled P i k σ (row r9 .says)) ps q3 q2, (flag-same Rules.E (filled P i k σ (row r9 .says)) ps q2, tt))
   sides-same r10 ps e f = tt
   sides-same r11 ps e f = tt
   sides-same r12 ps e f = tt
-  sides-same r13 ps (e₁, e₂) f = let q1 : d .tree 1 ≡ raw (σ .interval 1) = cc in (lacks-same Rules.J (filled P i k σ (row r13 .says)) ps q1, tt)
+  sides-same r13 ps (e₁, e₂) f = let q1 : d .tree 1 ≡ toTree (σ .interval 1) = cc in (lacks-same Rules.J (filled P i k σ (row r13 .says)) ps q1, tt)
   sides-same r14 ps e f = tt
   sides-same r15 ps e f = tt
   sides-same r16 ps e f = tt
-  sides-same r20 ps (e₁, e₂) f = (ap (λ (l : List ImpT). tableT l (rawImp (record { left = σ .assertion 0; right = σ .assertion 1 }))) (imps-said ps (and-right (leb (length ps) Limits.premises) (all isImp ps) f)) ∙ raw-table (map Statement.impOf ps) (record { left = σ .assertion 0; right = σ .assertion 1 }), tt)
-  sides-same r21 ps (e₁, e₂) f = let q2 : d .tree 2 ≡ raw (σ .test 2) = cc in let q3 : d .tree 3 ≡ raw (σ .test 3) = cc in (rows-same Rules.E Rules.F (filled P i k σ (row r21 .says)) ps q2 q3, tt)
+  sides-same r20 ps (e₁, e₂) f = (ap (λ (l : List ImpT). tableT l (impToTree (record { left = σ .assertion 0; right = σ .assertion 1 }))) (imps-said ps (and-right (leb (length ps) Limits.premises) (all isImp ps) f)) ∙ toTree-table (map Statement.impOf ps) (record { left = σ .assertion 0; right = σ .assertion 1 }), tt)
+  sides-same r21 ps (e₁, e₂) f = let q2 : d .tree 2 ≡ toTree (σ .test 2) = cc in let q3 : d .tree 3 ≡ toTree (σ .test 3) = cc in (rows-same Rules.E Rules.F (filled P i k σ (row r21 .says)) ps q2 q3, tt)
   sides-same r22 ps e f = tt
-  sides-same r23 ps (e₁, e₂) f = let q2 : d .tree 2 ≡ raw (σ .test 2) = cc in let q3 : d .tree 3 ≡ raw (σ .test 3) = cc in (rows-same Rules.E Rules.F (filled P i k σ (row r23 .says)) ps q2 q3, tt)
-  sides-same r24 ps (e₁, e₂) f = let q2 : d .tree 2 ≡ raw (σ .test 2) = cc in let q3 : d .tree 3 ≡ raw (σ .test 3) = cc in (rows-same Rules.E Rules.F (filled P i k σ (row r24 .says)) ps q2 q3, tt)
+  sides-same r23 ps (e₁, e₂) f = let q2 : d .tree 2 ≡ toTree (σ .test 2) = cc in let q3 : d .tree 3 ≡ toTree (σ .test 3) = cc in (rows-same Rules.E Rules.F (filled P i k σ (row r23 .says)) ps q2 q3, tt)
+  sides-same r24 ps (e₁, e₂) f = let q2 : d .tree 2 ≡ toTree (σ .test 2) = cc in let q3 : d .tree 3 ≡ toTree (σ .test 3) = cc in (rows-same Rules.E Rules.F (filled P i k σ (row r24 .says)) ps q2 q3, tt)
   sides-same r25 ps e f = tt
-  sides-same r26 ps (e₁, e₂) f = let q0 : d .tree 0 ≡ raw (σ .value 0) = cc in let qy : d .num 4 ≡ σ .y = cc in (ap₂ (λ (u : Tree) (y : ℕ). sameTree u (raw (const (P .init y)))) q0 qy ∙ raw-same (σ .value 0) (const (P .init (σ .y))), tt)
+  sides-same r26 ps (e₁, e₂) f = let q0 : d .tree 0 ≡ toTree (σ .value 0) = cc in let qy : d .num 4 ≡ σ .y = cc in (ap₂ (λ (u : Tree) (y : ℕ). sameTree u (toTree (const (P .init y)))) q0 qy ∙ toTree-same (σ .value 0) (const (P .init (σ .y))), tt)
   sides-same r27 ps e f = tt
-  sides-same r30 ps (e₁, e₂) f = let q2 : d .tree 2 ≡ raw (σ .test 2) = cc in let q3 : d .tree 3 ≡ raw (σ .test 3) = cc in (rows-same Rules.E Rules.F (filled P i k σ (row r30 .says)) ps q2 q3, tt)
+  sides-same r30 ps (e₁, e₂) f = let q2 : d .tree 2 ≡ toTree (σ .test 2) = cc in let q3 : d .tree 3 ≡ toTree (σ .test 3) = cc in (rows-same Rules.E Rules.F (filled P i k σ (row r30 .says)) ps q2 q3, tt)
   sides-same r31 ps e f = tt
   sides-same r32 ps e f = tt
   sides-same r33 ps e f = tt
@@ -328,7 +328,7 @@ module _ (P : Program) (i k : ℕ) (σ : Fill) where
   abbrev first : Holes
   first = record {
     num = λ j. elim (eqb j (numHole Pattern.t)) [ true ↦ i | false ↦ elim (eqb j (numHole Pattern.x)) [ true ↦ wordOf (half P i k) | false ↦ regOf (half P i k) ] ];
-    tree = λ j. raw (formulaOf (half P i k));
+    tree = λ j. toTree (formulaOf (half P i k));
   }
 
   abbrev premisesOf : Premises → List Statement
@@ -346,7 +346,7 @@ module _ (P : Program) (i k : ℕ) (σ : Fill) where
     t : holes n .num (numHole Pattern.t) ≡ i
     x : holes n .num (numHole Pattern.x) ≡ wordOf (half P i k)
     r : holes n .num (numHole Pattern.r) ≡ regOf (half P i k)
-    f : holes n .tree formulaHole ≡ raw (formulaOf (half P i k))
+    f : holes n .tree formulaHole ≡ toTree (formulaOf (half P i k))
 
   same-place : T (not (eqb hoare hoare) || (eqb i i && eqb k k))
   same-place = and-both (eqb i i) (eqb k k) (eqb-refl i) (eqb-refl k)
@@ -449,7 +449,7 @@ module _ (P : Program) (two : 2 ≤ P .range) (i k : ℕ) (n : Rule) (s : Statem
             t = x .0 .num (numHole Pattern.t) i refl;
             x = x .0 .num (numHole Pattern.x) (wordOf (half P i k)) refl;
             r = x .0 .num (numHole Pattern.r) (regOf (half P i k)) refl;
-            f = ap (shaped Sort.value) (x .0 .tree formulaHole (raw (formulaOf (half P i k))) refl) ∙ shaped-raw (formulaOf (half P i k));
+            f = ap (ofTree Sort.value) (x .0 .tree formulaHole (toTree (formulaOf (half P i k))) refl) ∙ ofTree-toTree (formulaOf (half P i k));
           } in
           let says : filled P i k (fillOf c) (row n .says) ≡ s = says-from P i k c ag (row n .says) s (x .1) in
           let premises : PremisesFit P i k (fillOf c) (row n .premises) ps = premises-from P i k c ag (row n .premises) ps (premises-fit (fillOf c) z b eb kb) in
@@ -482,8 +482,8 @@ module _ (P : Program) (two : 2 ≤ P .range) (i k : ℕ) (n : Rule) (s : Statem
       trees : (j : ℕ) (u : Tree) → preset i c₀ .tree j ≡ some u → c .tree j ≡ u
       trees j u e = go (eqb j formulaHole) refl e
         where
-          go : (b : Bool) → eqb j formulaHole ≡ b → _≡_ {A = Option Tree} (elim b [ true ↦ some (raw (formulaOf (half P i k))) | false ↦ none ]) (some u) → c .tree j ≡ u
-          go true q e = ap (c .tree) (eqb-true j formulaHole q) ∙ filled-of P i k σ n .f ∙ (let d : raw (formulaOf (half P i k)) ≡ u = cc in d)
+          go : (b : Bool) → eqb j formulaHole ≡ b → _≡_ {A = Option Tree} (elim b [ true ↦ some (toTree (formulaOf (half P i k))) | false ↦ none ]) (some u) → c .tree j ≡ u
+          go true q e = ap (c .tree) (eqb-true j formulaHole q) ∙ filled-of P i k σ n .f ∙ (let d : toTree (formulaOf (half P i k)) ≡ u = cc in d)
           go false q e = let q : _≡_ {A = ℕ} 0 1 = cc in absurd (omega arith)
 
   -- a filled shape stands in its place

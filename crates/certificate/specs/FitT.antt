@@ -22,10 +22,10 @@ use Rattle.formula.specs.Tree.{Tree, Tree.node}
 use Rattle.compare.specs.Same.{sameTree}
 use Rattle.compare.specs.Replace.{NoteT, replaceT, oneName, named}
 use Rattle.occurs.specs.Occurs.{occurs, register, wordAnyRole, flag}
-use Rattle.trees.specs.Raw.{raw, noteT}
-use Rattle.rows.specs.Claim.{ImpT}
+use Rattle.trees.specs.ToTree.{toTree, noteT}
+use Rattle.rows.specs.Entailment.{ImpT}
 use Rattle.rows.specs.Rows.{rowsT, tableT}
-use Rattle.matcher.specs.Template.{numHole, formulaHole, rawP, Holes, instT}
+use Rattle.matcher.specs.Template.{numHole, formulaHole, patternToTree, Holes, instT}
 use Rattle.matcher.specs.Match.{Taken, andThen, when, matchT}
 
 -- the form of a line, by number
@@ -47,9 +47,9 @@ pub record Said : Type 0 where
   pub right : Tree
 
 abbrev pub said : Statement → Said
-said (Statement.inside i j) = record { form = inclusion; thread = 0; point = 0; left = raw i; right = raw j }
-said (Statement.implies a b) = record { form = implication; thread = 0; point = 0; left = raw a; right = raw b }
-said (Statement.triple t k a b) = record { form = hoare; thread = t; point = k; left = raw a; right = raw b }
+said (Statement.inside i j) = record { form = inclusion; thread = 0; point = 0; left = toTree i; right = toTree j }
+said (Statement.implies a b) = record { form = implication; thread = 0; point = 0; left = toTree a; right = toTree b }
+said (Statement.triple t k a b) = record { form = hoare; thread = t; point = k; left = toTree a; right = toTree b }
 
 -- the instruction of a line; notes: what rule 2 replaces
 pub record Acting : Type 0 where
@@ -60,7 +60,7 @@ pub record Acting : Type 0 where
   pub notes : List NoteT
 
 abbrev pub acting : Instr → Acting
-acting c = record { operation = opcode c; word = wordOf c; register = regOf c; formula = raw (formulaOf c); notes = map noteT (notesOf c) }
+acting c = record { operation = opcode c; word = wordOf c; register = regOf c; formula = toTree (formulaOf c); notes = map noteT (notesOf c) }
 
 abbrev pub formOf : Shape → ℕ
 formOf (inside p q) = inclusion
@@ -68,14 +68,14 @@ formOf (implies p q) = implication
 formOf (triple p q) = hoare
 
 abbrev pub leftOf : Shape → Tree
-leftOf (inside p q) = rawP p
-leftOf (implies p q) = rawP p
-leftOf (triple p q) = rawP p
+leftOf (inside p q) = patternToTree p
+leftOf (implies p q) = patternToTree p
+leftOf (triple p q) = patternToTree p
 
 abbrev pub rightOf : Shape → Tree
-rightOf (inside p q) = rawP q
-rightOf (implies p q) = rawP q
-rightOf (triple p q) = rawP q
+rightOf (inside p q) = patternToTree q
+rightOf (implies p q) = patternToTree q
+rightOf (triple p q) = patternToTree q
 
 -- a triple is for the same thread and point
 abbrev pub placed : ℕ → ℕ → ℕ → Said → Bool
@@ -133,12 +133,12 @@ module _ (R : ℕ) (init : ℕ → ℕ) (a : Acting) where
   ]
 
   abbrev pub sideT : Holes → Said → List Said → Side → Bool
-  sideT c v vs (p is q with b) = sameTree (replaceT (replacing b) (instT c (rawP q))) (instT c (rawP p))
-  sideT c v vs (start-of n p) = sameTree (instT c (rawP p)) (node (byte Code.const) (init (c .num (numHole n))) Tree.none Tree.none)
-  sideT c v vs (kept p) = keepsT (instT c (rawP p))
-  sideT c v vs (lacks-x p) = not (occurs (wordAnyRole (a .word)) [] (instT c (rawP p)))
-  sideT c v vs (no-flag p) = not (occurs (flag (a .word)) [] (instT c (rawP p)))
-  sideT c v vs (by-rows p q) = rowsT R (instT c (rawP p)) (instT c (rawP q))
+  sideT c v vs (p is q with b) = sameTree (replaceT (replacing b) (instT c (patternToTree q))) (instT c (patternToTree p))
+  sideT c v vs (start-of n p) = sameTree (instT c (patternToTree p)) (node (byte Code.const) (init (c .num (numHole n))) Tree.none Tree.none)
+  sideT c v vs (kept p) = keepsT (instT c (patternToTree p))
+  sideT c v vs (lacks-x p) = not (occurs (wordAnyRole (a .word)) [] (instT c (patternToTree p)))
+  sideT c v vs (no-flag p) = not (occurs (flag (a .word)) [] (instT c (patternToTree p)))
+  sideT c v vs (by-rows p q) = rowsT R (instT c (patternToTree p)) (instT c (patternToTree q))
   sideT c v vs by-table = tableT (map impOf vs) (impOf v)
 
   abbrev pub operationT : ℕ → List ℕ → Bool

@@ -1,11 +1,11 @@
 -- Columns as lists.
-use Prim.Native.Nat.{ℕ, zero, suc, _+_, _≤_, _<_}
+use Prim.Native.Nat.{ℕ, zero, suc, _+_, _<_}
 use mathlib.Core.Path.{_≡_, refl, ap, sym, _∙_}
 use mathlib.Core.List.{List, [], _∷_, _++_}
 use mathlib.Core.Bool.{Bool, true, false}
 use native.Mathlib.Omega.{arith}
 use lib.ListN.{length, getD, take, length-append, List·getD-append}
-use lib.Seq.{take-suc, getD-take, getD-at}
+use lib.Seq.{getD-take, getD-at}
 use lib.Dec.{ltb}
 use borrow.Author.Tests.{ltb-true, ltb-false}
 use Rattle.columns.specs.Column.{column}
@@ -34,11 +34,7 @@ module _ {A : Type 0} (f : ℕ → A) where
           let q : i ≡ n = omega (arith, ltb-false i n e) in
           rw q (getD-at (column f n) (f n) [] d n (column-length n))
 
-  -- the front of a list is the column if it has the column's values; and the other way
-  pub column-is : (d : A) (l : List A) (n : ℕ) → n ≤ length l → ((i : ℕ) → i < n → getD l i d ≡ f i) → take n l ≡ column f n
-  column-is d l zero h g = sym column-none
-  column-is d l (suc n) h g = take-suc l n d (omega arith) ∙ rw (column-is d l n (omega arith) (λ i k. g i (omega arith)), g n (omega arith), column-step n)
-
+  -- a list whose front is the column has the column's values
   pub column-at : (d : A) (l : List A) (n i : ℕ) → take n l ≡ column f n → i < n → getD l i d ≡ f i
   column-at d l n i e h = sym (getD-take n l i d h) ∙ ap (λ (l : List A). getD l i d) e ∙ column-getD d n i h
 

@@ -84,20 +84,20 @@ module _ (R c o : ℕ) (a₀ b a : List ℕ) where
   abbrev made : ℕ → ℕ
   made i = combine R c o (getD a₀ i 0) (getD b i 0)
 
-  pub mix-begin : take 0 a ≡ combined R c o 0 a₀ b
+  pub zip-begin : take 0 a ≡ combined R c o 0 a₀ b
   unfolding combined
-  mix-begin = column-begin made a
+  zip-begin = column-begin made a
 
   module _ (i : ℕ) (e : take i a ≡ combined R c o i a₀ b) where
-    pub mix-more : (n x : ℕ) → i < n → n ≤ length a₀ → length a ≡ length a₀ → drop i a ≡ drop i a₀ → x ≡ combine R c o (getD a i 0) (getD b i 0) → take (i + 1) (set a i x) ≡ combined R c o (i + 1) a₀ b
+    pub zip-more : (n x : ℕ) → i < n → n ≤ length a₀ → length a ≡ length a₀ → drop i a ≡ drop i a₀ → x ≡ combine R c o (getD a i 0) (getD b i 0) → take (i + 1) (set a i x) ≡ combined R c o (i + 1) a₀ b
     unfolding combined
-    mix-more n x h k l d f = column-more made a₀ a i n x h k l e (f ∙ ap (λ (n : ℕ). combine R c o n (getD b i 0)) (rest-at a a₀ i d))
+    zip-more n x h k l d f = column-more made a₀ a i n x h k l e (f ∙ ap (λ (n : ℕ). combine R c o n (getD b i 0)) (rest-at a a₀ i d))
 
-    pub mix-end : (n : ℕ) → i ≤ n → n ≤ i → take n a ≡ combined R c o n a₀ b
+    pub zip-end : (n : ℕ) → i ≤ n → n ≤ i → take n a ≡ combined R c o n a₀ b
     unfolding combined
-    mix-end n h k = column-end made a i n h k e
+    zip-end n h k = column-end made a i n h k e
 
-pub ruleset mixes = (mix-begin, mix-more, mix-end, rest-more)
+pub ruleset zips = (zip-begin, zip-more, zip-end, rest-more)
 
 -- a code that was named in the call
 pub named : (R c k o n : ℕ) (a₀ b a : List ℕ) → c ≡ k → take n a ≡ combined R k o n a₀ b → take n a ≡ combined R c o n a₀ b
@@ -107,9 +107,9 @@ named R c k o n a₀ b a e h = h ∙ ap (λ (m : ℕ). combined R m o n a₀ b) 
 pub ranged : (R k c o n : ℕ) (a₀ b a : List ℕ) → R ≡ k → take n a ≡ combined k c o n a₀ b → take n a ≡ combined R c o n a₀ b
 ranged R k c o n a₀ b a e h = h ∙ ap (λ (m : ℕ). combined m c o n a₀ b) (sym e)
 
-pub deny-is : (n : ℕ) (a₀ a b₀ b z : List ℕ) → take n b ≡ combined 0 (byte Code.not) 0 n b₀ z → take n a ≡ combined 0 (byte Code.and) 0 n a₀ b → take n a ≡ denied n a₀ b₀
+pub and-not-is : (n : ℕ) (a₀ a b₀ b z : List ℕ) → take n b ≡ combined 0 (byte Code.not) 0 n b₀ z → take n a ≡ combined 0 (byte Code.and) 0 n a₀ b → take n a ≡ denied n a₀ b₀
 unfolding combined denied
-deny-is n a₀ a b₀ b z eb ea = ea ∙ column-same (λ (i : ℕ). combine 0 (byte Code.and) 0 (getD a₀ i 0) (getD b i 0)) (λ (i : ℕ). cond (eqb (getD a₀ i 0) 1) (cond (eqb (getD b₀ i 0) 1) 0 1) 0) n (λ i h.
+and-not-is n a₀ a b₀ b z eb ea = ea ∙ column-same (λ (i : ℕ). combine 0 (byte Code.and) 0 (getD a₀ i 0) (getD b i 0)) (λ (i : ℕ). cond (eqb (getD a₀ i 0) 1) (cond (eqb (getD b₀ i 0) 1) 0 1) 0) n (λ i h.
     combine-and 0 (byte Code.and) 0 (getD a₀ i 0) (getD b i 0) refl
     ∙ ap (λ (m : ℕ). cond (eqb (getD a₀ i 0) 1) m 0) (column-at (λ (i : ℕ). combine 0 (byte Code.not) 0 (getD b₀ i 0) (getD z i 0)) 0 b n i eb h ∙ combine-not 0 (byte Code.not) 0 (getD b₀ i 0) (getD z i 0) refl))
 

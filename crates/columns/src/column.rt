@@ -9,7 +9,7 @@ ghost use lib.ListN.{length, take};
 ghost use Rattle.columns.specs.Column.{combined, summed, denied, seenOf, noneBelow};
 
 // A loop with nothing in it but the one operation: the compiler makes it work on many rows at a time.
-fn mix(range: u8, code: u8, operand: u8, n: usize, a: &mut [u8], b: &[u8])
+fn zip_with(range: u8, code: u8, operand: u8, n: usize, a: &mut [u8], b: &[u8])
     requires { ⌜ (n ≤ length (now a)) × (n ≤ length (now b)) ⌝ }
     ensures { λ _. ⌜ take n (now (a .exit)) ≡ combined range code operand n (now (a .entry)) (now (b .entry)) ⌝ }
 {
@@ -26,10 +26,10 @@ fn sum_columns(range: u8, operand: u8, n: usize, a: &mut [u8], b: &[u8])
     ensures { λ _. ⌜ take n (now (a .exit)) ≡ summed range operand n (now (a .entry)) (now (b .entry)) ⌝ }
 {
     if range == Limits::VALUES as u8 {
-        mix(Limits::VALUES as u8, Code::SUM, operand, n, a, b);
+        zip_with(Limits::VALUES as u8, Code::SUM, operand, n, a, b);
         return;
     }
-    mix(range, Code::SUM, operand, n, a, b);
+    zip_with(range, Code::SUM, operand, n, a, b);
 }
 
 // A node's column from the columns of its parts. (Each code is named in its call, so that the loop is made for it alone.)
@@ -39,26 +39,26 @@ pub fn combine_columns(range: u8, code: u8, operand: u8, n: usize, a: &mut [u8],
 {
     match code {
         Code::SUM => sum_columns(range, operand, n, a, b),
-        Code::EQUAL => mix(range, Code::EQUAL, operand, n, a, b),
-        Code::LESS => mix(range, Code::LESS, operand, n, a, b),
-        Code::NOT => mix(range, Code::NOT, operand, n, a, b),
-        Code::AND => mix(range, Code::AND, operand, n, a, b),
-        Code::OR => mix(range, Code::OR, operand, n, a, b),
-        Code::BOTH_A => mix(range, Code::BOTH_A, operand, n, a, b),
-        Code::EITHER_A => mix(range, Code::EITHER_A, operand, n, a, b),
-        Code::HOLDS => mix(range, Code::HOLDS, operand, n, a, b),
-        _ => mix(range, code, operand, n, a, b),
+        Code::EQUAL => zip_with(range, Code::EQUAL, operand, n, a, b),
+        Code::LESS => zip_with(range, Code::LESS, operand, n, a, b),
+        Code::NOT => zip_with(range, Code::NOT, operand, n, a, b),
+        Code::AND => zip_with(range, Code::AND, operand, n, a, b),
+        Code::OR => zip_with(range, Code::OR, operand, n, a, b),
+        Code::BOTH_A => zip_with(range, Code::BOTH_A, operand, n, a, b),
+        Code::EITHER_A => zip_with(range, Code::EITHER_A, operand, n, a, b),
+        Code::HOLDS => zip_with(range, Code::HOLDS, operand, n, a, b),
+        _ => zip_with(range, code, operand, n, a, b),
     }
 }
 
 // The rows that are 1 in a and not in b.
-pub fn deny(n: usize, a: &mut [u8], b: &mut [u8])
+pub fn and_not(n: usize, a: &mut [u8], b: &mut [u8])
     requires { ⌜ (n ≤ 1024) × ((n ≤ length (now a)) × (n ≤ length (now b))) ⌝ }
     ensures { λ _. ⌜ take n (now (a .exit)) ≡ denied n (now (a .entry)) (now (b .entry)) ⌝ }
 {
     let none: [u8; Block::ROWS] = [0; Block::ROWS];
-    mix(0, Code::NOT, 0, n, b, &none);
-    mix(0, Code::AND, 0, n, a, b);
+    zip_with(0, Code::NOT, 0, n, b, &none);
+    zip_with(0, Code::AND, 0, n, a, b);
 }
 
 // 1 from the first 1 on.

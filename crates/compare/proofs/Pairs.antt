@@ -10,9 +10,9 @@ use borrow.Author.Tests.{lt-ltb, eq-eqb, ne-eqb, eqb-true, eqb-false}
 use Rattle.logic.specs.Code
 use Rattle.logic.specs.Code.{byte}
 use Rattle.formula.specs.Codes.{among, partCount}
-use Rattle.formula.specs.Tree.{Tree, none, node, Skim, nodeAt, skim, part, grow}
+use Rattle.formula.specs.Tree.{Tree, none, node, ParsedTree, nodeAt, parseTree, part, grow}
 use Rattle.formula.specs.declared.node.Node.{Node}
-use Rattle.formula.proofs.Nodes.{skim-zero, skim-step, parts-of}
+use Rattle.formula.proofs.Nodes.{parse-zero, parse-step, parts-of}
 use Rattle.compare.specs.Same.{sameTree, sameOf, pairOf, pairAt}
 use Rattle.compare.specs.Replace.{isName, replaceT, nameCode, oneName, leafOnly, standsFor, replacedOf, hitAt}
 use Rattle.compare.specs.declared.replace.Replacing.{Replacing}
@@ -47,7 +47,7 @@ and-true true = refl
 and-true false = refl
 
 -- g of one tree compared with another
-abbrev simOf : (Tree → Tree) → Skim → Skim → Same
+abbrev simOf : (Tree → Tree) → ParsedTree → ParsedTree → Same
 simOf g u v = cond (sameTree (g (u .tree)) (v .tree)) (Yes (u .end) (v .end)) No
 
 abbrev thenSame : Same → (ℕ → ℕ → Same) → Same
@@ -66,16 +66,16 @@ and-then true e d y a = refl
 and-then false e d y a = refl
 
 -- the parts of a node, read by f
-abbrev leftOf : (ℕ → Skim) → Node → Tree
+abbrev leftOf : (ℕ → ParsedTree) → Node → Tree
 leftOf f x = part f (ltb 0 (x .parts)) (x .next) .tree
 
-abbrev rightOf : (ℕ → Skim) → Node → Tree
+abbrev rightOf : (ℕ → ParsedTree) → Node → Tree
 rightOf f x = part f (ltb 1 (x .parts)) (part f (ltb 0 (x .parts)) (x .next) .end) .tree
 
 -- g goes through the node to its parts
 abbrev Through : (Tree → Tree) → Node → Type 0
 Through g x =
-    (f : ℕ → Skim)
+    (f : ℕ → ParsedTree)
     → g (node (x .code) (x .operand) (part f (ltb 0 (x .parts)) (x .next) .tree) (part f (ltb 1 (x .parts)) (part f (ltb 0 (x .parts)) (x .next) .end) .tree))
     ≡ node (x .code) (x .operand) (g (part f (ltb 0 (x .parts)) (x .next) .tree)) (g (part f (ltb 1 (x .parts)) (part f (ltb 0 (x .parts)) (x .next) .end) .tree))
 
@@ -87,34 +87,34 @@ module _ (g : Tree → Tree) (g0 : g none ≡ none) (s : List ℕ) (a m b k : �
   y = nodeAt s b
 
   abbrev sub : ℕ → ℕ → Same
-  sub p q = simOf g (skim s (m - 1) p) (skim s (k - 1) q)
+  sub p q = simOf g (parseTree s (m - 1) p) (parseTree s (k - 1) q)
 
   alike : eqb (x .code) (y .code) ≡ true → y .parts ≡ x .parts
   alike e = parts-of s b ∙ ap partCount (sym (eqb-true _ _ e)) ∙ sym (parts-of s a)
 
-  by-pair : simOf g (skim s m a) (skim s k b) ≡ follow sub (pairAt s a m b k)
+  by-pair : simOf g (parseTree s m a) (parseTree s k b) ≡ follow sub (pairAt s a m b k)
   unfolding pairAt pairOf
   by-pair = go (eqb m 0) (eqb k 0) (eqb (x .code) (y .code)) (eqb (x .operand) (y .operand)) (eqb (x .parts) 0) (eqb (x .parts) 1) refl refl refl refl refl refl
     where
-      go : (i j c o p q : Bool) → eqb m 0 ≡ i → eqb k 0 ≡ j → eqb (x .code) (y .code) ≡ c → eqb (x .operand) (y .operand) ≡ o → eqb (x .parts) 0 ≡ p → eqb (x .parts) 1 ≡ q → simOf g (skim s m a) (skim s k b) ≡ follow sub (pairAt s a m b k)
-      go true true c o p q e₁ e₂ e₃ e₄ e₅ e₆ = rw (e₁, e₂, skim-zero s m a (eqb-true _ _ e₁), skim-zero s k b (eqb-true _ _ e₂), g0, same-none)
-      go true false c o p q e₁ e₂ e₃ e₄ e₅ e₆ = rw (e₁, e₂, skim-zero s m a (eqb-true _ _ e₁), skim-step s k b (eqb-false _ _ e₂), g0, same-none-node)
-      go false true c o p q e₁ e₂ e₃ e₄ e₅ e₆ = rw (e₁, e₂, skim-step s m a (eqb-false _ _ e₁), skim-zero s k b (eqb-true _ _ e₂), gn (eqb-false _ _ e₁) (λ p. skim s (m - 1) p), same-node-none)
-      go false false false o p q e₁ e₂ e₃ e₄ e₅ e₆ = rw (e₁, e₂, skim-step s m a (eqb-false _ _ e₁), skim-step s k b (eqb-false _ _ e₂), gn (eqb-false _ _ e₁) (λ p. skim s (m - 1) p), same-nodes, e₃)
-      go false false true false p q e₁ e₂ e₃ e₄ e₅ e₆ = rw (e₁, e₂, skim-step s m a (eqb-false _ _ e₁), skim-step s k b (eqb-false _ _ e₂), gn (eqb-false _ _ e₁) (λ p. skim s (m - 1) p), same-nodes, e₃, e₄)
+      go : (i j c o p q : Bool) → eqb m 0 ≡ i → eqb k 0 ≡ j → eqb (x .code) (y .code) ≡ c → eqb (x .operand) (y .operand) ≡ o → eqb (x .parts) 0 ≡ p → eqb (x .parts) 1 ≡ q → simOf g (parseTree s m a) (parseTree s k b) ≡ follow sub (pairAt s a m b k)
+      go true true c o p q e₁ e₂ e₃ e₄ e₅ e₆ = rw (e₁, e₂, parse-zero s m a (eqb-true _ _ e₁), parse-zero s k b (eqb-true _ _ e₂), g0, same-none)
+      go true false c o p q e₁ e₂ e₃ e₄ e₅ e₆ = rw (e₁, e₂, parse-zero s m a (eqb-true _ _ e₁), parse-step s k b (eqb-false _ _ e₂), g0, same-none-node)
+      go false true c o p q e₁ e₂ e₃ e₄ e₅ e₆ = rw (e₁, e₂, parse-step s m a (eqb-false _ _ e₁), parse-zero s k b (eqb-true _ _ e₂), gn (eqb-false _ _ e₁) (λ p. parseTree s (m - 1) p), same-node-none)
+      go false false false o p q e₁ e₂ e₃ e₄ e₅ e₆ = rw (e₁, e₂, parse-step s m a (eqb-false _ _ e₁), parse-step s k b (eqb-false _ _ e₂), gn (eqb-false _ _ e₁) (λ p. parseTree s (m - 1) p), same-nodes, e₃)
+      go false false true false p q e₁ e₂ e₃ e₄ e₅ e₆ = rw (e₁, e₂, parse-step s m a (eqb-false _ _ e₁), parse-step s k b (eqb-false _ _ e₂), gn (eqb-false _ _ e₁) (λ p. parseTree s (m - 1) p), same-nodes, e₃, e₄)
       go false false true true true q e₁ e₂ e₃ e₄ e₅ e₆ =
           let n : x .parts ≡ 0 = eqb-true _ _ e₅ in
-          rw (e₁, e₂, skim-step s m a (eqb-false _ _ e₁), skim-step s k b (eqb-false _ _ e₂), gn (eqb-false _ _ e₁) (λ p. skim s (m - 1) p), same-nodes, e₃, e₄, e₅, alike e₃, n, g0, same-none)
+          rw (e₁, e₂, parse-step s m a (eqb-false _ _ e₁), parse-step s k b (eqb-false _ _ e₂), gn (eqb-false _ _ e₁) (λ p. parseTree s (m - 1) p), same-nodes, e₃, e₄, e₅, alike e₃, n, g0, same-none)
       go false false true true false true e₁ e₂ e₃ e₄ e₅ e₆ =
           let n : x .parts ≡ 1 = eqb-true _ _ e₆ in
-          rw (e₁, e₂, skim-step s m a (eqb-false _ _ e₁), skim-step s k b (eqb-false _ _ e₂), gn (eqb-false _ _ e₁) (λ p. skim s (m - 1) p), same-nodes, e₃, e₄, e₅, e₆, alike e₃, n, g0, same-none, and-true)
+          rw (e₁, e₂, parse-step s m a (eqb-false _ _ e₁), parse-step s k b (eqb-false _ _ e₂), gn (eqb-false _ _ e₁) (λ p. parseTree s (m - 1) p), same-nodes, e₃, e₄, e₅, e₆, alike e₃, n, g0, same-none, and-true)
       go false false true true false false e₁ e₂ e₃ e₄ e₅ e₆ =
           let z₀ : x .parts ≡ 0 → ⊥ = eqb-false _ _ e₅ in
           let z₁ : x .parts ≡ 1 → ⊥ = eqb-false _ _ e₆ in
           let t₀ : 0 < x .parts = omega arith in
           let t₁ : 1 < x .parts = omega arith in
-          rw (e₁, e₂, skim-step s m a (eqb-false _ _ e₁), skim-step s k b (eqb-false _ _ e₂), gn (eqb-false _ _ e₁) (λ p. skim s (m - 1) p), same-nodes, e₃, e₄, e₅, e₆, alike e₃, lt-ltb _ _ t₀, lt-ltb _ _ t₁)
-          (and-then (sameTree (g (skim s (m - 1) (x .next) .tree)) (skim s (k - 1) (y .next) .tree)) (skim s (m - 1) (x .next) .end) (skim s (k - 1) (y .next) .end) (λ p q. sameTree (g (skim s (m - 1) p .tree)) (skim s (k - 1) q .tree)) (λ p q. Yes (skim s (m - 1) p .end) (skim s (k - 1) q .end)))
+          rw (e₁, e₂, parse-step s m a (eqb-false _ _ e₁), parse-step s k b (eqb-false _ _ e₂), gn (eqb-false _ _ e₁) (λ p. parseTree s (m - 1) p), same-nodes, e₃, e₄, e₅, e₆, alike e₃, lt-ltb _ _ t₀, lt-ltb _ _ t₁)
+          (and-then (sameTree (g (parseTree s (m - 1) (x .next) .tree)) (parseTree s (k - 1) (y .next) .tree)) (parseTree s (m - 1) (x .next) .end) (parseTree s (k - 1) (y .next) .end) (λ p q. sameTree (g (parseTree s (m - 1) p .tree)) (parseTree s (k - 1) q .tree)) (λ p q. Yes (parseTree s (m - 1) p .end) (parseTree s (k - 1) q .end)))
 
 -- parts are read only where nesting is left, on both sides
 shallow : (m k a b : ℕ) (t : Pair) (u : Pair) → t ≡ cond (eqb m 0) (cond (eqb k 0) (Ended a b) Differ) (cond (eqb k 0) Differ u)
@@ -173,22 +173,22 @@ pair-deep s a m b k x y r zm zk ex ey er = rw (er, ex, ey, ne-eqb _ _ zm, ne-eqb
 
 -- the ways through `same_at`
 module _ (s : List ℕ) (a m b k : ℕ) (t : Pair) (et : t ≡ pairAt s a m b k) where
-  same-by : sameOf (skim s m a) (skim s k b) ≡ follow (λ p q. sameOf (skim s (m - 1) p) (skim s (k - 1) q)) t
+  same-by : sameOf (parseTree s m a) (parseTree s k b) ≡ follow (λ p q. sameOf (parseTree s (m - 1) p) (parseTree s (k - 1) q)) t
   same-by = rw et (by-pair (λ x. x) refl s a m b k (λ z f. refl))
 
-  pub same-differ : t ≡ Differ → No ≡ sameOf (skim s m a) (skim s k b)
+  pub same-differ : t ≡ Differ → No ≡ sameOf (parseTree s m a) (parseTree s k b)
   same-differ d = rw (same-by, d)
 
-  pub same-ended : (p q : ℕ) → t ≡ Ended p q → Yes p q ≡ sameOf (skim s m a) (skim s k b)
+  pub same-ended : (p q : ℕ) → t ≡ Ended p q → Yes p q ≡ sameOf (parseTree s m a) (parseTree s k b)
   same-ended p q d = rw (same-by, d)
 
-  pub same-one : (p q : ℕ) (r : Same) → t ≡ One p q → r ≡ sameOf (skim s (m - 1) p) (skim s (k - 1) q) → r ≡ sameOf (skim s m a) (skim s k b)
+  pub same-one : (p q : ℕ) (r : Same) → t ≡ One p q → r ≡ sameOf (parseTree s (m - 1) p) (parseTree s (k - 1) q) → r ≡ sameOf (parseTree s m a) (parseTree s k b)
   same-one p q r d e = rw (same-by, d) e
 
-  pub same-two-no : (p q : ℕ) (r : Same) → t ≡ Two p q → r ≡ sameOf (skim s (m - 1) p) (skim s (k - 1) q) → r ≡ No → No ≡ sameOf (skim s m a) (skim s k b)
+  pub same-two-no : (p q : ℕ) (r : Same) → t ≡ Two p q → r ≡ sameOf (parseTree s (m - 1) p) (parseTree s (k - 1) q) → r ≡ No → No ≡ sameOf (parseTree s m a) (parseTree s k b)
   same-two-no p q r d e f = rw (same-by, d, ← e, f)
 
-  pub same-two : (p q p₂ q₂ : ℕ) (r r₂ : Same) → t ≡ Two p q → r ≡ sameOf (skim s (m - 1) p) (skim s (k - 1) q) → r ≡ Yes p₂ q₂ → r₂ ≡ sameOf (skim s (m - 1) p₂) (skim s (k - 1) q₂) → r₂ ≡ sameOf (skim s m a) (skim s k b)
+  pub same-two : (p q p₂ q₂ : ℕ) (r r₂ : Same) → t ≡ Two p q → r ≡ sameOf (parseTree s (m - 1) p) (parseTree s (k - 1) q) → r ≡ Yes p₂ q₂ → r₂ ≡ sameOf (parseTree s (m - 1) p₂) (parseTree s (k - 1) q₂) → r₂ ≡ sameOf (parseTree s m a) (parseTree s k b)
   same-two p q p₂ q₂ r r₂ d e f g = rw (same-by, d, ← e, f) g
 
 pub ruleset sames = (same-differ, same-ended, same-one, same-two-no, same-two, one-left, one-right, two-left, two-right, lower)
@@ -269,20 +269,20 @@ hit-is s a k w n e = go (eqb k 0) (eqb (nodeAt s a .code) (nameCode (w .word))) 
     go false true true e₁ e₂ d = (eqb-false _ _ e₁, refl, eqb-true _ _ e₂, (cc))
 
 -- a node without parts
-pub leaf-zero : (s : List ℕ) (c o b k : ℕ) → k ≡ 0 → No ≡ sameOf (leafOnly c o) (skim s k b)
-leaf-zero s c o b k e = rw (skim-zero s k b e, same-node-none)
+pub leaf-zero : (s : List ℕ) (c o b k : ℕ) → k ≡ 0 → No ≡ sameOf (leafOnly c o) (parseTree s k b)
+leaf-zero s c o b k e = rw (parse-zero s k b e, same-node-none)
 
 module _ (s : List ℕ) (c o b k : ℕ) (n : Node) (z : k ≡ 0 → ⊥) (e : n ≡ nodeAt s b) where
-  pub leaf-there : partCount c ≡ 0 → n .code ≡ c → n .operand ≡ o → Yes 0 (n .next) ≡ sameOf (leafOnly c o) (skim s k b)
+  pub leaf-there : partCount c ≡ 0 → n .code ≡ c → n .operand ≡ o → Yes 0 (n .next) ≡ sameOf (leafOnly c o) (parseTree s k b)
   leaf-there q d x =
       let p : n .parts ≡ 0 = ap (λ (n : Node). n .parts) e ∙ parts-of s b ∙ ap partCount (ap (λ (n : Node). n .code) (sym e) ∙ d) ∙ q in
-      rw (skim-step s k b z, ← e, same-nodes, eq-eqb _ _ (sym d), eq-eqb _ _ (sym x), p, same-none)
+      rw (parse-step s k b z, ← e, same-nodes, eq-eqb _ _ (sym d), eq-eqb _ _ (sym x), p, same-none)
 
-  pub leaf-operand : n .code ≡ c → (n .operand ≡ o → ⊥) → No ≡ sameOf (leafOnly c o) (skim s k b)
-  leaf-operand d x = rw (skim-step s k b z, ← e, same-nodes, eq-eqb _ _ (sym d), ne-eqb _ _ (λ (q : o ≡ n .operand). x (sym q)))
+  pub leaf-operand : n .code ≡ c → (n .operand ≡ o → ⊥) → No ≡ sameOf (leafOnly c o) (parseTree s k b)
+  leaf-operand d x = rw (parse-step s k b z, ← e, same-nodes, eq-eqb _ _ (sym d), ne-eqb _ _ (λ (q : o ≡ n .operand). x (sym q)))
 
-  pub leaf-code : (n .code ≡ c → ⊥) → No ≡ sameOf (leafOnly c o) (skim s k b)
-  leaf-code d = rw (skim-step s k b z, ← e, same-nodes, ne-eqb _ _ (λ (q : c ≡ n .code). d (sym q)))
+  pub leaf-code : (n .code ≡ c → ⊥) → No ≡ sameOf (leafOnly c o) (parseTree s k b)
+  leaf-code d = rw (parse-step s k b z, ← e, same-nodes, ne-eqb _ _ (λ (q : c ≡ n .code). d (sym q)))
 
 pub ruleset leaves = (leaf-zero, leaf-there, leaf-operand, leaf-code)
 
@@ -290,22 +290,22 @@ pub word-parts : partCount (byte Code.word) ≡ 0
 word-parts = name-parts (byte Code.word) is-word
 
 module _ (s : List ℕ) (by : Replacing) (b k : ℕ) (r : Same) where
-  pub stands-formula : (at left : ℕ) → by ≡ Formula at left → r ≡ sameOf (skim s left at) (skim s k b) → r ≡ sameOf (standsFor s by) (skim s k b)
+  pub stands-formula : (at left : ℕ) → by ≡ Formula at left → r ≡ sameOf (parseTree s left at) (parseTree s k b) → r ≡ sameOf (standsFor s by) (parseTree s k b)
   stands-formula at left e d = rw e d
 
-  pub stands-word : (x : ℕ) → by ≡ Word x → r ≡ sameOf (leafOnly (byte Code.word) x) (skim s k b) → r ≡ sameOf (standsFor s by) (skim s k b)
+  pub stands-word : (x : ℕ) → by ≡ Word x → r ≡ sameOf (leafOnly (byte Code.word) x) (parseTree s k b) → r ≡ sameOf (standsFor s by) (parseTree s k b)
   stands-word x e d = rw e d
 
 pub ruleset stands = (stands-formula, stands-word, word-parts)
 
-said-yes : (u v : Skim) (p q : ℕ) → sameOf u v ≡ Yes p q → (sameTree (u .tree) (v .tree) ≡ true) × (u .end ≡ p) × (v .end ≡ q)
+said-yes : (u v : ParsedTree) (p q : ℕ) → sameOf u v ≡ Yes p q → (sameTree (u .tree) (v .tree) ≡ true) × (u .end ≡ p) × (v .end ≡ q)
 said-yes u v p q = go (sameTree (u .tree) (v .tree))
   where
     go : (t : Bool) → cond t (Yes (u .end) (v .end)) No ≡ Yes p q → (t ≡ true) × (u .end ≡ p) × (v .end ≡ q)
     go true h = (refl, (cc), (cc))
     go false h = let z : _≡_ {A = ℕ} 0 1 = cc in absurd (omega arith)
 
-said-no : (u v : Skim) → sameOf u v ≡ No → sameTree (u .tree) (v .tree) ≡ false
+said-no : (u v : ParsedTree) → sameOf u v ≡ No → sameTree (u .tree) (v .tree) ≡ false
 said-no u v = go (sameTree (u .tree) (v .tree))
   where
     go : (t : Bool) → cond t (Yes (u .end) (v .end)) No ≡ No → t ≡ false
@@ -321,22 +321,22 @@ module _ (s : List ℕ) (a m b k : ℕ) (w : Substitution) (h : Hit) (eh : h ≡
   put = replaceT (oneName (w .word) (w .number) by)
 
   abbrev want : Same
-  want = replacedOf w (standsFor s (w .by)) (skim s m a) (skim s k b)
+  want = replacedOf w (standsFor s (w .by)) (parseTree s m a) (parseTree s k b)
 
-  replaced-name : (n : ℕ) → h ≡ Name n → want ≡ cond (sameTree by (skim s k b .tree)) (Yes n (skim s k b .end)) No
+  replaced-name : (n : ℕ) → h ≡ Name n → want ≡ cond (sameTree by (parseTree s k b .tree)) (Yes n (parseTree s k b .end)) No
   unfolding oneName
   replaced-name n d =
       let i = hit-is s a m w n (sym eh ∙ d) in
       let c : isName (nodeAt s a .code) ≡ true = is-name w (nodeAt s a .code) (i .2) in
       let p : nodeAt s a .parts ≡ 0 = parts-of s a ∙ name-parts (nodeAt s a .code) c in
-      rw (skim-step s m a (i .0), replace-node, c, i .1, p, i .3)
+      rw (parse-step s m a (i .0), replace-node, c, i .1, p, i .3)
 
-  pub replaced-hit-no : (n : ℕ) (r : Same) → h ≡ Name n → r ≡ sameOf (standsFor s (w .by)) (skim s k b) → r ≡ No → No ≡ want
-  replaced-hit-no n r d e f = rw (replaced-name n d, said-no (standsFor s (w .by)) (skim s k b) (sym e ∙ f))
+  pub replaced-hit-no : (n : ℕ) (r : Same) → h ≡ Name n → r ≡ sameOf (standsFor s (w .by)) (parseTree s k b) → r ≡ No → No ≡ want
+  replaced-hit-no n r d e f = rw (replaced-name n d, said-no (standsFor s (w .by)) (parseTree s k b) (sym e ∙ f))
 
-  pub replaced-hit : (n p q : ℕ) (r : Same) → h ≡ Name n → r ≡ sameOf (standsFor s (w .by)) (skim s k b) → r ≡ Yes p q → Yes n q ≡ want
+  pub replaced-hit : (n p q : ℕ) (r : Same) → h ≡ Name n → r ≡ sameOf (standsFor s (w .by)) (parseTree s k b) → r ≡ Yes p q → Yes n q ≡ want
   replaced-hit n p q r d e f =
-      let y = said-yes (standsFor s (w .by)) (skim s k b) p q (sym e ∙ f) in
+      let y = said-yes (standsFor s (w .by)) (parseTree s k b) p q (sym e ∙ f) in
       rw (replaced-name n d, y .0, y .2)
 
   module _ (t : Pair) (o : h ≡ Other) (et : t ≡ pairAt s a m b k) where
@@ -352,7 +352,7 @@ module _ (s : List ℕ) (a m b k : ℕ) (w : Substitution) (h : Hit) (eh : h ≡
             rw (hit-other s a m w (sym eh ∙ o) z, p) (simp replace-none)
         go false e = refl
 
-    replaced-by : want ≡ follow (λ p q. replacedOf w (standsFor s (w .by)) (skim s (m - 1) p) (skim s (k - 1) q)) t
+    replaced-by : want ≡ follow (λ p q. replacedOf w (standsFor s (w .by)) (parseTree s (m - 1) p) (parseTree s (k - 1) q)) t
     replaced-by = rw et (by-pair put (replace-none (oneName (w .word) (w .number) by)) s a m b k through)
 
     pub replaced-differ : t ≡ Differ → No ≡ want
@@ -361,13 +361,13 @@ module _ (s : List ℕ) (a m b k : ℕ) (w : Substitution) (h : Hit) (eh : h ≡
     pub replaced-ended : (p q : ℕ) → t ≡ Ended p q → Yes p q ≡ want
     replaced-ended p q d = rw (replaced-by, d)
 
-    pub replaced-one : (p q : ℕ) (r : Same) → t ≡ One p q → r ≡ replacedOf w (standsFor s (w .by)) (skim s (m - 1) p) (skim s (k - 1) q) → r ≡ want
+    pub replaced-one : (p q : ℕ) (r : Same) → t ≡ One p q → r ≡ replacedOf w (standsFor s (w .by)) (parseTree s (m - 1) p) (parseTree s (k - 1) q) → r ≡ want
     replaced-one p q r d e = rw (replaced-by, d) e
 
-    pub replaced-two-no : (p q : ℕ) (r : Same) → t ≡ Two p q → r ≡ replacedOf w (standsFor s (w .by)) (skim s (m - 1) p) (skim s (k - 1) q) → r ≡ No → No ≡ want
+    pub replaced-two-no : (p q : ℕ) (r : Same) → t ≡ Two p q → r ≡ replacedOf w (standsFor s (w .by)) (parseTree s (m - 1) p) (parseTree s (k - 1) q) → r ≡ No → No ≡ want
     replaced-two-no p q r d e f = rw (replaced-by, d, ← e, f)
 
-    pub replaced-two : (p q p₂ q₂ : ℕ) (r r₂ : Same) → t ≡ Two p q → r ≡ replacedOf w (standsFor s (w .by)) (skim s (m - 1) p) (skim s (k - 1) q) → r ≡ Yes p₂ q₂ → r₂ ≡ replacedOf w (standsFor s (w .by)) (skim s (m - 1) p₂) (skim s (k - 1) q₂) → r₂ ≡ want
+    pub replaced-two : (p q p₂ q₂ : ℕ) (r r₂ : Same) → t ≡ Two p q → r ≡ replacedOf w (standsFor s (w .by)) (parseTree s (m - 1) p) (parseTree s (k - 1) q) → r ≡ Yes p₂ q₂ → r₂ ≡ replacedOf w (standsFor s (w .by)) (parseTree s (m - 1) p₂) (parseTree s (k - 1) q₂) → r₂ ≡ want
     replaced-two p q p₂ q₂ r r₂ d e f g = rw (replaced-by, d, ← e, f) g
 
 pub ruleset replaces = (replaced-hit-no, replaced-hit, replaced-differ, replaced-ended, replaced-one, replaced-two-no, replaced-two, one-left, one-right, two-left, two-right, lower)

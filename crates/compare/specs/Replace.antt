@@ -6,7 +6,7 @@ use lib.Dec.{eqb}
 use Rattle.logic.specs.Code
 use Rattle.logic.specs.Code.{byte}
 use Rattle.formula.specs.Codes.{among}
-use Rattle.formula.specs.Tree.{Tree, none, node, Skim, nodeAt, skim}
+use Rattle.formula.specs.Tree.{Tree, none, node, ParsedTree, nodeAt, parseTree}
 use Rattle.compare.specs.Same.{sameTree}
 use Rattle.compare.specs.declared.same.Same.{Same}
 use Rattle.compare.specs.declared.same.Same.the-variants.{Yes, No}
@@ -43,15 +43,15 @@ named [] c o = node c o none none
 named (n ∷ l) c o = cond (eqb c (nameCode false) && eqb o (n .to)) (n .by) (named l c o)
 
 -- a node without parts, which stands nowhere
-abbrev pub leafOnly : ℕ → ℕ → Skim
+abbrev pub leafOnly : ℕ → ℕ → ParsedTree
 leafOnly c o = record { tree = node c o none none; end = 0 }
 
 -- what replaces it
-abbrev pub standsFor : List ℕ → Replacing → Skim
-standsFor s (Formula at left) = skim s left at
+abbrev pub standsFor : List ℕ → Replacing → ParsedTree
+standsFor s (Formula at left) = parseTree s left at
 standsFor s (Word x) = leafOnly (byte Code.word) x
 
-abbrev pub replacedOf : Substitution → Skim → Skim → Skim → Same
+abbrev pub replacedOf : Substitution → ParsedTree → ParsedTree → ParsedTree → Same
 replacedOf w f u v = cond (sameTree (replaceT (oneName (w .word) (w .number) (f .tree)) (u .tree)) (v .tree)) (Yes (u .end) (v .end)) No
 
 -- whether the name that is replaced stands there

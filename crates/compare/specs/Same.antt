@@ -3,7 +3,7 @@ use Prim.Native.Nat.{ℕ}
 use mathlib.Core.List.{List}
 use mathlib.Core.Bool.{Bool, true, false, cond, _&&_}
 use lib.Dec.{eqb}
-use Rattle.formula.specs.Tree.{Tree, none, node, Skim, nodeAt}
+use Rattle.formula.specs.Tree.{Tree, none, node, ParsedTree, nodeAt}
 use Rattle.formula.specs.declared.node.Node.{Node}
 use Rattle.compare.specs.declared.same.Pair.{Pair}
 use Rattle.compare.specs.declared.same.Pair.the-variants.{Differ, Ended, One, Two}
@@ -16,7 +16,7 @@ sameTree none (node d p m s) = false
 sameTree (node c o l r) none = false
 sameTree (node c o l r) (node d p m s) = eqb c d && (eqb o p && (sameTree l m && sameTree r s))
 
-abbrev pub sameOf : Skim → Skim → Same
+abbrev pub sameOf : ParsedTree → ParsedTree → Same
 sameOf u v = cond (sameTree (u .tree) (v .tree)) (Yes (u .end) (v .end)) No
 
 -- two nodes side by side

@@ -7,7 +7,7 @@ use formula::code::Code;
 use formula::node::node_at;
 ghost use mathlib.Core.Path.{_≡_};
 ghost use Rattle.formula.specs.Codes.{partCount};
-ghost use Rattle.formula.specs.Tree.{skim};
+ghost use Rattle.formula.specs.Tree.{parseTree};
 ghost use Rattle.compare.specs.Same.{sameOf};
 ghost use Rattle.compare.specs.Replace.{nameCode, hitAt, leafOnly, standsFor, replacedOf};
 
@@ -54,7 +54,7 @@ pub fn hit_at(s: &[u8], a: usize, m: usize, w: Substitution) -> Hit
 // Whether the code stands at b with this operand. It is a code without parts.
 pub fn leaf_stands(s: &[u8], code: u8, number: u8, b: usize, k: usize) -> Same
     requires { ⌜ partCount code ≡ 0 ⌝ }
-    ensures { λ r. ⌜ r ≡ sameOf (leafOnly code number) (skim (now (s .entry)) k b) ⌝ }
+    ensures { λ r. ⌜ r ≡ sameOf (leafOnly code number) (parseTree (now (s .entry)) k b) ⌝ }
 {
     if k == 0 {
         return Same::No;
@@ -70,7 +70,7 @@ pub fn leaf_stands(s: &[u8], code: u8, number: u8, b: usize, k: usize) -> Same
 
 // Whether what replaces the name stands at b.
 pub fn stands_at(s: &[u8], by: Replacing, b: usize, k: usize) -> Same
-    ensures { λ r. ⌜ r ≡ sameOf (standsFor (now (s .entry)) by) (skim (now (s .entry)) k b) ⌝ }
+    ensures { λ r. ⌜ r ≡ sameOf (standsFor (now (s .entry)) by) (parseTree (now (s .entry)) k b) ⌝ }
 {
     match by {
         Replacing::Formula(at, left) => same_at(s, at, left, b, k),
@@ -80,7 +80,7 @@ pub fn stands_at(s: &[u8], by: Replacing, b: usize, k: usize) -> Same
 
 // Whether the formula at b is the one at a with the name replaced.
 pub fn replaced_at(s: &[u8], a: usize, m: usize, b: usize, k: usize, w: Substitution) -> Same
-    ensures { λ r. ⌜ r ≡ replacedOf w (standsFor (now (s .entry)) (w .by)) (skim (now (s .entry)) m a) (skim (now (s .entry)) k b) ⌝ }
+    ensures { λ r. ⌜ r ≡ replacedOf w (standsFor (now (s .entry)) (w .by)) (parseTree (now (s .entry)) m a) (parseTree (now (s .entry)) k b) ⌝ }
 {
     match hit_at(s, a, m, w) {
         Hit::Name(next) => {

@@ -2,7 +2,7 @@
 use formula::node::Node;
 use formula::node::node_at;
 ghost use mathlib.Core.Path.{_≡_};
-ghost use Rattle.formula.specs.Tree.{skim};
+ghost use Rattle.formula.specs.Tree.{parseTree};
 ghost use Rattle.compare.specs.Same.{pairOf, pairAt, sameOf};
 
 // Two nodes side by side: they differ; or they are the same, and where their parts begin.
@@ -55,7 +55,7 @@ pub fn pair_at(s: &[u8], a: usize, m: usize, b: usize, k: usize) -> Pair
 
 // Whether the formulas at a, nested at most m deep, and at b, nested at most k deep, are the same.
 pub fn same_at(s: &[u8], a: usize, m: usize, b: usize, k: usize) -> Same
-    ensures { λ r. ⌜ r ≡ sameOf (skim (now (s .entry)) m a) (skim (now (s .entry)) k b) ⌝ }
+    ensures { λ r. ⌜ r ≡ sameOf (parseTree (now (s .entry)) m a) (parseTree (now (s .entry)) k b) ⌝ }
 {
     match pair_at(s, a, m, b, k) {
         Pair::Differ => Same::No,

@@ -1,4 +1,4 @@
--- Claims by positions, matched against the bytes of templates, are claims by trees, matched against shapes.
+-- Conclusions by positions, matched against the bytes of templates, are conclusions by trees, matched against shapes.
 use mathlib.Core.Path.{_≡_, refl, ap, sym, _∙_, subst}
 use mathlib.Core.Bool.{Bool, true, false, not, _&&_, _||_, false≢true, cond}
 use mathlib.Core.List.{List, [], _∷_, map}
@@ -9,7 +9,7 @@ use lib.ListN.{length}
 use lib.Dec.{T, eqb}
 use Rattle.patterns.specs.Rules.{Shape}
 use Rattle.limits.specs.Limits.{nesting}
-use Rattle.formula.specs.Tree.{Tree, skim}
+use Rattle.formula.specs.Tree.{Tree, parseTree}
 use Rattle.matcher.specs.Match.{andThen, matchT}
 use Rattle.matcher.specs.Places.{matchAt, wholeOf, wholeAt, takenOf, proper}
 use Rattle.matcher.specs.declared.bind.Bind.{Bind}
@@ -18,11 +18,11 @@ use Rattle.matcher.specs.declared.whole.Whole.{Whole}
 use Rattle.matcher.proofs.Follow.{Sized, given, Follows, match-follows}
 use Rattle.certificate.specs.FitT.{hoare, formOf, leftOf, rightOf, placed, matchSides, matchAll}
 use Rattle.rulebook.specs.Listed.{packed}
-use Rattle.conclusions.specs.Claim.{saidAt, placedAt, matchClaim, claimAt, claimsFrom, matchFrom}
-use Rattle.conclusions.specs.declared.claim.Claim.{Claim}
-use Rattle.conclusions.specs.declared.claim.Premises.{Premises}
+use Rattle.conclusions.specs.Conclusion.{saidAt, placedAt, matchConclusion, conclusionAt, conclusionsFrom, matchFrom}
+use Rattle.conclusions.specs.declared.conclusion.Conclusion.{Conclusion}
+use Rattle.conclusions.specs.declared.conclusion.Premises.{Premises}
 
-placed-same : (s : List ℕ) (form t k : ℕ) (c : Claim) → placed form t k (saidAt s c) ≡ placedAt form t k c
+placed-same : (s : List ℕ) (form t k : ℕ) (c : Conclusion) → placed form t k (saidAt s c) ≡ placedAt form t k c
 unfolding placedAt
 placed-same s form t k c = go (eqb (c .form) form) (eqb form hoare) (eqb (c .thread) t) (eqb (c .point) k)
   where
@@ -34,12 +34,12 @@ placed-same s form t k c = go (eqb (c .form) form) (eqb form hoare) (eqb (c .thr
 
 -- the position behind two templates
 abbrev pub behind : List ℕ → ℕ → ℕ
-behind t i = skim t nesting (skim t nesting i .end) .end
+behind t i = parseTree t nesting (parseTree t nesting i .end) .end
 
 -- templates for the two sides stand at a position
 pub record StandSides (t : List ℕ) (i : ℕ) (p q : Tree) : Type 0 where
-  pub left : skim t nesting i .tree ≡ p
-  pub right : skim t nesting (skim t nesting i .end) .tree ≡ q
+  pub left : parseTree t nesting i .tree ≡ p
+  pub right : parseTree t nesting (parseTree t nesting i .end) .tree ≡ q
   pub holes-left : T (proper p)
   pub holes-right : T (proper q)
 
@@ -47,15 +47,15 @@ pub record StandSides (t : List ℕ) (i : ℕ) (p q : Tree) : Type 0 where
 abbrev pub Stands : List ℕ → ℕ → Shape → Type 0
 Stands t i m = StandSides t i (leftOf m) (rightOf m)
 
-pub record SidesFollow (s t : List ℕ) (i thread point form : ℕ) (p q : Tree) (c : Claim) (b : Bind) (r : Whole) : Type 0 where
+pub record SidesFollow (s t : List ℕ) (i thread point form : ℕ) (p q : Tree) (c : Conclusion) (b : Bind) (r : Whole) : Type 0 where
   pub same : matchSides thread point form p q (saidAt s c) (takenOf s b) ≡ given s (r .ok) (r .bind)
   pub tpl : r .ok ≡ true → r .tpl ≡ behind t i
   pub sized : Sized (r .bind)
 
-abbrev pub ClaimFollows : List ℕ → List ℕ → ℕ → ℕ → ℕ → Shape → Claim → Bind → Whole → Type 0
-ClaimFollows s t i thread point m c b r = SidesFollow s t i thread point (formOf m) (leftOf m) (rightOf m) c b r
+abbrev pub ConclusionFollows : List ℕ → List ℕ → ℕ → ℕ → ℕ → Shape → Conclusion → Bind → Whole → Type 0
+ConclusionFollows s t i thread point m c b r = SidesFollow s t i thread point (formOf m) (leftOf m) (rightOf m) c b r
 
-module _ (s t : List ℕ) (i thread point form : ℕ) (p q : Tree) (c : Claim) (b : Bind) (z : Sized b) (st : StandSides t i p q) where
+module _ (s t : List ℕ) (i thread point form : ℕ) (p q : Tree) (c : Conclusion) (b : Bind) (z : Sized b) (st : StandSides t i p q) where
   abbrev first : Match
   first = matchAt s t nesting i (c .left) b
 
@@ -66,27 +66,27 @@ module _ (s t : List ℕ) (i thread point form : ℕ) (p q : Tree) (c : Claim) (
   left-follows = match-follows s t nesting i (c .left) b z (subst (λ u. T (proper u)) (sym (st .left)) (st .holes-left))
 
   module _ (o : first .ok ≡ true) where
-    at-right : skim t nesting (first .tpl) .tree ≡ q
-    at-right = ap (λ (k : ℕ). skim t nesting k .tree) (left-follows .tpl o) ∙ st .right
+    at-right : parseTree t nesting (first .tpl) .tree ≡ q
+    at-right = ap (λ (k : ℕ). parseTree t nesting k .tree) (left-follows .tpl o) ∙ st .right
 
     right-follows : Follows s t nesting (first .tpl) (c .right) (first .bind) second
     right-follows = match-follows s t nesting (first .tpl) (c .right) (first .bind) (left-follows .sized) (subst (λ u. T (proper u)) (sym at-right) (st .holes-right))
 
-  left-same : matchT p (skim s nesting (c .left) .tree) (takenOf s b) ≡ given s (first .ok) (first .bind)
-  left-same = subst (λ u. matchT u (skim s nesting (c .left) .tree) (takenOf s b) ≡ given s (first .ok) (first .bind)) (st .left) (left-follows .same)
+  left-same : matchT p (parseTree s nesting (c .left) .tree) (takenOf s b) ≡ given s (first .ok) (first .bind)
+  left-same = subst (λ u. matchT u (parseTree s nesting (c .left) .tree) (takenOf s b) ≡ given s (first .ok) (first .bind)) (st .left) (left-follows .same)
 
-  right-same : (o : first .ok ≡ true) → matchT q (skim s nesting (c .right) .tree) (takenOf s (first .bind)) ≡ given s (second .ok) (second .bind)
-  right-same o = subst (λ u. matchT u (skim s nesting (c .right) .tree) (takenOf s (first .bind)) ≡ given s (second .ok) (second .bind)) (at-right o) (right-follows o .same)
+  right-same : (o : first .ok ≡ true) → matchT q (parseTree s nesting (c .right) .tree) (takenOf s (first .bind)) ≡ given s (second .ok) (second .bind)
+  right-same o = subst (λ u. matchT u (parseTree s nesting (c .right) .tree) (takenOf s (first .bind)) ≡ given s (second .ok) (second .bind)) (at-right o) (right-follows o .same)
 
   both-same : first .ok ≡ true
-      → andThen (matchT p (skim s nesting (c .left) .tree) (takenOf s b)) (matchT q (skim s nesting (c .right) .tree)) ≡ given s (second .ok) (second .bind)
+      → andThen (matchT p (parseTree s nesting (c .left) .tree) (takenOf s b)) (matchT q (parseTree s nesting (c .right) .tree)) ≡ given s (second .ok) (second .bind)
   both-same o = rw (left-same, o) (right-same o)
 
-  first-fails : first .ok ≡ false → andThen (matchT p (skim s nesting (c .left) .tree) (takenOf s b)) (matchT q (skim s nesting (c .right) .tree)) ≡ none
+  first-fails : first .ok ≡ false → andThen (matchT p (parseTree s nesting (c .left) .tree) (takenOf s b)) (matchT q (parseTree s nesting (c .right) .tree)) ≡ none
   first-fails o = rw (left-same, o)
 
-  pub sides-follow : SidesFollow s t i thread point form p q c b (matchClaim s t i form thread point c b)
-  unfolding matchClaim wholeAt
+  pub sides-follow : SidesFollow s t i thread point form p q c b (matchConclusion s t i form thread point c b)
+  unfolding matchConclusion wholeAt
   sides-follow = go (placedAt form thread point c) refl (first .ok) refl
     where
       go : (here : Bool) → placedAt form thread point c ≡ here → (o : Bool) → first .ok ≡ o
@@ -94,7 +94,7 @@ module _ (s t : List ℕ) (i thread point form : ℕ) (p q : Tree) (c : Claim) (
       go false h o e = record { same = rw (placed-same s form thread point c, h); tpl = λ y. absurd (false≢true y); sized = z }
       go true h true e = record {
         same = rw (placed-same s form thread point c, h, e) (both-same e);
-        tpl = rw e (λ y. right-follows e .tpl y ∙ ap (λ (k : ℕ). skim t nesting k .end) (left-follows .tpl e));
+        tpl = rw e (λ y. right-follows e .tpl y ∙ ap (λ (k : ℕ). parseTree t nesting k .end) (left-follows .tpl e));
         sized = rw e (right-follows e .sized);
       }
       go true h false e = record {
@@ -103,8 +103,8 @@ module _ (s t : List ℕ) (i thread point form : ℕ) (p q : Tree) (c : Claim) (
         sized = rw e (left-follows .sized);
       }
 
-pub claim-follows : (s t : List ℕ) (i thread point : ℕ) (m : Shape) (c : Claim) (b : Bind) → Sized b → Stands t i m → ClaimFollows s t i thread point m c b (matchClaim s t i (formOf m) thread point c b)
-claim-follows s t i thread point m = sides-follow s t i thread point (formOf m) (leftOf m) (rightOf m)
+pub conclusion-follows : (s t : List ℕ) (i thread point : ℕ) (m : Shape) (c : Conclusion) (b : Bind) → Sized b → Stands t i m → ConclusionFollows s t i thread point m c b (matchConclusion s t i (formOf m) thread point c b)
+conclusion-follows s t i thread point m = sides-follow s t i thread point (formOf m) (leftOf m) (rightOf m)
 
 -- the templates of shapes stand one after the other
 abbrev pub StandAll : List ℕ → ℕ → List Shape → Type 0
@@ -122,19 +122,19 @@ forms-left (Shape.implies a b) q = omega arith
 forms-left (Shape.triple a b) q = omega arith
 
 pub record FromFollows (s : List ℕ) (thread point : ℕ) (p : Premises) (l : List Shape) (j : ℕ) (b : Bind) (r : Whole) : Type 0 where
-  pub same : matchAll thread point l (map (saidAt s) (claimsFrom p (length l) j)) (takenOf s b) ≡ given s (r .ok) (r .bind)
+  pub same : matchAll thread point l (map (saidAt s) (conclusionsFrom p (length l) j)) (takenOf s b) ≡ given s (r .ok) (r .bind)
   pub sized : Sized (r .bind)
 
 module _ (s t : List ℕ) (thread point : ℕ) (p : Premises) where
   module _ (m : Shape) (l : List Shape) (i j : ℕ) (b : Bind) (z : Sized b) (st : Stands t i m) where
     abbrev one : Whole
-    one = matchClaim s t i (formOf m) thread point (claimAt p j) b
+    one = matchConclusion s t i (formOf m) thread point (conclusionAt p j) b
 
     abbrev rest : Whole
     rest = matchFrom s t thread point p (length l) (one .tpl) (packed l) (j + 1) (one .bind)
 
-    one-follows : ClaimFollows s t i thread point m (claimAt p j) b one
-    one-follows = claim-follows s t i thread point m (claimAt p j) b z st
+    one-follows : ConclusionFollows s t i thread point m (conclusionAt p j) b one
+    one-follows = conclusion-follows s t i thread point m (conclusionAt p j) b z st
 
     more-follow : (o : Bool) → one .ok ≡ o → (o ≡ true → FromFollows s thread point p l (j + 1) (one .bind) rest) → FromFollows s thread point p (m ∷ l) j b (cond o rest one)
     more-follow true o g = record { same = rw (one-follows .same, o) (g refl .same); sized = g refl .sized }

@@ -1,6 +1,6 @@
-pub mod Ways
+pub mod Matching
 pub mod Follow
-pub mod Lines
+pub mod LineConclusions
 pub mod Row
-pub mod Claimed
-pub mod Resting
+pub mod Stated
+pub mod PremiseConclusions

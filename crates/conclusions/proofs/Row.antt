@@ -15,9 +15,9 @@ use Rattle.logic.specs.Opcode
 use Rattle.logic.proofs.Base.{and-left, and-right}
 use Rattle.limits.specs.Limits as Limits
 use Rattle.limits.specs.Limits.{nesting}
-use Rattle.formula.specs.Tree.{skim}
+use Rattle.formula.specs.Tree.{parseTree}
 use Rattle.compare.specs.Same.{sameTree}
-use Rattle.trees.proofs.Raw.{tree-eq}
+use Rattle.trees.proofs.ToTree.{tree-eq}
 use Rattle.matcher.specs.Template.{shapes}
 use Rattle.matcher.specs.Places.{proper}
 use Rattle.certificate.specs.FitT.{formOf, leftOf, rightOf}
@@ -35,18 +35,18 @@ same-bits false true h = absurd h
 stand-all : (i : ℕ) (l : List Shape) → T (standAt i (trees l)) → StandAll templates i l
 stand-all i [] h = tt
 stand-all i (m ∷ l) h =
-    let j : ℕ = skim templates nesting i .end in
-    let k : ℕ = skim templates nesting j .end in
-    let a : Bool = sameTree (skim templates nesting i .tree) (leftOf m) in
-    let b : Bool = sameTree (skim templates nesting j .tree) (rightOf m) in
+    let j : ℕ = parseTree templates nesting i .end in
+    let k : ℕ = parseTree templates nesting j .end in
+    let a : Bool = sameTree (parseTree templates nesting i .tree) (leftOf m) in
+    let b : Bool = sameTree (parseTree templates nesting j .tree) (rightOf m) in
     let c : Bool = b && proper (rightOf m) in
     let d : Bool = standAt k (trees l) in
     let x = and-left (a && proper (leftOf m)) (c && d) h in
     let r = and-right (a && proper (leftOf m)) (c && d) h in
     let y = and-left c d r in (
       record {
-        left = tree-eq (skim templates nesting i .tree) (leftOf m) (and-left a (proper (leftOf m)) x);
-        right = tree-eq (skim templates nesting j .tree) (rightOf m) (and-left b (proper (rightOf m)) y);
+        left = tree-eq (parseTree templates nesting i .tree) (leftOf m) (and-left a (proper (leftOf m)) x);
+        right = tree-eq (parseTree templates nesting j .tree) (rightOf m) (and-left b (proper (rightOf m)) y);
         holes-left = and-right a (proper (leftOf m)) x;
         holes-right = and-right b (proper (rightOf m)) y;
       },
@@ -81,23 +81,23 @@ module _ (n : Rule) where
   abbrev stands : Bool
   stands = standAt (ruleRow (numberOf n) .template) (trees (row n .says ∷ shapes (row n .premises)))
 
-  claims : T (form && (count && forms))
-  claims = and-left (form && (count && forms)) ((bits && side) && stands) (listed-right n)
+  conclusions : T (form && (count && forms))
+  conclusions = and-left (form && (count && forms)) ((bits && side) && stands) (listed-right n)
 
   asks : T ((bits && side) && stands)
   asks = and-right (form && (count && forms)) ((bits && side) && stands) (listed-right n)
 
   pub row-form : ruleRow (numberOf n) .form ≡ formOf (row n .says)
-  row-form = eqb→eq _ _ (and-left form (count && forms) claims)
+  row-form = eqb→eq _ _ (and-left form (count && forms) conclusions)
 
   pub row-premises : ruleRow (numberOf n) .premises ≡ premiseCount (row n .premises)
-  row-premises = eqb→eq _ _ (and-left counted few (and-left count forms (and-right form (count && forms) claims)))
+  row-premises = eqb→eq _ _ (and-left counted few (and-left count forms (and-right form (count && forms) conclusions)))
 
   pub row-few : length (shapes (row n .premises)) ≤ Limits.premises
-  row-few = leb→le _ _ (and-right counted few (and-left count forms (and-right form (count && forms) claims)))
+  row-few = leb→le _ _ (and-right counted few (and-left count forms (and-right form (count && forms) conclusions)))
 
   pub row-forms : ruleRow (numberOf n) .forms ≡ packed (shapes (row n .premises))
-  row-forms = eqb→eq _ _ (and-right count forms (and-right form (count && forms) claims))
+  row-forms = eqb→eq _ _ (and-right count forms (and-right form (count && forms) conclusions))
 
   pub row-side : ruleRow (numberOf n) .side ≡ sideNumber (row n .sides)
   row-side = eqb→eq _ _ (and-right bits side (and-left (bits && side) stands asks))

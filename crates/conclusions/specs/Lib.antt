@@ -1,3 +1,3 @@
-pub mod Claim
-pub mod LineClaim
+pub mod Conclusion
+pub mod LineConclusion
 pub mod Premises

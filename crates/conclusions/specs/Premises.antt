@@ -1,4 +1,4 @@
--- What a line's premises claim, and whether they are what its rule rests on.
+-- What a line's premises conclude, and whether they are what its rule rests on.
 use mathlib.Core.Bool.{Bool, true, false, cond}
 use mathlib.Core.List.{List, [], _∷_}
 use Prim.Native.Nat.{ℕ}
@@ -14,22 +14,22 @@ use Rattle.certificate.specs.FitT.{implication}
 use Rattle.content.specs.Certificate.{lineBody}
 use Rattle.rulebook.specs.Rulebook.{anyImplications}
 use Rattle.rulebook.specs.declared.rule.Rule.{Rule}
-use Rattle.conclusions.specs.Claim.{noClaim, claimAt, matchFrom}
-use Rattle.conclusions.specs.LineClaim.{claimOf}
-use Rattle.conclusions.specs.declared.claim.Claim.{Claim}
-use Rattle.conclusions.specs.declared.claim.Premises.{Premises}
+use Rattle.conclusions.specs.Conclusion.{noConclusion, conclusionAt, matchFrom}
+use Rattle.conclusions.specs.LineConclusion.{conclusionOf}
+use Rattle.conclusions.specs.declared.conclusion.Conclusion.{Conclusion}
+use Rattle.conclusions.specs.declared.conclusion.Premises.{Premises}
 
 -- premise j of line n, of so many
-unfoldable pub premiseClaim : List ℕ → Sizes → ℕ → ℕ → ℕ → Claim
-premiseClaim s z n count j = cond (leb count j) noClaim (claimOf s z (getD (Lines.premises (lineBody z (bodies s) n)) j 0))
+unfoldable pub premiseConclusion : List ℕ → Sizes → ℕ → ℕ → ℕ → Conclusion
+premiseConclusion s z n count j = cond (leb count j) noConclusion (conclusionOf s z (getD (Lines.premises (lineBody z (bodies s) n)) j 0))
 
 unfoldable pub premisesOf : List ℕ → Sizes → ℕ → ℕ → Premises
 premisesOf s z n count =
-    record { count = count; claims = premiseClaim s z n count 0 ∷ premiseClaim s z n count 1 ∷ premiseClaim s z n count 2 ∷ premiseClaim s z n count 3 ∷ [] }
+    record { count = count; conclusions = premiseConclusion s z n count 0 ∷ premiseConclusion s z n count 1 ∷ premiseConclusion s z n count 2 ∷ premiseConclusion s z n count 3 ∷ [] }
 
 -- premise j is an implication, or there is no such premise
 unfoldable pub isImplicationAt : Premises → ℕ → Bool
-isImplicationAt p j = cond (leb (p .count) j) true (eqb (claimAt p j .form) implication)
+isImplicationAt p j = cond (leb (p .count) j) true (eqb (conclusionAt p j .form) implication)
 
 -- at most four premises, implications all of them
 unfoldable pub allImplications : Premises → Bool

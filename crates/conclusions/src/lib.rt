@@ -1,4 +1,4 @@
 // What lines conclude, and their premises, against the templates of rules.
-pub mod claim;
-pub mod line_claim;
+pub mod conclusion;
+pub mod line_conclusion;
 pub mod premises;

@@ -1,10 +1,10 @@
-// What a line's premises claim, and whether they are what its rule rests on.
-use crate::claim::Claim;
-use crate::claim::NO_CLAIM;
-use crate::claim::Premises;
-use crate::claim::claim_at;
-use crate::claim::match_from;
-use crate::line_claim::claim_of;
+// What a line's premises conclude, and whether they are what its rule rests on.
+use crate::conclusion::Conclusion;
+use crate::conclusion::NO_CONCLUSION;
+use crate::conclusion::Premises;
+use crate::conclusion::conclusion_at;
+use crate::conclusion::match_from;
+use crate::line_conclusion::conclusion_of;
 use content::line::premise_of;
 use limits::Limits;
 use matcher::bind::Bind;
@@ -15,24 +15,24 @@ use rulebook::rule::Rule;
 use rulebook::rule::Rules;
 ghost use mathlib.Core.Path.{_≡_};
 ghost use Rattle.frames.specs.Records.{indexOf};
-ghost use Rattle.conclusions.specs.Premises.{premiseClaim, premisesOf, isImplicationAt, allImplications, matchPremises};
+ghost use Rattle.conclusions.specs.Premises.{premiseConclusion, premisesOf, isImplicationAt, allImplications, matchPremises};
 
-// What premise j of line n claims, of so many.
-fn premise_claim<'a, 'b>(
+// What premise j of line n concludes, of so many.
+fn premise_conclusion<'a, 'b>(
     s: &'a [u8],
     ix: &'b [usize],
     z: Sizes,
     n: usize,
     count: u8,
     j: usize,
-) -> Claim
+) -> Conclusion
     requires { ⌜ now ix ≡ indexOf (now s) ⌝ }
-    ensures { λ r. ⌜ r ≡ premiseClaim (now (s .entry)) z n count j ⌝ }
+    ensures { λ r. ⌜ r ≡ premiseConclusion (now (s .entry)) z n count j ⌝ }
 {
     if (count as usize) <= j {
-        return NO_CLAIM;
+        return NO_CONCLUSION;
     }
-    claim_of(s, ix, z, premise_of(s, ix, z, n, j))
+    conclusion_of(s, ix, z, premise_of(s, ix, z, n, j))
 }
 
 // The premises of line n, of which there are so many.
@@ -40,13 +40,13 @@ pub fn premises_of<'a, 'b>(s: &'a [u8], ix: &'b [usize], z: Sizes, n: usize, cou
     requires { ⌜ now ix ≡ indexOf (now s) ⌝ }
     ensures { λ r. ⌜ r ≡ premisesOf (now (s .entry)) z n count ⌝ }
 {
-    let a = premise_claim(s, ix, z, n, count, 0);
-    let b = premise_claim(s, ix, z, n, count, 1);
-    let c = premise_claim(s, ix, z, n, count, 2);
-    let d = premise_claim(s, ix, z, n, count, 3);
+    let a = premise_conclusion(s, ix, z, n, count, 0);
+    let b = premise_conclusion(s, ix, z, n, count, 1);
+    let c = premise_conclusion(s, ix, z, n, count, 2);
+    let d = premise_conclusion(s, ix, z, n, count, 3);
     Premises {
         count,
-        claims: [a, b, c, d],
+        conclusions: [a, b, c, d],
     }
 }
 
@@ -57,7 +57,7 @@ fn is_implication(p: Premises, j: usize) -> bool
     if (p.count as usize) <= j {
         return true;
     }
-    let c = claim_at(p, j);
+    let c = conclusion_at(p, j);
     c.form == Form::IMPLICATION
 }
 

@@ -14,7 +14,7 @@ use Rattle.logic.proofs.Base.{is-true}
 use Rattle.limits.specs.Limits as Limits
 use Rattle.formula.specs.Codes as Codes
 use Rattle.limits.specs.Limits.{nesting}
-use Rattle.formula.specs.Tree.{Tree, skim}
+use Rattle.formula.specs.Tree.{Tree, parseTree}
 use Rattle.formula.specs.Reader.{malformed, faultAt, sortOf, readingOf}
 use Rattle.formula.specs.declared.reader.Counts.{Counts}
 use Rattle.formula.specs.declared.reader.Reading.{Reading}
@@ -25,7 +25,7 @@ use Rattle.program.specs.declared.sizes.Sizes.{Sizes}
 use Rattle.bodies.specs.Use.{treeOf, startless, plain}
 use Rattle.bodies.specs.Formula as Formulas
 use Rattle.bodies.specs.Formula.{countsOf, faultOf, read}
-use Rattle.trees.specs.Raw.{raw, shaped, Sorted}
+use Rattle.trees.specs.ToTree.{toTree, ofTree, Sorted}
 use Rattle.trees.specs.Place.{sortAt}
 use Rattle.trees.proofs.Occurs.{no-shared, no-start}
 use Rattle.trees.proofs.Within.{reads-bounded, reads-plain}
@@ -37,7 +37,7 @@ use Rattle.content.proofs.Inverse.{unless-passed, faulty-passed}
 -- what is read without a fault is a formula of its first code's sort
 read-passed : (b : List ℕ) (n : Counts) → read (readingOf b n) ≡ Passed → readingOf b n ≡ Reading.Formula (sortOf b)
 unfolding read readingOf
-read-passed b n e = go (eqb (faultAt b n nesting (sortOf b) 0) 0) (eqb (skim b nesting 0 .end) (length b)) e
+read-passed b n e = go (eqb (faultAt b n nesting (sortOf b) 0) 0) (eqb (parseTree b nesting 0 .end) (length b)) e
   where
     go : (c d : Bool) → read (cond c (cond d (Reading.Formula (sortOf b)) (Reading.Fault malformed)) (Reading.Fault (faultAt b n nesting (sortOf b) 0))) ≡ Passed
         → cond c (cond d (Reading.Formula (sortOf b)) (Reading.Fault malformed)) (Reading.Fault (faultAt b n nesting (sortOf b) 0)) ≡ Reading.Formula (sortOf b)
@@ -57,7 +57,7 @@ module _ (z : Sizes) (l : List (List ℕ)) (c : Checks z l) (k : ℕ) (low : 1 �
   sorted : (p : ℕ) → sortOf body ≡ p → Sorted (sortAt p) (treeOf body)
   sorted p e = reading-sorted body (countsOf z) p (formula-read p e)
 
-  pub formula-tree : (p : ℕ) → sortOf body ≡ p → raw (formula l (sortAt p) k) ≡ treeOf body
+  pub formula-tree : (p : ℕ) → sortOf body ≡ p → toTree (formula l (sortAt p) k) ≡ treeOf body
   unfolding formula
   formula-tree p e = sorted p e
 
@@ -73,7 +73,7 @@ module _ (z : Sizes) (l : List (List ℕ)) (c : Checks z l) (k : ℕ) (low : 1 �
 
   regs-only : (s : Sort) → Sorted s (treeOf body) → plain body ≡ true → T (only isReg (formula l s k))
   unfolding formula plain
-  regs-only s e h = is-true (not-false (only isReg (shaped s (treeOf body))) (sym (no-shared (shaped s (treeOf body))) ∙ ap (λ (t : Tree). occurs shared [] t) e ∙ not-true (occurs shared [] (treeOf body)) h))
+  regs-only s e h = is-true (not-false (only isReg (ofTree s (treeOf body))) (sym (no-shared (ofTree s (treeOf body))) ∙ ap (λ (t : Tree). occurs shared [] t) e ∙ not-true (occurs shared [] (treeOf body)) h))
 
   pub value-regs : sortOf body ≡ Codes.value → plain body ≡ true → T (only isReg (formula l Sort.value k))
   value-regs e h = regs-only Sort.value (sorted Codes.value e) h
@@ -84,4 +84,4 @@ module _ (z : Sizes) (l : List (List ℕ)) (c : Checks z l) (k : ℕ) (low : 1 �
   pub assertion-startless : sortOf body ≡ Codes.assertion → startless body ≡ true → T (Names.startless (formula l Sort.assertion k))
   unfolding formula startless
   assertion-startless e h =
-      is-true (not-false (Names.startless (shaped Sort.assertion (treeOf body))) (sym (no-start (shaped Sort.assertion (treeOf body))) ∙ ap (λ (t : Tree). occurs start [] t) (sorted Codes.assertion e) ∙ not-true (occurs start [] (treeOf body)) h))
+      is-true (not-false (Names.startless (ofTree Sort.assertion (treeOf body))) (sym (no-start (ofTree Sort.assertion (treeOf body))) ∙ ap (λ (t : Tree). occurs start [] t) (sorted Codes.assertion e) ∙ not-true (occurs start [] (treeOf body)) h))

@@ -15,12 +15,12 @@ use Rattle.frames.specs.Records.{body, bodies, indexOf, startOf}
 use Rattle.frames.proofs.Laws.Index.{index-length, body-is, found-past}
 use Rattle.limits.specs.Limits.{nesting}
 use Rattle.formula.specs.Reader.{sortOf}
-use Rattle.formula.specs.Tree.{Skim, nodeAt, skim}
+use Rattle.formula.specs.Tree.{ParsedTree, nodeAt, parseTree}
 use Rattle.program.specs.declared.sizes.Sizes.{Sizes}
 use Rattle.bodies.specs.Formula as Formulas
 use Rattle.bodies.specs.Formula.{countsOf}
 use Rattle.bodies.specs.Use.{treeOf}
-use Rattle.trees.specs.Raw.{raw}
+use Rattle.trees.specs.ToTree.{toTree}
 use Rattle.trees.proofs.Part.{part-reading}
 use Rattle.content.specs.Places.{bodyStart, formulaAt}
 use Rattle.content.proofs.Inverse.{unless-passed, within-true}
@@ -66,18 +66,18 @@ module _ (s : List ℕ) (z : Sizes) (c : Checks z (bodies s)) (k : ℕ) (low : 1
   abbrev its : List ℕ
   its = getD (bodies s) k []
 
-  pub position-skim : skim s nesting (formulaAt s k) ≡ record { tree = treeOf its; end = formulaAt s k + length its }
+  pub position-parse : parseTree s nesting (formulaAt s k) ≡ record { tree = treeOf its; end = formulaAt s k + length its }
   unfolding Formulas.formula
-  position-skim =
+  position-parse =
       let full : 1 ≤ length its = within-true 1 Limits.formulaBytes (length its) (unless-passed _ _ _ (formula-passed z (bodies s) c k low high) .0) .0 in
       let q : k ≡ 0 → ⊥ = omega arith in
       let e = part-reading s its (countsOf z) (word (drop (startOf s k) s) - 2) (startOf s k + 4) (body-part s k full) (sortOf its) (formula-read z (bodies s) c k low high (sortOf its) refl) in
       rw (position-is s k full q) e
 
-  pub position-tree : skim s nesting (formulaAt s k) .tree ≡ treeOf its
-  position-tree = ap (λ (u : Skim). u .tree) position-skim
+  pub position-tree : parseTree s nesting (formulaAt s k) .tree ≡ treeOf its
+  position-tree = ap (λ (u : ParsedTree). u .tree) position-parse
 
 -- where there is no formula, the constant 0
-pub none-tree : (s : List ℕ) → skim s nesting (length s) .tree ≡ raw (const 0)
-unfolding skim nodeAt
+pub none-tree : (s : List ℕ) → parseTree s nesting (length s) .tree ≡ toTree (const 0)
+unfolding parseTree nodeAt
 none-tree s = rw (le-ltb (length s) (length s) (omega arith))

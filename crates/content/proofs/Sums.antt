@@ -1,4 +1,4 @@
--- Sums over 0 to n - 1, and the lengths of lists that have a part for each number.
+-- Totals over 0 to n - 1, and the lengths of lists that have a part for each number.
 use mathlib.Core.Path.{_≡_, refl, ap, ap₂, sym, _∙_}
 use mathlib.Core.Bool.{Bool, true, false, cond}
 use mathlib.Core.List.{List, [], _∷_, _++_, map, append-assoc}

@@ -28,7 +28,7 @@ use Rattle.records.specs.declared.line.Form.the-variants.{Triple, Implication, 
 use Rattle.records.specs.Line.{formOf, nowhere, placed}
 use Rattle.bodies.specs.Thread.{wanted, sorted}
 use Rattle.bodies.specs.Line.{sortAt, sortedBy}
-use Rattle.trees.specs.Raw.{raw}
+use Rattle.trees.specs.ToTree.{toTree}
 use Rattle.trees.specs.Place as Place
 use Rattle.certificate.specs.FitT as FitT
 use Rattle.certificate.specs.FitT.{Said, said, acting}
@@ -53,10 +53,10 @@ module _ (s : List ℕ) (z : Sizes) (c : Checks z (bodies s)) where
   P = programOf z l
 
   -- a formula of the sort by which it is read
-  tree-is : (p k : ℕ) → 1 ≤ k → k ≤ z .formulas → sortOf (getD l k []) ≡ p → raw (formula l (Place.sortAt p) k) ≡ treeAt s (formulaAt s k)
+  tree-is : (p k : ℕ) → 1 ≤ k → k ≤ z .formulas → sortOf (getD l k []) ≡ p → toTree (formula l (Place.sortAt p) k) ≡ treeAt s (formulaAt s k)
   tree-is p k a b e = formula-tree z l c k a b p e ∙ sym (position-tree s z c k a b)
 
-  pub outline-is : (t k : ℕ) → Within (z .threads) t → k < P .points t → raw (outlineOf z l t k) ≡ treeAt s (formulaAt s (outlineNumber z l t k))
+  pub outline-is : (t k : ℕ) → Within (z .threads) t → k < P .points t → toTree (outlineOf z l t k) ≡ treeAt s (formulaAt s (outlineNumber z l t k))
   outline-is t k w b = let r = outline-range z l c t k w b in tree-is Codes.assertion (outlineNumber z l t k) (r .0) (r .1) (outline-fine z l c t k w b .0)
 
   -- lines
@@ -67,7 +67,7 @@ module _ (s : List ℕ) (z : Sizes) (c : Checks z (bodies s)) where
 
     -- the two sides, read as formulas of a sort
     sides-are : (p : ℕ) → sortOf (getD l (left b) []) ≡ p → sortOf (getD l (right b) []) ≡ p
-        → (raw (formula l (Place.sortAt p) (left b)) ≡ treeAt s (formulaAt s (left b))) × (raw (formula l (Place.sortAt p) (right b)) ≡ treeAt s (formulaAt s (right b)))
+        → (toTree (formula l (Place.sortAt p) (left b)) ≡ treeAt s (formulaAt s (left b))) × (toTree (formula l (Place.sortAt p) (right b)) ≡ treeAt s (formulaAt s (right b)))
     sides-are p e d = let r = in-range z l c n (w .0) (w .1) in (tree-is p (left b) (r .0 .0) (r .0 .1) e, tree-is p (right b) (r .1 .0) (r .1 .1) d)
 
     -- thread and point are 0
@@ -108,11 +108,11 @@ module _ (s : List ℕ) (z : Sizes) (c : Checks z (bodies s)) where
   acts op x r f = record { operation = op; word = x; register = r; formula = f; notes = cond (eqb op Opcode.assign) (record { to = r; by = f } ∷ []) [] }
 
   -- a load and a branch have no formula: it is taken for the constant 0
-  no-formula : (f : ℕ) → f ≡ 0 → raw (const 0) ≡ treeAt s (formulaAt s f)
+  no-formula : (f : ℕ) → f ≡ 0 → toTree (const 0) ≡ treeAt s (formulaAt s f)
   unfolding formulaAt
   no-formula f e = rw e (sym (none-tree s))
 
-  value-is : (i : Instruction) → wanted (i .operation) ≡ Codes.value → (1 ≤ i .formula) × (i .formula ≤ z .formulas) → sorted l i ≡ true → raw (formula l Sort.value (i .formula)) ≡ treeAt s (formulaAt s (i .formula))
+  value-is : (i : Instruction) → wanted (i .operation) ≡ Codes.value → (1 ≤ i .formula) × (i .formula ≤ z .formulas) → sorted l i ≡ true → toTree (formula l Sort.value (i .formula)) ≡ treeAt s (formulaAt s (i .formula))
   value-is i w r d = tree-is Codes.value (i .formula) (r .0) (r .1) (formula-sorted z l c i (r .0) d .0 ∙ w)
 
   instr-is : (last op a b f : ℕ) → ranged last z (made op a b f) ≡ true → sorted l (made op a b f) ≡ true → acting (first (instr l (made op a b f))) ≡ actingAt s (actingOf s (made op a b f))
@@ -145,12 +145,12 @@ module _ (s : List ℕ) (z : Sizes) (c : Checks z (bodies s)) where
       instr-is (lastPoint (body z l c t (w .0) (w .1))) (i .operation) (i .a) (i .b) (i .formula) (f .0) (f .1)
 
   -- the test of a branch
-  test-read : (last a b f : ℕ) → ranged last z (made Opcode.branch a b f) ≡ true → sorted l (made Opcode.branch a b f) ≡ true → raw (formula l Sort.test f) ≡ treeAt s (formulaAt s f)
+  test-read : (last a b f : ℕ) → ranged last z (made Opcode.branch a b f) ≡ true → sorted l (made Opcode.branch a b f) ≡ true → toTree (formula l Sort.test f) ≡ treeAt s (formulaAt s f)
   unfolding ranged fieldsOf wanted
   test-read last a b f e d = let h = fields-in _ _ e in tree-is Codes.test f (h .2 .0) (h .2 .1) (formula-sorted z l c (made Opcode.branch a b f) (h .2 .0) d .0)
 
   pub test-is : (t k : ℕ) → Within (z .threads) t → suc k < P .points t → instructionOf z l t k .operation ≡ Opcode.branch
-      → raw (formula l Sort.test (instructionOf z l t k .formula)) ≡ treeAt s (formulaAt s (instructionOf z l t k .formula))
+      → toTree (formula l Sort.test (instructionOf z l t k .formula)) ≡ treeAt s (formulaAt s (instructionOf z l t k .formula))
   test-is t k w h e =
       let i : Instruction = instructionOf z l t k in
       let f = fields-there t k w h in

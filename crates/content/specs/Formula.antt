@@ -4,8 +4,8 @@ use Prim.Native.Nat.{ℕ}
 use lib.ListN.{getD}
 use Rattle.logic.specs.Formula.{Sort, Formula}
 use Rattle.bodies.specs.Use.{treeOf}
-use Rattle.trees.specs.Raw.{shaped}
+use Rattle.trees.specs.ToTree.{ofTree}
 
 -- formula k, read as one of a sort
 unfoldable pub formula : List (List ℕ) → (s : Sort) → ℕ → Formula s
-formula l s k = shaped s (treeOf (getD l k []))
+formula l s k = ofTree s (treeOf (getD l k []))

@@ -5,7 +5,7 @@ use Prim.Native.Nat.{ℕ}
 use lib.Dec.{eqb}
 use Rattle.logic.specs.Opcode as Opcode
 use Rattle.limits.specs.Limits.{nesting}
-use Rattle.formula.specs.Tree.{Tree, skim}
+use Rattle.formula.specs.Tree.{Tree, parseTree}
 use Rattle.compare.specs.Replace.{NoteT}
 use Rattle.records.specs.declared.line.Form.{Form}
 use Rattle.records.specs.declared.line.Form.the-variants.{Triple, Implication, Inclusion, Unlisted}
@@ -16,7 +16,7 @@ use Rattle.content.specs.declared.line.Line.{Line}
 use Rattle.content.specs.declared.acting.Acting.{Acting}
 
 abbrev pub treeAt : List ℕ → ℕ → Tree
-treeAt s p = skim s nesting p .tree
+treeAt s p = parseTree s nesting p .tree
 
 -- as in `saying`, an unlisted rule is taken for an inclusion
 abbrev pub formNumber : Form → ℕ

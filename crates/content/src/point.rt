@@ -1,6 +1,6 @@
 // The outline: where the formula of a point stands.
 use crate::position::formula_at;
-use crate::totals::Sums;
+use crate::totals::Totals;
 use crate::totals::before_thread;
 use frames::index::body_of;
 use limits::Limits;
@@ -12,7 +12,7 @@ ghost use Prim.Native.Nat.{_<_};
 ghost use Rattle.frames.specs.Records.{bodies, indexOf};
 ghost use Rattle.program.specs.Thread.{lastPoint};
 ghost use Rattle.records.specs.Places.{threadBody};
-ghost use Rattle.content.specs.Sums.{sumsOf};
+ghost use Rattle.content.specs.Totals.{totalsOf};
 ghost use Rattle.content.specs.Program.{outlineNumber};
 ghost use Rattle.content.specs.Places.{formulaAt};
 
@@ -32,11 +32,11 @@ fn outline_number<'a, 'b>(
     s: &'a [u8],
     ix: &'b [usize],
     z: Sizes,
-    y: Sums,
+    y: Totals,
     t: usize,
     p: usize,
 ) -> usize
-    requires { ⌜ (now ix ≡ indexOf (now s)) × (y ≡ sumsOf z (bodies (now s))) ⌝ }
+    requires { ⌜ (now ix ≡ indexOf (now s)) × (y ≡ totalsOf z (bodies (now s))) ⌝ }
     ensures { λ r. ⌜ r ≡ outlineNumber z (bodies (now (s .entry))) t p ⌝ }
 {
     if t == 0 {
@@ -62,11 +62,11 @@ pub fn outline_at<'a, 'b>(
     s: &'a [u8],
     ix: &'b [usize],
     z: Sizes,
-    y: Sums,
+    y: Totals,
     t: usize,
     p: usize,
 ) -> usize
-    requires { ⌜ (now ix ≡ indexOf (now s)) × (y ≡ sumsOf z (bodies (now s))) ⌝ }
+    requires { ⌜ (now ix ≡ indexOf (now s)) × (y ≡ totalsOf z (bodies (now s))) ⌝ }
     ensures { λ r. ⌜ r ≡ formulaAt (now (s .entry)) (outlineNumber z (bodies (now (s .entry))) t p) ⌝ }
 {
     formula_at(s, ix, outline_number(s, ix, z, y, t, p))

@@ -1,4 +1,4 @@
-// Sums over the threads: worked out once, for all look-ups.
+// Totals over the threads: worked out once, for all look-ups.
 use limits::Limits;
 use program::sizes::Sizes;
 use records::tally::count_obligations;
@@ -7,9 +7,9 @@ ghost use mathlib.Core.Path.{_≡_};
 ghost use Prim.Native.Nat.{_-_, _≤_};
 ghost use Rattle.frames.specs.Records.{bodies, indexOf};
 ghost use Rattle.records.specs.Tally.{tallyTo};
-ghost use Rattle.content.specs.Sums.{sumsOf};
+ghost use Rattle.content.specs.Totals.{totalsOf};
 
-pub struct Sums {
+pub struct Totals {
     pub points: usize,
     // The points of the threads before thread t, at t - 1.
     pub before: [usize; Limits::THREADS],
@@ -32,24 +32,24 @@ fn points_before<'a, 'b>(s: &'a [u8], ix: &'b [usize], z: Sizes, t: usize) -> us
     c.points
 }
 
-pub fn sums_of<'a, 'b>(s: &'a [u8], ix: &'b [usize], z: Sizes) -> Sums
+pub fn totals_of<'a, 'b>(s: &'a [u8], ix: &'b [usize], z: Sizes) -> Totals
     requires { ⌜ now ix ≡ indexOf (now s) ⌝ }
-    ensures { λ r. ⌜ r ≡ sumsOf z (bodies (now (s .entry))) ⌝ }
+    ensures { λ r. ⌜ r ≡ totalsOf z (bodies (now (s .entry))) ⌝ }
 {
     let c = tally_of(s, ix, z);
     let first = points_before(s, ix, z, 1);
     let second = points_before(s, ix, z, 2);
     let third = points_before(s, ix, z, 3);
-    Sums {
+    Totals {
         points: c.points,
         before: [first, second, third],
         obligations: count_obligations(s, ix, z),
     }
 }
 
-// The same as points_before, read from the sums. An image has no more threads than they know.
-pub fn before_thread<'a, 'b>(s: &'a [u8], ix: &'b [usize], z: Sizes, y: Sums, t: usize) -> usize
-    requires { ⌜ ((now ix ≡ indexOf (now s)) × (y ≡ sumsOf z (bodies (now s)))) × ((1 ≤ t) × (t ≤ z .threads)) ⌝ }
+// The same as points_before, read from the totals. An image has no more threads than they know.
+pub fn before_thread<'a, 'b>(s: &'a [u8], ix: &'b [usize], z: Sizes, y: Totals, t: usize) -> usize
+    requires { ⌜ ((now ix ≡ indexOf (now s)) × (y ≡ totalsOf z (bodies (now s)))) × ((1 ≤ t) × (t ≤ z .threads)) ⌝ }
     ensures { λ r. ⌜ r ≡ tallyTo z (bodies (now (s .entry))) (t - 1) .points ⌝ }
 {
     if t <= Limits::THREADS {

@@ -6,14 +6,14 @@ use Prim.Native.Nat.{ℕ}
 use lib.ListN.{length, drop}
 use Rattle.limits.specs.Limits.{nesting, values}
 use Rattle.limits.specs.Numbers.{word}
-use Rattle.formula.specs.Tree.{skim}
+use Rattle.formula.specs.Tree.{parseTree}
 use Rattle.rows.specs.Rows.{rowsT, tableT, lineOf, premisesOf}
 use Rattle.rows.specs.declared.by.Implications.{Implications}
 use Rattle.exports.specs.Answers.{ofTruth}
 use Rattle.exports.specs.Places.{pairsIn, sideIn, implicationsIn}
 
-pub rows-is : (s : List ℕ) (a b r : ℕ) (t : Bool) → t ≡ rowsT values (skim s nesting a .tree) (skim s nesting b .tree) → r ≡ ofTruth t
-    → r ≡ ofTruth (rowsT values (skim s nesting a .tree) (skim s nesting b .tree))
+pub rows-is : (s : List ℕ) (a b r : ℕ) (t : Bool) → t ≡ rowsT values (parseTree s nesting a .tree) (parseTree s nesting b .tree) → r ≡ ofTruth t
+    → r ≡ ofTruth (rowsT values (parseTree s nesting a .tree) (parseTree s nesting b .tree))
 rows-is s a b r t e h = h ∙ ap ofTruth e
 
 pub side-is : (p : List ℕ) (a b c d e : ℕ) → a ≡ word (drop 0 p) → b ≡ word (drop 4 p) → c ≡ word (drop 8 p) → d ≡ word (drop 12 p) → e ≡ word (drop 16 p)

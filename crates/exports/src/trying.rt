@@ -5,10 +5,10 @@ use limits::read::word_at;
 use rows::by::Implications;
 use rows::by::by_rows;
 use rows::by::by_table;
-use rows::claim::Sizes;
+use rows::entailment::Sizes;
 ghost use mathlib.Core.Path.{_≡_};
 ghost use Rattle.limits.specs.Limits.{nesting, values};
-ghost use Rattle.formula.specs.Tree.{skim};
+ghost use Rattle.formula.specs.Tree.{parseTree};
 ghost use Rattle.rows.specs.Rows.{rowsT, tableT, lineOf, premisesOf};
 ghost use Rattle.exports.specs.Answers.{ofTruth};
 ghost use Rattle.exports.specs.Places.{pairsIn, sideIn, implicationsIn};
@@ -25,7 +25,7 @@ fn truth(yes: bool) -> usize
 // The answer of `by_rows` on the tests at two positions: 1 for true, 0 for false.
 #[no_mangle]
 pub extern "C" fn rows_answer(body: &[u8], left: usize, right: usize) -> usize
-    ensures { λ r. ⌜ r ≡ ofTruth (rowsT values (skim (now (body .entry)) nesting left .tree) (skim (now (body .entry)) nesting right .tree)) ⌝ }
+    ensures { λ r. ⌜ r ≡ ofTruth (rowsT values (parseTree (now (body .entry)) nesting left .tree) (parseTree (now (body .entry)) nesting right .tree)) ⌝ }
 {
     let k = Limits::NESTING;
     truth(by_rows(body, left, k, right, k, Limits::VALUES as u8))

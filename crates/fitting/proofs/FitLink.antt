@@ -29,16 +29,16 @@ use Rattle.content.specs.declared.acting.Acting.{Acting}
 use Rattle.rulebook.specs.Rulebook.{anyImplications, ruleRow, templates}
 use Rattle.rulebook.specs.Listed.{numberOf, packed, premiseCount, allows}
 use Rattle.rulebook.specs.declared.rule.Rule as Code
-use Rattle.conclusions.specs.Claim.{saidAt, claimAt, claimsFrom, matchClaim, matchFrom}
-use Rattle.conclusions.specs.LineClaim.{claimBy}
+use Rattle.conclusions.specs.Conclusion.{saidAt, conclusionAt, conclusionsFrom, matchConclusion, matchFrom}
+use Rattle.conclusions.specs.LineConclusion.{conclusionBy}
 use Rattle.conclusions.specs.Premises.{isImplicationAt, allImplications, matchPremises}
 use Rattle.fitting.specs.Preset.{presetAt}
 use Rattle.sides.specs.Asked.{asked}
 use Rattle.fitting.specs.Fit.{isAllowed, restAt, lineMatch, fitsRow}
-use Rattle.conclusions.specs.declared.claim.Claim.{Claim}
-use Rattle.conclusions.specs.declared.claim.Premises as Claims
-use Rattle.conclusions.proofs.Follow.{StandAll, ClaimFollows, claim-follows, from-follows}
-use Rattle.fitting.proofs.Known.{preset-sized, preset-taken}
+use Rattle.conclusions.specs.declared.conclusion.Conclusion.{Conclusion}
+use Rattle.conclusions.specs.declared.conclusion.Premises as Conclusions
+use Rattle.conclusions.proofs.Follow.{StandAll, ConclusionFollows, conclusion-follows, from-follows}
+use Rattle.fitting.proofs.Presets.{preset-sized, preset-taken}
 use Rattle.conclusions.proofs.Row.{row-form, row-premises, row-few, row-forms, row-side, row-stands, row-operations}
 use Rattle.sides.proofs.SidesLink.{startOf, sides-are}
 
@@ -62,20 +62,20 @@ four true true false d = refl
 four true false c d = refl
 four false b c d = refl
 
-module _ (s : List ℕ) (p : Claims.Premises) where
+module _ (s : List ℕ) (p : Conclusions.Premises) where
   abbrev is : ℕ → Bool
-  is j = eqb (claimAt p j .form) implication
+  is j = eqb (conclusionAt p j .form) implication
 
-  claims-length : (n j : ℕ) → length (map (saidAt s) (claimsFrom p n j)) ≡ n
-  claims-length zero j = refl
-  claims-length (suc n) j = ap (λ (m : ℕ). suc m) (claims-length n (j + 1))
+  conclusions-length : (n j : ℕ) → length (map (saidAt s) (conclusionsFrom p n j)) ≡ n
+  conclusions-length zero j = refl
+  conclusions-length (suc n) j = ap (λ (m : ℕ). suc m) (conclusions-length n (j + 1))
 
   abbrev pub says : List Said
-  says = map (saidAt s) (claimsFrom p (p .count) 0)
+  says = map (saidAt s) (conclusionsFrom p (p .count) 0)
 
   -- at most four, implications all of them
-  implications-are : (n : ℕ) → p .count ≡ n → n ≤ Limits.premises → leb (length (map (saidAt s) (claimsFrom p n 0))) Limits.premises && all isImplication (map (saidAt s) (claimsFrom p n 0)) ≡ allImplications p
-  unfolding allImplications isImplicationAt claimAt
+  implications-are : (n : ℕ) → p .count ≡ n → n ≤ Limits.premises → leb (length (map (saidAt s) (conclusionsFrom p n 0))) Limits.premises && all isImplication (map (saidAt s) (conclusionsFrom p n 0)) ≡ allImplications p
+  unfolding allImplications isImplicationAt conclusionAt
   implications-are zero e h = rw e
   implications-are (suc zero) e h = rw e (four (is 0) true true true)
   implications-are (suc (suc zero)) e h = rw e (four (is 0) (is 1) true true)
@@ -101,9 +101,9 @@ module _ (s : List ℕ) (p : Claims.Premises) where
         go true d =
             let q : p .count ≡ length l = sym (eqb-true (w .premises) (p .count) d) ∙ e in
             subst₂
-            (λ (n g : ℕ). matchAll thread point l (map (saidAt s) (claimsFrom p n 0)) (takenOf s b) ≡ given s (matchFrom s templates thread point p n i g 0 b .ok) (matchFrom s templates thread point p n i g 0 b .bind))
+            (λ (n g : ℕ). matchAll thread point l (map (saidAt s) (conclusionsFrom p n 0)) (takenOf s b) ≡ given s (matchFrom s templates thread point p n i g 0 b .ok) (matchFrom s templates thread point p n i g 0 b .bind))
             (sym q) (sym f) (from-follows s templates thread point p l i 0 b z st .same)
-        go false d = other-count thread point l says (takenOf s b) (λ q. eqb-false (w .premises) (p .count) d (e ∙ q ∙ claims-length (p .count) 0))
+        go false d = other-count thread point l says (takenOf s b) (λ q. eqb-false (w .premises) (p .count) d (e ∙ q ∙ conclusions-length (p .count) 0))
 
 -- what is asked besides is asked where the operation is allowed
 and-where : (x y h k : Bool) → x ≡ y → (x ≡ true → h ≡ k) → x && h ≡ cond y k false
@@ -112,9 +112,9 @@ and-where false y h k e f = subst (λ (z : Bool). false ≡ cond z k false) e re
 
 -- THE LINE
 
-module _ (s : List ℕ) (n : Rule) (l : Line) (named : l .rule ≡ numberOf n) (a : Acting) (known : a .operation ≤ Opcode.branch) (p : Claims.Premises) (few : p .count ≤ Limits.premises) where
-  abbrev c : Claim
-  c = claimBy l
+module _ (s : List ℕ) (n : Rule) (l : Line) (named : l .rule ≡ numberOf n) (a : Acting) (known : a .operation ≤ Opcode.branch) (p : Conclusions.Premises) (few : p .count ≤ Limits.premises) where
+  abbrev c : Conclusion
+  c = conclusionBy l
 
   abbrev w : Code.Rule
   w = ruleRow (l .rule)
@@ -148,18 +148,18 @@ module _ (s : List ℕ) (n : Rule) (l : Line) (named : l .rule ≡ numberOf n) (
   b₀ = presetAt (l .thread) (a .word) (a .register) (a .formula)
 
   abbrev m : Whole
-  m = matchClaim s templates (w .template) (w .form) (c .thread) (c .point) c b₀
+  m = matchConclusion s templates (w .template) (w .form) (c .thread) (c .point) c b₀
 
   stands : StandAll templates (w .template) (row n .says ∷ shapes (row n .premises))
   stands = subst (λ (i : ℕ). StandAll templates i (row n .says ∷ shapes (row n .premises))) (sym (its (λ r. r .template))) (row-stands n)
 
-  follows : ClaimFollows s templates (w .template) (c .thread) (c .point) (row n .says) c b₀ m
+  follows : ConclusionFollows s templates (w .template) (c .thread) (c .point) (row n .says) c b₀ m
   follows =
-      subst (λ (f : ℕ). ClaimFollows s templates (w .template) (c .thread) (c .point) (row n .says) c b₀ (matchClaim s templates (w .template) f (c .thread) (c .point) c b₀)) (sym form-is)
-      (claim-follows s templates (w .template) (c .thread) (c .point) (row n .says) c b₀ (preset-sized (l .thread) (a .word) (a .register) (a .formula)) (stands .0))
+      subst (λ (f : ℕ). ConclusionFollows s templates (w .template) (c .thread) (c .point) (row n .says) c b₀ (matchConclusion s templates (w .template) f (c .thread) (c .point) c b₀)) (sym form-is)
+      (conclusion-follows s templates (w .template) (c .thread) (c .point) (row n .says) c b₀ (preset-sized (l .thread) (a .word) (a .register) (a .formula)) (stands .0))
 
   line-same : matchLine (c .thread) (c .point) (row n .says) (saidAt s c) (preset (c .thread) A) ≡ given s (m .ok) (m .bind)
-  unfolding claimBy
+  unfolding conclusionBy
   line-same = ap (matchLine (c .thread) (c .point) (row n .says) (saidAt s c)) (sym (preset-taken s (l .thread) (a .operation) (a .word) (a .register) (a .formula) (A .notes))) ∙ follows .same
 
   abbrev q : Whole

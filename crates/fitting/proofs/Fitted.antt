@@ -31,12 +31,12 @@ use Rattle.content.proofs.Checked.{Checks}
 use Rattle.content.proofs.Lines.{in-range, premises-few, premise-count}
 use Rattle.content.proofs.Trees.{line-acting}
 use Rattle.rulebook.specs.Rulebook.{templates}
-use Rattle.conclusions.specs.Claim.{saidAt, claimAt, claimsFrom}
-use Rattle.conclusions.specs.LineClaim.{claimBy, lineAt, claimOf}
-use Rattle.conclusions.specs.Premises.{premiseClaim, premisesOf}
+use Rattle.conclusions.specs.Conclusion.{saidAt, conclusionAt, conclusionsFrom}
+use Rattle.conclusions.specs.LineConclusion.{conclusionBy, lineAt, conclusionOf}
+use Rattle.conclusions.specs.Premises.{premiseConclusion, premisesOf}
 use Rattle.fitting.specs.Fit.{actingIn, fitsLine}
-use Rattle.conclusions.specs.declared.claim.Premises as Claims
-use Rattle.conclusions.proofs.Claimed.{rule-number, line-listed, claim-said}
+use Rattle.conclusions.specs.declared.conclusion.Premises as Conclusions
+use Rattle.conclusions.proofs.Stated.{rule-number, line-listed, conclusion-said}
 use Rattle.sides.proofs.SidesLink.{startOf}
 use Rattle.fitting.proofs.FitLink.{says, fits-same}
 
@@ -67,26 +67,26 @@ module _ (s : List ℕ) (z : Sizes) (c : Checks z (bodies s)) where
     abbrev ps : List ℕ
     ps = premises (lineBody z l n)
 
-    abbrev p : Claims.Premises
+    abbrev p : Conclusions.Premises
     p = premisesOf s z n (its .count)
 
     -- the premises as many as they are
-    claims-are : (qs : List ℕ) → ps ≡ qs → length qs ≤ Limits.premises → its .count ≡ length qs → claimsFrom p (p .count) 0 ≡ map (claimOf s z) qs
-    unfolding premisesOf claimAt premiseClaim
-    claims-are [] e h d = rw d
-    claims-are (a ∷ []) e h d = rw (d, e)
-    claims-are (a ∷ b ∷ []) e h d = rw (d, e)
-    claims-are (a ∷ b ∷ c ∷ []) e h d = rw (d, e)
-    claims-are (a ∷ b ∷ c ∷ d ∷ []) e h f = rw (f, e)
-    claims-are (a ∷ b ∷ c ∷ d ∷ f ∷ qs) e h g = absurd (omega arith)
+    conclusions-are : (qs : List ℕ) → ps ≡ qs → length qs ≤ Limits.premises → its .count ≡ length qs → conclusionsFrom p (p .count) 0 ≡ map (conclusionOf s z) qs
+    unfolding premisesOf conclusionAt premiseConclusion
+    conclusions-are [] e h d = rw d
+    conclusions-are (a ∷ []) e h d = rw (d, e)
+    conclusions-are (a ∷ b ∷ []) e h d = rw (d, e)
+    conclusions-are (a ∷ b ∷ c ∷ []) e h d = rw (d, e)
+    conclusions-are (a ∷ b ∷ c ∷ d ∷ []) e h f = rw (f, e)
+    conclusions-are (a ∷ b ∷ c ∷ d ∷ f ∷ qs) e h g = absurd (omega arith)
 
-    lower-said : (qs : List ℕ) → every (within 1 (n - 1)) qs ≡ true → map (saidAt s) (map (claimOf s z) qs) ≡ map said (map (λ m. C .line m .says) qs)
+    lower-said : (qs : List ℕ) → every (within 1 (n - 1)) qs ≡ true → map (saidAt s) (map (conclusionOf s z) qs) ≡ map said (map (λ m. C .line m .says) qs)
     unfolding every
     lower-said [] e = refl
     lower-said (m ∷ qs) e =
         let h = and-true (within 1 (n - 1) m) (every (within 1 (n - 1)) qs) e in
         let r = within-true 1 (n - 1) m (h .0) in
-        ap₂ _∷_ (claim-said s z c m (r .0, omega (arith, r .1, w .1))) (lower-said qs (h .1))
+        ap₂ _∷_ (conclusion-said s z c m (r .0, omega (arith, r .1, w .1))) (lower-said qs (h .1))
 
     count-is : its .count ≡ length ps
     unfolding lineAt lineIn
@@ -97,7 +97,7 @@ module _ (s : List ℕ) (z : Sizes) (c : Checks z (bodies s)) where
     count-few = premises-few z l c n (w .0) (w .1)
 
     premises-said : says s p ≡ map said (map (λ m. C .line m .says) ps)
-    premises-said = ap (map (saidAt s)) (claims-are ps refl (subst (λ (k : ℕ). k ≤ Limits.premises) count-is count-few) count-is) ∙ lower-said ps (in-range z l c n (w .0) (w .1) .2)
+    premises-said = ap (map (saidAt s)) (conclusions-are ps refl (subst (λ (k : ℕ). k ≤ Limits.premises) count-is count-few) count-is) ∙ lower-said ps (in-range z l c n (w .0) (w .1) .2)
 
     acting-said : acting (half P (its .thread) (its .point)) ≡ actingAt s (actingIn s z its)
     unfolding actingIn lineAt lineIn
@@ -114,17 +114,17 @@ module _ (s : List ℕ) (z : Sizes) (c : Checks z (bodies s)) where
     S = C .line n .says
 
     acting-there : actingAt s (actingIn s z its) ≡ acting (half P (said S .thread) (said S .point))
-    unfolding claimOf claimBy
-    acting-there = sym acting-said ∙ ap₂ (λ (t k : ℕ). acting (half P t k)) (ap (λ (v : Said). v .thread) (claim-said s z c n w)) (ap (λ (v : Said). v .point) (claim-said s z c n w))
+    unfolding conclusionOf conclusionBy
+    acting-there = sym acting-said ∙ ap₂ (λ (t k : ℕ). acting (half P t k)) (ap (λ (v : Said). v .thread) (conclusion-said s z c n w)) (ap (λ (v : Said). v .point) (conclusion-said s z c n w))
 
     abbrev fitted : FitT.Acting → Said → List Said → Bool
     fitted a v vs = fitsT Limits.values (startOf s) a (ruleOf (its .rule)) v vs
 
     -- what the code answers is what the rules say
     pub fits-is : fitsLine s templates z n ≡ lineFits P C n
-    unfolding fitsLine claimOf lineAt lineIn
+    unfolding fitsLine conclusionOf lineAt lineIn
     fits-is =
         sym (fits-same s (ruleOf (its .rule)) its (sym (rule-number (its .rule) (line-listed s z c n w))) (actingIn s z its) acting-known p premises-few-here)
-        ∙ ap₂ (λ (v : Said) (vs : List Said). fitted (actingAt s (actingIn s z its)) v vs) (claim-said s z c n w) premises-said
+        ∙ ap₂ (λ (v : Said) (vs : List Said). fitted (actingAt s (actingIn s z its)) v vs) (conclusion-said s z c n w) premises-said
         ∙ ap (λ (a : FitT.Acting). fitted a (said S) (map said (map (λ m. C .line m .says) ps))) acting-there
         ∙ bridge P (omega arith) (ruleOf (its .rule)) S (map (λ m. C .line m .says) ps)

@@ -1,4 +1,4 @@
-pub mod Known
-pub mod Judging
+pub mod Presets
+pub mod Fits
 pub mod FitLink
 pub mod Fitted

@@ -15,35 +15,35 @@ use Rattle.content.specs.declared.line.Line.{Line}
 use Rattle.content.specs.declared.acting.Acting.{Acting}
 use Rattle.rulebook.specs.Rulebook.{ruleRow}
 use Rattle.rulebook.specs.declared.rule.Rule.{Rule}
-use Rattle.conclusions.specs.Claim.{matchClaim}
-use Rattle.conclusions.specs.LineClaim.{claimBy, lineAt}
+use Rattle.conclusions.specs.Conclusion.{matchConclusion}
+use Rattle.conclusions.specs.LineConclusion.{conclusionBy, lineAt}
 use Rattle.conclusions.specs.Premises.{premisesOf, matchPremises}
 use Rattle.fitting.specs.Preset.{presetAt}
 use Rattle.sides.specs.Asked.{asked}
-use Rattle.conclusions.specs.declared.claim.Claim.{Claim}
-use Rattle.conclusions.specs.declared.claim.Premises.{Premises}
+use Rattle.conclusions.specs.declared.conclusion.Conclusion.{Conclusion}
+use Rattle.conclusions.specs.declared.conclusion.Premises.{Premises}
 
 -- a triple's rule has the operation among its own
 unfoldable pub isAllowed : Rule → ℕ → Bool
 isAllowed w op = cond (eqb (w .form) hoare) (member (w .operations) op) true
 
 -- what is left to ask once the templates are matched
-unfoldable pub restAt : List ℕ → Rule → Acting → Claim → Premises → Bind → Bool
+unfoldable pub restAt : List ℕ → Rule → Acting → Conclusion → Premises → Bind → Bool
 restAt s w a c p b = cond (isAllowed w (a .operation)) (asked s (w .side) b a c p) false
 
 -- if it matches, what comes then
 abbrev pub thenAsk : Whole → (Whole → Bool) → Bool
 thenAsk m f = cond (m .ok) (f m) false
 
--- the line's own claim against its rule's templates, with what is known of their holes
-unfoldable pub lineMatch : List ℕ → List ℕ → Rule → Line → Acting → Claim → Whole
-lineMatch s t w l a c = matchClaim s t (w .template) (w .form) (c .thread) (c .point) c (presetAt (l .thread) (a .word) (a .register) (a .formula))
+-- the line's own conclusion against its rule's templates, with what is known of their holes
+unfoldable pub lineMatch : List ℕ → List ℕ → Rule → Line → Acting → Conclusion → Whole
+lineMatch s t w l a c = matchConclusion s t (w .template) (w .form) (c .thread) (c .point) c (presetAt (l .thread) (a .word) (a .register) (a .formula))
 
 -- line, premises, then the rest, with the templates t
 unfoldable pub fitsRow : List ℕ → List ℕ → Line → Acting → Premises → Bool
 fitsRow s t l a p =
-    thenAsk (lineMatch s t (ruleRow (l .rule)) l a (claimBy l))
-    (λ m. thenAsk (matchPremises s t (m .tpl) (ruleRow (l .rule)) (claimBy l .thread) (claimBy l .point) p (m .bind)) (λ q. restAt s (ruleRow (l .rule)) a (claimBy l) p (q .bind)))
+    thenAsk (lineMatch s t (ruleRow (l .rule)) l a (conclusionBy l))
+    (λ m. thenAsk (matchPremises s t (m .tpl) (ruleRow (l .rule)) (conclusionBy l .thread) (conclusionBy l .point) p (m .bind)) (λ q. restAt s (ruleRow (l .rule)) a (conclusionBy l) p (q .bind)))
 
 -- the instruction of a line
 unfoldable pub actingIn : List ℕ → Sizes → Line → Acting

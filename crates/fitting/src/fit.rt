@@ -1,9 +1,9 @@
 // Whether a line fits its rule.
 use crate::preset::preset_at;
-use conclusions::claim::Claim;
-use conclusions::claim::Premises;
-use conclusions::claim::match_claim;
-use conclusions::line_claim::claim_by;
+use conclusions::conclusion::Conclusion;
+use conclusions::conclusion::Premises;
+use conclusions::conclusion::match_conclusion;
+use conclusions::line_conclusion::conclusion_by;
 use conclusions::premises::match_premises;
 use conclusions::premises::premises_of;
 use content::acting::Acting;
@@ -38,7 +38,7 @@ fn fits_rest<'a, 'b>(
     ix: &'b [usize],
     w: Rule,
     a: Acting,
-    c: Claim,
+    c: Conclusion,
     p: Premises,
     b: Bind,
 ) -> bool
@@ -51,12 +51,12 @@ fn fits_rest<'a, 'b>(
     false
 }
 
-// The line's own claim against its rule's templates, with what is known of their holes.
-fn match_line(s: &[u8], t: &[u8], w: Rule, l: Line, a: Acting, c: Claim) -> Whole
+// The line's own conclusion against its rule's templates, with what is known of their holes.
+fn match_line(s: &[u8], t: &[u8], w: Rule, l: Line, a: Acting, c: Conclusion) -> Whole
     ensures { λ r. ⌜ r ≡ lineMatch (now (s .entry)) (now (t .entry)) w l a c ⌝ }
 {
     let b = preset_at(l.thread, a.word, a.register, a.formula);
-    match_claim(s, t, w.template as usize, w.form, c.thread, c.point, c, b)
+    match_conclusion(s, t, w.template as usize, w.form, c.thread, c.point, c, b)
 }
 
 // Line, premises, then the rest, with the templates t.
@@ -72,7 +72,7 @@ fn fits_row<'a, 'b, 'c>(
     ensures { λ r. ⌜ r ≡ fitsRow (now (s .entry)) (now (t .entry)) l a p ⌝ }
 {
     let w = rule_at(l.rule);
-    let c = claim_by(l);
+    let c = conclusion_by(l);
     let m = match_line(s, t, w, l, a, c);
     if m.ok {
         let n = m.bind;

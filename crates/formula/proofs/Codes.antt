@@ -1,13 +1,15 @@
 -- A set as a number has the codes of its list: computed over the numbers below 32.
-use Prim.Native.Nat.{ℕ, zero, suc, _+_, _-_, _^_, _≤_, _<_}
-use mathlib.Core.Path.{_≡_, refl, sym, _∙_}
+use Prim.Native.Nat.{ℕ, _-_, _≤_, _<_}
+use mathlib.Core.Path.{_≡_, refl, _∙_}
 use mathlib.Core.List.{List, [], _∷_}
-use mathlib.Core.Bool.{Bool, true, false, _&&_, cond}
+use mathlib.Core.Bool.{Bool, true, false, cond}
 use native.Mathlib.Omega.{arith}
 use lib.Dec.{T, ltb, eqb}
-use borrow.Author.Tests.{eqb-true, eqb-false, ltb-true, ltb-false, ne-eqb}
+use borrow.Author.Tests.{ltb-true, ltb-false, ne-eqb}
 use Rattle.logic.specs.Code
 use Rattle.logic.specs.Code.{Code, byte}
+use Rattle.logic.specs.Rows.{allBelow}
+use Rattle.logic.proofs.Rows.{allBelow-at}
 use Rattle.formula.specs.Codes.{among, member, value, test, interval, assertion, regValue, regTest, codesAt, setOf, setAt, fitsAt, operandCodes, onePart, twoParts, lowerParts, hasOperand, partCount, partPlace}
 
 abbrev pub agree : Bool → Bool → Bool
@@ -23,21 +25,14 @@ agrees false false h = refl
 
 -- the number has what the list has, below k
 abbrev pub asListed : ℕ → ℕ → List Code → Bool
-asListed zero n l = true
-asListed (suc k) n l = cond (agree (member n k) (among k l)) (asListed k n l) false
+asListed k n l = allBelow k (λ c. agree (member n c) (among c l))
 
 abbrev pub low : List Code → Bool
 low [] = true
 low (k ∷ l) = cond (ltb (byte k) 32) (low l) false
 
 below : (n : ℕ) (l : List Code) (k : ℕ) → T (asListed k n l) → (c : ℕ) → c < k → member n c ≡ among c l
-below n l zero h c lt = absurd (omega arith)
-below n l (suc k) h c lt = go (agree (member n k) (among k l)) (eqb c k) refl refl h (λ g m. below n l k g c m)
-  where
-    go : (a b : Bool) → agree (member n k) (among k l) ≡ a → eqb c k ≡ b → T (cond a (asListed k n l) false) → (T (asListed k n l) → c < k → member n c ≡ among c l) → member n c ≡ among c l
-    go true true e d g ih = rw (eqb-true c k d) (agrees (member n k) (among k l) (rw e tt))
-    go true false e d g ih = let q = eqb-false c k d in ih g (omega arith)
-    go false b e d g ih = absurd g
+below n l k h c lt = agrees (member n c) (among c l) (allBelow-at k (λ i. agree (member n i) (among i l)) h c lt)
 
 above : (c : ℕ) (l : List Code) → 32 ≤ c → T (low l) → among c l ≡ false
 above c [] h t = refl

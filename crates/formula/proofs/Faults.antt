@@ -10,13 +10,13 @@ use lib.Dec.{ltb, eqb}
 use borrow.Author.Tests.{lt-ltb, le-ltb, eq-eqb, ne-eqb, eqb-true, ltb-true}
 use Rattle.limits.specs.Limits.{nesting}
 use Rattle.formula.specs.Codes.{fitsAt, hasOperand, partCount, partPlace}
-use Rattle.formula.specs.Tree.{nodeAt, skim}
+use Rattle.formula.specs.Tree.{nodeAt, parseTree}
 use Rattle.formula.specs.Reader.{range, malformed, limit, answer, inRange, operandFault, operandAnswer, headFault, headAnswer, first, partFault, faultAt, readAnswer, sortFrom, readingFrom}
 use Rattle.formula.specs.declared.node.Node.{Node}
 use Rattle.formula.specs.declared.reader.Counts.{Counts}
 use Rattle.formula.specs.declared.reader.Reading.{Reading}
 use Rattle.formula.specs.declared.reader.Reading.the-variants.{Formula, Fault}
-use Rattle.formula.proofs.Nodes.{skim-step}
+use Rattle.formula.proofs.Nodes.{parse-step}
 use Rattle.formula.proofs.Auto.{lower}
 
 module _ (s : List ℕ) (n : Counts) (c at : ℕ) where
@@ -96,17 +96,17 @@ fault-small s n zero p at = omega arith
 fault-small s n (suc k) p at =
     small-pick (eqb (headFault s n p at) 0) _ _
     (small-pick (eqb (partFault (λ q. faultAt s n k (partPlace (nodeAt s at .code) p) q) (ltb 0 (nodeAt s at .parts)) (nodeAt s at .next)) 0) _ _
-    (small-part (λ q. faultAt s n k (partPlace (nodeAt s at .code) p) (skim s k q .end)) (ltb 1 (nodeAt s at .parts)) (nodeAt s at .next) (λ q. fault-small s n k (partPlace (nodeAt s at .code) p) (skim s k q .end)))
+    (small-part (λ q. faultAt s n k (partPlace (nodeAt s at .code) p) (parseTree s k q .end)) (ltb 1 (nodeAt s at .parts)) (nodeAt s at .next) (λ q. fault-small s n k (partPlace (nodeAt s at .code) p) (parseTree s k q .end)))
     (small-part (λ q. faultAt s n k (partPlace (nodeAt s at .code) p) q) (ltb 0 (nodeAt s at .parts)) (nodeAt s at .next) (λ q. fault-small s n k (partPlace (nodeAt s at .code) p) q)))
     (head-small s n p at)
 
 pub fault-step : (s : List ℕ) (n : Counts) (k p at : ℕ) → (k ≡ 0 → ⊥)
-    → faultAt s n k p at ≡ first (headFault s n p at) (cond (eqb (nodeAt s at .parts) 0) 0 (first (faultAt s n (k - 1) (partPlace (nodeAt s at .code) p) (nodeAt s at .next)) (cond (eqb (nodeAt s at .parts) 1) 0 (faultAt s n (k - 1) (partPlace (nodeAt s at .code) p) (skim s (k - 1) (nodeAt s at .next) .end)))))
+    → faultAt s n k p at ≡ first (headFault s n p at) (cond (eqb (nodeAt s at .parts) 0) 0 (first (faultAt s n (k - 1) (partPlace (nodeAt s at .code) p) (nodeAt s at .next)) (cond (eqb (nodeAt s at .parts) 1) 0 (faultAt s n (k - 1) (partPlace (nodeAt s at .code) p) (parseTree s (k - 1) (nodeAt s at .next) .end)))))
 unfolding faultAt
 fault-step s n zero p at h = absurd (h refl)
 fault-step s n (suc k) p at h =
     rw (sub-one (suc k))
-    (ap (first (headFault s n p at)) (by-count (λ q. faultAt s n k (partPlace (nodeAt s at .code) p) q) (λ q. faultAt s n k (partPlace (nodeAt s at .code) p) (skim s k q .end)) (nodeAt s at .parts) (nodeAt s at .next)))
+    (ap (first (headFault s n p at)) (by-count (λ q. faultAt s n k (partPlace (nodeAt s at .code) p) q) (λ q. faultAt s n k (partPlace (nodeAt s at .code) p) (parseTree s k q .end)) (nodeAt s at .parts) (nodeAt s at .next)))
   where
     by-count : (f g : ℕ → ℕ) (c at : ℕ) → first (partFault f (ltb 0 c) at) (partFault g (ltb 1 c) at) ≡ cond (eqb c 0) 0 (first (f at) (cond (eqb c 1) 0 (g at)))
     by-count f g zero at = refl
@@ -172,14 +172,14 @@ module _ (s : List ℕ) (n : Counts) (k p at : ℕ) where
 
       pub read-leaf : c ≡ 0 → h ≡ readAnswer s n k p at
       unfolding readAnswer
-      read-leaf d = rw (fault-step s n k p at z, own, count, d, skim-step s k at z, count, d) (omega (arith, next))
+      read-leaf d = rw (fault-step s n k p at z, own, count, d, parse-step s k at z, count, d) (omega (arith, next))
 
       module _ (g : ℕ) (b : c ≡ 0 → ⊥) (ew : w ≡ partPlace (getD s at 0) p) (eg : g ≡ readAnswer s n (k - 1) w (h - limit)) where
         abbrev fa : ℕ
         fa = faultAt s n (k - 1) w (nodeAt s at .next)
 
         abbrev en : ℕ
-        en = skim s (k - 1) (nodeAt s at .next) .end
+        en = parseTree s (k - 1) (nodeAt s at .next) .end
 
         is : g ≡ answer fa en
         unfolding readAnswer
@@ -187,7 +187,7 @@ module _ (s : List ℕ) (n : Counts) (k p at : ℕ) where
 
         pub read-one : c ≡ 1 → g ≡ readAnswer s n k p at
         unfolding readAnswer
-        read-one o = rw (fault-step s n k p at z, skim-step s k at z, own, count, o, code, ← ew) (is ∙ same fa en)
+        read-one o = rw (fault-step s n k p at z, parse-step s k at z, own, count, o, code, ← ew) (is ∙ same fa en)
           where
             same : (f e : ℕ) → answer f e ≡ answer (first f 0) e
             same f e = go (eqb f 0) refl
@@ -208,7 +208,7 @@ module _ (s : List ℕ) (n : Counts) (k p at : ℕ) where
             let q = said-end g fa en (fault-small s n (k - 1) w (nodeAt s at .next)) is f in
             let t₀ : 0 < c = omega arith in
             let t₁ : 1 < c = omega arith in
-            rw (fault-step s n k p at z, skim-step s k at z, own, count, ne-eqb _ _ b, ne-eqb _ _ o, code, ← ew, lt-ltb _ _ t₀, lt-ltb _ _ t₁, q .0) (er ∙ rw (q .1) refl)
+            rw (fault-step s n k p at z, parse-step s k at z, own, count, ne-eqb _ _ b, ne-eqb _ _ o, code, ← ew, lt-ltb _ _ t₀, lt-ltb _ _ t₁, q .0) (er ∙ rw (q .1) refl)
 
 pub ruleset reads = (read-zero, read-head, read-inside, read-leaf, read-part, read-one, read-two, lower)
 
@@ -222,7 +222,7 @@ module _ (s : List ℕ) (n : Counts) (at e : ℕ) (is : e ≡ readAnswer s n nes
   fault = faultAt s n nesting (sortFrom s at) at
 
   abbrev end : ℕ
-  end = skim s nesting at .end
+  end = parseTree s nesting at .end
 
   pub body-fault : e < limit → Fault e ≡ readingFrom s n at
   unfolding readAnswer

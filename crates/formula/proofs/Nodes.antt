@@ -9,7 +9,7 @@ use lib.ListN.{length, getD, List·getD-eq-default}
 use lib.Dec.{ltb}
 use borrow.Author.Tests.{lt-ltb, le-ltb}
 use Rattle.formula.specs.Codes.{hasOperand, partCount}
-use Rattle.formula.specs.Tree.{Tree, nodeAt, skim, grow}
+use Rattle.formula.specs.Tree.{Tree, nodeAt, parseTree, grow}
 use Rattle.formula.specs.declared.node.Node.{Node}
 
 pub node-past : (s : List ℕ) (at : ℕ) → length s ≤ at → record { code = 0; operand = 0; parts = 0; next = at } ≡ nodeAt s at
@@ -27,14 +27,14 @@ module _ (s : List ℕ) (at p : ℕ) (o : Bool) (h : at < length s) (e : o ≡ h
 
 pub ruleset nodes = (node-past, node-plain, node-operand)
 
-pub skim-zero : (s : List ℕ) (k at : ℕ) → k ≡ 0 → skim s k at ≡ record { tree = Tree.none; end = at }
-unfolding skim
-skim-zero s k at e = rw e
+pub parse-zero : (s : List ℕ) (k at : ℕ) → k ≡ 0 → parseTree s k at ≡ record { tree = Tree.none; end = at }
+unfolding parseTree
+parse-zero s k at e = rw e
 
-pub skim-step : (s : List ℕ) (k at : ℕ) → (k ≡ 0 → ⊥) → skim s k at ≡ grow (λ p. skim s (k - 1) p) (nodeAt s at)
-unfolding skim
-skim-step s zero at h = absurd (h refl)
-skim-step s (suc k) at h = rw (sub-one (suc k))
+pub parse-step : (s : List ℕ) (k at : ℕ) → (k ≡ 0 → ⊥) → parseTree s k at ≡ grow (λ p. parseTree s (k - 1) p) (nodeAt s at)
+unfolding parseTree
+parse-step s zero at h = absurd (h refl)
+parse-step s (suc k) at h = rw (sub-one (suc k))
 
 -- how many parts a node has goes by its code
 pub parts-of : (s : List ℕ) (at : ℕ) → nodeAt s at .parts ≡ partCount (nodeAt s at .code)

@@ -1,4 +1,4 @@
--- The first fault of a formula from the left, 0 for none. Its tree and its end are those of `skim`.
+-- The first fault of a formula from the left, 0 for none. Its tree and its end are those of `parseTree`.
 use Prim.Native.Nat.{ℕ, zero, suc, _+_, _/_}
 use mathlib.Core.List.{List}
 use mathlib.Core.Bool.{Bool, true, false, cond}
@@ -8,7 +8,7 @@ use Rattle.logic.specs.Code
 use Rattle.logic.specs.Code.{byte}
 use Rattle.limits.specs.Limits.{nesting}
 use Rattle.formula.specs.Codes.{fitsAt, hasOperand, partPlace}
-use Rattle.formula.specs.Tree.{nodeAt, skim}
+use Rattle.formula.specs.Tree.{nodeAt, parseTree}
 use Rattle.formula.specs.declared.reader.Counts.{Counts}
 use Rattle.formula.specs.declared.reader.Reading.{Reading}
 use Rattle.formula.specs.declared.reader.Reading.the-variants.{Formula, Fault}
@@ -64,10 +64,10 @@ faultAt s n zero place at = malformed
 faultAt s n (suc k) place at =
     first (headFault s n place at)
     (first (partFault (λ p. faultAt s n k (partPlace (nodeAt s at .code) place) p) (ltb 0 (nodeAt s at .parts)) (nodeAt s at .next))
-    (partFault (λ p. faultAt s n k (partPlace (nodeAt s at .code) place) (skim s k p .end)) (ltb 1 (nodeAt s at .parts)) (nodeAt s at .next)))
+    (partFault (λ p. faultAt s n k (partPlace (nodeAt s at .code) place) (parseTree s k p .end)) (ltb 1 (nodeAt s at .parts)) (nodeAt s at .next)))
 
 unfoldable pub readAnswer : List ℕ → Counts → ℕ → ℕ → ℕ → ℕ
-readAnswer s n k place at = answer (faultAt s n k place at) (skim s k at .end)
+readAnswer s n k place at = answer (faultAt s n k place at) (parseTree s k at .end)
 
 -- a code's sort is its eighth
 abbrev pub sortFrom : List ℕ → ℕ → ℕ
@@ -77,7 +77,7 @@ sortFrom s at = getD s at 0 / 8
 abbrev pub readingFrom : List ℕ → Counts → ℕ → Reading
 readingFrom s n at =
     cond (eqb (faultAt s n nesting (sortFrom s at) at) 0)
-    (cond (eqb (skim s nesting at .end) (length s)) (Formula (sortFrom s at)) (Fault malformed))
+    (cond (eqb (parseTree s nesting at .end) (length s)) (Formula (sortFrom s at)) (Fault malformed))
     (Fault (faultAt s n nesting (sortFrom s at) at))
 
 -- a whole body

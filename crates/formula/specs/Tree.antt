@@ -21,22 +21,22 @@ nodeAt s at =
     (record { code = 0; operand = 0; parts = 0; next = at })
 
 -- a tree, and the position past it
-pub record Skim : Type 0 where
+pub record ParsedTree : Type 0 where
   pub tree : Tree
   pub end : ℕ
 
-abbrev pub part : (ℕ → Skim) → Bool → ℕ → Skim
+abbrev pub part : (ℕ → ParsedTree) → Bool → ℕ → ParsedTree
 part f true at = f at
 part f false at = record { tree = none; end = at }
 
 -- the tree of a node, its parts read by f one after the other
-abbrev pub grow : (ℕ → Skim) → Node → Skim
+abbrev pub grow : (ℕ → ParsedTree) → Node → ParsedTree
 grow f n =
     let l = part f (ltb 0 (n .parts)) (n .next) in
     let r = part f (ltb 1 (n .parts)) (l .end) in
     record { tree = node (n .code) (n .operand) (l .tree) (r .tree); end = r .end }
 
 -- what stands at a position, down to the nesting k; total: past the end and below the nesting there is nothing
-unfoldable pub skim : List ℕ → ℕ → ℕ → Skim
-skim s zero at = record { tree = none; end = at }
-skim s (suc k) at = grow (λ p. skim s k p) (nodeAt s at)
+unfoldable pub parseTree : List ℕ → ℕ → ℕ → ParsedTree
+parseTree s zero at = record { tree = none; end = at }
+parseTree s (suc k) at = grow (λ p. parseTree s k p) (nodeAt s at)

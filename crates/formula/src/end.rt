@@ -1,10 +1,10 @@
 // Where a formula ends.
 use crate::node::node_at;
 ghost use mathlib.Core.Path.{_≡_};
-ghost use Rattle.formula.specs.Tree.{skim};
+ghost use Rattle.formula.specs.Tree.{parseTree};
 
 pub fn end_at(s: &[u8], at: usize, left: usize) -> usize
-    ensures { λ r. ⌜ r ≡ skim (now (s .entry)) left at .end ⌝ }
+    ensures { λ r. ⌜ r ≡ parseTree (now (s .entry)) left at .end ⌝ }
 {
     if left == 0 {
         return at;

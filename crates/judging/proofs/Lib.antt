@@ -1,4 +1,4 @@
 pub mod Outcomes
-pub mod Walks
+pub mod Groups
 pub mod Ranged
 pub mod Agreed

@@ -8,8 +8,8 @@ use Rattle.frames.specs.Records.{bodies}
 use Rattle.program.specs.declared.sizes.Sizes.{Sizes}
 use Rattle.records.specs.Tally.{obligationCount}
 use Rattle.content.specs.Image.{obligationsBody, namedLine}
-use Rattle.content.specs.Sums.{sumsOf}
-use Rattle.content.specs.declared.totals.Sums.{Sums}
+use Rattle.content.specs.Totals.{totalsOf}
+use Rattle.content.specs.declared.totals.Totals.{Totals}
 use Rattle.marks.specs.declared.Marks.{Marks}
 use Rattle.report.specs.declared.obligation.Obligation.{Obligation}
 use Rattle.judging.specs.declared.outcome.Outcome.{Outcome}
@@ -19,11 +19,11 @@ use Rattle.wanted.proofs.Concluded.{code-none}
 use Rattle.judging.specs.Judge.{judgeOne, next}
 
 module _ (s : List ℕ) (z : Sizes) (m : Marks) (o : Obligation) (c : ℕ) where
-  none-named : (y : Sums) → y ≡ sumsOf z (bodies s) → y .obligations ≤ c → namedLine z (bodies s) c ≡ 0
-  unfolding namedLine sumsOf
+  none-named : (y : Totals) → y ≡ totalsOf z (bodies s) → y .obligations ≤ c → namedLine z (bodies s) c ≡ 0
+  unfolding namedLine totalsOf
   none-named y e h = sym (number-past (obligationCount z (bodies s)) (obligationsBody z (bodies s)) c (rw e at h))
 
-  pub one-past : (y : Sums) → y ≡ sumsOf z (bodies s) → y .obligations ≤ c → Failed o 20 0 c ≡ judgeOne s z m o c
+  pub one-past : (y : Totals) → y ≡ totalsOf z (bodies s) → y .obligations ≤ c → Failed o 20 0 c ≡ judgeOne s z m o c
   unfolding judgeOne
   one-past y e h = rw (none-named y e h, ← code-none s z m o 0 refl)
 

@@ -2,14 +2,14 @@
 use crate::outcome::Outcome;
 use crate::outcome::judge_next;
 use content::point::last_point_of;
-use content::totals::Sums;
+use content::totals::Totals;
 use program::instruction::Instruction;
 use program::sizes::Sizes;
 use records::place::instruction_of;
 use report::obligation::Obligation;
 ghost use mathlib.Core.Path.{_≡_};
 ghost use Rattle.frames.specs.Records.{bodies, indexOf};
-ghost use Rattle.content.specs.Sums.{sumsOf};
+ghost use Rattle.content.specs.Totals.{totalsOf};
 ghost use Prim.Native.Nat.{_+_};
 ghost use Rattle.program.specs.Thread.{lastPoint};
 ghost use Rattle.records.specs.Places.{threadBody};
@@ -21,7 +21,7 @@ fn judge_action<'a, 'b, 'c>(
     s: &'a [u8],
     ix: &'b [usize],
     z: Sizes,
-    y: Sums,
+    y: Totals,
     m: &'c [bool],
     u: usize,
     j: usize,
@@ -29,7 +29,7 @@ fn judge_action<'a, 'b, 'c>(
     k: usize,
     r: Outcome,
 ) -> Outcome
-    requires { ⌜ (now ix ≡ indexOf (now s)) × (y ≡ sumsOf z (bodies (now s))) ⌝ }
+    requires { ⌜ (now ix ≡ indexOf (now s)) × (y ≡ totalsOf z (bodies (now s))) ⌝ }
     ensures { λ q. ⌜ q ≡ actingAt (now (s .entry)) z (asMarks (now (m .entry))) u j t k r ⌝ }
 {
     let i = instruction_of(s, ix, z, t, k);
@@ -57,14 +57,14 @@ fn judge_actor<'a, 'b, 'c>(
     s: &'a [u8],
     ix: &'b [usize],
     z: Sizes,
-    y: Sums,
+    y: Totals,
     m: &'c [bool],
     u: usize,
     j: usize,
     t: usize,
     r: Outcome,
 ) -> Outcome
-    requires { ⌜ (now ix ≡ indexOf (now s)) × (y ≡ sumsOf z (bodies (now s))) ⌝ }
+    requires { ⌜ (now ix ≡ indexOf (now s)) × (y ≡ totalsOf z (bodies (now s))) ⌝ }
     ensures { λ q. ⌜ q ≡ actionsAt (now (s .entry)) z (asMarks (now (m .entry))) u j t r ⌝ }
 {
     if t == u {
@@ -85,13 +85,13 @@ fn judge_assertion<'a, 'b, 'c>(
     s: &'a [u8],
     ix: &'b [usize],
     z: Sizes,
-    y: Sums,
+    y: Totals,
     m: &'c [bool],
     u: usize,
     j: usize,
     r: Outcome,
 ) -> Outcome
-    requires { ⌜ (now ix ≡ indexOf (now s)) × (y ≡ sumsOf z (bodies (now s))) ⌝ }
+    requires { ⌜ (now ix ≡ indexOf (now s)) × (y ≡ totalsOf z (bodies (now s))) ⌝ }
     ensures { λ q. ⌜ q ≡ actionsTo (now (s .entry)) z (asMarks (now (m .entry))) u j (z .threads) r ⌝ }
 {
     let threads = z.threads as usize;
@@ -109,12 +109,12 @@ fn judge_asserting<'a, 'b, 'c>(
     s: &'a [u8],
     ix: &'b [usize],
     z: Sizes,
-    y: Sums,
+    y: Totals,
     m: &'c [bool],
     u: usize,
     r: Outcome,
 ) -> Outcome
-    requires { ⌜ (now ix ≡ indexOf (now s)) × (y ≡ sumsOf z (bodies (now s))) ⌝ }
+    requires { ⌜ (now ix ≡ indexOf (now s)) × (y ≡ totalsOf z (bodies (now s))) ⌝ }
     ensures { λ q. ⌜ q ≡ assertedTo (now (s .entry)) z (asMarks (now (m .entry))) u (lastPoint (threadBody z (bodies (now (s .entry))) u) + 1) r ⌝ }
 {
     let last = last_point_of(s, ix, z, u);
@@ -132,11 +132,11 @@ pub fn judge_interferences<'a, 'b, 'c>(
     s: &'a [u8],
     ix: &'b [usize],
     z: Sizes,
-    y: Sums,
+    y: Totals,
     m: &'c [bool],
     r: Outcome,
 ) -> Outcome
-    requires { ⌜ (now ix ≡ indexOf (now s)) × (y ≡ sumsOf z (bodies (now s))) ⌝ }
+    requires { ⌜ (now ix ≡ indexOf (now s)) × (y ≡ totalsOf z (bodies (now s))) ⌝ }
     ensures { λ q. ⌜ q ≡ interferencesTo (now (s .entry)) z (asMarks (now (m .entry))) (z .threads) r ⌝ }
 {
     let threads = z.threads as usize;

@@ -3,7 +3,7 @@ use crate::interference::judge_interferences;
 use crate::outcome::Outcome;
 use crate::steps::judge_starts;
 use crate::steps::judge_steps;
-use content::totals::sums_of;
+use content::totals::totals_of;
 use program::sizes::Sizes;
 ghost use mathlib.Core.Path.{_≡_};
 ghost use Rattle.logic.specs.Obligations.{obligations};
@@ -21,7 +21,7 @@ pub fn judge_obligations<'a, 'b, 'c>(
     requires { ⌜ now ix ≡ indexOf (now s) ⌝ }
     ensures { λ r. ⌜ r ≡ judgeAt (now (s .entry)) z (asMarks (now (m .entry))) (obligations (programOf z (bodies (now (s .entry))))) 0 ⌝ }
 {
-    let y = sums_of(s, ix, z);
+    let y = totals_of(s, ix, z);
     let a = judge_starts(s, ix, z, y, m, Outcome::Met(0));
     let b = judge_steps(s, ix, z, y, m, a);
     judge_interferences(s, ix, z, y, m, b)

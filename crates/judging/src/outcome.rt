@@ -1,13 +1,13 @@
 // The outcome so far, and one obligation more.
 use content::named::named_line;
-use content::totals::Sums;
+use content::totals::Totals;
 use program::sizes::Sizes;
 use report::obligation::Obligation;
 use wanted::concluding::Unmet;
 use wanted::concluding::code_at;
 ghost use mathlib.Core.Path.{_≡_};
 ghost use Rattle.frames.specs.Records.{bodies, indexOf};
-ghost use Rattle.content.specs.Sums.{sumsOf};
+ghost use Rattle.content.specs.Totals.{totalsOf};
 ghost use Rattle.marks.specs.Marks.{asMarks};
 ghost use Rattle.judging.specs.Judge.{judgeOne, next};
 
@@ -27,12 +27,12 @@ fn judge_one<'a, 'b, 'c>(
     s: &'a [u8],
     ix: &'b [usize],
     z: Sizes,
-    y: Sums,
+    y: Totals,
     m: &'c [bool],
     o: Obligation,
     c: usize,
 ) -> Outcome
-    requires { ⌜ (now ix ≡ indexOf (now s)) × (y ≡ sumsOf z (bodies (now s))) ⌝ }
+    requires { ⌜ (now ix ≡ indexOf (now s)) × (y ≡ totalsOf z (bodies (now s))) ⌝ }
     ensures { λ r. ⌜ r ≡ judgeOne (now (s .entry)) z (asMarks (now (m .entry))) o c ⌝ }
 {
     if y.obligations <= c {
@@ -61,12 +61,12 @@ pub fn judge_next<'a, 'b, 'c>(
     s: &'a [u8],
     ix: &'b [usize],
     z: Sizes,
-    y: Sums,
+    y: Totals,
     m: &'c [bool],
     o: Obligation,
     r: Outcome,
 ) -> Outcome
-    requires { ⌜ (now ix ≡ indexOf (now s)) × (y ≡ sumsOf z (bodies (now s))) ⌝ }
+    requires { ⌜ (now ix ≡ indexOf (now s)) × (y ≡ totalsOf z (bodies (now s))) ⌝ }
     ensures { λ q. ⌜ q ≡ next (now (s .entry)) z (asMarks (now (m .entry))) o r ⌝ }
 {
     match r {

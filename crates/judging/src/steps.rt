@@ -2,14 +2,14 @@
 use crate::outcome::Outcome;
 use crate::outcome::judge_next;
 use content::point::last_point_of;
-use content::totals::Sums;
+use content::totals::Totals;
 use program::instruction::Instruction;
 use program::sizes::Sizes;
 use records::place::instruction_of;
 use report::obligation::Obligation;
 ghost use mathlib.Core.Path.{_≡_};
 ghost use Rattle.frames.specs.Records.{bodies, indexOf};
-ghost use Rattle.content.specs.Sums.{sumsOf};
+ghost use Rattle.content.specs.Totals.{totalsOf};
 ghost use Rattle.program.specs.Thread.{lastPoint};
 ghost use Rattle.records.specs.Places.{threadBody};
 ghost use Rattle.marks.specs.Marks.{asMarks};
@@ -20,11 +20,11 @@ pub fn judge_starts<'a, 'b, 'c>(
     s: &'a [u8],
     ix: &'b [usize],
     z: Sizes,
-    y: Sums,
+    y: Totals,
     m: &'c [bool],
     r: Outcome,
 ) -> Outcome
-    requires { ⌜ (now ix ≡ indexOf (now s)) × (y ≡ sumsOf z (bodies (now s))) ⌝ }
+    requires { ⌜ (now ix ≡ indexOf (now s)) × (y ≡ totalsOf z (bodies (now s))) ⌝ }
     ensures { λ q. ⌜ q ≡ startsTo (now (s .entry)) z (asMarks (now (m .entry))) (z .threads) r ⌝ }
 {
     let threads = z.threads as usize;
@@ -42,13 +42,13 @@ fn judge_own<'a, 'b, 'c>(
     s: &'a [u8],
     ix: &'b [usize],
     z: Sizes,
-    y: Sums,
+    y: Totals,
     m: &'c [bool],
     t: usize,
     k: usize,
     r: Outcome,
 ) -> Outcome
-    requires { ⌜ (now ix ≡ indexOf (now s)) × (y ≡ sumsOf z (bodies (now s))) ⌝ }
+    requires { ⌜ (now ix ≡ indexOf (now s)) × (y ≡ totalsOf z (bodies (now s))) ⌝ }
     ensures { λ q. ⌜ q ≡ ownAt (now (s .entry)) z (asMarks (now (m .entry))) t k r ⌝ }
 {
     let step = Obligation::Step {
@@ -72,12 +72,12 @@ fn judge_thread<'a, 'b, 'c>(
     s: &'a [u8],
     ix: &'b [usize],
     z: Sizes,
-    y: Sums,
+    y: Totals,
     m: &'c [bool],
     t: usize,
     r: Outcome,
 ) -> Outcome
-    requires { ⌜ (now ix ≡ indexOf (now s)) × (y ≡ sumsOf z (bodies (now s))) ⌝ }
+    requires { ⌜ (now ix ≡ indexOf (now s)) × (y ≡ totalsOf z (bodies (now s))) ⌝ }
     ensures { λ q. ⌜ q ≡ ownTo (now (s .entry)) z (asMarks (now (m .entry))) t (lastPoint (threadBody z (bodies (now (s .entry))) t)) r ⌝ }
 {
     let last = last_point_of(s, ix, z, t);
@@ -95,11 +95,11 @@ pub fn judge_steps<'a, 'b, 'c>(
     s: &'a [u8],
     ix: &'b [usize],
     z: Sizes,
-    y: Sums,
+    y: Totals,
     m: &'c [bool],
     r: Outcome,
 ) -> Outcome
-    requires { ⌜ (now ix ≡ indexOf (now s)) × (y ≡ sumsOf z (bodies (now s))) ⌝ }
+    requires { ⌜ (now ix ≡ indexOf (now s)) × (y ≡ totalsOf z (bodies (now s))) ⌝ }
     ensures { λ q. ⌜ q ≡ stepsTo (now (s .entry)) z (asMarks (now (m .entry))) (z .threads) r ⌝ }
 {
     let threads = z.threads as usize;

@@ -22,7 +22,7 @@ use Rattle.content.specs.Program.{programOf}
 use Rattle.content.proofs.Checked.{Checks}
 use Rattle.content.proofs.Lines.{premise-count}
 use Rattle.rulebook.specs.Rulebook.{templates}
-use Rattle.conclusions.specs.LineClaim.{lineAt}
+use Rattle.conclusions.specs.LineConclusion.{lineAt}
 use Rattle.fitting.proofs.Fitted.{fits-is}
 use Rattle.marks.specs.Marks.{isMarked, withMark}
 use Rattle.marks.specs.declared.Marks.{Marks}

@@ -1,2 +1,2 @@
-pub mod Ways
+pub mod Passing
 pub mod Justified

@@ -8,7 +8,7 @@ use Rattle.program.specs.declared.sizes.Sizes.{Sizes}
 use Rattle.records.specs.Line.{premises}
 use Rattle.content.specs.Certificate.{lineBody}
 use Rattle.rulebook.specs.Rulebook.{templates}
-use Rattle.conclusions.specs.LineClaim.{lineAt}
+use Rattle.conclusions.specs.LineConclusion.{lineAt}
 use Rattle.fitting.specs.Fit.{fitsLine}
 use Rattle.marks.specs.Marks.{noMarks, isMarked, withMark}
 use Rattle.marks.specs.declared.Marks.{Marks}

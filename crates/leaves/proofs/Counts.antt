@@ -10,7 +10,7 @@ use borrow.Author.Tests.{lt-ltb, le-ltb, eq-eqb, ne-eqb, ltb-true, ltb-false}
 use Rattle.logic.specs.Rows.{rowCount}
 use Rattle.formula.specs.Tree.{Tree, node, nodeAt}
 use Rattle.formula.specs.declared.node.Node.{Node}
-use Rattle.formula.proofs.Nodes.{skim-step}
+use Rattle.formula.proofs.Nodes.{parse-step}
 use Rattle.compare.specs.Same.{sameTree}
 use Rattle.leaves.specs.Slots.{slotTree, numbers, slotAt, kept}
 use Rattle.leaves.specs.Count.{choicesBy, choicesT, capped, rowsUpTo}
@@ -27,7 +27,7 @@ module _ (s : List ℕ) (R r : ℕ) (p : Slot) where
 
   pub choices-whole : (x : Node) → (p .left ≡ 0 → ⊥) → x ≡ nodeAt s (p .place) → r ≡ choicesBy R (x .code) → r ≡ choicesT R (slotTree s p)
   unfolding slotTree
-  choices-whole x z ex e = rw (ne-eqb _ _ z, skim-step s (p .left) (p .place) z, choices-node, ← ex) e
+  choices-whole x z ex e = rw (ne-eqb _ _ z, parse-step s (p .left) (p .place) z, choices-node, ← ex) e
 
 pub ruleset choice = (choices-plain, choices-whole)
 

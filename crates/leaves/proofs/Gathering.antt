@@ -10,9 +10,9 @@ use lib.Dec.{ltb}
 use borrow.Author.Tests.{lt-ltb, le-ltb, ltb-true, ltb-false}
 use Rattle.logic.specs.Rows.{isIn}
 use Rattle.formula.specs.Codes.{member}
-use Rattle.formula.specs.Tree.{Tree, none, node, nodeAt, skim, Skim}
+use Rattle.formula.specs.Tree.{Tree, none, node, nodeAt, parseTree, ParsedTree}
 use Rattle.formula.specs.declared.node.Node.{Node}
-use Rattle.formula.proofs.Nodes.{skim-zero, skim-step}
+use Rattle.formula.proofs.Nodes.{parse-zero, parse-step}
 use Rattle.formula.proofs.Auto.{lower}
 use Rattle.compare.specs.Same.{sameTree}
 use Rattle.leaves.specs.Slots.{slots, slotTree, leafSlot, numbers, slotAt, slotFrom, slotOf, kept}
@@ -149,27 +149,27 @@ unfolding view
 view-many s n q h = rw (lt-ltb _ _ h)
 
 module _ (s : List ℕ) (at left n : ℕ) (q : List ℕ) where
-  pub put-zero : left ≡ 0 → view s n q ≡ putT (skim s left at .tree) (view s n q)
-  put-zero z = rw (skim-zero s left at z, put-none)
+  pub put-zero : left ≡ 0 → view s n q ≡ putT (parseTree s left at .tree) (view s n q)
+  put-zero z = rw (parse-zero s left at z, put-none)
 
-  pub put-over : (left ≡ 0 → ⊥) → slots < n → view s n q ≡ putT (skim s left at .tree) (view s n q)
-  put-over z h = rw (view-many s n q h, skim-step s left at z, put-many)
+  pub put-over : (left ≡ 0 → ⊥) → slots < n → view s n q ≡ putT (parseTree s left at .tree) (view s n q)
+  put-over z h = rw (view-many s n q h, parse-step s left at z, put-many)
 
-  module _ (r : ℕ) (z : left ≡ 0 → ⊥) (h : n ≤ slots) (er : r ≡ slotOf s q (skim s left at .tree)) where
-    put-by : putT (skim s left at .tree) (view s n q) ≡ cond (ltb r n) (keys (kept s q n)) (cond (ltb n slots) (keys (skim s left at .tree ∷ kept s q n)) many)
+  module _ (r : ℕ) (z : left ≡ 0 → ⊥) (h : n ≤ slots) (er : r ≡ slotOf s q (parseTree s left at .tree)) where
+    put-by : putT (parseTree s left at .tree) (view s n q) ≡ cond (ltb r n) (keys (kept s q n)) (cond (ltb n slots) (keys (parseTree s left at .tree ∷ kept s q n)) many)
     put-by =
-        ap (putT (skim s left at .tree)) (view-keys s n q h)
-        ∙ put-some _ _ _ _ (skim s left at .tree) (kept s q n) (ap (λ (u : Skim). u .tree) (skim-step s left at z))
-        ∙ rw (kept-length s q n, in-kept s q (skim s left at .tree) n h, er)
+        ap (putT (parseTree s left at .tree)) (view-keys s n q h)
+        ∙ put-some _ _ _ _ (parseTree s left at .tree) (kept s q n) (ap (λ (u : ParsedTree). u .tree) (parse-step s left at z))
+        ∙ rw (kept-length s q n, in-kept s q (parseTree s left at .tree) n h, er)
 
-    pub put-there : r < n → view s n q ≡ putT (skim s left at .tree) (view s n q)
+    pub put-there : r < n → view s n q ≡ putT (parseTree s left at .tree) (view s n q)
     put-there l = view-keys s n q h ∙ sym (put-by ∙ rw (lt-ltb _ _ l))
 
-    pub put-new : (p : Slot) (m : ℕ) (q₂ : List ℕ) → length q ≡ 36 → n ≤ r → p ≡ leafSlot s at left → m ≡ countPut n → q₂ ≡ slotPut n p q → view s m q₂ ≡ putT (skim s left at .tree) (view s n q)
+    pub put-new : (p : Slot) (m : ℕ) (q₂ : List ℕ) → length q ≡ 36 → n ≤ r → p ≡ leafSlot s at left → m ≡ countPut n → q₂ ≡ slotPut n p q → view s m q₂ ≡ putT (parseTree s left at .tree) (view s n q)
     unfolding countPut slotPut
     put-new p m q₂ len l ep em eq = ap₂ (view s) em eq ∙ go (ltb n slots) refl ∙ sym (put-by ∙ rw (le-ltb _ _ l))
       where
-        go : (b : Bool) → ltb n slots ≡ b → view s (countPut n) (slotPut n p q) ≡ cond (ltb n slots) (keys (skim s left at .tree ∷ kept s q n)) many
+        go : (b : Bool) → ltb n slots ≡ b → view s (countPut n) (slotPut n p q) ≡ cond (ltb n slots) (keys (parseTree s left at .tree ∷ kept s q n)) many
         go true e =
             let h : n < slots = ltb-true n slots e in
             let m : n + 1 ≤ slots = omega arith in
@@ -204,24 +204,24 @@ unfolding gatherT
 gather-node w c o l r m = refl
 
 module _ (s : List ℕ) (k at w n : ℕ) (q : List ℕ) where
-  pub gather-zero : k ≡ 0 → view s n q ≡ gatherT w (skim s k at .tree) (view s n q)
-  gather-zero z = rw (skim-zero s k at z, gather-none)
+  pub gather-zero : k ≡ 0 → view s n q ≡ gatherT w (parseTree s k at .tree) (view s n q)
+  gather-zero z = rw (parse-zero s k at z, gather-none)
 
   module _ (x : Node) (b : Bool) (z : k ≡ 0 → ⊥) (e : x ≡ nodeAt s at) (eb : b ≡ member w (x .code)) where
-    pub gather-here : (m : ℕ) (q₂ : List ℕ) → b ≡ true → view s m q₂ ≡ putT (skim s k at .tree) (view s n q) → view s m q₂ ≡ gatherT w (skim s k at .tree) (view s n q)
-    gather-here m q₂ d f = f ∙ rw (skim-step s k at z, ← e, gather-node, ← eb, d)
+    pub gather-here : (m : ℕ) (q₂ : List ℕ) → b ≡ true → view s m q₂ ≡ putT (parseTree s k at .tree) (view s n q) → view s m q₂ ≡ gatherT w (parseTree s k at .tree) (view s n q)
+    gather-here m q₂ d f = f ∙ rw (parse-step s k at z, ← e, gather-node, ← eb, d)
 
-    pub gather-leaf : b ≡ false → x .parts ≡ 0 → view s n q ≡ gatherT w (skim s k at .tree) (view s n q)
-    gather-leaf d p = rw (skim-step s k at z, ← e, gather-node, ← eb, d, p) (simp gather-none)
+    pub gather-leaf : b ≡ false → x .parts ≡ 0 → view s n q ≡ gatherT w (parseTree s k at .tree) (view s n q)
+    gather-leaf d p = rw (parse-step s k at z, ← e, gather-node, ← eb, d, p) (simp gather-none)
 
-    pub gather-one : (m : ℕ) (q₂ : List ℕ) → b ≡ false → (x .parts ≡ 0 → ⊥) → x .parts ≡ 1 → view s m q₂ ≡ gatherT w (skim s (k - 1) (x .next) .tree) (view s n q) → view s m q₂ ≡ gatherT w (skim s k at .tree) (view s n q)
-    gather-one m q₂ d p o f = f ∙ rw (skim-step s k at z, ← e, gather-node, ← eb, d, o, gather-none)
+    pub gather-one : (m : ℕ) (q₂ : List ℕ) → b ≡ false → (x .parts ≡ 0 → ⊥) → x .parts ≡ 1 → view s m q₂ ≡ gatherT w (parseTree s (k - 1) (x .next) .tree) (view s n q) → view s m q₂ ≡ gatherT w (parseTree s k at .tree) (view s n q)
+    gather-one m q₂ d p o f = f ∙ rw (parse-step s k at z, ← e, gather-node, ← eb, d, o, gather-none)
 
-    pub gather-two : (y m m₂ : ℕ) (q₂ q₃ : List ℕ) → b ≡ false → (x .parts ≡ 0 → ⊥) → (x .parts ≡ 1 → ⊥) → y ≡ skim s (k - 1) (x .next) .end
-        → view s m q₂ ≡ gatherT w (skim s (k - 1) y .tree) (view s n q) → view s m₂ q₃ ≡ gatherT w (skim s (k - 1) (x .next) .tree) (view s m q₂) → view s m₂ q₃ ≡ gatherT w (skim s k at .tree) (view s n q)
+    pub gather-two : (y m m₂ : ℕ) (q₂ q₃ : List ℕ) → b ≡ false → (x .parts ≡ 0 → ⊥) → (x .parts ≡ 1 → ⊥) → y ≡ parseTree s (k - 1) (x .next) .end
+        → view s m q₂ ≡ gatherT w (parseTree s (k - 1) y .tree) (view s n q) → view s m₂ q₃ ≡ gatherT w (parseTree s (k - 1) (x .next) .tree) (view s m q₂) → view s m₂ q₃ ≡ gatherT w (parseTree s k at .tree) (view s n q)
     gather-two y m m₂ q₂ q₃ d p o em f f₂ =
         let t₀ : 0 < x .parts = omega arith in
         let t₁ : 1 < x .parts = omega arith in
-        f₂ ∙ rw (f, em, skim-step s k at z, ← e, gather-node, ← eb, d, lt-ltb _ _ t₀, lt-ltb _ _ t₁)
+        f₂ ∙ rw (f, em, parse-step s k at z, ← e, gather-node, ← eb, d, lt-ltb _ _ t₀, lt-ltb _ _ t₁)
 
 pub ruleset gathers = (gather-zero, gather-here, gather-leaf, gather-one, gather-two, lower)

@@ -7,9 +7,9 @@ use native.Mathlib.Omega.{arith}
 use lib.Dec.{ltb, eqb}
 use borrow.Author.Tests.{lt-ltb, eq-eqb, ne-eqb, eqb-true, eqb-false}
 use Rattle.formula.specs.Codes.{partCount}
-use Rattle.formula.specs.Tree.{Tree, none, node, nodeAt, skim, part, Skim}
+use Rattle.formula.specs.Tree.{Tree, none, node, nodeAt, parseTree, part, ParsedTree}
 use Rattle.formula.specs.declared.node.Node.{Node}
-use Rattle.formula.proofs.Nodes.{skim-zero, skim-step, parts-of}
+use Rattle.formula.proofs.Nodes.{parse-zero, parse-step, parts-of}
 use Rattle.compare.specs.Same.{sameTree, sameOf}
 use Rattle.compare.specs.declared.same.Same.{Same}
 use Rattle.compare.specs.declared.same.Same.the-variants.{Yes, No}
@@ -54,9 +54,9 @@ module _ (s : List ℕ) (at left : ℕ) (x : Node) (p : Slot) where
       unfolding sameSlot
       slot-cut f q = rw (eq-eqb _ _ z, eq-eqb _ _ (sym ec ∙ d), eq-eqb _ _ (sym eo ∙ f), ne-eqb _ _ q)
 
-  module _ (g : Same) (z : p .left ≡ 0 → ⊥) (e : g ≡ sameOf (skim s left at) (skim s (p .left) (p .place))) where
+  module _ (g : Same) (z : p .left ≡ 0 → ⊥) (e : g ≡ sameOf (parseTree s left at) (parseTree s (p .left) (p .place))) where
     abbrev t : Bool
-    t = sameTree (skim s left at .tree) (skim s (p .left) (p .place) .tree)
+    t = sameTree (parseTree s left at .tree) (parseTree s (p .left) (p .place) .tree)
 
     said-yes : (b : Bool) (i j k l : ℕ) → cond b (Yes i j) No ≡ Yes k l → true ≡ b
     said-yes true i j k l h = refl
@@ -68,15 +68,15 @@ module _ (s : List ℕ) (at left : ℕ) (x : Node) (p : Slot) where
 
     pub slot-yes : (k l : ℕ) → g ≡ Yes k l → true ≡ sameSlot s at left x p
     unfolding sameSlot
-    slot-yes k l d = rw (ne-eqb _ _ z) (said-yes t (skim s left at .end) (skim s (p .left) (p .place) .end) k l (sym e ∙ d))
+    slot-yes k l d = rw (ne-eqb _ _ z) (said-yes t (parseTree s left at .end) (parseTree s (p .left) (p .place) .end) k l (sym e ∙ d))
 
     pub slot-no : g ≡ No → false ≡ sameSlot s at left x p
     unfolding sameSlot
-    slot-no d = rw (ne-eqb _ _ z) (said-no t (skim s left at .end) (skim s (p .left) (p .place) .end) (sym e ∙ d))
+    slot-no d = rw (ne-eqb _ _ z) (said-no t (parseTree s left at .end) (parseTree s (p .left) (p .place) .end) (sym e ∙ d))
 
   pub slot-self : (p .left ≡ 0 → ⊥) → p .place ≡ at → p .left ≡ left → true ≡ sameSlot s at left x p
   unfolding sameSlot
-  slot-self z d l = rw (ne-eqb _ _ z, d, l) (sym (same-self (skim s left at .tree)))
+  slot-self z d l = rw (ne-eqb _ _ z, d, l) (sym (same-self (parseTree s left at .tree)))
 
 pub ruleset sames = (slot-code, slot-operand, slot-leaf, slot-cut, slot-yes, slot-no, slot-self)
 
@@ -107,33 +107,33 @@ module _ (s : List ℕ) (at left : ℕ) (z : left ≡ 0 → ⊥) (p : Slot) wher
   abbrev x : Node
   x = nodeAt s at
 
-  same-slot : sameSlot s at left x p ≡ sameTree (skim s left at .tree) (slotTree s p)
+  same-slot : sameSlot s at left x p ≡ sameTree (parseTree s left at .tree) (slotTree s p)
   unfolding sameSlot slotTree
   same-slot = go (eqb (p .left) 0) (eqb (x .code) (p .place)) (eqb (x .operand) (p .operand)) (eqb (x .parts) 0) (eqb left 1) refl refl refl refl refl
     where
-      go : (i a b c d : Bool) → eqb (p .left) 0 ≡ i → eqb (x .code) (p .place) ≡ a → eqb (x .operand) (p .operand) ≡ b → eqb (x .parts) 0 ≡ c → eqb left 1 ≡ d → sameSlot s at left x p ≡ sameTree (skim s left at .tree) (slotTree s p)
+      go : (i a b c d : Bool) → eqb (p .left) 0 ≡ i → eqb (x .code) (p .place) ≡ a → eqb (x .operand) (p .operand) ≡ b → eqb (x .parts) 0 ≡ c → eqb left 1 ≡ d → sameSlot s at left x p ≡ sameTree (parseTree s left at .tree) (slotTree s p)
       go false a b c d ei ea eb ec ed = rw ei
-      go true false b c d ei ea eb ec ed = rw (ei, ea, skim-step s left at z, same-nodes, ea)
-      go true true false c d ei ea eb ec ed = rw (ei, ea, eb, skim-step s left at z, same-nodes, ea, eb)
+      go true false b c d ei ea eb ec ed = rw (ei, ea, parse-step s left at z, same-nodes, ea)
+      go true true false c d ei ea eb ec ed = rw (ei, ea, eb, parse-step s left at z, same-nodes, ea, eb)
       go true true true true d ei ea eb ec ed =
           let n : x .parts ≡ 0 = eqb-true (x .parts) 0 ec in
-          rw (ei, ea, eb, ec, skim-step s left at z, same-nodes, ea, eb, n, same-none)
+          rw (ei, ea, eb, ec, parse-step s left at z, same-nodes, ea, eb, n, same-none)
       go true true true false true ei ea eb ec ed =
           let n : x .parts ≡ 0 → ⊥ = eqb-false (x .parts) 0 ec in
           let t₀ : 0 < x .parts = omega arith in
           let o : left ≡ 1 = eqb-true left 1 ed in
           let y : left - 1 ≡ 0 = omega arith in
-          rw (ei, ea, eb, ec, ed, skim-step s left at z, same-nodes, ea, eb, lt-ltb _ _ t₀, skim-zero s (left - 1) (x .next) y, same-none) (right (ltb 1 (x .parts)) y)
+          rw (ei, ea, eb, ec, ed, parse-step s left at z, same-nodes, ea, eb, lt-ltb _ _ t₀, parse-zero s (left - 1) (x .next) y, same-none) (right (ltb 1 (x .parts)) y)
         where
-          right : (b : Bool) → left - 1 ≡ 0 → true ≡ sameTree (part (λ q. skim s (left - 1) q) b (x .next) .tree) none
-          right true y = rw (skim-zero s (left - 1) (x .next) y, same-none)
+          right : (b : Bool) → left - 1 ≡ 0 → true ≡ sameTree (part (λ q. parseTree s (left - 1) q) b (x .next) .tree) none
+          right true y = rw (parse-zero s (left - 1) (x .next) y, same-none)
           right false y = rw same-none
       go true true true false false ei ea eb ec ed =
           let n : x .parts ≡ 0 → ⊥ = eqb-false (x .parts) 0 ec in
           let t₀ : 0 < x .parts = omega arith in
           let o : left ≡ 1 → ⊥ = eqb-false left 1 ed in
           let y : left - 1 ≡ 0 → ⊥ = λ q. omega arith in
-          rw (ei, ea, eb, ec, ed, skim-step s left at z, same-nodes, ea, eb, lt-ltb _ _ t₀, skim-step s (left - 1) (x .next) y, same-node-none)
+          rw (ei, ea, eb, ec, ed, parse-step s left at z, same-nodes, ea, eb, lt-ltb _ _ t₀, parse-step s (left - 1) (x .next) y, same-node-none)
 
 -- the same of a leaf without parts
 module _ (s : List ℕ) (c o : ℕ) (none-of : partCount c ≡ 0) (p : Slot) where
@@ -150,30 +150,30 @@ module _ (s : List ℕ) (c o : ℕ) (none-of : partCount c ≡ 0) (p : Slot) whe
       go true a ei ea = rw (ei, same-nodes) (join (eqb c (p .place)) (eqb o (p .operand)))
       go false true ei ea =
           let n : nodeAt s (p .place) .parts ≡ 0 = parts-of s (p .place) ∙ ap partCount (sym (eqb-true c (nodeAt s (p .place) .code) ea)) ∙ none-of in
-          rw (ei, skim-step s (p .left) (p .place) (eqb-false (p .left) 0 ei), same-nodes, n, ea) (join true (eqb o (nodeAt s (p .place) .operand)))
-      go false false ei ea = rw (ei, skim-step s (p .left) (p .place) (eqb-false (p .left) 0 ei), same-nodes, ea)
+          rw (ei, parse-step s (p .left) (p .place) (eqb-false (p .left) 0 ei), same-nodes, n, ea) (join true (eqb o (nodeAt s (p .place) .operand)))
+      go false false ei ea = rw (ei, parse-step s (p .left) (p .place) (eqb-false (p .left) 0 ei), same-nodes, ea)
 
 -- a slot holds a node, never nothing
 slot-node : (s : List ℕ) (p : Slot) → sameTree none (slotTree s p) ≡ false
 unfolding slotTree
 slot-node s p = go (eqb (p .left) 0) refl
   where
-    go : (b : Bool) → eqb (p .left) 0 ≡ b → sameTree none (cond b (node (p .place) (p .operand) none none) (skim s (p .left) (p .place) .tree)) ≡ false
+    go : (b : Bool) → eqb (p .left) 0 ≡ b → sameTree none (cond b (node (p .place) (p .operand) none none) (parseTree s (p .left) (p .place) .tree)) ≡ false
     go true e = same-none-node (p .place) (p .operand) none none
-    go false e = rw (skim-step s (p .left) (p .place) (eqb-false (p .left) 0 e), same-none-node)
+    go false e = rw (parse-step s (p .left) (p .place) (eqb-false (p .left) 0 e), same-none-node)
 
 -- the leaf's slot holds the leaf
-pub leaf-slot : (s : List ℕ) (at left : ℕ) → (left ≡ 0 → ⊥) → slotTree s (leafSlot s at left) ≡ skim s left at .tree
+pub leaf-slot : (s : List ℕ) (at left : ℕ) → (left ≡ 0 → ⊥) → slotTree s (leafSlot s at left) ≡ parseTree s left at .tree
 unfolding slotTree leafSlot
 leaf-slot s at left z = go (eqb (nodeAt s at .parts) 0) refl
   where
     at-slot : Bool → Slot
     at-slot b = cond b (record { place = nodeAt s at .code; operand = nodeAt s at .operand; left = 0 }) (record { place = at; operand = 0; left = left })
 
-    go : (b : Bool) → eqb (nodeAt s at .parts) 0 ≡ b → slotTree s (at-slot b) ≡ skim s left at .tree
+    go : (b : Bool) → eqb (nodeAt s at .parts) 0 ≡ b → slotTree s (at-slot b) ≡ parseTree s left at .tree
     go true e =
         let n : nodeAt s at .parts ≡ 0 = eqb-true (nodeAt s at .parts) 0 e in
-        rw (skim-step s left at z, n)
+        rw (parse-step s left at z, n)
     go false e = rw (ne-eqb _ _ z)
 
 -- from one slot to the next
@@ -214,10 +214,10 @@ of-is s q t = refl
 -- the ways through `slot_of`
 module _ (s q : List ℕ) (at left : ℕ) where
   abbrev tree : Tree
-  tree = skim s left at .tree
+  tree = parseTree s left at .tree
 
   pub of-zero : left ≡ 0 → slots ≡ slotOf s q tree
-  of-zero z = sym (of-is s q tree ∙ ap (λ (u : Skim). slotFrom s q slots 0 (u .tree)) (skim-zero s left at z) ∙ from-none s q slots 0)
+  of-zero z = sym (of-is s q tree ∙ ap (λ (u : ParsedTree). slotFrom s q slots 0 (u .tree)) (parse-zero s left at z) ∙ from-none s q slots 0)
 
   pub of-begin : slotOf s q tree ≡ slotFrom s q (slots - 0) 0 tree
   of-begin = of-is s q tree

@@ -4,7 +4,7 @@ use mathlib.Core.List.{List, [], _∷_}
 use mathlib.Core.Bool.{Bool, true, false, cond}
 use lib.ListN.{getD}
 use lib.Dec.{eqb}
-use Rattle.formula.specs.Tree.{Tree, none, node, nodeAt, skim}
+use Rattle.formula.specs.Tree.{Tree, none, node, nodeAt, parseTree}
 use Rattle.formula.specs.declared.node.Node.{Node}
 use Rattle.compare.specs.Same.{sameTree}
 use Rattle.leaves.specs.declared.slot.Slot.{Slot}
@@ -14,7 +14,7 @@ slots = 12
 
 -- a leaf without parts by its code and operand; any other where it stands
 unfoldable pub slotTree : List ℕ → Slot → Tree
-slotTree s p = cond (eqb (p .left) 0) (node (p .place) (p .operand) none none) (skim s (p .left) (p .place) .tree)
+slotTree s p = cond (eqb (p .left) 0) (node (p .place) (p .operand) none none) (parseTree s (p .left) (p .place) .tree)
 
 unfoldable pub leafSlot : List ℕ → ℕ → ℕ → Slot
 leafSlot s at left =
@@ -33,7 +33,7 @@ unfoldable pub sameSlot : List ℕ → ℕ → ℕ → Node → Slot → Bool
 sameSlot s at left x p =
     cond (eqb (p .left) 0)
     (cond (eqb (x .code) (p .place)) (cond (eqb (x .operand) (p .operand)) (cond (eqb (x .parts) 0) true (eqb left 1)) false) false)
-    (sameTree (skim s left at .tree) (skim s (p .left) (p .place) .tree))
+    (sameTree (parseTree s left at .tree) (parseTree s (p .left) (p .place) .tree))
 
 -- three numbers for each slot
 unfoldable pub numbers : List ℕ → ℕ → Slot

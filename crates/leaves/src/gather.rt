@@ -8,7 +8,7 @@ use formula::code::contains;
 use formula::end::end_at;
 use formula::node::node_at;
 ghost use mathlib.Core.Path.{_≡_};
-ghost use Rattle.formula.specs.Tree.{skim};
+ghost use Rattle.formula.specs.Tree.{parseTree};
 ghost use lib.ListN.{length};
 ghost use Rattle.leaves.specs.Gather.{countPut, slotPut, view, putT, gatherT};
 
@@ -35,7 +35,7 @@ pub fn add_leaf(
     slots: &mut [usize; Slots::NUMBERS],
 ) -> usize
     requires { ⌜ length (now slots) ≡ 36 ⌝ }
-    ensures { λ r. ⌜ view (now (s .entry)) r (now (slots .exit)) ≡ putT (skim (now (s .entry)) left at .tree) (view (now (s .entry)) n (now (slots .entry))) ⌝ }
+    ensures { λ r. ⌜ view (now (s .entry)) r (now (slots .exit)) ≡ putT (parseTree (now (s .entry)) left at .tree) (view (now (s .entry)) n (now (slots .entry))) ⌝ }
     ensures { λ _. ⌜ length (now (slots .exit)) ≡ 36 ⌝ }
 {
     if left == 0 {
@@ -60,7 +60,7 @@ pub fn gather_at(
     slots: &mut [usize; Slots::NUMBERS],
 ) -> usize
     requires { ⌜ length (now slots) ≡ 36 ⌝ }
-    ensures { λ r. ⌜ view (now (s .entry)) r (now (slots .exit)) ≡ gatherT set (skim (now (s .entry)) left at .tree) (view (now (s .entry)) n (now (slots .entry))) ⌝ }
+    ensures { λ r. ⌜ view (now (s .entry)) r (now (slots .exit)) ≡ gatherT set (parseTree (now (s .entry)) left at .tree) (view (now (s .entry)) n (now (slots .entry))) ⌝ }
     ensures { λ _. ⌜ length (now (slots .exit)) ≡ 36 ⌝ }
 {
     if left == 0 {

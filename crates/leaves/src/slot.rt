@@ -6,7 +6,7 @@ use formula::node::node_at;
 ghost use mathlib.Core.Path.{_≡_};
 ghost use Prim.Native.Nat.{_<_};
 ghost use Rattle.formula.specs.Codes.{partCount};
-ghost use Rattle.formula.specs.Tree.{none, node, skim};
+ghost use Rattle.formula.specs.Tree.{none, node, parseTree};
 ghost use Rattle.leaves.specs.Slots.{leafSlot, numbers, samePlain, sameSlot, slotOf};
 
 pub struct Slots {}
@@ -123,7 +123,7 @@ pub fn plain_slot(s: &[u8], code: u8, operand: u8, slots: &[usize; Slots::NUMBER
 
 // The first slot with the formula at a position; Slots::COUNT if there is none.
 pub fn slot_of(s: &[u8], at: usize, left: usize, slots: &[usize; Slots::NUMBERS]) -> usize
-    ensures { λ r. ⌜ r ≡ slotOf (now (s .entry)) (now (slots .entry)) (skim (now (s .entry)) left at .tree) ⌝ }
+    ensures { λ r. ⌜ r ≡ slotOf (now (s .entry)) (now (slots .entry)) (parseTree (now (s .entry)) left at .tree) ⌝ }
 {
     if left == 0 {
         return Slots::COUNT;

@@ -32,12 +32,6 @@ lines = 1000
 abbrev pub premises : ℕ
 premises = Logic.premises
 
-abbrev pub rows : ℕ
-rows = Logic.rows
-
-abbrev pub leaves : ℕ
-leaves = Logic.leaves
-
 abbrev pub imageBytes : ℕ
 imageBytes = 65535
 

@@ -14,11 +14,11 @@ use Rattle.logic.specs.Base.{upd}
 use Rattle.logic.specs.Code.{Code, byte}
 use Rattle.logic.proofs.Base.{upd-same, upd-other, by-word, and-left, and-right, holds-true}
 use Rattle.formula.specs.Codes.{among, onePart, twoParts, hasOperand, partCount}
-use Rattle.formula.specs.Tree.{Tree, Tree.node, Skim, part, nodeAt, skim}
+use Rattle.formula.specs.Tree.{Tree, Tree.node, ParsedTree, part, nodeAt, parseTree}
 use Rattle.formula.specs.declared.node.Node.{Node}
-use Rattle.formula.proofs.Nodes.{skim-zero, skim-step, parts-of}
+use Rattle.formula.proofs.Nodes.{parse-zero, parse-step, parts-of}
 use Rattle.compare.specs.Same.{sameTree, sameOf}
-use Rattle.trees.proofs.Raw.{tree-refl}
+use Rattle.trees.proofs.ToTree.{tree-refl}
 use Rattle.matcher.specs.Template.{firstHole, firstNumber}
 use Rattle.matcher.specs.Match as Trees
 use Rattle.matcher.specs.Match.{andThen, when, takeTree, takeNum, takeOperand, isNode, matchT}
@@ -53,18 +53,18 @@ module _ (s : List ℕ) (b : Bind) (z : Sized b) where
 
   -- a formula
   tree-set : (j at k : ℕ) → j < holeCount → k ≢ 0 → takenOf s (record { at = set (b .at) j at; left = set (b .left) j k; num = b .num })
-      ≡ record { num = takenOf s b .num; tree = upd (takenOf s b .tree) j (some (skim s k at .tree)) }
+      ≡ record { num = takenOf s b .num; tree = upd (takenOf s b .tree) j (some (parseTree s k at .tree)) }
   tree-set j at k h n = λ q. record { num = takenOf s b .num; tree = trees q }
     where
       value : ℕ → ℕ → Option Tree
-      value m p = cond (eqb m 0) none (some (skim s m p .tree))
+      value m p = cond (eqb m 0) none (some (parseTree s m p .tree))
 
-      trees : (λ (i : ℕ). value (getD (set (b .left) j k) i 0) (getD (set (b .at) j at) i 0)) ≡ upd (λ (i : ℕ). value (getD (b .left) i 0) (getD (b .at) i 0)) j (some (skim s k at .tree))
+      trees : (λ (i : ℕ). value (getD (set (b .left) j k) i 0) (getD (set (b .at) j at) i 0)) ≡ upd (λ (i : ℕ). value (getD (b .left) i 0) (getD (b .at) i 0)) j (some (parseTree s k at .tree))
       trees = fun-ext (by-word j _
           (ap₂ value (getD-set-same (b .left) j k 0 (omega (arith, z .left))) (getD-set-same (b .at) j at 0 (omega (arith, z .at)))
-          ∙ (rw (ne-eqb k 0 n) (sym (upd-same (λ (i : ℕ). value (getD (b .left) i 0) (getD (b .at) i 0)) j (some (skim s k at .tree))))))
+          ∙ (rw (ne-eqb k 0 n) (sym (upd-same (λ (i : ℕ). value (getD (b .left) i 0) (getD (b .at) i 0)) j (some (parseTree s k at .tree))))))
           (λ i q. ap₂ value (getD-set-other (b .left) j i k 0 q) (getD-set-other (b .at) j i at 0 q)
-          ∙ sym (upd-other (λ (i : ℕ). value (getD (b .left) i 0) (getD (b .at) i 0)) j (some (skim s k at .tree)) i q)))
+          ∙ sym (upd-other (λ (i : ℕ). value (getD (b .left) i 0) (getD (b .at) i 0)) j (some (parseTree s k at .tree)) i q)))
 
 -- what is taken, if it is
 abbrev pub given : List ℕ → Bool → Bind → Option Trees.Taken
@@ -163,9 +163,9 @@ no-operand s at = go (ltb at (length s)) (hasOperand (getD s at 0)) refl
 
 -- what the matcher gives by positions, as it is on trees; and where it stops
 pub record Follows (s t : List ℕ) (k i at : ℕ) (b : Bind) (m : Match) : Type 0 where
-  pub same : matchT (skim t k i .tree) (skim s k at .tree) (takenOf s b) ≡ given s (m .ok) (m .bind)
-  pub tpl : m .ok ≡ true → m .tpl ≡ skim t k i .end
-  pub next : m .ok ≡ true → m .next ≡ skim s k at .end
+  pub same : matchT (parseTree t k i .tree) (parseTree s k at .tree) (takenOf s b) ≡ given s (m .ok) (m .bind)
+  pub tpl : m .ok ≡ true → m .tpl ≡ parseTree t k i .end
+  pub next : m .ok ≡ true → m .next ≡ parseTree s k at .end
   pub sized : Sized (m .bind)
 
 match-node : (d o : ℕ) (l r u : Tree) (b : Trees.Taken) → matchT (node d o l r) u b ≡ elim (leb firstHole d) [
@@ -184,12 +184,12 @@ unfolding proper
 proper-node d o l r = refl
 
 -- one formula at one place is equal to itself
-there-equal : (s : List ℕ) (p m q k : ℕ) → isThere p m q k ≡ true → sameTree (skim s m p .tree) (skim s k q .tree) ≡ true
+there-equal : (s : List ℕ) (p m q k : ℕ) → isThere p m q k ≡ true → sameTree (parseTree s m p .tree) (parseTree s k q .tree) ≡ true
 unfolding isThere
 there-equal s p m q k = go (eqb p q) refl
   where
-    go : (x : Bool) → eqb p q ≡ x → cond x (eqb m k) false ≡ true → sameTree (skim s m p .tree) (skim s k q .tree) ≡ true
-    go true e h = rw (eqb-true p q e, eqb-true m k h) (holds-true (sameTree (skim s k q .tree) (skim s k q .tree)) (tree-refl (skim s k q .tree)))
+    go : (x : Bool) → eqb p q ≡ x → cond x (eqb m k) false ≡ true → sameTree (parseTree s m p .tree) (parseTree s k q .tree) ≡ true
+    go true e h = rw (eqb-true p q e, eqb-true m k h) (holds-true (sameTree (parseTree s k q .tree) (parseTree s k q .tree)) (tree-refl (parseTree s k q .tree)))
     go false e h = absurd (true≢false (sym h))
 
 -- a hole
@@ -202,29 +202,29 @@ module _ (s t : List ℕ) (k i at : ℕ) (b : Bind) (z : Sized b) where
 
   hole-follows : firstHole ≤ h₀ .code → j₀ < holeCount → Follows s t (suc k) i at b (matchAt s t (suc k) i at b)
   unfolding matchAt rootAt holeAt
-  hole-follows large below = go (eqb (getD (b .left) j₀ 0) 0) refl (sameTree (skim s (getD (b .left) j₀ 0) (getD (b .at) j₀ 0) .tree) (skim s (suc k) at .tree)) refl
+  hole-follows large below = go (eqb (getD (b .left) j₀ 0) 0) refl (sameTree (parseTree s (getD (b .left) j₀ 0) (getD (b .at) j₀ 0) .tree) (parseTree s (suc k) at .tree)) refl
     where
       parts : h₀ .parts ≡ 0
       parts = parts-of t i ∙ hole-leaf (h₀ .code) large
 
-      ended : h₀ .next ≡ skim t (suc k) i .end
-      ended = let n : suc k ≡ 0 → ⊥ = omega arith in rw (skim-step t (suc k) i n, parts)
+      ended : h₀ .next ≡ parseTree t (suc k) i .end
+      ended = let n : suc k ≡ 0 → ⊥ = omega arith in rw (parse-step t (suc k) i n, parts)
 
-      taken : matchT (skim t (suc k) i .tree) (skim s (suc k) at .tree) (takenOf s b) ≡ takeTree j₀ (skim s (suc k) at .tree) (takenOf s b) (takenOf s b .tree j₀)
-      taken = let n : suc k ≡ 0 → ⊥ = omega arith in rw (skim-step t (suc k) i n, match-node, le-leb firstHole (h₀ .code) large)
+      taken : matchT (parseTree t (suc k) i .tree) (parseTree s (suc k) at .tree) (takenOf s b) ≡ takeTree j₀ (parseTree s (suc k) at .tree) (takenOf s b) (takenOf s b .tree j₀)
+      taken = let n : suc k ≡ 0 → ⊥ = omega arith in rw (parse-step t (suc k) i n, match-node, le-leb firstHole (h₀ .code) large)
 
-      root : matchAt s t (suc k) i at b ≡ grown (λ i' at' b'. matchAt s t k i' at' b') (skim s (suc k) at .end) (holeAt s (h₀ .next) j₀ at (suc k) b)
+      root : matchAt s t (suc k) i at b ≡ grown (λ i' at' b'. matchAt s t k i' at' b') (parseTree s (suc k) at .end) (holeAt s (h₀ .next) j₀ at (suc k) b)
       root = let n : suc k ≡ 0 → ⊥ = omega arith in rw (ne-eqb (suc k) 0 n, le-ltb (h₀ .code) firstHole large, lt-ltb j₀ holeCount below)
 
       there : Bool
       there = isThere (getD (b .at) j₀ 0) (getD (b .left) j₀ 0) at (suc k)
 
       alike : Bool
-      alike = sameTree (skim s (getD (b .left) j₀ 0) (getD (b .at) j₀ 0) .tree) (skim s (suc k) at .tree)
+      alike = sameTree (parseTree s (getD (b .left) j₀ 0) (getD (b .at) j₀ 0) .tree) (parseTree s (suc k) at .tree)
 
-      held : (x : Bool) → alike ≡ true → grown (λ i' at' b'. matchAt s t k i' at' b') (skim s (suc k) at .end)
-          (cond x (opened (h₀ .next) b) (heldAt b (h₀ .next) (sameOf (skim s (getD (b .left) j₀ 0) (getD (b .at) j₀ 0)) (skim s (suc k) at))))
-          ≡ record { ok = true; tpl = h₀ .next; next = skim s (suc k) at .end; bind = b }
+      held : (x : Bool) → alike ≡ true → grown (λ i' at' b'. matchAt s t k i' at' b') (parseTree s (suc k) at .end)
+          (cond x (opened (h₀ .next) b) (heldAt b (h₀ .next) (sameOf (parseTree s (getD (b .left) j₀ 0) (getD (b .at) j₀ 0)) (parseTree s (suc k) at))))
+          ≡ record { ok = true; tpl = h₀ .next; next = parseTree s (suc k) at .end; bind = b }
       held true d = refl
       held false d = rw d
 
@@ -232,10 +232,10 @@ module _ (s t : List ℕ) (k i at : ℕ) (b : Bind) (z : Sized b) where
       elsewhere true y d = absurd (true≢false (sym (there-equal s (getD (b .at) j₀ 0) (getD (b .left) j₀ 0) at (suc k) y) ∙ d))
       elsewhere false y d = refl
 
-      go : (e : Bool) → eqb (getD (b .left) j₀ 0) 0 ≡ e → (q : Bool) → sameTree (skim s (getD (b .left) j₀ 0) (getD (b .at) j₀ 0) .tree) (skim s (suc k) at .tree) ≡ q
+      go : (e : Bool) → eqb (getD (b .left) j₀ 0) 0 ≡ e → (q : Bool) → sameTree (parseTree s (getD (b .left) j₀ 0) (getD (b .at) j₀ 0) .tree) (parseTree s (suc k) at .tree) ≡ q
           → Follows s t (suc k) i at b (matchAt s t (suc k) i at b)
       go true e q d =
-          let r : matchAt s t (suc k) i at b ≡ record { ok = true; tpl = h₀ .next; next = skim s (suc k) at .end; bind = record { at = set (b .at) j₀ at; left = set (b .left) j₀ (suc k); num = b .num } } = root ∙ (rw e) in
+          let r : matchAt s t (suc k) i at b ≡ record { ok = true; tpl = h₀ .next; next = parseTree s (suc k) at .end; bind = record { at = set (b .at) j₀ at; left = set (b .left) j₀ (suc k); num = b .num } } = root ∙ (rw e) in
           subst (Follows s t (suc k) i at b) (sym r) (record {
             same = taken ∙ (rw e (ap some (sym (tree-set s b z j₀ at (suc k) below (λ (y : suc k ≡ 0). omega arith)))));
             tpl = λ o. ended;
@@ -243,7 +243,7 @@ module _ (s t : List ℕ) (k i at : ℕ) (b : Bind) (z : Sized b) where
             sized = record { at = length-set (b .at) j₀ at ∙ z .at; left = length-set (b .left) j₀ (suc k) ∙ z .left; num = z .num };
           })
       go false e true d =
-          let r : matchAt s t (suc k) i at b ≡ record { ok = true; tpl = h₀ .next; next = skim s (suc k) at .end; bind = b } = root ∙ (rw e (held there d)) in
+          let r : matchAt s t (suc k) i at b ≡ record { ok = true; tpl = h₀ .next; next = parseTree s (suc k) at .end; bind = b } = root ∙ (rw e (held there d)) in
           subst (Follows s t (suc k) i at b) (sym r) (record {
             same = taken ∙ (rw (e, d));
             tpl = λ o. ended;
@@ -261,12 +261,12 @@ module _ (s t : List ℕ) (k i at : ℕ) (b : Bind) (z : Sized b) where
           })
 
 -- the parts of two nodes that are alike
-module _ (s t : List ℕ) (k : ℕ) (ih : (i at : ℕ) (b : Bind) → Sized b → T (proper (skim t k i .tree)) → Follows s t k i at b (matchAt s t k i at b)) where
-  abbrev first : List ℕ → Node → Skim
-  first l x = part (λ p. skim l k p) (ltb 0 (x .parts)) (x .next)
+module _ (s t : List ℕ) (k : ℕ) (ih : (i at : ℕ) (b : Bind) → Sized b → T (proper (parseTree t k i .tree)) → Follows s t k i at b (matchAt s t k i at b)) where
+  abbrev first : List ℕ → Node → ParsedTree
+  first l x = part (λ p. parseTree l k p) (ltb 0 (x .parts)) (x .next)
 
-  abbrev second : List ℕ → Node → Skim
-  second l x = part (λ p. skim l k p) (ltb 1 (x .parts)) (first l x .end)
+  abbrev second : List ℕ → Node → ParsedTree
+  second l x = part (λ p. parseTree l k p) (ltb 1 (x .parts)) (first l x .end)
 
   record PartsFollow (h x : Node) (b : Bind) (m : Match) : Type 0 where
     same : andThen (matchT (first t h .tree) (first s x .tree) (takenOf s b)) (λ b₂. matchT (second t h .tree) (second s x .tree) b₂) ≡ given s (m .ok) (m .bind)
@@ -302,7 +302,7 @@ module _ (s t : List ℕ) (k : ℕ) (ih : (i at : ℕ) (b : Bind) → Sized b �
     where
       two : (m : Match) → Follows s t k (h .next) (x .next) b m → subMatch (h .next) (x .next) b ≡ m → m .ok ≡ true → PartsFollow h x b (grown subMatch end (rooted h x b))
       two m f e o =
-          let pr : T (proper (skim t k (m .tpl) .tree)) = subst (λ (n : ℕ). T (proper (skim t k n .tree))) (sym (f .tpl o)) (rw eh at ps) in
+          let pr : T (proper (parseTree t k (m .tpl) .tree)) = subst (λ (n : ℕ). T (proper (parseTree t k n .tree))) (sym (f .tpl o)) (rw eh at ps) in
           let g : Follows s t k (m .tpl) (m .next) (m .bind) (subMatch (m .tpl) (m .next) (m .bind)) = ih (m .tpl) (m .next) (m .bind) (f .sized) pr in
           let q : grown subMatch end (rooted h x b) ≡ subMatch (m .tpl) (m .next) (m .bind) = rw (ex, e, o) in
           subst (PartsFollow h x b) (sym q) (record {
@@ -334,7 +334,7 @@ module _ (s t : List ℕ) (k : ℕ) (ih : (i at : ℕ) (b : Bind) → Sized b �
     x = nodeAt s at
 
     abbrev end : ℕ
-    end = skim s (suc k) at .end
+    end = parseTree s (suc k) at .end
 
     abbrev left-tpl : Tree
     left-tpl = first t h .tree
@@ -345,19 +345,19 @@ module _ (s t : List ℕ) (k : ℕ) (ih : (i at : ℕ) (b : Bind) → Sized b �
     not-zero : suc k ≡ 0 → ⊥
     not-zero e = omega arith
 
-    tpl-tree : skim t (suc k) i ≡ record { tree = node (h .code) (h .operand) left-tpl right-tpl; end = second t h .end }
-    unfolding skim
+    tpl-tree : parseTree t (suc k) i ≡ record { tree = node (h .code) (h .operand) left-tpl right-tpl; end = second t h .end }
+    unfolding parseTree
     tpl-tree = refl
 
-    its-tree : skim s (suc k) at ≡ record { tree = node (x .code) (x .operand) (first s x .tree) (second s x .tree); end = second s x .end }
-    unfolding skim
+    its-tree : parseTree s (suc k) at ≡ record { tree = node (x .code) (x .operand) (first s x .tree) (second s x .tree); end = second s x .end }
+    unfolding parseTree
     its-tree = refl
 
     abbrev operand-ok : Bool
     operand-ok = cond (hasOperand (h .code)) (cond (ltb (h .operand) firstNumber) (ltb (h .operand) holeCount) true) true
 
     -- on trees: the codes, the operands, the parts
-    by-tree : matchT (skim t (suc k) i .tree) (skim s (suc k) at .tree) (takenOf s b)
+    by-tree : matchT (parseTree t (suc k) i .tree) (parseTree s (suc k) at .tree) (takenOf s b)
         ≡ andThen (when (eqb (h .code) (x .code)) (takenOf s b)) (λ b₀. andThen (takeOperand (h .code) (h .operand) (x .operand) b₀) (λ b₁. andThen (matchT left-tpl (first s x .tree) b₁) (λ b₂. matchT right-tpl (second s x .tree) b₂)))
     by-tree = rw (tpl-tree, its-tree, match-node, lt-leb firstHole (h .code) low)
 
@@ -366,7 +366,7 @@ module _ (s t : List ℕ) (k : ℕ) (ih : (i at : ℕ) (b : Bind) → Sized b �
     unfolding matchAt rootAt
     by-place = rw (ne-eqb (suc k) 0 not-zero, lt-ltb (h .code) firstHole low)
 
-    refused-follows : matchT (skim t (suc k) i .tree) (skim s (suc k) at .tree) (takenOf s b) ≡ none → nodeOf h x b ≡ refused b → Follows s t (suc k) i at b (matchAt s t (suc k) i at b)
+    refused-follows : matchT (parseTree t (suc k) i .tree) (parseTree s (suc k) at .tree) (takenOf s b) ≡ none → nodeOf h x b ≡ refused b → Follows s t (suc k) i at b (matchAt s t (suc k) i at b)
     refused-follows e d =
         let q : matchAt s t (suc k) i at b ≡ record { ok = false; tpl = 0; next = 0; bind = b } = by-place ∙ (rw d) in
         subst (Follows s t (suc k) i at b) (sym q) (record {
@@ -378,7 +378,7 @@ module _ (s t : List ℕ) (k : ℕ) (ih : (i at : ℕ) (b : Bind) → Sized b �
 
     -- once the operands are taken
     goes-on : (b′ : Bind) → Sized b′ → h .code ≡ x .code → T (proper left-tpl) → T (proper right-tpl) → nodeOf h x b ≡ rooted h x b′
-        → matchT (skim t (suc k) i .tree) (skim s (suc k) at .tree) (takenOf s b) ≡ andThen (matchT left-tpl (first s x .tree) (takenOf s b′)) (λ b₂. matchT right-tpl (second s x .tree) b₂)
+        → matchT (parseTree t (suc k) i .tree) (parseTree s (suc k) at .tree) (takenOf s b) ≡ andThen (matchT left-tpl (first s x .tree) (takenOf s b′)) (λ b₂. matchT right-tpl (second s x .tree) b₂)
         → Follows s t (suc k) i at b (matchAt s t (suc k) i at b)
     goes-on b′ z′ c pl pr d e =
         let hp : h .parts ≡ x .parts = parts-of t i ∙ ap partCount c ∙ sym (parts-of s at) in
@@ -386,18 +386,18 @@ module _ (s t : List ℕ) (k : ℕ) (ih : (i at : ℕ) (b : Bind) → Sized b �
         let q : matchAt s t (suc k) i at b ≡ grown subMatch end (rooted h x b′) = by-place ∙ (rw d) in
         subst (Follows s t (suc k) i at b) (sym q) (record {
           same = e ∙ f .same;
-          tpl = λ o. f .tpl o ∙ ap (λ (u : Skim). u .end) (sym tpl-tree);
-          next = λ o. f .next o ∙ ap (λ (u : Skim). u .end) (sym its-tree);
+          tpl = λ o. f .tpl o ∙ ap (λ (u : ParsedTree). u .end) (sym tpl-tree);
+          next = λ o. f .next o ∙ ap (λ (u : ParsedTree). u .end) (sym its-tree);
           sized = f .sized;
         })
 
-    node-follows : T (proper (skim t (suc k) i .tree)) → Follows s t (suc k) i at b (matchAt s t (suc k) i at b)
+    node-follows : T (proper (parseTree t (suc k) i .tree)) → Follows s t (suc k) i at b (matchAt s t (suc k) i at b)
     unfolding nodeOf
     node-follows pr = codes (eqb (h .code) (x .code)) refl
       where
         fine : T (operand-ok && (proper left-tpl && proper right-tpl))
         fine =
-            let g : T (proper (node (h .code) (h .operand) left-tpl right-tpl)) = subst (λ (u : Skim). T (proper (u .tree))) tpl-tree pr in
+            let g : T (proper (node (h .code) (h .operand) left-tpl right-tpl)) = subst (λ (u : ParsedTree). T (proper (u .tree))) tpl-tree pr in
             rw (proper-node, lt-ltb (h .code) firstHole low) at g
 
         operand-fine : T operand-ok
@@ -408,9 +408,6 @@ module _ (s t : List ℕ) (k : ℕ) (ih : (i at : ℕ) (b : Bind) → Sized b �
 
         right-fine : T (proper right-tpl)
         right-fine = and-right (proper left-tpl) (proper right-tpl) (and-right operand-ok (proper left-tpl && proper right-tpl) fine)
-
-        after : (b₀ : Trees.Taken) → Option Trees.Taken
-        after b₀ = andThen (matchT left-tpl (first s x .tree) b₀) (λ b₂. matchT right-tpl (second s x .tree) b₂)
 
         with-operand : (c : eqb (h .code) (x .code) ≡ true) → hasOperand (h .code) ≡ true → (o : Bool) → operandOf (h .operand) (x .operand) b .ok ≡ o → Follows s t (suc k) i at b (matchAt s t (suc k) i at b)
         with-operand c p o e =
@@ -439,19 +436,19 @@ module _ (s t : List ℕ) (k : ℕ) (ih : (i at : ℕ) (b : Bind) → Sized b �
         codes false c = refused-follows (by-tree ∙ (rw c)) (rw c)
 
 -- THE MATCHER BY POSITIONS IS THE MATCHER ON TREES
-pub match-follows : (s t : List ℕ) (k i at : ℕ) (b : Bind) → Sized b → T (proper (skim t k i .tree)) → Follows s t k i at b (matchAt s t k i at b)
+pub match-follows : (s t : List ℕ) (k i at : ℕ) (b : Bind) → Sized b → T (proper (parseTree t k i .tree)) → Follows s t k i at b (matchAt s t k i at b)
 unfolding matchAt
 match-follows s t zero i at b z pr = record {
-  same = rw (skim-zero t 0 i refl, skim-zero s 0 at refl) (match-none (takenOf s b));
-  tpl = λ o. sym (ap (λ (u : Skim). u .end) (skim-zero t 0 i refl));
-  next = λ o. sym (ap (λ (u : Skim). u .end) (skim-zero s 0 at refl));
+  same = rw (parse-zero t 0 i refl, parse-zero s 0 at refl) (match-none (takenOf s b));
+  tpl = λ o. sym (ap (λ (u : ParsedTree). u .end) (parse-zero t 0 i refl));
+  next = λ o. sym (ap (λ (u : ParsedTree). u .end) (parse-zero s 0 at refl));
   sized = z;
 }
 match-follows s t (suc k) i at b z pr = go (ltb (nodeAt t i .code) firstHole) refl (λ i at b z pr. match-follows s t k i at b z pr)
   where
-    go : (c : Bool) → ltb (nodeAt t i .code) firstHole ≡ c → ((i at : ℕ) (b : Bind) → Sized b → T (proper (skim t k i .tree)) → Follows s t k i at b (matchAt s t k i at b))
+    go : (c : Bool) → ltb (nodeAt t i .code) firstHole ≡ c → ((i at : ℕ) (b : Bind) → Sized b → T (proper (parseTree t k i .tree)) → Follows s t k i at b (matchAt s t k i at b))
         → Follows s t (suc k) i at b (matchAt s t (suc k) i at b)
     go true c ih = node-follows s t k ih i at b z (ltb-true (nodeAt t i .code) firstHole c) pr
     go false c ih =
         let n : suc k ≡ 0 → ⊥ = omega arith in
-        hole-follows s t k i at b z (ltb-false (nodeAt t i .code) firstHole c) (ltb→lt (nodeAt t i .code - firstHole) holeCount (rw (skim-step t (suc k) i n, proper-node, c) at pr))
+        hole-follows s t k i at b z (ltb-false (nodeAt t i .code) firstHole c) (ltb→lt (nodeAt t i .code - firstHole) holeCount (rw (parse-step t (suc k) i n, proper-node, c) at pr))

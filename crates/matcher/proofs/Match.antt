@@ -12,7 +12,7 @@ use Rattle.compare.specs.Same.{sameTree}
 use Rattle.matcher.specs.Template.{firstHole, firstNumber, Holes, operandT, instT}
 use Rattle.matcher.specs.Match.{Taken, andThen, when, takeTree, takeNum, takeOperand, isNode, matchT}
 use Rattle.formula.specs.Codes.{hasOperand}
-use Rattle.trees.proofs.Raw.{tree-eq, tree-refl}
+use Rattle.trees.proofs.ToTree.{tree-eq, tree-refl}
 
 -- the filling has what was taken
 pub record Has (c : Holes) (b : Taken) : Type 0 where

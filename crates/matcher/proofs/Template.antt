@@ -11,9 +11,9 @@ use Rattle.logic.specs.Formula.{Sort, Formula}
 use Rattle.patterns.specs.Pattern.{Num, Pattern, Given, t, x, r, u, y, anyA, anyI, anyE, anyV, f, const, reg, word, equal, and, unsync, cov, box, one, chop, both, either, sees, bothA, eitherA, start, holds, number, inst}
 use Rattle.formula.specs.Codes.{hasOperand}
 use Rattle.formula.specs.Tree.{Tree, node}
-use Rattle.trees.specs.Raw.{raw, shaped}
-use Rattle.trees.proofs.Raw.{shaped-raw}
-use Rattle.matcher.specs.Template.{firstHole, firstNumber, formulaHole, numHole, hole, rawP, Holes, operandT, instT, fillOf}
+use Rattle.trees.specs.ToTree.{toTree, ofTree}
+use Rattle.trees.proofs.ToTree.{ofTree-toTree}
+use Rattle.matcher.specs.Template.{firstHole, firstNumber, formulaHole, numHole, hole, patternToTree, Holes, operandT, instT, fillOf}
 
 -- what stands in a hole
 hole-at : (c : Holes) (k : ℕ) → instT c (hole k) ≡ c .tree k
@@ -37,41 +37,41 @@ pub record Agrees (g : Given) (c : Holes) : Type 0 where
   pub t : c .num (numHole t) ≡ g .t
   pub x : c .num (numHole x) ≡ g .x
   pub r : c .num (numHole r) ≡ g .r
-  pub f : shaped Sort.value (c .tree formulaHole) ≡ g .f
+  pub f : ofTree Sort.value (c .tree formulaHole) ≡ g .f
 
 module _ (g : Given) (c : Holes) (ag : Agrees g c) where
-  op-shaped : (n : Num) → _≡_ {A = ℕ} (elim (ltb (numHole n) firstNumber) [ true ↦ c .num (numHole n) | false ↦ numHole n - firstNumber ]) (number g (fillOf c) n)
-  op-shaped t = ag .t
-  op-shaped x = ag .x
-  op-shaped r = ag .r
-  op-shaped u = refl
-  op-shaped y = refl
+  op-ofTree : (n : Num) → _≡_ {A = ℕ} (elim (ltb (numHole n) firstNumber) [ true ↦ c .num (numHole n) | false ↦ numHole n - firstNumber ]) (number g (fillOf c) n)
+  op-ofTree t = ag .t
+  op-ofTree x = ag .x
+  op-ofTree r = ag .r
+  op-ofTree u = refl
+  op-ofTree y = refl
 
-  pub shaped-inst : {s : Sort} (p : Pattern s) → shaped s (instT c (rawP p)) ≡ inst g (fillOf c) p
+  pub ofTree-inst : {s : Sort} (p : Pattern s) → ofTree s (instT c (patternToTree p)) ≡ inst g (fillOf c) p
   unfolding hasOperand
-  shaped-inst (anyA k) = ap (shaped Sort.assertion) (hole-at c k)
-  shaped-inst (anyI k) = ap (shaped Sort.interval) (hole-at c k)
-  shaped-inst (anyE k) = ap (shaped Sort.test) (hole-at c k)
-  shaped-inst (anyV k) = ap (shaped Sort.value) (hole-at c k)
-  shaped-inst f = ag .f
-  shaped-inst (const n) = ap Formula.const (literal c n)
-  shaped-inst (reg n) = ap Formula.reg (op-shaped n)
-  shaped-inst (word n) = ap Formula.word (op-shaped n)
-  shaped-inst (unsync n) = ap Formula.unsync (op-shaped n)
-  shaped-inst (cov n) = ap Formula.cov (op-shaped n)
-  shaped-inst (one n) = ap Formula.one (op-shaped n)
-  shaped-inst (equal p q) = ap₂ Formula.equal (shaped-inst p) (shaped-inst q)
-  shaped-inst (and p q) = ap₂ Formula.and (shaped-inst p) (shaped-inst q)
-  shaped-inst (chop p q) = ap₂ Formula.chop (shaped-inst p) (shaped-inst q)
-  shaped-inst (both p q) = ap₂ Formula.both (shaped-inst p) (shaped-inst q)
-  shaped-inst (either p q) = ap₂ Formula.either (shaped-inst p) (shaped-inst q)
-  shaped-inst (bothA p q) = ap₂ Formula.bothA (shaped-inst p) (shaped-inst q)
-  shaped-inst (eitherA p q) = ap₂ Formula.eitherA (shaped-inst p) (shaped-inst q)
-  shaped-inst (box p) = ap Formula.box (shaped-inst p)
-  shaped-inst (holds p) = ap Formula.holds (shaped-inst p)
-  shaped-inst (sees n p) = ap₂ Formula.sees (op-shaped n) (shaped-inst p)
-  shaped-inst start = refl
+  ofTree-inst (anyA k) = ap (ofTree Sort.assertion) (hole-at c k)
+  ofTree-inst (anyI k) = ap (ofTree Sort.interval) (hole-at c k)
+  ofTree-inst (anyE k) = ap (ofTree Sort.test) (hole-at c k)
+  ofTree-inst (anyV k) = ap (ofTree Sort.value) (hole-at c k)
+  ofTree-inst f = ag .f
+  ofTree-inst (const n) = ap Formula.const (literal c n)
+  ofTree-inst (reg n) = ap Formula.reg (op-ofTree n)
+  ofTree-inst (word n) = ap Formula.word (op-ofTree n)
+  ofTree-inst (unsync n) = ap Formula.unsync (op-ofTree n)
+  ofTree-inst (cov n) = ap Formula.cov (op-ofTree n)
+  ofTree-inst (one n) = ap Formula.one (op-ofTree n)
+  ofTree-inst (equal p q) = ap₂ Formula.equal (ofTree-inst p) (ofTree-inst q)
+  ofTree-inst (and p q) = ap₂ Formula.and (ofTree-inst p) (ofTree-inst q)
+  ofTree-inst (chop p q) = ap₂ Formula.chop (ofTree-inst p) (ofTree-inst q)
+  ofTree-inst (both p q) = ap₂ Formula.both (ofTree-inst p) (ofTree-inst q)
+  ofTree-inst (either p q) = ap₂ Formula.either (ofTree-inst p) (ofTree-inst q)
+  ofTree-inst (bothA p q) = ap₂ Formula.bothA (ofTree-inst p) (ofTree-inst q)
+  ofTree-inst (eitherA p q) = ap₂ Formula.eitherA (ofTree-inst p) (ofTree-inst q)
+  ofTree-inst (box p) = ap Formula.box (ofTree-inst p)
+  ofTree-inst (holds p) = ap Formula.holds (ofTree-inst p)
+  ofTree-inst (sees n p) = ap₂ Formula.sees (op-ofTree n) (ofTree-inst p)
+  ofTree-inst start = refl
 
   -- a formula whose tree is the template filled is the pattern filled
-  pub from-tree : {s : Sort} (p : Pattern s) (a : Formula s) → instT c (rawP p) ≡ raw a → inst g (fillOf c) p ≡ a
-  from-tree {s} p a e = sym (shaped-inst p) ∙ ap (shaped s) e ∙ shaped-raw a
+  pub from-tree : {s : Sort} (p : Pattern s) (a : Formula s) → instT c (patternToTree p) ≡ toTree a → inst g (fillOf c) p ≡ a
+  from-tree {s} p a e = sym (ofTree-inst p) ∙ ap (ofTree s) e ∙ ofTree-toTree a

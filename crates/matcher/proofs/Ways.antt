@@ -9,7 +9,7 @@ use lib.Dec.{eqb, ltb}
 use lib.ListN.{getD, set}
 use borrow.Author.Tests.{lt-ltb, le-ltb, eq-eqb, ne-eqb}
 use Rattle.formula.specs.Codes.{among, onePart, twoParts, hasOperand, partCount}
-use Rattle.formula.specs.Tree.{nodeAt, skim}
+use Rattle.formula.specs.Tree.{nodeAt, parseTree}
 use Rattle.formula.specs.declared.node.Node.{Node}
 use Rattle.formula.proofs.Nodes.{parts-of}
 use Rattle.compare.specs.Same.{sameOf}
@@ -40,7 +40,7 @@ module _ (s : List ℕ) (tpl j at k : ℕ) (b : Bind) where
     unfolding holeAt
     hole-same h = rw (ne-eqb _ _ z, ← d, h)
 
-    module _ (r : Same) (h : o ≡ false) (e : r ≡ sameOf (skim s (getD (b .left) j 0) (getD (b .at) j 0)) (skim s k at)) where
+    module _ (r : Same) (h : o ≡ false) (e : r ≡ sameOf (parseTree s (getD (b .left) j 0) (getD (b .at) j 0)) (parseTree s k at)) where
       pub hole-no : r ≡ No → refused b ≡ holeAt s tpl j at k b
       unfolding holeAt
       hole-no c = rw (ne-eqb _ _ z, ← d, h, ← e, c)
@@ -105,7 +105,7 @@ module _ (s t : List ℕ) (i at k : ℕ) (b : Bind) where
 
 pub ruleset roots = (root-zero, root-node, root-hole, root-bad, part-small)
 
-pub match-step : (s t : List ℕ) (k i at : ℕ) (b : Bind) → matchAt s t k i at b ≡ grown (λ i' at' b'. matchAt s t (k - 1) i' at' b') (skim s k at .end) (rootAt s t i at k b)
+pub match-step : (s t : List ℕ) (k i at : ℕ) (b : Bind) → matchAt s t k i at b ≡ grown (λ i' at' b'. matchAt s t (k - 1) i' at' b') (parseTree s k at .end) (rootAt s t i at k b)
 unfolding matchAt rootAt
 match-step s t zero i at b = refl
 match-step s t (suc k) i at b = rw (sub-one (suc k))
@@ -137,7 +137,7 @@ module _ (s t : List ℕ) (i at k : ℕ) (b : Bind) (r : Root) (e : r ≡ rootAt
       match-two m₂ o d = rw (match-step, ← e, ne-eqb _ _ n₂, eq-eqb _ _ q, ← em, o) d
 
     module _ (n₃ : r .kind ≡ 3 → ⊥) where
-      pub match-open : (next : ℕ) → r .kind ≡ 4 → next ≡ skim s k at .end → record { ok = true; tpl = r .tpl; next = next; bind = r .bind } ≡ matchAt s t k i at b
+      pub match-open : (next : ℕ) → r .kind ≡ 4 → next ≡ parseTree s k at .end → record { ok = true; tpl = r .tpl; next = next; bind = r .bind } ≡ matchAt s t k i at b
       match-open next q d = rw (match-step, ← e, ne-eqb _ _ n₂, ne-eqb _ _ n₃, eq-eqb _ _ q, ← d)
 
       pub match-root : (r .kind ≡ 4 → ⊥) → record { ok = ltb 0 (r .kind); tpl = r .tpl; next = r .next; bind = r .bind } ≡ matchAt s t k i at b

@@ -5,7 +5,7 @@ use mathlib.Core.List.{List}
 use mathlib.Core.Bool.{Bool, true, false}
 use lib.Dec.{eqb, ltb}
 use borrow.Author.Tests.{eqb-true, eqb-false}
-use Rattle.formula.specs.Tree.{skim}
+use Rattle.formula.specs.Tree.{parseTree}
 use Rattle.matcher.specs.Places.{rootAt, matchAt, wholeOf, wholeAt}
 use Rattle.matcher.specs.declared.bind.Bind.{Bind}
 use Rattle.matcher.specs.declared.bind.Root.{Root}
@@ -33,7 +33,7 @@ module _ (s t : List ℕ) (i at k : ℕ) (b : Bind) (r : Root) (e : r ≡ rootAt
     whole-root n₃ = go (eqb (r .kind) 4) refl
       where
         go : (x : Bool) → eqb (r .kind) 4 ≡ x → record { ok = ltb 0 (r .kind); tpl = r .tpl; bind = r .bind } ≡ wholeOf (matchAt s t k i at b)
-        go true d = let q : r .kind ≡ 4 = eqb-true (r .kind) 4 d in (rw q) ∙ ap wholeOf (match-open s t i at k b r e n₂ n₃ (skim s k at .end) q refl)
+        go true d = let q : r .kind ≡ 4 = eqb-true (r .kind) 4 d in (rw q) ∙ ap wholeOf (match-open s t i at k b r e n₂ n₃ (parseTree s k at .end) q refl)
         go false d = ap wholeOf (match-root s t i at k b r e n₂ n₃ (eqb-false (r .kind) 4 d))
 
 pub ruleset wholes = (whole-one, whole-first-no, whole-two, whole-root, parting)

@@ -6,7 +6,7 @@ use mathlib.Core.Option.{none, some}
 use lib.ListN.{getD, set}
 use lib.Dec.{ltb, eqb}
 use Rattle.formula.specs.Codes.{hasOperand}
-use Rattle.formula.specs.Tree.{Tree, skim, nodeAt}
+use Rattle.formula.specs.Tree.{Tree, parseTree, nodeAt}
 use Rattle.formula.specs.declared.node.Node.{Node}
 use Rattle.compare.specs.Same.{sameOf}
 use Rattle.compare.specs.declared.same.Same.{Same}
@@ -43,7 +43,7 @@ holeAt s tpl j at k b =
     cond (eqb (getD (b .left) j 0) 0)
     (opened tpl (record { at = set (b .at) j at; left = set (b .left) j k; num = b .num }))
     (cond (isThere (getD (b .at) j 0) (getD (b .left) j 0) at k) (opened tpl b)
-    (heldAt b tpl (sameOf (skim s (getD (b .left) j 0) (getD (b .at) j 0)) (skim s k at))))
+    (heldAt b tpl (sameOf (parseTree s (getD (b .left) j 0) (getD (b .at) j 0)) (parseTree s k at))))
 
 unfoldable pub operandOf : ℕ → ℕ → Bind → Taken
 operandOf want has b =
@@ -85,7 +85,7 @@ grown f end r =
 
 unfoldable pub matchAt : List ℕ → List ℕ → ℕ → ℕ → ℕ → Bind → Match
 matchAt s t zero i at b = record { ok = true; tpl = i; next = at; bind = b }
-matchAt s t (suc k) i at b = grown (λ i' at' b'. matchAt s t k i' at' b') (skim s (suc k) at .end) (rootAt s t i at (suc k) b)
+matchAt s t (suc k) i at b = grown (λ i' at' b'. matchAt s t k i' at' b') (parseTree s (suc k) at .end) (rootAt s t i at (suc k) b)
 
 -- all but the formula's end
 abbrev pub wholeOf : Match → Whole
@@ -101,7 +101,7 @@ thenWhole m f = cond (m .ok) (f m) m
 abbrev pub takenOf : List ℕ → Bind → Match.Taken
 takenOf s b = record {
   num = λ j. cond (eqb (getD (b .num) j 0) 0) none (some (getD (b .num) j 0 - 1));
-  tree = λ j. cond (eqb (getD (b .left) j 0) 0) none (some (skim s (getD (b .left) j 0) (getD (b .at) j 0) .tree));
+  tree = λ j. cond (eqb (getD (b .left) j 0) 0) none (some (parseTree s (getD (b .left) j 0) (getD (b .at) j 0) .tree));
 }
 
 -- a template whose holes are among those that there are

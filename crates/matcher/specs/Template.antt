@@ -12,7 +12,7 @@ use Rattle.logic.specs.Rule.{Rule}
 use Rattle.patterns.specs.Rules.{Shape, Shape.inside, Shape.implies, Shape.triple, Premises, these, implications, row}
 use Rattle.formula.specs.Codes.{hasOperand}
 use Rattle.formula.specs.Tree.{Tree, none, node}
-use Rattle.trees.specs.Raw.{shaped}
+use Rattle.trees.specs.ToTree.{ofTree}
 
 -- holes for formulas begin here; the hole for the instruction's formula
 abbrev pub firstHole : ℕ
@@ -35,29 +35,29 @@ numHole y = 4
 abbrev pub hole : ℕ → Tree
 hole k = node (firstHole + k) 0 none none
 
-abbrev pub rawP : {s : Sort} → Pattern s → Tree
-rawP (anyA k) = hole k
-rawP (anyI k) = hole k
-rawP (anyE k) = hole k
-rawP (anyV k) = hole k
-rawP f = hole formulaHole
-rawP (const n) = node (byte Code.const) (firstNumber + n) none none
-rawP (reg n) = node (byte Code.reg) (numHole n) none none
-rawP (word n) = node (byte Code.word) (numHole n) none none
-rawP (unsync n) = node (byte Code.unsync) (numHole n) none none
-rawP (cov n) = node (byte Code.cov) (numHole n) none none
-rawP (one n) = node (byte Code.one) (numHole n) none none
-rawP (equal p q) = node (byte Code.equal) 0 (rawP p) (rawP q)
-rawP (and p q) = node (byte Code.and) 0 (rawP p) (rawP q)
-rawP (chop p q) = node (byte Code.chop) 0 (rawP p) (rawP q)
-rawP (both p q) = node (byte Code.both) 0 (rawP p) (rawP q)
-rawP (either p q) = node (byte Code.either) 0 (rawP p) (rawP q)
-rawP (bothA p q) = node (byte Code.bothA) 0 (rawP p) (rawP q)
-rawP (eitherA p q) = node (byte Code.eitherA) 0 (rawP p) (rawP q)
-rawP (box p) = node (byte Code.box) 0 (rawP p) none
-rawP (holds p) = node (byte Code.holds) 0 (rawP p) none
-rawP (sees n p) = node (byte Code.sees) (numHole n) (rawP p) none
-rawP start = node (byte Code.start) 0 none none
+abbrev pub patternToTree : {s : Sort} → Pattern s → Tree
+patternToTree (anyA k) = hole k
+patternToTree (anyI k) = hole k
+patternToTree (anyE k) = hole k
+patternToTree (anyV k) = hole k
+patternToTree f = hole formulaHole
+patternToTree (const n) = node (byte Code.const) (firstNumber + n) none none
+patternToTree (reg n) = node (byte Code.reg) (numHole n) none none
+patternToTree (word n) = node (byte Code.word) (numHole n) none none
+patternToTree (unsync n) = node (byte Code.unsync) (numHole n) none none
+patternToTree (cov n) = node (byte Code.cov) (numHole n) none none
+patternToTree (one n) = node (byte Code.one) (numHole n) none none
+patternToTree (equal p q) = node (byte Code.equal) 0 (patternToTree p) (patternToTree q)
+patternToTree (and p q) = node (byte Code.and) 0 (patternToTree p) (patternToTree q)
+patternToTree (chop p q) = node (byte Code.chop) 0 (patternToTree p) (patternToTree q)
+patternToTree (both p q) = node (byte Code.both) 0 (patternToTree p) (patternToTree q)
+patternToTree (either p q) = node (byte Code.either) 0 (patternToTree p) (patternToTree q)
+patternToTree (bothA p q) = node (byte Code.bothA) 0 (patternToTree p) (patternToTree q)
+patternToTree (eitherA p q) = node (byte Code.eitherA) 0 (patternToTree p) (patternToTree q)
+patternToTree (box p) = node (byte Code.box) 0 (patternToTree p) none
+patternToTree (holds p) = node (byte Code.holds) 0 (patternToTree p) none
+patternToTree (sees n p) = node (byte Code.sees) (numHole n) (patternToTree p) none
+patternToTree start = node (byte Code.start) 0 none none
 
 -- the bytes of a pattern, before the bytes l: what stands in the code's table
 abbrev pub encodeP : {s : Sort} → Pattern s → List ℕ → List ℕ
@@ -120,8 +120,8 @@ abbrev pub fillOf : Holes → Fill
 fillOf c = record {
   u = c .num (numHole u);
   y = c .num (numHole y);
-  assertion = λ k. shaped Sort.assertion (c .tree k);
-  interval = λ k. shaped Sort.interval (c .tree k);
-  test = λ k. shaped Sort.test (c .tree k);
-  value = λ k. shaped Sort.value (c .tree k);
+  assertion = λ k. ofTree Sort.assertion (c .tree k);
+  interval = λ k. ofTree Sort.interval (c .tree k);
+  test = λ k. ofTree Sort.test (c .tree k);
+  value = λ k. ofTree Sort.value (c .tree k);
 }

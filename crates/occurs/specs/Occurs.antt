@@ -6,8 +6,8 @@ use lib.ListN.{getD}
 use lib.Dec.{eqb}
 use Rattle.logic.specs.Code
 use Rattle.formula.specs.Codes.{member, setOf}
-use Rattle.formula.specs.Tree.{Tree, none, node, Skim}
-use Rattle.occurs.specs.declared.find.Sought.{Sought}
+use Rattle.formula.specs.Tree.{Tree, none, node, ParsedTree}
+use Rattle.occurs.specs.declared.find.Query.{Query}
 use Rattle.occurs.specs.declared.find.Found.{Found}
 use Rattle.occurs.specs.declared.find.Found.the-variants.{Yes, No}
 
@@ -25,38 +25,38 @@ equal = 1
 abbrev pub notOwned : ℕ
 notOwned = 2
 
-unfoldable pub isSought : Sought → List ℕ → ℕ → ℕ → Bool
-isSought w owners c o =
+unfoldable pub isQueried : Query → List ℕ → ℕ → ℕ → Bool
+isQueried w owners c o =
     cond (member (w .codes) c)
     (cond (eqb (w .operand) any) true (cond (eqb (w .operand) equal) (eqb o (w .number)) (not (eqb (ownerOf owners o) (w .number)))))
     false
 
-unfoldable pub occurs : Sought → List ℕ → Tree → Bool
+unfoldable pub occurs : Query → List ℕ → Tree → Bool
 occurs w owners none = false
-occurs w owners (node c o l r) = cond (isSought w owners c o) true (cond (occurs w owners l) true (occurs w owners r))
+occurs w owners (node c o l r) = cond (isQueried w owners c o) true (cond (occurs w owners l) true (occurs w owners r))
 
-abbrev pub foundIn : Sought → List ℕ → Skim → Found
+abbrev pub foundIn : Query → List ℕ → ParsedTree → Found
 foundIn w owners u = cond (occurs w owners (u .tree)) Yes (No (u .end))
 
 -- the register r
-abbrev pub register : ℕ → Sought
+abbrev pub register : ℕ → Query
 register r = record { codes = setOf (Code.reg ∷ []); operand = equal; number = r }
 
 -- the word x in any role
-abbrev pub wordAnyRole : ℕ → Sought
+abbrev pub wordAnyRole : ℕ → Query
 wordAnyRole x = record { codes = setOf (Code.word ∷ Code.unsync ∷ Code.cov ∷ Code.one ∷ []); operand = equal; number = x }
 
 -- a flag of x
-abbrev pub flag : ℕ → Sought
+abbrev pub flag : ℕ → Query
 flag x = record { codes = setOf (Code.unsync ∷ Code.cov ∷ []); operand = equal; number = x }
 
-abbrev pub start : Sought
+abbrev pub start : Query
 start = record { codes = setOf (Code.start ∷ []); operand = any; number = 0 }
 
 -- a word in any role
-abbrev pub shared : Sought
+abbrev pub shared : Query
 shared = record { codes = setOf (Code.word ∷ Code.unsync ∷ Code.cov ∷ Code.one ∷ []); operand = any; number = 0 }
 
 -- a register that the thread t does not own
-abbrev pub foreign : ℕ → Sought
+abbrev pub foreign : ℕ → Query
 foreign t = record { codes = setOf (Code.reg ∷ []); operand = notOwned; number = t }

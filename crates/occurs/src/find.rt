@@ -3,12 +3,12 @@ use formula::code::contains;
 use formula::node::node_at;
 use limits::read::octet_at;
 ghost use mathlib.Core.Path.{_≡_};
-ghost use Rattle.formula.specs.Tree.{skim};
-ghost use Rattle.occurs.specs.Occurs.{ownerOf, isSought, foundIn, occurs};
+ghost use Rattle.formula.specs.Tree.{parseTree};
+ghost use Rattle.occurs.specs.Occurs.{ownerOf, isQueried, foundIn, occurs};
 
 // What is looked for: nodes of some codes, whose operand is anything, is a number, or is a register that a thread of
 // that number does not own.
-pub struct Sought {
+pub struct Query {
     pub codes: u32,
     pub operand: u8,
     pub number: u8,
@@ -40,8 +40,8 @@ pub fn owner(owners: &[u8], register: u8) -> u8
     octet_at(owners, (register - 1) as usize)
 }
 
-pub fn is_sought(w: Sought, owners: &[u8], code: u8, operand: u8) -> bool
-    ensures { λ r. ⌜ r ≡ isSought w (now (owners .entry)) code operand ⌝ }
+pub fn is_queried(w: Query, owners: &[u8], code: u8, operand: u8) -> bool
+    ensures { λ r. ⌜ r ≡ isQueried w (now (owners .entry)) code operand ⌝ }
 {
     if contains(w.codes, code) {
         if w.operand == Operand::ANY {
@@ -55,14 +55,14 @@ pub fn is_sought(w: Sought, owners: &[u8], code: u8, operand: u8) -> bool
     false
 }
 
-pub fn find_at(s: &[u8], at: usize, left: usize, w: Sought, owners: &[u8]) -> Found
-    ensures { λ r. ⌜ r ≡ foundIn w (now (owners .entry)) (skim (now (s .entry)) left at) ⌝ }
+pub fn find_at(s: &[u8], at: usize, left: usize, w: Query, owners: &[u8]) -> Found
+    ensures { λ r. ⌜ r ≡ foundIn w (now (owners .entry)) (parseTree (now (s .entry)) left at) ⌝ }
 {
     if left == 0 {
         return Found::No(at);
     }
     let x = node_at(s, at);
-    if is_sought(w, owners, x.code, x.operand) {
+    if is_queried(w, owners, x.code, x.operand) {
         return Found::Yes;
     }
     if x.parts == 0 {
@@ -79,8 +79,8 @@ pub fn find_at(s: &[u8], at: usize, left: usize, w: Sought, owners: &[u8]) -> Fo
     }
 }
 
-pub fn occurs_at(s: &[u8], at: usize, left: usize, w: Sought, owners: &[u8]) -> bool
-    ensures { λ r. ⌜ r ≡ occurs w (now (owners .entry)) (skim (now (s .entry)) left at .tree) ⌝ }
+pub fn occurs_at(s: &[u8], at: usize, left: usize, w: Query, owners: &[u8]) -> bool
+    ensures { λ r. ⌜ r ≡ occurs w (now (owners .entry)) (parseTree (now (s .entry)) left at .tree) ⌝ }
 {
     match find_at(s, at, left, w, owners) {
         Found::Yes => true,

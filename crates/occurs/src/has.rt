@@ -1,11 +1,11 @@
 // What is asked of formulas: which names, and in which roles, and `start`.
 use crate::find::Operand;
-use crate::find::Sought;
+use crate::find::Query;
 use crate::find::occurs_at;
 use formula::code::Code;
 ghost use mathlib.Core.Path.{_≡_};
 ghost use mathlib.Core.List.{[]};
-ghost use Rattle.formula.specs.Tree.{skim};
+ghost use Rattle.formula.specs.Tree.{parseTree};
 ghost use Rattle.occurs.specs.Occurs.{occurs, register, wordAnyRole, flag, start, shared, foreign};
 
 // The codes whose operand is a word: each is a role that a word may have.
@@ -19,9 +19,9 @@ impl Roles {
 }
 
 pub fn has_register(s: &[u8], at: usize, left: usize, number: u8) -> bool
-    ensures { λ r. ⌜ r ≡ occurs (register number) [] (skim (now (s .entry)) left at .tree) ⌝ }
+    ensures { λ r. ⌜ r ≡ occurs (register number) [] (parseTree (now (s .entry)) left at .tree) ⌝ }
 {
-    let w = Sought {
+    let w = Query {
         codes: 1 << Code::REG,
         operand: Operand::EQUAL,
         number,
@@ -31,9 +31,9 @@ pub fn has_register(s: &[u8], at: usize, left: usize, number: u8) -> bool
 
 // A word in any role.
 pub fn has_word(s: &[u8], at: usize, left: usize, number: u8) -> bool
-    ensures { λ r. ⌜ r ≡ occurs (wordAnyRole number) [] (skim (now (s .entry)) left at .tree) ⌝ }
+    ensures { λ r. ⌜ r ≡ occurs (wordAnyRole number) [] (parseTree (now (s .entry)) left at .tree) ⌝ }
 {
-    let w = Sought {
+    let w = Query {
         codes: Roles::WORD,
         operand: Operand::EQUAL,
         number,
@@ -43,9 +43,9 @@ pub fn has_word(s: &[u8], at: usize, left: usize, number: u8) -> bool
 
 // A flag of a word.
 pub fn has_flag(s: &[u8], at: usize, left: usize, number: u8) -> bool
-    ensures { λ r. ⌜ r ≡ occurs (flag number) [] (skim (now (s .entry)) left at .tree) ⌝ }
+    ensures { λ r. ⌜ r ≡ occurs (flag number) [] (parseTree (now (s .entry)) left at .tree) ⌝ }
 {
-    let w = Sought {
+    let w = Query {
         codes: (1 << Code::UNSYNC) + (1 << Code::COV),
         operand: Operand::EQUAL,
         number,
@@ -54,9 +54,9 @@ pub fn has_flag(s: &[u8], at: usize, left: usize, number: u8) -> bool
 }
 
 pub fn has_start(s: &[u8], at: usize, left: usize) -> bool
-    ensures { λ r. ⌜ r ≡ occurs start [] (skim (now (s .entry)) left at .tree) ⌝ }
+    ensures { λ r. ⌜ r ≡ occurs start [] (parseTree (now (s .entry)) left at .tree) ⌝ }
 {
-    let w = Sought {
+    let w = Query {
         codes: 1 << Code::START,
         operand: Operand::ANY,
         number: 0,
@@ -66,9 +66,9 @@ pub fn has_start(s: &[u8], at: usize, left: usize) -> bool
 
 // Any word in any role.
 pub fn has_shared(s: &[u8], at: usize, left: usize) -> bool
-    ensures { λ r. ⌜ r ≡ occurs shared [] (skim (now (s .entry)) left at .tree) ⌝ }
+    ensures { λ r. ⌜ r ≡ occurs shared [] (parseTree (now (s .entry)) left at .tree) ⌝ }
 {
-    let w = Sought {
+    let w = Query {
         codes: Roles::WORD,
         operand: Operand::ANY,
         number: 0,
@@ -78,9 +78,9 @@ pub fn has_shared(s: &[u8], at: usize, left: usize) -> bool
 
 // A register that the thread does not own.
 pub fn has_foreign(s: &[u8], at: usize, left: usize, thread: u8, owners: &[u8]) -> bool
-    ensures { λ r. ⌜ r ≡ occurs (foreign thread) (now (owners .entry)) (skim (now (s .entry)) left at .tree) ⌝ }
+    ensures { λ r. ⌜ r ≡ occurs (foreign thread) (now (owners .entry)) (parseTree (now (s .entry)) left at .tree) ⌝ }
 {
-    let w = Sought {
+    let w = Query {
         codes: 1 << Code::REG,
         operand: Operand::FOREIGN,
         number: thread,

@@ -16,12 +16,12 @@ use Rattle.logic.proofs.Base.{is-true}
 use Rattle.formula.specs.Codes.{member}
 use Rattle.formula.specs.Tree.{Tree, none, node}
 use Rattle.compare.specs.Same.{sameTree}
-use Rattle.trees.proofs.Raw.{tree-eq, tree-refl}
+use Rattle.trees.proofs.ToTree.{tree-eq, tree-refl}
 use Rattle.leaves.specs.Slots.{slots}
 use Rattle.leaves.specs.Gather.{Gathered, many, keys, leavesT, putT, gatherT}
 use Rattle.leaves.specs.Count.{choicesBy, choicesT}
 use Rattle.leaves.proofs.Gathering.{put-keys, gather-node}
-use Rattle.rows.specs.Claim.{ImpT, claimT, leavesAll, gatherImp, gatherImps}
+use Rattle.rows.specs.Entailment.{ImpT, entailsT, leavesAll, gatherImp, gatherImps}
 use Rattle.rows.specs.Every.{everyBy}
 use Rattle.rows.specs.declared.value.Reading.{Reading}
 
@@ -132,10 +132,10 @@ module _ (R : ℕ) (two : 2 ≤ R) where
   rows-power (suc n) (t ∷ l) h = let e = mul-le-mul (choices-two t) (rows-power n l (omega arith)) in let p = pow-suc 2 n in omega arith
 
   pub every-cut : (limit : ℕ) → limit ≤ 4096 → (l : List Tree) (w : Reading) → w .range ≡ R → (ps : List ImpT) (c : ImpT)
-      → everyBy (cut l) w limit ps c ≡ (leb (rowCount sameTree (choicesT (w .range)) l) limit && allRows sameTree (choicesT (w .range)) l (claimT w ps c) (λ u. 0))
+      → everyBy (cut l) w limit ps c ≡ (leb (rowCount sameTree (choicesT (w .range)) l) limit && allRows sameTree (choicesT (w .range)) l (entailsT w ps c) (λ u. 0))
   every-cut limit h l w e ps c = go (ltb slots (length l)) refl
     where
-      go : (b : Bool) → ltb slots (length l) ≡ b → everyBy (cut l) w limit ps c ≡ (leb (rowCount sameTree (choicesT (w .range)) l) limit && allRows sameTree (choicesT (w .range)) l (claimT w ps c) (λ u. 0))
+      go : (b : Bool) → ltb slots (length l) ≡ b → everyBy (cut l) w limit ps c ≡ (leb (rowCount sameTree (choicesT (w .range)) l) limit && allRows sameTree (choicesT (w .range)) l (entailsT w ps c) (λ u. 0))
       go true d =
           let k : 13 ≤ length l = omega (arith, ltb-true slots (length l) d) in
           let p : limit < rowCount sameTree (choicesT R) l = omega (arith, rows-power 13 l k) in

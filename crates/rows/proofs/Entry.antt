@@ -8,14 +8,14 @@ use borrow.Author.Tests.{lt-ltb, le-ltb}
 use Rattle.logic.specs.Rows.{distinct}
 use Rattle.logic.specs.Limits
 use Rattle.limits.specs.Limits.{nesting}
-use Rattle.formula.specs.Tree.{Tree, skim}
+use Rattle.formula.specs.Tree.{Tree, parseTree}
 use Rattle.compare.specs.Same.{sameTree}
 use Rattle.leaves.specs.Gather.{Gathered}
-use Rattle.rows.specs.Claim.{leavesAll, impOf, impsFrom, premisesFrom, gatherImps, gatherAll}
+use Rattle.rows.specs.Entailment.{leavesAll, impOf, impsFrom, premisesFrom, gatherImps, gatherAll}
 use Rattle.rows.specs.Every.{everyT, everyBy, everyOf}
-use Rattle.rows.specs.Rows.{byNames, rowsT, byClaims, tableT, lineOf, premisesOf}
+use Rattle.rows.specs.Rows.{byNames, rowsT, byLeaves, tableT, lineOf, premisesOf}
 use Rattle.rows.specs.declared.value.Reading.{Reading}
-use Rattle.rows.specs.declared.claim.Task.{Task}
+use Rattle.rows.specs.declared.entailment.Task.{Task}
 use Rattle.rows.specs.declared.by.Implications.{Implications}
 use Rattle.rows.proofs.Distinct.{cut, imps-cut, every-cut}
 
@@ -35,7 +35,7 @@ unfolding rowsT
 by-few R u v h = rw (lt-ltb _ _ h)
 
 pub by-names : (s : List ℕ) (a m b k R : ℕ) (r : Bool) → 2 ≤ R → r ≡ everyOf s (a ∷ 0 ∷ 0 ∷ 0 ∷ 0 ∷ []) (b ∷ 0 ∷ 0 ∷ 0 ∷ 0 ∷ []) (record { premises = 0; left = m; right = k }) (byNames R) Limits.rows
-    → r ≡ rowsT R (skim s m a .tree) (skim s k b .tree)
+    → r ≡ rowsT R (parseTree s m a .tree) (parseTree s k b .tree)
 unfolding rowsT premisesFrom impsFrom impOf
 by-names s a m b k R r h e = e ∙ every-is s lefts rights t (byNames R) Limits.rows h (omega arith) ∙ rw (le-ltb _ _ h) both
   where
@@ -48,14 +48,14 @@ by-names s a m b k R r h e = e ∙ every-is s lefts rights t (byNames R) Limits.
     t : Task
     t = record { premises = 0; left = m; right = k }
 
-    both : everyT (byNames R) Limits.rows (premisesFrom s lefts rights t 0) (impOf s lefts rights t 0) ≡ everyT (byNames R) Limits.rows [] (record { left = skim s m a .tree; right = skim s k b .tree })
+    both : everyT (byNames R) Limits.rows (premisesFrom s lefts rights t 0) (impOf s lefts rights t 0) ≡ everyT (byNames R) Limits.rows [] (record { left = parseTree s m a .tree; right = parseTree s k b .tree })
     both = refl
 
-pub by-claims : (s : List ℕ) (p : Implications) (n : ℕ) (r : Bool) → n ≡ p .count - 1 → r ≡ everyOf s (p .left) (p .right) (record { premises = n; left = nesting; right = nesting }) byClaims 1024
+pub by-leaves : (s : List ℕ) (p : Implications) (n : ℕ) (r : Bool) → n ≡ p .count - 1 → r ≡ everyOf s (p .left) (p .right) (record { premises = n; left = nesting; right = nesting }) byLeaves 1024
     → r ≡ tableT (premisesOf s p) (lineOf s p)
 unfolding tableT
-by-claims s p n r en e =
-    e ∙ ap (λ (m : ℕ). everyOf s (p .left) (p .right) (record { premises = m; left = nesting; right = nesting }) byClaims 1024) en
-    ∙ every-is s (p .left) (p .right) (record { premises = p .count - 1; left = nesting; right = nesting }) byClaims 1024 (omega arith) (omega arith)
+by-leaves s p n r en e =
+    e ∙ ap (λ (m : ℕ). everyOf s (p .left) (p .right) (record { premises = m; left = nesting; right = nesting }) byLeaves 1024) en
+    ∙ every-is s (p .left) (p .right) (record { premises = p .count - 1; left = nesting; right = nesting }) byLeaves 1024 (omega arith) (omega arith)
 
-pub ruleset entries = (by-few, by-names, by-claims)
+pub ruleset entries = (by-few, by-names, by-leaves)

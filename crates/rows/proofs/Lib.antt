@@ -1,7 +1,7 @@
 pub mod Values
-pub mod Claims
+pub mod Entailing
 pub mod Distinct
 pub mod Numbered
-pub mod Trying
+pub mod RowsTried
 pub mod Entry
 pub mod Link

@@ -23,14 +23,14 @@ use Rattle.logic.proofs.Base.{bool-ext}
 use Rattle.formula.specs.Codes.{member}
 use Rattle.formula.specs.Tree.{Tree, none, node}
 use Rattle.compare.specs.Same.{sameTree}
-use Rattle.trees.specs.Raw.{raw}
-use Rattle.trees.proofs.Raw.{raw-same, tree-eq, tree-refl}
+use Rattle.trees.specs.ToTree.{toTree}
+use Rattle.trees.proofs.ToTree.{toTree-same, tree-eq, tree-refl}
 use Rattle.leaves.specs.Gather.{leavesT}
 use Rattle.leaves.specs.Count.{choicesBy, choicesT}
 use Rattle.columns.specs.Combine.{sumOf, combine}
 use Rattle.rows.specs.Value.{valueT}
-use Rattle.rows.specs.Claim.{ImpT, impT, claimT, leavesAll}
-use Rattle.rows.specs.Rows.{byNames, rowsT, byClaims, tableT}
+use Rattle.rows.specs.Entailment.{ImpT, impT, entailsT, leavesAll}
+use Rattle.rows.specs.Rows.{byNames, rowsT, byLeaves, tableT}
 
 map-join : {A B : Type 0} (g : A → B) (l m : List A) → map g (l ++ m) ≡ map g l ++ map g m
 map-join g [] m = refl
@@ -76,33 +76,33 @@ module _ {K L : Type 0} (eqK : K → K → Bool) (eqL : L → L → Bool) (g : K
     embedded-count l = ap (rowCount eqL cL) (distinct-map l) ∙ count-map (distinct eqK l)
 
 -- names and their trees
-rawName : Name → Tree
-rawName (n-reg r) = node (byte Code.reg) r none none
-rawName (n-word x) = node (byte Code.word) x none none
-rawName (n-unsync x) = node (byte Code.unsync) x none none
-rawName (n-cov x) = node (byte Code.cov) x none none
+nameToTree : Name → Tree
+nameToTree (n-reg r) = node (byte Code.reg) r none none
+nameToTree (n-word x) = node (byte Code.word) x none none
+nameToTree (n-unsync x) = node (byte Code.unsync) x none none
+nameToTree (n-cov x) = node (byte Code.cov) x none none
 
 nameOf : Tree → Name
 nameOf none = n-reg 0
 nameOf (node c o l r) = cond (eqb c (byte Code.reg)) (n-reg o) (cond (eqb c (byte Code.word)) (n-word o) (cond (eqb c (byte Code.unsync)) (n-unsync o) (n-cov o)))
 
-name-of : (n : Name) → nameOf (rawName n) ≡ n
-unfolding rawName nameOf
+name-of : (n : Name) → nameOf (nameToTree n) ≡ n
+unfolding nameToTree nameOf
 name-of (n-reg r) = refl
 name-of (n-word x) = refl
 name-of (n-unsync x) = refl
 name-of (n-cov x) = refl
 
-name-alike : (m n : Name) → sameTree (rawName m) (rawName n) ≡ same-name m n
+name-alike : (m n : Name) → sameTree (nameToTree m) (nameToTree n) ≡ same-name m n
 unfolding same-name
 name-alike m n = go (Name-discrete ℕ-discrete m n)
   where
-    go : (d : Dec (m ≡ n)) → sameTree (rawName m) (rawName n) ≡ elim d as (λ x. Bool) [ yes q ↦ true | no q ↦ false ]
-    go (yes q) = bool-ext (sameTree (rawName m) (rawName n)) true (λ h. tt) (λ h. subst (λ (k : Name). T (sameTree (rawName m) (rawName k))) q (tree-refl (rawName m)))
-    go (no q) = bool-ext (sameTree (rawName m) (rawName n)) false (λ h. q (sym (name-of m) ∙ ap nameOf (tree-eq (rawName m) (rawName n) h) ∙ name-of n)) (λ h. absurd h)
+    go : (d : Dec (m ≡ n)) → sameTree (nameToTree m) (nameToTree n) ≡ elim d as (λ x. Bool) [ yes q ↦ true | no q ↦ false ]
+    go (yes q) = bool-ext (sameTree (nameToTree m) (nameToTree n)) true (λ h. tt) (λ h. subst (λ (k : Name). T (sameTree (nameToTree m) (nameToTree k))) q (tree-refl (nameToTree m)))
+    go (no q) = bool-ext (sameTree (nameToTree m) (nameToTree n)) false (λ h. q (sym (name-of m) ∙ ap nameOf (tree-eq (nameToTree m) (nameToTree n) h) ∙ name-of n)) (λ h. absurd h)
 
-name-choices : (R : ℕ) (n : Name) → choicesT R (rawName n) ≡ choices R n
-unfolding choicesT choicesBy rawName
+name-choices : (R : ℕ) (n : Name) → choicesT R (nameToTree n) ≡ choices R n
+unfolding choicesT choicesBy nameToTree
 name-choices R (n-reg r) = refl
 name-choices R (n-word x) = refl
 name-choices R (n-unsync x) = refl
@@ -112,21 +112,21 @@ module _ (R : ℕ) where
   abbrev N : ℕ
   N = byNames R .leaves
 
-  names-value : (a : Value) → leavesT N (raw a) ≡ map rawName (names a)
-  unfolding leavesT member rawName
+  names-value : (a : Value) → leavesT N (toTree a) ≡ map nameToTree (names a)
+  unfolding leavesT member nameToTree
   names-value (const n) = refl
   names-value (reg r) = refl
   names-value (word x) = refl
-  names-value (sum a b) = ap₂ (λ (l m : List Tree). l ++ m) (names-value a) (names-value b) ∙ sym (map-join rawName (names a) (names b))
+  names-value (sum a b) = ap₂ (λ (l m : List Tree). l ++ m) (names-value a) (names-value b) ∙ sym (map-join nameToTree (names a) (names b))
 
-  names-test : (e : Test) → leavesT N (raw e) ≡ map rawName (names e)
-  unfolding leavesT member rawName
+  names-test : (e : Test) → leavesT N (toTree e) ≡ map nameToTree (names e)
+  unfolding leavesT member nameToTree
   names-test Formula.false = refl
-  names-test (equal a b) = ap₂ (λ (l m : List Tree). l ++ m) (names-value a) (names-value b) ∙ sym (map-join rawName (names a) (names b))
-  names-test (less a b) = ap₂ (λ (l m : List Tree). l ++ m) (names-value a) (names-value b) ∙ sym (map-join rawName (names a) (names b))
-  names-test (Formula.not e) = ap (λ (l : List Tree). l ++ []) (names-test e) ∙ join-none (map rawName (names e))
-  names-test (and e f) = ap₂ (λ (l m : List Tree). l ++ m) (names-test e) (names-test f) ∙ sym (map-join rawName (names e) (names f))
-  names-test (or e f) = ap₂ (λ (l m : List Tree). l ++ m) (names-test e) (names-test f) ∙ sym (map-join rawName (names e) (names f))
+  names-test (equal a b) = ap₂ (λ (l m : List Tree). l ++ m) (names-value a) (names-value b) ∙ sym (map-join nameToTree (names a) (names b))
+  names-test (less a b) = ap₂ (λ (l m : List Tree). l ++ m) (names-value a) (names-value b) ∙ sym (map-join nameToTree (names a) (names b))
+  names-test (Formula.not e) = ap (λ (l : List Tree). l ++ []) (names-test e) ∙ join-none (map nameToTree (names e))
+  names-test (and e f) = ap₂ (λ (l m : List Tree). l ++ m) (names-test e) (names-test f) ∙ sym (map-join nameToTree (names e) (names f))
+  names-test (or e f) = ap₂ (λ (l m : List Tree). l ++ m) (names-test e) (names-test f) ∙ sym (map-join nameToTree (names e) (names f))
   names-test (unsync x) = refl
   names-test (cov x) = refl
 
@@ -149,7 +149,7 @@ bit-or false n = refl
 
 module _ (R : ℕ) (some : R ≡ 0 → ⊥) (ν : Tree → ℕ) where
   abbrev ρ : Env
-  ρ = meaning (λ n. ν (rawName n))
+  ρ = meaning (λ n. ν (nameToTree n))
 
   abbrev v : Tree → ℕ
   v = valueT (byNames R) ν
@@ -158,52 +158,52 @@ module _ (R : ℕ) (some : R ≡ 0 → ⊥) (ν : Tree → ℕ) where
   unfolding sumOf
   sum-is a b = rw (ne-eqb R 0 some)
 
-  raw-value : (a : Value) → v (raw a) ≡ value R ρ a
-  unfolding valueT combine member rawName
-  raw-value (const n) = refl
-  raw-value (reg r) = refl
-  raw-value (word x) = refl
-  raw-value (sum a b) = sum-is (v (raw a)) (v (raw b)) ∙ ap₂ (λ (m n : ℕ). (m + n) % R) (raw-value a) (raw-value b)
+  toTree-value : (a : Value) → v (toTree a) ≡ value R ρ a
+  unfolding valueT combine member nameToTree
+  toTree-value (const n) = refl
+  toTree-value (reg r) = refl
+  toTree-value (word x) = refl
+  toTree-value (sum a b) = sum-is (v (toTree a)) (v (toTree b)) ∙ ap₂ (λ (m n : ℕ). (m + n) % R) (toTree-value a) (toTree-value b)
 
-  raw-test : (e : Test) → eqb (v (raw e)) 1 ≡ test R ρ e
-  unfolding valueT combine member rawName
-  raw-test Formula.false = refl
-  raw-test (equal a b) = bit (eqb (v (raw a)) (v (raw b))) ∙ ap₂ eqb (raw-value a) (raw-value b)
-  raw-test (less a b) = bit (ltb (v (raw a)) (v (raw b))) ∙ ap₂ ltb (raw-value a) (raw-value b)
-  raw-test (Formula.not e) = bit-not (eqb (v (raw e)) 1) ∙ ap not (raw-test e)
-  raw-test (and e f) = bit-and (eqb (v (raw e)) 1) (v (raw f)) ∙ ap₂ (λ (a b : Bool). a && b) (raw-test e) (raw-test f)
-  raw-test (or e f) = bit-or (eqb (v (raw e)) 1) (v (raw f)) ∙ ap₂ (λ (a b : Bool). a || b) (raw-test e) (raw-test f)
-  raw-test (unsync x) = refl
-  raw-test (cov x) = refl
+  toTree-test : (e : Test) → eqb (v (toTree e)) 1 ≡ test R ρ e
+  unfolding valueT combine member nameToTree
+  toTree-test Formula.false = refl
+  toTree-test (equal a b) = bit (eqb (v (toTree a)) (v (toTree b))) ∙ ap₂ eqb (toTree-value a) (toTree-value b)
+  toTree-test (less a b) = bit (ltb (v (toTree a)) (v (toTree b))) ∙ ap₂ ltb (toTree-value a) (toTree-value b)
+  toTree-test (Formula.not e) = bit-not (eqb (v (toTree e)) 1) ∙ ap not (toTree-test e)
+  toTree-test (and e f) = bit-and (eqb (v (toTree e)) 1) (v (toTree f)) ∙ ap₂ (λ (a b : Bool). a && b) (toTree-test e) (toTree-test f)
+  toTree-test (or e f) = bit-or (eqb (v (toTree e)) 1) (v (toTree f)) ∙ ap₂ (λ (a b : Bool). a || b) (toTree-test e) (toTree-test f)
+  toTree-test (unsync x) = refl
+  toTree-test (cov x) = refl
 
-pub raw-rows : (R : ℕ) → 2 ≤ R → (e f : Test) → rowsT R (raw e) (raw f) ≡ byRows R e f
+pub toTree-rows : (R : ℕ) → 2 ≤ R → (e f : Test) → rowsT R (toTree e) (toTree f) ≡ byRows R e f
 unfolding rowsT
-raw-rows R two e f =
+toTree-rows R two e f =
     rw (le-ltb R 2 two)
     (ap₂ (λ (a b : Bool). a && b)
     (ap (λ (l : List Tree). leb (rowCount sameTree (choicesT R) (distinct sameTree l)) Limits.rows) listed
-    ∙ ap (λ (n : ℕ). leb n Limits.rows) (embedded-count same-name sameTree rawName name-alike (choices R) (choicesT R) (name-choices R) (names e ++ names f)))
-    (ap (λ (l : List Tree). everyRow sameTree (choicesT R) l (claimT (byNames R) [] c)) listed
-    ∙ embedded same-name sameTree rawName name-alike (choices R) (choicesT R) (name-choices R) (claimT (byNames R) [] c) (λ ν. not (test R (meaning ν) e) || test R (meaning ν) f)
-    (λ ν. ap₂ (λ (a b : Bool). not a || b) (raw-test R (λ z. omega arith) ν e) (raw-test R (λ z. omega arith) ν f)) (names e ++ names f)))
+    ∙ ap (λ (n : ℕ). leb n Limits.rows) (embedded-count same-name sameTree nameToTree name-alike (choices R) (choicesT R) (name-choices R) (names e ++ names f)))
+    (ap (λ (l : List Tree). everyRow sameTree (choicesT R) l (entailsT (byNames R) [] c)) listed
+    ∙ embedded same-name sameTree nameToTree name-alike (choices R) (choicesT R) (name-choices R) (entailsT (byNames R) [] c) (λ ν. not (test R (meaning ν) e) || test R (meaning ν) f)
+    (λ ν. ap₂ (λ (a b : Bool). not a || b) (toTree-test R (λ z. omega arith) ν e) (toTree-test R (λ z. omega arith) ν f)) (names e ++ names f)))
   where
     c : ImpT
-    c = record { left = raw e; right = raw f }
+    c = record { left = toTree e; right = toTree f }
 
-    listed : leavesAll (byNames R .leaves) (c ∷ []) ≡ map rawName (names e ++ names f)
-    listed = join-none (leavesT (byNames R .leaves) (raw e) ++ leavesT (byNames R .leaves) (raw f)) ∙ ap₂ (λ (l m : List Tree). l ++ m) (names-test R e) (names-test R f) ∙ sym (map-join rawName (names e) (names f))
+    listed : leavesAll (byNames R .leaves) (c ∷ []) ≡ map nameToTree (names e ++ names f)
+    listed = join-none (leavesT (byNames R .leaves) (toTree e) ++ leavesT (byNames R .leaves) (toTree f)) ∙ ap₂ (λ (l m : List Tree). l ++ m) (names-test R e) (names-test R f) ∙ sym (map-join nameToTree (names e) (names f))
 
 -- leaves and their trees
-rawLeaf : Leaf → Tree
-rawLeaf (l-assertion a) = raw a
-rawLeaf (l-test e) = raw e
+leafToTree : Leaf → Tree
+leafToTree (l-assertion a) = toTree a
+leafToTree (l-test e) = toTree e
 
 -- an assertion's code is above a test's
 codeOf : Tree → ℕ
 codeOf none = 0
 codeOf (node c o l r) = c
 
-assertion-code : (a : Assertion) → 24 ≤ codeOf (raw a)
+assertion-code : (a : Assertion) → 24 ≤ codeOf (toTree a)
 unfolding codeOf
 assertion-code (sees t i) = omega arith
 assertion-code (bothA a b) = omega arith
@@ -211,7 +211,7 @@ assertion-code (eitherA a b) = omega arith
 assertion-code start = omega arith
 assertion-code (holds e) = omega arith
 
-test-code : (e : Test) → codeOf (raw e) < 24
+test-code : (e : Test) → codeOf (toTree e) < 24
 unfolding codeOf
 test-code Formula.false = omega arith
 test-code (equal a b) = omega arith
@@ -222,14 +222,14 @@ test-code (or e f) = omega arith
 test-code (unsync x) = omega arith
 test-code (cov x) = omega arith
 
-leaf-alike : (a b : Leaf) → sameTree (rawLeaf a) (rawLeaf b) ≡ same-leaf a b
-unfolding same-leaf rawLeaf
-leaf-alike (l-assertion a) (l-assertion b) = raw-same a b
+leaf-alike : (a b : Leaf) → sameTree (leafToTree a) (leafToTree b) ≡ same-leaf a b
+unfolding same-leaf leafToTree
+leaf-alike (l-assertion a) (l-assertion b) = toTree-same a b
 leaf-alike (l-assertion a) (l-test f) =
-    bool-ext (sameTree (raw a) (raw f)) false (λ h. let e = ap codeOf (tree-eq (raw a) (raw f) h) in omega (arith, assertion-code a, test-code f)) (λ h. absurd h)
+    bool-ext (sameTree (toTree a) (toTree f)) false (λ h. let e = ap codeOf (tree-eq (toTree a) (toTree f) h) in omega (arith, assertion-code a, test-code f)) (λ h. absurd h)
 leaf-alike (l-test e) (l-assertion b) =
-    bool-ext (sameTree (raw e) (raw b)) false (λ h. let d = ap codeOf (tree-eq (raw e) (raw b) h) in omega (arith, assertion-code b, test-code e)) (λ h. absurd h)
-leaf-alike (l-test e) (l-test f) = raw-same e f
+    bool-ext (sameTree (toTree e) (toTree b)) false (λ h. let d = ap codeOf (tree-eq (toTree e) (toTree b) h) in omega (arith, assertion-code b, test-code e)) (λ h. absurd h)
+leaf-alike (l-test e) (l-test f) = toTree-same e f
 
 two-choices : (t : Tree) → choicesT 2 t ≡ 2
 unfolding choicesT choicesBy
@@ -242,68 +242,68 @@ two-choices (node c o l r) = go (eqb c (byte Code.reg)) (eqb c (byte Code.word))
     go false false = refl
 
 abbrev C : ℕ
-C = byClaims .leaves
+C = byLeaves .leaves
 
-leaves-test : (e : Test) → leavesT C (raw e) ≡ map rawLeaf (Table.leavesT e)
-unfolding leavesT member rawLeaf
+leaves-test : (e : Test) → leavesT C (toTree e) ≡ map leafToTree (Table.leavesT e)
+unfolding leavesT member leafToTree
 leaves-test Formula.false = refl
 leaves-test (equal a b) = refl
 leaves-test (less a b) = refl
-leaves-test (Formula.not e) = ap (λ (l : List Tree). l ++ []) (leaves-test e) ∙ join-none (map rawLeaf (Table.leavesT e))
-leaves-test (and e f) = ap₂ (λ (l m : List Tree). l ++ m) (leaves-test e) (leaves-test f) ∙ sym (map-join rawLeaf (Table.leavesT e) (Table.leavesT f))
-leaves-test (or e f) = ap₂ (λ (l m : List Tree). l ++ m) (leaves-test e) (leaves-test f) ∙ sym (map-join rawLeaf (Table.leavesT e) (Table.leavesT f))
+leaves-test (Formula.not e) = ap (λ (l : List Tree). l ++ []) (leaves-test e) ∙ join-none (map leafToTree (Table.leavesT e))
+leaves-test (and e f) = ap₂ (λ (l m : List Tree). l ++ m) (leaves-test e) (leaves-test f) ∙ sym (map-join leafToTree (Table.leavesT e) (Table.leavesT f))
+leaves-test (or e f) = ap₂ (λ (l m : List Tree). l ++ m) (leaves-test e) (leaves-test f) ∙ sym (map-join leafToTree (Table.leavesT e) (Table.leavesT f))
 leaves-test (unsync x) = refl
 leaves-test (cov x) = refl
 
-leaves-assertion : (a : Assertion) → leavesT C (raw a) ≡ map rawLeaf (Table.leaves a)
-unfolding leavesT member rawLeaf
+leaves-assertion : (a : Assertion) → leavesT C (toTree a) ≡ map leafToTree (Table.leaves a)
+unfolding leavesT member leafToTree
 leaves-assertion (sees t i) = refl
-leaves-assertion (bothA a b) = ap₂ (λ (l m : List Tree). l ++ m) (leaves-assertion a) (leaves-assertion b) ∙ sym (map-join rawLeaf (Table.leaves a) (Table.leaves b))
-leaves-assertion (eitherA a b) = ap₂ (λ (l m : List Tree). l ++ m) (leaves-assertion a) (leaves-assertion b) ∙ sym (map-join rawLeaf (Table.leaves a) (Table.leaves b))
+leaves-assertion (bothA a b) = ap₂ (λ (l m : List Tree). l ++ m) (leaves-assertion a) (leaves-assertion b) ∙ sym (map-join leafToTree (Table.leaves a) (Table.leaves b))
+leaves-assertion (eitherA a b) = ap₂ (λ (l m : List Tree). l ++ m) (leaves-assertion a) (leaves-assertion b) ∙ sym (map-join leafToTree (Table.leaves a) (Table.leaves b))
 leaves-assertion start = refl
-leaves-assertion (holds e) = ap (λ (l : List Tree). l ++ []) (leaves-test e) ∙ join-none (map rawLeaf (Table.leavesT e))
+leaves-assertion (holds e) = ap (λ (l : List Tree). l ++ []) (leaves-test e) ∙ join-none (map leafToTree (Table.leavesT e))
 
-abbrev pub rawImp : Imp → ImpT
-rawImp p = record { left = raw (p .left); right = raw (p .right) }
+abbrev pub impToTree : Imp → ImpT
+impToTree p = record { left = toTree (p .left); right = toTree (p .right) }
 
-leaves-all : (ps : List Imp) → leavesAll C (map rawImp ps) ≡ map rawLeaf (Table.leavesAll ps)
+leaves-all : (ps : List Imp) → leavesAll C (map impToTree ps) ≡ map leafToTree (Table.leavesAll ps)
 leaves-all [] = refl
 leaves-all (p ∷ ps) =
     ap₂ (λ (l m : List Tree). l ++ m)
-    (ap₂ (λ (l m : List Tree). l ++ m) (leaves-assertion (p .left)) (leaves-assertion (p .right)) ∙ sym (map-join rawLeaf (Table.leaves (p .left)) (Table.leaves (p .right))))
+    (ap₂ (λ (l m : List Tree). l ++ m) (leaves-assertion (p .left)) (leaves-assertion (p .right)) ∙ sym (map-join leafToTree (Table.leaves (p .left)) (Table.leaves (p .right))))
     (leaves-all ps)
-    ∙ sym (map-join rawLeaf (Table.leaves (p .left) ++ Table.leaves (p .right)) (Table.leavesAll ps))
+    ∙ sym (map-join leafToTree (Table.leaves (p .left) ++ Table.leaves (p .right)) (Table.leavesAll ps))
 
 module _ (ν : Tree → ℕ) where
   abbrev at : Leaf → ℕ
-  at l = ν (rawLeaf l)
+  at l = ν (leafToTree l)
 
   abbrev tv : Tree → ℕ
-  tv = valueT byClaims ν
+  tv = valueT byLeaves ν
 
-  table-test : (e : Test) → eqb (tv (raw e)) 1 ≡ Table.tableT (λ e. eqb (at (l-test e)) 1) e
-  unfolding valueT combine member rawLeaf
+  table-test : (e : Test) → eqb (tv (toTree e)) 1 ≡ Table.tableT (λ e. eqb (at (l-test e)) 1) e
+  unfolding valueT combine member leafToTree
   table-test Formula.false = refl
   table-test (equal a b) = refl
   table-test (less a b) = refl
-  table-test (Formula.not e) = bit-not (eqb (tv (raw e)) 1) ∙ ap not (table-test e)
-  table-test (and e f) = bit-and (eqb (tv (raw e)) 1) (tv (raw f)) ∙ ap₂ (λ (a b : Bool). a && b) (table-test e) (table-test f)
-  table-test (or e f) = bit-or (eqb (tv (raw e)) 1) (tv (raw f)) ∙ ap₂ (λ (a b : Bool). a || b) (table-test e) (table-test f)
+  table-test (Formula.not e) = bit-not (eqb (tv (toTree e)) 1) ∙ ap not (table-test e)
+  table-test (and e f) = bit-and (eqb (tv (toTree e)) 1) (tv (toTree f)) ∙ ap₂ (λ (a b : Bool). a && b) (table-test e) (table-test f)
+  table-test (or e f) = bit-or (eqb (tv (toTree e)) 1) (tv (toTree f)) ∙ ap₂ (λ (a b : Bool). a || b) (table-test e) (table-test f)
   table-test (unsync x) = refl
   table-test (cov x) = refl
 
-  table-assertion : (a : Assertion) → eqb (tv (raw a)) 1 ≡ inRow at a
-  unfolding valueT combine member rawLeaf
+  table-assertion : (a : Assertion) → eqb (tv (toTree a)) 1 ≡ inRow at a
+  unfolding valueT combine member leafToTree
   table-assertion (sees t i) = refl
-  table-assertion (bothA a b) = bit-and (eqb (tv (raw a)) 1) (tv (raw b)) ∙ ap₂ (λ (a b : Bool). a && b) (table-assertion a) (table-assertion b)
-  table-assertion (eitherA a b) = bit-or (eqb (tv (raw a)) 1) (tv (raw b)) ∙ ap₂ (λ (a b : Bool). a || b) (table-assertion a) (table-assertion b)
+  table-assertion (bothA a b) = bit-and (eqb (tv (toTree a)) 1) (tv (toTree b)) ∙ ap₂ (λ (a b : Bool). a && b) (table-assertion a) (table-assertion b)
+  table-assertion (eitherA a b) = bit-or (eqb (tv (toTree a)) 1) (tv (toTree b)) ∙ ap₂ (λ (a b : Bool). a || b) (table-assertion a) (table-assertion b)
   table-assertion start = refl
   table-assertion (holds e) = table-test e
 
-  table-imp : (p : Imp) → impT byClaims ν (rawImp p) ≡ impRow at p
+  table-imp : (p : Imp) → impT byLeaves ν (impToTree p) ≡ impRow at p
   table-imp p = ap₂ (λ (a b : Bool). not a || b) (table-assertion (p .left)) (table-assertion (p .right))
 
-  table-all : (ps : List Imp) → all (impT byClaims ν) (map rawImp ps) ≡ all (impRow at) ps
+  table-all : (ps : List Imp) → all (impT byLeaves ν) (map impToTree ps) ≡ all (impRow at) ps
   table-all [] = refl
   table-all (p ∷ ps) = ap₂ (λ (a b : Bool). a && b) (table-imp p) (table-all ps)
 
@@ -327,13 +327,13 @@ power-limit n m = bool-ext (leb (2 ^ n) (2 ^ m)) (leb n m) (λ h. go (leb n m) r
         let p : 2 ^ suc m ≤ 2 ^ n = pow-le-pow-right (omega arith) k in
         omega (arith, pow-suc 2 m, positive m)
 
-pub raw-table : (ps : List Imp) (c : Imp) → tableT (map rawImp ps) (rawImp c) ≡ byTable ps c
+pub toTree-table : (ps : List Imp) (c : Imp) → tableT (map impToTree ps) (impToTree c) ≡ byTable ps c
 unfolding tableT
-raw-table ps c =
+toTree-table ps c =
     ap₂ (λ (a b : Bool). a && b)
     (ap (λ (l : List Tree). leb (rowCount sameTree (choicesT 2) (distinct sameTree l)) (2 ^ Limits.leaves)) (leaves-all (c ∷ ps))
-    ∙ ap (λ (n : ℕ). leb n (2 ^ Limits.leaves)) (embedded-count same-leaf sameTree rawLeaf leaf-alike (λ l. 2) (choicesT 2) (λ l. two-choices (rawLeaf l)) (Table.leavesAll (c ∷ ps)) ∙ power same-leaf (distinct same-leaf (Table.leavesAll (c ∷ ps))))
+    ∙ ap (λ (n : ℕ). leb n (2 ^ Limits.leaves)) (embedded-count same-leaf sameTree leafToTree leaf-alike (λ l. 2) (choicesT 2) (λ l. two-choices (leafToTree l)) (Table.leavesAll (c ∷ ps)) ∙ power same-leaf (distinct same-leaf (Table.leavesAll (c ∷ ps))))
     ∙ power-limit (length (distinct same-leaf (Table.leavesAll (c ∷ ps)))) Limits.leaves)
-    (ap (λ (l : List Tree). everyRow sameTree (choicesT 2) l (claimT byClaims (map rawImp ps) (rawImp c))) (leaves-all (c ∷ ps))
-    ∙ embedded same-leaf sameTree rawLeaf leaf-alike (λ l. 2) (choicesT 2) (λ l. two-choices (rawLeaf l)) (claimT byClaims (map rawImp ps) (rawImp c)) (λ ν. not (all (impRow ν) ps) || impRow ν c)
+    (ap (λ (l : List Tree). everyRow sameTree (choicesT 2) l (entailsT byLeaves (map impToTree ps) (impToTree c))) (leaves-all (c ∷ ps))
+    ∙ embedded same-leaf sameTree leafToTree leaf-alike (λ l. 2) (choicesT 2) (λ l. two-choices (leafToTree l)) (entailsT byLeaves (map impToTree ps) (impToTree c)) (λ ν. not (all (impRow ν) ps) || impRow ν c)
     (λ ν. ap₂ (λ (a b : Bool). not a || b) (table-all ν ps) (table-imp ν c)) (Table.leavesAll (c ∷ ps)))

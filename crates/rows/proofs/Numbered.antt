@@ -19,17 +19,17 @@ use Rattle.leaves.proofs.Slots.{from-next}
 use Rattle.leaves.proofs.Gathering.{kept-none, kept-step, from-least}
 use Rattle.columns.specs.Column.{valueIn}
 use Rattle.rows.specs.Value.{rowValue}
-use Rattle.rows.specs.Claim.{ImpT, impT, claimT, impOf, premisesFrom, impAt, allAt, claimAt}
+use Rattle.rows.specs.Entailment.{ImpT, impT, entailsT, impOf, premisesFrom, impAt, allAt, entailsAt}
 use Rattle.rows.specs.Every.{quotientOf, rowWith}
 use Rattle.rows.specs.declared.value.Reading.{Reading}
-use Rattle.rows.specs.declared.claim.Task.{Task}
+use Rattle.rows.specs.declared.entailment.Task.{Task}
 use Rattle.rows.proofs.Distinct.{choices-two}
 
 -- the row that the slots from j on hold
 abbrev rowAt : List ℕ → List ℕ → ℕ → List ℕ → Tree → ℕ
 rowAt s q j values u = valueIn values (slotFrom s q (slots - j) j u)
 
--- the claim at the row in the slots
+-- the entailment at the row in the slots
 module _ (s : List ℕ) (w : Reading) (q values : List ℕ) where
   imp-is : (p : ImpT) → impAt s w q values p ≡ impT w (rowAt s q 0 values) p
   unfolding impAt rowValue slotOf
@@ -48,9 +48,9 @@ module _ (s : List ℕ) (w : Reading) (q values : List ℕ) where
       go true b = refl
       go false b = refl
 
-  claim-is : (lefts rights : List ℕ) (t : Task) → claimAt s lefts rights t w q values ≡ claimT w (premisesFrom s lefts rights t 0) (impOf s lefts rights t 0) (rowAt s q 0 values)
-  unfolding claimAt
-  claim-is lefts rights t = ap₂ (λ (a b : Bool). cond a true (not b)) (imp-is (impOf s lefts rights t 0)) (all-is (premisesFrom s lefts rights t 0)) ∙ go (impT w (rowAt s q 0 values) (impOf s lefts rights t 0)) (all (impT w (rowAt s q 0 values)) (premisesFrom s lefts rights t 0))
+  entails-is : (lefts rights : List ℕ) (t : Task) → entailsAt s lefts rights t w q values ≡ entailsT w (premisesFrom s lefts rights t 0) (impOf s lefts rights t 0) (rowAt s q 0 values)
+  unfolding entailsAt
+  entails-is lefts rights t = ap₂ (λ (a b : Bool). cond a true (not b)) (imp-is (impOf s lefts rights t 0)) (all-is (premisesFrom s lefts rights t 0)) ∙ go (impT w (rowAt s q 0 values) (impOf s lefts rights t 0)) (all (impT w (rowAt s q 0 values)) (premisesFrom s lefts rights t 0))
     where
       go : (a b : Bool) → cond a true (not b) ≡ (not b || a)
       go true true = refl
@@ -61,7 +61,7 @@ module _ (s : List ℕ) (w : Reading) (q values : List ℕ) where
 -- every choice of values for the first j slots; the others are as given
 abbrev rowsFrom : List ℕ → List ℕ → List ℕ → Task → Reading → List ℕ → ℕ → List ℕ → Bool
 rowsFrom s lefts rights t w q j values =
-    allRows sameTree (choicesT (w .range)) (kept s q j) (claimT w (premisesFrom s lefts rights t 0) (impOf s lefts rights t 0))
+    allRows sameTree (choicesT (w .range)) (kept s q j) (entailsT w (premisesFrom s lefts rights t 0) (impOf s lefts rights t 0))
     (λ u. valueIn values (slotFrom s q (slots - j) j u))
 
 -- every value below v in the slot j, and every choice for those before it
@@ -84,7 +84,7 @@ module _ (s lefts rights : List ℕ) (t : Task) (w : Reading) (q : List ℕ) whe
       ∙ ap (allBelow (choicesT (w .range) (slotAt s q j))) (fun-ext (λ k. ap (allRows sameTree (choicesT (w .range)) (kept s q j) f) (row-chosen s q values j k l h)))
     where
       f : (Tree → ℕ) → Bool
-      f = claimT w (premisesFrom s lefts rights t 0) (impOf s lefts rights t 0)
+      f = entailsT w (premisesFrom s lefts rights t 0) (impOf s lefts rights t 0)
 
 -- every number below another
 pub below-same : (n : ℕ) (f g : ℕ → Bool) → ((i : ℕ) → i < n → f i ≡ g i) → allBelow n f ≡ allBelow n g
@@ -199,13 +199,13 @@ module _ (s q : List ℕ) (R : ℕ) (two : 2 ≤ R) where
 
 -- every choice for the first j slots is every number below their count
 pub rows-numbered : (s lefts rights : List ℕ) (t : Task) (w : Reading) (q : List ℕ) → 2 ≤ w .range → (j : ℕ) (values : List ℕ) → length values ≡ slots → j ≤ slots
-    → rowsFrom s lefts rights t w q j values ≡ allBelow (rowCount sameTree (choicesT (w .range)) (kept s q j)) (λ m. claimAt s lefts rights t w q (rowWith s q (w .range) j m values))
+    → rowsFrom s lefts rights t w q j values ≡ allBelow (rowCount sameTree (choicesT (w .range)) (kept s q j)) (λ m. entailsAt s lefts rights t w q (rowWith s q (w .range) j m values))
 rows-numbered s lefts rights t w q two zero values l h =
-    ap (λ (k : List Tree). allRows sameTree (choicesT (w .range)) k (claimT w (premisesFrom s lefts rights t 0) (impOf s lefts rights t 0)) (rowAt s q 0 values)) (kept-none s q)
-    ∙ sym (claim-is s w q values lefts rights t)
-    ∙ ap (claimAt s lefts rights t w q) (sym (row-none s q (w .range) two 0 values))
-    ∙ go (claimAt s lefts rights t w q (rowWith s q (w .range) 0 0 values))
-    ∙ ap (λ (n : ℕ). allBelow n (λ m. claimAt s lefts rights t w q (rowWith s q (w .range) 0 m values))) (sym (count-none s q (w .range) two))
+    ap (λ (k : List Tree). allRows sameTree (choicesT (w .range)) k (entailsT w (premisesFrom s lefts rights t 0) (impOf s lefts rights t 0)) (rowAt s q 0 values)) (kept-none s q)
+    ∙ sym (entails-is s w q values lefts rights t)
+    ∙ ap (entailsAt s lefts rights t w q) (sym (row-none s q (w .range) two 0 values))
+    ∙ go (entailsAt s lefts rights t w q (rowWith s q (w .range) 0 0 values))
+    ∙ ap (λ (n : ℕ). allBelow n (λ m. entailsAt s lefts rights t w q (rowWith s q (w .range) 0 m values))) (sym (count-none s q (w .range) two))
   where
     go : (a : Bool) → a ≡ elim a as (λ x. Bool) [ true ↦ true | false ↦ false ]
     go true = refl
@@ -215,7 +215,7 @@ rows-numbered s lefts rights t w q two (suc j) values l h =
     ∙ rows-step s lefts rights t w q j values l (omega arith)
     ∙ below-same (choicesT (w .range) (slotAt s q j)) (λ v. rowsFrom s lefts rights t w q j (set values j v)) (λ v. allBelow c (λ i. f (v * c + i))) (λ v hv.
     rows-numbered s lefts rights t w q two j (set values j v) (length-set values j v ∙ l) (omega arith)
-    ∙ below-same c (λ m. claimAt s lefts rights t w q (rowWith s q (w .range) j m (set values j v))) (λ i. f (v * c + i)) (λ i hi. ap (claimAt s lefts rights t w q) (sym (row-digit s q (w .range) two j v i values hv hi))))
+    ∙ below-same c (λ m. entailsAt s lefts rights t w q (rowWith s q (w .range) j m (set values j v))) (λ i. f (v * c + i)) (λ i hi. ap (entailsAt s lefts rights t w q) (sym (row-digit s q (w .range) two j v i values hv hi))))
     ∙ sym (below-product (choicesT (w .range) (slotAt s q j)) c f)
     ∙ ap (λ (n : ℕ). allBelow n f) (sym (count-step s q (w .range) two j))
   where
@@ -226,4 +226,4 @@ rows-numbered s lefts rights t w q two (suc j) values l h =
     c = rowCount sameTree (choicesT (w .range)) (kept s q j)
 
     f : ℕ → Bool
-    f m = claimAt s lefts rights t w q (rowWith s q (w .range) (suc j) m values)
+    f m = entailsAt s lefts rights t w q (rowWith s q (w .range) (suc j) m values)

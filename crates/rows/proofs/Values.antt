@@ -8,9 +8,9 @@ use lib.ListN.{getD, take}
 use lib.Dec.{eqb, ltb}
 use borrow.Author.Tests.{lt-ltb, le-ltb, eq-eqb, ne-eqb, eqb-false, ltb-true, ltb-false}
 use Rattle.formula.specs.Codes.{member, partCount}
-use Rattle.formula.specs.Tree.{Tree, none, node, nodeAt, Skim, part, skim}
+use Rattle.formula.specs.Tree.{Tree, none, node, nodeAt, ParsedTree, part, parseTree}
 use Rattle.formula.specs.declared.node.Node.{Node}
-use Rattle.formula.proofs.Nodes.{skim-zero, skim-step, parts-of}
+use Rattle.formula.proofs.Nodes.{parse-zero, parse-step, parts-of}
 use Rattle.leaves.specs.Slots.{slotOf}
 use Rattle.columns.specs.Combine.{combine}
 use Rattle.columns.specs.Column.{rows, column, constant, combined, valueIn, rowIn, slotColumn}
@@ -60,7 +60,7 @@ module _ (s : List ℕ) (w : Reading) (q : List ℕ) where
 
       pub zero-column : k ≡ 0 → take n a ≡ constant 0 n → take n a ≡ leafColumn s w q cells n k at o
       unfolding leafColumn
-      zero-column z e = e ∙ column-none ∙ rw (← leaf-zero z, skim-zero s k at z)
+      zero-column z e = e ∙ column-none ∙ rw (← leaf-zero z, parse-zero s k at z)
 
       module _ (x : Node) (z : k ≡ 0 → ⊥) (e : x ≡ nodeAt s at) where
         pub leaf-plain : x .parts ≡ 0 → true ≡ leafAt s w k at
@@ -69,21 +69,21 @@ module _ (s : List ℕ) (w : Reading) (q : List ℕ) where
 
         pub plain-column : x .parts ≡ 0 → take n a ≡ columnOf s w q cells n (node (x .code) (x .operand) none none) → take n a ≡ leafColumn s w q cells n k at o
         unfolding leafColumn
-        plain-column p f = f ∙ rw (← leaf-plain p) (rw (skim-step s k at z, ← e, p))
+        plain-column p f = f ∙ rw (← leaf-plain p) (rw (parse-step s k at z, ← e, p))
 
         module _ (b : Bool) (p : x .parts ≡ 0 → ⊥) (eb : b ≡ member (w .leaves) (x .code)) where
           pub leaf-inner : (d : Bool) → b ≡ d → d ≡ leafAt s w k at
           unfolding leafAt
           leaf-inner d f = sym f ∙ eb ∙ rw (ne-eqb _ _ z, ← e, ne-eqb _ _ p)
 
-          pub inner-column : (j : ℕ) → b ≡ true → j ≡ slotOf s q (skim s k at .tree) → take n a ≡ slotColumn cells j n → take n a ≡ leafColumn s w q cells n k at o
+          pub inner-column : (j : ℕ) → b ≡ true → j ≡ slotOf s q (parseTree s k at .tree) → take n a ≡ slotColumn cells j n → take n a ≡ leafColumn s w q cells n k at o
           unfolding leafColumn
           inner-column j d f g =
               g ∙ ap (λ (j : ℕ). slotColumn cells j n) f
-              ∙ rw (← leaf-inner true d) (rw (skim-step s k at z, ← e) (column-leaf (x .code) (x .operand) (first .tree) (part (λ p. skim s (k - 1) p) (ltb 1 (x .parts)) (first .end) .tree) (sym eb ∙ d)))
+              ∙ rw (← leaf-inner true d) (rw (parse-step s k at z, ← e) (column-leaf (x .code) (x .operand) (first .tree) (part (λ p. parseTree s (k - 1) p) (ltb 1 (x .parts)) (first .end) .tree) (sym eb ∙ d)))
             where
-              first : Skim
-              first = part (λ p. skim s (k - 1) p) (ltb 0 (x .parts)) (x .next)
+              first : ParsedTree
+              first = part (λ p. parseTree s (k - 1) p) (ltb 0 (x .parts)) (x .next)
 
           pub other-column : b ≡ false → take n a ≡ leafColumn s w q cells n k at a
           unfolding leafColumn
@@ -91,7 +91,7 @@ module _ (s : List ℕ) (w : Reading) (q : List ℕ) where
 
     -- all formulas
     module _ (k at : ℕ) (b : Bool) (eb : b ≡ leafAt s w k at) where
-      pub value-leaf : (a o : List ℕ) → b ≡ true → take n a ≡ leafColumn s w q cells n k at o → take n a ≡ columnOf s w q cells n (skim s k at .tree)
+      pub value-leaf : (a o : List ℕ) → b ≡ true → take n a ≡ leafColumn s w q cells n k at o → take n a ≡ columnOf s w q cells n (parseTree s k at .tree)
       unfolding leafColumn
       value-leaf a o d f = f ∙ rw (← eb, d)
 
@@ -132,30 +132,30 @@ module _ (s : List ℕ) (w : Reading) (q : List ℕ) where
             go true g = let h = some-left in omega arith
             go false g = let h = some-left in omega arith
 
-        module _ (x : Node) (m j y : ℕ) (e : x ≡ nodeAt s at) (em : m ≡ skim s (k - 1) (x .next) .end) (ej : j ≡ secondLeft (x .parts) k) (ey : y ≡ skim s j m .end) where
+        module _ (x : Node) (m j y : ℕ) (e : x ≡ nodeAt s at) (em : m ≡ parseTree s (k - 1) (x .next) .end) (ej : j ≡ secondLeft (x .parts) k) (ey : y ≡ parseTree s j m .end) where
           -- the second part
-          second : (u : Bool) → ltb (nodeAt s at .parts) 2 ≡ u → skim s j m ≡ part (λ p. skim s (k - 1) p) (ltb 1 (nodeAt s at .parts)) m
+          second : (u : Bool) → ltb (nodeAt s at .parts) 2 ≡ u → parseTree s j m ≡ part (λ p. parseTree s (k - 1) p) (ltb 1 (nodeAt s at .parts)) m
           unfolding secondLeft
           second true f =
               let h : nodeAt s at .parts ≤ 1 = omega (arith, ltb-true (nodeAt s at .parts) 2 f) in
               let g : j ≡ 0 = ej ∙ rw (e, f) in
-              rw (g, le-ltb _ _ h) (skim-zero s 0 m refl)
+              rw (g, le-ltb _ _ h) (parse-zero s 0 m refl)
           second false f =
               let h : 1 < nodeAt s at .parts = omega (arith, ltb-false (nodeAt s at .parts) 2 f) in
               let g : j ≡ k - 1 = ej ∙ rw (e, f) in
               rw (g, lt-ltb _ _ h)
 
-          whole : skim s k at ≡ record { tree = node (x .code) (x .operand) (skim s (k - 1) (x .next) .tree) (skim s j m .tree); end = skim s j m .end }
-          whole = skim-step s k at (split .0) ∙ rw (second (ltb (nodeAt s at .parts) 2) refl, em, e, lt-ltb _ _ some-parts)
+          whole : parseTree s k at ≡ record { tree = node (x .code) (x .operand) (parseTree s (k - 1) (x .next) .tree) (parseTree s j m .tree); end = parseTree s j m .end }
+          whole = parse-step s k at (split .0) ∙ rw (second (ltb (nodeAt s at .parts) 2) refl, em, e, lt-ltb _ _ some-parts)
 
-          pub end-two : y ≡ skim s k at .end
-          end-two = ey ∙ sym (ap (λ (u : Skim). u .end) whole)
+          pub end-two : y ≡ parseTree s k at .end
+          end-two = ey ∙ sym (ap (λ (u : ParsedTree). u .end) whole)
 
-          pub value-two : (a c g : List ℕ) → take n c ≡ columnOf s w q cells n (skim s (k - 1) (x .next) .tree) → take n g ≡ columnOf s w q cells n (skim s j m .tree)
-              → take n a ≡ combined (w .range) (x .code) (x .operand) n c g → take n a ≡ columnOf s w q cells n (skim s k at .tree)
+          pub value-two : (a c g : List ℕ) → take n c ≡ columnOf s w q cells n (parseTree s (k - 1) (x .next) .tree) → take n g ≡ columnOf s w q cells n (parseTree s j m .tree)
+              → take n a ≡ combined (w .range) (x .code) (x .operand) n c g → take n a ≡ columnOf s w q cells n (parseTree s k at .tree)
           value-two a c g ec eg f =
-              f ∙ column-node (x .code) (x .operand) (skim s (k - 1) (x .next) .tree) (skim s j m .tree) c g (rw e (split .1 .1)) (column-value (skim s (k - 1) (x .next) .tree) c ec) (column-value (skim s j m .tree) g eg)
-              ∙ ap (columnOf s w q cells n) (sym (ap (λ (u : Skim). u .tree) whole))
+              f ∙ column-node (x .code) (x .operand) (parseTree s (k - 1) (x .next) .tree) (parseTree s j m .tree) c g (rw e (split .1 .1)) (column-value (parseTree s (k - 1) (x .next) .tree) c ec) (column-value (parseTree s j m .tree) g eg)
+              ∙ ap (columnOf s w q cells n) (sym (ap (λ (u : ParsedTree). u .tree) whole))
 
 -- a formula without parts
 module _ (s : List ℕ) (w : Reading) (q cells : List ℕ) (n c o : ℕ) (a : List ℕ) (b : Bool) (eb : b ≡ member (w .leaves) c) where

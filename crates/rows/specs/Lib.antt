@@ -1,4 +1,4 @@
 pub mod Value
-pub mod Claim
+pub mod Entailment
 pub mod Every
 pub mod Rows

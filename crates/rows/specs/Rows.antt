@@ -9,10 +9,10 @@ use Rattle.logic.specs.Limits
 use Rattle.limits.specs.Limits.{nesting}
 use Rattle.formula.specs.Codes.{setOf}
 use Rattle.formula.specs.Tree.{Tree}
-use Rattle.rows.specs.Claim.{ImpT, impOf, premisesFrom}
+use Rattle.rows.specs.Entailment.{ImpT, impOf, premisesFrom}
 use Rattle.rows.specs.Every.{everyT}
 use Rattle.rows.specs.declared.value.Reading.{Reading}
-use Rattle.rows.specs.declared.claim.Task.{Task}
+use Rattle.rows.specs.declared.entailment.Task.{Task}
 use Rattle.rows.specs.declared.by.Implications.{Implications}
 
 -- by rows the leaves are names
@@ -24,12 +24,12 @@ unfoldable pub rowsT : ℕ → Tree → Tree → Bool
 rowsT R u v = cond (ltb R 2) false (everyT (byNames R) Limits.rows [] (record { left = u; right = v }))
 
 -- in a truth table the leaves are what a thread sees, start and comparisons; each is true or false. (Flags do not stand under `holds`)
-abbrev pub byClaims : Reading
-byClaims = record { leaves = setOf (Code.sees ∷ Code.start ∷ Code.equal ∷ Code.less ∷ Code.unsync ∷ Code.cov ∷ []); range = 2 }
+abbrev pub byLeaves : Reading
+byLeaves = record { leaves = setOf (Code.sees ∷ Code.start ∷ Code.equal ∷ Code.less ∷ Code.unsync ∷ Code.cov ∷ []); range = 2 }
 
 -- the line is true in each row in which every premise is; ten leaves at most, so many rows
 unfoldable pub tableT : List ImpT → ImpT → Bool
-tableT ps c = everyT byClaims (2 ^ Limits.leaves) ps c
+tableT ps c = everyT byLeaves (2 ^ Limits.leaves) ps c
 
 -- the line, and its premises
 abbrev pub taskOf : Implications → Task

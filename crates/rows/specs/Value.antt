@@ -5,7 +5,7 @@ use mathlib.Core.Bool.{Bool, true, cond}
 use lib.ListN.{take}
 use lib.Dec.{eqb, ltb}
 use Rattle.formula.specs.Codes.{member}
-use Rattle.formula.specs.Tree.{Tree, none, node, nodeAt, skim}
+use Rattle.formula.specs.Tree.{Tree, none, node, nodeAt, parseTree}
 use Rattle.leaves.specs.Slots.{slotOf}
 use Rattle.columns.specs.Combine.{combine}
 use Rattle.columns.specs.Column.{column, valueIn, rowIn}
@@ -30,7 +30,7 @@ leafAt s w k at = cond (eqb k 0) true (cond (eqb (nodeAt s at .parts) 0) true (m
 
 -- its column if so; else what was there
 unfoldable pub leafColumn : List ℕ → Reading → List ℕ → List ℕ → ℕ → ℕ → ℕ → List ℕ → List ℕ
-leafColumn s w q cells n k at out = cond (leafAt s w k at) (columnOf s w q cells n (skim s k at .tree)) (take n out)
+leafColumn s w q cells n k at out = cond (leafAt s w k at) (columnOf s w q cells n (parseTree s k at .tree)) (take n out)
 
 -- how deep a node's second part may be nested
 unfoldable pub secondLeft : ℕ → ℕ → ℕ

@@ -1,13 +1,13 @@
 // By rows, and by truth table.
-use crate::claim::Sizes;
-use crate::claim::Task;
+use crate::entailment::Sizes;
+use crate::entailment::Task;
 use crate::every::every_row;
 use crate::value::Reading;
 use formula::code::Code;
 use limits::Limits;
 ghost use mathlib.Core.Path.{_≡_};
 ghost use Prim.Native.Nat.{_-_};
-ghost use Rattle.formula.specs.Tree.{skim};
+ghost use Rattle.formula.specs.Tree.{parseTree};
 ghost use Rattle.rows.specs.Rows.{rowsT, tableT, lineOf, premisesOf};
 
 // Implications between formulas by their positions: the first is the line, the others, as far as the count goes, are its premises.
@@ -27,7 +27,7 @@ impl LeafCodes {
         + (1 << Code::COV);
 
     // By truth table: what a thread sees, start, comparisons. (Flags do not stand under `holds`.)
-    pub const CLAIMS: u32 = (1 << Code::SEES)
+    pub const TABLE: u32 = (1 << Code::SEES)
         + (1 << Code::START)
         + (1 << Code::EQUAL)
         + (1 << Code::LESS)
@@ -37,7 +37,7 @@ impl LeafCodes {
 
 // Whether the test at b is true wherever the one at a is.
 pub fn by_rows(s: &[u8], a: usize, m: usize, b: usize, k: usize, range: u8) -> bool
-    ensures { λ r. ⌜ r ≡ rowsT range (skim (now (s .entry)) m a .tree) (skim (now (s .entry)) k b .tree) ⌝ }
+    ensures { λ r. ⌜ r ≡ rowsT range (parseTree (now (s .entry)) m a .tree) (parseTree (now (s .entry)) k b .tree) ⌝ }
 {
     if range < 2 {
         return false;
@@ -77,7 +77,7 @@ pub fn by_table(s: &[u8], imps: Implications) -> bool
         right: Limits::NESTING,
     };
     let w = Reading {
-        leaves: LeafCodes::CLAIMS,
+        leaves: LeafCodes::TABLE,
         range: 2,
     };
     every_row(s, &lefts, &rights, t, w, 1 << Limits::LEAVES)

@@ -1,7 +1,7 @@
 // Every row tried, a block at a time, until one fails.
-use crate::claim::Task;
-use crate::claim::claim_fails;
-use crate::claim::gather_all;
+use crate::entailment::Task;
+use crate::entailment::entailment_fails;
+use crate::entailment::gather_all;
 use crate::value::Reading;
 use columns::block::Block;
 use columns::column::none_below;
@@ -42,7 +42,7 @@ pub fn fill_block(
     }
 }
 
-// Whether the claim is true at n rows from the one with the number of the base on.
+// Whether the entailment holds at n rows from the one with the number of the base on.
 pub fn block_holds(
     s: &[u8],
     lefts: &[usize],
@@ -60,7 +60,7 @@ pub fn block_holds(
     let mut cells: [u8; Block::CELLS] = [0; Block::CELLS];
     fill_block(s, w.range, slots, k, base, n, &mut cells);
     let mut fails: [u8; Block::ROWS] = [0; Block::ROWS];
-    claim_fails(s, lefts, rights, t, w, slots, &cells, n, &mut fails);
+    entailment_fails(s, lefts, rights, t, w, slots, &cells, n, &mut fails);
     none_below(&fails, n)
 }
 
@@ -74,7 +74,7 @@ fn block_size(left: usize) -> usize
     }
 }
 
-// Whether the claim is true at each of so many rows.
+// Whether the entailment holds at each of so many rows.
 pub fn rows_hold(
     s: &[u8],
     lefts: &[usize],
@@ -100,7 +100,7 @@ pub fn rows_hold(
     true
 }
 
-// Whether there are at most so many rows, and the claim is true at each.
+// Whether there are at most so many rows, and the entailment holds at each.
 pub fn every_row(
     s: &[u8],
     lefts: &[usize],

@@ -1,5 +1,5 @@
 // Tests by rows, and truth tables: one mechanism for both, by what stands as a leaf.
 pub mod by;
-pub mod claim;
+pub mod entailment;
 pub mod every;
 pub mod value;

@@ -15,7 +15,7 @@ ghost use mathlib.Core.Path.{_≡_};
 ghost use Prim.Native.Nat.{_≤_};
 ghost use lib.ListN.{length, take};
 ghost use Rattle.formula.specs.Codes.{partCount};
-ghost use Rattle.formula.specs.Tree.{none, node, skim};
+ghost use Rattle.formula.specs.Tree.{none, node, parseTree};
 ghost use Rattle.columns.specs.Column.{combined};
 ghost use Rattle.rows.specs.Value.{columnOf, leafAt, leafColumn, secondLeft};
 
@@ -111,8 +111,8 @@ pub fn column_at(
     out: &mut [u8],
 ) -> usize
     requires { ⌜ (n ≤ 1024) × (n ≤ length (now out)) ⌝ }
-    ensures { λ r. ⌜ r ≡ skim (now (s .entry)) left at .end ⌝ }
-    ensures { λ _. ⌜ take n (now (out .exit)) ≡ columnOf (now (s .entry)) w (now (slots .entry)) (now (cells .entry)) n (skim (now (s .entry)) left at .tree) ⌝ }
+    ensures { λ r. ⌜ r ≡ parseTree (now (s .entry)) left at .end ⌝ }
+    ensures { λ _. ⌜ take n (now (out .exit)) ≡ columnOf (now (s .entry)) w (now (slots .entry)) (now (cells .entry)) n (parseTree (now (s .entry)) left at .tree) ⌝ }
 {
     if leaf_column(s, at, left, w, slots, cells, n, out) {
         return end_at(s, at, left);

@@ -2,14 +2,14 @@
 use lib.Dec.{T}
 use Rattle.logic.specs.Rule.{Rule, r1, r2, r3, r4, r5, r6, r7, r8, r9, r10, r11, r12, r13, r14, r15, r16, r20, r21, r22, r23, r24, r25, r26, r27, r30, r31, r32, r33, r34, r35, r36, r37, r38, r39, r40, r41, r42, r43, r44, r45, r46}
 use Rattle.formula.specs.Codes.{hasOperand, partCount}
-use Rattle.formula.specs.Tree.{nodeAt, skim}
+use Rattle.formula.specs.Tree.{nodeAt, parseTree}
 use Rattle.compare.specs.Same.{sameTree}
 use Rattle.matcher.specs.Places.{proper}
 use Rattle.rulebook.specs.Rulebook.{ruleRow}
 use Rattle.rulebook.specs.Listed.{listedRight}
 
 pub listed-right : (n : Rule) → T (listedRight n)
-unfolding ruleRow skim nodeAt hasOperand partCount sameTree proper
+unfolding ruleRow parseTree nodeAt hasOperand partCount sameTree proper
 listed-right r1 = tt
 listed-right r2 = tt
 listed-right r3 = tt

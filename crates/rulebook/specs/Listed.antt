@@ -11,7 +11,7 @@ use Rattle.patterns.specs.Rules.{Shape, Premises, these, implications, by-notes
 use Rattle.patterns.specs.Fits.{isAmong}
 use Rattle.limits.specs.Limits as Limits
 use Rattle.limits.specs.Limits.{nesting}
-use Rattle.formula.specs.Tree.{Tree, skim}
+use Rattle.formula.specs.Tree.{Tree, parseTree}
 use Rattle.compare.specs.Same.{sameTree}
 use Rattle.matcher.specs.Template.{shapes}
 use Rattle.matcher.specs.Places.{proper}
@@ -68,7 +68,7 @@ trees (m ∷ l) = leftOf m ∷ rightOf m ∷ trees l
 
 abbrev pub standAt : ℕ → List Tree → Bool
 standAt i [] = true
-standAt i (t ∷ ts) = (sameTree (skim templates nesting i .tree) t && proper t) && standAt (skim templates nesting i .end) ts
+standAt i (t ∷ ts) = (sameTree (parseTree templates nesting i .tree) t && proper t) && standAt (parseTree templates nesting i .end) ts
 
 -- the forms of the premises, two bits each from the lowest
 abbrev pub packed : List Shape → ℕ

@@ -1,3 +1,3 @@
 pub mod Sides
-pub mod Asking
+pub mod SidesByNumber
 pub mod SidesLink

@@ -11,7 +11,7 @@ use Rattle.logic.specs.Opcode
 use Rattle.limits.specs.Limits.{nesting}
 use Rattle.limits.specs.Numbers.{nth}
 use Rattle.formula.specs.Codes.{partCount}
-use Rattle.formula.specs.Tree.{Tree, skim}
+use Rattle.formula.specs.Tree.{Tree, parseTree}
 use Rattle.compare.specs.Same.{sameTree, sameOf}
 use Rattle.compare.specs.Replace.{leafOnly, standsFor, replacedOf}
 use Rattle.compare.specs.declared.same.Same.{Same}
@@ -22,7 +22,7 @@ use Rattle.occurs.specs.Occurs.{occurs, register, wordAnyRole, flag}
 use Rattle.program.specs.Header.{startValues}
 use Rattle.matcher.specs.declared.bind.Bind.{Bind}
 use Rattle.sides.specs.Side.{holeOf, numberIn, treeOf, keeps, isWith, storedBy, isStart}
-use Rattle.sides.specs.declared.side.Stand.{Stand}
+use Rattle.sides.specs.declared.side.Position.{Position}
 
 pub hole-is : (b : Bind) (j : ℕ) → record { at = getD (b .at) j 0; left = getD (b .left) j 0 } ≡ holeOf b j
 unfolding holeOf
@@ -65,18 +65,18 @@ answer-yes : (b : Bool) (i j p q : ℕ) → Yes p q ≡ cond b (Yes i j) No → 
 answer-yes true i j p q h = refl
 answer-yes false i j p q h = absurd (no-yes (sym h))
 
-module _ (s : List ℕ) (w : Substitution) (p q : Stand) (r : Same) (e : r ≡ replacedOf w (standsFor s (w .by)) (skim s (q .left) (q .at)) (skim s (p .left) (p .at))) where
+module _ (s : List ℕ) (w : Substitution) (p q : Position) (r : Same) (e : r ≡ replacedOf w (standsFor s (w .by)) (parseTree s (q .left) (q .at)) (parseTree s (p .left) (p .at))) where
   pub with-no : r ≡ No → false ≡ isWith s w (treeOf s p) (treeOf s q)
   unfolding isWith
-  with-no n = answer-no _ (skim s (q .left) (q .at) .end) (skim s (p .left) (p .at) .end) (sym n ∙ e)
+  with-no n = answer-no _ (parseTree s (q .left) (q .at) .end) (parseTree s (p .left) (p .at) .end) (sym n ∙ e)
 
   pub with-yes : (i j : ℕ) → r ≡ Yes i j → true ≡ isWith s w (treeOf s p) (treeOf s q)
   unfolding isWith
-  with-yes i j n = answer-yes _ (skim s (q .left) (q .at) .end) (skim s (p .left) (p .at) .end) i j (sym n ∙ e)
+  with-yes i j n = answer-yes _ (parseTree s (q .left) (q .at) .end) (parseTree s (p .left) (p .at) .end) i j (sym n ∙ e)
 
 pub ruleset withs = (with-no, with-yes)
 
-module _ (s : List ℕ) (x f : ℕ) (p q : Stand) (o : Bool) (e : o ≡ occurs (flag x) [] (treeOf s q)) where
+module _ (s : List ℕ) (x f : ℕ) (p q : Position) (o : Bool) (e : o ≡ occurs (flag x) [] (treeOf s q)) where
   pub stored-flag : o ≡ true → false ≡ storedBy s x f (treeOf s p) (treeOf s q)
   unfolding storedBy
   stored-flag h = rw (← e, h)
@@ -95,14 +95,14 @@ pub number-taken : (b : Bind) (j n : ℕ) → n ≡ getD (b .num) j 0 → n - 1 
 unfolding numberIn
 number-taken b j n e = rw (← e)
 
-module _ (s h : List ℕ) (x v : ℕ) (p : Stand) (r : Same) (e : v ≡ nth (startValues h) x 0) (d : r ≡ sameOf (leafOnly (byte Code.const) v) (skim s (p .left) (p .at))) where
+module _ (s h : List ℕ) (x v : ℕ) (p : Position) (r : Same) (e : v ≡ nth (startValues h) x 0) (d : r ≡ sameOf (leafOnly (byte Code.const) v) (parseTree s (p .left) (p .at))) where
   pub start-no : r ≡ No → false ≡ isStart h x (treeOf s p)
   unfolding isStart
-  start-no n = rw (← e) (answer-no (sameTree (leafOnly (byte Code.const) v .tree) (treeOf s p)) 0 (skim s (p .left) (p .at) .end) (sym n ∙ d))
+  start-no n = rw (← e) (answer-no (sameTree (leafOnly (byte Code.const) v .tree) (treeOf s p)) 0 (parseTree s (p .left) (p .at) .end) (sym n ∙ d))
 
   pub start-yes : (i j : ℕ) → r ≡ Yes i j → true ≡ isStart h x (treeOf s p)
   unfolding isStart
-  start-yes i j n = rw (← e) (answer-yes (sameTree (leafOnly (byte Code.const) v .tree) (treeOf s p)) 0 (skim s (p .left) (p .at) .end) i j (sym n ∙ d))
+  start-yes i j n = rw (← e) (answer-yes (sameTree (leafOnly (byte Code.const) v .tree) (treeOf s p)) 0 (parseTree s (p .left) (p .at) .end) i j (sym n ∙ d))
 
 pub const-parts : partCount (byte Code.const) ≡ 0
 unfolding partCount

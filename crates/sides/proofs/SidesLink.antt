@@ -18,12 +18,12 @@ use Rattle.logic.proofs.Base.{bool-ext}
 use Rattle.limits.specs.Limits as Limits
 use Rattle.limits.specs.Limits.{nesting}
 use Rattle.limits.specs.Numbers.{nth}
-use Rattle.formula.specs.Tree.{Tree, Tree.node, skim}
+use Rattle.formula.specs.Tree.{Tree, Tree.node, parseTree}
 use Rattle.compare.specs.Same.{sameTree}
 use Rattle.compare.specs.Replace.{NoteT, replaceT, nameCode, oneName}
 use Rattle.occurs.specs.Occurs.{occurs, register, wordAnyRole, flag}
-use Rattle.trees.proofs.Raw.{tree-eq, tree-refl}
-use Rattle.rows.specs.Claim.{impOf, impsFrom, premisesFrom}
+use Rattle.trees.proofs.ToTree.{tree-eq, tree-refl}
+use Rattle.rows.specs.Entailment.{impOf, impsFrom, premisesFrom}
 use Rattle.rows.specs.Rows.{rowsT, tableT, lineOf, premisesOf}
 use Rattle.frames.specs.Records.{bodies}
 use Rattle.program.specs.Header.{startValues}
@@ -34,11 +34,11 @@ use Rattle.certificate.specs.FitT.{Said, formOf, holesFrom, orElse, keepsT, sid
 use Rattle.content.specs.Trees.{actingAt}
 use Rattle.content.specs.declared.acting.Acting.{Acting}
 use Rattle.rulebook.specs.Listed.{sideNumber}
-use Rattle.conclusions.specs.Claim.{saidAt, claimsFrom}
+use Rattle.conclusions.specs.Conclusion.{saidAt, conclusionsFrom}
 use Rattle.sides.specs.Side.{holeOf, numberIn, treeOf, keeps, isWith, storedBy, isStart}
 use Rattle.sides.specs.Asked.{assignedBy, loadedBy, ofInstruction, implicationsOf, ofNames, asked}
-use Rattle.conclusions.specs.declared.claim.Claim.{Claim}
-use Rattle.conclusions.specs.declared.claim.Premises.{Premises}
+use Rattle.conclusions.specs.declared.conclusion.Conclusion.{Conclusion}
+use Rattle.conclusions.specs.declared.conclusion.Premises.{Premises}
 
 -- the start values of an image
 abbrev pub startOf : List ℕ → ℕ → ℕ
@@ -71,10 +71,10 @@ keeps-is R init (suc (suc (suc (suc (suc (suc op)))))) x r u v ns =
 module _ (s : List ℕ) (b : Bind) where
   -- what stands in a hole; where nothing was taken, no tree and 0
   hole-tree : (j : ℕ) → holesFrom (takenOf s b) .tree j ≡ treeOf s (holeOf b j)
-  unfolding holeOf skim
+  unfolding holeOf parseTree
   hole-tree j = go (getD (b .left) j 0) (eqb (getD (b .left) j 0) 0) refl
     where
-      go : (k : ℕ) (e : Bool) → eqb k 0 ≡ e → orElse Tree.none (cond e none (some (skim s k (getD (b .at) j 0) .tree))) ≡ skim s k (getD (b .at) j 0) .tree
+      go : (k : ℕ) (e : Bool) → eqb k 0 ≡ e → orElse Tree.none (cond e none (some (parseTree s k (getD (b .at) j 0) .tree))) ≡ parseTree s k (getD (b .at) j 0) .tree
       go k true e = rw (eqb-true k 0 e)
       go k false e = refl
 
@@ -86,9 +86,9 @@ module _ (s : List ℕ) (b : Bind) where
       go n true e = rw (eqb-true n 0 e)
       go n false e = refl
 
-module _ (s : List ℕ) (b : Bind) (a : Acting) (c : Claim) (p : Premises) (few : p .count ≤ Limits.premises) where
+module _ (s : List ℕ) (b : Bind) (a : Acting) (c : Conclusion) (p : Premises) (few : p .count ≤ Limits.premises) where
   abbrev vs : List Said
-  vs = map (saidAt s) (claimsFrom p (p .count) 0)
+  vs = map (saidAt s) (conclusionsFrom p (p .count) 0)
 
   abbrev holds : Rule → Bool
   holds n = all (sideT Limits.values (startOf s) (actingAt s a) (holesFrom (takenOf s b)) (saidAt s c) vs) (row n .sides)
@@ -98,7 +98,7 @@ module _ (s : List ℕ) (b : Bind) (a : Acting) (c : Claim) (p : Premises) (few 
   allowed n = operationT Limits.values (startOf s) (actingAt s a) (formOf (row n .says)) (row n .operations)
 
   -- the line's premises, as implications
-  table-is : (n : ℕ) → p .count ≡ n → n ≤ Limits.premises → map FitT.impOf (map (saidAt s) (claimsFrom p n 0)) ≡ premisesOf s (implicationsOf c p)
+  table-is : (n : ℕ) → p .count ≡ n → n ≤ Limits.premises → map FitT.impOf (map (saidAt s) (conclusionsFrom p n 0)) ≡ premisesOf s (implicationsOf c p)
   unfolding implicationsOf premisesFrom impsFrom impOf
   table-is zero e h = rw e
   table-is (suc zero) e h = rw e
@@ -118,7 +118,7 @@ module _ (s : List ℕ) (b : Bind) (a : Acting) (c : Claim) (p : Premises) (few 
 
   assigned-is : allowed r2 ≡ true → holds r2 ≡ asked s (sideNumber (row r2 .sides)) b a c p
   unfolding asked ofInstruction assignedBy isWith oneName nameCode
-  assigned-is e = rw (only-one e) (and-one _ ∙ ap₂ (λ (u v : Tree). sameTree (replaceT (oneName false (a .register) (skim s nesting (a .formula) .tree)) v) u) (hole-tree s b 0) (hole-tree s b 1))
+  assigned-is e = rw (only-one e) (and-one _ ∙ ap₂ (λ (u v : Tree). sameTree (replaceT (oneName false (a .register) (parseTree s nesting (a .formula) .tree)) v) u) (hole-tree s b 0) (hole-tree s b 1))
     where
       only-one : allowed r2 ≡ true → eqb (a .operation) Opcode.assign ≡ true
       only-one h = go (eqb (a .operation) Opcode.assign) h
@@ -138,7 +138,7 @@ module _ (s : List ℕ) (b : Bind) (a : Acting) (c : Claim) (p : Premises) (few 
   stored-is : holds r9 ≡ asked s (sideNumber (row r9 .sides)) b a c p
   unfolding asked ofInstruction storedBy isWith
   stored-is =
-      ap₂ (λ (u v : Tree). sameTree (replaceT (oneName true (a .word) (skim s nesting (a .formula) .tree)) v) u && (not (occurs (flag (a .word)) [] v) && true)) (hole-tree s b 3) (hole-tree s b 2)
+      ap₂ (λ (u v : Tree). sameTree (replaceT (oneName true (a .word) (parseTree s nesting (a .formula) .tree)) v) u && (not (occurs (flag (a .word)) [] v) && true)) (hole-tree s b 3) (hole-tree s b 2)
       ∙ go (occurs (flag (a .word)) [] (treeOf s (holeOf b 2))) _
     where
       go : (o e : Bool) → e && (not o && true) ≡ cond o false e

@@ -14,10 +14,10 @@ use Rattle.frames.specs.Records.{bodies}
 use Rattle.matcher.specs.declared.bind.Bind.{Bind}
 use Rattle.content.specs.declared.acting.Acting.{Acting}
 use Rattle.rulebook.specs.Rulebook.{nothing, isKept, assigned, loaded, stored, byRows, byTable, startValue}
-use Rattle.conclusions.specs.Claim.{claimAt}
+use Rattle.conclusions.specs.Conclusion.{conclusionAt}
 use Rattle.sides.specs.Side.{holeOf, numberIn, treeOf, keeps, isWith, storedBy, isStart}
-use Rattle.conclusions.specs.declared.claim.Claim.{Claim}
-use Rattle.conclusions.specs.declared.claim.Premises.{Premises}
+use Rattle.conclusions.specs.declared.conclusion.Conclusion.{Conclusion}
+use Rattle.conclusions.specs.declared.conclusion.Premises.{Premises}
 
 -- the left side is the right one with the instruction's register replaced by its formula
 unfoldable pub assignedBy : List ℕ → Bind → Acting → Bool
@@ -37,11 +37,11 @@ ofInstruction s side b a =
     (not (occurs (wordAnyRole (a .word)) [] (treeOf s (holeOf b 1)))))))
 
 -- a line and its premises, as implications
-unfoldable pub implicationsOf : Claim → Premises → Implications
+unfoldable pub implicationsOf : Conclusion → Premises → Implications
 implicationsOf c p = record {
   count = p .count + 1;
-  left = c .left ∷ claimAt p 0 .left ∷ claimAt p 1 .left ∷ claimAt p 2 .left ∷ claimAt p 3 .left ∷ [];
-  right = c .right ∷ claimAt p 0 .right ∷ claimAt p 1 .right ∷ claimAt p 2 .right ∷ claimAt p 3 .right ∷ [];
+  left = c .left ∷ conclusionAt p 0 .left ∷ conclusionAt p 1 .left ∷ conclusionAt p 2 .left ∷ conclusionAt p 3 .left ∷ [];
+  right = c .right ∷ conclusionAt p 0 .right ∷ conclusionAt p 1 .right ∷ conclusionAt p 2 .right ∷ conclusionAt p 3 .right ∷ [];
 }
 
 -- by rows, of the tests in holes 2 and 3
@@ -49,7 +49,7 @@ unfoldable pub ofNames : List ℕ → Bind → Bool
 ofNames s b = rowsT Limits.values (treeOf s (holeOf b 2)) (treeOf s (holeOf b 3))
 
 -- by rows, by truth table, by the start values; else of the instruction
-unfoldable pub asked : List ℕ → ℕ → Bind → Acting → Claim → Premises → Bool
+unfoldable pub asked : List ℕ → ℕ → Bind → Acting → Conclusion → Premises → Bool
 asked s side b a c p =
     cond (eqb side nothing) true
     (cond (eqb side byRows) (ofNames s b)

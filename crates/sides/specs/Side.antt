@@ -9,7 +9,7 @@ use Rattle.logic.specs.Code.{byte}
 use Rattle.logic.specs.Opcode
 use Rattle.limits.specs.Limits.{nesting}
 use Rattle.limits.specs.Numbers.{nth}
-use Rattle.formula.specs.Tree.{Tree, none, node, skim}
+use Rattle.formula.specs.Tree.{Tree, none, node, parseTree}
 use Rattle.program.specs.Header.{startValues}
 use Rattle.compare.specs.Same.{sameTree}
 use Rattle.compare.specs.Replace.{replaceT, oneName, standsFor}
@@ -17,17 +17,17 @@ use Rattle.compare.specs.declared.replace.Substitution.{Substitution}
 use Rattle.compare.specs.declared.replace.Replacing.the-variants.{Formula}
 use Rattle.occurs.specs.Occurs.{occurs, register, wordAnyRole, flag}
 use Rattle.matcher.specs.declared.bind.Bind.{Bind}
-use Rattle.sides.specs.declared.side.Stand.{Stand}
+use Rattle.sides.specs.declared.side.Position.{Position}
 
-unfoldable pub holeOf : Bind → ℕ → Stand
+unfoldable pub holeOf : Bind → ℕ → Position
 holeOf b j = record { at = getD (b .at) j 0; left = getD (b .left) j 0 }
 
 -- the number in a hole; 0 where it has taken none
 unfoldable pub numberIn : Bind → ℕ → ℕ
 numberIn b j = getD (b .num) j 0 - 1
 
-abbrev pub treeOf : List ℕ → Stand → Tree
-treeOf s p = skim s (p .left) (p .at) .tree
+abbrev pub treeOf : List ℕ → Position → Tree
+treeOf s p = parseTree s (p .left) (p .at) .tree
 
 -- a load keeps what has not its register; a store or a swap what has not its word
 unfoldable pub keeps : ℕ → ℕ → ℕ → Tree → Bool

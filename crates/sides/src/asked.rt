@@ -7,9 +7,9 @@ use crate::side::is_with;
 use crate::side::number_in;
 use compare::replace::Replacing;
 use compare::replace::Substitution;
-use conclusions::claim::Claim;
-use conclusions::claim::Premises;
-use conclusions::claim::claim_at;
+use conclusions::conclusion::Conclusion;
+use conclusions::conclusion::Premises;
+use conclusions::conclusion::conclusion_at;
 use content::acting::Acting;
 use frames::index::body_of;
 use limits::Limits;
@@ -68,13 +68,13 @@ fn of_instruction(s: &[u8], side: u8, b: Bind, a: Acting) -> bool
 }
 
 // A line and its premises, as implications.
-fn implications_of(c: Claim, p: Premises) -> Implications
+fn implications_of(c: Conclusion, p: Premises) -> Implications
     ensures { λ r. ⌜ r ≡ implicationsOf c p ⌝ }
 {
-    let d = claim_at(p, 0);
-    let e = claim_at(p, 1);
-    let f = claim_at(p, 2);
-    let g = claim_at(p, 3);
+    let d = conclusion_at(p, 0);
+    let e = conclusion_at(p, 1);
+    let f = conclusion_at(p, 2);
+    let g = conclusion_at(p, 3);
     Implications {
         count: (p.count as usize) + 1,
         left: [c.left, d.left, e.left, f.left, g.left],
@@ -98,7 +98,7 @@ pub fn is_asked<'a, 'b>(
     side: u8,
     b: Bind,
     a: Acting,
-    c: Claim,
+    c: Conclusion,
     p: Premises,
 ) -> bool
     requires { ⌜ now ix ≡ indexOf (now s) ⌝ }

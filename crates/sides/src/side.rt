@@ -17,23 +17,23 @@ ghost use Prim.Native.Nat.{_<_};
 ghost use Rattle.sides.specs.Side.{holeOf, numberIn, treeOf, keeps, isWith, storedBy, isStart};
 
 // Where a formula stands, with the nesting that is left there.
-pub struct Stand {
+pub struct Position {
     pub at: usize,
     pub left: usize,
 }
 
-pub fn hole_of(b: Bind, j: usize) -> Stand
+pub fn hole_of(b: Bind, j: usize) -> Position
     requires { ⌜ j < 5 ⌝ }
     ensures { λ r. ⌜ r ≡ holeOf b j ⌝ }
 {
-    Stand {
+    Position {
         at: b.at[j],
         left: b.left[j] as usize,
     }
 }
 
 // A load keeps what has not its register; a store or a swap what has not its word.
-pub fn is_kept(s: &[u8], operation: u8, word: u8, register: u8, p: Stand) -> bool
+pub fn is_kept(s: &[u8], operation: u8, word: u8, register: u8, p: Position) -> bool
     ensures { λ r. ⌜ r ≡ keeps operation word register (treeOf (now (s .entry)) p) ⌝ }
 {
     if operation < Instruction::LOAD {
@@ -49,7 +49,7 @@ pub fn is_kept(s: &[u8], operation: u8, word: u8, register: u8, p: Stand) -> boo
 }
 
 // The first formula is the second with a name replaced.
-pub fn is_with(s: &[u8], p: Stand, q: Stand, w: Substitution) -> bool
+pub fn is_with(s: &[u8], p: Position, q: Position, w: Substitution) -> bool
     ensures { λ r. ⌜ r ≡ isWith (now (s .entry)) w (treeOf (now (s .entry)) p) (treeOf (now (s .entry)) q) ⌝ }
 {
     match replaced_at(s, q.at, q.left, p.at, p.left, w) {
@@ -59,7 +59,7 @@ pub fn is_with(s: &[u8], p: Stand, q: Stand, w: Substitution) -> bool
 }
 
 // The first test is the second with the word replaced by the formula, and no flag of the word is in the second.
-pub fn is_stored(s: &[u8], p: Stand, q: Stand, word: u8, formula: usize) -> bool
+pub fn is_stored(s: &[u8], p: Position, q: Position, word: u8, formula: usize) -> bool
     ensures { λ r. ⌜ r ≡ storedBy (now (s .entry)) word formula (treeOf (now (s .entry)) p) (treeOf (now (s .entry)) q) ⌝ }
 {
     if has_flag(s, q.at, q.left, word) {
@@ -86,7 +86,7 @@ pub fn number_in(b: Bind, j: usize) -> usize
 }
 
 // The formula is the constant with which the word starts, by the header's body.
-pub fn is_start(s: &[u8], h: &[u8], p: Stand, word: usize) -> bool
+pub fn is_start(s: &[u8], h: &[u8], p: Position, word: usize) -> bool
     ensures { λ r. ⌜ r ≡ isStart (now (h .entry)) word (treeOf (now (s .entry)) p) ⌝ }
 {
     match leaf_stands(s, Code::CONST, start_value(h, word), p.at, p.left) {

@@ -19,7 +19,7 @@ use Rattle.bodies.specs.Lists.{outlinedAt, outline, obligations}
 use Rattle.bodies.specs.Line.{sortAt, sortedBy, lineSorted, line}
 use Rattle.bodies.specs.Use as Use
 use Rattle.bodies.specs.Use.{startless}
-use Rattle.occurs.specs.Occurs.{isSought, occurs}
+use Rattle.occurs.specs.Occurs.{isQueried, occurs}
 use Rattle.formula.specs.Reader.{inRange, operandFault, headFault, faultAt, readingOf}
 use Rattle.program.specs.Header as Header
 use Rattle.program.specs.Header.{startValues, owners, headerSize, headed, header}
@@ -31,7 +31,7 @@ use Rattle.records.specs.Places.{threadBody}
 use Rattle.records.specs.Tally.{branches, threadTally, tallyTo, tally, obligationCount}
 use Rattle.records.specs.Line.{formOf, premises, lineSize, nowhere, placed, lineNumbers}
 use Rattle.formula.specs.Codes.{hasOperand, partCount, partPlace, fitsAt, member}
-use Rattle.formula.specs.Tree.{nodeAt, skim}
+use Rattle.formula.specs.Tree.{nodeAt, parseTree}
 use Rattle.outline.specs.Verdict.{code, judge}
 use Rattle.certificate.specs.Lines.{marked}
 use Rattle.content.specs.Formula.{formula}
@@ -47,5 +47,5 @@ use Rattle.checker.specs.Answer.{verdict}
 use Rattle.starred.specs.Table.{holds, table}
 
 pub starred : T (all holds table)
-unfolding verdict codeFor bytesFor fieldsOf gathered Place.placeOf recordBytes codeOf Formulas.formula Formulas.faultOf Header.counted Line.numbered Thread.cut Thread.numbered Use.outlined admit also bodies body branches check choose code countsOf cut decode decoded distinct ended every exactly faultAt firstFault fitsAt formOf formula frame frames has hasOperand headFault headed header headerSize inRange instructions isIn isSought judge lastPoint line lineBody lineNumbers lineSize lineSorted marked member most namedLine nodeAt nowhere numbers obligationCount obligations occurs operandFault outline outlineNumber outlinedAt owners partCount partPlace placeOf placed pointCount premises read readingOf recordCount ruleOf same same-leaf saying sizesOf skim sortAt sortedBy startValues startless tally tallyTo thread threadBody threadNumbers threadSize threadTally unless upd walk wholeImage within word same-name ℕ-discrete
+unfolding verdict codeFor bytesFor fieldsOf gathered Place.placeOf recordBytes codeOf Formulas.formula Formulas.faultOf Header.counted Line.numbered Thread.cut Thread.numbered Use.outlined admit also bodies body branches check choose code countsOf cut decode decoded distinct ended every exactly faultAt firstFault fitsAt formOf formula frame frames has hasOperand headFault headed header headerSize inRange instructions isIn isQueried judge lastPoint line lineBody lineNumbers lineSize lineSorted marked member most namedLine nodeAt nowhere numbers obligationCount obligations occurs operandFault outline outlineNumber outlinedAt owners partCount partPlace placeOf placed pointCount premises read readingOf recordCount ruleOf same same-leaf saying sizesOf parseTree sortAt sortedBy startValues startless tally tallyTo thread threadBody threadNumbers threadSize threadTally unless upd walk wholeImage within word same-name ℕ-discrete
 starred = tt

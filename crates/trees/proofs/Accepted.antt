@@ -15,7 +15,7 @@ use Rattle.formula.specs.declared.reader.Counts.{Counts}
 use Rattle.trees.specs.Place.{place, alone, inCounts}
 use Rattle.trees.proofs.Shapes.{after, ranged, Leaf, One, Two, by-shape}
 use Rattle.trees.proofs.Heads.{nodeOf, partsFault, fault-parts}
-use Rattle.trees.proofs.Encoded.{own, size, cons-at, drop-encode, node-back, skim-encode}
+use Rattle.trees.proofs.Encoded.{own, size, cons-at, drop-encode, node-back, parse-encode}
 
 module _ (s : List ℕ) (n : Counts) (p at c o : ℕ) (l : List ℕ) (e : drop at s ≡ after c o l) (f : fitsAt c p ≡ true) (r : T (ranged n c o)) where
   head-back : headFault s n p at ≡ 0
@@ -57,7 +57,7 @@ module _ (n : Counts) where
   two-passes c p q t f g ih jh r s zero at l e h i a = let d = t .deep f g in absurd (omega arith)
   two-passes c p q t f g ih jh r s (suc k) at l e h i a =
       fault-back s n (place r p) at c 0 (encode f (encode g l)) b (t .fits r) (rw (t .bare) tt) k
-      ∙ rw (t .parts, t .inside r, first-part, skim-encode f s k (at + own c) (encode g l) d (omega (arith, t .deep f g)))
+      ∙ rw (t .parts, t .inside r, first-part, parse-encode f s k (at + own c) (encode g l) d (omega (arith, t .deep f g)))
       (jh r s k (at + own c + size f) l (drop-encode f s (at + own c) (encode g l) d) (omega (arith, t .deep f g)) (and-right (inCounts n f) (inCounts n g) j) (and-right (alone r f) (alone r g) u))
     where
       b : drop at s ≡ after c 0 (encode f (encode g l))

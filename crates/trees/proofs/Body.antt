@@ -10,45 +10,45 @@ use lib.Dec.{T, eqb}
 use borrow.Author.Tests.{eqb-true, eq-eqb, ne-eqb}
 use Rattle.logic.specs.Formula.{Sort, Formula, encode, nesting}
 use Rattle.limits.specs.Limits.{nesting as most}
-use Rattle.formula.specs.Tree.{skim}
+use Rattle.formula.specs.Tree.{parseTree}
 use Rattle.formula.specs.Reader.{malformed, faultAt, sortOf, readingOf}
 use Rattle.formula.specs.declared.reader.Counts.{Counts}
 use Rattle.formula.specs.declared.reader.Reading.the-variants.{Formula as Read, Fault}
-use Rattle.trees.specs.Raw.{Sorted}
+use Rattle.trees.specs.ToTree.{Sorted}
 use Rattle.trees.specs.Place.{sortAt, place, formulaAt, overRegs, alone, inCounts, Readable}
 use Rattle.trees.proofs.Shapes.{by-shape}
 use Rattle.trees.proofs.Heads.{by-place, head, head-fine}
 use Rattle.trees.proofs.Passed.{Passed, passed, is-formula, reads-sorted}
 use Rattle.trees.proofs.Within.{reads-counts, reads-nesting, reads-alone}
-use Rattle.trees.proofs.Encoded.{size, skim-encode}
+use Rattle.trees.proofs.Encoded.{size, parse-encode}
 use Rattle.trees.proofs.Accepted.{passes}
 
 other : (f p : ℕ) → Fault f ≡ Read p → ⊥
 other f p e = let z : _≡_ {A = ℕ} 0 1 = cc in omega arith
 
 module _ (b : List ℕ) (n : Counts) (p : ℕ) (r : readingOf b n ≡ Read p) where
-  read : (p ≡ sortOf b) × (faultAt b n most p 0 ≡ 0) × (skim b most 0 .end ≡ length b)
+  read : (p ≡ sortOf b) × (faultAt b n most p 0 ≡ 0) × (parseTree b most 0 .end ≡ length b)
   unfolding readingOf
-  read = go (eqb (faultAt b n most (sortOf b) 0) 0) (eqb (skim b most 0 .end) (length b)) refl refl r
+  read = go (eqb (faultAt b n most (sortOf b) 0) 0) (eqb (parseTree b most 0 .end) (length b)) refl refl r
     where
-      go : (c d : Bool) → eqb (faultAt b n most (sortOf b) 0) 0 ≡ c → eqb (skim b most 0 .end) (length b) ≡ d
+      go : (c d : Bool) → eqb (faultAt b n most (sortOf b) 0) 0 ≡ c → eqb (parseTree b most 0 .end) (length b) ≡ d
           → cond c (cond d (Read (sortOf b)) (Fault malformed)) (Fault (faultAt b n most (sortOf b) 0)) ≡ Read p
-          → (p ≡ sortOf b) × (faultAt b n most p 0 ≡ 0) × (skim b most 0 .end ≡ length b)
-      go true true e f h = let q : sortOf b ≡ p = cc in (sym q, rw (← q) (eqb-true (faultAt b n most (sortOf b) 0) 0 e), eqb-true (skim b most 0 .end) (length b) f)
+          → (p ≡ sortOf b) × (faultAt b n most p 0 ≡ 0) × (parseTree b most 0 .end ≡ length b)
+      go true true e f h = let q : sortOf b ≡ p = cc in (sym q, rw (← q) (eqb-true (faultAt b n most (sortOf b) 0) 0 e), eqb-true (parseTree b most 0 .end) (length b) f)
       go true false e f h = absurd (other malformed p h)
       go false d e f h = absurd (other (faultAt b n most (sortOf b) 0) p h)
 
   pub reading-fault : faultAt b n most p 0 ≡ 0
   reading-fault = read .1
 
-  pub reading-end : skim b most 0 .end ≡ length b
+  pub reading-end : parseTree b most 0 .end ≡ length b
   reading-end = read .2
 
   -- its sort is the first code's eighth: no place over registers alone
   pub reading-place : p < 4
   reading-place = by-place (λ q c. q ≡ c / 8 → q < 4) p (getD b 0 0) (omega arith) (omega arith) (omega arith) (omega arith) (omega arith) (omega arith) (head b n p 0 (head-fine b n most p 0 reading-fault) .1) (read .0)
 
-  pub reading-sorted : Sorted (sortAt p) (skim b most 0 .tree)
+  pub reading-sorted : Sorted (sortAt p) (parseTree b most 0 .tree)
   reading-sorted = reads-sorted b n most p 0 reading-fault
 
   -- the formula: its bytes are the body
@@ -80,7 +80,7 @@ sort-first = by-shape (λ s f. sortOf (encode f []) ≡ place false s) (λ c p t
 
 pub reading-encode : {s : Sort} (f : Formula s) (n : Counts) → T (inCounts n f) → T (alone false f) → nesting f ≤ most → readingOf (encode f []) n ≡ Read (place false s)
 unfolding readingOf
-reading-encode f n i a h = rw (sort-first f, passes n f false (encode f []) most 0 [] refl h i a, skim-encode f (encode f []) most 0 [] refl h, eq-eqb (0 + size f) (size f) (omega arith))
+reading-encode f n i a h = rw (sort-first f, passes n f false (encode f []) most 0 [] refl h i a, parse-encode f (encode f []) most 0 [] refl h, eq-eqb (0 + size f) (size f) (omega arith))
 
 place-sort : (p : ℕ) → p < 4 → place false (sortAt p) ≡ p
 place-sort zero h = refl

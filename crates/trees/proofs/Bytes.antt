@@ -8,15 +8,15 @@ use lib.ListN.{length, take, drop}
 use lib.Seq.{length-take-le, take-append-seam, take-add, drop-at}
 use Rattle.logic.specs.Formula.{Sort, Formula, encode, nesting}
 use Rattle.formula.specs.Codes.{hasOperand}
-use Rattle.formula.specs.Tree.{Tree, none, node, Skim, skim}
+use Rattle.formula.specs.Tree.{Tree, none, node, ParsedTree, parseTree}
 use Rattle.formula.specs.Reader.{faultAt}
 use Rattle.formula.specs.declared.reader.Counts.{Counts}
-use Rattle.trees.specs.Raw.{raw}
+use Rattle.trees.specs.ToTree.{toTree}
 use Rattle.trees.specs.Place.{formulaAt, bytesAt}
 use Rattle.trees.proofs.Shapes.{after, operand, by-shape}
 use Rattle.trees.proofs.Heads.{head, head-fine}
 use Rattle.trees.proofs.Passed.{Passed, passed, is-formula}
-use Rattle.trees.proofs.Encoded.{size, encode-append, skim-encode}
+use Rattle.trees.proofs.Encoded.{size, encode-append, parse-encode}
 
 -- a tree's bytes before other bytes: those of its formula, whatever the sort
 abbrev bytesOf : Tree → List ℕ → List ℕ
@@ -30,32 +30,32 @@ after-operand c o l = go (hasOperand c)
     go true = refl
     go false = refl
 
-encode-raw : {s : Sort} (f : Formula s) (l : List ℕ) → encode f l ≡ bytesOf (raw f) l
-encode-raw = by-shape (λ s f. (l : List ℕ) → encode f l ≡ bytesOf (raw f) l) (λ c p t o l. t .bytes o l ∙ after-operand c o l ∙ rw (t .tree o))
-    (λ c p q t o f h l. t .bytes o f l ∙ ap (after c o) (h l) ∙ after-operand c o (bytesOf (raw f) l) ∙ rw (t .tree o f))
-    (λ c p q t f g h k l. t .bytes 0 f g l ∙ ap (after c 0) (h (encode g l) ∙ ap (bytesOf (raw f)) (k l)) ∙ after-operand c 0 (bytesOf (raw f) (bytesOf (raw g) l)) ∙ rw (t .tree 0 f g))
+encode-toTree : {s : Sort} (f : Formula s) (l : List ℕ) → encode f l ≡ bytesOf (toTree f) l
+encode-toTree = by-shape (λ s f. (l : List ℕ) → encode f l ≡ bytesOf (toTree f) l) (λ c p t o l. t .bytes o l ∙ after-operand c o l ∙ rw (t .tree o))
+    (λ c p q t o f h l. t .bytes o f l ∙ ap (after c o) (h l) ∙ after-operand c o (bytesOf (toTree f) l) ∙ rw (t .tree o f))
+    (λ c p q t f g h k l. t .bytes 0 f g l ∙ ap (after c 0) (h (encode g l) ∙ ap (bytesOf (toTree f)) (k l)) ∙ after-operand c 0 (bytesOf (toTree f) (bytesOf (toTree g) l)) ∙ rw (t .tree 0 f g))
 
 module _ {r q : Sort} (f : Formula r) (g : Formula q) where
-  pub raw-bytes : raw f ≡ raw g → encode f [] ≡ encode g []
-  raw-bytes e = encode-raw f [] ∙ ap (λ (t : Tree). bytesOf t []) e ∙ sym (encode-raw g [])
+  pub tree-bytes : toTree f ≡ toTree g → encode f [] ≡ encode g []
+  tree-bytes e = encode-toTree f [] ∙ ap (λ (t : Tree). bytesOf t []) e ∙ sym (encode-toTree g [])
 
-  pub bytes-raw : encode f [] ≡ encode g [] → raw f ≡ raw g
-  bytes-raw e =
+  pub bytes-tree : encode f [] ≡ encode g [] → toTree f ≡ toTree g
+  bytes-tree e =
       let k : ℕ = max (nesting f) (nesting g) in
-      ap (λ (u : Skim). u .tree) (sym (skim-encode f (encode f []) k 0 [] refl (omega arith)) ∙ skim-encode g (encode f []) k 0 [] e (omega arith))
+      ap (λ (u : ParsedTree). u .tree) (sym (parse-encode f (encode f []) k 0 [] refl (omega arith)) ∙ parse-encode g (encode f []) k 0 [] e (omega arith))
 
 -- the bytes of what is passed
-pub reads-bytes : (s : List ℕ) (n : Counts) (k p at : ℕ) → faultAt s n k p at ≡ 0 → drop at s ≡ encode (formulaAt s k p at) (drop (skim s k at .end) s)
+pub reads-bytes : (s : List ℕ) (n : Counts) (k p at : ℕ) → faultAt s n k p at ≡ 0 → drop at s ≡ encode (formulaAt s k p at) (drop (parseTree s k at .end) s)
 reads-bytes s n k p at h = go (passed s n k p at h)
   where
-    go : Passed s n k p at → drop at s ≡ encode (formulaAt s k p at) (drop (skim s k at .end) s)
+    go : Passed s n k p at → drop at s ≡ encode (formulaAt s k p at) (drop (parseTree s k at .end) s)
     go q = rw (is-formula s n k p at q) (q .bytes)
 
 passed-bytes : (s : List ℕ) (n : Counts) (k p at : ℕ) (q : Passed s n k p at) → at < length s → bytesAt s k at ≡ encode (q .formula) []
 passed-bytes s n k p at q h =
     let f = q .formula in
-    let l : List ℕ = drop (skim s k at .end) s in
-    rw (skim-encode f s k at l (q .bytes) (q .deep), take-add at (size f) s)
+    let l : List ℕ = drop (parseTree s k at .end) s in
+    rw (parse-encode f s k at l (q .bytes) (q .deep), take-add at (size f) s)
     (drop-at (take at s) (take (size f) (drop at s)) at (length-take-le at s (omega arith)) ∙ ap (take (size f)) (q .bytes ∙ sym (encode-append f [] l)) ∙ take-append-seam (encode f []) l)
 
 module _ (s : List ℕ) (n : Counts) (k p at : ℕ) (h : faultAt s n k p at ≡ 0) (t : List ℕ) (m : Counts) (j q to : ℕ) (g : faultAt t m j q to ≡ 0) where
@@ -71,8 +71,8 @@ module _ (s : List ℕ) (n : Counts) (k p at : ℕ) (h : faultAt s n k p at ≡ 
   there-bytes : bytesAt t j to ≡ encode (there .formula) []
   there-bytes = passed-bytes t m j q to there (head t m q to (head-fine t m j q to g) .0)
 
-  pub same-bytes : skim s k at .tree ≡ skim t j to .tree → bytesAt s k at ≡ bytesAt t j to
-  same-bytes e = here-bytes ∙ raw-bytes (here .formula) (there .formula) (sym (here .tree) ∙ e ∙ there .tree) ∙ sym there-bytes
+  pub same-bytes : parseTree s k at .tree ≡ parseTree t j to .tree → bytesAt s k at ≡ bytesAt t j to
+  same-bytes e = here-bytes ∙ tree-bytes (here .formula) (there .formula) (sym (here .tree) ∙ e ∙ there .tree) ∙ sym there-bytes
 
-  pub same-trees : bytesAt s k at ≡ bytesAt t j to → skim s k at .tree ≡ skim t j to .tree
-  same-trees e = here .tree ∙ bytes-raw (here .formula) (there .formula) (sym here-bytes ∙ e ∙ there-bytes) ∙ sym (there .tree)
+  pub same-trees : bytesAt s k at ≡ bytesAt t j to → parseTree s k at .tree ≡ parseTree t j to .tree
+  same-trees e = here .tree ∙ bytes-tree (here .formula) (there .formula) (sym here-bytes ∙ e ∙ there-bytes) ∙ sym (there .tree)

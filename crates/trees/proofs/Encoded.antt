@@ -9,8 +9,8 @@ use lib.Seq.{drop-drop, drop-append-seam}
 use borrow.Author.Tests.{lt-ltb}
 use Rattle.logic.specs.Formula.{Sort, Formula, encode, nesting}
 use Rattle.formula.specs.Codes.{hasOperand, partCount}
-use Rattle.formula.specs.Tree.{Tree, none, node, nodeAt, Skim, grow, skim}
-use Rattle.trees.specs.Raw.{raw}
+use Rattle.formula.specs.Tree.{Tree, none, node, nodeAt, ParsedTree, grow, parseTree}
+use Rattle.trees.specs.ToTree.{toTree}
 use Rattle.trees.proofs.Shapes.{after, operand, Leaf, One, Two, by-shape}
 use Rattle.trees.proofs.Heads.{drop-next, nodeOf}
 
@@ -83,19 +83,19 @@ module _ (s : List ℕ) (at c o : ℕ) (l : List ℕ) (e : drop at s ≡ after c
 -- a formula's bytes are followed by its end, and its tree stands there
 abbrev Stands : (s : Sort) → Formula s → Type 0
 Stands r f =
-    (s : List ℕ) (k at : ℕ) (l : List ℕ) → drop at s ≡ encode f l → nesting f ≤ k → skim s k at ≡ record { tree = raw f; end = at + size f }
+    (s : List ℕ) (k at : ℕ) (l : List ℕ) → drop at s ≡ encode f l → nesting f ≤ k → parseTree s k at ≡ record { tree = toTree f; end = at + size f }
 
-skim-back : (s : List ℕ) (k at c o : ℕ) (l : List ℕ) → drop at s ≡ after c o l → skim s (suc k) at ≡ grow (λ i. skim s k i) (nodeOf c o (at + own c))
-unfolding skim
-skim-back s k at c o l e = ap (grow (λ i. skim s k i)) (node-back s at c o l e .0)
+parse-back : (s : List ℕ) (k at c o : ℕ) (l : List ℕ) → drop at s ≡ after c o l → parseTree s (suc k) at ≡ grow (λ i. parseTree s k i) (nodeOf c o (at + own c))
+unfolding parseTree
+parse-back s k at c o l e = ap (grow (λ i. parseTree s k i)) (node-back s at c o l e .0)
 
-skim-of : (t u : Tree) (i j : ℕ) → t ≡ u → i ≡ j → _≡_ {A = Skim} (record { tree = t; end = i }) (record { tree = u; end = j })
-skim-of t u i j e d = λ x. record { tree = e x; end = d x }
+parse-of : (t u : Tree) (i j : ℕ) → t ≡ u → i ≡ j → _≡_ {A = ParsedTree} (record { tree = t; end = i }) (record { tree = u; end = j })
+parse-of t u i j e d = λ x. record { tree = e x; end = d x }
 
 leaf-stands : (c : ℕ) (p : Sort) (t : Leaf c p) (o : ℕ) → Stands p (t .make o)
 leaf-stands c p t o s zero at l e h = let d = t .deep o in absurd (omega arith)
 leaf-stands c p t o s (suc k) at l e h =
-    skim-back s k at c o l (e ∙ t .bytes o l) ∙ rw (t .parts) (skim-of (node c (operand c o) none none) (raw (t .make o)) (at + own c) (at + size (t .make o)) (sym (t .tree o)) ends)
+    parse-back s k at c o l (e ∙ t .bytes o l) ∙ rw (t .parts) (parse-of (node c (operand c o) none none) (toTree (t .make o)) (at + own c) (at + size (t .make o)) (sym (t .tree o)) ends)
   where
     ends : at + own c ≡ at + size (t .make o)
     ends = omega (arith, ap length (t .bytes o []), length-after c o [])
@@ -103,9 +103,9 @@ leaf-stands c p t o s (suc k) at l e h =
 one-stands : (c : ℕ) (p q : Sort) (t : One c p q) (o : ℕ) (f : Formula q) → Stands q f → Stands p (t .make o f)
 one-stands c p q t o f ih s zero at l e h = let d = t .deep o f in absurd (omega arith)
 one-stands c p q t o f ih s (suc k) at l e h =
-    skim-back s k at c o (encode f l) b
+    parse-back s k at c o (encode f l) b
     ∙ rw (t .parts, ih s k (at + own c) l (node-back s at c o (encode f l) b .1) (omega (arith, t .deep o f)))
-    (skim-of (node c (operand c o) (raw f) none) (raw (t .make o f)) (at + own c + size f) (at + size (t .make o f)) (sym (t .tree o f)) ends)
+    (parse-of (node c (operand c o) (toTree f) none) (toTree (t .make o f)) (at + own c + size f) (at + size (t .make o f)) (sym (t .tree o f)) ends)
   where
     b : drop at s ≡ after c o (encode f l)
     b = e ∙ t .bytes o f l
@@ -116,9 +116,9 @@ one-stands c p q t o f ih s (suc k) at l e h =
 two-stands : (c : ℕ) (p q : Sort) (t : Two c p q) (f g : Formula q) → Stands q f → Stands q g → Stands p (t .make f g)
 two-stands c p q t f g ih jh s zero at l e h = let d = t .deep f g in absurd (omega arith)
 two-stands c p q t f g ih jh s (suc k) at l e h =
-    skim-back s k at c 0 (encode f (encode g l)) b
+    parse-back s k at c 0 (encode f (encode g l)) b
     ∙ rw (t .parts, ih s k (at + own c) (encode g l) d (omega (arith, t .deep f g)), jh s k (at + own c + size f) l (drop-encode f s (at + own c) (encode g l) d) (omega (arith, t .deep f g)))
-    (skim-of (node c (operand c 0) (raw f) (raw g)) (raw (t .make f g)) (at + own c + size f + size g) (at + size (t .make f g)) (sym (t .tree 0 f g)) ends)
+    (parse-of (node c (operand c 0) (toTree f) (toTree g)) (toTree (t .make f g)) (at + own c + size f + size g) (at + size (t .make f g)) (sym (t .tree 0 f g)) ends)
   where
     b : drop at s ≡ after c 0 (encode f (encode g l))
     b = e ∙ t .bytes 0 f g l
@@ -129,6 +129,6 @@ two-stands c p q t f g ih jh s (suc k) at l e h =
     ends : at + own c + size f + size g ≡ at + size (t .make f g)
     ends = omega (arith, ap length (t .bytes 0 f g []), length-after c 0 (encode f (encode g [])), length-encode f (encode g []))
 
-pub skim-encode : {r : Sort} (f : Formula r) (s : List ℕ) (k at : ℕ) (l : List ℕ) → drop at s ≡ encode f l → nesting f ≤ k
-    → skim s k at ≡ record { tree = raw f; end = at + length (encode f []) }
-skim-encode = by-shape Stands leaf-stands one-stands two-stands
+pub parse-encode : {r : Sort} (f : Formula r) (s : List ℕ) (k at : ℕ) (l : List ℕ) → drop at s ≡ encode f l → nesting f ≤ k
+    → parseTree s k at ≡ record { tree = toTree f; end = at + length (encode f []) }
+parse-encode = by-shape Stands leaf-stands one-stands two-stands

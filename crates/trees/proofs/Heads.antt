@@ -12,7 +12,7 @@ use borrow.Author.Tests.{eqb-true, ltb-true, lt-ltb}
 use Rattle.logic.specs.Base.{All}
 use Rattle.logic.specs.Code.{Code, byte}
 use Rattle.formula.specs.Codes.{among, value, test, interval, assertion, regValue, regTest, codesAt, fitsAt, hasOperand, partCount, partPlace}
-use Rattle.formula.specs.Tree.{nodeAt, skim}
+use Rattle.formula.specs.Tree.{nodeAt, parseTree}
 use Rattle.formula.specs.Reader.{malformed, range, inRange, operandFault, headFault, first, faultAt}
 use Rattle.formula.proofs.Faults.{fault-step}
 use Rattle.formula.specs.declared.node.Node.{Node}
@@ -77,7 +77,7 @@ nodeOf c o m = record { code = c; operand = operand c o; parts = partCount c; ne
 abbrev pub partsFault : List ℕ → Counts → ℕ → ℕ → Node → ℕ
 partsFault s n k p d =
     cond (eqb (d .parts) 0) 0
-    (first (faultAt s n k (partPlace (d .code) p) (d .next)) (cond (eqb (d .parts) 1) 0 (faultAt s n k (partPlace (d .code) p) (skim s k (d .next) .end))))
+    (first (faultAt s n k (partPlace (d .code) p) (d .next)) (cond (eqb (d .parts) 1) 0 (faultAt s n k (partPlace (d .code) p) (parseTree s k (d .next) .end))))
 
 pub fault-parts : (s : List ℕ) (n : Counts) (k p at : ℕ) → faultAt s n (suc k) p at ≡ first (headFault s n p at) (partsFault s n k p (nodeAt s at))
 fault-parts s n k p at = let e = fault-step s n (suc k) p at (omega arith) in rw (sub-one (suc k)) at e

@@ -1,4 +1,4 @@
-pub mod Raw
+pub mod ToTree
 pub mod Replace
 pub mod Occurs
 pub mod Shapes

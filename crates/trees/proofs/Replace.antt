@@ -11,11 +11,11 @@ use Rattle.logic.specs.Formula.{Sort, Formula, Value, Formula.const, Formula.re
 use Rattle.logic.specs.Replace.{Note, Sub, replace, noted, notes, regBy, wordBy}
 use Rattle.formula.specs.Tree.{Tree, none, node}
 use Rattle.compare.specs.Replace.{isName, replaceT, nameCode, oneName, named}
-use Rattle.trees.specs.Raw.{raw, noteT}
+use Rattle.trees.specs.ToTree.{toTree, noteT}
 
 -- τ stands for the trees of what σ puts for each name
-module _ (τ : ℕ → ℕ → Tree) (σ : Sub) (on-reg : (r : ℕ) → τ (byte Code.reg) r ≡ raw (σ .reg r)) (on-word : (x : ℕ) → τ (byte Code.word) x ≡ raw (σ .word x)) where
-  pub replaced : {s : Sort} (f : Formula s) → replaceT τ (raw f) ≡ raw (replace σ f)
+module _ (τ : ℕ → ℕ → Tree) (σ : Sub) (on-reg : (r : ℕ) → τ (byte Code.reg) r ≡ toTree (σ .reg r)) (on-word : (x : ℕ) → τ (byte Code.word) x ≡ toTree (σ .word x)) where
+  pub replaced : {s : Sort} (f : Formula s) → replaceT τ (toTree f) ≡ toTree (replace σ f)
   unfolding replaceT isName
   replaced (const n) = refl
   replaced (reg n) = on-reg n
@@ -40,29 +40,29 @@ module _ (τ : ℕ → ℕ → Tree) (σ : Sub) (on-reg : (r : ℕ) → τ (byte
   replaced start = refl
   replaced (holds f) = ap (λ t. node (byte Code.holds) 0 t none) (replaced f)
 
-raw-if : (b : Bool) (v w : Value) → cond b (raw v) (raw w) ≡ raw (cond b v w)
-raw-if true v w = refl
-raw-if false v w = refl
+toTree-if : (b : Bool) (v w : Value) → cond b (toTree v) (toTree w) ≡ toTree (cond b v w)
+toTree-if true v w = refl
+toTree-if false v w = refl
 
 -- a register by a value; a word by a value
-pub raw-reg : (r : ℕ) {s : Sort} (v : Value) (f : Formula s) → replaceT (oneName false r (raw v)) (raw f) ≡ raw (replace (regBy r v) f)
+pub toTree-reg : (r : ℕ) {s : Sort} (v : Value) (f : Formula s) → replaceT (oneName false r (toTree v)) (toTree f) ≡ toTree (replace (regBy r v) f)
 unfolding oneName nameCode upd
-raw-reg r v f = replaced (oneName false r (raw v)) (regBy r v) (λ q. raw-if (eqb q r) v (reg q)) (λ x. refl) f
+toTree-reg r v f = replaced (oneName false r (toTree v)) (regBy r v) (λ q. toTree-if (eqb q r) v (reg q)) (λ x. refl) f
 
-pub raw-word : (x : ℕ) {s : Sort} (v : Value) (f : Formula s) → replaceT (oneName true x (raw v)) (raw f) ≡ raw (replace (wordBy x v) f)
+pub toTree-word : (x : ℕ) {s : Sort} (v : Value) (f : Formula s) → replaceT (oneName true x (toTree v)) (toTree f) ≡ toTree (replace (wordBy x v) f)
 unfolding oneName nameCode upd
-raw-word x v f = replaced (oneName true x (raw v)) (wordBy x v) (λ r. refl) (λ y. raw-if (eqb y x) v (word y)) f
+toTree-word x v f = replaced (oneName true x (toTree v)) (wordBy x v) (λ r. refl) (λ y. toTree-if (eqb y x) v (word y)) f
 
 -- several registers at once
-noted-reg : (ns : List Note) (q : ℕ) → named (map noteT ns) (byte Code.reg) q ≡ raw (noted ns q)
+noted-reg : (ns : List Note) (q : ℕ) → named (map noteT ns) (byte Code.reg) q ≡ toTree (noted ns q)
 unfolding nameCode upd
 noted-reg [] q = refl
-noted-reg (n ∷ l) q = ap (cond (eqb q (n .to)) (raw (n .by))) (noted-reg l q) ∙ raw-if (eqb q (n .to)) (n .by) (noted l q)
+noted-reg (n ∷ l) q = ap (cond (eqb q (n .to)) (toTree (n .by))) (noted-reg l q) ∙ toTree-if (eqb q (n .to)) (n .by) (noted l q)
 
-noted-word : (ns : List Note) (x : ℕ) → named (map noteT ns) (byte Code.word) x ≡ raw (word x)
+noted-word : (ns : List Note) (x : ℕ) → named (map noteT ns) (byte Code.word) x ≡ toTree (word x)
 unfolding nameCode
 noted-word [] x = refl
 noted-word (n ∷ l) x = noted-word l x
 
-pub raw-notes : (ns : List Note) {s : Sort} (f : Formula s) → replaceT (named (map noteT ns)) (raw f) ≡ raw (replace (notes ns) f)
-raw-notes ns f = replaced (named (map noteT ns)) (notes ns) (noted-reg ns) (noted-word ns) f
+pub toTree-notes : (ns : List Note) {s : Sort} (f : Formula s) → replaceT (named (map noteT ns)) (toTree f) ≡ toTree (replace (notes ns) f)
+toTree-notes ns f = replaced (named (map noteT ns)) (notes ns) (noted-reg ns) (noted-word ns) f

@@ -13,7 +13,7 @@ use Rattle.formula.specs.Codes.{value, test, regValue, regTest, hasOperand, par
 use Rattle.formula.specs.Tree.{none, node}
 use Rattle.formula.specs.Reader.{inRange}
 use Rattle.formula.specs.declared.reader.Counts.{Counts}
-use Rattle.trees.specs.Raw.{raw}
+use Rattle.trees.specs.ToTree.{toTree}
 use Rattle.trees.specs.Place.{place, alone, inCounts}
 use Rattle.trees.proofs.Occurs.{all-join}
 
@@ -29,7 +29,7 @@ ranged n c o = cond (hasOperand c) (inRange n c o) true
 
 pub record Leaf (c : ℕ) (p : Sort) : Type 0 where
   pub make : ℕ → Formula p
-  pub tree : (o : ℕ) → raw (make o) ≡ node c (operand c o) none none
+  pub tree : (o : ℕ) → toTree (make o) ≡ node c (operand c o) none none
   pub bytes : (o : ℕ) (l : List ℕ) → encode (make o) l ≡ after c o l
   pub deep : (o : ℕ) → nesting (make o) ≡ 1
   pub counted : (n : Counts) (o : ℕ) → inCounts n (make o) ≡ ranged n c o
@@ -41,7 +41,7 @@ pub record Leaf (c : ℕ) (p : Sort) : Type 0 where
 pub record One (c : ℕ) (p q : Sort) : Type 0 where
   pub inner : Bool → Bool
   pub make : ℕ → Formula q → Formula p
-  pub tree : (o : ℕ) (f : Formula q) → raw (make o f) ≡ node c (operand c o) (raw f) none
+  pub tree : (o : ℕ) (f : Formula q) → toTree (make o f) ≡ node c (operand c o) (toTree f) none
   pub bytes : (o : ℕ) (f : Formula q) (l : List ℕ) → encode (make o f) l ≡ after c o (encode f l)
   pub deep : (o : ℕ) (f : Formula q) → nesting (make o f) ≡ suc (nesting f)
   pub counted : (n : Counts) (o : ℕ) (f : Formula q) → inCounts n (make o f) ≡ ranged n c o && inCounts n f
@@ -54,7 +54,7 @@ pub record One (c : ℕ) (p q : Sort) : Type 0 where
 pub record Two (c : ℕ) (p q : Sort) : Type 0 where
   pub bare : hasOperand c ≡ false
   pub make : Formula q → Formula q → Formula p
-  pub tree : (o : ℕ) (f g : Formula q) → raw (make f g) ≡ node c (operand c o) (raw f) (raw g)
+  pub tree : (o : ℕ) (f g : Formula q) → toTree (make f g) ≡ node c (operand c o) (toTree f) (toTree g)
   pub bytes : (o : ℕ) (f g : Formula q) (l : List ℕ) → encode (make f g) l ≡ after c o (encode f (encode g l))
   pub deep : (f g : Formula q) → nesting (make f g) ≡ suc (max (nesting f) (nesting g))
   pub counted : (n : Counts) (f g : Formula q) → inCounts n (make f g) ≡ inCounts n f && inCounts n g

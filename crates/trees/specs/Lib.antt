@@ -1,2 +1,2 @@
-pub mod Raw
+pub mod ToTree
 pub mod Place

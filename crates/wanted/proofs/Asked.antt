@@ -26,8 +26,8 @@ use Rattle.program.specs.declared.sizes.Sizes.{Sizes}
 use Rattle.program.specs.declared.instruction.Instruction.{Instruction}
 use Rattle.records.specs.Places.{instructionOf}
 use Rattle.compare.specs.Same.{sameTree}
-use Rattle.trees.specs.Raw.{raw}
-use Rattle.trees.proofs.Raw.{raw-same}
+use Rattle.trees.specs.ToTree.{toTree}
+use Rattle.trees.proofs.ToTree.{toTree-same}
 use Rattle.certificate.specs.FitT.{said, implication, hoare}
 use Rattle.outline.specs.Verdict.{asks}
 use Rattle.content.specs.Formula.{formula}
@@ -40,8 +40,8 @@ use Rattle.content.proofs.Instr.{branch-is, branch-read}
 use Rattle.content.proofs.Checked.{Checks}
 use Rattle.content.proofs.Program.{points-few, well-formed}
 use Rattle.content.proofs.Trees.{outline-is, test-is}
-use Rattle.conclusions.specs.LineClaim.{claimOf}
-use Rattle.conclusions.proofs.Claimed.{claim-said}
+use Rattle.conclusions.specs.LineConclusion.{conclusionOf}
+use Rattle.conclusions.proofs.Stated.{conclusion-said}
 use Rattle.wanted.specs.Wanted.{nextPoint, assertedAt, wantedStart, wantedAction, wantedNext, wantedStep, wantedTarget, wantedKept, wantedAt}
 use Rattle.report.specs.Place.{obligation}
 use Rattle.wanted.specs.Concluding.{meets, concludesAt}
@@ -55,9 +55,9 @@ eqb-same a b = go (eqb b a) refl
     go false e = ne-eqb a b (λ q. eqb-false b a e (sym q)) ∙ sym e
 
 -- trees are compared as formulas are
-module _ (f g : Assertion) (u w : Tree) (p : raw f ≡ u) (q : raw g ≡ w) where
-  sides-same : (a b : Assertion) → (sameTree u (raw a) && sameTree w (raw b)) ≡ (same f a && same g b)
-  sides-same a b = rw (← p, ← q) (ap₂ _&&_ (raw-same f a) (raw-same g b))
+module _ (f g : Assertion) (u w : Tree) (p : toTree f ≡ u) (q : toTree g ≡ w) where
+  sides-same : (a b : Assertion) → (sameTree u (toTree a) && sameTree w (toTree b)) ≡ (same f a && same g b)
+  sides-same a b = rw (← p, ← q) (ap₂ _&&_ (toTree-same f a) (toTree-same g b))
 
   implied-same : (x : Statement) → compared implication 0 0 u w (said x) ≡ sameStatement (implies f g) x
   implied-same (inside i j) = refl
@@ -92,22 +92,22 @@ module _ (s : List ℕ) (z : Sizes) (c : Checks z (bodies s)) where
   abbrev its : ℕ → ℕ → Instruction
   its t k = instructionOf z l t k
 
-  asserted-is : (t k : ℕ) → Within (z .threads) t → k < P .points t → raw (O t k) ≡ treeAt s (assertedAt s z t k)
+  asserted-is : (t k : ℕ) → Within (z .threads) t → k < P .points t → toTree (O t k) ≡ treeAt s (assertedAt s z t k)
   asserted-is = outline-is s z c
 
   next-is : (t k : ℕ) → Within (z .threads) t → suc k < P .points t → nextPoint k ≡ suc k
   unfolding nextPoint
   next-is t k w h = rw (lt-ltb k Limits.points (let q = points-few z l c t (w .0) (w .1) in omega arith)) (add-one k)
 
-  behind-is : (t k : ℕ) → Within (z .threads) t → suc k < P .points t → raw (O t (suc k)) ≡ treeAt s (assertedAt s z t (nextPoint k))
+  behind-is : (t k : ℕ) → Within (z .threads) t → suc k < P .points t → toTree (O t (suc k)) ≡ treeAt s (assertedAt s z t (nextPoint k))
   behind-is t k w h = rw (next-is t k w h) (asserted-is t (suc k) w h)
 
   module _ (n : ℕ) (wn : Within (z .lines) n) where
     start-asked : (t : ℕ) → Within (z .threads) t → meets s z (wantedStart s z t) n ≡ sameStatement (implies start (O t 0)) (says n)
     unfolding wantedStart pointCount
     start-asked t w =
-        start-compared s (claimOf s z n) (assertedAt s z t 0)
-        ∙ ap (compared implication 0 0 starting (treeAt s (assertedAt s z t 0))) (claim-said s z c n wn)
+        start-compared s (conclusionOf s z n) (assertedAt s z t 0)
+        ∙ ap (compared implication 0 0 starting (treeAt s (assertedAt s z t 0))) (conclusion-said s z c n wn)
         ∙ implied-same start (O t 0) starting (treeAt s (assertedAt s z t 0)) refl (asserted-is t 0 w (omega arith)) (says n)
 
     module _ (t k : ℕ) (w : Within (z .threads) t) (h : suc k < P .points t) where
@@ -123,22 +123,22 @@ module _ (s : List ℕ) (z : Sizes) (c : Checks z (bodies s)) where
       abbrev test : Test
       test = formula l Sort.test (its t k .formula)
 
-      here-is : raw (O t k) ≡ here
+      here-is : toTree (O t k) ≡ here
       here-is = asserted-is t k w (omega arith)
 
       action-asked : meets s z (wantedAction s z t k) n ≡ sameStatement (triple t k (O t k) (O t (suc k))) (says n)
       unfolding wantedAction
       action-asked =
-          step-compared s (claimOf s z n) (assertedAt s z t k) (assertedAt s z t (nextPoint k)) t k
-          ∙ ap (compared hoare t k here following) (claim-said s z c n wn)
+          step-compared s (conclusionOf s z n) (assertedAt s z t k) (assertedAt s z t (nextPoint k)) t k
+          ∙ ap (compared hoare t k here following) (conclusion-said s z c n wn)
           ∙ kept-same (O t k) (O t (suc k)) here following here-is (behind-is t k w h) t k (says n)
 
       module _ (e : its t k .operation ≡ Opcode.branch) where
         next-asked : meets s z (wantedNext s z t k (its t k)) n ≡ sameStatement (implies (bothA (O t k) (holds (Formula.not test))) (O t (suc k))) (says n)
         unfolding wantedNext
         next-asked =
-            next-compared s (claimOf s z n) (assertedAt s z t k) (formulaAt s (its t k .formula)) (assertedAt s z t (nextPoint k))
-            ∙ ap (compared implication 0 0 (both here (holding (negated tested))) following) (claim-said s z c n wn)
+            next-compared s (conclusionOf s z n) (assertedAt s z t k) (formulaAt s (its t k .formula)) (assertedAt s z t (nextPoint k))
+            ∙ ap (compared implication 0 0 (both here (holding (negated tested))) following) (conclusion-said s z c n wn)
             ∙ implied-same (bothA (O t k) (holds (Formula.not test))) (O t (suc k)) (both here (holding (negated tested))) following
             (ap₂ (λ (x y : Tree). both x (holding (negated y))) here-is (test-is s z c t k w h e)) (behind-is t k w h) (says n)
 
@@ -153,8 +153,8 @@ module _ (s : List ℕ) (z : Sizes) (c : Checks z (bodies s)) where
         target-asked : meets s z (wantedTarget s z t k) n ≡ sameStatement (implies (bothA (O t k) (holds test)) (O t (its t k .a))) (says n)
         unfolding wantedTarget
         target-asked =
-            target-compared s (claimOf s z n) (assertedAt s z t k) (formulaAt s (its t k .formula)) (assertedAt s z t (its t k .a))
-            ∙ ap (compared implication 0 0 (both here (holding tested)) aim) (claim-said s z c n wn)
+            target-compared s (conclusionOf s z n) (assertedAt s z t k) (formulaAt s (its t k .formula)) (assertedAt s z t (its t k .a))
+            ∙ ap (compared implication 0 0 (both here (holding tested)) aim) (conclusion-said s z c n wn)
             ∙ implied-same (bothA (O t k) (holds test)) (O t (its t k .a)) (both here (holding tested)) aim
             (ap₂ (λ (x y : Tree). both x (holding y)) here-is (test-is s z c t k w h e)) (asserted-is t (its t k .a) w target-there) (says n)
 
@@ -182,8 +182,8 @@ module _ (s : List ℕ) (z : Sizes) (c : Checks z (bodies s)) where
     kept-asked u j t k w h y g =
         let p = asserted-is u j w h in
         let q = asserted-is t k y (omega arith) in
-        kept-compared s (claimOf s z n) (assertedAt s z u j) (assertedAt s z t k) t k
-        ∙ ap (compared hoare t k (both (treeAt s (assertedAt s z u j)) (treeAt s (assertedAt s z t k))) (treeAt s (assertedAt s z u j))) (claim-said s z c n wn)
+        kept-compared s (conclusionOf s z n) (assertedAt s z u j) (assertedAt s z t k) t k
+        ∙ ap (compared hoare t k (both (treeAt s (assertedAt s z u j)) (treeAt s (assertedAt s z t k))) (treeAt s (assertedAt s z u j))) (conclusion-said s z c n wn)
         ∙ kept-same (bothA (O u j) (O t k)) (O u j) (both (treeAt s (assertedAt s z u j)) (treeAt s (assertedAt s z t k))) (treeAt s (assertedAt s z u j)) (ap₂ both p q) p t k (says n)
 
     -- a line that is there concludes what is wanted exactly if it says what is asked for

@@ -6,9 +6,9 @@ use Prim.Native.Nat.{ℕ}
 use borrow.Author.Tests.{eq-eqb, ne-eqb}
 use Rattle.program.specs.declared.sizes.Sizes.{Sizes}
 use Rattle.matcher.specs.declared.whole.Whole.{Whole}
-use Rattle.conclusions.specs.Claim.{matchClaim}
-use Rattle.conclusions.specs.LineClaim.{claimOf}
-use Rattle.conclusions.specs.declared.claim.Claim.{Claim}
+use Rattle.conclusions.specs.Conclusion.{matchConclusion}
+use Rattle.conclusions.specs.LineConclusion.{conclusionOf}
+use Rattle.conclusions.specs.declared.conclusion.Conclusion.{Conclusion}
 use Rattle.marks.specs.Marks.{isMarked}
 use Rattle.marks.specs.declared.Marks.{Marks}
 use Rattle.report.specs.declared.obligation.Obligation.{Obligation}
@@ -16,11 +16,11 @@ use Rattle.wanted.specs.declared.wanted.Wanted.{Wanted}
 use Rattle.wanted.specs.Wanted.{wantedBytes, wantedAt}
 use Rattle.wanted.specs.Concluding.{concludesAt, codeAt}
 
-pub concludes-is : (s : List ℕ) (z : Sizes) (o : Obligation) (n : ℕ) (w : Wanted) (c : Claim) (m : Whole) → w ≡ wantedAt s z o → c ≡ claimOf s z n
-    → m ≡ matchClaim s wantedBytes (w .template) (w .form) (w .thread) (w .point) c (w .bind) → m .ok ≡ concludesAt s z o n
+pub concludes-is : (s : List ℕ) (z : Sizes) (o : Obligation) (n : ℕ) (w : Wanted) (c : Conclusion) (m : Whole) → w ≡ wantedAt s z o → c ≡ conclusionOf s z n
+    → m ≡ matchConclusion s wantedBytes (w .template) (w .form) (w .thread) (w .point) c (w .bind) → m .ok ≡ concludesAt s z o n
 unfolding concludesAt
 concludes-is s z o n w c m ew ec em =
-    ap (λ (q : Whole). q .ok) (em ∙ ap₂ (λ (v : Wanted) (d : Claim). matchClaim s wantedBytes (v .template) (v .form) (v .thread) (v .point) d (v .bind)) ew ec)
+    ap (λ (q : Whole). q .ok) (em ∙ ap₂ (λ (v : Wanted) (d : Conclusion). matchConclusion s wantedBytes (v .template) (v .form) (v .thread) (v .point) d (v .bind)) ew ec)
 
 pub ruleset concluding = (concludes-is)
 

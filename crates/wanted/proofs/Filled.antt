@@ -9,7 +9,7 @@ use lib.Dec.{T}
 use Rattle.logic.proofs.Base.{bool-ext, and-left, and-right, and-both, holds-true}
 use Rattle.formula.specs.Tree.{Tree}
 use Rattle.compare.specs.Same.{sameTree}
-use Rattle.trees.proofs.Raw.{tree-eq, tree-refl}
+use Rattle.trees.proofs.ToTree.{tree-eq, tree-refl}
 use Rattle.matcher.specs.Template.{Holes, instT}
 use Rattle.matcher.specs.Match.{Taken}
 use Rattle.matcher.specs.Places.{takenOf}
@@ -19,20 +19,20 @@ use Rattle.matcher.proofs.Match.{Has}
 use Rattle.matcher.proofs.Follow.{Sized, given}
 use Rattle.certificate.specs.FitT.{Said, placed, holesFrom}
 use Rattle.certificate.proofs.FitT.{FitSides, sides-sound, sides-goes, has-from}
-use Rattle.conclusions.specs.Claim.{saidAt, matchClaim}
-use Rattle.conclusions.specs.declared.claim.Claim.{Claim}
+use Rattle.conclusions.specs.Conclusion.{saidAt, matchConclusion}
+use Rattle.conclusions.specs.declared.conclusion.Conclusion.{Conclusion}
 use Rattle.conclusions.proofs.Follow.{StandSides, sides-follow}
 
 given-some : (s : List ℕ) (ok : Bool) (b : Bind) (z : Taken) → given s ok b ≡ some z → T ok
 given-some s true b z e = tt
 given-some s false b z e = let q : _≡_ {A = ℕ} 0 1 = cc in absurd (omega arith)
 
-module _ (s t : List ℕ) (i thread point form : ℕ) (p q : Tree) (b : Bind) (c : Claim) where
+module _ (s t : List ℕ) (i thread point form : ℕ) (p q : Tree) (b : Bind) (c : Conclusion) where
   abbrev v : Said
   v = saidAt s c
 
   abbrev result : Whole
-  result = matchClaim s t i form thread point c b
+  result = matchConclusion s t i form thread point c b
 
   abbrev taken : Taken
   taken = takenOf s b

@@ -4,8 +4,8 @@ use mathlib.Core.List.{List}
 use Prim.Native.Nat.{ℕ}
 use lib.Dec.{eqb}
 use Rattle.program.specs.declared.sizes.Sizes.{Sizes}
-use Rattle.conclusions.specs.Claim.{matchClaim}
-use Rattle.conclusions.specs.LineClaim.{claimOf}
+use Rattle.conclusions.specs.Conclusion.{matchConclusion}
+use Rattle.conclusions.specs.LineConclusion.{conclusionOf}
 use Rattle.marks.specs.Marks.{isMarked}
 use Rattle.marks.specs.declared.Marks.{Marks}
 use Rattle.report.specs.declared.obligation.Obligation.{Obligation}
@@ -15,7 +15,7 @@ use Rattle.wanted.specs.Wanted.{wantedBytes, wantedAt}
 module _ (s : List ℕ) (z : Sizes) where
   -- a line with this number meets what is wanted
   abbrev pub meets : Wanted → ℕ → Bool
-  meets w n = matchClaim s wantedBytes (w .template) (w .form) (w .thread) (w .point) (claimOf s z n) (w .bind) .ok
+  meets w n = matchConclusion s wantedBytes (w .template) (w .form) (w .thread) (w .point) (conclusionOf s z n) (w .bind) .ok
 
   unfoldable pub concludesAt : Obligation → ℕ → Bool
   concludesAt o n = meets (wantedAt s z o) n

@@ -1,15 +1,15 @@
 // Whether a line concludes what an obligation wants, and the code of what is wrong with it.
 use crate::wanted::WANTED;
 use crate::wanted::wanted_of;
-use conclusions::claim::match_claim;
-use conclusions::line_claim::claim_of;
-use content::totals::Sums;
+use conclusions::conclusion::match_conclusion;
+use conclusions::line_conclusion::conclusion_of;
+use content::totals::Totals;
 use marks::is_marked;
 use program::sizes::Sizes;
 use report::obligation::Obligation;
 ghost use mathlib.Core.Path.{_≡_};
 ghost use Rattle.frames.specs.Records.{bodies, indexOf};
-ghost use Rattle.content.specs.Sums.{sumsOf};
+ghost use Rattle.content.specs.Totals.{totalsOf};
 ghost use Rattle.marks.specs.Marks.{asMarks};
 ghost use Rattle.wanted.specs.Concluding.{concludesAt, codeAt};
 
@@ -30,18 +30,18 @@ pub fn concludes<'a, 'b>(
     s: &'a [u8],
     ix: &'b [usize],
     z: Sizes,
-    y: Sums,
+    y: Totals,
     o: Obligation,
     n: usize,
 ) -> bool
-    requires { ⌜ (now ix ≡ indexOf (now s)) × (y ≡ sumsOf z (bodies (now s))) ⌝ }
+    requires { ⌜ (now ix ≡ indexOf (now s)) × (y ≡ totalsOf z (bodies (now s))) ⌝ }
     ensures { λ r. ⌜ r ≡ concludesAt (now (s .entry)) z o n ⌝ }
 {
     let w = wanted_of(s, ix, z, y, o);
-    let c = claim_of(s, ix, z, n);
+    let c = conclusion_of(s, ix, z, n);
     let t = WANTED;
     let b = w.bind;
-    let m = match_claim(s, &t, w.template, w.form, w.thread, w.point, c, b);
+    let m = match_conclusion(s, &t, w.template, w.form, w.thread, w.point, c, b);
     m.ok
 }
 
@@ -50,12 +50,12 @@ pub fn code_at<'a, 'b, 'c>(
     s: &'a [u8],
     ix: &'b [usize],
     z: Sizes,
-    y: Sums,
+    y: Totals,
     m: &'c [bool],
     o: Obligation,
     n: usize,
 ) -> u8
-    requires { ⌜ (now ix ≡ indexOf (now s)) × (y ≡ sumsOf z (bodies (now s))) ⌝ }
+    requires { ⌜ (now ix ≡ indexOf (now s)) × (y ≡ totalsOf z (bodies (now s))) ⌝ }
     ensures { λ r. ⌜ r ≡ codeAt (now (s .entry)) z (asMarks (now (m .entry))) o n ⌝ }
 {
     if n == 0 {

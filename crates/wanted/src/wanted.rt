@@ -1,7 +1,7 @@
 // What an obligation wants of a line: a template with every hole set.
 use content::point::outline_at;
 use content::position::formula_at;
-use content::totals::Sums;
+use content::totals::Totals;
 use formula::code::Code;
 use limits::Limits;
 use matcher::bind::Bind;
@@ -13,7 +13,7 @@ use report::obligation::Obligation;
 use rulebook::rule::Form;
 ghost use mathlib.Core.Path.{_≡_};
 ghost use Rattle.frames.specs.Records.{bodies, indexOf};
-ghost use Rattle.content.specs.Sums.{sumsOf};
+ghost use Rattle.content.specs.Totals.{totalsOf};
 ghost use Rattle.wanted.specs.Wanted.{oneHole, twoHoles, threeHoles, nextPoint, wantedStart, wantedAction, wantedNext, wantedStep, wantedTarget, wantedKept, wantedAt};
 
 // The form of the line, the thread and the point of a triple, where the template begins and what its holes stand for.
@@ -101,8 +101,8 @@ fn next_point(k: usize) -> usize
     k
 }
 
-fn wanted_start<'a, 'b>(s: &'a [u8], ix: &'b [usize], z: Sizes, y: Sums, t: usize) -> Wanted
-    requires { ⌜ (now ix ≡ indexOf (now s)) × (y ≡ sumsOf z (bodies (now s))) ⌝ }
+fn wanted_start<'a, 'b>(s: &'a [u8], ix: &'b [usize], z: Sizes, y: Totals, t: usize) -> Wanted
+    requires { ⌜ (now ix ≡ indexOf (now s)) × (y ≡ totalsOf z (bodies (now s))) ⌝ }
     ensures { λ r. ⌜ r ≡ wantedStart (now (s .entry)) z t ⌝ }
 {
     let a = outline_at(s, ix, z, y, t, 0);
@@ -119,11 +119,11 @@ fn wanted_action<'a, 'b>(
     s: &'a [u8],
     ix: &'b [usize],
     z: Sizes,
-    y: Sums,
+    y: Totals,
     t: usize,
     k: usize,
 ) -> Wanted
-    requires { ⌜ (now ix ≡ indexOf (now s)) × (y ≡ sumsOf z (bodies (now s))) ⌝ }
+    requires { ⌜ (now ix ≡ indexOf (now s)) × (y ≡ totalsOf z (bodies (now s))) ⌝ }
     ensures { λ r. ⌜ r ≡ wantedAction (now (s .entry)) z t k ⌝ }
 {
     let a = outline_at(s, ix, z, y, t, k);
@@ -141,12 +141,12 @@ fn wanted_next<'a, 'b>(
     s: &'a [u8],
     ix: &'b [usize],
     z: Sizes,
-    y: Sums,
+    y: Totals,
     t: usize,
     k: usize,
     i: Instruction,
 ) -> Wanted
-    requires { ⌜ (now ix ≡ indexOf (now s)) × (y ≡ sumsOf z (bodies (now s))) ⌝ }
+    requires { ⌜ (now ix ≡ indexOf (now s)) × (y ≡ totalsOf z (bodies (now s))) ⌝ }
     ensures { λ r. ⌜ r ≡ wantedNext (now (s .entry)) z t k i ⌝ }
 {
     let a = outline_at(s, ix, z, y, t, k);
@@ -165,11 +165,11 @@ fn wanted_step<'a, 'b>(
     s: &'a [u8],
     ix: &'b [usize],
     z: Sizes,
-    y: Sums,
+    y: Totals,
     t: usize,
     k: usize,
 ) -> Wanted
-    requires { ⌜ (now ix ≡ indexOf (now s)) × (y ≡ sumsOf z (bodies (now s))) ⌝ }
+    requires { ⌜ (now ix ≡ indexOf (now s)) × (y ≡ totalsOf z (bodies (now s))) ⌝ }
     ensures { λ r. ⌜ r ≡ wantedStep (now (s .entry)) z t k ⌝ }
 {
     let i = instruction_of(s, ix, z, t, k);
@@ -183,11 +183,11 @@ fn wanted_target<'a, 'b>(
     s: &'a [u8],
     ix: &'b [usize],
     z: Sizes,
-    y: Sums,
+    y: Totals,
     t: usize,
     k: usize,
 ) -> Wanted
-    requires { ⌜ (now ix ≡ indexOf (now s)) × (y ≡ sumsOf z (bodies (now s))) ⌝ }
+    requires { ⌜ (now ix ≡ indexOf (now s)) × (y ≡ totalsOf z (bodies (now s))) ⌝ }
     ensures { λ r. ⌜ r ≡ wantedTarget (now (s .entry)) z t k ⌝ }
 {
     let i = instruction_of(s, ix, z, t, k);
@@ -208,13 +208,13 @@ fn wanted_kept<'a, 'b>(
     s: &'a [u8],
     ix: &'b [usize],
     z: Sizes,
-    y: Sums,
+    y: Totals,
     u: usize,
     j: usize,
     t: usize,
     k: usize,
 ) -> Wanted
-    requires { ⌜ (now ix ≡ indexOf (now s)) × (y ≡ sumsOf z (bodies (now s))) ⌝ }
+    requires { ⌜ (now ix ≡ indexOf (now s)) × (y ≡ totalsOf z (bodies (now s))) ⌝ }
     ensures { λ r. ⌜ r ≡ wantedKept (now (s .entry)) z u j t k ⌝ }
 {
     let a = outline_at(s, ix, z, y, u, j);
@@ -228,8 +228,8 @@ fn wanted_kept<'a, 'b>(
     }
 }
 
-pub fn wanted_of<'a, 'b>(s: &'a [u8], ix: &'b [usize], z: Sizes, y: Sums, o: Obligation) -> Wanted
-    requires { ⌜ (now ix ≡ indexOf (now s)) × (y ≡ sumsOf z (bodies (now s))) ⌝ }
+pub fn wanted_of<'a, 'b>(s: &'a [u8], ix: &'b [usize], z: Sizes, y: Totals, o: Obligation) -> Wanted
+    requires { ⌜ (now ix ≡ indexOf (now s)) × (y ≡ totalsOf z (bodies (now s))) ⌝ }
     ensures { λ r. ⌜ r ≡ wantedAt (now (s .entry)) z o ⌝ }
 {
     match o {

@@ -17,8 +17,8 @@ use Rattle.records.specs.Places.{threadBody}
 use Rattle.records.specs.declared.tally.Tally.{Tally}
 use Rattle.records.specs.Tally.{tallyTo, tally, obligationCount}
 use Rattle.program.specs.Thread.{lastPoint}
-use Rattle.content.specs.Sums.{sumsOf}
-use Rattle.content.specs.declared.totals.Sums.{Sums}
+use Rattle.content.specs.Totals.{totalsOf}
+use Rattle.content.specs.declared.totals.Totals.{Totals}
 use Rattle.content.specs.Program.{outlineNumber}
 use Rattle.content.specs.Certificate.{left, right, lineBody}
 use Rattle.content.specs.Image.{namedLine}
@@ -121,26 +121,26 @@ pub before-is : (z : Sizes) (l : List (List ℕ)) (t : ℕ) (c : Tally) → c �
 unfolding tally
 before-is z l t c e = ap (λ (d : Tally). d .points) (e ∙ tally-same (record { threads = t - 1; words = z .words; registers = z .registers; formulas = z .formulas; lines = z .lines }) z l (t - 1) refl)
 
-pub sums-are : (z : Sizes) (l : List (List ℕ)) (c : Tally) (a b d n : ℕ) → c ≡ tally z l → a ≡ tallyTo z l 0 .points → b ≡ tallyTo z l 1 .points → d ≡ tallyTo z l 2 .points → n ≡ obligationCount z l
-    → record { points = c .points; before = a ∷ b ∷ d ∷ []; obligations = n } ≡ sumsOf z l
-unfolding sumsOf
-sums-are z l c a b d n ec ea eb ed en = rw (ec, ea, eb, ed, en)
+pub totals-are : (z : Sizes) (l : List (List ℕ)) (c : Tally) (a b d n : ℕ) → c ≡ tally z l → a ≡ tallyTo z l 0 .points → b ≡ tallyTo z l 1 .points → d ≡ tallyTo z l 2 .points → n ≡ obligationCount z l
+    → record { points = c .points; before = a ∷ b ∷ d ∷ []; obligations = n } ≡ totalsOf z l
+unfolding totalsOf
+totals-are z l c a b d n ec ea eb ed en = rw (ec, ea, eb, ed, en)
 
-pub before-known : (z : Sizes) (l : List (List ℕ)) (y : Sums) (t : ℕ) → y ≡ sumsOf z l → 1 ≤ t → t ≤ Limits.threads → getD (y .before) (t - 1) 0 ≡ tallyTo z l (t - 1) .points
-unfolding sumsOf
+pub before-known : (z : Sizes) (l : List (List ℕ)) (y : Totals) (t : ℕ) → y ≡ totalsOf z l → 1 ≤ t → t ≤ Limits.threads → getD (y .before) (t - 1) 0 ≡ tallyTo z l (t - 1) .points
+unfolding totalsOf
 before-known z l y zero e a b = absurd (omega arith)
 before-known z l y (suc zero) e a b = rw e
 before-known z l y (suc (suc zero)) e a b = rw e
 before-known z l y (suc (suc (suc zero))) e a b = rw e
 before-known z l y (suc (suc (suc (suc n)))) e a b = absurd (omega arith)
 
-pub ruleset sums = (before-is, sums-are, before-known)
+pub ruleset totals = (before-is, totals-are, before-known)
 
 -- the lines that obligations name
 
-pub named-is : (s : List ℕ) (z : Sizes) (y : Sums) (b : List ℕ) (i r : ℕ) → y ≡ sumsOf z (bodies s) → b ≡ getD (bodies s) (z .formulas + z .threads + 1 + z .lines + 1) [] → r ≡ getD (numbers (y .obligations) b) i 0
+pub named-is : (s : List ℕ) (z : Sizes) (y : Totals) (b : List ℕ) (i r : ℕ) → y ≡ totalsOf z (bodies s) → b ≡ getD (bodies s) (z .formulas + z .threads + 1 + z .lines + 1) [] → r ≡ getD (numbers (y .obligations) b) i 0
     → r ≡ namedLine z (bodies s) i
-unfolding namedLine sumsOf
+unfolding namedLine totalsOf
 named-is s z y b i r ey eb d = rw (← eb) (d ∙ (rw ey))
 
 pub ruleset naming = (named-is)
@@ -170,9 +170,9 @@ module _ (z : Sizes) (l : List (List ℕ)) (t : ℕ) where
     unfolding outlineNumber
     number-absent g = rw (ne-eqb t 0 h, lt-ltb (z .threads) t g)
 
-    module _ (g : t ≤ z .threads) (y : Sums) (e : y ≡ sumsOf z l) where
+    module _ (g : t ≤ z .threads) (y : Totals) (e : y ≡ totalsOf z l) where
       points-are : y .points ≡ tally z l .points
-      unfolding sumsOf
+      unfolding totalsOf
       points-are = rw e
 
       past-number : tally z l .points ≤ tallyTo z l (t - 1) .points + p → 0 ≡ outlineNumber z l t p

@@ -112,8 +112,6 @@ sum-all z l t n c e h g d = let q : t ≡ z .threads = omega arith in rw q at d
 pub small-all : (t n : ℕ) (c : Tally) → n < 256 → t ≤ n → Small t c → Small 256 c
 small-all t n c e h g = record { points = omega arith; steps = omega arith; actions = omega arith; own = omega arith }
 
-pub ruleset summing = (sum-none, small-none, sum-more, small-more, sum-all, small-all)
-
 -- the number of obligations
 
 own-below : (z : Sizes) (l : List (List ℕ)) (t : ℕ) → tallyTo z l t .own ≤ tallyTo z l t .points * tallyTo z l t .actions

@@ -1,4 +1,4 @@
-use Rattle.checker.proofs.Ways.{judging}
+use Rattle.checker.proofs.Verdicts.{judging}
 use Rattle.limits.proofs.Auto.{tests}
 use borrow.Author.Needs.{needs}
 use Rattle.checker.proofs.judge.judge.Statement.{statement}

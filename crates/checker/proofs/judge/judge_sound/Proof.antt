@@ -1,4 +1,4 @@
-use Rattle.checker.proofs.Ways.{sound}
+use Rattle.checker.proofs.Verdicts.{sound}
 use Rattle.limits.proofs.Auto.{tests}
 use borrow.Author.Needs.{needs}
 use Rattle.checker.proofs.judge.judge_sound.Statement.{statement}

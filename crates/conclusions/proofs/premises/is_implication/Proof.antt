@@ -1,4 +1,4 @@
-use Rattle.conclusions.proofs.Resting.{premising}
+use Rattle.conclusions.proofs.PremiseConclusions.{premising}
 use Rattle.limits.proofs.Auto.{tests}
 use borrow.Author.Needs.{needs}
 use Rattle.conclusions.proofs.premises.is_implication.Statement.{statement}

@@ -1,4 +1,4 @@
-use Rattle.conclusions.proofs.Resting.{matching}
+use Rattle.conclusions.proofs.PremiseConclusions.{matching}
 use Rattle.limits.proofs.Auto.{tests}
 use borrow.Author.Needs.{needs}
 use Rattle.conclusions.proofs.premises.match_premises.Statement.{statement}

@@ -1,4 +1,4 @@
-use Rattle.content.proofs.Laws.Places.{sums}
+use Rattle.content.proofs.Laws.Places.{totals}
 use Rattle.limits.proofs.Auto.{tests}
 use borrow.Author.Needs.{needs}
 use Rattle.content.proofs.totals.before_thread.Statement.{statement}
@@ -11,6 +11,6 @@ before-thread-spec =
     (λ c. search needs)
     (λ c. search needs)
     (λ c. search needs)
-    (λ c. search (sums, tests))
+    (λ c. search (totals, tests))
     (λ c κs. search needs)
     (λ c. search needs))

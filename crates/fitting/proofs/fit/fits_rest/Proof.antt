@@ -1,4 +1,4 @@
-use Rattle.fitting.proofs.Judging.{allowing}
+use Rattle.fitting.proofs.Fits.{allowing}
 use Rattle.limits.proofs.Auto.{tests}
 use borrow.Author.Needs.{needs}
 use Rattle.fitting.proofs.fit.fits_rest.Statement.{statement}

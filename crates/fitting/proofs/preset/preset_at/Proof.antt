@@ -1,4 +1,4 @@
-use Rattle.fitting.proofs.Known.{preset-is}
+use Rattle.fitting.proofs.Presets.{preset-is}
 use borrow.Author.Needs.{needs}
 use Rattle.fitting.proofs.preset.preset_at.Statement.{statement}
 use Rattle.fitting.proofs.preset.preset_at.Tie as tie

@@ -1,5 +1,5 @@
 use Rattle.marks.specs.Marks.{asMarks}
-use Rattle.judging.proofs.Walks.{acting-all, acting-more, acting-none, actions-self}
+use Rattle.judging.proofs.Groups.{acting-all, acting-more, acting-none, actions-self}
 use Prim.Native.Nat.{_-_, _≤_, _<_}
 use mathlib.Core.Path.{_≡_}
 use Rattle.frames.specs.Records.{bodies}

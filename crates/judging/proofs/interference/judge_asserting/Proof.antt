@@ -1,5 +1,5 @@
 use Rattle.marks.specs.Marks.{asMarks}
-use Rattle.judging.proofs.Walks.{asserted-all, asserted-more, asserted-none}
+use Rattle.judging.proofs.Groups.{asserted-all, asserted-more, asserted-none}
 use Prim.Native.Nat.{_+_, _-_, _≤_, _<_}
 use mathlib.Core.Path.{_≡_}
 use Rattle.frames.specs.Records.{bodies}

@@ -1,5 +1,5 @@
 use Rattle.marks.specs.Marks.{asMarks}
-use Rattle.judging.proofs.Walks.{starts-all, starts-more, starts-none}
+use Rattle.judging.proofs.Groups.{starts-all, starts-more, starts-none}
 use Prim.Native.Nat.{_-_, _≤_, _<_}
 use mathlib.Core.Path.{_≡_}
 use Rattle.judging.specs.Walk.{startsTo}

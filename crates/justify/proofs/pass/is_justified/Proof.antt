@@ -1,4 +1,4 @@
-use Rattle.justify.proofs.Ways.{justifying}
+use Rattle.justify.proofs.Passing.{justifying}
 use Rattle.limits.proofs.Auto.{tests}
 use borrow.Author.Needs.{needs}
 use Rattle.justify.proofs.pass.is_justified.Statement.{statement}

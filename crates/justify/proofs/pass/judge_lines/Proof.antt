@@ -1,6 +1,6 @@
 use Rattle.marks.specs.Marks.{asMarks}
 use Rattle.rulebook.specs.Rulebook.{templates}
-use Rattle.justify.proofs.Ways.{marks-more, passing}
+use Rattle.justify.proofs.Passing.{marks-more, passing}
 use Rattle.limits.proofs.Auto.{tests}
 use Rattle.limits.specs.Limits.{lines}
 use Rattle.justify.specs.Pass.{marksTo}

@@ -1,5 +1,5 @@
 use Rattle.marks.specs.Marks.{asMarks}
-use Rattle.justify.proofs.Ways.{premises-more, premising}
+use Rattle.justify.proofs.Passing.{premises-more, premising}
 use Rattle.limits.proofs.Auto.{tests}
 use Rattle.justify.specs.Pass.{premisesMarked}
 use mathlib.Core.Path.{_≡_}

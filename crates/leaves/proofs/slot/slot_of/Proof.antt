@@ -1,5 +1,5 @@
 use Rattle.leaves.specs.Slots.{slotOf, slotFrom}
-use Rattle.formula.specs.Tree.{skim}
+use Rattle.formula.specs.Tree.{parseTree}
 use mathlib.Core.Path.{_≡_}
 use Prim.Native.Nat.{_≤_, _-_}
 use Rattle.leaves.proofs.Slots.{finds}
@@ -8,7 +8,7 @@ use Rattle.leaves.proofs.slot.slot_of.Statement.{statement}
 use Rattle.leaves.proofs.slot.slot_of.Tie as tie
 
 abbrev Inv-loop : tie.InvT-loop
-Inv-loop s at left slots x j₀ j = (j ≤ 12) × (slotOf s slots (skim s left at .tree) ≡ slotFrom s slots (12 - j) j (skim s left at .tree))
+Inv-loop s at left slots x j₀ j = (j ≤ 12) × (slotOf s slots (parseTree s left at .tree) ≡ slotFrom s slots (12 - j) j (parseTree s left at .tree))
 
 abbrev μ-loop : tie.MeasureT-loop
 μ-loop s at left slots x j₀ j = 12 - j

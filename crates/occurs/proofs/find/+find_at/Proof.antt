@@ -7,7 +7,7 @@ use Rattle.occurs.proofs.find.find_at.Reads as find-at
 use Rattle.occurs.proofs.find.find_at.Kinds as find-at-kinds
 use Rattle.occurs.proofs.find.+find_at.Lts-find_at as find-at-lts
 use Rattle.formula.proofs.node.node_at.Reads as node-at-reads
-use Rattle.occurs.proofs.find.is_sought.Reads as is-sought-reads
+use Rattle.occurs.proofs.find.is_queried.Reads as is-queried-reads
 use Rattle.occurs.proofs.find.+find_at.{statement}
 use Rattle.occurs.proofs.find.+find_at.Tie.{close}
 
@@ -21,7 +21,7 @@ abbrev find-at-below : ℕ → In 2 find-at-kinds.ps
 find-at-below t = and 2 find-at-kinds.ps (falls 2 find-at-kinds.ps _<_ μ-find-at t) find-at.Pre
 
 abbrev find-at-calls : ℕ → find-at-lts.Claims
-find-at-calls t = (node-at-reads.Asked, node-at-reads.Learnt, is-sought-reads.Asked, is-sought-reads.Learnt, find-at-below t, find-at.Post)
+find-at-calls t = (node-at-reads.Asked, node-at-reads.Learnt, is-queried-reads.Asked, is-queried-reads.Learnt, find-at-below t, find-at.Post)
 
 pub +find-at-spec : {M : Type 1} → statement M
 +find-at-spec = close μ-find-at λ t. find-at-lts.spec (find-at-calls t)

@@ -1,4 +1,4 @@
-use Rattle.rows.proofs.Trying.{block-is}
+use Rattle.rows.proofs.RowsTried.{block-is}
 use Rattle.limits.proofs.Auto.{tests}
 use borrow.Author.Needs.{needs}
 use Rattle.rows.proofs.every.block_holds.Statement.{statement}

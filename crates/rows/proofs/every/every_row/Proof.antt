@@ -1,4 +1,4 @@
-use Rattle.rows.proofs.Trying.{everys}
+use Rattle.rows.proofs.RowsTried.{everys}
 use Rattle.limits.proofs.Auto.{tests}
 use borrow.Author.Needs.{needs}
 use Rattle.rows.proofs.every.every_row.Statement.{statement}

@@ -1,4 +1,4 @@
-use Rattle.rows.proofs.Trying.{quotients, filling}
+use Rattle.rows.proofs.RowsTried.{quotients, filling}
 use Prim.Native.Nat.{_≤_, _-_}
 use mathlib.Core.Path.{_≡_}
 use lib.ListN.{take, length}

@@ -1,4 +1,4 @@
-use Rattle.rows.proofs.Trying.{holding}
+use Rattle.rows.proofs.RowsTried.{holding}
 use Prim.Native.Nat.{_≤_, _-_}
 use mathlib.Core.Path.{_≡_}
 use Rattle.rows.specs.Every.{rowsHold}

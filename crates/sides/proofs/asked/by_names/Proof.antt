@@ -1,4 +1,4 @@
-use Rattle.sides.proofs.Asking.{claiming}
+use Rattle.sides.proofs.SidesByNumber.{implying}
 use Rattle.limits.proofs.Auto.{tests}
 use borrow.Author.Needs.{needs}
 use Rattle.sides.proofs.asked.by_names.Statement.{statement}
@@ -6,4 +6,4 @@ use Rattle.sides.proofs.asked.by_names.Tie as tie
 
 pub by-names-spec : {M : Type 1} → statement M
 by-names-spec =
-    tie.close (tie.spec (λ c κs. search needs) (λ c κs. search needs) (λ c. search needs) (λ c κs. search needs) (λ c. search (claiming, tests)))
+    tie.close (tie.spec (λ c κs. search needs) (λ c κs. search needs) (λ c. search needs) (λ c κs. search needs) (λ c. search (implying, tests)))

@@ -1,4 +1,4 @@
-use Rattle.sides.proofs.Asking.{claiming}
+use Rattle.sides.proofs.SidesByNumber.{implying}
 use Rattle.limits.proofs.Auto.{tests}
 use borrow.Author.Needs.{needs}
 use Rattle.sides.proofs.asked.implications_of.Statement.{statement}
@@ -14,4 +14,4 @@ implications-of-spec =
     (λ c κs. search needs)
     (λ c. search needs)
     (λ c. search needs)
-    (λ c. search (claiming, tests)))
+    (λ c. search (implying, tests)))

@@ -1,4 +1,4 @@
-use Rattle.sides.proofs.Asking.{asking}
+use Rattle.sides.proofs.SidesByNumber.{asking}
 use Rattle.limits.proofs.Auto.{tests}
 use borrow.Author.Needs.{needs}
 use Rattle.sides.proofs.asked.is_asked.Statement.{statement}

@@ -1,4 +1,4 @@
-use Rattle.sides.proofs.Asking.{replacing}
+use Rattle.sides.proofs.SidesByNumber.{replacing}
 use Rattle.limits.proofs.Auto.{tests}
 use borrow.Author.Needs.{needs}
 use Rattle.sides.proofs.asked.is_loaded.Statement.{statement}

@@ -1,4 +1,4 @@
-use Rattle.sides.proofs.Asking.{instructing}
+use Rattle.sides.proofs.SidesByNumber.{instructing}
 use Rattle.limits.proofs.Auto.{tests}
 use borrow.Author.Needs.{needs}
 use Rattle.sides.proofs.asked.of_instruction.Statement.{statement}

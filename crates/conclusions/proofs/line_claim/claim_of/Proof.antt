@@ -1,8 +1,0 @@
-use Rattle.conclusions.proofs.Lines.{lining}
-use Rattle.limits.proofs.Auto.{tests}
-use borrow.Author.Needs.{needs}
-use Rattle.conclusions.proofs.line_claim.claim_of.Statement.{statement}
-use Rattle.conclusions.proofs.line_claim.claim_of.Tie as tie
-
-pub claim-of-spec : {M : Type 1} → statement M
-claim-of-spec = tie.close (tie.spec (λ c κs. search needs) (λ c κs. search needs) (λ c. search (lining, tests)))

@@ -1,0 +1,8 @@
+use Rattle.conclusions.proofs.LineConclusions.{lining}
+use Rattle.limits.proofs.Auto.{tests}
+use borrow.Author.Needs.{needs}
+use Rattle.conclusions.proofs.line_conclusion.conclusion_of.Statement.{statement}
+use Rattle.conclusions.proofs.line_conclusion.conclusion_of.Tie as tie
+
+pub conclusion-of-spec : {M : Type 1} → statement M
+conclusion-of-spec = tie.close (tie.spec (λ c κs. search needs) (λ c κs. search needs) (λ c. search (lining, tests)))

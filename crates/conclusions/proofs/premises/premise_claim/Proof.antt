@@ -1,8 +1,0 @@
-use Rattle.conclusions.proofs.Resting.{premising}
-use Rattle.limits.proofs.Auto.{tests}
-use borrow.Author.Needs.{needs}
-use Rattle.conclusions.proofs.premises.premise_claim.Statement.{statement}
-use Rattle.conclusions.proofs.premises.premise_claim.Tie as tie
-
-pub premise-claim-spec : {M : Type 1} → statement M
-premise-claim-spec = tie.close (tie.spec (λ c. search (premising, tests)) (λ c κs. search needs) (λ c κs. search needs) (λ c. search (premising, tests)))

@@ -1,0 +1,73 @@
+-- The ways through the functions that judge whether a line fits, one law for each.
+use mathlib.Core.Path.{_≡_}
+use mathlib.Core.Bool.{Bool, true, false}
+use mathlib.Core.List.{List}
+use Prim.Native.Nat.{ℕ}
+use borrow.Author.Tests.{eq-eqb, ne-eqb}
+use Rattle.formula.specs.Codes.{member}
+use Rattle.frames.specs.Records.{bodies}
+use Rattle.program.specs.declared.sizes.Sizes.{Sizes}
+use Rattle.records.specs.Places.{instructionOf}
+use Rattle.matcher.specs.declared.bind.Bind.{Bind}
+use Rattle.matcher.specs.declared.whole.Whole.{Whole}
+use Rattle.certificate.specs.FitT.{hoare}
+use Rattle.content.specs.Certificate.{lineBody}
+use Rattle.content.specs.Places.{actingOf, lineIn}
+use Rattle.content.specs.declared.line.Line.{Line}
+use Rattle.content.specs.declared.acting.Acting.{Acting}
+use Rattle.rulebook.specs.Rulebook.{ruleRow}
+use Rattle.rulebook.specs.declared.rule.Rule.{Rule}
+use Rattle.conclusions.specs.Conclusion.{matchConclusion}
+use Rattle.conclusions.specs.LineConclusion.{conclusionBy, lineAt}
+use Rattle.conclusions.specs.Premises.{premisesOf, matchPremises}
+use Rattle.fitting.specs.Preset.{presetAt}
+use Rattle.sides.specs.Asked.{asked}
+use Rattle.fitting.specs.Fit.{isAllowed, restAt, lineMatch, fitsRow, actingIn, fitsLine}
+use Rattle.conclusions.specs.declared.conclusion.Conclusion.{Conclusion}
+use Rattle.conclusions.specs.declared.conclusion.Premises.{Premises}
+
+module _ (w : Rule) (op : ℕ) where
+  pub allowed-triple : (b : Bool) → w .form ≡ hoare → b ≡ member (w .operations) op → b ≡ isAllowed w op
+  unfolding isAllowed
+  allowed-triple b e d = rw (eq-eqb _ _ e) d
+
+  pub allowed-other : (w .form ≡ hoare → ⊥) → true ≡ isAllowed w op
+  unfolding isAllowed
+  allowed-other n = rw (ne-eqb _ _ n)
+
+module _ (s : List ℕ) (w : Rule) (a : Acting) (c : Conclusion) (p : Premises) (b : Bind) (o : Bool) (e : o ≡ isAllowed w (a .operation)) where
+  pub rest-asked : (r : Bool) → o ≡ true → r ≡ asked s (w .side) b a c p → r ≡ restAt s w a c p b
+  unfolding restAt
+  rest-asked r h d = rw (← e, h) d
+
+  pub rest-refused : o ≡ false → false ≡ restAt s w a c p b
+  unfolding restAt
+  rest-refused h = rw (← e, h)
+
+pub ruleset allowing = (allowed-triple, allowed-other, rest-asked, rest-refused)
+
+pub line-matched : (s t : List ℕ) (w : Rule) (l : Line) (a : Acting) (c : Conclusion) (b : Bind) (r : Whole) → b ≡ presetAt (l .thread) (a .word) (a .register) (a .formula)
+    → r ≡ matchConclusion s t (w .template) (w .form) (c .thread) (c .point) c b → r ≡ lineMatch s t w l a c
+unfolding lineMatch
+line-matched s t w l a c b r e d = rw (← e) d
+
+module _ (s t : List ℕ) (l : Line) (a : Acting) (p : Premises) (w : Rule) (c : Conclusion) (m : Whole) (ew : w ≡ ruleRow (l .rule)) (ec : c ≡ conclusionBy l) (em : m ≡ lineMatch s t w l a c) where
+  pub row-conclusion : m .ok ≡ false → false ≡ fitsRow s t l a p
+  unfolding fitsRow
+  row-conclusion h = rw (← ew, ← ec, ← em, h)
+
+  module _ (h : m .ok ≡ true) (q : Whole) (eq : q ≡ matchPremises s t (m .tpl) w (c .thread) (c .point) p (m .bind)) where
+    pub row-premises : q .ok ≡ false → false ≡ fitsRow s t l a p
+    unfolding fitsRow
+    row-premises g = rw (← ew, ← ec, ← em, h, ← eq, g)
+
+    pub row-rest : (r : Bool) → q .ok ≡ true → r ≡ restAt s w a c p (q .bind) → r ≡ fitsRow s t l a p
+    unfolding fitsRow
+    row-rest r g d = rw (← ew, ← ec, ← em, h, ← eq, g) d
+
+pub line-fits : (s t : List ℕ) (z : Sizes) (n : ℕ) (l : Line) (a : Acting) (p : Premises) (r : Bool)
+    → l ≡ lineIn s (lineBody z (bodies s) n) → a ≡ actingOf s (instructionOf z (bodies s) (l .thread) (l .point)) → p ≡ premisesOf s z n (l .count) → r ≡ fitsRow s t l a p → r ≡ fitsLine s t z n
+unfolding fitsLine actingIn lineAt
+line-fits s t z n l a p r e d f g = rw (← e, ← d, ← f) g
+
+pub ruleset fitting = (line-matched, row-conclusion, row-premises, row-rest, line-fits)

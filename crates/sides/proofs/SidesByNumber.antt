@@ -1,0 +1,97 @@
+-- The ways through what is asked besides, one law for each.
+use mathlib.Core.Path.{_≡_}
+use mathlib.Core.Bool.{Bool, true, false, not}
+use mathlib.Core.List.{List, [], _∷_}
+use Prim.Native.Nat.{ℕ, _+_}
+use lib.ListN.{getD}
+use borrow.Author.Tests.{eq-eqb, ne-eqb}
+use Rattle.limits.specs.Limits as Limits
+use Rattle.limits.specs.Limits.{nesting}
+use Rattle.compare.specs.declared.replace.Replacing.the-variants.{Formula, Word}
+use Rattle.occurs.specs.Occurs.{occurs, wordAnyRole}
+use Rattle.rows.specs.Rows.{rowsT, tableT, lineOf, premisesOf}
+use Rattle.rows.specs.declared.by.Implications.{Implications}
+use Rattle.frames.specs.Records.{bodies}
+use Rattle.matcher.specs.declared.bind.Bind.{Bind}
+use Rattle.content.specs.declared.acting.Acting.{Acting}
+use Rattle.rulebook.specs.Rulebook.{nothing, isKept, assigned, loaded, stored, byRows, byTable, startValue}
+use Rattle.conclusions.specs.Conclusion.{conclusionAt}
+use Rattle.sides.specs.Side.{holeOf, numberIn, treeOf, keeps, isWith, storedBy, isStart}
+use Rattle.sides.specs.Asked.{assignedBy, loadedBy, ofInstruction, implicationsOf, ofNames, asked}
+use Rattle.conclusions.specs.declared.conclusion.Conclusion.{Conclusion}
+use Rattle.conclusions.specs.declared.conclusion.Premises.{Premises}
+use Rattle.sides.specs.declared.side.Position.{Position}
+
+module _ (s : List ℕ) (b : Bind) (a : Acting) (p q : Position) (r : Bool) where
+  pub assigned-is : p ≡ holeOf b 0 → q ≡ holeOf b 1 → r ≡ isWith s (record { word = false; number = a .register; by = Formula (a .formula) nesting }) (treeOf s p) (treeOf s q) → r ≡ assignedBy s b a
+  unfolding assignedBy
+  assigned-is e d g = rw (← e, ← d) g
+
+  pub loaded-is : p ≡ holeOf b 3 → q ≡ holeOf b 2 → r ≡ isWith s (record { word = false; number = a .register; by = Word (a .word) }) (treeOf s p) (treeOf s q) → r ≡ loadedBy s b a
+  unfolding loadedBy
+  loaded-is e d g = rw (← e, ← d) g
+
+pub ruleset replacing = (assigned-is, loaded-is)
+
+module _ (s : List ℕ) (side : ℕ) (b : Bind) (a : Acting) (r : Bool) where
+  pub asks-kept : (p : Position) → side ≡ isKept → p ≡ holeOf b 0 → r ≡ keeps (a .operation) (a .word) (a .register) (treeOf s p) → r ≡ ofInstruction s side b a
+  unfolding ofInstruction
+  asks-kept p k e d = rw (eq-eqb _ _ k, ← e) d
+
+  module _ (nk : side ≡ isKept → ⊥) where
+    pub asks-assigned : side ≡ assigned → r ≡ assignedBy s b a → r ≡ ofInstruction s side b a
+    unfolding ofInstruction
+    asks-assigned k d = rw (ne-eqb _ _ nk, eq-eqb _ _ k) d
+
+    module _ (na : side ≡ assigned → ⊥) where
+      pub asks-loaded : side ≡ loaded → r ≡ loadedBy s b a → r ≡ ofInstruction s side b a
+      unfolding ofInstruction
+      asks-loaded k d = rw (ne-eqb _ _ nk, ne-eqb _ _ na, eq-eqb _ _ k) d
+
+      module _ (nl : side ≡ loaded → ⊥) where
+        pub asks-stored : (p q : Position) → side ≡ stored → p ≡ holeOf b 3 → q ≡ holeOf b 2 → r ≡ storedBy s (a .word) (a .formula) (treeOf s p) (treeOf s q) → r ≡ ofInstruction s side b a
+        unfolding ofInstruction
+        asks-stored p q k e g d = rw (ne-eqb _ _ nk, ne-eqb _ _ na, ne-eqb _ _ nl, eq-eqb _ _ k, ← e, ← g) d
+
+        pub asks-absent : (p : Position) → (side ≡ stored → ⊥) → p ≡ holeOf b 1 → r ≡ occurs (wordAnyRole (a .word)) [] (treeOf s p) → not r ≡ ofInstruction s side b a
+        unfolding ofInstruction
+        asks-absent p ns e d = rw (ne-eqb _ _ nk, ne-eqb _ _ na, ne-eqb _ _ nl, ne-eqb _ _ ns, ← e, d)
+
+pub ruleset instructing = (asks-kept, asks-assigned, asks-loaded, asks-stored, asks-absent)
+
+pub implications-is : (c d e f g : Conclusion) (p : Premises) → d ≡ conclusionAt p 0 → e ≡ conclusionAt p 1 → f ≡ conclusionAt p 2 → g ≡ conclusionAt p 3
+    → record { count = p .count + 1; left = c .left ∷ d .left ∷ e .left ∷ f .left ∷ g .left ∷ []; right = c .right ∷ d .right ∷ e .right ∷ f .right ∷ g .right ∷ [] } ≡ implicationsOf c p
+unfolding implicationsOf
+implications-is c d e f g p x y z w = rw (x, y, z, w)
+
+pub names-is : (s : List ℕ) (b : Bind) (p q : Position) (r : Bool) → p ≡ holeOf b 2 → q ≡ holeOf b 3 → r ≡ rowsT Limits.values (treeOf s p) (treeOf s q) → r ≡ ofNames s b
+unfolding ofNames
+names-is s b p q r e d g = rw (← e, ← d) g
+
+pub ruleset implying = (implications-is, names-is)
+
+module _ (s : List ℕ) (side : ℕ) (b : Bind) (a : Acting) (c : Conclusion) (p : Premises) where
+  pub asks-nothing : side ≡ nothing → true ≡ asked s side b a c p
+  unfolding asked
+  asks-nothing k = rw (eq-eqb _ _ k)
+
+  module _ (r : Bool) (nn : side ≡ nothing → ⊥) where
+    pub asks-rows : side ≡ byRows → r ≡ ofNames s b → r ≡ asked s side b a c p
+    unfolding asked
+    asks-rows k d = rw (ne-eqb _ _ nn, eq-eqb _ _ k) d
+
+    module _ (nr : side ≡ byRows → ⊥) where
+      pub asks-table : (i : Implications) → side ≡ byTable → i ≡ implicationsOf c p → r ≡ tableT (premisesOf s i) (lineOf s i) → r ≡ asked s side b a c p
+      unfolding asked
+      asks-table i k e d = rw (ne-eqb _ _ nn, ne-eqb _ _ nr, eq-eqb _ _ k, ← e) d
+
+      module _ (nt : side ≡ byTable → ⊥) where
+        pub asks-start : (h : List ℕ) (q : Position) (x : ℕ) → side ≡ startValue → h ≡ getD (bodies s) 0 [] → q ≡ holeOf b 0 → x ≡ numberIn b 4 → r ≡ isStart h x (treeOf s q) → r ≡ asked s side b a c p
+        unfolding asked
+        asks-start h q x k e f g d = rw (ne-eqb _ _ nn, ne-eqb _ _ nr, ne-eqb _ _ nt, eq-eqb _ _ k, ← e, ← f, ← g) d
+
+        pub asks-instruction : (side ≡ startValue → ⊥) → r ≡ ofInstruction s side b a → r ≡ asked s side b a c p
+        unfolding asked
+        asks-instruction ns d = rw (ne-eqb _ _ nn, ne-eqb _ _ nr, ne-eqb _ _ nt, ne-eqb _ _ ns) d
+
+pub ruleset asking = (asks-nothing, asks-rows, asks-table, asks-start, asks-instruction)
