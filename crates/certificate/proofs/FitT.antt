@@ -11,20 +11,20 @@ use lib.ListN.{length}
 use Rattle.logic.specs.Base.{upd, all, All}
 use Rattle.logic.specs.Limits
 use Rattle.logic.specs.Formula.{Sort, Formula, Assertion, Test, Formula.const, Formula.word, same}
-use Rattle.logic.specs.Names.{only, notReg, notWord, notFlag}
+use Rattle.logic.specs.Names.{Name, names, only, notReg, notWord, notFlag}
 use Rattle.logic.specs.Replace.{Sub, replace, notes, regBy, wordBy}
 use Rattle.logic.specs.Rows.{byRows}
 use Rattle.logic.specs.Table.{Imp, byTable}
-use Rattle.logic.specs.Machine.{Program, Mode.store, Mode.swap, Access.none, Access.load, Access.write, Instr, Instr.act, Instr.branch}
+use Rattle.logic.specs.Machine.{Program, Mode.store, Mode.swap, Mode.exchange, Mode.fetchAdd, Access.none, Access.load, Access.write, Instr, Instr.act, Instr.branch}
 use Rattle.logic.specs.Statement
 use Rattle.logic.specs.Statement.{Statement, half, isImp}
 use Rattle.patterns.specs.Pattern
 use Rattle.patterns.specs.Pattern.{Num, Pattern, Given, Fill, number, inst}
 use Rattle.patterns.specs.Rules
-use Rattle.logic.specs.Rule.{Rule, r1, r2, r3, r4, r5, r6, r7, r8, r9, r10, r11, r12, r13, r14, r15, r16, r20, r21, r22, r23, r24, r25, r26, r27, r30, r31, r32, r33, r34, r35, r36, r37, r38, r39, r40, r41, r42, r43, r44, r45, r46}
-use Rattle.patterns.specs.Rules.{Shape, Shape.inside, Shape.implies, Shape.triple, Premises, these, implications, By, by-notes, r-by-x, x-by-f, Side, _is_with_, start-of, kept, lacks-x, no-flag, by-rows, by-table, Row, row}
+use Rattle.logic.specs.Rule.{Rule, r1, r2, r3, r4, r5, r6, r7, r8, r9, r10, r11, r12, r13, r14, r15, r16, r20, r21, r22, r23, r24, r25, r26, r27, r30, r31, r32, r33, r34, r35, r36, r37, r38, r39, r40, r41, r42, r43, r44, r45, r46, r47, r48, r49}
+use Rattle.patterns.specs.Rules.{Shape, Shape.inside, Shape.implies, Shape.triple, Premises, these, implications, By, by-notes, r-by-x, x-by-f, Side, _is_with_, start-of, is-new, kept, lacks-x, no-flag, by-rows, by-table, Row, row}
 use Rattle.logic.specs.Inference.{keeps}
-use Rattle.patterns.specs.Fits.{isAmong, opcode, wordOf, regOf, formulaOf, notesOf, threadOf, pointOf, given, by, filled, filledAll, sideHolds, operationFits, found, fits}
+use Rattle.patterns.specs.Fits.{isAmong, opcode, wordOf, regOf, formulaOf, apartOf, freshOf, notesOf, threadOf, pointOf, given, by, filled, filledAll, sideHolds, operationFits, found, fits}
 use Rattle.logic.proofs.Base.{bool-ext, and-left, and-right, and-both, all-All}
 use Rattle.logic.proofs.Encoding.{same-eq, same-refl}
 use Rattle.patterns.proofs.Fit.{All-all, Fit, PremisesFit, fit}
@@ -45,28 +45,28 @@ use Rattle.rows.proofs.Link.{impToTree, toTree-rows, toTree-table}
 use Rattle.matcher.specs.Template.{firstHole, firstNumber, formulaHole, numHole, patternToTree, Holes, instT, fillOf}
 use Rattle.matcher.specs.Match.{Taken, andThen, when, matchT}
 use Rattle.certificate.specs.FitT
-use Rattle.certificate.specs.FitT.{inclusion, implication, hoare, Said, said, Acting, acting, formOf, leftOf, rightOf, placed, matchSides, matchLine, matchAll, isImplication, matchPremises, preset, orElse, holesFrom, replacing, keepsT, sideT, operationT, restT, answer, fitsAt, fitsT}
+use Rattle.certificate.specs.FitT.{inclusion, implication, hoare, TreeConclusion, concluded, Acting, acting, formOf, leftOf, rightOf, placed, matchSides, matchLine, matchAll, isImplication, matchPremises, preset, orElse, holesFrom, replacing, apartT, keepsT, freshT, sideT, operationT, restT, answer, fitsAt, fitsT}
 use Rattle.matcher.proofs.Match.{Has, match-sound, then-some, when-some, Goes, goes-then, goes-when, match-goes}
 use Rattle.matcher.proofs.Template.{Agrees, from-tree}
 
 -- LINES AGAINST SHAPES
 
 -- the line has the form and place, and its sides are the templates filled
-pub record FitSides (c : Holes) (i k f : ℕ) (p q : Tree) (v : Said) : Type 0 where
+pub record FitSides (c : Holes) (i k f : ℕ) (p q : Tree) (v : TreeConclusion) : Type 0 where
   pub placed : T (placed f i k v)
   pub left : instT c p ≡ v .left
   pub right : instT c q ≡ v .right
 
-abbrev pub Fits : Holes → ℕ → ℕ → Shape → Said → Type 0
+abbrev pub Fits : Holes → ℕ → ℕ → Shape → TreeConclusion → Type 0
 Fits c i k m v = FitSides c i k (formOf m) (leftOf m) (rightOf m) v
 
-abbrev pub FitAll : Holes → ℕ → ℕ → List Shape → List Said → Type 0
+abbrev pub FitAll : Holes → ℕ → ℕ → List Shape → List TreeConclusion → Type 0
 FitAll c i k [] [] = Unit {0}
 FitAll c i k [] (v ∷ vs) = ⊥
 FitAll c i k (p ∷ l) [] = ⊥
 FitAll c i k (p ∷ l) (v ∷ vs) = Fits c i k p v × FitAll c i k l vs
 
-abbrev pub FitPremises : Holes → ℕ → ℕ → Premises → List Said → Type 0
+abbrev pub FitPremises : Holes → ℕ → ℕ → Premises → List TreeConclusion → Type 0
 FitPremises c i k (these l) vs = FitAll c i k l vs
 FitPremises c i k implications vs = T (leb (length vs) Limits.premises && all isImplication vs)
 
@@ -75,7 +75,7 @@ none-some z e = let q : _≡_ {A = ℕ} 0 1 = cc in absurd (omega arith)
 
 module _ (c : Holes) (i k : ℕ) where
   -- what was matched fits
-  pub sides-sound : (f : ℕ) (p q : Tree) (v : Said) (b z : Taken) → matchSides i k f p q v b ≡ some z → Has c z → Has c b × FitSides c i k f p q v
+  pub sides-sound : (f : ℕ) (p q : Tree) (v : TreeConclusion) (b z : Taken) → matchSides i k f p q v b ≡ some z → Has c z → Has c b × FitSides c i k f p q v
   sides-sound f p q v b z e h =
       then-some (when (placed f i k v) b) _ z e λ b₀ e₀ k₀.
       then-some (matchT p (v .left) b₀) _ z k₀ λ b₁ e₁ k₁.
@@ -84,10 +84,10 @@ module _ (c : Holes) (i k : ℕ) where
       let w = when-some (placed f i k v) b b₀ e₀ in
       (subst (Has c) (sym (w .1)) (x .0), record { placed = w .0; left = x .1; right = y .1 })
 
-  line-sound : (m : Shape) (v : Said) (b z : Taken) → matchLine i k m v b ≡ some z → Has c z → Has c b × Fits c i k m v
+  line-sound : (m : Shape) (v : TreeConclusion) (b z : Taken) → matchLine i k m v b ≡ some z → Has c z → Has c b × Fits c i k m v
   line-sound m = sides-sound (formOf m) (leftOf m) (rightOf m)
 
-  all-sound : (l : List Shape) (vs : List Said) (b z : Taken) → matchAll i k l vs b ≡ some z → Has c z → Has c b × FitAll c i k l vs
+  all-sound : (l : List Shape) (vs : List TreeConclusion) (b z : Taken) → matchAll i k l vs b ≡ some z → Has c z → Has c b × FitAll c i k l vs
   all-sound [] [] b z e h = (subst (Has c) (let q : z ≡ b = cc in q) h, tt)
   all-sound [] (v ∷ vs) b z e h = none-some z e
   all-sound (p ∷ l) [] b z e h = none-some z e
@@ -100,27 +100,27 @@ module _ (c : Holes) (i k : ℕ) where
           let x = line-sound p v b b₁ e₁ (y .0) in
           (x .0, (x .1, y .1))
 
-  premises-sound : (W : Premises) (vs : List Said) (b z : Taken) → matchPremises i k W vs b ≡ some z → Has c z → Has c b × FitPremises c i k W vs
+  premises-sound : (W : Premises) (vs : List TreeConclusion) (b z : Taken) → matchPremises i k W vs b ≡ some z → Has c z → Has c b × FitPremises c i k W vs
   premises-sound (these l) vs b z e h = all-sound l vs b z e h
   premises-sound implications vs b z e h = let y = when-some (leb (length vs) Limits.premises && all isImplication vs) b z e in (subst (Has c) (sym (y .1)) h, y .0)
 
   -- what fits is matched
-  pub sides-goes : (f : ℕ) (p q : Tree) (v : Said) (b : Taken) → FitSides c i k f p q v → Has c b → Goes c (matchSides i k f p q v b)
+  pub sides-goes : (f : ℕ) (p q : Tree) (v : TreeConclusion) (b : Taken) → FitSides c i k f p q v → Has c b → Goes c (matchSides i k f p q v b)
   sides-goes f p q v b g h =
       goes-then c (when (placed f i k v) b) _ (goes-when c (placed f i k v) b (g .placed) h) λ b₀ h₀.
       goes-then c (matchT p (v .left) b₀) _ (subst (λ (u : Tree). Goes c (matchT p u b₀)) (g .left) (match-goes c p b₀ h₀)) λ b₁ h₁.
       subst (λ (u : Tree). Goes c (matchT q u b₁)) (g .right) (match-goes c q b₁ h₁)
 
-  line-goes : (m : Shape) (v : Said) (b : Taken) → Fits c i k m v → Has c b → Goes c (matchLine i k m v b)
+  line-goes : (m : Shape) (v : TreeConclusion) (b : Taken) → Fits c i k m v → Has c b → Goes c (matchLine i k m v b)
   line-goes m = sides-goes (formOf m) (leftOf m) (rightOf m)
 
-  all-goes : (l : List Shape) (vs : List Said) (b : Taken) → FitAll c i k l vs → Has c b → Goes c (matchAll i k l vs b)
+  all-goes : (l : List Shape) (vs : List TreeConclusion) (b : Taken) → FitAll c i k l vs → Has c b → Goes c (matchAll i k l vs b)
   all-goes [] [] b f h = record { to = b; is = refl; has = h }
   all-goes [] (v ∷ vs) b f h = absurd f
   all-goes (p ∷ l) [] b f h = absurd f
   all-goes (p ∷ l) (v ∷ vs) b f h = goes-then c (matchLine i k p v b) (matchAll i k l vs) (line-goes p v b (f .0) h) (λ z hz. all-goes l vs z (f .1) hz)
 
-  premises-goes : (W : Premises) (vs : List Said) (b : Taken) → FitPremises c i k W vs → Has c b → Goes c (matchPremises i k W vs b)
+  premises-goes : (W : Premises) (vs : List TreeConclusion) (b : Taken) → FitPremises c i k W vs → Has c b → Goes c (matchPremises i k W vs b)
   premises-goes (these l) vs b f h = all-goes l vs b f h
   premises-goes implications vs b f h = goes-when c (leb (length vs) Limits.premises && all isImplication vs) b f h
 
@@ -130,29 +130,29 @@ has-from b = record { num = λ j n e. ap (orElse 0) e; tree = λ j u e. ap (orEl
 
 -- STATEMENTS
 
-imp-said : (s : Statement) → isImplication (said s) ≡ isImp s
-imp-said (Statement.inside a b) = refl
-imp-said (Statement.implies a b) = refl
-imp-said (Statement.triple j m a b) = refl
+imp-concluded : (s : Statement) → isImplication (concluded s) ≡ isImp s
+imp-concluded (Statement.inside a b) = refl
+imp-concluded (Statement.implies a b) = refl
+imp-concluded (Statement.triple j m a b) = refl
 
-all-imp-said : (ps : List Statement) → all isImplication (map said ps) ≡ all isImp ps
-all-imp-said [] = refl
-all-imp-said (s ∷ ps) = ap₂ _&&_ (imp-said s) (all-imp-said ps)
+all-imp-concluded : (ps : List Statement) → all isImplication (map concluded ps) ≡ all isImp ps
+all-imp-concluded [] = refl
+all-imp-concluded (s ∷ ps) = ap₂ _&&_ (imp-concluded s) (all-imp-concluded ps)
 
-length-said : (ps : List Statement) → length (map said ps) ≡ length ps
-length-said [] = refl
-length-said (s ∷ ps) = ap (λ (n : ℕ). suc n) (length-said ps)
+length-concluded : (ps : List Statement) → length (map concluded ps) ≡ length ps
+length-concluded [] = refl
+length-concluded (s ∷ ps) = ap (λ (n : ℕ). suc n) (length-concluded ps)
 
 -- the implications among them; of the others any: they have none
-imps-said : (ps : List Statement) → T (all isImp ps) → map FitT.impOf (map said ps) ≡ map impToTree (map Statement.impOf ps)
-imps-said [] h = refl
-imps-said (Statement.inside a b ∷ ps) h = absurd h
-imps-said (Statement.implies a b ∷ ps) h = ap (λ (l : List ImpT). impToTree (record { left = a; right = b }) ∷ l) (imps-said ps h)
-imps-said (Statement.triple j m a b ∷ ps) h = absurd h
+imps-concluded : (ps : List Statement) → T (all isImp ps) → map FitT.impOf (map concluded ps) ≡ map impToTree (map Statement.impOf ps)
+imps-concluded [] h = refl
+imps-concluded (Statement.inside a b ∷ ps) h = absurd h
+imps-concluded (Statement.implies a b ∷ ps) h = ap (λ (l : List ImpT). impToTree (record { left = a; right = b }) ∷ l) (imps-concluded ps h)
+imps-concluded (Statement.triple j m a b ∷ ps) h = absurd h
 
 module _ (P : Program) (i k : ℕ) (c : Holes) (ag : Agrees (given P i k) c) where
   -- a line that fits is the shape filled
-  says-from : (m : Shape) (s : Statement) → Fits c i k m (said s) → filled P i k (fillOf c) m ≡ s
+  says-from : (m : Shape) (s : Statement) → Fits c i k m (concluded s) → filled P i k (fillOf c) m ≡ s
   says-from (inside p q) (Statement.inside a b) f = ap₂ Statement.inside (from-tree (given P i k) c ag p a (f .left)) (from-tree (given P i k) c ag q b (f .right))
   says-from (inside p q) (Statement.implies a b) f = absurd (f .placed)
   says-from (inside p q) (Statement.triple j l a b) f = absurd (f .placed)
@@ -169,18 +169,51 @@ module _ (P : Program) (i k : ℕ) (c : Holes) (ag : Agrees (given P i k) c) whe
           → Statement.triple i k (inst (given P i k) (fillOf c) p) (inst (given P i k) (fillOf c) q) ≡ Statement.triple j l a b
       go x y z w = cc
 
-  all-from : (l : List Shape) (ps : List Statement) → FitAll c i k l (map said ps) → filledAll P i k (fillOf c) l ≡ ps
+  all-from : (l : List Shape) (ps : List Statement) → FitAll c i k l (map concluded ps) → filledAll P i k (fillOf c) l ≡ ps
   all-from [] [] f = refl
   all-from [] (s ∷ ps) f = absurd f
   all-from (m ∷ l) [] f = absurd f
   all-from (m ∷ l) (s ∷ ps) f = ap₂ (λ (s : Statement) (l : List Statement). s ∷ l) (says-from m s (f .0)) (all-from l ps (f .1))
 
-  premises-from : (W : Premises) (ps : List Statement) → FitPremises c i k W (map said ps) → PremisesFit P i k (fillOf c) W ps
+  premises-from : (W : Premises) (ps : List Statement) → FitPremises c i k W (map concluded ps) → PremisesFit P i k (fillOf c) W ps
   premises-from (these l) ps f = all-from l ps f
-  premises-from implications ps f = subst T (ap₂ (λ n b. leb n Limits.premises && b) (length-said ps) (all-imp-said ps)) f
+  premises-from implications ps f = subst T (ap₂ (λ n b. leb n Limits.premises && b) (length-concluded ps) (all-imp-concluded ps)) f
 
 same-comm : {s : Sort} (f h : Formula s) → same f h ≡ same h f
 same-comm f h = bool-ext (same f h) (same h f) (λ z. subst (λ (w : Formula _). T (same w f)) (same-eq f h z) (same-refl f)) (λ z. subst (λ (w : Formula _). T (same w h)) (same-eq h f z) (same-refl h))
+
+not-of : (u v : Bool) → u ≡ not v → not u ≡ v
+not-of u true e = rw e
+not-of u false e = rw e
+
+-- a name that is absent from the tree is absent from the formula
+word-same : (x : ℕ) {s : Sort} (h : Formula s) → not (occurs (wordAnyRole x) [] (toTree h)) ≡ only (notWord x) h
+word-same x h = not-of (occurs (wordAnyRole x) [] (toTree h)) (only (notWord x) h) (no-word x h)
+
+register-same : (r : ℕ) {s : Sort} (h : Formula s) → not (occurs (register r) [] (toTree h)) ≡ only (notReg r) h
+register-same r h = not-of (occurs (register r) [] (toTree h)) (only (notReg r) h) (no-register r h)
+
+alone : {a b : Bool} → a ≡ b → a && true ≡ b
+alone {a} {b} e = go a ∙ e
+  where
+    go : (x : Bool) → x && true ≡ x
+    go true = refl
+    go false = refl
+
+-- two tests of every name at once
+and-swap : (a b c d : Bool) → (a && c) && (b && d) ≡ (a && b) && (c && d)
+and-swap true true c d = refl
+and-swap true false true d = refl
+and-swap true false false d = refl
+and-swap false b c d = refl
+
+all-both : (p q : Name → Bool) (l : List Name) → all p l && all q l ≡ all (λ n. p n && q n) l
+all-both p q [] = refl
+all-both p q (n ∷ l) = and-swap (p n) (q n) (all p l) (all q l) ∙ ap (λ (b : Bool). (p n && q n) && b) (all-both p q l)
+
+both-same : (r x : ℕ) {s : Sort} (h : Formula s)
+    → not (occurs (wordAnyRole x) [] (toTree h)) && not (occurs (register r) [] (toTree h)) ≡ all (λ n. notWord x n && notReg r n) (names h)
+both-same r x h = ap₂ _&&_ (word-same x h) (register-same r h) ∙ all-both (notWord x) (notReg r) (names h)
 
 -- a replacement in trees that is one in formulas
 as-formula : {s : Sort} {τ : Tree} (σ : Sub) (f h : Formula s) → τ ≡ toTree (replace σ f) → sameTree τ (toTree h) ≡ same h (replace σ f)
@@ -194,27 +227,52 @@ module _ (P : Program) (i k : ℕ) (σ : Fill) (d : Holes) (two : 2 ≤ P .range
   abbrev a : Acting
   a = acting (half P i k)
 
-  not-of : (u v : Bool) → u ≡ not v → not u ≡ v
-  not-of u true e = rw e
-  not-of u false e = rw e
-
   replaced-same : {s : Sort} (b : By) (f h : Formula s) → sameTree (replaceT (replacing (P .range) (P .init) a b) (toTree f)) (toTree h) ≡ same h (replace (by P i k b) f)
   replaced-same by-notes f h = as-formula (notes (notesOf (half P i k))) f h (toTree-notes (notesOf (half P i k)) f)
   replaced-same r-by-x f h = as-formula (regBy (g .r) (word (g .x))) f h (toTree-reg (g .r) (word (g .x)) f)
   replaced-same x-by-f f h = as-formula (wordBy (g .x) (g .f)) f h (toTree-word (g .x) (g .f) f)
 
+  -- what rule 1 and rule 13 ask of a formula: the word in no role, nor the result register
+  apart-same : {s : Sort} (c : Instr) (h : Formula s) → apartT (P .range) (P .init) (acting c) (toTree h) ≡ only (apartOf c) h
+  apart-same (act none []) h = alone (word-same 0 h)
+  apart-same (act none (n ∷ ns)) h = alone (word-same 0 h)
+  apart-same (act (load true r x) ns) h = alone (word-same x h)
+  apart-same (act (load false r x) ns) h = alone (word-same x h)
+  apart-same (act (write (store true) x f) ns) h = alone (word-same x h)
+  apart-same (act (write (store false) x f) ns) h = alone (word-same x h)
+  apart-same (act (write swap x f) ns) h = alone (word-same x h)
+  apart-same (act (write (exchange r) x f) ns) h = both-same r x h
+  apart-same (act (write (fetchAdd r) x f) ns) h = both-same r x h
+  apart-same (branch e n) h = alone (word-same 0 h)
+
   keeps-same : (c : Instr) (h : Assertion) → keepsT (P .range) (P .init) (acting c) (toTree h) ≡ keeps c h
-  keeps-same (act none ns) h = refl
-  keeps-same (act (load true r x) ns) h = not-of (occurs (register r) [] (toTree h)) (only (notReg r) h) (no-register r h)
-  keeps-same (act (load false r x) ns) h = not-of (occurs (register r) [] (toTree h)) (only (notReg r) h) (no-register r h)
-  keeps-same (act (write (store true) x f) ns) h = not-of (occurs (wordAnyRole x) [] (toTree h)) (only (notWord x) h) (no-word x h)
-  keeps-same (act (write (store false) x f) ns) h = not-of (occurs (wordAnyRole x) [] (toTree h)) (only (notWord x) h) (no-word x h)
-  keeps-same (act (write swap x f) ns) h = not-of (occurs (wordAnyRole x) [] (toTree h)) (only (notWord x) h) (no-word x h)
+  keeps-same (act none []) h = refl
+  keeps-same (act none (n ∷ ns)) h = refl
+  keeps-same (act (load true r x) ns) h = register-same r h
+  keeps-same (act (load false r x) ns) h = register-same r h
+  keeps-same (act (write (store true) x f) ns) h = apart-same (act (write (store true) x f) ns) h
+  keeps-same (act (write (store false) x f) ns) h = apart-same (act (write (store false) x f) ns) h
+  keeps-same (act (write swap x f) ns) h = apart-same (act (write swap x f) ns) h
+  keeps-same (act (write (exchange r) x f) ns) h = apart-same (act (write (exchange r) x f) ns) h
+  keeps-same (act (write (fetchAdd r) x f) ns) h = apart-same (act (write (fetchAdd r) x f) ns) h
   keeps-same (branch e n) h = refl
+
+  -- what the new write holds
+  fresh-same : (c : Instr) → freshT (P .range) (P .init) (acting c) ≡ toTree (freshOf c)
+  fresh-same (act none []) = refl
+  fresh-same (act none (n ∷ ns)) = refl
+  fresh-same (act (load true r x) ns) = refl
+  fresh-same (act (load false r x) ns) = refl
+  fresh-same (act (write (store true) x f) ns) = refl
+  fresh-same (act (write (store false) x f) ns) = refl
+  fresh-same (act (write swap x f) ns) = refl
+  fresh-same (act (write (exchange r) x f) ns) = refl
+  fresh-same (act (write (fetchAdd r) x f) ns) = refl
+  fresh-same (branch e n) = refl
 
   -- the holes of a side condition
   abbrev Same : Statement → List Statement → Side → Type 0
-  Same s ps z = sideT (P .range) (P .init) a d (said s) (map said ps) z ≡ sideHolds P i k σ s ps z
+  Same s ps z = sideT (P .range) (P .init) a d (concluded s) (map concluded ps) z ≡ sideHolds P i k σ s ps z
 
   is-same : {r : Sort} (p q : Pattern r) (b : By) (s : Statement) (ps : List Statement) → instT d (patternToTree p) ≡ toTree (inst g σ p) → instT d (patternToTree q) ≡ toTree (inst g σ q) → Same s ps (p is q with b)
   is-same p q b s ps e f =
@@ -225,7 +283,10 @@ module _ (P : Program) (i k : ℕ) (σ : Fill) (d : Holes) (two : 2 ≤ P .range
   kept-same p s ps e = ap (keepsT (P .range) (P .init) a) e ∙ keeps-same (half P i k) (inst g σ p)
 
   lacks-same : (p : Pattern Sort.interval) (s : Statement) (ps : List Statement) → instT d (patternToTree p) ≡ toTree (inst g σ p) → Same s ps (lacks-x p)
-  lacks-same p s ps e = ap (λ (u : Tree). not (occurs (wordAnyRole (g .x)) [] u)) e ∙ not-of (occurs (wordAnyRole (g .x)) [] (toTree (inst g σ p))) (only (notWord (g .x)) (inst g σ p)) (no-word (g .x) (inst g σ p))
+  lacks-same p s ps e = ap (apartT (P .range) (P .init) a) e ∙ apart-same (half P i k) (inst g σ p)
+
+  new-same : (p : Pattern Sort.value) (s : Statement) (ps : List Statement) → instT d (patternToTree p) ≡ toTree (inst g σ p) → Same s ps (is-new p)
+  new-same p s ps e = ap₂ sameTree e (fresh-same (half P i k)) ∙ toTree-same (inst g σ p) (freshOf (half P i k))
 
   flag-same : (p : Pattern Sort.test) (s : Statement) (ps : List Statement) → instT d (patternToTree p) ≡ toTree (inst g σ p) → Same s ps (no-flag p)
   flag-same p s ps e = ap (λ (u : Tree). not (occurs (flag (g .x)) [] u)) e ∙ not-of (occurs (flag (g .x)) [] (toTree (inst g σ p))) (only (notFlag (g .x)) (inst g σ p)) (Occurs.no-flag (g .x) (inst g σ p))
@@ -235,7 +296,7 @@ module _ (P : Program) (i k : ℕ) (σ : Fill) (d : Holes) (two : 2 ≤ P .range
 
   -- the line's sides, as trees: the templates filled with d are the patterns filled with σ
   abbrev Line : Shape → Type 0
-  Line m = (instT d (leftOf m) ≡ said (filled P i k σ m) .left) × (instT d (rightOf m) ≡ said (filled P i k σ m) .right)
+  Line m = (instT d (leftOf m) ≡ concluded (filled P i k σ m) .left) × (instT d (rightOf m) ≡ concluded (filled P i k σ m) .right)
 
   abbrev Sides : Rule → List Statement → Type 0
   Sides n ps = All (Same (filled P i k σ (row n .says)) ps) (row n .sides)
@@ -259,7 +320,7 @@ module _ (P : Program) (i k : ℕ) (σ : Fill) (d : Holes) (two : 2 ≤ P .range
   sides-same r14 ps e f = tt
   sides-same r15 ps e f = tt
   sides-same r16 ps e f = tt
-  sides-same r20 ps (e₁, e₂) f = (ap (λ (l : List ImpT). tableT l (impToTree (record { left = σ .assertion 0; right = σ .assertion 1 }))) (imps-said ps (and-right (leb (length ps) Limits.premises) (all isImp ps) f)) ∙ toTree-table (map Statement.impOf ps) (record { left = σ .assertion 0; right = σ .assertion 1 }), tt)
+  sides-same r20 ps (e₁, e₂) f = (ap (λ (l : List ImpT). tableT l (impToTree (record { left = σ .assertion 0; right = σ .assertion 1 }))) (imps-concluded ps (and-right (leb (length ps) Limits.premises) (all isImp ps) f)) ∙ toTree-table (map Statement.impOf ps) (record { left = σ .assertion 0; right = σ .assertion 1 }), tt)
   sides-same r21 ps (e₁, e₂) f = let q2 : d .tree 2 ≡ toTree (σ .test 2) = cc in let q3 : d .tree 3 ≡ toTree (σ .test 3) = cc in (rows-same Rules.E Rules.F (filled P i k σ (row r21 .says)) ps q2 q3, tt)
   sides-same r22 ps e f = tt
   sides-same r23 ps (e₁, e₂) f = let q2 : d .tree 2 ≡ toTree (σ .test 2) = cc in let q3 : d .tree 3 ≡ toTree (σ .test 3) = cc in (rows-same Rules.E Rules.F (filled P i k σ (row r23 .says)) ps q2 q3, tt)
@@ -284,6 +345,9 @@ module _ (P : Program) (i k : ℕ) (σ : Fill) (d : Holes) (two : 2 ≤ P .range
   sides-same r44 ps e f = tt
   sides-same r45 ps e f = tt
   sides-same r46 ps e f = tt
+  sides-same r47 ps (e₁, e₂) f = let q3 : d .tree 3 ≡ toTree (σ .test 3) = cc in let q2 : d .tree 2 ≡ toTree (σ .test 2) = cc in (is-same Rules.F Rules.E r-by-x (filled P i k σ (row r47 .says)) ps q3 q2, tt)
+  sides-same r48 ps (e₁, e₂) f = let q0 : d .tree 0 ≡ toTree (σ .value 0) = cc in (new-same Rules.N (filled P i k σ (row r48 .says)) ps q0, tt)
+  sides-same r49 ps (e₁, e₂) f = let q0 : d .tree 0 ≡ toTree (σ .value 0) = cc in (new-same Rules.N (filled P i k σ (row r49 .says)) ps q0, tt)
 
 -- WHAT STANDS IN THE HOLES of a line, found in it
 abbrev leftPart : Tree → Tree
@@ -312,15 +376,15 @@ findT (node d o l r) u c = elim (leb firstHole d) [
   | false ↦ findT r (rightPart u) (findT l (leftPart u) (elim (ltb o firstNumber) [ true ↦ elim (hasOperand d) [ true ↦ findNum o (operandOf u) c | false ↦ c ] | false ↦ c ]))
 ]
 
-abbrev findLine : Shape → Said → Holes → Holes
+abbrev findLine : Shape → TreeConclusion → Holes → Holes
 findLine m v c = findT (rightOf m) (v .right) (findT (leftOf m) (v .left) c)
 
-abbrev findAll : List Shape → List Said → Holes → Holes
+abbrev findAll : List Shape → List TreeConclusion → Holes → Holes
 findAll [] vs c = c
 findAll (m ∷ l) [] c = c
 findAll (m ∷ l) (v ∷ vs) c = findAll l vs (findLine m v c)
 
-abbrev findPremises : Premises → List Said → Holes → Holes
+abbrev findPremises : Premises → List TreeConclusion → Holes → Holes
 findPremises (these l) vs c = findAll l vs c
 findPremises implications vs c = c
 
@@ -336,13 +400,13 @@ module _ (P : Program) (i k : ℕ) (σ : Fill) where
   premisesOf implications = []
 
   abbrev holes : Rule → Holes
-  holes n = findPremises (row n .premises) (map said (premisesOf (row n .premises))) (findLine (row n .says) (said (filled P i k σ (row n .says))) first)
+  holes n = findPremises (row n .premises) (map concluded (premisesOf (row n .premises))) (findLine (row n .says) (concluded (filled P i k σ (row n .says))) first)
 
   -- the line and its premises are the templates filled with them
   record Filled (n : Rule) : Type 0 where
-    left : instT (holes n) (leftOf (row n .says)) ≡ said (filled P i k σ (row n .says)) .left
-    right : instT (holes n) (rightOf (row n .says)) ≡ said (filled P i k σ (row n .says)) .right
-    premises : FitPremises (holes n) i k (row n .premises) (map said (premisesOf (row n .premises)))
+    left : instT (holes n) (leftOf (row n .says)) ≡ concluded (filled P i k σ (row n .says)) .left
+    right : instT (holes n) (rightOf (row n .says)) ≡ concluded (filled P i k σ (row n .says)) .right
+    premises : FitPremises (holes n) i k (row n .premises) (map concluded (premisesOf (row n .premises)))
     t : holes n .num (numHole Pattern.t) ≡ i
     x : holes n .num (numHole Pattern.x) ≡ wordOf (half P i k)
     r : holes n .num (numHole Pattern.r) ≡ regOf (half P i k)
@@ -394,6 +458,9 @@ module _ (P : Program) (i k : ℕ) (σ : Fill) where
   filled-of r44 = record { left = refl; right = refl; premises = (record { placed = tt; left = refl; right = refl }, (record { placed = tt; left = refl; right = refl }, tt)); t = refl; x = refl; r = refl; f = refl }
   filled-of r45 = record { left = refl; right = refl; premises = tt; t = refl; x = refl; r = refl; f = refl }
   filled-of r46 = record { left = refl; right = refl; premises = tt; t = refl; x = refl; r = refl; f = refl }
+  filled-of r47 = record { left = refl; right = refl; premises = tt; t = refl; x = refl; r = refl; f = refl }
+  filled-of r48 = record { left = refl; right = refl; premises = tt; t = refl; x = refl; r = refl; f = refl }
+  filled-of r49 = record { left = refl; right = refl; premises = tt; t = refl; x = refl; r = refl; f = refl }
 
 -- BOTH WAYS
 answer-some : {Z : Type 0} (R : ℕ) (init : ℕ → ℕ) (a : Acting) (o : Option Taken) (f : Taken → Bool) → T (answer R init a o f) → ((z : Taken) → o ≡ some z → T (f z) → Z) → Z
@@ -410,20 +477,20 @@ module _ (P : Program) (two : 2 ≤ P .range) (i k : ℕ) (n : Rule) (s : Statem
   operation-same (triple p q) ops = refl
 
   -- what was found in the match of a line that is σ's
-  module _ (σ : Fill) (z b : Taken) (e : matchLine i k (row n .says) (said s) (preset i c₀) ≡ some b) (e′ : matchPremises i k (row n .premises) (map said ps) b ≡ some z) where
-    line-fits : Has (holesFrom z) (preset i c₀) × Fits (holesFrom z) i k (row n .says) (said s)
-    line-fits = line-sound (holesFrom z) i k (row n .says) (said s) (preset i c₀) b e (premises-sound (holesFrom z) i k (row n .premises) (map said ps) b z e′ (has-from z) .0)
+  module _ (σ : Fill) (z b : Taken) (e : matchLine i k (row n .says) (concluded s) (preset i c₀) ≡ some b) (e′ : matchPremises i k (row n .premises) (map concluded ps) b ≡ some z) where
+    line-fits : Has (holesFrom z) (preset i c₀) × Fits (holesFrom z) i k (row n .says) (concluded s)
+    line-fits = line-sound (holesFrom z) i k (row n .says) (concluded s) (preset i c₀) b e (premises-sound (holesFrom z) i k (row n .premises) (map concluded ps) b z e′ (has-from z) .0)
 
-    premises-fit : FitPremises (holesFrom z) i k (row n .premises) (map said ps)
-    premises-fit = premises-sound (holesFrom z) i k (row n .premises) (map said ps) b z e′ (has-from z) .1
+    premises-fit : FitPremises (holesFrom z) i k (row n .premises) (map concluded ps)
+    premises-fit = premises-sound (holesFrom z) i k (row n .premises) (map concluded ps) b z e′ (has-from z) .1
 
     -- the side conditions are the same, for any filling that the line is
     sides-at : filled P i k σ (row n .says) ≡ s → PremisesFit P i k σ (row n .premises) ps
-        → All (λ d. sideT (P .range) (P .init) c₀ (holesFrom z) (said s) (map said ps) d ≡ sideHolds P i k σ s ps d) (row n .sides)
+        → All (λ d. sideT (P .range) (P .init) c₀ (holesFrom z) (concluded s) (map concluded ps) d ≡ sideHolds P i k σ s ps d) (row n .sides)
     sides-at q f =
-        subst (λ (w : Statement). All (λ d. sideT (P .range) (P .init) c₀ (holesFrom z) (said w) (map said ps) d ≡ sideHolds P i k σ w ps d) (row n .sides)) q
+        subst (λ (w : Statement). All (λ d. sideT (P .range) (P .init) c₀ (holesFrom z) (concluded w) (map concluded ps) d ≡ sideHolds P i k σ w ps d) (row n .sides)) q
         (sides-same P i k σ (holesFrom z) two n ps
-        (line-fits .1 .left ∙ ap (λ (w : Statement). said w .left) (sym q), line-fits .1 .right ∙ ap (λ (w : Statement). said w .right) (sym q)) f)
+        (line-fits .1 .left ∙ ap (λ (w : Statement). concluded w .left) (sym q), line-fits .1 .right ∙ ap (λ (w : Statement). concluded w .right) (sym q)) f)
 
   all-over : (f h : Side → Bool) (l : List Side) → All (λ d. f d ≡ h d) l → All (λ d. T (f d)) l → All (λ d. T (h d)) l
   all-over f h [] e t = tt
@@ -434,17 +501,17 @@ module _ (P : Program) (two : 2 ≤ P .range) (i k : ℕ) (n : Rule) (s : Statem
   all-back f h (d ∷ l) e t = (subst T (sym (e .0)) (t .0), all-back f h l (e .1) (t .1))
 
   -- fits on trees: the row's shapes, filled with what stands in the holes
-  pub tree-fit : {Z : Type 0} → T (fitsAt (P .range) (P .init) c₀ i k (row n) (said s) (map said ps)) → ((σ : Fill) → Fit P i k σ (row n) s ps → Z) → Z
+  pub tree-fit : {Z : Type 0} → T (fitsAt (P .range) (P .init) c₀ i k (row n) (concluded s) (map concluded ps)) → ((σ : Fill) → Fit P i k σ (row n) s ps → Z) → Z
   tree-fit {Z} h goal =
-      answer-some (P .range) (P .init) c₀ (andThen (matchLine i k (row n .says) (said s) (preset i c₀)) (matchPremises i k (row n .premises) (map said ps))) _ h λ z ez rest.
-      then-some (matchLine i k (row n .says) (said s) (preset i c₀)) (matchPremises i k (row n .premises) (map said ps)) z ez λ b eb kb.
+      answer-some (P .range) (P .init) c₀ (andThen (matchLine i k (row n .says) (concluded s) (preset i c₀)) (matchPremises i k (row n .premises) (map concluded ps))) _ h λ z ez rest.
+      then-some (matchLine i k (row n .says) (concluded s) (preset i c₀)) (matchPremises i k (row n .premises) (map concluded ps)) z ez λ b eb kb.
       goal (fillOf (holesFrom z)) (fitting z b eb kb rest)
     where
-      fitting : (z b : Taken) → matchLine i k (row n .says) (said s) (preset i c₀) ≡ some b → matchPremises i k (row n .premises) (map said ps) b ≡ some z
-          → T (restT (P .range) (P .init) c₀ (row n) (said s) (map said ps) z) → Fit P i k (fillOf (holesFrom z)) (row n) s ps
+      fitting : (z b : Taken) → matchLine i k (row n .says) (concluded s) (preset i c₀) ≡ some b → matchPremises i k (row n .premises) (map concluded ps) b ≡ some z
+          → T (restT (P .range) (P .init) c₀ (row n) (concluded s) (map concluded ps) z) → Fit P i k (fillOf (holesFrom z)) (row n) s ps
       fitting z b eb kb rest =
           let c : Holes = holesFrom z in
-          let x : Has c (preset i c₀) × Fits c i k (row n .says) (said s) = line-fits (fillOf c) z b eb kb in
+          let x : Has c (preset i c₀) × Fits c i k (row n .says) (concluded s) = line-fits (fillOf c) z b eb kb in
           let ag : Agrees (given P i k) c = record {
             t = x .0 .num (numHole Pattern.t) i refl;
             x = x .0 .num (numHole Pattern.x) (wordOf (half P i k)) refl;
@@ -454,7 +521,7 @@ module _ (P : Program) (two : 2 ≤ P .range) (i k : ℕ) (n : Rule) (s : Statem
           let says : filled P i k (fillOf c) (row n .says) ≡ s = says-from P i k c ag (row n .says) s (x .1) in
           let premises : PremisesFit P i k (fillOf c) (row n .premises) ps = premises-from P i k c ag (row n .premises) ps (premises-fit (fillOf c) z b eb kb) in
           let ops : Bool = operationT (P .range) (P .init) c₀ (formOf (row n .says)) (row n .operations) in
-          let sides : Bool = all (sideT (P .range) (P .init) c₀ c (said s) (map said ps)) (row n .sides) in
+          let sides : Bool = all (sideT (P .range) (P .init) c₀ c (concluded s) (map concluded ps)) (row n .sides) in
           record {
             says = says;
             premises = premises;
@@ -487,52 +554,52 @@ module _ (P : Program) (two : 2 ≤ P .range) (i k : ℕ) (n : Rule) (s : Statem
           go false q e = let q : _≡_ {A = ℕ} 0 1 = cc in absurd (omega arith)
 
   -- a filled shape stands in its place
-  its-place : (σ : Fill) (m : Shape) → T (placed (formOf m) i k (said (filled P i k σ m)))
+  its-place : (σ : Fill) (m : Shape) → T (placed (formOf m) i k (concluded (filled P i k σ m)))
   its-place σ (inside p q) = tt
   its-place σ (implies p q) = tt
   its-place σ (triple p q) = same-place P i k σ
 
-  premises-to : (c : Holes) (σ : Fill) (W : Premises) → FitPremises c i k W (map said (premisesOf P i k σ W)) → PremisesFit P i k σ W ps → FitPremises c i k W (map said ps)
-  premises-to c σ (these l) f e = subst (λ (qs : List Statement). FitAll c i k l (map said qs)) e f
-  premises-to c σ implications f e = subst T (sym (ap₂ (λ n b. leb n Limits.premises && b) (length-said ps) (all-imp-said ps))) e
+  premises-to : (c : Holes) (σ : Fill) (W : Premises) → FitPremises c i k W (map concluded (premisesOf P i k σ W)) → PremisesFit P i k σ W ps → FitPremises c i k W (map concluded ps)
+  premises-to c σ (these l) f e = subst (λ (qs : List Statement). FitAll c i k l (map concluded qs)) e f
+  premises-to c σ implications f e = subst T (sym (ap₂ (λ n b. leb n Limits.premises && b) (length-concluded ps) (all-imp-concluded ps))) e
 
   -- the row's shapes filled: fits on trees
-  pub fit-tree : (σ : Fill) → Fit P i k σ (row n) s ps → T (fitsAt (P .range) (P .init) c₀ i k (row n) (said s) (map said ps))
+  pub fit-tree : (σ : Fill) → Fit P i k σ (row n) s ps → T (fitsAt (P .range) (P .init) c₀ i k (row n) (concluded s) (map concluded ps))
   fit-tree σ f =
       let c : Holes = holes P i k σ n in
       let fl : Filled P i k σ n = filled-of P i k σ n in
-      let here : Fits c i k (row n .says) (said s) =
-      subst (λ (w : Statement). Fits c i k (row n .says) (said w)) (f .says) (record { placed = its-place σ (row n .says); left = fl .left; right = fl .right }) in
-      let ga : Goes c (andThen (matchLine i k (row n .says) (said s) (preset i c₀)) (matchPremises i k (row n .premises) (map said ps))) =
-      goes-then c (matchLine i k (row n .says) (said s) (preset i c₀)) (matchPremises i k (row n .premises) (map said ps))
-      (line-goes c i k (row n .says) (said s) (preset i c₀) here (has-preset σ))
-      (λ z hz. premises-goes c i k (row n .premises) (map said ps) z (premises-to c σ (row n .premises) (fl .premises) (f .premises)) hz) in
-      subst (λ (o : Option Taken). T (answer (P .range) (P .init) c₀ o (restT (P .range) (P .init) c₀ (row n) (said s) (map said ps)))) (sym (ga .is)) (rest (ga .to) (ga .is))
+      let here : Fits c i k (row n .says) (concluded s) =
+      subst (λ (w : Statement). Fits c i k (row n .says) (concluded w)) (f .says) (record { placed = its-place σ (row n .says); left = fl .left; right = fl .right }) in
+      let ga : Goes c (andThen (matchLine i k (row n .says) (concluded s) (preset i c₀)) (matchPremises i k (row n .premises) (map concluded ps))) =
+      goes-then c (matchLine i k (row n .says) (concluded s) (preset i c₀)) (matchPremises i k (row n .premises) (map concluded ps))
+      (line-goes c i k (row n .says) (concluded s) (preset i c₀) here (has-preset σ))
+      (λ z hz. premises-goes c i k (row n .premises) (map concluded ps) z (premises-to c σ (row n .premises) (fl .premises) (f .premises)) hz) in
+      subst (λ (o : Option Taken). T (answer (P .range) (P .init) c₀ o (restT (P .range) (P .init) c₀ (row n) (concluded s) (map concluded ps)))) (sym (ga .is)) (rest (ga .to) (ga .is))
     where
-      rest : (z : Taken) → andThen (matchLine i k (row n .says) (said s) (preset i c₀)) (matchPremises i k (row n .premises) (map said ps)) ≡ some z
-          → T (restT (P .range) (P .init) c₀ (row n) (said s) (map said ps) z)
+      rest : (z : Taken) → andThen (matchLine i k (row n .says) (concluded s) (preset i c₀)) (matchPremises i k (row n .premises) (map concluded ps)) ≡ some z
+          → T (restT (P .range) (P .init) c₀ (row n) (concluded s) (map concluded ps) z)
       rest z ez =
-          then-some (matchLine i k (row n .says) (said s) (preset i c₀)) (matchPremises i k (row n .premises) (map said ps)) z ez λ b eb kb.
-          and-both (operationT (P .range) (P .init) c₀ (formOf (row n .says)) (row n .operations)) (all (sideT (P .range) (P .init) c₀ (holesFrom z) (said s) (map said ps)) (row n .sides))
+          then-some (matchLine i k (row n .says) (concluded s) (preset i c₀)) (matchPremises i k (row n .premises) (map concluded ps)) z ez λ b eb kb.
+          and-both (operationT (P .range) (P .init) c₀ (formOf (row n .says)) (row n .operations)) (all (sideT (P .range) (P .init) c₀ (holesFrom z) (concluded s) (map concluded ps)) (row n .sides))
           (subst T (sym (operation-same (row n .says) (row n .operations))) (f .op))
           (All-all _ (row n .sides) (all-back _ _ (row n .sides) (sides-at σ z b eb kb (f .says) (f .premises)) (f .side)))
 
-thread-said : (s : Statement) → said s .thread ≡ threadOf s
-thread-said (Statement.inside a b) = refl
-thread-said (Statement.implies a b) = refl
-thread-said (Statement.triple j m a b) = refl
+thread-concluded : (s : Statement) → concluded s .thread ≡ threadOf s
+thread-concluded (Statement.inside a b) = refl
+thread-concluded (Statement.implies a b) = refl
+thread-concluded (Statement.triple j m a b) = refl
 
-point-said : (s : Statement) → said s .point ≡ pointOf s
-point-said (Statement.inside a b) = refl
-point-said (Statement.implies a b) = refl
-point-said (Statement.triple j m a b) = refl
+point-concluded : (s : Statement) → concluded s .point ≡ pointOf s
+point-concluded (Statement.inside a b) = refl
+point-concluded (Statement.implies a b) = refl
+point-concluded (Statement.triple j m a b) = refl
 
 -- THE BRIDGE
 -- with two values at least, so that there are rows
 pub bridge : (P : Program) → 2 ≤ P .range → (n : Rule) (s : Statement) (ps : List Statement)
-    → fitsT (P .range) (P .init) (acting (half P (said s .thread) (said s .point))) n (said s) (map said ps) ≡ fits P n s ps
+    → fitsT (P .range) (P .init) (acting (half P (concluded s .thread) (concluded s .point))) n (concluded s) (map concluded ps) ≡ fits P n s ps
 bridge P two n s ps =
-    subst₂ (λ (i k : ℕ). fitsAt (P .range) (P .init) (acting (half P i k)) i k (row n) (said s) (map said ps) ≡ fits P n s ps) (sym (thread-said s)) (sym (point-said s))
-    (bool-ext (fitsAt (P .range) (P .init) (acting (half P (threadOf s) (pointOf s))) (threadOf s) (pointOf s) (row n) (said s) (map said ps)) (fits P n s ps)
+    subst₂ (λ (i k : ℕ). fitsAt (P .range) (P .init) (acting (half P i k)) i k (row n) (concluded s) (map concluded ps) ≡ fits P n s ps) (sym (thread-concluded s)) (sym (point-concluded s))
+    (bool-ext (fitsAt (P .range) (P .init) (acting (half P (threadOf s) (pointOf s))) (threadOf s) (pointOf s) (row n) (concluded s) (map concluded ps)) (fits P n s ps)
     (λ h. tree-fit P two (threadOf s) (pointOf s) n s ps h (λ σ f. rule-fits P n s ps (rule-of P n σ s ps f)))
     (λ h. fit-tree P two (threadOf s) (pointOf s) n s ps (found (row n) s ps) (fit P n s ps h)))

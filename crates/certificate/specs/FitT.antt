@@ -16,7 +16,7 @@ use Rattle.logic.specs.Statement.{Statement}
 use Rattle.patterns.specs.Pattern
 use Rattle.patterns.specs.Rules
 use Rattle.logic.specs.Rule.{Rule}
-use Rattle.patterns.specs.Rules.{Shape, Shape.inside, Shape.implies, Shape.triple, Premises, these, implications, By, by-notes, r-by-x, x-by-f, Side, _is_with_, start-of, kept, lacks-x, no-flag, by-rows, by-table, Row, row}
+use Rattle.patterns.specs.Rules.{Shape, Shape.inside, Shape.implies, Shape.triple, Premises, these, implications, By, by-notes, r-by-x, x-by-f, Side, _is_with_, start-of, is-new, kept, lacks-x, no-flag, by-rows, by-table, Row, row}
 use Rattle.patterns.specs.Fits.{isAmong, opcode, wordOf, regOf, formulaOf, notesOf, threadOf, pointOf}
 use Rattle.formula.specs.Tree.{Tree, Tree.node}
 use Rattle.compare.specs.Same.{sameTree}
@@ -39,17 +39,17 @@ abbrev pub hoare : ℕ
 hoare = 2
 
 -- what a line says
-pub record Said : Type 0 where
+pub record TreeConclusion : Type 0 where
   pub form : ℕ
   pub thread : ℕ
   pub point : ℕ
   pub left : Tree
   pub right : Tree
 
-abbrev pub said : Statement → Said
-said (Statement.inside i j) = record { form = inclusion; thread = 0; point = 0; left = toTree i; right = toTree j }
-said (Statement.implies a b) = record { form = implication; thread = 0; point = 0; left = toTree a; right = toTree b }
-said (Statement.triple t k a b) = record { form = hoare; thread = t; point = k; left = toTree a; right = toTree b }
+abbrev pub concluded : Statement → TreeConclusion
+concluded (Statement.inside i j) = record { form = inclusion; thread = 0; point = 0; left = toTree i; right = toTree j }
+concluded (Statement.implies a b) = record { form = implication; thread = 0; point = 0; left = toTree a; right = toTree b }
+concluded (Statement.triple t k a b) = record { form = hoare; thread = t; point = k; left = toTree a; right = toTree b }
 
 -- the instruction of a line; notes: what rule 2 replaces
 pub record Acting : Type 0 where
@@ -78,26 +78,26 @@ rightOf (implies p q) = patternToTree q
 rightOf (triple p q) = patternToTree q
 
 -- a triple is for the same thread and point
-abbrev pub placed : ℕ → ℕ → ℕ → Said → Bool
+abbrev pub placed : ℕ → ℕ → ℕ → TreeConclusion → Bool
 placed f i k v = eqb (v .form) f && (not (eqb f hoare) || (eqb (v .thread) i && eqb (v .point) k))
 
 -- a form, and templates for the left side and the right side
-abbrev pub matchSides : ℕ → ℕ → ℕ → Tree → Tree → Said → Taken → Option Taken
+abbrev pub matchSides : ℕ → ℕ → ℕ → Tree → Tree → TreeConclusion → Taken → Option Taken
 matchSides i k f p q v b = andThen (when (placed f i k v) b) (λ b₀. andThen (matchT p (v .left) b₀) (matchT q (v .right)))
 
-abbrev pub matchLine : ℕ → ℕ → Shape → Said → Taken → Option Taken
+abbrev pub matchLine : ℕ → ℕ → Shape → TreeConclusion → Taken → Option Taken
 matchLine i k m v b = matchSides i k (formOf m) (leftOf m) (rightOf m) v b
 
-abbrev pub matchAll : ℕ → ℕ → List Shape → List Said → Taken → Option Taken
+abbrev pub matchAll : ℕ → ℕ → List Shape → List TreeConclusion → Taken → Option Taken
 matchAll i k [] [] b = some b
 matchAll i k [] (v ∷ vs) b = none
 matchAll i k (p ∷ l) [] b = none
 matchAll i k (p ∷ l) (v ∷ vs) b = andThen (matchLine i k p v b) (matchAll i k l vs)
 
-abbrev pub isImplication : Said → Bool
+abbrev pub isImplication : TreeConclusion → Bool
 isImplication v = eqb (v .form) implication
 
-abbrev pub matchPremises : ℕ → ℕ → Premises → List Said → Taken → Option Taken
+abbrev pub matchPremises : ℕ → ℕ → Premises → List TreeConclusion → Taken → Option Taken
 matchPremises i k (these l) vs b = matchAll i k l vs b
 matchPremises i k implications vs b = when (leb (length vs) Limits.premises && all isImplication vs) b
 
@@ -115,7 +115,7 @@ orElse d (some a) = a
 abbrev pub holesFrom : Taken → Holes
 holesFrom b = record { num = λ j. orElse 0 (b .num j); tree = λ j. orElse Tree.none (b .tree j) }
 
-abbrev pub impOf : Said → ImpT
+abbrev pub impOf : TreeConclusion → ImpT
 impOf v = record { left = v .left; right = v .right }
 
 -- R: how many values there are; init: the start values; a: the instruction
@@ -126,17 +126,29 @@ module _ (R : ℕ) (init : ℕ → ℕ) (a : Acting) where
   replacing r-by-x = oneName false (a .register) (node (byte Code.word) (a .word) Tree.none Tree.none)
   replacing x-by-f = oneName true (a .word) (a .formula)
 
+  -- the word in no role, nor the result register of an exchange or a fetch-add
+  abbrev pub apartT : Tree → Bool
+  apartT u = not (occurs (wordAnyRole (a .word)) [] u) && (not (isAmong (a .operation) Rules.returning) || not (occurs (register (a .register)) [] u))
+
   abbrev pub keepsT : Tree → Bool
   keepsT u = elim (isAmong (a .operation) Rules.loads) [
     | true ↦ not (occurs (register (a .register)) [] u)
-    | false ↦ elim (isAmong (a .operation) Rules.storesSwaps) [ true ↦ not (occurs (wordAnyRole (a .word)) [] u) | false ↦ false ]
+    | false ↦ elim (isAmong (a .operation) Rules.writes) [ true ↦ apartT u | false ↦ false ]
   ]
 
-  abbrev pub sideT : Holes → Said → List Said → Side → Bool
+  -- what the new write holds, read after the step
+  abbrev pub freshT : Tree
+  freshT = elim (eqb (a .operation) Opcode.fetchAdd) [
+    | true ↦ node (byte Code.sum) 0 (node (byte Code.reg) (a .register) Tree.none Tree.none) (a .formula)
+    | false ↦ a .formula
+  ]
+
+  abbrev pub sideT : Holes → TreeConclusion → List TreeConclusion → Side → Bool
   sideT c v vs (p is q with b) = sameTree (replaceT (replacing b) (instT c (patternToTree q))) (instT c (patternToTree p))
   sideT c v vs (start-of n p) = sameTree (instT c (patternToTree p)) (node (byte Code.const) (init (c .num (numHole n))) Tree.none Tree.none)
+  sideT c v vs (is-new p) = sameTree (instT c (patternToTree p)) freshT
   sideT c v vs (kept p) = keepsT (instT c (patternToTree p))
-  sideT c v vs (lacks-x p) = not (occurs (wordAnyRole (a .word)) [] (instT c (patternToTree p)))
+  sideT c v vs (lacks-x p) = apartT (instT c (patternToTree p))
   sideT c v vs (no-flag p) = not (occurs (flag (a .word)) [] (instT c (patternToTree p)))
   sideT c v vs (by-rows p q) = rowsT R (instT c (patternToTree p)) (instT c (patternToTree q))
   sideT c v vs by-table = tableT (map impOf vs) (impOf v)
@@ -144,7 +156,7 @@ module _ (R : ℕ) (init : ℕ → ℕ) (a : Acting) where
   abbrev pub operationT : ℕ → List ℕ → Bool
   operationT f ops = not (eqb f hoare) || isAmong (a .operation) ops
 
-  abbrev pub restT : Row → Said → List Said → Taken → Bool
+  abbrev pub restT : Row → TreeConclusion → List TreeConclusion → Taken → Bool
   restT W v vs b = operationT (formOf (W .says)) (W .operations) && all (sideT (holesFrom b) v vs) (W .sides)
 
   abbrev pub answer : Option Taken → (Taken → Bool) → Bool
@@ -152,8 +164,8 @@ module _ (R : ℕ) (init : ℕ → ℕ) (a : Acting) where
   answer (some b) f = f b
 
   -- for the instruction at the point k of thread i
-  abbrev pub fitsAt : ℕ → ℕ → Row → Said → List Said → Bool
+  abbrev pub fitsAt : ℕ → ℕ → Row → TreeConclusion → List TreeConclusion → Bool
   fitsAt i k W v vs = answer (andThen (matchLine i k (W .says) v (preset i a)) (matchPremises i k (W .premises) vs)) (restT W v vs)
 
-  abbrev pub fitsT : Rule → Said → List Said → Bool
+  abbrev pub fitsT : Rule → TreeConclusion → List TreeConclusion → Bool
   fitsT n v vs = fitsAt (v .thread) (v .point) (row n) v vs

@@ -18,11 +18,11 @@ use Rattle.matcher.specs.declared.whole.Whole.{Whole}
 use Rattle.matcher.proofs.Follow.{Sized, given, Follows, match-follows}
 use Rattle.certificate.specs.FitT.{hoare, formOf, leftOf, rightOf, placed, matchSides, matchAll}
 use Rattle.rulebook.specs.Listed.{packed}
-use Rattle.conclusions.specs.Conclusion.{saidAt, placedAt, matchConclusion, conclusionAt, conclusionsFrom, matchFrom}
+use Rattle.conclusions.specs.Conclusion.{concludedAt, placedAt, matchConclusion, conclusionAt, conclusionsFrom, matchFrom}
 use Rattle.conclusions.specs.declared.conclusion.Conclusion.{Conclusion}
 use Rattle.conclusions.specs.declared.conclusion.Premises.{Premises}
 
-placed-same : (s : List ℕ) (form t k : ℕ) (c : Conclusion) → placed form t k (saidAt s c) ≡ placedAt form t k c
+placed-same : (s : List ℕ) (form t k : ℕ) (c : Conclusion) → placed form t k (concludedAt s c) ≡ placedAt form t k c
 unfolding placedAt
 placed-same s form t k c = go (eqb (c .form) form) (eqb form hoare) (eqb (c .thread) t) (eqb (c .point) k)
   where
@@ -48,7 +48,7 @@ abbrev pub Stands : List ℕ → ℕ → Shape → Type 0
 Stands t i m = StandSides t i (leftOf m) (rightOf m)
 
 pub record SidesFollow (s t : List ℕ) (i thread point form : ℕ) (p q : Tree) (c : Conclusion) (b : Bind) (r : Whole) : Type 0 where
-  pub same : matchSides thread point form p q (saidAt s c) (takenOf s b) ≡ given s (r .ok) (r .bind)
+  pub same : matchSides thread point form p q (concludedAt s c) (takenOf s b) ≡ given s (r .ok) (r .bind)
   pub tpl : r .ok ≡ true → r .tpl ≡ behind t i
   pub sized : Sized (r .bind)
 
@@ -122,7 +122,7 @@ forms-left (Shape.implies a b) q = omega arith
 forms-left (Shape.triple a b) q = omega arith
 
 pub record FromFollows (s : List ℕ) (thread point : ℕ) (p : Premises) (l : List Shape) (j : ℕ) (b : Bind) (r : Whole) : Type 0 where
-  pub same : matchAll thread point l (map (saidAt s) (conclusionsFrom p (length l) j)) (takenOf s b) ≡ given s (r .ok) (r .bind)
+  pub same : matchAll thread point l (map (concludedAt s) (conclusionsFrom p (length l) j)) (takenOf s b) ≡ given s (r .ok) (r .bind)
   pub sized : Sized (r .bind)
 
 module _ (s t : List ℕ) (thread point : ℕ) (p : Premises) where

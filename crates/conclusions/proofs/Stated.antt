@@ -16,7 +16,7 @@ use Rattle.records.specs.declared.line.Form.{Form}
 use Rattle.records.specs.declared.line.Form.the-variants.{Triple, Implication, Inclusion, Unlisted}
 use Rattle.records.specs.Line.{formOf, placed}
 use Rattle.certificate.specs.FitT as FitT
-use Rattle.certificate.specs.FitT.{said}
+use Rattle.certificate.specs.FitT.{concluded}
 use Rattle.content.specs.Certificate.{lineBody, certificateOf}
 use Rattle.content.specs.Places.{lineIn}
 use Rattle.content.specs.Rule.{ruleOf}
@@ -27,7 +27,7 @@ use Rattle.content.proofs.Rule.{rule-form}
 use Rattle.content.proofs.Trees.{line-is}
 use Rattle.rulebook.specs.Rulebook.{ruleRow}
 use Rattle.rulebook.specs.Listed.{numberOf}
-use Rattle.conclusions.specs.Conclusion.{saidAt}
+use Rattle.conclusions.specs.Conclusion.{concludedAt}
 use Rattle.conclusions.specs.LineConclusion.{conclusionBy, lineAt, conclusionOf}
 use Rattle.conclusions.proofs.Row.{row-form}
 
@@ -71,8 +71,8 @@ module _ (s : List ℕ) (z : Sizes) (c : Checks z (bodies s)) (n : ℕ) (w : Wit
       go Inclusion e = refl
       go Unlisted e = absurd (true≢false (sym e))
 
-  pub conclusion-said : saidAt s (conclusionOf s z n) ≡ said (certificateOf z (bodies s) .line n .says)
+  pub conclusion-trees : concludedAt s (conclusionOf s z n) ≡ concluded (certificateOf z (bodies s) .line n .says)
   unfolding conclusionOf conclusionBy lineAt
-  conclusion-said =
+  conclusion-trees =
       ap (λ (f : ℕ). record { form = f; thread = lineAt s z n .thread; point = lineAt s z n .point; left = treeAt s (lineAt s z n .left); right = treeAt s (lineAt s z n .right) }) (conclusion-form (lineAt s z n .rule) line-listed)
       ∙ sym (line-is s z c n w)

@@ -9,13 +9,13 @@ use Rattle.formula.specs.Tree.{parseTree}
 use Rattle.matcher.specs.Places.{wholeAt, thenWhole}
 use Rattle.matcher.specs.declared.bind.Bind.{Bind}
 use Rattle.matcher.specs.declared.whole.Whole.{Whole}
-use Rattle.certificate.specs.FitT.{Said, hoare}
+use Rattle.certificate.specs.FitT.{TreeConclusion, hoare}
 use Rattle.conclusions.specs.declared.conclusion.Conclusion.{Conclusion}
 use Rattle.conclusions.specs.declared.conclusion.Premises.{Premises}
 
 -- what a conclusion says, as trees
-abbrev pub saidAt : List ℕ → Conclusion → Said
-saidAt s c = record { form = c .form; thread = c .thread; point = c .point; left = parseTree s nesting (c .left) .tree; right = parseTree s nesting (c .right) .tree }
+abbrev pub concludedAt : List ℕ → Conclusion → TreeConclusion
+concludedAt s c = record { form = c .form; thread = c .thread; point = c .point; left = parseTree s nesting (c .left) .tree; right = parseTree s nesting (c .right) .tree }
 
 -- of the form that is wanted; a Hoare triple is for the same thread and point
 unfoldable pub placedAt : ℕ → ℕ → ℕ → Conclusion → Bool

@@ -31,12 +31,12 @@ use Rattle.bodies.specs.Line.{sortAt, sortedBy}
 use Rattle.trees.specs.ToTree.{toTree}
 use Rattle.trees.specs.Place as Place
 use Rattle.certificate.specs.FitT as FitT
-use Rattle.certificate.specs.FitT.{Said, said, acting}
+use Rattle.certificate.specs.FitT.{TreeConclusion, concluded, acting}
 use Rattle.content.specs.Formula.{formula}
 use Rattle.content.specs.Program.{instr, pointCount, programOf, outlineNumber, outlineOf}
 use Rattle.content.specs.Certificate.{left, right, saying, lineBody, certificateOf}
 use Rattle.content.specs.Places.{formulaAt, lineIn, actingOf}
-use Rattle.content.specs.Trees.{treeAt, formNumber, saidAt, actingAt}
+use Rattle.content.specs.Trees.{treeAt, formNumber, concludedAt, actingAt}
 use Rattle.content.proofs.Inverse.{and-true, within-true, every-at}
 use Rattle.content.proofs.Instr.{instruction-there}
 use Rattle.content.proofs.Checked.{Checks}
@@ -79,11 +79,11 @@ module _ (s : List ℕ) (z : Sizes) (c : Checks z (bodies s)) where
         let y = within-true 0 0 (getD b 2 0) (h .1) in
         (omega (arith, x .1), omega (arith, y .1))
 
-    abbrev says : ℕ → ℕ → ℕ → Tree → Tree → Said
+    abbrev says : ℕ → ℕ → ℕ → Tree → Tree → TreeConclusion
     says f t k u v = record { form = f; thread = t; point = k; left = u; right = v }
 
     by-form : (f : Form) → placed z l f b ≡ true → sortedBy l f (left b) ≡ true → sortedBy l f (right b) ≡ true
-        → said (saying l f b) ≡ says (formNumber f) (getD b 1 0) (getD b 2 0) (treeAt s (formulaAt s (left b))) (treeAt s (formulaAt s (right b)))
+        → concluded (saying l f b) ≡ says (formNumber f) (getD b 1 0) (getD b 2 0) (treeAt s (formulaAt s (left b))) (treeAt s (formulaAt s (right b)))
     unfolding saying placed sortedBy sortAt
     by-form Triple e p q =
         let h = sides-are Codes.assertion (outlined-fine z l c (left b) p .0) (outlined-fine z l c (right b) q .0) in
@@ -98,7 +98,7 @@ module _ (s : List ℕ) (z : Sizes) (c : Checks z (bodies s)) where
         ap₂ (λ (u v : Tree). says FitT.inclusion 0 0 u v) (h .0) (h .1) ∙ ap₂ (λ (t k : ℕ). says FitT.inclusion t k (treeAt s (formulaAt s (left b))) (treeAt s (formulaAt s (right b)))) (sym (g .0)) (sym (g .1))
     by-form Unlisted e p q = absurd (true≢false (sym e))
 
-    pub line-is : said (certificateOf z l .line n .says) ≡ saidAt s (lineIn s b)
+    pub line-is : concluded (certificateOf z l .line n .says) ≡ concludedAt s (lineIn s b)
     unfolding lineIn
     line-is = by-form (formOf (getD b 0 0)) (numbers-passed z l c n (w .0) (w .1) .0) (sorted-passed z l c n (w .0) (w .1) .0) (sorted-passed z l c n (w .0) (w .1) .1)
 
@@ -123,11 +123,22 @@ module _ (s : List ℕ) (z : Sizes) (c : Checks z (bodies s)) where
       ap₂ (λ (x : ℕ) (u : Tree). acts 0 x a u) q (value-is (made 0 a b f) refl (h .2) d)
   instr-is last (suc zero) a b f e d = let h = fields-in _ _ e in ap (acts 1 b a) (no-formula f (omega (arith, h .2 .1)))
   instr-is last (suc (suc zero)) a b f e d = let h = fields-in _ _ e in ap (acts 2 b a) (no-formula f (omega (arith, h .2 .1)))
-  instr-is last (suc (suc (suc zero))) a b f e d = let h = fields-in _ _ e in ap (acts 3 a 0) (value-is (made 3 a b f) refl (h .2) d)
-  instr-is last (suc (suc (suc (suc zero)))) a b f e d = let h = fields-in _ _ e in ap (acts 4 a 0) (value-is (made 4 a b f) refl (h .2) d)
-  instr-is last (suc (suc (suc (suc (suc zero))))) a b f e d = let h = fields-in _ _ e in ap (acts 5 a 0) (value-is (made 5 a b f) refl (h .2) d)
+  instr-is last (suc (suc (suc zero))) a b f e d =
+      let h = fields-in _ _ e in
+      let q : 0 ≡ b = omega (arith, h .1 .1) in
+      ap₂ (acts 3 a) q (value-is (made 3 a b f) refl (h .2) d)
+  instr-is last (suc (suc (suc (suc zero)))) a b f e d =
+      let h = fields-in _ _ e in
+      let q : 0 ≡ b = omega (arith, h .1 .1) in
+      ap₂ (acts 4 a) q (value-is (made 4 a b f) refl (h .2) d)
+  instr-is last (suc (suc (suc (suc (suc zero))))) a b f e d =
+      let h = fields-in _ _ e in
+      let q : 0 ≡ b = omega (arith, h .1 .1) in
+      ap₂ (acts 5 a) q (value-is (made 5 a b f) refl (h .2) d)
   instr-is last (suc (suc (suc (suc (suc (suc zero)))))) a b f e d = ap (acts 6 0 0) (sym (none-tree s))
-  instr-is last (suc (suc (suc (suc (suc (suc (suc n))))))) a b f e d = absurd (none-above z l c last (suc (suc (suc (suc (suc (suc (suc n))))))) a b f (omega arith) e)
+  instr-is last (suc (suc (suc (suc (suc (suc (suc zero))))))) a b f e d = let h = fields-in _ _ e in ap (acts 7 a b) (value-is (made 7 a b f) refl (h .2) d)
+  instr-is last (suc (suc (suc (suc (suc (suc (suc (suc zero)))))))) a b f e d = let h = fields-in _ _ e in ap (acts 8 a b) (value-is (made 8 a b f) refl (h .2) d)
+  instr-is last (suc (suc (suc (suc (suc (suc (suc (suc (suc n))))))))) a b f e d = absurd (none-above z l c last (suc (suc (suc (suc (suc (suc (suc (suc (suc n))))))))) a b f (omega arith) e)
 
   -- an instruction of a thread: its fields are in their ranges, its formula is of the sort that it wants
   fields-there : (t k : ℕ) (w : Within (z .threads) t) → suc k < P .points t → (ranged (lastPoint (body z l c t (w .0) (w .1))) z (instructionOf z l t k) ≡ true) × (sorted l (instructionOf z l t k) ≡ true)

@@ -11,7 +11,7 @@ use Rattle.records.specs.declared.line.Form.{Form}
 use Rattle.records.specs.declared.line.Form.the-variants.{Triple, Implication, Inclusion, Unlisted}
 use Rattle.records.specs.Line.{formOf}
 use Rattle.certificate.specs.FitT as FitT
-use Rattle.certificate.specs.FitT.{Said, inclusion, implication, hoare}
+use Rattle.certificate.specs.FitT.{TreeConclusion, inclusion, implication, hoare}
 use Rattle.content.specs.declared.line.Line.{Line}
 use Rattle.content.specs.declared.acting.Acting.{Acting}
 
@@ -25,8 +25,8 @@ formNumber Implication = implication
 formNumber Inclusion = inclusion
 formNumber Unlisted = inclusion
 
-abbrev pub saidAt : List ℕ → Line → Said
-saidAt s v = record { form = formNumber (formOf (v .rule)); thread = v .thread; point = v .point; left = treeAt s (v .left); right = treeAt s (v .right) }
+abbrev pub concludedAt : List ℕ → Line → TreeConclusion
+concludedAt s v = record { form = formNumber (formOf (v .rule)); thread = v .thread; point = v .point; left = treeAt s (v .left); right = treeAt s (v .right) }
 
 -- an assignment's register and its formula
 abbrev pub notesAt : List ℕ → Acting → List NoteT

@@ -22,14 +22,14 @@ use Rattle.matcher.specs.declared.bind.Bind.{Bind}
 use Rattle.matcher.specs.declared.whole.Whole.{Whole}
 use Rattle.matcher.proofs.Follow.{Sized, given, when-given}
 use Rattle.certificate.specs.FitT as FitT
-use Rattle.certificate.specs.FitT.{Said, hoare, implication, formOf, matchLine, matchAll, isImplication, preset, operationT, restT, answer, fitsT}
+use Rattle.certificate.specs.FitT.{TreeConclusion, hoare, implication, formOf, matchLine, matchAll, isImplication, preset, operationT, restT, answer, fitsT}
 use Rattle.content.specs.Trees.{actingAt}
 use Rattle.content.specs.declared.line.Line.{Line}
 use Rattle.content.specs.declared.acting.Acting.{Acting}
 use Rattle.rulebook.specs.Rulebook.{anyImplications, ruleRow, templates}
 use Rattle.rulebook.specs.Listed.{numberOf, packed, premiseCount, allows}
 use Rattle.rulebook.specs.declared.rule.Rule as Code
-use Rattle.conclusions.specs.Conclusion.{saidAt, conclusionAt, conclusionsFrom, matchConclusion, matchFrom}
+use Rattle.conclusions.specs.Conclusion.{concludedAt, conclusionAt, conclusionsFrom, matchConclusion, matchFrom}
 use Rattle.conclusions.specs.LineConclusion.{conclusionBy}
 use Rattle.conclusions.specs.Premises.{isImplicationAt, allImplications, matchPremises}
 use Rattle.fitting.specs.Preset.{presetAt}
@@ -49,7 +49,7 @@ then-none none f h = refl
 then-none (some a) f h = h a
 
 -- not as many as the rule has
-other-count : (i k : ℕ) (l : List Shape) (vs : List Said) (b : Taken) → (length l ≡ length vs → ⊥) → matchAll i k l vs b ≡ none
+other-count : (i k : ℕ) (l : List Shape) (vs : List TreeConclusion) (b : Taken) → (length l ≡ length vs → ⊥) → matchAll i k l vs b ≡ none
 other-count i k [] [] b n = absurd (n refl)
 other-count i k [] (v ∷ vs) b n = refl
 other-count i k (m ∷ l) [] b n = refl
@@ -66,15 +66,15 @@ module _ (s : List ℕ) (p : Conclusions.Premises) where
   abbrev is : ℕ → Bool
   is j = eqb (conclusionAt p j .form) implication
 
-  conclusions-length : (n j : ℕ) → length (map (saidAt s) (conclusionsFrom p n j)) ≡ n
+  conclusions-length : (n j : ℕ) → length (map (concludedAt s) (conclusionsFrom p n j)) ≡ n
   conclusions-length zero j = refl
   conclusions-length (suc n) j = ap (λ (m : ℕ). suc m) (conclusions-length n (j + 1))
 
-  abbrev pub says : List Said
-  says = map (saidAt s) (conclusionsFrom p (p .count) 0)
+  abbrev pub says : List TreeConclusion
+  says = map (concludedAt s) (conclusionsFrom p (p .count) 0)
 
   -- at most four, implications all of them
-  implications-are : (n : ℕ) → p .count ≡ n → n ≤ Limits.premises → leb (length (map (saidAt s) (conclusionsFrom p n 0))) Limits.premises && all isImplication (map (saidAt s) (conclusionsFrom p n 0)) ≡ allImplications p
+  implications-are : (n : ℕ) → p .count ≡ n → n ≤ Limits.premises → leb (length (map (concludedAt s) (conclusionsFrom p n 0))) Limits.premises && all isImplication (map (concludedAt s) (conclusionsFrom p n 0)) ≡ allImplications p
   unfolding allImplications isImplicationAt conclusionAt
   implications-are zero e h = rw e
   implications-are (suc zero) e h = rw e (four (is 0) true true true)
@@ -101,7 +101,7 @@ module _ (s : List ℕ) (p : Conclusions.Premises) where
         go true d =
             let q : p .count ≡ length l = sym (eqb-true (w .premises) (p .count) d) ∙ e in
             subst₂
-            (λ (n g : ℕ). matchAll thread point l (map (saidAt s) (conclusionsFrom p n 0)) (takenOf s b) ≡ given s (matchFrom s templates thread point p n i g 0 b .ok) (matchFrom s templates thread point p n i g 0 b .bind))
+            (λ (n g : ℕ). matchAll thread point l (map (concludedAt s) (conclusionsFrom p n 0)) (takenOf s b) ≡ given s (matchFrom s templates thread point p n i g 0 b .ok) (matchFrom s templates thread point p n i g 0 b .bind))
             (sym q) (sym f) (from-follows s templates thread point p l i 0 b z st .same)
         go false d = other-count thread point l says (takenOf s b) (λ q. eqb-false (w .premises) (p .count) d (e ∙ q ∙ conclusions-length (p .count) 0))
 
@@ -140,7 +140,7 @@ module _ (s : List ℕ) (n : Rule) (l : Line) (named : l .rule ≡ numberOf n) (
       bits : isAmong (a .operation) (row n .operations) ≡ allows (w .operations) (a .operation)
       bits = sym (its (λ r. allows (r .operations) (a .operation)) ∙ row-operations n (a .operation) known)
 
-  rest-is : (b : Bind) → restT Limits.values (startOf s) A (row n) (saidAt s c) (says s p) (takenOf s b) ≡ restAt s w a c p b
+  rest-is : (b : Bind) → restT Limits.values (startOf s) A (row n) (concludedAt s c) (says s p) (takenOf s b) ≡ restAt s w a c p b
   unfolding restAt
   rest-is b = and-where _ _ _ _ operation-is (λ e. sides-are s b a c p few n e ∙ ap (λ (k : ℕ). asked s k b a c p) (sym (its (λ r. r .side) ∙ row-side n)))
 
@@ -158,9 +158,9 @@ module _ (s : List ℕ) (n : Rule) (l : Line) (named : l .rule ≡ numberOf n) (
       subst (λ (f : ℕ). ConclusionFollows s templates (w .template) (c .thread) (c .point) (row n .says) c b₀ (matchConclusion s templates (w .template) f (c .thread) (c .point) c b₀)) (sym form-is)
       (conclusion-follows s templates (w .template) (c .thread) (c .point) (row n .says) c b₀ (preset-sized (l .thread) (a .word) (a .register) (a .formula)) (stands .0))
 
-  line-same : matchLine (c .thread) (c .point) (row n .says) (saidAt s c) (preset (c .thread) A) ≡ given s (m .ok) (m .bind)
+  line-same : matchLine (c .thread) (c .point) (row n .says) (concludedAt s c) (preset (c .thread) A) ≡ given s (m .ok) (m .bind)
   unfolding conclusionBy
-  line-same = ap (matchLine (c .thread) (c .point) (row n .says) (saidAt s c)) (sym (preset-taken s (l .thread) (a .operation) (a .word) (a .register) (a .formula) (A .notes))) ∙ follows .same
+  line-same = ap (matchLine (c .thread) (c .point) (row n .says) (concludedAt s c)) (sym (preset-taken s (l .thread) (a .operation) (a .word) (a .register) (a .formula) (A .notes))) ∙ follows .same
 
   abbrev q : Whole
   q = matchPremises s templates (m .tpl) w (c .thread) (c .point) p (m .bind)
@@ -171,9 +171,9 @@ module _ (s : List ℕ) (n : Rule) (l : Line) (named : l .rule ≡ numberOf n) (
       (subst (λ (i : ℕ). StandAll templates i (shapes (row n .premises))) (sym (follows .tpl o)) (stands .1))
 
   abbrev asks : Taken → Bool
-  asks = restT Limits.values (startOf s) A (row n) (saidAt s c) (says s p)
+  asks = restT Limits.values (startOf s) A (row n) (concludedAt s c) (says s p)
 
-  pub fits-same : fitsT Limits.values (startOf s) A n (saidAt s c) (says s p) ≡ fitsRow s templates l a p
+  pub fits-same : fitsT Limits.values (startOf s) A n (concludedAt s c) (says s p) ≡ fitsRow s templates l a p
   unfolding fitsRow lineMatch
   fits-same = ap (λ (o : Option Taken). answer Limits.values (startOf s) A (andThen o (FitT.matchPremises (c .thread) (c .point) (row n .premises) (says s p))) asks) line-same ∙ go (m .ok) refl
     where

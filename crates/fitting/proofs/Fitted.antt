@@ -16,7 +16,7 @@ use Rattle.frames.specs.Records.{bodies}
 use Rattle.program.specs.declared.sizes.Sizes.{Sizes}
 use Rattle.records.specs.Line.{premises}
 use Rattle.certificate.specs.FitT as FitT
-use Rattle.certificate.specs.FitT.{Said, said, acting, fitsT}
+use Rattle.certificate.specs.FitT.{TreeConclusion, concluded, acting, fitsT}
 use Rattle.certificate.specs.Lines.{Certificate, lineFits}
 use Rattle.certificate.proofs.FitT.{bridge}
 use Rattle.content.specs.Certificate.{lineBody, certificateOf}
@@ -31,12 +31,12 @@ use Rattle.content.proofs.Checked.{Checks}
 use Rattle.content.proofs.Lines.{in-range, premises-few, premise-count}
 use Rattle.content.proofs.Trees.{line-acting}
 use Rattle.rulebook.specs.Rulebook.{templates}
-use Rattle.conclusions.specs.Conclusion.{saidAt, conclusionAt, conclusionsFrom}
+use Rattle.conclusions.specs.Conclusion.{concludedAt, conclusionAt, conclusionsFrom}
 use Rattle.conclusions.specs.LineConclusion.{conclusionBy, lineAt, conclusionOf}
 use Rattle.conclusions.specs.Premises.{premiseConclusion, premisesOf}
 use Rattle.fitting.specs.Fit.{actingIn, fitsLine}
 use Rattle.conclusions.specs.declared.conclusion.Premises as Conclusions
-use Rattle.conclusions.proofs.Stated.{rule-number, line-listed, conclusion-said}
+use Rattle.conclusions.proofs.Stated.{rule-number, line-listed, conclusion-trees}
 use Rattle.sides.proofs.SidesLink.{startOf}
 use Rattle.fitting.proofs.FitLink.{says, fits-same}
 
@@ -80,13 +80,13 @@ module _ (s : List ℕ) (z : Sizes) (c : Checks z (bodies s)) where
     conclusions-are (a ∷ b ∷ c ∷ d ∷ []) e h f = rw (f, e)
     conclusions-are (a ∷ b ∷ c ∷ d ∷ f ∷ qs) e h g = absurd (omega arith)
 
-    lower-said : (qs : List ℕ) → every (within 1 (n - 1)) qs ≡ true → map (saidAt s) (map (conclusionOf s z) qs) ≡ map said (map (λ m. C .line m .says) qs)
+    lower-concluded : (qs : List ℕ) → every (within 1 (n - 1)) qs ≡ true → map (concludedAt s) (map (conclusionOf s z) qs) ≡ map concluded (map (λ m. C .line m .says) qs)
     unfolding every
-    lower-said [] e = refl
-    lower-said (m ∷ qs) e =
+    lower-concluded [] e = refl
+    lower-concluded (m ∷ qs) e =
         let h = and-true (within 1 (n - 1) m) (every (within 1 (n - 1)) qs) e in
         let r = within-true 1 (n - 1) m (h .0) in
-        ap₂ _∷_ (conclusion-said s z c m (r .0, omega (arith, r .1, w .1))) (lower-said qs (h .1))
+        ap₂ _∷_ (conclusion-trees s z c m (r .0, omega (arith, r .1, w .1))) (lower-concluded qs (h .1))
 
     count-is : its .count ≡ length ps
     unfolding lineAt lineIn
@@ -96,15 +96,15 @@ module _ (s : List ℕ) (z : Sizes) (c : Checks z (bodies s)) where
     unfolding lineAt lineIn
     count-few = premises-few z l c n (w .0) (w .1)
 
-    premises-said : says s p ≡ map said (map (λ m. C .line m .says) ps)
-    premises-said = ap (map (saidAt s)) (conclusions-are ps refl (subst (λ (k : ℕ). k ≤ Limits.premises) count-is count-few) count-is) ∙ lower-said ps (in-range z l c n (w .0) (w .1) .2)
+    premises-concluded : says s p ≡ map concluded (map (λ m. C .line m .says) ps)
+    premises-concluded = ap (map (concludedAt s)) (conclusions-are ps refl (subst (λ (k : ℕ). k ≤ Limits.premises) count-is count-few) count-is) ∙ lower-concluded ps (in-range z l c n (w .0) (w .1) .2)
 
-    acting-said : acting (half P (its .thread) (its .point)) ≡ actingAt s (actingIn s z its)
+    acting-concluded : acting (half P (its .thread) (its .point)) ≡ actingAt s (actingIn s z its)
     unfolding actingIn lineAt lineIn
-    acting-said = line-acting s z c n w
+    acting-concluded = line-acting s z c n w
 
     acting-known : actingIn s z its .operation ≤ Opcode.branch
-    acting-known = subst (λ (k : ℕ). k ≤ Opcode.branch) (ap (λ (a : FitT.Acting). a .operation) acting-said) (opcode-known (half P (its .thread) (its .point)))
+    acting-known = subst (λ (k : ℕ). k ≤ Opcode.branch) (ap (λ (a : FitT.Acting). a .operation) acting-concluded) (opcode-known (half P (its .thread) (its .point)))
 
     premises-few-here : p .count ≤ Limits.premises
     unfolding premisesOf
@@ -113,11 +113,11 @@ module _ (s : List ℕ) (z : Sizes) (c : Checks z (bodies s)) where
     abbrev S : Statement
     S = C .line n .says
 
-    acting-there : actingAt s (actingIn s z its) ≡ acting (half P (said S .thread) (said S .point))
+    acting-there : actingAt s (actingIn s z its) ≡ acting (half P (concluded S .thread) (concluded S .point))
     unfolding conclusionOf conclusionBy
-    acting-there = sym acting-said ∙ ap₂ (λ (t k : ℕ). acting (half P t k)) (ap (λ (v : Said). v .thread) (conclusion-said s z c n w)) (ap (λ (v : Said). v .point) (conclusion-said s z c n w))
+    acting-there = sym acting-concluded ∙ ap₂ (λ (t k : ℕ). acting (half P t k)) (ap (λ (v : TreeConclusion). v .thread) (conclusion-trees s z c n w)) (ap (λ (v : TreeConclusion). v .point) (conclusion-trees s z c n w))
 
-    abbrev fitted : FitT.Acting → Said → List Said → Bool
+    abbrev fitted : FitT.Acting → TreeConclusion → List TreeConclusion → Bool
     fitted a v vs = fitsT Limits.values (startOf s) a (ruleOf (its .rule)) v vs
 
     -- what the code answers is what the rules say
@@ -125,6 +125,6 @@ module _ (s : List ℕ) (z : Sizes) (c : Checks z (bodies s)) where
     unfolding fitsLine conclusionOf lineAt lineIn
     fits-is =
         sym (fits-same s (ruleOf (its .rule)) its (sym (rule-number (its .rule) (line-listed s z c n w))) (actingIn s z its) acting-known p premises-few-here)
-        ∙ ap₂ (λ (v : Said) (vs : List Said). fitted (actingAt s (actingIn s z its)) v vs) (conclusion-said s z c n w) premises-said
-        ∙ ap (λ (a : FitT.Acting). fitted a (said S) (map said (map (λ m. C .line m .says) ps))) acting-there
+        ∙ ap₂ (λ (v : TreeConclusion) (vs : List TreeConclusion). fitted (actingAt s (actingIn s z its)) v vs) (conclusion-trees s z c n w) premises-concluded
+        ∙ ap (λ (a : FitT.Acting). fitted a (concluded S) (map concluded (map (λ m. C .line m .says) ps))) acting-there
         ∙ bridge P (omega arith) (ruleOf (its .rule)) S (map (λ m. C .line m .says) ps)

@@ -9,7 +9,7 @@ use Rattle.logic.specs.Base.{upd, all}
 use Rattle.logic.specs.Limits
 use Rattle.logic.specs.Opcode
 use Rattle.logic.specs.Formula.{Sort, Formula, Value, Test, Interval, Assertion, Formula.const, Formula.reg, Formula.word, Formula.sum, Formula.equal, Formula.less, Formula.and, Formula.or, Formula.unsync, Formula.cov, Formula.box, Formula.one, Formula.chop, Formula.both, Formula.either, Formula.sees, Formula.bothA, Formula.eitherA, Formula.start, Formula.holds, same}
-use Rattle.logic.specs.Names.{Name, only, notFlag}
+use Rattle.logic.specs.Names.{Name, only, notWord, notFlag}
 use Rattle.logic.specs.Replace.{Note, Sub, replace, notes, regBy, wordBy}
 use Rattle.logic.specs.Rows.{byRows}
 use Rattle.logic.specs.Table.{byTable}
@@ -221,14 +221,14 @@ formulaOf (branch e a) = const 0
 
 -- what it writes is apart from the name
 abbrev pub apartOf : Instr → Name → Bool
-apartOf (act none ns) n = true
-apartOf (act (load acquires r x) ns) n = true
+apartOf (act none ns) n = notWord 0 n
+apartOf (act (load acquires r x) ns) n = notWord x n
 apartOf (act (write m x f) ns) n = apart m x n
-apartOf (branch e a) n = true
+apartOf (branch e a) n = notWord 0 n
 
 -- what its new write holds, read after the step
 abbrev pub freshOf : Instr → Value
-freshOf (act none ns) = const 0
+freshOf (act none ns) = formulaOf (act none ns)
 freshOf (act (load acquires r x) ns) = const 0
 freshOf (act (write m x f) ns) = freshValue m f
 freshOf (branch e a) = const 0

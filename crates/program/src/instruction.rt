@@ -4,7 +4,7 @@ use limits::range::in_range;
 use limits::read::byte_at;
 use limits::read::word_at;
 ghost use mathlib.Core.Path.{_≡_};
-ghost use Rattle.program.specs.Instruction.{instruction, fieldsOf, fieldsFit, ranged};
+ghost use Rattle.program.specs.Instruction.{instruction, range, fieldsOf, fieldsFit, ranged};
 
 pub struct Instruction {
     pub operation: u8,
@@ -32,6 +32,12 @@ impl Instruction {
 
     // branch on the formula to point a
     pub const BRANCH: u8 = 6;
+
+    // swap of the formula into word a, the old value into register b
+    pub const EXCHANGE: u8 = 7;
+
+    // store of the old value of word a plus the formula, the old value into register b
+    pub const FETCH_ADD: u8 = 8;
 }
 
 pub struct Range {
@@ -58,6 +64,12 @@ pub fn read_instruction(b: &[u8]) -> Instruction
     }
 }
 
+fn from_one(high: usize) -> Range
+    ensures { λ r. ⌜ r ≡ range 1 high ⌝ }
+{
+    Range { low: 1, high }
+}
+
 fn three(a: Range, b: Range, formula: Range) -> Fields
     ensures { λ r. ⌜ r ≡ record { a = a; b = b; formula = formula } ⌝ }
 {
@@ -69,18 +81,9 @@ pub fn fields_of(operation: u8, last: usize, z: Sizes) -> Fields
     ensures { λ r. ⌜ r ≡ fieldsOf operation last z ⌝ }
 {
     let unused = Range { low: 0, high: 0 };
-    let register = Range {
-        low: 1,
-        high: z.registers as usize,
-    };
-    let word = Range {
-        low: 1,
-        high: z.words as usize,
-    };
-    let formula = Range {
-        low: 1,
-        high: z.formulas as usize,
-    };
+    let register = from_one(z.registers as usize);
+    let word = from_one(z.words as usize);
+    let formula = from_one(z.formulas as usize);
     if operation == Instruction::ASSIGN {
         return three(register, unused, formula);
     }
@@ -93,6 +96,9 @@ pub fn fields_of(operation: u8, last: usize, z: Sizes) -> Fields
     if operation == Instruction::BRANCH {
         let point = Range { low: 0, high: last };
         return three(point, unused, formula);
+    }
+    if operation <= Instruction::FETCH_ADD {
+        return three(word, register, formula);
     }
     let nowhere = Range { low: 1, high: 0 };
     three(nowhere, unused, formula)

@@ -1,3 +1,4 @@
 pub mod Sides
+pub mod Fresh
 pub mod SidesByNumber
 pub mod SidesLink

@@ -28,7 +28,7 @@ use Rattle.records.specs.Places.{instructionOf}
 use Rattle.compare.specs.Same.{sameTree}
 use Rattle.trees.specs.ToTree.{toTree}
 use Rattle.trees.proofs.ToTree.{toTree-same}
-use Rattle.certificate.specs.FitT.{said, implication, hoare}
+use Rattle.certificate.specs.FitT.{concluded, implication, hoare}
 use Rattle.outline.specs.Verdict.{asks}
 use Rattle.content.specs.Formula.{formula}
 use Rattle.content.specs.Program.{pointCount, programOf, outlineOf}
@@ -41,7 +41,7 @@ use Rattle.content.proofs.Checked.{Checks}
 use Rattle.content.proofs.Program.{points-few, well-formed}
 use Rattle.content.proofs.Trees.{outline-is, test-is}
 use Rattle.conclusions.specs.LineConclusion.{conclusionOf}
-use Rattle.conclusions.proofs.Stated.{conclusion-said}
+use Rattle.conclusions.proofs.Stated.{conclusion-trees}
 use Rattle.wanted.specs.Wanted.{nextPoint, assertedAt, wantedStart, wantedAction, wantedNext, wantedStep, wantedTarget, wantedKept, wantedAt}
 use Rattle.report.specs.Place.{obligation}
 use Rattle.wanted.specs.Concluding.{meets, concludesAt}
@@ -59,12 +59,12 @@ module _ (f g : Assertion) (u w : Tree) (p : toTree f ≡ u) (q : toTree g ≡ w
   sides-same : (a b : Assertion) → (sameTree u (toTree a) && sameTree w (toTree b)) ≡ (same f a && same g b)
   sides-same a b = rw (← p, ← q) (ap₂ _&&_ (toTree-same f a) (toTree-same g b))
 
-  implied-same : (x : Statement) → compared implication 0 0 u w (said x) ≡ sameStatement (implies f g) x
+  implied-same : (x : Statement) → compared implication 0 0 u w (concluded x) ≡ sameStatement (implies f g) x
   implied-same (inside i j) = refl
   implied-same (implies a b) = sides-same a b
   implied-same (triple t k a b) = refl
 
-  kept-same : (t k : ℕ) (x : Statement) → compared hoare t k u w (said x) ≡ sameStatement (triple t k f g) x
+  kept-same : (t k : ℕ) (x : Statement) → compared hoare t k u w (concluded x) ≡ sameStatement (triple t k f g) x
   kept-same t k (inside i j) = refl
   kept-same t k (implies a b) = refl
   kept-same t k (triple i j a b) = ap₂ _&&_ (ap₂ _&&_ (eqb-same i t) (eqb-same j k)) (sides-same a b)
@@ -107,7 +107,7 @@ module _ (s : List ℕ) (z : Sizes) (c : Checks z (bodies s)) where
     unfolding wantedStart pointCount
     start-asked t w =
         start-compared s (conclusionOf s z n) (assertedAt s z t 0)
-        ∙ ap (compared implication 0 0 starting (treeAt s (assertedAt s z t 0))) (conclusion-said s z c n wn)
+        ∙ ap (compared implication 0 0 starting (treeAt s (assertedAt s z t 0))) (conclusion-trees s z c n wn)
         ∙ implied-same start (O t 0) starting (treeAt s (assertedAt s z t 0)) refl (asserted-is t 0 w (omega arith)) (says n)
 
     module _ (t k : ℕ) (w : Within (z .threads) t) (h : suc k < P .points t) where
@@ -130,7 +130,7 @@ module _ (s : List ℕ) (z : Sizes) (c : Checks z (bodies s)) where
       unfolding wantedAction
       action-asked =
           step-compared s (conclusionOf s z n) (assertedAt s z t k) (assertedAt s z t (nextPoint k)) t k
-          ∙ ap (compared hoare t k here following) (conclusion-said s z c n wn)
+          ∙ ap (compared hoare t k here following) (conclusion-trees s z c n wn)
           ∙ kept-same (O t k) (O t (suc k)) here following here-is (behind-is t k w h) t k (says n)
 
       module _ (e : its t k .operation ≡ Opcode.branch) where
@@ -138,7 +138,7 @@ module _ (s : List ℕ) (z : Sizes) (c : Checks z (bodies s)) where
         unfolding wantedNext
         next-asked =
             next-compared s (conclusionOf s z n) (assertedAt s z t k) (formulaAt s (its t k .formula)) (assertedAt s z t (nextPoint k))
-            ∙ ap (compared implication 0 0 (both here (holding (negated tested))) following) (conclusion-said s z c n wn)
+            ∙ ap (compared implication 0 0 (both here (holding (negated tested))) following) (conclusion-trees s z c n wn)
             ∙ implied-same (bothA (O t k) (holds (Formula.not test))) (O t (suc k)) (both here (holding (negated tested))) following
             (ap₂ (λ (x y : Tree). both x (holding (negated y))) here-is (test-is s z c t k w h e)) (behind-is t k w h) (says n)
 
@@ -154,7 +154,7 @@ module _ (s : List ℕ) (z : Sizes) (c : Checks z (bodies s)) where
         unfolding wantedTarget
         target-asked =
             target-compared s (conclusionOf s z n) (assertedAt s z t k) (formulaAt s (its t k .formula)) (assertedAt s z t (its t k .a))
-            ∙ ap (compared implication 0 0 (both here (holding tested)) aim) (conclusion-said s z c n wn)
+            ∙ ap (compared implication 0 0 (both here (holding tested)) aim) (conclusion-trees s z c n wn)
             ∙ implied-same (bothA (O t k) (holds test)) (O t (its t k .a)) (both here (holding tested)) aim
             (ap₂ (λ (x y : Tree). both x (holding y)) here-is (test-is s z c t k w h e)) (asserted-is t (its t k .a) w target-there) (says n)
 
@@ -183,7 +183,7 @@ module _ (s : List ℕ) (z : Sizes) (c : Checks z (bodies s)) where
         let p = asserted-is u j w h in
         let q = asserted-is t k y (omega arith) in
         kept-compared s (conclusionOf s z n) (assertedAt s z u j) (assertedAt s z t k) t k
-        ∙ ap (compared hoare t k (both (treeAt s (assertedAt s z u j)) (treeAt s (assertedAt s z t k))) (treeAt s (assertedAt s z u j))) (conclusion-said s z c n wn)
+        ∙ ap (compared hoare t k (both (treeAt s (assertedAt s z u j)) (treeAt s (assertedAt s z t k))) (treeAt s (assertedAt s z u j))) (conclusion-trees s z c n wn)
         ∙ kept-same (bothA (O u j) (O t k)) (O u j) (both (treeAt s (assertedAt s z u j)) (treeAt s (assertedAt s z t k))) (treeAt s (assertedAt s z u j)) (ap₂ both p q) p t k (says n)
 
     -- a line that is there concludes what is wanted exactly if it says what is asked for

@@ -10,9 +10,9 @@ use Rattle.formula.specs.Tree.{Tree, none, node, nodeAt, parseTree}
 use Rattle.compare.specs.Same.{sameTree}
 use Rattle.matcher.specs.Template.{hole}
 use Rattle.matcher.specs.Places.{proper}
-use Rattle.certificate.specs.FitT.{Said, implication, hoare, placed}
+use Rattle.certificate.specs.FitT.{TreeConclusion, implication, hoare, placed}
 use Rattle.content.specs.Trees.{treeAt}
-use Rattle.conclusions.specs.Conclusion.{saidAt, matchConclusion}
+use Rattle.conclusions.specs.Conclusion.{concludedAt, matchConclusion}
 use Rattle.conclusions.specs.declared.conclusion.Conclusion.{Conclusion}
 use Rattle.conclusions.proofs.Follow.{StandSides}
 use Rattle.wanted.specs.Wanted.{wantedBytes, startAt, stepAt, nextAt, targetAt, keptAt, oneHole, twoHoles, threeHoles}
@@ -56,37 +56,37 @@ kept-stands = record { left = refl; right = refl; holes-left = tt; holes-right =
 
 -- what comes of the match
 
-abbrev pub compared : ℕ → ℕ → ℕ → Tree → Tree → Said → Bool
+abbrev pub compared : ℕ → ℕ → ℕ → Tree → Tree → TreeConclusion → Bool
 compared form t k u w v = placed form t k v && (sameTree u (v .left) && sameTree w (v .right))
 
 module _ (s : List ℕ) (c : Conclusion) (a : ℕ) where
-  pub start-compared : matchConclusion s wantedBytes startAt implication 0 0 c (oneHole a) .ok ≡ compared implication 0 0 starting (treeAt s a) (saidAt s c)
+  pub start-compared : matchConclusion s wantedBytes startAt implication 0 0 c (oneHole a) .ok ≡ compared implication 0 0 starting (treeAt s a) (concludedAt s c)
   unfolding oneHole hasOperand
   start-compared =
       filled-is s wantedBytes startAt 0 0 implication starting (hole 0) (oneHole a) c (record { at = refl; left = refl; num = refl }) start-stands
       (λ d h. (refl, h .tree 0 (treeAt s a) refl))
 
   module _ (e : ℕ) where
-    pub step-compared : (t k : ℕ) → matchConclusion s wantedBytes stepAt hoare t k c (twoHoles a e) .ok ≡ compared hoare t k (treeAt s a) (treeAt s e) (saidAt s c)
+    pub step-compared : (t k : ℕ) → matchConclusion s wantedBytes stepAt hoare t k c (twoHoles a e) .ok ≡ compared hoare t k (treeAt s a) (treeAt s e) (concludedAt s c)
     unfolding twoHoles hasOperand
     step-compared t k =
         filled-is s wantedBytes stepAt t k hoare (hole 0) (hole 1) (twoHoles a e) c (record { at = refl; left = refl; num = refl }) step-stands
         (λ d h. (h .tree 0 (treeAt s a) refl, h .tree 1 (treeAt s e) refl))
 
-    pub kept-compared : (t k : ℕ) → matchConclusion s wantedBytes keptAt hoare t k c (twoHoles a e) .ok ≡ compared hoare t k (both (treeAt s a) (treeAt s e)) (treeAt s a) (saidAt s c)
+    pub kept-compared : (t k : ℕ) → matchConclusion s wantedBytes keptAt hoare t k c (twoHoles a e) .ok ≡ compared hoare t k (both (treeAt s a) (treeAt s e)) (treeAt s a) (concludedAt s c)
     unfolding twoHoles hasOperand
     kept-compared t k =
         filled-is s wantedBytes keptAt t k hoare (both (hole 0) (hole 1)) (hole 0) (twoHoles a e) c (record { at = refl; left = refl; num = refl }) kept-stands
         (λ d h. (ap₂ both (h .tree 0 (treeAt s a) refl) (h .tree 1 (treeAt s e) refl), h .tree 0 (treeAt s a) refl))
 
     module _ (b : ℕ) where
-      pub next-compared : matchConclusion s wantedBytes nextAt implication 0 0 c (threeHoles a e b) .ok ≡ compared implication 0 0 (both (treeAt s a) (holding (negated (treeAt s e)))) (treeAt s b) (saidAt s c)
+      pub next-compared : matchConclusion s wantedBytes nextAt implication 0 0 c (threeHoles a e b) .ok ≡ compared implication 0 0 (both (treeAt s a) (holding (negated (treeAt s e)))) (treeAt s b) (concludedAt s c)
       unfolding threeHoles hasOperand
       next-compared =
           filled-is s wantedBytes nextAt 0 0 implication (both (hole 0) (holding (negated (hole 1)))) (hole 2) (threeHoles a e b) c (record { at = refl; left = refl; num = refl }) next-stands
           (λ d h. (ap₂ (λ (x y : Tree). both x (holding (negated y))) (h .tree 0 (treeAt s a) refl) (h .tree 1 (treeAt s e) refl), h .tree 2 (treeAt s b) refl))
 
-      pub target-compared : matchConclusion s wantedBytes targetAt implication 0 0 c (threeHoles a e b) .ok ≡ compared implication 0 0 (both (treeAt s a) (holding (treeAt s e))) (treeAt s b) (saidAt s c)
+      pub target-compared : matchConclusion s wantedBytes targetAt implication 0 0 c (threeHoles a e b) .ok ≡ compared implication 0 0 (both (treeAt s a) (holding (treeAt s e))) (treeAt s b) (concludedAt s c)
       unfolding threeHoles hasOperand
       target-compared =
           filled-is s wantedBytes targetAt 0 0 implication (both (hole 0) (holding (hole 1))) (hole 2) (threeHoles a e b) c (record { at = refl; left = refl; num = refl }) target-stands

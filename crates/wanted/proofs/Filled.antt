@@ -17,9 +17,9 @@ use Rattle.matcher.specs.declared.bind.Bind.{Bind}
 use Rattle.matcher.specs.declared.whole.Whole.{Whole}
 use Rattle.matcher.proofs.Match.{Has}
 use Rattle.matcher.proofs.Follow.{Sized, given}
-use Rattle.certificate.specs.FitT.{Said, placed, holesFrom}
+use Rattle.certificate.specs.FitT.{TreeConclusion, placed, holesFrom}
 use Rattle.certificate.proofs.FitT.{FitSides, sides-sound, sides-goes, has-from}
-use Rattle.conclusions.specs.Conclusion.{saidAt, matchConclusion}
+use Rattle.conclusions.specs.Conclusion.{concludedAt, matchConclusion}
 use Rattle.conclusions.specs.declared.conclusion.Conclusion.{Conclusion}
 use Rattle.conclusions.proofs.Follow.{StandSides, sides-follow}
 
@@ -28,8 +28,8 @@ given-some s true b z e = tt
 given-some s false b z e = let q : _≡_ {A = ℕ} 0 1 = cc in absurd (omega arith)
 
 module _ (s t : List ℕ) (i thread point form : ℕ) (p q : Tree) (b : Bind) (c : Conclusion) where
-  abbrev v : Said
-  v = saidAt s c
+  abbrev v : TreeConclusion
+  v = concludedAt s c
 
   abbrev result : Whole
   result = matchConclusion s t i form thread point c b
