@@ -25,6 +25,7 @@ use Rattle.report.specs.declared.verdict.Verdict.{Verdict}
 use Rattle.report.proofs.Ways.{short-code, short-bytes}
 use Rattle.checker.specs.Answer.{judged, answered, verdict}
 use Rattle.checker.specs.Promise.{TrueInEveryRun, Judged, Promise}
+use Rattle.checker.proofs.Uncut.{verdict-uncut}
 
 fault-code : (f : Fault) → codeOf f ≢ 0
 unfolding codeOf
@@ -104,6 +105,7 @@ module _ (s : List ℕ) where
         written = g ∙ ap (λ (w : Verdict). bytesFor w b) e;
         judged = λ D d. subst (Judged D (verdict s) b) (sym q) (judged-right b D d);
         accepted = λ h. accepted-true b (sym q ∙ h);
+        uncut = verdict-uncut s;
       }
 
   -- a buffer that is too short: the answer is 1 whatever the image holds

@@ -1,2 +1,6 @@
 pub mod Verdicts
 pub mod Accepted
+pub mod Sums
+pub mod Refusals
+pub mod Obligations
+pub mod Uncut

@@ -8,10 +8,12 @@ use Rattle.outline.specs.Verdict.{Image, Outcome}
 use Rattle.outline.specs.Judged as Outline
 use Rattle.outline.specs.Judged.{EachMet}
 use Rattle.content.specs.Image.{read, decode}
+use Rattle.report.specs.Fields.{fieldsOf}
 use Rattle.report.specs.Output.{codeFor, bytesFor}
 use Rattle.report.specs.Record.{size}
 use Rattle.report.specs.declared.verdict.Verdict.{Verdict}
 use Rattle.checker.specs.Answer.{judged, verdict}
+use Rattle.checker.specs.Uncut.{Uncut}
 
 -- the image says what `content` has, and after every finite list of steps of that program, refused ones among them, each thread's assertion at its point is true
 pub record TrueInEveryRun (image : List ℕ) : Type 0 where
@@ -40,3 +42,5 @@ pub record Promise (image buffer : List ℕ) (code : ℕ) (after : List ℕ) : T
   pub judged : (content : Image) → decode image ≡ read content → Judged content (verdict image) buffer code
   -- accepted
   pub accepted : code ≡ 0 → TrueInEveryRun image
+  -- the record and the line of text have each number of the verdict whole
+  pub uncut : Uncut (fieldsOf (verdict image))

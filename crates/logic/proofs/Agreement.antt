@@ -3,7 +3,7 @@ use mathlib.Core.Path.{_≡_, refl, ap, ap₂, sym, _∙_, subst}
 use mathlib.Core.Bool.{Bool, true, false, not, _&&_, _||_}
 use mathlib.Core.List.{List, [], _∷_, map}
 use mathlib.Core.Logic.{inl, inr}
-use Prim.Native.Nat.{ℕ, zero, suc, _+_, _%_}
+use Prim.Native.Nat.{ℕ, zero, suc}
 use lib.Dec.{T, eqb, ltb}
 use lib.ListN.{take, drop}
 use Rattle.logic.proofs.Base.{and-left, and-right, all-All, All-left, All-right, all-left, all-right}
@@ -34,7 +34,7 @@ module _ (R : ℕ) (ρ σ : Env) where
   value-same (const n) h = refl
   value-same (reg r) h = h .0
   value-same (word y) h = h .0
-  value-same (sum a b) h = ap₂ (λ m n. (m + n) % R) (value-same a (search All-left)) (value-same b (search All-right))
+  value-same (sum a b) h = rw (value-same a (search All-left), value-same b (search All-right))
 
   pub test-same : (e : Test) → All (Same ρ σ) (names e) → test R ρ e ≡ test R σ e
   test-same Formula.false h = refl

@@ -2,7 +2,7 @@
 use mathlib.Core.Path.{_≡_, refl, ap, sym, _∙_}
 use mathlib.Core.Bool.{Bool, true, not}
 use mathlib.Core.List.{List, [], _∷_}
-use Prim.Native.Nat.{ℕ, _+_, _<_}
+use Prim.Native.Nat.{ℕ, _<_}
 use native.Mathlib.Omega.{arith}
 use native.Mathlib.Nat.{mod-lt}
 use lib.Dec.{T, eqb, ltb→lt}
@@ -101,7 +101,7 @@ module _ (P : Program) (s : State) (t : ℕ) (ns : List Note) where
   worked-small wf (const n) k = ltb→lt n (P .range) k
   worked-small wf (reg r) k = wf .reg-small r
   worked-small wf (word x) k = wf .small x (s .view t x) (wf .view-in t x)
-  worked-small wf (sum a b) k = mod-lt (value (P .range) (at P s (s .view t)) a + value (P .range) (at P s (s .view t)) b) (omega (arith, wf .reg-small 0))
+  worked-small wf (sum a b) k = mod-lt _ (omega (arith, wf .reg-small 0))
 
   pub given-small : Wf P s → All (λ (n : Note). T (bounded (P .range) (n .by))) ns → (r : ℕ) → given r < P .range
   given-small wf h = noted-all (λ f. workedAt P s t f < P .range) (wf .reg-small) ns (All-map _ _ (λ (n : Note) k. worked-small wf (n .by) k) ns h)

@@ -2,7 +2,7 @@
 use mathlib.Core.Path.{_≡_, refl, ap, ap₂, subst}
 use mathlib.Core.Bool.{not, _&&_, _||_}
 use mathlib.Core.List.{List}
-use Prim.Native.Nat.{ℕ, _+_, _%_}
+use Prim.Native.Nat.{ℕ}
 use lib.Dec.{T, eqb, ltb}
 use lib.ListN.{take, drop}
 use Rattle.logic.proofs.Cuts.{All-map}
@@ -35,7 +35,7 @@ module _ (P : Program) (σ : Sub) where
   replaced (const n) = λ ρ. refl
   replaced (reg r) = λ ρ. refl
   replaced (word x) = λ ρ. refl
-  replaced (sum a b) = λ ρ. ap₂ (λ m n. (m + n) % R) (replaced a ρ) (replaced b ρ)
+  replaced (sum a b) = λ ρ. rw (replaced a ρ, replaced b ρ)
   replaced Formula.false = λ ρ. refl
   replaced (equal a b) = λ ρ. ap₂ eqb (replaced a ρ) (replaced b ρ)
   replaced (less a b) = λ ρ. ap₂ ltb (replaced a ρ) (replaced b ρ)

@@ -87,6 +87,12 @@ module _ (P : Program) (Q : Obligation → Type 0) (h : All Q (obligations P)) w
       (flat-in Q (λ u. flat (λ j. flat (λ t. actions P u j t) (upTo (P .threads))) (below (P .points u))) (upTo (P .threads))
       (All-right Q (steps P) (interferences P) (All-right Q (starts P) (steps P ++ interferences P) h))) u w)) j b)) t v))) k (omega arith)
 
+-- class 4 has every action, of each kind
+every-action : (P : Program) (u j t k : ℕ) (A : Access) (ns : List Note) → acting P u j t k (act A ns) ≡ Obligations.interference u j t k ∷ []
+every-action P u j t k none ns = refl
+every-action P u j t k (load a r x) ns = refl
+every-action P u j t k (write m x f) ns = refl
+
 -- what a run keeps
 record Inv (P : Program) (O : Outline) (s : State) : Type 0 where
   wf : Wf P s
@@ -156,7 +162,9 @@ module _ (P : Program) (O : Outline) (W : WellFormed P O) (D : Proved P O) where
           next = rw e at (rw e at (each-step P Wanted D t (s .point t) t-in more)) .0
 
           kept : (u : ℕ) → Within (P .threads) u → u ≢ t → Derived P (triple t (s .point t) (bothA (O u (s .point u)) (O t (s .point t))) (O u (s .point u)))
-          kept u b n = (rw e at (each-other P Wanted D u (s .point u) t (s .point t) b (inv .point u b) t-in more n)) .0
+          kept u b n =
+              let all = rw e at (each-other P Wanted D u (s .point u) t (s .point t) b (inv .point u b) t-in more n) in
+              subst (All Wanted) (every-action P u (s .point u) t (s .point t) A ns) all .0
 
     -- a branch that goes to the point k
     goes : (k : ℕ) → k < P .points t → True P s (O t k) → Inv P O (withPoint s t k)

@@ -2,8 +2,8 @@ use mathlib.Core.Path.{_≡_}
 use Prim.Native.Nat.{_≤_, _-_}
 use lib.ListN.{length}
 use borrow.Author.Needs.{needs}
-use Rattle.io.proofs.Counting.{counts}
 use Rattle.input.specs.Filled.{Fits}
+use Rattle.input.proofs.Reaching.{filling}
 use Rattle.input.proofs.fill.Statement.{statement}
 use Rattle.input.proofs.fill.Tie as tie
 
@@ -20,21 +20,13 @@ fill-spec =
     (tie.spec
     Inv-loop
     μ-loop
-    (λ c. search needs)
-    (λ c. search needs)
-    (λ c. search needs)
-    (λ c. search needs)
-    (λ c κs. search needs)
-    (λ c. search needs)
-    (λ c. search needs)
-    (λ c. search needs)
-    (λ c. search needs)
-    (λ c. search needs)
-    (λ c κs. search needs)
-    (λ c. search needs)
-    (λ c. (search needs, counts _ _ (search needs)))
-    (λ c. search needs)
-    (λ c. search needs)
-    (λ c. search needs)
-    (λ c. search needs)
+    (λ c. search (filling, needs))
+    (λ c κs. search (filling, needs))
+    (λ c. search (filling, needs))
+    (λ c. search (filling, needs))
+    (λ c. search (filling, needs))
+    (λ c. search (filling, needs))
+    (λ c. search (filling, needs))
+    (λ c. search (filling, needs))
+    (λ c. search (filling, needs))
     (λ c. search needs))

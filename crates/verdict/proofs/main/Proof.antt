@@ -1,4 +1,5 @@
-use Rattle.input.proofs.Ends.{ended}
+use Rattle.io.proofs.Counting.{front}
+use Rattle.verdict.proofs.Lines.{text-within}
 use borrow.Author.Needs.{needs}
 use Rattle.verdict.proofs.main.Statement.{statement}
 use Rattle.verdict.proofs.main.Tie as tie
@@ -11,15 +12,12 @@ main-spec =
     (λ c. search needs)
     (λ c κs. search needs)
     (λ c. search needs)
-    (λ c. search needs)
     (λ c κs. search needs)
     (λ c. search needs)
-    (λ c. search (ended, needs))
-    (λ c. search (ended, needs))
-    (λ c κs. search needs)
-    (λ c. search needs)
-    (λ c. search needs)
+    (λ c. text-within (c .before .before .before .answer .result) (search needs) (search needs))
+    (λ c. front _ _ (text-within (c .before .before .before .before .answer .result) (search needs) (search needs)))
     (λ c κs. search needs)
     (λ c. search needs)
     (λ c. search needs)
+    (λ c κs. search needs)
     (λ c. search needs))

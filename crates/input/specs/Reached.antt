@@ -1,0 +1,19 @@
+-- What one read came to.
+use mathlib.Core.Path.{_≡_}
+use mathlib.Core.Bool.{Bool, cond}
+use Prim.Native.Nat.{ℕ, _+_, _≤_, _<_}
+use lib.Dec.{eqb}
+use Rattle.input.specs.declared.Filled.the-variants.{Full, Ended, Failed}
+use Rattle.input.specs.declared.Reached.{Reached}
+use Rattle.input.specs.declared.Reached.the-variants.{More, Over}
+
+-- by how many bytes the read brought, behind those that were there before it; none at the input's end
+unfoldable pub reachedBy : Bool → ℕ → ℕ → Reached
+reachedBy failed more done = cond failed (Over Failed) (cond (eqb more 0) (Over (Ended done)) (More (done + more)))
+
+-- from so many bytes in a buffer of that length: more than before, and within it; or all of them stay as they are
+unfoldable pub Goes : Reached → ℕ → ℕ → Type 0
+Goes (More end) done room = (done < end) × (end ≤ room)
+Goes (Over Full) done room = ⊥
+Goes (Over (Ended n)) done room = n ≡ done
+Goes (Over Failed) done room = Unit {0}

@@ -1,0 +1,38 @@
+-- The ways to the line that is written, one law for each.
+use mathlib.Core.Path.{_≡_}
+use mathlib.Core.List.{List, []}
+use Prim.Native.Nat.{ℕ, _≤_}
+use native.Mathlib.Omega.{arith}
+use lib.ListN.{length, take, drop}
+use Rattle.input.specs.declared.Filled.{Filled}
+use Rattle.input.specs.declared.Filled.the-variants.{Full, Ended, Failed}
+use Rattle.report.specs.Fields.{fieldsOf}
+use Rattle.report.specs.Text.{room, textOf}
+use Rattle.report.specs.declared.text.Text.{Text}
+use Rattle.report.specs.declared.verdict.Fields.{Fields}
+use Rattle.report.specs.declared.verdict.Verdict.{Verdict}
+use Rattle.checker.specs.Answer.{verdict}
+use Rattle.verdict.specs.Line.{lineOf, lineFor}
+
+pub line-judged : (s x : List ℕ) (v : Verdict) (f : Fields) → v ≡ verdict s → f ≡ fieldsOf v → x ≡ textOf f → x ≡ lineOf s
+unfolding lineOf
+line-judged s x v f e d q = rw (q, d, e)
+
+module _ (how : Filled) (s x : List ℕ) where
+  pub line-full : how ≡ Full → x ≡ lineOf s → x ≡ lineFor how s
+  unfolding lineFor
+  line-full e q = rw e q
+
+  pub line-ended : (n : ℕ) (p : List ℕ) → how ≡ Ended n → p ≡ take n (drop 0 s) → x ≡ lineOf p → x ≡ lineFor how s
+  unfolding lineFor
+  line-ended n p e d q = rw (e, ← d) q
+
+pub line-failed : (how : Filled) (s : List ℕ) → how ≡ Failed → [] ≡ lineFor how s
+unfolding lineFor
+line-failed how s e = rw e
+
+pub ruleset lines = (line-judged, line-full, line-ended, line-failed)
+
+-- a text is a part of its bytes
+pub text-within : (t : Text) → t .len ≤ room → length (t .bytes) ≡ room → t .len ≤ length (t .bytes)
+text-within t h e = omega arith

@@ -1,0 +1,28 @@
+-- The line that is written for what was read.
+use mathlib.Core.Path.{_≡_}
+use mathlib.Core.List.{List, []}
+use Prim.Native.Nat.{ℕ}
+use lib.ListN.{take}
+use Rattle.input.specs.Filled.{Fits}
+use Rattle.input.specs.declared.Filled.{Filled}
+use Rattle.input.specs.declared.Filled.the-variants.{Full, Ended, Failed}
+use Rattle.report.specs.Fields.{fieldsOf}
+use Rattle.report.specs.Text.{textOf}
+use Rattle.checker.specs.Answer.{verdict}
+
+-- the nine fields of the verdict on an image
+unfoldable pub lineOf : List ℕ → List ℕ
+lineOf image = textOf (fieldsOf (verdict image))
+
+-- of exactly what came: all of the buffer, or what stands before the input's end
+-- where a read failed nothing is judged, and there is no line
+unfoldable pub lineFor : Filled → List ℕ → List ℕ
+lineFor Full buffer = lineOf buffer
+lineFor (Ended n) buffer = lineOf (take n buffer)
+lineFor Failed buffer = []
+
+-- the line is the one for what filled the buffer
+pub record Answers (buffer line : List ℕ) : Type 0 where
+  pub filled : Filled
+  pub fits : Fits filled buffer
+  pub is : line ≡ lineFor filled buffer

@@ -1,0 +1,43 @@
+// The line for what was read.
+use checker::judge::judge;
+use input::Filled;
+use input::fill;
+use limits::read::part;
+use report::text::Line;
+use report::text::Text;
+use report::text::text_of;
+use report::verdict::fields_of;
+ghost use mathlib.Core.Path.{_≡_};
+ghost use Prim.Native.Nat.{_≤_};
+ghost use lib.ListN.{take};
+ghost use Rattle.report.specs.Text.{room};
+ghost use Rattle.verdict.specs.Line.{lineOf, lineFor, Answers};
+
+// The nine fields of the verdict on an image.
+fn line_of(image: &[u8]) -> Text
+    ensures { λ r. ⌜ (take (r .len) (r .bytes) ≡ lineOf (now (image .entry))) × (r .len ≤ room) ⌝ }
+{
+    text_of(fields_of(judge(image)))
+}
+
+// Of exactly the bytes that came. Where a read failed nothing is judged, and there is no line.
+fn line_for(filled: Filled, buf: &[u8]) -> Text
+    ensures { λ r. ⌜ (take (r .len) (r .bytes) ≡ lineFor filled (now (buf .entry))) × (r .len ≤ room) ⌝ }
+{
+    match filled {
+        Filled::Full => line_of(buf),
+        Filled::Ended(n) => line_of(part(buf, 0, n)),
+        Filled::Failed => Text {
+            bytes: [0; Line::ROOM],
+            len: 0,
+        },
+    }
+}
+
+// The line for an input, which is read into the buffer.
+pub fn answer(fd: i32, buf: &mut [u8]) -> Text
+    ensures { λ r. ⌜ Answers (now (buf .exit)) (take (r .len) (r .bytes)) × (r .len ≤ room) ⌝ }
+{
+    let filled = fill(fd, buf);
+    line_for(filled, buf)
+}
