@@ -4,7 +4,7 @@ use limits::range::in_range;
 use limits::read::byte_at;
 use limits::read::word_at;
 ghost use mathlib.Core.Path.{_≡_};
-ghost use Rattle.program.specs.Instruction.{instruction, range, fieldsOf, fieldsFit, ranged};
+ghost use Rattle.program.specs.Instruction.{instruction, fieldsOf, fieldsFit, ranged};
 
 pub struct Instruction {
     pub operation: u8,
@@ -64,12 +64,6 @@ pub fn read_instruction(b: &[u8]) -> Instruction
     }
 }
 
-fn from_one(high: usize) -> Range
-    ensures { λ r. ⌜ r ≡ range 1 high ⌝ }
-{
-    Range { low: 1, high }
-}
-
 fn three(a: Range, b: Range, formula: Range) -> Fields
     ensures { λ r. ⌜ r ≡ record { a = a; b = b; formula = formula } ⌝ }
 {
@@ -81,9 +75,18 @@ pub fn fields_of(operation: u8, last: usize, z: Sizes) -> Fields
     ensures { λ r. ⌜ r ≡ fieldsOf operation last z ⌝ }
 {
     let unused = Range { low: 0, high: 0 };
-    let register = from_one(z.registers as usize);
-    let word = from_one(z.words as usize);
-    let formula = from_one(z.formulas as usize);
+    let register = Range {
+        low: 1,
+        high: z.registers as usize,
+    };
+    let word = Range {
+        low: 1,
+        high: z.words as usize,
+    };
+    let formula = Range {
+        low: 1,
+        high: z.formulas as usize,
+    };
     if operation == Instruction::ASSIGN {
         return three(register, unused, formula);
     }
