@@ -1,6 +1,6 @@
 -- The program and the outline of a sound image are well-formed.
 use mathlib.Core.Path.{_≡_, refl, ap, sym, _∙_}
-use mathlib.Core.Bool.{Bool, true, _&&_}
+use mathlib.Core.Bool.{Bool, true, false, _&&_}
 use mathlib.Core.List.{List, []}
 use Prim.Native.Nat.{ℕ, zero, suc, _+_, _-_, _≤_, _<_}
 use native.Mathlib.Omega.{arith}
@@ -135,8 +135,6 @@ module _ (z : Sizes) (l : List (List ℕ)) (c : Checks z l) where
         let s = formula-sorted (made op a b f) (h .2 .0) d in
         writing a f (only (notReg b) (formula l Sort.value f)) (h .0) (value-fine f (h .2 .0) (h .2 .1) (s .0 ∙ w, s .1))
         (value-lacks z l c f (h .2 .0) (h .2 .1) b (s .0 ∙ w) (not-true (occurs (register b) [] (treeOf (getD l f []))) (rw o at g)))
-
-.2 .1) (s .0 ∙ w, s .1))
 
     -- no operation is above 8: its first field has no range
     pub none-above : (op a b f : ℕ) → 8 < op → ranged last z (made op a b f) ≡ true → ⊥
