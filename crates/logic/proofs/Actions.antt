@@ -257,6 +257,6 @@ module _ (P : Program) (t : ℕ) where
     unfolding write-act
     rule-49 u s wf p arr h l pr =
         let k = stored s p u (chop (box (cov x)) (newest x (const (workedAt P s t n)))) tt
-                (last-other (write-act true true x n ns g wf p arr) (swap-last x n s wf p arr (h .0)) (const (workedAt P s t n)) (λ v. refl) u (box (cov x))
-                (covered P s p x (swap-last x n s wf p arr (h .0)) u (h .1))) l pr in
+        (last-other (write-act true true x n ns g wf p arr) (swap-last x n s wf p arr (h .0)) (const (workedAt P s t n)) (λ v. refl) u (box (cov x))
+        (covered P s p x (swap-last x n s wf p arr (h .0)) u (h .1))) l pr in
         (k .0, k .1, as-said s p (drop (k .0) l) (k .2))

@@ -1,4 +1,4 @@
 pub mod Sides
-pub mod Fresh
+pub mod NewValues
 pub mod SidesByNumber
 pub mod SidesLink
