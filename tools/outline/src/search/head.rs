@@ -122,8 +122,8 @@ impl Prover<'_> {
         if let Some(x) = instruction.joined_word() {
             found.push((5, all(&Test::Unsync(x).into()), None));
         }
-        if let Some(write) = instruction.store_or_swap() {
-            found.push((10, all(&Test::Covered(write.word).into()), None));
+        if let Some(x) = instruction.written_word() {
+            found.push((10, all(&Test::Covered(x).into()), None));
         }
         if let Some(load) = instruction.load() {
             if let Some(e) = tests_in(goal, load.register) {

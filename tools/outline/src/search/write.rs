@@ -71,7 +71,7 @@ impl Prover<'_> {
         tests.dedup();
         for k in tests {
             if let Some(e) = k.as_all() {
-                let after = replaced(e, Value::Word(write.word), write.value);
+                let after = replaced(e, Value::Word(write.word), &write.value);
                 let before = both(&sees(u, &k), &sees(u, &all(&after)));
                 self.way(context.at, 9, &before, (u, &k), j, ways);
             }

@@ -32,12 +32,17 @@ impl Form {
     /// The form of a rule's lines; none for a rule that is not listed.
     pub fn of_rule(rule: u8) -> Option<Form> {
         match rule {
-            1..=16 => Some(Form::Triple),
+            1..=16 | 47..=49 => Some(Form::Triple),
             20..=27 => Some(Form::Implication),
             30..=46 => Some(Form::Inclusion),
             _ => None,
         }
     }
+}
+
+/// Every rule.
+pub fn rules() -> impl Iterator<Item = u8> {
+    (0..=u8::MAX).filter(|&rule| Form::of_rule(rule).is_some())
 }
 
 /// Whether a line has the shape of its rule: `None` and `Some(false)` both say no.
