@@ -175,6 +175,8 @@ fn after_owners() -> Vec<Case> {
         new().append(THREAD, 1, &[0]).case("5 before 23 in one thread"),
         new().set(THREAD, 1, 1, 9).case("6 before 23: operation first"),
         new().set(THREAD, 1, 17, 3).case("6 before 23: word later"),
+        sort(new(), 1).set(THREAD, 1, 16, 9).case("6 before 8: sort first, operation 9 later"),
+        sort(new(), 1).set_number(THREAD, 1, 19, 0).case("6 before 8: sort first, formula 0 later"),
         sort(new(), 1).case("8 before 23: sort first"),
         sort(new(), 3).case("8 before 23: sort later"),
         new().set(THREAD, 1, 2, 1).case("9 before 23: owner first"),

@@ -13,7 +13,7 @@ pub fn cases() -> Vec<Case> {
         moved(LINE, n, 3).case("accepted: left formula 257"),
         moved(LINE, n, 5).case("accepted: right formula 257"),
         moved(OUTLINE, 0, 0).case("accepted: outline formula 257"),
-        moved(THREAD, 0, 1 + 5 * 3 + 3).case("accepted: formula 257 of an instruction"),
+        moved(THREAD, 0, 1 + 5 * 6 + 3).case("accepted: formula 257 of a branch"),
         high_lines().case("accepted: premise 257, obligation with line 258"),
     ]
 }
