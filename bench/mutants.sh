@@ -4,8 +4,8 @@
 #
 # Usage: mutants.sh [EDIT-FILE...]
 #
-# An edit file has lines "file PATH", and pairs of lines "- OLD" and "+ NEW": OLD
-# occurs in the file, its first occurrence becomes NEW.
+# An edit file has lines "file PATH", a path in reference/src, and pairs of lines
+# "- OLD" and "+ NEW": OLD occurs in the file, its first occurrence becomes NEW.
 set -euo pipefail
 
 here=$(cd "$(dirname "${BASH_SOURCE[0]}")" && pwd)
@@ -18,8 +18,12 @@ for list in "$@"; do
 done
 work=$(mktemp -d)
 trap 'rm -rf "$work"' EXIT
-cp -r "$here/src" "$here/Cargo.toml" "$work/"
-cp -r "$here/src" "$work/original"
+mkdir "$work/bench"
+cp -r "$here/reference" "$here/sets" "$work/bench/"
+cp -r "$here/reference/src" "$work/original"
+# The workspace without the members that are not needed here.
+sed -e 's|^members = .*|members = ["bench/reference", "bench/sets"]|' -e '/^default-members/d' \
+    "$here/../Cargo.toml" >"$work/Cargo.toml"
 cd "$work"
 export CARGO_TARGET_DIR="$work/target" CARGO_PROFILE_DEV_DEBUG=0 RUSTFLAGS="-Awarnings"
 
@@ -31,7 +35,7 @@ tried=0 survived=0 unfit=0
 
 # Builds the changed copy and says what became of the stored verdicts.
 judge() {
-    if ! cargo build --quiet --offline -j1 --bin recheck 2>"$work/log"; then
+    if ! cargo build --quiet --offline -j1 -p reference --bin recheck 2>"$work/log"; then
         echo "DOES NOT BUILD  $1"
         unfit=$((unfit + 1))
     elif timeout 120 "$work/target/debug/recheck" "$work/sets" >"$work/log" 2>&1; then
@@ -43,16 +47,16 @@ judge() {
 # Applies one edit, judges, and puts the file back.
 try_edit() {
     local file=$1 old=$2 new=$3 content
-    content=$(<"$work/original/${file#src/}")
+    content=$(<"$work/original/$file")
     tried=$((tried + 1))
     if [[ "$content" != *"$old"* ]]; then
         echo "NOT FOUND       $file: $old"
         unfit=$((unfit + 1))
         return
     fi
-    printf '%s\n' "${content/"$old"/"$new"}" >"$file"
+    printf '%s\n' "${content/"$old"/"$new"}" >"bench/reference/src/$file"
     judge "$file: $old -> $new"
-    printf '%s\n' "$content" >"$file"
+    printf '%s\n' "$content" >"bench/reference/src/$file"
 }
 
 for edits in "${lists[@]}"; do

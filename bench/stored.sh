@@ -11,11 +11,10 @@ cd "$(dirname "${BASH_SOURCE[0]}")"
 images=$(mktemp -d)
 trap 'rm -rf "$images"' EXIT
 
-(cd ../tools/outline && cargo build --quiet --release --offline -j1)
+cargo build --quiet --release --offline -j1 -p outline -p sets
 ../examples/build-all.sh "$images" >/dev/null
-cargo build --quiet --release --offline -j1 --bin vectors --bin pack
-target/release/vectors "$folder"
+../target/rust/release/vectors "$folder"
 for name in message-passing two-writes; do
     cp "$folder/$name.image" "$images/$name-by-hand.image"
 done
-target/release/pack "$images" "$folder" examples
+../target/rust/release/pack "$images" "$folder" examples

@@ -1,7 +1,7 @@
 #!/bin/sh
 # Builds every source here into images in the folder given (default: images).
 # Sources whose header foretells a refusal are built with --partial.
-# Needs the tool: cargo build --release --offline in ../tools/outline.
+# Needs the tool: cargo build --release --offline -p outline.
 set -eu
 cd "$(dirname "$0")"
 target="${1:-images}"
@@ -9,5 +9,5 @@ mkdir -p "$target"
 for source in *.outline; do
     partial=""
     if grep -q '^# refused:' "$source"; then partial="--partial"; fi
-    ../tools/outline/target/release/outline build "$source" -o "$target/${source%.outline}.image" $partial 2>/dev/null
+    ../target/rust/release/outline build "$source" -o "$target/${source%.outline}.image" $partial 2>/dev/null
 done

@@ -1,8 +1,9 @@
 //! The proved functions, from the crate `exports`.
 
 use crate::formulas::answer::{Answer, Counts, Fault};
-use crate::images::answer::{self, Refusal};
+use crate::images::answer;
 use crate::rows::input::{Input, Kind};
+use reference::checker::Refusal;
 
 // A `&[u8]` of Rattle is a pointer and a length.
 extern "C" {
@@ -50,7 +51,7 @@ pub fn image(bytes: &[u8]) -> answer::Answer {
     let answer = unsafe { image_answer(bytes.as_ptr(), bytes.len()) };
     match answer {
         0 => Ok(()),
-        _ => Err(Refusal { code: answer / 65_536, record: answer % 65_536 }),
+        _ => Err(Refusal { code: (answer / 65_536) as u16, record: (answer % 65_536) as u16 }),
     }
 }
 

@@ -1,7 +1,7 @@
 //! Judges the image in a file with the proved checker and prints the nine fields of its verdict.
 //!
 //!     rt staticlib checker
-//!     (cd examples/rust && cargo run --release --offline FILE)
+//!     cargo run --release --offline -p check FILE
 
 const RECORD_BYTES: usize = 22;
 
@@ -15,21 +15,13 @@ fn check(image: &[u8]) -> [u8; RECORD_BYTES] {
     let mut record = [0; RECORD_BYTES];
     // SAFETY: pointers and lengths are those of slices that live until the call returns, the second borrowed
     // for writing alone, so they do not overlap; the function has no other precondition.
-    unsafe {
-        check_image(
-            image.as_ptr(),
-            image.len(),
-            record.as_mut_ptr(),
-            record.len(),
-        )
-    };
+    unsafe { check_image(image.as_ptr(), image.len(), record.as_mut_ptr(), record.len()) };
     record
 }
 
 fn main() -> std::io::Result<()> {
-    let path = std::env::args_os()
-        .nth(1)
-        .ok_or_else(|| std::io::Error::other("usage: check FILE"))?;
+    let path =
+        std::env::args_os().nth(1).ok_or_else(|| std::io::Error::other("usage: check FILE"))?;
     let record = check(&std::fs::read(path)?);
     let fields: Vec<String> = record[4..]
         .chunks_exact(2)

@@ -1,81 +1,80 @@
 //! A source to an image: by search, or by a certificate written out.
 
-use crate::bytes;
-use crate::formula::F;
-use crate::image::{Image, Line};
-use crate::obligations::{self, Obligation};
-use crate::rules::Form;
 use crate::search::prover::{At, Prover};
 use crate::text::lex::Mistake;
-use crate::text::source::{Claim, Hint, Source};
+use crate::text::source::{Hint, Source};
+use reference::assemble::Assembly;
+use reference::checker::obligations::{duties, Duty};
+use reference::formula::nesting::Nesting;
+use reference::image::written::Written;
+use reference::image::{Instruction, Program, Statement};
 
 /// An obligation that stays open, with what was tried.
 #[derive(Debug, Clone)]
 pub struct Open {
-    pub obligation: Obligation,
+    pub duty: Duty,
+    pub wanted: Statement,
     pub tried: Vec<String>,
 }
 
 /// What building gives: an image, and the obligations without a line in it.
 #[derive(Debug)]
 pub struct Built {
-    pub image: Image,
+    pub image: Written,
     pub open: Vec<Open>,
 }
 
 /// Builds the image of a source.
 pub fn build(source: &Source) -> Result<Built, Mistake> {
     match &source.certificate {
-        Some(_) => crate::explicit::build(source),
+        Some(certificate) => crate::explicit::build(source, certificate),
         None => search(source),
     }
 }
 
 fn search(source: &Source) -> Result<Built, Mistake> {
-    let program = &source.program;
-    let mut prover = Prover::new(program, source.names.clone());
+    let program = source.program();
+    let mut prover = Prover::new(&program, source.names.clone());
     for hint in &source.hints {
         take_hint(&mut prover, hint)?;
     }
-    let list = obligations::all(program, &|t, p| source.assertion(t, p));
     let (mut found, mut open) = (Vec::new(), Vec::new());
-    for obligation in list {
+    for duty in duties(&program.threads) {
         prover.tried.clear();
-        let line = prove(&mut prover, &obligation);
+        let wanted = duty.wanted(&program);
+        let line = prove(&mut prover, &wanted);
         if line.is_none() && prover.tried.is_empty() {
             let text = "tried        lines that pass 255 bytes, nesting 16 or 10 leaves";
             prover.tried.push(text.into());
         }
         if line.is_none() {
-            open.push(Open { obligation, tried: prover.tried.clone() });
+            open.push(Open { duty, wanted, tried: prover.tried.clone() });
         }
         found.push(line);
     }
-    Ok(Built { image: assemble(source, &prover, &found), open })
+    Ok(Built { image: assemble(&program, &prover, &found), open })
 }
 
 /// A line for one obligation.
-fn prove(prover: &mut Prover, o: &Obligation) -> Option<usize> {
-    if !bytes::fits(&o.left) {
+fn prove(prover: &mut Prover, wanted: &Statement) -> Option<usize> {
+    if !wanted.sides().0.fits_record() {
         prover.tried.push(
             "tried        nothing: the assertions together pass 255 bytes or nesting 16".into(),
         );
         return None;
     }
-    match o.act {
-        Some((thread, point)) => prover.triple(At { thread, point }, &o.left, &o.right),
-        None => {
-            prover.implied(&o.left, &o.right).or_else(|| prover.tell_implication(&o.left, &o.right))
-        }
+    let (left, right) = wanted.assertions();
+    match *wanted {
+        Statement::Triple { thread, point, .. } => prover.triple(At { thread, point }, left, right),
+        _ => prover.implied(left, right).or_else(|| prover.tell_implication(left, right)),
     }
 }
 
 /// Proves what the writer named, by the rule named or by search, and keeps it in mind.
 fn take_hint(prover: &mut Prover, hint: &Hint) -> Result<(), Mistake> {
     let fail = |text: String| Err(Mistake { line: hint.line, text });
-    if let Claim::Step(thread, point) = hint.claim {
-        let branch = |i: &crate::program::Instr| i.op == crate::program::Op::Branch;
-        if prover.program.instr(thread, point).is_none_or(branch) {
+    if let Statement::Triple { thread, point, .. } = hint.statement {
+        if prover.program.instruction(thread, point).is_none_or(Instruction::is_branch) {
             return fail("no instruction with triples stands at this point".into());
         }
     }
@@ -89,83 +88,33 @@ fn take_hint(prover: &mut Prover, hint: &Hint) -> Result<(), Mistake> {
     // What was not found before may be found with this step.
     prover.refuted.clear();
     prover.missed.clear();
-    match hint.claim {
-        Claim::Step(..) => prover.steps.push(line),
-        Claim::Fact => prover.facts.push(line),
-        Claim::Part => {}
+    match hint.statement {
+        Statement::Triple { .. } => prover.steps.push(line),
+        Statement::Implication { .. } => prover.facts.push(line),
+        Statement::Inclusion { .. } => {}
     }
     Ok(())
 }
 
-/// Formulas in order of first use, each once.
-#[derive(Default)]
-pub struct Formulas {
-    pub list: Vec<F>,
-}
-
-impl Formulas {
-    /// The number of a formula, added if it is new.
-    pub fn number(&mut self, a: &F) -> usize {
-        match self.list.iter().position(|b| b == a) {
-            Some(i) => i + 1,
-            None => {
-                self.list.push(a.clone());
-                self.list.len()
-            }
-        }
-    }
-}
-
 /// Numbers formulas and lines; lines that nothing rests on are left out.
-fn assemble(source: &Source, prover: &Prover, found: &[Option<usize>]) -> Image {
-    let mut formulas = Formulas::default();
-    let program = source.program.clone();
-    let code_formulas = program
-        .threads
-        .iter()
-        .map(|code| {
-            code.iter().map(|i| i.formula.as_ref().map_or(0, |a| formulas.number(a))).collect()
-        })
-        .collect();
-    let outline = source.points.iter().flatten().map(|p| formulas.number(&p.assertion)).collect();
+fn assemble(program: &Program, prover: &Prover, found: &[Option<usize>]) -> Written {
+    let mut image = Assembly::of(program);
     let roots: Vec<usize> = found.iter().flatten().copied().collect();
-    let mut kept = prover.lines.needed(&roots);
+    let kept = prover.lines.needed(&roots);
+    let place = |at: usize| kept.binary_search(&at).map_or(0, |i| i as u16 + 1);
+    for at in &kept {
+        let entry = &prover.lines.entries[*at];
+        let premises = entry.premises.iter().map(|p| place(*p)).collect();
+        image.line(entry.rule, &entry.statement, premises);
+    }
     if kept.is_empty() {
         // An image holds at least one line; this one serves nothing and harms nothing.
-        return without_lines(
-            Image { program, formulas: formulas.list, code_formulas, outline, ..Image::default() },
-            found.len(),
-        );
+        let first = program.outline[0][0].clone();
+        let same = Statement::Implication { left: first.clone(), right: first };
+        image.line(20, &same, Vec::new());
     }
-    kept.sort_unstable();
-    let place = |at: usize| kept.binary_search(&at).map_or(0, |i| i + 1);
-    let mut lines = Vec::new();
-    for at in &kept {
-        let e = &prover.lines.entries[*at];
-        let (thread, point) = match e.conclusion.form {
-            Form::Triple(t, p) => (t, p),
-            _ => (0, 0),
-        };
-        let left = formulas.number(&e.conclusion.left);
-        let right = formulas.number(&e.conclusion.right);
-        let premises = e.premises.iter().map(|p| place(*p)).collect();
-        lines.push(Line { rule: e.rule, thread, point, left, right, premises });
+    for line in found {
+        image.obligation(line.map_or(0, place));
     }
-    let obligations = found.iter().map(|f| f.map_or(0, place)).collect();
-    Image { program, formulas: formulas.list, code_formulas, outline, lines, obligations }
-}
-
-/// The identity of the first assertion, so that the image is whole.
-fn without_lines(mut image: Image, obligations: usize) -> Image {
-    let first = image.outline[0];
-    image.lines = vec![Line {
-        rule: 20,
-        thread: 0,
-        point: 0,
-        left: first,
-        right: first,
-        premises: Vec::new(),
-    }];
-    image.obligations = vec![0; obligations];
-    image
+    image.written()
 }

@@ -1,50 +1,59 @@
 //! A source with a certificate written out: numbers are taken as they stand.
 
 use crate::build::{Built, Open};
-use crate::formula::F;
-use crate::image::Image;
-use crate::obligations;
 use crate::text::lex::Mistake;
-use crate::text::source::Source;
+use crate::text::source::{Certificate, Source};
+use reference::checker::obligations::duties;
+use reference::formula::encode::Encode;
+use reference::formula::Formula;
+use reference::image::written::{Instruction, Written};
 
 /// Builds without any search.
-pub fn build(source: &Source) -> Result<Built, Mistake> {
-    let certificate = source.certificate.clone().unwrap_or_default();
-    let mut formulas = certificate.formulas;
-    let code_formulas = number_code(source, &mut formulas)?;
+pub fn build(source: &Source, certificate: &Certificate) -> Result<Built, Mistake> {
+    let mut formulas = certificate.formulas.clone();
+    let threads = number_code(source, &mut formulas)?;
     let mut outline = Vec::new();
     for p in source.points.iter().flatten() {
-        outline.push(number(&mut formulas, &p.assertion, p.number, p.line)?);
+        let assertion = Formula::Assertion(p.assertion.clone());
+        outline.push(number(&mut formulas, assertion, p.number, p.line)?);
     }
-    let obligations = certificate.obligations;
-    let open = open_ones(source, &obligations)?;
-    let (program, lines) = (source.program.clone(), certificate.lines);
-    Ok(Built {
-        image: Image { program, formulas, code_formulas, outline, lines, obligations },
-        open,
-    })
+    let open = open_ones(source, &certificate.obligations)?;
+    let image = Written {
+        header: source.header.clone(),
+        formulas: formulas.iter().map(Formula::encode).collect(),
+        threads,
+        outline,
+        lines: certificate.lines.clone(),
+        obligations: certificate.obligations.clone(),
+    };
+    Ok(Built { image, open })
 }
 
-/// The formula number of each instruction, by thread.
-fn number_code(source: &Source, formulas: &mut Vec<F>) -> Result<Vec<Vec<usize>>, Mistake> {
+/// The instructions with their formula numbers, by thread.
+fn number_code(
+    source: &Source,
+    formulas: &mut Vec<Formula>,
+) -> Result<Vec<Vec<Instruction>>, Mistake> {
     let mut all = Vec::new();
-    for (t, code) in source.program.threads.iter().enumerate() {
-        let mut numbers = Vec::new();
-        for (i, instr) in code.iter().enumerate() {
+    for (t, code) in source.threads.iter().enumerate() {
+        let mut fields = Vec::new();
+        for (i, instruction) in code.iter().enumerate() {
             let (line, wanted) = (source.points[t][i].line, source.code_numbers[t][i]);
-            numbers.push(match &instr.formula {
-                Some(a) => number(formulas, a, wanted, line)?,
+            let formula = match instruction.operand() {
+                Some(operand) => number(formulas, operand, wanted, line)?,
                 None => 0,
-            });
+            };
+            fields.push(instruction.fields(formula));
         }
-        all.push(numbers);
+        all.push(fields);
     }
     Ok(all)
 }
 
 /// The obligations for which the certificate names no line.
-fn open_ones(source: &Source, found: &[usize]) -> Result<Vec<Open>, Mistake> {
-    let list = obligations::all(&source.program, &|t, p| source.assertion(t, p));
+fn open_ones(source: &Source, found: &[u16]) -> Result<Vec<Open>, Mistake> {
+    let program = source.program();
+    let list = duties(&program.threads);
     if found.len() != list.len() {
         let text =
             format!("{} obligations are listed, the outline has {}", found.len(), list.len());
@@ -52,28 +61,30 @@ fn open_ones(source: &Source, found: &[usize]) -> Result<Vec<Open>, Mistake> {
     }
     let none = || vec!["tried        nothing: the certificate names no line".to_string()];
     let open = list.into_iter().zip(found).filter(|(_, n)| **n == 0);
-    Ok(open.map(|(obligation, _)| Open { obligation, tried: none() }).collect())
+    let open = open.map(|(duty, _)| Open { duty, wanted: duty.wanted(&program), tried: none() });
+    Ok(open.collect())
 }
 
 /// The number asked for by `@`, checked; else the first equal formula; else a new one.
 fn number(
-    formulas: &mut Vec<F>,
-    a: &F,
+    formulas: &mut Vec<Formula>,
+    formula: Formula,
     wanted: Option<usize>,
     line: usize,
-) -> Result<usize, Mistake> {
+) -> Result<u16, Mistake> {
     match wanted {
-        Some(n) if n > 0 && formulas.get(n - 1) == Some(a) => Ok(n),
+        Some(n) if n > 0 && formulas.get(n - 1) == Some(&formula) => Ok(n as u16),
         Some(n) => Err(Mistake {
             line,
             text: format!("formula {n} of the certificate says something else"),
         }),
-        None => match formulas.iter().position(|b| b == a) {
-            Some(i) => Ok(i + 1),
-            None => {
-                formulas.push(a.clone());
-                Ok(formulas.len())
-            }
-        },
+        None => {
+            let known = formulas.iter().position(|other| *other == formula);
+            Ok(known.unwrap_or_else(|| {
+                formulas.push(formula);
+                formulas.len() - 1
+            }) as u16
+                + 1)
+        }
     }
 }

@@ -1,9 +1,10 @@
 //! The program `outline`: `build` makes an image from a text, `show` a text from an image.
 
 use outline::build::{build, Built};
-use outline::image;
+use outline::image::{self, to_bytes};
 use outline::text::parse_source::parse;
 use outline::text::{report, show};
+use reference::checker::check;
 use std::process::ExitCode;
 
 const USAGE: &str = "usage: outline build FILE.outline -o FILE.image [--partial]
@@ -55,21 +56,21 @@ fn build_command(args: &[&str]) -> Result<(), String> {
             built.image.obligations.len()
         ));
     }
+    let bytes = to_bytes(&built.image).map_err(|e| format!("{file}: {e}"))?;
     if source.certificate.is_none() {
-        check(&built)?;
+        last_look(&built, &bytes)?;
     }
-    let bytes = built.image.to_bytes().map_err(|e| format!("{file}: {e}"))?;
     std::fs::write(target, &bytes).map_err(|e| format!("{target}: {e}"))?;
     report(target, &built, bytes.len());
     Ok(())
 }
 
 /// A last look at lines that the search has made: all but the open obligations must be met.
-fn check(built: &Built) -> Result<(), String> {
+fn last_look(built: &Built, bytes: &[u8]) -> Result<(), String> {
     let met = built.image.obligations.iter().position(|n| *n == 0);
-    let verdict = outline::judge::judge(&built.image);
-    if met.unwrap_or(built.image.obligations.len()) != verdict[8] {
-        return Err(format!("mistake in this tool: its own check says {verdict:?}"));
+    let verdict = check(bytes);
+    if met.unwrap_or(built.image.obligations.len()) != usize::from(verdict.count) {
+        return Err(format!("mistake in this tool: the verdict is {verdict}"));
     }
     Ok(())
 }

@@ -1,7 +1,8 @@
 //! Every example builds, is judged as its header says, and comes back the same from `show`.
 
 use outline::text::{parse_source, show};
-use outline::{build, image, judge};
+use outline::{build, image};
+use reference::checker::check;
 use std::path::PathBuf;
 
 /// The sources under `examples`, by name.
@@ -22,7 +23,7 @@ fn sources() -> Vec<(String, String)> {
 }
 
 /// The verdict that the header's line `# refused:` foretells.
-fn foretold(text: &str) -> Option<Vec<usize>> {
+fn foretold(text: &str) -> Option<Vec<u16>> {
     let line = text.lines().find_map(|l| l.strip_prefix("# refused:"))?;
     Some(line.split_whitespace().map(|n| n.parse().expect("a number")).collect())
 }
@@ -34,10 +35,10 @@ fn built(name: &str, text: &str) -> build::Built {
 
 /// The verdict is the one foretold; a source without a foretold one is accepted.
 fn judged_as_foretold(name: &str, text: &str, b: &build::Built) {
-    let verdict = judge::judge(&b.image);
+    let verdict = check(&b.image.bytes());
     match foretold(text) {
-        Some(want) => assert_eq!(verdict.to_vec(), want, "{name}"),
-        None => assert_eq!((verdict[0], b.open.len()), (0, 0), "{name}"),
+        Some(want) => assert_eq!(verdict.fields().to_vec(), want, "{name}"),
+        None => assert_eq!((verdict.code, b.open.len()), (0, 0), "{name}"),
     }
 }
 
@@ -50,8 +51,8 @@ fn no_formula_twice(name: &str, b: &build::Built) {
 
 fn shown_and_built_again(name: &str, bytes: &[u8]) {
     let read = image::read(bytes).unwrap_or_else(|e| panic!("{name}: {e}"));
-    let again = built(name, &show::show(&read)).image.to_bytes().expect("within limits");
-    assert!(again == bytes, "{name} does not come back the same");
+    let again = built(name, &show::show(&read)).image;
+    assert!(again.bytes() == bytes, "{name} does not come back the same");
 }
 
 #[test]
@@ -60,7 +61,7 @@ fn every_example_is_as_its_header_says() {
         let b = built(&name, &text);
         judged_as_foretold(&name, &text, &b);
         no_formula_twice(&name, &b);
-        let bytes = b.image.to_bytes().unwrap_or_else(|e| panic!("{name}: {e}"));
+        let bytes = image::to_bytes(&b.image).unwrap_or_else(|e| panic!("{name}: {e}"));
         shown_and_built_again(&name, &bytes);
     }
 }
@@ -76,7 +77,6 @@ fn wrong_variants_say_where_they_fail() {
 #[test]
 fn the_same_text_gives_the_same_bytes() {
     for (name, text) in sources().into_iter().filter(|(name, _)| !name.starts_with("peterson")) {
-        let once = built(&name, &text).image.to_bytes();
-        assert_eq!(once, built(&name, &text).image.to_bytes(), "{name}");
+        assert_eq!(built(&name, &text).image, built(&name, &text).image, "{name}");
     }
 }

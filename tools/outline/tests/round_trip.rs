@@ -1,10 +1,15 @@
 //! Random images, well formed but not proved, come back the same from `show` and `build`.
 
-use outline::formula::*;
-use outline::image::{Image, Line};
-use outline::program::{Instr, Op, Program};
+use outline::terms::*;
 use outline::text::{parse_source, show};
-use outline::{build, image, obligations};
+use outline::{build, image};
+use reference::checker::obligations::duties;
+use reference::formula::encode::Encode;
+use reference::formula::nesting::Nesting;
+use reference::formula::parse::Counts;
+use reference::formula::{Assertion, Formula, Interval, Test};
+use reference::image::written::{Line, Written};
+use reference::image::{Header, Instruction, Thread};
 
 /// A small generator of numbers, so that the test is the same every time.
 struct Dice(u64);
@@ -18,49 +23,49 @@ impl Dice {
         least + self.roll((most - least + 1) as usize) as u8
     }
 
-    fn value(&mut self, depth: usize, words: bool) -> F {
+    fn value(&mut self, depth: usize, words: bool) -> V {
         match self.roll(if depth == 0 { 3 } else { 5 }) {
             0 => constant(self.number(0, 7)),
-            1 => reg(self.number(1, 3)),
+            1 => register(self.number(1, 3)),
             2 if words => word(self.number(1, 2)),
-            2 => reg(1),
-            _ => f(Node::Sum(self.value(depth - 1, words), self.value(depth - 1, words))),
+            2 => register(1),
+            _ => sum(&self.value(depth - 1, words), &self.value(depth - 1, words)),
         }
     }
 
-    fn test(&mut self, depth: usize, words: bool) -> F {
+    fn test(&mut self, depth: usize, words: bool) -> T {
         if depth == 0 {
-            return f(Node::False);
+            return falsehood();
         }
         let d = depth - 1;
         match self.roll(8) {
-            0 => f(Node::False),
+            0 => falsehood(),
             1 | 2 => equal(&self.value(1, words), &self.value(1, words)),
-            3 => f(Node::Less(self.value(1, words), self.value(1, words))),
+            3 => less(&self.value(1, words), &self.value(1, words)),
             4 => not(&self.test(d, words)),
             5 => and(&self.test(d, words), &self.test(d, words)),
             6 => or(&self.test(d, words), &self.test(d, words)),
-            _ if words => f(Node::Unsync(self.number(1, 2))),
+            _ if words => Test::Unsync(self.number(1, 2)).into(),
             _ => truth(),
         }
     }
 
-    fn interval(&mut self, depth: usize) -> F {
+    fn interval(&mut self, depth: usize) -> I {
         if depth == 0 {
-            return f(Node::One(self.number(1, 2)));
+            return Interval::One(self.number(1, 2)).into();
         }
         let d = depth - 1;
         match self.roll(6) {
-            0 => test(&self.test(2, true)),
-            1 => one_of(self.number(1, 2), &self.value(1, true)),
+            0 => all(&self.test(2, true)),
+            1 => Interval::one_equal(self.number(1, 2), self.value(1, true)).into(),
             2 => chop(&self.interval(d), &self.interval(d)),
-            3 => meet(&self.interval(d), &self.interval(d)),
-            4 => f(Node::Join(self.interval(d), self.interval(d))),
-            _ => test(&f(Node::Cov(self.number(1, 2)))),
+            3 => both(&self.interval(d), &self.interval(d)),
+            4 => either(&self.interval(d), &self.interval(d)),
+            _ => all(&Test::Covered(self.number(1, 2)).into()),
         }
     }
 
-    fn assertion(&mut self, depth: usize) -> F {
+    fn assertion(&mut self, depth: usize) -> A {
         if depth == 0 {
             return holds(&self.test(2, false));
         }
@@ -74,81 +79,98 @@ impl Dice {
     }
 }
 
-/// Two threads over two words and three registers, the second and third owned crosswise.
-fn program(dice: &mut Dice, formulas: &mut Vec<F>) -> (Program, Vec<Vec<usize>>) {
-    formulas.push(constant(dice.number(0, 7)));
-    formulas.push(equal(&reg(1), &constant(1)));
-    formulas.push(constant(3));
-    let with = |op, a, b, formula| Instr { op, a, b, formula };
+/// Two threads over two words and three registers, the second and third owned crosswise. Their operands
+/// are formulas 1 to 3.
+fn threads(number: &V, test: &T, three: &V) -> Vec<Thread> {
     let first = vec![
-        with(Op::LoadAcquire, 1, 2, None),
-        with(Op::Branch, 0, 0, Some(formulas[1].clone())),
-        with(Op::Swap, 2, 0, Some(formulas[2].clone())),
+        Instruction::Load { register: 1, word: 2, acquiring: true },
+        Instruction::Branch { test: test.clone(), target: 0 },
+        Instruction::Swap { word: 2, value: three.clone() },
     ];
     let second = vec![
-        with(Op::Assign, 2, 0, Some(formulas[0].clone())),
-        with(Op::StoreRelease, 1, 0, Some(formulas[2].clone())),
-        with(Op::Load, 2, 1, None),
+        Instruction::Assign { register: 2, value: number.clone() },
+        Instruction::Store { word: 1, value: three.clone(), releasing: true },
+        Instruction::Load { register: 2, word: 1, acquiring: false },
+        Instruction::Exchange { register: 2, word: 1, value: three.clone() },
+        Instruction::FetchAdd { register: 2, word: 2, value: number.clone() },
     ];
-    let program = Program {
-        words: vec![dice.number(0, 7), 5],
-        owners: vec![1, 2, 1],
-        threads: vec![first, second],
-    };
-    (program, vec![vec![0, 2, 3], vec![1, 3, 0]])
+    vec![first, second]
 }
 
-fn random_image(dice: &mut Dice) -> Image {
-    let mut formulas = Vec::new();
-    let (program, code_formulas) = program(dice, &mut formulas);
+const OPERANDS: [&[u16]; 2] = [&[0, 2, 3], &[1, 3, 0, 3, 1]];
+
+/// A line about assertions, which are formulas 4 to 16.
+fn line(dice: &mut Dice, before: usize) -> Line {
+    let premises =
+        (0..dice.roll(before.min(4) + 1)).map(|_| 1 + dice.roll(before) as u16).collect();
+    let (rule, thread, point) = if before.is_multiple_of(2) { (16, 2, 1) } else { (20, 0, 0) };
+    let (left, right) = (4 + dice.roll(12) as u16, 4 + dice.roll(13) as u16);
+    Line { rule, thread, point, left, right, premises }
+}
+
+fn formulas(dice: &mut Dice, operands: [Formula; 3]) -> Vec<Formula> {
+    let mut formulas = operands.to_vec();
     for _ in 0..12 {
         let assertion = dice.assertion(3);
-        formulas.push(if outline::bytes::fits(&assertion) { assertion } else { holds(&truth()) });
+        let fits = assertion.fits_record();
+        formulas.push(Formula::Assertion(if fits { assertion } else { holds(&truth()) }));
     }
-    let used = formulas[5].clone();
+    let twice = formulas[5].clone();
     formulas.extend([
-        used,
-        dice.interval(3),
-        dice.test(3, true),
-        dice.value(3, true),
-        f(Node::Start),
+        twice,
+        Formula::Interval(dice.interval(3)),
+        Formula::Test(dice.test(3, true)),
+        Formula::Value(dice.value(3, true)),
+        Assertion::Start.into(),
     ]);
-    let outline: Vec<usize> = (0..8).map(|_| 4 + dice.roll(12)).collect();
-    let mut lines: Vec<Line> = Vec::new();
-    for n in 0..10 {
-        let premises = (0..dice.roll(n.min(4) + 1)).map(|_| 1 + dice.roll(n)).collect();
-        let (rule, thread, point) = if n % 2 == 0 { (16, 2, 1) } else { (20, 0, 0) };
-        let (left, right) = (4 + dice.roll(12), 4 + dice.roll(13));
-        lines.push(Line { rule, thread, point, left, right, premises });
+    formulas
+}
+
+fn random_image(dice: &mut Dice) -> Written {
+    let (number, three) = (constant(dice.number(0, 7)), constant(3));
+    let test = equal(&register(1), &constant(1));
+    let threads = threads(&number, &test, &three);
+    let operands = [Formula::Value(number), Formula::Test(test), Formula::Value(three)];
+    let fields = |(code, operands): (&Thread, &[u16])| {
+        code.iter().zip(operands).map(|(instruction, n)| instruction.fields(*n)).collect()
+    };
+    let counts = Counts { threads: 2, words: 2, registers: 3 };
+    Written {
+        header: Header { counts, start: vec![dice.number(0, 7), 5], owners: vec![1, 2, 1] },
+        formulas: formulas(dice, operands).iter().map(Formula::encode).collect(),
+        threads: threads.iter().zip(OPERANDS).map(fields).collect(),
+        outline: (0..10).map(|_| 4 + dice.roll(12) as u16).collect(),
+        lines: (0..10).map(|before| line(dice, before)).collect(),
+        obligations: duties(&threads).iter().map(|_| dice.roll(11) as u16).collect(),
     }
-    let obligations = (0..obligations::count(&program)).map(|_| dice.roll(11)).collect();
-    Image { program, formulas, code_formulas, outline, lines, obligations }
 }
 
 #[test]
 fn any_image_comes_back_the_same() {
     let mut dice = Dice(7);
     for round in 0..300 {
-        let bytes = random_image(&mut dice).to_bytes().expect("within limits");
+        let bytes = random_image(&mut dice).bytes();
         let read = image::read(&bytes).expect("well formed");
         let text = show::show(&read);
         let source =
             parse_source::parse(&text).unwrap_or_else(|e| panic!("round {round}: {e}\n{text}"));
         let again = build::build(&source).unwrap_or_else(|e| panic!("round {round}: {e}")).image;
-        assert_eq!(again.to_bytes().expect("within limits"), bytes, "round {round}");
+        assert_eq!(again.bytes(), bytes, "round {round}");
     }
 }
 
 #[test]
 fn damaged_images_give_messages_and_no_panic() {
     let mut dice = Dice(11);
-    let bytes = random_image(&mut dice).to_bytes().expect("within limits");
+    let bytes = random_image(&mut dice).bytes();
     for at in 0..bytes.len() {
         for change in [1, 128, 255] {
             let mut damaged = bytes.clone();
             damaged[at] = damaged[at].wrapping_add(change);
             if let Ok(image) = image::read(&damaged) {
-                let _ = parse_source::parse(&show::show(&image)).map(|s| build::build(&s));
+                let source =
+                    parse_source::parse(&show::show(&image)).expect("what is shown is read");
+                assert_eq!(build::build(&source).expect("built again").image.bytes(), damaged);
             }
         }
     }

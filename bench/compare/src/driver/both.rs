@@ -1,8 +1,8 @@
 //! One image, both checkers, buffers of several lengths.
 
 use crate::proved;
-use hidokpalu_bench::checker;
-use hidokpalu_bench::generate::random::Random;
+use reference::checker;
+use sets::generate::random::Random;
 use std::fmt;
 
 /// Lengths of buffers: none, one byte short, just long enough, and longer.

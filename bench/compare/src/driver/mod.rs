@@ -5,7 +5,7 @@ mod sources;
 mod tally;
 
 use both::{difference, Difference};
-use hidokpalu_bench::generate;
+use sets::generate;
 use std::path::Path;
 use tally::Tally;
 

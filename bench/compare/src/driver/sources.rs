@@ -1,8 +1,8 @@
 //! Images that are not made from a seed.
 
-use hidokpalu_bench::examples::{message_passing, two_writes};
-use hidokpalu_bench::vectors::recheck::stored_images;
-use hidokpalu_bench::vectors::{formulas, images, rules, Case};
+use reference::stored::stored_images;
+use sets::examples::{message_passing, two_writes};
+use sets::vectors::{formulas, images, rules, Case};
 use std::path::{Path, PathBuf};
 
 /// A name and images, or why there are none.
@@ -26,7 +26,8 @@ pub fn stored() -> Source {
     for name in ["images", "rules", "examples", "formulas"] {
         let path = folder.join(name).with_extension("bin");
         let bytes = read(&path)?;
-        let cases = stored_images(&bytes).ok_or_else(|| format!("{}: cut short", path.display()))?;
+        let cases =
+            stored_images(&bytes).ok_or_else(|| format!("{}: cut short", path.display()))?;
         for (index, case) in cases.iter().enumerate() {
             labelled.push(Case::new(format!("{name} {}", index + 1), case.image.to_vec()));
         }

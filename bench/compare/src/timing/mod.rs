@@ -4,9 +4,9 @@ mod images;
 mod measure;
 
 use crate::proved;
-use hidokpalu_bench::checker::{self, decode, frames, rules};
 pub use measure::median;
 use measure::medians;
+use reference::checker::{self, decode, frames, rules};
 use std::hint::black_box;
 use std::path::Path;
 

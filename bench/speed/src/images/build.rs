@@ -1,7 +1,13 @@
 //! Random images whose bytes are in order. Their lines follow from nothing; the readers do not ask.
 
+use super::reader::{has_register, ByScan};
 use crate::formulas::generate::{append, Names, LONGEST};
 use crate::random::Random;
+use reference::checker::obligations::duties;
+use reference::formula::parse::Counts;
+use reference::formula::{Test, Value};
+use reference::image::written::{Instruction, Line, Written};
+use reference::image::{self, Header, Thread};
 
 /// How much an image holds.
 pub struct Size {
@@ -49,13 +55,13 @@ const TEST: u8 = 1;
 const INTERVAL: u8 = 2;
 const ASSERTION: u8 = 3;
 
-const ACTION: [u8; 6] = [0, 1, 2, 3, 4, 5];
-const BRANCH: u8 = 6;
+/// Those that set a register stand behind the others.
+const ACTION: [u8; 8] = [3, 4, 5, 0, 1, 2, 7, 8];
+/// The rules whose lines are triples.
+const TRIPLES: [u8; 19] = [1, 2, 3, 4, 5, 6, 7, 8, 9, 10, 11, 12, 13, 14, 15, 16, 47, 48, 49];
 
-fn record(kind: u8, body: &[u8]) -> Vec<u8> {
-    let length = (body.len() + 2) as u16;
-    [&length.to_le_bytes()[..], &[kind, 0], body].concat()
-}
+const SWAP: u8 = 5;
+const BRANCH: u8 = 6;
 
 /// A formula that fits in a record.
 fn formula(random: &mut Random, names: &Names, sort: u8, plain: bool, left: usize) -> Vec<u8> {
@@ -101,8 +107,7 @@ impl Program<'_> {
         let threads = (1..=size.threads).map(|thread| {
             let owned = owners.contains(&(thread as u8));
             let steps = random.below(size.points);
-            // Operations 0 to 2 set a register.
-            let actions = if owned { &ACTION[..] } else { &ACTION[3..] };
+            let actions = if owned { &ACTION[..] } else { &ACTION[..3] };
             let operation = |random: &mut Random| match random.below(4) {
                 0 => BRANCH,
                 _ => actions[random.below(actions.len())],
@@ -126,12 +131,12 @@ impl Program<'_> {
         Names { threads: threads as u8, words: words as u8, registers, values: 8, start }
     }
 
-    fn header(&self, random: &mut Random) -> Vec<u8> {
+    fn header(&self, random: &mut Random) -> Header {
         let Size { threads, words, registers, .. } = *self.size;
-        let mut body = vec![threads as u8, words as u8, registers as u8];
-        body.extend((0..words).map(|_| random.below(8) as u8));
-        body.extend(&self.owners);
-        body
+        let counts =
+            Counts { threads: threads as u8, words: words as u8, registers: registers as u8 };
+        let start = (0..words).map(|_| random.below(8) as u8).collect();
+        Header { counts, start, owners: self.owners.clone() }
     }
 
     /// The number of the interval; assertions follow.
@@ -163,25 +168,29 @@ impl Program<'_> {
         formulas
     }
 
-    fn thread(&self, random: &mut Random, thread: usize) -> Vec<u8> {
+    fn thread(&self, random: &mut Random, thread: usize, formulas: &[Vec<u8>]) -> Vec<Instruction> {
         let operations = &self.threads[thread - 1];
         let registers = self.registers_of(thread);
         let points = operations.len() + 1;
         let value = 2 * thread as u16 - 1;
-        let mut body = vec![points as u8];
-        for &operation in operations {
+        // An exchange or fetch-add does not name its result register in its operand.
+        let operand = &formulas[usize::from(value) - 1];
+        let free = |register: &u8| !has_register::<ByScan>(operand, *register);
+        let free: Vec<u8> = registers.iter().copied().filter(free).collect();
+        let instruction = |&operation: &u8| {
             let word = 1 + random.below(self.size.words) as u8;
-            let mut register = || registers[random.below(registers.len())];
-            let (a, b, formula) = match operation {
-                0 => (register(), 0, value),
-                1 | 2 => (register(), word, 0),
-                BRANCH => (random.below(points) as u8, 0, value + 1),
-                _ => (word, 0, value),
+            let mut register = |from: &[u8]| from[random.below(from.len())];
+            let (operation, a, b, formula) = match operation {
+                0 => (0, register(&registers), 0, value),
+                1 | 2 => (operation, register(&registers), word, 0),
+                7 | 8 if free.is_empty() => (SWAP, word, 0, value),
+                7 | 8 => (operation, word, register(&free), value),
+                BRANCH => (BRANCH, random.below(points) as u8, 0, value + 1),
+                _ => (operation, word, 0, value),
             };
-            let [low, high] = formula.to_le_bytes();
-            body.extend([operation, a, b, low, high]);
-        }
-        body
+            Instruction { operation, a, b, formula }
+        };
+        operations.iter().map(instruction).collect()
     }
 
     /// The number of an assertion, with or without `start`.
@@ -194,9 +203,9 @@ impl Program<'_> {
         (self.interval() + 1 + random.below(self.startless())) as u16
     }
 
-    fn outline(&self, random: &mut Random) -> Vec<u8> {
+    fn outline(&self, random: &mut Random) -> Vec<u16> {
         let points: usize = self.threads.iter().map(|operations| operations.len() + 1).sum();
-        (0..points).flat_map(|_| self.startless_assertion(random).to_le_bytes()).collect()
+        (0..points).map(|_| self.startless_assertion(random)).collect()
     }
 
     /// Thread and point of each instruction that is no branch.
@@ -209,65 +218,58 @@ impl Program<'_> {
     }
 
     /// The line that has so many before it. Half of the lines are triples, where there are actions.
-    fn line(&self, random: &mut Random, before: usize, actions: &[[u8; 2]]) -> Vec<u8> {
-        let (rule, place, left, right) = match random.below(8) {
-            0 => (30 + random.below(17), [0, 0], self.interval() as u16, self.interval() as u16),
+    fn line(&self, random: &mut Random, before: usize, actions: &[[u8; 2]]) -> Line {
+        let (rule, [thread, point], left, right) = match random.below(8) {
+            0 => (
+                30 + random.below(17) as u8,
+                [0, 0],
+                self.interval() as u16,
+                self.interval() as u16,
+            ),
             4.. if !actions.is_empty() => {
                 let place = actions[random.below(actions.len())];
                 let side = |random: &mut Random| self.startless_assertion(random);
-                (1 + random.below(16), place, side(random), side(random))
+                (TRIPLES[random.below(TRIPLES.len())], place, side(random), side(random))
             }
             _ => {
                 let side = |random: &mut Random| self.any_assertion(random);
-                (20 + random.below(8), [0, 0], side(random), side(random))
+                (20 + random.below(8) as u8, [0, 0], side(random), side(random))
             }
         };
         let premises = if before == 0 { 0 } else { random.below(5) };
-        let mut body = vec![rule as u8, place[0], place[1]];
-        body.extend(left.to_le_bytes());
-        body.extend(right.to_le_bytes());
-        body.push(premises as u8);
-        for _ in 0..premises {
-            body.extend((1 + random.below(before) as u16).to_le_bytes());
-        }
-        body
+        let premises = (0..premises).map(|_| 1 + random.below(before) as u16).collect();
+        Line { rule, thread, point, left, right, premises }
     }
 
-    /// A line number for each obligation: the start of each thread; each instruction, a branch twice;
-    /// each point with each action of another thread.
-    fn obligations(&self, random: &mut Random) -> Vec<u8> {
-        let branches =
-            |thread: &Vec<u8>| thread.iter().filter(|&&operation| operation == BRANCH).count();
-        let mut count = 0;
-        for (i, own) in self.threads.iter().enumerate() {
-            count += 1 + own.len() + branches(own);
-            for (j, other) in self.threads.iter().enumerate() {
-                if i != j {
-                    count += (own.len() + 1) * (other.len() - branches(other));
-                }
-            }
-        }
-        let line = |random: &mut Random| random.below(self.size.lines + 1) as u16;
-        (0..count).flat_map(|_| line(random).to_le_bytes()).collect()
+    /// A line number for each obligation. How many there are goes by the branches alone.
+    fn obligations(&self, random: &mut Random) -> Vec<u16> {
+        let stand_in = |&operation: &u8| match operation {
+            BRANCH => image::Instruction::Branch { test: Test::False.into(), target: 0 },
+            _ => image::Instruction::Assign { register: 1, value: Value::Constant(0).into() },
+        };
+        let code = |operations: &Vec<u8>| operations.iter().map(stand_in).collect();
+        let threads: Vec<Thread> = self.threads.iter().map(code).collect();
+        let line = |_| random.below(self.size.lines + 1) as u16;
+        duties(&threads).iter().map(line).collect()
     }
 }
 
 pub fn image(random: &mut Random, size: &Size) -> Vec<u8> {
     let program = Program::new(random, size);
-    let mut bytes = record(1, &program.header(random));
-    for body in program.formulas(random) {
-        bytes.extend(record(2, &body));
-    }
-    for thread in 1..=size.threads {
-        bytes.extend(record(3, &program.thread(random, thread)));
-    }
-    bytes.extend(record(4, &program.outline(random)));
     let actions = program.actions();
-    for before in 0..size.lines {
-        bytes.extend(record(5, &program.line(random, before, &actions)));
-    }
-    bytes.extend(record(6, &program.obligations(random)));
-    bytes
+    let header = program.header(random);
+    let formulas = program.formulas(random);
+    let threads = (1..=size.threads).map(|thread| program.thread(random, thread, &formulas));
+    // Fields are worked out in the order in which they stand here.
+    let image = Written {
+        header,
+        threads: threads.collect(),
+        formulas,
+        outline: program.outline(random),
+        lines: (0..size.lines).map(|before| program.line(random, before, &actions)).collect(),
+        obligations: program.obligations(random),
+    };
+    image.bytes()
 }
 
 /// An image with 500 formulas and 1,000 lines, as near to 65,535 bytes as comes in some tries.

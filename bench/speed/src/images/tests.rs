@@ -1,8 +1,10 @@
 //! Images whose answers were worked out by hand, and the stored set, for all readers.
 
-use super::answer::{Answer, Refusal};
+use super::answer::Answer;
 use super::reader::{self, ByScan, ByTree};
 use crate::rattle;
+use reference::checker::Refusal;
+use reference::stored::stored_images;
 
 fn expect(image: &[u8], answer: Answer) {
     for read in [rattle::image, reader::read::<ByTree>, reader::read::<ByScan>] {
@@ -10,8 +12,8 @@ fn expect(image: &[u8], answer: Answer) {
     }
 }
 
-fn refused(code: usize, record: usize) -> Answer {
-    Err(Refusal { code, record })
+fn refused(code: u16, record: usize) -> Answer {
+    Err(Refusal::at(code, record))
 }
 
 /// Kind and body of each record.
@@ -141,6 +143,15 @@ fn another_threads_register_is_code_9() {
 }
 
 #[test]
+fn an_operand_that_names_the_result_register_is_code_23() {
+    let mut records = records();
+    for operation in [7, 8] {
+        records[5].1 = vec![2, operation, 1, 1, 1, 0];
+        expect(&bytes(&records), refused(23, 6));
+    }
+}
+
+#[test]
 fn the_first_record_and_in_it_the_lowest_code_is_named() {
     let mut two = records();
     two[6].1[0] = 0;
@@ -153,23 +164,16 @@ fn the_first_record_and_in_it_the_lowest_code_is_named() {
     expect(&bytes(&two), refused(4, 11));
 }
 
-/// The set `images` of `cases`: a length, the image, nine fields of 16 bits each, the code and the record
-/// first.
+/// The set `images` of `cases`.
 #[test]
 fn stored_verdicts_are_met() {
     let path = concat!(env!("CARGO_MANIFEST_DIR"), "/../../crates/cases/data/images.bin");
     let stored = std::fs::read(path).expect("the stored set is there");
-    let (mut rest, mut cases) = (&stored[..], 0);
-    let number = |bytes: &[u8]| u16::from_le_bytes([bytes[0], bytes[1]]) as usize;
-    while !rest.is_empty() {
-        let (image, behind) = rest[2..].split_at(number(rest));
-        let answer = match number(behind) {
-            0 | 20..=22 => Ok(()),
-            code => refused(code, number(&behind[2..])),
-        };
-        expect(image, answer);
-        rest = &behind[18..];
-        cases += 1;
+    let cases = stored_images(&stored).expect("the set is whole");
+    for case in &cases {
+        let [code, record, ..] = case.fields;
+        let refused = || Err(Refusal { code, record });
+        expect(case.image, if matches!(code, 0 | 20..=22) { Ok(()) } else { refused() });
     }
-    assert_eq!(cases, 1873);
+    assert!(cases.len() > 2000);
 }

@@ -3,13 +3,13 @@
 //! Each case of the left side, cut down to what it needs, gets a triple of its
 //! own; rule 15 joins them.
 
-use crate::formula::*;
 use crate::search::cases::{cases, Case};
 use crate::search::prover::{At, Line, Prover};
 use crate::search::triple::Context;
+use crate::terms::*;
 
 impl Prover<'_> {
-    pub fn case_by_case(&mut self, context: &Context, p: &F, q: &F) -> Option<Line> {
+    pub fn case_by_case(&mut self, context: &Context, p: &A, q: &A) -> Option<Line> {
         let mut lines: Vec<Line> = Vec::new();
         for case in cases(p)? {
             if self.impossible(&case) {
@@ -32,9 +32,9 @@ impl Prover<'_> {
     }
 
     /// {the leaves of the case that are needed} c {q}
-    fn case_alone(&mut self, context: &Context, case: &Case, q: &F) -> Option<Line> {
+    fn case_alone(&mut self, context: &Context, case: &Case, q: &A) -> Option<Line> {
         let tests = case.tests.iter().map(holds);
-        let leaves: Vec<F> = case.sees.iter().cloned().chain(tests).collect();
+        let leaves: Vec<A> = case.sees.iter().cloned().chain(tests).collect();
         let whole = fold_right(&leaves, both)?;
         let done = self.serve(context, vec![case.clone()], q)?;
         let before = self.left(done.line);
@@ -44,7 +44,7 @@ impl Prover<'_> {
     }
 
     /// Two triples to one goal, joined.
-    fn either_way(&mut self, at: At, a: Line, b: Line, q: &F) -> Option<Line> {
+    fn either_way(&mut self, at: At, a: Line, b: Line, q: &A) -> Option<Line> {
         let left = either(&self.left(a), &self.left(b));
         let twice = either(q, q);
         let line = self.step(at, 15, &left, &twice, &[a, b])?;

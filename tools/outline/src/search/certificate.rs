@@ -1,16 +1,15 @@
 //! The lines found so far, each conclusion once.
 
-use crate::bytes;
-use crate::formula::F;
-use crate::program::Program;
-use crate::rules::{fits, Conclusion, Form};
+use reference::checker::rules::{follows, MOST_PREMISES};
+use reference::formula::nesting::Nesting;
+use reference::image::{Program, Statement};
 use std::collections::HashMap;
 
 /// One line with formulas in full; premises are places in the list.
 #[derive(Debug, Clone)]
 pub struct Entry {
     pub rule: u8,
-    pub conclusion: Conclusion,
+    pub statement: Statement,
     pub premises: Vec<usize>,
 }
 
@@ -18,34 +17,34 @@ pub struct Entry {
 #[derive(Debug, Default)]
 pub struct Certificate {
     pub entries: Vec<Entry>,
-    known: HashMap<Conclusion, usize>,
+    known: HashMap<Statement, usize>,
 }
 
 impl Certificate {
-    /// The place of a line with this conclusion.
-    pub fn find(&self, form: Form, left: &F, right: &F) -> Option<usize> {
-        let key = Conclusion { form, left: left.clone(), right: right.clone() };
-        self.known.get(&key).copied()
+    /// The place of a line that says this.
+    pub fn find(&self, statement: &Statement) -> Option<usize> {
+        self.known.get(statement).copied()
     }
 
-    /// Adds a line if it fits its rule and its formulas fit their records.
+    /// Adds a line if it follows by its rule and its formulas fit their records.
     pub fn add(
         &mut self,
         program: &Program,
         rule: u8,
-        c: Conclusion,
+        statement: Statement,
         premises: &[usize],
     ) -> Option<usize> {
-        if let Some(at) = self.known.get(&c) {
-            return Some(*at);
+        if let Some(at) = self.find(&statement) {
+            return Some(at);
         }
-        let given: Vec<&Conclusion> =
-            premises.iter().map(|p| &self.entries[*p].conclusion).collect();
-        if !bytes::fits(&c.left) || !bytes::fits(&c.right) || !fits(program, rule, &c, &given) {
+        let given: Vec<&Statement> = premises.iter().map(|p| &self.entries[*p].statement).collect();
+        let (left, right) = statement.sides();
+        let fits = left.fits_record() && right.fits_record() && premises.len() <= MOST_PREMISES;
+        if !fits || !follows(program, rule, &statement, &given) {
             return None;
         }
-        self.known.insert(c.clone(), self.entries.len());
-        self.entries.push(Entry { rule, conclusion: c, premises: premises.to_vec() });
+        self.known.insert(statement.clone(), self.entries.len());
+        self.entries.push(Entry { rule, statement, premises: premises.to_vec() });
         Some(self.entries.len() - 1)
     }
 

@@ -4,20 +4,20 @@
 //! see all, or read 1 and may see the rest" is a disjunction of conjunctions;
 //! as a conjunction of disjunctions each part is one that rule 4 can reach.
 
-use crate::formula::*;
 use crate::search::plan::Plan;
 use crate::search::prover::Prover;
 use crate::search::triple::Context;
-use Node::*;
+use crate::terms::*;
+use reference::formula::Assertion;
 
 /// More clauses than this are not worth the lines.
 const MOST_CLAUSES: usize = 16;
 
 /// The clauses of an assertion, each a list of disjuncts.
-fn clauses(a: &F) -> Vec<Vec<F>> {
+fn clauses(a: &A) -> Vec<Vec<A>> {
     match &**a {
-        Both(p, q) => [clauses(p), clauses(q)].concat(),
-        Either(p, q) => {
+        Assertion::Both(p, q) => [clauses(p), clauses(q)].concat(),
+        Assertion::Either(p, q) => {
             let mut all = Vec::new();
             for left in clauses(p) {
                 for right in clauses(q) {
@@ -30,14 +30,14 @@ fn clauses(a: &F) -> Vec<Vec<F>> {
     }
 }
 
-fn merged(left: &[F], right: &[F]) -> Vec<F> {
-    let new: Vec<F> = right.iter().filter(|d| !left.contains(d)).cloned().collect();
+fn merged(left: &[A], right: &[A]) -> Vec<A> {
+    let new: Vec<A> = right.iter().filter(|d| !left.contains(d)).cloned().collect();
     [left.to_vec(), new].concat()
 }
 
 /// Without clauses that contain another one.
-fn least(all: Vec<Vec<F>>) -> Vec<Vec<F>> {
-    let mut kept: Vec<Vec<F>> = Vec::new();
+fn least(all: Vec<Vec<A>>) -> Vec<Vec<A>> {
+    let mut kept: Vec<Vec<A>> = Vec::new();
     let mut sorted = all;
     sorted.sort_by_key(|c| c.len());
     for clause in sorted {
@@ -48,22 +48,26 @@ fn least(all: Vec<Vec<F>>) -> Vec<Vec<F>> {
     kept
 }
 
-fn has_both(a: &F) -> bool {
-    any(a, &|n| matches!(n, Both(..)))
+fn has_both(a: &A) -> bool {
+    match &**a {
+        Assertion::Both(..) => true,
+        Assertion::Either(p, q) => has_both(p) || has_both(q),
+        _ => false,
+    }
 }
 
 impl Prover<'_> {
     /// The goal by its clauses, for a load and a disjunction that has a `both` inside.
-    pub fn by_clauses(&mut self, context: &Context, goal: &F) -> Option<Plan> {
-        let inner = matches!(&**goal, Either(..)) && has_both(goal);
-        if !inner || !self.instr(context.at).op.is_load() {
+    pub fn by_clauses(&mut self, context: &Context, goal: &A) -> Option<Plan> {
+        let inner = goal.as_either().is_some() && has_both(goal);
+        if !inner || self.instruction(context.at).load().is_none() {
             return None;
         }
         let all = least(clauses(goal));
         if all.len() > MOST_CLAUSES {
             return None;
         }
-        let joined: Option<Vec<F>> = all.iter().map(|c| fold_right(c, either)).collect();
+        let joined: Option<Vec<A>> = all.iter().map(|c| fold_right(c, either)).collect();
         let apart = fold_right(&joined?, both)?;
         let last = self.fact(20, &apart, goal, &[])?;
         Some(Plan::Then(self.plan(context, &apart).into(), last))
@@ -76,7 +80,7 @@ mod tests {
 
     #[test]
     fn clauses_multiply_out() {
-        let leaf = |n: u8| holds(&equal(&reg(1), &constant(n)));
+        let leaf = |n: u8| holds(&equal(&register(1), &constant(n)));
         let goal = either(&both(&leaf(0), &leaf(1)), &both(&leaf(0), &leaf(2)));
         let all = least(clauses(&goal));
         assert_eq!(all, vec![vec![leaf(0)], vec![leaf(1), leaf(2)]]);

@@ -1,36 +1,35 @@
 //! Rules 3, 4, 5 and 10 along what the acting thread sees: the head of a chop is taken off.
 
-use crate::formula::*;
-use crate::program::Op;
-use crate::rules::triple::{before_load, keeps};
 use crate::search::plan::Plan;
 use crate::search::prover::{At, Line, Prover};
 use crate::search::triple::Context;
-use Node::*;
+use crate::terms::*;
+use reference::checker::rules::{before_load, covered_till_last, keeps};
+use reference::formula::atoms::Atoms;
+use reference::formula::{Assertion, Interval, Test};
 
 /// The tests of a disjunction about register r, as one test.
-fn tests_in(goal: &F, r: u8) -> Option<F> {
+fn tests_in(goal: &A, r: u8) -> Option<T> {
     match &**goal {
-        Either(a, b) => match (tests_in(a, r), tests_in(b, r)) {
+        Assertion::Either(a, b) => match (tests_in(a, r), tests_in(b, r)) {
             (Some(p), Some(q)) => Some(or(&p, &q)),
             (p, q) => p.or(q),
         },
-        Holds(e) if !lacks_reg(e, r) => Some(e.clone()),
+        Assertion::Holds(e) if e.has_register(r) => Some(e.clone()),
         _ => None,
     }
 }
 
 impl Prover<'_> {
     /// For each view of the acting thread, alone or with another, the triple from it to the goal.
-    pub fn ways_by_heads(&mut self, context: &Context, goal: &F, ways: &mut Vec<Plan>) {
-        let instr = self.instr(context.at);
-        if instr.op == Op::Assign || matches!(&**goal, Both(..)) {
+    pub fn ways_by_heads(&mut self, context: &Context, goal: &A, ways: &mut Vec<Plan>) {
+        if self.instruction(context.at).assignment().is_some() || goal.as_both().is_some() {
             return;
         }
         let seen = context.seen_by(context.at.thread);
         let mut views = seen.clone();
         for (n, i) in seen.iter().enumerate() {
-            views.extend(seen[n + 1..].iter().map(|k| meet(i, k)));
+            views.extend(seen[n + 1..].iter().map(|k| both(i, k)));
         }
         for i in views {
             ways.extend(self.via_view(context.at, &i, goal).map(Plan::Ready));
@@ -38,9 +37,8 @@ impl Prover<'_> {
     }
 
     /// {t sees I} c {goal}, for the acting thread t.
-    fn via_view(&mut self, at: At, i: &F, goal: &F) -> Option<Line> {
-        let form = crate::rules::Form::Triple(at.thread, at.point);
-        if let Some(line) = self.lines.find(form, &sees(at.thread, i), goal) {
+    fn via_view(&mut self, at: At, i: &I, goal: &A) -> Option<Line> {
+        if let Some(line) = self.lines.find(&at.triple(&sees(at.thread, i), goal)) {
             return Some(line);
         }
         self.view_kept(at, i, goal)
@@ -50,9 +48,9 @@ impl Prover<'_> {
     }
 
     /// The view is kept beside an easier goal: in `h and s or Q`, s is left out if the view gives it.
-    fn view_carried(&mut self, at: At, i: &F, goal: &F) -> Option<Line> {
+    fn view_carried(&mut self, at: At, i: &I, goal: &A) -> Option<Line> {
         let view = sees(at.thread, i);
-        if !keeps(&self.instr(at), &view) {
+        if keeps(&self.instruction(at), view.as_ref()) != Some(true) {
             return None;
         }
         let easier = self.without_given(&view, goal);
@@ -68,19 +66,21 @@ impl Prover<'_> {
     }
 
     /// The disjunction without the parts of its conjunctions that the view gives.
-    fn without_given(&mut self, view: &F, goal: &F) -> F {
+    fn without_given(&mut self, view: &A, goal: &A) -> A {
         match &**goal {
-            Either(a, b) => either(&self.without_given(view, a), &self.without_given(view, b)),
-            Both(a, b) if self.implied(view, a).is_some() => self.without_given(view, b),
-            Both(a, b) if self.implied(view, b).is_some() => self.without_given(view, a),
+            Assertion::Either(a, b) => {
+                either(&self.without_given(view, a), &self.without_given(view, b))
+            }
+            Assertion::Both(a, b) if self.implied(view, a).is_some() => self.without_given(view, b),
+            Assertion::Both(a, b) if self.implied(view, b).is_some() => self.without_given(view, a),
             _ => goal.clone(),
         }
     }
 
     /// The view is kept by rule 1 and gives the goal.
-    fn view_kept(&mut self, at: At, i: &F, goal: &F) -> Option<Line> {
+    fn view_kept(&mut self, at: At, i: &I, goal: &A) -> Option<Line> {
         let view = sees(at.thread, i);
-        if !keeps(&self.instr(at), &view) {
+        if keeps(&self.instruction(at), view.as_ref()) != Some(true) {
             return None;
         }
         let last = self.implied(&view, goal)?;
@@ -89,7 +89,7 @@ impl Prover<'_> {
     }
 
     /// Rule 16 about a triple, without identities where nothing changes.
-    fn around(&mut self, at: At, view: &F, triple: Line, last: Line) -> Option<Line> {
+    fn around(&mut self, at: At, view: &A, triple: Line, last: Line) -> Option<Line> {
         let before = self.left(triple);
         let first = if *view == before { None } else { Some(self.implied(view, &before)?) };
         let last = if self.left(last) == self.right(last) { None } else { Some(last) };
@@ -97,17 +97,17 @@ impl Prover<'_> {
     }
 
     /// Rules 3, 6 and 11, which start from what t alone sees.
-    fn view_used(&mut self, at: At, i: &F, goal: &F) -> Option<Line> {
-        let instr = self.instr(at);
-        let x = instr.word()?;
-        let (rule, before, after) = match (instr.op, &instr.formula) {
-            (Op::Load | Op::LoadAcquire, _) => {
-                let e = tests_in(goal, instr.a)?;
-                (3, test(&before_load(&instr, &e)), holds(&e))
-            }
-            (Op::Swap, Some(v)) => (11, covered_then_one(x), sees(at.thread, &one_of(x, v))),
-            (_, Some(v)) => (6, f(One(x)), sees(at.thread, &one_of(x, v))),
-            _ => return None,
+    fn view_used(&mut self, at: At, i: &I, goal: &A) -> Option<Line> {
+        let instruction = self.instruction(at);
+        let (rule, before, after): (u8, I, A) = if let Some(load) = instruction.load() {
+            let e = tests_in(goal, load.register)?;
+            (3, before_load(&e, &load).into(), holds(&e))
+        } else if let Some(swap) = instruction.swap() {
+            let before = covered_till_last(swap.word);
+            (11, before.into(), sees(at.thread, &swap.settled().into()))
+        } else {
+            let store = instruction.store()?;
+            (6, Interval::One(store.word).into(), sees(at.thread, &store.settled().into()))
         };
         self.include(i, &before)?;
         let last = self.implied(&after, goal)?;
@@ -115,34 +115,33 @@ impl Prover<'_> {
         self.around(at, &sees(at.thread, i), line, last)
     }
 
-    /// The tests that may be taken off the front, with their rules.
-    fn heads(&self, at: At, goal: &F) -> Vec<(u8, F, Option<F>)> {
-        let instr = self.instr(at);
-        let Some(x) = instr.word() else { return Vec::new() };
-        let mut all = Vec::new();
-        if matches!(instr.op, Op::LoadAcquire | Op::Swap) {
-            all.push((5, f(Unsync(x)), None));
+    /// What may be taken off the front, with the rule and for a load the test that it then makes true.
+    fn heads(&self, at: At, goal: &A) -> Vec<(u8, I, Option<T>)> {
+        let instruction = self.instruction(at);
+        let mut found = Vec::new();
+        if let Some(x) = instruction.joined_word() {
+            found.push((5, all(&Test::Unsync(x).into()), None));
         }
-        if instr.op.writes() {
-            all.push((10, f(Cov(x)), None));
+        if let Some(x) = instruction.written_word() {
+            found.push((10, all(&Test::Covered(x).into()), None));
         }
-        if instr.op.is_load() {
-            if let Some(e) = tests_in(goal, instr.a) {
-                all.push((4, before_load(&instr, &e), Some(e)));
+        if let Some(load) = instruction.load() {
+            if let Some(e) = tests_in(goal, load.register) {
+                found.push((4, before_load(&e, &load).into(), Some(e)));
             }
         }
-        all
+        found
     }
 
     /// One head taken off: the rest must lead to the goal.
-    fn head_off(&mut self, at: At, i: &F, goal: &F) -> Option<Line> {
+    fn head_off(&mut self, at: At, i: &I, goal: &A) -> Option<Line> {
         for (a, b) in self.fronts_of(i) {
-            for (rule, e, read) in self.heads(at, goal) {
-                if self.include(&a, &test(&e)).is_none() {
+            for (rule, head, read) in self.heads(at, goal) {
+                if self.include(&a, &head).is_none() {
                     continue;
                 }
                 let Some(rest) = self.via_view(at, &b, goal) else { continue };
-                let before = sees(at.thread, &chop(&test(&e), &b));
+                let before = sees(at.thread, &chop(&head, &b));
                 let after = match &read {
                     Some(g) => either(&holds(g), goal),
                     None => goal.clone(),
@@ -156,14 +155,14 @@ impl Prover<'_> {
     }
 
     /// Ways to read an interval as front and rest: turned to the right, or spread by rule 38.
-    fn fronts_of(&self, i: &F) -> Vec<(F, F)> {
+    fn fronts_of(&self, i: &I) -> Vec<(I, I)> {
         match &**i {
-            Chop(a, b) => match &**a {
-                Chop(a1, a2) => self.fronts_of(&chop(a1, &chop(a2, b))),
+            Interval::Chop(a, b) => match &**a {
+                Interval::Chop(a1, a2) => self.fronts_of(&chop(a1, &chop(a2, b))),
                 _ => vec![(a.clone(), b.clone())],
             },
-            Meet(k, m) => {
-                let spread = |whole: &F, (a, b): (F, F)| (meet(whole, &a), meet(whole, &b));
+            Interval::Both(k, m) => {
+                let spread = |whole: &I, (a, b): (I, I)| (both(whole, &a), both(whole, &b));
                 let right = self.fronts_of(m).into_iter().map(|c| spread(k, c));
                 let left = self.fronts_of(k).into_iter().map(|c| spread(m, c));
                 right.chain(left).collect()

@@ -1,15 +1,16 @@
 //! Search for implications: rule 20 over premises that cover every case.
 
-use crate::formula::*;
 use crate::search::cases::cases;
-use crate::search::prover::{Line, Prover};
-use crate::table;
-use Node::*;
+use crate::search::prover::{implication, Line, Prover};
+use crate::terms::*;
+use reference::checker::rules::table::implies_by_table;
+use reference::checker::rules::MOST_PREMISES;
+use reference::formula::Assertion;
 
 impl Prover<'_> {
     /// A line for P to Q, if the search finds one.
-    pub fn implied(&mut self, p: &F, q: &F) -> Option<Line> {
-        if let Some(line) = self.lines.find(crate::rules::Form::Implication, p, q) {
+    pub fn implied(&mut self, p: &A, q: &A) -> Option<Line> {
+        if let Some(line) = self.lines.find(&implication(p, q)) {
             return Some(line);
         }
         let key = (p.clone(), q.clone());
@@ -23,7 +24,7 @@ impl Prover<'_> {
         found
     }
 
-    fn implied_by_shape(&mut self, p: &F, q: &F) -> Option<Line> {
+    fn implied_by_shape(&mut self, p: &A, q: &A) -> Option<Line> {
         if p == q {
             return self.identity(p);
         }
@@ -38,7 +39,7 @@ impl Prover<'_> {
     }
 
     /// Implications that together cover every case of p.
-    pub fn premises_for(&mut self, p: &F, q: &F) -> Option<Vec<Line>> {
+    pub fn premises_for(&mut self, p: &A, q: &A) -> Option<Vec<Line>> {
         let mut all = Vec::new();
         for case in cases(p)? {
             for line in self.support(&case, q)? {
@@ -51,7 +52,7 @@ impl Prover<'_> {
     }
 
     /// One line of rule 20, with as few of the premises as will do.
-    fn by_table(&mut self, p: &F, q: &F, premises: &[Line]) -> Option<Line> {
+    fn by_table(&mut self, p: &A, q: &A, premises: &[Line]) -> Option<Line> {
         let mut kept = premises.to_vec();
         for line in premises {
             let fewer: Vec<Line> = kept.iter().copied().filter(|l| l != line).collect();
@@ -65,23 +66,24 @@ impl Prover<'_> {
         self.fact(20, p, q, &kept)
     }
 
-    fn enough(&self, p: &F, q: &F, premises: &[Line]) -> bool {
-        let pairs: Vec<(F, F)> = premises.iter().map(|l| (self.left(*l), self.right(*l))).collect();
-        table::gives(p, q, &pairs)
+    fn enough(&self, p: &A, q: &A, premises: &[Line]) -> bool {
+        let sides: Vec<(&A, &A)> =
+            premises.iter().map(|l| self.statement(*l).assertions()).collect();
+        premises.len() <= MOST_PREMISES && implies_by_table((p, q), &sides) == Some(true)
     }
 
     /// Too many premises at once: prove the two halves of the goal apart.
-    fn split_goal(&mut self, p: &F, q: &F) -> Option<Line> {
-        let Both(a, b) = &**q else { return None };
+    fn split_goal(&mut self, p: &A, q: &A) -> Option<Line> {
+        let (a, b) = q.as_both()?;
         let premises = [self.implied(p, a)?, self.implied(p, b)?];
         self.fact(20, p, q, &premises)
     }
 
     /// Too many premises at once: prove the sides of a disjunction in p apart.
-    fn split_cases(&mut self, p: &F, q: &F) -> Option<Line> {
+    fn split_cases(&mut self, p: &A, q: &A) -> Option<Line> {
         let parts = conjuncts(p);
-        let at = parts.iter().position(|c| matches!(&**c, Either(..)))?;
-        let Either(a, b) = &*parts[at].clone() else { return None };
+        let (at, (a, b)) =
+            parts.iter().enumerate().find_map(|(at, c)| Some((at, c.as_either()?)))?;
         let mut premises = Vec::new();
         for side in [a, b] {
             let mut own = parts.clone();
@@ -92,7 +94,7 @@ impl Prover<'_> {
     }
 
     /// Too many leaves at once: leave out parts of p that are not needed.
-    fn drop_parts(&mut self, p: &F, q: &F) -> Option<Line> {
+    fn drop_parts(&mut self, p: &A, q: &A) -> Option<Line> {
         let small = self.least_part(p, q)?;
         if small == *p {
             return None;
@@ -103,7 +105,7 @@ impl Prover<'_> {
     }
 
     /// The conjuncts of p that q needs, joined again.
-    pub fn least_part(&mut self, p: &F, q: &F) -> Option<F> {
+    pub fn least_part(&mut self, p: &A, q: &A) -> Option<A> {
         let mut parts = conjuncts(p);
         let mut at = 0;
         while at < parts.len() && parts.len() > 1 {
@@ -121,16 +123,9 @@ impl Prover<'_> {
 }
 
 /// The parts of nested `both`, each once.
-pub fn conjuncts(a: &F) -> Vec<F> {
-    let mut all: Vec<F> = Vec::new();
-    let parts = match &**a {
-        Both(p, q) => [conjuncts(p), conjuncts(q)].concat(),
+pub fn conjuncts(a: &A) -> Vec<A> {
+    unique(match &**a {
+        Assertion::Both(p, q) => [conjuncts(p), conjuncts(q)].concat(),
         _ => vec![a.clone()],
-    };
-    for part in parts {
-        if !all.contains(&part) {
-            all.push(part);
-        }
-    }
-    all
+    })
 }

@@ -3,9 +3,9 @@
 //! A plan is a tree of triples. Its precondition is put together from the
 //! alternatives that the cases at hand make use of; the others are left out.
 
-use crate::formula::*;
 use crate::search::cases::Case;
 use crate::search::prover::{At, Line, Prover};
+use crate::terms::*;
 
 /// A way to a goal, or several.
 #[derive(Debug, Clone)]
@@ -17,7 +17,7 @@ pub enum Plan {
     /// Rule 15: one side or the other.
     Side(Box<Plan>, Box<Plan>),
     /// Different ways to one goal, perhaps none.
-    Any(F, Vec<Plan>),
+    Any(A, Vec<Plan>),
     /// A plan, then an implication.
     Then(Box<Plan>, Line),
 }
@@ -138,7 +138,7 @@ impl Prover<'_> {
     }
 
     /// What a plan brings about.
-    pub fn goal(&self, plan: &Plan) -> F {
+    pub fn goal(&self, plan: &Plan) -> A {
         match plan {
             Plan::Ready(line) | Plan::Then(_, line) => self.right(*line),
             Plan::All(a, b) => both(&self.goal(a), &self.goal(b)),
@@ -148,7 +148,7 @@ impl Prover<'_> {
     }
 
     /// The preconditions of a plan's ways, for messages.
-    pub fn ways(&self, plan: &Plan, found: &mut Vec<F>) {
+    pub fn ways(&self, plan: &Plan, found: &mut Vec<A>) {
         match plan {
             Plan::Ready(line) => {
                 if !found.contains(&self.left(*line)) {

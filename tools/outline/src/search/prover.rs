@@ -1,9 +1,10 @@
 //! The search for lines: what all its parts share.
 
-use crate::formula::*;
-use crate::program::{Instr, Program};
-use crate::rules::{Conclusion, Form};
 use crate::search::certificate::Certificate;
+use crate::terms::*;
+use crate::text::print::Names;
+use reference::checker::rules::rows::implies_by_rows;
+use reference::image::{Instruction, Program, Statement};
 use std::collections::{HashMap, HashSet};
 
 /// A place in the certificate.
@@ -14,24 +15,24 @@ pub struct Prover<'a> {
     pub program: &'a Program,
     pub lines: Certificate,
     /// Inclusions that were not found, with the depth that was tried.
-    pub missed: HashMap<(F, F), u8>,
+    pub missed: HashMap<(I, I), u8>,
     /// Implications that were not found.
-    pub refuted: HashSet<(F, F)>,
+    pub refuted: HashSet<(A, A)>,
     /// Lines without premises that do not fit their rule: rows are slow to try again.
-    pub unfit: HashSet<(u8, Conclusion)>,
+    pub unfit: HashSet<(u8, Statement)>,
     /// What was found by rows.
-    pub rows: HashMap<(F, F), bool>,
+    pub rows: HashMap<(T, T), bool>,
     /// Implications that the writer named.
     pub facts: Vec<Line>,
     /// Triples that the writer named.
     pub steps: Vec<Line>,
     /// What was tried for the obligation at hand, for the message if it stays open.
     pub tried: Vec<String>,
-    pub names: crate::text::print::Names,
+    pub names: Names,
 }
 
 impl<'a> Prover<'a> {
-    pub fn new(program: &'a Program, names: crate::text::print::Names) -> Self {
+    pub fn new(program: &'a Program, names: Names) -> Self {
         Prover {
             program,
             lines: Certificate::default(),
@@ -46,26 +47,20 @@ impl<'a> Prover<'a> {
         }
     }
 
-    pub fn conclusion(&self, line: Line) -> &Conclusion {
-        &self.lines.entries[line].conclusion
+    pub fn statement(&self, line: Line) -> &Statement {
+        &self.lines.entries[line].statement
     }
-    pub fn left(&self, line: Line) -> F {
-        self.conclusion(line).left.clone()
+    /// The left side of an implication or a triple.
+    pub fn left(&self, line: Line) -> A {
+        self.statement(line).assertions().0.clone()
     }
-    pub fn right(&self, line: Line) -> F {
-        self.conclusion(line).right.clone()
+    /// The right side of an implication or a triple.
+    pub fn right(&self, line: Line) -> A {
+        self.statement(line).assertions().1.clone()
     }
 
-    fn add(
-        &mut self,
-        form: Form,
-        rule: u8,
-        left: &F,
-        right: &F,
-        premises: &[Line],
-    ) -> Option<Line> {
-        let c = Conclusion { form, left: left.clone(), right: right.clone() };
-        let key = (rule, c);
+    fn add(&mut self, rule: u8, statement: Statement, premises: &[Line]) -> Option<Line> {
+        let key = (rule, statement);
         if premises.is_empty() && self.unfit.contains(&key) {
             return None;
         }
@@ -77,19 +72,19 @@ impl<'a> Prover<'a> {
     }
 
     /// Does one test imply another by rows? Each pair is tried once.
-    pub fn by_rows(&mut self, left: &F, right: &F) -> bool {
+    pub fn by_rows(&mut self, left: &T, right: &T) -> bool {
         let key = (left.clone(), right.clone());
-        *self.rows.entry(key).or_insert_with(|| crate::rows::implies(left, right))
+        *self.rows.entry(key).or_insert_with(|| implies_by_rows(left, right) == Some(true))
     }
 
     /// An inclusion line, if it fits its rule.
-    pub fn part(&mut self, rule: u8, left: &F, right: &F, premises: &[Line]) -> Option<Line> {
-        self.add(Form::Inclusion, rule, left, right, premises)
+    pub fn part(&mut self, rule: u8, left: &I, right: &I, premises: &[Line]) -> Option<Line> {
+        self.add(rule, inclusion(left, right), premises)
     }
 
     /// An implication line, if it fits its rule.
-    pub fn fact(&mut self, rule: u8, left: &F, right: &F, premises: &[Line]) -> Option<Line> {
-        self.add(Form::Implication, rule, left, right, premises)
+    pub fn fact(&mut self, rule: u8, left: &A, right: &A, premises: &[Line]) -> Option<Line> {
+        self.add(rule, implication(left, right), premises)
     }
 
     /// A triple line, if it fits its rule.
@@ -97,16 +92,16 @@ impl<'a> Prover<'a> {
         &mut self,
         at: At,
         rule: u8,
-        left: &F,
-        right: &F,
+        left: &A,
+        right: &A,
         premises: &[Line],
     ) -> Option<Line> {
-        self.add(Form::Triple(at.thread, at.point), rule, left, right, premises)
+        self.add(rule, at.triple(left, right), premises)
     }
 
     /// The instruction at a place that has one.
-    pub fn instr(&self, at: At) -> Instr {
-        self.program.instr(at.thread, at.point).expect("an instruction stands here").clone()
+    pub fn instruction(&self, at: At) -> Instruction {
+        self.program.instruction(at.thread, at.point).expect("an instruction stands here").clone()
     }
 
     /// Rule 16; a missing implication is the identity, and none at all needs no line.
@@ -134,7 +129,7 @@ impl<'a> Prover<'a> {
     }
 
     /// P to P: by table, or by rows or inclusion where there are too many leaves.
-    pub fn identity(&mut self, p: &F) -> Option<Line> {
+    pub fn identity(&mut self, p: &A) -> Option<Line> {
         if let Some(line) = self.fact(20, p, p, &[]) {
             return Some(line);
         }
@@ -159,4 +154,20 @@ impl<'a> Prover<'a> {
 pub struct At {
     pub thread: u8,
     pub point: u8,
+}
+
+impl At {
+    /// The instruction here takes the left side to the right one.
+    pub fn triple(self, left: &A, right: &A) -> Statement {
+        let At { thread, point } = self;
+        Statement::Triple { thread, point, left: left.clone(), right: right.clone() }
+    }
+}
+
+pub fn implication(left: &A, right: &A) -> Statement {
+    Statement::Implication { left: left.clone(), right: right.clone() }
+}
+
+pub fn inclusion(left: &I, right: &I) -> Statement {
+    Statement::Inclusion { left: left.clone(), right: right.clone() }
 }

@@ -1,21 +1,21 @@
 //! Does a case give a wanted assertion, and by which implications?
 
-use crate::formula::*;
 use crate::search::cases::Case;
-use crate::search::interval::{hull, meet_parts};
+use crate::search::interval::{both_parts, hull};
 use crate::search::prover::{Line, Prover};
-use crate::table;
-use Node::*;
+use crate::terms::*;
+use reference::checker::rules::table::implies_by_table;
+use reference::formula::{Assertion, Test};
 
 /// A test with `not` pushed inwards and `and`, `or` turned into assertions, so that each leaf is alone.
-pub fn expand(e: &F) -> F {
+pub fn expand(e: &T) -> A {
     match &**e {
-        And(a, b) => both(&expand(a), &expand(b)),
-        Or(a, b) => either(&expand(a), &expand(b)),
-        Not(n) => match &**n {
-            And(a, b) => either(&expand(&not(a)), &expand(&not(b))),
-            Or(a, b) => both(&expand(&not(a)), &expand(&not(b))),
-            Not(a) => expand(a),
+        Test::And(a, b) => both(&expand(a), &expand(b)),
+        Test::Or(a, b) => either(&expand(a), &expand(b)),
+        Test::Not(n) => match &**n {
+            Test::And(a, b) => either(&expand(&not(a)), &expand(&not(b))),
+            Test::Or(a, b) => both(&expand(&not(a)), &expand(&not(b))),
+            Test::Not(a) => expand(a),
             _ => holds(e),
         },
         _ => holds(e),
@@ -24,7 +24,7 @@ pub fn expand(e: &F) -> F {
 
 impl Prover<'_> {
     /// The implications by which the case gives the goal; none are needed if it is plain.
-    pub fn support(&mut self, case: &Case, goal: &F) -> Option<Vec<Line>> {
+    pub fn support(&mut self, case: &Case, goal: &A) -> Option<Vec<Line>> {
         let (case, named) = self.with_facts(case);
         let mut found = match self.support_parts(&case, goal) {
             Some(found) => found,
@@ -35,7 +35,7 @@ impl Prover<'_> {
     }
 
     /// Does the case give the goal without being impossible?
-    pub fn serves(&mut self, case: &Case, goal: &F) -> bool {
+    pub fn serves(&mut self, case: &Case, goal: &A) -> bool {
         let (case, _) = self.with_facts(case);
         self.support_parts(&case, goal).is_some()
     }
@@ -58,37 +58,37 @@ impl Prover<'_> {
         (more, used)
     }
 
-    fn support_parts(&mut self, case: &Case, goal: &F) -> Option<Vec<Line>> {
+    fn support_parts(&mut self, case: &Case, goal: &A) -> Option<Vec<Line>> {
         if case.satisfies(goal) {
             return Some(Vec::new());
         }
         match &**goal {
-            Both(a, b) => {
+            Assertion::Both(a, b) => {
                 let mut found = self.support_parts(case, a)?;
                 found.extend(self.support_parts(case, b)?);
                 Some(found)
             }
-            Either(a, b) => {
+            Assertion::Either(a, b) => {
                 let (x, y) = (self.support_parts(case, a), self.support_parts(case, b));
                 match (x, y) {
                     (Some(x), Some(y)) => Some(if y.len() < x.len() { y } else { x }),
                     (x, y) => x.or(y),
                 }
             }
-            Sees(u, j) => Some(vec![self.support_sees(case, *u, j)?]),
-            Holds(e) => self.support_test(case, e),
-            _ => None,
+            Assertion::Sees(u, j) => Some(vec![self.support_sees(case, *u, j)?]),
+            Assertion::Holds(e) => self.support_test(case, e),
+            Assertion::Start => None,
         }
     }
 
-    fn support_test(&mut self, case: &Case, e: &F) -> Option<Vec<Line>> {
+    fn support_test(&mut self, case: &Case, e: &T) -> Option<Vec<Line>> {
         if let Some(known) = fold_right(&case.tests, and) {
-            if table::gives(&holds(&known), &holds(e), &[]) {
+            if implies_by_table((&holds(&known), &holds(e)), &[]) == Some(true) {
                 return Some(Vec::new());
             }
         }
         let goal = holds(e);
-        if let Some(near) = case.tests_about(e) {
+        if let Some(near) = case.tests_about(e.as_ref()) {
             if let Some(line) = self.fact(21, &holds(&near), &goal, &[]) {
                 return Some(vec![line]);
             }
@@ -107,11 +107,11 @@ impl Prover<'_> {
     }
 
     /// Rule 23: what a thread sees tells of registers, alone or with what is known of them.
-    fn test_from_views(&mut self, case: &Case, e: &F) -> Option<Line> {
+    fn test_from_views(&mut self, case: &Case, e: &T) -> Option<Line> {
         if case.start {
             return self.start_gives_test(e);
         }
-        let near = case.tests_about(e);
+        let near = case.tests_about(e.as_ref());
         for u in self.program.thread_numbers() {
             for i in case.seen_by(u) {
                 for h in hulls(&i) {
@@ -126,9 +126,9 @@ impl Prover<'_> {
     }
 
     /// `u sees I` to `holds e`, by the test h that holds throughout I.
-    pub fn view_gives_test(&mut self, u: u8, i: &F, h: &F, e: &F) -> Option<Line> {
-        let (seen, plain) = (sees(u, i), sees(u, &test(h)));
-        let inclusion = self.include(i, &test(h))?;
+    pub fn view_gives_test(&mut self, u: u8, i: &I, h: &T, e: &T) -> Option<Line> {
+        let (seen, plain) = (sees(u, i), sees(u, &all(h)));
+        let inclusion = self.include(i, &all(h))?;
         let first = self.fact(22, &seen, &plain, &[inclusion])?;
         let second = self.fact(23, &plain, &holds(e), &[])?;
         self.chain(first, second)
@@ -136,9 +136,9 @@ impl Prover<'_> {
 
     /// Tests or views that cannot be true together: an implication to `false`.
     pub fn contradiction(&mut self, case: &Case) -> Option<Line> {
-        let nothing = holds(&f(False));
-        if let Some(all) = fold_right(&case.tests, and) {
-            if let Some(line) = self.fact(21, &holds(&all), &nothing, &[]) {
+        let nothing = holds(&falsehood());
+        if let Some(known) = fold_right(&case.tests, and) {
+            if let Some(line) = self.fact(21, &holds(&known), &nothing, &[]) {
                 return Some(line);
             }
         }
@@ -154,19 +154,19 @@ impl Prover<'_> {
     }
 
     /// One view against the tests, then against each of the others.
-    fn views_clash(&mut self, case: &Case, u: u8, i: &F, others: &[F]) -> Option<Line> {
+    fn views_clash(&mut self, case: &Case, u: u8, i: &I, others: &[I]) -> Option<Line> {
         for h in hulls(i) {
-            if self.by_rows(&h, &f(False)) {
-                return self.view_gives_test(u, i, &h, &f(False));
+            if self.by_rows(&h, &falsehood()) {
+                return self.view_gives_test(u, i, &h, &falsehood());
             }
-            if let Some(near) = case.tests_about(&h) {
+            if let Some(near) = case.tests_about(h.as_ref()) {
                 if self.by_rows(&h, &not(&near)) {
                     return self.view_gives_test(u, i, &h, &not(&near));
                 }
             }
             for k in others {
                 for g in hulls(k) {
-                    if self.by_rows(&and(&h, &g), &f(False)) {
+                    if self.by_rows(&and(&h, &g), &falsehood()) {
                         return self.pair_clashes(u, (i, &h), (k, &g));
                     }
                 }
@@ -176,46 +176,40 @@ impl Prover<'_> {
     }
 
     /// Two views whose tests h and g exclude each other.
-    fn pair_clashes(&mut self, u: u8, (i, h): (&F, &F), (k, g): (&F, &F)) -> Option<Line> {
+    fn pair_clashes(&mut self, u: u8, (i, h): (&I, &T), (k, g): (&I, &T)) -> Option<Line> {
         let (first, pair) = self.gather(u, &[self.seen(u, i), self.seen(u, k)])?;
-        let second = self.view_gives_test(u, &pair, &and(h, g), &f(False))?;
+        let second = self.view_gives_test(u, &pair, &and(h, g), &falsehood())?;
         self.chain(first, second)
     }
 }
 
 /// Tests that hold throughout an interval: of each part joined by `&`, of the whole, and at last
 /// the parts of those joined by `and`, since fewer names make fewer rows.
-fn hulls(i: &F) -> Vec<F> {
-    let mut all: Vec<F> = meet_parts(i).iter().filter_map(hull).collect();
-    all.extend(hull(i));
-    let parts: Vec<F> = all.iter().flat_map(and_parts).collect();
-    all.extend(parts);
-    let mut each: Vec<F> = Vec::new();
-    all.into_iter().for_each(|h| {
-        if !each.contains(&h) {
-            each.push(h);
-        }
-    });
-    each
+fn hulls(i: &I) -> Vec<T> {
+    let mut tests: Vec<T> = both_parts(i).iter().filter_map(hull).collect();
+    tests.extend(hull(i));
+    let parts: Vec<T> = tests.iter().flat_map(and_parts).collect();
+    tests.extend(parts);
+    unique(tests)
 }
 
 /// The parts of nested `and`.
-fn and_parts(e: &F) -> Vec<F> {
+fn and_parts(e: &T) -> Vec<T> {
     match &**e {
-        And(a, b) => [and_parts(a), and_parts(b)].concat(),
+        Test::And(a, b) => [and_parts(a), and_parts(b)].concat(),
         _ => vec![e.clone()],
     }
 }
 
 /// Adds the leaves of a conjunction to a case.
-fn add_leaves(a: &F, case: &mut Case) {
+fn add_leaves(a: &A, case: &mut Case) {
     match &**a {
-        Both(p, q) => {
+        Assertion::Both(p, q) => {
             add_leaves(p, case);
             add_leaves(q, case);
         }
-        Sees(..) if !case.sees.contains(a) => case.sees.push(a.clone()),
-        Holds(e) if !case.tests.contains(e) => case.tests.push(e.clone()),
+        Assertion::Sees(..) if !case.sees.contains(a) => case.sees.push(a.clone()),
+        Assertion::Holds(e) if !case.tests.contains(e) => case.tests.push(e.clone()),
         _ => {}
     }
 }

@@ -1,26 +1,26 @@
 //! How a case gives `u sees J`: from views, from tests, from the start, or from several together.
 
-use crate::formula::*;
 use crate::search::cases::Case;
 use crate::search::prover::{Line, Prover};
-use Node::*;
+use crate::terms::*;
+use reference::formula::{Assertion, Interval};
 
 /// Something that gives `u sees I`: itself, or an assertion with the line that says so.
 #[derive(Debug, Clone)]
 pub struct Given {
-    pub from: F,
-    pub interval: F,
+    pub from: A,
+    pub interval: I,
     pub line: Option<Line>,
 }
 
 impl Prover<'_> {
     /// A view of u as something given.
-    pub fn seen(&self, u: u8, i: &F) -> Given {
+    pub fn seen(&self, u: u8, i: &I) -> Given {
         Given { from: sees(u, i), interval: i.clone(), line: None }
     }
 
     /// An implication from leaves of the case to `u sees J`.
-    pub fn support_sees(&mut self, case: &Case, u: u8, j: &F) -> Option<Line> {
+    pub fn support_sees(&mut self, case: &Case, u: u8, j: &I) -> Option<Line> {
         if case.start {
             return self.start_gives_view(u, j);
         }
@@ -34,34 +34,34 @@ impl Prover<'_> {
             return Some(line);
         }
         let mut given: Vec<Given> = seen.iter().map(|i| self.seen(u, i)).collect();
-        if let Some(near) = case.tests_about(j) {
+        if let Some(near) = case.tests_about(j.as_ref()) {
             if let Some(line) = self.tests_give_view(&near, u, j) {
                 return Some(line);
             }
-            let line = self.tests_give_view(&near, u, &test(&near));
-            given.push(Given { from: holds(&near), interval: test(&near), line });
+            let line = self.tests_give_view(&near, u, &all(&near));
+            given.push(Given { from: holds(&near), interval: all(&near), line });
         }
         self.joint_view(u, &given, j)
     }
 
     /// `u sees I` to `u sees J` by an inclusion.
-    pub fn view_gives_view(&mut self, u: u8, i: &F, j: &F) -> Option<Line> {
+    pub fn view_gives_view(&mut self, u: u8, i: &I, j: &I) -> Option<Line> {
         let inclusion = self.include(i, j)?;
         self.fact(22, &sees(u, i), &sees(u, j), &[inclusion])
     }
 
     /// `holds e` to `u sees J`: by rows if J is a test, else through `[e]`.
-    fn tests_give_view(&mut self, e: &F, u: u8, j: &F) -> Option<Line> {
+    fn tests_give_view(&mut self, e: &T, u: u8, j: &I) -> Option<Line> {
         if let Some(line) = self.fact(24, &holds(e), &sees(u, j), &[]) {
             return Some(line);
         }
-        let second = self.view_gives_view(u, &test(e), j)?;
-        let first = self.fact(24, &holds(e), &sees(u, &test(e)), &[])?;
+        let second = self.view_gives_view(u, &all(e), j)?;
+        let first = self.fact(24, &holds(e), &sees(u, &all(e)), &[])?;
         self.chain(first, second)
     }
 
     /// Pairs first, then all together, so that premises stay small.
-    fn joint_view(&mut self, u: u8, given: &[Given], j: &F) -> Option<Line> {
+    fn joint_view(&mut self, u: u8, given: &[Given], j: &I) -> Option<Line> {
         for (n, a) in given.iter().enumerate() {
             for b in &given[n + 1..] {
                 if let Some(line) = self.gathered_view(u, &[a.clone(), b.clone()], j) {
@@ -75,16 +75,16 @@ impl Prover<'_> {
         None
     }
 
-    fn gathered_view(&mut self, u: u8, given: &[Given], j: &F) -> Option<Line> {
-        let intervals: Vec<F> = given.iter().map(|g| g.interval.clone()).collect();
-        let all = fold_right(&intervals, meet)?;
-        let last = self.view_gives_view(u, &all, j)?;
+    fn gathered_view(&mut self, u: u8, given: &[Given], j: &I) -> Option<Line> {
+        let intervals: Vec<I> = given.iter().map(|g| g.interval.clone()).collect();
+        let joint = fold_right(&intervals, both)?;
+        let last = self.view_gives_view(u, &joint, j)?;
         let (first, _) = self.gather(u, given)?;
         self.chain(first, last)
     }
 
     /// All that is given, as one view: rule 25, again and again from the right.
-    pub fn gather(&mut self, u: u8, given: &[Given]) -> Option<(Line, F)> {
+    pub fn gather(&mut self, u: u8, given: &[Given]) -> Option<(Line, I)> {
         let (head, rest) = given.split_first()?;
         if rest.is_empty() {
             let line = match head.line {
@@ -94,7 +94,7 @@ impl Prover<'_> {
             return Some((line, head.interval.clone()));
         }
         let (tail, tail_interval) = self.gather(u, rest)?;
-        let whole = meet(&head.interval, &tail_interval);
+        let whole = both(&head.interval, &tail_interval);
         let pair = both(&sees(u, &head.interval), &sees(u, &tail_interval));
         let join = self.fact(25, &pair, &sees(u, &whole), &[])?;
         let from = if head.from == self.left(tail) {
@@ -114,20 +114,21 @@ impl Prover<'_> {
     }
 
     /// Rules 26 and 27: the start gives each word's value and zero registers.
-    fn start_gives_view(&mut self, u: u8, j: &F) -> Option<Line> {
-        let (words, regs) = names(j);
+    fn start_gives_view(&mut self, u: u8, j: &I) -> Option<Line> {
+        let start: A = Assertion::Start.into();
         let mut given = Vec::new();
-        for x in words {
-            let interval = one_of(x, &constant(self.program.words[x as usize - 1]));
-            let line = self.fact(26, &f(Start), &sees(u, &interval), &[])?;
-            given.push(Given { from: f(Start), interval, line: Some(line) });
+        for x in words_of(j.as_ref()) {
+            let value = self.program.header.start[usize::from(x) - 1];
+            let interval: I = Interval::one_equal(x, constant(value)).into();
+            let line = self.fact(26, &start, &sees(u, &interval), &[])?;
+            given.push(Given { from: start.clone(), interval, line: Some(line) });
         }
-        for r in regs {
-            let zero = equal(&reg(r), &constant(0));
-            let first = self.fact(27, &f(Start), &holds(&zero), &[])?;
-            let second = self.tests_give_view(&zero, u, &test(&zero))?;
+        for r in registers_of(j.as_ref()) {
+            let zero = equal(&register(r), &constant(0));
+            let first = self.fact(27, &start, &holds(&zero), &[])?;
+            let second = self.tests_give_view(&zero, u, &all(&zero))?;
             let line = self.chain(first, second);
-            given.push(Given { from: f(Start), interval: test(&zero), line });
+            given.push(Given { from: start.clone(), interval: all(&zero), line });
         }
         if given.is_empty() {
             return self.tests_give_view(&truth(), u, j);
@@ -136,19 +137,21 @@ impl Prover<'_> {
     }
 
     /// Rule 27 for each register of the test, then rows.
-    pub fn start_gives_test(&mut self, e: &F) -> Option<Line> {
-        let zeros: Vec<F> = names(e).1.into_iter().map(|r| equal(&reg(r), &constant(0))).collect();
+    pub fn start_gives_test(&mut self, e: &T) -> Option<Line> {
+        let start: A = Assertion::Start.into();
+        let registers = registers_of(e.as_ref()).into_iter();
+        let zeros: Vec<T> = registers.map(|r| equal(&register(r), &constant(0))).collect();
         let mut premises = Vec::new();
         for zero in &zeros {
-            premises.push(self.fact(27, &f(Start), &holds(zero), &[])?);
+            premises.push(self.fact(27, &start, &holds(zero), &[])?);
         }
-        let all = fold_right(&zeros, and)?;
-        if zeros.len() > 1 || all != *e {
-            premises.push(self.fact(21, &holds(&all), &holds(e), &[])?);
+        let known = fold_right(&zeros, and)?;
+        if zeros.len() > 1 || known != *e {
+            premises.push(self.fact(21, &holds(&known), &holds(e), &[])?);
         }
         if premises.len() == 1 {
             return premises.pop();
         }
-        self.fact(20, &f(Start), &holds(e), &premises)
+        self.fact(20, &start, &holds(e), &premises)
     }
 }

@@ -1,11 +1,10 @@
 //! What was tried for an obligation that stays open.
 
-use crate::formula::*;
 use crate::search::cases::{cases, Case};
 use crate::search::implication::conjuncts;
 use crate::search::plan::{Choice, Plan};
 use crate::search::prover::{Line, Prover};
-use Node::*;
+use crate::terms::*;
 
 /// How many of the ways tried are listed in a message.
 const MOST_TOLD: usize = 12;
@@ -14,7 +13,7 @@ impl Prover<'_> {
     fn tell_known(&mut self, case: &Case) {
         let tests = case.tests.iter().map(holds);
         let leaves: Vec<String> =
-            case.sees.iter().cloned().chain(tests).map(|a| self.names.show(&a)).collect();
+            case.sees.iter().cloned().chain(tests).map(|a| self.names.assertion(&a)).collect();
         let start = case.start.then(|| "start".to_string());
         let known: Vec<String> = start.into_iter().chain(leaves).collect();
         let text = if known.is_empty() { "nothing is known".into() } else { known.join("; ") };
@@ -25,7 +24,7 @@ impl Prover<'_> {
     pub fn tell_case(&mut self, case: &Case, plan: &Plan) {
         self.tell_known(case);
         for part in self.missing(case, plan) {
-            let text = format!("not reached  {}", self.names.show(&self.goal(&part)));
+            let text = format!("not reached  {}", self.names.assertion(&self.goal(&part)));
             self.tried.push(text);
             self.tell_ways(&part);
         }
@@ -35,11 +34,11 @@ impl Prover<'_> {
     fn tell_ways(&mut self, plan: &Plan) {
         let mut ways = Vec::new();
         self.ways(plan, &mut ways);
-        ways.retain(|w| **w != Holds(f(False)));
+        ways.retain(|w| *w != holds(&falsehood()));
         let first = if ways.is_empty() { "no rule leads there" } else { "would need" };
         for (n, way) in ways.iter().take(MOST_TOLD).enumerate() {
             let lead = if n == 0 { first } else { "or" };
-            let text = format!("  {lead:<10} {}", self.names.show(way));
+            let text = format!("  {lead:<10} {}", self.names.assertion(way));
             self.tried.push(text);
         }
         if ways.len() > MOST_TOLD {
@@ -66,7 +65,7 @@ impl Prover<'_> {
     }
 
     /// The first case of p that does not give q, and the parts of q that are missing there.
-    pub fn tell_implication(&mut self, p: &F, q: &F) -> Option<Line> {
+    pub fn tell_implication(&mut self, p: &A, q: &A) -> Option<Line> {
         let Some(all) = cases(p) else {
             self.tried
                 .push("tried        nothing: more than 10 leaves are too many for rule 20".into());
@@ -79,7 +78,7 @@ impl Prover<'_> {
             self.tell_known(&case);
             for part in conjuncts(q) {
                 if !self.serves(&case, &part) {
-                    let text = format!("missing      {}", self.names.show(&part));
+                    let text = format!("missing      {}", self.names.assertion(&part));
                     self.tried.push(text);
                 }
             }

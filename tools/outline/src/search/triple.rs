@@ -1,49 +1,40 @@
 //! Search for triples: plans by the shape of the goal, then the cases of the left side.
 
-use crate::formula::*;
-use crate::program::Op;
-use crate::rules::triple::{before_load, keeps};
-use crate::rules::Form;
 use crate::search::cases::{cases, Case};
-use crate::search::interval::meet_parts;
+use crate::search::interval::both_parts;
 use crate::search::plan::{Choice, Done, Plan};
 use crate::search::prover::{At, Line, Prover};
 use crate::search::support::expand;
-use crate::table::leaves_of;
-use Node::*;
+use crate::terms::*;
+use reference::checker::rules::table::Leaves;
+use reference::checker::rules::{before_load, keeps};
+use reference::formula::atoms::Atoms;
+use reference::formula::{Assertion, Formula, Value};
 
 /// The place of the instruction and the views that the left side speaks of.
 pub struct Context {
     pub at: At,
-    pub views: Vec<F>,
+    pub views: Vec<A>,
 }
 
 impl Context {
     /// The intervals that the left side has for thread u, and the parts of those joined by `&`.
-    pub fn seen_by(&self, u: u8) -> Vec<F> {
+    pub fn seen_by(&self, u: u8) -> Vec<I> {
         let whole = Case { sees: self.views.clone(), ..Case::default() }.seen_by(u);
-        let mut all: Vec<F> = Vec::new();
-        for i in whole {
-            let mut parts = meet_parts(&i);
-            parts.insert(0, i);
-            for part in parts {
-                if !all.contains(&part) {
-                    all.push(part);
-                }
-            }
-        }
-        all
+        unique(whole.into_iter().flat_map(|i| {
+            let parts = both_parts(&i);
+            [i].into_iter().chain(parts)
+        }))
     }
 }
 
 impl Prover<'_> {
     /// A line for {P} c {Q}, if the search finds one.
-    pub fn triple(&mut self, at: At, p: &F, q: &F) -> Option<Line> {
-        if let Some(line) = self.lines.find(Form::Triple(at.thread, at.point), p, q) {
+    pub fn triple(&mut self, at: At, p: &A, q: &A) -> Option<Line> {
+        if let Some(line) = self.lines.find(&at.triple(p, q)) {
             return Some(line);
         }
-        let views = leaves_of([p]).into_iter().filter(|l| matches!(&**l, Sees(..))).collect();
-        let context = Context { at, views };
+        let context = Context { at, views: views_in(p) };
         let Some(all) = cases(p) else {
             self.tried
                 .push("tried        nothing: more than 10 leaves are too many for rule 20".into());
@@ -54,7 +45,7 @@ impl Prover<'_> {
         match self.reach(p, &before) {
             Some(firsts) => self.finish(at, firsts, done.line, done.last),
             None => self.case_by_case(&context, p, q).or_else(|| {
-                let text = format!("tried        {}", self.names.show(&before));
+                let text = format!("tried        {}", self.names.assertion(&before));
                 self.tried.push(text);
                 self.tried.push("             which each case gives, but together".into());
                 self.tried.push("             they pass 10 leaves or 4 premises of rule 20".into());
@@ -64,7 +55,7 @@ impl Prover<'_> {
     }
 
     /// A triple to the goal whose left side all cases give.
-    pub fn serve(&mut self, context: &Context, all: Vec<Case>, goal: &F) -> Option<Done> {
+    pub fn serve(&mut self, context: &Context, all: Vec<Case>, goal: &A) -> Option<Done> {
         let possible: Vec<Case> = all.into_iter().filter(|c| !self.impossible(c)).collect();
         let plan = if possible.is_empty() {
             self.by_falsehood(context.at, goal)?
@@ -82,7 +73,7 @@ impl Prover<'_> {
     }
 
     /// The implications that lead from p to `before`: one, or two if leaves are many.
-    pub fn reach(&mut self, p: &F, before: &F) -> Option<Vec<Line>> {
+    pub fn reach(&mut self, p: &A, before: &A) -> Option<Vec<Line>> {
         if p == before {
             return Some(Vec::new());
         }
@@ -110,27 +101,27 @@ impl Prover<'_> {
     }
 
     /// All ways to a goal.
-    pub fn plan(&mut self, context: &Context, goal: &F) -> Plan {
+    pub fn plan(&mut self, context: &Context, goal: &A) -> Plan {
         let at = context.at;
-        let instr = self.instr(at);
+        let instruction = self.instruction(at);
         let mut ways = Vec::new();
-        if let (Op::Assign, Some(v)) = (instr.op, &instr.formula) {
-            let before = replace_reg(goal, instr.a, v);
+        if let Some((r, value)) = instruction.assignment() {
+            let before = replaced(goal, Value::Register(r), value);
             ways.extend(self.step(at, 2, &before, goal, &[]).map(Plan::Ready));
         }
-        if keeps(&instr, goal) {
+        if keeps(&instruction, goal.as_ref()) == Some(true) {
             ways.extend(self.step(at, 1, goal, goal, &[]).map(Plan::Ready));
         }
         match &**goal {
-            Both(a, b) => {
+            Assertion::Both(a, b) => {
                 ways.push(Plan::All(self.plan(context, a).into(), self.plan(context, b).into()))
             }
-            Either(a, b) => {
+            Assertion::Either(a, b) => {
                 ways.push(Plan::Side(self.plan(context, a).into(), self.plan(context, b).into()))
             }
-            Holds(e) => self.ways_to_test(context, e, &mut ways),
-            Sees(u, j) => self.ways_to_view(context, *u, j, &mut ways),
-            _ => {}
+            Assertion::Holds(e) => self.ways_to_test(context, e, &mut ways),
+            Assertion::Sees(u, j) => self.ways_to_view(context, *u, j, &mut ways),
+            Assertion::Start => {}
         }
         self.ways_by_heads(context, goal, &mut ways);
         ways.extend(self.by_clauses(context, goal));
@@ -140,12 +131,12 @@ impl Prover<'_> {
     }
 
     /// Rule 3, and compound tests taken apart.
-    fn ways_to_test(&mut self, context: &Context, e: &F, ways: &mut Vec<Plan>) {
+    fn ways_to_test(&mut self, context: &Context, e: &T, ways: &mut Vec<Plan>) {
         let at = context.at;
-        let instr = self.instr(at);
         let goal = holds(e);
-        if instr.op.is_load() && !lacks_reg(e, instr.a) {
-            let before = sees(at.thread, &test(&before_load(&instr, e)));
+        if let Some(load) = self.instruction(at).load().filter(|load| e.has_register(load.register))
+        {
+            let before = sees(at.thread, &before_load(e, &load).into());
             ways.extend(self.step(at, 3, &before, &goal, &[]).map(Plan::Ready));
         }
         let apart = expand(e);
@@ -157,10 +148,10 @@ impl Prover<'_> {
     }
 
     /// The triples that the writer named, where they lead to the goal.
-    fn ways_by_steps(&mut self, context: &Context, goal: &F, ways: &mut Vec<Plan>) {
-        let form = Form::Triple(context.at.thread, context.at.point);
+    fn ways_by_steps(&mut self, context: &Context, goal: &A, ways: &mut Vec<Plan>) {
+        let at = context.at;
         for line in self.steps.clone() {
-            if self.conclusion(line).form == form {
+            if self.statement(line).place() == (at.thread, at.point) {
                 let right = self.right(line);
                 if let Some(last) = self.implied(&right, goal) {
                     ways.push(then(Plan::Ready(line), last, &right, goal));
@@ -170,9 +161,9 @@ impl Prover<'_> {
     }
 
     /// `false` is kept by everything and gives anything: for cases that cannot be.
-    fn by_falsehood(&mut self, at: At, goal: &F) -> Option<Plan> {
-        let nothing = holds(&f(False));
-        let rule = if self.instr(at).op == Op::Assign { 2 } else { 1 };
+    fn by_falsehood(&mut self, at: At, goal: &A) -> Option<Plan> {
+        let nothing = holds(&falsehood());
+        let rule = if self.instruction(at).assignment().is_some() { 2 } else { 1 };
         let line = self.step(at, rule, &nothing, &nothing, &[])?;
         let last = self.fact(20, &nothing, goal, &[])?;
         Some(then(Plan::Ready(line), last, &nothing, goal))
@@ -180,10 +171,20 @@ impl Prover<'_> {
 }
 
 /// A plan followed by an implication, unless that is the identity.
-pub fn then(plan: Plan, last: Line, from: &F, to: &F) -> Plan {
+pub fn then(plan: Plan, last: Line, from: &A, to: &A) -> Plan {
     if from == to {
         plan
     } else {
         Plan::Then(plan.into(), last)
     }
+}
+
+/// What the assertion says that threads see, each once.
+fn views_in(p: &A) -> Vec<A> {
+    let Leaves(leaves) = Leaves::of(p);
+    let views = leaves.into_iter().filter_map(|leaf| match leaf {
+        Formula::Assertion(a) => a.as_sees().is_some().then_some(a),
+        _ => None,
+    });
+    views.collect()
 }

@@ -9,3 +9,15 @@ pub mod report;
 pub mod scope;
 pub mod show;
 pub mod source;
+
+use reference::formula::Sort;
+
+/// The word for a sort in the text form and in messages.
+pub fn sort_name(sort: Sort) -> &'static str {
+    match sort {
+        Sort::Value => "value",
+        Sort::Test => "test",
+        Sort::Interval => "interval",
+        Sort::Assertion => "assertion",
+    }
+}

@@ -1,10 +1,10 @@
 //! The part `certificate`: formulas, lines and obligations written out in full.
 
-use crate::image::Line;
 use crate::text::lex::{Mistake, Token};
 use crate::text::parse_formula::Cursor;
 use crate::text::parse_source::{check_size, sort_word};
 use crate::text::source::Certificate;
+use reference::image::written::Line;
 
 /// Reads formulas, lines and obligations, numbered from 1 without gaps.
 pub fn certificate(c: &mut Cursor) -> Result<Certificate, Mistake> {
@@ -25,7 +25,7 @@ pub fn certificate(c: &mut Cursor) -> Result<Certificate, Mistake> {
             all.lines.push(next);
         } else if c.take("obligations") {
             while matches!(c.peek(), Token::Number(_)) {
-                all.obligations.push(within(c, "line", 0, all.lines.len())?);
+                all.obligations.push(within(c, "line", 0, all.lines.len())? as u16);
             }
         } else {
             return Ok(all);
@@ -61,13 +61,13 @@ fn one_line(c: &mut Cursor, formulas: usize, lines: usize) -> Result<Line, Mista
         thread = c.scope.thread(&name, line)?;
         point = within(c, "point", 0, 255)? as u8;
     }
-    let left = within(c, "formula", 1, formulas)?;
+    let left = within(c, "formula", 1, formulas)? as u16;
     c.expect("to")?;
-    let right = within(c, "formula", 1, formulas)?;
+    let right = within(c, "formula", 1, formulas)? as u16;
     let mut premises = Vec::new();
     if c.take("from") {
         while matches!(c.peek(), Token::Number(_)) {
-            premises.push(within(c, "line", 1, lines)?);
+            premises.push(within(c, "line", 1, lines)? as u16);
         }
     }
     Ok(Line { rule, thread, point, left, right, premises })

@@ -1,9 +1,9 @@
 //! Text to formulas. Right-nested throughout, as `print` writes them.
 
-use crate::formula::*;
+use crate::terms::*;
 use crate::text::lex::{Mistake, Token};
 use crate::text::scope::{describe, Meaning, Scope};
-use Node::*;
+use reference::formula::{Assertion, Formula, Interval, Sort, Test, RANGE};
 
 /// A place in the tokens, with the names in force.
 pub struct Cursor<'a> {
@@ -12,7 +12,7 @@ pub struct Cursor<'a> {
     pub scope: Scope,
 }
 
-type Parsed = Result<F, Mistake>;
+type Parsed<S> = Result<S, Mistake>;
 
 impl Cursor<'_> {
     pub fn peek(&self) -> &Token {
@@ -66,15 +66,11 @@ impl Cursor<'_> {
     }
 
     /// A `let` name of the wanted sort, taken if it is next.
-    fn short(&mut self, sort: Sort) -> Option<F> {
-        match self.meaning() {
-            Some(Meaning::Short(a)) if a.sort() == sort => {
-                let a = a.clone();
-                self.at += 1;
-                Some(a)
-            }
-            _ => None,
-        }
+    fn short<S>(&mut self, of_sort: fn(&Formula) -> Option<S>) -> Option<S> {
+        let Some(Meaning::Short(formula)) = self.meaning() else { return None };
+        let found = of_sort(formula)?;
+        self.at += 1;
+        Some(found)
     }
 
     /// Nothing fits: say what stands here instead.
@@ -89,7 +85,7 @@ impl Cursor<'_> {
     }
 
     /// `e => P` is short for `not e or P`.
-    pub fn assertion(&mut self) -> Parsed {
+    pub fn assertion(&mut self) -> Parsed<A> {
         let line = self.line();
         let left = self.either()?;
         if !self.take("=>") {
@@ -102,18 +98,18 @@ impl Cursor<'_> {
         Ok(either(&holds(&not(&e)), &self.assertion()?))
     }
 
-    fn either(&mut self) -> Parsed {
+    fn either(&mut self) -> Parsed<A> {
         let a = self.both()?;
         Ok(if self.take("or") { either(&a, &self.either()?) } else { a })
     }
 
-    fn both(&mut self) -> Parsed {
+    fn both(&mut self) -> Parsed<A> {
         let a = self.assertion_unit()?;
         Ok(if self.take("and") { both(&a, &self.both()?) } else { a })
     }
 
-    fn assertion_unit(&mut self) -> Parsed {
-        if let Some(a) = self.short(Sort::Assertion) {
+    fn assertion_unit(&mut self) -> Parsed<A> {
+        if let Some(a) = self.short(Formula::assertion) {
             return Ok(a);
         }
         if let Some(Meaning::Thread(t)) = self.meaning() {
@@ -123,7 +119,7 @@ impl Cursor<'_> {
             return Ok(sees(t, &self.interval()?));
         }
         if self.take("start") {
-            return Ok(f(Start));
+            return Ok(Assertion::Start.into());
         }
         if self.take("(") {
             let a = self.assertion()?;
@@ -136,7 +132,7 @@ impl Cursor<'_> {
         } else {
             return self.unfit("an assertion");
         };
-        if registers_only(&e) {
+        if registers_only(e.as_ref()) {
             return Ok(holds(&e));
         }
         let text = "a test outside [ ] is about registers only; words need `THREAD sees [..]`";
@@ -146,7 +142,7 @@ impl Cursor<'_> {
     /// May a bare test start here, without `holds`?
     fn at_test(&self) -> bool {
         match self.meaning() {
-            Some(Meaning::Reg(_) | Meaning::Word(_)) => return true,
+            Some(Meaning::Register(_) | Meaning::Word(_)) => return true,
             Some(Meaning::Short(a)) => return matches!(a.sort(), Sort::Test | Sort::Value),
             _ => {}
         }
@@ -154,33 +150,36 @@ impl Cursor<'_> {
     }
 
     /// Chop binds least, then `|`, then `&`.
-    pub fn interval(&mut self) -> Parsed {
-        let a = self.join()?;
+    pub fn interval(&mut self) -> Parsed<I> {
+        let a = self.either_interval()?;
         Ok(if self.take(";") { chop(&a, &self.interval()?) } else { a })
     }
 
-    fn join(&mut self) -> Parsed {
-        let a = self.meet()?;
-        Ok(if self.take("|") { f(Join(a, self.join()?)) } else { a })
+    fn either_interval(&mut self) -> Parsed<I> {
+        let a = self.both_interval()?;
+        Ok(if self.take("|") { either(&a, &self.either_interval()?) } else { a })
     }
 
-    fn meet(&mut self) -> Parsed {
+    fn both_interval(&mut self) -> Parsed<I> {
         let a = self.interval_unit()?;
-        Ok(if self.take("&") { meet(&a, &self.meet()?) } else { a })
+        Ok(if self.take("&") { both(&a, &self.both_interval()?) } else { a })
     }
 
-    fn interval_unit(&mut self) -> Parsed {
-        if let Some(i) = self.short(Sort::Interval) {
+    fn interval_unit(&mut self) -> Parsed<I> {
+        if let Some(i) = self.short(Formula::interval) {
             return Ok(i);
         }
         if self.take("[") {
             let e = self.test()?;
             self.expect("]")?;
-            return Ok(test(&e));
+            return Ok(all(&e));
         }
         if self.take("one") {
             let x = self.word()?;
-            return Ok(if self.take("=") { one_of(x, &self.value()?) } else { f(One(x)) });
+            if self.take("=") {
+                return Ok(Interval::one_equal(x, self.value()?).into());
+            }
+            return Ok(Interval::One(x).into());
         }
         if self.take("(") {
             let i = self.interval()?;
@@ -197,18 +196,18 @@ impl Cursor<'_> {
         Ok(x)
     }
 
-    pub fn test(&mut self) -> Parsed {
+    pub fn test(&mut self) -> Parsed<T> {
         let a = self.test_and()?;
         Ok(if self.take("or") { or(&a, &self.test()?) } else { a })
     }
 
-    fn test_and(&mut self) -> Parsed {
+    fn test_and(&mut self) -> Parsed<T> {
         let a = self.test_unit()?;
         Ok(if self.take("and") { and(&a, &self.test_and()?) } else { a })
     }
 
-    fn test_unit(&mut self) -> Parsed {
-        if let Some(e) = self.short(Sort::Test) {
+    fn test_unit(&mut self) -> Parsed<T> {
+        if let Some(e) = self.short(Formula::test) {
             return Ok(e);
         }
         if self.take("not") {
@@ -218,13 +217,13 @@ impl Cursor<'_> {
             return Ok(truth());
         }
         if self.take("false") {
-            return Ok(f(False));
+            return Ok(falsehood());
         }
         if self.take("unsync") {
-            return Ok(f(Unsync(self.word()?)));
+            return Ok(Test::Unsync(self.word()?).into());
         }
         if self.take("cov") {
-            return Ok(f(Cov(self.word()?)));
+            return Ok(Test::Covered(self.word()?).into());
         }
         match self.bracketed_test() {
             Some(e) => Ok(e),
@@ -233,7 +232,7 @@ impl Cursor<'_> {
     }
 
     /// A test in parentheses; if a value in parentheses stands here instead, nothing is taken.
-    fn bracketed_test(&mut self) -> Option<F> {
+    fn bracketed_test(&mut self) -> Option<T> {
         let start = self.at;
         if self.take("(") {
             if let Ok(e) = self.test() {
@@ -246,7 +245,7 @@ impl Cursor<'_> {
         None
     }
 
-    fn comparison(&mut self) -> Parsed {
+    fn comparison(&mut self) -> Parsed<T> {
         let a = self.value()?;
         for mark in ["=", "!=", "<=", ">=", "<", ">"] {
             if self.take(mark) {
@@ -254,10 +253,10 @@ impl Cursor<'_> {
                 return Ok(match mark {
                     "=" => equal(&a, &b),
                     "!=" => not(&equal(&a, &b)),
-                    "<" => f(Less(a, b)),
-                    ">" => f(Less(b, a)),
-                    "<=" => not(&f(Less(b, a))),
-                    _ => not(&f(Less(a, b))),
+                    "<" => less(&a, &b),
+                    ">" => less(&b, &a),
+                    "<=" => not(&less(&b, &a)),
+                    _ => not(&less(&a, &b)),
                 });
             }
         }
@@ -265,21 +264,21 @@ impl Cursor<'_> {
     }
 
     /// Sums nest to the left.
-    pub fn value(&mut self) -> Parsed {
+    pub fn value(&mut self) -> Parsed<V> {
         let mut a = self.value_unit()?;
         while self.take("+") {
-            a = f(Sum(a, self.value_unit()?));
+            a = sum(&a, &self.value_unit()?);
         }
         Ok(a)
     }
 
-    fn value_unit(&mut self) -> Parsed {
-        if let Some(v) = self.short(Sort::Value) {
+    fn value_unit(&mut self) -> Parsed<V> {
+        if let Some(v) = self.short(Formula::value) {
             return Ok(v);
         }
         if let Token::Number(n) = *self.peek() {
-            if n > 7 {
-                return self.fail(format!("{n} is no value: values are 0 to 7"));
+            if n >= usize::from(RANGE) {
+                return self.fail(format!("{n} is no value: values are 0 to {}", RANGE - 1));
             }
             self.at += 1;
             return Ok(constant(n as u8));
@@ -291,7 +290,7 @@ impl Cursor<'_> {
         }
         let v = match self.meaning() {
             Some(Meaning::Word(x)) => word(*x),
-            Some(Meaning::Reg(r)) => reg(*r),
+            Some(Meaning::Register(r)) => register(*r),
             _ => return self.unfit("a value"),
         };
         self.at += 1;
@@ -299,22 +298,22 @@ impl Cursor<'_> {
     }
 
     /// A formula of a known sort.
-    pub fn of_sort(&mut self, sort: Sort) -> Parsed {
-        match sort {
-            Sort::Value => self.value(),
-            Sort::Test => self.test(),
-            Sort::Interval => self.interval(),
-            Sort::Assertion => self.assertion(),
-        }
+    pub fn of_sort(&mut self, sort: Sort) -> Parsed<Formula> {
+        Ok(match sort {
+            Sort::Value => Formula::Value(self.value()?),
+            Sort::Test => Formula::Test(self.test()?),
+            Sort::Interval => Formula::Interval(self.interval()?),
+            Sort::Assertion => Formula::Assertion(self.assertion()?),
+        })
     }
 }
 
 /// An assertion made of tests of registers alone, as one test.
-fn as_test(a: &F) -> Option<F> {
+fn as_test(a: &A) -> Option<T> {
     match &**a {
-        Holds(e) => Some(e.clone()),
-        Both(p, q) => Some(and(&as_test(p)?, &as_test(q)?)),
-        Either(p, q) => Some(or(&as_test(p)?, &as_test(q)?)),
+        Assertion::Holds(e) => Some(e.clone()),
+        Assertion::Both(p, q) => Some(and(&as_test(p)?, &as_test(q)?)),
+        Assertion::Either(p, q) => Some(or(&as_test(p)?, &as_test(q)?)),
         _ => None,
     }
 }
@@ -324,7 +323,7 @@ mod tests {
     use super::*;
     use crate::text::lex::tokens;
 
-    fn parse(text: &str) -> Result<F, Mistake> {
+    fn parse(text: &str) -> Result<A, Mistake> {
         let all = format!("word x = 0 word y = 0 thread a registers r, q thread b {{ {text} }}");
         let list = tokens(&all).unwrap();
         let scope = Scope::scan(&list).unwrap();
@@ -340,10 +339,11 @@ mod tests {
         let a = parse(text).unwrap();
         let names = crate::text::print::Names {
             words: vec!["x".into(), "y".into()],
-            regs: vec!["r".into(), "q".into()],
+            registers: vec!["r".into(), "q".into()],
             threads: vec!["a".into(), "b".into()],
         };
-        assert_eq!(parse(&names.show(&a)).unwrap(), a, "{}", names.show(&a));
+        let shown = names.assertion(&a);
+        assert_eq!(parse(&shown).unwrap(), a, "{shown}");
     }
 
     #[test]
@@ -358,7 +358,7 @@ mod tests {
 
     #[test]
     fn arrow_is_not_or() {
-        let want = either(&holds(&not(&equal(&reg(1), &constant(1)))), &holds(&truth()));
+        let want = either(&holds(&not(&equal(&register(1), &constant(1)))), &holds(&truth()));
         assert_eq!(parse("r = 1 => true").unwrap(), want);
     }
 

@@ -1,20 +1,30 @@
 //! Text to a source: declarations, threads, the parts `proof` and `certificate`.
 
-use crate::bytes;
-use crate::formula::*;
-use crate::program::{Instr, Op};
+use crate::search::prover::{implication, inclusion, At};
+use crate::terms::*;
 use crate::text::lex::{tokens, Mistake, Token};
 use crate::text::parse_formula::Cursor;
 use crate::text::scope::{Meaning, Scope};
-use crate::text::source::{Claim, Hint, Point, Source};
+use crate::text::sort_name;
+use crate::text::source::{Hint, Point, Source};
+use reference::formula::atoms::{Atom, Atoms};
+use reference::formula::nesting::{Nesting, BYTES, NESTING};
+use reference::formula::{Formula, Sort};
+use reference::image::Instruction;
 
 /// Reads a whole source text.
 pub fn parse(text: &str) -> Result<Source, Mistake> {
     let list = tokens(text)?;
     let scope = Scope::scan(&list)?;
-    let mut source = Source { names: scope.names.clone(), ..Source::default() };
-    source.program.words = scope.starts.clone();
-    source.program.owners = scope.owners.clone();
+    let mut source = Source {
+        header: scope.header(),
+        names: scope.names.clone(),
+        threads: Vec::new(),
+        points: Vec::new(),
+        code_numbers: Vec::new(),
+        hints: Vec::new(),
+        certificate: None,
+    };
     let mut cursor = Cursor { tokens: &list, at: 0, scope };
     while *cursor.peek() != Token::End {
         item(&mut cursor, &mut source)?;
@@ -63,21 +73,22 @@ fn short(c: &mut Cursor) -> Result<(), Mistake> {
     c.scope.short(&name, formula, line)
 }
 
-fn assertion_or_interval(c: &mut Cursor) -> Result<F, Mistake> {
+fn assertion_or_interval(c: &mut Cursor) -> Result<Formula, Mistake> {
     let start = c.at;
     let first = match c.assertion() {
-        Ok(a) => return Ok(a),
+        Ok(a) => return Ok(Formula::Assertion(a)),
         Err(e) => (c.at, e),
     };
     c.at = start;
-    c.interval().map_err(|e| if c.at >= first.0 { e } else { first.1 })
+    let interval = c.interval().map(Formula::Interval);
+    interval.map_err(|e| if c.at >= first.0 { e } else { first.1 })
 }
 
 /// The name of a sort, taken if it is next.
 pub fn sort_word(c: &mut Cursor) -> Option<Sort> {
     [Sort::Value, Sort::Test, Sort::Interval, Sort::Assertion]
         .into_iter()
-        .find(|s| c.take(s.word()))
+        .find(|sort| c.take(sort_name(*sort)))
 }
 
 /// A thread: points in braces with instructions between them.
@@ -96,9 +107,9 @@ fn thread(c: &mut Cursor, source: &mut Source) -> Result<(), Mistake> {
     let (mut code, mut numbers, mut jumps) = (Vec::new(), Vec::new(), Vec::new());
     while !at_end_of_thread(c) {
         let at = c.line();
-        let (instr, jump) = instruction(c, number)?;
+        let (instruction, jump) = instruction(c, number)?;
         jumps.push(jump.map(|j| (j, at)));
-        code.push(instr);
+        code.push(instruction);
         numbers.push(at_number(c)?);
         labels.truncate(points.len());
         points.push(point(c, &mut labels)?);
@@ -109,12 +120,12 @@ fn thread(c: &mut Cursor, source: &mut Source) -> Result<(), Mistake> {
             text: format!("thread {name} has {} points; 8 is the most", points.len()),
         });
     }
-    for (instr, jump) in code.iter_mut().zip(jumps) {
-        if let Some((target, at)) = jump {
-            instr.a = resolve(&target, &labels, points.len(), at)?;
+    for (instruction, jump) in code.iter_mut().zip(jumps) {
+        if let (Instruction::Branch { target, .. }, Some((name, at))) = (instruction, jump) {
+            *target = resolve(&name, &labels, points.len(), at)?;
         }
     }
-    source.program.threads.push(code);
+    source.threads.push(code);
     source.points.push(points);
     source.code_numbers.push(numbers);
     Ok(())
@@ -145,25 +156,24 @@ fn point(c: &mut Cursor, labels: &mut Vec<Option<String>>) -> Result<Point, Mist
     let line = c.line();
     let assertion = braced(c)?;
     check_size(&assertion, line)?;
-    if any(&assertion, &|n| *n == Node::Start) {
+    if assertion.has_atom(|atom| atom == Atom::Start) {
         return Err(Mistake { line, text: "`start` may not stand in an outline".into() });
     }
     Ok(Point { assertion, number: at_number(c)?, line })
 }
 
 /// A formula must fit into its record.
-pub fn check_size(a: &F, line: usize) -> Result<(), Mistake> {
-    if bytes::fits(a) {
+pub fn check_size(tree: &impl Nesting, line: usize) -> Result<(), Mistake> {
+    if tree.fits_record() {
         return Ok(());
     }
-    let (n, b) = (nesting(a), bytes::encode(a).len());
-    let text =
-        format!("formula of {b} bytes and nesting {n}; 255 bytes and nesting 16 are the most");
-    Err(Mistake { line, text })
+    let (bytes, nesting) = (tree.encode().len(), tree.nesting());
+    let most = format!("{BYTES} bytes and nesting {NESTING} are the most");
+    Err(Mistake { line, text: format!("formula of {bytes} bytes and nesting {nesting}; {most}") })
 }
 
 /// `{ ASSERTION }`
-pub fn braced(c: &mut Cursor) -> Result<F, Mistake> {
+pub fn braced(c: &mut Cursor) -> Result<A, Mistake> {
     c.expect("{")?;
     let a = c.assertion()?;
     c.expect("}")?;
@@ -178,66 +188,87 @@ fn at_number(c: &mut Cursor) -> Result<Option<usize>, Mistake> {
 }
 
 /// An instruction, and for a branch its target as written.
-fn instruction(c: &mut Cursor, thread: u8) -> Result<(Instr, Option<Token>), Mistake> {
+fn instruction(c: &mut Cursor, thread: u8) -> Result<(Instruction, Option<Token>), Mistake> {
     let line = c.line();
-    if c.take("if") {
-        let e = c.test()?;
+    let (instruction, jump) = if c.take("if") {
+        let test = c.test()?;
         c.expect("goto")?;
-        let target = c.peek().clone();
+        let jump = c.peek().clone();
         c.at += 1;
-        let instr = Instr { op: Op::Branch, a: 0, b: 0, formula: Some(e) };
-        own(c, &instr, thread, line)?;
-        return Ok((instr, Some(target)));
-    }
-    let instr = if c.take("swap") {
-        let x = c.word()?;
+        (Instruction::Branch { test, target: 0 }, Some(jump))
+    } else if c.take("swap") {
+        let word = c.word()?;
         c.expect(":=")?;
-        Instr { op: Op::Swap, a: x, b: 0, formula: Some(c.value()?) }
+        (Instruction::Swap { word, value: c.value()? }, None)
     } else {
-        move_value(c)?
+        (move_value(c)?, None)
     };
-    own(c, &instr, thread, line)?;
-    Ok((instr, None))
+    own(c, &instruction, thread, line)?;
+    Ok((instruction, jump))
 }
 
 /// Assignment, load or store, by what stands on the left.
-fn move_value(c: &mut Cursor) -> Result<Instr, Mistake> {
+fn move_value(c: &mut Cursor) -> Result<Instruction, Mistake> {
     match c.meaning().cloned() {
-        Some(Meaning::Reg(r)) => {
+        Some(Meaning::Register(register)) => {
             c.at += 1;
             if c.take(":=") {
-                return Ok(Instr { op: Op::Assign, a: r, b: 0, formula: Some(c.value()?) });
+                return Ok(Instruction::Assign { register, value: c.value()? });
             }
-            let op = if c.take("<-acq") { Op::LoadAcquire } else { Op::Load };
-            if op == Op::Load && !c.take("<-") {
-                return c.wanted("`:=`, `<-` or `<-acq` behind a register");
+            if c.take("<-acq") {
+                return Ok(Instruction::Load { register, word: c.word()?, acquiring: true });
             }
-            Ok(Instr { op, a: r, b: c.word()?, formula: None })
+            if c.take("<-") {
+                return fetched(c, register);
+            }
+            c.wanted("`:=`, `<-` or `<-acq` behind a register")
         }
-        Some(Meaning::Word(x)) => {
+        Some(Meaning::Word(word)) => {
             c.at += 1;
-            let op = if c.take(":=rel") { Op::StoreRelease } else { Op::Store };
-            if op == Op::Store && !c.take(":=") {
+            let releasing = c.take(":=rel");
+            if !releasing && !c.take(":=") {
                 return c.wanted("`:=` or `:=rel` behind a word");
             }
-            Ok(Instr { op, a: x, b: 0, formula: Some(c.value()?) })
+            Ok(Instruction::Store { word, value: c.value()?, releasing })
         }
         _ => c.wanted("an instruction (or the thread's end)"),
     }
 }
 
+/// What stands behind `<-`: a word, `exchange WORD := VALUE` or `fetch-add WORD + VALUE`.
+fn fetched(c: &mut Cursor, register: u8) -> Result<Instruction, Mistake> {
+    if c.take("exchange") {
+        let word = c.word()?;
+        c.expect(":=")?;
+        return Ok(Instruction::Exchange { register, word, value: c.value()? });
+    }
+    if c.take("fetch-add") {
+        let word = c.word()?;
+        c.expect("+")?;
+        return Ok(Instruction::FetchAdd { register, word, value: c.value()? });
+    }
+    Ok(Instruction::Load { register, word: c.word()?, acquiring: false })
+}
+
 /// Instructions use own registers only, and no word but the one moved.
-fn own(c: &Cursor, instr: &Instr, thread: u8, line: usize) -> Result<(), Mistake> {
+fn own(c: &Cursor, instruction: &Instruction, thread: u8, line: usize) -> Result<(), Mistake> {
     let fault = |text: String| Err(Mistake { line, text });
-    let mut regs: Vec<u8> = instr.target().into_iter().collect();
-    if let Some(a) = &instr.formula {
-        if !registers_only(a) {
+    let mut registers: Vec<u8> = instruction.result().into_iter().collect();
+    if let Some(operand) = instruction.operand() {
+        if !registers_only(&operand) {
             return fault("words, unsync and cov may not stand in an instruction's formula".into());
         }
-        regs.extend(names(a).1);
+        let named = registers_of(&operand);
+        if instruction.fetched().is_some_and(|fetched| named.contains(&fetched.register)) {
+            let text = "the register that gets the old value may not stand in the new one";
+            return fault(text.into());
+        }
+        registers.extend(named);
     }
-    match regs.iter().find(|r| c.scope.owners[**r as usize - 1] != thread) {
-        Some(r) => fault(format!("register `{}` belongs to another thread", c.scope.names.reg(*r))),
+    match registers.into_iter().find(|r| c.scope.owners[usize::from(*r) - 1] != thread) {
+        Some(r) => {
+            fault(format!("register `{}` belongs to another thread", c.scope.names.register(r)))
+        }
         None => Ok(()),
     }
 }
@@ -266,27 +297,33 @@ fn resolve(
 fn proof(c: &mut Cursor, source: &mut Source) -> Result<(), Mistake> {
     loop {
         let line = c.line();
-        let (claim, left, right) = if c.take("step") {
+        let statement = if c.take("step") {
             let name = c.name()?;
-            let place = (c.scope.thread(&name, line)?, c.number()? as u8);
+            let at = At { thread: c.scope.thread(&name, line)?, point: c.number()? as u8 };
             c.expect(":")?;
-            let left = braced(c)?;
-            c.expect("to")?;
-            (Claim::Step(place.0, place.1), left, braced(c)?)
+            let (left, right) = from_to(c)?;
+            at.triple(&left, &right)
         } else if c.take("fact") {
-            let left = braced(c)?;
-            c.expect("to")?;
-            (Claim::Fact, left, braced(c)?)
+            let (left, right) = from_to(c)?;
+            implication(&left, &right)
         } else if c.take("part") {
             let left = c.interval()?;
             c.expect("in")?;
-            (Claim::Part, left, c.interval()?)
+            inclusion(&left, &c.interval()?)
         } else {
             return Ok(());
         };
         let rule = if c.take("by") { Some(c.number()? as u8) } else { None };
+        let (left, right) = statement.sides();
         check_size(&left, line)?;
         check_size(&right, line)?;
-        source.hints.push(Hint { claim, left, right, rule, line });
+        source.hints.push(Hint { statement, rule, line });
     }
+}
+
+/// `{P} to {Q}`
+fn from_to(c: &mut Cursor) -> Result<(A, A), Mistake> {
+    let left = braced(c)?;
+    c.expect("to")?;
+    Ok((left, braced(c)?))
 }

@@ -1,116 +1,193 @@
 //! Formulas as text, in the syntax that `parse` reads back to the same formula.
 
-use crate::formula::*;
-use Node::*;
+use reference::formula::{Assertion, Formula, Interval, Test, Value};
+use reference::image::Instruction;
 
 /// Names of words, registers and threads; number 1 is first.
 #[derive(Debug, Clone, Default)]
 pub struct Names {
     pub words: Vec<String>,
-    pub regs: Vec<String>,
+    pub registers: Vec<String>,
     pub threads: Vec<String>,
+}
+
+/// A text and how tightly it binds.
+struct Bound(String, u8);
+
+const ATOM: u8 = 9;
+
+impl Bound {
+    fn atom(text: impl Into<String>) -> Bound {
+        Bound(text.into(), ATOM)
+    }
+
+    /// Infix, nested to the right without parentheses.
+    fn infix(a: Bound, mark: &str, b: Bound, level: u8) -> Bound {
+        Bound(format!("{}{mark}{}", a.at(level + 1), b.at(level)), level)
+    }
+
+    /// The text, in parentheses if it binds less tightly than `level`.
+    fn at(self, level: u8) -> String {
+        if self.1 < level {
+            format!("({})", self.0)
+        } else {
+            self.0
+        }
+    }
 }
 
 impl Names {
     /// The names that `show` gives, since an image has none: w1, r1, t1.
-    pub fn plain(words: usize, regs: usize, threads: usize) -> Names {
+    pub fn plain(words: usize, registers: usize, threads: usize) -> Names {
         let list = |c: char, n: usize| (1..=n).map(|i| format!("{c}{i}")).collect();
-        Names { words: list('w', words), regs: list('r', regs), threads: list('t', threads) }
+        let registers = list('r', registers);
+        Names { words: list('w', words), registers, threads: list('t', threads) }
     }
 
-    pub fn word(&self, x: u8) -> &str {
-        &self.words[x as usize - 1]
+    pub fn word(&self, number: u8) -> &str {
+        &self.words[usize::from(number) - 1]
     }
-    pub fn reg(&self, r: u8) -> &str {
-        &self.regs[r as usize - 1]
+    pub fn register(&self, number: u8) -> &str {
+        &self.registers[usize::from(number) - 1]
     }
-    pub fn thread(&self, t: u8) -> &str {
-        &self.threads[t as usize - 1]
+    pub fn thread(&self, number: u8) -> &str {
+        &self.threads[usize::from(number) - 1]
     }
 
+    pub fn value(&self, tree: &Value) -> String {
+        self.bind_value(tree).0
+    }
+    pub fn test(&self, tree: &Test) -> String {
+        self.bind_test(tree).0
+    }
+    pub fn assertion(&self, tree: &Assertion) -> String {
+        self.bind_assertion(tree).0
+    }
     /// The text of a formula of any sort.
-    pub fn show(&self, a: &F) -> String {
-        self.at(a, 0)
-    }
-
-    /// The text, in parentheses if it binds less tightly than `level`.
-    fn at(&self, a: &F, level: u8) -> String {
-        let (text, own) = self.text(a);
-        if own < level {
-            format!("({text})")
-        } else {
-            text
+    pub fn formula(&self, formula: &Formula) -> String {
+        match formula {
+            Formula::Value(tree) => self.value(tree),
+            Formula::Test(tree) => self.test(tree),
+            Formula::Interval(tree) => self.bind_interval(tree).0,
+            Formula::Assertion(tree) => self.assertion(tree),
         }
     }
 
-    /// Infix, nested to the right without parentheses.
-    fn infix(&self, a: &F, mark: &str, b: &F, level: u8) -> (String, u8) {
-        (format!("{}{mark}{}", self.at(a, level + 1), self.at(b, level)), level)
-    }
-
-    /// The text and how tightly it binds; 9 is an atom.
-    fn text(&self, a: &F) -> (String, u8) {
-        match &**a {
-            Const(n) => (n.to_string(), 9),
-            Reg(r) => (self.reg(*r).into(), 9),
-            Word(x) => (self.word(*x).into(), 9),
-            Sum(p, q) => (format!("{} + {}", self.at(p, 5), self.at(q, 6)), 5),
-            False => ("false".into(), 9),
-            Eq(p, q) => self.compare(p, " = ", q),
-            Less(p, q) => self.compare(p, " < ", q),
-            Not(e) => self.negation(e),
-            And(p, q) => self.infix(p, " and ", q, 2),
-            Or(p, q) => self.infix(p, " or ", q, 1),
-            Unsync(x) => (format!("unsync {}", self.word(*x)), 9),
-            Cov(x) => (format!("cov {}", self.word(*x)), 9),
-            Test(e) => (format!("[{}]", self.at(e, 0)), 9),
-            One(x) => (format!("one {}", self.word(*x)), 9),
-            Chop(p, q) => self.infix(p, " ; ", q, 0),
-            Meet(p, q) => self.meet(p, q),
-            Join(p, q) => self.infix(p, " | ", q, 1),
-            Sees(t, i) => (format!("{} sees {}", self.thread(*t), self.at(i, 0)), 3),
-            Both(p, q) => self.infix(p, " and ", q, 2),
-            Either(p, q) => self.infix(p, " or ", q, 1),
-            Start => ("start".into(), 9),
-            Holds(e) => self.holds(e),
+    /// One instruction as text.
+    pub fn instruction(&self, instruction: &Instruction) -> String {
+        match instruction {
+            Instruction::Assign { register, value } => {
+                format!("{} := {}", self.register(*register), self.value(value))
+            }
+            Instruction::Load { register, word, acquiring } => {
+                let mark = if *acquiring { "<-acq" } else { "<-" };
+                format!("{} {mark} {}", self.register(*register), self.word(*word))
+            }
+            Instruction::Store { word, value, releasing } => {
+                let mark = if *releasing { ":=rel" } else { ":=" };
+                format!("{} {mark} {}", self.word(*word), self.value(value))
+            }
+            Instruction::Swap { word, value } => {
+                format!("swap {} := {}", self.word(*word), self.value(value))
+            }
+            Instruction::Exchange { register, word, value } => {
+                let (register, word) = (self.register(*register), self.word(*word));
+                format!("{register} <- exchange {word} := {}", self.value(value))
+            }
+            Instruction::FetchAdd { register, word, value } => {
+                let (register, word) = (self.register(*register), self.word(*word));
+                format!("{register} <- fetch-add {word} + {}", self.value(value))
+            }
+            Instruction::Branch { test, target } => {
+                format!("if {} goto {target}", self.test(test))
+            }
         }
     }
 
-    fn compare(&self, p: &F, mark: &str, q: &F) -> (String, u8) {
-        (format!("{}{mark}{}", self.at(p, 5), self.at(q, 5)), 4)
+    fn bind_value(&self, tree: &Value) -> Bound {
+        match tree {
+            Value::Constant(number) => Bound::atom(number.to_string()),
+            Value::Register(number) => Bound::atom(self.register(*number)),
+            Value::Word(number) => Bound::atom(self.word(*number)),
+            // Sums alone nest to the left.
+            Value::Sum(a, b) => {
+                Bound(format!("{} + {}", self.bind_value(a).at(5), self.bind_value(b).at(6)), 5)
+            }
+        }
     }
 
-    fn negation(&self, e: &F) -> (String, u8) {
-        match &**e {
-            False => ("true".into(), 9),
-            Eq(p, q) => self.compare(p, " != ", q),
-            _ => (format!("not {}", self.at(e, 9)), 9),
+    fn bind_test(&self, tree: &Test) -> Bound {
+        match tree {
+            Test::False => Bound::atom("false"),
+            Test::Equal(a, b) => self.comparison(a, " = ", b),
+            Test::Less(a, b) => self.comparison(a, " < ", b),
+            Test::Not(e) => self.negation(e),
+            Test::And(a, b) => Bound::infix(self.bind_test(a), " and ", self.bind_test(b), 2),
+            Test::Or(a, b) => Bound::infix(self.bind_test(a), " or ", self.bind_test(b), 1),
+            Test::Unsync(word) => Bound::atom(format!("unsync {}", self.word(*word))),
+            Test::Covered(word) => Bound::atom(format!("cov {}", self.word(*word))),
+        }
+    }
+
+    fn comparison(&self, a: &Value, mark: &str, b: &Value) -> Bound {
+        Bound(format!("{}{mark}{}", self.bind_value(a).at(5), self.bind_value(b).at(5)), 4)
+    }
+
+    fn negation(&self, e: &Test) -> Bound {
+        match e {
+            Test::False => Bound::atom("true"),
+            Test::Equal(a, b) => self.comparison(a, " != ", b),
+            _ => Bound::atom(format!("not {}", self.bind_test(e).at(ATOM))),
+        }
+    }
+
+    fn bind_interval(&self, tree: &Interval) -> Bound {
+        let part = |tree: &Interval| self.bind_interval(tree);
+        match tree {
+            Interval::All(e) => Bound::atom(format!("[{}]", self.test(e))),
+            Interval::One(word) => Bound::atom(format!("one {}", self.word(*word))),
+            Interval::Chop(a, b) => Bound::infix(part(a), " ; ", part(b), 0),
+            Interval::Both(a, b) => {
+                let short = self.one_equal(a, b);
+                short.unwrap_or_else(|| Bound::infix(part(a), " & ", part(b), 2))
+            }
+            Interval::Either(a, b) => Bound::infix(part(a), " | ", part(b), 1),
         }
     }
 
     /// `one x = v` is short for `one x & [x = v]`.
-    fn meet(&self, p: &F, q: &F) -> (String, u8) {
-        if let (One(x), Test(e)) = (&**p, &**q) {
-            if let Eq(l, v) = &**e {
-                if **l == Word(*x) {
-                    return (format!("one {} = {}", self.word(*x), self.at(v, 5)), 9);
-                }
+    fn one_equal(&self, a: &Interval, b: &Interval) -> Option<Bound> {
+        let Interval::One(word) = a else { return None };
+        let Test::Equal(named, value) = &**b.as_all()? else { return None };
+        let value = self.bind_value(value).at(5);
+        let short = || Bound::atom(format!("one {} = {value}", self.word(*word)));
+        (**named == Value::Word(*word)).then(short)
+    }
+
+    fn bind_assertion(&self, tree: &Assertion) -> Bound {
+        let part = |tree: &Assertion| self.bind_assertion(tree);
+        match tree {
+            Assertion::Sees(thread, i) => {
+                Bound(format!("{} sees {}", self.thread(*thread), self.bind_interval(i).0), 3)
             }
+            Assertion::Both(a, b) => Bound::infix(part(a), " and ", part(b), 2),
+            Assertion::Either(a, b) => Bound::infix(part(a), " or ", part(b), 1),
+            Assertion::Start => Bound::atom("start"),
+            Assertion::Holds(e) => self.holds(e),
         }
-        self.infix(p, " & ", q, 2)
     }
 
     /// Comparisons, true and false stand for themselves; other tests after `holds`.
-    fn holds(&self, e: &F) -> (String, u8) {
-        let bare = match &**e {
-            False | Eq(..) | Less(..) => true,
-            Not(n) => matches!(&**n, False | Eq(..)),
+    fn holds(&self, e: &Test) -> Bound {
+        let bare = match e {
+            Test::False | Test::Equal(..) | Test::Less(..) => true,
+            Test::Not(n) => matches!(**n, Test::False | Test::Equal(..)),
             _ => false,
         };
         if bare {
-            (self.at(e, 0), 4)
+            Bound(self.test(e), 4)
         } else {
-            (format!("holds ({})", self.at(e, 0)), 9)
+            Bound::atom(format!("holds ({})", self.test(e)))
         }
     }
 }

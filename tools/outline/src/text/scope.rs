@@ -1,17 +1,20 @@
 //! What the names in a source stand for.
 
-use crate::formula::{Sort, F};
 use crate::text::lex::{Mistake, Token, KEYWORDS};
 use crate::text::print::Names;
+use crate::text::sort_name;
+use reference::formula::parse::Counts;
+use reference::formula::{Formula, Sort, RANGE};
+use reference::image::Header;
 use std::collections::BTreeMap;
 
 /// What one name stands for.
 #[derive(Debug, Clone)]
 pub enum Meaning {
     Word(u8),
-    Reg(u8),
+    Register(u8),
     Thread(u8),
-    Short(F),
+    Short(Formula),
 }
 
 /// All names of a source; words, registers and threads count from 1.
@@ -29,7 +32,7 @@ impl Scope {
     }
 
     /// Adds a `let` name.
-    pub fn short(&mut self, name: &str, formula: F, line: usize) -> Result<(), Mistake> {
+    pub fn short(&mut self, name: &str, formula: Formula, line: usize) -> Result<(), Mistake> {
         self.add(name, Meaning::Short(formula), line)
     }
 
@@ -85,9 +88,10 @@ impl Scope {
         self.names.words.push(name.clone());
         self.add(&name, Meaning::Word(self.names.words.len() as u8), line)?;
         match &tokens[(i + 3).min(tokens.len() - 1)].0 {
-            Token::Number(v) if *v <= 7 => self.starts.push(*v as u8),
+            Token::Number(v) if *v < usize::from(RANGE) => self.starts.push(*v as u8),
             t => {
-                let text = format!("word {name} needs a start value 0 to 7, found {}", t.shown());
+                let (most, found) = (RANGE - 1, t.shown());
+                let text = format!("word {name} needs a start value 0 to {most}, found {found}");
                 return Err(Mistake { line, text });
             }
         }
@@ -108,16 +112,26 @@ impl Scope {
     }
 
     fn add_register(&mut self, name: &str, owner: u8, line: usize) -> Result<(), Mistake> {
-        self.names.regs.push(name.to_string());
+        self.names.registers.push(name.to_string());
         self.owners.push(owner);
-        self.add(name, Meaning::Reg(self.names.regs.len() as u8), line)
+        self.add(name, Meaning::Register(self.names.registers.len() as u8), line)
+    }
+
+    /// The header of an image with these names.
+    pub fn header(&self) -> Header {
+        let counts = Counts {
+            threads: self.names.threads.len() as u8,
+            words: self.names.words.len() as u8,
+            registers: self.names.registers.len() as u8,
+        };
+        Header { counts, start: self.starts.clone(), owners: self.owners.clone() }
     }
 
     fn limits(&self, line: usize) -> Result<(), Mistake> {
         let checks = [
             ("threads", self.names.threads.len(), 1, 3),
             ("words", self.names.words.len(), 1, 8),
-            ("registers", self.names.regs.len(), 0, 16),
+            ("registers", self.names.registers.len(), 0, 16),
         ];
         for (what, n, least, most) in checks {
             if n < least || n > most {
@@ -144,11 +158,11 @@ pub fn describe(meaning: Option<&Meaning>) -> String {
     match meaning {
         None => "is not declared".into(),
         Some(Meaning::Word(_)) => "is a word".into(),
-        Some(Meaning::Reg(_)) => "is a register".into(),
+        Some(Meaning::Register(_)) => "is a register".into(),
         Some(Meaning::Thread(_)) => "is a thread".into(),
         Some(Meaning::Short(a)) => match a.sort() {
             Sort::Assertion => "stands for an assertion".into(),
-            s => format!("stands for a {}", s.word()),
+            sort => format!("stands for a {}", sort_name(sort)),
         },
     }
 }

@@ -1,32 +1,22 @@
 //! What a source file says, once it is read.
 
-use crate::formula::F;
-use crate::image::Line;
-use crate::program::Program;
+use crate::terms::A;
 use crate::text::print::Names;
+use reference::formula::Formula;
+use reference::image::{written, Header, Program, Statement, Thread};
 
 /// The assertion of a point, with the formula number that `@` asks for.
 #[derive(Debug, Clone)]
 pub struct Point {
-    pub assertion: F,
+    pub assertion: A,
     pub number: Option<usize>,
     pub line: usize,
-}
-
-/// What a hint claims: a step of an instruction, an implication or an inclusion.
-#[derive(Debug, Clone, Copy, PartialEq, Eq)]
-pub enum Claim {
-    Step(u8, u8),
-    Fact,
-    Part,
 }
 
 /// A step of the proof that the writer names.
 #[derive(Debug, Clone)]
 pub struct Hint {
-    pub claim: Claim,
-    pub left: F,
-    pub right: F,
+    pub statement: Statement,
     pub rule: Option<u8>,
     pub line: usize,
 }
@@ -34,16 +24,17 @@ pub struct Hint {
 /// A certificate written out in full.
 #[derive(Debug, Clone, Default)]
 pub struct Certificate {
-    pub formulas: Vec<F>,
-    pub lines: Vec<Line>,
-    pub obligations: Vec<usize>,
+    pub formulas: Vec<Formula>,
+    pub lines: Vec<written::Line>,
+    pub obligations: Vec<u16>,
 }
 
 /// A whole source.
-#[derive(Debug, Clone, Default)]
+#[derive(Debug, Clone)]
 pub struct Source {
-    pub program: Program,
+    pub header: Header,
     pub names: Names,
+    pub threads: Vec<Thread>,
     pub points: Vec<Vec<Point>>,
     /// The formula number that `@` asks for, by thread and instruction.
     pub code_numbers: Vec<Vec<Option<usize>>>,
@@ -52,7 +43,13 @@ pub struct Source {
 }
 
 impl Source {
-    pub fn assertion(&self, t: u8, point: u8) -> F {
-        self.points[t as usize - 1][point as usize].assertion.clone()
+    /// The program with its outline.
+    pub fn program(&self) -> Program {
+        let assertions = |points: &Vec<Point>| points.iter().map(|p| p.assertion.clone()).collect();
+        Program {
+            header: self.header.clone(),
+            threads: self.threads.clone(),
+            outline: self.points.iter().map(assertions).collect(),
+        }
     }
 }

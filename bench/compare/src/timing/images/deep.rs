@@ -1,6 +1,6 @@
 //! Long intervals.
 
-use hidokpalu_bench::checker::formula::{Interval, Test, Value};
+use reference::formula::{Interval, Test, Value};
 
 /// Words that the intervals speak of.
 const WORDS: usize = 6;

@@ -2,8 +2,8 @@
 
 use super::deep::chops;
 use super::matching;
-use hidokpalu_bench::checker::formula::{Assertion, Interval};
-use hidokpalu_bench::proof::{around, implies, included, seen, triple, Lemma};
+use reference::formula::{Assertion, Interval};
+use reference::proof::{around, implies, included, seen, triple, Lemma};
 
 /// The longest of these images with at most so many bytes.
 pub fn image(bytes: usize) -> Vec<u8> {

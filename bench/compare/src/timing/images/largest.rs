@@ -2,13 +2,14 @@
 
 use super::deep::chops;
 use super::{MOST_BYTES, MOST_LINES};
-use hidokpalu_bench::assemble::{image_bytes, Plan, Record};
-use hidokpalu_bench::checker::formula::parse::Counts;
-use hidokpalu_bench::checker::formula::{Assertion, Interval, Test, Value};
-use hidokpalu_bench::checker::frames;
-use hidokpalu_bench::checker::image::{Header, Instruction, Program, Thread};
-use hidokpalu_bench::checker::obligations::{duties, Duty};
-use hidokpalu_bench::proof::{around, consequence, implies, included, seen, triple, Lemma};
+use reference::assemble::Plan;
+use reference::checker::frames;
+use reference::checker::obligations::{duties, Duty};
+use reference::formula::parse::Counts;
+use reference::formula::{Assertion, Interval, Test, Value};
+use reference::image::written::{image_bytes, Record};
+use reference::image::{Header, Instruction, Program, Thread};
+use reference::proof::{around, consequence, implies, included, seen, triple, Lemma};
 use std::rc::Rc;
 
 const MOST_FORMULAS: usize = 500;

@@ -2,12 +2,12 @@
 
 use super::deep::chops;
 use super::repeated;
-use hidokpalu_bench::assemble::Plan;
-use hidokpalu_bench::checker::formula::parse::Counts;
-use hidokpalu_bench::checker::formula::{Assertion, Interval, Test, Value};
-use hidokpalu_bench::checker::image::{Header, Instruction};
-use hidokpalu_bench::generate::harness;
-use hidokpalu_bench::proof::{around, implies, included, triple, Lemma};
+use reference::assemble::Plan;
+use reference::formula::parse::Counts;
+use reference::formula::{Assertion, Interval, Test, Value};
+use reference::image::{Header, Instruction};
+use reference::proof::{around, implies, included, triple, Lemma};
+use sets::generate::harness;
 use std::rc::Rc;
 
 /// Lines of each rule with formulas of their own.

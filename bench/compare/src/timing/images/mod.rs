@@ -7,10 +7,11 @@ mod matching;
 mod rows;
 mod tables;
 
-use hidokpalu_bench::assemble::{image_bytes, Plan, Record};
-use hidokpalu_bench::checker::frames;
-use hidokpalu_bench::examples::message_passing;
-use hidokpalu_bench::vectors::images::SMALL;
+use reference::assemble::Plan;
+use reference::checker::frames;
+use reference::image::written::{image_bytes, Record};
+use sets::examples::message_passing;
+use sets::vectors::images::SMALL;
 
 const MOST_LINES: usize = 1000;
 const MOST_BYTES: usize = 65_535;

@@ -2,11 +2,11 @@
 //! every row, and so are their parts, so that nothing can be skipped.
 
 use super::repeated;
-use hidokpalu_bench::checker::formula::parse::Counts;
-use hidokpalu_bench::checker::formula::{Assertion, Interval, Test, Value};
-use hidokpalu_bench::checker::image::Header;
-use hidokpalu_bench::generate::harness;
-use hidokpalu_bench::proof::{implies, included, Lemma};
+use reference::formula::parse::Counts;
+use reference::formula::{Assertion, Interval, Test, Value};
+use reference::image::Header;
+use reference::proof::{implies, included, Lemma};
+use sets::generate::harness;
 
 /// Lines of each rule with formulas of their own.
 const VARIANTS: u8 = 4;

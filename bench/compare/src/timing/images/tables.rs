@@ -2,11 +2,11 @@
 
 use super::deep::chops;
 use super::repeated;
-use hidokpalu_bench::checker::formula::parse::Counts;
-use hidokpalu_bench::checker::formula::{Assertion, Interval};
-use hidokpalu_bench::checker::image::Header;
-use hidokpalu_bench::generate::harness;
-use hidokpalu_bench::proof::{implies, included, seen, Lemma};
+use reference::formula::parse::Counts;
+use reference::formula::{Assertion, Interval};
+use reference::image::Header;
+use reference::proof::{implies, included, seen, Lemma};
+use sets::generate::harness;
 
 /// Lines with formulas of their own.
 const VARIANTS: usize = 40;

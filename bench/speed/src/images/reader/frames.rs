@@ -1,7 +1,7 @@
 //! The frames of an image's records: codes 2 to 4, and where each record starts.
 
 use super::number;
-use crate::images::answer::Refusal;
+use reference::checker::Refusal;
 
 /// The longest image that is read.
 const IMAGE_BYTES: usize = 65_535;
@@ -25,7 +25,7 @@ impl<'a> Frames<'a> {
     /// All frames, first to last.
     pub fn read(image: &'a [u8]) -> Result<Frames<'a>, Refusal> {
         if image.is_empty() || image.len() > IMAGE_BYTES {
-            return Err(Refusal { code: 2, record: 0 });
+            return Err(Refusal::at(2, 0));
         }
         let mut starts = [0; RECORDS];
         let mut counts = [0; 7];
@@ -33,16 +33,16 @@ impl<'a> Frames<'a> {
         while at < image.len() {
             let left = image.len() - at;
             if left < 2 {
-                return Err(Refusal { code: 3, record });
+                return Err(Refusal::at(3, record));
             }
             let length = number(image, at);
             if length < 2 || length > left - 2 {
-                return Err(Refusal { code: 3, record });
+                return Err(Refusal::at(3, record));
             }
             let kind = number(image, at + 2);
             let in_order = kind == last || kind == last + 1;
             if !in_order || kind > OBLIGATIONS || counts[kind] == MOST[kind] {
-                return Err(Refusal { code: 4, record });
+                return Err(Refusal::at(4, record));
             }
             counts[kind] += 1;
             last = kind;
@@ -51,7 +51,7 @@ impl<'a> Frames<'a> {
             record += 1;
         }
         if last != OBLIGATIONS {
-            return Err(Refusal { code: 4, record });
+            return Err(Refusal::at(4, record));
         }
         let [_, _, formulas, threads, _, lines, _] = counts;
         Ok(Frames { image, starts, formulas, threads, lines })

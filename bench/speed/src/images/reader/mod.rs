@@ -1,4 +1,4 @@
-//! Readers in Rust, to compare with: codes 2 to 9 in the order of the verdict table. They allocate
+//! Readers in Rust, to compare with: codes 2 to 9 and 23 in the order of the verdict table. They allocate
 //! nothing, keep no more of an image than where its records start, and differ in how they search a formula
 //! for what may not stand in it.
 
@@ -9,25 +9,27 @@ mod lists;
 mod thread;
 mod uses;
 
-use super::answer::{Answer, Refusal};
+use super::answer::Answer;
 use crate::formulas::answer::{Counts, Fault};
 use crate::formulas::readers::by_sets;
 use frames::Frames;
-pub use uses::{ByScan, ByTree, Search};
+use reference::checker::Refusal;
+pub use uses::{has_register, ByScan, ByTree, Search};
 
 /// Codes of faults in a body.
-const LENGTH: usize = 5;
-const RANGE: usize = 6;
-const FORM: usize = 7;
-const SORT: usize = 8;
-const OWNER: usize = 9;
+const LENGTH: u16 = 5;
+const RANGE: u16 = 6;
+const FORM: u16 = 7;
+const SORT: u16 = 8;
+const OWNER: u16 = 9;
+const OPERAND: u16 = 23;
 
 /// The code of a body's first fault, if it has one.
-type Checked = Result<(), usize>;
+type Checked = Result<(), u16>;
 
 /// Fails with the code unless the condition holds.
 #[inline(always)]
-fn demand(condition: bool, code: usize) -> Checked {
+fn demand(condition: bool, code: u16) -> Checked {
     if condition {
         Ok(())
     } else {
@@ -61,7 +63,7 @@ pub fn read<S: Search>(image: &[u8]) -> Answer {
     // Checks the body of the next record.
     let mut next = |check: &dyn Fn(&[u8]) -> Checked| {
         record += 1;
-        check(frames.body(record)).map_err(|code| Refusal { code, record })
+        check(frames.body(record)).map_err(|code| Refusal::at(code, record))
     };
     next(&|body| header::check(body, frames.threads))?;
     let n = header::counts(frames.body(1));

@@ -1,0 +1,45 @@
+//! The independent checker: from bytes to a verdict, on trees.
+//!
+//! The places of the verdict table follow each other as modules do here:
+//! [`frames`] (codes 2 to 4), [`body`] (5 to 9, and 23), [`obligations`] (20 to 22).
+
+pub mod body;
+pub mod frames;
+pub mod obligations;
+pub mod rules;
+pub mod verdict;
+
+use crate::image::Image;
+pub use verdict::{Refusal, Verdict};
+
+/// Judges one image.
+pub fn check(image: &[u8]) -> Verdict {
+    match decode(image) {
+        Ok(image) => obligations::judge(&image),
+        Err(refusal) => Verdict::refused(refusal),
+    }
+}
+
+/// Reads an image, or finds the first fault of its frames and bodies.
+pub fn decode(image: &[u8]) -> Result<Image, Refusal> {
+    let records = frames::split(image)?;
+    body::decode(&records)
+}
+
+/// Judges one image and writes the verdict record to the front of `out`.
+///
+/// The result is the verdict's code. Where `out` is too short the result is 1
+/// and nothing is written; bytes behind the record stay as they were.
+pub fn check_into(image: &[u8], out: &mut [u8]) -> u16 {
+    match out.get_mut(..verdict::RECORD_BYTES) {
+        None => verdict::OUTPUT_TOO_SHORT,
+        Some(record) => {
+            let verdict = check(image);
+            record.copy_from_slice(&verdict.record());
+            verdict.code
+        }
+    }
+}
+
+#[cfg(test)]
+mod tests;

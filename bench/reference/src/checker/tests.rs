@@ -1,0 +1,102 @@
+//! Verdicts worked out by hand.
+use super::obligations::{duties, Duty};
+use super::{check, check_into};
+use crate::formula::Test;
+use crate::image::Instruction;
+use std::rc::Rc;
+
+const SMALL: &str = "06 00 01 00 01 01 00 00  05 00 02 00 1C 0B 08  03 00 02 00 1B  \
+    03 00 03 00 01  04 00 04 00 01 00  0A 00 05 00 14 00 00 02 00 01 00 00  04 00 06 00 01 00";
+
+fn bytes(text: &str) -> Vec<u8> {
+    text.split_whitespace().map(|pair| u8::from_str_radix(pair, 16).expect("hexadecimal")).collect()
+}
+
+/// The small image with one byte changed.
+fn changed(place: usize, byte: u8) -> Vec<u8> {
+    let mut image = bytes(SMALL);
+    image[place] = byte;
+    image
+}
+
+fn verdict(image: &[u8]) -> String {
+    check(image).to_string()
+}
+
+#[test]
+fn small_image_is_accepted() {
+    assert_eq!(verdict(&bytes(SMALL)), "0 0 0 0 0 0 0 0 1");
+}
+
+#[test]
+fn small_image_without_a_line() {
+    let last = bytes(SMALL).len() - 2;
+    assert_eq!(verdict(&changed(last, 0)), "20 0 1 1 0 0 0 0 0");
+}
+
+#[test]
+fn whole_image() {
+    assert_eq!(verdict(&[]), "2 0 0 0 0 0 0 0 0");
+    assert_eq!(verdict(&vec![0; 65_536]), "2 0 0 0 0 0 0 0 0");
+    assert_eq!(verdict(&vec![0; 65_535]), "3 1 0 0 0 0 0 0 0");
+}
+
+#[test]
+fn frames() {
+    let image = bytes(SMALL);
+    assert_eq!(verdict(&image[..1]), "3 1 0 0 0 0 0 0 0");
+    assert_eq!(verdict(&image[..8]), "4 2 0 0 0 0 0 0 0");
+    assert_eq!(verdict(&[&image[..], &[0]].concat()), "3 8 0 0 0 0 0 0 0");
+    assert_eq!(verdict(&[&image[..], &[2, 0, 6, 0]].concat()), "4 8 0 0 0 0 0 0 0");
+    assert_eq!(verdict(&changed(2, 2)), "4 1 0 0 0 0 0 0 0");
+    assert_eq!(verdict(&changed(10, 7)), "4 2 0 0 0 0 0 0 0");
+}
+
+#[test]
+fn bodies() {
+    assert_eq!(verdict(&changed(4, 2)), "6 1 0 0 0 0 0 0 0"); // two threads, one record
+    assert_eq!(verdict(&changed(5, 2)), "5 1 0 0 0 0 0 0 0"); // two words
+    assert_eq!(verdict(&changed(7, 8)), "6 1 0 0 0 0 0 0 0"); // start value 8
+    assert_eq!(verdict(&changed(13, 14)), "7 2 0 0 0 0 0 0 0"); // a flag under holds
+    assert_eq!(verdict(&changed(14, 9)), "7 2 0 0 0 0 0 0 0"); // cut short
+    assert_eq!(verdict(&changed(24, 0)), "6 4 0 0 0 0 0 0 0"); // no points
+    assert_eq!(verdict(&changed(24, 2)), "5 4 0 0 0 0 0 0 0"); // an instruction is missing
+    assert_eq!(verdict(&changed(29, 2)), "8 5 0 0 0 0 0 0 0"); // start in the outline
+    assert_eq!(verdict(&changed(35, 17)), "6 6 0 0 0 0 0 0 0"); // no such rule
+    assert_eq!(verdict(&changed(35, 30)), "8 6 0 0 0 0 0 0 0"); // not intervals
+    assert_eq!(verdict(&changed(42, 1)), "5 6 0 0 0 0 0 0 0"); // a premise is missing
+    assert_eq!(verdict(&changed(47, 2)), "6 7 0 0 0 0 0 0 0"); // no line 2
+}
+
+#[test]
+fn obligations() {
+    assert_eq!(verdict(&changed(38, 1)), "21 0 1 1 0 0 0 1 0"); // true to true
+    assert_eq!(verdict(&changed(35, 27)), "22 0 1 1 0 0 0 1 0"); // another rule
+}
+
+#[test]
+fn output() {
+    let image = bytes(SMALL);
+    let mut short = [9; 21];
+    assert_eq!((check_into(&image, &mut short), short), (1, [9; 21]));
+    let mut long = [9; 23];
+    assert_eq!(check_into(&image, &mut long), 0);
+    let expected = "14 00 07 00 00 00 00 00 00 00 00 00 00 00 00 00 00 00 00 00 01 00 09";
+    assert_eq!(long.to_vec(), bytes(expected));
+}
+
+#[test]
+fn obligations_are_in_order() {
+    let load = || Instruction::Load { register: 1, word: 1, acquiring: false };
+    let branch = Instruction::Branch { test: Rc::new(Test::False), target: 0 };
+    let list = duties(&[vec![load(), branch], vec![load()]]);
+    let class = |duty: &Duty| match duty {
+        Duty::Start { .. } => 1,
+        Duty::Next { .. } => 2,
+        Duty::Taken { .. } => 3,
+        Duty::Kept { .. } => 4,
+    };
+    let classes: Vec<u8> = list.iter().map(class).collect();
+    assert_eq!(classes, [1, 1, 2, 3, 2, 2, 4, 4, 4, 4, 4]);
+    assert_eq!(list[10], Duty::Kept { thread: 2, point: 1, actor: 1, action: 0 });
+}

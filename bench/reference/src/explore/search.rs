@@ -1,0 +1,156 @@
+//! Breadth-first search over all runs, so that a breaking run found is a shortest one.
+
+use super::truth::is_true;
+use crate::image::Program;
+use crate::machine::{take, State, Step};
+use std::collections::HashSet;
+use std::rc::Rc;
+
+/// How far to search.
+#[derive(Clone, Copy, Debug, PartialEq, Eq)]
+pub struct Bounds {
+    /// The most steps of a run.
+    pub steps: usize,
+    /// The most writes in a word's row.
+    pub writes: usize,
+}
+
+/// What a search has found.
+#[derive(Clone, Debug, PartialEq, Eq)]
+pub struct Found {
+    pub states: usize,
+    pub outcome: Outcome,
+}
+
+#[derive(Clone, Debug, PartialEq, Eq)]
+pub enum Outcome {
+    /// Every assertion is true in every state; `all` if no bound cut the search.
+    Holds {
+        all: bool,
+    },
+    Breaks(Break),
+}
+
+/// A run that ends where an assertion is false.
+#[derive(Clone, Debug, PartialEq, Eq)]
+pub struct Break {
+    pub run: Vec<Step>,
+    /// The thread whose assertion is false.
+    pub thread: u8,
+}
+
+/// A state that was reached, and how.
+struct Node {
+    state: Rc<State>,
+    depth: usize,
+    /// The node before and the step from it; none for the start state.
+    origin: Option<(usize, Step)>,
+}
+
+struct Search<'a> {
+    program: &'a Program,
+    bounds: Bounds,
+    start: State,
+    /// All states reached, in the order of the steps that lead to them.
+    nodes: Vec<Node>,
+    known: HashSet<Rc<State>>,
+    /// Whether a bound kept some step from being tried.
+    cut: bool,
+}
+
+/// Evaluates each thread's assertion at its point in every state reached.
+pub fn explore(program: &Program, bounds: Bounds) -> Found {
+    let mut search = Search::new(program, bounds);
+    let outcome = match search.run() {
+        Some(broken) => Outcome::Breaks(broken),
+        None => Outcome::Holds { all: !search.cut },
+    };
+    Found { states: search.nodes.len(), outcome }
+}
+
+/// Every state reached, whatever the outline says.
+pub fn reachable(program: &Program, bounds: Bounds) -> Vec<Rc<State>> {
+    let mut search = Search::new(program, bounds);
+    let mut index = 0;
+    while index < search.nodes.len() {
+        search.expand(index);
+        index += 1;
+    }
+    search.nodes.into_iter().map(|node| node.state).collect()
+}
+
+impl<'a> Search<'a> {
+    /// A search that has reached the start state only.
+    fn new(program: &'a Program, bounds: Bounds) -> Search<'a> {
+        let start = State::start(&program.header);
+        let (nodes, known) = (Vec::new(), HashSet::new());
+        let mut search = Search { program, bounds, start, nodes, known, cut: false };
+        search.add(search.start.clone(), 0, None);
+        search
+    }
+
+    /// Visits states in the order of their distance from the start state.
+    fn run(&mut self) -> Option<Break> {
+        let mut index = 0;
+        while index < self.nodes.len() {
+            if let Some(thread) = self.false_at(index) {
+                return Some(Break { run: self.run_to(index), thread });
+            }
+            self.expand(index);
+            index += 1;
+        }
+        None
+    }
+
+    fn add(&mut self, state: State, depth: usize, origin: Option<(usize, Step)>) {
+        let state = Rc::new(state);
+        if self.known.insert(state.clone()) {
+            self.nodes.push(Node { state, depth, origin });
+        }
+    }
+
+    /// The first thread whose assertion at its point is false in a state.
+    fn false_at(&self, index: usize) -> Option<u8> {
+        let state = &self.nodes[index].state;
+        let mut places = (1..).zip(state.points.iter().copied());
+        let broken = |&(thread, point): &(u8, u8)| {
+            !is_true(self.program.assertion(thread, point), state, &self.start)
+        };
+        places.find(broken).map(|(thread, _)| thread)
+    }
+
+    /// Adds the states that one step more leads to, within the bounds.
+    fn expand(&mut self, index: usize) {
+        let (state, depth) = (self.nodes[index].state.clone(), self.nodes[index].depth);
+        let positions = state.rows.iter().map(Vec::len).max().unwrap_or(1);
+        for thread in 1..=state.points.len() as u8 {
+            for position in 0..positions {
+                let step = Step { thread, position };
+                let Some(next) = take(&self.program.threads, &state, step) else {
+                    continue;
+                };
+                if depth == self.bounds.steps || longest_row(&next) > self.bounds.writes {
+                    self.cut = true;
+                } else {
+                    self.add(next, depth + 1, Some((index, step)));
+                }
+            }
+        }
+    }
+
+    /// The steps that lead from the start state to a node.
+    fn run_to(&self, index: usize) -> Vec<Step> {
+        let mut run = Vec::new();
+        let mut node = &self.nodes[index];
+        while let Some((before, step)) = node.origin {
+            run.push(step);
+            node = &self.nodes[before];
+        }
+        run.reverse();
+        run
+    }
+}
+
+fn longest_row(state: &State) -> usize {
+    state.rows.iter().map(Vec::len).max().unwrap_or(0)
+}

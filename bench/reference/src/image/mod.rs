@@ -1,0 +1,213 @@
+//! A decoded image: program, outline, certificate, obligation numbers.
+
+pub mod written;
+
+use crate::formula::parse::Counts;
+use crate::formula::{Assertion, Formula, Interval, Test, Value};
+use std::ops::RangeInclusive;
+use std::rc::Rc;
+
+/// Counts, start values and owners.
+#[derive(Clone, Debug, PartialEq, Eq)]
+pub struct Header {
+    pub counts: Counts,
+    /// The value of each word at start.
+    pub start: Vec<u8>,
+    /// The thread that owns each register.
+    pub owners: Vec<u8>,
+}
+
+/// One instruction with its operands.
+#[derive(Clone, Debug, PartialEq, Eq)]
+pub enum Instruction {
+    Assign {
+        register: u8,
+        value: Rc<Value>,
+    },
+    Load {
+        register: u8,
+        word: u8,
+        acquiring: bool,
+    },
+    Store {
+        word: u8,
+        value: Rc<Value>,
+        releasing: bool,
+    },
+    Swap {
+        word: u8,
+        value: Rc<Value>,
+    },
+    /// A swap that keeps the old value in the register.
+    Exchange {
+        register: u8,
+        word: u8,
+        value: Rc<Value>,
+    },
+    /// The same, of the old value plus this one.
+    FetchAdd {
+        register: u8,
+        word: u8,
+        value: Rc<Value>,
+    },
+    Branch {
+        test: Rc<Test>,
+        target: u8,
+    },
+}
+
+impl Instruction {
+    pub fn is_branch(&self) -> bool {
+        matches!(self, Instruction::Branch { .. })
+    }
+
+    /// The shared word that is read or written, if there is one.
+    pub fn word(&self) -> Option<u8> {
+        match self {
+            Instruction::Load { word, .. }
+            | Instruction::Store { word, .. }
+            | Instruction::Swap { word, .. }
+            | Instruction::Exchange { word, .. }
+            | Instruction::FetchAdd { word, .. } => Some(*word),
+            Instruction::Assign { .. } | Instruction::Branch { .. } => None,
+        }
+    }
+
+    /// The register that is set, if there is one.
+    pub fn result(&self) -> Option<u8> {
+        match self {
+            Instruction::Assign { register, .. }
+            | Instruction::Load { register, .. }
+            | Instruction::Exchange { register, .. }
+            | Instruction::FetchAdd { register, .. } => Some(*register),
+            Instruction::Store { .. } | Instruction::Swap { .. } | Instruction::Branch { .. } => {
+                None
+            }
+        }
+    }
+
+    /// The formula that is worked out before the step, if there is one.
+    pub fn operand(&self) -> Option<Formula> {
+        match self {
+            Instruction::Assign { value, .. }
+            | Instruction::Store { value, .. }
+            | Instruction::Swap { value, .. }
+            | Instruction::Exchange { value, .. }
+            | Instruction::FetchAdd { value, .. } => Some(Formula::Value(value.clone())),
+            Instruction::Load { .. } => None,
+            Instruction::Branch { test, .. } => Some(Formula::Test(test.clone())),
+        }
+    }
+
+    /// The fields, with the number of the operand, 0 for none.
+    pub fn fields(&self, formula: u16) -> written::Instruction {
+        let (operation, a, b) = match self {
+            Instruction::Assign { register, .. } => (0, *register, 0),
+            Instruction::Load { register, word, acquiring } => {
+                (1 + u8::from(*acquiring), *register, *word)
+            }
+            Instruction::Store { word, releasing, .. } => (3 + u8::from(*releasing), *word, 0),
+            Instruction::Swap { word, .. } => (5, *word, 0),
+            Instruction::Branch { target, .. } => (6, *target, 0),
+            Instruction::Exchange { register, word, .. } => (7, *word, *register),
+            Instruction::FetchAdd { register, word, .. } => (8, *word, *register),
+        };
+        written::Instruction { operation, a, b, formula }
+    }
+}
+
+/// What a line of the certificate says.
+#[derive(Clone, Debug, PartialEq, Eq, Hash)]
+pub enum Statement {
+    /// The instruction at this point takes the left assertion to the right one.
+    Triple { thread: u8, point: u8, left: Rc<Assertion>, right: Rc<Assertion> },
+    /// The left assertion implies the right one.
+    Implication { left: Rc<Assertion>, right: Rc<Assertion> },
+    /// The left interval is contained in the right one.
+    Inclusion { left: Rc<Interval>, right: Rc<Interval> },
+}
+
+impl Statement {
+    /// The instruction's thread and point, 0 for a line that is about none.
+    pub fn place(&self) -> (u8, u8) {
+        match self {
+            Statement::Triple { thread, point, .. } => (*thread, *point),
+            Statement::Implication { .. } | Statement::Inclusion { .. } => (0, 0),
+        }
+    }
+
+    /// Left and right.
+    pub fn sides(&self) -> (Formula, Formula) {
+        match self {
+            Statement::Triple { left, right, .. } | Statement::Implication { left, right } => {
+                (Formula::Assertion(left.clone()), Formula::Assertion(right.clone()))
+            }
+            Statement::Inclusion { left, right } => {
+                (Formula::Interval(left.clone()), Formula::Interval(right.clone()))
+            }
+        }
+    }
+
+    /// Left and right of a triple or an implication.
+    pub fn assertions(&self) -> (&Rc<Assertion>, &Rc<Assertion>) {
+        match self {
+            Statement::Triple { left, right, .. } | Statement::Implication { left, right } => {
+                (left, right)
+            }
+            Statement::Inclusion { .. } => panic!("an inclusion has no assertions"),
+        }
+    }
+
+    /// Left and right of an inclusion.
+    pub fn intervals(&self) -> (&Rc<Interval>, &Rc<Interval>) {
+        match self {
+            Statement::Inclusion { left, right } => (left, right),
+            _ => panic!("only an inclusion has intervals"),
+        }
+    }
+}
+
+/// One line of the certificate. Premises are line numbers, counted from 1.
+#[derive(Clone, Debug, PartialEq, Eq)]
+pub struct Line {
+    pub rule: u8,
+    pub statement: Statement,
+    pub premises: Vec<u16>,
+}
+
+/// The instructions of a thread: one less than its points.
+pub type Thread = Vec<Instruction>;
+
+/// A program and the assertions at its points.
+#[derive(Clone, Debug, PartialEq, Eq)]
+pub struct Program {
+    pub header: Header,
+    pub threads: Vec<Thread>,
+    /// An assertion for each thread and point.
+    pub outline: Vec<Vec<Rc<Assertion>>>,
+}
+
+impl Program {
+    /// The instruction at a point of a thread, if there is one.
+    pub fn instruction(&self, thread: u8, point: u8) -> Option<&Instruction> {
+        self.threads.get(usize::from(thread).checked_sub(1)?)?.get(usize::from(point))
+    }
+
+    pub fn thread_numbers(&self) -> RangeInclusive<u8> {
+        1..=self.threads.len() as u8
+    }
+
+    /// The assertion at a point of a thread.
+    pub fn assertion(&self, thread: u8, point: u8) -> &Rc<Assertion> {
+        &self.outline[usize::from(thread) - 1][usize::from(point)]
+    }
+}
+
+/// A decoded image.
+#[derive(Clone, Debug, PartialEq, Eq)]
+pub struct Image {
+    pub program: Program,
+    pub lines: Vec<Line>,
+    /// A line number per obligation, 0 for none.
+    pub obligations: Vec<u16>,
+}

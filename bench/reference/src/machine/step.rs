@@ -1,0 +1,139 @@
+//! One step of the machine.
+
+use super::state::{State, View, Write};
+use crate::formula::{Value, RANGE};
+use crate::image::{Instruction, Thread};
+
+/// A thread number and a position in the row of the instruction's word;
+/// the position is 0 for assignment and branch.
+#[derive(Clone, Copy, Debug, PartialEq, Eq)]
+pub struct Step {
+    pub thread: u8,
+    pub position: usize,
+}
+
+/// The state after the step; none if the step is refused.
+pub fn take(threads: &[Thread], state: &State, step: Step) -> Option<State> {
+    let index = usize::from(step.thread).checked_sub(1)?;
+    let point = *state.points.get(index)?;
+    let instruction = threads.get(index)?.get(usize::from(point))?;
+    let mut next = match instruction {
+        Instruction::Assign { register, value } => assign(state, step.position, *register, value)?,
+        Instruction::Load { register, word, acquiring } => {
+            load(state, step, *register, *word, *acquiring)?
+        }
+        Instruction::Store { word, value, releasing } => {
+            let new = evaluated(value, state);
+            write(state, step, *word, new, Kind { releasing: *releasing, swap: false })?
+        }
+        Instruction::Swap { word, value } => {
+            write(state, step, *word, evaluated(value, state), Kind::SWAP)?
+        }
+        Instruction::Exchange { register, word, value } => {
+            let new = evaluated(value, state);
+            fetch(state, step, *register, *word, |_| new)?
+        }
+        Instruction::FetchAdd { register, word, value } => {
+            let more = evaluated(value, state);
+            fetch(state, step, *register, *word, |old| (old + more) % RANGE)?
+        }
+        Instruction::Branch { test, target } => {
+            let taken = test.evaluate(&state.seen_at(View::default()));
+            let mut next = (step.position == 0).then(|| state.clone())?;
+            next.points[index] = if taken { *target } else { point + 1 };
+            return Some(next);
+        }
+    };
+    next.points[index] = point + 1;
+    Some(next)
+}
+
+/// An instruction's value. It asks registers only, so the view does not matter.
+fn evaluated(value: &Value, state: &State) -> u8 {
+    value.evaluate(&state.seen_at(View::default()))
+}
+
+fn assign(state: &State, position: usize, register: u8, value: &Value) -> Option<State> {
+    let mut next = (position == 0).then(|| state.clone())?;
+    next.registers[usize::from(register) - 1] = evaluated(value, state);
+    Some(next)
+}
+
+/// The position, if the row has it and it is at or after the thread's own.
+fn reached(state: &State, step: Step, word: u8) -> Option<u8> {
+    let own = usize::from(state.view(step.thread).at(word));
+    let there = own <= step.position && step.position < state.row(word).len();
+    there.then_some(step.position as u8)
+}
+
+fn load(state: &State, step: Step, register: u8, word: u8, acquiring: bool) -> Option<State> {
+    let position = reached(state, step, word)?;
+    let read = state.row(word)[step.position];
+    let view = state.view(step.thread);
+    let mut next = state.clone();
+    next.views[usize::from(step.thread) - 1] = if acquiring && read.releasing {
+        view.joined(&read.stored)
+    } else {
+        view.moved(word, position)
+    };
+    next.registers[usize::from(register) - 1] = read.value;
+    Some(next)
+}
+
+/// How a write is made: releasing or not, covering the picked write or not.
+struct Kind {
+    releasing: bool,
+    swap: bool,
+}
+
+impl Kind {
+    const SWAP: Kind = Kind { releasing: true, swap: true };
+}
+
+/// A swap by what `new` makes of the old value, which goes to the register.
+fn fetch(
+    state: &State,
+    step: Step,
+    register: u8,
+    word: u8,
+    new: impl Fn(u8) -> u8,
+) -> Option<State> {
+    let picked = reached(state, step, word)?;
+    let old = state.row(word)[usize::from(picked)].value;
+    let mut next = write(state, step, word, new(old), Kind::SWAP)?;
+    next.registers[usize::from(register) - 1] = old;
+    Some(next)
+}
+
+fn write(state: &State, step: Step, word: u8, value: u8, kind: Kind) -> Option<State> {
+    let picked = reached(state, step, word)?;
+    if state.row(word)[step.position].covered {
+        return None;
+    }
+    let mut next = make_room(state, word, picked);
+    let row = usize::from(word) - 1;
+    let behind = next.rows[row][step.position];
+    let mut view = next.view(step.thread).moved(word, picked + 1);
+    if kind.swap {
+        next.rows[row][step.position].covered = true;
+        if behind.releasing {
+            view = view.joined(&behind.stored);
+        }
+    }
+    let new = Write { value, releasing: kind.releasing, covered: false, stored: view };
+    next.rows[row].insert(step.position + 1, new);
+    next.views[usize::from(step.thread) - 1] = view;
+    Some(next)
+}
+
+/// The state with every view renumbered for a write directly behind `picked`.
+fn make_room(state: &State, word: u8, picked: u8) -> State {
+    let mut next = state.clone();
+    for view in &mut next.views {
+        *view = view.renumbered(word, picked);
+    }
+    for write in next.rows.iter_mut().flatten() {
+        write.stored = write.stored.renumbered(word, picked);
+    }
+    next
+}

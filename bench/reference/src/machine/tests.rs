@@ -1,0 +1,159 @@
+//! Steps worked out by hand.
+use super::{take, State, Step, View};
+use crate::formula::parse::Counts;
+use crate::formula::{Test, Value};
+use crate::image::{Header, Instruction, Thread};
+use std::rc::Rc;
+
+fn start(threads: u8) -> State {
+    let counts = Counts { threads, words: 2, registers: 1 };
+    State::start(&Header { counts, start: vec![3, 0], owners: vec![1] })
+}
+
+fn store(word: u8, value: u8, releasing: bool) -> Instruction {
+    Instruction::Store { word, value: Rc::new(Value::Constant(value)), releasing }
+}
+
+fn swap(word: u8, value: u8) -> Instruction {
+    Instruction::Swap { word, value: Rc::new(Value::Constant(value)) }
+}
+
+fn load(word: u8, acquiring: bool) -> Instruction {
+    Instruction::Load { register: 1, word, acquiring }
+}
+
+/// The state after steps of which none is refused.
+fn run(threads: &[Thread], steps: &[(u8, usize)]) -> State {
+    steps.iter().fold(start(threads.len() as u8), |state, &(thread, position)| {
+        take(threads, &state, Step { thread, position }).expect("an allowed step")
+    })
+}
+
+fn refused(threads: &[Thread], steps: &[(u8, usize)], thread: u8, position: usize) -> bool {
+    take(threads, &run(threads, steps), Step { thread, position }).is_none()
+}
+
+fn values(state: &State, word: u8) -> Vec<u8> {
+    state.row(word).iter().map(|write| write.value).collect()
+}
+
+fn view(positions: [u8; 2]) -> View {
+    View::default().moved(1, positions[0]).moved(2, positions[1])
+}
+
+#[test]
+fn a_store_goes_directly_behind_its_pick() {
+    let threads = [vec![store(1, 1, false)], vec![store(1, 2, false)]];
+    let state = run(&threads, &[(1, 0), (2, 0)]);
+    assert_eq!(values(&state, 1), [3, 2, 1]);
+    assert_eq!(state.views, [view([2, 0]), view([1, 0])]);
+    assert_eq!(state.row(1)[2].stored, view([2, 0]));
+    assert_eq!(state.points, [1, 1]);
+}
+
+#[test]
+fn a_load_reads_any_write_from_its_own_on() {
+    let threads = [vec![store(1, 1, false), load(1, false)], vec![load(1, false), load(1, false)]];
+    assert_eq!(run(&threads, &[(1, 0), (2, 0)]).registers, [3]);
+    assert_eq!(run(&threads, &[(1, 0), (2, 1)]).registers, [1]);
+    assert!(refused(&threads, &[(1, 0)], 1, 0)); // before its own write
+    assert!(refused(&threads, &[(1, 0), (2, 1)], 2, 0));
+    assert!(refused(&threads, &[(1, 0)], 2, 2)); // no such write
+}
+
+#[test]
+fn only_an_acquiring_load_of_a_releasing_write_joins() {
+    let joined = |releasing, acquiring| {
+        let writer = vec![store(1, 1, false), store(2, 1, releasing)];
+        let threads = [writer, vec![load(2, acquiring)]];
+        run(&threads, &[(1, 0), (1, 0), (2, 1)]).views[1]
+    };
+    assert_eq!(joined(true, true), view([1, 1]));
+    assert_eq!(joined(true, false), view([0, 1]));
+    assert_eq!(joined(false, true), view([0, 1]));
+}
+
+#[test]
+fn a_swap_covers_its_pick_and_joins() {
+    let writer = vec![store(2, 4, false), store(1, 1, true)];
+    let threads = [writer, vec![swap(1, 2)], vec![load(1, false), store(1, 5, false)]];
+    let state = run(&threads, &[(1, 0), (1, 0), (2, 1)]);
+    assert_eq!(values(&state, 1), [3, 1, 2]);
+    assert_eq!(state.row(1).iter().map(|w| w.covered).collect::<Vec<_>>(), [false, true, false]);
+    assert!(state.row(1)[2].releasing);
+    assert_eq!(state.views[1], view([2, 1]));
+    assert_eq!(state.row(1)[2].stored, view([2, 1]));
+    // A covered write is read as any other, but nothing is stored behind it.
+    let before = [(1, 0), (1, 0), (2, 1), (3, 1)];
+    assert_eq!(run(&threads, &before).registers, [1]);
+    assert!(refused(&threads, &before, 3, 1));
+    assert!(!refused(&threads, &before, 3, 2));
+    assert!(refused(&threads, &before, 3, 0));
+}
+
+fn exchange(word: u8, value: u8) -> Instruction {
+    Instruction::Exchange { register: 1, word, value: Rc::new(Value::Constant(value)) }
+}
+
+fn fetch_add(word: u8, value: u8) -> Instruction {
+    Instruction::FetchAdd { register: 1, word, value: Rc::new(Value::Constant(value)) }
+}
+
+#[test]
+fn exchange_and_fetch_add_are_swaps_that_keep_the_old_value() {
+    let writer = vec![store(2, 4, false), store(1, 6, true)];
+    let steps = [(1, 0), (1, 0), (2, 1)];
+    let swapped = run(&[writer.clone(), vec![swap(1, 2)]], &steps);
+    for (action, new) in [(exchange(1, 2), 2), (fetch_add(1, 3), 1)] {
+        let threads = [writer.clone(), vec![action.clone(), action]];
+        let state = run(&threads, &steps);
+        assert_eq!(state.registers, [6]); // the old value, not the new one
+        assert_eq!(values(&state, 1), [3, 6, new]);
+        let mut expected = swapped.clone();
+        expected.rows[0][2].value = new;
+        expected.registers = vec![6];
+        assert_eq!(state, expected);
+        assert!(refused(&threads, &steps, 2, 1)); // covered
+        assert!(refused(&threads, &steps, 2, 3)); // no such write
+        assert!(!refused(&threads, &steps, 2, 2));
+    }
+}
+
+#[test]
+fn an_operand_is_worked_out_before_the_step() {
+    let sum = Value::sum(Value::Register(2), Value::Constant(1));
+    let threads = [vec![
+        Instruction::Assign { register: 2, value: Rc::new(Value::Constant(2)) },
+        Instruction::Exchange { register: 1, word: 1, value: Rc::new(sum.clone()) },
+        Instruction::FetchAdd { register: 2, word: 1, value: Rc::new(Value::Register(1)) },
+    ]];
+    let counts = Counts { threads: 1, words: 2, registers: 2 };
+    let start = State::start(&Header { counts, start: vec![3, 0], owners: vec![1, 1] });
+    let step = |state: State, position| {
+        take(&threads, &state, Step { thread: 1, position }).expect("an allowed step")
+    };
+    let state = step(step(step(start, 0), 0), 1);
+    assert_eq!(values(&state, 1), [3, 3, 6]);
+    assert_eq!(state.registers, [3, 3]);
+}
+
+#[test]
+fn a_branch_goes_by_its_test() {
+    let test = |value| Rc::new(Test::equal(Value::Register(1), Value::Constant(value)));
+    let one = |value| [vec![Instruction::Branch { test: test(value), target: 0 }]];
+    assert_eq!(run(&one(0), &[(1, 0)]).points, [0]);
+    assert_eq!(run(&one(1), &[(1, 0)]).points, [1]);
+    assert!(refused(&one(0), &[], 1, 1));
+    assert!(refused(&one(1), &[(1, 0)], 1, 0)); // at its last point
+    assert!(refused(&one(0), &[], 2, 0)); // absent
+    assert!(refused(&one(0), &[], 0, 0));
+}
+
+#[test]
+fn sums_are_modulo_eight() {
+    let sum = Value::sum(Value::Register(1), Value::sum(Value::Constant(7), Value::Constant(3)));
+    let assign = Instruction::Assign { register: 1, value: Rc::new(sum) };
+    let threads = [vec![assign.clone(), assign]];
+    assert_eq!(run(&threads, &[(1, 0), (1, 0)]).registers, [4]);
+    assert!(refused(&threads, &[], 1, 1));
+}

@@ -1,0 +1,28 @@
+//! Writes the stored sets and the images with hand-written proofs into a folder.
+//!
+//! Usage: vectors FOLDER
+
+use sets::examples::{message_passing, two_writes};
+use sets::vectors::{formulas, images, rules, store};
+use std::io::{Error, Result};
+use std::path::Path;
+
+fn main() -> Result<()> {
+    let folder = std::env::args().nth(1).ok_or_else(|| Error::other("usage: vectors FOLDER"))?;
+    let folder = Path::new(&folder);
+    std::fs::create_dir_all(folder)?;
+    let formulas = formulas::cases();
+    store::write_formulas(folder, "formula-bytes", &formulas)?;
+    let sets = [
+        ("formulas", formulas::images(&formulas)),
+        ("images", images::cases()),
+        ("rules", rules::cases()),
+    ];
+    for (name, cases) in sets {
+        store::write_images(folder, name, &cases)?;
+        println!("{name}: {} cases", cases.len());
+    }
+    std::fs::write(folder.join("message-passing.image"), message_passing().bytes())?;
+    std::fs::write(folder.join("two-writes.image"), two_writes().bytes())?;
+    Ok(())
+}

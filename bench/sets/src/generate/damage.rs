@@ -1,0 +1,104 @@
+//! Damage to the records and bytes of an image.
+
+use super::random::Random;
+use reference::checker::frames;
+use reference::image::written::{image_bytes, Record};
+
+/// The bytes of the records with one or two faults put in.
+pub fn damaged(random: &mut Random, mut records: Vec<Record>) -> Vec<u8> {
+    if random.chance(85) {
+        edit_records(random, &mut records);
+    }
+    if random.chance(20) {
+        edit_records(random, &mut records);
+    }
+    let mut bytes = image_bytes(&records);
+    if random.chance(25) {
+        edit_bytes(random, &mut bytes);
+    }
+    bytes
+}
+
+/// One change of a record or of the order of records.
+fn edit_records(random: &mut Random, records: &mut Vec<Record>) {
+    if records.is_empty() {
+        return;
+    }
+    let index = random.below(records.len());
+    match random.below(12) {
+        0 => records[index].kind = u16::from(random.between(0, 8)),
+        1 => {
+            records.remove(index);
+        }
+        2 => records.insert(index, records[index].clone()),
+        3 => records.swap(index, 0),
+        4 => edit_length(random, &mut records[index].body),
+        5 => set_owner(random, records),
+        6..=8 => edit_of_kind(random, records),
+        _ => edit_body(random, &mut records[index].body),
+    }
+}
+
+/// Changes a body of a kind chosen first, so that rare kinds are met too.
+fn edit_of_kind(random: &mut Random, records: &mut [Record]) {
+    let kind = u16::from(random.between(1, 6));
+    let of_kind: Vec<usize> =
+        (0..records.len()).filter(|&index| records[index].kind == kind).collect();
+    if !of_kind.is_empty() {
+        let index = *random.pick(&of_kind);
+        edit_body(random, &mut records[index].body);
+    }
+}
+
+fn edit_length(random: &mut Random, body: &mut Vec<u8>) {
+    match random.below(3) {
+        0 => body.push(random.between(0, 3)),
+        1 => {
+            body.pop();
+        }
+        _ => body.resize(if random.chance(50) { 256 } else { 0 }, 11),
+    }
+}
+
+fn edit_body(random: &mut Random, body: &mut [u8]) {
+    if body.is_empty() {
+        return;
+    }
+    let place = random.below(body.len());
+    body[place] = match random.below(4) {
+        0 => body[place].wrapping_add(1),
+        1 => body[place].wrapping_sub(1),
+        2 => random.between(0, 30),
+        _ => random.between(0, 255),
+    };
+}
+
+/// Gives a register to another thread, which tells in instructions.
+fn set_owner(random: &mut Random, records: &mut [Record]) {
+    let body = &mut records[0].body;
+    if body.len() > 3 {
+        let words = usize::from(body[1]);
+        if body.len() > 3 + words {
+            let place = 3 + words + random.below(body.len() - 3 - words);
+            body[place] = random.between(1, body[0].clamp(1, 3));
+        }
+    }
+}
+
+/// One change of the bytes that pays no heed to records.
+fn edit_bytes(random: &mut Random, bytes: &mut Vec<u8>) {
+    if bytes.is_empty() {
+        return;
+    }
+    let place = random.below(bytes.len());
+    match random.below(6) {
+        0 => bytes.truncate(place),
+        1 => bytes.push(random.between(0, 7)),
+        2 => bytes.insert(place, random.between(0, 30)),
+        3 => {
+            bytes.remove(place);
+        }
+        4 => bytes.resize(frames::IMAGE_BYTES + random.below(2), 0),
+        _ => bytes[place] = random.between(0, 255),
+    }
+}

@@ -1,0 +1,91 @@
+//! Random headers and programs.
+
+use super::random::Random;
+use super::vocabulary::Vocabulary;
+use reference::formula::parse::Counts;
+use reference::formula::Value;
+use reference::image::{Header, Instruction, Thread};
+use std::rc::Rc;
+
+/// A header; most are small, some use every name.
+pub fn header(random: &mut Random) -> Header {
+    let large = random.chance(8);
+    let threads = random.between(1, 3);
+    let words = if large { 8 } else { random.between(1, 3) };
+    let registers = if large { 16 } else { random.between(0, 4) };
+    let start = (0..words).map(|_| random.between(0, 7)).collect();
+    let owners = (0..registers).map(|_| random.between(1, threads)).collect();
+    Header { counts: Counts { threads, words, registers }, start, owners }
+}
+
+/// The registers that a thread owns.
+fn own_registers(header: &Header, thread: u8) -> Vec<u8> {
+    (1..).zip(&header.owners).filter(|(_, &owner)| owner == thread).map(|(r, _)| r).collect()
+}
+
+/// An instruction with one of these operations; `None` if the thread owns no
+/// register and the operation chosen needs one.
+pub fn instruction(
+    random: &mut Random,
+    header: &Header,
+    thread: u8,
+    points: u8,
+    operations: &[u8],
+) -> Option<Instruction> {
+    let operation = *random.pick(operations);
+    let own = Vocabulary::of(header).own(thread, header);
+    let registers = own_registers(header, thread);
+    let word = random.between(1, header.counts.words);
+    Some(match operation {
+        0 => {
+            let register = *random.pick(some(&registers)?);
+            Instruction::Assign { register, value: own.value(random, 2) }
+        }
+        1 | 2 => {
+            let register = *random.pick(some(&registers)?);
+            Instruction::Load { register, word, acquiring: operation == 2 }
+        }
+        3 | 4 => {
+            let value = own.value(random, 2);
+            Instruction::Store { word, value, releasing: operation == 4 }
+        }
+        5 => Instruction::Swap { word, value: own.value(random, 2) },
+        6 => {
+            let target = random.between(0, points - 1);
+            Instruction::Branch { test: own.test(random, 2), target }
+        }
+        _ => {
+            let register = *random.pick(some(&registers)?);
+            let value = operand(random, own, register);
+            match operation {
+                7 => Instruction::Exchange { register, word, value },
+                _ => Instruction::FetchAdd { register, word, value },
+            }
+        }
+    })
+}
+
+/// The operand of an exchange or fetch-add; now and then it may name the result register, which is a fault.
+fn operand(random: &mut Random, own: Vocabulary, register: u8) -> Rc<Value> {
+    let faulty = random.chance(4);
+    let names = if faulty { own } else { own.without_register(register) };
+    names.value(random, 2)
+}
+
+/// The list, if it has an item.
+fn some(items: &[u8]) -> Option<&[u8]> {
+    (!items.is_empty()).then_some(items)
+}
+
+/// A thread with this many points and any instructions.
+pub fn thread(random: &mut Random, header: &Header, thread: u8, points: u8) -> Thread {
+    let any = [0, 1, 2, 3, 4, 5, 6, 7, 8];
+    let without_register = [3, 4, 5, 6];
+    (1..points)
+        .map(|_| {
+            instruction(random, header, thread, points, &any)
+                .or_else(|| instruction(random, header, thread, points, &without_register))
+                .expect("no register is needed")
+        })
+        .collect()
+}

@@ -1,0 +1,60 @@
+//! Codes 5 and 6 in the header.
+
+use super::{Case, Draft};
+use reference::checker::frames::{HEADER, THREAD};
+
+pub fn cases() -> Vec<Case> {
+    [lengths(), ranges()].concat()
+}
+
+fn lengths() -> Vec<Case> {
+    let put = |label: &str, body: &[u8]| Draft::new().put(HEADER, 0, body).case(label);
+    let sound = Draft::new().body(HEADER, 0).clone();
+    let most = |bytes: usize| [&[2, 255, 255][..], &vec![1; bytes]].concat();
+    vec![
+        put("5: header without bytes", &[]),
+        put("5: header of 1 byte", &[2]),
+        put("5: header of 2 bytes", &[2, 2]),
+        put("5: header of 3 bytes, counts as written want more", &[2, 2, 3]),
+        put("5: header without its last owner", &sound[..sound.len() - 1]),
+        put("5: header with a byte too many", &[&sound[..], &[1]].concat()),
+        put("6: header with no words, length as written", &[2, 0, 3, 1, 2, 1]),
+        put("6: header with 9 words, length as written", &[&[2, 9, 0][..], &[0; 9]].concat()),
+        put("6: header with 17 registers", &[&[2, 1, 17, 0][..], &[1; 17]].concat()),
+        put("6: header with 255 words and 255 registers", &most(510)),
+        put("5: header with 255 words and a byte too few", &most(509)),
+        put("6: header of 3 bytes, no words, no registers", &[2, 0, 0]),
+        put("6: header with no threads", &[0, 1, 0, 0]),
+    ]
+}
+
+fn ranges() -> Vec<Case> {
+    let set = |label: String, place: usize, byte: u8| {
+        Draft::new().set(HEADER, 0, place, byte).case(label)
+    };
+    let mut cases = Vec::new();
+    for threads in [0, 1, 3, 4, 255] {
+        cases.push(set(format!("6: header with {threads} threads, 2 records"), 0, threads));
+    }
+    for (place, name) in [(3, "first start value"), (4, "last start value")] {
+        for value in [8, 255] {
+            cases.push(set(format!("6: {name} {value}"), place, value));
+        }
+    }
+    for (place, name) in [(5, "first owner"), (6, "middle owner"), (8, "last owner")] {
+        for owner in [0, 3, 255] {
+            cases.push(set(format!("6: {name} {owner}"), place, owner));
+        }
+    }
+    cases.push(set("accepted: greatest start value".into(), 3, 7));
+    cases.push(fewer_threads());
+    cases
+}
+
+/// The header has two threads, there is one thread record.
+fn fewer_threads() -> Case {
+    let mut draft = Draft::new();
+    let second = draft.index(THREAD, 1);
+    draft.records.remove(second);
+    draft.case("6: header with 2 threads, 1 record")
+}

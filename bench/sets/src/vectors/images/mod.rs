@@ -1,0 +1,36 @@
+//! Damaged images: each condition of the verdict table's places "whole image",
+//! "record frame" and "body".
+
+mod formula;
+mod frames;
+mod header;
+mod line;
+mod numbers;
+mod obligations;
+mod outline;
+mod thread;
+
+use super::edits::Draft;
+use super::{precedence, Case};
+
+/// The scope page's small image.
+pub const SMALL: [u8; 49] = [
+    6, 0, 1, 0, 1, 1, 0, 0, 5, 0, 2, 0, 28, 11, 8, 3, 0, 2, 0, 27, 3, 0, 3, 0, 1, 4, 0, 4, 0, 1, 0,
+    10, 0, 5, 0, 20, 0, 0, 2, 0, 1, 0, 0, 4, 0, 6, 0, 1, 0,
+];
+
+/// All cases of the set.
+pub fn cases() -> Vec<Case> {
+    [
+        frames::cases(),
+        header::cases(),
+        formula::cases(),
+        thread::cases(),
+        outline::cases(),
+        line::cases(),
+        numbers::cases(),
+        obligations::cases(),
+        precedence::cases(),
+    ]
+    .concat()
+}

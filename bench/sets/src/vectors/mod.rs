@@ -1,0 +1,30 @@
+//! Stored sets of images with their verdicts.
+//!
+//! The verdicts are the independent checker's. Each case has a label that names
+//! the clause of the scope page that it tests.
+
+pub mod edits;
+pub mod expected;
+pub mod formulas;
+pub mod images;
+mod nesting;
+pub mod precedence;
+pub mod rules;
+pub mod store;
+pub mod tour;
+
+/// One stored image.
+#[derive(Clone, Debug, PartialEq, Eq)]
+pub struct Case {
+    pub label: String,
+    pub image: Vec<u8>,
+}
+
+impl Case {
+    pub fn new(label: impl Into<String>, image: Vec<u8>) -> Case {
+        Case { label: label.into(), image }
+    }
+}
+
+#[cfg(test)]
+mod tests;

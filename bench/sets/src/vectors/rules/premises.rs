@@ -1,0 +1,142 @@
+//! Premises: too few, too many, exchanged, unjustified, of another form, for
+//! another instruction, saying something else.
+
+use super::frame::{image_with_twin, operations, rich_instance};
+use crate::vectors::Case;
+use reference::checker::rules::rules;
+use reference::formula::{Assertion, Interval};
+use reference::image::Statement;
+use reference::proof::{consequence, implies, included, triple, Lemma, Proof};
+use std::rc::Rc;
+
+pub fn cases() -> Vec<Case> {
+    let mut cases = Vec::new();
+    for rule in rules() {
+        let operation = operations(rule)[0];
+        let lemma = rich_instance(rule, operation);
+        let mut variants = counts(&lemma);
+        for index in 0..lemma.premises.len() {
+            variants.extend(replaced(&lemma, index));
+        }
+        for (what, changed) in variants {
+            let label = format!("rule {rule}: {what}");
+            cases.push(Case::new(label, image_with_twin(operation, &changed)));
+        }
+    }
+    cases
+}
+
+/// The line with other premises.
+fn with(lemma: &Lemma, premises: Vec<Lemma>) -> Lemma {
+    Rc::new(Proof { premises, ..Proof::clone(lemma) })
+}
+
+/// A justified implication.
+fn implication() -> Lemma {
+    implies(20, Assertion::truth(), Assertion::truth(), &[])
+}
+
+/// A justified inclusion.
+fn inclusion() -> Lemma {
+    included(46, Interval::One(1), Interval::One(1), &[])
+}
+
+type Variant = (String, Lemma);
+
+/// Premises left out, added and exchanged.
+fn counts(lemma: &Lemma) -> Vec<Variant> {
+    let own = &lemma.premises;
+    let mut variants = Vec::new();
+    let mut longer = own.clone();
+    for count in own.len() + 1..=4 {
+        longer.push(own.last().cloned().unwrap_or_else(implication));
+        variants.push((format!("{count} premises"), with(lemma, longer.clone())));
+    }
+    for index in 0..own.len() {
+        let mut shorter = own.clone();
+        shorter.remove(index);
+        variants.push((format!("premise {} left out", index + 1), with(lemma, shorter)));
+    }
+    for index in 1..own.len() {
+        let mut exchanged = own.clone();
+        exchanged.swap(index - 1, index);
+        let what = format!("premises {index} and {} exchanged", index + 1);
+        variants.push((what, with(lemma, exchanged)));
+    }
+    variants
+}
+
+/// One premise replaced.
+fn replaced(lemma: &Lemma, index: usize) -> Vec<Variant> {
+    let premise = &lemma.premises[index];
+    let mut variants = vec![
+        ("is unjustified", unjustified(premise)),
+        ("is an implication", implication()),
+        ("is an inclusion", inclusion()),
+    ];
+    if let Statement::Triple { thread, left, right, .. } = &premise.statement {
+        let elsewhere = Statement::Triple {
+            thread: *thread,
+            point: 1,
+            left: left.clone(),
+            right: right.clone(),
+        };
+        let moved = Proof { statement: elsewhere, ..Proof::clone(premise) };
+        variants.push(("is for an equal instruction at point 1", Rc::new(moved)));
+    } else {
+        let own = triple(1, super::frame::PLACE, Assertion::truth(), Assertion::truth(), &[]);
+        variants.push(("is a triple", own));
+    }
+    variants.push(("says something else on the left", restated(premise, true)));
+    variants.push(("says something else on the right", restated(premise, false)));
+    let put = |line: Lemma| {
+        let mut premises = lemma.premises.clone();
+        premises[index] = line;
+        with(lemma, premises)
+    };
+    let number = index + 1;
+    variants
+        .into_iter()
+        .map(|(what, line)| (format!("premise {number} {what}"), put(line)))
+        .collect()
+}
+
+/// The same statement by a rule that does not give it.
+fn unjustified(premise: &Lemma) -> Lemma {
+    let rule = match premise.statement {
+        Statement::Triple { .. } => 13,
+        Statement::Implication { .. } => 27,
+        Statement::Inclusion { .. } => 44,
+    };
+    Rc::new(Proof { rule, ..Proof::clone(premise) })
+}
+
+/// A justified line that agrees with the premise on one side and not on the other.
+fn restated(premise: &Lemma, on_left: bool) -> Lemma {
+    match &premise.statement {
+        Statement::Triple { left, right, .. } => {
+            let (p, q) = (left.clone(), right.clone());
+            if on_left {
+                consequence(Assertion::both(p, Assertion::truth()), premise, q)
+            } else {
+                consequence(p, premise, Assertion::either(q, Assertion::truth()))
+            }
+        }
+        Statement::Implication { left, right } => {
+            let (p, q) = (left.clone(), right.clone());
+            if on_left {
+                implies(20, Assertion::both(q.clone(), p), q, &[])
+            } else {
+                implies(20, p.clone(), Assertion::either(p, q), &[])
+            }
+        }
+        Statement::Inclusion { left, right } => {
+            let (a, b) = (left.clone(), right.clone());
+            if on_left {
+                included(39, Interval::both(b.clone(), a), b, &[])
+            } else {
+                included(42, a.clone(), Interval::either(a, b), &[])
+            }
+        }
+    }
+}
