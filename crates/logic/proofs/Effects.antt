@@ -12,7 +12,7 @@ use Rattle.logic.specs.Formula.{Value, Test}
 use Rattle.logic.specs.Replace.{Note}
 use Rattle.logic.specs.Eval.{onRegs, test}
 use Rattle.logic.specs.Machine.{View, Write, State, Program, Mode.store, Mode.swap, Mode.exchange, Mode.fetchAdd, Access, Access.none, Access.load, Access.write, Instr.act, Instr.branch, worked, join, down, upView, upWrite, moveTo, insert, cover, swapView, swapped, withRegs, done, exec}
-use Rattle.logic.proofs.Base.{upds, upd-other₁}
+use Rattle.logic.proofs.Base.{upds, upd-other₁, up-is, down-is}
 
 -- INSERTION of a write behind the position p of x. The write that was at i of y is at j: nothing moves but the writes of x after p
 pub record Keeps (x p y i j : ℕ) : Type 0 where
@@ -105,8 +105,8 @@ pub record Goes (k t : ℕ) (s s' : State) : Type 0 where
 keeps-up : (x p y : ℕ) (w : View) → Keeps x p y (w y) (upView x p w y)
 keeps-up x p y w = record {
   elsewhere = λ q. simp upds;
-  not-after = λ e h. subst (λ (z : ℕ). w z ≤ p → upView x p w z ≡ w z) (sym e) (λ k. simp upds (omega arith)) h;
-  after = λ e h. subst (λ (z : ℕ). p < w z → upView x p w z ≡ suc (w z)) (sym e) (λ k. simp upds (omega arith)) h;
+  not-after = λ e h. subst (λ (z : ℕ). w z ≤ p → upView x p w z ≡ w z) (sym e) (λ k. simp upds (omega (arith, up-is p (w x)))) h;
+  after = λ e h. subst (λ (z : ℕ). p < w z → upView x p w z ≡ suc (w z)) (sym e) (λ k. simp upds (omega (arith, up-is p (w x)))) h;
 }
 
 keeps-write : (x p : ℕ) (w : Write) → KeepsWrite x p w (upWrite x p w)
@@ -124,13 +124,13 @@ module _ (releasing : Bool) (x n t p : ℕ) (v : View) (s : State) where
       go true e =
           let h : i ≤ p = leb-true i p e in
           let q : j ≡ i = k .not-after refl h in
-          let d : down p j ≡ i = omega arith in
+          let d : down p j ≡ i = omega (arith, down-is p j) in
           let m : j ≢ suc p = λ z. omega arith in
           simp upds (ap (λ (z : ℕ). upWrite x p (s .row x z)) d)
       go false e =
           let h : p < i = leb-false i p e in
           let q : j ≡ suc i = k .after refl h in
-          let d : down p j ≡ i = omega arith in
+          let d : down p j ≡ i = omega (arith, down-is p j) in
           let m : j ≢ suc p = λ z. omega arith in
           simp upds (ap (λ (z : ℕ). upWrite x p (s .row x z)) d)
 

@@ -102,13 +102,13 @@ at P s v = record {
 
 -- INSERTION: a new write directly behind position p of a row stands at p + 1
 
--- where a position goes: one further if it is after p (min 1 (i - p) is 1 just then)
-abbrev pub up : ℕ → ℕ → ℕ
-up p i = i + min 1 (i - p)
+-- where a position goes: one further if it is after p
+unfoldable pub up : ℕ → ℕ → ℕ
+up p i = cond (leb i p) i (suc i)
 
--- where a position comes from; the new one, p + 1, is taken for p
-abbrev pub down : ℕ → ℕ → ℕ
-down p i = i - min 1 (i - p)
+-- where a position comes from: one back if it is after p. (The new one, p + 1, is taken for p)
+unfoldable pub down : ℕ → ℕ → ℕ
+down p i = cond (leb i p) i (i - 1)
 
 -- a view keeps its write when others are inserted
 abbrev pub upView : ℕ → ℕ → View → View
