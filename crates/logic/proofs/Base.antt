@@ -132,14 +132,14 @@ pub up-is : (p i : ℕ) → up p i ≡ i + min 1 (i - p)
 unfolding up
 up-is p i = go (leb i p) refl
   where
-    go : (b : Bool) → leb i p ≡ b → cond b i (suc i) ≡ i + min 1 (i - p)
-    go true e = let h : i ≤ p = leb-true i p e in omega arith
-    go false e = let h : p < i = leb-false i p e in omega arith
+    go : (b : Bool) → leb i p ≡ b → up p i ≡ i + min 1 (i - p)
+    go true e = let h : i ≤ p = leb-true i p e in rw e (omega arith)
+    go false e = let h : p < i = leb-false i p e in rw e (omega arith)
 
 pub down-is : (p i : ℕ) → down p i ≡ i - min 1 (i - p)
 unfolding down
 down-is p i = go (leb i p) refl
   where
-    go : (b : Bool) → leb i p ≡ b → cond b i (i - 1) ≡ i - min 1 (i - p)
-    go true e = let h : i ≤ p = leb-true i p e in omega arith
-    go false e = let h : p < i = leb-false i p e in omega arith
+    go : (b : Bool) → leb i p ≡ b → down p i ≡ i - min 1 (i - p)
+    go true e = let h : i ≤ p = leb-true i p e in rw e (omega arith)
+    go false e = let h : p < i = leb-false i p e in rw e (omega arith)
