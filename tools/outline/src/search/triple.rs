@@ -7,9 +7,10 @@ use crate::search::prover::{At, Line, Prover};
 use crate::search::support::expand;
 use crate::terms::*;
 use reference::checker::rules::table::Leaves;
-use reference::checker::rules::{before_load, keeps};
+use reference::checker::rules::{before_load, keeps, Load};
 use reference::formula::atoms::Atoms;
 use reference::formula::{Assertion, Formula, Value};
+use reference::image::Instruction;
 
 /// The place of the instruction and the views that the left side speaks of.
 pub struct Context {
@@ -130,14 +131,14 @@ impl Prover<'_> {
         Plan::Any(goal.clone(), ways)
     }
 
-    /// Rule 3, and compound tests taken apart.
+    /// Rules 3 and 47, and compound tests taken apart.
     fn ways_to_test(&mut self, context: &Context, e: &T, ways: &mut Vec<Plan>) {
         let at = context.at;
         let goal = holds(e);
-        if let Some(load) = self.instruction(at).load().filter(|load| e.has_register(load.register))
-        {
+        let read = reading(&self.instruction(at)).filter(|(_, load)| e.has_register(load.register));
+        if let Some((rule, load)) = read {
             let before = sees(at.thread, &before_load(e, &load).into());
-            ways.extend(self.step(at, 3, &before, &goal, &[]).map(Plan::Ready));
+            ways.extend(self.step(at, rule, &before, &goal, &[]).map(Plan::Ready));
         }
         let apart = expand(e);
         if apart != goal {
@@ -168,6 +169,12 @@ impl Prover<'_> {
         let last = self.fact(20, &nothing, goal, &[])?;
         Some(then(Plan::Ready(line), last, &nothing, goal))
     }
+}
+
+/// What an instruction reads into a register, with the rule by which it learns from that.
+pub fn reading(instruction: &Instruction) -> Option<(u8, Load)> {
+    let load = instruction.load().map(|load| (3, load));
+    load.or_else(|| instruction.fetched().map(|load| (47, load)))
 }
 
 /// A plan followed by an implication, unless that is the identity.
