@@ -29,6 +29,8 @@ pub struct Prover<'a> {
     /// What was tried for the obligation at hand, for the message if it stays open.
     pub tried: Vec<String>,
     pub names: Names,
+    /// Are views, before and after, joined with the tests about their own registers?
+    pub wide: bool,
 }
 
 impl<'a> Prover<'a> {
@@ -44,6 +46,7 @@ impl<'a> Prover<'a> {
             steps: Vec::new(),
             tried: Vec::new(),
             names,
+            wide: false,
         }
     }
 

@@ -9,7 +9,7 @@ use crate::terms::*;
 use reference::checker::rules::table::Leaves;
 use reference::checker::rules::{before_load, keeps, Load};
 use reference::formula::atoms::Atoms;
-use reference::formula::{Assertion, Formula, Value};
+use reference::formula::{Assertion, Formula, Test, Value};
 use reference::image::Instruction;
 
 /// The place of the instruction and the views that the left side speaks of.
@@ -30,11 +30,51 @@ impl Context {
 }
 
 impl Prover<'_> {
-    /// A line for {P} c {Q}, if the search finds one.
+    /// A line for {P} c {Q}, if the search finds one; perhaps by cases that P does not tell apart.
     pub fn triple(&mut self, at: At, p: &A, q: &A) -> Option<Line> {
         if let Some(line) = self.lines.find(&at.triple(p, q)) {
             return Some(line);
         }
+        self.triple_by_cases(at, p, q).or_else(|| {
+            let told = std::mem::take(&mut self.tried);
+            let found = self.widened(|all| {
+                all.triple_by_cases(at, p, q).or_else(|| all.triple_by_tests(at, p, q))
+            });
+            self.tried = told;
+            found
+        })
+    }
+
+    /// A search that also joins views with the tests about their own registers: slower, and with longer
+    /// proofs, so only where the other finds nothing.
+    fn widened(&mut self, search: impl FnOnce(&mut Self) -> Option<Line>) -> Option<Line> {
+        if self.wide {
+            return search(self);
+        }
+        let refuted = std::mem::take(&mut self.refuted);
+        self.wide = true;
+        let found = search(self);
+        self.wide = false;
+        self.refuted = refuted;
+        found
+    }
+
+    /// The tests of Q that the instruction keeps and P does not have, told apart first.
+    fn triple_by_tests(&mut self, at: At, p: &A, q: &A) -> Option<Line> {
+        let (here, instruction) = (tests_of(p), self.instruction(at));
+        let kept = |e: &T| !here.contains(e) && keeps(&instruction, e.as_ref()) == Some(true);
+        let known: Vec<A> = tests_of(q)
+            .into_iter()
+            .filter(kept)
+            .map(|e| either(&holds(&e), &holds(&not(&e))))
+            .collect();
+        let split = both(p, &fold_right(&known, both)?);
+        let first = self.fact(20, p, &split, &[])?;
+        let line = self.triple_by_cases(at, &split, q)?;
+        self.consequence(at, Some(first), line, None)
+    }
+
+    fn triple_by_cases(&mut self, at: At, p: &A, q: &A) -> Option<Line> {
         let context = Context { at, views: views_in(p) };
         let Some(all) = cases(p) else {
             self.tried
@@ -137,8 +177,12 @@ impl Prover<'_> {
         let goal = holds(e);
         let read = reading(&self.instruction(at)).filter(|(_, load)| e.has_register(load.register));
         if let Some((rule, load)) = read {
-            let before = sees(at.thread, &before_load(e, &load).into());
-            ways.extend(self.step(at, rule, &before, &goal, &[]).map(Plan::Ready));
+            let passed: I = before_load(e, &load).into();
+            let line = self.step(at, rule, &sees(at.thread, &passed), &goal, &[]);
+            ways.extend(line.map(Plan::Ready));
+            ways.extend(
+                line.and_then(|line| self.past_covered(at, &passed, line)).map(Plan::Ready),
+            );
         }
         let apart = expand(e);
         if apart != goal {
@@ -146,6 +190,14 @@ impl Prover<'_> {
                 ways.push(Plan::Then(self.plan(context, &apart).into(), last));
             }
         }
+    }
+
+    /// Rule 10 before a triple from `t sees I`: covered writes are none that the instruction picks.
+    fn past_covered(&mut self, at: At, i: &I, line: Line) -> Option<Line> {
+        let x = self.instruction(at).covered_word()?;
+        let before = sees(at.thread, &chop(&all(&Test::Covered(x).into()), i));
+        let goal = self.right(line);
+        self.step(at, 10, &before, &goal, &[line])
     }
 
     /// The triples that the writer named, where they lead to the goal.
@@ -184,6 +236,16 @@ pub fn then(plan: Plan, last: Line, from: &A, to: &A) -> Plan {
     } else {
         Plan::Then(plan.into(), last)
     }
+}
+
+/// The comparisons that the assertion is made of, each once.
+fn tests_of(p: &A) -> Vec<T> {
+    let Leaves(leaves) = Leaves::of(p);
+    let tests = leaves.into_iter().filter_map(|leaf| match leaf {
+        Formula::Test(e) => Some(e),
+        _ => None,
+    });
+    tests.collect()
 }
 
 /// What the assertion says that threads see, each once.

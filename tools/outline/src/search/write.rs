@@ -117,6 +117,37 @@ impl Prover<'_> {
         }
     }
 
+    /// A triple to `u sees K` that lies in J once the registers say that the new value passes J's tests:
+    /// fetch-add writes register + f, where J may have a constant.
+    fn way_by_result(
+        &mut self,
+        context: &Context,
+        rule: u8,
+        before: &A,
+        after: (u8, &I),
+        j: &I,
+        ways: &mut Vec<Plan>,
+    ) {
+        let at = context.at;
+        let (u, k) = after;
+        let Some((.., write)) = covering(&self.instruction(at)) else { return };
+        let x = Value::Word(write.word);
+        let about = tests_in(j).into_iter().filter(|e| e.has_word(write.word));
+        let values = about.map(|e| replaced(&e, x.clone(), &write.value));
+        let passed: Vec<T> = unique(values.filter(|e| registers_only(e.as_ref())));
+        let Some(passed) = fold_right(&passed, and) else { return };
+        if !self.wide || self.include(k, j).is_some() {
+            return;
+        }
+        let known = holds(&passed);
+        let Some(last) = self.implied(&both(&sees(u, k), &known), &sees(u, j)) else { return };
+        if let Some(line) = self.step(at, rule, before, &sees(u, k), &[]) {
+            let values = self.plan(context, &known);
+            let all = Plan::All(Plan::Ready(line).into(), values.into());
+            ways.push(Plan::Then(all.into(), last));
+        }
+    }
+
     /// Rules 11 and 12 for a swap, 48 and 49 for exchange and fetch-add; 13.
     fn ways_by_swap(&mut self, context: &Context, u: u8, j: &I, ways: &mut Vec<Plan>) {
         let at = context.at;
@@ -127,12 +158,26 @@ impl Prover<'_> {
         let covered = all(&Test::Covered(x).into());
         if u == at.thread {
             self.way(at, own, &mine, (u, &new), j, ways);
+            self.way_by_result(context, own, &mine, (u, &new), j, ways);
         }
-        self.way(at, others, &both(&mine, &theirs), (u, &chop(&covered, &new)), j, ways);
+        let (pair, behind) = (both(&mine, &theirs), chop(&covered, &new));
+        self.way(at, others, &pair, (u, &behind), j, ways);
+        self.way_by_result(context, others, &pair, (u, &behind), j, ways);
         for k in self.passed_on(context, x, j) {
             let after = chop(&covered, &chop(&unsync(x), &k));
             let before = both(&mine, &both(&theirs, &sees(at.thread, &k)));
             self.way(at, 13, &before, (u, &after), j, ways);
+        }
+    }
+}
+
+/// The tests in an interval.
+fn tests_in(j: &I) -> Vec<T> {
+    match &**j {
+        Interval::All(e) => vec![e.clone()],
+        Interval::One(_) => Vec::new(),
+        Interval::Chop(a, b) | Interval::Both(a, b) | Interval::Either(a, b) => {
+            [tests_in(a), tests_in(b)].concat()
         }
     }
 }
