@@ -1,6 +1,7 @@
 //! Search for triples: plans by the shape of the goal, then the cases of the left side.
 
 use crate::search::cases::{cases, Case};
+use crate::search::implication::conjuncts;
 use crate::search::interval::both_parts;
 use crate::search::plan::{Choice, Done, Plan};
 use crate::search::prover::{At, Line, Prover};
@@ -36,27 +37,16 @@ impl Prover<'_> {
             return Some(line);
         }
         self.triple_by_cases(at, p, q).or_else(|| {
-            let told = std::mem::take(&mut self.tried);
-            let found = self.widened(|all| {
-                all.triple_by_cases(at, p, q).or_else(|| all.triple_by_tests(at, p, q))
-            });
-            self.tried = told;
-            found
+            self.tried.clear();
+            self.widened(|all| {
+                all.triple_by_cases(at, p, q).or_else(|| {
+                    let told = all.tried.clone();
+                    let found = all.triple_by_tests(at, p, q);
+                    all.tried = told;
+                    found
+                })
+            })
         })
-    }
-
-    /// A search that also joins views with the tests about their own registers: slower, and with longer
-    /// proofs, so only where the other finds nothing.
-    fn widened(&mut self, search: impl FnOnce(&mut Self) -> Option<Line>) -> Option<Line> {
-        if self.wide {
-            return search(self);
-        }
-        let refuted = std::mem::take(&mut self.refuted);
-        self.wide = true;
-        let found = search(self);
-        self.wide = false;
-        self.refuted = refuted;
-        found
     }
 
     /// The tests of Q that the instruction keeps and P does not have, told apart first.
@@ -85,14 +75,29 @@ impl Prover<'_> {
         let before = self.left(done.line);
         match self.reach(p, &before) {
             Some(firsts) => self.finish(at, firsts, done.line, done.last),
-            None => self.case_by_case(&context, p, q).or_else(|| {
-                let text = format!("tried        {}", self.names.assertion(&before));
-                self.tried.push(text);
-                self.tried.push("             which each case gives, but together".into());
-                self.tried.push("             they pass 10 leaves or 4 premises of rule 20".into());
-                None
-            }),
+            None => self
+                .case_by_case(&context, p, q)
+                .or_else(|| self.goal_by_halves(at, p, q))
+                .or_else(|| {
+                    let text = format!("tried        {}", self.names.assertion(&before));
+                    self.tried.push(text);
+                    self.tried.push("             which each case gives, but together".into());
+                    self.tried
+                        .push("             they pass 10 leaves or 4 premises of rule 20".into());
+                    None
+                }),
         }
+    }
+
+    /// The halves of the goal apart, where together they ask for too much at once.
+    fn goal_by_halves(&mut self, at: At, p: &A, q: &A) -> Option<Line> {
+        let (a, b) = q.as_both()?;
+        let once = fold_right(&conjuncts(p), both)?;
+        let halves = [self.triple_by_cases(at, &once, a)?, self.triple_by_cases(at, &once, b)?];
+        let twice = both(&once, &once);
+        let first = self.fact(20, p, &twice, &[])?;
+        let line = self.step(at, 14, &twice, q, &halves)?;
+        self.consequence(at, Some(first), line, None)
     }
 
     /// A triple to the goal whose left side all cases give.

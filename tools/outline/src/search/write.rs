@@ -103,6 +103,7 @@ impl Prover<'_> {
         let alone = sees(at.thread, &Interval::One(x).into());
         if u == at.thread {
             self.way(at, 6, &alone, (u, &new), j, ways);
+            self.way_by_result(context, 6, &alone, (u, &new), j, ways);
         }
         for i in self.fronts(context, u, j) {
             let before = both(&alone, &sees(u, &i));
@@ -130,7 +131,7 @@ impl Prover<'_> {
     ) {
         let at = context.at;
         let (u, k) = after;
-        let Some((.., write)) = covering(&self.instruction(at)) else { return };
+        let Some(write) = written(&self.instruction(at)) else { return };
         let x = Value::Word(write.word);
         let about = tests_in(j).into_iter().filter(|e| e.has_word(write.word));
         let values = about.map(|e| replaced(&e, x.clone(), &write.value));
@@ -180,6 +181,11 @@ fn tests_in(j: &I) -> Vec<T> {
             [tests_in(a), tests_in(b)].concat()
         }
     }
+}
+
+/// What an instruction writes.
+fn written(instruction: &Instruction) -> Option<Write> {
+    instruction.store_or_swap().or_else(|| instruction.fetching())
 }
 
 /// What an operation that covers writes, with its rules for the own view and for any view.
