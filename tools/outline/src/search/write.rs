@@ -38,7 +38,9 @@ impl Prover<'_> {
             },
             _ => return,
         };
-        if let Some(last) = self.implied(&apart, &sees(u, j)) {
+        let goal = sees(u, j);
+        let last = self.implied(&apart, &goal).or_else(|| self.fact(24, &apart, &goal, &[]));
+        if let Some(last) = last {
             ways.push(Plan::Then(self.plan(context, &apart).into(), last));
         }
     }
