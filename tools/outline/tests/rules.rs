@@ -180,6 +180,66 @@ fn routine_steps_are_found() {
 }
 
 #[test]
+fn exchange_and_fetch_add_are_found() {
+    let steps = [
+        // 1, 5 and 10
+        "step c 0: { p = 1 and b sees one y } to { p < 2 and b sees [y = 5] ; one y }",
+        "step c 1: { c sees [cov x] ; [unsync x] ; [y = 1] } to { c sees [y < 2] }",
+        // 47, and behind covered writes
+        "step c 1: { c sees [x < 3] } to { s < 3 or p = 7 }",
+        "step c 0: { c sees [cov x] ; [x = 2] } to { s = 2 }",
+        "step c 0: { c sees [cov x] ; one x = p and p = 4 } to { s = 4 }",
+        // 48
+        "step c 0: { c sees [cov x] ; one x and p = 1 } to { c sees [x = p + 1] and p = 1 }",
+        "step c 0: { c sees [cov x] ; one x and p = 1 } to { c sees one x = 2 }",
+        "step c 1: { c sees [cov x] ; one x = 1 and p = 2 } to { c sees [x = 3] and s = 1 }",
+        // 49
+        "step c 0: { c sees [cov x] ; one x and b sees one x } to { b sees [cov x] ; [x = p + 1] }",
+        "step c 1: { c sees [cov x] ; one x = 1 and b sees [cov x] ; one x and p = 2 }
+           to { s = 1 and b sees [cov x] ; one x = 3 }",
+        // 13
+        "step c 1: { c sees [cov x] ; one x and b sees [cov x] ; one x and c sees [y = p] }
+           to { b sees [cov x] ; [unsync x] ; [y = p] }",
+    ];
+    for step in steps {
+        assert!(fits(step), "{step}");
+    }
+}
+
+#[test]
+fn the_wider_search_joins_registers_and_views() {
+    let steps = [
+        "fact { a sees one x & [q = 1] and b sees [q = 2] } to { false }",
+        "step b 1: { b sees one x and q = 1 } to { b sees one x = q }",
+        "step a 2: { a sees [cov x] ; one x and b sees one x and q = 2 } to { b sees [cov x] ; one x = q }",
+        "step c 0: { c sees [cov x] ; one x = p } to { p = 1 and s = 1 or p != 1 and s != 1 }",
+    ];
+    for step in steps {
+        assert!(fits(step), "{step}");
+    }
+}
+
+#[test]
+fn what_exchange_and_fetch_add_do_not_do_is_not_found() {
+    let steps = [
+        "step c 0: { s = 1 } to { s = 1 }",
+        "step c 0: { b sees [x = 1] } to { s = 1 }",
+        "step c 0: { c sees [cov x] ; [x = 1] and p = 1 } to { s = 2 }",
+        "step c 0: { c sees [x = 2] ; [x = 1] } to { s = 1 }",
+        "step c 1: { c sees [cov x] ; one x = 1 and p = 2 } to { c sees [x = 2] }",
+        "step c 1: { c sees [cov x] ; one x = 1 and p = 2 } to { b sees [cov x] ; one x = 3 }",
+        "step c 1: { c sees one x and b sees [x < 2] } to { b sees [x < 2] }",
+        "step c 1: { c sees [cov x] ; one x and b sees [cov x] ; one x and c sees [y = s] }
+           to { b sees [cov x] ; [unsync x] ; [y = s] }",
+        "fact { a sees [x = 1] and b sees [x = 2] } to { false }",
+        "step c 0: { c sees [cov x] ; one x = p } to { p = 1 and s = 1 or p != 1 and s = 1 }",
+    ];
+    for step in steps {
+        assert!(!fits(step), "{step}");
+    }
+}
+
+#[test]
 fn what_is_false_is_not_found() {
     let steps = [
         "fact { a sees [x = 0] ; [x = 1] } to { a sees [x = 0] }",

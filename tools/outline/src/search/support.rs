@@ -150,7 +150,38 @@ impl Prover<'_> {
                 }
             }
         }
+        if self.wide {
+            return self.registers_clash(case);
+        }
         None
+    }
+
+    /// Views of two threads that tell different things of the registers.
+    fn registers_clash(&mut self, case: &Case) -> Option<Line> {
+        let mut told: Vec<(u8, I, T)> = Vec::new();
+        for u in self.program.thread_numbers() {
+            for i in case.seen_by(u) {
+                let parts = hulls(&i).into_iter().filter(|h| registers_only(h.as_ref()));
+                told.extend(parts.map(|h| (u, i.clone(), h)));
+            }
+        }
+        for (n, (u, i, h)) in told.iter().enumerate() {
+            for (v, k, g) in told[n + 1..].iter().filter(|(v, ..)| v != u) {
+                if self.by_rows(&and(h, g), &falsehood()) {
+                    let firsts =
+                        [self.view_gives_test(*u, i, h, h)?, self.view_gives_test(*v, k, g, g)?];
+                    return self.told_apart(&sees(*u, i), &sees(*v, k), firsts, &and(h, g));
+                }
+            }
+        }
+        None
+    }
+
+    /// Two assertions that give tests of which not both are true.
+    fn told_apart(&mut self, p: &A, q: &A, given: [Line; 2], tests: &T) -> Option<Line> {
+        let nothing = holds(&falsehood());
+        let clash = self.fact(21, &holds(tests), &nothing, &[])?;
+        self.fact(20, &both(p, q), &nothing, &[given[0], given[1], clash])
     }
 
     /// One view against the tests, then against each of the others.

@@ -13,6 +13,7 @@ pub mod table;
 pub mod triples;
 
 use crate::image::{Image, Line, Program, Statement};
+pub use actions::{Load, Write};
 pub use loads::before_load;
 pub use structure::keeps;
 pub use swaps::covered_till_last;
