@@ -2,7 +2,8 @@
 
 use outline::text::{parse_source, show};
 use outline::{build, image};
-use reference::checker::check;
+use reference::checker::{check, decode};
+use reference::explore::{explore, Bounds, Outcome};
 use std::path::PathBuf;
 
 /// True in every reachable state, but beyond the rules.
@@ -81,5 +82,17 @@ fn wrong_variants_say_where_they_fail() {
 fn the_same_text_gives_the_same_bytes() {
     for (name, text) in sources().into_iter().filter(|(name, _)| !name.starts_with("peterson")) {
         assert_eq!(built(&name, &text).image, built(&name, &text).image, "{name}");
+    }
+}
+
+/// Every assertion is true in the states that a few steps reach, but for the wrong variants: there a run breaks one.
+#[test]
+fn the_machine_agrees() {
+    for (name, text) in sources() {
+        let bytes = built(&name, &text).image.bytes();
+        let Ok(image) = decode(&bytes) else { panic!("{name} is no image") };
+        let found = explore(&image.program, Bounds { steps: 10, writes: 6 });
+        let breaks = matches!(found.outcome, Outcome::Breaks(_));
+        assert_eq!(breaks, name.contains("-wrong-"), "{name}");
     }
 }

@@ -135,7 +135,7 @@ impl Prover<'_> {
         let (u, k) = after;
         let Some(write) = written(&self.instruction(at)) else { return };
         let x = Value::Word(write.word);
-        let about = tests_in(j).into_iter().filter(|e| e.has_word(write.word));
+        let about = boxed_tests(j).into_iter().filter(|e| e.has_word(write.word));
         let values = about.map(|e| replaced(&e, x.clone(), &write.value));
         let passed: Vec<T> = unique(values.filter(|e| registers_only(e.as_ref())));
         let Some(passed) = fold_right(&passed, and) else { return };
@@ -175,12 +175,12 @@ impl Prover<'_> {
 }
 
 /// The tests in an interval.
-fn tests_in(j: &I) -> Vec<T> {
+fn boxed_tests(j: &I) -> Vec<T> {
     match &**j {
         Interval::All(e) => vec![e.clone()],
         Interval::One(_) => Vec::new(),
         Interval::Chop(a, b) | Interval::Both(a, b) | Interval::Either(a, b) => {
-            [tests_in(a), tests_in(b)].concat()
+            [boxed_tests(a), boxed_tests(b)].concat()
         }
     }
 }
