@@ -35,7 +35,7 @@ tried=0 survived=0 unfit=0
 
 # Builds the changed copy and says what became of the stored verdicts.
 judge() {
-    if ! cargo build --quiet --offline -j1 --bin recheck 2>"$work/log"; then
+    if ! cargo build --quiet --offline -j1 -p reference --bin recheck 2>"$work/log"; then
         echo "DOES NOT BUILD  $1"
         unfit=$((unfit + 1))
     elif timeout 120 "$work/target/debug/recheck" "$work/sets" >"$work/log" 2>&1; then

@@ -30,6 +30,7 @@ enum hidokpalu_code {
     HIDOKPALU_FORMULA = 7,        /* the bytes of a formula are malformed */
     HIDOKPALU_SORT = 8,           /* a formula of the wrong sort where it is used */
     HIDOKPALU_OWNER = 9,          /* another thread's register in an instruction */
+    HIDOKPALU_OPERAND = 23,       /* the operand of an exchange or a fetch-add names its result register */
     /* The first obligation that is not met. */
     HIDOKPALU_NO_LINE = 20,       /* it names no line of the certificate */
     HIDOKPALU_OTHER_CLAIM = 21,   /* its line concludes something else */

@@ -10,3 +10,4 @@ pub mod formula;
 pub mod image;
 pub mod machine;
 pub mod proof;
+pub mod stored;

@@ -2,7 +2,7 @@
 //! state tried. This tells when checker and machine were not read alike.
 
 use reference::checker::decode;
-use reference::checker::rules::justified_lines;
+use reference::checker::rules::{justified_lines, rules};
 use reference::explore::truth::{is_true, sees};
 use reference::explore::{reachable, Bounds};
 use reference::formula::Assertion;
@@ -68,7 +68,7 @@ fn justified_lines_are_true() {
             }
         }
     }
-    for rule in (1..=16).chain(20..=27).chain(30..=46) {
+    for rule in rules() {
         let count = live.get(&rule).copied().unwrap_or(0);
         println!("rule {rule}: {count} live checks");
         assert!(count > 0, "rule {rule} was never live");

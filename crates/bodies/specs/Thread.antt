@@ -1,4 +1,4 @@
--- A thread's record: codes 5 to 9.
+-- A thread's record: codes 5 to 9 and 23.
 use mathlib.Core.Bool.{Bool, true, not, _&&_, cond}
 use mathlib.Core.List.{List, []}
 use Prim.Native.Nat.{ℕ}
@@ -7,11 +7,11 @@ use lib.ListN.{getD}
 use Rattle.logic.specs.Opcode as Opcode
 use Rattle.limits.specs.Numbers.{nth, every}
 use Rattle.frames.specs.Fault.{unless, also}
-use Rattle.frames.specs.declared.fault.Fault.the-variants.{Sort, Owner}
+use Rattle.frames.specs.declared.fault.Fault.the-variants.{Sort, Owner, Operand}
 use Rattle.frames.specs.declared.fault.Checked.{Checked}
 use Rattle.frames.specs.declared.fault.Checked.the-variants.{Passed}
 use Rattle.formula.specs.Codes as Codes
-use Rattle.occurs.specs.Occurs.{occurs, foreign}
+use Rattle.occurs.specs.Occurs.{occurs, register, foreign}
 use Rattle.program.specs.declared.sizes.Sizes.{Sizes}
 use Rattle.program.specs.declared.instruction.Instruction.{Instruction}
 use Rattle.program.specs.Header.{owners}
@@ -26,9 +26,12 @@ wanted op = cond (eqb op Opcode.branch) Codes.test Codes.value
 unfoldable pub sorted : List (List ℕ) → Instruction → Bool
 sorted l i = cond (eqb (i .formula) 0) true (plainOf (wanted (i .operation)) (getD l (i .formula) []))
 
--- 9: assignments and loads set a register of the thread
+-- 9: assignments and loads set a register of the thread, and so do exchange and fetch-add
 unfoldable pub targetOwned : List (List ℕ) → ℕ → Instruction → Bool
-targetOwned l t i = cond (leb (i .operation) Opcode.acquire) (eqb (nth (owners (getD l 0 [])) (i .a) 0) t) true
+targetOwned l t i =
+    cond (leb (i .operation) Opcode.acquire) (eqb (nth (owners (getD l 0 [])) (i .a) 0) t)
+    (cond (leb (i .operation) Opcode.branch) true
+    (eqb (nth (owners (getD l 0 [])) (i .b) 0) t))
 
 -- and formulas are over its registers
 unfoldable pub formulaOwned : List (List ℕ) → ℕ → Instruction → Bool
@@ -37,6 +40,14 @@ formulaOwned l t i = cond (eqb (i .formula) 0) true (not (occurs (foreign t) (ow
 unfoldable pub owned : List (List ℕ) → ℕ → Instruction → Bool
 owned l t i = targetOwned l t i && formulaOwned l t i
 
+-- 23: the operand of an exchange or a fetch-add does not name the result register
+unfoldable pub resultAbsent : List (List ℕ) → Instruction → Bool
+resultAbsent l i = cond (leb (i .operation) Opcode.branch) true (not (occurs (register (i .b)) [] (treeOf (getD l (i .formula) []))))
+
+-- 9, then 23
+unfoldable pub threadRegisters : List (List ℕ) → ℕ → List ℕ → Checked
+threadRegisters l t b = unless (every (owned l t) (instructions b)) Owner (unless (every (resultAbsent l) (instructions b)) Operand Passed)
+
 -- thread t
 unfoldable pub thread : Sizes → List (List ℕ) → ℕ → List ℕ → Checked
-thread z l t b = also (threadNumbers z b) (unless (every (sorted l) (instructions b)) Sort (unless (every (owned l t) (instructions b)) Owner Passed))
+thread z l t b = also (threadNumbers z b) (unless (every (sorted l) (instructions b)) Sort (threadRegisters l t b))

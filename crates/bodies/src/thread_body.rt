@@ -6,6 +6,7 @@ use frames::fault::Fault;
 use frames::index::body_of;
 use limits::Limits;
 use occurs::has::has_foreign;
+use occurs::has::has_register;
 use program::header::owner_of;
 use program::header::owners_of;
 use program::instruction::Instruction;
@@ -17,7 +18,7 @@ ghost use mathlib.Core.Path.{_≡_};
 ghost use Rattle.limits.specs.Numbers.{every};
 ghost use Rattle.frames.specs.Records.{bodies, indexOf};
 ghost use Rattle.program.specs.Thread.{instructions};
-ghost use Rattle.bodies.specs.Thread.{wanted, sorted, targetOwned, formulaOwned, owned, thread};
+ghost use Rattle.bodies.specs.Thread.{wanted, sorted, targetOwned, formulaOwned, owned, resultAbsent, threadRegisters, thread};
 
 // The sort of an instruction's formula.
 fn wanted_sort(operation: u8) -> u8
@@ -46,11 +47,14 @@ fn target_owned<'a, 'b>(s: &'a [u8], ix: &'b [usize], t: u8, i: Instruction) -> 
     requires { ⌜ now ix ≡ indexOf (now s) ⌝ }
     ensures { λ r. ⌜ r ≡ targetOwned (bodies (now (s .entry))) t i ⌝ }
 {
+    let h = body_of(s, ix, 0);
     if i.operation <= Instruction::ACQUIRE {
-        let h = body_of(s, ix, 0);
         return owner_of(h, i.a as usize) == (t as usize);
     }
-    true
+    if i.operation <= Instruction::BRANCH {
+        return true;
+    }
+    owner_of(h, i.b as usize) == (t as usize)
 }
 
 // The registers of the formula, if there is one, are the thread's.
@@ -78,6 +82,21 @@ fn instruction_owned<'a, 'b>(s: &'a [u8], ix: &'b [usize], t: u8, i: Instruction
         return formula_owned(s, ix, t, i);
     }
     false
+}
+
+// The operand of an exchange or a fetch-add lacks its result register.
+fn result_absent<'a, 'b>(s: &'a [u8], ix: &'b [usize], i: Instruction) -> bool
+    requires { ⌜ now ix ≡ indexOf (now s) ⌝ }
+    ensures { λ r. ⌜ r ≡ resultAbsent (bodies (now (s .entry))) i ⌝ }
+{
+    if i.operation <= Instruction::BRANCH {
+        return true;
+    }
+    let b = body_of(s, ix, i.formula);
+    if has_register(b, 0, Limits::NESTING, i.b) {
+        return false;
+    }
+    true
 }
 
 fn instructions_sorted<'a, 'b>(s: &'a [u8], ix: &'b [usize], b: &'a [u8]) -> bool
@@ -114,6 +133,37 @@ fn instructions_owned<'a, 'b>(s: &'a [u8], ix: &'b [usize], t: u8, b: &'a [u8]) 
     true
 }
 
+fn results_absent<'a, 'b>(s: &'a [u8], ix: &'b [usize], b: &'a [u8]) -> bool
+    requires { ⌜ now ix ≡ indexOf (now s) ⌝ }
+    ensures { λ r. ⌜ r ≡ every (resultAbsent (bodies (now (s .entry)))) (instructions (now (b .entry))) ⌝ }
+{
+    let last = last_point(b);
+    let mut p: usize = 0;
+    while p < last {
+        let i = instruction_at(b, p);
+        if result_absent(s, ix, i) {
+            p += 1;
+        } else {
+            return false;
+        }
+    }
+    true
+}
+
+// The registers that the instructions name.
+fn check_registers<'a, 'b>(s: &'a [u8], ix: &'b [usize], t: u8, b: &'a [u8]) -> Checked
+    requires { ⌜ now ix ≡ indexOf (now s) ⌝ }
+    ensures { λ r. ⌜ r ≡ threadRegisters (bodies (now (s .entry))) t (now (b .entry)) ⌝ }
+{
+    if instructions_owned(s, ix, t, b) {
+        if results_absent(s, ix, b) {
+            return Checked::Passed;
+        }
+        return Checked::Faulty(Fault::Operand);
+    }
+    Checked::Faulty(Fault::Owner)
+}
+
 // Thread t.
 pub fn check_thread<'a, 'b>(s: &'a [u8], ix: &'b [usize], z: Sizes, t: u8, b: &'a [u8]) -> Checked
     requires { ⌜ now ix ≡ indexOf (now s) ⌝ }
@@ -123,10 +173,7 @@ pub fn check_thread<'a, 'b>(s: &'a [u8], ix: &'b [usize], z: Sizes, t: u8, b: &'
         Checked::Faulty(fault) => Checked::Faulty(fault),
         Checked::Passed => {
             if instructions_sorted(s, ix, b) {
-                if instructions_owned(s, ix, t, b) {
-                    return Checked::Passed;
-                }
-                return Checked::Faulty(Fault::Owner);
+                return check_registers(s, ix, t, b);
             }
             Checked::Faulty(Fault::Sort)
         }

@@ -11,20 +11,20 @@ use lib.ListN.{length}
 use Rattle.logic.specs.Base.{upd, all, All}
 use Rattle.logic.specs.Limits
 use Rattle.logic.specs.Formula.{Sort, Formula, Assertion, Test, Formula.const, Formula.word, same}
-use Rattle.logic.specs.Names.{only, notReg, notWord, notFlag}
+use Rattle.logic.specs.Names.{Name, names, only, notReg, notWord, notFlag}
 use Rattle.logic.specs.Replace.{Sub, replace, notes, regBy, wordBy}
 use Rattle.logic.specs.Rows.{byRows}
 use Rattle.logic.specs.Table.{Imp, byTable}
-use Rattle.logic.specs.Machine.{Program, Mode.store, Mode.swap, Access.none, Access.load, Access.write, Instr, Instr.act, Instr.branch}
+use Rattle.logic.specs.Machine.{Program, Mode.store, Mode.swap, Mode.exchange, Mode.fetchAdd, Access.none, Access.load, Access.write, Instr, Instr.act, Instr.branch}
 use Rattle.logic.specs.Statement
 use Rattle.logic.specs.Statement.{Statement, half, isImp}
 use Rattle.patterns.specs.Pattern
 use Rattle.patterns.specs.Pattern.{Num, Pattern, Given, Fill, number, inst}
 use Rattle.patterns.specs.Rules
-use Rattle.logic.specs.Rule.{Rule, r1, r2, r3, r4, r5, r6, r7, r8, r9, r10, r11, r12, r13, r14, r15, r16, r20, r21, r22, r23, r24, r25, r26, r27, r30, r31, r32, r33, r34, r35, r36, r37, r38, r39, r40, r41, r42, r43, r44, r45, r46}
-use Rattle.patterns.specs.Rules.{Shape, Shape.inside, Shape.implies, Shape.triple, Premises, these, implications, By, by-notes, r-by-x, x-by-f, Side, _is_with_, start-of, kept, lacks-x, no-flag, by-rows, by-table, Row, row}
+use Rattle.logic.specs.Rule.{Rule, r1, r2, r3, r4, r5, r6, r7, r8, r9, r10, r11, r12, r13, r14, r15, r16, r20, r21, r22, r23, r24, r25, r26, r27, r30, r31, r32, r33, r34, r35, r36, r37, r38, r39, r40, r41, r42, r43, r44, r45, r46, r47, r48, r49}
+use Rattle.patterns.specs.Rules.{Shape, Shape.inside, Shape.implies, Shape.triple, Premises, these, implications, By, by-notes, r-by-x, x-by-f, Side, _is_with_, start-of, is-new, kept, lacks-x, no-flag, by-rows, by-table, Row, row}
 use Rattle.logic.specs.Inference.{keeps}
-use Rattle.patterns.specs.Fits.{isAmong, opcode, wordOf, regOf, formulaOf, notesOf, threadOf, pointOf, given, by, filled, filledAll, sideHolds, operationFits, found, fits}
+use Rattle.patterns.specs.Fits.{isAmong, opcode, wordOf, regOf, formulaOf, apartOf, freshOf, notesOf, threadOf, pointOf, given, by, filled, filledAll, sideHolds, operationFits, found, fits}
 use Rattle.logic.proofs.Base.{bool-ext, and-left, and-right, and-both, all-All}
 use Rattle.logic.proofs.Encoding.{same-eq, same-refl}
 use Rattle.patterns.proofs.Fit.{All-all, Fit, PremisesFit, fit}
@@ -45,7 +45,7 @@ use Rattle.rows.proofs.Link.{impToTree, toTree-rows, toTree-table}
 use Rattle.matcher.specs.Template.{firstHole, firstNumber, formulaHole, numHole, patternToTree, Holes, instT, fillOf}
 use Rattle.matcher.specs.Match.{Taken, andThen, when, matchT}
 use Rattle.certificate.specs.FitT
-use Rattle.certificate.specs.FitT.{inclusion, implication, hoare, TreeConclusion, concluded, Acting, acting, formOf, leftOf, rightOf, placed, matchSides, matchLine, matchAll, isImplication, matchPremises, preset, orElse, holesFrom, replacing, keepsT, sideT, operationT, restT, answer, fitsAt, fitsT}
+use Rattle.certificate.specs.FitT.{inclusion, implication, hoare, TreeConclusion, concluded, Acting, acting, formOf, leftOf, rightOf, placed, matchSides, matchLine, matchAll, isImplication, matchPremises, preset, orElse, holesFrom, replacing, apartT, keepsT, freshT, sideT, operationT, restT, answer, fitsAt, fitsT}
 use Rattle.matcher.proofs.Match.{Has, match-sound, then-some, when-some, Goes, goes-then, goes-when, match-goes}
 use Rattle.matcher.proofs.Template.{Agrees, from-tree}
 
@@ -182,6 +182,39 @@ module _ (P : Program) (i k : ℕ) (c : Holes) (ag : Agrees (given P i k) c) whe
 same-comm : {s : Sort} (f h : Formula s) → same f h ≡ same h f
 same-comm f h = bool-ext (same f h) (same h f) (λ z. subst (λ (w : Formula _). T (same w f)) (same-eq f h z) (same-refl f)) (λ z. subst (λ (w : Formula _). T (same w h)) (same-eq h f z) (same-refl h))
 
+not-of : (u v : Bool) → u ≡ not v → not u ≡ v
+not-of u true e = rw e
+not-of u false e = rw e
+
+-- a name that is absent from the tree is absent from the formula
+word-same : (x : ℕ) {s : Sort} (h : Formula s) → not (occurs (wordAnyRole x) [] (toTree h)) ≡ only (notWord x) h
+word-same x h = not-of (occurs (wordAnyRole x) [] (toTree h)) (only (notWord x) h) (no-word x h)
+
+register-same : (r : ℕ) {s : Sort} (h : Formula s) → not (occurs (register r) [] (toTree h)) ≡ only (notReg r) h
+register-same r h = not-of (occurs (register r) [] (toTree h)) (only (notReg r) h) (no-register r h)
+
+alone : {a b : Bool} → a ≡ b → a && true ≡ b
+alone {a} {b} e = go a ∙ e
+  where
+    go : (x : Bool) → x && true ≡ x
+    go true = refl
+    go false = refl
+
+-- two tests of every name at once
+and-swap : (a b c d : Bool) → (a && c) && (b && d) ≡ (a && b) && (c && d)
+and-swap true true c d = refl
+and-swap true false true d = refl
+and-swap true false false d = refl
+and-swap false b c d = refl
+
+all-both : (p q : Name → Bool) (l : List Name) → all p l && all q l ≡ all (λ n. p n && q n) l
+all-both p q [] = refl
+all-both p q (n ∷ l) = and-swap (p n) (q n) (all p l) (all q l) ∙ ap (λ (b : Bool). (p n && q n) && b) (all-both p q l)
+
+both-same : (r x : ℕ) {s : Sort} (h : Formula s)
+    → not (occurs (wordAnyRole x) [] (toTree h)) && not (occurs (register r) [] (toTree h)) ≡ all (λ n. notWord x n && notReg r n) (names h)
+both-same r x h = ap₂ _&&_ (word-same x h) (register-same r h) ∙ all-both (notWord x) (notReg r) (names h)
+
 -- a replacement in trees that is one in formulas
 as-formula : {s : Sort} {τ : Tree} (σ : Sub) (f h : Formula s) → τ ≡ toTree (replace σ f) → sameTree τ (toTree h) ≡ same h (replace σ f)
 as-formula σ f h e = ap (λ (t : Tree). sameTree t (toTree h)) e ∙ (toTree-same (replace σ f) h ∙ same-comm (replace σ f) h)
@@ -194,23 +227,48 @@ module _ (P : Program) (i k : ℕ) (σ : Fill) (d : Holes) (two : 2 ≤ P .range
   abbrev a : Acting
   a = acting (half P i k)
 
-  not-of : (u v : Bool) → u ≡ not v → not u ≡ v
-  not-of u true e = rw e
-  not-of u false e = rw e
-
   replaced-same : {s : Sort} (b : By) (f h : Formula s) → sameTree (replaceT (replacing (P .range) (P .init) a b) (toTree f)) (toTree h) ≡ same h (replace (by P i k b) f)
   replaced-same by-notes f h = as-formula (notes (notesOf (half P i k))) f h (toTree-notes (notesOf (half P i k)) f)
   replaced-same r-by-x f h = as-formula (regBy (g .r) (word (g .x))) f h (toTree-reg (g .r) (word (g .x)) f)
   replaced-same x-by-f f h = as-formula (wordBy (g .x) (g .f)) f h (toTree-word (g .x) (g .f) f)
 
+  -- what rule 1 and rule 13 ask of a formula: the word in no role, nor the result register
+  apart-same : {s : Sort} (c : Instr) (h : Formula s) → apartT (P .range) (P .init) (acting c) (toTree h) ≡ only (apartOf c) h
+  apart-same (act none []) h = alone (word-same 0 h)
+  apart-same (act none (n ∷ ns)) h = alone (word-same 0 h)
+  apart-same (act (load true r x) ns) h = alone (word-same x h)
+  apart-same (act (load false r x) ns) h = alone (word-same x h)
+  apart-same (act (write (store true) x f) ns) h = alone (word-same x h)
+  apart-same (act (write (store false) x f) ns) h = alone (word-same x h)
+  apart-same (act (write swap x f) ns) h = alone (word-same x h)
+  apart-same (act (write (exchange r) x f) ns) h = both-same r x h
+  apart-same (act (write (fetchAdd r) x f) ns) h = both-same r x h
+  apart-same (branch e n) h = alone (word-same 0 h)
+
   keeps-same : (c : Instr) (h : Assertion) → keepsT (P .range) (P .init) (acting c) (toTree h) ≡ keeps c h
-  keeps-same (act none ns) h = refl
-  keeps-same (act (load true r x) ns) h = not-of (occurs (register r) [] (toTree h)) (only (notReg r) h) (no-register r h)
-  keeps-same (act (load false r x) ns) h = not-of (occurs (register r) [] (toTree h)) (only (notReg r) h) (no-register r h)
-  keeps-same (act (write (store true) x f) ns) h = not-of (occurs (wordAnyRole x) [] (toTree h)) (only (notWord x) h) (no-word x h)
-  keeps-same (act (write (store false) x f) ns) h = not-of (occurs (wordAnyRole x) [] (toTree h)) (only (notWord x) h) (no-word x h)
-  keeps-same (act (write swap x f) ns) h = not-of (occurs (wordAnyRole x) [] (toTree h)) (only (notWord x) h) (no-word x h)
+  keeps-same (act none []) h = refl
+  keeps-same (act none (n ∷ ns)) h = refl
+  keeps-same (act (load true r x) ns) h = register-same r h
+  keeps-same (act (load false r x) ns) h = register-same r h
+  keeps-same (act (write (store true) x f) ns) h = apart-same (act (write (store true) x f) ns) h
+  keeps-same (act (write (store false) x f) ns) h = apart-same (act (write (store false) x f) ns) h
+  keeps-same (act (write swap x f) ns) h = apart-same (act (write swap x f) ns) h
+  keeps-same (act (write (exchange r) x f) ns) h = apart-same (act (write (exchange r) x f) ns) h
+  keeps-same (act (write (fetchAdd r) x f) ns) h = apart-same (act (write (fetchAdd r) x f) ns) h
   keeps-same (branch e n) h = refl
+
+  -- what the new write holds
+  fresh-same : (c : Instr) → freshT (P .range) (P .init) (acting c) ≡ toTree (freshOf c)
+  fresh-same (act none []) = refl
+  fresh-same (act none (n ∷ ns)) = refl
+  fresh-same (act (load true r x) ns) = refl
+  fresh-same (act (load false r x) ns) = refl
+  fresh-same (act (write (store true) x f) ns) = refl
+  fresh-same (act (write (store false) x f) ns) = refl
+  fresh-same (act (write swap x f) ns) = refl
+  fresh-same (act (write (exchange r) x f) ns) = refl
+  fresh-same (act (write (fetchAdd r) x f) ns) = refl
+  fresh-same (branch e n) = refl
 
   -- the holes of a side condition
   abbrev Same : Statement → List Statement → Side → Type 0
@@ -225,7 +283,10 @@ module _ (P : Program) (i k : ℕ) (σ : Fill) (d : Holes) (two : 2 ≤ P .range
   kept-same p s ps e = ap (keepsT (P .range) (P .init) a) e ∙ keeps-same (half P i k) (inst g σ p)
 
   lacks-same : (p : Pattern Sort.interval) (s : Statement) (ps : List Statement) → instT d (patternToTree p) ≡ toTree (inst g σ p) → Same s ps (lacks-x p)
-  lacks-same p s ps e = ap (λ (u : Tree). not (occurs (wordAnyRole (g .x)) [] u)) e ∙ not-of (occurs (wordAnyRole (g .x)) [] (toTree (inst g σ p))) (only (notWord (g .x)) (inst g σ p)) (no-word (g .x) (inst g σ p))
+  lacks-same p s ps e = ap (apartT (P .range) (P .init) a) e ∙ apart-same (half P i k) (inst g σ p)
+
+  new-same : (p : Pattern Sort.value) (s : Statement) (ps : List Statement) → instT d (patternToTree p) ≡ toTree (inst g σ p) → Same s ps (is-new p)
+  new-same p s ps e = ap₂ sameTree e (fresh-same (half P i k)) ∙ toTree-same (inst g σ p) (freshOf (half P i k))
 
   flag-same : (p : Pattern Sort.test) (s : Statement) (ps : List Statement) → instT d (patternToTree p) ≡ toTree (inst g σ p) → Same s ps (no-flag p)
   flag-same p s ps e = ap (λ (u : Tree). not (occurs (flag (g .x)) [] u)) e ∙ not-of (occurs (flag (g .x)) [] (toTree (inst g σ p))) (only (notFlag (g .x)) (inst g σ p)) (Occurs.no-flag (g .x) (inst g σ p))
@@ -284,6 +345,9 @@ module _ (P : Program) (i k : ℕ) (σ : Fill) (d : Holes) (two : 2 ≤ P .range
   sides-same r44 ps e f = tt
   sides-same r45 ps e f = tt
   sides-same r46 ps e f = tt
+  sides-same r47 ps (e₁, e₂) f = let q3 : d .tree 3 ≡ toTree (σ .test 3) = cc in let q2 : d .tree 2 ≡ toTree (σ .test 2) = cc in (is-same Rules.F Rules.E r-by-x (filled P i k σ (row r47 .says)) ps q3 q2, tt)
+  sides-same r48 ps (e₁, e₂) f = let q0 : d .tree 0 ≡ toTree (σ .value 0) = cc in (new-same Rules.N (filled P i k σ (row r48 .says)) ps q0, tt)
+  sides-same r49 ps (e₁, e₂) f = let q0 : d .tree 0 ≡ toTree (σ .value 0) = cc in (new-same Rules.N (filled P i k σ (row r49 .says)) ps q0, tt)
 
 -- WHAT STANDS IN THE HOLES of a line, found in it
 abbrev leftPart : Tree → Tree
@@ -394,6 +458,9 @@ module _ (P : Program) (i k : ℕ) (σ : Fill) where
   filled-of r44 = record { left = refl; right = refl; premises = (record { placed = tt; left = refl; right = refl }, (record { placed = tt; left = refl; right = refl }, tt)); t = refl; x = refl; r = refl; f = refl }
   filled-of r45 = record { left = refl; right = refl; premises = tt; t = refl; x = refl; r = refl; f = refl }
   filled-of r46 = record { left = refl; right = refl; premises = tt; t = refl; x = refl; r = refl; f = refl }
+  filled-of r47 = record { left = refl; right = refl; premises = tt; t = refl; x = refl; r = refl; f = refl }
+  filled-of r48 = record { left = refl; right = refl; premises = tt; t = refl; x = refl; r = refl; f = refl }
+  filled-of r49 = record { left = refl; right = refl; premises = tt; t = refl; x = refl; r = refl; f = refl }
 
 -- BOTH WAYS
 answer-some : {Z : Type 0} (R : ℕ) (init : ℕ → ℕ) (a : Acting) (o : Option Taken) (f : Taken → Bool) → T (answer R init a o f) → ((z : Taken) → o ≡ some z → T (f z) → Z) → Z

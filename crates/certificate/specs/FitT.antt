@@ -16,7 +16,7 @@ use Rattle.logic.specs.Statement.{Statement}
 use Rattle.patterns.specs.Pattern
 use Rattle.patterns.specs.Rules
 use Rattle.logic.specs.Rule.{Rule}
-use Rattle.patterns.specs.Rules.{Shape, Shape.inside, Shape.implies, Shape.triple, Premises, these, implications, By, by-notes, r-by-x, x-by-f, Side, _is_with_, start-of, kept, lacks-x, no-flag, by-rows, by-table, Row, row}
+use Rattle.patterns.specs.Rules.{Shape, Shape.inside, Shape.implies, Shape.triple, Premises, these, implications, By, by-notes, r-by-x, x-by-f, Side, _is_with_, start-of, is-new, kept, lacks-x, no-flag, by-rows, by-table, Row, row}
 use Rattle.patterns.specs.Fits.{isAmong, opcode, wordOf, regOf, formulaOf, notesOf, threadOf, pointOf}
 use Rattle.formula.specs.Tree.{Tree, Tree.node}
 use Rattle.compare.specs.Same.{sameTree}
@@ -126,17 +126,29 @@ module _ (R : ℕ) (init : ℕ → ℕ) (a : Acting) where
   replacing r-by-x = oneName false (a .register) (node (byte Code.word) (a .word) Tree.none Tree.none)
   replacing x-by-f = oneName true (a .word) (a .formula)
 
+  -- the word in no role, nor the result register of an exchange or a fetch-add
+  abbrev pub apartT : Tree → Bool
+  apartT u = not (occurs (wordAnyRole (a .word)) [] u) && (not (isAmong (a .operation) Rules.returning) || not (occurs (register (a .register)) [] u))
+
   abbrev pub keepsT : Tree → Bool
   keepsT u = elim (isAmong (a .operation) Rules.loads) [
     | true ↦ not (occurs (register (a .register)) [] u)
-    | false ↦ elim (isAmong (a .operation) Rules.storesSwaps) [ true ↦ not (occurs (wordAnyRole (a .word)) [] u) | false ↦ false ]
+    | false ↦ elim (isAmong (a .operation) Rules.writes) [ true ↦ apartT u | false ↦ false ]
+  ]
+
+  -- what the new write holds, read after the step
+  abbrev pub freshT : Tree
+  freshT = elim (eqb (a .operation) Opcode.fetchAdd) [
+    | true ↦ node (byte Code.sum) 0 (node (byte Code.reg) (a .register) Tree.none Tree.none) (a .formula)
+    | false ↦ a .formula
   ]
 
   abbrev pub sideT : Holes → TreeConclusion → List TreeConclusion → Side → Bool
   sideT c v vs (p is q with b) = sameTree (replaceT (replacing b) (instT c (patternToTree q))) (instT c (patternToTree p))
   sideT c v vs (start-of n p) = sameTree (instT c (patternToTree p)) (node (byte Code.const) (init (c .num (numHole n))) Tree.none Tree.none)
+  sideT c v vs (is-new p) = sameTree (instT c (patternToTree p)) freshT
   sideT c v vs (kept p) = keepsT (instT c (patternToTree p))
-  sideT c v vs (lacks-x p) = not (occurs (wordAnyRole (a .word)) [] (instT c (patternToTree p)))
+  sideT c v vs (lacks-x p) = apartT (instT c (patternToTree p))
   sideT c v vs (no-flag p) = not (occurs (flag (a .word)) [] (instT c (patternToTree p)))
   sideT c v vs (by-rows p q) = rowsT R (instT c (patternToTree p)) (instT c (patternToTree q))
   sideT c v vs by-table = tableT (map impOf vs) (impOf v)

@@ -10,7 +10,7 @@ use borrow.Author.Tests.{le-ltb}
 use lib.ListN.{length}
 use Rattle.frames.specs.Fault.{codeOf}
 use Rattle.frames.specs.declared.fault.Fault.{Fault}
-use Rattle.frames.specs.declared.fault.Fault.the-variants.{Size, Length, Kind, Body, Number, Formula, Sort, Owner}
+use Rattle.frames.specs.declared.fault.Fault.the-variants.{Size, Length, Kind, Body, Number, Formula, Sort, Owner, Operand}
 use Rattle.outline.specs.Verdict.{Image, Outcome, met, failed, outcome, Admitted}
 use Rattle.outline.specs.Judged as Outline
 use Rattle.outline.specs.Judged.{total, EachMet, no-line, other-statement, not-justified, each-met, first-unmet}
@@ -37,6 +37,7 @@ fault-code Number e = omega arith
 fault-code Formula e = omega arith
 fault-code Sort e = omega arith
 fault-code Owner e = omega arith
+fault-code Operand e = omega arith
 
 module _ (s : List ℕ) where
   abbrev code : Result → ℕ

@@ -17,7 +17,7 @@ use Rattle.limits.specs.Numbers.{numbers, within}
 use Rattle.frames.specs.Fault.{codeOf}
 use Rattle.frames.specs.Records.{bodies}
 use Rattle.frames.specs.declared.fault.Fault.{Fault}
-use Rattle.frames.specs.declared.fault.Fault.the-variants.{Size, Length, Kind, Body, Number, Formula, Sort, Owner}
+use Rattle.frames.specs.declared.fault.Fault.the-variants.{Size, Length, Kind, Body, Number, Formula, Sort, Owner, Operand}
 use Rattle.program.specs.declared.sizes.Sizes.{Sizes}
 use Rattle.records.specs.List.{exactly}
 use Rattle.records.specs.Tally.{obligationCount}
@@ -46,7 +46,7 @@ use Rattle.checker.proofs.Obligations.{mostObligations, obligations-few
 
 -- codes
 
-fault-small : (f : Fault) → codeOf f ≤ 9
+fault-small : (f : Fault) → codeOf f ≤ 23
 unfolding codeOf
 fault-small Size = omega arith
 fault-small Length = omega arith
@@ -56,6 +56,7 @@ fault-small Number = omega arith
 fault-small Formula = omega arith
 fault-small Sort = omega arith
 fault-small Owner = omega arith
+fault-small Operand = omega arith
 
 code-small : (D : Image) (o : Logic.Obligation) (n : ℕ) → Outline.code D o n ≤ 22
 unfolding Outline.code

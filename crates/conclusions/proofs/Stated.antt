@@ -38,22 +38,22 @@ isListed Inclusion = true
 isListed Unlisted = false
 
 -- a number that a rule has is that rule's number
-numbers-back : T (allBelow 47 (λ n. not (isListed (formOf n)) || eqb (numberOf (ruleOf n)) n))
+numbers-back : T (allBelow 50 (λ n. not (isListed (formOf n)) || eqb (numberOf (ruleOf n)) n))
 unfolding ruleOf formOf
 numbers-back = tt
 
-none-past : (n : ℕ) → 47 ≤ n → isListed (formOf n) ≡ false
+none-past : (n : ℕ) → 50 ≤ n → isListed (formOf n) ≡ false
 unfolding formOf
-none-past n h = rw (le-ltb n 1 (omega arith), lt-leb n 16 (omega arith), le-ltb n 20 (omega arith), lt-leb n 27 (omega arith), le-ltb n 30 (omega arith), lt-leb n 46 (omega arith))
+none-past n h = rw (le-ltb n 1 (omega arith), lt-leb n 16 (omega arith), le-ltb n 20 (omega arith), lt-leb n 27 (omega arith), le-ltb n 30 (omega arith), lt-leb n 46 (omega arith), lt-leb n 49 (omega arith))
 
 pub rule-number : (n : ℕ) → isListed (formOf n) ≡ true → numberOf (ruleOf n) ≡ n
-rule-number n l = go (ltb n 47) refl
+rule-number n l = go (ltb n 50) refl
   where
-    go : (b : Bool) → ltb n 47 ≡ b → numberOf (ruleOf n) ≡ n
+    go : (b : Bool) → ltb n 50 ≡ b → numberOf (ruleOf n) ≡ n
     go true e =
-        let h : T (not (isListed (formOf n)) || eqb (numberOf (ruleOf n)) n) = allBelow-at 47 (λ i. not (isListed (formOf i)) || eqb (numberOf (ruleOf i)) i) numbers-back n (ltb-true n 47 e) in
+        let h : T (not (isListed (formOf n)) || eqb (numberOf (ruleOf n)) n) = allBelow-at 50 (λ i. not (isListed (formOf i)) || eqb (numberOf (ruleOf i)) i) numbers-back n (ltb-true n 50 e) in
         eqb→eq (numberOf (ruleOf n)) n (rw l at h)
-    go false e = absurd (true≢false (sym l ∙ none-past n (ltb-false n 47 e)))
+    go false e = absurd (true≢false (sym l ∙ none-past n (ltb-false n 50 e)))
 
 -- the form of its row
 pub conclusion-form : (n : ℕ) → isListed (formOf n) ≡ true → ruleRow n .form ≡ formNumber (formOf n)

@@ -8,7 +8,7 @@ use lib.ListN.{length, getD}
 use borrow.Author.Tests.{not-true, not-false}
 use Rattle.logic.specs.Formula.{Sort, Formula}
 use Rattle.logic.specs.Names as Names
-use Rattle.logic.specs.Names.{only, isReg}
+use Rattle.logic.specs.Names.{only, isReg, notReg}
 use Rattle.logic.specs.Eval.{bounded}
 use Rattle.logic.proofs.Base.{is-true}
 use Rattle.limits.specs.Limits as Limits
@@ -20,14 +20,14 @@ use Rattle.formula.specs.declared.reader.Counts.{Counts}
 use Rattle.formula.specs.declared.reader.Reading.{Reading}
 use Rattle.formula.specs.declared.reader.Reading.the-variants as Reading
 use Rattle.frames.specs.declared.fault.Checked.the-variants.{Passed}
-use Rattle.occurs.specs.Occurs.{occurs, start, shared}
+use Rattle.occurs.specs.Occurs.{occurs, register, start, shared}
 use Rattle.program.specs.declared.sizes.Sizes.{Sizes}
 use Rattle.bodies.specs.Use.{treeOf, startless, plain}
 use Rattle.bodies.specs.Formula as Formulas
 use Rattle.bodies.specs.Formula.{countsOf, faultOf, read}
 use Rattle.trees.specs.ToTree.{toTree, ofTree, Sorted}
 use Rattle.trees.specs.Place.{sortAt}
-use Rattle.trees.proofs.Occurs.{no-shared, no-start}
+use Rattle.trees.proofs.Occurs.{no-register, no-shared, no-start}
 use Rattle.trees.proofs.Within.{reads-bounded, reads-plain}
 use Rattle.trees.proofs.Body.{reading-fault, reading-sorted}
 use Rattle.content.specs.Formula.{formula}
@@ -77,6 +77,13 @@ module _ (z : Sizes) (l : List (List ℕ)) (c : Checks z l) (k : ℕ) (low : 1 �
 
   pub value-regs : sortOf body ≡ Codes.value → plain body ≡ true → T (only isReg (formula l Sort.value k))
   value-regs e h = regs-only Sort.value (sorted Codes.value e) h
+
+  -- a register that is not in its bytes
+  pub value-lacks : (r : ℕ) → sortOf body ≡ Codes.value → occurs (register r) [] (treeOf body) ≡ false → T (only (notReg r) (formula l Sort.value k))
+  unfolding formula
+  value-lacks r e h =
+      is-true (not-false (only (notReg r) (ofTree Sort.value (treeOf body))) (sym (no-register r (ofTree Sort.value (treeOf body)))
+      ∙ ap (λ (t : Tree). occurs (register r) [] t) (sorted Codes.value e) ∙ h))
 
   pub test-regs : sortOf body ≡ Codes.test → plain body ≡ true → T (only isReg (formula l Sort.test k))
   test-regs e h = regs-only Sort.test (sorted Codes.test e) h

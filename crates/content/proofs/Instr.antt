@@ -26,7 +26,7 @@ act-first false A ns i h = h
 module _ (l : List (List ℕ)) (i : Instruction) where
   branch-not : eqb (i .operation) Opcode.branch ≡ false → isBranch (instr l i) ≡ false
   unfolding instr
-  branch-not e = rw e (search act-first depth 7)
+  branch-not e = rw e (search act-first depth 9)
 
   -- its test and its target
   pub branch-read : i .operation ≡ Opcode.branch → instr l i ≡ branch (formula l Sort.test (i .formula)) (i .a)

@@ -1,17 +1,17 @@
 -- The program and the outline of a sound image are well-formed.
 use mathlib.Core.Path.{_≡_, refl, ap, sym, _∙_}
-use mathlib.Core.Bool.{Bool, true, _&&_}
+use mathlib.Core.Bool.{Bool, true, false, _&&_}
 use mathlib.Core.List.{List, []}
 use Prim.Native.Nat.{ℕ, zero, suc, _+_, _-_, _≤_, _<_}
 use native.Mathlib.Omega.{arith}
 use lib.Dec.{T, eqb, leb, ltb, le→leb, lt→ltb}
 use lib.ListN.{length, getD}
-use borrow.Author.Tests.{eqb-true, ne-eqb, lt-leb, le-ltb}
+use borrow.Author.Tests.{eqb-true, ne-eqb, lt-leb, le-ltb, not-true}
 use Rattle.logic.specs.Base as Base
 use Rattle.logic.specs.Base.{Within}
 use Rattle.logic.specs.Formula.{Sort}
 use Rattle.logic.specs.Names as Names
-use Rattle.logic.specs.Names.{only, isReg}
+use Rattle.logic.specs.Names.{only, isReg, notReg}
 use Rattle.logic.specs.Eval.{bounded}
 use Rattle.logic.specs.Opcode as Opcode
 use Rattle.logic.specs.Machine.{Program}
@@ -32,14 +32,15 @@ use Rattle.program.proofs.Laws.Program.{instructions-length}
 use Rattle.records.specs.Places.{threadBody}
 use Rattle.records.specs.List.{exactly}
 use Rattle.records.specs.Tally.{tallyTo, tally}
-use Rattle.bodies.specs.Use.{startless, plain, outlined, plainOf}
-use Rattle.bodies.specs.Thread.{wanted, sorted, thread}
+use Rattle.occurs.specs.Occurs.{occurs, register}
+use Rattle.bodies.specs.Use.{treeOf, startless, plain, outlined, plainOf}
+use Rattle.bodies.specs.Thread.{wanted, sorted, resultAbsent, threadRegisters, thread}
 use Rattle.bodies.specs.Lists.{outlinedAt, outline}
 use Rattle.content.specs.Formula.{formula}
 use Rattle.content.specs.Program.{instr, pointCount, programOf, outlineBody, outlineNumber, outlineOf}
 use Rattle.content.proofs.Inverse.{unless-passed, also-passed, and-true, within-true, every-at, every-or}
 use Rattle.content.proofs.Checked.{Checks, header-passed, thread-passed, outline-passed}
-use Rattle.content.proofs.Formulas.{value-bounded, value-regs, test-regs, assertion-startless}
+use Rattle.content.proofs.Formulas.{value-bounded, value-regs, value-lacks, test-regs, assertion-startless}
 use Rattle.content.proofs.Sums.{sum-part}
 use Rattle.content.proofs.Instr.{instruction-there}
 use Rattle.content.proofs.Count.{tally-points, pointsOf}
@@ -102,24 +103,7 @@ module _ (z : Sizes) (l : List (List ℕ)) (c : Checks z l) where
 
   module _ (last : ℕ) where
     abbrev Proper : Instruction → Type 0
-    Proper i = ranged last z i ≡ true → sorted l i ≡ true → T (proper P (last + 1) (instr l i))
-
-    write-fine : (op a b f : ℕ) → wanted op ≡ Codes.value → fieldsOf op last z ≡ fieldsOf Opcode.store last z → ranged last z (made op a b f) ≡ true → sorted l (made op a b f) ≡ true
-        → T (Base.within (z .words) a && (only isReg (formula l Sort.value f) && bounded Limits.values (formula l Sort.value f)))
-    unfolding ranged fieldsOf
-    write-fine op a b f w q e d =
-        let h = fields-in (made op a b f) (fieldsOf Opcode.store last z) (ap (λ (y : Fields). fieldsFit (made op a b f) y) (sym q) ∙ e) in
-        let s = formula-sorted (made op a b f) (h .2 .0) d in
-        and-both (Base.within (z .words) a) _ (within-there (z .words) a (h .0 .0) (h .0 .1)) (value-fine f (h .2 .0) (h .2 .1) (s .0 ∙ w, s .1))
-
-    -- no operation is above 6: its first field has no range
-    pub none-above : (op a b f : ℕ) → 6 < op → ranged last z (made op a b f) ≡ true → ⊥
-    unfolding ranged fieldsOf
-    none-above op a b f m e =
-        let p : op ≡ 0 → ⊥ = omega arith in
-        let q : op ≡ 6 → ⊥ = omega arith in
-        let h = fields-in _ _ (rw (ne-eqb op 0 p, lt-leb op 2 (omega arith), lt-leb op 5 (omega arith), ne-eqb op 6 q) at e) in
-        omega arith
+    Proper i = ranged last z i ≡ true → sorted l i ≡ true → resultAbsent l i ≡ true → T (proper P (last + 1) (instr l i))
 
     abbrev valued : ℕ → Bool
     valued f = only isReg (formula l Sort.value f) && bounded Limits.values (formula l Sort.value f)
@@ -128,19 +112,54 @@ module _ (z : Sizes) (l : List (List ℕ)) (c : Checks z l) where
     alone : (b : Bool) → T b → T (b && true)
     alone b h = and-both b true h tt
 
+    -- a write of the word a: b is what else is asked of its formula
+    writing : (a f : ℕ) (b : Bool) → (1 ≤ a) × (a ≤ z .words) → T (valued f) → T b → T ((Base.within (z .words) a && (valued f && b)) && true)
+    writing a f b w v h =
+        alone (Base.within (z .words) a && (valued f && b))
+        (and-both (Base.within (z .words) a) (valued f && b) (within-there (z .words) a (w .0) (w .1)) (and-both (valued f) b v h))
+
+    write-fine : (op a b f : ℕ) → wanted op ≡ Codes.value → fieldsOf op last z ≡ fieldsOf Opcode.store last z → ranged last z (made op a b f) ≡ true → sorted l (made op a b f) ≡ true
+        → T ((Base.within (z .words) a && (valued f && true)) && true)
+    unfolding ranged fieldsOf
+    write-fine op a b f w q e d =
+        let h = fields-in (made op a b f) (fieldsOf Opcode.store last z) (ap (λ (y : Fields). fieldsFit (made op a b f) y) (sym q) ∙ e) in
+        let s = formula-sorted (made op a b f) (h .2 .0) d in
+        writing a f true (h .0) (value-fine f (h .2 .0) (h .2 .1) (s .0 ∙ w, s .1)) tt
+
+    result-fine : (op a b f : ℕ) → wanted op ≡ Codes.value → fieldsOf op last z ≡ fieldsOf Opcode.exchange last z → leb op Opcode.branch ≡ false
+        → ranged last z (made op a b f) ≡ true → sorted l (made op a b f) ≡ true → resultAbsent l (made op a b f) ≡ true
+        → T ((Base.within (z .words) a && (valued f && only (notReg b) (formula l Sort.value f))) && true)
+    unfolding ranged fieldsOf resultAbsent
+    result-fine op a b f w q o e d g =
+        let h = fields-in (made op a b f) (fieldsOf Opcode.exchange last z) (ap (λ (y : Fields). fieldsFit (made op a b f) y) (sym q) ∙ e) in
+        let s = formula-sorted (made op a b f) (h .2 .0) d in
+        writing a f (only (notReg b) (formula l Sort.value f)) (h .0) (value-fine f (h .2 .0) (h .2 .1) (s .0 ∙ w, s .1))
+        (value-lacks z l c f (h .2 .0) (h .2 .1) b (s .0 ∙ w) (not-true (occurs (register b) [] (treeOf (getD l f []))) (rw o at g)))
+
+    -- no operation is above 8: its first field has no range
+    pub none-above : (op a b f : ℕ) → 8 < op → ranged last z (made op a b f) ≡ true → ⊥
+    unfolding ranged fieldsOf
+    none-above op a b f m e =
+        let p : op ≡ 0 → ⊥ = omega arith in
+        let q : op ≡ 6 → ⊥ = omega arith in
+        let h = fields-in _ _ (rw (ne-eqb op 0 p, lt-leb op 2 (omega arith), lt-leb op 5 (omega arith), ne-eqb op 6 q, lt-leb op 8 (omega arith)) at e) in
+        omega arith
+
     instr-proper : (op a b f : ℕ) → Proper (made op a b f)
     unfolding ranged fieldsOf instr wanted
-    instr-proper zero a b f e d = let h = fields-in _ _ e in alone (valued f) (value-fine f (h .2 .0) (h .2 .1) (formula-sorted (made 0 a b f) (h .2 .0) d))
-    instr-proper (suc zero) a b f e d = let h = fields-in _ _ e in alone (Base.within (z .words) b) (within-there (z .words) b (h .1 .0) (h .1 .1))
-    instr-proper (suc (suc zero)) a b f e d = let h = fields-in _ _ e in alone (Base.within (z .words) b) (within-there (z .words) b (h .1 .0) (h .1 .1))
-    instr-proper (suc (suc (suc zero))) a b f e d = alone (Base.within (z .words) a && valued f) (write-fine 3 a b f refl refl e d)
-    instr-proper (suc (suc (suc (suc zero)))) a b f e d = alone (Base.within (z .words) a && valued f) (write-fine 4 a b f refl refl e d)
-    instr-proper (suc (suc (suc (suc (suc zero))))) a b f e d = alone (Base.within (z .words) a && valued f) (write-fine 5 a b f refl refl e d)
-    instr-proper (suc (suc (suc (suc (suc (suc zero)))))) a b f e d =
+    instr-proper zero a b f e d g = let h = fields-in _ _ e in alone (valued f) (value-fine f (h .2 .0) (h .2 .1) (formula-sorted (made 0 a b f) (h .2 .0) d))
+    instr-proper (suc zero) a b f e d g = let h = fields-in _ _ e in alone (Base.within (z .words) b) (within-there (z .words) b (h .1 .0) (h .1 .1))
+    instr-proper (suc (suc zero)) a b f e d g = let h = fields-in _ _ e in alone (Base.within (z .words) b) (within-there (z .words) b (h .1 .0) (h .1 .1))
+    instr-proper (suc (suc (suc zero))) a b f e d g = write-fine 3 a b f refl refl e d
+    instr-proper (suc (suc (suc (suc zero)))) a b f e d g = write-fine 4 a b f refl refl e d
+    instr-proper (suc (suc (suc (suc (suc zero))))) a b f e d g = write-fine 5 a b f refl refl e d
+    instr-proper (suc (suc (suc (suc (suc (suc zero)))))) a b f e d g =
         let h = fields-in _ _ e in
         let s = formula-sorted (made 6 a b f) (h .2 .0) d in
         and-both (only isReg (formula l Sort.test f)) (ltb a (last + 1)) (test-regs z l c f (h .2 .0) (h .2 .1) (s .0) (s .1)) (lt→ltb a (last + 1) (omega (arith, h .0 .1)))
-    instr-proper (suc (suc (suc (suc (suc (suc (suc n))))))) a b f e d = absurd (none-above (suc (suc (suc (suc (suc (suc (suc n))))))) a b f (omega arith) e)
+    instr-proper (suc (suc (suc (suc (suc (suc (suc zero))))))) a b f e d g = result-fine 7 a b f refl refl refl e d g
+    instr-proper (suc (suc (suc (suc (suc (suc (suc (suc zero)))))))) a b f e d g = result-fine 8 a b f refl refl refl e d g
+    instr-proper (suc (suc (suc (suc (suc (suc (suc (suc (suc n))))))))) a b f e d g = absurd (none-above (suc (suc (suc (suc (suc (suc (suc (suc (suc n))))))))) a b f (omega arith) e)
 
   module _ (t : ℕ) (low : 1 ≤ t) (high : t ≤ z .threads) where
     abbrev pub body : List ℕ
@@ -163,13 +182,17 @@ module _ (z : Sizes) (l : List (List ℕ)) (c : Checks z l) where
     unfolding thread
     thread-sorted = unless-passed _ _ _ (also-passed _ _ (thread-passed z l c t low high) .1) .0
 
+    thread-absent : every (resultAbsent l) (instructions body) ≡ true
+    unfolding thread threadRegisters
+    thread-absent = unless-passed _ _ _ (unless-passed _ _ _ (unless-passed _ _ _ (also-passed _ _ (thread-passed z l c t low high) .1) .1) .1) .0
+
     instruction-proper : (k : ℕ) → suc k < P .points t → T (proper P (P .points t) (P .code t k))
     unfolding pointCount
     instruction-proper k b =
         let m : k < length (instructions body) = let q = instructions-length body in omega arith in
         let i : Instruction = getD (instructions body) k nothing in
         rw (instruction-there z l t k low high)
-        (instr-proper (lastPoint body) (i .operation) (i .a) (i .b) (i .formula) (every-at (ranged (lastPoint body) z) (instructions body) k nothing thread-ranged m) (every-at (sorted l) (instructions body) k nothing thread-sorted m))
+        (instr-proper (lastPoint body) (i .operation) (i .a) (i .b) (i .formula) (every-at (ranged (lastPoint body) z) (instructions body) k nothing thread-ranged m) (every-at (sorted l) (instructions body) k nothing thread-sorted m) (every-at (resultAbsent l) (instructions body) k nothing thread-absent m))
 
   -- the outline
 

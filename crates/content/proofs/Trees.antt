@@ -123,11 +123,22 @@ module _ (s : List ℕ) (z : Sizes) (c : Checks z (bodies s)) where
       ap₂ (λ (x : ℕ) (u : Tree). acts 0 x a u) q (value-is (made 0 a b f) refl (h .2) d)
   instr-is last (suc zero) a b f e d = let h = fields-in _ _ e in ap (acts 1 b a) (no-formula f (omega (arith, h .2 .1)))
   instr-is last (suc (suc zero)) a b f e d = let h = fields-in _ _ e in ap (acts 2 b a) (no-formula f (omega (arith, h .2 .1)))
-  instr-is last (suc (suc (suc zero))) a b f e d = let h = fields-in _ _ e in ap (acts 3 a 0) (value-is (made 3 a b f) refl (h .2) d)
-  instr-is last (suc (suc (suc (suc zero)))) a b f e d = let h = fields-in _ _ e in ap (acts 4 a 0) (value-is (made 4 a b f) refl (h .2) d)
-  instr-is last (suc (suc (suc (suc (suc zero))))) a b f e d = let h = fields-in _ _ e in ap (acts 5 a 0) (value-is (made 5 a b f) refl (h .2) d)
+  instr-is last (suc (suc (suc zero))) a b f e d =
+      let h = fields-in _ _ e in
+      let q : 0 ≡ b = omega (arith, h .1 .1) in
+      ap₂ (acts 3 a) q (value-is (made 3 a b f) refl (h .2) d)
+  instr-is last (suc (suc (suc (suc zero)))) a b f e d =
+      let h = fields-in _ _ e in
+      let q : 0 ≡ b = omega (arith, h .1 .1) in
+      ap₂ (acts 4 a) q (value-is (made 4 a b f) refl (h .2) d)
+  instr-is last (suc (suc (suc (suc (suc zero))))) a b f e d =
+      let h = fields-in _ _ e in
+      let q : 0 ≡ b = omega (arith, h .1 .1) in
+      ap₂ (acts 5 a) q (value-is (made 5 a b f) refl (h .2) d)
   instr-is last (suc (suc (suc (suc (suc (suc zero)))))) a b f e d = ap (acts 6 0 0) (sym (none-tree s))
-  instr-is last (suc (suc (suc (suc (suc (suc (suc n))))))) a b f e d = absurd (none-above z l c last (suc (suc (suc (suc (suc (suc (suc n))))))) a b f (omega arith) e)
+  instr-is last (suc (suc (suc (suc (suc (suc (suc zero))))))) a b f e d = let h = fields-in _ _ e in ap (acts 7 a b) (value-is (made 7 a b f) refl (h .2) d)
+  instr-is last (suc (suc (suc (suc (suc (suc (suc (suc zero)))))))) a b f e d = let h = fields-in _ _ e in ap (acts 8 a b) (value-is (made 8 a b f) refl (h .2) d)
+  instr-is last (suc (suc (suc (suc (suc (suc (suc (suc (suc n))))))))) a b f e d = absurd (none-above z l c last (suc (suc (suc (suc (suc (suc (suc (suc (suc n))))))))) a b f (omega arith) e)
 
   -- an instruction of a thread: its fields are in their ranges, its formula is of the sort that it wants
   fields-there : (t k : ℕ) (w : Within (z .threads) t) → suc k < P .points t → (ranged (lastPoint (body z l c t (w .0) (w .1))) z (instructionOf z l t k) ≡ true) × (sorted l (instructionOf z l t k) ≡ true)

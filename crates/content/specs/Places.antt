@@ -34,9 +34,9 @@ lineIn s b = record {
 abbrev pub acts : ℕ → ℕ → ℕ → ℕ → Acting
 acts op x r f = record { operation = op; word = x; register = r; formula = f }
 
--- an instruction's word, register and formula: assignments and loads have a register, loads, stores and swaps a word
+-- an instruction's word, register and formula. Assignments and loads have their register first; where there is none, its field is 0
 unfoldable pub actingOf : List ℕ → Instruction → Acting
 actingOf s i =
     cond (leb (i .operation) Opcode.acquire) (acts (i .operation) (i .b) (i .a) (formulaAt s (i .formula)))
-    (cond (leb (i .operation) Opcode.swap) (acts (i .operation) (i .a) 0 (formulaAt s (i .formula)))
-    (acts (i .operation) 0 0 (length s)))
+    (cond (eqb (i .operation) Opcode.branch) (acts (i .operation) 0 0 (length s))
+    (acts (i .operation) (i .a) (i .b) (formulaAt s (i .formula))))

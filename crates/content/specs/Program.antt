@@ -6,7 +6,7 @@ use lib.Dec.{eqb, ltb}
 use lib.ListN.{getD}
 use Rattle.logic.specs.Formula.{Sort, Value, Formula.const}
 use Rattle.logic.specs.Opcode as Opcode
-use Rattle.logic.specs.Machine.{Program, Mode.store, Mode.swap, Access.none, Access.load, Access.write, Instr, Instr.act, Instr.branch}
+use Rattle.logic.specs.Machine.{Program, Mode.store, Mode.swap, Mode.exchange, Mode.fetchAdd, Access.none, Access.load, Access.write, Instr, Instr.act, Instr.branch}
 use Rattle.logic.specs.EveryRun.{Outline}
 use Rattle.limits.specs.Limits as Limits
 use Rattle.limits.specs.Numbers.{nth, numbers}
@@ -37,7 +37,9 @@ module _ (l : List (List ℕ)) where
       (cond (eqb (i .operation) Opcode.release) (act (write (store true) (i .a) (formula l Sort.value (i .formula))) [])
       (cond (eqb (i .operation) Opcode.swap) (act (write swap (i .a) (formula l Sort.value (i .formula))) [])
       (cond (eqb (i .operation) Opcode.branch) (branch (formula l Sort.test (i .formula)) (i .a))
-      idle))))))
+      (cond (eqb (i .operation) Opcode.exchange) (act (write (exchange (i .b)) (i .a) (formula l Sort.value (i .formula))) [])
+      (cond (eqb (i .operation) Opcode.fetchAdd) (act (write (fetchAdd (i .b)) (i .a) (formula l Sort.value (i .formula))) [])
+      idle))))))))
 
 module _ (z : Sizes) (l : List (List ℕ)) where
   -- a thread's points, 0 to its last

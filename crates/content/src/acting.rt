@@ -29,20 +29,20 @@ fn read_acting<'a, 'b>(s: &'a [u8], ix: &'b [usize], i: Instruction) -> Acting
             formula,
         };
     }
-    if i.operation <= Instruction::SWAP {
-        let formula = formula_at(s, ix, i.formula);
+    if i.operation == Instruction::BRANCH {
         return Acting {
             operation: i.operation,
-            word: i.a,
+            word: 0,
             register: 0,
-            formula,
+            formula: s.len(),
         };
     }
+    let formula = formula_at(s, ix, i.formula);
     Acting {
         operation: i.operation,
-        word: 0,
-        register: 0,
-        formula: s.len(),
+        word: i.a,
+        register: i.b,
+        formula,
     }
 }
 

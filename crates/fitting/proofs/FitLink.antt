@@ -112,7 +112,7 @@ and-where false y h k e f = subst (λ (z : Bool). false ≡ cond z k false) e re
 
 -- THE LINE
 
-module _ (s : List ℕ) (n : Rule) (l : Line) (named : l .rule ≡ numberOf n) (a : Acting) (known : a .operation ≤ Opcode.branch) (p : Conclusions.Premises) (few : p .count ≤ Limits.premises) where
+module _ (s : List ℕ) (n : Rule) (l : Line) (named : l .rule ≡ numberOf n) (a : Acting) (known : a .operation ≤ Opcode.fetchAdd) (p : Conclusions.Premises) (few : p .count ≤ Limits.premises) where
   abbrev c : Conclusion
   c = conclusionBy l
 

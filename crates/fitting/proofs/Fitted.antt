@@ -7,7 +7,7 @@ use native.Mathlib.Omega.{arith}
 use lib.ListN.{length}
 use Rattle.logic.specs.Base.{Within}
 use Rattle.logic.specs.Opcode
-use Rattle.logic.specs.Machine.{Program, Mode.store, Mode.swap, Access.none, Access.load, Access.write, Instr, Instr.act, Instr.branch}
+use Rattle.logic.specs.Machine.{Program, Mode.store, Mode.swap, Mode.exchange, Mode.fetchAdd, Access.none, Access.load, Access.write, Instr, Instr.act, Instr.branch}
 use Rattle.logic.specs.Statement.{Statement, half}
 use Rattle.patterns.specs.Fits.{opcode}
 use Rattle.limits.specs.Limits as Limits
@@ -40,14 +40,16 @@ use Rattle.conclusions.proofs.Stated.{rule-number, line-listed, conclusion-tree
 use Rattle.sides.proofs.SidesLink.{startOf}
 use Rattle.fitting.proofs.FitLink.{says, fits-same}
 
--- operations are 0 to 6
-opcode-known : (c : Instr) → opcode c ≤ Opcode.branch
+-- operations are 0 to 8
+opcode-known : (c : Instr) → opcode c ≤ Opcode.fetchAdd
 opcode-known (act none ns) = omega arith
 opcode-known (act (load true r x) ns) = omega arith
 opcode-known (act (load false r x) ns) = omega arith
 opcode-known (act (write (store true) x f) ns) = omega arith
 opcode-known (act (write (store false) x f) ns) = omega arith
 opcode-known (act (write swap x f) ns) = omega arith
+opcode-known (act (write (exchange r) x f) ns) = omega arith
+opcode-known (act (write (fetchAdd r) x f) ns) = omega arith
 opcode-known (branch e a) = omega arith
 
 module _ (s : List ℕ) (z : Sizes) (c : Checks z (bodies s)) where
@@ -103,8 +105,8 @@ module _ (s : List ℕ) (z : Sizes) (c : Checks z (bodies s)) where
     unfolding actingIn lineAt lineIn
     acting-concluded = line-acting s z c n w
 
-    acting-known : actingIn s z its .operation ≤ Opcode.branch
-    acting-known = subst (λ (k : ℕ). k ≤ Opcode.branch) (ap (λ (a : FitT.Acting). a .operation) acting-concluded) (opcode-known (half P (its .thread) (its .point)))
+    acting-known : actingIn s z its .operation ≤ Opcode.fetchAdd
+    acting-known = subst (λ (k : ℕ). k ≤ Opcode.fetchAdd) (ap (λ (a : FitT.Acting). a .operation) acting-concluded) (opcode-known (half P (its .thread) (its .point)))
 
     premises-few-here : p .count ≤ Limits.premises
     unfolding premisesOf

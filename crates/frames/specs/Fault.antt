@@ -2,7 +2,7 @@
 use mathlib.Core.Bool.{Bool, true, false}
 use Prim.Native.Nat.{ℕ}
 use Rattle.frames.specs.declared.fault.Fault.{Fault}
-use Rattle.frames.specs.declared.fault.Fault.the-variants.{Size, Length, Kind, Body, Number, Formula, Sort, Owner}
+use Rattle.frames.specs.declared.fault.Fault.the-variants.{Size, Length, Kind, Body, Number, Formula, Sort, Owner, Operand}
 use Rattle.frames.specs.declared.fault.Checked.{Checked}
 use Rattle.frames.specs.declared.fault.Checked.the-variants.{Passed, Faulty}
 
@@ -15,6 +15,7 @@ codeOf Number = 6
 codeOf Formula = 7
 codeOf Sort = 8
 codeOf Owner = 9
+codeOf Operand = 23
 
 -- the fault, unless the test is passed
 unfoldable pub unless : Bool → Fault → Checked → Checked

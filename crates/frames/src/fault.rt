@@ -16,6 +16,8 @@ pub enum Fault {
     Sort,
     // An instruction names another thread's register.
     Owner,
+    // The operand of an exchange or a fetch-add names its result register.
+    Operand,
 }
 
 // What a check of a part of the image answers.

@@ -4,15 +4,8 @@ ghost use mathlib.Core.Path.{_≡_};
 ghost use Prim.Native.Nat.{_<_};
 ghost use Rattle.frames.specs.Fault.{codeOf};
 
-pub struct Code;
-
-impl Code {
-    // Every fault's code is lower.
-    pub const LIMIT: usize = 10;
-}
-
 pub fn code_of(fault: Fault) -> usize
-    ensures { λ r. ⌜ (r ≡ codeOf fault) × (r < 10) ⌝ }
+    ensures { λ r. ⌜ (r ≡ codeOf fault) × (r < 24) ⌝ }
 {
     match fault {
         Fault::Size => 2,
@@ -23,5 +16,6 @@ pub fn code_of(fault: Fault) -> usize
         Fault::Formula => 7,
         Fault::Sort => 8,
         Fault::Owner => 9,
+        Fault::Operand => 23,
     }
 }

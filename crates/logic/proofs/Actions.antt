@@ -1,11 +1,12 @@
--- Rules 1 to 13, of states in which the thread has arrived at its pick.
+-- Rules 1 to 13, 48, 49, of states in which the thread has arrived at its pick.
 use mathlib.Core.Path.{_≡_, refl, ap, sym, _∙_, subst}
 use mathlib.Core.Bool.{Bool, true, false, _&&_}
 use mathlib.Core.List.{List, [], _∷_, map}
 use mathlib.Core.Logic.{_≢_, inl, inr}
 use Prim.Native.Nat.{ℕ, zero, suc, _≤_}
 use native.Mathlib.Omega.{arith}
-use lib.Dec.{T}
+use lib.Dec.{T, eqb}
+use lib.ListN.{drop}
 use Rattle.logic.proofs.Agreement.{Same, same-trans, Agree, agree-refl, value-agree, test-agree, sat-agree, keep}
 use Rattle.logic.proofs.Arrived.{Arrived, Triple, head-off, synced, bare, sees-last}
 use Rattle.logic.proofs.Base.{upd-same, upd-other, upds, by-word, and-left, and-right, and-both, not-eqb, all-All, is-true}
@@ -19,7 +20,7 @@ use Rattle.logic.proofs.Registers.{regs-same, regs-kept, given-kept, gi
 use Rattle.logic.proofs.Replacement.{replaced, under}
 use Rattle.logic.specs.Base.{All, all, upd}
 use Rattle.logic.specs.Eval.{Env, value, test}
-use Rattle.logic.specs.Formula.{Value, Test, Interval, Assertion, Formula.word, Formula.unsync, Formula.cov, Formula.box, Formula.one, Formula.chop, Formula.sees, Formula.bothA, Formula.eitherA, Formula.holds}
+use Rattle.logic.specs.Formula.{Value, Test, Interval, Assertion, Formula.const, Formula.word, Formula.unsync, Formula.cov, Formula.box, Formula.one, Formula.chop, Formula.sees, Formula.bothA, Formula.eitherA, Formula.holds}
 use Rattle.logic.specs.Inference.{newest, C}
 use Rattle.logic.specs.Machine.{View, State, Write, Program, at}
 use Rattle.logic.specs.Names.{only, notWord, regsIn, notFlag, isReg, startless, Name, n-reg, n-word, n-unsync, n-cov, names}
@@ -196,10 +197,10 @@ module _ (P : Program) (t : ℕ) where
         last-sync (write-act true false x f [] g wf p arr) (store-last true g s wf p arr (h .0)) refl j no-x (h .1 .1) u i (h .1 .0)
 
     -- 11 to 13, for swaps
-    module _ (g : Good P (write true true x f) []) where
-      pub swap-last : (s : State) → Wf P s → (p : ℕ) → Arrived (write true true x f) t p s → Sees P s t (C x) → suc p ≡ s .size x
-      swap-last s wf p arr h = omega (arith, sees-last wf t x (head-off wf t (cov x) (one x) (bare wf (arr .0) (arr .1)) h), arr .0 .here)
+    pub swap-last : (s : State) → Wf P s → (p : ℕ) → Arrived (write true true x f) t p s → Sees P s t (C x) → suc p ≡ s .size x
+    swap-last s wf p arr h = omega (arith, sees-last wf t x (head-off wf t (cov x) (one x) (bare wf (arr .0) (arr .1)) h), arr .0 .here)
 
+    module _ (g : Good P (write true true x f) []) where
       pub rule-11 : T (only isReg f) → Triple P t (write true true x f) [] (sees t (C x)) (sees t (newest x f))
       unfolding write-act
       rule-11 c s wf p arr h = last-own (write-act true true x f [] g wf p arr) (swap-last s wf p arr h) f (write-value true true x f [] g wf p arr c)
@@ -222,3 +223,40 @@ module _ (P : Program) (t : ℕ) where
     unfolding write-act
     rule-9 rel swaps g c u e no-flag s wf p arr h =
         nine (write-act rel swaps x f [] g wf p arr) f e no-flag (at P s) (cover-same P swaps x p s) (λ v. value-agree (P .range) (regs-same refl) f c) u (h .0) (h .1)
+
+  -- notes besides: what their registers are not in
+  pub with-notes : (A : Touch) (ns : List Note) (a q : Assertion) → T (startless q) → T (only (regsIn (kept ns)) q) → Triple P t A [] a q → Triple P t A ns a q
+  with-notes A ns a q z c prem s wf p arr h =
+      regs-kept P (finish P A [] t p s) (λ r. workedAt P s t (noted ns r)) (upd (s .point) t (suc (s .point t))) (kept ns) (given-kept P s t ns) q z c (prem s wf p arr h)
+
+  -- 48, 49: a swap of n into x with the notes ns, after which F says what n was
+  module _ (x : ℕ) (n F : Value) (ns : List Note) (g : Good P (write true true x n) ns)
+      (says : (s : State) (p : ℕ) (v : View) → value (P .range) (at P (finish P (write true true x n) ns t p s) v) F ≡ workedAt P s t n) where
+    -- what was stored, as a constant, is what F says
+    as-said : (s : State) (p : ℕ) (l : List View) → Sat (P .range) (at P (finish P (write true true x n) ns t p s)) (newest x (const (workedAt P s t n))) l
+        → Sat (P .range) (at P (finish P (write true true x n) ns t p s)) (newest x F) l
+    as-said s p l h = (
+      h .0,
+      All-map _ _ (λ v k. subst (λ (m : ℕ). T (eqb (at P (finish P (write true true x n) ns t p s) v .word x) m)) (sym (says s p v)) k) l (h .1),
+    )
+
+    -- and registers are not in that
+    stored : (s : State) (p u : ℕ) (i : Interval) → T (only (regsIn (λ r. false)) i) → Sees P (memory P (write true true x n) t p s) u i
+        → Sees P (finish P (write true true x n) ns t p s) u i
+    stored s p u i c h =
+        regs-kept P (memory P (write true true x n) t p s) (λ r. workedAt P s t (noted ns r)) (upd (s .point) t (suc (s .point t))) (λ r. false) (λ r k. absurd k)
+        (sees u i) tt c h
+
+    pub rule-48 : Triple P t (write true true x n) ns (sees t (C x)) (sees t (newest x F))
+    unfolding write-act
+    rule-48 s wf p arr h l pr =
+        as-said s p l (stored s p t (newest x (const (workedAt P s t n))) tt
+        (last-own (write-act true true x n ns g wf p arr) (swap-last x n s wf p arr h) (const (workedAt P s t n)) (λ v. refl)) l pr)
+
+    pub rule-49 : (u : ℕ) → Triple P t (write true true x n) ns (bothA (sees t (C x)) (sees u (C x))) (sees u (chop (box (cov x)) (newest x F)))
+    unfolding write-act
+    rule-49 u s wf p arr h l pr =
+        let k = stored s p u (chop (box (cov x)) (newest x (const (workedAt P s t n)))) tt
+        (last-other (write-act true true x n ns g wf p arr) (swap-last x n s wf p arr (h .0)) (const (workedAt P s t n)) (λ v. refl) u (box (cov x))
+        (covered P s p x (swap-last x n s wf p arr (h .0)) u (h .1))) l pr in
+        (k .0, k .1, as-said s p (drop (k .0) l) (k .2))

@@ -2,13 +2,13 @@
 use mathlib.Core.Path.{_≡_, refl, ap, sym, _∙_, subst, fun-ext}
 use mathlib.Core.Bool.{Bool, true, false, cond, not, _&&_, _||_, true≢false}
 use mathlib.Core.Logic.{_≢_, _⊎_, inl, inr}
-use Prim.Native.Nat.{ℕ, zero, suc, _≤_}
+use Prim.Native.Nat.{ℕ, zero, suc, _+_, _-_, min, _≤_, _<_}
 use native.Mathlib.Omega.{arith}
 use lib.Dec.{T, eqb, ltb, leb}
 use borrow.Author.Tests.{eqb-true, eqb-false, eq-eqb, ne-eqb, le-ltb, ltb-false, leb-true, leb-false}
 use mathlib.Core.List.{List, [], _∷_, _++_}
 use Rattle.logic.specs.Base.{upd, all, All, Within}
-use Rattle.logic.specs.Machine.{View, later}
+use Rattle.logic.specs.Machine.{View, later, up, down}
 
 module _ {ℓ} {A : Type ℓ} where
   pub upd-same : (f : ℕ → A) (x : ℕ) (a : A) → upd f x a x ≡ a
@@ -126,3 +126,20 @@ bool-ext false false f g = refl
 pub map-or : {A B C D : Type 0} → (A → C) → (B → D) → A ⊎ B → C ⊎ D
 map-or f g (inl a) = inl (f a)
 map-or f g (inr b) = inr (g b)
+
+-- insertion, in the form that arithmetic decides: min 1 (i - p) is 1 just where i is after p
+pub up-is : (p i : ℕ) → up p i ≡ i + min 1 (i - p)
+unfolding up
+up-is p i = go (leb i p) refl
+  where
+    go : (b : Bool) → leb i p ≡ b → up p i ≡ i + min 1 (i - p)
+    go true e = let h : i ≤ p = leb-true i p e in rw e (omega arith)
+    go false e = let h : p < i = leb-false i p e in rw e (omega arith)
+
+pub down-is : (p i : ℕ) → down p i ≡ i - min 1 (i - p)
+unfolding down
+down-is p i = go (leb i p) refl
+  where
+    go : (b : Bool) → leb i p ≡ b → down p i ≡ i - min 1 (i - p)
+    go true e = let h : i ≤ p = leb-true i p e in rw e (omega arith)
+    go false e = let h : p < i = leb-false i p e in rw e (omega arith)

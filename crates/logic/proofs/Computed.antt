@@ -1,4 +1,4 @@
--- Computed runs, worked out by hand from the scope page: message passing; a swap, a write in the middle of a row, a covered write that is read;
+-- Computed runs, worked out by hand from the scope page: message passing; a swap, a write in the middle of a row, a covered write that is read; exchange and fetch-add;
 -- marks and views handed on.
 use mathlib.Core.Path.{_≡_, refl}
 use mathlib.Core.Bool.{Bool, true, false, cond}
@@ -7,7 +7,7 @@ use Prim.Native.Nat.{ℕ, zero, suc}
 use Rattle.logic.specs.Base.{upd}
 use Rattle.logic.specs.Limits
 use Rattle.logic.specs.Formula.{Formula.const, Formula.reg, Formula.sum, Formula.equal}
-use Rattle.logic.specs.Machine.{View, Write, State, Program, Mode.store, Mode.swap, Access.none, Access.load, Access.write, Instr, Instr.act, Instr.branch, Start, Step, run}
+use Rattle.logic.specs.Machine.{View, Write, State, Program, Mode.store, Mode.swap, Mode.exchange, Mode.fetchAdd, Access.none, Access.load, Access.write, Instr, Instr.act, Instr.branch, Start, Step, run, up, down}
 use Rattle.logic.specs.Obligations.{below, upTo}
 
 -- there is a start state
@@ -120,7 +120,7 @@ before : picture (run message-passing (begin message-passing) polled) ≡ record
   registers = 0 ∷ 0 ∷ 0 ∷ [];
   points = 2 ∷ 0 ∷ 0 ∷ [];
 }
-unfolding begin draw yes-no picture write-of by nothing at-points sender receiver message-passing polled upd
+unfolding begin draw yes-no picture write-of by nothing at-points sender receiver message-passing polled upd up down
 before = refl
 
 received : List Step
@@ -140,7 +140,7 @@ after : picture (run message-passing (run message-passing (begin message-passing
   registers = 1 ∷ 1 ∷ 0 ∷ [];
   points = 2 ∷ 3 ∷ 0 ∷ [];
 }
-unfolding begin draw yes-no picture write-of by nothing at-points sender receiver message-passing polled received upd
+unfolding begin draw yes-no picture write-of by nothing at-points sender receiver message-passing polled received upd up down
 after = refl
 
 -- ONE WORD, three threads: 1 stores 1; 2 swaps 2 in; 3 loads into register 3 and stores 3
@@ -173,7 +173,7 @@ covered-read : picture (run mixed (begin mixed) middle) ≡ record {
   registers = 0 ∷ 0 ∷ 0 ∷ [];
   points = 1 ∷ 1 ∷ 2 ∷ [];
 }
-unfolding begin draw yes-no picture write-of by nothing at-points mixed middle upd
+unfolding begin draw yes-no picture write-of by nothing at-points mixed middle upd up down
 covered-read = refl
 
 -- MARKS AND MIDDLES, two words. Thread 1 stores 1 to word 1, releasing 1 to word 2, then releasing 5 to word 2; thread 2 swaps 2 into word 2;
@@ -214,12 +214,12 @@ handed-over : picture (run handed (begin handed) hand-over) ≡ record {
   registers = 1 ∷ 1 ∷ 1 ∷ [];
   points = 3 ∷ 1 ∷ 4 ∷ [];
 }
-unfolding begin draw yes-no picture write-of by nothing at-points handed hand-over upd
+unfolding begin draw yes-no picture write-of by nothing at-points handed hand-over upd up down
 handed-over = refl
 
 -- after the relaxed load alone
 seen-relaxed : map (run handed (begin handed) (by 1 0 ∷ by 1 0 ∷ by 2 1 ∷ by 3 1 ∷ []) .view 3) (upTo 2) ≡ 0 ∷ 1 ∷ []
-unfolding begin by nothing at-points handed upd
+unfolding begin by nothing at-points handed upd up down
 seen-relaxed = refl
 
 -- a swap behind a write that is not releasing joins no view
@@ -234,5 +234,42 @@ dropped = record {
 }
 
 not-joined : map (run dropped (begin dropped) (by 1 0 ∷ by 1 0 ∷ by 2 1 ∷ []) .view 2) (upTo 2) ≡ 2 ∷ 0 ∷ []
-unfolding begin by nothing at-points dropped upd
+unfolding begin by nothing at-points dropped upd up down
 not-joined = refl
+
+-- TICKETS. Word 1 counts, word 2 is a desk. Thread 1 takes 3 by fetch-add into register 1 and stores 4 to the desk, releasing.
+-- Thread 2 exchanges the count for 7, the desk for 1, and adds 6 to the count, each time into register 3
+unfoldable pub tickets : Program
+tickets = record {
+  threads = 2;
+  words = 2;
+  range = Limits.range;
+  init = λ x. 0;
+  points = upd (λ t. 4) 1 3;
+  code = upd (upd (λ t k. nothing) 1 (at-points (act (write (fetchAdd 1) 1 (const 3)) [] ∷ act (write (store true) 2 (const 4)) [] ∷ [])))
+      2 (at-points (act (write (exchange 3) 1 (const 7)) [] ∷ act (write (exchange 3) 2 (const 1)) [] ∷ act (write (fetchAdd 3) 1 (const 6)) [] ∷ []));
+}
+
+ticket-steps : List Step
+ticket-steps =
+    by 2 0  -- exchanges 0 for 7, and covers it
+    ∷ by 1 0  -- refused: the first write is covered
+    ∷ by 1 1  -- takes 7, stores 7 + 3, which is 2
+    ∷ by 1 1  -- refused: the desk has no write at 1 yet
+    ∷ by 1 0  -- stores 4
+    ∷ by 2 1  -- exchanges 4 for 1: its stored view is joined in, the one of the count too
+    ∷ by 2 1  -- refused: the write at 1 of the count is before the view now
+    ∷ by 2 2  -- takes 2, stores 2 + 6, which is 0
+    ∷ []
+
+tickets-taken : picture (run tickets (begin tickets) ticket-steps) ≡ record {
+  rows =
+      (write-of 0 0 1 (0 ∷ 0 ∷ []) ∷ write-of 7 1 1 (1 ∷ 0 ∷ []) ∷ write-of 2 1 1 (2 ∷ 0 ∷ []) ∷ write-of 0 1 0 (3 ∷ 2 ∷ []) ∷ [])
+      ∷ (write-of 0 0 0 (0 ∷ 0 ∷ []) ∷ write-of 4 1 1 (2 ∷ 1 ∷ []) ∷ write-of 1 1 0 (2 ∷ 2 ∷ []) ∷ [])
+      ∷ [];
+  views = (2 ∷ 1 ∷ []) ∷ (3 ∷ 2 ∷ []) ∷ (0 ∷ 0 ∷ []) ∷ [];
+  registers = 7 ∷ 0 ∷ 2 ∷ [];
+  points = 2 ∷ 3 ∷ 0 ∷ [];
+}
+unfolding begin draw yes-no picture write-of by nothing at-points tickets ticket-steps upd up down
+tickets-taken = refl

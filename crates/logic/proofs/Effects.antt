@@ -3,7 +3,7 @@ use mathlib.Core.Path.{_≡_, refl, sym, _∙_, ap, subst}
 use mathlib.Core.Bool.{Bool, true, false, cond, _&&_, true≢false}
 use mathlib.Core.List.{List, [], _∷_}
 use mathlib.Core.Logic.{_≢_, _⊎_, inl, inr}
-use Prim.Native.Nat.{ℕ, suc, max, _≤_, _<_}
+use Prim.Native.Nat.{ℕ, suc, _+_, _%_, max, _≤_, _<_}
 use native.Mathlib.Omega.{arith}
 use lib.Dec.{eqb, leb}
 use borrow.Author.Tests.{eqb-true, eqb-false, leb-true, leb-false}
@@ -11,8 +11,8 @@ use Rattle.logic.specs.Base.{upd}
 use Rattle.logic.specs.Formula.{Value, Test}
 use Rattle.logic.specs.Replace.{Note}
 use Rattle.logic.specs.Eval.{onRegs, test}
-use Rattle.logic.specs.Machine.{View, Write, State, Program, Mode.store, Mode.swap, Access, Access.none, Access.load, Access.write, Instr.act, Instr.branch, worked, join, down, upView, upWrite, moveTo, insert, cover, swapView, done, exec}
-use Rattle.logic.proofs.Base.{upds, upd-other₁}
+use Rattle.logic.specs.Machine.{View, Write, State, Program, Mode.store, Mode.swap, Mode.exchange, Mode.fetchAdd, Access, Access.none, Access.load, Access.write, Instr.act, Instr.branch, worked, join, down, upView, upWrite, moveTo, insert, cover, swapView, swapped, withRegs, done, exec}
+use Rattle.logic.proofs.Base.{upds, upd-other₁, up-is, down-is}
 
 -- INSERTION of a write behind the position p of x. The write that was at i of y is at j: nothing moves but the writes of x after p
 pub record Keeps (x p y i j : ℕ) : Type 0 where
@@ -86,6 +86,12 @@ pub record Swaps (x n t p : ℕ) (s s' : State) : Type 0 where
   pub not-joined : s .row x p .releasing ≡ false → (y : ℕ) → from y ≡ s .view t y
   pub inserts : Inserts true x n t p from between s'
 
+-- a swap of n into x; then r has the value of the write that was picked
+pub record Returns (r x n t p : ℕ) (s s' : State) : Type 0 where
+  pub between : State
+  pub swaps : Swaps x n t p s between
+  pub result : Assigns r (s .row x p .value) between s'
+
 -- t goes to the point k, and nothing else changes
 pub record Goes (k t : ℕ) (s s' : State) : Type 0 where
   pub point : s' .point t ≡ k
@@ -99,8 +105,8 @@ pub record Goes (k t : ℕ) (s s' : State) : Type 0 where
 keeps-up : (x p y : ℕ) (w : View) → Keeps x p y (w y) (upView x p w y)
 keeps-up x p y w = record {
   elsewhere = λ q. simp upds;
-  not-after = λ e h. subst (λ (z : ℕ). w z ≤ p → upView x p w z ≡ w z) (sym e) (λ k. simp upds (omega arith)) h;
-  after = λ e h. subst (λ (z : ℕ). p < w z → upView x p w z ≡ suc (w z)) (sym e) (λ k. simp upds (omega arith)) h;
+  not-after = λ e h. subst (λ (z : ℕ). w z ≤ p → upView x p w z ≡ w z) (sym e) (λ k. simp upds (omega (arith, up-is p (w x)))) h;
+  after = λ e h. subst (λ (z : ℕ). p < w z → upView x p w z ≡ suc (w z)) (sym e) (λ k. simp upds (omega (arith, up-is p (w x)))) h;
 }
 
 keeps-write : (x p : ℕ) (w : Write) → KeepsWrite x p w (upWrite x p w)
@@ -118,13 +124,13 @@ module _ (releasing : Bool) (x n t p : ℕ) (v : View) (s : State) where
       go true e =
           let h : i ≤ p = leb-true i p e in
           let q : j ≡ i = k .not-after refl h in
-          let d : down p j ≡ i = omega arith in
+          let d : down p j ≡ i = omega (arith, down-is p j) in
           let m : j ≢ suc p = λ z. omega arith in
           simp upds (ap (λ (z : ℕ). upWrite x p (s .row x z)) d)
       go false e =
           let h : p < i = leb-false i p e in
           let q : j ≡ suc i = k .after refl h in
-          let d : down p j ≡ i = omega arith in
+          let d : down p j ≡ i = omega (arith, down-is p j) in
           let m : j ≢ suc p = λ z. omega arith in
           simp upds (ap (λ (z : ℕ). upWrite x p (s .row x z)) d)
 
@@ -197,15 +203,32 @@ module _ (P : Program) (t p : ℕ) (s : State) where
   pub stores : (releasing : Bool) (x : ℕ) (f : Value) → Inserts releasing x (worked P s f) t p (s .view t) s (done P (write (store releasing) x f) [] t p s)
   stores releasing x f = inserts releasing x (worked P s f) t p (s .view t) s
 
-  pub swaps : (x : ℕ) (f : Value) → Swaps x (worked P s f) t p s (done P (write swap x f) [] t p s)
-  swaps x f = record {
+  pub swaps-in : (x n : ℕ) → Swaps x n t p s (swapped x n t p s)
+  swaps-in x n = record {
     between = cover x p s;
     covers = covers x p s;
     from = swapView s t x p;
     joined = λ e y. rw e;
     not-joined = λ e y. rw e;
-    inserts = inserts true x (worked P s f) t p (swapView s t x p) (cover x p s);
+    inserts = inserts true x n t p (swapView s t x p) (cover x p s);
   }
+
+  pub swaps : (x : ℕ) (f : Value) → Swaps x (worked P s f) t p s (done P (write swap x f) [] t p s)
+  swaps x f = swaps-in x (worked P s f)
+
+  -- an exchange and a fetch-add, which stores the old value plus f modulo the range: a swap that puts the old value into r
+  returns-in : (r x n : ℕ) → Returns r x n t p s (withRegs (swapped x n t p s) (upd (s .reg) r (s .row x p .value)))
+  returns-in r x n = record {
+    between = swapped x n t p s;
+    swaps = swaps-in x n;
+    result = record { value = simp upds; registers = λ q h. simp upds; views = λ u y. refl; sizes = λ y. refl; rows = λ y i. refl };
+  }
+
+  pub exchanges : (r x : ℕ) (f : Value) → Returns r x (worked P s f) t p s (done P (write (exchange r) x f) [] t p s)
+  exchanges r x f = returns-in r x (worked P s f)
+
+  pub adds : (r x : ℕ) (f : Value) → Returns r x ((s .row x p .value + worked P s f) % P .range) t p s (done P (write (fetchAdd r) x f) [] t p s)
+  adds r x f = returns-in r x ((s .row x p .value + worked P s f) % P .range)
 
   -- an action leads to the next point, and a branch to its target or to the next point; all else is the action's, or stays
   pub still : (A : Access) (ns : List Note) (u : ℕ) → done P A ns t p s .point u ≡ s .point u
@@ -213,6 +236,8 @@ module _ (P : Program) (t p : ℕ) (s : State) where
   still (load a r x) ns u = refl
   still (write (store b) x f) ns u = refl
   still (write swap x f) ns u = refl
+  still (write (exchange r) x f) ns u = refl
+  still (write (fetchAdd r) x f) ns u = refl
 
   pub goes-on : (A : Access) (ns : List Note) → Goes (suc (s .point t)) t (done P A ns t p s) (exec P (act A ns) t p s)
   goes-on A ns = record { point = simp upds; points = λ u q. simp upds; sizes = λ y. refl; rows = λ y i. refl; views = λ u y. refl; registers = λ r. refl }

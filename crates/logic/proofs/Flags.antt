@@ -6,7 +6,7 @@ use Prim.Native.Nat.{ℕ, zero, suc, _<_}
 use native.Mathlib.Omega.{arith}
 use lib.Dec.{T, ltb, ltb→lt, lt→ltb}
 use Rattle.logic.specs.Base.{upd, Within}
-use Rattle.logic.specs.Machine.{View, State, Program, at, later, run}
+use Rattle.logic.specs.Machine.{View, State, Program, at, later, run, up, down}
 use Rattle.logic.proofs.Base.{by-word, and-left, and-right, and-both, is-true, holds-true}
 use Rattle.logic.proofs.Computed.{begin, yes-no, by, nothing, at-points, handed, dropped}
 
@@ -76,11 +76,11 @@ flags P s v x = yes-no (at P s v .unsync x) ∷ yes-no (at P s v .cov x) ∷ []
 handed-flags : map (λ v. flags handed (run handed (begin handed) (by 1 0 ∷ by 1 0 ∷ by 2 1 ∷ [])) v 2)
     (naming 0 0 ∷ naming 0 1 ∷ naming 1 1 ∷ naming 0 2 ∷ naming 1 2 ∷ [])
     ≡ (0 ∷ 0 ∷ []) ∷ (1 ∷ 1 ∷ []) ∷ (0 ∷ 1 ∷ []) ∷ (1 ∷ 0 ∷ []) ∷ (0 ∷ 0 ∷ []) ∷ []
-unfolding begin yes-no by nothing at-points handed upd naming flags
+unfolding begin yes-no by nothing at-points handed upd naming flags up down
 handed-flags = refl
 
 -- word 1: its second write has a later view, and is not releasing; once swapped it is covered
 dropped-flags : map (λ l. flags dropped (run dropped (begin dropped) l) (naming 1 0) 1) ((by 1 0 ∷ by 1 0 ∷ []) ∷ (by 1 0 ∷ by 1 0 ∷ by 2 1 ∷ []) ∷ [])
     ≡ (0 ∷ 0 ∷ []) ∷ (0 ∷ 1 ∷ []) ∷ []
-unfolding begin yes-no by nothing at-points dropped upd naming flags
+unfolding begin yes-no by nothing at-points dropped upd naming flags up down
 dropped-flags = refl

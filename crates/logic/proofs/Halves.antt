@@ -6,12 +6,12 @@ use mathlib.Core.List.{List, [], _∷_}
 use Prim.Native.Nat.{ℕ, suc}
 use lib.Dec.{T, eqb}
 use Rattle.logic.specs.Base.{upd, all, Within}
-use Rattle.logic.specs.Formula.{Value, Formula.word}
+use Rattle.logic.specs.Formula.{Value, Formula.word, Formula.sum}
 use Rattle.logic.specs.Names.{Name, regsIn, notWord}
 use Rattle.logic.specs.Replace.{Note, noted}
 use Rattle.logic.specs.Eval.{value, bounded}
 use Rattle.logic.specs.Machine
-use Rattle.logic.specs.Machine.{View, State, Program, Mode, Mode.store, Mode.swap, at, down, insert, cover, withView, withRegs, readView, reachable}
+use Rattle.logic.specs.Machine.{View, State, Program, Mode, Mode.store, Mode.swap, Mode.exchange, Mode.fetchAdd, covers, at, down, insert, cover, withView, withRegs, readView, reachable}
 
 -- nothing; load acquires x; write releasing swaps x f
 pub data Touch : Type 0 where
@@ -22,21 +22,33 @@ pub data Touch : Type 0 where
 abbrev pub releases : Mode → Bool
 releases (store releasing) = releasing
 releases swap = true
+releases (exchange r) = true
+releases (fetchAdd r) = true
 
-abbrev pub covers : Mode → Bool
-covers (store releasing) = false
-covers swap = true
+-- the value of the new write, where the thread has arrived: fetch-add adds to the value that the word has there
+abbrev pub newValue : Mode → ℕ → Value → Value
+newValue (store releasing) x f = f
+newValue swap x f = f
+newValue (exchange r) x f = f
+newValue (fetchAdd r) x f = sum (word x) f
 
 abbrev pub touch : Machine.Access → Touch
 touch Machine.none = none
 touch (Machine.load acquires r x) = load acquires x
-touch (Machine.write m x f) = write (releases m) (covers m) x f
+touch (Machine.write m x f) = write (releases m) (covers m) x (newValue m x f)
+
+-- the register r is given what the word x has
+abbrev pub into : ℕ → ℕ → List Note → List Note
+into r x ns = record { to = r; by = word x } ∷ ns
 
 -- the result register first, then the notes
 abbrev pub allNotes : Machine.Access → List Note → List Note
 allNotes Machine.none ns = ns
-allNotes (Machine.load acquires r x) ns = record { to = r; by = word x } ∷ ns
-allNotes (Machine.write m x f) ns = ns
+allNotes (Machine.load acquires r x) ns = into r x ns
+allNotes (Machine.write (store releasing) x f) ns = ns
+allNotes (Machine.write swap x f) ns = ns
+allNotes (Machine.write (exchange r) x f) ns = into r x ns
+allNotes (Machine.write (fetchAdd r) x f) ns = into r x ns
 
 -- the position that a new position stands for, in a view
 abbrev pub downView : ℕ → ℕ → View → View

@@ -7,7 +7,7 @@ use Prim.Native.Nat.{ℕ, zero, suc, _≤_, _<_}
 use native.Mathlib.Omega.{arith}
 use lib.Dec.{T, ltb, lt→ltb, ltb→lt}
 use Rattle.logic.proofs.Agreement.{Same, transport, All-every}
-use Rattle.logic.proofs.Base.{bool-ext, upd-same, upd-other, by-word, upds, not-eqb}
+use Rattle.logic.proofs.Base.{bool-ext, upd-same, upd-other, by-word, upds, not-eqb, up-is, down-is}
 use Rattle.logic.proofs.Halves.{downView, put}
 use Rattle.logic.proofs.Invariant.{Wf}
 use Rattle.logic.specs.Base.{Within}
@@ -25,7 +25,7 @@ module _ (x p : ℕ) where
   -- an old stored view, after the insertion, against a new view; and before it, against the view that it stands for
   galois : (a v : View) (y : ℕ) → ltb (v y) (upView x p a y) ≡ ltb (downView x p v y) (a y)
   galois a v = by-word x _
-      (simp upd-same (same-test (up p (a x)) (v x) (a x) (down p (v x)) (omega arith) (omega arith)))
+      (simp upd-same (same-test (up p (a x)) (v x) (a x) (down p (v x)) (omega (arith, up-is p (a x), down-is p (v x))) (omega (arith, up-is p (a x), down-is p (v x)))))
       (λ y q. simp upd-other)
 
   later-down : (W : ℕ) (a v : View) → later W (upView x p a) v ≡ later W a (downView x p v)
@@ -36,7 +36,7 @@ module _ (x p : ℕ) where
   down-still v y q = upd-other v x (down p (v x)) y q
 
   down-mono : (v w : View) → ((y : ℕ) → v y ≤ w y) → (y : ℕ) → downView x p v y ≤ downView x p w y
-  down-mono v w g = by-word x _ (simp upd-same (omega (arith, g x))) (λ y q. simp upd-other (g y))
+  down-mono v w g = by-word x _ (simp upd-same (omega (arith, g x, down-is p (v x), down-is p (w x)))) (λ y q. simp upd-other (g y))
 
 -- the name is of the word x
 abbrev pub About : ℕ → Name → Type 0
@@ -95,7 +95,7 @@ module _ {P : Program} {s : State} (d : Insertion P s) where
 
   -- a prospect of the new state is one of the old state, its views taken for those that they stand for
   names-old : (v : View) → Names (result d .size) v → Names (s .size) (old d v)
-  names-old v h = by-word (d .x) _ (simp upd-same (omega (arith, d .inside, simp upd-same at (h (d .x))))) (λ y q. simp upd-other (simp upd-other at (h y)))
+  names-old v h = by-word (d .x) _ (simp upd-same (omega (arith, d .inside, simp upd-same at (h (d .x)), down-is (d .p) (v (d .x))))) (λ y q. simp upd-other (simp upd-other at (h y)))
 
   from-old : (a b : View) → ((v : View) → ((y : ℕ) → a y ≤ v y) → (y : ℕ) → b y ≤ old d v y)
       → (l : List View) → From (result d .size) a l → From (s .size) b (map (old d) l)
@@ -104,9 +104,9 @@ module _ {P : Program} {s : State} (d : Insertion P s) where
 
   view-old : (v : View) (u : ℕ) → ((y : ℕ) → result d .view u y ≤ v y) → (y : ℕ) → s .view u y ≤ old d v y
   view-old v = by-word (d .t) _
-      (λ f. by-word (d .x) _ (simp upds (omega (arith, simp upds at (f (d .x)), d .here)))
+      (λ f. by-word (d .x) _ (simp upds (omega (arith, simp upds at (f (d .x)), d .here, down-is (d .p) (v (d .x)))))
       (λ y q. simp upds (omega (arith, simp upds at (f y)))))
-      (λ u qu f. by-word (d .x) _ (simp upds (omega (arith, simp upds at (f (d .x))))) (λ y q. simp upds (omega (arith, simp upds at (f y)))))
+      (λ u qu f. by-word (d .x) _ (simp upds (omega (arith, simp upds at (f (d .x)), up-is (d .p) (s .view u (d .x)), down-is (d .p) (v (d .x))))) (λ y q. simp upds (omega (arith, simp upds at (f y)))))
 
   pub result-prospect : (u : ℕ) (l : List View) → Prospect (result d .size) (result d .view u) l → Prospect (s .size) (s .view u) (map (old d) l)
   result-prospect u [] h = h
@@ -123,10 +123,10 @@ module _ {P : Program} {s : State} (d : Insertion P s) where
   move-in = by-word (d .x) _ (simp upds (omega (arith, d .inside))) (λ y q. simp upds (d .wf .view-in (d .t) y))
 
   up-in : (v : View) → ((y : ℕ) → v y < s .size y) → (y : ℕ) → upView (d .x) (d .p) v y < result d .size y
-  up-in v h = by-word (d .x) _ (simp upds (omega (arith, h (d .x)))) (λ y q. simp upds (h y))
+  up-in v h = by-word (d .x) _ (simp upds (omega (arith, h (d .x), up-is (d .p) (v (d .x))))) (λ y q. simp upds (h y))
 
   down-in : (i : ℕ) → i ≢ suc (d .p) → i < result d .size (d .x) → down (d .p) i < s .size (d .x)
-  down-in i q h = omega (arith, d .inside, simp upds at h)
+  down-in i q h = omega (arith, d .inside, simp upds at h, down-is (d .p) i)
 
   pub result-wf : Wf P (result d)
   result-wf = record {
@@ -137,7 +137,7 @@ module _ {P : Program} {s : State} (d : Insertion P s) where
         (λ i q z h. simp upds (up-in (s .row (d .x) (down (d .p) i) .stored) (λ y. d .wf .stored-in (d .x) (down (d .p) i) y (down-in i q h)) z)))
         (λ y q i z h. simp upds (up-in (s .row y i .stored) (λ w. d .wf .stored-in y i w (simp upds at h)) z));
     own = by-word (d .x) _
-        (by-word (suc (d .p)) _ (λ h. simp upds) (λ i q h. simp upds (omega (arith, d .wf .own (d .x) (down (d .p) i) (down-in i q h)))))
+        (by-word (suc (d .p)) _ (λ h. simp upds) (λ i q h. simp upds (omega (arith, d .wf .own (d .x) (down (d .p) i) (down-in i q h), up-is (d .p) (s .row (d .x) (down (d .p) i) .stored (d .x)), down-is (d .p) i))))
         (λ y q i h. simp upds (d .wf .own y i (simp upds at h)));
     small = by-word (d .x) _
         (by-word (suc (d .p)) _ (λ h. simp upds (d .small)) (λ i q h. simp upds (d .wf .small (d .x) (down (d .p) i) (down-in i q h))))

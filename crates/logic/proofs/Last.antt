@@ -9,7 +9,7 @@ use lib.Dec.{T, eqb, leb, eqb-refl}
 use lib.ListN.{take, drop}
 use borrow.Author.Tests.{leb-true, leb-false}
 use Rattle.logic.proofs.Agreement.{transport, only-any}
-use Rattle.logic.proofs.Base.{by-word, upds, later-none, is-within}
+use Rattle.logic.proofs.Base.{by-word, upds, later-none, is-within, down-is}
 use Rattle.logic.proofs.Cuts.{All-map}
 use Rattle.logic.proofs.Inserted.{Insertion, result, old, row-new, result-same, result-prospect, result-kept, result-wf}
 use Rattle.logic.proofs.Intervals.{sat-empty}
@@ -40,7 +40,7 @@ module _ {P : Program} {s : State} (d : Insertion P s) (last : suc (d .p) ≡ s 
 
   -- a view that is not there yet is as it was
   old-still : (v : View) → v (d .x) ≤ d .p → (y : ℕ) → old d v y ≡ v y
-  old-still v h = by-word (d .x) _ (simp upds (omega arith)) (λ y q. simp upds)
+  old-still v h = by-word (d .x) _ (simp upds (omega (arith, down-is (d .p) (v (d .x))))) (λ y q. simp upds)
 
   -- before the new write comes in, what a thread saw
   old-part : (u : ℕ) (i : Interval) → Sees P s u i → (l : List View) → From (result d .size) (result d .view u) l → All (λ v. v (d .x) ≤ d .p) l → Sat (P .range) (at P (result d)) i l

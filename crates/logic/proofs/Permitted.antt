@@ -22,7 +22,7 @@ pub data Picked (s : State) (t p : ℕ) : Instr → Type 0 where
   by-branch : {e : Test} {a : ℕ} → p ≡ 0 → Picked s t p (branch e a)
   -- a load: any write at or after the thread's own, covered or not, releasing or not
   by-load : {acquires : Bool} {r x : ℕ} {ns : List Note} → Reached s t x p → Picked s t p (act (load acquires r x) ns)
-  -- a store or a swap: an uncovered one
+  -- a store, a swap, an exchange or a fetch-add: an uncovered one
   by-write : {m : Mode} {x : ℕ} {f : Value} {ns : List Note} → Reached s t x p → s .row x p .covered ≡ false → Picked s t p (act (write m x f) ns)
 
 -- a step that is not refused: its thread is there and not at its last point, and its position is one of its instruction

@@ -13,12 +13,12 @@ use Rattle.logic.specs.Formula.{Formula, Test, Assertion, Formula.bothA,
 use Rattle.logic.specs.Names.{names, only, isReg, startless}
 use Rattle.logic.specs.Eval.{test, onRegs}
 use Rattle.logic.specs.Replace.{Note}
-use Rattle.logic.specs.Machine.{State, Program, Access, Access.none, Access.load, Access.write, Mode.store, Mode.swap, Instr, Instr.act, Instr.branch, Start, Step, withPoint, exec, allowed, instrAt, permitted, step, run}
+use Rattle.logic.specs.Machine.{State, Program, Access, Access.none, Access.load, Access.write, Mode.store, Mode.swap, Mode.exchange, Mode.fetchAdd, Instr, Instr.act, Instr.branch, Start, Step, withPoint, exec, allowed, instrAt, permitted, step, run}
 use Rattle.logic.specs.Truth.{True}
 use Rattle.logic.specs.Statement.{Statement, implies, triple, first}
 use Rattle.logic.specs.Obligations
 use Rattle.logic.specs.EveryRun.{Outline, Holds, EveryRun}
-use Rattle.logic.specs.Obligations.{Obligation, below, upTo, flat, own, acting, instructed, actions, starts, steps, interferences, obligations, wants}
+use Rattle.logic.specs.Obligations.{Obligation, below, upTo, flat, own, acting, instructed, asserted, actions, starts, steps, interferences, obligations, wants}
 use Rattle.logic.specs.WellFormed.{proper, WellFormed}
 use Rattle.logic.specs.Derivation.{Derived, by-rule, Proved}
 use Rattle.logic.proofs.Base.{by-word, upds, and-left, and-right, and-both, is-true, All-left, All-right}
@@ -81,11 +81,11 @@ module _ (P : Program) (Q : Obligation → Type 0) (h : All Q (obligations P)) w
       (flat-in Q (λ k. acting P u j t k (P .code t k)) (instructed P t) (differ u j t q
       (up-in (λ t. All Q (actions P u j t)) (P .threads)
       (flat-in Q (λ t. actions P u j t) (upTo (P .threads))
-      (below-in (λ j. All Q (flat (λ t. actions P u j t) (upTo (P .threads)))) (P .points u)
-      (flat-in Q (λ j. flat (λ t. actions P u j t) (upTo (P .threads))) (below (P .points u))
-      (up-in (λ u. All Q (flat (λ j. flat (λ t. actions P u j t) (upTo (P .threads))) (below (P .points u)))) (P .threads)
-      (flat-in Q (λ u. flat (λ j. flat (λ t. actions P u j t) (upTo (P .threads))) (below (P .points u))) (upTo (P .threads))
-      (All-right Q (steps P) (interferences P) (All-right Q (starts P) (steps P ++ interferences P) h))) u w)) j b)) t v))) k (omega arith)
+      (below-in (λ j. All Q (flat (λ t. actions P u j t) (upTo (P .threads)))) (asserted P u)
+      (flat-in Q (λ j. flat (λ t. actions P u j t) (upTo (P .threads))) (below (asserted P u))
+      (up-in (λ u. All Q (flat (λ j. flat (λ t. actions P u j t) (upTo (P .threads))) (below (asserted P u)))) (P .threads)
+      (flat-in Q (λ u. flat (λ j. flat (λ t. actions P u j t) (upTo (P .threads))) (below (asserted P u))) (upTo (P .threads))
+      (All-right Q (steps P) (interferences P) (All-right Q (starts P) (steps P ++ interferences P) h))) u w)) j (omega arith))) t v))) k (omega arith)
 
 -- class 4 has every action, of each kind
 every-action : (P : Program) (u j t k : ℕ) (A : Access) (ns : List Note) → acting P u j t k (act A ns) ≡ Obligations.interference u j t k ∷ []
@@ -142,6 +142,8 @@ module _ (P : Program) (O : Outline) (W : WellFormed P O) (D : Proved P O) where
           go (load a r x) = refl
           go (write (store b) x f) = refl
           go (write swap x f) = refl
+          go (write (exchange r) x f) = refl
+          go (write (fetchAdd r) x f) = refl
 
       acted : Inv P O (exec P (act A ns) t p s)
       acted = record {

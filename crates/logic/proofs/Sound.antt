@@ -1,40 +1,41 @@
 -- Each rule is sound against the machine: where its premises are valid, what it says is valid.
-use mathlib.Core.Path.{_≡_, refl, ap, sym, _∙_, subst}
+use mathlib.Core.Path.{_≡_, refl, ap, ap₂, sym, _∙_, subst}
 use mathlib.Core.Bool.{Bool, true, false, not, _&&_}
 use mathlib.Core.List.{List, [], _∷_, map}
 use mathlib.Core.Logic.{_⊎_, inl, inr}
-use Prim.Native.Nat.{ℕ, suc, _≤_, _<_}
+use Prim.Native.Nat.{ℕ, suc, _+_, _%_, _≤_, _<_}
 use native.Mathlib.Omega.{arith}
 use lib.Dec.{T, eqb, ltb, ltb→lt, leb→le}
 use borrow.Author.Tests.{eq-eqb}
 use lib.ListN.{take, drop}
 use Rattle.logic.specs.Base.{All, all, Within, within}
-use Rattle.logic.specs.Formula.{Value, Test, Interval, Assertion, Formula.const, Formula.word, Formula.and, Formula.unsync, Formula.cov, Formula.box, Formula.one, Formula.chop, Formula.sees, Formula.bothA, Formula.eitherA, Formula.holds}
-use Rattle.logic.specs.Names.{Name, n-reg, n-word, n-unsync, n-cov, names, only, isReg, notReg, notWord, startless, plain}
-use Rattle.logic.specs.Eval.{Env, test, onRegs, bounded}
-use Rattle.logic.specs.Replace.{Note}
+use Rattle.logic.specs.Formula.{Value, Test, Interval, Assertion, Formula.const, Formula.reg, Formula.word, Formula.sum, Formula.and, Formula.unsync, Formula.cov, Formula.box, Formula.one, Formula.chop, Formula.sees, Formula.bothA, Formula.eitherA, Formula.holds}
+use Rattle.logic.specs.Names.{Name, n-reg, n-word, n-unsync, n-cov, names, only, isReg, regsIn, notReg, notWord, notFlag, startless, plain}
+use Rattle.logic.specs.Eval.{Env, value, test, onRegs, bounded}
+use Rattle.logic.specs.Replace.{Note, replace, regBy, wordBy}
 use Rattle.logic.specs.Table.{Imp}
 use Rattle.logic.specs.Machine
-use Rattle.logic.specs.Machine.{View, State, Program, Mode, Mode.store, Mode.swap, Access, Instr, Instr.act, Instr.branch, Start, at}
+use Rattle.logic.specs.Machine.{View, State, Program, Mode, Mode.store, Mode.swap, Mode.exchange, Mode.fetchAdd, covers, returns, resultOf, Access, Instr, Instr.act, Instr.branch, Start, at}
 use Rattle.logic.specs.Truth.{Sat, True, Prospect, Sees, Names}
 use Rattle.logic.specs.Statement.{Statement, inside, implies, triple, isPair, first, half, admitted, isImp, impOf}
 use Rattle.logic.specs.Rule.{Rule}
 use Rattle.logic.specs.Inference
-use Rattle.logic.specs.Inference.{Inference, newest, keeps}
-use Rattle.logic.specs.WellFormed.{properValue, properAccess, proper}
-use Rattle.logic.proofs.Base.{and-left, and-right, and-both, is-true, all-All, map-or}
+use Rattle.logic.specs.Inference.{Inference, newest, freshValue, C, apart, keeps}
+use Rattle.logic.specs.WellFormed.{properValue, lacksResult, properAccess, proper}
+use Rattle.logic.proofs.Base.{upd-same, upd-other, not-eqb, and-left, and-right, and-both, is-true, all-All, map-or}
 use Rattle.logic.proofs.Cuts.{All-take, All-drop, All-map}
 use Rattle.logic.proofs.Intervals.{rule-33, rule-34, rule-35, rule-36, rule-37, rule-38}
 use Rattle.logic.proofs.Prospects.{from-all}
-use Rattle.logic.proofs.Agreement.{test-agree}
+use Rattle.logic.proofs.Agreement.{Same, value-agree, test-agree}
 use Rattle.logic.proofs.Rows.{Small, by-rows}
 use Rattle.logic.proofs.Tables.{by-table}
 use Rattle.logic.proofs.Rule20.{rule-20}
 use Rattle.logic.proofs.Registers.{regs-same, given-small}
 use Rattle.logic.proofs.Invariant.{Wf}
-use Rattle.logic.proofs.Halves.{Touch, Touch.none, Touch.load, Touch.write, releases, covers, touch, allNotes, Good, memory, finish, untouched}
+use Rattle.logic.proofs.Halves
+use Rattle.logic.proofs.Halves.{Touch, Touch.none, Touch.load, Touch.write, releases, newValue, touch, into, allNotes, Good, workedAt, memory, finish, untouched}
 use Rattle.logic.proofs.Arrived.{Arrived, Triple}
-use Rattle.logic.proofs.Actions.{write-wf, all-weaken, rule-1, rule-2, rule-3, rule-4, rule-5-load, rule-5-swap, rule-6, rule-7, rule-8, rule-9, rule-10, rule-11, rule-12, rule-13}
+use Rattle.logic.proofs.Actions.{write-wf, all-weaken, rule-1, rule-2, rule-3, rule-4, rule-5-load, rule-5-swap, rule-6, rule-7, rule-8, rule-9, rule-10, rule-11, rule-12, rule-13, with-notes, rule-48, rule-49}
 
 -- a triple: of every well-formed state in which the thread has arrived at its pick
 abbrev pub ValidTriple : Program → ℕ → Instr → Assertion → Assertion → Type 0
@@ -71,14 +72,20 @@ bounded-notes P (n ∷ ns) h =
     and-both (bounded (P .range) (n .by)) (all (λ (n : Note). bounded (P .range) (n .by)) ns) (search (and-left, and-right))
     (bounded-notes P ns (search (and-left, and-right)))
 
+is-in : (n k : ℕ) → T (within n k) → Within n k
+is-in n k h = (leb→le 1 k (search and-left), leb→le k n (search and-right))
+
 pub good : (P : Program) (n : ℕ) (A : Access) (ns : List Note) → T (proper P n (act A ns)) → Good P (touch A) (allNotes A ns)
 good P n Machine.none ns h = bounded-notes P ns (search (and-left, and-right))
 good P n (Machine.load a r x) ns h = bounded-notes P ns (search (and-left, and-right))
-good P n (Machine.write m x f) ns h = (
-  (leb→le 1 x (search (and-left, and-right)), leb→le x (P .words) (search (and-left, and-right))),
-  search (and-left, and-right),
-  bounded-notes P ns (search (and-left, and-right)),
-)
+good P n (Machine.write m x f) ns h = go m (search (and-left, and-right)) (bounded-notes P ns (search (and-left, and-right)))
+  where
+    go : (m : Mode) → T (within (P .words) x && (properValue P f && lacksResult m f)) → T (all (λ (n : Note). bounded (P .range) (n .by)) ns)
+        → Good P (touch (Machine.write m x f)) (allNotes (Machine.write m x f) ns)
+    go (store b) h k = (is-in (P .words) x (search (and-left, and-right)), search (and-left, and-right), k)
+    go swap h k = (is-in (P .words) x (search (and-left, and-right)), search (and-left, and-right), k)
+    go (exchange r) h k = (is-in (P .words) x (search (and-left, and-right)), search (and-left, and-right), k)
+    go (fetchAdd r) h k = (is-in (P .words) x (search (and-left, and-right)), search (and-left, and-right), k)
 
 -- so is its first half
 pub first-proper : (P : Program) (n : ℕ) (c : Instr) → T (proper P n c) → T (proper P n (first c))
@@ -126,6 +133,11 @@ one-of : {A B C : Type 0} → (A → C) → (B → C) → A ⊎ B → C
 one-of f g (inl h) = f h
 one-of f g (inr h) = g h
 
+both-join : (a b : Name → Bool) (l : List Name) → T (all a l) → T (all b l) → T (all (λ n. a n && b n) l)
+both-join a b [] h g = tt
+both-join a b (n ∷ l) h g =
+    and-both (a n && b n) (all (λ n. a n && b n) l) (and-both (a n) (b n) (search and-left) (search and-left)) (both-join a b l (search and-right) (search and-right))
+
 -- rule 1's side condition, as the halves ask for it
 load-keeps : (a : Bool) (r x : ℕ) (n : Name) → T (notReg r n) → T (untouched (load a x) (allNotes (Machine.load a r x) []) n)
 load-keeps a r x (n-reg q) h = and-both (not (eqb q r)) true h tt
@@ -133,11 +145,27 @@ load-keeps a r x (n-word q) h = tt
 load-keeps a r x (n-unsync q) h = tt
 load-keeps a r x (n-cov q) h = tt
 
-write-keeps : (m : Mode) (x : ℕ) (f : Value) (n : Name) → T (notWord x n) → T (untouched (touch (Machine.write m x f)) [] n)
-write-keeps m x f (n-reg q) h = tt
-write-keeps m x f (n-word q) h = h
-write-keeps m x f (n-unsync q) h = h
-write-keeps m x f (n-cov q) h = h
+-- of a name: x in no role, and r absent
+abbrev Apart : ℕ → ℕ → Name → Type 0
+Apart r x n = T (notWord x n && notReg r n)
+
+word-keeps : (rel swaps : Bool) (x : ℕ) (f : Value) (n : Name) → T (notWord x n) → T (untouched (write rel swaps x f) [] n)
+word-keeps rel swaps x f (n-reg q) h = tt
+word-keeps rel swaps x f (n-word q) h = h
+word-keeps rel swaps x f (n-unsync q) h = h
+word-keeps rel swaps x f (n-cov q) h = h
+
+into-keeps : (r x : ℕ) (f : Value) (n : Name) → Apart r x n → T (untouched (write true true x f) (into r x []) n)
+into-keeps r x f (n-reg q) h = and-both (not (eqb q r) && true) true (and-both (not (eqb q r)) true h tt) tt
+into-keeps r x f (n-word q) h = and-left (not (eqb q x)) true h
+into-keeps r x f (n-unsync q) h = and-left (not (eqb q x)) true h
+into-keeps r x f (n-cov q) h = and-left (not (eqb q x)) true h
+
+write-keeps : (m : Mode) (x : ℕ) (f : Value) (n : Name) → T (apart m x n) → T (untouched (touch (Machine.write m x f)) (allNotes (Machine.write m x f) []) n)
+write-keeps (store b) x f = word-keeps b false x f
+write-keeps swap x f = word-keeps true true x f
+write-keeps (exchange r) x f = into-keeps r x f
+write-keeps (fetchAdd r) x f = into-keeps r x (newValue (fetchAdd r) x f)
 
 module _ (P : Program) where
   kept : (t n : ℕ) (c : Instr) (a : Assertion) → T (proper P n (first c)) → T (startless a) → T (keeps (first c) a) → ValidTriple P t (first c) a a
@@ -145,7 +173,7 @@ module _ (P : Program) where
   kept t n (act (Machine.load q r x) ns) a ok z h =
       rule-1 P t (load q x) (allNotes (Machine.load q r x) []) tt a z (all-weaken _ _ (load-keeps q r x) (names a) h)
   kept t n (act (Machine.write m x f) ns) a ok z h =
-      rule-1 P t (touch (Machine.write m x f)) [] (good P n (Machine.write m x f) [] ok) a z (all-weaken _ _ (write-keeps m x f) (names a) h)
+      rule-1 P t (touch (Machine.write m x f)) (allNotes (Machine.write m x f) []) (good P n (Machine.write m x f) [] ok) a z (all-weaken _ _ (write-keeps m x f) (names a) h)
   kept t n (branch e k) a ok z h = absurd h
 
   -- 14 to 16, of any instruction
@@ -160,6 +188,86 @@ module _ (P : Program) where
   weakened : (t n : ℕ) (c : Instr) (a b q r : Assertion) → T (proper P n c) → Valid P (implies a b) → ValidTriple P t c b q → Valid P (implies q r) → ValidTriple P t c a r
   weakened t n (act A ns) a b q r ok i d j = λ s wf p arr h. j _ (finish-wf P t (touch A) (allNotes A ns) (good P n A ns ok) s wf p arr) (d s wf p arr (i s wf h))
   weakened t n (branch e k) a b q r ok i d j = tt
+
+  -- 5, 9, 13, 47: by the way the word is written
+  synced : (t x : ℕ) (m : Mode) (f : Value) (i : Interval) (q : Assertion) → T (covers m) → ValidTriple P t (act (Machine.write m x f) []) (sees t i) q
+      → ValidTriple P t (act (Machine.write m x f) []) (sees t (chop (box (unsync x)) i)) q
+  synced t x (store b) f i q c = absurd c
+  synced t x swap f i q c = rule-5-swap P t x [] i q f
+  synced t x (exchange r) f i q c = rule-5-swap P t x (into r x []) i q f
+  synced t x (fetchAdd r) f i q c = rule-5-swap P t x (into r x []) i q (sum (word x) f)
+
+  nine : (t x u : ℕ) (m : Mode) (f : Value) (e : Test) → T (not (returns m)) → Good P (touch (Machine.write m x f)) (allNotes (Machine.write m x f) [])
+      → T (only isReg f) → T (only (notFlag x) e)
+      → ValidTriple P t (act (Machine.write m x f) []) (bothA (sees u (box e)) (sees u (box (replace (wordBy x f) e)))) (sees u (box e))
+  nine t x u (store b) f e c g p = rule-9 P t x f b false g p u e
+  nine t x u swap f e c g p = rule-9 P t x f true true g p u e
+  nine t x u (exchange r) f e c g p = absurd c
+  nine t x u (fetchAdd r) f e c g p = absurd c
+
+  -- what is apart from the name lacks the word; and the register
+  apart-word : (r x : ℕ) (n : Name) → Apart r x n → T (notWord x n)
+  apart-word r x n = and-left (notWord x n) (notReg r n)
+
+  apart-reg : (r x : ℕ) (n : Name) → Apart r x n → T (regsIn (Halves.kept (into r x [])) n)
+  apart-reg r x (n-reg q) h = and-both (not (eqb q r)) true h tt
+  apart-reg r x (n-word q) h = tt
+  apart-reg r x (n-unsync q) h = tt
+  apart-reg r x (n-cov q) h = tt
+
+  thirteen-into : (t r x u : ℕ) (f : Value) (j : Interval) → Good P (write true true x f) (into r x []) → T (all (λ n. notWord x n && notReg r n) (names j))
+      → Triple P t (write true true x f) (into r x []) (bothA (sees t (C x)) (bothA (sees u (C x)) (sees t j))) (sees u (chop (box (cov x)) (chop (box (unsync x)) j)))
+  thirteen-into t r x u f j g c =
+      with-notes P t (write true true x f) (into r x []) (bothA (sees t (C x)) (bothA (sees u (C x)) (sees t j)))
+      (sees u (chop (box (cov x)) (chop (box (unsync x)) j))) tt (all-weaken _ _ (apart-reg r x) (names j) c)
+      (rule-13 P t x f (g .0, g .1, tt) u j (all-weaken _ _ (apart-word r x) (names j) c))
+
+  thirteen : (t x u : ℕ) (m : Mode) (f : Value) (j : Interval) → T (covers m) → Good P (touch (Machine.write m x f)) (allNotes (Machine.write m x f) [])
+      → T (only (apart m x) j) → ValidTriple P t (act (Machine.write m x f) []) (bothA (sees t (C x)) (bothA (sees u (C x)) (sees t j)))
+      (sees u (chop (box (cov x)) (chop (box (unsync x)) j)))
+  thirteen t x u (store b) f j d g c = absurd d
+  thirteen t x u swap f j d g c = rule-13 P t x f g u j c
+  thirteen t x u (exchange r) f j d g c = thirteen-into t r x u f j g c
+  thirteen t x u (fetchAdd r) f j d g c = thirteen-into t r x u (sum (word x) f) j g c
+
+  forty-seven : (t x : ℕ) (m : Mode) (f : Value) (e : Test) → T (returns m) → T (only isReg e)
+      → ValidTriple P t (act (Machine.write m x f) []) (sees t (box (replace (regBy (resultOf m) (word x)) e))) (holds e)
+  forty-seven t x (store b) f e c = absurd c
+  forty-seven t x swap f e c = absurd c
+  forty-seven t x (exchange r) f e c = rule-3 P t (write true true x f) (into r x []) e
+  forty-seven t x (fetchAdd r) f e c = rule-3 P t (write true true x (sum (word x) f)) (into r x []) e
+
+  -- 48, 49: the operand f has after the step the value that it was worked out to; g is what was stored
+  operand : (t r x : ℕ) (g f : Value) → T (only isReg f) → T (only (notReg r) f) → (s : State) (p : ℕ) (v : View)
+      → value (P .range) (at P (finish P (write true true x g) (into r x []) t p s) v) f ≡ workedAt P s t f
+  operand t r x g f plain lacks s p v = value-agree (P .range) (record { same = rest }) f (both-join isReg (notReg r) (names f) plain lacks)
+    where
+      rest : (n : Name) → T (isReg n && notReg r n) → Same (at P (finish P (write true true x g) (into r x []) t p s) v) (at P s (s .view t)) n
+      rest (n-reg q) h = ap (workedAt P s t) (upd-other reg r (word x) q (not-eqb q r h))
+      rest (n-word q) h = absurd h
+      rest (n-unsync q) h = absurd h
+      rest (n-cov q) h = absurd h
+
+  -- fetch-add: the result register is the old value
+  added : (t r x : ℕ) (f : Value) → T (only isReg f) → T (only (notReg r) f) → (s : State) (p : ℕ) (v : View)
+      → value (P .range) (at P (finish P (write true true x (sum (word x) f)) (into r x []) t p s) v) (sum (reg r) f) ≡ workedAt P s t (sum (word x) f)
+  added t r x f plain lacks s p v =
+      ap₂ (λ m n. (m + n) % P .range) (ap (workedAt P s t) (upd-same reg r (word x))) (operand t r x (sum (word x) f) f plain lacks s p v)
+
+  forty-eight : (t x : ℕ) (m : Mode) (f : Value) → T (returns m) → Good P (touch (Machine.write m x f)) (allNotes (Machine.write m x f) [])
+      → T (only isReg f) → T (lacksResult m f) → ValidTriple P t (act (Machine.write m x f) []) (sees t (C x)) (sees t (newest x (freshValue m f)))
+  forty-eight t x (store b) f z g plain lacks = absurd z
+  forty-eight t x swap f z g plain lacks = absurd z
+  forty-eight t x (exchange r) f z g plain lacks = rule-48 P t x f f (into r x []) g (operand t r x f f plain lacks)
+  forty-eight t x (fetchAdd r) f z g plain lacks = rule-48 P t x (sum (word x) f) (sum (reg r) f) (into r x []) g (added t r x f plain lacks)
+
+  forty-nine : (t x u : ℕ) (m : Mode) (f : Value) → T (returns m) → Good P (touch (Machine.write m x f)) (allNotes (Machine.write m x f) [])
+      → T (only isReg f) → T (lacksResult m f)
+      → ValidTriple P t (act (Machine.write m x f) []) (bothA (sees t (C x)) (sees u (C x))) (sees u (chop (box (cov x)) (newest x (freshValue m f))))
+  forty-nine t x u (store b) f z g plain lacks = absurd z
+  forty-nine t x u swap f z g plain lacks = absurd z
+  forty-nine t x u (exchange r) f z g plain lacks = rule-49 P t x f f (into r x []) g (operand t r x f f plain lacks) u
+  forty-nine t x u (fetchAdd r) f z g plain lacks = rule-49 P t x (sum (word x) f) (sum (reg r) f) (into r x []) g (added t r x f plain lacks) u
 
   -- 26
   start-sees : (s : State) → Start P s → (t x : ℕ) → Sees P s t (newest x (const (P .init x)))
@@ -200,6 +308,12 @@ module _ (P : Program) where
         let g : T (properAccess P (Machine.write m x f)) = and-left (properAccess P (Machine.write m x f)) true (subst (λ (z : Instr). T (proper P (P .points t) z)) e h) in
         search (and-left, and-right)
 
+    -- it lacks the result register
+    unnamed : (t k : ℕ) (m : Mode) (x : ℕ) (f : Value) → half P t k ≡ act (Machine.write m x f) [] → T (proper P (P .points t) (half P t k)) → T (lacksResult m f)
+    unnamed t k m x f e h =
+        let g : T (properAccess P (Machine.write m x f)) = and-left (properAccess P (Machine.write m x f)) true (subst (λ (z : Instr). T (proper P (P .points t) z)) e h) in
+        search (and-left, and-right)
+
     assigned : (t k : ℕ) (ns : List Note) → half P t k ≡ act Machine.none ns → T (proper P (P .points t) (half P t k)) → T (all (λ (n : Note). only isReg (n .by)) ns)
     assigned t k ns e h = go ns (subst (λ (z : Instr). T (proper P (P .points t) z)) e h)
       where
@@ -215,22 +329,27 @@ module _ (P : Program) where
     sound n s ps (Inference.i4 {t = t} {r = r} {x = x} {acq = acq} {e = e} {i = i} {q = q} c) h vs =
         rw c (rule-4 P t (load acq x) (allNotes (Machine.load acq r x) []) e (search (and-left, and-right)) i q (rw c at (vs .0)))
     sound n s ps (Inference.i5-load {t = t} {r = r} {x = x} {i = i} {q = q} e) h vs = rw e (rule-5-load P t x (allNotes (Machine.load true r x) []) i q (rw e at (vs .0)))
-    sound n s ps (Inference.i5-swap {t = t} {x = x} {f = f} {i = i} {q = q} e) h vs = rw e (rule-5-swap P t x [] i q f (rw e at (vs .0)))
+    sound n s ps (Inference.i5-swap {t = t} {x = x} {m = m} {f = f} {i = i} {q = q} e c) h vs = rw e (synced t x m f i q c (rw e at (vs .0)))
     sound n s ps (Inference.i6 {t = t} {k = k} {x = x} {rel = rel} {f = f} e) h vs =
         rw e (rule-6 P t x f rel (its-good t k (Machine.write (store rel) x f) [] e (its-proper s h)) (written t k (store rel) x f e (its-proper s h)))
     sound n s ps (Inference.i7 {t = t} {k = k} {x = x} {u = u} {rel = rel} {f = f} {i = i} e) h vs =
         rw e (rule-7 P t x f rel (its-good t k (Machine.write (store rel) x f) [] e (its-proper s h)) (written t k (store rel) x f e (its-proper s h)) u i)
     sound n s ps (Inference.i8 {t = t} {k = k} {x = x} {u = u} {f = f} {i = i} {j = j} e c) h vs =
         rw e (rule-8 P t x f (its-good t k (Machine.write (store true) x f) [] e (its-proper s h)) u i j c)
-    sound n s ps (Inference.i9 {t = t} {k = k} {x = x} {u = u} {m = m} {f = f} {e = e} q c) h vs =
-        rw q (rule-9 P t x f (releases m) (covers m) (its-good t k (Machine.write m x f) [] q (its-proper s h)) (written t k m x f q (its-proper s h)) u e c)
-    sound n s ps (Inference.i10 {t = t} {x = x} {m = m} {f = f} {i = i} {q = q} e) h vs = rw e (rule-10 P t x [] i q (releases m) (covers m) f (rw e at (vs .0)))
+    sound n s ps (Inference.i9 {t = t} {k = k} {x = x} {u = u} {m = m} {f = f} {e = e} q d c) h vs =
+        rw q (nine t x u m f e d (its-good t k (Machine.write m x f) [] q (its-proper s h)) (written t k m x f q (its-proper s h)) c)
+    sound n s ps (Inference.i10 {t = t} {x = x} {m = m} {f = f} {i = i} {q = q} e) h vs = rw e (rule-10 P t x (allNotes (Machine.write m x f) []) i q (releases m) (covers m) (newValue m x f) (rw e at (vs .0)))
     sound n s ps (Inference.i11 {t = t} {k = k} {x = x} {f = f} e) h vs =
         rw e (rule-11 P t x f (its-good t k (Machine.write swap x f) [] e (its-proper s h)) (written t k swap x f e (its-proper s h)))
     sound n s ps (Inference.i12 {t = t} {k = k} {x = x} {u = u} {f = f} e) h vs =
         rw e (rule-12 P t x f (its-good t k (Machine.write swap x f) [] e (its-proper s h)) (written t k swap x f e (its-proper s h)) u)
-    sound n s ps (Inference.i13 {t = t} {k = k} {x = x} {u = u} {f = f} {j = j} e c) h vs =
-        rw e (rule-13 P t x f (its-good t k (Machine.write swap x f) [] e (its-proper s h)) u j c)
+    sound n s ps (Inference.i13 {t = t} {k = k} {x = x} {u = u} {m = m} {f = f} {j = j} e d c) h vs =
+        rw e (thirteen t x u m f j d (its-good t k (Machine.write m x f) [] e (its-proper s h)) c)
+    sound n s ps (Inference.i47 {t = t} {x = x} {m = m} {f = f} {e = e} q c) h vs = rw q (forty-seven t x m f e c (search (and-left, and-right)))
+    sound n s ps (Inference.i48 {t = t} {k = k} {x = x} {m = m} {f = f} e z) h vs =
+        rw e (forty-eight t x m f z (its-good t k (Machine.write m x f) [] e (its-proper s h)) (written t k m x f e (its-proper s h)) (unnamed t k m x f e (its-proper s h)))
+    sound n s ps (Inference.i49 {t = t} {k = k} {x = x} {u = u} {m = m} {f = f} e z) h vs =
+        rw e (forty-nine t x u m f z (its-good t k (Machine.write m x f) [] e (its-proper s h)) (written t k m x f e (its-proper s h)) (unnamed t k m x f e (its-proper s h)))
     sound n s ps (Inference.i14 {t = t} {k = k} {a = a} {b = b} {q = q} {r = r} z) h vs = both-triples t (half P t k) a b q r (vs .0) (vs .1 .0)
     sound n s ps (Inference.i15 {t = t} {k = k} {a = a} {b = b} {q = q} {r = r} z) h vs = either-triples t (half P t k) a b q r (vs .0) (vs .1 .0)
     sound n s ps (Inference.i16 {t = t} {k = k} {a = a} {b = b} {q = q} {r = r} z) h vs =

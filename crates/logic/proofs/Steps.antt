@@ -2,19 +2,19 @@
 use mathlib.Core.Path.{_≡_, refl, ap, ap₂, sym, _∙_, fun-ext}
 use mathlib.Core.Bool.{Bool, true, false, cond, _&&_}
 use mathlib.Core.List.{List, [], _∷_}
-use Prim.Native.Nat.{ℕ, suc}
+use Prim.Native.Nat.{ℕ, suc, _+_, _%_}
 use lib.Dec.{T}
 use Rattle.logic.specs.Base.{upd, all}
-use Rattle.logic.specs.Formula.{Value, Formula.word}
+use Rattle.logic.specs.Formula.{Value, Formula.word, Formula.sum}
 use Rattle.logic.specs.Names.{only, isReg}
 use Rattle.logic.specs.Replace.{Note, noted}
 use Rattle.logic.specs.Eval.{onRegs}
-use Rattle.logic.specs.Machine.{View, State, Program, Mode.store, Mode.swap, Access, Access.none, Access.load, Access.write, Instr.act, at, join, worked, shared, given, returned, withView, withRegs, moveTo, upView, inserted, insert, cover, readView, swapView, exec, allowed}
+use Rattle.logic.specs.Machine.{View, State, Program, Mode.store, Mode.swap, Mode.exchange, Mode.fetchAdd, Access, Access.none, Access.load, Access.write, Instr.act, at, join, worked, swapped, shared, given, returned, withView, withRegs, moveTo, upView, inserted, insert, cover, readView, swapView, exec, allowed}
 use Rattle.logic.specs.WellFormed.{properValue, properAccess, proper}
 use Rattle.logic.proofs.Base.{upds, upd-same, upd-other, by-word, and-left, and-right}
 use Rattle.logic.proofs.Agreement.{value-agree}
 use Rattle.logic.proofs.Halves
-use Rattle.logic.proofs.Halves.{touch, allNotes, withPoints, workedAt, put, pick, mayPick, memory, finish}
+use Rattle.logic.proofs.Halves.{touch, into, allNotes, withPoints, workedAt, put, pick, mayPick, memory, finish}
 use Rattle.logic.proofs.Invariant.{Wf}
 use Rattle.logic.proofs.Registers.{regs-same}
 use Rattle.logic.proofs.Arrived.{pick-moved}
@@ -71,29 +71,46 @@ module _ (P : Program) (t p : ℕ) where
 
   module _ (s : State) (wf : Wf P s) (ns : List Note) where
     -- the shared words
-    memory-halves : (A : Access) → T (properAccess P A) → memory P (touch A) t p (pick (touch A) t p s) ≡ shared P A t p s
-    memory-halves none ok = refl
-    memory-halves (load a r x) ok = refl
-    memory-halves (write (store releasing) x f) ok =
+    operand : (f : Value) → T (only isReg f) → (v : View) → workedAt P (withView s t v) t f ≡ worked P s f
+    operand f plain v = worked-same f plain s (withView s t v) refl
+
+    swap-halves : (x : ℕ) (f : Value) (n : ℕ) → workedAt P (withView s t (readView s true t x p)) t f ≡ n
+        → memory P (Halves.write true true x f) t p (withView s t (readView s true t x p)) ≡ swapped x n t p s
+    swap-halves x f n e = moved-first x true (workedAt P (withView s t (readView s true t x p)) t f) n (readView s true t x p) (swapView s t x p) (cover x p s) e (swap-over x s)
+
+    memory-halves : (A : Access) → T (properAccess P A) → T (allowed (act A ns) t p s) → memory P (touch A) t p (pick (touch A) t p s) ≡ shared P A t p s
+    memory-halves none ok may = refl
+    memory-halves (load a r x) ok may = refl
+    memory-halves (write (store releasing) x f) ok may =
         moved-first x releasing (workedAt P (withView s t (upd (s .view t) x p)) t f) (worked P s f) (upd (s .view t) x p) (s .view t) s
-        (worked-same f (search (and-left, and-right)) s (withView s t (upd (s .view t) x p)) refl) (move-over x (s .view t))
-    memory-halves (write swap x f) ok =
-        moved-first x true (workedAt P (withView s t (readView s true t x p)) t f) (worked P s f) (readView s true t x p) (swapView s t x p) (cover x p s)
-        (worked-same f (search (and-left, and-right)) s (withView s t (readView s true t x p)) refl) (swap-over x s)
+        (operand f (search (and-left, and-right)) (upd (s .view t) x p)) (move-over x (s .view t))
+    memory-halves (write swap x f) ok may = swap-halves x f (worked P s f) (operand f (search (and-left, and-right)) (readView s true t x p))
+    memory-halves (write (exchange r) x f) ok may = swap-halves x f (worked P s f) (operand f (search (and-left, and-right)) (readView s true t x p))
+    memory-halves (write (fetchAdd r) x f) ok may =
+        swap-halves x (sum (word x) f) ((s .row x p .value + worked P s f) % P .range)
+        (ap₂ (λ m n. (m + n) % P .range) (ap (λ i. s .row x i .value) (pick-moved wf t p (Halves.write true true x f) may .arrived .0 .here)) (operand f (search (and-left, and-right)) (readView s true t x p)))
 
     -- the registers
+    into-halves : T (all (λ (n : Note). properValue P (n .by)) ns) → (r x : ℕ) (v : View) → withView s t v .view t x ≡ p
+        → (q : ℕ) → workedAt P (withView s t v) t (noted (into r x ns) q) ≡ upd (given P s ns (s .reg)) r (s .row x p .value) q
+    into-halves ok r x v here =
+        by-word r _
+        (ap (workedAt P (withView s t v) t) (upd-same (noted ns) r (word x)) ∙ ap (λ i. s .row x i .value) here ∙ sym (upd-same (given P s ns (s .reg)) r (s .row x p .value)))
+        (λ q n. ap (workedAt P (withView s t v) t) (upd-other (noted ns) r (word x) q n)
+        ∙ notes-halves ns ok s (withView s t v) refl q ∙ sym (upd-other (given P s ns (s .reg)) r (s .row x p .value) q n))
+
     regs-halves : (A : Access) → T (all (λ (n : Note). properValue P (n .by)) ns) → T (allowed (act A ns) t p s)
         → (q : ℕ) → workedAt P (pick (touch A) t p s) t (noted (allNotes A ns) q) ≡ returned A p s (given P s ns (s .reg)) q
     regs-halves none ok may = notes-halves ns ok s s refl
-    regs-halves (load a r x) ok may =
-        by-word r _ (simp upds (ap (λ i. s .row x i .value) (simp upds at (pick-moved wf t p (Halves.load a x) may .arrived .here))))
-        (λ q n. ap (workedAt P (withView s t (readView s a t x p)) t) (upd-other (noted ns) r (word x) q n)
-        ∙ notes-halves ns ok s (withView s t (readView s a t x p)) refl q ∙ sym (upd-other (given P s ns (s .reg)) r (s .row x p .value) q n))
-    regs-halves (write m x f) ok may = notes-halves ns ok s (pick (touch (write m x f)) t p s) refl
+    regs-halves (load a r x) ok may = into-halves ok r x (readView s a t x p) (pick-moved wf t p (Halves.load a x) may .arrived .here)
+    regs-halves (write (store b) x f) ok may = notes-halves ns ok s (pick (touch (write (store b) x f)) t p s) refl
+    regs-halves (write swap x f) ok may = notes-halves ns ok s (pick (touch (write swap x f)) t p s) refl
+    regs-halves (write (exchange r) x f) ok may = into-halves ok r x (readView s true t x p) (pick-moved wf t p (Halves.write true true x f) may .arrived .0 .here)
+    regs-halves (write (fetchAdd r) x f) ok may = into-halves ok r x (readView s true t x p) (pick-moved wf t p (Halves.write true true x f) may .arrived .0 .here)
 
     pub exec-halves : (n : ℕ) (A : Access) → T (proper P n (act A ns)) → T (allowed (act A ns) t p s)
         → finish P (touch A) (allNotes A ns) t p (pick (touch A) t p s) ≡ exec P (act A ns) t p s
-    exec-halves n A ok may = go A (memory-halves A (search (and-left, and-right))) (fun-ext (regs-halves A (search (and-left, and-right)) may))
+    exec-halves n A ok may = go A (memory-halves A (search (and-left, and-right)) may) (fun-ext (regs-halves A (search (and-left, and-right)) may))
       where
         go : (A : Access) → memory P (touch A) t p (pick (touch A) t p s) ≡ shared P A t p s
             → (λ (q : ℕ). workedAt P (pick (touch A) t p s) t (noted (allNotes A ns) q)) ≡ returned A p s (given P s ns (s .reg))
@@ -102,3 +119,5 @@ module _ (P : Program) (t p : ℕ) where
         go (load a r x) e g = ap₂ (λ (z : State) (g : ℕ → ℕ). next (withRegs z g) t) e g
         go (write (store releasing) x f) e g = ap₂ (λ (z : State) (g : ℕ → ℕ). next (withRegs z g) t) e g
         go (write swap x f) e g = ap₂ (λ (z : State) (g : ℕ → ℕ). next (withRegs z g) t) e g
+        go (write (exchange r) x f) e g = ap₂ (λ (z : State) (g : ℕ → ℕ). next (withRegs z g) t) e g
+        go (write (fetchAdd r) x f) e g = ap₂ (λ (z : State) (g : ℕ → ℕ). next (withRegs z g) t) e g

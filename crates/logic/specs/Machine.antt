@@ -2,7 +2,7 @@
 use mathlib.Core.Path.{_≡_}
 use mathlib.Core.Bool.{Bool, true, false, cond, not, _&&_}
 use mathlib.Core.List.{List, [], _∷_}
-use Prim.Native.Nat.{ℕ, suc, _+_, _-_, min, max}
+use Prim.Native.Nat.{ℕ, suc, _+_, _-_, _%_, min, max}
 use lib.Dec.{eqb, ltb, leb}
 use Rattle.logic.specs.Base.{upd, some, within}
 use Rattle.logic.specs.Formula.{Value, Test}
@@ -32,10 +32,32 @@ pub record State : Type 0 where
 
 -- INSTRUCTIONS
 
--- how a word is written: by a store, the releasing one with true, or by a swap
+-- how a word is written: by a store, the releasing one with true, or by a swap; exchange r and fetchAdd r are swaps that put the
+-- old value into the register r, and fetchAdd stores old value plus formula
 pub data Mode : Type 0 where
   store : Bool → Mode
   swap : Mode
+  exchange fetchAdd : ℕ → Mode
+
+-- it covers the write that it picks
+abbrev pub covers : Mode → Bool
+covers (store releasing) = false
+covers swap = true
+covers (exchange r) = true
+covers (fetchAdd r) = true
+
+-- it puts the old value into a register: whether, and into which
+abbrev pub returns : Mode → Bool
+returns (store releasing) = false
+returns swap = false
+returns (exchange r) = true
+returns (fetchAdd r) = true
+
+abbrev pub resultOf : Mode → ℕ
+resultOf (store releasing) = 0
+resultOf swap = 0
+resultOf (exchange r) = r
+resultOf (fetchAdd r) = r
 
 -- what is done with a shared word: nothing; load acquires r x; write mode x f
 pub data Access : Type 0 where
@@ -80,13 +102,13 @@ at P s v = record {
 
 -- INSERTION: a new write directly behind position p of a row stands at p + 1
 
--- where a position goes: one further if it is after p (min 1 (i - p) is 1 just then)
-abbrev pub up : ℕ → ℕ → ℕ
-up p i = i + min 1 (i - p)
+-- where a position goes: one further if it is after p
+unfoldable pub up : ℕ → ℕ → ℕ
+up p i = cond (leb i p) i (suc i)
 
--- where a position comes from; the new one, p + 1, is taken for p
-abbrev pub down : ℕ → ℕ → ℕ
-down p i = i - min 1 (i - p)
+-- where a position comes from: one back if it is after p. (The new one, p + 1, is taken for p)
+unfoldable pub down : ℕ → ℕ → ℕ
+down p i = cond (leb i p) i (i - 1)
 
 -- a view keeps its write when others are inserted
 abbrev pub upView : ℕ → ℕ → View → View
@@ -139,7 +161,7 @@ withPoint s t k = record { size = s .size; row = s .row; view = s .view; reg = s
 abbrev pub readView : State → Bool → ℕ → ℕ → ℕ → View
 readView s acquires t x p = cond (acquires && s .row x p .releasing) (join (s .view t) (s .row x p .stored)) (upd (s .view t) x p)
 
--- the view from which a swap writes: if the picked write is releasing, its stored view is joined in
+-- the view from which a swap, an exchange or a fetch-add writes: if the picked write is releasing, its stored view is joined in
 abbrev pub swapView : State → ℕ → ℕ → ℕ → View
 swapView s t x p = cond (s .row x p .releasing) (join (s .view t) (s .row x p .stored)) (s .view t)
 
@@ -147,23 +169,32 @@ swapView s t x p = cond (s .row x p .releasing) (join (s .view t) (s .row x p .s
 abbrev pub worked : Program → State → Value → ℕ
 worked P s f = value (P .range) (onRegs (s .reg)) f
 
+-- a releasing store of n that also covers the picked write
+abbrev pub swapped : ℕ → ℕ → ℕ → ℕ → State → State
+swapped x n t p s = insert true x n t p (swapView s t x p) (cover x p s)
+
 -- what an access does to shared words and views
 abbrev pub shared : Program → Access → ℕ → ℕ → State → State
 shared P none t p s = s
 shared P (load acquires r x) t p s = withView s t (readView s acquires t x p)
 shared P (write (store releasing) x f) t p s = insert releasing x (worked P s f) t p (s .view t) s
-shared P (write swap x f) t p s = insert true x (worked P s f) t p (swapView s t x p) (cover x p s)
+shared P (write swap x f) t p s = swapped x (worked P s f) t p s
+shared P (write (exchange r) x f) t p s = swapped x (worked P s f) t p s
+shared P (write (fetchAdd r) x f) t p s = swapped x ((s .row x p .value + worked P s f) % P .range) t p s
 
 -- the registers g with the notes, each worked out in the state s
 abbrev pub given : Program → State → List Note → (ℕ → ℕ) → ℕ → ℕ
 given P s [] g = g
 given P s (n ∷ l) g = upd (given P s l g) (n .to) (worked P s (n .by))
 
--- the registers g with what an access puts into its register: a load the value read
+-- the registers g with what an access puts into its register: the value read, or the old value
 abbrev pub returned : Access → ℕ → State → (ℕ → ℕ) → ℕ → ℕ
 returned none p s g = g
 returned (load acquires r x) p s g = upd g r (s .row x p .value)
-returned (write m x f) p s g = g
+returned (write (store releasing) x f) p s g = g
+returned (write swap x f) p s g = g
+returned (write (exchange r) x f) p s g = upd g r (s .row x p .value)
+returned (write (fetchAdd r) x f) p s g = upd g r (s .row x p .value)
 
 -- an access and its notes in one step
 abbrev pub done : Program → Access → List Note → ℕ → ℕ → State → State
@@ -178,7 +209,7 @@ exec P (branch e a) t p s = withPoint s t (cond (test (P .range) (onRegs (s .reg
 abbrev pub reachable : State → ℕ → ℕ → ℕ → Bool
 reachable s t x p = ltb p (s .size x) && leb (s .view t x) p
 
--- a load reads any such write, covered or not; a store or a swap picks an uncovered one; for assignment and branch the position is 0
+-- a load reads any such write, covered or not; a write is put behind an uncovered one; for assignment and branch the position is 0
 abbrev pub allowed : Instr → ℕ → ℕ → State → Bool
 allowed (act none ns) t p s = eqb p 0
 allowed (act (load acquires r x) ns) t p s = reachable s t x p

@@ -42,6 +42,10 @@ module _ (P : Program) where
   abbrev pub instructed : ℕ → List ℕ
   instructed t = below (P .points t - 1)
 
+  -- the points of u that have an assertion: all, the last one too
+  abbrev pub asserted : ℕ → ℕ
+  asserted u = P .points u
+
   -- threads differ
   abbrev pub actions : ℕ → ℕ → ℕ → List Obligation
   actions u j t = elim (eqb t u) [ true ↦ [] | false ↦ flat (λ k. acting u j t k (P .code t k)) (instructed t) ]
@@ -54,7 +58,7 @@ module _ (P : Program) where
   steps = flat (λ t. flat (λ k. own t k (P .code t k)) (instructed t)) (upTo (P .threads))
 
   abbrev pub interferences : List Obligation
-  interferences = flat (λ u. flat (λ j. flat (λ t. actions u j t) (upTo (P .threads))) (below (P .points u))) (upTo (P .threads))
+  interferences = flat (λ u. flat (λ j. flat (λ t. actions u j t) (upTo (P .threads))) (below (asserted u))) (upTo (P .threads))
 
   abbrev pub obligations : List Obligation
   obligations = starts ++ (steps ++ interferences)

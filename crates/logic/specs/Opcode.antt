@@ -23,3 +23,9 @@ swap = 5
 
 abbrev pub branch : ℕ
 branch = 6
+
+abbrev pub exchange : ℕ
+exchange = 7
+
+abbrev pub fetchAdd : ℕ
+fetchAdd = 8

@@ -1,24 +1,31 @@
--- What codes 5 to 9 leave of programs and outlines.
+-- What codes 5 to 9 and 23 leave of programs and outlines.
 use mathlib.Core.Bool.{Bool, true, not, _&&_}
 use Prim.Native.Nat.{ℕ, suc, _<_}
 use lib.Dec.{T, ltb}
 use Rattle.logic.specs.Base.{all, Within, within}
 use Rattle.logic.specs.Formula.{Value}
-use Rattle.logic.specs.Names.{only, isReg, startless}
+use Rattle.logic.specs.Names.{only, isReg, notReg, startless}
 use Rattle.logic.specs.Replace.{Note}
 use Rattle.logic.specs.Eval.{bounded}
-use Rattle.logic.specs.Machine.{Program, Access, Access.none, Access.load, Access.write, Instr, Instr.act, Instr.branch}
+use Rattle.logic.specs.Machine.{Program, Mode, Mode.store, Mode.swap, Mode.exchange, Mode.fetchAdd, Access, Access.none, Access.load, Access.write, Instr, Instr.act, Instr.branch}
 use Rattle.logic.specs.Statement.{isPair}
 use Rattle.logic.specs.EveryRun.{Outline}
 
--- an instruction as an image may have it, in a thread of n points: numbers in range (6), formulas over registers (8)
+-- an instruction as an image may have it, in a thread of n points: numbers in range (6), formulas over registers (8),
+-- an operand without the result register (23)
 abbrev pub properValue : Program → Value → Bool
 properValue P f = only isReg f && bounded (P .range) f
+
+abbrev pub lacksResult : Mode → Value → Bool
+lacksResult (store releasing) f = true
+lacksResult swap f = true
+lacksResult (exchange r) f = only (notReg r) f
+lacksResult (fetchAdd r) f = only (notReg r) f
 
 abbrev pub properAccess : Program → Access → Bool
 properAccess P none = true
 properAccess P (load acquires r x) = within (P .words) x
-properAccess P (write m x f) = within (P .words) x && properValue P f
+properAccess P (write m x f) = within (P .words) x && (properValue P f && lacksResult m f)
 
 abbrev pub proper : Program → ℕ → Instr → Bool
 proper P n (act A ns) = not (isPair (act A ns)) && (properAccess P A && all (λ (n : Note). properValue P (n .by)) ns)

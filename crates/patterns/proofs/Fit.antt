@@ -1,6 +1,6 @@
 -- What a fitting line tells, and what makes a line fit, whatever the rule.
 use mathlib.Core.Path.{_≡_, refl, ap, ap₂, sym, subst, subst₂}
-use mathlib.Core.Bool.{Bool, true, false, _&&_, _||_}
+use mathlib.Core.Bool.{Bool, true, false, not, _&&_, _||_}
 use mathlib.Core.List.{List, [], _∷_}
 use Prim.Native.Nat.{ℕ}
 use native.Mathlib.Omega.{arith}
@@ -10,7 +10,7 @@ use Rattle.logic.specs.Base.{all, All}
 use Rattle.logic.specs.Limits
 use Rattle.logic.specs.Formula.{Value, Interval, Assertion, same}
 use Rattle.logic.specs.Replace.{Note}
-use Rattle.logic.specs.Machine.{Program, Mode, Mode.store, Mode.swap, Access.none, Access.load, Access.write, Instr, Instr.act, Instr.branch}
+use Rattle.logic.specs.Machine.{Program, Mode, Mode.store, Mode.swap, Mode.exchange, Mode.fetchAdd, covers, returns, Access.none, Access.load, Access.write, Instr, Instr.act, Instr.branch}
 use Rattle.logic.specs.Statement.{Statement, inside, implies, triple, first, isImp}
 use Rattle.patterns.specs.Pattern.{Fill}
 use Rattle.patterns.specs.Rules
@@ -105,6 +105,8 @@ as-assign (act (load false r x) ns) h g = absurd h
 as-assign (act (write (store true) x f) ns) h g = absurd h
 as-assign (act (write (store false) x f) ns) h g = absurd h
 as-assign (act (write swap x f) ns) h g = absurd h
+as-assign (act (write (exchange r) x f) ns) h g = absurd h
+as-assign (act (write (fetchAdd r) x f) ns) h g = absurd h
 as-assign (branch e a) h g = absurd h
 
 pub as-load : {Z : Type 0} (c : Instr) → T (isAmong (opcode (first c)) Rules.loads) → ((acq : Bool) (r x : ℕ) → first c ≡ act (load acq r x) [] → Z) → Z
@@ -114,16 +116,20 @@ as-load (act (load false r x) ns) h g = g false r x refl
 as-load (act (write (store true) x f) ns) h g = absurd h
 as-load (act (write (store false) x f) ns) h g = absurd h
 as-load (act (write swap x f) ns) h g = absurd h
+as-load (act (write (exchange r) x f) ns) h g = absurd h
+as-load (act (write (fetchAdd r) x f) ns) h g = absurd h
 as-load (branch e a) h g = absurd h
 
 pub as-acquire : {Z : Type 0} (c : Instr) → T (isAmong (opcode (first c)) Rules.acquiring) → ((r x : ℕ) → first c ≡ act (load true r x) [] → Z)
-    → ((x : ℕ) (f : Value) → first c ≡ act (write swap x f) [] → Z) → Z
+    → ((m : Mode) (x : ℕ) (f : Value) → first c ≡ act (write m x f) [] → T (covers m) → Z) → Z
 as-acquire (act none ns) h g k = absurd h
 as-acquire (act (load true r x) ns) h g k = g r x refl
 as-acquire (act (load false r x) ns) h g k = absurd h
 as-acquire (act (write (store true) x f) ns) h g k = absurd h
 as-acquire (act (write (store false) x f) ns) h g k = absurd h
-as-acquire (act (write swap x f) ns) h g k = k x f refl
+as-acquire (act (write swap x f) ns) h g k = k swap x f refl tt
+as-acquire (act (write (exchange r) x f) ns) h g k = k (exchange r) x f refl tt
+as-acquire (act (write (fetchAdd r) x f) ns) h g k = k (fetchAdd r) x f refl tt
 as-acquire (branch e a) h g k = absurd h
 
 pub as-store : {Z : Type 0} (c : Instr) → T (isAmong (opcode (first c)) Rules.stores) → ((rel : Bool) (x : ℕ) (f : Value) → first c ≡ act (write (store rel) x f) [] → Z) → Z
@@ -133,6 +139,8 @@ as-store (act (load false r x) ns) h g = absurd h
 as-store (act (write (store true) x f) ns) h g = g true x f refl
 as-store (act (write (store false) x f) ns) h g = g false x f refl
 as-store (act (write swap x f) ns) h g = absurd h
+as-store (act (write (exchange r) x f) ns) h g = absurd h
+as-store (act (write (fetchAdd r) x f) ns) h g = absurd h
 as-store (branch e a) h g = absurd h
 
 pub as-release : {Z : Type 0} (c : Instr) → T (isAmong (opcode (first c)) Rules.releasing) → ((x : ℕ) (f : Value) → first c ≡ act (write (store true) x f) [] → Z) → Z
@@ -142,15 +150,30 @@ as-release (act (load false r x) ns) h g = absurd h
 as-release (act (write (store true) x f) ns) h g = g x f refl
 as-release (act (write (store false) x f) ns) h g = absurd h
 as-release (act (write swap x f) ns) h g = absurd h
+as-release (act (write (exchange r) x f) ns) h g = absurd h
+as-release (act (write (fetchAdd r) x f) ns) h g = absurd h
 as-release (branch e a) h g = absurd h
 
-pub as-write : {Z : Type 0} (c : Instr) → T (isAmong (opcode (first c)) Rules.storesSwaps) → ((m : Mode) (x : ℕ) (f : Value) → first c ≡ act (write m x f) [] → Z) → Z
+pub as-store-swap : {Z : Type 0} (c : Instr) → T (isAmong (opcode (first c)) Rules.storesSwaps) → ((m : Mode) (x : ℕ) (f : Value) → first c ≡ act (write m x f) [] → T (not (returns m)) → Z) → Z
+as-store-swap (act none ns) h g = absurd h
+as-store-swap (act (load true r x) ns) h g = absurd h
+as-store-swap (act (load false r x) ns) h g = absurd h
+as-store-swap (act (write (store true) x f) ns) h g = g (store true) x f refl tt
+as-store-swap (act (write (store false) x f) ns) h g = g (store false) x f refl tt
+as-store-swap (act (write swap x f) ns) h g = g swap x f refl tt
+as-store-swap (act (write (exchange r) x f) ns) h g = absurd h
+as-store-swap (act (write (fetchAdd r) x f) ns) h g = absurd h
+as-store-swap (branch e a) h g = absurd h
+
+pub as-write : {Z : Type 0} (c : Instr) → T (isAmong (opcode (first c)) Rules.writes) → ((m : Mode) (x : ℕ) (f : Value) → first c ≡ act (write m x f) [] → Z) → Z
 as-write (act none ns) h g = absurd h
 as-write (act (load true r x) ns) h g = absurd h
 as-write (act (load false r x) ns) h g = absurd h
 as-write (act (write (store true) x f) ns) h g = g (store true) x f refl
 as-write (act (write (store false) x f) ns) h g = g (store false) x f refl
 as-write (act (write swap x f) ns) h g = g swap x f refl
+as-write (act (write (exchange r) x f) ns) h g = g (exchange r) x f refl
+as-write (act (write (fetchAdd r) x f) ns) h g = g (fetchAdd r) x f refl
 as-write (branch e a) h g = absurd h
 
 pub as-swap : {Z : Type 0} (c : Instr) → T (isAmong (opcode (first c)) Rules.swaps) → ((x : ℕ) (f : Value) → first c ≡ act (write swap x f) [] → Z) → Z
@@ -160,4 +183,28 @@ as-swap (act (load false r x) ns) h g = absurd h
 as-swap (act (write (store true) x f) ns) h g = absurd h
 as-swap (act (write (store false) x f) ns) h g = absurd h
 as-swap (act (write swap x f) ns) h g = g x f refl
+as-swap (act (write (exchange r) x f) ns) h g = absurd h
+as-swap (act (write (fetchAdd r) x f) ns) h g = absurd h
 as-swap (branch e a) h g = absurd h
+
+pub as-covering : {Z : Type 0} (c : Instr) → T (isAmong (opcode (first c)) Rules.covering) → ((m : Mode) (x : ℕ) (f : Value) → first c ≡ act (write m x f) [] → T (covers m) → Z) → Z
+as-covering (act none ns) h g = absurd h
+as-covering (act (load true r x) ns) h g = absurd h
+as-covering (act (load false r x) ns) h g = absurd h
+as-covering (act (write (store true) x f) ns) h g = absurd h
+as-covering (act (write (store false) x f) ns) h g = absurd h
+as-covering (act (write swap x f) ns) h g = g swap x f refl tt
+as-covering (act (write (exchange r) x f) ns) h g = g (exchange r) x f refl tt
+as-covering (act (write (fetchAdd r) x f) ns) h g = g (fetchAdd r) x f refl tt
+as-covering (branch e a) h g = absurd h
+
+pub as-returning : {Z : Type 0} (c : Instr) → T (isAmong (opcode (first c)) Rules.returning) → ((m : Mode) (x : ℕ) (f : Value) → first c ≡ act (write m x f) [] → T (returns m) → Z) → Z
+as-returning (act none ns) h g = absurd h
+as-returning (act (load true r x) ns) h g = absurd h
+as-returning (act (load false r x) ns) h g = absurd h
+as-returning (act (write (store true) x f) ns) h g = absurd h
+as-returning (act (write (store false) x f) ns) h g = absurd h
+as-returning (act (write swap x f) ns) h g = absurd h
+as-returning (act (write (exchange r) x f) ns) h g = g (exchange r) x f refl tt
+as-returning (act (write (fetchAdd r) x f) ns) h g = g (fetchAdd r) x f refl tt
+as-returning (branch e a) h g = absurd h

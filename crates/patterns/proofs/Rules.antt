@@ -7,20 +7,20 @@ use lib.Dec.{T, leb, leb→le, le→leb}
 use lib.ListN.{length}
 use Rattle.logic.specs.Base.{upd, all}
 use Rattle.logic.specs.Limits
-use Rattle.logic.specs.Formula.{Value, Test, Assertion, Formula.const, Formula.word, Formula.box, Formula.chop, Formula.sees, Formula.bothA, Formula.eitherA, Formula.start, Formula.holds}
+use Rattle.logic.specs.Formula.{Value, Test, Assertion, Formula.const, Formula.word, Formula.cov, Formula.box, Formula.chop, Formula.sees, Formula.bothA, Formula.eitherA, Formula.start, Formula.holds}
 use Rattle.logic.specs.Replace.{Note, notes, replace, regBy, wordBy}
 use Rattle.logic.specs.Table.{byTable}
-use Rattle.logic.specs.Machine.{Program, Mode, Mode.store, Mode.swap, Access.none, Access.load, Access.write, Instr, Instr.act, Instr.branch}
+use Rattle.logic.specs.Machine.{Program, Mode, Mode.store, Mode.swap, Mode.exchange, Mode.fetchAdd, covers, returns, resultOf, Access.none, Access.load, Access.write, Instr, Instr.act, Instr.branch}
 use Rattle.logic.specs.Statement.{Statement, implies, triple, isBranch, first, isImp, impOf}
 use Rattle.patterns.specs.Pattern.{Fill}
 use Rattle.patterns.specs.Rules
-use Rattle.logic.specs.Rule.{Rule, r1, r2, r3, r4, r5, r6, r7, r8, r9, r10, r11, r12, r13, r14, r15, r16, r20, r21, r22, r23, r24, r25, r26, r27, r30, r31, r32, r33, r34, r35, r36, r37, r38, r39, r40, r41, r42, r43, r44, r45, r46}
+use Rattle.logic.specs.Rule.{Rule, r1, r2, r3, r4, r5, r6, r7, r8, r9, r10, r11, r12, r13, r14, r15, r16, r20, r21, r22, r23, r24, r25, r26, r27, r30, r31, r32, r33, r34, r35, r36, r37, r38, r39, r40, r41, r42, r43, r44, r45, r46, r47, r48, r49}
 use Rattle.patterns.specs.Rules.{row}
-use Rattle.logic.specs.Inference.{Inference, newest, keeps, i1, i2, i3, i4, i5-load, i5-swap, i6, i7, i8, i9, i10, i11, i12, i13, i14, i15, i16, i20, i21, i22, i23, i24, i25, i26, i27, i30, i31, i32, i33, i34, i35, i36, i37, i38, i39, i40, i41, i42, i43, i44, i45, i46}
+use Rattle.logic.specs.Inference.{Inference, newest, freshValue, C, keeps, i1, i2, i3, i4, i5-load, i5-swap, i6, i7, i8, i9, i10, i11, i12, i13, i14, i15, i16, i20, i21, i22, i23, i24, i25, i26, i27, i30, i31, i32, i33, i34, i35, i36, i37, i38, i39, i40, i41, i42, i43, i44, i45, i46, i47, i48, i49}
 use Rattle.patterns.specs.Fits.{isAmong, opcode, threadOf, pointOf, found, fits}
 use Rattle.logic.proofs.Base.{and-left, and-right, and-both}
 use Rattle.logic.proofs.Encoding.{same-eq, same-refl}
-use Rattle.patterns.proofs.Fit.{fit, fit-back, Fit, as-assign, as-load, as-acquire, as-store, as-release, as-write, as-swap}
+use Rattle.patterns.proofs.Fit.{fit, fit-back, Fit, as-assign, as-load, as-acquire, as-store, as-release, as-store-swap, as-write, as-swap, as-covering, as-returning}
 
 -- an operation that is no branch
 acts : (c : Instr) → T (isAmong (opcode c) Rules.actions) → T (not (isBranch c))
@@ -34,9 +34,11 @@ op-acts (act (load false r x) ns) h = tt
 op-acts (act (write (store true) x f) ns) h = tt
 op-acts (act (write (store false) x f) ns) h = tt
 op-acts (act (write swap x f) ns) h = tt
+op-acts (act (write (exchange r) x f) ns) h = tt
+op-acts (act (write (fetchAdd r) x f) ns) h = tt
 op-acts (branch e k) h = absurd h
 
--- the operations of a load, a store, a store or swap; of what keeps an assertion
+-- the operations of a load, a store, each kind of write; of what keeps an assertion
 op-load : (acq : Bool) (r x : ℕ) → T (isAmong (opcode (act (load acq r x) [])) Rules.loads)
 op-load true r x = tt
 op-load false r x = tt
@@ -45,10 +47,37 @@ op-store : (rel : Bool) (x : ℕ) (f : Value) → T (isAmong (opcode (act (write
 op-store true x f = tt
 op-store false x f = tt
 
-op-write : (m : Mode) (x : ℕ) (f : Value) → T (isAmong (opcode (act (write m x f) [])) Rules.storesSwaps)
+op-write : (m : Mode) (x : ℕ) (f : Value) → T (isAmong (opcode (act (write m x f) [])) Rules.writes)
 op-write (store true) x f = tt
 op-write (store false) x f = tt
 op-write swap x f = tt
+op-write (exchange r) x f = tt
+op-write (fetchAdd r) x f = tt
+
+op-store-swap : (m : Mode) (x : ℕ) (f : Value) → T (not (returns m)) → T (isAmong (opcode (act (write m x f) [])) Rules.storesSwaps)
+op-store-swap (store true) x f h = tt
+op-store-swap (store false) x f h = tt
+op-store-swap swap x f h = tt
+op-store-swap (exchange r) x f h = absurd h
+op-store-swap (fetchAdd r) x f h = absurd h
+
+op-covering : (m : Mode) (x : ℕ) (f : Value) → T (covers m) → T (isAmong (opcode (act (write m x f) [])) Rules.covering)
+op-covering (store b) x f h = absurd h
+op-covering swap x f h = tt
+op-covering (exchange r) x f h = tt
+op-covering (fetchAdd r) x f h = tt
+
+op-acquiring : (m : Mode) (x : ℕ) (f : Value) → T (covers m) → T (isAmong (opcode (act (write m x f) [])) Rules.acquiring)
+op-acquiring (store b) x f h = absurd h
+op-acquiring swap x f h = tt
+op-acquiring (exchange r) x f h = tt
+op-acquiring (fetchAdd r) x f h = tt
+
+op-returning : (m : Mode) (x : ℕ) (f : Value) → T (returns m) → T (isAmong (opcode (act (write m x f) [])) Rules.returning)
+op-returning (store b) x f h = absurd h
+op-returning swap x f h = absurd h
+op-returning (exchange r) x f h = tt
+op-returning (fetchAdd r) x f h = tt
 
 op-kept : (c : Instr) (a : Assertion) → T (keeps c a) → T (isAmong (opcode c) Rules.accesses)
 op-kept (act none ns) a h = absurd h
@@ -57,6 +86,8 @@ op-kept (act (load false r x) ns) a h = tt
 op-kept (act (write (store true) x f) ns) a h = tt
 op-kept (act (write (store false) x f) ns) a h = tt
 op-kept (act (write swap x f) ns) a h = tt
+op-kept (act (write (exchange r) x f) ns) a h = tt
+op-kept (act (write (fetchAdd r) x f) ns) a h = tt
 op-kept (branch e k) a h = absurd h
 
 module _ (P : Program) where
@@ -76,7 +107,7 @@ module _ (P : Program) where
       subst (λ (a : Test). Inference P r4 (triple (threadOf s) (pointOf s) (sees (threadOf s) (σ .interval 0)) (σ .assertion 1) ∷ []) (triple (threadOf s) (pointOf s) (sees (threadOf s) (chop (box a) (σ .interval 0))) (eitherA (holds (σ .test 2)) (σ .assertion 1))))
       (sym (same-eq (σ .test 3) (replace (regBy r (word x)) (σ .test 2)) (rw e at (g .side .0)))) (i4 {e = σ .test 2} e)))
   rule-of r5 σ s ps g =
-      subst₂ (Inference P r5) (g .premises) (g .says) (as-acquire (P .code (threadOf s) (pointOf s)) (g .op) (λ r x e. rw e (i5-load e)) (λ x f e. rw e (i5-swap e)))
+      subst₂ (Inference P r5) (g .premises) (g .says) (as-acquire (P .code (threadOf s) (pointOf s)) (g .op) (λ r x e. rw e (i5-load e)) (λ m x f e c. rw e (i5-swap e c)))
   rule-of r6 σ s ps g =
       subst₂ (Inference P r6) (g .premises) (g .says) (as-store (P .code (threadOf s) (pointOf s)) (g .op) (λ rel x f e. rw e (i6 e)))
   rule-of r7 σ s ps g =
@@ -84,9 +115,9 @@ module _ (P : Program) where
   rule-of r8 σ s ps g =
       subst₂ (Inference P r8) (g .premises) (g .says) (as-release (P .code (threadOf s) (pointOf s)) (g .op) (λ x f e. rw e (i8 e (rw e at (g .side .0)))))
   rule-of r9 σ s ps g =
-      subst₂ (Inference P r9) (g .premises) (g .says) (as-write (P .code (threadOf s) (pointOf s)) (g .op) (λ m x f e.
+      subst₂ (Inference P r9) (g .premises) (g .says) (as-store-swap (P .code (threadOf s) (pointOf s)) (g .op) (λ m x f e c.
       subst (λ (a : Test). Inference P r9 [] (triple (threadOf s) (pointOf s) (bothA (sees (σ .u) (box (σ .test 2))) (sees (σ .u) (box a))) (sees (σ .u) (box (σ .test 2)))))
-      (sym (same-eq (σ .test 3) (replace (wordBy x f) (σ .test 2)) (rw e at (g .side .0)))) (i9 {e = σ .test 2} e (rw e at (g .side .1 .0)))))
+      (sym (same-eq (σ .test 3) (replace (wordBy x f) (σ .test 2)) (rw e at (g .side .0)))) (i9 {e = σ .test 2} e c (rw e at (g .side .1 .0)))))
   rule-of r10 σ s ps g =
       subst₂ (Inference P r10) (g .premises) (g .says) (as-write (P .code (threadOf s) (pointOf s)) (g .op) (λ m x f e. rw e (i10 e)))
   rule-of r11 σ s ps g =
@@ -94,7 +125,7 @@ module _ (P : Program) where
   rule-of r12 σ s ps g =
       subst₂ (Inference P r12) (g .premises) (g .says) (as-swap (P .code (threadOf s) (pointOf s)) (g .op) (λ x f e. rw e (i12 e)))
   rule-of r13 σ s ps g =
-      subst₂ (Inference P r13) (g .premises) (g .says) (as-swap (P .code (threadOf s) (pointOf s)) (g .op) (λ x f e. rw e (i13 e (rw e at (g .side .0)))))
+      subst₂ (Inference P r13) (g .premises) (g .says) (as-covering (P .code (threadOf s) (pointOf s)) (g .op) (λ m x f e c. rw e (i13 e c (rw e at (g .side .0)))))
   rule-of r14 σ s ps g = subst₂ (Inference P r14) (g .premises) (g .says) (i14 (acts (first (P .code (threadOf s) (pointOf s))) (g .op)))
   rule-of r15 σ s ps g = subst₂ (Inference P r15) (g .premises) (g .says) (i15 (acts (first (P .code (threadOf s) (pointOf s))) (g .op)))
   rule-of r16 σ s ps g = subst₂ (Inference P r16) (g .premises) (g .says) (i16 (acts (first (P .code (threadOf s) (pointOf s))) (g .op)))
@@ -128,6 +159,18 @@ module _ (P : Program) where
   rule-of r44 σ s ps g = subst₂ (Inference P r44) (g .premises) (g .says) i44
   rule-of r45 σ s ps g = subst₂ (Inference P r45) (g .premises) (g .says) i45
   rule-of r46 σ s ps g = subst₂ (Inference P r46) (g .premises) (g .says) i46
+  rule-of r47 σ s ps g =
+      subst₂ (Inference P r47) (g .premises) (g .says) (as-returning (P .code (threadOf s) (pointOf s)) (g .op) (λ m x f e c.
+      subst (λ (a : Test). Inference P r47 [] (triple (threadOf s) (pointOf s) (sees (threadOf s) (box a)) (holds (σ .test 2))))
+      (sym (same-eq (σ .test 3) (replace (regBy (resultOf m) (word x)) (σ .test 2)) (rw e at (g .side .0)))) (i47 {e = σ .test 2} e c)))
+  rule-of r48 σ s ps g =
+      subst₂ (Inference P r48) (g .premises) (g .says) (as-returning (P .code (threadOf s) (pointOf s)) (g .op) (λ m x f e c. rw e
+      (subst (λ (n : Value). Inference P r48 [] (triple (threadOf s) (pointOf s) (sees (threadOf s) (C x)) (sees (threadOf s) (newest x n))))
+      (sym (same-eq (σ .value 0) (freshValue m f) (rw e at (g .side .0)))) (i48 e c))))
+  rule-of r49 σ s ps g =
+      subst₂ (Inference P r49) (g .premises) (g .says) (as-returning (P .code (threadOf s) (pointOf s)) (g .op) (λ m x f e c. rw e
+      (subst (λ (n : Value). Inference P r49 [] (triple (threadOf s) (pointOf s) (bothA (sees (threadOf s) (C x)) (sees (σ .u) (C x))) (sees (σ .u) (chop (box (cov x)) (newest x n)))))
+      (sym (same-eq (σ .value 0) (freshValue m f) (rw e at (g .side .0)))) (i49 e c))))
 
   -- the rule: the row's shapes, filled with what is found in the line
   pub fits-of : (n : Rule) (s : Statement) (ps : List Statement) → Inference P n ps s → Fit P (threadOf s) (pointOf s) (found (row n) s ps) (row n) s ps
@@ -137,15 +180,15 @@ module _ (P : Program) where
   fits-of r3 s ps (i3 {r = r} {x = x} {acq = acq} {e = q} e) = record { says = refl; premises = refl; op = rw e (op-load acq r x); side = (rw e (same-refl (replace (regBy r (word x)) q)), tt) }
   fits-of r4 s ps (i4 {r = r} {x = x} {acq = acq} {e = q} e) = record { says = refl; premises = refl; op = rw e (op-load acq r x); side = (rw e (same-refl (replace (regBy r (word x)) q)), tt) }
   fits-of r5 s ps (i5-load e) = record { says = rw e; premises = refl; op = rw e tt; side = tt }
-  fits-of r5 s ps (i5-swap e) = record { says = rw e; premises = refl; op = rw e tt; side = tt }
+  fits-of r5 s ps (i5-swap {x = x} {m = m} {f = f} e c) = record { says = rw e; premises = refl; op = rw e (op-acquiring m x f c); side = tt }
   fits-of r6 s ps (i6 {x = x} {rel = rel} {f = f} e) = record { says = rw e; premises = refl; op = rw e (op-store rel x f); side = tt }
   fits-of r7 s ps (i7 {x = x} {rel = rel} {f = f} e) = record { says = rw e; premises = refl; op = rw e (op-store rel x f); side = tt }
   fits-of r8 s ps (i8 e c) = record { says = rw e; premises = refl; op = rw e tt; side = (rw e c, tt) }
-  fits-of r9 s ps (i9 {x = x} {m = m} {f = f} {e = q} e c) = record { says = refl; premises = refl; op = rw e (op-write m x f); side = (rw e (same-refl (replace (wordBy x f) q)), (rw e c, tt)) }
+  fits-of r9 s ps (i9 {x = x} {m = m} {f = f} {e = q} e d c) = record { says = refl; premises = refl; op = rw e (op-store-swap m x f d); side = (rw e (same-refl (replace (wordBy x f) q)), (rw e c, tt)) }
   fits-of r10 s ps (i10 {x = x} {m = m} {f = f} e) = record { says = rw e; premises = refl; op = rw e (op-write m x f); side = tt }
   fits-of r11 s ps (i11 e) = record { says = rw e; premises = refl; op = rw e tt; side = tt }
   fits-of r12 s ps (i12 e) = record { says = rw e; premises = refl; op = rw e tt; side = tt }
-  fits-of r13 s ps (i13 e c) = record { says = rw e; premises = refl; op = rw e tt; side = (rw e c, tt) }
+  fits-of r13 s ps (i13 {x = x} {m = m} {f = f} e d c) = record { says = rw e; premises = refl; op = rw e (op-covering m x f d); side = (rw e c, tt) }
   fits-of r14 s ps (i14 {t = t} {k = k} c) = record { says = refl; premises = refl; op = op-acts (first (P .code t k)) c; side = tt }
   fits-of r15 s ps (i15 {t = t} {k = k} c) = record { says = refl; premises = refl; op = op-acts (first (P .code t k)) c; side = tt }
   fits-of r16 s ps (i16 {t = t} {k = k} c) = record { says = refl; premises = refl; op = op-acts (first (P .code t k)) c; side = tt }
@@ -174,6 +217,14 @@ module _ (P : Program) where
   fits-of r44 s ps i44 = record { says = refl; premises = refl; op = tt; side = tt }
   fits-of r45 s ps i45 = record { says = refl; premises = refl; op = tt; side = tt }
   fits-of r46 s ps i46 = record { says = refl; premises = refl; op = tt; side = tt }
+  fits-of r47 s ps (i47 {x = x} {m = m} {f = f} {e = q} e c) = record {
+    says = refl;
+    premises = refl;
+    op = rw e (op-returning m x f c);
+    side = (rw e (same-refl (replace (regBy (resultOf m) (word x)) q)), tt);
+  }
+  fits-of r48 s ps (i48 {x = x} {m = m} {f = f} e c) = record { says = rw e; premises = refl; op = rw e (op-returning m x f c); side = (rw e (same-refl (freshValue m f)), tt) }
+  fits-of r49 s ps (i49 {x = x} {m = m} {f = f} e c) = record { says = rw e; premises = refl; op = rw e (op-returning m x f c); side = (rw e (same-refl (freshValue m f)), tt) }
 
   -- a line fits its rule exactly if the rule gives what it says from its premises
   pub fits-rule : (n : Rule) (s : Statement) (ps : List Statement) → T (fits P n s ps) → Inference P n ps s

@@ -9,17 +9,17 @@ use Rattle.logic.specs.Base.{upd, all}
 use Rattle.logic.specs.Limits
 use Rattle.logic.specs.Opcode
 use Rattle.logic.specs.Formula.{Sort, Formula, Value, Test, Interval, Assertion, Formula.const, Formula.reg, Formula.word, Formula.sum, Formula.equal, Formula.less, Formula.and, Formula.or, Formula.unsync, Formula.cov, Formula.box, Formula.one, Formula.chop, Formula.both, Formula.either, Formula.sees, Formula.bothA, Formula.eitherA, Formula.start, Formula.holds, same}
-use Rattle.logic.specs.Names.{only, notWord, notFlag}
+use Rattle.logic.specs.Names.{Name, only, notWord, notFlag}
 use Rattle.logic.specs.Replace.{Note, Sub, replace, notes, regBy, wordBy}
 use Rattle.logic.specs.Rows.{byRows}
 use Rattle.logic.specs.Table.{byTable}
-use Rattle.logic.specs.Machine.{Program, Mode.store, Mode.swap, Access.none, Access.load, Access.write, Instr, Instr.act, Instr.branch}
+use Rattle.logic.specs.Machine.{Program, Mode.store, Mode.swap, Mode.exchange, Mode.fetchAdd, resultOf, Access.none, Access.load, Access.write, Instr, Instr.act, Instr.branch}
 use Rattle.logic.specs.Statement.{Statement, inside, implies, triple, half, isImp, impOf}
 use Rattle.patterns.specs.Pattern
 use Rattle.patterns.specs.Pattern.{Num, Pattern, Given, Fill, number, inst}
 use Rattle.logic.specs.Rule.{Rule}
-use Rattle.patterns.specs.Rules.{Shape, Premises, these, implications, By, by-notes, r-by-x, x-by-f, Side, _is_with_, start-of, kept, lacks-x, no-flag, by-rows, by-table, Row, row}
-use Rattle.logic.specs.Inference.{keeps}
+use Rattle.patterns.specs.Rules.{Shape, Premises, these, implications, By, by-notes, r-by-x, x-by-f, Side, _is_with_, start-of, is-new, kept, lacks-x, no-flag, by-rows, by-table, Row, row}
+use Rattle.logic.specs.Inference.{freshValue, apart, keeps}
 
 -- the number, the first and the second part of a formula; where there is none, any
 abbrev pub numberV : Value → ℕ
@@ -194,6 +194,8 @@ opcode (act (load true r x) ns) = Opcode.acquire
 opcode (act (write (store false) x f) ns) = Opcode.store
 opcode (act (write (store true) x f) ns) = Opcode.release
 opcode (act (write swap x f) ns) = Opcode.swap
+opcode (act (write (exchange r) x f) ns) = Opcode.exchange
+opcode (act (write (fetchAdd r) x f) ns) = Opcode.fetchAdd
 opcode (branch e a) = Opcode.branch
 
 -- the instruction's word, register, formula, notes; of an assignment its first note's register and formula
@@ -207,7 +209,7 @@ abbrev pub regOf : Instr → ℕ
 regOf (act none []) = 0
 regOf (act none (n ∷ ns)) = n .to
 regOf (act (load acquires r x) ns) = r
-regOf (act (write m x f) ns) = 0
+regOf (act (write m x f) ns) = resultOf m
 regOf (branch e a) = 0
 
 abbrev pub formulaOf : Instr → Value
@@ -216,6 +218,20 @@ formulaOf (act none (n ∷ ns)) = n .by
 formulaOf (act (load acquires r x) ns) = const 0
 formulaOf (act (write m x f) ns) = f
 formulaOf (branch e a) = const 0
+
+-- what it writes is apart from the name
+abbrev pub apartOf : Instr → Name → Bool
+apartOf (act none ns) n = notWord 0 n
+apartOf (act (load acquires r x) ns) n = notWord x n
+apartOf (act (write m x f) ns) n = apart m x n
+apartOf (branch e a) n = notWord 0 n
+
+-- what its new write holds, read after the step
+abbrev pub freshOf : Instr → Value
+freshOf (act none ns) = formulaOf (act none ns)
+freshOf (act (load acquires r x) ns) = const 0
+freshOf (act (write m x f) ns) = freshValue m f
+freshOf (branch e a) = const 0
 
 abbrev pub notesOf : Instr → List Note
 notesOf (act A ns) = ns
@@ -259,8 +275,9 @@ module _ (P : Program) where
     abbrev pub sideHolds : Fill → Statement → List Statement → Side → Bool
     sideHolds σ s ps (p is q with b) = same (inst given σ p) (replace (by b) (inst given σ q))
     sideHolds σ s ps (start-of n p) = same (inst given σ p) (const (P .init (number given σ n)))
+    sideHolds σ s ps (is-new p) = same (inst given σ p) (freshOf (half P t k))
     sideHolds σ s ps (kept p) = keeps (half P t k) (inst given σ p)
-    sideHolds σ s ps (lacks-x p) = only (notWord (wordOf (half P t k))) (inst given σ p)
+    sideHolds σ s ps (lacks-x p) = only (apartOf (half P t k)) (inst given σ p)
     sideHolds σ s ps (no-flag p) = only (notFlag (wordOf (half P t k))) (inst given σ p)
     sideHolds σ s ps (by-rows p q) = byRows (P .range) (inst given σ p) (inst given σ q)
     sideHolds σ s ps by-table = byTable (map impOf ps) (impOf s)

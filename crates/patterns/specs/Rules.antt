@@ -3,7 +3,7 @@ use mathlib.Core.List.{List, [], _∷_}
 use Prim.Native.Nat.{ℕ}
 use Rattle.logic.specs.Formula.{Sort}
 use Rattle.logic.specs.Opcode
-use Rattle.logic.specs.Rule.{Rule, r1, r2, r3, r4, r5, r6, r7, r8, r9, r10, r11, r12, r13, r14, r15, r16, r20, r21, r22, r23, r24, r25, r26, r27, r30, r31, r32, r33, r34, r35, r36, r37, r38, r39, r40, r41, r42, r43, r44, r45, r46}
+use Rattle.logic.specs.Rule.{Rule, r1, r2, r3, r4, r5, r6, r7, r8, r9, r10, r11, r12, r13, r14, r15, r16, r20, r21, r22, r23, r24, r25, r26, r27, r30, r31, r32, r33, r34, r35, r36, r37, r38, r39, r40, r41, r42, r43, r44, r45, r46, r47, r48, r49}
 use Rattle.patterns.specs.Pattern.{Num, Pattern, t, x, r, u, y, anyA, anyI, anyE, anyV, f, const, reg, word, equal, and, unsync, cov, box, one, chop, both, either, sees, bothA, eitherA, start, holds}
 
 -- a line's form, its left and its right side
@@ -21,12 +21,13 @@ pub data By : Type 0 where
   by-notes r-by-x x-by-f : By
 
 infix 30 _is_with_
--- what is asked besides. The first is the second with something replaced; it is the start value of the word;
--- kept: a load's register is not in it, or a store's or swap's word in no role; lacks-x: the word x in no role;
+-- what is asked besides. The first is the second with something replaced; it is the start value of the word; it is the new write's value (freshValue);
+-- kept: a load's register is not in it, or else the word in no role nor the result register; lacks-x: the word x in no role nor the result register;
 -- no-flag: neither unsync x nor cov x; wherever the one test is true the other is, by rows; by truth table
 pub data Side : Type 0 where
   _is_with_ : {s : Sort} → Pattern s → Pattern s → By → Side
   start-of : Num → Pattern Sort.value → Side
+  is-new : Pattern Sort.value → Side
   kept : Pattern Sort.assertion → Side
   lacks-x : Pattern Sort.interval → Side
   no-flag : Pattern Sort.test → Side
@@ -52,8 +53,16 @@ stores = Opcode.store ∷ Opcode.release ∷ []
 abbrev pub swaps : List ℕ
 swaps = Opcode.swap ∷ []
 
+-- the old value into a register
+abbrev pub returning : List ℕ
+returning = Opcode.exchange ∷ Opcode.fetchAdd ∷ []
+
+-- all that cover what they pick
+abbrev pub covering : List ℕ
+covering = Opcode.swap ∷ returning
+
 abbrev pub acquiring : List ℕ
-acquiring = Opcode.acquire ∷ Opcode.swap ∷ []
+acquiring = Opcode.acquire ∷ covering
 
 abbrev pub releasing : List ℕ
 releasing = Opcode.release ∷ []
@@ -61,8 +70,11 @@ releasing = Opcode.release ∷ []
 abbrev pub storesSwaps : List ℕ
 storesSwaps = Opcode.store ∷ Opcode.release ∷ Opcode.swap ∷ []
 
+abbrev pub writes : List ℕ
+writes = Opcode.store ∷ Opcode.release ∷ covering
+
 abbrev pub accesses : List ℕ
-accesses = Opcode.load ∷ Opcode.acquire ∷ storesSwaps
+accesses = Opcode.load ∷ Opcode.acquire ∷ writes
 
 abbrev pub actions : List ℕ
 actions = Opcode.assign ∷ accesses
@@ -115,7 +127,11 @@ N = anyV 0
 abbrev pub newest : Pattern Sort.interval
 newest = both (one x) (box (equal (word x) f))
 
--- rules 11 to 13: [cov x];one x
+-- one x, and x = N
+abbrev pub newestN : Pattern Sort.interval
+newestN = both (one x) (box (equal (word x) N))
+
+-- rules 11 to 13, 48, 49: [cov x];one x
 abbrev pub C : Pattern Sort.interval
 C = chop (box (cov x)) (one x)
 
@@ -129,10 +145,10 @@ row r6 = tri stores (sees t (one x)) (sees t newest) [] []
 row r7 = tri stores (bothA (sees t (one x)) (sees u I)) (sees u (chop I newest)) [] []
 row r8 = tri releasing (bothA (sees t (one x)) (bothA (sees u I) (sees t J))) (sees u (chop I (chop (box (unsync x)) J))) [] (lacks-x J ∷ [])
 row r9 = tri storesSwaps (bothA (sees u (box E)) (sees u (box F))) (sees u (box E)) [] ((F is E with x-by-f) ∷ no-flag E ∷ [])
-row r10 = tri storesSwaps (sees t (chop (box (cov x)) I)) Q (triple (sees t I) Q ∷ []) []
+row r10 = tri writes (sees t (chop (box (cov x)) I)) Q (triple (sees t I) Q ∷ []) []
 row r11 = tri swaps (sees t C) (sees t newest) [] []
 row r12 = tri swaps (bothA (sees t C) (sees u C)) (sees u (chop (box (cov x)) newest)) [] []
-row r13 = tri swaps (bothA (sees t C) (bothA (sees u C) (sees t J))) (sees u (chop (box (cov x)) (chop (box (unsync x)) J))) [] (lacks-x J ∷ [])
+row r13 = tri covering (bothA (sees t C) (bothA (sees u C) (sees t J))) (sees u (chop (box (cov x)) (chop (box (unsync x)) J))) [] (lacks-x J ∷ [])
 row r14 = tri actions (bothA P Q) (bothA R S) (triple P R ∷ triple Q S ∷ []) []
 row r15 = tri actions (eitherA P Q) (eitherA R S) (triple P R ∷ triple Q S ∷ []) []
 row r16 = tri actions P S (implies P Q ∷ triple Q R ∷ implies R S ∷ []) []
@@ -161,3 +177,6 @@ row r43 = inc J (either I J) [] []
 row r44 = inc (either I J) K (inside I K ∷ inside J K ∷ []) []
 row r45 = inc (both (box E) (box F)) (box (and E F)) [] []
 row r46 = inc I I [] []
+row r47 = tri returning (sees t (box F)) (holds E) [] ((F is E with r-by-x) ∷ [])
+row r48 = tri returning (sees t C) (sees t newestN) [] (is-new N ∷ [])
+row r49 = tri returning (bothA (sees t C) (sees u C)) (sees u (chop (box (cov x)) newestN)) [] (is-new N ∷ [])

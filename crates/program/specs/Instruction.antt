@@ -31,7 +31,8 @@ fieldsOf op last z =
     (cond (leb op Opcode.acquire) (fields (range 1 (z .registers)) (range 1 (z .words)) unused)
     (cond (leb op Opcode.swap) (fields (range 1 (z .words)) unused (range 1 (z .formulas)))
     (cond (eqb op Opcode.branch) (fields (range 0 last) unused (range 1 (z .formulas)))
-    (fields (range 1 0) unused (range 1 (z .formulas))))))
+    (cond (leb op Opcode.fetchAdd) (fields (range 1 (z .words)) (range 1 (z .registers)) (range 1 (z .formulas)))
+    (fields (range 1 0) unused (range 1 (z .formulas)))))))
 
 abbrev pub inside : Range → ℕ → Bool
 inside r x = within (r .low) (r .high) x

@@ -32,6 +32,12 @@ impl Instruction {
 
     // branch on the formula to point a
     pub const BRANCH: u8 = 6;
+
+    // swap of the formula into word a, the old value into register b
+    pub const EXCHANGE: u8 = 7;
+
+    // store of the old value of word a plus the formula, the old value into register b
+    pub const FETCH_ADD: u8 = 8;
 }
 
 pub struct Range {
@@ -93,6 +99,9 @@ pub fn fields_of(operation: u8, last: usize, z: Sizes) -> Fields
     if operation == Instruction::BRANCH {
         let point = Range { low: 0, high: last };
         return three(point, unused, formula);
+    }
+    if operation <= Instruction::FETCH_ADD {
+        return three(word, register, formula);
     }
     let nowhere = Range { low: 1, high: 0 };
     three(nowhere, unused, formula)

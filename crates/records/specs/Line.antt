@@ -25,7 +25,8 @@ formOf r =
     (cond (leb r Rules.lastImplication) Implication
     (cond (ltb r Rules.firstInclusion) Unlisted
     (cond (leb r Rules.lastInclusion) Inclusion
-    Unlisted)))))
+    (cond (leb r Rules.lastResult) Triple
+    Unlisted))))))
 
 unfoldable pub premises : List ℕ → List ℕ
 premises b = numbers (getD b 7 0) (drop 8 b)

@@ -18,3 +18,7 @@ firstInclusion = 30
 
 abbrev pub lastInclusion : ℕ
 lastInclusion = 46
+
+-- the triples of exchange and fetch-add follow the last inclusion
+abbrev pub lastResult : ℕ
+lastResult = 49

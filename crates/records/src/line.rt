@@ -39,6 +39,9 @@ impl Form {
     pub const FIRST_INCLUSION: usize = 30;
 
     pub const LAST_INCLUSION: usize = 46;
+
+    // Triples of exchange and fetch-add, directly behind.
+    pub const LAST_RESULT: usize = 49;
 }
 
 fn form_of(rule: usize) -> Form
@@ -61,6 +64,9 @@ fn form_of(rule: usize) -> Form
     }
     if rule <= Form::LAST_INCLUSION {
         return Form::Inclusion;
+    }
+    if rule <= Form::LAST_RESULT {
+        return Form::Triple;
     }
     Form::Unlisted
 }

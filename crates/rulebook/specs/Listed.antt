@@ -6,8 +6,8 @@ use lib.Dec.{eqb, leb}
 use lib.ListN.{length}
 use Rattle.logic.specs.Base.{all}
 use Rattle.logic.specs.Opcode
-use Rattle.logic.specs.Rule.{Rule, r1, r2, r3, r4, r5, r6, r7, r8, r9, r10, r11, r12, r13, r14, r15, r16, r20, r21, r22, r23, r24, r25, r26, r27, r30, r31, r32, r33, r34, r35, r36, r37, r38, r39, r40, r41, r42, r43, r44, r45, r46}
-use Rattle.patterns.specs.Rules.{Shape, Premises, these, implications, by-notes, r-by-x, x-by-f, Side, _is_with_, start-of, kept, lacks-x, no-flag, by-rows, by-table, row}
+use Rattle.logic.specs.Rule.{Rule, r1, r2, r3, r4, r5, r6, r7, r8, r9, r10, r11, r12, r13, r14, r15, r16, r20, r21, r22, r23, r24, r25, r26, r27, r30, r31, r32, r33, r34, r35, r36, r37, r38, r39, r40, r41, r42, r43, r44, r45, r46, r47, r48, r49}
+use Rattle.patterns.specs.Rules.{Shape, Premises, these, implications, by-notes, r-by-x, x-by-f, Side, _is_with_, start-of, is-new, kept, lacks-x, no-flag, by-rows, by-table, row}
 use Rattle.patterns.specs.Fits.{isAmong}
 use Rattle.limits.specs.Limits as Limits
 use Rattle.limits.specs.Limits.{nesting}
@@ -16,7 +16,7 @@ use Rattle.compare.specs.Same.{sameTree}
 use Rattle.matcher.specs.Template.{shapes}
 use Rattle.matcher.specs.Places.{proper}
 use Rattle.certificate.specs.FitT.{formOf, leftOf, rightOf}
-use Rattle.rulebook.specs.Rulebook.{nothing, isKept, assigned, loaded, wordAbsent, stored, byRows, byTable, startValue, anyImplications, ruleRow, templates}
+use Rattle.rulebook.specs.Rulebook.{nothing, isKept, assigned, loaded, wordAbsent, stored, byRows, byTable, startValue, newValue, anyImplications, ruleRow, templates}
 
 abbrev pub numberOf : Rule → ℕ
 numberOf r1 = 1
@@ -60,6 +60,9 @@ numberOf r43 = 43
 numberOf r44 = 44
 numberOf r45 = 45
 numberOf r46 = 46
+numberOf r47 = 47
+numberOf r48 = 48
+numberOf r49 = 49
 
 -- the trees of shapes, and whether they stand in the templates one after the other from a position on
 abbrev pub trees : List Shape → List Tree
@@ -89,7 +92,7 @@ sameBit false true = false
 sameBit false false = true
 
 abbrev pub operations : List ℕ
-operations = Opcode.assign ∷ Opcode.load ∷ Opcode.acquire ∷ Opcode.store ∷ Opcode.release ∷ Opcode.swap ∷ Opcode.branch ∷ []
+operations = Opcode.assign ∷ Opcode.load ∷ Opcode.acquire ∷ Opcode.store ∷ Opcode.release ∷ Opcode.swap ∷ Opcode.branch ∷ Opcode.exchange ∷ Opcode.fetchAdd ∷ []
 
 -- what is asked besides, by number
 abbrev pub sideNumber : List Side → ℕ
@@ -98,6 +101,7 @@ sideNumber (_is_with_ p q by-notes ∷ l) = assigned
 sideNumber (_is_with_ p q r-by-x ∷ l) = loaded
 sideNumber (_is_with_ p q x-by-f ∷ l) = stored
 sideNumber (start-of n p ∷ l) = startValue
+sideNumber (is-new p ∷ l) = newValue
 sideNumber (kept p ∷ l) = isKept
 sideNumber (lacks-x p ∷ l) = wordAbsent
 sideNumber (no-flag p ∷ l) = nothing

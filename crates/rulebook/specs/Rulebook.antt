@@ -35,6 +35,9 @@ byTable = 7
 abbrev pub startValue : ℕ
 startValue = 8
 
+abbrev pub newValue : ℕ
+newValue = 9
+
 -- rule 20: 0 to 4 implications
 abbrev pub anyImplications : ℕ
 anyImplications = 5
@@ -48,22 +51,22 @@ unlisted = rule unlistedForm 0 0 0 0 nothing
 abbrev pub rows : List Rule
 rows =
     unlisted ∷
-    rule 2 0 0 0 62 isKept ∷
+    rule 2 0 0 0 446 isKept ∷
     rule 2 2 0 0 1 assigned ∷
     rule 2 4 0 0 6 loaded ∷
     rule 2 10 1 2 6 loaded ∷
-    rule 2 24 1 2 36 nothing ∷
+    rule 2 24 1 2 420 nothing ∷
     rule 2 36 0 0 24 nothing ∷
     rule 2 50 0 0 24 nothing ∷
     rule 2 70 0 0 16 wordAbsent ∷
     rule 2 91 0 0 56 stored ∷
-    rule 2 104 1 2 56 nothing ∷
+    rule 2 104 1 2 440 nothing ∷
     rule 2 116 0 0 32 nothing ∷
     rule 2 134 0 0 32 nothing ∷
-    rule 2 165 0 0 32 wordAbsent ∷
-    rule 2 197 2 10 63 nothing ∷
-    rule 2 207 2 10 63 nothing ∷
-    rule 2 217 3 25 63 nothing ∷
+    rule 2 165 0 0 416 wordAbsent ∷
+    rule 2 197 2 10 447 nothing ∷
+    rule 2 207 2 10 447 nothing ∷
+    rule 2 217 3 25 447 nothing ∷
     unlisted ∷
     unlisted ∷
     unlisted ∷
@@ -94,6 +97,9 @@ rows =
     rule 0 372 2 0 0 nothing ∷
     rule 0 380 0 0 0 nothing ∷
     rule 0 389 0 0 0 nothing ∷
+    rule 2 4 0 0 384 loaded ∷
+    rule 2 391 0 0 384 newValue ∷
+    rule 2 409 0 0 384 newValue ∷
     []
 
 unfoldable pub ruleRow : ℕ → Rule
@@ -117,5 +123,7 @@ templates =
     64 ∷ 18 ∷ 65 ∷ 66 ∷ 18 ∷ 18 ∷ 64 ∷ 65 ∷ 66 ∷ 65 ∷ 18 ∷ 64 ∷ 65 ∷ 64 ∷ 18 ∷ 64 ∷ 65 ∷ 18 ∷ 16 ∷ 66 ∷ 16 ∷ 66 ∷ 16 ∷ 66 ∷
     19 ∷ 66 ∷ 18 ∷ 64 ∷ 65 ∷ 18 ∷ 19 ∷ 66 ∷ 64 ∷ 19 ∷ 66 ∷ 65 ∷ 19 ∷ 64 ∷ 65 ∷ 64 ∷ 19 ∷ 64 ∷ 65 ∷ 65 ∷ 64 ∷ 19 ∷ 65 ∷ 66 ∷
     64 ∷ 65 ∷ 64 ∷ 66 ∷ 64 ∷ 20 ∷ 64 ∷ 65 ∷ 65 ∷ 20 ∷ 64 ∷ 65 ∷ 20 ∷ 64 ∷ 65 ∷ 66 ∷ 64 ∷ 66 ∷ 65 ∷ 66 ∷ 19 ∷ 16 ∷ 66 ∷ 16 ∷
-    67 ∷ 16 ∷ 12 ∷ 66 ∷ 67 ∷ 64 ∷ 64 ∷
+    67 ∷ 16 ∷ 12 ∷ 66 ∷ 67 ∷ 64 ∷ 64 ∷ 24 ∷ 0 ∷ 18 ∷ 16 ∷ 15 ∷ 1 ∷ 17 ∷ 1 ∷ 24 ∷ 0 ∷ 19 ∷ 17 ∷ 1 ∷ 16 ∷ 9 ∷ 2 ∷ 1 ∷
+    64 ∷ 25 ∷ 24 ∷ 0 ∷ 18 ∷ 16 ∷ 15 ∷ 1 ∷ 17 ∷ 1 ∷ 24 ∷ 3 ∷ 18 ∷ 16 ∷ 15 ∷ 1 ∷ 17 ∷ 1 ∷ 24 ∷ 3 ∷ 18 ∷ 16 ∷ 15 ∷ 1 ∷
+    19 ∷ 17 ∷ 1 ∷ 16 ∷ 9 ∷ 2 ∷ 1 ∷ 64 ∷
     []

@@ -20,13 +20,13 @@ pub struct Side {}
 
 impl Side {
     pub const NONE: u8 = 0;
-    // Its assertion keeps clear of what a load, a store or a swap changes.
+    // Its assertion keeps clear of what the instruction changes.
     pub const KEPT: u8 = 1;
     // The left side is the right one with the register replaced by the formula.
     pub const ASSIGNED: u8 = 2;
     // The left test is the right one with the register replaced by the word.
     pub const LOADED: u8 = 3;
-    // The word is in no role in the interval that is handed on.
+    // The word is in no role in the interval that is handed on, and the result register is not in it.
     pub const WORD_ABSENT: u8 = 4;
     // The second test is the first with the word replaced by the formula; no flag of the word is in it.
     pub const STORED: u8 = 5;
@@ -36,6 +36,8 @@ impl Side {
     pub const BY_TABLE: u8 = 7;
 
     pub const START_VALUE: u8 = 8;
+    // The value is that of the new write, read after the step.
+    pub const NEW_VALUE: u8 = 9;
 }
 
 // Where a rule's template begins; the operations that it allows, a bit each; the form of its lines; how many premises, and
@@ -53,7 +55,7 @@ pub struct Rule {
 pub struct Rules {}
 
 impl Rules {
-    pub const COUNT: u8 = 47;
+    pub const COUNT: u8 = 50;
     // Rule 20: 0 to 4 implications.
     pub const IMPLICATIONS: u8 = 5;
 }
@@ -67,14 +69,14 @@ const UNLISTED: Rule = Rule {
     side: Side::NONE,
 };
 
-pub const RULES: [Rule; 47] = [
+pub const RULES: [Rule; 50] = [
     UNLISTED,
     Rule {
         form: Form::TRIPLE,
         template: 0,
         premises: 0,
         forms: 0,
-        operations: 62,
+        operations: 446,
         side: Side::KEPT,
     },
     Rule {
@@ -106,7 +108,7 @@ pub const RULES: [Rule; 47] = [
         template: 24,
         premises: 1,
         forms: 2,
-        operations: 36,
+        operations: 420,
         side: Side::NONE,
     },
     Rule {
@@ -146,7 +148,7 @@ pub const RULES: [Rule; 47] = [
         template: 104,
         premises: 1,
         forms: 2,
-        operations: 56,
+        operations: 440,
         side: Side::NONE,
     },
     Rule {
@@ -170,7 +172,7 @@ pub const RULES: [Rule; 47] = [
         template: 165,
         premises: 0,
         forms: 0,
-        operations: 32,
+        operations: 416,
         side: Side::WORD_ABSENT,
     },
     Rule {
@@ -178,7 +180,7 @@ pub const RULES: [Rule; 47] = [
         template: 197,
         premises: 2,
         forms: 10,
-        operations: 63,
+        operations: 447,
         side: Side::NONE,
     },
     Rule {
@@ -186,7 +188,7 @@ pub const RULES: [Rule; 47] = [
         template: 207,
         premises: 2,
         forms: 10,
-        operations: 63,
+        operations: 447,
         side: Side::NONE,
     },
     Rule {
@@ -194,7 +196,7 @@ pub const RULES: [Rule; 47] = [
         template: 217,
         premises: 3,
         forms: 25,
-        operations: 63,
+        operations: 447,
         side: Side::NONE,
     },
     UNLISTED,
@@ -402,6 +404,30 @@ pub const RULES: [Rule; 47] = [
         operations: 0,
         side: Side::NONE,
     },
+    Rule {
+        form: Form::TRIPLE,
+        template: 4,
+        premises: 0,
+        forms: 0,
+        operations: 384,
+        side: Side::LOADED,
+    },
+    Rule {
+        form: Form::TRIPLE,
+        template: 391,
+        premises: 0,
+        forms: 0,
+        operations: 384,
+        side: Side::NEW_VALUE,
+    },
+    Rule {
+        form: Form::TRIPLE,
+        template: 409,
+        premises: 0,
+        forms: 0,
+        operations: 384,
+        side: Side::NEW_VALUE,
+    },
 ];
 
 // A number that no rule has gives the row of an unlisted rule.
@@ -415,7 +441,8 @@ pub fn rule_at(number: u8) -> Rule
     UNLISTED
 }
 
-// The form alone, quicker than by the table: rules 1 to 16 are of triples, 20 to 27 of implications, 30 to 46 of inclusions.
+// The form alone, quicker than by the table: rules 1 to 16 are of triples, 20 to 27 of implications, 30 to 46 of inclusions,
+// 47 to 49 of triples.
 pub fn form_at(number: u8) -> u8
     ensures { λ r. ⌜ r ≡ ruleRow number .form ⌝ }
 {
@@ -434,8 +461,11 @@ pub fn form_at(number: u8) -> u8
     if number < 30 {
         return Form::UNLISTED;
     }
-    if number < Rules::COUNT {
+    if number <= 46 {
         return Form::INCLUSION;
+    }
+    if number < Rules::COUNT {
+        return Form::TRIPLE;
     }
     Form::UNLISTED
 }

@@ -1,3 +1,4 @@
 pub mod Sides
+pub mod NewValues
 pub mod SidesByNumber
 pub mod SidesLink

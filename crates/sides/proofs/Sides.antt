@@ -4,7 +4,7 @@ use mathlib.Core.Bool.{Bool, true, false, not, cond}
 use mathlib.Core.List.{List, []}
 use Prim.Native.Nat.{ℕ, _-_, _≤_, _<_}
 use lib.ListN.{getD}
-use borrow.Author.Tests.{lt-ltb, le-ltb, le-leb, lt-leb}
+use borrow.Author.Tests.{lt-ltb, le-ltb, le-leb, lt-leb, eq-eqb, ne-eqb}
 use Rattle.logic.specs.Code
 use Rattle.logic.specs.Code.{byte}
 use Rattle.logic.specs.Opcode
@@ -21,12 +21,33 @@ use Rattle.compare.specs.declared.replace.Replacing.the-variants.{Formula}
 use Rattle.occurs.specs.Occurs.{occurs, register, wordAnyRole, flag}
 use Rattle.program.specs.Header.{startValues}
 use Rattle.matcher.specs.declared.bind.Bind.{Bind}
-use Rattle.sides.specs.Side.{holeOf, numberIn, treeOf, keeps, isWith, storedBy, isStart}
+use Rattle.sides.specs.Side.{holeOf, numberIn, treeOf, apart, keeps, isWith, storedBy, isStart}
 use Rattle.sides.specs.declared.side.Position.{Position}
 
 pub hole-is : (b : Bind) (j : ℕ) → record { at = getD (b .at) j 0; left = getD (b .left) j 0 } ≡ holeOf b j
 unfolding holeOf
 hole-is b j = refl
+
+module _ (op x r : ℕ) (u : Tree) where
+  pub apart-word : (o : Bool) → o ≡ occurs (wordAnyRole x) [] u → o ≡ true → false ≡ apart op x r u
+  unfolding apart
+  apart-word o e h = rw (← e, h)
+
+  module _ (o : Bool) (e : o ≡ occurs (wordAnyRole x) [] u) (h : o ≡ false) where
+    pub apart-plain : op ≤ Opcode.branch → true ≡ apart op x r u
+    unfolding apart
+    apart-plain l = rw (← e, h, le-leb _ _ l)
+
+    module _ (l : Opcode.branch < op) where
+      pub apart-result : (q : Bool) → op ≤ Opcode.fetchAdd → q ≡ occurs (register r) [] u → not q ≡ apart op x r u
+      unfolding apart
+      apart-result q m d = rw (← e, h, lt-leb _ _ l, le-leb _ _ m, ← d)
+
+      pub apart-rest : Opcode.fetchAdd < op → true ≡ apart op x r u
+      unfolding apart
+      apart-rest m = rw (← e, h, lt-leb _ _ l, lt-leb _ _ m)
+
+pub ruleset parting = (apart-word, apart-plain, apart-result, apart-rest)
 
 module _ (op x r : ℕ) (u : Tree) where
   pub keeps-first : op < Opcode.load → false ≡ keeps op x r u
@@ -39,17 +60,22 @@ module _ (op x r : ℕ) (u : Tree) where
     keeps-load o h e = rw (le-ltb _ _ l, le-leb _ _ h, ← e)
 
     module _ (m : Opcode.acquire < op) where
-      pub keeps-store : (o : Bool) → op ≤ Opcode.swap → o ≡ occurs (wordAnyRole x) [] u → not o ≡ keeps op x r u
+      pub keeps-branch : op ≡ Opcode.branch → false ≡ keeps op x r u
       unfolding keeps
-      keeps-store o h e = rw (le-ltb _ _ l, lt-leb _ _ m, le-leb _ _ h, ← e)
+      keeps-branch h = rw (le-ltb _ _ l, lt-leb _ _ m, eq-eqb _ _ h)
 
-      pub keeps-rest : Opcode.swap < op → false ≡ keeps op x r u
-      unfolding keeps
-      keeps-rest h = rw (le-ltb _ _ l, lt-leb _ _ m, lt-leb _ _ h)
+      module _ (n : op ≡ Opcode.branch → ⊥) where
+        pub keeps-write : (o : Bool) → op ≤ Opcode.fetchAdd → o ≡ apart op x r u → o ≡ keeps op x r u
+        unfolding keeps
+        keeps-write o h e = rw (le-ltb _ _ l, lt-leb _ _ m, ne-eqb _ _ n, le-leb _ _ h) e
 
-pub ruleset keeping = (hole-is, keeps-first, keeps-load, keeps-store, keeps-rest)
+        pub keeps-rest : Opcode.fetchAdd < op → false ≡ keeps op x r u
+        unfolding keeps
+        keeps-rest h = rw (le-ltb _ _ l, lt-leb _ _ m, ne-eqb _ _ n, lt-leb _ _ h)
 
-no-yes : {i j : ℕ} → No ≡ Yes i j → ⊥
+pub ruleset keeping = (hole-is, keeps-first, keeps-load, keeps-branch, keeps-write, keeps-rest)
+
+pub no-yes : {i j : ℕ} → No ≡ Yes i j → ⊥
 no-yes h = subst isNo h tt
   where
     isNo : Same → Type 0
@@ -57,11 +83,11 @@ no-yes h = subst isNo h tt
     isNo (Yes i j) = ⊥
 
 -- what an answer says of the test that it comes from
-answer-no : (b : Bool) (i j : ℕ) → No ≡ cond b (Yes i j) No → false ≡ b
+pub answer-no : (b : Bool) (i j : ℕ) → No ≡ cond b (Yes i j) No → false ≡ b
 answer-no true i j h = absurd (no-yes h)
 answer-no false i j h = refl
 
-answer-yes : (b : Bool) (i j p q : ℕ) → Yes p q ≡ cond b (Yes i j) No → true ≡ b
+pub answer-yes : (b : Bool) (i j p q : ℕ) → Yes p q ≡ cond b (Yes i j) No → true ≡ b
 answer-yes true i j p q h = refl
 answer-yes false i j p q h = absurd (no-yes (sym h))
 

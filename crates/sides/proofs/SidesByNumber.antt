@@ -1,6 +1,6 @@
 -- The ways through what is asked besides, one law for each.
 use mathlib.Core.Path.{_≡_}
-use mathlib.Core.Bool.{Bool, true, false, not}
+use mathlib.Core.Bool.{Bool, true, false}
 use mathlib.Core.List.{List, [], _∷_}
 use Prim.Native.Nat.{ℕ, _+_}
 use lib.ListN.{getD}
@@ -8,15 +8,15 @@ use borrow.Author.Tests.{eq-eqb, ne-eqb}
 use Rattle.limits.specs.Limits as Limits
 use Rattle.limits.specs.Limits.{nesting}
 use Rattle.compare.specs.declared.replace.Replacing.the-variants.{Formula, Word}
-use Rattle.occurs.specs.Occurs.{occurs, wordAnyRole}
 use Rattle.rows.specs.Rows.{rowsT, tableT, lineOf, premisesOf}
 use Rattle.rows.specs.declared.by.Implications.{Implications}
 use Rattle.frames.specs.Records.{bodies}
 use Rattle.matcher.specs.declared.bind.Bind.{Bind}
 use Rattle.content.specs.declared.acting.Acting.{Acting}
-use Rattle.rulebook.specs.Rulebook.{nothing, isKept, assigned, loaded, stored, byRows, byTable, startValue}
+use Rattle.rulebook.specs.Rulebook.{nothing, isKept, assigned, loaded, stored, byRows, byTable, startValue, newValue}
 use Rattle.conclusions.specs.Conclusion.{conclusionAt}
-use Rattle.sides.specs.Side.{holeOf, numberIn, treeOf, keeps, isWith, storedBy, isStart}
+use Rattle.sides.specs.Fresh.{freshIs}
+use Rattle.sides.specs.Side.{holeOf, numberIn, treeOf, apart, keeps, isWith, storedBy, isStart}
 use Rattle.sides.specs.Asked.{assignedBy, loadedBy, ofInstruction, implicationsOf, ofNames, asked}
 use Rattle.conclusions.specs.declared.conclusion.Conclusion.{Conclusion}
 use Rattle.conclusions.specs.declared.conclusion.Premises.{Premises}
@@ -53,11 +53,16 @@ module _ (s : List ℕ) (side : ℕ) (b : Bind) (a : Acting) (r : Bool) where
         unfolding ofInstruction
         asks-stored p q k e g d = rw (ne-eqb _ _ nk, ne-eqb _ _ na, ne-eqb _ _ nl, eq-eqb _ _ k, ← e, ← g) d
 
-        pub asks-absent : (p : Position) → (side ≡ stored → ⊥) → p ≡ holeOf b 1 → r ≡ occurs (wordAnyRole (a .word)) [] (treeOf s p) → not r ≡ ofInstruction s side b a
-        unfolding ofInstruction
-        asks-absent p ns e d = rw (ne-eqb _ _ nk, ne-eqb _ _ na, ne-eqb _ _ nl, ne-eqb _ _ ns, ← e, d)
+        module _ (p : Position) (ns : side ≡ stored → ⊥) where
+          pub asks-new : side ≡ newValue → p ≡ holeOf b 0 → r ≡ freshIs s (a .operation) (a .register) (a .formula) (treeOf s p) → r ≡ ofInstruction s side b a
+          unfolding ofInstruction
+          asks-new k e d = rw (ne-eqb _ _ nk, ne-eqb _ _ na, ne-eqb _ _ nl, ne-eqb _ _ ns, eq-eqb _ _ k, ← e) d
 
-pub ruleset instructing = (asks-kept, asks-assigned, asks-loaded, asks-stored, asks-absent)
+          pub asks-apart : (side ≡ newValue → ⊥) → p ≡ holeOf b 1 → r ≡ apart (a .operation) (a .word) (a .register) (treeOf s p) → r ≡ ofInstruction s side b a
+          unfolding ofInstruction
+          asks-apart nn e d = rw (ne-eqb _ _ nk, ne-eqb _ _ na, ne-eqb _ _ nl, ne-eqb _ _ ns, ne-eqb _ _ nn, ← e) d
+
+pub ruleset instructing = (asks-kept, asks-assigned, asks-loaded, asks-stored, asks-new, asks-apart)
 
 pub implications-is : (c d e f g : Conclusion) (p : Premises) → d ≡ conclusionAt p 0 → e ≡ conclusionAt p 1 → f ≡ conclusionAt p 2 → g ≡ conclusionAt p 3
     → record { count = p .count + 1; left = c .left ∷ d .left ∷ e .left ∷ f .left ∷ g .left ∷ []; right = c .right ∷ d .right ∷ e .right ∷ f .right ∷ g .right ∷ [] } ≡ implicationsOf c p

@@ -12,8 +12,10 @@ use Rattle.logic.specs.Base.{all}
 use Rattle.logic.specs.Code
 use Rattle.logic.specs.Code.{byte}
 use Rattle.logic.specs.Opcode
-use Rattle.logic.specs.Rule.{Rule, r1, r2, r3, r4, r5, r6, r7, r8, r9, r10, r11, r12, r13, r14, r15, r16, r20, r21, r22, r23, r24, r25, r26, r27, r30, r31, r32, r33, r34, r35, r36, r37, r38, r39, r40, r41, r42, r43, r44, r45, r46}
+use Rattle.logic.specs.Rule.{Rule, r1, r2, r3, r4, r5, r6, r7, r8, r9, r10, r11, r12, r13, r14, r15, r16, r20, r21, r22, r23, r24, r25, r26, r27, r30, r31, r32, r33, r34, r35, r36, r37, r38, r39, r40, r41, r42, r43, r44, r45, r46, r47, r48, r49}
+use Rattle.patterns.specs.Rules
 use Rattle.patterns.specs.Rules.{row}
+use Rattle.patterns.specs.Fits.{isAmong}
 use Rattle.logic.proofs.Base.{bool-ext}
 use Rattle.limits.specs.Limits as Limits
 use Rattle.limits.specs.Limits.{nesting}
@@ -30,12 +32,13 @@ use Rattle.program.specs.Header.{startValues}
 use Rattle.matcher.specs.Places.{takenOf}
 use Rattle.matcher.specs.declared.bind.Bind.{Bind}
 use Rattle.certificate.specs.FitT as FitT
-use Rattle.certificate.specs.FitT.{TreeConclusion, formOf, holesFrom, orElse, keepsT, sideT, operationT}
+use Rattle.certificate.specs.FitT.{TreeConclusion, formOf, holesFrom, orElse, apartT, keepsT, freshT, sideT, operationT}
 use Rattle.content.specs.Trees.{actingAt}
 use Rattle.content.specs.declared.acting.Acting.{Acting}
 use Rattle.rulebook.specs.Listed.{sideNumber}
 use Rattle.conclusions.specs.Conclusion.{concludedAt, conclusionsFrom}
-use Rattle.sides.specs.Side.{holeOf, numberIn, treeOf, keeps, isWith, storedBy, isStart}
+use Rattle.sides.specs.Fresh.{formulaIs, sumIs, freshIs}
+use Rattle.sides.specs.Side.{holeOf, numberIn, treeOf, apart, keeps, isWith, storedBy, isStart}
 use Rattle.sides.specs.Asked.{assignedBy, loadedBy, ofInstruction, implicationsOf, ofNames, asked}
 use Rattle.conclusions.specs.declared.conclusion.Conclusion.{Conclusion}
 use Rattle.conclusions.specs.declared.conclusion.Premises.{Premises}
@@ -51,22 +54,63 @@ and-one false = refl
 same-sym : (u v : Tree) → sameTree u v ≡ sameTree v u
 same-sym u v = bool-ext (sameTree u v) (sameTree v u) (λ h. subst (λ w. T (sameTree w u)) (tree-eq u v h) (tree-refl u)) (λ h. subst (λ w. T (sameTree w v)) (tree-eq v u h) (tree-refl v))
 
-keeps-is : (R : ℕ) (init : ℕ → ℕ) (op x r : ℕ) (u v : Tree) (ns : List NoteT) → keepsT R init (record { operation = op; word = x; register = r; formula = v; notes = ns }) u ≡ keeps op x r u
+plain : (o : Bool) → not o && true ≡ cond o false true
+plain true = refl
+plain false = refl
+
+result : (o q : Bool) → not o && not q ≡ cond o false (not q)
+result true q = refl
+result false q = refl
+
+abbrev acts : ℕ → ℕ → ℕ → Tree → List NoteT → FitT.Acting
+acts op x r v ns = record { operation = op; word = x; register = r; formula = v; notes = ns }
+
+-- operations that are not there return nothing and are no writes
+past-returning : (n : ℕ) → 9 ≤ n → isAmong n Rules.returning ≡ false
+past-returning n h = rw (ne-eqb n 7 (λ e. omega arith), ne-eqb n 8 (λ e. omega arith))
+
+past-writes : (n : ℕ) → 9 ≤ n → isAmong n Rules.writes ≡ false
+past-writes n h = rw (ne-eqb n 3 (λ e. omega arith), ne-eqb n 4 (λ e. omega arith), ne-eqb n 5 (λ e. omega arith), ne-eqb n 7 (λ e. omega arith), ne-eqb n 8 (λ e. omega arith))
+
+past-loads : (n : ℕ) → 9 ≤ n → isAmong n Rules.loads ≡ false
+past-loads n h = rw (ne-eqb n 1 (λ e. omega arith), ne-eqb n 2 (λ e. omega arith))
+
+apart-is : (R : ℕ) (init : ℕ → ℕ) (op x r : ℕ) (u v : Tree) (ns : List NoteT) → apartT R init (acts op x r v ns) u ≡ apart op x r u
+unfolding apart
+apart-is R init zero x r u v ns = plain (occurs (wordAnyRole x) [] u)
+apart-is R init (suc zero) x r u v ns = plain (occurs (wordAnyRole x) [] u)
+apart-is R init (suc (suc zero)) x r u v ns = plain (occurs (wordAnyRole x) [] u)
+apart-is R init (suc (suc (suc zero))) x r u v ns = plain (occurs (wordAnyRole x) [] u)
+apart-is R init (suc (suc (suc (suc zero)))) x r u v ns = plain (occurs (wordAnyRole x) [] u)
+apart-is R init (suc (suc (suc (suc (suc zero))))) x r u v ns = plain (occurs (wordAnyRole x) [] u)
+apart-is R init (suc (suc (suc (suc (suc (suc zero)))))) x r u v ns = plain (occurs (wordAnyRole x) [] u)
+apart-is R init (suc (suc (suc (suc (suc (suc (suc zero))))))) x r u v ns = result (occurs (wordAnyRole x) [] u) (occurs (register r) [] u)
+apart-is R init (suc (suc (suc (suc (suc (suc (suc (suc zero)))))))) x r u v ns = result (occurs (wordAnyRole x) [] u) (occurs (register r) [] u)
+apart-is R init (suc (suc (suc (suc (suc (suc (suc (suc (suc op))))))))) x r u v ns =
+    let n : ℕ = (suc (suc (suc (suc (suc (suc (suc (suc (suc op))))))))) in
+    ap (λ (b : Bool). not (occurs (wordAnyRole x) [] u) && (not b || not (occurs (register r) [] u))) (past-returning n (omega arith))
+    ∙ plain (occurs (wordAnyRole x) [] u)
+    ∙ sym (rw (lt-leb n 6 (omega arith), lt-leb n 8 (omega arith)))
+
+keeps-is : (R : ℕ) (init : ℕ → ℕ) (op x r : ℕ) (u v : Tree) (ns : List NoteT) → keepsT R init (acts op x r v ns) u ≡ keeps op x r u
 unfolding keeps
 keeps-is R init zero x r u v ns = refl
 keeps-is R init (suc zero) x r u v ns = refl
 keeps-is R init (suc (suc zero)) x r u v ns = refl
-keeps-is R init (suc (suc (suc zero))) x r u v ns = refl
-keeps-is R init (suc (suc (suc (suc zero)))) x r u v ns = refl
-keeps-is R init (suc (suc (suc (suc (suc zero))))) x r u v ns = refl
-keeps-is R init (suc (suc (suc (suc (suc (suc op)))))) x r u v ns =
-    let n : ℕ = suc (suc (suc (suc (suc (suc op))))) in
-    go (eqb n 1) (eqb n 2) (eqb n 3) (eqb n 4) (eqb n 5) (ne-eqb n 1 (λ e. omega arith)) (ne-eqb n 2 (λ e. omega arith)) (ne-eqb n 3 (λ e. omega arith)) (ne-eqb n 4 (λ e. omega arith)) (ne-eqb n 5 (λ e. omega arith))
-    ∙ sym (rw (le-ltb n 1 (omega arith), lt-leb n 2 (omega arith), lt-leb n 5 (omega arith)))
+keeps-is R init (suc (suc (suc zero))) x r u v ns = apart-is R init 3 x r u v ns
+keeps-is R init (suc (suc (suc (suc zero)))) x r u v ns = apart-is R init 4 x r u v ns
+keeps-is R init (suc (suc (suc (suc (suc zero))))) x r u v ns = apart-is R init 5 x r u v ns
+keeps-is R init (suc (suc (suc (suc (suc (suc zero)))))) x r u v ns = refl
+keeps-is R init (suc (suc (suc (suc (suc (suc (suc zero))))))) x r u v ns = apart-is R init 7 x r u v ns
+keeps-is R init (suc (suc (suc (suc (suc (suc (suc (suc zero)))))))) x r u v ns = apart-is R init 8 x r u v ns
+keeps-is R init (suc (suc (suc (suc (suc (suc (suc (suc (suc op))))))))) x r u v ns =
+    let n : ℕ = (suc (suc (suc (suc (suc (suc (suc (suc (suc op))))))))) in
+    rest (isAmong n Rules.loads) (isAmong n Rules.writes) (past-loads n (omega arith)) (past-writes n (omega arith))
+    ∙ sym (rw (le-ltb n 1 (omega arith), lt-leb n 2 (omega arith), ne-eqb n 6 (λ e. omega arith), lt-leb n 8 (omega arith)))
   where
-    go : (h i j k l : Bool) → h ≡ false → i ≡ false → j ≡ false → k ≡ false → l ≡ false
-        → elim (h || (i || false)) as (λ x. Bool) [ true ↦ not (occurs (register r) [] u) | false ↦ elim (j || (k || (l || false))) as (λ x. Bool) [ true ↦ not (occurs (wordAnyRole x) [] u) | false ↦ false ] ] ≡ false
-    go h i j k l a b c d e = rw (a, b, c, d, e)
+    rest : (a b : Bool) → a ≡ false → b ≡ false
+        → elim a as (λ y. Bool) [ true ↦ not (occurs (register r) [] u) | false ↦ elim b as (λ y. Bool) [ true ↦ apartT R init (acts (suc (suc (suc (suc (suc (suc (suc (suc (suc op))))))))) x r v ns) u | false ↦ false ] ] ≡ false
+    rest a b e d = rw (e, d)
 
 module _ (s : List ℕ) (b : Bind) where
   -- what stands in a hole; where nothing was taken, no tree and 0
@@ -133,7 +177,20 @@ module _ (s : List ℕ) (b : Bind) (a : Acting) (c : Conclusion) (p : Premises) 
 
   absent-is : holds r8 ≡ asked s (sideNumber (row r8 .sides)) b a c p
   unfolding asked ofInstruction
-  absent-is = and-one _ ∙ ap (λ (u : Tree). not (occurs (wordAnyRole (a .word)) [] u)) (hole-tree s b 1)
+  absent-is =
+      and-one _ ∙ apart-is Limits.values (startOf s) (a .operation) (a .word) (a .register) (holesFrom (takenOf s b) .tree 1) (actingAt s a .formula) (actingAt s a .notes)
+      ∙ ap (apart (a .operation) (a .word) (a .register)) (hole-tree s b 1)
+
+  new-is : holds r48 ≡ asked s (sideNumber (row r48 .sides)) b a c p
+  unfolding asked ofInstruction freshIs sumIs formulaIs
+  new-is =
+      and-one _ ∙ ap (λ (u : Tree). sameTree u (freshT Limits.values (startOf s) (actingAt s a))) (hole-tree s b 0)
+      ∙ same-sym (treeOf s (holeOf b 0)) (freshT Limits.values (startOf s) (actingAt s a)) ∙ go (eqb (a .operation) Opcode.fetchAdd)
+    where
+      go : (x : Bool) → sameTree (elim x as (λ y. Tree) [ true ↦ node (byte Code.sum) 0 (node (byte Code.reg) (a .register) Tree.none Tree.none) (parseTree s nesting (a .formula) .tree) | false ↦ parseTree s nesting (a .formula) .tree ]) (treeOf s (holeOf b 0))
+          ≡ cond x (sameTree (node (byte Code.sum) 0 (node (byte Code.reg) (a .register) Tree.none Tree.none) (parseTree s nesting (a .formula) .tree)) (treeOf s (holeOf b 0))) (sameTree (parseTree s nesting (a .formula) .tree) (treeOf s (holeOf b 0)))
+      go true = refl
+      go false = refl
 
   stored-is : holds r9 ≡ asked s (sideNumber (row r9 .sides)) b a c p
   unfolding asked ofInstruction storedBy isWith
@@ -208,3 +265,6 @@ module _ (s : List ℕ) (b : Bind) (a : Acting) (c : Conclusion) (p : Premises) 
   sides-are r44 e = none-asked
   sides-are r45 e = none-asked
   sides-are r46 e = none-asked
+  sides-are r47 e = loaded-is
+  sides-are r48 e = new-is
+  sides-are r49 e = new-is

@@ -1,5 +1,5 @@
 -- What a rule asks besides its templates, by the number in its row; which holes it speaks of.
-use mathlib.Core.Bool.{Bool, true, false, not, cond}
+use mathlib.Core.Bool.{Bool, true, false, cond}
 use mathlib.Core.List.{List, [], _∷_}
 use Prim.Native.Nat.{ℕ, _+_}
 use lib.Dec.{eqb}
@@ -7,15 +7,15 @@ use lib.ListN.{getD}
 use Rattle.limits.specs.Limits as Limits
 use Rattle.limits.specs.Limits.{nesting}
 use Rattle.compare.specs.declared.replace.Replacing.the-variants.{Formula, Word}
-use Rattle.occurs.specs.Occurs.{occurs, wordAnyRole}
 use Rattle.rows.specs.Rows.{rowsT, tableT, lineOf, premisesOf}
 use Rattle.rows.specs.declared.by.Implications.{Implications}
 use Rattle.frames.specs.Records.{bodies}
 use Rattle.matcher.specs.declared.bind.Bind.{Bind}
 use Rattle.content.specs.declared.acting.Acting.{Acting}
-use Rattle.rulebook.specs.Rulebook.{nothing, isKept, assigned, loaded, stored, byRows, byTable, startValue}
+use Rattle.rulebook.specs.Rulebook.{nothing, isKept, assigned, loaded, stored, byRows, byTable, startValue, newValue}
 use Rattle.conclusions.specs.Conclusion.{conclusionAt}
-use Rattle.sides.specs.Side.{holeOf, numberIn, treeOf, keeps, isWith, storedBy, isStart}
+use Rattle.sides.specs.Fresh.{freshIs}
+use Rattle.sides.specs.Side.{holeOf, numberIn, treeOf, apart, keeps, isWith, storedBy, isStart}
 use Rattle.conclusions.specs.declared.conclusion.Conclusion.{Conclusion}
 use Rattle.conclusions.specs.declared.conclusion.Premises.{Premises}
 
@@ -27,14 +27,15 @@ assignedBy s b a = isWith s (record { word = false; number = a .register; by = F
 unfoldable pub loadedBy : List ℕ → Bind → Acting → Bool
 loadedBy s b a = isWith s (record { word = false; number = a .register; by = Word (a .word) }) (treeOf s (holeOf b 3)) (treeOf s (holeOf b 2))
 
--- of the instruction; the last one left is that its word is absent
+-- of the instruction; the last one left is that its word is absent, and its result register
 unfoldable pub ofInstruction : List ℕ → ℕ → Bind → Acting → Bool
 ofInstruction s side b a =
     cond (eqb side isKept) (keeps (a .operation) (a .word) (a .register) (treeOf s (holeOf b 0)))
     (cond (eqb side assigned) (assignedBy s b a)
     (cond (eqb side loaded) (loadedBy s b a)
     (cond (eqb side stored) (storedBy s (a .word) (a .formula) (treeOf s (holeOf b 3)) (treeOf s (holeOf b 2)))
-    (not (occurs (wordAnyRole (a .word)) [] (treeOf s (holeOf b 1)))))))
+    (cond (eqb side newValue) (freshIs s (a .operation) (a .register) (a .formula) (treeOf s (holeOf b 0)))
+    (apart (a .operation) (a .word) (a .register) (treeOf s (holeOf b 1)))))))
 
 -- a line and its premises, as implications
 unfoldable pub implicationsOf : Conclusion → Premises → Implications

@@ -3,7 +3,7 @@ use mathlib.Core.Bool.{Bool, true, false, not, cond}
 use mathlib.Core.List.{List, []}
 use Prim.Native.Nat.{ℕ, _-_}
 use lib.ListN.{getD}
-use lib.Dec.{ltb, leb}
+use lib.Dec.{eqb, ltb, leb}
 use Rattle.logic.specs.Code
 use Rattle.logic.specs.Code.{byte}
 use Rattle.logic.specs.Opcode
@@ -29,12 +29,20 @@ numberIn b j = getD (b .num) j 0 - 1
 abbrev pub treeOf : List ℕ → Position → Tree
 treeOf s p = parseTree s (p .left) (p .at) .tree
 
--- a load keeps what has not its register; a store or a swap what has not its word
+-- the word in no role, nor the result register of an exchange or a fetch-add
+unfoldable pub apart : ℕ → ℕ → ℕ → Tree → Bool
+apart op x r u =
+    cond (occurs (wordAnyRole x) [] u) false
+    (cond (leb op Opcode.branch) true
+    (cond (leb op Opcode.fetchAdd) (not (occurs (register r) [] u)) true))
+
+-- a load keeps what has not its register; a write what is apart from it
 unfoldable pub keeps : ℕ → ℕ → ℕ → Tree → Bool
 keeps op x r u =
     cond (ltb op Opcode.load) false
     (cond (leb op Opcode.acquire) (not (occurs (register r) [] u))
-    (cond (leb op Opcode.swap) (not (occurs (wordAnyRole x) [] u)) false))
+    (cond (eqb op Opcode.branch) false
+    (cond (leb op Opcode.fetchAdd) (apart op x r u) false)))
 
 -- u is v with a name replaced
 unfoldable pub isWith : List ℕ → Substitution → Tree → Tree → Bool

@@ -1,5 +1,7 @@
 // What a rule asks besides its templates, by the number in its row.
+use crate::fresh::is_fresh;
 use crate::side::hole_of;
+use crate::side::is_apart;
 use crate::side::is_kept;
 use crate::side::is_start;
 use crate::side::is_stored;
@@ -14,7 +16,6 @@ use content::acting::Acting;
 use frames::index::body_of;
 use limits::Limits;
 use matcher::bind::Bind;
-use occurs::has::has_word;
 use rows::by::Implications;
 use rows::by::by_rows;
 use rows::by::by_table;
@@ -47,7 +48,7 @@ fn is_loaded(s: &[u8], b: Bind, a: Acting) -> bool
     is_with(s, hole_of(b, 3), hole_of(b, 2), w)
 }
 
-// Of the instruction; the last one left is that its word is absent.
+// Of the instruction; the last one left is that its word is absent, and its result register.
 fn of_instruction(s: &[u8], side: u8, b: Bind, a: Acting) -> bool
     ensures { λ r. ⌜ r ≡ ofInstruction (now (s .entry)) side b a ⌝ }
 {
@@ -63,8 +64,10 @@ fn of_instruction(s: &[u8], side: u8, b: Bind, a: Acting) -> bool
     if side == Side::STORED {
         return is_stored(s, hole_of(b, 3), hole_of(b, 2), a.word, a.formula);
     }
-    let p = hole_of(b, 1);
-    !has_word(s, p.at, p.left, a.word)
+    if side == Side::NEW_VALUE {
+        return is_fresh(s, a.operation, a.register, a.formula, hole_of(b, 0));
+    }
+    is_apart(s, a.operation, a.word, a.register, hole_of(b, 1))
 }
 
 // A line and its premises, as implications.

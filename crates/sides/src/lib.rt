@@ -1,3 +1,4 @@
 // What a rule asks besides its templates.
 pub mod asked;
+pub mod fresh;
 pub mod side;

@@ -14,7 +14,7 @@ use program::header::start_value;
 use program::instruction::Instruction;
 ghost use mathlib.Core.Path.{_≡_};
 ghost use Prim.Native.Nat.{_<_};
-ghost use Rattle.sides.specs.Side.{holeOf, numberIn, treeOf, keeps, isWith, storedBy, isStart};
+ghost use Rattle.sides.specs.Side.{holeOf, numberIn, treeOf, apart, keeps, isWith, storedBy, isStart};
 
 // Where a formula stands, with the nesting that is left there.
 pub struct Position {
@@ -32,7 +32,23 @@ pub fn hole_of(b: Bind, j: usize) -> Position
     }
 }
 
-// A load keeps what has not its register; a store or a swap what has not its word.
+// The word is in no role in it, nor the result register of an exchange or a fetch-add.
+pub fn is_apart(s: &[u8], operation: u8, word: u8, register: u8, p: Position) -> bool
+    ensures { λ r. ⌜ r ≡ apart operation word register (treeOf (now (s .entry)) p) ⌝ }
+{
+    if has_word(s, p.at, p.left, word) {
+        return false;
+    }
+    if operation <= Instruction::BRANCH {
+        return true;
+    }
+    if operation <= Instruction::FETCH_ADD {
+        return !has_register(s, p.at, p.left, register);
+    }
+    true
+}
+
+// A load keeps what has not its register; a write what is apart from it.
 pub fn is_kept(s: &[u8], operation: u8, word: u8, register: u8, p: Position) -> bool
     ensures { λ r. ⌜ r ≡ keeps operation word register (treeOf (now (s .entry)) p) ⌝ }
 {
@@ -42,8 +58,11 @@ pub fn is_kept(s: &[u8], operation: u8, word: u8, register: u8, p: Position) -> 
     if operation <= Instruction::ACQUIRE {
         return !has_register(s, p.at, p.left, register);
     }
-    if operation <= Instruction::SWAP {
-        return !has_word(s, p.at, p.left, word);
+    if operation == Instruction::BRANCH {
+        return false;
+    }
+    if operation <= Instruction::FETCH_ADD {
+        return is_apart(s, operation, word, register, p);
     }
     false
 }

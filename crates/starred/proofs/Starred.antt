@@ -14,7 +14,7 @@ use Rattle.image.specs.Decode.{recordCount, sizesOf, firstFault, decoded}
 use Rattle.image.specs.Body.{placeOf, check}
 use Rattle.bodies.specs.Formula as Formulas
 use Rattle.bodies.specs.Formula.{countsOf, read}
-use Rattle.bodies.specs.Thread.{thread}
+use Rattle.bodies.specs.Thread.{threadRegisters, thread}
 use Rattle.bodies.specs.Lists.{outlinedAt, outline, obligations}
 use Rattle.bodies.specs.Line.{sortAt, sortedBy, lineSorted, line}
 use Rattle.bodies.specs.Use as Use
@@ -47,5 +47,5 @@ use Rattle.checker.specs.Answer.{verdict}
 use Rattle.starred.specs.Table.{holds, table}
 
 pub starred : T (all holds table)
-unfolding verdict codeFor bytesFor fieldsOf gathered Place.placeOf recordBytes codeOf Formulas.formula Formulas.faultOf Header.counted Line.numbered Thread.cut Thread.numbered Use.outlined admit also bodies body branches check choose code countsOf cut decode decoded distinct ended every exactly faultAt firstFault fitsAt formOf formula frame frames has hasOperand headFault headed header headerSize inRange instructions isIn isQueried judge lastPoint line lineBody lineNumbers lineSize lineSorted marked member most namedLine nodeAt nowhere numbers obligationCount obligations occurs operandFault outline outlineNumber outlinedAt owners partCount partPlace placeOf placed pointCount premises read readingOf recordCount ruleOf same same-leaf saying sizesOf parseTree sortAt sortedBy startValues startless tally tallyTo thread threadBody threadNumbers threadSize threadTally unless upd walk wholeImage within word same-name ℕ-discrete
+unfolding verdict codeFor bytesFor fieldsOf gathered Place.placeOf recordBytes codeOf Formulas.formula Formulas.faultOf Header.counted Line.numbered Thread.cut Thread.numbered Use.outlined admit also bodies body branches check choose code countsOf cut decode decoded distinct ended every exactly faultAt firstFault fitsAt formOf formula frame frames has hasOperand headFault headed header headerSize inRange instructions isIn isQueried judge lastPoint line lineBody lineNumbers lineSize lineSorted marked member most namedLine nodeAt nowhere numbers obligationCount obligations occurs operandFault outline outlineNumber outlinedAt owners partCount partPlace placeOf placed pointCount premises read readingOf recordCount ruleOf same same-leaf saying sizesOf parseTree sortAt sortedBy startValues startless tally tallyTo thread threadBody threadNumbers threadRegisters threadSize threadTally unless upd walk wholeImage within word same-name ℕ-discrete
 starred = tt

@@ -66,7 +66,7 @@ fn prove(prover: &mut Prover, wanted: &Statement) -> Option<usize> {
     let (left, right) = wanted.assertions();
     match *wanted {
         Statement::Triple { thread, point, .. } => prover.triple(At { thread, point }, left, right),
-        _ => prover.implied(left, right).or_else(|| prover.tell_implication(left, right)),
+        _ => prover.implication(left, right).or_else(|| prover.tell_implication(left, right)),
     }
 }
 

@@ -57,7 +57,8 @@ fn described(Refusal { code, record }: Refusal) -> String {
         6 => "a number is out of range",
         7 => "the bytes are no formula",
         8 => "a formula does not fit where it is used",
-        _ => "an instruction names another thread's register",
+        9 => "an instruction names another thread's register",
+        _ => "an operand names the register that gets the old value",
     };
     format!("record {record}: {fault} (code {code})")
 }

@@ -2,8 +2,12 @@
 
 use outline::text::{parse_source, show};
 use outline::{build, image};
-use reference::checker::check;
+use reference::checker::{check, decode};
+use reference::explore::{explore, Bounds, Outcome};
 use std::path::PathBuf;
+
+/// True in every reachable state, but beyond the rules.
+const BEYOND: [&str; 2] = ["rrc-two-writers", "ticket-wait"];
 
 /// The sources under `examples`, by name.
 fn sources() -> Vec<(String, String)> {
@@ -69,7 +73,7 @@ fn every_example_is_as_its_header_says() {
 #[test]
 fn wrong_variants_say_where_they_fail() {
     for (name, text) in sources() {
-        let partial = name.contains("-wrong-") || name == "rrc-two-writers";
+        let partial = name.contains("-wrong-") || BEYOND.contains(&name.as_str());
         assert_eq!(partial, foretold(&text).is_some(), "{name}");
     }
 }
@@ -78,5 +82,17 @@ fn wrong_variants_say_where_they_fail() {
 fn the_same_text_gives_the_same_bytes() {
     for (name, text) in sources().into_iter().filter(|(name, _)| !name.starts_with("peterson")) {
         assert_eq!(built(&name, &text).image, built(&name, &text).image, "{name}");
+    }
+}
+
+/// Every assertion is true in the states that a few steps reach, but for the wrong variants: there a run breaks one.
+#[test]
+fn the_machine_agrees() {
+    for (name, text) in sources() {
+        let bytes = built(&name, &text).image.bytes();
+        let Ok(image) = decode(&bytes) else { panic!("{name} is no image") };
+        let found = explore(&image.program, Bounds { steps: 10, writes: 6 });
+        let breaks = matches!(found.outcome, Outcome::Breaks(_));
+        assert_eq!(breaks, name.contains("-wrong-"), "{name}");
     }
 }

@@ -11,6 +11,13 @@ fn mistakes_have_lines_and_words() {
         ("word x = 9\nthread a { true }", 1, "start value 0 to 7"),
         ("word x = 0\nthread a { true }\n x := y\n { true }", 3, "`y` is not declared"),
         ("word x = 0\nthread a { true } x := x { true }", 2, "may not stand in an instruction"),
+        (
+            "word x = 0\nthread a registers r { true } r <- fetch-add x + 1 + r { true }",
+            2,
+            "gets the old value",
+        ),
+        ("word x = 0\nthread a registers r { true } r <-acq exchange x := 1 { true }", 2, "a word"),
+        ("word x = 0\nthread a registers r { true } r <- fetch-add x := 1 { true }", 2, "`+`"),
         ("word x = 0\nthread a { a sees [x = 1 }", 2, "`]` is wanted"),
         (
             "word x = 0\nthread a registers r { true }\nthread b { true } r := 1 { true }",

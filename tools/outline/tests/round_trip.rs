@@ -91,11 +91,13 @@ fn threads(number: &V, test: &T, three: &V) -> Vec<Thread> {
         Instruction::Assign { register: 2, value: number.clone() },
         Instruction::Store { word: 1, value: three.clone(), releasing: true },
         Instruction::Load { register: 2, word: 1, acquiring: false },
+        Instruction::Exchange { register: 2, word: 1, value: three.clone() },
+        Instruction::FetchAdd { register: 2, word: 2, value: number.clone() },
     ];
     vec![first, second]
 }
 
-const OPERANDS: [[u16; 3]; 2] = [[0, 2, 3], [1, 3, 0]];
+const OPERANDS: [&[u16]; 2] = [&[0, 2, 3], &[1, 3, 0, 3, 1]];
 
 /// A line about assertions, which are formulas 4 to 16.
 fn line(dice: &mut Dice, before: usize) -> Line {
@@ -129,15 +131,15 @@ fn random_image(dice: &mut Dice) -> Written {
     let test = equal(&register(1), &constant(1));
     let threads = threads(&number, &test, &three);
     let operands = [Formula::Value(number), Formula::Test(test), Formula::Value(three)];
-    let fields = |(code, operands): (&Thread, [u16; 3])| {
-        code.iter().zip(operands).map(|(instruction, n)| instruction.fields(n)).collect()
+    let fields = |(code, operands): (&Thread, &[u16])| {
+        code.iter().zip(operands).map(|(instruction, n)| instruction.fields(*n)).collect()
     };
     let counts = Counts { threads: 2, words: 2, registers: 3 };
     Written {
         header: Header { counts, start: vec![dice.number(0, 7), 5], owners: vec![1, 2, 1] },
         formulas: formulas(dice, operands).iter().map(Formula::encode).collect(),
         threads: threads.iter().zip(OPERANDS).map(fields).collect(),
-        outline: (0..8).map(|_| 4 + dice.roll(12) as u16).collect(),
+        outline: (0..10).map(|_| 4 + dice.roll(12) as u16).collect(),
         lines: (0..10).map(|before| line(dice, before)).collect(),
         obligations: duties(&threads).iter().map(|_| dice.roll(11) as u16).collect(),
     }

@@ -3,7 +3,8 @@
 use outline::build::build;
 use outline::text::parse_source::parse;
 
-/// Every kind of instruction: a has acquiring load, releasing store, swap, assignment; b relaxed ones.
+/// Every kind of instruction: a has acquiring load, releasing store, swap, assignment; b relaxed ones;
+/// c exchange and fetch-add.
 const PROGRAM: &str = "
 word x = 0
 word y = 5
@@ -13,6 +14,9 @@ thread a
 thread b
   registers q
   { true } q <- x { true } x := 1 { true }
+thread c
+  registers s, p
+  { true } s <- exchange x := p + 1 { true } s <- fetch-add x + p { true }
 proof
 ";
 
@@ -47,6 +51,19 @@ const FITTING: &[&str] = &[
        to { b sees [cov x] ; one x = 2 } by 12",
     "step a 2: { a sees [cov x] ; one x and b sees [cov x] ; one x and a sees [y = 1] }
        to { b sees [cov x] ; [unsync x] ; [y = 1] } by 13",
+    "step c 0: { p = 1 and b sees one y } to { p = 1 and b sees one y } by 1",
+    "step c 1: { c sees [unsync x] ; [y = 1] } to { c sees [y = 1] } by 5",
+    "step c 0: { c sees [cov x] ; [y = 1] } to { c sees [y = 1] } by 10",
+    "step c 1: { c sees [cov x] ; one x and b sees [cov x] ; one x and c sees [y = p] }
+       to { b sees [cov x] ; [unsync x] ; [y = p] } by 13",
+    "step c 0: { c sees [x < p] } to { s < p } by 47",
+    "step c 1: { c sees [x = 1] } to { s = 1 } by 47",
+    "step c 0: { c sees [cov x] ; one x } to { c sees one x = p + 1 } by 48",
+    "step c 1: { c sees [cov x] ; one x } to { c sees one x = s + p } by 48",
+    "step c 0: { c sees [cov x] ; one x and b sees [cov x] ; one x }
+       to { b sees [cov x] ; one x = p + 1 } by 49",
+    "step c 1: { c sees [cov x] ; one x and b sees [cov x] ; one x }
+       to { b sees [cov x] ; one x = s + p } by 49",
     "fact { r = 1 or q = 1 } to { q = 1 or r = 1 } by 20",
     "fact { r = 1 or q = 1 } to { q < 2 or r < 2 } by 20",
     "fact { r = 1 } to { r < 2 } by 21",
@@ -108,6 +125,18 @@ const UNFITTING: &[&str] = &[
     "step a 1: { a sees [cov x] ; one x } to { a sees one x = 1 } by 11",
     "step a 2: { b sees [cov x] ; one x and a sees [cov x] ; one x }
        to { b sees [cov x] ; one x = 2 } by 12",
+    "step c 0: { s = 1 } to { s = 1 } by 1",
+    "step c 1: { b sees [y = s] } to { b sees [y = s] } by 1",
+    "step c 0: { b sees one x } to { b sees one x } by 1",
+    "step c 1: { c sees [cov x] ; one x and b sees [cov x] ; one x and c sees [y = s] }
+       to { b sees [cov x] ; [unsync x] ; [y = s] } by 13",
+    "step c 0: { c sees [x = 1] } to { s = 1 } by 3",
+    "step a 0: { a sees [x = 1] } to { r = 1 } by 47",
+    "step c 0: { c sees [cov x] ; one x } to { c sees one x = p + 1 } by 11",
+    "step c 1: { c sees [cov x] ; one x } to { c sees one x = p } by 48",
+    "step c 1: { c sees [cov x] ; one x } to { c sees one x = p + s } by 48",
+    "step a 2: { a sees [cov x] ; one x } to { a sees one x = 2 } by 48",
+    "step c 0: { a sees [x < 2] and a sees [p + 1 < 2] } to { a sees [x < 2] } by 9",
     "fact { r = 1 } to { q < 2 } by 20",
     "fact { a sees one x } to { b sees one x } by 22",
     "fact { r < 2 } to { r = 1 } by 21",
@@ -147,6 +176,66 @@ fn routine_steps_are_found() {
     ];
     for step in steps {
         assert!(fits(step), "{step}");
+    }
+}
+
+#[test]
+fn exchange_and_fetch_add_are_found() {
+    let steps = [
+        // 1, 5 and 10
+        "step c 0: { p = 1 and b sees one y } to { p < 2 and b sees [y = 5] ; one y }",
+        "step c 1: { c sees [cov x] ; [unsync x] ; [y = 1] } to { c sees [y < 2] }",
+        // 47, and behind covered writes
+        "step c 1: { c sees [x < 3] } to { s < 3 or p = 7 }",
+        "step c 0: { c sees [cov x] ; [x = 2] } to { s = 2 }",
+        "step c 0: { c sees [cov x] ; one x = p and p = 4 } to { s = 4 }",
+        // 48
+        "step c 0: { c sees [cov x] ; one x and p = 1 } to { c sees [x = p + 1] and p = 1 }",
+        "step c 0: { c sees [cov x] ; one x and p = 1 } to { c sees one x = 2 }",
+        "step c 1: { c sees [cov x] ; one x = 1 and p = 2 } to { c sees [x = 3] and s = 1 }",
+        // 49
+        "step c 0: { c sees [cov x] ; one x and b sees one x } to { b sees [cov x] ; [x = p + 1] }",
+        "step c 1: { c sees [cov x] ; one x = 1 and b sees [cov x] ; one x and p = 2 }
+           to { s = 1 and b sees [cov x] ; one x = 3 }",
+        // 13
+        "step c 1: { c sees [cov x] ; one x and b sees [cov x] ; one x and c sees [y = p] }
+           to { b sees [cov x] ; [unsync x] ; [y = p] }",
+    ];
+    for step in steps {
+        assert!(fits(step), "{step}");
+    }
+}
+
+#[test]
+fn the_wider_search_joins_registers_and_views() {
+    let steps = [
+        "fact { a sees one x & [q = 1] and b sees [q = 2] } to { false }",
+        "step b 1: { b sees one x and q = 1 } to { b sees one x = q }",
+        "step a 2: { a sees [cov x] ; one x and b sees one x and q = 2 } to { b sees [cov x] ; one x = q }",
+        "step c 0: { c sees [cov x] ; one x = p } to { p = 1 and s = 1 or p != 1 and s != 1 }",
+    ];
+    for step in steps {
+        assert!(fits(step), "{step}");
+    }
+}
+
+#[test]
+fn what_exchange_and_fetch_add_do_not_do_is_not_found() {
+    let steps = [
+        "step c 0: { s = 1 } to { s = 1 }",
+        "step c 0: { b sees [x = 1] } to { s = 1 }",
+        "step c 0: { c sees [cov x] ; [x = 1] and p = 1 } to { s = 2 }",
+        "step c 0: { c sees [x = 2] ; [x = 1] } to { s = 1 }",
+        "step c 1: { c sees [cov x] ; one x = 1 and p = 2 } to { c sees [x = 2] }",
+        "step c 1: { c sees [cov x] ; one x = 1 and p = 2 } to { b sees [cov x] ; one x = 3 }",
+        "step c 1: { c sees one x and b sees [x < 2] } to { b sees [x < 2] }",
+        "step c 1: { c sees [cov x] ; one x and b sees [cov x] ; one x and c sees [y = s] }
+           to { b sees [cov x] ; [unsync x] ; [y = s] }",
+        "fact { a sees [x = 1] and b sees [x = 2] } to { false }",
+        "step c 0: { c sees [cov x] ; one x = p } to { p = 1 and s = 1 or p != 1 and s = 1 }",
+    ];
+    for step in steps {
+        assert!(!fits(step), "{step}");
     }
 }
 

@@ -1,7 +1,7 @@
 //! Images that are not made from a seed.
 
+use reference::stored::stored_images;
 use sets::examples::{message_passing, two_writes};
-use sets::vectors::recheck::stored_images;
 use sets::vectors::{formulas, images, rules, Case};
 use std::path::{Path, PathBuf};
 

@@ -1,7 +1,7 @@
 //! The independent checker: from bytes to a verdict, on trees.
 //!
 //! The places of the verdict table follow each other as modules do here:
-//! [`frames`] (codes 2 to 4), [`body`] (5 to 9), [`obligations`] (20 to 22).
+//! [`frames`] (codes 2 to 4), [`body`] (5 to 9, and 23), [`obligations`] (20 to 22).
 
 pub mod body;
 pub mod frames;

@@ -44,6 +44,17 @@ fn describe_step(program: &Program, state: &State, step: Step) -> String {
         Instruction::Swap { word, .. } => {
             format!("{place}: swap w{word} := {} covers {}", written(*word), step.position)
         }
+        Instruction::Exchange { register, word, .. }
+        | Instruction::FetchAdd { register, word, .. } => {
+            let kind = match instruction {
+                Instruction::Exchange { .. } => "exchange",
+                _ => "fetch-add",
+            };
+            let read = state.row(*word)[step.position].value;
+            let new = written(*word);
+            let covered = format!("covers {}", step.position);
+            format!("{place}: {kind} w{word} := {new} {covered}, r{register} := {read}")
+        }
         Instruction::Branch { test, .. } => {
             let next = after.points[usize::from(step.thread) - 1];
             format!("{place}: branch on {test} goes to point {next}")

@@ -20,11 +20,40 @@ pub struct Header {
 /// One instruction with its operands.
 #[derive(Clone, Debug, PartialEq, Eq)]
 pub enum Instruction {
-    Assign { register: u8, value: Rc<Value> },
-    Load { register: u8, word: u8, acquiring: bool },
-    Store { word: u8, value: Rc<Value>, releasing: bool },
-    Swap { word: u8, value: Rc<Value> },
-    Branch { test: Rc<Test>, target: u8 },
+    Assign {
+        register: u8,
+        value: Rc<Value>,
+    },
+    Load {
+        register: u8,
+        word: u8,
+        acquiring: bool,
+    },
+    Store {
+        word: u8,
+        value: Rc<Value>,
+        releasing: bool,
+    },
+    Swap {
+        word: u8,
+        value: Rc<Value>,
+    },
+    /// A swap that keeps the old value in the register.
+    Exchange {
+        register: u8,
+        word: u8,
+        value: Rc<Value>,
+    },
+    /// The same, of the old value plus this one.
+    FetchAdd {
+        register: u8,
+        word: u8,
+        value: Rc<Value>,
+    },
+    Branch {
+        test: Rc<Test>,
+        target: u8,
+    },
 }
 
 impl Instruction {
@@ -32,13 +61,28 @@ impl Instruction {
         matches!(self, Instruction::Branch { .. })
     }
 
+    /// The shared word that is read or written, if there is one.
+    pub fn word(&self) -> Option<u8> {
+        match self {
+            Instruction::Load { word, .. }
+            | Instruction::Store { word, .. }
+            | Instruction::Swap { word, .. }
+            | Instruction::Exchange { word, .. }
+            | Instruction::FetchAdd { word, .. } => Some(*word),
+            Instruction::Assign { .. } | Instruction::Branch { .. } => None,
+        }
+    }
+
     /// The register that is set, if there is one.
     pub fn result(&self) -> Option<u8> {
         match self {
-            Instruction::Assign { register, .. } | Instruction::Load { register, .. } => {
-                Some(*register)
+            Instruction::Assign { register, .. }
+            | Instruction::Load { register, .. }
+            | Instruction::Exchange { register, .. }
+            | Instruction::FetchAdd { register, .. } => Some(*register),
+            Instruction::Store { .. } | Instruction::Swap { .. } | Instruction::Branch { .. } => {
+                None
             }
-            _ => None,
         }
     }
 
@@ -47,7 +91,9 @@ impl Instruction {
         match self {
             Instruction::Assign { value, .. }
             | Instruction::Store { value, .. }
-            | Instruction::Swap { value, .. } => Some(Formula::Value(value.clone())),
+            | Instruction::Swap { value, .. }
+            | Instruction::Exchange { value, .. }
+            | Instruction::FetchAdd { value, .. } => Some(Formula::Value(value.clone())),
             Instruction::Load { .. } => None,
             Instruction::Branch { test, .. } => Some(Formula::Test(test.clone())),
         }
@@ -63,6 +109,8 @@ impl Instruction {
             Instruction::Store { word, releasing, .. } => (3 + u8::from(*releasing), *word, 0),
             Instruction::Swap { word, .. } => (5, *word, 0),
             Instruction::Branch { target, .. } => (6, *target, 0),
+            Instruction::Exchange { register, word, .. } => (7, *word, *register),
+            Instruction::FetchAdd { register, word, .. } => (8, *word, *register),
         };
         written::Instruction { operation, a, b, formula }
     }

@@ -1,7 +1,7 @@
 //! One step of the machine.
 
 use super::state::{State, View, Write};
-use crate::formula::Value;
+use crate::formula::{Value, RANGE};
 use crate::image::{Instruction, Thread};
 
 /// A thread number and a position in the row of the instruction's word;
@@ -27,8 +27,15 @@ pub fn take(threads: &[Thread], state: &State, step: Step) -> Option<State> {
             write(state, step, *word, new, Kind { releasing: *releasing, swap: false })?
         }
         Instruction::Swap { word, value } => {
+            write(state, step, *word, evaluated(value, state), Kind::SWAP)?
+        }
+        Instruction::Exchange { register, word, value } => {
             let new = evaluated(value, state);
-            write(state, step, *word, new, Kind { releasing: true, swap: true })?
+            fetch(state, step, *register, *word, |_| new)?
+        }
+        Instruction::FetchAdd { register, word, value } => {
+            let more = evaluated(value, state);
+            fetch(state, step, *register, *word, |old| (old + more) % RANGE)?
         }
         Instruction::Branch { test, target } => {
             let taken = test.evaluate(&state.seen_at(View::default()));
@@ -77,6 +84,25 @@ fn load(state: &State, step: Step, register: u8, word: u8, acquiring: bool) -> O
 struct Kind {
     releasing: bool,
     swap: bool,
+}
+
+impl Kind {
+    const SWAP: Kind = Kind { releasing: true, swap: true };
+}
+
+/// A swap by what `new` makes of the old value, which goes to the register.
+fn fetch(
+    state: &State,
+    step: Step,
+    register: u8,
+    word: u8,
+    new: impl Fn(u8) -> u8,
+) -> Option<State> {
+    let picked = reached(state, step, word)?;
+    let old = state.row(word)[usize::from(picked)].value;
+    let mut next = write(state, step, word, new(old), Kind::SWAP)?;
+    next.registers[usize::from(register) - 1] = old;
+    Some(next)
 }
 
 fn write(state: &State, step: Step, word: u8, value: u8, kind: Kind) -> Option<State> {

@@ -91,6 +91,52 @@ fn a_swap_covers_its_pick_and_joins() {
     assert!(refused(&threads, &before, 3, 0));
 }
 
+fn exchange(word: u8, value: u8) -> Instruction {
+    Instruction::Exchange { register: 1, word, value: Rc::new(Value::Constant(value)) }
+}
+
+fn fetch_add(word: u8, value: u8) -> Instruction {
+    Instruction::FetchAdd { register: 1, word, value: Rc::new(Value::Constant(value)) }
+}
+
+#[test]
+fn exchange_and_fetch_add_are_swaps_that_keep_the_old_value() {
+    let writer = vec![store(2, 4, false), store(1, 6, true)];
+    let steps = [(1, 0), (1, 0), (2, 1)];
+    let swapped = run(&[writer.clone(), vec![swap(1, 2)]], &steps);
+    for (action, new) in [(exchange(1, 2), 2), (fetch_add(1, 3), 1)] {
+        let threads = [writer.clone(), vec![action.clone(), action]];
+        let state = run(&threads, &steps);
+        assert_eq!(state.registers, [6]); // the old value, not the new one
+        assert_eq!(values(&state, 1), [3, 6, new]);
+        let mut expected = swapped.clone();
+        expected.rows[0][2].value = new;
+        expected.registers = vec![6];
+        assert_eq!(state, expected);
+        assert!(refused(&threads, &steps, 2, 1)); // covered
+        assert!(refused(&threads, &steps, 2, 3)); // no such write
+        assert!(!refused(&threads, &steps, 2, 2));
+    }
+}
+
+#[test]
+fn an_operand_is_worked_out_before_the_step() {
+    let sum = Value::sum(Value::Register(2), Value::Constant(1));
+    let threads = [vec![
+        Instruction::Assign { register: 2, value: Rc::new(Value::Constant(2)) },
+        Instruction::Exchange { register: 1, word: 1, value: Rc::new(sum.clone()) },
+        Instruction::FetchAdd { register: 2, word: 1, value: Rc::new(Value::Register(1)) },
+    ]];
+    let counts = Counts { threads: 1, words: 2, registers: 2 };
+    let start = State::start(&Header { counts, start: vec![3, 0], owners: vec![1, 1] });
+    let step = |state: State, position| {
+        take(&threads, &state, Step { thread: 1, position }).expect("an allowed step")
+    };
+    let state = step(step(step(start, 0), 0), 1);
+    assert_eq!(values(&state, 1), [3, 3, 6]);
+    assert_eq!(state.registers, [3, 3]);
+}
+
 #[test]
 fn a_branch_goes_by_its_test() {
     let test = |value| Rc::new(Test::equal(Value::Register(1), Value::Constant(value)));

@@ -1,10 +1,11 @@
 //! One image per seed.
 
-use super::instances::{self, Setting};
+use super::instances::{self, Setting, ACTIONS};
 use super::random::Random;
 use super::{damage, harness, mutate, programs};
 use crate::examples::message_passing;
 use reference::assemble::Plan;
+use reference::checker::rules::rules;
 use reference::formula::parse::Counts;
 use reference::formula::{Assertion, Interval, Test, Value};
 use reference::image::{Header, Instruction, Statement, Thread};
@@ -62,9 +63,7 @@ fn rule_plan(random: &mut Random) -> Plan {
 }
 
 fn any_rule(random: &mut Random) -> u8 {
-    let rules: Vec<u8> =
-        instances::TRIPLES.chain(instances::IMPLICATIONS).chain(instances::INCLUSIONS).collect();
-    *random.pick(&rules)
+    *random.pick(&rules().collect::<Vec<u8>>())
 }
 
 /// A program with a place for the rule: an instruction of a fitting operation.
@@ -128,8 +127,7 @@ fn spare(random: &mut Random, header: &Header, threads: &[Thread], place: (u8, u
 fn change_action(random: &mut Random, header: &Header, threads: &mut [Thread], place: (u8, u8)) {
     let code = &mut threads[usize::from(place.0) - 1];
     let points = code.len() as u8 + 1;
-    let operations = [0, 1, 2, 3, 4, 5];
-    if let Some(action) = programs::instruction(random, header, place.0, points, &operations) {
+    if let Some(action) = programs::instruction(random, header, place.0, points, &ACTIONS) {
         code[usize::from(place.1)] = action;
     }
 }

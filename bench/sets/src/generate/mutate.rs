@@ -1,7 +1,7 @@
 //! A proof changed in one place.
 
 use super::random::Random;
-use reference::checker::rules::Form;
+use reference::checker::rules::{rules, Form};
 use reference::formula::encode::Encode;
 use reference::formula::parse::{parse, Counts};
 use reference::formula::{Assertion, Formula, Interval};
@@ -30,12 +30,8 @@ pub fn changed(random: &mut Random, counts: Counts, lemma: &Lemma) -> Lemma {
 
 /// Another rule with lines of the same form.
 fn other_rule(random: &mut Random, rule: u8) -> u8 {
-    loop {
-        let other = random.between(1, 46);
-        if other != rule && Form::of_rule(other) == Form::of_rule(rule) {
-            return other;
-        }
-    }
+    let of_form = |other: &u8| *other != rule && Form::of_rule(*other) == Form::of_rule(rule);
+    *random.pick(&rules().filter(of_form).collect::<Vec<u8>>())
 }
 
 fn edit_place(random: &mut Random, statement: &mut Statement) {

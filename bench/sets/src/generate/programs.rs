@@ -3,7 +3,9 @@
 use super::random::Random;
 use super::vocabulary::Vocabulary;
 use reference::formula::parse::Counts;
+use reference::formula::Value;
 use reference::image::{Header, Instruction, Thread};
+use std::rc::Rc;
 
 /// A header; most are small, some use every name.
 pub fn header(random: &mut Random) -> Header {
@@ -48,11 +50,26 @@ pub fn instruction(
             Instruction::Store { word, value, releasing: operation == 4 }
         }
         5 => Instruction::Swap { word, value: own.value(random, 2) },
-        _ => {
+        6 => {
             let target = random.between(0, points - 1);
             Instruction::Branch { test: own.test(random, 2), target }
         }
+        _ => {
+            let register = *random.pick(some(&registers)?);
+            let value = operand(random, own, register);
+            match operation {
+                7 => Instruction::Exchange { register, word, value },
+                _ => Instruction::FetchAdd { register, word, value },
+            }
+        }
     })
+}
+
+/// The operand of an exchange or fetch-add; now and then it may name the result register, which is a fault.
+fn operand(random: &mut Random, own: Vocabulary, register: u8) -> Rc<Value> {
+    let faulty = random.chance(4);
+    let names = if faulty { own } else { own.without_register(register) };
+    names.value(random, 2)
 }
 
 /// The list, if it has an item.
@@ -62,7 +79,7 @@ fn some(items: &[u8]) -> Option<&[u8]> {
 
 /// A thread with this many points and any instructions.
 pub fn thread(random: &mut Random, header: &Header, thread: u8, points: u8) -> Thread {
-    let any = [0, 1, 2, 3, 4, 5, 6];
+    let any = [0, 1, 2, 3, 4, 5, 6, 7, 8];
     let without_register = [3, 4, 5, 6];
     (1..points)
         .map(|_| {

@@ -2,6 +2,7 @@
 use super::coverage::Coverage;
 use super::image;
 use reference::checker::check;
+use reference::checker::rules::rules;
 
 #[test]
 fn a_seed_gives_one_image() {
@@ -16,11 +17,11 @@ fn every_code_and_rule_occurs() {
     for seed in 0..12_000 {
         coverage.add(&image(seed));
     }
-    for code in [0, 2, 3, 4, 5, 6, 7, 8, 9, 20, 21, 22] {
+    for code in [0, 2, 3, 4, 5, 6, 7, 8, 9, 20, 21, 22, 23] {
         let count = coverage.codes.get(&code).copied().unwrap_or(0);
         assert!(count >= 40, "code {code} occurs {count} times");
     }
-    for rule in (1..=16).chain(20..=27).chain(30..=46) {
+    for rule in rules() {
         let counts = coverage.rules.get(&rule).copied().unwrap_or_default();
         let enough = counts.justified >= 50 && counts.unfit >= 50 && counts.decided >= 15;
         assert!(enough, "rule {rule}: {counts:?}");
@@ -30,7 +31,7 @@ fn every_code_and_rule_occurs() {
 /// Instances that are not changed are justified, but for the limits on rows and leaves.
 #[test]
 fn instances_are_justified() {
-    use crate::vectors::rules::frame::{image, instance, operations, rules};
+    use crate::vectors::rules::frame::{image, instance, operations};
     for rule in rules() {
         for &operation in operations(rule) {
             let accepted = (0..40)

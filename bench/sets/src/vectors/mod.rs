@@ -9,7 +9,6 @@ pub mod formulas;
 pub mod images;
 mod nesting;
 pub mod precedence;
-pub mod recheck;
 pub mod rules;
 pub mod store;
 pub mod tour;

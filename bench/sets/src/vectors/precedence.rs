@@ -25,12 +25,13 @@ fn faults() -> Vec<Fault> {
         fault("6 in a formula", (FORMULA, 4), |d| d.put(FORMULA, 4, &[0, 8])),
         fault("7 in a formula", (FORMULA, 5), |d| d.put(FORMULA, 5, &[5])),
         fault("5 in a thread", (THREAD, 0), |d| d.append(THREAD, 0, &[0])),
-        fault("6 in a thread", (THREAD, 1), |d| d.set(THREAD, 1, 1, 7)),
+        fault("6 in a thread", (THREAD, 1), |d| d.set(THREAD, 1, 1, 9)),
         fault("8 in a thread", (THREAD, 0), |d| {
             let number = d.spare(Spare::Test);
             d.set_number(THREAD, 0, 4, number)
         }),
         fault("9 in a thread", (THREAD, 0), |d| d.set(THREAD, 0, 12, 2)),
+        fault("23 in a thread", (THREAD, 1), |d| d.set(THREAD, 1, 13, 4)),
         fault("5 in the outline", (OUTLINE, 0), |d| d.append(OUTLINE, 0, &[0])),
         fault("6 in the outline", (OUTLINE, 0), |d| d.set_number(OUTLINE, 0, 2, 0)),
         fault("8 in the outline", (OUTLINE, 0), |d| {
@@ -55,6 +56,7 @@ pub fn cases() -> Vec<Case> {
     cases.extend(with_frame_faults());
     cases.extend(between_frames());
     cases.extend(within_thread());
+    cases.extend(after_owners());
     cases.extend(within_outline());
     cases.extend(within_line());
     cases.extend(within_formula());
@@ -148,10 +150,42 @@ fn within_thread() -> Vec<Case> {
         field(new(), 0, 2).append(THREAD, 0, &[0]).case("5 before 9 in one thread"),
         formula(new(), 0, Spare::Test).append(THREAD, 0, &[0]).case("5 before 8 in one thread"),
         field(new(), 0, 9).shorten(THREAD, 0, 5).case("5 before 6 in one thread"),
-        field(new(), 0, 2).set(THREAD, 1, 1, 7).case("9 in thread 1 before 6 in thread 2"),
+        field(new(), 0, 2).set(THREAD, 1, 1, 9).case("9 in thread 1 before 6 in thread 2"),
         formula(new(), 5, Spare::Test)
             .shorten(THREAD, 1, 1)
             .case("8 in thread 1 before 5 in thread 2"),
+    ]
+}
+
+/// In thread 2, whose instruction at point 2 names its result register: 23 comes last within the
+/// record and before all that follows.
+fn after_owners() -> Vec<Case> {
+    let new = || Draft::new().set(THREAD, 1, 13, 4);
+    let sort = |d: Draft, point: usize| {
+        let number = d.spare(Spare::Test);
+        d.set_number(THREAD, 1, 1 + 5 * point + 3, number)
+    };
+    let foreign = {
+        let d = Draft::new();
+        let number = d.formula_number(&[1, 1]);
+        d.set(THREAD, 1, 13, 1).set_number(THREAD, 1, 14, number)
+    };
+    let in_first = || Draft::new().set(THREAD, 0, 26, 7).set(THREAD, 0, 28, 3);
+    vec![
+        new().append(THREAD, 1, &[0]).case("5 before 23 in one thread"),
+        new().set(THREAD, 1, 1, 9).case("6 before 23: operation first"),
+        new().set(THREAD, 1, 17, 3).case("6 before 23: word later"),
+        sort(new(), 1).set(THREAD, 1, 16, 9).case("6 before 8: sort first, operation 9 later"),
+        sort(new(), 1).set_number(THREAD, 1, 19, 0).case("6 before 8: sort first, formula 0 later"),
+        sort(new(), 1).case("8 before 23: sort first"),
+        sort(new(), 3).case("8 before 23: sort later"),
+        new().set(THREAD, 1, 2, 1).case("9 before 23: owner first"),
+        new().set(THREAD, 1, 18, 1).case("9 before 23: owner later"),
+        foreign.case("9 before 23 in one instruction: another thread's register on both sides"),
+        in_first().set(THREAD, 1, 1, 9).case("23 in thread 1 before 6 in thread 2"),
+        in_first().append(THREAD, 1, &[0]).case("23 in thread 1 before 5 in thread 2"),
+        new().set_number(OUTLINE, 0, 0, 0).case("23 in a thread before 6 in the outline"),
+        new().set_number(OBLIGATIONS, 0, 0, 0).case("23 in a thread before 20"),
     ]
 }
 
@@ -198,6 +232,6 @@ fn within_formula() -> Vec<Case> {
         put(2, &[0; 256]).case("5 before 7, left over, in a formula"),
         put(2, &[5]).put(FORMULA, 3, &[0, 8]).case("7 in a formula before 6 in the next"),
         put(2, &[0, 8]).put(FORMULA, 3, &[]).case("6 in a formula before 5 in the next"),
-        put(2, &[5]).set(THREAD, 0, 1, 7).case("7 in a formula before 6 in a thread"),
+        put(2, &[5]).set(THREAD, 0, 1, 9).case("7 in a formula before 6 in a thread"),
     ]
 }

@@ -1,13 +1,9 @@
-//! The files of a set: a container of images and verdicts, and a text index.
-//!
-//! Container, for each case: image length (16 bits), image, nine verdict fields
-//! (16 bits each). All numbers are little-endian.
+//! The files of a set: a container of images and verdicts, as `reference::stored` reads it, and a text index.
 
 use super::formulas::FormulaCase;
 use super::Case;
 use reference::checker::check;
-use reference::formula::parse::{parse, Fault};
-use reference::formula::Sort;
+use reference::stored::answer;
 use std::fmt::Write as _;
 use std::io::Result;
 use std::path::Path;
@@ -33,34 +29,21 @@ pub fn index(cases: &[Case]) -> String {
     text
 }
 
-/// The result and sort of a formula: 0 accepted, 6 or 7; sort 0 if refused.
-pub fn answer(case: &FormulaCase) -> [u16; 2] {
-    match parse(&case.formula, case.counts) {
-        Err(Fault::Range) => [6, 0],
-        Err(Fault::Form) => [7, 0],
-        Ok(formula) => match formula.sort() {
-            Sort::Value => [0, 0],
-            Sort::Test => [0, 1],
-            Sort::Interval => [0, 2],
-            Sort::Assertion => [0, 3],
-        },
-    }
-}
-
 /// The cases whose length a formula record may have; another length is code 5 there.
 fn of_record_length(cases: &[FormulaCase]) -> impl Iterator<Item = &FormulaCase> {
     cases.iter().filter(|case| (1..=255).contains(&case.formula.len()))
 }
 
-/// The container of bare formulas: length (16 bits), bytes, threads, words,
-/// registers (a byte each), result and sort (16 bits each).
+/// The container of bare formulas.
 pub fn formula_container(cases: &[FormulaCase]) -> Vec<u8> {
     let mut bytes = Vec::new();
     for case in of_record_length(cases) {
         bytes.extend((case.formula.len() as u16).to_le_bytes());
         bytes.extend(&case.formula);
         bytes.extend([case.counts.threads, case.counts.words, case.counts.registers]);
-        bytes.extend(answer(case).iter().flat_map(|number| number.to_le_bytes()));
+        bytes.extend(
+            answer(&case.formula, case.counts).iter().flat_map(|number| number.to_le_bytes()),
+        );
     }
     bytes
 }
@@ -69,7 +52,7 @@ pub fn formula_container(cases: &[FormulaCase]) -> Vec<u8> {
 pub fn formula_index(cases: &[FormulaCase]) -> String {
     let mut text = String::new();
     for (number, case) in (1..).zip(of_record_length(cases)) {
-        let [result, sort] = answer(case);
+        let [result, sort] = answer(&case.formula, case.counts);
         let _ = writeln!(text, "{number}\t{}\t{result} {sort}", case.label);
     }
     text

@@ -1,5 +1,5 @@
 //! The accepted image to which faults are added: every operation, two threads,
-//! lines of all three forms, 46 obligations.
+//! lines of all three forms, 76 obligations.
 
 use crate::generate::harness;
 use reference::formula::parse::Counts;
@@ -38,15 +38,15 @@ pub enum Spare {
 }
 
 fn header() -> Header {
-    let counts = Counts { threads: 2, words: 2, registers: 3 };
-    Header { counts, start: vec![0, 7], owners: vec![1, 2, 1] }
+    let counts = Counts { threads: 2, words: 2, registers: 4 };
+    Header { counts, start: vec![0, 7], owners: vec![1, 2, 1, 2] }
 }
 
 fn register(number: u8) -> Rc<Value> {
     Rc::new(Value::Register(number))
 }
 
-/// Thread 1 has an instruction of each operation, in the order of their numbers.
+/// Thread 1 has an instruction of each operation from 0 to 6, in this order.
 fn first_thread() -> Thread {
     let sum = Rc::new(Value::sum(Value::Constant(1), Value::Register(3)));
     let test = Rc::new(Test::equal(Value::Register(1), Value::Constant(0)));
@@ -61,11 +61,22 @@ fn first_thread() -> Thread {
     ]
 }
 
+/// Thread 2 ends with the operations 7 and 8, each with the other's register as its operand.
 fn second_thread() -> Thread {
     vec![
         Instruction::Load { register: 2, word: 1, acquiring: true },
         Instruction::Store { word: 1, value: register(2), releasing: false },
+        Instruction::Exchange { register: 2, word: 1, value: register(4) },
+        Instruction::FetchAdd { register: 4, word: 2, value: register(2) },
     ]
+}
+
+/// The thread, from 0, and the point of the instruction with this operation.
+pub fn place_of(operation: usize) -> (usize, usize) {
+    match operation {
+        0..=6 => (0, operation),
+        _ => (1, operation - 5),
+    }
 }
 
 /// The records of the image.

@@ -1,5 +1,6 @@
 //! Random images whose bytes are in order. Their lines follow from nothing; the readers do not ask.
 
+use super::reader::{has_register, ByScan};
 use crate::formulas::generate::{append, Names, LONGEST};
 use crate::random::Random;
 use reference::checker::obligations::duties;
@@ -54,7 +55,12 @@ const TEST: u8 = 1;
 const INTERVAL: u8 = 2;
 const ASSERTION: u8 = 3;
 
-const ACTION: [u8; 6] = [0, 1, 2, 3, 4, 5];
+/// Those that set a register stand behind the others.
+const ACTION: [u8; 8] = [3, 4, 5, 0, 1, 2, 7, 8];
+/// The rules whose lines are triples.
+const TRIPLES: [u8; 19] = [1, 2, 3, 4, 5, 6, 7, 8, 9, 10, 11, 12, 13, 14, 15, 16, 47, 48, 49];
+
+const SWAP: u8 = 5;
 const BRANCH: u8 = 6;
 
 /// A formula that fits in a record.
@@ -101,8 +107,7 @@ impl Program<'_> {
         let threads = (1..=size.threads).map(|thread| {
             let owned = owners.contains(&(thread as u8));
             let steps = random.below(size.points);
-            // Operations 0 to 2 set a register.
-            let actions = if owned { &ACTION[..] } else { &ACTION[3..] };
+            let actions = if owned { &ACTION[..] } else { &ACTION[..3] };
             let operation = |random: &mut Random| match random.below(4) {
                 0 => BRANCH,
                 _ => actions[random.below(actions.len())],
@@ -163,19 +168,25 @@ impl Program<'_> {
         formulas
     }
 
-    fn thread(&self, random: &mut Random, thread: usize) -> Vec<Instruction> {
+    fn thread(&self, random: &mut Random, thread: usize, formulas: &[Vec<u8>]) -> Vec<Instruction> {
         let operations = &self.threads[thread - 1];
         let registers = self.registers_of(thread);
         let points = operations.len() + 1;
         let value = 2 * thread as u16 - 1;
+        // An exchange or fetch-add does not name its result register in its operand.
+        let operand = &formulas[usize::from(value) - 1];
+        let free = |register: &u8| !has_register::<ByScan>(operand, *register);
+        let free: Vec<u8> = registers.iter().copied().filter(free).collect();
         let instruction = |&operation: &u8| {
             let word = 1 + random.below(self.size.words) as u8;
-            let mut register = || registers[random.below(registers.len())];
-            let (a, b, formula) = match operation {
-                0 => (register(), 0, value),
-                1 | 2 => (register(), word, 0),
-                BRANCH => (random.below(points) as u8, 0, value + 1),
-                _ => (word, 0, value),
+            let mut register = |from: &[u8]| from[random.below(from.len())];
+            let (operation, a, b, formula) = match operation {
+                0 => (0, register(&registers), 0, value),
+                1 | 2 => (operation, register(&registers), word, 0),
+                7 | 8 if free.is_empty() => (SWAP, word, 0, value),
+                7 | 8 => (operation, word, register(&free), value),
+                BRANCH => (BRANCH, random.below(points) as u8, 0, value + 1),
+                _ => (operation, word, 0, value),
             };
             Instruction { operation, a, b, formula }
         };
@@ -209,20 +220,25 @@ impl Program<'_> {
     /// The line that has so many before it. Half of the lines are triples, where there are actions.
     fn line(&self, random: &mut Random, before: usize, actions: &[[u8; 2]]) -> Line {
         let (rule, [thread, point], left, right) = match random.below(8) {
-            0 => (30 + random.below(17), [0, 0], self.interval() as u16, self.interval() as u16),
+            0 => (
+                30 + random.below(17) as u8,
+                [0, 0],
+                self.interval() as u16,
+                self.interval() as u16,
+            ),
             4.. if !actions.is_empty() => {
                 let place = actions[random.below(actions.len())];
                 let side = |random: &mut Random| self.startless_assertion(random);
-                (1 + random.below(16), place, side(random), side(random))
+                (TRIPLES[random.below(TRIPLES.len())], place, side(random), side(random))
             }
             _ => {
                 let side = |random: &mut Random| self.any_assertion(random);
-                (20 + random.below(8), [0, 0], side(random), side(random))
+                (20 + random.below(8) as u8, [0, 0], side(random), side(random))
             }
         };
         let premises = if before == 0 { 0 } else { random.below(5) };
         let premises = (0..premises).map(|_| 1 + random.below(before) as u16).collect();
-        Line { rule: rule as u8, thread, point, left, right, premises }
+        Line { rule, thread, point, left, right, premises }
     }
 
     /// A line number for each obligation. How many there are goes by the branches alone.
@@ -241,11 +257,14 @@ impl Program<'_> {
 pub fn image(random: &mut Random, size: &Size) -> Vec<u8> {
     let program = Program::new(random, size);
     let actions = program.actions();
+    let header = program.header(random);
+    let formulas = program.formulas(random);
+    let threads = (1..=size.threads).map(|thread| program.thread(random, thread, &formulas));
     // Fields are worked out in the order in which they stand here.
     let image = Written {
-        header: program.header(random),
-        formulas: program.formulas(random),
-        threads: (1..=size.threads).map(|thread| program.thread(random, thread)).collect(),
+        header,
+        threads: threads.collect(),
+        formulas,
         outline: program.outline(random),
         lines: (0..size.lines).map(|before| program.line(random, before, &actions)).collect(),
         obligations: program.obligations(random),

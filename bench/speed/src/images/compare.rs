@@ -4,6 +4,7 @@ use super::answer::{Answer, Reader};
 use super::build::{image, Size};
 use super::damage::damage;
 use crate::random::Random;
+use std::collections::BTreeMap;
 use std::fmt;
 
 /// How many images there were, on how many the answers differ, and how often each code came; 0 for an
@@ -11,8 +12,11 @@ use std::fmt;
 pub struct Compared {
     images: usize,
     pub differ: usize,
-    codes: [usize; 10],
+    codes: BTreeMap<u16, usize>,
 }
+
+/// The codes that an image's bytes can have.
+const CODES: [u16; 10] = [0, 2, 3, 4, 5, 6, 7, 8, 9, 23];
 
 /// A comparison with fewer answers of some code says little.
 const OFTEN: usize = 100;
@@ -20,24 +24,25 @@ const OFTEN: usize = 100;
 impl Compared {
     fn count(&mut self, answer: Answer) {
         let code = answer.map_or_else(|refusal| refusal.code, |()| 0);
-        self.codes[usize::from(code)] += 1;
+        *self.codes.entry(code).or_default() += 1;
     }
 
-    /// Whether each of the codes 0 and 2 to 9 came often.
+    fn often(&self, code: u16) -> usize {
+        self.codes.get(&code).copied().unwrap_or(0)
+    }
+
+    /// Whether each code came often.
     pub fn is_useful(&self) -> bool {
-        self.codes.iter().enumerate().all(|(code, &often)| code == 1 || often >= OFTEN)
+        CODES.into_iter().all(|code| self.often(code) >= OFTEN)
     }
 }
 
 impl fmt::Display for Compared {
     fn fmt(&self, f: &mut fmt::Formatter) -> fmt::Result {
-        write!(
-            f,
-            "{} damaged images: {} differ ({} sound",
-            self.images, self.differ, self.codes[0]
-        )?;
-        for (code, often) in self.codes.iter().enumerate().skip(2) {
-            write!(f, ", {often} of code {code}")?;
+        let sound = self.often(0);
+        write!(f, "{} damaged images: {} differ ({sound} sound", self.images, self.differ)?;
+        for code in &CODES[1..] {
+            write!(f, ", {} of code {code}", self.often(*code))?;
         }
         write!(f, ")")
     }
@@ -46,7 +51,7 @@ impl fmt::Display for Compared {
 /// Compares the readers on so many images, and prints the first one on which they differ. Each image is
 /// damaged a hundred times, each time from the whole.
 pub fn on_damaged(random: &mut Random, readers: &[(&str, Reader)], images: usize) -> Compared {
-    let mut compared = Compared { images, differ: 0, codes: [0; 10] };
+    let mut compared = Compared { images, differ: 0, codes: BTreeMap::new() };
     let mut whole = Vec::new();
     for i in 0..images {
         if i % 100 == 0 {

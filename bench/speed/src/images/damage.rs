@@ -55,6 +55,13 @@ fn rewrite(random: &mut Random, kind: u8, body: &mut Vec<u8>) {
     match kind {
         FORMULA if random.below(4) == 0 => body.resize(254 + random.below(4), 11),
         FORMULA => *body = FORMULAS[random.below(FORMULAS.len())].to_vec(),
+        // An exchange or fetch-add of some register, which its operand may name.
+        THREAD if body.len() > 1 && random.below(2) == 0 => {
+            let at = 1 + 5 * random.below(body.len() / 5);
+            body[at] = 7 + random.below(2) as u8;
+            body[at + 1] = 1;
+            body[at + 2] = 1 + random.below(4) as u8;
+        }
         // Instructions are copied until there are up to nine points.
         THREAD if body.len() > 1 => {
             let instruction: Vec<u8> = body[1..6].to_vec();

@@ -14,7 +14,7 @@ use Rattle.frames.specs.declared.fault.Checked.{Checked}
 use Rattle.frames.specs.declared.fault.Checked.the-variants.{Passed, Faulty}
 use Rattle.formula.specs.Codes as Codes
 use Rattle.formula.specs.Reader.{sortOf}
-use Rattle.occurs.specs.Occurs.{occurs, foreign}
+use Rattle.occurs.specs.Occurs.{occurs, register, foreign}
 use Rattle.program.specs.declared.sizes.Sizes.{Sizes}
 use Rattle.program.specs.declared.instruction.Instruction.{Instruction}
 use Rattle.program.specs.Header.{owners}
@@ -25,7 +25,7 @@ use Rattle.records.specs.Line.{formOf}
 use Rattle.records.specs.List.{exactly}
 use Rattle.records.specs.Tally.{tally, obligationCount}
 use Rattle.bodies.specs.Use.{treeOf, outlined, plainOf}
-use Rattle.bodies.specs.Thread.{wanted, sorted, targetOwned, formulaOwned}
+use Rattle.bodies.specs.Thread.{wanted, sorted, targetOwned, formulaOwned, resultAbsent}
 use Rattle.bodies.specs.Lists.{outlinedAt, outline, obligations}
 use Rattle.bodies.specs.Line.{sortAt, sortedBy, lineSorted}
 
@@ -51,14 +51,31 @@ module _ (l : List (List ℕ)) (i : Instruction) where
   unfolding sorted
   sorted-is b w u h e d g = rw (ne-eqb _ _ h, ← e, ← d) g
 
+  pub absent-none : i .operation ≤ 6 → true ≡ resultAbsent l i
+  unfolding resultAbsent
+  absent-none h = rw (le-leb _ _ h)
+
+  module _ (b : List ℕ) (u : Bool) (n : 6 < i .operation) (eb : b ≡ getD l (i .formula) []) (eu : u ≡ occurs (register (i .b)) [] (treeOf b)) where
+    pub absent-not : u ≡ true → false ≡ resultAbsent l i
+    unfolding resultAbsent
+    absent-not q = rw (lt-leb _ _ n, ← eb, ← eu, q)
+
+    pub absent-is : u ≡ false → true ≡ resultAbsent l i
+    unfolding resultAbsent
+    absent-is q = rw (lt-leb _ _ n, ← eb, ← eu, q)
+
   module _ (t : ℕ) where
-    pub target-none : 2 < i .operation → true ≡ targetOwned l t i
+    pub target-none : 2 < i .operation → i .operation ≤ 6 → true ≡ targetOwned l t i
     unfolding targetOwned
-    target-none h = rw (lt-leb _ _ h)
+    target-none h g = rw (lt-leb _ _ h, le-leb _ _ g)
 
     pub target-is : (h : List ℕ) (x : ℕ) → i .operation ≤ 2 → h ≡ getD l 0 [] → x ≡ nth (owners h) (i .a) 0 → eqb x t ≡ targetOwned l t i
     unfolding targetOwned
     target-is h x g e d = rw (le-leb _ _ g, ← e, ← d)
+
+    pub result-is : (h : List ℕ) (x : ℕ) → 2 < i .operation → 6 < i .operation → h ≡ getD l 0 [] → x ≡ nth (owners h) (i .b) 0 → eqb x t ≡ targetOwned l t i
+    unfolding targetOwned
+    result-is h x g k e d = rw (lt-leb _ _ g, lt-leb _ _ k, ← e, ← d)
 
     pub formula-none : i .formula ≡ 0 → true ≡ formulaOwned l t i
     unfolding formulaOwned
@@ -73,7 +90,7 @@ module _ (l : List (List ℕ)) (i : Instruction) where
       unfolding formulaOwned
       formula-own q = rw (ne-eqb _ _ n, ← eb, ← eh, ← eo, ← eu, q)
 
-pub ruleset instructed = (sorted-none, sorted-is, target-none, target-is, formula-none, formula-foreign, formula-own)
+pub ruleset instructed = (sorted-none, sorted-is, absent-none, absent-not, absent-is, target-none, target-is, result-is, formula-none, formula-foreign, formula-own)
 
 -- outline and obligations
 

@@ -96,13 +96,13 @@ module _ (s : List ℕ) (i : Instruction) where
   acts-early f h e = rw (le-leb (i .operation) 2 h, e)
 
   module _ (h : 2 < i .operation) where
-    pub acts-writing : (f : ℕ) → i .operation ≤ 5 → f ≡ formulaAt s (i .formula) → acts (i .operation) (i .a) 0 f ≡ actingOf s i
+    pub acts-writing : (f : ℕ) → (i .operation ≡ 6 → ⊥) → f ≡ formulaAt s (i .formula) → acts (i .operation) (i .a) (i .b) f ≡ actingOf s i
     unfolding actingOf
-    acts-writing f g e = rw (lt-leb (i .operation) 2 h, le-leb (i .operation) 5 g, e)
+    acts-writing f g e = rw (lt-leb (i .operation) 2 h, ne-eqb (i .operation) 6 g, e)
 
-    pub acts-not : 5 < i .operation → acts (i .operation) 0 0 (length s) ≡ actingOf s i
+    pub acts-not : i .operation ≡ 6 → acts (i .operation) 0 0 (length s) ≡ actingOf s i
     unfolding actingOf
-    acts-not g = rw (lt-leb (i .operation) 2 h, lt-leb (i .operation) 5 g)
+    acts-not g = rw (lt-leb (i .operation) 2 h, eq-eqb (i .operation) 6 g)
 
 pub acts-at : (s : List ℕ) (i j : Instruction) (r : Acting) → i ≡ j → r ≡ actingOf s i → r ≡ actingOf s j
 acts-at s i j r e d = rw (← e) d

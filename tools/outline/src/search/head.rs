@@ -1,8 +1,9 @@
-//! Rules 3, 4, 5 and 10 along what the acting thread sees: the head of a chop is taken off.
+//! Rules 3, 4, 5, 10 and 47 along what the acting thread sees: the head of a chop is taken off.
 
 use crate::search::plan::Plan;
 use crate::search::prover::{At, Line, Prover};
-use crate::search::triple::Context;
+use crate::search::triple::{reading, Context};
+use crate::search::write::covering;
 use crate::terms::*;
 use reference::checker::rules::{before_load, covered_till_last, keeps};
 use reference::formula::atoms::Atoms;
@@ -96,23 +97,36 @@ impl Prover<'_> {
         self.consequence(at, first, triple, last)
     }
 
-    /// Rules 3, 6 and 11, which start from what t alone sees.
+    /// Rules 3, 6, 11, 47 and 48, which start from what t alone sees.
     fn view_used(&mut self, at: At, i: &I, goal: &A) -> Option<Line> {
+        for (rule, before, after) in self.own_views(at, goal) {
+            if self.include(i, &before).is_none() {
+                continue;
+            }
+            let Some(last) = self.implied(&after, goal) else { continue };
+            let line = self.step(at, rule, &sees(at.thread, &before), &after, &[])?;
+            return self.around(at, &sees(at.thread, i), line, last);
+        }
+        None
+    }
+
+    /// What t is to see before the instruction, and what it then brings about, by each rule.
+    fn own_views(&self, at: At, goal: &A) -> Vec<(u8, I, A)> {
         let instruction = self.instruction(at);
-        let (rule, before, after): (u8, I, A) = if let Some(load) = instruction.load() {
-            let e = tests_in(goal, load.register)?;
-            (3, before_load(&e, &load).into(), holds(&e))
-        } else if let Some(swap) = instruction.swap() {
-            let before = covered_till_last(swap.word);
-            (11, before.into(), sees(at.thread, &swap.settled().into()))
-        } else {
-            let store = instruction.store()?;
-            (6, Interval::One(store.word).into(), sees(at.thread, &store.settled().into()))
-        };
-        self.include(i, &before)?;
-        let last = self.implied(&after, goal)?;
-        let line = self.step(at, rule, &sees(at.thread, &before), &after, &[])?;
-        self.around(at, &sees(at.thread, i), line, last)
+        let mut found: Vec<(u8, I, A)> = Vec::new();
+        if let Some((rule, load)) = reading(&instruction) {
+            let test = tests_in(goal, load.register);
+            found.extend(test.map(|e| (rule, before_load(&e, &load).into(), holds(&e))));
+        }
+        if let Some((rule, _, write)) = covering(&instruction) {
+            let before = covered_till_last(write.word).into();
+            found.push((rule, before, sees(at.thread, &write.settled().into())));
+        }
+        if let Some(store) = instruction.store() {
+            let after = sees(at.thread, &store.settled().into());
+            found.push((6, Interval::One(store.word).into(), after));
+        }
+        found
     }
 
     /// What may be taken off the front, with the rule and for a load the test that it then makes true.
@@ -122,8 +136,8 @@ impl Prover<'_> {
         if let Some(x) = instruction.joined_word() {
             found.push((5, all(&Test::Unsync(x).into()), None));
         }
-        if let Some(write) = instruction.store_or_swap() {
-            found.push((10, all(&Test::Covered(write.word).into()), None));
+        if let Some(x) = instruction.written_word() {
+            found.push((10, all(&Test::Covered(x).into()), None));
         }
         if let Some(load) = instruction.load() {
             if let Some(e) = tests_in(goal, load.register) {

@@ -8,6 +8,11 @@ use reference::checker::rules::MOST_PREMISES;
 use reference::formula::Assertion;
 
 impl Prover<'_> {
+    /// A line for P to Q, if even the wider search finds one.
+    pub fn implication(&mut self, p: &A, q: &A) -> Option<Line> {
+        self.implied(p, q).or_else(|| self.widened(|all| all.implied(p, q)))
+    }
+
     /// A line for P to Q, if the search finds one.
     pub fn implied(&mut self, p: &A, q: &A) -> Option<Line> {
         if let Some(line) = self.lines.find(&implication(p, q)) {

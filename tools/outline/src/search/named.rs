@@ -19,7 +19,7 @@ impl Prover<'_> {
             }
             Statement::Implication { left, right } => match hint.rule {
                 Some(rule) => self.fact_by(rule, left, right),
-                None => self.implied(left, right),
+                None => self.implication(left, right),
             },
             Statement::Inclusion { left, right } => match hint.rule {
                 Some(rule) => self.part_by(rule, left, right),

@@ -29,6 +29,8 @@ pub struct Prover<'a> {
     /// What was tried for the obligation at hand, for the message if it stays open.
     pub tried: Vec<String>,
     pub names: Names,
+    /// Are views joined with the tests about their own registers, and for these with other threads' views?
+    pub wide: bool,
 }
 
 impl<'a> Prover<'a> {
@@ -44,6 +46,7 @@ impl<'a> Prover<'a> {
             steps: Vec::new(),
             tried: Vec::new(),
             names,
+            wide: false,
         }
     }
 
@@ -68,6 +71,20 @@ impl<'a> Prover<'a> {
         if found.is_none() && premises.is_empty() {
             self.unfit.insert(key);
         }
+        found
+    }
+
+    /// A search that also joins views with the tests about their own registers, and views of two threads:
+    /// slower, and with longer proofs, so only where the other finds nothing.
+    pub fn widened(&mut self, search: impl FnOnce(&mut Self) -> Option<Line>) -> Option<Line> {
+        if self.wide {
+            return search(self);
+        }
+        let refuted = std::mem::take(&mut self.refuted);
+        self.wide = true;
+        let found = search(self);
+        self.wide = false;
+        self.refuted = refuted;
         found
     }
 

@@ -150,7 +150,40 @@ impl Prover<'_> {
                 }
             }
         }
+        if self.wide {
+            return self.registers_clash(case);
+        }
         None
+    }
+
+    /// Views of two threads that tell different things of the registers.
+    fn registers_clash(&mut self, case: &Case) -> Option<Line> {
+        let told = self.told_of_registers(case);
+        for (n, (u, i, h)) in told.iter().enumerate() {
+            for (v, k, g) in told[n + 1..].iter().filter(|(v, ..)| v != u) {
+                if self.by_rows(&and(h, g), &falsehood()) {
+                    let given =
+                        [self.view_gives_test(*u, i, h, h)?, self.view_gives_test(*v, k, g, g)?];
+                    return self.told_apart(&sees(*u, i), &sees(*v, k), given, &and(h, g));
+                }
+            }
+        }
+        None
+    }
+
+    /// Each thread's views with the tests of registers alone that they give.
+    fn told_of_registers(&self, case: &Case) -> Vec<(u8, I, T)> {
+        let threads = self.program.thread_numbers();
+        let views = threads.flat_map(|u| case.seen_by(u).into_iter().map(move |i| (u, i)));
+        let tests = views.flat_map(|(u, i)| hulls(&i).into_iter().map(move |h| (u, i.clone(), h)));
+        tests.filter(|(.., h)| registers_only(h.as_ref())).collect()
+    }
+
+    /// Two assertions that give tests of which not both are true.
+    fn told_apart(&mut self, p: &A, q: &A, given: [Line; 2], tests: &T) -> Option<Line> {
+        let nothing = holds(&falsehood());
+        let clash = self.fact(21, &holds(tests), &nothing, &[])?;
+        self.fact(20, &both(p, q), &nothing, &[given[0], given[1], clash])
     }
 
     /// One view against the tests, then against each of the others.

@@ -41,7 +41,23 @@ impl Prover<'_> {
             let line = self.tests_give_view(&near, u, &all(&near));
             given.push(Given { from: holds(&near), interval: all(&near), line });
         }
-        self.joint_view(u, &given, j)
+        self.joint_view(u, &given, j).or_else(|| self.view_by_its_tests(case, u, j))
+    }
+
+    /// One view with the tests about its own registers, which J need not name.
+    fn view_by_its_tests(&mut self, case: &Case, u: u8, j: &I) -> Option<Line> {
+        if !self.wide {
+            return None;
+        }
+        for i in case.seen_by(u) {
+            let Some(near) = case.tests_about(both(&i, j).as_ref()) else { continue };
+            let line = self.tests_give_view(&near, u, &all(&near));
+            let known = Given { from: holds(&near), interval: all(&near), line };
+            if let Some(line) = self.gathered_view(u, &[self.seen(u, &i), known], j) {
+                return Some(line);
+            }
+        }
+        None
     }
 
     /// `u sees I` to `u sees J` by an inclusion.

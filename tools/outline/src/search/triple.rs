@@ -1,15 +1,17 @@
 //! Search for triples: plans by the shape of the goal, then the cases of the left side.
 
 use crate::search::cases::{cases, Case};
+use crate::search::implication::conjuncts;
 use crate::search::interval::both_parts;
 use crate::search::plan::{Choice, Done, Plan};
 use crate::search::prover::{At, Line, Prover};
 use crate::search::support::expand;
 use crate::terms::*;
 use reference::checker::rules::table::Leaves;
-use reference::checker::rules::{before_load, keeps};
+use reference::checker::rules::{before_load, keeps, Load};
 use reference::formula::atoms::Atoms;
-use reference::formula::{Assertion, Formula, Value};
+use reference::formula::{Assertion, Formula, Test, Value};
+use reference::image::Instruction;
 
 /// The place of the instruction and the views that the left side speaks of.
 pub struct Context {
@@ -29,11 +31,40 @@ impl Context {
 }
 
 impl Prover<'_> {
-    /// A line for {P} c {Q}, if the search finds one.
+    /// A line for {P} c {Q}, if the search finds one; perhaps by cases that P does not tell apart.
     pub fn triple(&mut self, at: At, p: &A, q: &A) -> Option<Line> {
         if let Some(line) = self.lines.find(&at.triple(p, q)) {
             return Some(line);
         }
+        self.triple_by_cases(at, p, q).or_else(|| {
+            self.tried.clear();
+            self.widened(|all| {
+                all.triple_by_cases(at, p, q).or_else(|| {
+                    let told = all.tried.clone();
+                    let found = all.triple_by_tests(at, p, q);
+                    all.tried = told;
+                    found
+                })
+            })
+        })
+    }
+
+    /// The tests of Q that the instruction keeps and P does not have, told apart first.
+    fn triple_by_tests(&mut self, at: At, p: &A, q: &A) -> Option<Line> {
+        let (here, instruction) = (tests_of(p), self.instruction(at));
+        let kept = |e: &T| !here.contains(e) && keeps(&instruction, e.as_ref()) == Some(true);
+        let known: Vec<A> = tests_of(q)
+            .into_iter()
+            .filter(kept)
+            .map(|e| either(&holds(&e), &holds(&not(&e))))
+            .collect();
+        let split = both(p, &fold_right(&known, both)?);
+        let first = self.fact(20, p, &split, &[])?;
+        let line = self.triple_by_cases(at, &split, q)?;
+        self.consequence(at, Some(first), line, None)
+    }
+
+    fn triple_by_cases(&mut self, at: At, p: &A, q: &A) -> Option<Line> {
         let context = Context { at, views: views_in(p) };
         let Some(all) = cases(p) else {
             self.tried
@@ -44,14 +75,29 @@ impl Prover<'_> {
         let before = self.left(done.line);
         match self.reach(p, &before) {
             Some(firsts) => self.finish(at, firsts, done.line, done.last),
-            None => self.case_by_case(&context, p, q).or_else(|| {
-                let text = format!("tried        {}", self.names.assertion(&before));
-                self.tried.push(text);
-                self.tried.push("             which each case gives, but together".into());
-                self.tried.push("             they pass 10 leaves or 4 premises of rule 20".into());
-                None
-            }),
+            None => self
+                .case_by_case(&context, p, q)
+                .or_else(|| self.goal_by_halves(at, p, q))
+                .or_else(|| {
+                    let text = format!("tried        {}", self.names.assertion(&before));
+                    self.tried.push(text);
+                    self.tried.push("             which each case gives, but together".into());
+                    self.tried
+                        .push("             they pass 10 leaves or 4 premises of rule 20".into());
+                    None
+                }),
         }
+    }
+
+    /// The halves of the goal apart, where together they ask for too much at once.
+    fn goal_by_halves(&mut self, at: At, p: &A, q: &A) -> Option<Line> {
+        let (a, b) = q.as_both()?;
+        let once = fold_right(&conjuncts(p), both)?;
+        let halves = [self.triple_by_cases(at, &once, a)?, self.triple_by_cases(at, &once, b)?];
+        let twice = both(&once, &once);
+        let first = self.fact(20, p, &twice, &[])?;
+        let line = self.step(at, 14, &twice, q, &halves)?;
+        self.consequence(at, Some(first), line, None)
     }
 
     /// A triple to the goal whose left side all cases give.
@@ -130,14 +176,18 @@ impl Prover<'_> {
         Plan::Any(goal.clone(), ways)
     }
 
-    /// Rule 3, and compound tests taken apart.
+    /// Rules 3 and 47, and compound tests taken apart.
     fn ways_to_test(&mut self, context: &Context, e: &T, ways: &mut Vec<Plan>) {
         let at = context.at;
         let goal = holds(e);
-        if let Some(load) = self.instruction(at).load().filter(|load| e.has_register(load.register))
-        {
-            let before = sees(at.thread, &before_load(e, &load).into());
-            ways.extend(self.step(at, 3, &before, &goal, &[]).map(Plan::Ready));
+        let read = reading(&self.instruction(at)).filter(|(_, load)| e.has_register(load.register));
+        if let Some((rule, load)) = read {
+            let passed: I = before_load(e, &load).into();
+            let line = self.step(at, rule, &sees(at.thread, &passed), &goal, &[]);
+            ways.extend(line.map(Plan::Ready));
+            ways.extend(
+                line.and_then(|line| self.past_covered(at, &passed, line)).map(Plan::Ready),
+            );
         }
         let apart = expand(e);
         if apart != goal {
@@ -145,6 +195,14 @@ impl Prover<'_> {
                 ways.push(Plan::Then(self.plan(context, &apart).into(), last));
             }
         }
+    }
+
+    /// Rule 10 before a triple from `t sees I`: covered writes are none that the instruction picks.
+    fn past_covered(&mut self, at: At, i: &I, line: Line) -> Option<Line> {
+        let x = self.instruction(at).covered_word()?;
+        let before = sees(at.thread, &chop(&all(&Test::Covered(x).into()), i));
+        let goal = self.right(line);
+        self.step(at, 10, &before, &goal, &[line])
     }
 
     /// The triples that the writer named, where they lead to the goal.
@@ -170,6 +228,12 @@ impl Prover<'_> {
     }
 }
 
+/// What an instruction reads into a register, with the rule by which it learns from that.
+pub fn reading(instruction: &Instruction) -> Option<(u8, Load)> {
+    let load = instruction.load().map(|load| (3, load));
+    load.or_else(|| instruction.fetched().map(|load| (47, load)))
+}
+
 /// A plan followed by an implication, unless that is the identity.
 pub fn then(plan: Plan, last: Line, from: &A, to: &A) -> Plan {
     if from == to {
@@ -177,6 +241,16 @@ pub fn then(plan: Plan, last: Line, from: &A, to: &A) -> Plan {
     } else {
         Plan::Then(plan.into(), last)
     }
+}
+
+/// The comparisons that the assertion is made of, each once.
+fn tests_of(p: &A) -> Vec<T> {
+    let Leaves(leaves) = Leaves::of(p);
+    let tests = leaves.into_iter().filter_map(|leaf| match leaf {
+        Formula::Test(e) => Some(e),
+        _ => None,
+    });
+    tests.collect()
 }
 
 /// What the assertion says that threads see, each once.

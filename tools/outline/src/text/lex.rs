@@ -39,8 +39,11 @@ const MARKS: [&str; 24] = [
     "{", "}", ";", "&", "|", ",", ":", "@",
 ];
 
+/// The one word with a hyphen.
+const FETCH_ADD: &str = "fetch-add";
+
 /// The words that cannot be names.
-pub const KEYWORDS: [&str; 30] = [
+pub const KEYWORDS: [&str; 32] = [
     "word",
     "register",
     "registers",
@@ -61,6 +64,8 @@ pub const KEYWORDS: [&str; 30] = [
     "unsync",
     "cov",
     "swap",
+    "exchange",
+    FETCH_ADD,
     "if",
     "goto",
     "in",
@@ -104,6 +109,15 @@ fn line_tokens(code: &str, line: usize, out: &mut Vec<(Token, usize)>) -> Result
 }
 
 fn name_length(s: &str) -> usize {
+    let hyphened = s.strip_prefix(FETCH_ADD).is_some_and(|behind| plain_length(behind) == 0);
+    if hyphened {
+        FETCH_ADD.len()
+    } else {
+        plain_length(s)
+    }
+}
+
+fn plain_length(s: &str) -> usize {
     s.find(|c: char| !(c.is_ascii_alphanumeric() || c == '_' || c == '\'')).unwrap_or(s.len())
 }
 
@@ -141,6 +155,8 @@ mod tests {
         let want = [name("x"), Token::Mark(":=rel"), Token::Number(1), Token::End];
         assert_eq!(plain("x :=rel 1 # comment"), want);
         assert_eq!(plain("x:=relaxed")[1], Token::Mark(":="));
+        assert_eq!(plain("fetch-add x"), [name("fetch-add"), name("x"), Token::End]);
+        assert!(tokens("fetch-adds x").is_err());
     }
 
     #[test]

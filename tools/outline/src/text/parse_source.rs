@@ -215,11 +215,13 @@ fn move_value(c: &mut Cursor) -> Result<Instruction, Mistake> {
             if c.take(":=") {
                 return Ok(Instruction::Assign { register, value: c.value()? });
             }
-            let acquiring = c.take("<-acq");
-            if !acquiring && !c.take("<-") {
-                return c.wanted("`:=`, `<-` or `<-acq` behind a register");
+            if c.take("<-acq") {
+                return Ok(Instruction::Load { register, word: c.word()?, acquiring: true });
             }
-            Ok(Instruction::Load { register, word: c.word()?, acquiring })
+            if c.take("<-") {
+                return fetched(c, register);
+            }
+            c.wanted("`:=`, `<-` or `<-acq` behind a register")
         }
         Some(Meaning::Word(word)) => {
             c.at += 1;
@@ -233,6 +235,21 @@ fn move_value(c: &mut Cursor) -> Result<Instruction, Mistake> {
     }
 }
 
+/// What stands behind `<-`: a word, `exchange WORD := VALUE` or `fetch-add WORD + VALUE`.
+fn fetched(c: &mut Cursor, register: u8) -> Result<Instruction, Mistake> {
+    if c.take("exchange") {
+        let word = c.word()?;
+        c.expect(":=")?;
+        return Ok(Instruction::Exchange { register, word, value: c.value()? });
+    }
+    if c.take("fetch-add") {
+        let word = c.word()?;
+        c.expect("+")?;
+        return Ok(Instruction::FetchAdd { register, word, value: c.value()? });
+    }
+    Ok(Instruction::Load { register, word: c.word()?, acquiring: false })
+}
+
 /// Instructions use own registers only, and no word but the one moved.
 fn own(c: &Cursor, instruction: &Instruction, thread: u8, line: usize) -> Result<(), Mistake> {
     let fault = |text: String| Err(Mistake { line, text });
@@ -241,7 +258,12 @@ fn own(c: &Cursor, instruction: &Instruction, thread: u8, line: usize) -> Result
         if !registers_only(&operand) {
             return fault("words, unsync and cov may not stand in an instruction's formula".into());
         }
-        registers.extend(registers_of(&operand));
+        let named = registers_of(&operand);
+        if instruction.fetched().is_some_and(|fetched| named.contains(&fetched.register)) {
+            let text = "the register that gets the old value may not stand in the new one";
+            return fault(text.into());
+        }
+        registers.extend(named);
     }
     match registers.into_iter().find(|r| c.scope.owners[usize::from(*r) - 1] != thread) {
         Some(r) => {

@@ -90,6 +90,14 @@ impl Names {
             Instruction::Swap { word, value } => {
                 format!("swap {} := {}", self.word(*word), self.value(value))
             }
+            Instruction::Exchange { register, word, value } => {
+                let (register, word) = (self.register(*register), self.word(*word));
+                format!("{register} <- exchange {word} := {}", self.value(value))
+            }
+            Instruction::FetchAdd { register, word, value } => {
+                let (register, word) = (self.register(*register), self.word(*word));
+                format!("{register} <- fetch-add {word} + {}", self.value(value))
+            }
             Instruction::Branch { test, target } => {
                 format!("if {} goto {target}", self.test(test))
             }

@@ -1,8 +1,9 @@
-//! Record bodies, first to last: codes 5 to 9.
+//! Record bodies, first to last: codes 5 to 9, and 23.
 //!
 //! Within a record the lowest code counts. Each reader below therefore judges
-//! length (5), then every number (6), then sorts (8), then owners (9); a formula
-//! record, after its length, has the first fault from the left (6 or 7).
+//! length (5), then every number (6), then sorts (8), then owners (9), then
+//! operands (23); a formula record, after its length, has the first fault from
+//! the left (6 or 7).
 
 mod formula;
 mod header;
@@ -22,6 +23,7 @@ const RANGE: u16 = 6;
 const FORM: u16 = 7;
 const SORT: u16 = 8;
 const OWNER: u16 = 9;
+const OPERAND: u16 = 23;
 
 /// What a reader finds, or the code of its first fault.
 type Read<T> = Result<T, u16>;

@@ -1,6 +1,6 @@
 //! A thread record: points and instructions.
 
-use super::{demand, formula_numbered, Context, Read, LENGTH, OWNER, RANGE, SORT};
+use super::{demand, formula_numbered, Context, Read, LENGTH, OPERAND, OWNER, RANGE, SORT};
 use crate::formula::atoms::{Atom, Atoms};
 use crate::formula::{Formula, Test, Value};
 use crate::image::{written, Header, Instruction, Thread};
@@ -15,6 +15,7 @@ pub fn read(body: &[u8], thread: usize, context: &Context) -> Read<Thread> {
     each(&code, |fields| fields.check_numbers(points, context))?;
     let instructions = each(&code, |fields| fields.instruction(context.formulas))?;
     each(&instructions, |instruction| check_owner(instruction, thread, context.header))?;
+    each(&instructions, check_operand)?;
     Ok(instructions)
 }
 
@@ -35,6 +36,7 @@ impl written::Instruction {
             1 | 2 => register(self.a) && word(self.b) && self.formula == 0,
             3..=5 => word(self.a) && self.b == 0 && formula,
             6 => self.a < points && self.b == 0 && formula,
+            7 | 8 => word(self.a) && register(self.b) && formula,
             _ => false,
         };
         demand(in_range, RANGE)
@@ -55,6 +57,8 @@ impl written::Instruction {
                 let test = own_test(formula_numbered(formulas, self.formula)?)?;
                 Instruction::Branch { test, target: a }
             }
+            7 => Instruction::Exchange { register: b, word: a, value: value()? },
+            8 => Instruction::FetchAdd { register: b, word: a, value: value()? },
             _ => return Err(RANGE),
         })
     }
@@ -87,4 +91,14 @@ fn check_owner(instruction: &Instruction, thread: usize, header: &Header) -> Rea
     let result = instruction.result().is_some_and(foreign);
     let operand = instruction.operand().is_some_and(|formula| formula.has_atom(foreign_atom));
     demand(!result && !operand, OWNER)
+}
+
+/// Code 23: the operand of exchange and fetch-add does not name the register that gets the old value.
+fn check_operand(instruction: &Instruction) -> Read<()> {
+    let named = match instruction {
+        Instruction::Exchange { register, value, .. }
+        | Instruction::FetchAdd { register, value, .. } => value.has_register(*register),
+        _ => false,
+    };
+    demand(!named, OPERAND)
 }

@@ -1,4 +1,4 @@
-//! Rules 3 to 5: what a load learns, and what an acquiring load or swap skips.
+//! Rules 3 to 5 and 47: what a read learns, and what skips writes that are not synchronised.
 
 use super::actions::Load;
 use super::triples::{Sides, Triple};
@@ -15,9 +15,18 @@ pub fn before_load(e: &Test, load: &Load) -> Interval {
 
 /// 3 load: t sees [e with r replaced by x] to holds e.
 pub fn rule_3(c: &Triple) -> Fit {
-    let load = c.action.load()?;
+    learns(c, &c.action.load()?)
+}
+
+/// 47 exchange, fetch-add: as 3.
+pub fn rule_47(c: &Triple) -> Fit {
+    learns(c, &c.action.fetched()?)
+}
+
+/// t sees [e with r replaced by x] to holds e.
+fn learns(c: &Triple, load: &Load) -> Fit {
     let e = c.right.as_holds()?;
-    Some(**c.left == Assertion::sees(c.thread, before_load(e, &load)))
+    Some(**c.left == Assertion::sees(c.thread, before_load(e, load)))
 }
 
 /// 4 load: t sees [that];I to either(holds e, Q), from t sees I to Q.
@@ -30,7 +39,7 @@ pub fn rule_4(c: &Triple, premise: Sides) -> Fit {
     Some(seer == c.thread && c.is(left, right)?)
 }
 
-/// 5 acquiring load, swap: t sees [unsync x];I to Q, from t sees I to Q.
+/// 5 acquiring load, swap, exchange, fetch-add: t sees [unsync x];I to Q, from t sees I to Q.
 pub fn rule_5(c: &Triple, premise: Sides) -> Fit {
     let word = c.action.joined_word()?;
     skips(c, Test::Unsync(word), premise)

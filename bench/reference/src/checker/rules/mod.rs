@@ -13,6 +13,7 @@ pub mod table;
 pub mod triples;
 
 use crate::image::{Image, Line, Program, Statement};
+pub use actions::{Load, Write};
 pub use loads::before_load;
 pub use structure::keeps;
 pub use swaps::covered_till_last;
@@ -32,12 +33,17 @@ impl Form {
     /// The form of a rule's lines; none for a rule that is not listed.
     pub fn of_rule(rule: u8) -> Option<Form> {
         match rule {
-            1..=16 => Some(Form::Triple),
+            1..=16 | 47..=49 => Some(Form::Triple),
             20..=27 => Some(Form::Implication),
             30..=46 => Some(Form::Inclusion),
             _ => None,
         }
     }
+}
+
+/// Every rule.
+pub fn rules() -> impl Iterator<Item = u8> {
+    (0..=u8::MAX).filter(|&rule| Form::of_rule(rule).is_some())
 }
 
 /// Whether a line has the shape of its rule: `None` and `Some(false)` both say no.

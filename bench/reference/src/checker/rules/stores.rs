@@ -1,4 +1,4 @@
-//! Rules 6 to 10: what a store does to what threads see (9 and 10 for swaps too).
+//! Rules 6 to 10: what a store does to what threads see (9 for swaps too, 10 for every write).
 
 use super::loads::skips;
 use super::triples::{Sides, Triple};
@@ -44,7 +44,7 @@ pub fn rule_9(c: &Triple) -> Fit {
     let write = c.action.store_or_swap()?;
     let (u, interval) = c.right.as_sees()?;
     let e = interval.as_all()?;
-    let after = e.replace(&Replacement { leaf: Value::Word(write.word), by: write.value });
+    let after = e.replace(&Replacement { leaf: Value::Word(write.word), by: &write.value });
     let left = Assertion::both(
         Assertion::sees(u, Interval::all(e.clone())),
         Assertion::sees(u, Interval::All(after)),
@@ -54,8 +54,8 @@ pub fn rule_9(c: &Triple) -> Fit {
     Some(!flagged && **c.left == left)
 }
 
-/// 10 store, swap: as 5 with [cov x].
+/// 10 store, swap, exchange, fetch-add: as 5 with [cov x].
 pub fn rule_10(c: &Triple, premise: Sides) -> Fit {
-    let write = c.action.store_or_swap()?;
-    skips(c, Test::Covered(write.word), premise)
+    let word = c.action.written_word()?;
+    skips(c, Test::Covered(word), premise)
 }

@@ -8,17 +8,17 @@ use crate::formula::replace::{Replace, Replacement};
 use crate::formula::{Assertion, Value};
 use crate::image::{Instruction, Statement};
 
-/// 1 load, store, swap: P kept (load: r absent; others: x absent in any role).
+/// 1 load, store, swap, exchange, fetch-add: P kept (r absent; written x absent in any role).
 pub fn rule_1(c: &Triple) -> Fit {
     Some(keeps(c.action, c.left.as_ref())? && c.left == c.right)
 }
 
 /// Whether rule 1 lets the instruction keep what this formula says.
 pub fn keeps(action: &Instruction, kept: &impl Atoms) -> Fit {
-    Some(match action.load() {
-        Some(load) => !kept.has_register(load.register),
-        None => !kept.has_word(action.store_or_swap()?.word),
-    })
+    action.word()?;
+    let set = action.result().is_some_and(|register| kept.has_register(register));
+    let written = action.written_word().is_some_and(|word| kept.has_word(word));
+    Some(!set && !written)
 }
 
 /// 2 assignment: left is right with r replaced by f.

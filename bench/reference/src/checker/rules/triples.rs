@@ -1,4 +1,4 @@
-//! Rules 1 to 16: what an instruction does.
+//! Rules 1 to 16 and 47 to 49: what an instruction does.
 
 use super::{loads, stores, structure, swaps, Fit};
 use crate::formula::Assertion;
@@ -55,6 +55,9 @@ pub fn fits(rule: u8, c: &Triple, premises: &[&Statement]) -> Fit {
         (14, [p, q]) => structure::rule_14(c, c.premise(p)?, c.premise(q)?),
         (15, [p, q]) => structure::rule_15(c, c.premise(p)?, c.premise(q)?),
         (16, [before, p, after]) => structure::rule_16(c, before, c.premise(p)?, after),
+        (47, []) => loads::rule_47(c),
+        (48, []) => swaps::rule_48(c),
+        (49, []) => swaps::rule_49(c),
         _ => None,
     }
 }

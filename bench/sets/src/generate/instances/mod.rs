@@ -7,15 +7,14 @@ mod triples;
 
 use super::random::Random;
 use super::vocabulary::Vocabulary;
+use reference::checker::rules::Form;
 use reference::formula::{Assertion, Interval};
 use reference::image::{Header, Instruction};
 use reference::proof::Lemma;
 use std::rc::Rc;
 
-/// The rules for triples, implications and inclusions.
-pub const TRIPLES: std::ops::RangeInclusive<u8> = 1..=16;
-pub const IMPLICATIONS: std::ops::RangeInclusive<u8> = 20..=27;
-pub const INCLUSIONS: std::ops::RangeInclusive<u8> = 30..=46;
+/// The operations that triples are about: all but branches.
+pub const ACTIONS: [u8; 8] = [0, 1, 2, 3, 4, 5, 7, 8];
 
 /// What an instance is made from.
 pub struct Setting<'a> {
@@ -47,25 +46,26 @@ impl Setting<'_> {
 /// The operations for which a rule has instances.
 pub fn operations(rule: u8) -> &'static [u8] {
     match rule {
-        1 => &[1, 2, 3, 4, 5],
+        1 => &[1, 2, 3, 4, 5, 7, 8],
         2 => &[0],
         3 | 4 => &[1, 2],
-        5 => &[2, 5],
+        5 => &[2, 5, 7, 8],
         6 | 7 => &[3, 4],
         8 => &[4],
-        9 | 10 => &[3, 4, 5],
-        11..=13 => &[5],
-        _ => &[0, 1, 2, 3, 4, 5],
+        9 => &[3, 4, 5],
+        10 => &[3, 4, 5, 7, 8],
+        11 | 12 => &[5],
+        13 => &[5, 7, 8],
+        47..=49 => &[7, 8],
+        _ => &ACTIONS,
     }
 }
 
 /// An instance of the rule. The setting's instruction must be one of its operations.
 pub fn instance(setting: &mut Setting, rule: u8) -> Lemma {
-    if TRIPLES.contains(&rule) {
-        triples::instance(setting, rule)
-    } else if IMPLICATIONS.contains(&rule) {
-        implications::instance(setting, rule)
-    } else {
-        inclusions::instance(setting, rule)
+    match Form::of_rule(rule).expect("a rule") {
+        Form::Triple => triples::instance(setting, rule),
+        Form::Implication => implications::instance(setting, rule),
+        Form::Inclusion => inclusions::instance(setting, rule),
     }
 }

@@ -1,4 +1,4 @@
-//! Instances of rules 1 to 16.
+//! Instances of rules 1 to 16 and 47 to 49.
 
 use super::Setting;
 use crate::generate::vocabulary::Vocabulary;
@@ -15,9 +15,9 @@ pub fn instance(s: &mut Setting, rule: u8) -> Lemma {
             triple(1, s.place, same.clone(), same, &[])
         }
         2 => assignment(s),
-        3 => {
+        3 | 47 => {
             let (left, right) = loaded(s);
-            triple(3, s.place, s.actor(left), Assertion::Holds(right), &[])
+            triple(rule, s.place, s.actor(left), Assertion::Holds(right), &[])
         }
         4 => load_or_later(s),
         5 => skipping(s, 5, Test::Unsync(s.word())),
@@ -26,8 +26,8 @@ pub fn instance(s: &mut Setting, rule: u8) -> Lemma {
         8 => released(s),
         9 => stable_test(s),
         10 => skipping(s, 10, Test::Covered(s.word())),
-        11 => triple(11, s.place, s.actor(s.last_uncovered()), s.actor(s.settled()), &[]),
-        12 => seen_swap(s),
+        11 | 48 => triple(rule, s.place, s.actor(s.last_uncovered()), s.actor(s.settled()), &[]),
+        12 | 49 => seen_swap(s, rule),
         13 => released_swap(s),
         14 => {
             let (p, q) = (any(s), any(s));
@@ -49,6 +49,7 @@ fn any(s: &mut Setting) -> Lemma {
         Instruction::Store { releasing: false, .. } => &[1, 6, 7, 9],
         Instruction::Store { releasing: true, .. } => &[1, 6, 7, 8, 9],
         Instruction::Swap { .. } => &[1, 9, 11, 12, 13],
+        Instruction::Exchange { .. } | Instruction::FetchAdd { .. } => &[1, 13, 47, 48, 49],
         Instruction::Branch { .. } => panic!("no triple is about a branch"),
     };
     let rule = *s.random.pick(rules);
@@ -58,27 +59,20 @@ fn any(s: &mut Setting) -> Lemma {
 impl Setting<'_> {
     /// The word of the instruction; 0 for an assignment.
     fn word(&self) -> u8 {
-        match self.action {
-            Instruction::Load { word, .. }
-            | Instruction::Store { word, .. }
-            | Instruction::Swap { word, .. } => *word,
-            _ => 0,
-        }
+        self.action.word().unwrap_or(0)
     }
 
     /// The register that the instruction sets; 0 if none.
     fn register(&self) -> u8 {
-        match self.action {
-            Instruction::Assign { register, .. } | Instruction::Load { register, .. } => *register,
-            _ => 0,
-        }
+        self.action.result().unwrap_or(0)
     }
 
     /// The names that rule 1 lets stand.
     fn untouched(&self) -> Vocabulary {
+        let names = self.vocabulary().without_register(self.register());
         match self.action {
-            Instruction::Load { register, .. } => self.vocabulary().without_register(*register),
-            _ => self.vocabulary().without_word(self.word()),
+            Instruction::Load { .. } => names,
+            _ => names.without_word(self.word()),
         }
     }
 
@@ -87,9 +81,15 @@ impl Setting<'_> {
         Assertion::sees(self.place.0, interval)
     }
 
+    /// What the word equals after the instruction, which writes.
     fn written(&self) -> Rc<Value> {
         match self.action {
-            Instruction::Store { value, .. } | Instruction::Swap { value, .. } => value.clone(),
+            Instruction::Store { value, .. }
+            | Instruction::Swap { value, .. }
+            | Instruction::Exchange { value, .. } => value.clone(),
+            Instruction::FetchAdd { register, value, .. } => {
+                Value::sum(Value::Register(*register), value.clone()).into()
+            }
             _ => Rc::new(Value::Constant(0)),
         }
     }
@@ -138,6 +138,10 @@ fn tail(s: &mut Setting) -> Lemma {
         Instruction::Load { .. } => instance(s, 3),
         Instruction::Store { .. } => instance(s, 6),
         Instruction::Swap { .. } => instance(s, 11),
+        Instruction::Exchange { .. } | Instruction::FetchAdd { .. } => {
+            let rule = *s.random.pick(&[47, 48]);
+            instance(s, rule)
+        }
         _ => kept,
     }
 }
@@ -190,12 +194,12 @@ fn stable_test(s: &mut Setting) -> Lemma {
     triple(9, s.place, left, right, &[])
 }
 
-fn seen_swap(s: &mut Setting) -> Lemma {
+fn seen_swap(s: &mut Setting, rule: u8) -> Lemma {
     let u = s.thread();
     let observer = Assertion::sees(u, s.last_uncovered());
     let left = Assertion::both(s.actor(s.last_uncovered()), observer);
     let right = Assertion::sees(u, Interval::chop(s.covered(), s.settled()));
-    triple(12, s.place, left, right, &[])
+    triple(rule, s.place, left, right, &[])
 }
 
 fn released_swap(s: &mut Setting) -> Lemma {

@@ -15,7 +15,7 @@ pub fn cases() -> Vec<Case> {
         cases.push(put("5: 256 bytes", &long_formula(256)));
         cases.push(put("5: 256 bytes, unknown code", &[7; 256]));
         cases.push(put("5: 512 bytes", &[8; 512]));
-        cases.push(put("6: register 4", &[1, 4]));
+        cases.push(put("6: register 5", &[1, 5]));
         cases.push(put("6: word 3", &[17, 3]));
         cases.push(put("6: thread 3", &[24, 3, 17, 1]));
         cases.push(put("6: constant 8", &[0, 8]));

@@ -41,7 +41,7 @@ fn ranges() -> Vec<Case> {
             cases.push(set(format!("6: {name} {value}"), place, value));
         }
     }
-    for (place, name) in [(5, "first owner"), (6, "middle owner"), (7, "last owner")] {
+    for (place, name) in [(5, "first owner"), (6, "middle owner"), (8, "last owner")] {
         for owner in [0, 3, 255] {
             cases.push(set(format!("6: {name} {owner}"), place, owner));
         }

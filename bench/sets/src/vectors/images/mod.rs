@@ -5,6 +5,7 @@ mod formula;
 mod frames;
 mod header;
 mod line;
+mod numbers;
 mod obligations;
 mod outline;
 mod thread;
@@ -27,6 +28,7 @@ pub fn cases() -> Vec<Case> {
         thread::cases(),
         outline::cases(),
         line::cases(),
+        numbers::cases(),
         obligations::cases(),
         precedence::cases(),
     ]

@@ -1,11 +1,11 @@
-//! Codes 5, 6, 8 and 9 in thread records.
+//! Codes 5, 6, 8, 9 and 23 in thread records.
 
 use super::{Case, Draft};
-use crate::vectors::tour::Spare;
+use crate::vectors::tour::{place_of, Spare};
 use reference::checker::frames::{FORMULA, HEADER, THREAD};
 
 pub fn cases() -> Vec<Case> {
-    [lengths(), numbers(), sorts(), deep_sorts(), owners()].concat()
+    [lengths(), numbers(), sorts(), deep_sorts(), owners(), operands()].concat()
 }
 
 fn lengths() -> Vec<Case> {
@@ -38,23 +38,24 @@ fn lengths() -> Vec<Case> {
     cases
 }
 
-/// Thread 1 of the tour with one field of one instruction changed.
-fn with_field(point: usize, field: usize, byte: u8) -> Draft {
-    Draft::new().set(THREAD, 0, 1 + 5 * point + field, byte)
+/// The tour with one field changed of the instruction with an operation.
+fn with_field(operation: usize, field: usize, byte: u8) -> Draft {
+    let (thread, point) = place_of(operation);
+    Draft::new().set(THREAD, thread, 1 + 5 * point + field, byte)
 }
 
-/// Thread 1 of the tour with the formula of one instruction changed.
-fn with_formula(point: usize, formula: u16) -> Draft {
-    Draft::new().set_number(THREAD, 0, 1 + 5 * point + 3, formula)
+/// The tour with another formula for the instruction with an operation.
+fn with_formula(operation: usize, formula: u16) -> Draft {
+    let (thread, point) = place_of(operation);
+    Draft::new().set_number(THREAD, thread, 1 + 5 * point + 3, formula)
 }
 
-/// In thread 1 of the tour the instruction at point p has operation p.
 fn numbers() -> Vec<Case> {
     let formulas = Draft::new().count(FORMULA) as u16;
     let mut cases = Vec::new();
-    for operation in 0..7 {
+    for operation in 0..9 {
         for (field, name) in [(1, "a"), (2, "b")] {
-            for byte in [0, 1, 2, 3, 4, 7, 8, 255] {
+            for byte in [0, 1, 2, 3, 4, 5, 7, 8, 255] {
                 let label =
                     format!("range, unused field: field {name} of operation {operation} is {byte}");
                 cases.push(with_field(operation, field, byte).case(label));
@@ -64,12 +65,16 @@ fn numbers() -> Vec<Case> {
             let label = format!("formula number: operation {operation} has formula {formula}");
             cases.push(with_formula(operation, formula).case(label));
         }
-        for other in [7, 8, 255] {
+        for other in [9, 10, 255] {
             let label = format!("6: operation {other} in place of {operation}");
             cases.push(with_field(operation, 0, other).case(label));
         }
+        for other in (0..9).filter(|&other| usize::from(other) != operation) {
+            let label = format!("fields: operation {other} in place of {operation}");
+            cases.push(with_field(operation, 0, other).case(label));
+        }
     }
-    cases.push(Draft::new().set(THREAD, 1, 1, 7).case("6: operation 7 in the last thread"));
+    cases.push(Draft::new().set(THREAD, 1, 1, 9).case("6: operation 9 in the last thread"));
     cases.push(Draft::new().set(THREAD, 1, 7, 3).case("6: word 3 in the last thread"));
     cases
 }
@@ -86,7 +91,7 @@ fn sorts() -> Vec<Case> {
         ("an assertion", Spare::HiddenStart),
     ];
     let mut cases = Vec::new();
-    for operation in [0, 3, 4, 5, 6] {
+    for operation in [0, 3, 4, 5, 6, 7, 8] {
         for (name, which) in spares {
             let label = format!("sort of a formula: operation {operation} has {name}");
             cases.push(with_formula(operation, draft.spare(which)).case(label));
@@ -107,6 +112,8 @@ fn deep_sorts() -> Vec<Case> {
     vec![
         sound.case("accepted: a sum of sums in operation 3"),
         word.case("8: word deep in the value of operation 3"),
+        with(7, value, &[3, 0, 1, 3, 1, 4, 2, 1]).case("8: word deep in the value of operation 7"),
+        with(8, value, &[3, 0, 1, 3, 1, 2, 2, 1]).case("8: word deep in the value of operation 8"),
         with(6, test, &[13, 8, 9, 0, 1, 2, 2]).case("8: word deep in the test of a branch"),
         with(6, test, &[11, 12, 8, 14, 2]).case("8: unsync deep in the test of a branch"),
         with(6, test, &[12, 9, 1, 1, 0, 0, 15, 1]).case("8: cov deep in the test of a branch"),
@@ -124,11 +131,43 @@ fn owners() -> Vec<Case> {
         let label = format!("9: operation {operation} reads another thread's register");
         cases.push(with_formula(operation, draft.spare(Spare::OtherRegister)).case(label));
     }
+    for operation in [7, 8] {
+        let label = format!("9: operation {operation} sets another thread's register");
+        cases.push(with_field(operation, 2, 1).case(label));
+        let label = format!("9: operation {operation} reads another thread's register");
+        cases.push(with_formula(operation, draft.formula_number(&[1, 1])).case(label));
+    }
     let branch = with_formula(6, draft.spare(Spare::OtherTest));
     cases.push(branch.case("9: operation 6 reads another thread's register"));
-    for (register, owner) in [(1, 2), (2, 1), (3, 2)] {
+    for (register, owner) in [(1, 2), (2, 1), (3, 2), (4, 1)] {
         let label = format!("9: register {register} belongs to thread {owner}");
         cases.push(Draft::new().set(HEADER, 0, 4 + register, owner).case(label));
     }
     cases
+}
+
+/// Code 23: operation 7 sets register 2 and has operand r4, operation 8 the other way round.
+fn operands() -> Vec<Case> {
+    let draft = Draft::new();
+    let [r1, r2, r4] = [1, 2, 4].map(|register| draft.formula_number(&[1, register]));
+    let spare = draft.spare(Spare::Value);
+    let deep = |operation, register: u8| {
+        let bytes = [3, 3, 0, 1, 0, 2, 3, 1, register, 0, 1];
+        with_formula(operation, spare).put(FORMULA, usize::from(spare) - 1, &bytes)
+    };
+    // The swap of r3 in thread 1 made an exchange.
+    let in_first = |register| with_field(5, 0, 7).set(THREAD, 0, 1 + 5 * 5 + 2, register);
+    vec![
+        with_formula(7, r2).case("23: the operand of operation 7 is its register"),
+        with_formula(8, r4).case("23: the operand of operation 8 is its register"),
+        with_field(7, 2, 4).case("23: the register of operation 7 is its operand"),
+        with_field(8, 2, 2).case("23: the register of operation 8 is its operand"),
+        deep(7, 2).case("23: the operand of operation 7 has its register deep inside"),
+        deep(8, 4).case("23: the operand of operation 8 has its register deep inside"),
+        deep(7, 4).case("accepted: the operand of operation 7 has the other register deep inside"),
+        deep(8, 2).case("accepted: the operand of operation 8 has the other register deep inside"),
+        with_formula(0, r1).case("accepted: an assignment names its own register"),
+        in_first(3).case("23: an exchange in thread 1 names its register"),
+        in_first(1).case("accepted: an exchange in thread 1 names another instruction's register"),
+    ]
 }

@@ -1,9 +1,9 @@
 //! Instances of each rule, and the same with one thing changed.
 
-use super::frame::{header, image, image_for, instance, operations, rich_instance, rules};
-use crate::generate::instances::TRIPLES;
+use super::frame::{header, image, image_for, instance, operations, rich_instance};
+use crate::generate::instances::ACTIONS;
 use crate::vectors::Case;
-use reference::checker::rules::Form;
+use reference::checker::rules::{rules, Form};
 use reference::formula::encode::Encode;
 use reference::formula::parse::{parse, Counts};
 use reference::formula::Formula;
@@ -32,10 +32,10 @@ pub fn instances() -> Vec<Case> {
 /// The same triple for an instruction with every other operation.
 pub fn other_operations() -> Vec<Case> {
     let mut cases = Vec::new();
-    for rule in TRIPLES {
+    for rule in rules().filter(|&rule| Form::of_rule(rule) == Some(Form::Triple)) {
         for &operation in operations(rule) {
             let lemma = rich_instance(rule, operation);
-            for other in (0..=5).filter(|&other| other != operation) {
+            for other in ACTIONS.into_iter().filter(|&other| other != operation) {
                 let label = format!("rule {rule}: made for operation {operation}, is {other}");
                 cases.push(Case::new(label, image(other, &lemma)));
             }

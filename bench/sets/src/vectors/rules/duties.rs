@@ -3,6 +3,7 @@
 use super::frame::action;
 use crate::examples::{message_passing, two_writes};
 use crate::generate::harness;
+use crate::generate::instances::ACTIONS;
 use crate::vectors::Case;
 use reference::assemble::Plan;
 use reference::checker::obligations::duties;
@@ -78,7 +79,7 @@ fn restated(proof: &Lemma, on_left: bool, on_right: bool) -> Lemma {
 fn changed_program() -> Vec<Case> {
     let mut cases = Vec::new();
     for (thread, point, register) in [(0, 0, 3), (0, 1, 3), (1, 0, 1), (1, 2, 2)] {
-        for operation in 0..=5 {
+        for operation in ACTIONS {
             for word in [1, 2] {
                 let mut plan = message_passing();
                 plan.program.header.counts.registers = 3;
@@ -100,7 +101,9 @@ fn constant_action(operation: u8, register: u8, word: u8) -> Instruction {
         0 => Instruction::Assign { register, value },
         1 | 2 => Instruction::Load { register, word, acquiring: operation == 2 },
         3 | 4 => Instruction::Store { word, value, releasing: operation == 4 },
-        _ => Instruction::Swap { word, value },
+        5 => Instruction::Swap { word, value },
+        7 => Instruction::Exchange { register, word, value },
+        _ => Instruction::FetchAdd { register, word, value },
     }
 }
 

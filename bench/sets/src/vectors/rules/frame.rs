@@ -8,6 +8,7 @@ use crate::generate::harness;
 use crate::generate::instances::{self, Setting};
 use crate::generate::random::Random;
 use reference::checker::check;
+use reference::checker::rules::Form;
 use reference::formula::parse::Counts;
 use reference::formula::Value;
 use reference::image::{Header, Instruction, Statement, Thread};
@@ -34,7 +35,9 @@ pub fn action(operation: u8) -> Instruction {
         0 => Instruction::Assign { register: 1, value },
         1 | 2 => Instruction::Load { register: 1, word: 1, acquiring: operation == 2 },
         3 | 4 => Instruction::Store { word: 1, value, releasing: operation == 4 },
-        _ => Instruction::Swap { word: 1, value },
+        5 => Instruction::Swap { word: 1, value },
+        7 => Instruction::Exchange { register: 1, word: 1, value },
+        _ => Instruction::FetchAdd { register: 1, word: 1, value },
     }
 }
 
@@ -75,14 +78,9 @@ pub fn rich_instance(rule: u8, operation: u8) -> Lemma {
     candidates.max_by_key(|lemma| image(operation, lemma).len()).expect("a justified instance")
 }
 
-/// Every rule.
-pub fn rules() -> impl Iterator<Item = u8> {
-    instances::TRIPLES.chain(instances::IMPLICATIONS).chain(instances::INCLUSIONS)
-}
-
 /// The operations under which a rule is tried; one suffices where none matters.
 pub fn operations(rule: u8) -> &'static [u8] {
-    if instances::TRIPLES.contains(&rule) {
+    if Form::of_rule(rule) == Some(Form::Triple) {
         instances::operations(rule)
     } else {
         &[3]

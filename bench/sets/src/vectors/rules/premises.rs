@@ -1,8 +1,9 @@
 //! Premises: too few, too many, exchanged, unjustified, of another form, for
 //! another instruction, saying something else.
 
-use super::frame::{image_with_twin, operations, rich_instance, rules};
+use super::frame::{image_with_twin, operations, rich_instance};
 use crate::vectors::Case;
+use reference::checker::rules::rules;
 use reference::formula::{Assertion, Interval};
 use reference::image::Statement;
 use reference::proof::{consequence, implies, included, triple, Lemma, Proof};

@@ -4,24 +4,10 @@ use super::frames::Frames;
 use super::thread::has_action;
 use super::uses::{is_outlined, is_sort, Search, ASSERTION, INTERVAL};
 use super::{demand, number, numbers, Checked, LENGTH, RANGE, SORT};
+use reference::checker::rules::Form;
 
 const FIXED: usize = 8;
 const PREMISES: u8 = 4;
-
-enum Form {
-    Triple,
-    Implication,
-    Inclusion,
-}
-
-fn form_of(rule: u8) -> Option<Form> {
-    match rule {
-        1..=16 => Some(Form::Triple),
-        20..=27 => Some(Form::Implication),
-        30..=46 => Some(Form::Inclusion),
-        _ => None,
-    }
-}
 
 /// The line that has so many before it.
 pub fn check<S: Search>(body: &[u8], before: usize, frames: &Frames) -> Checked {
@@ -30,7 +16,7 @@ pub fn check<S: Search>(body: &[u8], before: usize, frames: &Frames) -> Checked 
     let (thread, point, count) = (fixed[1] as usize, fixed[2] as usize, fixed[7]);
     demand(premises.len() == 2 * count as usize, LENGTH)?;
 
-    let form = form_of(fixed[0]).ok_or(RANGE)?;
+    let form = Form::of_rule(fixed[0]).ok_or(RANGE)?;
     let placed = match form {
         Form::Triple => {
             (1..=frames.threads).contains(&thread) && has_action(frames.thread(thread), point)

@@ -1,4 +1,4 @@
-//! Readers in Rust, to compare with: codes 2 to 9 in the order of the verdict table. They allocate
+//! Readers in Rust, to compare with: codes 2 to 9 and 23 in the order of the verdict table. They allocate
 //! nothing, keep no more of an image than where its records start, and differ in how they search a formula
 //! for what may not stand in it.
 
@@ -14,7 +14,7 @@ use crate::formulas::answer::{Counts, Fault};
 use crate::formulas::readers::by_sets;
 use frames::Frames;
 use reference::checker::Refusal;
-pub use uses::{ByScan, ByTree, Search};
+pub use uses::{has_register, ByScan, ByTree, Search};
 
 /// Codes of faults in a body.
 const LENGTH: u16 = 5;
@@ -22,6 +22,7 @@ const RANGE: u16 = 6;
 const FORM: u16 = 7;
 const SORT: u16 = 8;
 const OWNER: u16 = 9;
+const OPERAND: u16 = 23;
 
 /// The code of a body's first fault, if it has one.
 type Checked = Result<(), u16>;

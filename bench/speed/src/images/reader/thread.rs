@@ -1,8 +1,8 @@
 //! A thread's record: its points, then an instruction of five bytes for each but the last.
 
 use super::frames::Frames;
-use super::uses::{has_foreign, is_plain_of, Search, TEST, VALUE};
-use super::{demand, header, number, Checked, LENGTH, OWNER, RANGE, SORT};
+use super::uses::{has_foreign, has_register, is_plain_of, Search, TEST, VALUE};
+use super::{demand, header, number, Checked, LENGTH, OPERAND, OWNER, RANGE, SORT};
 use crate::formulas::answer::Counts;
 
 const INSTRUCTION: usize = 5;
@@ -27,15 +27,25 @@ fn instructions(body: &[u8]) -> impl Iterator<Item = Instruction> + '_ {
 
 impl Instruction {
     fn fits(self, points: u8, n: Counts, frames: &Frames) -> bool {
-        let register = (1..=n.registers).contains(&self.a);
+        let register = |field: u8| (1..=n.registers).contains(&field);
         let word = |field: u8| (1..=n.words).contains(&field);
-        let formula = self.b == 0 && frames.has_formula(self.formula);
+        let formula = frames.has_formula(self.formula);
         match self.operation {
-            0 => register && formula,
-            1 | 2 => register && word(self.b) && self.formula == 0,
-            3..=5 => word(self.a) && formula,
-            BRANCH => self.a < points && formula,
+            0 => register(self.a) && self.b == 0 && formula,
+            1 | 2 => register(self.a) && word(self.b) && self.formula == 0,
+            3..=5 => word(self.a) && self.b == 0 && formula,
+            BRANCH => self.a < points && self.b == 0 && formula,
+            7 | 8 => word(self.a) && register(self.b) && formula,
             _ => false,
+        }
+    }
+
+    /// The register that is set; 0 for none.
+    fn result(self) -> u8 {
+        match self.operation {
+            0..=2 => self.a,
+            7 | 8 => self.b,
+            _ => 0,
         }
     }
 
@@ -46,10 +56,15 @@ impl Instruction {
     }
 
     fn is_owned<S: Search>(self, thread: u8, owners: &[u8], frames: &Frames) -> bool {
-        let target = self.operation > 2 || owners[self.a as usize - 1] == thread;
-        target
+        let result = self.result();
+        (result == 0 || owners[result as usize - 1] == thread)
             && (self.formula == 0
                 || !has_foreign::<S>(frames.formula(self.formula), thread, owners))
+    }
+
+    /// Whether an exchange or fetch-add has its result register in its operand.
+    fn names_result<S: Search>(self, frames: &Frames) -> bool {
+        matches!(self.operation, 7 | 8) && has_register::<S>(frames.formula(self.formula), self.b)
     }
 }
 
@@ -62,7 +77,8 @@ pub fn check<S: Search>(body: &[u8], thread: u8, n: Counts, frames: &Frames) -> 
     demand(instructions(body).all(|one| one.fits(points, n, frames)), RANGE)?;
     demand(instructions(body).all(|one| one.is_sorted::<S>(frames)), SORT)?;
     let owners = header::owners(frames.body(1));
-    demand(instructions(body).all(|one| one.is_owned::<S>(thread, owners, frames)), OWNER)
+    demand(instructions(body).all(|one| one.is_owned::<S>(thread, owners, frames)), OWNER)?;
+    demand(!instructions(body).any(|one| one.names_result::<S>(frames)), OPERAND)
 }
 
 /// How many points a thread that passed has.

@@ -84,3 +84,8 @@ pub fn is_plain_of<S: Search>(body: &[u8], sort: u8) -> bool {
 pub fn has_foreign<S: Search>(body: &[u8], thread: u8, owners: &[u8]) -> bool {
     S::any(body, |code, operand| code == REGISTER && owners[operand as usize - 1] != thread)
 }
+
+/// Whether it has this register.
+pub fn has_register<S: Search>(body: &[u8], register: u8) -> bool {
+    S::any(body, |code, operand| code == REGISTER && operand == register)
+}

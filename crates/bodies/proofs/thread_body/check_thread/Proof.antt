@@ -17,5 +17,4 @@ check-thread-spec =
     (λ c κs. search needs)
     (λ c. search (checking, tests))
     (λ c. search (checking, tests))
-    (λ c. search (checking, tests))
     (λ c. search (checking, tests)))

@@ -6,4 +6,4 @@ use Rattle.content.proofs.acting.read_acting.Tie as tie
 
 pub read-acting-spec : {M : Type 1} → statement M
 read-acting-spec =
-    tie.close (tie.spec (λ c κs. search needs) (λ c. search (acting, tests)) (λ c κs. search needs) (λ c. search (acting, tests)) (λ c. search (acting, tests)))
+    tie.close (tie.spec (λ c κs. search needs) (λ c. search (acting, tests)) (λ c. search (acting, tests)) (λ c κs. search needs) (λ c. search (acting, tests)))

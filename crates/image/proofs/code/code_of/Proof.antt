@@ -23,4 +23,5 @@ code-of-spec =
     (λ c. search needs)
     (λ c. search needs)
     (λ c. search needs)
+    (λ c. search needs) (λ c. search needs)
     (λ c. search needs))

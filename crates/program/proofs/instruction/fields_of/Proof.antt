@@ -21,4 +21,6 @@ fields-of-spec =
     (λ c κs. search needs)
     (λ c. search tests)
     (λ c κs. search needs)
+    (λ c. search tests)
+    (λ c κs. search needs)
     (λ c. search tests))

@@ -21,4 +21,7 @@ of-instruction-spec =
     (λ c. search (instructing, tests))
     (λ c κs. search needs)
     (λ c κs. search needs)
+    (λ c. search (instructing, tests))
+    (λ c κs. search needs)
+    (λ c κs. search needs)
     (λ c. search (instructing, tests)))

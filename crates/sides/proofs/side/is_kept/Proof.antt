@@ -11,6 +11,7 @@ is-kept-spec =
     (λ c. search (keeping, tests))
     (λ c κs. search needs)
     (λ c. search (keeping, tests))
+    (λ c. search (keeping, tests))
     (λ c κs. search needs)
     (λ c. search (keeping, tests))
     (λ c. search (keeping, tests)))

@@ -3,23 +3,35 @@
 use super::*;
 
 impl List {
-    /// Rules 3 and 4.
+    /// Rules 3, 4 and 47.
     pub(super) fn loads(&mut self) {
-        let e = |a: Value| Test::or(is(a.clone(), constant(3)), Test::less(a, register(2)));
-        let half = Test::or(is(word(X), constant(3)), Test::less(register(1), register(2)));
-        let right = || holds(e(register(1)));
-        for operation in [1, 2] {
-            self.triple("word for register", 3, operation, sees(T, all(e(word(X)))), right());
-            self.triple("another word", 3, operation, sees(T, all(e(word(Y)))), right());
-            self.triple("another thread", 3, operation, sees(U, all(e(word(X)))), right());
-            self.triple("half replaced", 3, operation, sees(T, all(half.clone())), right());
-            self.triple("not replaced", 3, operation, sees(T, all(e(register(1)))), right());
-            let other = || e(register(3));
-            self.triple("register absent", 3, operation, sees(T, all(other())), holds(other()));
-            self.triple("another register", 3, operation, sees(T, all(e(word(X)))), holds(other()));
+        for operation in [1, 2, 7, 8] {
+            self.learned(3, operation);
+            self.learned(47, operation);
             self.later(operation);
         }
-        self.triple("not for stores", 3, 3, sees(T, all(e(word(X)))), right());
+        for rule in [3, 47] {
+            for operation in [3, 4, 5] {
+                let (left, right) = (is(word(X), constant(3)), is(register(1), constant(3)));
+                self.triple("not for this one", rule, operation, sees(T, all(left)), holds(right));
+            }
+        }
+    }
+
+    fn learned(&mut self, rule: u8, operation: u8) {
+        let e = |a: Value| Test::or(is(a.clone(), constant(3)), Test::less(a, register(2)));
+        let half = Test::or(is(word(X), constant(3)), Test::less(register(1), register(2)));
+        let (right, other) = (|| holds(e(register(1))), || e(register(3)));
+        let rows = [
+            ("word for register", sees(T, all(e(word(X)))), right()),
+            ("another word", sees(T, all(e(word(Y)))), right()),
+            ("another thread", sees(U, all(e(word(X)))), right()),
+            ("half replaced", sees(T, all(half)), right()),
+            ("not replaced", sees(T, all(e(register(1)))), right()),
+            ("register absent", sees(T, all(other())), holds(other())),
+            ("another register", sees(T, all(e(word(X)))), holds(other())),
+        ];
+        self.triples(rule, operation, rows);
     }
 
     /// Rule 4 from t sees one y to t sees one y.
@@ -52,7 +64,7 @@ impl List {
 
     /// Rules 5 and 10.
     pub(super) fn skipped(&mut self) {
-        for operation in 1..=5 {
+        for operation in [1, 2, 3, 4, 5, 7, 8] {
             self.skipping(5, operation, Test::Unsync, Test::Covered);
             self.skipping(10, operation, Test::Covered, Test::Unsync);
         }

@@ -5,6 +5,7 @@ use crate::vectors::Case;
 use reference::formula::{Assertion, Interval, Test, Value};
 use reference::proof::{implies, included, triple, Lemma};
 
+mod fetches;
 mod inclusions;
 mod kept;
 mod loads;
@@ -18,6 +19,7 @@ pub fn cases() -> Vec<Case> {
     let mut list = List(Vec::new());
     list.kept_by_load();
     list.kept_by_write();
+    list.kept_by_both();
     list.assignment();
     list.loads();
     list.settled();
@@ -26,6 +28,7 @@ pub fn cases() -> Vec<Case> {
     list.stable();
     list.skipped();
     list.swaps();
+    list.fetches();
     list.start();
     list.rows();
     list.table();
@@ -72,9 +75,18 @@ fn holds(test: Test) -> Assertion {
     Assertion::holds(test)
 }
 
-/// both(one x, [x = f]) for the instruction's word and value.
-fn settled() -> Interval {
-    Interval::both(one(X), all(Test::equal(word(X), value())))
+/// The value that the instruction under test writes: f, and for fetch-add r1 + f.
+fn written(operation: u8) -> Value {
+    let value = Value::clone(&value());
+    match operation {
+        8 => Value::sum(register(1), value),
+        _ => value,
+    }
+}
+
+/// both(one x, [x = f]) for the instruction's word and what it writes.
+fn settled(operation: u8) -> Interval {
+    Interval::both(one(X), all(is(word(X), written(operation))))
 }
 
 /// [cov x];one x

@@ -3,7 +3,7 @@
 use super::*;
 
 /// Pairs of tests about registers 1 and 4; the first implies the second or not.
-fn pairs() -> [(&'static str, Test, Test); 12] {
+fn pairs() -> [(&'static str, Test, Test); 13] {
     let (r, s) = (|| register(1), || register(4));
     let next = || Value::sum(r(), constant(1));
     let not = |test| Test::negated(test);
@@ -17,6 +17,7 @@ fn pairs() -> [(&'static str, Test, Test); 12] {
         ("no value below 0", Test::truth(), not(Test::less(r(), constant(0)))),
         ("no value above 7", Test::truth(), not(Test::less(constant(7), r()))),
         ("7 is a value", Test::truth(), Test::less(r(), constant(7))),
+        ("0 is a value", Test::truth(), Test::less(constant(0), r())),
         ("false implies all", Test::False, is(r(), s())),
         ("no name, true", is(constant(3), constant(3)), Test::less(constant(1), constant(2))),
         ("no name, false", Test::truth(), is(constant(3), constant(4))),

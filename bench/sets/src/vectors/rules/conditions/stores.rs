@@ -1,35 +1,45 @@
-//! Rules 6 to 9 and 11: stores.
+//! Rules 6 to 9, 11 and 48: writes.
 
 use super::*;
 
 impl List {
-    /// Rules 6 and 11.
+    /// Rules 6, 11 and 48.
     pub(super) fn settled(&mut self) {
-        let equation = |a: Value, b: Value| Interval::both(one(X), all(is(a, b)));
-        let reversed = || Interval::both(one(X), all(Test::equal(value(), word(X))));
-        let parts = || Interval::both(all(Test::equal(word(X), value())), one(X));
-        let same_value = || equation(word(X), Value::sum(constant(1), register(2)));
-        for operation in [3, 4, 5] {
-            for (rule, before) in [(6, one(X)), (11, last_uncovered())] {
-                let mut add = |label: &str, left: Assertion, right: Assertion| {
-                    self.triple(label, rule, operation, left, right);
-                };
-                add("as it is", sees(T, before.clone()), sees(T, settled()));
-                add("another thread", sees(U, before.clone()), sees(U, settled()));
-                add("another thread left", sees(U, before.clone()), sees(T, settled()));
-                add("another thread right", sees(T, before.clone()), sees(U, settled()));
-                add("equation reversed", sees(T, before.clone()), sees(T, reversed()));
-                add("equal value, other bytes", sees(T, before.clone()), sees(T, same_value()));
-                add("parts exchanged", sees(T, before.clone()), sees(T, parts()));
-                add("another word", sees(T, one(Y)), sees(T, settled()));
-                add("one alone", sees(T, before.clone()), sees(T, one(X)));
+        for operation in [3, 4, 5, 7, 8] {
+            for (rule, before) in [(6, one(X)), (11, last_uncovered()), (48, last_uncovered())] {
+                self.settled_by(rule, operation, before);
             }
         }
     }
 
+    fn settled_by(&mut self, rule: u8, operation: u8, before: Interval) {
+        let after = || settled(operation);
+        let equation = |a: Value, b: Value| Interval::both(one(X), all(is(a, b)));
+        let reversed = equation(written(operation), word(X));
+        let exchanged = Interval::both(all(is(word(X), written(operation))), one(X));
+        let mut same_value = Value::sum(constant(1), register(2));
+        if operation == 8 {
+            same_value = Value::sum(register(1), same_value);
+        }
+        let before = |thread| sees(thread, before.clone());
+        let rows = [
+            ("as it is", before(T), sees(T, after())),
+            ("another thread", before(U), sees(U, after())),
+            ("another thread left", before(U), sees(T, after())),
+            ("another thread right", before(T), sees(U, after())),
+            ("equation reversed", before(T), sees(T, reversed)),
+            ("equal value, other bytes", before(T), sees(T, equation(word(X), same_value))),
+            ("parts exchanged", before(T), sees(T, exchanged)),
+            ("another word", sees(T, one(Y)), sees(T, after())),
+            ("one alone", before(T), sees(T, one(X))),
+        ];
+        self.triples(rule, operation, rows);
+    }
+
     /// Rule 7: the observer may be the actor.
     pub(super) fn seen_store(&mut self) {
-        for operation in [3, 4, 5] {
+        for operation in [3, 4, 5, 7, 8] {
+            let settled = || settled(operation);
             for u in [T, U] {
                 for (role, i) in roles(X) {
                     let left = Assertion::both(sees(T, one(X)), sees(u, i.clone()));
@@ -68,7 +78,7 @@ impl List {
             sees(u, Interval::chop(i, Interval::chop(all(flag), j)))
         };
         let i = || all(is(word(X), constant(0)));
-        for operation in [3, 4, 5] {
+        for operation in [3, 4, 5, 7] {
             for u in [T, U] {
                 for number in [X, Y] {
                     for (role, j) in roles(number) {
@@ -98,7 +108,7 @@ impl List {
 
     /// Rule 9: E lacks unsync x and cov x; the word's value is replaced.
     pub(super) fn stable(&mut self) {
-        for operation in [2, 3, 4, 5] {
+        for operation in [2, 3, 4, 5, 7, 8] {
             self.replaced(operation);
             self.flagged(operation);
         }

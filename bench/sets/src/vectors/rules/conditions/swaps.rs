@@ -1,4 +1,4 @@
-//! Rules 12 and 13: swaps.
+//! Rules 12, 13 and 49: swaps, exchange and fetch-add.
 
 use super::*;
 
@@ -19,15 +19,16 @@ fn known(actor: Assertion, observer: Assertion, j: Assertion) -> Assertion {
 
 impl List {
     pub(super) fn swaps(&mut self) {
-        for operation in [4, 5] {
-            self.seen_swap(operation);
+        for operation in [4, 5, 7, 8] {
+            self.seen_swap(12, operation);
+            self.seen_swap(49, operation);
             self.released_swap(operation);
         }
     }
 
-    fn seen_swap(&mut self, operation: u8) {
+    fn seen_swap(&mut self, rule: u8, operation: u8) {
         let c = |thread| sees(thread, last_uncovered());
-        let right = |thread| sees(thread, Interval::chop(covered(), settled()));
+        let right = |thread| sees(thread, Interval::chop(covered(), settled(operation)));
         let rows = [
             ("observer 1", Assertion::both(c(T), c(T)), right(T)),
             ("observer 2", Assertion::both(c(T), c(U)), right(U)),
@@ -36,7 +37,7 @@ impl List {
             ("another actor", Assertion::both(c(U), c(U)), right(U)),
             ("another observer", Assertion::both(c(T), c(T)), right(U)),
         ];
-        self.triples(12, operation, rows);
+        self.triples(rule, operation, rows);
     }
 
     fn released_swap(&mut self, operation: u8) {
@@ -59,5 +60,11 @@ impl List {
             ("another actor", known(c(U), c(U), j()), right()),
         ];
         self.triples(13, operation, rows);
+        for number in [1, 2, 4] {
+            let j = || all(is(sum(register(number)), word(Y)));
+            let left = known(c(T), c(U), sees(T, j()));
+            let label = format!("register {number} in J");
+            self.triple(&label, 13, operation, left, passed_on(U, j()));
+        }
     }
 }

@@ -2,7 +2,7 @@
 //!
 //! Usage: recheck FOLDER
 
-use sets::vectors::recheck::{formulas, images};
+use reference::stored::{formulas, images};
 use std::path::Path;
 use std::process::ExitCode;
 

@@ -1,9 +1,12 @@
 //! Stored sets read back and judged again.
+//!
+//! A container of images has for each case its length (16 bits), the image, the nine fields of its
+//! verdict (16 bits each); one of formulas their length (16 bits), bytes, threads, words and registers
+//! (a byte each), result and sort (16 bits each). All numbers are little-endian.
 
-use crate::vectors::formulas::FormulaCase;
-use crate::vectors::store::answer;
-use reference::checker::check;
-use reference::formula::parse::Counts;
+use crate::checker::check;
+use crate::formula::parse::{parse, Counts, Fault};
+use crate::formula::Sort;
 
 /// An image of a container, with the nine fields stored for it.
 pub struct StoredImage<'a> {
@@ -50,14 +53,27 @@ pub fn formulas(mut bytes: &[u8]) -> Option<Vec<bool>> {
     let mut results = Vec::new();
     while !bytes.is_empty() {
         let length = number(&mut bytes)?;
-        let formula = take(&mut bytes, usize::from(length))?.to_vec();
+        let formula = take(&mut bytes, usize::from(length))?;
         let &[threads, words, registers] = take(&mut bytes, 3)? else {
             return None;
         };
         let counts = Counts { threads, words, registers };
         let stored = [number(&mut bytes)?, number(&mut bytes)?];
-        let case = FormulaCase { label: String::new(), formula, counts };
-        results.push(answer(&case) == stored);
+        results.push(answer(formula, counts) == stored);
     }
     Some(results)
+}
+
+/// The result and sort of a formula: 0 accepted, 6 or 7; sort 0 if refused.
+pub fn answer(formula: &[u8], counts: Counts) -> [u16; 2] {
+    match parse(formula, counts) {
+        Err(Fault::Range) => [6, 0],
+        Err(Fault::Form) => [7, 0],
+        Ok(formula) => match formula.sort() {
+            Sort::Value => [0, 0],
+            Sort::Test => [0, 1],
+            Sort::Interval => [0, 2],
+            Sort::Assertion => [0, 3],
+        },
+    }
 }

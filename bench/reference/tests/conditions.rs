@@ -1,0 +1,142 @@
+//! What the rules for exchange and fetch-add ask for is needed: without it the machine breaks the triple.
+
+use reference::explore::truth::is_true;
+use reference::explore::{reachable, Bounds};
+use reference::formula::parse::Counts;
+use reference::formula::{Assertion, Interval, Test, Value};
+use reference::image::{Header, Instruction, Program, Thread};
+use reference::machine::{take, Step};
+use std::rc::Rc;
+
+const BOUNDS: Bounds = Bounds { steps: 3, writes: 4 };
+
+/// Word 1 starts at 1, word 2 at 0. Thread 1 owns both registers.
+fn program(action: Instruction) -> Program {
+    let counts = Counts { threads: 2, words: 2, registers: 2 };
+    let header = Header { counts, start: vec![1, 0], owners: vec![1, 1] };
+    let threads: Vec<Thread> = vec![vec![action], Vec::new()];
+    let truth = Rc::new(Assertion::truth());
+    Program { header, threads, outline: vec![vec![truth.clone(); 2], vec![truth]] }
+}
+
+fn exchange(value: u8) -> Program {
+    program(Instruction::Exchange { register: 1, word: 1, value: Value::Constant(value).into() })
+}
+
+fn fetch_add(value: u8) -> Program {
+    program(Instruction::FetchAdd { register: 1, word: 1, value: Value::Constant(value).into() })
+}
+
+/// How often the instruction takes the left side to the right one, and how often not.
+fn outcomes(program: &Program, left: &Assertion, right: &Assertion) -> (usize, usize) {
+    let states = reachable(program, BOUNDS);
+    let start = &states[0];
+    let before = states.iter().filter(|state| is_true(left, state, start));
+    let after = before.flat_map(|state| {
+        (0..BOUNDS.writes)
+            .filter_map(|position| take(&program.threads, state, Step { thread: 1, position }))
+    });
+    let (kept, broken): (Vec<bool>, Vec<bool>) =
+        after.map(|state| is_true(right, &state, start)).partition(|holds| *holds);
+    (kept.len(), broken.len())
+}
+
+fn holds_after(program: &Program, left: &Assertion, right: &Assertion) {
+    let (kept, broken) = outcomes(program, left, right);
+    assert!(kept > 0 && broken == 0, "{left} to {right}: {kept} kept, {broken} broken");
+}
+
+fn breaks(program: &Program, left: &Assertion, right: &Assertion) {
+    let (_, broken) = outcomes(program, left, right);
+    assert!(broken > 0, "{left} to {right}");
+}
+
+fn register_is(value: u8) -> Assertion {
+    Assertion::holds(Test::equal(Value::Register(1), Value::Constant(value)))
+}
+
+fn word_is(word: u8, value: Value) -> Interval {
+    Interval::all(Test::equal(Value::Word(word), value))
+}
+
+/// [cov x];one x
+fn till_last() -> Interval {
+    Interval::chop(Interval::all(Test::Covered(1)), Interval::One(1))
+}
+
+#[test]
+fn rule_1_keeps_neither_the_register_nor_the_word() {
+    for program in [exchange(3), fetch_add(2)] {
+        breaks(&program, &register_is(0), &register_is(0));
+        let seen = Assertion::sees(2, word_is(2, Value::Register(1)));
+        breaks(&program, &seen, &seen);
+        let word = Assertion::sees(1, word_is(1, Value::Constant(1)));
+        breaks(&program, &word, &word);
+        let other = Assertion::sees(2, word_is(2, Value::Register(2)));
+        holds_after(&program, &other, &other);
+    }
+}
+
+#[test]
+fn rule_13_passes_on_nothing_about_the_register() {
+    let passed_on = |j: Interval| {
+        let sees = Assertion::sees;
+        let known = Assertion::both(sees(2, till_last()), sees(1, j.clone()));
+        let left = Assertion::both(sees(1, till_last()), known);
+        let behind = Interval::chop(Interval::all(Test::Unsync(1)), j);
+        (left, sees(2, Interval::chop(Interval::all(Test::Covered(1)), behind)))
+    };
+    for program in [exchange(3), fetch_add(2)] {
+        let (left, right) = passed_on(word_is(2, Value::Register(1)));
+        breaks(&program, &left, &right);
+        let (left, right) = passed_on(word_is(2, Value::Register(2)));
+        holds_after(&program, &left, &right);
+    }
+}
+
+#[test]
+fn rule_47_is_about_the_old_value_of_the_word() {
+    let left = |word| Assertion::sees(1, word_is(word, Value::Constant(1)));
+    for program in [exchange(3), fetch_add(2)] {
+        holds_after(&program, &left(1), &register_is(1));
+        breaks(&program, &left(1), &register_is(3));
+        let zero = Assertion::sees(1, word_is(2, Value::Constant(0)));
+        breaks(&program, &zero, &register_is(0));
+    }
+}
+
+#[test]
+fn rules_48_and_49_name_what_is_written() {
+    let left = Assertion::sees(1, till_last());
+    let after = |value: Value| Assertion::sees(1, Interval::one_equal(1, value));
+    let f = || Value::Constant(2);
+    let sum = || Value::sum(Value::Register(1), f());
+    holds_after(&exchange(2), &left, &after(f()));
+    breaks(&exchange(2), &left, &after(sum()));
+    holds_after(&fetch_add(2), &left, &after(sum()));
+    breaks(&fetch_add(2), &left, &after(f()));
+
+    let observed = Assertion::both(left, Assertion::sees(2, till_last()));
+    let seen = |value: Value| {
+        let covered = Interval::all(Test::Covered(1));
+        Assertion::sees(2, Interval::chop(covered, Interval::one_equal(1, value)))
+    };
+    holds_after(&fetch_add(2), &observed, &seen(sum()));
+    breaks(&fetch_add(2), &observed, &seen(f()));
+}
+
+#[test]
+fn rules_7_and_9_do_not_serve() {
+    let uncovered = Interval::all(Test::negated(Test::Covered(1)));
+    let left = Assertion::both(
+        Assertion::sees(1, Interval::One(1)),
+        Assertion::sees(2, uncovered.clone()),
+    );
+    let settled = Interval::one_equal(1, Value::Constant(3));
+    breaks(&exchange(3), &left, &Assertion::sees(2, Interval::chop(uncovered, settled)));
+
+    let low =
+        |value: Value| Assertion::sees(2, Interval::all(Test::less(value, Value::Constant(3))));
+    let both = Assertion::both(low(Value::Word(1)), low(Value::Constant(2)));
+    breaks(&fetch_add(2), &both, &low(Value::Word(1)));
+}
