@@ -273,3 +273,8 @@ tickets-taken : picture (run tickets (begin tickets) ticket-steps) ≡ record {
 }
 unfolding begin draw yes-no picture write-of by nothing at-points tickets ticket-steps upd up down
 tickets-taken = refl
+
+-- before the last step: the exchange of the desk has put the old value, 4, into register 3
+exchanged : run tickets (begin tickets) (by 2 0 ∷ by 1 1 ∷ by 1 0 ∷ by 2 1 ∷ []) .reg 3 ≡ 4
+unfolding begin by nothing at-points tickets upd up down
+exchanged = refl
