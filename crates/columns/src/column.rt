@@ -1,8 +1,8 @@
 // Columns combined, row by row.
 use crate::block::Block;
 use crate::combine::combine_parts;
+use crate::digits::Usual;
 use formula::code::Code;
-use limits::Limits;
 ghost use mathlib.Core.Path.{_≡_};
 ghost use Prim.Native.Nat.{_≤_};
 ghost use lib.ListN.{length, take};
@@ -25,8 +25,8 @@ fn sum_columns(range: u8, operand: u8, n: usize, a: &mut [u8], b: &[u8])
     requires { ⌜ (n ≤ length (now a)) × (n ≤ length (now b)) ⌝ }
     ensures { λ _. ⌜ take n (now (a .exit)) ≡ summed range operand n (now (a .entry)) (now (b .entry)) ⌝ }
 {
-    if range == Limits::VALUES as u8 {
-        zip_with(Limits::VALUES as u8, Code::SUM, operand, n, a, b);
+    if range == Usual::VALUES as u8 {
+        zip_with(Usual::VALUES as u8, Code::SUM, operand, n, a, b);
         return;
     }
     zip_with(range, Code::SUM, operand, n, a, b);

@@ -35,7 +35,8 @@ use Rattle.content.specs.Formula.{formula}
 use Rattle.content.specs.Program.{pointCount, programOf}
 use Rattle.content.specs.Certificate.{left, right, saying, lineBody}
 use Rattle.content.specs.Image.{obligationsBody, namedLine}
-use Rattle.content.proofs.Inverse.{unless-passed, also-passed, and-true, within-true, every-at, every-or}
+use Rattle.limits.proofs.Inverse.{and-true, within-true, every-at, every-or}
+use Rattle.content.proofs.Inverse.{unless-passed, also-passed}
 use Rattle.content.proofs.Instr.{branch-is, instruction-there}
 use Rattle.content.proofs.Checked.{Checks, line-passed, obligations-passed}
 use Rattle.content.proofs.Formulas.{assertion-plain, assertion-startless}
