@@ -61,10 +61,10 @@ module _ (z : Sizes) (l : List (List ℕ)) (c : Checks z l) (k : ℕ) (low : 1 �
   unfolding formula
   formula-tree p e = sorted p e
 
-  -- a value: its constants are values
-  pub value-bounded : sortOf body ≡ Codes.value → T (bounded Limits.values (formula l Sort.value k))
+  -- its constants are values
+  pub formula-bounded : (p : ℕ) → sortOf body ≡ p → T (bounded Limits.values (formula l (sortAt p) k))
   unfolding formula countsOf
-  value-bounded e = reads-bounded body (countsOf z) nesting 0 (reading-fault body (countsOf z) Codes.value (formula-read Codes.value e))
+  formula-bounded p e = reads-bounded body (countsOf z) nesting 0 p (reading-fault body (countsOf z) p (formula-read p e))
 
   -- an assertion: registers alone under holds
   pub assertion-plain : sortOf body ≡ Codes.assertion → T (Names.plain (formula l Sort.assertion k))
