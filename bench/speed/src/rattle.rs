@@ -36,7 +36,7 @@ pub fn formula(body: &[u8], n: Counts) -> Answer {
     // SAFETY: pointer and length are those of a slice that lives until the call returns, and the
     // function has no `requires`.
     let answer = unsafe {
-        formula_answer(body.as_ptr(), body.len(), n.threads, n.words, n.registers, n.values)
+        formula_answer(body.as_ptr(), body.len(), n.threads, n.words, n.registers, n.range)
     };
     match answer {
         6 => Err(Fault::Range),

@@ -16,7 +16,7 @@ fn names(random: &mut Random) -> Names {
         threads: 1 + random.below(2) as u8,
         words: 1 + random.below(3) as u8,
         registers: (1..=registers).collect(),
-        values: 8,
+        range: 8,
         start: true,
     }
 }

@@ -12,7 +12,7 @@ use sets::generate::harness;
 const VARIANTS: u8 = 4;
 
 pub fn image() -> Vec<u8> {
-    let counts = Counts { threads: 1, words: 8, registers: 8 };
+    let counts = Counts { threads: 1, words: 8, registers: 8, range: 8 };
     let header = Header { counts, start: vec![0; 8], owners: vec![1; 8] };
     let mut plan = harness::plan(harness::program(header, vec![Vec::new()]));
     plan.spare = (0..VARIANTS).flat_map(lines).collect();
