@@ -47,7 +47,7 @@ fn counts(random: &mut Random) -> Counts {
         threads: random.below(highest.threads as usize + 1) as u8,
         words: random.below(highest.words as usize + 1) as u8,
         registers: random.below(highest.registers as usize + 1) as u8,
-        range: 1 + random.below(highest.range as usize) as u8,
+        range: 2 + random.below(15) as u8,
     }
 }
 
