@@ -27,21 +27,37 @@ const JUDGES: [(&str, Judge); 3] = [
     ("Rust, row by row", by_row::judge),
 ];
 
+/// What is compared and timed of a kind.
+struct Trial {
+    name: &'static str,
+    compared: Generator,
+    timed: Generator,
+    by_hand: Vec<(String, Input)>,
+}
+
+fn trials() -> [Trial; 2] {
+    let pair = |range: u8| (format!("a pair of tests, range {range}"), timed::tests(range));
+    let table = ("a table".to_string(), timed::table());
+    [
+        Trial {
+            name: "pairs of tests",
+            compared: generate::tests,
+            timed: generate::usual_tests,
+            by_hand: RANGES.map(pair).into(),
+        },
+        Trial {
+            name: "truth tables",
+            compared: generate::table,
+            timed: generate::table,
+            by_hand: vec![table],
+        },
+    ]
+}
+
 /// Compares and times the functions; false if an answer differs or a comparison says little.
 pub fn run(random: &mut Random) -> bool {
     let mut good = true;
-    let tests =
-        RANGES.map(|range| (format!("a pair of tests, range {range}"), timed::tests(range)));
-    let kinds: [(&str, Generator, Generator, Vec<(String, Input)>); 2] = [
-        ("pairs of tests", generate::tests, generate::usual_tests, tests.into()),
-        (
-            "truth tables",
-            generate::table,
-            generate::table,
-            vec![("a table".into(), timed::table())],
-        ),
-    ];
-    for (name, compared, timed, by_hand) in kinds {
+    for Trial { name, compared, timed, by_hand } in trials() {
         let compared = compare::on_random(random, &JUDGES, COMPARED, compared);
         println!("random {name}: {compared}");
         if !compared.is_useful() || compared.differ > 0 {
