@@ -18,7 +18,7 @@ use Rattle.formula.specs.Reader.{range, readingOf}
 use Rattle.program.specs.declared.sizes.Sizes.{Sizes}
 
 unfoldable pub countsOf : Sizes → Counts
-countsOf z = record { threads = z .threads; words = z .words; registers = z .registers; values = Limits.values }
+countsOf z = record { threads = z .threads; words = z .words; registers = z .registers; values = z .range }
 
 unfoldable pub faultOf : ℕ → Fault
 faultOf c = cond (eqb c range) Number Formula

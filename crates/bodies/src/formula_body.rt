@@ -27,7 +27,7 @@ fn counts_of(z: Sizes) -> Counts
         threads: z.threads,
         words: z.words,
         registers: z.registers,
-        values: Limits::VALUES as u8,
+        values: z.range,
     }
 }
 

@@ -26,7 +26,8 @@ use Rattle.frames.proofs.Passed.{framed}
 use Rattle.frames.proofs.Counted.{lines-few}
 use Rattle.program.specs.declared.sizes.Sizes.{Sizes}
 use Rattle.program.specs.Header as Header
-use Rattle.program.specs.Header.{startValues, owners, headed, header}
+use Rattle.program.specs.Header.{valueRange, startValues, owners, headed, header}
+use Rattle.program.proofs.Laws.Header.{counted-in}
 use Rattle.image.specs.Body.{placeOf, check}
 use Rattle.image.specs.Decode as Decode
 use Rattle.image.specs.Decode.{recordCount, sizesOf, firstFault, behindFrames, decoded}
@@ -34,7 +35,8 @@ use Rattle.image.specs.declared.decode.Decoded.{Decoded}
 use Rattle.image.specs.declared.decode.Decoded.the-variants.{Refused, Sound}
 use Rattle.content.proofs.Sums.{sum}
 use Rattle.checker.proofs.Sums.{sum-falls}
-use Rattle.content.proofs.Inverse.{unless-passed, and-true, within-true}
+use Rattle.limits.proofs.Inverse.{and-true, within-true}
+use Rattle.content.proofs.Inverse.{unless-passed}
 
 -- of all kinds together, how many records may still come
 left : Seen → ℕ
@@ -129,14 +131,11 @@ whole-within s = go (eqb (length s) 0) (ltb Limits.imageBytes (length s))
 
 -- a header that passes has as many threads as there may be
 pub header-threads : (t : ℕ) (b : List ℕ) → header t b ≡ Passed → getD b 0 0 ≤ Limits.threads
-unfolding header headed Header.counted
+unfolding header headed
 header-threads t b e =
     let h = unless-passed _ _ _ (unless-passed _ _ _ (unless-passed _ _ _ e .1) .1) .0 in
-    let lists = every (within 0 (Limits.values - 1)) (startValues b) && every (within 1 (getD b 0 0)) (owners b) in
-    let others = within 1 Limits.words (getD b 1 0) && within 0 Limits.registers (getD b 2 0) in
-    let counts = and-true (Header.counted t b) lists h .0 in
-    let threads = and-true (within 1 Limits.threads (getD b 0 0)) others (and-true (within t t (getD b 0 0)) _ counts .1) .0 in
-    within-true 1 Limits.threads (getD b 0 0) threads .1
+    let lists = every (within 0 (valueRange b - 1)) (startValues b) && every (within 1 (getD b 0 0)) (owners b) in
+    counted-in t b (and-true (Header.counted t b) lists h .0) .threads .1
 
 refused-number : (f g : Fault) (i r : ℕ) → _≡_ {A = Decoded} (Refused f i) (Refused g r) → i ≡ r
 refused-number f g i r e = cc

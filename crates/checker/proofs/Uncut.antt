@@ -31,7 +31,8 @@ use Rattle.outline.specs.Verdict.{Image, Outcome, met, failed, outcome}
 use Rattle.outline.proofs.Accept.{accepted-met, failed-first}
 use Rattle.content.specs.Program.{programOf}
 use Rattle.content.specs.Image.{namedLine, obligationsBody, imageOf, resultOf, decode}
-use Rattle.content.proofs.Inverse.{unless-passed, within-true, every-or}
+use Rattle.limits.proofs.Inverse.{within-true, every-or}
+use Rattle.content.proofs.Inverse.{unless-passed}
 use Rattle.content.proofs.Checked.{Checks, sound-checks, header-passed, obligations-passed}
 use Rattle.content.proofs.Program.{points-few}
 use Rattle.wanted.proofs.Asked.{InRange}

@@ -1,11 +1,17 @@
 // Rows by number: the digits of a row's number are the values in its slots, the first slot's the lowest.
 use crate::block::Block;
 use leaves::count::Flag;
-use limits::Limits;
 ghost use mathlib.Core.Path.{_≡_};
 ghost use Prim.Native.Nat.{_+_, _/_, _%_, _≤_, _<_};
 ghost use lib.ListN.{length, take};
 ghost use Rattle.columns.specs.Digits.{numbered, columnSet, divided};
+
+// The range of most images.
+pub struct Usual;
+
+impl Usual {
+    pub const VALUES: usize = 8;
+}
 
 // The lowest digit, of so many choices. (The usual ones apart: a division by a constant is quicker.)
 pub fn digit(number: u16, choices: u8) -> u8
@@ -15,8 +21,8 @@ pub fn digit(number: u16, choices: u8) -> u8
     if choices == Flag::CHOICES {
         return (number % (Flag::CHOICES as u16)) as u8;
     }
-    if choices == Limits::VALUES as u8 {
-        return (number % (Limits::VALUES as u16)) as u8;
+    if choices == Usual::VALUES as u8 {
+        return (number % (Usual::VALUES as u16)) as u8;
     }
     (number % (choices as u16)) as u8
 }
@@ -29,8 +35,8 @@ pub fn quotient(number: u16, choices: u8) -> u16
     if choices == Flag::CHOICES {
         return number / (Flag::CHOICES as u16);
     }
-    if choices == Limits::VALUES as u8 {
-        return number / (Limits::VALUES as u16);
+    if choices == Usual::VALUES as u8 {
+        return number / (Usual::VALUES as u16);
     }
     number / (choices as u16)
 }

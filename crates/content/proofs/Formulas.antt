@@ -1,5 +1,5 @@
 -- The formulas of a sound image, each of the sort by which it is read.
-use mathlib.Core.Path.{_≡_, refl, ap, sym, _∙_}
+use mathlib.Core.Path.{_≡_, refl, ap, sym, _∙_, subst}
 use mathlib.Core.Bool.{Bool, true, false, cond}
 use mathlib.Core.List.{List, []}
 use Prim.Native.Nat.{ℕ, _≤_}
@@ -11,7 +11,6 @@ use Rattle.logic.specs.Names as Names
 use Rattle.logic.specs.Names.{only, isReg, notReg}
 use Rattle.logic.specs.Eval.{bounded}
 use Rattle.logic.proofs.Base.{is-true}
-use Rattle.limits.specs.Limits as Limits
 use Rattle.formula.specs.Codes as Codes
 use Rattle.limits.specs.Limits.{nesting}
 use Rattle.formula.specs.Tree.{Tree, parseTree}
@@ -22,6 +21,8 @@ use Rattle.formula.specs.declared.reader.Reading.the-variants as Reading
 use Rattle.frames.specs.declared.fault.Checked.the-variants.{Passed}
 use Rattle.occurs.specs.Occurs.{occurs, register, start, shared}
 use Rattle.program.specs.declared.sizes.Sizes.{Sizes}
+use Rattle.program.specs.Header.{valueRange}
+use Rattle.image.specs.Decode.{sizesOf}
 use Rattle.bodies.specs.Use.{treeOf, startless, plain}
 use Rattle.bodies.specs.Formula as Formulas
 use Rattle.bodies.specs.Formula.{countsOf, faultOf, read}
@@ -61,10 +62,17 @@ module _ (z : Sizes) (l : List (List ℕ)) (c : Checks z l) (k : ℕ) (low : 1 �
   unfolding formula
   formula-tree p e = sorted p e
 
-  -- a value: its constants are values
-  pub value-bounded : sortOf body ≡ Codes.value → T (bounded Limits.values (formula l Sort.value k))
+  -- the range by which formulas are read is the header's
+  range-is : z .range ≡ valueRange (getD l 0 [])
+  unfolding sizesOf
+  range-is = ap (λ (y : Sizes). y .range) (c .sizes)
+
+  -- its constants are values
+  pub formula-bounded : (p : ℕ) → sortOf body ≡ p → T (bounded (valueRange (getD l 0 [])) (formula l (sortAt p) k))
   unfolding formula countsOf
-  value-bounded e = reads-bounded body (countsOf z) nesting 0 (reading-fault body (countsOf z) Codes.value (formula-read Codes.value e))
+  formula-bounded p e =
+      subst (λ (R : ℕ). T (bounded R (formula l (sortAt p) k))) range-is
+      (reads-bounded body (countsOf z) nesting 0 p (reading-fault body (countsOf z) p (formula-read p e)))
 
   -- an assertion: registers alone under holds
   pub assertion-plain : sortOf body ≡ Codes.assertion → T (Names.plain (formula l Sort.assertion k))

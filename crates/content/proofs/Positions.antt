@@ -23,7 +23,8 @@ use Rattle.bodies.specs.Use.{treeOf}
 use Rattle.trees.specs.ToTree.{toTree}
 use Rattle.trees.proofs.Part.{part-reading}
 use Rattle.content.specs.Places.{bodyStart, formulaAt}
-use Rattle.content.proofs.Inverse.{unless-passed, within-true}
+use Rattle.limits.proofs.Inverse.{within-true}
+use Rattle.content.proofs.Inverse.{unless-passed}
 use Rattle.content.proofs.Checked.{Checks, formula-passed}
 use Rattle.content.proofs.Formulas.{formula-read}
 

@@ -6,7 +6,7 @@ use Prim.Native.Nat.{ℕ, zero, suc, _+_, _-_, _≤_, _<_}
 use native.Mathlib.Omega.{arith}
 use lib.Dec.{T, eqb, leb, ltb, le→leb, lt→ltb}
 use lib.ListN.{length, getD}
-use borrow.Author.Tests.{eqb-true, ne-eqb, lt-leb, le-ltb, not-true}
+use borrow.Author.Tests.{eqb-true, ne-eqb, le-leb, lt-leb, le-ltb, not-true}
 use Rattle.logic.specs.Base as Base
 use Rattle.logic.specs.Base.{Within}
 use Rattle.logic.specs.Formula.{Sort}
@@ -28,6 +28,7 @@ use Rattle.program.specs.declared.instruction.Fields.{Fields}
 use Rattle.program.specs.Header.{startValues, owners, counted, headed, header}
 use Rattle.program.specs.Instruction.{inside, fieldsOf, fieldsFit, ranged}
 use Rattle.program.specs.Thread.{lastPoint, instructions, nothing, numbered, threadNumbers}
+use Rattle.program.proofs.Laws.Header.{counted-in}
 use Rattle.program.proofs.Laws.Program.{instructions-length}
 use Rattle.records.specs.Places.{threadBody}
 use Rattle.records.specs.List.{exactly}
@@ -38,9 +39,10 @@ use Rattle.bodies.specs.Thread.{wanted, sorted, resultAbsent, threadRegisters, 
 use Rattle.bodies.specs.Lists.{outlinedAt, outline}
 use Rattle.content.specs.Formula.{formula}
 use Rattle.content.specs.Program.{instr, pointCount, programOf, outlineBody, outlineNumber, outlineOf}
-use Rattle.content.proofs.Inverse.{unless-passed, also-passed, and-true, within-true, every-at, every-or}
+use Rattle.limits.proofs.Inverse.{and-true, within-true, every-at, every-or}
+use Rattle.content.proofs.Inverse.{unless-passed, also-passed}
 use Rattle.content.proofs.Checked.{Checks, header-passed, thread-passed, outline-passed}
-use Rattle.content.proofs.Formulas.{value-bounded, value-regs, value-lacks, test-regs, assertion-startless}
+use Rattle.content.proofs.Formulas.{formula-bounded, value-regs, value-lacks, test-regs, assertion-startless}
 use Rattle.content.proofs.Sums.{sum-part}
 use Rattle.content.proofs.Instr.{instruction-there}
 use Rattle.content.proofs.Count.{tally-points, pointsOf}
@@ -71,10 +73,18 @@ module _ (z : Sizes) (l : List (List ℕ)) (c : Checks z l) where
   header-fits = unless-passed _ _ _ (unless-passed _ _ _ (unless-passed _ _ _ (header-passed z l c) .1) .1) .0
 
   abbrev started : Bool
-  started = every (within 0 (Limits.values - 1)) (startValues (getD l 0 []))
+  started = every (within 0 (P .range - 1)) (startValues (getD l 0 []))
 
   abbrev owning : Bool
   owning = every (within 1 (getD (getD l 0 []) 0 0)) (owners (getD l 0 []))
+
+  header-counted : counted (c .counted) (getD l 0 []) ≡ true
+  unfolding headed
+  header-counted = and-true (counted (c .counted) (getD l 0 [])) (started && owning) header-fits .0
+
+  -- there are two values at least
+  pub range-two : 2 ≤ P .range
+  range-two = counted-in (c .counted) (getD l 0 []) header-counted .range .0
 
   header-starts : started ≡ true
   unfolding headed
@@ -82,11 +92,11 @@ module _ (z : Sizes) (l : List (List ℕ)) (c : Checks z l) where
 
   start-value : (x : ℕ) → P .init x < P .range
   unfolding nth within
-  start-value zero = omega arith
+  start-value zero = omega (arith, range-two)
   start-value (suc x) =
-      let h = every-or (within 0 (Limits.values - 1)) (startValues (getD l 0 [])) x 0 header-starts refl in
-      let g = within-true 0 (Limits.values - 1) (getD (startValues (getD l 0 [])) x 0) h in
-      omega arith
+      let h = every-or (within 0 (P .range - 1)) (startValues (getD l 0 [])) x 0 header-starts (le-leb 0 (P .range - 1) (omega arith)) in
+      let g = within-true 0 (P .range - 1) (getD (startValues (getD l 0 [])) x 0) h in
+      omega (arith, range-two, g .1)
 
   -- instructions
 
@@ -98,15 +108,15 @@ module _ (z : Sizes) (l : List (List ℕ)) (c : Checks z l) where
       let h = and-true (eqb (sortOf (getD l (i .formula) [])) (wanted (i .operation))) (plain (getD l (i .formula) [])) (rw (ne-eqb (i .formula) 0 q) at e) in
       (eqb-true (sortOf (getD l (i .formula) [])) (wanted (i .operation)) (h .0), h .1)
 
-  value-fine : (k : ℕ) → 1 ≤ k → k ≤ z .formulas → (sortOf (getD l k []) ≡ Codes.value) × (plain (getD l k []) ≡ true) → T (only isReg (formula l Sort.value k) && bounded Limits.values (formula l Sort.value k))
-  value-fine k a b h = and-both (only isReg (formula l Sort.value k)) (bounded Limits.values (formula l Sort.value k)) (value-regs z l c k a b (h .0) (h .1)) (value-bounded z l c k a b (h .0))
+  value-fine : (k : ℕ) → 1 ≤ k → k ≤ z .formulas → (sortOf (getD l k []) ≡ Codes.value) × (plain (getD l k []) ≡ true) → T (only isReg (formula l Sort.value k) && bounded (P .range) (formula l Sort.value k))
+  value-fine k a b h = and-both (only isReg (formula l Sort.value k)) (bounded (P .range) (formula l Sort.value k)) (value-regs z l c k a b (h .0) (h .1)) (formula-bounded z l c k a b Codes.value (h .0))
 
   module _ (last : ℕ) where
     abbrev Proper : Instruction → Type 0
     Proper i = ranged last z i ≡ true → sorted l i ≡ true → resultAbsent l i ≡ true → T (proper P (last + 1) (instr l i))
 
     abbrev valued : ℕ → Bool
-    valued f = only isReg (formula l Sort.value f) && bounded Limits.values (formula l Sort.value f)
+    valued f = only isReg (formula l Sort.value f) && bounded (P .range) (formula l Sort.value f)
 
     -- one thing is asked
     alone : (b : Bool) → T b → T (b && true)
@@ -243,7 +253,7 @@ module _ (z : Sizes) (l : List (List ℕ)) (c : Checks z l) where
   pub well-formed : WellFormed P (outlineOf z l)
   unfolding pointCount
   well-formed = record {
-    some-value = omega arith;
+    some-value = omega (arith, range-two);
     start-values = start-value;
     some-point = λ t w. omega arith;
     instructions = λ t k w b. instruction-proper t (w .0) (w .1) k b;

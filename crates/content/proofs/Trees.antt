@@ -37,7 +37,7 @@ use Rattle.content.specs.Program.{instr, pointCount, programOf, outlineN
 use Rattle.content.specs.Certificate.{left, right, saying, lineBody, certificateOf}
 use Rattle.content.specs.Places.{formulaAt, lineIn, actingOf}
 use Rattle.content.specs.Trees.{treeAt, formNumber, concludedAt, actingAt}
-use Rattle.content.proofs.Inverse.{and-true, within-true, every-at}
+use Rattle.limits.proofs.Inverse.{and-true, within-true, every-at}
 use Rattle.content.proofs.Instr.{instruction-there}
 use Rattle.content.proofs.Checked.{Checks}
 use Rattle.content.proofs.Formulas.{formula-tree}

@@ -8,11 +8,10 @@ use Rattle.logic.specs.Formula.{Sort, Value, Formula.const}
 use Rattle.logic.specs.Opcode as Opcode
 use Rattle.logic.specs.Machine.{Program, Mode.store, Mode.swap, Mode.exchange, Mode.fetchAdd, Access.none, Access.load, Access.write, Instr, Instr.act, Instr.branch}
 use Rattle.logic.specs.EveryRun.{Outline}
-use Rattle.limits.specs.Limits as Limits
 use Rattle.limits.specs.Numbers.{nth, numbers}
 use Rattle.program.specs.declared.sizes.Sizes.{Sizes}
 use Rattle.program.specs.declared.instruction.Instruction.{Instruction}
-use Rattle.program.specs.Header.{startValues}
+use Rattle.program.specs.Header.{startValues, valueRange}
 use Rattle.program.specs.Thread.{lastPoint}
 use Rattle.records.specs.Places.{threadBody, instructionOf}
 use Rattle.records.specs.Tally.{tallyTo, tally}
@@ -51,7 +50,7 @@ module _ (z : Sizes) (l : List (List ℕ)) where
   programOf = record {
     threads = z .threads;
     words = z .words;
-    range = Limits.values;
+    range = valueRange (getD l 0 []);
     init = λ x. nth (startValues (getD l 0 [])) x 0;
     points = pointCount;
     code = λ t k. instr l (instructionOf z l t k);

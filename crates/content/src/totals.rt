@@ -25,6 +25,7 @@ fn points_before<'a, 'b>(s: &'a [u8], ix: &'b [usize], z: Sizes, t: usize) -> us
         threads: (t - 1) as u8,
         words: z.words,
         registers: z.registers,
+        range: z.range,
         formulas: z.formulas,
         lines: z.lines,
     };

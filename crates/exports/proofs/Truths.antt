@@ -4,7 +4,7 @@ use mathlib.Core.List.{List, [], _∷_}
 use mathlib.Core.Bool.{Bool}
 use Prim.Native.Nat.{ℕ}
 use lib.ListN.{length, drop}
-use Rattle.limits.specs.Limits.{nesting, values}
+use Rattle.limits.specs.Limits.{nesting}
 use Rattle.limits.specs.Numbers.{word}
 use Rattle.formula.specs.Tree.{parseTree}
 use Rattle.rows.specs.Rows.{rowsT, tableT, lineOf, premisesOf}
@@ -12,9 +12,9 @@ use Rattle.rows.specs.declared.by.Implications.{Implications}
 use Rattle.exports.specs.Answers.{ofTruth}
 use Rattle.exports.specs.Places.{pairsIn, sideIn, implicationsIn}
 
-pub rows-is : (s : List ℕ) (a b r : ℕ) (t : Bool) → t ≡ rowsT values (parseTree s nesting a .tree) (parseTree s nesting b .tree) → r ≡ ofTruth t
-    → r ≡ ofTruth (rowsT values (parseTree s nesting a .tree) (parseTree s nesting b .tree))
-rows-is s a b r t e h = h ∙ ap ofTruth e
+pub rows-is : (s : List ℕ) (a b v r : ℕ) (t : Bool) → t ≡ rowsT v (parseTree s nesting a .tree) (parseTree s nesting b .tree) → r ≡ ofTruth t
+    → r ≡ ofTruth (rowsT v (parseTree s nesting a .tree) (parseTree s nesting b .tree))
+rows-is s a b v r t e h = h ∙ ap ofTruth e
 
 pub side-is : (p : List ℕ) (a b c d e : ℕ) → a ≡ word (drop 0 p) → b ≡ word (drop 4 p) → c ≡ word (drop 8 p) → d ≡ word (drop 12 p) → e ≡ word (drop 16 p)
     → a ∷ b ∷ c ∷ d ∷ e ∷ [] ≡ sideIn p

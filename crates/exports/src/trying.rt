@@ -7,7 +7,7 @@ use rows::by::by_rows;
 use rows::by::by_table;
 use rows::entailment::Sizes;
 ghost use mathlib.Core.Path.{_≡_};
-ghost use Rattle.limits.specs.Limits.{nesting, values};
+ghost use Rattle.limits.specs.Limits.{nesting};
 ghost use Rattle.formula.specs.Tree.{parseTree};
 ghost use Rattle.rows.specs.Rows.{rowsT, tableT, lineOf, premisesOf};
 ghost use Rattle.exports.specs.Answers.{ofTruth};
@@ -22,13 +22,13 @@ fn truth(yes: bool) -> usize
     0
 }
 
-// The answer of `by_rows` on the tests at two positions: 1 for true, 0 for false.
+// The answer of `by_rows` on the tests at two positions, over so many values: 1 for true, 0 for false.
 #[no_mangle]
-pub extern "C" fn rows_answer(body: &[u8], left: usize, right: usize) -> usize
-    ensures { λ r. ⌜ r ≡ ofTruth (rowsT values (parseTree (now (body .entry)) nesting left .tree) (parseTree (now (body .entry)) nesting right .tree)) ⌝ }
+pub extern "C" fn rows_answer(body: &[u8], left: usize, right: usize, range: u8) -> usize
+    ensures { λ r. ⌜ r ≡ ofTruth (rowsT range (parseTree (now (body .entry)) nesting left .tree) (parseTree (now (body .entry)) nesting right .tree)) ⌝ }
 {
     let k = Limits::NESTING;
-    truth(by_rows(body, left, k, right, k, Limits::VALUES as u8))
+    truth(by_rows(body, left, k, right, k, range))
 }
 
 // Positions, one for each implication.

@@ -26,9 +26,10 @@ use Rattle.content.specs.Rule.{ruleOf}
 use Rattle.content.specs.Trees.{actingAt}
 use Rattle.content.specs.declared.line.Line.{Line}
 use Rattle.content.specs.declared.acting.Acting.{Acting}
-use Rattle.content.proofs.Inverse.{and-true, within-true}
+use Rattle.limits.proofs.Inverse.{and-true, within-true}
 use Rattle.content.proofs.Checked.{Checks}
-use Rattle.content.proofs.Lines.{in-range, premises-few, premise-count}
+use Rattle.content.proofs.Program.{range-two}
+use Rattle.content.proofs.Lines.{in-range, premises-few, premise-count, line-bounded}
 use Rattle.content.proofs.Trees.{line-acting}
 use Rattle.rulebook.specs.Rulebook.{templates}
 use Rattle.conclusions.specs.Conclusion.{concludedAt, conclusionAt, conclusionsFrom}
@@ -37,7 +38,7 @@ use Rattle.conclusions.specs.Premises.{premiseConclusion, premisesOf}
 use Rattle.fitting.specs.Fit.{actingIn, fitsLine}
 use Rattle.conclusions.specs.declared.conclusion.Premises as Conclusions
 use Rattle.conclusions.proofs.Stated.{rule-number, line-listed, conclusion-trees}
-use Rattle.sides.proofs.SidesLink.{startOf}
+use Rattle.sides.proofs.SidesLink.{rangeOf, startOf}
 use Rattle.fitting.proofs.FitLink.{says, fits-same}
 
 -- operations are 0 to 8
@@ -120,7 +121,7 @@ module _ (s : List ℕ) (z : Sizes) (c : Checks z (bodies s)) where
     acting-there = sym acting-concluded ∙ ap₂ (λ (t k : ℕ). acting (half P t k)) (ap (λ (v : TreeConclusion). v .thread) (conclusion-trees s z c n w)) (ap (λ (v : TreeConclusion). v .point) (conclusion-trees s z c n w))
 
     abbrev fitted : FitT.Acting → TreeConclusion → List TreeConclusion → Bool
-    fitted a v vs = fitsT Limits.values (startOf s) a (ruleOf (its .rule)) v vs
+    fitted a v vs = fitsT (rangeOf s) (startOf s) a (ruleOf (its .rule)) v vs
 
     -- what the code answers is what the rules say
     pub fits-is : fitsLine s templates z n ≡ lineFits P C n
@@ -129,4 +130,4 @@ module _ (s : List ℕ) (z : Sizes) (c : Checks z (bodies s)) where
         sym (fits-same s (ruleOf (its .rule)) its (sym (rule-number (its .rule) (line-listed s z c n w))) (actingIn s z its) acting-known p premises-few-here)
         ∙ ap₂ (λ (v : TreeConclusion) (vs : List TreeConclusion). fitted (actingAt s (actingIn s z its)) v vs) (conclusion-trees s z c n w) premises-concluded
         ∙ ap (λ (a : FitT.Acting). fitted a (concluded S) (map concluded (map (λ m. C .line m .says) ps))) acting-there
-        ∙ bridge P (omega arith) (ruleOf (its .rule)) S (map (λ m. C .line m .says) ps)
+        ∙ bridge P (range-two z l c) (ruleOf (its .rule)) S (map (λ m. C .line m .says) ps) (line-bounded z l c n (w .0) (w .1))

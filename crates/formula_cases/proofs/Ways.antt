@@ -6,7 +6,6 @@ use Prim.Native.Nat.{ℕ}
 use lib.Dec.{eqb}
 use lib.ListN.{getD, drop}
 use borrow.Author.Tests.{eq-eqb, ne-eqb}
-use Rattle.limits.specs.Limits as Limits
 use Rattle.limits.specs.Numbers.{word}
 use Rattle.formula.specs.Reader.{readingOf}
 use Rattle.formula.specs.declared.reader.Counts.{Counts}
@@ -45,12 +44,12 @@ module _ (r : Reading) (k w : ℕ) where
 
 pub ruleset answers = (kind-formula, kind-fault, formula-refused, formula-read, fault-accepted, fault-read)
 
-pub counts-read : (s : List ℕ) (a b c : ℕ) → a ≡ getD s 0 0 → b ≡ getD s 1 0 → c ≡ getD s 2 0
-    → record { threads = a; words = b; registers = c; values = Limits.values } ≡ countsAt s
+pub counts-read : (s : List ℕ) (a b c d : ℕ) → a ≡ getD s 0 0 → b ≡ getD s 1 0 → c ≡ getD s 2 0 → d ≡ getD s 3 0
+    → record { threads = a; words = b; registers = c; values = d } ≡ countsAt s
 unfolding countsAt
-counts-read s a b c ea eb ec = rw (ea, eb, ec)
+counts-read s a b c d ea eb ec ed = rw (ea, eb, ec, ed)
 
-pub formula-counted : (t q : Tally) (body s : List ℕ) (n : Counts) (r : Reading) (a b k : ℕ) (same : Bool) → n ≡ countsAt s → r ≡ readingOf body n → a ≡ word (drop 3 s)
-    → b ≡ word (drop 5 s) → same ≡ isAnswer r a b → k ≡ kindOf r → q ≡ withCase t k same → q ≡ withFormula t body s
+pub formula-counted : (t q : Tally) (body s : List ℕ) (n : Counts) (r : Reading) (a b k : ℕ) (same : Bool) → n ≡ countsAt s → r ≡ readingOf body n → a ≡ word (drop 4 s)
+    → b ≡ word (drop 6 s) → same ≡ isAnswer r a b → k ≡ kindOf r → q ≡ withCase t k same → q ≡ withFormula t body s
 unfolding withFormula
 formula-counted t q body s n r a b k same en er ea eb es ek eq = rw (← en, ← er, ← ea, ← eb, ← es, ← ek) eq

@@ -2,7 +2,6 @@
 use mathlib.Core.List.{List}
 use Prim.Native.Nat.{ℕ}
 use lib.ListN.{getD, drop}
-use Rattle.limits.specs.Limits as Limits
 use Rattle.limits.specs.Numbers.{word}
 use Rattle.formula.specs.Reader.{readingOf}
 use Rattle.formula.specs.declared.reader.Counts.{Counts}
@@ -10,10 +9,10 @@ use Rattle.stored.specs.Tally.{withCase}
 use Rattle.stored.specs.declared.tally.Tally.{Tally}
 use Rattle.formula_cases.specs.Answer.{kindOf, isAnswer}
 
--- threads, words and registers, a byte each
+-- threads, words, registers and the range, a byte each
 unfoldable pub countsAt : List ℕ → Counts
-countsAt s = record { threads = getD s 0 0; words = getD s 1 0; registers = getD s 2 0; values = Limits.values }
+countsAt s = record { threads = getD s 0 0; words = getD s 1 0; registers = getD s 2 0; values = getD s 3 0 }
 
 -- by the reading's kind, and by whether it is the stored one
 unfoldable pub withFormula : Tally → List ℕ → List ℕ → Tally
-withFormula t body s = withCase t (kindOf (readingOf body (countsAt s))) (isAnswer (readingOf body (countsAt s)) (word (drop 3 s)) (word (drop 5 s)))
+withFormula t body s = withCase t (kindOf (readingOf body (countsAt s))) (isAnswer (readingOf body (countsAt s)) (word (drop 4 s)) (word (drop 6 s)))

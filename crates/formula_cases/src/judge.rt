@@ -1,10 +1,9 @@
-// The cases of the file: a formula as the body; as the tail threads, words and registers (a byte each), the result and
-// the sort (16 bits each).
+// The cases of the file: a formula as the body; as the tail threads, words, registers and the range (a byte each), the
+// result and the sort (16 bits each).
 use crate::answer::is_answer;
 use crate::answer::kind_of;
 use formula::reader::Counts;
 use formula::reader::read_formula;
-use limits::Limits;
 use limits::read::byte_at;
 use limits::read::word_at;
 use stored::case::Next;
@@ -21,7 +20,7 @@ ghost use Rattle.formula_cases.specs.Judge.{countsAt, withFormula};
 struct Stored;
 
 impl Stored {
-    pub const BYTES: usize = 7;
+    pub const BYTES: usize = 8;
 }
 
 fn counts_at(s: &[u8]) -> Counts
@@ -31,7 +30,7 @@ fn counts_at(s: &[u8]) -> Counts
         threads: byte_at(s, 0) as u8,
         words: byte_at(s, 1) as u8,
         registers: byte_at(s, 2) as u8,
-        values: Limits::VALUES as u8,
+        values: byte_at(s, 3) as u8,
     }
 }
 
@@ -40,7 +39,7 @@ fn with_formula<'a, 'b>(t: Tally, body: &'a [u8], stored: &'b [u8]) -> Tally
     ensures { λ r. ⌜ r ≡ withFormula t (now (body .entry)) (now (stored .entry)) ⌝ }
 {
     let reading = read_formula(body, counts_at(stored));
-    let same = is_answer(reading, word_at(stored, 3), word_at(stored, 5));
+    let same = is_answer(reading, word_at(stored, 4), word_at(stored, 6));
     with_case(t, kind_of(reading), same)
 }
 

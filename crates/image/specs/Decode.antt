@@ -9,6 +9,7 @@ use Rattle.frames.specs.declared.fault.Checked.the-variants.{Passed, Faulty}
 use Rattle.frames.specs.declared.walk.Framing.{Framing}
 use Rattle.frames.specs.declared.walk.Framing.the-variants as Framing
 use Rattle.program.specs.declared.sizes.Sizes.{Sizes}
+use Rattle.program.specs.Header.{threadCount, wordCount, registerCount, valueRange}
 use Rattle.image.specs.Body.{placeOf, check}
 use Rattle.image.specs.declared.decode.Decoded.{Decoded}
 use Rattle.image.specs.declared.decode.Decoded.the-variants.{Refused, Sound}
@@ -18,7 +19,14 @@ recordCount z = 3 + z .formulas + z .threads + z .lines
 
 -- the header's counts as written, and what the frames counted
 unfoldable pub sizesOf : List ℕ → ℕ → ℕ → Sizes
-sizesOf h formulas lines = record { threads = getD h 0 0; words = getD h 1 0; registers = getD h 2 0; formulas = formulas; lines = lines }
+sizesOf h formulas lines = record {
+  threads = threadCount h;
+  words = wordCount h;
+  registers = registerCount h;
+  range = valueRange h;
+  formulas = formulas;
+  lines = lines;
+}
 
 -- the fault of record i, or what comes after it
 abbrev pub unlessFaulty : Checked → ℕ → Decoded → Decoded

@@ -7,6 +7,8 @@ use frames::index::body_of;
 use frames::walk::Framing;
 use frames::walk::read_frames;
 use limits::read::byte_at;
+use program::header::Header;
+use program::header::range_of;
 use program::sizes::Sizes;
 ghost use mathlib.Core.Path.{_≡_};
 ghost use Prim.Native.Nat.{_<_};
@@ -31,9 +33,10 @@ fn sizes_of(h: &[u8], formulas: u16, lines: u16) -> Sizes
     ensures { λ r. ⌜ r ≡ sizesOf (now (h .entry)) formulas lines ⌝ }
 {
     Sizes {
-        threads: byte_at(h, 0) as u8,
-        words: byte_at(h, 1) as u8,
-        registers: byte_at(h, 2) as u8,
+        threads: byte_at(h, Header::THREADS) as u8,
+        words: byte_at(h, Header::WORDS) as u8,
+        registers: byte_at(h, Header::REGISTERS) as u8,
+        range: range_of(h),
         formulas,
         lines,
     }

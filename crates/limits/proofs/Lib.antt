@@ -1,2 +1,3 @@
 pub mod Auto
 pub mod Numbers
+pub mod Inverse

@@ -2,8 +2,12 @@
 use Prim.Native.Nat.{ℕ, _+_}
 use Rattle.logic.specs.Limits as Logic
 
-abbrev pub values : ℕ
-values = Logic.range
+-- values are 0 up to one below the range, which is one of these
+abbrev pub fewestValues : ℕ
+fewestValues = 2
+
+abbrev pub mostValues : ℕ
+mostValues = 16
 
 abbrev pub threads : ℕ
 threads = 3

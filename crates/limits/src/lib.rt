@@ -6,7 +6,9 @@ pub mod read;
 pub struct Limits;
 
 impl Limits {
-    pub const VALUES: usize = 8;
+    pub const FEWEST_VALUES: usize = 2;
+
+    pub const MOST_VALUES: usize = 16;
 
     pub const THREADS: usize = 3;
 

@@ -5,7 +5,6 @@ use mathlib.Core.Bool.{Bool, true, false, cond}
 use mathlib.Core.List.{List, [], _∷_, map}
 use Prim.Native.Nat.{ℕ, zero, suc}
 use Rattle.logic.specs.Base.{upd}
-use Rattle.logic.specs.Limits
 use Rattle.logic.specs.Formula.{Formula.const, Formula.reg, Formula.sum, Formula.equal}
 use Rattle.logic.specs.Machine.{View, Write, State, Program, Mode.store, Mode.swap, Mode.exchange, Mode.fetchAdd, Access.none, Access.load, Access.write, Instr, Instr.act, Instr.branch, Start, Step, run, up, down}
 use Rattle.logic.specs.Obligations.{below, upTo}
@@ -90,7 +89,7 @@ unfoldable pub message-passing : Program
 message-passing = record {
   threads = 2;
   words = 2;
-  range = Limits.range;
+  range = 8;
   init = λ x. 0;
   points = upd (upd (λ t. 1) 1 3) 2 4;
   code = upd (upd (λ t k. nothing) 1 (at-points sender)) 2 (at-points receiver);
@@ -148,7 +147,7 @@ unfoldable pub mixed : Program
 mixed = record {
   threads = 3;
   words = 1;
-  range = Limits.range;
+  range = 8;
   init = λ x. 0;
   points = upd (λ t. 2) 3 3;
   code = upd (upd (upd (λ t k. nothing) 1 (at-points (act (write (store false) 1 (const 1)) [] ∷ []))) 2 (at-points (act (write swap 1 (const 2)) [] ∷ [])))
@@ -182,7 +181,7 @@ unfoldable pub handed : Program
 handed = record {
   threads = 3;
   words = 2;
-  range = Limits.range;
+  range = 8;
   init = λ x. 0;
   points = upd (upd (λ t. 2) 1 4) 3 5;
   code = upd (upd (upd (λ t k. nothing) 1 (at-points (act (write (store false) 1 (const 1)) [] ∷ act (write (store true) 2 (const 1)) [] ∷ act (write (store true) 2 (const 5)) [] ∷ [])))
@@ -227,7 +226,7 @@ unfoldable pub dropped : Program
 dropped = record {
   threads = 2;
   words = 2;
-  range = Limits.range;
+  range = 8;
   init = λ x. 0;
   points = upd (λ t. 2) 1 3;
   code = upd (upd (λ t k. nothing) 1 (at-points (act (write (store false) 2 (const 1)) [] ∷ act (write (store false) 1 (const 1)) [] ∷ []))) 2 (at-points (act (write swap 1 (const 4)) [] ∷ []));
@@ -238,12 +237,13 @@ unfolding begin by nothing at-points dropped upd up down
 not-joined = refl
 
 -- TICKETS. Word 1 counts, word 2 is a desk. Thread 1 takes 3 by fetch-add into register 1 and stores 4 to the desk, releasing.
--- Thread 2 exchanges the count for 7, the desk for 1, and adds 6 to the count, each time into register 3
-unfoldable pub tickets : Program
-tickets = record {
+-- Thread 2 exchanges the count for 7, the desk for 1, and adds 6 to the count, each time into register 3.
+-- R: how many values there are
+unfoldable pub tickets : ℕ → Program
+tickets R = record {
   threads = 2;
   words = 2;
-  range = Limits.range;
+  range = R;
   init = λ x. 0;
   points = upd (λ t. 4) 1 3;
   code = upd (upd (λ t k. nothing) 1 (at-points (act (write (fetchAdd 1) 1 (const 3)) [] ∷ act (write (store true) 2 (const 4)) [] ∷ [])))
@@ -254,15 +254,15 @@ ticket-steps : List Step
 ticket-steps =
     by 2 0  -- exchanges 0 for 7, and covers it
     ∷ by 1 0  -- refused: the first write is covered
-    ∷ by 1 1  -- takes 7, stores 7 + 3, which is 2
+    ∷ by 1 1  -- takes 7, stores 7 + 3: of 8 values that is 2
     ∷ by 1 1  -- refused: the desk has no write at 1 yet
     ∷ by 1 0  -- stores 4
     ∷ by 2 1  -- exchanges 4 for 1: its stored view is joined in, the one of the count too
     ∷ by 2 1  -- refused: the write at 1 of the count is before the view now
-    ∷ by 2 2  -- takes 2, stores 2 + 6, which is 0
+    ∷ by 2 2  -- takes that, stores it plus 6: of 8 values that is 0
     ∷ []
 
-tickets-taken : picture (run tickets (begin tickets) ticket-steps) ≡ record {
+tickets-taken : picture (run (tickets 8) (begin (tickets 8)) ticket-steps) ≡ record {
   rows =
       (write-of 0 0 1 (0 ∷ 0 ∷ []) ∷ write-of 7 1 1 (1 ∷ 0 ∷ []) ∷ write-of 2 1 1 (2 ∷ 0 ∷ []) ∷ write-of 0 1 0 (3 ∷ 2 ∷ []) ∷ [])
       ∷ (write-of 0 0 0 (0 ∷ 0 ∷ []) ∷ write-of 4 1 1 (2 ∷ 1 ∷ []) ∷ write-of 1 1 0 (2 ∷ 2 ∷ []) ∷ [])
@@ -275,6 +275,18 @@ unfolding begin draw yes-no picture write-of by nothing at-points tickets ticket
 tickets-taken = refl
 
 -- before the last step: the exchange of the desk has put the old value, 4, into register 3
-exchanged : run tickets (begin tickets) (by 2 0 ∷ by 1 1 ∷ by 1 0 ∷ by 2 1 ∷ []) .reg 3 ≡ 4
+exchanged : run (tickets 8) (begin (tickets 8)) (by 2 0 ∷ by 1 1 ∷ by 1 0 ∷ by 2 1 ∷ []) .reg 3 ≡ 4
 unfolding begin by nothing at-points tickets upd up down
 exchanged = refl
+
+-- the count's values after the same steps, of 16 values and of 11
+counted-to : ℕ → List ℕ
+counted-to R = map (λ i. run (tickets R) (begin (tickets R)) ticket-steps .row 1 i .value) (below 4)
+
+of-16 : counted-to 16 ≡ 0 ∷ 7 ∷ 10 ∷ 0 ∷ []
+unfolding begin by nothing at-points tickets ticket-steps counted-to upd up down
+of-16 = refl
+
+of-11 : counted-to 11 ≡ 0 ∷ 7 ∷ 10 ∷ 5 ∷ []
+unfolding begin by nothing at-points tickets ticket-steps counted-to upd up down
+of-11 = refl

@@ -10,7 +10,6 @@ use borrow.Author.Tests.{ltb-true, ltb-false, lt-ltb, ne-eqb}
 use lib.ListN.{length, take, drop}
 use lib.Seq.{take-length, drop-length}
 use Rattle.logic.specs.Base.{upd, All}
-use Rattle.logic.specs.Limits
 use Rattle.logic.specs.Formula.{Test, Formula, Formula.const, Formula.reg, Formula.word, Formula.equal, Formula.unsync, Formula.cov, Formula.box, Formula.one, Formula.chop, Formula.both, Formula.either, Formula.sees, Formula.start, Formula.holds}
 use Rattle.logic.specs.Eval.{Env, test}
 use Rattle.logic.specs.Machine.{View, State, Program, Mode.store, Access.write, Instr.act, at, run, up, down}
@@ -145,7 +144,7 @@ twins : Program
 twins = record {
   threads = 2;
   words = 1;
-  range = Limits.range;
+  range = 8;
   init = λ x. 0;
   points = upd (λ t. 1) 1 2;
   code = upd (λ t k. nothing) 1 (at-points (act (write (store false) 1 (const 0)) [] ∷ []));

@@ -1,9 +1,5 @@
--- The numbers of the scope page that the logic knows. Counts of threads, words, registers and points are the program's.
+-- The numbers of the scope page that the logic knows. Counts of threads, words, registers, points and values are the program's.
 use Prim.Native.Nat.{ℕ}
-
--- values are 0 to 7; sums are modulo 8. Everything below takes the range from the program
-abbrev pub range : ℕ
-range = 8
 
 -- by rows: so many rows at most
 abbrev pub rows : ℕ

@@ -1,4 +1,4 @@
--- Record 1: threads, words, registers; a start value per word; an owning thread per register.
+-- Record 1: threads, words, registers, range; a start value per word; an owning thread per register.
 use mathlib.Core.Bool.{Bool, _&&_}
 use mathlib.Core.List.{List}
 use Prim.Native.Nat.{ℕ, _+_, _-_}
@@ -11,23 +11,41 @@ use Rattle.frames.specs.declared.fault.Fault.the-variants.{Body, Number}
 use Rattle.frames.specs.declared.fault.Checked.{Checked}
 use Rattle.frames.specs.declared.fault.Checked.the-variants.{Passed}
 
--- the three counts; t thread records follow
+-- its numbers, a byte each
+abbrev pub threadCount : List ℕ → ℕ
+threadCount b = getD b 0 0
+
+abbrev pub wordCount : List ℕ → ℕ
+wordCount b = getD b 1 0
+
+abbrev pub registerCount : List ℕ → ℕ
+registerCount b = getD b 2 0
+
+-- how many values there are: 0 up to one below it
+abbrev pub valueRange : List ℕ → ℕ
+valueRange b = getD b 3 0
+
+-- each within its limits; t thread records follow
 unfoldable pub counted : ℕ → List ℕ → Bool
-counted t b = within t t (getD b 0 0) && (within 1 Limits.threads (getD b 0 0) && (within 1 Limits.words (getD b 1 0) && within 0 Limits.registers (getD b 2 0)))
+counted t b =
+    within t t (threadCount b)
+    && (within 1 Limits.threads (threadCount b)
+    && (within 1 Limits.words (wordCount b)
+    && (within 0 Limits.registers (registerCount b) && within Limits.fewestValues Limits.mostValues (valueRange b))))
 
 unfoldable pub startValues : List ℕ → List ℕ
-startValues b = take (getD b 1 0) (drop 3 b)
+startValues b = take (wordCount b) (drop 4 b)
 
 unfoldable pub owners : List ℕ → List ℕ
-owners b = take (getD b 2 0) (drop (3 + getD b 1 0) b)
+owners b = take (registerCount b) (drop (4 + wordCount b) b)
 
 -- every number in its range
 unfoldable pub headed : ℕ → List ℕ → Bool
-headed t b = counted t b && (every (within 0 (Limits.values - 1)) (startValues b) && every (within 1 (getD b 0 0)) (owners b))
+headed t b = counted t b && (every (within 0 (valueRange b - 1)) (startValues b) && every (within 1 (threadCount b)) (owners b))
 
 -- the length by the counts as written
 unfoldable pub headerSize : List ℕ → ℕ
-headerSize b = 3 + getD b 1 0 + getD b 2 0
+headerSize b = 4 + wordCount b + registerCount b
 
 unfoldable pub header : ℕ → List ℕ → Checked
-header t b = unless (has 3 b) Body (unless (eqb (length b) (headerSize b)) Body (unless (headed t b) Number Passed))
+header t b = unless (has 4 b) Body (unless (eqb (length b) (headerSize b)) Body (unless (headed t b) Number Passed))

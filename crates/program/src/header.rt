@@ -1,4 +1,5 @@
-// The header: how many threads, words and registers there are; a start value per word; an owning thread per register.
+// The header: how many threads, words and registers there are, how many values; a start value per word; an owning thread per
+// register.
 use frames::fault::Checked;
 use frames::fault::Fault;
 use limits::Limits;
@@ -6,27 +7,50 @@ use limits::range::byte_within;
 use limits::range::bytes_within;
 use limits::read::byte_at;
 use limits::read::nth_byte;
+use limits::read::octet_at;
 use limits::read::part;
 ghost use mathlib.Core.Path.{_≡_};
 ghost use Rattle.limits.specs.Numbers.{nth};
-ghost use Rattle.program.specs.Header.{headerSize, counted, startValues, owners, headed, header};
+ghost use Rattle.program.specs.Header.{valueRange, headerSize, counted, startValues, owners, headed, header};
+
+// Where its numbers stand, a byte each; the lists are behind them.
+pub struct Header;
+
+impl Header {
+    pub const THREADS: usize = 0;
+
+    pub const WORDS: usize = 1;
+
+    pub const REGISTERS: usize = 2;
+
+    pub const RANGE: usize = 3;
+
+    pub const LISTS: usize = 4;
+}
 
 fn header_size(b: &[u8]) -> usize
     ensures { λ r. ⌜ r ≡ headerSize (now (b .entry)) ⌝ }
 {
-    3 + byte_at(b, 1) + byte_at(b, 2)
+    Header::LISTS + byte_at(b, Header::WORDS) + byte_at(b, Header::REGISTERS)
 }
 
 fn start_values(b: &[u8]) -> &[u8]
     ensures { λ r. ⌜ now r ≡ startValues (now (b .entry)) ⌝ }
 {
-    part(b, 3, byte_at(b, 1))
+    part(b, Header::LISTS, byte_at(b, Header::WORDS))
 }
 
 pub fn owners_of(b: &[u8]) -> &[u8]
     ensures { λ r. ⌜ now r ≡ owners (now (b .entry)) ⌝ }
 {
-    part(b, 3 + byte_at(b, 1), byte_at(b, 2))
+    part(b, Header::LISTS + byte_at(b, Header::WORDS), byte_at(b, Header::REGISTERS))
+}
+
+// How many values there are.
+pub fn range_of(b: &[u8]) -> u8
+    ensures { λ r. ⌜ r ≡ valueRange (now (b .entry)) ⌝ }
+{
+    octet_at(b, Header::RANGE)
 }
 
 // The start value of a word.
@@ -45,14 +69,16 @@ pub fn owner_of(b: &[u8], r: usize) -> usize
     nth_byte(l, r)
 }
 
-// The three counts; t thread records follow.
+// The counts and the range; t thread records follow.
 fn counts_fit(b: &[u8], t: usize) -> bool
     ensures { λ r. ⌜ r ≡ counted t (now (b .entry)) ⌝ }
 {
-    if byte_within(b, 0, t, t) {
-        if byte_within(b, 0, 1, Limits::THREADS) {
-            if byte_within(b, 1, 1, Limits::WORDS) {
-                return byte_within(b, 2, 0, Limits::REGISTERS);
+    if byte_within(b, Header::THREADS, t, t) {
+        if byte_within(b, Header::THREADS, 1, Limits::THREADS) {
+            if byte_within(b, Header::WORDS, 1, Limits::WORDS) {
+                if byte_within(b, Header::REGISTERS, 0, Limits::REGISTERS) {
+                    return byte_within(b, Header::RANGE, Limits::FEWEST_VALUES, Limits::MOST_VALUES);
+                }
             }
         }
     }
@@ -65,9 +91,9 @@ fn header_fits(b: &[u8], t: usize) -> bool
 {
     if counts_fit(b, t) {
         let l = start_values(b);
-        if bytes_within(l, 0, Limits::VALUES - 1) {
+        if bytes_within(l, 0, byte_at(b, Header::RANGE) - 1) {
             let m = owners_of(b);
-            return bytes_within(m, 1, byte_at(b, 0));
+            return bytes_within(m, 1, byte_at(b, Header::THREADS));
         }
     }
     false
@@ -76,7 +102,7 @@ fn header_fits(b: &[u8], t: usize) -> bool
 pub fn check_header(b: &[u8], t: usize) -> Checked
     ensures { λ r. ⌜ r ≡ header t (now (b .entry)) ⌝ }
 {
-    if b.len() < 3 {
+    if b.len() < Header::LISTS {
         return Checked::Faulty(Fault::Body);
     }
     if b.len() != header_size(b) {

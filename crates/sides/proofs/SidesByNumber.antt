@@ -5,12 +5,12 @@ use mathlib.Core.List.{List, [], _∷_}
 use Prim.Native.Nat.{ℕ, _+_}
 use lib.ListN.{getD}
 use borrow.Author.Tests.{eq-eqb, ne-eqb}
-use Rattle.limits.specs.Limits as Limits
 use Rattle.limits.specs.Limits.{nesting}
 use Rattle.compare.specs.declared.replace.Replacing.the-variants.{Formula, Word}
 use Rattle.rows.specs.Rows.{rowsT, tableT, lineOf, premisesOf}
 use Rattle.rows.specs.declared.by.Implications.{Implications}
 use Rattle.frames.specs.Records.{bodies}
+use Rattle.program.specs.Header.{valueRange}
 use Rattle.matcher.specs.declared.bind.Bind.{Bind}
 use Rattle.content.specs.declared.acting.Acting.{Acting}
 use Rattle.rulebook.specs.Rulebook.{nothing, isKept, assigned, loaded, stored, byRows, byTable, startValue, newValue}
@@ -69,9 +69,10 @@ pub implications-is : (c d e f g : Conclusion) (p : Premises) → d ≡ conclusi
 unfolding implicationsOf
 implications-is c d e f g p x y z w = rw (x, y, z, w)
 
-pub names-is : (s : List ℕ) (b : Bind) (p q : Position) (r : Bool) → p ≡ holeOf b 2 → q ≡ holeOf b 3 → r ≡ rowsT Limits.values (treeOf s p) (treeOf s q) → r ≡ ofNames s b
+pub names-is : (s h : List ℕ) (b : Bind) (p q : Position) (n : ℕ) (r : Bool) → p ≡ holeOf b 2 → q ≡ holeOf b 3 → h ≡ getD (bodies s) 0 [] → n ≡ valueRange h
+    → r ≡ rowsT n (treeOf s p) (treeOf s q) → r ≡ ofNames s b
 unfolding ofNames
-names-is s b p q r e d g = rw (← e, ← d) g
+names-is s h b p q n r e d f i g = rw (← e, ← d, ← f, ← i) g
 
 pub ruleset implying = (implications-is, names-is)
 

@@ -28,7 +28,7 @@ use Rattle.trees.proofs.ToTree.{tree-eq, tree-refl}
 use Rattle.rows.specs.Entailment.{impOf, impsFrom, premisesFrom}
 use Rattle.rows.specs.Rows.{rowsT, tableT, lineOf, premisesOf}
 use Rattle.frames.specs.Records.{bodies}
-use Rattle.program.specs.Header.{startValues}
+use Rattle.program.specs.Header.{startValues, valueRange}
 use Rattle.matcher.specs.Places.{takenOf}
 use Rattle.matcher.specs.declared.bind.Bind.{Bind}
 use Rattle.certificate.specs.FitT as FitT
@@ -43,7 +43,10 @@ use Rattle.sides.specs.Asked.{assignedBy, loadedBy, ofInstruction, impli
 use Rattle.conclusions.specs.declared.conclusion.Conclusion.{Conclusion}
 use Rattle.conclusions.specs.declared.conclusion.Premises.{Premises}
 
--- the start values of an image
+-- how many values there are, and what words start with
+abbrev pub rangeOf : List ℕ → ℕ
+rangeOf s = valueRange (getD (bodies s) 0 [])
+
 abbrev pub startOf : List ℕ → ℕ → ℕ
 startOf s x = nth (startValues (getD (bodies s) 0 [])) x 0
 
@@ -135,11 +138,11 @@ module _ (s : List ℕ) (b : Bind) (a : Acting) (c : Conclusion) (p : Premises) 
   vs = map (concludedAt s) (conclusionsFrom p (p .count) 0)
 
   abbrev holds : Rule → Bool
-  holds n = all (sideT Limits.values (startOf s) (actingAt s a) (holesFrom (takenOf s b)) (concludedAt s c) vs) (row n .sides)
+  holds n = all (sideT (rangeOf s) (startOf s) (actingAt s a) (holesFrom (takenOf s b)) (concludedAt s c) vs) (row n .sides)
 
   -- the rule's row allows the operation
   abbrev allowed : Rule → Bool
-  allowed n = operationT Limits.values (startOf s) (actingAt s a) (formOf (row n .says)) (row n .operations)
+  allowed n = operationT (rangeOf s) (startOf s) (actingAt s a) (formOf (row n .says)) (row n .operations)
 
   -- the line's premises, as implications
   table-is : (n : ℕ) → p .count ≡ n → n ≤ Limits.premises → map FitT.impOf (map (concludedAt s) (conclusionsFrom p n 0)) ≡ premisesOf s (implicationsOf c p)
@@ -158,7 +161,7 @@ module _ (s : List ℕ) (b : Bind) (a : Acting) (c : Conclusion) (p : Premises) 
   -- each condition, of the holes that it speaks of
   kept-is : holds r1 ≡ asked s (sideNumber (row r1 .sides)) b a c p
   unfolding asked ofInstruction
-  kept-is = and-one _ ∙ keeps-is Limits.values (startOf s) (a .operation) (a .word) (a .register) (holesFrom (takenOf s b) .tree 0) (actingAt s a .formula) (actingAt s a .notes) ∙ ap (keeps (a .operation) (a .word) (a .register)) (hole-tree s b 0)
+  kept-is = and-one _ ∙ keeps-is (rangeOf s) (startOf s) (a .operation) (a .word) (a .register) (holesFrom (takenOf s b) .tree 0) (actingAt s a .formula) (actingAt s a .notes) ∙ ap (keeps (a .operation) (a .word) (a .register)) (hole-tree s b 0)
 
   assigned-is : allowed r2 ≡ true → holds r2 ≡ asked s (sideNumber (row r2 .sides)) b a c p
   unfolding asked ofInstruction assignedBy isWith oneName nameCode
@@ -178,14 +181,14 @@ module _ (s : List ℕ) (b : Bind) (a : Acting) (c : Conclusion) (p : Premises) 
   absent-is : holds r8 ≡ asked s (sideNumber (row r8 .sides)) b a c p
   unfolding asked ofInstruction
   absent-is =
-      and-one _ ∙ apart-is Limits.values (startOf s) (a .operation) (a .word) (a .register) (holesFrom (takenOf s b) .tree 1) (actingAt s a .formula) (actingAt s a .notes)
+      and-one _ ∙ apart-is (rangeOf s) (startOf s) (a .operation) (a .word) (a .register) (holesFrom (takenOf s b) .tree 1) (actingAt s a .formula) (actingAt s a .notes)
       ∙ ap (apart (a .operation) (a .word) (a .register)) (hole-tree s b 1)
 
   new-is : holds r48 ≡ asked s (sideNumber (row r48 .sides)) b a c p
   unfolding asked ofInstruction freshIs sumIs formulaIs
   new-is =
-      and-one _ ∙ ap (λ (u : Tree). sameTree u (freshT Limits.values (startOf s) (actingAt s a))) (hole-tree s b 0)
-      ∙ same-sym (treeOf s (holeOf b 0)) (freshT Limits.values (startOf s) (actingAt s a)) ∙ go (eqb (a .operation) Opcode.fetchAdd)
+      and-one _ ∙ ap (λ (u : Tree). sameTree u (freshT (rangeOf s) (startOf s) (actingAt s a))) (hole-tree s b 0)
+      ∙ same-sym (treeOf s (holeOf b 0)) (freshT (rangeOf s) (startOf s) (actingAt s a)) ∙ go (eqb (a .operation) Opcode.fetchAdd)
     where
       go : (x : Bool) → sameTree (elim x as (λ y. Tree) [ true ↦ node (byte Code.sum) 0 (node (byte Code.reg) (a .register) Tree.none Tree.none) (parseTree s nesting (a .formula) .tree) | false ↦ parseTree s nesting (a .formula) .tree ]) (treeOf s (holeOf b 0))
           ≡ cond x (sameTree (node (byte Code.sum) 0 (node (byte Code.reg) (a .register) Tree.none Tree.none) (parseTree s nesting (a .formula) .tree)) (treeOf s (holeOf b 0))) (sameTree (parseTree s nesting (a .formula) .tree) (treeOf s (holeOf b 0)))
@@ -210,7 +213,7 @@ module _ (s : List ℕ) (b : Bind) (a : Acting) (c : Conclusion) (p : Premises) 
 
   rows-asked : holds r21 ≡ asked s (sideNumber (row r21 .sides)) b a c p
   unfolding asked ofNames
-  rows-asked = and-one _ ∙ ap₂ (rowsT Limits.values) (hole-tree s b 2) (hole-tree s b 3)
+  rows-asked = and-one _ ∙ ap₂ (rowsT (rangeOf s)) (hole-tree s b 2) (hole-tree s b 3)
 
   start-asked : holds r26 ≡ asked s (sideNumber (row r26 .sides)) b a c p
   unfolding asked isStart

@@ -4,12 +4,12 @@ use mathlib.Core.List.{List, [], _∷_}
 use Prim.Native.Nat.{ℕ, _+_}
 use lib.Dec.{eqb}
 use lib.ListN.{getD}
-use Rattle.limits.specs.Limits as Limits
 use Rattle.limits.specs.Limits.{nesting}
 use Rattle.compare.specs.declared.replace.Replacing.the-variants.{Formula, Word}
 use Rattle.rows.specs.Rows.{rowsT, tableT, lineOf, premisesOf}
 use Rattle.rows.specs.declared.by.Implications.{Implications}
 use Rattle.frames.specs.Records.{bodies}
+use Rattle.program.specs.Header.{valueRange}
 use Rattle.matcher.specs.declared.bind.Bind.{Bind}
 use Rattle.content.specs.declared.acting.Acting.{Acting}
 use Rattle.rulebook.specs.Rulebook.{nothing, isKept, assigned, loaded, stored, byRows, byTable, startValue, newValue}
@@ -45,9 +45,9 @@ implicationsOf c p = record {
   right = c .right ∷ conclusionAt p 0 .right ∷ conclusionAt p 1 .right ∷ conclusionAt p 2 .right ∷ conclusionAt p 3 .right ∷ [];
 }
 
--- by rows, of the tests in holes 2 and 3
+-- by rows, of the tests in holes 2 and 3, over the values that the header gives
 unfoldable pub ofNames : List ℕ → Bind → Bool
-ofNames s b = rowsT Limits.values (treeOf s (holeOf b 2)) (treeOf s (holeOf b 3))
+ofNames s b = rowsT (valueRange (getD (bodies s) 0 [])) (treeOf s (holeOf b 2)) (treeOf s (holeOf b 3))
 
 -- by rows, by truth table, by the start values; else of the instruction
 unfoldable pub asked : List ℕ → ℕ → Bind → Acting → Conclusion → Premises → Bool

@@ -16,6 +16,7 @@ use content::acting::Acting;
 use frames::index::body_of;
 use limits::Limits;
 use matcher::bind::Bind;
+use program::header::range_of;
 use rows::by::Implications;
 use rows::by::by_rows;
 use rows::by::by_table;
@@ -85,13 +86,15 @@ fn implications_of(c: Conclusion, p: Premises) -> Implications
     }
 }
 
-// By rows, of the tests in holes 2 and 3.
-fn by_names(s: &[u8], b: Bind) -> bool
+// By rows, of the tests in holes 2 and 3, over the values that the header gives.
+fn by_names<'a, 'b>(s: &'a [u8], ix: &'b [usize], b: Bind) -> bool
+    requires { ⌜ now ix ≡ indexOf (now s) ⌝ }
     ensures { λ r. ⌜ r ≡ ofNames (now (s .entry)) b ⌝ }
 {
     let p = hole_of(b, 2);
     let q = hole_of(b, 3);
-    by_rows(s, p.at, p.left, q.at, q.left, Limits::VALUES as u8)
+    let h = body_of(s, ix, 0);
+    by_rows(s, p.at, p.left, q.at, q.left, range_of(h))
 }
 
 // By rows, by truth table, by the start values; else of the instruction.
@@ -111,7 +114,7 @@ pub fn is_asked<'a, 'b>(
         return true;
     }
     if side == Side::BY_ROWS {
-        return by_names(s, b);
+        return by_names(s, ix, b);
     }
     if side == Side::BY_TABLE {
         return by_table(s, implications_of(c, p));

@@ -28,12 +28,12 @@ obligation n = framed Kinds.obligations (two n)
 
 -- formula f is asserted, and shown by truth table
 abbrev pub byTable : List ℕ → List ℕ
-byTable f = framed Kinds.header (1 ∷ 1 ∷ 0 ∷ 0 ∷ []) ++ (formula f ++ (formula (27 ∷ []) ++ (thread ++ (outline 1 ++ (line 20 2 1 (0 ∷ []) ++ obligation 1)))))
+byTable f = framed Kinds.header (1 ∷ 1 ∷ 0 ∷ 8 ∷ 0 ∷ []) ++ (formula f ++ (formula (27 ∷ []) ++ (thread ++ (outline 1 ++ (line 20 2 1 (0 ∷ []) ++ obligation 1)))))
 
--- over two words and two registers `1 sees [e]` is asserted; line 1 shows it by rows, from `holds not false`, and line 2 rests on line 1
-abbrev pub byRows : List ℕ → List ℕ
-byRows e =
-    framed Kinds.header (1 ∷ 2 ∷ 2 ∷ 0 ∷ 0 ∷ 1 ∷ 1 ∷ [])
+-- over so many values, words and registers `1 sees [e]` is asserted; line 1 shows it by rows, from `holds not false`, and line 2 rests on line 1
+abbrev pub byRows : ℕ → ℕ → ℕ → List ℕ → List ℕ
+byRows range words registers e =
+    framed Kinds.header (1 ∷ words ∷ registers ∷ range ∷ replicate words 0 ++ replicate registers 1)
     ++ (formula (28 ∷ 11 ∷ 8 ∷ []) ++ (formula (27 ∷ []) ++ (formula (24 ∷ 1 ∷ 16 ∷ e) ++ (thread ++ (outline 3 ++ (line 24 1 3 (0 ∷ []) ++ (line 20 2 3 (1 ∷ two 1) ++ obligation 2)))))))
 
 -- of nesting k: `holds`, negations, `false and false`
@@ -45,6 +45,15 @@ abbrev pub compared : ℕ → List ℕ
 compared zero = 11 ∷ 8 ∷ []
 compared (suc k) = 13 ∷ 9 ∷ 0 ∷ k / 8 ∷ 0 ∷ k % 8 ∷ compared k
 
--- the sum of registers 1 and 2 and of words 1 and 2 is not less than 0
-abbrev pub summed : List ℕ
-summed = 11 ∷ 10 ∷ 3 ∷ 1 ∷ 1 ∷ 3 ∷ 1 ∷ 2 ∷ 3 ∷ 2 ∷ 1 ∷ 2 ∷ 2 ∷ 0 ∷ 0 ∷ []
+-- the names with this code, n of them, and 0 added up
+abbrev pub summed : ℕ → ℕ → List ℕ
+summed code zero = 0 ∷ 0 ∷ []
+summed code (suc n) = 3 ∷ code ∷ suc n ∷ summed code n
+
+-- the sum of so many words is not less than 0, nor is that of so many registers
+abbrev pub named : ℕ → ℕ → List ℕ
+named words registers = 12 ∷ 11 ∷ 10 ∷ summed 2 words ++ (0 ∷ 0 ∷ 11 ∷ 10 ∷ summed 1 registers ++ (0 ∷ 0 ∷ []))
+
+-- word 1 is unsynchronised, or the test is true
+abbrev pub flagged : List ℕ → List ℕ
+flagged e = 13 ∷ 14 ∷ 1 ∷ e

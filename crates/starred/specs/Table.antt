@@ -9,7 +9,7 @@ use Rattle.report.specs.Output.{codeFor, bytesFor}
 use Rattle.report.specs.Record.{two}
 use Rattle.report.specs.declared.verdict.Verdict.{Verdict}
 use Rattle.checker.specs.Answer.{verdict}
-use Rattle.starred.specs.Image.{byTable, byRows, nested, compared, summed}
+use Rattle.starred.specs.Image.{byTable, byRows, nested, compared, named, flagged}
 
 -- an image and an output buffer; the code that is answered, and the buffer afterwards
 pub record Case : Type 0 where
@@ -43,14 +43,18 @@ answer s l = record { image = s; buffer = room 25; code = getD l 0 0; written = 
 -- the page's small image; n is its last line number
 abbrev pub small : ℕ → List ℕ
 small n =
-    6 ∷ 0 ∷ 1 ∷ 0 ∷ 1 ∷ 1 ∷ 0 ∷ 0 ∷ 5 ∷ 0 ∷ 2 ∷ 0 ∷ 28 ∷ 11 ∷ 8 ∷ 3 ∷ 0 ∷ 2 ∷ 0 ∷ 27 ∷ 3 ∷ 0 ∷ 3 ∷ 0 ∷ 1 ∷ 4 ∷ 0 ∷ 4 ∷ 0 ∷ 1 ∷ 0
+    7 ∷ 0 ∷ 1 ∷ 0 ∷ 1 ∷ 1 ∷ 0 ∷ 8 ∷ 0 ∷ 5 ∷ 0 ∷ 2 ∷ 0 ∷ 28 ∷ 11 ∷ 8 ∷ 3 ∷ 0 ∷ 2 ∷ 0 ∷ 27 ∷ 3 ∷ 0 ∷ 3 ∷ 0 ∷ 1 ∷ 4 ∷ 0 ∷ 4 ∷ 0 ∷ 1 ∷ 0
     ∷ 10 ∷ 0 ∷ 5 ∷ 0 ∷ 20 ∷ 0 ∷ 0 ∷ 2 ∷ 0 ∷ 1 ∷ 0 ∷ 0 ∷ 4 ∷ 0 ∷ 6 ∷ 0 ∷ n ∷ 0 ∷ []
 
 abbrev pub accepted : List ℕ
 accepted = 0 ∷ 0 ∷ 0 ∷ 0 ∷ 0 ∷ 0 ∷ 0 ∷ 0 ∷ 1 ∷ []
 
+-- too many rows: line 1, on which line 2 rests, is unjustified
+abbrev pub tooMany : List ℕ
+tooMany = 22 ∷ 0 ∷ 1 ∷ 1 ∷ 0 ∷ 0 ∷ 0 ∷ 2 ∷ 0 ∷ []
+
 -- the two small images; the empty image; outputs of 21 and 22 bytes; nesting 16 and 17; 10 and 11 leaves, start among them;
--- four names, and four with a flag, by rows
+-- by rows four names, and four with a flag; of 16 values three names, and three with a flag; of 2 values twelve names and thirteen
 abbrev pub table : List Case
 table =
     answer (small 1) accepted
@@ -62,6 +66,10 @@ table =
     ∷ answer (byTable (nested 17)) (7 ∷ 2 ∷ 0 ∷ 0 ∷ 0 ∷ 0 ∷ 0 ∷ 0 ∷ 0 ∷ [])
     ∷ answer (byTable (28 ∷ compared 9)) accepted
     ∷ answer (byTable (28 ∷ compared 10)) (22 ∷ 0 ∷ 1 ∷ 1 ∷ 0 ∷ 0 ∷ 0 ∷ 1 ∷ 0 ∷ [])
-    ∷ answer (byRows summed) accepted
-    ∷ answer (byRows (13 ∷ 14 ∷ 1 ∷ summed)) (22 ∷ 0 ∷ 1 ∷ 1 ∷ 0 ∷ 0 ∷ 0 ∷ 2 ∷ 0 ∷ [])
+    ∷ answer (byRows 8 2 2 (named 2 2)) accepted
+    ∷ answer (byRows 8 2 2 (flagged (named 2 2))) tooMany
+    ∷ answer (byRows 16 2 1 (named 2 1)) accepted
+    ∷ answer (byRows 16 2 1 (flagged (named 2 1))) tooMany
+    ∷ answer (byRows 2 8 4 (named 8 4)) accepted
+    ∷ answer (byRows 2 8 5 (named 8 5)) tooMany
     ∷ []

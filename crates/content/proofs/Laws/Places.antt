@@ -117,9 +117,9 @@ unfolding tallyTo threadBody
 tally-same y z l zero e = refl
 tally-same y z l (suc n) e = rw (tally-same y z l n e, e)
 
-pub before-is : (z : Sizes) (l : List (List ℕ)) (t : ℕ) (c : Tally) → c ≡ tally (record { threads = t - 1; words = z .words; registers = z .registers; formulas = z .formulas; lines = z .lines }) l → c .points ≡ tallyTo z l (t - 1) .points
+pub before-is : (z : Sizes) (l : List (List ℕ)) (t : ℕ) (c : Tally) → c ≡ tally (record { threads = t - 1; words = z .words; registers = z .registers; range = z .range; formulas = z .formulas; lines = z .lines }) l → c .points ≡ tallyTo z l (t - 1) .points
 unfolding tally
-before-is z l t c e = ap (λ (d : Tally). d .points) (e ∙ tally-same (record { threads = t - 1; words = z .words; registers = z .registers; formulas = z .formulas; lines = z .lines }) z l (t - 1) refl)
+before-is z l t c e = ap (λ (d : Tally). d .points) (e ∙ tally-same (record { threads = t - 1; words = z .words; registers = z .registers; range = z .range; formulas = z .formulas; lines = z .lines }) z l (t - 1) refl)
 
 pub totals-are : (z : Sizes) (l : List (List ℕ)) (c : Tally) (a b d n : ℕ) → c ≡ tally z l → a ≡ tallyTo z l 0 .points → b ≡ tallyTo z l 1 .points → d ≡ tallyTo z l 2 .points → n ≡ obligationCount z l
     → record { points = c .points; before = a ∷ b ∷ d ∷ []; obligations = n } ≡ totalsOf z l

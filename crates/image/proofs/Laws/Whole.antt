@@ -27,10 +27,10 @@ use Rattle.image.specs.Decode.{recordCount, sizesOf, unlessFaulty, first
 use Rattle.image.specs.declared.decode.Decoded.{Decoded}
 use Rattle.image.specs.declared.decode.Decoded.the-variants.{Refused, Sound}
 
-pub sizes-are : (h : List ℕ) (t w r f n : ℕ) → t ≡ getD h 0 0 → w ≡ getD h 1 0 → r ≡ getD h 2 0
-    → record { threads = t; words = w; registers = r; formulas = f; lines = n } ≡ sizesOf h f n
+pub sizes-are : (h : List ℕ) (t w r v f n : ℕ) → t ≡ getD h 0 0 → w ≡ getD h 1 0 → r ≡ getD h 2 0 → v ≡ getD h 3 0
+    → record { threads = t; words = w; registers = r; range = v; formulas = f; lines = n } ≡ sizesOf h f n
 unfolding sizesOf
-sizes-are h t w r f n et ew er = rw (et, ew, er)
+sizes-are h t w r v f n et ew er ev = rw (et, ew, er, ev)
 
 fault-step : (t : ℕ) (z : Sizes) (l : List (List ℕ)) (i n : ℕ) (m : List (List ℕ)) → 0 < n
     → firstFault t z l i n m ≡ unlessFaulty (check t z l (placeOf z i) (getD m 0 [])) i (firstFault t z l (i + 1) (n - 1) (drop 1 m))

@@ -1,9 +1,8 @@
 use Rattle.bodies.specs.Formula.{countsOf}
 use Rattle.limits.proofs.Auto.{tests}
-use borrow.Author.Needs.{needs}
 use Rattle.bodies.proofs.formula_body.counts_of.Statement.{statement}
 use Rattle.bodies.proofs.formula_body.counts_of.Tie as tie
 
 pub counts-of-spec : {M : Type 1} → statement M
 unfolding countsOf
-counts-of-spec = tie.close (tie.spec (λ c. search needs) (λ c. search tests))
+counts-of-spec = tie.close (tie.spec (λ c. search tests))

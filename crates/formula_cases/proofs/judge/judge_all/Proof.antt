@@ -8,7 +8,7 @@ use Rattle.formula_cases.proofs.judge.judge_all.Statement.{statement}
 use Rattle.formula_cases.proofs.judge.judge_all.Tie as tie
 
 abbrev Inv-loop : tie.InvT-loop
-Inv-loop fd space₀ stored₀ tally₀ left₀ space stored tally left = (4096 ≡ length space) × ((7 ≡ length stored) × Running tally left)
+Inv-loop fd space₀ stored₀ tally₀ left₀ space stored tally left = (4096 ≡ length space) × ((8 ≡ length stored) × Running tally left)
 
 abbrev μ-loop : tie.MeasureT-loop
 μ-loop fd space₀ stored₀ tally₀ left₀ space stored tally left = left

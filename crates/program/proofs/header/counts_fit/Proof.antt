@@ -14,6 +14,8 @@ counts-fit-spec =
     (λ c κs. search needs)
     (λ c κs. search needs)
     (λ c κs. search needs)
+    (λ c κs. search needs)
+    (λ c. search (joining, tests))
     (λ c. search (joining, tests))
     (λ c. search (joining, tests))
     (λ c. search (joining, tests))

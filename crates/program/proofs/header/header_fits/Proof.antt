@@ -14,7 +14,8 @@ header-fits-spec =
     (tie.spec
     (λ c κs. search needs)
     (λ c κs. search needs)
-    (λ c. search needs)
+    (λ c κs. search needs)
+    (λ c. search (heading, tests))
     (λ c κs. search needs)
     (λ c κs. search needs)
     (λ c κs. search needs)

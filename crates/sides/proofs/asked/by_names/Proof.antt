@@ -6,4 +6,11 @@ use Rattle.sides.proofs.asked.by_names.Tie as tie
 
 pub by-names-spec : {M : Type 1} → statement M
 by-names-spec =
-    tie.close (tie.spec (λ c κs. search needs) (λ c κs. search needs) (λ c. search needs) (λ c κs. search needs) (λ c. search (implying, tests)))
+    tie.close
+    (tie.spec
+    (λ c κs. search needs)
+    (λ c κs. search needs)
+    (λ c κs. search needs)
+    (λ c κs. search needs)
+    (λ c κs. search needs)
+    (λ c. search (implying, tests)))
