@@ -327,7 +327,7 @@ module _ (P : Program) (i k : ℕ) (σ : Fill) (d : Holes) (two : 2 ≤ P .range
   sides-same r24 ps (e₁, e₂) f = let q2 : d .tree 2 ≡ toTree (σ .test 2) = cc in let q3 : d .tree 3 ≡ toTree (σ .test 3) = cc in (rows-same Rules.E Rules.F (filled P i k σ (row r24 .says)) ps q2 q3, tt)
   sides-same r25 ps e f = tt
   sides-same r26 ps (e₁, e₂) f = let q0 : d .tree 0 ≡ toTree (σ .value 0) = cc in let qy : d .num 4 ≡ σ .y = cc in (ap₂ (λ (u : Tree) (y : ℕ). sameTree u (toTree (const (P .init y)))) q0 qy ∙ toTree-same (σ .value 0) (const (P .init (σ .y))), tt)
-  sides-same r27 ps e f = tt
+  sides-same r27 ps (e₁, e₂) f = let qy : d .num 4 ≡ σ .y = cc in (ap (P .cleared) qy, tt)
   sides-same r30 ps (e₁, e₂) f = let q2 : d .tree 2 ≡ toTree (σ .test 2) = cc in let q3 : d .tree 3 ≡ toTree (σ .test 3) = cc in (rows-same Rules.E Rules.F (filled P i k σ (row r30 .says)) ps q2 q3, tt)
   sides-same r31 ps e f = tt
   sides-same r32 ps e f = tt

@@ -16,7 +16,7 @@ use Rattle.logic.specs.Statement.{Statement}
 use Rattle.patterns.specs.Pattern
 use Rattle.patterns.specs.Rules
 use Rattle.logic.specs.Rule.{Rule}
-use Rattle.patterns.specs.Rules.{Shape, Shape.inside, Shape.implies, Shape.triple, Premises, these, implications, By, by-notes, r-by-x, x-by-f, Side, _is_with_, start-of, is-new, kept, lacks-x, no-flag, by-rows, by-table, Row, row}
+use Rattle.patterns.specs.Rules.{Shape, Shape.inside, Shape.implies, Shape.triple, Premises, these, implications, By, by-notes, r-by-x, x-by-f, Side, _is_with_, start-of, starts-at-0, is-new, kept, lacks-x, no-flag, by-rows, by-table, Row, row}
 use Rattle.patterns.specs.Fits.{isAmong, opcode, wordOf, regOf, formulaOf, notesOf, threadOf, pointOf}
 use Rattle.formula.specs.Tree.{Tree, Tree.node}
 use Rattle.compare.specs.Same.{sameTree}
@@ -118,13 +118,14 @@ holesFrom b = record { num = λ j. orElse 0 (b .num j); tree = λ j. orElse Tree
 abbrev pub impOf : TreeConclusion → ImpT
 impOf v = record { left = v .left; right = v .right }
 
--- what rules ask of the program besides its instructions: how many values there are, and what words start with
+-- what rules ask of the program besides its instructions: how many values there are, what words start with, and which registers start at 0
 pub record Setup : Type 0 where
   pub range : ℕ
   pub init : ℕ → ℕ
+  pub cleared : ℕ → Bool
 
 abbrev pub setup : Program → Setup
-setup P = record { range = P .range; init = P .init }
+setup P = record { range = P .range; init = P .init; cleared = P .cleared }
 
 abbrev pub answer : Option Taken → (Taken → Bool) → Bool
 answer none f = false
@@ -162,6 +163,7 @@ module _ (h : Setup) (a : Acting) where
   abbrev pub sideT : Holes → TreeConclusion → List TreeConclusion → Side → Bool
   sideT c v vs (p is q with b) = sameTree (replaceT (replacing a b) (instT c (patternToTree q))) (instT c (patternToTree p))
   sideT c v vs (start-of n p) = sameTree (instT c (patternToTree p)) (node (byte Code.const) (h .init (c .num (numHole n))) Tree.none Tree.none)
+  sideT c v vs (starts-at-0 n) = h .cleared (c .num (numHole n))
   sideT c v vs (is-new p) = sameTree (instT c (patternToTree p)) (freshT a)
   sideT c v vs (kept p) = keepsT a (instT c (patternToTree p))
   sideT c v vs (lacks-x p) = apartT a (instT c (patternToTree p))

@@ -28,7 +28,7 @@ use Rattle.trees.proofs.ToTree.{tree-eq, tree-refl}
 use Rattle.rows.specs.Entailment.{impOf, impsFrom, premisesFrom}
 use Rattle.rows.specs.Rows.{rowsT, tableT, lineOf, premisesOf}
 use Rattle.frames.specs.Records.{bodies}
-use Rattle.program.specs.Header.{startValues, valueRange}
+use Rattle.program.specs.Header.{startValues, cleared, valueRange}
 use Rattle.matcher.specs.Places.{takenOf}
 use Rattle.matcher.specs.declared.bind.Bind.{Bind}
 use Rattle.certificate.specs.FitT as FitT
@@ -43,9 +43,13 @@ use Rattle.sides.specs.Asked.{assignedBy, loadedBy, ofInstruction, impli
 use Rattle.conclusions.specs.declared.conclusion.Conclusion.{Conclusion}
 use Rattle.conclusions.specs.declared.conclusion.Premises.{Premises}
 
--- how many values there are, and what words start with
+-- how many values there are, what words start with, and which registers start at 0
 abbrev pub setupIn : List ℕ → Setup
-setupIn s = record { range = valueRange (getD (bodies s) 0 []); init = λ x. nth (startValues (getD (bodies s) 0 [])) x 0 }
+setupIn s = record {
+  range = valueRange (getD (bodies s) 0 []);
+  init = λ x. nth (startValues (getD (bodies s) 0 [])) x 0;
+  cleared = cleared (getD (bodies s) 0 []);
+}
 
 and-one : (b : Bool) → b && true ≡ b
 and-one true = refl
@@ -219,6 +223,10 @@ module _ (s : List ℕ) (b : Bind) (a : Acting) (c : Conclusion) (p : Premises) 
       ∙ ap₂ (λ (u : Tree) (x : ℕ). sameTree u (node (byte Code.const) (setupIn s .init x) Tree.none Tree.none)) (hole-tree s b 0) (hole-number s b 4)
       ∙ same-sym (treeOf s (holeOf b 0)) (node (byte Code.const) (setupIn s .init (numberIn b 4)) Tree.none Tree.none)
 
+  cleared-asked : holds r27 ≡ asked s (sideNumber (row r27 .sides)) b a c p
+  unfolding asked
+  cleared-asked = and-one _ ∙ ap (cleared (getD (bodies s) 0 [])) (hole-number s b 4)
+
   none-asked : true ≡ asked s 0 b a c p
   unfolding asked
   none-asked = refl
@@ -247,7 +255,7 @@ module _ (s : List ℕ) (b : Bind) (a : Acting) (c : Conclusion) (p : Premises) 
   sides-are r24 e = rows-asked
   sides-are r25 e = none-asked
   sides-are r26 e = start-asked
-  sides-are r27 e = none-asked
+  sides-are r27 e = cleared-asked
   sides-are r30 e = rows-asked
   sides-are r31 e = none-asked
   sides-are r32 e = none-asked
