@@ -1,8 +1,8 @@
 //! Stored sets read back and judged again.
 //!
 //! A container of images has for each case its length (16 bits), the image, the nine fields of its
-//! verdict (16 bits each); one of formulas their length (16 bits), bytes, threads, words and registers
-//! (a byte each), result and sort (16 bits each). All numbers are little-endian.
+//! verdict (16 bits each); one of formulas their length (16 bits), bytes, threads, words, registers and
+//! range (a byte each), result and sort (16 bits each). All numbers are little-endian.
 
 use crate::checker::check;
 use crate::formula::parse::{parse, Counts, Fault};
@@ -54,10 +54,10 @@ pub fn formulas(mut bytes: &[u8]) -> Option<Vec<bool>> {
     while !bytes.is_empty() {
         let length = number(&mut bytes)?;
         let formula = take(&mut bytes, usize::from(length))?;
-        let &[threads, words, registers] = take(&mut bytes, 3)? else {
+        let &[threads, words, registers, range] = take(&mut bytes, 4)? else {
             return None;
         };
-        let counts = Counts { threads, words, registers };
+        let counts = Counts { threads, words, registers, range };
         let stored = [number(&mut bytes)?, number(&mut bytes)?];
         results.push(answer(formula, counts) == stored);
     }

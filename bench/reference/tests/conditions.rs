@@ -12,7 +12,7 @@ const BOUNDS: Bounds = Bounds { steps: 3, writes: 4 };
 
 /// Word 1 starts at 1, word 2 at 0. Thread 1 owns both registers.
 fn program(action: Instruction) -> Program {
-    let counts = Counts { threads: 2, words: 2, registers: 2 };
+    let counts = Counts { threads: 2, words: 2, registers: 2, range: 8 };
     let header = Header { counts, start: vec![1, 0], owners: vec![1, 1] };
     let threads: Vec<Thread> = vec![vec![action], Vec::new()];
     let truth = Rc::new(Assertion::truth());

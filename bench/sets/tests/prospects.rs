@@ -16,6 +16,7 @@ fn two_by_two() -> State {
         stored: View::default().moved(1, stored[0]).moved(2, stored[1]),
     };
     State {
+        range: 8,
         rows: vec![
             vec![write(0, false, [0, 0]), write(5, false, [1, 0])],
             vec![write(0, false, [0, 0]), write(0, true, [1, 1])],
@@ -58,7 +59,7 @@ fn all_prospects(state: &State, interval: &Interval, list: &mut Vec<View>, longe
 
 #[test]
 fn maximal_chains_decide_all_prospects() {
-    let counts = Counts { threads: 1, words: 2, registers: 0 };
+    let counts = Counts { threads: 1, words: 2, registers: 0, range: 8 };
     let vocabulary = Vocabulary::of(&Header { counts, start: vec![0; 2], owners: Vec::new() });
     let random = &mut Random::new(7);
     let mut seen = 0;

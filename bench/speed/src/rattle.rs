@@ -21,7 +21,7 @@ extern "C" {
     fn image_answer(image: *const u8, length: usize) -> usize;
 
     /// The answer is 1 or 0.
-    fn rows_answer(body: *const u8, length: usize, left: usize, right: usize) -> usize;
+    fn rows_answer(body: *const u8, length: usize, left: usize, right: usize, range: u8) -> usize;
 
     /// The answer is 1 or 0. The places are those of the line and its premises, as in `Input`.
     fn table_answer(
@@ -36,7 +36,7 @@ pub fn formula(body: &[u8], n: Counts) -> Answer {
     // SAFETY: pointer and length are those of a slice that lives until the call returns, and the
     // function has no `requires`.
     let answer = unsafe {
-        formula_answer(body.as_ptr(), body.len(), n.threads, n.words, n.registers, n.values)
+        formula_answer(body.as_ptr(), body.len(), n.threads, n.words, n.registers, n.range)
     };
     match answer {
         6 => Err(Fault::Range),
@@ -60,7 +60,10 @@ pub fn judge(input: &Input) -> bool {
     // SAFETY: as above.
     let answer = unsafe {
         match input.kind {
-            Kind::Tests => rows_answer(body.as_ptr(), body.len(), input.place(0), input.place(1)),
+            Kind::Tests { range } => {
+                let (left, right) = (input.place(0), input.place(1));
+                rows_answer(body.as_ptr(), body.len(), left, right, range)
+            }
             Kind::Table => table_answer(body.as_ptr(), body.len(), places.as_ptr(), places.len()),
         }
     };

@@ -12,6 +12,7 @@ use Rattle.logic.specs.Base.{upd, all, All}
 use Rattle.logic.specs.Limits
 use Rattle.logic.specs.Formula.{Sort, Formula, Assertion, Test, Formula.const, Formula.word, same}
 use Rattle.logic.specs.Names.{Name, names, only, notReg, notWord, notFlag}
+use Rattle.logic.specs.Eval.{bounded}
 use Rattle.logic.specs.Replace.{Sub, replace, notes, regBy, wordBy}
 use Rattle.logic.specs.Rows.{byRows}
 use Rattle.logic.specs.Table.{Imp, byTable}
@@ -149,6 +150,12 @@ imps-concluded [] h = refl
 imps-concluded (Statement.inside a b ∷ ps) h = absurd h
 imps-concluded (Statement.implies a b ∷ ps) h = ap (λ (l : List ImpT). impToTree (record { left = a; right = b }) ∷ l) (imps-concluded ps h)
 imps-concluded (Statement.triple j m a b ∷ ps) h = absurd h
+
+-- the constants of its formulas are values
+abbrev pub boundedSides : ℕ → Statement → Bool
+boundedSides R (Statement.inside a b) = bounded R a && bounded R b
+boundedSides R (Statement.implies a b) = bounded R a && bounded R b
+boundedSides R (Statement.triple j m a b) = bounded R a && bounded R b
 
 module _ (P : Program) (i k : ℕ) (c : Holes) (ag : Agrees (given P i k) c) where
   -- a line that fits is the shape filled
@@ -291,8 +298,9 @@ module _ (P : Program) (i k : ℕ) (σ : Fill) (d : Holes) (two : 2 ≤ P .range
   flag-same : (p : Pattern Sort.test) (s : Statement) (ps : List Statement) → instT d (patternToTree p) ≡ toTree (inst g σ p) → Same s ps (no-flag p)
   flag-same p s ps e = ap (λ (u : Tree). not (occurs (flag (g .x)) [] u)) e ∙ not-of (occurs (flag (g .x)) [] (toTree (inst g σ p))) (only (notFlag (g .x)) (inst g σ p)) (Occurs.no-flag (g .x) (inst g σ p))
 
-  rows-same : (p q : Pattern Sort.test) (s : Statement) (ps : List Statement) → instT d (patternToTree p) ≡ toTree (inst g σ p) → instT d (patternToTree q) ≡ toTree (inst g σ q) → Same s ps (by-rows p q)
-  rows-same p q s ps e f = ap₂ (rowsT (P .range)) e f ∙ toTree-rows (P .range) two (inst g σ p) (inst g σ q)
+  rows-same : (p q : Pattern Sort.test) (s : Statement) (ps : List Statement) → instT d (patternToTree p) ≡ toTree (inst g σ p) → instT d (patternToTree q) ≡ toTree (inst g σ q)
+      → T (bounded (P .range) (inst g σ p)) → T (bounded (P .range) (inst g σ q)) → Same s ps (by-rows p q)
+  rows-same p q s ps e f hp hq = ap₂ (rowsT (P .range)) e f ∙ toTree-rows (P .range) two (inst g σ p) (inst g σ q) hp hq
 
   -- the line's sides, as trees: the templates filled with d are the patterns filled with σ
   abbrev Line : Shape → Type 0
@@ -302,52 +310,52 @@ module _ (P : Program) (i k : ℕ) (σ : Fill) (d : Holes) (two : 2 ≤ P .range
   Sides n ps = All (Same (filled P i k σ (row n .says)) ps) (row n .sides)
 
   -- by rule: what stands in the holes that are asked about
-  sides-same : (n : Rule) (ps : List Statement) → Line (row n .says) → PremisesFit P i k σ (row n .premises) ps → Sides n ps
+  sides-same : (n : Rule) (ps : List Statement) → Line (row n .says) → PremisesFit P i k σ (row n .premises) ps → T (boundedSides (P .range) (filled P i k σ (row n .says))) → Sides n ps
   unfolding hasOperand
-  sides-same r1 ps (e₁, e₂) f = let q0 : d .tree 0 ≡ toTree (σ .assertion 0) = cc in (kept-same Rules.P (filled P i k σ (row r1 .says)) ps q0, tt)
-  sides-same r2 ps (e₁, e₂) f = let q0 : d .tree 0 ≡ toTree (σ .assertion 0) = cc in let q1 : d .tree 1 ≡ toTree (σ .assertion 1) = cc in (is-same Rules.P Rules.Q by-notes (filled P i k σ (row r2 .says)) ps q0 q1, tt)
-  sides-same r3 ps (e₁, e₂) f = let q3 : d .tree 3 ≡ toTree (σ .test 3) = cc in let q2 : d .tree 2 ≡ toTree (σ .test 2) = cc in (is-same Rules.F Rules.E r-by-x (filled P i k σ (row r3 .says)) ps q3 q2, tt)
-  sides-same r4 ps (e₁, e₂) f = let q3 : d .tree 3 ≡ toTree (σ .test 3) = cc in let q2 : d .tree 2 ≡ toTree (σ .test 2) = cc in (is-same Rules.F Rules.E r-by-x (filled P i k σ (row r4 .says)) ps q3 q2, tt)
-  sides-same r5 ps e f = tt
-  sides-same r6 ps e f = tt
-  sides-same r7 ps e f = tt
-  sides-same r8 ps (e₁, e₂) f = let q1 : d .tree 1 ≡ toTree (σ .interval 1) = cc in (lacks-same Rules.J (filled P i k σ (row r8 .says)) ps q1, tt)
-  sides-same r9 ps (e₁, e₂) f = let q3 : d .tree 3 ≡ toTree (σ .test 3) = cc in let q2 : d .tree 2 ≡ toTree (σ .test 2) = cc in (is-same Rules.F Rules.E x-by-f (filled P i k σ (row r9 .says)) ps q3 q2, (flag-same Rules.E (filled P i k σ (row r9 .says)) ps q2, tt))
-  sides-same r10 ps e f = tt
-  sides-same r11 ps e f = tt
-  sides-same r12 ps e f = tt
-  sides-same r13 ps (e₁, e₂) f = let q1 : d .tree 1 ≡ toTree (σ .interval 1) = cc in (lacks-same Rules.J (filled P i k σ (row r13 .says)) ps q1, tt)
-  sides-same r14 ps e f = tt
-  sides-same r15 ps e f = tt
-  sides-same r16 ps e f = tt
-  sides-same r20 ps (e₁, e₂) f = (ap (λ (l : List ImpT). tableT l (impToTree (record { left = σ .assertion 0; right = σ .assertion 1 }))) (imps-concluded ps (and-right (leb (length ps) Limits.premises) (all isImp ps) f)) ∙ toTree-table (map Statement.impOf ps) (record { left = σ .assertion 0; right = σ .assertion 1 }), tt)
-  sides-same r21 ps (e₁, e₂) f = let q2 : d .tree 2 ≡ toTree (σ .test 2) = cc in let q3 : d .tree 3 ≡ toTree (σ .test 3) = cc in (rows-same Rules.E Rules.F (filled P i k σ (row r21 .says)) ps q2 q3, tt)
-  sides-same r22 ps e f = tt
-  sides-same r23 ps (e₁, e₂) f = let q2 : d .tree 2 ≡ toTree (σ .test 2) = cc in let q3 : d .tree 3 ≡ toTree (σ .test 3) = cc in (rows-same Rules.E Rules.F (filled P i k σ (row r23 .says)) ps q2 q3, tt)
-  sides-same r24 ps (e₁, e₂) f = let q2 : d .tree 2 ≡ toTree (σ .test 2) = cc in let q3 : d .tree 3 ≡ toTree (σ .test 3) = cc in (rows-same Rules.E Rules.F (filled P i k σ (row r24 .says)) ps q2 q3, tt)
-  sides-same r25 ps e f = tt
-  sides-same r26 ps (e₁, e₂) f = let q0 : d .tree 0 ≡ toTree (σ .value 0) = cc in let qy : d .num 4 ≡ σ .y = cc in (ap₂ (λ (u : Tree) (y : ℕ). sameTree u (toTree (const (P .init y)))) q0 qy ∙ toTree-same (σ .value 0) (const (P .init (σ .y))), tt)
-  sides-same r27 ps (e₁, e₂) f = let qy : d .num 4 ≡ σ .y = cc in (ap (P .cleared) qy, tt)
-  sides-same r30 ps (e₁, e₂) f = let q2 : d .tree 2 ≡ toTree (σ .test 2) = cc in let q3 : d .tree 3 ≡ toTree (σ .test 3) = cc in (rows-same Rules.E Rules.F (filled P i k σ (row r30 .says)) ps q2 q3, tt)
-  sides-same r31 ps e f = tt
-  sides-same r32 ps e f = tt
-  sides-same r33 ps e f = tt
-  sides-same r34 ps e f = tt
-  sides-same r35 ps e f = tt
-  sides-same r36 ps e f = tt
-  sides-same r37 ps e f = tt
-  sides-same r38 ps e f = tt
-  sides-same r39 ps e f = tt
-  sides-same r40 ps e f = tt
-  sides-same r41 ps e f = tt
-  sides-same r42 ps e f = tt
-  sides-same r43 ps e f = tt
-  sides-same r44 ps e f = tt
-  sides-same r45 ps e f = tt
-  sides-same r46 ps e f = tt
-  sides-same r47 ps (e₁, e₂) f = let q3 : d .tree 3 ≡ toTree (σ .test 3) = cc in let q2 : d .tree 2 ≡ toTree (σ .test 2) = cc in (is-same Rules.F Rules.E r-by-x (filled P i k σ (row r47 .says)) ps q3 q2, tt)
-  sides-same r48 ps (e₁, e₂) f = let q0 : d .tree 0 ≡ toTree (σ .value 0) = cc in (new-same Rules.N (filled P i k σ (row r48 .says)) ps q0, tt)
-  sides-same r49 ps (e₁, e₂) f = let q0 : d .tree 0 ≡ toTree (σ .value 0) = cc in (new-same Rules.N (filled P i k σ (row r49 .says)) ps q0, tt)
+  sides-same r1 ps (e₁, e₂) f h = let q0 : d .tree 0 ≡ toTree (σ .assertion 0) = cc in (kept-same Rules.P (filled P i k σ (row r1 .says)) ps q0, tt)
+  sides-same r2 ps (e₁, e₂) f h = let q0 : d .tree 0 ≡ toTree (σ .assertion 0) = cc in let q1 : d .tree 1 ≡ toTree (σ .assertion 1) = cc in (is-same Rules.P Rules.Q by-notes (filled P i k σ (row r2 .says)) ps q0 q1, tt)
+  sides-same r3 ps (e₁, e₂) f h = let q3 : d .tree 3 ≡ toTree (σ .test 3) = cc in let q2 : d .tree 2 ≡ toTree (σ .test 2) = cc in (is-same Rules.F Rules.E r-by-x (filled P i k σ (row r3 .says)) ps q3 q2, tt)
+  sides-same r4 ps (e₁, e₂) f h = let q3 : d .tree 3 ≡ toTree (σ .test 3) = cc in let q2 : d .tree 2 ≡ toTree (σ .test 2) = cc in (is-same Rules.F Rules.E r-by-x (filled P i k σ (row r4 .says)) ps q3 q2, tt)
+  sides-same r5 ps e f h = tt
+  sides-same r6 ps e f h = tt
+  sides-same r7 ps e f h = tt
+  sides-same r8 ps (e₁, e₂) f h = let q1 : d .tree 1 ≡ toTree (σ .interval 1) = cc in (lacks-same Rules.J (filled P i k σ (row r8 .says)) ps q1, tt)
+  sides-same r9 ps (e₁, e₂) f h = let q3 : d .tree 3 ≡ toTree (σ .test 3) = cc in let q2 : d .tree 2 ≡ toTree (σ .test 2) = cc in (is-same Rules.F Rules.E x-by-f (filled P i k σ (row r9 .says)) ps q3 q2, (flag-same Rules.E (filled P i k σ (row r9 .says)) ps q2, tt))
+  sides-same r10 ps e f h = tt
+  sides-same r11 ps e f h = tt
+  sides-same r12 ps e f h = tt
+  sides-same r13 ps (e₁, e₂) f h = let q1 : d .tree 1 ≡ toTree (σ .interval 1) = cc in (lacks-same Rules.J (filled P i k σ (row r13 .says)) ps q1, tt)
+  sides-same r14 ps e f h = tt
+  sides-same r15 ps e f h = tt
+  sides-same r16 ps e f h = tt
+  sides-same r20 ps (e₁, e₂) f h = (ap (λ (l : List ImpT). tableT l (impToTree (record { left = σ .assertion 0; right = σ .assertion 1 }))) (imps-concluded ps (and-right (leb (length ps) Limits.premises) (all isImp ps) f)) ∙ toTree-table (map Statement.impOf ps) (record { left = σ .assertion 0; right = σ .assertion 1 }), tt)
+  sides-same r21 ps (e₁, e₂) f h = let q2 : d .tree 2 ≡ toTree (σ .test 2) = cc in let q3 : d .tree 3 ≡ toTree (σ .test 3) = cc in (rows-same Rules.E Rules.F (filled P i k σ (row r21 .says)) ps q2 q3 (search and-left) (search and-right), tt)
+  sides-same r22 ps e f h = tt
+  sides-same r23 ps (e₁, e₂) f h = let q2 : d .tree 2 ≡ toTree (σ .test 2) = cc in let q3 : d .tree 3 ≡ toTree (σ .test 3) = cc in (rows-same Rules.E Rules.F (filled P i k σ (row r23 .says)) ps q2 q3 (search and-left) (search and-right), tt)
+  sides-same r24 ps (e₁, e₂) f h = let q2 : d .tree 2 ≡ toTree (σ .test 2) = cc in let q3 : d .tree 3 ≡ toTree (σ .test 3) = cc in (rows-same Rules.E Rules.F (filled P i k σ (row r24 .says)) ps q2 q3 (search and-left) (search and-right), tt)
+  sides-same r25 ps e f h = tt
+  sides-same r26 ps (e₁, e₂) f h = let q0 : d .tree 0 ≡ toTree (σ .value 0) = cc in let qy : d .num 4 ≡ σ .y = cc in (ap₂ (λ (u : Tree) (y : ℕ). sameTree u (toTree (const (P .init y)))) q0 qy ∙ toTree-same (σ .value 0) (const (P .init (σ .y))), tt)
+  sides-same r27 ps (e₁, e₂) f h = let qy : d .num 4 ≡ σ .y = cc in (ap (P .cleared) qy, tt)
+  sides-same r30 ps (e₁, e₂) f h = let q2 : d .tree 2 ≡ toTree (σ .test 2) = cc in let q3 : d .tree 3 ≡ toTree (σ .test 3) = cc in (rows-same Rules.E Rules.F (filled P i k σ (row r30 .says)) ps q2 q3 (search and-left) (search and-right), tt)
+  sides-same r31 ps e f h = tt
+  sides-same r32 ps e f h = tt
+  sides-same r33 ps e f h = tt
+  sides-same r34 ps e f h = tt
+  sides-same r35 ps e f h = tt
+  sides-same r36 ps e f h = tt
+  sides-same r37 ps e f h = tt
+  sides-same r38 ps e f h = tt
+  sides-same r39 ps e f h = tt
+  sides-same r40 ps e f h = tt
+  sides-same r41 ps e f h = tt
+  sides-same r42 ps e f h = tt
+  sides-same r43 ps e f h = tt
+  sides-same r44 ps e f h = tt
+  sides-same r45 ps e f h = tt
+  sides-same r46 ps e f h = tt
+  sides-same r47 ps (e₁, e₂) f h = let q3 : d .tree 3 ≡ toTree (σ .test 3) = cc in let q2 : d .tree 2 ≡ toTree (σ .test 2) = cc in (is-same Rules.F Rules.E r-by-x (filled P i k σ (row r47 .says)) ps q3 q2, tt)
+  sides-same r48 ps (e₁, e₂) f h = let q0 : d .tree 0 ≡ toTree (σ .value 0) = cc in (new-same Rules.N (filled P i k σ (row r48 .says)) ps q0, tt)
+  sides-same r49 ps (e₁, e₂) f h = let q0 : d .tree 0 ≡ toTree (σ .value 0) = cc in (new-same Rules.N (filled P i k σ (row r49 .says)) ps q0, tt)
 
 -- WHAT STANDS IN THE HOLES of a line, found in it
 abbrev leftPart : Tree → Tree
@@ -467,7 +475,7 @@ answer-some : {Z : Type 0} (o : Option Taken) (f : Taken → Bool) → T (answer
 answer-some none f h k = absurd h
 answer-some (some z) f h k = k z refl h
 
-module _ (P : Program) (two : 2 ≤ P .range) (i k : ℕ) (n : Rule) (s : Statement) (ps : List Statement) where
+module _ (P : Program) (two : 2 ≤ P .range) (i k : ℕ) (n : Rule) (s : Statement) (ps : List Statement) (values : T (boundedSides (P .range) s)) where
   abbrev c₀ : Acting
   c₀ = acting (half P i k)
 
@@ -490,7 +498,8 @@ module _ (P : Program) (two : 2 ≤ P .range) (i k : ℕ) (n : Rule) (s : Statem
     sides-at q f =
         subst (λ (w : Statement). All (λ d. sideT (setup P) c₀ (holesFrom z) (concluded w) (map concluded ps) d ≡ sideHolds P i k σ w ps d) (row n .sides)) q
         (sides-same P i k σ (holesFrom z) two n ps
-        (line-fits .1 .left ∙ ap (λ (w : Statement). concluded w .left) (sym q), line-fits .1 .right ∙ ap (λ (w : Statement). concluded w .right) (sym q)) f)
+        (line-fits .1 .left ∙ ap (λ (w : Statement). concluded w .left) (sym q), line-fits .1 .right ∙ ap (λ (w : Statement). concluded w .right) (sym q)) f
+        (subst (λ (w : Statement). T (boundedSides (P .range) w)) (sym q) values))
 
   all-over : (f h : Side → Bool) (l : List Side) → All (λ d. f d ≡ h d) l → All (λ d. T (f d)) l → All (λ d. T (h d)) l
   all-over f h [] e t = tt
@@ -595,11 +604,11 @@ point-concluded (Statement.implies a b) = refl
 point-concluded (Statement.triple j m a b) = refl
 
 -- THE BRIDGE
--- with two values at least, so that there are rows
-pub bridge : (P : Program) → 2 ≤ P .range → (n : Rule) (s : Statement) (ps : List Statement)
+-- with two values at least, so that there are rows; and with constants that are values, so that sums are modulo the range
+pub bridge : (P : Program) → 2 ≤ P .range → (n : Rule) (s : Statement) (ps : List Statement) → T (boundedSides (P .range) s)
     → fitsT (setup P) (acting (half P (concluded s .thread) (concluded s .point))) n (concluded s) (map concluded ps) ≡ fits P n s ps
-bridge P two n s ps =
+bridge P two n s ps values =
     subst₂ (λ (i k : ℕ). fitsAt (setup P) (acting (half P i k)) i k (row n) (concluded s) (map concluded ps) ≡ fits P n s ps) (sym (thread-concluded s)) (sym (point-concluded s))
     (bool-ext (fitsAt (setup P) (acting (half P (threadOf s) (pointOf s))) (threadOf s) (pointOf s) (row n) (concluded s) (map concluded ps)) (fits P n s ps)
-    (λ h. tree-fit P two (threadOf s) (pointOf s) n s ps h (λ σ f. rule-fits P n s ps (rule-of P n σ s ps f)))
-    (λ h. fit-tree P two (threadOf s) (pointOf s) n s ps (found (row n) s ps) (fit P n s ps h)))
+    (λ h. tree-fit P two (threadOf s) (pointOf s) n s ps values h (λ σ f. rule-fits P n s ps (rule-of P n σ s ps f)))
+    (λ h. fit-tree P two (threadOf s) (pointOf s) n s ps values (found (row n) s ps) (fit P n s ps h)))

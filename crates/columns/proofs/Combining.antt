@@ -1,29 +1,45 @@
 -- A node's value from the values of its parts: the ways through the functions, one law for each.
-use Prim.Native.Nat.{ℕ, _+_, _%_, _<_}
-use mathlib.Core.Path.{_≡_}
-use mathlib.Core.Bool.{cond}
+use Prim.Native.Nat.{ℕ, _+_, _-_, _%_, _≤_, _<_}
+use mathlib.Core.Path.{_≡_, refl, ap, sym, _∙_}
+use mathlib.Core.Bool.{Bool, true, false, cond}
 use native.Mathlib.Omega.{arith}
-use native.Mathlib.Nat.{mod-lt}
+use native.Mathlib.Nat.{mod-eq-of-lt, add-mod-left}
 use lib.Dec.{ltb, eqb}
-use borrow.Author.Tests.{eq-eqb, ne-eqb}
+use borrow.Author.Tests.{ne-eqb, lt-ltb, le-ltb, ltb-true, ltb-false}
 use Rattle.logic.specs.Code
 use Rattle.logic.specs.Code.{byte}
 use Rattle.columns.specs.Combine.{sumOf, combine}
 
 module _ (R a b : ℕ) where
-  pub sum-none : R ≡ 0 → 0 ≡ sumOf R a b
+  pub sum-none : R ≤ b → a ≡ sumOf R a b
   unfolding sumOf
-  sum-none z = rw (eq-eqb _ _ z)
+  sum-none h =
+      let z : R - b ≡ 0 = omega arith in
+      let e : a ≡ a - 0 = omega arith in
+      rw (z, le-ltb a 0 (omega arith)) e
 
-  pub sum-some : (R ≡ 0 → ⊥) → (a + b) % R ≡ sumOf R a b
+  pub sum-within : a < R - b → a + b ≡ sumOf R a b
   unfolding sumOf
-  sum-some z = rw (ne-eqb _ _ z)
+  sum-within h = rw (lt-ltb _ _ h)
 
-  -- the sum is a byte
-  pub sum-small : (R ≡ 0 → ⊥) → R < 256 → (a + b) % R < 256
-  sum-small z h = let p : 0 < R = omega arith in let q = mod-lt (a + b) p in omega arith
+  pub sum-past : R - b ≤ a → a - (R - b) ≡ sumOf R a b
+  unfolding sumOf
+  sum-past h = rw (le-ltb _ _ h)
 
-pub ruleset sums = (sum-none, sum-some, sum-small)
+  -- values below the range
+  module _ (l : a < R) (k : b < R) where
+    pub sum-modulo : sumOf R a b ≡ (a + b) % R
+    unfolding sumOf
+    sum-modulo = go (ltb a (R - b)) refl
+      where
+        go : (c : Bool) → ltb a (R - b) ≡ c → cond c (a + b) (a - (R - b)) ≡ (a + b) % R
+        go true e = let h : a + b < R = omega (arith, ltb-true a (R - b) e) in sym (mod-eq-of-lt h)
+        go false e =
+            let h : a + b ≡ R + (a - (R - b)) = omega (arith, ltb-false a (R - b) e) in
+            let s : a - (R - b) < R = omega arith in
+            sym (ap (λ (n : ℕ). n % R) h ∙ add-mod-left R (a - (R - b)) ∙ mod-eq-of-lt s)
+
+pub ruleset sums = (sum-none, sum-within, sum-past)
 
 module _ (R c o a b : ℕ) where
   pub combine-const : c ≡ byte Code.const → combine R c o a b ≡ o

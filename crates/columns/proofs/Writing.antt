@@ -103,10 +103,6 @@ pub ruleset zips = (zip-begin, zip-more, zip-end, rest-more)
 pub named : (R c k o n : ℕ) (a₀ b a : List ℕ) → c ≡ k → take n a ≡ combined R k o n a₀ b → take n a ≡ combined R c o n a₀ b
 named R c k o n a₀ b a e h = h ∙ ap (λ (m : ℕ). combined R m o n a₀ b) (sym e)
 
--- a range that was
-pub ranged : (R k c o n : ℕ) (a₀ b a : List ℕ) → R ≡ k → take n a ≡ combined k c o n a₀ b → take n a ≡ combined R c o n a₀ b
-ranged R k c o n a₀ b a e h = h ∙ ap (λ (m : ℕ). combined m c o n a₀ b) (sym e)
-
 pub and-not-is : (n : ℕ) (a₀ a b₀ b z : List ℕ) → take n b ≡ combined 0 (byte Code.not) 0 n b₀ z → take n a ≡ combined 0 (byte Code.and) 0 n a₀ b → take n a ≡ denied n a₀ b₀
 unfolding combined denied
 and-not-is n a₀ a b₀ b z eb ea = ea ∙ column-same (λ (i : ℕ). combine 0 (byte Code.and) 0 (getD a₀ i 0) (getD b i 0)) (λ (i : ℕ). cond (eqb (getD a₀ i 0) 1) (cond (eqb (getD b₀ i 0) 1) 0 1) 0) n (λ i h.

@@ -4,8 +4,6 @@ use mathlib.Core.List.{List, [], _∷_, _++_}
 use mathlib.Core.Bool.{Bool, cond, not}
 use lib.ListN.{getD}
 use lib.Dec.{eqb, ltb}
-use Rattle.logic.specs.Code
-use Rattle.logic.specs.Code.{byte}
 use Rattle.logic.specs.Rows.{allBelow}
 use Rattle.leaves.specs.Slots.{slots}
 use Rattle.columns.specs.Combine.{combine}
@@ -24,9 +22,6 @@ constant v n = column (λ i. v) n
 
 unfoldable pub combined : ℕ → ℕ → ℕ → ℕ → List ℕ → List ℕ → List ℕ
 combined R c o n a b = column (λ i. combine R c o (getD a i 0) (getD b i 0)) n
-
-abbrev pub summed : ℕ → ℕ → ℕ → List ℕ → List ℕ → List ℕ
-summed R o n a b = combined R (byte Code.sum) o n a b
 
 -- 1 in a and not in b
 unfoldable pub denied : ℕ → List ℕ → List ℕ → List ℕ

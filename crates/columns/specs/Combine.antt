@@ -1,13 +1,13 @@
 -- A node's value from the values of its parts; of a test, 1 for true.
-use Prim.Native.Nat.{ℕ, _+_, _%_}
+use Prim.Native.Nat.{ℕ, _+_, _-_}
 use mathlib.Core.Bool.{cond}
 use lib.Dec.{eqb, ltb}
 use Rattle.logic.specs.Code
 use Rattle.logic.specs.Code.{byte}
 
--- sums are modulo the range
+-- the sum modulo the range, of values below it
 unfoldable pub sumOf : ℕ → ℕ → ℕ → ℕ
-sumOf R a b = cond (eqb R 0) 0 ((a + b) % R)
+sumOf R a b = cond (ltb a (R - b)) (a + b) (a - (R - b))
 
 unfoldable pub combine : ℕ → ℕ → ℕ → ℕ → ℕ → ℕ
 combine R c o a b =

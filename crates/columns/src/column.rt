@@ -1,12 +1,11 @@
 // Columns combined, row by row.
 use crate::block::Block;
 use crate::combine::combine_parts;
-use crate::digits::Usual;
 use formula::code::Code;
 ghost use mathlib.Core.Path.{_≡_};
 ghost use Prim.Native.Nat.{_≤_};
 ghost use lib.ListN.{length, take};
-ghost use Rattle.columns.specs.Column.{combined, summed, denied, seenOf, noneBelow};
+ghost use Rattle.columns.specs.Column.{combined, denied, seenOf, noneBelow};
 
 // A loop with nothing in it but the one operation: the compiler makes it work on many rows at a time.
 fn zip_with(range: u8, code: u8, operand: u8, n: usize, a: &mut [u8], b: &[u8])
@@ -20,25 +19,13 @@ fn zip_with(range: u8, code: u8, operand: u8, n: usize, a: &mut [u8], b: &[u8])
     }
 }
 
-// The usual range is named in its call, so that the loop divides by a constant.
-fn sum_columns(range: u8, operand: u8, n: usize, a: &mut [u8], b: &[u8])
-    requires { ⌜ (n ≤ length (now a)) × (n ≤ length (now b)) ⌝ }
-    ensures { λ _. ⌜ take n (now (a .exit)) ≡ summed range operand n (now (a .entry)) (now (b .entry)) ⌝ }
-{
-    if range == Usual::VALUES as u8 {
-        zip_with(Usual::VALUES as u8, Code::SUM, operand, n, a, b);
-        return;
-    }
-    zip_with(range, Code::SUM, operand, n, a, b);
-}
-
 // A node's column from the columns of its parts. (Each code is named in its call, so that the loop is made for it alone.)
 pub fn combine_columns(range: u8, code: u8, operand: u8, n: usize, a: &mut [u8], b: &[u8])
     requires { ⌜ (n ≤ length (now a)) × (n ≤ length (now b)) ⌝ }
     ensures { λ _. ⌜ take n (now (a .exit)) ≡ combined range code operand n (now (a .entry)) (now (b .entry)) ⌝ }
 {
     match code {
-        Code::SUM => sum_columns(range, operand, n, a, b),
+        Code::SUM => zip_with(range, Code::SUM, operand, n, a, b),
         Code::EQUAL => zip_with(range, Code::EQUAL, operand, n, a, b),
         Code::LESS => zip_with(range, Code::LESS, operand, n, a, b),
         Code::NOT => zip_with(range, Code::NOT, operand, n, a, b),

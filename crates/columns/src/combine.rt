@@ -3,14 +3,15 @@ use formula::code::Code;
 ghost use mathlib.Core.Path.{_≡_};
 ghost use Rattle.columns.specs.Combine.{sumOf, combine};
 
-// Modulo the range.
+// The sum modulo the range, of values below it. (Without a division, and in bytes: the compiler works on many rows at a time.)
 pub fn sum_of(range: u8, a: u8, b: u8) -> u8
     ensures { λ r. ⌜ r ≡ sumOf range a b ⌝ }
 {
-    if range == 0 {
-        return 0;
+    if range <= b {
+        return a;
     }
-    (((a as u32) + (b as u32)) % (range as u32)) as u8
+    let room = range - b;
+    if a < room { a + b } else { a - room }
 }
 
 // A node's value from the values of its parts.

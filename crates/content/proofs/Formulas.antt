@@ -67,12 +67,12 @@ module _ (z : Sizes) (l : List (List ℕ)) (c : Checks z l) (k : ℕ) (low : 1 �
   unfolding sizesOf
   range-is = ap (λ (y : Sizes). y .range) (c .sizes)
 
-  -- a value: its constants are values
-  pub value-bounded : sortOf body ≡ Codes.value → T (bounded (valueRange (getD l 0 [])) (formula l Sort.value k))
+  -- its constants are values
+  pub formula-bounded : (p : ℕ) → sortOf body ≡ p → T (bounded (valueRange (getD l 0 [])) (formula l (sortAt p) k))
   unfolding formula countsOf
-  value-bounded e =
-      subst (λ (R : ℕ). T (bounded R (formula l Sort.value k))) range-is
-      (reads-bounded body (countsOf z) nesting 0 (reading-fault body (countsOf z) Codes.value (formula-read Codes.value e)))
+  formula-bounded p e =
+      subst (λ (R : ℕ). T (bounded R (formula l (sortAt p) k))) range-is
+      (reads-bounded body (countsOf z) nesting 0 p (reading-fault body (countsOf z) p (formula-read p e)))
 
   -- an assertion: registers alone under holds
   pub assertion-plain : sortOf body ≡ Codes.assertion → T (Names.plain (formula l Sort.assertion k))

@@ -1,5 +1,5 @@
 -- The lines of a sound image say what an image may say, and rest on lines before them.
-use mathlib.Core.Path.{_≡_, refl, _∙_}
+use mathlib.Core.Path.{_≡_, refl, sym, _∙_}
 use mathlib.Core.Bool.{Bool, true, false, not, _&&_, true≢false}
 use mathlib.Core.List.{List, []}
 use Prim.Native.Nat.{ℕ, suc, _-_, _≤_, _<_}
@@ -12,6 +12,7 @@ use Rattle.logic.specs.Base.{Within}
 use Rattle.logic.specs.Formula.{Sort, Assertion}
 use Rattle.logic.specs.Opcode as Opcode
 use Rattle.logic.specs.Names as Names
+use Rattle.logic.specs.Eval.{bounded}
 use Rattle.logic.specs.Machine.{Program}
 use Rattle.logic.specs.Statement.{isBranch, admitted}
 use Rattle.logic.proofs.Base.{and-both}
@@ -31,6 +32,8 @@ use Rattle.records.specs.List.{exactly}
 use Rattle.records.specs.Tally.{obligationCount}
 use Rattle.bodies.specs.Lists.{outlinedAt, obligations}
 use Rattle.bodies.specs.Line.{sortAt, sortedBy, lineSorted, line}
+use Rattle.trees.specs.Place as Place
+use Rattle.certificate.proofs.FitT.{boundedSides}
 use Rattle.content.specs.Formula.{formula}
 use Rattle.content.specs.Program.{pointCount, programOf}
 use Rattle.content.specs.Certificate.{left, right, saying, lineBody}
@@ -39,7 +42,7 @@ use Rattle.limits.proofs.Inverse.{and-true, within-true, every-at, every-or}
 use Rattle.content.proofs.Inverse.{unless-passed, also-passed}
 use Rattle.content.proofs.Instr.{branch-is, instruction-there}
 use Rattle.content.proofs.Checked.{Checks, line-passed, obligations-passed}
-use Rattle.content.proofs.Formulas.{assertion-plain, assertion-startless}
+use Rattle.content.proofs.Formulas.{formula-bounded, assertion-plain, assertion-startless}
 use Rattle.content.proofs.Program.{within-there, outlined-fine}
 
 -- an instruction that is no branch is there
@@ -189,6 +192,24 @@ module _ (z : Sizes) (l : List (List ℕ)) (c : Checks z l) (n : ℕ) (low : 1 �
   line-fine Implication e p q = sides-plain (eqb-true (sortOf (getD l (left body) [])) Codes.assertion p) (eqb-true (sortOf (getD l (right body) [])) Codes.assertion q)
   line-fine Inclusion e p q = tt
   line-fine Unlisted e p q = tt
+
+  sides-bounded : (p : ℕ) → sortOf (getD l (left body) []) ≡ p → sortOf (getD l (right body) []) ≡ p
+      → T (bounded (P .range) (formula l (Place.sortAt p) (left body)) && bounded (P .range) (formula l (Place.sortAt p) (right body)))
+  sides-bounded p e d =
+      and-both (bounded (P .range) (formula l (Place.sortAt p) (left body))) (bounded (P .range) (formula l (Place.sortAt p) (right body)))
+      (formula-bounded z l c (left body) (in-range .0 .0) (in-range .0 .1) p e)
+      (formula-bounded z l c (right body) (in-range .1 .0) (in-range .1 .1) p d)
+
+  line-constants : (f : Form) → placed z l f body ≡ true → sortedBy l f (left body) ≡ true → sortedBy l f (right body) ≡ true → T (boundedSides (P .range) (saying l f body))
+  unfolding saying placed sortedBy sortAt
+  line-constants Triple h p q = sides-bounded Codes.assertion (outlined-fine z l c (left body) p .0) (outlined-fine z l c (right body) q .0)
+  line-constants Implication h p q = sides-bounded Codes.assertion (eqb-true (sortOf (getD l (left body) [])) Codes.assertion p) (eqb-true (sortOf (getD l (right body) [])) Codes.assertion q)
+  line-constants Inclusion h p q = sides-bounded Codes.interval (eqb-true (sortOf (getD l (left body) [])) Codes.interval p) (eqb-true (sortOf (getD l (right body) [])) Codes.interval q)
+  line-constants Unlisted h p q = absurd (true≢false (sym h))
+
+  -- its constants are values
+  pub line-bounded : T (boundedSides (P .range) (saying l form body))
+  line-bounded = line-constants form (numbers-passed .0) (sorted-passed .0) (sorted-passed .1)
 
   pub line-admitted : T (admitted P (saying l form body))
   line-admitted = line-fine form (numbers-passed .0) (sorted-passed .0) (sorted-passed .1)

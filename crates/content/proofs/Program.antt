@@ -42,7 +42,7 @@ use Rattle.content.specs.Program.{instr, pointCount, programOf, outlineB
 use Rattle.limits.proofs.Inverse.{and-true, within-true, every-at, every-or}
 use Rattle.content.proofs.Inverse.{unless-passed, also-passed}
 use Rattle.content.proofs.Checked.{Checks, header-passed, thread-passed, outline-passed}
-use Rattle.content.proofs.Formulas.{value-bounded, value-regs, value-lacks, test-regs, assertion-startless}
+use Rattle.content.proofs.Formulas.{formula-bounded, value-regs, value-lacks, test-regs, assertion-startless}
 use Rattle.content.proofs.Sums.{sum-part}
 use Rattle.content.proofs.Instr.{instruction-there}
 use Rattle.content.proofs.Count.{tally-points, pointsOf}
@@ -109,7 +109,7 @@ module _ (z : Sizes) (l : List (List ℕ)) (c : Checks z l) where
       (eqb-true (sortOf (getD l (i .formula) [])) (wanted (i .operation)) (h .0), h .1)
 
   value-fine : (k : ℕ) → 1 ≤ k → k ≤ z .formulas → (sortOf (getD l k []) ≡ Codes.value) × (plain (getD l k []) ≡ true) → T (only isReg (formula l Sort.value k) && bounded (P .range) (formula l Sort.value k))
-  value-fine k a b h = and-both (only isReg (formula l Sort.value k)) (bounded (P .range) (formula l Sort.value k)) (value-regs z l c k a b (h .0) (h .1)) (value-bounded z l c k a b (h .0))
+  value-fine k a b h = and-both (only isReg (formula l Sort.value k)) (bounded (P .range) (formula l Sort.value k)) (value-regs z l c k a b (h .0) (h .1)) (formula-bounded z l c k a b Codes.value (h .0))
 
   module _ (last : ℕ) where
     abbrev Proper : Instruction → Type 0

@@ -29,7 +29,7 @@ use Rattle.content.specs.declared.acting.Acting.{Acting}
 use Rattle.limits.proofs.Inverse.{and-true, within-true}
 use Rattle.content.proofs.Checked.{Checks}
 use Rattle.content.proofs.Program.{range-two}
-use Rattle.content.proofs.Lines.{in-range, premises-few, premise-count}
+use Rattle.content.proofs.Lines.{in-range, premises-few, premise-count, line-bounded}
 use Rattle.content.proofs.Trees.{line-acting}
 use Rattle.rulebook.specs.Rulebook.{templates}
 use Rattle.conclusions.specs.Conclusion.{concludedAt, conclusionAt, conclusionsFrom}
@@ -130,4 +130,4 @@ module _ (s : List ℕ) (z : Sizes) (c : Checks z (bodies s)) where
         sym (fits-same s (ruleOf (its .rule)) its (sym (rule-number (its .rule) (line-listed s z c n w))) (actingIn s z its) acting-known p premises-few-here)
         ∙ ap₂ (λ (v : TreeConclusion) (vs : List TreeConclusion). fitted (actingAt s (actingIn s z its)) v vs) (conclusion-trees s z c n w) premises-concluded
         ∙ ap (λ (a : FitT.Acting). fitted a (concluded S) (map concluded (map (λ m. C .line m .says) ps))) acting-there
-        ∙ bridge P (range-two z l c) (ruleOf (its .rule)) S (map (λ m. C .line m .says) ps)
+        ∙ bridge P (range-two z l c) (ruleOf (its .rule)) S (map (λ m. C .line m .says) ps) (line-bounded z l c n (w .0) (w .1))

@@ -4,22 +4,22 @@ use mathlib.Core.Path.{_≡_, refl, ap, ap₂, sym, _∙_, subst, fun-ext}
 use mathlib.Core.List.{List, [], _∷_, _++_, map}
 use mathlib.Core.Bool.{Bool, true, false, cond, not, _&&_, _||_}
 use native.Mathlib.Omega.{arith}
-use native.Mathlib.Nat.{pow-suc, pow-le-pow-right, mul-comm}
+use native.Mathlib.Nat.{pow-suc, pow-le-pow-right, mul-comm, mod-lt}
 use native.Mathlib.Decide.{ℕ-discrete}
 use lib.ListN.{length}
-use lib.Dec.{T, eqb, ltb, leb, leb→le, le→leb}
-use borrow.Author.Tests.{le-ltb, ne-eqb, leb-false}
+use lib.Dec.{T, eqb, ltb, leb, ltb→lt, leb→le, le→leb}
+use borrow.Author.Tests.{le-ltb, leb-false}
 use Rattle.logic.specs.Base.{all}
 use Rattle.logic.specs.Code
 use Rattle.logic.specs.Code.{byte}
-use Rattle.logic.specs.Eval.{Env, value, test}
+use Rattle.logic.specs.Eval.{Env, value, test, bounded}
 use Rattle.logic.specs.Formula.{Formula, Value, Test, Assertion, Formula.const, Formula.reg, Formula.word, Formula.sum, Formula.equal, Formula.less, Formula.and, Formula.or, Formula.unsync, Formula.cov, Formula.sees, Formula.bothA, Formula.eitherA, Formula.start, Formula.holds}
 use Rattle.logic.specs.Limits
 use Rattle.logic.specs.Names.{Name, n-reg, n-word, n-unsync, n-cov, Name-discrete, names}
 use Rattle.logic.specs.Rows.{choose, isIn, distinct, allBelow, allRows, rowCount, everyRow, same-name, meaning, choices, byRows}
 use Rattle.logic.specs.Table
 use Rattle.logic.specs.Table.{Imp, Leaf, l-assertion, l-test, same-leaf, inRow, impRow, byTable}
-use Rattle.logic.proofs.Base.{bool-ext}
+use Rattle.logic.proofs.Base.{bool-ext, is-true, and-left, and-right}
 use Rattle.formula.specs.Codes.{member}
 use Rattle.formula.specs.Tree.{Tree, none, node}
 use Rattle.compare.specs.Same.{sameTree}
@@ -28,9 +28,12 @@ use Rattle.trees.proofs.ToTree.{toTree-same, tree-eq, tree-refl}
 use Rattle.leaves.specs.Gather.{leavesT}
 use Rattle.leaves.specs.Count.{choicesBy, choicesT}
 use Rattle.columns.specs.Combine.{sumOf, combine}
+use Rattle.columns.proofs.Combining.{sum-modulo}
 use Rattle.rows.specs.Value.{valueT}
 use Rattle.rows.specs.Entailment.{ImpT, impT, entailsT, leavesAll}
 use Rattle.rows.specs.Rows.{byNames, rowsT, byLeaves, tableT}
+use Rattle.rows.proofs.Distinct.{choices-two}
+use Rattle.rows.proofs.Numbered.{below-same}
 
 map-join : {A B : Type 0} (g : A → B) (l m : List A) → map g (l ++ m) ≡ map g l ++ map g m
 map-join g [] m = refl
@@ -39,6 +42,24 @@ map-join g (x ∷ l) m = ap (λ (k : List _). g x ∷ k) (map-join g l m)
 join-none : {A : Type 0} (l : List A) → l ++ [] ≡ l
 join-none [] = refl
 join-none (x ∷ l) = ap (λ (k : List _). x ∷ k) (join-none l)
+
+-- only rows whose values are below their choices are tried
+module _ {K : Type 0} (eq : K → K → Bool) (equal : (a b : K) → T (eq a b) → a ≡ b) (c : K → ℕ) where
+  abbrev Below : (K → ℕ) → Type 0
+  Below ν = (k : K) → ν k < c k
+
+  chosen-below : (ν : K → ℕ) (n : K) (v : ℕ) → Below ν → v < c n → Below (choose eq ν n v)
+  unfolding choose
+  chosen-below ν n v small h k = go (eq k n) refl
+    where
+      go : (b : Bool) → eq k n ≡ b → cond b v (ν k) < c k
+      go true e = let q : c k ≡ c n = ap c (equal k n (is-true e)) in omega arith
+      go false e = small k
+
+  rows-below : (f g : (K → ℕ) → Bool) → ((ν : K → ℕ) → Below ν → f ν ≡ g ν) → (l : List K) (ν : K → ℕ) → Below ν → allRows eq c l f ν ≡ allRows eq c l g ν
+  rows-below f g say [] ν small = say ν small
+  rows-below f g say (n ∷ l) ν small =
+      below-same (c n) (λ v. allRows eq c l f (choose eq ν n v)) (λ v. allRows eq c l g (choose eq ν n v)) (λ v h. rows-below f g say l (choose eq ν n v) (chosen-below ν n v small h))
 
 -- keys that stand for others, one for one: what is counted and tried over the ones is over the others
 module _ {K L : Type 0} (eqK : K → K → Bool) (eqL : L → L → Bool) (g : K → L) (alike : (a b : K) → eqL (g a) (g b) ≡ eqK a b) where
@@ -147,48 +168,61 @@ bit-or : (b : Bool) (n : ℕ) → eqb (cond b 1 n) 1 ≡ (b || eqb n 1)
 bit-or true n = refl
 bit-or false n = refl
 
-module _ (R : ℕ) (some : R ≡ 0 → ⊥) (ν : Tree → ℕ) where
+-- values below the choices, and constants below the range
+module _ (R : ℕ) (ν : Tree → ℕ) (small : (u : Tree) → ν u < choicesT R u) where
   abbrev ρ : Env
   ρ = meaning (λ n. ν (nameToTree n))
 
   abbrev v : Tree → ℕ
   v = valueT (byNames R) ν
 
-  sum-is : (a b : ℕ) → sumOf R a b ≡ (a + b) % R
-  unfolding sumOf
-  sum-is a b = rw (ne-eqb R 0 some)
+  value-below : (a : Value) → T (bounded R a) → value R ρ a < R
+  unfolding nameToTree choicesT choicesBy
+  value-below (const n) h = ltb→lt n R h
+  value-below (reg r) h = small (nameToTree (n-reg r))
+  value-below (word x) h = small (nameToTree (n-word x))
+  value-below (sum a b) h = mod-lt (value R ρ a + value R ρ b) (let s = small (nameToTree (n-reg 0)) in omega arith)
 
-  toTree-value : (a : Value) → v (toTree a) ≡ value R ρ a
+  toTree-value : (a : Value) → T (bounded R a) → v (toTree a) ≡ value R ρ a
   unfolding valueT combine member nameToTree
-  toTree-value (const n) = refl
-  toTree-value (reg r) = refl
-  toTree-value (word x) = refl
-  toTree-value (sum a b) = sum-is (v (toTree a)) (v (toTree b)) ∙ ap₂ (λ (m n : ℕ). (m + n) % R) (toTree-value a) (toTree-value b)
+  toTree-value (const n) h = refl
+  toTree-value (reg r) h = refl
+  toTree-value (word x) h = refl
+  toTree-value (sum a b) h =
+      ap₂ (sumOf R) (toTree-value a (search and-left)) (toTree-value b (search and-right))
+      ∙ sum-modulo R (value R ρ a) (value R ρ b) (value-below a (search and-left)) (value-below b (search and-right))
 
-  toTree-test : (e : Test) → eqb (v (toTree e)) 1 ≡ test R ρ e
+  toTree-test : (e : Test) → T (bounded R e) → eqb (v (toTree e)) 1 ≡ test R ρ e
   unfolding valueT combine member nameToTree
-  toTree-test Formula.false = refl
-  toTree-test (equal a b) = bit (eqb (v (toTree a)) (v (toTree b))) ∙ ap₂ eqb (toTree-value a) (toTree-value b)
-  toTree-test (less a b) = bit (ltb (v (toTree a)) (v (toTree b))) ∙ ap₂ ltb (toTree-value a) (toTree-value b)
-  toTree-test (Formula.not e) = bit-not (eqb (v (toTree e)) 1) ∙ ap not (toTree-test e)
-  toTree-test (and e f) = bit-and (eqb (v (toTree e)) 1) (v (toTree f)) ∙ ap₂ (λ (a b : Bool). a && b) (toTree-test e) (toTree-test f)
-  toTree-test (or e f) = bit-or (eqb (v (toTree e)) 1) (v (toTree f)) ∙ ap₂ (λ (a b : Bool). a || b) (toTree-test e) (toTree-test f)
-  toTree-test (unsync x) = refl
-  toTree-test (cov x) = refl
+  toTree-test Formula.false h = refl
+  toTree-test (equal a b) h = bit (eqb (v (toTree a)) (v (toTree b))) ∙ ap₂ eqb (toTree-value a (search and-left)) (toTree-value b (search and-right))
+  toTree-test (less a b) h = bit (ltb (v (toTree a)) (v (toTree b))) ∙ ap₂ ltb (toTree-value a (search and-left)) (toTree-value b (search and-right))
+  toTree-test (Formula.not e) h = bit-not (eqb (v (toTree e)) 1) ∙ ap not (toTree-test e h)
+  toTree-test (and e f) h = bit-and (eqb (v (toTree e)) 1) (v (toTree f)) ∙ ap₂ (λ (a b : Bool). a && b) (toTree-test e (search and-left)) (toTree-test f (search and-right))
+  toTree-test (or e f) h = bit-or (eqb (v (toTree e)) 1) (v (toTree f)) ∙ ap₂ (λ (a b : Bool). a || b) (toTree-test e (search and-left)) (toTree-test f (search and-right))
+  toTree-test (unsync x) h = refl
+  toTree-test (cov x) h = refl
 
-pub toTree-rows : (R : ℕ) → 2 ≤ R → (e f : Test) → rowsT R (toTree e) (toTree f) ≡ byRows R e f
+pub toTree-rows : (R : ℕ) → 2 ≤ R → (e f : Test) → T (bounded R e) → T (bounded R f) → rowsT R (toTree e) (toTree f) ≡ byRows R e f
 unfolding rowsT
-toTree-rows R two e f =
+toTree-rows R two e f he hf =
     rw (le-ltb R 2 two)
     (ap₂ (λ (a b : Bool). a && b)
     (ap (λ (l : List Tree). leb (rowCount sameTree (choicesT R) (distinct sameTree l)) Limits.rows) listed
     ∙ ap (λ (n : ℕ). leb n Limits.rows) (embedded-count same-name sameTree nameToTree name-alike (choices R) (choicesT R) (name-choices R) (names e ++ names f)))
     (ap (λ (l : List Tree). everyRow sameTree (choicesT R) l (entailsT (byNames R) [] c)) listed
-    ∙ embedded same-name sameTree nameToTree name-alike (choices R) (choicesT R) (name-choices R) (entailsT (byNames R) [] c) (λ ν. not (test R (meaning ν) e) || test R (meaning ν) f)
-    (λ ν. ap₂ (λ (a b : Bool). not a || b) (toTree-test R (λ z. omega arith) ν e) (toTree-test R (λ z. omega arith) ν f)) (names e ++ names f)))
+    ∙ rows-below sameTree tree-eq (choicesT R) (entailsT (byNames R) [] c) plainly said (distinct sameTree (map nameToTree (names e ++ names f))) (λ u. 0) (λ u. omega (arith, choices-two R two u))
+    ∙ embedded same-name sameTree nameToTree name-alike (choices R) (choicesT R) (name-choices R) plainly (λ ν. not (test R (meaning ν) e) || test R (meaning ν) f) (λ ν. refl) (names e ++ names f)))
   where
+    -- the two tests, read plainly
+    plainly : (Tree → ℕ) → Bool
+    plainly ν = not (test R (meaning (λ n. ν (nameToTree n))) e) || test R (meaning (λ n. ν (nameToTree n))) f
+
     c : ImpT
     c = record { left = toTree e; right = toTree f }
+
+    said : (ν : Tree → ℕ) → ((u : Tree) → ν u < choicesT R u) → entailsT (byNames R) [] c ν ≡ plainly ν
+    said ν small = ap₂ (λ (a b : Bool). not a || b) (toTree-test R ν small e he) (toTree-test R ν small f hf)
 
     listed : leavesAll (byNames R .leaves) (c ∷ []) ≡ map nameToTree (names e ++ names f)
     listed = join-none (leavesT (byNames R .leaves) (toTree e) ++ leavesT (byNames R .leaves) (toTree f)) ∙ ap₂ (λ (l m : List Tree). l ++ m) (names-test R e) (names-test R f) ∙ sym (map-join nameToTree (names e) (names f))

@@ -67,10 +67,10 @@ fn described(Refusal { code, record }: Refusal) -> String {
 mod tests {
     use super::*;
 
-    /// The scope page's first small image.
-    const SMALL: [u8; 49] = [
-        6, 0, 1, 0, 1, 1, 0, 0, 5, 0, 2, 0, 0x1c, 0x0b, 8, 3, 0, 2, 0, 0x1b, 3, 0, 3, 0, 1, 4, 0,
-        4, 0, 1, 0, 10, 0, 5, 0, 0x14, 0, 0, 2, 0, 1, 0, 0, 4, 0, 6, 0, 1, 0,
+    /// The scope page's first small image, of range 8.
+    const SMALL: [u8; 50] = [
+        7, 0, 1, 0, 1, 1, 0, 8, 0, 5, 0, 2, 0, 0x1c, 0x0b, 8, 3, 0, 2, 0, 0x1b, 3, 0, 3, 0, 1, 4,
+        0, 4, 0, 1, 0, 10, 0, 5, 0, 0x14, 0, 0, 2, 0, 1, 0, 0, 4, 0, 6, 0, 1, 0,
     ];
 
     #[test]
@@ -83,8 +83,8 @@ mod tests {
     #[test]
     fn damage_is_named_by_record() {
         let longer = [&SMALL[..], &[0]].concat();
-        assert!(read(&SMALL[..48]).unwrap_err().starts_with("record 7: its length"));
-        assert!(read(&SMALL[..43]).unwrap_err().contains("missing here"));
+        assert!(read(&SMALL[..49]).unwrap_err().starts_with("record 7: its length"));
+        assert!(read(&SMALL[..44]).unwrap_err().contains("missing here"));
         assert!(read(&longer).unwrap_err().starts_with("record 8"));
     }
 }

@@ -9,6 +9,11 @@ use std::process::Command;
 fn mistakes_have_lines_and_words() {
     let cases = [
         ("word x = 9\nthread a { true }", 1, "start value 0 to 7"),
+        ("range 3\nword x = 3\nthread a { true }", 2, "start value 0 to 2"),
+        ("range 16\nword x = 15\nthread a { a sees [x = 16] }", 3, "values are 0 to 15"),
+        ("range 17\nword x = 0\nthread a { true }", 1, "2 to 16 values"),
+        ("range 1\nword x = 0\nthread a { true }", 1, "2 to 16 values"),
+        ("range 4\nrange 4\nword x = 0\nthread a { true }", 2, "given twice"),
         ("word x = 0\nthread a { true }\n x := y\n { true }", 3, "`y` is not declared"),
         ("word x = 0\nthread a { true } x := x { true }", 2, "may not stand in an instruction"),
         (

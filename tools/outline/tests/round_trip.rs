@@ -134,7 +134,7 @@ fn random_image(dice: &mut Dice) -> Written {
     let fields = |(code, operands): (&Thread, &[u16])| {
         code.iter().zip(operands).map(|(instruction, n)| instruction.fields(*n)).collect()
     };
-    let counts = Counts { threads: 2, words: 2, registers: 3 };
+    let counts = Counts { threads: 2, words: 2, registers: 3, range: 8 };
     Written {
         header: Header { counts, start: vec![dice.number(0, 7), 5], owners: vec![1, 2, 1] },
         formulas: formulas(dice, operands).iter().map(Formula::encode).collect(),

@@ -1,6 +1,6 @@
 //! Judges the cases of stored sets again and reports those that differ.
 //!
-//! Usage: recheck FOLDER
+//! Usage: recheck FOLDER [SET...], where without a SET those that `vectors` writes are judged
 
 use reference::stored::{formulas, images};
 use std::path::Path;
@@ -8,8 +8,16 @@ use std::process::ExitCode;
 
 type Judge = fn(&[u8]) -> Option<Vec<bool>>;
 
-const SETS: [(&str, Judge); 4] =
-    [("formula-bytes", formulas), ("formulas", images), ("images", images), ("rules", images)];
+const FORMULAS: &str = "formula-bytes";
+const SETS: [&str; 4] = [FORMULAS, "formulas", "images", "rules"];
+
+/// A set of formulas or, by any other name, of images.
+fn judge_of(name: &str) -> Judge {
+    match name {
+        FORMULAS => formulas,
+        _ => images,
+    }
+}
 
 /// The results of one set, or why there are none.
 fn results(folder: &Path, name: &str, judge: Judge) -> Result<Vec<bool>, String> {
@@ -19,13 +27,16 @@ fn results(folder: &Path, name: &str, judge: Judge) -> Result<Vec<bool>, String>
 }
 
 fn main() -> ExitCode {
-    let Some(folder) = std::env::args().nth(1) else {
-        eprintln!("usage: recheck FOLDER");
+    let mut arguments = std::env::args().skip(1);
+    let Some(folder) = arguments.next() else {
+        eprintln!("usage: recheck FOLDER [SET...]");
         return ExitCode::from(2);
     };
+    let named: Vec<String> = arguments.collect();
+    let sets = if named.is_empty() { SETS.map(String::from).to_vec() } else { named };
     let mut same = true;
-    for (name, judge) in SETS {
-        match results(Path::new(&folder), name, judge) {
+    for name in &sets {
+        match results(Path::new(&folder), name, judge_of(name)) {
             Ok(results) => {
                 let wrong = results.iter().filter(|&&agrees| !agrees).count();
                 println!("{name}: {} cases, {wrong} differ", results.len());

@@ -5,7 +5,7 @@ use crate::formula::Test;
 use crate::image::Instruction;
 use std::rc::Rc;
 
-const SMALL: &str = "06 00 01 00 01 01 00 00  05 00 02 00 1C 0B 08  03 00 02 00 1B  \
+const SMALL: &str = "07 00 01 00 01 01 00 08 00  05 00 02 00 1C 0B 08  03 00 02 00 1B  \
     03 00 03 00 01  04 00 04 00 01 00  0A 00 05 00 14 00 00 02 00 01 00 00  04 00 06 00 01 00";
 
 fn bytes(text: &str) -> Vec<u8> {
@@ -45,33 +45,37 @@ fn whole_image() {
 fn frames() {
     let image = bytes(SMALL);
     assert_eq!(verdict(&image[..1]), "3 1 0 0 0 0 0 0 0");
-    assert_eq!(verdict(&image[..8]), "4 2 0 0 0 0 0 0 0");
+    assert_eq!(verdict(&image[..9]), "4 2 0 0 0 0 0 0 0");
     assert_eq!(verdict(&[&image[..], &[0]].concat()), "3 8 0 0 0 0 0 0 0");
     assert_eq!(verdict(&[&image[..], &[2, 0, 6, 0]].concat()), "4 8 0 0 0 0 0 0 0");
     assert_eq!(verdict(&changed(2, 2)), "4 1 0 0 0 0 0 0 0");
-    assert_eq!(verdict(&changed(10, 7)), "4 2 0 0 0 0 0 0 0");
+    assert_eq!(verdict(&changed(11, 7)), "4 2 0 0 0 0 0 0 0");
 }
 
 #[test]
 fn bodies() {
     assert_eq!(verdict(&changed(4, 2)), "6 1 0 0 0 0 0 0 0"); // two threads, one record
     assert_eq!(verdict(&changed(5, 2)), "5 1 0 0 0 0 0 0 0"); // two words
-    assert_eq!(verdict(&changed(7, 8)), "6 1 0 0 0 0 0 0 0"); // start value 8
-    assert_eq!(verdict(&changed(13, 14)), "7 2 0 0 0 0 0 0 0"); // a flag under holds
-    assert_eq!(verdict(&changed(14, 9)), "7 2 0 0 0 0 0 0 0"); // cut short
-    assert_eq!(verdict(&changed(24, 0)), "6 4 0 0 0 0 0 0 0"); // no points
-    assert_eq!(verdict(&changed(24, 2)), "5 4 0 0 0 0 0 0 0"); // an instruction is missing
-    assert_eq!(verdict(&changed(29, 2)), "8 5 0 0 0 0 0 0 0"); // start in the outline
-    assert_eq!(verdict(&changed(35, 17)), "6 6 0 0 0 0 0 0 0"); // no such rule
-    assert_eq!(verdict(&changed(35, 30)), "8 6 0 0 0 0 0 0 0"); // not intervals
-    assert_eq!(verdict(&changed(42, 1)), "5 6 0 0 0 0 0 0 0"); // a premise is missing
-    assert_eq!(verdict(&changed(47, 2)), "6 7 0 0 0 0 0 0 0"); // no line 2
+    assert_eq!(verdict(&changed(7, 1)), "6 1 0 0 0 0 0 0 0"); // range 1
+    assert_eq!(verdict(&changed(7, 2)), "0 0 0 0 0 0 0 0 1"); // range 2
+    assert_eq!(verdict(&changed(7, 16)), "0 0 0 0 0 0 0 0 1"); // range 16
+    assert_eq!(verdict(&changed(7, 17)), "6 1 0 0 0 0 0 0 0"); // range 17
+    assert_eq!(verdict(&changed(8, 8)), "6 1 0 0 0 0 0 0 0"); // start value 8
+    assert_eq!(verdict(&changed(14, 14)), "7 2 0 0 0 0 0 0 0"); // a flag under holds
+    assert_eq!(verdict(&changed(15, 9)), "7 2 0 0 0 0 0 0 0"); // cut short
+    assert_eq!(verdict(&changed(25, 0)), "6 4 0 0 0 0 0 0 0"); // no points
+    assert_eq!(verdict(&changed(25, 2)), "5 4 0 0 0 0 0 0 0"); // an instruction is missing
+    assert_eq!(verdict(&changed(30, 2)), "8 5 0 0 0 0 0 0 0"); // start in the outline
+    assert_eq!(verdict(&changed(36, 17)), "6 6 0 0 0 0 0 0 0"); // no such rule
+    assert_eq!(verdict(&changed(36, 30)), "8 6 0 0 0 0 0 0 0"); // not intervals
+    assert_eq!(verdict(&changed(43, 1)), "5 6 0 0 0 0 0 0 0"); // a premise is missing
+    assert_eq!(verdict(&changed(48, 2)), "6 7 0 0 0 0 0 0 0"); // no line 2
 }
 
 #[test]
 fn obligations() {
-    assert_eq!(verdict(&changed(38, 1)), "21 0 1 1 0 0 0 1 0"); // true to true
-    assert_eq!(verdict(&changed(35, 27)), "22 0 1 1 0 0 0 1 0"); // another rule
+    assert_eq!(verdict(&changed(39, 1)), "21 0 1 1 0 0 0 1 0"); // true to true
+    assert_eq!(verdict(&changed(36, 27)), "22 0 1 1 0 0 0 1 0"); // another rule
 }
 
 #[test]

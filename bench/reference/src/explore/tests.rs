@@ -13,6 +13,7 @@ fn two_by_two() -> State {
         stored: View::default().moved(1, stored[0]).moved(2, stored[1]),
     };
     State {
+        range: 8,
         rows: vec![
             vec![write(0, false, [0, 0]), write(5, false, [1, 0])],
             vec![write(0, false, [0, 0]), write(0, true, [1, 1])],

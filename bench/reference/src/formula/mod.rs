@@ -13,10 +13,7 @@ mod show;
 
 use std::rc::Rc;
 
-/// Values are counted modulo this number.
-pub const RANGE: u8 = 8;
-
-/// A number from 0 to 7.
+/// A number below the range of the image.
 #[derive(Clone, Debug, PartialEq, Eq, Hash)]
 pub enum Value {
     Constant(u8),

@@ -4,7 +4,7 @@
 //! fault ends the reading; so the fault reported is the first from the left.
 
 use super::nesting::NESTING;
-use super::{Assertion, Formula, Interval, Sort, Test, Value, RANGE};
+use super::{Assertion, Formula, Interval, Sort, Test, Value};
 use std::rc::Rc;
 
 /// Why the bytes are no formula.
@@ -22,6 +22,8 @@ pub struct Counts {
     pub threads: u8,
     pub words: u8,
     pub registers: u8,
+    /// How many values there are.
+    pub range: u8,
 }
 
 /// Reads a whole formula of any sort.
@@ -61,7 +63,7 @@ impl Reader<'_> {
 
     fn constant(&mut self) -> Result<u8, Fault> {
         let number = self.byte()?;
-        if number >= RANGE {
+        if number >= self.counts.range {
             return Err(Fault::Range);
         }
         Ok(number)

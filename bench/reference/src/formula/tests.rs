@@ -7,7 +7,7 @@ use super::replace::{Replace, Replacement};
 use super::{Assertion, Formula, Interval, Test, Value};
 use std::rc::Rc;
 
-const COUNTS: Counts = Counts { threads: 2, words: 2, registers: 1 };
+const COUNTS: Counts = Counts { threads: 2, words: 2, registers: 1, range: 8 };
 
 fn read(bytes: &[u8]) -> Result<Formula, Fault> {
     parse(bytes, COUNTS)
@@ -56,4 +56,13 @@ fn a_word_occurs_in_every_role() {
     assert!(Interval::One(2).has_word(2));
     assert!(Interval::all(Test::Covered(2)).has_word(2));
     assert!(!Interval::all(Test::Covered(2)).has_word(1));
+}
+
+#[test]
+fn constants_are_below_the_range() {
+    for range in 2..=16 {
+        let counts = Counts { range, ..COUNTS };
+        assert!(parse(&[0, range - 1], counts).is_ok());
+        assert_eq!(parse(&[0, range], counts), Err(Fault::Range));
+    }
 }

@@ -100,20 +100,20 @@ impl Written {
 }
 
 impl Header {
-    /// Counts, start values and owners; none if there are more or fewer than the counts say.
+    /// Counts, range, start values and owners; none if there are more or fewer than the counts say.
     pub fn read(body: &[u8]) -> Option<Header> {
-        let (&[threads, words, registers], rest) = body.split_first_chunk()?;
+        let (&[threads, words, registers, range], rest) = body.split_first_chunk()?;
         let (start, owners) = rest.split_at_checked(usize::from(words))?;
         (owners.len() == usize::from(registers)).then(|| Header {
-            counts: Counts { threads, words, registers },
+            counts: Counts { threads, words, registers, range },
             start: start.to_vec(),
             owners: owners.to_vec(),
         })
     }
 
     fn body(&self) -> Vec<u8> {
-        let Counts { threads, words, registers } = self.counts;
-        [&[threads, words, registers][..], &self.start, &self.owners].concat()
+        let Counts { threads, words, registers, range } = self.counts;
+        [&[threads, words, registers, range][..], &self.start, &self.owners].concat()
     }
 }
 

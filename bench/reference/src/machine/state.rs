@@ -55,6 +55,8 @@ pub struct Write {
 /// A state of the machine.
 #[derive(Clone, Debug, PartialEq, Eq, Hash)]
 pub struct State {
+    /// How many values there are.
+    pub range: u8,
     /// The writes of each word, in order.
     pub rows: Vec<Vec<Write>>,
     /// The view of each thread.
@@ -72,6 +74,7 @@ impl State {
         };
         let threads = usize::from(header.counts.threads);
         State {
+            range: header.counts.range,
             rows: header.start.iter().map(first).collect(),
             views: vec![View::default(); threads],
             registers: vec![0; header.owners.len()],
@@ -109,6 +112,10 @@ impl Seen<'_> {
 }
 
 impl Environment for Seen<'_> {
+    fn range(&self) -> u8 {
+        self.state.range
+    }
+
     fn register(&self, register: u8) -> u8 {
         self.state.registers[usize::from(register) - 1]
     }

@@ -1,7 +1,8 @@
 //! One step of the machine.
 
 use super::state::{State, View, Write};
-use crate::formula::{Value, RANGE};
+use crate::formula::evaluate::sum;
+use crate::formula::Value;
 use crate::image::{Instruction, Thread};
 
 /// A thread number and a position in the row of the instruction's word;
@@ -35,7 +36,7 @@ pub fn take(threads: &[Thread], state: &State, step: Step) -> Option<State> {
         }
         Instruction::FetchAdd { register, word, value } => {
             let more = evaluated(value, state);
-            fetch(state, step, *register, *word, |old| (old + more) % RANGE)?
+            fetch(state, step, *register, *word, |old| sum(old, more, state.range))?
         }
         Instruction::Branch { test, target } => {
             let taken = test.evaluate(&state.seen_at(View::default()));

@@ -6,7 +6,7 @@ use crate::image::{Header, Instruction, Thread};
 use std::rc::Rc;
 
 fn start(threads: u8) -> State {
-    let counts = Counts { threads, words: 2, registers: 1 };
+    let counts = Counts { threads, words: 2, registers: 1, range: 8 };
     State::start(&Header { counts, start: vec![3, 0], owners: vec![1] })
 }
 
@@ -127,7 +127,7 @@ fn an_operand_is_worked_out_before_the_step() {
         Instruction::Exchange { register: 1, word: 1, value: Rc::new(sum.clone()) },
         Instruction::FetchAdd { register: 2, word: 1, value: Rc::new(Value::Register(1)) },
     ]];
-    let counts = Counts { threads: 1, words: 2, registers: 2 };
+    let counts = Counts { threads: 1, words: 2, registers: 2, range: 8 };
     let start = State::start(&Header { counts, start: vec![3, 0], owners: vec![1, 1] });
     let step = |state: State, position| {
         take(&threads, &state, Step { thread: 1, position }).expect("an allowed step")
@@ -147,6 +147,23 @@ fn a_branch_goes_by_its_test() {
     assert!(refused(&one(1), &[(1, 0)], 1, 0)); // at its last point
     assert!(refused(&one(0), &[], 2, 0)); // absent
     assert!(refused(&one(0), &[], 0, 0));
+}
+
+#[test]
+fn sums_are_modulo_the_range() {
+    for range in 2..=16 {
+        let counts = Counts { threads: 1, words: 1, registers: 2, range };
+        let start = State::start(&Header { counts, start: vec![range - 1], owners: vec![1, 1] });
+        let two = Value::sum(Value::Constant(1), Value::Constant(1));
+        let threads = [vec![
+            Instruction::FetchAdd { register: 1, word: 1, value: Rc::new(Value::Constant(1)) },
+            Instruction::Assign { register: 2, value: Rc::new(two) },
+        ]];
+        let step = |state: &State| take(&threads, state, Step { thread: 1, position: 0 });
+        let state = step(&step(&start).expect("an allowed step")).expect("an allowed step");
+        assert_eq!(values(&state, 1), [range - 1, 0]);
+        assert_eq!(state.registers, [range - 1, if range == 2 { 0 } else { 2 }]);
+    }
 }
 
 #[test]

@@ -49,7 +49,7 @@ fn program() -> Program {
         Instruction::Branch { test: Rc::new(zero()), target: 0 },
         Instruction::Load { register: 2, word: DATA, acquiring: false },
     ];
-    let counts = Counts { threads: 2, words: 2, registers: 2 };
+    let counts = Counts { threads: 2, words: 2, registers: 2, range: 8 };
     Program {
         header: Header { counts, start: vec![0, 0], owners: vec![READER, READER] },
         threads: vec![writer, reader],

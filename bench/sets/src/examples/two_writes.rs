@@ -47,7 +47,7 @@ fn program() -> Program {
         releasing: false,
     };
     let load = |register| Instruction::Load { register, word: X, acquiring: false };
-    let counts = Counts { threads: 2, words: 1, registers: 2 };
+    let counts = Counts { threads: 2, words: 1, registers: 2, range: 8 };
     Program {
         header: Header { counts, start: vec![0], owners: vec![READER, READER] },
         threads: vec![vec![store(1), store(2)], vec![load(1), load(2)]],

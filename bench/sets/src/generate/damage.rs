@@ -76,10 +76,10 @@ fn edit_body(random: &mut Random, body: &mut [u8]) {
 /// Gives a register to another thread, which tells in instructions.
 fn set_owner(random: &mut Random, records: &mut [Record]) {
     let body = &mut records[0].body;
-    if body.len() > 3 {
-        let words = usize::from(body[1]);
-        if body.len() > 3 + words {
-            let place = 3 + words + random.below(body.len() - 3 - words);
+    if body.len() > 4 {
+        let owners = 4 + usize::from(body[1]);
+        if body.len() > owners {
+            let place = owners + random.below(body.len() - owners);
             body[place] = random.between(1, body[0].clamp(1, 3));
         }
     }

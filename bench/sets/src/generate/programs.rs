@@ -13,9 +13,11 @@ pub fn header(random: &mut Random) -> Header {
     let threads = random.between(1, 3);
     let words = if large { 8 } else { random.between(1, 3) };
     let registers = if large { 16 } else { random.between(0, 4) };
-    let start = (0..words).map(|_| random.between(0, 7)).collect();
+    // Every range, and most often the usual one and both ends.
+    let range = if random.chance(40) { random.between(2, 16) } else { *random.pick(&[8, 2, 16]) };
+    let start = (0..words).map(|_| random.between(0, range - 1)).collect();
     let owners = (0..registers).map(|_| random.between(1, threads)).collect();
-    Header { counts: Counts { threads, words, registers }, start, owners }
+    Header { counts: Counts { threads, words, registers, range }, start, owners }
 }
 
 /// The registers that a thread owns.

@@ -4,13 +4,15 @@
 //! names out of the vocabulary before a formula is made.
 
 use super::random::Random;
-use reference::formula::{Assertion, Interval, Test, Value, RANGE};
+use reference::formula::{Assertion, Interval, Test, Value};
 use reference::image::Header;
 use std::rc::Rc;
 
 /// The names that a formula may use, by role.
 #[derive(Clone, Debug)]
 pub struct Vocabulary {
+    /// Constants are below it.
+    pub range: u8,
     threads: u8,
     registers: Vec<u8>,
     /// Words read as values.
@@ -26,6 +28,7 @@ impl Vocabulary {
     pub fn of(header: &Header) -> Vocabulary {
         let words: Vec<u8> = (1..=header.counts.words).collect();
         Vocabulary {
+            range: header.counts.range,
             threads: header.counts.threads,
             registers: (1..=header.counts.registers).collect(),
             words: words.clone(),
@@ -78,7 +81,7 @@ impl Vocabulary {
         } else if choice < names {
             Value::Word(self.words[choice - self.registers.len()])
         } else {
-            Value::Constant(random.between(0, RANGE - 1))
+            Value::Constant(random.between(0, self.range - 1))
         })
     }
 

@@ -13,7 +13,7 @@ pub struct FormulaCase {
     pub counts: Counts,
 }
 
-const COUNTS: Counts = Counts { threads: 2, words: 3, registers: 4 };
+const COUNTS: Counts = Counts { threads: 2, words: 3, registers: 4, range: 8 };
 
 /// A formula for each code and for each pair of a code and a sort below it.
 const SAMPLES: [(&str, &[u8]); 33] = [
@@ -64,6 +64,7 @@ pub fn cases() -> Vec<FormulaCase> {
     }
     list.lengths();
     list.operand_limits();
+    list.ranges();
     list.first_fault();
     list.under_holds();
     list.0
@@ -76,9 +77,10 @@ pub fn images(cases: &[FormulaCase]) -> Vec<Case> {
 
 /// An image that is accepted if the formula is well formed.
 fn image(case: &FormulaCase) -> Vec<u8> {
-    let Counts { threads, words, registers } = case.counts;
+    let Counts { threads, words, registers, range } = case.counts;
     let [threads_n, words_n, registers_n] = [threads, words, registers].map(usize::from);
-    let header = [&[threads, words, registers][..], &vec![0; words_n], &vec![1; registers_n]];
+    let header =
+        [&[threads, words, registers, range][..], &vec![0; words_n], &vec![1; registers_n]];
     let mut records = vec![
         Record::new(HEADER, header.concat()),
         Record::new(FORMULA, case.formula.clone()),
@@ -156,7 +158,7 @@ impl List {
 
     fn operand_limits(&mut self) {
         for (threads, words, registers) in [(1, 1, 0), (1, 1, 1), (3, 8, 16), (2, 4, 15)] {
-            let counts = Counts { threads, words, registers };
+            let counts = Counts { threads, words, registers, range: 8 };
             let limits: [(&str, &[u8], u8, &[u8]); 7] = [
                 ("constant", &[0], 7, &[]),
                 ("register", &[1], registers, &[]),
@@ -173,6 +175,22 @@ impl List {
                     self.add_with(label, &bytes, counts);
                 }
             }
+        }
+    }
+
+    /// Constants up to the range, alone and inside.
+    fn ranges(&mut self) {
+        for range in 2..=16 {
+            let counts = Counts { range, ..COUNTS };
+            for number in [0, 1, range - 1, range, range + 1, 255] {
+                let label = format!("constant {number}, range {range}");
+                self.add_with(label, &[0, number], counts);
+            }
+            let sum = [28, 9, 3, 0, range - 1, 0, 1, 1, 1];
+            self.add_with(format!("greatest constant in a sum, range {range}"), &sum, counts);
+            let past = [28, 9, 3, 0, 1, 0, range, 5];
+            let label = format!("6 before 7: constant {range}, then unknown code");
+            self.add_with(label, &past, counts);
         }
     }
 

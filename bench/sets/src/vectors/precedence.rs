@@ -20,7 +20,7 @@ fn faults() -> Vec<Fault> {
     let fault = |name, record, add| Fault { name, record, add };
     vec![
         fault("5 in the header", (HEADER, 0), |d| d.append(HEADER, 0, &[0])),
-        fault("6 in the header", (HEADER, 0), |d| d.set(HEADER, 0, 3, 9)),
+        fault("6 in the header", (HEADER, 0), |d| d.set(HEADER, 0, 4, 9)),
         fault("5 in a formula", (FORMULA, 3), |d| d.put(FORMULA, 3, &[])),
         fault("6 in a formula", (FORMULA, 4), |d| d.put(FORMULA, 4, &[0, 8])),
         fault("7 in a formula", (FORMULA, 5), |d| d.put(FORMULA, 5, &[5])),

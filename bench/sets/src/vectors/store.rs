@@ -3,6 +3,7 @@
 use super::formulas::FormulaCase;
 use super::Case;
 use reference::checker::check;
+use reference::formula::parse::Counts;
 use reference::stored::answer;
 use std::fmt::Write as _;
 use std::io::Result;
@@ -40,7 +41,8 @@ pub fn formula_container(cases: &[FormulaCase]) -> Vec<u8> {
     for case in of_record_length(cases) {
         bytes.extend((case.formula.len() as u16).to_le_bytes());
         bytes.extend(&case.formula);
-        bytes.extend([case.counts.threads, case.counts.words, case.counts.registers]);
+        let Counts { threads, words, registers, range } = case.counts;
+        bytes.extend([threads, words, registers, range]);
         bytes.extend(
             answer(&case.formula, case.counts).iter().flat_map(|number| number.to_le_bytes()),
         );

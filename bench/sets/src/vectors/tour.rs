@@ -38,7 +38,7 @@ pub enum Spare {
 }
 
 fn header() -> Header {
-    let counts = Counts { threads: 2, words: 2, registers: 4 };
+    let counts = Counts { threads: 2, words: 2, registers: 4, range: 8 };
     Header { counts, start: vec![0, 7], owners: vec![1, 2, 1, 2] }
 }
 

@@ -1,17 +1,9 @@
 //! What a reader is given beside the bytes, and what it answers.
 
-/// How many threads, words and registers there are, and how many values: 0 and up.
-#[derive(Clone, Copy, Debug)]
-pub struct Counts {
-    pub threads: u8,
-    pub words: u8,
-    pub registers: u8,
-    pub values: u8,
-}
+pub use reference::formula::parse::Counts;
 
-impl Counts {
-    pub const HIGHEST: Counts = Counts { threads: 3, words: 8, registers: 16, values: 8 };
-}
+/// The most that an image has, with the usual range.
+pub const HIGHEST: Counts = Counts { threads: 3, words: 8, registers: 16, range: 8 };
 
 /// A formula without a part has nesting 1.
 pub const NESTING: usize = 16;

@@ -1,6 +1,6 @@
 //! The readers' answers on damaged input.
 
-use super::answer::{Answer, Counts, Fault, Reader};
+use super::answer::{Answer, Counts, Fault, Reader, HIGHEST};
 use super::generate::damaged;
 use crate::random::Random;
 use std::fmt;
@@ -42,12 +42,12 @@ impl fmt::Display for Compared {
 }
 
 fn counts(random: &mut Random) -> Counts {
-    let highest = Counts::HIGHEST;
+    let highest = HIGHEST;
     Counts {
         threads: random.below(highest.threads as usize + 1) as u8,
         words: random.below(highest.words as usize + 1) as u8,
         registers: random.below(highest.registers as usize + 1) as u8,
-        values: 1 + random.below(highest.values as usize) as u8,
+        range: 2 + random.below(15) as u8,
     }
 }
 
@@ -57,7 +57,7 @@ pub fn on_damaged(random: &mut Random, readers: &[(&str, Reader)], inputs: usize
     for i in 0..inputs {
         let body = damaged(random);
         // Few formulas fit low counts.
-        let n = if i % 2 == 0 { Counts::HIGHEST } else { counts(random) };
+        let n = if i % 2 == 0 { HIGHEST } else { counts(random) };
         let answers: Vec<Answer> = readers.iter().map(|(_, read)| read(&body, n)).collect();
         compared.count(answers[0]);
         if answers.iter().any(|answer| *answer != answers[0]) {

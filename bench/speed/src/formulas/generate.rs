@@ -1,6 +1,6 @@
 //! Random formulas in prefix form, by sort: 0 value, 1 test, 2 interval, 3 assertion; and damage to them.
 
-use super::answer::Counts;
+use super::answer::HIGHEST;
 use crate::random::Random;
 
 /// A formula record has at most so many bytes.
@@ -11,19 +11,19 @@ pub struct Names {
     pub threads: u8,
     pub words: u8,
     pub registers: Vec<u8>,
-    pub values: u8,
+    pub range: u8,
     pub start: bool,
 }
 
 impl Names {
     /// All that there may be.
     pub fn all() -> Names {
-        let n = Counts::HIGHEST;
+        let n = HIGHEST;
         Names {
             threads: n.threads,
             words: n.words,
             registers: (1..=n.registers).collect(),
-            values: n.values,
+            range: n.range,
             start: true,
         }
     }
@@ -63,7 +63,7 @@ pub fn append(
     }
     out.push(code);
     match code {
-        0 => out.push(random.below(names.values as usize) as u8),
+        0 => out.push(random.below(names.range as usize) as u8),
         1 => out.push(names.registers[random.below(names.registers.len())]),
         2 | 14 | 15 | 17 => out.push(1 + random.below(names.words as usize) as u8),
         24 => out.push(1 + random.below(names.threads as usize) as u8),

@@ -8,7 +8,7 @@ pub mod readers;
 use crate::measure;
 use crate::random::Random;
 use crate::rattle;
-use answer::{Counts, Reader};
+use answer::{Counts, Reader, HIGHEST};
 use std::hint::black_box;
 
 const DAMAGED: usize = 400_000;
@@ -39,7 +39,7 @@ pub fn run(random: &mut Random) -> bool {
     let bytes: usize = formulas.iter().map(Vec::len).sum();
     println!("{bytes} bytes in {} formulas", formulas.len());
     let tasks = readers.map(|(_, read)| -> Box<dyn Fn()> {
-        Box::new(move || read_all(black_box(formulas), black_box(Counts::HIGHEST), black_box(read)))
+        Box::new(move || read_all(black_box(formulas), black_box(HIGHEST), black_box(read)))
     });
     measure::print(&readers.map(|(name, _)| name), bytes, "MB/s", &measure::best(&tasks));
     true

@@ -14,6 +14,7 @@ pub struct Size {
     pub threads: usize,
     pub words: usize,
     pub registers: usize,
+    pub range: u8,
     /// At most so many points in each thread.
     pub points: usize,
     pub formulas: usize,
@@ -28,6 +29,7 @@ impl Size {
         threads: 3,
         words: 8,
         registers: 16,
+        range: 8,
         points: 8,
         formulas: 500,
         lines: 1000,
@@ -41,6 +43,7 @@ impl Size {
             threads,
             words: 1 + random.below(8),
             registers: random.below(17),
+            range: 2 + random.below(15) as u8,
             points: 1 + random.below(8),
             formulas: 2 * threads + 2 + random.below(8),
             lines: 1 + random.below(8),
@@ -127,15 +130,15 @@ impl Program<'_> {
     }
 
     fn names(&self, registers: Vec<u8>, start: bool) -> Names {
-        let Size { threads, words, .. } = *self.size;
-        Names { threads: threads as u8, words: words as u8, registers, values: 8, start }
+        let Size { threads, words, range, .. } = *self.size;
+        Names { threads: threads as u8, words: words as u8, registers, range, start }
     }
 
     fn header(&self, random: &mut Random) -> Header {
-        let Size { threads, words, registers, .. } = *self.size;
-        let counts =
-            Counts { threads: threads as u8, words: words as u8, registers: registers as u8 };
-        let start = (0..words).map(|_| random.below(8) as u8).collect();
+        let Size { threads, words, registers, range, .. } = *self.size;
+        let [threads, words, registers] = [threads, words, registers].map(|count| count as u8);
+        let counts = Counts { threads, words, registers, range };
+        let start = (0..words).map(|_| random.below(range.into()) as u8).collect();
         Header { counts, start, owners: self.owners.clone() }
     }
 

@@ -1,6 +1,6 @@
 //! A block of rows at a time, the way the Rattle function goes: a column of values for each formula.
 
-use super::claim::{Claim, Formula, Implication, Join};
+use super::claim::{advance, Claim, Formula, Implication, Join, Leaf};
 use super::input::Input;
 
 const ROWS: usize = 1024;
@@ -9,17 +9,28 @@ type Column = [u8; ROWS];
 
 pub fn judge(input: &Input) -> bool {
     let claim = Claim::new(input);
-    let Some(rows) = claim.rows(input.kind) else { return false };
-    let mut block = Block {
-        rows: ROWS.min(rows as usize),
-        leaves: vec![[0; ROWS]; claim.leaves.len()],
-        fails: [0; ROWS],
-    };
-    (0..rows).step_by(ROWS).all(|base| block.holds(&claim, base))
+    if claim.rows(input.kind).is_none() {
+        return false;
+    }
+    let mut block = Block::new(&claim);
+    let above = &claim.leaves[block.inside..];
+    let mut digits = vec![0; above.len()];
+    loop {
+        block.set(&digits);
+        if !block.holds(&claim) {
+            return false;
+        }
+        if !advance(&mut digits, above) {
+            return true;
+        }
+    }
 }
 
 struct Block {
     rows: usize,
+    /// So many leaves, from the first, go through their values inside the block.
+    inside: usize,
+    range: u8,
     /// A column for each leaf.
     leaves: Vec<Column>,
     /// 1 where the line fails and the premises so far are true.
@@ -27,12 +38,29 @@ struct Block {
 }
 
 impl Block {
-    fn holds(&mut self, claim: &Claim, base: u16) -> bool {
-        for (column, leaf) in self.leaves.iter_mut().zip(&claim.leaves) {
-            for (row, value) in (base..).zip(&mut column[..self.rows]) {
-                *value = leaf.at(row);
+    /// A block is as many rows as the first leaves have and a column holds.
+    fn new(claim: &Claim) -> Block {
+        let (mut rows, mut inside) = (1, 0);
+        let mut leaves = vec![[0; ROWS]; claim.leaves.len()];
+        for (leaf, column) in claim.leaves.iter().zip(&mut leaves) {
+            let more = rows * usize::from(leaf.choices);
+            if more > ROWS {
+                break;
             }
+            fill(column, *leaf, rows);
+            (rows, inside) = (more, inside + 1);
         }
+        Block { rows, inside, range: claim.range, leaves, fails: [0; ROWS] }
+    }
+
+    /// The leaves above the block have one value in all its rows.
+    fn set(&mut self, digits: &[u8]) {
+        for (column, digit) in self.leaves[self.inside..].iter_mut().zip(digits) {
+            column[..self.rows].fill(*digit);
+        }
+    }
+
+    fn holds(&mut self, claim: &Claim) -> bool {
         self.fails[..self.rows].fill(1);
         self.keep(&claim.line, 0);
         for premise in &claim.premises {
@@ -67,28 +95,37 @@ impl Block {
                 let [a, b] = &**parts;
                 self.put(a, out);
                 if let Formula::Leaf(leaf) = b {
-                    combine(*join, &mut out[..rows], &self.leaves[leaf.number][..rows]);
+                    let column = &self.leaves[leaf.number][..rows];
+                    combine(*join, self.range, &mut out[..rows], column);
                 } else {
                     let mut second = [0; ROWS];
                     self.put(b, &mut second);
-                    combine(*join, &mut out[..rows], &second[..rows]);
+                    combine(*join, self.range, &mut out[..rows], &second[..rows]);
                 }
             }
         }
     }
 }
 
+/// The column of a leaf that keeps each value for so many rows.
+fn fill(column: &mut Column, leaf: Leaf, rows: usize) {
+    let values = (0..leaf.choices).cycle();
+    for (part, value) in column.chunks_mut(rows).zip(values) {
+        part.fill(value);
+    }
+}
+
 /// A loop for each operation, so that the compiler makes it work on many rows at a time.
-fn combine(join: Join, a: &mut [u8], b: &[u8]) {
+fn combine(join: Join, range: u8, a: &mut [u8], b: &[u8]) {
     #[inline(always)]
     fn each(a: &mut [u8], b: &[u8], of: impl Fn(u8, u8) -> u8) {
         a.iter_mut().zip(b).for_each(|(a, b)| *a = of(*a, *b));
     }
     match join {
-        Join::Sum => each(a, b, |a, b| Join::Sum.of(a, b)),
-        Join::Equal => each(a, b, |a, b| Join::Equal.of(a, b)),
-        Join::Less => each(a, b, |a, b| Join::Less.of(a, b)),
-        Join::And => each(a, b, |a, b| Join::And.of(a, b)),
-        Join::Or => each(a, b, |a, b| Join::Or.of(a, b)),
+        Join::Sum => each(a, b, |a, b| Join::Sum.of(a, b, range)),
+        Join::Equal => each(a, b, |a, b| Join::Equal.of(a, b, range)),
+        Join::Less => each(a, b, |a, b| Join::Less.of(a, b, range)),
+        Join::And => each(a, b, |a, b| Join::And.of(a, b, range)),
+        Join::Or => each(a, b, |a, b| Join::Or.of(a, b, range)),
     }
 }

@@ -1,4 +1,4 @@
-//! Formulas as trees. Each leaf, the same one wherever it comes again, has bits of the row's number.
+//! Formulas as trees. Each leaf, the same one wherever it comes again, is a digit of the row.
 
 use super::input::{Input, Kind};
 
@@ -18,27 +18,26 @@ pub enum Join {
     Or,
 }
 
-/// A leaf's value: these bits of the row's number. It is 0 or 1, or up to 7 for a register or a word.
+/// A leaf has one of so many values: 2, or as many as the range for a register or a word.
 #[derive(Clone, Copy)]
 pub struct Leaf {
     pub number: usize,
-    pub shift: u32,
-    pub mask: u16,
-}
-
-impl Leaf {
-    #[inline(always)]
-    pub fn at(self, row: u16) -> u8 {
-        (row >> self.shift & self.mask) as u8
-    }
+    pub choices: u8,
 }
 
 impl Join {
-    /// Tests are 1 for true, 0 for false; sums are modulo 8.
+    /// Tests are 1 for true, 0 for false; sums are modulo the range.
     #[inline(always)]
-    pub fn of(self, a: u8, b: u8) -> u8 {
+    pub fn of(self, a: u8, b: u8, range: u8) -> u8 {
         match self {
-            Join::Sum => (a + b) % 8,
+            Join::Sum => {
+                let sum = a + b;
+                if sum < range {
+                    sum
+                } else {
+                    sum - range
+                }
+            }
             Join::Equal => (a == b) as u8,
             Join::Less => (a < b) as u8,
             Join::And => a & b,
@@ -57,21 +56,28 @@ pub struct Claim {
     pub line: Implication,
     pub premises: Vec<Implication>,
     pub leaves: Vec<Leaf>,
-    /// The bits of all leaves together.
-    pub bits: u32,
+    /// Sums are modulo it.
+    pub range: u8,
 }
 
 impl Claim {
     pub fn new(input: &Input) -> Claim {
-        let mut reader = Reader { input, known: Vec::new(), leaves: Vec::new(), bits: 0 };
+        let range = match input.kind {
+            Kind::Tests { range } => range,
+            Kind::Table => 2,
+        };
+        let mut reader = Reader { input, known: Vec::new(), leaves: Vec::new() };
         let line = reader.implication(0);
         let premises = (1..input.implications()).map(|i| reader.implication(i)).collect();
-        Claim { line, premises, leaves: reader.leaves, bits: reader.bits }
+        Claim { line, premises, leaves: reader.leaves, range }
     }
 
     /// How many rows there are; nothing if they are too many.
-    pub fn rows(&self, kind: Kind) -> Option<u16> {
-        (self.bits <= kind.bits()).then(|| 1 << self.bits)
+    pub fn rows(&self, kind: Kind) -> Option<usize> {
+        self.leaves.iter().try_fold(1, |rows, leaf| {
+            let more = rows * usize::from(leaf.choices);
+            (more <= kind.most_rows()).then_some(more)
+        })
     }
 }
 
@@ -80,7 +86,6 @@ struct Reader<'a> {
     /// The bytes of each leaf.
     known: Vec<&'a [u8]>,
     leaves: Vec<Leaf>,
-    bits: u32,
 }
 
 impl<'a> Reader<'a> {
@@ -95,8 +100,8 @@ impl<'a> Reader<'a> {
         let s = &self.input.body[..];
         let code = s[at];
         match (self.input.kind, code) {
-            (Kind::Tests, 1 | 2) => self.leaf(at, 3),
-            (Kind::Tests, 14 | 15) | (Kind::Table, 9 | 10 | 24 | 27) => self.leaf(at, 1),
+            (Kind::Tests { range }, 1 | 2) => self.leaf(at, range),
+            (Kind::Tests { .. }, 14 | 15) | (Kind::Table, 9 | 10 | 24 | 27) => self.leaf(at, 2),
             (_, 0) => (Formula::Constant(s[at + 1]), at + 2),
             (_, 8) => (Formula::Constant(0), at + 1),
             (_, 3) => self.join(Join::Sum, at),
@@ -119,19 +124,29 @@ impl<'a> Reader<'a> {
         (Formula::Join(join, Box::new([a, b])), end)
     }
 
-    fn leaf(&mut self, at: usize, bits: u32) -> (Formula, usize) {
+    fn leaf(&mut self, at: usize, choices: u8) -> (Formula, usize) {
         let end = end(&self.input.body, at);
         let bytes = &self.input.body[at..end];
         let number = self.known.iter().position(|known| *known == bytes);
         let number = number.unwrap_or_else(|| {
-            let leaf = Leaf { number: self.known.len(), shift: self.bits, mask: (1 << bits) - 1 };
             self.known.push(bytes);
-            self.leaves.push(leaf);
-            self.bits += bits;
-            leaf.number
+            self.leaves.push(Leaf { number: self.leaves.len(), choices });
+            self.leaves.len() - 1
         });
         (Formula::Leaf(self.leaves[number]), end)
     }
+}
+
+/// Goes on to the next row, the leaves counted up like digits; false after the last.
+pub fn advance(digits: &mut [u8], leaves: &[Leaf]) -> bool {
+    for (digit, leaf) in digits.iter_mut().zip(leaves) {
+        *digit += 1;
+        if *digit < leaf.choices {
+            return true;
+        }
+        *digit = 0;
+    }
+    false
 }
 
 /// The position past a formula.

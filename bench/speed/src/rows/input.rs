@@ -2,18 +2,18 @@
 
 #[derive(Clone, Copy, Debug, PartialEq, Eq)]
 pub enum Kind {
-    /// Two tests: a value for each register and word, true or false for each flag; 4,096 rows.
-    Tests,
+    /// Two tests: a value of the range for each register and word, true or false for each flag; 4,096 rows.
+    Tests { range: u8 },
     /// Implications between assertions: true or false for each claim; 1,024 rows.
     Table,
 }
 
 impl Kind {
-    /// A row's number has at most so many bits; with more the answer is no.
-    pub fn bits(self) -> u32 {
+    /// With more rows than this the answer is no.
+    pub fn most_rows(self) -> usize {
         match self {
-            Kind::Tests => 12,
-            Kind::Table => 10,
+            Kind::Tests { .. } => 4096,
+            Kind::Table => 1024,
         }
     }
 }

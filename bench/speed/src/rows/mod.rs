@@ -11,12 +11,15 @@ mod timed;
 use crate::measure;
 use crate::random::Random;
 use crate::rattle;
+use claim::Claim;
 use generate::Generator;
 use input::{Input, Judge};
 use std::hint::black_box;
 
 const COMPARED: usize = 20_000;
 const TIMED: usize = 32;
+/// The ranges of the tests made by hand.
+const RANGES: [u8; 4] = [2, 3, 8, 16];
 
 const JUDGES: [(&str, Judge); 3] = [
     ("Rattle", rattle::judge),
@@ -24,22 +27,47 @@ const JUDGES: [(&str, Judge); 3] = [
     ("Rust, row by row", by_row::judge),
 ];
 
+/// What is compared and timed of a kind.
+struct Trial {
+    name: &'static str,
+    compared: Generator,
+    timed: Generator,
+    by_hand: Vec<(String, Input)>,
+}
+
+fn trials() -> [Trial; 2] {
+    let pair = |range: u8| (format!("a pair of tests, range {range}"), timed::tests(range));
+    let table = ("a table".to_string(), timed::table());
+    [
+        Trial {
+            name: "pairs of tests",
+            compared: generate::tests,
+            timed: generate::usual_tests,
+            by_hand: RANGES.map(pair).into(),
+        },
+        Trial {
+            name: "truth tables",
+            compared: generate::table,
+            timed: generate::table,
+            by_hand: vec![table],
+        },
+    ]
+}
+
 /// Compares and times the functions; false if an answer differs or a comparison says little.
 pub fn run(random: &mut Random) -> bool {
     let mut good = true;
-    let kinds: [(&str, Generator, Input); 2] = [
-        ("pairs of tests", generate::tests, timed::tests()),
-        ("truth tables", generate::table, timed::table()),
-    ];
-    for (name, input, one) in kinds {
-        let compared = compare::on_random(random, &JUDGES, COMPARED, input);
+    for Trial { name, compared, timed, by_hand } in trials() {
+        let compared = compare::on_random(random, &JUDGES, COMPARED, compared);
         println!("random {name}: {compared}");
         if !compared.is_useful() || compared.differ > 0 {
             good = false;
             continue;
         }
-        print_times(&format!("one of the {name}, made by hand"), &[one]);
-        let several = timed::several(random, TIMED, input, by_row::judge);
+        for (name, one) in by_hand {
+            print_times(&format!("{name}, made by hand"), &[one]);
+        }
+        let several = timed::several(random, TIMED, timed, by_row::judge);
         print_times(&format!("{TIMED} random {name}"), &several);
     }
     good
@@ -48,7 +76,8 @@ pub fn run(random: &mut Random) -> bool {
 /// The speed over inputs that are true and have as many rows as there may be. Each input is timed for
 /// itself: a short round is more often left alone by what else runs.
 fn print_times(name: &str, inputs: &[Input]) {
-    let rows: usize = inputs.iter().map(|input| 1 << input.kind.bits()).sum();
+    let rows_of = |input: &Input| Claim::new(input).rows(input.kind).expect("not too many");
+    let rows: usize = inputs.iter().map(rows_of).sum();
     println!("{name}, {rows} rows");
     let mut seconds = [0.0; JUDGES.len()];
     for input in inputs {

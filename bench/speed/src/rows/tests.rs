@@ -10,7 +10,11 @@ fn expect(input: &Input, answer: bool) {
 }
 
 fn tests(left: &[u8], right: &[u8], answer: bool) {
-    expect(&Input::new(Kind::Tests, &[[left, right]]), answer);
+    tests_of(8, left, right, answer);
+}
+
+fn tests_of(range: u8, left: &[u8], right: &[u8], answer: bool) {
+    expect(&Input::new(Kind::Tests { range }, &[[left, right]]), answer);
 }
 
 fn table(implications: &[[&[u8]; 2]], answer: bool) {
@@ -47,6 +51,30 @@ fn sums_are_modulo_8() {
     let next_is_greater = [10, 1, 1, 3, 1, 1, 0, 1];
     tests(&[10, 1, 1, 0, 7], &next_is_greater, true);
     tests(&[11, 8], &next_is_greater, false);
+}
+
+#[test]
+fn values_and_sums_are_those_of_the_range() {
+    for range in 2..=16 {
+        let below_last = [10, 1, 1, 0, range - 1];
+        let next_is_greater = [10, 1, 1, 3, 1, 1, 0, 1];
+        tests_of(range, &below_last, &next_is_greater, true);
+        tests_of(range, &[11, 8], &next_is_greater, false);
+        tests_of(range, &[11, 8], &below_last, false);
+        tests_of(range, &[11, 8], &[11, 10, 0, range - 1, 1, 1], true);
+    }
+}
+
+#[test]
+fn rows_are_counted_from_the_range() {
+    let same = |names: u8| {
+        let parts: Vec<Vec<u8>> = (1..=names).map(|name| vec![9, 1, name, 1, name]).collect();
+        all(12, &parts)
+    };
+    for (range, most) in [(2, 12), (3, 7), (5, 5), (8, 4), (16, 3)] {
+        tests_of(range, &same(most), &[11, 8], true);
+        tests_of(range, &same(most + 1), &[11, 8], false);
+    }
 }
 
 #[test]
@@ -125,6 +153,8 @@ fn there_are_at_most_four_premises() {
 
 #[test]
 fn the_timed_lines_are_true() {
-    expect(&timed::tests(), true);
+    for range in super::RANGES {
+        expect(&timed::tests(range), true);
+    }
     expect(&timed::table(), true);
 }

@@ -5,14 +5,21 @@ use super::generate::Generator;
 use super::input::{Input, Judge, Kind};
 use crate::random::Random;
 
-/// With r and q registers, x and y words: from not (r + x = q + y), not (r = q) or not (x = y).
-pub fn tests() -> Input {
-    let (r, q, x, y) = ([1, 1], [1, 2], [2, 1], [2, 2]);
-    let joined = |code: u8, a: &[u8], b: &[u8]| [&[code], a, b].concat();
+/// With as many names as there are rows for, registers and words by turns, in two halves: from not (the sum of the
+/// first half = the sum of the second), not (the first of one = the first of the other) or so on.
+pub fn tests(range: u8) -> Input {
+    let names = (1..).take_while(|&names| usize::from(range).pow(names) <= 4096).count() as u8;
+    let half = names / 2;
+    let all =
+        |code: u8, parts: Vec<Vec<u8>>| [vec![code; parts.len() - 1], parts.concat()].concat();
+    let name = |index: u8| vec![1 + index % 2, 1 + index / 2];
     let differ = |a: &[u8], b: &[u8]| [&[11, 9], a, b].concat();
-    let left = differ(&joined(3, &r, &x), &joined(3, &q, &y));
-    let right = joined(13, &differ(&r, &q), &differ(&x, &y));
-    Input::new(Kind::Tests, &[[&left, &right]])
+    // A name left over is added on both sides.
+    let sum = |from: u8| all(3, (from..from + half).chain(2 * half..names).map(name).collect());
+    let left = differ(&sum(0), &sum(half));
+    let pairs = (0..half).map(|index| differ(&name(index), &name(half + index)));
+    let right = all(13, pairs.collect());
+    Input::new(Kind::Tests { range }, &[[&left, &right]])
 }
 
 /// From start and p, either a or b; for either of these, either of two; from one of these four, c or d.
@@ -42,6 +49,7 @@ pub fn table() -> Input {
 /// So many random ones that are true and have as many rows as there may be.
 pub fn several(random: &mut Random, count: usize, input: Generator, judge: Judge) -> Vec<Input> {
     let inputs = std::iter::repeat_with(|| input(random));
-    let largest = |input: &Input| Claim::new(input).bits == input.kind.bits();
+    let largest =
+        |input: &Input| Claim::new(input).rows(input.kind) == Some(input.kind.most_rows());
     inputs.filter(|input| largest(input) && judge(input)).take(count).collect()
 }

@@ -91,7 +91,9 @@ impl<'a> Prover<'a> {
     /// Does one test imply another by rows? Each pair is tried once.
     pub fn by_rows(&mut self, left: &T, right: &T) -> bool {
         let key = (left.clone(), right.clone());
-        *self.rows.entry(key).or_insert_with(|| implies_by_rows(left, right) == Some(true))
+        let range = self.program.header.counts.range;
+        let found = || implies_by_rows(left, right, range) == Some(true);
+        *self.rows.entry(key).or_insert_with(found)
     }
 
     /// An inclusion line, if it fits its rule.

@@ -43,7 +43,8 @@ const MARKS: [&str; 24] = [
 const FETCH_ADD: &str = "fetch-add";
 
 /// The words that cannot be names.
-pub const KEYWORDS: [&str; 32] = [
+pub const KEYWORDS: [&str; 33] = [
+    "range",
     "word",
     "register",
     "registers",

@@ -3,7 +3,7 @@
 use crate::terms::*;
 use crate::text::lex::{Mistake, Token};
 use crate::text::scope::{describe, Meaning, Scope};
-use reference::formula::{Assertion, Formula, Interval, Sort, Test, RANGE};
+use reference::formula::{Assertion, Formula, Interval, Sort, Test};
 
 /// A place in the tokens, with the names in force.
 pub struct Cursor<'a> {
@@ -277,8 +277,8 @@ impl Cursor<'_> {
             return Ok(v);
         }
         if let Token::Number(n) = *self.peek() {
-            if n >= usize::from(RANGE) {
-                return self.fail(format!("{n} is no value: values are 0 to {}", RANGE - 1));
+            if n >= usize::from(self.scope.range) {
+                return self.fail(format!("{n} is no value: values are {}", self.scope.values()));
             }
             self.at += 1;
             return Ok(constant(n as u8));

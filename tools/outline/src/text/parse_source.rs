@@ -33,6 +33,10 @@ pub fn parse(text: &str) -> Result<Source, Mistake> {
 }
 
 fn item(c: &mut Cursor, source: &mut Source) -> Result<(), Mistake> {
+    if c.take("range") {
+        c.number()?;
+        return Ok(());
+    }
     if c.take("word") {
         c.name()?;
         c.expect("=")?;
@@ -58,7 +62,7 @@ fn item(c: &mut Cursor, source: &mut Source) -> Result<(), Mistake> {
         source.certificate = Some(crate::text::parse_certificate::certificate(c)?);
         return Ok(());
     }
-    c.wanted("`word`, `register`, `let`, `thread`, `proof` or `certificate`")
+    c.wanted("`range`, `word`, `register`, `let`, `thread`, `proof` or `certificate`")
 }
 
 /// `let NAME = FORMULA`; without the name of a sort, an assertion is tried, then an interval.
@@ -133,7 +137,7 @@ fn thread(c: &mut Cursor, source: &mut Source) -> Result<(), Mistake> {
 
 fn at_end_of_thread(c: &Cursor) -> bool {
     *c.peek() == Token::End
-        || ["thread", "proof", "certificate", "let", "word", "register"]
+        || ["thread", "proof", "certificate", "let", "word", "register", "range"]
             .iter()
             .any(|k| c.sees_next(k))
 }

@@ -4,7 +4,7 @@ use crate::text::lex::{Mistake, Token, KEYWORDS};
 use crate::text::print::Names;
 use crate::text::sort_name;
 use reference::formula::parse::Counts;
-use reference::formula::{Formula, Sort, RANGE};
+use reference::formula::{Formula, Sort};
 use reference::image::Header;
 use std::collections::BTreeMap;
 
@@ -17,10 +17,15 @@ pub enum Meaning {
     Short(Formula),
 }
 
+/// The range of a source that names none.
+const USUAL_RANGE: u8 = 8;
+
 /// All names of a source; words, registers and threads count from 1.
 #[derive(Debug, Clone, Default)]
 pub struct Scope {
     meanings: BTreeMap<String, Meaning>,
+    /// How many values there are.
+    pub range: u8,
     pub names: Names,
     pub starts: Vec<u8>,
     pub owners: Vec<u8>,
@@ -49,7 +54,7 @@ impl Scope {
 
     /// Declares words, registers and threads ahead of reading, since assertions look ahead.
     pub fn scan(tokens: &[(Token, usize)]) -> Result<Scope, Mistake> {
-        let mut scope = Scope::default();
+        let mut scope = Scope { range: scan_range(tokens)?, ..Scope::default() };
         let mut owners_by_name = Vec::new();
         for i in 0..tokens.len() {
             match &tokens[i].0 {
@@ -88,10 +93,10 @@ impl Scope {
         self.names.words.push(name.clone());
         self.add(&name, Meaning::Word(self.names.words.len() as u8), line)?;
         match &tokens[(i + 3).min(tokens.len() - 1)].0 {
-            Token::Number(v) if *v < usize::from(RANGE) => self.starts.push(*v as u8),
+            Token::Number(v) if *v < usize::from(self.range) => self.starts.push(*v as u8),
             t => {
-                let (most, found) = (RANGE - 1, t.shown());
-                let text = format!("word {name} needs a start value 0 to {most}, found {found}");
+                let (values, found) = (self.values(), t.shown());
+                let text = format!("word {name} needs a start value {values}, found {found}");
                 return Err(Mistake { line, text });
             }
         }
@@ -117,12 +122,18 @@ impl Scope {
         self.add(name, Meaning::Register(self.names.registers.len() as u8), line)
     }
 
+    /// The values there are, for messages.
+    pub fn values(&self) -> String {
+        format!("0 to {}", self.range - 1)
+    }
+
     /// The header of an image with these names.
     pub fn header(&self) -> Header {
         let counts = Counts {
             threads: self.names.threads.len() as u8,
             words: self.names.words.len() as u8,
             registers: self.names.registers.len() as u8,
+            range: self.range,
         };
         Header { counts, start: self.starts.clone(), owners: self.owners.clone() }
     }
@@ -140,6 +151,23 @@ impl Scope {
             }
         }
         Ok(())
+    }
+}
+
+/// The number behind `range`, which may be left out.
+fn scan_range(tokens: &[(Token, usize)]) -> Result<u8, Mistake> {
+    let is_range = |(token, _): &(Token, usize)| *token == Token::Name("range".into());
+    let mut places = (0..tokens.len()).filter(|&at| is_range(&tokens[at]));
+    let Some(at) = places.next() else { return Ok(USUAL_RANGE) };
+    if let Some(again) = places.next() {
+        return Err(Mistake { line: tokens[again].1, text: "the range is given twice".into() });
+    }
+    match tokens[(at + 1).min(tokens.len() - 1)] {
+        (Token::Number(range @ 2..=16), _) => Ok(range as u8),
+        (ref other, line) => {
+            let text = format!("the range is 2 to 16 values, found {}", other.shown());
+            Err(Mistake { line, text })
+        }
     }
 }
 

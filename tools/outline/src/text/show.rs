@@ -12,7 +12,7 @@ pub fn show(image: &Image) -> String {
     let header = &image.program.header;
     let threads = image.program.threads.len();
     let names = Names::plain(header.start.len(), header.owners.len(), threads);
-    let mut out = String::new();
+    let mut out = format!("range {}\n", header.counts.range);
     for (name, start) in names.words.iter().zip(&header.start) {
         let _ = writeln!(out, "word {name} = {start}");
     }

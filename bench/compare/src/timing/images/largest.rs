@@ -56,7 +56,7 @@ fn program() -> Program {
     let outline = |(number, points): (u8, u8)| -> Vec<Rc<Assertion>> {
         (0..points).map(|point| assertion(number, point).into()).collect()
     };
-    let counts = Counts { threads: 3, words: 8, registers: 3 };
+    let counts = Counts { threads: 3, words: 8, registers: 3, range: 8 };
     Program {
         header: Header { counts, start: vec![0; 8], owners: vec![1, 2, 3] },
         threads: (1..).zip(POINTS).map(thread).collect(),

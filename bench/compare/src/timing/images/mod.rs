@@ -20,12 +20,15 @@ const MOST_BYTES: usize = 65_535;
 type Named = (&'static str, fn() -> Vec<u8>);
 
 /// All of them.
-pub fn all() -> [Named; 13] {
+pub fn all() -> [Named; 16] {
     [
         ("tiny", || SMALL.to_vec()),
         ("message passing", || message_passing().bytes()),
         ("largest", largest::image),
-        ("rows", rows::image),
+        ("rows, range 2", || rows::image(2)),
+        ("rows, range 3", || rows::image(3)),
+        ("rows", || rows::image(8)),
+        ("rows, range 16", || rows::image(16)),
         ("truth tables", tables::image),
         ("template matching", matching::image),
         ("1 KB", || growing::image(1 << 10)),

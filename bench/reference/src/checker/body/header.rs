@@ -1,17 +1,18 @@
-//! The header: counts, start values, owners.
+//! The header: counts, range, start values, owners.
 
 use super::{demand, Read, LENGTH, RANGE};
-use crate::formula::{self, parse::Counts};
+use crate::formula::parse::Counts;
 use crate::image::Header;
 
 /// Reads a header; its thread count must be that of the thread records.
 pub fn read(body: &[u8], threads_written: usize) -> Read<Header> {
     let header = Header::read(body).ok_or(LENGTH)?;
-    let Counts { threads, words, registers } = header.counts;
+    let Counts { threads, words, registers, range } = header.counts;
     demand((1..=3).contains(&threads), RANGE)?;
     demand((1..=8).contains(&words), RANGE)?;
     demand(registers <= 16, RANGE)?;
-    demand(header.start.iter().all(|&value| value < formula::RANGE), RANGE)?;
+    demand((2..=16).contains(&range), RANGE)?;
+    demand(header.start.iter().all(|&value| value < range), RANGE)?;
     demand(header.owners.iter().all(|owner| (1..=threads).contains(owner)), RANGE)?;
     demand(usize::from(threads) == threads_written, RANGE)?;
     Ok(header)

@@ -25,12 +25,13 @@ pub fn fits(
     premises: &[&Statement],
     header: &Header,
 ) -> Fit {
+    let by_rows = |left: &Test, right: &Test| implies_by_rows(left, right, header.counts.range);
     match (rule, premises) {
         (20, premises) => rule_20((left, right), premises),
-        (21, []) => implies_by_rows(left.as_holds()?, right.as_holds()?),
+        (21, []) => by_rows(left.as_holds()?, right.as_holds()?),
         (22, [premise]) => rule_22(left, right, premise),
-        (23, []) => implies_by_rows(left.as_sees()?.1.as_all()?, right.as_holds()?),
-        (24, []) => implies_by_rows(left.as_holds()?, right.as_sees()?.1.as_all()?),
+        (23, []) => by_rows(left.as_sees()?.1.as_all()?, right.as_holds()?),
+        (24, []) => by_rows(left.as_holds()?, right.as_sees()?.1.as_all()?),
         (25, []) => rule_25(left, right),
         (26, []) => rule_26(left, right, header),
         (27, []) => rule_27(left, right),

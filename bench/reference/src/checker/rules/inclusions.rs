@@ -19,18 +19,18 @@ pub fn inclusion(statement: &Statement) -> Option<Sides<'_>> {
 }
 
 /// Whether an inclusion follows by the rule from these premises.
-pub fn fits(rule: u8, left: &Link, right: &Link, premises: &[&Statement]) -> Fit {
+pub fn fits(rule: u8, left: &Link, right: &Link, premises: &[&Statement], range: u8) -> Fit {
     match premises {
-        [] => axiom(rule, left, right),
+        [] => axiom(rule, left, right, range),
         [p, q] => joined(rule, left, right, inclusion(p)?, inclusion(q)?),
         _ => None,
     }
 }
 
 /// The rules without premises.
-fn axiom(rule: u8, left: &Link, right: &Link) -> Fit {
+fn axiom(rule: u8, left: &Link, right: &Link, range: u8) -> Fit {
     match rule {
-        30 => implies_by_rows(left.as_all()?, right.as_all()?),
+        30 => implies_by_rows(left.as_all()?, right.as_all()?, range),
         33 => reassociated(left, right),
         34 => reassociated(right, left),
         35 => Some(left == right.as_chop()?.1),

@@ -83,7 +83,9 @@ pub fn follows(
         Statement::Implication { left, right } => {
             implications::fits(rule, left, right, premises, &program.header)
         }
-        Statement::Inclusion { left, right } => inclusions::fits(rule, left, right, premises),
+        Statement::Inclusion { left, right } => {
+            inclusions::fits(rule, left, right, premises, program.header.counts.range)
+        }
     };
     fit == Some(true)
 }

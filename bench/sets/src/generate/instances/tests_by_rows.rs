@@ -33,10 +33,10 @@ fn order(s: &mut Setting, common: &Vocabulary) -> Pair {
     (left.into(), Test::negated(Test::less(a, b)).into())
 }
 
-/// Facts about sums, which are modulo 8.
+/// Facts about sums, which are modulo the range.
 fn sums(s: &mut Setting, common: &Vocabulary) -> Pair {
     let (a, b) = (common.value(s.random, 0), common.value(s.random, 0));
-    let moved = s.random.between(1, 7);
+    let moved = s.random.between(1, common.range - 1);
     let sum = Value::sum(a.clone(), Value::Constant(moved));
     let equal = Test::equal(sum.clone(), Value::sum(b.clone(), Value::Constant(moved)));
     match s.random.below(3) {

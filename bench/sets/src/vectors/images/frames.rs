@@ -11,7 +11,7 @@ pub fn cases() -> Vec<Case> {
 
 fn whole_image() -> Vec<Case> {
     let mut without_line = SMALL;
-    without_line[47] = 0;
+    without_line[48] = 0;
     vec![
         Case::new("accepted: small image", SMALL.to_vec()),
         Case::new("20: small image with line number 0", without_line.to_vec()),
@@ -32,7 +32,7 @@ fn padded(length: usize) -> Vec<u8> {
     let half = rest / 2;
     let last =
         [half, rest - half].map(|bytes| Record::new(FORMULA, long_formula(bytes - 4)).bytes());
-    [&SMALL[..20], &full.repeat(records), &last.concat(), &SMALL[20..]].concat()
+    [&SMALL[..21], &full.repeat(records), &last.concat(), &SMALL[21..]].concat()
 }
 
 /// 3 inside a record, 4 between records: the small image cut at every length,

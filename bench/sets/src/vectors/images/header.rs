@@ -1,7 +1,8 @@
 //! Codes 5 and 6 in the header.
 
 use super::{Case, Draft};
-use reference::checker::frames::{HEADER, THREAD};
+use crate::vectors::tour::Spare;
+use reference::checker::frames::{FORMULA, HEADER, THREAD};
 
 pub fn cases() -> Vec<Case> {
     [lengths(), ranges()].concat()
@@ -10,21 +11,22 @@ pub fn cases() -> Vec<Case> {
 fn lengths() -> Vec<Case> {
     let put = |label: &str, body: &[u8]| Draft::new().put(HEADER, 0, body).case(label);
     let sound = Draft::new().body(HEADER, 0).clone();
-    let most = |bytes: usize| [&[2, 255, 255][..], &vec![1; bytes]].concat();
+    let most = |bytes: usize| [&[2, 255, 255, 8][..], &vec![1; bytes]].concat();
     vec![
         put("5: header without bytes", &[]),
         put("5: header of 1 byte", &[2]),
         put("5: header of 2 bytes", &[2, 2]),
-        put("5: header of 3 bytes, counts as written want more", &[2, 2, 3]),
+        put("5: header of 3 bytes, no words, no registers", &[2, 0, 0]),
+        put("5: header of 4 bytes, counts as written want more", &[2, 2, 3, 8]),
         put("5: header without its last owner", &sound[..sound.len() - 1]),
         put("5: header with a byte too many", &[&sound[..], &[1]].concat()),
-        put("6: header with no words, length as written", &[2, 0, 3, 1, 2, 1]),
-        put("6: header with 9 words, length as written", &[&[2, 9, 0][..], &[0; 9]].concat()),
-        put("6: header with 17 registers", &[&[2, 1, 17, 0][..], &[1; 17]].concat()),
+        put("6: header with no words, length as written", &[2, 0, 3, 8, 1, 2, 1]),
+        put("6: header with 9 words, length as written", &[&[2, 9, 0, 8][..], &[0; 9]].concat()),
+        put("6: header with 17 registers", &[&[2, 1, 17, 8, 0][..], &[1; 17]].concat()),
         put("6: header with 255 words and 255 registers", &most(510)),
         put("5: header with 255 words and a byte too few", &most(509)),
-        put("6: header of 3 bytes, no words, no registers", &[2, 0, 0]),
-        put("6: header with no threads", &[0, 1, 0, 0]),
+        put("6: header of 4 bytes, no words, no registers", &[2, 0, 0, 8]),
+        put("6: header with no threads", &[0, 1, 0, 8, 0]),
     ]
 }
 
@@ -36,18 +38,42 @@ fn ranges() -> Vec<Case> {
     for threads in [0, 1, 3, 4, 255] {
         cases.push(set(format!("6: header with {threads} threads, 2 records"), 0, threads));
     }
-    for (place, name) in [(3, "first start value"), (4, "last start value")] {
+    for (place, name) in [(4, "first start value"), (5, "last start value")] {
         for value in [8, 255] {
             cases.push(set(format!("6: {name} {value}"), place, value));
         }
     }
-    for (place, name) in [(5, "first owner"), (6, "middle owner"), (8, "last owner")] {
+    for (place, name) in [(6, "first owner"), (7, "middle owner"), (9, "last owner")] {
         for owner in [0, 3, 255] {
             cases.push(set(format!("6: {name} {owner}"), place, owner));
         }
     }
-    cases.push(set("accepted: greatest start value".into(), 3, 7));
+    cases.push(set("accepted: greatest start value".into(), 4, 7));
     cases.push(fewer_threads());
+    cases.extend(value_ranges());
+    cases
+}
+
+/// The range itself, and start values up to it. The tour's start values are 0 and 7, its constants 0 and 1.
+fn value_ranges() -> Vec<Case> {
+    let with = |range, first, last| {
+        Draft::new().set(HEADER, 0, 3, range).set(HEADER, 0, 4, first).set(HEADER, 0, 5, last)
+    };
+    let spare = usize::from(Draft::new().spare(Spare::Value)) - 1;
+    let mut cases = Vec::new();
+    for range in [0, 1, 17, 18, 255] {
+        cases.push(with(range, 0, 0).case(format!("6: range {range}")));
+    }
+    for range in 2..=16 {
+        let last = range - 1;
+        cases.push(with(range, last, 0).case(format!("accepted: range {range}, first at {last}")));
+        cases.push(with(range, 0, last).case(format!("accepted: range {range}, last at {last}")));
+        cases.push(with(range, range, 0).case(format!("6: range {range}, first at {range}")));
+        cases.push(with(range, 0, range).case(format!("6: range {range}, last at {range}")));
+        let constant = |number: u8| with(range, 0, 0).put(FORMULA, spare, &[0, number]);
+        cases.push(constant(last).case(format!("accepted: constant {last}, range {range}")));
+        cases.push(constant(range).case(format!("6: constant {range}, range {range}")));
+    }
     cases
 }
 

@@ -141,7 +141,7 @@ fn owners() -> Vec<Case> {
     cases.push(branch.case("9: operation 6 reads another thread's register"));
     for (register, owner) in [(1, 2), (2, 1), (3, 2), (4, 1)] {
         let label = format!("9: register {register} belongs to thread {owner}");
-        cases.push(Draft::new().set(HEADER, 0, 4 + register, owner).case(label));
+        cases.push(Draft::new().set(HEADER, 0, 5 + register, owner).case(label));
     }
     cases
 }

@@ -19,7 +19,7 @@ use std::rc::Rc;
 pub const PLACE: (u8, u8) = (1, 0);
 
 pub fn header() -> Header {
-    let counts = Counts { threads: 2, words: 3, registers: 4 };
+    let counts = Counts { threads: 2, words: 3, registers: 4, range: 8 };
     Header { counts, start: vec![1, 0, 2], owners: vec![1, 1, 1, 2] }
 }
 

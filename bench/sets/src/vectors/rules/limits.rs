@@ -17,18 +17,23 @@ pub fn cases() -> Vec<Case> {
 }
 
 /// One thread, one point, every name.
-fn header() -> Header {
-    let counts = Counts { threads: 1, words: 8, registers: 16 };
+fn header(range: u8) -> Header {
+    let counts = Counts { threads: 1, words: 8, registers: 16, range };
     Header { counts, start: vec![0; 8], owners: vec![1; 16] }
 }
 
 fn case(label: String, lemma: &Lemma) -> Case {
-    let program = harness::program(header(), vec![Vec::new()]);
+    case_of_range(8, label, lemma)
+}
+
+/// The image of this range in which the lemma decides the obligation.
+pub fn case_of_range(range: u8, label: String, lemma: &Lemma) -> Case {
+    let program = harness::program(header(range), vec![Vec::new()]);
     Case::new(label, harness::deciding(program, lemma, 0).bytes())
 }
 
 /// A test over so many registers, words, unsync and cov flags.
-fn over(registers: u8, words: u8, unsync: u8, covered: u8) -> Test {
+pub fn over(registers: u8, words: u8, unsync: u8, covered: u8) -> Test {
     let zero = || Value::Constant(0);
     let tests = (1..=registers)
         .map(|number| Test::equal(Value::Register(number), zero()))
@@ -164,7 +169,7 @@ fn start_gives(label: String, right: Assertion) -> Case {
 }
 
 fn with_premises(label: String, right: Assertion, premises: &[&Lemma]) -> Case {
-    let mut plan = harness::plan(harness::program(header(), vec![Vec::new()]));
+    let mut plan = harness::plan(harness::program(header(8), vec![Vec::new()]));
     plan.obligations = vec![Some(implies(20, Assertion::Start, right.clone(), premises))];
     plan.program.outline = vec![vec![right.into()]];
     Case::new(label, plan.bytes())

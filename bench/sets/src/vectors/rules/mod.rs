@@ -6,6 +6,7 @@ mod duties;
 pub mod frame;
 mod limits;
 mod premises;
+mod ranges;
 
 use super::Case;
 
@@ -18,6 +19,7 @@ pub fn cases() -> Vec<Case> {
     cases.extend(premises::cases());
     cases.extend(conditions::cases());
     cases.extend(limits::cases());
+    cases.extend(ranges::cases());
     cases.extend(duties::cases());
     cases
 }

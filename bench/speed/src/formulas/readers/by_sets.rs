@@ -39,7 +39,7 @@ fn has(set: u32, code: u8) -> bool {
 
 fn in_range(n: Counts, code: u8, operand: u8) -> bool {
     match code {
-        0 => operand < n.values,
+        0 => operand < n.range,
         _ if operand == 0 => false,
         1 => operand <= n.registers,
         24 => operand <= n.threads,

@@ -54,7 +54,7 @@ fn end(
     if OPERAND[code] != 0 {
         let operand = *s.get(next).ok_or(Fault::Form)?;
         let (low, high) = match OPERAND[code] {
-            1 => (0, n.values - 1),
+            1 => (0, n.range - 1),
             2 => (1, n.registers),
             3 => (1, n.words),
             _ => (1, n.threads),

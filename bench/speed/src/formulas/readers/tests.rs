@@ -4,7 +4,7 @@ use super::{by_sets, by_tables};
 use crate::formulas::answer::{Answer, Counts, Fault};
 use crate::rattle;
 
-const COUNTS: Counts = Counts { threads: 2, words: 3, registers: 4, values: 8 };
+const COUNTS: Counts = Counts { threads: 2, words: 3, registers: 4, range: 8 };
 
 fn expect(body: &[u8], answer: Answer) {
     for read in [rattle::formula, by_sets::read, by_tables::read] {

@@ -1,30 +1,33 @@
-//! The header: counts of threads, words and registers, start values, owners.
+//! The header: counts of threads, words and registers, range, start values, owners.
 
 use super::{demand, Checked, LENGTH, RANGE};
 use crate::formulas::answer::Counts;
 
+const FIXED: usize = 4;
+
 pub fn check(body: &[u8], threads_written: usize) -> Checked {
-    demand(body.len() >= 3, LENGTH)?;
-    let (threads, words, registers) = (body[0], body[1], body[2]);
-    demand(body.len() == 3 + words as usize + registers as usize, LENGTH)?;
-    let (start, owners) = body[3..].split_at(words as usize);
+    demand(body.len() >= FIXED, LENGTH)?;
+    let Counts { threads, words, registers, range } = counts(body);
+    demand(body.len() == FIXED + words as usize + registers as usize, LENGTH)?;
+    let (start, owners) = body[FIXED..].split_at(words as usize);
     demand(
         threads as usize == threads_written
             && (1..=3).contains(&threads)
             && (1..=8).contains(&words)
             && registers <= 16
-            && start.iter().all(|&value| value < 8)
+            && (2..=16).contains(&range)
+            && start.iter().all(|&value| value < range)
             && owners.iter().all(|owner| (1..=threads).contains(owner)),
         RANGE,
     )
 }
 
-/// The counts of a header that passed.
+/// The counts of a header that is long enough.
 pub fn counts(body: &[u8]) -> Counts {
-    Counts { threads: body[0], words: body[1], registers: body[2], values: 8 }
+    Counts { threads: body[0], words: body[1], registers: body[2], range: body[3] }
 }
 
 /// The owners of registers 1 and up, of a header that passed.
 pub fn owners(body: &[u8]) -> &[u8] {
-    &body[3 + body[1] as usize..]
+    &body[FIXED + body[1] as usize..]
 }
