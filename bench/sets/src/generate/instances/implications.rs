@@ -55,12 +55,16 @@ fn initial_word(s: &mut Setting) -> Lemma {
     implies(26, Assertion::Start, right, &[])
 }
 
-/// Rule 27 has an instance only where there is a register.
+/// Rule 27 has an instance only where there is a register that starts at 0. Now and then the register is open, and the
+/// line not justified.
 fn initial_register(s: &mut Setting) -> Lemma {
-    if s.header.counts.registers == 0 {
+    let wanted = if s.random.chance(15) { 0 } else { 1 };
+    let registers: Vec<u8> =
+        (1..).zip(&s.header.marks).filter(|(_, mark)| **mark == wanted).map(|(r, _)| r).collect();
+    if registers.is_empty() {
         return initial_word(s);
     }
-    let register = Value::Register(s.random.between(1, s.header.counts.registers));
+    let register = Value::Register(*s.random.pick(&registers));
     let zero = Test::equal(register, Value::Constant(0));
     implies(27, Assertion::Start, Assertion::holds(zero), &[])
 }
