@@ -58,9 +58,11 @@ fn initial_word(s: &mut Setting) -> Lemma {
 /// Rule 27 has an instance only where there is a register that starts at 0. Now and then the register is open, and the
 /// line not justified.
 fn initial_register(s: &mut Setting) -> Lemma {
-    let wanted = if s.random.chance(15) { 0 } else { 1 };
-    let registers: Vec<u8> =
-        (1..).zip(&s.header.marks).filter(|(_, mark)| **mark == wanted).map(|(r, _)| r).collect();
+    let cleared = |register: &u8| s.header.is_cleared(*register);
+    let registers = 1..=s.header.counts.registers;
+    let (cleared, open): (Vec<u8>, Vec<u8>) = registers.partition(cleared);
+    let trusts_open = !open.is_empty() && s.random.chance(15);
+    let registers = if trusts_open { open } else { cleared };
     if registers.is_empty() {
         return initial_word(s);
     }
