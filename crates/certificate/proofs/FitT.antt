@@ -46,7 +46,7 @@ use Rattle.rows.proofs.Link.{impToTree, toTree-rows, toTree-table}
 use Rattle.matcher.specs.Template.{firstHole, firstNumber, formulaHole, numHole, patternToTree, Holes, instT, fillOf}
 use Rattle.matcher.specs.Match.{Taken, andThen, when, matchT}
 use Rattle.certificate.specs.FitT
-use Rattle.certificate.specs.FitT.{inclusion, implication, hoare, TreeConclusion, concluded, Acting, acting, formOf, leftOf, rightOf, placed, matchSides, matchLine, matchAll, isImplication, matchPremises, preset, orElse, holesFrom, replacing, apartT, keepsT, freshT, sideT, operationT, restT, answer, fitsAt, fitsT}
+use Rattle.certificate.specs.FitT.{inclusion, implication, hoare, TreeConclusion, concluded, Acting, acting, formOf, leftOf, rightOf, placed, matchSides, matchLine, matchAll, isImplication, matchPremises, preset, orElse, holesFrom, replacing, apartT, keepsT, freshT, sideT, operationT, setup, restT, answer, fitsAt, fitsT}
 use Rattle.matcher.proofs.Match.{Has, match-sound, then-some, when-some, Goes, goes-then, goes-when, match-goes}
 use Rattle.matcher.proofs.Template.{Agrees, from-tree}
 
@@ -234,13 +234,13 @@ module _ (P : Program) (i k : ℕ) (σ : Fill) (d : Holes) (two : 2 ≤ P .range
   abbrev a : Acting
   a = acting (half P i k)
 
-  replaced-same : {s : Sort} (b : By) (f h : Formula s) → sameTree (replaceT (replacing (P .range) (P .init) a b) (toTree f)) (toTree h) ≡ same h (replace (by P i k b) f)
+  replaced-same : {s : Sort} (b : By) (f h : Formula s) → sameTree (replaceT (replacing a b) (toTree f)) (toTree h) ≡ same h (replace (by P i k b) f)
   replaced-same by-notes f h = as-formula (notes (notesOf (half P i k))) f h (toTree-notes (notesOf (half P i k)) f)
   replaced-same r-by-x f h = as-formula (regBy (g .r) (word (g .x))) f h (toTree-reg (g .r) (word (g .x)) f)
   replaced-same x-by-f f h = as-formula (wordBy (g .x) (g .f)) f h (toTree-word (g .x) (g .f) f)
 
   -- what rule 1 and rule 13 ask of a formula: the word in no role, nor the result register
-  apart-same : {s : Sort} (c : Instr) (h : Formula s) → apartT (P .range) (P .init) (acting c) (toTree h) ≡ only (apartOf c) h
+  apart-same : {s : Sort} (c : Instr) (h : Formula s) → apartT (acting c) (toTree h) ≡ only (apartOf c) h
   apart-same (act none []) h = alone (word-same 0 h)
   apart-same (act none (n ∷ ns)) h = alone (word-same 0 h)
   apart-same (act (load true r x) ns) h = alone (word-same x h)
@@ -252,7 +252,7 @@ module _ (P : Program) (i k : ℕ) (σ : Fill) (d : Holes) (two : 2 ≤ P .range
   apart-same (act (write (fetchAdd r) x f) ns) h = both-same r x h
   apart-same (branch e n) h = alone (word-same 0 h)
 
-  keeps-same : (c : Instr) (h : Assertion) → keepsT (P .range) (P .init) (acting c) (toTree h) ≡ keeps c h
+  keeps-same : (c : Instr) (h : Assertion) → keepsT (acting c) (toTree h) ≡ keeps c h
   keeps-same (act none []) h = refl
   keeps-same (act none (n ∷ ns)) h = refl
   keeps-same (act (load true r x) ns) h = register-same r h
@@ -265,7 +265,7 @@ module _ (P : Program) (i k : ℕ) (σ : Fill) (d : Holes) (two : 2 ≤ P .range
   keeps-same (branch e n) h = refl
 
   -- what the new write holds
-  fresh-same : (c : Instr) → freshT (P .range) (P .init) (acting c) ≡ toTree (freshOf c)
+  fresh-same : (c : Instr) → freshT (acting c) ≡ toTree (freshOf c)
   fresh-same (act none []) = refl
   fresh-same (act none (n ∷ ns)) = refl
   fresh-same (act (load true r x) ns) = refl
@@ -279,18 +279,18 @@ module _ (P : Program) (i k : ℕ) (σ : Fill) (d : Holes) (two : 2 ≤ P .range
 
   -- the holes of a side condition
   abbrev Same : Statement → List Statement → Side → Type 0
-  Same s ps z = sideT (P .range) (P .init) a d (concluded s) (map concluded ps) z ≡ sideHolds P i k σ s ps z
+  Same s ps z = sideT (setup P) a d (concluded s) (map concluded ps) z ≡ sideHolds P i k σ s ps z
 
   is-same : {r : Sort} (p q : Pattern r) (b : By) (s : Statement) (ps : List Statement) → instT d (patternToTree p) ≡ toTree (inst g σ p) → instT d (patternToTree q) ≡ toTree (inst g σ q) → Same s ps (p is q with b)
   is-same p q b s ps e f =
-      ap₂ (λ (u v : Tree). sameTree (replaceT (replacing (P .range) (P .init) a b) u) v) f e
+      ap₂ (λ (u v : Tree). sameTree (replaceT (replacing a b) u) v) f e
       ∙ replaced-same b (inst g σ q) (inst g σ p)
 
   kept-same : (p : Pattern Sort.assertion) (s : Statement) (ps : List Statement) → instT d (patternToTree p) ≡ toTree (inst g σ p) → Same s ps (kept p)
-  kept-same p s ps e = ap (keepsT (P .range) (P .init) a) e ∙ keeps-same (half P i k) (inst g σ p)
+  kept-same p s ps e = ap (keepsT a) e ∙ keeps-same (half P i k) (inst g σ p)
 
   lacks-same : (p : Pattern Sort.interval) (s : Statement) (ps : List Statement) → instT d (patternToTree p) ≡ toTree (inst g σ p) → Same s ps (lacks-x p)
-  lacks-same p s ps e = ap (apartT (P .range) (P .init) a) e ∙ apart-same (half P i k) (inst g σ p)
+  lacks-same p s ps e = ap (apartT a) e ∙ apart-same (half P i k) (inst g σ p)
 
   new-same : (p : Pattern Sort.value) (s : Statement) (ps : List Statement) → instT d (patternToTree p) ≡ toTree (inst g σ p) → Same s ps (is-new p)
   new-same p s ps e = ap₂ sameTree e (fresh-same (half P i k)) ∙ toTree-same (inst g σ p) (freshOf (half P i k))
@@ -335,7 +335,7 @@ module _ (P : Program) (i k : ℕ) (σ : Fill) (d : Holes) (two : 2 ≤ P .range
   sides-same r24 ps (e₁, e₂) f h = let q2 : d .tree 2 ≡ toTree (σ .test 2) = cc in let q3 : d .tree 3 ≡ toTree (σ .test 3) = cc in (rows-same Rules.E Rules.F (filled P i k σ (row r24 .says)) ps q2 q3 (search and-left) (search and-right), tt)
   sides-same r25 ps e f h = tt
   sides-same r26 ps (e₁, e₂) f h = let q0 : d .tree 0 ≡ toTree (σ .value 0) = cc in let qy : d .num 4 ≡ σ .y = cc in (ap₂ (λ (u : Tree) (y : ℕ). sameTree u (toTree (const (P .init y)))) q0 qy ∙ toTree-same (σ .value 0) (const (P .init (σ .y))), tt)
-  sides-same r27 ps e f h = tt
+  sides-same r27 ps (e₁, e₂) f h = let qy : d .num 4 ≡ σ .y = cc in (ap (P .cleared) qy, tt)
   sides-same r30 ps (e₁, e₂) f h = let q2 : d .tree 2 ≡ toTree (σ .test 2) = cc in let q3 : d .tree 3 ≡ toTree (σ .test 3) = cc in (rows-same Rules.E Rules.F (filled P i k σ (row r30 .says)) ps q2 q3 (search and-left) (search and-right), tt)
   sides-same r31 ps e f h = tt
   sides-same r32 ps e f h = tt
@@ -471,15 +471,15 @@ module _ (P : Program) (i k : ℕ) (σ : Fill) where
   filled-of r49 = record { left = refl; right = refl; premises = tt; t = refl; x = refl; r = refl; f = refl }
 
 -- BOTH WAYS
-answer-some : {Z : Type 0} (R : ℕ) (init : ℕ → ℕ) (a : Acting) (o : Option Taken) (f : Taken → Bool) → T (answer R init a o f) → ((z : Taken) → o ≡ some z → T (f z) → Z) → Z
-answer-some R init a none f h k = absurd h
-answer-some R init a (some z) f h k = k z refl h
+answer-some : {Z : Type 0} (o : Option Taken) (f : Taken → Bool) → T (answer o f) → ((z : Taken) → o ≡ some z → T (f z) → Z) → Z
+answer-some none f h k = absurd h
+answer-some (some z) f h k = k z refl h
 
 module _ (P : Program) (two : 2 ≤ P .range) (i k : ℕ) (n : Rule) (s : Statement) (ps : List Statement) (values : T (boundedSides (P .range) s)) where
   abbrev c₀ : Acting
   c₀ = acting (half P i k)
 
-  operation-same : (m : Shape) (ops : List ℕ) → operationT (P .range) (P .init) c₀ (formOf m) ops ≡ operationFits P i k m ops
+  operation-same : (m : Shape) (ops : List ℕ) → operationT c₀ (formOf m) ops ≡ operationFits P i k m ops
   operation-same (inside p q) ops = refl
   operation-same (implies p q) ops = refl
   operation-same (triple p q) ops = refl
@@ -494,9 +494,9 @@ module _ (P : Program) (two : 2 ≤ P .range) (i k : ℕ) (n : Rule) (s : Statem
 
     -- the side conditions are the same, for any filling that the line is
     sides-at : filled P i k σ (row n .says) ≡ s → PremisesFit P i k σ (row n .premises) ps
-        → All (λ d. sideT (P .range) (P .init) c₀ (holesFrom z) (concluded s) (map concluded ps) d ≡ sideHolds P i k σ s ps d) (row n .sides)
+        → All (λ d. sideT (setup P) c₀ (holesFrom z) (concluded s) (map concluded ps) d ≡ sideHolds P i k σ s ps d) (row n .sides)
     sides-at q f =
-        subst (λ (w : Statement). All (λ d. sideT (P .range) (P .init) c₀ (holesFrom z) (concluded w) (map concluded ps) d ≡ sideHolds P i k σ w ps d) (row n .sides)) q
+        subst (λ (w : Statement). All (λ d. sideT (setup P) c₀ (holesFrom z) (concluded w) (map concluded ps) d ≡ sideHolds P i k σ w ps d) (row n .sides)) q
         (sides-same P i k σ (holesFrom z) two n ps
         (line-fits .1 .left ∙ ap (λ (w : Statement). concluded w .left) (sym q), line-fits .1 .right ∙ ap (λ (w : Statement). concluded w .right) (sym q)) f
         (subst (λ (w : Statement). T (boundedSides (P .range) w)) (sym q) values))
@@ -510,14 +510,14 @@ module _ (P : Program) (two : 2 ≤ P .range) (i k : ℕ) (n : Rule) (s : Statem
   all-back f h (d ∷ l) e t = (subst T (sym (e .0)) (t .0), all-back f h l (e .1) (t .1))
 
   -- fits on trees: the row's shapes, filled with what stands in the holes
-  pub tree-fit : {Z : Type 0} → T (fitsAt (P .range) (P .init) c₀ i k (row n) (concluded s) (map concluded ps)) → ((σ : Fill) → Fit P i k σ (row n) s ps → Z) → Z
+  pub tree-fit : {Z : Type 0} → T (fitsAt (setup P) c₀ i k (row n) (concluded s) (map concluded ps)) → ((σ : Fill) → Fit P i k σ (row n) s ps → Z) → Z
   tree-fit {Z} h goal =
-      answer-some (P .range) (P .init) c₀ (andThen (matchLine i k (row n .says) (concluded s) (preset i c₀)) (matchPremises i k (row n .premises) (map concluded ps))) _ h λ z ez rest.
+      answer-some (andThen (matchLine i k (row n .says) (concluded s) (preset i c₀)) (matchPremises i k (row n .premises) (map concluded ps))) _ h λ z ez rest.
       then-some (matchLine i k (row n .says) (concluded s) (preset i c₀)) (matchPremises i k (row n .premises) (map concluded ps)) z ez λ b eb kb.
       goal (fillOf (holesFrom z)) (fitting z b eb kb rest)
     where
       fitting : (z b : Taken) → matchLine i k (row n .says) (concluded s) (preset i c₀) ≡ some b → matchPremises i k (row n .premises) (map concluded ps) b ≡ some z
-          → T (restT (P .range) (P .init) c₀ (row n) (concluded s) (map concluded ps) z) → Fit P i k (fillOf (holesFrom z)) (row n) s ps
+          → T (restT (setup P) c₀ (row n) (concluded s) (map concluded ps) z) → Fit P i k (fillOf (holesFrom z)) (row n) s ps
       fitting z b eb kb rest =
           let c : Holes = holesFrom z in
           let x : Has c (preset i c₀) × Fits c i k (row n .says) (concluded s) = line-fits (fillOf c) z b eb kb in
@@ -529,8 +529,8 @@ module _ (P : Program) (two : 2 ≤ P .range) (i k : ℕ) (n : Rule) (s : Statem
           } in
           let says : filled P i k (fillOf c) (row n .says) ≡ s = says-from P i k c ag (row n .says) s (x .1) in
           let premises : PremisesFit P i k (fillOf c) (row n .premises) ps = premises-from P i k c ag (row n .premises) ps (premises-fit (fillOf c) z b eb kb) in
-          let ops : Bool = operationT (P .range) (P .init) c₀ (formOf (row n .says)) (row n .operations) in
-          let sides : Bool = all (sideT (P .range) (P .init) c₀ c (concluded s) (map concluded ps)) (row n .sides) in
+          let ops : Bool = operationT c₀ (formOf (row n .says)) (row n .operations) in
+          let sides : Bool = all (sideT (setup P) c₀ c (concluded s) (map concluded ps)) (row n .sides) in
           record {
             says = says;
             premises = premises;
@@ -573,7 +573,7 @@ module _ (P : Program) (two : 2 ≤ P .range) (i k : ℕ) (n : Rule) (s : Statem
   premises-to c σ implications f e = subst T (sym (ap₂ (λ n b. leb n Limits.premises && b) (length-concluded ps) (all-imp-concluded ps))) e
 
   -- the row's shapes filled: fits on trees
-  pub fit-tree : (σ : Fill) → Fit P i k σ (row n) s ps → T (fitsAt (P .range) (P .init) c₀ i k (row n) (concluded s) (map concluded ps))
+  pub fit-tree : (σ : Fill) → Fit P i k σ (row n) s ps → T (fitsAt (setup P) c₀ i k (row n) (concluded s) (map concluded ps))
   fit-tree σ f =
       let c : Holes = holes P i k σ n in
       let fl : Filled P i k σ n = filled-of P i k σ n in
@@ -583,13 +583,13 @@ module _ (P : Program) (two : 2 ≤ P .range) (i k : ℕ) (n : Rule) (s : Statem
       goes-then c (matchLine i k (row n .says) (concluded s) (preset i c₀)) (matchPremises i k (row n .premises) (map concluded ps))
       (line-goes c i k (row n .says) (concluded s) (preset i c₀) here (has-preset σ))
       (λ z hz. premises-goes c i k (row n .premises) (map concluded ps) z (premises-to c σ (row n .premises) (fl .premises) (f .premises)) hz) in
-      subst (λ (o : Option Taken). T (answer (P .range) (P .init) c₀ o (restT (P .range) (P .init) c₀ (row n) (concluded s) (map concluded ps)))) (sym (ga .is)) (rest (ga .to) (ga .is))
+      subst (λ (o : Option Taken). T (answer o (restT (setup P) c₀ (row n) (concluded s) (map concluded ps)))) (sym (ga .is)) (rest (ga .to) (ga .is))
     where
       rest : (z : Taken) → andThen (matchLine i k (row n .says) (concluded s) (preset i c₀)) (matchPremises i k (row n .premises) (map concluded ps)) ≡ some z
-          → T (restT (P .range) (P .init) c₀ (row n) (concluded s) (map concluded ps) z)
+          → T (restT (setup P) c₀ (row n) (concluded s) (map concluded ps) z)
       rest z ez =
           then-some (matchLine i k (row n .says) (concluded s) (preset i c₀)) (matchPremises i k (row n .premises) (map concluded ps)) z ez λ b eb kb.
-          and-both (operationT (P .range) (P .init) c₀ (formOf (row n .says)) (row n .operations)) (all (sideT (P .range) (P .init) c₀ (holesFrom z) (concluded s) (map concluded ps)) (row n .sides))
+          and-both (operationT c₀ (formOf (row n .says)) (row n .operations)) (all (sideT (setup P) c₀ (holesFrom z) (concluded s) (map concluded ps)) (row n .sides))
           (subst T (sym (operation-same (row n .says) (row n .operations))) (f .op))
           (All-all _ (row n .sides) (all-back _ _ (row n .sides) (sides-at σ z b eb kb (f .says) (f .premises)) (f .side)))
 
@@ -606,9 +606,9 @@ point-concluded (Statement.triple j m a b) = refl
 -- THE BRIDGE
 -- with two values at least, so that there are rows; and with constants that are values, so that sums are modulo the range
 pub bridge : (P : Program) → 2 ≤ P .range → (n : Rule) (s : Statement) (ps : List Statement) → T (boundedSides (P .range) s)
-    → fitsT (P .range) (P .init) (acting (half P (concluded s .thread) (concluded s .point))) n (concluded s) (map concluded ps) ≡ fits P n s ps
+    → fitsT (setup P) (acting (half P (concluded s .thread) (concluded s .point))) n (concluded s) (map concluded ps) ≡ fits P n s ps
 bridge P two n s ps values =
-    subst₂ (λ (i k : ℕ). fitsAt (P .range) (P .init) (acting (half P i k)) i k (row n) (concluded s) (map concluded ps) ≡ fits P n s ps) (sym (thread-concluded s)) (sym (point-concluded s))
-    (bool-ext (fitsAt (P .range) (P .init) (acting (half P (threadOf s) (pointOf s))) (threadOf s) (pointOf s) (row n) (concluded s) (map concluded ps)) (fits P n s ps)
+    subst₂ (λ (i k : ℕ). fitsAt (setup P) (acting (half P i k)) i k (row n) (concluded s) (map concluded ps) ≡ fits P n s ps) (sym (thread-concluded s)) (sym (point-concluded s))
+    (bool-ext (fitsAt (setup P) (acting (half P (threadOf s) (pointOf s))) (threadOf s) (pointOf s) (row n) (concluded s) (map concluded ps)) (fits P n s ps)
     (λ h. tree-fit P two (threadOf s) (pointOf s) n s ps values h (λ σ f. rule-fits P n s ps (rule-of P n σ s ps f)))
     (λ h. fit-tree P two (threadOf s) (pointOf s) n s ps values (found (row n) s ps) (fit P n s ps h)))

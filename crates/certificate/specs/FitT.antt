@@ -16,7 +16,7 @@ use Rattle.logic.specs.Statement.{Statement}
 use Rattle.patterns.specs.Pattern
 use Rattle.patterns.specs.Rules
 use Rattle.logic.specs.Rule.{Rule}
-use Rattle.patterns.specs.Rules.{Shape, Shape.inside, Shape.implies, Shape.triple, Premises, these, implications, By, by-notes, r-by-x, x-by-f, Side, _is_with_, start-of, is-new, kept, lacks-x, no-flag, by-rows, by-table, Row, row}
+use Rattle.patterns.specs.Rules.{Shape, Shape.inside, Shape.implies, Shape.triple, Premises, these, implications, By, by-notes, r-by-x, x-by-f, Side, _is_with_, start-of, starts-at-0, is-new, kept, lacks-x, no-flag, by-rows, by-table, Row, row}
 use Rattle.patterns.specs.Fits.{isAmong, opcode, wordOf, regOf, formulaOf, notesOf, threadOf, pointOf}
 use Rattle.formula.specs.Tree.{Tree, Tree.node}
 use Rattle.compare.specs.Same.{sameTree}
@@ -118,8 +118,21 @@ holesFrom b = record { num = λ j. orElse 0 (b .num j); tree = λ j. orElse Tree
 abbrev pub impOf : TreeConclusion → ImpT
 impOf v = record { left = v .left; right = v .right }
 
--- R: how many values there are; init: the start values; a: the instruction
-module _ (R : ℕ) (init : ℕ → ℕ) (a : Acting) where
+-- what rules ask of the program besides its instructions: how many values there are, what words start with, and which registers start at 0
+pub record Setup : Type 0 where
+  pub range : ℕ
+  pub init : ℕ → ℕ
+  pub cleared : ℕ → Bool
+
+abbrev pub setup : Program → Setup
+setup P = record { range = P .range; init = P .init; cleared = P .cleared }
+
+abbrev pub answer : Option Taken → (Taken → Bool) → Bool
+answer none f = false
+answer (some b) f = f b
+
+-- a: the instruction
+module _ (a : Acting) where
   -- what is replaced by what
   abbrev pub replacing : By → ℕ → ℕ → Tree
   replacing by-notes = named (a .notes)
@@ -143,25 +156,23 @@ module _ (R : ℕ) (init : ℕ → ℕ) (a : Acting) where
     | false ↦ a .formula
   ]
 
-  abbrev pub sideT : Holes → TreeConclusion → List TreeConclusion → Side → Bool
-  sideT c v vs (p is q with b) = sameTree (replaceT (replacing b) (instT c (patternToTree q))) (instT c (patternToTree p))
-  sideT c v vs (start-of n p) = sameTree (instT c (patternToTree p)) (node (byte Code.const) (init (c .num (numHole n))) Tree.none Tree.none)
-  sideT c v vs (is-new p) = sameTree (instT c (patternToTree p)) freshT
-  sideT c v vs (kept p) = keepsT (instT c (patternToTree p))
-  sideT c v vs (lacks-x p) = apartT (instT c (patternToTree p))
-  sideT c v vs (no-flag p) = not (occurs (flag (a .word)) [] (instT c (patternToTree p)))
-  sideT c v vs (by-rows p q) = rowsT R (instT c (patternToTree p)) (instT c (patternToTree q))
-  sideT c v vs by-table = tableT (map impOf vs) (impOf v)
-
   abbrev pub operationT : ℕ → List ℕ → Bool
   operationT f ops = not (eqb f hoare) || isAmong (a .operation) ops
 
-  abbrev pub restT : Row → TreeConclusion → List TreeConclusion → Taken → Bool
-  restT W v vs b = operationT (formOf (W .says)) (W .operations) && all (sideT (holesFrom b) v vs) (W .sides)
+module _ (h : Setup) (a : Acting) where
+  abbrev pub sideT : Holes → TreeConclusion → List TreeConclusion → Side → Bool
+  sideT c v vs (p is q with b) = sameTree (replaceT (replacing a b) (instT c (patternToTree q))) (instT c (patternToTree p))
+  sideT c v vs (start-of n p) = sameTree (instT c (patternToTree p)) (node (byte Code.const) (h .init (c .num (numHole n))) Tree.none Tree.none)
+  sideT c v vs (starts-at-0 n) = h .cleared (c .num (numHole n))
+  sideT c v vs (is-new p) = sameTree (instT c (patternToTree p)) (freshT a)
+  sideT c v vs (kept p) = keepsT a (instT c (patternToTree p))
+  sideT c v vs (lacks-x p) = apartT a (instT c (patternToTree p))
+  sideT c v vs (no-flag p) = not (occurs (flag (a .word)) [] (instT c (patternToTree p)))
+  sideT c v vs (by-rows p q) = rowsT (h .range) (instT c (patternToTree p)) (instT c (patternToTree q))
+  sideT c v vs by-table = tableT (map impOf vs) (impOf v)
 
-  abbrev pub answer : Option Taken → (Taken → Bool) → Bool
-  answer none f = false
-  answer (some b) f = f b
+  abbrev pub restT : Row → TreeConclusion → List TreeConclusion → Taken → Bool
+  restT W v vs b = operationT a (formOf (W .says)) (W .operations) && all (sideT (holesFrom b) v vs) (W .sides)
 
   -- for the instruction at the point k of thread i
   abbrev pub fitsAt : ℕ → ℕ → Row → TreeConclusion → List TreeConclusion → Bool

@@ -26,7 +26,7 @@ use Rattle.frames.proofs.Passed.{framed}
 use Rattle.frames.proofs.Counted.{lines-few}
 use Rattle.program.specs.declared.sizes.Sizes.{Sizes}
 use Rattle.program.specs.Header as Header
-use Rattle.program.specs.Header.{valueRange, startValues, owners, headed, header}
+use Rattle.program.specs.Header.{valueRange, startValues, owners, marks, headed, header}
 use Rattle.program.proofs.Laws.Header.{counted-in}
 use Rattle.image.specs.Body.{placeOf, check}
 use Rattle.image.specs.Decode as Decode
@@ -134,7 +134,7 @@ pub header-threads : (t : ℕ) (b : List ℕ) → header t b ≡ Passed → getD
 unfolding header headed
 header-threads t b e =
     let h = unless-passed _ _ _ (unless-passed _ _ _ (unless-passed _ _ _ e .1) .1) .0 in
-    let lists = every (within 0 (valueRange b - 1)) (startValues b) && every (within 1 (getD b 0 0)) (owners b) in
+    let lists = every (within 0 (valueRange b - 1)) (startValues b) && (every (within 1 (getD b 0 0)) (owners b) && every (within 0 1) (marks b)) in
     counted-in t b (and-true (Header.counted t b) lists h .0) .threads .1
 
 refused-number : (f g : Fault) (i r : ℕ) → _≡_ {A = Decoded} (Refused f i) (Refused g r) → i ≡ r

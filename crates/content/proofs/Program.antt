@@ -25,7 +25,7 @@ use Rattle.formula.specs.Reader.{sortOf}
 use Rattle.program.specs.declared.sizes.Sizes.{Sizes}
 use Rattle.program.specs.declared.instruction.Instruction.{Instruction}
 use Rattle.program.specs.declared.instruction.Fields.{Fields}
-use Rattle.program.specs.Header.{startValues, owners, counted, headed, header}
+use Rattle.program.specs.Header.{startValues, owners, marks, counted, headed, header}
 use Rattle.program.specs.Instruction.{inside, fieldsOf, fieldsFit, ranged}
 use Rattle.program.specs.Thread.{lastPoint, instructions, nothing, numbered, threadNumbers}
 use Rattle.program.proofs.Laws.Header.{counted-in}
@@ -76,7 +76,7 @@ module _ (z : Sizes) (l : List (List ℕ)) (c : Checks z l) where
   started = every (within 0 (P .range - 1)) (startValues (getD l 0 []))
 
   abbrev owning : Bool
-  owning = every (within 1 (getD (getD l 0 []) 0 0)) (owners (getD l 0 []))
+  owning = every (within 1 (getD (getD l 0 []) 0 0)) (owners (getD l 0 [])) && every (within 0 1) (marks (getD l 0 []))
 
   header-counted : counted (c .counted) (getD l 0 []) ≡ true
   unfolding headed

@@ -11,7 +11,7 @@ use Rattle.logic.specs.EveryRun.{Outline}
 use Rattle.limits.specs.Numbers.{nth, numbers}
 use Rattle.program.specs.declared.sizes.Sizes.{Sizes}
 use Rattle.program.specs.declared.instruction.Instruction.{Instruction}
-use Rattle.program.specs.Header.{startValues, valueRange}
+use Rattle.program.specs.Header.{startValues, cleared, valueRange}
 use Rattle.program.specs.Thread.{lastPoint}
 use Rattle.records.specs.Places.{threadBody, instructionOf}
 use Rattle.records.specs.Tally.{tallyTo, tally}
@@ -52,6 +52,7 @@ module _ (z : Sizes) (l : List (List ℕ)) where
     words = z .words;
     range = valueRange (getD l 0 []);
     init = λ x. nth (startValues (getD l 0 [])) x 0;
+    cleared = cleared (getD l 0 []);
     points = pointCount;
     code = λ t k. instr l (instructionOf z l t k);
   }

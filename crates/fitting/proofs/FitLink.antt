@@ -40,7 +40,7 @@ use Rattle.conclusions.specs.declared.conclusion.Premises as Conclusions
 use Rattle.conclusions.proofs.Follow.{StandAll, ConclusionFollows, conclusion-follows, from-follows}
 use Rattle.fitting.proofs.Presets.{preset-sized, preset-taken}
 use Rattle.conclusions.proofs.Row.{row-form, row-premises, row-few, row-forms, row-side, row-stands, row-operations}
-use Rattle.sides.proofs.SidesLink.{rangeOf, startOf, sides-are}
+use Rattle.sides.proofs.SidesLink.{setupIn, sides-are}
 
 -- PREMISES
 
@@ -129,7 +129,7 @@ module _ (s : List ℕ) (n : Rule) (l : Line) (named : l .rule ≡ numberOf n) (
   form-is : w .form ≡ formOf (row n .says)
   form-is = its (λ r. r .form) ∙ row-form n
 
-  operation-is : operationT (rangeOf s) (startOf s) A (formOf (row n .says)) (row n .operations) ≡ isAllowed w (a .operation)
+  operation-is : operationT A (formOf (row n .says)) (row n .operations) ≡ isAllowed w (a .operation)
   unfolding isAllowed member
   operation-is = rw (form-is, lt-ltb (a .operation) 32 (omega arith)) (go (eqb (formOf (row n .says)) hoare) ∙ ap (λ (x : Bool). cond (eqb (formOf (row n .says)) hoare) x true) bits)
     where
@@ -140,7 +140,7 @@ module _ (s : List ℕ) (n : Rule) (l : Line) (named : l .rule ≡ numberOf n) (
       bits : isAmong (a .operation) (row n .operations) ≡ allows (w .operations) (a .operation)
       bits = sym (its (λ r. allows (r .operations) (a .operation)) ∙ row-operations n (a .operation) known)
 
-  rest-is : (b : Bind) → restT (rangeOf s) (startOf s) A (row n) (concludedAt s c) (says s p) (takenOf s b) ≡ restAt s w a c p b
+  rest-is : (b : Bind) → restT (setupIn s) A (row n) (concludedAt s c) (says s p) (takenOf s b) ≡ restAt s w a c p b
   unfolding restAt
   rest-is b = and-where _ _ _ _ operation-is (λ e. sides-are s b a c p few n e ∙ ap (λ (k : ℕ). asked s k b a c p) (sym (its (λ r. r .side) ∙ row-side n)))
 
@@ -171,17 +171,17 @@ module _ (s : List ℕ) (n : Rule) (l : Line) (named : l .rule ≡ numberOf n) (
       (subst (λ (i : ℕ). StandAll templates i (shapes (row n .premises))) (sym (follows .tpl o)) (stands .1))
 
   abbrev asks : Taken → Bool
-  asks = restT (rangeOf s) (startOf s) A (row n) (concludedAt s c) (says s p)
+  asks = restT (setupIn s) A (row n) (concludedAt s c) (says s p)
 
-  pub fits-same : fitsT (rangeOf s) (startOf s) A n (concludedAt s c) (says s p) ≡ fitsRow s templates l a p
+  pub fits-same : fitsT (setupIn s) A n (concludedAt s c) (says s p) ≡ fitsRow s templates l a p
   unfolding fitsRow lineMatch
-  fits-same = ap (λ (o : Option Taken). answer (rangeOf s) (startOf s) A (andThen o (FitT.matchPremises (c .thread) (c .point) (row n .premises) (says s p))) asks) line-same ∙ go (m .ok) refl
+  fits-same = ap (λ (o : Option Taken). answer (andThen o (FitT.matchPremises (c .thread) (c .point) (row n .premises) (says s p))) asks) line-same ∙ go (m .ok) refl
     where
-      then : (k : Bool) → answer (rangeOf s) (startOf s) A (given s k (q .bind)) asks ≡ cond k (restAt s w a c p (q .bind)) false
+      then : (k : Bool) → answer (given s k (q .bind)) asks ≡ cond k (restAt s w a c p (q .bind)) false
       then true = rest-is (q .bind)
       then false = refl
 
-      go : (k : Bool) → m .ok ≡ k → answer (rangeOf s) (startOf s) A (andThen (given s k (m .bind)) (FitT.matchPremises (c .thread) (c .point) (row n .premises) (says s p))) asks
+      go : (k : Bool) → m .ok ≡ k → answer (andThen (given s k (m .bind)) (FitT.matchPremises (c .thread) (c .point) (row n .premises) (says s p))) asks
           ≡ cond k (cond (q .ok) (restAt s w a c p (q .bind)) false) false
-      go true e = ap (λ (o : Option Taken). answer (rangeOf s) (startOf s) A o asks) (rests-same e) ∙ then (q .ok)
+      go true e = ap (λ (o : Option Taken). answer o asks) (rests-same e) ∙ then (q .ok)
       go false e = refl

@@ -38,7 +38,7 @@ use Rattle.conclusions.specs.Premises.{premiseConclusion, premisesOf}
 use Rattle.fitting.specs.Fit.{actingIn, fitsLine}
 use Rattle.conclusions.specs.declared.conclusion.Premises as Conclusions
 use Rattle.conclusions.proofs.Stated.{rule-number, line-listed, conclusion-trees}
-use Rattle.sides.proofs.SidesLink.{rangeOf, startOf}
+use Rattle.sides.proofs.SidesLink.{setupIn}
 use Rattle.fitting.proofs.FitLink.{says, fits-same}
 
 -- operations are 0 to 8
@@ -121,7 +121,7 @@ module _ (s : List ℕ) (z : Sizes) (c : Checks z (bodies s)) where
     acting-there = sym acting-concluded ∙ ap₂ (λ (t k : ℕ). acting (half P t k)) (ap (λ (v : TreeConclusion). v .thread) (conclusion-trees s z c n w)) (ap (λ (v : TreeConclusion). v .point) (conclusion-trees s z c n w))
 
     abbrev fitted : FitT.Acting → TreeConclusion → List TreeConclusion → Bool
-    fitted a v vs = fitsT (rangeOf s) (startOf s) a (ruleOf (its .rule)) v vs
+    fitted a v vs = fitsT (setupIn s) a (ruleOf (its .rule)) v vs
 
     -- what the code answers is what the rules say
     pub fits-is : fitsLine s templates z n ≡ lineFits P C n

@@ -1,36 +1,18 @@
 -- Computed runs, worked out by hand from the scope page: message passing; a swap, a write in the middle of a row, a covered write that is read; exchange and fetch-add;
--- marks and views handed on.
+-- marks and views handed on; a register that starts anywhere.
 use mathlib.Core.Path.{_≡_, refl}
-use mathlib.Core.Bool.{Bool, true, false, cond}
+use mathlib.Core.Bool.{Bool, true, false, not, cond}
 use mathlib.Core.List.{List, [], _∷_, map}
 use Prim.Native.Nat.{ℕ, zero, suc}
+use lib.Dec.{eqb}
 use Rattle.logic.specs.Base.{upd}
 use Rattle.logic.specs.Formula.{Formula.const, Formula.reg, Formula.sum, Formula.equal}
-use Rattle.logic.specs.Machine.{View, Write, State, Program, Mode.store, Mode.swap, Mode.exchange, Mode.fetchAdd, Access.none, Access.load, Access.write, Instr, Instr.act, Instr.branch, Start, Step, run, up, down}
+use Rattle.logic.specs.Machine.{View, Write, State, Program, Mode.store, Mode.swap, Mode.exchange, Mode.fetchAdd, Access.none, Access.load, Access.write, Instr, Instr.act, Instr.branch, Step, begin, run, up, down}
 use Rattle.logic.specs.Obligations.{below, upTo}
 
--- there is a start state
-unfoldable pub begin : Program → State
-begin P = record {
-  size = λ x. 1;
-  row = λ x i. record { value = P .init x; releasing = false; covered = false; stored = λ y. 0 };
-  view = λ t x. 0;
-  reg = λ r. 0;
-  point = λ t. 0;
-}
-
-pub begins : (P : Program) → Start P (begin P)
-unfolding begin
-begins P = record {
-  one-write = λ x. refl;
-  given-value = λ x. refl;
-  not-releasing = λ x. refl;
-  not-covered = λ x. refl;
-  stored-views = λ x y. refl;
-  views = λ t x. refl;
-  registers = λ r. refl;
-  points = λ t. refl;
-}
+-- the start with 0 in every register
+abbrev pub begun : Program → State
+begun P = begin P (λ r. 0)
 
 -- a write as it is drawn: value, releasing, covered (1 for yes), the positions that its stored view names of words 1 and 2
 record Drawn : Type 0 where
@@ -91,6 +73,7 @@ message-passing = record {
   words = 2;
   range = 8;
   init = λ x. 0;
+  cleared = λ r. true;
   points = upd (upd (λ t. 1) 1 3) 2 4;
   code = upd (upd (λ t k. nothing) 1 (at-points sender)) 2 (at-points receiver);
 }
@@ -110,7 +93,7 @@ polled =
     ∷ []
 
 -- the flag is there, and thread 2 has not seen it
-before : picture (run message-passing (begin message-passing) polled) ≡ record {
+before : picture (run message-passing (begun message-passing) polled) ≡ record {
   rows =
       (write-of 0 0 0 (0 ∷ 0 ∷ []) ∷ write-of 1 0 0 (1 ∷ 0 ∷ []) ∷ [])
       ∷ (write-of 0 0 0 (0 ∷ 0 ∷ []) ∷ write-of 1 1 0 (1 ∷ 1 ∷ []) ∷ [])
@@ -119,7 +102,7 @@ before : picture (run message-passing (begin message-passing) polled) ≡ record
   registers = 0 ∷ 0 ∷ 0 ∷ [];
   points = 2 ∷ 0 ∷ 0 ∷ [];
 }
-unfolding begin draw yes-no picture write-of by nothing at-points sender receiver message-passing polled upd up down
+unfolding draw yes-no picture write-of by nothing at-points sender receiver message-passing polled upd up down
 before = refl
 
 received : List Step
@@ -130,7 +113,7 @@ received =
     ∷ by 2 1  -- reads the message
     ∷ []
 
-after : picture (run message-passing (run message-passing (begin message-passing) polled) received) ≡ record {
+after : picture (run message-passing (run message-passing (begun message-passing) polled) received) ≡ record {
   rows =
       (write-of 0 0 0 (0 ∷ 0 ∷ []) ∷ write-of 1 0 0 (1 ∷ 0 ∷ []) ∷ [])
       ∷ (write-of 0 0 0 (0 ∷ 0 ∷ []) ∷ write-of 1 1 0 (1 ∷ 1 ∷ []) ∷ [])
@@ -139,7 +122,7 @@ after : picture (run message-passing (run message-passing (begin message-passing
   registers = 1 ∷ 1 ∷ 0 ∷ [];
   points = 2 ∷ 3 ∷ 0 ∷ [];
 }
-unfolding begin draw yes-no picture write-of by nothing at-points sender receiver message-passing polled received upd up down
+unfolding draw yes-no picture write-of by nothing at-points sender receiver message-passing polled received upd up down
 after = refl
 
 -- ONE WORD, three threads: 1 stores 1; 2 swaps 2 in; 3 loads into register 3 and stores 3
@@ -149,6 +132,7 @@ mixed = record {
   words = 1;
   range = 8;
   init = λ x. 0;
+  cleared = λ r. true;
   points = upd (λ t. 2) 3 3;
   code = upd (upd (upd (λ t k. nothing) 1 (at-points (act (write (store false) 1 (const 1)) [] ∷ []))) 2 (at-points (act (write swap 1 (const 2)) [] ∷ [])))
       3 (at-points (act (load false 3 1) [] ∷ act (write (store false) 1 (const 3)) [] ∷ []));
@@ -163,7 +147,7 @@ middle =
     ∷ by 3 1  -- 0 covered, 2, 3, 1: in the middle again
     ∷ []
 
-covered-read : picture (run mixed (begin mixed) middle) ≡ record {
+covered-read : picture (run mixed (begun mixed) middle) ≡ record {
   rows =
       (write-of 0 0 1 (0 ∷ 0 ∷ []) ∷ write-of 2 1 0 (1 ∷ 0 ∷ []) ∷ write-of 3 0 0 (2 ∷ 0 ∷ []) ∷ write-of 1 0 0 (3 ∷ 0 ∷ []) ∷ [])
       ∷ (write-of 0 0 0 (0 ∷ 0 ∷ []) ∷ [])
@@ -172,7 +156,7 @@ covered-read : picture (run mixed (begin mixed) middle) ≡ record {
   registers = 0 ∷ 0 ∷ 0 ∷ [];
   points = 1 ∷ 1 ∷ 2 ∷ [];
 }
-unfolding begin draw yes-no picture write-of by nothing at-points mixed middle upd up down
+unfolding draw yes-no picture write-of by nothing at-points mixed middle upd up down
 covered-read = refl
 
 -- MARKS AND MIDDLES, two words. Thread 1 stores 1 to word 1, releasing 1 to word 2, then releasing 5 to word 2; thread 2 swaps 2 into word 2;
@@ -183,6 +167,7 @@ handed = record {
   words = 2;
   range = 8;
   init = λ x. 0;
+  cleared = λ r. true;
   points = upd (upd (λ t. 2) 1 4) 3 5;
   code = upd (upd (upd (λ t k. nothing) 1 (at-points (act (write (store false) 1 (const 1)) [] ∷ act (write (store true) 2 (const 1)) [] ∷ act (write (store true) 2 (const 5)) [] ∷ [])))
       2 (at-points (act (write swap 2 (const 2)) [] ∷ [])))
@@ -204,7 +189,7 @@ hand-over =
     ∷ by 4 0  -- refused: no thread 4, though it has an instruction, which would set register 1
     ∷ []
 
-handed-over : picture (run handed (begin handed) hand-over) ≡ record {
+handed-over : picture (run handed (begun handed) hand-over) ≡ record {
   rows =
       (write-of 0 0 0 (0 ∷ 0 ∷ []) ∷ write-of 1 0 0 (1 ∷ 0 ∷ []) ∷ [])
       ∷ (write-of 0 0 0 (0 ∷ 0 ∷ []) ∷ write-of 1 1 1 (1 ∷ 1 ∷ []) ∷ write-of 2 1 0 (1 ∷ 2 ∷ []) ∷ write-of 3 1 0 (1 ∷ 3 ∷ []) ∷ write-of 5 1 0 (1 ∷ 4 ∷ []) ∷ [])
@@ -213,12 +198,12 @@ handed-over : picture (run handed (begin handed) hand-over) ≡ record {
   registers = 1 ∷ 1 ∷ 1 ∷ [];
   points = 3 ∷ 1 ∷ 4 ∷ [];
 }
-unfolding begin draw yes-no picture write-of by nothing at-points handed hand-over upd up down
+unfolding draw yes-no picture write-of by nothing at-points handed hand-over upd up down
 handed-over = refl
 
 -- after the relaxed load alone
-seen-relaxed : map (run handed (begin handed) (by 1 0 ∷ by 1 0 ∷ by 2 1 ∷ by 3 1 ∷ []) .view 3) (upTo 2) ≡ 0 ∷ 1 ∷ []
-unfolding begin by nothing at-points handed upd up down
+seen-relaxed : map (run handed (begun handed) (by 1 0 ∷ by 1 0 ∷ by 2 1 ∷ by 3 1 ∷ []) .view 3) (upTo 2) ≡ 0 ∷ 1 ∷ []
+unfolding by nothing at-points handed upd up down
 seen-relaxed = refl
 
 -- a swap behind a write that is not releasing joins no view
@@ -228,12 +213,13 @@ dropped = record {
   words = 2;
   range = 8;
   init = λ x. 0;
+  cleared = λ r. true;
   points = upd (λ t. 2) 1 3;
   code = upd (upd (λ t k. nothing) 1 (at-points (act (write (store false) 2 (const 1)) [] ∷ act (write (store false) 1 (const 1)) [] ∷ []))) 2 (at-points (act (write swap 1 (const 4)) [] ∷ []));
 }
 
-not-joined : map (run dropped (begin dropped) (by 1 0 ∷ by 1 0 ∷ by 2 1 ∷ []) .view 2) (upTo 2) ≡ 2 ∷ 0 ∷ []
-unfolding begin by nothing at-points dropped upd up down
+not-joined : map (run dropped (begun dropped) (by 1 0 ∷ by 1 0 ∷ by 2 1 ∷ []) .view 2) (upTo 2) ≡ 2 ∷ 0 ∷ []
+unfolding by nothing at-points dropped upd up down
 not-joined = refl
 
 -- TICKETS. Word 1 counts, word 2 is a desk. Thread 1 takes 3 by fetch-add into register 1 and stores 4 to the desk, releasing.
@@ -245,6 +231,7 @@ tickets R = record {
   words = 2;
   range = R;
   init = λ x. 0;
+  cleared = λ r. true;
   points = upd (λ t. 4) 1 3;
   code = upd (upd (λ t k. nothing) 1 (at-points (act (write (fetchAdd 1) 1 (const 3)) [] ∷ act (write (store true) 2 (const 4)) [] ∷ [])))
       2 (at-points (act (write (exchange 3) 1 (const 7)) [] ∷ act (write (exchange 3) 2 (const 1)) [] ∷ act (write (fetchAdd 3) 1 (const 6)) [] ∷ []));
@@ -262,7 +249,7 @@ ticket-steps =
     ∷ by 2 2  -- takes that, stores it plus 6: of 8 values that is 0
     ∷ []
 
-tickets-taken : picture (run (tickets 8) (begin (tickets 8)) ticket-steps) ≡ record {
+tickets-taken : picture (run (tickets 8) (begun (tickets 8)) ticket-steps) ≡ record {
   rows =
       (write-of 0 0 1 (0 ∷ 0 ∷ []) ∷ write-of 7 1 1 (1 ∷ 0 ∷ []) ∷ write-of 2 1 1 (2 ∷ 0 ∷ []) ∷ write-of 0 1 0 (3 ∷ 2 ∷ []) ∷ [])
       ∷ (write-of 0 0 0 (0 ∷ 0 ∷ []) ∷ write-of 4 1 1 (2 ∷ 1 ∷ []) ∷ write-of 1 1 0 (2 ∷ 2 ∷ []) ∷ [])
@@ -271,22 +258,46 @@ tickets-taken : picture (run (tickets 8) (begin (tickets 8)) ticket-steps) ≡ r
   registers = 7 ∷ 0 ∷ 2 ∷ [];
   points = 2 ∷ 3 ∷ 0 ∷ [];
 }
-unfolding begin draw yes-no picture write-of by nothing at-points tickets ticket-steps upd up down
+unfolding draw yes-no picture write-of by nothing at-points tickets ticket-steps upd up down
 tickets-taken = refl
 
 -- before the last step: the exchange of the desk has put the old value, 4, into register 3
-exchanged : run (tickets 8) (begin (tickets 8)) (by 2 0 ∷ by 1 1 ∷ by 1 0 ∷ by 2 1 ∷ []) .reg 3 ≡ 4
-unfolding begin by nothing at-points tickets upd up down
+exchanged : run (tickets 8) (begun (tickets 8)) (by 2 0 ∷ by 1 1 ∷ by 1 0 ∷ by 2 1 ∷ []) .reg 3 ≡ 4
+unfolding by nothing at-points tickets upd up down
 exchanged = refl
 
 -- the count's values after the same steps, of 16 values and of 11
 counted-to : ℕ → List ℕ
-counted-to R = map (λ i. run (tickets R) (begin (tickets R)) ticket-steps .row 1 i .value) (below 4)
+counted-to R = map (λ i. run (tickets R) (begun (tickets R)) ticket-steps .row 1 i .value) (below 4)
 
 of-16 : counted-to 16 ≡ 0 ∷ 7 ∷ 10 ∷ 0 ∷ []
-unfolding begin by nothing at-points tickets ticket-steps counted-to upd up down
+unfolding by nothing at-points tickets ticket-steps counted-to upd up down
 of-16 = refl
 
 of-11 : counted-to 11 ≡ 0 ∷ 7 ∷ 10 ∷ 5 ∷ []
-unfolding begin by nothing at-points tickets ticket-steps counted-to upd up down
+unfolding by nothing at-points tickets ticket-steps counted-to upd up down
 of-11 = refl
+
+-- A REGISTER THAT STARTS ANYWHERE: register 1 does, registers 2 and 3 start at 0. Thread 1 stores the sum of registers 1 and 2
+unfoldable pub uncleared : Program
+uncleared = record {
+  threads = 1;
+  words = 1;
+  range = 8;
+  init = λ x. 0;
+  cleared = λ r. not (eqb r 1);
+  points = λ t. 2;
+  code = λ t. at-points (act (write (store false) 1 (sum (reg 1) (reg 2))) [] ∷ []);
+}
+
+-- 5 or 13 in register 1, modulo 8; what is given for the others does not count
+stored-from : ℕ → List ℕ
+stored-from v = map (λ i. run uncleared (begin uncleared (λ r. v)) (by 1 0 ∷ []) .row 1 i .value) (below 2)
+
+from-5 : stored-from 5 ≡ 0 ∷ 5 ∷ []
+unfolding by nothing at-points uncleared stored-from upd up down
+from-5 = refl
+
+from-13 : stored-from 13 ≡ 0 ∷ 5 ∷ []
+unfolding by nothing at-points uncleared stored-from upd up down
+from-13 = refl

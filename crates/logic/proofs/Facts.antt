@@ -12,12 +12,13 @@ use lib.Seq.{take-length, drop-length}
 use Rattle.logic.specs.Base.{upd, All}
 use Rattle.logic.specs.Formula.{Test, Formula, Formula.const, Formula.reg, Formula.word, Formula.equal, Formula.unsync, Formula.cov, Formula.box, Formula.one, Formula.chop, Formula.both, Formula.either, Formula.sees, Formula.start, Formula.holds}
 use Rattle.logic.specs.Eval.{Env, test}
-use Rattle.logic.specs.Machine.{View, State, Program, Mode.store, Access.write, Instr.act, at, run, up, down}
+use Rattle.logic.specs.Machine.{View, State, Program, Mode.store, Access.write, Instr.act, at, begin, run, up, down}
 use Rattle.logic.specs.Truth.{Sat, From, Names, Prospect, True}
 use Rattle.logic.proofs.Base.{upds, by-word}
 use Rattle.logic.proofs.Cuts.{All-map}
 use Rattle.logic.proofs.Prospects.{from-drop, from-all}
-use Rattle.logic.proofs.Computed.{begin, begins, by, nothing, at-points, sender, receiver, message-passing, mixed}
+use Rattle.logic.proofs.Starts.{begins}
+use Rattle.logic.proofs.Computed.{begun, by, nothing, at-points, sender, receiver, message-passing, mixed, uncleared}
 use Rattle.logic.proofs.Flags.{naming}
 
 -- PROSPECTS CUT IN TWO: from some place on the views are late
@@ -146,15 +147,16 @@ twins = record {
   words = 1;
   range = 8;
   init = λ x. 0;
+  cleared = λ r. true;
   points = upd (λ t. 1) 1 2;
   code = upd (λ t k. nothing) 1 (at-points (act (write (store false) 1 (const 0)) [] ∷ []));
 }
 
 twinned : State
-twinned = run twins (begin twins) (by 1 0 ∷ [])
+twinned = run twins (begun twins) (by 1 0 ∷ [])
 
 twinned-small : Small twinned 2
-unfolding begin by nothing at-points twins twinned upd up down
+unfolding by nothing at-points twins twinned upd up down
 twinned-small = record {
   filled = by-word 1 _ (omega arith) (λ y q. rw (ne-eqb y 1 q) (omega arith));
   first = λ y p q. rw (ne-eqb y 1 p);
@@ -162,14 +164,14 @@ twinned-small = record {
 
 -- thread 2 may go from the one write to the other
 two-writes : True twins twinned (sees 2 (one 1)) → ⊥
-unfolding begin by nothing at-points twins twinned upd naming up down
+unfolding by nothing at-points twins twinned upd naming up down
 two-writes h =
     let r = h (naming 0 0 ∷ naming 1 0 ∷ []) (twice twinned 2 twinned-small 0 0 1 0 (omega arith) (omega arith) (omega arith) (omega arith) (omega arith) (omega arith) (omega arith) (omega arith)) in
     omega (arith, r .1 .0, r .1 .1 .0)
 
 -- their values are equal
 equal-values : True twins twinned (sees 2 (box (is 1 0)))
-unfolding begin by nothing at-points twins twinned upd naming is up down
+unfolding by nothing at-points twins twinned upd naming is up down
 equal-values l h = All-map _ _ (λ v k. go (v 1) (k .0 1)) l (each-view (twinned .size) (twinned .view 2) l h .1)
   where
     go : (i : ℕ) → i < 2 → T (eqb (twinned .row 1 i .value) 0)
@@ -179,12 +181,12 @@ equal-values l h = All-map _ _ (λ v k. go (v 1) (k .0 1)) l (each-view (twinned
 
 -- thread 1 is at the last
 last-write : True twins twinned (sees 1 (one 1))
-unfolding begin by nothing at-points twins twinned upd up down
+unfolding by nothing at-points twins twinned upd up down
 last-write l h = (1, All-map _ _ (λ v k. pinned (v 1) 1 (k .0 1) (k .1 1)) l (each-view (twinned .size) (twinned .view 1) l h .1))
 
 -- from the first to the second, and never back
 one-by-one : True twins twinned (sees 2 (chop (one 1) (one 1)))
-unfolding begin by nothing at-points twins twinned upd up down
+unfolding by nothing at-points twins twinned upd up down
 one-by-one l h =
     let r = each-view (twinned .size) (twinned .view 2) l h in
     let c = cut (twinned .size) (past 1) (past-stays 1) _ (twinned .view 2) l (r .0) (r .1) in
@@ -192,40 +194,40 @@ one-by-one l h =
 
 -- A MESSAGE SENT: thread 1 has stored 1 to word 1 and, releasing, 1 to word 2; thread 2 has seen neither
 sent : State
-sent = run message-passing (begin message-passing) (by 1 0 ∷ by 1 0 ∷ [])
+sent = run message-passing (begun message-passing) (by 1 0 ∷ by 1 0 ∷ [])
 
 sent-small : Small sent 2
-unfolding begin by nothing at-points sender receiver message-passing sent upd up down
+unfolding by nothing at-points sender receiver message-passing sent upd up down
 sent-small = record {
   filled = by-two _ (omega arith) (omega arith) (λ y p q. rw (ne-eqb y 1 p, ne-eqb y 2 q) (omega arith));
   first = λ y p q. rw (ne-eqb y 1 p, ne-eqb y 2 q);
 }
 
 sent-once : (m n : ℕ) → m < 2 → n < 2 → Prospect (sent .size) (sent .view 2) (naming m n ∷ [])
-unfolding begin by nothing at-points sender receiver message-passing sent upd up down
+unfolding by nothing at-points sender receiver message-passing sent upd up down
 sent-once m n a b = once sent 2 sent-small m n a b (omega arith) (omega arith)
 
 sent-twice : (m n i j : ℕ) → m < 2 → n < 2 → i < 2 → j < 2 → m ≤ i → n ≤ j → Prospect (sent .size) (sent .view 2) (naming m n ∷ naming i j ∷ [])
-unfolding begin by nothing at-points sender receiver message-passing sent upd up down
+unfolding by nothing at-points sender receiver message-passing sent upd up down
 sent-twice m n i j a b c d = twice sent 2 sent-small m n i j a b (omega arith) (omega arith) c d
 
 -- thread 2 sees neither value alone
 not-only-old : True message-passing sent (sees 2 (box (is 1 0))) → ⊥
-unfolding begin by nothing at-points sender receiver message-passing sent upd naming is up down
+unfolding by nothing at-points sender receiver message-passing sent upd naming is up down
 not-only-old h = h (naming 1 0 ∷ []) (sent-once 1 0 (omega arith) (omega arith)) .0
 
 not-only-new : True message-passing sent (sees 2 (box (is 1 1))) → ⊥
-unfolding begin by nothing at-points sender receiver message-passing sent upd naming is up down
+unfolding by nothing at-points sender receiver message-passing sent upd naming is up down
 not-only-new h = h (naming 0 0 ∷ []) (sent-once 0 0 (omega arith) (omega arith)) .0
 
 -- nor one of the two for the whole of each prospect: it moves on within one
 not-either : True message-passing sent (sees 2 (either (box (is 1 0)) (box (is 1 1)))) → ⊥
-unfolding begin by nothing at-points sender receiver message-passing sent upd naming is up down
+unfolding by nothing at-points sender receiver message-passing sent upd naming is up down
 not-either h = neither (λ a. a .1 .0) (λ b. b .0) (h (naming 0 0 ∷ naming 1 0 ∷ []) (sent-twice 0 0 1 0 (omega arith) (omega arith) (omega arith) (omega arith) (omega arith) (omega arith)))
 
 -- but the old one and then the new one, either part perhaps empty
 old-then-new : True message-passing sent (sees 2 (chop (box (is 1 0)) (box (is 1 1))))
-unfolding begin by nothing at-points sender receiver message-passing sent upd naming is up down
+unfolding by nothing at-points sender receiver message-passing sent upd naming is up down
 old-then-new l h =
     let r = each-view (sent .size) (sent .view 2) l h in
     let c = cut (sent .size) (past 1) (past-stays 1) _ (sent .view 2) l (r .0) (r .1) in (
@@ -235,7 +237,7 @@ old-then-new l h =
     )
 
 not-new-then-old : True message-passing sent (sees 2 (chop (box (is 1 1)) (box (is 1 0)))) → ⊥
-unfolding begin by nothing at-points sender receiver message-passing sent upd naming is up down
+unfolding by nothing at-points sender receiver message-passing sent upd naming is up down
 not-new-then-old h =
     neither (λ a. a) (λ b. b)
     (cut-two (message-passing .range) (at message-passing sent) (is 1 1) (is 1 0) (naming 0 0) (naming 1 0)
@@ -243,7 +245,7 @@ not-new-then-old h =
 
 -- whoever reads the flag relaxed may still miss the message
 not-relaxed : True message-passing sent (sees 2 (chop (box (is 2 0)) (box (is 1 1)))) → ⊥
-unfolding begin by nothing at-points sender receiver message-passing sent upd naming is up down
+unfolding by nothing at-points sender receiver message-passing sent upd naming is up down
 not-relaxed h =
     neither (λ a. a) (λ b. b)
     (cut-one (message-passing .range) (at message-passing sent) (is 2 0) (is 1 1) (naming 0 1) (h (naming 0 1 ∷ []) (sent-once 0 1 (omega arith) (omega arith))))
@@ -251,7 +253,7 @@ not-relaxed h =
 -- the flag is not there, or it is not synchronised with, or the message is there: in this order
 sync-then : (l : List View) → From (sent .size) (sent .view 2) l → All (λ w. (Names (sent .size) w × ((y : ℕ) → sent .view 2 y ≤ w y)) × (past 2 w ≡ true)) l
     → Sat (message-passing .range) (at message-passing sent) (chop (box (unsync 2)) (box (is 1 1))) l
-unfolding begin by nothing at-points sender receiver message-passing sent upd naming is up down
+unfolding by nothing at-points sender receiver message-passing sent upd naming is up down
 sync-then l f q =
     let d = cut (sent .size) (past 1) (past-stays 1) _ (sent .view 2) l f q in (
       d .0,
@@ -260,7 +262,7 @@ sync-then l f q =
     )
 
 message-follows : True message-passing sent (sees 2 (chop (box (is 2 0)) (chop (box (unsync 2)) (box (is 1 1)))))
-unfolding begin by nothing at-points sender receiver message-passing sent upd naming is up down
+unfolding by nothing at-points sender receiver message-passing sent upd naming is up down
 message-follows l h =
     let r = each-view (sent .size) (sent .view 2) l h in
     let c = cut (sent .size) (past 2) (past-stays 2) _ (sent .view 2) l (r .0) (r .1) in (
@@ -270,22 +272,22 @@ message-follows l h =
     )
 
 not-unsync : True message-passing sent (sees 2 (box (unsync 2))) → ⊥
-unfolding begin by nothing at-points sender receiver message-passing sent upd naming up down
+unfolding by nothing at-points sender receiver message-passing sent upd naming up down
 not-unsync h = h (naming 0 0 ∷ []) (sent-once 0 0 (omega arith) (omega arith)) .0
 
 not-in-sync : True message-passing sent (sees 2 (box (Formula.not (unsync 2)))) → ⊥
-unfolding begin by nothing at-points sender receiver message-passing sent upd naming up down
+unfolding by nothing at-points sender receiver message-passing sent upd naming up down
 not-in-sync h = h (naming 0 1 ∷ []) (sent-once 0 1 (omega arith) (omega arith)) .0
 
 -- thread 1 is at its own write of the flag
 own-in-sync : True message-passing sent (sees 1 (box (Formula.not (unsync 2))))
-unfolding begin by nothing at-points sender receiver message-passing sent upd naming up down
+unfolding by nothing at-points sender receiver message-passing sent upd naming up down
 own-in-sync l h =
     All-map _ _ (λ v k. reads message-passing sent (Formula.not (unsync 2)) v 1 1 (pinned (v 1) 1 (k .0 1) (k .1 1)) (pinned (v 2) 1 (k .0 2) (k .1 2)) tt) l (each-view (sent .size) (sent .view 1) l h .1)
 
 -- AN EMPTY PART satisfies every interval, in the first place and in the second; but not both parts are empty
 sees-new : (l : List View) → Prospect (sent .size) (sent .view 1) l → Sat (message-passing .range) (at message-passing sent) (box (is 1 1)) l
-unfolding begin by nothing at-points sender receiver message-passing sent upd naming is up down
+unfolding by nothing at-points sender receiver message-passing sent upd naming is up down
 sees-new l h = All-map _ _ (λ v k. reads message-passing sent (is 1 1) v 1 (v 2) (pinned (v 1) 1 (k .0 1) (k .1 1)) refl tt) l (each-view (sent .size) (sent .view 1) l h .1)
 
 first-empty : True message-passing sent (sees 1 (chop (box Formula.false) (box (is 1 1))))
@@ -303,20 +305,50 @@ not-both-empty h =
     neither (λ a. a) (λ b. b)
     (cut-one (message-passing .range) (at message-passing sent) Formula.false Formula.false (naming 0 0) (h (naming 0 0 ∷ []) (sent-once 0 0 (omega arith) (omega arith))))
 
--- START is true of the start state only
-at-start : True message-passing (begin message-passing) start
-at-start = begins message-passing
+-- START is true of the start states only
+at-start : True message-passing (begun message-passing) start
+unfolding message-passing
+at-start = begins message-passing (omega arith) (λ r. 0)
 
 not-at-start : True message-passing sent start → ⊥
-unfolding begin by nothing at-points sender receiver message-passing sent upd up down
+unfolding by nothing at-points sender receiver message-passing sent upd up down
 not-at-start h = omega (arith, h .one-write 1)
+
+-- register 1 starts anywhere, register 2 does not
+starts-anywhere : True uncleared (begin uncleared (λ r. 5)) start
+unfolding uncleared
+starts-anywhere = begins uncleared (omega arith) (λ r. 5)
+
+any-value : True uncleared (begin uncleared (λ r. 5)) (holds (equal (reg 1) (const 5)))
+unfolding uncleared
+any-value = tt
+
+-- the start state with other values in the registers
+holding : (ℕ → ℕ) → State
+holding g = record {
+  size = begun uncleared .size;
+  row = begun uncleared .row;
+  view = begun uncleared .view;
+  reg = g;
+  point = begun uncleared .point;
+}
+
+-- a 5 in register 2
+not-cleared : True uncleared (holding (λ r. 5)) start → ⊥
+unfolding uncleared holding
+not-cleared h = omega (arith, h .registers 2 tt)
+
+-- an 8 in register 1, which is no value
+no-value : True uncleared (holding (upd (λ r. 0) 1 8)) start → ⊥
+unfolding uncleared holding upd
+no-value h = omega (arith, h .values 1)
 
 -- AFTER THE ACQUIRING LOAD of the flag thread 2 is in step, and the message is all that it sees
 taken-in : State
-taken-in = run message-passing (begin message-passing) (by 1 0 ∷ by 1 0 ∷ by 2 1 ∷ [])
+taken-in = run message-passing (begun message-passing) (by 1 0 ∷ by 1 0 ∷ by 2 1 ∷ [])
 
 acquired : True message-passing taken-in (sees 2 (both (box (Formula.not (unsync 2))) (box (is 1 1))))
-unfolding begin by nothing at-points sender receiver message-passing taken-in upd naming is up down
+unfolding by nothing at-points sender receiver message-passing taken-in upd naming is up down
 acquired l h = (
   All-map _ _ (λ v k. reads message-passing taken-in (Formula.not (unsync 2)) v 1 1 (pinned (v 1) 1 (k .0 1) (k .1 1)) (pinned (v 2) 1 (k .0 2) (k .1 2)) tt) l
       (each-view (taken-in .size) (taken-in .view 2) l h .1),
@@ -326,31 +358,31 @@ acquired l h = (
 
 -- HELD: the registers alone
 held : True message-passing taken-in (holds (equal (reg 1) (const 1)))
-unfolding begin by nothing at-points sender receiver message-passing taken-in upd up down
+unfolding by nothing at-points sender receiver message-passing taken-in upd up down
 held = tt
 
 not-held : True message-passing sent (holds (equal (reg 1) (const 1))) → ⊥
-unfolding begin by nothing at-points sender receiver message-passing sent upd up down
+unfolding by nothing at-points sender receiver message-passing sent upd up down
 not-held h = h
 
 -- A WRITE COVERED: thread 1 has stored 1 to word 1, and thread 2 has swapped 2 in behind the first write; thread 3 has seen neither
 swapped : State
-swapped = run mixed (begin mixed) (by 1 0 ∷ by 2 0 ∷ [])
+swapped = run mixed (begun mixed) (by 1 0 ∷ by 2 0 ∷ [])
 
 swapped-small : Small swapped 3
-unfolding begin by nothing at-points mixed swapped upd up down
+unfolding by nothing at-points mixed swapped upd up down
 swapped-small = record {
   filled = by-word 1 _ (omega arith) (λ y q. rw (ne-eqb y 1 q) (omega arith));
   first = λ y p q. rw (ne-eqb y 1 p);
 }
 
 swapped-once : (m : ℕ) → m < 3 → Prospect (swapped .size) (swapped .view 3) (naming m 0 ∷ [])
-unfolding begin by nothing at-points mixed swapped upd up down
+unfolding by nothing at-points mixed swapped upd up down
 swapped-once m a = once swapped 3 swapped-small m 0 a (omega arith) (omega arith) (omega arith)
 
 -- the first write is covered, those behind it are not
 covered-first : True mixed swapped (sees 3 (chop (box (cov 1)) (box (Formula.not (cov 1)))))
-unfolding begin by nothing at-points mixed swapped upd naming up down
+unfolding by nothing at-points mixed swapped upd naming up down
 covered-first l h =
     let r = each-view (swapped .size) (swapped .view 3) l h in
     let c = cut (swapped .size) (past 1) (past-stays 1) _ (swapped .view 3) l (r .0) (r .1) in (
@@ -366,9 +398,9 @@ covered-first l h =
     go (suc (suc (suc i))) a b = absurd (omega arith)
 
 not-covered : True mixed swapped (sees 3 (box (cov 1))) → ⊥
-unfolding begin by nothing at-points mixed swapped upd naming up down
+unfolding by nothing at-points mixed swapped upd naming up down
 not-covered h = h (naming 2 0 ∷ []) (swapped-once 2 (omega arith)) .0
 
 not-uncovered : True mixed swapped (sees 3 (box (Formula.not (cov 1)))) → ⊥
-unfolding begin by nothing at-points mixed swapped upd naming up down
+unfolding by nothing at-points mixed swapped upd naming up down
 not-uncovered h = h (naming 0 0 ∷ []) (swapped-once 0 (omega arith)) .0

@@ -8,7 +8,7 @@ use lib.Dec.{T, ltb, ltb→lt, lt→ltb}
 use Rattle.logic.specs.Base.{upd, Within}
 use Rattle.logic.specs.Machine.{View, State, Program, at, later, run, up, down}
 use Rattle.logic.proofs.Base.{by-word, and-left, and-right, and-both, is-true, holds-true}
-use Rattle.logic.proofs.Computed.{begin, yes-no, by, nothing, at-points, handed, dropped}
+use Rattle.logic.proofs.Computed.{begun, yes-no, by, nothing, at-points, handed, dropped}
 
 -- v is before w in some word of the program
 pub record Behind (words : ℕ) (v w : View) : Type 0 where
@@ -73,14 +73,14 @@ flags : Program → State → View → ℕ → List ℕ
 flags P s v x = yes-no (at P s v .unsync x) ∷ yes-no (at P s v .cov x) ∷ []
 
 -- word 2: its first write; a covered one and one that is not, both releasing, both with a view that names the second write of word 1
-handed-flags : map (λ v. flags handed (run handed (begin handed) (by 1 0 ∷ by 1 0 ∷ by 2 1 ∷ [])) v 2)
+handed-flags : map (λ v. flags handed (run handed (begun handed) (by 1 0 ∷ by 1 0 ∷ by 2 1 ∷ [])) v 2)
     (naming 0 0 ∷ naming 0 1 ∷ naming 1 1 ∷ naming 0 2 ∷ naming 1 2 ∷ [])
     ≡ (0 ∷ 0 ∷ []) ∷ (1 ∷ 1 ∷ []) ∷ (0 ∷ 1 ∷ []) ∷ (1 ∷ 0 ∷ []) ∷ (0 ∷ 0 ∷ []) ∷ []
-unfolding begin yes-no by nothing at-points handed upd naming flags up down
+unfolding yes-no by nothing at-points handed upd naming flags up down
 handed-flags = refl
 
 -- word 1: its second write has a later view, and is not releasing; once swapped it is covered
-dropped-flags : map (λ l. flags dropped (run dropped (begin dropped) l) (naming 1 0) 1) ((by 1 0 ∷ by 1 0 ∷ []) ∷ (by 1 0 ∷ by 1 0 ∷ by 2 1 ∷ []) ∷ [])
+dropped-flags : map (λ l. flags dropped (run dropped (begun dropped) l) (naming 1 0) 1) ((by 1 0 ∷ by 1 0 ∷ []) ∷ (by 1 0 ∷ by 1 0 ∷ by 2 1 ∷ []) ∷ [])
     ≡ (0 ∷ 0 ∷ []) ∷ (0 ∷ 1 ∷ []) ∷ []
-unfolding begin yes-no by nothing at-points dropped upd naming flags up down
+unfolding yes-no by nothing at-points dropped upd naming flags up down
 dropped-flags = refl

@@ -17,14 +17,14 @@ pub record Wf (P : Program) (s : State) : Type 0 where
   pub small : (x i : ℕ) → i < s .size x → s .row x i .value < P .range
   pub reg-small : (r : ℕ) → s .reg r < P .range
 
-pub start-wf : {P : Program} {s : State} → 0 < P .range → ((x : ℕ) → P .init x < P .range) → Start P s → Wf P s
-start-wf {P} {s} pos h st = record {
+pub start-wf : {P : Program} {s : State} → ((x : ℕ) → P .init x < P .range) → Start P s → Wf P s
+start-wf {P} {s} h st = record {
   outer = λ y k. st .one-write y;
   view-in = λ t x. omega (arith, st .views t x, st .one-write x);
   stored-in = λ x i y k. let e : i ≡ 0 = omega (arith, st .one-write x) in rw e (omega (arith, st .stored-views x y, st .one-write y));
   own = λ x i k. let e : i ≡ 0 = omega (arith, st .one-write x) in rw e (st .stored-views x x);
   small = λ x i k. let e : i ≡ 0 = omega (arith, st .one-write x) in rw e (omega (arith, st .given-value x, h x));
-  reg-small = λ r. omega (arith, st .registers r);
+  reg-small = λ r. omega (arith, st .values r);
 }
 
 module _ {P : Program} {s : State} (wf : Wf P s) where

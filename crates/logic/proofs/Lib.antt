@@ -19,6 +19,7 @@ pub mod Actions
 pub mod Steps
 pub mod Sound
 pub mod Runs
+pub mod Starts
 pub mod Permitted
 pub mod Computed
 pub mod Flags

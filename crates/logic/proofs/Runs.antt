@@ -216,7 +216,7 @@ module _ (P : Program) (O : Outline) (W : WellFormed P O) (D : Proved P O) where
 
   start-inv : (s : State) → Start P s → Inv P O s
   start-inv s st =
-      let wf : Wf P s = start-wf (W .some-value) (W .start-values) st in
+      let wf : Wf P s = start-wf (W .start-values) st in
       record {
         wf = wf;
         point = λ t b. omega (arith, st .points t, W .some-point t b);

@@ -365,7 +365,7 @@ module _ (P : Program) where
         All-map _ _ (λ v k. by-rows (P .range) e f c (at P s v) k (subst T (sym (at-held wf v e (and-left (only isReg e) true h))) g)) l (small-all wf t l pr)
     sound n s ps Inference.i25 h vs = λ s wf g l pr. (g .0 l pr, g .1 l pr)
     sound n s ps (Inference.i26 {t = t} {x = x}) h vs = λ s wf g. start-sees s g t x
-    sound n s ps (Inference.i27 {r = r}) h vs = λ s wf g. is-true (eq-eqb (s .reg r) 0 (g .registers r))
+    sound n s ps (Inference.i27 {r = r} c) h vs = λ s wf g. is-true (eq-eqb (s .reg r) 0 (g .registers r c))
     sound n s ps (Inference.i30 {e = e} {f = f} c) h vs = λ ρ l small g. rule-30 (P .range) ρ e f (λ v. by-rows (P .range) e f c (ρ v)) l small g
     sound n s ps Inference.i31 h vs = λ ρ l small g. vs .1 .0 ρ l small (vs .0 ρ l small g)
     sound n s ps Inference.i32 h vs = λ ρ l small g.

@@ -15,6 +15,6 @@ Outline = ℕ → ℕ → Assertion
 abbrev pub Holds : Program → Outline → State → Type 0
 Holds P O s = (t : ℕ) → Within (P .threads) t → True P s (O t (s .point t))
 
--- after every finite list of steps, refused ones among them
+-- from every start state, after every finite list of steps, refused ones among them
 pub record EveryRun (P : Program) (O : Outline) : Type 0 where
   pub holds : (s : State) → Start P s → (l : List Step) → Holds P O (run P s l)

@@ -87,7 +87,7 @@ pub data Inference (P : Program) : Rule → List Statement → Statement → Typ
   i24 : {t : ℕ} {e f : Test} → T (byRows (P .range) e f) → Inference P r24 [] (implies (holds e) (sees t (box f)))
   i25 : {t : ℕ} {i j : Interval} → Inference P r25 [] (implies (bothA (sees t i) (sees t j)) (sees t (both i j)))
   i26 : {t x : ℕ} → Inference P r26 [] (implies start (sees t (newest x (const (P .init x)))))
-  i27 : {r : ℕ} → Inference P r27 [] (implies start (holds (equal (reg r) (const 0))))
+  i27 : {r : ℕ} → T (P .cleared r) → Inference P r27 [] (implies start (holds (equal (reg r) (const 0))))
   i30 : {e f : Test} → T (byRows (P .range) e f) → Inference P r30 [] (inside (box e) (box f))
   i31 : {a b c : Interval} → Inference P r31 (inside a b ∷ inside b c ∷ []) (inside a c)
   i32 : {a b c d : Interval} → Inference P r32 (inside a b ∷ inside c d ∷ []) (inside (chop a c) (chop b d))

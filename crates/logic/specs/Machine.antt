@@ -2,8 +2,8 @@
 use mathlib.Core.Path.{_≡_}
 use mathlib.Core.Bool.{Bool, true, false, cond, not, _&&_}
 use mathlib.Core.List.{List, [], _∷_}
-use Prim.Native.Nat.{ℕ, suc, _+_, _-_, _%_, min, max}
-use lib.Dec.{eqb, ltb, leb}
+use Prim.Native.Nat.{ℕ, suc, _+_, _-_, _%_, _<_, min, max}
+use lib.Dec.{T, eqb, ltb, leb}
 use Rattle.logic.specs.Base.{upd, some, within}
 use Rattle.logic.specs.Formula.{Value, Test}
 use Rattle.logic.specs.Replace.{Note}
@@ -75,8 +75,9 @@ pub record Program : Type 0 where
   pub words : ℕ
   -- how many values there are
   pub range : ℕ
-  -- a word's start value; how many points a thread has; the instruction at its point
+  -- a word's start value; whether a register starts at 0, or anywhere; how many points a thread has; the instruction at its point
   pub init : ℕ → ℕ
+  pub cleared : ℕ → Bool
   pub points : ℕ → ℕ
   pub code : ℕ → ℕ → Instr
 
@@ -219,7 +220,7 @@ allowed (branch e a) t p s = eqb p 0
 -- RUNS
 
 -- at start each row has one write with the given value, neither releasing nor covered; all views name these;
--- every register holds 0 and every thread is at point 0
+-- a register that starts at 0 holds 0, any other any value; every thread is at point 0
 pub record Start (P : Program) (s : State) : Type 0 where
   pub one-write : (x : ℕ) → s .size x ≡ 1
   pub given-value : (x : ℕ) → s .row x 0 .value ≡ P .init x
@@ -227,8 +228,19 @@ pub record Start (P : Program) (s : State) : Type 0 where
   pub not-covered : (x : ℕ) → s .row x 0 .covered ≡ false
   pub stored-views : (x y : ℕ) → s .row x 0 .stored y ≡ 0
   pub views : (t x : ℕ) → s .view t x ≡ 0
-  pub registers : (r : ℕ) → s .reg r ≡ 0
+  pub registers : (r : ℕ) → T (P .cleared r) → s .reg r ≡ 0
+  pub values : (r : ℕ) → s .reg r < P .range
   pub points : (t : ℕ) → s .point t ≡ 0
+
+-- the start state with the values given, modulo the range, in the registers that start anywhere
+abbrev pub begin : Program → (ℕ → ℕ) → State
+begin P given = record {
+  size = λ x. 1;
+  row = λ x i. record { value = P .init x; releasing = false; covered = false; stored = λ y. 0 };
+  view = λ t x. 0;
+  reg = λ r. cond (P .cleared r) 0 (given r % P .range);
+  point = λ t. 0;
+}
 
 -- a thread number and a position
 pub record Step : Type 0 where

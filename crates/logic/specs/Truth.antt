@@ -38,7 +38,7 @@ Prospect size v (w ∷ l) = From size v (w ∷ l)
 abbrev pub Sees : Program → State → ℕ → Interval → Type 0
 Sees P s t i = (l : List View) → Prospect (s .size) (s .view t) l → Sat (P .range) (at P s) i l
 
--- the assertion is true in the state. "holds e": e is true of the registers; start is true of the start state only
+-- the assertion is true in the state. "holds e": e is true of the registers; start is true of the start states only
 abbrev pub True : Program → State → Assertion → Type 0
 True P s (sees t i) = Sees P s t i
 True P s (bothA a b) = True P s a × True P s b

@@ -141,7 +141,7 @@ module _ (P : Program) where
   rule-of r26 σ s ps g =
       subst₂ (Inference P r26) (g .premises) (g .says)
       (subst (λ (n : Value). Inference P r26 [] (implies start (sees (σ .u) (newest (σ .y) n)))) (sym (same-eq (σ .value 0) (const (P .init (σ .y))) (g .side .0))) i26)
-  rule-of r27 σ s ps g = subst₂ (Inference P r27) (g .premises) (g .says) i27
+  rule-of r27 σ s ps g = subst₂ (Inference P r27) (g .premises) (g .says) (i27 (g .side .0))
   rule-of r30 σ s ps g = subst₂ (Inference P r30) (g .premises) (g .says) (i30 (g .side .0))
   rule-of r31 σ s ps g = subst₂ (Inference P r31) (g .premises) (g .says) i31
   rule-of r32 σ s ps g = subst₂ (Inference P r32) (g .premises) (g .says) i32
@@ -199,7 +199,7 @@ module _ (P : Program) where
   fits-of r24 s ps (i24 c) = record { says = refl; premises = refl; op = tt; side = (c, tt) }
   fits-of r25 s ps i25 = record { says = refl; premises = refl; op = tt; side = tt }
   fits-of r26 s ps (i26 {x = x}) = record { says = refl; premises = refl; op = tt; side = (same-refl (const (P .init x)), tt) }
-  fits-of r27 s ps i27 = record { says = refl; premises = refl; op = tt; side = tt }
+  fits-of r27 s ps (i27 c) = record { says = refl; premises = refl; op = tt; side = (c, tt) }
   fits-of r30 s ps (i30 c) = record { says = refl; premises = refl; op = tt; side = (c, tt) }
   fits-of r31 s ps i31 = record { says = refl; premises = refl; op = tt; side = tt }
   fits-of r32 s ps i32 = record { says = refl; premises = refl; op = tt; side = tt }

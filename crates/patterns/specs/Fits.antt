@@ -18,7 +18,7 @@ use Rattle.logic.specs.Statement.{Statement, inside, implies, triple, half, isI
 use Rattle.patterns.specs.Pattern
 use Rattle.patterns.specs.Pattern.{Num, Pattern, Given, Fill, number, inst}
 use Rattle.logic.specs.Rule.{Rule}
-use Rattle.patterns.specs.Rules.{Shape, Premises, these, implications, By, by-notes, r-by-x, x-by-f, Side, _is_with_, start-of, is-new, kept, lacks-x, no-flag, by-rows, by-table, Row, row}
+use Rattle.patterns.specs.Rules.{Shape, Premises, these, implications, By, by-notes, r-by-x, x-by-f, Side, _is_with_, start-of, starts-at-0, is-new, kept, lacks-x, no-flag, by-rows, by-table, Row, row}
 use Rattle.logic.specs.Inference.{freshValue, apart, keeps}
 
 -- the number, the first and the second part of a formula; where there is none, any
@@ -275,6 +275,7 @@ module _ (P : Program) where
     abbrev pub sideHolds : Fill → Statement → List Statement → Side → Bool
     sideHolds σ s ps (p is q with b) = same (inst given σ p) (replace (by b) (inst given σ q))
     sideHolds σ s ps (start-of n p) = same (inst given σ p) (const (P .init (number given σ n)))
+    sideHolds σ s ps (starts-at-0 n) = P .cleared (number given σ n)
     sideHolds σ s ps (is-new p) = same (inst given σ p) (freshOf (half P t k))
     sideHolds σ s ps (kept p) = keeps (half P t k) (inst given σ p)
     sideHolds σ s ps (lacks-x p) = only (apartOf (half P t k)) (inst given σ p)

@@ -21,12 +21,13 @@ pub data By : Type 0 where
   by-notes r-by-x x-by-f : By
 
 infix 30 _is_with_
--- what is asked besides. The first is the second with something replaced; it is the start value of the word; it is the new write's value (freshValue);
+-- what is asked besides. The first is the second with something replaced; it is the start value of the word; the register starts at 0; it is the new write's value (freshValue);
 -- kept: a load's register is not in it, or else the word in no role nor the result register; lacks-x: the word x in no role nor the result register;
 -- no-flag: neither unsync x nor cov x; wherever the one test is true the other is, by rows; by truth table
 pub data Side : Type 0 where
   _is_with_ : {s : Sort} → Pattern s → Pattern s → By → Side
   start-of : Num → Pattern Sort.value → Side
+  starts-at-0 : Num → Side
   is-new : Pattern Sort.value → Side
   kept : Pattern Sort.assertion → Side
   lacks-x : Pattern Sort.interval → Side
@@ -159,7 +160,7 @@ row r23 = imp (sees u (box E)) (holds F) [] (by-rows E F ∷ [])
 row r24 = imp (holds E) (sees u (box F)) [] (by-rows E F ∷ [])
 row r25 = imp (bothA (sees u I) (sees u J)) (sees u (both I J)) [] []
 row r26 = imp start (sees u (both (one y) (box (equal (word y) N)))) [] (start-of y N ∷ [])
-row r27 = imp start (holds (equal (reg y) (const 0))) [] []
+row r27 = imp start (holds (equal (reg y) (const 0))) [] (starts-at-0 y ∷ [])
 row r30 = inc (box E) (box F) [] (by-rows E F ∷ [])
 row r31 = inc I K (inside I J ∷ inside J K ∷ []) []
 row r32 = inc (chop I K) (chop J L) (inside I J ∷ inside K L ∷ []) []

@@ -1,17 +1,18 @@
-// The header: how many threads, words and registers there are, how many values; a start value per word; an owning thread per
-// register.
+// The header: how many threads, words and registers there are, how many values; a start value per word; an owning thread
+// and a start mark per register.
 use frames::fault::Checked;
 use frames::fault::Fault;
 use limits::Limits;
 use limits::range::byte_within;
 use limits::range::bytes_within;
+use limits::range::in_range;
 use limits::read::byte_at;
 use limits::read::nth_byte;
 use limits::read::octet_at;
 use limits::read::part;
 ghost use mathlib.Core.Path.{_≡_};
 ghost use Rattle.limits.specs.Numbers.{nth};
-ghost use Rattle.program.specs.Header.{valueRange, headerSize, counted, startValues, owners, headed, header};
+ghost use Rattle.program.specs.Header.{valueRange, headerSize, counted, startValues, owners, marks, cleared, headed, header};
 
 // Where its numbers stand, a byte each; the lists are behind them.
 pub struct Header;
@@ -31,7 +32,8 @@ impl Header {
 fn header_size(b: &[u8]) -> usize
     ensures { λ r. ⌜ r ≡ headerSize (now (b .entry)) ⌝ }
 {
-    Header::LISTS + byte_at(b, Header::WORDS) + byte_at(b, Header::REGISTERS)
+    let registers = byte_at(b, Header::REGISTERS);
+    Header::LISTS + byte_at(b, Header::WORDS) + registers + registers
 }
 
 fn start_values(b: &[u8]) -> &[u8]
@@ -44,6 +46,13 @@ pub fn owners_of(b: &[u8]) -> &[u8]
     ensures { λ r. ⌜ now r ≡ owners (now (b .entry)) ⌝ }
 {
     part(b, Header::LISTS + byte_at(b, Header::WORDS), byte_at(b, Header::REGISTERS))
+}
+
+fn marks_of(b: &[u8]) -> &[u8]
+    ensures { λ r. ⌜ now r ≡ marks (now (b .entry)) ⌝ }
+{
+    let registers = byte_at(b, Header::REGISTERS);
+    part(b, Header::LISTS + byte_at(b, Header::WORDS) + registers, registers)
 }
 
 // How many values there are.
@@ -67,6 +76,17 @@ pub fn owner_of(b: &[u8], r: usize) -> usize
 {
     let l = owners_of(b);
     nth_byte(l, r)
+}
+
+// A register starts at 0: its mark says so, or it is not there.
+pub fn is_cleared(b: &[u8], r: usize) -> bool
+    ensures { λ c. ⌜ c ≡ cleared (now (b .entry)) r ⌝ }
+{
+    let l = marks_of(b);
+    if in_range(r, 1, l.len()) {
+        return nth_byte(l, r) == 1;
+    }
+    true
 }
 
 // The counts and the range; t thread records follow.
@@ -93,7 +113,10 @@ fn header_fits(b: &[u8], t: usize) -> bool
         let l = start_values(b);
         if bytes_within(l, 0, byte_at(b, Header::RANGE) - 1) {
             let m = owners_of(b);
-            return bytes_within(m, 1, byte_at(b, Header::THREADS));
+            if bytes_within(m, 1, byte_at(b, Header::THREADS)) {
+                let k = marks_of(b);
+                return bytes_within(k, 0, 1);
+            }
         }
     }
     false

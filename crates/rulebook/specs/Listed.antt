@@ -7,7 +7,7 @@ use lib.ListN.{length}
 use Rattle.logic.specs.Base.{all}
 use Rattle.logic.specs.Opcode
 use Rattle.logic.specs.Rule.{Rule, r1, r2, r3, r4, r5, r6, r7, r8, r9, r10, r11, r12, r13, r14, r15, r16, r20, r21, r22, r23, r24, r25, r26, r27, r30, r31, r32, r33, r34, r35, r36, r37, r38, r39, r40, r41, r42, r43, r44, r45, r46, r47, r48, r49}
-use Rattle.patterns.specs.Rules.{Shape, Premises, these, implications, by-notes, r-by-x, x-by-f, Side, _is_with_, start-of, is-new, kept, lacks-x, no-flag, by-rows, by-table, row}
+use Rattle.patterns.specs.Rules.{Shape, Premises, these, implications, by-notes, r-by-x, x-by-f, Side, _is_with_, start-of, starts-at-0, is-new, kept, lacks-x, no-flag, by-rows, by-table, row}
 use Rattle.patterns.specs.Fits.{isAmong}
 use Rattle.limits.specs.Limits as Limits
 use Rattle.limits.specs.Limits.{nesting}
@@ -16,7 +16,7 @@ use Rattle.compare.specs.Same.{sameTree}
 use Rattle.matcher.specs.Template.{shapes}
 use Rattle.matcher.specs.Places.{proper}
 use Rattle.certificate.specs.FitT.{formOf, leftOf, rightOf}
-use Rattle.rulebook.specs.Rulebook.{nothing, isKept, assigned, loaded, wordAbsent, stored, byRows, byTable, startValue, newValue, anyImplications, ruleRow, templates}
+use Rattle.rulebook.specs.Rulebook.{nothing, isKept, assigned, loaded, wordAbsent, stored, byRows, byTable, startValue, startsAtZero, newValue, anyImplications, ruleRow, templates}
 
 abbrev pub numberOf : Rule → ℕ
 numberOf r1 = 1
@@ -101,6 +101,7 @@ sideNumber (_is_with_ p q by-notes ∷ l) = assigned
 sideNumber (_is_with_ p q r-by-x ∷ l) = loaded
 sideNumber (_is_with_ p q x-by-f ∷ l) = stored
 sideNumber (start-of n p ∷ l) = startValue
+sideNumber (starts-at-0 n ∷ l) = startsAtZero
 sideNumber (is-new p ∷ l) = newValue
 sideNumber (kept p ∷ l) = isKept
 sideNumber (lacks-x p ∷ l) = wordAbsent

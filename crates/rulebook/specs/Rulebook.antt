@@ -38,6 +38,9 @@ startValue = 8
 abbrev pub newValue : ℕ
 newValue = 9
 
+abbrev pub startsAtZero : ℕ
+startsAtZero = 10
+
 -- rule 20: 0 to 4 implications
 abbrev pub anyImplications : ℕ
 anyImplications = 5
@@ -77,7 +80,7 @@ rows =
     rule 1 245 0 0 0 byRows ∷
     rule 1 251 0 0 0 nothing ∷
     rule 1 263 0 0 0 startValue ∷
-    rule 1 274 0 0 0 nothing ∷
+    rule 1 274 0 0 0 startsAtZero ∷
     unlisted ∷
     unlisted ∷
     rule 0 281 0 0 0 byRows ∷

@@ -38,6 +38,8 @@ impl Side {
     pub const START_VALUE: u8 = 8;
     // The value is that of the new write, read after the step.
     pub const NEW_VALUE: u8 = 9;
+    // The register starts at 0.
+    pub const STARTS_AT_ZERO: u8 = 10;
 }
 
 // Where a rule's template begins; the operations that it allows, a bit each; the form of its lines; how many premises, and
@@ -264,7 +266,7 @@ pub const RULES: [Rule; 50] = [
         premises: 0,
         forms: 0,
         operations: 0,
-        side: Side::NONE,
+        side: Side::STARTS_AT_ZERO,
     },
     UNLISTED,
     UNLISTED,

@@ -10,10 +10,10 @@ use Rattle.compare.specs.declared.replace.Replacing.the-variants.{Formula, Word
 use Rattle.rows.specs.Rows.{rowsT, tableT, lineOf, premisesOf}
 use Rattle.rows.specs.declared.by.Implications.{Implications}
 use Rattle.frames.specs.Records.{bodies}
-use Rattle.program.specs.Header.{valueRange}
+use Rattle.program.specs.Header.{valueRange, cleared}
 use Rattle.matcher.specs.declared.bind.Bind.{Bind}
 use Rattle.content.specs.declared.acting.Acting.{Acting}
-use Rattle.rulebook.specs.Rulebook.{nothing, isKept, assigned, loaded, stored, byRows, byTable, startValue, newValue}
+use Rattle.rulebook.specs.Rulebook.{nothing, isKept, assigned, loaded, stored, byRows, byTable, startValue, startsAtZero, newValue}
 use Rattle.conclusions.specs.Conclusion.{conclusionAt}
 use Rattle.sides.specs.Fresh.{freshIs}
 use Rattle.sides.specs.Side.{holeOf, numberIn, treeOf, apart, keeps, isWith, storedBy, isStart}
@@ -96,8 +96,13 @@ module _ (s : List ℕ) (side : ℕ) (b : Bind) (a : Acting) (c : Conclusion) (p
         unfolding asked
         asks-start h q x k e f g d = rw (ne-eqb _ _ nn, ne-eqb _ _ nr, ne-eqb _ _ nt, eq-eqb _ _ k, ← e, ← f, ← g) d
 
-        pub asks-instruction : (side ≡ startValue → ⊥) → r ≡ ofInstruction s side b a → r ≡ asked s side b a c p
-        unfolding asked
-        asks-instruction ns d = rw (ne-eqb _ _ nn, ne-eqb _ _ nr, ne-eqb _ _ nt, ne-eqb _ _ ns) d
+        module _ (ns : side ≡ startValue → ⊥) where
+          pub asks-mark : (h : List ℕ) (x : ℕ) → side ≡ startsAtZero → h ≡ getD (bodies s) 0 [] → x ≡ numberIn b 4 → r ≡ cleared h x → r ≡ asked s side b a c p
+          unfolding asked
+          asks-mark h x k e g d = rw (ne-eqb _ _ nn, ne-eqb _ _ nr, ne-eqb _ _ nt, ne-eqb _ _ ns, eq-eqb _ _ k, ← e, ← g) d
 
-pub ruleset asking = (asks-nothing, asks-rows, asks-table, asks-start, asks-instruction)
+          pub asks-instruction : (side ≡ startsAtZero → ⊥) → r ≡ ofInstruction s side b a → r ≡ asked s side b a c p
+          unfolding asked
+          asks-instruction nm d = rw (ne-eqb _ _ nn, ne-eqb _ _ nr, ne-eqb _ _ nt, ne-eqb _ _ ns, ne-eqb _ _ nm) d
+
+pub ruleset asking = (asks-nothing, asks-rows, asks-table, asks-start, asks-mark, asks-instruction)

@@ -28,11 +28,11 @@ use Rattle.trees.proofs.ToTree.{tree-eq, tree-refl}
 use Rattle.rows.specs.Entailment.{impOf, impsFrom, premisesFrom}
 use Rattle.rows.specs.Rows.{rowsT, tableT, lineOf, premisesOf}
 use Rattle.frames.specs.Records.{bodies}
-use Rattle.program.specs.Header.{startValues, valueRange}
+use Rattle.program.specs.Header.{startValues, cleared, valueRange}
 use Rattle.matcher.specs.Places.{takenOf}
 use Rattle.matcher.specs.declared.bind.Bind.{Bind}
 use Rattle.certificate.specs.FitT as FitT
-use Rattle.certificate.specs.FitT.{TreeConclusion, formOf, holesFrom, orElse, apartT, keepsT, freshT, sideT, operationT}
+use Rattle.certificate.specs.FitT.{Setup, TreeConclusion, formOf, holesFrom, orElse, apartT, keepsT, freshT, sideT, operationT}
 use Rattle.content.specs.Trees.{actingAt}
 use Rattle.content.specs.declared.acting.Acting.{Acting}
 use Rattle.rulebook.specs.Listed.{sideNumber}
@@ -43,12 +43,13 @@ use Rattle.sides.specs.Asked.{assignedBy, loadedBy, ofInstruction, impli
 use Rattle.conclusions.specs.declared.conclusion.Conclusion.{Conclusion}
 use Rattle.conclusions.specs.declared.conclusion.Premises.{Premises}
 
--- how many values there are, and what words start with
-abbrev pub rangeOf : List ℕ → ℕ
-rangeOf s = valueRange (getD (bodies s) 0 [])
-
-abbrev pub startOf : List ℕ → ℕ → ℕ
-startOf s x = nth (startValues (getD (bodies s) 0 [])) x 0
+-- how many values there are, what words start with, and which registers start at 0
+abbrev pub setupIn : List ℕ → Setup
+setupIn s = record {
+  range = valueRange (getD (bodies s) 0 []);
+  init = λ x. nth (startValues (getD (bodies s) 0 [])) x 0;
+  cleared = cleared (getD (bodies s) 0 []);
+}
 
 and-one : (b : Bool) → b && true ≡ b
 and-one true = refl
@@ -78,41 +79,41 @@ past-writes n h = rw (ne-eqb n 3 (λ e. omega arith), ne-eqb n 4 (λ e. omega ar
 past-loads : (n : ℕ) → 9 ≤ n → isAmong n Rules.loads ≡ false
 past-loads n h = rw (ne-eqb n 1 (λ e. omega arith), ne-eqb n 2 (λ e. omega arith))
 
-apart-is : (R : ℕ) (init : ℕ → ℕ) (op x r : ℕ) (u v : Tree) (ns : List NoteT) → apartT R init (acts op x r v ns) u ≡ apart op x r u
+apart-is : (op x r : ℕ) (u v : Tree) (ns : List NoteT) → apartT (acts op x r v ns) u ≡ apart op x r u
 unfolding apart
-apart-is R init zero x r u v ns = plain (occurs (wordAnyRole x) [] u)
-apart-is R init (suc zero) x r u v ns = plain (occurs (wordAnyRole x) [] u)
-apart-is R init (suc (suc zero)) x r u v ns = plain (occurs (wordAnyRole x) [] u)
-apart-is R init (suc (suc (suc zero))) x r u v ns = plain (occurs (wordAnyRole x) [] u)
-apart-is R init (suc (suc (suc (suc zero)))) x r u v ns = plain (occurs (wordAnyRole x) [] u)
-apart-is R init (suc (suc (suc (suc (suc zero))))) x r u v ns = plain (occurs (wordAnyRole x) [] u)
-apart-is R init (suc (suc (suc (suc (suc (suc zero)))))) x r u v ns = plain (occurs (wordAnyRole x) [] u)
-apart-is R init (suc (suc (suc (suc (suc (suc (suc zero))))))) x r u v ns = result (occurs (wordAnyRole x) [] u) (occurs (register r) [] u)
-apart-is R init (suc (suc (suc (suc (suc (suc (suc (suc zero)))))))) x r u v ns = result (occurs (wordAnyRole x) [] u) (occurs (register r) [] u)
-apart-is R init (suc (suc (suc (suc (suc (suc (suc (suc (suc op))))))))) x r u v ns =
+apart-is zero x r u v ns = plain (occurs (wordAnyRole x) [] u)
+apart-is (suc zero) x r u v ns = plain (occurs (wordAnyRole x) [] u)
+apart-is (suc (suc zero)) x r u v ns = plain (occurs (wordAnyRole x) [] u)
+apart-is (suc (suc (suc zero))) x r u v ns = plain (occurs (wordAnyRole x) [] u)
+apart-is (suc (suc (suc (suc zero)))) x r u v ns = plain (occurs (wordAnyRole x) [] u)
+apart-is (suc (suc (suc (suc (suc zero))))) x r u v ns = plain (occurs (wordAnyRole x) [] u)
+apart-is (suc (suc (suc (suc (suc (suc zero)))))) x r u v ns = plain (occurs (wordAnyRole x) [] u)
+apart-is (suc (suc (suc (suc (suc (suc (suc zero))))))) x r u v ns = result (occurs (wordAnyRole x) [] u) (occurs (register r) [] u)
+apart-is (suc (suc (suc (suc (suc (suc (suc (suc zero)))))))) x r u v ns = result (occurs (wordAnyRole x) [] u) (occurs (register r) [] u)
+apart-is (suc (suc (suc (suc (suc (suc (suc (suc (suc op))))))))) x r u v ns =
     let n : ℕ = (suc (suc (suc (suc (suc (suc (suc (suc (suc op))))))))) in
     ap (λ (b : Bool). not (occurs (wordAnyRole x) [] u) && (not b || not (occurs (register r) [] u))) (past-returning n (omega arith))
     ∙ plain (occurs (wordAnyRole x) [] u)
     ∙ sym (rw (lt-leb n 6 (omega arith), lt-leb n 8 (omega arith)))
 
-keeps-is : (R : ℕ) (init : ℕ → ℕ) (op x r : ℕ) (u v : Tree) (ns : List NoteT) → keepsT R init (acts op x r v ns) u ≡ keeps op x r u
+keeps-is : (op x r : ℕ) (u v : Tree) (ns : List NoteT) → keepsT (acts op x r v ns) u ≡ keeps op x r u
 unfolding keeps
-keeps-is R init zero x r u v ns = refl
-keeps-is R init (suc zero) x r u v ns = refl
-keeps-is R init (suc (suc zero)) x r u v ns = refl
-keeps-is R init (suc (suc (suc zero))) x r u v ns = apart-is R init 3 x r u v ns
-keeps-is R init (suc (suc (suc (suc zero)))) x r u v ns = apart-is R init 4 x r u v ns
-keeps-is R init (suc (suc (suc (suc (suc zero))))) x r u v ns = apart-is R init 5 x r u v ns
-keeps-is R init (suc (suc (suc (suc (suc (suc zero)))))) x r u v ns = refl
-keeps-is R init (suc (suc (suc (suc (suc (suc (suc zero))))))) x r u v ns = apart-is R init 7 x r u v ns
-keeps-is R init (suc (suc (suc (suc (suc (suc (suc (suc zero)))))))) x r u v ns = apart-is R init 8 x r u v ns
-keeps-is R init (suc (suc (suc (suc (suc (suc (suc (suc (suc op))))))))) x r u v ns =
+keeps-is zero x r u v ns = refl
+keeps-is (suc zero) x r u v ns = refl
+keeps-is (suc (suc zero)) x r u v ns = refl
+keeps-is (suc (suc (suc zero))) x r u v ns = apart-is 3 x r u v ns
+keeps-is (suc (suc (suc (suc zero)))) x r u v ns = apart-is 4 x r u v ns
+keeps-is (suc (suc (suc (suc (suc zero))))) x r u v ns = apart-is 5 x r u v ns
+keeps-is (suc (suc (suc (suc (suc (suc zero)))))) x r u v ns = refl
+keeps-is (suc (suc (suc (suc (suc (suc (suc zero))))))) x r u v ns = apart-is 7 x r u v ns
+keeps-is (suc (suc (suc (suc (suc (suc (suc (suc zero)))))))) x r u v ns = apart-is 8 x r u v ns
+keeps-is (suc (suc (suc (suc (suc (suc (suc (suc (suc op))))))))) x r u v ns =
     let n : ℕ = (suc (suc (suc (suc (suc (suc (suc (suc (suc op))))))))) in
     rest (isAmong n Rules.loads) (isAmong n Rules.writes) (past-loads n (omega arith)) (past-writes n (omega arith))
     ∙ sym (rw (le-ltb n 1 (omega arith), lt-leb n 2 (omega arith), ne-eqb n 6 (λ e. omega arith), lt-leb n 8 (omega arith)))
   where
     rest : (a b : Bool) → a ≡ false → b ≡ false
-        → elim a as (λ y. Bool) [ true ↦ not (occurs (register r) [] u) | false ↦ elim b as (λ y. Bool) [ true ↦ apartT R init (acts (suc (suc (suc (suc (suc (suc (suc (suc (suc op))))))))) x r v ns) u | false ↦ false ] ] ≡ false
+        → elim a as (λ y. Bool) [ true ↦ not (occurs (register r) [] u) | false ↦ elim b as (λ y. Bool) [ true ↦ apartT (acts (suc (suc (suc (suc (suc (suc (suc (suc (suc op))))))))) x r v ns) u | false ↦ false ] ] ≡ false
     rest a b e d = rw (e, d)
 
 module _ (s : List ℕ) (b : Bind) where
@@ -138,11 +139,11 @@ module _ (s : List ℕ) (b : Bind) (a : Acting) (c : Conclusion) (p : Premises) 
   vs = map (concludedAt s) (conclusionsFrom p (p .count) 0)
 
   abbrev holds : Rule → Bool
-  holds n = all (sideT (rangeOf s) (startOf s) (actingAt s a) (holesFrom (takenOf s b)) (concludedAt s c) vs) (row n .sides)
+  holds n = all (sideT (setupIn s) (actingAt s a) (holesFrom (takenOf s b)) (concludedAt s c) vs) (row n .sides)
 
   -- the rule's row allows the operation
   abbrev allowed : Rule → Bool
-  allowed n = operationT (rangeOf s) (startOf s) (actingAt s a) (formOf (row n .says)) (row n .operations)
+  allowed n = operationT (actingAt s a) (formOf (row n .says)) (row n .operations)
 
   -- the line's premises, as implications
   table-is : (n : ℕ) → p .count ≡ n → n ≤ Limits.premises → map FitT.impOf (map (concludedAt s) (conclusionsFrom p n 0)) ≡ premisesOf s (implicationsOf c p)
@@ -161,7 +162,7 @@ module _ (s : List ℕ) (b : Bind) (a : Acting) (c : Conclusion) (p : Premises) 
   -- each condition, of the holes that it speaks of
   kept-is : holds r1 ≡ asked s (sideNumber (row r1 .sides)) b a c p
   unfolding asked ofInstruction
-  kept-is = and-one _ ∙ keeps-is (rangeOf s) (startOf s) (a .operation) (a .word) (a .register) (holesFrom (takenOf s b) .tree 0) (actingAt s a .formula) (actingAt s a .notes) ∙ ap (keeps (a .operation) (a .word) (a .register)) (hole-tree s b 0)
+  kept-is = and-one _ ∙ keeps-is (a .operation) (a .word) (a .register) (holesFrom (takenOf s b) .tree 0) (actingAt s a .formula) (actingAt s a .notes) ∙ ap (keeps (a .operation) (a .word) (a .register)) (hole-tree s b 0)
 
   assigned-is : allowed r2 ≡ true → holds r2 ≡ asked s (sideNumber (row r2 .sides)) b a c p
   unfolding asked ofInstruction assignedBy isWith oneName nameCode
@@ -181,14 +182,14 @@ module _ (s : List ℕ) (b : Bind) (a : Acting) (c : Conclusion) (p : Premises) 
   absent-is : holds r8 ≡ asked s (sideNumber (row r8 .sides)) b a c p
   unfolding asked ofInstruction
   absent-is =
-      and-one _ ∙ apart-is (rangeOf s) (startOf s) (a .operation) (a .word) (a .register) (holesFrom (takenOf s b) .tree 1) (actingAt s a .formula) (actingAt s a .notes)
+      and-one _ ∙ apart-is (a .operation) (a .word) (a .register) (holesFrom (takenOf s b) .tree 1) (actingAt s a .formula) (actingAt s a .notes)
       ∙ ap (apart (a .operation) (a .word) (a .register)) (hole-tree s b 1)
 
   new-is : holds r48 ≡ asked s (sideNumber (row r48 .sides)) b a c p
   unfolding asked ofInstruction freshIs sumIs formulaIs
   new-is =
-      and-one _ ∙ ap (λ (u : Tree). sameTree u (freshT (rangeOf s) (startOf s) (actingAt s a))) (hole-tree s b 0)
-      ∙ same-sym (treeOf s (holeOf b 0)) (freshT (rangeOf s) (startOf s) (actingAt s a)) ∙ go (eqb (a .operation) Opcode.fetchAdd)
+      and-one _ ∙ ap (λ (u : Tree). sameTree u (freshT (actingAt s a))) (hole-tree s b 0)
+      ∙ same-sym (treeOf s (holeOf b 0)) (freshT (actingAt s a)) ∙ go (eqb (a .operation) Opcode.fetchAdd)
     where
       go : (x : Bool) → sameTree (elim x as (λ y. Tree) [ true ↦ node (byte Code.sum) 0 (node (byte Code.reg) (a .register) Tree.none Tree.none) (parseTree s nesting (a .formula) .tree) | false ↦ parseTree s nesting (a .formula) .tree ]) (treeOf s (holeOf b 0))
           ≡ cond x (sameTree (node (byte Code.sum) 0 (node (byte Code.reg) (a .register) Tree.none Tree.none) (parseTree s nesting (a .formula) .tree)) (treeOf s (holeOf b 0))) (sameTree (parseTree s nesting (a .formula) .tree) (treeOf s (holeOf b 0)))
@@ -213,14 +214,18 @@ module _ (s : List ℕ) (b : Bind) (a : Acting) (c : Conclusion) (p : Premises) 
 
   rows-asked : holds r21 ≡ asked s (sideNumber (row r21 .sides)) b a c p
   unfolding asked ofNames
-  rows-asked = and-one _ ∙ ap₂ (rowsT (rangeOf s)) (hole-tree s b 2) (hole-tree s b 3)
+  rows-asked = and-one _ ∙ ap₂ (rowsT (setupIn s .range)) (hole-tree s b 2) (hole-tree s b 3)
 
   start-asked : holds r26 ≡ asked s (sideNumber (row r26 .sides)) b a c p
   unfolding asked isStart
   start-asked =
       and-one _
-      ∙ ap₂ (λ (u : Tree) (x : ℕ). sameTree u (node (byte Code.const) (startOf s x) Tree.none Tree.none)) (hole-tree s b 0) (hole-number s b 4)
-      ∙ same-sym (treeOf s (holeOf b 0)) (node (byte Code.const) (startOf s (numberIn b 4)) Tree.none Tree.none)
+      ∙ ap₂ (λ (u : Tree) (x : ℕ). sameTree u (node (byte Code.const) (setupIn s .init x) Tree.none Tree.none)) (hole-tree s b 0) (hole-number s b 4)
+      ∙ same-sym (treeOf s (holeOf b 0)) (node (byte Code.const) (setupIn s .init (numberIn b 4)) Tree.none Tree.none)
+
+  cleared-asked : holds r27 ≡ asked s (sideNumber (row r27 .sides)) b a c p
+  unfolding asked
+  cleared-asked = and-one _ ∙ ap (cleared (getD (bodies s) 0 [])) (hole-number s b 4)
 
   none-asked : true ≡ asked s 0 b a c p
   unfolding asked
@@ -250,7 +255,7 @@ module _ (s : List ℕ) (b : Bind) (a : Acting) (c : Conclusion) (p : Premises) 
   sides-are r24 e = rows-asked
   sides-are r25 e = none-asked
   sides-are r26 e = start-asked
-  sides-are r27 e = none-asked
+  sides-are r27 e = cleared-asked
   sides-are r30 e = rows-asked
   sides-are r31 e = none-asked
   sides-are r32 e = none-asked

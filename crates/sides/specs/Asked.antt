@@ -9,10 +9,10 @@ use Rattle.compare.specs.declared.replace.Replacing.the-variants.{Formula, Word
 use Rattle.rows.specs.Rows.{rowsT, tableT, lineOf, premisesOf}
 use Rattle.rows.specs.declared.by.Implications.{Implications}
 use Rattle.frames.specs.Records.{bodies}
-use Rattle.program.specs.Header.{valueRange}
+use Rattle.program.specs.Header.{valueRange, cleared}
 use Rattle.matcher.specs.declared.bind.Bind.{Bind}
 use Rattle.content.specs.declared.acting.Acting.{Acting}
-use Rattle.rulebook.specs.Rulebook.{nothing, isKept, assigned, loaded, stored, byRows, byTable, startValue, newValue}
+use Rattle.rulebook.specs.Rulebook.{nothing, isKept, assigned, loaded, stored, byRows, byTable, startValue, startsAtZero, newValue}
 use Rattle.conclusions.specs.Conclusion.{conclusionAt}
 use Rattle.sides.specs.Fresh.{freshIs}
 use Rattle.sides.specs.Side.{holeOf, numberIn, treeOf, apart, keeps, isWith, storedBy, isStart}
@@ -49,11 +49,12 @@ implicationsOf c p = record {
 unfoldable pub ofNames : List ℕ → Bind → Bool
 ofNames s b = rowsT (valueRange (getD (bodies s) 0 [])) (treeOf s (holeOf b 2)) (treeOf s (holeOf b 3))
 
--- by rows, by truth table, by the start values; else of the instruction
+-- by rows, by truth table, by the start values and marks; else of the instruction
 unfoldable pub asked : List ℕ → ℕ → Bind → Acting → Conclusion → Premises → Bool
 asked s side b a c p =
     cond (eqb side nothing) true
     (cond (eqb side byRows) (ofNames s b)
     (cond (eqb side byTable) (tableT (premisesOf s (implicationsOf c p)) (lineOf s (implicationsOf c p)))
     (cond (eqb side startValue) (isStart (getD (bodies s) 0 []) (numberIn b 4) (treeOf s (holeOf b 0)))
-    (ofInstruction s side b a))))
+    (cond (eqb side startsAtZero) (cleared (getD (bodies s) 0 []) (numberIn b 4))
+    (ofInstruction s side b a)))))

@@ -16,6 +16,7 @@ use content::acting::Acting;
 use frames::index::body_of;
 use limits::Limits;
 use matcher::bind::Bind;
+use program::header::is_cleared;
 use program::header::range_of;
 use rows::by::Implications;
 use rows::by::by_rows;
@@ -97,7 +98,7 @@ fn by_names<'a, 'b>(s: &'a [u8], ix: &'b [usize], b: Bind) -> bool
     by_rows(s, p.at, p.left, q.at, q.left, range_of(h))
 }
 
-// By rows, by truth table, by the start values; else of the instruction.
+// By rows, by truth table, by the start values and marks; else of the instruction.
 pub fn is_asked<'a, 'b>(
     s: &'a [u8],
     ix: &'b [usize],
@@ -122,6 +123,10 @@ pub fn is_asked<'a, 'b>(
     if side == Side::START_VALUE {
         let h = body_of(s, ix, 0);
         return is_start(s, h, hole_of(b, 0), number_in(b, 4));
+    }
+    if side == Side::STARTS_AT_ZERO {
+        let h = body_of(s, ix, 0);
+        return is_cleared(h, number_in(b, 4));
     }
     of_instruction(s, side, b, a)
 }

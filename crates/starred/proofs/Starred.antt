@@ -22,7 +22,7 @@ use Rattle.bodies.specs.Use.{startless}
 use Rattle.occurs.specs.Occurs.{isQueried, occurs}
 use Rattle.formula.specs.Reader.{inRange, operandFault, headFault, faultAt, readingOf}
 use Rattle.program.specs.Header as Header
-use Rattle.program.specs.Header.{startValues, owners, headerSize, headed, header}
+use Rattle.program.specs.Header.{startValues, owners, marks, cleared, headerSize, headed, header}
 use Rattle.records.specs.List.{exactly}
 use Rattle.records.specs.Line as Line
 use Rattle.program.specs.Thread as Thread
@@ -47,5 +47,5 @@ use Rattle.checker.specs.Answer.{verdict}
 use Rattle.starred.specs.Table.{holds, table}
 
 pub starred : T (all holds table)
-unfolding verdict codeFor bytesFor fieldsOf gathered Place.placeOf recordBytes codeOf Formulas.formula Formulas.faultOf Header.counted Line.numbered Thread.cut Thread.numbered Use.outlined admit also bodies body branches check choose code countsOf cut decode decoded distinct ended every exactly faultAt firstFault fitsAt formOf formula frame frames has hasOperand headFault headed header headerSize inRange instructions isIn isQueried judge lastPoint line lineBody lineNumbers lineSize lineSorted marked member most namedLine nodeAt nowhere numbers obligationCount obligations occurs operandFault outline outlineNumber outlinedAt owners partCount partPlace placeOf placed pointCount premises read readingOf recordCount ruleOf same same-leaf saying sizesOf parseTree sortAt sortedBy startValues startless tally tallyTo thread threadBody threadNumbers threadRegisters threadSize threadTally unless upd walk wholeImage within word same-name ℕ-discrete
+unfolding verdict codeFor bytesFor fieldsOf gathered Place.placeOf recordBytes codeOf Formulas.formula Formulas.faultOf Header.counted Line.numbered Thread.cut Thread.numbered Use.outlined admit also bodies body branches check choose cleared code countsOf cut decode decoded distinct ended every exactly faultAt firstFault fitsAt formOf formula frame frames has hasOperand headFault headed header headerSize inRange instructions isIn isQueried judge lastPoint line lineBody lineNumbers lineSize lineSorted marked member most namedLine nodeAt nowhere numbers obligationCount obligations occurs operandFault outline outlineNumber outlinedAt owners marks partCount partPlace placeOf placed pointCount premises read readingOf recordCount ruleOf same same-leaf saying sizesOf parseTree sortAt sortedBy startValues startless tally tallyTo thread threadBody threadNumbers threadRegisters threadSize threadTally unless upd walk wholeImage within word same-name ℕ-discrete
 starred = tt

@@ -15,6 +15,10 @@ fn mistakes_have_lines_and_words() {
         ("range 1\nword x = 0\nthread a { true }", 1, "2 to 16 values"),
         ("range 4\nrange 4\nword x = 0\nthread a { true }", 2, "given twice"),
         ("word x = 0\nthread a { true }\n x := y\n { true }", 3, "`y` is not declared"),
+        ("word x = 0\nthread a open r { true }", 2, "`registers` is wanted"),
+        ("word x = 0\nopen registers r of a\nthread a { true }", 2, "`register` is wanted"),
+        ("word open = 0\nthread a { true }", 1, "word of the language"),
+        ("word x = 0\nthread a registers r open registers r { true }", 2, "given twice"),
         ("word x = 0\nthread a { true } x := x { true }", 2, "may not stand in an instruction"),
         (
             "word x = 0\nthread a registers r { true } r <- fetch-add x + 1 + r { true }",
@@ -105,6 +109,27 @@ fn an_open_obligation_names_place_case_and_need() {
         "{}",
         all[1]
     );
+}
+
+#[test]
+fn registers_start_at_0_or_are_open() {
+    let text = "word x = 0\nopen register p of a\nregister q of a\n\
+        thread a open registers r, s registers t open registers u { t = 0 and q = 0 }";
+    let source = parse(text).expect("well formed");
+    assert_eq!(source.names.registers, ["p", "q", "r", "s", "t", "u"]);
+    assert_eq!(source.header.marks, [0, 1, 0, 0, 1, 0]);
+    assert!(build(&source).expect("no hints").open.is_empty());
+    for (open, point) in [("s", "t = 0 and s = 0"), ("p", "a sees [p = x]"), ("u", "u < 7")] {
+        let trusting = text.replace("t = 0 and q = 0", point);
+        let source = parse(&trusting).expect("well formed");
+        let built = build(&source).expect("no hints");
+        let told = report::open(&source, &built.open[0], true);
+        let words = format!("`{open}` is open: it may start at any value");
+        assert!(told.contains(&words), "{told}");
+    }
+    let anything = text.replace("t = 0 and q = 0", "t = 0 and s <= 7 and a sees [x = q or u = 1]");
+    let source = parse(&anything).expect("well formed");
+    assert!(build(&source).expect("no hints").open.is_empty());
 }
 
 #[test]

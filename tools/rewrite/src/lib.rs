@@ -3,6 +3,7 @@
 //! A step changes the records of an image. It reads what it changes and refuses what it cannot read;
 //! all else stays, faults among it, so that the image keeps its verdict.
 
+mod marks;
 mod range;
 pub mod set;
 
@@ -14,6 +15,8 @@ use reference::image::written::{image_bytes, Record};
 pub enum Step {
     /// A byte behind the register count of the header says how many values there are.
     Range,
+    /// A byte per register behind the owners says whether the register starts at 0.
+    Marks,
 }
 
 /// Why an image is refused.
@@ -28,7 +31,7 @@ pub enum Refusal {
 }
 
 impl Step {
-    pub const ALL: [(&'static str, Step); 1] = [("range", Step::Range)];
+    pub const ALL: [(&'static str, Step); 2] = [("range", Step::Range), ("marks", Step::Marks)];
 
     /// The image in the layout after this step.
     pub fn rewrite(self, image: &[u8]) -> Result<Vec<u8>, Refusal> {
@@ -37,6 +40,7 @@ impl Step {
             records.iter().map(|record| Record::new(record.kind, record.body)).collect();
         match self {
             Step::Range => range::add(&mut records[0].body)?,
+            Step::Marks => marks::add(&mut records[0].body)?,
         }
         let longer = image_bytes(&records);
         if longer.len() > frames::IMAGE_BYTES {

@@ -5,7 +5,7 @@ use std::process::ExitCode;
 
 const USAGE: &str = "usage: rewrite STEP IMAGE -o IMAGE
        rewrite STEP --set SET -o SET
-steps: range";
+steps: range, marks (in this order)";
 
 fn main() -> ExitCode {
     let arguments: Vec<String> = std::env::args().skip(1).collect();

@@ -72,6 +72,40 @@ fn bodies() {
     assert_eq!(verdict(&changed(48, 2)), "6 7 0 0 0 0 0 0 0"); // no line 2
 }
 
+/// The small image with two registers, of range 8, and these owners and marks.
+fn with_registers(owners: [u8; 2], marks: &[u8]) -> Vec<u8> {
+    let header = [&[1, 1, 2, 8, 0][..], &owners, marks].concat();
+    let length = header.len() as u8 + 2;
+    [&[length, 0, 1, 0][..], &header, &bytes(SMALL)[9..]].concat()
+}
+
+#[test]
+fn marks() {
+    assert_eq!(verdict(&with_registers([1, 1], &[1, 1])), "0 0 0 0 0 0 0 0 1");
+    assert_eq!(verdict(&with_registers([1, 1], &[0, 1])), "0 0 0 0 0 0 0 0 1");
+    assert_eq!(verdict(&with_registers([1, 1], &[1, 2])), "6 1 0 0 0 0 0 0 0"); // no mark
+    assert_eq!(verdict(&with_registers([1, 0], &[1, 1])), "6 1 0 0 0 0 0 0 0"); // marks first
+    assert_eq!(verdict(&with_registers([1, 1], &[])), "5 1 0 0 0 0 0 0 0"); // no marks
+    assert_eq!(verdict(&with_registers([1, 1], &[1])), "5 1 0 0 0 0 0 0 0");
+    assert_eq!(verdict(&with_registers([1, 1], &[1, 1, 1])), "5 1 0 0 0 0 0 0 0");
+}
+
+/// One obligation: from start that register 1 is 0, by rule 27.
+fn trusting(mark: u8) -> Vec<u8> {
+    let header = [9, 0, 1, 0, 1, 1, 1, 8, 0, 1, mark];
+    let formula = [8, 0, 2, 0, 28, 9, 1, 1, 0, 0];
+    let mut rest = bytes(SMALL)[16..].to_vec();
+    let rule = rest.iter().position(|&byte| byte == 20).expect("a line by rule 20");
+    rest[rule] = 27;
+    [&header[..], &formula, &rest].concat()
+}
+
+#[test]
+fn rule_27_asks_for_the_mark() {
+    assert_eq!(verdict(&trusting(1)), "0 0 0 0 0 0 0 0 1");
+    assert_eq!(verdict(&trusting(0)), "22 0 1 1 0 0 0 1 0");
+}
+
 #[test]
 fn obligations() {
     assert_eq!(verdict(&changed(39, 1)), "21 0 1 1 0 0 0 1 0"); // true to true

@@ -169,7 +169,7 @@ fn changed_message_passing(random: &mut Random) -> Plan {
 /// One obligation, by a truth table with about as many leaves as are allowed.
 fn many_leaves(random: &mut Random) -> Plan {
     let counts = Counts { threads: 1, words: 2, registers: 1, range: 8 };
-    let header = Header { counts, start: vec![0, 0], owners: vec![1] };
+    let header = Header::cleared(counts, vec![0, 0], vec![1]);
     let leaves = random.between(7, 11);
     let leaf = |number: u8| {
         let constant = Value::Constant(number % 8);

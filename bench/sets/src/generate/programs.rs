@@ -17,7 +17,8 @@ pub fn header(random: &mut Random) -> Header {
     let range = if random.chance(40) { random.between(2, 16) } else { *random.pick(&[8, 2, 16]) };
     let start = (0..words).map(|_| random.between(0, range - 1)).collect();
     let owners = (0..registers).map(|_| random.between(1, threads)).collect();
-    Header { counts: Counts { threads, words, registers, range }, start, owners }
+    let marks = (0..registers).map(|_| u8::from(random.chance(65))).collect();
+    Header { counts: Counts { threads, words, registers, range }, start, owners, marks }
 }
 
 /// The registers that a thread owns.

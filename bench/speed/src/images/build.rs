@@ -139,7 +139,8 @@ impl Program<'_> {
         let [threads, words, registers] = [threads, words, registers].map(|count| count as u8);
         let counts = Counts { threads, words, registers, range };
         let start = (0..words).map(|_| random.below(range.into()) as u8).collect();
-        Header { counts, start, owners: self.owners.clone() }
+        let marks = (0..registers).map(|_| random.below(2) as u8).collect();
+        Header { counts, start, owners: self.owners.clone(), marks }
     }
 
     /// The number of the interval; assertions follow.

@@ -107,7 +107,7 @@ pub fn damage(random: &mut Random, image: &mut Vec<u8>) {
         1 => image.resize(TOO_LONG + random.below(2), 0),
         2..=19 => image.truncate(random.below(image.len())),
         20..=29 => image.push(random.below(34) as u8),
-        // A byte of the header: its counts, range, start values and owners.
+        // A byte of the header: its counts, range, start values, owners and marks.
         30..=149 => {
             let at = 4 + random.below(starts[1] - 4);
             image[at] = changed(random, image[at]);

@@ -2,15 +2,16 @@
 use Prim.Native.Nat.{ℕ, _+_, _-_, _≤_}
 use mathlib.Core.Path.{_≡_, sym, _∙_}
 use mathlib.Core.List.{List}
-use mathlib.Core.Bool.{Bool, true, _&&_}
+use mathlib.Core.Bool.{Bool, true, false, _&&_}
 use native.Mathlib.Omega.{arith}
-use lib.ListN.{getD, take, drop}
+use lib.Dec.{eqb}
+use lib.ListN.{length, getD, take, drop}
 use Rattle.limits.specs.Limits as Limits
-use Rattle.limits.specs.Numbers.{within, every}
+use Rattle.limits.specs.Numbers.{within, every, nth}
 use Rattle.limits.proofs.Inverse.{and-true, within-true}
-use Rattle.program.specs.Header.{threadCount, wordCount, registerCount, valueRange, counted, headerSize, startValues, owners}
+use Rattle.program.specs.Header.{threadCount, wordCount, registerCount, valueRange, counted, headerSize, startValues, owners, marks, cleared}
 
-pub size-is : (b : List ℕ) (w g : ℕ) → w ≡ getD b 1 0 → g ≡ getD b 2 0 → 4 + w + g ≡ headerSize b
+pub size-is : (b : List ℕ) (w g : ℕ) → w ≡ getD b 1 0 → g ≡ getD b 2 0 → 4 + w + g + g ≡ headerSize b
 unfolding headerSize
 size-is b w g e d = rw (e, d)
 
@@ -21,6 +22,20 @@ values-are b r w e d = rw (← e) d
 pub owners-are : (b r : List ℕ) (w g : ℕ) → w ≡ getD b 1 0 → g ≡ getD b 2 0 → r ≡ take g (drop (4 + w) b) → r ≡ owners b
 unfolding owners
 owners-are b r w g e d h = rw (← e, ← d) h
+
+pub marks-are : (b r : List ℕ) (w g : ℕ) → w ≡ getD b 1 0 → g ≡ getD b 2 0 → r ≡ take g (drop (4 + w + g) b) → r ≡ marks b
+unfolding marks
+marks-are b r w g e d h = rw (← e, ← d) h
+
+-- a register's mark
+module _ (b l : List ℕ) (r : ℕ) (c : Bool) (e : l ≡ marks b) (h : c ≡ within 1 (length l) r) where
+  pub cleared-there : (m : ℕ) → c ≡ true → m ≡ nth l r 0 → eqb m 1 ≡ cleared b r
+  unfolding cleared
+  cleared-there m t d = rw (← e, ← h, t, d)
+
+  pub cleared-absent : c ≡ false → true ≡ cleared b r
+  unfolding cleared
+  cleared-absent f = rw (← e, ← h, f)
 
 pub owned-of : (t hi : ℕ) (l m : List ℕ) (u : Bool) → t ≡ hi → l ≡ m → u ≡ every (within 1 t) l → u ≡ every (within 1 hi) m
 owned-of t hi l m u e d h = rw (← e, ← d) h
@@ -56,4 +71,4 @@ pub values-within : (b l : List ℕ) (r : ℕ) (u : Bool) → r ≡ getD b 3 0 �
     → u ≡ every (within 0 (getD b 3 0 - 1)) (startValues b)
 values-within b l r u e d h = rw (← e, ← d) h
 
-pub ruleset heading = (size-is, values-are, owners-are, owned-of, range-some, values-within)
+pub ruleset heading = (size-is, values-are, owners-are, marks-are, cleared-there, cleared-absent, owned-of, range-some, values-within)

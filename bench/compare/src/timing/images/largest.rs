@@ -58,7 +58,7 @@ fn program() -> Program {
     };
     let counts = Counts { threads: 3, words: 8, registers: 3, range: 8 };
     Program {
-        header: Header { counts, start: vec![0; 8], owners: vec![1, 2, 3] },
+        header: Header::cleared(counts, vec![0; 8], vec![1, 2, 3]),
         threads: (1..).zip(POINTS).map(thread).collect(),
         outline: (1..).zip(POINTS).map(outline).collect(),
     }

@@ -27,7 +27,7 @@ pub fn image() -> Vec<u8> {
 /// A releasing store and a swap of a sum, by a thread beside another.
 pub fn plan() -> Plan {
     let counts = Counts { threads: 2, words: 8, registers: 4, range: 8 };
-    let header = Header { counts, start: vec![0; 8], owners: vec![1; 4] };
+    let header = Header::cleared(counts, vec![0; 8], vec![1; 4]);
     let store = Instruction::Store { word: X, value: value().into(), releasing: true };
     let swap = Instruction::Swap { word: X, value: value().into() };
     harness::plan(harness::program(header, vec![vec![store, swap], Vec::new()]))

@@ -14,7 +14,7 @@ const PREMISES: usize = 4;
 
 pub fn image() -> Vec<u8> {
     let counts = Counts { threads: 1, words: 8, registers: 0, range: 8 };
-    let header = Header { counts, start: vec![0; 8], owners: Vec::new() };
+    let header = Header::cleared(counts, vec![0; 8], Vec::new());
     let mut plan = harness::plan(harness::program(header, vec![Vec::new()]));
     plan.spare = (0..VARIANTS).map(line).collect();
     repeated(&plan, &[20])

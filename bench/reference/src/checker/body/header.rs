@@ -1,4 +1,4 @@
-//! The header: counts, range, start values, owners.
+//! The header: counts, range, start values, owners, start marks.
 
 use super::{demand, Read, LENGTH, RANGE};
 use crate::formula::parse::Counts;
@@ -14,6 +14,7 @@ pub fn read(body: &[u8], threads_written: usize) -> Read<Header> {
     demand((2..=16).contains(&range), RANGE)?;
     demand(header.start.iter().all(|&value| value < range), RANGE)?;
     demand(header.owners.iter().all(|owner| (1..=threads).contains(owner)), RANGE)?;
+    demand(header.marks.iter().all(|&mark| mark <= 1), RANGE)?;
     demand(usize::from(threads) == threads_written, RANGE)?;
     Ok(header)
 }

@@ -84,6 +84,7 @@ fn changed_program() -> Vec<Case> {
                 let mut plan = message_passing();
                 plan.program.header.counts.registers = 3;
                 plan.program.header.owners.push(1);
+                plan.program.header.marks.push(1);
                 plan.program.threads[thread][point] = constant_action(operation, register, word);
                 let place = format!("thread {} point {point}", thread + 1);
                 let what = format!("operation {operation}, word {word}, at {place}");

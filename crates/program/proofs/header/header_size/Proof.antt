@@ -6,4 +6,5 @@ use Rattle.program.proofs.header.header_size.Tie as tie
 
 pub header-size-spec : {M : Type 1} → statement M
 header-size-spec =
-    tie.close (tie.spec (λ c κs. search needs) (λ c. search needs) (λ c κs. search needs) (λ c. search needs) (λ c. search (heading, tests)))
+    tie.close
+    (tie.spec (λ c κs. search needs) (λ c κs. search needs) (λ c. search needs) (λ c. search needs) (λ c. search needs) (λ c. search (heading, tests)))

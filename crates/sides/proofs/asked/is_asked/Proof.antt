@@ -20,4 +20,8 @@ is-asked-spec =
     (λ c κs. search needs)
     (λ c. search (asking, tests))
     (λ c κs. search needs)
+    (λ c κs. search needs)
+    (λ c κs. search needs)
+    (λ c. search (asking, tests))
+    (λ c κs. search needs)
     (λ c. search (asking, tests)))
