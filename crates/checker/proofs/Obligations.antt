@@ -7,7 +7,9 @@ use lib.Dec.{eqb}
 use lib.ListN.{length, length-append, length-map}
 use Rattle.logic.specs.Base.{Within}
 use Rattle.logic.specs.Machine.{Program, Instr, Instr.act, Instr.branch}
-use Rattle.logic.specs.Obligations.{Obligation, Obligation.start, below, upTo, flat, own, acting, instructed, actions, starts, steps, interferences, obligations}
+use Rattle.logic.specs.Obligations.{Obligation, Obligation.start, below, upTo, flat, own, acting, instructed, starts, steps, interferences, obligations}
+use Rattle.logic.proofs.Reordered.{reordered-length}
+use Rattle.logic.proofs.Order.{actions, formerly, reordered}
 use Rattle.limits.specs.Limits as Limits
 use Rattle.content.proofs.Sums.{sum, sum-const, flat-below, flat-upTo, below-length}
 use Rattle.checker.proofs.Sums.{sum-le}
@@ -88,8 +90,10 @@ module _ (P : Program) (few-threads : P .threads ≤ Limits.threads) (few-points
       let i = upTo-most (λ t. flat (λ k. own P t k (P .code t k)) (instructed P t)) (P .threads) (Limits.points * 2) thread-steps in
       omega arith
 
+  -- class 4 is counted by the asserting side, as many in the one order as in the other
   interferences-few : length (interferences P) ≤ Limits.threads * (Limits.points * (Limits.threads * Limits.points))
   interferences-few =
+      let same = reordered-length (formerly P) (interferences P) (reordered P) in
       let most = Limits.points * (Limits.threads * Limits.points) in
       let i = upTo-most (λ u. flat (others u) (below (P .points u))) (P .threads) most thread-actions in
       omega arith

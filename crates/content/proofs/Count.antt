@@ -8,7 +8,9 @@ use lib.Dec.{eqb, eqb·suc-suc}
 use lib.ListN.{length, getD, length-append, length-map}
 use Rattle.logic.specs.Machine.{Program, Instr, Instr.act, Instr.branch}
 use Rattle.logic.specs.Statement as Statement
-use Rattle.logic.specs.Obligations.{Obligation, Obligation.start, below, upTo, flat, own, acting, instructed, actions, starts, steps, interferences, obligations}
+use Rattle.logic.specs.Obligations.{Obligation, Obligation.start, below, upTo, flat, own, acting, instructed, starts, steps, interferences, obligations}
+use Rattle.logic.proofs.Reordered.{reordered-length}
+use Rattle.logic.proofs.Order.{actions, formerly, reordered}
 use Rattle.program.specs.declared.sizes.Sizes.{Sizes}
 use Rattle.program.specs.declared.instruction.Instruction.{Instruction}
 use Rattle.program.specs.Thread.{lastPoint, instructions, nothing}
@@ -167,13 +169,17 @@ module _ (z : Sizes) (l : List (List ℕ)) where
       ∙ sum-same (λ j. length (flat (λ t. actions P (suc u) j t) (upTo (z .threads)))) (λ j. sum (but u (actionsOf z l)) (z .threads)) (pointsOf z l u) (λ j b. point-length u j)
       ∙ sum-const (sum (but u (actionsOf z l)) (z .threads)) (pointsOf z l u)
 
-  interferences-length : length (interferences P) ≡ tally z l .points * tally z l .actions - tally z l .own
+  -- class 4 is counted by the asserting side, as many in the one order as in the other
+  former-length : length (formerly P) ≡ tally z l .points * tally z l .actions - tally z l .own
   unfolding tally
-  interferences-length =
+  former-length =
       flat-upTo (λ u. flat (λ j. flat (λ t. actions P u j t) (upTo (z .threads))) (below (P .points u))) (z .threads)
       ∙ sum-same _ (λ u. pointsOf z l u * sum (but u (actionsOf z l)) (z .threads)) (z .threads) (λ u b. thread-length u)
       ∙ sum-cross (pointsOf z l) (actionsOf z l) (z .threads)
       ∙ rw (tally-points z l (z .threads), tally-actions z l (z .threads), tally-own z l (z .threads))
+
+  interferences-length : length (interferences P) ≡ tally z l .points * tally z l .actions - tally z l .own
+  interferences-length = sym (reordered-length (formerly P) (interferences P) (reordered P)) ∙ former-length
 
   pub count-is : obligationCount z l ≡ length (obligations (imageOf z l .program))
   unfolding obligationCount

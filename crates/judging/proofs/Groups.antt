@@ -10,7 +10,7 @@ use Rattle.logic.specs.Opcode as Opcode
 use Rattle.logic.specs.Machine.{Program, Instr, Instr.act, Instr.branch}
 use Rattle.logic.specs.Statement.{isBranch}
 use Rattle.logic.specs.Obligations as Logic
-use Rattle.logic.specs.Obligations.{Obligation.start, Obligation.step, Obligation.taken, Obligation.interference, below, upTo, flat, own, acting, instructed, actions, starts, steps, interferences, obligations}
+use Rattle.logic.specs.Obligations.{Obligation.start, Obligation.step, Obligation.taken, Obligation.interference, below, upTo, flat, own, acting, instructed, asserted, assertions, starts, steps, interferences, obligations}
 use Rattle.frames.specs.Records.{bodies}
 use Rattle.program.specs.declared.sizes.Sizes.{Sizes}
 use Rattle.program.specs.declared.instruction.Instruction.{Instruction}
@@ -25,7 +25,7 @@ use Rattle.judging.specs.declared.outcome.Outcome.{Outcome}
 use Rattle.judging.specs.declared.outcome.Outcome.the-variants.{Met}
 use Rattle.report.specs.Place.{obligation}
 use Rattle.judging.specs.Judge.{next, judged, judgeAt}
-use Rattle.judging.specs.Walk.{program, startsTo, ownAt, ownTo, stepsTo, actingAt, actingTo, actionsAt, actionsTo, assertedTo, interferencesTo}
+use Rattle.judging.specs.Walk.{program, startsTo, ownAt, ownTo, stepsTo, actingAt, assertedTo, assertionsAt, assertionsTo, actionsTo, interferencesTo}
 
 flat-single : {A B : Type 0} (f : A → B) (l : List A) → map f l ≡ flat (λ a. f a ∷ []) l
 flat-single f [] = refl
@@ -125,59 +125,64 @@ module _ (s : List ℕ) (z : Sizes) (m : Marks) where
 
   -- interferences
 
-  module _ (u j t : ℕ) where
-    pub actions-self : (r : Outcome) → t ≡ u → r ≡ actionsAt s z m u j t r
-    unfolding actionsAt judged
-    actions-self r e = rw (eq-eqb _ _ e, actions)
+  module _ (t k u : ℕ) where
+    pub assertions-self : (r : Outcome) → t ≡ u → r ≡ assertionsAt s z m t k u r
+    unfolding assertionsAt judged
+    assertions-self r e = rw (eq-eqb _ _ e, assertions)
 
-    pub acting-none : (r : Outcome) → r ≡ actingTo s z m u j t 0 r
-    unfolding actingTo judged
-    acting-none r = refl
-
-    pub acting-more : (k : ℕ) (r q p : Outcome) → q ≡ actingTo s z m u j t k r → p ≡ actingAt s z m u j t k q → p ≡ actingTo s z m u j t (k + 1) r
-    unfolding actingTo actingAt
-    acting-more k r q p e d = rw (judged-below (λ k. acting P u j t k (P .code t k)) k r, ← e) d
-
-    pub acting-all : (k n : ℕ) (r q : Outcome) → (t ≡ u → ⊥) → n ≡ lastPoint (threadBody z (bodies s) t) → k ≤ n → n ≤ k → q ≡ actingTo s z m u j t k r → q ≡ actionsAt s z m u j t r
-    unfolding actionsAt actingTo pointCount
-    acting-all k n r q f e h g d =
-        let c : k ≡ lastPoint (threadBody z (bodies s) t) + 1 - 1 = omega arith in
-        rw (ne-eqb _ _ f, actions) (rw c at d)
-
-  module _ (u j : ℕ) where
-    pub actions-none : (r : Outcome) → r ≡ actionsTo s z m u j 0 r
-    unfolding actionsTo judged
-    actions-none r = refl
-
-    pub actions-more : (t : ℕ) (r q p : Outcome) → q ≡ actionsTo s z m u j t r → p ≡ actionsAt s z m u j (t + 1) q → p ≡ actionsTo s z m u j (t + 1) r
-    unfolding actionsTo actionsAt
-    actions-more t r q p e d = rw (judged-upTo (λ t. actions P u j t) t r, ← e) d
-
-    pub actions-all : (t n : ℕ) (r q : Outcome) → n ≡ z .threads → t ≤ n → n ≤ t → q ≡ actionsTo s z m u j t r → q ≡ actionsTo s z m u j (z .threads) r
-    actions-all t n r q e h g d = let c : t ≡ z .threads = omega arith in rw c at d
-
-  module _ (u : ℕ) where
-    pub asserted-none : (r : Outcome) → r ≡ assertedTo s z m u 0 r
+    pub asserted-none : (r : Outcome) → r ≡ assertedTo s z m t k u 0 r
     unfolding assertedTo judged
     asserted-none r = refl
 
-    pub asserted-more : (j : ℕ) (r q p : Outcome) → q ≡ assertedTo s z m u j r → p ≡ actionsTo s z m u j (z .threads) q → p ≡ assertedTo s z m u (j + 1) r
-    unfolding assertedTo actionsTo
-    asserted-more j r q p e d = rw (judged-below (λ j. flat (λ t. actions P u j t) (upTo (z .threads))) j r, ← e) d
+    pub asserted-more : (j : ℕ) (r q p : Outcome) → q ≡ assertedTo s z m t k u j r → p ≡ actingAt s z m u j t k q → p ≡ assertedTo s z m t k u (j + 1) r
+    unfolding assertedTo actingAt
+    asserted-more j r q p e d = rw (judged-below (λ j. acting P u j t k (P .code t k)) j r, ← e) d
 
-    pub asserted-all : (j n : ℕ) (r q : Outcome) → n ≡ lastPoint (threadBody z (bodies s) u) → j ≤ n + 1 → n < j → q ≡ assertedTo s z m u j r → q ≡ assertedTo s z m u (lastPoint (threadBody z (bodies s) u) + 1) r
-    asserted-all j n r q e h g d = let c : j ≡ lastPoint (threadBody z (bodies s) u) + 1 = omega arith in rw c at d
+    pub asserted-all : (j n : ℕ) (r q : Outcome) → (t ≡ u → ⊥) → n ≡ lastPoint (threadBody z (bodies s) u) → j ≤ n + 1 → n < j → q ≡ assertedTo s z m t k u j r
+        → q ≡ assertionsAt s z m t k u r
+    unfolding assertionsAt assertedTo pointCount
+    asserted-all j n r q f e h g d =
+        let c : j ≡ lastPoint (threadBody z (bodies s) u) + 1 = omega arith in
+        rw (ne-eqb _ _ f, assertions) (rw c at d)
+
+  module _ (t k : ℕ) where
+    pub assertions-none : (r : Outcome) → r ≡ assertionsTo s z m t k 0 r
+    unfolding assertionsTo judged
+    assertions-none r = refl
+
+    pub assertions-more : (u : ℕ) (r q p : Outcome) → q ≡ assertionsTo s z m t k u r → p ≡ assertionsAt s z m t k (u + 1) q → p ≡ assertionsTo s z m t k (u + 1) r
+    unfolding assertionsTo assertionsAt
+    assertions-more u r q p e d = rw (judged-upTo (λ u. assertions P t k u) u r, ← e) d
+
+    pub assertions-all : (u n : ℕ) (r q : Outcome) → n ≡ z .threads → u ≤ n → n ≤ u → q ≡ assertionsTo s z m t k u r → q ≡ assertionsTo s z m t k (z .threads) r
+    assertions-all u n r q e h g d = let c : u ≡ z .threads = omega arith in rw c at d
+
+  module _ (t : ℕ) where
+    pub actions-none : (r : Outcome) → r ≡ actionsTo s z m t 0 r
+    unfolding actionsTo judged
+    actions-none r = refl
+
+    pub actions-more : (k : ℕ) (r q p : Outcome) → q ≡ actionsTo s z m t k r → p ≡ assertionsTo s z m t k (z .threads) q → p ≡ actionsTo s z m t (k + 1) r
+    unfolding actionsTo assertionsTo
+    actions-more k r q p e d = rw (judged-below (λ k. flat (λ u. assertions P t k u) (upTo (z .threads))) k r, ← e) d
+
+    pub actions-all : (k n : ℕ) (r q : Outcome) → n ≡ lastPoint (threadBody z (bodies s) t) → k ≤ n → n ≤ k → q ≡ actionsTo s z m t k r
+        → q ≡ actionsTo s z m t (lastPoint (threadBody z (bodies s) t)) r
+    actions-all k n r q e h g d = let c : k ≡ lastPoint (threadBody z (bodies s) t) = omega arith in rw c at d
 
   pub interferences-none : (r : Outcome) → r ≡ interferencesTo s z m 0 r
   unfolding interferencesTo judged
   interferences-none r = refl
 
-  pub interferences-more : (u : ℕ) (r q p : Outcome) → q ≡ interferencesTo s z m u r → p ≡ assertedTo s z m (u + 1) (lastPoint (threadBody z (bodies s) (u + 1)) + 1) q → p ≡ interferencesTo s z m (u + 1) r
-  unfolding interferencesTo assertedTo pointCount
-  interferences-more u r q p e d = rw (judged-upTo (λ u. flat (λ j. flat (λ t. actions P u j t) (upTo (z .threads))) (below (P .points u))) u r, ← e) d
+  pub interferences-more : (t : ℕ) (r q p : Outcome) → q ≡ interferencesTo s z m t r → p ≡ actionsTo s z m (t + 1) (lastPoint (threadBody z (bodies s) (t + 1))) q
+      → p ≡ interferencesTo s z m (t + 1) r
+  unfolding interferencesTo actionsTo pointCount
+  interferences-more t r q p e d =
+      let c : lastPoint (threadBody z (bodies s) (t + 1)) + 1 - 1 ≡ lastPoint (threadBody z (bodies s) (t + 1)) = omega arith in
+      rw (judged-upTo (λ t. flat (λ k. flat (λ u. assertions P t k u) (upTo (z .threads))) (instructed P t)) t r, ← e, c) d
 
-  pub interferences-all : (u n : ℕ) (r q : Outcome) → n ≡ z .threads → u ≤ n → n ≤ u → q ≡ interferencesTo s z m u r → q ≡ interferencesTo s z m (z .threads) r
-  interferences-all u n r q e h g d = let c : u ≡ z .threads = omega arith in rw c at d
+  pub interferences-all : (t n : ℕ) (r q : Outcome) → n ≡ z .threads → t ≤ n → n ≤ t → q ≡ interferencesTo s z m t r → q ≡ interferencesTo s z m (z .threads) r
+  interferences-all t n r q e h g d = let c : t ≡ z .threads = omega arith in rw c at d
 
   -- all of them
 

@@ -2,7 +2,7 @@
 use mathlib.Core.List.{List, map}
 use Prim.Native.Nat.{ℕ}
 use Rattle.logic.specs.Machine.{Program}
-use Rattle.logic.specs.Obligations.{Obligation.start, below, upTo, flat, own, acting, instructed, actions}
+use Rattle.logic.specs.Obligations.{Obligation.start, below, upTo, flat, own, acting, instructed, assertions}
 use Rattle.frames.specs.Records.{bodies}
 use Rattle.program.specs.declared.sizes.Sizes.{Sizes}
 use Rattle.content.specs.Program.{programOf}
@@ -31,22 +31,23 @@ module _ (s : List ℕ) (z : Sizes) (m : Marks) where
   unfoldable pub stepsTo : ℕ → Outcome → Outcome
   stepsTo n r = judged s z m (flat (λ t. flat (λ k. own P t k (P .code t k)) (instructed P t)) (upTo n)) r
 
-  -- the assertion at point j of thread u under the instruction at point k of thread t; under those below n; under those of t; under those of threads 1 to n
+  -- the assertion at point j of thread u under the instruction at point k of thread t
   unfoldable pub actingAt : ℕ → ℕ → ℕ → ℕ → Outcome → Outcome
   actingAt u j t k r = judged s z m (acting P u j t k (P .code t k)) r
 
-  unfoldable pub actingTo : ℕ → ℕ → ℕ → ℕ → Outcome → Outcome
-  actingTo u j t n r = judged s z m (flat (λ k. acting P u j t k (P .code t k)) (below n)) r
+  -- under the instruction at point k of thread t: the assertions of u at its points below n; all of u; those of threads 1 to n
+  unfoldable pub assertedTo : ℕ → ℕ → ℕ → ℕ → Outcome → Outcome
+  assertedTo t k u n r = judged s z m (flat (λ j. acting P u j t k (P .code t k)) (below n)) r
 
-  unfoldable pub actionsAt : ℕ → ℕ → ℕ → Outcome → Outcome
-  actionsAt u j t r = judged s z m (actions P u j t) r
+  unfoldable pub assertionsAt : ℕ → ℕ → ℕ → Outcome → Outcome
+  assertionsAt t k u r = judged s z m (assertions P t k u) r
 
-  unfoldable pub actionsTo : ℕ → ℕ → ℕ → Outcome → Outcome
-  actionsTo u j n r = judged s z m (flat (λ t. actions P u j t) (upTo n)) r
+  unfoldable pub assertionsTo : ℕ → ℕ → ℕ → Outcome → Outcome
+  assertionsTo t k n r = judged s z m (flat (λ u. assertions P t k u) (upTo n)) r
 
-  -- the assertions of u at its points below n; those of threads 1 to n
-  unfoldable pub assertedTo : ℕ → ℕ → Outcome → Outcome
-  assertedTo u n r = judged s z m (flat (λ j. flat (λ t. actions P u j t) (upTo (P .threads))) (below n)) r
+  -- under the instructions of t at its points below n; under those of threads 1 to n
+  unfoldable pub actionsTo : ℕ → ℕ → Outcome → Outcome
+  actionsTo t n r = judged s z m (flat (λ k. flat (λ u. assertions P t k u) (upTo (P .threads))) (below n)) r
 
   unfoldable pub interferencesTo : ℕ → Outcome → Outcome
-  interferencesTo n r = judged s z m (flat (λ u. flat (λ j. flat (λ t. actions P u j t) (upTo (P .threads))) (below (P .points u))) (upTo n)) r
+  interferencesTo n r = judged s z m (flat (λ t. flat (λ k. flat (λ u. assertions P t k u) (upTo (P .threads))) (instructed P t)) (upTo n)) r

@@ -1,4 +1,4 @@
-// Each assertion under the actions of the other threads: by asserting thread, its point, acting thread, acting point.
+// Each assertion under the actions of the other threads: by acting thread, acting point, asserting thread, asserting point.
 use crate::outcome::Outcome;
 use crate::outcome::judge_next;
 use content::point::last_point_of;
@@ -10,14 +10,13 @@ use report::obligation::Obligation;
 ghost use mathlib.Core.Path.{_≡_};
 ghost use Rattle.frames.specs.Records.{bodies, indexOf};
 ghost use Rattle.content.specs.Totals.{totalsOf};
-ghost use Prim.Native.Nat.{_+_};
 ghost use Rattle.program.specs.Thread.{lastPoint};
 ghost use Rattle.records.specs.Places.{threadBody};
 ghost use Rattle.marks.specs.Marks.{asMarks};
-ghost use Rattle.judging.specs.Walk.{actingAt, actionsAt, actionsTo, assertedTo, interferencesTo};
+ghost use Rattle.judging.specs.Walk.{actingAt, assertionsAt, assertionsTo, actionsTo, interferencesTo};
 
-// A branch is no action.
-fn judge_action<'a, 'b, 'c>(
+// One assertion under one instruction. A branch is no action.
+fn judge_assertion<'a, 'b, 'c>(
     s: &'a [u8],
     ix: &'b [usize],
     z: Sizes,
@@ -52,82 +51,83 @@ fn judge_action<'a, 'b, 'c>(
     )
 }
 
-// A thread does not interfere with itself.
-fn judge_actor<'a, 'b, 'c>(
-    s: &'a [u8],
-    ix: &'b [usize],
-    z: Sizes,
-    y: Totals,
-    m: &'c [bool],
-    u: usize,
-    j: usize,
-    t: usize,
-    r: Outcome,
-) -> Outcome
-    requires { ⌜ (now ix ≡ indexOf (now s)) × (y ≡ totalsOf z (bodies (now s))) ⌝ }
-    ensures { λ q. ⌜ q ≡ actionsAt (now (s .entry)) z (asMarks (now (m .entry))) u j t r ⌝ }
-{
-    if t == u {
-        return r;
-    }
-    let last = last_point_of(s, ix, z, t);
-    let mut q = r;
-    let mut k: usize = 0;
-    while k < last {
-        q = judge_action(s, ix, z, y, m, u, j, t, k, q);
-        k += 1;
-    }
-    q
-}
-
-// One assertion under all threads.
-fn judge_assertion<'a, 'b, 'c>(
-    s: &'a [u8],
-    ix: &'b [usize],
-    z: Sizes,
-    y: Totals,
-    m: &'c [bool],
-    u: usize,
-    j: usize,
-    r: Outcome,
-) -> Outcome
-    requires { ⌜ (now ix ≡ indexOf (now s)) × (y ≡ totalsOf z (bodies (now s))) ⌝ }
-    ensures { λ q. ⌜ q ≡ actionsTo (now (s .entry)) z (asMarks (now (m .entry))) u j (z .threads) r ⌝ }
-{
-    let threads = z.threads as usize;
-    let mut q = r;
-    let mut t: usize = 0;
-    while t < threads {
-        t += 1;
-        q = judge_actor(s, ix, z, y, m, u, j, t, q);
-    }
-    q
-}
-
-// The assertions of thread u, the last one too.
+// The assertions of thread u, the last one too, under the instruction at point k of thread t. A thread does not interfere with
+// itself.
 fn judge_asserting<'a, 'b, 'c>(
     s: &'a [u8],
     ix: &'b [usize],
     z: Sizes,
     y: Totals,
     m: &'c [bool],
+    t: usize,
+    k: usize,
     u: usize,
     r: Outcome,
 ) -> Outcome
     requires { ⌜ (now ix ≡ indexOf (now s)) × (y ≡ totalsOf z (bodies (now s))) ⌝ }
-    ensures { λ q. ⌜ q ≡ assertedTo (now (s .entry)) z (asMarks (now (m .entry))) u (lastPoint (threadBody z (bodies (now (s .entry))) u) + 1) r ⌝ }
+    ensures { λ q. ⌜ q ≡ assertionsAt (now (s .entry)) z (asMarks (now (m .entry))) t k u r ⌝ }
 {
+    if t == u {
+        return r;
+    }
     let last = last_point_of(s, ix, z, u);
     let mut q = r;
     let mut j: usize = 0;
     while j <= last {
-        q = judge_assertion(s, ix, z, y, m, u, j, q);
+        q = judge_assertion(s, ix, z, y, m, u, j, t, k, q);
         j += 1;
     }
     q
 }
 
-// Those of all threads.
+// Those of all threads under one instruction.
+fn judge_action<'a, 'b, 'c>(
+    s: &'a [u8],
+    ix: &'b [usize],
+    z: Sizes,
+    y: Totals,
+    m: &'c [bool],
+    t: usize,
+    k: usize,
+    r: Outcome,
+) -> Outcome
+    requires { ⌜ (now ix ≡ indexOf (now s)) × (y ≡ totalsOf z (bodies (now s))) ⌝ }
+    ensures { λ q. ⌜ q ≡ assertionsTo (now (s .entry)) z (asMarks (now (m .entry))) t k (z .threads) r ⌝ }
+{
+    let threads = z.threads as usize;
+    let mut q = r;
+    let mut u: usize = 0;
+    while u < threads {
+        u += 1;
+        q = judge_asserting(s, ix, z, y, m, t, k, u, q);
+    }
+    q
+}
+
+// Under the instructions of thread t.
+fn judge_actor<'a, 'b, 'c>(
+    s: &'a [u8],
+    ix: &'b [usize],
+    z: Sizes,
+    y: Totals,
+    m: &'c [bool],
+    t: usize,
+    r: Outcome,
+) -> Outcome
+    requires { ⌜ (now ix ≡ indexOf (now s)) × (y ≡ totalsOf z (bodies (now s))) ⌝ }
+    ensures { λ q. ⌜ q ≡ actionsTo (now (s .entry)) z (asMarks (now (m .entry))) t (lastPoint (threadBody z (bodies (now (s .entry))) t)) r ⌝ }
+{
+    let last = last_point_of(s, ix, z, t);
+    let mut q = r;
+    let mut k: usize = 0;
+    while k < last {
+        q = judge_action(s, ix, z, y, m, t, k, q);
+        k += 1;
+    }
+    q
+}
+
+// Under those of all threads.
 pub fn judge_interferences<'a, 'b, 'c>(
     s: &'a [u8],
     ix: &'b [usize],
@@ -141,10 +141,10 @@ pub fn judge_interferences<'a, 'b, 'c>(
 {
     let threads = z.threads as usize;
     let mut q = r;
-    let mut u: usize = 0;
-    while u < threads {
-        u += 1;
-        q = judge_asserting(s, ix, z, y, m, u, q);
+    let mut t: usize = 0;
+    while t < threads {
+        t += 1;
+        q = judge_actor(s, ix, z, y, m, t, q);
     }
     q
 }

@@ -20,6 +20,8 @@ pub mod Steps
 pub mod Sound
 pub mod Runs
 pub mod Starts
+pub mod Reordered
+pub mod Order
 pub mod Permitted
 pub mod Computed
 pub mod Flags

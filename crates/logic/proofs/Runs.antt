@@ -18,7 +18,7 @@ use Rattle.logic.specs.Truth.{True}
 use Rattle.logic.specs.Statement.{Statement, implies, triple, first}
 use Rattle.logic.specs.Obligations
 use Rattle.logic.specs.EveryRun.{Outline, Holds, EveryRun}
-use Rattle.logic.specs.Obligations.{Obligation, below, upTo, flat, own, acting, instructed, asserted, actions, starts, steps, interferences, obligations, wants}
+use Rattle.logic.specs.Obligations.{Obligation, below, upTo, flat, own, acting, instructed, asserted, assertions, starts, steps, interferences, obligations, wants}
 use Rattle.logic.specs.WellFormed.{proper, WellFormed}
 use Rattle.logic.specs.Derivation.{Derived, by-rule, Proved}
 use Rattle.logic.proofs.Base.{by-word, upds, and-left, and-right, and-both, is-true, All-left, All-right}
@@ -70,22 +70,22 @@ module _ (P : Program) (Q : Obligation → Type 0) (h : All Q (obligations P)) w
       (flat-in Q (λ t. flat (λ k. own P t k (P .code t k)) (instructed P t)) (upTo (P .threads))
       (All-left Q (steps P) (interferences P) (All-right Q (starts P) (steps P ++ interferences P) h))) t w)) k (omega arith)
 
-  differ : (u j t : ℕ) → u ≢ t → All Q (actions P u j t) → All Q (flat (λ k. acting P u j t k (P .code t k)) (instructed P t))
-  differ u j t q g =
-      subst (λ (z : Bool). All Q (elim z as (λ y. List Obligation) [ true ↦ [] | false ↦ flat (λ k. acting P u j t k (P .code t k)) (instructed P t) ]))
+  differ : (u t k : ℕ) → u ≢ t → All Q (assertions P t k u) → All Q (flat (λ j. acting P u j t k (P .code t k)) (below (asserted P u)))
+  differ u t k q g =
+      subst (λ (z : Bool). All Q (elim z as (λ y. List Obligation) [ true ↦ [] | false ↦ flat (λ j. acting P u j t k (P .code t k)) (below (asserted P u)) ]))
       (ne-eqb t u (λ (e : t ≡ u). q (sym e))) g
 
   each-other : (u j t k : ℕ) → Within (P .threads) u → j < P .points u → Within (P .threads) t → suc k < P .points t → u ≢ t → All Q (acting P u j t k (P .code t k))
   each-other u j t k w b v c q =
-      below-in (λ k. All Q (acting P u j t k (P .code t k))) (P .points t - 1)
-      (flat-in Q (λ k. acting P u j t k (P .code t k)) (instructed P t) (differ u j t q
-      (up-in (λ t. All Q (actions P u j t)) (P .threads)
-      (flat-in Q (λ t. actions P u j t) (upTo (P .threads))
-      (below-in (λ j. All Q (flat (λ t. actions P u j t) (upTo (P .threads)))) (asserted P u)
-      (flat-in Q (λ j. flat (λ t. actions P u j t) (upTo (P .threads))) (below (asserted P u))
-      (up-in (λ u. All Q (flat (λ j. flat (λ t. actions P u j t) (upTo (P .threads))) (below (asserted P u)))) (P .threads)
-      (flat-in Q (λ u. flat (λ j. flat (λ t. actions P u j t) (upTo (P .threads))) (below (asserted P u))) (upTo (P .threads))
-      (All-right Q (steps P) (interferences P) (All-right Q (starts P) (steps P ++ interferences P) h))) u w)) j (omega arith))) t v))) k (omega arith)
+      below-in (λ j. All Q (acting P u j t k (P .code t k))) (asserted P u)
+      (flat-in Q (λ j. acting P u j t k (P .code t k)) (below (asserted P u)) (differ u t k q
+      (up-in (λ u. All Q (assertions P t k u)) (P .threads)
+      (flat-in Q (λ u. assertions P t k u) (upTo (P .threads))
+      (below-in (λ k. All Q (flat (λ u. assertions P t k u) (upTo (P .threads)))) (P .points t - 1)
+      (flat-in Q (λ k. flat (λ u. assertions P t k u) (upTo (P .threads))) (instructed P t)
+      (up-in (λ t. All Q (flat (λ k. flat (λ u. assertions P t k u) (upTo (P .threads))) (instructed P t))) (P .threads)
+      (flat-in Q (λ t. flat (λ k. flat (λ u. assertions P t k u) (upTo (P .threads))) (instructed P t)) (upTo (P .threads))
+      (All-right Q (steps P) (interferences P) (All-right Q (starts P) (steps P ++ interferences P) h))) t v)) k (omega arith))) u w))) j (omega arith)
 
 -- class 4 has every action, of each kind
 every-action : (P : Program) (u j t k : ℕ) (A : Access) (ns : List Note) → acting P u j t k (act A ns) ≡ Obligations.interference u j t k ∷ []

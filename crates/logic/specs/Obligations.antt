@@ -14,6 +14,7 @@ pub data Obligation : Type 0 where
   start : ℕ → Obligation
   step taken : ℕ → ℕ → Obligation
   interference : ℕ → ℕ → ℕ → ℕ → Obligation
+  deriving Discrete as Obligation-discrete
 
 -- 0 to n - 1; 1 to n
 abbrev pub below : ℕ → List ℕ
@@ -46,11 +47,11 @@ module _ (P : Program) where
   abbrev pub asserted : ℕ → ℕ
   asserted u = P .points u
 
-  -- threads differ
-  abbrev pub actions : ℕ → ℕ → ℕ → List Obligation
-  actions u j t = elim (eqb t u) [ true ↦ [] | false ↦ flat (λ k. acting u j t k (P .code t k)) (instructed t) ]
+  -- each assertion of u under the instruction at point k of t; threads differ
+  abbrev pub assertions : ℕ → ℕ → ℕ → List Obligation
+  assertions t k u = elim (eqb t u) [ true ↦ [] | false ↦ flat (λ j. acting u j t k (P .code t k)) (below (asserted u)) ]
 
-  -- class 1; 2 and 3 by thread and point; 4 by asserting thread, its point, acting thread, acting point
+  -- class 1; 2 and 3 by thread and point; 4 by acting thread, acting point, asserting thread, asserting point
   abbrev pub starts : List Obligation
   starts = map start (upTo (P .threads))
 
@@ -58,7 +59,7 @@ module _ (P : Program) where
   steps = flat (λ t. flat (λ k. own t k (P .code t k)) (instructed t)) (upTo (P .threads))
 
   abbrev pub interferences : List Obligation
-  interferences = flat (λ u. flat (λ j. flat (λ t. actions u j t) (upTo (P .threads))) (below (asserted u))) (upTo (P .threads))
+  interferences = flat (λ t. flat (λ k. flat (λ u. assertions t k u) (upTo (P .threads))) (instructed t)) (upTo (P .threads))
 
   abbrev pub obligations : List Obligation
   obligations = starts ++ (steps ++ interferences)

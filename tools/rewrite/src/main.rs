@@ -5,7 +5,7 @@ use std::process::ExitCode;
 
 const USAGE: &str = "usage: rewrite STEP IMAGE -o IMAGE
        rewrite STEP --set SET -o SET
-steps: range, marks (in this order)";
+steps: range, marks, actors (in this order)";
 
 fn main() -> ExitCode {
     let arguments: Vec<String> = std::env::args().skip(1).collect();
@@ -49,8 +49,19 @@ fn one_set(step: Step, from: &str, to: &str) -> Result<(), String> {
     for (number, refusal) in &set.left_out {
         eprintln!("{from}: case {number} is left out: {refusal}");
     }
+    let changed = set.afresh.iter().filter(|(_, before, after)| before != after);
+    for (number, before, after) in changed.clone() {
+        println!("{from}: case {number}: {} is now {}", shown(before), shown(after));
+    }
     write(to, &set.bytes)?;
     let (kept, left_out) = (set.kept, set.left_out.len());
     println!("{to}: {} rewritten, {kept} kept, {left_out} left out", set.rewritten);
+    if !set.afresh.is_empty() {
+        println!("{to}: {} verdicts made afresh, {} changed", set.afresh.len(), changed.count());
+    }
     Ok(())
+}
+
+fn shown(fields: &set::Fields) -> String {
+    fields.map(|field| field.to_string()).join(" ")
 }

@@ -1,14 +1,18 @@
 //! Images keep their verdicts, and what cannot be read is refused.
 
-use reference::checker::check;
+use reference::checker::obligations::{duties, Duty};
+use reference::checker::{check, decode};
+use reference::image::Thread;
 use reference::stored::{images, stored_images};
 use rewrite::{set, Refusal, Step};
 
 /// Samples of the stored sets from before each step, with the verdicts of that time.
-const SAMPLES: [(Step, &[u8]); 2] = [
+const SAMPLES: [(Step, &[u8]); 3] = [
     (Step::Range, include_bytes!("before-range.bin")),
     (Step::Marks, include_bytes!("before-marks.bin")),
+    (Step::Actors, BEFORE_ACTORS),
 ];
+const BEFORE_ACTORS: &[u8] = include_bytes!("before-actors.bin");
 
 /// The scope page's first small image, as it was before any step.
 const SMALL: [u8; 49] = [
@@ -36,6 +40,9 @@ fn rewritten(sample: &[u8], step: Step) -> set::Rewritten {
         let [code, record, ..] = cases[number - 1].fields;
         assert_eq!((code, record, *refusal), (5, 1, Refusal::Header), "case {number}");
     }
+    for (number, before, after) in &set.afresh {
+        assert_eq!((before[2], after[2]), (4, 4), "case {number}");
+    }
     set
 }
 
@@ -51,6 +58,49 @@ fn stored_verdicts_are_kept() {
         assert!(judged.iter().all(|agrees| *agrees), "{first:?}: {judged:?}");
         assert_eq!(judged.len(), set.rewritten + set.kept);
     }
+}
+
+/// The obligations of class 4 with their lines, in the order from before the actors.
+fn by_asserting_side(threads: &[Thread], lines: &[u16]) -> Vec<(Duty, u16)> {
+    let mut kept: Vec<Duty> = duties(threads);
+    kept.retain(|duty| matches!(duty, Duty::Kept { .. }));
+    kept.sort_by_key(|duty| match *duty {
+        Duty::Kept { thread, point, actor, action } => (thread, point, actor, action),
+        _ => unreachable!("only class 4 is left"),
+    });
+    let first = lines.len() - kept.len();
+    kept.into_iter().zip(lines[first..].iter().copied()).collect()
+}
+
+#[test]
+fn every_obligation_keeps_its_line() {
+    let mut moved = 0;
+    for case in stored_images(BEFORE_ACTORS).expect("the sample is whole") {
+        let Ok(before) = decode(case.image) else { continue };
+        let image = Step::Actors.rewrite(case.image).expect("an earlier image");
+        let after = decode(&image).expect("still in order");
+        let threads = &before.program.threads;
+        let all: Vec<(Duty, u16)> =
+            duties(threads).into_iter().zip(after.obligations.iter().copied()).collect();
+        let class_4 = by_asserting_side(threads, &before.obligations);
+        let first = all.len() - class_4.len();
+        assert_eq!(before.obligations[..first], after.obligations[..first]);
+        assert!(class_4.iter().all(|with_line| all.contains(with_line)));
+        assert_eq!(check(&image).code == 0, case.fields[0] == 0);
+        moved += usize::from(before.obligations != after.obligations);
+    }
+    assert!(moved >= 50, "{moved} images have lines that move");
+}
+
+#[test]
+fn verdicts_of_class_4_are_made_afresh_and_no_others() {
+    let cases = stored_images(BEFORE_ACTORS).expect("the sample is whole");
+    let set = rewritten(BEFORE_ACTORS, Step::Actors);
+    let class_4 = (1..).zip(&cases).filter(|(_, case)| case.fields[2] == 4).map(|(n, _)| n);
+    let afresh: Vec<usize> = set.afresh.iter().map(|(number, ..)| *number).collect();
+    assert_eq!(afresh, class_4.collect::<Vec<usize>>());
+    let changed = set.afresh.iter().filter(|(_, before, after)| before != after).count();
+    assert!(changed >= 20, "{changed} of {} changed", afresh.len());
 }
 
 #[test]
@@ -89,6 +139,11 @@ fn no_image_is_rewritten_twice() {
     twice(Step::Range, &[1, 1, 0, 0]);
     twice(Step::Range, &[1, 1, 1, 0, 1]);
     twice(Step::Marks, &[1, 1, 1, 8, 0, 1]);
+    // Of class 4 the bytes do not say in which order it is.
+    assert_eq!(
+        Step::Actors.rewrite(&small_with(&[1, 1, 0, 8, 0])),
+        Ok(small_with(&[1, 1, 0, 8, 0]))
+    );
 }
 
 #[test]
@@ -98,12 +153,26 @@ fn what_cannot_be_read_is_refused() {
         assert_eq!(refused(&[]), Refusal::Frames);
         assert_eq!(refused(&SMALL[..48]), Refusal::Frames);
         assert_eq!(refused(&[&SMALL[..], &[0]].concat()), Refusal::Frames);
+    }
+    for step in [Step::Range, Step::Marks] {
+        let refused = |image: &[u8]| step.rewrite(image).expect_err("not readable");
         let mut more_words = SMALL;
         more_words[5] = 2;
         assert_eq!(refused(&more_words), Refusal::Header);
         assert_eq!(refused(&small_with(&[1, 1])), Refusal::Header);
     }
-    // A header of one layout is none of another.
+    let unordered = |place: usize, byte: u8| {
+        let mut image = SMALL;
+        image[place] = byte;
+        Step::Actors.rewrite(&image)
+    };
+    assert_eq!(unordered(24, 2), Err(Refusal::Lengths)); // an instruction is missing
+    assert_eq!(unordered(24, 1), Ok(SMALL.to_vec()));
+    let more = [&SMALL[..43], &[6, 0, 6, 0, 1, 0, 1, 0]].concat();
+    assert_eq!(Step::Actors.rewrite(&more), Err(Refusal::Lengths)); // a line too many
+    let half = [&SMALL[..43], &[5, 0, 6, 0, 1, 0, 1]].concat();
+    assert_eq!(Step::Actors.rewrite(&half), Err(Refusal::Lengths)); // half a number
+                                                                    // A header of one layout is none of another.
     assert_eq!(Step::Marks.rewrite(&SMALL), Err(Refusal::Header));
     let marked = small_with(&[1, 1, 1, 8, 0, 1, 1]);
     assert_eq!(Step::Range.rewrite(&marked), Err(Refusal::Header));

@@ -136,5 +136,31 @@ fn obligations_are_in_order() {
     };
     let classes: Vec<u8> = list.iter().map(class).collect();
     assert_eq!(classes, [1, 1, 2, 3, 2, 2, 4, 4, 4, 4, 4]);
-    assert_eq!(list[10], Duty::Kept { thread: 2, point: 1, actor: 1, action: 0 });
+    assert_eq!(
+        list[6..],
+        kept([(2, 0, 1, 0), (2, 1, 1, 0), (1, 0, 2, 0), (1, 1, 2, 0), (1, 2, 2, 0)])
+    );
+}
+
+fn kept<const N: usize>(places: [(u8, u8, u8, u8); N]) -> [Duty; N] {
+    places.map(|(thread, point, actor, action)| Duty::Kept { thread, point, actor, action })
+}
+
+#[test]
+fn class_4_goes_by_the_actor() {
+    let load = || Instruction::Load { register: 1, word: 1, acquiring: false };
+    let list = duties(&[vec![load(), load()], vec![load()], Vec::new()]);
+    let by_first = [
+        (2, 0, 1, 0),
+        (2, 1, 1, 0),
+        (3, 0, 1, 0), // the first action of thread 1
+        (2, 0, 1, 1),
+        (2, 1, 1, 1),
+        (3, 0, 1, 1), // its second
+        (1, 0, 2, 0),
+        (1, 1, 2, 0),
+        (1, 2, 2, 0),
+        (3, 0, 2, 0), // the action of thread 2
+    ];
+    assert_eq!(list[6..], kept(by_first));
 }

@@ -1,5 +1,5 @@
 use Rattle.marks.specs.Marks.{asMarks}
-use Rattle.judging.proofs.Groups.{asserted-all, asserted-more, asserted-none}
+use Rattle.judging.proofs.Groups.{assertions-self, asserted-none, asserted-more, asserted-all}
 use Prim.Native.Nat.{_+_, _-_, _≤_, _<_}
 use mathlib.Core.Path.{_≡_}
 use Rattle.frames.specs.Records.{bodies}
@@ -11,10 +11,10 @@ use Rattle.judging.proofs.interference.judge_asserting.Statement.{state
 use Rattle.judging.proofs.interference.judge_asserting.Tie as tie
 
 abbrev Inv-loop : tie.InvT-loop
-Inv-loop s ix z y m u last q₀ j₀ q j = (last ≡ lastPoint (threadBody z (bodies s) u)) × ((last < 256) × ((j ≤ last + 1) × (q ≡ assertedTo s z (asMarks m) u j q₀)))
+Inv-loop s ix z y m t k u last q₀ j₀ q j = (last ≡ lastPoint (threadBody z (bodies s) u)) × ((last < 256) × ((j ≤ last + 1) × (q ≡ assertedTo s z (asMarks m) t k u j q₀)))
 
 abbrev μ-loop : tie.MeasureT-loop
-μ-loop s ix z y m u last q₀ j₀ q j = last + 1 - j
+μ-loop s ix z y m t k u last q₀ j₀ q j = last + 1 - j
 
 pub judge-asserting-spec : {M : Type 1} → statement M
 judge-asserting-spec =
@@ -22,6 +22,7 @@ judge-asserting-spec =
     (tie.spec
     Inv-loop
     μ-loop
+    (λ c. search (assertions-self, tests))
     (λ c κs. search tests)
     (λ c. (search tests, (search tests, (search tests, search (asserted-none, tests)))))
     (λ c κs. search tests)

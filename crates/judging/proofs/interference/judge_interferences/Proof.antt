@@ -8,10 +8,10 @@ use Rattle.judging.proofs.interference.judge_interferences.Statement.{s
 use Rattle.judging.proofs.interference.judge_interferences.Tie as tie
 
 abbrev Inv-loop : tie.InvT-loop
-Inv-loop s ix z y m threads q₀ u₀ q u = (threads ≡ z .threads) × ((threads < 256) × ((u ≤ threads) × (q ≡ interferencesTo s z (asMarks m) u q₀)))
+Inv-loop s ix z y m threads q₀ t₀ q t = (threads ≡ z .threads) × ((threads < 256) × ((t ≤ threads) × (q ≡ interferencesTo s z (asMarks m) t q₀)))
 
 abbrev μ-loop : tie.MeasureT-loop
-μ-loop s ix z y m threads q₀ u₀ q u = threads - u
+μ-loop s ix z y m threads q₀ t₀ q t = threads - t
 
 pub judge-interferences-spec : {M : Type 1} → statement M
 judge-interferences-spec =
