@@ -6,7 +6,7 @@ use records::tally::tally_of;
 ghost use mathlib.Core.Path.{_≡_};
 ghost use Prim.Native.Nat.{_-_, _≤_};
 ghost use lib.ListN.{replicate};
-ghost use Rattle.limits.specs.Limits as Limits;
+ghost use Rattle.limits.specs.Limits.{threads};
 ghost use Rattle.frames.specs.Records.{bodies, indexOf};
 ghost use Rattle.records.specs.Tally.{tallyTo};
 ghost use Rattle.content.specs.Totals.{pointsBefore, totalsOf};
@@ -37,7 +37,7 @@ fn points_before<'a, 'b>(s: &'a [u8], ix: &'b [usize], z: Sizes, t: usize) -> us
 
 // For each thread that an image may have.
 fn fill_before<'a, 'b, 'c>(s: &'a [u8], ix: &'b [usize], z: Sizes, before: &'c mut [usize])
-    requires { ⌜ (now ix ≡ indexOf (now s)) × (now before ≡ replicate Limits.threads 0) ⌝ }
+    requires { ⌜ (now ix ≡ indexOf (now s)) × (now before ≡ replicate threads 0) ⌝ }
     ensures { λ _. ⌜ now (before .exit) ≡ pointsBefore z (bodies (now (s .entry))) ⌝ }
 {
     let mut t: usize = 0;

@@ -143,9 +143,6 @@ unfolding pointsBelow
 below-length z l zero = length-replicate {A = ℕ} Limits.threads 0
 below-length z l (suc n) = length-set (pointsBelow z l n) n (tallyTo z l n .points) ∙ below-length z l n
 
-pub below-long : (z : Sizes) (l : List (List ℕ)) (m : List ℕ) (t : ℕ) → m ≡ pointsBelow z l t → length m ≡ Limits.threads
-below-long z l m t e = ap length e ∙ below-length z l t
-
 below-at : (z : Sizes) (l : List (List ℕ)) (n t : ℕ) → t < n → n ≤ Limits.threads → getD (pointsBelow z l n) t 0 ≡ tallyTo z l t .points
 unfolding pointsBelow
 below-at z l zero t h g = absurd (omega arith)
@@ -173,7 +170,13 @@ pub known-length : (z : Sizes) (l : List (List ℕ)) (y : Totals) → y ≡ tota
 unfolding totalsOf pointsBefore
 known-length z l y e = rw e (below-length z l Limits.threads)
 
-pub ruleset filling = (below-none, below-more, below-all, below-long)
+pub set-long : (m : List ℕ) (t v : ℕ) → length m ≡ Limits.threads → length (set m t v) ≡ Limits.threads
+set-long m t v e = length-set m t v ∙ e
+
+pub zeros-long : (m : List ℕ) → m ≡ replicate Limits.threads 0 → length m ≡ Limits.threads
+zeros-long m e = ap length e ∙ length-replicate {A = ℕ} Limits.threads 0
+
+pub ruleset filling = (below-none, below-more, below-all, set-long, zeros-long)
 
 pub ruleset totals = (before-is, totals-are, before-known, known-length)
 

@@ -1,6 +1,7 @@
-use Rattle.content.proofs.Laws.Places.{filling}
+use Rattle.content.proofs.Laws.Places.{filling, below-more, below-none}
 use Prim.Native.Nat.{_≤_, _-_}
 use mathlib.Core.Path.{_≡_}
+use lib.ListN.{length}
 use Rattle.limits.specs.Limits as Limits
 use Rattle.frames.specs.Records.{bodies}
 use Rattle.content.specs.Totals.{pointsBelow}
@@ -9,7 +10,7 @@ use Rattle.content.proofs.totals.fill_before.Statement.{statement}
 use Rattle.content.proofs.totals.fill_before.Tie as tie
 
 abbrev Inv-loop : tie.InvT-loop
-Inv-loop s ix z before₀ t₀ before t = (t ≤ Limits.threads) × (before ≡ pointsBelow z (bodies s) t)
+Inv-loop s ix z before₀ t₀ before t = (t ≤ Limits.threads) × ((before ≡ pointsBelow z (bodies s) t) × (length before ≡ Limits.threads))
 
 abbrev μ-loop : tie.MeasureT-loop
 μ-loop s ix z before₀ t₀ before t = Limits.threads - t
@@ -20,11 +21,13 @@ fill-before-spec =
     (tie.spec
     Inv-loop
     μ-loop
-    (λ c. (search tests, search (filling, tests)))
+    (λ c. (search tests, (search (below-none, tests), search (filling, tests))))
+    (λ c. search tests)
+    (λ c κs. search tests)
+    (λ c. search tests)
     (λ c. search (filling, tests))
-    (λ c κs. search (filling, tests))
+    (λ c. search tests)
+    (λ c. search tests)
+    (λ c. (search tests, (search (below-more, tests), search (filling, tests))))
     (λ c. search (filling, tests))
-    (λ c. search (filling, tests))
-    (λ c. search (filling, tests))
-    (λ c. (search tests, search (filling, tests)))
     (λ c. search (filling, tests)))
