@@ -1,11 +1,10 @@
 -- The ways through the loops over obligations, one law for each.
 use mathlib.Core.Path.{_≡_, refl, ap, _∙_, subst}
-use mathlib.Core.Bool.{Bool, true, false, cond}
+use mathlib.Core.Bool.{cond}
 use mathlib.Core.List.{List, [], _∷_, _++_, map}
 use Prim.Native.Nat.{ℕ, suc, _+_, _-_, _≤_, _<_}
 use native.Mathlib.Numerals.{add-one}
 use native.Mathlib.Omega.{arith}
-use lib.Dec.{eqb}
 use borrow.Author.Tests.{eq-eqb, ne-eqb}
 use Rattle.logic.specs.Opcode as Opcode
 use Rattle.logic.specs.Machine.{Program, Instr, Instr.act, Instr.branch}
@@ -26,7 +25,7 @@ use Rattle.judging.specs.declared.outcome.Outcome.{Outcome}
 use Rattle.judging.specs.declared.outcome.Outcome.the-variants.{Met}
 use Rattle.report.specs.Place.{obligation}
 use Rattle.judging.specs.Judge.{next, judged, judgeAt}
-use Rattle.judging.specs.Walk.{program, startsTo, ownAt, ownTo, stepsTo, assertedTo, assertionsAt, assertionsTo, actionsTo, interferencesTo}
+use Rattle.judging.specs.Walk.{program, startsTo, ownAt, ownTo, stepsTo, actingAt, assertedTo, assertionsAt, assertionsTo, actionsTo, interferencesTo}
 
 flat-single : {A B : Type 0} (f : A → B) (l : List A) → map f l ≡ flat (λ a. f a ∷ []) l
 flat-single f [] = refl
@@ -84,6 +83,19 @@ module _ (s : List ℕ) (z : Sizes) (m : Marks) where
     unfolding ownAt judged
     own-act r p e c = rw (own-is (instr (bodies s) (instructionOf z (bodies s) t k)), branch-is (bodies s) (instructionOf z (bodies s) t k), ← h, ne-eqb _ _ e) c
 
+    module _ (u j : ℕ) where
+      acting-is : (c : Instr) → acting P u j t k c ≡ cond (isBranch c) [] (interference u j t k ∷ [])
+      acting-is (act A ns) = refl
+      acting-is (branch e a) = refl
+
+      pub acting-branch : (r : Outcome) → i .operation ≡ Opcode.branch → r ≡ actingAt s z m u j t k r
+      unfolding actingAt judged
+      acting-branch r e = rw (acting-is (instr (bodies s) (instructionOf z (bodies s) t k)), branch-is (bodies s) (instructionOf z (bodies s) t k), ← h, eq-eqb _ _ e)
+
+      pub acting-act : (r p : Outcome) → (i .operation ≡ Opcode.branch → ⊥) → p ≡ next s z m (Interference u j t k) r → p ≡ actingAt s z m u j t k r
+      unfolding actingAt judged
+      acting-act r p e c = rw (acting-is (instr (bodies s) (instructionOf z (bodies s) t k)), branch-is (bodies s) (instructionOf z (bodies s) t k), ← h, ne-eqb _ _ e) c
+
   -- steps
 
   module _ (t : ℕ) where
@@ -122,30 +134,9 @@ module _ (s : List ℕ) (z : Sizes) (m : Marks) where
     unfolding assertedTo judged
     asserted-none r = refl
 
-    module _ (i : Instruction) (h : i ≡ instructionOf z (bodies s) t k) where
-      acting-is : (j : ℕ) (c : Instr) → acting P u j t k c ≡ cond (isBranch c) [] (interference u j t k ∷ [])
-      acting-is j (act A ns) = refl
-      acting-is j (branch e a) = refl
-
-      acting-at : (j : ℕ) → acting P u j t k (P .code t k) ≡ cond (eqb (i .operation) Opcode.branch) [] (interference u j t k ∷ [])
-      acting-at j = rw (acting-is j (instr (bodies s) (instructionOf z (bodies s) t k)), branch-is (bodies s) (instructionOf z (bodies s) t k), ← h)
-
-      none-acting : i .operation ≡ Opcode.branch → (l : List ℕ) → flat (λ j. acting P u j t k (P .code t k)) l ≡ []
-      none-acting e [] = refl
-      none-acting e (j ∷ l) = rw (acting-at j, eq-eqb _ _ e) (none-acting e l)
-
-      pub assertions-branch : (r : Outcome) → i .operation ≡ Opcode.branch → r ≡ assertionsAt s z m t k u r
-      unfolding assertionsAt judged
-      assertions-branch r e = go (eqb t u)
-        where
-          go : (b : Bool) → r ≡ judged s z m (elim b as (λ y. List Logic.Obligation) [ true ↦ [] | false ↦ flat (λ j. acting P u j t k (P .code t k)) (below (asserted P u)) ]) r
-          go true = refl
-          go false = rw (none-acting e (below (asserted P u)))
-
-      pub asserted-more : (j : ℕ) (r q p : Outcome) → (i .operation ≡ Opcode.branch → ⊥) → q ≡ assertedTo s z m t k u j r → p ≡ next s z m (Interference u j t k) q
-          → p ≡ assertedTo s z m t k u (j + 1) r
-      unfolding assertedTo judged
-      asserted-more j r q p e d c = rw (judged-below (λ j. acting P u j t k (P .code t k)) j r, ← d, acting-at j, ne-eqb _ _ e) c
+    pub asserted-more : (j : ℕ) (r q p : Outcome) → q ≡ assertedTo s z m t k u j r → p ≡ actingAt s z m u j t k q → p ≡ assertedTo s z m t k u (j + 1) r
+    unfolding assertedTo actingAt
+    asserted-more j r q p e d = rw (judged-below (λ j. acting P u j t k (P .code t k)) j r, ← e) d
 
     pub asserted-all : (j n : ℕ) (r q : Outcome) → (t ≡ u → ⊥) → n ≡ lastPoint (threadBody z (bodies s) u) → j ≤ n + 1 → n < j → q ≡ assertedTo s z m t k u j r
         → q ≡ assertionsAt s z m t k u r
@@ -200,4 +191,4 @@ module _ (s : List ℕ) (z : Sizes) (m : Marks) where
   all-judged a b q ea eb eq =
       rw (judged-append (starts P) (steps P ++ interferences P) (Met 0), judged-append (steps P) (interferences P) (judged s z m (starts P) (Met 0)), ← ea, ← eb) eq
 
-pub ruleset instructions = (own-branch, own-act)
+pub ruleset instructions = (own-branch, own-act, acting-branch, acting-act)

@@ -8,7 +8,7 @@ use lib.Dec.{eqb}
 use Rattle.logic.specs.Base.{All, Within}
 use Rattle.logic.specs.Machine.{Program, Instr, Instr.act, Instr.branch}
 use Rattle.logic.specs.Statement.{isBranch}
-use Rattle.logic.specs.Obligations.{Obligation, Obligation.start, below, upTo, flat, own, acting, instructed, actions, starts, steps, interferences, obligations}
+use Rattle.logic.specs.Obligations.{Obligation, Obligation.start, below, upTo, flat, own, acting, instructed, asserted, assertions, starts, steps, interferences, obligations}
 use Rattle.wanted.proofs.Asked.{InRange}
 
 all-append : {A : Type 0} (Q : A → Type 0) (l m : List A) → All Q l → All Q m → All Q (l ++ m)
@@ -42,12 +42,14 @@ module _ (P : Program) where
   acting-ranged u j t k (act A ns) w h y g = (((w, h), (y, g)), tt)
   acting-ranged u j t k (branch a b) w h y g = tt
 
-  actions-ranged : (u j t : ℕ) → Within (P .threads) u → j < P .points u → Within (P .threads) t → All Fine (actions P u j t)
-  actions-ranged u j t w h y = go (eqb t u)
+  assertions-ranged : (t k u : ℕ) → Within (P .threads) t → suc k < P .points t → Within (P .threads) u → All Fine (assertions P t k u)
+  assertions-ranged t k u y g w = go (eqb t u)
     where
-      go : (b : Bool) → All Fine (elim b as (λ y. List Obligation) [ true ↦ [] | false ↦ flat (λ k. acting P u j t k (P .code t k)) (instructed P t) ])
+      go : (b : Bool) → All Fine (elim b as (λ y. List Obligation) [ true ↦ [] | false ↦ flat (λ j. acting P u j t k (P .code t k)) (below (asserted P u)) ])
       go true = tt
-      go false = all-flat Fine (λ k. acting P u j t k (P .code t k)) (instructed P t) (all-below (λ k. All Fine (acting P u j t k (P .code t k))) (P .points t - 1) (λ k b. acting-ranged u j t k (P .code t k) w h y (omega arith)))
+      go false =
+          all-flat Fine (λ j. acting P u j t k (P .code t k)) (below (asserted P u))
+          (all-below (λ j. All Fine (acting P u j t k (P .code t k))) (asserted P u) (λ j b. acting-ranged u j t k (P .code t k) w b y g))
 
   steps-ranged : All Fine (steps P)
   steps-ranged =
@@ -58,11 +60,12 @@ module _ (P : Program) where
 
   interferences-ranged : All Fine (interferences P)
   interferences-ranged =
-      all-flat Fine (λ u. flat (λ j. flat (λ t. actions P u j t) (upTo (P .threads))) (below (P .points u))) (upTo (P .threads))
-      (all-up (λ u. All Fine (flat (λ j. flat (λ t. actions P u j t) (upTo (P .threads))) (below (P .points u)))) (P .threads)
-      (λ u w. all-flat Fine (λ j. flat (λ t. actions P u j t) (upTo (P .threads))) (below (P .points u))
-      (all-below (λ j. All Fine (flat (λ t. actions P u j t) (upTo (P .threads)))) (P .points u)
-      (λ j b. all-flat Fine (λ t. actions P u j t) (upTo (P .threads)) (all-up (λ t. All Fine (actions P u j t)) (P .threads) (λ t y. actions-ranged u j t w b y))))))
+      all-flat Fine (λ t. flat (λ k. flat (λ u. assertions P t k u) (upTo (P .threads))) (instructed P t)) (upTo (P .threads))
+      (all-up (λ t. All Fine (flat (λ k. flat (λ u. assertions P t k u) (upTo (P .threads))) (instructed P t))) (P .threads)
+      (λ t y. all-flat Fine (λ k. flat (λ u. assertions P t k u) (upTo (P .threads))) (instructed P t)
+      (all-below (λ k. All Fine (flat (λ u. assertions P t k u) (upTo (P .threads)))) (P .points t - 1)
+      (λ k b. all-flat Fine (λ u. assertions P t k u) (upTo (P .threads))
+      (all-up (λ u. All Fine (assertions P t k u)) (P .threads) (λ u w. assertions-ranged t k u y (omega arith) w))))))
 
   pub obligations-ranged : All Fine (obligations P)
   obligations-ranged =

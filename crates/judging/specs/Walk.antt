@@ -31,6 +31,10 @@ module _ (s : List ℕ) (z : Sizes) (m : Marks) where
   unfoldable pub stepsTo : ℕ → Outcome → Outcome
   stepsTo n r = judged s z m (flat (λ t. flat (λ k. own P t k (P .code t k)) (instructed P t)) (upTo n)) r
 
+  -- the assertion at point j of thread u under the instruction at point k of thread t
+  unfoldable pub actingAt : ℕ → ℕ → ℕ → ℕ → Outcome → Outcome
+  actingAt u j t k r = judged s z m (acting P u j t k (P .code t k)) r
+
   -- under the instruction at point k of thread t: the assertions of u at its points below n; all of u; those of threads 1 to n
   unfoldable pub assertedTo : ℕ → ℕ → ℕ → ℕ → Outcome → Outcome
   assertedTo t k u n r = judged s z m (flat (λ j. acting P u j t k (P .code t k)) (below n)) r

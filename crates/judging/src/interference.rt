@@ -13,10 +13,46 @@ ghost use Rattle.content.specs.Totals.{totalsOf};
 ghost use Rattle.program.specs.Thread.{lastPoint};
 ghost use Rattle.records.specs.Places.{threadBody};
 ghost use Rattle.marks.specs.Marks.{asMarks};
-ghost use Rattle.judging.specs.Walk.{assertionsAt, assertionsTo, actionsTo, interferencesTo};
+ghost use Rattle.judging.specs.Walk.{actingAt, assertionsAt, assertionsTo, actionsTo, interferencesTo};
+
+// One assertion under one instruction. A branch is no action.
+fn judge_assertion<'a, 'b, 'c>(
+    s: &'a [u8],
+    ix: &'b [usize],
+    z: Sizes,
+    y: Totals,
+    m: &'c [bool],
+    u: usize,
+    j: usize,
+    t: usize,
+    k: usize,
+    r: Outcome,
+) -> Outcome
+    requires { ⌜ (now ix ≡ indexOf (now s)) × (y ≡ totalsOf z (bodies (now s))) ⌝ }
+    ensures { λ q. ⌜ q ≡ actingAt (now (s .entry)) z (asMarks (now (m .entry))) u j t k r ⌝ }
+{
+    let i = instruction_of(s, ix, z, t, k);
+    if i.operation == Instruction::BRANCH {
+        return r;
+    }
+    judge_next(
+        s,
+        ix,
+        z,
+        y,
+        m,
+        Obligation::Interference {
+            thread: u,
+            point: j,
+            other: t,
+            other_point: k,
+        },
+        r,
+    )
+}
 
 // The assertions of thread u, the last one too, under the instruction at point k of thread t. A thread does not interfere with
-// itself, and a branch is no action.
+// itself.
 fn judge_asserting<'a, 'b, 'c>(
     s: &'a [u8],
     ix: &'b [usize],
@@ -34,21 +70,11 @@ fn judge_asserting<'a, 'b, 'c>(
     if t == u {
         return r;
     }
-    let i = instruction_of(s, ix, z, t, k);
-    if i.operation == Instruction::BRANCH {
-        return r;
-    }
     let last = last_point_of(s, ix, z, u);
     let mut q = r;
     let mut j: usize = 0;
     while j <= last {
-        let o = Obligation::Interference {
-            thread: u,
-            point: j,
-            other: t,
-            other_point: k,
-        };
-        q = judge_next(s, ix, z, y, m, o, q);
+        q = judge_assertion(s, ix, z, y, m, u, j, t, k, q);
         j += 1;
     }
     q

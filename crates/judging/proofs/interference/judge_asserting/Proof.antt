@@ -1,10 +1,10 @@
 use Rattle.marks.specs.Marks.{asMarks}
-use Rattle.judging.proofs.Groups.{assertions-self, assertions-branch, asserted-none, asserted-more, asserted-all}
+use Rattle.judging.proofs.Groups.{assertions-self, asserted-none, asserted-more, asserted-all}
 use Prim.Native.Nat.{_+_, _-_, _≤_, _<_}
 use mathlib.Core.Path.{_≡_}
 use Rattle.frames.specs.Records.{bodies}
 use Rattle.program.specs.Thread.{lastPoint}
-use Rattle.records.specs.Places.{threadBody, instructionOf}
+use Rattle.records.specs.Places.{threadBody}
 use Rattle.judging.specs.Walk.{assertedTo}
 use Rattle.limits.proofs.Auto.{tests}
 use Rattle.judging.proofs.interference.judge_asserting.Statement.{statement}
@@ -23,8 +23,6 @@ judge-asserting-spec =
     Inv-loop
     μ-loop
     (λ c. search (assertions-self, tests))
-    (λ c κs. search tests)
-    (λ c. search (assertions-branch, tests))
     (λ c κs. search tests)
     (λ c. (search tests, (search tests, (search tests, search (asserted-none, tests)))))
     (λ c κs. search tests)
