@@ -43,9 +43,10 @@ fn mistakes_have_lines_and_words() {
         ("word x = 0\nthread a { x = 0 }", 2, "registers only"),
         ("thread a { true }", 1, "0 words"),
         (
-            "word x = 0 thread a { true } thread b { true }\nthread c { true } thread d { true }",
+            "word x = 0 thread a { true } thread b { true } thread c { true }\n\
+             thread d { true } thread e { true }",
             2,
-            "4 threads",
+            "5 threads",
         ),
     ];
     for (text, line, words) in cases {
