@@ -12,13 +12,11 @@ here=$(cd "$(dirname "${BASH_SOURCE[0]}")" && pwd)
 if [ $# -eq 0 ]; then
     set -- "$here"/mutants/*.edit
 fi
-lists=()
-for list in "$@"; do
-    lists+=("$(realpath "$list")")
-done
 work=$(mktemp -d)
 trap 'rm -rf "$work"' EXIT
-mkdir "$work/bench"
+mkdir "$work/bench" "$work/lists"
+# Copies, so that lists and sources may be changed meanwhile.
+cp "$@" "$work/lists"
 cp -r "$here/reference" "$here/sets" "$work/bench/"
 cp -r "$here/reference/src" "$work/original"
 # The workspace without the members that are not needed here.
@@ -59,7 +57,7 @@ try_edit() {
     printf '%s\n' "$content" >"bench/reference/src/$file"
 }
 
-for edits in "${lists[@]}"; do
+for edits in "$work"/lists/*; do
     file='' old=''
     while IFS= read -r line; do
         case $line in

@@ -60,7 +60,7 @@ fn all_prospects(state: &State, interval: &Interval, list: &mut Vec<View>, longe
 #[test]
 fn maximal_chains_decide_all_prospects() {
     let counts = Counts { threads: 1, words: 2, registers: 0, range: 8 };
-    let vocabulary = Vocabulary::of(&Header { counts, start: vec![0; 2], owners: Vec::new() });
+    let vocabulary = Vocabulary::of(&Header::cleared(counts, vec![0; 2], Vec::new()));
     let random = &mut Random::new(7);
     let mut seen = 0;
     for _ in 0..4000 {

@@ -12,7 +12,7 @@ use sets::generate::image;
 use std::collections::BTreeMap;
 use std::rc::Rc;
 
-const BOUNDS: Bounds = Bounds { steps: 4, writes: 3 };
+const BOUNDS: Bounds = Bounds { steps: 4, writes: 3, starts: 6 };
 
 /// The states after the instruction at a point, from a state whatever its point.
 fn after(program: &Program, state: &State, thread: u8, point: u8) -> Vec<State> {
@@ -26,8 +26,7 @@ fn after(program: &Program, state: &State, thread: u8, point: u8) -> Vec<State> 
 
 /// How often the left side was true; fails where the right side is not.
 fn live_checks(program: &Program, states: &[Rc<State>], statement: &Statement) -> usize {
-    let start = &states[0];
-    let true_in = |assertion: &Assertion, state: &State| is_true(assertion, state, start);
+    let true_in = |assertion: &Assertion, state: &State| is_true(assertion, state, &program.header);
     let mut live = 0;
     for state in states {
         match statement {

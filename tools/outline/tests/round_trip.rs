@@ -134,9 +134,11 @@ fn random_image(dice: &mut Dice) -> Written {
     let fields = |(code, operands): (&Thread, &[u16])| {
         code.iter().zip(operands).map(|(instruction, n)| instruction.fields(*n)).collect()
     };
-    let counts = Counts { threads: 2, words: 2, registers: 3, range: 8 };
+    let counts = Counts { threads: 2, words: 2, registers: 3, range: dice.number(8, 16) };
+    let start = vec![dice.number(0, 7), 5];
+    let marks = (0..3).map(|_| dice.number(0, 1)).collect();
     Written {
-        header: Header { counts, start: vec![dice.number(0, 7), 5], owners: vec![1, 2, 1] },
+        header: Header { counts, start, owners: vec![1, 2, 1], marks },
         formulas: formulas(dice, operands).iter().map(Formula::encode).collect(),
         threads: threads.iter().zip(OPERANDS).map(fields).collect(),
         outline: (0..10).map(|_| 4 + dice.roll(12) as u16).collect(),

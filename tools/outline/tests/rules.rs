@@ -13,6 +13,7 @@ thread a
   { true } r <-acq x { true } x :=rel 1 { true } swap x := 2 { true } r := r + 1 { true }
 thread b
   registers q
+  open registers o
   { true } q <- x { true } x := 1 { true }
 thread c
   registers s, p
@@ -144,6 +145,7 @@ const UNFITTING: &[&str] = &[
     "fact { a sees one x and b sees one y } to { a sees one x & one y } by 25",
     "fact { start } to { b sees one y = 0 } by 26",
     "fact { start } to { q = 1 } by 27",
+    "fact { start } to { o = 0 } by 27",
     "part [x < 2] in [x = 1] by 30",
     "part one x ; one x in one x by 37",
     "part one x ; [x = 1] in one x ; [x = 2] by 32",
@@ -167,6 +169,7 @@ fn routine_steps_are_found() {
         "fact { a sees ([x = 0] ; [x = 1]) and a sees one y = 1 } to { a sees [x < 2 and y = 1] }",
         "fact { (r = 1 or a sees [x = 1]) and r = 0 } to { a sees [x != 0] or q = 7 }",
         "fact { start } to { a sees [x = r and y = 5] and q + r = 0 }",
+        "fact { start } to { a sees [x = r and y + o = 5 + o] and q <= o }",
         "part [x = 0] ; one x = 1 ; [x = 2] in [x < 2] ; [x = 2]",
         "step a 0: { a sees [x = 0] ; [unsync x] ; [y = 1] } to { r = 0 or a sees [y = 1] }",
         "step a 2: { a sees [cov x] ; [unsync x] ; [y = 1] } to { a sees [y = 1] }",
@@ -245,6 +248,8 @@ fn what_is_false_is_not_found() {
         "fact { a sees [x = 0] ; [x = 1] } to { a sees [x = 0] }",
         "fact { a sees one x = 0 or r = 1 } to { a sees [x = 0] }",
         "fact { start } to { a sees [x = 1] }",
+        "fact { start } to { o = 0 }",
+        "fact { start } to { a sees [x = o] }",
         "part [x < 2] ; [x = 2] in [x = 0] ; [x = 2]",
         "step b 0: { b sees [x = 0] ; [unsync x] ; [y = 1] } to { q = 0 or b sees [y = 1] }",
         "step b 1: { a sees [x = 0] and q = 0 } to { a sees [x = 0] ; [x = 1] }",

@@ -1,13 +1,13 @@
 //! Runs every order of steps of an image's program up to a bound and evaluates
 //! each assertion exactly.
 //!
-//! Usage: explore FILE [--steps N] [--writes N]
+//! Usage: explore FILE [--steps N] [--writes N] [--starts N]
 
 use reference::checker::{check, decode};
 use reference::explore::{describe, explore, Bounds, Outcome};
 use std::process::ExitCode;
 
-const USAGE: &str = "usage: explore FILE [--steps N] [--writes N]";
+const USAGE: &str = "usage: explore FILE [--steps N] [--writes N] [--starts N]";
 
 struct Options {
     path: String,
@@ -16,12 +16,13 @@ struct Options {
 
 fn options() -> Option<Options> {
     let mut path = None;
-    let mut bounds = Bounds { steps: 24, writes: 6 };
+    let mut bounds = Bounds { steps: 24, writes: 6, starts: 4096 };
     let mut arguments = std::env::args().skip(1);
     while let Some(argument) = arguments.next() {
         match argument.as_str() {
             "--steps" => bounds.steps = arguments.next()?.parse().ok()?,
             "--writes" => bounds.writes = arguments.next()?.parse().ok().filter(|&n| n <= 200)?,
+            "--starts" => bounds.starts = arguments.next()?.parse().ok()?,
             _ => path = Some(argument),
         }
     }

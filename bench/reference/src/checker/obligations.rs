@@ -35,13 +35,22 @@ pub fn duties(threads: &[Thread]) -> Vec<Duty> {
             list.push(Duty::Next { thread, point });
         }
     }
+    list.extend(kept(threads));
+    list
+}
+
+/// Class 4, by acting thread, acting point, asserting thread, asserting point.
+fn kept(threads: &[Thread]) -> impl Iterator<Item = Duty> {
+    let mut places = Vec::new();
     for (thread, code) in numbered(threads) {
         for point in 0..=code.len() as u8 {
             let actions = actions_of_others(threads, thread);
-            list.extend(actions.map(|(actor, action)| Duty::Kept { thread, point, actor, action }));
+            places.extend(actions.map(|(actor, action)| (thread, point, actor, action)));
         }
     }
-    list
+    places.sort_by_key(|&(thread, point, actor, action)| (actor, action, thread, point));
+    let kept = |(thread, point, actor, action)| Duty::Kept { thread, point, actor, action };
+    places.into_iter().map(kept)
 }
 
 fn numbered(threads: &[Thread]) -> impl Iterator<Item = (u8, &Thread)> {

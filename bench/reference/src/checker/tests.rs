@@ -1,6 +1,6 @@
 //! Verdicts worked out by hand.
 use super::obligations::{duties, Duty};
-use super::{check, check_into};
+use super::{check, check_into, check_within, limits};
 use crate::formula::Test;
 use crate::image::Instruction;
 use std::rc::Rc;
@@ -37,8 +37,17 @@ fn small_image_without_a_line() {
 #[test]
 fn whole_image() {
     assert_eq!(verdict(&[]), "2 0 0 0 0 0 0 0 0");
-    assert_eq!(verdict(&vec![0; 65_536]), "2 0 0 0 0 0 0 0 0");
-    assert_eq!(verdict(&vec![0; 65_535]), "3 1 0 0 0 0 0 0 0");
+    assert_eq!(verdict(&vec![0; 262_145]), "2 0 0 0 0 0 0 0 0");
+    assert_eq!(verdict(&vec![0; 262_144]), "3 1 0 0 0 0 0 0 0");
+}
+
+#[test]
+fn the_program_reads_less_than_the_library() {
+    let by_program = |image: &[u8]| check_within(image, limits::PROGRAM_BYTES).to_string();
+    assert_eq!(by_program(&vec![0; 65_536]), "2 0 0 0 0 0 0 0 0");
+    assert_eq!(by_program(&vec![0; 65_535]), "3 1 0 0 0 0 0 0 0");
+    assert_eq!(by_program(&[]), "2 0 0 0 0 0 0 0 0");
+    assert_eq!(by_program(&bytes(SMALL)), verdict(&bytes(SMALL)));
 }
 
 #[test]
@@ -72,6 +81,40 @@ fn bodies() {
     assert_eq!(verdict(&changed(48, 2)), "6 7 0 0 0 0 0 0 0"); // no line 2
 }
 
+/// The small image with two registers, of range 8, and these owners and marks.
+fn with_registers(owners: [u8; 2], marks: &[u8]) -> Vec<u8> {
+    let header = [&[1, 1, 2, 8, 0][..], &owners, marks].concat();
+    let length = header.len() as u8 + 2;
+    [&[length, 0, 1, 0][..], &header, &bytes(SMALL)[9..]].concat()
+}
+
+#[test]
+fn marks() {
+    assert_eq!(verdict(&with_registers([1, 1], &[1, 1])), "0 0 0 0 0 0 0 0 1");
+    assert_eq!(verdict(&with_registers([1, 1], &[0, 1])), "0 0 0 0 0 0 0 0 1");
+    assert_eq!(verdict(&with_registers([1, 1], &[1, 2])), "6 1 0 0 0 0 0 0 0"); // no mark
+    assert_eq!(verdict(&with_registers([1, 0], &[1, 1])), "6 1 0 0 0 0 0 0 0"); // marks first
+    assert_eq!(verdict(&with_registers([1, 1], &[])), "5 1 0 0 0 0 0 0 0"); // no marks
+    assert_eq!(verdict(&with_registers([1, 1], &[1])), "5 1 0 0 0 0 0 0 0");
+    assert_eq!(verdict(&with_registers([1, 1], &[1, 1, 1])), "5 1 0 0 0 0 0 0 0");
+}
+
+/// One obligation: from start that register 1 is 0, by rule 27.
+fn trusting(mark: u8) -> Vec<u8> {
+    let header = [9, 0, 1, 0, 1, 1, 1, 8, 0, 1, mark];
+    let formula = [8, 0, 2, 0, 28, 9, 1, 1, 0, 0];
+    let mut rest = bytes(SMALL)[16..].to_vec();
+    let rule = rest.iter().position(|&byte| byte == 20).expect("a line by rule 20");
+    rest[rule] = 27;
+    [&header[..], &formula, &rest].concat()
+}
+
+#[test]
+fn rule_27_asks_for_the_mark() {
+    assert_eq!(verdict(&trusting(1)), "0 0 0 0 0 0 0 0 1");
+    assert_eq!(verdict(&trusting(0)), "22 0 1 1 0 0 0 1 0");
+}
+
 #[test]
 fn obligations() {
     assert_eq!(verdict(&changed(39, 1)), "21 0 1 1 0 0 0 1 0"); // true to true
@@ -102,5 +145,31 @@ fn obligations_are_in_order() {
     };
     let classes: Vec<u8> = list.iter().map(class).collect();
     assert_eq!(classes, [1, 1, 2, 3, 2, 2, 4, 4, 4, 4, 4]);
-    assert_eq!(list[10], Duty::Kept { thread: 2, point: 1, actor: 1, action: 0 });
+    assert_eq!(
+        list[6..],
+        kept([(2, 0, 1, 0), (2, 1, 1, 0), (1, 0, 2, 0), (1, 1, 2, 0), (1, 2, 2, 0)])
+    );
+}
+
+fn kept<const N: usize>(places: [(u8, u8, u8, u8); N]) -> [Duty; N] {
+    places.map(|(thread, point, actor, action)| Duty::Kept { thread, point, actor, action })
+}
+
+#[test]
+fn class_4_goes_by_the_actor() {
+    let load = || Instruction::Load { register: 1, word: 1, acquiring: false };
+    let list = duties(&[vec![load(), load()], vec![load()], Vec::new()]);
+    let by_first = [
+        (2, 0, 1, 0),
+        (2, 1, 1, 0),
+        (3, 0, 1, 0), // the first action of thread 1
+        (2, 0, 1, 1),
+        (2, 1, 1, 1),
+        (3, 0, 1, 1), // its second
+        (1, 0, 2, 0),
+        (1, 1, 2, 0),
+        (1, 2, 2, 0),
+        (3, 0, 2, 0), // the action of thread 2
+    ];
+    assert_eq!(list[6..], kept(by_first));
 }

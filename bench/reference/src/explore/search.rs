@@ -13,6 +13,8 @@ pub struct Bounds {
     pub steps: usize,
     /// The most writes in a word's row.
     pub writes: usize,
+    /// The most start states.
+    pub starts: usize,
 }
 
 /// What a search has found.
@@ -34,6 +36,7 @@ pub enum Outcome {
 /// A run that ends where an assertion is false.
 #[derive(Clone, Debug, PartialEq, Eq)]
 pub struct Break {
+    pub start: State,
     pub run: Vec<Step>,
     /// The thread whose assertion is false.
     pub thread: u8,
@@ -43,14 +46,13 @@ pub struct Break {
 struct Node {
     state: Rc<State>,
     depth: usize,
-    /// The node before and the step from it; none for the start state.
+    /// The node before and the step from it; none for a start state.
     origin: Option<(usize, Step)>,
 }
 
 struct Search<'a> {
     program: &'a Program,
     bounds: Bounds,
-    start: State,
     /// All states reached, in the order of the steps that lead to them.
     nodes: Vec<Node>,
     known: HashSet<Rc<State>>,
@@ -80,21 +82,24 @@ pub fn reachable(program: &Program, bounds: Bounds) -> Vec<Rc<State>> {
 }
 
 impl<'a> Search<'a> {
-    /// A search that has reached the start state only.
+    /// A search that has reached the start states only.
     fn new(program: &'a Program, bounds: Bounds) -> Search<'a> {
-        let start = State::start(&program.header);
+        let cut = State::has_more_starts(&program.header, bounds.starts);
         let (nodes, known) = (Vec::new(), HashSet::new());
-        let mut search = Search { program, bounds, start, nodes, known, cut: false };
-        search.add(search.start.clone(), 0, None);
+        let mut search = Search { program, bounds, nodes, known, cut };
+        for start in State::starts(&program.header, bounds.starts) {
+            search.add(start, 0, None);
+        }
         search
     }
 
-    /// Visits states in the order of their distance from the start state.
+    /// Visits states in the order of their distance from a start state.
     fn run(&mut self) -> Option<Break> {
         let mut index = 0;
         while index < self.nodes.len() {
             if let Some(thread) = self.false_at(index) {
-                return Some(Break { run: self.run_to(index), thread });
+                let (start, run) = self.run_to(index);
+                return Some(Break { start, run, thread });
             }
             self.expand(index);
             index += 1;
@@ -114,7 +119,7 @@ impl<'a> Search<'a> {
         let state = &self.nodes[index].state;
         let mut places = (1..).zip(state.points.iter().copied());
         let broken = |&(thread, point): &(u8, u8)| {
-            !is_true(self.program.assertion(thread, point), state, &self.start)
+            !is_true(self.program.assertion(thread, point), state, &self.program.header)
         };
         places.find(broken).map(|(thread, _)| thread)
     }
@@ -138,8 +143,8 @@ impl<'a> Search<'a> {
         }
     }
 
-    /// The steps that lead from the start state to a node.
-    fn run_to(&self, index: usize) -> Vec<Step> {
+    /// The start state and the steps that lead from it to a node.
+    fn run_to(&self, index: usize) -> (State, Vec<Step>) {
         let mut run = Vec::new();
         let mut node = &self.nodes[index];
         while let Some((before, step)) = node.origin {
@@ -147,7 +152,7 @@ impl<'a> Search<'a> {
             node = &self.nodes[before];
         }
         run.reverse();
-        run
+        (State::clone(&node.state), run)
     }
 }
 

@@ -8,7 +8,10 @@ use std::fmt::Write as _;
 /// Describes a breaking run, line by line.
 pub fn describe(program: &Program, broken: &Break) -> String {
     let mut text = format!("breaks after {} steps\n", broken.run.len());
-    let mut state = State::start(&program.header);
+    let mut state = broken.start.clone();
+    if program.header.marks.contains(&0) {
+        let _ = writeln!(text, "     starts with registers {:?}", state.registers);
+    }
     for (number, &step) in (1..).zip(&broken.run) {
         let _ = writeln!(text, "{number:>3}. {}", describe_step(program, &state, step));
         state = take(&program.threads, &state, step).expect("a step of the run");

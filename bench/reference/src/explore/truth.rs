@@ -7,15 +7,16 @@
 
 use crate::formula::atoms::{Atom, Atoms};
 use crate::formula::{Assertion, Interval};
+use crate::image::Header;
 use crate::machine::{State, View};
 
-/// Whether the assertion is true in `state`, given the start state.
-pub fn is_true(assertion: &Assertion, state: &State, start: &State) -> bool {
+/// Whether the assertion is true in `state`; the header says which states are start states.
+pub fn is_true(assertion: &Assertion, state: &State, header: &Header) -> bool {
     match assertion {
         Assertion::Sees(thread, interval) => sees(state, *thread, interval),
-        Assertion::Both(a, b) => is_true(a, state, start) && is_true(b, state, start),
-        Assertion::Either(a, b) => is_true(a, state, start) || is_true(b, state, start),
-        Assertion::Start => state == start,
+        Assertion::Both(a, b) => is_true(a, state, header) && is_true(b, state, header),
+        Assertion::Either(a, b) => is_true(a, state, header) || is_true(b, state, header),
+        Assertion::Start => state.is_start(header),
         Assertion::Holds(test) => test.evaluate(&state.seen_at(View::default())),
     }
 }

@@ -7,7 +7,7 @@ use crate::formula::{Assertion, Formula, Interval, Test, Value};
 use std::ops::RangeInclusive;
 use std::rc::Rc;
 
-/// Counts, start values and owners.
+/// Counts, start values, owners and start marks.
 #[derive(Clone, Debug, PartialEq, Eq)]
 pub struct Header {
     pub counts: Counts,
@@ -15,6 +15,21 @@ pub struct Header {
     pub start: Vec<u8>,
     /// The thread that owns each register.
     pub owners: Vec<u8>,
+    /// For each register 1 if it starts at 0, 0 if it may start at any value.
+    pub marks: Vec<u8>,
+}
+
+impl Header {
+    /// A header whose registers all start at 0.
+    pub fn cleared(counts: Counts, start: Vec<u8>, owners: Vec<u8>) -> Header {
+        let marks = vec![1; owners.len()];
+        Header { counts, start, owners, marks }
+    }
+
+    /// Whether a register starts at 0; registers count from 1.
+    pub fn is_cleared(&self, register: u8) -> bool {
+        self.marks[usize::from(register) - 1] == 1
+    }
 }
 
 /// One instruction with its operands.

@@ -100,20 +100,22 @@ impl Written {
 }
 
 impl Header {
-    /// Counts, range, start values and owners; none if there are more or fewer than the counts say.
+    /// Counts, range, start values, owners and marks; none if there are more or fewer than the counts say.
     pub fn read(body: &[u8]) -> Option<Header> {
         let (&[threads, words, registers, range], rest) = body.split_first_chunk()?;
-        let (start, owners) = rest.split_at_checked(usize::from(words))?;
-        (owners.len() == usize::from(registers)).then(|| Header {
+        let (start, rest) = rest.split_at_checked(usize::from(words))?;
+        let (owners, marks) = rest.split_at_checked(usize::from(registers))?;
+        (marks.len() == usize::from(registers)).then(|| Header {
             counts: Counts { threads, words, registers, range },
             start: start.to_vec(),
             owners: owners.to_vec(),
+            marks: marks.to_vec(),
         })
     }
 
     fn body(&self) -> Vec<u8> {
         let Counts { threads, words, registers, range } = self.counts;
-        [&[threads, words, registers, range][..], &self.start, &self.owners].concat()
+        [&[threads, words, registers, range][..], &self.start, &self.owners, &self.marks].concat()
     }
 }
 

@@ -67,7 +67,7 @@ pub struct State {
 }
 
 impl State {
-    /// The start state.
+    /// The start state in which open registers hold 0 too.
     pub fn start(header: &Header) -> State {
         let first = |&value: &u8| {
             vec![Write { value, releasing: false, covered: false, stored: View::default() }]
@@ -80,6 +80,28 @@ impl State {
             registers: vec![0; header.owners.len()],
             points: vec![0; threads],
         }
+    }
+
+    /// Start states: all of them, if they are not more than `most`, else so many, each a choice of its own for the open
+    /// registers or one that came before. The first has zeros.
+    pub fn starts(header: &Header, most: usize) -> impl Iterator<Item = State> + '_ {
+        let choices = Choices::of(header);
+        let numbers = 0..choices.count.min(most as u128);
+        numbers.map(move |number| choices.start(header, number, most))
+    }
+
+    /// Whether there are start states that `starts` leaves out.
+    pub fn has_more_starts(header: &Header, most: usize) -> bool {
+        Choices::of(header).count > most as u128
+    }
+
+    /// Whether this is one of the start states.
+    pub fn is_start(&self, header: &Header) -> bool {
+        let permitted = (1..).zip(&self.registers).all(|(register, &value)| {
+            value < header.counts.range && (value == 0 || !header.is_cleared(register))
+        });
+        let cleared = State { registers: vec![0; self.registers.len()], ..self.clone() };
+        permitted && cleared == State::start(header)
     }
 
     /// The row of a word; words count from 1.
@@ -95,6 +117,38 @@ impl State {
     /// What a test sees of the state at a view.
     pub fn seen_at(&self, view: View) -> Seen<'_> {
         Seen { state: self, view }
+    }
+}
+
+/// The choices of a value for each open register.
+struct Choices {
+    /// The open registers, counted from 0.
+    open: Vec<usize>,
+    count: u128,
+}
+
+impl Choices {
+    /// An odd number without a pattern, to spread numbers over all choices.
+    const SPREAD: u128 = 0x9E37_79B9_7F4A_7C15;
+
+    fn of(header: &Header) -> Choices {
+        let open: Vec<usize> =
+            (0..header.marks.len()).filter(|&register| header.marks[register] == 0).collect();
+        let count = u128::from(header.counts.range).pow(open.len() as u32);
+        Choices { open, count }
+    }
+
+    /// The start state with this number: the values are its digits, spread if not all are taken.
+    fn start(&self, header: &Header, number: u128, most: usize) -> State {
+        let range = u128::from(header.counts.range);
+        let spread = self.count > most as u128;
+        let mut digits = if spread { number * Choices::SPREAD % self.count } else { number };
+        let mut state = State::start(header);
+        for &register in &self.open {
+            state.registers[register] = (digits % range) as u8;
+            digits /= range;
+        }
+        state
     }
 }
 

@@ -7,7 +7,7 @@ use std::rc::Rc;
 
 fn start(threads: u8) -> State {
     let counts = Counts { threads, words: 2, registers: 1, range: 8 };
-    State::start(&Header { counts, start: vec![3, 0], owners: vec![1] })
+    State::start(&Header::cleared(counts, vec![3, 0], vec![1]))
 }
 
 fn store(word: u8, value: u8, releasing: bool) -> Instruction {
@@ -128,7 +128,7 @@ fn an_operand_is_worked_out_before_the_step() {
         Instruction::FetchAdd { register: 2, word: 1, value: Rc::new(Value::Register(1)) },
     ]];
     let counts = Counts { threads: 1, words: 2, registers: 2, range: 8 };
-    let start = State::start(&Header { counts, start: vec![3, 0], owners: vec![1, 1] });
+    let start = State::start(&Header::cleared(counts, vec![3, 0], vec![1, 1]));
     let step = |state: State, position| {
         take(&threads, &state, Step { thread: 1, position }).expect("an allowed step")
     };
@@ -149,11 +149,57 @@ fn a_branch_goes_by_its_test() {
     assert!(refused(&one(0), &[], 0, 0));
 }
 
+/// A header of one word and registers with these marks.
+fn with_marks(range: u8, marks: &[u8]) -> Header {
+    let registers = marks.len() as u8;
+    let counts = Counts { threads: 1, words: 1, registers, range };
+    let owners = vec![1; marks.len()];
+    Header { counts, start: vec![1], owners, marks: marks.to_vec() }
+}
+
+#[test]
+fn open_registers_start_with_any_value() {
+    let header = with_marks(3, &[1, 0, 1, 0]);
+    let starts: Vec<State> = State::starts(&header, 100).collect();
+    assert_eq!(starts.len(), 9);
+    assert!(!State::has_more_starts(&header, 9) && State::has_more_starts(&header, 8));
+    for (first, second) in (0..3).flat_map(|a| (0..3).map(move |b| (a, b))) {
+        let found = starts.iter().filter(|state| state.registers == [0, first, 0, second]);
+        assert_eq!(found.count(), 1);
+    }
+    assert_eq!(starts[0], State::start(&header));
+    assert!(starts.iter().all(|state| state.is_start(&header)));
+    assert!(starts.iter().all(|state| state.rows == starts[0].rows && state.points == [0]));
+}
+
+#[test]
+fn a_bound_on_starts_leaves_start_states() {
+    let header = with_marks(16, &[0; 16]);
+    let starts: Vec<State> = State::starts(&header, 50).collect();
+    assert_eq!(starts.len(), 50);
+    assert!(starts.iter().all(|state| state.is_start(&header)));
+    assert!((0..16).all(|register| starts.iter().any(|state| state.registers[register] > 7)));
+}
+
+#[test]
+fn start_states_are_told_from_others() {
+    let header = with_marks(4, &[1, 0]);
+    let with = |registers: [u8; 2]| State { registers: registers.into(), ..State::start(&header) };
+    assert!(with([0, 0]).is_start(&header));
+    assert!(with([0, 3]).is_start(&header));
+    assert!(!with([1, 3]).is_start(&header)); // a register that is cleared
+    assert!(!with([0, 4]).is_start(&header)); // no value of the range
+    assert!(!State { points: vec![1], ..with([0, 0]) }.is_start(&header));
+    let threads = [vec![store(1, 1, false)]];
+    let step = take(&threads, &with([0, 0]), Step { thread: 1, position: 0 });
+    assert!(!step.expect("an allowed step").is_start(&header));
+}
+
 #[test]
 fn sums_are_modulo_the_range() {
     for range in 2..=16 {
         let counts = Counts { threads: 1, words: 1, registers: 2, range };
-        let start = State::start(&Header { counts, start: vec![range - 1], owners: vec![1, 1] });
+        let start = State::start(&Header::cleared(counts, vec![range - 1], vec![1, 1]));
         let two = Value::sum(Value::Constant(1), Value::Constant(1));
         let threads = [vec![
             Instruction::FetchAdd { register: 1, word: 1, value: Rc::new(Value::Constant(1)) },

@@ -51,7 +51,7 @@ fn program() -> Program {
     ];
     let counts = Counts { threads: 2, words: 2, registers: 2, range: 8 };
     Program {
-        header: Header { counts, start: vec![0, 0], owners: vec![READER, READER] },
+        header: Header::cleared(counts, vec![0, 0], vec![READER, READER]),
         threads: vec![writer, reader],
         outline: vec![
             (0..3).map(|point| Rc::new(writer_at(point))).collect(),

@@ -49,7 +49,7 @@ fn program() -> Program {
     let load = |register| Instruction::Load { register, word: X, acquiring: false };
     let counts = Counts { threads: 2, words: 1, registers: 2, range: 8 };
     Program {
-        header: Header { counts, start: vec![0], owners: vec![READER, READER] },
+        header: Header::cleared(counts, vec![0], vec![READER, READER]),
         threads: vec![vec![store(1), store(2)], vec![load(1), load(2)]],
         outline: vec![
             (0..3).map(|point| Rc::new(writer_at(point))).collect(),

@@ -1,7 +1,7 @@
 //! Damage to the records and bytes of an image.
 
 use super::random::Random;
-use reference::checker::frames;
+use reference::checker::limits;
 use reference::image::written::{image_bytes, Record};
 
 /// The bytes of the records with one or two faults put in.
@@ -33,7 +33,7 @@ fn edit_records(random: &mut Random, records: &mut Vec<Record>) {
         2 => records.insert(index, records[index].clone()),
         3 => records.swap(index, 0),
         4 => edit_length(random, &mut records[index].body),
-        5 => set_owner(random, records),
+        5 => set_owner_or_mark(random, &mut records[0].body),
         6..=8 => edit_of_kind(random, records),
         _ => edit_body(random, &mut records[index].body),
     }
@@ -73,15 +73,20 @@ fn edit_body(random: &mut Random, body: &mut [u8]) {
     };
 }
 
-/// Gives a register to another thread, which tells in instructions.
-fn set_owner(random: &mut Random, records: &mut [Record]) {
-    let body = &mut records[0].body;
-    if body.len() > 4 {
-        let owners = 4 + usize::from(body[1]);
-        if body.len() > owners {
-            let place = owners + random.below(body.len() - owners);
-            body[place] = random.between(1, body[0].clamp(1, 3));
-        }
+/// Gives a register to another thread, which tells in instructions, or another start mark, which tells in rule 27.
+fn set_owner_or_mark(random: &mut Random, header: &mut [u8]) {
+    let &mut [threads, words, registers, _, ..] = header else {
+        return;
+    };
+    let (owners, registers) = (4 + usize::from(words), usize::from(registers));
+    if registers == 0 || header.len() < owners + 2 * registers {
+        return;
+    }
+    let owner = owners + random.below(registers);
+    if random.chance(65) {
+        header[owner] = random.between(1, threads.clamp(1, limits::THREADS));
+    } else {
+        header[owner + registers] = random.between(0, 2);
     }
 }
 
@@ -98,7 +103,7 @@ fn edit_bytes(random: &mut Random, bytes: &mut Vec<u8>) {
         3 => {
             bytes.remove(place);
         }
-        4 => bytes.resize(frames::IMAGE_BYTES + random.below(2), 0),
+        4 => bytes.resize(limits::IMAGE_BYTES + random.below(2), 0),
         _ => bytes[place] = random.between(0, 255),
     }
 }

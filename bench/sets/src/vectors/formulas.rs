@@ -79,10 +79,10 @@ pub fn images(cases: &[FormulaCase]) -> Vec<Case> {
 fn image(case: &FormulaCase) -> Vec<u8> {
     let Counts { threads, words, registers, range } = case.counts;
     let [threads_n, words_n, registers_n] = [threads, words, registers].map(usize::from);
-    let header =
-        [&[threads, words, registers, range][..], &vec![0; words_n], &vec![1; registers_n]];
+    let (start, owners_and_marks) = (vec![0; words_n], vec![1; 2 * registers_n]);
+    let header = [&[threads, words, registers, range][..], &start, &owners_and_marks].concat();
     let mut records = vec![
-        Record::new(HEADER, header.concat()),
+        Record::new(HEADER, header),
         Record::new(FORMULA, case.formula.clone()),
         Record::new(FORMULA, [28, 11, 8]),
         Record::new(FORMULA, [27]),
@@ -157,7 +157,8 @@ impl List {
     }
 
     fn operand_limits(&mut self) {
-        for (threads, words, registers) in [(1, 1, 0), (1, 1, 1), (3, 8, 16), (2, 4, 15)] {
+        let sizes = [(1, 1, 0), (1, 1, 1), (3, 8, 16), (2, 4, 15), (4, 8, 16)];
+        for (threads, words, registers) in sizes {
             let counts = Counts { threads, words, registers, range: 8 };
             let limits: [(&str, &[u8], u8, &[u8]); 7] = [
                 ("constant", &[0], 7, &[]),

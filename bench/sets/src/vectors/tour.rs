@@ -39,7 +39,7 @@ pub enum Spare {
 
 fn header() -> Header {
     let counts = Counts { threads: 2, words: 2, registers: 4, range: 8 };
-    Header { counts, start: vec![0, 7], owners: vec![1, 2, 1, 2] }
+    Header::cleared(counts, vec![0, 7], vec![1, 2, 1, 2])
 }
 
 fn register(number: u8) -> Rc<Value> {

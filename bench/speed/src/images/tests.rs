@@ -23,7 +23,7 @@ type Records = Vec<(u8, Vec<u8>)>;
 /// a register, holds false, start, false; a line that is an implication and one that is a triple.
 fn records() -> Records {
     vec![
-        (1, vec![1, 1, 1, 8, 0, 1]),
+        (1, vec![1, 1, 1, 8, 0, 1, 1]),
         (2, vec![1, 1]),
         (2, vec![28, 8]),
         (2, vec![27]),
@@ -57,7 +57,7 @@ fn the_image_is_sound() {
 #[test]
 fn an_image_that_is_empty_or_too_long_is_code_2() {
     expect(&[], refused(2, 0));
-    expect(&[0; 65_536], refused(2, 0));
+    expect(&vec![0; 262_145], refused(2, 0));
 }
 
 #[test]
@@ -97,7 +97,7 @@ fn a_body_that_is_too_short_or_too_long_is_code_5() {
 
 #[test]
 fn a_number_out_of_its_range_is_code_6() {
-    // Threads, the range, a start value, an owner; a register in a formula; an operation, its unused field, its
+    // Threads, the range, a start value, an owner, a mark; a register in a formula; an operation, its unused field, its
     // formula; a formula of the outline; a rule, a place, a formula, a premise of a line; a line.
     for (record, at, byte) in [
         (1, 0, 2),
@@ -105,6 +105,7 @@ fn a_number_out_of_its_range_is_code_6() {
         (1, 3, 17),
         (1, 4, 8),
         (1, 5, 2),
+        (1, 6, 2),
         (2, 1, 2),
         (6, 1, 7),
         (6, 3, 1),
@@ -139,7 +140,7 @@ fn a_formula_of_the_wrong_sort_is_code_8() {
 fn another_threads_register_is_code_9() {
     let mut records = records();
     // A second thread of one point owns the register.
-    records[0].1 = vec![2, 1, 1, 8, 0, 2];
+    records[0].1 = vec![2, 1, 1, 8, 0, 2, 1];
     records.insert(6, (3, vec![1]));
     expect(&bytes(&records), refused(9, 6));
 }

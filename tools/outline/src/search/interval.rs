@@ -250,7 +250,7 @@ mod tests {
 
     fn found(i: &I, j: &I) -> bool {
         let counts = Counts { threads: 0, words: 2, registers: 0, range: 8 };
-        let header = Header { counts, start: vec![0, 0], owners: Vec::new() };
+        let header = Header::cleared(counts, vec![0, 0], Vec::new());
         let program = Program { header, threads: Vec::new(), outline: Vec::new() };
         Prover::new(&program, Default::default()).include(i, j).is_some()
     }

@@ -3,6 +3,7 @@
 use crate::search::cases::Case;
 use crate::search::prover::{Line, Prover};
 use crate::terms::*;
+use reference::formula::atoms::Atoms;
 use reference::formula::{Assertion, Interval};
 
 /// Something that gives `u sees I`: itself, or an assertion with the line that says so.
@@ -129,6 +130,12 @@ impl Prover<'_> {
         Some((self.fact(20, &from, &sees(u, &whole), &premises)?, whole))
     }
 
+    /// The registers that start at 0, of those that a formula names.
+    fn cleared(&self, tree: &impl Atoms) -> Vec<u8> {
+        let header = &self.program.header;
+        registers_of(tree).into_iter().filter(|register| header.is_cleared(*register)).collect()
+    }
+
     /// Rules 26 and 27: the start gives each word's value and zero registers.
     fn start_gives_view(&mut self, u: u8, j: &I) -> Option<Line> {
         let start: A = Assertion::Start.into();
@@ -139,7 +146,7 @@ impl Prover<'_> {
             let line = self.fact(26, &start, &sees(u, &interval), &[])?;
             given.push(Given { from: start.clone(), interval, line: Some(line) });
         }
-        for r in registers_of(j.as_ref()) {
+        for r in self.cleared(j.as_ref()) {
             let zero = equal(&register(r), &constant(0));
             let first = self.fact(27, &start, &holds(&zero), &[])?;
             let second = self.tests_give_view(&zero, u, &all(&zero))?;
@@ -152,10 +159,10 @@ impl Prover<'_> {
         self.gathered_view(u, &given, j)
     }
 
-    /// Rule 27 for each register of the test, then rows.
+    /// Rule 27 for each register of the test that starts at 0, then rows.
     pub fn start_gives_test(&mut self, e: &T) -> Option<Line> {
         let start: A = Assertion::Start.into();
-        let registers = registers_of(e.as_ref()).into_iter();
+        let registers = self.cleared(e.as_ref()).into_iter();
         let zeros: Vec<T> = registers.map(|r| equal(&register(r), &constant(0))).collect();
         let mut premises = Vec::new();
         for zero in &zeros {

@@ -64,6 +64,16 @@ impl Prover<'_> {
         }
     }
 
+    /// What the start does not say of the registers that a part names.
+    fn tell_open_registers(&mut self, part: &A) {
+        for r in registers_of(part.as_ref()) {
+            if !self.program.header.is_cleared(r) {
+                let name = &self.names.registers[usize::from(r) - 1];
+                self.tried.push(format!("  `{name}` is open: it may start at any value"));
+            }
+        }
+    }
+
     /// The first case of p that does not give q, and the parts of q that are missing there.
     pub fn tell_implication(&mut self, p: &A, q: &A) -> Option<Line> {
         let Some(all) = cases(p) else {
@@ -80,6 +90,9 @@ impl Prover<'_> {
                 if !self.serves(&case, &part) {
                     let text = format!("missing      {}", self.names.assertion(&part));
                     self.tried.push(text);
+                    if case.start {
+                        self.tell_open_registers(&part);
+                    }
                 }
             }
             return None;

@@ -43,11 +43,12 @@ const MARKS: [&str; 24] = [
 const FETCH_ADD: &str = "fetch-add";
 
 /// The words that cannot be names.
-pub const KEYWORDS: [&str; 33] = [
+pub const KEYWORDS: [&str; 34] = [
     "range",
     "word",
     "register",
     "registers",
+    "open",
     "of",
     "let",
     "thread",

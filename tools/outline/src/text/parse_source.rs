@@ -7,6 +7,7 @@ use crate::text::parse_formula::Cursor;
 use crate::text::scope::{Meaning, Scope};
 use crate::text::sort_name;
 use crate::text::source::{Hint, Point, Source};
+use reference::checker::limits;
 use reference::formula::atoms::{Atom, Atoms};
 use reference::formula::nesting::{Nesting, BYTES, NESTING};
 use reference::formula::{Formula, Sort};
@@ -43,11 +44,12 @@ fn item(c: &mut Cursor, source: &mut Source) -> Result<(), Mistake> {
         c.number()?;
         return Ok(());
     }
+    if c.take("open") {
+        c.expect("register")?;
+        return owned(c);
+    }
     if c.take("register") {
-        c.name()?;
-        c.expect("of")?;
-        c.name()?;
-        return Ok(());
+        return owned(c);
     }
     if c.take("let") {
         return short(c);
@@ -63,6 +65,27 @@ fn item(c: &mut Cursor, source: &mut Source) -> Result<(), Mistake> {
         return Ok(());
     }
     c.wanted("`range`, `word`, `register`, `let`, `thread`, `proof` or `certificate`")
+}
+
+/// `NAME of THREAD`, which the scope has read already.
+fn owned(c: &mut Cursor) -> Result<(), Mistake> {
+    c.name()?;
+    c.expect("of")?;
+    c.name()?;
+    Ok(())
+}
+
+/// `[open] registers NAME, ..`, any number of times.
+fn registers(c: &mut Cursor) -> Result<(), Mistake> {
+    while c.sees_next("open") || c.sees_next("registers") {
+        c.take("open");
+        c.expect("registers")?;
+        c.name()?;
+        while c.take(",") {
+            c.name()?;
+        }
+    }
+    Ok(())
 }
 
 /// `let NAME = FORMULA`; without the name of a sort, an assertion is tried, then an interval.
@@ -100,12 +123,7 @@ fn thread(c: &mut Cursor, source: &mut Source) -> Result<(), Mistake> {
     let line = c.line();
     let name = c.name()?;
     let number = c.scope.thread(&name, line)?;
-    if c.take("registers") {
-        c.name()?;
-        while c.take(",") {
-            c.name()?;
-        }
-    }
+    registers(c)?;
     let mut labels = Vec::new();
     let mut points = vec![point(c, &mut labels)?];
     let (mut code, mut numbers, mut jumps) = (Vec::new(), Vec::new(), Vec::new());
@@ -118,11 +136,10 @@ fn thread(c: &mut Cursor, source: &mut Source) -> Result<(), Mistake> {
         labels.truncate(points.len());
         points.push(point(c, &mut labels)?);
     }
-    if points.len() > 8 {
-        return Err(Mistake {
-            line,
-            text: format!("thread {name} has {} points; 8 is the most", points.len()),
-        });
+    let (count, most) = (points.len(), usize::from(limits::POINTS));
+    if count > most {
+        let text = format!("thread {name} has {count} points; {most} is the most");
+        return Err(Mistake { line, text });
     }
     for (instruction, jump) in code.iter_mut().zip(jumps) {
         if let (Instruction::Branch { target, .. }, Some((name, at))) = (instruction, jump) {
@@ -137,7 +154,7 @@ fn thread(c: &mut Cursor, source: &mut Source) -> Result<(), Mistake> {
 
 fn at_end_of_thread(c: &Cursor) -> bool {
     *c.peek() == Token::End
-        || ["thread", "proof", "certificate", "let", "word", "register", "range"]
+        || ["thread", "proof", "certificate", "let", "word", "register", "open", "range"]
             .iter()
             .any(|k| c.sees_next(k))
 }

@@ -3,6 +3,7 @@
 use crate::text::lex::{Mistake, Token, KEYWORDS};
 use crate::text::print::Names;
 use crate::text::sort_name;
+use reference::checker::limits;
 use reference::formula::parse::Counts;
 use reference::formula::{Formula, Sort};
 use reference::image::Header;
@@ -29,6 +30,8 @@ pub struct Scope {
     pub names: Names,
     pub starts: Vec<u8>,
     pub owners: Vec<u8>,
+    /// For each register 1 if it starts at 0, 0 if it is open.
+    pub marks: Vec<u8>,
 }
 
 impl Scope {
@@ -67,7 +70,7 @@ impl Scope {
                 Token::Name(n) if n == "registers" => scope.scan_registers(tokens, i)?,
                 Token::Name(n) if n == "register" => {
                     let (name, line) = name_at(tokens, i + 1)?;
-                    scope.add_register(&name, 0, line)?;
+                    scope.add_register(&name, 0, mark(tokens, i), line)?;
                     owners_by_name.push((scope.owners.len() - 1, name_at(tokens, i + 3)?));
                 }
                 _ => {}
@@ -108,7 +111,7 @@ impl Scope {
         let mut at = i + 1;
         loop {
             let (name, line) = name_at(tokens, at)?;
-            self.add_register(&name, owner, line)?;
+            self.add_register(&name, owner, mark(tokens, i), line)?;
             if tokens.get(at + 1).map(|t| &t.0) != Some(&Token::Mark(",")) {
                 return Ok(());
             }
@@ -116,9 +119,16 @@ impl Scope {
         }
     }
 
-    fn add_register(&mut self, name: &str, owner: u8, line: usize) -> Result<(), Mistake> {
+    fn add_register(
+        &mut self,
+        name: &str,
+        owner: u8,
+        mark: u8,
+        line: usize,
+    ) -> Result<(), Mistake> {
         self.names.registers.push(name.to_string());
         self.owners.push(owner);
+        self.marks.push(mark);
         self.add(name, Meaning::Register(self.names.registers.len() as u8), line)
     }
 
@@ -135,14 +145,15 @@ impl Scope {
             registers: self.names.registers.len() as u8,
             range: self.range,
         };
-        Header { counts, start: self.starts.clone(), owners: self.owners.clone() }
+        let (start, owners, marks) = (self.starts.clone(), self.owners.clone(), self.marks.clone());
+        Header { counts, start, owners, marks }
     }
 
     fn limits(&self, line: usize) -> Result<(), Mistake> {
         let checks = [
-            ("threads", self.names.threads.len(), 1, 3),
-            ("words", self.names.words.len(), 1, 8),
-            ("registers", self.names.registers.len(), 0, 16),
+            ("threads", self.names.threads.len(), 1, limits::THREADS.into()),
+            ("words", self.names.words.len(), 1, limits::WORDS.into()),
+            ("registers", self.names.registers.len(), 0, limits::REGISTERS.into()),
         ];
         for (what, n, least, most) in checks {
             if n < least || n > most {
@@ -152,6 +163,12 @@ impl Scope {
         }
         Ok(())
     }
+}
+
+/// The start mark of the registers declared at a place: 0 behind `open`, else 1.
+fn mark(tokens: &[(Token, usize)], i: usize) -> u8 {
+    let before = i.checked_sub(1).map(|before| &tokens[before].0);
+    u8::from(before != Some(&Token::Name("open".into())))
 }
 
 /// The number behind `range`, which may be left out.

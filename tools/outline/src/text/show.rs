@@ -16,8 +16,9 @@ pub fn show(image: &Image) -> String {
     for (name, start) in names.words.iter().zip(&header.start) {
         let _ = writeln!(out, "word {name} = {start}");
     }
-    for (name, owner) in names.registers.iter().zip(&header.owners) {
-        let _ = writeln!(out, "register {name} of {}", names.thread(*owner));
+    for ((name, owner), mark) in names.registers.iter().zip(&header.owners).zip(&header.marks) {
+        let open = if *mark == 0 { "open " } else { "" };
+        let _ = writeln!(out, "{open}register {name} of {}", names.thread(*owner));
     }
     let mut outline = image.written.outline.iter();
     for t in image.program.thread_numbers() {

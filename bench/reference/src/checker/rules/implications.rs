@@ -34,7 +34,7 @@ pub fn fits(
         (24, []) => by_rows(left.as_holds()?, right.as_sees()?.1.as_all()?),
         (25, []) => rule_25(left, right),
         (26, []) => rule_26(left, right, header),
-        (27, []) => rule_27(left, right),
+        (27, []) => rule_27(left, right, header),
         _ => None,
     }
 }
@@ -70,11 +70,14 @@ fn rule_26(left: &Assertion, right: &Assertion, header: &Header) -> Fit {
     Some(*left == Assertion::Start && *right == Assertion::sees(t, initial))
 }
 
-/// 27 start to holds r = 0.
-fn rule_27(left: &Assertion, right: &Assertion) -> Fit {
+/// 27 start to holds r = 0, for a register that starts at 0.
+fn rule_27(left: &Assertion, right: &Assertion, header: &Header) -> Fit {
     let Test::Equal(register, zero) = right.as_holds()?.as_ref() else {
         return None;
     };
-    let cleared = matches!(**register, Value::Register(_)) && **zero == Value::Constant(0);
+    let Value::Register(register) = **register else {
+        return None;
+    };
+    let cleared = header.is_cleared(register) && **zero == Value::Constant(0);
     Some(*left == Assertion::Start && cleared)
 }

@@ -55,12 +55,18 @@ fn initial_word(s: &mut Setting) -> Lemma {
     implies(26, Assertion::Start, right, &[])
 }
 
-/// Rule 27 has an instance only where there is a register.
+/// Rule 27 has an instance only where there is a register that starts at 0. Now and then the register is open, and the
+/// line not justified.
 fn initial_register(s: &mut Setting) -> Lemma {
-    if s.header.counts.registers == 0 {
+    let cleared = |register: &u8| s.header.is_cleared(*register);
+    let registers = 1..=s.header.counts.registers;
+    let (cleared, open): (Vec<u8>, Vec<u8>) = registers.partition(cleared);
+    let trusts_open = !open.is_empty() && s.random.chance(15);
+    let registers = if trusts_open { open } else { cleared };
+    if registers.is_empty() {
         return initial_word(s);
     }
-    let register = Value::Register(s.random.between(1, s.header.counts.registers));
+    let register = Value::Register(*s.random.pick(&registers));
     let zero = Test::equal(register, Value::Constant(0));
     implies(27, Assertion::Start, Assertion::holds(zero), &[])
 }

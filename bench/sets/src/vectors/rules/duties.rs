@@ -10,7 +10,7 @@ use reference::checker::obligations::duties;
 use reference::formula::encode::Encode;
 use reference::formula::parse::parse;
 use reference::formula::{Assertion, Interval, Test, Value};
-use reference::image::{Instruction, Statement};
+use reference::image::{Instruction, Statement, Thread};
 use reference::proof::{Lemma, Proof};
 use std::rc::Rc;
 
@@ -84,6 +84,7 @@ fn changed_program() -> Vec<Case> {
                 let mut plan = message_passing();
                 plan.program.header.counts.registers = 3;
                 plan.program.header.owners.push(1);
+                plan.program.header.marks.push(1);
                 plan.program.threads[thread][point] = constant_action(operation, register, word);
                 let place = format!("thread {} point {point}", thread + 1);
                 let what = format!("operation {operation}, word {word}, at {place}");
@@ -197,23 +198,32 @@ fn second_point(what: &str, assertion: Assertion, with_branch: bool) -> Case {
 
 /// Three threads: the order and the count of all obligations.
 fn three_threads() -> Vec<Case> {
-    let mut header = super::frame::header();
-    header.counts.threads = 3;
     let branch = Instruction::Branch {
         test: Rc::new(Test::equal(Value::Constant(0), Value::Constant(1))),
         target: 2,
     };
-    let threads = vec![
+    let one_action = vec![
         vec![action(3), branch.clone()],
         vec![branch, constant_action(4, 4, 1)],
         vec![constant_action(5, 4, 1)],
     ];
+    let store = || constant_action(4, 4, 1);
+    let two_actions = vec![vec![action(3), store()], vec![store(), store()], vec![store()]];
+    let mut cases = each_missing("three threads", one_action);
+    cases.extend(each_missing("three threads, two actions", two_actions));
+    cases
+}
+
+/// A program with every obligation met, and with each of them without a line in turn.
+fn each_missing(name: &str, threads: Vec<Thread>) -> Vec<Case> {
+    let mut header = super::frame::header();
+    header.counts.threads = threads.len() as u8;
     let plan = harness::plan(harness::program(header, threads));
-    let mut cases = vec![Case::new("accepted: three threads", plan.bytes())];
+    let mut cases = vec![Case::new(format!("accepted: {name}"), plan.bytes())];
     for (index, duty) in duties(&plan.program.threads).iter().enumerate() {
         let mut changed = plan.clone();
         changed.obligations[index] = None;
-        cases.push(Case::new(format!("20: three threads, {duty:?}"), changed.bytes()));
+        cases.push(Case::new(format!("20: {name}, {duty:?}"), changed.bytes()));
     }
     cases
 }

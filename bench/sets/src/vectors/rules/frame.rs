@@ -20,7 +20,7 @@ pub const PLACE: (u8, u8) = (1, 0);
 
 pub fn header() -> Header {
     let counts = Counts { threads: 2, words: 3, registers: 4, range: 8 };
-    Header { counts, start: vec![1, 0, 2], owners: vec![1, 1, 1, 2] }
+    Header::cleared(counts, vec![1, 0, 2], vec![1, 1, 1, 2])
 }
 
 /// The value that the instruction under test uses: r2 + 1.
@@ -56,6 +56,13 @@ pub fn image_for(operation: u8, lemma: &Lemma, choice: usize) -> Vec<u8> {
 /// The same, with an equal instruction at point 1.
 pub fn image_with_twin(operation: u8, lemma: &Lemma) -> Vec<u8> {
     image_among(vec![action(operation); 2], lemma, 0)
+}
+
+/// The image with these start marks in which an implication decides the first obligation.
+pub fn image_with_marks(marks: [u8; 4], lemma: &Lemma) -> Vec<u8> {
+    let header = Header { marks: marks.into(), ..header() };
+    let program = harness::program(header, vec![Vec::new(), Vec::new()]);
+    harness::deciding(program, lemma, 0).bytes()
 }
 
 fn image_among(code: Thread, lemma: &Lemma, choice: usize) -> Vec<u8> {

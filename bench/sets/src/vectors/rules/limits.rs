@@ -19,7 +19,7 @@ pub fn cases() -> Vec<Case> {
 /// One thread, one point, every name.
 fn header(range: u8) -> Header {
     let counts = Counts { threads: 1, words: 8, registers: 16, range };
-    Header { counts, start: vec![0; 8], owners: vec![1; 16] }
+    Header::cleared(counts, vec![0; 8], vec![1; 16])
 }
 
 fn case(label: String, lemma: &Lemma) -> Case {

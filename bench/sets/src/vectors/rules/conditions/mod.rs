@@ -1,6 +1,6 @@
 //! Side conditions and shapes, each broken by hand in one place.
 
-use super::frame::{image, value, PLACE};
+use super::frame::{image, image_with_marks, value, PLACE};
 use crate::vectors::Case;
 use reference::formula::{Assertion, Interval, Test, Value};
 use reference::proof::{implies, included, triple, Lemma};

@@ -1,4 +1,4 @@
-//! Rules 26 and 27: the start state. The start values are 1, 0 and 2.
+//! Rules 26 and 27: the start states. The start values are 1, 0 and 2.
 
 use super::*;
 
@@ -11,6 +11,7 @@ impl List {
     pub(super) fn start(&mut self) {
         self.start_values();
         self.cleared_registers();
+        self.open_registers();
     }
 
     fn start_values(&mut self) {
@@ -51,6 +52,28 @@ impl List {
             ("less for equal", Test::less(register(1), constant(0))),
         ] {
             self.implication(label, 27, Assertion::Start, holds(test));
+        }
+    }
+
+    /// Each register open, alone and beside others, and what start says of each register then.
+    fn open_registers(&mut self) {
+        for marks in [[0, 1, 1, 1], [1, 0, 1, 1], [1, 1, 0, 1], [1, 1, 1, 0], [0, 1, 1, 0], [0; 4]]
+        {
+            for number in 1..=4 {
+                let lemma =
+                    implies(27, Assertion::Start, holds(is(register(number), constant(0))), &[]);
+                let code = if marks[usize::from(number) - 1] == 1 { "accepted" } else { "22" };
+                let label = format!("{code}: rule 27: marks {marks:?}, register {number}");
+                self.0.push(Case::new(label, image_with_marks(marks, &lemma)));
+            }
+        }
+        let first = implies(26, Assertion::Start, sees(T, initial(1, 1, 1)), &[]);
+        let label = "accepted: rule 26: open registers";
+        self.0.push(Case::new(label, image_with_marks([0; 4], &first)));
+        for value in [0, 1, 7] {
+            let lemma = implies(27, Assertion::Start, holds(is(register(1), constant(value))), &[]);
+            let label = format!("22: rule 27: open register 1 is {value}");
+            self.0.push(Case::new(label, image_with_marks([0, 1, 1, 1], &lemma)));
         }
     }
 }
