@@ -1,7 +1,7 @@
 //! Stored sets read back and judged again.
 //!
 //! A container of images has for each case its length (32 bits), the image, the nine fields of its
-//! verdict (16 bits each); one of formulas their length (16 bits), bytes, threads, words, registers and
+//! verdict (16 bits each); one of formulas their length (32 bits), bytes, threads, words, registers and
 //! range (a byte each), result and sort (16 bits each). All numbers are little-endian.
 
 use crate::checker::check;
@@ -58,8 +58,8 @@ pub fn images(bytes: &[u8]) -> Option<Vec<bool>> {
 pub fn formulas(mut bytes: &[u8]) -> Option<Vec<bool>> {
     let mut results = Vec::new();
     while !bytes.is_empty() {
-        let length = number(&mut bytes)?;
-        let formula = take(&mut bytes, usize::from(length))?;
+        let length = length(&mut bytes)?;
+        let formula = take(&mut bytes, length)?;
         let &[threads, words, registers, range] = take(&mut bytes, 4)? else {
             return None;
         };

@@ -39,7 +39,7 @@ fn of_record_length(cases: &[FormulaCase]) -> impl Iterator<Item = &FormulaCase>
 pub fn formula_container(cases: &[FormulaCase]) -> Vec<u8> {
     let mut bytes = Vec::new();
     for case in of_record_length(cases) {
-        bytes.extend((case.formula.len() as u16).to_le_bytes());
+        bytes.extend((case.formula.len() as u32).to_le_bytes());
         bytes.extend(&case.formula);
         let Counts { threads, words, registers, range } = case.counts;
         bytes.extend([threads, words, registers, range]);
