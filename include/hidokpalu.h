@@ -46,7 +46,7 @@ enum hidokpalu_class {
 };
 
 /* The most bytes of an image. */
-#define HIDOKPALU_IMAGE_BYTES 65535
+#define HIDOKPALU_IMAGE_BYTES 262144
 
 /*
  * The verdict as a record: eleven numbers of 16 bits, low byte first. Fields that don't apply are 0. Records, threads

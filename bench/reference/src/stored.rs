@@ -1,7 +1,7 @@
 //! Stored sets read back and judged again.
 //!
-//! A container of images has for each case its length (16 bits), the image, the nine fields of its
-//! verdict (16 bits each); one of formulas their length (16 bits), bytes, threads, words, registers and
+//! A container of images has for each case its length (32 bits), the image, the nine fields of its
+//! verdict (16 bits each); one of formulas their length (32 bits), bytes, threads, words, registers and
 //! range (a byte each), result and sort (16 bits each). All numbers are little-endian.
 
 use crate::checker::check;
@@ -21,6 +21,12 @@ fn take<'a>(bytes: &mut &'a [u8], count: usize) -> Option<&'a [u8]> {
     Some(front)
 }
 
+/// A 32-bit number from the front.
+fn length(bytes: &mut &[u8]) -> Option<usize> {
+    let bytes = take(bytes, 4)?.try_into().ok()?;
+    usize::try_from(u32::from_le_bytes(bytes)).ok()
+}
+
 /// A 16-bit number from the front.
 fn number(bytes: &mut &[u8]) -> Option<u16> {
     let pair = take(bytes, 2)?;
@@ -31,8 +37,8 @@ fn number(bytes: &mut &[u8]) -> Option<u16> {
 pub fn stored_images(mut bytes: &[u8]) -> Option<Vec<StoredImage<'_>>> {
     let mut cases = Vec::new();
     while !bytes.is_empty() {
-        let length = number(&mut bytes)?;
-        let image = take(&mut bytes, usize::from(length))?;
+        let length = length(&mut bytes)?;
+        let image = take(&mut bytes, length)?;
         let mut fields = [0; 9];
         for field in &mut fields {
             *field = number(&mut bytes)?;
@@ -52,8 +58,8 @@ pub fn images(bytes: &[u8]) -> Option<Vec<bool>> {
 pub fn formulas(mut bytes: &[u8]) -> Option<Vec<bool>> {
     let mut results = Vec::new();
     while !bytes.is_empty() {
-        let length = number(&mut bytes)?;
-        let formula = take(&mut bytes, usize::from(length))?;
+        let length = length(&mut bytes)?;
+        let formula = take(&mut bytes, length)?;
         let &[threads, words, registers, range] = take(&mut bytes, 4)? else {
             return None;
         };

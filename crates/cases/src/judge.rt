@@ -3,6 +3,7 @@ use crate::fields::Stored;
 use crate::fields::fields_at;
 use crate::fields::same_fields;
 use checker::judge::judge;
+use limits::Limits;
 use report::verdict::Verdict;
 use report::verdict::fields_of;
 use stored::case::Next;
@@ -13,6 +14,9 @@ use stored::tally::Tally;
 use stored::tally::no_case;
 use stored::tally::with_case;
 ghost use mathlib.Core.Path.{_≡_};
+ghost use Prim.Native.Nat.{_+_};
+ghost use lib.ListN.{length};
+ghost use Rattle.limits.specs.Limits.{imageBytes};
 ghost use Rattle.stored.specs.Tallied.{FromCases};
 ghost use Rattle.cases.specs.Judge.{withVerdict};
 
@@ -25,11 +29,23 @@ fn with_verdict(t: Tally, v: Verdict, stored: &[u8]) -> Tally
     with_case(t, f.code as usize, same)
 }
 
+// A byte more than an image may have.
+struct Room;
+
+impl Room {
+    pub const BYTES: usize = Limits::IMAGE_BYTES + 1;
+}
+
+fn room_for_image() -> [u8; Room::BYTES]
+    ensures { λ r. ⌜ imageBytes + 1 ≡ length r ⌝ }
+{
+    [0; Room::BYTES]
+}
+
 pub fn judge_all(fd: i32) -> Judged
     ensures { λ r. ⌜ FromCases (r .tally) ⌝ }
 {
-    // An image whose length is a 16-bit number fits.
-    let mut space = io::large_buffer();
+    let mut space = room_for_image();
     let mut stored = [0u8; Stored::BYTES];
     let mut tally = no_case();
     // One more shows that there are too many.

@@ -4,3 +4,4 @@ pub mod Sums
 pub mod Refusals
 pub mod Obligations
 pub mod Uncut
+pub mod Within

@@ -1,6 +1,10 @@
 -- The checker's answer to an image: its bytes to a verdict.
 use mathlib.Core.List.{List}
+use mathlib.Core.Bool.{cond}
 use Prim.Native.Nat.{ℕ}
+use lib.Dec.{ltb}
+use lib.ListN.{length}
+use Rattle.frames.specs.declared.fault.Fault.the-variants.{Size}
 use Rattle.outline.specs.Verdict.{Outcome, met, failed, outcome}
 use Rattle.content.specs.Image.{Result, refused, read, decode}
 use Rattle.report.specs.Place.{obligation}
@@ -18,3 +22,7 @@ answered (read D) = judged (outcome D)
 
 unfoldable pub verdict : List ℕ → Verdict
 verdict s = answered (decode s)
+
+-- for a caller that takes images of so many bytes at most
+unfoldable pub verdictWithin : ℕ → List ℕ → Verdict
+verdictWithin most s = cond (ltb most (length s)) (Refused Size 0) (verdict s)

@@ -1,4 +1,5 @@
 // The verdict on an image: the first fault of its bytes, or the first obligation that is not met, or accepted.
+use frames::fault::Fault;
 use frames::index::fill_index;
 use image::decode::Decoded;
 use image::decode::decode_image;
@@ -10,7 +11,7 @@ use program::sizes::Sizes;
 use report::verdict::Verdict;
 ghost use mathlib.Core.Path.{_≡_};
 ghost use Rattle.frames.specs.Records.{indexOf};
-ghost use Rattle.checker.specs.Answer.{verdict};
+ghost use Rattle.checker.specs.Answer.{verdict, verdictWithin};
 ghost use Rattle.checker.specs.Found.{soundVerdict};
 
 // On an image whose bytes are sound.
@@ -44,4 +45,17 @@ pub fn judge(image: &[u8]) -> Verdict
         Decoded::Refused { fault, record } => Verdict::Refused { fault, record },
         Decoded::Sound(z) => judge_sound(image, &index, z),
     }
+}
+
+// For a caller that takes images of so many bytes at most.
+pub fn judge_within(image: &[u8], most: usize) -> Verdict
+    ensures { λ r. ⌜ r ≡ verdictWithin most (now (image .entry)) ⌝ }
+{
+    if most < image.len() {
+        return Verdict::Refused {
+            fault: Fault::Size,
+            record: 0,
+        };
+    }
+    judge(image)
 }

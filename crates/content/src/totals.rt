@@ -5,9 +5,11 @@ use records::tally::count_obligations;
 use records::tally::tally_of;
 ghost use mathlib.Core.Path.{_≡_};
 ghost use Prim.Native.Nat.{_-_, _≤_};
+ghost use lib.ListN.{replicate};
+ghost use Rattle.limits.specs.Limits.{threads};
 ghost use Rattle.frames.specs.Records.{bodies, indexOf};
 ghost use Rattle.records.specs.Tally.{tallyTo};
-ghost use Rattle.content.specs.Totals.{totalsOf};
+ghost use Rattle.content.specs.Totals.{pointsBefore, totalsOf};
 
 pub struct Totals {
     pub points: usize,
@@ -33,17 +35,28 @@ fn points_before<'a, 'b>(s: &'a [u8], ix: &'b [usize], z: Sizes, t: usize) -> us
     c.points
 }
 
+// For each thread that an image may have.
+fn fill_before<'a, 'b, 'c>(s: &'a [u8], ix: &'b [usize], z: Sizes, before: &'c mut [usize])
+    requires { ⌜ (now ix ≡ indexOf (now s)) × (now before ≡ replicate threads 0) ⌝ }
+    ensures { λ _. ⌜ now (before .exit) ≡ pointsBefore z (bodies (now (s .entry))) ⌝ }
+{
+    let mut t: usize = 0;
+    while t < Limits::THREADS {
+        before[t] = points_before(s, ix, z, t + 1);
+        t += 1;
+    }
+}
+
 pub fn totals_of<'a, 'b>(s: &'a [u8], ix: &'b [usize], z: Sizes) -> Totals
     requires { ⌜ now ix ≡ indexOf (now s) ⌝ }
     ensures { λ r. ⌜ r ≡ totalsOf z (bodies (now (s .entry))) ⌝ }
 {
     let c = tally_of(s, ix, z);
-    let first = points_before(s, ix, z, 1);
-    let second = points_before(s, ix, z, 2);
-    let third = points_before(s, ix, z, 3);
+    let mut before = [0usize; Limits::THREADS];
+    fill_before(s, ix, z, &mut before);
     Totals {
         points: c.points,
-        before: [first, second, third],
+        before,
         obligations: count_obligations(s, ix, z),
     }
 }

@@ -10,7 +10,7 @@ abbrev pub mostValues : ℕ
 mostValues = 16
 
 abbrev pub threads : ℕ
-threads = 3
+threads = 4
 
 abbrev pub words : ℕ
 words = 8
@@ -19,7 +19,7 @@ abbrev pub registers : ℕ
 registers = 16
 
 abbrev pub points : ℕ
-points = 8
+points = 16
 
 abbrev pub formulas : ℕ
 formulas = 500
@@ -31,13 +31,17 @@ abbrev pub nesting : ℕ
 nesting = 16
 
 abbrev pub lines : ℕ
-lines = 1000
+lines = 4000
 
 abbrev pub premises : ℕ
 premises = Logic.premises
 
 abbrev pub imageBytes : ℕ
-imageBytes = 65535
+imageBytes = 262144
+
+-- the program takes no more
+abbrev pub programBytes : ℕ
+programBytes = 65535
 
 -- a header, an outline and an obligations record, and what there may be many of
 abbrev pub records : ℕ

@@ -10,13 +10,13 @@ impl Limits {
 
     pub const MOST_VALUES: usize = 16;
 
-    pub const THREADS: usize = 3;
+    pub const THREADS: usize = 4;
 
     pub const WORDS: usize = 8;
 
     pub const REGISTERS: usize = 16;
 
-    pub const POINTS: usize = 8;
+    pub const POINTS: usize = 16;
 
     pub const FORMULAS: usize = 500;
 
@@ -24,7 +24,7 @@ impl Limits {
 
     pub const NESTING: usize = 16;
 
-    pub const LINES: usize = 1000;
+    pub const LINES: usize = 4000;
 
     pub const PREMISES: usize = 4;
 
@@ -32,7 +32,10 @@ impl Limits {
 
     pub const LEAVES: usize = 10;
 
-    pub const IMAGE_BYTES: usize = 65535;
+    pub const IMAGE_BYTES: usize = 262144;
+
+    // The program takes no more.
+    pub const PROGRAM_BYTES: usize = 65535;
 
     // A header, an outline and an obligations record, and what there may be many of.
     pub const RECORDS: usize = 3 + Limits::FORMULAS + Limits::THREADS + Limits::LINES;

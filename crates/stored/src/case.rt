@@ -5,12 +5,28 @@ use input::Filled;
 use input::fill;
 use limits::read::word_at;
 ghost use mathlib.Core.Path.{_≡_};
-ghost use Rattle.stored.specs.Next.{nextBy, Fits};
+ghost use Rattle.stored.specs.Next.{lengthIn, nextBy, Fits};
 
 // The length of the next case's body, or why there is none.
 pub enum Next {
     Case(usize),
     Over(End),
+}
+
+struct Size;
+
+impl Size {
+    pub const BYTES: usize = 4;
+
+    // How many numbers its first half has.
+    pub const HALF: usize = 65536;
+}
+
+// A body's length: its low half, then its high half.
+fn length_in(size: &[u8]) -> usize
+    ensures { λ r. ⌜ r ≡ lengthIn (now (size .entry)) ⌝ }
+{
+    word_at(size, 0) + Size::HALF * word_at(size, 2)
 }
 
 // What the part that was read last says of a case whose body has n bytes.
@@ -42,9 +58,9 @@ fn read_body<'a, 'b>(fd: i32, n: usize, space: &'a mut [u8], tail: &'b mut [u8])
 pub fn read_case<'a, 'b>(fd: i32, space: &'a mut [u8], tail: &'b mut [u8]) -> Next
     ensures { λ r. ⌜ Fits r (now (space .exit)) ⌝ }
 {
-    let mut size = [0u8; 2];
+    let mut size = [0u8; Size::BYTES];
     match fill(fd, &mut size) {
-        Filled::Full => read_body(fd, word_at(&size, 0), space, tail),
+        Filled::Full => read_body(fd, length_in(&size), space, tail),
         Filled::Ended(n) => Next::Over(end_after(n)),
         Filled::Failed => Next::Over(End::Unread),
     }

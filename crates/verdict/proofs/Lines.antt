@@ -4,6 +4,7 @@ use mathlib.Core.List.{List, []}
 use Prim.Native.Nat.{ℕ, _≤_}
 use native.Mathlib.Omega.{arith}
 use lib.ListN.{length, take, drop}
+use Rattle.limits.specs.Limits as Limits
 use Rattle.input.specs.declared.Filled.{Filled}
 use Rattle.input.specs.declared.Filled.the-variants.{Full, Ended, Failed}
 use Rattle.report.specs.Fields.{fieldsOf}
@@ -11,10 +12,10 @@ use Rattle.report.specs.Text.{room, textOf}
 use Rattle.report.specs.declared.text.Text.{Text}
 use Rattle.report.specs.declared.verdict.Fields.{Fields}
 use Rattle.report.specs.declared.verdict.Verdict.{Verdict}
-use Rattle.checker.specs.Answer.{verdict}
+use Rattle.checker.specs.Answer.{verdictWithin}
 use Rattle.verdict.specs.Line.{lineOf, lineFor}
 
-pub line-judged : (s x : List ℕ) (v : Verdict) (f : Fields) → v ≡ verdict s → f ≡ fieldsOf v → x ≡ textOf f → x ≡ lineOf s
+pub line-judged : (s x : List ℕ) (v : Verdict) (f : Fields) → v ≡ verdictWithin Limits.programBytes s → f ≡ fieldsOf v → x ≡ textOf f → x ≡ lineOf s
 unfolding lineOf
 line-judged s x v f e d q = rw (q, d, e)
 

@@ -3,16 +3,17 @@ use mathlib.Core.Path.{_≡_}
 use mathlib.Core.List.{List, []}
 use Prim.Native.Nat.{ℕ}
 use lib.ListN.{take}
+use Rattle.limits.specs.Limits as Limits
 use Rattle.input.specs.Filled.{Fits}
 use Rattle.input.specs.declared.Filled.{Filled}
 use Rattle.input.specs.declared.Filled.the-variants.{Full, Ended, Failed}
 use Rattle.report.specs.Fields.{fieldsOf}
 use Rattle.report.specs.Text.{textOf}
-use Rattle.checker.specs.Answer.{verdict}
+use Rattle.checker.specs.Answer.{verdictWithin}
 
--- the nine fields of the verdict on an image
+-- the nine fields of the verdict on an image, which for the program is shorter than for the library
 unfoldable pub lineOf : List ℕ → List ℕ
-lineOf image = textOf (fieldsOf (verdict image))
+lineOf image = textOf (fieldsOf (verdictWithin Limits.programBytes image))
 
 -- of exactly what came: all of the buffer, or what stands before the input's end
 -- where a read failed nothing is judged, and there is no line

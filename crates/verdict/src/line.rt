@@ -1,7 +1,8 @@
 // The line for what was read.
-use checker::judge::judge;
+use checker::judge::judge_within;
 use input::Filled;
 use input::fill;
+use limits::Limits;
 use limits::read::part;
 use report::text::Line;
 use report::text::Text;
@@ -13,11 +14,11 @@ ghost use lib.ListN.{take};
 ghost use Rattle.report.specs.Text.{room};
 ghost use Rattle.verdict.specs.Line.{lineOf, lineFor, Answers};
 
-// The nine fields of the verdict on an image.
+// The nine fields of the verdict on an image, which for the program is shorter than for the library.
 fn line_of(image: &[u8]) -> Text
     ensures { λ r. ⌜ (take (r .len) (r .bytes) ≡ lineOf (now (image .entry))) × (r .len ≤ room) ⌝ }
 {
-    text_of(fields_of(judge(image)))
+    text_of(fields_of(judge_within(image, Limits::PROGRAM_BYTES)))
 }
 
 // Of exactly the bytes that came. Where a read failed nothing is judged, and there is no line.

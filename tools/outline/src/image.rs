@@ -1,6 +1,6 @@
 //! Images in files: within their limits when written, and in order when read.
 
-use reference::checker::{decode, frames, Refusal};
+use reference::checker::{decode, limits, Refusal};
 use reference::formula::parse::parse;
 use reference::formula::Formula;
 use reference::image::written::Written;
@@ -8,10 +8,10 @@ use reference::image::Program;
 
 /// The bytes, or the limit that is passed.
 pub fn to_bytes(image: &Written) -> Result<Vec<u8>, String> {
-    at_most("formulas", image.formulas.len(), frames::most(frames::FORMULA))?;
-    at_most("lines", image.lines.len(), frames::most(frames::LINE))?;
+    at_most("formulas", image.formulas.len(), limits::FORMULAS)?;
+    at_most("lines", image.lines.len(), limits::LINES)?;
     let bytes = image.bytes();
-    at_most("bytes of the image", bytes.len(), frames::IMAGE_BYTES)?;
+    at_most("bytes of the image", bytes.len(), limits::IMAGE_BYTES)?;
     Ok(bytes)
 }
 

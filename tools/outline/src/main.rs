@@ -4,7 +4,7 @@ use outline::build::{build, Built};
 use outline::image::{self, to_bytes};
 use outline::text::parse_source::parse;
 use outline::text::{report, show};
-use reference::checker::check;
+use reference::checker::{check, limits};
 use std::process::ExitCode;
 
 const USAGE: &str = "usage: outline build FILE.outline -o FILE.image [--partial]
@@ -62,6 +62,12 @@ fn build_command(args: &[&str]) -> Result<(), String> {
     }
     std::fs::write(target, &bytes).map_err(|e| format!("{target}: {e}"))?;
     report(target, &built, bytes.len());
+    if bytes.len() > limits::PROGRAM_BYTES {
+        let most = limits::PROGRAM_BYTES;
+        eprintln!(
+            "{target}: the library judges it; the program `verdict` reads at most {most} bytes"
+        );
+    }
     Ok(())
 }
 

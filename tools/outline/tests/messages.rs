@@ -5,50 +5,53 @@ use outline::text::parse_source::parse;
 use outline::text::report;
 use std::process::Command;
 
+/// A text, the line of its mistake and words of the message.
+const MISTAKES: &[(&str, usize, &str)] = &[
+    ("word x = 9\nthread a { true }", 1, "start value 0 to 7"),
+    ("range 3\nword x = 3\nthread a { true }", 2, "start value 0 to 2"),
+    ("range 16\nword x = 15\nthread a { a sees [x = 16] }", 3, "values are 0 to 15"),
+    ("range 17\nword x = 0\nthread a { true }", 1, "2 to 16 values"),
+    ("range 1\nword x = 0\nthread a { true }", 1, "2 to 16 values"),
+    ("range 4\nrange 4\nword x = 0\nthread a { true }", 2, "given twice"),
+    ("word x = 0\nthread a { true }\n x := y\n { true }", 3, "`y` is not declared"),
+    ("word x = 0\nthread a open r { true }", 2, "`registers` is wanted"),
+    ("word x = 0\nopen registers r of a\nthread a { true }", 2, "`register` is wanted"),
+    ("word open = 0\nthread a { true }", 1, "word of the language"),
+    ("word x = 0\nthread a registers r open registers r { true }", 2, "given twice"),
+    ("word x = 0\nthread a { true } x := x { true }", 2, "may not stand in an instruction"),
+    (
+        "word x = 0\nthread a registers r { true } r <- fetch-add x + 1 + r { true }",
+        2,
+        "gets the old value",
+    ),
+    ("word x = 0\nthread a registers r { true } r <-acq exchange x := 1 { true }", 2, "a word"),
+    ("word x = 0\nthread a registers r { true } r <- fetch-add x := 1 { true }", 2, "`+`"),
+    ("word x = 0\nthread a { a sees [x = 1 }", 2, "`]` is wanted"),
+    (
+        "word x = 0\nthread a registers r { true }\nthread b { true } r := 1 { true }",
+        3,
+        "another thread",
+    ),
+    ("word x = 0\nlet P = a sees [x = 0] ?\nthread a { P }", 2, "`?` means nothing"),
+    ("word x = 0\nlet P = a sees [x = 0] and\nthread a { P }", 3, "an assertion is wanted"),
+    ("word x = 0\nthread a { true } if true goto 5 { true }", 2, "no point of this thread"),
+    ("word x = 0\nthread a { true } x := 1", 2, "a point"),
+    ("word x = 0\nthread a { true }\nword x = 1", 3, "given twice"),
+    ("word sees = 0\nthread a { true }", 1, "word of the language"),
+    ("word x = 0\nthread a { start }", 2, "may not stand in an outline"),
+    ("word x = 0\nthread a { x = 0 }", 2, "registers only"),
+    ("thread a { true }", 1, "0 words"),
+    (
+        "word x = 0 thread a { true } thread b { true } thread c { true }\n\
+             thread d { true } thread e { true }",
+        2,
+        "5 threads",
+    ),
+];
+
 #[test]
 fn mistakes_have_lines_and_words() {
-    let cases = [
-        ("word x = 9\nthread a { true }", 1, "start value 0 to 7"),
-        ("range 3\nword x = 3\nthread a { true }", 2, "start value 0 to 2"),
-        ("range 16\nword x = 15\nthread a { a sees [x = 16] }", 3, "values are 0 to 15"),
-        ("range 17\nword x = 0\nthread a { true }", 1, "2 to 16 values"),
-        ("range 1\nword x = 0\nthread a { true }", 1, "2 to 16 values"),
-        ("range 4\nrange 4\nword x = 0\nthread a { true }", 2, "given twice"),
-        ("word x = 0\nthread a { true }\n x := y\n { true }", 3, "`y` is not declared"),
-        ("word x = 0\nthread a open r { true }", 2, "`registers` is wanted"),
-        ("word x = 0\nopen registers r of a\nthread a { true }", 2, "`register` is wanted"),
-        ("word open = 0\nthread a { true }", 1, "word of the language"),
-        ("word x = 0\nthread a registers r open registers r { true }", 2, "given twice"),
-        ("word x = 0\nthread a { true } x := x { true }", 2, "may not stand in an instruction"),
-        (
-            "word x = 0\nthread a registers r { true } r <- fetch-add x + 1 + r { true }",
-            2,
-            "gets the old value",
-        ),
-        ("word x = 0\nthread a registers r { true } r <-acq exchange x := 1 { true }", 2, "a word"),
-        ("word x = 0\nthread a registers r { true } r <- fetch-add x := 1 { true }", 2, "`+`"),
-        ("word x = 0\nthread a { a sees [x = 1 }", 2, "`]` is wanted"),
-        (
-            "word x = 0\nthread a registers r { true }\nthread b { true } r := 1 { true }",
-            3,
-            "another thread",
-        ),
-        ("word x = 0\nlet P = a sees [x = 0] ?\nthread a { P }", 2, "`?` means nothing"),
-        ("word x = 0\nlet P = a sees [x = 0] and\nthread a { P }", 3, "an assertion is wanted"),
-        ("word x = 0\nthread a { true } if true goto 5 { true }", 2, "no point of this thread"),
-        ("word x = 0\nthread a { true } x := 1", 2, "a point"),
-        ("word x = 0\nthread a { true }\nword x = 1", 3, "given twice"),
-        ("word sees = 0\nthread a { true }", 1, "word of the language"),
-        ("word x = 0\nthread a { start }", 2, "may not stand in an outline"),
-        ("word x = 0\nthread a { x = 0 }", 2, "registers only"),
-        ("thread a { true }", 1, "0 words"),
-        (
-            "word x = 0 thread a { true } thread b { true }\nthread c { true } thread d { true }",
-            2,
-            "4 threads",
-        ),
-    ];
-    for (text, line, words) in cases {
+    for &(text, line, words) in MISTAKES {
         let mistake = parse(text).expect_err(text);
         assert_eq!(mistake.line, line, "{text}: {mistake}");
         assert!(mistake.text.contains(words), "{text}: {mistake}");
@@ -62,6 +65,17 @@ fn big_formulas_are_refused_in_words() {
     let long = ["a sees [x = 0] ; [x = 1] ; [x = 2]"; 12].join(" or ");
     let wide = format!("word x = 0\nthread a {{ {long} }}");
     assert!(parse(&wide).expect_err("too long").text.contains("255 bytes"));
+}
+
+#[test]
+fn a_thread_has_up_to_16_points() {
+    let with = |instructions: usize| {
+        let rest = "x := 1 { true } ".repeat(instructions);
+        parse(&format!("word x = 0\nthread a {{ true }} {rest}"))
+    };
+    assert_eq!(with(15).expect("well formed").threads[0].len(), 15);
+    let mistake = with(16).expect_err("too many");
+    assert!(mistake.text.contains("17 points; 16 is the most"), "{mistake}");
 }
 
 #[test]

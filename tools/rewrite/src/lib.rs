@@ -9,7 +9,7 @@ mod marks;
 mod range;
 pub mod set;
 
-use reference::checker::frames;
+use reference::checker::{frames, limits};
 use reference::image::written::{image_bytes, Record};
 
 /// A change of the layout, by the name that the program takes. They came in this order.
@@ -51,7 +51,7 @@ impl Step {
             Step::Actors => actors::order(&mut records)?,
         }
         let longer = image_bytes(&records);
-        if longer.len() > frames::IMAGE_BYTES {
+        if longer.len() > limits::IMAGE_BYTES {
             return Err(Refusal::Length);
         }
         Ok(longer)

@@ -5,12 +5,14 @@ use std::process::ExitCode;
 
 const USAGE: &str = "usage: rewrite STEP IMAGE -o IMAGE
        rewrite STEP --set SET -o SET
+       rewrite lengths --set SET -o SET
 steps: range, marks, actors (in this order)";
 
 fn main() -> ExitCode {
     let arguments: Vec<String> = std::env::args().skip(1).collect();
     let words: Vec<&str> = arguments.iter().map(String::as_str).collect();
     let done = match words[..] {
+        ["lengths", "--set", from, "-o", to] => long_lengths(from, to),
         [step, "--set", from, "-o", to] => {
             step_named(step).and_then(|step| one_set(step, from, to))
         }
@@ -42,6 +44,11 @@ fn write(path: &str, bytes: &[u8]) -> Result<(), String> {
 fn one_image(step: Step, from: &str, to: &str) -> Result<(), String> {
     let image = step.rewrite(&read(from)?).map_err(|refusal| format!("{from}: {refusal}"))?;
     write(to, &image)
+}
+
+fn long_lengths(from: &str, to: &str) -> Result<(), String> {
+    let set = set::with_long_lengths(&read(from)?).ok_or_else(|| format!("{from}: cut short"))?;
+    write(to, &set)
 }
 
 fn one_set(step: Step, from: &str, to: &str) -> Result<(), String> {

@@ -55,8 +55,23 @@ impl Rewritten {
     }
 
     fn put(&mut self, image: &[u8], fields: &Fields) {
-        self.bytes.extend((image.len() as u16).to_le_bytes());
+        self.bytes.extend((image.len() as u32).to_le_bytes());
         self.bytes.extend(image);
         self.bytes.extend(fields.iter().flat_map(|field| field.to_le_bytes()));
     }
+}
+
+/// A set whose images have lengths of 16 bits, with lengths of 32 bits. None if it is cut short.
+pub fn with_long_lengths(mut set: &[u8]) -> Option<Vec<u8>> {
+    const VERDICT: usize = 18;
+    let mut wide = Vec::new();
+    while !set.is_empty() {
+        let (length, rest) = set.split_first_chunk()?;
+        let length = u16::from_le_bytes(*length);
+        let (case, rest) = rest.split_at_checked(usize::from(length) + VERDICT)?;
+        wide.extend(u32::from(length).to_le_bytes());
+        wide.extend(case);
+        set = rest;
+    }
+    Some(wide)
 }

@@ -187,8 +187,9 @@ fn padded(header: &[u8], length: usize) -> Vec<u8> {
         let body = bytes - 4;
         [&(body as u16 + 2).to_le_bytes()[..], &[2, 0], &vec![8; body]].concat()
     };
-    let (full, rest) = (wanted / 200 - 1, wanted % 200 + 200);
-    [&small[..formulas], &filler(200).repeat(full), &filler(rest), &small[formulas..]].concat()
+    // Formulas may be too long: no step looks at them.
+    let (full, rest) = (wanted / 20_000 - 1, wanted % 20_000 + 20_000);
+    [&small[..formulas], &filler(20_000).repeat(full), &filler(rest), &small[formulas..]].concat()
 }
 
 #[test]
@@ -196,10 +197,20 @@ fn an_image_stays_within_its_limit() {
     for (step, header, more) in
         [(Step::Range, &[1, 1, 0, 0][..], 1), (Step::Marks, &[1, 1, 2, 8, 0, 1, 1], 2)]
     {
-        let longest = step.rewrite(&padded(header, 65_535 - more));
-        assert_eq!(longest.map(|image| image.len()), Ok(65_535));
-        assert_eq!(step.rewrite(&padded(header, 65_536 - more)), Err(Refusal::Length));
+        let longest = step.rewrite(&padded(header, 262_144 - more));
+        assert_eq!(longest.map(|image| image.len()), Ok(262_144));
+        assert_eq!(step.rewrite(&padded(header, 262_145 - more)), Err(Refusal::Length));
     }
+}
+
+#[test]
+fn lengths_of_a_set_become_longer() {
+    let verdict = [7; 18];
+    let short = [&[1, 0, 9][..], &verdict, &[0, 0], &verdict].concat();
+    let long = [&[1, 0, 0, 0, 9][..], &verdict, &[0; 4], &verdict].concat();
+    assert_eq!(set::with_long_lengths(&short), Some(long));
+    assert_eq!(set::with_long_lengths(&short[..40]), None);
+    assert_eq!(set::with_long_lengths(&short[..1]), None);
 }
 
 #[test]

@@ -1,7 +1,7 @@
 //! Images that are not made from a seed.
 
 use reference::stored::stored_images;
-use sets::examples::{message_passing, two_writes};
+use sets::examples::{largest, message_passing, two_writes};
 use sets::vectors::{formulas, images, rules, Case};
 use std::path::{Path, PathBuf};
 
@@ -10,12 +10,16 @@ pub type Source = Result<(&'static str, Vec<Case>), String>;
 
 /// The sets that `vectors` writes, and the proofs written by hand.
 pub fn sets() -> [Source; 4] {
-    let by_hand = [("message passing", message_passing()), ("two writes", two_writes())];
+    let by_hand = [
+        ("message passing", message_passing().bytes()),
+        ("two writes", two_writes().bytes()),
+        ("largest", largest()),
+    ];
     [
         Ok(("formulas", formulas::images(&formulas::cases()))),
         Ok(("images", images::cases())),
         Ok(("rules", rules::cases())),
-        Ok(("by hand", by_hand.map(|(label, plan)| Case::new(label, plan.bytes())).into())),
+        Ok(("by hand", by_hand.map(|(label, image)| Case::new(label, image)).into())),
     ]
 }
 
@@ -37,7 +41,7 @@ pub fn stored() -> Source {
 
 /// Inputs about as long as an image may be, and much longer: zeros, and an image in order with bytes behind.
 pub fn long() -> Source {
-    let lengths = [65_534, 65_535, 65_536, 65_537, 70_000, 1_000_000];
+    let lengths = [65_535, 65_536, 70_000, 262_143, 262_144, 262_145, 262_146, 1_000_000];
     let cases = lengths.into_iter().flat_map(|length| {
         let zeros = Case::new(format!("{length} zeros"), vec![0; length]);
         let mut bytes = message_passing().bytes();

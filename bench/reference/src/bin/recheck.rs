@@ -8,6 +8,8 @@ use std::process::ExitCode;
 
 type Judge = fn(&[u8]) -> Option<Vec<bool>>;
 
+/// How many cases that differ are named.
+const MOST_NAMED: usize = 50;
 const FORMULAS: &str = "formula-bytes";
 const SETS: [&str; 4] = [FORMULAS, "formulas", "images", "rules"];
 
@@ -38,9 +40,14 @@ fn main() -> ExitCode {
     for name in &sets {
         match results(Path::new(&folder), name, judge_of(name)) {
             Ok(results) => {
-                let wrong = results.iter().filter(|&&agrees| !agrees).count();
-                println!("{name}: {} cases, {wrong} differ", results.len());
-                same &= wrong == 0;
+                let wrong = (1..).zip(&results).filter(|(_, agrees)| !**agrees);
+                let wrong: Vec<String> = wrong.map(|(number, _)| number.to_string()).collect();
+                println!("{name}: {} cases, {} differ", results.len(), wrong.len());
+                if !wrong.is_empty() {
+                    let named = &wrong[..wrong.len().min(MOST_NAMED)];
+                    println!("  cases {}", named.join(" "));
+                }
+                same &= wrong.is_empty();
             }
             Err(fault) => {
                 eprintln!("{fault}");

@@ -1,10 +1,8 @@
 //! Record frames: the whole image is cut into records before any body is read.
 //! Codes 2 (whole image), 3 (length) and 4 (kind).
 
+use super::limits;
 use super::verdict::Refusal;
-
-/// The longest image that is read at all.
-pub const IMAGE_BYTES: usize = 65_535;
 
 /// Record kinds, in the order in which they stand in an image.
 pub const HEADER: u16 = 1;
@@ -23,7 +21,12 @@ pub struct Record<'a> {
 
 /// Cuts the image into records, or names the first frame at fault.
 pub fn split(image: &[u8]) -> Result<Vec<Record<'_>>, Refusal> {
-    if image.is_empty() || image.len() > IMAGE_BYTES {
+    split_within(image, limits::IMAGE_BYTES)
+}
+
+/// The same, of an image that has at most so many bytes.
+pub fn split_within(image: &[u8], most: usize) -> Result<Vec<Record<'_>>, Refusal> {
+    if image.is_empty() || image.len() > most {
         return Err(Refusal::at(2, 0));
     }
     let mut records: Vec<Record> = Vec::new();
@@ -62,9 +65,9 @@ pub fn number_at(bytes: &[u8], place: usize) -> Option<u16> {
 pub fn most(kind: u16) -> usize {
     match kind {
         HEADER | OUTLINE | OBLIGATIONS => 1,
-        FORMULA => 500,
-        THREAD => 3,
-        LINE => 1000,
+        FORMULA => limits::FORMULAS,
+        THREAD => limits::THREADS.into(),
+        LINE => limits::LINES,
         _ => 0,
     }
 }

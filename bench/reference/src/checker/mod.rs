@@ -5,6 +5,7 @@
 
 pub mod body;
 pub mod frames;
+pub mod limits;
 pub mod obligations;
 pub mod rules;
 pub mod verdict;
@@ -14,7 +15,12 @@ pub use verdict::{Refusal, Verdict};
 
 /// Judges one image.
 pub fn check(image: &[u8]) -> Verdict {
-    match decode(image) {
+    check_within(image, limits::IMAGE_BYTES)
+}
+
+/// Judges one image that has at most so many bytes; code 2 if it has more.
+pub fn check_within(image: &[u8], most: usize) -> Verdict {
+    match decode_within(image, most) {
         Ok(image) => obligations::judge(&image),
         Err(refusal) => Verdict::refused(refusal),
     }
@@ -22,7 +28,11 @@ pub fn check(image: &[u8]) -> Verdict {
 
 /// Reads an image, or finds the first fault of its frames and bodies.
 pub fn decode(image: &[u8]) -> Result<Image, Refusal> {
-    let records = frames::split(image)?;
+    decode_within(image, limits::IMAGE_BYTES)
+}
+
+fn decode_within(image: &[u8], most: usize) -> Result<Image, Refusal> {
+    let records = frames::split_within(image, most)?;
     body::decode(&records)
 }
 

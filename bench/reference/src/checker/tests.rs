@@ -1,6 +1,6 @@
 //! Verdicts worked out by hand.
 use super::obligations::{duties, Duty};
-use super::{check, check_into};
+use super::{check, check_into, check_within, limits};
 use crate::formula::Test;
 use crate::image::Instruction;
 use std::rc::Rc;
@@ -37,8 +37,17 @@ fn small_image_without_a_line() {
 #[test]
 fn whole_image() {
     assert_eq!(verdict(&[]), "2 0 0 0 0 0 0 0 0");
-    assert_eq!(verdict(&vec![0; 65_536]), "2 0 0 0 0 0 0 0 0");
-    assert_eq!(verdict(&vec![0; 65_535]), "3 1 0 0 0 0 0 0 0");
+    assert_eq!(verdict(&vec![0; 262_145]), "2 0 0 0 0 0 0 0 0");
+    assert_eq!(verdict(&vec![0; 262_144]), "3 1 0 0 0 0 0 0 0");
+}
+
+#[test]
+fn the_program_reads_less_than_the_library() {
+    let by_program = |image: &[u8]| check_within(image, limits::PROGRAM_BYTES).to_string();
+    assert_eq!(by_program(&vec![0; 65_536]), "2 0 0 0 0 0 0 0 0");
+    assert_eq!(by_program(&vec![0; 65_535]), "3 1 0 0 0 0 0 0 0");
+    assert_eq!(by_program(&[]), "2 0 0 0 0 0 0 0 0");
+    assert_eq!(by_program(&bytes(SMALL)), verdict(&bytes(SMALL)));
 }
 
 #[test]

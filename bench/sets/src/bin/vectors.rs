@@ -2,7 +2,7 @@
 //!
 //! Usage: vectors FOLDER
 
-use sets::examples::{message_passing, two_writes};
+use sets::examples::{largest, message_passing, two_writes};
 use sets::vectors::{formulas, images, rules, store};
 use std::io::{Error, Result};
 use std::path::Path;
@@ -24,5 +24,6 @@ fn main() -> Result<()> {
     }
     std::fs::write(folder.join("message-passing.image"), message_passing().bytes())?;
     std::fs::write(folder.join("two-writes.image"), two_writes().bytes())?;
+    std::fs::write(folder.join("largest.image"), largest())?;
     Ok(())
 }

@@ -1,7 +1,7 @@
 //! Damage to the records and bytes of an image.
 
 use super::random::Random;
-use reference::checker::frames;
+use reference::checker::limits;
 use reference::image::written::{image_bytes, Record};
 
 /// The bytes of the records with one or two faults put in.
@@ -84,7 +84,7 @@ fn set_owner_or_mark(random: &mut Random, header: &mut [u8]) {
     }
     let owner = owners + random.below(registers);
     if random.chance(65) {
-        header[owner] = random.between(1, threads.clamp(1, 3));
+        header[owner] = random.between(1, threads.clamp(1, limits::THREADS));
     } else {
         header[owner + registers] = random.between(0, 2);
     }
@@ -103,7 +103,7 @@ fn edit_bytes(random: &mut Random, bytes: &mut Vec<u8>) {
         3 => {
             bytes.remove(place);
         }
-        4 => bytes.resize(frames::IMAGE_BYTES + random.below(2), 0),
+        4 => bytes.resize(limits::IMAGE_BYTES + random.below(2), 0),
         _ => bytes[place] = random.between(0, 255),
     }
 }

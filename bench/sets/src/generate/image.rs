@@ -5,9 +5,12 @@ use super::random::Random;
 use super::{damage, harness, mutate, programs};
 use crate::examples::message_passing;
 use reference::assemble::Plan;
+use reference::checker::frames::LINE;
+use reference::checker::limits;
 use reference::checker::rules::rules;
 use reference::formula::parse::Counts;
 use reference::formula::{Assertion, Interval, Test, Value};
+use reference::image::written::{image_bytes, Record};
 use reference::image::{Header, Instruction, Statement, Thread};
 use reference::proof::{implies, Lemma};
 
@@ -25,18 +28,37 @@ pub fn image(seed: u64) -> Vec<u8> {
     if random.chance(12) {
         edit_obligations(random, &mut plan);
     }
-    if random.chance(35) {
-        return damage::damaged(random, plan.records());
+    let mut records = plan.records();
+    if random.below(1000) < 3 {
+        repeat_a_line(random, &mut records);
     }
-    plan.bytes()
+    if random.chance(35) {
+        return damage::damaged(random, records);
+    }
+    image_bytes(&records)
 }
 
+/// Empty, or about as long as the library or the program reads.
 fn whole_image_fault(random: &mut Random) -> Vec<u8> {
-    match random.below(3) {
-        0 => Vec::new(),
-        1 => vec![0; 65_536],
-        _ => vec![random.between(0, 255); 65_535 + random.below(3)],
+    match random.below(6) {
+        0 | 1 => Vec::new(),
+        2 => vec![random.between(0, 255); limits::PROGRAM_BYTES + random.below(3)],
+        3 => vec![0; limits::IMAGE_BYTES + 1],
+        _ => vec![random.between(0, 255); limits::IMAGE_BYTES + random.below(3)],
     }
+}
+
+/// About as many lines as there may be: the last one again and again. Lines by rows would take long.
+fn repeat_a_line(random: &mut Random, records: &mut Vec<Record>) {
+    let by_rows = |record: &Record| matches!(record.body[0], 21 | 23 | 24 | 30);
+    let lines: Vec<usize> = (0..records.len()).filter(|&at| records[at].kind == LINE).collect();
+    let Some(&again) = lines.iter().rev().find(|&&at| !by_rows(&records[at])) else {
+        return;
+    };
+    let most = *random.pick(&[255, 1000, limits::LINES - 1, limits::LINES, limits::LINES + 1]);
+    let more = vec![records[again].clone(); most.saturating_sub(lines.len())];
+    let behind = lines[lines.len() - 1] + 1;
+    records.splice(behind..behind, more);
 }
 
 /// A plan about one rule, justified or changed in one place, with spare lines.
@@ -70,11 +92,12 @@ fn any_rule(random: &mut Random) -> u8 {
 fn setting_for(random: &mut Random, rule: u8) -> (Header, Vec<Thread>, (u8, u8)) {
     loop {
         let header = programs::header(random);
-        let place = (random.between(1, header.counts.threads), random.between(0, 2));
+        let most = if random.chance(3) { limits::POINTS } else { 4 };
+        let place = (random.between(1, header.counts.threads), random.between(0, most - 2));
         let mut threads: Vec<Thread> = (1..=header.counts.threads)
             .map(|thread| {
                 let least = if thread == place.0 { place.1 + 2 } else { 1 };
-                let points = random.between(least, 4.max(least));
+                let points = random.between(least, most.max(least));
                 programs::thread(random, &header, thread, points)
             })
             .collect();

@@ -1,6 +1,7 @@
 //! A proof changed in one place.
 
 use super::random::Random;
+use reference::checker::limits;
 use reference::checker::rules::{rules, Form};
 use reference::formula::encode::Encode;
 use reference::formula::parse::{parse, Counts};
@@ -37,7 +38,7 @@ fn other_rule(random: &mut Random, rule: u8) -> u8 {
 fn edit_place(random: &mut Random, statement: &mut Statement) {
     if let Statement::Triple { thread, point, .. } = statement {
         if random.chance(50) {
-            *thread = random.between(1, 3);
+            *thread = random.between(1, limits::THREADS);
         }
         *point = random.between(0, 3);
     }

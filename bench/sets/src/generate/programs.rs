@@ -2,6 +2,7 @@
 
 use super::random::Random;
 use super::vocabulary::Vocabulary;
+use reference::checker::limits;
 use reference::formula::parse::Counts;
 use reference::formula::Value;
 use reference::image::{Header, Instruction, Thread};
@@ -10,9 +11,9 @@ use std::rc::Rc;
 /// A header; most are small, some use every name.
 pub fn header(random: &mut Random) -> Header {
     let large = random.chance(8);
-    let threads = random.between(1, 3);
-    let words = if large { 8 } else { random.between(1, 3) };
-    let registers = if large { 16 } else { random.between(0, 4) };
+    let threads = random.between(1, limits::THREADS);
+    let words = if large { limits::WORDS } else { random.between(1, 3) };
+    let registers = if large { limits::REGISTERS } else { random.between(0, 4) };
     // Every range, and most often the usual one and both ends.
     let range = if random.chance(40) { random.between(2, 16) } else { *random.pick(&[8, 2, 16]) };
     let start = (0..words).map(|_| random.between(0, range - 1)).collect();

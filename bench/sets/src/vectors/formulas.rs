@@ -157,7 +157,8 @@ impl List {
     }
 
     fn operand_limits(&mut self) {
-        for (threads, words, registers) in [(1, 1, 0), (1, 1, 1), (3, 8, 16), (2, 4, 15)] {
+        let sizes = [(1, 1, 0), (1, 1, 1), (3, 8, 16), (2, 4, 15), (4, 8, 16)];
+        for (threads, words, registers) in sizes {
             let counts = Counts { threads, words, registers, range: 8 };
             let limits: [(&str, &[u8], u8, &[u8]); 7] = [
                 ("constant", &[0], 7, &[]),

@@ -13,7 +13,7 @@ use std::path::Path;
 pub fn container(cases: &[Case]) -> Vec<u8> {
     let mut bytes = Vec::new();
     for case in cases {
-        let length = u16::try_from(case.image.len()).expect("a stored image has a 16-bit length");
+        let length = u32::try_from(case.image.len()).expect("a stored image has a 32-bit length");
         bytes.extend(length.to_le_bytes());
         bytes.extend(&case.image);
         bytes.extend(check(&case.image).fields().iter().flat_map(|field| field.to_le_bytes()));
@@ -39,7 +39,7 @@ fn of_record_length(cases: &[FormulaCase]) -> impl Iterator<Item = &FormulaCase>
 pub fn formula_container(cases: &[FormulaCase]) -> Vec<u8> {
     let mut bytes = Vec::new();
     for case in of_record_length(cases) {
-        bytes.extend((case.formula.len() as u16).to_le_bytes());
+        bytes.extend((case.formula.len() as u32).to_le_bytes());
         bytes.extend(&case.formula);
         let Counts { threads, words, registers, range } = case.counts;
         bytes.extend([threads, words, registers, range]);

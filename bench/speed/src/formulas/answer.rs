@@ -3,7 +3,7 @@
 pub use reference::formula::parse::Counts;
 
 /// The most that an image has, with the usual range.
-pub const HIGHEST: Counts = Counts { threads: 3, words: 8, registers: 16, range: 8 };
+pub const HIGHEST: Counts = Counts { threads: 4, words: 8, registers: 16, range: 8 };
 
 /// A formula without a part has nesting 1.
 pub const NESTING: usize = 16;

@@ -24,27 +24,28 @@ pub struct Size {
 }
 
 impl Size {
-    /// As much as fits: 500 formulas and 1,000 lines in just under 65,536 bytes.
+    /// As much as there may be.
     pub const LARGEST: Size = Size {
-        threads: 3,
+        threads: 4,
         words: 8,
         registers: 16,
         range: 8,
-        points: 8,
+        points: 16,
         formulas: 500,
-        lines: 1000,
-        assertion: 50,
+        lines: 4000,
+        assertion: 150,
     };
 
     /// A few hundred bytes.
     pub fn small(random: &mut Random) -> Size {
-        let threads = 1 + random.below(3);
+        let threads = 1 + random.below(4);
+        let most_points = if random.below(20) == 0 { 16 } else { 8 };
         Size {
             threads,
             words: 1 + random.below(8),
             registers: random.below(17),
             range: 2 + random.below(15) as u8,
-            points: 1 + random.below(8),
+            points: 1 + random.below(most_points),
             formulas: 2 * threads + 2 + random.below(8),
             lines: 1 + random.below(8),
             assertion: 1 + random.below(20),
@@ -276,9 +277,8 @@ pub fn image(random: &mut Random, size: &Size) -> Vec<u8> {
     image.bytes()
 }
 
-/// An image with 500 formulas and 1,000 lines, as near to 65,535 bytes as comes in some tries.
+/// An image with 500 formulas and 4,000 lines, the longest of some tries.
 pub fn largest(random: &mut Random) -> Vec<u8> {
-    let images = (0..64).map(|_| image(random, &Size::LARGEST));
-    let fitting = images.filter(|image| image.len() <= 65_535);
-    fitting.max_by_key(Vec::len).expect("some of the tries fit")
+    let images = (0..16).map(|_| image(random, &Size::LARGEST));
+    images.max_by_key(Vec::len).expect("some tries")
 }

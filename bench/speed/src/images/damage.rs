@@ -62,11 +62,11 @@ fn rewrite(random: &mut Random, kind: u8, body: &mut Vec<u8>) {
             body[at + 1] = 1;
             body[at + 2] = 1 + random.below(4) as u8;
         }
-        // Instructions are copied until there are up to nine points.
+        // Instructions are copied until there are up to 17 points.
         THREAD if body.len() > 1 => {
             let instruction: Vec<u8> = body[1..6].to_vec();
-            for _ in 0..1 + random.below(9) {
-                if body[0] <= 8 {
+            for _ in 0..1 + random.below(17) {
+                if body[0] <= 16 {
                     body.extend(&instruction);
                     body[0] += 1;
                 }
@@ -98,7 +98,7 @@ fn rewrite_record(random: &mut Random, starts: &[usize], image: &mut Vec<u8>) {
 }
 
 /// A length past which no image is read.
-const TOO_LONG: usize = 65_536;
+const TOO_LONG: usize = 262_145;
 
 pub fn damage(random: &mut Random, image: &mut Vec<u8>) {
     let starts = starts(image);

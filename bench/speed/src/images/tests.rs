@@ -57,7 +57,7 @@ fn the_image_is_sound() {
 #[test]
 fn an_image_that_is_empty_or_too_long_is_code_2() {
     expect(&[], refused(2, 0));
-    expect(&[0; 65_536], refused(2, 0));
+    expect(&vec![0; 262_145], refused(2, 0));
 }
 
 #[test]

@@ -1,10 +1,15 @@
 -- The laws of the look-ups.
 use mathlib.Core.Path.{_≡_, refl, ap, sym, _∙_}
 use mathlib.Core.List.{List, [], _∷_}
+use mathlib.Core.Bool.{Bool, true, false}
+use mathlib.Core.Logic.{_≢_}
 use Prim.Native.Nat.{ℕ, zero, suc, _+_, _-_, _≤_, _<_}
+use native.Mathlib.Numerals.{add-one}
 use native.Mathlib.Omega.{arith}
-use lib.ListN.{length, getD, drop}
-use borrow.Author.Tests.{eq-eqb, ne-eqb, lt-ltb, le-ltb, le-leb, lt-leb}
+use lib.Dec.{eqb}
+use lib.ListN.{length, getD, set, drop, replicate, length-set, length-replicate}
+use lib.Seq.{getD-set-same, getD-set-other}
+use borrow.Author.Tests.{eqb-true, eqb-false, eq-eqb, ne-eqb, lt-ltb, le-ltb, le-leb, lt-leb}
 use Rattle.limits.specs.Limits as Limits
 use Rattle.limits.specs.Numbers.{word, numbers}
 use Rattle.limits.proofs.Numbers.{number-past}
@@ -17,7 +22,7 @@ use Rattle.records.specs.Places.{threadBody}
 use Rattle.records.specs.declared.tally.Tally.{Tally}
 use Rattle.records.specs.Tally.{tallyTo, tally, obligationCount}
 use Rattle.program.specs.Thread.{lastPoint}
-use Rattle.content.specs.Totals.{totalsOf}
+use Rattle.content.specs.Totals.{pointsBelow, pointsBefore, totalsOf}
 use Rattle.content.specs.declared.totals.Totals.{Totals}
 use Rattle.content.specs.Program.{outlineNumber}
 use Rattle.content.specs.Certificate.{left, right, lineBody}
@@ -121,20 +126,59 @@ pub before-is : (z : Sizes) (l : List (List ℕ)) (t : ℕ) (c : Tally) → c �
 unfolding tally
 before-is z l t c e = ap (λ (d : Tally). d .points) (e ∙ tally-same (record { threads = t - 1; words = z .words; registers = z .registers; range = z .range; formulas = z .formulas; lines = z .lines }) z l (t - 1) refl)
 
-pub totals-are : (z : Sizes) (l : List (List ℕ)) (c : Tally) (a b d n : ℕ) → c ≡ tally z l → a ≡ tallyTo z l 0 .points → b ≡ tallyTo z l 1 .points → d ≡ tallyTo z l 2 .points → n ≡ obligationCount z l
-    → record { points = c .points; before = a ∷ b ∷ d ∷ []; obligations = n } ≡ totalsOf z l
+pub below-none : (z : Sizes) (l : List (List ℕ)) (m : List ℕ) → m ≡ replicate Limits.threads 0 → m ≡ pointsBelow z l 0
+unfolding pointsBelow
+below-none z l m e = e
+
+pub below-more : (z : Sizes) (l : List (List ℕ)) (m : List ℕ) (t v : ℕ) → m ≡ pointsBelow z l t → v ≡ tallyTo z l (t + 1 - 1) .points → set m t v ≡ pointsBelow z l (t + 1)
+unfolding pointsBelow
+below-more z l m t v e d = let q : t + 1 - 1 ≡ t = omega arith in rw (add-one t, ← e) (ap (set m t) (d ∙ ap (λ (k : ℕ). tallyTo z l k .points) q))
+
+pub below-all : (z : Sizes) (l : List (List ℕ)) (m : List ℕ) (t : ℕ) → t ≤ Limits.threads → Limits.threads ≤ t → m ≡ pointsBelow z l t → m ≡ pointsBefore z l
+unfolding pointsBefore
+below-all z l m t h g e = let q : t ≡ Limits.threads = omega arith in rw q at e
+
+below-length : (z : Sizes) (l : List (List ℕ)) (n : ℕ) → length (pointsBelow z l n) ≡ Limits.threads
+unfolding pointsBelow
+below-length z l zero = length-replicate {A = ℕ} Limits.threads 0
+below-length z l (suc n) = length-set (pointsBelow z l n) n (tallyTo z l n .points) ∙ below-length z l n
+
+below-at : (z : Sizes) (l : List (List ℕ)) (n t : ℕ) → t < n → n ≤ Limits.threads → getD (pointsBelow z l n) t 0 ≡ tallyTo z l t .points
+unfolding pointsBelow
+below-at z l zero t h g = absurd (omega arith)
+below-at z l (suc n) t h g = go (eqb t n) refl (λ b. below-at z l n t b (omega arith))
+  where
+    go : (b : Bool) → eqb t n ≡ b → (t < n → getD (pointsBelow z l n) t 0 ≡ tallyTo z l t .points) → getD (set (pointsBelow z l n) n (tallyTo z l n .points)) t 0 ≡ tallyTo z l t .points
+    go true e f =
+        let q = eqb-true t n e in
+        let i : n < length (pointsBelow z l n) = let a = below-length z l n in omega arith in
+        rw q (getD-set-same (pointsBelow z l n) n (tallyTo z l n .points) 0 i)
+    go false e f =
+        let q : t ≢ n = eqb-false t n e in
+        getD-set-other (pointsBelow z l n) n t (tallyTo z l n .points) 0 q ∙ f (omega arith)
+
+pub totals-are : (z : Sizes) (l : List (List ℕ)) (c : Tally) (b : List ℕ) (n : ℕ) → c ≡ tally z l → b ≡ pointsBefore z l → n ≡ obligationCount z l
+    → record { points = c .points; before = b; obligations = n } ≡ totalsOf z l
 unfolding totalsOf
-totals-are z l c a b d n ec ea eb ed en = rw (ec, ea, eb, ed, en)
+totals-are z l c b n ec eb en = rw (ec, eb, en)
 
 pub before-known : (z : Sizes) (l : List (List ℕ)) (y : Totals) (t : ℕ) → y ≡ totalsOf z l → 1 ≤ t → t ≤ Limits.threads → getD (y .before) (t - 1) 0 ≡ tallyTo z l (t - 1) .points
-unfolding totalsOf
-before-known z l y zero e a b = absurd (omega arith)
-before-known z l y (suc zero) e a b = rw e
-before-known z l y (suc (suc zero)) e a b = rw e
-before-known z l y (suc (suc (suc zero))) e a b = rw e
-before-known z l y (suc (suc (suc (suc n)))) e a b = absurd (omega arith)
+unfolding totalsOf pointsBefore
+before-known z l y t e a b = rw e (below-at z l Limits.threads (t - 1) (omega arith) (omega arith))
 
-pub ruleset totals = (before-is, totals-are, before-known)
+pub known-length : (z : Sizes) (l : List (List ℕ)) (y : Totals) → y ≡ totalsOf z l → length (y .before) ≡ Limits.threads
+unfolding totalsOf pointsBefore
+known-length z l y e = rw e (below-length z l Limits.threads)
+
+pub set-long : (m : List ℕ) (t v : ℕ) → length m ≡ Limits.threads → length (set m t v) ≡ Limits.threads
+set-long m t v e = length-set m t v ∙ e
+
+pub zeros-long : (m : List ℕ) → m ≡ replicate Limits.threads 0 → length m ≡ Limits.threads
+zeros-long m e = ap length e ∙ length-replicate {A = ℕ} Limits.threads 0
+
+pub ruleset filling = (below-none, below-more, below-all, set-long, zeros-long)
+
+pub ruleset totals = (before-is, totals-are, before-known, known-length)
 
 -- the lines that obligations name
 

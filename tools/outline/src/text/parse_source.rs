@@ -7,6 +7,7 @@ use crate::text::parse_formula::Cursor;
 use crate::text::scope::{Meaning, Scope};
 use crate::text::sort_name;
 use crate::text::source::{Hint, Point, Source};
+use reference::checker::limits;
 use reference::formula::atoms::{Atom, Atoms};
 use reference::formula::nesting::{Nesting, BYTES, NESTING};
 use reference::formula::{Formula, Sort};
@@ -135,11 +136,10 @@ fn thread(c: &mut Cursor, source: &mut Source) -> Result<(), Mistake> {
         labels.truncate(points.len());
         points.push(point(c, &mut labels)?);
     }
-    if points.len() > 8 {
-        return Err(Mistake {
-            line,
-            text: format!("thread {name} has {} points; 8 is the most", points.len()),
-        });
+    let (count, most) = (points.len(), usize::from(limits::POINTS));
+    if count > most {
+        let text = format!("thread {name} has {count} points; {most} is the most");
+        return Err(Mistake { line, text });
     }
     for (instruction, jump) in code.iter_mut().zip(jumps) {
         if let (Instruction::Branch { target, .. }, Some((name, at))) = (instruction, jump) {

@@ -3,6 +3,7 @@
 use crate::text::lex::{Mistake, Token, KEYWORDS};
 use crate::text::print::Names;
 use crate::text::sort_name;
+use reference::checker::limits;
 use reference::formula::parse::Counts;
 use reference::formula::{Formula, Sort};
 use reference::image::Header;
@@ -150,9 +151,9 @@ impl Scope {
 
     fn limits(&self, line: usize) -> Result<(), Mistake> {
         let checks = [
-            ("threads", self.names.threads.len(), 1, 3),
-            ("words", self.names.words.len(), 1, 8),
-            ("registers", self.names.registers.len(), 0, 16),
+            ("threads", self.names.threads.len(), 1, limits::THREADS.into()),
+            ("words", self.names.words.len(), 1, limits::WORDS.into()),
+            ("registers", self.names.registers.len(), 0, limits::REGISTERS.into()),
         ];
         for (what, n, least, most) in checks {
             if n < least || n > most {

@@ -1,12 +1,12 @@
 //! Lines by the rules with the longest templates, about long formulas.
 
-use super::deep::chops;
 use super::repeated;
 use reference::assemble::Plan;
 use reference::formula::parse::Counts;
 use reference::formula::{Assertion, Interval, Test, Value};
 use reference::image::{Header, Instruction};
 use reference::proof::{around, implies, included, triple, Lemma};
+use sets::examples::deep::chops;
 use sets::generate::harness;
 use std::rc::Rc;
 
@@ -18,10 +18,10 @@ const STORE: (u8, u8) = (1, 0);
 const SWAP: (u8, u8) = (1, 1);
 const OTHER: u8 = 2;
 
-pub fn image() -> Vec<u8> {
+pub fn image(most: usize) -> Vec<u8> {
     let mut plan = plan();
     plan.spare = (0..VARIANTS).flat_map(|variant| lines(variant * 3)).collect();
-    repeated(&plan, &[7, 8, 12, 13, 16, 38])
+    repeated(&plan, &[7, 8, 12, 13, 16, 38], most)
 }
 
 /// A releasing store and a swap of a sum, by a thread beside another.

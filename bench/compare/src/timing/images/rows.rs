@@ -14,12 +14,12 @@ const VARIANTS: usize = 4;
 const WORDS: usize = 8;
 const REGISTERS: usize = 16;
 
-pub fn image(range: u8) -> Vec<u8> {
+pub fn image(range: u8, most: usize) -> Vec<u8> {
     let counts = Counts { threads: 1, words: WORDS as u8, registers: REGISTERS as u8, range };
     let header = Header::cleared(counts, vec![0; WORDS], vec![1; REGISTERS]);
     let mut plan = harness::plan(harness::program(header, vec![Vec::new()]));
     plan.spare = (0..VARIANTS).flat_map(|variant| lines(most_names(range), variant)).collect();
-    repeated(&plan, &[21, 23, 24, 30])
+    repeated(&plan, &[21, 23, 24, 30], most)
 }
 
 /// So many names have at most 4,096 rows.

@@ -1,23 +1,23 @@
 //! Lines by rule 20 with ten leaves and four premises, of which none can be left out.
 
-use super::deep::chops;
 use super::repeated;
 use reference::formula::parse::Counts;
 use reference::formula::{Assertion, Interval};
 use reference::image::Header;
 use reference::proof::{implies, included, seen, Lemma};
+use sets::examples::deep::chops;
 use sets::generate::harness;
 
 /// Lines with formulas of their own.
 const VARIANTS: usize = 40;
 const PREMISES: usize = 4;
 
-pub fn image() -> Vec<u8> {
+pub fn image(most: usize) -> Vec<u8> {
     let counts = Counts { threads: 1, words: 8, registers: 0, range: 8 };
     let header = Header::cleared(counts, vec![0; 8], Vec::new());
     let mut plan = harness::plan(harness::program(header, vec![Vec::new()]));
     plan.spare = (0..VARIANTS).map(line).collect();
-    repeated(&plan, &[20])
+    repeated(&plan, &[20], most)
 }
 
 /// both(A1, both(A2, both(A3, both(A4, either(C, D))))) to the same with each B for its A, from A to B four times.

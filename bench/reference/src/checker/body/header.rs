@@ -1,6 +1,7 @@
 //! The header: counts, range, start values, owners, start marks.
 
 use super::{demand, Read, LENGTH, RANGE};
+use crate::checker::limits;
 use crate::formula::parse::Counts;
 use crate::image::Header;
 
@@ -8,9 +9,9 @@ use crate::image::Header;
 pub fn read(body: &[u8], threads_written: usize) -> Read<Header> {
     let header = Header::read(body).ok_or(LENGTH)?;
     let Counts { threads, words, registers, range } = header.counts;
-    demand((1..=3).contains(&threads), RANGE)?;
-    demand((1..=8).contains(&words), RANGE)?;
-    demand(registers <= 16, RANGE)?;
+    demand((1..=limits::THREADS).contains(&threads), RANGE)?;
+    demand((1..=limits::WORDS).contains(&words), RANGE)?;
+    demand(registers <= limits::REGISTERS, RANGE)?;
     demand((2..=16).contains(&range), RANGE)?;
     demand(header.start.iter().all(|&value| value < range), RANGE)?;
     demand(header.owners.iter().all(|owner| (1..=threads).contains(owner)), RANGE)?;

@@ -1,6 +1,7 @@
 //! A thread record: points and instructions.
 
 use super::{demand, formula_numbered, Context, Read, LENGTH, OPERAND, OWNER, RANGE, SORT};
+use crate::checker::limits;
 use crate::formula::atoms::{Atom, Atoms};
 use crate::formula::{Formula, Test, Value};
 use crate::image::{written, Header, Instruction, Thread};
@@ -10,7 +11,7 @@ use std::rc::Rc;
 pub fn read(body: &[u8], thread: usize, context: &Context) -> Read<Thread> {
     let code = written::instructions(body).ok_or(LENGTH)?;
     let points = body[0];
-    demand((1..=8).contains(&points), RANGE)?;
+    demand((1..=limits::POINTS).contains(&points), RANGE)?;
 
     each(&code, |fields| fields.check_numbers(points, context))?;
     let instructions = each(&code, |fields| fields.instruction(context.formulas))?;

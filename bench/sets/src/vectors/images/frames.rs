@@ -3,6 +3,7 @@
 use super::{Case, Draft, SMALL};
 use crate::vectors::formulas::long_formula;
 use reference::checker::frames::{FORMULA, LINE, THREAD};
+use reference::checker::limits;
 use reference::image::written::Record;
 
 pub fn cases() -> Vec<Case> {
@@ -18,8 +19,12 @@ fn whole_image() -> Vec<Case> {
         Draft::new().case("accepted: tour image"),
         Case::new("2: empty image", Vec::new()),
         Case::new("accepted: image of 65,535 bytes", padded(65_535)),
-        Case::new("accepted: image of 65,534 bytes", padded(65_534)),
+        Case::new("accepted: image of 65,536 bytes", padded(65_536)),
+        Case::new("accepted: image of 65,537 bytes", padded(65_537)),
+        Case::new("accepted: image of 100,000 bytes", padded(100_000)),
         Case::new("3: 65,535 zero bytes", vec![0; 65_535]),
+        Case::new("3: 262,144 zero bytes", vec![0; limits::IMAGE_BYTES]),
+        Case::new("2: 262,145 zero bytes", vec![0; limits::IMAGE_BYTES + 1]),
     ]
 }
 
@@ -133,7 +138,8 @@ fn kinds() -> Vec<Case> {
 /// The most records of a kind, and one more.
 fn counts_of_kinds() -> Vec<Case> {
     let mut cases = Vec::new();
-    for (name, kind, most) in [("formulas", FORMULA, 500), ("lines", LINE, 1000)] {
+    let kinds = [("formulas", FORMULA, limits::FORMULAS), ("lines", LINE, limits::LINES)];
+    for (name, kind, most) in kinds {
         for count in [most, most + 1] {
             let mut draft = Draft::new();
             let last = draft.index(kind, draft.count(kind) - 1);
@@ -147,7 +153,7 @@ fn counts_of_kinds() -> Vec<Case> {
             cases.push(draft.case(format!("kind too often: {count} {name}, {most} are allowed")));
         }
     }
-    for count in [3, 4] {
+    for count in [3, 4, 5] {
         let mut draft = Draft::new();
         let last = draft.index(THREAD, 1);
         draft.records.splice(last + 1..last + 1, vec![Record::new(THREAD, [1]); count - 2]);

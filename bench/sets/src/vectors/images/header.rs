@@ -37,7 +37,7 @@ fn ranges() -> Vec<Case> {
         Draft::new().set(HEADER, 0, place, byte).case(label)
     };
     let mut cases = Vec::new();
-    for threads in [0, 1, 3, 4, 255] {
+    for threads in [0, 1, 3, 4, 5, 255] {
         cases.push(set(format!("6: header with {threads} threads, 2 records"), 0, threads));
     }
     for (place, name) in [(4, "first start value"), (5, "last start value")] {

@@ -8,6 +8,7 @@ mod line;
 mod numbers;
 mod obligations;
 mod outline;
+mod pads;
 mod thread;
 
 use super::edits::Draft;
@@ -30,6 +31,7 @@ pub fn cases() -> Vec<Case> {
         line::cases(),
         numbers::cases(),
         obligations::cases(),
+        pads::cases(),
         precedence::cases(),
     ]
     .concat()

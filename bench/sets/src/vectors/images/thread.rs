@@ -24,8 +24,10 @@ fn lengths() -> Vec<Case> {
         cases.push(put("5: 0 points, a byte behind", &[0, 0]));
         cases.push(put("5: 1 point, one instruction", &with_points(1, 1)));
         cases.push(put("5: 2 points, no instruction", &[2]));
-        cases.push(put("6: 9 points, 8 instructions", &with_points(9, 8)));
         cases.push(put("5: 9 points, 7 instructions", &with_points(9, 7)));
+        cases.push(put("the most points: 16 with 15 instructions", &with_points(16, 15)));
+        cases.push(put("6: 17 points, 16 instructions", &with_points(17, 16)));
+        cases.push(put("5: 17 points, 15 instructions", &with_points(17, 15)));
         cases.push(put("6: 255 points, 254 instructions", &with_points(255, 254)));
         cases.push(put("5: 255 points, 255 instructions", &with_points(255, 255)));
         cases.push(

@@ -4,14 +4,14 @@ use super::number;
 use reference::checker::Refusal;
 
 /// The longest image that is read.
-const IMAGE_BYTES: usize = 65_535;
+const IMAGE_BYTES: usize = 262_144;
 
 /// The kind of the last record.
 const OBLIGATIONS: usize = 6;
 
 /// How many records of each kind there may be; there is no kind 0.
-const MOST: [usize; 7] = [0, 1, 500, 3, 1, 1000, 1];
-const RECORDS: usize = 1506;
+const MOST: [usize; 7] = [0, 1, 500, 4, 1, 4000, 1];
+const RECORDS: usize = 4507;
 
 pub struct Frames<'a> {
     image: &'a [u8],

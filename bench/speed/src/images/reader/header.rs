@@ -13,7 +13,7 @@ pub fn check(body: &[u8], threads_written: usize) -> Checked {
     let (owners, marks) = rest.split_at(registers as usize);
     demand(
         threads as usize == threads_written
-            && (1..=3).contains(&threads)
+            && (1..=4).contains(&threads)
             && (1..=8).contains(&words)
             && registers <= 16
             && (2..=16).contains(&range)

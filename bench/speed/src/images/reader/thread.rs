@@ -73,7 +73,7 @@ pub fn check<S: Search>(body: &[u8], thread: u8, n: Counts, frames: &Frames) -> 
     let points = body[0];
     // 0 points are counted as 1.
     demand(body.len() == 1 + INSTRUCTION * (points.max(1) as usize - 1), LENGTH)?;
-    demand((1..=8).contains(&points), RANGE)?;
+    demand((1..=16).contains(&points), RANGE)?;
     demand(instructions(body).all(|one| one.fits(points, n, frames)), RANGE)?;
     demand(instructions(body).all(|one| one.is_sorted::<S>(frames)), SORT)?;
     let owners = header::owners(frames.body(1));

@@ -8,7 +8,7 @@ use Rattle.cases.proofs.judge.judge_all.Statement.{statement}
 use Rattle.cases.proofs.judge.judge_all.Tie as tie
 
 abbrev Inv-loop : tie.InvT-loop
-Inv-loop fd space₀ stored₀ tally₀ left₀ space stored tally left = (65536 ≡ length space) × ((18 ≡ length stored) × Running tally left)
+Inv-loop fd space₀ stored₀ tally₀ left₀ space stored tally left = (262145 ≡ length space) × ((18 ≡ length stored) × Running tally left)
 
 abbrev μ-loop : tie.MeasureT-loop
 μ-loop fd space₀ stored₀ tally₀ left₀ space stored tally left = left

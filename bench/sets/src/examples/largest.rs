@@ -1,9 +1,9 @@
-//! About as many bytes, lines and formulas as an image may have, with 236 obligations that rest on most lines.
+//! About as many bytes, lines and formulas as an image may have: four threads of 16 points with 2,944 obligations, which
+//! rest on half of the lines.
 
 use super::deep::chops;
-use super::{MOST_BYTES, MOST_LINES};
 use reference::assemble::Plan;
-use reference::checker::frames;
+use reference::checker::limits::{FORMULAS, LINES, POINTS, THREADS, WORDS};
 use reference::checker::obligations::{duties, Duty};
 use reference::formula::parse::Counts;
 use reference::formula::{Assertion, Interval, Test, Value};
@@ -12,36 +12,30 @@ use reference::image::{Header, Instruction, Program, Thread};
 use reference::proof::{around, consequence, implies, included, seen, triple, Lemma};
 use std::rc::Rc;
 
-const MOST_FORMULAS: usize = 500;
-/// Points of the threads.
-const POINTS: [u8; 3] = [8, 8, 4];
+/// So many assertions take turns at the points of a thread, or there would be too many pairs of them.
+const TURNS: u8 = 4;
 /// No assertion speaks of the words that are loaded and stored.
 const LOADED: u8 = 7;
 const STORED: u8 = 8;
 
-pub fn image() -> Vec<u8> {
+/// The image: every obligation has a line, and all lines are justified.
+pub fn largest() -> Vec<u8> {
     let program = program();
-    let prove = |duty: &Duty| Some(proof(duty));
-    let obligations = duties(&program.threads).iter().map(prove).collect();
-    let mut plan = Plan { program, spare: Vec::new(), obligations };
-    let mut largest = plan.records();
-    for seed in 0.. {
-        plan.spare.push(spare(seed));
-        let larger = plan.records();
-        if !may_be(&larger) {
-            break;
-        }
-        largest = larger;
-    }
-    image_bytes(&largest)
+    let obligations = duties(&program.threads).iter().map(|duty| Some(proof(duty))).collect();
+    let mut plan = Plan { program, spare: vec![last()], obligations };
+    let more = FORMULAS - plan.written().formulas.len();
+    plan.spare = (0..more).map(spare).chain([last()]).collect();
+    image_bytes(&filled(plan.records()))
 }
 
-/// Whether an image may have so much.
-fn may_be(records: &[Record]) -> bool {
-    let count = |kind| records.iter().filter(|record| record.kind == kind).count();
-    count(frames::FORMULA) <= MOST_FORMULAS
-        && count(frames::LINE) <= MOST_LINES
-        && image_bytes(records).len() <= MOST_BYTES
+/// As many lines as there may be: the last of the spare ones again and again.
+fn filled(records: Vec<Record>) -> Vec<Record> {
+    let is_line = |record: &&Record| record.kind == reference::checker::frames::LINE;
+    let lines = records.iter().filter(is_line).count();
+    let again = records.iter().filter(is_line).find(|line| line.body[7] == 4);
+    let again = vec![again.expect("the last spare line").clone(); LINES - lines];
+    let (obligations, front) = records.split_last().expect("an image has records");
+    [front, &again, std::slice::from_ref(obligations)].concat()
 }
 
 /// Loads and stores by turns.
@@ -50,17 +44,17 @@ fn program() -> Program {
         0 => Instruction::Load { register: thread, word: LOADED, acquiring: true },
         _ => Instruction::Store { word: STORED, value: Value::Constant(1).into(), releasing: true },
     };
-    let thread = |(number, points): (u8, u8)| -> Thread {
-        (0..points - 1).map(|point| instruction(number, point)).collect()
+    let code = |thread: u8| -> Thread {
+        (0..POINTS - 1).map(|point| instruction(thread, point)).collect()
     };
-    let outline = |(number, points): (u8, u8)| -> Vec<Rc<Assertion>> {
-        (0..points).map(|point| assertion(number, point).into()).collect()
+    let outline = |thread: u8| -> Vec<Rc<Assertion>> {
+        (0..POINTS).map(|point| assertion(thread, point).into()).collect()
     };
-    let counts = Counts { threads: 3, words: 8, registers: 3, range: 8 };
+    let counts = Counts { threads: THREADS, words: WORDS, registers: THREADS, range: 8 };
     Program {
-        header: Header::cleared(counts, vec![0; 8], vec![1, 2, 3]),
-        threads: (1..).zip(POINTS).map(thread).collect(),
-        outline: (1..).zip(POINTS).map(outline).collect(),
+        header: Header::cleared(counts, vec![0; WORDS.into()], (1..=THREADS).collect()),
+        threads: (1..=THREADS).map(code).collect(),
+        outline: (1..=THREADS).map(outline).collect(),
     }
 }
 
@@ -68,10 +62,10 @@ fn truth() -> Interval {
     Interval::all(Test::truth())
 }
 
-/// either([true], a long interval of this point's own)
+/// either([true], a long interval of this turn's own)
 fn interval(thread: u8, point: u8) -> Interval {
-    let seed = usize::from(thread) * 8 + usize::from(point);
-    Interval::either(truth(), chops(seed, 5))
+    let seed = 2 * usize::from(thread * TURNS + point % TURNS);
+    Interval::either(truth(), Interval::both(chops(seed, 5), chops(seed + 1, 5)))
 }
 
 fn assertion(thread: u8, point: u8) -> Assertion {
@@ -107,11 +101,18 @@ fn proof(duty: &Duty) -> Lemma {
     }
 }
 
-/// A line on which nothing rests.
+/// A line on which nothing rests, with a formula of its own.
 fn spare(seed: usize) -> Lemma {
-    let interval = chops(256 + seed, 7);
+    let pair = |seed: usize| Interval::both(chops(seed, 6), chops(seed + 1, 5));
+    let interval = Interval::both(pair(40 + seed), pair(42 + seed));
     match seed % 2 {
         0 => included(46, interval.clone(), interval, &[]),
         _ => same((1, 1), Assertion::sees(2, interval)),
     }
+}
+
+/// The last spare line, with four premises.
+fn last() -> Lemma {
+    let same = implies(20, Assertion::truth(), Assertion::truth(), &[]);
+    implies(20, Assertion::truth(), Assertion::truth(), &[&same; 4])
 }
