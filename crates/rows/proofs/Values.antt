@@ -1,4 +1,4 @@
--- The values of a formula at the rows of a block: the ways through the functions, one law for each.
+-- The values of a formula at all rows: the ways through the functions, one law for each.
 use Prim.Native.Nat.{ℕ, zero, suc, _-_, _≤_, _<_}
 use mathlib.Core.Path.{_≡_, refl, ap, ap₂, sym, _∙_}
 use mathlib.Core.List.{List}
@@ -13,7 +13,8 @@ use Rattle.formula.specs.declared.node.Node.{Node}
 use Rattle.formula.proofs.Nodes.{parse-zero, parse-step, parts-of}
 use Rattle.leaves.specs.Slots.{slotOf}
 use Rattle.columns.specs.Combine.{combine}
-use Rattle.columns.specs.Column.{rows, column, constant, combined, valueIn, rowIn, slotColumn}
+use Rattle.columns.specs.Column.{column, constant, combined}
+use Rattle.digits.specs.Slots.{valueIn, rowIn, slotColumn}
 use Rattle.columns.proofs.Listed.{column-at, column-same}
 use Rattle.rows.specs.Value.{valueT, rowValue, columnOf, leafAt, leafColumn, secondLeft}
 use Rattle.rows.specs.declared.value.Reading.{Reading}
@@ -31,26 +32,26 @@ module _ (s : List ℕ) (w : Reading) (q : List ℕ) where
   unfolding rowValue valueT
   value-node v c o l r = refl
 
-  module _ (cells : List ℕ) (n : ℕ) where
-    column-none : constant 0 n ≡ columnOf s w q cells n none
+  module _ (ms : List ℕ) (n : ℕ) where
+    column-none : constant 0 n ≡ columnOf s w q ms n none
     unfolding constant columnOf
-    column-none = column-same (λ (i : ℕ). 0) (λ (i : ℕ). rowValue s w q (rowIn cells i) none) n (λ i h. sym (value-none (rowIn cells i)))
+    column-none = column-same (λ (i : ℕ). 0) (λ (i : ℕ). rowValue s w q (rowIn ms i) none) n (λ i h. sym (value-none (rowIn ms i)))
 
-    column-leaf : (c o : ℕ) (l r : Tree) → member (w .leaves) c ≡ true → slotColumn cells (slotOf s q (node c o l r)) n ≡ columnOf s w q cells n (node c o l r)
+    column-leaf : (c o : ℕ) (l r : Tree) → member (w .leaves) c ≡ true → slotColumn ms (slotOf s q (node c o l r)) n ≡ columnOf s w q ms n (node c o l r)
     unfolding slotColumn columnOf
-    column-leaf c o l r e = column-same (λ (i : ℕ). valueIn (rowIn cells i) (slotOf s q (node c o l r))) (λ (i : ℕ). rowValue s w q (rowIn cells i) (node c o l r)) n (λ i h. sym (value-node (rowIn cells i) c o l r ∙ rw e))
+    column-leaf c o l r e = column-same (λ (i : ℕ). valueIn (rowIn ms i) (slotOf s q (node c o l r))) (λ (i : ℕ). rowValue s w q (rowIn ms i) (node c o l r)) n (λ i h. sym (value-node (rowIn ms i) c o l r ∙ rw e))
 
-    column-node : (c o : ℕ) (l r : Tree) (a b : List ℕ) → member (w .leaves) c ≡ false → ((i : ℕ) → i < n → getD a i 0 ≡ rowValue s w q (rowIn cells i) l)
-        → ((i : ℕ) → i < n → getD b i 0 ≡ rowValue s w q (rowIn cells i) r) → combined (w .range) c o n a b ≡ columnOf s w q cells n (node c o l r)
+    column-node : (c o : ℕ) (l r : Tree) (a b : List ℕ) → member (w .leaves) c ≡ false → ((i : ℕ) → i < n → getD a i 0 ≡ rowValue s w q (rowIn ms i) l)
+        → ((i : ℕ) → i < n → getD b i 0 ≡ rowValue s w q (rowIn ms i) r) → combined (w .range) c o n a b ≡ columnOf s w q ms n (node c o l r)
     unfolding combined columnOf
     column-node c o l r a b e f g =
-        column-same (λ (i : ℕ). combine (w .range) c o (getD a i 0) (getD b i 0)) (λ (i : ℕ). rowValue s w q (rowIn cells i) (node c o l r)) n
-        (λ i h. ap₂ (combine (w .range) c o) (f i h) (g i h) ∙ sym (value-node (rowIn cells i) c o l r ∙ rw e))
+        column-same (λ (i : ℕ). combine (w .range) c o (getD a i 0) (getD b i 0)) (λ (i : ℕ). rowValue s w q (rowIn ms i) (node c o l r)) n
+        (λ i h. ap₂ (combine (w .range) c o) (f i h) (g i h) ∙ sym (value-node (rowIn ms i) c o l r ∙ rw e))
 
     -- what stands in a formula's column
-    pub column-value : (t : Tree) (a : List ℕ) → take n a ≡ columnOf s w q cells n t → (i : ℕ) → i < n → getD a i 0 ≡ rowValue s w q (rowIn cells i) t
+    pub column-value : (t : Tree) (a : List ℕ) → take n a ≡ columnOf s w q ms n t → (i : ℕ) → i < n → getD a i 0 ≡ rowValue s w q (rowIn ms i) t
     unfolding columnOf
-    column-value t a e i h = column-at (λ (i : ℕ). rowValue s w q (rowIn cells i) t) 0 a n i e h
+    column-value t a e i h = column-at (λ (i : ℕ). rowValue s w q (rowIn ms i) t) 0 a n i e h
 
     -- nothing to combine
     module _ (k at : ℕ) (a o : List ℕ) where
@@ -58,7 +59,7 @@ module _ (s : List ℕ) (w : Reading) (q : List ℕ) where
       unfolding leafAt
       leaf-zero z = rw (eq-eqb _ _ z)
 
-      pub zero-column : k ≡ 0 → take n a ≡ constant 0 n → take n a ≡ leafColumn s w q cells n k at o
+      pub zero-column : k ≡ 0 → take n a ≡ constant 0 n → take n a ≡ leafColumn s w q ms n k at o
       unfolding leafColumn
       zero-column z e = e ∙ column-none ∙ rw (← leaf-zero z, parse-zero s k at z)
 
@@ -67,7 +68,7 @@ module _ (s : List ℕ) (w : Reading) (q : List ℕ) where
         unfolding leafAt
         leaf-plain p = rw (ne-eqb _ _ z, ← e, eq-eqb _ _ p)
 
-        pub plain-column : x .parts ≡ 0 → take n a ≡ columnOf s w q cells n (node (x .code) (x .operand) none none) → take n a ≡ leafColumn s w q cells n k at o
+        pub plain-column : x .parts ≡ 0 → take n a ≡ columnOf s w q ms n (node (x .code) (x .operand) none none) → take n a ≡ leafColumn s w q ms n k at o
         unfolding leafColumn
         plain-column p f = f ∙ rw (← leaf-plain p) (rw (parse-step s k at z, ← e, p))
 
@@ -76,22 +77,22 @@ module _ (s : List ℕ) (w : Reading) (q : List ℕ) where
           unfolding leafAt
           leaf-inner d f = sym f ∙ eb ∙ rw (ne-eqb _ _ z, ← e, ne-eqb _ _ p)
 
-          pub inner-column : (j : ℕ) → b ≡ true → j ≡ slotOf s q (parseTree s k at .tree) → take n a ≡ slotColumn cells j n → take n a ≡ leafColumn s w q cells n k at o
+          pub inner-column : (j : ℕ) → b ≡ true → j ≡ slotOf s q (parseTree s k at .tree) → take n a ≡ slotColumn ms j n → take n a ≡ leafColumn s w q ms n k at o
           unfolding leafColumn
           inner-column j d f g =
-              g ∙ ap (λ (j : ℕ). slotColumn cells j n) f
+              g ∙ ap (λ (j : ℕ). slotColumn ms j n) f
               ∙ rw (← leaf-inner true d) (rw (parse-step s k at z, ← e) (column-leaf (x .code) (x .operand) (first .tree) (part (λ p. parseTree s (k - 1) p) (ltb 1 (x .parts)) (first .end) .tree) (sym eb ∙ d)))
             where
               first : ParsedTree
               first = part (λ p. parseTree s (k - 1) p) (ltb 0 (x .parts)) (x .next)
 
-          pub other-column : b ≡ false → take n a ≡ leafColumn s w q cells n k at a
+          pub other-column : b ≡ false → take n a ≡ leafColumn s w q ms n k at a
           unfolding leafColumn
           other-column d = rw (← leaf-inner false d)
 
     -- all formulas
     module _ (k at : ℕ) (b : Bool) (eb : b ≡ leafAt s w k at) where
-      pub value-leaf : (a o : List ℕ) → b ≡ true → take n a ≡ leafColumn s w q cells n k at o → take n a ≡ columnOf s w q cells n (parseTree s k at .tree)
+      pub value-leaf : (a o : List ℕ) → b ≡ true → take n a ≡ leafColumn s w q ms n k at o → take n a ≡ columnOf s w q ms n (parseTree s k at .tree)
       unfolding leafColumn
       value-leaf a o d f = f ∙ rw (← eb, d)
 
@@ -151,22 +152,22 @@ module _ (s : List ℕ) (w : Reading) (q : List ℕ) where
           pub end-two : y ≡ parseTree s k at .end
           end-two = ey ∙ sym (ap (λ (u : ParsedTree). u .end) whole)
 
-          pub value-two : (a c g : List ℕ) → take n c ≡ columnOf s w q cells n (parseTree s (k - 1) (x .next) .tree) → take n g ≡ columnOf s w q cells n (parseTree s j m .tree)
-              → take n a ≡ combined (w .range) (x .code) (x .operand) n c g → take n a ≡ columnOf s w q cells n (parseTree s k at .tree)
+          pub value-two : (a c g : List ℕ) → take n c ≡ columnOf s w q ms n (parseTree s (k - 1) (x .next) .tree) → take n g ≡ columnOf s w q ms n (parseTree s j m .tree)
+              → take n a ≡ combined (w .range) (x .code) (x .operand) n c g → take n a ≡ columnOf s w q ms n (parseTree s k at .tree)
           value-two a c g ec eg f =
               f ∙ column-node (x .code) (x .operand) (parseTree s (k - 1) (x .next) .tree) (parseTree s j m .tree) c g (rw e (split .1 .1)) (column-value (parseTree s (k - 1) (x .next) .tree) c ec) (column-value (parseTree s j m .tree) g eg)
-              ∙ ap (columnOf s w q cells n) (sym (ap (λ (u : ParsedTree). u .tree) whole))
+              ∙ ap (columnOf s w q ms n) (sym (ap (λ (u : ParsedTree). u .tree) whole))
 
 -- a formula without parts
-module _ (s : List ℕ) (w : Reading) (q cells : List ℕ) (n c o : ℕ) (a : List ℕ) (b : Bool) (eb : b ≡ member (w .leaves) c) where
-  pub plain-leaf : (j : ℕ) → b ≡ true → j ≡ slotOf s q (node c o none none) → take n a ≡ slotColumn cells j n → take n a ≡ columnOf s w q cells n (node c o none none)
-  plain-leaf j d e f = f ∙ ap (λ (j : ℕ). slotColumn cells j n) e ∙ column-leaf s w q cells n c o none none (sym eb ∙ d)
+module _ (s : List ℕ) (w : Reading) (q ms : List ℕ) (n c o : ℕ) (a : List ℕ) (b : Bool) (eb : b ≡ member (w .leaves) c) where
+  pub plain-leaf : (j : ℕ) → b ≡ true → j ≡ slotOf s q (node c o none none) → take n a ≡ slotColumn ms j n → take n a ≡ columnOf s w q ms n (node c o none none)
+  plain-leaf j d e f = f ∙ ap (λ (j : ℕ). slotColumn ms j n) e ∙ column-leaf s w q ms n c o none none (sym eb ∙ d)
 
-  pub plain-other : (v : ℕ) → b ≡ false → v ≡ combine (w .range) c o 0 0 → take n a ≡ constant v n → take n a ≡ columnOf s w q cells n (node c o none none)
+  pub plain-other : (v : ℕ) → b ≡ false → v ≡ combine (w .range) c o 0 0 → take n a ≡ constant v n → take n a ≡ columnOf s w q ms n (node c o none none)
   unfolding constant columnOf
   plain-other v d e f =
-      f ∙ column-same (λ (i : ℕ). v) (λ (i : ℕ). rowValue s w q (rowIn cells i) (node c o none none)) n
-      (λ i h. e ∙ sym (value-node s w q (rowIn cells i) c o none none ∙ rw (← eb, d) (ap₂ (combine (w .range) c o) (value-none s w q (rowIn cells i)) (value-none s w q (rowIn cells i)))))
+      f ∙ column-same (λ (i : ℕ). v) (λ (i : ℕ). rowValue s w q (rowIn ms i) (node c o none none)) n
+      (λ i h. e ∙ sym (value-node s w q (rowIn ms i) c o none none ∙ rw (← eb, d) (ap₂ (combine (w .range) c o) (value-none s w q (rowIn ms i)) (value-none s w q (rowIn ms i)))))
 
 pub ruleset plains = (plain-leaf, plain-other)
 

@@ -8,7 +8,8 @@ use Rattle.formula.specs.Codes.{member}
 use Rattle.formula.specs.Tree.{Tree, none, node, nodeAt, parseTree}
 use Rattle.leaves.specs.Slots.{slotOf}
 use Rattle.columns.specs.Combine.{combine}
-use Rattle.columns.specs.Column.{column, valueIn, rowIn}
+use Rattle.columns.specs.Column.{column}
+use Rattle.digits.specs.Slots.{valueIn, rowIn}
 use Rattle.rows.specs.declared.value.Reading.{Reading}
 
 -- over what the leaves stand for
@@ -20,9 +21,9 @@ valueT w ν (node c o l r) = cond (member (w .leaves) c) (ν (node c o l r)) (co
 unfoldable pub rowValue : List ℕ → Reading → List ℕ → List ℕ → Tree → ℕ
 rowValue s w q values t = valueT w (λ u. valueIn values (slotOf s q u)) t
 
--- at each of n rows of a block
+-- at each of n rows
 unfoldable pub columnOf : List ℕ → Reading → List ℕ → List ℕ → ℕ → Tree → List ℕ
-columnOf s w q cells n t = column (λ i. rowValue s w q (rowIn cells i) t) n
+columnOf s w q ms n t = column (λ i. rowValue s w q (rowIn ms i) t) n
 
 -- there is nothing to combine at a position: no nesting is left, a formula without parts, or a leaf
 unfoldable pub leafAt : List ℕ → Reading → ℕ → ℕ → Bool
@@ -30,7 +31,7 @@ leafAt s w k at = cond (eqb k 0) true (cond (eqb (nodeAt s at .parts) 0) true (m
 
 -- its column if so; else what was there
 unfoldable pub leafColumn : List ℕ → Reading → List ℕ → List ℕ → ℕ → ℕ → ℕ → List ℕ → List ℕ
-leafColumn s w q cells n k at out = cond (leafAt s w k at) (columnOf s w q cells n (parseTree s k at .tree)) (take n out)
+leafColumn s w q ms n k at out = cond (leafAt s w k at) (columnOf s w q ms n (parseTree s k at .tree)) (take n out)
 
 -- how deep a node's second part may be nested
 unfoldable pub secondLeft : ℕ → ℕ → ℕ

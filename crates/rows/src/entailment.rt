@@ -41,17 +41,17 @@ pub fn imp_fails(
     i: usize,
     w: Reading,
     slots: &[usize; Slots::NUMBERS],
-    cells: &[u8; Block::CELLS],
+    lasts: &[u8; Slots::COUNT],
     n: usize,
     out: &mut [u8],
 )
-    requires { ⌜ (n ≤ 1024) × (n ≤ length (now out)) ⌝ }
-    ensures { λ _. ⌜ take n (now (out .exit)) ≡ impFails (now (s .entry)) w (now (slots .entry)) (now (cells .entry)) n (impOf (now (s .entry)) (now (lefts .entry)) (now (rights .entry)) t i) ⌝ }
+    requires { ⌜ (n ≤ 4096) × (n ≤ length (now out)) ⌝ }
+    ensures { λ _. ⌜ take n (now (out .exit)) ≡ impFails (now (s .entry)) w (now (slots .entry)) (now (lasts .entry)) n (impOf (now (s .entry)) (now (lefts .entry)) (now (rights .entry)) t i) ⌝ }
 {
-    column_at(s, number_at(lefts, i), t.left, w, slots, cells, n, out);
+    column_at(s, number_at(lefts, i), t.left, w, slots, lasts, n, out);
     let mut b: [u8; Block::ROWS] = [0; Block::ROWS];
-    column_at(s, number_at(rights, i), t.right, w, slots, cells, n, &mut b);
-    and_not(n, out, &mut b);
+    column_at(s, number_at(rights, i), t.right, w, slots, lasts, n, &mut b);
+    and_not(n, out, &b);
 }
 
 // Of the rows that are 1, those at which an implication is true.
@@ -63,16 +63,16 @@ pub fn keep_where(
     i: usize,
     w: Reading,
     slots: &[usize; Slots::NUMBERS],
-    cells: &[u8; Block::CELLS],
+    lasts: &[u8; Slots::COUNT],
     n: usize,
     out: &mut [u8],
 )
-    requires { ⌜ (n ≤ 1024) × (n ≤ length (now out)) ⌝ }
-    ensures { λ _. ⌜ take n (now (out .exit)) ≡ keptWhere (now (s .entry)) w (now (slots .entry)) (now (cells .entry)) n (impOf (now (s .entry)) (now (lefts .entry)) (now (rights .entry)) t i) (now (out .entry)) ⌝ }
+    requires { ⌜ (n ≤ 4096) × (n ≤ length (now out)) ⌝ }
+    ensures { λ _. ⌜ take n (now (out .exit)) ≡ keptWhere (now (s .entry)) w (now (slots .entry)) (now (lasts .entry)) n (impOf (now (s .entry)) (now (lefts .entry)) (now (rights .entry)) t i) (now (out .entry)) ⌝ }
 {
     let mut b: [u8; Block::ROWS] = [0; Block::ROWS];
-    imp_fails(s, lefts, rights, t, i, w, slots, cells, n, &mut b);
-    and_not(n, out, &mut b);
+    imp_fails(s, lefts, rights, t, i, w, slots, lasts, n, &mut b);
+    and_not(n, out, &b);
 }
 
 // The rows at which the entailment fails: the line does, and every premise is true.
@@ -83,17 +83,17 @@ pub fn entailment_fails(
     t: Task,
     w: Reading,
     slots: &[usize; Slots::NUMBERS],
-    cells: &[u8; Block::CELLS],
+    lasts: &[u8; Slots::COUNT],
     n: usize,
     out: &mut [u8],
 )
-    requires { ⌜ (n ≤ 1024) × (n ≤ length (now out)) ⌝ }
-    ensures { λ _. ⌜ take n (now (out .exit)) ≡ failsFrom (now (s .entry)) (now (lefts .entry)) (now (rights .entry)) t w (now (slots .entry)) (now (cells .entry)) n 0 ⌝ }
+    requires { ⌜ (n ≤ 4096) × (n ≤ length (now out)) ⌝ }
+    ensures { λ _. ⌜ take n (now (out .exit)) ≡ failsFrom (now (s .entry)) (now (lefts .entry)) (now (rights .entry)) t w (now (slots .entry)) (now (lasts .entry)) n 0 ⌝ }
 {
-    imp_fails(s, lefts, rights, t, 0, w, slots, cells, n, out);
+    imp_fails(s, lefts, rights, t, 0, w, slots, lasts, n, out);
     let mut i = t.premises;
     while 0 < i {
-        keep_where(s, lefts, rights, t, i, w, slots, cells, n, out);
+        keep_where(s, lefts, rights, t, i, w, slots, lasts, n, out);
         i -= 1;
     }
 }

@@ -1,9 +1,9 @@
-// The values of a formula at the rows of a block. A test's value is 1 for true.
+// The values of a formula at all rows. A test's value is 1 for true.
 use columns::block::Block;
 use columns::block::fill;
-use columns::block::take_slot;
 use columns::column::combine_columns;
 use columns::combine::combine_parts;
+use digits::slot::take_slot;
 use formula::code::contains;
 use formula::end::end_at;
 use formula::node::Node;
@@ -32,16 +32,16 @@ pub fn plain_column(
     operand: u8,
     w: Reading,
     slots: &[usize; Slots::NUMBERS],
-    cells: &[u8; Block::CELLS],
+    lasts: &[u8; Slots::COUNT],
     n: usize,
     out: &mut [u8],
 )
     requires { ⌜ partCount code ≡ 0 ⌝ }
-    requires { ⌜ (n ≤ 1024) × (n ≤ length (now out)) ⌝ }
-    ensures { λ _. ⌜ take n (now (out .exit)) ≡ columnOf (now (s .entry)) w (now (slots .entry)) (now (cells .entry)) n (node code operand none none) ⌝ }
+    requires { ⌜ (n ≤ 4096) × (n ≤ length (now out)) ⌝ }
+    ensures { λ _. ⌜ take n (now (out .exit)) ≡ columnOf (now (s .entry)) w (now (slots .entry)) (now (lasts .entry)) n (node code operand none none) ⌝ }
 {
     if contains(w.leaves, code) {
-        take_slot(cells, plain_slot(s, code, operand, slots), n, out);
+        take_slot(lasts, plain_slot(s, code, operand, slots), n, out);
         return;
     }
     fill(combine_parts(w.range, code, operand, 0, 0), n, out);
@@ -54,13 +54,13 @@ pub fn leaf_column(
     left: usize,
     w: Reading,
     slots: &[usize; Slots::NUMBERS],
-    cells: &[u8; Block::CELLS],
+    lasts: &[u8; Slots::COUNT],
     n: usize,
     out: &mut [u8],
 ) -> bool
-    requires { ⌜ (n ≤ 1024) × (n ≤ length (now out)) ⌝ }
+    requires { ⌜ (n ≤ 4096) × (n ≤ length (now out)) ⌝ }
     ensures { λ r. ⌜ r ≡ leafAt (now (s .entry)) w left at ⌝ }
-    ensures { λ _. ⌜ take n (now (out .exit)) ≡ leafColumn (now (s .entry)) w (now (slots .entry)) (now (cells .entry)) n left at (now (out .entry)) ⌝ }
+    ensures { λ _. ⌜ take n (now (out .exit)) ≡ leafColumn (now (s .entry)) w (now (slots .entry)) (now (lasts .entry)) n left at (now (out .entry)) ⌝ }
 {
     if left == 0 {
         fill(0, n, out);
@@ -68,11 +68,11 @@ pub fn leaf_column(
     }
     let x = node_at(s, at);
     if x.parts == 0 {
-        plain_column(s, x.code, x.operand, w, slots, cells, n, out);
+        plain_column(s, x.code, x.operand, w, slots, lasts, n, out);
         return true;
     }
     if contains(w.leaves, x.code) {
-        take_slot(cells, slot_of(s, at, left, slots), n, out);
+        take_slot(lasts, slot_of(s, at, left, slots), n, out);
         return true;
     }
     false
@@ -106,21 +106,21 @@ pub fn column_at(
     left: usize,
     w: Reading,
     slots: &[usize; Slots::NUMBERS],
-    cells: &[u8; Block::CELLS],
+    lasts: &[u8; Slots::COUNT],
     n: usize,
     out: &mut [u8],
 ) -> usize
-    requires { ⌜ (n ≤ 1024) × (n ≤ length (now out)) ⌝ }
+    requires { ⌜ (n ≤ 4096) × (n ≤ length (now out)) ⌝ }
     ensures { λ r. ⌜ r ≡ parseTree (now (s .entry)) left at .end ⌝ }
-    ensures { λ _. ⌜ take n (now (out .exit)) ≡ columnOf (now (s .entry)) w (now (slots .entry)) (now (cells .entry)) n (parseTree (now (s .entry)) left at .tree) ⌝ }
+    ensures { λ _. ⌜ take n (now (out .exit)) ≡ columnOf (now (s .entry)) w (now (slots .entry)) (now (lasts .entry)) n (parseTree (now (s .entry)) left at .tree) ⌝ }
 {
-    if leaf_column(s, at, left, w, slots, cells, n, out) {
+    if leaf_column(s, at, left, w, slots, lasts, n, out) {
         return end_at(s, at, left);
     }
     let x = node_at(s, at);
-    let m = column_at(s, x.next, left - 1, w, slots, cells, n, out);
+    let m = column_at(s, x.next, left - 1, w, slots, lasts, n, out);
     let mut b: [u8; Block::ROWS] = [0; Block::ROWS];
-    let e = column_at(s, m, second_left(x.parts, left), w, slots, cells, n, &mut b);
+    let e = column_at(s, m, second_left(x.parts, left), w, slots, lasts, n, &mut b);
     combine_node(w, x, n, out, &b);
     e
 }
