@@ -9,6 +9,9 @@ pub struct Block {}
 impl Block {
     // As many rows as are ever tried.
     pub const ROWS: usize = 4096;
+
+    // As many as most tests have. (A column for so many is made in a fraction of the time.)
+    pub const FEW: usize = 512;
 }
 
 // The same value at every row.

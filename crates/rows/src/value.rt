@@ -119,8 +119,15 @@ pub fn column_at(
     }
     let x = node_at(s, at);
     let m = column_at(s, x.next, left - 1, w, slots, lasts, n, out);
+    let rest = second_left(x.parts, left);
+    if n <= Block::FEW {
+        let mut b: [u8; Block::FEW] = [0; Block::FEW];
+        let e = column_at(s, m, rest, w, slots, lasts, n, &mut b);
+        combine_node(w, x, n, out, &b);
+        return e;
+    }
     let mut b: [u8; Block::ROWS] = [0; Block::ROWS];
-    let e = column_at(s, m, second_left(x.parts, left), w, slots, lasts, n, &mut b);
+    let e = column_at(s, m, rest, w, slots, lasts, n, &mut b);
     combine_node(w, x, n, out, &b);
     e
 }
