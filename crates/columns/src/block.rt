@@ -10,8 +10,8 @@ impl Block {
     // As many rows as are ever tried.
     pub const ROWS: usize = 4096;
 
-    // As many as most tests have. (A column for so many is made in a fraction of the time.)
-    pub const FEW: usize = 512;
+    // As many as most tests have, and every truth table. (A column for so many is made in a fraction of the time.)
+    pub const FEW: usize = 1024;
 }
 
 // The same value at every row.

@@ -23,7 +23,7 @@ use Rattle.digits.specs.Advance.{rowsFrom, rowsOf, EveryOnce}
 use Rattle.digits.specs.Slots.{valueIn, rowIn}
 use Rattle.digits.proofs.Advancing.{from-at, from-long}
 use Rattle.rows.specs.Entailment.{entailsT, impOf, premisesFrom, impAt, allAt, entailsAt, failsFrom, gatherAll}
-use Rattle.rows.specs.Every.{lastsOf, triedRows, rowsHold, everyOf}
+use Rattle.rows.specs.Every.{lastsOf, triedRows, holdFrom, rowsHold, everyOf}
 use Rattle.rows.specs.declared.value.Reading.{Reading}
 use Rattle.rows.specs.declared.entailment.Task.{Task}
 use Rattle.rows.proofs.Choices.{all-below, lasts-step, rows-count, tried-once, rows-tried}
@@ -62,33 +62,34 @@ zero-in i = go (ltb i slots)
     go true = zeros 12 i
     go false = refl
 
-module _ (s lefts rights : List ℕ) (t : Task) (w : Reading) (q : List ℕ) (k n : ℕ) (ms : List ℕ) (em : ms ≡ lastsOf s q (w .range) k) where
-  -- the rows at which nothing fails
-  pub rows-hold : (fails : List ℕ) (r : Bool) → take n fails ≡ failsFrom s lefts rights t w q ms n 0 → r ≡ noneBelow fails n → r ≡ rowsHold s lefts rights t w q k n
-  unfolding failsFrom noneBelow rowsHold triedRows entailsAt rowIn
-  rows-hold fails r ef er =
-      er ∙ all-below (entailsAt s lefts rights t w q) [] (rowsFrom ms n (replicate slots 0)) n (λ i. not (eqb (getD fails i 0) 1)) (from-long ms n (replicate slots 0)) (λ i h.
-      ap (λ (m : ℕ). not (eqb m 1)) (column-at failing 0 fails n i ef h)
-      ∙ go (impAt s w q (rowIn ms i) (impOf s lefts rights t 0)) (allAt s w q (rowIn ms i) (premisesFrom s lefts rights t 0))
-      ∙ ap (entailsAt s lefts rights t w q) (sym (from-at ms n i (replicate slots 0) h)))
-      ∙ ap (λ (ms : List ℕ). rowsHeld ms) em
-    where
-      rowsHeld : List ℕ → Bool
-      rowsHeld ms = all (entailsAt s lefts rights t w q) (rowsFrom ms n (replicate slots 0))
+-- the rows at which nothing fails
+pub none-fail : (s lefts rights : List ℕ) (t : Task) (w : Reading) (q ms : List ℕ) (n : ℕ) (fails : List ℕ) (r : Bool) → take n fails ≡ failsFrom s lefts rights t w q ms n 0 → r ≡ noneBelow fails n
+    → r ≡ holdFrom s lefts rights t w q ms n
+unfolding failsFrom noneBelow holdFrom entailsAt rowIn
+none-fail s lefts rights t w q ms n fails r ef er =
+    er ∙ all-below (entailsAt s lefts rights t w q) [] (rowsFrom ms n (replicate slots 0)) n (λ i. not (eqb (getD fails i 0) 1)) (from-long ms n (replicate slots 0)) (λ i h.
+    ap (λ (m : ℕ). not (eqb m 1)) (column-at failing 0 fails n i ef h)
+    ∙ go (impAt s w q (rowIn ms i) (impOf s lefts rights t 0)) (allAt s w q (rowIn ms i) (premisesFrom s lefts rights t 0))
+    ∙ ap (entailsAt s lefts rights t w q) (sym (from-at ms n i (replicate slots 0) h)))
+  where
+    failing : ℕ → ℕ
+    failing i = cond (impAt s w q (rowIn ms i) (impOf s lefts rights t 0)) 0 (cond (allAt s w q (rowIn ms i) (premisesFrom s lefts rights t 0)) 1 0)
 
-      failing : ℕ → ℕ
-      failing i = cond (impAt s w q (rowIn ms i) (impOf s lefts rights t 0)) 0 (cond (allAt s w q (rowIn ms i) (premisesFrom s lefts rights t 0)) 1 0)
+    go : (x y : Bool) → not (eqb (cond x 0 (cond y 1 0)) 1) ≡ cond x true (not y)
+    go true y = refl
+    go false true = refl
+    go false false = refl
 
-      go : (x y : Bool) → not (eqb (cond x 0 (cond y 1 0)) 1) ≡ cond x true (not y)
-      go true y = refl
-      go false true = refl
-      go false false = refl
+-- by the last values of the slots
+pub rows-hold : (s lefts rights : List ℕ) (t : Task) (w : Reading) (q : List ℕ) (k n : ℕ) (ms : List ℕ) (r : Bool) → ms ≡ lastsOf s q (w .range) k → r ≡ holdFrom s lefts rights t w q ms n → r ≡ rowsHold s lefts rights t w q k n
+unfolding holdFrom rowsHold triedRows
+rows-hold s lefts rights t w q k n ms r em e = e ∙ ap (λ (ms : List ℕ). all (entailsAt s lefts rights t w q) (rowsFrom ms n (replicate slots 0))) em
 
 -- what is tried is every choice exactly once
 pub rows-once : (s q : List ℕ) (w : Reading) (k n : ℕ) → n ≡ rowsOf (lastsOf s q (w .range) k) → EveryOnce (lastsOf s q (w .range) k) (triedRows s q (w .range) k n)
 rows-once s q w k n e = tried-once s q (w .range) k n e
 
-pub ruleset holding = (rows-hold, rows-once)
+pub ruleset holding = (none-fail, rows-hold, rows-once)
 
 module _ (s lefts rights : List ℕ) (t : Task) (w : Reading) (limit n : ℕ) (q : List ℕ) (eg : view s n q ≡ gatherAll s lefts rights t (w .leaves)) where
   pub every-many : slots < n → false ≡ everyOf s lefts rights t w limit

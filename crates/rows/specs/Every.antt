@@ -30,7 +30,11 @@ lastsOf s q R (suc j) = set (lastsOf s q R j) j (choicesT R (slotAt s q j) - 1)
 unfoldable pub triedRows : List ℕ → List ℕ → ℕ → ℕ → ℕ → List (List ℕ)
 triedRows s q R k n = rowsFrom (lastsOf s q R k) n (replicate slots 0)
 
--- the entailment holds at each
+-- the entailment holds at each of n rows from all zeros on, by the last values
+unfoldable pub holdFrom : List ℕ → List ℕ → List ℕ → Task → Reading → List ℕ → List ℕ → ℕ → Bool
+holdFrom s lefts rights t w q ms n = all (entailsAt s lefts rights t w q) (rowsFrom ms n (replicate slots 0))
+
+-- the entailment holds at each row that is tried
 unfoldable pub rowsHold : List ℕ → List ℕ → List ℕ → Task → Reading → List ℕ → ℕ → ℕ → Bool
 rowsHold s lefts rights t w q k n = all (entailsAt s lefts rights t w q) (triedRows s q (w .range) k n)
 

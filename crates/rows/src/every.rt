@@ -11,9 +11,9 @@ use leaves::slot::Slots;
 use leaves::slot::slot_at;
 ghost use mathlib.Core.Path.{_≡_};
 ghost use Prim.Native.Nat.{_-_, _≤_};
-ghost use lib.ListN.{replicate};
+ghost use lib.ListN.{length, replicate};
 ghost use Rattle.digits.specs.Advance.{rowsOf, EveryOnce};
-ghost use Rattle.rows.specs.Every.{lastsOf, triedRows, rowsHold, everyOf};
+ghost use Rattle.rows.specs.Every.{lastsOf, triedRows, holdFrom, rowsHold, everyOf};
 
 fn last_of(choices: u8) -> u8
     ensures { λ r. ⌜ r ≡ choices - 1 ⌝ }
@@ -42,6 +42,77 @@ pub fn fill_lasts(
     }
 }
 
+// Whether the entailment fails at none of the rows from all zeros on.
+fn none_fails(
+    s: &[u8],
+    lefts: &[usize],
+    rights: &[usize],
+    t: Task,
+    w: Reading,
+    slots: &[usize; Slots::NUMBERS],
+    lasts: &[u8; Slots::COUNT],
+    n: usize,
+    fails: &mut [u8],
+    room: &mut [u8],
+    more: &mut [u8],
+) -> bool
+    requires { ⌜ (n ≤ 4096) × ((n ≤ length (now fails)) × ((n ≤ length (now room)) × (n ≤ length (now more)))) ⌝ }
+    ensures { λ r. ⌜ r ≡ holdFrom (now (s .entry)) (now (lefts .entry)) (now (rights .entry)) t w (now (slots .entry)) (now (lasts .entry)) n ⌝ }
+{
+    entailment_fails(s, lefts, rights, t, w, slots, lasts, n, fails, room, more);
+    none_below(fails, n)
+}
+
+// The same, with room for as many rows as there are.
+fn try_rows(
+    s: &[u8],
+    lefts: &[usize],
+    rights: &[usize],
+    t: Task,
+    w: Reading,
+    slots: &[usize; Slots::NUMBERS],
+    lasts: &[u8; Slots::COUNT],
+    n: usize,
+) -> bool
+    requires { ⌜ n ≤ 4096 ⌝ }
+    ensures { λ r. ⌜ r ≡ holdFrom (now (s .entry)) (now (lefts .entry)) (now (rights .entry)) t w (now (slots .entry)) (now (lasts .entry)) n ⌝ }
+{
+    if n <= Block::FEW {
+        let mut fails: [u8; Block::FEW] = [0; Block::FEW];
+        let mut room: [u8; Block::FEW] = [0; Block::FEW];
+        let mut more: [u8; Block::FEW] = [0; Block::FEW];
+        return none_fails(
+            s,
+            lefts,
+            rights,
+            t,
+            w,
+            slots,
+            lasts,
+            n,
+            &mut fails,
+            &mut room,
+            &mut more,
+        );
+    }
+    let mut fails: [u8; Block::ROWS] = [0; Block::ROWS];
+    let mut room: [u8; Block::ROWS] = [0; Block::ROWS];
+    let mut more: [u8; Block::ROWS] = [0; Block::ROWS];
+    none_fails(
+        s,
+        lefts,
+        rights,
+        t,
+        w,
+        slots,
+        lasts,
+        n,
+        &mut fails,
+        &mut room,
+        &mut more,
+    )
+}
+
 // Whether the entailment holds at each row: every choice for the first k slots is tried exactly once, and no other row.
 pub fn rows_hold(
     s: &[u8],
@@ -60,9 +131,7 @@ pub fn rows_hold(
 {
     let mut lasts: [u8; Slots::COUNT] = [0; Slots::COUNT];
     fill_lasts(s, w.range, slots, k, &mut lasts);
-    let mut fails: [u8; Block::ROWS] = [0; Block::ROWS];
-    entailment_fails(s, lefts, rights, t, w, slots, &lasts, rows, &mut fails);
-    none_below(&fails, rows)
+    try_rows(s, lefts, rights, t, w, slots, &lasts, rows)
 }
 
 // Whether there are at most so many rows, and the entailment holds at each.
