@@ -22,10 +22,10 @@ use Rattle.leaves.proofs.Gathering.{kept-none, kept-step, from-least}
 use Rattle.digits.specs.Advance.{rowsFrom, rowsOf, Choice, EveryOnce}
 use Rattle.digits.specs.Slots.{valueIn}
 use Rattle.digits.proofs.Advancing.{every-once}
-use Rattle.rows.specs.Value.{rowValue}
+use Rattle.values.specs.Value.{rowValue}
 use Rattle.rows.specs.Entailment.{ImpT, impT, entailsT, impOf, premisesFrom, impAt, allAt, entailsAt}
 use Rattle.rows.specs.Every.{lastsOf, triedRows, rowsHold}
-use Rattle.rows.specs.declared.value.Reading.{Reading}
+use Rattle.values.specs.declared.value.Reading.{Reading}
 use Rattle.rows.specs.declared.entailment.Task.{Task}
 use Rattle.rows.proofs.Distinct.{choices-two}
 

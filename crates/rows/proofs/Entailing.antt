@@ -13,11 +13,11 @@ use Rattle.leaves.proofs.Gathering.{kept-none}
 use Rattle.columns.specs.Column.{denyOf, denied}
 use Rattle.digits.specs.Slots.{rowIn}
 use Rattle.columns.proofs.Listed.{column-same, column-at}
-use Rattle.rows.specs.Value.{rowValue, columnOf}
+use Rattle.values.specs.Value.{rowValue, columnOf}
 use Rattle.rows.specs.Entailment.{ImpT, impOf, impsFrom, premisesFrom, impAt, allAt, impFails, keptWhere, failsFrom, gatherImp, gatherImps, gatherAll}
-use Rattle.rows.specs.declared.value.Reading.{Reading}
+use Rattle.values.specs.declared.value.Reading.{Reading}
 use Rattle.rows.specs.declared.entailment.Task.{Task}
-use Rattle.rows.proofs.Values.{column-value}
+use Rattle.values.proofs.Values.{column-value}
 
 pub ruleset numbers = (byte-past)
 

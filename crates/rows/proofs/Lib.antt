@@ -1,4 +1,3 @@
-pub mod Values
 pub mod Entailing
 pub mod Distinct
 pub mod Choices

@@ -29,7 +29,7 @@ use Rattle.leaves.specs.Gather.{leavesT}
 use Rattle.leaves.specs.Count.{choicesBy, choicesT}
 use Rattle.columns.specs.Combine.{sumOf, combine}
 use Rattle.columns.proofs.Combining.{sum-modulo}
-use Rattle.rows.specs.Value.{valueT}
+use Rattle.values.specs.Value.{valueT}
 use Rattle.rows.specs.Entailment.{ImpT, impT, entailsT, leavesAll}
 use Rattle.rows.specs.Rows.{byNames, rowsT, byLeaves, tableT}
 use Rattle.rows.proofs.Distinct.{choices-two}

@@ -24,7 +24,7 @@ use Rattle.digits.specs.Slots.{valueIn, rowIn}
 use Rattle.digits.proofs.Advancing.{from-at, from-long}
 use Rattle.rows.specs.Entailment.{entailsT, impOf, premisesFrom, impAt, allAt, entailsAt, failsFrom, gatherAll}
 use Rattle.rows.specs.Every.{lastsOf, triedRows, holdFrom, rowsHold, everyOf}
-use Rattle.rows.specs.declared.value.Reading.{Reading}
+use Rattle.values.specs.declared.value.Reading.{Reading}
 use Rattle.rows.specs.declared.entailment.Task.{Task}
 use Rattle.rows.proofs.Choices.{all-below, lasts-step, rows-count, tried-once, rows-tried}
 

@@ -9,8 +9,8 @@ use Rattle.formula.specs.Tree.{Tree, parseTree}
 use Rattle.leaves.specs.Gather.{Gathered, keys, leavesT, gatherT}
 use Rattle.columns.specs.Column.{column}
 use Rattle.digits.specs.Slots.{rowIn}
-use Rattle.rows.specs.Value.{valueT, rowValue}
-use Rattle.rows.specs.declared.value.Reading.{Reading}
+use Rattle.values.specs.Value.{valueT, rowValue}
+use Rattle.values.specs.declared.value.Reading.{Reading}
 use Rattle.rows.specs.declared.entailment.Task.{Task}
 
 -- an implication: left and right

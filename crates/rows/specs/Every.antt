@@ -12,7 +12,7 @@ use Rattle.leaves.specs.Gather.{Gathered, many, keys}
 use Rattle.leaves.specs.Count.{choicesT}
 use Rattle.digits.specs.Advance.{rowsFrom}
 use Rattle.rows.specs.Entailment.{ImpT, entailsT, leavesAll, impOf, premisesFrom, entailsAt, gatherAll}
-use Rattle.rows.specs.declared.value.Reading.{Reading}
+use Rattle.values.specs.declared.value.Reading.{Reading}
 use Rattle.rows.specs.declared.entailment.Task.{Task}
 
 -- there are at most so many rows, and the entailment holds at each: each leaf once, every choice for each

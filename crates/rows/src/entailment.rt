@@ -1,6 +1,6 @@
 // Entailment at each row: that the line is true where all premises are. Line and premises are implications.
-use crate::value::Reading;
-use crate::value::column_at;
+use values::value::Reading;
+use values::value::column_at;
 use columns::column::and_not;
 use leaves::gather::gather_at;
 use leaves::slot::Slots;

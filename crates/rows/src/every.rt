@@ -2,7 +2,7 @@
 use crate::entailment::Task;
 use crate::entailment::entailment_fails;
 use crate::entailment::gather_all;
-use crate::value::Reading;
+use values::value::Reading;
 use columns::block::Block;
 use columns::column::none_below;
 use leaves::count::choices;

@@ -1,8 +1,8 @@
-use Rattle.rows.proofs.Values.{leafs}
+use Rattle.values.proofs.Values.{leafs}
 use Rattle.limits.proofs.Auto.{tests}
 use borrow.Author.Needs.{needs}
-use Rattle.rows.proofs.value.leaf_column.Statement.{statement}
-use Rattle.rows.proofs.value.leaf_column.Tie as tie
+use Rattle.values.proofs.value.leaf_column.Statement.{statement}
+use Rattle.values.proofs.value.leaf_column.Tie as tie
 
 pub leaf-column-spec : {M : Type 1} → statement M
 leaf-column-spec =

@@ -17,7 +17,7 @@ ghost use lib.ListN.{length, take};
 ghost use Rattle.formula.specs.Codes.{partCount};
 ghost use Rattle.formula.specs.Tree.{none, node, parseTree};
 ghost use Rattle.columns.specs.Column.{combined};
-ghost use Rattle.rows.specs.Value.{columnOf, leafAt, leafColumn, secondLeft};
+ghost use Rattle.values.specs.Value.{columnOf, leafAt, leafColumn, secondLeft};
 
 // The codes that stand as leaves, and how many values there are.
 pub struct Reading {

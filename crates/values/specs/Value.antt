@@ -10,7 +10,7 @@ use Rattle.leaves.specs.Slots.{slotOf}
 use Rattle.columns.specs.Combine.{combine}
 use Rattle.columns.specs.Column.{column}
 use Rattle.digits.specs.Slots.{valueIn, rowIn}
-use Rattle.rows.specs.declared.value.Reading.{Reading}
+use Rattle.values.specs.declared.value.Reading.{Reading}
 
 -- over what the leaves stand for
 unfoldable pub valueT : Reading → (Tree → ℕ) → Tree → ℕ

@@ -1,8 +1,8 @@
-use Rattle.rows.proofs.Values.{plains}
+use Rattle.values.proofs.Values.{plains}
 use Rattle.limits.proofs.Auto.{tests}
 use borrow.Author.Needs.{needs}
-use Rattle.rows.proofs.value.plain_column.Statement.{statement}
-use Rattle.rows.proofs.value.plain_column.Tie as tie
+use Rattle.values.proofs.value.plain_column.Statement.{statement}
+use Rattle.values.proofs.value.plain_column.Tie as tie
 
 pub plain-column-spec : {M : Type 1} → statement M
 plain-column-spec =

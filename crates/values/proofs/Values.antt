@@ -16,8 +16,8 @@ use Rattle.columns.specs.Combine.{combine}
 use Rattle.columns.specs.Column.{column, constant, combined}
 use Rattle.digits.specs.Slots.{valueIn, rowIn, slotColumn}
 use Rattle.columns.proofs.Listed.{column-at, column-same}
-use Rattle.rows.specs.Value.{valueT, rowValue, columnOf, leafAt, leafColumn, secondLeft}
-use Rattle.rows.specs.declared.value.Reading.{Reading}
+use Rattle.values.specs.Value.{valueT, rowValue, columnOf, leafAt, leafColumn, secondLeft}
+use Rattle.values.specs.declared.value.Reading.{Reading}
 
 -- a node without parts has a code without parts
 pub no-parts : (s : List ℕ) (at : ℕ) (x : Node) → x ≡ nodeAt s at → x .parts ≡ 0 → partCount (x .code) ≡ 0

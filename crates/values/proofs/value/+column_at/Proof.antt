@@ -1,19 +1,19 @@
 use native.Mathlib.Omega.{arith}
-use Rattle.rows.proofs.Values.{values}
+use Rattle.values.proofs.Values.{values}
 use Rattle.limits.proofs.Auto.{tests}
 use Prim.Native.Nat.{ℕ, _<_}
 use borrow.Fn.Kinds.{In}
 use borrow.Fn.PlainCycle.{Measures, is, falls, and}
-use Rattle.rows.proofs.value.column_at.Reads as column-at
-use Rattle.rows.proofs.value.column_at.Kinds as column-at-kinds
-use Rattle.rows.proofs.value.+column_at.Lts-column_at as column-at-lts
+use Rattle.values.proofs.value.column_at.Reads as column-at
+use Rattle.values.proofs.value.column_at.Kinds as column-at-kinds
+use Rattle.values.proofs.value.+column_at.Lts-column_at as column-at-lts
 use Rattle.formula.proofs.end.end_at.Reads as end-at-reads
 use Rattle.formula.proofs.node.node_at.Reads as node-at-reads
-use Rattle.rows.proofs.value.combine_node.Reads as combine-node-reads
-use Rattle.rows.proofs.value.leaf_column.Reads as leaf-column-reads
-use Rattle.rows.proofs.value.second_left.Reads as second-left-reads
-use Rattle.rows.proofs.value.+column_at.{statement}
-use Rattle.rows.proofs.value.+column_at.Tie.{close}
+use Rattle.values.proofs.value.combine_node.Reads as combine-node-reads
+use Rattle.values.proofs.value.leaf_column.Reads as leaf-column-reads
+use Rattle.values.proofs.value.second_left.Reads as second-left-reads
+use Rattle.values.proofs.value.+column_at.{statement}
+use Rattle.values.proofs.value.+column_at.Tie.{close}
 
 abbrev μ-column-at : Measures 4 column-at-kinds.ps ℕ
 μ-column-at κs a = a .1 .1 .0
