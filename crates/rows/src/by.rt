@@ -2,7 +2,7 @@
 use crate::entailment::Sizes;
 use crate::entailment::Task;
 use crate::every::every_row;
-use crate::value::Reading;
+use values::value::Reading;
 use formula::code::Code;
 use limits::Limits;
 ghost use mathlib.Core.Path.{_≡_};
