@@ -1,9 +1,9 @@
 // Entailment at each row: that the line is true where all premises are. Line and premises are implications.
-use values::value::Reading;
-use values::value::column_at;
 use columns::column::and_not;
 use leaves::gather::gather_at;
 use leaves::slot::Slots;
+use values::value::Reading;
+use values::value::column_at;
 ghost use mathlib.Core.Path.{_≡_};
 ghost use Prim.Native.Nat.{_≤_};
 ghost use lib.ListN.{getD, length, take};

@@ -2,13 +2,13 @@
 use crate::entailment::Task;
 use crate::entailment::entailment_fails;
 use crate::entailment::gather_all;
-use values::value::Reading;
 use columns::block::Block;
 use columns::column::none_below;
 use leaves::count::choices;
 use leaves::count::count_rows;
 use leaves::slot::Slots;
 use leaves::slot::slot_at;
+use values::value::Reading;
 ghost use mathlib.Core.Path.{_≡_};
 ghost use Prim.Native.Nat.{_-_, _≤_};
 ghost use lib.ListN.{length, replicate};
