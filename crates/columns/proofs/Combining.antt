@@ -11,20 +11,14 @@ use Rattle.logic.specs.Code.{byte}
 use Rattle.columns.specs.Combine.{sumOf, combine}
 
 module _ (R a b : ℕ) where
-  pub sum-none : R ≤ b → a ≡ sumOf R a b
-  unfolding sumOf
-  sum-none h =
-      let z : R - b ≡ 0 = omega arith in
-      let e : a ≡ a - 0 = omega arith in
-      rw (z, le-ltb a 0 (omega arith)) e
+  module _ (room : ℕ) (e : room ≡ R - b) where
+    pub sum-within : a < room → a + b ≡ sumOf R a b
+    unfolding sumOf
+    sum-within h = rw (← e, lt-ltb _ _ h)
 
-  pub sum-within : a < R - b → a + b ≡ sumOf R a b
-  unfolding sumOf
-  sum-within h = rw (lt-ltb _ _ h)
-
-  pub sum-past : R - b ≤ a → a - (R - b) ≡ sumOf R a b
-  unfolding sumOf
-  sum-past h = rw (le-ltb _ _ h)
+    pub sum-past : room ≤ a → a - room ≡ sumOf R a b
+    unfolding sumOf
+    sum-past h = rw (← e, le-ltb _ _ h)
 
   -- values below the range
   module _ (l : a < R) (k : b < R) where
@@ -39,7 +33,7 @@ module _ (R a b : ℕ) where
             let s : a - (R - b) < R = omega arith in
             sym (ap (λ (n : ℕ). n % R) h ∙ add-mod-left R (a - (R - b)) ∙ mod-eq-of-lt s)
 
-pub ruleset sums = (sum-none, sum-within, sum-past)
+pub ruleset sums = (sum-within, sum-past)
 
 module _ (R c o a b : ℕ) where
   pub combine-const : c ≡ byte Code.const → combine R c o a b ≡ o

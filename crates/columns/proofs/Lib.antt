@@ -1,4 +1,3 @@
 pub mod Listed
 pub mod Combining
 pub mod Writing
-pub mod Numbering

@@ -1,5 +1,5 @@
 -- Columns written from the first row on: the ways through the functions, one law for each.
-use Prim.Native.Nat.{ℕ, _+_, _-_, _*_, _≤_, _<_}
+use Prim.Native.Nat.{ℕ, _+_, _≤_, _<_}
 use mathlib.Core.Path.{_≡_, refl, ap, sym, _∙_}
 use mathlib.Core.List.{List}
 use mathlib.Core.Bool.{Bool, true, false, cond, not}
@@ -7,15 +7,10 @@ use native.Mathlib.Omega.{arith}
 use native.Mathlib.Numerals.{add-one}
 use lib.ListN.{length, getD, set, take, drop}
 use lib.Seq.{take-suc-set, drop-set-lt, drop-drop, getD-drop}
-use lib.Dec.{eqb, ltb}
-use borrow.Author.Tests.{lt-ltb, le-ltb}
-use Rattle.logic.specs.Code
-use Rattle.logic.specs.Code.{byte}
-use Rattle.leaves.specs.Slots.{slots}
+use lib.Dec.{eqb}
 use Rattle.columns.specs.Combine.{combine}
-use Rattle.columns.specs.Column.{rows, column, constant, combined, denied, seenOf, noneBelow, valueIn, rowIn, slotColumn}
-use Rattle.columns.proofs.Listed.{column-none, column-step, column-getD, column-at, column-same}
-use Rattle.columns.proofs.Combining.{combine-not, combine-and}
+use Rattle.columns.specs.Column.{column, constant, combined, denyOf, denied, seenOf, noneBelow}
+use Rattle.columns.proofs.Listed.{column-none, column-step}
 
 -- one more value written
 pub column-more : (f : ℕ → ℕ) (o a : List ℕ) (i n x : ℕ) → i < n → n ≤ length o → length a ≡ length o → take i a ≡ column f i → x ≡ f i → take (i + 1) (set a i x) ≡ column f (i + 1)
@@ -50,35 +45,6 @@ module _ (v : ℕ) (a : List ℕ) where
 
 pub ruleset fills = (fill-begin, fill-more, fill-end)
 
--- a slot's column
-row-getD : (cells : List ℕ) (i j : ℕ) → j < slots → getD (rowIn cells i) j 0 ≡ getD cells (rows * j + i) 0
-unfolding rowIn
-row-getD cells i j h = column-getD (λ (j : ℕ). getD cells (rows * j + i) 0) 0 slots j h
-
-pub slot-value : (cells : List ℕ) (i j : ℕ) → j < slots → valueIn (rowIn cells i) j ≡ getD cells (rows * j + i) 0
-unfolding valueIn
-slot-value cells i j h = rw (lt-ltb _ _ h) (row-getD cells i j h)
-
-module _ (cells : List ℕ) (j : ℕ) (a : List ℕ) where
-  pub slot-begin : take 0 a ≡ slotColumn cells j 0
-  unfolding slotColumn
-  slot-begin = column-begin (λ (i : ℕ). valueIn (rowIn cells i) j) a
-
-  pub slot-more : (o : List ℕ) (i n : ℕ) → j < 12 → i < n → n ≤ length o → length a ≡ length o → take i a ≡ slotColumn cells j i → take (i + 1) (set a i (getD cells (rows * j + i) 0)) ≡ slotColumn cells j (i + 1)
-  unfolding slotColumn
-  slot-more o i n g h k l e = column-more (λ (i : ℕ). valueIn (rowIn cells i) j) o a i n (getD cells (rows * j + i) 0) h k l e (sym (slot-value cells i j g))
-
-  pub slot-end : (i n : ℕ) → i ≤ n → n ≤ i → take i a ≡ slotColumn cells j i → take n a ≡ slotColumn cells j n
-  unfolding slotColumn
-  slot-end i n h k e = column-end (λ (i : ℕ). valueIn (rowIn cells i) j) a i n h k e
-
-  -- past the last slot
-  pub slot-past : (n : ℕ) → 12 ≤ j → take n a ≡ constant 0 n → take n a ≡ slotColumn cells j n
-  unfolding slotColumn constant valueIn
-  slot-past n h e = e ∙ column-same (λ (i : ℕ). 0) (λ (i : ℕ). cond (ltb j slots) (getD (rowIn cells i) j 0) 0) n (λ i k. sym (rw (le-ltb _ _ h)))
-
-pub ruleset cells = (slot-begin, slot-more, slot-end, slot-past)
-
 -- columns combined, in the place of the first
 module _ (R c o : ℕ) (a₀ b a : List ℕ) where
   abbrev made : ℕ → ℕ
@@ -103,11 +69,25 @@ pub ruleset zips = (zip-begin, zip-more, zip-end, rest-more)
 pub named : (R c k o n : ℕ) (a₀ b a : List ℕ) → c ≡ k → take n a ≡ combined R k o n a₀ b → take n a ≡ combined R c o n a₀ b
 named R c k o n a₀ b a e h = h ∙ ap (λ (m : ℕ). combined R m o n a₀ b) (sym e)
 
-pub and-not-is : (n : ℕ) (a₀ a b₀ b z : List ℕ) → take n b ≡ combined 0 (byte Code.not) 0 n b₀ z → take n a ≡ combined 0 (byte Code.and) 0 n a₀ b → take n a ≡ denied n a₀ b₀
-unfolding combined denied
-and-not-is n a₀ a b₀ b z eb ea = ea ∙ column-same (λ (i : ℕ). combine 0 (byte Code.and) 0 (getD a₀ i 0) (getD b i 0)) (λ (i : ℕ). cond (eqb (getD a₀ i 0) 1) (cond (eqb (getD b₀ i 0) 1) 0 1) 0) n (λ i h.
-    combine-and 0 (byte Code.and) 0 (getD a₀ i 0) (getD b i 0) refl
-    ∙ ap (λ (m : ℕ). cond (eqb (getD a₀ i 0) 1) m 0) (column-at (λ (i : ℕ). combine 0 (byte Code.not) 0 (getD b₀ i 0) (getD z i 0)) 0 b n i eb h ∙ combine-not 0 (byte Code.not) 0 (getD b₀ i 0) (getD z i 0) refl))
+-- 1 in one column and not in the other
+module _ (a₀ b a : List ℕ) where
+  abbrev kept : ℕ → ℕ
+  kept i = denyOf (getD a₀ i 0) (getD b i 0)
+
+  pub deny-begin : take 0 a ≡ denied 0 a₀ b
+  unfolding denied
+  deny-begin = column-begin kept a
+
+  module _ (i : ℕ) (e : take i a ≡ denied i a₀ b) where
+    pub deny-more : (n x : ℕ) → i < n → n ≤ length a₀ → length a ≡ length a₀ → drop i a ≡ drop i a₀ → x ≡ denyOf (getD a i 0) (getD b i 0) → take (i + 1) (set a i x) ≡ denied (i + 1) a₀ b
+    unfolding denied
+    deny-more n x h k l d f = column-more kept a₀ a i n x h k l e (f ∙ ap (λ (n : ℕ). denyOf n (getD b i 0)) (rest-at a a₀ i d))
+
+    pub deny-end : (n : ℕ) → i ≤ n → n ≤ i → take n a ≡ denied n a₀ b
+    unfolding denied
+    deny-end n h k = column-end kept a i n h k e
+
+pub ruleset denies = (deny-begin, deny-more, deny-end, rest-more)
 
 -- no row is 1
 module _ (a : List ℕ) where

@@ -1,3 +1,2 @@
 pub mod Combine
 pub mod Column
-pub mod Digits

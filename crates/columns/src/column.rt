@@ -1,11 +1,10 @@
 // Columns combined, row by row.
-use crate::block::Block;
 use crate::combine::combine_parts;
 use formula::code::Code;
 ghost use mathlib.Core.Path.{_≡_};
 ghost use Prim.Native.Nat.{_≤_};
 ghost use lib.ListN.{length, take};
-ghost use Rattle.columns.specs.Column.{combined, denied, seenOf, noneBelow};
+ghost use Rattle.columns.specs.Column.{combined, denyOf, denied, seenOf, noneBelow};
 
 // A loop with nothing in it but the one operation: the compiler makes it work on many rows at a time.
 fn zip_with(range: u8, code: u8, operand: u8, n: usize, a: &mut [u8], b: &[u8])
@@ -38,14 +37,29 @@ pub fn combine_columns(range: u8, code: u8, operand: u8, n: usize, a: &mut [u8],
     }
 }
 
+// 1 if a is 1 and b is not.
+fn deny(a: u8, b: u8) -> u8
+    ensures { λ r. ⌜ r ≡ denyOf a b ⌝ }
+{
+    if a == 1 {
+        if b == 1 {
+            return 0;
+        }
+        return 1;
+    }
+    0
+}
+
 // The rows that are 1 in a and not in b.
-pub fn and_not(n: usize, a: &mut [u8], b: &mut [u8])
-    requires { ⌜ (n ≤ 1024) × ((n ≤ length (now a)) × (n ≤ length (now b))) ⌝ }
+pub fn and_not(n: usize, a: &mut [u8], b: &[u8])
+    requires { ⌜ (n ≤ length (now a)) × (n ≤ length (now b)) ⌝ }
     ensures { λ _. ⌜ take n (now (a .exit)) ≡ denied n (now (a .entry)) (now (b .entry)) ⌝ }
 {
-    let none: [u8; Block::ROWS] = [0; Block::ROWS];
-    zip_with(0, Code::NOT, 0, n, b, &none);
-    zip_with(0, Code::AND, 0, n, a, b);
+    let mut i: usize = 0;
+    while i < n {
+        a[i] = deny(a[i], b[i]);
+        i += 1;
+    }
 }
 
 // 1 from the first 1 on.

@@ -1,16 +1,21 @@
 // A node's value from the values of its parts. A test's value is 1 for true.
 use formula::code::Code;
 ghost use mathlib.Core.Path.{_≡_};
+ghost use Prim.Native.Nat.{_-_};
 ghost use Rattle.columns.specs.Combine.{sumOf, combine};
+
+// What may be added without reaching the range.
+fn room_for(range: u8, b: u8) -> u8
+    ensures { λ r. ⌜ r ≡ range - b ⌝ }
+{
+    if b < range { range - b } else { 0 }
+}
 
 // The sum modulo the range, of values below it. (Without a division, and in bytes: the compiler works on many rows at a time.)
 pub fn sum_of(range: u8, a: u8, b: u8) -> u8
     ensures { λ r. ⌜ r ≡ sumOf range a b ⌝ }
 {
-    if range <= b {
-        return a;
-    }
-    let room = range - b;
+    let room = room_for(range, b);
     if a < room { a + b } else { a - room }
 }
 

@@ -2,4 +2,3 @@
 pub mod block;
 pub mod column;
 pub mod combine;
-pub mod digits;

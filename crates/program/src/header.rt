@@ -45,14 +45,22 @@ fn start_values(b: &[u8]) -> &[u8]
 pub fn owners_of(b: &[u8]) -> &[u8]
     ensures { λ r. ⌜ now r ≡ owners (now (b .entry)) ⌝ }
 {
-    part(b, Header::LISTS + byte_at(b, Header::WORDS), byte_at(b, Header::REGISTERS))
+    part(
+        b,
+        Header::LISTS + byte_at(b, Header::WORDS),
+        byte_at(b, Header::REGISTERS),
+    )
 }
 
 fn marks_of(b: &[u8]) -> &[u8]
     ensures { λ r. ⌜ now r ≡ marks (now (b .entry)) ⌝ }
 {
     let registers = byte_at(b, Header::REGISTERS);
-    part(b, Header::LISTS + byte_at(b, Header::WORDS) + registers, registers)
+    part(
+        b,
+        Header::LISTS + byte_at(b, Header::WORDS) + registers,
+        registers,
+    )
 }
 
 // How many values there are.
@@ -97,7 +105,12 @@ fn counts_fit(b: &[u8], t: usize) -> bool
         if byte_within(b, Header::THREADS, 1, Limits::THREADS) {
             if byte_within(b, Header::WORDS, 1, Limits::WORDS) {
                 if byte_within(b, Header::REGISTERS, 0, Limits::REGISTERS) {
-                    return byte_within(b, Header::RANGE, Limits::FEWEST_VALUES, Limits::MOST_VALUES);
+                    return byte_within(
+                        b,
+                        Header::RANGE,
+                        Limits::FEWEST_VALUES,
+                        Limits::MOST_VALUES,
+                    );
                 }
             }
         }

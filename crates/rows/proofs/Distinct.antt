@@ -23,7 +23,7 @@ use Rattle.leaves.specs.Count.{choicesBy, choicesT}
 use Rattle.leaves.proofs.Gathering.{put-keys, gather-node}
 use Rattle.rows.specs.Entailment.{ImpT, entailsT, leavesAll, gatherImp, gatherImps}
 use Rattle.rows.specs.Every.{everyBy}
-use Rattle.rows.specs.declared.value.Reading.{Reading}
+use Rattle.values.specs.declared.value.Reading.{Reading}
 
 -- a key is among the distinct ones if it is among all
 module _ {K : Type 0} {eq : K → K → Bool} (E : Equality eq) where

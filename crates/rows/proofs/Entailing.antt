@@ -10,13 +10,14 @@ use Rattle.limits.proofs.Numbers.{byte-past}
 use Rattle.formula.specs.Tree.{parseTree}
 use Rattle.leaves.specs.Gather.{Gathered, keys, view, gatherT}
 use Rattle.leaves.proofs.Gathering.{kept-none}
-use Rattle.columns.specs.Column.{rowIn, denied}
+use Rattle.columns.specs.Column.{denyOf, denied}
+use Rattle.digits.specs.Slots.{rowIn}
 use Rattle.columns.proofs.Listed.{column-same, column-at}
-use Rattle.rows.specs.Value.{rowValue, columnOf}
+use Rattle.values.specs.Value.{rowValue, columnOf}
 use Rattle.rows.specs.Entailment.{ImpT, impOf, impsFrom, premisesFrom, impAt, allAt, impFails, keptWhere, failsFrom, gatherImp, gatherImps, gatherAll}
-use Rattle.rows.specs.declared.value.Reading.{Reading}
+use Rattle.values.specs.declared.value.Reading.{Reading}
 use Rattle.rows.specs.declared.entailment.Task.{Task}
-use Rattle.rows.proofs.Values.{column-value}
+use Rattle.values.proofs.Values.{column-value}
 
 pub ruleset numbers = (byte-past)
 
@@ -43,22 +44,22 @@ module _ (s lefts rights : List ℕ) (t : Task) where
   unfolding premisesFrom impsFrom
   prems-end i h = let e : t .premises - i ≡ 0 = omega arith in rw e
 
-  module _ (w : Reading) (q cells : List ℕ) (n : ℕ) where
+  module _ (w : Reading) (q ms : List ℕ) (n : ℕ) where
     abbrev holds : ℕ → ImpT → Bool
-    holds i = impAt s w q (rowIn cells i)
+    holds i = impAt s w q (rowIn ms i)
 
     abbrev allHold : ℕ → ℕ → Bool
-    allHold k i = allAt s w q (rowIn cells i) (prems k)
+    allHold k i = allAt s w q (rowIn ms i) (prems k)
 
     -- an implication fails where the left side is true and the right side is not
-    pub imp-fails : (i l r : ℕ) (a b o : List ℕ) → l ≡ getD lefts i 0 → take n a ≡ columnOf s w q cells n (parseTree s (t .left) l .tree) → r ≡ getD rights i 0
-        → take n b ≡ columnOf s w q cells n (parseTree s (t .right) r .tree) → take n o ≡ denied n a b → take n o ≡ impFails s w q cells n (imp i)
-    unfolding denied impFails impAt impOf
+    pub imp-fails : (i l r : ℕ) (a b o : List ℕ) → l ≡ getD lefts i 0 → take n a ≡ columnOf s w q ms n (parseTree s (t .left) l .tree) → r ≡ getD rights i 0
+        → take n b ≡ columnOf s w q ms n (parseTree s (t .right) r .tree) → take n o ≡ denied n a b → take n o ≡ impFails s w q ms n (imp i)
+    unfolding denyOf denied impFails impAt impOf
     imp-fails i l r a b o el ea er eb eo = eo ∙ column-same (λ (k : ℕ). cond (eqb (getD a k 0) 1) (cond (eqb (getD b k 0) 1) 0 1) 0) (λ (k : ℕ). cond (holds k (imp i)) 0 1) n (λ k h.
         ap₂ (λ (x y : ℕ). cond (eqb x 1) (cond (eqb y 1) 0 1) 0)
-        (column-value s w q cells n (parseTree s (t .left) l .tree) a ea k h ∙ ap (λ (x : ℕ). rowValue s w q (rowIn cells k) (parseTree s (t .left) x .tree)) el)
-        (column-value s w q cells n (parseTree s (t .right) r .tree) b eb k h ∙ ap (λ (x : ℕ). rowValue s w q (rowIn cells k) (parseTree s (t .right) x .tree)) er)
-        ∙ go (eqb (rowValue s w q (rowIn cells k) (imp i .left)) 1) (eqb (rowValue s w q (rowIn cells k) (imp i .right)) 1))
+        (column-value s w q ms n (parseTree s (t .left) l .tree) a ea k h ∙ ap (λ (x : ℕ). rowValue s w q (rowIn ms k) (parseTree s (t .left) x .tree)) el)
+        (column-value s w q ms n (parseTree s (t .right) r .tree) b eb k h ∙ ap (λ (x : ℕ). rowValue s w q (rowIn ms k) (parseTree s (t .right) x .tree)) er)
+        ∙ go (eqb (rowValue s w q (rowIn ms k) (imp i .left)) 1) (eqb (rowValue s w q (rowIn ms k) (imp i .right)) 1))
       where
         go : (x y : Bool) → _≡_ {A = ℕ} (cond x (cond y 0 1) 0) (cond (cond x y true) 0 1)
         go true y = refl
@@ -81,12 +82,12 @@ module _ (s lefts rights : List ℕ) (t : Task) where
     abbrev failing : ℕ → ℕ → ℕ
     failing k i = cond (holds i (imp 0)) 0 (cond (allHold k i) 1 0)
 
-    pub fails-begin : (o : List ℕ) → take n o ≡ impFails s w q cells n (imp 0) → take n o ≡ failsFrom s lefts rights t w q cells n (t .premises)
+    pub fails-begin : (o : List ℕ) → take n o ≡ impFails s w q ms n (imp 0) → take n o ≡ failsFrom s lefts rights t w q ms n (t .premises)
     unfolding impFails failsFrom
     fails-begin o e = e ∙ column-same (λ (i : ℕ). cond (holds i (imp 0)) 0 1) (failing (t .premises)) n (λ i h. ap (λ (b : Bool). cond (holds i (imp 0)) 0 (cond b 1 0)) (sym (all-none (t .premises) i (omega arith))))
 
-    pub kept-where : (k : ℕ) (a b o : List ℕ) → take n b ≡ impFails s w q cells n (imp k) → take n o ≡ denied n a b → take n o ≡ keptWhere s w q cells n (imp k) a
-    unfolding denied impFails keptWhere
+    pub kept-where : (k : ℕ) (a b o : List ℕ) → take n b ≡ impFails s w q ms n (imp k) → take n o ≡ denied n a b → take n o ≡ keptWhere s w q ms n (imp k) a
+    unfolding denyOf denied impFails keptWhere
     kept-where k a b o eb eo = eo ∙ column-same (λ (i : ℕ). cond (eqb (getD a i 0) 1) (cond (eqb (getD b i 0) 1) 0 1) 0) (λ (i : ℕ). cond (eqb (getD a i 0) 1) (cond (holds i (imp k)) 1 0) 0) n (λ i l.
         ap (λ (x : ℕ). cond (eqb (getD a i 0) 1) (cond (eqb x 1) 0 1) 0) (column-at (λ (i : ℕ). cond (holds i (imp k)) 0 1) 0 b n i eb l)
         ∙ ap (λ (x : ℕ). cond (eqb (getD a i 0) 1) x 0) (go (holds i (imp k))))
@@ -95,8 +96,8 @@ module _ (s lefts rights : List ℕ) (t : Task) where
         go true = refl
         go false = refl
 
-    pub fails-next : (k : ℕ) (a o : List ℕ) → k ≤ t .premises → 0 < k → take n a ≡ failsFrom s lefts rights t w q cells n k → take n o ≡ keptWhere s w q cells n (imp k) a
-        → take n o ≡ failsFrom s lefts rights t w q cells n (k - 1)
+    pub fails-next : (k : ℕ) (a o : List ℕ) → k ≤ t .premises → 0 < k → take n a ≡ failsFrom s lefts rights t w q ms n k → take n o ≡ keptWhere s w q ms n (imp k) a
+        → take n o ≡ failsFrom s lefts rights t w q ms n (k - 1)
     unfolding keptWhere failsFrom
     fails-next k a o h z ea eo = eo ∙ column-same (λ (i : ℕ). cond (eqb (getD a i 0) 1) (cond (holds i (imp k)) 1 0) 0) (failing (k - 1)) n (λ i l.
         ap (λ (x : ℕ). cond (eqb x 1) (cond (holds i (imp k)) 1 0) 0) (column-at (failing k) 0 a n i ea l)
@@ -110,8 +111,8 @@ module _ (s lefts rights : List ℕ) (t : Task) where
         go false false true = refl
         go false false false = refl
 
-    pub fails-end : (k : ℕ) (o : List ℕ) → k ≤ 0 → take n o ≡ failsFrom s lefts rights t w q cells n k → take n o ≡ failsFrom s lefts rights t w q cells n 0
-    fails-end k o h e = let z : k ≡ 0 = omega arith in e ∙ ap (failsFrom s lefts rights t w q cells n) z
+    pub fails-end : (k : ℕ) (o : List ℕ) → k ≤ 0 → take n o ≡ failsFrom s lefts rights t w q ms n k → take n o ≡ failsFrom s lefts rights t w q ms n 0
+    fails-end k o h e = let z : k ≡ 0 = omega arith in e ∙ ap (failsFrom s lefts rights t w q ms n) z
 
 pub ruleset implications = (imp-fails, kept-where)
 

@@ -1,7 +1,6 @@
-pub mod Values
 pub mod Entailing
 pub mod Distinct
-pub mod Numbered
+pub mod Choices
 pub mod RowsTried
 pub mod Entry
 pub mod Link

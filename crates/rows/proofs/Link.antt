@@ -29,11 +29,11 @@ use Rattle.leaves.specs.Gather.{leavesT}
 use Rattle.leaves.specs.Count.{choicesBy, choicesT}
 use Rattle.columns.specs.Combine.{sumOf, combine}
 use Rattle.columns.proofs.Combining.{sum-modulo}
-use Rattle.rows.specs.Value.{valueT}
+use Rattle.values.specs.Value.{valueT}
 use Rattle.rows.specs.Entailment.{ImpT, impT, entailsT, leavesAll}
 use Rattle.rows.specs.Rows.{byNames, rowsT, byLeaves, tableT}
 use Rattle.rows.proofs.Distinct.{choices-two}
-use Rattle.rows.proofs.Numbered.{below-same}
+use Rattle.rows.proofs.Choices.{below-same}
 
 map-join : {A B : Type 0} (g : A → B) (l m : List A) → map g (l ++ m) ≡ map g l ++ map g m
 map-join g [] m = refl

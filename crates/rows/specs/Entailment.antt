@@ -7,9 +7,10 @@ use lib.Dec.{eqb}
 use Rattle.logic.specs.Base.{all}
 use Rattle.formula.specs.Tree.{Tree, parseTree}
 use Rattle.leaves.specs.Gather.{Gathered, keys, leavesT, gatherT}
-use Rattle.columns.specs.Column.{column, rowIn}
-use Rattle.rows.specs.Value.{valueT, rowValue}
-use Rattle.rows.specs.declared.value.Reading.{Reading}
+use Rattle.columns.specs.Column.{column}
+use Rattle.digits.specs.Slots.{rowIn}
+use Rattle.values.specs.Value.{valueT, rowValue}
+use Rattle.values.specs.declared.value.Reading.{Reading}
 use Rattle.rows.specs.declared.entailment.Task.{Task}
 
 -- an implication: left and right
@@ -64,15 +65,15 @@ entailsAt s lefts rights t w q values = cond (impAt s w q values (impOf s lefts 
 unfoldable pub gatherAll : List ℕ → List ℕ → List ℕ → Task → ℕ → Gathered
 gatherAll s lefts rights t w = gatherImp w (impOf s lefts rights t 0) (gatherImps w (premisesFrom s lefts rights t 0) (keys []))
 
--- the rows of a block at which an implication fails
+-- the rows at which an implication fails
 unfoldable pub impFails : List ℕ → Reading → List ℕ → List ℕ → ℕ → ImpT → List ℕ
-impFails s w q cells n p = column (λ i. cond (impAt s w q (rowIn cells i) p) 0 1) n
+impFails s w q ms n p = column (λ i. cond (impAt s w q (rowIn ms i) p) 0 1) n
 
 -- of the rows that are 1, those at which it is true
 unfoldable pub keptWhere : List ℕ → Reading → List ℕ → List ℕ → ℕ → ImpT → List ℕ → List ℕ
-keptWhere s w q cells n p a = column (λ i. cond (eqb (getD a i 0) 1) (cond (impAt s w q (rowIn cells i) p) 1 0) 0) n
+keptWhere s w q ms n p a = column (λ i. cond (eqb (getD a i 0) 1) (cond (impAt s w q (rowIn ms i) p) 1 0) 0) n
 
 -- those at which the line fails, and the premises behind the first k are true
 unfoldable pub failsFrom : List ℕ → List ℕ → List ℕ → Task → Reading → List ℕ → List ℕ → ℕ → ℕ → List ℕ
-failsFrom s lefts rights t w q cells n k =
-    column (λ i. cond (impAt s w q (rowIn cells i) (impOf s lefts rights t 0)) 0 (cond (allAt s w q (rowIn cells i) (premisesFrom s lefts rights t k)) 1 0)) n
+failsFrom s lefts rights t w q ms n k =
+    column (λ i. cond (impAt s w q (rowIn ms i) (impOf s lefts rights t 0)) 0 (cond (allAt s w q (rowIn ms i) (premisesFrom s lefts rights t k)) 1 0)) n

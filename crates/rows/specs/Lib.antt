@@ -1,4 +1,3 @@
-pub mod Value
 pub mod Entailment
 pub mod Every
 pub mod Rows

@@ -11,7 +11,7 @@ use Rattle.formula.specs.Codes.{setOf}
 use Rattle.formula.specs.Tree.{Tree}
 use Rattle.rows.specs.Entailment.{ImpT, impOf, premisesFrom}
 use Rattle.rows.specs.Every.{everyT}
-use Rattle.rows.specs.declared.value.Reading.{Reading}
+use Rattle.values.specs.declared.value.Reading.{Reading}
 use Rattle.rows.specs.declared.entailment.Task.{Task}
 use Rattle.rows.specs.declared.by.Implications.{Implications}
 

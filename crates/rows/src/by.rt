@@ -2,9 +2,9 @@
 use crate::entailment::Sizes;
 use crate::entailment::Task;
 use crate::every::every_row;
-use crate::value::Reading;
 use formula::code::Code;
 use limits::Limits;
+use values::value::Reading;
 ghost use mathlib.Core.Path.{_≡_};
 ghost use Prim.Native.Nat.{_-_};
 ghost use Rattle.formula.specs.Tree.{parseTree};

@@ -1,10 +1,9 @@
 // Entailment at each row: that the line is true where all premises are. Line and premises are implications.
-use crate::value::Reading;
-use crate::value::column_at;
-use columns::block::Block;
 use columns::column::and_not;
 use leaves::gather::gather_at;
 use leaves::slot::Slots;
+use values::value::Reading;
+use values::value::column_at;
 ghost use mathlib.Core.Path.{_≡_};
 ghost use Prim.Native.Nat.{_≤_};
 ghost use lib.ListN.{getD, length, take};
@@ -32,7 +31,7 @@ pub fn number_at(l: &[usize], i: usize) -> usize
     if i < l.len() { l[i] } else { 0 }
 }
 
-// The rows at which an implication fails: 1 there, 0 elsewhere.
+// The rows at which an implication fails: 1 there, 0 elsewhere. (Room for one more column is lent.)
 pub fn imp_fails(
     s: &[u8],
     lefts: &[usize],
@@ -41,20 +40,20 @@ pub fn imp_fails(
     i: usize,
     w: Reading,
     slots: &[usize; Slots::NUMBERS],
-    cells: &[u8; Block::CELLS],
+    lasts: &[u8; Slots::COUNT],
     n: usize,
     out: &mut [u8],
+    room: &mut [u8],
 )
-    requires { ⌜ (n ≤ 1024) × (n ≤ length (now out)) ⌝ }
-    ensures { λ _. ⌜ take n (now (out .exit)) ≡ impFails (now (s .entry)) w (now (slots .entry)) (now (cells .entry)) n (impOf (now (s .entry)) (now (lefts .entry)) (now (rights .entry)) t i) ⌝ }
+    requires { ⌜ (n ≤ 4096) × ((n ≤ length (now out)) × (n ≤ length (now room))) ⌝ }
+    ensures { λ _. ⌜ take n (now (out .exit)) ≡ impFails (now (s .entry)) w (now (slots .entry)) (now (lasts .entry)) n (impOf (now (s .entry)) (now (lefts .entry)) (now (rights .entry)) t i) ⌝ }
 {
-    column_at(s, number_at(lefts, i), t.left, w, slots, cells, n, out);
-    let mut b: [u8; Block::ROWS] = [0; Block::ROWS];
-    column_at(s, number_at(rights, i), t.right, w, slots, cells, n, &mut b);
-    and_not(n, out, &mut b);
+    column_at(s, number_at(lefts, i), t.left, w, slots, lasts, n, out);
+    column_at(s, number_at(rights, i), t.right, w, slots, lasts, n, room);
+    and_not(n, out, room);
 }
 
-// Of the rows that are 1, those at which an implication is true.
+// Of the rows that are 1, those at which an implication is true. (Room for two more columns is lent.)
 pub fn keep_where(
     s: &[u8],
     lefts: &[usize],
@@ -63,16 +62,17 @@ pub fn keep_where(
     i: usize,
     w: Reading,
     slots: &[usize; Slots::NUMBERS],
-    cells: &[u8; Block::CELLS],
+    lasts: &[u8; Slots::COUNT],
     n: usize,
     out: &mut [u8],
+    room: &mut [u8],
+    more: &mut [u8],
 )
-    requires { ⌜ (n ≤ 1024) × (n ≤ length (now out)) ⌝ }
-    ensures { λ _. ⌜ take n (now (out .exit)) ≡ keptWhere (now (s .entry)) w (now (slots .entry)) (now (cells .entry)) n (impOf (now (s .entry)) (now (lefts .entry)) (now (rights .entry)) t i) (now (out .entry)) ⌝ }
+    requires { ⌜ (n ≤ 4096) × ((n ≤ length (now out)) × ((n ≤ length (now room)) × (n ≤ length (now more)))) ⌝ }
+    ensures { λ _. ⌜ take n (now (out .exit)) ≡ keptWhere (now (s .entry)) w (now (slots .entry)) (now (lasts .entry)) n (impOf (now (s .entry)) (now (lefts .entry)) (now (rights .entry)) t i) (now (out .entry)) ⌝ }
 {
-    let mut b: [u8; Block::ROWS] = [0; Block::ROWS];
-    imp_fails(s, lefts, rights, t, i, w, slots, cells, n, &mut b);
-    and_not(n, out, &mut b);
+    imp_fails(s, lefts, rights, t, i, w, slots, lasts, n, room, more);
+    and_not(n, out, room);
 }
 
 // The rows at which the entailment fails: the line does, and every premise is true.
@@ -83,17 +83,19 @@ pub fn entailment_fails(
     t: Task,
     w: Reading,
     slots: &[usize; Slots::NUMBERS],
-    cells: &[u8; Block::CELLS],
+    lasts: &[u8; Slots::COUNT],
     n: usize,
     out: &mut [u8],
+    room: &mut [u8],
+    more: &mut [u8],
 )
-    requires { ⌜ (n ≤ 1024) × (n ≤ length (now out)) ⌝ }
-    ensures { λ _. ⌜ take n (now (out .exit)) ≡ failsFrom (now (s .entry)) (now (lefts .entry)) (now (rights .entry)) t w (now (slots .entry)) (now (cells .entry)) n 0 ⌝ }
+    requires { ⌜ (n ≤ 4096) × ((n ≤ length (now out)) × ((n ≤ length (now room)) × (n ≤ length (now more)))) ⌝ }
+    ensures { λ _. ⌜ take n (now (out .exit)) ≡ failsFrom (now (s .entry)) (now (lefts .entry)) (now (rights .entry)) t w (now (slots .entry)) (now (lasts .entry)) n 0 ⌝ }
 {
-    imp_fails(s, lefts, rights, t, 0, w, slots, cells, n, out);
+    imp_fails(s, lefts, rights, t, 0, w, slots, lasts, n, out, room);
     let mut i = t.premises;
     while 0 < i {
-        keep_where(s, lefts, rights, t, i, w, slots, cells, n, out);
+        keep_where(s, lefts, rights, t, i, w, slots, lasts, n, out, room, more);
         i -= 1;
     }
 }

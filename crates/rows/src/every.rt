@@ -1,80 +1,119 @@
-// Every row tried, a block at a time, until one fails.
+// Every row tried, from all zeros on.
 use crate::entailment::Task;
 use crate::entailment::entailment_fails;
 use crate::entailment::gather_all;
-use crate::value::Reading;
 use columns::block::Block;
 use columns::column::none_below;
-use columns::digits::divide;
-use columns::digits::number_rows;
-use columns::digits::set_column;
 use leaves::count::choices;
 use leaves::count::count_rows;
 use leaves::slot::Slots;
 use leaves::slot::slot_at;
+use values::value::Reading;
 ghost use mathlib.Core.Path.{_≡_};
-ghost use Prim.Native.Nat.{_+_, _≤_, _<_};
-ghost use lib.ListN.{length};
-ghost use Rattle.rows.specs.Every.{blockRows, numberedRows, rowsHold, blockSize, everyOf};
+ghost use Prim.Native.Nat.{_-_, _≤_};
+ghost use lib.ListN.{length, replicate};
+ghost use Rattle.digits.specs.Advance.{rowsOf, EveryOnce};
+ghost use Rattle.rows.specs.Every.{lastsOf, triedRows, holdFrom, rowsHold, everyOf};
 
-// The rows with the numbers from the base on, by their digits in the first k slots.
-pub fn fill_block(
+fn last_of(choices: u8) -> u8
+    ensures { λ r. ⌜ r ≡ choices - 1 ⌝ }
+{
+    if choices == 0 {
+        return 0;
+    }
+    choices - 1
+}
+
+// The last values of the first k slots; the others are 0.
+pub fn fill_lasts(
     s: &[u8],
     range: u8,
     slots: &[usize; Slots::NUMBERS],
     k: usize,
-    base: u16,
-    n: usize,
-    cells: &mut [u8],
+    lasts: &mut [u8; Slots::COUNT],
 )
-    requires { ⌜ (k ≤ 12) × ((n ≤ 1024) × ((base + n < 65536) × (2 ≤ range))) ⌝ }
-    requires { ⌜ length (now cells) ≡ 12288 ⌝ }
-    ensures { λ _. ⌜ blockRows (now (cells .exit)) n ≡ numberedRows (now (s .entry)) (now (slots .entry)) range k base n (now (cells .entry)) ⌝ }
+    requires { ⌜ (k ≤ 12) × (now lasts ≡ replicate 12 0) ⌝ }
+    ensures { λ _. ⌜ now (lasts .exit) ≡ lastsOf (now (s .entry)) (now (slots .entry)) range k ⌝ }
 {
-    let mut numbers: [u16; Block::ROWS] = [0; Block::ROWS];
-    number_rows(base, n, &mut numbers);
     let mut j: usize = 0;
     while j < k {
-        let c = choices(s, range, slot_at(slots, j));
-        set_column(j, c, n, &numbers, cells);
-        divide(c, n, &mut numbers);
+        lasts[j] = last_of(choices(s, range, slot_at(slots, j)));
         j += 1;
     }
 }
 
-// Whether the entailment holds at n rows from the one with the number of the base on.
-pub fn block_holds(
+// Whether the entailment fails at none of the rows from all zeros on.
+fn none_fails(
     s: &[u8],
     lefts: &[usize],
     rights: &[usize],
     t: Task,
     w: Reading,
     slots: &[usize; Slots::NUMBERS],
-    k: usize,
-    base: u16,
+    lasts: &[u8; Slots::COUNT],
+    n: usize,
+    fails: &mut [u8],
+    room: &mut [u8],
+    more: &mut [u8],
+) -> bool
+    requires { ⌜ (n ≤ 4096) × ((n ≤ length (now fails)) × ((n ≤ length (now room)) × (n ≤ length (now more)))) ⌝ }
+    ensures { λ r. ⌜ r ≡ holdFrom (now (s .entry)) (now (lefts .entry)) (now (rights .entry)) t w (now (slots .entry)) (now (lasts .entry)) n ⌝ }
+{
+    entailment_fails(s, lefts, rights, t, w, slots, lasts, n, fails, room, more);
+    none_below(fails, n)
+}
+
+// The same, with room for as many rows as there are.
+fn try_rows(
+    s: &[u8],
+    lefts: &[usize],
+    rights: &[usize],
+    t: Task,
+    w: Reading,
+    slots: &[usize; Slots::NUMBERS],
+    lasts: &[u8; Slots::COUNT],
     n: usize,
 ) -> bool
-    requires { ⌜ (k ≤ 12) × ((n ≤ 1024) × ((base + n < 65536) × (2 ≤ w .range))) ⌝ }
-    ensures { λ r. ⌜ r ≡ rowsHold (now (s .entry)) (now (lefts .entry)) (now (rights .entry)) t w (now (slots .entry)) k base n ⌝ }
+    requires { ⌜ n ≤ 4096 ⌝ }
+    ensures { λ r. ⌜ r ≡ holdFrom (now (s .entry)) (now (lefts .entry)) (now (rights .entry)) t w (now (slots .entry)) (now (lasts .entry)) n ⌝ }
 {
-    let mut cells: [u8; Block::CELLS] = [0; Block::CELLS];
-    fill_block(s, w.range, slots, k, base, n, &mut cells);
-    let mut fails: [u8; Block::ROWS] = [0; Block::ROWS];
-    entailment_fails(s, lefts, rights, t, w, slots, &cells, n, &mut fails);
-    none_below(&fails, n)
-}
-
-fn block_size(left: usize) -> usize
-    ensures { λ r. ⌜ r ≡ blockSize left ⌝ }
-{
-    if left < Block::ROWS {
-        left
-    } else {
-        Block::ROWS
+    if n <= Block::FEW {
+        let mut fails: [u8; Block::FEW] = [0; Block::FEW];
+        let mut room: [u8; Block::FEW] = [0; Block::FEW];
+        let mut more: [u8; Block::FEW] = [0; Block::FEW];
+        return none_fails(
+            s,
+            lefts,
+            rights,
+            t,
+            w,
+            slots,
+            lasts,
+            n,
+            &mut fails,
+            &mut room,
+            &mut more,
+        );
     }
+    let mut fails: [u8; Block::ROWS] = [0; Block::ROWS];
+    let mut room: [u8; Block::ROWS] = [0; Block::ROWS];
+    let mut more: [u8; Block::ROWS] = [0; Block::ROWS];
+    none_fails(
+        s,
+        lefts,
+        rights,
+        t,
+        w,
+        slots,
+        lasts,
+        n,
+        &mut fails,
+        &mut room,
+        &mut more,
+    )
 }
 
-// Whether the entailment holds at each of so many rows.
+// Whether the entailment holds at each row: every choice for the first k slots is tried exactly once, and no other row.
 pub fn rows_hold(
     s: &[u8],
     lefts: &[usize],
@@ -85,19 +124,14 @@ pub fn rows_hold(
     k: usize,
     rows: usize,
 ) -> bool
-    requires { ⌜ (k ≤ 12) × ((rows < 65536) × (2 ≤ w .range)) ⌝ }
-    ensures { λ r. ⌜ r ≡ rowsHold (now (s .entry)) (now (lefts .entry)) (now (rights .entry)) t w (now (slots .entry)) k 0 rows ⌝ }
+    requires { ⌜ (k ≤ 12) × (rows ≤ 4096) ⌝ }
+    requires { ⌜ rows ≡ rowsOf (lastsOf (now s) (now slots) (w .range) k) ⌝ }
+    ensures { λ r. ⌜ r ≡ rowsHold (now (s .entry)) (now (lefts .entry)) (now (rights .entry)) t w (now (slots .entry)) k rows ⌝ }
+    ensures once { λ _. ⌜ EveryOnce (lastsOf (now (s .entry)) (now (slots .entry)) (w .range) k) (triedRows (now (s .entry)) (now (slots .entry)) (w .range) k rows) ⌝ }
 {
-    let mut base: usize = 0;
-    while base < rows {
-        let n = block_size(rows - base);
-        if block_holds(s, lefts, rights, t, w, slots, k, base as u16, n) {
-            base += n;
-        } else {
-            return false;
-        }
-    }
-    true
+    let mut lasts: [u8; Slots::COUNT] = [0; Slots::COUNT];
+    fill_lasts(s, w.range, slots, k, &mut lasts);
+    try_rows(s, lefts, rights, t, w, slots, &lasts, rows)
 }
 
 // Whether there are at most so many rows, and the entailment holds at each.
@@ -109,7 +143,7 @@ pub fn every_row(
     w: Reading,
     limit: u16,
 ) -> bool
-    requires { ⌜ 2 ≤ w .range ⌝ }
+    requires { ⌜ (2 ≤ w .range) × (limit ≤ 4096) ⌝ }
     ensures { λ r. ⌜ r ≡ everyOf (now (s .entry)) (now (lefts .entry)) (now (rights .entry)) t w limit ⌝ }
 {
     let mut slots: [usize; Slots::NUMBERS] = [0; Slots::NUMBERS];

@@ -2,4 +2,3 @@
 pub mod by;
 pub mod entailment;
 pub mod every;
-pub mod value;

@@ -1,10 +1,31 @@
-use Rattle.columns.proofs.Writing.{and-not-is}
+use Rattle.columns.proofs.Writing.{denies}
+use Prim.Native.Nat.{_≤_, _-_}
+use mathlib.Core.Path.{_≡_}
+use lib.ListN.{take, drop, length}
+use Rattle.columns.specs.Column.{denied}
 use Rattle.limits.proofs.Auto.{tests}
-use borrow.Author.Needs.{needs}
 use Rattle.columns.proofs.column.and_not.Statement.{statement}
 use Rattle.columns.proofs.column.and_not.Tie as tie
+
+abbrev Inv-loop : tie.InvT-loop
+Inv-loop n a₀ b i₀ a i = (i ≤ n) × ((take i a ≡ denied i a₀ b) × ((drop i a ≡ drop i a₀) × (length a ≡ length a₀)))
+
+abbrev μ-loop : tie.MeasureT-loop
+μ-loop n a₀ b i₀ a i = n - i
 
 pub and-not-spec : {M : Type 1} → statement M
 and-not-spec =
     tie.close
-    (tie.spec (λ c. search needs) (λ c κs. search needs) (λ c κs. search needs) (λ c. search needs) (λ c. search needs) (λ c. search (and-not-is, tests)))
+    (tie.spec
+    Inv-loop
+    μ-loop
+    (λ c. search (denies, tests))
+    (λ c. search (denies, tests))
+    (λ c. search (denies, tests))
+    (λ c κs. search (denies, tests))
+    (λ c. search (denies, tests))
+    (λ c. search (denies, tests))
+    (λ c. search (denies, tests))
+    (λ c. (search tests, (search (denies, tests), (search (denies, tests), search tests))))
+    (λ c. search (denies, tests))
+    (λ c. search (denies, tests)))

@@ -1,0 +1,18 @@
+use Rattle.digits.proofs.Runs.{slot-past}
+use borrow.Author.Needs.{needs}
+use Rattle.limits.proofs.Auto.{tests}
+use Rattle.digits.proofs.slot.take_slot.Statement.{statement}
+use Rattle.digits.proofs.slot.take_slot.Tie as tie
+
+pub take-slot-spec : {M : Type 1} → statement M
+take-slot-spec =
+    tie.close
+    (tie.spec
+    (λ c κs. search needs)
+    (λ c κs. search needs)
+    (λ c κs. search needs)
+    (λ c. search needs)
+    (λ c. search needs)
+    (λ c κs. search needs)
+    (λ c. search needs)
+    (λ c. search (slot-past, tests)))

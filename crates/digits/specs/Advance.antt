@@ -1,0 +1,41 @@
+-- Rows advance like digits.
+use Prim.Native.Nat.{ℕ, zero, suc, _*_, _≤_, _<_}
+use mathlib.Core.Path.{_≡_}
+use mathlib.Core.List.{List, [], _∷_}
+use mathlib.Core.Bool.{cond}
+use lib.ListN.{length, getD}
+use lib.Dec.{ltb}
+
+-- the row after a row, by the last value of each digit: the first digit that is not at its last value goes up by one, those before it go back to 0
+unfoldable pub advance : List ℕ → List ℕ → List ℕ
+advance [] r = r
+advance (m ∷ ms) [] = []
+advance (m ∷ ms) (d ∷ r) = cond (ltb d m) (suc d ∷ r) (0 ∷ advance ms r)
+
+-- n rows from a row on, each the one after the last
+unfoldable pub rowsFrom : List ℕ → ℕ → List ℕ → List (List ℕ)
+rowsFrom ms zero r = []
+rowsFrom ms (suc n) r = r ∷ rowsFrom ms n (advance ms r)
+
+-- the row that is i rows behind a row
+unfoldable pub after : List ℕ → ℕ → List ℕ → List ℕ
+after ms zero r = r
+after ms (suc i) r = after ms i (advance ms r)
+
+-- how many rows there are: the product of the choices
+unfoldable pub rowsOf : List ℕ → ℕ
+rowsOf [] = 1
+rowsOf (m ∷ ms) = suc m * rowsOf ms
+
+-- a row that is a choice for each digit
+abbrev pub Choice : List ℕ → List ℕ → Type 0
+Choice [] [] = Unit {0}
+Choice [] (d ∷ r) = ⊥
+Choice (m ∷ ms) [] = ⊥
+Choice (m ∷ ms) (d ∷ r) = (d ≤ m) × Choice ms r
+
+-- every choice is in the list, exactly once, and nothing else is
+pub record EveryOnce (ms : List ℕ) (l : List (List ℕ)) : Type 0 where
+  pub choices : (i : ℕ) → i < length l → Choice ms (getD l i [])
+  pub tried : (r : List ℕ) → Choice ms r → (i : ℕ) × (i < length l) × (getD l i [] ≡ r)
+  pub once : (i j : ℕ) → i < length l → j < length l → getD l i [] ≡ getD l j [] → i ≡ j

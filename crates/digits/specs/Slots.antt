@@ -1,0 +1,33 @@
+-- The digits of the slots, for all rows from all zeros on. A digit goes through its values in runs of rows.
+use Prim.Native.Nat.{ℕ, zero, suc, _+_, _*_, _<_}
+use mathlib.Core.Path.{_≡_}
+use mathlib.Core.List.{List}
+use mathlib.Core.Bool.{cond}
+use lib.ListN.{getD, replicate}
+use lib.Dec.{ltb}
+use Rattle.leaves.specs.Slots.{slots}
+use Rattle.columns.specs.Column.{column}
+use Rattle.digits.specs.Advance.{after}
+
+-- the value in a slot of a row; 0 past the last
+unfoldable pub valueIn : List ℕ → ℕ → ℕ
+valueIn values j = cond (ltb j slots) (getD values j 0) 0
+
+-- row i of those from all zeros on: a value for each slot
+unfoldable pub rowIn : List ℕ → ℕ → List ℕ
+rowIn ms i = after ms i (replicate slots 0)
+
+unfoldable pub slotColumn : List ℕ → ℕ → ℕ → List ℕ
+slotColumn ms j n = column (λ i. valueIn (rowIn ms i) j) n
+
+-- the rows of a digit's run: the product of the choices before it, or no fewer than n
+unfoldable pub longerRun : ℕ → ℕ → ℕ → ℕ
+longerRun n m run = cond (ltb run n) (run * (m + 1)) run
+
+unfoldable pub runOf : ℕ → List ℕ → ℕ → ℕ
+runOf n ms zero = 1
+runOf n ms (suc j) = longerRun n (getD ms j 0) (runOf n ms j)
+
+-- behind so many rows, if there are more, the digit of the slot j goes through the same values again
+unfoldable pub Cycles : List ℕ → ℕ → ℕ → ℕ → Type 0
+Cycles ms j n to = to < n → (0 < to) × ((i : ℕ) → valueIn (rowIn ms (to + i)) j ≡ valueIn (rowIn ms i) j)

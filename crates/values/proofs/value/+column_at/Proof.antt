@@ -1,0 +1,148 @@
+use native.Mathlib.Omega.{arith}
+use Rattle.values.proofs.Values.{values}
+use Rattle.limits.proofs.Auto.{tests}
+use Prim.Native.Nat.{ℕ, _<_}
+use borrow.Fn.Kinds.{In}
+use borrow.Fn.PlainCycle.{Measures, is, falls, and}
+use Rattle.values.proofs.value.column_at.Reads as column-at
+use Rattle.values.proofs.value.column_at.Kinds as column-at-kinds
+use Rattle.values.proofs.value.+column_at.Lts-column_at as column-at-lts
+use Rattle.formula.proofs.end.end_at.Reads as end-at-reads
+use Rattle.formula.proofs.node.node_at.Reads as node-at-reads
+use Rattle.values.proofs.value.combine_node.Reads as combine-node-reads
+use Rattle.values.proofs.value.leaf_column.Reads as leaf-column-reads
+use Rattle.values.proofs.value.second_left.Reads as second-left-reads
+use Rattle.values.proofs.value.+column_at.{statement}
+use Rattle.values.proofs.value.+column_at.Tie.{close}
+
+abbrev μ-column-at : Measures 4 column-at-kinds.ps ℕ
+μ-column-at κs a = a .1 .1 .0
+
+abbrev column-at-at : ℕ → In 4 column-at-kinds.ps
+column-at-at t = and 4 column-at-kinds.ps (is 4 column-at-kinds.ps μ-column-at t) column-at.Pre
+
+abbrev column-at-below : ℕ → In 4 column-at-kinds.ps
+column-at-below t =
+    and 4 column-at-kinds.ps (falls 4 column-at-kinds.ps _<_ μ-column-at t) column-at.Pre
+
+abbrev column-at-calls : ℕ → column-at-lts.Claims
+column-at-calls t = (leaf-column-reads.Asked, leaf-column-reads.Learnt, end-at-reads.Asked, end-at-reads.Learnt, node-at-reads.Asked, node-at-reads.Learnt, column-at-below t, column-at.Post, second-left-reads.Asked, second-left-reads.Learnt, combine-node-reads.Asked, combine-node-reads.Learnt)
+
+-- src/value.rt:117:8
+column-at-leaf-column-requires : (t : ℕ) → column-at-lts.Need-leaf-column-requires (column-at-calls t) (column-at-at t) column-at.Post
+column-at-leaf-column-requires t c κs = search (values, tests)
+
+-- src/value.rt:118:9
+column-at-end-at-requires : (t : ℕ) → column-at-lts.Need-end-at-requires (column-at-calls t) (column-at-at t) column-at.Post
+column-at-end-at-requires t c κs = search (values, tests)
+
+-- src/value.rt:118:9
+column-at-same-length : (t : ℕ) → column-at-lts.Need-same-length (column-at-calls t) (column-at-at t) column-at.Post
+column-at-same-length t c = search (values, tests)
+
+-- src/value.rt:118:9
+column-at-returns : (t : ℕ) → column-at-lts.Need-returns (column-at-calls t) (column-at-at t) column-at.Post
+column-at-returns t c = search (values, tests)
+
+-- src/value.rt:120:9
+column-at-node-at-requires : (t : ℕ) → column-at-lts.Need-node-at-requires (column-at-calls t) (column-at-at t) column-at.Post
+column-at-node-at-requires t c κs = search (values, tests)
+
+-- src/value.rt:121:34
+column-at-sub-column-at : (t : ℕ) → column-at-lts.Need-sub-column-at (column-at-calls t) (column-at-at t) column-at.Post
+column-at-sub-column-at t c = search (values, tests)
+
+-- src/value.rt:121:9
+column-at-column-at-requires : (t : ℕ) → column-at-lts.Need-column-at-requires (column-at-calls t) (column-at-at t) column-at.Post
+column-at-column-at-requires t c κs = (search (values, tests), (search tests, search tests))
+
+-- src/value.rt:122:9
+column-at-second-left-requires : (t : ℕ) → column-at-lts.Need-second-left-requires (column-at-calls t) (column-at-at t) column-at.Post
+column-at-second-left-requires t c κs = search (values, tests)
+
+-- src/value.rt:125:59
+column-at-slice-aggregate-column-at : (t : ℕ) → column-at-lts.Need-slice-aggregate-column-at (column-at-calls t) (column-at-at t) column-at.Post
+column-at-slice-aggregate-column-at t c = search (values, tests)
+
+-- src/value.rt:125:13
+column-at-column-at-requires-2 : (t : ℕ) → column-at-lts.Need-column-at-requires-2 (column-at-calls t) (column-at-at t) column-at.Post
+column-at-column-at-requires-2 t c κs = search (values, tests)
+
+-- src/value.rt:126:36
+column-at-slice-aggregate-combine-node : (t : ℕ) → column-at-lts.Need-slice-aggregate-combine-node (column-at-calls t) (column-at-at t) column-at.Post
+column-at-slice-aggregate-combine-node t c = search (values, tests)
+
+-- src/value.rt:126:9
+column-at-combine-node-requires : (t : ℕ) → column-at-lts.Need-combine-node-requires (column-at-calls t) (column-at-at t) column-at.Post
+column-at-combine-node-requires t c κs = (omega (arith, c .before .before .before .before .before .before .before .before .before .before .before .before .before .before .before .before .before .before .before .pre .1, c .before .before .before .before .before .before .before .before .before .before .before .before .before .before .out .given, c .before .before .before .before .before .before .before .before .out2 .given), omega (arith, c .before .before .before .before .before .before .before .before .before .before .before .before .before .before .before .before .before .before .before .pre .1, c .before .before .b2 .given))
+
+-- src/value.rt:127:9
+column-at-same-length-2 : (t : ℕ) → column-at-lts.Need-same-length-2 (column-at-calls t) (column-at-at t) column-at.Post
+column-at-same-length-2 t c = search (values, tests)
+
+-- src/value.rt:127:9
+column-at-returns-2 : (t : ℕ) → column-at-lts.Need-returns-2 (column-at-calls t) (column-at-at t) column-at.Post
+column-at-returns-2 t c = search (values, tests)
+
+-- src/value.rt:130:55
+column-at-slice-aggregate-column-at-2 : (t : ℕ) → column-at-lts.Need-slice-aggregate-column-at-2 (column-at-calls t) (column-at-at t) column-at.Post
+column-at-slice-aggregate-column-at-2 t c = search (values, tests)
+
+-- src/value.rt:130:9
+column-at-column-at-requires-3 : (t : ℕ) → column-at-lts.Need-column-at-requires-3 (column-at-calls t) (column-at-at t) column-at.Post
+column-at-column-at-requires-3 t c κs = search (values, tests)
+
+-- src/value.rt:131:32
+column-at-slice-aggregate-combine-node-2 :
+    (t : ℕ) → column-at-lts.Need-slice-aggregate-combine-node-2 (
+      leaf-column-reads.Asked,
+      leaf-column-reads.Learnt,
+      end-at-reads.Asked,
+      end-at-reads.Learnt,
+      node-at-reads.Asked,
+      node-at-reads.Learnt,
+      column-at-below t,
+      column-at.Post,
+      second-left-reads.Asked,
+      second-left-reads.Learnt,
+      combine-node-reads.Asked,
+      combine-node-reads.Learnt,
+    ) (column-at-at t) column-at.Post
+column-at-slice-aggregate-combine-node-2 t c = search (values, tests)
+
+-- src/value.rt:131:5
+column-at-combine-node-requires-2 : (t : ℕ) → column-at-lts.Need-combine-node-requires-2 (column-at-calls t) (column-at-at t) column-at.Post
+column-at-combine-node-requires-2 t c κs = (omega (arith, c .before .before .before .before .before .before .before .before .before .before .before .before .before .before .before .before .before .before .before .pre .1, c .before .before .before .before .before .before .before .before .before .before .before .before .before .before .out .given, c .before .before .before .before .before .before .before .before .out2 .given), omega (arith, c .before .before .before .before .before .before .before .before .before .before .before .before .before .before .before .before .before .before .before .pre .1, c .before .before .b5 .given))
+
+-- src/value.rt:103:1
+column-at-same-length-3 : (t : ℕ) → column-at-lts.Need-same-length-3 (column-at-calls t) (column-at-at t) column-at.Post
+column-at-same-length-3 t c = search (values, tests)
+
+-- src/value.rt:103:1
+column-at-returns-3 : (t : ℕ) → column-at-lts.Need-returns-3 (column-at-calls t) (column-at-at t) column-at.Post
+column-at-returns-3 t c = search (values, tests)
+
+pub +column-at-spec : {M : Type 1} → statement M
++column-at-spec = close μ-column-at λ t. column-at-lts.spec (column-at-calls t)
+    (column-at-at t)
+    column-at.Post
+    (column-at-leaf-column-requires t)
+    (column-at-end-at-requires t)
+    (column-at-same-length t)
+    (column-at-returns t)
+    (column-at-node-at-requires t)
+    (column-at-sub-column-at t)
+    (column-at-column-at-requires t)
+    (column-at-second-left-requires t)
+    (column-at-slice-aggregate-column-at t)
+    (column-at-column-at-requires-2 t)
+    (column-at-slice-aggregate-combine-node t)
+    (column-at-combine-node-requires t)
+    (column-at-same-length-2 t)
+    (column-at-returns-2 t)
+    (column-at-slice-aggregate-column-at-2 t)
+    (column-at-column-at-requires-3 t)
+    (column-at-slice-aggregate-combine-node-2 t)
+    (column-at-combine-node-requires-2 t)
+    (column-at-same-length-3 t)
+    (column-at-returns-3 t)

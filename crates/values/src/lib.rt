@@ -1,0 +1,2 @@
+// The values of a formula at all rows, a column at a time.
+pub mod value;
