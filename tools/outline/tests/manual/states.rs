@@ -73,7 +73,7 @@ impl Dice {
 pub fn is_refuted(program: &Program, statement: &Statement) -> bool {
     let mut dice = Dice(1);
     let starts: Vec<State> = State::starts(&program.header, 4096).collect();
-    let mut refutes = |state: &State, dice: &mut Dice| is_false(program, statement, state, dice);
+    let refutes = |state: &State, dice: &mut Dice| is_false(program, statement, state, dice);
     starts.iter().any(|state| refutes(state, &mut dice))
         || (0..TRIES).any(|_| {
             let state = dice.state(program);
