@@ -6,4 +6,5 @@ mod blocks;
 mod instances;
 mod pages;
 mod pictures;
+mod served;
 mod states;
