@@ -32,7 +32,7 @@ fn paragraphs(text: &str) -> Vec<String> {
     all
 }
 
-/// What stands behind a word and the next colon, with a capital letter and without its end.
+/// What stands behind a word and the next colon, without the last full stop.
 fn behind(paragraph: &str, word: &str) -> Option<String> {
     let at = paragraph.find(word)?;
     let (_, said) = paragraph[at..].split_once(": ")?;
