@@ -1,3 +1,4 @@
+pub mod Telling
 pub mod Slots
 pub mod Counts
 pub mod Gathering

@@ -10,9 +10,7 @@ use Rattle.formula.specs.Codes.{partCount}
 use Rattle.formula.specs.Tree.{Tree, none, node, nodeAt, parseTree, part, ParsedTree}
 use Rattle.formula.specs.declared.node.Node.{Node}
 use Rattle.formula.proofs.Nodes.{parse-zero, parse-step, parts-of}
-use Rattle.compare.specs.Same.{sameTree, sameOf}
-use Rattle.compare.specs.declared.same.Same.{Same}
-use Rattle.compare.specs.declared.same.Same.the-variants.{Yes, No}
+use Rattle.compare.specs.Same.{sameTree}
 use Rattle.compare.proofs.Pairs.{same-none, same-none-node, same-node-none, same-nodes}
 use Rattle.leaves.specs.Slots.{slots, slotTree, leafSlot, samePlain, sameSlot, numbers, slotAt, slotFrom, slotOf}
 use Rattle.leaves.specs.declared.slot.Slot.{Slot}
@@ -54,31 +52,15 @@ module _ (s : List ℕ) (at left : ℕ) (x : Node) (p : Slot) where
       unfolding sameSlot
       slot-cut f q = rw (eq-eqb _ _ z, eq-eqb _ _ (sym ec ∙ d), eq-eqb _ _ (sym eo ∙ f), ne-eqb _ _ q)
 
-  module _ (g : Same) (z : p .left ≡ 0 → ⊥) (e : g ≡ sameOf (parseTree s left at) (parseTree s (p .left) (p .place))) where
-    abbrev t : Bool
-    t = sameTree (parseTree s left at .tree) (parseTree s (p .left) (p .place) .tree)
-
-    said-yes : (b : Bool) (i j k l : ℕ) → cond b (Yes i j) No ≡ Yes k l → true ≡ b
-    said-yes true i j k l h = refl
-    said-yes false i j k l h = let z : _≡_ {A = ℕ} 0 1 = cc in absurd (omega arith)
-
-    said-no : (b : Bool) (i j : ℕ) → cond b (Yes i j) No ≡ No → false ≡ b
-    said-no true i j h = let z : _≡_ {A = ℕ} 0 1 = cc in absurd (omega arith)
-    said-no false i j h = refl
-
-    pub slot-yes : (k l : ℕ) → g ≡ Yes k l → true ≡ sameSlot s at left x p
-    unfolding sameSlot
-    slot-yes k l d = rw (ne-eqb _ _ z) (said-yes t (parseTree s left at .end) (parseTree s (p .left) (p .place) .end) k l (sym e ∙ d))
-
-    pub slot-no : g ≡ No → false ≡ sameSlot s at left x p
-    unfolding sameSlot
-    slot-no d = rw (ne-eqb _ _ z) (said-no t (parseTree s left at .end) (parseTree s (p .left) (p .place) .end) (sym e ∙ d))
+  pub slot-told : (b : Bool) → (p .left ≡ 0 → ⊥) → b ≡ sameTree (parseTree s left at .tree) (parseTree s (p .left) (p .place) .tree) → b ≡ sameSlot s at left x p
+  unfolding sameSlot
+  slot-told b z e = rw (ne-eqb _ _ z) e
 
   pub slot-self : (p .left ≡ 0 → ⊥) → p .place ≡ at → p .left ≡ left → true ≡ sameSlot s at left x p
   unfolding sameSlot
   slot-self z d l = rw (ne-eqb _ _ z, d, l) (sym (same-self (parseTree s left at .tree)))
 
-pub ruleset sames = (slot-code, slot-operand, slot-leaf, slot-cut, slot-yes, slot-no, slot-self)
+pub ruleset sames = (slot-code, slot-operand, slot-leaf, slot-cut, slot-told, slot-self)
 
 -- a leaf without parts
 module _ (s : List ℕ) (c o : ℕ) (p : Slot) where

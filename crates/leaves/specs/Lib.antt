@@ -1,3 +1,4 @@
 pub mod Slots
 pub mod Gather
 pub mod Count
+pub mod Told

@@ -2,3 +2,4 @@
 pub mod count;
 pub mod gather;
 pub mod slot;
+pub mod told;

@@ -1,6 +1,5 @@
 // Slots: where leaves are kept.
-use compare::same::Same;
-use compare::same::same_at;
+use crate::told::same_leaf;
 use formula::node::Node;
 use formula::node::node_at;
 ghost use mathlib.Core.Path.{_≡_};
@@ -82,10 +81,7 @@ pub fn same_slot(s: &[u8], at: usize, left: usize, x: Node, p: Slot) -> bool
             return true;
         }
     }
-    match same_at(s, at, left, p.place, p.left) {
-        Same::Yes(_, _) => true,
-        Same::No => false,
-    }
+    same_leaf(s, at, left, p.place, p.left)
 }
 
 // Whether a leaf without parts is the one in the slot.

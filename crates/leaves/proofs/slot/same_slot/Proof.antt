@@ -1,5 +1,6 @@
 use Rattle.leaves.proofs.Slots.{sames}
 use Rattle.formula.proofs.Auto.{tests}
+use borrow.Author.Needs.{needs}
 use Rattle.leaves.proofs.slot.same_slot.Statement.{statement}
 use Rattle.leaves.proofs.slot.same_slot.Tie as tie
 
@@ -7,15 +8,12 @@ pub same-slot-spec : {M : Type 1} → statement M
 same-slot-spec =
     tie.close
     (tie.spec
-    (λ c κs. search (sames, tests))
-    (λ c κs. search (sames, tests))
+    (λ c κs. search needs)
+    (λ c κs. search needs)
     (λ c. search (sames, tests))
     (λ c. search (sames, tests))
     (λ c. search (sames, tests))
     (λ c. search (sames, tests))
     (λ c. search (sames, tests))
-    (λ c κs. search (sames, tests))
-    (λ c. search (sames, tests))
-    (λ c. search (sames, tests))
-    (λ c. search (sames, tests))
+    (λ c κs. search needs)
     (λ c. search (sames, tests)))
