@@ -1,5 +1,6 @@
 //! A source to an image: by search, or by a certificate written out.
 
+use crate::search::budget::{Budget, TRIES};
 use crate::search::prover::{At, Prover};
 use crate::text::lex::Mistake;
 use crate::text::source::{Hint, Source};
@@ -22,27 +23,41 @@ pub struct Open {
 pub struct Built {
     pub image: Written,
     pub open: Vec<Open>,
+    /// The tries that the search has made, and the most for one obligation or named step.
+    pub tries: u64,
+    pub most_tries: u64,
 }
 
 /// Builds the image of a source.
 pub fn build(source: &Source) -> Result<Built, Mistake> {
+    build_within(source, TRIES)
+}
+
+/// Builds with so many tries for each obligation and each named step.
+pub fn build_within(source: &Source, tries: u64) -> Result<Built, Mistake> {
     match &source.certificate {
         Some(certificate) => crate::explicit::build(source, certificate),
-        None => search(source),
+        None => search(source, tries),
     }
 }
 
-fn search(source: &Source) -> Result<Built, Mistake> {
+fn search(source: &Source, tries: u64) -> Result<Built, Mistake> {
     let program = source.program();
     let mut prover = Prover::new(&program, source.names.clone());
+    prover.budget = Budget::of(tries);
     for hint in &source.hints {
         take_hint(&mut prover, hint)?;
     }
     let (mut found, mut open) = (Vec::new(), Vec::new());
     for duty in duties(&program.threads) {
         prover.tried.clear();
+        prover.budget.renew();
         let wanted = duty.wanted(&program);
         let line = prove(&mut prover, &wanted);
+        if line.is_none() && prover.budget.is_spent() {
+            let most = prover.budget.most();
+            prover.tried.push(format!("given up     after {most} tries"));
+        }
         if line.is_none() && prover.tried.is_empty() {
             let text = "tried        lines that pass 255 bytes, nesting 16 or 10 leaves";
             prover.tried.push(text.into());
@@ -52,7 +67,8 @@ fn search(source: &Source) -> Result<Built, Mistake> {
         }
         found.push(line);
     }
-    Ok(Built { image: assemble(&program, &prover, &found), open })
+    let (tries, most_tries) = prover.budget.made();
+    Ok(Built { image: assemble(&program, &prover, &found), open, tries, most_tries })
 }
 
 /// A line for one obligation.
@@ -79,19 +95,18 @@ fn take_hint(prover: &mut Prover, hint: &Hint) -> Result<(), Mistake> {
         }
     }
     prover.tried.clear();
+    prover.budget.renew();
     let found = prover.hinted(hint);
     let Some(line) = found else {
         let by = hint.rule.map(|r| format!(" by rule {r}")).unwrap_or_default();
         let tried = prover.tried.iter().map(|t| format!("\n  {t}")).collect::<String>();
         return fail(format!("this step of the proof was not found{by}{tried}"));
     };
-    // What was not found before may be found with this step.
-    prover.refuted.clear();
-    prover.missed.clear();
+    prover.forget_failures(&hint.statement);
     match hint.statement {
         Statement::Triple { .. } => prover.steps.push(line),
         Statement::Implication { .. } => prover.facts.push(line),
-        Statement::Inclusion { .. } => {}
+        Statement::Inclusion { .. } => prover.parts.push(line),
     }
     Ok(())
 }

@@ -26,7 +26,7 @@ pub fn build(source: &Source, certificate: &Certificate) -> Result<Built, Mistak
         lines: certificate.lines.clone(),
         obligations: certificate.obligations.clone(),
     };
-    Ok(Built { image, open })
+    Ok(Built { image, open, tries: 0, most_tries: 0 })
 }
 
 /// The instructions with their formula numbers, by thread.

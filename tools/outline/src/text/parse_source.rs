@@ -6,7 +6,7 @@ use crate::text::lex::{tokens, Mistake, Token};
 use crate::text::parse_formula::Cursor;
 use crate::text::scope::{Meaning, Scope};
 use crate::text::sort_name;
-use crate::text::source::{Hint, Point, Source};
+use crate::text::source::{Hint, Middle, Point, Source};
 use reference::checker::limits;
 use reference::formula::atoms::{Atom, Atoms};
 use reference::formula::nesting::{Nesting, BYTES, NESTING};
@@ -276,6 +276,7 @@ fn own(c: &Cursor, instruction: &Instruction, thread: u8, line: usize) -> Result
     let fault = |text: String| Err(Mistake { line, text });
     let mut registers: Vec<u8> = instruction.result().into_iter().collect();
     if let Some(operand) = instruction.operand() {
+        check_size(&operand, line)?;
         if !registers_only(&operand) {
             return fault("words, unsync and cov may not stand in an instruction's formula".into());
         }
@@ -335,10 +336,30 @@ fn proof(c: &mut Cursor, source: &mut Source) -> Result<(), Mistake> {
             return Ok(());
         };
         let rule = if c.take("by") { Some(c.number()? as u8) } else { None };
+        let middle = middle(c, rule)?;
         let (left, right) = statement.sides();
         check_size(&left, line)?;
         check_size(&right, line)?;
-        source.hints.push(Hint { statement, rule, line });
+        source.hints.push(Hint { statement, rule, middle, line });
+    }
+}
+
+/// Behind `by 16` `through {P} to {Q}`, behind `by 31` `through I`: the formulas in the middle.
+fn middle(c: &mut Cursor, rule: Option<u8>) -> Result<Option<Middle>, Mistake> {
+    if !c.sees_next("through") {
+        return Ok(None);
+    }
+    match rule {
+        Some(16) => {
+            c.at += 1;
+            let (left, right) = from_to(c)?;
+            Ok(Some(Middle::Triple(left, right)))
+        }
+        Some(31) => {
+            c.at += 1;
+            Ok(Some(Middle::Interval(c.interval()?)))
+        }
+        _ => c.fail("only `by 16` and `by 31` have formulas in the middle".into()),
     }
 }
 

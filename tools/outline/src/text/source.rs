@@ -1,6 +1,6 @@
 //! What a source file says, once it is read.
 
-use crate::terms::A;
+use crate::terms::{A, I};
 use crate::text::print::Names;
 use reference::formula::Formula;
 use reference::image::{written, Header, Program, Statement, Thread};
@@ -18,7 +18,16 @@ pub struct Point {
 pub struct Hint {
     pub statement: Statement,
     pub rule: Option<u8>,
+    /// What rule 16 or 31 has in the middle.
+    pub middle: Option<Middle>,
     pub line: usize,
+}
+
+/// The formulas in the middle of a chain: of rule 16 the triple's two sides, of rule 31 one interval.
+#[derive(Debug, Clone)]
+pub enum Middle {
+    Triple(A, A),
+    Interval(I),
 }
 
 /// A certificate written out in full.
