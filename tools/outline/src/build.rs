@@ -16,6 +16,8 @@ pub struct Open {
     pub duty: Duty,
     pub wanted: Statement,
     pub tried: Vec<String>,
+    /// The tries after which the search was given up, if it was.
+    pub given_up: Option<u64>,
 }
 
 /// What building gives: an image, and the obligations without a line in it.
@@ -23,6 +25,8 @@ pub struct Open {
 pub struct Built {
     pub image: Written,
     pub open: Vec<Open>,
+    /// Named steps that were not found.
+    pub failed: Vec<Mistake>,
     /// The tries that the search has made, and the most for one obligation or named step.
     pub tries: u64,
     pub most_tries: u64,
@@ -35,19 +39,27 @@ pub fn build(source: &Source) -> Result<Built, Mistake> {
 
 /// Builds with so many tries for each obligation and each named step.
 pub fn build_within(source: &Source, tries: u64) -> Result<Built, Mistake> {
-    match &source.certificate {
-        Some(certificate) => crate::explicit::build(source, certificate),
-        None => search(source, tries),
+    let mut built = build_past_failures(source, tries)?;
+    match built.failed.is_empty() {
+        true => Ok(built),
+        false => Err(built.failed.remove(0)),
     }
 }
 
-fn search(source: &Source, tries: u64) -> Result<Built, Mistake> {
+/// As `build_within`, but goes on past a named step that is not found.
+pub fn build_past_failures(source: &Source, tries: u64) -> Result<Built, Mistake> {
+    match &source.certificate {
+        Some(certificate) => crate::explicit::build(source, certificate),
+        None => Ok(search(source, tries)),
+    }
+}
+
+fn search(source: &Source, tries: u64) -> Built {
     let program = source.program();
     let mut prover = Prover::new(&program, source.names.clone());
     prover.budget = Budget::of(tries);
-    for hint in &source.hints {
-        take_hint(&mut prover, hint)?;
-    }
+    let taken = source.hints.iter().map(|hint| take_hint(&mut prover, hint));
+    let failed: Vec<Mistake> = taken.filter_map(Result::err).collect();
     let (mut found, mut open) = (Vec::new(), Vec::new());
     for duty in duties(&program.threads) {
         prover.tried.clear();
@@ -63,12 +75,13 @@ fn search(source: &Source, tries: u64) -> Result<Built, Mistake> {
             prover.tried.push(text.into());
         }
         if line.is_none() {
-            open.push(Open { duty, wanted, tried: prover.tried.clone() });
+            let given_up = prover.budget.is_spent().then(|| prover.budget.most());
+            open.push(Open { duty, wanted, tried: prover.tried.clone(), given_up });
         }
         found.push(line);
     }
     let (tries, most_tries) = prover.budget.made();
-    Ok(Built { image: assemble(&program, &prover, &found), open, tries, most_tries })
+    Built { image: assemble(&program, &prover, &found), open, failed, tries, most_tries }
 }
 
 /// A line for one obligation.

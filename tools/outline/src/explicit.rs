@@ -26,7 +26,7 @@ pub fn build(source: &Source, certificate: &Certificate) -> Result<Built, Mistak
         lines: certificate.lines.clone(),
         obligations: certificate.obligations.clone(),
     };
-    Ok(Built { image, open, tries: 0, most_tries: 0 })
+    Ok(Built { image, open, failed: Vec::new(), tries: 0, most_tries: 0 })
 }
 
 /// The instructions with their formula numbers, by thread.
@@ -61,7 +61,12 @@ fn open_ones(source: &Source, found: &[u16]) -> Result<Vec<Open>, Mistake> {
     }
     let none = || vec!["tried        nothing: the certificate names no line".to_string()];
     let open = list.into_iter().zip(found).filter(|(_, n)| **n == 0);
-    let open = open.map(|(duty, _)| Open { duty, wanted: duty.wanted(&program), tried: none() });
+    let open = open.map(|(duty, _)| Open {
+        duty,
+        wanted: duty.wanted(&program),
+        tried: none(),
+        given_up: None,
+    });
     Ok(open.collect())
 }
 

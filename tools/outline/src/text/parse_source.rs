@@ -4,6 +4,7 @@ use crate::search::prover::{implication, inclusion, At};
 use crate::terms::*;
 use crate::text::lex::{tokens, Mistake, Token};
 use crate::text::parse_formula::Cursor;
+use crate::text::print::Names;
 use crate::text::scope::{Meaning, Scope};
 use crate::text::sort_name;
 use crate::text::source::{Hint, Middle, Point, Source};
@@ -11,7 +12,7 @@ use reference::checker::limits;
 use reference::formula::atoms::{Atom, Atoms};
 use reference::formula::nesting::{Nesting, BYTES, NESTING};
 use reference::formula::{Formula, Sort};
-use reference::image::Instruction;
+use reference::image::{Header, Instruction};
 
 /// Reads a whole source text.
 pub fn parse(text: &str) -> Result<Source, Mistake> {
@@ -31,6 +32,28 @@ pub fn parse(text: &str) -> Result<Source, Mistake> {
         item(&mut cursor, &mut source)?;
     }
     Ok(source)
+}
+
+/// A test of registers by these names, for a program with this header.
+pub fn parse_test(names: &Names, header: &Header, text: &str) -> Result<T, Mistake> {
+    let mut declared = format!("range {}\n", header.counts.range);
+    names.words.iter().for_each(|name| declared += &format!("word {name} = 0\n"));
+    for (name, owner) in names.registers.iter().zip(&header.owners) {
+        declared += &format!("register {name} of {}\n", names.thread(*owner));
+    }
+    names.threads.iter().for_each(|name| declared += &format!("thread {name}\n"));
+    let list = tokens(&declared)?;
+    let scope = Scope::scan(&list)?;
+    let tokens = tokens(text)?;
+    let mut cursor = Cursor { tokens: &tokens, at: 0, scope };
+    let test = cursor.test()?;
+    if *cursor.peek() != Token::End {
+        return cursor.wanted("the end of the test");
+    }
+    if !registers_only(test.as_ref()) {
+        return Err(Mistake { line: 1, text: "an outcome is a test of registers".into() });
+    }
+    Ok(test)
 }
 
 fn item(c: &mut Cursor, source: &mut Source) -> Result<(), Mistake> {
