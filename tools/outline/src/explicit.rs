@@ -1,7 +1,7 @@
 //! A source with a certificate written out: numbers are taken as they stand.
 
 use crate::build::{Built, Open};
-use crate::text::lex::Mistake;
+use crate::text::lex::{Mistake, Place};
 use crate::text::source::{Certificate, Source};
 use reference::checker::obligations::duties;
 use reference::formula::encode::Encode;
@@ -75,7 +75,7 @@ fn number(
     formulas: &mut Vec<Formula>,
     formula: Formula,
     wanted: Option<usize>,
-    line: usize,
+    line: Place,
 ) -> Result<u16, Mistake> {
     match wanted {
         Some(n) if n > 0 && formulas.get(n - 1) == Some(&formula) => Ok(n as u16),

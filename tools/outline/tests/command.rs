@@ -140,8 +140,8 @@ fn a_partial_image_goes_past_steps_that_fail() {
     let (text, image) = (folder.with("two.outline", TWO_FAIL), folder.file("two.image"));
     let (status, _, err) = run(&["build", &text, "-o", &image]);
     assert_eq!(status, 1);
-    assert!(err.contains(&format!("{text}:7: this step of the proof was not found")), "{err}");
-    assert!(err.contains(&format!("{text}:9: this step of the proof was not found")), "{err}");
+    assert!(err.contains(&format!("{text}:7:3: this step of the proof was not found")), "{err}");
+    assert!(err.contains(&format!("{text}:9:3: this step of the proof was not found")), "{err}");
     assert!(err.contains("2 named steps were not found, 0 of 2 obligations are open"), "{err}");
     let (status, out, _) = run(&["build", &text, "-o", &image, "--partial"]);
     assert!(status == 0 && out.contains("ACCEPTED: 2 obligations met"), "{out}");

@@ -20,7 +20,7 @@ fn example(name: &str) -> Source {
 }
 
 fn named(statement: Statement) -> Hint {
-    Hint { statement, rule: None, middle: None, line: 1 }
+    Hint { statement, rule: None, middle: None, line: 1.into() }
 }
 
 /// For each class 4 obligation the step that keeps the assertion and leads the actor on.
@@ -163,5 +163,5 @@ fn formulas_of_instructions_have_their_limits() {
     assert_eq!(check(&build(&sum(16).expect("fits")).expect("no hints").image.bytes()).code, 0);
     let mistake = sum(17).expect_err("too deep");
     let words = "formula of 50 bytes and nesting 17; 255 bytes and nesting 16 are the most";
-    assert_eq!((mistake.line, mistake.text.as_str()), (3, words));
+    assert_eq!((mistake.line.line, mistake.text.as_str()), (3, words));
 }

@@ -1,13 +1,13 @@
 //! `build`: an outline to an image, with the checker's own verdict on what was made.
 
 use crate::build::{build_past_failures, Built, Open};
-use crate::command::input::{called, mistake, read, Input};
+use crate::command::input::{called, mistake, mistakes, read, Input};
 use crate::command::judge::{judge, JUDGE};
 use crate::command::options::Options;
 use crate::command::{json, print, words, Done, Status};
 use crate::image::to_bytes;
 use crate::search::budget::TRIES;
-use crate::text::parse_source::parse;
+use crate::text::parse_source::parse_all;
 use crate::text::source::Source;
 use crate::text::{report, run};
 use reference::checker::obligations::Duty;
@@ -30,9 +30,9 @@ pub fn run(args: &[&str]) -> Done {
     let Input::Text(text) = read(file)? else {
         return Err(format!("{}: this is an image, not an outline", called(file)));
     };
-    let source = parse(&text).map_err(|e| mistake(file, &e))?;
-    let built = build_past_failures(&source, TRIES).map_err(|e| mistake(file, &e))?;
-    let mut said: Vec<String> = built.failed.iter().map(|e| mistake(file, e)).collect();
+    let source = parse_all(&text).map_err(|all| mistakes(file, &text, &all))?;
+    let built = build_past_failures(&source, TRIES).map_err(|e| mistake(file, &text, &e))?;
+    let mut said: Vec<String> = built.failed.iter().map(|e| mistake(file, &text, e)).collect();
     said.extend(open_ones(&source, &built, options.all));
     let stays = !built.open.is_empty() || !built.failed.is_empty();
     if stays && !options.partial {

@@ -2,8 +2,8 @@
 
 use crate::build::{build, Built};
 use crate::image::to_bytes;
-use crate::text::lex::Mistake;
-use crate::text::parse_source::parse;
+use crate::text::lex::{Mistake, Place};
+use crate::text::parse_source::parse_all;
 use crate::text::print::Names;
 use crate::text::source::Source;
 use reference::image::Program;
@@ -54,9 +54,8 @@ impl Subject {
         match read(file)? {
             Input::Image(bytes) => Ok(Subject { bytes, outline: None }),
             Input::Text(text) => {
-                let told = |e: Mistake| mistake(file, &e);
-                let source = parse(&text).map_err(told)?;
-                let built = build(&source).map_err(told)?;
+                let source = parse_all(&text).map_err(|all| mistakes(file, &text, &all))?;
+                let built = build(&source).map_err(|e| mistake(file, &text, &e))?;
                 let bytes = to_bytes(&built.image).map_err(|e| format!("{}: {e}", called(file)))?;
                 Ok(Subject { bytes, outline: Some((source, built)) })
             }
@@ -80,7 +79,23 @@ impl Subject {
     }
 }
 
-/// A mistake with its file.
-pub fn mistake(file: &str, e: &Mistake) -> String {
-    format!("{}:{}: {}", called(file), e.line, e.text)
+/// A mistake with its file and place, the source line and a mark under the place.
+pub fn mistake(file: &str, text: &str, e: &Mistake) -> String {
+    let Place { line, column } = e.line;
+    let file = called(file);
+    let source = text.lines().nth(line.saturating_sub(1)).unwrap_or("").trim_end();
+    if column == 0 {
+        return format!("{file}:{line}: {}", e.text);
+    }
+    // A tab stays a tab, so that the mark stands where the place does.
+    let before = source.chars().take(column - 1);
+    let pad: String = before.map(|c| if c == '\t' { c } else { ' ' }).collect();
+    let (first, more) = e.text.split_once('\n').unwrap_or((&e.text, ""));
+    let told = format!("{file}:{line}:{column}: {first}\n  | {source}\n  | {pad}^\n{more}");
+    told.trim_end().to_string()
+}
+
+/// All mistakes of a text.
+pub fn mistakes(file: &str, text: &str, all: &[Mistake]) -> String {
+    all.iter().map(|e| mistake(file, text, e)).collect::<Vec<String>>().join("\n")
 }

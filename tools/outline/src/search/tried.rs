@@ -16,7 +16,7 @@ impl Prover<'_> {
             case.sees.iter().cloned().chain(tests).map(|a| self.names.assertion(&a)).collect();
         let start = case.start.then(|| "start".to_string());
         let known: Vec<String> = start.into_iter().chain(leaves).collect();
-        let text = if known.is_empty() { "nothing is known".into() } else { known.join("; ") };
+        let text = if known.is_empty() { "nothing is known".into() } else { known.join(", ") };
         self.tried.push(format!("open case    {text}"));
     }
 

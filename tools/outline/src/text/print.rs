@@ -137,6 +137,7 @@ impl Names {
         match e {
             Test::False => Bound::atom("true"),
             Test::Equal(a, b) => self.comparison(a, " != ", b),
+            Test::Less(a, b) => self.comparison(a, " >= ", b),
             _ => Bound::atom(format!("not {}", self.bind_test(e).at(ATOM))),
         }
     }
@@ -181,7 +182,7 @@ impl Names {
     fn holds(&self, e: &Test) -> Bound {
         let bare = match e {
             Test::False | Test::Equal(..) | Test::Less(..) => true,
-            Test::Not(n) => matches!(**n, Test::False | Test::Equal(..)),
+            Test::Not(n) => matches!(**n, Test::False | Test::Equal(..) | Test::Less(..)),
             _ => false,
         };
         if bare {

@@ -1,6 +1,7 @@
 //! What a source file says, once it is read.
 
 use crate::terms::{A, I};
+use crate::text::lex::Place;
 use crate::text::print::Names;
 use reference::formula::Formula;
 use reference::image::{written, Header, Program, Statement, Thread};
@@ -10,7 +11,7 @@ use reference::image::{written, Header, Program, Statement, Thread};
 pub struct Point {
     pub assertion: A,
     pub number: Option<usize>,
-    pub line: usize,
+    pub line: Place,
 }
 
 /// A step of the proof that the writer names.
@@ -20,7 +21,7 @@ pub struct Hint {
     pub rule: Option<u8>,
     /// What rule 16 or 31 has in the middle.
     pub middle: Option<Middle>,
-    pub line: usize,
+    pub line: Place,
 }
 
 /// The formulas in the middle of a chain: of rule 16 the triple's two sides, of rule 31 one interval.
