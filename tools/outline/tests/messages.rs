@@ -202,12 +202,25 @@ fn an_open_obligation_names_place_case_and_need() {
     assert!(all[0].starts_with("open: class 1, thread 1 (writer) point 0 (line 4)"), "{}", all[0]);
     assert!(all[0].contains("missing      writer sees [x = 1]"), "{}", all[0]);
     let place = "class 4, thread 2 (reader) point 0 (line 8): not kept by thread 1 (writer) point 0 (line 4)";
-    assert!(
-        all[1].contains(place)
-            && all[1].contains("would need reader sees [y = 0] and reader sees [1 = 0]"),
-        "{}",
-        all[1]
-    );
+    assert!(all[1].contains(place), "{}", all[1]);
+    // Rule 9 would ask for `reader sees [1 = 0]`, which cannot be: so it is not asked for.
+    assert!(all[1].ends_with("    no rule leads there\n"), "{}", all[1]);
+}
+
+/// Rule 9 asks for `a sees [1 = 1]` too, which is plain, and rule 7 for more than rule 6.
+#[test]
+fn only_what_is_lacking_is_asked_for() {
+    let text = "word x = 0\nthread a registers r { r = 0 } x := 1 { r = 0 and a sees [x = 1] }";
+    let source = parse(text).expect("well formed");
+    let open = build(&source).expect("no hints").open;
+    assert_eq!(open.len(), 1);
+    let want = [
+        "open case    r = 0",
+        "not reached  a sees [x = 1]",
+        "  would need a sees [x = 1]",
+        "  or         a sees one x",
+    ];
+    assert_eq!(open[0].tried, want);
 }
 
 #[test]
