@@ -92,6 +92,7 @@ fn what_is_false_is_told_with_a_run() {
         "      2. writer: flag := 1   writes 1 behind write 1",
     ];
     assert_eq!(lines[..4], run);
+    assert!(err.contains("\n  to           Coming\n"), "names of `let` stay names: {err}");
     assert!(err.ends_with("1 of 18 obligations are open; no image is written\n"), "{err}");
 }
 
@@ -253,8 +254,8 @@ fn explore_tells_runs_prospects_and_bounds() {
      then a = 0, b = 0
      data was written 0, 1
      flag was written 0, 1
-false: reader at point 0: reader sees one flag = 0 ; [unsync flag] ; [data = 1]
-  not so: reader sees one flag = 0 ; [unsync flag] ; [data = 1]
+false: reader at point 0: Coming
+  not so: Coming
   prospect: (data = 0, flag = 0) then (data = 0, flag = 1) then (data = 1, flag = 1)
 ";
     assert_eq!((status, out.as_str()), (1, want));

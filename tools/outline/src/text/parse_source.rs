@@ -46,6 +46,7 @@ pub fn parse_all(text: &str) -> Result<Source, Vec<Mistake>> {
         }
     }
     if mistakes.all.is_empty() {
+        source.names.shorts = cursor.scope.shorts();
         return Ok(source);
     }
     Err(mistakes.all)

@@ -39,6 +39,15 @@ impl Scope {
         self.meanings.get(name)
     }
 
+    /// What `let` has named so far.
+    pub fn shorts(&self) -> Vec<(Formula, String)> {
+        let short = |(name, meaning): (&String, &Meaning)| match meaning {
+            Meaning::Short(formula) => Some((formula.clone(), name.clone())),
+            _ => None,
+        };
+        self.meanings.iter().filter_map(short).collect()
+    }
+
     /// Adds a `let` name.
     pub fn short(&mut self, name: &str, formula: Formula, line: Place) -> Result<(), Mistake> {
         self.add(name, Meaning::Short(formula), line)
