@@ -303,3 +303,22 @@ fn wrong_use_and_full_disks_are_never_0() {
         assert_eq!(status.expect("run").code(), Some(2));
     }
 }
+
+#[test]
+fn each_command_speaks_json() {
+    let folder = Folder::new("json");
+    let (text, image) = (example("polling"), folder.file("p.image"));
+    let fields = "\"fields\":[0,0,0,0,0,0,0,0,22],\"words\":\"ACCEPTED: 22 obligations met\"";
+    let cases: [(&[&str], &str); 5] = [
+        (&["build", &text, "-o", &image], "{\"accepted\":true,\"fields\":[0,0,0,0,0,0,0,0,22],"),
+        (&["check", &image], fields),
+        (&["show", &image], fields),
+        (&["explain", &text], fields),
+        (&["explore", &text, "--steps", "8"], "\"answer\":\"holds\",\"told\":[\"holds in "),
+    ];
+    for (args, words) in cases {
+        let (status, out, err) = run(&[args, &["--json"][..]].concat());
+        assert_eq!((status, out.lines().count(), err.as_str()), (0, 1, ""), "{args:?}");
+        assert!(out.starts_with('{') && out.ends_with("}\n") && out.contains(words), "{out}");
+    }
+}

@@ -36,15 +36,7 @@ pub fn run(args: &[&str]) -> Done {
     said.extend(open_ones(&source, &built, options.all));
     let stays = !built.open.is_empty() || !built.failed.is_empty();
     if stays && !options.partial {
-        let (open, all) = (built.open.len(), built.image.obligations.len());
-        let (failed, file) = (built.failed.len(), called(file));
-        said.push(match failed {
-            0 => format!("{file}: {open} of {all} obligations are open; no image is written"),
-            _ => format!(
-                "{file}: {failed} named steps were not found, {open} of {all} obligations are open; \
-                 no image is written"
-            ),
-        });
+        said.push(nothing_written(called(file), &built));
         return tell(&options, &said, &[], None).map(|()| Status::Refused);
     }
     let bytes = to_bytes(&built.image).map_err(|e| format!("{}: {e}", called(file)))?;
@@ -63,6 +55,16 @@ pub fn run(args: &[&str]) -> Done {
     // Asked for with --partial, an image with open obligations is what was wanted.
     let wanted = verdict.code == 0 || options.partial;
     Ok(if wanted { Status::Accepted } else { Status::Refused })
+}
+
+/// Why there is no image.
+fn nothing_written(file: &str, built: &Built) -> String {
+    let (open, all) = (built.open.len(), built.image.obligations.len());
+    let failed = match built.failed.len() {
+        0 => String::new(),
+        n => format!("{n} named steps were not found, "),
+    };
+    format!("{file}: {failed}{open} of {all} obligations are open; no image is written")
 }
 
 fn write(target: &str, bytes: &[u8]) -> Result<(), String> {

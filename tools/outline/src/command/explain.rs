@@ -22,24 +22,8 @@ pub fn run(args: &[&str]) -> Done {
         print(if options.json { json::object(&all) + "\n" } else { said + "\n" })?;
         return Ok(status);
     };
-    let names = subject.names(&image.program);
-    let mut told = BTreeSet::new();
-    let (mut text, mut list) = (format!("{said}   ({JUDGE})\n"), Vec::new());
-    let numbered = duties(&image.program.threads).into_iter().zip(&image.written.obligations);
-    for (n, (duty, &line)) in (1..).zip(numbered) {
-        let place = report::duty(&names, subject.source(), &duty);
-        let mut tree = String::new();
-        if line > 0 {
-            branch(&image, &names, line, 1, &mut told, &mut tree);
-        }
-        list.push(json::object(&[
-            ("obligation", json::text(&place)),
-            ("line", line.to_string()),
-            ("tree", json::text(&tree)),
-        ]));
-        let by = if line > 0 { format!("line {line}") } else { "no line".into() };
-        let _ = write!(text, "\n{n}. {place}: {by}\n{tree}");
-    }
+    let (mut text, list) = obligations(&subject, &image);
+    text = format!("{said}   ({JUDGE})\n{text}");
     if options.json {
         let all = [
             ("fields", json::fields(&verdict)),
@@ -50,6 +34,29 @@ pub fn run(args: &[&str]) -> Done {
     }
     print(text)?;
     Ok(status)
+}
+
+/// Each obligation with its tree, as text and as JSON.
+fn obligations(subject: &Subject, image: &Image) -> (String, Vec<String>) {
+    let names = subject.names(&image.program);
+    let mut told = BTreeSet::new();
+    let (mut text, mut list) = (String::new(), Vec::new());
+    let numbered = duties(&image.program.threads).into_iter().zip(&image.written.obligations);
+    for (n, (duty, &line)) in (1..).zip(numbered) {
+        let place = report::duty(&names, subject.source(), &duty);
+        let mut tree = String::new();
+        if line > 0 {
+            branch(image, &names, line, 1, &mut told, &mut tree);
+        }
+        list.push(json::object(&[
+            ("obligation", json::text(&place)),
+            ("line", line.to_string()),
+            ("tree", json::text(&tree)),
+        ]));
+        let by = if line > 0 { format!("line {line}") } else { "no line".into() };
+        let _ = write!(text, "\n{n}. {place}: {by}\n{tree}");
+    }
+    (text, list)
 }
 
 /// A line and, the first time that it is met, what it rests on.
