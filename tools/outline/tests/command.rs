@@ -233,7 +233,7 @@ fn explain_tells_lines_rules_and_premises() {
     let lines: Vec<&str> = out.lines().collect();
     assert_eq!(status, 0);
     let want = [
-        "1. class 1, thread 1 (writer) point 0 (line 15): given by the start: line 14",
+        "1. class 1, thread 1 (writer) point 0 (line 17): given by the start: line 14",
         "  line 14, rule 20: start gives writer sees one data and writer sees one flag and \
          reader sees [data = 0] and reader sees one flag = 0",
         "    line 4, rule 20: start gives writer sees one data",
