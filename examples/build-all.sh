@@ -1,10 +1,10 @@
 #!/bin/sh
-# Builds every source here into images in the folder given (default: images).
+# Builds every source here into images in the folder given (default: target/images of the repository, which git does not show).
 # Sources whose header foretells a refusal are built with --partial.
 # Needs the tool: cargo build --release --offline -p outline.
 set -eu
 cd "$(dirname "$0")"
-target="${1:-images}"
+target="${1:-../target/images}"
 mkdir -p "$target"
 for source in *.outline; do
     partial=""

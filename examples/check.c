@@ -43,5 +43,9 @@ int main(int argc, char **argv)
         printf("%u ", number(record, offset));
     }
     printf("%u\n", number(record, HIDOKPALU_AT_COUNT));
+    if (fflush(stdout) != 0) {
+        perror("standard output");
+        return 2;
+    }
     return code == HIDOKPALU_ACCEPTED ? 0 : 1;
 }

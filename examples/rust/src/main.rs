@@ -2,6 +2,11 @@
 //!
 //!     rt staticlib checker
 //!     cargo run --release --offline -p check FILE
+//!
+//! The status is 0 for an accepted image, 1 for any other, 2 if there is no image to judge.
+
+use std::io::Write;
+use std::process::ExitCode;
 
 const RECORD_BYTES: usize = 22;
 
@@ -19,14 +24,25 @@ fn check(image: &[u8]) -> [u8; RECORD_BYTES] {
     record
 }
 
-fn main() -> std::io::Result<()> {
+fn main() -> ExitCode {
+    match judge() {
+        Ok(0) => ExitCode::SUCCESS,
+        Ok(_) => ExitCode::from(1),
+        Err(error) => {
+            eprintln!("{error}");
+            ExitCode::from(2)
+        }
+    }
+}
+
+/// Prints the nine fields and gives the first, the code.
+fn judge() -> std::io::Result<u16> {
     let path =
         std::env::args_os().nth(1).ok_or_else(|| std::io::Error::other("usage: check FILE"))?;
     let record = check(&std::fs::read(path)?);
-    let fields: Vec<String> = record[4..]
-        .chunks_exact(2)
-        .map(|pair| u16::from_le_bytes([pair[0], pair[1]]).to_string())
-        .collect();
-    println!("{}", fields.join(" "));
-    Ok(())
+    let pairs = record[4..].chunks_exact(2);
+    let fields: Vec<u16> = pairs.map(|pair| u16::from_le_bytes([pair[0], pair[1]])).collect();
+    let words: Vec<String> = fields.iter().map(u16::to_string).collect();
+    writeln!(std::io::stdout(), "{}", words.join(" "))?;
+    Ok(fields[0])
 }

@@ -1,5 +1,6 @@
 //! A source to an image: by search, or by a certificate written out.
 
+use crate::search::budget::{Budget, TRIES};
 use crate::search::prover::{At, Prover};
 use crate::text::lex::Mistake;
 use crate::text::source::{Hint, Source};
@@ -15,6 +16,8 @@ pub struct Open {
     pub duty: Duty,
     pub wanted: Statement,
     pub tried: Vec<String>,
+    /// The tries after which the search was given up, if it was.
+    pub given_up: Option<u64>,
 }
 
 /// What building gives: an image, and the obligations without a line in it.
@@ -22,37 +25,63 @@ pub struct Open {
 pub struct Built {
     pub image: Written,
     pub open: Vec<Open>,
+    /// Named steps that were not found.
+    pub failed: Vec<Mistake>,
+    /// The tries that the search has made, and the most for one obligation or named step.
+    pub tries: u64,
+    pub most_tries: u64,
 }
 
 /// Builds the image of a source.
 pub fn build(source: &Source) -> Result<Built, Mistake> {
-    match &source.certificate {
-        Some(certificate) => crate::explicit::build(source, certificate),
-        None => search(source),
+    build_within(source, TRIES)
+}
+
+/// Builds with so many tries for each obligation and each named step.
+pub fn build_within(source: &Source, tries: u64) -> Result<Built, Mistake> {
+    let mut built = build_past_failures(source, tries)?;
+    match built.failed.is_empty() {
+        true => Ok(built),
+        false => Err(built.failed.remove(0)),
     }
 }
 
-fn search(source: &Source) -> Result<Built, Mistake> {
+/// As `build_within`, but goes on past a named step that is not found.
+pub fn build_past_failures(source: &Source, tries: u64) -> Result<Built, Mistake> {
+    match &source.certificate {
+        Some(certificate) => crate::explicit::build(source, certificate),
+        None => Ok(search(source, tries)),
+    }
+}
+
+fn search(source: &Source, tries: u64) -> Built {
     let program = source.program();
     let mut prover = Prover::new(&program, source.names.clone());
-    for hint in &source.hints {
-        take_hint(&mut prover, hint)?;
-    }
+    prover.budget = Budget::of(tries);
+    let taken = source.hints.iter().map(|hint| take_hint(&mut prover, hint));
+    let failed: Vec<Mistake> = taken.filter_map(Result::err).collect();
     let (mut found, mut open) = (Vec::new(), Vec::new());
     for duty in duties(&program.threads) {
         prover.tried.clear();
+        prover.budget.renew();
         let wanted = duty.wanted(&program);
         let line = prove(&mut prover, &wanted);
+        if line.is_none() && prover.budget.is_spent() {
+            let most = prover.budget.most();
+            prover.tried.push(format!("given up     after {most} tries"));
+        }
         if line.is_none() && prover.tried.is_empty() {
             let text = "tried        lines that pass 255 bytes, nesting 16 or 10 leaves";
             prover.tried.push(text.into());
         }
         if line.is_none() {
-            open.push(Open { duty, wanted, tried: prover.tried.clone() });
+            let given_up = prover.budget.is_spent().then(|| prover.budget.most());
+            open.push(Open { duty, wanted, tried: prover.tried.clone(), given_up });
         }
         found.push(line);
     }
-    Ok(Built { image: assemble(&program, &prover, &found), open })
+    let (tries, most_tries) = prover.budget.made();
+    Built { image: assemble(&program, &prover, &found), open, failed, tries, most_tries }
 }
 
 /// A line for one obligation.
@@ -79,19 +108,18 @@ fn take_hint(prover: &mut Prover, hint: &Hint) -> Result<(), Mistake> {
         }
     }
     prover.tried.clear();
+    prover.budget.renew();
     let found = prover.hinted(hint);
     let Some(line) = found else {
         let by = hint.rule.map(|r| format!(" by rule {r}")).unwrap_or_default();
         let tried = prover.tried.iter().map(|t| format!("\n  {t}")).collect::<String>();
         return fail(format!("this step of the proof was not found{by}{tried}"));
     };
-    // What was not found before may be found with this step.
-    prover.refuted.clear();
-    prover.missed.clear();
+    prover.forget_failures(&hint.statement);
     match hint.statement {
         Statement::Triple { .. } => prover.steps.push(line),
         Statement::Implication { .. } => prover.facts.push(line),
-        Statement::Inclusion { .. } => {}
+        Statement::Inclusion { .. } => prover.parts.push(line),
     }
     Ok(())
 }

@@ -1,7 +1,7 @@
 //! A source with a certificate written out: numbers are taken as they stand.
 
 use crate::build::{Built, Open};
-use crate::text::lex::Mistake;
+use crate::text::lex::{Mistake, Place};
 use crate::text::source::{Certificate, Source};
 use reference::checker::obligations::duties;
 use reference::formula::encode::Encode;
@@ -26,7 +26,7 @@ pub fn build(source: &Source, certificate: &Certificate) -> Result<Built, Mistak
         lines: certificate.lines.clone(),
         obligations: certificate.obligations.clone(),
     };
-    Ok(Built { image, open })
+    Ok(Built { image, open, failed: Vec::new(), tries: 0, most_tries: 0 })
 }
 
 /// The instructions with their formula numbers, by thread.
@@ -61,7 +61,12 @@ fn open_ones(source: &Source, found: &[u16]) -> Result<Vec<Open>, Mistake> {
     }
     let none = || vec!["tried        nothing: the certificate names no line".to_string()];
     let open = list.into_iter().zip(found).filter(|(_, n)| **n == 0);
-    let open = open.map(|(duty, _)| Open { duty, wanted: duty.wanted(&program), tried: none() });
+    let open = open.map(|(duty, _)| Open {
+        duty,
+        wanted: duty.wanted(&program),
+        tried: none(),
+        given_up: None,
+    });
     Ok(open.collect())
 }
 
@@ -70,7 +75,7 @@ fn number(
     formulas: &mut Vec<Formula>,
     formula: Formula,
     wanted: Option<usize>,
-    line: usize,
+    line: Place,
 ) -> Result<u16, Mistake> {
     match wanted {
         Some(n) if n > 0 && formulas.get(n - 1) == Some(&formula) => Ok(n as u16),

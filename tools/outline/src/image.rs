@@ -49,7 +49,12 @@ pub fn read(bytes: &[u8]) -> Result<Image, String> {
 
 /// A refusal in words.
 fn described(Refusal { code, record }: Refusal) -> String {
-    let fault = match code {
+    format!("record {record}: {} (code {code})", fault(code))
+}
+
+/// What a code below 20, or 23, says of a record.
+pub fn fault(code: u16) -> &'static str {
+    match code {
         2 => "the image is empty or too long",
         3 => "its length is cut short or past the end",
         4 => "its kind is out of place, or a record is missing here",
@@ -59,8 +64,7 @@ fn described(Refusal { code, record }: Refusal) -> String {
         8 => "a formula does not fit where it is used",
         9 => "an instruction names another thread's register",
         _ => "an operand names the register that gets the old value",
-    };
-    format!("record {record}: {fault} (code {code})")
+    }
 }
 
 #[cfg(test)]

@@ -4,6 +4,7 @@
 //! put images together, `gallery` makes the tables of the examples. What an image is and which lines are justified is the library `reference`'s.
 
 pub mod build;
+pub mod command;
 pub mod explicit;
 pub mod gallery;
 pub mod image;

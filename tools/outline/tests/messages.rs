@@ -1,7 +1,7 @@
 //! Mistakes are told with their line, open obligations with their place; the exit status says which.
 
 use outline::build::build;
-use outline::text::parse_source::parse;
+use outline::text::parse_source::{parse, parse_all};
 use outline::text::report;
 use std::process::Command;
 
@@ -56,6 +56,91 @@ fn mistakes_have_lines_and_words() {
         assert_eq!(mistake.line, line, "{text}: {mistake}");
         assert!(mistake.text.contains(words), "{text}: {mistake}");
     }
+}
+
+/// The likely cause comes first, and not what the reader of tokens would have liked to see.
+#[test]
+fn the_likely_cause_is_told() {
+    let cases = [
+        ("q := 1", 2, "`q` is not declared"),
+        ("r <- swap x := 1", 7, "swap drops the old value; `exchange` hands it to the register"),
+        ("x :=acq 1", 6, "`acq` belongs to a load, `<-acq`; a store may be `:=rel`"),
+        ("r <-rel x", 6, "`rel` belongs to a store, `:=rel`; a load may be `<-acq`"),
+        ("r <- y", 7, "a word is wanted, but `y` is not declared"),
+        ("x := 9", 7, "9 is no value: values are 0 to 7"),
+    ];
+    for (instruction, column, words) in cases {
+        let text =
+            format!("word x = 0\nthread a registers r {{ true }}\n {instruction}\n{{ true }}");
+        let mistake = parse(&text).expect_err(&text);
+        let place = (mistake.line.line, mistake.line.column);
+        assert_eq!((place, mistake.text.as_str()), ((3, column), words), "{text}");
+    }
+}
+
+const FOUR_MISTAKES: &str = "word x = 0
+let P = a sees [x = 0
+let Q = a sees [x = 1]
+thread a
+  registers r
+  { P and Q }
+    x := y
+  { Q }
+    r <- swap x := 1
+  { r = 9 }
+thread b { P }
+";
+
+#[test]
+fn several_mistakes_are_told_in_a_run() {
+    let all = parse_all(FOUR_MISTAKES).expect_err("mistakes");
+    let told: Vec<(usize, &str)> = all.iter().map(|e| (e.line.line, e.text.as_str())).collect();
+    let want = [
+        (3, "`]` is wanted, found `let`"),
+        (7, "a value is wanted, but `y` is not declared"),
+        (9, "swap drops the old value; `exchange` hands it to the register"),
+        (10, "9 is no value: values are 0 to 7"),
+    ];
+    assert_eq!(told, want);
+}
+
+#[test]
+fn a_mark_stands_under_the_place() {
+    let folder = std::env::temp_dir().join(format!("outline-mark-{}", std::process::id()));
+    std::fs::create_dir_all(&folder).expect("a place for files");
+    let text = folder.join("m.outline");
+    let file = text.to_string_lossy();
+    std::fs::write(&text, "word x = 0\nthread a\n\t{ true } x := y # or so\n{ true }")
+        .expect("written");
+    let run = Command::new(env!("CARGO_BIN_EXE_outline")).args(["check", &file]).output();
+    let out = String::from_utf8(run.expect("run").stdout).expect("text");
+    let want = format!(
+        "{file}: NOT JUDGED: {file}:3:16: a value is wanted, but `y` is not declared\n  \
+         | \t{{ true }} x := y # or so\n  | \t              ^\n"
+    );
+    assert_eq!(out, want);
+    std::fs::remove_dir_all(&folder).expect("cleared away");
+}
+
+#[test]
+fn a_point_that_is_too_large_hides_no_other_mistake() {
+    let deep = format!("holds ({}false)", "not ".repeat(16));
+    let text = format!("word x = 0\nthread a {{ {deep} }}\n x := 8\n {{ true }}\nlet P = P");
+    let all = parse_all(&text).expect_err("mistakes");
+    let lines: Vec<usize> = all.iter().map(|e| e.line.line).collect();
+    assert_eq!(lines, [2, 3, 5], "{all:?}");
+}
+
+#[test]
+fn comparisons_and_cases_are_told_as_they_are_written() {
+    let text = "word x = 0\nthread a registers r { r >= 1 and a sees [x = 0] ; [x >= 2] }";
+    let source = parse(text).expect("well formed");
+    let told = report::open(&source, &build(&source).expect("no hints").open[0], true);
+    assert!(told.contains("  to           r >= 1 and a sees [x = 0] ; [x >= 2]\n"), "{told}");
+    let relaxed = parse(RELAXED).expect("well formed");
+    let told = report::open(&relaxed, &build(&relaxed).expect("no hints").open[1], true);
+    let case = "  open case    reader sees [y = 0] ; [unsync y] ; [x = 1], writer sees one y, ";
+    assert!(told.contains(case), "{told}");
 }
 
 #[test]
@@ -117,12 +202,25 @@ fn an_open_obligation_names_place_case_and_need() {
     assert!(all[0].starts_with("open: class 1, thread 1 (writer) point 0 (line 4)"), "{}", all[0]);
     assert!(all[0].contains("missing      writer sees [x = 1]"), "{}", all[0]);
     let place = "class 4, thread 2 (reader) point 0 (line 8): not kept by thread 1 (writer) point 0 (line 4)";
-    assert!(
-        all[1].contains(place)
-            && all[1].contains("would need reader sees [y = 0] and reader sees [1 = 0]"),
-        "{}",
-        all[1]
-    );
+    assert!(all[1].contains(place), "{}", all[1]);
+    // Rule 9 would ask for `reader sees [1 = 0]`, which cannot be: so it is not asked for.
+    assert!(all[1].ends_with("    no rule leads there\n"), "{}", all[1]);
+}
+
+/// Rule 9 asks for `a sees [1 = 1]` too, which is plain, and rule 7 for more than rule 6.
+#[test]
+fn only_what_is_lacking_is_asked_for() {
+    let text = "word x = 0\nthread a registers r { r = 0 } x := 1 { r = 0 and a sees [x = 1] }";
+    let source = parse(text).expect("well formed");
+    let open = build(&source).expect("no hints").open;
+    assert_eq!(open.len(), 1);
+    let want = [
+        "open case    r = 0",
+        "not reached  a sees [x = 1]",
+        "  would need a sees [x = 1]",
+        "  or         a sees one x",
+    ];
+    assert_eq!(open[0].tried, want);
 }
 
 #[test]

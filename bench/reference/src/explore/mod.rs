@@ -1,10 +1,12 @@
 //! Every order of steps up to a bound, with exact truth of each assertion.
 
+mod duties;
 mod search;
 mod show;
 pub mod truth;
 
-pub use search::{explore, reachable, Bounds, Break, Found, Outcome};
+pub use duties::{find, seek, Run, Sought};
+pub use search::{explore, reachable, Bounds, Break, Cut, Found, Outcome};
 pub use show::describe;
 
 #[cfg(test)]

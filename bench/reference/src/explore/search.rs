@@ -21,7 +21,22 @@ pub struct Bounds {
 #[derive(Clone, Debug, PartialEq, Eq)]
 pub struct Found {
     pub states: usize,
+    pub cut: Cut,
     pub outcome: Outcome,
+}
+
+/// Which bounds kept some run from being tried.
+#[derive(Clone, Copy, Debug, Default, PartialEq, Eq)]
+pub struct Cut {
+    pub steps: bool,
+    pub writes: bool,
+    pub starts: bool,
+}
+
+impl Cut {
+    pub fn any(&self) -> bool {
+        self.steps || self.writes || self.starts
+    }
 }
 
 #[derive(Clone, Debug, PartialEq, Eq)]
@@ -43,21 +58,21 @@ pub struct Break {
 }
 
 /// A state that was reached, and how.
-struct Node {
-    state: Rc<State>,
-    depth: usize,
+pub(super) struct Node {
+    pub(super) state: Rc<State>,
+    pub(super) depth: usize,
     /// The node before and the step from it; none for a start state.
     origin: Option<(usize, Step)>,
 }
 
-struct Search<'a> {
+pub(super) struct Search<'a> {
     program: &'a Program,
-    bounds: Bounds,
+    pub(super) bounds: Bounds,
     /// All states reached, in the order of the steps that lead to them.
-    nodes: Vec<Node>,
+    pub(super) nodes: Vec<Node>,
     known: HashSet<Rc<State>>,
     /// Whether a bound kept some step from being tried.
-    cut: bool,
+    pub(super) cut: Cut,
 }
 
 /// Evaluates each thread's assertion at its point in every state reached.
@@ -65,9 +80,9 @@ pub fn explore(program: &Program, bounds: Bounds) -> Found {
     let mut search = Search::new(program, bounds);
     let outcome = match search.run() {
         Some(broken) => Outcome::Breaks(broken),
-        None => Outcome::Holds { all: !search.cut },
+        None => Outcome::Holds { all: !search.cut.any() },
     };
-    Found { states: search.nodes.len(), outcome }
+    Found { states: search.nodes.len(), cut: search.cut, outcome }
 }
 
 /// Every state reached, whatever the outline says.
@@ -83,8 +98,9 @@ pub fn reachable(program: &Program, bounds: Bounds) -> Vec<Rc<State>> {
 
 impl<'a> Search<'a> {
     /// A search that has reached the start states only.
-    fn new(program: &'a Program, bounds: Bounds) -> Search<'a> {
-        let cut = State::has_more_starts(&program.header, bounds.starts);
+    pub(super) fn new(program: &'a Program, bounds: Bounds) -> Search<'a> {
+        let starts = State::has_more_starts(&program.header, bounds.starts);
+        let cut = Cut { starts, ..Cut::default() };
         let (nodes, known) = (Vec::new(), HashSet::new());
         let mut search = Search { program, bounds, nodes, known, cut };
         for start in State::starts(&program.header, bounds.starts) {
@@ -105,6 +121,17 @@ impl<'a> Search<'a> {
             index += 1;
         }
         None
+    }
+
+    /// Adds a state unless a bound forbids it, which is noted.
+    pub(super) fn add_within(&mut self, next: State, depth: usize, origin: (usize, Step)) {
+        let steps = depth > self.bounds.steps;
+        let writes = longest_row(&next) > self.bounds.writes;
+        self.cut.steps |= steps;
+        self.cut.writes |= writes;
+        if !steps && !writes {
+            self.add(next, depth, Some(origin));
+        }
     }
 
     fn add(&mut self, state: State, depth: usize, origin: Option<(usize, Step)>) {
@@ -134,17 +161,13 @@ impl<'a> Search<'a> {
                 let Some(next) = take(&self.program.threads, &state, step) else {
                     continue;
                 };
-                if depth == self.bounds.steps || longest_row(&next) > self.bounds.writes {
-                    self.cut = true;
-                } else {
-                    self.add(next, depth + 1, Some((index, step)));
-                }
+                self.add_within(next, depth + 1, (index, step));
             }
         }
     }
 
     /// The start state and the steps that lead from it to a node.
-    fn run_to(&self, index: usize) -> (State, Vec<Step>) {
+    pub(super) fn run_to(&self, index: usize) -> (State, Vec<Step>) {
         let mut run = Vec::new();
         let mut node = &self.nodes[index];
         while let Some((before, step)) = node.origin {

@@ -1,6 +1,7 @@
 //! Truth worked out by hand.
-use super::truth::{is_true, sees};
-use super::{describe, explore, reachable, Bounds, Outcome};
+use super::truth::{is_true, sees, violation};
+use super::{describe, explore, find, reachable, seek, Bounds, Outcome};
+use crate::checker::obligations::Duty;
 use crate::formula::parse::Counts;
 use crate::formula::{Assertion, Interval, Test, Value};
 use crate::image::{Header, Instruction, Program};
@@ -88,4 +89,39 @@ fn runs_begin_at_every_start_state() {
     let few = Bounds { starts: 7, ..bounds };
     assert!(matches!(explore(&storing(1, 1), few).outcome, Outcome::Holds { all: false }));
     assert_eq!(reachable(&storing(2, 7), bounds).len(), 16);
+}
+
+#[test]
+fn a_prospect_that_fails_is_named() {
+    let state = two_by_two();
+    let both = Interval::chop(word_is(1, 5), word_is(1, 0));
+    let chain = violation(&state, 1, &both).expect("false");
+    assert_eq!(chain, [View::default(), View::default().moved(1, 1)]);
+    assert_eq!(violation(&state, 1, &word_is(2, 0)), None);
+}
+
+#[test]
+fn runs_that_break_obligations_are_found() {
+    let bounds = Bounds { steps: 4, writes: 4, starts: 64 };
+    let duties = [Duty::Start { thread: 1 }, Duty::Next { thread: 1, point: 0 }];
+    let sought = seek(&storing(2, 3), &duties, bounds, 1000);
+    assert_eq!(sought.runs[0], None);
+    let run = sought.runs[1].as_ref().expect("open registers may be 3");
+    assert_eq!((run.start.registers.clone(), run.steps.len()), (vec![0, 3], 1));
+    let sought = seek(&storing(1, 3), &duties, bounds, 1000);
+    assert_eq!((sought.runs, sought.all), (vec![None, None], true));
+    let few = seek(&storing(1, 3), &duties, bounds, 1);
+    assert!(!few.all);
+}
+
+#[test]
+fn a_run_to_a_wanted_state_is_found() {
+    let bounds = Bounds { steps: 4, writes: 4, starts: 64 };
+    let wrote = |state: &State| state.row(1).len() == 2 && state.registers[1] == 6;
+    let found = find(&storing(2, 3), bounds, 1000, &wrote);
+    assert_eq!(found.runs[0].as_ref().map(|run| run.steps.len()), Some(1));
+    let never = find(&storing(2, 3), bounds, 1000, &|state: &State| state.row(1).len() == 3);
+    assert!(never.runs[0].is_none() && never.all);
+    let cut = find(&storing(2, 3), Bounds { steps: 0, ..bounds }, 1000, &wrote);
+    assert!(cut.runs[0].is_none() && cut.cut.steps && !cut.cut.writes);
 }

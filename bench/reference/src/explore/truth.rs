@@ -23,9 +23,14 @@ pub fn is_true(assertion: &Assertion, state: &State, header: &Header) -> bool {
 
 /// Whether every prospect of the thread satisfies the interval.
 pub fn sees(state: &State, thread: u8, interval: &Interval) -> bool {
+    violation(state, thread, interval).is_none()
+}
+
+/// A prospect of the thread that does not satisfy the interval.
+pub fn violation(state: &State, thread: u8, interval: &Interval) -> Option<Vec<View>> {
     let words = words_that_matter(state, interval);
     let mut chain = vec![state.view(thread)];
-    all_chains(state, interval, &words, &mut chain)
+    failing_chain(state, interval, &words, &mut chain)
 }
 
 /// The words whose moves can change the interval's truth. `unsync` compares a
@@ -36,21 +41,27 @@ fn words_that_matter(state: &State, interval: &Interval) -> Vec<u8> {
     (1..=state.rows.len() as u8).filter(named).collect()
 }
 
-/// Whether every way to complete the chain satisfies the interval.
-fn all_chains(state: &State, interval: &Interval, words: &[u8], chain: &mut Vec<View>) -> bool {
+/// A way to complete the chain that does not satisfy the interval.
+fn failing_chain(
+    state: &State,
+    interval: &Interval,
+    words: &[u8],
+    chain: &mut Vec<View>,
+) -> Option<Vec<View>> {
     let last = *chain.last().expect("a chain starts at the thread's view");
     let movable = |word: &&u8| usize::from(last.at(**word)) + 1 < state.row(**word).len();
     let mut complete = true;
     for &word in words.iter().filter(movable) {
         complete = false;
         chain.push(last.moved(word, last.at(word) + 1));
-        let satisfied = all_chains(state, interval, words, chain);
+        let failing = failing_chain(state, interval, words, chain);
         chain.pop();
-        if !satisfied {
-            return false;
+        if failing.is_some() {
+            return failing;
         }
     }
-    !complete || reach(state, interval, chain, 0) == chain.len()
+    let fails = complete && reach(state, interval, chain, 0) < chain.len();
+    fails.then(|| chain.clone())
 }
 
 /// The end of the longest part from `from` that satisfies the interval.

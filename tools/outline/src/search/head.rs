@@ -1,5 +1,6 @@
 //! Rules 3, 4, 5, 10 and 47 along what the acting thread sees: the head of a chop is taken off.
 
+use crate::search::interval::both_parts;
 use crate::search::plan::Plan;
 use crate::search::prover::{At, Line, Prover};
 use crate::search::triple::{reading, Context};
@@ -42,10 +43,41 @@ impl Prover<'_> {
         if let Some(line) = self.lines.find(&at.triple(&sees(at.thread, i), goal)) {
             return Some(line);
         }
-        self.view_kept(at, i, goal)
+        let key = (at, i.clone(), goal.clone(), self.kind());
+        if self.unreached.contains(&key) || !self.budget.spend() {
+            return None;
+        }
+        let found = self
+            .view_kept(at, i, goal)
             .or_else(|| self.view_used(at, i, goal))
             .or_else(|| self.head_off(at, i, goal))
-            .or_else(|| self.view_carried(at, i, goal))
+            .or_else(|| self.view_carried(at, i, goal));
+        if found.is_none() && !self.budget.is_spent() {
+            self.unreached.insert(key);
+        }
+        found
+    }
+
+    /// The view itself is not kept, since it names the word that is written, but a part of it is and gives the goal.
+    fn part_kept(&mut self, at: At, i: &I, goal: &A) -> Option<Line> {
+        if !self.wide {
+            return None;
+        }
+        let instruction = self.instruction(at);
+        let view = sees(at.thread, i);
+        let parts = both_parts(i).into_iter().map(|part| sees(at.thread, &part));
+        for kept in unique([goal.clone()].into_iter().chain(parts)) {
+            if kept == view || keeps(&instruction, kept.as_ref()) != Some(true) {
+                continue;
+            }
+            if self.implied(&view, &kept).is_none() {
+                continue;
+            }
+            let Some(last) = self.implied(&kept, goal) else { continue };
+            let line = self.step(at, 1, &kept, &kept, &[])?;
+            return self.around(at, &view, line, last);
+        }
+        None
     }
 
     /// The view is kept beside an easier goal: in `h and s or Q`, s is left out if the view gives it.
@@ -154,7 +186,8 @@ impl Prover<'_> {
                 if self.include(&a, &head).is_none() {
                     continue;
                 }
-                let Some(rest) = self.via_view(at, &b, goal) else { continue };
+                let rest = self.via_view(at, &b, goal).or_else(|| self.part_kept(at, &b, goal));
+                let Some(rest) = rest else { continue };
                 let before = sees(at.thread, &chop(&head, &b));
                 let after = match &read {
                     Some(g) => either(&holds(g), goal),

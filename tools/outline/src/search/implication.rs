@@ -19,12 +19,13 @@ impl Prover<'_> {
             return Some(line);
         }
         let key = (p.clone(), q.clone());
-        if self.refuted.contains(&key) {
+        let kind = self.kind();
+        if self.refuted[kind].contains(&key) || !self.budget.spend() {
             return None;
         }
-        let found = self.implied_by_shape(p, q);
-        if found.is_none() {
-            self.refuted.insert(key);
+        let found = self.implied_by_shape(p, q).or_else(|| self.by_linked_fact(p, q));
+        if found.is_none() && !self.budget.is_spent() {
+            self.refuted[kind].insert(key);
         }
         found
     }
@@ -34,6 +35,9 @@ impl Prover<'_> {
             return self.identity(p);
         }
         if let Some(line) = self.fact(20, p, q, &[]) {
+            return Some(line);
+        }
+        if let Some(line) = self.by_facts(p, q) {
             return Some(line);
         }
         let premises = self.premises_for(p, q)?;
@@ -57,7 +61,7 @@ impl Prover<'_> {
     }
 
     /// One line of rule 20, with as few of the premises as will do.
-    fn by_table(&mut self, p: &A, q: &A, premises: &[Line]) -> Option<Line> {
+    pub fn by_table(&mut self, p: &A, q: &A, premises: &[Line]) -> Option<Line> {
         let mut kept = premises.to_vec();
         for line in premises {
             let fewer: Vec<Line> = kept.iter().copied().filter(|l| l != line).collect();
@@ -71,7 +75,7 @@ impl Prover<'_> {
         self.fact(20, p, q, &kept)
     }
 
-    fn enough(&self, p: &A, q: &A, premises: &[Line]) -> bool {
+    pub fn enough(&self, p: &A, q: &A, premises: &[Line]) -> bool {
         let sides: Vec<(&A, &A)> =
             premises.iter().map(|l| self.statement(*l).assertions()).collect();
         premises.len() <= MOST_PREMISES && implies_by_table((p, q), &sides) == Some(true)

@@ -46,12 +46,14 @@ impl Prover<'_> {
             return Some(line);
         }
         let key = (i.clone(), j.clone());
-        if depth == 0 || self.missed.get(&key).is_some_and(|d| *d >= depth) {
+        let kind = usize::from(self.linking);
+        let missed = self.missed[kind].get(&key).is_some_and(|d| *d >= depth);
+        if depth == 0 || missed || !self.budget.spend() {
             return None;
         }
-        let found = self.include_by_shape(i, j, depth - 1);
-        if found.is_none() {
-            self.missed.insert(key, depth);
+        let found = self.include_by_shape(i, j, depth - 1).or_else(|| self.by_linked_part(i, j));
+        if found.is_none() && !self.budget.is_spent() {
+            self.missed[kind].insert(key, depth);
         }
         found
     }
@@ -88,7 +90,7 @@ impl Prover<'_> {
     }
 
     /// I in J by I in M and M in J; identities are left out.
-    fn link(&mut self, first: Line, second: Line) -> Option<Line> {
+    pub fn link(&mut self, first: Line, second: Line) -> Option<Line> {
         let (i, m) = self.statement(first).intervals();
         let (n, j) = self.statement(second).intervals();
         if i == m {

@@ -4,6 +4,7 @@
 //! `head`, `clauses`), the `cases` of the left side choose among them, and
 //! `implication` closes the gap with premises that `support` and `interval` find.
 
+pub mod budget;
 mod case_by_case;
 pub mod cases;
 pub mod certificate;
@@ -11,6 +12,7 @@ mod clauses;
 mod head;
 mod implication;
 mod interval;
+mod links;
 mod named;
 mod plan;
 pub mod prover;

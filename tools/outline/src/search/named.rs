@@ -2,7 +2,7 @@
 
 use super::prover::{At, Line, Prover};
 use crate::terms::*;
-use crate::text::source::Hint;
+use crate::text::source::{Hint, Middle};
 use reference::formula::{Assertion, Interval};
 use reference::image::Statement;
 
@@ -12,6 +12,9 @@ impl Prover<'_> {
         match &hint.statement {
             Statement::Triple { thread, point, left, right } => {
                 let at = At { thread: *thread, point: *point };
+                if let Some(Middle::Triple(p, q)) = &hint.middle {
+                    return self.step_through(at, (left, right), (p, q));
+                }
                 match hint.rule {
                     Some(rule) => self.step_by(at, rule, left, right),
                     None => self.triple(at, left, right),
@@ -22,10 +25,26 @@ impl Prover<'_> {
                 None => self.implication(left, right),
             },
             Statement::Inclusion { left, right } => match hint.rule {
+                _ if hint.middle.is_some() => self.part_through(left, right, &hint.middle),
                 Some(rule) => self.part_by(rule, left, right),
                 None => self.include(left, right),
             },
         }
+    }
+
+    /// Rule 16 with its triple named.
+    fn step_through(&mut self, at: At, (l, r): (&A, &A), (p, q): (&A, &A)) -> Option<Line> {
+        let first = self.implication(l, p)?;
+        let triple = self.triple(at, p, q)?;
+        let last = self.implication(q, r)?;
+        self.step(at, 16, l, r, &[first, triple, last])
+    }
+
+    /// Rule 31 with its middle named.
+    fn part_through(&mut self, l: &I, r: &I, middle: &Option<Middle>) -> Option<Line> {
+        let Some(Middle::Interval(m)) = middle else { return None };
+        let premises = [self.include(l, m)?, self.include(m, r)?];
+        self.part(31, l, r, &premises)
     }
 
     fn step_by(&mut self, at: At, rule: u8, l: &A, r: &A) -> Option<Line> {

@@ -6,20 +6,21 @@
 use crate::search::cases::Case;
 use crate::search::prover::{At, Line, Prover};
 use crate::terms::*;
+use std::rc::Rc;
 
-/// A way to a goal, or several.
+/// A way to a goal, or several; parts are shared, since the cases copy them again and again.
 #[derive(Debug, Clone)]
 pub enum Plan {
     /// A triple at hand.
     Ready(Line),
     /// Rule 14.
-    All(Box<Plan>, Box<Plan>),
+    All(Rc<Plan>, Rc<Plan>),
     /// Rule 15: one side or the other.
-    Side(Box<Plan>, Box<Plan>),
+    Side(Rc<Plan>, Rc<Plan>),
     /// Different ways to one goal, perhaps none.
-    Any(A, Vec<Plan>),
+    Any(A, Rc<Vec<Plan>>),
     /// A plan, then an implication.
-    Then(Box<Plan>, Line),
+    Then(Rc<Plan>, Line),
 }
 
 /// A plan with the alternatives that are in use.

@@ -1,5 +1,6 @@
 //! The search for lines: what all its parts share.
 
+use crate::search::budget::Budget;
 use crate::search::certificate::Certificate;
 use crate::terms::*;
 use crate::text::print::Names;
@@ -14,10 +15,14 @@ pub type Line = usize;
 pub struct Prover<'a> {
     pub program: &'a Program,
     pub lines: Certificate,
-    /// Inclusions that were not found, with the depth that was tried.
-    pub missed: HashMap<(I, I), u8>,
-    /// Implications that were not found.
-    pub refuted: HashSet<(A, A)>,
+    /// Inclusions that were not found, with the depth that was tried; inside of a chain and outside.
+    pub missed: [HashMap<(I, I), u8>; 2],
+    /// Implications that were not found, for each kind of search.
+    pub refuted: [HashSet<(A, A)>; 4],
+    /// Triples from one view that were not found, with the kind of search.
+    pub unreached: HashSet<(At, I, A, usize)>,
+    /// How much of the search is left for the obligation or the step at hand.
+    pub budget: Budget,
     /// Lines without premises that do not fit their rule: rows are slow to try again.
     pub unfit: HashSet<(u8, Statement)>,
     /// What was found by rows.
@@ -26,6 +31,12 @@ pub struct Prover<'a> {
     pub facts: Vec<Line>,
     /// Triples that the writer named.
     pub steps: Vec<Line>,
+    /// Where steps stand among the ways to a part of a goal.
+    pub steps_stand: Stand,
+    /// Inclusions that the writer named.
+    pub parts: Vec<Line>,
+    /// Is what was named tried as a link already? One chain is not sought inside of another.
+    pub linking: bool,
     /// What was tried for the obligation at hand, for the message if it stays open.
     pub tried: Vec<String>,
     pub names: Names,
@@ -38,12 +49,17 @@ impl<'a> Prover<'a> {
         Prover {
             program,
             lines: Certificate::default(),
-            missed: HashMap::new(),
-            refuted: HashSet::new(),
+            missed: Default::default(),
+            refuted: Default::default(),
+            unreached: HashSet::new(),
+            budget: Budget::default(),
             unfit: HashSet::new(),
             rows: HashMap::new(),
             facts: Vec::new(),
             steps: Vec::new(),
+            steps_stand: Stand::Last,
+            parts: Vec::new(),
+            linking: false,
             tried: Vec::new(),
             names,
             wide: false,
@@ -63,6 +79,9 @@ impl<'a> Prover<'a> {
     }
 
     fn add(&mut self, rule: u8, statement: Statement, premises: &[Line]) -> Option<Line> {
+        if !self.budget.spend() {
+            return None;
+        }
         let key = (rule, statement);
         if premises.is_empty() && self.unfit.contains(&key) {
             return None;
@@ -74,17 +93,31 @@ impl<'a> Prover<'a> {
         found
     }
 
+    /// The kind of search under way: wide or not, inside of a chain or not. What one misses another may find.
+    pub fn kind(&self) -> usize {
+        usize::from(self.wide) + 2 * usize::from(self.linking)
+    }
+
+    /// What was not found before may be found with a new line: triples rest on implications, and these on inclusions.
+    pub fn forget_failures(&mut self, named: &Statement) {
+        self.unreached.clear();
+        if !matches!(named, Statement::Triple { .. }) {
+            self.refuted = Default::default();
+        }
+        if matches!(named, Statement::Inclusion { .. }) {
+            self.missed = Default::default();
+        }
+    }
+
     /// A search that also joins views with the tests about their own registers, and views of two threads:
     /// slower, and with longer proofs, so only where the other finds nothing.
     pub fn widened(&mut self, search: impl FnOnce(&mut Self) -> Option<Line>) -> Option<Line> {
         if self.wide {
             return search(self);
         }
-        let refuted = std::mem::take(&mut self.refuted);
         self.wide = true;
         let found = search(self);
         self.wide = false;
-        self.refuted = refuted;
         found
     }
 
@@ -168,8 +201,17 @@ impl<'a> Prover<'a> {
     }
 }
 
-/// An instruction's place: thread from 1, point from 0.
+/// Where the steps that were named stand among the ways to a part of a goal. No order is best: a way that comes first
+/// may ask for leaves that another one does not, so each is tried.
 #[derive(Debug, Clone, Copy, PartialEq, Eq)]
+pub enum Stand {
+    Last,
+    First,
+    Nowhere,
+}
+
+/// An instruction's place: thread from 1, point from 0.
+#[derive(Debug, Clone, Copy, PartialEq, Eq, Hash)]
 pub struct At {
     pub thread: u8,
     pub point: u8,

@@ -2,9 +2,11 @@
 
 use crate::search::cases::{cases, Case};
 use crate::search::implication::conjuncts;
+use crate::search::interval::hull;
 use crate::search::plan::{Choice, Plan};
 use crate::search::prover::{Line, Prover};
 use crate::terms::*;
+use reference::formula::Assertion;
 
 /// How many of the ways tried are listed in a message.
 const MOST_TOLD: usize = 12;
@@ -16,7 +18,7 @@ impl Prover<'_> {
             case.sees.iter().cloned().chain(tests).map(|a| self.names.assertion(&a)).collect();
         let start = case.start.then(|| "start".to_string());
         let known: Vec<String> = start.into_iter().chain(leaves).collect();
-        let text = if known.is_empty() { "nothing is known".into() } else { known.join("; ") };
+        let text = if known.is_empty() { "nothing is known".into() } else { known.join(", ") };
         self.tried.push(format!("open case    {text}"));
     }
 
@@ -26,15 +28,35 @@ impl Prover<'_> {
         for part in self.missing(case, plan) {
             let text = format!("not reached  {}", self.names.assertion(&self.goal(&part)));
             self.tried.push(text);
-            self.tell_ways(&part);
+            self.tell_ways(case, &part);
         }
     }
 
-    /// The preconditions by which a goal could be reached.
-    fn tell_ways(&mut self, plan: &Plan) {
+    /// What a precondition asks for beyond the case; none if it cannot be.
+    fn asked_beyond(&mut self, case: &Case, way: &A) -> Option<A> {
+        let parts = conjuncts(way);
+        if parts.iter().any(|part| self.never(part)) {
+            return None;
+        }
+        let lacking: Vec<A> = parts.into_iter().filter(|part| !self.serves(case, part)).collect();
+        Some(fold_right(&lacking, both).unwrap_or_else(|| way.clone()))
+    }
+
+    /// Can it be true in no state, by its tests alone?
+    fn never(&mut self, part: &A) -> bool {
+        let test = match &**part {
+            Assertion::Holds(e) => Some(e.clone()),
+            Assertion::Sees(_, i) => hull(i),
+            _ => None,
+        };
+        test.is_some_and(|e| self.by_rows(&e, &falsehood()))
+    }
+
+    /// The preconditions by which a goal could be reached: each once, without what the case has already.
+    fn tell_ways(&mut self, case: &Case, plan: &Plan) {
         let mut ways = Vec::new();
         self.ways(plan, &mut ways);
-        ways.retain(|w| *w != holds(&falsehood()));
+        let ways = least(unique(ways.iter().filter_map(|way| self.asked_beyond(case, way))));
         let first = if ways.is_empty() { "no rule leads there" } else { "would need" };
         for (n, way) in ways.iter().take(MOST_TOLD).enumerate() {
             let lead = if n == 0 { first } else { "or" };
@@ -101,4 +123,14 @@ impl Prover<'_> {
         self.tried.push("             they pass 10 leaves or 4 premises of rule 20".into());
         None
     }
+}
+
+/// Without preconditions that ask for all that another one asks for, and for more.
+fn least(ways: Vec<A>) -> Vec<A> {
+    let parts: Vec<Vec<A>> = ways.iter().map(conjuncts).collect();
+    let asks_more = |own: &Vec<A>| {
+        parts.iter().any(|p| p.len() < own.len() && p.iter().all(|part| own.contains(part)))
+    };
+    let kept = ways.iter().zip(&parts).filter(|(_, own)| !asks_more(own));
+    kept.map(|(way, _)| way.clone()).collect()
 }

@@ -4,7 +4,7 @@ use crate::search::cases::{cases, Case};
 use crate::search::implication::conjuncts;
 use crate::search::interval::both_parts;
 use crate::search::plan::{Choice, Done, Plan};
-use crate::search::prover::{At, Line, Prover};
+use crate::search::prover::{At, Line, Prover, Stand};
 use crate::search::support::expand;
 use crate::terms::*;
 use reference::checker::rules::table::Leaves;
@@ -36,10 +36,10 @@ impl Prover<'_> {
         if let Some(line) = self.lines.find(&at.triple(p, q)) {
             return Some(line);
         }
-        self.triple_by_cases(at, p, q).or_else(|| {
+        self.in_each_order(at, p, q).or_else(|| {
             self.tried.clear();
             self.widened(|all| {
-                all.triple_by_cases(at, p, q).or_else(|| {
+                all.in_each_order(at, p, q).or_else(|| {
                     let told = all.tried.clone();
                     let found = all.triple_by_tests(at, p, q);
                     all.tried = told;
@@ -47,6 +47,28 @@ impl Prover<'_> {
                 })
             })
         })
+    }
+
+    /// By steps that were named, if they make the whole; else with them last, first and nowhere among the ways.
+    fn in_each_order(&mut self, at: At, p: &A, q: &A) -> Option<Line> {
+        if let Some(line) = self.by_steps(at, p, q) {
+            return Some(line);
+        }
+        let here = |line: &Line| self.statement(*line).place() == (at.thread, at.point);
+        let orders: &[Stand] = match self.steps.iter().any(here) {
+            true => &[Stand::Last, Stand::First, Stand::Nowhere],
+            false => &[Stand::Last],
+        };
+        for stand in orders {
+            self.tried.clear();
+            self.steps_stand = *stand;
+            let found = self.triple_by_cases(at, p, q);
+            self.steps_stand = Stand::Last;
+            if found.is_some() {
+                return found;
+            }
+        }
+        None
     }
 
     /// The tests of Q that the instruction keeps and P does not have, told apart first.
@@ -151,6 +173,9 @@ impl Prover<'_> {
         let at = context.at;
         let instruction = self.instruction(at);
         let mut ways = Vec::new();
+        if self.steps_stand == Stand::First {
+            self.ways_by_steps(context, goal, &mut ways);
+        }
         if let Some((r, value)) = instruction.assignment() {
             let before = replaced(goal, Value::Register(r), value);
             ways.extend(self.step(at, 2, &before, goal, &[]).map(Plan::Ready));
@@ -171,9 +196,11 @@ impl Prover<'_> {
         }
         self.ways_by_heads(context, goal, &mut ways);
         ways.extend(self.by_clauses(context, goal));
-        self.ways_by_steps(context, goal, &mut ways);
+        if self.steps_stand == Stand::Last {
+            self.ways_by_steps(context, goal, &mut ways);
+        }
         ways.extend(self.by_falsehood(at, goal));
-        Plan::Any(goal.clone(), ways)
+        Plan::Any(goal.clone(), ways.into())
     }
 
     /// Rules 3 and 47, and compound tests taken apart.

@@ -1,9 +1,34 @@
 //! Text to tokens, each with its line number.
 
+/// A line of the text, and a column in it: both count from 1, and column 0 is the line as a whole.
+#[derive(Debug, Clone, Copy, PartialEq, Eq, PartialOrd, Ord)]
+pub struct Place {
+    pub line: usize,
+    pub column: usize,
+}
+
+impl From<usize> for Place {
+    fn from(line: usize) -> Place {
+        Place { line, column: 0 }
+    }
+}
+
+impl PartialEq<usize> for Place {
+    fn eq(&self, line: &usize) -> bool {
+        self.line == *line
+    }
+}
+
+impl std::fmt::Display for Place {
+    fn fmt(&self, out: &mut std::fmt::Formatter) -> std::fmt::Result {
+        write!(out, "{}", self.line)
+    }
+}
+
 /// A mistake in the text: where and what.
 #[derive(Debug, Clone, PartialEq, Eq)]
 pub struct Mistake {
-    pub line: usize,
+    pub line: Place,
     pub text: String,
 }
 
@@ -81,21 +106,23 @@ pub const KEYWORDS: [&str; 34] = [
 ];
 
 /// All tokens with their lines; the last one is `End`.
-pub fn tokens(text: &str) -> Result<Vec<(Token, usize)>, Mistake> {
+pub fn tokens(text: &str) -> Result<Vec<(Token, Place)>, Mistake> {
     let mut out = Vec::new();
-    let mut last = 1;
+    let mut last = Place { line: 1, column: 1 };
     for (i, line) in text.lines().enumerate() {
-        last = i + 1;
         let code = line.split('#').next().unwrap_or("");
+        last = Place { line: i + 1, column: code.trim_end().chars().count() + 1 };
         line_tokens(code, i + 1, &mut out)?;
     }
     out.push((Token::End, last));
     Ok(out)
 }
 
-fn line_tokens(code: &str, line: usize, out: &mut Vec<(Token, usize)>) -> Result<(), Mistake> {
+fn line_tokens(code: &str, line: usize, out: &mut Vec<(Token, Place)>) -> Result<(), Mistake> {
     let mut rest = code.trim_start();
     while let Some(first) = rest.chars().next() {
+        let column = code[..code.len() - rest.len()].chars().count() + 1;
+        let line = Place { line, column };
         let (token, length) = if first.is_ascii_alphabetic() || first == '_' {
             let n = name_length(rest);
             (Token::Name(rest[..n].to_string()), n)
@@ -123,7 +150,7 @@ fn plain_length(s: &str) -> usize {
     s.find(|c: char| !(c.is_ascii_alphanumeric() || c == '_' || c == '\'')).unwrap_or(s.len())
 }
 
-fn number(s: &str, line: usize) -> Result<(Token, usize), Mistake> {
+fn number(s: &str, line: Place) -> Result<(Token, usize), Mistake> {
     let n = name_length(s);
     match s[..n].parse() {
         Ok(value) => Ok((Token::Number(value), n)),

@@ -6,6 +6,7 @@ pub mod parse_formula;
 pub mod parse_source;
 pub mod print;
 pub mod report;
+pub mod run;
 pub mod scope;
 pub mod show;
 pub mod source;

@@ -1,13 +1,13 @@
 //! Text to formulas. Right-nested throughout, as `print` writes them.
 
 use crate::terms::*;
-use crate::text::lex::{Mistake, Token};
+use crate::text::lex::{Mistake, Place, Token};
 use crate::text::scope::{describe, Meaning, Scope};
 use reference::formula::{Assertion, Formula, Interval, Sort, Test};
 
 /// A place in the tokens, with the names in force.
 pub struct Cursor<'a> {
-    pub tokens: &'a [(Token, usize)],
+    pub tokens: &'a [(Token, Place)],
     pub at: usize,
     pub scope: Scope,
 }
@@ -18,7 +18,7 @@ impl Cursor<'_> {
     pub fn peek(&self) -> &Token {
         &self.tokens[self.at.min(self.tokens.len() - 1)].0
     }
-    pub fn line(&self) -> usize {
+    pub fn line(&self) -> Place {
         self.tokens[self.at.min(self.tokens.len() - 1)].1
     }
     pub fn fail<T>(&self, text: String) -> Result<T, Mistake> {
@@ -341,6 +341,7 @@ mod tests {
             words: vec!["x".into(), "y".into()],
             registers: vec!["r".into(), "q".into()],
             threads: vec!["a".into(), "b".into()],
+            shorts: Vec::new(),
         };
         let shown = names.assertion(&a);
         assert_eq!(parse(&shown).unwrap(), a, "{shown}");

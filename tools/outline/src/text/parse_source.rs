@@ -2,21 +2,27 @@
 
 use crate::search::prover::{implication, inclusion, At};
 use crate::terms::*;
-use crate::text::lex::{tokens, Mistake, Token};
+use crate::text::lex::{tokens, Mistake, Place, Token, KEYWORDS};
 use crate::text::parse_formula::Cursor;
+use crate::text::print::Names;
 use crate::text::scope::{Meaning, Scope};
 use crate::text::sort_name;
-use crate::text::source::{Hint, Point, Source};
+use crate::text::source::{Hint, Middle, Point, Source};
 use reference::checker::limits;
 use reference::formula::atoms::{Atom, Atoms};
 use reference::formula::nesting::{Nesting, BYTES, NESTING};
 use reference::formula::{Formula, Sort};
-use reference::image::Instruction;
+use reference::image::{Header, Instruction};
 
-/// Reads a whole source text.
+/// Reads a whole source text, or finds its first mistake.
 pub fn parse(text: &str) -> Result<Source, Mistake> {
-    let list = tokens(text)?;
-    let scope = Scope::scan(&list)?;
+    parse_all(text).map_err(|mut mistakes| mistakes.remove(0))
+}
+
+/// Reads a whole source text, or finds its mistakes: at most one in each point, instruction and other part.
+pub fn parse_all(text: &str) -> Result<Source, Vec<Mistake>> {
+    let list = tokens(text).map_err(|e| vec![e])?;
+    let scope = Scope::scan(&list).map_err(|e| vec![e])?;
     let mut source = Source {
         header: scope.header(),
         names: scope.names.clone(),
@@ -27,13 +33,72 @@ pub fn parse(text: &str) -> Result<Source, Mistake> {
         certificate: None,
     };
     let mut cursor = Cursor { tokens: &list, at: 0, scope };
+    let mut mistakes = Mistakes::default();
     while *cursor.peek() != Token::End {
-        item(&mut cursor, &mut source)?;
+        let start = cursor.at;
+        if let Err(mistake) = item(&mut cursor, &mut source, &mut mistakes) {
+            mistakes.add(mistake);
+            mistakes.missing.extend(name_of_let(&list, start));
+            cursor.at = cursor.at.max(start + 1);
+            while !at_end_of_thread(&cursor) {
+                cursor.at += 1;
+            }
+        }
     }
-    Ok(source)
+    if mistakes.all.is_empty() {
+        source.names.shorts = cursor.scope.shorts();
+        return Ok(source);
+    }
+    Err(mistakes.all)
 }
 
-fn item(c: &mut Cursor, source: &mut Source) -> Result<(), Mistake> {
+/// The mistakes of a text, without those that only follow from a `let` that failed.
+#[derive(Default)]
+struct Mistakes {
+    all: Vec<Mistake>,
+    missing: Vec<String>,
+}
+
+impl Mistakes {
+    fn add(&mut self, mistake: Mistake) {
+        let follows = |name: &String| mistake.text.contains(&format!("`{name}` is not declared"));
+        if !self.missing.iter().any(follows) {
+            self.all.push(mistake);
+        }
+    }
+}
+
+/// The name that the `let` at a place would have declared.
+fn name_of_let(list: &[(Token, Place)], at: usize) -> Option<String> {
+    match (&list[at].0, list.get(at + 1).map(|t| &t.0)) {
+        (Token::Name(word), Some(Token::Name(name))) if word == "let" => Some(name.clone()),
+        _ => None,
+    }
+}
+
+/// A test of registers by these names, for a program with this header.
+pub fn parse_test(names: &Names, header: &Header, text: &str) -> Result<T, Mistake> {
+    let mut declared = format!("range {}\n", header.counts.range);
+    names.words.iter().for_each(|name| declared += &format!("word {name} = 0\n"));
+    for (name, owner) in names.registers.iter().zip(&header.owners) {
+        declared += &format!("register {name} of {}\n", names.thread(*owner));
+    }
+    names.threads.iter().for_each(|name| declared += &format!("thread {name}\n"));
+    let list = tokens(&declared)?;
+    let scope = Scope::scan(&list)?;
+    let tokens = tokens(text)?;
+    let mut cursor = Cursor { tokens: &tokens, at: 0, scope };
+    let test = cursor.test()?;
+    if *cursor.peek() != Token::End {
+        return cursor.wanted("the end of the test");
+    }
+    if !registers_only(test.as_ref()) {
+        return Err(Mistake { line: 1.into(), text: "an outcome is a test of registers".into() });
+    }
+    Ok(test)
+}
+
+fn item(c: &mut Cursor, source: &mut Source, mistakes: &mut Mistakes) -> Result<(), Mistake> {
     if c.take("range") {
         c.number()?;
         return Ok(());
@@ -55,7 +120,7 @@ fn item(c: &mut Cursor, source: &mut Source) -> Result<(), Mistake> {
         return short(c);
     }
     if c.take("thread") {
-        return thread(c, source);
+        return thread(c, source, mistakes);
     }
     if c.take("proof") {
         return proof(c, source);
@@ -119,22 +184,29 @@ pub fn sort_word(c: &mut Cursor) -> Option<Sort> {
 }
 
 /// A thread: points in braces with instructions between them.
-fn thread(c: &mut Cursor, source: &mut Source) -> Result<(), Mistake> {
+fn thread(c: &mut Cursor, source: &mut Source, mistakes: &mut Mistakes) -> Result<(), Mistake> {
     let line = c.line();
     let name = c.name()?;
     let number = c.scope.thread(&name, line)?;
     registers(c)?;
     let mut labels = Vec::new();
-    let mut points = vec![point(c, &mut labels)?];
+    let mut points = vec![point_or_past(c, &mut labels, mistakes)?];
     let (mut code, mut numbers, mut jumps) = (Vec::new(), Vec::new(), Vec::new());
     while !at_end_of_thread(c) {
         let at = c.line();
-        let (instruction, jump) = instruction(c, number)?;
-        jumps.push(jump.map(|j| (j, at)));
-        code.push(instruction);
+        match instruction(c, number) {
+            Ok((instruction, jump)) => {
+                jumps.push(jump.map(|j| (j, at)));
+                code.push(instruction);
+            }
+            Err(mistake) => {
+                mistakes.add(mistake);
+                to_next_point(c);
+            }
+        }
         numbers.push(at_number(c)?);
         labels.truncate(points.len());
-        points.push(point(c, &mut labels)?);
+        points.push(point_or_past(c, &mut labels, mistakes)?);
     }
     let (count, most) = (points.len(), usize::from(limits::POINTS));
     if count > most {
@@ -150,6 +222,36 @@ fn thread(c: &mut Cursor, source: &mut Source) -> Result<(), Mistake> {
     source.points.push(points);
     source.code_numbers.push(numbers);
     Ok(())
+}
+
+/// A point; one whose assertion cannot be read is noted and passed over, so that the thread goes on behind it.
+fn point_or_past(
+    c: &mut Cursor,
+    labels: &mut Vec<Option<String>>,
+    mistakes: &mut Mistakes,
+) -> Result<Point, Mistake> {
+    let (before, line) = (labels.len(), c.line());
+    let mistake = match point(c, labels) {
+        Err(mistake) if labels.len() > before => mistake,
+        other => return other,
+    };
+    mistakes.add(mistake);
+    let closed = c.tokens[c.at - 1].0 == Token::Mark("}");
+    while !closed && !at_end_of_thread(c) && !c.take("}") {
+        c.at += 1;
+    }
+    Ok(Point { assertion: holds(&truth()), number: at_number(c)?, line })
+}
+
+/// Past an instruction that could not be read.
+fn to_next_point(c: &mut Cursor) {
+    let labelled = |c: &Cursor| {
+        let next = c.tokens.get(c.at + 1).map(|t| &t.0);
+        matches!(c.peek(), Token::Name(_)) && next == Some(&Token::Mark(":"))
+    };
+    while !c.sees_next("{") && !labelled(c) && !at_end_of_thread(c) {
+        c.at += 1;
+    }
 }
 
 fn at_end_of_thread(c: &Cursor) -> bool {
@@ -184,7 +286,7 @@ fn point(c: &mut Cursor, labels: &mut Vec<Option<String>>) -> Result<Point, Mist
 }
 
 /// A formula must fit into its record.
-pub fn check_size(tree: &impl Nesting, line: usize) -> Result<(), Mistake> {
+pub fn check_size(tree: &impl Nesting, line: Place) -> Result<(), Mistake> {
     if tree.fits_record() {
         return Ok(());
     }
@@ -237,6 +339,10 @@ fn move_value(c: &mut Cursor) -> Result<Instruction, Mistake> {
                 return Ok(Instruction::Assign { register, value: c.value()? });
             }
             if c.take("<-acq") {
+                if c.sees_next("exchange") || c.sees_next("fetch-add") {
+                    let text = "a word is wanted: exchange and fetch-add acquire by themselves, behind `<-`";
+                    return c.fail(text.into());
+                }
                 return Ok(Instruction::Load { register, word: c.word()?, acquiring: true });
             }
             if c.take("<-") {
@@ -250,10 +356,21 @@ fn move_value(c: &mut Cursor) -> Result<Instruction, Mistake> {
             if !releasing && !c.take(":=") {
                 return c.wanted("`:=` or `:=rel` behind a word");
             }
+            if c.sees_next("acq") {
+                return c.fail("`acq` belongs to a load, `<-acq`; a store may be `:=rel`".into());
+            }
             Ok(Instruction::Store { word, value: c.value()?, releasing })
         }
+        None if moves_next(c) => c.fail(format!("{} is not declared", c.peek().shown())),
         _ => c.wanted("an instruction (or the thread's end)"),
     }
+}
+
+/// Does a name stand here that something is moved to?
+fn moves_next(c: &Cursor) -> bool {
+    let named = matches!(c.peek(), Token::Name(n) if !KEYWORDS.contains(&n.as_str()));
+    let next = c.tokens.get(c.at + 1).map(|t| &t.0);
+    named && [":=", ":=rel", "<-", "<-acq"].iter().any(|mark| next == Some(&Token::Mark(mark)))
 }
 
 /// What stands behind `<-`: a word, `exchange WORD := VALUE` or `fetch-add WORD + VALUE`.
@@ -268,14 +385,21 @@ fn fetched(c: &mut Cursor, register: u8) -> Result<Instruction, Mistake> {
         c.expect("+")?;
         return Ok(Instruction::FetchAdd { register, word, value: c.value()? });
     }
+    if c.sees_next("swap") {
+        return c.fail("swap drops the old value; `exchange` hands it to the register".into());
+    }
+    if c.sees_next("rel") {
+        return c.fail("`rel` belongs to a store, `:=rel`; a load may be `<-acq`".into());
+    }
     Ok(Instruction::Load { register, word: c.word()?, acquiring: false })
 }
 
 /// Instructions use own registers only, and no word but the one moved.
-fn own(c: &Cursor, instruction: &Instruction, thread: u8, line: usize) -> Result<(), Mistake> {
+fn own(c: &Cursor, instruction: &Instruction, thread: u8, line: Place) -> Result<(), Mistake> {
     let fault = |text: String| Err(Mistake { line, text });
     let mut registers: Vec<u8> = instruction.result().into_iter().collect();
     if let Some(operand) = instruction.operand() {
+        check_size(&operand, line)?;
         if !registers_only(&operand) {
             return fault("words, unsync and cov may not stand in an instruction's formula".into());
         }
@@ -299,7 +423,7 @@ fn resolve(
     target: &Token,
     labels: &[Option<String>],
     points: usize,
-    line: usize,
+    line: Place,
 ) -> Result<u8, Mistake> {
     let found = match target {
         Token::Number(n) => Some(*n),
@@ -335,10 +459,30 @@ fn proof(c: &mut Cursor, source: &mut Source) -> Result<(), Mistake> {
             return Ok(());
         };
         let rule = if c.take("by") { Some(c.number()? as u8) } else { None };
+        let middle = middle(c, rule)?;
         let (left, right) = statement.sides();
         check_size(&left, line)?;
         check_size(&right, line)?;
-        source.hints.push(Hint { statement, rule, line });
+        source.hints.push(Hint { statement, rule, middle, line });
+    }
+}
+
+/// Behind `by 16` `through {P} to {Q}`, behind `by 31` `through I`: the formulas in the middle.
+fn middle(c: &mut Cursor, rule: Option<u8>) -> Result<Option<Middle>, Mistake> {
+    if !c.sees_next("through") {
+        return Ok(None);
+    }
+    match rule {
+        Some(16) => {
+            c.at += 1;
+            let (left, right) = from_to(c)?;
+            Ok(Some(Middle::Triple(left, right)))
+        }
+        Some(31) => {
+            c.at += 1;
+            Ok(Some(Middle::Interval(c.interval()?)))
+        }
+        _ => c.fail("only `by 16` and `by 31` have formulas in the middle".into()),
     }
 }
 

@@ -9,6 +9,8 @@ pub struct Names {
     pub words: Vec<String>,
     pub registers: Vec<String>,
     pub threads: Vec<String>,
+    /// What `let` names, for messages: a formula that has a name is told by it.
+    pub shorts: Vec<(Formula, String)>,
 }
 
 /// A text and how tightly it binds.
@@ -41,7 +43,12 @@ impl Names {
     pub fn plain(words: usize, registers: usize, threads: usize) -> Names {
         let list = |c: char, n: usize| (1..=n).map(|i| format!("{c}{i}")).collect();
         let registers = list('r', registers);
-        Names { words: list('w', words), registers, threads: list('t', threads) }
+        Names {
+            words: list('w', words),
+            registers,
+            threads: list('t', threads),
+            shorts: Vec::new(),
+        }
     }
 
     pub fn word(&self, number: u8) -> &str {
@@ -104,6 +111,12 @@ impl Names {
         }
     }
 
+    /// The name that `let` gives to a formula.
+    fn short(&self, is: impl Fn(&Formula) -> bool) -> Option<Bound> {
+        let named = self.shorts.iter().find(|(formula, _)| is(formula));
+        named.map(|(_, name)| Bound::atom(name))
+    }
+
     fn bind_value(&self, tree: &Value) -> Bound {
         match tree {
             Value::Constant(number) => Bound::atom(number.to_string()),
@@ -117,6 +130,9 @@ impl Names {
     }
 
     fn bind_test(&self, tree: &Test) -> Bound {
+        if let Some(name) = self.short(|f| matches!(f, Formula::Test(e) if **e == *tree)) {
+            return name;
+        }
         match tree {
             Test::False => Bound::atom("false"),
             Test::Equal(a, b) => self.comparison(a, " = ", b),
@@ -137,11 +153,15 @@ impl Names {
         match e {
             Test::False => Bound::atom("true"),
             Test::Equal(a, b) => self.comparison(a, " != ", b),
+            Test::Less(a, b) => self.comparison(a, " >= ", b),
             _ => Bound::atom(format!("not {}", self.bind_test(e).at(ATOM))),
         }
     }
 
     fn bind_interval(&self, tree: &Interval) -> Bound {
+        if let Some(name) = self.short(|f| matches!(f, Formula::Interval(i) if **i == *tree)) {
+            return name;
+        }
         let part = |tree: &Interval| self.bind_interval(tree);
         match tree {
             Interval::All(e) => Bound::atom(format!("[{}]", self.test(e))),
@@ -165,6 +185,9 @@ impl Names {
     }
 
     fn bind_assertion(&self, tree: &Assertion) -> Bound {
+        if let Some(name) = self.short(|f| matches!(f, Formula::Assertion(a) if **a == *tree)) {
+            return name;
+        }
         let part = |tree: &Assertion| self.bind_assertion(tree);
         match tree {
             Assertion::Sees(thread, i) => {
@@ -181,7 +204,7 @@ impl Names {
     fn holds(&self, e: &Test) -> Bound {
         let bare = match e {
             Test::False | Test::Equal(..) | Test::Less(..) => true,
-            Test::Not(n) => matches!(**n, Test::False | Test::Equal(..)),
+            Test::Not(n) => matches!(**n, Test::False | Test::Equal(..) | Test::Less(..)),
             _ => false,
         };
         if bare {

@@ -1,32 +1,41 @@
 //! Messages about obligations that stay open.
 
 use crate::build::Open;
+use crate::text::print::Names;
 use crate::text::source::Source;
 use reference::checker::obligations::Duty;
 use reference::image::Statement;
 use std::fmt::Write;
 
-/// A thread's point with its name and its line in the source.
-fn point(source: &Source, t: u8, p: u8) -> String {
-    let line = source.points[usize::from(t) - 1][usize::from(p)].line;
-    format!("thread {t} ({}) point {p} (line {line})", source.names.thread(t))
+/// A thread's point with its name, and its line where there is a source.
+fn point(names: &Names, source: Option<&Source>, t: u8, p: u8) -> String {
+    let line = source.map(|s| s.points[usize::from(t) - 1][usize::from(p)].line);
+    let line = line.map(|line| format!(" (line {line})")).unwrap_or_default();
+    format!("thread {t} ({}) point {p}{line}", names.thread(t))
 }
 
-/// Which obligation, in words.
+/// An open obligation, in words.
 fn place(source: &Source, duty: &Duty) -> String {
+    worded(&source.names, Some(source), duty, ["not given by the start", "not kept by"])
+}
+
+/// An obligation, in words.
+pub fn duty(names: &Names, source: Option<&Source>, duty: &Duty) -> String {
+    worded(names, source, duty, ["given by the start", "kept by"])
+}
+
+fn worded(names: &Names, source: Option<&Source>, duty: &Duty, [given, kept]: [&str; 2]) -> String {
+    let at = |t: u8, p: u8| point(names, source, t, p);
     match *duty {
-        Duty::Start { thread } => {
-            format!("class 1, {}: not given by the start", point(source, thread, 0))
+        Duty::Start { thread } => format!("class 1, {}: {given}", at(thread, 0)),
+        Duty::Next { thread, point } => {
+            format!("class 2, {}: the step to the next point", at(thread, point))
         }
-        Duty::Next { thread, point: p } => {
-            format!("class 2, {}: the step to the next point", point(source, thread, p))
+        Duty::Taken { thread, point } => {
+            format!("class 3, {}: the branch taken", at(thread, point))
         }
-        Duty::Taken { thread, point: p } => {
-            format!("class 3, {}: the branch taken", point(source, thread, p))
-        }
-        Duty::Kept { thread, point: p, actor, action } => {
-            let (own, other) = (point(source, thread, p), point(source, actor, action));
-            format!("class 4, {own}: not kept by {other}")
+        Duty::Kept { thread, point, actor, action } => {
+            format!("class 4, {}: {kept} {}", at(thread, point), at(actor, action))
         }
     }
 }

@@ -1,6 +1,6 @@
 //! What the names in a source stand for.
 
-use crate::text::lex::{Mistake, Token, KEYWORDS};
+use crate::text::lex::{Mistake, Place, Token, KEYWORDS};
 use crate::text::print::Names;
 use crate::text::sort_name;
 use reference::checker::limits;
@@ -39,12 +39,21 @@ impl Scope {
         self.meanings.get(name)
     }
 
+    /// What `let` has named so far.
+    pub fn shorts(&self) -> Vec<(Formula, String)> {
+        let short = |(name, meaning): (&String, &Meaning)| match meaning {
+            Meaning::Short(formula) => Some((formula.clone(), name.clone())),
+            _ => None,
+        };
+        self.meanings.iter().filter_map(short).collect()
+    }
+
     /// Adds a `let` name.
-    pub fn short(&mut self, name: &str, formula: Formula, line: usize) -> Result<(), Mistake> {
+    pub fn short(&mut self, name: &str, formula: Formula, line: Place) -> Result<(), Mistake> {
         self.add(name, Meaning::Short(formula), line)
     }
 
-    fn add(&mut self, name: &str, meaning: Meaning, line: usize) -> Result<(), Mistake> {
+    fn add(&mut self, name: &str, meaning: Meaning, line: Place) -> Result<(), Mistake> {
         let fault = |text: String| Err(Mistake { line, text });
         if KEYWORDS.contains(&name) {
             return fault(format!("`{name}` is a word of the language and cannot be a name"));
@@ -56,7 +65,7 @@ impl Scope {
     }
 
     /// Declares words, registers and threads ahead of reading, since assertions look ahead.
-    pub fn scan(tokens: &[(Token, usize)]) -> Result<Scope, Mistake> {
+    pub fn scan(tokens: &[(Token, Place)]) -> Result<Scope, Mistake> {
         let mut scope = Scope { range: scan_range(tokens)?, ..Scope::default() };
         let mut owners_by_name = Vec::new();
         for i in 0..tokens.len() {
@@ -84,14 +93,14 @@ impl Scope {
     }
 
     /// The number of a thread by its name.
-    pub fn thread(&self, name: &str, line: usize) -> Result<u8, Mistake> {
+    pub fn thread(&self, name: &str, line: Place) -> Result<u8, Mistake> {
         match self.get(name) {
             Some(Meaning::Thread(t)) => Ok(*t),
             _ => Err(Mistake { line, text: format!("`{name}` is no thread") }),
         }
     }
 
-    fn scan_word(&mut self, tokens: &[(Token, usize)], i: usize) -> Result<(), Mistake> {
+    fn scan_word(&mut self, tokens: &[(Token, Place)], i: usize) -> Result<(), Mistake> {
         let (name, line) = name_at(tokens, i + 1)?;
         self.names.words.push(name.clone());
         self.add(&name, Meaning::Word(self.names.words.len() as u8), line)?;
@@ -106,7 +115,7 @@ impl Scope {
         Ok(())
     }
 
-    fn scan_registers(&mut self, tokens: &[(Token, usize)], i: usize) -> Result<(), Mistake> {
+    fn scan_registers(&mut self, tokens: &[(Token, Place)], i: usize) -> Result<(), Mistake> {
         let owner = self.names.threads.len() as u8;
         let mut at = i + 1;
         loop {
@@ -124,7 +133,7 @@ impl Scope {
         name: &str,
         owner: u8,
         mark: u8,
-        line: usize,
+        line: Place,
     ) -> Result<(), Mistake> {
         self.names.registers.push(name.to_string());
         self.owners.push(owner);
@@ -149,7 +158,7 @@ impl Scope {
         Header { counts, start, owners, marks }
     }
 
-    fn limits(&self, line: usize) -> Result<(), Mistake> {
+    fn limits(&self, line: Place) -> Result<(), Mistake> {
         let checks = [
             ("threads", self.names.threads.len(), 1, limits::THREADS.into()),
             ("words", self.names.words.len(), 1, limits::WORDS.into()),
@@ -166,14 +175,14 @@ impl Scope {
 }
 
 /// The start mark of the registers declared at a place: 0 behind `open`, else 1.
-fn mark(tokens: &[(Token, usize)], i: usize) -> u8 {
+fn mark(tokens: &[(Token, Place)], i: usize) -> u8 {
     let before = i.checked_sub(1).map(|before| &tokens[before].0);
     u8::from(before != Some(&Token::Name("open".into())))
 }
 
 /// The number behind `range`, which may be left out.
-fn scan_range(tokens: &[(Token, usize)]) -> Result<u8, Mistake> {
-    let is_range = |(token, _): &(Token, usize)| *token == Token::Name("range".into());
+fn scan_range(tokens: &[(Token, Place)]) -> Result<u8, Mistake> {
+    let is_range = |(token, _): &(Token, Place)| *token == Token::Name("range".into());
     let mut places = (0..tokens.len()).filter(|&at| is_range(&tokens[at]));
     let Some(at) = places.next() else { return Ok(USUAL_RANGE) };
     if let Some(again) = places.next() {
@@ -188,13 +197,13 @@ fn scan_range(tokens: &[(Token, usize)]) -> Result<u8, Mistake> {
     }
 }
 
-fn name_at(tokens: &[(Token, usize)], i: usize) -> Result<(String, usize), Mistake> {
+fn name_at(tokens: &[(Token, Place)], i: usize) -> Result<(String, Place), Mistake> {
     match tokens.get(i).or(tokens.last()) {
         Some((Token::Name(n), line)) => Ok((n.clone(), *line)),
         Some((t, line)) => {
             Err(Mistake { line: *line, text: format!("a name is wanted, found {}", t.shown()) })
         }
-        None => Err(Mistake { line: 1, text: "the text is empty".into() }),
+        None => Err(Mistake { line: 1.into(), text: "the text is empty".into() }),
     }
 }
 

@@ -83,7 +83,7 @@ fn line(out: &mut String, image: &Image, names: &Names, number: usize, l: &Line)
 }
 
 /// What a line by this rule says between its two formulas.
-fn arrow(rule: u8) -> &'static str {
+pub fn arrow(rule: u8) -> &'static str {
     match Form::of_rule(rule) {
         Some(Form::Triple) => "then",
         Some(Form::Implication) => "gives",

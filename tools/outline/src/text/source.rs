@@ -1,6 +1,7 @@
 //! What a source file says, once it is read.
 
-use crate::terms::A;
+use crate::terms::{A, I};
+use crate::text::lex::Place;
 use crate::text::print::Names;
 use reference::formula::Formula;
 use reference::image::{written, Header, Program, Statement, Thread};
@@ -10,7 +11,7 @@ use reference::image::{written, Header, Program, Statement, Thread};
 pub struct Point {
     pub assertion: A,
     pub number: Option<usize>,
-    pub line: usize,
+    pub line: Place,
 }
 
 /// A step of the proof that the writer names.
@@ -18,7 +19,16 @@ pub struct Point {
 pub struct Hint {
     pub statement: Statement,
     pub rule: Option<u8>,
-    pub line: usize,
+    /// What rule 16 or 31 has in the middle.
+    pub middle: Option<Middle>,
+    pub line: Place,
+}
+
+/// The formulas in the middle of a chain: of rule 16 the triple's two sides, of rule 31 one interval.
+#[derive(Debug, Clone)]
+pub enum Middle {
+    Triple(A, A),
+    Interval(I),
 }
 
 /// A certificate written out in full.

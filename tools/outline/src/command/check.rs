@@ -1,0 +1,115 @@
+//! `check`: judges images and outlines, many at once.
+
+use crate::command::input::Subject;
+use crate::command::judge::{judge, JUDGE};
+use crate::command::options::Options;
+use crate::command::{json, print, words, Done, Status};
+use reference::checker::Verdict;
+use std::io::{IsTerminal, Write};
+use std::path::Path;
+use std::sync::atomic::{AtomicUsize, Ordering};
+use std::sync::Mutex;
+
+/// One file judged: the verdict with its words, or why there is none.
+type Judged = Result<(Verdict, String), String>;
+
+pub fn run(words: &[&str]) -> Done {
+    let options = Options::read(words, &["--json"])?;
+    let mut files = Vec::new();
+    for file in &options.files {
+        gather(Path::new(file), true, &mut files)?;
+    }
+    if files.is_empty() {
+        return Err("no file to judge; see outline --help".into());
+    }
+    let judged = judge_all(&files);
+    let mut out = String::new();
+    for (file, judged) in files.iter().zip(&judged) {
+        out += &if options.json { as_json(file, judged) } else { as_words(file, judged) };
+        out.push('\n');
+    }
+    let status = |j: &Judged| match j {
+        Ok((verdict, _)) if verdict.code == 0 => Status::Accepted,
+        Ok(_) => Status::Refused,
+        Err(_) => Status::Unusable,
+    };
+    let count = |wanted: Status| judged.iter().filter(|j| status(j) == wanted).count();
+    if files.len() > 1 && !options.json {
+        let (yes, no) = (count(Status::Accepted), count(Status::Refused));
+        let not = count(Status::Unusable);
+        let all = files.len();
+        out += &format!("{all} files: {yes} accepted, {no} refused, {not} not judged ({JUDGE})\n");
+    }
+    print(out)?;
+    Ok(judged.iter().map(status).max().expect("there is a file"))
+}
+
+/// The files of folders, by name; a file that is named itself is taken as it is.
+fn gather(path: &Path, named: bool, files: &mut Vec<String>) -> Result<(), String> {
+    if path.is_dir() {
+        let entries = std::fs::read_dir(path).and_then(|all| all.collect::<Result<Vec<_>, _>>());
+        let entries = entries.map_err(|e| format!("{}: {e}", path.display()))?;
+        let mut inner: Vec<_> = entries.into_iter().map(|e| e.path()).collect();
+        inner.sort();
+        return inner.iter().try_for_each(|p| gather(p, false, files));
+    }
+    let ours = path.extension().is_some_and(|e| e == "image" || e == "outline");
+    if named || ours {
+        files.push(path.to_string_lossy().into_owned());
+    }
+    Ok(())
+}
+
+/// All files, spread over the cores; answers stand in the order of the files.
+fn judge_all(files: &[String]) -> Vec<Judged> {
+    let (next, done) = (AtomicUsize::new(0), AtomicUsize::new(0));
+    let answers: Mutex<Vec<Option<Judged>>> = Mutex::new(vec![None; files.len()]);
+    let cores = std::thread::available_parallelism().map_or(1, |n| n.get()).min(files.len());
+    let progress = files.len() > 1 && std::io::stderr().is_terminal();
+    std::thread::scope(|threads| {
+        for _ in 0..cores {
+            threads.spawn(|| loop {
+                let at = next.fetch_add(1, Ordering::Relaxed);
+                let Some(file) = files.get(at) else { break };
+                let judged = judge_one(file);
+                answers.lock().expect("no thread panics")[at] = Some(judged);
+                let done = done.fetch_add(1, Ordering::Relaxed) + 1;
+                if progress {
+                    let _ = write!(std::io::stderr(), "\r{done} of {} ", files.len());
+                }
+            });
+        }
+    });
+    if progress {
+        let _ = write!(std::io::stderr(), "\r{:20}\r", "");
+    }
+    let answers = answers.into_inner().expect("no thread panics");
+    answers.into_iter().map(|a| a.expect("each file is judged")).collect()
+}
+
+fn judge_one(file: &str) -> Judged {
+    let subject = Subject::of(file)?;
+    let verdict = judge(&subject.bytes);
+    Ok((verdict, words::verdict(&verdict, subject.source())))
+}
+
+fn as_words(file: &str, judged: &Judged) -> String {
+    match judged {
+        Ok((verdict, words)) => format!("{file}: {words}\n  {verdict}   ({JUDGE})"),
+        Err(text) => format!("{file}: NOT JUDGED: {text}"),
+    }
+}
+
+fn as_json(file: &str, judged: &Judged) -> String {
+    let mut all = vec![("file", json::text(file))];
+    match judged {
+        Ok((verdict, words)) => {
+            all.push(("accepted", (verdict.code == 0).to_string()));
+            all.push(("fields", json::fields(verdict)));
+            all.push(("words", json::text(words)));
+            all.push(("judge", json::text(JUDGE)));
+        }
+        Err(text) => all.push(("error", json::text(text))),
+    }
+    json::object(&all)
+}

@@ -1,0 +1,51 @@
+//! Who judges: the proved checker where its archive is linked (feature `proved`), else the independent one.
+
+use reference::checker::Verdict;
+
+#[cfg(not(feature = "proved"))]
+mod linked {
+    pub const JUDGE: &str = "independent checker";
+
+    pub fn verdict(image: &[u8]) -> reference::checker::Verdict {
+        reference::checker::check(image)
+    }
+}
+
+#[cfg(feature = "proved")]
+mod linked {
+    use reference::checker::verdict::RECORD_BYTES;
+    use reference::checker::Verdict;
+
+    pub const JUDGE: &str = "proved checker";
+
+    // A `&[u8]` of Rattle is a pointer and a length. include/hidokpalu.h says what the call does.
+    extern "C" {
+        fn check_image(image: *const u8, image_len: usize, out: *mut u8, out_len: usize) -> u16;
+    }
+
+    pub fn verdict(image: &[u8]) -> Verdict {
+        let mut record = [0u8; RECORD_BYTES];
+        // SAFETY: pointers and lengths are those of slices that live until the call returns, the second borrowed
+        // for writing alone, so they do not overlap; the function has no other precondition.
+        unsafe { check_image(image.as_ptr(), image.len(), record.as_mut_ptr(), record.len()) };
+        let field = |n: usize| u16::from_le_bytes([record[4 + 2 * n], record[5 + 2 * n]]);
+        Verdict {
+            code: field(0),
+            record: field(1),
+            class: field(2),
+            thread: field(3),
+            point: field(4),
+            other_thread: field(5),
+            other_point: field(6),
+            line: field(7),
+            count: field(8),
+        }
+    }
+}
+
+pub use linked::JUDGE;
+
+/// The verdict on an image.
+pub fn judge(image: &[u8]) -> Verdict {
+    linked::verdict(image)
+}

@@ -1,0 +1,35 @@
+//! The commands: what they read, what they print, and their status.
+
+pub mod build;
+pub mod check;
+pub mod explain;
+pub mod explore;
+pub mod input;
+pub mod json;
+pub mod judge;
+pub mod options;
+pub mod show;
+pub mod words;
+
+use std::io::Write;
+
+/// How a command ends.
+#[derive(Debug, Clone, Copy, PartialEq, Eq, PartialOrd, Ord)]
+pub enum Status {
+    /// Accepted, or true as far as was asked.
+    Accepted = 0,
+    /// Refused, open, or false.
+    Refused = 1,
+    /// Wrong use, or something that cannot be read or written.
+    Unusable = 2,
+}
+
+/// What a command comes to; a text is a message about wrong use or a file.
+pub type Done = Result<Status, String>;
+
+/// Writes to standard output; a full disk is an error like any other.
+pub fn print(text: impl AsRef<[u8]>) -> Result<(), String> {
+    let mut out = std::io::stdout().lock();
+    let written = out.write_all(text.as_ref()).and_then(|()| out.flush());
+    written.map_err(|e| format!("standard output: {e}"))
+}

@@ -1,0 +1,324 @@
+//! The program: what it prints, and its status.
+
+use std::io::Write;
+use std::path::{Path, PathBuf};
+use std::process::{Command, Output, Stdio};
+
+fn example(name: &str) -> String {
+    let folder = PathBuf::from(env!("CARGO_MANIFEST_DIR")).join("../../examples");
+    folder.join(format!("{name}.outline")).to_string_lossy().into_owned()
+}
+
+/// A folder of its own for a test, cleared away at the end.
+struct Folder(PathBuf);
+
+impl Folder {
+    fn new(test: &str) -> Folder {
+        let folder = std::env::temp_dir().join(format!("outline-{test}-{}", std::process::id()));
+        std::fs::create_dir_all(&folder).expect("a place for files");
+        Folder(folder)
+    }
+
+    fn file(&self, name: &str) -> String {
+        self.0.join(name).to_string_lossy().into_owned()
+    }
+
+    fn with(&self, name: &str, text: &str) -> String {
+        std::fs::write(self.0.join(name), text).expect("written");
+        self.file(name)
+    }
+}
+
+impl Drop for Folder {
+    fn drop(&mut self) {
+        let _ = std::fs::remove_dir_all(&self.0);
+    }
+}
+
+fn run(args: &[&str]) -> (i32, String, String) {
+    told(Command::new(env!("CARGO_BIN_EXE_outline")).args(args).output().expect("run"))
+}
+
+fn told(output: Output) -> (i32, String, String) {
+    let text = |bytes: Vec<u8>| String::from_utf8_lossy(&bytes).into_owned();
+    (output.status.code().expect("a status"), text(output.stdout), text(output.stderr))
+}
+
+fn fed(args: &[&str], input: &[u8]) -> Output {
+    let mut child = Command::new(env!("CARGO_BIN_EXE_outline"))
+        .args(args)
+        .stdin(Stdio::piped())
+        .stdout(Stdio::piped())
+        .stderr(Stdio::piped())
+        .spawn()
+        .expect("run");
+    child.stdin.take().expect("a pipe").write_all(input).expect("fed");
+    child.wait_with_output().expect("run")
+}
+
+fn judge() -> &'static str {
+    if cfg!(feature = "proved") {
+        "proved checker"
+    } else {
+        "independent checker"
+    }
+}
+
+#[test]
+fn build_ends_with_the_verdict() {
+    let folder = Folder::new("build");
+    let image = folder.file("mp.image");
+    let (status, out, err) = run(&["build", &example("message-passing"), "-o", &image]);
+    let lines: Vec<&str> = out.lines().collect();
+    let size = format!("{image}: 2814 bytes, 59 formulas, 101 lines, 18 obligations, 0 open");
+    assert_eq!((status, err.as_str()), (0, ""));
+    assert_eq!(lines, [size, format!("ACCEPTED: 18 obligations met   ({})", judge())]);
+}
+
+#[test]
+fn what_is_false_is_told_with_a_run() {
+    let folder = Folder::new("false");
+    let wrong = example("message-passing-wrong-1");
+    let image = folder.file("w.image");
+    let (status, out, err) = run(&["build", &wrong, "-o", &image]);
+    assert_eq!((status, out.as_str()), (1, ""));
+    assert!(!Path::new(&image).exists());
+    let lines: Vec<&str> = err.lines().collect();
+    let place = "open: class 4, thread 2 (reader) point 0 (line 23): not kept by thread 1 (writer) point 1 (line 17)";
+    let run = [
+        place,
+        "  FALSE        a run of 2 steps breaks it",
+        "      1. writer: data := 1   writes 1 behind write 1",
+        "      2. writer: flag := 1   writes 1 behind write 1",
+    ];
+    assert_eq!(lines[..4], run);
+    assert!(err.contains("\n  to           Coming\n"), "names of `let` stay names: {err}");
+    assert!(err.ends_with("1 of 18 obligations are open; no image is written\n"), "{err}");
+}
+
+#[test]
+fn every_wrong_variant_is_told_false() {
+    let folder = PathBuf::from(env!("CARGO_MANIFEST_DIR")).join("../../examples");
+    let mut wrong = 0;
+    for entry in std::fs::read_dir(folder).expect("the examples are there") {
+        let path = entry.expect("readable").path();
+        let name = path.file_stem().expect("named").to_string_lossy().into_owned();
+        if name.contains("-wrong-") {
+            let (status, _, err) = run(&["build", &path.to_string_lossy(), "-o", "-"]);
+            assert!(status == 1 && err.contains("  FALSE        a run of "), "{name}: {err}");
+            wrong += 1;
+        }
+    }
+    assert!(wrong >= 40);
+}
+
+#[test]
+fn what_no_rule_reaches_is_not_told_false() {
+    let (status, _, err) = run(&["build", &example("ticket-wait"), "-o", "-"]);
+    assert_eq!(status, 1);
+    assert!(!err.contains("FALSE"), "{err}");
+    let words = "  not false    no run breaks it (all ";
+    assert!(
+        err.contains(words) && err.contains("states): no rule leads there, as far as"),
+        "{err}"
+    );
+}
+
+const TWO_FAIL: &str = "word x = 0
+thread a
+  { true }
+    x := 1
+  { true }
+proof
+  fact { true } to { false }
+  step a 0: { true } to { true }
+  step a 0: { true } to { a sees [x = 1] }
+";
+
+#[test]
+fn a_partial_image_goes_past_steps_that_fail() {
+    let folder = Folder::new("partial");
+    let (text, image) = (folder.with("two.outline", TWO_FAIL), folder.file("two.image"));
+    let (status, _, err) = run(&["build", &text, "-o", &image]);
+    assert_eq!(status, 1);
+    assert!(err.contains(&format!("{text}:7:3: this step of the proof was not found")), "{err}");
+    assert!(err.contains(&format!("{text}:9:3: this step of the proof was not found")), "{err}");
+    assert!(err.contains("2 named steps were not found, 0 of 2 obligations are open"), "{err}");
+    let (status, out, _) = run(&["build", &text, "-o", &image, "--partial"]);
+    assert!(status == 0 && out.contains("ACCEPTED: 2 obligations met"), "{out}");
+}
+
+#[test]
+fn all_open_obligations_are_told_if_asked_for() {
+    let wrong = example("rrc-two-writers");
+    let full = |args: &[&str]| {
+        let (_, _, err) = run(args);
+        err.lines().filter(|line| line.starts_with("  instruction ")).count()
+    };
+    assert_eq!(full(&["build", &wrong, "-o", "-"]), 3);
+    assert_eq!(full(&["build", &wrong, "-o", "-", "--all"]), 5);
+}
+
+#[test]
+fn check_says_one_line_of_words_and_the_fields() {
+    let folder = Folder::new("check");
+    let image = folder.file("mp.image");
+    run(&["build", &example("message-passing"), "-o", &image]);
+    let (status, out, _) = run(&["check", &image]);
+    let want =
+        format!("{image}: ACCEPTED: 18 obligations met\n  0 0 0 0 0 0 0 0 18   ({})\n", judge());
+    assert_eq!((status, out), (0, want));
+    let wrong = example("message-passing-wrong-1");
+    let (status, out, _) = run(&["check", &wrong]);
+    let want = format!(
+        "{wrong}: REFUSED: class 4, thread 2 (reader) point 0 (line 23) under thread 1 (writer) \
+         point 1 (line 17): it names no line (code 20)\n  20 0 4 2 0 1 1 0 9   ({})\n",
+        judge()
+    );
+    assert_eq!((status, out), (1, want));
+}
+
+#[test]
+fn check_takes_many_files_and_folders() {
+    let folder = Folder::new("many");
+    run(&["build", &example("polling"), "-o", &folder.file("b.image")]);
+    folder.with("a.outline", "word x = 0\nthread a { a sees [x = 0] }\n");
+    folder.with("c.image", "\0");
+    folder.with("notes.txt", "no image");
+    let all = folder.0.to_string_lossy().into_owned();
+    let (status, out, _) = run(&["check", &all]);
+    let lines: Vec<&str> = out.lines().collect();
+    assert_eq!(status, 1);
+    assert!(lines[0].ends_with("a.outline: ACCEPTED: 1 obligation met"), "{out}");
+    assert!(lines[2].ends_with("b.image: ACCEPTED: 22 obligations met"), "{out}");
+    let cut = "c.image: REFUSED: record 1: its length is cut short or past the end (code 3)";
+    assert!(lines[4].ends_with(cut), "{out}");
+    let sum = format!("3 files: 2 accepted, 1 refused, 0 not judged ({})", judge());
+    assert_eq!(lines[6..], [sum]);
+    let (status, out, _) = run(&["check", &folder.file("none.image"), &folder.file("b.image")]);
+    assert!(status == 2 && out.contains("none.image: NOT JUDGED: "), "{out}");
+}
+
+#[test]
+fn standard_input_and_output_are_files_too() {
+    let text = std::fs::read(example("polling")).expect("readable");
+    let image = fed(&["build", "-", "-o", "-"], &text);
+    let (status, out, _) = told(fed(&["check", "-"], &image.stdout));
+    assert!(status == 0 && out.starts_with("-: ACCEPTED: 22 obligations met\n"), "{out}");
+    let (status, out, _) = told(fed(&["check", "--json", "-"], &image.stdout));
+    let want = format!(
+        "{{\"file\":\"-\",\"accepted\":true,\"fields\":[0,0,0,0,0,0,0,0,22],\
+         \"words\":\"ACCEPTED: 22 obligations met\",\"judge\":\"{}\"}}\n",
+        judge()
+    );
+    assert_eq!((status, out), (0, want));
+}
+
+#[test]
+fn show_says_the_verdict_first_and_repairs_nothing() {
+    let text = std::fs::read(example("polling")).expect("readable");
+    let image = fed(&["build", "-", "-o", "-"], &text).stdout;
+    let shown = fed(&["show", "-"], &image);
+    let out = String::from_utf8(shown.stdout.clone()).expect("text");
+    assert!(out.starts_with("# ACCEPTED: 22 obligations met\n# 0 0 0 0 0 0 0 0 22"), "{out}");
+    assert_eq!(fed(&["build", "-", "-o", "-"], &shown.stdout).stdout, image);
+    let (status, out, _) = told(fed(&["show", "-"], &image[..40]));
+    assert!(status == 1 && out.starts_with("# REFUSED: record "), "{out}");
+    assert_eq!(out.lines().count(), 2);
+}
+
+#[test]
+fn explain_tells_lines_rules_and_premises() {
+    let (status, out, _) = run(&["explain", &example("message-passing")]);
+    let lines: Vec<&str> = out.lines().collect();
+    assert_eq!(status, 0);
+    let want = [
+        "1. class 1, thread 1 (writer) point 0 (line 17): given by the start: line 14",
+        "  line 14, rule 20: start gives writer sees one data and writer sees one flag and \
+         reader sees [data = 0] and reader sees one flag = 0",
+        "    line 4, rule 20: start gives writer sees one data",
+        "      line 1, rule 26: start gives writer sees one data = 0",
+        "      line 3, rule 22: writer sees one data = 0 gives writer sees one data",
+        "        line 2, rule 39: one data = 0 in one data",
+    ];
+    assert_eq!(lines[2..8], want);
+    assert_eq!(lines.iter().filter(|l| l.contains(". class ")).count(), 18);
+}
+
+#[test]
+fn explore_tells_runs_prospects_and_bounds() {
+    let (status, out, _) = run(&["explore", &example("message-passing-wrong-1")]);
+    let want = "FALSE: a run of 2 steps breaks an assertion
+  1. writer: data := 1   writes 1 behind write 1
+  2. writer: flag := 1   writes 1 behind write 1
+     then a = 0, b = 0
+     data was written 0, 1
+     flag was written 0, 1
+false: reader at point 0: Coming
+  not so: Coming
+  prospect: (data = 0, flag = 0) then (data = 0, flag = 1) then (data = 1, flag = 1)
+";
+    assert_eq!((status, out.as_str()), (1, want));
+    let (status, out, _) = run(&["explore", &example("message-passing")]);
+    assert_eq!((status, out.lines().last()), (0, Some("these are all states")));
+    let (_, out, _) = run(&["explore", &example("message-passing"), "--steps", "2"]);
+    assert_eq!(out.lines().last(), Some("not all states: cut by --steps"));
+    let (_, out, _) = run(&["explore", &example("message-passing"), "--writes", "1"]);
+    assert_eq!(out.lines().last(), Some("not all states: cut by --writes"));
+}
+
+#[test]
+fn explore_answers_litmus_questions() {
+    let asked = |name: &str, outcome: &str| run(&["explore", &example(name), "--outcome", outcome]);
+    let (status, out, _) = asked("message-passing", "a = 1 and b = 0");
+    assert_eq!(
+        (status, out.as_str()),
+        (0, "never: a = 1 and b = 0 (in 13 states)\nthese are all states\n")
+    );
+    let (status, out, _) = asked("message-passing-wrong-1", "a = 1 and b = 0");
+    assert!(status == 1 && out.starts_with("happens: a = 1 and b = 0, after 4 steps\n"), "{out}");
+    let (status, _, err) = asked("message-passing", "c = 1");
+    assert_eq!(
+        (status, err.as_str()),
+        (2, "--outcome: a value is wanted, but `c` is not declared\n")
+    );
+}
+
+#[test]
+fn wrong_use_and_full_disks_are_never_0() {
+    for args in [&[][..], &["buidl"], &["check"], &["build", "x"], &["check", "--fast", "x"]] {
+        let (status, out, err) = run(args);
+        assert!(status == 2 && out.is_empty() && err.contains("outline"), "{args:?}: {err}");
+    }
+    let (status, out, _) = run(&["--help"]);
+    assert!(status == 0 && out.starts_with("outline build FILE.outline -o FILE.image"), "{out}");
+    let (status, out, _) = run(&["--version"]);
+    assert_eq!((status, out.as_str()), (0, "outline 0.1.0\n"));
+    if Path::new("/dev/full").exists() {
+        let (status, ..) = run(&["build", &example("polling"), "-o", "/dev/full"]);
+        assert_eq!(status, 2);
+        let full = std::fs::OpenOptions::new().write(true).open("/dev/full").expect("opens");
+        let mut check = Command::new(env!("CARGO_BIN_EXE_outline"));
+        let status = check.args(["check", &example("polling")]).stdout(full).status();
+        assert_eq!(status.expect("run").code(), Some(2));
+    }
+}
+
+#[test]
+fn each_command_speaks_json() {
+    let folder = Folder::new("json");
+    let (text, image) = (example("polling"), folder.file("p.image"));
+    let fields = "\"fields\":[0,0,0,0,0,0,0,0,22],\"words\":\"ACCEPTED: 22 obligations met\"";
+    let cases: [(&[&str], &str); 5] = [
+        (&["build", &text, "-o", &image], "{\"accepted\":true,\"fields\":[0,0,0,0,0,0,0,0,22],"),
+        (&["check", &image], fields),
+        (&["show", &image], fields),
+        (&["explain", &text], fields),
+        (&["explore", &text, "--steps", "8"], "\"answer\":\"holds\",\"told\":[\"holds in "),
+    ];
+    for (args, words) in cases {
+        let (status, out, err) = run(&[args, &["--json"][..]].concat());
+        assert_eq!((status, out.lines().count(), err.as_str()), (0, 1, ""), "{args:?}");
+        assert!(out.starts_with('{') && out.ends_with("}\n") && out.contains(words), "{out}");
+    }
+}

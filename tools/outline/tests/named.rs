@@ -1,0 +1,167 @@
+//! What the writer names is used first and chains; the search ends after a number of tries.
+
+use outline::build::{build, build_within, Built};
+use outline::search::prover::Prover;
+use outline::text::parse_source::parse;
+use outline::text::source::{Hint, Source};
+use reference::checker::check;
+use reference::checker::obligations::{duties, Duty};
+use reference::formula::{Assertion, Test, Value};
+use reference::image::Statement;
+use std::path::PathBuf;
+use std::rc::Rc;
+
+fn example(name: &str) -> Source {
+    let folder = PathBuf::from(env!("CARGO_MANIFEST_DIR")).join("../../examples");
+    let text = std::fs::read_to_string(folder.join(format!("{name}.outline"))).expect("an example");
+    let mut source = parse(&text).expect("well formed");
+    source.hints.clear();
+    source
+}
+
+fn named(statement: Statement) -> Hint {
+    Hint { statement, rule: None, middle: None, line: 1.into() }
+}
+
+/// For each class 4 obligation the step that keeps the assertion and leads the actor on.
+fn steps_about_two_threads(source: &Source) -> Vec<Hint> {
+    let program = source.program();
+    let mut hints = Vec::new();
+    for duty in duties(&program.threads) {
+        let (Duty::Kept { actor, action, .. }, Statement::Triple { thread, point, left, right }) =
+            (duty, duty.wanted(&program))
+        else {
+            continue;
+        };
+        let next = program.assertion(actor, action + 1).clone();
+        let right = Rc::new(Assertion::both(right, next));
+        hints.push(named(Statement::Triple { thread, point, left, right }));
+    }
+    hints
+}
+
+fn found(text: &str) -> Built {
+    build(&parse(text).expect("well formed")).unwrap_or_else(|e| panic!("{e}"))
+}
+
+#[test]
+fn many_named_steps_do_not_slow_the_search() {
+    for name in ["store-buffering", "coherence", "parity"] {
+        let mut source = example(name);
+        let alone = build(&source).expect("no hints");
+        source.hints = steps_about_two_threads(&source);
+        source.hints.truncate(16);
+        let with = build(&source).expect("each step is found");
+        assert!(source.hints.len() >= 12 && with.open.is_empty(), "{name}");
+        assert!(with.tries < 4 * alone.tries, "{name}: {} for {}", with.tries, alone.tries);
+        assert_eq!(check(&with.image.bytes()).code, 0, "{name}");
+    }
+}
+
+#[test]
+fn obligations_that_are_named_are_not_searched_twice() {
+    for name in ["store-buffering", "ticket-lock"] {
+        let mut source = example(name);
+        let alone = build(&source).expect("no hints");
+        let program = source.program();
+        let triple = |s: &Statement| matches!(s, Statement::Triple { .. });
+        let all = duties(&program.threads).into_iter().map(|d| d.wanted(&program)).filter(triple);
+        source.hints = all.map(named).collect();
+        let with = build(&source).expect("each step is found");
+        assert!(with.open.is_empty() && with.tries < 2 * alone.tries, "{name}: {}", with.tries);
+    }
+}
+
+#[test]
+fn the_search_ends_after_so_many_tries() {
+    let source = example("message-passing");
+    let cut = build_within(&source, 50).expect("no hints");
+    assert!(!cut.open.is_empty() && cut.most_tries <= 50);
+    let told: Vec<&String> = cut.open.iter().flat_map(|o| &o.tried).collect();
+    assert!(told.iter().any(|t| *t == "given up     after 50 tries"), "{told:?}");
+    let again = build_within(&source, 50).expect("no hints");
+    assert_eq!((cut.image, cut.tries), (again.image, again.tries));
+}
+
+const TWO_WORDS: &str = "word x = 0\nword y = 0\nthread a registers r { true } x := 1 { true }\n\
+    thread b { true }\nproof\n";
+
+#[test]
+fn halves_that_are_named_make_the_whole() {
+    // No rule leads to a test of two words that the store changes one of; of each word alone rules 6 and 1 do.
+    let whole = "step a 0: { a sees one x and a sees [y = 2] } to { a sees [x + y = 3] }\n";
+    let halves = "step a 0: { a sees one x } to { a sees [x = 1] }\n\
+        step a 0: { a sees [y = 2] } to { a sees [y = 2] }\n";
+    let alone = parse(&format!("{TWO_WORDS}{whole}")).expect("well formed");
+    assert!(build(&alone).expect_err("beyond the search").text.contains("not found"));
+    assert!(found(&format!("{TWO_WORDS}{halves}{whole}")).open.is_empty());
+    let facts = "fact { r = 1 } to { r = 1 or r = 2 }\nfact { r = 1 or r = 2 } to { r < 3 }\n\
+        fact { r = 1 and b sees one y } to { r < 3 and b sees one y }\n";
+    assert!(found(&format!("{TWO_WORDS}{facts}")).open.is_empty());
+    let parts = "part [x = 1] in [x = 1] ; [x = 2]\npart [x = 1] ; [x = 2] in [x < 3]\n\
+        part one x = 1 in [x < 3] by 31 through [x = 1]\n";
+    assert!(found(&format!("{TWO_WORDS}{parts}")).open.is_empty());
+}
+
+/// A fact that rests on another one takes a few tries, where alone it takes as many as the first.
+#[test]
+fn facts_that_are_named_are_used_first() {
+    let source = example("store-buffering");
+    let program = source.program();
+    let last = |thread: u8| program.assertion(thread, 3).clone();
+    let ends = Rc::new(Assertion::both(last(1), last(2)));
+    let says = |right: Assertion| {
+        named(Statement::Implication { left: ends.clone(), right: right.into() })
+    };
+    let read = |register: u8| Test::equal(Value::Register(register), Value::Constant(1));
+    let first = says(Assertion::either(Assertion::holds(read(2)), Assertion::holds(read(4))));
+    let second = says(Assertion::holds(Test::or(read(2), read(4))));
+    let tries = |hints: &[&Hint]| {
+        let mut prover = Prover::new(&program, source.names.clone());
+        let mut before = 0;
+        for hint in hints {
+            before = prover.budget.made().0;
+            let line = prover.hinted(hint).expect("found");
+            prover.forget_failures(&hint.statement);
+            prover.facts.push(line);
+        }
+        prover.budget.made().0 - before
+    };
+    assert!(tries(&[&second]) > 100);
+    assert!(tries(&[&first, &second]) < 10);
+}
+
+#[test]
+fn the_middle_of_rule_16_is_named() {
+    let step = "step a 0: { a sees one x and b sees one y } to { a sees [x = 1] } \
+        by 16 through { a sees one x } to { a sees one x = 1 }\n";
+    assert!(found(&format!("{TWO_WORDS}{step}")).open.is_empty());
+    let wrong = step.replace("through { a sees one x }", "through { a sees one y }");
+    let source = parse(&format!("{TWO_WORDS}{wrong}")).expect("well formed");
+    assert!(build(&source).expect_err("not so").text.contains("not found by rule 16"));
+    let misplaced = step.replace("by 16", "by 6");
+    let mistake = parse(&format!("{TWO_WORDS}{misplaced}")).expect_err("only 16 and 31");
+    assert_eq!(mistake.text, "only `by 16` and `by 31` have formulas in the middle");
+}
+
+#[test]
+fn the_swapped_word_may_stand_in_the_tail() {
+    let text = "word lock = 0\nword count = 0\nthread a\n\
+        { a sees [unsync lock] ; (one lock = 0 & one count = 1) } swap lock := 1 { a sees one count }\n";
+    let built = found(text);
+    // The start does not give the first point; the step is found all the same.
+    assert_eq!(built.open.len(), 1);
+    assert_eq!(built.open[0].duty, Duty::Start { thread: 1 });
+}
+
+#[test]
+fn formulas_of_instructions_have_their_limits() {
+    let sum = |terms: usize| {
+        let sum = ["1"].repeat(terms).join(" + ");
+        parse(&format!("word data = 0\nthread a {{ true }}\n data := {sum}\n {{ true }}"))
+    };
+    assert_eq!(check(&build(&sum(16).expect("fits")).expect("no hints").image.bytes()).code, 0);
+    let mistake = sum(17).expect_err("too deep");
+    let words = "formula of 50 bytes and nesting 17; 255 bytes and nesting 16 are the most";
+    assert_eq!((mistake.line.line, mistake.text.as_str()), (3, words));
+}
