@@ -9,11 +9,8 @@ use Rattle.logic.specs.Base.{All, Within}
 use Rattle.logic.specs.Machine.{Program, Instr, Instr.act, Instr.branch}
 use Rattle.logic.specs.Statement.{isBranch}
 use Rattle.logic.specs.Obligations.{Obligation, Obligation.start, below, upTo, flat, own, acting, instructed, asserted, assertions, starts, steps, interferences, obligations}
+use Rattle.logic.proofs.Reordered.{All-join}
 use Rattle.wanted.proofs.Asked.{InRange}
-
-all-append : {A : Type 0} (Q : A → Type 0) (l m : List A) → All Q l → All Q m → All Q (l ++ m)
-all-append Q [] m h g = g
-all-append Q (a ∷ l) m h g = (h .0, all-append Q l m (h .1) g)
 
 all-map : {A B : Type 0} (Q : B → Type 0) (f : A → B) (l : List A) → All (λ a. Q (f a)) l → All Q (map f l)
 all-map Q f [] h = tt
@@ -21,11 +18,11 @@ all-map Q f (a ∷ l) h = (h .0, all-map Q f l (h .1))
 
 all-flat : {A B : Type 0} (Q : B → Type 0) (f : A → List B) (l : List A) → All (λ a. All Q (f a)) l → All Q (flat f l)
 all-flat Q f [] h = tt
-all-flat Q f (a ∷ l) h = all-append Q (f a) (flat f l) (h .0) (all-flat Q f l (h .1))
+all-flat Q f (a ∷ l) h = All-join Q (f a) (flat f l) (h .0) (all-flat Q f l (h .1))
 
 all-below : (Q : ℕ → Type 0) (n : ℕ) → ((k : ℕ) → k < n → Q k) → All Q (below n)
 all-below Q zero h = tt
-all-below Q (suc n) h = all-append Q (below n) (n ∷ []) (all-below Q n (λ k b. h k (omega arith))) (h n (omega arith), tt)
+all-below Q (suc n) h = All-join Q (below n) (n ∷ []) (all-below Q n (λ k b. h k (omega arith))) (h n (omega arith), tt)
 
 all-up : (Q : ℕ → Type 0) (n : ℕ) → ((k : ℕ) → Within n k → Q k) → All Q (upTo n)
 all-up Q n h = all-map Q suc (below n) (all-below (λ k. Q (suc k)) n (λ k b. h (suc k) (omega arith, omega arith)))
@@ -69,5 +66,5 @@ module _ (P : Program) where
 
   pub obligations-ranged : All Fine (obligations P)
   obligations-ranged =
-      all-append Fine (starts P) (steps P ++ interferences P) (all-map Fine start (upTo (P .threads)) (all-up (λ t. Fine (start t)) (P .threads) (λ t w. w)))
-      (all-append Fine (steps P) (interferences P) steps-ranged interferences-ranged)
+      All-join Fine (starts P) (steps P ++ interferences P) (all-map Fine start (upTo (P .threads)) (all-up (λ t. Fine (start t)) (P .threads) (λ t w. w)))
+      (All-join Fine (steps P) (interferences P) steps-ranged interferences-ranged)
