@@ -20,6 +20,7 @@ pub mod Steps
 pub mod Sound
 pub mod Runs
 pub mod Starts
+pub mod Pairs
 pub mod Reordered
 pub mod Order
 pub mod Permitted
