@@ -25,6 +25,7 @@ pub mod Reordered
 pub mod Order
 pub mod Permitted
 pub mod Computed
+pub mod Paired
 pub mod Flags
 pub mod Meaning
 pub mod Facts
