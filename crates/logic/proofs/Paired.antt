@@ -1,4 +1,5 @@
--- A computed run with pairs and two assignments at once, worked out by hand: an access and its notes are one step, and every formula is worked out before it.
+-- A computed run with pairs and two assignments at once, worked out by hand: an access and its notes are one step,
+-- and every formula is worked out before it.
 use mathlib.Core.Path.{_≡_, refl}
 use mathlib.Core.Bool.{true, false, not}
 use mathlib.Core.List.{List, [], _∷_, map}
@@ -16,7 +17,8 @@ use Rattle.logic.proofs.Computed.{yes-no, draw, picture, write-of, by, 
 unfoldable pub note : ℕ → Value → Note
 note r f = record { to = r; by = f }
 
--- Register 2 starts anywhere, registers 1 and 3 at 0. Thread 1 stores register 1 + 3 to word 1 and notes register 1 := register 1 + (register 2 + 3);
+-- Register 2 starts anywhere, registers 1 and 3 at 0.
+-- Thread 1 stores register 1 + 3 to word 1 and notes register 1 := register 1 + (register 2 + 3);
 -- stores register 2 to word 2, releasing, and notes register 2 := register 2 + register 1; trades registers 1 and 2
 unfoldable pub trader : List Instr
 trader =
@@ -25,7 +27,8 @@ trader =
     ∷ act none (note 1 (reg 2) ∷ note 2 (reg 1) ∷ [])
     ∷ []
 
--- Thread 2 swaps register 3 + 1 into word 2 and notes register 3 := register 3 + 6; swaps register 3 into it and notes register 3 := register 3 + 4
+-- Thread 2 swaps register 3 + 1 into word 2 and notes register 3 := register 3 + 6;
+-- swaps register 3 into it and notes register 3 := register 3 + 4
 unfoldable pub swapper : List Instr
 swapper =
     act (write swap 2 (sum (reg 3) (const 1))) (note 3 (sum (reg 3) (const 6)) ∷ [])
