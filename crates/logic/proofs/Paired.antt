@@ -6,8 +6,8 @@ use mathlib.Core.List.{List, [], _∷_, map}
 use Prim.Native.Nat.{ℕ}
 use lib.Dec.{eqb}
 use Rattle.logic.specs.Base.{upd}
-use Rattle.logic.specs.Formula.{Value, Formula.const, Formula.reg, Formula.sum, Formula.bothA}
-use Rattle.logic.specs.Replace.{Note}
+use Rattle.logic.specs.Formula.{Value, Formula.const, Formula.reg, Formula.sum, Formula.less, Formula.bothA, Formula.holds}
+use Rattle.logic.specs.Replace.{Note, replace, notes}
 use Rattle.logic.specs.Machine.{Program, Mode.store, Mode.swap, Access.none, Access.write, Instr, Instr.act, Step, begin, run, up, down}
 use Rattle.logic.specs.Statement.{triple, pair}
 use Rattle.logic.specs.Obligations.{step, interference, interferences, wants}
@@ -76,6 +76,11 @@ traded = refl
 before-trade : map (run paired (begin paired (λ r. 12)) (by 1 0 ∷ by 1 0 ∷ []) .reg) (1 ∷ 2 ∷ 3 ∷ []) ≡ 7 ∷ 3 ∷ 0 ∷ []
 unfolding by nothing at-points note trader swapper paired upd up down
 before-trade = refl
+
+-- REPLACEMENT of both at once: what the trade takes to register 1 < register 2
+at-once : replace (notes (note 1 (reg 2) ∷ note 2 (reg 1) ∷ [])) (holds (less (reg 1) (reg 2))) ≡ holds (less (reg 2) (reg 1))
+unfolding note upd
+at-once = refl
 
 -- WHAT IS WANTED: of a pair, a statement about its whole; of two assignments, a triple
 pair-wanted : (O : Outline) → wants paired O (step 1 1) ≡ pair 1 1 (O 1 1) (O 1 2)
