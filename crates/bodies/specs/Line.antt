@@ -13,7 +13,7 @@ use Rattle.formula.specs.Codes as Codes
 use Rattle.formula.specs.Reader.{sortOf}
 use Rattle.program.specs.declared.sizes.Sizes.{Sizes}
 use Rattle.records.specs.declared.line.Form.{Form}
-use Rattle.records.specs.declared.line.Form.the-variants.{Triple, Implication, Inclusion, Unlisted}
+use Rattle.records.specs.declared.line.Form.the-variants.{Triple, Implication, Inclusion, Pair, Unlisted}
 use Rattle.records.specs.Line.{formOf, lineNumbers}
 use Rattle.bodies.specs.Lists.{outlinedAt}
 
@@ -25,6 +25,7 @@ unfoldable pub sortedBy : List (List ℕ) → Form → ℕ → Bool
 sortedBy l Triple k = outlinedAt l k
 sortedBy l Implication k = sortAt l Codes.assertion k
 sortedBy l Inclusion k = sortAt l Codes.interval k
+sortedBy l Pair k = outlinedAt l k
 sortedBy l Unlisted k = true
 
 unfoldable pub lineSorted : List (List ℕ) → List ℕ → Bool

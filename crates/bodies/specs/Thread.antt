@@ -2,7 +2,7 @@
 use mathlib.Core.Bool.{Bool, true, not, _&&_, cond}
 use mathlib.Core.List.{List, []}
 use Prim.Native.Nat.{ℕ}
-use lib.Dec.{eqb, leb}
+use lib.Dec.{eqb, ltb, leb}
 use lib.ListN.{getD}
 use Rattle.logic.specs.Opcode as Opcode
 use Rattle.limits.specs.Numbers.{nth, every}
@@ -22,27 +22,41 @@ use Rattle.bodies.specs.Use.{treeOf, plainOf}
 unfoldable pub wanted : ℕ → ℕ
 wanted op = cond (eqb op Opcode.branch) Codes.test Codes.value
 
--- 8: of its sort, without 2, 14, 15. Formula k is body k of the image; a load has none
+-- 8: of its sort, without 2, 14, 15. Formula k is body k of the image; 0 where there is none
+unfoldable pub formulaSorted : List (List ℕ) → ℕ → ℕ → Bool
+formulaSorted l sort k = cond (eqb k 0) true (plainOf sort (getD l k []))
+
+-- of both halves
 unfoldable pub sorted : List (List ℕ) → Instruction → Bool
-sorted l i = cond (eqb (i .formula) 0) true (plainOf (wanted (i .operation)) (getD l (i .formula) []))
+sorted l i = formulaSorted l (wanted (i .operation)) (i .formula) && formulaSorted l Codes.value (i .second .formula)
 
--- 9: assignments and loads set a register of the thread, and so do exchange and fetch-add
-unfoldable pub targetOwned : List (List ℕ) → ℕ → Instruction → Bool
-targetOwned l t i =
-    cond (leb (i .operation) Opcode.acquire) (eqb (nth (owners (getD l 0 [])) (i .a) 0) t)
-    (cond (leb (i .operation) Opcode.branch) true
-    (eqb (nth (owners (getD l 0 [])) (i .b) 0) t))
+-- the register that it sets by itself: of assignments and loads, of exchange and fetch-add; 0 for none
+unfoldable pub target : Instruction → ℕ
+target i =
+    cond (leb (i .operation) Opcode.acquire) (i .a)
+    (cond (leb (i .operation) Opcode.branch) 0
+    (cond (leb (i .operation) Opcode.fetchAdd) (i .b)
+    (cond (leb (i .operation) Opcode.pairSwap) 0 (i .a))))
 
--- and formulas are over its registers
-unfoldable pub formulaOwned : List (List ℕ) → ℕ → Instruction → Bool
-formulaOwned l t i = cond (eqb (i .formula) 0) true (not (occurs (foreign t) (owners (getD l 0 [])) (treeOf (getD l (i .formula) []))))
+-- 9: it is the thread's, and formulas are over its registers
+unfoldable pub registerOwned : List (List ℕ) → ℕ → ℕ → Bool
+registerOwned l t r = cond (eqb r 0) true (eqb (nth (owners (getD l 0 [])) r 0) t)
 
+unfoldable pub formulaOwned : List (List ℕ) → ℕ → ℕ → Bool
+formulaOwned l t k = cond (eqb k 0) true (not (occurs (foreign t) (owners (getD l 0 [])) (treeOf (getD l k []))))
+
+-- of both halves
 unfoldable pub owned : List (List ℕ) → ℕ → Instruction → Bool
-owned l t i = targetOwned l t i && formulaOwned l t i
+owned l t i =
+    registerOwned l t (target i)
+    && (formulaOwned l t (i .formula) && (registerOwned l t (i .second .a) && formulaOwned l t (i .second .formula)))
 
 -- 23: the operand of an exchange or a fetch-add does not name the result register
 unfoldable pub resultAbsent : List (List ℕ) → Instruction → Bool
-resultAbsent l i = cond (leb (i .operation) Opcode.branch) true (not (occurs (register (i .b)) [] (treeOf (getD l (i .formula) []))))
+resultAbsent l i =
+    cond (leb (i .operation) Opcode.branch) true
+    (cond (ltb Opcode.fetchAdd (i .operation)) true
+    (not (occurs (register (i .b)) [] (treeOf (getD l (i .formula) [])))))
 
 -- 9, then 23
 unfoldable pub threadRegisters : List (List ℕ) → ℕ → List ℕ → Checked

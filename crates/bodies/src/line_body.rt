@@ -39,6 +39,7 @@ fn formula_fits<'a, 'b, 'c>(
         Form::Triple => formula_outlined(s, ix, on, z, k),
         Form::Implication => formula_of_sort(s, ix, Place::ASSERTION, k),
         Form::Inclusion => formula_of_sort(s, ix, Place::INTERVAL, k),
+        Form::Pair => formula_outlined(s, ix, on, z, k),
         Form::Unlisted => true,
     }
 }

@@ -18,7 +18,7 @@ ghost use mathlib.Core.Path.{_≡_};
 ghost use Rattle.limits.specs.Numbers.{every};
 ghost use Rattle.frames.specs.Records.{bodies, indexOf};
 ghost use Rattle.program.specs.Thread.{instructions};
-ghost use Rattle.bodies.specs.Thread.{wanted, sorted, targetOwned, formulaOwned, owned, resultAbsent, threadRegisters, thread};
+ghost use Rattle.bodies.specs.Thread.{wanted, formulaSorted, sorted, target, registerOwned, formulaOwned, owned, resultAbsent, threadRegisters, thread};
 
 // The sort of an instruction's formula.
 fn wanted_sort(operation: u8) -> u8
@@ -30,42 +30,69 @@ fn wanted_sort(operation: u8) -> u8
     Place::VALUE
 }
 
-// The instruction's formula, if it has one, is of the wanted sort over registers alone.
+// Formula k, if there is one, is of the sort over registers alone.
+fn formula_sorted<'a, 'b>(s: &'a [u8], ix: &'b [usize], sort: u8, k: usize) -> bool
+    requires { ⌜ now ix ≡ indexOf (now s) ⌝ }
+    ensures { λ r. ⌜ r ≡ formulaSorted (bodies (now (s .entry))) sort k ⌝ }
+{
+    if k == 0 {
+        return true;
+    }
+    let b = body_of(s, ix, k);
+    is_plain_of(b, sort)
+}
+
+// The formulas of both halves.
 fn instruction_sorted<'a, 'b>(s: &'a [u8], ix: &'b [usize], i: Instruction) -> bool
     requires { ⌜ now ix ≡ indexOf (now s) ⌝ }
     ensures { λ r. ⌜ r ≡ sorted (bodies (now (s .entry))) i ⌝ }
 {
-    if i.formula == 0 {
-        return true;
+    if formula_sorted(s, ix, wanted_sort(i.operation), i.formula) {
+        return formula_sorted(s, ix, Place::VALUE, i.second.formula);
     }
-    let b = body_of(s, ix, i.formula);
-    is_plain_of(b, wanted_sort(i.operation))
+    false
 }
 
-// The register that is set, if there is one, is the thread's.
-fn target_owned<'a, 'b>(s: &'a [u8], ix: &'b [usize], t: u8, i: Instruction) -> bool
-    requires { ⌜ now ix ≡ indexOf (now s) ⌝ }
-    ensures { λ r. ⌜ r ≡ targetOwned (bodies (now (s .entry))) t i ⌝ }
+// The register that an instruction sets by itself; 0 for none.
+fn target_of(i: Instruction) -> u8
+    ensures { λ r. ⌜ r ≡ target i ⌝ }
 {
-    let h = body_of(s, ix, 0);
     if i.operation <= Instruction::ACQUIRE {
-        return owner_of(h, i.a as usize) == (t as usize);
+        return i.a;
     }
     if i.operation <= Instruction::BRANCH {
-        return true;
+        return 0;
     }
-    owner_of(h, i.b as usize) == (t as usize)
+    if i.operation <= Instruction::FETCH_ADD {
+        return i.b;
+    }
+    if i.operation <= Instruction::PAIR_SWAP {
+        return 0;
+    }
+    i.a
 }
 
-// The registers of the formula, if there is one, are the thread's.
-fn formula_owned<'a, 'b>(s: &'a [u8], ix: &'b [usize], t: u8, i: Instruction) -> bool
+// Register r, if there is one, is the thread's.
+fn register_owned<'a, 'b>(s: &'a [u8], ix: &'b [usize], t: u8, r: u8) -> bool
     requires { ⌜ now ix ≡ indexOf (now s) ⌝ }
-    ensures { λ r. ⌜ r ≡ formulaOwned (bodies (now (s .entry))) t i ⌝ }
+    ensures { λ q. ⌜ q ≡ registerOwned (bodies (now (s .entry))) t r ⌝ }
 {
-    if i.formula == 0 {
+    if r == 0 {
         return true;
     }
-    let b = body_of(s, ix, i.formula);
+    let h = body_of(s, ix, 0);
+    owner_of(h, r as usize) == (t as usize)
+}
+
+// The registers of formula k, if there is one, are the thread's.
+fn formula_owned<'a, 'b>(s: &'a [u8], ix: &'b [usize], t: u8, k: usize) -> bool
+    requires { ⌜ now ix ≡ indexOf (now s) ⌝ }
+    ensures { λ r. ⌜ r ≡ formulaOwned (bodies (now (s .entry))) t k ⌝ }
+{
+    if k == 0 {
+        return true;
+    }
+    let b = body_of(s, ix, k);
     let h = body_of(s, ix, 0);
     let owners = owners_of(h);
     if has_foreign(b, 0, Limits::NESTING, t, owners) {
@@ -74,12 +101,17 @@ fn formula_owned<'a, 'b>(s: &'a [u8], ix: &'b [usize], t: u8, i: Instruction) ->
     true
 }
 
+// The registers of both halves.
 fn instruction_owned<'a, 'b>(s: &'a [u8], ix: &'b [usize], t: u8, i: Instruction) -> bool
     requires { ⌜ now ix ≡ indexOf (now s) ⌝ }
     ensures { λ r. ⌜ r ≡ owned (bodies (now (s .entry))) t i ⌝ }
 {
-    if target_owned(s, ix, t, i) {
-        return formula_owned(s, ix, t, i);
+    if register_owned(s, ix, t, target_of(i)) {
+        if formula_owned(s, ix, t, i.formula) {
+            if register_owned(s, ix, t, i.second.a) {
+                return formula_owned(s, ix, t, i.second.formula);
+            }
+        }
     }
     false
 }
@@ -90,6 +122,9 @@ fn result_absent<'a, 'b>(s: &'a [u8], ix: &'b [usize], i: Instruction) -> bool
     ensures { λ r. ⌜ r ≡ resultAbsent (bodies (now (s .entry))) i ⌝ }
 {
     if i.operation <= Instruction::BRANCH {
+        return true;
+    }
+    if Instruction::FETCH_ADD < i.operation {
         return true;
     }
     let b = body_of(s, ix, i.formula);

@@ -22,8 +22,8 @@ use Rattle.logic.specs.Statement.{Statement, half, isImp}
 use Rattle.patterns.specs.Pattern
 use Rattle.patterns.specs.Pattern.{Num, Pattern, Given, Fill, number, inst}
 use Rattle.patterns.specs.Rules
-use Rattle.logic.specs.Rule.{Rule, r1, r2, r3, r4, r5, r6, r7, r8, r9, r10, r11, r12, r13, r14, r15, r16, r20, r21, r22, r23, r24, r25, r26, r27, r30, r31, r32, r33, r34, r35, r36, r37, r38, r39, r40, r41, r42, r43, r44, r45, r46, r47, r48, r49}
-use Rattle.patterns.specs.Rules.{Shape, Shape.inside, Shape.implies, Shape.triple, Premises, these, implications, By, by-notes, r-by-x, x-by-f, Side, _is_with_, start-of, is-new, kept, lacks-x, no-flag, by-rows, by-table, Row, row}
+use Rattle.logic.specs.Rule.{Rule, r1, r2, r3, r4, r5, r6, r7, r8, r9, r10, r11, r12, r13, r14, r15, r16, r20, r21, r22, r23, r24, r25, r26, r27, r30, r31, r32, r33, r34, r35, r36, r37, r38, r39, r40, r41, r42, r43, r44, r45, r46, r47, r48, r49, r50}
+use Rattle.patterns.specs.Rules.{Shape, Shape.inside, Shape.implies, Shape.triple, Shape.pair, Premises, these, implications, By, by-notes, r-by-x, x-by-f, Side, _is_with_, start-of, is-new, kept, lacks-x, no-flag, by-rows, by-table, Row, row}
 use Rattle.logic.specs.Inference.{keeps}
 use Rattle.patterns.specs.Fits.{isAmong, opcode, wordOf, regOf, formulaOf, apartOf, freshOf, notesOf, threadOf, pointOf, given, by, filled, filledAll, sideHolds, operationFits, found, fits}
 use Rattle.logic.proofs.Base.{bool-ext, and-left, and-right, and-both, all-All}
@@ -43,7 +43,7 @@ use Rattle.trees.proofs.Replace.{toTree-reg, toTree-word, toTree-notes}
 use Rattle.trees.proofs.Occurs
 use Rattle.trees.proofs.Occurs.{no-register, no-word}
 use Rattle.rows.proofs.Link.{impToTree, toTree-rows, toTree-table}
-use Rattle.matcher.specs.Template.{firstHole, firstNumber, formulaHole, numHole, patternToTree, Holes, instT, fillOf}
+use Rattle.matcher.specs.Template.{shapes, firstHole, firstNumber, formulaHole, numHole, patternToTree, Holes, instT, fillOf}
 use Rattle.matcher.specs.Match.{Taken, andThen, when, matchT}
 use Rattle.certificate.specs.FitT
 use Rattle.certificate.specs.FitT.{inclusion, implication, hoare, TreeConclusion, concluded, Acting, acting, formOf, leftOf, rightOf, placed, matchSides, matchLine, matchAll, isImplication, matchPremises, preset, orElse, holesFrom, replacing, apartT, keepsT, freshT, sideT, operationT, setup, restT, answer, fitsAt, fitsT}
@@ -135,6 +135,7 @@ imp-concluded : (s : Statement) → isImplication (concluded s) ≡ isImp s
 imp-concluded (Statement.inside a b) = refl
 imp-concluded (Statement.implies a b) = refl
 imp-concluded (Statement.triple j m a b) = refl
+imp-concluded (Statement.pair j m a b) = refl
 
 all-imp-concluded : (ps : List Statement) → all isImplication (map concluded ps) ≡ all isImp ps
 all-imp-concluded [] = refl
@@ -150,31 +151,45 @@ imps-concluded [] h = refl
 imps-concluded (Statement.inside a b ∷ ps) h = absurd h
 imps-concluded (Statement.implies a b ∷ ps) h = ap (λ (l : List ImpT). impToTree (record { left = a; right = b }) ∷ l) (imps-concluded ps h)
 imps-concluded (Statement.triple j m a b ∷ ps) h = absurd h
+imps-concluded (Statement.pair j m a b ∷ ps) h = absurd h
 
 -- the constants of its formulas are values
 abbrev pub boundedSides : ℕ → Statement → Bool
 boundedSides R (Statement.inside a b) = bounded R a && bounded R b
 boundedSides R (Statement.implies a b) = bounded R a && bounded R b
 boundedSides R (Statement.triple j m a b) = bounded R a && bounded R b
+boundedSides R (Statement.pair j m a b) = bounded R a && bounded R b
 
 module _ (P : Program) (i k : ℕ) (c : Holes) (ag : Agrees (given P i k) c) where
+  -- of an instruction: the same place and the same sides
+  placed-from : (form : ℕ → ℕ → Assertion → Assertion → Statement) (p q : Pattern Sort.assertion) (j l : ℕ) (a b : Assertion) → T (eqb j i && eqb l k)
+      → instT c (patternToTree p) ≡ toTree a → instT c (patternToTree q) ≡ toTree b
+      → form i k (inst (given P i k) (fillOf c) p) (inst (given P i k) (fillOf c) q) ≡ form j l a b
+  placed-from form p q j l a b h e d =
+      go (eqb→eq j i (and-left (eqb j i) (eqb l k) h)) (eqb→eq l k (and-right (eqb j i) (eqb l k) h)) (from-tree (given P i k) c ag p a e) (from-tree (given P i k) c ag q b d)
+    where
+      go : j ≡ i → l ≡ k → inst (given P i k) (fillOf c) p ≡ a → inst (given P i k) (fillOf c) q ≡ b
+          → form i k (inst (given P i k) (fillOf c) p) (inst (given P i k) (fillOf c) q) ≡ form j l a b
+      go x y z w = cc
+
   -- a line that fits is the shape filled
   says-from : (m : Shape) (s : Statement) → Fits c i k m (concluded s) → filled P i k (fillOf c) m ≡ s
   says-from (inside p q) (Statement.inside a b) f = ap₂ Statement.inside (from-tree (given P i k) c ag p a (f .left)) (from-tree (given P i k) c ag q b (f .right))
   says-from (inside p q) (Statement.implies a b) f = absurd (f .placed)
   says-from (inside p q) (Statement.triple j l a b) f = absurd (f .placed)
+  says-from (inside p q) (Statement.pair j l a b) f = absurd (f .placed)
   says-from (implies p q) (Statement.inside a b) f = absurd (f .placed)
   says-from (implies p q) (Statement.implies a b) f = ap₂ Statement.implies (from-tree (given P i k) c ag p a (f .left)) (from-tree (given P i k) c ag q b (f .right))
   says-from (implies p q) (Statement.triple j l a b) f = absurd (f .placed)
+  says-from (implies p q) (Statement.pair j l a b) f = absurd (f .placed)
   says-from (triple p q) (Statement.inside a b) f = absurd (f .placed)
   says-from (triple p q) (Statement.implies a b) f = absurd (f .placed)
-  says-from (triple p q) (Statement.triple j l a b) f =
-      go (eqb→eq j i (and-left (eqb j i) (eqb l k) (f .placed))) (eqb→eq l k (and-right (eqb j i) (eqb l k) (f .placed)))
-      (from-tree (given P i k) c ag p a (f .left)) (from-tree (given P i k) c ag q b (f .right))
-    where
-      go : j ≡ i → l ≡ k → inst (given P i k) (fillOf c) p ≡ a → inst (given P i k) (fillOf c) q ≡ b
-          → Statement.triple i k (inst (given P i k) (fillOf c) p) (inst (given P i k) (fillOf c) q) ≡ Statement.triple j l a b
-      go x y z w = cc
+  says-from (triple p q) (Statement.triple j l a b) f = placed-from Statement.triple p q j l a b (f .placed) (f .left) (f .right)
+  says-from (triple p q) (Statement.pair j l a b) f = absurd (f .placed)
+  says-from (pair p q) (Statement.inside a b) f = absurd (f .placed)
+  says-from (pair p q) (Statement.implies a b) f = absurd (f .placed)
+  says-from (pair p q) (Statement.triple j l a b) f = absurd (f .placed)
+  says-from (pair p q) (Statement.pair j l a b) f = placed-from Statement.pair p q j l a b (f .placed) (f .left) (f .right)
 
   all-from : (l : List Shape) (ps : List Statement) → FitAll c i k l (map concluded ps) → filledAll P i k (fillOf c) l ≡ ps
   all-from [] [] f = refl
@@ -232,17 +247,18 @@ module _ (P : Program) (i k : ℕ) (σ : Fill) (d : Holes) (two : 2 ≤ P .range
   g = given P i k
 
   abbrev a : Acting
-  a = acting (half P i k)
+  a = acting (P .code i k)
 
   replaced-same : {s : Sort} (b : By) (f h : Formula s) → sameTree (replaceT (replacing a b) (toTree f)) (toTree h) ≡ same h (replace (by P i k b) f)
-  replaced-same by-notes f h = as-formula (notes (notesOf (half P i k))) f h (toTree-notes (notesOf (half P i k)) f)
+  replaced-same by-notes f h = as-formula (notes (notesOf (P .code i k))) f h (toTree-notes (notesOf (P .code i k)) f)
   replaced-same r-by-x f h = as-formula (regBy (g .r) (word (g .x))) f h (toTree-reg (g .r) (word (g .x)) f)
   replaced-same x-by-f f h = as-formula (wordBy (g .x) (g .f)) f h (toTree-word (g .x) (g .f) f)
 
   -- what rule 1 and rule 13 ask of a formula: the word in no role, nor the result register
-  apart-same : {s : Sort} (c : Instr) (h : Formula s) → apartT (acting c) (toTree h) ≡ only (apartOf c) h
+  apart-same : {s : Sort} (c : Instr) (h : Formula s) → apartT (acting c) (toTree h) ≡ only (apartOf (Statement.first c)) h
   apart-same (act none []) h = alone (word-same 0 h)
-  apart-same (act none (n ∷ ns)) h = alone (word-same 0 h)
+  apart-same (act none (n ∷ [])) h = alone (word-same 0 h)
+  apart-same (act none (n ∷ m ∷ ns)) h = alone (word-same 0 h)
   apart-same (act (load true r x) ns) h = alone (word-same x h)
   apart-same (act (load false r x) ns) h = alone (word-same x h)
   apart-same (act (write (store true) x f) ns) h = alone (word-same x h)
@@ -252,9 +268,10 @@ module _ (P : Program) (i k : ℕ) (σ : Fill) (d : Holes) (two : 2 ≤ P .range
   apart-same (act (write (fetchAdd r) x f) ns) h = both-same r x h
   apart-same (branch e n) h = alone (word-same 0 h)
 
-  keeps-same : (c : Instr) (h : Assertion) → keepsT (acting c) (toTree h) ≡ keeps c h
+  keeps-same : (c : Instr) (h : Assertion) → keepsT (acting c) (toTree h) ≡ keeps (Statement.first c) h
   keeps-same (act none []) h = refl
-  keeps-same (act none (n ∷ ns)) h = refl
+  keeps-same (act none (n ∷ [])) h = refl
+  keeps-same (act none (n ∷ m ∷ ns)) h = refl
   keeps-same (act (load true r x) ns) h = register-same r h
   keeps-same (act (load false r x) ns) h = register-same r h
   keeps-same (act (write (store true) x f) ns) h = apart-same (act (write (store true) x f) ns) h
@@ -265,9 +282,10 @@ module _ (P : Program) (i k : ℕ) (σ : Fill) (d : Holes) (two : 2 ≤ P .range
   keeps-same (branch e n) h = refl
 
   -- what the new write holds
-  fresh-same : (c : Instr) → freshT (acting c) ≡ toTree (freshOf c)
+  fresh-same : (c : Instr) → freshT (acting c) ≡ toTree (freshOf (Statement.first c))
   fresh-same (act none []) = refl
-  fresh-same (act none (n ∷ ns)) = refl
+  fresh-same (act none (n ∷ [])) = refl
+  fresh-same (act none (n ∷ m ∷ ns)) = refl
   fresh-same (act (load true r x) ns) = refl
   fresh-same (act (load false r x) ns) = refl
   fresh-same (act (write (store true) x f) ns) = refl
@@ -287,13 +305,13 @@ module _ (P : Program) (i k : ℕ) (σ : Fill) (d : Holes) (two : 2 ≤ P .range
       ∙ replaced-same b (inst g σ q) (inst g σ p)
 
   kept-same : (p : Pattern Sort.assertion) (s : Statement) (ps : List Statement) → instT d (patternToTree p) ≡ toTree (inst g σ p) → Same s ps (kept p)
-  kept-same p s ps e = ap (keepsT a) e ∙ keeps-same (half P i k) (inst g σ p)
+  kept-same p s ps e = ap (keepsT a) e ∙ keeps-same (P .code i k) (inst g σ p)
 
   lacks-same : (p : Pattern Sort.interval) (s : Statement) (ps : List Statement) → instT d (patternToTree p) ≡ toTree (inst g σ p) → Same s ps (lacks-x p)
-  lacks-same p s ps e = ap (apartT a) e ∙ apart-same (half P i k) (inst g σ p)
+  lacks-same p s ps e = ap (apartT a) e ∙ apart-same (P .code i k) (inst g σ p)
 
   new-same : (p : Pattern Sort.value) (s : Statement) (ps : List Statement) → instT d (patternToTree p) ≡ toTree (inst g σ p) → Same s ps (is-new p)
-  new-same p s ps e = ap₂ sameTree e (fresh-same (half P i k)) ∙ toTree-same (inst g σ p) (freshOf (half P i k))
+  new-same p s ps e = ap₂ sameTree e (fresh-same (P .code i k)) ∙ toTree-same (inst g σ p) (freshOf (half P i k))
 
   flag-same : (p : Pattern Sort.test) (s : Statement) (ps : List Statement) → instT d (patternToTree p) ≡ toTree (inst g σ p) → Same s ps (no-flag p)
   flag-same p s ps e = ap (λ (u : Tree). not (occurs (flag (g .x)) [] u)) e ∙ not-of (occurs (flag (g .x)) [] (toTree (inst g σ p))) (only (notFlag (g .x)) (inst g σ p)) (Occurs.no-flag (g .x) (inst g σ p))
@@ -310,52 +328,58 @@ module _ (P : Program) (i k : ℕ) (σ : Fill) (d : Holes) (two : 2 ≤ P .range
   Sides n ps = All (Same (filled P i k σ (row n .says)) ps) (row n .sides)
 
   -- by rule: what stands in the holes that are asked about
-  sides-same : (n : Rule) (ps : List Statement) → Line (row n .says) → PremisesFit P i k σ (row n .premises) ps → T (boundedSides (P .range) (filled P i k σ (row n .says))) → Sides n ps
+  sides-same : (n : Rule) (ps : List Statement) → Line (row n .says) → PremisesFit P i k σ (row n .premises) ps → FitPremises d i k (row n .premises) (map concluded ps)
+      → T (boundedSides (P .range) (filled P i k σ (row n .says))) → Sides n ps
   unfolding hasOperand
-  sides-same r1 ps (e₁, e₂) f h = let q0 : d .tree 0 ≡ toTree (σ .assertion 0) = cc in (kept-same Rules.P (filled P i k σ (row r1 .says)) ps q0, tt)
-  sides-same r2 ps (e₁, e₂) f h = let q0 : d .tree 0 ≡ toTree (σ .assertion 0) = cc in let q1 : d .tree 1 ≡ toTree (σ .assertion 1) = cc in (is-same Rules.P Rules.Q by-notes (filled P i k σ (row r2 .says)) ps q0 q1, tt)
-  sides-same r3 ps (e₁, e₂) f h = let q3 : d .tree 3 ≡ toTree (σ .test 3) = cc in let q2 : d .tree 2 ≡ toTree (σ .test 2) = cc in (is-same Rules.F Rules.E r-by-x (filled P i k σ (row r3 .says)) ps q3 q2, tt)
-  sides-same r4 ps (e₁, e₂) f h = let q3 : d .tree 3 ≡ toTree (σ .test 3) = cc in let q2 : d .tree 2 ≡ toTree (σ .test 2) = cc in (is-same Rules.F Rules.E r-by-x (filled P i k σ (row r4 .says)) ps q3 q2, tt)
-  sides-same r5 ps e f h = tt
-  sides-same r6 ps e f h = tt
-  sides-same r7 ps e f h = tt
-  sides-same r8 ps (e₁, e₂) f h = let q1 : d .tree 1 ≡ toTree (σ .interval 1) = cc in (lacks-same Rules.J (filled P i k σ (row r8 .says)) ps q1, tt)
-  sides-same r9 ps (e₁, e₂) f h = let q3 : d .tree 3 ≡ toTree (σ .test 3) = cc in let q2 : d .tree 2 ≡ toTree (σ .test 2) = cc in (is-same Rules.F Rules.E x-by-f (filled P i k σ (row r9 .says)) ps q3 q2, (flag-same Rules.E (filled P i k σ (row r9 .says)) ps q2, tt))
-  sides-same r10 ps e f h = tt
-  sides-same r11 ps e f h = tt
-  sides-same r12 ps e f h = tt
-  sides-same r13 ps (e₁, e₂) f h = let q1 : d .tree 1 ≡ toTree (σ .interval 1) = cc in (lacks-same Rules.J (filled P i k σ (row r13 .says)) ps q1, tt)
-  sides-same r14 ps e f h = tt
-  sides-same r15 ps e f h = tt
-  sides-same r16 ps e f h = tt
-  sides-same r20 ps (e₁, e₂) f h = (ap (λ (l : List ImpT). tableT l (impToTree (record { left = σ .assertion 0; right = σ .assertion 1 }))) (imps-concluded ps (and-right (leb (length ps) Limits.premises) (all isImp ps) f)) ∙ toTree-table (map Statement.impOf ps) (record { left = σ .assertion 0; right = σ .assertion 1 }), tt)
-  sides-same r21 ps (e₁, e₂) f h = let q2 : d .tree 2 ≡ toTree (σ .test 2) = cc in let q3 : d .tree 3 ≡ toTree (σ .test 3) = cc in (rows-same Rules.E Rules.F (filled P i k σ (row r21 .says)) ps q2 q3 (search and-left) (search and-right), tt)
-  sides-same r22 ps e f h = tt
-  sides-same r23 ps (e₁, e₂) f h = let q2 : d .tree 2 ≡ toTree (σ .test 2) = cc in let q3 : d .tree 3 ≡ toTree (σ .test 3) = cc in (rows-same Rules.E Rules.F (filled P i k σ (row r23 .says)) ps q2 q3 (search and-left) (search and-right), tt)
-  sides-same r24 ps (e₁, e₂) f h = let q2 : d .tree 2 ≡ toTree (σ .test 2) = cc in let q3 : d .tree 3 ≡ toTree (σ .test 3) = cc in (rows-same Rules.E Rules.F (filled P i k σ (row r24 .says)) ps q2 q3 (search and-left) (search and-right), tt)
-  sides-same r25 ps e f h = tt
-  sides-same r26 ps (e₁, e₂) f h = let q0 : d .tree 0 ≡ toTree (σ .value 0) = cc in let qy : d .num 4 ≡ σ .y = cc in (ap₂ (λ (u : Tree) (y : ℕ). sameTree u (toTree (const (P .init y)))) q0 qy ∙ toTree-same (σ .value 0) (const (P .init (σ .y))), tt)
-  sides-same r27 ps (e₁, e₂) f h = let qy : d .num 4 ≡ σ .y = cc in (ap (P .cleared) qy, tt)
-  sides-same r30 ps (e₁, e₂) f h = let q2 : d .tree 2 ≡ toTree (σ .test 2) = cc in let q3 : d .tree 3 ≡ toTree (σ .test 3) = cc in (rows-same Rules.E Rules.F (filled P i k σ (row r30 .says)) ps q2 q3 (search and-left) (search and-right), tt)
-  sides-same r31 ps e f h = tt
-  sides-same r32 ps e f h = tt
-  sides-same r33 ps e f h = tt
-  sides-same r34 ps e f h = tt
-  sides-same r35 ps e f h = tt
-  sides-same r36 ps e f h = tt
-  sides-same r37 ps e f h = tt
-  sides-same r38 ps e f h = tt
-  sides-same r39 ps e f h = tt
-  sides-same r40 ps e f h = tt
-  sides-same r41 ps e f h = tt
-  sides-same r42 ps e f h = tt
-  sides-same r43 ps e f h = tt
-  sides-same r44 ps e f h = tt
-  sides-same r45 ps e f h = tt
-  sides-same r46 ps e f h = tt
-  sides-same r47 ps (e₁, e₂) f h = let q3 : d .tree 3 ≡ toTree (σ .test 3) = cc in let q2 : d .tree 2 ≡ toTree (σ .test 2) = cc in (is-same Rules.F Rules.E r-by-x (filled P i k σ (row r47 .says)) ps q3 q2, tt)
-  sides-same r48 ps (e₁, e₂) f h = let q0 : d .tree 0 ≡ toTree (σ .value 0) = cc in (new-same Rules.N (filled P i k σ (row r48 .says)) ps q0, tt)
-  sides-same r49 ps (e₁, e₂) f h = let q0 : d .tree 0 ≡ toTree (σ .value 0) = cc in (new-same Rules.N (filled P i k σ (row r49 .says)) ps q0, tt)
+  sides-same r1 ps (e₁, e₂) f g h = let q0 : d .tree 0 ≡ toTree (σ .assertion 0) = cc in (kept-same Rules.P (filled P i k σ (row r1 .says)) ps q0, tt)
+  sides-same r2 ps (e₁, e₂) f g h = let q0 : d .tree 0 ≡ toTree (σ .assertion 0) = cc in let q1 : d .tree 1 ≡ toTree (σ .assertion 1) = cc in (is-same Rules.P Rules.Q by-notes (filled P i k σ (row r2 .says)) ps q0 q1, tt)
+  sides-same r3 ps (e₁, e₂) f g h = let q3 : d .tree 3 ≡ toTree (σ .test 3) = cc in let q2 : d .tree 2 ≡ toTree (σ .test 2) = cc in (is-same Rules.F Rules.E r-by-x (filled P i k σ (row r3 .says)) ps q3 q2, tt)
+  sides-same r4 ps (e₁, e₂) f g h = let q3 : d .tree 3 ≡ toTree (σ .test 3) = cc in let q2 : d .tree 2 ≡ toTree (σ .test 2) = cc in (is-same Rules.F Rules.E r-by-x (filled P i k σ (row r4 .says)) ps q3 q2, tt)
+  sides-same r5 ps e f g h = tt
+  sides-same r6 ps e f g h = tt
+  sides-same r7 ps e f g h = tt
+  sides-same r8 ps (e₁, e₂) f g h = let q1 : d .tree 1 ≡ toTree (σ .interval 1) = cc in (lacks-same Rules.J (filled P i k σ (row r8 .says)) ps q1, tt)
+  sides-same r9 ps (e₁, e₂) f g h = let q3 : d .tree 3 ≡ toTree (σ .test 3) = cc in let q2 : d .tree 2 ≡ toTree (σ .test 2) = cc in (is-same Rules.F Rules.E x-by-f (filled P i k σ (row r9 .says)) ps q3 q2, (flag-same Rules.E (filled P i k σ (row r9 .says)) ps q2, tt))
+  sides-same r10 ps e f g h = tt
+  sides-same r11 ps e f g h = tt
+  sides-same r12 ps e f g h = tt
+  sides-same r13 ps (e₁, e₂) f g h = let q1 : d .tree 1 ≡ toTree (σ .interval 1) = cc in (lacks-same Rules.J (filled P i k σ (row r13 .says)) ps q1, tt)
+  sides-same r14 ps e f g h = tt
+  sides-same r15 ps e f g h = tt
+  sides-same r16 ps e f g h = tt
+  sides-same r20 ps (e₁, e₂) f g h = (ap (λ (l : List ImpT). tableT l (impToTree (record { left = σ .assertion 0; right = σ .assertion 1 }))) (imps-concluded ps (and-right (leb (length ps) Limits.premises) (all isImp ps) f)) ∙ toTree-table (map Statement.impOf ps) (record { left = σ .assertion 0; right = σ .assertion 1 }), tt)
+  sides-same r21 ps (e₁, e₂) f g h = let q2 : d .tree 2 ≡ toTree (σ .test 2) = cc in let q3 : d .tree 3 ≡ toTree (σ .test 3) = cc in (rows-same Rules.E Rules.F (filled P i k σ (row r21 .says)) ps q2 q3 (search and-left) (search and-right), tt)
+  sides-same r22 ps e f g h = tt
+  sides-same r23 ps (e₁, e₂) f g h = let q2 : d .tree 2 ≡ toTree (σ .test 2) = cc in let q3 : d .tree 3 ≡ toTree (σ .test 3) = cc in (rows-same Rules.E Rules.F (filled P i k σ (row r23 .says)) ps q2 q3 (search and-left) (search and-right), tt)
+  sides-same r24 ps (e₁, e₂) f g h = let q2 : d .tree 2 ≡ toTree (σ .test 2) = cc in let q3 : d .tree 3 ≡ toTree (σ .test 3) = cc in (rows-same Rules.E Rules.F (filled P i k σ (row r24 .says)) ps q2 q3 (search and-left) (search and-right), tt)
+  sides-same r25 ps e f g h = tt
+  sides-same r26 ps (e₁, e₂) f g h = let q0 : d .tree 0 ≡ toTree (σ .value 0) = cc in let qy : d .num 4 ≡ σ .y = cc in (ap₂ (λ (u : Tree) (y : ℕ). sameTree u (toTree (const (P .init y)))) q0 qy ∙ toTree-same (σ .value 0) (const (P .init (σ .y))), tt)
+  sides-same r27 ps (e₁, e₂) f g h = let qy : d .num 4 ≡ σ .y = cc in (ap (P .cleared) qy, tt)
+  sides-same r30 ps (e₁, e₂) f g h = let q2 : d .tree 2 ≡ toTree (σ .test 2) = cc in let q3 : d .tree 3 ≡ toTree (σ .test 3) = cc in (rows-same Rules.E Rules.F (filled P i k σ (row r30 .says)) ps q2 q3 (search and-left) (search and-right), tt)
+  sides-same r31 ps e f g h = tt
+  sides-same r32 ps e f g h = tt
+  sides-same r33 ps e f g h = tt
+  sides-same r34 ps e f g h = tt
+  sides-same r35 ps e f g h = tt
+  sides-same r36 ps e f g h = tt
+  sides-same r37 ps e f g h = tt
+  sides-same r38 ps e f g h = tt
+  sides-same r39 ps e f g h = tt
+  sides-same r40 ps e f g h = tt
+  sides-same r41 ps e f g h = tt
+  sides-same r42 ps e f g h = tt
+  sides-same r43 ps e f g h = tt
+  sides-same r44 ps e f g h = tt
+  sides-same r45 ps e f g h = tt
+  sides-same r46 ps e f g h = tt
+  sides-same r47 ps (e₁, e₂) f g h = let q3 : d .tree 3 ≡ toTree (σ .test 3) = cc in let q2 : d .tree 2 ≡ toTree (σ .test 2) = cc in (is-same Rules.F Rules.E r-by-x (filled P i k σ (row r47 .says)) ps q3 q2, tt)
+  sides-same r48 ps (e₁, e₂) f g h = let q0 : d .tree 0 ≡ toTree (σ .value 0) = cc in (new-same Rules.N (filled P i k σ (row r48 .says)) ps q0, tt)
+  sides-same r49 ps (e₁, e₂) f g h = let q0 : d .tree 0 ≡ toTree (σ .value 0) = cc in (new-same Rules.N (filled P i k σ (row r49 .says)) ps q0, tt)
+  sides-same r50 ps (e₁, e₂) f g h =
+      let q1 : d .tree 1 ≡ toTree (σ .assertion 1) = cc in
+      let q0 : d .tree 0 ≡ toTree (σ .assertion 0) =
+      subst (λ (qs : List Statement). FitAll d i k (shapes (row r50 .premises)) (map concluded qs)) (sym f) g .0 .right in
+      (is-same Rules.P Rules.Q by-notes (filled P i k σ (row r50 .says)) ps q0 q1, tt)
 
 -- WHAT STANDS IN THE HOLES of a line, found in it
 abbrev leftPart : Tree → Tree
@@ -420,7 +444,7 @@ module _ (P : Program) (i k : ℕ) (σ : Fill) where
     r : holes n .num (numHole Pattern.r) ≡ regOf (half P i k)
     f : holes n .tree formulaHole ≡ toTree (formulaOf (half P i k))
 
-  same-place : T (not (eqb hoare hoare) || (eqb i i && eqb k k))
+  same-place : T (eqb i i && eqb k k)
   same-place = and-both (eqb i i) (eqb k k) (eqb-refl i) (eqb-refl k)
 
   filled-of : (n : Rule) → Filled n
@@ -469,6 +493,7 @@ module _ (P : Program) (i k : ℕ) (σ : Fill) where
   filled-of r47 = record { left = refl; right = refl; premises = tt; t = refl; x = refl; r = refl; f = refl }
   filled-of r48 = record { left = refl; right = refl; premises = tt; t = refl; x = refl; r = refl; f = refl }
   filled-of r49 = record { left = refl; right = refl; premises = tt; t = refl; x = refl; r = refl; f = refl }
+  filled-of r50 = record { left = refl; right = refl; premises = (record { placed = same-place; left = refl; right = refl }, tt); t = refl; x = refl; r = refl; f = refl }
 
 -- BOTH WAYS
 answer-some : {Z : Type 0} (o : Option Taken) (f : Taken → Bool) → T (answer o f) → ((z : Taken) → o ≡ some z → T (f z) → Z) → Z
@@ -477,12 +502,13 @@ answer-some (some z) f h k = k z refl h
 
 module _ (P : Program) (two : 2 ≤ P .range) (i k : ℕ) (n : Rule) (s : Statement) (ps : List Statement) (values : T (boundedSides (P .range) s)) where
   abbrev c₀ : Acting
-  c₀ = acting (half P i k)
+  c₀ = acting (P .code i k)
 
   operation-same : (m : Shape) (ops : List ℕ) → operationT c₀ (formOf m) ops ≡ operationFits P i k m ops
   operation-same (inside p q) ops = refl
   operation-same (implies p q) ops = refl
   operation-same (triple p q) ops = refl
+  operation-same (pair p q) ops = refl
 
   -- what was found in the match of a line that is σ's
   module _ (σ : Fill) (z b : Taken) (e : matchLine i k (row n .says) (concluded s) (preset i c₀) ≡ some b) (e′ : matchPremises i k (row n .premises) (map concluded ps) b ≡ some z) where
@@ -498,7 +524,7 @@ module _ (P : Program) (two : 2 ≤ P .range) (i k : ℕ) (n : Rule) (s : Statem
     sides-at q f =
         subst (λ (w : Statement). All (λ d. sideT (setup P) c₀ (holesFrom z) (concluded w) (map concluded ps) d ≡ sideHolds P i k σ w ps d) (row n .sides)) q
         (sides-same P i k σ (holesFrom z) two n ps
-        (line-fits .1 .left ∙ ap (λ (w : Statement). concluded w .left) (sym q), line-fits .1 .right ∙ ap (λ (w : Statement). concluded w .right) (sym q)) f
+        (line-fits .1 .left ∙ ap (λ (w : Statement). concluded w .left) (sym q), line-fits .1 .right ∙ ap (λ (w : Statement). concluded w .right) (sym q)) f premises-fit
         (subst (λ (w : Statement). T (boundedSides (P .range) w)) (sym q) values))
 
   all-over : (f h : Side → Bool) (l : List Side) → All (λ d. f d ≡ h d) l → All (λ d. T (f d)) l → All (λ d. T (h d)) l
@@ -567,6 +593,7 @@ module _ (P : Program) (two : 2 ≤ P .range) (i k : ℕ) (n : Rule) (s : Statem
   its-place σ (inside p q) = tt
   its-place σ (implies p q) = tt
   its-place σ (triple p q) = same-place P i k σ
+  its-place σ (pair p q) = same-place P i k σ
 
   premises-to : (c : Holes) (σ : Fill) (W : Premises) → FitPremises c i k W (map concluded (premisesOf P i k σ W)) → PremisesFit P i k σ W ps → FitPremises c i k W (map concluded ps)
   premises-to c σ (these l) f e = subst (λ (qs : List Statement). FitAll c i k l (map concluded qs)) e f
@@ -597,18 +624,20 @@ thread-concluded : (s : Statement) → concluded s .thread ≡ threadOf s
 thread-concluded (Statement.inside a b) = refl
 thread-concluded (Statement.implies a b) = refl
 thread-concluded (Statement.triple j m a b) = refl
+thread-concluded (Statement.pair j m a b) = refl
 
 point-concluded : (s : Statement) → concluded s .point ≡ pointOf s
 point-concluded (Statement.inside a b) = refl
 point-concluded (Statement.implies a b) = refl
 point-concluded (Statement.triple j m a b) = refl
+point-concluded (Statement.pair j m a b) = refl
 
 -- THE BRIDGE
 -- with two values at least, so that there are rows; and with constants that are values, so that sums are modulo the range
 pub bridge : (P : Program) → 2 ≤ P .range → (n : Rule) (s : Statement) (ps : List Statement) → T (boundedSides (P .range) s)
-    → fitsT (setup P) (acting (half P (concluded s .thread) (concluded s .point))) n (concluded s) (map concluded ps) ≡ fits P n s ps
+    → fitsT (setup P) (acting (P .code (concluded s .thread) (concluded s .point))) n (concluded s) (map concluded ps) ≡ fits P n s ps
 bridge P two n s ps values =
-    subst₂ (λ (i k : ℕ). fitsAt (setup P) (acting (half P i k)) i k (row n) (concluded s) (map concluded ps) ≡ fits P n s ps) (sym (thread-concluded s)) (sym (point-concluded s))
-    (bool-ext (fitsAt (setup P) (acting (half P (threadOf s) (pointOf s))) (threadOf s) (pointOf s) (row n) (concluded s) (map concluded ps)) (fits P n s ps)
+    subst₂ (λ (i k : ℕ). fitsAt (setup P) (acting (P .code i k)) i k (row n) (concluded s) (map concluded ps) ≡ fits P n s ps) (sym (thread-concluded s)) (sym (point-concluded s))
+    (bool-ext (fitsAt (setup P) (acting (P .code (threadOf s) (pointOf s))) (threadOf s) (pointOf s) (row n) (concluded s) (map concluded ps)) (fits P n s ps)
     (λ h. tree-fit P two (threadOf s) (pointOf s) n s ps values h (λ σ f. rule-fits P n s ps (rule-of P n σ s ps f)))
     (λ h. fit-tree P two (threadOf s) (pointOf s) n s ps values (found (row n) s ps) (fit P n s ps h)))

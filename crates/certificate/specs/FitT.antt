@@ -1,5 +1,5 @@
 -- Whether a line fits its rule, on trees: what the code works out.
-use mathlib.Core.Bool.{Bool, true, false, not, _&&_, _||_}
+use mathlib.Core.Bool.{Bool, true, false, not, cond, _&&_, _||_}
 use mathlib.Core.List.{List, [], _∷_, map}
 use mathlib.Core.Option.{Option, none, some}
 use Prim.Native.Nat.{ℕ}
@@ -12,11 +12,11 @@ use Rattle.logic.specs.Code.{byte}
 use Rattle.logic.specs.Opcode
 use Rattle.logic.specs.Machine.{Program, Instr}
 use Rattle.logic.specs.Statement
-use Rattle.logic.specs.Statement.{Statement}
+use Rattle.logic.specs.Statement.{Statement, first}
 use Rattle.patterns.specs.Pattern
 use Rattle.patterns.specs.Rules
 use Rattle.logic.specs.Rule.{Rule}
-use Rattle.patterns.specs.Rules.{Shape, Shape.inside, Shape.implies, Shape.triple, Premises, these, implications, By, by-notes, r-by-x, x-by-f, Side, _is_with_, start-of, starts-at-0, is-new, kept, lacks-x, no-flag, by-rows, by-table, Row, row}
+use Rattle.patterns.specs.Rules.{Shape, Shape.inside, Shape.implies, Shape.triple, Shape.pair, Premises, these, implications, By, by-notes, r-by-x, x-by-f, Side, _is_with_, start-of, starts-at-0, is-new, kept, lacks-x, no-flag, by-rows, by-table, Row, row}
 use Rattle.patterns.specs.Fits.{isAmong, opcode, wordOf, regOf, formulaOf, notesOf, threadOf, pointOf}
 use Rattle.formula.specs.Tree.{Tree, Tree.node}
 use Rattle.compare.specs.Same.{sameTree}
@@ -38,6 +38,14 @@ implication = 1
 abbrev pub hoare : ℕ
 hoare = 2
 
+-- a Hoare triple of a whole pair
+abbrev pub paired : ℕ
+paired = 3
+
+-- it is about an instruction
+abbrev pub acted : ℕ → Bool
+acted f = leb hoare f
+
 -- what a line says
 pub record TreeConclusion : Type 0 where
   pub form : ℕ
@@ -50,36 +58,48 @@ abbrev pub concluded : Statement → TreeConclusion
 concluded (Statement.inside i j) = record { form = inclusion; thread = 0; point = 0; left = toTree i; right = toTree j }
 concluded (Statement.implies a b) = record { form = implication; thread = 0; point = 0; left = toTree a; right = toTree b }
 concluded (Statement.triple t k a b) = record { form = hoare; thread = t; point = k; left = toTree a; right = toTree b }
+concluded (Statement.pair t k a b) = record { form = paired; thread = t; point = k; left = toTree a; right = toTree b }
 
--- the instruction of a line; notes: what rule 2 replaces
+-- the instruction of a line: its operation, of a pair the first half's, and that of the whole; notes: what rules 2 and 50 replace
 pub record Acting : Type 0 where
   pub operation : ℕ
+  pub whole : ℕ
   pub word : ℕ
   pub register : ℕ
   pub formula : Tree
   pub notes : List NoteT
 
 abbrev pub acting : Instr → Acting
-acting c = record { operation = opcode c; word = wordOf c; register = regOf c; formula = toTree (formulaOf c); notes = map noteT (notesOf c) }
+acting c = record {
+  operation = opcode (first c);
+  whole = opcode c;
+  word = wordOf (first c);
+  register = regOf (first c);
+  formula = toTree (formulaOf (first c));
+  notes = map noteT (notesOf c);
+}
 
 abbrev pub formOf : Shape → ℕ
 formOf (inside p q) = inclusion
 formOf (implies p q) = implication
 formOf (triple p q) = hoare
+formOf (pair p q) = paired
 
 abbrev pub leftOf : Shape → Tree
 leftOf (inside p q) = patternToTree p
 leftOf (implies p q) = patternToTree p
 leftOf (triple p q) = patternToTree p
+leftOf (pair p q) = patternToTree p
 
 abbrev pub rightOf : Shape → Tree
 rightOf (inside p q) = patternToTree q
 rightOf (implies p q) = patternToTree q
 rightOf (triple p q) = patternToTree q
+rightOf (pair p q) = patternToTree q
 
 -- a triple is for the same thread and point
 abbrev pub placed : ℕ → ℕ → ℕ → TreeConclusion → Bool
-placed f i k v = eqb (v .form) f && (not (eqb f hoare) || (eqb (v .thread) i && eqb (v .point) k))
+placed f i k v = eqb (v .form) f && (not (acted f) || (eqb (v .thread) i && eqb (v .point) k))
 
 -- a form, and templates for the left side and the right side
 abbrev pub matchSides : ℕ → ℕ → ℕ → Tree → Tree → TreeConclusion → Taken → Option Taken
@@ -156,8 +176,9 @@ module _ (a : Acting) where
     | false ↦ a .formula
   ]
 
+  -- of a triple the first half's operation is among those allowed, of a statement about a pair that of the whole
   abbrev pub operationT : ℕ → List ℕ → Bool
-  operationT f ops = not (eqb f hoare) || isAmong (a .operation) ops
+  operationT f ops = cond (eqb f hoare) (isAmong (a .operation) ops) (cond (eqb f paired) (isAmong (a .whole) ops) true)
 
 module _ (h : Setup) (a : Acting) where
   abbrev pub sideT : Holes → TreeConclusion → List TreeConclusion → Side → Bool

@@ -14,7 +14,7 @@ use Rattle.formula.specs.Tree.{Tree, none, node, ParsedTree, nodeAt, parseTree,
 use Rattle.formula.specs.declared.node.Node.{Node}
 use Rattle.formula.proofs.Nodes.{parse-zero, parse-step, parts-of}
 use Rattle.compare.specs.Same.{sameTree, sameOf, pairOf, pairAt}
-use Rattle.compare.specs.Replace.{isName, replaceT, nameCode, oneName, leafOnly, standsFor, replacedOf, hitAt}
+use Rattle.compare.specs.Replace.{isName, replaceT, nameCode, oneName, leafOnly, standsFor, isFirst, isSecond, substituted, replacedOf, secondAt, hitAt}
 use Rattle.compare.specs.declared.replace.Replacing.{Replacing}
 use Rattle.compare.specs.declared.replace.Replacing.the-variants.{Formula, Word}
 use Rattle.compare.specs.declared.replace.Substitution.{Substitution}
@@ -199,19 +199,38 @@ unfolding hitAt
 hit-zero s a k w e = rw (eq-eqb _ _ e)
 
 module _ (s : List ℕ) (a k c : ℕ) (w : Substitution) (x : Node) (z : k ≡ 0 → ⊥) (e : x ≡ nodeAt s a) (ec : c ≡ nameCode (w .word)) where
-  pub hit-name : x .code ≡ c → x .operand ≡ w .number → Name (x .next) ≡ hitAt s a k w
+  pub hit-name : x .code ≡ c → x .operand ≡ w .number → Name (x .next) (w .by) ≡ hitAt s a k w
   unfolding hitAt
   hit-name d o = rw (← e, ← ec, ne-eqb _ _ z, eq-eqb _ _ d, eq-eqb _ _ o)
 
-  pub hit-operand : x .code ≡ c → (x .operand ≡ w .number → ⊥) → Other ≡ hitAt s a k w
+  pub hit-operand : (h : Hit) → x .code ≡ c → (x .operand ≡ w .number → ⊥) → h ≡ secondAt x w → h ≡ hitAt s a k w
   unfolding hitAt
-  hit-operand d o = rw (← e, ← ec, ne-eqb _ _ z, eq-eqb _ _ d, ne-eqb _ _ o)
+  hit-operand h d o i = rw (← e, ← ec, ne-eqb _ _ z, eq-eqb _ _ d, ne-eqb _ _ o) i
 
-  pub hit-code : (x .code ≡ c → ⊥) → Other ≡ hitAt s a k w
+  pub hit-code : (h : Hit) → (x .code ≡ c → ⊥) → h ≡ secondAt x w → h ≡ hitAt s a k w
   unfolding hitAt
-  hit-code d = rw (← e, ← ec, ne-eqb _ _ z, ne-eqb _ _ d)
+  hit-code h d i = rw (← e, ← ec, ne-eqb _ _ z, ne-eqb _ _ d) i
 
 pub ruleset hits = (hit-zero, hit-name, hit-operand, hit-code)
+
+module _ (x : Node) (w : Substitution) where
+  pub second-name : w .two ≡ true → x .code ≡ byte Code.reg → x .operand ≡ w .second → Name (x .next) (w .with) ≡ secondAt x w
+  unfolding secondAt
+  second-name t c o = rw (t, eq-eqb _ _ c, eq-eqb _ _ o)
+
+  pub second-operand : w .two ≡ true → x .code ≡ byte Code.reg → (x .operand ≡ w .second → ⊥) → Other ≡ secondAt x w
+  unfolding secondAt
+  second-operand t c o = rw (t, eq-eqb _ _ c, ne-eqb _ _ o)
+
+  pub second-code : w .two ≡ true → (x .code ≡ byte Code.reg → ⊥) → Other ≡ secondAt x w
+  unfolding secondAt
+  second-code t c = rw (t, ne-eqb _ _ c)
+
+  pub second-none : w .two ≡ false → Other ≡ secondAt x w
+  unfolding secondAt
+  second-none t = rw t
+
+pub ruleset seconds = (second-name, second-operand, second-code, second-none)
 
 pub ruleset pairs = (pair-ended, pair-left, pair-right, pair-deep)
 
@@ -237,36 +256,72 @@ is-word : isName (byte Code.word) ≡ true
 unfolding isName
 is-word = refl
 
-is-name : (w : Substitution) (c : ℕ) → c ≡ nameCode (w .word) → isName c ≡ true
-unfolding nameCode isName
-is-name w c = go (w .word)
-  where
-    go : (b : Bool) → c ≡ cond b (byte Code.word) (byte Code.reg) → among c (Code.reg ∷ Code.word ∷ []) ≡ true
-    go true e = rw e
-    go false e = rw e
+is-reg : isName (byte Code.reg) ≡ true
+unfolding isName
+is-reg = refl
 
--- what `hitAt` says
-abbrev isIt : List ℕ → ℕ → Substitution → Bool
-isIt s a w = eqb (nodeAt s a .code) (nameCode (w .word)) && eqb (nodeAt s a .operand) (w .number)
+-- both parts of a conjunction
+both-true : (i j : Bool) → (i && j) ≡ true → (i ≡ true) × (j ≡ true)
+both-true true true h = (refl, refl)
+both-true true false h = let z : _≡_ {A = ℕ} 0 1 = cc in absurd (omega arith)
+both-true false j h = let z : _≡_ {A = ℕ} 0 1 = cc in absurd (omega arith)
 
-hit-other : (s : List ℕ) (a k : ℕ) (w : Substitution) → hitAt s a k w ≡ Other → (k ≡ 0 → ⊥) → isIt s a w ≡ false
-unfolding hitAt
-hit-other s a k w e z = go (eqb (nodeAt s a .code) (nameCode (w .word))) (eqb (nodeAt s a .operand) (w .number)) (rw (ne-eqb _ _ z) at e)
+first-name : (w : Substitution) (c o : ℕ) → isFirst w c o ≡ true → isName c ≡ true
+unfolding nameCode
+first-name w c o h = go (w .word) (eqb-true _ _ (both-true (eqb c (nameCode (w .word))) (eqb o (w .number)) h .0))
   where
-    go : (i j : Bool) → cond i (cond j (Name (nodeAt s a .next)) Other) Other ≡ Other → (i && j) ≡ false
-    go false j d = refl
-    go true false d = refl
-    go true true d = let z : _≡_ {A = ℕ} 0 1 = cc in absurd (omega arith)
+    go : (b : Bool) → c ≡ cond b (byte Code.word) (byte Code.reg) → isName c ≡ true
+    go true e = rw e is-word
+    go false e = rw e is-reg
 
-hit-is : (s : List ℕ) (a k : ℕ) (w : Substitution) (n : ℕ) → hitAt s a k w ≡ Name n → (k ≡ 0 → ⊥) × (isIt s a w ≡ true) × (nodeAt s a .code ≡ nameCode (w .word)) × (nodeAt s a .next ≡ n)
-unfolding hitAt
-hit-is s a k w n e = go (eqb k 0) (eqb (nodeAt s a .code) (nameCode (w .word))) (eqb (nodeAt s a .operand) (w .number)) refl refl e
-  where
-    go : (z i j : Bool) → eqb k 0 ≡ z → eqb (nodeAt s a .code) (nameCode (w .word)) ≡ i → cond z Other (cond i (cond j (Name (nodeAt s a .next)) Other) Other) ≡ Name n → (k ≡ 0 → ⊥) × ((i && j) ≡ true) × (nodeAt s a .code ≡ nameCode (w .word)) × (nodeAt s a .next ≡ n)
-    go true i j e₁ e₂ d = let z : _≡_ {A = ℕ} 0 1 = cc in absurd (omega arith)
-    go false false j e₁ e₂ d = let z : _≡_ {A = ℕ} 0 1 = cc in absurd (omega arith)
-    go false true false e₁ e₂ d = let z : _≡_ {A = ℕ} 0 1 = cc in absurd (omega arith)
-    go false true true e₁ e₂ d = (eqb-false _ _ e₁, refl, eqb-true _ _ e₂, (cc))
+second-is-name : (w : Substitution) (c o : ℕ) → isSecond w c o ≡ true → isName c ≡ true
+second-is-name w c o h =
+    let a = both-true (w .two) (eqb c (byte Code.reg) && eqb o (w .second)) h .1 in
+    let e : c ≡ byte Code.reg = eqb-true _ _ (both-true (eqb c (byte Code.reg)) (eqb o (w .second)) a .0) in
+    rw e is-reg
+
+-- what `hitAt` says of the node at a
+module _ (s : List ℕ) (a k : ℕ) (w : Substitution) where
+  abbrev at-first : Bool
+  at-first = isFirst w (nodeAt s a .code) (nodeAt s a .operand)
+
+  abbrev at-second : Bool
+  at-second = isSecond w (nodeAt s a .code) (nodeAt s a .operand)
+
+  abbrev put-there : Tree
+  put-there = substituted s w (nodeAt s a .code) (nodeAt s a .operand)
+
+  hit-other : hitAt s a k w ≡ Other → (k ≡ 0 → ⊥) → put-there ≡ node (nodeAt s a .code) (nodeAt s a .operand) none none
+  unfolding hitAt secondAt substituted
+  hit-other e z = go at-first at-second (rw (ne-eqb _ _ z) at e)
+    where
+      go : (i j : Bool) → cond i (Name (nodeAt s a .next) (w .by)) (cond j (Name (nodeAt s a .next) (w .with)) Other) ≡ Other
+          → cond i (standsFor s (w .by) .tree) (cond j (standsFor s (w .with) .tree) (node (nodeAt s a .code) (nodeAt s a .operand) none none))
+          ≡ node (nodeAt s a .code) (nodeAt s a .operand) none none
+      go false false d = refl
+      go false true d = let z : _≡_ {A = ℕ} 0 1 = cc in absurd (omega arith)
+      go true j d = let z : _≡_ {A = ℕ} 0 1 = cc in absurd (omega arith)
+
+  pub record IsHit (n : ℕ) (by : Replacing) : Type 0 where
+    deep : k ≡ 0 → ⊥
+    put : put-there ≡ standsFor s by .tree
+    name : isName (nodeAt s a .code) ≡ true
+    past : nodeAt s a .next ≡ n
+
+  hit-is : (n : ℕ) (by : Replacing) → hitAt s a k w ≡ Name n by → IsHit n by
+  unfolding hitAt secondAt substituted
+  hit-is n by e = go (eqb k 0) at-first at-second refl refl refl e
+    where
+      go : (z i j : Bool) → eqb k 0 ≡ z → at-first ≡ i → at-second ≡ j
+          → cond z Other (cond i (Name (nodeAt s a .next) (w .by)) (cond j (Name (nodeAt s a .next) (w .with)) Other)) ≡ Name n by → IsHit n by
+      go true i j e₁ e₂ e₃ d = let z : _≡_ {A = ℕ} 0 1 = cc in absurd (omega arith)
+      go false true j e₁ e₂ e₃ d =
+          let q : w .by ≡ by = cc in
+          record { deep = eqb-false _ _ e₁; put = rw (e₂, q); name = first-name w _ _ e₂; past = cc }
+      go false false true e₁ e₂ e₃ d =
+          let q : w .with ≡ by = cc in
+          record { deep = eqb-false _ _ e₁; put = rw (e₂, e₃, q); name = second-is-name w _ _ e₃; past = cc }
+      go false false false e₁ e₂ e₃ d = let z : _≡_ {A = ℕ} 0 1 = cc in absurd (omega arith)
 
 -- a node without parts
 pub leaf-zero : (s : List ℕ) (c o b k : ℕ) → k ≡ 0 → No ≡ sameOf (leafOnly c o) (parseTree s k b)
@@ -314,46 +369,41 @@ said-no u v = go (sameTree (u .tree) (v .tree))
 
 -- the ways through `replaced_at`
 module _ (s : List ℕ) (a m b k : ℕ) (w : Substitution) (h : Hit) (eh : h ≡ hitAt s a m w) where
-  abbrev by : Tree
-  by = standsFor s (w .by) .tree
-
   abbrev put : Tree → Tree
-  put = replaceT (oneName (w .word) (w .number) by)
+  put = replaceT (substituted s w)
 
   abbrev want : Same
-  want = replacedOf w (standsFor s (w .by)) (parseTree s m a) (parseTree s k b)
+  want = replacedOf s w (parseTree s m a) (parseTree s k b)
 
-  replaced-name : (n : ℕ) → h ≡ Name n → want ≡ cond (sameTree by (parseTree s k b .tree)) (Yes n (parseTree s k b .end)) No
-  unfolding oneName
-  replaced-name n d =
-      let i = hit-is s a m w n (sym eh ∙ d) in
-      let c : isName (nodeAt s a .code) ≡ true = is-name w (nodeAt s a .code) (i .2) in
-      let p : nodeAt s a .parts ≡ 0 = parts-of s a ∙ name-parts (nodeAt s a .code) c in
-      rw (parse-step s m a (i .0), replace-node, c, i .1, p, i .3)
+  replaced-name : (n : ℕ) (by : Replacing) → h ≡ Name n by
+      → want ≡ cond (sameTree (standsFor s by .tree) (parseTree s k b .tree)) (Yes n (parseTree s k b .end)) No
+  replaced-name n by d =
+      let i = hit-is s a m w n by (sym eh ∙ d) in
+      let p : nodeAt s a .parts ≡ 0 = parts-of s a ∙ name-parts (nodeAt s a .code) (i .name) in
+      rw (parse-step s m a (i .deep), replace-node, i .name, i .put, p, i .past)
 
-  pub replaced-hit-no : (n : ℕ) (r : Same) → h ≡ Name n → r ≡ sameOf (standsFor s (w .by)) (parseTree s k b) → r ≡ No → No ≡ want
-  replaced-hit-no n r d e f = rw (replaced-name n d, said-no (standsFor s (w .by)) (parseTree s k b) (sym e ∙ f))
+  pub replaced-hit-no : (n : ℕ) (by : Replacing) (r : Same) → h ≡ Name n by → r ≡ sameOf (standsFor s by) (parseTree s k b) → r ≡ No → No ≡ want
+  replaced-hit-no n by r d e f = rw (replaced-name n by d, said-no (standsFor s by) (parseTree s k b) (sym e ∙ f))
 
-  pub replaced-hit : (n p q : ℕ) (r : Same) → h ≡ Name n → r ≡ sameOf (standsFor s (w .by)) (parseTree s k b) → r ≡ Yes p q → Yes n q ≡ want
-  replaced-hit n p q r d e f =
-      let y = said-yes (standsFor s (w .by)) (parseTree s k b) p q (sym e ∙ f) in
-      rw (replaced-name n d, y .0, y .2)
+  pub replaced-hit : (n : ℕ) (by : Replacing) (p q : ℕ) (r : Same) → h ≡ Name n by → r ≡ sameOf (standsFor s by) (parseTree s k b) → r ≡ Yes p q → Yes n q ≡ want
+  replaced-hit n by p q r d e f =
+      let y = said-yes (standsFor s by) (parseTree s k b) p q (sym e ∙ f) in
+      rw (replaced-name n by d, y .0, y .2)
 
   module _ (t : Pair) (o : h ≡ Other) (et : t ≡ pairAt s a m b k) where
     -- another name stays as it is, and what is no name is replaced in its parts
     through : (m ≡ 0 → ⊥) → Through put (nodeAt s a)
-    unfolding oneName
     through z f = rw replace-node (go (isName (nodeAt s a .code)) refl)
       where
         go : (i : Bool) → isName (nodeAt s a .code) ≡ i
-            → cond i (cond (isIt s a w) by (node (nodeAt s a .code) (nodeAt s a .operand) none none)) (node (nodeAt s a .code) (nodeAt s a .operand) (put (leftOf f (nodeAt s a))) (put (rightOf f (nodeAt s a)))) ≡ node (nodeAt s a .code) (nodeAt s a .operand) (put (leftOf f (nodeAt s a))) (put (rightOf f (nodeAt s a)))
+            → cond i (put-there s a m w) (node (nodeAt s a .code) (nodeAt s a .operand) (put (leftOf f (nodeAt s a))) (put (rightOf f (nodeAt s a)))) ≡ node (nodeAt s a .code) (nodeAt s a .operand) (put (leftOf f (nodeAt s a))) (put (rightOf f (nodeAt s a)))
         go true e =
             let p : nodeAt s a .parts ≡ 0 = parts-of s a ∙ name-parts (nodeAt s a .code) e in
             rw (hit-other s a m w (sym eh ∙ o) z, p) (simp replace-none)
         go false e = refl
 
-    replaced-by : want ≡ follow (λ p q. replacedOf w (standsFor s (w .by)) (parseTree s (m - 1) p) (parseTree s (k - 1) q)) t
-    replaced-by = rw et (by-pair put (replace-none (oneName (w .word) (w .number) by)) s a m b k through)
+    replaced-by : want ≡ follow (λ p q. replacedOf s w (parseTree s (m - 1) p) (parseTree s (k - 1) q)) t
+    replaced-by = rw et (by-pair put (replace-none (substituted s w)) s a m b k through)
 
     pub replaced-differ : t ≡ Differ → No ≡ want
     replaced-differ d = rw (replaced-by, d)
@@ -361,13 +411,18 @@ module _ (s : List ℕ) (a m b k : ℕ) (w : Substitution) (h : Hit) (eh : h ≡
     pub replaced-ended : (p q : ℕ) → t ≡ Ended p q → Yes p q ≡ want
     replaced-ended p q d = rw (replaced-by, d)
 
-    pub replaced-one : (p q : ℕ) (r : Same) → t ≡ One p q → r ≡ replacedOf w (standsFor s (w .by)) (parseTree s (m - 1) p) (parseTree s (k - 1) q) → r ≡ want
+    pub replaced-one : (p q : ℕ) (r : Same) → t ≡ One p q → r ≡ replacedOf s w (parseTree s (m - 1) p) (parseTree s (k - 1) q) → r ≡ want
     replaced-one p q r d e = rw (replaced-by, d) e
 
-    pub replaced-two-no : (p q : ℕ) (r : Same) → t ≡ Two p q → r ≡ replacedOf w (standsFor s (w .by)) (parseTree s (m - 1) p) (parseTree s (k - 1) q) → r ≡ No → No ≡ want
+    pub replaced-two-no : (p q : ℕ) (r : Same) → t ≡ Two p q → r ≡ replacedOf s w (parseTree s (m - 1) p) (parseTree s (k - 1) q) → r ≡ No → No ≡ want
     replaced-two-no p q r d e f = rw (replaced-by, d, ← e, f)
 
-    pub replaced-two : (p q p₂ q₂ : ℕ) (r r₂ : Same) → t ≡ Two p q → r ≡ replacedOf w (standsFor s (w .by)) (parseTree s (m - 1) p) (parseTree s (k - 1) q) → r ≡ Yes p₂ q₂ → r₂ ≡ replacedOf w (standsFor s (w .by)) (parseTree s (m - 1) p₂) (parseTree s (k - 1) q₂) → r₂ ≡ want
+    pub replaced-two : (p q p₂ q₂ : ℕ) (r r₂ : Same) → t ≡ Two p q → r ≡ replacedOf s w (parseTree s (m - 1) p) (parseTree s (k - 1) q) → r ≡ Yes p₂ q₂ → r₂ ≡ replacedOf s w (parseTree s (m - 1) p₂) (parseTree s (k - 1) q₂) → r₂ ≡ want
     replaced-two p q p₂ q₂ r r₂ d e f g = rw (replaced-by, d, ← e, f) g
 
 pub ruleset replaces = (replaced-hit-no, replaced-hit, replaced-differ, replaced-ended, replaced-one, replaced-two-no, replaced-two, one-left, one-right, two-left, two-right, lower)
+
+-- one name alone
+pub one-alone : (s : List ℕ) (w : Substitution) → w .two ≡ false → (c o : ℕ) → substituted s w c o ≡ oneName (w .word) (w .number) (standsFor s (w .by) .tree) c o
+unfolding substituted oneName
+one-alone s w e c o = rw e

@@ -7,6 +7,7 @@ use Rattle.logic.specs.Code
 use Rattle.logic.specs.Code.{byte}
 use Rattle.formula.specs.Codes.{among}
 use Rattle.formula.specs.Tree.{Tree, none, node, ParsedTree, nodeAt, parseTree}
+use Rattle.formula.specs.declared.node.Node.{Node}
 use Rattle.compare.specs.Same.{sameTree}
 use Rattle.compare.specs.declared.same.Same.{Same}
 use Rattle.compare.specs.declared.same.Same.the-variants.{Yes, No}
@@ -51,11 +52,28 @@ abbrev pub standsFor : List ℕ → Replacing → ParsedTree
 standsFor s (Formula at left) = parseTree s left at
 standsFor s (Word x) = leafOnly (byte Code.word) x
 
-abbrev pub replacedOf : Substitution → ParsedTree → ParsedTree → ParsedTree → Same
-replacedOf w f u v = cond (sameTree (replaceT (oneName (w .word) (w .number) (f .tree)) (u .tree)) (v .tree)) (Yes (u .end) (v .end)) No
+-- the first name, or the second, which is a register
+abbrev pub isFirst : Substitution → ℕ → ℕ → Bool
+isFirst w c o = eqb c (nameCode (w .word)) && eqb o (w .number)
 
--- whether the name that is replaced stands there
+abbrev pub isSecond : Substitution → ℕ → ℕ → Bool
+isSecond w c o = w .two && (eqb c (byte Code.reg) && eqb o (w .second))
+
+-- what a substitution puts for the name of the code c and the number o
+unfoldable pub substituted : List ℕ → Substitution → ℕ → ℕ → Tree
+substituted s w c o =
+    cond (isFirst w c o) (standsFor s (w .by) .tree)
+    (cond (isSecond w c o) (standsFor s (w .with) .tree)
+    (node c o none none))
+
+abbrev pub replacedOf : List ℕ → Substitution → ParsedTree → ParsedTree → Same
+replacedOf s w u v = cond (sameTree (replaceT (substituted s w) (u .tree)) (v .tree)) (Yes (u .end) (v .end)) No
+
+-- whether a name that is replaced stands there, and what replaces it
+unfoldable pub secondAt : Node → Substitution → Hit
+secondAt x w = cond (isSecond w (x .code) (x .operand)) (Name (x .next) (w .with)) Other
+
 unfoldable pub hitAt : List ℕ → ℕ → ℕ → Substitution → Hit
 hitAt s a k w =
     cond (eqb k 0) Other
-    (cond (eqb (nodeAt s a .code) (nameCode (w .word))) (cond (eqb (nodeAt s a .operand) (w .number)) (Name (nodeAt s a .next)) Other) Other)
+    (cond (isFirst w (nodeAt s a .code) (nodeAt s a .operand)) (Name (nodeAt s a .next) (w .by)) (secondAt (nodeAt s a) w))

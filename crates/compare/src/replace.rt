@@ -1,15 +1,16 @@
-// Replacement of a name by a formula, compared with what stands there, and never built.
+// Replacement of names by formulas, all at once, compared with what stands there, and never built.
 use crate::same::Pair;
 use crate::same::Same;
 use crate::same::pair_at;
 use crate::same::same_at;
 use formula::code::Code;
+use formula::node::Node;
 use formula::node::node_at;
 ghost use mathlib.Core.Path.{_≡_};
 ghost use Rattle.formula.specs.Codes.{partCount};
 ghost use Rattle.formula.specs.Tree.{parseTree};
 ghost use Rattle.compare.specs.Same.{sameOf};
-ghost use Rattle.compare.specs.Replace.{nameCode, hitAt, leafOnly, standsFor, replacedOf};
+ghost use Rattle.compare.specs.Replace.{nameCode, secondAt, hitAt, leafOnly, standsFor, replacedOf};
 
 // What a name is replaced by: the formula at a position, nested at most so deep, or a word's value.
 pub enum Replacing {
@@ -17,16 +18,19 @@ pub enum Replacing {
     Word(u8),
 }
 
-// The name that is replaced, a word's value or a register, by its number.
+// The name that is replaced, a word's value or a register, by its number; if there are two, a register besides.
 pub struct Substitution {
     pub word: bool,
     pub number: u8,
     pub by: Replacing,
+    pub two: bool,
+    pub second: u8,
+    pub with: Replacing,
 }
 
-// Whether a node is the name that is replaced, and the position past it.
+// Whether a node is a name that is replaced: the position past it, and what replaces it.
 pub enum Hit {
-    Name(usize),
+    Name(usize, Replacing),
     Other,
 }
 
@@ -34,6 +38,21 @@ pub fn name_code(word: bool) -> u8
     ensures { λ r. ⌜ r ≡ nameCode word ⌝ }
 {
     if word { Code::WORD } else { Code::REG }
+}
+
+// A node that is not the first name.
+fn second_hit(x: Node, w: Substitution) -> Hit
+    ensures { λ r. ⌜ r ≡ secondAt x w ⌝ }
+{
+    if w.two {
+        if x.code == Code::REG {
+            if x.operand == w.second {
+                let by = w.with;
+                return Hit::Name(x.next, by);
+            }
+        }
+    }
+    Hit::Other
 }
 
 pub fn hit_at(s: &[u8], a: usize, m: usize, w: Substitution) -> Hit
@@ -45,10 +64,12 @@ pub fn hit_at(s: &[u8], a: usize, m: usize, w: Substitution) -> Hit
     let x = node_at(s, a);
     if x.code == name_code(w.word) {
         if x.operand == w.number {
-            return Hit::Name(x.next);
+            let by = w.by;
+            return Hit::Name(x.next, by);
         }
+        return second_hit(x, w);
     }
-    Hit::Other
+    second_hit(x, w)
 }
 
 // Whether the code stands at b with this operand. It is a code without parts.
@@ -78,18 +99,15 @@ pub fn stands_at(s: &[u8], by: Replacing, b: usize, k: usize) -> Same
     }
 }
 
-// Whether the formula at b is the one at a with the name replaced.
+// Whether the formula at b is the one at a with the names replaced.
 pub fn replaced_at(s: &[u8], a: usize, m: usize, b: usize, k: usize, w: Substitution) -> Same
-    ensures { λ r. ⌜ r ≡ replacedOf w (standsFor (now (s .entry)) (w .by)) (parseTree (now (s .entry)) m a) (parseTree (now (s .entry)) k b) ⌝ }
+    ensures { λ r. ⌜ r ≡ replacedOf (now (s .entry)) w (parseTree (now (s .entry)) m a) (parseTree (now (s .entry)) k b) ⌝ }
 {
     match hit_at(s, a, m, w) {
-        Hit::Name(next) => {
-            let by = w.by;
-            match stands_at(s, by, b, k) {
-                Same::No => Same::No,
-                Same::Yes(_, q) => Same::Yes(next, q),
-            }
-        }
+        Hit::Name(next, by) => match stands_at(s, by, b, k) {
+            Same::No => Same::No,
+            Same::Yes(_, q) => Same::Yes(next, q),
+        },
         Hit::Other => match pair_at(s, a, m, b, k) {
             Pair::Differ => Same::No,
             Pair::Ended(p, q) => Same::Yes(p, q),

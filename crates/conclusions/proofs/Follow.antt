@@ -16,7 +16,7 @@ use Rattle.matcher.specs.declared.bind.Bind.{Bind}
 use Rattle.matcher.specs.declared.matching.Match.{Match}
 use Rattle.matcher.specs.declared.whole.Whole.{Whole}
 use Rattle.matcher.proofs.Follow.{Sized, given, Follows, match-follows}
-use Rattle.certificate.specs.FitT.{hoare, formOf, leftOf, rightOf, placed, matchSides, matchAll}
+use Rattle.certificate.specs.FitT.{acted, formOf, leftOf, rightOf, placed, matchSides, matchAll}
 use Rattle.rulebook.specs.Listed.{packed}
 use Rattle.conclusions.specs.Conclusion.{concludedAt, placedAt, matchConclusion, conclusionAt, conclusionsFrom, matchFrom}
 use Rattle.conclusions.specs.declared.conclusion.Conclusion.{Conclusion}
@@ -24,7 +24,7 @@ use Rattle.conclusions.specs.declared.conclusion.Premises.{Premises}
 
 placed-same : (s : List ℕ) (form t k : ℕ) (c : Conclusion) → placed form t k (concludedAt s c) ≡ placedAt form t k c
 unfolding placedAt
-placed-same s form t k c = go (eqb (c .form) form) (eqb form hoare) (eqb (c .thread) t) (eqb (c .point) k)
+placed-same s form t k c = go (eqb (c .form) form) (acted form) (eqb (c .thread) t) (eqb (c .point) k)
   where
     go : (a b d e : Bool) → (a && (not b || (d && e))) ≡ cond a (cond b (cond d e false) true) false
     go true true true e = refl
@@ -115,11 +115,13 @@ form-of : (m : Shape) (q : ℕ) → (formOf m + 4 * q) % 4 ≡ formOf m
 form-of (Shape.inside a b) q = omega arith
 form-of (Shape.implies a b) q = omega arith
 form-of (Shape.triple a b) q = omega arith
+form-of (Shape.pair a b) q = omega arith
 
 forms-left : (m : Shape) (q : ℕ) → (formOf m + 4 * q) / 4 ≡ q
 forms-left (Shape.inside a b) q = omega arith
 forms-left (Shape.implies a b) q = omega arith
 forms-left (Shape.triple a b) q = omega arith
+forms-left (Shape.pair a b) q = omega arith
 
 pub record FromFollows (s : List ℕ) (thread point : ℕ) (p : Premises) (l : List Shape) (j : ℕ) (b : Bind) (r : Whole) : Type 0 where
   pub same : matchAll thread point l (map (concludedAt s) (conclusionsFrom p (length l) j)) (takenOf s b) ≡ given s (r .ok) (r .bind)

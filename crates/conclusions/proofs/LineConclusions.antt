@@ -1,22 +1,47 @@
 -- The ways through the look-ups of conclusions, one law for each.
-use mathlib.Core.Path.{_≡_}
+use mathlib.Core.Path.{_≡_, ap, _∙_}
+use mathlib.Core.Bool.{Bool, true, false}
 use mathlib.Core.List.{List}
 use Prim.Native.Nat.{ℕ}
+use borrow.Author.Tests.{eq-eqb, ne-eqb}
 use Rattle.frames.specs.Records.{bodies}
 use Rattle.program.specs.declared.sizes.Sizes.{Sizes}
+use Rattle.program.specs.declared.instruction.Instruction.{Instruction}
+use Rattle.program.specs.Instruction.{pairOperation}
+use Rattle.records.specs.Places.{instructionOf}
+use Rattle.certificate.specs.FitT.{hoare, paired}
 use Rattle.content.specs.Certificate.{lineBody}
 use Rattle.content.specs.Places.{lineIn}
 use Rattle.content.specs.declared.line.Line.{Line}
 use Rattle.rulebook.specs.Rulebook.{ruleRow}
-use Rattle.conclusions.specs.LineConclusion.{conclusionBy, lineAt, conclusionOf}
+use Rattle.conclusions.specs.LineConclusion.{spokenForm, conclusionBy, lineAt, conclusionOf}
 use Rattle.conclusions.specs.declared.conclusion.Conclusion.{Conclusion}
 
-pub conclusion-by : (l : Line) (f : ℕ) → f ≡ ruleRow (l .rule) .form → record { form = f; thread = l .thread; point = l .point; left = l .left; right = l .right } ≡ conclusionBy l
+module _ (rule op f : ℕ) (e : f ≡ ruleRow rule .form) where
+  pub spoken-pair : (p : Bool) → f ≡ paired → p ≡ pairOperation op → p ≡ true → paired ≡ spokenForm (ruleRow rule .form) op
+  unfolding spokenForm
+  spoken-pair p h d q = rw (← e, eq-eqb _ _ h, ← d, q)
+
+  pub spoken-alone : (p : Bool) → f ≡ paired → p ≡ pairOperation op → p ≡ false → hoare ≡ spokenForm (ruleRow rule .form) op
+  unfolding spokenForm
+  spoken-alone p h d q = rw (← e, eq-eqb _ _ h, ← d, q)
+
+  pub spoken-other : (f ≡ paired → ⊥) → f ≡ spokenForm (ruleRow rule .form) op
+  unfolding spokenForm
+  spoken-other h = rw (← e, ne-eqb _ _ h)
+
+pub conclusion-by : (l : Line) (op f : ℕ) → f ≡ spokenForm (ruleRow (l .rule) .form) op
+    → record { form = f; thread = l .thread; point = l .point; left = l .left; right = l .right } ≡ conclusionBy l op
 unfolding conclusionBy
-conclusion-by l f e = rw (← e)
+conclusion-by l op f e = rw (← e)
 
-pub conclusion-is : (s : List ℕ) (z : Sizes) (n : ℕ) (l : Line) (c : Conclusion) → l ≡ lineIn s (lineBody z (bodies s) n) → c ≡ conclusionBy l → c ≡ conclusionOf s z n
-unfolding conclusionOf lineAt
-conclusion-is s z n l c e d = rw (← e) d
+module _ (s : List ℕ) (z : Sizes) (n : ℕ) (l : Line) (e : l ≡ lineIn s (lineBody z (bodies s) n)) (f : ℕ) (g : f ≡ ruleRow (l .rule) .form) where
+  pub conclusion-pair : (i : Instruction) (c : Conclusion) → f ≡ paired → i ≡ instructionOf z (bodies s) (l .thread) (l .point) → c ≡ conclusionBy l (i .operation) → c ≡ conclusionOf s z n
+  unfolding conclusionOf lineAt
+  conclusion-pair i c h d q = rw (← e) (q ∙ ap (λ (j : Instruction). conclusionBy l (j .operation)) d)
 
-pub ruleset lining = (conclusion-by, conclusion-is)
+  pub conclusion-other : (c : Conclusion) → (f ≡ paired → ⊥) → c ≡ conclusionBy l 0 → c ≡ conclusionOf s z n
+  unfolding conclusionOf conclusionBy lineAt spokenForm
+  conclusion-other c h q = rw (← e, ← g, ne-eqb _ _ h) (q ∙ rw (← g, ne-eqb _ _ h))
+
+pub ruleset lining = (spoken-pair, spoken-alone, spoken-other, conclusion-by, conclusion-pair, conclusion-other)

@@ -6,7 +6,7 @@ use Prim.Native.Nat.{ℕ, zero, suc, _+_, _-_, _/_, _%_, _≤_, _<_}
 use native.Mathlib.Numerals.{sub-one}
 use lib.ListN.{getD}
 use lib.Dec.{eqb}
-use borrow.Author.Tests.{lt-ltb, le-ltb, eq-eqb, ne-eqb}
+use borrow.Author.Tests.{lt-ltb, le-ltb, le-leb, lt-leb, eq-eqb, ne-eqb}
 use Rattle.limits.specs.Limits.{nesting, premises}
 use Rattle.formula.proofs.Auto.{lower}
 use Rattle.matcher.specs.Places.{wholeAt, thenWhole}
@@ -23,18 +23,18 @@ module _ (form t k : ℕ) (c : Conclusion) where
   placed-other n = rw (ne-eqb _ _ n)
 
   module _ (e : c .form ≡ form) where
-    pub placed-form : (form ≡ hoare → ⊥) → true ≡ placedAt form t k c
+    pub placed-form : form < hoare → true ≡ placedAt form t k c
     unfolding placedAt
-    placed-form n = rw (eq-eqb _ _ e, ne-eqb _ _ n)
+    placed-form n = rw (eq-eqb _ _ e, lt-leb _ _ n)
 
-    module _ (h : form ≡ hoare) where
+    module _ (h : hoare ≤ form) where
       pub placed-thread : (c .thread ≡ t → ⊥) → false ≡ placedAt form t k c
       unfolding placedAt
-      placed-thread n = rw (eq-eqb _ _ e, eq-eqb _ _ h, ne-eqb _ _ n)
+      placed-thread n = rw (eq-eqb _ _ e, le-leb _ _ h, ne-eqb _ _ n)
 
       pub placed-point : (b : Bool) → c .thread ≡ t → b ≡ eqb (c .point) k → b ≡ placedAt form t k c
       unfolding placedAt
-      placed-point b q d = rw (eq-eqb _ _ e, eq-eqb _ _ h, eq-eqb _ _ q) d
+      placed-point b q d = rw (eq-eqb _ _ e, le-leb _ _ h, eq-eqb _ _ q) d
 
 pub ruleset placing = (placed-other, placed-form, placed-thread, placed-point)
 

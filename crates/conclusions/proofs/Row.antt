@@ -113,12 +113,12 @@ module _ (n : Rule) where
       go true e w f = subst (λ (k : ℕ). T (same-at k)) (sym (eqb-true op m e)) (and-left (same-at m) (all same-at l) h)
       go false e w f = f w
 
-  -- operations are 0 to 8
-  pub row-operations : (op : ℕ) → op ≤ Opcode.fetchAdd → allows (ruleRow (numberOf n) .operations) op ≡ isAmong op (row n .operations)
+  -- operations are 0 to 12
+  pub row-operations : (op : ℕ) → op ≤ Opcode.assignTwo → allows (ruleRow (numberOf n) .operations) op ≡ isAmong op (row n .operations)
   row-operations op h =
       same-bits (allows (ruleRow (numberOf n) .operations) op) (isAmong op (row n .operations)) (each-bit operations op (and-left bits side (and-left (bits && side) stands asks)) (known op h))
     where
-      known : (op : ℕ) → op ≤ Opcode.fetchAdd → T (isAmong op operations)
+      known : (op : ℕ) → op ≤ Opcode.assignTwo → T (isAmong op operations)
       known zero h = tt
       known (suc zero) h = tt
       known (suc (suc zero)) h = tt
@@ -128,4 +128,8 @@ module _ (n : Rule) where
       known (suc (suc (suc (suc (suc (suc zero)))))) h = tt
       known (suc (suc (suc (suc (suc (suc (suc zero))))))) h = tt
       known (suc (suc (suc (suc (suc (suc (suc (suc zero)))))))) h = tt
-      known (suc (suc (suc (suc (suc (suc (suc (suc (suc op))))))))) h = absurd (omega arith)
+      known (suc (suc (suc (suc (suc (suc (suc (suc (suc zero))))))))) h = tt
+      known (suc (suc (suc (suc (suc (suc (suc (suc (suc (suc zero)))))))))) h = tt
+      known (suc (suc (suc (suc (suc (suc (suc (suc (suc (suc (suc zero))))))))))) h = tt
+      known (suc (suc (suc (suc (suc (suc (suc (suc (suc (suc (suc (suc zero)))))))))))) h = tt
+      known (suc (suc (suc (suc (suc (suc (suc (suc (suc (suc (suc (suc (suc op))))))))))))) h = absurd (omega arith)

@@ -9,7 +9,7 @@ use Rattle.formula.specs.Tree.{parseTree}
 use Rattle.matcher.specs.Places.{wholeAt, thenWhole}
 use Rattle.matcher.specs.declared.bind.Bind.{Bind}
 use Rattle.matcher.specs.declared.whole.Whole.{Whole}
-use Rattle.certificate.specs.FitT.{TreeConclusion, hoare}
+use Rattle.certificate.specs.FitT.{TreeConclusion, acted}
 use Rattle.conclusions.specs.declared.conclusion.Conclusion.{Conclusion}
 use Rattle.conclusions.specs.declared.conclusion.Premises.{Premises}
 
@@ -17,9 +17,9 @@ use Rattle.conclusions.specs.declared.conclusion.Premises.{Premises}
 abbrev pub concludedAt : List ℕ → Conclusion → TreeConclusion
 concludedAt s c = record { form = c .form; thread = c .thread; point = c .point; left = parseTree s nesting (c .left) .tree; right = parseTree s nesting (c .right) .tree }
 
--- of the form that is wanted; a Hoare triple is for the same thread and point
+-- of the form that is wanted; a Hoare triple, of a pair too, is for the same thread and point
 unfoldable pub placedAt : ℕ → ℕ → ℕ → Conclusion → Bool
-placedAt form t k c = cond (eqb (c .form) form) (cond (eqb form hoare) (cond (eqb (c .thread) t) (eqb (c .point) k) false) true) false
+placedAt form t k c = cond (eqb (c .form) form) (cond (acted form) (cond (eqb (c .thread) t) (eqb (c .point) k) false) true) false
 
 -- the left side against the template at i, then the right side against the one behind it
 unfoldable pub matchConclusion : List ℕ → List ℕ → ℕ → ℕ → ℕ → ℕ → Conclusion → Bind → Whole

@@ -16,12 +16,12 @@ pub struct Conclusion {
     pub right: usize,
 }
 
-// Of the form that is wanted; a Hoare triple is for the same thread and point.
+// Of the form that is wanted; a Hoare triple, of a pair too, is for the same thread and point.
 pub fn is_placed(form: u8, thread: usize, point: usize, c: Conclusion) -> bool
     ensures { λ r. ⌜ r ≡ placedAt form thread point c ⌝ }
 {
     if c.form == form {
-        if form == Form::TRIPLE {
+        if Form::TRIPLE <= form {
             if c.thread == thread {
                 return c.point == point;
             }

@@ -2,18 +2,36 @@
 use crate::conclusion::Conclusion;
 use content::line::Line;
 use content::line::line_of;
+use program::instruction::is_pair;
 use program::sizes::Sizes;
+use records::place::instruction_of;
+use rulebook::rule::Form;
 use rulebook::rule::form_at;
 ghost use mathlib.Core.Path.{_≡_};
 ghost use Rattle.frames.specs.Records.{indexOf};
-ghost use Rattle.conclusions.specs.LineConclusion.{conclusionBy, conclusionOf};
+ghost use Rattle.conclusions.specs.LineConclusion.{spokenForm, conclusionBy, conclusionOf};
+ghost use Rattle.rulebook.specs.Rulebook.{ruleRow};
 
-// The form is that of the line's rule.
-pub fn conclusion_by(l: Line) -> Conclusion
-    ensures { λ r. ⌜ r ≡ conclusionBy l ⌝ }
+// The form of a line is that of its rule; a line for a whole pair is an ordinary triple where there is none.
+fn spoken_form(rule: u8, operation: u8) -> u8
+    ensures { λ r. ⌜ r ≡ spokenForm (ruleRow rule .form) operation ⌝ }
+{
+    let form = form_at(rule);
+    if form == Form::PAIR {
+        if is_pair(operation) {
+            return Form::PAIR;
+        }
+        return Form::TRIPLE;
+    }
+    form
+}
+
+// With the operation at its thread and point.
+pub fn conclusion_by(l: Line, operation: u8) -> Conclusion
+    ensures { λ r. ⌜ r ≡ conclusionBy l operation ⌝ }
 {
     Conclusion {
-        form: form_at(l.rule),
+        form: spoken_form(l.rule, operation),
         thread: l.thread as usize,
         point: l.point as usize,
         left: l.left,
@@ -21,11 +39,15 @@ pub fn conclusion_by(l: Line) -> Conclusion
     }
 }
 
-// What line n concludes.
+// What line n concludes. Only a line for a whole pair asks for the instruction.
 pub fn conclusion_of<'a, 'b>(s: &'a [u8], ix: &'b [usize], z: Sizes, n: usize) -> Conclusion
     requires { ⌜ now ix ≡ indexOf (now s) ⌝ }
     ensures { λ r. ⌜ r ≡ conclusionOf (now (s .entry)) z n ⌝ }
 {
     let l = line_of(s, ix, z, n);
-    conclusion_by(l)
+    if form_at(l.rule) == Form::PAIR {
+        let i = instruction_of(s, ix, z, l.thread as usize, l.point as usize);
+        return conclusion_by(l, i.operation);
+    }
+    conclusion_by(l, 0)
 }

@@ -14,7 +14,7 @@ use Rattle.logic.specs.Opcode as Opcode
 use Rattle.logic.specs.Names as Names
 use Rattle.logic.specs.Eval.{bounded}
 use Rattle.logic.specs.Machine.{Program}
-use Rattle.logic.specs.Statement.{isBranch, admitted}
+use Rattle.logic.specs.Statement.{triple, pair, isBranch, isPair, admittedAt, admitted}
 use Rattle.logic.proofs.Base.{and-both}
 use Rattle.limits.specs.Limits as Limits
 use Rattle.limits.specs.Numbers.{numbers, within, every}
@@ -26,7 +26,7 @@ use Rattle.program.specs.Thread.{lastPoint, instructions, nothing}
 use Rattle.program.proofs.Laws.Program.{instructions-length}
 use Rattle.records.specs.Places.{threadBody, instructionOf}
 use Rattle.records.specs.declared.line.Form.{Form}
-use Rattle.records.specs.declared.line.Form.the-variants.{Triple, Implication, Inclusion, Unlisted}
+use Rattle.records.specs.declared.line.Form.the-variants.{Triple, Implication, Inclusion, Pair, Unlisted}
 use Rattle.records.specs.Line.{formOf, premises, tripleAt, placed, numbered, lineNumbers}
 use Rattle.records.specs.List.{exactly}
 use Rattle.records.specs.Tally.{obligationCount}
@@ -184,11 +184,20 @@ module _ (z : Sizes) (l : List (List ℕ)) (c : Checks z l) (n : ℕ) (low : 1 �
         (and-both (Base.within (z .threads) t) (ltb (suc k) (P .points t)) (within-there (z .threads) t (triple-there .0 .0) (triple-there .0 .1)) (lt→ltb (suc k) (P .points t) (triple-there .1)))
         (rw (branch-is l (instructionOf z l t k), no-branch) tt)
 
-  line-fine : (f : Form) → placed z l f body ≡ true → sortedBy l f (left body) ≡ true → sortedBy l f (right body) ≡ true → T (admitted P (saying l f body))
-  unfolding saying sortedBy sortAt
-  line-fine Triple e p q =
+  triple-fine : placed z l Triple body ≡ true → outlinedAt l (left body) ≡ true → outlinedAt l (right body) ≡ true → T (admittedAt P t k before after)
+  triple-fine e p q =
       and-both (instructed && acts) ((Names.plain before && Names.plain after) && (Names.startless before && Names.startless after)) (action-there e)
-      (and-both (Names.plain before && Names.plain after) (Names.startless before && Names.startless after) (sides-plain (outlined-fine z l c (left body) p .0) (outlined-fine z l c (right body) q .0)) (sides-startless p q))
+      (and-both (Names.plain before && Names.plain after) (Names.startless before && Names.startless after)
+      (sides-plain (outlined-fine z l c (left body) p .0) (outlined-fine z l c (right body) q .0)) (sides-startless p q))
+
+  line-fine : (f : Form) → placed z l f body ≡ true → sortedBy l f (left body) ≡ true → sortedBy l f (right body) ≡ true → T (admitted P (saying z l f body))
+  unfolding saying placed sortedBy sortAt
+  line-fine Triple e p q = triple-fine e p q
+  line-fine Pair e p q = taking-fine (isPair (P .code t k))
+    where
+      taking-fine : (b : Bool) → T (admitted P (elim b [ true ↦ pair t k before after | false ↦ triple t k before after ]))
+      taking-fine true = triple-fine e p q
+      taking-fine false = triple-fine e p q
   line-fine Implication e p q = sides-plain (eqb-true (sortOf (getD l (left body) [])) Codes.assertion p) (eqb-true (sortOf (getD l (right body) [])) Codes.assertion q)
   line-fine Inclusion e p q = tt
   line-fine Unlisted e p q = tt
@@ -200,16 +209,21 @@ module _ (z : Sizes) (l : List (List ℕ)) (c : Checks z l) (n : ℕ) (low : 1 �
       (formula-bounded z l c (left body) (in-range .0 .0) (in-range .0 .1) p e)
       (formula-bounded z l c (right body) (in-range .1 .0) (in-range .1 .1) p d)
 
-  line-constants : (f : Form) → placed z l f body ≡ true → sortedBy l f (left body) ≡ true → sortedBy l f (right body) ≡ true → T (boundedSides (P .range) (saying l f body))
+  line-constants : (f : Form) → placed z l f body ≡ true → sortedBy l f (left body) ≡ true → sortedBy l f (right body) ≡ true → T (boundedSides (P .range) (saying z l f body))
   unfolding saying placed sortedBy sortAt
   line-constants Triple h p q = sides-bounded Codes.assertion (outlined-fine z l c (left body) p .0) (outlined-fine z l c (right body) q .0)
+  line-constants Pair h p q = taking-bounded (isPair (P .code t k))
+    where
+      taking-bounded : (b : Bool) → T (boundedSides (P .range) (elim b [ true ↦ pair t k before after | false ↦ triple t k before after ]))
+      taking-bounded true = sides-bounded Codes.assertion (outlined-fine z l c (left body) p .0) (outlined-fine z l c (right body) q .0)
+      taking-bounded false = sides-bounded Codes.assertion (outlined-fine z l c (left body) p .0) (outlined-fine z l c (right body) q .0)
   line-constants Implication h p q = sides-bounded Codes.assertion (eqb-true (sortOf (getD l (left body) [])) Codes.assertion p) (eqb-true (sortOf (getD l (right body) [])) Codes.assertion q)
   line-constants Inclusion h p q = sides-bounded Codes.interval (eqb-true (sortOf (getD l (left body) [])) Codes.interval p) (eqb-true (sortOf (getD l (right body) [])) Codes.interval q)
   line-constants Unlisted h p q = absurd (true≢false (sym h))
 
   -- its constants are values
-  pub line-bounded : T (boundedSides (P .range) (saying l form body))
+  pub line-bounded : T (boundedSides (P .range) (saying z l form body))
   line-bounded = line-constants form (numbers-passed .0) (sorted-passed .0) (sorted-passed .1)
 
-  pub line-admitted : T (admitted P (saying l form body))
+  pub line-admitted : T (admitted P (saying z l form body))
   line-admitted = line-fine form (numbers-passed .0) (sorted-passed .0) (sorted-passed .1)

@@ -23,10 +23,11 @@ use Rattle.limits.proofs.Numbers.{numbers-length}
 use Rattle.formula.specs.Codes as Codes
 use Rattle.formula.specs.Reader.{sortOf}
 use Rattle.program.specs.declared.sizes.Sizes.{Sizes}
+use Rattle.program.specs.declared.instruction.Half.{Half}
 use Rattle.program.specs.declared.instruction.Instruction.{Instruction}
 use Rattle.program.specs.declared.instruction.Fields.{Fields}
 use Rattle.program.specs.Header.{startValues, owners, marks, counted, headed, header}
-use Rattle.program.specs.Instruction.{inside, fieldsOf, fieldsFit, ranged}
+use Rattle.program.specs.Instruction.{inside, twofold, fieldsOf, fieldsFit, differ, halfFits, secondFits, ranged}
 use Rattle.program.specs.Thread.{lastPoint, instructions, nothing, numbered, threadNumbers}
 use Rattle.program.proofs.Laws.Header.{counted-in}
 use Rattle.program.proofs.Laws.Program.{instructions-length}
@@ -35,7 +36,7 @@ use Rattle.records.specs.List.{exactly}
 use Rattle.records.specs.Tally.{tallyTo, tally}
 use Rattle.occurs.specs.Occurs.{occurs, register}
 use Rattle.bodies.specs.Use.{treeOf, startless, plain, outlined, plainOf}
-use Rattle.bodies.specs.Thread.{wanted, sorted, resultAbsent, threadRegisters, thread}
+use Rattle.bodies.specs.Thread.{wanted, formulaSorted, sorted, resultAbsent, threadRegisters, thread}
 use Rattle.bodies.specs.Lists.{outlinedAt, outline}
 use Rattle.content.specs.Formula.{formula}
 use Rattle.content.specs.Program.{instr, pointCount, programOf, outlineBody, outlineNumber, outlineOf}
@@ -50,8 +51,8 @@ use Rattle.content.proofs.Count.{tally-points, pointsOf}
 pub within-there : (n k : ℕ) → 1 ≤ k → k ≤ n → T (Base.within n k)
 within-there n k a b = and-both (leb 1 k) (leb k n) (le→leb 1 k a) (le→leb k n b)
 
-abbrev pub made : ℕ → ℕ → ℕ → ℕ → Instruction
-made op a b f = record { operation = op; a = a; b = b; formula = f }
+abbrev pub made : ℕ → ℕ → ℕ → ℕ → Half → Instruction
+made op a b f h = record { operation = op; a = a; b = b; formula = f; second = h }
 
 -- the fields of an instruction are in their ranges
 pub fields-in : (i : Instruction) (f : Fields) → fieldsFit i f ≡ true
@@ -61,6 +62,23 @@ fields-in i f e =
     let h = and-true (inside (f .a) (i .a)) (inside (f .b) (i .b) && inside (f .formula) (i .formula)) e in
     let g = and-true (inside (f .b) (i .b)) (inside (f .formula) (i .formula)) (h .1) in
     (within-true (f .a .low) (f .a .high) (i .a) (h .0), within-true (f .b .low) (f .b .high) (i .b) (g .0), within-true (f .formula .low) (f .formula .high) (i .formula) (g .1))
+
+-- both halves of an instruction are
+pub ranged-both : (last : ℕ) (z : Sizes) (i : Instruction) → ranged last z i ≡ true → (fieldsFit i (fieldsOf (i .operation) last z) ≡ true) × (secondFits z i ≡ true)
+unfolding ranged
+ranged-both last z i e = and-true (fieldsFit i (fieldsOf (i .operation) last z)) (secondFits z i) e
+
+-- a second half that there is: its formula is there
+pub second-in : (z : Sizes) (i : Instruction) → twofold (i .operation) ≡ true → secondFits z i ≡ true → (1 ≤ i .second .formula) × (i .second .formula ≤ z .formulas)
+unfolding secondFits halfFits
+second-in z i t e =
+    let h : Half = i .second in
+    let x : Bool = within 1 (z .formulas) (h .formula) in
+    let y : Bool = within 0 0 (h .b) && x in
+    let w : Bool = within 1 (z .registers) (h .a) && y in
+    let g = and-true (within Opcode.assign Opcode.assign (h .operation) && w) (differ i) (rw t at e) in
+    let k = and-true (within Opcode.assign Opcode.assign (h .operation)) w (g .0) in
+    within-true 1 (z .formulas) (h .formula) (and-true (within 0 0 (h .b)) x (and-true (within 1 (z .registers) (h .a)) y (k .1) .1) .1)
 
 module _ (z : Sizes) (l : List (List ℕ)) (c : Checks z l) where
   abbrev P : Program
@@ -100,13 +118,18 @@ module _ (z : Sizes) (l : List (List ℕ)) (c : Checks z l) where
 
   -- instructions
 
-  -- an instruction that has a formula: of the sort that its operation wants, without 2, 14, 15
-  pub formula-sorted : (i : Instruction) → 1 ≤ i .formula → sorted l i ≡ true → (sortOf (getD l (i .formula) []) ≡ wanted (i .operation)) × (plain (getD l (i .formula) []) ≡ true)
-  unfolding sorted plainOf
-  formula-sorted i a e =
-      let q : i .formula ≡ 0 → ⊥ = omega arith in
-      let h = and-true (eqb (sortOf (getD l (i .formula) [])) (wanted (i .operation))) (plain (getD l (i .formula) [])) (rw (ne-eqb (i .formula) 0 q) at e) in
-      (eqb-true (sortOf (getD l (i .formula) [])) (wanted (i .operation)) (h .0), h .1)
+  -- a formula of an instruction: of the sort that is wanted, without 2, 14, 15
+  pub formula-sorted : (sort k : ℕ) → 1 ≤ k → formulaSorted l sort k ≡ true → (sortOf (getD l k []) ≡ sort) × (plain (getD l k []) ≡ true)
+  unfolding formulaSorted plainOf
+  formula-sorted sort k a e =
+      let q : k ≡ 0 → ⊥ = omega arith in
+      let h = and-true (eqb (sortOf (getD l k [])) sort) (plain (getD l k [])) (rw (ne-eqb k 0 q) at e) in
+      (eqb-true (sortOf (getD l k [])) sort (h .0), h .1)
+
+  -- of both halves
+  pub sorted-both : (i : Instruction) → sorted l i ≡ true → (formulaSorted l (wanted (i .operation)) (i .formula) ≡ true) × (formulaSorted l Codes.value (i .second .formula) ≡ true)
+  unfolding sorted
+  sorted-both i e = and-true (formulaSorted l (wanted (i .operation)) (i .formula)) (formulaSorted l Codes.value (i .second .formula)) e
 
   value-fine : (k : ℕ) → 1 ≤ k → k ≤ z .formulas → (sortOf (getD l k []) ≡ Codes.value) × (plain (getD l k []) ≡ true) → T (only isReg (formula l Sort.value k) && bounded (P .range) (formula l Sort.value k))
   value-fine k a b h = and-both (only isReg (formula l Sort.value k)) (bounded (P .range) (formula l Sort.value k)) (value-regs z l c k a b (h .0) (h .1)) (formula-bounded z l c k a b Codes.value (h .0))
@@ -122,54 +145,83 @@ module _ (z : Sizes) (l : List (List ℕ)) (c : Checks z l) where
     alone : (b : Bool) → T b → T (b && true)
     alone b h = and-both b true h tt
 
+    first-fields : (i : Instruction) → ranged last z i ≡ true → fieldsFit i (fieldsOf (i .operation) last z) ≡ true
+    first-fields i e = ranged-both last z i e .0
+
+    -- the formula of the first half, where it is there
+    first-fine : (i : Instruction) → wanted (i .operation) ≡ Codes.value → (1 ≤ i .formula) × (i .formula ≤ z .formulas) → sorted l i ≡ true → T (valued (i .formula))
+    first-fine i w r d = let s = formula-sorted (wanted (i .operation)) (i .formula) (r .0) (sorted-both i d .0) in value-fine (i .formula) (r .0) (r .1) (s .0 ∙ w, s .1)
+
+    -- the note of the second half
+    note-fine : (i : Instruction) → twofold (i .operation) ≡ true → ranged last z i ≡ true → sorted l i ≡ true → T (valued (i .second .formula) && true)
+    note-fine i t e d =
+        let r = second-in z i t (ranged-both last z i e .1) in
+        alone (valued (i .second .formula)) (value-fine (i .second .formula) (r .0) (r .1) (formula-sorted Codes.value (i .second .formula) (r .0) (sorted-both i d .1)))
+
     -- a write of the word a: b is what else is asked of its formula
-    writing : (a f : ℕ) (b : Bool) → (1 ≤ a) × (a ≤ z .words) → T (valued f) → T b → T ((Base.within (z .words) a && (valued f && b)) && true)
+    writing : (a f : ℕ) (b : Bool) → (1 ≤ a) × (a ≤ z .words) → T (valued f) → T b → T (Base.within (z .words) a && (valued f && b))
     writing a f b w v h =
-        alone (Base.within (z .words) a && (valued f && b))
-        (and-both (Base.within (z .words) a) (valued f && b) (within-there (z .words) a (w .0) (w .1)) (and-both (valued f) b v h))
+        and-both (Base.within (z .words) a) (valued f && b) (within-there (z .words) a (w .0) (w .1)) (and-both (valued f) b v h)
 
-    write-fine : (op a b f : ℕ) → wanted op ≡ Codes.value → fieldsOf op last z ≡ fieldsOf Opcode.store last z → ranged last z (made op a b f) ≡ true → sorted l (made op a b f) ≡ true
-        → T ((Base.within (z .words) a && (valued f && true)) && true)
-    unfolding ranged fieldsOf
-    write-fine op a b f w q e d =
-        let h = fields-in (made op a b f) (fieldsOf Opcode.store last z) (ap (λ (y : Fields). fieldsFit (made op a b f) y) (sym q) ∙ e) in
-        let s = formula-sorted (made op a b f) (h .2 .0) d in
-        writing a f true (h .0) (value-fine f (h .2 .0) (h .2 .1) (s .0 ∙ w, s .1)) tt
+    write-fine : (i : Instruction) → wanted (i .operation) ≡ Codes.value → fieldsOf (i .operation) last z ≡ fieldsOf Opcode.store last z → ranged last z i ≡ true
+        → sorted l i ≡ true → T (Base.within (z .words) (i .a) && (valued (i .formula) && true))
+    unfolding fieldsOf
+    write-fine i w q e d =
+        let h = fields-in i (fieldsOf Opcode.store last z) (ap (λ (y : Fields). fieldsFit i y) (sym q) ∙ first-fields i e) in
+        writing (i .a) (i .formula) true (h .0) (first-fine i w (h .2) d) tt
 
-    result-fine : (op a b f : ℕ) → wanted op ≡ Codes.value → fieldsOf op last z ≡ fieldsOf Opcode.exchange last z → leb op Opcode.branch ≡ false
-        → ranged last z (made op a b f) ≡ true → sorted l (made op a b f) ≡ true → resultAbsent l (made op a b f) ≡ true
-        → T ((Base.within (z .words) a && (valued f && only (notReg b) (formula l Sort.value f))) && true)
-    unfolding ranged fieldsOf resultAbsent
-    result-fine op a b f w q o e d g =
-        let h = fields-in (made op a b f) (fieldsOf Opcode.exchange last z) (ap (λ (y : Fields). fieldsFit (made op a b f) y) (sym q) ∙ e) in
-        let s = formula-sorted (made op a b f) (h .2 .0) d in
-        writing a f (only (notReg b) (formula l Sort.value f)) (h .0) (value-fine f (h .2 .0) (h .2 .1) (s .0 ∙ w, s .1))
-        (value-lacks z l c f (h .2 .0) (h .2 .1) b (s .0 ∙ w) (not-true (occurs (register b) [] (treeOf (getD l f []))) (rw o at g)))
+    -- with a note
+    pair-fine : (i : Instruction) → wanted (i .operation) ≡ Codes.value → fieldsOf (i .operation) last z ≡ fieldsOf Opcode.store last z → twofold (i .operation) ≡ true
+        → ranged last z i ≡ true → sorted l i ≡ true
+        → T ((Base.within (z .words) (i .a) && (valued (i .formula) && true)) && (valued (i .second .formula) && true))
+    pair-fine i w q t e d =
+        and-both (Base.within (z .words) (i .a) && (valued (i .formula) && true)) (valued (i .second .formula) && true) (write-fine i w q e d) (note-fine i t e d)
 
-    -- no operation is above 8: its first field has no range
-    pub none-above : (op a b f : ℕ) → 8 < op → ranged last z (made op a b f) ≡ true → ⊥
-    unfolding ranged fieldsOf
-    none-above op a b f m e =
+    result-fine : (i : Instruction) → wanted (i .operation) ≡ Codes.value → fieldsOf (i .operation) last z ≡ fieldsOf Opcode.exchange last z
+        → leb (i .operation) Opcode.branch ≡ false → ltb Opcode.fetchAdd (i .operation) ≡ false
+        → ranged last z i ≡ true → sorted l i ≡ true → resultAbsent l i ≡ true
+        → T ((Base.within (z .words) (i .a) && (valued (i .formula) && only (notReg (i .b)) (formula l Sort.value (i .formula)))) && true)
+    unfolding fieldsOf resultAbsent
+    result-fine i w q o o′ e d g =
+        let h = fields-in i (fieldsOf Opcode.exchange last z) (ap (λ (y : Fields). fieldsFit i y) (sym q) ∙ first-fields i e) in
+        let s = formula-sorted (wanted (i .operation)) (i .formula) (h .2 .0) (sorted-both i d .0) in
+        alone (Base.within (z .words) (i .a) && (valued (i .formula) && only (notReg (i .b)) (formula l Sort.value (i .formula))))
+        (writing (i .a) (i .formula) (only (notReg (i .b)) (formula l Sort.value (i .formula))) (h .0) (first-fine i w (h .2) d)
+        (value-lacks z l c (i .formula) (h .2 .0) (h .2 .1) (i .b) (s .0 ∙ w) (not-true (occurs (register (i .b)) [] (treeOf (getD l (i .formula) []))) (rw (o, o′) at g))))
+
+    -- no operation is above 12: its first field has no range
+    pub none-above : (i : Instruction) → 12 < i .operation → ranged last z i ≡ true → ⊥
+    unfolding fieldsOf
+    none-above i m e =
+        let op : ℕ = i .operation in
         let p : op ≡ 0 → ⊥ = omega arith in
         let q : op ≡ 6 → ⊥ = omega arith in
-        let h = fields-in _ _ (rw (ne-eqb op 0 p, lt-leb op 2 (omega arith), lt-leb op 5 (omega arith), ne-eqb op 6 q, lt-leb op 8 (omega arith)) at e) in
+        let r : op ≡ 12 → ⊥ = omega arith in
+        let h = fields-in _ _ (rw (ne-eqb op 0 p, lt-leb op 2 (omega arith), lt-leb op 5 (omega arith), ne-eqb op 6 q, lt-leb op 8 (omega arith), lt-leb op 11 (omega arith), ne-eqb op 12 r) at (first-fields i e)) in
         omega arith
 
-    instr-proper : (op a b f : ℕ) → Proper (made op a b f)
-    unfolding ranged fieldsOf instr wanted
-    instr-proper zero a b f e d g = let h = fields-in _ _ e in alone (valued f) (value-fine f (h .2 .0) (h .2 .1) (formula-sorted (made 0 a b f) (h .2 .0) d))
-    instr-proper (suc zero) a b f e d g = let h = fields-in _ _ e in alone (Base.within (z .words) b) (within-there (z .words) b (h .1 .0) (h .1 .1))
-    instr-proper (suc (suc zero)) a b f e d g = let h = fields-in _ _ e in alone (Base.within (z .words) b) (within-there (z .words) b (h .1 .0) (h .1 .1))
-    instr-proper (suc (suc (suc zero))) a b f e d g = write-fine 3 a b f refl refl e d
-    instr-proper (suc (suc (suc (suc zero)))) a b f e d g = write-fine 4 a b f refl refl e d
-    instr-proper (suc (suc (suc (suc (suc zero))))) a b f e d g = write-fine 5 a b f refl refl e d
-    instr-proper (suc (suc (suc (suc (suc (suc zero)))))) a b f e d g =
-        let h = fields-in _ _ e in
-        let s = formula-sorted (made 6 a b f) (h .2 .0) d in
+    instr-proper : (op a b f : ℕ) (n : Half) → Proper (made op a b f n)
+    unfolding fieldsOf instr wanted twofold
+    instr-proper zero a b f n e d g = let h = fields-in _ _ (first-fields _ e) in alone (valued f) (first-fine (made 0 a b f n) refl (h .2) d)
+    instr-proper (suc zero) a b f n e d g = let h = fields-in _ _ (first-fields _ e) in alone (Base.within (z .words) b) (within-there (z .words) b (h .1 .0) (h .1 .1))
+    instr-proper (suc (suc zero)) a b f n e d g = let h = fields-in _ _ (first-fields _ e) in alone (Base.within (z .words) b) (within-there (z .words) b (h .1 .0) (h .1 .1))
+    instr-proper (suc (suc (suc zero))) a b f n e d g = alone (Base.within (z .words) a && (valued f && true)) (write-fine (made 3 a b f n) refl refl e d)
+    instr-proper (suc (suc (suc (suc zero)))) a b f n e d g = alone (Base.within (z .words) a && (valued f && true)) (write-fine (made 4 a b f n) refl refl e d)
+    instr-proper (suc (suc (suc (suc (suc zero))))) a b f n e d g = alone (Base.within (z .words) a && (valued f && true)) (write-fine (made 5 a b f n) refl refl e d)
+    instr-proper (suc (suc (suc (suc (suc (suc zero)))))) a b f n e d g =
+        let h = fields-in _ _ (first-fields _ e) in
+        let s = formula-sorted Codes.test f (h .2 .0) (sorted-both (made 6 a b f n) d .0) in
         and-both (only isReg (formula l Sort.test f)) (ltb a (last + 1)) (test-regs z l c f (h .2 .0) (h .2 .1) (s .0) (s .1)) (lt→ltb a (last + 1) (omega (arith, h .0 .1)))
-    instr-proper (suc (suc (suc (suc (suc (suc (suc zero))))))) a b f e d g = result-fine 7 a b f refl refl refl e d g
-    instr-proper (suc (suc (suc (suc (suc (suc (suc (suc zero)))))))) a b f e d g = result-fine 8 a b f refl refl refl e d g
-    instr-proper (suc (suc (suc (suc (suc (suc (suc (suc (suc n))))))))) a b f e d g = absurd (none-above (suc (suc (suc (suc (suc (suc (suc (suc (suc n))))))))) a b f (omega arith) e)
+    instr-proper (suc (suc (suc (suc (suc (suc (suc zero))))))) a b f n e d g = result-fine (made 7 a b f n) refl refl refl refl e d g
+    instr-proper (suc (suc (suc (suc (suc (suc (suc (suc zero)))))))) a b f n e d g = result-fine (made 8 a b f n) refl refl refl refl e d g
+    instr-proper (suc (suc (suc (suc (suc (suc (suc (suc (suc zero))))))))) a b f n e d g = pair-fine (made 9 a b f n) refl refl refl e d
+    instr-proper (suc (suc (suc (suc (suc (suc (suc (suc (suc (suc zero)))))))))) a b f n e d g = pair-fine (made 10 a b f n) refl refl refl e d
+    instr-proper (suc (suc (suc (suc (suc (suc (suc (suc (suc (suc (suc zero))))))))))) a b f n e d g = pair-fine (made 11 a b f n) refl refl refl e d
+    instr-proper (suc (suc (suc (suc (suc (suc (suc (suc (suc (suc (suc (suc zero)))))))))))) a b f n e d g =
+        let h = fields-in _ _ (first-fields _ e) in
+        and-both (valued f) (valued (n .formula) && true) (first-fine (made 12 a b f n) refl (h .2) d) (note-fine (made 12 a b f n) refl e d)
+    instr-proper (suc (suc (suc (suc (suc (suc (suc (suc (suc (suc (suc (suc (suc m))))))))))))) a b f n e d g =
+        absurd (none-above (made (suc (suc (suc (suc (suc (suc (suc (suc (suc (suc (suc (suc (suc m))))))))))))) a b f n) (omega arith) e)
 
   module _ (t : ℕ) (low : 1 ≤ t) (high : t ≤ z .threads) where
     abbrev pub body : List ℕ
@@ -202,7 +254,7 @@ module _ (z : Sizes) (l : List (List ℕ)) (c : Checks z l) where
         let m : k < length (instructions body) = let q = instructions-length body in omega arith in
         let i : Instruction = getD (instructions body) k nothing in
         rw (instruction-there z l t k low high)
-        (instr-proper (lastPoint body) (i .operation) (i .a) (i .b) (i .formula) (every-at (ranged (lastPoint body) z) (instructions body) k nothing thread-ranged m) (every-at (sorted l) (instructions body) k nothing thread-sorted m) (every-at (resultAbsent l) (instructions body) k nothing thread-absent m))
+        (instr-proper (lastPoint body) (i .operation) (i .a) (i .b) (i .formula) (i .second) (every-at (ranged (lastPoint body) z) (instructions body) k nothing thread-ranged m) (every-at (sorted l) (instructions body) k nothing thread-sorted m) (every-at (resultAbsent l) (instructions body) k nothing thread-absent m))
 
   -- the outline
 

@@ -1,5 +1,5 @@
 -- Where the code finds what an image says: a formula by its position in the image, a line and an instruction by their numbers and positions.
-use mathlib.Core.Bool.{cond}
+use mathlib.Core.Bool.{Bool, true, cond}
 use mathlib.Core.List.{List}
 use Prim.Native.Nat.{ℕ, _+_}
 use lib.Dec.{eqb, leb, ltb}
@@ -8,6 +8,7 @@ use Rattle.logic.specs.Opcode as Opcode
 use Rattle.limits.specs.Limits as Limits
 use Rattle.frames.specs.Records.{startOf}
 use Rattle.program.specs.declared.instruction.Instruction.{Instruction}
+use Rattle.program.specs.Instruction.{firstOperation}
 use Rattle.content.specs.Certificate.{left, right}
 use Rattle.content.specs.declared.line.Line.{Line}
 use Rattle.content.specs.declared.acting.Acting.{Acting}
@@ -31,12 +32,17 @@ lineIn s b = record {
   count = getD b 7 0;
 }
 
-abbrev pub acts : ℕ → ℕ → ℕ → ℕ → Acting
-acts op x r f = record { operation = op; word = x; register = r; formula = f }
+abbrev pub acts : ℕ → ℕ → ℕ → ℕ → ℕ → ℕ → ℕ → Acting
+acts op whole x r f q g = record { operation = op; whole = whole; word = x; register = r; formula = f; noted = q; note = g }
 
--- an instruction's word, register and formula. Assignments and loads have their register first; where there is none, its field is 0
+-- assignments and loads have their register first
+unfoldable pub registerFirst : ℕ → Bool
+registerFirst op = cond (leb op Opcode.acquire) true (eqb op Opcode.assignTwo)
+
+-- an instruction's operation, word, register and formula, and its second half; where there is none, its field is 0
 unfoldable pub actingOf : List ℕ → Instruction → Acting
 actingOf s i =
-    cond (leb (i .operation) Opcode.acquire) (acts (i .operation) (i .b) (i .a) (formulaAt s (i .formula)))
-    (cond (eqb (i .operation) Opcode.branch) (acts (i .operation) 0 0 (length s))
-    (acts (i .operation) (i .a) (i .b) (formulaAt s (i .formula))))
+    cond (eqb (i .operation) Opcode.branch) (acts (i .operation) (i .operation) 0 0 (length s) 0 (length s))
+    (cond (registerFirst (i .operation))
+    (acts (i .operation) (i .operation) (i .b) (i .a) (formulaAt s (i .formula)) (i .second .a) (formulaAt s (i .second .formula)))
+    (acts (firstOperation (i .operation)) (i .operation) (i .a) (i .b) (formulaAt s (i .formula)) (i .second .a) (formulaAt s (i .second .formula))))

@@ -7,9 +7,11 @@ use lib.ListN.{getD}
 use Rattle.logic.specs.Formula.{Sort, Value, Formula.const}
 use Rattle.logic.specs.Opcode as Opcode
 use Rattle.logic.specs.Machine.{Program, Mode.store, Mode.swap, Mode.exchange, Mode.fetchAdd, Access.none, Access.load, Access.write, Instr, Instr.act, Instr.branch}
+use Rattle.logic.specs.Replace.{Note}
 use Rattle.logic.specs.EveryRun.{Outline}
 use Rattle.limits.specs.Numbers.{nth, numbers}
 use Rattle.program.specs.declared.sizes.Sizes.{Sizes}
+use Rattle.program.specs.declared.instruction.Half.{Half}
 use Rattle.program.specs.declared.instruction.Instruction.{Instruction}
 use Rattle.program.specs.Header.{startValues, cleared, valueRange}
 use Rattle.program.specs.Thread.{lastPoint}
@@ -17,19 +19,23 @@ use Rattle.records.specs.Places.{threadBody, instructionOf}
 use Rattle.records.specs.Tally.{tallyTo, tally}
 use Rattle.content.specs.Formula.{formula}
 
--- an assignment is a note without an access
-abbrev pub assign : ℕ → Value → Instr
-assign r f = act none (record { to = r; by = f } ∷ [])
+-- a register and what it is given
+abbrev pub gives : ℕ → Value → Note
+gives r f = record { to = r; by = f }
 
 -- for an operation that is not there
 abbrev pub idle : Instr
-idle = assign 0 (const 0)
+idle = act none (gives 0 (const 0) ∷ [])
 
 module _ (l : List (List ℕ)) where
-  -- an instruction as its operation says
+  -- the assignment of a second half
+  abbrev pub noteOf : Half → Note
+  noteOf h = gives (h .a) (formula l Sort.value (h .formula))
+
+  -- an instruction as its operation says. An assignment is a note without an access; 9 to 11 are an access with a note, 12 is two notes
   unfoldable pub instr : Instruction → Instr
   instr i =
-      cond (eqb (i .operation) Opcode.assign) (assign (i .a) (formula l Sort.value (i .formula)))
+      cond (eqb (i .operation) Opcode.assign) (act none (gives (i .a) (formula l Sort.value (i .formula)) ∷ []))
       (cond (eqb (i .operation) Opcode.load) (act (load false (i .a) (i .b)) [])
       (cond (eqb (i .operation) Opcode.acquire) (act (load true (i .a) (i .b)) [])
       (cond (eqb (i .operation) Opcode.store) (act (write (store false) (i .a) (formula l Sort.value (i .formula))) [])
@@ -38,7 +44,11 @@ module _ (l : List (List ℕ)) where
       (cond (eqb (i .operation) Opcode.branch) (branch (formula l Sort.test (i .formula)) (i .a))
       (cond (eqb (i .operation) Opcode.exchange) (act (write (exchange (i .b)) (i .a) (formula l Sort.value (i .formula))) [])
       (cond (eqb (i .operation) Opcode.fetchAdd) (act (write (fetchAdd (i .b)) (i .a) (formula l Sort.value (i .formula))) [])
-      idle))))))))
+      (cond (eqb (i .operation) Opcode.pairStore) (act (write (store false) (i .a) (formula l Sort.value (i .formula))) (noteOf (i .second) ∷ []))
+      (cond (eqb (i .operation) Opcode.pairRelease) (act (write (store true) (i .a) (formula l Sort.value (i .formula))) (noteOf (i .second) ∷ []))
+      (cond (eqb (i .operation) Opcode.pairSwap) (act (write swap (i .a) (formula l Sort.value (i .formula))) (noteOf (i .second) ∷ []))
+      (cond (eqb (i .operation) Opcode.assignTwo) (act none (gives (i .a) (formula l Sort.value (i .formula)) ∷ noteOf (i .second) ∷ []))
+      idle))))))))))))
 
 module _ (z : Sizes) (l : List (List ℕ)) where
   -- a thread's points, 0 to its last

@@ -7,11 +7,15 @@ use Rattle.logic.specs.Opcode as Opcode
 use Rattle.limits.specs.Limits.{nesting}
 use Rattle.formula.specs.Tree.{Tree, parseTree}
 use Rattle.compare.specs.Replace.{NoteT}
+use Rattle.frames.specs.Records.{bodies}
+use Rattle.program.specs.declared.sizes.Sizes.{Sizes}
+use Rattle.program.specs.Instruction.{pairOperation}
 use Rattle.records.specs.declared.line.Form.{Form}
-use Rattle.records.specs.declared.line.Form.the-variants.{Triple, Implication, Inclusion, Unlisted}
+use Rattle.records.specs.declared.line.Form.the-variants.{Triple, Implication, Inclusion, Pair, Unlisted}
 use Rattle.records.specs.Line.{formOf}
+use Rattle.records.specs.Places.{instructionOf}
 use Rattle.certificate.specs.FitT as FitT
-use Rattle.certificate.specs.FitT.{TreeConclusion, inclusion, implication, hoare}
+use Rattle.certificate.specs.FitT.{TreeConclusion, inclusion, implication, hoare, paired}
 use Rattle.content.specs.declared.line.Line.{Line}
 use Rattle.content.specs.declared.acting.Acting.{Acting}
 
@@ -23,14 +27,35 @@ abbrev pub formNumber : Form → ℕ
 formNumber Triple = hoare
 formNumber Implication = implication
 formNumber Inclusion = inclusion
+formNumber Pair = paired
 formNumber Unlisted = inclusion
 
-abbrev pub concludedAt : List ℕ → Line → TreeConclusion
-concludedAt s v = record { form = formNumber (formOf (v .rule)); thread = v .thread; point = v .point; left = treeAt s (v .left); right = treeAt s (v .right) }
+-- a line of rule 50 where there is no pair is an ordinary triple
+abbrev pub spoken : Form → ℕ → ℕ
+spoken Triple op = formNumber Triple
+spoken Implication op = formNumber Implication
+spoken Inclusion op = formNumber Inclusion
+spoken Pair op = cond (pairOperation op) paired hoare
+spoken Unlisted op = formNumber Unlisted
 
--- an assignment's register and its formula
+abbrev pub concludedAt : List ℕ → Sizes → Line → TreeConclusion
+concludedAt s z v = record {
+  form = spoken (formOf (v .rule)) (instructionOf z (bodies s) (v .thread) (v .point) .operation);
+  thread = v .thread;
+  point = v .point;
+  left = treeAt s (v .left);
+  right = treeAt s (v .right);
+}
+
+abbrev pub givesT : ℕ → Tree → NoteT
+givesT r f = record { to = r; by = f }
+
+-- the registers that are set to formulas: of an assignment, of two, of a pair
+unfoldable pub notesBy : ℕ → NoteT → NoteT → List NoteT
+notesBy op n m = cond (eqb op Opcode.assign) (n ∷ []) (cond (eqb op Opcode.assignTwo) (n ∷ m ∷ []) (cond (pairOperation op) (m ∷ []) []))
+
 abbrev pub notesAt : List ℕ → Acting → List NoteT
-notesAt s a = cond (eqb (a .operation) Opcode.assign) (record { to = a .register; by = treeAt s (a .formula) } ∷ []) []
+notesAt s a = notesBy (a .whole) (givesT (a .register) (treeAt s (a .formula))) (givesT (a .noted) (treeAt s (a .note)))
 
 abbrev pub actingAt : List ℕ → Acting → FitT.Acting
-actingAt s a = record { operation = a .operation; word = a .word; register = a .register; formula = treeAt s (a .formula); notes = notesAt s a }
+actingAt s a = record { operation = a .operation; whole = a .whole; word = a .word; register = a .register; formula = treeAt s (a .formula); notes = notesAt s a }

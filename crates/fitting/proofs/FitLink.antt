@@ -22,7 +22,8 @@ use Rattle.matcher.specs.declared.bind.Bind.{Bind}
 use Rattle.matcher.specs.declared.whole.Whole.{Whole}
 use Rattle.matcher.proofs.Follow.{Sized, given, when-given}
 use Rattle.certificate.specs.FitT as FitT
-use Rattle.certificate.specs.FitT.{TreeConclusion, hoare, implication, formOf, matchLine, matchAll, isImplication, preset, operationT, restT, answer, fitsT}
+use Rattle.certificate.specs.FitT.{TreeConclusion, hoare, paired, implication, formOf, matchLine, matchAll, isImplication, preset, operationT, restT, answer, fitsT}
+use Rattle.program.specs.Instruction.{firstOperation}
 use Rattle.content.specs.Trees.{actingAt}
 use Rattle.content.specs.declared.line.Line.{Line}
 use Rattle.content.specs.declared.acting.Acting.{Acting}
@@ -110,11 +111,17 @@ and-where : (x y h k : Bool) → x ≡ y → (x ≡ true → h ≡ k) → x && h
 and-where true y h k e f = subst (λ (z : Bool). h ≡ cond z k false) e (f refl)
 and-where false y h k e f = subst (λ (z : Bool). false ≡ cond z k false) e refl
 
+-- what is known of an instruction: its operations are 0 to 12, and of a pair the one is the first half's
+pub record Known (a : Acting) : Type 0 where
+  pub operation : a .operation ≤ Opcode.assignTwo
+  pub whole : a .whole ≤ Opcode.assignTwo
+  pub first : a .operation ≡ firstOperation (a .whole)
+
 -- THE LINE
 
-module _ (s : List ℕ) (n : Rule) (l : Line) (named : l .rule ≡ numberOf n) (a : Acting) (known : a .operation ≤ Opcode.fetchAdd) (p : Conclusions.Premises) (few : p .count ≤ Limits.premises) where
+module _ (s : List ℕ) (n : Rule) (l : Line) (named : l .rule ≡ numberOf n) (a : Acting) (known : Known a) (p : Conclusions.Premises) (few : p .count ≤ Limits.premises) where
   abbrev c : Conclusion
-  c = conclusionBy l
+  c = conclusionBy l (a .whole)
 
   abbrev w : Code.Rule
   w = ruleRow (l .rule)
@@ -129,20 +136,20 @@ module _ (s : List ℕ) (n : Rule) (l : Line) (named : l .rule ≡ numberOf n) (
   form-is : w .form ≡ formOf (row n .says)
   form-is = its (λ r. r .form) ∙ row-form n
 
-  operation-is : operationT A (formOf (row n .says)) (row n .operations) ≡ isAllowed w (a .operation)
-  unfolding isAllowed member
-  operation-is = rw (form-is, lt-ltb (a .operation) 32 (omega arith)) (go (eqb (formOf (row n .says)) hoare) ∙ ap (λ (x : Bool). cond (eqb (formOf (row n .says)) hoare) x true) bits)
-    where
-      go : (h : Bool) → not h || isAmong (a .operation) (row n .operations) ≡ cond h (isAmong (a .operation) (row n .operations)) true
-      go true = refl
-      go false = refl
+  -- an operation among those of the row
+  bits : (op : ℕ) → op ≤ Opcode.assignTwo → isAmong op (row n .operations) ≡ member (w .operations) op
+  unfolding member
+  bits op h = sym (rw (lt-ltb op 32 (omega arith)) (its (λ r. allows (r .operations) op) ∙ row-operations n op h))
 
-      bits : isAmong (a .operation) (row n .operations) ≡ allows (w .operations) (a .operation)
-      bits = sym (its (λ r. allows (r .operations) (a .operation)) ∙ row-operations n (a .operation) known)
+  operation-is : operationT A (formOf (row n .says)) (row n .operations) ≡ isAllowed w a
+  unfolding isAllowed
+  operation-is =
+      rw form-is
+      (ap₂ (λ (x y : Bool). cond (eqb (formOf (row n .says)) hoare) x (cond (eqb (formOf (row n .says)) paired) y true)) (bits (a .operation) (known .operation)) (bits (a .whole) (known .whole)))
 
   rest-is : (b : Bind) → restT (setupIn s) A (row n) (concludedAt s c) (says s p) (takenOf s b) ≡ restAt s w a c p b
   unfolding restAt
-  rest-is b = and-where _ _ _ _ operation-is (λ e. sides-are s b a c p few n e ∙ ap (λ (k : ℕ). asked s k b a c p) (sym (its (λ r. r .side) ∙ row-side n)))
+  rest-is b = and-where _ _ _ _ operation-is (λ e. sides-are s b a c p few (known .first) n e ∙ ap (λ (k : ℕ). asked s k b a c p) (sym (its (λ r. r .side) ∙ row-side n)))
 
   abbrev b₀ : Bind
   b₀ = presetAt (l .thread) (a .word) (a .register) (a .formula)
@@ -160,7 +167,7 @@ module _ (s : List ℕ) (n : Rule) (l : Line) (named : l .rule ≡ numberOf n) (
 
   line-same : matchLine (c .thread) (c .point) (row n .says) (concludedAt s c) (preset (c .thread) A) ≡ given s (m .ok) (m .bind)
   unfolding conclusionBy
-  line-same = ap (matchLine (c .thread) (c .point) (row n .says) (concludedAt s c)) (sym (preset-taken s (l .thread) (a .operation) (a .word) (a .register) (a .formula) (A .notes))) ∙ follows .same
+  line-same = ap (matchLine (c .thread) (c .point) (row n .says) (concludedAt s c)) (sym (preset-taken s (l .thread) (a .operation) (a .whole) (a .word) (a .register) (a .formula) (A .notes))) ∙ follows .same
 
   abbrev q : Whole
   q = matchPremises s templates (m .tpl) w (c .thread) (c .point) p (m .bind)

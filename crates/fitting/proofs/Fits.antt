@@ -10,7 +10,7 @@ use Rattle.program.specs.declared.sizes.Sizes.{Sizes}
 use Rattle.records.specs.Places.{instructionOf}
 use Rattle.matcher.specs.declared.bind.Bind.{Bind}
 use Rattle.matcher.specs.declared.whole.Whole.{Whole}
-use Rattle.certificate.specs.FitT.{hoare}
+use Rattle.certificate.specs.FitT.{hoare, paired}
 use Rattle.content.specs.Certificate.{lineBody}
 use Rattle.content.specs.Places.{actingOf, lineIn}
 use Rattle.content.specs.declared.line.Line.{Line}
@@ -26,16 +26,21 @@ use Rattle.fitting.specs.Fit.{isAllowed, restAt, lineMatch, fitsRow, act
 use Rattle.conclusions.specs.declared.conclusion.Conclusion.{Conclusion}
 use Rattle.conclusions.specs.declared.conclusion.Premises.{Premises}
 
-module _ (w : Rule) (op : ℕ) where
-  pub allowed-triple : (b : Bool) → w .form ≡ hoare → b ≡ member (w .operations) op → b ≡ isAllowed w op
+module _ (w : Rule) (a : Acting) where
+  pub allowed-triple : (b : Bool) → w .form ≡ hoare → b ≡ member (w .operations) (a .operation) → b ≡ isAllowed w a
   unfolding isAllowed
   allowed-triple b e d = rw (eq-eqb _ _ e) d
 
-  pub allowed-other : (w .form ≡ hoare → ⊥) → true ≡ isAllowed w op
-  unfolding isAllowed
-  allowed-other n = rw (ne-eqb _ _ n)
+  module _ (n : w .form ≡ hoare → ⊥) where
+    pub allowed-pair : (b : Bool) → w .form ≡ paired → b ≡ member (w .operations) (a .whole) → b ≡ isAllowed w a
+    unfolding isAllowed
+    allowed-pair b e d = rw (ne-eqb _ _ n, eq-eqb _ _ e) d
 
-module _ (s : List ℕ) (w : Rule) (a : Acting) (c : Conclusion) (p : Premises) (b : Bind) (o : Bool) (e : o ≡ isAllowed w (a .operation)) where
+    pub allowed-other : (w .form ≡ paired → ⊥) → true ≡ isAllowed w a
+    unfolding isAllowed
+    allowed-other m = rw (ne-eqb _ _ n, ne-eqb _ _ m)
+
+module _ (s : List ℕ) (w : Rule) (a : Acting) (c : Conclusion) (p : Premises) (b : Bind) (o : Bool) (e : o ≡ isAllowed w a) where
   pub rest-asked : (r : Bool) → o ≡ true → r ≡ asked s (w .side) b a c p → r ≡ restAt s w a c p b
   unfolding restAt
   rest-asked r h d = rw (← e, h) d
@@ -44,14 +49,14 @@ module _ (s : List ℕ) (w : Rule) (a : Acting) (c : Conclusion) (p : Premises) 
   unfolding restAt
   rest-refused h = rw (← e, h)
 
-pub ruleset allowing = (allowed-triple, allowed-other, rest-asked, rest-refused)
+pub ruleset allowing = (allowed-triple, allowed-pair, allowed-other, rest-asked, rest-refused)
 
 pub line-matched : (s t : List ℕ) (w : Rule) (l : Line) (a : Acting) (c : Conclusion) (b : Bind) (r : Whole) → b ≡ presetAt (l .thread) (a .word) (a .register) (a .formula)
     → r ≡ matchConclusion s t (w .template) (w .form) (c .thread) (c .point) c b → r ≡ lineMatch s t w l a c
 unfolding lineMatch
 line-matched s t w l a c b r e d = rw (← e) d
 
-module _ (s t : List ℕ) (l : Line) (a : Acting) (p : Premises) (w : Rule) (c : Conclusion) (m : Whole) (ew : w ≡ ruleRow (l .rule)) (ec : c ≡ conclusionBy l) (em : m ≡ lineMatch s t w l a c) where
+module _ (s t : List ℕ) (l : Line) (a : Acting) (p : Premises) (w : Rule) (c : Conclusion) (m : Whole) (ew : w ≡ ruleRow (l .rule)) (ec : c ≡ conclusionBy l (a .whole)) (em : m ≡ lineMatch s t w l a c) where
   pub row-conclusion : m .ok ≡ false → false ≡ fitsRow s t l a p
   unfolding fitsRow
   row-conclusion h = rw (← ew, ← ec, ← em, h)

@@ -8,13 +8,14 @@ use lib.ListN.{length}
 use Rattle.logic.specs.Base.{Within}
 use Rattle.logic.specs.Opcode
 use Rattle.logic.specs.Machine.{Program, Mode.store, Mode.swap, Mode.exchange, Mode.fetchAdd, Access.none, Access.load, Access.write, Instr, Instr.act, Instr.branch}
-use Rattle.logic.specs.Statement.{Statement, half}
+use Rattle.logic.specs.Statement.{Statement, first}
 use Rattle.patterns.specs.Fits.{opcode}
 use Rattle.limits.specs.Limits as Limits
 use Rattle.limits.specs.Numbers.{within, every}
 use Rattle.frames.specs.Records.{bodies}
 use Rattle.program.specs.declared.sizes.Sizes.{Sizes}
 use Rattle.records.specs.Line.{premises}
+use Rattle.records.specs.Places.{instructionOf}
 use Rattle.certificate.specs.FitT as FitT
 use Rattle.certificate.specs.FitT.{TreeConclusion, concluded, acting, fitsT}
 use Rattle.certificate.specs.Lines.{Certificate, lineFits}
@@ -30,25 +31,30 @@ use Rattle.limits.proofs.Inverse.{and-true, within-true}
 use Rattle.content.proofs.Checked.{Checks}
 use Rattle.content.proofs.Program.{range-two}
 use Rattle.content.proofs.Lines.{in-range, premises-few, premise-count, line-bounded}
-use Rattle.content.proofs.Trees.{line-acting}
+use Rattle.content.proofs.Trees.{acting-whole, acting-first, line-acting}
 use Rattle.rulebook.specs.Rulebook.{templates}
 use Rattle.conclusions.specs.Conclusion.{concludedAt, conclusionAt, conclusionsFrom}
-use Rattle.conclusions.specs.LineConclusion.{conclusionBy, lineAt, conclusionOf}
+use Rattle.conclusions.specs.LineConclusion.{conclusionBy, lineAt, operationAt, conclusionOf}
 use Rattle.conclusions.specs.Premises.{premiseConclusion, premisesOf}
 use Rattle.fitting.specs.Fit.{actingIn, fitsLine}
 use Rattle.conclusions.specs.declared.conclusion.Premises as Conclusions
 use Rattle.conclusions.proofs.Stated.{rule-number, line-listed, conclusion-trees}
 use Rattle.sides.proofs.SidesLink.{setupIn}
-use Rattle.fitting.proofs.FitLink.{says, fits-same}
+use Rattle.fitting.proofs.FitLink.{Known, says, fits-same}
 
--- operations are 0 to 8
-opcode-known : (c : Instr) → opcode c ≤ Opcode.fetchAdd
-opcode-known (act none ns) = omega arith
+-- operations are 0 to 12
+opcode-known : (c : Instr) → opcode c ≤ Opcode.assignTwo
+opcode-known (act none []) = omega arith
+opcode-known (act none (n ∷ [])) = omega arith
+opcode-known (act none (n ∷ m ∷ ns)) = omega arith
 opcode-known (act (load true r x) ns) = omega arith
 opcode-known (act (load false r x) ns) = omega arith
-opcode-known (act (write (store true) x f) ns) = omega arith
-opcode-known (act (write (store false) x f) ns) = omega arith
-opcode-known (act (write swap x f) ns) = omega arith
+opcode-known (act (write (store true) x f) []) = omega arith
+opcode-known (act (write (store true) x f) (n ∷ ns)) = omega arith
+opcode-known (act (write (store false) x f) []) = omega arith
+opcode-known (act (write (store false) x f) (n ∷ ns)) = omega arith
+opcode-known (act (write swap x f) []) = omega arith
+opcode-known (act (write swap x f) (n ∷ ns)) = omega arith
 opcode-known (act (write (exchange r) x f) ns) = omega arith
 opcode-known (act (write (fetchAdd r) x f) ns) = omega arith
 opcode-known (branch e a) = omega arith
@@ -102,12 +108,17 @@ module _ (s : List ℕ) (z : Sizes) (c : Checks z (bodies s)) where
     premises-concluded : says s p ≡ map concluded (map (λ m. C .line m .says) ps)
     premises-concluded = ap (map (concludedAt s)) (conclusions-are ps refl (subst (λ (k : ℕ). k ≤ Limits.premises) count-is count-few) count-is) ∙ lower-concluded ps (in-range z l c n (w .0) (w .1) .2)
 
-    acting-concluded : acting (half P (its .thread) (its .point)) ≡ actingAt s (actingIn s z its)
+    acting-concluded : acting (P .code (its .thread) (its .point)) ≡ actingAt s (actingIn s z its)
     unfolding actingIn lineAt lineIn
     acting-concluded = line-acting s z c n w
 
-    acting-known : actingIn s z its .operation ≤ Opcode.fetchAdd
-    acting-known = subst (λ (k : ℕ). k ≤ Opcode.fetchAdd) (ap (λ (a : FitT.Acting). a .operation) acting-concluded) (opcode-known (half P (its .thread) (its .point)))
+    acting-known : Known (actingIn s z its)
+    unfolding actingIn
+    acting-known = record {
+      operation = subst (λ (k : ℕ). k ≤ Opcode.assignTwo) (ap (λ (a : FitT.Acting). a .operation) acting-concluded) (opcode-known (first (P .code (its .thread) (its .point))));
+      whole = subst (λ (k : ℕ). k ≤ Opcode.assignTwo) (ap (λ (a : FitT.Acting). a .whole) acting-concluded) (opcode-known (P .code (its .thread) (its .point)));
+      first = acting-first s (instructionOf z l (its .thread) (its .point));
+    }
 
     premises-few-here : p .count ≤ Limits.premises
     unfolding premisesOf
@@ -116,18 +127,23 @@ module _ (s : List ℕ) (z : Sizes) (c : Checks z (bodies s)) where
     abbrev S : Statement
     S = C .line n .says
 
-    acting-there : actingAt s (actingIn s z its) ≡ acting (half P (concluded S .thread) (concluded S .point))
+    acting-there : actingAt s (actingIn s z its) ≡ acting (P .code (concluded S .thread) (concluded S .point))
     unfolding conclusionOf conclusionBy
-    acting-there = sym acting-concluded ∙ ap₂ (λ (t k : ℕ). acting (half P t k)) (ap (λ (v : TreeConclusion). v .thread) (conclusion-trees s z c n w)) (ap (λ (v : TreeConclusion). v .point) (conclusion-trees s z c n w))
+    acting-there = sym acting-concluded ∙ ap₂ (λ (t k : ℕ). acting (P .code t k)) (ap (λ (v : TreeConclusion). v .thread) (conclusion-trees s z c n w)) (ap (λ (v : TreeConclusion). v .point) (conclusion-trees s z c n w))
 
     abbrev fitted : FitT.Acting → TreeConclusion → List TreeConclusion → Bool
     fitted a v vs = fitsT (setupIn s) a (ruleOf (its .rule)) v vs
+
+    whole-is : actingIn s z its .whole ≡ operationAt s z its
+    unfolding actingIn
+    whole-is = acting-whole s (instructionOf z l (its .thread) (its .point))
 
     -- what the code answers is what the rules say
     pub fits-is : fitsLine s templates z n ≡ lineFits P C n
     unfolding fitsLine conclusionOf lineAt lineIn
     fits-is =
         sym (fits-same s (ruleOf (its .rule)) its (sym (rule-number (its .rule) (line-listed s z c n w))) (actingIn s z its) acting-known p premises-few-here)
+        ∙ ap (λ (op : ℕ). fitted (actingAt s (actingIn s z its)) (concludedAt s (conclusionBy its op)) (says s p)) whole-is
         ∙ ap₂ (λ (v : TreeConclusion) (vs : List TreeConclusion). fitted (actingAt s (actingIn s z its)) v vs) (conclusion-trees s z c n w) premises-concluded
         ∙ ap (λ (a : FitT.Acting). fitted a (concluded S) (map concluded (map (λ m. C .line m .says) ps))) acting-there
         ∙ bridge P (range-two z l c) (ruleOf (its .rule)) S (map (λ m. C .line m .says) ps) (line-bounded z l c n (w .0) (w .1))

@@ -24,9 +24,9 @@ pub preset-sized : (t x r f : ℕ) → Sized (presetAt t x r f)
 unfolding presetAt
 preset-sized t x r f = record { at = refl; left = refl; num = refl }
 
-module _ (s : List ℕ) (t op x r f : ℕ) (ns : List NoteT) where
+module _ (s : List ℕ) (t op w x r f : ℕ) (ns : List NoteT) where
   abbrev acting : Acting
-  acting = record { operation = op; word = x; register = r; formula = parseTree s nesting f .tree; notes = ns }
+  acting = record { operation = op; whole = w; word = x; register = r; formula = parseTree s nesting f .tree; notes = ns }
 
   back : (n : ℕ) → n + 1 - 1 ≡ n
   back n = omega arith

@@ -9,7 +9,7 @@ use Rattle.program.specs.declared.sizes.Sizes.{Sizes}
 use Rattle.records.specs.Places.{instructionOf}
 use Rattle.matcher.specs.declared.bind.Bind.{Bind}
 use Rattle.matcher.specs.declared.whole.Whole.{Whole}
-use Rattle.certificate.specs.FitT.{hoare}
+use Rattle.certificate.specs.FitT.{hoare, paired}
 use Rattle.content.specs.Places.{actingOf}
 use Rattle.content.specs.declared.line.Line.{Line}
 use Rattle.content.specs.declared.acting.Acting.{Acting}
@@ -23,13 +23,13 @@ use Rattle.sides.specs.Asked.{asked}
 use Rattle.conclusions.specs.declared.conclusion.Conclusion.{Conclusion}
 use Rattle.conclusions.specs.declared.conclusion.Premises.{Premises}
 
--- a triple's rule has the operation among its own
-unfoldable pub isAllowed : Rule → ℕ → Bool
-isAllowed w op = cond (eqb (w .form) hoare) (member (w .operations) op) true
+-- a triple's rule has the operation among its own; a rule for pairs, that of the whole
+unfoldable pub isAllowed : Rule → Acting → Bool
+isAllowed w a = cond (eqb (w .form) hoare) (member (w .operations) (a .operation)) (cond (eqb (w .form) paired) (member (w .operations) (a .whole)) true)
 
 -- what is left to ask once the templates are matched
 unfoldable pub restAt : List ℕ → Rule → Acting → Conclusion → Premises → Bind → Bool
-restAt s w a c p b = cond (isAllowed w (a .operation)) (asked s (w .side) b a c p) false
+restAt s w a c p b = cond (isAllowed w a) (asked s (w .side) b a c p) false
 
 -- if it matches, what comes then
 abbrev pub thenAsk : Whole → (Whole → Bool) → Bool
@@ -42,8 +42,9 @@ lineMatch s t w l a c = matchConclusion s t (w .template) (w .form) (c .thread) 
 -- line, premises, then the rest, with the templates t
 unfoldable pub fitsRow : List ℕ → List ℕ → Line → Acting → Premises → Bool
 fitsRow s t l a p =
-    thenAsk (lineMatch s t (ruleRow (l .rule)) l a (conclusionBy l))
-    (λ m. thenAsk (matchPremises s t (m .tpl) (ruleRow (l .rule)) (conclusionBy l .thread) (conclusionBy l .point) p (m .bind)) (λ q. restAt s (ruleRow (l .rule)) a (conclusionBy l) p (q .bind)))
+    thenAsk (lineMatch s t (ruleRow (l .rule)) l a (conclusionBy l (a .whole)))
+    (λ m. thenAsk (matchPremises s t (m .tpl) (ruleRow (l .rule)) (conclusionBy l (a .whole) .thread) (conclusionBy l (a .whole) .point) p (m .bind))
+    (λ q. restAt s (ruleRow (l .rule)) a (conclusionBy l (a .whole)) p (q .bind)))
 
 -- the instruction of a line
 unfoldable pub actingIn : List ℕ → Sizes → Line → Acting

@@ -22,12 +22,15 @@ ghost use mathlib.Core.Path.{_≡_};
 ghost use Rattle.frames.specs.Records.{indexOf};
 ghost use Rattle.fitting.specs.Fit.{isAllowed, restAt, lineMatch, fitsRow, fitsLine};
 
-// A triple's rule has the operation among its own.
-fn is_allowed(w: Rule, operation: u8) -> bool
-    ensures { λ r. ⌜ r ≡ isAllowed w operation ⌝ }
+// A triple's rule has the operation among its own; a rule for pairs, that of the whole.
+fn is_allowed(w: Rule, a: Acting) -> bool
+    ensures { λ r. ⌜ r ≡ isAllowed w a ⌝ }
 {
     if w.form == Form::TRIPLE {
-        return contains(w.operations as u32, operation);
+        return contains(w.operations as u32, a.operation);
+    }
+    if w.form == Form::PAIR {
+        return contains(w.operations as u32, a.whole);
     }
     true
 }
@@ -45,7 +48,7 @@ fn fits_rest<'a, 'b>(
     requires { ⌜ now ix ≡ indexOf (now s) ⌝ }
     ensures { λ r. ⌜ r ≡ restAt (now (s .entry)) w a c p b ⌝ }
 {
-    if is_allowed(w, a.operation) {
+    if is_allowed(w, a) {
         return is_asked(s, ix, w.side, b, a, c, p);
     }
     false
@@ -72,7 +75,7 @@ fn fits_row<'a, 'b, 'c>(
     ensures { λ r. ⌜ r ≡ fitsRow (now (s .entry)) (now (t .entry)) l a p ⌝ }
 {
     let w = rule_at(l.rule);
-    let c = conclusion_by(l);
+    let c = conclusion_by(l, a.whole);
     let m = match_line(s, t, w, l, a, c);
     if m.ok {
         let n = m.bind;

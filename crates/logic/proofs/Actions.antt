@@ -1,5 +1,5 @@
--- Rules 1 to 13, 48, 49, of states in which the thread has arrived at its pick.
-use mathlib.Core.Path.{_≡_, refl, ap, sym, _∙_, subst}
+-- Rules 1 to 13, 48 to 50, of states in which the thread has arrived at its pick.
+use mathlib.Core.Path.{_≡_, refl, ap, sym, _∙_, subst, fun-ext}
 use mathlib.Core.Bool.{Bool, true, false, _&&_}
 use mathlib.Core.List.{List, [], _∷_, map}
 use mathlib.Core.Logic.{_≢_, inl, inr}
@@ -11,18 +11,18 @@ use Rattle.logic.proofs.Agreement.{Same, same-trans, Agree, agree-refl,
 use Rattle.logic.proofs.Arrived.{Arrived, Triple, head-off, synced, bare, sees-last}
 use Rattle.logic.proofs.Base.{upd-same, upd-other, upds, by-word, and-left, and-right, and-both, not-eqb, all-All, is-true}
 use Rattle.logic.proofs.Cuts.{All-map}
-use Rattle.logic.proofs.Halves.{Touch, Touch.none, Touch.load, Touch.write, workedAt, coverIf, memory, finish, kept, untouched, Good}
+use Rattle.logic.proofs.Halves.{Touch, Touch.none, Touch.load, Touch.write, workedAt, withPoints, coverIf, memory, finish, kept, untouched, Good}
 use Rattle.logic.proofs.Inserted.{Insertion, result, old, row-new, result-same, result-prospect, result-kept, result-wf}
 use Rattle.logic.proofs.Invariant.{Wf, cover-wf}
 use Rattle.logic.proofs.Last.{last-own, last-other, last-sync}
 use Rattle.logic.proofs.Prospects.{from-all}
-use Rattle.logic.proofs.Registers.{regs-same, regs-kept, given-kept, given-true, given-test, worked-small}
+use Rattle.logic.proofs.Registers.{regs-same, noted-all, regs-kept, given-kept, given-true, given-test, worked-small}
 use Rattle.logic.proofs.Replacement.{replaced, under}
 use Rattle.logic.specs.Base.{All, all, upd}
 use Rattle.logic.specs.Eval.{Env, value, test}
 use Rattle.logic.specs.Formula.{Value, Test, Interval, Assertion, Formula.const, Formula.word, Formula.unsync, Formula.cov, Formula.box, Formula.one, Formula.chop, Formula.sees, Formula.bothA, Formula.eitherA, Formula.holds}
 use Rattle.logic.specs.Inference.{newest, C}
-use Rattle.logic.specs.Machine.{View, State, Write, Program, at}
+use Rattle.logic.specs.Machine.{View, State, Write, Program, at, withRegs}
 use Rattle.logic.specs.Names.{only, notWord, regsIn, notFlag, isReg, startless, Name, n-reg, n-word, n-unsync, n-cov, names}
 use Rattle.logic.specs.Replace.{Note, noted, notes, replace, wordBy}
 use Rattle.logic.specs.Truth.{Sat, True, Prospect, Names, Sees}
@@ -228,6 +228,16 @@ module _ (P : Program) (t : ℕ) where
   pub with-notes : (A : Touch) (ns : List Note) (a q : Assertion) → T (startless q) → T (only (regsIn (kept ns)) q) → Triple P t A [] a q → Triple P t A ns a q
   with-notes A ns a q z c prem s wf p arr h =
       regs-kept P (finish P A [] t p s) (λ r. workedAt P s t (noted ns r)) (upd (s .point) t (suc (s .point t))) (kept ns) (given-kept P s t ns) q z c (prem s wf p arr h)
+
+  -- 50: notes of registers alone, by replacement
+  pub rule-50 : (A : Touch) (ns : List Note) (a q : Assertion) → T (startless q) → T (all (λ (n : Note). only isReg (n .by)) ns)
+      → Triple P t A [] a (replace (notes ns) q) → Triple P t A ns a q
+  rule-50 A ns a q z c prem s wf p arr h =
+      subst (λ (g : ℕ → ℕ). True P (withPoints (withRegs (memory P A t p s) g) (upd (s .point) t (suc (s .point t)))) q) (fun-ext same)
+      (given-true P (finish P A [] t p s) t ns (upd (s .point) t (suc (s .point t))) (all-All _ ns c) q z (prem s wf p arr h))
+    where
+      same : (r : ℕ) → workedAt P (finish P A [] t p s) t (noted ns r) ≡ workedAt P s t (noted ns r)
+      same r = value-agree (P .range) (regs-same refl) (noted ns r) (noted-all (λ f. T (only isReg f)) (λ r. tt) ns (all-All _ ns c) r)
 
   -- 48, 49: a swap of n into x with the notes ns, after which F says what n was
   module _ (x : ℕ) (n F : Value) (ns : List Note) (g : Good P (write true true x n) ns)

@@ -15,26 +15,26 @@ abbrev pub begun : Program → State
 begun P = begin P (λ r. 0)
 
 -- a write as it is drawn: value, releasing, covered (1 for yes), the positions that its stored view names of words 1 and 2
-record Drawn : Type 0 where
-  value : ℕ
-  releasing : ℕ
-  covered : ℕ
-  stored : List ℕ
+pub record Drawn : Type 0 where
+  pub value : ℕ
+  pub releasing : ℕ
+  pub covered : ℕ
+  pub stored : List ℕ
 
 unfoldable pub yes-no : Bool → ℕ
 yes-no b = cond b 1 0
 
-draw : Write → Drawn
+unfoldable pub draw : Write → Drawn
 draw w = record { value = w .value; releasing = yes-no (w .releasing); covered = yes-no (w .covered); stored = map (w .stored) (upTo 2) }
 
 -- a state as it is drawn, of a program with three threads, two words and three registers
-record Picture : Type 0 where
-  rows : List (List Drawn)
-  views : List (List ℕ)
-  registers : List ℕ
-  points : List ℕ
+pub record Picture : Type 0 where
+  pub rows : List (List Drawn)
+  pub views : List (List ℕ)
+  pub registers : List ℕ
+  pub points : List ℕ
 
-picture : State → Picture
+unfoldable pub picture : State → Picture
 picture s = record {
   rows = map (λ x. map (λ i. draw (s .row x i)) (below (s .size x))) (upTo 2);
   views = map (λ t. map (s .view t) (upTo 2)) (upTo 3);
@@ -42,7 +42,7 @@ picture s = record {
   points = map (s .point) (upTo 3);
 }
 
-write-of : ℕ → ℕ → ℕ → List ℕ → Drawn
+unfoldable pub write-of : ℕ → ℕ → ℕ → List ℕ → Drawn
 write-of v r c l = record { value = v; releasing = r; covered = c; stored = l }
 
 -- the thread, and the position that it picks
@@ -313,7 +313,7 @@ unfolding nothing at-points mixed upd
 by-actor = refl
 
 -- the acting point
-abbrev actor : Obligation → ℕ
+abbrev pub actor : Obligation → ℕ
 actor (Obligation.start t) = 0
 actor (Obligation.step t k) = 0
 actor (Obligation.taken t k) = 0

@@ -8,7 +8,7 @@ use native.Mathlib.Omega.{arith}
 use lib.Dec.{eqb, leb}
 use borrow.Author.Tests.{eqb-true, eqb-false, leb-true, leb-false}
 use Rattle.logic.specs.Base.{upd}
-use Rattle.logic.specs.Formula.{Value, Test}
+use Rattle.logic.specs.Formula.{Value, Test, Formula.reg}
 use Rattle.logic.specs.Replace.{Note}
 use Rattle.logic.specs.Eval.{onRegs, test}
 use Rattle.logic.specs.Machine.{View, Write, State, Program, Mode.store, Mode.swap, Mode.exchange, Mode.fetchAdd, Access, Access.none, Access.load, Access.write, Instr.act, Instr.branch, worked, join, down, upView, upWrite, moveTo, insert, cover, swapView, swapped, withRegs, done, exec}
@@ -86,11 +86,15 @@ pub record Swaps (x n t p : ℕ) (s s' : State) : Type 0 where
   pub not-joined : s .row x p .releasing ≡ false → (y : ℕ) → from y ≡ s .view t y
   pub inserts : Inserts true x n t p from between s'
 
--- a swap of n into x; then r has the value of the write that was picked
-pub record Returns (r x n t p : ℕ) (s s' : State) : Type 0 where
+-- what is done, and r becomes n in the same step: no other register, view or row tells it from the deed alone
+pub record Noting (Does : State → Type 0) (r n : ℕ) (s' : State) : Type 0 where
   pub between : State
-  pub swaps : Swaps x n t p s between
-  pub result : Assigns r (s .row x p .value) between s'
+  pub does : Does between
+  pub notes : Assigns r n between s'
+
+-- a swap of n into x; and r has the value of the write that was picked
+abbrev pub Returns : ℕ → ℕ → ℕ → ℕ → ℕ → State → State → Type 0
+Returns r x n t p s = Noting (Swaps x n t p s) r (s .row x p .value)
 
 -- t goes to the point k, and nothing else changes
 pub record Goes (k t : ℕ) (s s' : State) : Type 0 where
@@ -176,9 +180,29 @@ covers x p s = record {
   registers = λ r. refl;
 }
 
+-- the register r set to n in a state, whatever else was done
+sets : (s : State) (r n : ℕ) → Assigns r n s (withRegs s (upd (s .reg) r n))
+sets s r n = record { value = simp upds; registers = λ q h. simp upds; views = λ u y. refl; sizes = λ y. refl; rows = λ y i. refl }
+
+abbrev note : ℕ → Value → Note
+note r f = record { to = r; by = f }
+
 module _ (P : Program) (t p : ℕ) (s : State) where
-  pub assigns : (r : ℕ) (f : Value) → Assigns r (worked P s f) s (done P none (record { to = r; by = f } ∷ []) t p s)
-  assigns r f = record { value = simp upds; registers = λ q h. simp upds; views = λ u y. refl; sizes = λ y. refl; rows = λ y i. refl }
+  pub assigns : (r : ℕ) (f : Value) → Assigns r (worked P s f) s (done P none (note r f ∷ []) t p s)
+  assigns r f = sets s r (worked P s f)
+
+  -- two assignments at once: both formulas are worked out in the state before
+  abbrev twice : ℕ → Value → ℕ → Value → State
+  twice r f q g = done P none (note r f ∷ note q g ∷ []) t p s
+
+  pub assigns-two : (r q : ℕ) (f g : Value) → Noting (Assigns q (worked P s g) s) r (worked P s f) (twice r f q g)
+  assigns-two r q f g =
+      let once : State = done P none (note q g ∷ []) t p s in
+      record { between = once; does = assigns q g; notes = sets once r (worked P s f) }
+
+  -- so two registers trade values
+  pub trades : (r q : ℕ) → q ≢ r → (twice r (reg q) q (reg r) .reg r ≡ s .reg q) × (twice r (reg q) q (reg r) .reg q ≡ s .reg r)
+  trades r q h = (simp upds, simp upds)
 
   pub loads : (acquires : Bool) (r x : ℕ) → Loads acquires r x t p s (done P (load acquires r x) [] t p s)
   loads acquires r x = record {
@@ -216,13 +240,30 @@ module _ (P : Program) (t p : ℕ) (s : State) where
   pub swaps : (x : ℕ) (f : Value) → Swaps x (worked P s f) t p s (done P (write swap x f) [] t p s)
   swaps x f = swaps-in x (worked P s f)
 
+  -- a pair: the store or the swap, and the note. Both formulas are worked out in the state before, whatever registers they share
+  abbrev with-note : Access → ℕ → Value → State
+  with-note A r g = done P A (note r g ∷ []) t p s
+
+  pub stores-noting : (releasing : Bool) (x r : ℕ) (f g : Value)
+      → Noting (Inserts releasing x (worked P s f) t p (s .view t) s) r (worked P s g) (with-note (write (store releasing) x f) r g)
+  stores-noting releasing x r f g =
+      let once : State = done P (write (store releasing) x f) [] t p s in
+      record { between = once; does = stores releasing x f; notes = sets once r (worked P s g) }
+
+  pub swaps-noting : (x r : ℕ) (f g : Value)
+      → Noting (Swaps x (worked P s f) t p s) r (worked P s g) (with-note (write swap x f) r g)
+  swaps-noting x r f g =
+      let once : State = done P (write swap x f) [] t p s in
+      record { between = once; does = swaps x f; notes = sets once r (worked P s g) }
+
+  -- so a store of register r that notes r writes what r held before
+  pub stored-before : (releasing : Bool) (x r : ℕ) (g : Value)
+      → with-note (write (store releasing) x (reg r)) r g .row x (suc p) .value ≡ s .reg r
+  stored-before releasing x r g = simp upds
+
   -- an exchange and a fetch-add, which stores the old value plus f modulo the range: a swap that puts the old value into r
   returns-in : (r x n : ℕ) → Returns r x n t p s (withRegs (swapped x n t p s) (upd (s .reg) r (s .row x p .value)))
-  returns-in r x n = record {
-    between = swapped x n t p s;
-    swaps = swaps-in x n;
-    result = record { value = simp upds; registers = λ q h. simp upds; views = λ u y. refl; sizes = λ y. refl; rows = λ y i. refl };
-  }
+  returns-in r x n = record { between = swapped x n t p s; does = swaps-in x n; notes = sets (swapped x n t p s) r (s .row x p .value) }
 
   pub exchanges : (r x : ℕ) (f : Value) → Returns r x (worked P s f) t p s (done P (write (exchange r) x f) [] t p s)
   exchanges r x f = returns-in r x (worked P s f)

@@ -20,10 +20,12 @@ pub mod Steps
 pub mod Sound
 pub mod Runs
 pub mod Starts
+pub mod Pairs
 pub mod Reordered
 pub mod Order
 pub mod Permitted
 pub mod Computed
+pub mod Paired
 pub mod Flags
 pub mod Meaning
 pub mod Facts

@@ -15,9 +15,9 @@ pub record Reached (s : State) (t x p : ℕ) : Type 0 where
   pub there : p < s .size x
   pub at-or-after : s .view t x ≤ p
 
--- the positions of an instruction by t
+-- the positions of an instruction by t, whatever it notes: a pair picks as its first half does
 pub data Picked (s : State) (t p : ℕ) : Instr → Type 0 where
-  -- assignment and branch: 0
+  -- assignment, two at once too, and branch: 0
   by-assignment : {ns : List Note} → p ≡ 0 → Picked s t p (act none ns)
   by-branch : {e : Test} {a : ℕ} → p ≡ 0 → Picked s t p (branch e a)
   -- a load: any write at or after the thread's own, covered or not, releasing or not

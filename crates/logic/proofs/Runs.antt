@@ -15,7 +15,7 @@ use Rattle.logic.specs.Eval.{test, onRegs}
 use Rattle.logic.specs.Replace.{Note}
 use Rattle.logic.specs.Machine.{State, Program, Access, Access.none, Access.load, Access.write, Mode.store, Mode.swap, Mode.exchange, Mode.fetchAdd, Instr, Instr.act, Instr.branch, Start, Step, withPoint, exec, allowed, instrAt, permitted, step, run}
 use Rattle.logic.specs.Truth.{True}
-use Rattle.logic.specs.Statement.{Statement, implies, triple, first}
+use Rattle.logic.specs.Statement.{Statement, implies, triple, pair, isPair, first, taking}
 use Rattle.logic.specs.Obligations
 use Rattle.logic.specs.EveryRun.{Outline, Holds, EveryRun}
 use Rattle.logic.specs.Obligations.{Obligation, below, upTo, flat, own, acting, instructed, asserted, assertions, starts, steps, interferences, obligations, wants}
@@ -37,6 +37,14 @@ all-of Q d (p ∷ ps) h = (h 0 (omega arith), all-of Q d ps (λ i b. h (suc i) (
 module _ (P : Program) (ok : (t k : ℕ) → Within (P .threads) t → suc k < P .points t → T (proper P (P .points t) (P .code t k))) where
   derived-valid : {s : Statement} → Derived P s → Valid P s
   derived-valid (by-rule {n = n} {ps = ps} {s = s} d a f) = sound P ok n s ps d a (all-of (Valid P) s ps (λ i b. derived-valid (f i b)))
+
+  -- of an instruction that is no pair by the triple, of a pair by the statement about the whole
+  derived-triple : (t k : ℕ) (c : Instr) → P .code t k ≡ c → (a b : Assertion) → Derived P (taking t k c a b) → ValidTriple P t c a b
+  derived-triple t k c e a b = go (isPair c) refl
+    where
+      go : (p : Bool) → isPair c ≡ p → Derived P (elim p [ true ↦ pair t k a b | false ↦ triple t k a b ]) → ValidTriple P t c a b
+      go true q d = subst (λ (i : Instr). ValidTriple P t i a b) e (derived-valid d)
+      go false q d = subst (λ (i : Instr). ValidTriple P t i a b) (ap first e ∙ first-alone c (subst (λ (p : Bool). T (not p)) (sym q) tt)) (derived-valid d)
 
 -- members of the list of obligations
 flat-in : {A B : Type 0} (Q : B → Type 0) (f : A → List B) (l : List A) → All Q (flat f l) → All (λ a. All Q (f a)) l
@@ -124,9 +132,9 @@ module _ (P : Program) (O : Outline) (W : WellFormed P O) (D : Proved P O) where
           subst (λ (s : State). True P s b) halves
           (triple-moved (inv .wf) t p (touch A) (allNotes A ns) a b v z (may-pick A ns t p s may) h)
 
-      -- so does a derived triple
-      goes-on : (a b : Assertion) → Derived P (triple t (s .point t) a b) → T (startless a) → True P s a → True P (exec P (act A ns) t p s) b
-      goes-on a b d = moves-on a b (subst (λ (i : Instr). ValidTriple P t i a b) (ap first e ∙ first-alone (act A ns) (search (its-proper, and-left))) (derived-valid P (W .instructions) d))
+      -- so does what is derived of it
+      goes-on : (a b : Assertion) → Derived P (taking t (s .point t) (act A ns) a b) → T (startless a) → True P s a → True P (exec P (act A ns) t p s) b
+      goes-on a b d = moves-on a b (derived-triple P (W .instructions) t (s .point t) (act A ns) e a b d)
 
       acted-wf : Wf P (exec P (act A ns) t p s)
       acted-wf =
@@ -158,13 +166,14 @@ module _ (P : Program) (O : Outline) (W : WellFormed P O) (D : Proved P O) where
             u b);
       }
         where
-          next : Derived P (triple t (s .point t) (O t (s .point t)) (O t (suc (s .point t))))
+          next : Derived P (taking t (s .point t) (act A ns) (O t (s .point t)) (O t (suc (s .point t))))
           next = rw e at (rw e at (each-step P Wanted D t (s .point t) t-in more)) .0
 
-          kept : (u : ℕ) → Within (P .threads) u → u ≢ t → Derived P (triple t (s .point t) (bothA (O u (s .point u)) (O t (s .point t))) (O u (s .point u)))
+          kept : (u : ℕ) → Within (P .threads) u → u ≢ t
+              → Derived P (taking t (s .point t) (act A ns) (bothA (O u (s .point u)) (O t (s .point t))) (O u (s .point u)))
           kept u b n =
               let all = rw e at (each-other P Wanted D u (s .point u) t (s .point t) b (inv .point u b) t-in more n) in
-              subst (All Wanted) (every-action P u (s .point u) t (s .point t) A ns) all .0
+              rw e at (subst (All Wanted) (every-action P u (s .point u) t (s .point t) A ns) all .0)
 
     -- a branch that goes to the point k
     goes : (k : ℕ) → k < P .points t → True P s (O t k) → Inv P O (withPoint s t k)

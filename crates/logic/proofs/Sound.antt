@@ -12,12 +12,12 @@ use Rattle.logic.specs.Base.{All, all, Within, within}
 use Rattle.logic.specs.Formula.{Value, Test, Interval, Assertion, Formula.const, Formula.reg, Formula.word, Formula.sum, Formula.and, Formula.unsync, Formula.cov, Formula.box, Formula.one, Formula.chop, Formula.sees, Formula.bothA, Formula.eitherA, Formula.holds}
 use Rattle.logic.specs.Names.{Name, n-reg, n-word, n-unsync, n-cov, names, only, isReg, regsIn, notReg, notWord, notFlag, startless, plain}
 use Rattle.logic.specs.Eval.{Env, value, test, onRegs, bounded}
-use Rattle.logic.specs.Replace.{Note, replace, regBy, wordBy}
+use Rattle.logic.specs.Replace.{Note, replace, notes, regBy, wordBy}
 use Rattle.logic.specs.Table.{Imp}
 use Rattle.logic.specs.Machine
 use Rattle.logic.specs.Machine.{View, State, Program, Mode, Mode.store, Mode.swap, Mode.exchange, Mode.fetchAdd, covers, returns, resultOf, Access, Instr, Instr.act, Instr.branch, Start, at}
 use Rattle.logic.specs.Truth.{Sat, True, Prospect, Sees, Names}
-use Rattle.logic.specs.Statement.{Statement, inside, implies, triple, isPair, first, half, admitted, isImp, impOf}
+use Rattle.logic.specs.Statement.{Statement, inside, implies, triple, pair, isPair, first, half, admittedAt, admitted, isImp, impOf}
 use Rattle.logic.specs.Rule.{Rule}
 use Rattle.logic.specs.Inference
 use Rattle.logic.specs.Inference.{Inference, newest, freshValue, C, apart, keeps}
@@ -35,7 +35,7 @@ use Rattle.logic.proofs.Invariant.{Wf}
 use Rattle.logic.proofs.Halves
 use Rattle.logic.proofs.Halves.{Touch, Touch.none, Touch.load, Touch.write, releases, newValue, touch, into, allNotes, Good, workedAt, memory, finish, untouched}
 use Rattle.logic.proofs.Arrived.{Arrived, Triple}
-use Rattle.logic.proofs.Actions.{write-wf, all-weaken, rule-1, rule-2, rule-3, rule-4, rule-5-load, rule-5-swap, rule-6, rule-7, rule-8, rule-9, rule-10, rule-11, rule-12, rule-13, with-notes, rule-48, rule-49}
+use Rattle.logic.proofs.Actions.{write-wf, all-weaken, rule-1, rule-2, rule-3, rule-4, rule-5-load, rule-5-swap, rule-6, rule-7, rule-8, rule-9, rule-10, rule-11, rule-12, rule-13, with-notes, rule-48, rule-49, rule-50}
 
 -- a triple: of every well-formed state in which the thread has arrived at its pick
 abbrev pub ValidTriple : Program → ℕ → Instr → Assertion → Assertion → Type 0
@@ -47,6 +47,7 @@ abbrev pub Valid : Program → Statement → Type 0
 Valid P (inside i j) = (ρ : View → Env) (l : List View) → All (λ v. Small (P .range) (ρ v)) l → Sat (P .range) ρ i l → Sat (P .range) ρ j l
 Valid P (implies a b) = (s : State) → Wf P s → True P s a → True P s b
 Valid P (triple t k a b) = ValidTriple P t (half P t k) a b
+Valid P (pair t k a b) = ValidTriple P t (P .code t k) a b
 
 -- THE SECOND HALF keeps the invariant
 module _ (P : Program) (t : ℕ) where
@@ -237,6 +238,14 @@ module _ (P : Program) where
   forty-seven t x (exchange r) f e c = rule-3 P t (write true true x f) (into r x []) e
   forty-seven t x (fetchAdd r) f e c = rule-3 P t (write true true x (sum (word x) f)) (into r x []) e
 
+  -- 50
+  paired : (t x : ℕ) (m : Mode) (f : Value) (ns : List Note) (p q : Assertion) → T (not (returns m)) → T (startless q) → T (all (λ (n : Note). only isReg (n .by)) ns)
+      → ValidTriple P t (act (Machine.write m x f) []) p (replace (notes ns) q) → ValidTriple P t (act (Machine.write m x f) ns) p q
+  paired t x (store b) f ns p q c z k = rule-50 P t (write b false x f) ns p q z k
+  paired t x swap f ns p q c z k = rule-50 P t (write true true x f) ns p q z k
+  paired t x (exchange r) f ns p q c z k = absurd c
+  paired t x (fetchAdd r) f ns p q c z k = absurd c
+
   -- 48, 49: the operand f has after the step the value that it was worked out to; g is what was stored
   operand : (t r x : ℕ) (g f : Value) → T (only isReg f) → T (only (notReg r) f) → (s : State) (p : ℕ) (v : View)
       → value (P .range) (at P (finish P (write true true x g) (into r x []) t p s) v) f ≡ workedAt P s t f
@@ -282,6 +291,7 @@ module _ (P : Program) where
   implications (inside i j ∷ ps) h vs s wf = absurd h
   implications (implies a b ∷ ps) h vs s wf = (vs .0 s wf, implications ps h (vs .1) s wf)
   implications (triple t k a b ∷ ps) h vs s wf = absurd h
+  implications (pair t k a b ∷ ps) h vs s wf = absurd h
 
   -- every instruction is proper
   module _ (ok : (t k : ℕ) → Within (P .threads) t → suc k < P .points t → T (proper P (P .points t) (P .code t k))) where
@@ -290,14 +300,17 @@ module _ (P : Program) where
     Proper (inside i j) = Unit {0}
     Proper (implies a b) = Unit {0}
     Proper (triple t k a b) = T (proper P (P .points t) (half P t k))
+    Proper (pair t k a b) = T (proper P (P .points t) (P .code t k))
+
+    at-proper : (t k : ℕ) (a b : Assertion) → T (admittedAt P t k a b) → T (proper P (P .points t) (P .code t k))
+    at-proper t k a b h =
+        ok t k (leb→le 1 t (search (and-left, and-right)), leb→le t (P .threads) (search (and-left, and-right))) (ltb→lt (suc k) (P .points t) (search (and-left, and-right)))
 
     its-proper : (s : Statement) → T (admitted P s) → Proper s
     its-proper (inside i j) h = tt
     its-proper (implies a b) h = tt
-    its-proper (triple t k a b) h =
-        first-proper P (P .points t) (P .code t k)
-        (ok t k (leb→le 1 t (search (and-left, and-right)), leb→le t (P .threads) (search (and-left, and-right)))
-        (ltb→lt (suc k) (P .points t) (search (and-left, and-right))))
+    its-proper (triple t k a b) h = first-proper P (P .points t) (P .code t k) (at-proper t k a b h)
+    its-proper (pair t k a b) h = at-proper t k a b h
 
     its-good : (t k : ℕ) (A : Access) (ns : List Note) → half P t k ≡ act A ns → T (proper P (P .points t) (half P t k)) → Good P (touch A) (allNotes A ns)
     its-good t k A ns e h = good P (P .points t) A ns (subst (λ (z : Instr). T (proper P (P .points t) z)) e h)
@@ -314,8 +327,9 @@ module _ (P : Program) where
         let g : T (properAccess P (Machine.write m x f)) = and-left (properAccess P (Machine.write m x f)) true (subst (λ (z : Instr). T (proper P (P .points t) z)) e h) in
         search (and-left, and-right)
 
-    assigned : (t k : ℕ) (ns : List Note) → half P t k ≡ act Machine.none ns → T (proper P (P .points t) (half P t k)) → T (all (λ (n : Note). only isReg (n .by)) ns)
-    assigned t k ns e h = go ns (subst (λ (z : Instr). T (proper P (P .points t) z)) e h)
+    -- its notes are
+    noted-plain : (t k : ℕ) (A : Access) (ns : List Note) → P .code t k ≡ act A ns → T (proper P (P .points t) (P .code t k)) → T (all (λ (n : Note). only isReg (n .by)) ns)
+    noted-plain t k A ns e h = go ns (and-right (properAccess P A) (all (λ (n : Note). properValue P (n .by)) ns) (subst (λ (z : Instr). T (proper P (P .points t) z)) e h))
       where
         go : (ns : List Note) → T (all (λ (n : Note). properValue P (n .by)) ns) → T (all (λ (n : Note). only isReg (n .by)) ns)
         go [] h = tt
@@ -324,7 +338,7 @@ module _ (P : Program) where
     pub sound : (n : Rule) (s : Statement) (ps : List Statement) → Inference P n ps s → T (admitted P s) → All (Valid P) ps → Valid P s
     sound n s ps (Inference.i1 {t = t} {k = k} {p = p} c) h vs = kept t (P .points t) (P .code t k) p (its-proper s h) (search (and-left, and-right)) c
     sound n s ps (Inference.i2 {t = t} {k = k} {ns = ns} {q = q} e) h vs =
-        rw e (rule-2 P t ns q (search (and-left, and-right)) (assigned t k ns e (its-proper s h)))
+        rw e (rule-2 P t ns q (search (and-left, and-right)) (noted-plain t k Machine.none ns e (at-proper t k (replace (notes ns) q) q h)))
     sound n s ps (Inference.i3 {t = t} {r = r} {x = x} {acq = acq} {e = e} c) h vs = rw c (rule-3 P t (load acq x) (allNotes (Machine.load acq r x) []) e (search (and-left, and-right)))
     sound n s ps (Inference.i4 {t = t} {r = r} {x = x} {acq = acq} {e = e} {i = i} {q = q} c) h vs =
         rw c (rule-4 P t (load acq x) (allNotes (Machine.load acq r x) []) e (search (and-left, and-right)) i q (rw c at (vs .0)))
@@ -350,6 +364,8 @@ module _ (P : Program) where
         rw e (forty-eight t x m f z (its-good t k (Machine.write m x f) [] e (its-proper s h)) (written t k m x f e (its-proper s h)) (unnamed t k m x f e (its-proper s h)))
     sound n s ps (Inference.i49 {t = t} {k = k} {x = x} {u = u} {m = m} {f = f} e z) h vs =
         rw e (forty-nine t x u m f z (its-good t k (Machine.write m x f) [] e (its-proper s h)) (written t k m x f e (its-proper s h)) (unnamed t k m x f e (its-proper s h)))
+    sound n s ps (Inference.i50 {t = t} {k = k} {x = x} {m = m} {f = f} {n = r} {ns = ns} {p = p} {q = q} e c) h vs =
+        rw e (paired t x m f (r ∷ ns) p q c (search (and-left, and-right)) (noted-plain t k (Machine.write m x f) (r ∷ ns) e (its-proper s h)) (rw e at (vs .0)))
     sound n s ps (Inference.i14 {t = t} {k = k} {a = a} {b = b} {q = q} {r = r} z) h vs = both-triples t (half P t k) a b q r (vs .0) (vs .1 .0)
     sound n s ps (Inference.i15 {t = t} {k = k} {a = a} {b = b} {q = q} {r = r} z) h vs = either-triples t (half P t k) a b q r (vs .0) (vs .1 .0)
     sound n s ps (Inference.i16 {t = t} {k = k} {a = a} {b = b} {q = q} {r = r} z) h vs =

@@ -14,8 +14,8 @@ use Rattle.logic.specs.Replace.{Note, replace, notes, regBy, wordBy}
 use Rattle.logic.specs.Rows.{byRows}
 use Rattle.logic.specs.Table.{byTable}
 use Rattle.logic.specs.Machine.{Program, Mode, Mode.store, Mode.swap, Mode.exchange, Mode.fetchAdd, covers, returns, resultOf, Access.none, Access.load, Access.write, Instr, Instr.act, Instr.branch}
-use Rattle.logic.specs.Statement.{Statement, inside, implies, triple, isBranch, half, isImp, impOf}
-use Rattle.logic.specs.Rule.{Rule, r1, r2, r3, r4, r5, r6, r7, r8, r9, r10, r11, r12, r13, r14, r15, r16, r20, r21, r22, r23, r24, r25, r26, r27, r30, r31, r32, r33, r34, r35, r36, r37, r38, r39, r40, r41, r42, r43, r44, r45, r46, r47, r48, r49}
+use Rattle.logic.specs.Statement.{Statement, inside, implies, triple, pair, isBranch, half, isImp, impOf}
+use Rattle.logic.specs.Rule.{Rule, r1, r2, r3, r4, r5, r6, r7, r8, r9, r10, r11, r12, r13, r14, r15, r16, r20, r21, r22, r23, r24, r25, r26, r27, r30, r31, r32, r33, r34, r35, r36, r37, r38, r39, r40, r41, r42, r43, r44, r45, r46, r47, r48, r49, r50}
 
 -- one x, and x = f
 abbrev pub newest : ℕ → Value → Interval
@@ -49,7 +49,7 @@ keeps (branch e k) a = false
 -- by the rule, from the premises: the statement
 pub data Inference (P : Program) : Rule → List Statement → Statement → Type 0 where
   i1 : {t k : ℕ} {p : Assertion} → T (keeps (half P t k) p) → Inference P r1 [] (triple t k p p)
-  i2 : {t k : ℕ} {ns : List Note} {q : Assertion} → half P t k ≡ act none ns → Inference P r2 [] (triple t k (replace (notes ns) q) q)
+  i2 : {t k : ℕ} {ns : List Note} {q : Assertion} → P .code t k ≡ act none ns → Inference P r2 [] (triple t k (replace (notes ns) q) q)
   i3 : {t k r x : ℕ} {acq : Bool} {e : Test} → half P t k ≡ act (load acq r x) [] → Inference P r3 [] (triple t k (sees t (box (replace (regBy r (word x)) e))) (holds e))
   i4 : {t k r x : ℕ} {acq : Bool} {e : Test} {i : Interval} {q : Assertion} → half P t k ≡ act (load acq r x) []
       → Inference P r4 (triple t k (sees t i) q ∷ []) (triple t k (sees t (chop (box (replace (regBy r (word x)) e)) i)) (eitherA (holds e) q))
@@ -80,6 +80,8 @@ pub data Inference (P : Program) : Rule → List Statement → Statement → Typ
       → Inference P r48 [] (triple t k (sees t (C x)) (sees t (newest x (freshValue m f))))
   i49 : {t k x u : ℕ} {m : Mode} {f : Value} → half P t k ≡ act (write m x f) [] → T (returns m)
       → Inference P r49 [] (triple t k (bothA (sees t (C x)) (sees u (C x))) (sees u (chop (box (cov x)) (newest x (freshValue m f)))))
+  i50 : {t k x : ℕ} {m : Mode} {f : Value} {n : Note} {ns : List Note} {p q : Assertion} → P .code t k ≡ act (write m x f) (n ∷ ns) → T (not (returns m))
+      → Inference P r50 (triple t k p (replace (notes (n ∷ ns)) q) ∷ []) (pair t k p q)
   i20 : {ps : List Statement} {a b : Assertion} → length ps ≤ Limits.premises → T (all isImp ps) → T (byTable (map impOf ps) (record { left = a; right = b })) → Inference P r20 ps (implies a b)
   i21 : {e f : Test} → T (byRows (P .range) e f) → Inference P r21 [] (implies (holds e) (holds f))
   i22 : {t : ℕ} {i j : Interval} → Inference P r22 (inside i j ∷ []) (implies (sees t i) (sees t j))

@@ -5,7 +5,7 @@ use Prim.Native.Nat.{ℕ, zero, suc, _-_}
 use lib.Dec.{eqb}
 use Rattle.logic.specs.Formula.{Formula, Formula.bothA, Formula.holds}
 use Rattle.logic.specs.Machine.{Program, Instr, Instr.act, Instr.branch}
-use Rattle.logic.specs.Statement.{Statement, implies, triple}
+use Rattle.logic.specs.Statement.{Statement, implies, taking}
 use Rattle.logic.specs.EveryRun.{Outline}
 
 -- class 1: start t. Class 2: step t k, the instruction at point k of t leads to the next point. Class 3: taken t k, a branch leads to its target.
@@ -67,7 +67,7 @@ module _ (P : Program) where
   module _ (O : Outline) where
     -- the next point: from the assertion by the instruction, or from the assertion and the negated test of a branch
     abbrev pub wantsNext : ℕ → ℕ → Instr → Statement
-    wantsNext t k (act A ns) = triple t k (O t k) (O t (suc k))
+    wantsNext t k (act A ns) = taking t k (act A ns) (O t k) (O t (suc k))
     wantsNext t k (branch e a) = implies (bothA (O t k) (holds (Formula.not e))) (O t (suc k))
 
     -- the target: from the assertion and the test of a branch; an action has none
@@ -80,4 +80,4 @@ module _ (P : Program) where
     wants (start t) = implies Formula.start (O t 0)
     wants (step t k) = wantsNext t k (P .code t k)
     wants (taken t k) = wantsTarget t k (P .code t k)
-    wants (interference u j t k) = triple t k (bothA (O u j) (O t k)) (O u j)
+    wants (interference u j t k) = taking t k (P .code t k) (bothA (O u j) (O t k)) (O u j)

@@ -29,3 +29,17 @@ exchange = 7
 
 abbrev pub fetchAdd : ℕ
 fetchAdd = 8
+
+-- a store, a releasing store, a swap, each followed by an assignment
+abbrev pub pairStore : ℕ
+pairStore = 9
+
+abbrev pub pairRelease : ℕ
+pairRelease = 10
+
+abbrev pub pairSwap : ℕ
+pairSwap = 11
+
+-- two assignments at once
+abbrev pub assignTwo : ℕ
+assignTwo = 12

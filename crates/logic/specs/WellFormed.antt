@@ -1,5 +1,5 @@
 -- What codes 5 to 9 and 23 leave of programs and outlines.
-use mathlib.Core.Bool.{Bool, true, not, _&&_}
+use mathlib.Core.Bool.{Bool, true, _&&_}
 use Prim.Native.Nat.{ℕ, suc, _<_}
 use lib.Dec.{T, ltb}
 use Rattle.logic.specs.Base.{all, Within, within}
@@ -8,7 +8,6 @@ use Rattle.logic.specs.Names.{only, isReg, notReg, startless}
 use Rattle.logic.specs.Replace.{Note}
 use Rattle.logic.specs.Eval.{bounded}
 use Rattle.logic.specs.Machine.{Program, Mode, Mode.store, Mode.swap, Mode.exchange, Mode.fetchAdd, Access, Access.none, Access.load, Access.write, Instr, Instr.act, Instr.branch}
-use Rattle.logic.specs.Statement.{isPair}
 use Rattle.logic.specs.EveryRun.{Outline}
 
 -- an instruction as an image may have it, in a thread of n points: numbers in range (6), formulas over registers (8),
@@ -28,7 +27,7 @@ properAccess P (load acquires r x) = within (P .words) x
 properAccess P (write m x f) = within (P .words) x && (properValue P f && lacksResult m f)
 
 abbrev pub proper : Program → ℕ → Instr → Bool
-proper P n (act A ns) = not (isPair (act A ns)) && (properAccess P A && all (λ (n : Note). properValue P (n .by)) ns)
+proper P n (act A ns) = properAccess P A && all (λ (n : Note). properValue P (n .by)) ns
 proper P n (branch e a) = only isReg e && ltb a n
 
 pub record WellFormed (P : Program) (O : Outline) : Type 0 where

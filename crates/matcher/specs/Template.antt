@@ -1,15 +1,14 @@
--- Patterns as the code has them: trees, and bytes in prefix form, with holes. A code from 64 on is a hole for a formula;
+-- Patterns as the code has them: trees with holes. A code from 64 on is a hole for a formula;
 -- an operand below 8 is a hole for a number, and 8 + n is the number n.
 use mathlib.Core.Bool.{true, false}
-use mathlib.Core.List.{List, [], _∷_}
+use mathlib.Core.List.{List, []}
 use Prim.Native.Nat.{ℕ, _+_, _-_}
 use lib.Dec.{ltb, leb}
 use Rattle.logic.specs.Code
 use Rattle.logic.specs.Code.{byte}
 use Rattle.logic.specs.Formula.{Sort}
 use Rattle.patterns.specs.Pattern.{Num, Pattern, Fill, t, x, r, u, y, anyA, anyI, anyE, anyV, f, const, reg, word, equal, and, unsync, cov, box, one, chop, both, either, sees, bothA, eitherA, start, holds}
-use Rattle.logic.specs.Rule.{Rule}
-use Rattle.patterns.specs.Rules.{Shape, Shape.inside, Shape.implies, Shape.triple, Premises, these, implications, row}
+use Rattle.patterns.specs.Rules.{Shape, Premises, these, implications}
 use Rattle.formula.specs.Codes.{hasOperand}
 use Rattle.formula.specs.Tree.{Tree, none, node}
 use Rattle.trees.specs.ToTree.{ofTree}
@@ -59,48 +58,10 @@ patternToTree (holds p) = node (byte Code.holds) 0 (patternToTree p) none
 patternToTree (sees n p) = node (byte Code.sees) (numHole n) (patternToTree p) none
 patternToTree start = node (byte Code.start) 0 none none
 
--- the bytes of a pattern, before the bytes l: what stands in the code's table
-abbrev pub encodeP : {s : Sort} → Pattern s → List ℕ → List ℕ
-encodeP (anyA k) l = (firstHole + k) ∷ l
-encodeP (anyI k) l = (firstHole + k) ∷ l
-encodeP (anyE k) l = (firstHole + k) ∷ l
-encodeP (anyV k) l = (firstHole + k) ∷ l
-encodeP f l = (firstHole + formulaHole) ∷ l
-encodeP (const n) l = byte Code.const ∷ (firstNumber + n) ∷ l
-encodeP (reg n) l = byte Code.reg ∷ numHole n ∷ l
-encodeP (word n) l = byte Code.word ∷ numHole n ∷ l
-encodeP (unsync n) l = byte Code.unsync ∷ numHole n ∷ l
-encodeP (cov n) l = byte Code.cov ∷ numHole n ∷ l
-encodeP (one n) l = byte Code.one ∷ numHole n ∷ l
-encodeP (equal p q) l = byte Code.equal ∷ encodeP p (encodeP q l)
-encodeP (and p q) l = byte Code.and ∷ encodeP p (encodeP q l)
-encodeP (chop p q) l = byte Code.chop ∷ encodeP p (encodeP q l)
-encodeP (both p q) l = byte Code.both ∷ encodeP p (encodeP q l)
-encodeP (either p q) l = byte Code.either ∷ encodeP p (encodeP q l)
-encodeP (bothA p q) l = byte Code.bothA ∷ encodeP p (encodeP q l)
-encodeP (eitherA p q) l = byte Code.eitherA ∷ encodeP p (encodeP q l)
-encodeP (box p) l = byte Code.box ∷ encodeP p l
-encodeP (holds p) l = byte Code.holds ∷ encodeP p l
-encodeP (sees n p) l = byte Code.sees ∷ numHole n ∷ encodeP p l
-encodeP start l = byte Code.start ∷ l
-
-abbrev pub encodeShape : Shape → List ℕ → List ℕ
-encodeShape (inside p q) l = encodeP p (encodeP q l)
-encodeShape (implies p q) l = encodeP p (encodeP q l)
-encodeShape (triple p q) l = encodeP p (encodeP q l)
-
-abbrev pub encodeAll : List Shape → List ℕ
-encodeAll [] = []
-encodeAll (p ∷ l) = encodeShape p (encodeAll l)
-
 -- the premises of a rule; of rule 20 no shapes
 abbrev pub shapes : Premises → List Shape
 shapes (these l) = l
 shapes implications = []
-
--- a rule's template: left and right, then those of its premises
-abbrev pub template : Rule → List ℕ
-template n = encodeAll (row n .says ∷ shapes (row n .premises))
 
 -- what stands in the holes
 pub record Holes : Type 0 where

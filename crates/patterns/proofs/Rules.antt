@@ -11,24 +11,34 @@ use Rattle.logic.specs.Formula.{Value, Test, Assertion, Formula.const, Formula.
 use Rattle.logic.specs.Replace.{Note, notes, replace, regBy, wordBy}
 use Rattle.logic.specs.Table.{byTable}
 use Rattle.logic.specs.Machine.{Program, Mode, Mode.store, Mode.swap, Mode.exchange, Mode.fetchAdd, covers, returns, resultOf, Access.none, Access.load, Access.write, Instr, Instr.act, Instr.branch}
-use Rattle.logic.specs.Statement.{Statement, implies, triple, isBranch, first, isImp, impOf}
+use Rattle.logic.specs.Statement.{Statement, implies, triple, pair, isBranch, first, isImp, impOf}
 use Rattle.patterns.specs.Pattern.{Fill}
 use Rattle.patterns.specs.Rules
-use Rattle.logic.specs.Rule.{Rule, r1, r2, r3, r4, r5, r6, r7, r8, r9, r10, r11, r12, r13, r14, r15, r16, r20, r21, r22, r23, r24, r25, r26, r27, r30, r31, r32, r33, r34, r35, r36, r37, r38, r39, r40, r41, r42, r43, r44, r45, r46, r47, r48, r49}
+use Rattle.logic.specs.Rule.{Rule, r1, r2, r3, r4, r5, r6, r7, r8, r9, r10, r11, r12, r13, r14, r15, r16, r20, r21, r22, r23, r24, r25, r26, r27, r30, r31, r32, r33, r34, r35, r36, r37, r38, r39, r40, r41, r42, r43, r44, r45, r46, r47, r48, r49, r50}
 use Rattle.patterns.specs.Rules.{row}
-use Rattle.logic.specs.Inference.{Inference, newest, freshValue, C, keeps, i1, i2, i3, i4, i5-load, i5-swap, i6, i7, i8, i9, i10, i11, i12, i13, i14, i15, i16, i20, i21, i22, i23, i24, i25, i26, i27, i30, i31, i32, i33, i34, i35, i36, i37, i38, i39, i40, i41, i42, i43, i44, i45, i46, i47, i48, i49}
+use Rattle.logic.specs.Inference.{Inference, newest, freshValue, C, keeps, i1, i2, i3, i4, i5-load, i5-swap, i6, i7, i8, i9, i10, i11, i12, i13, i14, i15, i16, i20, i21, i22, i23, i24, i25, i26, i27, i30, i31, i32, i33, i34, i35, i36, i37, i38, i39, i40, i41, i42, i43, i44, i45, i46, i47, i48, i49, i50}
 use Rattle.patterns.specs.Fits.{isAmong, opcode, threadOf, pointOf, found, fits}
 use Rattle.logic.proofs.Base.{and-left, and-right, and-both}
 use Rattle.logic.proofs.Encoding.{same-eq, same-refl}
-use Rattle.patterns.proofs.Fit.{fit, fit-back, Fit, as-assign, as-load, as-acquire, as-store, as-release, as-store-swap, as-write, as-swap, as-covering, as-returning}
+use Rattle.patterns.proofs.Fit.{fit, fit-back, Fit, as-assign, as-load, as-acquire, as-store, as-release, as-store-swap, as-write, as-swap, as-covering, as-returning, as-pair}
+
+-- an assignment, or two
+op-assign : (ns : List Note) → T (isAmong (opcode (act none ns)) Rules.assigns)
+op-assign [] = tt
+op-assign (n ∷ []) = tt
+op-assign (n ∷ m ∷ ns) = tt
 
 -- an operation that is no branch
-acts : (c : Instr) → T (isAmong (opcode c) Rules.actions) → T (not (isBranch c))
-acts (act A ns) h = tt
+acts : (c : Instr) → T (isAmong (opcode (first c)) Rules.actions) → T (not (isBranch (first c)))
+acts (act none ns) h = tt
+acts (act (load a r x) ns) h = tt
+acts (act (write m x f) ns) h = tt
 acts (branch e k) h = absurd h
 
-op-acts : (c : Instr) → T (not (isBranch c)) → T (isAmong (opcode c) Rules.actions)
-op-acts (act none ns) h = tt
+op-acts : (c : Instr) → T (not (isBranch (first c))) → T (isAmong (opcode (first c)) Rules.actions)
+op-acts (act none []) h = tt
+op-acts (act none (n ∷ [])) h = tt
+op-acts (act none (n ∷ m ∷ ns)) h = tt
 op-acts (act (load true r x) ns) h = tt
 op-acts (act (load false r x) ns) h = tt
 op-acts (act (write (store true) x f) ns) h = tt
@@ -79,7 +89,7 @@ op-returning swap x f h = absurd h
 op-returning (exchange r) x f h = tt
 op-returning (fetchAdd r) x f h = tt
 
-op-kept : (c : Instr) (a : Assertion) → T (keeps c a) → T (isAmong (opcode c) Rules.accesses)
+op-kept : (c : Instr) (a : Assertion) → T (keeps (first c) a) → T (isAmong (opcode (first c)) Rules.accesses)
 op-kept (act none ns) a h = absurd h
 op-kept (act (load true r x) ns) a h = tt
 op-kept (act (load false r x) ns) a h = tt
@@ -89,6 +99,13 @@ op-kept (act (write swap x f) ns) a h = tt
 op-kept (act (write (exchange r) x f) ns) a h = tt
 op-kept (act (write (fetchAdd r) x f) ns) a h = tt
 op-kept (branch e k) a h = absurd h
+
+op-pair : (m : Mode) (x : ℕ) (f : Value) (n : Note) (ns : List Note) → T (not (returns m)) → T (isAmong (opcode (act (write m x f) (n ∷ ns))) Rules.pairs)
+op-pair (store true) x f n ns h = tt
+op-pair (store false) x f n ns h = tt
+op-pair swap x f n ns h = tt
+op-pair (exchange r) x f n ns h = absurd h
+op-pair (fetchAdd r) x f n ns h = absurd h
 
 module _ (P : Program) where
   -- the row's shapes, filled in any way: the rule
@@ -126,9 +143,9 @@ module _ (P : Program) where
       subst₂ (Inference P r12) (g .premises) (g .says) (as-swap (P .code (threadOf s) (pointOf s)) (g .op) (λ x f e. rw e (i12 e)))
   rule-of r13 σ s ps g =
       subst₂ (Inference P r13) (g .premises) (g .says) (as-covering (P .code (threadOf s) (pointOf s)) (g .op) (λ m x f e c. rw e (i13 e c (rw e at (g .side .0)))))
-  rule-of r14 σ s ps g = subst₂ (Inference P r14) (g .premises) (g .says) (i14 (acts (first (P .code (threadOf s) (pointOf s))) (g .op)))
-  rule-of r15 σ s ps g = subst₂ (Inference P r15) (g .premises) (g .says) (i15 (acts (first (P .code (threadOf s) (pointOf s))) (g .op)))
-  rule-of r16 σ s ps g = subst₂ (Inference P r16) (g .premises) (g .says) (i16 (acts (first (P .code (threadOf s) (pointOf s))) (g .op)))
+  rule-of r14 σ s ps g = subst₂ (Inference P r14) (g .premises) (g .says) (i14 (acts (P .code (threadOf s) (pointOf s)) (g .op)))
+  rule-of r15 σ s ps g = subst₂ (Inference P r15) (g .premises) (g .says) (i15 (acts (P .code (threadOf s) (pointOf s)) (g .op)))
+  rule-of r16 σ s ps g = subst₂ (Inference P r16) (g .premises) (g .says) (i16 (acts (P .code (threadOf s) (pointOf s)) (g .op)))
   rule-of r20 σ s ps g =
       subst (Inference P r20 ps) (g .says)
       (i20 (leb→le (length ps) Limits.premises (and-left (leb (length ps) Limits.premises) (all isImp ps) (g .premises))) (and-right (leb (length ps) Limits.premises) (all isImp ps) (g .premises))
@@ -171,12 +188,16 @@ module _ (P : Program) where
       subst₂ (Inference P r49) (g .premises) (g .says) (as-returning (P .code (threadOf s) (pointOf s)) (g .op) (λ m x f e c. rw e
       (subst (λ (n : Value). Inference P r49 [] (triple (threadOf s) (pointOf s) (bothA (sees (threadOf s) (C x)) (sees (σ .u) (C x))) (sees (σ .u) (chop (box (cov x)) (newest x n)))))
       (sym (same-eq (σ .value 0) (freshValue m f) (rw e at (g .side .0)))) (i49 e c))))
+  rule-of r50 σ s ps g =
+      subst₂ (Inference P r50) (g .premises) (g .says) (as-pair (P .code (threadOf s) (pointOf s)) (g .op) (λ m x f n ns e c.
+      subst (λ (a : Assertion). Inference P r50 (triple (threadOf s) (pointOf s) (σ .assertion 2) a ∷ []) (pair (threadOf s) (pointOf s) (σ .assertion 2) (σ .assertion 1)))
+      (sym (same-eq (σ .assertion 0) (replace (notes (n ∷ ns)) (σ .assertion 1)) (rw e at (g .side .0)))) (i50 {q = σ .assertion 1} e c)))
 
   -- the rule: the row's shapes, filled with what is found in the line
   pub fits-of : (n : Rule) (s : Statement) (ps : List Statement) → Inference P n ps s → Fit P (threadOf s) (pointOf s) (found (row n) s ps) (row n) s ps
   unfolding upd
-  fits-of r1 s ps (i1 {t = t} {k = k} {p = p} c) = record { says = refl; premises = refl; op = op-kept (first (P .code t k)) p c; side = (c, tt) }
-  fits-of r2 s ps (i2 {ns = ns} {q = q} e) = record { says = refl; premises = refl; op = rw e tt; side = (rw e (same-refl (replace (notes ns) q)), tt) }
+  fits-of r1 s ps (i1 {t = t} {k = k} {p = p} c) = record { says = refl; premises = refl; op = op-kept (P .code t k) p c; side = (c, tt) }
+  fits-of r2 s ps (i2 {ns = ns} {q = q} e) = record { says = refl; premises = refl; op = rw e (op-assign ns); side = (rw e (same-refl (replace (notes ns) q)), tt) }
   fits-of r3 s ps (i3 {r = r} {x = x} {acq = acq} {e = q} e) = record { says = refl; premises = refl; op = rw e (op-load acq r x); side = (rw e (same-refl (replace (regBy r (word x)) q)), tt) }
   fits-of r4 s ps (i4 {r = r} {x = x} {acq = acq} {e = q} e) = record { says = refl; premises = refl; op = rw e (op-load acq r x); side = (rw e (same-refl (replace (regBy r (word x)) q)), tt) }
   fits-of r5 s ps (i5-load e) = record { says = rw e; premises = refl; op = rw e tt; side = tt }
@@ -189,9 +210,9 @@ module _ (P : Program) where
   fits-of r11 s ps (i11 e) = record { says = rw e; premises = refl; op = rw e tt; side = tt }
   fits-of r12 s ps (i12 e) = record { says = rw e; premises = refl; op = rw e tt; side = tt }
   fits-of r13 s ps (i13 {x = x} {m = m} {f = f} e d c) = record { says = rw e; premises = refl; op = rw e (op-covering m x f d); side = (rw e c, tt) }
-  fits-of r14 s ps (i14 {t = t} {k = k} c) = record { says = refl; premises = refl; op = op-acts (first (P .code t k)) c; side = tt }
-  fits-of r15 s ps (i15 {t = t} {k = k} c) = record { says = refl; premises = refl; op = op-acts (first (P .code t k)) c; side = tt }
-  fits-of r16 s ps (i16 {t = t} {k = k} c) = record { says = refl; premises = refl; op = op-acts (first (P .code t k)) c; side = tt }
+  fits-of r14 s ps (i14 {t = t} {k = k} c) = record { says = refl; premises = refl; op = op-acts (P .code t k) c; side = tt }
+  fits-of r15 s ps (i15 {t = t} {k = k} c) = record { says = refl; premises = refl; op = op-acts (P .code t k) c; side = tt }
+  fits-of r16 s ps (i16 {t = t} {k = k} c) = record { says = refl; premises = refl; op = op-acts (P .code t k) c; side = tt }
   fits-of r20 s ps (i20 l i c) = record { says = refl; premises = and-both (leb (length ps) Limits.premises) (all isImp ps) (le→leb (length ps) Limits.premises l) i; op = tt; side = (c, tt) }
   fits-of r21 s ps (i21 c) = record { says = refl; premises = refl; op = tt; side = (c, tt) }
   fits-of r22 s ps i22 = record { says = refl; premises = refl; op = tt; side = tt }
@@ -225,6 +246,12 @@ module _ (P : Program) where
   }
   fits-of r48 s ps (i48 {x = x} {m = m} {f = f} e c) = record { says = rw e; premises = refl; op = rw e (op-returning m x f c); side = (rw e (same-refl (freshValue m f)), tt) }
   fits-of r49 s ps (i49 {x = x} {m = m} {f = f} e c) = record { says = rw e; premises = refl; op = rw e (op-returning m x f c); side = (rw e (same-refl (freshValue m f)), tt) }
+  fits-of r50 s ps (i50 {x = x} {m = m} {f = f} {n = n} {ns = ns} {q = q} e c) = record {
+    says = refl;
+    premises = refl;
+    op = rw e (op-pair m x f n ns c);
+    side = (rw e (same-refl (replace (notes (n ∷ ns)) q)), tt);
+  }
 
   -- a line fits its rule exactly if the rule gives what it says from its premises
   pub fits-rule : (n : Rule) (s : Statement) (ps : List Statement) → T (fits P n s ps) → Inference P n ps s

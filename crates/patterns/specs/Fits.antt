@@ -14,7 +14,7 @@ use Rattle.logic.specs.Replace.{Note, Sub, replace, notes, regBy, wordBy}
 use Rattle.logic.specs.Rows.{byRows}
 use Rattle.logic.specs.Table.{byTable}
 use Rattle.logic.specs.Machine.{Program, Mode.store, Mode.swap, Mode.exchange, Mode.fetchAdd, resultOf, Access.none, Access.load, Access.write, Instr, Instr.act, Instr.branch}
-use Rattle.logic.specs.Statement.{Statement, inside, implies, triple, half, isImp, impOf}
+use Rattle.logic.specs.Statement.{Statement, inside, implies, triple, pair, half, isImp, impOf}
 use Rattle.patterns.specs.Pattern
 use Rattle.patterns.specs.Pattern.{Num, Pattern, Given, Fill, number, inst}
 use Rattle.logic.specs.Rule.{Rule}
@@ -146,12 +146,19 @@ abbrev pub findLine : Shape → Statement → Fill → Fill
 findLine (Shape.inside p q) (inside i j) σ = find q j (find p i σ)
 findLine (Shape.inside p q) (implies a b) σ = σ
 findLine (Shape.inside p q) (triple t k a b) σ = σ
+findLine (Shape.inside p q) (pair t k a b) σ = σ
 findLine (Shape.implies p q) (inside i j) σ = σ
 findLine (Shape.implies p q) (implies a b) σ = find q b (find p a σ)
 findLine (Shape.implies p q) (triple t k a b) σ = σ
+findLine (Shape.implies p q) (pair t k a b) σ = σ
 findLine (Shape.triple p q) (inside i j) σ = σ
 findLine (Shape.triple p q) (implies a b) σ = σ
 findLine (Shape.triple p q) (triple t k a b) σ = find q b (find p a σ)
+findLine (Shape.triple p q) (pair t k a b) σ = σ
+findLine (Shape.pair p q) (inside i j) σ = σ
+findLine (Shape.pair p q) (implies a b) σ = σ
+findLine (Shape.pair p q) (triple t k a b) σ = σ
+findLine (Shape.pair p q) (pair t k a b) σ = find q b (find p a σ)
 
 abbrev pub findAll : List Shape → List Statement → Fill → Fill
 findAll [] ps σ = σ
@@ -170,12 +177,19 @@ abbrev pub sameStatement : Statement → Statement → Bool
 sameStatement (inside i j) (inside k l) = same i k && same j l
 sameStatement (inside i j) (implies c d) = false
 sameStatement (inside i j) (triple t k c d) = false
+sameStatement (inside i j) (pair t k c d) = false
 sameStatement (implies a b) (inside k l) = false
 sameStatement (implies a b) (implies c d) = same a c && same b d
-sameStatement (implies a b) (triple t k c d) = false
+sameStatement (implies a b) (triple u j c d) = false
+sameStatement (implies a b) (pair u j c d) = false
 sameStatement (triple t k a b) (inside i j) = false
 sameStatement (triple t k a b) (implies c d) = false
 sameStatement (triple t k a b) (triple u j c d) = (eqb t u && eqb k j) && (same a c && same b d)
+sameStatement (triple t k a b) (pair u j c d) = false
+sameStatement (pair t k a b) (inside i j) = false
+sameStatement (pair t k a b) (implies c d) = false
+sameStatement (pair t k a b) (triple u j c d) = false
+sameStatement (pair t k a b) (pair u j c d) = (eqb t u && eqb k j) && (same a c && same b d)
 
 abbrev pub sameAll : List Statement → List Statement → Bool
 sameAll [] [] = true
@@ -187,13 +201,19 @@ abbrev pub isAmong : ℕ → List ℕ → Bool
 isAmong n [] = false
 isAmong n (m ∷ l) = eqb n m || isAmong n l
 
+-- the one alone, the other with a note
+abbrev pub orNoted : ℕ → ℕ → List Note → ℕ
+orNoted alone noted [] = alone
+orNoted alone noted (n ∷ ns) = noted
+
 abbrev pub opcode : Instr → ℕ
-opcode (act none ns) = Opcode.assign
+opcode (act none []) = Opcode.assign
+opcode (act none (n ∷ ns)) = orNoted Opcode.assign Opcode.assignTwo ns
 opcode (act (load false r x) ns) = Opcode.load
 opcode (act (load true r x) ns) = Opcode.acquire
-opcode (act (write (store false) x f) ns) = Opcode.store
-opcode (act (write (store true) x f) ns) = Opcode.release
-opcode (act (write swap x f) ns) = Opcode.swap
+opcode (act (write (store false) x f) ns) = orNoted Opcode.store Opcode.pairStore ns
+opcode (act (write (store true) x f) ns) = orNoted Opcode.release Opcode.pairRelease ns
+opcode (act (write swap x f) ns) = orNoted Opcode.swap Opcode.pairSwap ns
 opcode (act (write (exchange r) x f) ns) = Opcode.exchange
 opcode (act (write (fetchAdd r) x f) ns) = Opcode.fetchAdd
 opcode (branch e a) = Opcode.branch
@@ -242,11 +262,13 @@ abbrev pub threadOf : Statement → ℕ
 threadOf (inside i j) = 0
 threadOf (implies a b) = 0
 threadOf (triple t k a b) = t
+threadOf (pair t k a b) = t
 
 abbrev pub pointOf : Statement → ℕ
 pointOf (inside i j) = 0
 pointOf (implies a b) = 0
 pointOf (triple t k a b) = k
+pointOf (pair t k a b) = k
 
 module _ (P : Program) where
   module _ (t k : ℕ) where
@@ -258,6 +280,7 @@ module _ (P : Program) where
     filled σ (Shape.inside p q) = inside (inst given σ p) (inst given σ q)
     filled σ (Shape.implies p q) = implies (inst given σ p) (inst given σ q)
     filled σ (Shape.triple p q) = triple t k (inst given σ p) (inst given σ q)
+    filled σ (Shape.pair p q) = pair t k (inst given σ p) (inst given σ q)
 
     abbrev pub filledAll : Fill → List Shape → List Statement
     filledAll σ [] = []
@@ -268,7 +291,7 @@ module _ (P : Program) where
     premisesFit σ implications ps = leb (length ps) Limits.premises && all isImp ps
 
     abbrev pub by : By → Sub
-    by by-notes = notes (notesOf (half P t k))
+    by by-notes = notes (notesOf (P .code t k))
     by r-by-x = regBy (given .r) (word (given .x))
     by x-by-f = wordBy (given .x) (given .f)
 
@@ -287,6 +310,7 @@ module _ (P : Program) where
     operationFits (Shape.inside p q) ops = true
     operationFits (Shape.implies p q) ops = true
     operationFits (Shape.triple p q) ops = isAmong (opcode (half P t k)) ops
+    operationFits (Shape.pair p q) ops = isAmong (opcode (P .code t k)) ops
 
     -- the line says the shape filled so, its premises too, and the operation and the side conditions are right
     abbrev pub fitsBy : Fill → Row → Statement → List Statement → Bool

@@ -3,13 +3,13 @@ use mathlib.Core.List.{List, [], _∷_}
 use Prim.Native.Nat.{ℕ}
 use Rattle.logic.specs.Formula.{Sort}
 use Rattle.logic.specs.Opcode
-use Rattle.logic.specs.Rule.{Rule, r1, r2, r3, r4, r5, r6, r7, r8, r9, r10, r11, r12, r13, r14, r15, r16, r20, r21, r22, r23, r24, r25, r26, r27, r30, r31, r32, r33, r34, r35, r36, r37, r38, r39, r40, r41, r42, r43, r44, r45, r46, r47, r48, r49}
+use Rattle.logic.specs.Rule.{Rule, r1, r2, r3, r4, r5, r6, r7, r8, r9, r10, r11, r12, r13, r14, r15, r16, r20, r21, r22, r23, r24, r25, r26, r27, r30, r31, r32, r33, r34, r35, r36, r37, r38, r39, r40, r41, r42, r43, r44, r45, r46, r47, r48, r49, r50}
 use Rattle.patterns.specs.Pattern.{Num, Pattern, t, x, r, u, y, anyA, anyI, anyE, anyV, f, const, reg, word, equal, and, unsync, cov, box, one, chop, both, either, sees, bothA, eitherA, start, holds}
 
 -- a line's form, its left and its right side
 pub data Shape : Type 0 where
   inside : Pattern Sort.interval → Pattern Sort.interval → Shape
-  implies triple : Pattern Sort.assertion → Pattern Sort.assertion → Shape
+  implies triple pair : Pattern Sort.assertion → Pattern Sort.assertion → Shape
 
 -- the lines that the rule rests on, in order, triples for the same instruction; rule 20: 0 to 4 implications
 pub data Premises : Type 0 where
@@ -41,9 +41,9 @@ pub record Row : Type 0 where
   pub operations : List ℕ
   pub sides : List Side
 
--- the operations that rules allow. "Load" covers 1 and 2, "store" 3 and 4
+-- the operations that rules allow, at a pair's point those of its first half. "Load" covers 1 and 2, "store" 3 and 4
 abbrev pub assigns : List ℕ
-assigns = Opcode.assign ∷ []
+assigns = Opcode.assign ∷ Opcode.assignTwo ∷ []
 
 abbrev pub loads : List ℕ
 loads = Opcode.load ∷ Opcode.acquire ∷ []
@@ -77,8 +77,11 @@ writes = Opcode.store ∷ Opcode.release ∷ covering
 abbrev pub accesses : List ℕ
 accesses = Opcode.load ∷ Opcode.acquire ∷ writes
 
+abbrev pub pairs : List ℕ
+pairs = Opcode.pairStore ∷ Opcode.pairRelease ∷ Opcode.pairSwap ∷ []
+
 abbrev pub actions : List ℕ
-actions = Opcode.assign ∷ accesses
+actions = Opcode.assign ∷ Opcode.assignTwo ∷ accesses
 
 -- a triple for these operations; an implication; an interval in an interval
 abbrev pub tri : List ℕ → Pattern Sort.assertion → Pattern Sort.assertion → List Shape → List Side → Row
@@ -181,3 +184,4 @@ row r46 = inc I I [] []
 row r47 = tri returning (sees t (box F)) (holds E) [] ((F is E with r-by-x) ∷ [])
 row r48 = tri returning (sees t C) (sees t newestN) [] (is-new N ∷ [])
 row r49 = tri returning (bothA (sees t C) (sees u C)) (sees u (chop (box (cov x)) newestN)) [] (is-new N ∷ [])
+row r50 = record { says = pair R Q; premises = these (triple R P ∷ []); operations = pairs; sides = (P is Q with by-notes) ∷ [] }

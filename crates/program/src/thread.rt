@@ -1,6 +1,8 @@
-// A thread's record: points n, then n - 1 instructions. 0 points are counted as 1.
+// A thread's record: points n, then n - 1 instructions, each of five or ten bytes. 0 points are counted as 1.
 use crate::instruction::Instruction;
+use crate::instruction::NO_HALF;
 use crate::instruction::instruction_fits;
+use crate::instruction::instruction_size;
 use crate::instruction::read_instruction;
 use crate::sizes::Sizes;
 use frames::fault::Checked;
@@ -8,13 +10,14 @@ use frames::fault::Fault;
 use limits::Limits;
 use limits::range::byte_within;
 use limits::read::byte_at;
+use limits::read::octet_at;
 use limits::read::rest;
 ghost use mathlib.Core.Path.{_≡_};
-ghost use Prim.Native.Nat.{_<_, _-_};
+ghost use Prim.Native.Nat.{_<_, _≤_, _-_};
 ghost use lib.ListN.{getD};
 ghost use Rattle.limits.specs.Numbers.{every};
 ghost use Rattle.program.specs.Instruction.{ranged};
-ghost use Rattle.program.specs.Thread.{lastPoint, instructions, nothing, threadSize, numbered, threadNumbers};
+ghost use Rattle.program.specs.Thread.{lastPoint, begins, instructions, nothing, threadSize, numbered, threadNumbers};
 
 // The last point, which is also the number of instructions.
 pub fn last_point(b: &[u8]) -> usize
@@ -25,6 +28,20 @@ pub fn last_point(b: &[u8]) -> usize
         return 0;
     }
     n - 1
+}
+
+// Where instruction p begins, walked from the first one on.
+fn begins_at(l: &[u8], p: usize) -> usize
+    requires { ⌜ p < 256 ⌝ }
+    ensures { λ r. ⌜ (r ≡ begins (now (l .entry)) p) × (r ≤ 2560) ⌝ }
+{
+    let mut at: usize = 0;
+    let mut i: usize = 0;
+    while i < p {
+        at += instruction_size(octet_at(l, at));
+        i += 1;
+    }
+    at
 }
 
 // The instruction at a point; where there is none, a branch to point 0.
@@ -38,10 +55,13 @@ pub fn instruction_at(b: &[u8], p: usize) -> Instruction
             a: 0,
             b: 0,
             formula: 0,
+            second: NO_HALF,
         };
     }
-    let l = rest(b, 1 + 5 * p);
-    read_instruction(l)
+    let l = rest(b, 1);
+    let at = begins_at(l, p);
+    let m = rest(l, at);
+    read_instruction(m)
 }
 
 // Every instruction has its fields in range.
@@ -64,7 +84,8 @@ fn instructions_fit(b: &[u8], z: Sizes) -> bool
 fn thread_size(b: &[u8]) -> usize
     ensures { λ r. ⌜ r ≡ threadSize (now (b .entry)) ⌝ }
 {
-    1 + 5 * last_point(b)
+    let l = rest(b, 1);
+    1 + begins_at(l, last_point(b))
 }
 
 fn thread_fits(b: &[u8], z: Sizes) -> bool

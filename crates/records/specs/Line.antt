@@ -15,7 +15,7 @@ use Rattle.program.specs.declared.sizes.Sizes.{Sizes}
 use Rattle.records.specs.Places.{instructionOf}
 use Rattle.records.specs.Rules as Rules
 use Rattle.records.specs.declared.line.Form.{Form}
-use Rattle.records.specs.declared.line.Form.the-variants.{Triple, Implication, Inclusion, Unlisted}
+use Rattle.records.specs.declared.line.Form.the-variants.{Triple, Implication, Inclusion, Pair, Unlisted}
 
 unfoldable pub formOf : ℕ → Form
 formOf r =
@@ -26,7 +26,8 @@ formOf r =
     (cond (ltb r Rules.firstInclusion) Unlisted
     (cond (leb r Rules.lastInclusion) Inclusion
     (cond (leb r Rules.lastResult) Triple
-    Unlisted))))))
+    (cond (eqb r Rules.pair) Pair
+    Unlisted)))))))
 
 unfoldable pub premises : List ℕ → List ℕ
 premises b = numbers (getD b 7 0) (drop 8 b)
@@ -47,6 +48,7 @@ unfoldable pub placed : Sizes → List (List ℕ) → Form → List ℕ → Bool
 placed z l Triple b = tripleAt z l b
 placed z l Implication b = nowhere b
 placed z l Inclusion b = nowhere b
+placed z l Pair b = tripleAt z l b
 placed z l Unlisted b = false
 
 -- both formulas are there; at most 4 premises, each of them one of the lines before this one

@@ -22,3 +22,7 @@ lastInclusion = 46
 -- the triples of exchange and fetch-add follow the last inclusion
 abbrev pub lastResult : ℕ
 lastResult = 49
+
+-- the triple for a whole pair
+abbrev pub pair : ℕ
+pair = 50

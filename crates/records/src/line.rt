@@ -18,11 +18,12 @@ ghost use Rattle.frames.specs.Records.{bodies, indexOf};
 ghost use Rattle.limits.specs.Numbers.{within, every};
 ghost use Rattle.records.specs.Line.{formOf, premises, lineSize, tripleAt, nowhere, placed, numbered, lineNumbers};
 
-// What a line is: a triple, an implication or an inclusion of intervals.
+// What a line is: a triple, an implication, an inclusion of intervals, or a triple for a whole pair.
 pub enum Form {
     Triple,
     Implication,
     Inclusion,
+    Pair,
     Unlisted,
 }
 
@@ -42,6 +43,9 @@ impl Form {
 
     // Triples of exchange and fetch-add, directly behind.
     pub const LAST_RESULT: usize = 49;
+
+    // The triple for a whole pair.
+    pub const PAIR: usize = 50;
 }
 
 fn form_of(rule: usize) -> Form
@@ -67,6 +71,9 @@ fn form_of(rule: usize) -> Form
     }
     if rule <= Form::LAST_RESULT {
         return Form::Triple;
+    }
+    if rule == Form::PAIR {
+        return Form::Pair;
     }
     Form::Unlisted
 }
@@ -120,6 +127,7 @@ fn line_placed<'a, 'b>(s: &'a [u8], ix: &'b [usize], z: Sizes, b: &'a [u8]) -> b
         Form::Triple => triple_placed(s, ix, z, b),
         Form::Implication => nowhere_placed(b),
         Form::Inclusion => nowhere_placed(b),
+        Form::Pair => triple_placed(s, ix, z, b),
         Form::Unlisted => false,
     }
 }

@@ -1,6 +1,7 @@
 // The instruction at a thread's point, by the index of records.
 use frames::index::body_of;
 use program::instruction::Instruction;
+use program::instruction::NO_HALF;
 use program::sizes::Sizes;
 use program::thread::instruction_at;
 ghost use mathlib.Core.Path.{_≡_};
@@ -24,6 +25,7 @@ pub fn instruction_of<'a, 'b>(
             a: 0,
             b: 0,
             formula: 0,
+            second: NO_HALF,
         };
     }
     if (z.threads as usize) < t {
@@ -32,6 +34,7 @@ pub fn instruction_of<'a, 'b>(
             a: 0,
             b: 0,
             formula: 0,
+            second: NO_HALF,
         };
     }
     let b = body_of(s, ix, (z.formulas as usize) + t);

@@ -13,11 +13,11 @@ same-inside [] n d e h = absurd (omega arith)
 same-inside (x ∷ l) zero d e h = refl
 same-inside (x ∷ l) (suc n) d e h = same-inside l n d e (omega arith)
 
-pub row-listed : (n : ℕ) (d : Rule) → n < 50 → getD rows n d ≡ ruleRow n
+pub row-listed : (n : ℕ) (d : Rule) → n < 51 → getD rows n d ≡ ruleRow n
 unfolding ruleRow
 row-listed n d h = same-inside rows n d unlisted h
 
-pub row-past : (n : ℕ) → 50 ≤ n → unlisted ≡ ruleRow n
+pub row-past : (n : ℕ) → 51 ≤ n → unlisted ≡ ruleRow n
 unfolding ruleRow
 row-past n h = sym (List·getD-eq-default rows unlisted h)
 

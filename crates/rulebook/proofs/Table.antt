@@ -1,6 +1,6 @@
 -- ONE TABLE: each row of the code's table, and the bytes of its templates, are those of the table of rules.
 use lib.Dec.{T}
-use Rattle.logic.specs.Rule.{Rule, r1, r2, r3, r4, r5, r6, r7, r8, r9, r10, r11, r12, r13, r14, r15, r16, r20, r21, r22, r23, r24, r25, r26, r27, r30, r31, r32, r33, r34, r35, r36, r37, r38, r39, r40, r41, r42, r43, r44, r45, r46, r47, r48, r49}
+use Rattle.logic.specs.Rule.{Rule, r1, r2, r3, r4, r5, r6, r7, r8, r9, r10, r11, r12, r13, r14, r15, r16, r20, r21, r22, r23, r24, r25, r26, r27, r30, r31, r32, r33, r34, r35, r36, r37, r38, r39, r40, r41, r42, r43, r44, r45, r46, r47, r48, r49, r50}
 use Rattle.formula.specs.Codes.{hasOperand, partCount}
 use Rattle.formula.specs.Tree.{nodeAt, parseTree}
 use Rattle.compare.specs.Same.{sameTree}
@@ -54,3 +54,4 @@ listed-right r46 = tt
 listed-right r47 = tt
 listed-right r48 = tt
 listed-right r49 = tt
+listed-right r50 = tt

@@ -6,7 +6,7 @@ use lib.Dec.{eqb, leb}
 use lib.ListN.{length}
 use Rattle.logic.specs.Base.{all}
 use Rattle.logic.specs.Opcode
-use Rattle.logic.specs.Rule.{Rule, r1, r2, r3, r4, r5, r6, r7, r8, r9, r10, r11, r12, r13, r14, r15, r16, r20, r21, r22, r23, r24, r25, r26, r27, r30, r31, r32, r33, r34, r35, r36, r37, r38, r39, r40, r41, r42, r43, r44, r45, r46, r47, r48, r49}
+use Rattle.logic.specs.Rule.{Rule, r1, r2, r3, r4, r5, r6, r7, r8, r9, r10, r11, r12, r13, r14, r15, r16, r20, r21, r22, r23, r24, r25, r26, r27, r30, r31, r32, r33, r34, r35, r36, r37, r38, r39, r40, r41, r42, r43, r44, r45, r46, r47, r48, r49, r50}
 use Rattle.patterns.specs.Rules.{Shape, Premises, these, implications, by-notes, r-by-x, x-by-f, Side, _is_with_, start-of, starts-at-0, is-new, kept, lacks-x, no-flag, by-rows, by-table, row}
 use Rattle.patterns.specs.Fits.{isAmong}
 use Rattle.limits.specs.Limits as Limits
@@ -63,6 +63,7 @@ numberOf r46 = 46
 numberOf r47 = 47
 numberOf r48 = 48
 numberOf r49 = 49
+numberOf r50 = 50
 
 -- the trees of shapes, and whether they stand in the templates one after the other from a position on
 abbrev pub trees : List Shape → List Tree
@@ -92,7 +93,9 @@ sameBit false true = false
 sameBit false false = true
 
 abbrev pub operations : List ℕ
-operations = Opcode.assign ∷ Opcode.load ∷ Opcode.acquire ∷ Opcode.store ∷ Opcode.release ∷ Opcode.swap ∷ Opcode.branch ∷ Opcode.exchange ∷ Opcode.fetchAdd ∷ []
+operations =
+    Opcode.assign ∷ Opcode.load ∷ Opcode.acquire ∷ Opcode.store ∷ Opcode.release ∷ Opcode.swap ∷ Opcode.branch ∷ Opcode.exchange ∷ Opcode.fetchAdd
+    ∷ Opcode.pairStore ∷ Opcode.pairRelease ∷ Opcode.pairSwap ∷ Opcode.assignTwo ∷ []
 
 -- what is asked besides, by number
 abbrev pub sideNumber : List Side → ℕ

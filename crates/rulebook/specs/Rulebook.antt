@@ -6,7 +6,7 @@ use Rattle.rulebook.specs.declared.rule.Rule.{Rule}
 
 -- forms of lines, and what is asked besides, by number
 abbrev pub unlistedForm : ℕ
-unlistedForm = 3
+unlistedForm = 4
 
 abbrev pub nothing : ℕ
 nothing = 0
@@ -55,7 +55,7 @@ abbrev pub rows : List Rule
 rows =
     unlisted ∷
     rule 2 0 0 0 446 isKept ∷
-    rule 2 2 0 0 1 assigned ∷
+    rule 2 2 0 0 4097 assigned ∷
     rule 2 4 0 0 6 loaded ∷
     rule 2 10 1 2 6 loaded ∷
     rule 2 24 1 2 420 nothing ∷
@@ -67,9 +67,9 @@ rows =
     rule 2 116 0 0 32 nothing ∷
     rule 2 134 0 0 32 nothing ∷
     rule 2 165 0 0 416 wordAbsent ∷
-    rule 2 197 2 10 447 nothing ∷
-    rule 2 207 2 10 447 nothing ∷
-    rule 2 217 3 25 447 nothing ∷
+    rule 2 197 2 10 4543 nothing ∷
+    rule 2 207 2 10 4543 nothing ∷
+    rule 2 217 3 25 4543 nothing ∷
     unlisted ∷
     unlisted ∷
     unlisted ∷
@@ -103,6 +103,7 @@ rows =
     rule 2 4 0 0 384 loaded ∷
     rule 2 391 0 0 384 newValue ∷
     rule 2 409 0 0 384 newValue ∷
+    rule 3 440 1 2 3584 assigned ∷
     []
 
 unfoldable pub ruleRow : ℕ → Rule
@@ -128,5 +129,5 @@ templates =
     64 ∷ 65 ∷ 64 ∷ 66 ∷ 64 ∷ 20 ∷ 64 ∷ 65 ∷ 65 ∷ 20 ∷ 64 ∷ 65 ∷ 20 ∷ 64 ∷ 65 ∷ 66 ∷ 64 ∷ 66 ∷ 65 ∷ 66 ∷ 19 ∷ 16 ∷ 66 ∷ 16 ∷
     67 ∷ 16 ∷ 12 ∷ 66 ∷ 67 ∷ 64 ∷ 64 ∷ 24 ∷ 0 ∷ 18 ∷ 16 ∷ 15 ∷ 1 ∷ 17 ∷ 1 ∷ 24 ∷ 0 ∷ 19 ∷ 17 ∷ 1 ∷ 16 ∷ 9 ∷ 2 ∷ 1 ∷
     64 ∷ 25 ∷ 24 ∷ 0 ∷ 18 ∷ 16 ∷ 15 ∷ 1 ∷ 17 ∷ 1 ∷ 24 ∷ 3 ∷ 18 ∷ 16 ∷ 15 ∷ 1 ∷ 17 ∷ 1 ∷ 24 ∷ 3 ∷ 18 ∷ 16 ∷ 15 ∷ 1 ∷
-    19 ∷ 17 ∷ 1 ∷ 16 ∷ 9 ∷ 2 ∷ 1 ∷ 64 ∷
+    19 ∷ 17 ∷ 1 ∷ 16 ∷ 9 ∷ 2 ∷ 1 ∷ 64 ∷ 66 ∷ 65 ∷ 66 ∷ 64 ∷
     []

@@ -2,7 +2,8 @@
 ghost use mathlib.Core.Path.{_≡_};
 ghost use Rattle.rulebook.specs.Rulebook.{ruleRow};
 
-// What a line says: an interval in an interval, an implication, a Hoare triple; or a number that no rule has.
+// What a line says: an interval in an interval, an implication, a Hoare triple, a Hoare triple of a whole pair; or a number that
+// no rule has.
 pub struct Form {}
 
 impl Form {
@@ -12,7 +13,9 @@ impl Form {
 
     pub const TRIPLE: u8 = 2;
 
-    pub const UNLISTED: u8 = 3;
+    pub const PAIR: u8 = 3;
+
+    pub const UNLISTED: u8 = 4;
 }
 
 // What a rule asks besides its shapes.
@@ -22,7 +25,8 @@ impl Side {
     pub const NONE: u8 = 0;
     // Its assertion keeps clear of what the instruction changes.
     pub const KEPT: u8 = 1;
-    // The left side is the right one with the register replaced by the formula.
+    // A rule 2 line's left side, or the right side of a rule 50 line's premise, is the line's right side with the registers
+    // that are set replaced by their formulas.
     pub const ASSIGNED: u8 = 2;
     // The left test is the right one with the register replaced by the word.
     pub const LOADED: u8 = 3;
@@ -57,7 +61,7 @@ pub struct Rule {
 pub struct Rules {}
 
 impl Rules {
-    pub const COUNT: u8 = 50;
+    pub const COUNT: u8 = 51;
     // Rule 20: 0 to 4 implications.
     pub const IMPLICATIONS: u8 = 5;
 }
@@ -71,7 +75,7 @@ const UNLISTED: Rule = Rule {
     side: Side::NONE,
 };
 
-pub const RULES: [Rule; 50] = [
+pub const RULES: [Rule; 51] = [
     UNLISTED,
     Rule {
         form: Form::TRIPLE,
@@ -86,7 +90,7 @@ pub const RULES: [Rule; 50] = [
         template: 2,
         premises: 0,
         forms: 0,
-        operations: 1,
+        operations: 4097,
         side: Side::ASSIGNED,
     },
     Rule {
@@ -182,7 +186,7 @@ pub const RULES: [Rule; 50] = [
         template: 197,
         premises: 2,
         forms: 10,
-        operations: 447,
+        operations: 4543,
         side: Side::NONE,
     },
     Rule {
@@ -190,7 +194,7 @@ pub const RULES: [Rule; 50] = [
         template: 207,
         premises: 2,
         forms: 10,
-        operations: 447,
+        operations: 4543,
         side: Side::NONE,
     },
     Rule {
@@ -198,7 +202,7 @@ pub const RULES: [Rule; 50] = [
         template: 217,
         premises: 3,
         forms: 25,
-        operations: 447,
+        operations: 4543,
         side: Side::NONE,
     },
     UNLISTED,
@@ -430,6 +434,14 @@ pub const RULES: [Rule; 50] = [
         operations: 384,
         side: Side::NEW_VALUE,
     },
+    Rule {
+        form: Form::PAIR,
+        template: 440,
+        premises: 1,
+        forms: 2,
+        operations: 3584,
+        side: Side::ASSIGNED,
+    },
 ];
 
 // A number that no rule has gives the row of an unlisted rule.
@@ -444,7 +456,7 @@ pub fn rule_at(number: u8) -> Rule
 }
 
 // The form alone, quicker than by the table: rules 1 to 16 are of triples, 20 to 27 of implications, 30 to 46 of inclusions,
-// 47 to 49 of triples.
+// 47 to 49 of triples, 50 of triples of whole pairs.
 pub fn form_at(number: u8) -> u8
     ensures { λ r. ⌜ r ≡ ruleRow number .form ⌝ }
 {
@@ -466,8 +478,11 @@ pub fn form_at(number: u8) -> u8
     if number <= 46 {
         return Form::INCLUSION;
     }
-    if number < Rules::COUNT {
+    if number < 50 {
         return Form::TRIPLE;
+    }
+    if number == 50 {
+        return Form::PAIR;
     }
     Form::UNLISTED
 }

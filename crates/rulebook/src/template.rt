@@ -3,10 +3,10 @@ ghost use Rattle.rulebook.specs.Rulebook.{templates};
 
 // The templates of all rules, one after the other: of each rule its left and right side, then those of its premises.
 pub struct Templates {
-    pub bytes: [u8; 440],
+    pub bytes: [u8; 444],
 }
 
-pub const TEMPLATES: [u8; 440] = [
+pub const TEMPLATES: [u8; 444] = [
     64,
     64,
     64,
@@ -446,6 +446,10 @@ pub const TEMPLATES: [u8; 440] = [
     9,
     2,
     1,
+    64,
+    66,
+    65,
+    66,
     64,
 ];
 

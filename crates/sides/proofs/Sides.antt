@@ -13,7 +13,7 @@ use Rattle.limits.specs.Numbers.{nth}
 use Rattle.formula.specs.Codes.{partCount}
 use Rattle.formula.specs.Tree.{Tree, parseTree}
 use Rattle.compare.specs.Same.{sameTree, sameOf}
-use Rattle.compare.specs.Replace.{leafOnly, standsFor, replacedOf}
+use Rattle.compare.specs.Replace.{leafOnly, replacedOf}
 use Rattle.compare.specs.declared.same.Same.{Same}
 use Rattle.compare.specs.declared.same.Same.the-variants.{Yes, No}
 use Rattle.compare.specs.declared.replace.Substitution.{Substitution}
@@ -21,7 +21,7 @@ use Rattle.compare.specs.declared.replace.Replacing.the-variants.{Formula}
 use Rattle.occurs.specs.Occurs.{occurs, register, wordAnyRole, flag}
 use Rattle.program.specs.Header.{startValues}
 use Rattle.matcher.specs.declared.bind.Bind.{Bind}
-use Rattle.sides.specs.Side.{holeOf, numberIn, treeOf, apart, keeps, isWith, storedBy, isStart}
+use Rattle.sides.specs.Side.{holeOf, numberIn, treeOf, apart, keeps, oneBy, isWith, storedBy, isStart}
 use Rattle.sides.specs.declared.side.Position.{Position}
 
 pub hole-is : (b : Bind) (j : ℕ) → record { at = getD (b .at) j 0; left = getD (b .left) j 0 } ≡ holeOf b j
@@ -91,7 +91,7 @@ pub answer-yes : (b : Bool) (i j p q : ℕ) → Yes p q ≡ cond b (Yes i j) No 
 answer-yes true i j p q h = refl
 answer-yes false i j p q h = absurd (no-yes (sym h))
 
-module _ (s : List ℕ) (w : Substitution) (p q : Position) (r : Same) (e : r ≡ replacedOf w (standsFor s (w .by)) (parseTree s (q .left) (q .at)) (parseTree s (p .left) (p .at))) where
+module _ (s : List ℕ) (w : Substitution) (p q : Position) (r : Same) (e : r ≡ replacedOf s w (parseTree s (q .left) (q .at)) (parseTree s (p .left) (p .at))) where
   pub with-no : r ≡ No → false ≡ isWith s w (treeOf s p) (treeOf s q)
   unfolding isWith
   with-no n = answer-no _ (parseTree s (q .left) (q .at) .end) (parseTree s (p .left) (p .at) .end) (sym n ∙ e)
@@ -107,9 +107,9 @@ module _ (s : List ℕ) (x f : ℕ) (p q : Position) (o : Bool) (e : o ≡ occur
   unfolding storedBy
   stored-flag h = rw (← e, h)
 
-  pub stored-with : (b : Bool) → o ≡ false → b ≡ isWith s (record { word = true; number = x; by = Formula f nesting }) (treeOf s p) (treeOf s q) → b ≡ storedBy s x f (treeOf s p) (treeOf s q)
+  pub stored-with : (b : Bool) (w : Substitution) → o ≡ false → w ≡ oneBy true x (Formula f nesting) → b ≡ isWith s w (treeOf s p) (treeOf s q) → b ≡ storedBy s x f (treeOf s p) (treeOf s q)
   unfolding storedBy
-  stored-with b h d = rw (← e, h) d
+  stored-with b w h g d = rw (← e, h, ← g) d
 
 pub ruleset storing = (stored-flag, stored-with)
 

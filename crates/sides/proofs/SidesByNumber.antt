@@ -5,8 +5,10 @@ use mathlib.Core.List.{List, [], _∷_}
 use Prim.Native.Nat.{ℕ, _+_}
 use lib.ListN.{getD}
 use borrow.Author.Tests.{eq-eqb, ne-eqb}
+use Rattle.logic.specs.Opcode
 use Rattle.limits.specs.Limits.{nesting}
 use Rattle.compare.specs.declared.replace.Replacing.the-variants.{Formula, Word}
+use Rattle.compare.specs.declared.replace.Substitution.{Substitution}
 use Rattle.rows.specs.Rows.{rowsT, tableT, lineOf, premisesOf}
 use Rattle.rows.specs.declared.by.Implications.{Implications}
 use Rattle.frames.specs.Records.{bodies}
@@ -16,20 +18,37 @@ use Rattle.content.specs.declared.acting.Acting.{Acting}
 use Rattle.rulebook.specs.Rulebook.{nothing, isKept, assigned, loaded, stored, byRows, byTable, startValue, startsAtZero, newValue}
 use Rattle.conclusions.specs.Conclusion.{conclusionAt}
 use Rattle.sides.specs.Fresh.{freshIs}
-use Rattle.sides.specs.Side.{holeOf, numberIn, treeOf, apart, keeps, isWith, storedBy, isStart}
-use Rattle.sides.specs.Asked.{assignedBy, loadedBy, ofInstruction, implicationsOf, ofNames, asked}
+use Rattle.sides.specs.Side.{holeOf, numberIn, treeOf, apart, keeps, oneBy, isWith, storedBy, isStart}
+use Rattle.sides.specs.Asked.{substitutionOf, assignedBy, loadedBy, ofInstruction, implicationsOf, ofNames, asked}
 use Rattle.conclusions.specs.declared.conclusion.Conclusion.{Conclusion}
 use Rattle.conclusions.specs.declared.conclusion.Premises.{Premises}
 use Rattle.sides.specs.declared.side.Position.{Position}
 
-module _ (s : List ℕ) (b : Bind) (a : Acting) (p q : Position) (r : Bool) where
-  pub assigned-is : p ≡ holeOf b 0 → q ≡ holeOf b 1 → r ≡ isWith s (record { word = false; number = a .register; by = Formula (a .formula) nesting }) (treeOf s p) (treeOf s q) → r ≡ assignedBy s b a
-  unfolding assignedBy
-  assigned-is e d g = rw (← e, ← d) g
+module _ (a : Acting) where
+  pub substitutes-one : (w : Substitution) → a .whole ≡ Opcode.assign → w ≡ oneBy false (a .register) (Formula (a .formula) nesting) → w ≡ substitutionOf a
+  unfolding substitutionOf
+  substitutes-one w h e = rw (eq-eqb _ _ h) e
 
-  pub loaded-is : p ≡ holeOf b 3 → q ≡ holeOf b 2 → r ≡ isWith s (record { word = false; number = a .register; by = Word (a .word) }) (treeOf s p) (treeOf s q) → r ≡ loadedBy s b a
+  module _ (n : a .whole ≡ Opcode.assign → ⊥) where
+    pub substitutes-two : a .whole ≡ Opcode.assignTwo
+        → record { word = false; number = a .register; by = Formula (a .formula) nesting; two = true; second = a .noted; with = Formula (a .note) nesting } ≡ substitutionOf a
+    unfolding substitutionOf
+    substitutes-two h = rw (ne-eqb _ _ n, eq-eqb _ _ h)
+
+    pub substitutes-note : (w : Substitution) → (a .whole ≡ Opcode.assignTwo → ⊥) → w ≡ oneBy false (a .noted) (Formula (a .note) nesting) → w ≡ substitutionOf a
+    unfolding substitutionOf
+    substitutes-note w h e = rw (ne-eqb _ _ n, ne-eqb _ _ h) e
+
+pub ruleset substituting = (substitutes-one, substitutes-two, substitutes-note)
+
+module _ (s : List ℕ) (b : Bind) (a : Acting) (w : Substitution) (p q : Position) (r : Bool) where
+  pub assigned-is : w ≡ substitutionOf a → p ≡ holeOf b 0 → q ≡ holeOf b 1 → r ≡ isWith s w (treeOf s p) (treeOf s q) → r ≡ assignedBy s b a
+  unfolding assignedBy
+  assigned-is h e d g = rw (← h, ← e, ← d) g
+
+  pub loaded-is : w ≡ oneBy false (a .register) (Word (a .word)) → p ≡ holeOf b 3 → q ≡ holeOf b 2 → r ≡ isWith s w (treeOf s p) (treeOf s q) → r ≡ loadedBy s b a
   unfolding loadedBy
-  loaded-is e d g = rw (← e, ← d) g
+  loaded-is h e d g = rw (← h, ← e, ← d) g
 
 pub ruleset replacing = (assigned-is, loaded-is)
 

@@ -1,6 +1,6 @@
 -- What is asked by number, of holes by position, is what the logic's rows ask of trees.
 use mathlib.Core.Path.{_≡_, refl, ap, ap₂, sym, _∙_, subst}
-use mathlib.Core.Bool.{Bool, true, false, not, cond, _&&_, _||_}
+use mathlib.Core.Bool.{Bool, true, false, not, cond, _&&_, _||_, true≢false}
 use mathlib.Core.List.{List, [], map}
 use mathlib.Core.Option.{none, some}
 use Prim.Native.Nat.{ℕ, zero, suc, _-_, _≤_}
@@ -12,7 +12,7 @@ use Rattle.logic.specs.Base.{all}
 use Rattle.logic.specs.Code
 use Rattle.logic.specs.Code.{byte}
 use Rattle.logic.specs.Opcode
-use Rattle.logic.specs.Rule.{Rule, r1, r2, r3, r4, r5, r6, r7, r8, r9, r10, r11, r12, r13, r14, r15, r16, r20, r21, r22, r23, r24, r25, r26, r27, r30, r31, r32, r33, r34, r35, r36, r37, r38, r39, r40, r41, r42, r43, r44, r45, r46, r47, r48, r49}
+use Rattle.logic.specs.Rule.{Rule, r1, r2, r3, r4, r5, r6, r7, r8, r9, r10, r11, r12, r13, r14, r15, r16, r20, r21, r22, r23, r24, r25, r26, r27, r30, r31, r32, r33, r34, r35, r36, r37, r38, r39, r40, r41, r42, r43, r44, r45, r46, r47, r48, r49, r50}
 use Rattle.patterns.specs.Rules
 use Rattle.patterns.specs.Rules.{row}
 use Rattle.patterns.specs.Fits.{isAmong}
@@ -22,24 +22,26 @@ use Rattle.limits.specs.Limits.{nesting}
 use Rattle.limits.specs.Numbers.{nth}
 use Rattle.formula.specs.Tree.{Tree, Tree.node, parseTree}
 use Rattle.compare.specs.Same.{sameTree}
-use Rattle.compare.specs.Replace.{NoteT, replaceT, nameCode, oneName}
+use Rattle.compare.specs.Replace.{NoteT, replaceT, nameCode, oneName, named, substituted}
+use Rattle.compare.specs.declared.replace.Replacing.the-variants.{Formula, Word}
 use Rattle.occurs.specs.Occurs.{occurs, register, wordAnyRole, flag}
 use Rattle.trees.proofs.ToTree.{tree-eq, tree-refl}
 use Rattle.rows.specs.Entailment.{impOf, impsFrom, premisesFrom}
 use Rattle.rows.specs.Rows.{rowsT, tableT, lineOf, premisesOf}
 use Rattle.frames.specs.Records.{bodies}
 use Rattle.program.specs.Header.{startValues, cleared, valueRange}
+use Rattle.program.specs.Instruction.{pairOperation, firstOperation}
 use Rattle.matcher.specs.Places.{takenOf}
 use Rattle.matcher.specs.declared.bind.Bind.{Bind}
 use Rattle.certificate.specs.FitT as FitT
 use Rattle.certificate.specs.FitT.{Setup, TreeConclusion, formOf, holesFrom, orElse, apartT, keepsT, freshT, sideT, operationT}
-use Rattle.content.specs.Trees.{actingAt}
+use Rattle.content.specs.Trees.{treeAt, givesT, notesBy, actingAt}
 use Rattle.content.specs.declared.acting.Acting.{Acting}
 use Rattle.rulebook.specs.Listed.{sideNumber}
 use Rattle.conclusions.specs.Conclusion.{concludedAt, conclusionsFrom}
 use Rattle.sides.specs.Fresh.{formulaIs, sumIs, freshIs}
-use Rattle.sides.specs.Side.{holeOf, numberIn, treeOf, apart, keeps, isWith, storedBy, isStart}
-use Rattle.sides.specs.Asked.{assignedBy, loadedBy, ofInstruction, implicationsOf, ofNames, asked}
+use Rattle.sides.specs.Side.{holeOf, numberIn, treeOf, apart, keeps, oneBy, isWith, storedBy, isStart}
+use Rattle.sides.specs.Asked.{substitutionOf, assignedBy, loadedBy, ofInstruction, implicationsOf, ofNames, asked}
 use Rattle.conclusions.specs.declared.conclusion.Conclusion.{Conclusion}
 use Rattle.conclusions.specs.declared.conclusion.Premises.{Premises}
 
@@ -66,8 +68,8 @@ result : (o q : Bool) → not o && not q ≡ cond o false (not q)
 result true q = refl
 result false q = refl
 
-abbrev acts : ℕ → ℕ → ℕ → Tree → List NoteT → FitT.Acting
-acts op x r v ns = record { operation = op; word = x; register = r; formula = v; notes = ns }
+abbrev acts : ℕ → ℕ → ℕ → ℕ → Tree → List NoteT → FitT.Acting
+acts op w x r v ns = record { operation = op; whole = w; word = x; register = r; formula = v; notes = ns }
 
 -- operations that are not there return nothing and are no writes
 past-returning : (n : ℕ) → 9 ≤ n → isAmong n Rules.returning ≡ false
@@ -79,41 +81,41 @@ past-writes n h = rw (ne-eqb n 3 (λ e. omega arith), ne-eqb n 4 (λ e. omega ar
 past-loads : (n : ℕ) → 9 ≤ n → isAmong n Rules.loads ≡ false
 past-loads n h = rw (ne-eqb n 1 (λ e. omega arith), ne-eqb n 2 (λ e. omega arith))
 
-apart-is : (op x r : ℕ) (u v : Tree) (ns : List NoteT) → apartT (acts op x r v ns) u ≡ apart op x r u
+apart-is : (op w x r : ℕ) (u v : Tree) (ns : List NoteT) → apartT (acts op w x r v ns) u ≡ apart op x r u
 unfolding apart
-apart-is zero x r u v ns = plain (occurs (wordAnyRole x) [] u)
-apart-is (suc zero) x r u v ns = plain (occurs (wordAnyRole x) [] u)
-apart-is (suc (suc zero)) x r u v ns = plain (occurs (wordAnyRole x) [] u)
-apart-is (suc (suc (suc zero))) x r u v ns = plain (occurs (wordAnyRole x) [] u)
-apart-is (suc (suc (suc (suc zero)))) x r u v ns = plain (occurs (wordAnyRole x) [] u)
-apart-is (suc (suc (suc (suc (suc zero))))) x r u v ns = plain (occurs (wordAnyRole x) [] u)
-apart-is (suc (suc (suc (suc (suc (suc zero)))))) x r u v ns = plain (occurs (wordAnyRole x) [] u)
-apart-is (suc (suc (suc (suc (suc (suc (suc zero))))))) x r u v ns = result (occurs (wordAnyRole x) [] u) (occurs (register r) [] u)
-apart-is (suc (suc (suc (suc (suc (suc (suc (suc zero)))))))) x r u v ns = result (occurs (wordAnyRole x) [] u) (occurs (register r) [] u)
-apart-is (suc (suc (suc (suc (suc (suc (suc (suc (suc op))))))))) x r u v ns =
+apart-is zero w x r u v ns = plain (occurs (wordAnyRole x) [] u)
+apart-is (suc zero) w x r u v ns = plain (occurs (wordAnyRole x) [] u)
+apart-is (suc (suc zero)) w x r u v ns = plain (occurs (wordAnyRole x) [] u)
+apart-is (suc (suc (suc zero))) w x r u v ns = plain (occurs (wordAnyRole x) [] u)
+apart-is (suc (suc (suc (suc zero)))) w x r u v ns = plain (occurs (wordAnyRole x) [] u)
+apart-is (suc (suc (suc (suc (suc zero))))) w x r u v ns = plain (occurs (wordAnyRole x) [] u)
+apart-is (suc (suc (suc (suc (suc (suc zero)))))) w x r u v ns = plain (occurs (wordAnyRole x) [] u)
+apart-is (suc (suc (suc (suc (suc (suc (suc zero))))))) w x r u v ns = result (occurs (wordAnyRole x) [] u) (occurs (register r) [] u)
+apart-is (suc (suc (suc (suc (suc (suc (suc (suc zero)))))))) w x r u v ns = result (occurs (wordAnyRole x) [] u) (occurs (register r) [] u)
+apart-is (suc (suc (suc (suc (suc (suc (suc (suc (suc op))))))))) w x r u v ns =
     let n : ℕ = (suc (suc (suc (suc (suc (suc (suc (suc (suc op))))))))) in
     ap (λ (b : Bool). not (occurs (wordAnyRole x) [] u) && (not b || not (occurs (register r) [] u))) (past-returning n (omega arith))
     ∙ plain (occurs (wordAnyRole x) [] u)
     ∙ sym (rw (lt-leb n 6 (omega arith), lt-leb n 8 (omega arith)))
 
-keeps-is : (op x r : ℕ) (u v : Tree) (ns : List NoteT) → keepsT (acts op x r v ns) u ≡ keeps op x r u
+keeps-is : (op w x r : ℕ) (u v : Tree) (ns : List NoteT) → keepsT (acts op w x r v ns) u ≡ keeps op x r u
 unfolding keeps
-keeps-is zero x r u v ns = refl
-keeps-is (suc zero) x r u v ns = refl
-keeps-is (suc (suc zero)) x r u v ns = refl
-keeps-is (suc (suc (suc zero))) x r u v ns = apart-is 3 x r u v ns
-keeps-is (suc (suc (suc (suc zero)))) x r u v ns = apart-is 4 x r u v ns
-keeps-is (suc (suc (suc (suc (suc zero))))) x r u v ns = apart-is 5 x r u v ns
-keeps-is (suc (suc (suc (suc (suc (suc zero)))))) x r u v ns = refl
-keeps-is (suc (suc (suc (suc (suc (suc (suc zero))))))) x r u v ns = apart-is 7 x r u v ns
-keeps-is (suc (suc (suc (suc (suc (suc (suc (suc zero)))))))) x r u v ns = apart-is 8 x r u v ns
-keeps-is (suc (suc (suc (suc (suc (suc (suc (suc (suc op))))))))) x r u v ns =
+keeps-is zero w x r u v ns = refl
+keeps-is (suc zero) w x r u v ns = refl
+keeps-is (suc (suc zero)) w x r u v ns = refl
+keeps-is (suc (suc (suc zero))) w x r u v ns = apart-is 3 w x r u v ns
+keeps-is (suc (suc (suc (suc zero)))) w x r u v ns = apart-is 4 w x r u v ns
+keeps-is (suc (suc (suc (suc (suc zero))))) w x r u v ns = apart-is 5 w x r u v ns
+keeps-is (suc (suc (suc (suc (suc (suc zero)))))) w x r u v ns = refl
+keeps-is (suc (suc (suc (suc (suc (suc (suc zero))))))) w x r u v ns = apart-is 7 w x r u v ns
+keeps-is (suc (suc (suc (suc (suc (suc (suc (suc zero)))))))) w x r u v ns = apart-is 8 w x r u v ns
+keeps-is (suc (suc (suc (suc (suc (suc (suc (suc (suc op))))))))) w x r u v ns =
     let n : ℕ = (suc (suc (suc (suc (suc (suc (suc (suc (suc op))))))))) in
     rest (isAmong n Rules.loads) (isAmong n Rules.writes) (past-loads n (omega arith)) (past-writes n (omega arith))
     ∙ sym (rw (le-ltb n 1 (omega arith), lt-leb n 2 (omega arith), ne-eqb n 6 (λ e. omega arith), lt-leb n 8 (omega arith)))
   where
     rest : (a b : Bool) → a ≡ false → b ≡ false
-        → elim a as (λ y. Bool) [ true ↦ not (occurs (register r) [] u) | false ↦ elim b as (λ y. Bool) [ true ↦ apartT (acts (suc (suc (suc (suc (suc (suc (suc (suc (suc op))))))))) x r v ns) u | false ↦ false ] ] ≡ false
+        → elim a as (λ y. Bool) [ true ↦ not (occurs (register r) [] u) | false ↦ elim b as (λ y. Bool) [ true ↦ apartT (acts (suc (suc (suc (suc (suc (suc (suc (suc (suc op))))))))) w x r v ns) u | false ↦ false ] ] ≡ false
     rest a b e d = rw (e, d)
 
 module _ (s : List ℕ) (b : Bind) where
@@ -134,7 +136,7 @@ module _ (s : List ℕ) (b : Bind) where
       go n true e = rw (eqb-true n 0 e)
       go n false e = refl
 
-module _ (s : List ℕ) (b : Bind) (a : Acting) (c : Conclusion) (p : Premises) (few : p .count ≤ Limits.premises) where
+module _ (s : List ℕ) (b : Bind) (a : Acting) (c : Conclusion) (p : Premises) (few : p .count ≤ Limits.premises) (whole : a .operation ≡ firstOperation (a .whole)) where
   abbrev vs : List TreeConclusion
   vs = map (concludedAt s) (conclusionsFrom p (p .count) 0)
 
@@ -162,27 +164,69 @@ module _ (s : List ℕ) (b : Bind) (a : Acting) (c : Conclusion) (p : Premises) 
   -- each condition, of the holes that it speaks of
   kept-is : holds r1 ≡ asked s (sideNumber (row r1 .sides)) b a c p
   unfolding asked ofInstruction
-  kept-is = and-one _ ∙ keeps-is (a .operation) (a .word) (a .register) (holesFrom (takenOf s b) .tree 0) (actingAt s a .formula) (actingAt s a .notes) ∙ ap (keeps (a .operation) (a .word) (a .register)) (hole-tree s b 0)
+  kept-is = and-one _ ∙ keeps-is (a .operation) (a .whole) (a .word) (a .register) (holesFrom (takenOf s b) .tree 0) (actingAt s a .formula) (actingAt s a .notes) ∙ ap (keeps (a .operation) (a .word) (a .register)) (hole-tree s b 0)
 
-  assigned-is : allowed r2 ≡ true → holds r2 ≡ asked s (sideNumber (row r2 .sides)) b a c p
-  unfolding asked ofInstruction assignedBy isWith oneName nameCode
-  assigned-is e = rw (only-one e) (and-one _ ∙ ap₂ (λ (u v : Tree). sameTree (replaceT (oneName false (a .register) (parseTree s nesting (a .formula) .tree)) v) u) (hole-tree s b 0) (hole-tree s b 1))
+  -- the instruction's notes and what the code puts for registers
+  abbrev Notes : ℕ → Type 0
+  Notes w =
+      replaceT (named (notesBy w (givesT (a .register) (treeAt s (a .formula))) (givesT (a .noted) (treeAt s (a .note)))))
+      ≡ replaceT (substituted s (substitutionOf (record { operation = a .operation; whole = w; word = a .word; register = a .register; formula = a .formula; noted = a .noted; note = a .note })))
+
+  assign-notes : Notes Opcode.assign
+  unfolding notesBy substitutionOf substituted oneBy nameCode
+  assign-notes = refl
+
+  two-notes : Notes Opcode.assignTwo
+  unfolding notesBy substitutionOf substituted oneBy nameCode
+  two-notes = refl
+
+  pair-notes : (w : ℕ) → T (isAmong w Rules.pairs) → Notes w
+  unfolding notesBy substitutionOf substituted oneBy nameCode pairOperation
+  pair-notes w h = go (eqb w Opcode.pairStore) (eqb w Opcode.pairRelease) (eqb w Opcode.pairSwap) refl refl refl h
     where
-      only-one : allowed r2 ≡ true → eqb (a .operation) Opcode.assign ≡ true
-      only-one h = go (eqb (a .operation) Opcode.assign) h
+      go : (x y v : Bool) → eqb w Opcode.pairStore ≡ x → eqb w Opcode.pairRelease ≡ y → eqb w Opcode.pairSwap ≡ v → T (x || (y || (v || false))) → Notes w
+      go true y v e d f h = rw (eqb-true w Opcode.pairStore e)
+      go false true v e d f h = rw (eqb-true w Opcode.pairRelease d)
+      go false false true e d f h = rw (eqb-true w Opcode.pairSwap f)
+      go false false false e d f h = absurd h
+
+  by-notes-is : Notes (a .whole) → holds r2 ≡ asked s (sideNumber (row r2 .sides)) b a c p
+  unfolding asked ofInstruction assignedBy isWith
+  by-notes-is e =
+      and-one _ ∙ ap (λ (f : Tree → Tree). sameTree (f (holesFrom (takenOf s b) .tree 1)) (holesFrom (takenOf s b) .tree 0)) e
+      ∙ ap₂ (λ (u v : Tree). sameTree (replaceT (substituted s (substitutionOf a)) v) u) (hole-tree s b 0) (hole-tree s b 1)
+
+  -- an operation among 0 and 12 is the whole instruction's
+  assigned-is : allowed r2 ≡ true → holds r2 ≡ asked s (sideNumber (row r2 .sides)) b a c p
+  unfolding firstOperation
+  assigned-is e = by-notes-is (go (eqb (a .operation) Opcode.assign) (eqb (a .operation) Opcode.assignTwo) refl refl e)
+    where
+      alone : (k w : ℕ) → (k ≡ 3 → ⊥) → (k ≡ 4 → ⊥) → (k ≡ 5 → ⊥) → k ≡ firstOperation w → w ≡ k
+      alone k w n₃ n₄ n₅ q = pick (eqb w 9) (eqb w 10) (eqb w 11) q
         where
-          go : (x : Bool) → (x || false) ≡ true → x ≡ true
-          go true q = refl
-          go false q = q
+          pick : (x y v : Bool) → k ≡ cond x Opcode.store (cond y Opcode.release (cond v Opcode.swap w)) → w ≡ k
+          pick true y v q = absurd (n₃ q)
+          pick false true v q = absurd (n₄ q)
+          pick false false true q = absurd (n₅ q)
+          pick false false false q = sym q
+
+      go : (x y : Bool) → eqb (a .operation) Opcode.assign ≡ x → eqb (a .operation) Opcode.assignTwo ≡ y → (x || (y || false)) ≡ true → Notes (a .whole)
+      go true y e₁ e₂ h =
+          let q : a .operation ≡ Opcode.assign = eqb-true (a .operation) Opcode.assign e₁ in
+          subst Notes (sym (alone 0 (a .whole) (λ z. omega arith) (λ z. omega arith) (λ z. omega arith) (sym q ∙ whole))) assign-notes
+      go false true e₁ e₂ h =
+          let q : a .operation ≡ Opcode.assignTwo = eqb-true (a .operation) Opcode.assignTwo e₂ in
+          subst Notes (sym (alone 12 (a .whole) (λ z. omega arith) (λ z. omega arith) (λ z. omega arith) (sym q ∙ whole))) two-notes
+      go false false e₁ e₂ h = absurd (true≢false (sym h))
 
   loaded-is : holds r3 ≡ asked s (sideNumber (row r3 .sides)) b a c p
-  unfolding asked ofInstruction loadedBy isWith
-  loaded-is = and-one _ ∙ ap₂ (λ (u v : Tree). sameTree (replaceT (oneName false (a .register) (node (byte Code.word) (a .word) Tree.none Tree.none)) v) u) (hole-tree s b 3) (hole-tree s b 2)
+  unfolding asked ofInstruction loadedBy isWith oneBy substituted oneName
+  loaded-is = and-one _ ∙ ap₂ (λ (u v : Tree). sameTree (replaceT (substituted s (oneBy false (a .register) (Word (a .word)))) v) u) (hole-tree s b 3) (hole-tree s b 2)
 
   absent-is : holds r8 ≡ asked s (sideNumber (row r8 .sides)) b a c p
   unfolding asked ofInstruction
   absent-is =
-      and-one _ ∙ apart-is (a .operation) (a .word) (a .register) (holesFrom (takenOf s b) .tree 1) (actingAt s a .formula) (actingAt s a .notes)
+      and-one _ ∙ apart-is (a .operation) (a .whole) (a .word) (a .register) (holesFrom (takenOf s b) .tree 1) (actingAt s a .formula) (actingAt s a .notes)
       ∙ ap (apart (a .operation) (a .word) (a .register)) (hole-tree s b 1)
 
   new-is : holds r48 ≡ asked s (sideNumber (row r48 .sides)) b a c p
@@ -197,9 +241,9 @@ module _ (s : List ℕ) (b : Bind) (a : Acting) (c : Conclusion) (p : Premises) 
       go false = refl
 
   stored-is : holds r9 ≡ asked s (sideNumber (row r9 .sides)) b a c p
-  unfolding asked ofInstruction storedBy isWith
+  unfolding asked ofInstruction storedBy isWith oneBy substituted oneName
   stored-is =
-      ap₂ (λ (u v : Tree). sameTree (replaceT (oneName true (a .word) (parseTree s nesting (a .formula) .tree)) v) u && (not (occurs (flag (a .word)) [] v) && true)) (hole-tree s b 3) (hole-tree s b 2)
+      ap₂ (λ (u v : Tree). sameTree (replaceT (substituted s (oneBy true (a .word) (Formula (a .formula) nesting))) v) u && (not (occurs (flag (a .word)) [] v) && true)) (hole-tree s b 3) (hole-tree s b 2)
       ∙ go (occurs (flag (a .word)) [] (treeOf s (holeOf b 2))) _
     where
       go : (o e : Bool) → e && (not o && true) ≡ cond o false e
@@ -276,3 +320,4 @@ module _ (s : List ℕ) (b : Bind) (a : Acting) (c : Conclusion) (p : Premises) 
   sides-are r47 e = loaded-is
   sides-are r48 e = new-is
   sides-are r49 e = new-is
+  sides-are r50 e = by-notes-is (pair-notes (a .whole) (subst T (sym e) tt))

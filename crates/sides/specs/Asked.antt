@@ -4,8 +4,10 @@ use mathlib.Core.List.{List, [], _∷_}
 use Prim.Native.Nat.{ℕ, _+_}
 use lib.Dec.{eqb}
 use lib.ListN.{getD}
+use Rattle.logic.specs.Opcode
 use Rattle.limits.specs.Limits.{nesting}
 use Rattle.compare.specs.declared.replace.Replacing.the-variants.{Formula, Word}
+use Rattle.compare.specs.declared.replace.Substitution.{Substitution}
 use Rattle.rows.specs.Rows.{rowsT, tableT, lineOf, premisesOf}
 use Rattle.rows.specs.declared.by.Implications.{Implications}
 use Rattle.frames.specs.Records.{bodies}
@@ -15,17 +17,25 @@ use Rattle.content.specs.declared.acting.Acting.{Acting}
 use Rattle.rulebook.specs.Rulebook.{nothing, isKept, assigned, loaded, stored, byRows, byTable, startValue, startsAtZero, newValue}
 use Rattle.conclusions.specs.Conclusion.{conclusionAt}
 use Rattle.sides.specs.Fresh.{freshIs}
-use Rattle.sides.specs.Side.{holeOf, numberIn, treeOf, apart, keeps, isWith, storedBy, isStart}
+use Rattle.sides.specs.Side.{holeOf, numberIn, treeOf, apart, keeps, oneBy, isWith, storedBy, isStart}
 use Rattle.conclusions.specs.declared.conclusion.Conclusion.{Conclusion}
 use Rattle.conclusions.specs.declared.conclusion.Premises.{Premises}
 
--- the left side is the right one with the instruction's register replaced by its formula
+-- the registers that an instruction sets to formulas, by these: of an assignment, of two at once, of a pair
+unfoldable pub substitutionOf : Acting → Substitution
+substitutionOf a =
+    cond (eqb (a .whole) Opcode.assign) (oneBy false (a .register) (Formula (a .formula) nesting))
+    (cond (eqb (a .whole) Opcode.assignTwo)
+    (record { word = false; number = a .register; by = Formula (a .formula) nesting; two = true; second = a .noted; with = Formula (a .note) nesting })
+    (oneBy false (a .noted) (Formula (a .note) nesting)))
+
+-- the formula in hole 0 is the one in hole 1 with these registers replaced
 unfoldable pub assignedBy : List ℕ → Bind → Acting → Bool
-assignedBy s b a = isWith s (record { word = false; number = a .register; by = Formula (a .formula) nesting }) (treeOf s (holeOf b 0)) (treeOf s (holeOf b 1))
+assignedBy s b a = isWith s (substitutionOf a) (treeOf s (holeOf b 0)) (treeOf s (holeOf b 1))
 
 -- the left test is the right one with the instruction's register replaced by its word
 unfoldable pub loadedBy : List ℕ → Bind → Acting → Bool
-loadedBy s b a = isWith s (record { word = false; number = a .register; by = Word (a .word) }) (treeOf s (holeOf b 3)) (treeOf s (holeOf b 2))
+loadedBy s b a = isWith s (oneBy false (a .register) (Word (a .word))) (treeOf s (holeOf b 3)) (treeOf s (holeOf b 2))
 
 -- of the instruction; the last one left is that its word is absent, and its result register
 unfoldable pub ofInstruction : List ℕ → ℕ → Bind → Acting → Bool

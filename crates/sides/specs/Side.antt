@@ -12,9 +12,10 @@ use Rattle.limits.specs.Numbers.{nth}
 use Rattle.formula.specs.Tree.{Tree, none, node, parseTree}
 use Rattle.program.specs.Header.{startValues}
 use Rattle.compare.specs.Same.{sameTree}
-use Rattle.compare.specs.Replace.{replaceT, oneName, standsFor}
+use Rattle.compare.specs.Replace.{replaceT, substituted}
 use Rattle.compare.specs.declared.replace.Substitution.{Substitution}
-use Rattle.compare.specs.declared.replace.Replacing.the-variants.{Formula}
+use Rattle.compare.specs.declared.replace.Replacing.{Replacing}
+use Rattle.compare.specs.declared.replace.Replacing.the-variants.{Formula, Word}
 use Rattle.occurs.specs.Occurs.{occurs, register, wordAnyRole, flag}
 use Rattle.matcher.specs.declared.bind.Bind.{Bind}
 use Rattle.sides.specs.declared.side.Position.{Position}
@@ -44,13 +45,17 @@ keeps op x r u =
     (cond (eqb op Opcode.branch) false
     (cond (leb op Opcode.fetchAdd) (apart op x r u) false)))
 
--- u is v with a name replaced
+-- one name alone
+unfoldable pub oneBy : Bool → ℕ → Replacing → Substitution
+oneBy word number by = record { word = word; number = number; by = by; two = false; second = 0; with = Word 0 }
+
+-- u is v with names replaced
 unfoldable pub isWith : List ℕ → Substitution → Tree → Tree → Bool
-isWith s w u v = sameTree (replaceT (oneName (w .word) (w .number) (standsFor s (w .by) .tree)) v) u
+isWith s w u v = sameTree (replaceT (substituted s w) v) u
 
 -- u is v with the word's value replaced by the formula at a position; no flag of the word is in v
 unfoldable pub storedBy : List ℕ → ℕ → ℕ → Tree → Tree → Bool
-storedBy s x f u v = cond (occurs (flag x) [] v) false (isWith s (record { word = true; number = x; by = Formula f nesting }) u v)
+storedBy s x f u v = cond (occurs (flag x) [] v) false (isWith s (oneBy true x (Formula f nesting)) u v)
 
 -- u is the constant with which the word starts; h is the header's body
 unfoldable pub isStart : List ℕ → ℕ → Tree → Bool

@@ -7,6 +7,7 @@ use crate::side::is_start;
 use crate::side::is_stored;
 use crate::side::is_with;
 use crate::side::number_in;
+use crate::side::one_name;
 use compare::replace::Replacing;
 use compare::replace::Substitution;
 use conclusions::conclusion::Conclusion;
@@ -18,23 +19,42 @@ use limits::Limits;
 use matcher::bind::Bind;
 use program::header::is_cleared;
 use program::header::range_of;
+use program::instruction::Instruction;
 use rows::by::Implications;
 use rows::by::by_rows;
 use rows::by::by_table;
 use rulebook::rule::Side;
 ghost use mathlib.Core.Path.{_≡_};
 ghost use Rattle.frames.specs.Records.{indexOf};
-ghost use Rattle.sides.specs.Asked.{assignedBy, loadedBy, ofInstruction, implicationsOf, ofNames, asked};
+ghost use Rattle.sides.specs.Asked.{substitutionOf, assignedBy, loadedBy, ofInstruction, implicationsOf, ofNames, asked};
 
-// The left side is the right one with the instruction's register replaced by its formula.
+// The registers that an instruction sets to formulas, by these: of an assignment, of two at once, of a pair.
+fn substitution_of(a: Acting) -> Substitution
+    ensures { λ r. ⌜ r ≡ substitutionOf a ⌝ }
+{
+    let by = Replacing::Formula(a.formula, Limits::NESTING);
+    if a.whole == Instruction::ASSIGN {
+        return one_name(false, a.register, by);
+    }
+    let note = Replacing::Formula(a.note, Limits::NESTING);
+    if a.whole == Instruction::ASSIGN_TWO {
+        return Substitution {
+            word: false,
+            number: a.register,
+            by,
+            two: true,
+            second: a.noted,
+            with: note,
+        };
+    }
+    one_name(false, a.noted, note)
+}
+
+// The formula in hole 0 is the one in hole 1 with these registers replaced.
 fn is_assigned(s: &[u8], b: Bind, a: Acting) -> bool
     ensures { λ r. ⌜ r ≡ assignedBy (now (s .entry)) b a ⌝ }
 {
-    let w = Substitution {
-        word: false,
-        number: a.register,
-        by: Replacing::Formula(a.formula, Limits::NESTING),
-    };
+    let w = substitution_of(a);
     is_with(s, hole_of(b, 0), hole_of(b, 1), w)
 }
 
@@ -42,11 +62,7 @@ fn is_assigned(s: &[u8], b: Bind, a: Acting) -> bool
 fn is_loaded(s: &[u8], b: Bind, a: Acting) -> bool
     ensures { λ r. ⌜ r ≡ loadedBy (now (s .entry)) b a ⌝ }
 {
-    let w = Substitution {
-        word: false,
-        number: a.register,
-        by: Replacing::Word(a.word),
-    };
+    let w = one_name(false, a.register, Replacing::Word(a.word));
     is_with(s, hole_of(b, 3), hole_of(b, 2), w)
 }
 

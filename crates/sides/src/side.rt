@@ -14,7 +14,7 @@ use program::header::start_value;
 use program::instruction::Instruction;
 ghost use mathlib.Core.Path.{_≡_};
 ghost use Prim.Native.Nat.{_<_};
-ghost use Rattle.sides.specs.Side.{holeOf, numberIn, treeOf, apart, keeps, isWith, storedBy, isStart};
+ghost use Rattle.sides.specs.Side.{holeOf, numberIn, treeOf, apart, keeps, oneBy, isWith, storedBy, isStart};
 
 // Where a formula stands, with the nesting that is left there.
 pub struct Position {
@@ -67,7 +67,21 @@ pub fn is_kept(s: &[u8], operation: u8, word: u8, register: u8, p: Position) -> 
     false
 }
 
-// The first formula is the second with a name replaced.
+// One name alone, by what replaces it.
+pub fn one_name(word: bool, number: u8, by: Replacing) -> Substitution
+    ensures { λ r. ⌜ r ≡ oneBy word number by ⌝ }
+{
+    Substitution {
+        word,
+        number,
+        by,
+        two: false,
+        second: 0,
+        with: Replacing::Word(0),
+    }
+}
+
+// The first formula is the second with names replaced.
 pub fn is_with(s: &[u8], p: Position, q: Position, w: Substitution) -> bool
     ensures { λ r. ⌜ r ≡ isWith (now (s .entry)) w (treeOf (now (s .entry)) p) (treeOf (now (s .entry)) q) ⌝ }
 {
@@ -84,11 +98,7 @@ pub fn is_stored(s: &[u8], p: Position, q: Position, word: u8, formula: usize) -
     if has_flag(s, q.at, q.left, word) {
         return false;
     }
-    let w = Substitution {
-        word: true,
-        number: word,
-        by: Replacing::Formula(formula, Limits::NESTING),
-    };
+    let w = one_name(true, word, Replacing::Formula(formula, Limits::NESTING));
     is_with(s, p, q, w)
 }
 

@@ -1,6 +1,6 @@
 -- A line concludes what an obligation wants exactly if it says what the obligation asks for.
 use mathlib.Core.Path.{_≡_, refl, ap, ap₂, sym, _∙_, subst}
-use mathlib.Core.Bool.{Bool, true, false, _&&_, true≢false}
+use mathlib.Core.Bool.{Bool, true, false, cond, _&&_, true≢false}
 use mathlib.Core.List.{List}
 use Prim.Native.Nat.{ℕ, suc, _<_}
 use native.Mathlib.Numerals.{add-one}
@@ -12,7 +12,7 @@ use Rattle.logic.specs.Formula.{Sort, Formula, Assertion, Test, Formula.start, 
 use Rattle.logic.specs.Opcode as Opcode
 use Rattle.logic.specs.Names.{only, isReg}
 use Rattle.logic.specs.Machine.{Program, Instr, Instr.act, Instr.branch}
-use Rattle.logic.specs.Statement.{Statement, inside, implies, triple, isBranch}
+use Rattle.logic.specs.Statement.{Statement, inside, implies, triple, pair, isBranch, isPair, taking}
 use Rattle.patterns.specs.Fits.{sameStatement}
 use Rattle.logic.specs.Obligations as Logic
 use Rattle.logic.specs.EveryRun.{Outline}
@@ -24,11 +24,12 @@ use Rattle.frames.specs.Records.{bodies}
 use Rattle.formula.specs.Tree.{Tree}
 use Rattle.program.specs.declared.sizes.Sizes.{Sizes}
 use Rattle.program.specs.declared.instruction.Instruction.{Instruction}
+use Rattle.program.specs.Instruction.{pairOperation}
 use Rattle.records.specs.Places.{instructionOf}
 use Rattle.compare.specs.Same.{sameTree}
 use Rattle.trees.specs.ToTree.{toTree}
 use Rattle.trees.proofs.ToTree.{toTree-same}
-use Rattle.certificate.specs.FitT.{concluded, implication, hoare}
+use Rattle.certificate.specs.FitT.{concluded, implication, hoare, paired}
 use Rattle.outline.specs.Verdict.{asks}
 use Rattle.content.specs.Formula.{formula}
 use Rattle.content.specs.Program.{pointCount, programOf, outlineOf}
@@ -36,13 +37,13 @@ use Rattle.content.specs.Places.{formulaAt}
 use Rattle.content.specs.Trees.{treeAt}
 use Rattle.content.specs.Certificate.{certificateOf}
 use Rattle.content.specs.Image.{imageOf}
-use Rattle.content.proofs.Instr.{branch-is, branch-read}
+use Rattle.content.proofs.Instr.{branch-is, branch-read, pair-is}
 use Rattle.content.proofs.Checked.{Checks}
 use Rattle.content.proofs.Program.{points-few, well-formed}
 use Rattle.content.proofs.Trees.{outline-is, test-is}
 use Rattle.conclusions.specs.LineConclusion.{conclusionOf}
 use Rattle.conclusions.proofs.Stated.{conclusion-trees}
-use Rattle.wanted.specs.Wanted.{nextPoint, assertedAt, wantedStart, wantedAction, wantedNext, wantedStep, wantedTarget, wantedKept, wantedAt}
+use Rattle.wanted.specs.Wanted.{nextPoint, actingForm, assertedAt, wantedStart, wantedAction, wantedNext, wantedStep, wantedTarget, wantedKept, wantedAt}
 use Rattle.report.specs.Place.{obligation}
 use Rattle.wanted.specs.Concluding.{meets, concludesAt}
 use Rattle.wanted.proofs.Compared.{starting, both, holding, negated, compared, start-compared, step-compared, kept-compared, next-compared, target-compared}
@@ -63,11 +64,28 @@ module _ (f g : Assertion) (u w : Tree) (p : toTree f ≡ u) (q : toTree g ≡ w
   implied-same (inside i j) = refl
   implied-same (implies a b) = sides-same a b
   implied-same (triple t k a b) = refl
+  implied-same (pair t k a b) = refl
 
   kept-same : (t k : ℕ) (x : Statement) → compared hoare t k u w (concluded x) ≡ sameStatement (triple t k f g) x
   kept-same t k (inside i j) = refl
   kept-same t k (implies a b) = refl
   kept-same t k (triple i j a b) = ap₂ _&&_ (ap₂ _&&_ (eqb-same i t) (eqb-same j k)) (sides-same a b)
+  kept-same t k (pair i j a b) = refl
+
+  pair-same : (t k : ℕ) (x : Statement) → compared paired t k u w (concluded x) ≡ sameStatement (pair t k f g) x
+  pair-same t k (inside i j) = refl
+  pair-same t k (implies a b) = refl
+  pair-same t k (triple i j a b) = refl
+  pair-same t k (pair i j a b) = ap₂ _&&_ (ap₂ _&&_ (eqb-same i t) (eqb-same j k)) (sides-same a b)
+
+  -- of an instruction, of a pair its whole
+  taking-same : (t k : ℕ) (c : Instr) (op : ℕ) → isPair c ≡ pairOperation op → (x : Statement) → compared (actingForm op) t k u w (concluded x) ≡ sameStatement (taking t k c f g) x
+  unfolding actingForm
+  taking-same t k c op e x = rw (← e) (go (isPair c))
+    where
+      go : (b : Bool) → compared (cond b paired hoare) t k u w (concluded x) ≡ sameStatement (elim b [ true ↦ pair t k f g | false ↦ triple t k f g ]) x
+      go true = pair-same t k x
+      go false = kept-same t k x
 
 -- an obligation is about threads and points that are there; one for a target is about a branch
 abbrev pub InRange : Program → Logic.Obligation → Type 0
@@ -126,12 +144,12 @@ module _ (s : List ℕ) (z : Sizes) (c : Checks z (bodies s)) where
       here-is : toTree (O t k) ≡ here
       here-is = asserted-is t k w (omega arith)
 
-      action-asked : meets s z (wantedAction s z t k) n ≡ sameStatement (triple t k (O t k) (O t (suc k))) (says n)
+      action-asked : meets s z (wantedAction s z t k (its t k)) n ≡ sameStatement (taking t k (P .code t k) (O t k) (O t (suc k))) (says n)
       unfolding wantedAction
       action-asked =
-          step-compared s (conclusionOf s z n) (assertedAt s z t k) (assertedAt s z t (nextPoint k)) t k
-          ∙ ap (compared hoare t k here following) (conclusion-trees s z c n wn)
-          ∙ kept-same (O t k) (O t (suc k)) here following here-is (behind-is t k w h) t k (says n)
+          step-compared s (conclusionOf s z n) (assertedAt s z t k) (assertedAt s z t (nextPoint k)) (actingForm (its t k .operation)) t k
+          ∙ ap (compared (actingForm (its t k .operation)) t k here following) (conclusion-trees s z c n wn)
+          ∙ taking-same (O t k) (O t (suc k)) here following here-is (behind-is t k w h) t k (P .code t k) (its t k .operation) (pair-is l (its t k)) (says n)
 
       module _ (e : its t k .operation ≡ Opcode.branch) where
         next-asked : meets s z (wantedNext s z t k (its t k)) n ≡ sameStatement (implies (bothA (O t k) (holds (Formula.not test))) (O t (suc k))) (says n)
@@ -159,7 +177,7 @@ module _ (s : List ℕ) (z : Sizes) (c : Checks z (bodies s)) where
             (ap₂ (λ (x y : Tree). both x (holding y)) here-is (test-is s z c t k w h e)) (asserted-is t (its t k .a) w target-there) (says n)
 
       -- an action, or a branch
-      act-wants : (x : Instr) → isBranch x ≡ false → wantsNext P O t k x ≡ triple t k (O t k) (O t (suc k))
+      act-wants : (x : Instr) → isBranch x ≡ false → wantsNext P O t k x ≡ taking t k x (O t k) (O t (suc k))
       act-wants (act A ns) e = refl
       act-wants (branch a b) e = absurd (true≢false e)
 
@@ -177,14 +195,15 @@ module _ (s : List ℕ) (z : Sizes) (c : Checks z (bodies s)) where
           target-asked d ∙ ap (λ (x : Instr). sameStatement (wantsTarget P O t k x) (says n)) (sym (branch-read l (its t k) d))
 
     kept-asked : (u j t k : ℕ) → Within (z .threads) u → j < P .points u → Within (z .threads) t → suc k < P .points t
-        → meets s z (wantedKept s z u j t k) n ≡ sameStatement (triple t k (bothA (O u j) (O t k)) (O u j)) (says n)
+        → meets s z (wantedKept s z u j t k) n ≡ sameStatement (taking t k (P .code t k) (bothA (O u j) (O t k)) (O u j)) (says n)
     unfolding wantedKept
     kept-asked u j t k w h y g =
         let p = asserted-is u j w h in
         let q = asserted-is t k y (omega arith) in
-        kept-compared s (conclusionOf s z n) (assertedAt s z u j) (assertedAt s z t k) t k
-        ∙ ap (compared hoare t k (both (treeAt s (assertedAt s z u j)) (treeAt s (assertedAt s z t k))) (treeAt s (assertedAt s z u j))) (conclusion-trees s z c n wn)
-        ∙ kept-same (bothA (O u j) (O t k)) (O u j) (both (treeAt s (assertedAt s z u j)) (treeAt s (assertedAt s z t k))) (treeAt s (assertedAt s z u j)) (ap₂ both p q) p t k (says n)
+        kept-compared s (conclusionOf s z n) (assertedAt s z u j) (assertedAt s z t k) (actingForm (its t k .operation)) t k
+        ∙ ap (compared (actingForm (its t k .operation)) t k (both (treeAt s (assertedAt s z u j)) (treeAt s (assertedAt s z t k))) (treeAt s (assertedAt s z u j))) (conclusion-trees s z c n wn)
+        ∙ taking-same (bothA (O u j) (O t k)) (O u j) (both (treeAt s (assertedAt s z u j)) (treeAt s (assertedAt s z t k))) (treeAt s (assertedAt s z u j)) (ap₂ both p q) p t k
+        (P .code t k) (its t k .operation) (pair-is l (its t k)) (says n)
 
     -- a line that is there concludes what is wanted exactly if it says what is asked for
     pub concludes-asked : (o : Logic.Obligation) → InRange P o → concludesAt s z (obligation o) n ≡ sameStatement (asks (imageOf z l) o) (says n)

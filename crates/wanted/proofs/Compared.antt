@@ -10,7 +10,7 @@ use Rattle.formula.specs.Tree.{Tree, none, node, nodeAt, parseTree}
 use Rattle.compare.specs.Same.{sameTree}
 use Rattle.matcher.specs.Template.{hole}
 use Rattle.matcher.specs.Places.{proper}
-use Rattle.certificate.specs.FitT.{TreeConclusion, implication, hoare, placed}
+use Rattle.certificate.specs.FitT.{TreeConclusion, implication, placed}
 use Rattle.content.specs.Trees.{treeAt}
 use Rattle.conclusions.specs.Conclusion.{concludedAt, matchConclusion}
 use Rattle.conclusions.specs.declared.conclusion.Conclusion.{Conclusion}
@@ -67,16 +67,16 @@ module _ (s : List ℕ) (c : Conclusion) (a : ℕ) where
       (λ d h. (refl, h .tree 0 (treeAt s a) refl))
 
   module _ (e : ℕ) where
-    pub step-compared : (t k : ℕ) → matchConclusion s wantedBytes stepAt hoare t k c (twoHoles a e) .ok ≡ compared hoare t k (treeAt s a) (treeAt s e) (concludedAt s c)
+    pub step-compared : (form t k : ℕ) → matchConclusion s wantedBytes stepAt form t k c (twoHoles a e) .ok ≡ compared form t k (treeAt s a) (treeAt s e) (concludedAt s c)
     unfolding twoHoles hasOperand
-    step-compared t k =
-        filled-is s wantedBytes stepAt t k hoare (hole 0) (hole 1) (twoHoles a e) c (record { at = refl; left = refl; num = refl }) step-stands
+    step-compared form t k =
+        filled-is s wantedBytes stepAt t k form (hole 0) (hole 1) (twoHoles a e) c (record { at = refl; left = refl; num = refl }) step-stands
         (λ d h. (h .tree 0 (treeAt s a) refl, h .tree 1 (treeAt s e) refl))
 
-    pub kept-compared : (t k : ℕ) → matchConclusion s wantedBytes keptAt hoare t k c (twoHoles a e) .ok ≡ compared hoare t k (both (treeAt s a) (treeAt s e)) (treeAt s a) (concludedAt s c)
+    pub kept-compared : (form t k : ℕ) → matchConclusion s wantedBytes keptAt form t k c (twoHoles a e) .ok ≡ compared form t k (both (treeAt s a) (treeAt s e)) (treeAt s a) (concludedAt s c)
     unfolding twoHoles hasOperand
-    kept-compared t k =
-        filled-is s wantedBytes keptAt t k hoare (both (hole 0) (hole 1)) (hole 0) (twoHoles a e) c (record { at = refl; left = refl; num = refl }) kept-stands
+    kept-compared form t k =
+        filled-is s wantedBytes keptAt t k form (both (hole 0) (hole 1)) (hole 0) (twoHoles a e) c (record { at = refl; left = refl; num = refl }) kept-stands
         (λ d h. (ap₂ both (h .tree 0 (treeAt s a) refl) (h .tree 1 (treeAt s e) refl), h .tree 0 (treeAt s a) refl))
 
     module _ (b : ℕ) where

@@ -1,5 +1,6 @@
 -- The ways through the functions that say what an obligation wants, one law for each.
 use mathlib.Core.Path.{_≡_}
+use mathlib.Core.Bool.{Bool, true, false}
 use mathlib.Core.List.{List}
 use Prim.Native.Nat.{ℕ}
 use borrow.Author.Tests.{eq-eqb, ne-eqb}
@@ -12,17 +13,31 @@ use Rattle.matcher.specs.declared.bind.Bind.{Bind}
 use Rattle.content.specs.Places.{formulaAt}
 use Rattle.report.specs.declared.obligation.Obligation.{Obligation}
 use Rattle.report.specs.declared.obligation.Obligation.the-variants.{Start, Step, Taken, Interference}
+use Rattle.program.specs.Instruction.{pairOperation}
+use Rattle.certificate.specs.FitT.{hoare, paired}
 use Rattle.wanted.specs.declared.wanted.Wanted.{Wanted}
-use Rattle.wanted.specs.Wanted.{startAt, stepAt, nextAt, targetAt, keptAt, oneHole, twoHoles, threeHoles, nextPoint, implied, kept, assertedAt, wantedStart, wantedAction, wantedNext, wantedStep, wantedTarget, wantedKept, wantedAt}
+use Rattle.wanted.specs.Wanted.{startAt, stepAt, nextAt, targetAt, keptAt, oneHole, twoHoles, threeHoles, nextPoint, implied, actingForm, kept, assertedAt, wantedStart, wantedAction, wantedNext, wantedStep, wantedTarget, wantedKept, wantedAt}
+
+module _ (op : ℕ) (p : Bool) (e : p ≡ pairOperation op) where
+  pub form-pair : p ≡ true → paired ≡ actingForm op
+  unfolding actingForm
+  form-pair h = rw (← e, h)
+
+  pub form-alone : p ≡ false → hoare ≡ actingForm op
+  unfolding actingForm
+  form-alone h = rw (← e, h)
+
+pub ruleset forming = (form-pair, form-alone)
 
 module _ (s : List ℕ) (z : Sizes) (t k : ℕ) where
   pub start-wanted : (a : ℕ) (b : Bind) → a ≡ assertedAt s z t 0 → b ≡ oneHole a → implied startAt b ≡ wantedStart s z t
   unfolding wantedStart
   start-wanted a b ea eb = rw (eb, ea)
 
-  pub action-wanted : (a n d : ℕ) (b : Bind) → b ≡ twoHoles a d → d ≡ assertedAt s z t n → n ≡ nextPoint k → a ≡ assertedAt s z t k → kept t k stepAt b ≡ wantedAction s z t k
+  pub action-wanted : (i : Instruction) (f a n d : ℕ) (b : Bind) → f ≡ actingForm (i .operation) → b ≡ twoHoles a d → d ≡ assertedAt s z t n → n ≡ nextPoint k → a ≡ assertedAt s z t k
+      → kept f t k stepAt b ≡ wantedAction s z t k i
   unfolding wantedAction
-  action-wanted a n d b eb ed en ea = rw (eb, ea, ed, en)
+  action-wanted i f a n d b ef eb ed en ea = rw (ef, eb, ea, ed, en)
 
   pub next-wanted : (i : Instruction) (a e n d : ℕ) (b : Bind) → a ≡ assertedAt s z t k → e ≡ formulaAt s (i .formula) → n ≡ nextPoint k → d ≡ assertedAt s z t n → b ≡ threeHoles a e d
       → implied nextAt b ≡ wantedNext s z t k i
@@ -34,7 +49,7 @@ module _ (s : List ℕ) (z : Sizes) (t k : ℕ) where
     unfolding wantedStep
     branch-wanted r e d = rw (← h, eq-eqb _ _ e) d
 
-    pub act-wanted : (r : Wanted) → (i .operation ≡ Opcode.branch → ⊥) → r ≡ wantedAction s z t k → r ≡ wantedStep s z t k
+    pub act-wanted : (r : Wanted) → (i .operation ≡ Opcode.branch → ⊥) → r ≡ wantedAction s z t k i → r ≡ wantedStep s z t k
     unfolding wantedStep
     act-wanted r e d = rw (← h, ne-eqb _ _ e) d
 
@@ -42,9 +57,10 @@ module _ (s : List ℕ) (z : Sizes) (t k : ℕ) where
     unfolding wantedTarget
     target-wanted a e d b ea ee ed eb = rw (eb, ea, ee, ed, h)
 
-pub kept-wanted : (s : List ℕ) (z : Sizes) (u j t k a d : ℕ) (b : Bind) → a ≡ assertedAt s z u j → d ≡ assertedAt s z t k → b ≡ twoHoles a d → kept t k keptAt b ≡ wantedKept s z u j t k
+pub kept-wanted : (s : List ℕ) (z : Sizes) (u j t k : ℕ) (i : Instruction) (f a d : ℕ) (b : Bind) → i ≡ instructionOf z (bodies s) t k → f ≡ actingForm (i .operation)
+    → a ≡ assertedAt s z u j → d ≡ assertedAt s z t k → b ≡ twoHoles a d → kept f t k keptAt b ≡ wantedKept s z u j t k
 unfolding wantedKept
-kept-wanted s z u j t k a d b ea ed eb = rw (eb, ea, ed)
+kept-wanted s z u j t k i f a d b ei ef ea ed eb = rw (ef, ei, eb, ea, ed)
 
 pub ruleset wanting = (start-wanted, action-wanted, next-wanted, branch-wanted, act-wanted, target-wanted, kept-wanted)
 

@@ -10,10 +10,11 @@ use Rattle.limits.specs.Limits.{nesting, points}
 use Rattle.frames.specs.Records.{bodies}
 use Rattle.program.specs.declared.sizes.Sizes.{Sizes}
 use Rattle.program.specs.declared.instruction.Instruction.{Instruction}
+use Rattle.program.specs.Instruction.{pairOperation}
 use Rattle.records.specs.Places.{instructionOf}
 use Rattle.matcher.specs.Template.{firstHole}
 use Rattle.matcher.specs.declared.bind.Bind.{Bind}
-use Rattle.certificate.specs.FitT.{implication, hoare}
+use Rattle.certificate.specs.FitT.{implication, hoare, paired}
 use Rattle.content.specs.Program.{outlineNumber}
 use Rattle.content.specs.Places.{formulaAt}
 use Rattle.report.specs.declared.obligation.Obligation.{Obligation}
@@ -63,8 +64,12 @@ nextPoint k = cond (ltb k points) (k + 1) k
 abbrev pub implied : ℕ → Bind → Wanted
 implied i b = record { form = implication; thread = 0; point = 0; template = i; bind = b }
 
-abbrev pub kept : ℕ → ℕ → ℕ → Bind → Wanted
-kept t k i b = record { form = hoare; thread = t; point = k; template = i; bind = b }
+-- a triple; for a pair, one of the whole
+unfoldable pub actingForm : ℕ → ℕ
+actingForm op = cond (pairOperation op) paired hoare
+
+abbrev pub kept : ℕ → ℕ → ℕ → ℕ → Bind → Wanted
+kept f t k i b = record { form = f; thread = t; point = k; template = i; bind = b }
 
 module _ (s : List ℕ) (z : Sizes) where
   -- where the assertion of a point stands
@@ -74,20 +79,20 @@ module _ (s : List ℕ) (z : Sizes) where
   unfoldable pub wantedStart : ℕ → Wanted
   wantedStart t = implied startAt (oneHole (assertedAt t 0))
 
-  unfoldable pub wantedAction : ℕ → ℕ → Wanted
-  wantedAction t k = kept t k stepAt (twoHoles (assertedAt t k) (assertedAt t (nextPoint k)))
+  unfoldable pub wantedAction : ℕ → ℕ → Instruction → Wanted
+  wantedAction t k i = kept (actingForm (i .operation)) t k stepAt (twoHoles (assertedAt t k) (assertedAt t (nextPoint k)))
 
   unfoldable pub wantedNext : ℕ → ℕ → Instruction → Wanted
   wantedNext t k i = implied nextAt (threeHoles (assertedAt t k) (formulaAt s (i .formula)) (assertedAt t (nextPoint k)))
 
   unfoldable pub wantedStep : ℕ → ℕ → Wanted
-  wantedStep t k = cond (eqb (instructionOf z (bodies s) t k .operation) Opcode.branch) (wantedNext t k (instructionOf z (bodies s) t k)) (wantedAction t k)
+  wantedStep t k = cond (eqb (instructionOf z (bodies s) t k .operation) Opcode.branch) (wantedNext t k (instructionOf z (bodies s) t k)) (wantedAction t k (instructionOf z (bodies s) t k))
 
   unfoldable pub wantedTarget : ℕ → ℕ → Wanted
   wantedTarget t k = implied targetAt (threeHoles (assertedAt t k) (formulaAt s (instructionOf z (bodies s) t k .formula)) (assertedAt t (instructionOf z (bodies s) t k .a)))
 
   unfoldable pub wantedKept : ℕ → ℕ → ℕ → ℕ → Wanted
-  wantedKept u j t k = kept t k keptAt (twoHoles (assertedAt u j) (assertedAt t k))
+  wantedKept u j t k = kept (actingForm (instructionOf z (bodies s) t k .operation)) t k keptAt (twoHoles (assertedAt u j) (assertedAt t k))
 
   unfoldable pub wantedAt : Obligation → Wanted
   wantedAt (Start t) = wantedStart t

@@ -7,6 +7,7 @@ use limits::Limits;
 use matcher::bind::Bind;
 use matcher::bind::Hole;
 use program::instruction::Instruction;
+use program::instruction::is_pair;
 use program::sizes::Sizes;
 use records::place::instruction_of;
 use report::obligation::Obligation;
@@ -14,7 +15,7 @@ use rulebook::rule::Form;
 ghost use mathlib.Core.Path.{_≡_};
 ghost use Rattle.frames.specs.Records.{bodies, indexOf};
 ghost use Rattle.content.specs.Totals.{totalsOf};
-ghost use Rattle.wanted.specs.Wanted.{oneHole, twoHoles, threeHoles, nextPoint, wantedStart, wantedAction, wantedNext, wantedStep, wantedTarget, wantedKept, wantedAt};
+ghost use Rattle.wanted.specs.Wanted.{oneHole, twoHoles, threeHoles, nextPoint, actingForm, wantedStart, wantedAction, wantedNext, wantedStep, wantedTarget, wantedKept, wantedAt};
 
 // The form of the line, the thread and the point of a triple, where the template begins and what its holes stand for.
 pub struct Wanted {
@@ -115,6 +116,16 @@ fn wanted_start<'a, 'b>(s: &'a [u8], ix: &'b [usize], z: Sizes, y: Totals, t: us
     }
 }
 
+// A triple; for a pair, one of the whole.
+fn acting_form(operation: u8) -> u8
+    ensures { λ r. ⌜ r ≡ actingForm operation ⌝ }
+{
+    if is_pair(operation) {
+        return Form::PAIR;
+    }
+    Form::TRIPLE
+}
+
 fn wanted_action<'a, 'b>(
     s: &'a [u8],
     ix: &'b [usize],
@@ -122,14 +133,15 @@ fn wanted_action<'a, 'b>(
     y: Totals,
     t: usize,
     k: usize,
+    i: Instruction,
 ) -> Wanted
     requires { ⌜ (now ix ≡ indexOf (now s)) × (y ≡ totalsOf z (bodies (now s))) ⌝ }
-    ensures { λ r. ⌜ r ≡ wantedAction (now (s .entry)) z t k ⌝ }
+    ensures { λ r. ⌜ r ≡ wantedAction (now (s .entry)) z t k i ⌝ }
 {
     let a = outline_at(s, ix, z, y, t, k);
     let b = outline_at(s, ix, z, y, t, next_point(k));
     Wanted {
-        form: Form::TRIPLE,
+        form: acting_form(i.operation),
         thread: t,
         point: k,
         template: Wanted::STEP,
@@ -176,7 +188,7 @@ fn wanted_step<'a, 'b>(
     if i.operation == Instruction::BRANCH {
         return wanted_next(s, ix, z, y, t, k, i);
     }
-    wanted_action(s, ix, z, y, t, k)
+    wanted_action(s, ix, z, y, t, k, i)
 }
 
 fn wanted_target<'a, 'b>(
@@ -217,10 +229,11 @@ fn wanted_kept<'a, 'b>(
     requires { ⌜ (now ix ≡ indexOf (now s)) × (y ≡ totalsOf z (bodies (now s))) ⌝ }
     ensures { λ r. ⌜ r ≡ wantedKept (now (s .entry)) z u j t k ⌝ }
 {
+    let i = instruction_of(s, ix, z, t, k);
     let a = outline_at(s, ix, z, y, u, j);
     let b = outline_at(s, ix, z, y, t, k);
     Wanted {
-        form: Form::TRIPLE,
+        form: acting_form(i.operation),
         thread: t,
         point: k,
         template: Wanted::KEPT,

@@ -5,7 +5,7 @@ use mathlib.Core.List.{List, []}
 use mathlib.Core.Bool.{Bool, true, false}
 use lib.ListN.{getD, drop}
 use lib.Dec.{eqb}
-use borrow.Author.Tests.{eq-eqb, ne-eqb, le-leb, lt-leb}
+use borrow.Author.Tests.{eq-eqb, ne-eqb, le-leb, lt-leb, lt-ltb, le-ltb}
 use Rattle.limits.specs.Numbers.{word, nth, numbers, every}
 use Rattle.frames.specs.Fault.{unless, also}
 use Rattle.frames.specs.declared.fault.Fault.{Fault}
@@ -19,13 +19,13 @@ use Rattle.program.specs.declared.sizes.Sizes.{Sizes}
 use Rattle.program.specs.declared.instruction.Instruction.{Instruction}
 use Rattle.program.specs.Header.{owners}
 use Rattle.records.specs.declared.line.Form.{Form}
-use Rattle.records.specs.declared.line.Form.the-variants.{Triple, Implication, Inclusion, Unlisted}
+use Rattle.records.specs.declared.line.Form.the-variants.{Triple, Implication, Inclusion, Pair, Unlisted}
 use Rattle.records.specs.declared.tally.Tally.{Tally}
 use Rattle.records.specs.Line.{formOf}
 use Rattle.records.specs.List.{exactly}
 use Rattle.records.specs.Tally.{tally, obligationCount}
 use Rattle.bodies.specs.Use.{treeOf, outlined, plainOf}
-use Rattle.bodies.specs.Thread.{wanted, sorted, targetOwned, formulaOwned, resultAbsent}
+use Rattle.bodies.specs.Thread.{wanted, formulaSorted, sorted, target, registerOwned, formulaOwned, owned, resultAbsent}
 use Rattle.bodies.specs.Lists.{outlinedAt, outline, obligations}
 use Rattle.bodies.specs.Line.{sortAt, sortedBy, lineSorted}
 
@@ -42,55 +42,89 @@ pub ruleset numbered = (at-outlined, at-sort)
 
 -- instructions
 
-module _ (l : List (List ℕ)) (i : Instruction) where
-  pub sorted-none : i .formula ≡ 0 → true ≡ sorted l i
-  unfolding sorted
+module _ (l : List (List ℕ)) (sort k : ℕ) where
+  pub sorted-none : k ≡ 0 → true ≡ formulaSorted l sort k
+  unfolding formulaSorted
   sorted-none h = rw (eq-eqb _ _ h)
 
-  pub sorted-is : (b : List ℕ) (w : ℕ) (u : Bool) → (i .formula ≡ 0 → ⊥) → b ≡ getD l (i .formula) [] → w ≡ wanted (i .operation) → u ≡ plainOf w b → u ≡ sorted l i
-  unfolding sorted
-  sorted-is b w u h e d g = rw (ne-eqb _ _ h, ← e, ← d) g
+  pub sorted-is : (b : List ℕ) (u : Bool) → (k ≡ 0 → ⊥) → b ≡ getD l k [] → u ≡ plainOf sort b → u ≡ formulaSorted l sort k
+  unfolding formulaSorted
+  sorted-is b u h e g = rw (ne-eqb _ _ h, ← e) g
+
+module _ (l : List (List ℕ)) (i : Instruction) where
+  module _ (w : ℕ) (u : Bool) (ew : w ≡ wanted (i .operation)) (eu : u ≡ formulaSorted l w (i .formula)) where
+    pub first-unsorted : u ≡ false → false ≡ sorted l i
+    unfolding sorted
+    first-unsorted q = rw (← ew, ← eu, q)
+
+    pub second-sorted : (v : Bool) → u ≡ true → v ≡ formulaSorted l Codes.value (i .second .formula) → v ≡ sorted l i
+    unfolding sorted
+    second-sorted v q d = rw (← ew, ← eu, q) d
 
   pub absent-none : i .operation ≤ 6 → true ≡ resultAbsent l i
   unfolding resultAbsent
   absent-none h = rw (le-leb _ _ h)
 
-  module _ (b : List ℕ) (u : Bool) (n : 6 < i .operation) (eb : b ≡ getD l (i .formula) []) (eu : u ≡ occurs (register (i .b)) [] (treeOf b)) where
+  pub absent-past : 6 < i .operation → 8 < i .operation → true ≡ resultAbsent l i
+  unfolding resultAbsent
+  absent-past h g = rw (lt-leb _ _ h, lt-ltb _ _ g)
+
+  module _ (b : List ℕ) (u : Bool) (n : 6 < i .operation) (m : i .operation ≤ 8) (eb : b ≡ getD l (i .formula) []) (eu : u ≡ occurs (register (i .b)) [] (treeOf b)) where
     pub absent-not : u ≡ true → false ≡ resultAbsent l i
     unfolding resultAbsent
-    absent-not q = rw (lt-leb _ _ n, ← eb, ← eu, q)
+    absent-not q = rw (lt-leb _ _ n, le-ltb _ _ m, ← eb, ← eu, q)
 
     pub absent-is : u ≡ false → true ≡ resultAbsent l i
     unfolding resultAbsent
-    absent-is q = rw (lt-leb _ _ n, ← eb, ← eu, q)
+    absent-is q = rw (lt-leb _ _ n, le-ltb _ _ m, ← eb, ← eu, q)
 
-  module _ (t : ℕ) where
-    pub target-none : 2 < i .operation → i .operation ≤ 6 → true ≡ targetOwned l t i
-    unfolding targetOwned
-    target-none h g = rw (lt-leb _ _ h, le-leb _ _ g)
+pub ruleset instructed = (sorted-none, sorted-is, first-unsorted, second-sorted, absent-none, absent-past, absent-not, absent-is)
 
-    pub target-is : (h : List ℕ) (x : ℕ) → i .operation ≤ 2 → h ≡ getD l 0 [] → x ≡ nth (owners h) (i .a) 0 → eqb x t ≡ targetOwned l t i
-    unfolding targetOwned
-    target-is h x g e d = rw (le-leb _ _ g, ← e, ← d)
+-- who owns its registers
 
-    pub result-is : (h : List ℕ) (x : ℕ) → 2 < i .operation → 6 < i .operation → h ≡ getD l 0 [] → x ≡ nth (owners h) (i .b) 0 → eqb x t ≡ targetOwned l t i
-    unfolding targetOwned
-    result-is h x g k e d = rw (lt-leb _ _ g, lt-leb _ _ k, ← e, ← d)
+module _ (l : List (List ℕ)) (t : ℕ) where
+  pub register-none : (r : ℕ) → r ≡ 0 → true ≡ registerOwned l t r
+  unfolding registerOwned
+  register-none r h = rw (eq-eqb _ _ h)
 
-    pub formula-none : i .formula ≡ 0 → true ≡ formulaOwned l t i
+  pub register-is : (h : List ℕ) (r x : ℕ) → (r ≡ 0 → ⊥) → h ≡ getD l 0 [] → x ≡ nth (owners h) r 0 → eqb x t ≡ registerOwned l t r
+  unfolding registerOwned
+  register-is h r x g e d = rw (ne-eqb _ _ g, ← e, ← d)
+
+  module _ (k : ℕ) where
+    pub formula-none : k ≡ 0 → true ≡ formulaOwned l t k
     unfolding formulaOwned
     formula-none h = rw (eq-eqb _ _ h)
 
-    module _ (b h o : List ℕ) (u : Bool) (n : i .formula ≡ 0 → ⊥) (eb : b ≡ getD l (i .formula) []) (eh : h ≡ getD l 0 []) (eo : o ≡ owners h) (eu : u ≡ occurs (foreign t) o (treeOf b)) where
-      pub formula-foreign : u ≡ true → false ≡ formulaOwned l t i
+    module _ (b h o : List ℕ) (u : Bool) (n : k ≡ 0 → ⊥) (eb : b ≡ getD l k []) (eh : h ≡ getD l 0 []) (eo : o ≡ owners h) (eu : u ≡ occurs (foreign t) o (treeOf b)) where
+      pub formula-foreign : u ≡ true → false ≡ formulaOwned l t k
       unfolding formulaOwned
       formula-foreign q = rw (ne-eqb _ _ n, ← eb, ← eh, ← eo, ← eu, q)
 
-      pub formula-own : u ≡ false → true ≡ formulaOwned l t i
+      pub formula-own : u ≡ false → true ≡ formulaOwned l t k
       unfolding formulaOwned
       formula-own q = rw (ne-eqb _ _ n, ← eb, ← eh, ← eo, ← eu, q)
 
-pub ruleset instructed = (sorted-none, sorted-is, absent-none, absent-not, absent-is, target-none, target-is, result-is, formula-none, formula-foreign, formula-own)
+  module _ (i : Instruction) (r : ℕ) (u : Bool) (er : r ≡ target i) (eu : u ≡ registerOwned l t r) where
+    pub owned-target : u ≡ false → false ≡ owned l t i
+    unfolding owned
+    owned-target q = rw (← er, ← eu, q)
+
+    module _ (q : u ≡ true) (v : Bool) (ev : v ≡ formulaOwned l t (i .formula)) where
+      pub owned-formula : v ≡ false → false ≡ owned l t i
+      unfolding owned
+      owned-formula d = rw (← er, ← eu, q, ← ev, d)
+
+      module _ (d : v ≡ true) (w : Bool) (ew : w ≡ registerOwned l t (i .second .a)) where
+        pub owned-second : w ≡ false → false ≡ owned l t i
+        unfolding owned
+        owned-second g = rw (← er, ← eu, q, ← ev, d, ← ew, g)
+
+        pub owned-last : (x : Bool) → w ≡ true → x ≡ formulaOwned l t (i .second .formula) → x ≡ owned l t i
+        unfolding owned
+        owned-last x g h = rw (← er, ← eu, q, ← ev, d, ← ew, g) h
+
+pub ruleset owning = (register-none, register-is, formula-none, formula-foreign, formula-own, owned-target, owned-formula, owned-second, owned-last)
 
 -- outline and obligations
 
@@ -132,6 +166,10 @@ module _ (l : List (List ℕ)) (f : Form) (k : ℕ) where
   unfolding sortedBy
   by-inclusion r q d = rw q d
 
+  pub by-pair : (r : Bool) → f ≡ Pair → r ≡ outlinedAt l k → r ≡ sortedBy l f k
+  unfolding sortedBy
+  by-pair r q d = rw q d
+
   pub by-unlisted : f ≡ Unlisted → true ≡ sortedBy l f k
   unfolding sortedBy
   by-unlisted q = rw q
@@ -145,4 +183,4 @@ module _ (l : List (List ℕ)) (b : List ℕ) (f : Form) (x : ℕ) (u : Bool) (e
   unfolding lineSorted
   left-on y r q ey d = rw (← ef, ← ex, ← eu, q, ← ey) d
 
-pub ruleset lined = (by-triple, by-implication, by-inclusion, by-unlisted, left-off, left-on)
+pub ruleset lined = (by-triple, by-implication, by-inclusion, by-pair, by-unlisted, left-off, left-on)

@@ -17,6 +17,7 @@ use Rattle.frames.specs.Records.{body, bodies, indexOf}
 use Rattle.frames.proofs.Laws.Index.{index-length, entry-fits, start-is, found-past}
 use Rattle.program.specs.declared.sizes.Sizes.{Sizes}
 use Rattle.program.specs.declared.instruction.Instruction.{Instruction}
+use Rattle.program.specs.Instruction.{firstOperation}
 use Rattle.records.specs.Line.{premises}
 use Rattle.records.specs.Places.{threadBody}
 use Rattle.records.specs.declared.tally.Tally.{Tally}
@@ -27,7 +28,7 @@ use Rattle.content.specs.declared.totals.Totals.{Totals}
 use Rattle.content.specs.Program.{outlineNumber}
 use Rattle.content.specs.Certificate.{left, right, lineBody}
 use Rattle.content.specs.Image.{namedLine}
-use Rattle.content.specs.Places.{bodyStart, formulaAt, lineIn, acts, actingOf}
+use Rattle.content.specs.Places.{bodyStart, formulaAt, lineIn, acts, registerFirst, actingOf}
 use Rattle.content.specs.declared.line.Line.{Line}
 use Rattle.content.specs.declared.acting.Acting.{Acting}
 
@@ -96,18 +97,18 @@ pub ruleset lining = (line-past, line-there, line-read, premise-read, line-is)
 -- instructions
 
 module _ (s : List ℕ) (i : Instruction) where
-  pub acts-early : (f : ℕ) → i .operation ≤ 2 → f ≡ formulaAt s (i .formula) → acts (i .operation) (i .b) (i .a) f ≡ actingOf s i
+  pub acts-not : i .operation ≡ 6 → acts (i .operation) (i .operation) 0 0 (length s) 0 (length s) ≡ actingOf s i
   unfolding actingOf
-  acts-early f h e = rw (le-leb (i .operation) 2 h, e)
+  acts-not g = rw (eq-eqb (i .operation) 6 g)
 
-  module _ (h : 2 < i .operation) where
-    pub acts-writing : (f : ℕ) → (i .operation ≡ 6 → ⊥) → f ≡ formulaAt s (i .formula) → acts (i .operation) (i .a) (i .b) f ≡ actingOf s i
+  module _ (n : i .operation ≡ 6 → ⊥) (f g : ℕ) (ef : f ≡ formulaAt s (i .formula)) (eg : g ≡ formulaAt s (i .second .formula)) (r : Bool) (er : r ≡ registerFirst (i .operation)) where
+    pub acts-early : r ≡ true → acts (i .operation) (i .operation) (i .b) (i .a) f (i .second .a) g ≡ actingOf s i
     unfolding actingOf
-    acts-writing f g e = rw (lt-leb (i .operation) 2 h, ne-eqb (i .operation) 6 g, e)
+    acts-early h = rw (ne-eqb (i .operation) 6 n, ← er, h, ef, eg)
 
-    pub acts-not : i .operation ≡ 6 → acts (i .operation) 0 0 (length s) ≡ actingOf s i
+    pub acts-writing : (o : ℕ) → r ≡ false → o ≡ firstOperation (i .operation) → acts o (i .operation) (i .a) (i .b) f (i .second .a) g ≡ actingOf s i
     unfolding actingOf
-    acts-not g = rw (lt-leb (i .operation) 2 h, eq-eqb (i .operation) 6 g)
+    acts-writing o h e = rw (ne-eqb (i .operation) 6 n, ← er, h, ef, eg, e)
 
 pub acts-at : (s : List ℕ) (i j : Instruction) (r : Acting) → i ≡ j → r ≡ actingOf s i → r ≡ actingOf s j
 acts-at s i j r e d = rw (← e) d

@@ -2,27 +2,79 @@
 use Prim.Native.Nat.{ℕ, zero, suc, _+_, _-_, _*_, _≤_, _<_}
 use mathlib.Core.Path.{_≡_, refl, ap, sym, _∙_}
 use mathlib.Core.List.{List}
-use mathlib.Core.Bool.{Bool}
+use mathlib.Core.Bool.{Bool, true, false, not}
 use native.Mathlib.Omega.{arith}
+use lib.Dec.{eqb}
+use borrow.Author.Tests.{eq-eqb, ne-eqb}
+use Rattle.logic.specs.Opcode as Opcode
 use lib.ListN.{length, getD, drop, List·getD-eq-default}
-use lib.Seq.{drop-drop}
+use lib.Seq.{drop-drop, getD-drop}
 use Rattle.limits.specs.Numbers.{word, every}
 use Rattle.program.specs.declared.sizes.Sizes.{Sizes}
+use Rattle.program.specs.declared.instruction.Half.{Half}
 use Rattle.program.specs.declared.instruction.Instruction.{Instruction}
 use Rattle.program.specs.declared.instruction.Fields.{Fields}
-use Rattle.program.specs.Instruction.{instruction, fieldsOf, fieldsFit, ranged}
-use Rattle.program.specs.Thread.{lastPoint, cut, instructions, nothing, threadSize}
+use Rattle.program.specs.Instruction.{twofold, instructionSize, half, noHalf, secondHalf, instruction, fieldsOf, fieldsFit, halfFits, secondFits, ranged}
+use Rattle.program.specs.Thread.{lastPoint, cut, begins, instructions, nothing, threadSize}
 
 -- an instruction
 
-pub read-is : (b : List ℕ) (o x y f : ℕ) → o ≡ getD b 0 0 → x ≡ getD b 1 0 → y ≡ getD b 2 0 → f ≡ word (drop 3 b)
-    → record { operation = o; a = x; b = y; formula = f } ≡ instruction b
-unfolding instruction
-read-is b o x y f eo ex ey ef = rw (eo, ex, ey, ef)
+module _ (b : List ℕ) (o x y f : ℕ) (eo : o ≡ getD b 0 0) (ex : x ≡ getD b 1 0) (ey : y ≡ getD b 2 0) (ef : f ≡ word (drop 3 b)) where
+  pub half-is : record { operation = o; a = x; b = y; formula = f } ≡ half b
+  unfolding half
+  half-is = rw (eo, ex, ey, ef)
 
-pub fits-is : (i : Instruction) (last : ℕ) (z : Sizes) (f : Fields) (r : Bool) → f ≡ fieldsOf (i .operation) last z → r ≡ fieldsFit i f → r ≡ ranged last z i
-unfolding ranged
-fits-is i last z f r e d = rw (← e) d
+  pub read-is : (h : Half) → h ≡ secondHalf o b → record { operation = o; a = x; b = y; formula = f; second = h } ≡ instruction b
+  unfolding instruction
+  read-is h eh = rw (eh, eo, ex, ey, ef)
+
+module _ (op : ℕ) (t : Bool) (e : t ≡ twofold op) where
+  pub size-two : t ≡ true → 10 ≡ instructionSize op
+  unfolding instructionSize
+  size-two h = rw (← e, h)
+
+  pub size-one : t ≡ false → 5 ≡ instructionSize op
+  unfolding instructionSize
+  size-one h = rw (← e, h)
+
+  pub second-there : (b l : List ℕ) (h : Half) → t ≡ true → l ≡ drop 5 b → h ≡ half l → h ≡ secondHalf op b
+  unfolding secondHalf
+  second-there b l h d m g = rw (← e, d, ← m) g
+
+  pub second-none : (b : List ℕ) → t ≡ false → noHalf ≡ secondHalf op b
+  unfolding secondHalf
+  second-none b d = rw (← e, d)
+
+pub ruleset halving = (half-is, read-is, size-two, size-one, second-there, second-none)
+
+module _ (i : Instruction) (z : Sizes) (t : Bool) (e : t ≡ twofold (i .operation)) where
+  pub second-alone : t ≡ false → true ≡ secondFits z i
+  unfolding secondFits
+  second-alone h = rw (← e, h)
+
+  module _ (w : t ≡ true) (f : Bool) (ef : f ≡ halfFits z (i .second)) where
+    pub second-faulty : f ≡ false → false ≡ secondFits z i
+    unfolding secondFits
+    second-faulty h = rw (← e, w, ← ef, h)
+
+    pub second-differs : f ≡ true → i .operation ≡ Opcode.assignTwo → not (eqb (i .a) (i .second .a)) ≡ secondFits z i
+    unfolding secondFits
+    second-differs h o = rw (← e, w, ← ef, h, eq-eqb _ _ o)
+
+    pub second-noted : f ≡ true → (i .operation ≡ Opcode.assignTwo → ⊥) → true ≡ secondFits z i
+    unfolding secondFits
+    second-noted h o = rw (← e, w, ← ef, h, ne-eqb _ _ o)
+
+pub ruleset seconds = (second-alone, second-faulty, second-differs, second-noted)
+
+module _ (i : Instruction) (last : ℕ) (z : Sizes) (f : Fields) (g : Bool) (e : f ≡ fieldsOf (i .operation) last z) (d : g ≡ fieldsFit i f) where
+  pub fits-none : g ≡ false → false ≡ ranged last z i
+  unfolding ranged
+  fits-none h = rw (← e, ← d, h)
+
+  pub fits-second : (r : Bool) → g ≡ true → r ≡ secondFits z i → r ≡ ranged last z i
+  unfolding ranged
+  fits-second r h k = rw (← e, ← d, h) k
 
 -- the instructions of a thread
 
@@ -37,15 +89,31 @@ last-is b n e = rw e
 cut-length : (n : ℕ) (l : List ℕ) → length (cut n l) ≡ n
 unfolding cut
 cut-length zero l = refl
-cut-length (suc n) l = ap suc (cut-length n (drop 5 l))
+cut-length (suc n) l = ap suc (cut-length n (drop (instructionSize (getD l 0 0)) l))
 
-cut-at : (n : ℕ) (l : List ℕ) (p : ℕ) → p < n → getD (cut n l) p nothing ≡ instruction (drop (5 * p) l)
+pub begins-zero : (l : List ℕ) → begins l 0 ≡ 0
+unfolding begins
+begins-zero l = refl
+
+-- an instruction more, in front
+begins-behind : (l : List ℕ) (p : ℕ) → begins l (suc p) ≡ instructionSize (getD l 0 0) + begins (drop (instructionSize (getD l 0 0)) l) p
+unfolding begins
+begins-behind l zero = omega arith
+begins-behind l (suc p) = go (instructionSize (getD l 0 0)) (begins l (suc p)) (begins (drop (instructionSize (getD l 0 0)) l) p) (begins-behind l p)
+  where
+    go : (k a b : ℕ) → a ≡ k + b → a + instructionSize (getD l a 0) ≡ k + (b + instructionSize (getD (drop k l) b 0))
+    go k a b e = rw (e, getD-drop k l b 0) (omega arith)
+
+cut-at : (n : ℕ) (l : List ℕ) (p : ℕ) → p < n → getD (cut n l) p nothing ≡ instruction (drop (begins l p) l)
 unfolding cut
 cut-at zero l p h = absurd (omega arith)
-cut-at (suc n) l zero h = refl
+cut-at (suc n) l zero h = begins-none
+  where
+    begins-none : instruction l ≡ instruction (drop (begins l 0) l)
+    begins-none = rw (begins-zero l)
 cut-at (suc n) l (suc p) h =
-    let q : 5 * suc p ≡ 5 + 5 * p = omega arith in
-    cut-at n (drop 5 l) p (omega arith) ∙ (rw (drop-drop (5 * p) 5 l, q))
+    cut-at n (drop (instructionSize (getD l 0 0)) l) p (omega arith)
+    ∙ (rw (drop-drop (begins (drop (instructionSize (getD l 0 0)) l) p) (instructionSize (getD l 0 0)) l, ← begins-behind l p))
 
 pub instructions-length : (b : List ℕ) → length (instructions b) ≡ lastPoint b
 unfolding instructions
@@ -55,15 +123,36 @@ module _ (b : List ℕ) (last p : ℕ) (e : last ≡ lastPoint b) where
   pub at-past : last ≤ p → nothing ≡ getD (instructions b) p nothing
   at-past h = let q : length (instructions b) ≤ p = rw (instructions-length b, ← e) h in sym (List·getD-eq-default (instructions b) nothing q)
 
-  pub at-in : (l : List ℕ) (r : Instruction) → p < last → l ≡ drop (1 + 5 * p) b → r ≡ instruction l → r ≡ getD (instructions b) p nothing
+  pub at-in : (l m : List ℕ) (at : ℕ) (r : Instruction) → p < last → l ≡ drop 1 b → at ≡ begins l p → m ≡ drop at l → r ≡ instruction m
+      → r ≡ getD (instructions b) p nothing
   unfolding instructions
-  at-in l r h d g = let q : p < lastPoint b = rw (← e) h in rw (cut-at (lastPoint b) (drop 1 b) p q, drop-drop (5 * p) 1 b, ← d) g
+  at-in l m at r h d f k g = let q : p < lastPoint b = rw (← e) h in rw (cut-at (lastPoint b) (drop 1 b) p q, ← d, ← f, ← k) g
 
-pub size-of : (b : List ℕ) (last : ℕ) → last ≡ lastPoint b → 1 + 5 * last ≡ threadSize b
+  pub at-known : p < last → last < 256 → p < 256
+  at-known h k = omega arith
+
+pub size-of : (b l : List ℕ) (last n : ℕ) → last ≡ lastPoint b → l ≡ drop 1 b → n ≡ begins l last → 1 + n ≡ threadSize b
 unfolding threadSize
-size-of b last e = rw e
+size-of b l last n e d f = rw (f, d, e)
 
-pub ruleset threading = (read-is, fits-is, last-none, last-is, at-past, at-in, size-of)
+pub ruleset threading = (fits-none, fits-second, last-none, last-is, at-past, at-in, at-known, size-of)
+
+-- the walk over the instructions
+
+pub walk-start : (l : List ℕ) → 0 ≡ begins l 0
+walk-start l = sym (begins-zero l)
+
+pub walk-more : (l : List ℕ) (i at o n : ℕ) → at ≡ begins l i → o ≡ getD l at 0 → n ≡ instructionSize o → at + n ≡ begins l (i + 1)
+unfolding begins
+walk-more l i at o n e d f = go (i + 1) (omega arith)
+  where
+    go : (j : ℕ) → j ≡ suc i → at + n ≡ begins l j
+    go j q = rw (q, f, d, e)
+
+pub walk-all : (l : List ℕ) (i p at : ℕ) → p ≤ i → i ≤ p → at ≡ begins l i → at ≡ begins l p
+walk-all l i p at h g e = let q : i ≡ p = omega arith in rw (← q) e
+
+pub ruleset walking = (walk-start, walk-more, walk-all)
 
 -- the loop over a thread's instructions
 

@@ -11,7 +11,7 @@ use Rattle.program.specs.declared.sizes.Sizes.{Sizes}
 use Rattle.program.specs.declared.instruction.Instruction.{Instruction}
 use Rattle.records.specs.Places.{instructionOf}
 use Rattle.records.specs.declared.line.Form.{Form}
-use Rattle.records.specs.declared.line.Form.the-variants.{Triple, Implication, Inclusion, Unlisted}
+use Rattle.records.specs.declared.line.Form.the-variants.{Triple, Implication, Inclusion, Pair, Unlisted}
 use Rattle.records.specs.Line.{formOf, premises, lineSize, tripleAt, nowhere, placed}
 
 pub form-is : (b : List ℕ) (x : ℕ) (r : Form) → x ≡ getD b 0 0 → r ≡ formOf x → r ≡ formOf (getD b 0 0)
@@ -52,8 +52,12 @@ module _ (z : Sizes) (l : List (List ℕ)) (b : List ℕ) (f g : Form) (r : Bool
   unfolding placed
   placed-inclusion q d = rw (← e, q) d
 
+  pub placed-pair : f ≡ Pair → r ≡ tripleAt z l b → r ≡ placed z l g b
+  unfolding placed
+  placed-pair q d = rw (← e, q) d
+
 pub placed-unlisted : (z : Sizes) (l : List (List ℕ)) (b : List ℕ) (f g : Form) → f ≡ g → f ≡ Unlisted → false ≡ placed z l g b
 unfolding placed
 placed-unlisted z l b f g e q = rw (← e, q)
 
-pub ruleset standing = (placed-triple, placed-implication, placed-inclusion, placed-unlisted)
+pub ruleset standing = (placed-triple, placed-implication, placed-inclusion, placed-pair, placed-unlisted)

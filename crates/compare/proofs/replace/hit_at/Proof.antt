@@ -6,4 +6,13 @@ use Rattle.compare.proofs.replace.hit_at.Tie as tie
 
 pub hit-at-spec : {M : Type 1} → statement M
 hit-at-spec =
-    tie.close (tie.spec (λ c. search (hits, tests)) (λ c κs. search needs) (λ c κs. search needs) (λ c. search (hits, tests)) (λ c. search (hits, tests)) (λ c. search (hits, tests)))
+    tie.close
+    (tie.spec
+    (λ c. search (hits, tests))
+    (λ c κs. search needs)
+    (λ c κs. search needs)
+    (λ c. search (hits, tests))
+    (λ c κs. search needs)
+    (λ c. search (hits, tests))
+    (λ c κs. search needs)
+    (λ c. search (hits, tests)))
