@@ -3,6 +3,8 @@
 pub mod lex;
 pub mod parse_certificate;
 pub mod parse_formula;
+pub mod parse_instruction;
+pub mod parse_proof;
 pub mod parse_source;
 pub mod print;
 pub mod report;
