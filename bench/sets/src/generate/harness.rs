@@ -8,7 +8,7 @@
 use reference::assemble::Plan;
 use reference::checker::obligations::{duties, Duty};
 use reference::formula::Assertion;
-use reference::image::{Header, Instruction, Program, Statement, Thread};
+use reference::image::{Header, Program, Statement, Thread};
 use reference::proof::{around, choice, consequence, implies, seen, triple, Lemma};
 use std::rc::Rc;
 
@@ -24,7 +24,7 @@ pub fn program(header: Header, threads: Vec<Thread>) -> Program {
 pub fn plan(program: Program) -> Plan {
     let duties = duties(&program.threads);
     let obligations = duties.iter().map(|duty| Some(trivial(&program, duty))).collect();
-    Plan { program, spare: Vec::new(), obligations }
+    Plan::new(program, obligations)
 }
 
 /// The plan in which the lemma decides one of the obligations that it can decide.
@@ -57,7 +57,8 @@ fn can_decide(lemma: &Lemma, duty: &Duty, program: &Program) -> bool {
 
 /// Rule 1 or 2: the instruction at a place keeps "true".
 fn keep(program: &Program, place: (u8, u8)) -> Lemma {
-    let assigns = matches!(program.instruction(place.0, place.1), Some(Instruction::Assign { .. }));
+    let action = program.instruction(place.0, place.1);
+    let assigns = action.is_some_and(|action| action.assignments().is_some());
     triple(if assigns { 2 } else { 1 }, place, Assertion::truth(), Assertion::truth(), &[])
 }
 

@@ -5,7 +5,7 @@ use super::vocabulary::Vocabulary;
 use reference::checker::limits;
 use reference::formula::parse::Counts;
 use reference::formula::Value;
-use reference::image::{Header, Instruction, Thread};
+use reference::image::{Access, Header, Instruction, Thread};
 use std::rc::Rc;
 
 /// A header; most are small, some use every name.
@@ -43,17 +43,17 @@ pub fn instruction(
     Some(match operation {
         0 => {
             let register = *random.pick(some(&registers)?);
-            Instruction::Assign { register, value: own.value(random, 2) }
+            Instruction::assign(register, own.value(random, 2))
         }
         1 | 2 => {
             let register = *random.pick(some(&registers)?);
-            Instruction::Load { register, word, acquiring: operation == 2 }
+            Access::Load { register, word, acquiring: operation == 2 }.into()
         }
         3 | 4 => {
             let value = own.value(random, 2);
-            Instruction::Store { word, value, releasing: operation == 4 }
+            Access::Store { word, value, releasing: operation == 4 }.into()
         }
-        5 => Instruction::Swap { word, value: own.value(random, 2) },
+        5 => Access::Swap { word, value: own.value(random, 2) }.into(),
         6 => {
             let target = random.between(0, points - 1);
             Instruction::Branch { test: own.test(random, 2), target }
@@ -62,8 +62,8 @@ pub fn instruction(
             let register = *random.pick(some(&registers)?);
             let value = operand(random, own, register);
             match operation {
-                7 => Instruction::Exchange { register, word, value },
-                _ => Instruction::FetchAdd { register, word, value },
+                7 => Access::Exchange { register, word, value }.into(),
+                _ => Access::FetchAdd { register, word, value }.into(),
             }
         }
     })

@@ -10,7 +10,7 @@ use reference::checker::obligations::duties;
 use reference::formula::encode::Encode;
 use reference::formula::parse::parse;
 use reference::formula::{Assertion, Interval, Test, Value};
-use reference::image::{Instruction, Statement, Thread};
+use reference::image::{Access, Instruction, Statement, Thread};
 use reference::proof::{Lemma, Proof};
 use std::rc::Rc;
 
@@ -99,12 +99,12 @@ fn changed_program() -> Vec<Case> {
 fn constant_action(operation: u8, register: u8, word: u8) -> Instruction {
     let value = Rc::new(Value::Constant(5));
     match operation {
-        0 => Instruction::Assign { register, value },
-        1 | 2 => Instruction::Load { register, word, acquiring: operation == 2 },
-        3 | 4 => Instruction::Store { word, value, releasing: operation == 4 },
-        5 => Instruction::Swap { word, value },
-        7 => Instruction::Exchange { register, word, value },
-        _ => Instruction::FetchAdd { register, word, value },
+        0 => Instruction::assign(register, value),
+        1 | 2 => Access::Load { register, word, acquiring: operation == 2 }.into(),
+        3 | 4 => Access::Store { word, value, releasing: operation == 4 }.into(),
+        5 => Access::Swap { word, value }.into(),
+        7 => Access::Exchange { register, word, value }.into(),
+        _ => Access::FetchAdd { register, word, value }.into(),
     }
 }
 
