@@ -4,6 +4,7 @@ use outline::text::{parse_source, show};
 use outline::{build, image};
 use reference::checker::{check, decode};
 use reference::explore::{explore, Bounds, Outcome};
+use reference::image::Meeting;
 use std::path::PathBuf;
 
 /// True in every reachable state, but beyond the rules.
@@ -85,13 +86,14 @@ fn the_same_text_gives_the_same_bytes() {
     }
 }
 
-/// Every assertion is true in the states that a few steps reach, but for the wrong variants: there a run breaks one.
+/// Every assertion and claim is true in the states that a few steps reach, but for the wrong variants: there a run breaks one.
 #[test]
 fn the_machine_agrees() {
     for (name, text) in sources() {
         let bytes = built(&name, &text).image.bytes();
         let Ok(image) = decode(&bytes) else { panic!("{name} is no image") };
-        let found = explore(&image.program, &[], Bounds { steps: 10, writes: 6, starts: 4096 });
+        let claims: Vec<Meeting> = image.claims.iter().map(|claim| claim.meeting).collect();
+        let found = explore(&image.program, &claims, Bounds { steps: 10, writes: 6, starts: 4096 });
         let breaks = matches!(found.outcome, Outcome::Breaks(_));
         assert_eq!(breaks, name.contains("-wrong-"), "{name}");
     }

@@ -1,6 +1,6 @@
 //! What the writer names is used first and chains; the search ends after a number of tries.
 
-use outline::build::{build, build_within, Built};
+use outline::build::{build, build_within, Built, Goal};
 use outline::search::prover::Prover;
 use outline::text::parse_source::parse;
 use outline::text::source::{Hint, Source};
@@ -151,7 +151,7 @@ fn the_swapped_word_may_stand_in_the_tail() {
     let built = found(text);
     // The start does not give the first point; the step is found all the same.
     assert_eq!(built.open.len(), 1);
-    assert_eq!(built.open[0].duty, Duty::Start { thread: 1 });
+    assert_eq!(built.open[0].goal, Goal::Duty(Duty::Start { thread: 1 }));
 }
 
 #[test]

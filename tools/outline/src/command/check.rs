@@ -90,7 +90,7 @@ fn judge_all(files: &[String]) -> Vec<Judged> {
 fn judge_one(file: &str) -> Judged {
     let subject = Subject::of(file)?;
     let verdict = judge(&subject.bytes);
-    Ok((verdict, words::verdict(&verdict, subject.source())))
+    Ok((verdict, words::verdict(&verdict, subject.source(), subject.claims())))
 }
 
 fn as_words(file: &str, judged: &Judged) -> String {

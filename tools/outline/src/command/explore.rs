@@ -1,4 +1,4 @@
-//! `explore`: every run up to a bound; is an assertion false in one, can an outcome happen?
+//! `explore`: every run up to a bound; is an assertion or a claim false in one, can an outcome happen?
 
 use crate::command::input::{called, Subject};
 use crate::command::options::Options;
@@ -10,7 +10,7 @@ use reference::checker::decode;
 use reference::explore::truth::violation;
 use reference::explore::{explore, find, Break, Cut, Fault, Outcome, Run};
 use reference::formula::Assertion;
-use reference::image::Program;
+use reference::image::{Meeting, Program};
 use reference::machine::{take, State, View};
 
 /// So many states are looked at for an outcome.
@@ -24,9 +24,10 @@ pub fn run(args: &[&str]) -> Done {
     let image = decode(&subject.bytes);
     let image = image.map_err(|_| format!("{}: no program to run", called(file)))?;
     let names = subject.names(&image.program);
+    let claims: Vec<Meeting> = image.claims.iter().map(|claim| claim.meeting).collect();
     let (said, status) = match &options.outcome {
         Some(outcome) => can_happen(&options, &image.program, &names, outcome)?,
-        None => assertions(&options, &image.program, &names),
+        None => outline(&options, &image.program, &claims, &names),
     };
     if options.json {
         let word = if status == Status::Accepted { "holds" } else { "false" };
@@ -47,26 +48,47 @@ pub fn run(args: &[&str]) -> Done {
     Ok(status)
 }
 
-/// Is an assertion false in a run?
-fn assertions(options: &Options, program: &Program, names: &Names) -> (Vec<String>, Status) {
+/// Is an assertion or a claim false in a run?
+fn outline(
+    options: &Options,
+    program: &Program,
+    claims: &[Meeting],
+    names: &Names,
+) -> (Vec<String>, Status) {
     let bounds = options.bounds();
-    let found = explore(program, &[], bounds);
-    match found.outcome {
+    let found = explore(program, claims, bounds);
+    let Break { start, run, fault } = match found.outcome {
         Outcome::Holds { .. } => {
             let seen = format!("holds in {} states, up to {} steps", found.states, bounds.steps);
-            (vec![seen, reach(&found.cut)], Status::Accepted)
+            let never = claims.iter().map(|meeting| format!("never: {}", met(names, meeting)));
+            let said = [seen].into_iter().chain(never).chain([reach(&found.cut)]);
+            return (said.collect(), Status::Accepted);
         }
-        Outcome::Breaks(Break { start, run, fault }) => {
-            let steps = run.len();
-            let run = Run { start, steps: run };
-            let mut said = vec![format!("FALSE: a run of {steps} steps breaks an assertion")];
-            said.extend(run::lines(program, names, &run));
-            if let Fault::Assertion { thread } = fault {
-                said.extend(false_there(program, names, &end_of(program, &run), thread));
-            }
-            (said, Status::Refused)
+        Outcome::Breaks(broken) => broken,
+    };
+    let (steps, run) = (run.len(), Run { start, steps: run });
+    let what = match fault {
+        Fault::Assertion { .. } => "an assertion",
+        Fault::Claim(_) => "a claim",
+    };
+    let mut said = vec![format!("FALSE: a run of {steps} steps breaks {what}")];
+    said.extend(run::lines(program, names, &run));
+    match fault {
+        Fault::Assertion { thread } => {
+            said.extend(false_there(program, names, &end_of(program, &run), thread))
+        }
+        Fault::Claim(meeting) => {
+            said.push(format!("claimed never to happen: {}", met(names, &meeting)))
         }
     }
+    (said, Status::Refused)
+}
+
+/// Two threads at their points.
+fn met(names: &Names, meeting: &Meeting) -> String {
+    let Meeting { thread, point, other_thread, other_point } = *meeting;
+    let (one, other) = (names.thread(thread), names.thread(other_thread));
+    format!("{one} at point {point}, {other} at point {other_point}")
 }
 
 /// Which bound kept some run from being looked at.

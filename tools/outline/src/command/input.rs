@@ -6,6 +6,7 @@ use crate::text::lex::{Mistake, Place};
 use crate::text::parse_source::parse_all;
 use crate::text::print::Names;
 use crate::text::source::Source;
+use reference::image::written::Written;
 use reference::image::Program;
 use std::io::Read;
 
@@ -72,6 +73,11 @@ impl Subject {
                 Names::plain(header.start.len(), header.owners.len(), threads)
             }
         }
+    }
+
+    /// How many claims the image has.
+    pub fn claims(&self) -> usize {
+        Written::read(&self.bytes).map_or(0, |image| image.claims.len())
     }
 
     pub fn source(&self) -> Option<&Source> {

@@ -9,6 +9,7 @@ pub mod json;
 pub mod judge;
 pub mod options;
 pub mod show;
+pub mod truth;
 pub mod words;
 
 use std::io::Write;

@@ -14,6 +14,7 @@ mod implication;
 mod interval;
 mod links;
 mod named;
+mod pair;
 mod plan;
 pub mod prover;
 mod support;

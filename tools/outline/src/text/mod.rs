@@ -2,6 +2,7 @@
 
 pub mod lex;
 pub mod parse_certificate;
+pub mod parse_claim;
 pub mod parse_formula;
 pub mod parse_instruction;
 pub mod parse_proof;

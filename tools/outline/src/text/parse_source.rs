@@ -2,13 +2,14 @@
 
 use crate::terms::*;
 use crate::text::lex::{tokens, Mistake, Place, Token};
+use crate::text::parse_claim::{claim, point_of, Unplaced};
 use crate::text::parse_formula::Cursor;
-use crate::text::parse_instruction::{instruction, resolve};
+use crate::text::parse_instruction::instruction;
 use crate::text::parse_proof::proof;
 use crate::text::print::Names;
 use crate::text::scope::Scope;
 use crate::text::sort_name;
-use crate::text::source::{Point, Source};
+use crate::text::source::{Labels, Point, Source};
 use reference::checker::limits;
 use reference::formula::atoms::{Atom, Atoms};
 use reference::formula::nesting::{Nesting, BYTES, NESTING};
@@ -24,33 +25,75 @@ pub fn parse(text: &str) -> Result<Source, Mistake> {
 pub fn parse_all(text: &str) -> Result<Source, Vec<Mistake>> {
     let list = tokens(text).map_err(|e| vec![e])?;
     let scope = Scope::scan(&list).map_err(|e| vec![e])?;
-    let mut source = Source {
-        header: scope.header(),
-        names: scope.names.clone(),
-        threads: Vec::new(),
-        points: Vec::new(),
-        code_numbers: Vec::new(),
-        hints: Vec::new(),
-        certificate: None,
-    };
+    let mut draft = Draft::of(&scope);
     let mut cursor = Cursor { tokens: &list, at: 0, scope };
-    let mut mistakes = Mistakes::default();
     while *cursor.peek() != Token::End {
         let start = cursor.at;
-        if let Err(mistake) = item(&mut cursor, &mut source, &mut mistakes) {
-            mistakes.add(mistake);
-            mistakes.missing.extend(name_of_let(&list, start));
+        if let Err(mistake) = item(&mut cursor, &mut draft) {
+            draft.mistakes.add(mistake);
+            draft.mistakes.missing.extend(name_of_let(&list, start));
             cursor.at = cursor.at.max(start + 1);
             while !at_end_of_thread(&cursor) {
                 cursor.at += 1;
             }
         }
     }
-    if mistakes.all.is_empty() {
-        source.names.shorts = cursor.scope.shorts();
-        return Ok(source);
+    draft.finish(&cursor.scope)
+}
+
+/// A source in reading.
+struct Draft {
+    source: Source,
+    /// The labels of each thread's points.
+    labels: Vec<Labels>,
+    claims: Vec<Unplaced>,
+    mistakes: Mistakes,
+}
+
+impl Draft {
+    fn of(scope: &Scope) -> Draft {
+        let source = Source {
+            header: scope.header(),
+            names: scope.names.clone(),
+            threads: Vec::new(),
+            points: Vec::new(),
+            code_numbers: Vec::new(),
+            claims: Vec::new(),
+            hints: Vec::new(),
+            certificate: None,
+        };
+        Draft { source, labels: Vec::new(), claims: Vec::new(), mistakes: Mistakes::default() }
     }
-    Err(mistakes.all)
+
+    /// The source, once all threads are there; a thread with a mistake has no points for a claim to name.
+    fn finish(mut self, scope: &Scope) -> Result<Source, Vec<Mistake>> {
+        if self.mistakes.all.is_empty() {
+            for claim in &self.claims {
+                match claim.placed(&self.labels) {
+                    Ok(claim) => self.source.claims.push(claim),
+                    Err(mistake) => self.mistakes.add(mistake),
+                }
+            }
+        }
+        if !self.mistakes.all.is_empty() {
+            return Err(self.mistakes.all);
+        }
+        self.source.names.shorts = scope.shorts();
+        Ok(self.source)
+    }
+
+    /// One more claim, if an image has room for it.
+    fn claim(&mut self, c: &mut Cursor) -> Result<(), Mistake> {
+        let place = c.line();
+        c.expect("never")?;
+        let claim = claim(c, place)?;
+        if self.claims.len() == limits::CLAIMS {
+            let text = format!("an image has at most {} claims", limits::CLAIMS);
+            return Err(Mistake { line: place, text });
+        }
+        self.claims.push(claim);
+        Ok(())
+    }
 }
 
 /// The mistakes of a text, without those that only follow from a `let` that failed.
@@ -99,7 +142,7 @@ pub fn parse_test(names: &Names, header: &Header, text: &str) -> Result<T, Mista
     Ok(test)
 }
 
-fn item(c: &mut Cursor, source: &mut Source, mistakes: &mut Mistakes) -> Result<(), Mistake> {
+fn item(c: &mut Cursor, draft: &mut Draft) -> Result<(), Mistake> {
     if c.take("range") {
         c.number()?;
         return Ok(());
@@ -121,16 +164,19 @@ fn item(c: &mut Cursor, source: &mut Source, mistakes: &mut Mistakes) -> Result<
         return short(c);
     }
     if c.take("thread") {
-        return thread(c, source, mistakes);
+        return thread(c, draft);
+    }
+    if c.sees_next("never") {
+        return draft.claim(c);
     }
     if c.take("proof") {
-        return proof(c, source);
+        return proof(c, &mut draft.source);
     }
     if c.take("certificate") {
-        source.certificate = Some(crate::text::parse_certificate::certificate(c)?);
+        draft.source.certificate = Some(crate::text::parse_certificate::certificate(c)?);
         return Ok(());
     }
-    c.wanted("`range`, `word`, `register`, `let`, `thread`, `proof` or `certificate`")
+    c.wanted("`range`, `word`, `register`, `let`, `thread`, `never`, `proof` or `certificate`")
 }
 
 /// `NAME of THREAD`, which the scope has read already.
@@ -185,29 +231,29 @@ pub fn sort_word(c: &mut Cursor) -> Option<Sort> {
 }
 
 /// A thread: points in braces with instructions between them.
-fn thread(c: &mut Cursor, source: &mut Source, mistakes: &mut Mistakes) -> Result<(), Mistake> {
+fn thread(c: &mut Cursor, draft: &mut Draft) -> Result<(), Mistake> {
     let line = c.line();
     let name = c.name()?;
     let number = c.scope.thread(&name, line)?;
     registers(c)?;
     let mut labels = Vec::new();
-    let mut points = vec![point_or_past(c, &mut labels, mistakes)?];
+    let mut points = vec![point_or_past(c, &mut labels, &mut draft.mistakes)?];
     let (mut code, mut numbers, mut jumps) = (Vec::new(), Vec::new(), Vec::new());
     while !at_end_of_thread(c) {
         let at = c.line();
         match instruction(c, number) {
-            Ok((instruction, jump)) => {
-                jumps.push(jump.map(|j| (j, at)));
-                code.push(instruction);
+            Ok(read) => {
+                jumps.push(read.jump.map(|jump| (jump, at)));
+                code.push(read.instruction);
+                numbers.push(read.numbers);
             }
             Err(mistake) => {
-                mistakes.add(mistake);
+                draft.mistakes.add(mistake);
                 to_next_point(c);
             }
         }
-        numbers.push(at_number(c)?);
         labels.truncate(points.len());
-        points.push(point_or_past(c, &mut labels, mistakes)?);
+        points.push(point_or_past(c, &mut labels, &mut draft.mistakes)?);
     }
     let (count, most) = (points.len(), usize::from(limits::POINTS));
     if count > most {
@@ -215,20 +261,21 @@ fn thread(c: &mut Cursor, source: &mut Source, mistakes: &mut Mistakes) -> Resul
         return Err(Mistake { line, text });
     }
     for (instruction, jump) in code.iter_mut().zip(jumps) {
-        if let (Instruction::Branch { target, .. }, Some((name, at))) = (instruction, jump) {
-            *target = resolve(&name, &labels, points.len(), at)?;
+        if let (Instruction::Branch { target, .. }, Some((named, at))) = (instruction, jump) {
+            *target = point_of(&named, &labels, at)?;
         }
     }
-    source.threads.push(code);
-    source.points.push(points);
-    source.code_numbers.push(numbers);
+    draft.source.threads.push(code);
+    draft.source.points.push(points);
+    draft.source.code_numbers.push(numbers);
+    draft.labels.push(labels);
     Ok(())
 }
 
 /// A point; one whose assertion cannot be read is noted and passed over, so that the thread goes on behind it.
 fn point_or_past(
     c: &mut Cursor,
-    labels: &mut Vec<Option<String>>,
+    labels: &mut Labels,
     mistakes: &mut Mistakes,
 ) -> Result<Point, Mistake> {
     let (before, line) = (labels.len(), c.line());
@@ -257,13 +304,13 @@ fn to_next_point(c: &mut Cursor) {
 
 fn at_end_of_thread(c: &Cursor) -> bool {
     *c.peek() == Token::End
-        || ["thread", "proof", "certificate", "let", "word", "register", "open", "range"]
+        || ["thread", "never", "proof", "certificate", "let", "word", "register", "open", "range"]
             .iter()
             .any(|k| c.sees_next(k))
 }
 
 /// `[LABEL :] { ASSERTION } [@ NUMBER]`
-fn point(c: &mut Cursor, labels: &mut Vec<Option<String>>) -> Result<Point, Mistake> {
+fn point(c: &mut Cursor, labels: &mut Labels) -> Result<Point, Mistake> {
     let label = match c.peek().clone() {
         Token::Name(n) => Some(n),
         _ if c.sees_next("{") => None,
@@ -304,7 +351,8 @@ pub fn braced(c: &mut Cursor) -> Result<A, Mistake> {
     Ok(a)
 }
 
-fn at_number(c: &mut Cursor) -> Result<Option<usize>, Mistake> {
+/// `@ NUMBER`, where it stands.
+pub fn at_number(c: &mut Cursor) -> Result<Option<usize>, Mistake> {
     if c.take("@") {
         return Ok(Some(c.number()?));
     }
