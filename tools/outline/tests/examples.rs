@@ -81,7 +81,7 @@ fn wrong_variants_say_where_they_fail() {
 
 #[test]
 fn the_same_text_gives_the_same_bytes() {
-    for (name, text) in sources().into_iter().filter(|(name, _)| !name.starts_with("peterson")) {
+    for (name, text) in sources() {
         assert_eq!(built(&name, &text).image, built(&name, &text).image, "{name}");
     }
 }

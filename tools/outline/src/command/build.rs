@@ -9,8 +9,8 @@ use crate::command::{json, print, words, Done, Status};
 use crate::image::to_bytes;
 use crate::search::budget::TRIES;
 use crate::text::parse_source::parse_all;
-use crate::text::report;
 use crate::text::source::Source;
+use crate::text::{counted, report};
 use reference::checker::{limits, Verdict};
 
 /// How many that are open are told with what was tried; the others are named only.
@@ -123,8 +123,7 @@ fn written(target: &str, built: &Built, bytes: usize) -> String {
     let i = &built.image;
     let claims = match i.claims.len() {
         0 => String::new(),
-        1 => "1 claim, ".into(),
-        n => format!("{n} claims, "),
+        n => format!("{}, ", counted(n, "claim")),
     };
     format!(
         "{target}: {bytes} bytes, {} formulas, {} lines, {} obligations, {claims}{} open",

@@ -5,10 +5,10 @@ use crate::command::options::Options;
 use crate::command::{json, print, Done, Status};
 use crate::text::parse_source::parse_test;
 use crate::text::print::Names;
-use crate::text::run;
+use crate::text::{counted, run};
 use reference::checker::decode;
 use reference::explore::truth::violation;
-use reference::explore::{explore, find, Break, Cut, Fault, Outcome, Run};
+use reference::explore::{explore, find, Break, Cut, Fault, Outcome, Run, Sought};
 use reference::formula::Assertion;
 use reference::image::{Meeting, Program};
 use reference::machine::{take, State, View};
@@ -17,7 +17,7 @@ use reference::machine::{take, State, View};
 const MOST_STATES: usize = 2_000_000;
 
 pub fn run(args: &[&str]) -> Done {
-    let allowed = ["--steps", "--writes", "--starts", "--outcome", "--json"];
+    let allowed = ["--steps", "--writes", "--starts", "--claims", "--outcome", "--json"];
     let options = Options::read(args, &allowed)?;
     let file = options.file()?;
     let subject = Subject::of(file)?;
@@ -27,6 +27,7 @@ pub fn run(args: &[&str]) -> Done {
     let claims: Vec<Meeting> = image.claims.iter().map(|claim| claim.meeting).collect();
     let (said, status) = match &options.outcome {
         Some(outcome) => can_happen(&options, &image.program, &names, outcome)?,
+        None if options.claims => claims_alone(&options, &image.program, &claims, &names),
         None => outline(&options, &image.program, &claims, &names),
     };
     if options.json {
@@ -66,22 +67,59 @@ fn outline(
         }
         Outcome::Breaks(broken) => broken,
     };
-    let (steps, run) = (run.len(), Run { start, steps: run });
-    let what = match fault {
-        Fault::Assertion { .. } => "an assertion",
-        Fault::Claim(_) => "a claim",
-    };
-    let mut said = vec![format!("FALSE: a run of {steps} steps breaks {what}")];
-    said.extend(run::lines(program, names, &run));
-    match fault {
+    let run = Run { start, steps: run };
+    let said = match fault {
         Fault::Assertion { thread } => {
-            said.extend(false_there(program, names, &end_of(program, &run), thread))
+            let state = end_of(program, &run);
+            broken(
+                program,
+                names,
+                &run,
+                "an assertion",
+                false_there(program, names, &state, thread),
+            )
         }
-        Fault::Claim(meeting) => {
-            said.push(format!("claimed never to happen: {}", met(names, &meeting)))
-        }
-    }
+        Fault::Claim(meeting) => broken_claim(program, names, &run, &meeting),
+    };
     (said, Status::Refused)
+}
+
+/// Is a claim false in a run, whatever the assertions say?
+fn claims_alone(
+    options: &Options,
+    program: &Program,
+    claims: &[Meeting],
+    names: &Names,
+) -> (Vec<String>, Status) {
+    let in_one = |state: &State| claims.iter().find(|meeting| state.has_meeting(meeting));
+    let sought = find(program, options.bounds(), MOST_STATES, &|state| in_one(state).is_some());
+    let Some(run) = &sought.runs[0] else {
+        let seen = format!("{} hold in {} states", counted(claims.len(), "claim"), sought.states);
+        let never = claims.iter().map(|meeting| format!("never: {}", met(names, meeting)));
+        let said = [seen].into_iter().chain(never).chain([far(&sought)]);
+        return (said.collect(), Status::Accepted);
+    };
+    let state = end_of(program, run);
+    let meeting = in_one(&state).expect("the run ends in a meeting");
+    (broken_claim(program, names, run, meeting), Status::Refused)
+}
+
+/// A run that breaks something, and what is wrong at its end.
+fn broken(
+    program: &Program,
+    names: &Names,
+    run: &Run,
+    what: &str,
+    end: Vec<String>,
+) -> Vec<String> {
+    let steps = counted(run.steps.len(), "step");
+    let first = format!("FALSE: a run of {steps} breaks {what}");
+    [first].into_iter().chain(run::lines(program, names, run)).chain(end).collect()
+}
+
+fn broken_claim(program: &Program, names: &Names, run: &Run, meeting: &Meeting) -> Vec<String> {
+    let end = format!("claimed never to happen: {}", met(names, meeting));
+    broken(program, names, run, "a claim", vec![end])
 }
 
 /// Two threads at their points.
@@ -99,6 +137,14 @@ fn reach(cut: &Cut) -> String {
         return "these are all states".into();
     }
     format!("not all states: cut by {}", cut.join(", "))
+}
+
+/// How far a search has come.
+fn far(sought: &Sought) -> String {
+    match sought.all {
+        true => "these are all states".into(),
+        false => reach(&sought.cut),
+    }
 }
 
 fn end_of(program: &Program, run: &Run) -> State {
@@ -157,10 +203,10 @@ fn can_happen(
     let sought = find(program, options.bounds(), MOST_STATES, &wanted);
     let Some(run) = &sought.runs[0] else {
         let seen = format!("never: {outcome} (in {} states)", sought.states);
-        let all = if sought.all { "these are all states".into() } else { reach(&sought.cut) };
-        return Ok((vec![seen, all], Status::Accepted));
+        return Ok((vec![seen, far(&sought)], Status::Accepted));
     };
-    let mut said = vec![format!("happens: {outcome}, after {} steps", run.steps.len())];
+    let steps = counted(run.steps.len(), "step");
+    let mut said = vec![format!("happens: {outcome}, after {steps}")];
     said.extend(run::lines(program, names, run));
     Ok((said, Status::Refused))
 }

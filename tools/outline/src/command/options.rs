@@ -10,6 +10,7 @@ pub struct Options {
     pub partial: bool,
     pub all: bool,
     pub json: bool,
+    pub claims: bool,
     pub outcome: Option<String>,
     pub steps: Option<usize>,
     pub writes: Option<usize>,
@@ -35,6 +36,7 @@ impl Options {
                 "--partial" => options.partial = true,
                 "--all" => options.all = true,
                 "--json" => options.json = true,
+                "--claims" => options.claims = true,
                 file => options.files.push(file.into()),
             }
         }

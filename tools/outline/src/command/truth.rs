@@ -1,8 +1,8 @@
 //! What runs of the machine say of obligations and claims that stay open.
 
 use crate::build::{Goal, Open};
-use crate::text::run;
 use crate::text::source::Source;
+use crate::text::{counted, run};
 use reference::checker::obligations::Duty;
 use reference::explore::{find, seek, Bounds, Sought};
 use reference::image::Meeting;
@@ -49,7 +49,8 @@ impl Looked {
         let Some(found) = &sought.runs[n] else {
             return not_false(sought, open);
         };
-        let mut text = format!("  FALSE        a run of {} steps breaks it\n", found.steps.len());
+        let steps = counted(found.steps.len(), "step");
+        let mut text = format!("  FALSE        a run of {steps} breaks it\n");
         if in_full {
             for line in run::lines(&source.program(), &source.names, found) {
                 text += &format!("    {line}\n");

@@ -1,6 +1,7 @@
 //! Verdicts in words.
 
 use crate::image::fault;
+use crate::text::counted;
 use crate::text::source::Source;
 use reference::checker::Verdict;
 
@@ -30,10 +31,6 @@ pub fn verdict(v: &Verdict, source: Option<&Source>, claims: usize) -> String {
 }
 
 fn accepted(obligations: usize, claims: usize) -> String {
-    let counted = |n: usize, what: &str| match n {
-        1 => format!("1 {what}"),
-        _ => format!("{n} {what}s"),
-    };
     let met = format!("ACCEPTED: {} met", counted(obligations, "obligation"));
     match claims {
         0 => met,

@@ -16,6 +16,14 @@ pub mod source;
 
 use reference::formula::Sort;
 
+/// A number of things, one thing without the plural's s.
+pub fn counted(number: usize, thing: &str) -> String {
+    match number {
+        1 => format!("1 {thing}"),
+        _ => format!("{number} {thing}s"),
+    }
+}
+
 /// The word for a sort in the text form and in messages.
 pub fn sort_name(sort: Sort) -> &'static str {
     match sort {
