@@ -8,6 +8,9 @@ use reference::machine::{take, State, Step};
 /// Every wrong variant breaks within these.
 const BOUNDS: Bounds = Bounds { steps: 10, writes: 6, starts: 4096 };
 
+/// All states of an outline that stays open are within these: loops come back to states that were seen.
+const ALL: Bounds = Bounds { steps: 60, ..BOUNDS };
+
 /// A shortest run that makes an assertion or a claim false, if there is one.
 pub fn breaking(source: &Source) -> Option<Break> {
     match explore(&source.program(), &source.meetings(), BOUNDS).outcome {
@@ -18,7 +21,7 @@ pub fn breaking(source: &Source) -> Option<Break> {
 
 /// Whether the bounds leave no state out and every assertion and claim is true in each.
 pub fn is_true_in_all_states(source: &Source) -> bool {
-    explore(&source.program(), &source.meetings(), BOUNDS).outcome == Outcome::Holds { all: true }
+    explore(&source.program(), &source.meetings(), ALL).outcome == Outcome::Holds { all: true }
 }
 
 /// The run step by step, and what is false at its end.
