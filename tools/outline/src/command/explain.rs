@@ -8,6 +8,7 @@ use crate::image::{self, Image};
 use crate::text::print::Names;
 use crate::text::{report, show};
 use reference::checker::obligations::duties;
+use reference::checker::rules::OF_PAIR;
 use std::collections::BTreeSet;
 use std::fmt::Write;
 
@@ -104,8 +105,10 @@ fn branch(
     let again = !told.insert(number) && !line.premises.is_empty();
     let above = if again { "   (its premises: above)" } else { "" };
     let says = show::arrow(line.rule);
-    let pad = "  ".repeat(depth);
-    let _ = writeln!(out, "{pad}line {number}, rule {}: {left} {says} {right}{above}", line.rule);
+    let half = image.program.is_pair((line.thread, line.point)) && line.rule != OF_PAIR;
+    let of = if half { " of the first half" } else { "" };
+    let (pad, rule) = ("  ".repeat(depth), line.rule);
+    let _ = writeln!(out, "{pad}line {number}, rule {rule}{of}: {left} {says} {right}{above}");
     if !again {
         for premise in &line.premises {
             branch(image, names, *premise, depth + 1, told, out);

@@ -94,7 +94,7 @@ fn claims_alone(
     let in_one = |state: &State| claims.iter().find(|meeting| state.has_meeting(meeting));
     let sought = find(program, options.bounds(), MOST_STATES, &|state| in_one(state).is_some());
     let Some(run) = &sought.runs[0] else {
-        let seen = format!("{} hold in {} states", counted(claims.len(), "claim"), sought.states);
+        let seen = format!("no claim breaks in {}", counted(sought.states, "state"));
         let never = claims.iter().map(|meeting| format!("never: {}", met(names, meeting)));
         let said = [seen].into_iter().chain(never).chain([far(&sought)]);
         return (said.collect(), Status::Accepted);
