@@ -287,6 +287,27 @@ fn only_what_is_lacking_is_asked_for() {
     assert_eq!(open[0].tried, want);
 }
 
+/// What rule 50 asks of the first half is told, and what is missing there.
+#[test]
+fn an_open_pair_is_told_by_its_first_half() {
+    let text = "word x = 0\nthread a registers r { a sees [x = 0] } x := 1 | r := 2 { r = 2 and a sees [x = 1] }";
+    let source = parse(text).expect("well formed");
+    let open = build(&source).expect("no hints").open;
+    assert_eq!(open.len(), 1);
+    let told = report::open(&source, &open[0], true);
+    let want = "open: class 2, thread 1 (a) point 0 (line 2): the step to the next point
+  instruction  x := 1 | r := 2
+  from         a sees [x = 0]
+  to           r = 2 and a sees [x = 1]
+  first half   to 2 = 2 and a sees [x = 1]
+  open case    a sees [x = 0]
+  not reached  a sees [x = 1]
+    would need a sees [x = 1]
+    or         a sees one x
+";
+    assert_eq!(told, want);
+}
+
 #[test]
 fn registers_start_at_0_or_are_open() {
     let text = "word x = 0\nopen register p of a\nregister q of a\n\

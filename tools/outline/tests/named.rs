@@ -165,3 +165,23 @@ fn formulas_of_instructions_have_their_limits() {
     let words = "formula of 50 bytes and nesting 17; 255 bytes and nesting 16 are the most";
     assert_eq!((mistake.line.line, mistake.text.as_str()), (3, words));
 }
+
+/// At a pair's point a step is about the whole pair, or by its rule about the first half.
+#[test]
+fn steps_are_named_at_pairs() {
+    let program = "word x = 0\nthread a registers r\n  { r = 0 } x := 1 | r := 1 { r = 1 }\nthread b { r < 2 }\n";
+    let with = |step: &str| parse(&format!("{program}proof\n{step}")).expect("well formed");
+    let right = [
+        "step a 0: { r = 0 } to { r = 1 }",
+        "step a 0: { r = 0 } to { r = 1 } by 50",
+        "step a 0: { r = 0 } to { r = 0 } by 1",
+        "step a 0: { r = 0 } to { 1 = 1 } by 16 through { r = 0 } to { r = 0 }",
+    ];
+    for step in right {
+        let built = build(&with(step)).unwrap_or_else(|e| panic!("{step}: {e}"));
+        assert_eq!(check(&built.image.bytes()).code, 0, "{step}");
+    }
+    for step in ["step a 0: { r = 0 } to { r = 0 }", "step a 0: { r = 0 } to { r = 1 } by 1"] {
+        assert!(build(&with(step)).is_err(), "{step}");
+    }
+}
