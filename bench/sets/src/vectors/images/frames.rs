@@ -2,7 +2,7 @@
 
 use super::{Case, Draft, SMALL};
 use crate::vectors::formulas::long_formula;
-use reference::checker::frames::{FORMULA, LINE, THREAD};
+use reference::checker::frames::{CLAIM, FORMULA, LINE, OBLIGATIONS, THREAD};
 use reference::checker::limits;
 use reference::image::written::Record;
 
@@ -40,7 +40,7 @@ fn padded(length: usize) -> Vec<u8> {
     [&SMALL[..21], &full.repeat(records), &last.concat(), &SMALL[21..]].concat()
 }
 
-/// 3 inside a record, 4 between records: the small image cut at every length,
+/// 3 inside a record, 4 between records unless only claims are missing: the small image cut at every length,
 /// the tour image around each border of records.
 fn cut() -> Vec<Case> {
     let mut cases: Vec<Case> = (1..SMALL.len())
@@ -105,7 +105,7 @@ fn kinds() -> Vec<Case> {
     for index in 0..draft.records.len() {
         let number = index + 1;
         let high_byte = draft.records[index].kind + 256;
-        for kind in [0, 1, 2, 3, 4, 5, 6, 7, high_byte] {
+        for kind in [0, 1, 2, 3, 4, 5, 6, 7, 8, 9, high_byte] {
             let mut changed = draft.clone();
             changed.records[index].kind = kind;
             if kind != draft.records[index].kind {
@@ -127,10 +127,13 @@ fn kinds() -> Vec<Case> {
             );
         }
     }
-    for kind in 0..=7 {
-        let mut behind = draft.clone();
-        behind.records.push(Record::new(kind, []));
-        cases.push(behind.case(format!("4: a record of kind {kind} behind the obligations")));
+    for kind in [0, 1, 2, 3, 4, 5, 6, 7, 9, 10] {
+        for (place, claims) in [("obligations", 0), ("claims", draft.count(CLAIM))] {
+            let mut behind = draft.clone();
+            behind.records.truncate(draft.index(OBLIGATIONS, 0) + 1 + claims);
+            behind.records.push(Record::new(kind, []));
+            cases.push(behind.case(format!("4: a record of kind {kind} behind the {place}")));
+        }
     }
     cases
 }
