@@ -1,6 +1,6 @@
-//! Instances of rules 1 to 16 and 47 to 49.
+//! Instances of rules 1 to 16 and 47 to 50.
 
-use super::Setting;
+use super::{pairs, Setting};
 use crate::generate::vocabulary::Vocabulary;
 use reference::checker::rules::before_notes;
 use reference::formula::replace::{Replace, Replacement};
@@ -38,12 +38,13 @@ pub fn instance(s: &mut Setting, rule: u8) -> Lemma {
             let (p, q) = (any(s), any(s));
             choice(&p, &q)
         }
-        _ => consequence(s),
+        16 => consequence(s),
+        _ => pairs::whole(s),
     }
 }
 
-/// Any instance without premises that fits the instruction.
-fn any(s: &mut Setting) -> Lemma {
+/// Any instance without premises that fits the instruction, a pair's for its first half.
+pub(super) fn any(s: &mut Setting) -> Lemma {
     let rules: &[u8] = match s.action.access() {
         None => &[2],
         Some(Access::Load { .. }) => &[1, 3],
@@ -68,7 +69,7 @@ impl Setting<'_> {
     }
 
     /// The names that rule 1 lets stand.
-    fn untouched(&self) -> Vocabulary {
+    pub(super) fn untouched(&self) -> Vocabulary {
         let names = self.vocabulary().without_register(self.register());
         match self.action.access() {
             Some(Access::Load { .. }) => names,

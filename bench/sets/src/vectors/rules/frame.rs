@@ -11,7 +11,7 @@ use reference::checker::check;
 use reference::checker::rules::Form;
 use reference::formula::parse::Counts;
 use reference::formula::Value;
-use reference::image::{Access, Header, Instruction, Statement, Thread};
+use reference::image::{Access, Header, Instruction, Note, Statement, Thread};
 use reference::proof::Lemma;
 use std::rc::Rc;
 
@@ -28,6 +28,11 @@ pub fn value() -> Rc<Value> {
     Rc::new(Value::sum(Value::Register(2), Value::Constant(1)))
 }
 
+/// The second half of the instruction under test: r2 := r1.
+pub fn note() -> Note {
+    Note::new(2, Value::Register(1))
+}
+
 /// The instruction under test, by operation: register 1, word 1, value r2 + 1.
 pub fn action(operation: u8) -> Instruction {
     let value = value();
@@ -37,7 +42,13 @@ pub fn action(operation: u8) -> Instruction {
         3 | 4 => Access::Store { word: 1, value, releasing: operation == 4 }.into(),
         5 => Access::Swap { word: 1, value }.into(),
         7 => Access::Exchange { register: 1, word: 1, value }.into(),
-        _ => Access::FetchAdd { register: 1, word: 1, value }.into(),
+        8 => Access::FetchAdd { register: 1, word: 1, value }.into(),
+        9 | 10 => {
+            let store = Access::Store { word: 1, value, releasing: operation == 10 };
+            Instruction::pair(store, note())
+        }
+        11 => Instruction::pair(Access::Swap { word: 1, value }, note()),
+        _ => Instruction::trade(Note::new(1, value), note()),
     }
 }
 
