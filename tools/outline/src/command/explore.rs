@@ -1,9 +1,9 @@
 //! `explore`: every run up to a bound; is an assertion or a claim false in one, can an outcome happen?
 
-use crate::command::input::{called, Subject};
+use crate::command::input::{called, mistakes, read, Input};
 use crate::command::options::Options;
 use crate::command::{json, print, Done, Status};
-use crate::text::parse_source::parse_test;
+use crate::text::parse_source::{parse_all, parse_test};
 use crate::text::print::Names;
 use crate::text::{counted, run};
 use reference::checker::decode;
@@ -21,14 +21,10 @@ pub fn run(args: &[&str]) -> Done {
     let options = Options::read(args, &allowed)?;
     let file = options.file()?;
     let subject = Subject::of(file)?;
-    let image = decode(&subject.bytes);
-    let image = image.map_err(|_| format!("{}: no program to run", called(file)))?;
-    let names = subject.names(&image.program);
-    let claims: Vec<Meeting> = image.claims.iter().map(|claim| claim.meeting).collect();
     let (said, status) = match &options.outcome {
-        Some(outcome) => can_happen(&options, &image.program, &names, outcome)?,
-        None if options.claims => claims_alone(&options, &image.program, &claims, &names),
-        None => outline(&options, &image.program, &claims, &names),
+        Some(outcome) => can_happen(&options, &subject, outcome)?,
+        None if options.claims => claims_alone(&options, &subject),
+        None => outline(&options, &subject),
     };
     if options.json {
         let word = if status == Status::Accepted { "holds" } else { "false" };
@@ -49,20 +45,62 @@ pub fn run(args: &[&str]) -> Done {
     Ok(status)
 }
 
+/// What is run: a program with its outline and claims. No certificate is needed for it.
+struct Subject {
+    program: Program,
+    claims: Vec<Meeting>,
+    names: Names,
+}
+
+impl Subject {
+    fn of(file: &str) -> Result<Subject, String> {
+        match read(file)? {
+            Input::Text(text) => {
+                let source = parse_all(&text).map_err(|all| mistakes(file, &text, &all))?;
+                let (program, claims) = (source.program(), source.meetings());
+                Ok(Subject { program, claims, names: source.names })
+            }
+            Input::Image(bytes) => {
+                let image = decode(&bytes);
+                let image = image.map_err(|_| format!("{}: no program to run", called(file)))?;
+                let claims = image.claims.iter().map(|claim| claim.meeting).collect();
+                let names = Names::of(&image.program);
+                Ok(Subject { program: image.program, claims, names })
+            }
+        }
+    }
+
+    fn run(&self, run: &Run) -> Vec<String> {
+        run::lines(&self.program, &self.names, run)
+    }
+
+    fn end_of(&self, run: &Run) -> State {
+        run.steps.iter().fold(run.start.clone(), |state, step| {
+            take(&self.program.threads, &state, *step).expect("a step of the run")
+        })
+    }
+
+    /// Two threads at their points.
+    fn met(&self, meeting: &Meeting) -> String {
+        let Meeting { thread, point, other_thread, other_point } = *meeting;
+        let (one, other) = (self.names.thread(thread), self.names.thread(other_thread));
+        format!("{one} at point {point}, {other} at point {other_point}")
+    }
+
+    /// The claims as they hold.
+    fn never(&self) -> impl Iterator<Item = String> + '_ {
+        self.claims.iter().map(|meeting| format!("never: {}", self.met(meeting)))
+    }
+}
+
 /// Is an assertion or a claim false in a run?
-fn outline(
-    options: &Options,
-    program: &Program,
-    claims: &[Meeting],
-    names: &Names,
-) -> (Vec<String>, Status) {
+fn outline(options: &Options, subject: &Subject) -> (Vec<String>, Status) {
     let bounds = options.bounds();
-    let found = explore(program, claims, bounds);
+    let found = explore(&subject.program, &subject.claims, bounds);
     let Break { start, run, fault } = match found.outcome {
         Outcome::Holds { .. } => {
             let seen = format!("holds in {} states, up to {} steps", found.states, bounds.steps);
-            let never = claims.iter().map(|meeting| format!("never: {}", met(names, meeting)));
-            let said = [seen].into_iter().chain(never).chain([reach(&found.cut)]);
+            let said = [seen].into_iter().chain(subject.never()).chain([reach(&found.cut)]);
             return (said.collect(), Status::Accepted);
         }
         Outcome::Breaks(broken) => broken,
@@ -70,63 +108,38 @@ fn outline(
     let run = Run { start, steps: run };
     let said = match fault {
         Fault::Assertion { thread } => {
-            let state = end_of(program, &run);
-            broken(
-                program,
-                names,
-                &run,
-                "an assertion",
-                false_there(program, names, &state, thread),
-            )
+            let end = false_there(subject, &subject.end_of(&run), thread);
+            broken(subject, &run, "an assertion", end)
         }
-        Fault::Claim(meeting) => broken_claim(program, names, &run, &meeting),
+        Fault::Claim(meeting) => broken_claim(subject, &run, &meeting),
     };
     (said, Status::Refused)
 }
 
 /// Is a claim false in a run, whatever the assertions say?
-fn claims_alone(
-    options: &Options,
-    program: &Program,
-    claims: &[Meeting],
-    names: &Names,
-) -> (Vec<String>, Status) {
-    let in_one = |state: &State| claims.iter().find(|meeting| state.has_meeting(meeting));
-    let sought = find(program, options.bounds(), MOST_STATES, &|state| in_one(state).is_some());
+fn claims_alone(options: &Options, subject: &Subject) -> (Vec<String>, Status) {
+    let in_one = |state: &State| subject.claims.iter().find(|meeting| state.has_meeting(meeting));
+    let wanted = |state: &State| in_one(state).is_some();
+    let sought = find(&subject.program, options.bounds(), MOST_STATES, &wanted);
     let Some(run) = &sought.runs[0] else {
         let seen = format!("no claim breaks in {}", counted(sought.states, "state"));
-        let never = claims.iter().map(|meeting| format!("never: {}", met(names, meeting)));
-        let said = [seen].into_iter().chain(never).chain([far(&sought)]);
+        let said = [seen].into_iter().chain(subject.never()).chain([far(&sought)]);
         return (said.collect(), Status::Accepted);
     };
-    let state = end_of(program, run);
+    let state = subject.end_of(run);
     let meeting = in_one(&state).expect("the run ends in a meeting");
-    (broken_claim(program, names, run, meeting), Status::Refused)
+    (broken_claim(subject, run, meeting), Status::Refused)
 }
 
 /// A run that breaks something, and what is wrong at its end.
-fn broken(
-    program: &Program,
-    names: &Names,
-    run: &Run,
-    what: &str,
-    end: Vec<String>,
-) -> Vec<String> {
-    let steps = counted(run.steps.len(), "step");
-    let first = format!("FALSE: a run of {steps} breaks {what}");
-    [first].into_iter().chain(run::lines(program, names, run)).chain(end).collect()
+fn broken(subject: &Subject, run: &Run, what: &str, end: Vec<String>) -> Vec<String> {
+    let first = format!("FALSE: a run of {} breaks {what}", counted(run.steps.len(), "step"));
+    [first].into_iter().chain(subject.run(run)).chain(end).collect()
 }
 
-fn broken_claim(program: &Program, names: &Names, run: &Run, meeting: &Meeting) -> Vec<String> {
-    let end = format!("claimed never to happen: {}", met(names, meeting));
-    broken(program, names, run, "a claim", vec![end])
-}
-
-/// Two threads at their points.
-fn met(names: &Names, meeting: &Meeting) -> String {
-    let Meeting { thread, point, other_thread, other_point } = *meeting;
-    let (one, other) = (names.thread(thread), names.thread(other_thread));
-    format!("{one} at point {point}, {other} at point {other_point}")
+fn broken_claim(subject: &Subject, run: &Run, meeting: &Meeting) -> Vec<String> {
+    let end = format!("claimed never to happen: {}", subject.met(meeting));
+    broken(subject, run, "a claim", vec![end])
 }
 
 /// Which bound kept some run from being looked at.
@@ -147,16 +160,11 @@ fn far(sought: &Sought) -> String {
     }
 }
 
-fn end_of(program: &Program, run: &Run) -> State {
-    run.steps.iter().fold(run.start.clone(), |state, step| {
-        take(&program.threads, &state, *step).expect("a step of the run")
-    })
-}
-
 /// The assertion that is false, and for what a thread should see the prospect that violates it.
-fn false_there(program: &Program, names: &Names, state: &State, thread: u8) -> Vec<String> {
+fn false_there(subject: &Subject, state: &State, thread: u8) -> Vec<String> {
+    let names = &subject.names;
     let point = state.points[usize::from(thread) - 1];
-    let assertion = program.assertion(thread, point);
+    let assertion = subject.program.assertion(thread, point);
     let name = names.thread(thread);
     let mut said = vec![format!("false: {name} at point {point}: {}", names.assertion(assertion))];
     violated(names, state, assertion, &mut said);
@@ -190,11 +198,11 @@ fn view(names: &Names, state: &State, view: &View) -> String {
 /// Can the test of registers be true when all threads are at their last points?
 fn can_happen(
     options: &Options,
-    program: &Program,
-    names: &Names,
+    subject: &Subject,
     outcome: &str,
 ) -> Result<(Vec<String>, Status), String> {
-    let test = parse_test(names, &program.header, outcome)
+    let program = &subject.program;
+    let test = parse_test(&subject.names, &program.header, outcome)
         .map_err(|e| format!("--outcome: {}", e.text))?;
     let ended = |state: &State| {
         state.points.iter().zip(&program.threads).all(|(p, code)| usize::from(*p) == code.len())
@@ -207,6 +215,6 @@ fn can_happen(
     };
     let steps = counted(run.steps.len(), "step");
     let mut said = vec![format!("happens: {outcome}, after {steps}")];
-    said.extend(run::lines(program, names, run));
+    said.extend(subject.run(run));
     Ok((said, Status::Refused))
 }

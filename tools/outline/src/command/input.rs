@@ -67,11 +67,7 @@ impl Subject {
     pub fn names(&self, program: &Program) -> Names {
         match &self.outline {
             Some((source, _)) => source.names.clone(),
-            None => {
-                let header = &program.header;
-                let threads = program.threads.len();
-                Names::plain(header.start.len(), header.owners.len(), threads)
-            }
+            None => Names::of(program),
         }
     }
 

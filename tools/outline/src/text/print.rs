@@ -1,7 +1,7 @@
 //! Formulas as text, in the syntax that `parse` reads back to the same formula.
 
 use reference::formula::{Assertion, Formula, Interval, Test, Value};
-use reference::image::{Access, Instruction};
+use reference::image::{Access, Instruction, Program};
 
 /// Names of words, registers and threads; number 1 is first.
 #[derive(Debug, Clone, Default)]
@@ -40,13 +40,12 @@ impl Bound {
 
 impl Names {
     /// The names that `show` gives, since an image has none: w1, r1, t1.
-    pub fn plain(words: usize, registers: usize, threads: usize) -> Names {
+    pub fn of(program: &Program) -> Names {
         let list = |c: char, n: usize| (1..=n).map(|i| format!("{c}{i}")).collect();
-        let registers = list('r', registers);
         Names {
-            words: list('w', words),
-            registers,
-            threads: list('t', threads),
+            words: list('w', program.header.start.len()),
+            registers: list('r', program.header.owners.len()),
+            threads: list('t', program.threads.len()),
             shorts: Vec::new(),
         }
     }

@@ -11,8 +11,7 @@ use std::fmt::Write;
 /// The text of an image. Every formula keeps its number, every line its place.
 pub fn show(image: &Image) -> String {
     let header = &image.program.header;
-    let threads = image.program.threads.len();
-    let names = Names::plain(header.start.len(), header.owners.len(), threads);
+    let names = Names::of(&image.program);
     let mut out = format!("range {}\n", header.counts.range);
     for (name, start) in names.words.iter().zip(&header.start) {
         let _ = writeln!(out, "word {name} = {start}");
