@@ -59,47 +59,45 @@ fn mistakes_have_lines_and_words() {
     }
 }
 
+/// An instruction of thread a, the column of its mistake and the whole message.
+const CAUSES: &[(&str, usize, &str)] = &[
+    ("q := 1", 2, "`q` is not declared"),
+    ("r <- swap x := 1", 7, "swap drops the old value; `exchange` hands it to the register"),
+    ("x :=acq 1", 6, "`acq` belongs to a load, `<-acq`; a store may be `:=rel`"),
+    ("r <-rel x", 6, "`rel` belongs to a store, `:=rel`; a load may be `<-acq`"),
+    ("r <- y", 7, "a word is wanted, but `y` is not declared"),
+    ("x := 9", 7, "9 is no value: values are 0 to 7"),
+    ("x := 1 | y := 2", 11, "`y` is not declared"),
+    ("x := 1 | x := 2", 11, "a note sets a register, and `x` is a word"),
+    ("x := 1 | r <- x", 13, "`:=` (a note is an assignment) is wanted, found `<-`"),
+    ("x := 1 | swap x := 2", 11, "an assignment to a register as the note is wanted, found `swap`"),
+    (
+        "x := 1 | if r = 1 goto 0",
+        11,
+        "an assignment to a register as the note is wanted, found `if`",
+    ),
+    ("x := 1 | s := 2", 11, "register `s` belongs to another thread"),
+    ("x := 1 | r := s", 16, "register `s` belongs to another thread"),
+    ("x := 1 | r := x", 16, "words, unsync and cov may not stand in an instruction's formula"),
+    ("x := 1 | r := 1 | p := 2", 18, "a step has one note"),
+    ("x := 1, r := 2", 8, "a note stands behind `|`, as in `x := 1 | r := 0`"),
+    ("r <- x | p := 1", 9, "only a store or a swap takes a note"),
+    ("r <- exchange x := 1 | p := 1", 23, "only a store or a swap takes a note"),
+    ("r := 1 | p := 2", 9, "two registers are set in one step by `r, q := 1, 2`"),
+    ("r, r := 1, 2", 5, "register `r` is set twice in one step"),
+    ("r, s := 1, 2", 5, "register `s` belongs to another thread"),
+    ("r, p := 1 | p := 2", 12, "`,` is wanted, found `|`"),
+    (
+        "r, x := 1, 2",
+        5,
+        "only registers are set together, and `x` is a word; a store has its note behind `|`",
+    ),
+];
+
 /// The likely cause comes first, and not what the reader of tokens would have liked to see.
 #[test]
 fn the_likely_cause_is_told() {
-    let cases = [
-        ("q := 1", 2, "`q` is not declared"),
-        ("r <- swap x := 1", 7, "swap drops the old value; `exchange` hands it to the register"),
-        ("x :=acq 1", 6, "`acq` belongs to a load, `<-acq`; a store may be `:=rel`"),
-        ("r <-rel x", 6, "`rel` belongs to a store, `:=rel`; a load may be `<-acq`"),
-        ("r <- y", 7, "a word is wanted, but `y` is not declared"),
-        ("x := 9", 7, "9 is no value: values are 0 to 7"),
-        ("x := 1 | y := 2", 11, "`y` is not declared"),
-        ("x := 1 | x := 2", 11, "a note sets a register, and `x` is a word"),
-        ("x := 1 | r <- x", 13, "`:=` (a note is an assignment) is wanted, found `<-`"),
-        (
-            "x := 1 | swap x := 2",
-            11,
-            "an assignment to a register as the note is wanted, found `swap`",
-        ),
-        (
-            "x := 1 | if r = 1 goto 0",
-            11,
-            "an assignment to a register as the note is wanted, found `if`",
-        ),
-        ("x := 1 | s := 2", 11, "register `s` belongs to another thread"),
-        ("x := 1 | r := s", 16, "register `s` belongs to another thread"),
-        ("x := 1 | r := x", 16, "words, unsync and cov may not stand in an instruction's formula"),
-        ("x := 1 | r := 1 | p := 2", 18, "a step has one note"),
-        ("x := 1, r := 2", 8, "a note stands behind `|`, as in `x := 1 | r := 0`"),
-        ("r <- x | p := 1", 9, "only a store or a swap takes a note"),
-        ("r <- exchange x := 1 | p := 1", 23, "only a store or a swap takes a note"),
-        ("r := 1 | p := 2", 9, "two registers are set in one step by `r, q := 1, 2`"),
-        ("r, r := 1, 2", 5, "register `r` is set twice in one step"),
-        ("r, s := 1, 2", 5, "register `s` belongs to another thread"),
-        ("r, p := 1 | p := 2", 12, "`,` is wanted, found `|`"),
-        (
-            "r, x := 1, 2",
-            5,
-            "only registers are set together, and `x` is a word; a store has its note behind `|`",
-        ),
-    ];
-    for (instruction, column, words) in cases {
+    for &(instruction, column, words) in CAUSES {
         let text =
             format!("word x = 0\nthread a registers r, p {{ true }}\n {instruction}\n{{ true }}\nthread b registers s {{ true }}");
         let mistake = parse(&text).expect_err(&text);
