@@ -24,6 +24,22 @@ impl Goal {
         duties.chain(source.meetings().into_iter().map(Goal::Claim)).collect()
     }
 
+    /// Whether a point of a thread is one that it speaks of: where something is asserted, or where a thread acts.
+    pub fn is_at(&self, place: (u8, u8)) -> bool {
+        match *self {
+            Goal::Duty(Duty::Start { thread }) => place == (thread, 0),
+            Goal::Duty(Duty::Next { thread, point } | Duty::Taken { thread, point }) => {
+                place == (thread, point)
+            }
+            Goal::Duty(Duty::Kept { thread, point, actor, action }) => {
+                place == (thread, point) || place == (actor, action)
+            }
+            Goal::Claim(Meeting { thread, point, other_thread, other_point }) => {
+                place == (thread, point) || place == (other_thread, other_point)
+            }
+        }
+    }
+
     /// What the line must say.
     pub fn wanted(&self, program: &Program) -> Statement {
         match self {

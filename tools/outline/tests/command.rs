@@ -161,6 +161,27 @@ fn all_open_obligations_are_told_if_asked_for() {
 }
 
 #[test]
+fn what_is_open_at_a_point_is_told_if_asked_for() {
+    let wrong = example("peterson-data-wrong-2");
+    let told = |at: &str| run(&["build", &wrong, "-o", "-", "--at", at]);
+    let (status, _, err) = told("ann:inside");
+    assert_eq!(status, 1);
+    let full: Vec<&str> = err.lines().filter(|line| line.starts_with("  instruction ")).collect();
+    assert!(full.is_empty(), "{err}");
+    let (_, _, err) = told("ann:look");
+    let lines: Vec<&str> = err.lines().collect();
+    let at = lines.iter().position(|line| line.starts_with("  instruction ")).expect("one in full");
+    assert!(
+        lines[..at].iter().any(|line| line.contains("class 4, thread 1 (ann) point 2 ")),
+        "{err}"
+    );
+    assert_eq!(err, told("ann:2").2);
+    let (status, _, err) = told("ann:17");
+    let want = "`--at` wants THREAD:POINT of this outline, found `ann:17`\n";
+    assert_eq!((status, err.as_str()), (2, want));
+}
+
+#[test]
 fn check_says_one_line_of_words_and_the_fields() {
     let folder = Folder::new("check");
     let image = folder.file("mp.image");

@@ -1,6 +1,6 @@
 //! `build`: an outline to an image, with the checker's own verdict on what was made.
 
-use crate::build::{build_past_failures, Built, Open};
+use crate::build::{build_past_failures, Built, Goal, Open};
 use crate::command::input::{called, mistake, mistakes, read, Input};
 use crate::command::judge::{judge, JUDGE};
 use crate::command::options::Options;
@@ -13,11 +13,36 @@ use crate::text::source::Source;
 use crate::text::{counted, report};
 use reference::checker::{limits, Verdict};
 
-/// How many that are open are told with what was tried; the others are named only.
-const TOLD_IN_FULL: usize = 3;
+/// Which of those that are open are told with what was tried; the others are named only.
+enum Told {
+    First(usize),
+    At(u8, u8),
+    All,
+}
+
+impl Told {
+    fn of(options: &Options, source: &Source) -> Result<Told, String> {
+        let Some(at) = &options.at else {
+            return Ok(if options.all { Told::All } else { Told::First(3) });
+        };
+        let place = at.split_once(':').and_then(|(thread, point)| source.place(thread, point));
+        let (thread, point) =
+            place.ok_or(format!("`--at` wants THREAD:POINT of this outline, found `{at}`"))?;
+        Ok(Told::At(thread, point))
+    }
+
+    /// Whether the one with this number among all that is open is told in full.
+    fn in_full(&self, n: usize, goal: &Goal) -> bool {
+        match *self {
+            Told::First(most) => n < most,
+            Told::At(thread, point) => goal.is_at((thread, point)),
+            Told::All => true,
+        }
+    }
+}
 
 pub fn run(args: &[&str]) -> Done {
-    let options = Options::read(args, &["-o", "--partial", "--all", "--json"])?;
+    let options = Options::read(args, &["-o", "--partial", "--all", "--at", "--json"])?;
     let file = options.file()?;
     let Some(target) = &options.target else {
         return Err("`-o FILE` is wanted; see outline --help".into());
@@ -26,9 +51,10 @@ pub fn run(args: &[&str]) -> Done {
         return Err(format!("{}: this is an image, not an outline", called(file)));
     };
     let source = parse_all(&text).map_err(|all| mistakes(file, &text, &all))?;
+    let told = Told::of(&options, &source)?;
     let built = build_past_failures(&source, TRIES).map_err(|e| mistake(file, &text, &e))?;
     let mut said: Vec<String> = built.failed.iter().map(|e| mistake(file, &text, e)).collect();
-    said.extend(open_ones(&source, &built, options.all));
+    said.extend(open_ones(&source, &built, &told));
     let stays = !built.open.is_empty() || !built.failed.is_empty();
     if stays && !options.partial {
         said.push(nothing_written(called(file), &built));
@@ -135,18 +161,18 @@ fn written(target: &str, built: &Built, bytes: usize) -> String {
 }
 
 /// What stays open, each with what the machine says of it.
-fn open_ones(source: &Source, built: &Built, all: bool) -> Vec<String> {
+fn open_ones(source: &Source, built: &Built, told: &Told) -> Vec<String> {
     if built.open.is_empty() {
         return Vec::new();
     }
     let looked = Looked::at(source, &built.open);
-    let told = |(n, open): (usize, &Open)| {
-        let in_full = all || n < TOLD_IN_FULL;
+    let worded = |(n, open): (usize, &Open)| {
+        let in_full = told.in_full(n, &open.goal);
         let text = report::open(source, open, in_full);
         let (place, rest) = text.split_once('\n').expect("a line is told");
         // Whether it is false comes first: then nothing else matters.
         let text = format!("{place}\n{}{rest}", looked.told(source, open, n, in_full));
         text.trim_end().to_string()
     };
-    built.open.iter().enumerate().map(told).collect()
+    built.open.iter().enumerate().map(worded).collect()
 }

@@ -11,6 +11,7 @@ pub struct Options {
     pub all: bool,
     pub json: bool,
     pub claims: bool,
+    pub at: Option<String>,
     pub outcome: Option<String>,
     pub steps: Option<usize>,
     pub writes: Option<usize>,
@@ -29,6 +30,7 @@ impl Options {
             let mut value = || rest.next().copied().ok_or(format!("`{word}` wants a value"));
             match word {
                 "-o" => options.target = Some(value()?.into()),
+                "--at" => options.at = Some(value()?.into()),
                 "--outcome" => options.outcome = Some(value()?.into()),
                 "--steps" => options.steps = Some(number(word, value()?, 10_000)?),
                 "--writes" => options.writes = Some(number(word, value()?, 200)?),

@@ -44,8 +44,6 @@ pub fn parse_all(text: &str) -> Result<Source, Vec<Mistake>> {
 /// A source in reading.
 struct Draft {
     source: Source,
-    /// The labels of each thread's points.
-    labels: Vec<Labels>,
     claims: Vec<Unplaced>,
     mistakes: Mistakes,
 }
@@ -57,19 +55,20 @@ impl Draft {
             names: scope.names.clone(),
             threads: Vec::new(),
             points: Vec::new(),
+            labels: Vec::new(),
             code_numbers: Vec::new(),
             claims: Vec::new(),
             hints: Vec::new(),
             certificate: None,
         };
-        Draft { source, labels: Vec::new(), claims: Vec::new(), mistakes: Mistakes::default() }
+        Draft { source, claims: Vec::new(), mistakes: Mistakes::default() }
     }
 
     /// The source, once all threads are there; a thread with a mistake has no points for a claim to name.
     fn finish(mut self, scope: &Scope) -> Result<Source, Vec<Mistake>> {
         if self.mistakes.all.is_empty() {
             for claim in &self.claims {
-                match claim.placed(&self.labels) {
+                match claim.placed(&self.source.labels) {
                     Ok(claim) => self.source.claims.push(claim),
                     Err(mistake) => self.mistakes.add(mistake),
                 }
@@ -268,7 +267,7 @@ fn thread(c: &mut Cursor, draft: &mut Draft) -> Result<(), Mistake> {
     draft.source.threads.push(code);
     draft.source.points.push(points);
     draft.source.code_numbers.push(numbers);
-    draft.labels.push(labels);
+    draft.source.labels.push(labels);
     Ok(())
 }
 

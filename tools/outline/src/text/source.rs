@@ -58,6 +58,8 @@ pub struct Source {
     pub names: Names,
     pub threads: Vec<Thread>,
     pub points: Vec<Vec<Point>>,
+    /// The labels of each thread's points.
+    pub labels: Vec<Labels>,
     /// The numbers that `@` asks for, by thread, instruction and its formulas.
     pub code_numbers: Vec<Vec<Vec<Option<usize>>>>,
     pub claims: Vec<Claim>,
@@ -66,6 +68,15 @@ pub struct Source {
 }
 
 impl Source {
+    /// The thread and the point by their names, the point perhaps by its number.
+    pub fn place(&self, thread: &str, point: &str) -> Option<(u8, u8)> {
+        let index = self.names.threads.iter().position(|name| name == thread)?;
+        let labels = &self.labels[index];
+        let labelled = labels.iter().position(|label| label.as_deref() == Some(point));
+        let found = labelled.or_else(|| point.parse().ok())?;
+        (found < labels.len()).then_some((index as u8 + 1, found as u8))
+    }
+
     /// What is claimed never to happen.
     pub fn meetings(&self) -> Vec<Meeting> {
         self.claims.iter().map(|claim| claim.meeting).collect()
