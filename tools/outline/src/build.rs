@@ -67,6 +67,8 @@ pub struct Built {
     pub open: Vec<Open>,
     /// Named steps that were not found.
     pub failed: Vec<Mistake>,
+    /// How many obligations and claims were not tried, since the search was stopped.
+    pub untried: usize,
     /// The tries that the search has made, and the most for one obligation or named step.
     pub tries: u64,
     pub most_tries: u64,
@@ -95,20 +97,35 @@ pub fn build_within(source: &Source, tries: u64) -> Result<Built, Mistake> {
 
 /// As `build_within`, but goes on past a named step that is not found.
 pub fn build_past_failures(source: &Source, tries: u64) -> Result<Built, Mistake> {
+    build_watched(source, tries, &|_, _| true)
+}
+
+/// Is told before each obligation and claim how many are done, and of how many; says whether the search goes on.
+pub type Watch<'a> = &'a dyn Fn(usize, usize) -> bool;
+
+/// As `build_past_failures`, while somebody watches.
+pub fn build_watched(source: &Source, tries: u64, watch: Watch) -> Result<Built, Mistake> {
     match &source.certificate {
         Some(certificate) => crate::explicit::build(source, certificate),
-        None => Ok(search(source, tries)),
+        None => Ok(search(source, tries, watch)),
     }
 }
 
-fn search(source: &Source, tries: u64) -> Built {
+fn search(source: &Source, tries: u64, watch: Watch) -> Built {
     let program = source.program();
     let mut prover = Prover::new(&program, source.names.clone());
     prover.budget = Budget::of(tries);
-    let taken = source.hints.iter().map(|hint| take_hint(&mut prover, hint));
+    let goals = Goal::all(source);
+    let hints = source.hints.iter().take_while(|_| watch(0, goals.len()));
+    let taken = hints.map(|hint| take_hint(&mut prover, hint));
     let failed: Vec<Mistake> = taken.filter_map(Result::err).collect();
-    let (mut found, mut open) = (Vec::new(), Vec::new());
-    for goal in Goal::all(source) {
+    let (mut found, mut open, mut untried) = (Vec::new(), Vec::new(), 0);
+    for (done, &goal) in goals.iter().enumerate() {
+        if !watch(done, goals.len()) {
+            untried += 1;
+            found.push((goal, None));
+            continue;
+        }
         prover.tried.clear();
         prover.budget.renew();
         let wanted = goal.wanted(&program);
@@ -119,7 +136,7 @@ fn search(source: &Source, tries: u64) -> Built {
         found.push((goal, line));
     }
     let (tries, most_tries) = prover.budget.made();
-    Built { image: assemble(&program, &prover, &found), open, failed, tries, most_tries }
+    Built { image: assemble(&program, &prover, &found), open, failed, untried, tries, most_tries }
 }
 
 /// What is told of a goal for which no line was found.

@@ -28,7 +28,7 @@ pub fn build(source: &Source, certificate: &Certificate) -> Result<Built, Mistak
         obligations: certificate.obligations.clone(),
         claims: claims.map(|(meeting, line)| Claim { meeting, line: *line }).collect(),
     };
-    Ok(Built { image, open, failed: Vec::new(), tries: 0, most_tries: 0 })
+    Ok(Built { image, open, failed: Vec::new(), untried: 0, tries: 0, most_tries: 0 })
 }
 
 /// The instructions with their formula numbers, by thread.

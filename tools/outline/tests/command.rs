@@ -181,6 +181,41 @@ fn what_is_open_at_a_point_is_told_if_asked_for() {
     assert_eq!((status, err.as_str()), (2, want));
 }
 
+/// Whether a process has a handler of its own for interrupts.
+#[cfg(target_os = "linux")]
+fn catches_interrupts(process: u32) -> bool {
+    let status = std::fs::read_to_string(format!("/proc/{process}/status")).unwrap_or_default();
+    let caught = status.lines().find_map(|line| line.strip_prefix("SigCgt:"));
+    let caught = caught.and_then(|mask| u64::from_str_radix(mask.trim(), 16).ok());
+    caught.is_some_and(|mask| mask & 2 != 0)
+}
+
+#[cfg(target_os = "linux")]
+#[test]
+fn an_interrupt_leaves_the_rest_untried_and_reports() {
+    let mut child = Command::new(env!("CARGO_BIN_EXE_outline"))
+        .args(["build", "-", "-o", "-"])
+        .stdin(Stdio::piped())
+        .stdout(Stdio::piped())
+        .stderr(Stdio::piped())
+        .spawn()
+        .expect("run");
+    while !catches_interrupts(child.id()) {
+        std::thread::yield_now();
+    }
+    let process = child.id().to_string();
+    assert!(Command::new("kill").args(["-INT", &process]).status().expect("kill").success());
+    while catches_interrupts(child.id()) {
+        std::thread::yield_now();
+    }
+    let text = std::fs::read(example("polling")).expect("readable");
+    child.stdin.take().expect("a pipe").write_all(&text).expect("fed");
+    let (status, out, err) = told(child.wait_with_output().expect("run"));
+    assert_eq!((status, out.as_str()), (1, ""));
+    let want = "standard input: interrupted, 22 were not tried, 0 of 22 obligations are open; no image is written\n";
+    assert_eq!(err, want);
+}
+
 #[test]
 fn check_says_one_line_of_words_and_the_fields() {
     let folder = Folder::new("check");

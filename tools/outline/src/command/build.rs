@@ -1,13 +1,15 @@
 //! `build`: an outline to an image, with the checker's own verdict on what was made.
 
-use crate::build::{build_past_failures, Built, Goal, Open};
+use crate::build::{build_watched, Built, Goal, Open};
 use crate::command::input::{called, mistake, mistakes, read, Input};
 use crate::command::judge::{judge, JUDGE};
 use crate::command::options::Options;
+use crate::command::progress::Progress;
 use crate::command::truth::Looked;
-use crate::command::{json, print, words, Done, Status};
+use crate::command::{interrupt, json, print, words, Done, Status};
 use crate::image::to_bytes;
 use crate::search::budget::TRIES;
+use crate::text::lex::Mistake;
 use crate::text::parse_source::parse_all;
 use crate::text::source::Source;
 use crate::text::{counted, report};
@@ -47,15 +49,16 @@ pub fn run(args: &[&str]) -> Done {
     let Some(target) = &options.target else {
         return Err("`-o FILE` is wanted; see outline --help".into());
     };
+    interrupt::watch();
     let Input::Text(text) = read(file)? else {
         return Err(format!("{}: this is an image, not an outline", called(file)));
     };
     let source = parse_all(&text).map_err(|all| mistakes(file, &text, &all))?;
     let told = Told::of(&options, &source)?;
-    let built = build_past_failures(&source, TRIES).map_err(|e| mistake(file, &text, &e))?;
+    let built = watched(&source).map_err(|e| mistake(file, &text, &e))?;
     let mut said: Vec<String> = built.failed.iter().map(|e| mistake(file, &text, e)).collect();
     said.extend(open_ones(&source, &built, &told));
-    let stays = !built.open.is_empty() || !built.failed.is_empty();
+    let stays = built.untried > 0 || !built.open.is_empty() || !built.failed.is_empty();
     if stays && !options.partial {
         said.push(nothing_written(called(file), &built));
         return tell(&options, &said, &[], None).map(|()| Status::Refused);
@@ -79,6 +82,15 @@ pub fn run(args: &[&str]) -> Done {
     Ok(if wanted { Status::Accepted } else { Status::Refused })
 }
 
+/// Builds with progress on a terminal; an interrupt leaves the rest untried.
+fn watched(source: &Source) -> Result<Built, Mistake> {
+    let progress = Progress::new();
+    build_watched(source, TRIES, &|done, all| {
+        progress.at(done, all);
+        !interrupt::is_noted()
+    })
+}
+
 /// Why there is no image.
 fn nothing_written(file: &str, built: &Built) -> String {
     let failed = match built.failed.len() {
@@ -91,7 +103,12 @@ fn nothing_written(file: &str, built: &Built) -> String {
         0 => String::new(),
         all => format!(", {claims} of {all} claims"),
     };
-    format!("{file}: {failed}{open} of {duties} obligations{claims} are open; no image is written")
+    let untried = match built.untried {
+        0 => String::new(),
+        n => format!("interrupted, {n} were not tried, "),
+    };
+    let all = format!("{open} of {duties} obligations{claims} are open");
+    format!("{file}: {untried}{failed}{all}; no image is written")
 }
 
 fn write(target: &str, bytes: &[u8]) -> Result<(), String> {
