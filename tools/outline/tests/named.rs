@@ -185,3 +185,26 @@ fn steps_are_named_at_pairs() {
         assert!(build(&with(step)).is_err(), "{step}");
     }
 }
+
+const VALUE_AND_DATA: &str = "word data = 0\nword flag = 0
+let Coming = reader sees [flag = 0] ; ([flag = 2] & ([unsync flag] ; [data = 1]))
+thread writer
+  { writer sees one data and writer sees one flag and reader sees one flag = 0 } data := 1
+  { writer sees [data = 1] and writer sees one flag and reader sees one flag = 0 } flag :=rel 2
+  { true }
+thread reader registers a, b
+  { Coming } a <-acq flag
+  { a = 0 or a = 2 and reader sees [data = 1] } b <- data
+  { a = 0 or a = 2 and b = 1 }
+";
+
+/// Rule 7 says what the flag is, rule 8 what comes with it: joined they say both of the same views.
+#[test]
+fn the_value_and_what_is_handed_over_are_joined() {
+    let built = found(VALUE_AND_DATA);
+    assert!(built.open.is_empty());
+    assert_eq!(check(&built.image.bytes()).code, 0);
+    let relaxed = found(&VALUE_AND_DATA.replace(":=rel", ":="));
+    let kept = Duty::Kept { thread: 2, point: 0, actor: 1, action: 1 };
+    assert_eq!(relaxed.open.iter().map(|open| open.goal).collect::<Vec<_>>(), [Goal::Duty(kept)]);
+}

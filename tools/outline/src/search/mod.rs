@@ -9,6 +9,7 @@ mod case_by_case;
 pub mod cases;
 pub mod certificate;
 mod clauses;
+mod handover;
 mod head;
 mod implication;
 mod interval;
