@@ -115,7 +115,7 @@ pub fn damage(random: &mut Random, image: &mut Vec<u8>) {
             let at = 4 + random.below(starts[1] - 4);
             image[at] = changed(random, image[at]);
         }
-        150..=349 => rewrite_record(random, &starts, image),
+        150..=449 => rewrite_record(random, &starts, image),
         // One to three bytes anywhere.
         _ => {
             for _ in 0..1 + random.below(3) {
