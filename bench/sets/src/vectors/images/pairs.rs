@@ -175,7 +175,12 @@ fn mixed() -> Vec<Case> {
     let (first, then) = (place_of(9).1, second(9));
     let (trade, other) = (place_of(12).1, second(12));
     let new = Draft::new;
+    let without = |place: usize| test(new(), 6).set_number(THREAD, T, place + 3, 0);
     vec![
+        without(first).case("6 before 8: sort first, no formula in a first half later"),
+        without(then).case("6 before 8: sort first, no formula in a second half later"),
+        without(trade).case("6 before 8: sort first, no formula in operation 12 later"),
+        without(other).case("6 before 8: sort first, no formula behind operation 12 later"),
         set(test(new(), first), then + 2, 1).case("6 before 8: sort in the first half"),
         test(set(new(), first + 2, 1), then).case("6 before 8: sort in the second half"),
         set(set(new(), then + 1, 1), first + 1, 3).case("6 before 9: owner in the second half"),

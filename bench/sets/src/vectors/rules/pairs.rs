@@ -54,6 +54,8 @@ fn conclusions() -> Vec<Case> {
                 let label = format!("{code}: {place}, a line by rule {rule} without premises");
                 cases.push(Case::new(label, with(&plan, index, line)));
             }
+            let label = format!("22: {place}, a line by rule 50 that rests on one");
+            cases.push(Case::new(label, with(&plan, index, on(&whole, &whole))));
             let (left, right) = whole.assertions();
             let more = Assertion::either(right.clone(), Assertion::truth());
             let other = triple(50, PLACE, left.clone(), more, &[]);
@@ -107,7 +109,6 @@ fn premises() -> Vec<Case> {
             ("rule 15 on its left", choice(&first, &first), choice(&whole, &first)),
             ("rule 15 on its right", choice(&first, &first), choice(&first, &whole)),
             ("rule 16", around(&fact, &first, &fact), around(&fact, &whole, &fact)),
-            ("rule 50 itself", whole.clone(), on(&whole, &whole)),
             ("rule 10", behind(&own), behind(&again)),
         ] {
             for (code, line) in [("accepted", right), ("22", wrong)] {
