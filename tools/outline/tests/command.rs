@@ -379,6 +379,9 @@ fn claims_are_told_when_they_are_shown() {
     assert!(claim.len() > 1 && claim[1].ends_with("rule 20: a = 1 and false gives false"), "{out}");
     assert!(out.contains("rule 50: a = 0 then a = 1\n"), "{out}");
     assert!(out.contains("rule 16 of the first half: a = 0 then 1 = 1\n"), "{out}");
+    let (_, out, _) = run(&["explain", &text, "--json"]);
+    let claims = "\"claims\":[{\"claim\":\"claim, never thread 2 (right) point 1 (line 10) and ";
+    assert!(out.contains(claims), "{out}");
     let (_, out, _) = run(&["show", &image]);
     assert!(out.contains("    w1 := 1 @1 | r1 := 1 @1\n"), "{out}");
     assert!(out.contains("\nnever t2 1 and t1 1\n\ncertificate\n"), "{out}");

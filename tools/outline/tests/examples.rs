@@ -2,9 +2,8 @@
 
 use outline::text::{parse_source, show};
 use outline::{build, image};
-use reference::checker::{check, decode};
+use reference::checker::check;
 use reference::explore::{explore, Bounds, Outcome};
-use reference::image::Meeting;
 use std::path::PathBuf;
 
 /// True in every reachable state, but beyond the rules.
@@ -90,10 +89,9 @@ fn the_same_text_gives_the_same_bytes() {
 #[test]
 fn the_machine_agrees() {
     for (name, text) in sources() {
-        let bytes = built(&name, &text).image.bytes();
-        let Ok(image) = decode(&bytes) else { panic!("{name} is no image") };
-        let claims: Vec<Meeting> = image.claims.iter().map(|claim| claim.meeting).collect();
-        let found = explore(&image.program, &claims, Bounds { steps: 10, writes: 6, starts: 4096 });
+        let source = parse_source::parse(&text).unwrap_or_else(|e| panic!("{name}: {e}"));
+        let bounds = Bounds { steps: 10, writes: 6, starts: 4096 };
+        let found = explore(&source.program(), &source.meetings(), bounds);
         let breaks = matches!(found.outcome, Outcome::Breaks(_));
         assert_eq!(breaks, name.contains("-wrong-"), "{name}");
     }
