@@ -65,7 +65,7 @@ fn judge_all(files: &[String]) -> Vec<Judged> {
     let (next, done) = (AtomicUsize::new(0), AtomicUsize::new(0));
     let answers: Mutex<Vec<Option<Judged>>> = Mutex::new(vec![None; files.len()]);
     let cores = std::thread::available_parallelism().map_or(1, |n| n.get()).min(files.len());
-    let progress = (files.len() > 1).then(Progress::new);
+    let progress = (files.len() > 1).then(Progress::default);
     std::thread::scope(|threads| {
         for _ in 0..cores {
             threads.spawn(|| loop {

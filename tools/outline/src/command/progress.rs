@@ -7,11 +7,13 @@ pub struct Progress {
     shown: bool,
 }
 
-impl Progress {
-    pub fn new() -> Progress {
+impl Default for Progress {
+    fn default() -> Progress {
         Progress { shown: std::io::stderr().is_terminal() }
     }
+}
 
+impl Progress {
     pub fn at(&self, done: usize, all: usize) {
         if self.shown {
             let _ = write!(std::io::stderr(), "\r{done} of {all} ");

@@ -56,10 +56,10 @@ impl Reader<'_, '_> {
             return self.noted(Access::Swap { word, value });
         }
         match self.c.meaning() {
-            Some(Meaning::Register(_)) => self.to_register(),
+            Some(Meaning::Register(_)) => self.move_to_register(),
             Some(Meaning::Word(word)) => {
                 let word = *word;
-                self.to_word(word)
+                self.move_to_word(word)
             }
             None if moves_next(self.c) => {
                 self.c.fail(format!("{} is not declared", self.c.peek().shown()))
@@ -69,7 +69,7 @@ impl Reader<'_, '_> {
     }
 
     /// Assignment, trade, load, exchange or fetch-add.
-    fn to_register(&mut self) -> Result<Instruction, Mistake> {
+    fn move_to_register(&mut self) -> Result<Instruction, Mistake> {
         let register = self.register()?;
         if self.c.take(",") {
             return self.trade(register);
@@ -103,7 +103,7 @@ impl Reader<'_, '_> {
         Ok(Instruction::trade(Note::new(first, value), Note::new(second, self.operand()?)))
     }
 
-    fn to_word(&mut self, word: u8) -> Result<Instruction, Mistake> {
+    fn move_to_word(&mut self, word: u8) -> Result<Instruction, Mistake> {
         self.c.at += 1;
         let releasing = self.c.take(":=rel");
         if !releasing && !self.c.take(":=") {
