@@ -1,5 +1,4 @@
 use limits::Limits;
-
 ghost use mathlib.Core.Path.{_≡_};
 ghost use Prim.Native.Nat.{_≤_};
 ghost use Rattle.frames.specs.Kinds.{order};

@@ -40,5 +40,9 @@ impl Limits {
     pub const PROGRAM_BYTES: usize = 65535;
 
     // A header, an outline and an obligations record, and what there may be many of.
-    pub const RECORDS: usize = 3 + Limits::FORMULAS + Limits::THREADS + Limits::LINES + Limits::CLAIMS;
+    pub const RECORDS: usize = 3
+        + Limits::FORMULAS
+        + Limits::THREADS
+        + Limits::LINES
+        + Limits::CLAIMS;
 }

@@ -250,13 +250,7 @@ fn wanted_kept<'a, 'b>(
 }
 
 // False from the assertions of a claim's points, the lower thread's first.
-pub fn wanted_claim<'a, 'b>(
-    s: &'a [u8],
-    ix: &'b [usize],
-    z: Sizes,
-    y: Totals,
-    c: Claimed,
-) -> Wanted
+pub fn wanted_claim<'a, 'b>(s: &'a [u8], ix: &'b [usize], z: Sizes, y: Totals, c: Claimed) -> Wanted
     requires { ⌜ (now ix ≡ indexOf (now s)) × (y ≡ totalsOf z (bodies (now s))) ⌝ }
     ensures { λ r. ⌜ r ≡ wantedClaim (now (s .entry)) z c ⌝ }
 {
