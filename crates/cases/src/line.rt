@@ -20,6 +20,7 @@ pub fn write_line(path: &[u8], t: Tally) {
     write_count(t.kinds[20], b" of code 20, ");
     write_count(t.kinds[21], b" of code 21, ");
     write_count(t.kinds[22], b" of code 22, ");
-    write_count(t.kinds[23], b" of code 23; ");
+    write_count(t.kinds[23], b" of code 23, ");
+    write_count(t.kinds[26], b" of code 26; ");
     write_differences(t);
 }

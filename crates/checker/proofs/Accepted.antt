@@ -11,13 +11,12 @@ use lib.ListN.{length}
 use Rattle.frames.specs.Fault.{codeOf}
 use Rattle.frames.specs.declared.fault.Fault.{Fault}
 use Rattle.frames.specs.declared.fault.Fault.the-variants.{Size, Length, Kind, Body, Number, Formula, Sort, Owner, Operand}
-use Rattle.outline.specs.Verdict.{Image, Outcome, met, failed, outcome, Admitted}
+use Rattle.outline.specs.Verdict.{Image, Finding, accepted, unmet, denied, finding, Admitted}
 use Rattle.outline.specs.Judged as Outline
-use Rattle.outline.specs.Judged.{total, EachMet, no-line, other-statement, not-justified, each-met, first-unmet}
-use Rattle.outline.proofs.Accept.{failed-first}
-use Rattle.outline.proofs.Judged.{outcome-judged, each-accepted}
+use Rattle.outline.specs.Judged.{total, EachMet, EachSustained, no-line, other-statement, not-justified, each-met, first-unmet, first-denied}
+use Rattle.outline.proofs.Judged.{finding-judged, each-accepted}
 use Rattle.content.specs.Image.{Result, refused, read, decode}
-use Rattle.content.proofs.Admitted.{decode-admitted, accepted-every-run}
+use Rattle.content.proofs.Admitted.{decode-admitted, accepted-every-run, accepted-claims}
 use Rattle.report.specs.Fields.{gathered, fieldsOf}
 use Rattle.report.specs.Output.{codeFor, bytesFor}
 use Rattle.report.specs.Record.{size}
@@ -43,15 +42,23 @@ module _ (s : List ℕ) where
   abbrev code : Result → ℕ
   code d = fieldsOf (answered d) .code
 
-  met-true : (D : Image) → decode s ≡ read D → (o : Outcome) → outcome D ≡ o → fieldsOf (judged o) .code ≡ 0 → TrueInEveryRun s
+  -- a right finding whose code is 0 has every obligation met and every claim borne out
+  right-met : (D : Image) (o : Finding) → Outline.Judged D o → fieldsOf (judged D o) .code ≡ 0 → EachMet D × EachSustained D
   unfolding fieldsOf gathered
-  met-true D d (met n) e h = record { content = D; says = d; holds = accepted-every-run s D n d e }
-  met-true D d (failed c o l n) e h = absurd (failed-first D c o l n e .bad h)
+  right-met D (accepted n) (each-met h g) e = (h, g)
+  right-met D (unmet c o l n) (first-unmet k b f (no-line q)) e = absurd (omega arith)
+  right-met D (unmet c o l n) (first-unmet k b f (other-statement q r)) e = absurd (omega arith)
+  right-met D (unmet c o l n) (first-unmet k b f (not-justified q r u)) e = absurd (omega arith)
+  right-met D (denied i n) (first-denied k h b f g) e = absurd (omega arith)
 
   read-true : (d : Result) → decode s ≡ d → code d ≡ 0 → TrueInEveryRun s
   unfolding fieldsOf gathered
   read-true (refused f i) e h = absurd (fault-code f h)
-  read-true (read D) e h = met-true D e (outcome D) refl h
+  read-true (read D) e h =
+      let A = decode-admitted s D e in
+      let r = right-met D (finding D) (finding-judged D A) h in
+      let q = each-accepted D A (r .0) (r .1) in
+      record { content = D; says = e; holds = accepted-every-run s D (total D) e q; never = accepted-claims s D (total D) e q }
 
   accepted-true : (b : List ℕ) → codeFor (verdict s) b ≡ 0 → TrueInEveryRun s
   unfolding codeFor verdict
@@ -61,24 +68,16 @@ module _ (s : List ℕ) where
       go true h = absurd (omega arith)
       go false h = read-true (decode s) refl h
 
-  -- a right outcome whose code is 0 has every obligation met
-  right-met : (D : Image) (o : Outcome) → Outline.Judged D o → fieldsOf (judged o) .code ≡ 0 → EachMet D
+  met-code : (D : Image) (n : ℕ) → fieldsOf (judged D (accepted n)) .code ≡ 0
   unfolding fieldsOf gathered
-  right-met D (met n) (each-met h) e = h
-  right-met D (failed c o l n) (first-unmet k b f (no-line q)) e = absurd (omega arith)
-  right-met D (failed c o l n) (first-unmet k b f (other-statement q r)) e = absurd (omega arith)
-  right-met D (failed c o l n) (first-unmet k b f (not-justified q r u)) e = absurd (omega arith)
-
-  met-code : (n : ℕ) → fieldsOf (judged (met n)) .code ≡ 0
-  unfolding fieldsOf gathered
-  met-code n = refl
+  met-code D n = refl
 
   judged-right : (b : List ℕ) (D : Image) → decode s ≡ read D → Judged D (verdict s) b (codeFor (verdict s) b)
   unfolding codeFor verdict
   judged-right b D e = record {
-    only-if = λ h. right-met D (outcome D) right (coded (ltb (length b) size) h);
-    if-met = λ r h. rw (le-ltb _ _ r) (ap (λ (v : Verdict). fieldsOf v .code) (answer ∙ ap judged (each-accepted D A h)) ∙ met-code (total D));
-    outcome = outcome D;
+    only-if = λ h. right-met D (finding D) right (coded (ltb (length b) size) h);
+    if-met = λ r h g. rw (le-ltb _ _ r) (ap (λ (v : Verdict). fieldsOf v .code) (answer ∙ ap (judged D) (each-accepted D A h g)) ∙ met-code D (total D));
+    finding = finding D;
     right = right;
     answer = answer;
   }
@@ -86,13 +85,13 @@ module _ (s : List ℕ) where
       A : Admitted D
       A = decode-admitted s D e
 
-      right : Outline.Judged D (outcome D)
-      right = outcome-judged D A
+      right : Outline.Judged D (finding D)
+      right = finding-judged D A
 
-      answer : answered (decode s) ≡ judged (outcome D)
+      answer : answered (decode s) ≡ judged D (finding D)
       answer = ap answered e
 
-      coded : (x : Bool) → cond x 1 (code (decode s)) ≡ 0 → fieldsOf (judged (outcome D)) .code ≡ 0
+      coded : (x : Bool) → cond x 1 (code (decode s)) ≡ 0 → fieldsOf (judged D (finding D)) .code ≡ 0
       coded true h = absurd (omega arith)
       coded false h = subst (λ (v : Verdict). fieldsOf v .code ≡ 0) answer h
 

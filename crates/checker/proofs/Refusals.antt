@@ -12,7 +12,7 @@ use borrow.Author.Tests.{eqb-true, eqb-false}
 use Rattle.limits.specs.Limits as Limits
 use Rattle.limits.specs.Numbers.{word, within, every}
 use Rattle.frames.specs.Kinds as Kinds
-use Rattle.frames.specs.Kinds.{most}
+use Rattle.frames.specs.Kinds.{order, most}
 use Rattle.frames.specs.Frames.{counted, frame, ended, unlessFaulty, walk, none, frames, wholeImage}
 use Rattle.frames.specs.Records.{bodies}
 use Rattle.frames.specs.declared.fault.Fault.{Fault}
@@ -23,7 +23,7 @@ use Rattle.frames.specs.declared.frame.Seen.{Seen}
 use Rattle.frames.specs.declared.walk.Framing.{Framing}
 use Rattle.frames.specs.declared.walk.Framing.the-variants as Framing
 use Rattle.frames.proofs.Passed.{framed}
-use Rattle.frames.proofs.Counted.{lines-few}
+use Rattle.frames.proofs.Counted.{counts-few}
 use Rattle.program.specs.declared.sizes.Sizes.{Sizes}
 use Rattle.program.specs.Header as Header
 use Rattle.program.specs.Header.{valueRange, startValues, owners, marks, headed, header}
@@ -40,15 +40,15 @@ use Rattle.content.proofs.Inverse.{unless-passed}
 
 -- of all kinds together, how many records may still come
 left : Seen → ℕ
-left c = sum (λ k. most k - getD (c .count) k 0) (suc Kinds.obligations)
+left c = sum (λ k. most k - getD (c .count) k 0) (suc Kinds.last)
 
 -- before record i: each kind has a count; what may still come is within the limits; no kind has i records
 record Before (i : ℕ) (c : Seen) : Type 0 where
-  all-kinds : length (c .count) ≡ suc Kinds.obligations
+  all-kinds : length (c .count) ≡ suc Kinds.last
   few : i + left c ≤ suc Limits.records
   fewer : (k : ℕ) → getD (c .count) k 0 < i
 
-module _ (i : ℕ) (c : Seen) (k : ℕ) (b : Before i c) (known : k ≤ Kinds.obligations) (more : getD (c .count) k 0 < most k) where
+module _ (i : ℕ) (c : Seen) (k : ℕ) (b : Before i c) (known : k ≤ Kinds.last) (more : getD (c .count) k 0 < most k) where
   here : getD (counted c k .count) k 0 ≡ getD (c .count) k 0 + 1
   here = getD-set-same (c .count) k (getD (c .count) k 0 + 1) 0 (omega (arith, b .all-kinds))
 
@@ -58,7 +58,7 @@ module _ (i : ℕ) (c : Seen) (k : ℕ) (b : Before i c) (known : k ≤ Kinds.ob
   left-falls : left (counted c k) < left c
   unfolding left
   left-falls =
-      sum-falls (λ j. most j - getD (c .count) j 0) (λ j. most j - getD (counted c k .count) j 0) (suc Kinds.obligations) k (omega arith)
+      sum-falls (λ j. most j - getD (c .count) j 0) (λ j. most j - getD (counted c k .count) j 0) (suc Kinds.last) k (omega arith)
       (let e = here in omega arith)
       (λ j q. let e = elsewhere j q in omega arith)
 
@@ -85,23 +85,24 @@ first = record { all-kinds = refl; few = omega arith; fewer = λ k. small k }
     small (suc (suc (suc (suc zero)))) = omega arith
     small (suc (suc (suc (suc (suc zero))))) = omega arith
     small (suc (suc (suc (suc (suc (suc zero)))))) = omega arith
-    small (suc (suc (suc (suc (suc (suc (suc k))))))) = omega arith
+    small (suc (suc (suc (suc (suc (suc (suc zero))))))) = omega arith
+    small (suc (suc (suc (suc (suc (suc (suc (suc k)))))))) = omega arith
 
 -- what the frames say: a record within the limits, or no more formulas than there may be records
 abbrev Within : Framing → Type 0
 Within (Framing.Refused f r) = r ≤ suc Limits.records
-Within (Framing.Sound formulas threads lines) = formulas ≤ Limits.records
+Within (Framing.Sound formulas threads lines claims) = formulas ≤ Limits.records
 
 ended-within : (i : ℕ) (c : Seen) → Before i c → Within (ended i c)
 unfolding ended
-ended-within i c b = go (eqb (c .last) Kinds.obligations)
+ended-within i c b = go (ltb (c .last) Kinds.obligations)
   where
     count : ℕ → ℕ
     count k = getD (c .count) k 0
 
-    go : (p : Bool) → Within (cond p (Framing.Sound (count Kinds.formula) (count Kinds.thread) (count Kinds.line)) (Framing.Refused Kind i))
-    go true = let f = b .few in let g = b .fewer Kinds.formula in omega arith
-    go false = let f = b .few in omega arith
+    go : (p : Bool) → Within (cond p (Framing.Refused Kind i) (Framing.Sound (count Kinds.formula) (count Kinds.thread) (count Kinds.line) (count Kinds.last)))
+    go true = let f = b .few in omega arith
+    go false = let f = b .few in let g = b .fewer Kinds.formula in omega arith
 
 walk-within : (k i : ℕ) (c : Seen) (l : List ℕ) → Before i c → Within (walk k i c l)
 unfolding walk
@@ -111,7 +112,7 @@ walk-within (suc k) i c (x ∷ l) b =
     go (frame c (x ∷ l)) refl (λ d. walk-within k (i + 1) (counted c kind) (drop (2 + word (x ∷ l)) (x ∷ l)) d)
   where
     kind : ℕ
-    kind = word (drop 2 (x ∷ l))
+    kind = order (word (drop 2 (x ∷ l)))
 
     rest : Framing
     rest = walk k (i + 1) (counted c kind) (drop (2 + word (x ∷ l)) (x ∷ l))
@@ -159,24 +160,24 @@ fault-number t z l i (suc n) m f r e = go (check t z l (placeOf z i) (getD m 0 [
 
 -- no record that a refusal names has a higher number
 abbrev pub lastNamed : ℕ
-lastNamed = 3 + Limits.records + Limits.threads + Limits.lines
+lastNamed = 3 + Limits.records + Limits.threads + Limits.lines + Limits.claims
 
 module _ (s : List ℕ) (f : Fault) (r : ℕ) where
-  bodies-number : (a t n : ℕ) → wholeImage s ≡ Framing.Sound a t n → a ≤ Limits.records
-      → behindFrames (bodies s) (Framing.Sound a t n) ≡ Refused f r → r ≤ lastNamed
+  bodies-number : (a t n m : ℕ) → wholeImage s ≡ Framing.Sound a t n m → a ≤ Limits.records
+      → behindFrames (bodies s) (Framing.Sound a t n m) ≡ Refused f r → r ≤ lastNamed
   unfolding firstFault check placeOf recordCount sizesOf
-  bodies-number a t n w few e = go (header t head) refl (rw q at e)
+  bodies-number a t n m w few e = go (header t head) refl (rw q at e)
     where
       head : List ℕ
       head = getD (bodies s) 0 []
 
       z : Sizes
-      z = sizesOf head a n
+      z = sizesOf head a n m
 
       later : ℕ
-      later = 2 + a + getD head 0 0 + n
+      later = 2 + a + getD head 0 0 + n + m
 
-      q : 3 + a + getD head 0 0 + n ≡ suc later
+      q : 3 + a + getD head 0 0 + n + m ≡ suc later
       q = omega arith
 
       go : (c : Checked) → header t head ≡ c → Decode.unlessFaulty c 1 (firstFault t z (bodies s) 2 later (drop 1 (bodies s))) ≡ Refused f r
@@ -184,8 +185,8 @@ module _ (s : List ℕ) (f : Fault) (r : ℕ) where
       go Passed h d =
           let b = fault-number t z (bodies s) 2 later (drop 1 (bodies s)) f r d in
           let few-threads = header-threads t head h in
-          let few-lines = lines-few s a t n w in
-          omega arith
+          let counts = counts-few s a t n m w in
+          omega (arith, counts .lines, counts .claims)
       go (Faulty g) h d = let p = refused-number g f 1 r d in omega arith
 
   pub refused-within : decoded s ≡ Refused f r → r ≤ lastNamed
@@ -194,4 +195,4 @@ module _ (s : List ℕ) (f : Fault) (r : ℕ) where
     where
       go : (w : Framing) → wholeImage s ≡ w → Within w → behindFrames (bodies s) w ≡ Refused f r → r ≤ lastNamed
       go (Framing.Refused g i) q b d = let p = refused-number g f i r d in omega arith
-      go (Framing.Sound a t n) q b d = bodies-number a t n q b d
+      go (Framing.Sound a t n m) q b d = bodies-number a t n m q b d

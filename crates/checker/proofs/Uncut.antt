@@ -2,7 +2,7 @@
 use mathlib.Core.Path.{_≡_, refl, ap, subst}
 use mathlib.Core.Bool.{Bool, true, false}
 use mathlib.Core.List.{List, [], _∷_}
-use Prim.Native.Nat.{ℕ, zero, suc, _-_, _≤_, _<_}
+use Prim.Native.Nat.{ℕ, zero, suc, _+_, _-_, _≤_, _<_}
 use native.Mathlib.Omega.{arith}
 use lib.Dec.{eqb}
 use lib.ListN.{length, getD}
@@ -27,13 +27,14 @@ use Rattle.image.specs.declared.decode.Decoded.{Decoded}
 use Rattle.image.specs.declared.decode.Decoded.the-variants as Decoded
 use Rattle.certificate.specs.Lines.{marked}
 use Rattle.outline.specs.Verdict as Outline
-use Rattle.outline.specs.Verdict.{Image, Outcome, met, failed, outcome}
+use Rattle.outline.specs.Verdict.{Image, Outcome, met, failed, outcome, Finding, denied, judgeClaims, behindObligations}
 use Rattle.outline.proofs.Accept.{accepted-met, failed-first}
 use Rattle.content.specs.Program.{programOf}
-use Rattle.content.specs.Image.{namedLine, obligationsBody, imageOf, resultOf, decode}
+use Rattle.content.specs.Image.{claimPlace, namedLine, obligationsBody, imageOf, resultOf, decode}
 use Rattle.limits.proofs.Inverse.{within-true, every-or}
 use Rattle.content.proofs.Inverse.{unless-passed}
 use Rattle.content.proofs.Checked.{Checks, sound-checks, header-passed, obligations-passed}
+use Rattle.content.proofs.Lines.{claim-fine}
 use Rattle.content.proofs.Program.{points-few}
 use Rattle.wanted.proofs.Asked.{InRange}
 use Rattle.judging.proofs.Ranged.{obligations-ranged}
@@ -60,7 +61,7 @@ fault-small Owner = omega arith
 fault-small Operand = omega arith
 
 code-small : (D : Image) (o : Logic.Obligation) (n : ℕ) → Outline.code D o n ≤ 22
-unfolding Outline.code
+unfolding Outline.lineCode
 code-small D o n =
     go (eqb n 0) (sameStatement (Outline.asks D o) (D .certificate .line n .says)) (marked (D .program) (D .certificate) (D .certificate .count) n)
   where
@@ -70,7 +71,7 @@ code-small D o n =
     go false true false = omega arith
     go false true true = omega arith
 
--- the three verdicts
+-- the verdicts
 
 refused-uncut : (f : Fault) (i : ℕ) → i ≤ lastNamed → Uncut (fieldsOf (Refused f i))
 unfolding fieldsOf gathered
@@ -155,8 +156,7 @@ module _ (s : List ℕ) (z : Sizes) (c : Checks z (bodies s)) where
       let none : within 0 (z .lines) 0 ≡ true = rw (le-leb 0 (z .lines) (omega arith)) in
       let h = every-or (within 0 (z .lines)) (numbers (obligationCount z (bodies s)) (obligationsBody z (bodies s))) k 0 e none in
       let b = within-true 0 (z .lines) (namedLine z (bodies s) k) h in
-      let f = c .few in
-      omega (arith, b .1)
+      omega (arith, b .1, c .few .lines)
 
   ranged-named : (o : Logic.Obligation) → InRange P o → Named o
   unfolding placeOf
@@ -189,8 +189,35 @@ module _ (s : List ℕ) (z : Sizes) (c : Checks z (bodies s)) where
     «other_point» = let b = few-points t (r .1 .0) in omega (arith, r .1 .1);
   }
 
-  outcome-uncut : (o : Outcome) → outcome D ≡ o → Uncut (fieldsOf (judged o))
-  outcome-uncut (met n) e = let h = accepted-met D n e .1 in let f = few in accepted-uncut n (omega arith)
+  -- a claim's record is one of the image's, its threads, points and line are there
+  denied-uncut : (i n : ℕ) → i < z .claims → n ≤ mostObligations → Uncut (fieldsOf (judged D (denied i n)))
+  unfolding fieldsOf gathered claimPlace
+  denied-uncut i n b h =
+      let f = claim-fine z (bodies s) c i b in
+      record {
+        code = omega arith;
+        «record» = let t = few-threads in omega (arith, c .few .formulas, c .few .lines, c .few .claims);
+        class = omega arith;
+        thread = let t = few-threads in omega (arith, f .thread .1);
+        point = let p = few-points _ (f .thread) in omega (arith, f .point);
+        «other_thread» = let t = few-threads in omega (arith, f .other .1);
+        «other_point» = let p = few-points _ (f .other) in omega (arith, f .beyond);
+        line = omega (arith, f .line, c .few .lines);
+        count = omega arith;
+      }
+
+  claims-uncut : (k i n : ℕ) → i + k ≡ z .claims → n ≤ mostObligations → Uncut (fieldsOf (judged D (judgeClaims D k i n)))
+  unfolding judgeClaims
+  claims-uncut zero i n e h = accepted-uncut n h
+  claims-uncut (suc k) i n e h = go (Outline.sustained D i) (claims-uncut k (suc i) n (omega arith) h)
+    where
+      go : (x : Bool) → Uncut (fieldsOf (judged D (judgeClaims D k (suc i) n)))
+          → Uncut (fieldsOf (judged D (elim x as (λ y. Finding) [ true ↦ judgeClaims D k (suc i) n | false ↦ denied i n ])))
+      go true q = q
+      go false q = denied-uncut i n (omega arith) h
+
+  outcome-uncut : (o : Outcome) → outcome D ≡ o → Uncut (fieldsOf (judged D (behindObligations D o)))
+  outcome-uncut (met n) e = let h = accepted-met D n e .1 in let f = few in claims-uncut (z .claims) 0 n (omega arith) (omega arith)
   outcome-uncut (failed x o l n) e =
       let h = failed-first D x o l n e in
       let f = few in

@@ -5,20 +5,27 @@ use Prim.Native.Nat.{ℕ}
 use lib.Dec.{ltb}
 use lib.ListN.{length}
 use Rattle.frames.specs.declared.fault.Fault.the-variants.{Size}
-use Rattle.outline.specs.Verdict.{Outcome, met, failed, outcome}
+use Rattle.logic.specs.Claims.{Claim}
+use Rattle.outline.specs.Verdict.{Image, Finding, accepted, unmet, denied, finding}
 use Rattle.content.specs.Image.{Result, refused, read, decode}
 use Rattle.report.specs.Place.{obligation}
+use Rattle.report.specs.declared.obligation.Place.{Place}
 use Rattle.report.specs.declared.verdict.Verdict.{Verdict}
-use Rattle.report.specs.declared.verdict.Verdict.the-variants.{Accepted, Refused, Failed}
+use Rattle.report.specs.declared.verdict.Verdict.the-variants.{Accepted, Refused, Failed, Denied}
 
--- of a well-formed image: all its obligations are met, or the first that is not
-abbrev pub judged : Outcome → Verdict
-judged (met n) = Accepted n
-judged (failed c o l n) = Failed (obligation o) c l n
+-- a claim is of no class of obligations; its threads and points stand as in its record
+abbrev pub claimed : Claim → Place
+claimed c = record { class = 0; thread = c .thread; point = c .point; «other_thread» = c .other; «other_point» = c .otherPoint }
+
+-- of a well-formed image: all is met and borne out, or the first obligation that is not met, or the first claim that fails
+abbrev pub judged : Image → Finding → Verdict
+judged D (accepted n) = Accepted n
+judged D (unmet c o l n) = Failed (obligation o) c l n
+judged D (denied i n) = Denied (D .claims .place i) (claimed (D .claims .claim i)) (D .claims .line i) n
 
 abbrev pub answered : Result → Verdict
 answered (refused f i) = Refused f i
-answered (read D) = judged (outcome D)
+answered (read D) = judged D (finding D)
 
 unfoldable pub verdict : List ℕ → Verdict
 verdict s = answered (decode s)

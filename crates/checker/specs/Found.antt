@@ -1,20 +1,40 @@
--- The verdict on sound bytes as the code finds it: the marks of all lines, then the obligations by positions.
+-- The verdict on sound bytes as the code finds it: the marks of all lines, then the obligations and the claims by positions.
+use mathlib.Core.Bool.{cond}
 use mathlib.Core.List.{List}
 use Prim.Native.Nat.{ℕ}
+use lib.Dec.{eqb}
 use Rattle.logic.specs.Obligations.{obligations}
 use Rattle.frames.specs.Records.{bodies}
 use Rattle.program.specs.declared.sizes.Sizes.{Sizes}
+use Rattle.content.specs.Image.{claimBody, claimPlace}
+use Rattle.content.specs.Places.{claimedIn}
 use Rattle.content.specs.Program.{programOf}
+use Rattle.content.specs.declared.claim.Claimed.{Claimed}
+use Rattle.marks.specs.declared.Marks.{Marks}
 use Rattle.justify.specs.Pass.{marksTo}
+use Rattle.judging.specs.Claims.{firstDenied}
 use Rattle.judging.specs.Judge.{judgeAt}
 use Rattle.judging.specs.declared.outcome.Outcome.{Outcome}
 use Rattle.judging.specs.declared.outcome.Outcome.the-variants.{Met, Failed}
+use Rattle.report.specs.declared.obligation.Place.{Place}
 use Rattle.report.specs.declared.verdict.Verdict.{Verdict}
 use Rattle.report.specs.declared.verdict.Verdict.the-variants as Verdict
 
-abbrev pub verdictOf : Outcome → Verdict
-verdictOf (Met n) = Verdict.Accepted n
-verdictOf (Failed o c l n) = Verdict.Failed o c l n
+unfoldable pub pointsOf : Claimed → Place
+pointsOf c = record { class = 0; thread = c .thread; point = c .point; «other_thread» = c .other; «other_point» = c .«other_point» }
 
-unfoldable pub soundVerdict : List ℕ → Sizes → Verdict
-soundVerdict s z = verdictOf (judgeAt s z (marksTo s z (z .lines)) (obligations (programOf z (bodies s))) 0)
+module _ (s : List ℕ) (z : Sizes) where
+  -- claim i fails, behind so many obligations
+  unfoldable pub deniedAt : ℕ → ℕ → Verdict
+  deniedAt i n = Verdict.Denied (claimPlace z i) (pointsOf (claimedIn (claimBody z (bodies s) i))) (claimedIn (claimBody z (bodies s) i) .line) n
+
+  -- the claims, behind so many obligations
+  unfoldable pub claimsVerdict : Marks → ℕ → Verdict
+  claimsVerdict m n = cond (eqb (firstDenied s z m (z .claims) 0) (z .claims)) (Verdict.Accepted n) (deniedAt (firstDenied s z m (z .claims) 0) n)
+
+  abbrev pub verdictOf : Marks → Outcome → Verdict
+  verdictOf m (Met n) = claimsVerdict m n
+  verdictOf m (Failed o c l n) = Verdict.Failed o c l n
+
+  unfoldable pub soundVerdict : Verdict
+  soundVerdict = verdictOf (marksTo s z (z .lines)) (judgeAt s z (marksTo s z (z .lines)) (obligations (programOf z (bodies s))) 0)

@@ -1,12 +1,13 @@
 -- THE PROMISE of the entry point, whole.
 use mathlib.Core.Path.{_≡_}
 use mathlib.Core.List.{List}
-use Prim.Native.Nat.{ℕ, _≤_}
+use Prim.Native.Nat.{ℕ, _≤_, _<_}
 use lib.ListN.{length}
 use Rattle.logic.specs.EveryRun.{EveryRun}
-use Rattle.outline.specs.Verdict.{Image, Outcome}
+use Rattle.logic.specs.Claims.{NeverBoth}
+use Rattle.outline.specs.Verdict.{Image, Finding}
 use Rattle.outline.specs.Judged as Outline
-use Rattle.outline.specs.Judged.{EachMet}
+use Rattle.outline.specs.Judged.{EachMet, EachSustained}
 use Rattle.content.specs.Image.{read, decode}
 use Rattle.report.specs.Fields.{fieldsOf}
 use Rattle.report.specs.Output.{codeFor, bytesFor}
@@ -16,21 +17,25 @@ use Rattle.checker.specs.Answer.{judged, verdict}
 use Rattle.checker.specs.Uncut.{Uncut}
 
 -- the image says what `content` has, and after every finite list of steps of that program, refused ones among them, each thread's assertion at its point is true
+-- and no claim's threads are at its points together
 pub record TrueInEveryRun (image : List ℕ) : Type 0 where
   pub content : Image
   pub says : decode image ≡ read content
   pub holds : EveryRun (content .program) (content .outline)
+  pub never : (i : ℕ) → i < content .claims .count → NeverBoth (content .program) (content .claims .claim i)
 
 -- of what the image says, the verdict, the buffer and the code that is answered
 pub record Judged (content : Image) (v : Verdict) (buffer : List ℕ) (code : ℕ) : Type 0 where
-  -- code 0 exactly if every obligation names a line whose statement is the wanted one and that is justified, to its last premise
-  pub only-if : code ≡ 0 → EachMet content
-  pub if-met : size ≤ length buffer → EachMet content → code ≡ 0
-  -- the verdict is that of an outcome, and the outcome is right: every obligation is met, or the first that is not is named, with
-  -- 20 for no line, 21 for a line whose statement is another, 22 for the wanted statement on a line that is not justified
-  pub outcome : Outcome
-  pub right : Outline.Judged content outcome
-  pub answer : v ≡ judged outcome
+  -- code 0 exactly if every obligation and every claim names a line whose statement is the wanted one and that is justified, to its
+  -- last premise
+  pub only-if : code ≡ 0 → EachMet content × EachSustained content
+  pub if-met : size ≤ length buffer → EachMet content → EachSustained content → code ≡ 0
+  -- the verdict is that of a finding, and the finding is right: all are met; or the first obligation that is not is named, with 20 for
+  -- no line, 21 for a line whose statement is another, 22 for the wanted statement on a line that is not justified; or, where every
+  -- obligation is met, the first claim that its line does not bear out
+  pub finding : Finding
+  pub right : Outline.Judged content finding
+  pub answer : v ≡ judged content finding
 
 -- of an image and a buffer: the code that is answered, and the buffer afterwards
 pub record Promise (image buffer : List ℕ) (code : ℕ) (after : List ℕ) : Type 0 where

@@ -1,18 +1,71 @@
-// The verdict on an image: the first fault of its bytes, or the first obligation that is not met, or accepted.
+// The verdict on an image: the first fault of its bytes, or the first obligation that is not met, or the first claim that fails, or
+// accepted.
+use content::claim::Claimed;
+use content::claim::claim_of;
+use content::claim::claim_place;
 use frames::fault::Fault;
 use frames::index::fill_index;
 use image::decode::Decoded;
 use image::decode::decode_image;
+use judging::claims::first_denied;
 use judging::judge::judge_obligations;
 use judging::outcome::Outcome;
 use justify::pass::judge_lines;
 use limits::Limits;
 use program::sizes::Sizes;
+use report::obligation::Place;
 use report::verdict::Verdict;
 ghost use mathlib.Core.Path.{_≡_};
 ghost use Rattle.frames.specs.Records.{indexOf};
 ghost use Rattle.checker.specs.Answer.{verdict, verdictWithin};
-ghost use Rattle.checker.specs.Found.{soundVerdict};
+ghost use Rattle.checker.specs.Found.{pointsOf, deniedAt, claimsVerdict, soundVerdict};
+ghost use Rattle.marks.specs.Marks.{asMarks};
+ghost use Prim.Native.Nat.{_<_};
+
+// A claim is of no class of obligations.
+fn points_of(c: Claimed) -> Place
+    ensures { λ r. ⌜ r ≡ pointsOf c ⌝ }
+{
+    Place {
+        class: 0,
+        thread: c.thread as usize,
+        point: c.point as usize,
+        other_thread: c.other as usize,
+        other_point: c.other_point as usize,
+    }
+}
+
+// Claim i fails, behind so many obligations.
+fn deny<'a, 'b>(s: &'a [u8], ix: &'b [usize], z: Sizes, i: usize, count: usize) -> Verdict
+    requires { ⌜ (now ix ≡ indexOf (now s)) × (i < 65536) ⌝ }
+    ensures { λ r. ⌜ r ≡ deniedAt (now (s .entry)) z i count ⌝ }
+{
+    let c = claim_of(s, ix, z, i);
+    Verdict::Denied {
+        record: claim_place(z, i),
+        place: points_of(c),
+        line: c.line,
+        count,
+    }
+}
+
+// The claims, behind so many obligations, all met.
+fn judge_claims<'a, 'b, 'c>(
+    s: &'a [u8],
+    ix: &'b [usize],
+    z: Sizes,
+    m: &'c [bool],
+    count: usize,
+) -> Verdict
+    requires { ⌜ now ix ≡ indexOf (now s) ⌝ }
+    ensures { λ r. ⌜ r ≡ claimsVerdict (now (s .entry)) z (asMarks (now (m .entry))) count ⌝ }
+{
+    let i = first_denied(s, ix, z, m);
+    if i == z.claims as usize {
+        return Verdict::Accepted { count };
+    }
+    deny(s, ix, z, i, count)
+}
 
 // On an image whose bytes are sound.
 fn judge_sound<'a, 'b>(s: &'a [u8], ix: &'b [usize], z: Sizes) -> Verdict
@@ -21,7 +74,7 @@ fn judge_sound<'a, 'b>(s: &'a [u8], ix: &'b [usize], z: Sizes) -> Verdict
 {
     let m = judge_lines(s, ix, z);
     match judge_obligations(s, ix, z, &m.on) {
-        Outcome::Met(count) => Verdict::Accepted { count },
+        Outcome::Met(count) => judge_claims(s, ix, z, &m.on, count),
         Outcome::Failed {
             what,
             code,

@@ -1,27 +1,29 @@
 -- What a sound image says is admitted: what codes 5 to 9 leave of images. So an accepted one is true in every run.
 use mathlib.Core.Path.{_≡_, refl, subst}
 use mathlib.Core.List.{List}
-use Prim.Native.Nat.{ℕ}
+use Prim.Native.Nat.{ℕ, _<_}
 use native.Mathlib.Omega.{arith}
 use Rattle.logic.specs.EveryRun.{EveryRun}
+use Rattle.logic.specs.Claims.{NeverBoth}
 use Rattle.frames.specs.declared.fault.Fault.{Fault}
 use Rattle.frames.specs.Records.{bodies}
 use Rattle.program.specs.declared.sizes.Sizes.{Sizes}
 use Rattle.image.specs.Decode.{decoded}
 use Rattle.image.specs.declared.decode.Decoded.{Decoded}
 use Rattle.image.specs.declared.decode.Decoded.the-variants.{Refused, Sound}
-use Rattle.outline.specs.Verdict.{Image, Admitted, met, outcome}
-use Rattle.outline.proofs.Accept.{accepted-sound}
+use Rattle.outline.specs.Verdict.{Image, Admitted, accepted, finding}
+use Rattle.outline.proofs.Accept.{accepted-sound, accepted-all, accepted-never}
 use Rattle.content.specs.Image.{imageOf, refused, read, resultOf, decode}
 use Rattle.content.proofs.Checked.{Checks, sound-checks}
 use Rattle.content.proofs.Program.{well-formed}
-use Rattle.content.proofs.Lines.{line-admitted, line-lower}
+use Rattle.content.proofs.Lines.{line-admitted, line-lower, claim-fine}
 
 pub checks-admitted : (z : Sizes) (l : List (List ℕ)) → Checks z l → Admitted (imageOf z l)
 checks-admitted z l c = record {
   program = well-formed z l c;
   lines = λ n w. line-admitted z l c n (w .0) (w .1);
   lower = λ n w. line-lower z l c n (w .0) (w .1);
+  claims = λ i b. let h = claim-fine z l c i b in (h .thread, h .other);
 }
 
 pub sound-admitted : (s : List ℕ) (z : Sizes) → decoded s ≡ Sound z → Admitted (imageOf z (bodies s))
@@ -39,5 +41,9 @@ decode-admitted s D e = go (decoded s) refl e
     go (Refused f i) h q = absurd (refused-read f i D q)
     go (Sound z) h q = let x : imageOf z (bodies s) ≡ D = cc in subst Admitted x (sound-admitted s z h)
 
-pub accepted-every-run : (s : List ℕ) (D : Image) (n : ℕ) → decode s ≡ read D → outcome D ≡ met n → EveryRun (D .program) (D .outline)
-accepted-every-run s D n e h = accepted-sound D (decode-admitted s D e) n h
+pub accepted-every-run : (s : List ℕ) (D : Image) (n : ℕ) → decode s ≡ read D → finding D ≡ accepted n → EveryRun (D .program) (D .outline)
+accepted-every-run s D n e h = accepted-sound D (decode-admitted s D e) n (accepted-all D n h .0)
+
+pub accepted-claims : (s : List ℕ) (D : Image) (n : ℕ) → decode s ≡ read D → finding D ≡ accepted n
+    → (i : ℕ) → i < D .claims .count → NeverBoth (D .program) (D .claims .claim i)
+accepted-claims s D n e h = accepted-never D (decode-admitted s D e) n h

@@ -6,9 +6,8 @@ use native.Mathlib.Omega.{arith}
 use lib.ListN.{getD, drop}
 use lib.Seq.{getD-drop}
 use borrow.Author.Tests.{ne-eqb, le-leb, lt-leb}
-use Rattle.limits.specs.Limits as Limits
 use Rattle.frames.specs.Frames.{wholeImage}
-use Rattle.frames.proofs.Counted.{lines-few}
+use Rattle.frames.proofs.Counted.{Counts, counts-few}
 use Rattle.frames.specs.Records.{bodies}
 use Rattle.frames.specs.declared.fault.Fault.{Fault}
 use Rattle.frames.specs.declared.fault.Checked.{Checked}
@@ -18,25 +17,26 @@ use Rattle.frames.specs.declared.walk.Framing.the-variants as Framing
 use Rattle.program.specs.declared.sizes.Sizes.{Sizes}
 use Rattle.program.specs.Header.{header}
 use Rattle.records.specs.Places.{threadBody}
+use Rattle.records.specs.Claim as Claims
 use Rattle.bodies.specs.Formula as Formulas
 use Rattle.bodies.specs.Thread as Threads
 use Rattle.bodies.specs.Lists as Lists
 use Rattle.bodies.specs.Line as Lines
-use Rattle.image.specs.declared.body.Place.the-variants.{Formula, Thread, Outline, Line, Obligations}
+use Rattle.image.specs.declared.body.Place.the-variants.{Formula, Thread, Outline, Line, Obligations, Claim}
 use Rattle.image.specs.Body.{formulasEnd, threadsEnd, outlineAt, linesEnd, placeOf, check}
 use Rattle.image.specs.Decode.{recordCount, sizesOf, unlessFaulty, firstFault, behindFrames, decoded}
 use Rattle.image.specs.declared.decode.Decoded.{Decoded}
 use Rattle.image.specs.declared.decode.Decoded.the-variants.{Refused, Sound}
 use Rattle.content.specs.Program.{outlineBody}
 use Rattle.content.specs.Certificate.{lineBody}
-use Rattle.content.specs.Image.{obligationsBody}
+use Rattle.content.specs.Image.{obligationsBody, claimBody}
 
 -- what the checks of all records leave of an image with sizes z and bodies l; body i is that of record i + 1
 pub record Checks (z : Sizes) (l : List (List ℕ)) : Type 0 where
   -- how many thread records there are
   pub counted : ℕ
-  pub few : z .lines ≤ Limits.lines
-  pub sizes : z ≡ sizesOf (getD l 0 []) (z .formulas) (z .lines)
+  pub few : Counts (z .formulas) (z .lines) (z .claims)
+  pub sizes : z ≡ sizesOf (getD l 0 []) (z .formulas) (z .lines) (z .claims)
   pub passed : (i : ℕ) → i < recordCount z → check counted z l (placeOf z (i + 1)) (getD l i []) ≡ Passed
 
 refused-sound : (f : Fault) (i : ℕ) (z : Sizes) → Refused f i ≡ Sound z → ⊥
@@ -78,15 +78,15 @@ sound-checks s z e = go (wholeImage s) refl e
   where
     go : (g : Framing) → wholeImage s ≡ g → behindFrames (bodies s) g ≡ Sound z → Checks z (bodies s)
     go (Framing.Refused f r) w d = absurd (refused-sound f r z d)
-    go (Framing.Sound f t n) w d = subst (λ (x : Sizes). Checks x (bodies s)) (fault-sizes t y (bodies s) z 1 (recordCount y) (bodies s) d) (record {
+    go (Framing.Sound f t n m) w d = subst (λ (x : Sizes). Checks x (bodies s)) (fault-sizes t y (bodies s) z 1 (recordCount y) (bodies s) d) (record {
       counted = t;
-      few = lines-few s f t n w;
+      few = counts-few s f t n m w;
       sizes = refl;
-      passed = λ i m. let q : i + 1 ≡ 1 + i = omega arith in rw q (fault-passed t y (bodies s) z 1 (recordCount y) i (bodies s) m d);
+      passed = λ i b. let q : i + 1 ≡ 1 + i = omega arith in rw q (fault-passed t y (bodies s) z 1 (recordCount y) i (bodies s) b d);
     })
       where
         y : Sizes
-        y = sizesOf (getD (bodies s) 0 []) f n
+        y = sizesOf (getD (bodies s) 0 []) f n m
 
 -- which record is where
 
@@ -122,7 +122,14 @@ module _ (z : Sizes) where
   place-obligations =
       let i : ℕ = z .formulas + z .threads + 1 + z .lines + 1 + 1 in
       let q : i ≡ 1 → ⊥ = omega arith in
-      rw (ne-eqb i 1 q, lt-leb i (formulasEnd z) (omega arith), lt-leb i (threadsEnd z) (omega arith), lt-leb i (outlineAt z) (omega arith), lt-leb i (linesEnd z) (omega arith))
+      rw (ne-eqb i 1 q, lt-leb i (formulasEnd z) (omega arith), lt-leb i (threadsEnd z) (omega arith), lt-leb i (outlineAt z) (omega arith), lt-leb i (linesEnd z) (omega arith), le-leb i (linesEnd z + 1) (omega arith))
+
+  place-claim : (k : ℕ) → k < z .claims → placeOf z (z .formulas + z .threads + 1 + z .lines + 2 + k + 1) ≡ Claim
+  unfolding placeOf
+  place-claim k b =
+      let i : ℕ = z .formulas + z .threads + 1 + z .lines + 2 + k + 1 in
+      let q : i ≡ 1 → ⊥ = omega arith in
+      rw (ne-eqb i 1 q, lt-leb i (formulasEnd z) (omega arith), lt-leb i (threadsEnd z) (omega arith), lt-leb i (outlineAt z) (omega arith), lt-leb i (linesEnd z) (omega arith), lt-leb i (linesEnd z + 1) (omega arith))
 
 module _ (z : Sizes) (l : List (List ℕ)) (c : Checks z l) where
   pub header-passed : header (c .counted) (getD l 0 []) ≡ Passed
@@ -148,3 +155,7 @@ module _ (z : Sizes) (l : List (List ℕ)) (c : Checks z l) where
   pub obligations-passed : Lists.obligations z l (obligationsBody z l) ≡ Passed
   unfolding check recordCount
   obligations-passed = rw (place-obligations z) at (c .passed (z .formulas + z .threads + 1 + z .lines + 1) (omega arith))
+
+  pub claim-passed : (k : ℕ) → k < z .claims → Claims.claim z l (claimBody z l k) ≡ Passed
+  unfolding check recordCount claimBody
+  claim-passed k b = rw (place-claim z k b) at (c .passed (z .formulas + z .threads + 1 + z .lines + 2 + k) (omega arith))

@@ -2,7 +2,7 @@
 use mathlib.Core.Path.{_≡_, refl, sym, _∙_}
 use mathlib.Core.Bool.{Bool, true, false, not, _&&_, true≢false}
 use mathlib.Core.List.{List, []}
-use Prim.Native.Nat.{ℕ, suc, _-_, _≤_, _<_}
+use Prim.Native.Nat.{ℕ, suc, _+_, _-_, _≤_, _<_}
 use native.Mathlib.Omega.{arith}
 use lib.Dec.{T, eqb, ltb, lt→ltb}
 use lib.ListN.{length, getD, drop, List·getD-eq-default}
@@ -17,7 +17,7 @@ use Rattle.logic.specs.Machine.{Program}
 use Rattle.logic.specs.Statement.{triple, pair, isBranch, isPair, admittedAt, admitted}
 use Rattle.logic.proofs.Base.{and-both}
 use Rattle.limits.specs.Limits as Limits
-use Rattle.limits.specs.Numbers.{numbers, within, every}
+use Rattle.limits.specs.Numbers.{word, numbers, within, every}
 use Rattle.limits.proofs.Numbers.{numbers-length}
 use Rattle.formula.specs.Codes as Codes
 use Rattle.formula.specs.Reader.{sortOf}
@@ -29,6 +29,7 @@ use Rattle.records.specs.declared.line.Form.{Form}
 use Rattle.records.specs.declared.line.Form.the-variants.{Triple, Implication, Inclusion, Pair, Unlisted}
 use Rattle.records.specs.Line.{formOf, premises, tripleAt, placed, numbered, lineNumbers}
 use Rattle.records.specs.List.{exactly}
+use Rattle.records.specs.Claim.{pointThere, different, claimed, claim}
 use Rattle.records.specs.Tally.{obligationCount}
 use Rattle.bodies.specs.Lists.{outlinedAt, obligations}
 use Rattle.bodies.specs.Line.{sortAt, sortedBy, lineSorted, line}
@@ -37,11 +38,11 @@ use Rattle.certificate.proofs.FitT.{boundedSides}
 use Rattle.content.specs.Formula.{formula}
 use Rattle.content.specs.Program.{pointCount, programOf}
 use Rattle.content.specs.Certificate.{left, right, saying, lineBody}
-use Rattle.content.specs.Image.{obligationsBody, namedLine}
+use Rattle.content.specs.Image.{obligationsBody, namedLine, claimBody}
 use Rattle.limits.proofs.Inverse.{and-true, within-true, every-at, every-or}
 use Rattle.content.proofs.Inverse.{unless-passed, also-passed}
 use Rattle.content.proofs.Instr.{branch-is, instruction-there}
-use Rattle.content.proofs.Checked.{Checks, line-passed, obligations-passed}
+use Rattle.content.proofs.Checked.{Checks, line-passed, obligations-passed, claim-passed}
 use Rattle.content.proofs.Formulas.{formula-bounded, assertion-plain, assertion-startless}
 use Rattle.content.proofs.Program.{within-there, outlined-fine}
 
@@ -83,6 +84,34 @@ unfolding obligations exactly namedLine within
 named-there z l c i =
     let numbered = unless-passed _ _ _ (unless-passed _ _ _ (obligations-passed z l c) .1) .0 in
     within-true 0 (z .lines) (namedLine z l i) (every-or (within 0 (z .lines)) (numbers (obligationCount z l) (obligationsBody z l)) i 0 numbered (le-leb 0 (z .lines) (omega arith))) .1
+
+-- a claim: two threads that are there, with points of theirs, and a line that is there, or none
+pub record Claimed (z : Sizes) (l : List (List ℕ)) (b : List ℕ) : Type 0 where
+  pub thread : Within (z .threads) (getD b 0 0)
+  pub point : getD b 1 0 < pointCount z l (getD b 0 0)
+  pub other : Within (z .threads) (getD b 2 0)
+  pub beyond : getD b 3 0 < pointCount z l (getD b 2 0)
+  pub line : word (drop 4 b) ≤ z .lines
+
+point-in : (z : Sizes) (l : List (List ℕ)) (b : List ℕ) (i : ℕ) → pointThere z l b i ≡ true → Within (z .threads) (getD b i 0) × (getD b (i + 1) 0 < pointCount z l (getD b i 0))
+unfolding pointThere pointCount
+point-in z l b i e =
+    let h = and-true (within 1 (z .threads) (getD b i 0)) (within 0 (lastPoint (threadBody z l (getD b i 0))) (getD b (i + 1) 0)) e in
+    let p = within-true 0 (lastPoint (threadBody z l (getD b i 0))) (getD b (i + 1) 0) (h .1) in
+    (within-true 1 (z .threads) (getD b i 0) (h .0), omega (arith, p .1))
+
+pub claim-fine : (z : Sizes) (l : List (List ℕ)) → Checks z l → (i : ℕ) → i < z .claims → Claimed z l (claimBody z l i)
+unfolding claim claimed
+claim-fine z l c i m =
+    let b : List ℕ = claimBody z l i in
+    let rest : Bool = different b && within 0 (z .lines) (word (drop 4 b)) in
+    let e = unless-passed _ _ _ (unless-passed _ _ _ (claim-passed z l c i m) .1) .0 in
+    let h = and-true (pointThere z l b 0) (pointThere z l b 2 && rest) e in
+    let g = and-true (pointThere z l b 2) rest (h .1) in
+    let f = and-true (different b) (within 0 (z .lines) (word (drop 4 b))) (g .1) in
+    let p = point-in z l b 0 (h .0) in
+    let q = point-in z l b 2 (g .0) in
+    record { thread = p .0; point = p .1; other = q .0; beyond = q .1; line = within-true 0 (z .lines) (word (drop 4 b)) (f .1) .1 }
 
 module _ (z : Sizes) (l : List (List ℕ)) (c : Checks z l) (n : ℕ) (low : 1 ≤ n) (high : n ≤ z .lines) where
   abbrev P : Program

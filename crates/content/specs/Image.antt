@@ -1,8 +1,8 @@
--- What an image says: bytes to a refusal, or to program, outline, certificate and the lines that its obligations name.
+-- What an image says: bytes to a refusal, or to program, outline, certificate, the lines that its obligations name, and claims.
 use mathlib.Core.List.{List, []}
 use Prim.Native.Nat.{ℕ, _+_}
-use lib.ListN.{getD}
-use Rattle.limits.specs.Numbers.{numbers}
+use lib.ListN.{getD, drop}
+use Rattle.limits.specs.Numbers.{word, numbers}
 use Rattle.frames.specs.declared.fault.Fault.{Fault}
 use Rattle.frames.specs.Records.{bodies}
 use Rattle.program.specs.declared.sizes.Sizes.{Sizes}
@@ -10,12 +10,21 @@ use Rattle.records.specs.Tally.{obligationCount}
 use Rattle.image.specs.Decode.{decoded}
 use Rattle.image.specs.declared.decode.Decoded.{Decoded}
 use Rattle.image.specs.declared.decode.Decoded.the-variants.{Refused, Sound}
-use Rattle.outline.specs.Verdict.{Image}
+use Rattle.logic.specs.Claims.{Claim}
+use Rattle.outline.specs.Verdict.{Claims, Image}
 use Rattle.content.specs.Program.{programOf, outlineOf}
 use Rattle.content.specs.Certificate.{certificateOf}
 
+-- the number of a claim's record, counted from 1
+unfoldable pub claimPlace : Sizes → ℕ → ℕ
+claimPlace z i = z .formulas + z .threads + z .lines + 4 + i
+
+-- thread, point, other thread, other point
+abbrev pub claimIn : List ℕ → Claim
+claimIn b = record { thread = getD b 0 0; point = getD b 1 0; other = getD b 2 0; otherPoint = getD b 3 0 }
+
 module _ (z : Sizes) (l : List (List ℕ)) where
-  -- the last record
+  -- behind the lines
   abbrev pub obligationsBody : List ℕ
   obligationsBody = getD l (z .formulas + z .threads + 1 + z .lines + 1) []
 
@@ -23,8 +32,15 @@ module _ (z : Sizes) (l : List (List ℕ)) where
   unfoldable pub namedLine : ℕ → ℕ
   namedLine i = getD (numbers (obligationCount z l) obligationsBody) i 0
 
+  -- claims are the last records; they count from 0 here
+  unfoldable pub claimBody : ℕ → List ℕ
+  claimBody i = getD l (z .formulas + z .threads + 1 + z .lines + 2 + i) []
+
+  abbrev pub claimsOf : Claims
+  claimsOf = record { count = z .claims; claim = λ i. claimIn (claimBody i); line = λ i. word (drop 4 (claimBody i)); place = claimPlace z }
+
   abbrev pub imageOf : Image
-  imageOf = record { program = programOf z l; outline = outlineOf z l; certificate = certificateOf z l; named = namedLine }
+  imageOf = record { program = programOf z l; outline = outlineOf z l; certificate = certificateOf z l; named = namedLine; claims = claimsOf }
 
 -- a fault and its record, or what the image says
 pub data Result : Type 0 where

@@ -3,7 +3,8 @@ use mathlib.Core.Bool.{Bool, true, cond}
 use mathlib.Core.List.{List}
 use Prim.Native.Nat.{ℕ, _+_}
 use lib.Dec.{eqb, leb, ltb}
-use lib.ListN.{length, getD}
+use lib.ListN.{length, getD, drop}
+use Rattle.limits.specs.Numbers.{word}
 use Rattle.logic.specs.Opcode as Opcode
 use Rattle.limits.specs.Limits as Limits
 use Rattle.frames.specs.Records.{startOf}
@@ -12,6 +13,7 @@ use Rattle.program.specs.Instruction.{firstOperation}
 use Rattle.content.specs.Certificate.{left, right}
 use Rattle.content.specs.declared.line.Line.{Line}
 use Rattle.content.specs.declared.acting.Acting.{Acting}
+use Rattle.content.specs.declared.claim.Claimed.{Claimed}
 
 -- the body of the record at a position: behind its length and its kind. Past the last record there is none
 unfoldable pub bodyStart : List ℕ → ℕ → ℕ
@@ -31,6 +33,10 @@ lineIn s b = record {
   right = formulaAt s (right b);
   count = getD b 7 0;
 }
+
+-- the claim in a body
+unfoldable pub claimedIn : List ℕ → Claimed
+claimedIn b = record { thread = getD b 0 0; point = getD b 1 0; other = getD b 2 0; «other_point» = getD b 3 0; line = word (drop 4 b) }
 
 abbrev pub acts : ℕ → ℕ → ℕ → ℕ → ℕ → ℕ → ℕ → Acting
 acts op whole x r f q g = record { operation = op; whole = whole; word = x; register = r; formula = f; noted = q; note = g }

@@ -53,8 +53,9 @@ fn outline_number<'a, 'b>(
     if points - p <= n {
         return 0;
     }
+    let k = n + p;
     let b = body_of(s, ix, (z.formulas as usize) + (z.threads as usize) + 1);
-    number_at(b, points, n + p)
+    number_at(b, points, k)
 }
 
 // Where that formula stands.

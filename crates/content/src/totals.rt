@@ -30,6 +30,7 @@ fn points_before<'a, 'b>(s: &'a [u8], ix: &'b [usize], z: Sizes, t: usize) -> us
         range: z.range,
         formulas: z.formulas,
         lines: z.lines,
+        claims: z.claims,
     };
     let c = tally_of(s, ix, before);
     c.points

@@ -11,7 +11,7 @@ use borrow.Author.Tests.{eqb-true, eqb-false}
 use Rattle.limits.specs.Limits as Limits
 use Rattle.limits.specs.Numbers.{word}
 use Rattle.frames.specs.Kinds as Kinds
-use Rattle.frames.specs.Kinds.{most}
+use Rattle.frames.specs.Kinds.{order, most}
 use Rattle.frames.specs.declared.fault.Fault.{Fault}
 use Rattle.frames.specs.declared.fault.Fault.the-variants.{Size, Kind}
 use Rattle.frames.specs.declared.fault.Checked.{Checked}
@@ -43,31 +43,42 @@ one-more c k h b j = at (eqb j k) refl
         subst (λ (i : ℕ). getD (counted c k .count) i 0 ≤ most i) (sym q) m
     at false e = subst (λ (n : ℕ). n ≤ most j) (sym (getD-set-other (c .count) k j (getD (c .count) k 0 + 1) 0 (eqb-false j k e))) (h j)
 
-frame-keeps : (c : Seen) (l : List ℕ) → Few c → frame c l ≡ Passed → Few (counted c (word (drop 2 l)))
-frame-keeps c l h e = one-more c (word (drop 2 l)) h (framed c l e .admits .few)
+frame-keeps : (c : Seen) (l : List ℕ) → Few c → frame c l ≡ Passed → Few (counted c (order (word (drop 2 l))))
+frame-keeps c l h e = one-more c (order (word (drop 2 l))) h (framed c l e .admits .few)
 
-refused-sound : {Z : Type 0} (f : Fault) (i a b n : ℕ) → Refused f i ≡ Sound a b n → Z
-refused-sound f i a b n e = let q : _≡_ {A = ℕ} 0 1 = cc in absurd (omega arith)
+refused-sound : {Z : Type 0} (f : Fault) (i a b n m : ℕ) → Refused f i ≡ Sound a b n m → Z
+refused-sound f i a b n m e = let q : _≡_ {A = ℕ} 0 1 = cc in absurd (omega arith)
 
-ended-few : (i : ℕ) (c : Seen) → Few c → (a b n : ℕ) → ended i c ≡ Sound a b n → n ≤ Limits.lines
+-- no more formulas, lines and claims than an image may have
+pub record Counts (a n m : ℕ) : Type 0 where
+  pub formulas : a ≤ Limits.formulas
+  pub lines : n ≤ Limits.lines
+  pub claims : m ≤ Limits.claims
+
+ended-few : (i : ℕ) (c : Seen) → Few c → (a b n m : ℕ) → ended i c ≡ Sound a b n m → Counts a n m
 unfolding ended most
-ended-few i c h a b n = go (eqb (c .last) Kinds.obligations)
+ended-few i c h a b n m = go (ltb (c .last) Kinds.obligations)
   where
-    go : (p : Bool) → cond p (Sound (getD (c .count) Kinds.formula 0) (getD (c .count) Kinds.thread 0) (getD (c .count) Kinds.line 0)) (Refused Kind i) ≡ Sound a b n → n ≤ Limits.lines
-    go true e = let q : getD (c .count) Kinds.line 0 ≡ n = cc in omega (arith, h Kinds.line)
-    go false e = refused-sound Kind i a b n e
+    go : (p : Bool) → cond p (Refused Kind i) (Sound (getD (c .count) Kinds.formula 0) (getD (c .count) Kinds.thread 0) (getD (c .count) Kinds.line 0) (getD (c .count) Kinds.last 0)) ≡ Sound a b n m
+        → Counts a n m
+    go false e =
+        let f : getD (c .count) Kinds.formula 0 ≡ a = cc in
+        let q : getD (c .count) Kinds.line 0 ≡ n = cc in
+        let r : getD (c .count) Kinds.last 0 ≡ m = cc in
+        record { formulas = omega (arith, h Kinds.formula); lines = omega (arith, h Kinds.line); claims = omega (arith, h Kinds.last) }
+    go true e = refused-sound Kind i a b n m e
 
-passed-sound : (f : Checked) (g : Framing) (i a b n : ℕ) → unlessFaulty f i g ≡ Sound a b n → (f ≡ Passed) × (g ≡ Sound a b n)
-passed-sound Passed g i a b n e = (refl, e)
-passed-sound (Faulty f) g i a b n e = refused-sound f i a b n e
+passed-sound : (f : Checked) (g : Framing) (i a b n m : ℕ) → unlessFaulty f i g ≡ Sound a b n m → (f ≡ Passed) × (g ≡ Sound a b n m)
+passed-sound Passed g i a b n m e = (refl, e)
+passed-sound (Faulty f) g i a b n m e = refused-sound f i a b n m e
 
-walk-few : (k i : ℕ) (c : Seen) (l : List ℕ) → Few c → (a b n : ℕ) → walk k i c l ≡ Sound a b n → n ≤ Limits.lines
+walk-few : (k i : ℕ) (c : Seen) (l : List ℕ) → Few c → (a b n m : ℕ) → walk k i c l ≡ Sound a b n m → Counts a n m
 unfolding walk
-walk-few zero i c l h a b n e = ended-few i c h a b n e
-walk-few (suc k) i c [] h a b n e = ended-few i c h a b n e
-walk-few (suc k) i c (x ∷ l) h a b n e =
-    let p = passed-sound (frame c (x ∷ l)) (walk k (i + 1) (counted c (word (drop 2 (x ∷ l)))) (drop (2 + word (x ∷ l)) (x ∷ l))) i a b n e in
-    walk-few k (i + 1) (counted c (word (drop 2 (x ∷ l)))) (drop (2 + word (x ∷ l)) (x ∷ l)) (frame-keeps c (x ∷ l) h (p .0)) a b n (p .1)
+walk-few zero i c l h a b n m e = ended-few i c h a b n m e
+walk-few (suc k) i c [] h a b n m e = ended-few i c h a b n m e
+walk-few (suc k) i c (x ∷ l) h a b n m e =
+    let p = passed-sound (frame c (x ∷ l)) (walk k (i + 1) (counted c (order (word (drop 2 (x ∷ l))))) (drop (2 + word (x ∷ l)) (x ∷ l))) i a b n m e in
+    walk-few k (i + 1) (counted c (order (word (drop 2 (x ∷ l))))) (drop (2 + word (x ∷ l)) (x ∷ l)) (frame-keeps c (x ∷ l) h (p .0)) a b n m (p .1)
 
 none-few : Few none
 unfolding most
@@ -78,14 +89,14 @@ none-few (suc (suc (suc zero))) = omega arith
 none-few (suc (suc (suc (suc zero)))) = omega arith
 none-few (suc (suc (suc (suc (suc zero))))) = omega arith
 none-few (suc (suc (suc (suc (suc (suc zero)))))) = omega arith
-none-few (suc (suc (suc (suc (suc (suc (suc k))))))) = omega arith
+none-few (suc (suc (suc (suc (suc (suc (suc zero))))))) = omega arith
+none-few (suc (suc (suc (suc (suc (suc (suc (suc k)))))))) = omega arith
 
--- no more lines than an image may have
-pub lines-few : (s : List ℕ) (a b n : ℕ) → wholeImage s ≡ Sound a b n → n ≤ Limits.lines
+pub counts-few : (s : List ℕ) (a b n m : ℕ) → wholeImage s ≡ Sound a b n m → Counts a n m
 unfolding wholeImage frames
-lines-few s a b n = go (eqb (length s) 0) (ltb Limits.imageBytes (length s))
+counts-few s a b n m = go (eqb (length s) 0) (ltb Limits.imageBytes (length s))
   where
-    go : (p q : Bool) → cond p (Refused Size 0) (cond q (Refused Size 0) (walk (length s) 1 none s)) ≡ Sound a b n → n ≤ Limits.lines
-    go true q e = refused-sound Size 0 a b n e
-    go false true e = refused-sound Size 0 a b n e
-    go false false e = walk-few (length s) 1 none s none-few a b n e
+    go : (p q : Bool) → cond p (Refused Size 0) (cond q (Refused Size 0) (walk (length s) 1 none s)) ≡ Sound a b n m → Counts a n m
+    go true q e = refused-sound Size 0 a b n m e
+    go false true e = refused-sound Size 0 a b n m e
+    go false false e = walk-few (length s) 1 none s none-few a b n m e

@@ -10,7 +10,7 @@ use borrow.Author.Tests.{ltb-true, ltb-false}
 use Rattle.limits.specs.Numbers.{word, has}
 use Rattle.limits.proofs.Numbers.{has-true}
 use Rattle.frames.specs.Kinds as Kinds
-use Rattle.frames.specs.Kinds.{most}
+use Rattle.frames.specs.Kinds.{order, most}
 use Rattle.frames.specs.Frames.{admit, frame}
 use Rattle.frames.specs.declared.fault.Fault.{Fault}
 use Rattle.frames.specs.declared.fault.Fault.the-variants.{Length, Kind}
@@ -21,34 +21,34 @@ use Rattle.frames.specs.declared.frame.Seen.{Seen}
 never : {Z : Type 0} (f : Fault) → _≡_ {A = Checked} (Faulty f) Passed → Z
 never f h = let q : _≡_ {A = ℕ} 0 1 = cc in absurd (omega arith)
 
--- its kind is one of the kinds, and there are fewer of it than there may be
+-- its place is one of the order, and there are fewer there than there may be
 pub record Admitted (c : Seen) (k : ℕ) : Type 0 where
-  pub known : k ≤ Kinds.obligations
+  pub known : k ≤ Kinds.last
   pub few : getD (c .count) k 0 < most k
 
 admitted : (c : Seen) (k : ℕ) → admit c k ≡ Passed → Admitted c k
 unfolding admit
-admitted c k = go (ltb Kinds.obligations k) (ltb k (c .last)) (ltb 1 (k - c .last)) (ltb (getD (c .count) k 0) (most k)) refl refl
+admitted c k = go (ltb Kinds.last k) (ltb k (c .last)) (ltb 1 (k - c .last)) (ltb (getD (c .count) k 0) (most k)) refl refl
   where
-    go : (p q r t : Bool) → ltb Kinds.obligations k ≡ p → ltb (getD (c .count) k 0) (most k) ≡ t
+    go : (p q r t : Bool) → ltb Kinds.last k ≡ p → ltb (getD (c .count) k 0) (most k) ≡ t
         → cond p (Faulty Kind) (cond q (Faulty Kind) (cond r (Faulty Kind) (cond t Passed (Faulty Kind)))) ≡ Passed → Admitted c k
     go true q r t d e h = never Kind h
     go false true r t d e h = never Kind h
     go false false true t d e h = never Kind h
-    go false false false true d e h = record { known = ltb-false Kinds.obligations k d; few = ltb-true (getD (c .count) k 0) (most k) e }
+    go false false false true d e h = record { known = ltb-false Kinds.last k d; few = ltb-true (getD (c .count) k 0) (most k) e }
     go false false false false d e h = never Kind h
 
 -- and it ends inside of the bytes
 pub record Framed (c : Seen) (l : List ℕ) : Type 0 where
   pub inside : 2 + word l ≤ length l
-  pub admits : Admitted c (word (drop 2 l))
+  pub admits : Admitted c (order (word (drop 2 l)))
 
 pub framed : (c : Seen) (l : List ℕ) → frame c l ≡ Passed → Framed c l
 unfolding frame
 framed c l = go (has 2 l) (ltb (word l) 2) (has (2 + word l) l) refl
   where
-    go : (i j m : Bool) → has (2 + word l) l ≡ m → cond i (cond j (Faulty Length) (cond m (admit c (word (drop 2 l))) (Faulty Length))) (Faulty Length) ≡ Passed → Framed c l
+    go : (i j m : Bool) → has (2 + word l) l ≡ m → cond i (cond j (Faulty Length) (cond m (admit c (order (word (drop 2 l)))) (Faulty Length))) (Faulty Length) ≡ Passed → Framed c l
     go true true m d h = never Length h
-    go true false true d h = record { inside = has-true (2 + word l) l d; admits = admitted c (word (drop 2 l)) h }
+    go true false true d h = record { inside = has-true (2 + word l) l d; admits = admitted c (order (word (drop 2 l))) h }
     go true false false d h = never Length h
     go false j m d h = never Length h

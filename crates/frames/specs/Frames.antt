@@ -7,7 +7,7 @@ use lib.ListN.{length, getD, drop, set}
 use Rattle.limits.specs.Limits as Limits
 use Rattle.limits.specs.Numbers.{word, has}
 use Rattle.frames.specs.Kinds as Kinds
-use Rattle.frames.specs.Kinds.{most}
+use Rattle.frames.specs.Kinds.{order, most}
 use Rattle.frames.specs.declared.fault.Fault.the-variants.{Size, Length, Kind}
 use Rattle.frames.specs.declared.fault.Checked.{Checked}
 use Rattle.frames.specs.declared.fault.Checked.the-variants.{Passed, Faulty}
@@ -15,14 +15,14 @@ use Rattle.frames.specs.declared.frame.Seen.{Seen}
 use Rattle.frames.specs.declared.walk.Framing.{Framing}
 use Rattle.frames.specs.declared.walk.Framing.the-variants.{Refused, Sound}
 
--- a record of kind k more
+-- a record more at the place k of the order
 abbrev pub counted : Seen → ℕ → Seen
 counted c k = record { last = k; count = set (c .count) k (getD (c .count) k 0 + 1) }
 
--- a record of kind k comes: unknown, earlier than the last kind, later than the next one, too often, or it passes
+-- a record at the place k of the order comes: unknown, earlier than the last kind, later than the next one, too often, or it passes
 unfoldable pub admit : Seen → ℕ → Checked
 admit c k =
-    cond (ltb Kinds.obligations k) (Faulty Kind)
+    cond (ltb Kinds.last k) (Faulty Kind)
     (cond (ltb k (c .last)) (Faulty Kind)
     (cond (ltb 1 (k - c .last)) (Faulty Kind)
     (cond (ltb (getD (c .count) k 0) (most k)) Passed
@@ -33,16 +33,15 @@ unfoldable pub frame : Seen → List ℕ → Checked
 frame c l =
     cond (has 2 l)
     (cond (ltb (word l) 2) (Faulty Length)
-    (cond (has (2 + word l) l) (admit c (word (drop 2 l)))
+    (cond (has (2 + word l) l) (admit c (order (word (drop 2 l))))
     (Faulty Length)))
     (Faulty Length)
 
 -- the image ends where record i would come
 unfoldable pub ended : ℕ → Seen → Framing
 ended i c =
-    cond (eqb (c .last) Kinds.obligations)
-    (Sound (getD (c .count) Kinds.formula 0) (getD (c .count) Kinds.thread 0) (getD (c .count) Kinds.line 0))
-    (Refused Kind i)
+    cond (ltb (c .last) Kinds.obligations) (Refused Kind i)
+    (Sound (getD (c .count) Kinds.formula 0) (getD (c .count) Kinds.thread 0) (getD (c .count) Kinds.line 0) (getD (c .count) Kinds.last 0))
 
 -- the fault of record i, or what comes after it
 abbrev pub unlessFaulty : Checked → ℕ → Framing → Framing
@@ -54,10 +53,10 @@ unfoldable pub walk : ℕ → ℕ → Seen → List ℕ → Framing
 walk zero i c l = ended i c
 walk (suc k) i c [] = ended i c
 walk (suc k) i c (x ∷ l) =
-    unlessFaulty (frame c (x ∷ l)) i (walk k (i + 1) (counted c (word (drop 2 (x ∷ l)))) (drop (2 + word (x ∷ l)) (x ∷ l)))
+    unlessFaulty (frame c (x ∷ l)) i (walk k (i + 1) (counted c (order (word (drop 2 (x ∷ l))))) (drop (2 + word (x ∷ l)) (x ∷ l)))
 
 abbrev pub none : Seen
-none = record { last = 0; count = 0 ∷ 0 ∷ 0 ∷ 0 ∷ 0 ∷ 0 ∷ 0 ∷ [] }
+none = record { last = 0; count = 0 ∷ 0 ∷ 0 ∷ 0 ∷ 0 ∷ 0 ∷ 0 ∷ 0 ∷ [] }
 
 unfoldable pub frames : List ℕ → Framing
 frames s = walk (length s) 1 none s

@@ -4,6 +4,7 @@ use crate::fault::Fault;
 use crate::frame::Seen;
 use crate::frame::frame_at;
 use crate::kind::Kind;
+use crate::kind::order_of;
 use limits::Limits;
 use limits::read::word_at;
 ghost use mathlib.Core.Path.{_≡_};
@@ -19,6 +20,7 @@ pub enum Framing {
         formulas: u16,
         threads: u16,
         lines: u16,
+        claims: u16,
     },
 }
 
@@ -26,16 +28,17 @@ pub enum Framing {
 fn end_of(i: usize, c: Seen) -> Framing
     ensures { λ r. ⌜ r ≡ ended i c ⌝ }
 {
-    if c.last == Kind::OBLIGATIONS {
-        return Framing::Sound {
-            formulas: c.count[Kind::FORMULA],
-            threads: c.count[Kind::THREAD],
-            lines: c.count[Kind::LINE],
+    if c.last < Kind::OBLIGATIONS {
+        return Framing::Refused {
+            fault: Fault::Kind,
+            record: i,
         };
     }
-    Framing::Refused {
-        fault: Fault::Kind,
-        record: i,
+    Framing::Sound {
+        formulas: c.count[Kind::FORMULA],
+        threads: c.count[Kind::THREAD],
+        lines: c.count[Kind::LINE],
+        claims: c.count[Kind::LAST],
     }
 }
 
@@ -44,7 +47,7 @@ fn walk_frames(s: &[u8]) -> Framing
 {
     let mut c = Seen {
         last: 0,
-        count: [0; 7],
+        count: [0; 8],
     };
     let mut at: usize = 0;
     let mut i: usize = 1;
@@ -54,7 +57,7 @@ fn walk_frames(s: &[u8]) -> Framing
                 return Framing::Refused { fault, record: i };
             }
             Checked::Passed => {
-                let k = word_at(s, at + 2);
+                let k = order_of(word_at(s, at + 2));
                 c.count[k] = c.count[k] + 1;
                 c.last = k;
                 at = at + 2 + word_at(s, at);

@@ -1,4 +1,4 @@
--- The body of one record, by its place: header, formulas, threads, outline, lines, obligations.
+-- The body of one record, by its place: header, formulas, threads, outline, lines, obligations, claims.
 use mathlib.Core.Bool.{cond}
 use mathlib.Core.List.{List}
 use Prim.Native.Nat.{ℕ, _+_, _-_}
@@ -6,12 +6,13 @@ use lib.Dec.{eqb, leb}
 use Rattle.frames.specs.declared.fault.Checked.{Checked}
 use Rattle.program.specs.declared.sizes.Sizes.{Sizes}
 use Rattle.program.specs.Header.{header}
+use Rattle.records.specs.Claim as Claims
 use Rattle.bodies.specs.Formula as Formulas
 use Rattle.bodies.specs.Thread as Threads
 use Rattle.bodies.specs.Lists as Lists
 use Rattle.bodies.specs.Line as Lines
 use Rattle.image.specs.declared.body.Place.{Place}
-use Rattle.image.specs.declared.body.Place.the-variants.{Header, Formula, Thread, Outline, Line, Obligations}
+use Rattle.image.specs.declared.body.Place.the-variants.{Header, Formula, Thread, Outline, Line, Obligations, Claim}
 
 -- the last formula, the last thread, the outline, the last line
 abbrev pub formulasEnd : Sizes → ℕ
@@ -34,7 +35,8 @@ placeOf z i =
     (cond (leb i (threadsEnd z)) (Thread (i - formulasEnd z))
     (cond (leb i (outlineAt z)) Outline
     (cond (leb i (linesEnd z)) (Line (i - outlineAt z - 1))
-    Obligations))))
+    (cond (leb i (linesEnd z + 1)) Obligations
+    Claim)))))
 
 -- in an image with bodies l, where t thread records were counted
 unfoldable pub check : ℕ → Sizes → List (List ℕ) → Place → List ℕ → Checked
@@ -44,3 +46,4 @@ check t z l (Thread u) b = Threads.thread z l u b
 check t z l Outline b = Lists.outline z l b
 check t z l (Line lower) b = Lines.line z l lower b
 check t z l Obligations b = Lists.obligations z l b
+check t z l Claim b = Claims.claim z l b

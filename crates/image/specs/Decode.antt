@@ -15,17 +15,18 @@ use Rattle.image.specs.declared.decode.Decoded.{Decoded}
 use Rattle.image.specs.declared.decode.Decoded.the-variants.{Refused, Sound}
 
 unfoldable pub recordCount : Sizes → ℕ
-recordCount z = 3 + z .formulas + z .threads + z .lines
+recordCount z = 3 + z .formulas + z .threads + z .lines + z .claims
 
 -- the header's counts as written, and what the frames counted
-unfoldable pub sizesOf : List ℕ → ℕ → ℕ → Sizes
-sizesOf h formulas lines = record {
+unfoldable pub sizesOf : List ℕ → ℕ → ℕ → ℕ → Sizes
+sizesOf h formulas lines claims = record {
   threads = threadCount h;
   words = wordCount h;
   registers = registerCount h;
   range = valueRange h;
   formulas = formulas;
   lines = lines;
+  claims = claims;
 }
 
 -- the fault of record i, or what comes after it
@@ -40,8 +41,8 @@ firstFault t z l i (suc n) m = unlessFaulty (check t z l (placeOf z i) (getD m 0
 
 abbrev pub behindFrames : List (List ℕ) → Framing → Decoded
 behindFrames l (Framing.Refused f r) = Refused f r
-behindFrames l (Framing.Sound formulas threads lines) =
-    let z = sizesOf (getD l 0 []) formulas lines in
+behindFrames l (Framing.Sound formulas threads lines claims) =
+    let z = sizesOf (getD l 0 []) formulas lines claims in
     firstFault threads z l 1 (recordCount z) l
 
 -- all frames, then the bodies first to last

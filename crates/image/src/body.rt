@@ -7,6 +7,7 @@ use bodies::thread_body::check_thread;
 use frames::fault::Checked;
 use program::header::check_header;
 use program::sizes::Sizes;
+use records::claim::check_claim;
 ghost use mathlib.Core.Path.{_≡_};
 ghost use Rattle.frames.specs.Records.{bodies, indexOf};
 ghost use Rattle.bodies.specs.Outlined.{outlinedOf};
@@ -20,6 +21,7 @@ pub enum Place {
     Outline,
     Line(usize),
     Obligations,
+    Claim,
 }
 
 // Record i, counted from 1.
@@ -44,7 +46,10 @@ fn place_of(z: Sizes, i: usize) -> Place
     if i <= outline + (z.lines as usize) {
         return Place::Line(i - outline - 1);
     }
-    Place::Obligations
+    if i <= outline + (z.lines as usize) + 1 {
+        return Place::Obligations;
+    }
+    Place::Claim
 }
 
 // Where t thread records were counted.
@@ -67,5 +72,6 @@ pub fn check_body<'a, 'b, 'c>(
         Place::Outline => check_outline(s, ix, on, z, b),
         Place::Line(lower) => check_line(s, ix, on, z, lower, b),
         Place::Obligations => check_obligations(s, ix, z, b),
+        Place::Claim => check_claim(s, ix, z, b),
     }
 }

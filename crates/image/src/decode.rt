@@ -25,12 +25,12 @@ pub enum Decoded {
 fn record_count(z: Sizes) -> usize
     ensures { λ r. ⌜ (r ≡ recordCount z) × (r < 1000000) ⌝ }
 {
-    3 + (z.formulas as usize) + (z.threads as usize) + (z.lines as usize)
+    3 + (z.formulas as usize) + (z.threads as usize) + (z.lines as usize) + (z.claims as usize)
 }
 
 // By the header's bytes and what the frames counted.
-fn sizes_of(h: &[u8], formulas: u16, lines: u16) -> Sizes
-    ensures { λ r. ⌜ r ≡ sizesOf (now (h .entry)) formulas lines ⌝ }
+fn sizes_of(h: &[u8], formulas: u16, lines: u16, claims: u16) -> Sizes
+    ensures { λ r. ⌜ r ≡ sizesOf (now (h .entry)) formulas lines claims ⌝ }
 {
     Sizes {
         threads: byte_at(h, Header::THREADS) as u8,
@@ -39,6 +39,7 @@ fn sizes_of(h: &[u8], formulas: u16, lines: u16) -> Sizes
         range: range_of(h),
         formulas,
         lines,
+        claims,
     }
 }
 
@@ -80,9 +81,10 @@ pub fn decode_image<'a, 'b>(s: &'a [u8], ix: &'b [usize]) -> Decoded
             formulas,
             threads,
             lines,
+            claims,
         } => {
             let h = body_of(s, ix, 0);
-            let z = sizes_of(h, formulas, lines);
+            let z = sizes_of(h, formulas, lines, claims);
             let outlined = outlined_of(s, ix, z);
             check_bodies(s, ix, &outlined.on, threads as usize, z)
         }

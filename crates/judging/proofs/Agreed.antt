@@ -2,11 +2,11 @@
 use mathlib.Core.Path.{_≡_, refl, ap₂, _∙_}
 use mathlib.Core.Bool.{Bool, true, false, cond}
 use mathlib.Core.List.{List, [], _∷_}
-use Prim.Native.Nat.{ℕ, suc, _+_}
+use Prim.Native.Nat.{ℕ, zero, suc, _+_, _≤_, _<_}
 use native.Mathlib.Numerals.{add-one}
 use native.Mathlib.Omega.{arith}
 use lib.Dec.{eqb}
-use borrow.Author.Tests.{eqb-false}
+use borrow.Author.Tests.{eqb-false, eq-eqb, ne-eqb}
 use Rattle.logic.specs.Base.{All, Within}
 use Rattle.patterns.specs.Fits.{sameStatement}
 use Rattle.logic.specs.Obligations as Logic
@@ -14,21 +14,30 @@ use Rattle.logic.specs.Obligations.{obligations}
 use Rattle.frames.specs.Records.{bodies}
 use Rattle.program.specs.declared.sizes.Sizes.{Sizes}
 use Rattle.certificate.specs.Lines.{marked}
-use Rattle.outline.specs.Verdict.{Image, codeOf, asks, code, judge, outcome}
+use Rattle.outline.specs.Verdict.{Image, codeOf, lineCode, asks, code, judge, outcome, Finding, accepted, denied, forbids, sustained, judgeClaims}
 use Rattle.outline.specs.Verdict as Verdict
-use Rattle.content.specs.Image.{imageOf}
+use Rattle.content.specs.Image.{claimBody, imageOf}
+use Rattle.content.specs.Places.{claimedIn}
 use Rattle.content.proofs.Checked.{Checks}
-use Rattle.content.proofs.Lines.{named-there}
+use Rattle.content.proofs.Lines.{named-there, claim-fine}
 use Rattle.marks.specs.Marks.{isMarked}
 use Rattle.marks.specs.declared.Marks.{Marks}
 use Rattle.report.specs.declared.obligation.Obligation.{Obligation}
 use Rattle.judging.specs.declared.outcome.Outcome.{Outcome}
 use Rattle.judging.specs.declared.outcome.Outcome.the-variants.{Met, Failed}
 use Rattle.report.specs.Place.{obligation}
-use Rattle.wanted.specs.Concluding.{concludesAt, codeAt}
+use Rattle.wanted.specs.Wanted.{wantedClaim}
+use Rattle.wanted.specs.Concluding.{meets, concludesAt, sustainedAt, codeAt}
+use Rattle.judging.specs.Claims.{firstDenied}
 use Rattle.judging.specs.Judge.{judgeOne, next, judged, judgeAt, toOutcome}
-use Rattle.wanted.proofs.Asked.{InRange, concludes-asked}
+use Rattle.wanted.proofs.Asked.{InRange, concludes-asked, claim-asked}
 use Rattle.judging.proofs.Ranged.{obligations-ranged}
+
+borne-same : (a b c : Bool) → cond a false (cond b c false) ≡ eqb (codeOf a b c) 0
+borne-same true b c = refl
+borne-same false true true = refl
+borne-same false true false = refl
+borne-same false false c = refl
 
 codes-same : (a b c : Bool) → cond a 20 (cond b (cond c 0 22) 21) ≡ codeOf a b c
 codes-same true b c = refl
@@ -49,7 +58,7 @@ module _ (s : List ℕ) (z : Sizes) (c : Checks z (bodies s)) where
   -- the marks are those of the lines
   module _ (m : Marks) (marking : (k : ℕ) → Within (z .lines) k → isMarked m k ≡ marked (D .program) (D .certificate) (D .certificate .count) k) where
     code-same : (o : Logic.Obligation) → InRange (D .program) o → (i : ℕ) → codeAt s z m (obligation o) (D .named i) ≡ code D o (D .named i)
-    unfolding codeAt code
+    unfolding codeAt lineCode
     code-same o r i = go (eqb (D .named i) 0) refl
       where
         go : (b : Bool) → eqb (D .named i) 0 ≡ b
@@ -77,3 +86,42 @@ module _ (s : List ℕ) (z : Sizes) (c : Checks z (bodies s)) where
 
     pub judged-is : judgeAt s z m (obligations (D .program)) 0 ≡ toOutcome (outcome D)
     judged-is = judge-same (obligations (D .program)) (obligations-ranged (D .program)) 0
+
+    -- claims, likewise
+    abbrev body : ℕ → List ℕ
+    body i = claimBody z (bodies s) i
+
+    sustained-same : (i : ℕ) → i < z .claims → sustainedAt s z m i ≡ sustained D i
+    unfolding sustainedAt lineCode claimedIn
+    sustained-same i h = go (eqb (D .claims .line i) 0) refl
+      where
+        go : (b : Bool) → eqb (D .claims .line i) 0 ≡ b
+            → cond (eqb (D .claims .line i) 0) false (cond (meets s z (wantedClaim s z (claimedIn (body i))) (D .claims .line i)) (isMarked m (D .claims .line i)) false)
+            ≡ eqb (codeOf (eqb (D .claims .line i) 0) (sameStatement (forbids D i) (D .certificate .line (D .claims .line i) .says)) (marked (D .program) (D .certificate) (D .certificate .count) (D .claims .line i))) 0
+        go true e = rw e
+        go false e =
+            let q = eqb-false (D .claims .line i) 0 e in
+            let f = claim-fine z (bodies s) c i h in
+            let w : Within (z .lines) (D .claims .line i) = (omega arith, f .line) in
+            borne-same (eqb (D .claims .line i) 0) (meets s z (wantedClaim s z (claimedIn (body i))) (D .claims .line i)) (isMarked m (D .claims .line i))
+            ∙ ap₂ (λ (x y : Bool). eqb (codeOf (eqb (D .claims .line i) 0) x y) 0) (claim-asked s z c (D .claims .line i) w i h) (marking (D .claims .line i) w)
+
+    -- the first claim that fails, of n from i on; the number behind them if there is none
+    abbrev found : ℕ → ℕ → ℕ → Finding
+    found n k d = cond (eqb k n) (accepted d) (denied k d)
+
+    claims-from : (n i d : ℕ) → i + n ≡ z .claims → judgeClaims D n i d ≡ found (i + n) (firstDenied s z m n i) d
+    unfolding firstDenied judgeClaims
+    claims-from zero i d e = rw (eq-eqb i (i + zero) (omega arith))
+    claims-from (suc n) i d e =
+        let b : i < z .claims = omega arith in
+        let g : i + suc n ≡ suc i + n = omega arith in
+        rw (sustained-same i b) (go (sustained D i) (rw (← g) at (claims-from n (suc i) d (omega arith))))
+      where
+        go : (x : Bool) → judgeClaims D n (suc i) d ≡ found (i + suc n) (firstDenied s z m n (suc i)) d
+            → elim x [ true ↦ judgeClaims D n (suc i) d | false ↦ denied i d ] ≡ found (i + suc n) (cond x (firstDenied s z m n (suc i)) i) d
+        go true h = h
+        go false h = rw (ne-eqb i (i + suc n) (λ q. omega arith))
+
+    pub claims-are : (d : ℕ) → judgeClaims D (z .claims) 0 d ≡ found (z .claims) (firstDenied s z m (z .claims) 0) d
+    claims-are d = let e : 0 + z .claims ≡ z .claims = omega arith in rw e at (claims-from (z .claims) 0 d e)

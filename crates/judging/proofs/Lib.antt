@@ -1,3 +1,4 @@
+pub mod Borne
 pub mod Outcomes
 pub mod Groups
 pub mod Ranged

@@ -33,6 +33,9 @@ nesting = 16
 abbrev pub lines : ℕ
 lines = 4000
 
+abbrev pub claims : ℕ
+claims = 16
+
 abbrev pub premises : ℕ
 premises = Logic.premises
 
@@ -45,4 +48,4 @@ programBytes = 65535
 
 -- a header, an outline and an obligations record, and what there may be many of
 abbrev pub records : ℕ
-records = 3 + formulas + threads + lines
+records = 3 + formulas + threads + lines + claims

@@ -28,6 +28,8 @@ impl Limits {
 
     pub const PREMISES: usize = 4;
 
+    pub const CLAIMS: usize = 16;
+
     pub const ROWS: usize = 4096;
 
     pub const LEAVES: usize = 10;
@@ -38,5 +40,9 @@ impl Limits {
     pub const PROGRAM_BYTES: usize = 65535;
 
     // A header, an outline and an obligations record, and what there may be many of.
-    pub const RECORDS: usize = 3 + Limits::FORMULAS + Limits::THREADS + Limits::LINES;
+    pub const RECORDS: usize = 3
+        + Limits::FORMULAS
+        + Limits::THREADS
+        + Limits::LINES
+        + Limits::CLAIMS;
 }

@@ -19,6 +19,7 @@ use Rattle.logic.specs.Statement.{Statement, implies, triple, pair, isPa
 use Rattle.logic.specs.Obligations
 use Rattle.logic.specs.EveryRun.{Outline, Holds, EveryRun}
 use Rattle.logic.specs.Obligations.{Obligation, below, upTo, flat, own, acting, instructed, asserted, assertions, starts, steps, interferences, obligations, wants}
+use Rattle.logic.specs.Claims.{Claim, NeverBoth, threadsIn, impossible, claims}
 use Rattle.logic.specs.WellFormed.{proper, WellFormed}
 use Rattle.logic.specs.Derivation.{Derived, by-rule, Proved}
 use Rattle.logic.proofs.Base.{by-word, upds, and-left, and-right, and-both, is-true, All-left, All-right}
@@ -235,3 +236,18 @@ module _ (P : Program) (O : Outline) (W : WellFormed P O) (D : Proved P O) where
 -- the theorem
 pub every-run : (P : Program) (O : Outline) → WellFormed P O → Proved P O → EveryRun P O
 every-run P O W D = record { holds = λ s st l. run-keeps P O W D l s (start-inv P O W D s st) .true-there }
+
+-- a claim: its assertions are true of a run's state, and false together
+module _ (P : Program) (O : Outline) (W : WellFormed P O) (D : Proved P O) where
+  not-together : (lower : Bool) (a b : Assertion) → Derived P (impossible lower a b) → (s : State) → Wf P s → True P s a → True P s b → ⊥
+  not-together true a b d s wf h g = derived-valid P (W .instructions) d s wf (h, g)
+  not-together false a b d s wf h g = derived-valid P (W .instructions) d s wf (g, h)
+
+  pub never-both : (c : Claim) → threadsIn P c → Derived P (claims O c) → NeverBoth P c
+  never-both c w d = record { never = λ s st l. go (run P s l) (run-keeps P O W D l s (start-inv P O W D s st)) }
+    where
+      go : (s : State) → Inv P O s → s .point (c .thread) ≡ c .point → s .point (c .other) ≡ c .otherPoint → ⊥
+      go s inv p q =
+          not-together (ltb (c .thread) (c .other)) (O (c .thread) (c .point)) (O (c .other) (c .otherPoint)) d s (inv .wf)
+          (subst (λ (k : ℕ). True P s (O (c .thread) k)) p (inv .true-there (c .thread) (w .0)))
+          (subst (λ (k : ℕ). True P s (O (c .other) k)) q (inv .true-there (c .other) (w .1)))

@@ -17,6 +17,7 @@ pub mod Opcode
 pub mod Rule
 pub mod Inference
 pub mod Obligations
+pub mod Claims
 -- what acceptance comes from
 pub mod WellFormed
 pub mod Derivation

@@ -1,5 +1,5 @@
 -- Demand 2: the outcome of an image whose bytes are sound is the one that the mission describes, and no other.
-use mathlib.Core.Path.{_≡_, refl, sym, _∙_, subst}
+use mathlib.Core.Path.{_≡_, refl, ap, sym, _∙_, subst}
 use mathlib.Core.Bool.{Bool, true, false, true≢false}
 use mathlib.Core.List.{List, [], _∷_}
 use mathlib.Core.Logic.{_≢_}
@@ -16,9 +16,9 @@ use Rattle.logic.proofs.Base.{is-true, holds-true}
 use Rattle.patterns.proofs.Fit.{statement-eq, statement-refl}
 use Rattle.certificate.specs.Lines.{marked}
 use Rattle.certificate.proofs.Marks.{justified-marked}
-use Rattle.outline.specs.Verdict.{Image, Outcome, met, failed, codeOf, asks, code, outcome, Met, AllMet, Admitted}
-use Rattle.outline.specs.Judged.{total, numbered, Meets, EachMet, Lacks, no-line, other-statement, not-justified, Judged, each-met, first-unmet}
-use Rattle.outline.proofs.Accept.{First, accepted-met, met-accepted, failed-first}
+use Rattle.outline.specs.Verdict.{Image, Outcome, met, failed, codeOf, asks, lineCode, code, outcome, Met, AllMet, Finding, accepted, unmet, denied, sustained, judgeClaims, behindObligations, finding, Admitted}
+use Rattle.outline.specs.Judged.{total, numbered, Meets, EachMet, Lacks, no-line, other-statement, not-justified, EachSustained, Judged, each-met, first-unmet, first-denied}
+use Rattle.outline.proofs.Accept.{First, accepted-met, met-accepted, failed-first, accepted-all, all-accepted, denied-first}
 
 module _ (D : Image) where
   -- obligations met from number m on: each of the first j
@@ -43,7 +43,7 @@ module _ (D : Image) where
 
   -- a code that is not 0 says what is lacking
   code-lacks : Admitted D → (o : Obligation) (n : ℕ) → code D o n ≢ 0 → Lacks D o n (code D o n)
-  unfolding code
+  unfolding lineCode
   code-lacks A o n =
       go (eqb n 0) refl (sameStatement (asks D o) (D .certificate .line n .says)) refl (marked (D .program) (D .certificate) (D .certificate .count) n) refl
     where
@@ -58,14 +58,24 @@ module _ (D : Image) where
           (λ j. true≢false (sym (holds-true (marked (D .program) (D .certificate) (D .certificate .count) n) (justified-marked (D .program) (D .certificate) (record { lower = A .lower }) n j)) ∙ r))
       go false p true q true r h = absurd (h refl)
 
-  named-first : Admitted D → (c : ℕ) (o : Obligation) (n k : ℕ) → First D (obligations (D .program)) 0 c o n k → Judged D (failed c o n k)
+  -- claims name no obligation
+  never-unmet : (n i m c : ℕ) (o : Obligation) (l k : ℕ) → judgeClaims D n i m ≡ unmet c o l k → ⊥
+  unfolding judgeClaims
+  never-unmet zero i m c o l k e = let z : _≡_ {A = ℕ} 0 1 = cc in omega arith
+  never-unmet (suc n) i m c o l k e = go (sustained D i) e (never-unmet n (suc i) m c o l k)
+    where
+      go : (b : Bool) → elim b as (λ x. Finding) [ true ↦ judgeClaims D n (suc i) m | false ↦ denied i m ] ≡ unmet c o l k → (judgeClaims D n (suc i) m ≡ unmet c o l k → ⊥) → ⊥
+      go true e ih = ih e
+      go false e ih = let z : _≡_ {A = ℕ} 0 1 = cc in omega arith
+
+  named-first : Admitted D → (c : ℕ) (o : Obligation) (n k : ℕ) → First D (obligations (D .program)) 0 c o n k → Judged D (unmet c o n k)
   named-first A c o n k f =
       let z : k - 0 ≡ k = omega arith in
       let eo : numbered D k ≡ o = subst (λ (j : ℕ). getD (obligations (D .program)) j (start 0) ≡ o) z (f .its) in
       let lacking : Lacks D o n c = subst (Lacks D o n) (f .fails) (code-lacks A o n (λ y. f .bad (sym (f .fails) ∙ y))) in
       let its : Lacks D (numbered D k) (D .named k) c = subst (λ (w : Obligation). Lacks D w (D .named k) c) (sym eo) (subst (λ (w : ℕ). Lacks D o w c) (f .line) lacking) in
-      subst (λ (w : ℕ). Judged D (failed c o w k)) (sym (f .line))
-      (subst (λ (w : Obligation). Judged D (failed c w (D .named k) k)) eo (first-unmet k (omega (arith, f .inside)) (before f) its))
+      subst (λ (w : ℕ). Judged D (unmet c o w k)) (sym (f .line))
+      (subst (λ (w : Obligation). Judged D (unmet c w (D .named k) k)) eo (first-unmet k (omega (arith, f .inside)) (before f) its))
     where
       before : First D (obligations (D .program)) 0 c o n k → (i : ℕ) → i < k → Meets D i
       before f i b =
@@ -73,13 +83,29 @@ module _ (D : Image) where
           (met-before (k - 0) (obligations (D .program)) 0 (f .before) i (omega arith) (omega (arith, f .inside)))
 
   -- DEMAND 2
-  pub outcome-judged : Admitted D → Judged D (outcome D)
-  outcome-judged A = go (outcome D) refl
+  pub finding-judged : Admitted D → Judged D (finding D)
+  finding-judged A = go (outcome D) refl (finding D) refl
     where
-      go : (o : Outcome) → outcome D ≡ o → Judged D o
-      go (met d) e = let r = accepted-met D d e in subst (λ (z : ℕ). Judged D (met z)) (sym (r .1)) (each-met (all-each (obligations (D .program)) (r .0)))
-      go (failed c o n k) e = named-first A c o n k (failed-first D c o n k e)
+      met-each : (d : ℕ) → outcome D ≡ met d → (d ≡ total D) × EachMet D
+      met-each d e = let r = accepted-met D d e in (r .1, all-each (obligations (D .program)) (r .0))
 
-  pub each-accepted : Admitted D → EachMet D → outcome D ≡ met (total D)
-  each-accepted A h =
-      met-accepted D A (each-all (obligations (D .program)) 0 (λ i b. subst (λ (z : ℕ). Met D (numbered D i) (D .named z)) (let e : i ≡ 0 + i = omega arith in e) (h i b)))
+      go : (o : Outcome) → outcome D ≡ o → (f : Finding) → finding D ≡ f → Judged D f
+      go (met d) e (accepted n) q =
+          let r = accepted-all D n q in
+          let h = met-each n (r .0) in
+          subst (λ (z : ℕ). Judged D (accepted z)) (sym (h .0)) (each-met (h .1) (r .1))
+      go (met d) e (denied k m) q =
+          let r = denied-first D A d k m e q in
+          let h = met-each d e in
+          subst (λ (z : ℕ). Judged D (denied k z)) (sym (r .all ∙ h .0))
+          (first-denied k (h .1) (omega (arith, r .inside)) (λ j b. r .before j (omega arith) b) (r .fails))
+      go (met d) e (unmet c o n k) q = absurd (met-unmet d (sym (ap (behindObligations D) e) ∙ q))
+        where
+          met-unmet : (d : ℕ) → judgeClaims D (D .claims .count) 0 d ≡ unmet c o n k → ⊥
+          met-unmet d = never-unmet (D .claims .count) 0 d c o n k
+      go (failed c o n k) e f q = subst (Judged D) (sym (ap (behindObligations D) e) ∙ q) (named-first A c o n k (failed-first D c o n k e))
+
+  pub each-accepted : Admitted D → EachMet D → EachSustained D → finding D ≡ accepted (total D)
+  each-accepted A h g =
+      all-accepted D A (total D)
+      (met-accepted D A (each-all (obligations (D .program)) 0 (λ i b. subst (λ (z : ℕ). Met D (numbered D i) (D .named z)) (let e : i ≡ 0 + i = omega arith in e) (h i b)))) g

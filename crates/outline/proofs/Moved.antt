@@ -9,7 +9,7 @@ use lib.ListN.{length}
 use Rattle.logic.specs.Machine.{Program}
 use Rattle.logic.specs.Obligations.{Obligation, starts, steps, interferences, obligations}
 use Rattle.logic.proofs.Order.{formerly, all-formerly, allMet, moved, moved-alike}
-use Rattle.outline.specs.Verdict.{Image, Outcome, met, failed, code, judge, outcome}
+use Rattle.outline.specs.Verdict.{Image, Outcome, met, failed, lineCode, code, judge, outcome}
 
 abbrev pub isMet : Outcome → Bool
 isMet (met n) = true
@@ -70,7 +70,7 @@ module _ (D : Image) (named : ℕ → ℕ) where
   P = D .program
 
   abbrev E : Image
-  E = record { program = D .program; outline = D .outline; certificate = D .certificate; named = named }
+  E = record { program = D .program; outline = D .outline; certificate = D .certificate; named = named; claims = D .claims }
 
   abbrev first : List Obligation
   first = starts P ++ steps P
@@ -84,7 +84,7 @@ module _ (D : Image) (named : ℕ → ℕ) where
 
   module _ (stay : lines E first 0 ≡ lines D first 0) (move : lines E (interferences P) (length first) ≡ moved P former whole) where
     pub moved-accepted : isMet (judge D (all-formerly P) 0) ≡ isMet (outcome E)
-    unfolding code all-formerly
+    unfolding lineCode all-formerly
     moved-accepted =
         ap (λ (os : List Obligation). isMet (judge D os 0)) (sym (append-assoc (starts P) (steps P) (formerly P)))
         ∙ judged-split D first (formerly P)

@@ -5,7 +5,7 @@ use Prim.Native.Nat.{ℕ, _<_}
 use lib.ListN.{length, getD}
 use Rattle.logic.specs.Obligations.{Obligation, Obligation.start, obligations}
 use Rattle.certificate.specs.Lines.{Justified}
-use Rattle.outline.specs.Verdict.{Image, Outcome, met, failed, asks, Met}
+use Rattle.outline.specs.Verdict.{Image, Finding, accepted, unmet, denied, asks, forbids, Bears, Met}
 
 module _ (D : Image) where
   -- how many obligations there are; the one with the number k, from 0
@@ -29,8 +29,16 @@ module _ (D : Image) where
     other-statement : n ≢ 0 → asks D o ≢ D .certificate .line n .says → Lacks o n 21
     not-justified : n ≢ 0 → asks D o ≡ D .certificate .line n .says → (Justified (D .program) (D .certificate) n → ⊥) → Lacks o n 22
 
-  -- every obligation is met, and all are counted; or the first that is not met is the one that is named, with what it lacks, its line
-  -- and how many are before it
-  pub data Judged : Outcome → Type 0 where
-    each-met : EachMet → Judged (met total)
-    first-unmet : {c : ℕ} (k : ℕ) → k < total → ((i : ℕ) → i < k → Meets i) → Lacks (numbered k) (D .named k) c → Judged (failed c (numbered k) (D .named k) k)
+  -- the claim i names a line that says false follows from both assertions and that is justified
+  abbrev pub Sustains : ℕ → Type 0
+  Sustains i = Bears D (forbids D i) (D .claims .line i)
+
+  abbrev pub EachSustained : Type 0
+  EachSustained = (i : ℕ) → i < D .claims .count → Sustains i
+
+  -- every obligation is met, all are counted, and every claim is sustained; or the first obligation that is not met is named, with what it
+  -- lacks, its line and how many are before it; or, where every obligation is met, the first claim that is not sustained
+  pub data Judged : Finding → Type 0 where
+    each-met : EachMet → EachSustained → Judged (accepted total)
+    first-unmet : {c : ℕ} (k : ℕ) → k < total → ((i : ℕ) → i < k → Meets i) → Lacks (numbered k) (D .named k) c → Judged (unmet c (numbered k) (D .named k) k)
+    first-denied : (i : ℕ) → EachMet → i < D .claims .count → ((j : ℕ) → j < i → Sustains j) → (Sustains i → ⊥) → Judged (denied i total)

@@ -6,4 +6,5 @@ pub struct Sizes {
     pub range: u8,
     pub formulas: u16,
     pub lines: u16,
+    pub claims: u16,
 }

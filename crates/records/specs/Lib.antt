@@ -3,3 +3,4 @@ pub mod Tally
 pub mod List
 pub mod Rules
 pub mod Line
+pub mod Claim

@@ -14,7 +14,7 @@ use Rattle.report.specs.declared.obligation.Obligation.{Obligation}
 use Rattle.report.specs.declared.obligation.Obligation.the-variants.{Start, Step, Taken, Interference}
 use Rattle.report.specs.declared.obligation.Place.{Place}
 use Rattle.report.specs.declared.verdict.Verdict.{Verdict}
-use Rattle.report.specs.declared.verdict.Verdict.the-variants.{Accepted, Refused, Failed}
+use Rattle.report.specs.declared.verdict.Verdict.the-variants.{Accepted, Refused, Failed, Denied}
 use Rattle.report.specs.declared.verdict.Fields.{Fields}
 
 module _ (o : Obligation) (t k : ℕ) where
@@ -49,7 +49,11 @@ module _ (v : Verdict) where
   unfolding fieldsOf
   fields-failed o c l n p r e h d = rw (d, e, h)
 
-pub ruleset numbering = (fields-accepted, fields-refused, fields-failed)
+  pub fields-denied : (i : ℕ) (p : Place) (l n : ℕ) (r : Fields) → v ≡ Denied i p l n → r ≡ gathered 26 i p l n → r ≡ fieldsOf v
+  unfolding fieldsOf
+  fields-denied i p l n r e d = rw (d, e)
+
+pub ruleset numbering = (fields-accepted, fields-refused, fields-failed, fields-denied)
 
 module _ (v : Verdict) (out : List ℕ) where
   pub short-code : length out < size → 1 ≡ codeFor v out

@@ -4,7 +4,7 @@ use Rattle.frames.specs.Fault.{codeOf}
 use Rattle.report.specs.Place.{placeOf}
 use Rattle.report.specs.declared.obligation.Place.{Place}
 use Rattle.report.specs.declared.verdict.Verdict.{Verdict}
-use Rattle.report.specs.declared.verdict.Verdict.the-variants.{Accepted, Refused, Failed}
+use Rattle.report.specs.declared.verdict.Verdict.the-variants.{Accepted, Refused, Failed, Denied}
 use Rattle.report.specs.declared.verdict.Fields.{Fields}
 
 -- of a verdict that names no obligation
@@ -29,3 +29,4 @@ unfoldable pub fieldsOf : Verdict → Fields
 fieldsOf (Accepted n) = gathered 0 0 nowhere 0 n
 fieldsOf (Refused f i) = gathered (codeOf f) i nowhere 0 0
 fieldsOf (Failed o c l n) = gathered c 0 (placeOf o) l n
+fieldsOf (Denied i p l n) = gathered 26 i p l n

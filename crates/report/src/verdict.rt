@@ -24,6 +24,17 @@ pub enum Verdict {
         line: usize,
         count: usize,
     },
+    // Every obligation is met, and this is the first claim that its line does not bear out: its record, threads and points.
+    Denied {
+        record: usize,
+        place: Place,
+        line: usize,
+        count: usize,
+    },
+}
+
+impl Verdict {
+    pub const DENIED: u16 = 26;
 }
 
 // In the order of the record; those that don't apply are 0.
@@ -69,5 +80,11 @@ pub fn fields_of(v: Verdict) -> Fields
             line,
             count,
         } => gather(code as u16, 0, place_of(what), line, count),
+        Verdict::Denied {
+            record,
+            place,
+            line,
+            count,
+        } => gather(Verdict::DENIED, record, place, line, count),
     }
 }

@@ -8,7 +8,7 @@ use Rattle.logic.specs.Table.{same-leaf}
 use Rattle.limits.specs.Numbers.{word, has, numbers, within, every}
 use Rattle.frames.specs.Records.{body, cut, bodies}
 use Rattle.frames.specs.Frames.{admit, frame, ended, walk, frames, wholeImage}
-use Rattle.frames.specs.Kinds.{most}
+use Rattle.frames.specs.Kinds.{order, most}
 use Rattle.frames.specs.Fault.{codeOf, unless, also}
 use Rattle.image.specs.Decode.{recordCount, sizesOf, firstFault, decoded}
 use Rattle.image.specs.Body.{placeOf, check}
@@ -32,7 +32,7 @@ use Rattle.records.specs.Tally.{branches, threadTally, tallyTo, tally, obligati
 use Rattle.records.specs.Line.{formOf, premises, lineSize, nowhere, placed, lineNumbers}
 use Rattle.formula.specs.Codes.{hasOperand, partCount, partPlace, fitsAt, member}
 use Rattle.formula.specs.Tree.{nodeAt, parseTree}
-use Rattle.outline.specs.Verdict.{code, judge}
+use Rattle.outline.specs.Verdict.{lineCode, judge, judgeClaims}
 use Rattle.certificate.specs.Lines.{marked}
 use Rattle.content.specs.Formula.{formula}
 use Rattle.content.specs.Rule.{ruleOf}
@@ -47,5 +47,5 @@ use Rattle.checker.specs.Answer.{verdict}
 use Rattle.starred.specs.Table.{holds, table}
 
 pub starred : T (all holds table)
-unfolding verdict codeFor bytesFor begins fieldsOf gathered Place.placeOf recordBytes codeOf Formulas.formula Formulas.faultOf Header.counted Line.numbered Thread.cut Thread.numbered Use.outlined admit also bodies body branches check choose cleared code countsOf cut decode decoded distinct ended every exactly faultAt firstFault fitsAt formOf formula frame frames has hasOperand headFault headed header headerSize inRange instructions isIn isQueried judge lastPoint line lineBody lineNumbers lineSize lineSorted marked member most namedLine nodeAt nowhere numbers obligationCount obligations occurs operandFault outline outlineNumber outlinedAt owners marks partCount partPlace placeOf placed pointCount premises read readingOf recordCount ruleOf same same-leaf saying sizesOf parseTree sortAt sortedBy startValues startless tally tallyTo thread threadBody threadNumbers threadRegisters threadSize threadTally unless upd walk wholeImage within word same-name ℕ-discrete
+unfolding verdict codeFor bytesFor begins fieldsOf gathered Place.placeOf recordBytes codeOf Formulas.formula Formulas.faultOf Header.counted Line.numbered Thread.cut Thread.numbered Use.outlined admit also bodies body branches check choose cleared countsOf cut decode decoded distinct ended every exactly faultAt firstFault fitsAt formOf formula frame frames has hasOperand headFault headed header headerSize inRange instructions isIn isQueried judge lastPoint line lineBody lineCode judgeClaims lineNumbers lineSize lineSorted marked member most namedLine nodeAt nowhere numbers obligationCount obligations occurs order operandFault outline outlineNumber outlinedAt owners marks partCount partPlace placeOf placed pointCount premises read readingOf recordCount ruleOf same same-leaf saying sizesOf parseTree sortAt sortedBy startValues startless tally tallyTo thread threadBody threadNumbers threadRegisters threadSize threadTally unless upd walk wholeImage within word same-name ℕ-discrete
 starred = tt

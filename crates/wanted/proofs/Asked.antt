@@ -5,6 +5,7 @@ use mathlib.Core.List.{List}
 use Prim.Native.Nat.{ℕ, suc, _<_}
 use native.Mathlib.Numerals.{add-one}
 use native.Mathlib.Omega.{arith}
+use lib.ListN.{getD}
 use lib.Dec.{T, eqb, ltb, ltb→lt}
 use borrow.Author.Tests.{eqb-true, eqb-false, eq-eqb, ne-eqb, lt-ltb}
 use Rattle.logic.specs.Base.{Within}
@@ -15,6 +16,7 @@ use Rattle.logic.specs.Machine.{Program, Instr, Instr.act, Instr.branch}
 use Rattle.logic.specs.Statement.{Statement, inside, implies, triple, pair, isBranch, isPair, taking}
 use Rattle.patterns.specs.Fits.{sameStatement}
 use Rattle.logic.specs.Obligations as Logic
+use Rattle.logic.specs.Claims.{impossible}
 use Rattle.logic.specs.EveryRun.{Outline}
 use Rattle.logic.specs.Obligations.{wantsNext, wantsTarget}
 use Rattle.logic.specs.WellFormed.{proper}
@@ -30,23 +32,24 @@ use Rattle.compare.specs.Same.{sameTree}
 use Rattle.trees.specs.ToTree.{toTree}
 use Rattle.trees.proofs.ToTree.{toTree-same}
 use Rattle.certificate.specs.FitT.{concluded, implication, hoare, paired}
-use Rattle.outline.specs.Verdict.{asks}
+use Rattle.outline.specs.Verdict.{asks, forbids}
 use Rattle.content.specs.Formula.{formula}
 use Rattle.content.specs.Program.{pointCount, programOf, outlineOf}
-use Rattle.content.specs.Places.{formulaAt}
+use Rattle.content.specs.Places.{formulaAt, claimedIn}
 use Rattle.content.specs.Trees.{treeAt}
 use Rattle.content.specs.Certificate.{certificateOf}
-use Rattle.content.specs.Image.{imageOf}
+use Rattle.content.specs.Image.{imageOf, claimBody}
 use Rattle.content.proofs.Instr.{branch-is, branch-read, pair-is}
 use Rattle.content.proofs.Checked.{Checks}
+use Rattle.content.proofs.Lines.{Claimed, claim-fine}
 use Rattle.content.proofs.Program.{points-few, well-formed}
 use Rattle.content.proofs.Trees.{outline-is, test-is}
 use Rattle.conclusions.specs.LineConclusion.{conclusionOf}
 use Rattle.conclusions.proofs.Stated.{conclusion-trees}
-use Rattle.wanted.specs.Wanted.{nextPoint, actingForm, assertedAt, wantedStart, wantedAction, wantedNext, wantedStep, wantedTarget, wantedKept, wantedAt}
+use Rattle.wanted.specs.Wanted.{nextPoint, actingForm, assertedAt, wantedStart, wantedAction, wantedNext, wantedStep, wantedTarget, wantedKept, wantedClaim, wantedAt, implied, twoHoles, claimAt}
 use Rattle.report.specs.Place.{obligation}
 use Rattle.wanted.specs.Concluding.{meets, concludesAt}
-use Rattle.wanted.proofs.Compared.{starting, both, holding, negated, compared, start-compared, step-compared, kept-compared, next-compared, target-compared}
+use Rattle.wanted.proofs.Compared.{starting, falsity, claim-compared, both, holding, negated, compared, start-compared, step-compared, kept-compared, next-compared, target-compared}
 
 eqb-same : (a b : ℕ) → eqb a b ≡ eqb b a
 eqb-same a b = go (eqb b a) refl
@@ -122,7 +125,7 @@ module _ (s : List ℕ) (z : Sizes) (c : Checks z (bodies s)) where
 
   module _ (n : ℕ) (wn : Within (z .lines) n) where
     start-asked : (t : ℕ) → Within (z .threads) t → meets s z (wantedStart s z t) n ≡ sameStatement (implies start (O t 0)) (says n)
-    unfolding wantedStart pointCount
+    unfolding meets wantedStart pointCount
     start-asked t w =
         start-compared s (conclusionOf s z n) (assertedAt s z t 0)
         ∙ ap (compared implication 0 0 starting (treeAt s (assertedAt s z t 0))) (conclusion-trees s z c n wn)
@@ -145,7 +148,7 @@ module _ (s : List ℕ) (z : Sizes) (c : Checks z (bodies s)) where
       here-is = asserted-is t k w (omega arith)
 
       action-asked : meets s z (wantedAction s z t k (its t k)) n ≡ sameStatement (taking t k (P .code t k) (O t k) (O t (suc k))) (says n)
-      unfolding wantedAction
+      unfolding meets wantedAction
       action-asked =
           step-compared s (conclusionOf s z n) (assertedAt s z t k) (assertedAt s z t (nextPoint k)) (actingForm (its t k .operation)) t k
           ∙ ap (compared (actingForm (its t k .operation)) t k here following) (conclusion-trees s z c n wn)
@@ -153,7 +156,7 @@ module _ (s : List ℕ) (z : Sizes) (c : Checks z (bodies s)) where
 
       module _ (e : its t k .operation ≡ Opcode.branch) where
         next-asked : meets s z (wantedNext s z t k (its t k)) n ≡ sameStatement (implies (bothA (O t k) (holds (Formula.not test))) (O t (suc k))) (says n)
-        unfolding wantedNext
+        unfolding meets wantedNext
         next-asked =
             next-compared s (conclusionOf s z n) (assertedAt s z t k) (formulaAt s (its t k .formula)) (assertedAt s z t (nextPoint k))
             ∙ ap (compared implication 0 0 (both here (holding (negated tested))) following) (conclusion-trees s z c n wn)
@@ -169,7 +172,7 @@ module _ (s : List ℕ) (z : Sizes) (c : Checks z (bodies s)) where
         aim = treeAt s (assertedAt s z t (its t k .a))
 
         target-asked : meets s z (wantedTarget s z t k) n ≡ sameStatement (implies (bothA (O t k) (holds test)) (O t (its t k .a))) (says n)
-        unfolding wantedTarget
+        unfolding meets wantedTarget
         target-asked =
             target-compared s (conclusionOf s z n) (assertedAt s z t k) (formulaAt s (its t k .formula)) (assertedAt s z t (its t k .a))
             ∙ ap (compared implication 0 0 (both here (holding tested)) aim) (conclusion-trees s z c n wn)
@@ -196,7 +199,7 @@ module _ (s : List ℕ) (z : Sizes) (c : Checks z (bodies s)) where
 
     kept-asked : (u j t k : ℕ) → Within (z .threads) u → j < P .points u → Within (z .threads) t → suc k < P .points t
         → meets s z (wantedKept s z u j t k) n ≡ sameStatement (taking t k (P .code t k) (bothA (O u j) (O t k)) (O u j)) (says n)
-    unfolding wantedKept
+    unfolding meets wantedKept
     kept-asked u j t k w h y g =
         let p = asserted-is u j w h in
         let q = asserted-is t k y (omega arith) in
@@ -212,3 +215,25 @@ module _ (s : List ℕ) (z : Sizes) (c : Checks z (bodies s)) where
     concludes-asked (Logic.step t k) r = step-asked t k (r .0) (r .1)
     concludes-asked (Logic.taken t k) r = taken-asked t k (r .0) (r .1 .0) (r .1 .1)
     concludes-asked (Logic.interference u j t k) r = kept-asked u j t k (r .0 .0) (r .0 .1) (r .1 .0) (r .1 .1)
+
+    -- a claim's line, likewise
+    both-asked : (t k u j : ℕ) → Within (z .threads) t → k < P .points t → Within (z .threads) u → j < P .points u
+        → meets s z (implied claimAt (twoHoles (assertedAt s z t k) (assertedAt s z u j))) n ≡ sameStatement (implies (bothA (O t k) (O u j)) (holds Formula.false)) (says n)
+    unfolding meets
+    both-asked t k u j w h y g =
+        claim-compared s (conclusionOf s z n) (assertedAt s z t k) (assertedAt s z u j)
+        ∙ ap (compared implication 0 0 (both (treeAt s (assertedAt s z t k)) (treeAt s (assertedAt s z u j))) falsity) (conclusion-trees s z c n wn)
+        ∙ implied-same (bothA (O t k) (O u j)) (holds Formula.false) (both (treeAt s (assertedAt s z t k)) (treeAt s (assertedAt s z u j))) falsity
+        (ap₂ both (asserted-is t k w h) (asserted-is u j y g)) refl (says n)
+
+    pub claim-asked : (i : ℕ) → i < z .claims → meets s z (wantedClaim s z (claimedIn (claimBody z l i))) n ≡ sameStatement (forbids (imageOf z l) i) (says n)
+    unfolding wantedClaim claimedIn
+    claim-asked i b =
+        let f = claim-fine z l c i b in
+        go (ltb (getD (claimBody z l i) 0 0) (getD (claimBody z l i) 2 0)) f
+      where
+        go : (x : Bool) → Claimed z l (claimBody z l i)
+            → meets s z (cond x (implied claimAt (twoHoles (assertedAt s z (getD (claimBody z l i) 0 0) (getD (claimBody z l i) 1 0)) (assertedAt s z (getD (claimBody z l i) 2 0) (getD (claimBody z l i) 3 0)))) (implied claimAt (twoHoles (assertedAt s z (getD (claimBody z l i) 2 0) (getD (claimBody z l i) 3 0)) (assertedAt s z (getD (claimBody z l i) 0 0) (getD (claimBody z l i) 1 0))))) n
+            ≡ sameStatement (impossible x (O (getD (claimBody z l i) 0 0) (getD (claimBody z l i) 1 0)) (O (getD (claimBody z l i) 2 0) (getD (claimBody z l i) 3 0))) (says n)
+        go true f = both-asked (getD (claimBody z l i) 0 0) (getD (claimBody z l i) 1 0) (getD (claimBody z l i) 2 0) (getD (claimBody z l i) 3 0) (f .thread) (f .point) (f .other) (f .beyond)
+        go false f = both-asked (getD (claimBody z l i) 2 0) (getD (claimBody z l i) 3 0) (getD (claimBody z l i) 0 0) (getD (claimBody z l i) 1 0) (f .other) (f .beyond) (f .thread) (f .point)

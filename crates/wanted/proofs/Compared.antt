@@ -15,7 +15,7 @@ use Rattle.content.specs.Trees.{treeAt}
 use Rattle.conclusions.specs.Conclusion.{concludedAt, matchConclusion}
 use Rattle.conclusions.specs.declared.conclusion.Conclusion.{Conclusion}
 use Rattle.conclusions.proofs.Follow.{StandSides}
-use Rattle.wanted.specs.Wanted.{wantedBytes, startAt, stepAt, nextAt, targetAt, keptAt, oneHole, twoHoles, threeHoles}
+use Rattle.wanted.specs.Wanted.{wantedBytes, startAt, stepAt, nextAt, targetAt, keptAt, claimAt, oneHole, twoHoles, threeHoles}
 use Rattle.wanted.proofs.Filled.{filled-is}
 
 -- trees of assertions
@@ -54,6 +54,14 @@ kept-stands : StandSides wantedBytes keptAt (both (hole 0) (hole 1)) (hole 0)
 unfolding parseTree nodeAt hasOperand partCount proper
 kept-stands = record { left = refl; right = refl; holes-left = tt; holes-right = tt }
 
+-- false, held
+abbrev pub falsity : Tree
+falsity = holding (node (byte Code.false) 0 none none)
+
+claim-stands : StandSides wantedBytes claimAt (both (hole 0) (hole 1)) falsity
+unfolding parseTree nodeAt hasOperand partCount proper
+claim-stands = record { left = refl; right = refl; holes-left = tt; holes-right = tt }
+
 -- what comes of the match
 
 abbrev pub compared : ℕ → ℕ → ℕ → Tree → Tree → TreeConclusion → Bool
@@ -78,6 +86,12 @@ module _ (s : List ℕ) (c : Conclusion) (a : ℕ) where
     kept-compared form t k =
         filled-is s wantedBytes keptAt t k form (both (hole 0) (hole 1)) (hole 0) (twoHoles a e) c (record { at = refl; left = refl; num = refl }) kept-stands
         (λ d h. (ap₂ both (h .tree 0 (treeAt s a) refl) (h .tree 1 (treeAt s e) refl), h .tree 0 (treeAt s a) refl))
+
+    pub claim-compared : matchConclusion s wantedBytes claimAt implication 0 0 c (twoHoles a e) .ok ≡ compared implication 0 0 (both (treeAt s a) (treeAt s e)) falsity (concludedAt s c)
+    unfolding twoHoles hasOperand
+    claim-compared =
+        filled-is s wantedBytes claimAt 0 0 implication (both (hole 0) (hole 1)) falsity (twoHoles a e) c (record { at = refl; left = refl; num = refl }) claim-stands
+        (λ d h. (ap₂ both (h .tree 0 (treeAt s a) refl) (h .tree 1 (treeAt s e) refl), refl))
 
     module _ (b : ℕ) where
       pub next-compared : matchConclusion s wantedBytes nextAt implication 0 0 c (threeHoles a e b) .ok ≡ compared implication 0 0 (both (treeAt s a) (holding (negated (treeAt s e)))) (treeAt s b) (concludedAt s c)

@@ -1,11 +1,15 @@
 -- The ways through the functions that hold a line against what is wanted, one law for each.
-use mathlib.Core.Path.{_≡_, ap, ap₂, _∙_}
+use mathlib.Core.Path.{_≡_, ap, _∙_}
 use mathlib.Core.Bool.{Bool, true, false}
 use mathlib.Core.List.{List}
 use Prim.Native.Nat.{ℕ}
 use borrow.Author.Tests.{eq-eqb, ne-eqb}
+use Rattle.frames.specs.Records.{bodies}
 use Rattle.program.specs.declared.sizes.Sizes.{Sizes}
 use Rattle.matcher.specs.declared.whole.Whole.{Whole}
+use Rattle.content.specs.Image.{claimBody}
+use Rattle.content.specs.Places.{claimedIn}
+use Rattle.content.specs.declared.claim.Claimed.{Claimed}
 use Rattle.conclusions.specs.Conclusion.{matchConclusion}
 use Rattle.conclusions.specs.LineConclusion.{conclusionOf}
 use Rattle.conclusions.specs.declared.conclusion.Conclusion.{Conclusion}
@@ -13,16 +17,36 @@ use Rattle.marks.specs.Marks.{isMarked}
 use Rattle.marks.specs.declared.Marks.{Marks}
 use Rattle.report.specs.declared.obligation.Obligation.{Obligation}
 use Rattle.wanted.specs.declared.wanted.Wanted.{Wanted}
-use Rattle.wanted.specs.Wanted.{wantedBytes, wantedAt}
-use Rattle.wanted.specs.Concluding.{concludesAt, codeAt}
+use Rattle.wanted.specs.Wanted.{wantedBytes, wantedClaim, wantedAt}
+use Rattle.wanted.specs.Concluding.{meets, concludesAt, sustainedAt, codeAt}
 
-pub concludes-is : (s : List ℕ) (z : Sizes) (o : Obligation) (n : ℕ) (w : Wanted) (c : Conclusion) (m : Whole) → w ≡ wantedAt s z o → c ≡ conclusionOf s z n
-    → m ≡ matchConclusion s wantedBytes (w .template) (w .form) (w .thread) (w .point) c (w .bind) → m .ok ≡ concludesAt s z o n
+pub said-is : (s : List ℕ) (z : Sizes) (w : Wanted) (n : ℕ) (c : Conclusion) (m : Whole) → c ≡ conclusionOf s z n
+    → m ≡ matchConclusion s wantedBytes (w .template) (w .form) (w .thread) (w .point) c (w .bind) → m .ok ≡ meets s z w n
+unfolding meets
+said-is s z w n c m ec em =
+    ap (λ (q : Whole). q .ok) (em ∙ ap (λ (d : Conclusion). matchConclusion s wantedBytes (w .template) (w .form) (w .thread) (w .point) d (w .bind)) ec)
+
+pub concludes-is : (s : List ℕ) (z : Sizes) (o : Obligation) (n : ℕ) (w : Wanted) (r : Bool) → w ≡ wantedAt s z o → r ≡ meets s z w n → r ≡ concludesAt s z o n
 unfolding concludesAt
-concludes-is s z o n w c m ew ec em =
-    ap (λ (q : Whole). q .ok) (em ∙ ap₂ (λ (v : Wanted) (d : Conclusion). matchConclusion s wantedBytes (v .template) (v .form) (v .thread) (v .point) d (v .bind)) ew ec)
+concludes-is s z o n w r ew er = rw (← ew) er
 
-pub ruleset concluding = (concludes-is)
+pub ruleset concluding = (said-is, concludes-is)
+
+module _ (s : List ℕ) (z : Sizes) (m : Marks) (i : ℕ) (c : Claimed) (e : c ≡ claimedIn (claimBody z (bodies s) i)) where
+  pub sustained-none : c .line ≡ 0 → false ≡ sustainedAt s z m i
+  unfolding sustainedAt
+  sustained-none h = rw (← e, eq-eqb _ _ h)
+
+  module _ (n : c .line ≡ 0 → ⊥) (w : Wanted) (b : Bool) (ew : w ≡ wantedClaim s z c) (eb : b ≡ meets s z w (c .line)) where
+    pub sustained-else : b ≡ false → false ≡ sustainedAt s z m i
+    unfolding sustainedAt
+    sustained-else h = rw (← e, ne-eqb _ _ n, ← ew, ← eb, h)
+
+    pub sustained-marked : (r : Bool) → b ≡ true → r ≡ isMarked m (c .line) → r ≡ sustainedAt s z m i
+    unfolding sustainedAt
+    sustained-marked r h d = rw (← e, ne-eqb _ _ n, ← ew, ← eb, h) d
+
+pub ruleset sustaining = (sustained-none, sustained-else, sustained-marked)
 
 module _ (s : List ℕ) (z : Sizes) (m : Marks) (o : Obligation) (n : ℕ) where
   pub code-none : n ≡ 0 → 20 ≡ codeAt s z m o n

@@ -2,8 +2,8 @@
 use mathlib.Core.Path.{_≡_}
 use mathlib.Core.Bool.{Bool, true, false}
 use mathlib.Core.List.{List}
-use Prim.Native.Nat.{ℕ}
-use borrow.Author.Tests.{eq-eqb, ne-eqb}
+use Prim.Native.Nat.{ℕ, _≤_, _<_}
+use borrow.Author.Tests.{eq-eqb, ne-eqb, lt-ltb, le-ltb}
 use Rattle.logic.specs.Opcode as Opcode
 use Rattle.frames.specs.Records.{bodies}
 use Rattle.program.specs.declared.sizes.Sizes.{Sizes}
@@ -11,12 +11,13 @@ use Rattle.program.specs.declared.instruction.Instruction.{Instruction}
 use Rattle.records.specs.Places.{instructionOf}
 use Rattle.matcher.specs.declared.bind.Bind.{Bind}
 use Rattle.content.specs.Places.{formulaAt}
+use Rattle.content.specs.declared.claim.Claimed.{Claimed}
 use Rattle.report.specs.declared.obligation.Obligation.{Obligation}
 use Rattle.report.specs.declared.obligation.Obligation.the-variants.{Start, Step, Taken, Interference}
 use Rattle.program.specs.Instruction.{pairOperation}
 use Rattle.certificate.specs.FitT.{hoare, paired}
 use Rattle.wanted.specs.declared.wanted.Wanted.{Wanted}
-use Rattle.wanted.specs.Wanted.{startAt, stepAt, nextAt, targetAt, keptAt, oneHole, twoHoles, threeHoles, nextPoint, implied, actingForm, kept, assertedAt, wantedStart, wantedAction, wantedNext, wantedStep, wantedTarget, wantedKept, wantedAt}
+use Rattle.wanted.specs.Wanted.{startAt, stepAt, nextAt, targetAt, keptAt, claimAt, oneHole, twoHoles, threeHoles, nextPoint, implied, actingForm, kept, assertedAt, wantedStart, wantedAction, wantedNext, wantedStep, wantedTarget, wantedKept, wantedClaim, wantedAt}
 
 module _ (op : ℕ) (p : Bool) (e : p ≡ pairOperation op) where
   pub form-pair : p ≡ true → paired ≡ actingForm op
@@ -62,7 +63,16 @@ pub kept-wanted : (s : List ℕ) (z : Sizes) (u j t k : ℕ) (i : Instruction) (
 unfolding wantedKept
 kept-wanted s z u j t k i f a d b ei ef ea ed eb = rw (ef, ei, eb, ea, ed)
 
-pub ruleset wanting = (start-wanted, action-wanted, next-wanted, branch-wanted, act-wanted, target-wanted, kept-wanted)
+module _ (s : List ℕ) (z : Sizes) (c : Claimed) (a d : ℕ) (b : Bind) (ea : a ≡ assertedAt s z (c .thread) (c .point)) (ed : d ≡ assertedAt s z (c .other) (c .«other_point»)) where
+  pub claim-lower : c .thread < c .other → b ≡ twoHoles a d → implied claimAt b ≡ wantedClaim s z c
+  unfolding wantedClaim
+  claim-lower h eb = rw (lt-ltb _ _ h, eb, ea, ed)
+
+  pub claim-higher : c .other ≤ c .thread → b ≡ twoHoles d a → implied claimAt b ≡ wantedClaim s z c
+  unfolding wantedClaim
+  claim-higher h eb = rw (le-ltb _ _ h, eb, ea, ed)
+
+pub ruleset wanting = (claim-lower, claim-higher, start-wanted, action-wanted, next-wanted, branch-wanted, act-wanted, target-wanted, kept-wanted)
 
 module _ (s : List ℕ) (z : Sizes) (o : Obligation) (r : Wanted) where
   pub wanted-start : (t : ℕ) → o ≡ Start t → r ≡ wantedStart s z t → r ≡ wantedAt s z o

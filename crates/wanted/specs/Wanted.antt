@@ -17,11 +17,12 @@ use Rattle.matcher.specs.declared.bind.Bind.{Bind}
 use Rattle.certificate.specs.FitT.{implication, hoare, paired}
 use Rattle.content.specs.Program.{outlineNumber}
 use Rattle.content.specs.Places.{formulaAt}
+use Rattle.content.specs.declared.claim.Claimed.{Claimed}
 use Rattle.report.specs.declared.obligation.Obligation.{Obligation}
 use Rattle.report.specs.declared.obligation.Obligation.the-variants.{Start, Step, Taken, Interference}
 use Rattle.wanted.specs.declared.wanted.Wanted.{Wanted}
 
--- left and right side of each: start gives an assertion; one taken to another; an assertion and a negated test give another; with the test as it is; two, of which the first is kept
+-- left and right side of each: start gives an assertion; one taken to another; an assertion and a negated test give another; with the test as it is; two, of which the first is kept; false from two
 abbrev pub wantedBytes : List ℕ
 wantedBytes =
     byte Code.start ∷ firstHole
@@ -29,6 +30,7 @@ wantedBytes =
     ∷ byte Code.bothA ∷ firstHole ∷ byte Code.holds ∷ byte Code.not ∷ (firstHole + 1) ∷ (firstHole + 2)
     ∷ byte Code.bothA ∷ firstHole ∷ byte Code.holds ∷ (firstHole + 1) ∷ (firstHole + 2)
     ∷ byte Code.bothA ∷ firstHole ∷ (firstHole + 1) ∷ firstHole
+    ∷ byte Code.bothA ∷ firstHole ∷ (firstHole + 1) ∷ byte Code.holds ∷ byte Code.false
     ∷ []
 
 -- where each begins
@@ -46,6 +48,9 @@ targetAt = 10
 
 abbrev pub keptAt : ℕ
 keptAt = 15
+
+abbrev pub claimAt : ℕ
+claimAt = 19
 
 -- holes set by positions; the others take nothing here
 unfoldable pub oneHole : ℕ → Bind
@@ -93,6 +98,12 @@ module _ (s : List ℕ) (z : Sizes) where
 
   unfoldable pub wantedKept : ℕ → ℕ → ℕ → ℕ → Wanted
   wantedKept u j t k = kept (actingForm (instructionOf z (bodies s) t k .operation)) t k keptAt (twoHoles (assertedAt u j) (assertedAt t k))
+
+  -- false from the assertions of a claim's points, the lower thread's first
+  unfoldable pub wantedClaim : Claimed → Wanted
+  wantedClaim c =
+      cond (ltb (c .thread) (c .other)) (implied claimAt (twoHoles (assertedAt (c .thread) (c .point)) (assertedAt (c .other) (c .«other_point»))))
+      (implied claimAt (twoHoles (assertedAt (c .other) (c .«other_point»)) (assertedAt (c .thread) (c .point))))
 
   unfoldable pub wantedAt : Obligation → Wanted
   wantedAt (Start t) = wantedStart t

@@ -1,8 +1,11 @@
 // Whether a line concludes what an obligation wants, and the code of what is wrong with it.
 use crate::wanted::WANTED;
+use crate::wanted::Wanted;
+use crate::wanted::wanted_claim;
 use crate::wanted::wanted_of;
 use conclusions::conclusion::match_conclusion;
 use conclusions::line_conclusion::conclusion_of;
+use content::claim::claim_of;
 use content::totals::Totals;
 use marks::is_marked;
 use program::sizes::Sizes;
@@ -11,7 +14,8 @@ ghost use mathlib.Core.Path.{_≡_};
 ghost use Rattle.frames.specs.Records.{bodies, indexOf};
 ghost use Rattle.content.specs.Totals.{totalsOf};
 ghost use Rattle.marks.specs.Marks.{asMarks};
-ghost use Rattle.wanted.specs.Concluding.{concludesAt, codeAt};
+ghost use Rattle.wanted.specs.Concluding.{meets, concludesAt, sustainedAt, codeAt};
+ghost use Prim.Native.Nat.{_<_};
 
 pub struct Unmet {}
 
@@ -23,6 +27,18 @@ impl Unmet {
     pub const SAYS_ELSE: u8 = 21;
 
     pub const UNJUSTIFIED: u8 = 22;
+}
+
+// Line n says what is wanted.
+fn is_said<'a, 'b>(s: &'a [u8], ix: &'b [usize], z: Sizes, w: Wanted, n: usize) -> bool
+    requires { ⌜ now ix ≡ indexOf (now s) ⌝ }
+    ensures { λ r. ⌜ r ≡ meets (now (s .entry)) z w n ⌝ }
+{
+    let c = conclusion_of(s, ix, z, n);
+    let t = WANTED;
+    let b = w.bind;
+    let m = match_conclusion(s, &t, w.template, w.form, w.thread, w.point, c, b);
+    m.ok
 }
 
 // Line n says what the obligation wants.
@@ -38,11 +54,30 @@ pub fn concludes<'a, 'b>(
     ensures { λ r. ⌜ r ≡ concludesAt (now (s .entry)) z o n ⌝ }
 {
     let w = wanted_of(s, ix, z, y, o);
-    let c = conclusion_of(s, ix, z, n);
-    let t = WANTED;
-    let b = w.bind;
-    let m = match_conclusion(s, &t, w.template, w.form, w.thread, w.point, c, b);
-    m.ok
+    is_said(s, ix, z, w, n)
+}
+
+// Claim i is borne out by its line: that is there, says that false follows from both assertions, and is justified.
+pub fn is_sustained<'a, 'b, 'c>(
+    s: &'a [u8],
+    ix: &'b [usize],
+    z: Sizes,
+    y: Totals,
+    m: &'c [bool],
+    i: usize,
+) -> bool
+    requires { ⌜ ((now ix ≡ indexOf (now s)) × (y ≡ totalsOf z (bodies (now s)))) × (i < 65536) ⌝ }
+    ensures { λ r. ⌜ r ≡ sustainedAt (now (s .entry)) z (asMarks (now (m .entry))) i ⌝ }
+{
+    let c = claim_of(s, ix, z, i);
+    if c.line == 0 {
+        return false;
+    }
+    let w = wanted_claim(s, ix, z, y, c);
+    if is_said(s, ix, z, w, c.line) {
+        return is_marked(m, c.line);
+    }
+    false
 }
 
 // What is wrong with line n, first of all; 0 for nothing.

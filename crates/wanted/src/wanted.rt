@@ -1,4 +1,5 @@
 // What an obligation wants of a line: a template with every hole set.
+use content::claim::Claimed;
 use content::point::outline_at;
 use content::position::formula_at;
 use content::totals::Totals;
@@ -15,7 +16,7 @@ use rulebook::rule::Form;
 ghost use mathlib.Core.Path.{_≡_};
 ghost use Rattle.frames.specs.Records.{bodies, indexOf};
 ghost use Rattle.content.specs.Totals.{totalsOf};
-ghost use Rattle.wanted.specs.Wanted.{oneHole, twoHoles, threeHoles, nextPoint, actingForm, wantedStart, wantedAction, wantedNext, wantedStep, wantedTarget, wantedKept, wantedAt};
+ghost use Rattle.wanted.specs.Wanted.{oneHole, twoHoles, threeHoles, nextPoint, actingForm, wantedStart, wantedAction, wantedNext, wantedStep, wantedTarget, wantedKept, wantedClaim, wantedAt};
 
 // The form of the line, the thread and the point of a triple, where the template begins and what its holes stand for.
 pub struct Wanted {
@@ -37,10 +38,12 @@ impl Wanted {
     pub const TARGET: usize = 10;
     // Two assertions, of which the first is kept.
     pub const KEPT: usize = 15;
+    // False from two assertions.
+    pub const CLAIM: usize = 19;
 }
 
 // Left and right side of each, with holes for the formulas that are wanted there.
-pub const WANTED: [u8; 19] = [
+pub const WANTED: [u8; 24] = [
     Code::START,
     Hole::FORMULAS,
     Hole::FORMULAS,
@@ -60,6 +63,11 @@ pub const WANTED: [u8; 19] = [
     Hole::FORMULAS,
     Hole::FORMULAS + 1,
     Hole::FORMULAS,
+    Code::BOTH_A,
+    Hole::FORMULAS,
+    Hole::FORMULAS + 1,
+    Code::HOLDS,
+    Code::FALSE,
 ];
 
 fn one_hole(a: usize) -> Bind
@@ -238,6 +246,31 @@ fn wanted_kept<'a, 'b>(
         point: k,
         template: Wanted::KEPT,
         bind: two_holes(a, b),
+    }
+}
+
+// False from the assertions of a claim's points, the lower thread's first.
+pub fn wanted_claim<'a, 'b>(s: &'a [u8], ix: &'b [usize], z: Sizes, y: Totals, c: Claimed) -> Wanted
+    requires { ⌜ (now ix ≡ indexOf (now s)) × (y ≡ totalsOf z (bodies (now s))) ⌝ }
+    ensures { λ r. ⌜ r ≡ wantedClaim (now (s .entry)) z c ⌝ }
+{
+    let a = outline_at(s, ix, z, y, c.thread as usize, c.point as usize);
+    let b = outline_at(s, ix, z, y, c.other as usize, c.other_point as usize);
+    if c.thread < c.other {
+        return Wanted {
+            form: Form::IMPLICATION,
+            thread: 0,
+            point: 0,
+            template: Wanted::CLAIM,
+            bind: two_holes(a, b),
+        };
+    }
+    Wanted {
+        form: Form::IMPLICATION,
+        thread: 0,
+        point: 0,
+        template: Wanted::CLAIM,
+        bind: two_holes(b, a),
     }
 }
 

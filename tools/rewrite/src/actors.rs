@@ -1,7 +1,7 @@
 //! The order of class 4. In images from before it is: asserting thread, its point, acting thread, acting point.
 
 use crate::Refusal;
-use reference::checker::frames::THREAD;
+use reference::checker::frames::{OBLIGATIONS, THREAD};
 use reference::image::written::{instructions, numbers, Instruction, Record};
 
 const BRANCH: u8 = 6;
@@ -21,7 +21,8 @@ pub fn order(records: &mut [Record]) -> Result<(), Refusal> {
     let threads = records.iter().filter(|record| record.kind == THREAD);
     let threads = threads.map(|record| instructions(&record.body)).collect::<Option<Vec<_>>>();
     let threads = threads.ok_or(Refusal::Lengths)?;
-    let body = &mut records.last_mut().ok_or(Refusal::Lengths)?.body;
+    let obligations = records.iter_mut().find(|record| record.kind == OBLIGATIONS);
+    let body = &mut obligations.ok_or(Refusal::Lengths)?.body;
     let lines = numbers(body).ok_or(Refusal::Lengths)?;
     let (before, class_4) = lines.split_at_checked(others(&threads)).ok_or(Refusal::Lengths)?;
     let places = former_places(&threads);
@@ -38,7 +39,8 @@ pub fn order(records: &mut [Record]) -> Result<(), Refusal> {
 
 /// How many obligations are of the classes 1 to 3.
 fn others(threads: &[Vec<Instruction>]) -> usize {
-    let steps = |instruction: &Instruction| if instruction.operation == BRANCH { 2 } else { 1 };
+    let steps =
+        |instruction: &Instruction| if instruction.first.operation == BRANCH { 2 } else { 1 };
     threads.len() + threads.iter().flatten().map(steps).sum::<usize>()
 }
 
@@ -49,7 +51,7 @@ fn former_places(threads: &[Vec<Instruction>]) -> Vec<Kept> {
         for point in 0..=code.len() {
             for (actor, acting) in threads.iter().enumerate().filter(|(actor, _)| *actor != thread)
             {
-                let actions = (0..).zip(acting).filter(|(_, one)| one.operation != BRANCH);
+                let actions = (0..).zip(acting).filter(|(_, one)| one.first.operation != BRANCH);
                 places.extend(actions.map(|(action, _)| Kept {
                     actor,
                     action,

@@ -17,9 +17,17 @@ fn every_code_and_rule_occurs() {
     for seed in 0..12_000 {
         coverage.add(&image(seed));
     }
-    for code in [0, 2, 3, 4, 5, 6, 7, 8, 9, 20, 21, 22, 23] {
+    for code in [0, 2, 3, 4, 5, 6, 7, 8, 9, 20, 21, 22, 23, 26] {
         let count = coverage.codes.get(&code).copied().unwrap_or(0);
         assert!(count >= 40, "code {code} occurs {count} times");
+    }
+    for operation in 0..=12 {
+        let count = coverage.operations.get(&operation).copied().unwrap_or(0);
+        assert!(count >= 500, "operation {operation} occurs in {count} images");
+    }
+    for claims in [0, 1, 2, 16] {
+        let count = coverage.claims.get(&claims).copied().unwrap_or(0);
+        assert!(count >= 15, "{claims} claims occur in {count} images");
     }
     for rule in rules() {
         let counts = coverage.rules.get(&rule).copied().unwrap_or_default();

@@ -16,7 +16,6 @@ use generate::Generator;
 use input::{Input, Judge};
 use std::hint::black_box;
 
-const COMPARED: usize = 20_000;
 const TIMED: usize = 32;
 /// The ranges of the tests made by hand.
 const RANGES: [u8; 4] = [2, 3, 8, 16];
@@ -31,6 +30,7 @@ const JUDGES: [(&str, Judge); 3] = [
 struct Trial {
     name: &'static str,
     compared: Generator,
+    inputs: usize,
     timed: Generator,
     by_hand: Vec<(String, Input)>,
 }
@@ -42,12 +42,15 @@ fn trials() -> [Trial; 2] {
         Trial {
             name: "pairs of tests",
             compared: generate::tests,
+            // More than 20,000 of each range.
+            inputs: 400_000,
             timed: generate::usual_tests,
             by_hand: RANGES.map(pair).into(),
         },
         Trial {
             name: "truth tables",
             compared: generate::table,
+            inputs: 20_000,
             timed: generate::table,
             by_hand: vec![table],
         },
@@ -57,8 +60,8 @@ fn trials() -> [Trial; 2] {
 /// Compares and times the functions; false if an answer differs or a comparison says little.
 pub fn run(random: &mut Random) -> bool {
     let mut good = true;
-    for Trial { name, compared, timed, by_hand } in trials() {
-        let compared = compare::on_random(random, &JUDGES, COMPARED, compared);
+    for Trial { name, compared, inputs, timed, by_hand } in trials() {
+        let compared = compare::on_random(random, &JUDGES, inputs, compared);
         println!("random {name}: {compared}");
         if !compared.is_useful() || compared.differ > 0 {
             good = false;

@@ -27,10 +27,11 @@ use Rattle.content.specs.Totals.{pointsBelow, pointsBefore, totalsOf}
 use Rattle.content.specs.declared.totals.Totals.{Totals}
 use Rattle.content.specs.Program.{outlineNumber}
 use Rattle.content.specs.Certificate.{left, right, lineBody}
-use Rattle.content.specs.Image.{namedLine}
-use Rattle.content.specs.Places.{bodyStart, formulaAt, lineIn, acts, registerFirst, actingOf}
+use Rattle.content.specs.Image.{namedLine, claimBody}
+use Rattle.content.specs.Places.{bodyStart, formulaAt, lineIn, claimedIn, acts, registerFirst, actingOf}
 use Rattle.content.specs.declared.line.Line.{Line}
 use Rattle.content.specs.declared.acting.Acting.{Acting}
+use Rattle.content.specs.declared.claim.Claimed.{Claimed}
 
 -- formulas
 
@@ -123,9 +124,9 @@ unfolding tallyTo threadBody
 tally-same y z l zero e = refl
 tally-same y z l (suc n) e = rw (tally-same y z l n e, e)
 
-pub before-is : (z : Sizes) (l : List (List ℕ)) (t : ℕ) (c : Tally) → c ≡ tally (record { threads = t - 1; words = z .words; registers = z .registers; range = z .range; formulas = z .formulas; lines = z .lines }) l → c .points ≡ tallyTo z l (t - 1) .points
+pub before-is : (z : Sizes) (l : List (List ℕ)) (t : ℕ) (c : Tally) → c ≡ tally (record { threads = t - 1; words = z .words; registers = z .registers; range = z .range; formulas = z .formulas; lines = z .lines; claims = z .claims }) l → c .points ≡ tallyTo z l (t - 1) .points
 unfolding tally
-before-is z l t c e = ap (λ (d : Tally). d .points) (e ∙ tally-same (record { threads = t - 1; words = z .words; registers = z .registers; range = z .range; formulas = z .formulas; lines = z .lines }) z l (t - 1) refl)
+before-is z l t c e = ap (λ (d : Tally). d .points) (e ∙ tally-same (record { threads = t - 1; words = z .words; registers = z .registers; range = z .range; formulas = z .formulas; lines = z .lines; claims = z .claims }) z l (t - 1) refl)
 
 pub below-none : (z : Sizes) (l : List (List ℕ)) (m : List ℕ) → m ≡ replicate Limits.threads 0 → m ≡ pointsBelow z l 0
 unfolding pointsBelow
@@ -238,3 +239,20 @@ pub found-at : (s : List ℕ) (k m r : ℕ) → k ≡ m → r ≡ formulaAt s k 
 found-at s k m r e d = rw (← e) d
 
 pub ruleset outlining = (number-none, number-absent, number-over, number-late, number-there, found-at)
+
+-- claims
+
+pub claimed-is : (b : List ℕ) (t k u j n : ℕ) → t ≡ getD b 0 0 → k ≡ getD b 1 0 → u ≡ getD b 2 0 → j ≡ getD b 3 0 → n ≡ word (drop 4 b)
+    → record { thread = t; point = k; other = u; «other_point» = j; line = n } ≡ claimedIn b
+unfolding claimedIn
+claimed-is b t k u j n et ek eu ej en = rw (et, ek, eu, ej, en)
+
+module _ (z : Sizes) (l : List (List ℕ)) (i : ℕ) (b : List ℕ) where
+  pub claim-body-is : b ≡ getD l (z .formulas + z .threads + 1 + z .lines + 2 + i) [] → b ≡ claimBody z l i
+  unfolding claimBody
+  claim-body-is e = e
+
+  pub claim-at : (r : Claimed) → b ≡ claimBody z l i → r ≡ claimedIn b → r ≡ claimedIn (claimBody z l i)
+  claim-at r e d = rw (← e) d
+
+pub ruleset claiming = (claimed-is, claim-body-is, claim-at)

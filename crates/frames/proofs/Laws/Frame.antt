@@ -9,7 +9,7 @@ use lib.Seq.{drop-drop}
 use borrow.Author.Tests.{lt-ltb, le-ltb}
 use Rattle.limits.specs.Numbers.{word, has}
 use Rattle.limits.proofs.Numbers.{has-all, has-not}
-use Rattle.frames.specs.Kinds.{most}
+use Rattle.frames.specs.Kinds.{order, most}
 use Rattle.frames.specs.Frames.{admit, frame}
 use Rattle.frames.specs.declared.fault.Fault.the-variants.{Length}
 use Rattle.frames.specs.declared.frame.Seen.{Seen}
@@ -26,7 +26,8 @@ most-small (suc (suc (suc zero))) = omega arith
 most-small (suc (suc (suc (suc zero)))) = omega arith
 most-small (suc (suc (suc (suc (suc zero))))) = omega arith
 most-small (suc (suc (suc (suc (suc (suc zero)))))) = omega arith
-most-small (suc (suc (suc (suc (suc (suc (suc k))))))) = omega arith
+most-small (suc (suc (suc (suc (suc (suc (suc zero))))))) = omega arith
+most-small (suc (suc (suc (suc (suc (suc (suc (suc k)))))))) = omega arith
 
 pub room : (c : List ℕ) (k : ℕ) → getD c k 0 < most k → getD c k 0 + 1 < 65536
 room c k h = omega (arith, most-small k)
@@ -54,10 +55,10 @@ module _ (s : List ℕ) (at : ℕ) (c : Seen) where
         let q : length (drop at s) < 2 + n = rw (length-drop at s) (omega arith) in
         rw (two, ← e, le-ltb _ _ g, has-not (2 + n) (drop at s) q)
 
-    pub frame-kind : (k : ℕ) (f : Checked) → 2 ≤ n → n ≤ length s - at - 2 → k ≡ word (drop (at + 2) s) → f ≡ admit c k → f ≡ frame c (drop at s)
+    pub frame-kind : (k o : ℕ) (f : Checked) → 2 ≤ n → n ≤ length s - at - 2 → k ≡ word (drop (at + 2) s) → o ≡ order k → f ≡ admit c o → f ≡ frame c (drop at s)
     unfolding frame
-    frame-kind k f g p ek ef =
+    frame-kind k o f g p ek eo ef =
         let q : 2 + n ≤ length (drop at s) = rw (length-drop at s) (omega arith) in
-        rw (two, ← e, le-ltb _ _ g, has-all (2 + n) (drop at s) q, drop-drop 2 at s, ← ek) ef
+        rw (two, ← e, le-ltb _ _ g, has-all (2 + n) (drop at s) q, drop-drop 2 at s, ← ek, ← eo) ef
 
 pub ruleset framing = (frame-none, frame-short, frame-under, frame-past, frame-kind)

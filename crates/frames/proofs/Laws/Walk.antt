@@ -9,6 +9,7 @@ use lib.Seq.{drop-drop}
 use Rattle.limits.specs.Numbers.{word}
 use Rattle.frames.proofs.Passed.{Admitted, framed}
 use Rattle.frames.proofs.Laws.Frame.{room}
+use Rattle.frames.specs.Kinds.{order}
 use Rattle.frames.specs.Frames.{counted, frame, ended, unlessFaulty, walk, none, frames}
 use Rattle.frames.specs.declared.fault.Fault.{Fault}
 use Rattle.frames.specs.declared.fault.Checked.{Checked}
@@ -23,7 +24,7 @@ walk-end zero i c = refl
 walk-end (suc k) i c = refl
 
 walk-cons : (k i : ℕ) (c : Seen) (l : List ℕ) → 0 < k → 0 < length l
-    → walk k i c l ≡ unlessFaulty (frame c l) i (walk (k - 1) (i + 1) (counted c (word (drop 2 l))) (drop (2 + word l) l))
+    → walk k i c l ≡ unlessFaulty (frame c l) i (walk (k - 1) (i + 1) (counted c (order (word (drop 2 l)))) (drop (2 + word l) l))
 unfolding walk
 walk-cons zero i c l h g = absurd (omega arith)
 walk-cons (suc k) i c [] h g = absurd (omega arith)
@@ -34,18 +35,18 @@ module _ (s : List ℕ) (at : ℕ) (c : Seen) (f : Checked) (e : f ≡ frame c (
   pub frame-fits : (n : ℕ) → 0 < length s - at → n ≡ word (drop at s) → at + 2 + n ≤ length s
   frame-fits n lt d = omega (arith, framed c (drop at s) (sym e ∙ z) .inside, length-drop at s)
 
-  module _ (k : ℕ) (d : k ≡ word (drop (at + 2) s)) where
+  module _ (w k : ℕ) (d : w ≡ word (drop (at + 2) s)) (o : k ≡ order w) where
     admits-it : Admitted c k
-    admits-it = subst (Admitted c) (ap word (drop-drop 2 at s) ∙ sym d) (framed c (drop at s) (sym e ∙ z) .admits)
+    admits-it = subst (Admitted c) (ap (λ (l : List ℕ). order (word l)) (drop-drop 2 at s) ∙ ap order (sym d) ∙ sym o) (framed c (drop at s) (sym e ∙ z) .admits)
 
-    pub kind-known : k < 7
+    pub kind-known : k < 8
     kind-known = omega (arith, admits-it .known)
 
     pub kind-room : getD (c .count) k 0 + 1 < 65536
     kind-room = room (c .count) k (admits-it .few)
 
 module _ (s : List ℕ) (at i : ℕ) (c : Seen) (f : Checked) (lt : 0 < length s - at) (low : 1 ≤ i) (le : i ≤ at + 1) (e : f ≡ frame c (drop at s)) where
-  step : walk (length s + 1 - i) i c (drop at s) ≡ unlessFaulty f i (walk (length s + 1 - i - 1) (i + 1) (counted c (word (drop 2 (drop at s)))) (drop (2 + word (drop at s)) (drop at s)))
+  step : walk (length s + 1 - i) i c (drop at s) ≡ unlessFaulty f i (walk (length s + 1 - i - 1) (i + 1) (counted c (order (word (drop 2 (drop at s))))) (drop (2 + word (drop at s)) (drop at s)))
   step =
       let q : 0 < length (drop at s) = rw (length-drop at s) (omega arith) in
       let p : 0 < length s + 1 - i = omega arith in
@@ -54,12 +55,12 @@ module _ (s : List ℕ) (at i : ℕ) (c : Seen) (f : Checked) (lt : 0 < length s
   pub walk-stop : (b : Fault) → frames s ≡ walk (length s + 1 - i) i c (drop at s) → f ≡ Faulty b → Refused b i ≡ frames s
   walk-stop b h z = sym (h ∙ step ∙ (rw z))
 
-  pub walk-more : (k n : ℕ) → frames s ≡ walk (length s + 1 - i) i c (drop at s) → f ≡ Passed → k ≡ word (drop (at + 2) s) → n ≡ word (drop at s)
+  pub walk-more : (w k n : ℕ) → frames s ≡ walk (length s + 1 - i) i c (drop at s) → f ≡ Passed → w ≡ word (drop (at + 2) s) → k ≡ order w → n ≡ word (drop at s)
       → frames s ≡ walk (length s + 1 - (i + 1)) (i + 1) (counted c k) (drop (at + 2 + n) s)
-  walk-more k n h z ek en =
+  walk-more w k n h z ew ek en =
       let p : length s + 1 - i - 1 ≡ length s + 1 - (i + 1) = omega arith in
       let q : at + (2 + n) ≡ at + 2 + n = omega arith in
-      h ∙ step ∙ (rw (z, p, drop-drop 2 at s, ← ek, ← en, drop-drop (2 + n) at s, q))
+      h ∙ step ∙ (rw (z, p, drop-drop 2 at s, ← ew, ← ek, ← en, drop-drop (2 + n) at s, q))
 
 pub walk-start : (s : List ℕ) → frames s ≡ walk (length s + 1 - 1) 1 none (drop 0 s)
 unfolding frames

@@ -18,19 +18,20 @@ use Rattle.program.specs.declared.sizes.Sizes.{Sizes}
 use Rattle.program.specs.Header.{header}
 use Rattle.bodies.specs.Formula as Formulas
 use Rattle.bodies.specs.Thread as Threads
+use Rattle.records.specs.Claim as Claims
 use Rattle.bodies.specs.Lists as Lists
 use Rattle.bodies.specs.Line as Lines
 use Rattle.image.specs.declared.body.Place.{Place}
-use Rattle.image.specs.declared.body.Place.the-variants.{Header, Formula, Thread, Outline, Line, Obligations}
+use Rattle.image.specs.declared.body.Place.the-variants.{Header, Formula, Thread, Outline, Line, Obligations, Claim}
 use Rattle.image.specs.Body.{placeOf, check}
 use Rattle.image.specs.Decode.{recordCount, sizesOf, unlessFaulty, firstFault, decoded}
 use Rattle.image.specs.declared.decode.Decoded.{Decoded}
 use Rattle.image.specs.declared.decode.Decoded.the-variants.{Refused, Sound}
 
-pub sizes-are : (h : List ℕ) (t w r v f n : ℕ) → t ≡ getD h 0 0 → w ≡ getD h 1 0 → r ≡ getD h 2 0 → v ≡ getD h 3 0
-    → record { threads = t; words = w; registers = r; range = v; formulas = f; lines = n } ≡ sizesOf h f n
+pub sizes-are : (h : List ℕ) (t w r v f n m : ℕ) → t ≡ getD h 0 0 → w ≡ getD h 1 0 → r ≡ getD h 2 0 → v ≡ getD h 3 0
+    → record { threads = t; words = w; registers = r; range = v; formulas = f; lines = n; claims = m } ≡ sizesOf h f n m
 unfolding sizesOf
-sizes-are h t w r v f n et ew er ev = rw (et, ew, er, ev)
+sizes-are h t w r v f n m et ew er ev = rw (et, ew, er, ev)
 
 fault-step : (t : ℕ) (z : Sizes) (l : List (List ℕ)) (i n : ℕ) (m : List (List ℕ)) → 0 < n
     → firstFault t z l i n m ≡ unlessFaulty (check t z l (placeOf z i) (getD m 0 [])) i (firstFault t z l (i + 1) (n - 1) (drop 1 m))
@@ -91,7 +92,11 @@ module _ (t : ℕ) (z : Sizes) (l : List (List ℕ)) (b : List ℕ) (p q : Place
   unfolding check
   is-obligations h d = rw (← e, h) d
 
-pub ruleset placed = (is-header, is-formula, is-thread, is-outline, is-line, is-obligations)
+  pub is-claim : p ≡ Claim → r ≡ Claims.claim z l b → r ≡ check t z l q b
+  unfolding check
+  is-claim h d = rw (← e, h) d
+
+pub ruleset placed = (is-header, is-formula, is-thread, is-outline, is-line, is-obligations, is-claim)
 
 -- frames, then bodies
 
@@ -99,9 +104,9 @@ pub frames-refused : (s : List ℕ) (g : Framing) (f : Fault) (r : ℕ) → g �
 unfolding decoded
 frames-refused s g f r e q = rw (← e, q)
 
-pub frames-sound : (s : List ℕ) (g : Framing) (nf nt nl : ℕ) (h : List ℕ) (z : Sizes) (d : Decoded) → g ≡ wholeImage s → g ≡ Framing.Sound nf nt nl → h ≡ getD (bodies s) 0 [] → z ≡ sizesOf h nf nl
+pub frames-sound : (s : List ℕ) (g : Framing) (nf nt nl nc : ℕ) (h : List ℕ) (z : Sizes) (d : Decoded) → g ≡ wholeImage s → g ≡ Framing.Sound nf nt nl nc → h ≡ getD (bodies s) 0 [] → z ≡ sizesOf h nf nl nc
     → d ≡ firstFault nt z (bodies s) 1 (recordCount z) (bodies s) → d ≡ decoded s
 unfolding decoded
-frames-sound s g nf nt nl h z d e q eh ez ed = rw (← e, q, ← eh, ← ez) ed
+frames-sound s g nf nt nl nc h z d e q eh ez ed = rw (← e, q, ← eh, ← ez) ed
 
 pub ruleset opening = (sizes-are, frames-refused, frames-sound)

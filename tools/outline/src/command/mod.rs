@@ -5,10 +5,13 @@ pub mod check;
 pub mod explain;
 pub mod explore;
 pub mod input;
+pub mod interrupt;
 pub mod json;
 pub mod judge;
 pub mod options;
+pub mod progress;
 pub mod show;
+pub mod truth;
 pub mod words;
 
 use std::io::Write;
