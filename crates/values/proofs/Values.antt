@@ -24,11 +24,11 @@ pub no-parts : (s : List ℕ) (at : ℕ) (x : Node) → x ≡ nodeAt s at → x 
 no-parts s at x e p = rw e (sym (parts-of s at) ∙ ap (λ (x : Node). x .parts) (sym e) ∙ p)
 
 module _ (s : List ℕ) (w : Reading) (q : List ℕ) where
-  value-none : (v : List ℕ) → rowValue s w q v none ≡ 0
+  pub value-none : (v : List ℕ) → rowValue s w q v none ≡ 0
   unfolding rowValue valueT
   value-none v = refl
 
-  value-node : (v : List ℕ) (c o : ℕ) (l r : Tree) → rowValue s w q v (node c o l r) ≡ cond (member (w .leaves) c) (valueIn v (slotOf s q (node c o l r))) (combine (w .range) c o (rowValue s w q v l) (rowValue s w q v r))
+  pub value-node : (v : List ℕ) (c o : ℕ) (l r : Tree) → rowValue s w q v (node c o l r) ≡ cond (member (w .leaves) c) (valueIn v (slotOf s q (node c o l r))) (combine (w .range) c o (rowValue s w q v l) (rowValue s w q v r))
   unfolding rowValue valueT
   value-node v c o l r = refl
 
