@@ -3,7 +3,7 @@ use columns::column::and_not;
 use leaves::gather::gather_at;
 use leaves::slot::Slots;
 use values::value::Reading;
-use values::value::column_at;
+use values::value::whole_column;
 ghost use mathlib.Core.Path.{_≡_};
 ghost use Prim.Native.Nat.{_≤_};
 ghost use lib.ListN.{getD, length, take};
@@ -48,8 +48,8 @@ pub fn imp_fails(
     requires { ⌜ (n ≤ 4096) × ((n ≤ length (now out)) × (n ≤ length (now room))) ⌝ }
     ensures { λ _. ⌜ take n (now (out .exit)) ≡ impFails (now (s .entry)) w (now (slots .entry)) (now (lasts .entry)) n (impOf (now (s .entry)) (now (lefts .entry)) (now (rights .entry)) t i) ⌝ }
 {
-    column_at(s, number_at(lefts, i), t.left, w, slots, lasts, n, out);
-    column_at(s, number_at(rights, i), t.right, w, slots, lasts, n, room);
+    whole_column(s, number_at(lefts, i), t.left, w, slots, lasts, n, out);
+    whole_column(s, number_at(rights, i), t.right, w, slots, lasts, n, room);
     and_not(n, out, room);
 }
 
