@@ -59,43 +59,44 @@ module _ (s : List ℕ) (at left n : ℕ) (q a : List ℕ) (some : 0 < left) whe
   pub over-grown : length q ≡ 36 → length a ≡ 16 → Grown n q n q a
   over-grown l k = record { more = omega arith; same = λ j h. refl; long = l; wide = k }
 
-  module _ (j : ℕ) (ej : j ≡ slotWithin s q n (parseTree s left at .tree)) (ea : a ≡ leafWords j 16) where
+  module _ (j : ℕ) (ej : j ≡ slotWithin s q n (parseTree s left at .tree)) where
     -- one of those that are there
     pub found-view : n ≤ slots → j < n → view s n q ≡ putT (parseTree s left at .tree) (view s n q)
     found-view h l = put-there s at left n q j not-zero h ej l
 
-    pub found-grown : length q ≡ 36 → Grown n q n q a
-    found-grown l = record { more = omega arith; same = λ j h. refl; long = l; wide = wide-leaf a j ea }
-
-    pub found-bits : j < n → LeafBits s n q (parseTree s left at .tree) a
-    unfolding slotWithin
-    found-bits l = subst (LeafBits s n q tree) (sym ea) (leaf-shows s n q tree j l (omega arith))
-
     -- a new one
     module _ (p : Slot) (m : ℕ) (q₂ : List ℕ) (em : m ≡ countPut n) (eq : q₂ ≡ slotPut n p q) (l : length q ≡ 36) (h : n ≤ slots) where
-      pub new-grown : Grown n q m q₂ a
+      pub new-view : n ≤ j → p ≡ leafSlot s at left → view s m q₂ ≡ putT (parseTree s left at .tree) (view s n q)
+      new-view k ep = put-new s at left n q j not-zero h ej p m q₂ l k ep em eq
+
+      pub new-grown : a ≡ leafWords j 16 → Grown n q m q₂ a
       unfolding countPut
-      new-grown = record { more = more (ltb n slots) refl; same = numbers-put n p q q₂ eq; long = put-length n p q q₂ l eq; wide = wide-leaf a j ea }
+      new-grown ea = record { more = more (ltb n slots) refl; same = numbers-put n p q q₂ eq; long = put-length n p q q₂ l eq; wide = wide-leaf a j ea }
         where
           more : (b : Bool) → ltb n slots ≡ b → n ≤ m
           more true e = let f : m ≡ n + 1 = em ∙ rw e in omega arith
           more false e = let f : m ≡ 13 = em ∙ rw e in omega arith
 
-      module _ (k : n ≤ j) (ep : p ≡ leafSlot s at left) where
-        pub new-view : view s m q₂ ≡ putT (parseTree s left at .tree) (view s n q)
-        new-view = put-new s at left n q j not-zero h ej p m q₂ l k ep em eq
+      pub new-bits : n ≤ j → p ≡ leafSlot s at left → a ≡ leafWords j 16 → LeafBits s m q₂ (parseTree s left at .tree) a
+      unfolding countPut slotWithin LeafBits
+      new-bits k ep ea = go (ltb n slots) refl
+        where
+          go : (b : Bool) → ltb n slots ≡ b → LeafBits s m q₂ tree a
+          go true e =
+              let f : m ≡ n + 1 = em ∙ rw e in
+              let d : j ≡ n = omega arith in
+              let g : slotOf s q₂ tree ≡ j = slot-put s at left n p q not-zero (ltb-true n slots e) l ep q₂ eq (omega arith) ∙ sym d in
+              subst (LeafBits s m q₂ tree) (sym ea) (leaf-shows s m q₂ tree j (omega arith) g)
+          go false e = let f : m ≡ 13 = em ∙ rw e in shows-over _ m q₂ a (omega arith)
 
-        pub new-bits : LeafBits s m q₂ (parseTree s left at .tree) a
-        unfolding countPut slotWithin LeafBits
-        new-bits = go (ltb n slots) refl
-          where
-            go : (b : Bool) → ltb n slots ≡ b → LeafBits s m q₂ tree a
-            go true e =
-                let f : m ≡ n + 1 = em ∙ rw e in
-                let d : j ≡ n = omega arith in
-                let g : slotOf s q₂ tree ≡ j = slot-put s at left n p q not-zero (ltb-true n slots e) l ep q₂ eq (omega arith) ∙ sym d in
-                subst (LeafBits s m q₂ tree) (sym ea) (leaf-shows s m q₂ tree j (omega arith) g)
-            go false e = let f : m ≡ 13 = em ∙ rw e in shows-over _ m q₂ a (omega arith)
+    -- its words
+    module _ (ea : a ≡ leafWords j 16) where
+      pub found-grown : length q ≡ 36 → Grown n q n q a
+      found-grown l = record { more = omega arith; same = λ j h. refl; long = l; wide = wide-leaf a j ea }
+
+      pub found-bits : j < n → LeafBits s n q (parseTree s left at .tree) a
+      unfolding slotWithin
+      found-bits l = subst (LeafBits s n q tree) (sym ea) (leaf-shows s n q tree j l (omega arith))
 
 pub within-slots : (s q : List ℕ) (n j : ℕ) (t : Tree) → j ≡ slotWithin s q n t → n ≤ 12 → j < 64
 unfolding slotWithin
