@@ -59,7 +59,8 @@ fn set_runs(lasts: &[u8; Slots::COUNT], j: usize, run: usize, n: usize, out: &mu
     }
 }
 
-// The column of a slot, for the rows in which its digit goes through all its values; answers how many digits it goes by. 0 past the last slot.
+// The column of a slot, for the rows in which its digit goes through all its values; answers how many digits it goes by. Past the last
+// slot all is 0.
 pub fn take_slot(lasts: &[u8; Slots::COUNT], j: usize, n: usize, out: &mut [u8]) -> usize
     requires { ⌜ (n ≤ 4096) × (n ≤ length (now out)) ⌝ }
     ensures { λ r. ⌜ r ≡ levelIn j ⌝ }

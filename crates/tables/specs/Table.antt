@@ -15,7 +15,8 @@ use Rattle.values.specs.Value.{rowValue}
 use Rattle.values.specs.declared.value.Reading.{Reading}
 use Rattle.bits.specs.Words.{bit}
 
--- in a truth table the leaves are what a thread sees, start and comparisons; each is true or false. (Flags and sums do not stand under `holds` but in comparisons)
+-- in a truth table the leaves are what a thread sees, start and comparisons; each is true or false. (Under `holds` no flags stand, and
+-- sums in comparisons alone; a sum's value is no truth value)
 abbrev pub byLeaves : Reading
 byLeaves = record { leaves = setOf (Code.sees ∷ Code.start ∷ Code.equal ∷ Code.less ∷ Code.unsync ∷ Code.cov ∷ Code.sum ∷ []); range = 2 }
 

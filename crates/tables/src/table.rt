@@ -24,7 +24,7 @@ ghost use Rattle.tables.specs.Table.{byLeaves, Grown, LeafBits, TreeBits
 pub struct TableCodes {}
 
 impl TableCodes {
-    // What a thread sees, start, comparisons. (Flags and sums do not stand under `holds` but in comparisons.)
+    // What a thread sees, start, comparisons. (Under `holds` no flags stand, and sums in comparisons alone.)
     pub const LEAVES: u32 = (1 << Code::SEES)
         + (1 << Code::START)
         + (1 << Code::EQUAL)
