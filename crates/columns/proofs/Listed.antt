@@ -6,8 +6,9 @@ use mathlib.Core.Bool.{Bool, true, false}
 use native.Mathlib.Omega.{arith}
 use lib.ListN.{length, getD, take, length-append, List·getD-append}
 use lib.Seq.{getD-take, getD-at}
-use lib.Dec.{ltb}
+use lib.Dec.{T, ltb}
 use borrow.Author.Tests.{ltb-true, ltb-false}
+use Rattle.logic.specs.Rows.{allBelow}
 use Rattle.columns.specs.Column.{column}
 
 module _ {A : Type 0} (f : ℕ → A) where
@@ -41,3 +42,12 @@ module _ {A : Type 0} (f : ℕ → A) where
 pub column-same : {A : Type 0} (f g : ℕ → A) (n : ℕ) → ((i : ℕ) → i < n → f i ≡ g i) → column f n ≡ column g n
 column-same f g zero h = column-none f ∙ sym (column-none g)
 column-same f g (suc n) h = column-step f n ∙ rw (column-same f g n (λ i k. h i (omega arith)), h n (omega arith), column-step g n)
+
+-- every number below another
+pub below-from : (n : ℕ) (f : ℕ → Bool) → ((i : ℕ) → i < n → T (f i)) → T (allBelow n f)
+below-from zero f h = tt
+below-from (suc n) f h = go (f n) (h n (omega arith)) (below-from n f (λ i l. h i (omega arith)))
+  where
+    go : (b : Bool) → T b → T (allBelow n f) → T (elim b as (λ x. Bool) [ true ↦ allBelow n f | false ↦ false ])
+    go true h g = g
+    go false h g = h

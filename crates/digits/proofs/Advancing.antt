@@ -1,10 +1,10 @@
 -- The one fact on rows: those from all zeros on are every choice exactly once, and no other. And a digit by itself: its runs, and its cycle.
-use Prim.Native.Nat.{ℕ, zero, suc, _+_, _*_, _/_, _%_, _≤_, _<_}
+use Prim.Native.Nat.{ℕ, zero, suc, _+_, _*_, _/_, _%_, _^_, _≤_, _<_}
 use mathlib.Core.Path.{_≡_, refl, ap, ap₂, sym, _∙_, subst}
 use mathlib.Core.List.{List, [], _∷_}
 use mathlib.Core.Bool.{Bool, true, false}
 use native.Mathlib.Omega.{arith}
-use native.Mathlib.Nat.{mul-comm, mul-assoc, mul-one, mul-suc, mul-le-mul, mod-lt, mod-eq-of-lt, div-eq-of-lt, div-add-mod', div-lt-iff-lt-mul, mul-add-div-right, mul-add-mod-self-right}
+use native.Mathlib.Nat.{mul-comm, mul-assoc, mul-one, mul-suc, mul-zero, mul-le-mul, mod-lt, mod-eq-of-lt, div-eq-of-lt, div-add-mod', div-lt-iff-lt-mul, mul-add-div-right, mul-add-mod-self-right, zero-div, div-one, div-div-eq-div-mul, pow-suc}
 use lib.ListN.{length, getD, replicate}
 use lib.Dec.{ltb}
 use borrow.Author.Tests.{lt-ltb, le-ltb, ltb-true, ltb-false}
@@ -216,3 +216,34 @@ run-next [] zero = refl
 run-next [] (suc j) = (let e : 1 ≡ 1 * 1 = omega arith in e)
 run-next (m ∷ ms) zero = mul-one (suc m) ∙ (let e : suc m ≡ 1 * suc m = omega arith in e)
 run-next (m ∷ ms) (suc j) = ap (λ (n : ℕ). suc m * n) (run-next ms j) ∙ sym (mul-assoc (suc m) (run ms j) (suc (getD ms j 0)))
+
+-- where the first k digits are 0 or 1, a row below 2 ^ k has the bits of its number
+pub digit-bit : (ms : List ℕ) (n k j i : ℕ) → ((h : ℕ) → h < k → getD ms h 0 ≡ 1) → i < 2 ^ k → j < n → digit ms n j i ≡ i / 2 ^ j % 2
+digit-bit ms n zero j i two hi hj =
+    let z : i ≡ 0 = omega arith in
+    ap (digit ms n j) z ∙ ap (λ (r : List ℕ). getD r j 0) (after-zero ms (replicate n 0)) ∙ zero-at n j ∙ sym (ap (λ (i : ℕ). i / 2 ^ j % 2) z ∙ ap (λ (x : ℕ). x % 2) (zero-div (2 ^ j)))
+digit-bit [] n (suc k) j i two hi hj = absurd (let e = two 0 (omega arith) in omega arith)
+digit-bit (m ∷ ms) zero (suc k) j i two hi hj = absurd (omega arith)
+digit-bit (m ∷ ms) (suc n) (suc k) zero i two hi hj =
+    ap (λ (r : List ℕ). getD r 0 0) (zero-first m ms i (replicate n 0)) ∙ ap (λ (m : ℕ). i % suc m) (two 0 (omega arith)) ∙ sym (ap (λ (x : ℕ). x % 2) (div-one i))
+digit-bit (m ∷ ms) (suc n) (suc k) (suc j) i two hi hj =
+    let h : i < 2 ^ k * 2 = let e = pow-suc 2 k in omega arith in
+    ap (λ (r : List ℕ). getD r (suc j) 0) (zero-first m ms i (replicate n 0))
+    ∙ ap (λ (m : ℕ). digit ms n j (i / suc m)) (two 0 (omega arith))
+    ∙ digit-bit ms n k j (i / 2) (λ x hx. two (suc x) (omega arith)) (div-lt-iff-lt-mul {k = 2} (omega arith) .1 h) (omega arith)
+    ∙ ap (λ (x : ℕ). x % 2) (div-div-eq-div-mul i 2 (2 ^ j) ∙ ap (λ (x : ℕ). i / x) (mul-comm 2 (2 ^ j) ∙ sym (pow-suc 2 j)))
+
+-- a digit comes again behind the rows of all digits up to it, and of more
+many-times : (f : ℕ → ℕ) (p : ℕ) → ((i : ℕ) → f (p + i) ≡ f i) → (c i : ℕ) → f (p * c + i) ≡ f i
+many-times f p h zero i = let e : p * 0 + i ≡ i = let m = mul-zero p in omega arith in ap f e
+many-times f p h (suc c) i = let e : p * suc c + i ≡ p + (p * c + i) = let m = mul-suc p c in omega arith in ap f e ∙ h (p * c + i) ∙ many-times f p h c i
+
+pub digit-again : (ms : List ℕ) (n k j i : ℕ) → k < n → k < j → digit ms n k (run ms j + i) ≡ digit ms n k i
+digit-again ms n k zero i hn hj = absurd (omega arith)
+digit-again ms n k (suc j) i hn hj = ap (λ (r : ℕ). digit ms n k (r + i)) (run-next ms j) ∙ go (ltb k j) refl (λ l i. digit-again ms n k j i hn l)
+  where
+    go : (b : Bool) → ltb k j ≡ b → (k < j → (i : ℕ) → digit ms n k (run ms j + i) ≡ digit ms n k i) → digit ms n k (run ms j * suc (getD ms j 0) + i) ≡ digit ms n k i
+    go true e ih = many-times (digit ms n k) (run ms j) (ih (ltb-true k j e)) (suc (getD ms j 0)) i
+    go false e ih =
+        let q : j ≡ k = omega (arith, ltb-false k j e) in
+        ap (λ (j : ℕ). digit ms n k (run ms j * suc (getD ms j 0) + i)) q ∙ digit-cycle ms n k i hn

@@ -16,8 +16,8 @@ use borrow.Author.Tests.{lt-ltb, le-ltb, ltb-true, ltb-false}
 use Rattle.leaves.specs.Slots.{slots}
 use Rattle.columns.specs.Column.{column, constant}
 use Rattle.columns.proofs.Listed.{column-none, column-step, column-length, column-getD, column-same}
-use Rattle.digits.specs.Slots.{valueIn, rowIn, slotColumn, longerRun, runOf, Cycles}
-use Rattle.digits.proofs.Advancing.{run, digit-run, digit-cycle, run-first, run-next}
+use Rattle.digits.specs.Slots.{valueIn, rowIn, slotColumn, longerRun, runOf, spanOf, levelIn, Cycles, Widened}
+use Rattle.digits.proofs.Advancing.{run, digit-run, run-first, run-next}
 
 -- a run of a value behind the first rows
 module _ (v from : ℕ) (o a : List ℕ) where
@@ -148,16 +148,6 @@ module _ (ms : List ℕ) (j n : ℕ) (hj : j < slots) where
               let y : r * v ≡ r * u + r = ap (λ (k : ℕ). r * k) z ∙ mul-suc r u in
               absurd (let k = ltb-false r n d in omega arith)
 
-  value-cycle : (r : ℕ) → r ≡ runOf n ms j → r * (getD ms j 0 + 1) < n → (i : ℕ) → f (r * (getD ms j 0 + 1) + i) ≡ f i
-  unfolding rowIn
-  value-cycle r e h i =
-      let p : r * 1 ≤ r * (getD ms j 0 + 1) = mul-le-mul (omega arith) (omega arith) in
-      let q : r ≡ run ms j = e ∙ exact n ms j .0 (let c = mul-one r in omega arith) in
-      in-slot (r * (getD ms j 0 + 1) + i)
-      ∙ ap₂ (λ (k c : ℕ). getD (rowIn ms (k * c + i)) j 0) q (add-one (getD ms j 0))
-      ∙ digit-cycle ms slots j i hj
-      ∙ sym (in-slot i)
-
 -- a run is not empty
 run-some : (n : ℕ) (ms : List ℕ) (j : ℕ) → 0 < runOf n ms j
 unfolding runOf longerRun
@@ -214,56 +204,120 @@ module _ (ms : List ℕ) (j r n : ℕ) (a : List ℕ) where
             ap (λ (k : ℕ). g (k + i)) e ∙ value-run ms j n hj v i r er (omega arith) (omega arith) (omega arith)
 
   -- all of them
-  module _ (to v l : ℕ) (et : to ≡ min (r * v) n) (h : v ≤ l + 1) (k : l < v) (el : l ≡ getD ms j 0) where
-    pub runs-within-all : to ≤ n
-    runs-within-all = omega arith
-
-    pub runs-cycle : j < 12 → r ≡ runOf n ms j → Cycles ms j n to
-    unfolding Cycles
-    runs-cycle hj er less =
-        let q : v ≡ getD ms j 0 + 1 = omega arith in
-        let e : to ≡ r * (getD ms j 0 + 1) = let p : r * v ≡ r * (getD ms j 0 + 1) = ap (λ (m : ℕ). r * m) q in omega arith in
-        let s : 1 * 1 ≤ r * (getD ms j 0 + 1) = mul-le-mul {n₁ = 1} {m₁ = 1} (let z = run-some n ms j in omega arith) (omega arith) in
-        (omega arith, λ i. ap (λ (k : ℕ). valueIn (rowIn ms (k + i)) j) e ∙ value-cycle ms j n hj r er (omega arith) i)
-
-pub ruleset running = (runs-begin, runs-zero, runs-next, runs-within, runs-more, runs-within-all, runs-cycle)
-
--- the runs again and again
-module _ (ms : List ℕ) (j n to c : ℕ) (cy : Cycles ms j n to) (less : to < n) (ec : c ≡ min to (n - to)) where
-  pub again-some : n - (to + c) < n - to
-  unfolding Cycles
-  again-some = let p = cy less .0 in omega arith
-
-  pub again-cycle : Cycles ms j n (to + c)
-  unfolding Cycles
-  again-cycle h =
-      let p = cy less .0 in
-      let e : c ≡ to = omega arith in
-      (omega arith, λ i. let q : to + c + i ≡ to + (to + i) = omega arith in ap (λ (k : ℕ). valueIn (rowIn ms k) j) q ∙ cy less .1 (to + i) ∙ cy less .1 i)
-
-  pub again-more : (a b : List ℕ) → take to a ≡ slotColumn ms j to → take (to + c) b ≡ take to a ++ take c a → take (to + c) b ≡ slotColumn ms j (to + c)
-  unfolding slotColumn Cycles
-  again-more a b ea eb =
-      let p : c ≤ to = omega arith in
-      eb ∙ ap₂ (λ (l m : List ℕ). l ++ m) ea
-      (sym (take-take c to a p) ∙ ap (take c) ea ∙ column-front g c to p ∙ column-same g (λ i. g (to + i)) c (λ i h. sym (cy less .1 i)))
-      ∙ sym (column-join g to c)
+  pub runs-end : (to v l : ℕ) → to ≡ min (r * v) n → v ≤ l + 1 → l < v → l ≡ getD ms j 0 → r ≡ runOf n ms j → take to a ≡ slotColumn ms j to → take (spanOf n ms (j + 1)) a ≡ slotColumn ms j (spanOf n ms (j + 1))
+  unfolding spanOf
+  runs-end to v l et h k el er ea =
+      let q : to ≡ min n (runOf n ms (j + 1)) = whole (ltb r n) refl in
+      rw q at ea
     where
-      g : ℕ → ℕ
-      g i = valueIn (rowIn ms i) j
+      times : r * v ≡ r * (getD ms j 0 + 1)
+      times = let e : v ≡ getD ms j 0 + 1 = omega arith in ap (λ (m : ℕ). r * m) e
 
-  pub again-front : c ≤ to
-  again-front = omega arith
+      next : runOf n ms (j + 1) ≡ longerRun n (getD ms j 0) r
+      next = ap (runOf n ms) (add-one j) ∙ run-step n ms j ∙ ap (longerRun n (getD ms j 0)) (sym er)
 
-  pub again-within : (a : List ℕ) → n ≤ length a → to + c ≤ length a
-  again-within a h = omega arith
+      whole : (b : Bool) → ltb r n ≡ b → to ≡ min n (runOf n ms (j + 1))
+      whole true e = let f : runOf n ms (j + 1) ≡ r * (getD ms j 0 + 1) = next ∙ sym (longer-more n (getD ms j 0) r (getD ms j 0) (ltb-true r n e) refl) in let g = times in omega arith
+      whole false e =
+          let f : runOf n ms (j + 1) ≡ r = next ∙ sym (longer-whole n (getD ms j 0) r (ltb-false r n e)) in
+          let m : r * 1 ≤ r * (getD ms j 0 + 1) = mul-le-mul (omega arith) (omega arith) in
+          let o = mul-one r in
+          let g = times in
+          let l = ltb-false r n e in
+          omega arith
 
-pub again-end : (ms : List ℕ) (j n to : ℕ) (a : List ℕ) → to ≤ n → n ≤ to → take to a ≡ slotColumn ms j to → take n a ≡ slotColumn ms j n
-again-end ms j n to a h k e = let q : to ≡ n = omega arith in rw q at e
+pub ruleset running = (runs-begin, runs-zero, runs-next, runs-within, runs-more, runs-end)
 
-pub ruleset repeating = (again-some, again-cycle, again-more, again-front, again-within, again-end)
+-- the first rows again and again
+module _ (p n : ℕ) (a₀ : List ℕ) where
+  pub widen-begin : Widened p n a₀ p a₀
+  unfolding Widened
+  widen-begin f e c = (e, c)
+
+  module _ (to : ℕ) (a : List ℕ) (w : Widened p n a₀ to a) where
+    pub widen-more : (c : ℕ) (b : List ℕ) → to < n → c ≡ min to (n - to) → take (to + c) b ≡ take to a ++ take c a → Widened p n a₀ (to + c) b
+    unfolding Widened Cycles
+    widen-more c b less ec eb f e cy = (
+      eb ∙ ap₂ (λ (l m : List ℕ). l ++ m) (w f e cy .0)
+          (sym (take-take c to a front) ∙ ap (take c) (w f e cy .0) ∙ column-front f c to front ∙ column-same f (λ i. f (to + i)) c (λ i h. sym (again .1 i)))
+          ∙ sym (column-join f to c),
+      λ h. (omega (arith, again .0), λ i. let d : c ≡ to = omega arith in let q : to + c + i ≡ to + (to + i) = omega arith in ap f q ∙ again .1 (to + i) ∙ again .1 i),
+    )
+      where
+        front : c ≤ to
+        front = omega arith
+
+        again : (0 < to) × ((i : ℕ) → f (to + i) ≡ f i)
+        again = w f e cy .1 less
+
+    pub widen-end : to ≤ n → n ≤ to → Widened p n a₀ n a
+    widen-end h k = let q : to ≡ n = omega arith in subst (λ (m : ℕ). Widened p n a₀ m a) q w
+
+  module _ (to c : ℕ) (less : to < n) (ec : c ≡ min to (n - to)) where
+    pub widen-some : min 1 n ≤ p → p ≤ to → n - (to + c) < n - to
+    widen-some h k = omega arith
+
+    pub widen-front : c ≤ to
+    widen-front = omega arith
+
+    pub widen-within : (a : List ℕ) → n ≤ length a → to + c ≤ length a
+    widen-within a h = omega arith
+
+pub ruleset widening = (widen-begin, widen-more, widen-end, widen-some, widen-front, widen-within)
 
 -- past the last slot
-pub slot-past : (ms : List ℕ) (j n : ℕ) (a : List ℕ) → 12 ≤ j → take n a ≡ constant 0 n → take n a ≡ slotColumn ms j n
+pub slot-past : (ms : List ℕ) (j m n : ℕ) (a : List ℕ) → 12 ≤ j → m ≡ spanOf n ms 0 → take m a ≡ constant 0 m → take (spanOf n ms 0) a ≡ slotColumn ms j (spanOf n ms 0)
 unfolding slotColumn constant valueIn
-slot-past ms j n a h e = e ∙ column-same (λ (i : ℕ). 0) (λ (i : ℕ). cond (ltb j slots) (getD (rowIn ms i) j 0) 0) n (λ i k. sym (rw (le-ltb _ _ h)))
+slot-past ms j m n a h em e = (rw em at e) ∙ column-same (λ (i : ℕ). 0) (λ (i : ℕ). cond (ltb j slots) (getD (rowIn ms i) j 0) 0) (spanOf n ms 0) (λ i k. sym (rw (le-ltb _ _ h)))
+
+pub level-slot : (j : ℕ) → j < 12 → j + 1 ≡ levelIn j
+unfolding levelIn
+level-slot j h = rw (lt-ltb _ _ h)
+
+pub level-past : (j : ℕ) → 12 ≤ j → 0 ≡ levelIn j
+unfolding levelIn
+level-past j h = rw (le-ltb _ _ h)
+
+-- spans
+pub span-is : (n : ℕ) (ms : List ℕ) (j r m : ℕ) → r ≡ runOf n ms j → m ≡ min n r → m ≡ spanOf n ms j
+unfolding spanOf
+span-is n ms j r m e d = d ∙ ap (min n) e
+
+module _ (n : ℕ) (ms : List ℕ) where
+  pub span-within : (j : ℕ) → spanOf n ms j ≤ n
+  unfolding spanOf
+  span-within j = omega arith
+
+  pub span-some : (j : ℕ) → min 1 n ≤ spanOf n ms j
+  unfolding spanOf
+  span-some j = let h = run-some n ms j in omega arith
+
+  -- a span that is not all is that of the digits
+  pub span-exact : (j : ℕ) → spanOf n ms j < n → spanOf n ms j ≡ run ms j
+  unfolding spanOf
+  span-exact j h = let e = exact n ms j .0 (omega arith) in omega arith
+
+  -- more digits, more rows
+  span-step : (k : ℕ) → spanOf n ms k ≤ spanOf n ms (suc k)
+  unfolding spanOf
+  span-step k = go (ltb (runOf n ms k) n) refl
+    where
+      go : (b : Bool) → ltb (runOf n ms k) n ≡ b → min n (runOf n ms k) ≤ min n (runOf n ms (suc k))
+      go true e =
+          let f : runOf n ms (suc k) ≡ runOf n ms k * (getD ms k 0 + 1) = run-step n ms k ∙ sym (longer-more n (getD ms k 0) (runOf n ms k) (getD ms k 0) (ltb-true (runOf n ms k) n e) refl) in
+          let m : runOf n ms k * 1 ≤ runOf n ms k * (getD ms k 0 + 1) = mul-le-mul (omega arith) (omega arith) in
+          let o = mul-one (runOf n ms k) in
+          omega arith
+      go false e = let f : runOf n ms (suc k) ≡ runOf n ms k = run-step n ms k ∙ sym (longer-whole n (getD ms k 0) (runOf n ms k) (ltb-false (runOf n ms k) n e)) in omega arith
+
+  span-far : (i d : ℕ) → spanOf n ms i ≤ spanOf n ms (i + d)
+  span-far i zero = let q : i + 0 ≡ i = omega arith in rw q (omega arith)
+  span-far i (suc d) = let q : i + suc d ≡ suc (i + d) = omega arith in rw q (let e = span-far i d in let f = span-step (i + d) in omega arith)
+
+  pub span-more : (i j : ℕ) → i ≤ j → spanOf n ms i ≤ spanOf n ms j
+  span-more i j h = let q : i + (j - i) ≡ j = omega arith in rw q at (span-far i (j - i))
+
+pub span-fits : (n : ℕ) (ms : List ℕ) (j m : ℕ) (a : List ℕ) → m ≡ spanOf n ms j → n ≤ length a → m ≤ length a
+span-fits n ms j m a e h = let k = span-within n ms j in omega arith
+
+pub ruleset taking = (slot-past, level-slot, level-past, span-fits)

@@ -1,9 +1,9 @@
 -- The digits of the slots, for all rows from all zeros on. A digit goes through its values in runs of rows.
-use Prim.Native.Nat.{ℕ, zero, suc, _+_, _*_, _<_}
+use Prim.Native.Nat.{ℕ, zero, suc, _+_, _*_, _<_, min}
 use mathlib.Core.Path.{_≡_}
 use mathlib.Core.List.{List}
 use mathlib.Core.Bool.{cond}
-use lib.ListN.{getD, replicate}
+use lib.ListN.{getD, replicate, take}
 use lib.Dec.{ltb}
 use Rattle.leaves.specs.Slots.{slots}
 use Rattle.columns.specs.Column.{column}
@@ -28,6 +28,18 @@ unfoldable pub runOf : ℕ → List ℕ → ℕ → ℕ
 runOf n ms zero = 1
 runOf n ms (suc j) = longerRun n (getD ms j 0) (runOf n ms j)
 
--- behind so many rows, if there are more, the digit of the slot j goes through the same values again
-unfoldable pub Cycles : List ℕ → ℕ → ℕ → ℕ → Type 0
-Cycles ms j n to = to < n → (0 < to) × ((i : ℕ) → valueIn (rowIn ms (to + i)) j ≡ valueIn (rowIn ms i) j)
+-- the rows in which the first j digits go through all their values, n at most; the same values come again behind them
+unfoldable pub spanOf : ℕ → List ℕ → ℕ → ℕ
+spanOf n ms j = min n (runOf n ms j)
+
+-- how many of the first digits the value in a slot goes by
+unfoldable pub levelIn : ℕ → ℕ
+levelIn j = cond (ltb j slots) (j + 1) 0
+
+-- behind so many rows, if there are more, the same values come again
+unfoldable pub Cycles : (ℕ → ℕ) → ℕ → ℕ → Type 0
+Cycles f n to = to < n → (0 < to) × ((i : ℕ) → f (to + i) ≡ f i)
+
+-- b has more of the column whose first p rows are in a and come again
+unfoldable pub Widened : ℕ → ℕ → List ℕ → ℕ → List ℕ → Type 0
+Widened p n a to b = (f : ℕ → ℕ) → take p a ≡ column f p → Cycles f n p → (take to b ≡ column f to) × Cycles f n to

@@ -4,6 +4,7 @@ ghost use mathlib.Core.List.{_++_};
 ghost use Prim.Native.Nat.{_+_, _≤_, _<_, min};
 ghost use lib.ListN.{length, take};
 ghost use Rattle.columns.specs.Column.{constant};
+ghost use Rattle.digits.specs.Slots.{Widened};
 
 pub fn wide(x: u8) -> usize
     ensures { λ r. ⌜ (r ≡ x) × (r < 256) ⌝ }
@@ -38,5 +39,18 @@ pub fn repeat_front(from: usize, count: usize, out: &mut [u8])
     while i < count {
         out[from + i] = out[i];
         i += 1;
+    }
+}
+
+// The first rows again and again, as far as n.
+pub fn widen(from: usize, n: usize, out: &mut [u8])
+    requires { ⌜ (from ≤ n) × ((min 1 n ≤ from) × (n ≤ length (now out))) ⌝ }
+    ensures { λ _. ⌜ Widened from n (now (out .entry)) n (now (out .exit)) ⌝ }
+{
+    let mut to = from;
+    while to < n {
+        let count = lesser(to, n - to);
+        repeat_front(to, count, out);
+        to += count;
     }
 }

@@ -1,6 +1,6 @@
 -- Leaves gathered: what the slots hold, and the ways through the functions, one law for each.
-use Prim.Native.Nat.{ℕ, zero, suc, _+_, _-_, _*_, _≤_, _<_}
-use mathlib.Core.Path.{_≡_, refl, ap, ap₂, sym, _∙_}
+use Prim.Native.Nat.{ℕ, zero, suc, _+_, _-_, _*_, _≤_, _<_, min}
+use mathlib.Core.Path.{_≡_, refl, ap, ap₂, sym, _∙_, subst}
 use mathlib.Core.List.{List, [], _∷_}
 use mathlib.Core.Bool.{Bool, true, false, _||_, cond}
 use native.Mathlib.Omega.{arith}
@@ -15,10 +15,10 @@ use Rattle.formula.specs.declared.node.Node.{Node}
 use Rattle.formula.proofs.Nodes.{parse-zero, parse-step}
 use Rattle.formula.proofs.Auto.{lower}
 use Rattle.compare.specs.Same.{sameTree}
-use Rattle.leaves.specs.Slots.{slots, slotTree, leafSlot, numbers, slotAt, slotFrom, slotOf, kept}
+use Rattle.leaves.specs.Slots.{slots, slotTree, leafSlot, numbers, slotAt, slotFrom, slotOf, slotWithin, kept}
 use Rattle.leaves.specs.Gather.{Gathered, many, keys, putT, gatherT, view, countPut, slotPut}
 use Rattle.leaves.specs.declared.slot.Slot.{Slot}
-use Rattle.leaves.proofs.Slots.{leaf-slot, from-next, of-is}
+use Rattle.leaves.proofs.Slots.{same-self, leaf-slot, from-zero, from-step, from-least, from-next, of-is}
 
 pub kept-none : (s q : List ℕ) → kept s q 0 ≡ []
 unfolding kept
@@ -28,7 +28,7 @@ pub kept-step : (s q : List ℕ) (n : ℕ) → kept s q (suc n) ≡ slotAt s q n
 unfolding kept
 kept-step s q n = refl
 
-kept-length : (s q : List ℕ) (n : ℕ) → length (kept s q n) ≡ n
+pub kept-length : (s q : List ℕ) (n : ℕ) → length (kept s q n) ≡ n
 kept-length s q zero = rw kept-none
 kept-length s q (suc n) = rw (kept-step s q n) (ap suc (kept-length s q n))
 
@@ -42,15 +42,6 @@ in-step t u l = refl
 
 -- a tree is among the first n if its slot is below n
 module _ (s q : List ℕ) (t : Tree) where
-  pub from-least : (d j : ℕ) → j ≤ slotFrom s q d j t
-  unfolding slotFrom
-  from-least zero j = omega arith
-  from-least (suc d) j = go (sameTree t (slotAt s q j)) (from-least d (suc j))
-    where
-      go : (b : Bool) → suc j ≤ slotFrom s q d (suc j) t → j ≤ cond b j (slotFrom s q d (suc j) t)
-      go true h = omega arith
-      go false h = omega arith
-
   from-skip : (n : ℕ) → n ≤ slots → n ≤ slotOf s q t → slotOf s q t ≡ slotFrom s q (slots - n) n t
   from-skip zero h g = of-is s q t
   from-skip (suc n) h g = go (sameTree t (slotAt s q n)) (from-skip n (omega arith) (omega arith) ∙ from-next s q n t (omega arith))
@@ -72,8 +63,16 @@ module _ (s q : List ℕ) (t : Tree) where
           rw (eb, lt-ltb _ _ l)
       go false false ea eb ih =
           let f : slotOf s q t ≡ slotFrom s q (slots - (n + 1)) (n + 1) t = from-skip n (omega arith) (ltb-false (slotOf s q t) n ea) ∙ from-next s q n t (omega arith) ∙ rw eb in
-          let l : suc n ≤ slotOf s q t = omega (arith, from-least (slots - (n + 1)) (n + 1)) in
+          let l : suc n ≤ slotOf s q t = omega (arith, from-least s q t (slots - (n + 1)) (n + 1)) in
           rw (eb, ih, ea, le-ltb _ _ l)
+
+-- of n slots
+within : (n a : ℕ) → ltb (min n a) n ≡ ltb a n
+within n a = go (ltb a n) refl
+  where
+    go : (b : Bool) → ltb a n ≡ b → ltb (min n a) n ≡ ltb a n
+    go true e = lt-ltb (min n a) n (omega (arith, ltb-true a n e)) ∙ sym e
+    go false e = le-ltb (min n a) n (omega (arith, ltb-false a n e)) ∙ sym e
 
 -- a slot that is written
 module _ (q : List ℕ) (n : ℕ) (p : Slot) where
@@ -155,12 +154,13 @@ module _ (s : List ℕ) (at left n : ℕ) (q : List ℕ) where
   pub put-over : (left ≡ 0 → ⊥) → slots < n → view s n q ≡ putT (parseTree s left at .tree) (view s n q)
   put-over z h = rw (view-many s n q h, parse-step s left at z, put-many)
 
-  module _ (r : ℕ) (z : left ≡ 0 → ⊥) (h : n ≤ slots) (er : r ≡ slotOf s q (parseTree s left at .tree)) where
+  module _ (r : ℕ) (z : left ≡ 0 → ⊥) (h : n ≤ slots) (er : r ≡ slotWithin s q n (parseTree s left at .tree)) where
     put-by : putT (parseTree s left at .tree) (view s n q) ≡ cond (ltb r n) (keys (kept s q n)) (cond (ltb n slots) (keys (parseTree s left at .tree ∷ kept s q n)) many)
+    unfolding slotWithin
     put-by =
         ap (putT (parseTree s left at .tree)) (view-keys s n q h)
         ∙ put-some _ _ _ _ (parseTree s left at .tree) (kept s q n) (ap (λ (u : ParsedTree). u .tree) (parse-step s left at z))
-        ∙ rw (kept-length s q n, in-kept s q (parseTree s left at .tree) n h, er)
+        ∙ rw (kept-length s q n, in-kept s q (parseTree s left at .tree) n h, er, within n (slotOf s q (parseTree s left at .tree)))
 
     pub put-there : r < n → view s n q ≡ putT (parseTree s left at .tree) (view s n q)
     put-there l = view-keys s n q h ∙ sym (put-by ∙ rw (lt-ltb _ _ l))
@@ -225,3 +225,60 @@ module _ (s : List ℕ) (k at w n : ℕ) (q : List ℕ) where
         f₂ ∙ rw (f, em, parse-step s k at z, ← e, gather-node, ← eb, d, lt-ltb _ _ t₀, lt-ltb _ _ t₁)
 
 pub ruleset gathers = (gather-zero, gather-here, gather-leaf, gather-one, gather-two, lower)
+
+-- the slots before the one that is written are as they were
+pub numbers-put : (n : ℕ) (p : Slot) (q q₂ : List ℕ) → q₂ ≡ slotPut n p q → (j : ℕ) → j < n → numbers q₂ j ≡ numbers q j
+unfolding slotPut
+numbers-put n p q q₂ e j h = ap (λ (l : List ℕ). numbers l j) e ∙ go (ltb n slots)
+  where
+    go : (b : Bool) → numbers (cond b (written q n p) q) j ≡ numbers q j
+    go true = numbers-other q n p j h
+    go false = refl
+
+-- a tree among the first slots stays in its slot
+module _ (s q q₂ : List ℕ) (n : ℕ) (t : Tree) (same : (j : ℕ) → j < n → numbers q₂ j ≡ numbers q j) where
+  same-at : (j : ℕ) → j < n → slotAt s q₂ j ≡ slotAt s q j
+  unfolding slotAt
+  same-at j h = ap (slotTree s) (same j h)
+
+  from-later : (d j : ℕ) → slotFrom s q d j t < n → slotFrom s q₂ d j t ≡ slotFrom s q d j t
+  from-later zero j h = from-zero s q₂ j t ∙ sym (from-zero s q j t)
+  from-later (suc d) j h =
+      from-step s q₂ d j t
+      ∙ go (sameTree t (slotAt s q j)) refl (λ k. from-later d (suc j) k) (subst (λ (x : ℕ). x < n) (from-step s q d j t) h)
+      ∙ sym (from-step s q d j t)
+    where
+      go : (b : Bool) → sameTree t (slotAt s q j) ≡ b → (slotFrom s q d (suc j) t < n → slotFrom s q₂ d (suc j) t ≡ slotFrom s q d (suc j) t)
+          → cond (sameTree t (slotAt s q j)) j (slotFrom s q d (suc j) t) < n
+          → cond (sameTree t (slotAt s q₂ j)) j (slotFrom s q₂ d (suc j) t) ≡ cond (sameTree t (slotAt s q j)) j (slotFrom s q d (suc j) t)
+      go true e ih h =
+          let k : j < n = rw e at h in
+          rw (same-at j k, e)
+      go false e ih h =
+          let k : slotFrom s q d (suc j) t < n = rw e at h in
+          let l : j < n = omega (arith, from-least s q t d (suc j)) in
+          rw (same-at j l, e) (ih k)
+
+  pub slot-later : slotOf s q t < n → slotOf s q₂ t ≡ slotOf s q t
+  slot-later h = of-is s q₂ t ∙ from-later slots 0 (let e = of-is s q t in omega arith) ∙ sym (of-is s q t)
+
+-- a new tree is in the slot that was written
+module _ (s : List ℕ) (at left n : ℕ) (p : Slot) (q : List ℕ) (z : left ≡ 0 → ⊥) (h : n < slots) (len : length q ≡ 36) (ep : p ≡ leafSlot s at left) where
+  abbrev t : Tree
+  t = parseTree s left at .tree
+
+  put-slot : (l : n ≤ slotOf s q t) → slotOf s (written q n p) t ≡ n
+  put-slot l = let a = least in let b = most in omega arith
+    where
+      least : n ≤ slotOf s (written q n p) t
+      least = ltb-false (slotOf s (written q n p) t) n (sym (in-kept s (written q n p) t n (omega arith)) ∙ ap (isIn sameTree t) (kept-other q n p s n (omega arith)) ∙ in-kept s q t n (omega arith) ∙ le-ltb _ _ l)
+
+      here : kept s (written q n p) (n + 1) ≡ t ∷ kept s q n
+      here = kept-written q n p s (omega arith) ∙ ap (λ (u : Tree). u ∷ kept s q n) (ap (slotTree s) ep ∙ leaf-slot s at left z)
+
+      most : slotOf s (written q n p) t < n + 1
+      most = ltb-true (slotOf s (written q n p) t) (n + 1) (sym (in-kept s (written q n p) t (n + 1) (omega arith)) ∙ ap (isIn sameTree t) here ∙ in-step t t (kept s q n) ∙ rw (same-self t))
+
+  pub slot-put : (q₂ : List ℕ) → q₂ ≡ slotPut n p q → n ≤ slotOf s q t → slotOf s q₂ t ≡ n
+  unfolding slotPut
+  slot-put q₂ e l = ap (λ (l : List ℕ). slotOf s l t) (e ∙ rw (lt-ltb _ _ h)) ∙ put-slot l

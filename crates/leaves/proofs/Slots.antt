@@ -12,7 +12,7 @@ use Rattle.formula.specs.declared.node.Node.{Node}
 use Rattle.formula.proofs.Nodes.{parse-zero, parse-step, parts-of}
 use Rattle.compare.specs.Same.{sameTree}
 use Rattle.compare.proofs.Pairs.{same-none, same-none-node, same-node-none, same-nodes}
-use Rattle.leaves.specs.Slots.{slots, slotTree, leafSlot, samePlain, sameSlot, numbers, slotAt, slotFrom, slotOf}
+use Rattle.leaves.specs.Slots.{slots, slotTree, leafSlot, samePlain, sameSlot, numbers, slotAt, slotFrom, slotOf, slotWithin}
 use Rattle.leaves.specs.declared.slot.Slot.{Slot}
 
 -- the slot of a leaf
@@ -27,7 +27,7 @@ module _ (s : List ℕ) (at left : ℕ) (x : Node) (e : x ≡ nodeAt s at) where
 
 pub ruleset leafs = (slot-plain, slot-whole)
 
-same-self : (t : Tree) → sameTree t t ≡ true
+pub same-self : (t : Tree) → sameTree t t ≡ true
 unfolding sameTree
 same-self none = refl
 same-self (node c o l r) = rw (eq-eqb c c refl, eq-eqb o o refl, same-self l, same-self r)
@@ -159,7 +159,7 @@ leaf-slot s at left z = go (eqb (nodeAt s at .parts) 0) refl
     go false e = rw (ne-eqb _ _ z)
 
 -- from one slot to the next
-from-step : (s q : List ℕ) (d j : ℕ) (t : Tree) → slotFrom s q (suc d) j t ≡ cond (sameTree t (slotAt s q j)) j (slotFrom s q d (suc j) t)
+pub from-step : (s q : List ℕ) (d j : ℕ) (t : Tree) → slotFrom s q (suc d) j t ≡ cond (sameTree t (slotAt s q j)) j (slotFrom s q d (suc j) t)
 unfolding slotFrom
 from-step s q d j t = refl
 
@@ -175,7 +175,7 @@ from-end s q j t h g =
     let e : j ≡ slots = omega arith in
     rw e
 
-from-zero : (s q : List ℕ) (j : ℕ) (t : Tree) → slotFrom s q 0 j t ≡ j
+pub from-zero : (s q : List ℕ) (j : ℕ) (t : Tree) → slotFrom s q 0 j t ≡ j
 unfolding slotFrom
 from-zero s q j t = refl
 
@@ -188,6 +188,26 @@ from-none s q zero j = let e : j ≡ j + 0 = omega arith in rw from-zero e
 from-none s q (suc d) j =
     let e : suc j + d ≡ j + suc d = omega arith in
     rw (from-step, slot-some s q j, from-none s q d (suc j)) e
+
+-- neither below the first nor above the one behind them
+module _ (s q : List ℕ) (t : Tree) where
+  pub from-least : (d j : ℕ) → j ≤ slotFrom s q d j t
+  unfolding slotFrom
+  from-least zero j = omega arith
+  from-least (suc d) j = go (sameTree t (slotAt s q j)) (from-least d (suc j))
+    where
+      go : (b : Bool) → suc j ≤ slotFrom s q d (suc j) t → j ≤ cond b j (slotFrom s q d (suc j) t)
+      go true h = omega arith
+      go false h = omega arith
+
+  from-most : (d j : ℕ) → slotFrom s q d j t ≤ j + d
+  unfolding slotFrom
+  from-most zero j = omega arith
+  from-most (suc d) j = go (sameTree t (slotAt s q j)) (from-most d (suc j))
+    where
+      go : (b : Bool) → slotFrom s q d (suc j) t ≤ suc j + d → cond b j (slotFrom s q d (suc j) t) ≤ j + suc d
+      go true h = omega arith
+      go false h = omega arith
 
 pub of-is : (s q : List ℕ) (t : Tree) → slotOf s q t ≡ slotFrom s q slots 0 t
 unfolding slotOf
@@ -204,16 +224,30 @@ module _ (s q : List ℕ) (at left : ℕ) where
   pub of-begin : slotOf s q tree ≡ slotFrom s q (slots - 0) 0 tree
   of-begin = of-is s q tree
 
-  pub of-end : (j : ℕ) → j ≤ slots → slots ≤ j → slotOf s q tree ≡ slotFrom s q (slots - j) j tree → slots ≡ slotOf s q tree
-  of-end j h g e = sym (e ∙ from-end s q j tree g h)
+  -- of n slots
+  pub of-end : (j n : ℕ) → j ≤ n → n ≤ j → slotOf s q tree ≡ slotFrom s q (slots - j) j tree → n ≡ slotWithin s q n tree
+  unfolding slotWithin
+  of-end j n h g e = let k = from-least s q tree (slots - j) j in omega arith
 
-  module _ (x : Node) (p : Slot) (j : ℕ) (b : Bool) (z : left ≡ 0 → ⊥) (ex : x ≡ nodeAt s at) (h : j < slots) (ep : p ≡ numbers q j) (eb : b ≡ sameSlot s at left x p) (e : slotOf s q tree ≡ slotFrom s q (slots - j) j tree) where
+  -- of all
+  pub of-all : (r : ℕ) → r ≡ slotWithin s q 12 tree → r ≡ slotOf s q tree
+  unfolding slotWithin
+  of-all r e = let h = of-is s q tree in let k = from-most s q tree slots 0 in omega arith
+
+  module _ (x : Node) (p : Slot) (j n : ℕ) (b : Bool) (l : 0 < left) (ex : x ≡ nodeAt s at) (g : j < n) (m : n ≤ 12) (ep : p ≡ numbers q j) (eb : b ≡ sameSlot s at left x p) (e : slotOf s q tree ≡ slotFrom s q (slots - j) j tree) where
+    z : left ≡ 0 → ⊥
+    z e = omega arith
+
+    h : j < slots
+    h = omega arith
+
     here : b ≡ sameTree tree (slotAt s q j)
     unfolding slotAt
     here = eb ∙ ap₂ (λ (y : Node) (p : Slot). sameSlot s at left y p) ex ep ∙ same-slot s at left z (numbers q j)
 
-    pub of-found : b ≡ true → j ≡ slotOf s q tree
-    of-found d = sym (e ∙ from-next s q j tree h ∙ rw (← here, d))
+    pub of-found : b ≡ true → j ≡ slotWithin s q n tree
+    unfolding slotWithin
+    of-found d = let f : j ≡ slotOf s q tree = sym (e ∙ from-next s q j tree h ∙ rw (← here, d)) in omega arith
 
     pub of-next : b ≡ false → slotOf s q tree ≡ slotFrom s q (slots - (j + 1)) (j + 1) tree
     of-next d = e ∙ from-next s q j tree h ∙ rw (← here, d)
@@ -242,4 +276,6 @@ module _ (s q : List ℕ) (c o : ℕ) where
 
 pub ruleset plainly = (plain-begin, plain-end, plain-found, plain-next)
 
-pub ruleset finds = (of-zero, of-begin, of-end, of-found, of-next)
+pub ruleset finds = (of-begin, of-end, of-found, of-next)
+
+pub ruleset finds-all = (of-zero, of-all)

@@ -1,5 +1,5 @@
 -- Slots of leaves.
-use Prim.Native.Nat.{ℕ, zero, suc, _+_, _*_}
+use Prim.Native.Nat.{ℕ, zero, suc, _+_, _*_, min}
 use mathlib.Core.List.{List, [], _∷_}
 use mathlib.Core.Bool.{Bool, true, false, cond}
 use lib.ListN.{getD}
@@ -49,6 +49,10 @@ slotFrom s q (suc d) j t = cond (sameTree t (slotAt s q j)) j (slotFrom s q d (s
 
 unfoldable pub slotOf : List ℕ → List ℕ → Tree → ℕ
 slotOf s q t = slotFrom s q slots 0 t
+
+-- the first of n slots that has the tree, or n
+unfoldable pub slotWithin : List ℕ → List ℕ → ℕ → Tree → ℕ
+slotWithin s q n t = min n (slotOf s q t)
 
 -- the trees of the first slots, the last one first
 unfoldable pub kept : List ℕ → List ℕ → ℕ → List Tree

@@ -3,7 +3,7 @@
 use crate::slot::Slot;
 use crate::slot::Slots;
 use crate::slot::leaf_slot;
-use crate::slot::slot_of;
+use crate::slot::slot_within;
 use formula::code::contains;
 use formula::end::end_at;
 use formula::node::node_at;
@@ -13,7 +13,7 @@ ghost use lib.ListN.{length};
 ghost use Rattle.leaves.specs.Gather.{countPut, slotPut, view, putT, gatherT};
 
 // With a leaf in the next slot, if there is one.
-fn put_slot(n: usize, p: Slot, slots: &mut [usize; Slots::NUMBERS]) -> usize
+pub fn put_slot(n: usize, p: Slot, slots: &mut [usize; Slots::NUMBERS]) -> usize
     ensures { λ r. ⌜ r ≡ countPut n ⌝ }
     ensures { λ _. ⌜ now (slots .exit) ≡ slotPut n p (now (slots .entry)) ⌝ }
 {
@@ -44,7 +44,7 @@ pub fn add_leaf(
     if Slots::COUNT < n {
         return n;
     }
-    if slot_of(s, at, left, slots) < n {
+    if slot_within(s, at, left, slots, n) < n {
         return n;
     }
     put_slot(n, leaf_slot(s, at, left), slots)

@@ -3,10 +3,10 @@ use crate::told::same_leaf;
 use formula::node::Node;
 use formula::node::node_at;
 ghost use mathlib.Core.Path.{_≡_};
-ghost use Prim.Native.Nat.{_<_};
+ghost use Prim.Native.Nat.{_≤_, _<_};
 ghost use Rattle.formula.specs.Codes.{partCount};
 ghost use Rattle.formula.specs.Tree.{none, node, parseTree};
-ghost use Rattle.leaves.specs.Slots.{leafSlot, numbers, samePlain, sameSlot, slotOf};
+ghost use Rattle.leaves.specs.Slots.{leafSlot, numbers, samePlain, sameSlot, slotOf, slotWithin};
 
 pub struct Slots {}
 
@@ -117,6 +117,29 @@ pub fn plain_slot(s: &[u8], code: u8, operand: u8, slots: &[usize; Slots::NUMBER
     Slots::COUNT
 }
 
+// The first of n slots with the formula at a position; n if there is none.
+pub fn slot_within(
+    s: &[u8],
+    at: usize,
+    left: usize,
+    slots: &[usize; Slots::NUMBERS],
+    n: usize,
+) -> usize
+    requires { ⌜ (n ≤ 12) × (0 < left) ⌝ }
+    ensures { λ r. ⌜ r ≡ slotWithin (now (s .entry)) (now (slots .entry)) n (parseTree (now (s .entry)) left at .tree) ⌝ }
+{
+    let x = node_at(s, at);
+    let mut j: usize = 0;
+    while j < n {
+        if same_slot(s, at, left, x, slot_at(slots, j)) {
+            return j;
+        } else {
+            j += 1;
+        }
+    }
+    n
+}
+
 // The first slot with the formula at a position; Slots::COUNT if there is none.
 pub fn slot_of(s: &[u8], at: usize, left: usize, slots: &[usize; Slots::NUMBERS]) -> usize
     ensures { λ r. ⌜ r ≡ slotOf (now (s .entry)) (now (slots .entry)) (parseTree (now (s .entry)) left at .tree) ⌝ }
@@ -124,14 +147,5 @@ pub fn slot_of(s: &[u8], at: usize, left: usize, slots: &[usize; Slots::NUMBERS]
     if left == 0 {
         return Slots::COUNT;
     }
-    let x = node_at(s, at);
-    let mut j: usize = 0;
-    while j < Slots::COUNT {
-        if same_slot(s, at, left, x, slot_at(slots, j)) {
-            return j;
-        } else {
-            j += 1;
-        }
-    }
-    Slots::COUNT
+    slot_within(s, at, left, slots, Slots::COUNT)
 }

@@ -17,8 +17,9 @@ use Rattle.formula.specs.Tree.{Tree}
 use Rattle.compare.specs.Same.{sameTree}
 use Rattle.leaves.specs.Slots.{slots, slotAt, slotFrom, slotOf, kept}
 use Rattle.leaves.specs.Count.{choicesT}
-use Rattle.leaves.proofs.Slots.{from-next}
-use Rattle.leaves.proofs.Gathering.{kept-none, kept-step, from-least}
+use Rattle.leaves.proofs.Slots.{from-least, from-next}
+use Rattle.leaves.proofs.Gathering.{kept-none, kept-step}
+use Rattle.columns.proofs.Listed.{below-from}
 use Rattle.digits.specs.Advance.{rowsFrom, rowsOf, Choice, EveryOnce}
 use Rattle.digits.specs.Slots.{valueIn}
 use Rattle.digits.proofs.Advancing.{every-once}
@@ -96,14 +97,6 @@ pub below-same : (n : ℕ) (f g : ℕ → Bool) → ((i : ℕ) → i < n → f i
 below-same zero f g h = refl
 below-same (suc n) f g h = ap₂ (λ (a b : Bool). elim a as (λ x. Bool) [ true ↦ b | false ↦ false ]) (h n (omega arith)) (below-same n f g (λ i l. h i (omega arith)))
 
-below-from : (n : ℕ) (f : ℕ → Bool) → ((i : ℕ) → i < n → T (f i)) → T (allBelow n f)
-below-from zero f h = tt
-below-from (suc n) f h = go (f n) (h n (omega arith)) (below-from n f (λ i l. h i (omega arith)))
-  where
-    go : (b : Bool) → T b → T (allBelow n f) → T (elim b as (λ x. Bool) [ true ↦ allBelow n f | false ↦ false ])
-    go true h g = g
-    go false h g = h
-
 -- every row of a list
 module _ {A : Type 0} (f : A → Bool) (d : A) where
   all-at : (l : List A) → T (all f l) → (i : ℕ) → i < length l → T (f (getD l i d))
@@ -173,7 +166,7 @@ module _ (s q : List ℕ) (R : ℕ) where
   lasts-length zero = ap length lasts-none
   lasts-length (suc k) = ap length (lasts-step k) ∙ length-set (lastsOf s q R k) k (chosen k - 1) ∙ lasts-length k
 
-  lasts-at : (k i : ℕ) → k ≤ slots → getD (lastsOf s q R k) i 0 ≡ cond (ltb i k) (chosen i - 1) 0
+  pub lasts-at : (k i : ℕ) → k ≤ slots → getD (lastsOf s q R k) i 0 ≡ cond (ltb i k) (chosen i - 1) 0
   lasts-at zero i h = ap (λ (l : List ℕ). getD l i 0) lasts-none ∙ zeros slots i ∙ sym (ap (λ (b : Bool). cond b (chosen i - 1) 0) (past i))
     where
       past : (i : ℕ) → ltb i 0 ≡ false

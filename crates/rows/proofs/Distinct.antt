@@ -1,10 +1,10 @@
 -- What is gathered in the slots are the distinct leaves, in the order of the logic; and too many for the slots are too many rows.
-use Prim.Native.Nat.{ℕ, zero, suc, _+_, _^_, _≤_, _<_}
-use mathlib.Core.Path.{_≡_, refl, ap, sym, _∙_}
+use Prim.Native.Nat.{ℕ, zero, suc, _+_, _*_, _^_, _≤_, _<_}
+use mathlib.Core.Path.{_≡_, refl, ap, ap₂, sym, _∙_}
 use mathlib.Core.List.{List, [], _∷_, _++_, append-assoc}
 use mathlib.Core.Bool.{Bool, true, false, cond, _||_, _&&_}
 use native.Mathlib.Omega.{arith}
-use native.Mathlib.Nat.{mul-le-mul, pow-suc}
+use native.Mathlib.Nat.{mul-comm, mul-le-mul, pow-suc}
 use lib.ListN.{length}
 use lib.Dec.{eqb, ltb, leb}
 use borrow.Author.Tests.{lt-ltb, le-ltb, ltb-true, ltb-false, lt-leb}
@@ -125,7 +125,7 @@ module _ (R : ℕ) (two : 2 ≤ R) where
       two-pick true h = two
       two-pick false h = h
 
-  rows-power : (n : ℕ) (l : List Tree) → n ≤ length l → 2 ^ n ≤ rowCount sameTree (choicesT R) l
+  pub rows-power : (n : ℕ) (l : List Tree) → n ≤ length l → 2 ^ n ≤ rowCount sameTree (choicesT R) l
   rows-power zero [] h = omega arith
   rows-power zero (t ∷ l) h = let e = mul-le-mul (choices-two t) (rows-power zero l (omega arith)) in omega arith
   rows-power (suc n) [] h = absurd (omega arith)
@@ -141,3 +141,18 @@ module _ (R : ℕ) (two : 2 ≤ R) where
           let p : limit < rowCount sameTree (choicesT R) l = omega (arith, rows-power 13 l k) in
           rw (d, e, lt-leb (rowCount sameTree (choicesT R) l) limit p)
       go false d = rw d
+
+-- two values have two choices each
+pub two-choices : (t : Tree) → choicesT 2 t ≡ 2
+unfolding choicesT choicesBy
+two-choices none = refl
+two-choices (node c o l r) = go (eqb c (byte Code.reg)) (eqb c (byte Code.word))
+  where
+    go : (a b : Bool) → cond a 2 (cond {A = ℕ} b 2 2) ≡ 2
+    go true b = refl
+    go false true = refl
+    go false false = refl
+
+pub two-rows : (l : List Tree) → rowCount sameTree (choicesT 2) l ≡ 2 ^ length l
+two-rows [] = refl
+two-rows (t ∷ l) = ap₂ (λ (a b : ℕ). a * b) (two-choices t) (two-rows l) ∙ mul-comm 2 (2 ^ length l) ∙ sym (pow-suc 2 (length l))

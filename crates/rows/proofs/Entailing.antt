@@ -14,7 +14,7 @@ use Rattle.columns.specs.Column.{denyOf, denied}
 use Rattle.digits.specs.Slots.{rowIn}
 use Rattle.columns.proofs.Listed.{column-same, column-at}
 use Rattle.values.specs.Value.{rowValue, columnOf}
-use Rattle.rows.specs.Entailment.{ImpT, impOf, impsFrom, premisesFrom, impAt, allAt, impFails, keptWhere, failsFrom, gatherImp, gatherImps, gatherAll}
+use Rattle.rows.specs.Entailment.{ImpT, impOf, impsFrom, premisesFrom, impAt, impFails, gatherImp, gatherImps, gatherAll}
 use Rattle.values.specs.declared.value.Reading.{Reading}
 use Rattle.rows.specs.declared.entailment.Task.{Task}
 use Rattle.values.proofs.Values.{column-value}
@@ -33,23 +33,20 @@ module _ (s lefts rights : List ℕ) (t : Task) where
   unfolding impsFrom
   from-step i d = refl
 
-  prems-step : (i : ℕ) → i < t .premises → prems i ≡ imp (i + 1) ∷ prems (i + 1)
+  pub prems-step : (i : ℕ) → i < t .premises → prems i ≡ imp (i + 1) ∷ prems (i + 1)
   unfolding premisesFrom
   prems-step i h =
       let e : t .premises - i ≡ suc (t .premises - (i + 1)) = omega arith in
       let f : suc (i + 1) ≡ i + 1 + 1 = omega arith in
       rw (e, from-step, f)
 
-  prems-end : (i : ℕ) → t .premises ≤ i → prems i ≡ []
+  pub prems-end : (i : ℕ) → t .premises ≤ i → prems i ≡ []
   unfolding premisesFrom impsFrom
   prems-end i h = let e : t .premises - i ≡ 0 = omega arith in rw e
 
   module _ (w : Reading) (q ms : List ℕ) (n : ℕ) where
     abbrev holds : ℕ → ImpT → Bool
     holds i = impAt s w q (rowIn ms i)
-
-    abbrev allHold : ℕ → ℕ → Bool
-    allHold k i = allAt s w q (rowIn ms i) (prems k)
 
     -- an implication fails where the left side is true and the right side is not
     pub imp-fails : (i l r : ℕ) (a b o : List ℕ) → l ≡ getD lefts i 0 → take n a ≡ columnOf s w q ms n (parseTree s (t .left) l .tree) → r ≡ getD rights i 0
@@ -65,58 +62,7 @@ module _ (s lefts rights : List ℕ) (t : Task) where
         go true y = refl
         go false y = refl
 
-    all-step : (k i : ℕ) → k < t .premises → allHold k i ≡ cond (holds i (imp (k + 1))) (allHold (k + 1) i) false
-    unfolding allAt
-    all-step k i h = rw (prems-step k h)
-
-    all-back : (k i : ℕ) → k ≤ t .premises → 0 < k → allHold (k - 1) i ≡ cond (holds i (imp k)) (allHold k i) false
-    all-back k i h z =
-        let f : k - 1 + 1 ≡ k = omega arith in
-        all-step (k - 1) i (omega arith) ∙ ap (λ (m : ℕ). cond (holds i (imp m)) (allHold m i) false) f
-
-    all-none : (k i : ℕ) → t .premises ≤ k → allHold k i ≡ true
-    unfolding allAt
-    all-none k i h = rw (prems-end k h)
-
-    -- the line fails, and the premises from k on hold
-    abbrev failing : ℕ → ℕ → ℕ
-    failing k i = cond (holds i (imp 0)) 0 (cond (allHold k i) 1 0)
-
-    pub fails-begin : (o : List ℕ) → take n o ≡ impFails s w q ms n (imp 0) → take n o ≡ failsFrom s lefts rights t w q ms n (t .premises)
-    unfolding impFails failsFrom
-    fails-begin o e = e ∙ column-same (λ (i : ℕ). cond (holds i (imp 0)) 0 1) (failing (t .premises)) n (λ i h. ap (λ (b : Bool). cond (holds i (imp 0)) 0 (cond b 1 0)) (sym (all-none (t .premises) i (omega arith))))
-
-    pub kept-where : (k : ℕ) (a b o : List ℕ) → take n b ≡ impFails s w q ms n (imp k) → take n o ≡ denied n a b → take n o ≡ keptWhere s w q ms n (imp k) a
-    unfolding denyOf denied impFails keptWhere
-    kept-where k a b o eb eo = eo ∙ column-same (λ (i : ℕ). cond (eqb (getD a i 0) 1) (cond (eqb (getD b i 0) 1) 0 1) 0) (λ (i : ℕ). cond (eqb (getD a i 0) 1) (cond (holds i (imp k)) 1 0) 0) n (λ i l.
-        ap (λ (x : ℕ). cond (eqb (getD a i 0) 1) (cond (eqb x 1) 0 1) 0) (column-at (λ (i : ℕ). cond (holds i (imp k)) 0 1) 0 b n i eb l)
-        ∙ ap (λ (x : ℕ). cond (eqb (getD a i 0) 1) x 0) (go (holds i (imp k))))
-      where
-        go : (x : Bool) → _≡_ {A = ℕ} (cond (eqb (cond x 0 1) 1) 0 1) (cond x 1 0)
-        go true = refl
-        go false = refl
-
-    pub fails-next : (k : ℕ) (a o : List ℕ) → k ≤ t .premises → 0 < k → take n a ≡ failsFrom s lefts rights t w q ms n k → take n o ≡ keptWhere s w q ms n (imp k) a
-        → take n o ≡ failsFrom s lefts rights t w q ms n (k - 1)
-    unfolding keptWhere failsFrom
-    fails-next k a o h z ea eo = eo ∙ column-same (λ (i : ℕ). cond (eqb (getD a i 0) 1) (cond (holds i (imp k)) 1 0) 0) (failing (k - 1)) n (λ i l.
-        ap (λ (x : ℕ). cond (eqb x 1) (cond (holds i (imp k)) 1 0) 0) (column-at (failing k) 0 a n i ea l)
-        ∙ go (holds i (imp 0)) (allHold k i) (holds i (imp k))
-        ∙ ap (λ (x : Bool). cond (holds i (imp 0)) 0 (cond x 1 0)) (sym (all-back k i h z)))
-      where
-        go : (x y u : Bool) → _≡_ {A = ℕ} (cond (eqb (cond x 0 (cond y 1 0)) 1) (cond u 1 0) 0) (cond x 0 (cond (cond u y false) 1 0))
-        go true y u = refl
-        go false true true = refl
-        go false true false = refl
-        go false false true = refl
-        go false false false = refl
-
-    pub fails-end : (k : ℕ) (o : List ℕ) → k ≤ 0 → take n o ≡ failsFrom s lefts rights t w q ms n k → take n o ≡ failsFrom s lefts rights t w q ms n 0
-    fails-end k o h e = let z : k ≡ 0 = omega arith in e ∙ ap (failsFrom s lefts rights t w q ms n) z
-
-pub ruleset implications = (imp-fails, kept-where)
-
-pub ruleset entailing = (fails-begin, fails-next, fails-end)
+pub ruleset implications = (imp-fails)
 
 -- the leaves of implications
 pub gather-imp : (s lefts rights : List ℕ) (t : Task) (i w l r n m k : ℕ) (q q₂ q₃ : List ℕ) → r ≡ getD rights i 0 → view s m q₂ ≡ gatherT w (parseTree s (t .right) r .tree) (view s n q) → l ≡ getD lefts i 0
@@ -146,5 +92,9 @@ module _ (s lefts rights : List ℕ) (t : Task) (w : ℕ) where
       → view s m q₂ ≡ gatherAll s lefts rights t w
   unfolding gatherAll
   all-end i n m q q₂ z e f = let d : i ≡ 0 = omega arith in f ∙ rw (e, d)
+
+  -- without premises
+  pub all-alone : (m : ℕ) (q q₂ : List ℕ) → t .premises ≡ 0 → view s m q₂ ≡ gatherImp w (impOf s lefts rights t 0) (view s 0 q) → view s m q₂ ≡ gatherAll s lefts rights t w
+  all-alone m q q₂ z f = all-end 0 0 m q q₂ (omega arith) (all-begin q ∙ ap (λ (i : ℕ). gatherImps w (premisesFrom s lefts rights t i) (keys [])) z) f
 
 pub ruleset gathered = (all-begin, all-next, all-end)

@@ -13,7 +13,8 @@ use Rattle.compare.specs.Same.{sameTree}
 use Rattle.leaves.specs.Gather.{Gathered}
 use Rattle.rows.specs.Entailment.{leavesAll, impOf, impsFrom, premisesFrom, gatherImps, gatherAll}
 use Rattle.rows.specs.Every.{everyT, everyBy, everyOf}
-use Rattle.rows.specs.Rows.{byNames, rowsT, byLeaves, tableT, lineOf, premisesOf}
+use Rattle.tables.specs.Table.{byLeaves}
+use Rattle.rows.specs.Rows.{byNames, rowsT, tableT, lineOf, premisesOf}
 use Rattle.values.specs.declared.value.Reading.{Reading}
 use Rattle.rows.specs.declared.entailment.Task.{Task}
 use Rattle.rows.specs.declared.by.Implications.{Implications}

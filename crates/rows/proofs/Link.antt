@@ -31,8 +31,9 @@ use Rattle.columns.specs.Combine.{sumOf, combine}
 use Rattle.columns.proofs.Combining.{sum-modulo}
 use Rattle.values.specs.Value.{valueT}
 use Rattle.rows.specs.Entailment.{ImpT, impT, entailsT, leavesAll}
-use Rattle.rows.specs.Rows.{byNames, rowsT, byLeaves, tableT}
-use Rattle.rows.proofs.Distinct.{choices-two}
+use Rattle.tables.specs.Table.{byLeaves}
+use Rattle.rows.specs.Rows.{byNames, rowsT, tableT}
+use Rattle.rows.proofs.Distinct.{choices-two, two-choices}
 use Rattle.rows.proofs.Choices.{below-same}
 
 map-join : {A B : Type 0} (g : A → B) (l m : List A) → map g (l ++ m) ≡ map g l ++ map g m
@@ -264,16 +265,6 @@ leaf-alike (l-assertion a) (l-test f) =
 leaf-alike (l-test e) (l-assertion b) =
     bool-ext (sameTree (toTree e) (toTree b)) false (λ h. let d = ap codeOf (tree-eq (toTree e) (toTree b) h) in omega (arith, assertion-code b, test-code e)) (λ h. absurd h)
 leaf-alike (l-test e) (l-test f) = toTree-same e f
-
-two-choices : (t : Tree) → choicesT 2 t ≡ 2
-unfolding choicesT choicesBy
-two-choices none = refl
-two-choices (node c o l r) = go (eqb c (byte Code.reg)) (eqb c (byte Code.word))
-  where
-    go : (a b : Bool) → cond a 2 (cond {A = ℕ} b 2 2) ≡ 2
-    go true b = refl
-    go false true = refl
-    go false false = refl
 
 abbrev C : ℕ
 C = byLeaves .leaves

@@ -22,10 +22,11 @@ use Rattle.columns.proofs.Listed.{column-at}
 use Rattle.digits.specs.Advance.{rowsFrom, rowsOf, EveryOnce}
 use Rattle.digits.specs.Slots.{valueIn, rowIn}
 use Rattle.digits.proofs.Advancing.{from-at, from-long}
-use Rattle.rows.specs.Entailment.{entailsT, impOf, premisesFrom, impAt, allAt, entailsAt, failsFrom, gatherAll}
+use Rattle.rows.specs.Entailment.{ImpT, entailsT, impOf, premisesFrom, impAt, allAt, entailsAt, impFails, gatherAll}
 use Rattle.rows.specs.Every.{lastsOf, triedRows, holdFrom, rowsHold, everyOf}
 use Rattle.values.specs.declared.value.Reading.{Reading}
 use Rattle.rows.specs.declared.entailment.Task.{Task}
+use Rattle.rows.proofs.Entailing.{prems-end}
 use Rattle.rows.proofs.Choices.{all-below, lasts-step, rows-count, tried-once, rows-tried}
 
 pub last-none : (c : ℕ) → c ≡ 0 → 0 ≡ c - 1
@@ -63,22 +64,22 @@ zero-in i = go (ltb i slots)
     go false = refl
 
 -- the rows at which nothing fails
-pub none-fail : (s lefts rights : List ℕ) (t : Task) (w : Reading) (q ms : List ℕ) (n : ℕ) (fails : List ℕ) (r : Bool) → take n fails ≡ failsFrom s lefts rights t w q ms n 0 → r ≡ noneBelow fails n
+pub none-fail : (s lefts rights : List ℕ) (t : Task) (w : Reading) (q ms : List ℕ) (n : ℕ) (fails : List ℕ) (r : Bool) → t .premises ≡ 0 → take n fails ≡ impFails s w q ms n (impOf s lefts rights t 0) → r ≡ noneBelow fails n
     → r ≡ holdFrom s lefts rights t w q ms n
-unfolding failsFrom noneBelow holdFrom entailsAt rowIn
-none-fail s lefts rights t w q ms n fails r ef er =
+unfolding impFails noneBelow holdFrom entailsAt allAt rowIn
+none-fail s lefts rights t w q ms n fails r z ef er =
     er ∙ all-below (entailsAt s lefts rights t w q) [] (rowsFrom ms n (replicate slots 0)) n (λ i. not (eqb (getD fails i 0) 1)) (from-long ms n (replicate slots 0)) (λ i h.
     ap (λ (m : ℕ). not (eqb m 1)) (column-at failing 0 fails n i ef h)
-    ∙ go (impAt s w q (rowIn ms i) (impOf s lefts rights t 0)) (allAt s w q (rowIn ms i) (premisesFrom s lefts rights t 0))
+    ∙ go (impAt s w q (rowIn ms i) (impOf s lefts rights t 0))
+    ∙ ap (λ (l : List ImpT). cond (impAt s w q (rowIn ms i) (impOf s lefts rights t 0)) true (not (allAt s w q (rowIn ms i) l))) (sym (prems-end s lefts rights t 0 (omega arith)))
     ∙ ap (entailsAt s lefts rights t w q) (sym (from-at ms n i (replicate slots 0) h)))
   where
     failing : ℕ → ℕ
-    failing i = cond (impAt s w q (rowIn ms i) (impOf s lefts rights t 0)) 0 (cond (allAt s w q (rowIn ms i) (premisesFrom s lefts rights t 0)) 1 0)
+    failing i = cond (impAt s w q (rowIn ms i) (impOf s lefts rights t 0)) 0 1
 
-    go : (x y : Bool) → not (eqb (cond x 0 (cond y 1 0)) 1) ≡ cond x true (not y)
-    go true y = refl
-    go false true = refl
-    go false false = refl
+    go : (x : Bool) → not (eqb (cond {A = ℕ} x 0 1) 1) ≡ cond x true (not true)
+    go true = refl
+    go false = refl
 
 -- by the last values of the slots
 pub rows-hold : (s lefts rights : List ℕ) (t : Task) (w : Reading) (q : List ℕ) (k n : ℕ) (ms : List ℕ) (r : Bool) → ms ≡ lastsOf s q (w .range) k → r ≡ holdFrom s lefts rights t w q ms n → r ≡ rowsHold s lefts rights t w q k n

@@ -68,12 +68,3 @@ gatherAll s lefts rights t w = gatherImp w (impOf s lefts rights t 0) (gatherImp
 -- the rows at which an implication fails
 unfoldable pub impFails : List ℕ → Reading → List ℕ → List ℕ → ℕ → ImpT → List ℕ
 impFails s w q ms n p = column (λ i. cond (impAt s w q (rowIn ms i) p) 0 1) n
-
--- of the rows that are 1, those at which it is true
-unfoldable pub keptWhere : List ℕ → Reading → List ℕ → List ℕ → ℕ → ImpT → List ℕ → List ℕ
-keptWhere s w q ms n p a = column (λ i. cond (eqb (getD a i 0) 1) (cond (impAt s w q (rowIn ms i) p) 1 0) 0) n
-
--- those at which the line fails, and the premises behind the first k are true
-unfoldable pub failsFrom : List ℕ → List ℕ → List ℕ → Task → Reading → List ℕ → List ℕ → ℕ → ℕ → List ℕ
-failsFrom s lefts rights t w q ms n k =
-    column (λ i. cond (impAt s w q (rowIn ms i) (impOf s lefts rights t 0)) 0 (cond (allAt s w q (rowIn ms i) (premisesFrom s lefts rights t k)) 1 0)) n

@@ -1,3 +1,4 @@
 pub mod Entailment
 pub mod Every
 pub mod Rows
+pub mod Tables

@@ -9,6 +9,7 @@ use Rattle.logic.specs.Limits
 use Rattle.limits.specs.Limits.{nesting}
 use Rattle.formula.specs.Codes.{setOf}
 use Rattle.formula.specs.Tree.{Tree}
+use Rattle.tables.specs.Table.{byLeaves}
 use Rattle.rows.specs.Entailment.{ImpT, impOf, premisesFrom}
 use Rattle.rows.specs.Every.{everyT}
 use Rattle.values.specs.declared.value.Reading.{Reading}
@@ -22,10 +23,6 @@ byNames R = record { leaves = setOf (Code.reg ∷ Code.word ∷ Code.unsync ∷ 
 -- wherever the left test is true the right one is, at every row, of which there are at most 4,096. (A range of one value or none has no rows to try)
 unfoldable pub rowsT : ℕ → Tree → Tree → Bool
 rowsT R u v = cond (ltb R 2) false (everyT (byNames R) Limits.rows [] (record { left = u; right = v }))
-
--- in a truth table the leaves are what a thread sees, start and comparisons; each is true or false. (Flags do not stand under `holds`)
-abbrev pub byLeaves : Reading
-byLeaves = record { leaves = setOf (Code.sees ∷ Code.start ∷ Code.equal ∷ Code.less ∷ Code.unsync ∷ Code.cov ∷ []); range = 2 }
 
 -- the line is true in each row in which every premise is; ten leaves at most, so many rows
 unfoldable pub tableT : List ImpT → ImpT → Bool

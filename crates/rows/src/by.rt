@@ -2,6 +2,7 @@
 use crate::entailment::Sizes;
 use crate::entailment::Task;
 use crate::every::every_row;
+use crate::table::by_bits;
 use formula::code::Code;
 use limits::Limits;
 use values::value::Reading;
@@ -23,14 +24,6 @@ impl LeafCodes {
     // By rows: names.
     pub const NAMES: u32 = (1 << Code::REG)
         + (1 << Code::WORD)
-        + (1 << Code::UNSYNC)
-        + (1 << Code::COV);
-
-    // By truth table: what a thread sees, start, comparisons. (Flags do not stand under `holds`.)
-    pub const TABLE: u32 = (1 << Code::SEES)
-        + (1 << Code::START)
-        + (1 << Code::EQUAL)
-        + (1 << Code::LESS)
         + (1 << Code::UNSYNC)
         + (1 << Code::COV);
 }
@@ -76,9 +69,5 @@ pub fn by_table(s: &[u8], imps: Implications) -> bool
         left: Limits::NESTING,
         right: Limits::NESTING,
     };
-    let w = Reading {
-        leaves: LeafCodes::TABLE,
-        range: 2,
-    };
-    every_row(s, &lefts, &rights, t, w, 1 << Limits::LEAVES)
+    by_bits(s, &lefts, &rights, t)
 }

@@ -1,14 +1,14 @@
-// Entailment at each row: that the line is true where all premises are. Line and premises are implications.
+// Implications at each row, by the values of their sides.
 use columns::column::and_not;
 use leaves::gather::gather_at;
 use leaves::slot::Slots;
 use values::value::Reading;
-use values::value::column_at;
+use values::value::whole_column;
 ghost use mathlib.Core.Path.{_≡_};
 ghost use Prim.Native.Nat.{_≤_};
 ghost use lib.ListN.{getD, length, take};
 ghost use Rattle.leaves.specs.Gather.{view};
-ghost use Rattle.rows.specs.Entailment.{impOf, impFails, keptWhere, failsFrom, gatherImp, gatherAll};
+ghost use Rattle.rows.specs.Entailment.{impOf, impFails, gatherImp, gatherAll};
 
 pub struct Sizes {}
 
@@ -48,56 +48,9 @@ pub fn imp_fails(
     requires { ⌜ (n ≤ 4096) × ((n ≤ length (now out)) × (n ≤ length (now room))) ⌝ }
     ensures { λ _. ⌜ take n (now (out .exit)) ≡ impFails (now (s .entry)) w (now (slots .entry)) (now (lasts .entry)) n (impOf (now (s .entry)) (now (lefts .entry)) (now (rights .entry)) t i) ⌝ }
 {
-    column_at(s, number_at(lefts, i), t.left, w, slots, lasts, n, out);
-    column_at(s, number_at(rights, i), t.right, w, slots, lasts, n, room);
+    whole_column(s, number_at(lefts, i), t.left, w, slots, lasts, n, out);
+    whole_column(s, number_at(rights, i), t.right, w, slots, lasts, n, room);
     and_not(n, out, room);
-}
-
-// Of the rows that are 1, those at which an implication is true. (Room for two more columns is lent.)
-pub fn keep_where(
-    s: &[u8],
-    lefts: &[usize],
-    rights: &[usize],
-    t: Task,
-    i: usize,
-    w: Reading,
-    slots: &[usize; Slots::NUMBERS],
-    lasts: &[u8; Slots::COUNT],
-    n: usize,
-    out: &mut [u8],
-    room: &mut [u8],
-    more: &mut [u8],
-)
-    requires { ⌜ (n ≤ 4096) × ((n ≤ length (now out)) × ((n ≤ length (now room)) × (n ≤ length (now more)))) ⌝ }
-    ensures { λ _. ⌜ take n (now (out .exit)) ≡ keptWhere (now (s .entry)) w (now (slots .entry)) (now (lasts .entry)) n (impOf (now (s .entry)) (now (lefts .entry)) (now (rights .entry)) t i) (now (out .entry)) ⌝ }
-{
-    imp_fails(s, lefts, rights, t, i, w, slots, lasts, n, room, more);
-    and_not(n, out, room);
-}
-
-// The rows at which the entailment fails: the line does, and every premise is true.
-pub fn entailment_fails(
-    s: &[u8],
-    lefts: &[usize],
-    rights: &[usize],
-    t: Task,
-    w: Reading,
-    slots: &[usize; Slots::NUMBERS],
-    lasts: &[u8; Slots::COUNT],
-    n: usize,
-    out: &mut [u8],
-    room: &mut [u8],
-    more: &mut [u8],
-)
-    requires { ⌜ (n ≤ 4096) × ((n ≤ length (now out)) × ((n ≤ length (now room)) × (n ≤ length (now more)))) ⌝ }
-    ensures { λ _. ⌜ take n (now (out .exit)) ≡ failsFrom (now (s .entry)) (now (lefts .entry)) (now (rights .entry)) t w (now (slots .entry)) (now (lasts .entry)) n 0 ⌝ }
-{
-    imp_fails(s, lefts, rights, t, 0, w, slots, lasts, n, out, room);
-    let mut i = t.premises;
-    while 0 < i {
-        keep_where(s, lefts, rights, t, i, w, slots, lasts, n, out, room, more);
-        i -= 1;
-    }
 }
 
 // With the leaves of an implication.
@@ -119,8 +72,8 @@ pub fn gather_imp(
     gather_at(s, number_at(lefts, i), t.left, set, m, slots)
 }
 
-// The leaves of the line and its premises; answers how many there are.
-pub fn gather_all(
+// The leaves of a line without premises.
+pub fn gather_line(
     s: &[u8],
     lefts: &[usize],
     rights: &[usize],
@@ -128,14 +81,8 @@ pub fn gather_all(
     set: u32,
     slots: &mut [usize; Slots::NUMBERS],
 ) -> usize
-    requires { ⌜ length (now slots) ≡ 36 ⌝ }
+    requires { ⌜ (length (now slots) ≡ 36) × (t .premises ≡ 0) ⌝ }
     ensures { λ r. ⌜ view (now (s .entry)) r (now (slots .exit)) ≡ gatherAll (now (s .entry)) (now (lefts .entry)) (now (rights .entry)) t set ⌝ }
 {
-    let mut n: usize = 0;
-    let mut i = t.premises;
-    while 0 < i {
-        n = gather_imp(s, lefts, rights, t, i, set, n, slots);
-        i -= 1;
-    }
-    gather_imp(s, lefts, rights, t, 0, set, n, slots)
+    gather_imp(s, lefts, rights, t, 0, set, 0, slots)
 }

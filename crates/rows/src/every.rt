@@ -1,7 +1,7 @@
-// Every row tried, from all zeros on.
+// Every row tried, from all zeros on: of an implication without premises.
 use crate::entailment::Task;
-use crate::entailment::entailment_fails;
-use crate::entailment::gather_all;
+use crate::entailment::gather_line;
+use crate::entailment::imp_fails;
 use columns::block::Block;
 use columns::column::none_below;
 use leaves::count::choices;
@@ -42,7 +42,7 @@ pub fn fill_lasts(
     }
 }
 
-// Whether the entailment fails at none of the rows from all zeros on.
+// Whether the implication fails at none of the rows from all zeros on.
 fn none_fails(
     s: &[u8],
     lefts: &[usize],
@@ -54,12 +54,12 @@ fn none_fails(
     n: usize,
     fails: &mut [u8],
     room: &mut [u8],
-    more: &mut [u8],
 ) -> bool
-    requires { ⌜ (n ≤ 4096) × ((n ≤ length (now fails)) × ((n ≤ length (now room)) × (n ≤ length (now more)))) ⌝ }
+    requires { ⌜ (n ≤ 4096) × ((n ≤ length (now fails)) × (n ≤ length (now room))) ⌝ }
+    requires { ⌜ t .premises ≡ 0 ⌝ }
     ensures { λ r. ⌜ r ≡ holdFrom (now (s .entry)) (now (lefts .entry)) (now (rights .entry)) t w (now (slots .entry)) (now (lasts .entry)) n ⌝ }
 {
-    entailment_fails(s, lefts, rights, t, w, slots, lasts, n, fails, room, more);
+    imp_fails(s, lefts, rights, t, 0, w, slots, lasts, n, fails, room);
     none_below(fails, n)
 }
 
@@ -74,13 +74,12 @@ fn try_rows(
     lasts: &[u8; Slots::COUNT],
     n: usize,
 ) -> bool
-    requires { ⌜ n ≤ 4096 ⌝ }
+    requires { ⌜ (n ≤ 4096) × (t .premises ≡ 0) ⌝ }
     ensures { λ r. ⌜ r ≡ holdFrom (now (s .entry)) (now (lefts .entry)) (now (rights .entry)) t w (now (slots .entry)) (now (lasts .entry)) n ⌝ }
 {
     if n <= Block::FEW {
         let mut fails: [u8; Block::FEW] = [0; Block::FEW];
         let mut room: [u8; Block::FEW] = [0; Block::FEW];
-        let mut more: [u8; Block::FEW] = [0; Block::FEW];
         return none_fails(
             s,
             lefts,
@@ -92,12 +91,10 @@ fn try_rows(
             n,
             &mut fails,
             &mut room,
-            &mut more,
         );
     }
     let mut fails: [u8; Block::ROWS] = [0; Block::ROWS];
     let mut room: [u8; Block::ROWS] = [0; Block::ROWS];
-    let mut more: [u8; Block::ROWS] = [0; Block::ROWS];
     none_fails(
         s,
         lefts,
@@ -109,11 +106,10 @@ fn try_rows(
         n,
         &mut fails,
         &mut room,
-        &mut more,
     )
 }
 
-// Whether the entailment holds at each row: every choice for the first k slots is tried exactly once, and no other row.
+// Whether the implication holds at each row: every choice for the first k slots is tried exactly once, and no other row.
 pub fn rows_hold(
     s: &[u8],
     lefts: &[usize],
@@ -124,7 +120,7 @@ pub fn rows_hold(
     k: usize,
     rows: usize,
 ) -> bool
-    requires { ⌜ (k ≤ 12) × (rows ≤ 4096) ⌝ }
+    requires { ⌜ (k ≤ 12) × ((rows ≤ 4096) × (t .premises ≡ 0)) ⌝ }
     requires { ⌜ rows ≡ rowsOf (lastsOf (now s) (now slots) (w .range) k) ⌝ }
     ensures { λ r. ⌜ r ≡ rowsHold (now (s .entry)) (now (lefts .entry)) (now (rights .entry)) t w (now (slots .entry)) k rows ⌝ }
     ensures once { λ _. ⌜ EveryOnce (lastsOf (now (s .entry)) (now (slots .entry)) (w .range) k) (triedRows (now (s .entry)) (now (slots .entry)) (w .range) k rows) ⌝ }
@@ -134,7 +130,7 @@ pub fn rows_hold(
     try_rows(s, lefts, rights, t, w, slots, &lasts, rows)
 }
 
-// Whether there are at most so many rows, and the entailment holds at each.
+// Whether there are at most so many rows, and the implication holds at each.
 pub fn every_row(
     s: &[u8],
     lefts: &[usize],
@@ -143,11 +139,11 @@ pub fn every_row(
     w: Reading,
     limit: u16,
 ) -> bool
-    requires { ⌜ (2 ≤ w .range) × (limit ≤ 4096) ⌝ }
+    requires { ⌜ (2 ≤ w .range) × ((limit ≤ 4096) × (t .premises ≡ 0)) ⌝ }
     ensures { λ r. ⌜ r ≡ everyOf (now (s .entry)) (now (lefts .entry)) (now (rights .entry)) t w limit ⌝ }
 {
     let mut slots: [usize; Slots::NUMBERS] = [0; Slots::NUMBERS];
-    let k = gather_all(s, lefts, rights, t, w.leaves, &mut slots);
+    let k = gather_line(s, lefts, rights, t, w.leaves, &mut slots);
     if Slots::COUNT < k {
         return false;
     }

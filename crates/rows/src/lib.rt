@@ -1,4 +1,5 @@
-// Tests by rows, and truth tables: one mechanism for both, by what stands as a leaf.
+// Tests by rows, and truth tables: every row tried, from all zeros on. One fact on rows for both.
 pub mod by;
 pub mod entailment;
 pub mod every;
+pub mod table;

@@ -1,6 +1,6 @@
-use Rattle.digits.proofs.Runs.{slot-past}
-use borrow.Author.Needs.{needs}
+use Rattle.digits.proofs.Runs.{taking}
 use Rattle.limits.proofs.Auto.{tests}
+use borrow.Author.Needs.{needs}
 use Rattle.digits.proofs.slot.take_slot.Statement.{statement}
 use Rattle.digits.proofs.slot.take_slot.Tie as tie
 
@@ -10,9 +10,10 @@ take-slot-spec =
     (tie.spec
     (λ c κs. search needs)
     (λ c κs. search needs)
+    (λ c. search needs)
+    (λ c. search needs)
+    (λ c. (search (taking, tests), search (taking, tests)))
     (λ c κs. search needs)
+    (λ c κs. search (taking, tests))
     (λ c. search needs)
-    (λ c. search needs)
-    (λ c κs. search needs)
-    (λ c. search needs)
-    (λ c. search (slot-past, tests)))
+    (λ c. (search (taking, tests), search (taking, tests))))

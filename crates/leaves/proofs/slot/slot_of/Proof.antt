@@ -1,31 +1,8 @@
-use Rattle.leaves.specs.Slots.{slotOf, slotFrom}
-use Rattle.formula.specs.Tree.{parseTree}
-use mathlib.Core.Path.{_≡_}
-use Prim.Native.Nat.{_≤_, _-_}
-use Rattle.leaves.proofs.Slots.{finds}
+use Rattle.leaves.proofs.Slots.{finds-all}
 use Rattle.formula.proofs.Auto.{tests}
+use borrow.Author.Needs.{needs}
 use Rattle.leaves.proofs.slot.slot_of.Statement.{statement}
 use Rattle.leaves.proofs.slot.slot_of.Tie as tie
 
-abbrev Inv-loop : tie.InvT-loop
-Inv-loop s at left slots x j₀ j = (j ≤ 12) × (slotOf s slots (parseTree s left at .tree) ≡ slotFrom s slots (12 - j) j (parseTree s left at .tree))
-
-abbrev μ-loop : tie.MeasureT-loop
-μ-loop s at left slots x j₀ j = 12 - j
-
 pub slot-of-spec : {M : Type 1} → statement M
-slot-of-spec =
-    tie.close
-    (tie.spec
-    Inv-loop
-    μ-loop
-    (λ c. search (finds, tests))
-    (λ c κs. search (finds, tests))
-    (λ c. search (finds, tests))
-    (λ c κs. search (finds, tests))
-    (λ c κs. search (finds, tests))
-    (λ c. search (finds, tests))
-    (λ c. search (finds, tests))
-    (λ c. search (finds, tests))
-    (λ c. search (finds, tests))
-    (λ c. search (finds, tests)))
+slot-of-spec = tie.close (tie.spec (λ c. search (finds-all, tests)) (λ c κs. search needs) (λ c. search (finds-all, tests)))

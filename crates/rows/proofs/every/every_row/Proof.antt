@@ -13,5 +13,5 @@ every-row-spec =
     (λ c κs. search needs)
     (λ c. search (everys, tests))
     (λ c. search needs)
-    (λ c κs. search (everys, tests))
+    (λ c κs. ((search tests, (search tests, search tests)), search (everys, tests)))
     (λ c. search (everys, tests)))

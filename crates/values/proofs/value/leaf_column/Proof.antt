@@ -1,4 +1,5 @@
-use Rattle.values.proofs.Values.{leafs}
+use Rattle.values.proofs.Values.{mets, leafs}
+use Rattle.digits.proofs.Runs.{span-fits}
 use Rattle.limits.proofs.Auto.{tests}
 use borrow.Author.Needs.{needs}
 use Rattle.values.proofs.value.leaf_column.Statement.{statement}
@@ -9,15 +10,16 @@ leaf-column-spec =
     tie.close
     (tie.spec
     (λ c κs. search needs)
+    (λ c κs. search (span-fits, tests))
     (λ c. search needs)
-    (λ c. search (leafs, tests))
+    (λ c. (search (mets, tests), search (leafs, tests)))
     (λ c κs. search needs)
     (λ c κs. search (leafs, tests))
     (λ c. search needs)
-    (λ c. search (leafs, tests))
+    (λ c. (search (mets, tests), search (leafs, tests)))
     (λ c κs. search needs)
     (λ c κs. search needs)
     (λ c κs. search needs)
     (λ c. search needs)
-    (λ c. search (leafs, tests))
-    (λ c. search (leafs, tests)))
+    (λ c. (search (mets, tests), search (leafs, tests)))
+    (λ c. (search (mets, tests), search (leafs, tests))))
