@@ -18,8 +18,8 @@ use reference::explore::{seek, Bounds, Sought};
 const TOLD_IN_FULL: usize = 3;
 
 /// How far runs are looked at for open obligations.
-const BOUNDS: Bounds = Bounds { steps: 12, writes: 6, starts: 64 };
-const MOST_STATES: usize = 30_000;
+pub const BOUNDS: Bounds = Bounds { steps: 12, writes: 6, starts: 64 };
+pub const MOST_STATES: usize = 30_000;
 
 pub fn run(args: &[&str]) -> Done {
     let options = Options::read(args, &["-o", "--partial", "--all", "--json"])?;
@@ -67,7 +67,7 @@ fn nothing_written(file: &str, built: &Built) -> String {
     format!("{file}: {failed}{open} of {all} obligations are open; no image is written")
 }
 
-fn write(target: &str, bytes: &[u8]) -> Result<(), String> {
+pub fn write(target: &str, bytes: &[u8]) -> Result<(), String> {
     match target {
         "-" => print(bytes),
         _ => std::fs::write(target, bytes).map_err(|e| format!("{target}: {e}")),

@@ -8,7 +8,7 @@ use crate::text::print::Names;
 use crate::text::run;
 use reference::checker::decode;
 use reference::explore::truth::violation;
-use reference::explore::{explore, find, Break, Cut, Outcome, Run};
+use reference::explore::{explore, find, Bounds, Break, Cut, Outcome, Run, Sought};
 use reference::formula::Assertion;
 use reference::image::Program;
 use reference::machine::{take, State, View};
@@ -124,13 +124,7 @@ fn can_happen(
     names: &Names,
     outcome: &str,
 ) -> Result<(Vec<String>, Status), String> {
-    let test = parse_test(names, &program.header, outcome)
-        .map_err(|e| format!("--outcome: {}", e.text))?;
-    let ended = |state: &State| {
-        state.points.iter().zip(&program.threads).all(|(p, code)| usize::from(*p) == code.len())
-    };
-    let wanted = |state: &State| ended(state) && test.evaluate(&state.seen_at(View::default()));
-    let sought = find(program, options.bounds(), MOST_STATES, &wanted);
+    let sought = outcome_run(program, names, options.bounds(), outcome)?;
     let Some(run) = &sought.runs[0] else {
         let seen = format!("never: {outcome} (in {} states)", sought.states);
         let all = if sought.all { "these are all states".into() } else { reach(&sought.cut) };
@@ -139,4 +133,20 @@ fn can_happen(
     let mut said = vec![format!("happens: {outcome}, after {} steps", run.steps.len())];
     said.extend(run::lines(program, names, run));
     Ok((said, Status::Refused))
+}
+
+/// Looks for a shortest run at whose end all threads are at their last points and the registers pass the test.
+pub fn outcome_run(
+    program: &Program,
+    names: &Names,
+    bounds: Bounds,
+    outcome: &str,
+) -> Result<Sought, String> {
+    let test = parse_test(names, &program.header, outcome)
+        .map_err(|e| format!("--outcome: {}", e.text))?;
+    let ended = |state: &State| {
+        state.points.iter().zip(&program.threads).all(|(p, code)| usize::from(*p) == code.len())
+    };
+    let wanted = |state: &State| ended(state) && test.evaluate(&state.seen_at(View::default()));
+    Ok(find(program, bounds, MOST_STATES, &wanted))
 }

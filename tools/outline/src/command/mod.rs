@@ -2,12 +2,14 @@
 
 pub mod build;
 pub mod check;
+pub mod draw;
 pub mod explain;
 pub mod explore;
 pub mod input;
 pub mod json;
 pub mod judge;
 pub mod options;
+pub mod report;
 pub mod show;
 pub mod words;
 

@@ -8,7 +8,7 @@ use crate::image::to_bytes;
 use crate::text::parse_source::parse;
 use crate::text::report;
 use crate::text::source::Source;
-use header::Header;
+pub use header::Header;
 use reference::explore::Break;
 use std::fmt::Write;
 use std::path::Path;

@@ -1,0 +1,156 @@
+//! `report`: a page about an outline or an image.
+
+use crate::command::build::{write, BOUNDS, MOST_STATES};
+use crate::command::input::{called, mistake, mistakes, read, Input};
+use crate::command::judge::{judge, JUDGE};
+use crate::command::options::Options;
+use crate::command::{json, print, words, Done, Status};
+use crate::gallery::Header;
+use crate::image::{self, to_bytes};
+use crate::judged::{broken, obligations, Judged};
+use crate::report::sha256::digest;
+use crate::report::words::Words;
+use crate::report::{page, Content, Subject};
+use crate::text::parse_source::parse_all;
+use crate::text::print::Names;
+use crate::text::source::Source;
+use crate::{build::build, build::Built};
+use reference::checker::{decode, Verdict};
+use reference::explore::Bounds;
+use std::path::Path;
+
+pub fn run(args: &[&str]) -> Done {
+    let options = Options::read(args, &["-o", "--steps", "--writes", "--starts", "--json"])?;
+    let file = options.file()?;
+    let Some(target) = &options.target else {
+        return Err("`-o FILE` is wanted; see outline --help".into());
+    };
+    let loaded = Loaded::of(file)?;
+    let verdict = judge(&loaded.bytes);
+    let content = loaded.content(&verdict, Some(bounds(&options)))?;
+    let subject = Subject {
+        file: &base_name(file),
+        about: loaded.about(),
+        bytes: &loaded.bytes,
+        verdict,
+        judge: JUDGE,
+        content,
+    };
+    write(target, page(&subject).as_bytes())?;
+    tell(&options, target, &loaded, &verdict)?;
+    Ok(if verdict.code == 0 { Status::Accepted } else { Status::Refused })
+}
+
+/// How far runs are looked at: as far as `build` does, unless something else is asked.
+pub fn bounds(options: &Options) -> Bounds {
+    Bounds {
+        steps: options.steps.unwrap_or(BOUNDS.steps),
+        writes: options.writes.unwrap_or(BOUNDS.writes),
+        starts: options.starts.unwrap_or(BOUNDS.starts),
+    }
+}
+
+/// What was written goes to standard output, unless the page goes there.
+fn tell(options: &Options, target: &str, loaded: &Loaded, verdict: &Verdict) -> Result<(), String> {
+    let said = words::verdict(verdict, loaded.source());
+    let line = if options.json {
+        let all = [
+            ("written", json::text(target)),
+            ("accepted", (verdict.code == 0).to_string()),
+            ("fields", json::fields(verdict)),
+            ("words", json::text(&said)),
+            ("digest", json::text(&digest(&loaded.bytes))),
+            ("judge", json::text(JUDGE)),
+        ];
+        json::object(&all) + "\n"
+    } else {
+        format!("{target}: {said}   ({JUDGE})\n")
+    };
+    if target != "-" {
+        return print(line);
+    }
+    eprint!("{line}");
+    Ok(())
+}
+
+/// The file's name without its folder: a page says nothing of the machine that made it.
+fn base_name(file: &str) -> String {
+    let name = Path::new(called(file)).file_name();
+    name.map_or_else(|| called(file).into(), |name| name.to_string_lossy().into_owned())
+}
+
+/// A file that was read, and built if it is an outline.
+pub struct Loaded {
+    pub bytes: Vec<u8>,
+    outline: Option<(String, Source, Built)>,
+}
+
+impl Loaded {
+    pub fn of(file: &str) -> Result<Loaded, String> {
+        let text = match read(file)? {
+            Input::Image(bytes) => return Ok(Loaded { bytes, outline: None }),
+            Input::Text(text) => text,
+        };
+        let source = parse_all(&text).map_err(|all| mistakes(file, &text, &all))?;
+        let built = build(&source).map_err(|e| mistake(file, &text, &e))?;
+        let bytes = to_bytes(&built.image).map_err(|e| format!("{}: {e}", called(file)))?;
+        Ok(Loaded { bytes, outline: Some((text, source, built)) })
+    }
+
+    pub fn source(&self) -> Option<&Source> {
+        self.outline.as_ref().map(|(_, source, _)| source)
+    }
+
+    /// What the comment at the front says.
+    fn about(&self) -> Vec<String> {
+        let header = self.outline.as_ref().and_then(|(text, ..)| Header::of(text).ok());
+        let Some(header) = header else { return Vec::new() };
+        let mut said = vec![header.first + "."];
+        if !header.shown.is_empty() {
+            said.push(format!("To be shown: {}.", header.shown));
+        }
+        said
+    }
+
+    /// What a well-formed image says, judged obligation by obligation. Within the bounds, if any are given, runs that break it
+    /// are looked for.
+    pub fn content(
+        &self,
+        verdict: &Verdict,
+        bounds: Option<Bounds>,
+    ) -> Result<Option<Content>, String> {
+        let (Ok(image), Ok(decoded)) = (image::read(&self.bytes), decode(&self.bytes)) else {
+            return Ok(None);
+        };
+        let judged = obligations(&decoded);
+        agree(&judged, verdict)?;
+        let words = match &self.outline {
+            Some((text, source, _)) => Words::of_text(text, source),
+            None => {
+                let counts = image.program.header.counts;
+                let [words, registers, threads] =
+                    [counts.words, counts.registers, counts.threads].map(usize::from);
+                Words::of_image(&Names::plain(words, registers, threads), &image.program)
+            }
+        };
+        let refused = judged.iter().any(|judged| !judged.is_met());
+        let bounds = bounds.filter(|_| refused);
+        let sought = bounds.map(|bounds| broken(&decoded, &judged, bounds, MOST_STATES));
+        let open = self.outline.as_ref().and_then(|(_, _, built)| built.open.first());
+        let tried = open.map(|open| open.tried.clone()).unwrap_or_default();
+        Ok(Some(Content { image, words, judged, sought, tried }))
+    }
+}
+
+/// The table of obligations is the independent checker's. A verdict that says otherwise is not put on a page with it.
+fn agree(judged: &[Judged], verdict: &Verdict) -> Result<(), String> {
+    let first = judged.iter().position(|judged| !judged.is_met());
+    let (code, count) = match first {
+        Some(at) => (judged[at].code, at),
+        None => (0, judged.len()),
+    };
+    if (code, count) != (verdict.code, usize::from(verdict.count)) {
+        return Err(format!("the checkers disagree: the verdict is {verdict}, the obligations say {code} after {count}"));
+    }
+    Ok(())
+}
