@@ -4,7 +4,7 @@
 
 use crate::formula::encode::Encode;
 use crate::image::written::{self, Record, Written};
-use crate::image::{Header, Instruction, Program, Statement, Thread};
+use crate::image::{Claim, Header, Instruction, Meeting, Program, Statement, Thread};
 use crate::proof::Proof;
 use std::collections::HashMap;
 use std::rc::Rc;
@@ -17,9 +17,16 @@ pub struct Plan {
     pub spare: Vec<Rc<Proof>>,
     /// A proof per obligation.
     pub obligations: Vec<Option<Rc<Proof>>>,
+    /// What never happens, with a proof.
+    pub claims: Vec<(Meeting, Option<Rc<Proof>>)>,
 }
 
 impl Plan {
+    /// A plan without spare lines and claims.
+    pub fn new(program: Program, obligations: Vec<Option<Rc<Proof>>>) -> Plan {
+        Plan { program, spare: Vec::new(), obligations, claims: Vec::new() }
+    }
+
     /// The image as it is written.
     pub fn written(&self) -> Written {
         let mut image = Assembly::of(&self.program);
@@ -27,8 +34,12 @@ impl Plan {
             image.proof(proof);
         }
         for proof in &self.obligations {
-            let line = proof.as_ref().map_or(0, |proof| image.proof(proof));
+            let line = image.named(proof.as_deref());
             image.obligation(line);
+        }
+        for (meeting, proof) in &self.claims {
+            let line = image.named(proof.as_deref());
+            image.claim(Claim { meeting: *meeting, line });
         }
         image.written()
     }
@@ -73,6 +84,7 @@ impl Assembly {
             outline: Vec::new(),
             lines: Vec::new(),
             obligations: Vec::new(),
+            claims: Vec::new(),
         };
         Assembly { written, formulas: HashMap::new(), lines: HashMap::new() }
     }
@@ -94,8 +106,15 @@ impl Assembly {
     }
 
     fn instruction(&mut self, instruction: &Instruction) -> written::Instruction {
-        let operand = instruction.operand();
-        instruction.fields(operand.map_or(0, |formula| self.formula(formula.encode())))
+        let operands = instruction.operands();
+        let numbers: Vec<u16> =
+            operands.iter().map(|formula| self.formula(formula.encode())).collect();
+        instruction.fields(&numbers)
+    }
+
+    /// The number of the line that a proof ends with, 0 for none.
+    fn named(&mut self, proof: Option<&Proof>) -> u16 {
+        proof.map_or(0, |proof| self.proof(proof))
     }
 
     /// The number of a proof's last line; premises come first.
@@ -119,5 +138,10 @@ impl Assembly {
     /// The line of the next obligation, 0 for none.
     pub fn obligation(&mut self, line: u16) {
         self.written.obligations.push(line);
+    }
+
+    /// The next claim.
+    pub fn claim(&mut self, claim: Claim) {
+        self.written.claims.push(claim);
     }
 }

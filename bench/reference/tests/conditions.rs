@@ -4,7 +4,7 @@ use reference::explore::truth::is_true;
 use reference::explore::{reachable, Bounds};
 use reference::formula::parse::Counts;
 use reference::formula::{Assertion, Interval, Test, Value};
-use reference::image::{Header, Instruction, Program, Thread};
+use reference::image::{Access, Header, Instruction, Program, Thread};
 use reference::machine::{take, State, Step};
 use std::rc::Rc;
 
@@ -20,11 +20,11 @@ fn program(action: Instruction) -> Program {
 }
 
 fn exchange(value: u8) -> Program {
-    program(Instruction::Exchange { register: 1, word: 1, value: Value::Constant(value).into() })
+    program(Access::Exchange { register: 1, word: 1, value: Value::Constant(value).into() }.into())
 }
 
 fn fetch_add(value: u8) -> Program {
-    program(Instruction::FetchAdd { register: 1, word: 1, value: Value::Constant(value).into() })
+    program(Access::FetchAdd { register: 1, word: 1, value: Value::Constant(value).into() }.into())
 }
 
 /// How often the instruction takes the left side to the right one, and how often not.

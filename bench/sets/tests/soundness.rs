@@ -2,11 +2,11 @@
 //! state tried. This tells when checker and machine were not read alike.
 
 use reference::checker::decode;
-use reference::checker::rules::{justified_lines, rules};
+use reference::checker::rules::{justified_lines, rules, OF_PAIR};
 use reference::explore::truth::{is_true, sees};
 use reference::explore::{reachable, Bounds};
 use reference::formula::Assertion;
-use reference::image::{Program, Statement};
+use reference::image::{Instruction, Line, Program, Statement};
 use reference::machine::{take, State, Step};
 use sets::generate::image;
 use std::collections::BTreeMap;
@@ -14,24 +14,32 @@ use std::rc::Rc;
 
 const BOUNDS: Bounds = Bounds { steps: 4, writes: 3, starts: 6 };
 
-/// The states after the instruction at a point, from a state whatever its point.
-fn after(program: &Program, state: &State, thread: u8, point: u8) -> Vec<State> {
+/// The states after an instruction of a thread, from a state whatever its point.
+fn after(action: &Instruction, state: &State, thread: u8) -> Vec<State> {
     let mut before = state.clone();
-    before.points[usize::from(thread) - 1] = point;
+    before.points[usize::from(thread) - 1] = 0;
+    let threads = vec![vec![action.clone()]; before.points.len()];
     let positions = 0..BOUNDS.writes;
-    positions
-        .filter_map(|position| take(&program.threads, &before, Step { thread, position }))
-        .collect()
+    positions.filter_map(|position| take(&threads, &before, Step { thread, position })).collect()
+}
+
+/// The instruction that a triple is about: a whole pair by rule 50, else its first half.
+fn subject(program: &Program, line: &Line) -> Option<Instruction> {
+    let (thread, point) = line.statement.place();
+    let action = program.instruction(thread, point)?;
+    Some(if line.rule == OF_PAIR { action.clone() } else { action.first_half() })
 }
 
 /// How often the left side was true; fails where the right side is not.
-fn live_checks(program: &Program, states: &[Rc<State>], statement: &Statement) -> usize {
+fn live_checks(program: &Program, states: &[Rc<State>], line: &Line) -> usize {
     let true_in = |assertion: &Assertion, state: &State| is_true(assertion, state, &program.header);
+    let action = subject(program, line);
     let mut live = 0;
     for state in states {
-        match statement {
-            Statement::Triple { thread, point, left, right } if true_in(left, state) => {
-                for next in after(program, state, *thread, *point) {
+        match &line.statement {
+            Statement::Triple { thread, left, right, .. } if true_in(left, state) => {
+                let action = action.as_ref().expect("a triple names an instruction");
+                for next in after(action, state, *thread) {
                     live += 1;
                     assert!(true_in(right, &next), "{left} to {right} in {state:?}");
                 }
@@ -62,8 +70,7 @@ fn justified_lines_are_true() {
         for (line, justified) in image.lines.iter().zip(justified_lines(&image)) {
             let generic = matches!(line.rule, 1 | 2 | 16 | 20) && seed % 20 != 0;
             if justified && !generic {
-                *live.entry(line.rule).or_default() +=
-                    live_checks(&image.program, states, &line.statement);
+                *live.entry(line.rule).or_default() += live_checks(&image.program, states, line);
             }
         }
     }

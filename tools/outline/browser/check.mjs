@@ -15,9 +15,9 @@ const root = join(dirname(fileURLToPath(import.meta.url)), "../../..");
 const PAGES = [
   { name: "message-passing", accepted: true },
   { name: "peterson-entry", accepted: true },
-  { name: "message-passing-wrong-1", accepted: false },
   { name: "message-passing-wrong-2", accepted: false },
-  { name: "peterson-exclusion-wrong-1", accepted: false },
+  { name: "three-threads-wrong-1", accepted: false },
+  { name: "peterson-entry-wrong-1", accepted: false },
 ];
 const WINDOWS = [
   { width: 1200, scheme: "light" },

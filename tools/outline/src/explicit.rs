@@ -25,6 +25,7 @@ pub fn build(source: &Source, certificate: &Certificate) -> Result<Built, Mistak
         outline,
         lines: certificate.lines.clone(),
         obligations: certificate.obligations.clone(),
+        claims: Vec::new(),
     };
     Ok(Built { image, open, failed: Vec::new(), tries: 0, most_tries: 0 })
 }
@@ -39,11 +40,11 @@ fn number_code(
         let mut fields = Vec::new();
         for (i, instruction) in code.iter().enumerate() {
             let (line, wanted) = (source.points[t][i].line, source.code_numbers[t][i]);
-            let formula = match instruction.operand() {
-                Some(operand) => number(formulas, operand, wanted, line)?,
-                None => 0,
-            };
-            fields.push(instruction.fields(formula));
+            let mut numbers = Vec::new();
+            for operand in instruction.operands() {
+                numbers.push(number(formulas, operand, wanted, line)?);
+            }
+            fields.push(instruction.fields(&numbers));
         }
         all.push(fields);
     }

@@ -1,15 +1,31 @@
-//! Each obligation judged by itself, and a run that breaks one that is not met.
+//! Each obligation and each claim judged by itself, and a run that breaks one that is not met.
 
+use reference::checker::claims::is_shown;
 use reference::checker::obligations::{duties, judge_one, Duty};
 use reference::checker::rules::justified_lines;
-use reference::explore::{seek, Bounds, Run, Sought};
-use reference::image::{Image, Program};
-use reference::machine::{take, State, Step};
+use reference::explore::{find, seek, Bounds, Run, Sought};
+use reference::image::{Claim, Image, Meeting, Program};
+use reference::machine::{take, State};
 
-/// An obligation with the line that it names and the code that it gets: 0 if it is met.
+/// How far runs are looked at, if nothing else is asked.
+pub const BOUNDS: Bounds = Bounds { steps: 12, writes: 6, starts: 64 };
+const MOST_STATES: usize = 30_000;
+
+/// The code of a claim that is not shown.
+const NOT_SHOWN: u16 = 26;
+
+/// What an image has to show.
+#[derive(Debug, Clone, Copy, PartialEq, Eq)]
+pub enum Goal {
+    Duty(Duty),
+    /// That there is no such meeting.
+    Claim(Meeting),
+}
+
+/// An obligation or a claim with the line that it names and the code that it gets: 0 if it is met.
 #[derive(Debug, Clone)]
 pub struct Judged {
-    pub duty: Duty,
+    pub goal: Goal,
     pub line: u16,
     pub code: u16,
 }
@@ -20,62 +36,57 @@ impl Judged {
     }
 }
 
-/// All obligations of an image, in order.
-pub fn obligations(image: &Image) -> Vec<Judged> {
+/// All obligations of an image in order, then its claims.
+pub fn judged(image: &Image) -> Vec<Judged> {
     let justified = justified_lines(image);
-    let all = duties(&image.program.threads).into_iter().zip(&image.obligations);
-    let judged = |(duty, &line): (Duty, &u16)| {
+    let obligations = duties(&image.program.threads).into_iter().zip(&image.obligations);
+    let obligation = |(duty, &line): (Duty, &u16)| {
         let code = judge_one(image, &justified, &duty, line);
-        Judged { duty, line, code }
+        Judged { goal: Goal::Duty(duty), line, code }
     };
-    all.map(judged).collect()
+    let claim = |claim: &Claim| {
+        let code = if is_shown(image, &justified, claim) { 0 } else { NOT_SHOWN };
+        Judged { goal: Goal::Claim(claim.meeting), line: claim.line, code }
+    };
+    obligations.map(obligation).chain(image.claims.iter().map(claim)).collect()
 }
 
-/// A run that breaks an obligation.
+/// A run that breaks an obligation or a claim.
 #[derive(Debug, Clone)]
 pub struct Broken {
-    pub duty: Duty,
+    pub goal: Goal,
     pub run: Run,
-    /// The thread whose assertion is false at the end.
-    pub thread: u8,
 }
 
-/// A shortest run that breaks the first obligation that is not met, or else one that breaks another of them.
+/// A shortest run that breaks the first obligation that is not met, or else another of them, or else a claim.
 /// If an assertion is false in a run, some step has broken an obligation, and a met one is never broken.
-pub fn broken(
-    image: &Image,
-    judged: &[Judged],
-    bounds: Bounds,
-    most_states: usize,
-) -> Result<Broken, Sought> {
-    let unmet: Vec<Duty> = judged.iter().filter(|j| !j.is_met()).map(|j| j.duty).collect();
-    let mut sought = seek(&image.program, &unmet, bounds, most_states);
-    match sought.runs.iter().position(Option::is_some) {
-        None => Err(sought),
-        Some(at) => {
-            let run = sought.runs[at].take().expect("it was found");
-            Ok(Broken { duty: unmet[at], run, thread: asserting(&unmet[at]) })
+pub fn broken(program: &Program, judged: &[Judged], bounds: Bounds) -> Result<Broken, Sought> {
+    let (mut unmet, mut claims) = (Vec::new(), Vec::new());
+    for judged in judged.iter().filter(|judged| !judged.is_met()) {
+        match judged.goal {
+            Goal::Duty(duty) => unmet.push(duty),
+            Goal::Claim(meeting) => claims.push(meeting),
         }
     }
-}
-
-/// The thread whose assertion an obligation is about.
-fn asserting(duty: &Duty) -> u8 {
-    match *duty {
-        Duty::Start { thread }
-        | Duty::Next { thread, .. }
-        | Duty::Taken { thread, .. }
-        | Duty::Kept { thread, .. } => thread,
+    let mut sought = seek(program, &unmet, bounds, MOST_STATES);
+    let found = (0..unmet.len()).find_map(|at| Some((at, sought.runs[at].take()?)));
+    if let Some((at, run)) = found {
+        return Ok(Broken { goal: Goal::Duty(unmet[at]), run });
     }
+    for meeting in claims {
+        sought = find(program, bounds, MOST_STATES, &|state| state.has_meeting(&meeting));
+        if let Some(run) = sought.runs[0].take() {
+            return Ok(Broken { goal: Goal::Claim(meeting), run });
+        }
+    }
+    Err(sought)
 }
 
 impl Broken {
     /// The state at the end of the run.
     pub fn end(&self, program: &Program) -> State {
-        let step = |state: State, step: &Step| take(&program.threads, &state, *step);
-        let steps = self.run.steps.iter();
-        steps.fold(self.run.start.clone(), |state, next| {
-            step(state, next).expect("a step of the run")
+        self.run.steps.iter().fold(self.run.start.clone(), |state, step| {
+            take(&program.threads, &state, *step).expect("a step of the run")
         })
     }
 }

@@ -113,7 +113,7 @@ pub fn unique<S: PartialEq>(all: impl IntoIterator<Item = S>) -> Vec<S> {
 
 /// The formula with a leaf, a register or a word's value, replaced.
 pub fn replaced<S: Replace>(tree: &Rc<S>, leaf: Value, by: &V) -> Rc<S> {
-    tree.replace(&Replacement { leaf, by })
+    tree.replace(&[Replacement { leaf, by: by.clone() }])
 }
 
 /// Is there no word's value and no flag, so that registers decide the test?

@@ -91,7 +91,7 @@ fn the_machine_agrees() {
     for (name, text) in sources() {
         let bytes = built(&name, &text).image.bytes();
         let Ok(image) = decode(&bytes) else { panic!("{name} is no image") };
-        let found = explore(&image.program, Bounds { steps: 10, writes: 6, starts: 4096 });
+        let found = explore(&image.program, &[], Bounds { steps: 10, writes: 6, starts: 4096 });
         let breaks = matches!(found.outcome, Outcome::Breaks(_));
         assert_eq!(breaks, name.contains("-wrong-"), "{name}");
     }

@@ -9,7 +9,7 @@ use reference::formula::nesting::Nesting;
 use reference::formula::parse::Counts;
 use reference::formula::{Assertion, Formula, Interval, Test};
 use reference::image::written::{Line, Written};
-use reference::image::{Header, Instruction, Thread};
+use reference::image::{Access, Header, Instruction, Thread};
 
 /// A small generator of numbers, so that the test is the same every time.
 struct Dice(u64);
@@ -83,16 +83,16 @@ impl Dice {
 /// are formulas 1 to 3.
 fn threads(number: &V, test: &T, three: &V) -> Vec<Thread> {
     let first = vec![
-        Instruction::Load { register: 1, word: 2, acquiring: true },
+        Access::Load { register: 1, word: 2, acquiring: true }.into(),
         Instruction::Branch { test: test.clone(), target: 0 },
-        Instruction::Swap { word: 2, value: three.clone() },
+        Access::Swap { word: 2, value: three.clone() }.into(),
     ];
     let second = vec![
-        Instruction::Assign { register: 2, value: number.clone() },
-        Instruction::Store { word: 1, value: three.clone(), releasing: true },
-        Instruction::Load { register: 2, word: 1, acquiring: false },
-        Instruction::Exchange { register: 2, word: 1, value: three.clone() },
-        Instruction::FetchAdd { register: 2, word: 2, value: number.clone() },
+        Instruction::assign(2, number.clone()),
+        Access::Store { word: 1, value: three.clone(), releasing: true }.into(),
+        Access::Load { register: 2, word: 1, acquiring: false }.into(),
+        Access::Exchange { register: 2, word: 1, value: three.clone() }.into(),
+        Access::FetchAdd { register: 2, word: 2, value: number.clone() }.into(),
     ];
     vec![first, second]
 }
@@ -132,7 +132,7 @@ fn random_image(dice: &mut Dice) -> Written {
     let threads = threads(&number, &test, &three);
     let operands = [Formula::Value(number), Formula::Test(test), Formula::Value(three)];
     let fields = |(code, operands): (&Thread, &[u16])| {
-        code.iter().zip(operands).map(|(instruction, n)| instruction.fields(*n)).collect()
+        code.iter().zip(operands).map(|(instruction, n)| instruction.fields(&[*n])).collect()
     };
     let counts = Counts { threads: 2, words: 2, registers: 3, range: dice.number(8, 16) };
     let start = vec![dice.number(0, 7), 5];
@@ -144,6 +144,7 @@ fn random_image(dice: &mut Dice) -> Written {
         outline: (0..10).map(|_| 4 + dice.roll(12) as u16).collect(),
         lines: (0..10).map(|before| line(dice, before)).collect(),
         obligations: duties(&threads).iter().map(|_| dice.roll(11) as u16).collect(),
+        claims: Vec::new(),
     }
 }
 

@@ -38,7 +38,8 @@ pub fn order(records: &mut [Record]) -> Result<(), Refusal> {
 
 /// How many obligations are of the classes 1 to 3.
 fn others(threads: &[Vec<Instruction>]) -> usize {
-    let steps = |instruction: &Instruction| if instruction.operation == BRANCH { 2 } else { 1 };
+    let steps =
+        |instruction: &Instruction| if instruction.first.operation == BRANCH { 2 } else { 1 };
     threads.len() + threads.iter().flatten().map(steps).sum::<usize>()
 }
 
@@ -49,7 +50,7 @@ fn former_places(threads: &[Vec<Instruction>]) -> Vec<Kept> {
         for point in 0..=code.len() {
             for (actor, acting) in threads.iter().enumerate().filter(|(actor, _)| *actor != thread)
             {
-                let actions = (0..).zip(acting).filter(|(_, one)| one.operation != BRANCH);
+                let actions = (0..).zip(acting).filter(|(_, one)| one.first.operation != BRANCH);
                 places.extend(actions.map(|(action, _)| Kept {
                     actor,
                     action,

@@ -1,10 +1,11 @@
 //! Runs every order of steps of an image's program up to a bound and evaluates
-//! each assertion exactly.
+//! each assertion and claim exactly.
 //!
 //! Usage: explore FILE [--steps N] [--writes N] [--starts N]
 
 use reference::checker::{check, decode};
 use reference::explore::{describe, explore, Bounds, Outcome};
+use reference::image::Meeting;
 use std::process::ExitCode;
 
 const USAGE: &str = "usage: explore FILE [--steps N] [--writes N] [--starts N]";
@@ -46,7 +47,8 @@ fn main() -> ExitCode {
         eprintln!("the image has no program to run");
         return ExitCode::from(2);
     };
-    let found = explore(&image.program, bounds);
+    let claims: Vec<Meeting> = image.claims.iter().map(|claim| claim.meeting).collect();
+    let found = explore(&image.program, &claims, bounds);
     match found.outcome {
         Outcome::Holds { all } => {
             println!("holds in {} states, up to {} steps", found.states, bounds.steps);

@@ -4,13 +4,14 @@
 use super::limits;
 use super::verdict::Refusal;
 
-/// Record kinds, in the order in which they stand in an image.
+/// Record kinds, in the order in which they stand in an image. Kind 7 is the verdict's.
 pub const HEADER: u16 = 1;
 pub const FORMULA: u16 = 2;
 pub const THREAD: u16 = 3;
 pub const OUTLINE: u16 = 4;
 pub const LINE: u16 = 5;
 pub const OBLIGATIONS: u16 = 6;
+pub const CLAIM: u16 = 8;
 
 /// One record without its length field.
 #[derive(Clone, Copy, Debug)]
@@ -41,7 +42,7 @@ pub fn split_within(image: &[u8], most: usize) -> Result<Vec<Record<'_>>, Refusa
         records.push(record);
         rest = behind;
     }
-    if order.kind != OBLIGATIONS {
+    if !matches!(order.kind, OBLIGATIONS | CLAIM) {
         return Err(Refusal::at(4, records.len() + 1));
     }
     Ok(records)
@@ -68,7 +69,16 @@ pub fn most(kind: u16) -> usize {
         FORMULA => limits::FORMULAS,
         THREAD => limits::THREADS.into(),
         LINE => limits::LINES,
+        CLAIM => limits::CLAIMS,
         _ => 0,
+    }
+}
+
+/// The kind that may stand behind all records of a kind.
+fn next(kind: u16) -> u16 {
+    match kind {
+        OBLIGATIONS => CLAIM,
+        kind => kind + 1,
     }
 }
 
@@ -82,11 +92,11 @@ struct Order {
 impl Order {
     /// Takes one more record, unless its kind may not stand here.
     ///
-    /// Each kind must occur, so the next record has either the kind of the last
-    /// one or the kind after it.
+    /// Each kind but the last must occur, so the next record has either the kind of
+    /// the last one or the kind after it.
     fn take(&mut self, kind: u16) -> bool {
         let present = if kind == self.kind { self.present } else { 0 };
-        let fits = (kind == self.kind || kind == self.kind + 1) && present < most(kind);
+        let fits = (kind == self.kind || kind == next(self.kind)) && present < most(kind);
         if fits {
             *self = Order { kind, present: present + 1 };
         }

@@ -12,3 +12,4 @@ pub const REGISTERS: u8 = 16;
 pub const POINTS: u8 = 16;
 pub const FORMULAS: usize = 500;
 pub const LINES: usize = 4000;
+pub const CLAIMS: usize = 16;

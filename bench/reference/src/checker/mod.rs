@@ -1,9 +1,11 @@
 //! The independent checker: from bytes to a verdict, on trees.
 //!
 //! The places of the verdict table follow each other as modules do here:
-//! [`frames`] (codes 2 to 4), [`body`] (5 to 9, and 23), [`obligations`] (20 to 22).
+//! [`frames`] (codes 2 to 4), [`body`] (5 to 9, and 23), [`obligations`] (20 to 22),
+//! [`claims`] (26).
 
 pub mod body;
+pub mod claims;
 pub mod frames;
 pub mod limits;
 pub mod obligations;
@@ -21,9 +23,20 @@ pub fn check(image: &[u8]) -> Verdict {
 /// Judges one image that has at most so many bytes; code 2 if it has more.
 pub fn check_within(image: &[u8], most: usize) -> Verdict {
     match decode_within(image, most) {
-        Ok(image) => obligations::judge(&image),
+        Ok(image) => judge(&image),
         Err(refusal) => Verdict::refused(refusal),
     }
+}
+
+/// Judges a decoded image: all obligations, then the claims.
+fn judge(image: &Image) -> Verdict {
+    let justified = rules::justified_lines(image);
+    let met = obligations::judge(image, &justified);
+    if met.code != 0 {
+        return met;
+    }
+    let failing = claims::first_failing(image, &justified);
+    failing.map_or(met, |failing| Verdict { count: met.count, ..failing })
 }
 
 /// Reads an image, or finds the first fault of its frames and bodies.

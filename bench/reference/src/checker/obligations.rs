@@ -3,7 +3,7 @@
 use super::rules;
 use super::verdict::Verdict;
 use crate::formula::{Assertion, Test};
-use crate::image::{Image, Instruction, Program, Statement, Thread};
+use crate::image::{Image, Instruction, Line, Program, Statement, Thread};
 use std::rc::Rc;
 
 /// Codes of an obligation that is not met.
@@ -127,11 +127,10 @@ fn with_test(left: Rc<Assertion>, test: impl Into<Rc<Test>>, right: Rc<Assertion
 }
 
 /// Judges the obligations of a decoded image in order.
-pub fn judge(image: &Image) -> Verdict {
-    let justified = rules::justified_lines(image);
+pub fn judge(image: &Image, justified: &[bool]) -> Verdict {
     let mut count = 0;
     for (duty, &line) in duties(&image.program.threads).iter().zip(&image.obligations) {
-        let code = judge_one(image, &justified, duty, line);
+        let code = judge_one(image, justified, duty, line);
         if code != 0 {
             return Verdict { code, line, count, ..duty.named() };
         }
@@ -145,7 +144,7 @@ pub fn judge_one(image: &Image, justified: &[bool], duty: &Duty, line: u16) -> u
     let Some(index) = usize::from(line).checked_sub(1) else {
         return NO_LINE;
     };
-    if image.lines[index].statement != duty.wanted(&image.program) {
+    if !concludes(&image.program, &image.lines[index], duty) {
         return OTHER_CONCLUSION;
     }
     if justified[index] {
@@ -153,4 +152,10 @@ pub fn judge_one(image: &Image, justified: &[bool], duty: &Duty, line: u16) -> u
     } else {
         UNJUSTIFIED
     }
+}
+
+/// Whether the line says what the obligation wants. At a pair's point only rule 50 speaks of the whole pair.
+fn concludes(program: &Program, line: &Line, duty: &Duty) -> bool {
+    let about_pair = program.is_pair(line.statement.place());
+    line.statement == duty.wanted(program) && (line.rule == rules::OF_PAIR || !about_pair)
 }

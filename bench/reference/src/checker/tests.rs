@@ -2,7 +2,7 @@
 use super::obligations::{duties, Duty};
 use super::{check, check_into, check_within, limits};
 use crate::formula::Test;
-use crate::image::Instruction;
+use crate::image::{Access, Instruction};
 use std::rc::Rc;
 
 const SMALL: &str = "07 00 01 00 01 01 00 08 00  05 00 02 00 1C 0B 08  03 00 02 00 1B  \
@@ -134,7 +134,7 @@ fn output() {
 
 #[test]
 fn obligations_are_in_order() {
-    let load = || Instruction::Load { register: 1, word: 1, acquiring: false };
+    let load = || Instruction::from(Access::Load { register: 1, word: 1, acquiring: false });
     let branch = Instruction::Branch { test: Rc::new(Test::False), target: 0 };
     let list = duties(&[vec![load(), branch], vec![load()]]);
     let class = |duty: &Duty| match duty {
@@ -157,7 +157,7 @@ fn kept<const N: usize>(places: [(u8, u8, u8, u8); N]) -> [Duty; N] {
 
 #[test]
 fn class_4_goes_by_the_actor() {
-    let load = || Instruction::Load { register: 1, word: 1, acquiring: false };
+    let load = || Instruction::from(Access::Load { register: 1, word: 1, acquiring: false });
     let list = duties(&[vec![load(), load()], vec![load()], Vec::new()]);
     let by_first = [
         (2, 0, 1, 0),

@@ -6,7 +6,7 @@ mod show;
 pub mod truth;
 
 pub use duties::{find, seek, Run, Sought};
-pub use search::{explore, reachable, Bounds, Break, Cut, Found, Outcome};
+pub use search::{explore, reachable, Bounds, Break, Cut, Fault, Found, Outcome};
 pub use show::describe;
 
 #[cfg(test)]

@@ -1,7 +1,7 @@
 //! Breadth-first search over all runs, so that a breaking run found is a shortest one.
 
 use super::truth::is_true;
-use crate::image::Program;
+use crate::image::{Meeting, Program};
 use crate::machine::{take, State, Step};
 use std::collections::HashSet;
 use std::rc::Rc;
@@ -41,20 +41,28 @@ impl Cut {
 
 #[derive(Clone, Debug, PartialEq, Eq)]
 pub enum Outcome {
-    /// Every assertion is true in every state; `all` if no bound cut the search.
+    /// Every assertion and claim is true in every state; `all` if no bound cut the search.
     Holds {
         all: bool,
     },
     Breaks(Break),
 }
 
-/// A run that ends where an assertion is false.
+/// A run that ends where an assertion or a claim is false.
 #[derive(Clone, Debug, PartialEq, Eq)]
 pub struct Break {
     pub start: State,
     pub run: Vec<Step>,
-    /// The thread whose assertion is false.
-    pub thread: u8,
+    pub fault: Fault,
+}
+
+/// What is false in a state.
+#[derive(Clone, Copy, Debug, PartialEq, Eq)]
+pub enum Fault {
+    /// This thread's assertion at its point.
+    Assertion { thread: u8 },
+    /// The claim that there is no such meeting.
+    Claim(Meeting),
 }
 
 /// A state that was reached, and how.
@@ -75,10 +83,10 @@ pub(super) struct Search<'a> {
     pub(super) cut: Cut,
 }
 
-/// Evaluates each thread's assertion at its point in every state reached.
-pub fn explore(program: &Program, bounds: Bounds) -> Found {
+/// Evaluates each thread's assertion at its point, and each claim, in every state reached.
+pub fn explore(program: &Program, claims: &[Meeting], bounds: Bounds) -> Found {
     let mut search = Search::new(program, bounds);
-    let outcome = match search.run() {
+    let outcome = match search.run(claims) {
         Some(broken) => Outcome::Breaks(broken),
         None => Outcome::Holds { all: !search.cut.any() },
     };
@@ -110,12 +118,12 @@ impl<'a> Search<'a> {
     }
 
     /// Visits states in the order of their distance from a start state.
-    fn run(&mut self) -> Option<Break> {
+    fn run(&mut self, claims: &[Meeting]) -> Option<Break> {
         let mut index = 0;
         while index < self.nodes.len() {
-            if let Some(thread) = self.false_at(index) {
+            if let Some(fault) = self.false_at(index, claims) {
                 let (start, run) = self.run_to(index);
-                return Some(Break { start, run, thread });
+                return Some(Break { start, run, fault });
             }
             self.expand(index);
             index += 1;
@@ -141,14 +149,16 @@ impl<'a> Search<'a> {
         }
     }
 
-    /// The first thread whose assertion at its point is false in a state.
-    fn false_at(&self, index: usize) -> Option<u8> {
+    /// The first thread whose assertion at its point is false in a state, else the first claim that is.
+    fn false_at(&self, index: usize, claims: &[Meeting]) -> Option<Fault> {
         let state = &self.nodes[index].state;
         let mut places = (1..).zip(state.points.iter().copied());
         let broken = |&(thread, point): &(u8, u8)| {
             !is_true(self.program.assertion(thread, point), state, &self.program.header)
         };
-        places.find(broken).map(|(thread, _)| thread)
+        let assertion = places.find(broken).map(|(thread, _)| Fault::Assertion { thread });
+        let met = || claims.iter().find(|meeting| state.has_meeting(meeting));
+        assertion.or_else(|| met().copied().map(Fault::Claim))
     }
 
     /// Adds the states that one step more leads to, within the bounds.

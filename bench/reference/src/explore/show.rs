@@ -1,7 +1,7 @@
-//! A breaking run as text: each step with its value, the state reached, the false assertion.
+//! A breaking run as text: each step with its value, the state reached, the false assertion or claim.
 
-use super::search::Break;
-use crate::image::{Instruction, Program};
+use super::search::{Break, Fault};
+use crate::image::{Access, Instruction, Meeting, Note, Program};
 use crate::machine::{take, State, Step, Write};
 use std::fmt::Write as _;
 
@@ -17,51 +17,68 @@ pub fn describe(program: &Program, broken: &Break) -> String {
         state = take(&program.threads, &state, step).expect("a step of the run");
     }
     text += &describe_state(&state);
-    let point = state.points[usize::from(broken.thread) - 1];
-    let assertion = program.assertion(broken.thread, point);
-    let _ = writeln!(text, "false: thread {} at point {point}: {assertion}", broken.thread);
+    let _ = writeln!(text, "{}", describe_fault(program, &state, broken.fault));
     text
+}
+
+fn describe_fault(program: &Program, state: &State, fault: Fault) -> String {
+    match fault {
+        Fault::Assertion { thread } => {
+            let point = state.points[usize::from(thread) - 1];
+            let assertion = program.assertion(thread, point);
+            format!("false: thread {thread} at point {point}: {assertion}")
+        }
+        Fault::Claim(meeting) => {
+            let Meeting { thread, point, other_thread, other_point } = meeting;
+            let other = format!("thread {other_thread} at point {other_point}");
+            format!("claimed never to happen: thread {thread} at point {point}, {other}")
+        }
+    }
 }
 
 fn describe_step(program: &Program, state: &State, step: Step) -> String {
     let point = state.points[usize::from(step.thread) - 1];
     let instruction = program.instruction(step.thread, point).expect("an instruction");
     let after = take(&program.threads, state, step).expect("a step of the run");
-    let place = format!("thread {} at point {point}", step.thread);
-    let written = |word: u8| after.row(word)[step.position + 1].value;
-    match instruction {
-        Instruction::Assign { register, value } => {
-            let result = after.registers[usize::from(*register) - 1];
-            format!("{place}: r{register} := {value}, which is {result}")
-        }
-        Instruction::Load { register, word, acquiring } => {
-            let kind = if *acquiring { "acquiring" } else { "relaxed" };
-            let read = state.row(*word)[step.position].value;
-            format!("{place}: {kind} load r{register} := w{word} reads {read} at {}", step.position)
-        }
-        Instruction::Store { word, releasing, .. } => {
-            let kind = if *releasing { "releasing" } else { "relaxed" };
-            let value = written(*word);
-            format!("{place}: {kind} store w{word} := {value} behind {}", step.position)
-        }
-        Instruction::Swap { word, .. } => {
-            format!("{place}: swap w{word} := {} covers {}", written(*word), step.position)
-        }
-        Instruction::Exchange { register, word, .. }
-        | Instruction::FetchAdd { register, word, .. } => {
-            let kind = match instruction {
-                Instruction::Exchange { .. } => "exchange",
-                _ => "fetch-add",
-            };
-            let read = state.row(*word)[step.position].value;
-            let new = written(*word);
-            let covered = format!("covers {}", step.position);
-            format!("{place}: {kind} w{word} := {new} {covered}, r{register} := {read}")
+    let done = match instruction {
+        Instruction::Act { access, notes } => {
+            let access = access.iter().map(|access| describe_access(access, state, step, &after));
+            let notes = notes.iter().map(|note| describe_note(note, &after));
+            access.chain(notes).collect::<Vec<String>>().join(", with ")
         }
         Instruction::Branch { test, .. } => {
             let next = after.points[usize::from(step.thread) - 1];
-            format!("{place}: branch on {test} goes to point {next}")
+            format!("branch on {test} goes to point {next}")
         }
+    };
+    format!("thread {} at point {point}: {done}", step.thread)
+}
+
+fn describe_note(note: &Note, after: &State) -> String {
+    let Note { register, value } = note;
+    format!("r{register} := {value}, which is {}", after.registers[usize::from(*register) - 1])
+}
+
+fn describe_access(access: &Access, state: &State, step: Step, after: &State) -> String {
+    let word = access.word();
+    let position = step.position;
+    let read = state.row(word)[position].value;
+    let written = || after.row(word)[position + 1].value;
+    let fetched = |kind: &str, register: u8| {
+        format!("{kind} w{word} := {} covers {position}, r{register} := {read}", written())
+    };
+    match access {
+        Access::Load { register, acquiring, .. } => {
+            let kind = if *acquiring { "acquiring" } else { "relaxed" };
+            format!("{kind} load r{register} := w{word} reads {read} at {position}")
+        }
+        Access::Store { releasing, .. } => {
+            let kind = if *releasing { "releasing" } else { "relaxed" };
+            format!("{kind} store w{word} := {} behind {position}", written())
+        }
+        Access::Swap { .. } => format!("swap w{word} := {} covers {position}", written()),
+        Access::Exchange { register, .. } => fetched("exchange", *register),
+        Access::FetchAdd { register, .. } => fetched("fetch-add", *register),
     }
 }
 

@@ -4,7 +4,7 @@ use super::{describe, explore, find, reachable, seek, Bounds, Outcome};
 use crate::checker::obligations::Duty;
 use crate::formula::parse::Counts;
 use crate::formula::{Assertion, Interval, Test, Value};
-use crate::image::{Header, Instruction, Program};
+use crate::image::{Access, Header, Program};
 use crate::machine::{State, View, Write};
 use std::rc::Rc;
 
@@ -70,7 +70,7 @@ fn start_is_true_of_start_states_only() {
 /// A thread that stores a register, with assertions about it at both points.
 fn storing(register: u8, below: u8) -> Program {
     let store =
-        Instruction::Store { word: 1, value: Value::Register(register).into(), releasing: false };
+        Access::Store { word: 1, value: Value::Register(register).into(), releasing: false }.into();
     let test = Test::less(Value::Register(register), Value::Constant(below));
     let known = Rc::new(Assertion::holds(test));
     let outline = vec![vec![Rc::new(Assertion::truth()), known]];
@@ -81,13 +81,13 @@ fn storing(register: u8, below: u8) -> Program {
 fn runs_begin_at_every_start_state() {
     let bounds = Bounds { steps: 4, writes: 4, starts: 100 };
     // The cleared register is 0; the open one may be 7 and nothing more.
-    assert_eq!(explore(&storing(1, 1), bounds).outcome, Outcome::Holds { all: true });
-    let found = explore(&storing(2, 7), bounds);
+    assert_eq!(explore(&storing(1, 1), &[], bounds).outcome, Outcome::Holds { all: true });
+    let found = explore(&storing(2, 7), &[], bounds);
     let Outcome::Breaks(broken) = found.outcome else { panic!("register 2 may be 7") };
     assert_eq!(broken.start.registers, [0, 7]);
     assert!(describe(&storing(2, 7), &broken).contains("starts with registers [0, 7]"));
     let few = Bounds { starts: 7, ..bounds };
-    assert!(matches!(explore(&storing(1, 1), few).outcome, Outcome::Holds { all: false }));
+    assert!(matches!(explore(&storing(1, 1), &[], few).outcome, Outcome::Holds { all: false }));
     assert_eq!(reachable(&storing(2, 7), bounds).len(), 16);
 }
 

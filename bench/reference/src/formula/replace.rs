@@ -1,4 +1,5 @@
-//! Replacement of a register, or of a word read as a value, by a value.
+//! Replacement of registers, or of words read as values, by values, all at once: what takes a leaf's place is not
+//! replaced again.
 //!
 //! Only value leaves are replaced: `unsync`, `cov` and `one` keep their word.
 
@@ -6,20 +7,20 @@ use super::{Assertion, Interval, Test, Value};
 use std::rc::Rc;
 
 /// The leaf that is replaced and what takes its place.
-pub struct Replacement<'a> {
+pub struct Replacement {
     pub leaf: Value,
-    pub by: &'a Rc<Value>,
+    pub by: Rc<Value>,
 }
 
 /// A tree in which leaves can be replaced.
 pub trait Replace: Sized {
-    fn replace(&self, with: &Replacement) -> Rc<Self>;
+    fn replace(&self, with: &[Replacement]) -> Rc<Self>;
 }
 
 impl Replace for Value {
-    fn replace(&self, with: &Replacement) -> Rc<Value> {
-        if *self == with.leaf {
-            return with.by.clone();
+    fn replace(&self, with: &[Replacement]) -> Rc<Value> {
+        if let Some(replacement) = with.iter().find(|replacement| replacement.leaf == *self) {
+            return replacement.by.clone();
         }
         Rc::new(match self {
             Value::Sum(a, b) => Value::Sum(a.replace(with), b.replace(with)),
@@ -29,7 +30,7 @@ impl Replace for Value {
 }
 
 impl Replace for Test {
-    fn replace(&self, with: &Replacement) -> Rc<Test> {
+    fn replace(&self, with: &[Replacement]) -> Rc<Test> {
         Rc::new(match self {
             Test::Equal(a, b) => Test::Equal(a.replace(with), b.replace(with)),
             Test::Less(a, b) => Test::Less(a.replace(with), b.replace(with)),
@@ -42,7 +43,7 @@ impl Replace for Test {
 }
 
 impl Replace for Interval {
-    fn replace(&self, with: &Replacement) -> Rc<Interval> {
+    fn replace(&self, with: &[Replacement]) -> Rc<Interval> {
         Rc::new(match self {
             Interval::All(test) => Interval::All(test.replace(with)),
             Interval::One(word) => Interval::One(*word),
@@ -54,7 +55,7 @@ impl Replace for Interval {
 }
 
 impl Replace for Assertion {
-    fn replace(&self, with: &Replacement) -> Rc<Assertion> {
+    fn replace(&self, with: &[Replacement]) -> Rc<Assertion> {
         Rc::new(match self {
             Assertion::Sees(thread, interval) => Assertion::Sees(*thread, interval.replace(with)),
             Assertion::Both(a, b) => Assertion::Both(a.replace(with), b.replace(with)),

@@ -47,8 +47,22 @@ fn rest_and_cut_are_refused() {
 fn replacement_leaves_flags_alone() {
     let with = |value: Value| Test::and(Test::equal(value, Value::Constant(0)), Test::Unsync(1));
     let two = Rc::new(Value::Constant(2));
-    let replaced = with(Value::Word(1)).replace(&Replacement { leaf: Value::Word(1), by: &two });
+    let replaced = with(Value::Word(1)).replace(&[Replacement { leaf: Value::Word(1), by: two }]);
     assert_eq!(*replaced, with(Value::Constant(2)));
+}
+
+#[test]
+fn replacement_is_at_once() {
+    let sum = |a: Value, b: Value| Rc::new(Value::sum(a, b));
+    let (r1, r2, r3) = (Value::Register(1), Value::Register(2), Value::Register(3));
+    let trade = [
+        Replacement { leaf: r1.clone(), by: sum(r2.clone(), r3.clone()) },
+        Replacement { leaf: r2.clone(), by: r1.clone().into() },
+    ];
+    let e = Test::less(sum(r1.clone(), r2.clone()), r3.clone());
+    // One after the other would have r1 in the place of the new r2 too.
+    let expected = Test::less(Value::sum(sum(r2, r3.clone()), r1), r3);
+    assert_eq!(*e.replace(&trade), expected);
 }
 
 #[test]

@@ -1,9 +1,13 @@
-//! A decoded image: program, outline, certificate, obligation numbers.
+//! A decoded image: program, outline, certificate, obligation numbers, claims.
 
+mod claim;
+mod instruction;
 pub mod written;
 
 use crate::formula::parse::Counts;
-use crate::formula::{Assertion, Formula, Interval, Test, Value};
+use crate::formula::{Assertion, Formula, Interval};
+pub use claim::{Claim, Meeting};
+pub use instruction::{Access, Instruction, Note};
 use std::ops::RangeInclusive;
 use std::rc::Rc;
 
@@ -29,105 +33,6 @@ impl Header {
     /// Whether a register starts at 0; registers count from 1.
     pub fn is_cleared(&self, register: u8) -> bool {
         self.marks[usize::from(register) - 1] == 1
-    }
-}
-
-/// One instruction with its operands.
-#[derive(Clone, Debug, PartialEq, Eq)]
-pub enum Instruction {
-    Assign {
-        register: u8,
-        value: Rc<Value>,
-    },
-    Load {
-        register: u8,
-        word: u8,
-        acquiring: bool,
-    },
-    Store {
-        word: u8,
-        value: Rc<Value>,
-        releasing: bool,
-    },
-    Swap {
-        word: u8,
-        value: Rc<Value>,
-    },
-    /// A swap that keeps the old value in the register.
-    Exchange {
-        register: u8,
-        word: u8,
-        value: Rc<Value>,
-    },
-    /// The same, of the old value plus this one.
-    FetchAdd {
-        register: u8,
-        word: u8,
-        value: Rc<Value>,
-    },
-    Branch {
-        test: Rc<Test>,
-        target: u8,
-    },
-}
-
-impl Instruction {
-    pub fn is_branch(&self) -> bool {
-        matches!(self, Instruction::Branch { .. })
-    }
-
-    /// The shared word that is read or written, if there is one.
-    pub fn word(&self) -> Option<u8> {
-        match self {
-            Instruction::Load { word, .. }
-            | Instruction::Store { word, .. }
-            | Instruction::Swap { word, .. }
-            | Instruction::Exchange { word, .. }
-            | Instruction::FetchAdd { word, .. } => Some(*word),
-            Instruction::Assign { .. } | Instruction::Branch { .. } => None,
-        }
-    }
-
-    /// The register that is set, if there is one.
-    pub fn result(&self) -> Option<u8> {
-        match self {
-            Instruction::Assign { register, .. }
-            | Instruction::Load { register, .. }
-            | Instruction::Exchange { register, .. }
-            | Instruction::FetchAdd { register, .. } => Some(*register),
-            Instruction::Store { .. } | Instruction::Swap { .. } | Instruction::Branch { .. } => {
-                None
-            }
-        }
-    }
-
-    /// The formula that is worked out before the step, if there is one.
-    pub fn operand(&self) -> Option<Formula> {
-        match self {
-            Instruction::Assign { value, .. }
-            | Instruction::Store { value, .. }
-            | Instruction::Swap { value, .. }
-            | Instruction::Exchange { value, .. }
-            | Instruction::FetchAdd { value, .. } => Some(Formula::Value(value.clone())),
-            Instruction::Load { .. } => None,
-            Instruction::Branch { test, .. } => Some(Formula::Test(test.clone())),
-        }
-    }
-
-    /// The fields, with the number of the operand, 0 for none.
-    pub fn fields(&self, formula: u16) -> written::Instruction {
-        let (operation, a, b) = match self {
-            Instruction::Assign { register, .. } => (0, *register, 0),
-            Instruction::Load { register, word, acquiring } => {
-                (1 + u8::from(*acquiring), *register, *word)
-            }
-            Instruction::Store { word, releasing, .. } => (3 + u8::from(*releasing), *word, 0),
-            Instruction::Swap { word, .. } => (5, *word, 0),
-            Instruction::Branch { target, .. } => (6, *target, 0),
-            Instruction::Exchange { register, word, .. } => (7, *word, *register),
-            Instruction::FetchAdd { register, word, .. } => (8, *word, *register),
-        };
-        written::Instruction { operation, a, b, formula }
     }
 }
 
@@ -208,6 +113,11 @@ impl Program {
         self.threads.get(usize::from(thread).checked_sub(1)?)?.get(usize::from(point))
     }
 
+    /// Whether there is a pair at a point of a thread.
+    pub fn is_pair(&self, (thread, point): (u8, u8)) -> bool {
+        self.instruction(thread, point).is_some_and(Instruction::is_pair)
+    }
+
     pub fn thread_numbers(&self) -> RangeInclusive<u8> {
         1..=self.threads.len() as u8
     }
@@ -225,4 +135,7 @@ pub struct Image {
     pub lines: Vec<Line>,
     /// A line number per obligation, 0 for none.
     pub obligations: Vec<u16>,
+    pub claims: Vec<Claim>,
+    /// How many records there are; those of the claims are the last.
+    pub records: usize,
 }

@@ -2,7 +2,7 @@
 //!
 //! Reading here looks at lengths alone; the checker judges the numbers.
 
-use super::Header;
+use super::{Claim, Header, Meeting};
 use crate::checker::frames::{self, number_at};
 use crate::formula::parse::Counts;
 
@@ -18,11 +18,19 @@ pub struct Written {
     pub lines: Vec<Line>,
     /// A line for each obligation, 0 for none.
     pub obligations: Vec<u16>,
+    pub claims: Vec<Claim>,
 }
 
-/// The fields of an instruction.
+/// An instruction; operations 9 to 12 have a second half.
 #[derive(Clone, Copy, Debug, PartialEq, Eq, Hash)]
 pub struct Instruction {
+    pub first: Half,
+    pub second: Option<Half>,
+}
+
+/// The fields of an instruction, or of a half of it.
+#[derive(Clone, Copy, Debug, PartialEq, Eq, Hash)]
+pub struct Half {
     pub operation: u8,
     pub a: u8,
     pub b: u8,
@@ -77,6 +85,7 @@ impl Written {
             outline: numbers(bodies(frames::OUTLINE).next()?)?,
             lines: bodies(frames::LINE).map(Line::read).collect::<Option<_>>()?,
             obligations: numbers(bodies(frames::OBLIGATIONS).next()?)?,
+            claims: bodies(frames::CLAIM).map(Claim::read).collect::<Option<_>>()?,
         })
     }
 
@@ -90,6 +99,7 @@ impl Written {
         records.push(Record::new(frames::OUTLINE, numbers_body(&self.outline)));
         records.extend(self.lines.iter().map(|line| Record::new(frames::LINE, line.body())));
         records.push(Record::new(frames::OBLIGATIONS, numbers_body(&self.obligations)));
+        records.extend(self.claims.iter().map(|claim| Record::new(frames::CLAIM, claim.body())));
         records
     }
 
@@ -119,23 +129,44 @@ impl Header {
     }
 }
 
-const INSTRUCTION_BYTES: usize = 5;
-
 /// The instructions of a thread's body: one less than its points, of which 0 is taken as 1.
 pub fn instructions(body: &[u8]) -> Option<Vec<Instruction>> {
-    let (&points, rest) = body.split_first()?;
-    let count = usize::from(points.max(1)) - 1;
-    let fits = rest.len() == INSTRUCTION_BYTES * count;
-    fits.then(|| rest.chunks_exact(INSTRUCTION_BYTES).map(Instruction::new).collect())
+    let (&points, mut rest) = body.split_first()?;
+    let mut code = Vec::new();
+    for _ in 1..points {
+        let (instruction, behind) = Instruction::front(rest)?;
+        code.push(instruction);
+        rest = behind;
+    }
+    rest.is_empty().then_some(code)
 }
 
 impl Instruction {
-    fn new(bytes: &[u8]) -> Instruction {
-        let formula = u16::from_le_bytes([bytes[3], bytes[4]]);
-        Instruction { operation: bytes[0], a: bytes[1], b: bytes[2], formula }
+    /// The first instruction and the bytes behind it. Its first byte alone says how long it is.
+    fn front(bytes: &[u8]) -> Option<(Instruction, &[u8])> {
+        let (first, rest) = Half::front(bytes)?;
+        if !matches!(first.operation, 9..=12) {
+            return Some((Instruction { first, second: None }, rest));
+        }
+        let (second, rest) = Half::front(rest)?;
+        Some((Instruction { first, second: Some(second) }, rest))
     }
 
-    fn bytes(&self) -> [u8; INSTRUCTION_BYTES] {
+    fn bytes(&self) -> impl Iterator<Item = u8> {
+        [self.first].into_iter().chain(self.second).flat_map(|half| half.bytes())
+    }
+}
+
+impl Half {
+    const BYTES: usize = 5;
+
+    fn front(bytes: &[u8]) -> Option<(Half, &[u8])> {
+        let (&[operation, a, b, low, high], rest) = bytes.split_first_chunk::<{ Half::BYTES }>()?;
+        let formula = u16::from_le_bytes([low, high]);
+        Some((Half { operation, a, b, formula }, rest))
+    }
+
+    fn bytes(&self) -> [u8; Half::BYTES] {
         let [low, high] = self.formula.to_le_bytes();
         [self.operation, self.a, self.b, low, high]
     }
@@ -169,6 +200,23 @@ impl Line {
         body.push(self.premises.len() as u8);
         body.extend(numbers_body(&self.premises));
         body
+    }
+}
+
+impl Claim {
+    /// The claim's fields; none if there are more or fewer bytes.
+    pub fn read(body: &[u8]) -> Option<Claim> {
+        let &[thread, point, other_thread, other_point, low, high] = body else {
+            return None;
+        };
+        let meeting = Meeting { thread, point, other_thread, other_point };
+        Some(Claim { meeting, line: u16::from_le_bytes([low, high]) })
+    }
+
+    fn body(&self) -> Vec<u8> {
+        let Meeting { thread, point, other_thread, other_point } = self.meeting;
+        let [low, high] = self.line.to_le_bytes();
+        vec![thread, point, other_thread, other_point, low, high]
     }
 }
 

@@ -1,7 +1,7 @@
 //! States of the machine.
 
 use crate::formula::evaluate::Environment;
-use crate::image::Header;
+use crate::image::{Header, Meeting};
 
 /// The most words that a program has.
 pub const WORDS: usize = 8;
@@ -112,6 +112,12 @@ impl State {
     /// The view of a thread; threads count from 1.
     pub fn view(&self, thread: u8) -> View {
         self.views[usize::from(thread) - 1]
+    }
+
+    /// Whether both threads are at their points.
+    pub fn has_meeting(&self, meeting: &Meeting) -> bool {
+        let at = |thread: u8, point: u8| self.points[usize::from(thread) - 1] == point;
+        at(meeting.thread, meeting.point) && at(meeting.other_thread, meeting.other_point)
     }
 
     /// What a test sees of the state at a view.

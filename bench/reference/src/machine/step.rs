@@ -3,10 +3,10 @@
 use super::state::{State, View, Write};
 use crate::formula::evaluate::sum;
 use crate::formula::Value;
-use crate::image::{Instruction, Thread};
+use crate::image::{Access, Instruction, Thread};
 
-/// A thread number and a position in the row of the instruction's word;
-/// the position is 0 for assignment and branch.
+/// A thread number and a position in the row of the access's word;
+/// the position is 0 for a branch and where there is no access.
 #[derive(Clone, Copy, Debug, PartialEq, Eq)]
 pub struct Step {
     pub thread: u8,
@@ -17,47 +17,59 @@ pub struct Step {
 pub fn take(threads: &[Thread], state: &State, step: Step) -> Option<State> {
     let index = usize::from(step.thread).checked_sub(1)?;
     let point = *state.points.get(index)?;
-    let instruction = threads.get(index)?.get(usize::from(point))?;
-    let mut next = match instruction {
-        Instruction::Assign { register, value } => assign(state, step.position, *register, value)?,
-        Instruction::Load { register, word, acquiring } => {
-            load(state, step, *register, *word, *acquiring)?
-        }
-        Instruction::Store { word, value, releasing } => {
-            let new = evaluated(value, state);
-            write(state, step, *word, new, Kind { releasing: *releasing, swap: false })?
-        }
-        Instruction::Swap { word, value } => {
-            write(state, step, *word, evaluated(value, state), Kind::SWAP)?
-        }
-        Instruction::Exchange { register, word, value } => {
-            let new = evaluated(value, state);
-            fetch(state, step, *register, *word, |_| new)?
-        }
-        Instruction::FetchAdd { register, word, value } => {
-            let more = evaluated(value, state);
-            fetch(state, step, *register, *word, |old| sum(old, more, state.range))?
+    match threads.get(index)?.get(usize::from(point))? {
+        Instruction::Act { access, notes } => {
+            let mut next = match access {
+                Some(access) => perform(state, step, access)?,
+                None => unmoved(state, step)?,
+            };
+            for note in notes {
+                next.registers[usize::from(note.register) - 1] = evaluated(&note.value, state);
+            }
+            next.points[index] = point + 1;
+            Some(next)
         }
         Instruction::Branch { test, target } => {
             let taken = test.evaluate(&state.seen_at(View::default()));
-            let mut next = (step.position == 0).then(|| state.clone())?;
+            let mut next = unmoved(state, step)?;
             next.points[index] = if taken { *target } else { point + 1 };
-            return Some(next);
+            Some(next)
         }
-    };
-    next.points[index] = point + 1;
-    Some(next)
+    }
+}
+
+/// The state itself, for a step that touches no shared word: its position is 0.
+fn unmoved(state: &State, step: Step) -> Option<State> {
+    (step.position == 0).then(|| state.clone())
+}
+
+/// What the access does to rows, views and its own register.
+fn perform(state: &State, step: Step, access: &Access) -> Option<State> {
+    match access {
+        Access::Load { register, word, acquiring } => {
+            load(state, step, *register, *word, *acquiring)
+        }
+        Access::Store { word, value, releasing } => {
+            let kind = Kind { releasing: *releasing, swap: false };
+            write(state, step, *word, evaluated(value, state), kind)
+        }
+        Access::Swap { word, value } => {
+            write(state, step, *word, evaluated(value, state), Kind::SWAP)
+        }
+        Access::Exchange { register, word, value } => {
+            let new = evaluated(value, state);
+            fetch(state, step, *register, *word, |_| new)
+        }
+        Access::FetchAdd { register, word, value } => {
+            let more = evaluated(value, state);
+            fetch(state, step, *register, *word, |old| sum(old, more, state.range))
+        }
+    }
 }
 
 /// An instruction's value. It asks registers only, so the view does not matter.
 fn evaluated(value: &Value, state: &State) -> u8 {
     value.evaluate(&state.seen_at(View::default()))
-}
-
-fn assign(state: &State, position: usize, register: u8, value: &Value) -> Option<State> {
-    let mut next = (position == 0).then(|| state.clone())?;
-    next.registers[usize::from(register) - 1] = evaluated(value, state);
-    Some(next)
 }
 
 /// The position, if the row has it and it is at or after the thread's own.

@@ -2,7 +2,7 @@
 use super::{take, State, Step, View};
 use crate::formula::parse::Counts;
 use crate::formula::{Test, Value};
-use crate::image::{Header, Instruction, Thread};
+use crate::image::{Access, Header, Instruction, Note, Thread};
 use std::rc::Rc;
 
 fn start(threads: u8) -> State {
@@ -11,15 +11,15 @@ fn start(threads: u8) -> State {
 }
 
 fn store(word: u8, value: u8, releasing: bool) -> Instruction {
-    Instruction::Store { word, value: Rc::new(Value::Constant(value)), releasing }
+    Access::Store { word, value: Rc::new(Value::Constant(value)), releasing }.into()
 }
 
 fn swap(word: u8, value: u8) -> Instruction {
-    Instruction::Swap { word, value: Rc::new(Value::Constant(value)) }
+    Access::Swap { word, value: Rc::new(Value::Constant(value)) }.into()
 }
 
 fn load(word: u8, acquiring: bool) -> Instruction {
-    Instruction::Load { register: 1, word, acquiring }
+    Access::Load { register: 1, word, acquiring }.into()
 }
 
 /// The state after steps of which none is refused.
@@ -92,11 +92,11 @@ fn a_swap_covers_its_pick_and_joins() {
 }
 
 fn exchange(word: u8, value: u8) -> Instruction {
-    Instruction::Exchange { register: 1, word, value: Rc::new(Value::Constant(value)) }
+    Access::Exchange { register: 1, word, value: Rc::new(Value::Constant(value)) }.into()
 }
 
 fn fetch_add(word: u8, value: u8) -> Instruction {
-    Instruction::FetchAdd { register: 1, word, value: Rc::new(Value::Constant(value)) }
+    Access::FetchAdd { register: 1, word, value: Rc::new(Value::Constant(value)) }.into()
 }
 
 #[test]
@@ -123,9 +123,9 @@ fn exchange_and_fetch_add_are_swaps_that_keep_the_old_value() {
 fn an_operand_is_worked_out_before_the_step() {
     let sum = Value::sum(Value::Register(2), Value::Constant(1));
     let threads = [vec![
-        Instruction::Assign { register: 2, value: Rc::new(Value::Constant(2)) },
-        Instruction::Exchange { register: 1, word: 1, value: Rc::new(sum.clone()) },
-        Instruction::FetchAdd { register: 2, word: 1, value: Rc::new(Value::Register(1)) },
+        Instruction::assign(2, Rc::new(Value::Constant(2))),
+        Access::Exchange { register: 1, word: 1, value: Rc::new(sum.clone()) }.into(),
+        Access::FetchAdd { register: 2, word: 1, value: Rc::new(Value::Register(1)) }.into(),
     ]];
     let counts = Counts { threads: 1, words: 2, registers: 2, range: 8 };
     let start = State::start(&Header::cleared(counts, vec![3, 0], vec![1, 1]));
@@ -202,8 +202,8 @@ fn sums_are_modulo_the_range() {
         let start = State::start(&Header::cleared(counts, vec![range - 1], vec![1, 1]));
         let two = Value::sum(Value::Constant(1), Value::Constant(1));
         let threads = [vec![
-            Instruction::FetchAdd { register: 1, word: 1, value: Rc::new(Value::Constant(1)) },
-            Instruction::Assign { register: 2, value: Rc::new(two) },
+            Access::FetchAdd { register: 1, word: 1, value: Rc::new(Value::Constant(1)) }.into(),
+            Instruction::assign(2, Rc::new(two)),
         ]];
         let step = |state: &State| take(&threads, state, Step { thread: 1, position: 0 });
         let state = step(&step(&start).expect("an allowed step")).expect("an allowed step");
@@ -215,8 +215,45 @@ fn sums_are_modulo_the_range() {
 #[test]
 fn sums_are_modulo_eight() {
     let sum = Value::sum(Value::Register(1), Value::sum(Value::Constant(7), Value::Constant(3)));
-    let assign = Instruction::Assign { register: 1, value: Rc::new(sum) };
+    let assign = Instruction::assign(1, Rc::new(sum));
     let threads = [vec![assign.clone(), assign]];
     assert_eq!(run(&threads, &[(1, 0), (1, 0)]).registers, [4]);
     assert!(refused(&threads, &[], 1, 1));
+}
+
+/// The state after one step of thread 1 from registers 2, 5 and 0.
+fn after_step(action: Instruction, position: usize) -> Option<State> {
+    let counts = Counts { threads: 1, words: 2, registers: 3, range: 8 };
+    let start = State::start(&Header::cleared(counts, vec![3, 0], vec![1, 1, 1]));
+    let state = State { registers: vec![2, 5, 0], ..start };
+    take(&[vec![action]], &state, Step { thread: 1, position })
+}
+
+#[test]
+fn a_pair_is_its_access_and_a_note_in_one_step() {
+    let register = |number| Rc::new(Value::Register(number));
+    let accesses = [
+        Access::Store { word: 1, value: register(1), releasing: false },
+        Access::Store { word: 1, value: register(1), releasing: true },
+        Access::Swap { word: 1, value: register(1) },
+    ];
+    for access in accesses {
+        // Both formulas name register 1, and both get what it held before.
+        let sum = Value::sum(Value::Register(1), Value::Constant(7));
+        let pair = Instruction::pair(access.clone(), Note::new(1, sum));
+        let alone = after_step(access.into(), 0).expect("an allowed step");
+        assert_eq!(values(&alone, 1), [3, 2]);
+        let expected = State { registers: vec![1, 5, 0], ..alone };
+        assert_eq!(after_step(pair.clone(), 0), Some(expected));
+        assert_eq!(after_step(pair, 1), None); // picks as its first half
+    }
+}
+
+#[test]
+fn two_registers_trade_values() {
+    let [one, two] = [1, 2].map(Value::Register);
+    let trade = Instruction::trade(Note::new(1, two), Note::new(2, one));
+    let state = after_step(trade.clone(), 0).expect("an allowed step");
+    assert_eq!((state.registers, state.points), (vec![5, 2, 0], vec![1]));
+    assert_eq!(after_step(trade, 1), None);
 }

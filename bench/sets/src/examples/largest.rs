@@ -8,7 +8,7 @@ use reference::checker::obligations::{duties, Duty};
 use reference::formula::parse::Counts;
 use reference::formula::{Assertion, Interval, Test, Value};
 use reference::image::written::{image_bytes, Record};
-use reference::image::{Header, Instruction, Program, Thread};
+use reference::image::{Access, Header, Program, Thread};
 use reference::proof::{around, consequence, implies, included, seen, triple, Lemma};
 use std::rc::Rc;
 
@@ -22,7 +22,7 @@ const STORED: u8 = 8;
 pub fn largest() -> Vec<u8> {
     let program = program();
     let obligations = duties(&program.threads).iter().map(|duty| Some(proof(duty))).collect();
-    let mut plan = Plan { program, spare: vec![last()], obligations };
+    let mut plan = Plan { spare: vec![last()], ..Plan::new(program, obligations) };
     let more = FORMULAS - plan.written().formulas.len();
     plan.spare = (0..more).map(spare).chain([last()]).collect();
     image_bytes(&filled(plan.records()))
@@ -41,8 +41,10 @@ fn filled(records: Vec<Record>) -> Vec<Record> {
 /// Loads and stores by turns.
 fn program() -> Program {
     let instruction = |thread: u8, point: u8| match point % 2 {
-        0 => Instruction::Load { register: thread, word: LOADED, acquiring: true },
-        _ => Instruction::Store { word: STORED, value: Value::Constant(1).into(), releasing: true },
+        0 => Access::Load { register: thread, word: LOADED, acquiring: true }.into(),
+        _ => {
+            Access::Store { word: STORED, value: Value::Constant(1).into(), releasing: true }.into()
+        }
     };
     let code = |thread: u8| -> Thread {
         (0..POINTS - 1).map(|point| instruction(thread, point)).collect()

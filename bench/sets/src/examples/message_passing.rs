@@ -12,7 +12,7 @@ use reference::assemble::Plan;
 use reference::checker::obligations::{duties, Duty};
 use reference::formula::parse::Counts;
 use reference::formula::{Assertion, Interval, Test, Value};
-use reference::image::{Header, Instruction, Program};
+use reference::image::{Access, Header, Instruction, Program};
 use reference::proof::{around, choice, consequence, implies, included, pair, seen, triple, Lemma};
 use std::rc::Rc;
 
@@ -35,19 +35,19 @@ pub fn message_passing() -> Plan {
         Duty::Kept { thread: _, point, action, .. } => kept_by_writer(point, action),
     };
     let obligations = duties(&program.threads).iter().map(|duty| Some(prove(duty))).collect();
-    Plan { program, spare: Vec::new(), obligations }
+    Plan::new(program, obligations)
 }
 
 fn program() -> Program {
     let constant = |number| Rc::new(Value::Constant(number));
     let writer = vec![
-        Instruction::Store { word: DATA, value: constant(5), releasing: false },
-        Instruction::Store { word: FLAG, value: constant(1), releasing: true },
+        Access::Store { word: DATA, value: constant(5), releasing: false }.into(),
+        Access::Store { word: FLAG, value: constant(1), releasing: true }.into(),
     ];
     let reader = vec![
-        Instruction::Load { register: 1, word: FLAG, acquiring: true },
+        Access::Load { register: 1, word: FLAG, acquiring: true }.into(),
         Instruction::Branch { test: Rc::new(zero()), target: 0 },
-        Instruction::Load { register: 2, word: DATA, acquiring: false },
+        Access::Load { register: 2, word: DATA, acquiring: false }.into(),
     ];
     let counts = Counts { threads: 2, words: 2, registers: 2, range: 8 };
     Program {

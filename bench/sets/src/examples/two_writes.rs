@@ -11,7 +11,7 @@ use reference::assemble::Plan;
 use reference::checker::obligations::{duties, Duty};
 use reference::formula::parse::Counts;
 use reference::formula::{Assertion, Interval, Test, Value};
-use reference::image::{Header, Instruction, Program};
+use reference::image::{Access, Header, Program};
 use reference::proof::{around, choice, consequence, implies, included, pair, seen, triple, Lemma};
 use std::rc::Rc;
 
@@ -37,16 +37,14 @@ pub fn two_writes() -> Plan {
         Duty::Taken { .. } => unreachable!("no branch"),
     };
     let obligations = duties(&program.threads).iter().map(|duty| Some(prove(duty))).collect();
-    Plan { program, spare: Vec::new(), obligations }
+    Plan::new(program, obligations)
 }
 
 fn program() -> Program {
-    let store = |value| Instruction::Store {
-        word: X,
-        value: Rc::new(Value::Constant(value)),
-        releasing: false,
+    let store = |value| {
+        Access::Store { word: X, value: Rc::new(Value::Constant(value)), releasing: false }.into()
     };
-    let load = |register| Instruction::Load { register, word: X, acquiring: false };
+    let load = |register| Access::Load { register, word: X, acquiring: false }.into();
     let counts = Counts { threads: 2, words: 1, registers: 2, range: 8 };
     Program {
         header: Header::cleared(counts, vec![0], vec![READER, READER]),

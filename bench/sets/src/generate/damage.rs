@@ -26,7 +26,7 @@ fn edit_records(random: &mut Random, records: &mut Vec<Record>) {
     }
     let index = random.below(records.len());
     match random.below(12) {
-        0 => records[index].kind = u16::from(random.between(0, 8)),
+        0 => records[index].kind = u16::from(random.between(0, 9)),
         1 => {
             records.remove(index);
         }
@@ -41,7 +41,7 @@ fn edit_records(random: &mut Random, records: &mut Vec<Record>) {
 
 /// Changes a body of a kind chosen first, so that rare kinds are met too.
 fn edit_of_kind(random: &mut Random, records: &mut [Record]) {
-    let kind = u16::from(random.between(1, 6));
+    let kind = *random.pick(&[1, 2, 3, 4, 5, 6, 8]);
     let of_kind: Vec<usize> =
         (0..records.len()).filter(|&index| records[index].kind == kind).collect();
     if !of_kind.is_empty() {

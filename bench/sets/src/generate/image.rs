@@ -2,17 +2,18 @@
 
 use super::instances::{self, Setting, ACTIONS};
 use super::random::Random;
-use super::{damage, harness, mutate, programs};
+use super::{claims, damage, harness, mutate, programs};
 use crate::examples::message_passing;
 use reference::assemble::Plan;
 use reference::checker::frames::LINE;
 use reference::checker::limits;
-use reference::checker::rules::rules;
+use reference::checker::rules::{rules, OF_PAIR};
 use reference::formula::parse::Counts;
 use reference::formula::{Assertion, Interval, Test, Value};
 use reference::image::written::{image_bytes, Record};
 use reference::image::{Header, Instruction, Statement, Thread};
-use reference::proof::{implies, Lemma};
+use reference::proof::{implies, triple, Lemma, Proof};
+use std::rc::Rc;
 
 /// The image of a seed.
 pub fn image(seed: u64) -> Vec<u8> {
@@ -23,10 +24,14 @@ pub fn image(seed: u64) -> Vec<u8> {
     let mut plan = match random.below(20) {
         0 | 1 => changed_message_passing(random),
         2 => many_leaves(random),
+        3 | 4 => claims::excluding(random),
         _ => rule_plan(random),
     };
     if random.chance(12) {
         edit_obligations(random, &mut plan);
+    }
+    if random.chance(10) {
+        claims::add(random, &mut plan);
     }
     let mut records = plan.records();
     if random.below(1000) < 3 {
@@ -70,6 +75,8 @@ fn rule_plan(random: &mut Random) -> Plan {
         lemma = mutate::changed(random, header.counts, &lemma);
     } else if random.chance(12) {
         change_action(random, &header, &mut threads, place);
+    } else if random.chance(20) && action_at(&threads, place).is_pair() {
+        lemma = on_whole_pairs(&lemma);
     }
     let lines = if random.chance(2) { 100 + random.below(150) } else { random.below(3) };
     let spare = (0..lines).map(|_| spare(random, &header, &threads, place)).collect();
@@ -82,6 +89,18 @@ fn rule_plan(random: &mut Random) -> Plan {
         plan.spare.push(lemma);
     }
     plan
+}
+
+/// The line with premises by rule 50 in the place of triples: they say the same, but of the whole pair.
+fn on_whole_pairs(lemma: &Lemma) -> Lemma {
+    let whole = |premise: &Lemma| match &premise.statement {
+        Statement::Triple { thread, point, left, right } => {
+            triple(OF_PAIR, (*thread, *point), left.clone(), right.clone(), &[premise])
+        }
+        _ => premise.clone(),
+    };
+    let premises = lemma.premises.iter().map(whole).collect();
+    Rc::new(Proof { premises, ..Proof::clone(lemma) })
 }
 
 fn any_rule(random: &mut Random) -> u8 {
@@ -212,13 +231,15 @@ fn many_leaves(random: &mut Random) -> Plan {
     plan
 }
 
-/// Takes a line from an obligation, or gives it the line of another.
+/// Takes a line from an obligation, or gives it the line of another or its own first premise, which says the same of a
+/// pair's first half.
 fn edit_obligations(random: &mut Random, plan: &mut Plan) {
     let count = plan.obligations.len();
     let index = random.below(count);
-    plan.obligations[index] = match random.below(3) {
+    plan.obligations[index] = match random.below(4) {
         0 => None,
-        1 => plan.obligations[random.below(count)].clone(),
+        1 => plan.obligations[index].as_ref().and_then(|line| line.premises.first().cloned()),
+        2 => plan.obligations[random.below(count)].clone(),
         _ => plan.spare.first().cloned(),
     };
 }

@@ -1,5 +1,6 @@
 //! Seeded images, valid and damaged, in which every code and every rule occurs.
 
+mod claims;
 pub mod coverage;
 pub mod damage;
 pub mod harness;

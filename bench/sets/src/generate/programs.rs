@@ -5,7 +5,7 @@ use super::vocabulary::Vocabulary;
 use reference::checker::limits;
 use reference::formula::parse::Counts;
 use reference::formula::Value;
-use reference::image::{Header, Instruction, Thread};
+use reference::image::{Access, Header, Instruction, Note, Thread};
 use std::rc::Rc;
 
 /// A header; most are small, some use every name.
@@ -42,31 +42,54 @@ pub fn instruction(
     let word = random.between(1, header.counts.words);
     Some(match operation {
         0 => {
-            let register = *random.pick(some(&registers)?);
-            Instruction::Assign { register, value: own.value(random, 2) }
+            let note = note(random, &own, &registers)?;
+            Instruction::assign(note.register, note.value)
         }
         1 | 2 => {
             let register = *random.pick(some(&registers)?);
-            Instruction::Load { register, word, acquiring: operation == 2 }
+            Access::Load { register, word, acquiring: operation == 2 }.into()
         }
-        3 | 4 => {
-            let value = own.value(random, 2);
-            Instruction::Store { word, value, releasing: operation == 4 }
-        }
-        5 => Instruction::Swap { word, value: own.value(random, 2) },
+        3..=5 => write(operation, word, own.value(random, 2)).into(),
         6 => {
             let target = random.between(0, points - 1);
             Instruction::Branch { test: own.test(random, 2), target }
         }
-        _ => {
+        7 | 8 => {
             let register = *random.pick(some(&registers)?);
             let value = operand(random, own, register);
             match operation {
-                7 => Instruction::Exchange { register, word, value },
-                _ => Instruction::FetchAdd { register, word, value },
+                7 => Access::Exchange { register, word, value }.into(),
+                _ => Access::FetchAdd { register, word, value }.into(),
             }
         }
+        9..=11 => {
+            let access = write(operation - 6, word, own.value(random, 2));
+            Instruction::pair(access, note(random, &own, &registers)?)
+        }
+        _ => trade(random, &own, &registers)?,
     })
+}
+
+/// Operations 3 to 5.
+fn write(operation: u8, word: u8, value: Rc<Value>) -> Access {
+    match operation {
+        5 => Access::Swap { word, value },
+        _ => Access::Store { word, value, releasing: operation == 4 },
+    }
+}
+
+fn note(random: &mut Random, own: &Vocabulary, registers: &[u8]) -> Option<Note> {
+    let register = *random.pick(some(registers)?);
+    Some(Note::new(register, own.value(random, 2)))
+}
+
+/// Two assignments at once; now and then to the same register, which is a fault.
+fn trade(random: &mut Random, own: &Vocabulary, registers: &[u8]) -> Option<Instruction> {
+    let first = note(random, own, registers)?;
+    let others: Vec<u8> = registers.iter().copied().filter(|r| *r != first.register).collect();
+    let faulty = random.chance(3);
+    let second = note(random, own, if faulty { registers } else { &others })?;
+    Some(Instruction::trade(first, second))
 }
 
 /// The operand of an exchange or fetch-add; now and then it may name the result register, which is a fault.
@@ -83,7 +106,7 @@ fn some(items: &[u8]) -> Option<&[u8]> {
 
 /// A thread with this many points and any instructions.
 pub fn thread(random: &mut Random, header: &Header, thread: u8, points: u8) -> Thread {
-    let any = [0, 1, 2, 3, 4, 5, 6, 7, 8];
+    let any = [0, 1, 2, 3, 4, 5, 6, 7, 8, 9, 10, 11, 12];
     let without_register = [3, 4, 5, 6];
     (1..points)
         .map(|_| {

@@ -17,7 +17,7 @@ fn every_code_and_rule_occurs() {
     for seed in 0..12_000 {
         coverage.add(&image(seed));
     }
-    for code in [0, 2, 3, 4, 5, 6, 7, 8, 9, 20, 21, 22, 23] {
+    for code in [0, 2, 3, 4, 5, 6, 7, 8, 9, 20, 21, 22, 23, 26] {
         let count = coverage.codes.get(&code).copied().unwrap_or(0);
         assert!(count >= 40, "code {code} occurs {count} times");
     }

@@ -5,7 +5,7 @@ use crate::generate::harness;
 use reference::formula::parse::Counts;
 use reference::formula::{Assertion, Interval, Test, Value};
 use reference::image::written::Record;
-use reference::image::{Header, Instruction, Thread};
+use reference::image::{Access, Header, Instruction, Thread};
 use reference::proof::{implies, included, seen};
 use std::rc::Rc;
 
@@ -51,12 +51,12 @@ fn first_thread() -> Thread {
     let sum = Rc::new(Value::sum(Value::Constant(1), Value::Register(3)));
     let test = Rc::new(Test::equal(Value::Register(1), Value::Constant(0)));
     vec![
-        Instruction::Assign { register: 1, value: sum },
-        Instruction::Load { register: 1, word: 1, acquiring: false },
-        Instruction::Load { register: 3, word: 2, acquiring: true },
-        Instruction::Store { word: 1, value: register(1), releasing: false },
-        Instruction::Store { word: 2, value: register(3), releasing: true },
-        Instruction::Swap { word: 1, value: register(3) },
+        Instruction::assign(1, sum),
+        Access::Load { register: 1, word: 1, acquiring: false }.into(),
+        Access::Load { register: 3, word: 2, acquiring: true }.into(),
+        Access::Store { word: 1, value: register(1), releasing: false }.into(),
+        Access::Store { word: 2, value: register(3), releasing: true }.into(),
+        Access::Swap { word: 1, value: register(3) }.into(),
         Instruction::Branch { test, target: 0 },
     ]
 }
@@ -64,10 +64,10 @@ fn first_thread() -> Thread {
 /// Thread 2 ends with the operations 7 and 8, each with the other's register as its operand.
 fn second_thread() -> Thread {
     vec![
-        Instruction::Load { register: 2, word: 1, acquiring: true },
-        Instruction::Store { word: 1, value: register(2), releasing: false },
-        Instruction::Exchange { register: 2, word: 1, value: register(4) },
-        Instruction::FetchAdd { register: 4, word: 2, value: register(2) },
+        Access::Load { register: 2, word: 1, acquiring: true }.into(),
+        Access::Store { word: 1, value: register(2), releasing: false }.into(),
+        Access::Exchange { register: 2, word: 1, value: register(4) }.into(),
+        Access::FetchAdd { register: 4, word: 2, value: register(2) }.into(),
     ]
 }
 

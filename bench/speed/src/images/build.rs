@@ -6,7 +6,7 @@ use crate::random::Random;
 use reference::checker::obligations::duties;
 use reference::formula::parse::Counts;
 use reference::formula::{Test, Value};
-use reference::image::written::{Instruction, Line, Written};
+use reference::image::written::{Half, Instruction, Line, Written};
 use reference::image::{self, Header, Thread};
 
 /// How much an image holds.
@@ -193,7 +193,7 @@ impl Program<'_> {
                 BRANCH => (BRANCH, random.below(points) as u8, 0, value + 1),
                 _ => (operation, word, 0, value),
             };
-            Instruction { operation, a, b, formula }
+            Instruction { first: Half { operation, a, b, formula }, second: None }
         };
         operations.iter().map(instruction).collect()
     }
@@ -250,7 +250,7 @@ impl Program<'_> {
     fn obligations(&self, random: &mut Random) -> Vec<u16> {
         let stand_in = |&operation: &u8| match operation {
             BRANCH => image::Instruction::Branch { test: Test::False.into(), target: 0 },
-            _ => image::Instruction::Assign { register: 1, value: Value::Constant(0).into() },
+            _ => image::Instruction::assign(1, Value::Constant(0)),
         };
         let code = |operations: &Vec<u8>| operations.iter().map(stand_in).collect();
         let threads: Vec<Thread> = self.threads.iter().map(code).collect();
@@ -273,6 +273,7 @@ pub fn image(random: &mut Random, size: &Size) -> Vec<u8> {
         outline: program.outline(random),
         lines: (0..size.lines).map(|before| program.line(random, before, &actions)).collect(),
         obligations: program.obligations(random),
+        claims: Vec::new(),
     };
     image.bytes()
 }

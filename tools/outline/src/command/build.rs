@@ -4,7 +4,7 @@ use crate::build::{build_past_failures, Built, Open};
 use crate::command::input::{called, mistake, mistakes, read, Input};
 use crate::command::judge::{judge, JUDGE};
 use crate::command::options::Options;
-use crate::command::{json, print, words, Done, Status};
+use crate::command::{json, print, words, write, Done, Status};
 use crate::image::to_bytes;
 use crate::search::budget::TRIES;
 use crate::text::parse_source::parse_all;
@@ -18,8 +18,8 @@ use reference::explore::{seek, Bounds, Sought};
 const TOLD_IN_FULL: usize = 3;
 
 /// How far runs are looked at for open obligations.
-pub const BOUNDS: Bounds = Bounds { steps: 12, writes: 6, starts: 64 };
-pub const MOST_STATES: usize = 30_000;
+const BOUNDS: Bounds = Bounds { steps: 12, writes: 6, starts: 64 };
+const MOST_STATES: usize = 30_000;
 
 pub fn run(args: &[&str]) -> Done {
     let options = Options::read(args, &["-o", "--partial", "--all", "--json"])?;
@@ -65,13 +65,6 @@ fn nothing_written(file: &str, built: &Built) -> String {
         n => format!("{n} named steps were not found, "),
     };
     format!("{file}: {failed}{open} of {all} obligations are open; no image is written")
-}
-
-pub fn write(target: &str, bytes: &[u8]) -> Result<(), String> {
-    match target {
-        "-" => print(bytes),
-        _ => std::fs::write(target, bytes).map_err(|e| format!("{target}: {e}")),
-    }
 }
 
 /// What stays open goes to standard error, what was written to standard output, unless the image goes there.

@@ -1,12 +1,11 @@
 //! `draw`: a run as SVG, one that breaks the outline or one that has an outcome.
 
-use crate::command::build::write;
 use crate::command::explore::outcome_run;
 use crate::command::input::called;
 use crate::command::judge::judge;
 use crate::command::options::Options;
 use crate::command::report::{bounds, Loaded};
-use crate::command::{json, print, Done, Status};
+use crate::command::{json, print, write, Done, Status};
 use crate::draw::{counted, Ending, Picture};
 use crate::markup::Element;
 use crate::report::{picture, unbroken, Content};

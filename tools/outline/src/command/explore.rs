@@ -8,7 +8,7 @@ use crate::text::print::Names;
 use crate::text::run;
 use reference::checker::decode;
 use reference::explore::truth::violation;
-use reference::explore::{explore, find, Bounds, Break, Cut, Outcome, Run, Sought};
+use reference::explore::{explore, find, Bounds, Break, Cut, Fault, Outcome, Run, Sought};
 use reference::formula::Assertion;
 use reference::image::Program;
 use reference::machine::{take, State, View};
@@ -50,18 +50,20 @@ pub fn run(args: &[&str]) -> Done {
 /// Is an assertion false in a run?
 fn assertions(options: &Options, program: &Program, names: &Names) -> (Vec<String>, Status) {
     let bounds = options.bounds();
-    let found = explore(program, bounds);
+    let found = explore(program, &[], bounds);
     match found.outcome {
         Outcome::Holds { .. } => {
             let seen = format!("holds in {} states, up to {} steps", found.states, bounds.steps);
             (vec![seen, reach(&found.cut)], Status::Accepted)
         }
-        Outcome::Breaks(Break { start, run, thread }) => {
+        Outcome::Breaks(Break { start, run, fault }) => {
             let steps = run.len();
             let run = Run { start, steps: run };
             let mut said = vec![format!("FALSE: a run of {steps} steps breaks an assertion")];
             said.extend(run::lines(program, names, &run));
-            said.extend(false_there(program, names, &end_of(program, &run), thread));
+            if let Fault::Assertion { thread } = fault {
+                said.extend(false_there(program, names, &end_of(program, &run), thread));
+            }
             (said, Status::Refused)
         }
     }

@@ -35,3 +35,11 @@ pub fn print(text: impl AsRef<[u8]>) -> Result<(), String> {
     let written = out.write_all(text.as_ref()).and_then(|()| out.flush());
     written.map_err(|e| format!("standard output: {e}"))
 }
+
+/// Writes a file, or standard output for `-`.
+pub fn write(target: &str, bytes: &[u8]) -> Result<(), String> {
+    match target {
+        "-" => print(bytes),
+        _ => std::fs::write(target, bytes).map_err(|e| format!("{target}: {e}")),
+    }
+}

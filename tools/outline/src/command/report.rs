@@ -1,13 +1,12 @@
 //! `report`: a page about an outline or an image.
 
-use crate::command::build::{write, BOUNDS, MOST_STATES};
 use crate::command::input::{called, mistake, mistakes, read, Input};
 use crate::command::judge::{judge, JUDGE};
 use crate::command::options::Options;
-use crate::command::{json, print, words, Done, Status};
+use crate::command::{json, print, words, write, Done, Status};
 use crate::gallery::Header;
 use crate::image::{self, to_bytes};
-use crate::judged::{broken, obligations, Judged};
+use crate::judged::{broken, judged, Goal, Judged, BOUNDS};
 use crate::report::sha256::digest;
 use crate::report::words::Words;
 use crate::report::{page, Content, Subject};
@@ -122,7 +121,7 @@ impl Loaded {
         let (Ok(image), Ok(decoded)) = (image::read(&self.bytes), decode(&self.bytes)) else {
             return Ok(None);
         };
-        let judged = obligations(&decoded);
+        let judged = judged(&decoded);
         agree(&judged, verdict)?;
         let words = match &self.outline {
             Some((text, source, _)) => Words::of_text(text, source),
@@ -135,22 +134,21 @@ impl Loaded {
         };
         let refused = judged.iter().any(|judged| !judged.is_met());
         let bounds = bounds.filter(|_| refused);
-        let sought = bounds.map(|bounds| broken(&decoded, &judged, bounds, MOST_STATES));
+        let sought = bounds.map(|bounds| broken(&decoded.program, &judged, bounds));
         let open = self.outline.as_ref().and_then(|(_, _, built)| built.open.first());
         let tried = open.map(|open| open.tried.clone()).unwrap_or_default();
         Ok(Some(Content { image, words, judged, sought, tried }))
     }
 }
 
-/// The table of obligations is the independent checker's. A verdict that says otherwise is not put on a page with it.
+/// The tables are the independent checker's. A verdict that says otherwise is not put on a page with them.
 fn agree(judged: &[Judged], verdict: &Verdict) -> Result<(), String> {
     let first = judged.iter().position(|judged| !judged.is_met());
-    let (code, count) = match first {
-        Some(at) => (judged[at].code, at),
-        None => (0, judged.len()),
-    };
+    let duties = judged.iter().filter(|judged| matches!(judged.goal, Goal::Duty(_))).count();
+    let code = first.map_or(0, |at| judged[at].code);
+    let count = first.unwrap_or(duties).min(duties);
     if (code, count) != (verdict.code, usize::from(verdict.count)) {
-        return Err(format!("the checkers disagree: the verdict is {verdict}, the obligations say {code} after {count}"));
+        return Err(format!("the checkers disagree: {verdict}, but code {code} after {count}"));
     }
     Ok(())
 }

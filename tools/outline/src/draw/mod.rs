@@ -52,6 +52,8 @@ const COLOURS: [Colour; 4] = [
 pub enum Ending {
     /// The assertion of this thread is false; its words.
     False { thread: u8, words: String },
+    /// Two threads meet at points where they never should; the words.
+    Met(String),
     /// The registers are as was asked.
     Outcome(String),
 }
@@ -70,12 +72,18 @@ impl Picture<'_> {
         let story = Story::of(self.program, self.names, self.run);
         let mut canvas = Canvas::default();
         canvas.reaches(LEAST_WIDTH, MARGIN);
-        let breaks = matches!(self.ending, Ending::False { .. });
+        let breaks = !matches!(self.ending, Ending::Outcome(_));
         timeline::draw(&mut canvas, self.names, &story, breaks);
         legend(&mut canvas, &story);
         match &self.ending {
             Ending::False { thread, words } => self.broken(&mut canvas, &story, *thread, words),
-            Ending::Outcome(text) => self.reached(&mut canvas, &story, text),
+            Ending::Met(text) => {
+                let text = format!("Claimed never to meet: {text}");
+                self.reached(&mut canvas, &story, &text);
+            }
+            Ending::Outcome(text) => {
+                self.reached(&mut canvas, &story, &format!("At the end: {text}"));
+            }
         }
         let right = canvas.width();
         canvas.reaches(0, canvas.below + 10);
@@ -90,6 +98,9 @@ impl Picture<'_> {
             Ending::False { thread, words } => {
                 let name = self.names.thread(*thread);
                 format!("A run of {steps} after which {name}'s assertion is false: {words}")
+            }
+            Ending::Met(text) => {
+                format!("A run of {steps} after which these meet: {text}")
             }
             Ending::Outcome(text) => format!("A run of {steps} after which {text}"),
         }
@@ -137,7 +148,7 @@ impl Picture<'_> {
 
     fn reached(&self, canvas: &mut Canvas, story: &Story, text: &str) {
         let right = canvas.width();
-        heading(canvas, &format!("At the end: {text}"));
+        heading(canvas, text);
         self.registers(canvas, &story.end().state, right);
         memory::draw(canvas, self.names, story.end(), None, &Below::Views);
     }

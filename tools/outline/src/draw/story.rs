@@ -2,7 +2,7 @@
 
 use crate::text::print::Names;
 use reference::explore::Run;
-use reference::image::{Instruction, Program};
+use reference::image::{Access, Instruction, Program};
 use reference::machine::{take, State, Step};
 
 /// Who made a write: the start, or a step by its number, counted from 1.
@@ -99,7 +99,8 @@ impl Telling<'_> {
     }
 
     fn acquires(&self) -> bool {
-        let load = matches!(self.instruction(), Instruction::Load { acquiring: true, .. });
+        let load =
+            matches!(self.instruction().access(), Some(Access::Load { acquiring: true, .. }));
         load || (self.written().is_some() && self.read().is_some())
     }
 
@@ -143,11 +144,11 @@ impl Telling<'_> {
         parts.join(", ")
     }
 
-    /// Registers that got a value that was not read.
+    /// Registers that got a formula's value.
     fn assigned(&self) -> Vec<String> {
-        let set = self.instruction().result().filter(|_| self.read().is_none());
         let value = |r: u8| self.after.registers[usize::from(r) - 1];
-        set.map(|r| format!("{} is {}", self.names.register(r), value(r))).into_iter().collect()
+        let set = self.instruction().notes().iter().map(|note| note.register);
+        set.map(|r| format!("{} is {}", self.names.register(r), value(r))).collect()
     }
 
     /// The makers behind the step: a new write stands directly behind the one picked.
@@ -164,6 +165,8 @@ impl Telling<'_> {
 mod tests {
     use super::*;
     use crate::text::parse_source::parse;
+    use reference::formula::Value;
+    use reference::image::Note;
 
     const HANDED: &str = "word data = 0 word flag = 0
 thread w { true } data := 1 { true } flag :=rel 2 { true }
@@ -193,6 +196,21 @@ thread s registers c { true } c <- exchange flag := 3 { true } if c = 2 goto 0 {
         assert!(
             story.end().state.row(2)[1].covered && !story.before_last().state.row(2)[2].covered
         );
+    }
+
+    /// A store with a note: both are told, and the note is worked out before the step.
+    #[test]
+    fn a_pair_is_one_step() {
+        let mut source =
+            parse("word x = 0 thread t registers r { true } r := 1 { true }").expect("a source");
+        let store = Access::Store { word: 1, value: Value::Register(1).into(), releasing: true };
+        source.threads[0][0] = Instruction::pair(store, Note::new(1, Value::Constant(3)));
+        let program = source.program();
+        let steps = vec![Step { thread: 1, position: 0 }];
+        let run = Run { start: State::start(&program.header), steps };
+        let story = Story::of(&program, &source.names, &run);
+        assert_eq!(story.acts[0].effect, "writes 0, r is 3");
+        assert_eq!(story.end().makers[0], [Maker::Start, Maker::Step(1)]);
     }
 
     #[test]

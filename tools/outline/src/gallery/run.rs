@@ -1,8 +1,8 @@
 //! A shortest run that breaks an outline, in one line.
 
 use crate::text::source::Source;
-use reference::explore::{explore, Bounds, Break, Outcome};
-use reference::image::Instruction;
+use reference::explore::{explore, Bounds, Break, Fault, Outcome};
+use reference::image::Access;
 use reference::machine::{take, State, Step};
 
 /// Every wrong variant breaks within these.
@@ -10,7 +10,7 @@ const BOUNDS: Bounds = Bounds { steps: 10, writes: 6, starts: 4096 };
 
 /// A shortest run that makes an assertion false, if there is one.
 pub fn breaking(source: &Source) -> Option<Break> {
-    match explore(&source.program(), BOUNDS).outcome {
+    match explore(&source.program(), &[], BOUNDS).outcome {
         Outcome::Breaks(broken) => Some(broken),
         Outcome::Holds { .. } => None,
     }
@@ -18,7 +18,7 @@ pub fn breaking(source: &Source) -> Option<Break> {
 
 /// Whether the bounds leave no state out and every assertion is true in each.
 pub fn is_true_in_all_states(source: &Source) -> bool {
-    explore(&source.program(), BOUNDS).outcome == Outcome::Holds { all: true }
+    explore(&source.program(), &[], BOUNDS).outcome == Outcome::Holds { all: true }
 }
 
 /// The run step by step, and which assertion is false at its end.
@@ -30,9 +30,14 @@ pub fn words(source: &Source, broken: &Break) -> String {
         parts.push(step_words(source, &state, &next, step));
         state = next;
     }
-    let point = state.points[usize::from(broken.thread) - 1];
-    let thread = source.names.thread(broken.thread);
-    format!("{}. Now false: {thread}'s point {point}", parts.join("; "))
+    let said = match broken.fault {
+        Fault::Assertion { thread } => {
+            let point = state.points[usize::from(thread) - 1];
+            format!("{}'s point {point}", source.names.thread(thread))
+        }
+        Fault::Claim(_) => "a claim".into(),
+    };
+    format!("{}. Now false: {said}", parts.join("; "))
 }
 
 /// The open registers that do not start at 0.
@@ -49,13 +54,15 @@ fn step_words(source: &Source, before: &State, after: &State, step: Step) -> Str
     let instruction = &source.threads[usize::from(step.thread) - 1][usize::from(point)];
     let text = format!("{thread} `{}`", source.names.instruction(instruction));
     let row = |word: u8| before.row(word);
-    match instruction {
-        Instruction::Load { word, .. }
-        | Instruction::Exchange { word, .. }
-        | Instruction::FetchAdd { word, .. } => {
+    match instruction.access() {
+        Some(
+            Access::Load { word, .. }
+            | Access::Exchange { word, .. }
+            | Access::FetchAdd { word, .. },
+        ) => {
             format!("{text} reads {}", row(*word)[step.position].value)
         }
-        Instruction::Store { word, .. } | Instruction::Swap { word, .. } => {
+        Some(Access::Store { word, .. } | Access::Swap { word, .. }) => {
             let picked = row(*word)[step.position].value;
             let last = step.position + 1 == row(*word).len();
             if last {
@@ -64,9 +71,9 @@ fn step_words(source: &Source, before: &State, after: &State, step: Step) -> Str
                 format!("{text} behind {picked}, not last")
             }
         }
-        Instruction::Assign { .. } => text,
-        Instruction::Branch { .. } => {
+        None if instruction.is_branch() => {
             format!("{text} goes to {}", after.points[usize::from(step.thread) - 1])
         }
+        None => text,
     }
 }

@@ -2,7 +2,7 @@
 
 use super::parts::{self, code, note, point};
 use super::{rules, Content};
-use crate::judged::Judged;
+use crate::judged::{Goal, Judged};
 use crate::markup::{el, of, Element};
 use crate::text::show::arrow;
 use reference::checker::obligations::Duty;
@@ -32,54 +32,68 @@ pub fn class_of(duty: &Duty) -> u8 {
 }
 
 pub fn section(content: &Content) -> Element {
-    let met = content.judged.iter().filter(|judged| judged.is_met()).count();
-    let all = content.judged.len();
+    let all = duties(content);
+    let met = all.iter().filter(|(judged, _)| judged.is_met()).count();
     let lines = content.image.written.lines.len();
-    let said = format!("{met} of {all} are met, by a certificate of {lines} lines. Open one to see the lines that it rests on.");
+    let said = format!("{met} of {} are met, by a certificate of {lines} lines. Open one to see the lines that it rests on.", all.len());
     let heads = ["No.", "Obligation", "Rule", "Answer"];
     let heads = el("tr").all(heads.map(|text| el("th").with("scope", "col").text(text)));
-    let mut trees = Trees { content, formulas: told_formulas(content), left: MOST_LINES };
-    let bodies = (1..=4).filter_map(|class| body(&mut trees, class));
-    let table =
-        of("table", "obligations").add(el("thead").add(heads)).all(bodies.collect::<Vec<_>>());
+    let mut trees = Trees::of(content);
+    let bodies: Vec<Element> = (1..=4).filter_map(|class| body(&mut trees, &all, class)).collect();
+    let table = of("table", "obligations").add(el("thead").add(heads)).all(bodies);
     parts::section("obligations", "Obligations").add(note(&said)).add(table)
 }
 
-/// The rows of a class, if it has any.
-fn body(trees: &mut Trees, wanted: u8) -> Option<Element> {
-    let numbered = (1..).zip(&trees.content.judged);
-    let own: Vec<(usize, &Judged)> =
-        numbered.filter(|(_, j)| class_of(&j.duty) == wanted).collect();
-    let met = own.iter().filter(|(_, j)| j.is_met()).count();
-    let title = format!("Class {wanted}: {}", class_title(wanted));
-    let count = of("span", "count").text(format!("{met} of {} met", own.len()));
-    let title =
-        el("th").with("colspan", 4).with("scope", "rowgroup").text(title).text(" ").add(count);
-    let rows: Vec<Element> = own.iter().map(|(n, judged)| row(trees, *n, judged)).collect();
-    (!own.is_empty()).then(|| el("tbody").add(of("tr", "class").add(title)).all(rows))
+/// The obligations with their answers.
+fn duties(content: &Content) -> Vec<(&Judged, Duty)> {
+    let duty = |judged: &Judged| match judged.goal {
+        Goal::Duty(duty) => Some(duty),
+        Goal::Claim(_) => None,
+    };
+    content.judged.iter().filter_map(|judged| Some((judged, duty(judged)?))).collect()
 }
 
-fn row(trees: &mut Trees, number: usize, judged: &Judged) -> Element {
+/// The rows of a class, if it has any.
+fn body(trees: &mut Trees, all: &[(&Judged, Duty)], class: u8) -> Option<Element> {
+    let own = (1..).zip(all).filter(|(_, (_, duty))| class_of(duty) == class);
+    let own: Vec<(usize, &(&Judged, Duty))> = own.collect();
+    let met = own.iter().filter(|(_, (judged, _))| judged.is_met()).count();
+    let title = format!("Class {class}: {}", class_title(class));
+    let count = of("span", "count").text(format!("{met} of {} met", own.len()));
+    let title = el("th").with("colspan", 4).with("scope", "rowgroup").text(title);
+    let title = of("tr", "class").add(title.text(" ").add(count));
+    let rows: Vec<Element> =
+        own.iter().map(|(n, (judged, duty))| row(trees, *n, judged, duty)).collect();
+    (!own.is_empty()).then(|| el("tbody").add(title).all(rows))
+}
+
+fn row(trees: &mut Trees, number: usize, judged: &Judged, duty: &Duty) -> Element {
     let content = trees.content;
     let line = usize::from(judged.line).checked_sub(1).map(|at| &content.image.written.lines[at]);
     let rule = line.map_or("–".to_string(), |line| line.rule.to_string());
     let title = line.map_or("", |line| rules::title(line.rule));
-    let words = duty_element(content, &judged.duty);
+    let words = duty_element(content, duty);
     let what = match line {
         Some(_) => el("details").add(el("summary").add(words)).add(trees.tree(judged.line)),
         None => of("p", "unnamed").add(words),
     };
-    let (class, answer) = match judged.code {
-        0 => ("answer met", "met"),
-        20 => ("answer open", "no line"),
-        21 => ("answer open", "other line"),
-        _ => ("answer open", "unjustified"),
-    };
+    let (class, said) = answer(judged.code);
     el("tr")
         .add(of("td", "no").text(number))
         .add(of("td", "what").add(what))
         .add(of("td", "rule").with("title", title).text(rule))
-        .add(of("td", class).text(answer))
+        .add(of("td", class).text(said))
+}
+
+/// What a code says of an obligation or a claim, and its class on the page.
+pub fn answer(code: u16) -> (&'static str, &'static str) {
+    match code {
+        0 => ("answer met", "met"),
+        20 => ("answer open", "no line"),
+        21 => ("answer open", "other line"),
+        22 => ("answer open", "unjustified"),
+        _ => ("answer open", "not shown"),
+    }
 }
 
 /// An obligation in words, its points as links.
@@ -110,22 +124,24 @@ pub fn duty_element(content: &Content, duty: &Duty) -> Element {
     }
 }
 
-/// Each formula of the image as text.
-fn told_formulas(content: &Content) -> Vec<String> {
-    content.image.formulas.iter().map(|f| content.words.names.formula(f)).collect()
-}
-
 /// Tells lines with what they rest on.
-struct Trees<'a> {
+pub struct Trees<'a> {
     content: &'a Content,
+    /// Each formula of the image as text.
     formulas: Vec<String>,
     /// So many lines may still be told.
     left: usize,
 }
 
-impl Trees<'_> {
+impl<'a> Trees<'a> {
+    pub fn of(content: &'a Content) -> Trees<'a> {
+        let names = &content.words.names;
+        let formulas = content.image.formulas.iter().map(|f| names.formula(f)).collect();
+        Trees { content, formulas, left: MOST_LINES }
+    }
+
     /// The lines below one, each once, indented by their depth. Not nested: an image may be deeper than any browser nests.
-    fn tree(&mut self, root: u16) -> Element {
+    pub fn tree(&mut self, root: u16) -> Element {
         let mut out = of("ol", "tree");
         let (mut told, mut stack) = (BTreeSet::new(), vec![(root, 0)]);
         while let Some((number, depth)) = stack.pop() {

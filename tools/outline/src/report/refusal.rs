@@ -2,13 +2,13 @@
 
 use super::obligations::{class_of, class_title, duty_element};
 use super::parts::{self, code, formula, note};
-use super::{Content, Subject};
+use super::{claims, Content, Subject};
 use crate::draw::{counted, Ending, Picture};
-use crate::judged::{Broken, Judged};
+use crate::judged::{Broken, Goal, Judged};
 use crate::markup::{el, of, Element};
 use reference::checker::obligations::Duty;
 use reference::explore::Sought;
-use reference::image::Instruction;
+use reference::image::{Instruction, Meeting};
 
 /// The first obligation that is not met: the one that the verdict names.
 fn named(content: &Content) -> Option<&Judged> {
@@ -17,19 +17,33 @@ fn named(content: &Content) -> Option<&Judged> {
 
 /// The verdict's sentence.
 pub fn sentence(content: &Content) -> String {
-    let Some(judged) = named(content) else { return "A claim is not shown.".into() };
+    let Some(judged) = named(content) else { return String::new() };
     let run = match &content.sought {
         Some(Ok(broken)) => {
             let steps = counted(broken.run.steps.len(), "step");
-            let what = if broken.duty == judged.duty { "it" } else { "the outline" };
+            let what = if broken.goal == judged.goal { "it" } else { "the outline" };
             format!(", and a run of {steps} breaks {what}")
         }
         _ => String::new(),
     };
-    format!("It is not shown that {}{run}.", duty_words(content, &judged.duty))
+    format!("It is not shown that {}{run}.", goal_words(content, &judged.goal))
 }
 
 /// What would have to be so.
+fn goal_words(content: &Content, goal: &Goal) -> String {
+    match goal {
+        Goal::Duty(duty) => duty_words(content, duty),
+        Goal::Claim(meeting) => format!("{} never meet", met(content, meeting)),
+    }
+}
+
+/// Two threads at their points.
+fn met(content: &Content, meeting: &Meeting) -> String {
+    let name = |thread: u8| content.words.names.thread(thread);
+    let Meeting { thread, point, other_thread, other_point } = *meeting;
+    format!("{} at point {point} and {} at point {other_point}", name(thread), name(other_thread))
+}
+
 fn duty_words(content: &Content, duty: &Duty) -> String {
     let names = &content.words.names;
     let act = |t: u8, p: u8| {
@@ -64,18 +78,10 @@ fn duty_words(content: &Content, duty: &Duty) -> String {
 pub fn section(subject: &Subject, content: &Content) -> Element {
     let out = parts::section("refusal", "Why it is refused");
     let Some(judged) = named(content) else { return out };
-    let lacks = match judged.code {
-        20 => "The certificate names no line for it.".to_string(),
-        21 => format!("Its line, {}, concludes something else.", judged.line),
-        _ => format!("Its line, {}, is not justified.", judged.line),
-    };
     let before = counted(subject.verdict.count.into(), "obligation");
-    let code = format!(" (Code {}; {before} met before it.)", judged.code);
-    let first = el("p").text("Not met: ").add(duty_element(content, &judged.duty)).text(". ");
-    let out = out.add(first.text(lacks).text(code));
-    let class = class_of(&judged.duty);
-    let out = out.add(note(&format!("Class {class}: {}.", class_title(class))));
-    let out = out.add(wanted(content, &judged.duty));
+    let code = format!(" {} (Code {}; {before} met before it.)", lacks(judged), judged.code);
+    let first = el("p").text("Not met: ").add(goal_element(content, &judged.goal)).text(code);
+    let out = out.add(first).add(note(&kind(&judged.goal))).add(wanted(content, &judged.goal));
     let out = match &content.sought {
         Some(Ok(broken)) => out.add(figure(content, judged, broken)),
         Some(Err(sought)) => out.add(el("p").text(unbroken(sought))),
@@ -87,24 +93,53 @@ pub fn section(subject: &Subject, content: &Content) -> Element {
     }
 }
 
+/// What the obligation or claim lacks.
+fn lacks(judged: &Judged) -> String {
+    match judged.code {
+        21 => format!("Its line, {}, concludes something else.", judged.line),
+        22 => format!("Its line, {}, is not justified.", judged.line),
+        _ if judged.line == 0 => "The certificate names no line for it.".into(),
+        _ => format!("Its line, {}, is unjustified or concludes something else.", judged.line),
+    }
+}
+
+fn kind(goal: &Goal) -> String {
+    match goal {
+        Goal::Duty(duty) => format!("Class {}: {}.", class_of(duty), class_title(class_of(duty))),
+        Goal::Claim(_) => "A claim: two threads are never at these points together.".into(),
+    }
+}
+
+fn goal_element(content: &Content, goal: &Goal) -> Element {
+    match goal {
+        Goal::Duty(duty) => duty_element(content, duty).text("."),
+        Goal::Claim(meeting) => claims::sentence(content, meeting),
+    }
+}
+
 /// What a line would have to say, in the outline's own words.
-fn wanted(content: &Content, duty: &Duty) -> Element {
+fn wanted(content: &Content, goal: &Goal) -> Element {
     let (words, program) = (&content.words, &content.image.program);
     let at = |t: u8, p: u8| formula(words, words.assertion(t, p));
     let act = |t: u8, p: u8| {
         let instruction = program.instruction(t, p).expect("an obligation's instruction");
         code(&words.names.instruction(instruction))
     };
-    let rows = match *duty {
-        Duty::Start { thread } => vec![("from", code("start")), ("to", at(thread, 0))],
-        Duty::Next { thread, point } => {
+    let rows = match *goal {
+        Goal::Claim(meeting) => vec![
+            ("from", at(meeting.thread, meeting.point)),
+            ("and", at(meeting.other_thread, meeting.other_point)),
+            ("to", code("false")),
+        ],
+        Goal::Duty(Duty::Start { thread }) => vec![("from", code("start")), ("to", at(thread, 0))],
+        Goal::Duty(Duty::Next { thread, point }) => {
             vec![
                 ("from", at(thread, point)),
                 ("by", act(thread, point)),
                 ("to", at(thread, point + 1)),
             ]
         }
-        Duty::Taken { thread, point } => {
+        Goal::Duty(Duty::Taken { thread, point }) => {
             let target =
                 program.instruction(thread, point).and_then(branch_target).expect("a branch");
             vec![
@@ -113,7 +148,7 @@ fn wanted(content: &Content, duty: &Duty) -> Element {
                 ("to", at(thread, target)),
             ]
         }
-        Duty::Kept { thread, point, actor, action } => vec![
+        Goal::Duty(Duty::Kept { thread, point, actor, action }) => vec![
             ("from", at(thread, point)),
             ("and", at(actor, action)),
             ("by", act(actor, action)),
@@ -134,31 +169,42 @@ fn branch_target(instruction: &Instruction) -> Option<u8> {
 /// The run, drawn.
 fn figure(content: &Content, judged: &Judged, broken: &Broken) -> Element {
     let steps = counted(broken.run.steps.len(), "step");
-    let said = el("p").add(of("strong", "false").text("It is false.")).text(" ");
-    let said = if broken.duty == judged.duty {
-        said.text(format!("A run of {steps} breaks it; this is a shortest one."))
+    let said = |word: &str| el("p").add(of("strong", "false").text(word)).text(" ");
+    let said = if broken.goal == judged.goal {
+        said("It is false.").text(format!("A run of {steps} breaks it; this is a shortest one."))
     } else {
-        let other = el("p")
-            .add(of("strong", "false").text("The outline is false."))
-            .text(" No run was found that breaks this obligation, but a ");
-        other
-            .text(format!("run of {steps} breaks another that is not met: "))
-            .add(duty_element(content, &broken.duty))
-            .text(".")
+        let other = said("The outline is false.").text("No run was found that breaks this, but a ");
+        let other = other.text(format!("run of {steps} breaks what is not met either: "));
+        other.add(goal_element(content, &broken.goal))
     };
     let drawing = of("div", "drawing").with("tabindex", 0).with("role", "region");
     let drawing = drawing.with("aria-label", "The run, drawn").add(picture(content, broken).svg());
     of("figure", "run-figure").add(said).add(drawing)
 }
 
-/// The drawing of a run that breaks an obligation.
+/// The drawing of a run that breaks an obligation or a claim.
 pub fn picture<'a>(content: &'a Content, broken: &'a Broken) -> Picture<'a> {
     let program = &content.image.program;
-    let end = broken.end(program);
-    let point = end.points[usize::from(broken.thread) - 1];
-    let words = content.words.assertion(broken.thread, point).to_string();
-    let ending = Ending::False { thread: broken.thread, words };
+    let ending = match broken.goal {
+        Goal::Claim(meeting) => Ending::Met(met(content, &meeting)),
+        Goal::Duty(duty) => {
+            let thread = asserting(&duty);
+            let point = broken.end(program).points[usize::from(thread) - 1];
+            let words = content.words.assertion(thread, point).to_string();
+            Ending::False { thread, words }
+        }
+    };
     Picture { program, names: &content.words.names, run: &broken.run, ending }
+}
+
+/// The thread whose assertion an obligation is about.
+fn asserting(duty: &Duty) -> u8 {
+    match *duty {
+        Duty::Start { thread }
+        | Duty::Next { thread, .. }
+        | Duty::Taken { thread, .. }
+        | Duty::Kept { thread, .. } => thread,
+    }
 }
 
 /// How far was looked for a run that breaks it.

@@ -25,7 +25,7 @@ fn tests_in(goal: &A, r: u8) -> Option<T> {
 impl Prover<'_> {
     /// For each view of the acting thread, alone or with another, the triple from it to the goal.
     pub fn ways_by_heads(&mut self, context: &Context, goal: &A, ways: &mut Vec<Plan>) {
-        if self.instruction(context.at).assignment().is_some() || goal.as_both().is_some() {
+        if self.instruction(context.at).assignments().is_some() || goal.as_both().is_some() {
             return;
         }
         let seen = context.seen_by(context.at.thread);

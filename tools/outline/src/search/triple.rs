@@ -8,9 +8,9 @@ use crate::search::prover::{At, Line, Prover, Stand};
 use crate::search::support::expand;
 use crate::terms::*;
 use reference::checker::rules::table::Leaves;
-use reference::checker::rules::{before_load, keeps, Load};
+use reference::checker::rules::{before_load, before_notes, keeps, Load};
 use reference::formula::atoms::Atoms;
-use reference::formula::{Assertion, Formula, Test, Value};
+use reference::formula::{Assertion, Formula, Test};
 use reference::image::Instruction;
 
 /// The place of the instruction and the views that the left side speaks of.
@@ -176,8 +176,8 @@ impl Prover<'_> {
         if self.steps_stand == Stand::First {
             self.ways_by_steps(context, goal, &mut ways);
         }
-        if let Some((r, value)) = instruction.assignment() {
-            let before = replaced(goal, Value::Register(r), value);
+        if let Some(notes) = instruction.assignments() {
+            let before = before_notes(goal, notes);
             ways.extend(self.step(at, 2, &before, goal, &[]).map(Plan::Ready));
         }
         if keeps(&instruction, goal.as_ref()) == Some(true) {
@@ -248,7 +248,7 @@ impl Prover<'_> {
     /// `false` is kept by everything and gives anything: for cases that cannot be.
     fn by_falsehood(&mut self, at: At, goal: &A) -> Option<Plan> {
         let nothing = holds(&falsehood());
-        let rule = if self.instruction(at).assignment().is_some() { 2 } else { 1 };
+        let rule = if self.instruction(at).assignments().is_some() { 2 } else { 1 };
         let line = self.step(at, rule, &nothing, &nothing, &[])?;
         let last = self.fact(20, &nothing, goal, &[])?;
         Some(then(Plan::Ready(line), last, &nothing, goal))

@@ -12,7 +12,7 @@ use reference::checker::limits;
 use reference::formula::atoms::{Atom, Atoms};
 use reference::formula::nesting::{Nesting, BYTES, NESTING};
 use reference::formula::{Formula, Sort};
-use reference::image::{Header, Instruction};
+use reference::image::{Access, Header, Instruction};
 
 /// Reads a whole source text, or finds its first mistake.
 pub fn parse(text: &str) -> Result<Source, Mistake> {
@@ -322,7 +322,7 @@ fn instruction(c: &mut Cursor, thread: u8) -> Result<(Instruction, Option<Token>
     } else if c.take("swap") {
         let word = c.word()?;
         c.expect(":=")?;
-        (Instruction::Swap { word, value: c.value()? }, None)
+        (Access::Swap { word, value: c.value()? }.into(), None)
     } else {
         (move_value(c)?, None)
     };
@@ -336,14 +336,14 @@ fn move_value(c: &mut Cursor) -> Result<Instruction, Mistake> {
         Some(Meaning::Register(register)) => {
             c.at += 1;
             if c.take(":=") {
-                return Ok(Instruction::Assign { register, value: c.value()? });
+                return Ok(Instruction::assign(register, c.value()?));
             }
             if c.take("<-acq") {
                 if c.sees_next("exchange") || c.sees_next("fetch-add") {
                     let text = "a word is wanted: exchange and fetch-add acquire by themselves, behind `<-`";
                     return c.fail(text.into());
                 }
-                return Ok(Instruction::Load { register, word: c.word()?, acquiring: true });
+                return Ok(Access::Load { register, word: c.word()?, acquiring: true }.into());
             }
             if c.take("<-") {
                 return fetched(c, register);
@@ -359,7 +359,7 @@ fn move_value(c: &mut Cursor) -> Result<Instruction, Mistake> {
             if c.sees_next("acq") {
                 return c.fail("`acq` belongs to a load, `<-acq`; a store may be `:=rel`".into());
             }
-            Ok(Instruction::Store { word, value: c.value()?, releasing })
+            Ok(Access::Store { word, value: c.value()?, releasing }.into())
         }
         None if moves_next(c) => c.fail(format!("{} is not declared", c.peek().shown())),
         _ => c.wanted("an instruction (or the thread's end)"),
@@ -378,12 +378,12 @@ fn fetched(c: &mut Cursor, register: u8) -> Result<Instruction, Mistake> {
     if c.take("exchange") {
         let word = c.word()?;
         c.expect(":=")?;
-        return Ok(Instruction::Exchange { register, word, value: c.value()? });
+        return Ok(Access::Exchange { register, word, value: c.value()? }.into());
     }
     if c.take("fetch-add") {
         let word = c.word()?;
         c.expect("+")?;
-        return Ok(Instruction::FetchAdd { register, word, value: c.value()? });
+        return Ok(Access::FetchAdd { register, word, value: c.value()? }.into());
     }
     if c.sees_next("swap") {
         return c.fail("swap drops the old value; `exchange` hands it to the register".into());
@@ -391,14 +391,14 @@ fn fetched(c: &mut Cursor, register: u8) -> Result<Instruction, Mistake> {
     if c.sees_next("rel") {
         return c.fail("`rel` belongs to a store, `:=rel`; a load may be `<-acq`".into());
     }
-    Ok(Instruction::Load { register, word: c.word()?, acquiring: false })
+    Ok(Access::Load { register, word: c.word()?, acquiring: false }.into())
 }
 
 /// Instructions use own registers only, and no word but the one moved.
 fn own(c: &Cursor, instruction: &Instruction, thread: u8, line: Place) -> Result<(), Mistake> {
     let fault = |text: String| Err(Mistake { line, text });
-    let mut registers: Vec<u8> = instruction.result().into_iter().collect();
-    if let Some(operand) = instruction.operand() {
+    let mut registers = instruction.registers_set();
+    for operand in instruction.operands() {
         check_size(&operand, line)?;
         if !registers_only(&operand) {
             return fault("words, unsync and cov may not stand in an instruction's formula".into());

@@ -1,7 +1,7 @@
 //! Formulas as text, in the syntax that `parse` reads back to the same formula.
 
 use reference::formula::{Assertion, Formula, Interval, Test, Value};
-use reference::image::Instruction;
+use reference::image::{Access, Instruction, Note};
 
 /// Names of words, registers and threads; number 1 is first.
 #[derive(Debug, Clone, Default)]
@@ -83,30 +83,41 @@ impl Names {
     /// One instruction as text.
     pub fn instruction(&self, instruction: &Instruction) -> String {
         match instruction {
-            Instruction::Assign { register, value } => {
-                format!("{} := {}", self.register(*register), self.value(value))
-            }
-            Instruction::Load { register, word, acquiring } => {
-                let mark = if *acquiring { "<-acq" } else { "<-" };
-                format!("{} {mark} {}", self.register(*register), self.word(*word))
-            }
-            Instruction::Store { word, value, releasing } => {
-                let mark = if *releasing { ":=rel" } else { ":=" };
-                format!("{} {mark} {}", self.word(*word), self.value(value))
-            }
-            Instruction::Swap { word, value } => {
-                format!("swap {} := {}", self.word(*word), self.value(value))
-            }
-            Instruction::Exchange { register, word, value } => {
-                let (register, word) = (self.register(*register), self.word(*word));
-                format!("{register} <- exchange {word} := {}", self.value(value))
-            }
-            Instruction::FetchAdd { register, word, value } => {
-                let (register, word) = (self.register(*register), self.word(*word));
-                format!("{register} <- fetch-add {word} + {}", self.value(value))
+            Instruction::Act { access, notes } => {
+                let access = access.iter().map(|access| self.access(access));
+                let notes = notes.iter().map(|note| self.note(note));
+                access.chain(notes).collect::<Vec<String>>().join(", ")
             }
             Instruction::Branch { test, target } => {
                 format!("if {} goto {target}", self.test(test))
+            }
+        }
+    }
+
+    fn note(&self, note: &Note) -> String {
+        format!("{} := {}", self.register(note.register), self.value(&note.value))
+    }
+
+    fn access(&self, access: &Access) -> String {
+        match access {
+            Access::Load { register, word, acquiring } => {
+                let mark = if *acquiring { "<-acq" } else { "<-" };
+                format!("{} {mark} {}", self.register(*register), self.word(*word))
+            }
+            Access::Store { word, value, releasing } => {
+                let mark = if *releasing { ":=rel" } else { ":=" };
+                format!("{} {mark} {}", self.word(*word), self.value(value))
+            }
+            Access::Swap { word, value } => {
+                format!("swap {} := {}", self.word(*word), self.value(value))
+            }
+            Access::Exchange { register, word, value } => {
+                let (register, word) = (self.register(*register), self.word(*word));
+                format!("{register} <- exchange {word} := {}", self.value(value))
+            }
+            Access::FetchAdd { register, word, value } => {
+                let (register, word) = (self.register(*register), self.word(*word));
+                format!("{register} <- fetch-add {word} + {}", self.value(value))
             }
         }
     }

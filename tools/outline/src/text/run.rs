@@ -2,7 +2,7 @@
 
 use crate::text::print::Names;
 use reference::explore::Run;
-use reference::image::{Instruction, Program};
+use reference::image::{Access, Program};
 use reference::machine::{take, State, Step};
 use std::fmt::Write;
 
@@ -43,23 +43,30 @@ fn one_step(program: &Program, names: &Names, state: &State, step: Step, after: 
     let value = |r: u8| after.registers[usize::from(r) - 1];
     // Writes in a row count from 1 here.
     let place = step.position + 1;
-    let _ = match instruction {
-        Instruction::Assign { register, .. } => write!(text, "   gives {}", value(*register)),
-        Instruction::Load { word, .. } => {
+    if instruction.is_branch() {
+        let _ = write!(text, "   goes to point {}", after.points[thread]);
+    }
+    let _ = match instruction.access() {
+        Some(Access::Load { word, .. }) => {
             write!(text, "   reads {} from write {place}", read(*word))
         }
-        Instruction::Store { word, .. } => {
+        Some(Access::Store { word, .. }) => {
             let new = after.row(*word)[step.position + 1].value;
             write!(text, "   writes {new} behind write {place}")
         }
-        Instruction::Swap { word, .. }
-        | Instruction::Exchange { word, .. }
-        | Instruction::FetchAdd { word, .. } => {
+        Some(
+            Access::Swap { word, .. }
+            | Access::Exchange { word, .. }
+            | Access::FetchAdd { word, .. },
+        ) => {
             let new = after.row(*word)[step.position + 1].value;
             let old = read(*word);
             write!(text, "   reads {old}, writes {new} behind write {place}")
         }
-        Instruction::Branch { .. } => write!(text, "   goes to point {}", after.points[thread]),
+        None => Ok(()),
     };
+    for note in instruction.notes() {
+        let _ = write!(text, "   gives {}", value(note.register));
+    }
     text
 }

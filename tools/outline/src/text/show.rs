@@ -42,7 +42,7 @@ fn thread<'a>(
     for (point, (assertion, number)) in points.enumerate() {
         let _ = writeln!(out, "  {{ {} }} @{number}", names.assertion(assertion));
         if let Some(instruction) = image.program.threads[index].get(point) {
-            let at = match image.written.threads[index][point].formula {
+            let at = match image.written.threads[index][point].first.formula {
                 0 => String::new(),
                 n => format!(" @{n}"),
             };

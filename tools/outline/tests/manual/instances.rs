@@ -65,7 +65,7 @@ fn proof(block: &Block) -> (Rc<Proof>, Program) {
 fn judged(block: &Block) -> Vec<bool> {
     let (root, program) = proof(block);
     let obligations = vec![None; duties(&program.threads).len()];
-    let bytes = Plan { program, spare: vec![root], obligations }.bytes();
+    let bytes = Plan { spare: vec![root], ..Plan::new(program, obligations) }.bytes();
     let image = decode(&bytes).unwrap_or_else(|_| panic!("block at line {}", block.line));
     assert_eq!(check(&bytes).code, 20, "the image is well formed");
     justified_lines(&image)

@@ -28,14 +28,14 @@ fn steps_reads_and_acquires_are_drawn() {
 
 #[test]
 fn covered_writes_and_views_are_drawn() {
-    let (_, svg) = drawn("exchange-lock-wrong-1");
+    let (_, svg) = drawn("swap-race-wrong-2");
     let all = tags(&svg);
-    assert!(count(&all, "run-covered") > 0 && count(&all, "run-new") > 0);
-    assert!(svg.contains("Before step 5: the writes, and where each view is"));
+    assert!(count(&all, "run-covered") > 0);
+    assert!(svg.contains("Before step 3: the writes, and where each view is"));
     let before =
-        svg.split("Before step 5").nth(1).and_then(|rest| rest.split("After step 5").next());
+        svg.split("Before step 3").nth(1).and_then(|rest| rest.split("After step 3").next());
     let views = before.expect("a part").matches("run-mark").count();
-    assert_eq!(views, 4, "two threads at two words");
+    assert_eq!(views, 2, "two threads at one word");
 }
 
 /// Every wrong variant has a run, whose drawing is well formed and whose texts lie inside.

@@ -3,7 +3,7 @@
 use crate::reader::tags;
 use crate::{folder, run};
 use outline::draw::{Ending, Picture};
-use outline::judged::{broken, obligations};
+use outline::judged::{broken, judged};
 use outline::report::words::Words;
 use outline::report::{page, Content, Subject};
 use outline::text::parse_source::parse;
@@ -39,9 +39,9 @@ fn content() -> (Vec<u8>, Content) {
     bad(&mut source.names.threads);
     bad(&mut source.names.registers);
     let decoded = decode(&bytes).expect("an image");
-    let judged = obligations(&decoded);
+    let judged = judged(&decoded);
     let bounds = Bounds { steps: 4, writes: 4, starts: 4 };
-    let sought = Some(broken(&decoded, &judged, bounds, 1000));
+    let sought = Some(broken(&decoded.program, &judged, bounds));
     let mut words = Words::of_image(&source.names, &decoded.program);
     words.lets = vec![(BAD.into(), BAD.into())];
     let image = outline::image::read(&bytes).expect("an image");

@@ -1,5 +1,6 @@
 //! Pages and drawings: what is on them, what they keep out, and the status of their commands.
 
+mod claims;
 mod drawings;
 mod hostile;
 mod reader;

@@ -4,7 +4,7 @@ use super::repeated;
 use reference::assemble::Plan;
 use reference::formula::parse::Counts;
 use reference::formula::{Assertion, Interval, Test, Value};
-use reference::image::{Header, Instruction};
+use reference::image::{Access, Header};
 use reference::proof::{around, implies, included, triple, Lemma};
 use sets::examples::deep::chops;
 use sets::generate::harness;
@@ -28,8 +28,8 @@ pub fn image(most: usize) -> Vec<u8> {
 pub fn plan() -> Plan {
     let counts = Counts { threads: 2, words: 8, registers: 4, range: 8 };
     let header = Header::cleared(counts, vec![0; 8], vec![1; 4]);
-    let store = Instruction::Store { word: X, value: value().into(), releasing: true };
-    let swap = Instruction::Swap { word: X, value: value().into() };
+    let store = Access::Store { word: X, value: value().into(), releasing: true }.into();
+    let swap = Access::Swap { word: X, value: value().into() }.into();
     harness::plan(harness::program(header, vec![vec![store, swap], Vec::new()]))
 }
 

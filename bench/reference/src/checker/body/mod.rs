@@ -5,6 +5,7 @@
 //! operands (23); a formula record, after its length, has the first fault from
 //! the left (6 or 7).
 
+mod claim;
 mod formula;
 mod header;
 mod line;
@@ -55,8 +56,9 @@ pub fn decode(records: &[Record]) -> Result<Image, Refusal> {
         each(of_kind(frames::LINE), |number, body| line::read(body, number, &threads, &formulas))?;
     let obligations =
         sole(of_kind(frames::OBLIGATIONS), |body| obligations::read(body, &threads, lines.len()))?;
+    let claims = each(of_kind(frames::CLAIM), |_, body| claim::read(body, &threads, lines.len()))?;
     let program = Program { header, threads, outline };
-    Ok(Image { program, lines, obligations })
+    Ok(Image { program, lines, obligations, claims, records: records.len() })
 }
 
 /// What the records before a thread record have given.

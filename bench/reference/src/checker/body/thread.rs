@@ -4,7 +4,8 @@ use super::{demand, formula_numbered, Context, Read, LENGTH, OPERAND, OWNER, RAN
 use crate::checker::limits;
 use crate::formula::atoms::{Atom, Atoms};
 use crate::formula::{Formula, Test, Value};
-use crate::image::{written, Header, Instruction, Thread};
+use crate::image::written::{self, Half};
+use crate::image::{Access, Header, Instruction, Note, Thread};
 use std::rc::Rc;
 
 /// Reads the record of the thread with this number, counted from 1.
@@ -26,42 +27,63 @@ fn each<A, B>(items: &[A], check: impl Fn(&A) -> Read<B>) -> Read<Vec<B>> {
 }
 
 impl written::Instruction {
-    /// Code 6: every field is in its range, every unused field is 0.
+    /// Code 6: every field is in its range, every unused field is 0, and what stands behind is an assignment,
+    /// behind another assignment one to another register.
     fn check_numbers(&self, points: u8, context: &Context) -> Read<()> {
+        let second = self.second.is_none_or(|half| {
+            let same = self.first.operation == 12 && half.a == self.first.a;
+            half.operation == 0 && half.in_range(points, context) && !same
+        });
+        demand(self.first.in_range(points, context) && second, RANGE)
+    }
+
+    /// Code 8: the formulas have the sorts that the operation wants.
+    fn instruction(&self, formulas: &[Formula]) -> Read<Instruction> {
+        if self.first.operation == 6 {
+            let test = own_test(formula_numbered(formulas, self.first.formula)?)?;
+            return Ok(Instruction::Branch { test, target: self.first.a });
+        }
+        let access = self.first.access(formulas)?;
+        let note = access.is_none().then_some(self.first);
+        let notes = note.into_iter().chain(self.second).map(|half| half.note(formulas));
+        Ok(Instruction::Act { access, notes: notes.collect::<Read<_>>()? })
+    }
+}
+
+impl Half {
+    fn in_range(&self, points: u8, context: &Context) -> bool {
         let counts = context.header.counts;
         let register = |field: u8| (1..=counts.registers).contains(&field);
         let word = |field: u8| (1..=counts.words).contains(&field);
         let formula = formula_numbered(context.formulas, self.formula).is_ok();
-        let in_range = match self.operation {
-            0 => register(self.a) && self.b == 0 && formula,
+        match self.operation {
+            0 | 12 => register(self.a) && self.b == 0 && formula,
             1 | 2 => register(self.a) && word(self.b) && self.formula == 0,
-            3..=5 => word(self.a) && self.b == 0 && formula,
+            3..=5 | 9..=11 => word(self.a) && self.b == 0 && formula,
             6 => self.a < points && self.b == 0 && formula,
             7 | 8 => word(self.a) && register(self.b) && formula,
             _ => false,
-        };
-        demand(in_range, RANGE)
+        }
     }
 
-    /// Code 8: the formula has the sort that the operation wants.
-    fn instruction(&self, formulas: &[Formula]) -> Read<Instruction> {
+    /// The access of a first half that is no branch; none for an assignment.
+    fn access(&self, formulas: &[Formula]) -> Read<Option<Access>> {
         let value = || own_value(formula_numbered(formulas, self.formula)?);
-        let (a, b) = (self.a, self.b);
-        Ok(match self.operation {
-            0 => Instruction::Assign { register: a, value: value()? },
-            1 | 2 => Instruction::Load { register: a, word: b, acquiring: self.operation == 2 },
-            3 | 4 => {
-                Instruction::Store { word: a, value: value()?, releasing: self.operation == 4 }
-            }
-            5 => Instruction::Swap { word: a, value: value()? },
-            6 => {
-                let test = own_test(formula_numbered(formulas, self.formula)?)?;
-                Instruction::Branch { test, target: a }
-            }
-            7 => Instruction::Exchange { register: b, word: a, value: value()? },
-            8 => Instruction::FetchAdd { register: b, word: a, value: value()? },
-            _ => return Err(RANGE),
-        })
+        let (operation, a, b) = (self.operation, self.a, self.b);
+        Ok(Some(match operation {
+            1 | 2 => Access::Load { register: a, word: b, acquiring: operation == 2 },
+            3 | 9 => Access::Store { word: a, value: value()?, releasing: false },
+            4 | 10 => Access::Store { word: a, value: value()?, releasing: true },
+            5 | 11 => Access::Swap { word: a, value: value()? },
+            7 => Access::Exchange { register: b, word: a, value: value()? },
+            8 => Access::FetchAdd { register: b, word: a, value: value()? },
+            _ => return Ok(None),
+        }))
+    }
+
+    /// An assignment.
+    fn note(&self, formulas: &[Formula]) -> Read<Note> {
+        Ok(Note::new(self.a, own_value(formula_numbered(formulas, self.formula)?)?))
     }
 }
 
@@ -89,17 +111,17 @@ fn asks_registers_only(tree: &impl Atoms) -> bool {
 fn check_owner(instruction: &Instruction, thread: usize, header: &Header) -> Read<()> {
     let foreign = |register: u8| usize::from(header.owners[usize::from(register) - 1]) != thread;
     let foreign_atom = |atom: Atom| matches!(atom, Atom::Register(register) if foreign(register));
-    let result = instruction.result().is_some_and(foreign);
-    let operand = instruction.operand().is_some_and(|formula| formula.has_atom(foreign_atom));
-    demand(!result && !operand, OWNER)
+    let set = instruction.registers_set().into_iter().any(foreign);
+    let operand = instruction.operands().iter().any(|formula| formula.has_atom(foreign_atom));
+    demand(!set && !operand, OWNER)
 }
 
 /// Code 23: the operand of exchange and fetch-add does not name the register that gets the old value.
 fn check_operand(instruction: &Instruction) -> Read<()> {
-    let named = match instruction {
-        Instruction::Exchange { register, value, .. }
-        | Instruction::FetchAdd { register, value, .. } => value.has_register(*register),
-        _ => false,
-    };
+    let named =
+        instruction.access().is_some_and(|access| match (access.operand(), access.result()) {
+            (Some(value), Some(register)) => value.has_register(register),
+            _ => false,
+        });
     demand(!named, OPERAND)
 }

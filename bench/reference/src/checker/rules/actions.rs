@@ -1,7 +1,7 @@
-//! The operands of the instruction, by the operations that a rule allows.
+//! The operands of the instruction, by the operations that a rule allows. A pair answers as its access alone.
 
 use crate::formula::{Interval, Value};
-use crate::image::Instruction;
+use crate::image::{Access, Instruction, Note};
 use std::rc::Rc;
 
 /// A write to a word: the word has this value afterwards.
@@ -28,27 +28,25 @@ pub struct Load {
 }
 
 impl Instruction {
-    pub fn assignment(&self) -> Option<(u8, &Rc<Value>)> {
+    /// The assignments of an instruction without an access.
+    pub fn assignments(&self) -> Option<&[Note]> {
         match self {
-            Instruction::Assign { register, value } => Some((*register, value)),
+            Instruction::Act { access: None, notes } => Some(notes),
             _ => None,
         }
     }
 
     pub fn load(&self) -> Option<Load> {
-        match self {
-            Instruction::Load { register, word, .. } => {
-                Some(Load { register: *register, word: *word })
-            }
+        match self.access()? {
+            Access::Load { register, word, .. } => Some(Load { register: *register, word: *word }),
             _ => None,
         }
     }
 
     /// What exchange and fetch-add read.
     pub fn fetched(&self) -> Option<Load> {
-        match self {
-            Instruction::Exchange { register, word, .. }
-            | Instruction::FetchAdd { register, word, .. } => {
+        match self.access()? {
+            Access::Exchange { register, word, .. } | Access::FetchAdd { register, word, .. } => {
                 Some(Load { register: *register, word: *word })
             }
             _ => None,
@@ -57,9 +55,9 @@ impl Instruction {
 
     /// What exchange and fetch-add write: f, and register + f.
     pub fn fetching(&self) -> Option<Write> {
-        match self {
-            Instruction::Exchange { word, value, .. } => Some(Write::new(*word, value)),
-            Instruction::FetchAdd { register, word, value } => {
+        match self.access()? {
+            Access::Exchange { word, value, .. } => Some(Write::new(*word, value)),
+            Access::FetchAdd { register, word, value } => {
                 let sum = Value::sum(Value::Register(*register), value.clone());
                 Some(Write { word: *word, value: sum.into() })
             }
@@ -68,22 +66,22 @@ impl Instruction {
     }
 
     pub fn store(&self) -> Option<Write> {
-        match self {
-            Instruction::Store { word, value, .. } => Some(Write::new(*word, value)),
+        match self.access()? {
+            Access::Store { word, value, .. } => Some(Write::new(*word, value)),
             _ => None,
         }
     }
 
     pub fn releasing_store(&self) -> Option<Write> {
-        match self {
-            Instruction::Store { releasing: true, .. } => self.store(),
+        match self.access()? {
+            Access::Store { releasing: true, .. } => self.store(),
             _ => None,
         }
     }
 
     pub fn swap(&self) -> Option<Write> {
-        match self {
-            Instruction::Swap { word, value } => Some(Write::new(*word, value)),
+        match self.access()? {
+            Access::Swap { word, value } => Some(Write::new(*word, value)),
             _ => None,
         }
     }
@@ -104,8 +102,8 @@ impl Instruction {
 
     /// The word of an acquiring load or of an operation that covers: those that join views.
     pub fn joined_word(&self) -> Option<u8> {
-        match self {
-            Instruction::Load { word, acquiring: true, .. } => Some(*word),
+        match self.access()? {
+            Access::Load { word, acquiring: true, .. } => Some(*word),
             _ => self.covered_word(),
         }
     }

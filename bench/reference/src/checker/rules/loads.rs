@@ -5,12 +5,11 @@ use super::triples::{Sides, Triple};
 use super::Fit;
 use crate::formula::replace::{Replace, Replacement};
 use crate::formula::{Assertion, Interval, Test, Value};
-use std::rc::Rc;
 
 /// [e with r replaced by x]: the word has what the register is to have.
 pub fn before_load(e: &Test, load: &Load) -> Interval {
-    let word = Rc::new(Value::Word(load.word));
-    Interval::All(e.replace(&Replacement { leaf: Value::Register(load.register), by: &word }))
+    let word = Value::Word(load.word).into();
+    Interval::All(e.replace(&[Replacement { leaf: Value::Register(load.register), by: word }]))
 }
 
 /// 3 load: t sees [e with r replaced by x] to holds e.

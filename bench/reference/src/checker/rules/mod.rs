@@ -4,6 +4,7 @@ mod actions;
 mod implications;
 mod inclusions;
 mod loads;
+mod pairs;
 mod parts;
 pub mod rows;
 mod stores;
@@ -15,11 +16,13 @@ pub mod triples;
 use crate::image::{Image, Line, Program, Statement};
 pub use actions::{Load, Write};
 pub use loads::before_load;
-pub use structure::keeps;
+pub use structure::{before_notes, keeps};
 pub use swaps::covered_till_last;
 
 /// The most premises of a line.
 pub const MOST_PREMISES: usize = 4;
+/// The rule whose lines speak of whole pairs; all others speak of a pair's first half.
+pub const OF_PAIR: u8 = 50;
 
 /// What kind of statement a rule concludes.
 #[derive(Clone, Copy, Debug, PartialEq, Eq)]
@@ -33,7 +36,7 @@ impl Form {
     /// The form of a rule's lines; none for a rule that is not listed.
     pub fn of_rule(rule: u8) -> Option<Form> {
         match rule {
-            1..=16 | 47..=49 => Some(Form::Triple),
+            1..=16 | 47..=OF_PAIR => Some(Form::Triple),
             20..=27 => Some(Form::Implication),
             30..=46 => Some(Form::Inclusion),
             _ => None,
@@ -60,14 +63,16 @@ pub fn justified_lines(image: &Image) -> Vec<bool> {
     justified
 }
 
-/// Whether the line follows from what its premises say, by its rule.
+/// Whether the line follows from what its premises say, by its rule. What is said of a whole pair serves no line.
 pub fn fits(image: &Image, line: &Line) -> bool {
-    let said = |&number: &u16| &image.lines[usize::from(number) - 1].statement;
-    let premises: Vec<&Statement> = line.premises.iter().map(said).collect();
-    follows(&image.program, line.rule, &line.statement, &premises)
+    let named = |&number: &u16| &image.lines[usize::from(number) - 1];
+    let premises: Vec<&Line> = line.premises.iter().map(named).collect();
+    let said: Vec<&Statement> = premises.iter().map(|premise| &premise.statement).collect();
+    premises.iter().all(|premise| premise.rule != OF_PAIR)
+        && follows(&image.program, line.rule, &line.statement, &said)
 }
 
-/// Whether the statement follows from the premises by the rule, in this program.
+/// Whether the statement follows by the rule, in this program, from premises of which none is by rule 50.
 pub fn follows(
     program: &Program,
     rule: u8,

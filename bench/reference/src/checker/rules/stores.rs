@@ -44,7 +44,8 @@ pub fn rule_9(c: &Triple) -> Fit {
     let write = c.action.store_or_swap()?;
     let (u, interval) = c.right.as_sees()?;
     let e = interval.as_all()?;
-    let after = e.replace(&Replacement { leaf: Value::Word(write.word), by: &write.value });
+    let after =
+        e.replace(&[Replacement { leaf: Value::Word(write.word), by: write.value.clone() }]);
     let left = Assertion::both(
         Assertion::sees(u, Interval::all(e.clone())),
         Assertion::sees(u, Interval::All(after)),

@@ -6,7 +6,8 @@ use super::Fit;
 use crate::formula::atoms::Atoms;
 use crate::formula::replace::{Replace, Replacement};
 use crate::formula::{Assertion, Value};
-use crate::image::{Instruction, Statement};
+use crate::image::{Instruction, Note, Statement};
+use std::rc::Rc;
 
 /// 1 load, store, swap, exchange, fetch-add: P kept (r absent; written x absent in any role).
 pub fn rule_1(c: &Triple) -> Fit {
@@ -21,11 +22,16 @@ pub fn keeps(action: &Instruction, kept: &impl Atoms) -> Fit {
     Some(!set && !written)
 }
 
-/// 2 assignment: left is right with r replaced by f.
+/// 2 assignments: left is right with each r replaced by its f, all at once.
 pub fn rule_2(c: &Triple) -> Fit {
-    let (register, value) = c.action.assignment()?;
-    let replacement = Replacement { leaf: Value::Register(register), by: value };
-    Some(*c.left == c.right.replace(&replacement))
+    Some(*c.left == before_notes(c.right, c.action.assignments()?))
+}
+
+/// What must be true before the notes are taken for this to be true after them.
+pub fn before_notes(after: &Assertion, notes: &[Note]) -> Rc<Assertion> {
+    let replaced =
+        |note: &Note| Replacement { leaf: Value::Register(note.register), by: note.value.clone() };
+    after.replace(&notes.iter().map(replaced).collect::<Vec<_>>())
 }
 
 /// 14 two triples joined by both.

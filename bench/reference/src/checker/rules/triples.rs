@@ -1,6 +1,6 @@
-//! Rules 1 to 16 and 47 to 49: what an instruction does.
+//! Rules 1 to 16 and 47 to 50: what an instruction does.
 
-use super::{loads, stores, structure, swaps, Fit};
+use super::{loads, pairs, stores, structure, swaps, Fit};
 use crate::formula::Assertion;
 use crate::image::{Instruction, Statement};
 use std::rc::Rc;
@@ -58,6 +58,7 @@ pub fn fits(rule: u8, c: &Triple, premises: &[&Statement]) -> Fit {
         (47, []) => loads::rule_47(c),
         (48, []) => swaps::rule_48(c),
         (49, []) => swaps::rule_49(c),
+        (50, [p]) => pairs::rule_50(c, c.premise(p)?),
         _ => None,
     }
 }

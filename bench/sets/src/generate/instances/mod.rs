@@ -2,6 +2,7 @@
 
 mod implications;
 mod inclusions;
+mod pairs;
 mod tests_by_rows;
 mod triples;
 
@@ -14,7 +15,7 @@ use reference::proof::Lemma;
 use std::rc::Rc;
 
 /// The operations that triples are about: all but branches.
-pub const ACTIONS: [u8; 8] = [0, 1, 2, 3, 4, 5, 7, 8];
+pub const ACTIONS: [u8; 12] = [0, 1, 2, 3, 4, 5, 7, 8, 9, 10, 11, 12];
 
 /// What an instance is made from.
 pub struct Setting<'a> {
@@ -46,17 +47,18 @@ impl Setting<'_> {
 /// The operations for which a rule has instances.
 pub fn operations(rule: u8) -> &'static [u8] {
     match rule {
-        1 => &[1, 2, 3, 4, 5, 7, 8],
-        2 => &[0],
+        1 => &[1, 2, 3, 4, 5, 7, 8, 9, 10, 11],
+        2 => &[0, 12],
         3 | 4 => &[1, 2],
-        5 => &[2, 5, 7, 8],
-        6 | 7 => &[3, 4],
-        8 => &[4],
-        9 => &[3, 4, 5],
-        10 => &[3, 4, 5, 7, 8],
-        11 | 12 => &[5],
-        13 => &[5, 7, 8],
+        5 => &[2, 5, 7, 8, 11],
+        6 | 7 => &[3, 4, 9, 10],
+        8 => &[4, 10],
+        9 => &[3, 4, 5, 9, 10, 11],
+        10 => &[3, 4, 5, 7, 8, 9, 10, 11],
+        11 | 12 => &[5, 11],
+        13 => &[5, 7, 8, 11],
         47..=49 => &[7, 8],
+        50 => &[9, 10, 11],
         _ => &ACTIONS,
     }
 }

@@ -1,10 +1,11 @@
-//! Instances of rules 1 to 16 and 47 to 49.
+//! Instances of rules 1 to 16 and 47 to 50.
 
-use super::Setting;
+use super::{pairs, Setting};
 use crate::generate::vocabulary::Vocabulary;
+use reference::checker::rules::before_notes;
 use reference::formula::replace::{Replace, Replacement};
 use reference::formula::{Assertion, Interval, Test, Value};
-use reference::image::Instruction;
+use reference::image::Access;
 use reference::proof::{around, choice, implies, pair, triple, Lemma};
 use std::rc::Rc;
 
@@ -37,20 +38,20 @@ pub fn instance(s: &mut Setting, rule: u8) -> Lemma {
             let (p, q) = (any(s), any(s));
             choice(&p, &q)
         }
-        _ => consequence(s),
+        16 => consequence(s),
+        _ => pairs::whole(s),
     }
 }
 
-/// Any instance without premises that fits the instruction.
-fn any(s: &mut Setting) -> Lemma {
-    let rules: &[u8] = match s.action {
-        Instruction::Assign { .. } => &[2],
-        Instruction::Load { .. } => &[1, 3],
-        Instruction::Store { releasing: false, .. } => &[1, 6, 7, 9],
-        Instruction::Store { releasing: true, .. } => &[1, 6, 7, 8, 9],
-        Instruction::Swap { .. } => &[1, 9, 11, 12, 13],
-        Instruction::Exchange { .. } | Instruction::FetchAdd { .. } => &[1, 13, 47, 48, 49],
-        Instruction::Branch { .. } => panic!("no triple is about a branch"),
+/// Any instance without premises that fits the instruction, a pair's for its first half.
+pub(super) fn any(s: &mut Setting) -> Lemma {
+    let rules: &[u8] = match s.action.access() {
+        None => &[2],
+        Some(Access::Load { .. }) => &[1, 3],
+        Some(Access::Store { releasing: false, .. }) => &[1, 6, 7, 9],
+        Some(Access::Store { releasing: true, .. }) => &[1, 6, 7, 8, 9],
+        Some(Access::Swap { .. }) => &[1, 9, 11, 12, 13],
+        Some(Access::Exchange { .. } | Access::FetchAdd { .. }) => &[1, 13, 47, 48, 49],
     };
     let rule = *s.random.pick(rules);
     instance(s, rule)
@@ -68,10 +69,10 @@ impl Setting<'_> {
     }
 
     /// The names that rule 1 lets stand.
-    fn untouched(&self) -> Vocabulary {
+    pub(super) fn untouched(&self) -> Vocabulary {
         let names = self.vocabulary().without_register(self.register());
-        match self.action {
-            Instruction::Load { .. } => names,
+        match self.action.access() {
+            Some(Access::Load { .. }) => names,
             _ => names.without_word(self.word()),
         }
     }
@@ -83,11 +84,13 @@ impl Setting<'_> {
 
     /// What the word equals after the instruction, which writes.
     fn written(&self) -> Rc<Value> {
-        match self.action {
-            Instruction::Store { value, .. }
-            | Instruction::Swap { value, .. }
-            | Instruction::Exchange { value, .. } => value.clone(),
-            Instruction::FetchAdd { register, value, .. } => {
+        match self.action.access() {
+            Some(
+                Access::Store { value, .. }
+                | Access::Swap { value, .. }
+                | Access::Exchange { value, .. },
+            ) => value.clone(),
+            Some(Access::FetchAdd { register, value, .. }) => {
                 Value::sum(Value::Register(*register), value.clone()).into()
             }
             _ => Rc::new(Value::Constant(0)),
@@ -111,19 +114,17 @@ impl Setting<'_> {
 }
 
 fn assignment(s: &mut Setting) -> Lemma {
-    let Instruction::Assign { register, value } = s.action else {
-        panic!("rule 2 is about assignments");
-    };
+    let notes = s.action.assignments().expect("rule 2 is about assignments");
     let right = s.assertion();
-    let left = right.replace(&Replacement { leaf: Value::Register(*register), by: value });
+    let left = before_notes(&right, notes);
     triple(2, s.place, left, right, &[])
 }
 
 /// [e with r replaced by x] and e.
 fn loaded(s: &mut Setting) -> (Interval, Rc<Test>) {
     let e = s.vocabulary().registers_only().test(s.random, 1);
-    let word = Rc::new(Value::Word(s.word()));
-    let before = e.replace(&Replacement { leaf: Value::Register(s.register()), by: &word });
+    let word = Value::Word(s.word()).into();
+    let before = e.replace(&[Replacement { leaf: Value::Register(s.register()), by: word }]);
     (Interval::All(before), e)
 }
 
@@ -134,15 +135,15 @@ fn tail(s: &mut Setting) -> Lemma {
     if s.random.chance(50) {
         return kept;
     }
-    match s.action {
-        Instruction::Load { .. } => instance(s, 3),
-        Instruction::Store { .. } => instance(s, 6),
-        Instruction::Swap { .. } => instance(s, 11),
-        Instruction::Exchange { .. } | Instruction::FetchAdd { .. } => {
+    match s.action.access() {
+        Some(Access::Load { .. }) => instance(s, 3),
+        Some(Access::Store { .. }) => instance(s, 6),
+        Some(Access::Swap { .. }) => instance(s, 11),
+        Some(Access::Exchange { .. } | Access::FetchAdd { .. }) => {
             let rule = *s.random.pick(&[47, 48]);
             instance(s, rule)
         }
-        _ => kept,
+        None => kept,
     }
 }
 
@@ -188,7 +189,7 @@ fn released(s: &mut Setting) -> Lemma {
 fn stable_test(s: &mut Setting) -> Lemma {
     let u = s.thread();
     let e = s.vocabulary().without_flags_of(s.word()).test(s.random, 2);
-    let after = e.replace(&Replacement { leaf: Value::Word(s.word()), by: &s.written() });
+    let after = e.replace(&[Replacement { leaf: Value::Word(s.word()), by: s.written() }]);
     let right = Assertion::sees(u, Interval::All(e));
     let left = Assertion::both(right.clone(), Assertion::sees(u, Interval::All(after)));
     triple(9, s.place, left, right, &[])

@@ -10,7 +10,7 @@ use reference::checker::obligations::duties;
 use reference::formula::parse::Counts;
 use reference::formula::{Test, Value};
 use reference::image::written::{image_bytes, Record};
-use reference::image::{Header, Instruction, Thread};
+use reference::image::{Access, Header, Instruction, Thread};
 use std::rc::Rc;
 
 pub fn cases() -> Vec<Case> {
@@ -19,7 +19,7 @@ pub fn cases() -> Vec<Case> {
 
 /// Stores, and at some point a branch to the last point.
 fn thread(branch: Option<u8>) -> Thread {
-    let store = Instruction::Store { word: 1, value: Value::Constant(1).into(), releasing: true };
+    let store = Access::Store { word: 1, value: Value::Constant(1).into(), releasing: true }.into();
     let mut code = vec![store; usize::from(POINTS) - 1];
     if let Some(point) = branch {
         let test = Rc::new(Test::equal(Value::Constant(0), Value::Constant(1)));

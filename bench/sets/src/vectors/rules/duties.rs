@@ -10,7 +10,7 @@ use reference::checker::obligations::duties;
 use reference::formula::encode::Encode;
 use reference::formula::parse::parse;
 use reference::formula::{Assertion, Interval, Test, Value};
-use reference::image::{Instruction, Statement, Thread};
+use reference::image::{Access, Instruction, Note, Statement, Thread};
 use reference::proof::{Lemma, Proof};
 use std::rc::Rc;
 
@@ -75,17 +75,19 @@ fn restated(proof: &Lemma, on_left: bool, on_right: bool) -> Lemma {
     Rc::new(new)
 }
 
-/// Message passing with another instruction at each point but the branch.
+/// Message passing with another instruction at each point but the branch. Registers 3 and 4 are thread 1's.
 fn changed_program() -> Vec<Case> {
     let mut cases = Vec::new();
-    for (thread, point, register) in [(0, 0, 3), (0, 1, 3), (1, 0, 1), (1, 2, 2)] {
+    for (thread, point, registers) in
+        [(0, 0, [3, 4]), (0, 1, [3, 4]), (1, 0, [1, 2]), (1, 2, [2, 1])]
+    {
         for operation in ACTIONS {
             for word in [1, 2] {
                 let mut plan = message_passing();
-                plan.program.header.counts.registers = 3;
-                plan.program.header.owners.push(1);
-                plan.program.header.marks.push(1);
-                plan.program.threads[thread][point] = constant_action(operation, register, word);
+                plan.program.header.counts.registers = 4;
+                plan.program.header.owners.extend([1, 1]);
+                plan.program.header.marks.extend([1, 1]);
+                plan.program.threads[thread][point] = constant_action(operation, registers, word);
                 let place = format!("thread {} point {point}", thread + 1);
                 let what = format!("operation {operation}, word {word}, at {place}");
                 cases.push(Case::new(format!("message passing with {what}"), plan.bytes()));
@@ -95,17 +97,28 @@ fn changed_program() -> Vec<Case> {
     cases
 }
 
-/// An instruction that reads no register.
-fn constant_action(operation: u8, register: u8, word: u8) -> Instruction {
+/// An instruction that reads no register; the first one is a result, the second one is noted.
+fn constant_action(operation: u8, [register, noted]: [u8; 2], word: u8) -> Instruction {
     let value = Rc::new(Value::Constant(5));
+    let note = Note::new(noted, Value::Constant(2));
     match operation {
-        0 => Instruction::Assign { register, value },
-        1 | 2 => Instruction::Load { register, word, acquiring: operation == 2 },
-        3 | 4 => Instruction::Store { word, value, releasing: operation == 4 },
-        5 => Instruction::Swap { word, value },
-        7 => Instruction::Exchange { register, word, value },
-        _ => Instruction::FetchAdd { register, word, value },
+        0 => Instruction::assign(register, value),
+        1 | 2 => Access::Load { register, word, acquiring: operation == 2 }.into(),
+        3 | 4 => Access::Store { word, value, releasing: operation == 4 }.into(),
+        5 => Access::Swap { word, value }.into(),
+        7 => Access::Exchange { register, word, value }.into(),
+        8 => Access::FetchAdd { register, word, value }.into(),
+        9 | 10 => {
+            Instruction::pair(Access::Store { word, value, releasing: operation == 10 }, note)
+        }
+        11 => Instruction::pair(Access::Swap { word, value }, note),
+        _ => Instruction::trade(Note::new(register, value), note),
     }
+}
+
+/// A releasing store.
+fn store(word: u8) -> Instruction {
+    constant_action(4, [4, 3], word)
 }
 
 /// Lines on which no obligation rests may be unjustified.
@@ -181,7 +194,7 @@ fn second_point(what: &str, assertion: Assertion, with_branch: bool) -> Case {
     let test = Rc::new(Test::equal(Value::Register(1), Value::Constant(0)));
     let mut code = vec![action(3)];
     code.extend(with_branch.then_some(Instruction::Branch { test, target: 0 }));
-    let threads = vec![code, vec![constant_action(4, 4, 2)]];
+    let threads = vec![code, vec![store(2)]];
     let mut program = harness::program(super::frame::header(), threads);
     program.outline[0][1] = assertion.into();
     let counts = program.header.counts;
@@ -204,11 +217,10 @@ fn three_threads() -> Vec<Case> {
     };
     let one_action = vec![
         vec![action(3), branch.clone()],
-        vec![branch, constant_action(4, 4, 1)],
-        vec![constant_action(5, 4, 1)],
+        vec![branch, store(1)],
+        vec![constant_action(5, [4, 3], 1)],
     ];
-    let store = || constant_action(4, 4, 1);
-    let two_actions = vec![vec![action(3), store()], vec![store(), store()], vec![store()]];
+    let two_actions = vec![vec![action(3), store(1)], vec![store(1), store(1)], vec![store(1)]];
     let mut cases = each_missing("three threads", one_action);
     cases.extend(each_missing("three threads, two actions", two_actions));
     cases

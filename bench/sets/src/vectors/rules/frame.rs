@@ -11,7 +11,7 @@ use reference::checker::check;
 use reference::checker::rules::Form;
 use reference::formula::parse::Counts;
 use reference::formula::Value;
-use reference::image::{Header, Instruction, Statement, Thread};
+use reference::image::{Access, Header, Instruction, Note, Statement, Thread};
 use reference::proof::Lemma;
 use std::rc::Rc;
 
@@ -28,16 +28,27 @@ pub fn value() -> Rc<Value> {
     Rc::new(Value::sum(Value::Register(2), Value::Constant(1)))
 }
 
+/// The second half of the instruction under test: r2 := r1.
+pub fn note() -> Note {
+    Note::new(2, Value::Register(1))
+}
+
 /// The instruction under test, by operation: register 1, word 1, value r2 + 1.
 pub fn action(operation: u8) -> Instruction {
     let value = value();
     match operation {
-        0 => Instruction::Assign { register: 1, value },
-        1 | 2 => Instruction::Load { register: 1, word: 1, acquiring: operation == 2 },
-        3 | 4 => Instruction::Store { word: 1, value, releasing: operation == 4 },
-        5 => Instruction::Swap { word: 1, value },
-        7 => Instruction::Exchange { register: 1, word: 1, value },
-        _ => Instruction::FetchAdd { register: 1, word: 1, value },
+        0 => Instruction::assign(1, value),
+        1 | 2 => Access::Load { register: 1, word: 1, acquiring: operation == 2 }.into(),
+        3 | 4 => Access::Store { word: 1, value, releasing: operation == 4 }.into(),
+        5 => Access::Swap { word: 1, value }.into(),
+        7 => Access::Exchange { register: 1, word: 1, value }.into(),
+        8 => Access::FetchAdd { register: 1, word: 1, value }.into(),
+        9 | 10 => {
+            let store = Access::Store { word: 1, value, releasing: operation == 10 };
+            Instruction::pair(store, note())
+        }
+        11 => Instruction::pair(Access::Swap { word: 1, value }, note()),
+        _ => Instruction::trade(Note::new(1, value), note()),
     }
 }
 
