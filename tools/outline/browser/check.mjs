@@ -3,15 +3,14 @@
 // Each page, at two widths and in both colour schemes: nothing overflows, tables and drawing are there, nothing is
 // loaded, letters keep to the drawing's boxes, keyboard and links work, and it prints. The status is 0 if all is so.
 
-import { execFileSync } from "node:child_process";
 import { mkdirSync, mkdtempSync, rmSync, writeFileSync } from "node:fs";
 import { tmpdir } from "node:os";
-import { dirname, join } from "node:path";
-import { fileURLToPath, pathToFileURL } from "node:url";
+import { join } from "node:path";
+import { pathToFileURL } from "node:url";
 import { Chromium } from "./chromium.mjs";
+import { program, report } from "./pages.mjs";
 import * as inPage from "./questions.mjs";
 
-const root = join(dirname(fileURLToPath(import.meta.url)), "../../..");
 const PAGES = [
   { name: "message-passing", accepted: true },
   { name: "peterson-entry", accepted: true },
@@ -25,24 +24,13 @@ const WINDOWS = [
 ];
 
 function options() {
-  const found = { outline: join(root, "target/rust/release/outline"), chromium: "chromium", pictures: null };
+  const found = { outline: program, chromium: "chromium", pictures: null };
   for (let at = 2; at < process.argv.length; at += 2) {
     const name = process.argv[at].replace(/^--/, "");
     if (!(name in found) || at + 1 >= process.argv.length) throw new Error(`what is ${process.argv[at]}?`);
     found[name] = process.argv[at + 1];
   }
   return found;
-}
-
-/** Writes a page; a refusal has status 1. */
-function report(outline, name, target) {
-  try {
-    execFileSync(outline, ["report", join(root, `examples/${name}.outline`), "-o", target], { stdio: "pipe" });
-    return true;
-  } catch (error) {
-    if (error.status !== 1) throw error;
-    return false;
-  }
 }
 
 let failures = 0;

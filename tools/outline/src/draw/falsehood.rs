@@ -2,7 +2,7 @@
 
 use crate::text::print::Names;
 use reference::explore::truth::{is_true, reach, violation};
-use reference::formula::{Assertion, Interval};
+use reference::formula::{Assertion, Formula, Interval};
 use reference::image::Header;
 use reference::machine::{State, View};
 
@@ -27,11 +27,23 @@ pub fn faults(names: &Names, header: &Header, state: &State, a: &Assertion) -> V
         Assertion::Sees(thread, interval) => {
             let chain = violation(state, *thread, interval).expect("it is false");
             let prospect = Some((*thread, shortest(state, interval, chain)));
-            vec![Fault { text: names.assertion(a), prospect }]
+            vec![Fault { text: told(names, a), prospect }]
         }
         Assertion::Start | Assertion::Holds(_) => {
-            vec![Fault { text: names.assertion(a), prospect: None }]
+            vec![Fault { text: told(names, a), prospect: None }]
         }
+    }
+}
+
+/// An assertion in words; of one that `let` names, what it stands for as well.
+fn told(names: &Names, a: &Assertion) -> String {
+    let is_other =
+        |(formula, _): &(Formula, String)| !matches!(formula, Formula::Assertion(b) if **b == *a);
+    let mut written = names.clone();
+    written.shorts.retain(is_other);
+    match written.shorts.len() == names.shorts.len() {
+        true => names.assertion(a),
+        false => format!("{}, that is {}", names.assertion(a), written.assertion(a)),
     }
 }
 
@@ -61,7 +73,8 @@ mod tests {
     #[test]
     fn false_parts_have_the_least_prospect() {
         let text = "word x = 0 word y = 0
-thread t registers r { true } x := 1 { true } x := 2 { true } y := 1 { r = 1 or u sees [x = 0] ; [x = 2] and true }
+let Jump = u sees [x = 0] ; [x = 2]
+thread t registers r { true } x := 1 { true } x := 2 { true } y := 1 { r = 1 or Jump and true }
 thread u { true }";
         let source = parse(text).expect("a source");
         let program = source.program();
@@ -71,7 +84,7 @@ thread u { true }";
         }
         let found = faults(&source.names, &program.header, &state, program.assertion(1, 3));
         let texts: Vec<&str> = found.iter().map(|f| f.text.as_str()).collect();
-        assert_eq!(texts, ["r = 1", "u sees [x = 0] ; [x = 2]"]);
+        assert_eq!(texts, ["r = 1", "Jump, that is u sees [x = 0] ; [x = 2]"]);
         assert!(found[0].prospect.is_none());
         let (thread, views) = found[1].prospect.clone().expect("a prospect");
         assert_eq!((thread, views.len(), views[0].at(1)), (2, 1, 1), "x = 1 alone violates it");

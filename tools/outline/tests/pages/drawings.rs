@@ -19,9 +19,10 @@ fn steps_reads_and_acquires_are_drawn() {
     assert_eq!((count(&all, "run-reads"), count(&all, "run-syncs")), (2, 2));
     assert_eq!(count(&all, "run-broken"), 1);
     assert_eq!(count(&all, "run-rel"), 2, "flag1's write, before and after the step");
-    for text in ["a &lt;-acq flag1", "reads 1", "goes to point 2", "Not so: Onward"] {
+    for text in ["a &lt;-acq flag1", "reads 1", "goes to point 2"] {
         assert!(svg.contains(&format!(">{text}</text>")), "{text}");
     }
+    assert!(svg.contains(">Not so: Onward, that is third sees one flag2 = 0 ; "));
     let may = "third may come to see: (data = 0, flag1 = 1, flag2 = 1)";
     assert!(svg.contains(may), "{svg}");
 }
