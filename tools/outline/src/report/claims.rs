@@ -1,7 +1,7 @@
 //! The claims of an image, in one sentence each.
 
-use super::obligations::{answer, Trees};
-use super::parts::{self, note, point};
+use super::parts::{self, answer, note, point};
+use super::trees::Trees;
 use super::Content;
 use crate::judged::{Goal, Judged};
 use crate::markup::{el, of, Element};

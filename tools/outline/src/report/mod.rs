@@ -3,12 +3,14 @@
 //! The page stands alone: no script, nothing from the network. A file's words reach it through `markup` only.
 
 mod claims;
+mod goals;
 mod obligations;
 mod parts;
 mod program;
 mod refusal;
 pub mod rules;
 pub mod sha256;
+mod trees;
 mod trust;
 mod verdict;
 pub mod words;

@@ -58,6 +58,17 @@ fn let_link(words: &Words, number: usize) -> Element {
     link.with("title", formula).text(name)
 }
 
+/// What a code says of an obligation or a claim, and its class on the page.
+pub fn answer(code: u16) -> (&'static str, &'static str) {
+    match code {
+        0 => ("answer met", "met"),
+        20 => ("answer open", "no line"),
+        21 => ("answer open", "other line"),
+        22 => ("answer open", "unjustified"),
+        _ => ("answer open", "not shown"),
+    }
+}
+
 /// Numbers with a comma at each thousand.
 pub fn grouped(number: usize) -> String {
     let digits = number.to_string();

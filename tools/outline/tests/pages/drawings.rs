@@ -22,7 +22,7 @@ fn steps_reads_and_acquires_are_drawn() {
     for text in ["a &lt;-acq flag1", "reads 1", "goes to point 2"] {
         assert!(svg.contains(&format!(">{text}</text>")), "{text}");
     }
-    assert!(svg.contains(">Not so: Onward, that is third sees one flag2 = 0 ; "));
+    assert!(svg.contains(">Not so: Onward, that is third sees [flag2 = 0] ; [unsync flag2] ;"));
     let may = "third may come to see: (data = 0, flag1 = 1, flag2 = 1)";
     assert!(svg.contains(may), "{svg}");
 }
