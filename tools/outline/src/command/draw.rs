@@ -19,7 +19,7 @@ pub fn run(args: &[&str]) -> Done {
     };
     let loaded = Loaded::of(file)?;
     let to_break = options.outcome.is_none().then(|| bounds(&options));
-    let content = loaded.content(&judge(&loaded.bytes), to_break)?;
+    let content = loaded.content(&judge(loaded.bytes()), to_break)?;
     let content = content.ok_or_else(|| format!("{}: no program to run", called(file)))?;
     let drawn = match &options.outcome {
         Some(outcome) => with_outcome(&options, &content, outcome)?,

@@ -1,19 +1,15 @@
 //! `report`: a page about an outline or an image.
 
-use crate::command::input::{called, mistake, mistakes, read, Input};
+use crate::command::input::{called, read, Input, Subject};
 use crate::command::judge::{judge, JUDGE};
 use crate::command::options::Options;
 use crate::command::{json, print, words, write, Done, Status};
 use crate::gallery::Header;
-use crate::image::{self, to_bytes};
+use crate::image;
 use crate::judged::{broken, judged, Goal, Judged, BOUNDS};
 use crate::report::sha256::digest;
 use crate::report::words::Words;
-use crate::report::{page, Content, Subject};
-use crate::text::parse_source::parse_all;
-use crate::text::print::Names;
-use crate::text::source::Source;
-use crate::{build::build, build::Built};
+use crate::report::{self, Content};
 use reference::checker::{decode, Verdict};
 use reference::explore::Bounds;
 use std::path::Path;
@@ -25,17 +21,17 @@ pub fn run(args: &[&str]) -> Done {
         return Err("`-o FILE` is wanted; see outline --help".into());
     };
     let loaded = Loaded::of(file)?;
-    let verdict = judge(&loaded.bytes);
+    let verdict = judge(loaded.bytes());
     let content = loaded.content(&verdict, Some(bounds(&options)))?;
-    let subject = Subject {
+    let about = report::Subject {
         file: &base_name(file),
         about: loaded.about(),
-        bytes: &loaded.bytes,
+        bytes: loaded.bytes(),
         verdict,
         judge: JUDGE,
         content,
     };
-    write(target, page(&subject).as_bytes())?;
+    write(target, report::page(&about).as_bytes())?;
     tell(&options, target, &loaded, &verdict)?;
     Ok(if verdict.code == 0 { Status::Accepted } else { Status::Refused })
 }
@@ -51,14 +47,14 @@ pub fn bounds(options: &Options) -> Bounds {
 
 /// What was written goes to standard output, unless the page goes there.
 fn tell(options: &Options, target: &str, loaded: &Loaded, verdict: &Verdict) -> Result<(), String> {
-    let said = words::verdict(verdict, loaded.source());
+    let said = words::verdict(verdict, loaded.subject.source());
     let line = if options.json {
         let all = [
             ("written", json::text(target)),
             ("accepted", (verdict.code == 0).to_string()),
             ("fields", json::fields(verdict)),
             ("words", json::text(&said)),
-            ("digest", json::text(&digest(&loaded.bytes))),
+            ("digest", json::text(&digest(loaded.bytes()))),
             ("judge", json::text(JUDGE)),
         ];
         json::object(&all) + "\n"
@@ -78,32 +74,27 @@ fn base_name(file: &str) -> String {
     name.map_or_else(|| called(file).into(), |name| name.to_string_lossy().into_owned())
 }
 
-/// A file that was read, and built if it is an outline.
+/// A file as it was read, and what was made of it.
 pub struct Loaded {
-    pub bytes: Vec<u8>,
-    outline: Option<(String, Source, Built)>,
+    input: Input,
+    pub subject: Subject,
 }
 
 impl Loaded {
     pub fn of(file: &str) -> Result<Loaded, String> {
-        let text = match read(file)? {
-            Input::Image(bytes) => return Ok(Loaded { bytes, outline: None }),
-            Input::Text(text) => text,
-        };
-        let source = parse_all(&text).map_err(|all| mistakes(file, &text, &all))?;
-        let built = build(&source).map_err(|e| mistake(file, &text, &e))?;
-        let bytes = to_bytes(&built.image).map_err(|e| format!("{}: {e}", called(file)))?;
-        Ok(Loaded { bytes, outline: Some((text, source, built)) })
+        let input = read(file)?;
+        let subject = Subject::made(file, &input)?;
+        Ok(Loaded { input, subject })
     }
 
-    pub fn source(&self) -> Option<&Source> {
-        self.outline.as_ref().map(|(_, source, _)| source)
+    pub fn bytes(&self) -> &[u8] {
+        &self.subject.bytes
     }
 
     /// What the comment at the front says.
     fn about(&self) -> Vec<String> {
-        let header = self.outline.as_ref().and_then(|(text, ..)| Header::of(text).ok());
-        let Some(header) = header else { return Vec::new() };
+        let Input::Text(text) = &self.input else { return Vec::new() };
+        let Ok(header) = Header::of(text) else { return Vec::new() };
         let mut said = vec![header.first + "."];
         if !header.shown.is_empty() {
             said.push(format!("To be shown: {}.", header.shown));
@@ -118,24 +109,19 @@ impl Loaded {
         verdict: &Verdict,
         bounds: Option<Bounds>,
     ) -> Result<Option<Content>, String> {
-        let (Ok(image), Ok(decoded)) = (image::read(&self.bytes), decode(&self.bytes)) else {
+        let (Ok(image), Ok(decoded)) = (image::read(self.bytes()), decode(self.bytes())) else {
             return Ok(None);
         };
         let judged = judged(&decoded);
         agree(&judged, verdict)?;
-        let words = match &self.outline {
-            Some((text, source, _)) => Words::of_text(text, source),
-            None => {
-                let counts = image.program.header.counts;
-                let [words, registers, threads] =
-                    [counts.words, counts.registers, counts.threads].map(usize::from);
-                Words::of_image(&Names::plain(words, registers, threads), &image.program)
-            }
+        let words = match (&self.input, self.subject.source()) {
+            (Input::Text(text), Some(source)) => Words::of_text(text, source),
+            _ => Words::of_image(&self.subject.names(&image.program), &image.program),
         };
         let refused = judged.iter().any(|judged| !judged.is_met());
         let bounds = bounds.filter(|_| refused);
         let sought = bounds.map(|bounds| broken(&decoded.program, &judged, bounds));
-        let open = self.outline.as_ref().and_then(|(_, _, built)| built.open.first());
+        let open = self.subject.outline.as_ref().and_then(|(_, built)| built.open.first());
         let tried = open.map(|open| open.tried.clone()).unwrap_or_default();
         Ok(Some(Content { image, words, judged, sought, tried }))
     }
