@@ -33,7 +33,7 @@ export function overflow() {
   return document.documentElement.scrollWidth > most ? ["the page itself", ...names] : names;
 }
 
-/** Texts that leave the drawing or are wider than the letters it reckons with. */
+/** What leaves the drawing, and texts that are wider than the letters it reckons with. */
 export function drawing() {
   const svg = document.querySelector("svg.run");
   const { width, height } = svg.viewBox.baseVal;
@@ -43,8 +43,9 @@ export function drawing() {
     return box.x < 0 || box.y < 0 || box.x + box.width > width || box.y + box.height > height;
   };
   const wide = (e) => e.getComputedTextLength() > e.textContent.length * 8 + 1 && !e.matches(".run-value");
+  const drawn = [...svg.querySelectorAll(":scope > :is(text, path, rect, circle)")];
   return {
-    outside: texts.filter(leaves).map((e) => e.textContent),
+    outside: drawn.filter(leaves).map((e) => e.textContent || e.getAttribute("class")),
     wide: texts.filter(wide).map((e) => e.textContent),
     steps: svg.querySelectorAll(".run-number").length,
     marks: svg.querySelectorAll(".run-mark").length,

@@ -161,12 +161,14 @@ fn to_start(canvas: &mut Canvas, layout: &Layout, act: &Act, to: &Area) {
     let path = if over && !above {
         format!("M{target} {} V{end}", from.top)
     } else {
-        let right = target > from.middle().0;
+        // The numbers of the steps stand on the left of the first column.
+        let right = target > from.middle().0 || from.left == layout.columns[0].0;
         let (side, out) = if right { (from.right(), 1) } else { (from.left, -1) };
         // Arrows of different steps have lanes of their own.
         let lane = side + out * (14 + 6 * (act.number as i32 % 3));
         let (y, turn) = (from.middle().1 + 5, end + BAND / 2);
         let up = (y - 24).max(turn);
+        canvas.reaches(lane, 0);
         format!("M{side} {y} Q{lane} {y} {lane} {up} V{turn} C{lane} {end} {target} {turn} {target} {end}")
     };
     canvas.path(path, "run-reads", Some("url(#run-read-head)"));
@@ -188,5 +190,6 @@ fn between(canvas: &mut Canvas, from: &Area, to: &Area, acquires: bool) {
     };
     let bend = GUTTER / 2 + 4 * SMALL.min((y1 - y2) / 40);
     let (c1, c2) = (x1 + out1 * bend, x2 + out2 * bend);
+    canvas.reaches(c1.max(c2), 0);
     canvas.path(format!("M{x1} {y1} C{c1} {y1} {c2} {y2} {x2} {y2}"), class, Some(head));
 }

@@ -1,14 +1,21 @@
 //! The verdict in one sentence, and what a contract quotes: the record's bytes and the image's digest.
 
+use super::goals::met;
 use super::parts::{self, code, grouped};
-use super::{refusal, sha256, Subject};
+use super::{refusal, sha256, Content, Subject};
 use crate::command::judge::PROVED;
 use crate::image::fault;
+use crate::judged::{Goal, Judged};
 use crate::markup::{el, of, Element};
 
 /// The fields of the record, in order.
 const FIELDS: [&str; 9] =
     ["code", "record", "class", "thread", "point", "other thread", "other point", "line", "count"];
+
+/// What an accepted image says.
+const ACCEPTED: &str =
+    "In every run of this program, whatever the order of steps and whichever writes the loads \
+                        pick, each assertion is true whenever its thread is at its point.";
 
 pub fn section(subject: &Subject) -> Element {
     parts::section("verdict", "Verdict")
@@ -57,12 +64,22 @@ fn fields(subject: &Subject) -> Element {
 fn sentence(subject: &Subject) -> String {
     let verdict = &subject.verdict;
     match (&subject.content, verdict.code) {
-        (_, 0) => format!(
-            "In every run of this program, whatever the order of steps and whichever writes the loads pick, \
-             each assertion is true whenever its thread is at its point. {} of {} obligations are met.",
-            verdict.count, verdict.count
-        ),
+        (content, 0) => {
+            let claims = content.as_ref().map_or(String::new(), claimed);
+            format!("{ACCEPTED}{claims} {0} of {0} obligations are met.", verdict.count)
+        }
         (Some(content), _) => refusal::sentence(content),
-        (None, code) => format!("The bytes are no image: record {}: {}.", verdict.record, fault(code)),
+        (None, code) => {
+            format!("The bytes are no image: record {}: {}.", verdict.record, fault(code))
+        }
     }
+}
+
+/// The claims of an accepted image, in the sentence.
+fn claimed(content: &Content) -> String {
+    let claim = |judged: &Judged| match &judged.goal {
+        Goal::Claim(meeting) => Some(format!(" In no run do {} meet.", met(content, meeting))),
+        Goal::Duty(_) => None,
+    };
+    content.judged.iter().filter_map(claim).collect()
 }

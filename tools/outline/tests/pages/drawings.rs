@@ -60,7 +60,8 @@ fn every_wrong_variant_is_drawn() {
             let (x, y) = (number(tag, "x").expect("a place"), number(tag, "y").expect("a place"));
             assert!((0..width).contains(&x) && (0..height).contains(&y), "{name}");
         }
-        assert!(svg.contains("is false</text>") && svg.contains(">Not so: "), "{name}");
+        let told = svg.contains("is false</text>") && svg.contains(">Not so: ");
+        assert!(told || svg.contains(">Claimed never to meet: "), "{name}");
     }
 }
 
@@ -96,5 +97,29 @@ fn use_of_draw() {
     assert_eq!(run(&["draw", &example("rrc2-wrong-1")]).0, 2);
     assert_eq!(run(&["draw", &example("rrc2"), "-o", target, "--outcome", "a ="]).0, 2);
     assert_eq!(run(&["draw", &example("rrc2"), "-o", target, "--partial"]).0, 2);
+    let _ = std::fs::remove_dir_all(folder);
+}
+
+/// A thread that reads its own write: the arrow bends out to the right of the last column, and the drawing has room for it.
+#[test]
+fn arrows_stay_inside() {
+    let folder = folder("arrows");
+    let file = folder.join("own.outline");
+    let text = "word x = 0 thread p { true } thread q { true }
+thread t registers a { true } x := 1 { true } a <- x { true }";
+    std::fs::write(&file, text).expect("written");
+    let file = file.to_str().expect("a name");
+    let (_, svg, _) = run(&["draw", file, "--outcome", "a = 1", "-o", "-"]);
+    let all = tags(&svg);
+    let width: i32 = all[0].get("width").and_then(|n| n.parse().ok()).expect("a width");
+    let curve = all
+        .iter()
+        .filter(|tag| tag.has_class("run-reads"))
+        .find_map(|tag| tag.get("d").filter(|path| path.contains('C')).map(String::from));
+    let curve = curve.expect("an arrow");
+    let numbers: Vec<i32> =
+        curve.split(|c: char| !c.is_ascii_digit()).filter_map(|n| n.parse().ok()).collect();
+    assert_eq!(numbers.len(), 8, "{curve}");
+    assert!(numbers.iter().step_by(2).all(|x| *x < width), "{curve} in {width}");
     let _ = std::fs::remove_dir_all(folder);
 }
