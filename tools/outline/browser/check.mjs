@@ -105,7 +105,7 @@ async function tryPage(tab, url, { name, accepted }, { width, scheme }, pictures
   await overflow(tab, `${where}, all open`);
   await tab.media("print", scheme);
   await overflow(tab, `${where}, printed`);
-  expect(where, "it prints", (await tab.printed()).length > 10_000);
+  expect(where, "it prints, dark on white", (await tab.printed()).length > 10_000 && (await tab.ask(inPage.isOnWhite)));
   expect(where, `asked for ${tab.requests.slice(1)}`, tab.requests.length === 1);
   expect(where, `the browser complains: ${tab.complaints}`, tab.complaints.length === 0);
 }

@@ -87,3 +87,10 @@ export function isAt(id) {
 export function openAll() {
   document.querySelectorAll("details").forEach((details) => (details.open = true));
 }
+
+/** Whether the page is dark on white, whatever the reader's system is. */
+export function isOnWhite() {
+  const { backgroundColor, color } = getComputedStyle(document.body);
+  const ink = color.match(/\d+/g).map(Number);
+  return backgroundColor === "rgb(255, 255, 255)" && Math.max(...ink) < 100;
+}
