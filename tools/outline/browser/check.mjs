@@ -13,10 +13,10 @@ import * as inPage from "./questions.mjs";
 
 const PAGES = [
   { name: "message-passing", accepted: true },
-  { name: "peterson-entry", accepted: true },
+  { name: "peterson-claim", accepted: true },
   { name: "message-passing-wrong-2", accepted: false },
   { name: "three-threads-wrong-1", accepted: false },
-  { name: "peterson-entry-wrong-1", accepted: false },
+  { name: "peterson-claim-wrong-2", accepted: false },
 ];
 const WINDOWS = [
   { width: 1200, scheme: "light" },

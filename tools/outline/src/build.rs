@@ -8,28 +8,77 @@ use reference::assemble::Assembly;
 use reference::checker::obligations::{duties, Duty};
 use reference::formula::nesting::Nesting;
 use reference::image::written::Written;
-use reference::image::{Instruction, Program, Statement};
+use reference::image::{Claim, Instruction, Meeting, Program, Statement};
 
-/// An obligation that stays open, with what was tried.
+/// What a line is wanted for: an obligation or a claim.
+#[derive(Debug, Clone, Copy, PartialEq, Eq)]
+pub enum Goal {
+    Duty(Duty),
+    Claim(Meeting),
+}
+
+impl Goal {
+    /// All that an image of the source needs a line for: obligations, then claims.
+    pub fn all(source: &Source) -> Vec<Goal> {
+        let duties = duties(&source.threads).into_iter().map(Goal::Duty);
+        duties.chain(source.meetings().into_iter().map(Goal::Claim)).collect()
+    }
+
+    /// Whether a point of a thread is one that it speaks of: where something is asserted, or where a thread acts.
+    pub fn is_at(&self, place: (u8, u8)) -> bool {
+        match *self {
+            Goal::Duty(Duty::Start { thread }) => place == (thread, 0),
+            Goal::Duty(Duty::Next { thread, point } | Duty::Taken { thread, point }) => {
+                place == (thread, point)
+            }
+            Goal::Duty(Duty::Kept { thread, point, actor, action }) => {
+                place == (thread, point) || place == (actor, action)
+            }
+            Goal::Claim(Meeting { thread, point, other_thread, other_point }) => {
+                place == (thread, point) || place == (other_thread, other_point)
+            }
+        }
+    }
+
+    /// What the line must say.
+    pub fn wanted(&self, program: &Program) -> Statement {
+        match self {
+            Goal::Duty(duty) => duty.wanted(program),
+            Goal::Claim(meeting) => meeting.wanted(program),
+        }
+    }
+}
+
+/// An obligation or a claim that stays open, with what was tried.
 #[derive(Debug, Clone)]
 pub struct Open {
-    pub duty: Duty,
+    pub goal: Goal,
     pub wanted: Statement,
     pub tried: Vec<String>,
     /// The tries after which the search was given up, if it was.
     pub given_up: Option<u64>,
 }
 
-/// What building gives: an image, and the obligations without a line in it.
+/// What building gives: an image, and what has no line in it.
 #[derive(Debug)]
 pub struct Built {
     pub image: Written,
+    /// Obligations first, then claims.
     pub open: Vec<Open>,
     /// Named steps that were not found.
     pub failed: Vec<Mistake>,
+    /// How many obligations and claims were not tried, since the search was stopped.
+    pub untried: usize,
     /// The tries that the search has made, and the most for one obligation or named step.
     pub tries: u64,
     pub most_tries: u64,
+}
+
+impl Built {
+    /// How many claims are open.
+    pub fn open_claims(&self) -> usize {
+        self.open.iter().filter(|open| matches!(open.goal, Goal::Claim(_))).count()
+    }
 }
 
 /// Builds the image of a source.
@@ -48,43 +97,62 @@ pub fn build_within(source: &Source, tries: u64) -> Result<Built, Mistake> {
 
 /// As `build_within`, but goes on past a named step that is not found.
 pub fn build_past_failures(source: &Source, tries: u64) -> Result<Built, Mistake> {
+    build_watched(source, tries, &|_, _| true)
+}
+
+/// Is told before each obligation and claim how many are done, and of how many; says whether the search goes on.
+pub type Watch<'a> = &'a dyn Fn(usize, usize) -> bool;
+
+/// As `build_past_failures`, while somebody watches.
+pub fn build_watched(source: &Source, tries: u64, watch: Watch) -> Result<Built, Mistake> {
     match &source.certificate {
         Some(certificate) => crate::explicit::build(source, certificate),
-        None => Ok(search(source, tries)),
+        None => Ok(search(source, tries, watch)),
     }
 }
 
-fn search(source: &Source, tries: u64) -> Built {
+fn search(source: &Source, tries: u64, watch: Watch) -> Built {
     let program = source.program();
     let mut prover = Prover::new(&program, source.names.clone());
     prover.budget = Budget::of(tries);
-    let taken = source.hints.iter().map(|hint| take_hint(&mut prover, hint));
+    let goals = Goal::all(source);
+    let hints = source.hints.iter().take_while(|_| watch(0, goals.len()));
+    let taken = hints.map(|hint| take_hint(&mut prover, hint));
     let failed: Vec<Mistake> = taken.filter_map(Result::err).collect();
-    let (mut found, mut open) = (Vec::new(), Vec::new());
-    for duty in duties(&program.threads) {
+    let (mut found, mut open, mut untried) = (Vec::new(), Vec::new(), 0);
+    for (done, &goal) in goals.iter().enumerate() {
+        if !watch(done, goals.len()) {
+            untried += 1;
+            found.push((goal, None));
+            continue;
+        }
         prover.tried.clear();
         prover.budget.renew();
-        let wanted = duty.wanted(&program);
+        let wanted = goal.wanted(&program);
         let line = prove(&mut prover, &wanted);
-        if line.is_none() && prover.budget.is_spent() {
-            let most = prover.budget.most();
-            prover.tried.push(format!("given up     after {most} tries"));
-        }
-        if line.is_none() && prover.tried.is_empty() {
-            let text = "tried        lines that pass 255 bytes, nesting 16 or 10 leaves";
-            prover.tried.push(text.into());
-        }
         if line.is_none() {
-            let given_up = prover.budget.is_spent().then(|| prover.budget.most());
-            open.push(Open { duty, wanted, tried: prover.tried.clone(), given_up });
+            open.push(left_open(&mut prover, goal, wanted));
         }
-        found.push(line);
+        found.push((goal, line));
     }
     let (tries, most_tries) = prover.budget.made();
-    Built { image: assemble(&program, &prover, &found), open, failed, tries, most_tries }
+    Built { image: assemble(&program, &prover, &found), open, failed, untried, tries, most_tries }
 }
 
-/// A line for one obligation.
+/// What is told of a goal for which no line was found.
+fn left_open(prover: &mut Prover, goal: Goal, wanted: Statement) -> Open {
+    let given_up = prover.budget.is_spent().then(|| prover.budget.most());
+    if let Some(most) = given_up {
+        prover.tried.push(format!("given up     after {most} tries"));
+    }
+    if prover.tried.is_empty() {
+        let text = "tried        lines that pass 255 bytes, nesting 16 or 10 leaves";
+        prover.tried.push(text.into());
+    }
+    Open { goal, wanted, tried: prover.tried.clone(), given_up }
+}
+
+/// A line for one obligation or claim.
 fn prove(prover: &mut Prover, wanted: &Statement) -> Option<usize> {
     if !wanted.sides().0.fits_record() {
         prover.tried.push(
@@ -94,7 +162,7 @@ fn prove(prover: &mut Prover, wanted: &Statement) -> Option<usize> {
     }
     let (left, right) = wanted.assertions();
     match *wanted {
-        Statement::Triple { thread, point, .. } => prover.triple(At { thread, point }, left, right),
+        Statement::Triple { thread, point, .. } => prover.whole(At { thread, point }, left, right),
         _ => prover.implication(left, right).or_else(|| prover.tell_implication(left, right)),
     }
 }
@@ -117,7 +185,7 @@ fn take_hint(prover: &mut Prover, hint: &Hint) -> Result<(), Mistake> {
     };
     prover.forget_failures(&hint.statement);
     match hint.statement {
-        Statement::Triple { .. } => prover.steps.push(line),
+        Statement::Triple { .. } => prover.steps.push(prover.half_of(line)),
         Statement::Implication { .. } => prover.facts.push(line),
         Statement::Inclusion { .. } => prover.parts.push(line),
     }
@@ -125,9 +193,9 @@ fn take_hint(prover: &mut Prover, hint: &Hint) -> Result<(), Mistake> {
 }
 
 /// Numbers formulas and lines; lines that nothing rests on are left out.
-fn assemble(program: &Program, prover: &Prover, found: &[Option<usize>]) -> Written {
+fn assemble(program: &Program, prover: &Prover, found: &[(Goal, Option<usize>)]) -> Written {
     let mut image = Assembly::of(program);
-    let roots: Vec<usize> = found.iter().flatten().copied().collect();
+    let roots: Vec<usize> = found.iter().filter_map(|(_, line)| *line).collect();
     let kept = prover.lines.needed(&roots);
     let place = |at: usize| kept.binary_search(&at).map_or(0, |i| i as u16 + 1);
     for at in &kept {
@@ -141,8 +209,12 @@ fn assemble(program: &Program, prover: &Prover, found: &[Option<usize>]) -> Writ
         let same = Statement::Implication { left: first.clone(), right: first };
         image.line(20, &same, Vec::new());
     }
-    for line in found {
-        image.obligation(line.map_or(0, place));
+    for (goal, line) in found {
+        let line = line.map_or(0, place);
+        match *goal {
+            Goal::Duty(_) => image.obligation(line),
+            Goal::Claim(meeting) => image.claim(Claim { meeting, line }),
+        }
     }
     image.written()
 }

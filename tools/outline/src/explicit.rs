@@ -1,12 +1,12 @@
 //! A source with a certificate written out: numbers are taken as they stand.
 
-use crate::build::{Built, Open};
+use crate::build::{Built, Goal, Open};
 use crate::text::lex::{Mistake, Place};
 use crate::text::source::{Certificate, Source};
-use reference::checker::obligations::duties;
 use reference::formula::encode::Encode;
 use reference::formula::Formula;
 use reference::image::written::{Instruction, Written};
+use reference::image::Claim;
 
 /// Builds without any search.
 pub fn build(source: &Source, certificate: &Certificate) -> Result<Built, Mistake> {
@@ -17,7 +17,8 @@ pub fn build(source: &Source, certificate: &Certificate) -> Result<Built, Mistak
         let assertion = Formula::Assertion(p.assertion.clone());
         outline.push(number(&mut formulas, assertion, p.number, p.line)?);
     }
-    let open = open_ones(source, &certificate.obligations)?;
+    let open = open_ones(source, certificate)?;
+    let claims = source.meetings().into_iter().zip(&certificate.claims);
     let image = Written {
         header: source.header.clone(),
         formulas: formulas.iter().map(Formula::encode).collect(),
@@ -25,9 +26,9 @@ pub fn build(source: &Source, certificate: &Certificate) -> Result<Built, Mistak
         outline,
         lines: certificate.lines.clone(),
         obligations: certificate.obligations.clone(),
-        claims: Vec::new(),
+        claims: claims.map(|(meeting, line)| Claim { meeting, line: *line }).collect(),
     };
-    Ok(Built { image, open, failed: Vec::new(), tries: 0, most_tries: 0 })
+    Ok(Built { image, open, failed: Vec::new(), untried: 0, tries: 0, most_tries: 0 })
 }
 
 /// The instructions with their formula numbers, by thread.
@@ -39,10 +40,12 @@ fn number_code(
     for (t, code) in source.threads.iter().enumerate() {
         let mut fields = Vec::new();
         for (i, instruction) in code.iter().enumerate() {
-            let (line, wanted) = (source.points[t][i].line, source.code_numbers[t][i]);
+            let line = source.points[t][i].line;
             let mut numbers = Vec::new();
-            for operand in instruction.operands() {
-                numbers.push(number(formulas, operand, wanted, line)?);
+            for (operand, wanted) in
+                instruction.operands().into_iter().zip(&source.code_numbers[t][i])
+            {
+                numbers.push(number(formulas, operand, *wanted, line)?);
             }
             fields.push(instruction.fields(&numbers));
         }
@@ -51,24 +54,30 @@ fn number_code(
     Ok(all)
 }
 
-/// The obligations for which the certificate names no line.
-fn open_ones(source: &Source, found: &[u16]) -> Result<Vec<Open>, Mistake> {
+/// The obligations and claims for which the certificate names no line.
+fn open_ones(source: &Source, certificate: &Certificate) -> Result<Vec<Open>, Mistake> {
     let program = source.program();
-    let list = duties(&program.threads);
-    if found.len() != list.len() {
-        let text =
-            format!("{} obligations are listed, the outline has {}", found.len(), list.len());
-        return Err(Mistake { line: source.points[0][0].line, text });
-    }
-    let none = || vec!["tried        nothing: the certificate names no line".to_string()];
-    let open = list.into_iter().zip(found).filter(|(_, n)| **n == 0);
-    let open = open.map(|(duty, _)| Open {
-        duty,
-        wanted: duty.wanted(&program),
-        tried: none(),
+    let all = Goal::all(source);
+    let (claims, duties) = (source.claims.len(), all.len() - source.claims.len());
+    as_many(source, "obligations", certificate.obligations.len(), duties)?;
+    as_many(source, "claims", certificate.claims.len(), claims)?;
+    let lines = certificate.obligations.iter().chain(&certificate.claims);
+    let open = all.into_iter().zip(lines).filter(|(_, line)| **line == 0);
+    let open = open.map(|(goal, _)| Open {
+        goal,
+        wanted: goal.wanted(&program),
+        tried: vec!["tried        nothing: the certificate names no line".to_string()],
         given_up: None,
     });
     Ok(open.collect())
+}
+
+fn as_many(source: &Source, what: &str, listed: usize, wanted: usize) -> Result<(), Mistake> {
+    if listed == wanted {
+        return Ok(());
+    }
+    let text = format!("{listed} {what} are listed, the outline has {wanted}");
+    Err(Mistake { line: source.points[0][0].line, text })
 }
 
 /// The number asked for by `@`, checked; else the first equal formula; else a new one.

@@ -1,10 +1,11 @@
 //! Each obligation and each claim judged by itself, and a run that breaks one that is not met.
 
+pub use crate::build::Goal;
 use reference::checker::claims::is_shown;
 use reference::checker::obligations::{duties, judge_one, Duty};
 use reference::checker::rules::justified_lines;
 use reference::explore::{find, seek, Bounds, Run, Sought};
-use reference::image::{Claim, Image, Meeting, Program};
+use reference::image::{Claim, Image, Program};
 use reference::machine::{take, State};
 
 /// How far runs are looked at, if nothing else is asked.
@@ -13,14 +14,6 @@ const MOST_STATES: usize = 30_000;
 
 /// The code of a claim that is not shown.
 const NOT_SHOWN: u16 = 26;
-
-/// What an image has to show.
-#[derive(Debug, Clone, Copy, PartialEq, Eq)]
-pub enum Goal {
-    Duty(Duty),
-    /// That there is no such meeting.
-    Claim(Meeting),
-}
 
 /// An obligation or a claim with the line that it names and the code that it gets: 0 if it is met.
 #[derive(Debug, Clone)]

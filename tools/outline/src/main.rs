@@ -4,11 +4,12 @@ use outline::command::{build, check, draw, explain, explore, print, report, show
 use std::process::ExitCode;
 
 const HELP: &str = "\
-outline build FILE.outline -o FILE.image [--partial] [--all]   finds a certificate, writes the image, says its verdict
+outline build FILE.outline -o FILE.image [--partial] [--all] [--at THREAD:POINT]
+                                                               finds a certificate, writes the image, says its verdict
 outline check FILE|FOLDER..                                    judges images and outlines
 outline show FILE                                              an image as text, its verdict first
-outline explain FILE                                           each obligation with its line, rule and premises
-outline explore FILE [--steps N] [--writes N] [--starts N] [--outcome \"a = 1 and b = 0\"]
+outline explain FILE                                           each obligation and claim with its line, rule and premises
+outline explore FILE [--steps N] [--writes N] [--starts N] [--claims] [--outcome \"a = 1 and b = 0\"]
                                                                every run up to a bound
 outline report FILE -o FILE.html [--steps N] [--writes N] [--starts N]
                                                                a page: verdict, program, obligations, a run that breaks it
@@ -16,8 +17,10 @@ outline draw FILE -o FILE.svg [--steps N] [--writes N] [--starts N] [--outcome \
                                                                a run that breaks it, or that has the outcome, drawn
 
 FILE is an outline or an image; `-` is standard input, behind -o standard output. All take --json.
-  --partial   writes an image with open obligations too
-  --all       tells all open obligations in full
+  --partial   writes an image with open obligations and claims too
+  --all       tells all open obligations and claims in full
+  --at        tells in full what is open at this point, by its number or its label
+  --claims    looks at the claims alone, whatever the assertions say
   --outcome   can the registers be so when all threads have ended?
 Status: 0 accepted, true or never; 1 refused, open, false or happens; 2 wrong use, or a file that cannot be read or written.
 ";

@@ -1,5 +1,6 @@
 //! The program: what it prints, and its status.
 
+use reference::checker::decode;
 use std::io::Write;
 use std::path::{Path, PathBuf};
 use std::process::{Command, Output, Stdio};
@@ -160,6 +161,62 @@ fn all_open_obligations_are_told_if_asked_for() {
 }
 
 #[test]
+fn what_is_open_at_a_point_is_told_if_asked_for() {
+    let wrong = example("peterson-data-wrong-2");
+    let told = |at: &str| run(&["build", &wrong, "-o", "-", "--at", at]);
+    let (status, _, err) = told("ann:inside");
+    assert_eq!(status, 1);
+    let full: Vec<&str> = err.lines().filter(|line| line.starts_with("  instruction ")).collect();
+    assert!(full.is_empty(), "{err}");
+    let (_, _, err) = told("ann:look");
+    let lines: Vec<&str> = err.lines().collect();
+    let at = lines.iter().position(|line| line.starts_with("  instruction ")).expect("one in full");
+    assert!(
+        lines[..at].iter().any(|line| line.contains("class 4, thread 1 (ann) point 2 ")),
+        "{err}"
+    );
+    assert_eq!(err, told("ann:2").2);
+    let (status, _, err) = told("ann:17");
+    let want = "`--at` wants THREAD:POINT of this outline, found `ann:17`\n";
+    assert_eq!((status, err.as_str()), (2, want));
+}
+
+/// Whether a process has a handler of its own for interrupts.
+#[cfg(target_os = "linux")]
+fn catches_interrupts(process: u32) -> bool {
+    let status = std::fs::read_to_string(format!("/proc/{process}/status")).unwrap_or_default();
+    let caught = status.lines().find_map(|line| line.strip_prefix("SigCgt:"));
+    let caught = caught.and_then(|mask| u64::from_str_radix(mask.trim(), 16).ok());
+    caught.is_some_and(|mask| mask & 2 != 0)
+}
+
+#[cfg(target_os = "linux")]
+#[test]
+fn an_interrupt_leaves_the_rest_untried_and_reports() {
+    let mut child = Command::new(env!("CARGO_BIN_EXE_outline"))
+        .args(["build", "-", "-o", "-"])
+        .stdin(Stdio::piped())
+        .stdout(Stdio::piped())
+        .stderr(Stdio::piped())
+        .spawn()
+        .expect("run");
+    while !catches_interrupts(child.id()) {
+        std::thread::yield_now();
+    }
+    let process = child.id().to_string();
+    assert!(Command::new("kill").args(["-INT", &process]).status().expect("kill").success());
+    while catches_interrupts(child.id()) {
+        std::thread::yield_now();
+    }
+    let text = std::fs::read(example("polling")).expect("readable");
+    child.stdin.take().expect("a pipe").write_all(&text).expect("fed");
+    let (status, out, err) = told(child.wait_with_output().expect("run"));
+    assert_eq!((status, out.as_str()), (1, ""));
+    let want = "standard input: interrupted, 22 were not tried, 0 of 22 obligations are open; no image is written\n";
+    assert_eq!(err, want);
+}
+
+#[test]
 fn check_says_one_line_of_words_and_the_fields() {
     let folder = Folder::new("check");
     let image = folder.file("mp.image");
@@ -282,6 +339,120 @@ fn explore_answers_litmus_questions() {
         (status, err.as_str()),
         (2, "--outcome: a value is wanted, but `c` is not declared\n")
     );
+}
+
+/// The right thread never leaves its loop, so it is never at `out`.
+const CLAIM: &str = "word x = 0
+thread left
+  registers a
+  { a = 0 }
+    x := 1 | a := 1
+  after: { a = 1 }
+thread right
+  { true }
+    if true goto 0
+  out: { false }
+never right out and left after
+";
+
+/// Both lines of what is told, the second one with the fields.
+fn claimed(file: &str, said: &str, fields: &str) -> String {
+    format!("{file}: {said}\n  {fields}   ({})\n", judge())
+}
+
+#[test]
+fn claims_are_told_when_they_are_shown() {
+    let folder = Folder::new("claim");
+    let (text, image) = (folder.with("c.outline", CLAIM), folder.file("c.image"));
+    let (status, out, err) = run(&["build", &text, "-o", &image]);
+    assert_eq!((status, err.as_str()), (0, ""));
+    assert!(
+        out.contains(" 7 obligations, 1 claim, 0 open\nACCEPTED: 7 obligations met, 1 claim shown"),
+        "{out}"
+    );
+    let (status, out, _) = run(&["check", &image]);
+    let said = "ACCEPTED: 7 obligations met, 1 claim shown";
+    assert_eq!((status, out), (0, claimed(&image, said, "0 0 0 0 0 0 0 0 7")));
+    let (_, out, _) = run(&["explain", &text]);
+    let place = "8. claim, never thread 2 (right) point 1 (line 10) and thread 1 (left) point 1 (line 6): line ";
+    let claim: Vec<&str> = out.lines().skip_while(|line| !line.starts_with(place)).collect();
+    assert!(claim.len() > 1 && claim[1].ends_with("rule 20: a = 1 and false gives false"), "{out}");
+    assert!(out.contains("rule 50: a = 0 then a = 1\n"), "{out}");
+    assert!(out.contains("rule 16 of the first half: a = 0 then 1 = 1\n"), "{out}");
+    let (_, out, _) = run(&["explain", &text, "--json"]);
+    let claims = "\"claims\":[{\"claim\":\"claim, never thread 2 (right) point 1 (line 10) and ";
+    assert!(out.contains(claims), "{out}");
+    let (_, out, _) = run(&["show", &image]);
+    assert!(out.contains("    w1 := 1 @1 | r1 := 1 @1\n"), "{out}");
+    assert!(out.contains("\nnever t2 1 and t1 1\n\ncertificate\n"), "{out}");
+    assert!(out.lines().last().is_some_and(|line| line.starts_with("  claims ")), "{out}");
+    let want = "holds in 2 states, up to 24 steps\nnever: right at point 1, left at point 1\nthese are all states\n";
+    assert_eq!(run(&["explore", &text]).1, want);
+    let want = "no claim breaks in 2 states\nnever: right at point 1, left at point 1\nthese are all states\n";
+    assert_eq!(run(&["explore", &text, "--claims"]).1, want);
+}
+
+#[test]
+fn claims_that_fail_are_told_with_a_run() {
+    let folder = Folder::new("no-claim");
+    let text = folder.with("c.outline", &CLAIM.replace("right out", "right 0"));
+    let image = folder.file("c.image");
+    let (status, out, err) = run(&["build", &text, "-o", &image]);
+    assert_eq!((status, out.as_str()), (1, ""));
+    let want = format!(
+        "open: claim, never thread 2 (right) point 0 (line 8) and thread 1 (left) point 1 (line 6)
+  FALSE        a run of 1 step breaks it
+      1. left: x := 1 | a := 1   writes 1 behind write 1, gives 1
+         then a = 1
+         x was written 0, 1
+  from         a = 1 and true
+  to           false
+  open case    a = 1
+  missing      false
+{text}: 0 of 7 obligations, 1 of 1 claims are open; no image is written\n"
+    );
+    assert_eq!(err, want);
+    assert_eq!(run(&["build", &text, "-o", &image, "--partial"]).0, 0);
+    let no_line = "it names no line (code 26)";
+    let (status, out, _) = run(&["check", &image]);
+    let said = format!("REFUSED: claim, never thread 2 point 0 and thread 1 point 1: {no_line}");
+    let records = decode(&std::fs::read(&image).expect("written")).expect("an image").records;
+    let fields = format!("26 {records} 0 2 0 1 1 0 7");
+    assert_eq!((status, out), (1, claimed(&image, &said, &fields)));
+    let (status, out, _) = run(&["explore", &text]);
+    let want = "FALSE: a run of 1 step breaks a claim
+  1. left: x := 1 | a := 1   writes 1 behind write 1, gives 1
+     then a = 1
+     x was written 0, 1
+claimed never to happen: right at point 0, left at point 1
+";
+    assert_eq!((status, out.as_str()), (1, want));
+    assert_eq!(run(&["explore", &text, "--claims"]).1, want);
+    let (status, out, _) = run(&["explore", &text, "--json"]);
+    let told = "\"answer\":\"false\",\"told\":[\"FALSE: a run of 1 step breaks a claim\",";
+    assert!(status == 1 && out.contains(told), "{out}");
+}
+
+/// A claim whose line says something else: the verdict tells it by the line's number.
+#[test]
+fn a_claim_with_another_line_is_refused() {
+    let text = CLAIM.as_bytes();
+    let shown = fed(&["show", "-"], &fed(&["build", "-", "-o", "-"], text).stdout).stdout;
+    let shown = String::from_utf8(shown).expect("text");
+    let (front, line) = shown.trim_end().rsplit_once("  claims ").expect("claims come last");
+    assert_ne!(line, "1");
+    let (status, out, _) = told(fed(&["check", "-"], format!("{front}  claims 1\n").as_bytes()));
+    let words = "its line 1 is not justified or concludes something else (code 26)";
+    assert!(status == 1 && out.contains(words), "{out}");
+}
+
+#[test]
+fn the_run_that_breaks_peterson_without_its_order_is_shown() {
+    let (status, out, _) = run(&["explore", &example("peterson-claim-wrong-1"), "--claims"]);
+    let lines: Vec<&str> = out.lines().collect();
+    assert_eq!((status, lines[0]), (1, "FALSE: a run of 10 steps breaks a claim"));
+    let both = "claimed never to happen: ann at point 5, bob at point 5";
+    assert_eq!(lines.last(), Some(&both));
 }
 
 #[test]

@@ -2,12 +2,12 @@
 
 use outline::text::{parse_source, show};
 use outline::{build, image};
-use reference::checker::{check, decode};
+use reference::checker::check;
 use reference::explore::{explore, Bounds, Outcome};
 use std::path::PathBuf;
 
 /// True in every reachable state, but beyond the rules.
-const BEYOND: [&str; 3] = ["corr2", "rrc-two-writers", "ticket-wait"];
+const BEYOND: [&str; 4] = ["corr2", "peterson-joint", "rrc-two-writers", "ticket-wait"];
 
 /// The sources under `examples`, by name.
 fn sources() -> Vec<(String, String)> {
@@ -80,18 +80,18 @@ fn wrong_variants_say_where_they_fail() {
 
 #[test]
 fn the_same_text_gives_the_same_bytes() {
-    for (name, text) in sources().into_iter().filter(|(name, _)| !name.starts_with("peterson")) {
+    for (name, text) in sources() {
         assert_eq!(built(&name, &text).image, built(&name, &text).image, "{name}");
     }
 }
 
-/// Every assertion is true in the states that a few steps reach, but for the wrong variants: there a run breaks one.
+/// Every assertion and claim is true in the states that a few steps reach, but for the wrong variants: there a run breaks one.
 #[test]
 fn the_machine_agrees() {
     for (name, text) in sources() {
-        let bytes = built(&name, &text).image.bytes();
-        let Ok(image) = decode(&bytes) else { panic!("{name} is no image") };
-        let found = explore(&image.program, &[], Bounds { steps: 10, writes: 6, starts: 4096 });
+        let source = parse_source::parse(&text).unwrap_or_else(|e| panic!("{name}: {e}"));
+        let bounds = Bounds { steps: 10, writes: 6, starts: 4096 };
+        let found = explore(&source.program(), &source.meetings(), bounds);
         let breaks = matches!(found.outcome, Outcome::Breaks(_));
         assert_eq!(breaks, name.contains("-wrong-"), "{name}");
     }

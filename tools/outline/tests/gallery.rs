@@ -33,8 +33,7 @@ fn every_outline_has_its_line() {
         assert!(cells.iter().all(|cell| !cell.is_empty()), "{name} lacks something: {cells:?}");
         let wanted = match name.contains("-wrong-") {
             true => 4,
-            false if lines[0].contains(" open) ") => 9,
-            false => 8,
+            false => 9,
         };
         assert_eq!(cells.len(), wanted, "{name}");
     }

@@ -3,6 +3,7 @@
 use outline::build::build;
 use outline::text::parse_source::{parse, parse_all};
 use outline::text::report;
+use reference::image::Meeting;
 use std::process::Command;
 
 /// A text, the line of its mistake and words of the message.
@@ -58,24 +59,81 @@ fn mistakes_have_lines_and_words() {
     }
 }
 
+/// An instruction of thread a, the column of its mistake and the whole message.
+const CAUSES: &[(&str, usize, &str)] = &[
+    ("q := 1", 2, "`q` is not declared"),
+    ("r <- swap x := 1", 7, "swap drops the old value; `exchange` hands it to the register"),
+    ("x :=acq 1", 6, "`acq` belongs to a load, `<-acq`; a store may be `:=rel`"),
+    ("r <-rel x", 6, "`rel` belongs to a store, `:=rel`; a load may be `<-acq`"),
+    ("r <- y", 7, "a word is wanted, but `y` is not declared"),
+    ("x := 9", 7, "9 is no value: values are 0 to 7"),
+    ("x := 1 | y := 2", 11, "`y` is not declared"),
+    ("x := 1 | x := 2", 11, "a note sets a register, and `x` is a word"),
+    ("x := 1 | r <- x", 13, "`:=` (a note is an assignment) is wanted, found `<-`"),
+    ("x := 1 | swap x := 2", 11, "an assignment to a register as the note is wanted, found `swap`"),
+    (
+        "x := 1 | if r = 1 goto 0",
+        11,
+        "an assignment to a register as the note is wanted, found `if`",
+    ),
+    ("x := 1 | s := 2", 11, "register `s` belongs to another thread"),
+    ("x := 1 | r := s", 16, "register `s` belongs to another thread"),
+    ("x := 1 | r := x", 16, "words, unsync and cov may not stand in an instruction's formula"),
+    ("x := 1 | r := 1 | p := 2", 18, "a step has one note"),
+    ("x := 1, r := 2", 8, "a note stands behind `|`, as in `x := 1 | r := 0`"),
+    ("r <- x | p := 1", 9, "only a store or a swap takes a note"),
+    ("r <- exchange x := 1 | p := 1", 23, "only a store or a swap takes a note"),
+    ("r := 1 | p := 2", 9, "two registers are set in one step by `r, q := 1, 2`"),
+    ("r, r := 1, 2", 5, "register `r` is set twice in one step"),
+    ("r, s := 1, 2", 5, "register `s` belongs to another thread"),
+    ("r, p := 1 | p := 2", 12, "`,` is wanted, found `|`"),
+    (
+        "r, x := 1, 2",
+        5,
+        "only registers are set together, and `x` is a word; a store has its note behind `|`",
+    ),
+];
+
 /// The likely cause comes first, and not what the reader of tokens would have liked to see.
 #[test]
 fn the_likely_cause_is_told() {
-    let cases = [
-        ("q := 1", 2, "`q` is not declared"),
-        ("r <- swap x := 1", 7, "swap drops the old value; `exchange` hands it to the register"),
-        ("x :=acq 1", 6, "`acq` belongs to a load, `<-acq`; a store may be `:=rel`"),
-        ("r <-rel x", 6, "`rel` belongs to a store, `:=rel`; a load may be `<-acq`"),
-        ("r <- y", 7, "a word is wanted, but `y` is not declared"),
-        ("x := 9", 7, "9 is no value: values are 0 to 7"),
-    ];
-    for (instruction, column, words) in cases {
+    for &(instruction, column, words) in CAUSES {
         let text =
-            format!("word x = 0\nthread a registers r {{ true }}\n {instruction}\n{{ true }}");
+            format!("word x = 0\nthread a registers r, p {{ true }}\n {instruction}\n{{ true }}\nthread b registers s {{ true }}");
         let mistake = parse(&text).expect_err(&text);
         let place = (mistake.line.line, mistake.line.column);
         assert_eq!((place, mistake.text.as_str()), ((3, column), words), "{text}");
     }
+}
+
+#[test]
+fn mistakes_in_claims_are_told() {
+    let cases = [
+        (
+            "never a 0 and b",
+            16,
+            "a point, its number or its label, is wanted, found the end of the text",
+        ),
+        ("never a 0 and a 1", 15, "a claim is about two threads, and `a` is named twice"),
+        ("never a 2 and b 0", 9, "`2` is no point of this thread"),
+        ("never a 0 and b end", 17, "`end` is no point of this thread"),
+        ("never a 0 and c 0", 15, "`c` is no thread"),
+        ("never a 0, b 0", 10, "`and` is wanted, found `,`"),
+    ];
+    let threads = "word x = 0\nthread a { true } x := 1 end: { true }\nthread b { true }\n";
+    for (claim, column, words) in cases {
+        let mistake = parse(&format!("{threads}{claim}")).expect_err(claim);
+        let place = (mistake.line.line, mistake.line.column);
+        assert_eq!((place, mistake.text.as_str()), ((4, column), words), "{claim}");
+    }
+    let with =
+        |claims: usize| parse(&format!("{threads}{}", "never a end and b 0\n".repeat(claims)));
+    assert_eq!(with(16).expect("well formed").claims.len(), 16);
+    let mistake = with(17).expect_err("too many");
+    assert_eq!((mistake.line.line, mistake.text.as_str()), (20, "an image has at most 16 claims"));
+    let before = parse(&format!("never b 0 and a end\n{threads}")).expect("well formed");
+    let Meeting { thread, point, other_thread, other_point } = before.claims[0].meeting;
+    assert_eq!([(thread, point), (other_thread, other_point)], [(2, 0), (1, 1)]);
 }
 
 const FOUR_MISTAKES: &str = "word x = 0
@@ -173,6 +231,10 @@ fn wrong_hints_and_certificates_are_told() {
             "2 obligations",
         ),
         ("certificate formula 1: assertion false line 1: rule 20 1 to 1 obligations 0", ""),
+        (
+            "certificate formula 1: assertion true line 1: rule 20 1 to 1 obligations 1 claims 1",
+            "1 claims are listed, the outline has 0",
+        ),
     ];
     for (part, words) in cases {
         let source = parse(&format!("word x = 0\nthread a {{ true }}\n{part}")).expect(part);
@@ -221,6 +283,27 @@ fn only_what_is_lacking_is_asked_for() {
         "  or         a sees one x",
     ];
     assert_eq!(open[0].tried, want);
+}
+
+/// What rule 50 asks of the first half is told, and what is missing there.
+#[test]
+fn an_open_pair_is_told_by_its_first_half() {
+    let text = "word x = 0\nthread a registers r { a sees [x = 0] } x := 1 | r := 2 { r = 2 and a sees [x = 1] }";
+    let source = parse(text).expect("well formed");
+    let open = build(&source).expect("no hints").open;
+    assert_eq!(open.len(), 1);
+    let told = report::open(&source, &open[0], true);
+    let want = "open: class 2, thread 1 (a) point 0 (line 2): the step to the next point
+  instruction  x := 1 | r := 2
+  from         a sees [x = 0]
+  to           r = 2 and a sees [x = 1]
+  first half   to 2 = 2 and a sees [x = 1]
+  open case    a sees [x = 0]
+  not reached  a sees [x = 1]
+    would need a sees [x = 1]
+    or         a sees one x
+";
+    assert_eq!(told, want);
 }
 
 #[test]

@@ -1,6 +1,6 @@
 //! What the writer names is used first and chains; the search ends after a number of tries.
 
-use outline::build::{build, build_within, Built};
+use outline::build::{build, build_within, Built, Goal};
 use outline::search::prover::Prover;
 use outline::text::parse_source::parse;
 use outline::text::source::{Hint, Source};
@@ -151,7 +151,7 @@ fn the_swapped_word_may_stand_in_the_tail() {
     let built = found(text);
     // The start does not give the first point; the step is found all the same.
     assert_eq!(built.open.len(), 1);
-    assert_eq!(built.open[0].duty, Duty::Start { thread: 1 });
+    assert_eq!(built.open[0].goal, Goal::Duty(Duty::Start { thread: 1 }));
 }
 
 #[test]
@@ -164,4 +164,47 @@ fn formulas_of_instructions_have_their_limits() {
     let mistake = sum(17).expect_err("too deep");
     let words = "formula of 50 bytes and nesting 17; 255 bytes and nesting 16 are the most";
     assert_eq!((mistake.line.line, mistake.text.as_str()), (3, words));
+}
+
+/// At a pair's point a step is about the whole pair, or by its rule about the first half.
+#[test]
+fn steps_are_named_at_pairs() {
+    let program = "word x = 0\nthread a registers r\n  { r = 0 } x := 1 | r := 1 { r = 1 }\nthread b { r < 2 }\n";
+    let with = |step: &str| parse(&format!("{program}proof\n{step}")).expect("well formed");
+    let right = [
+        "step a 0: { r = 0 } to { r = 1 }",
+        "step a 0: { r = 0 } to { r = 1 } by 50",
+        "step a 0: { r = 0 } to { r = 0 } by 1",
+        "step a 0: { r = 0 } to { 1 = 1 } by 16 through { r = 0 } to { r = 0 }",
+    ];
+    for step in right {
+        let built = build(&with(step)).unwrap_or_else(|e| panic!("{step}: {e}"));
+        assert_eq!(check(&built.image.bytes()).code, 0, "{step}");
+    }
+    for step in ["step a 0: { r = 0 } to { r = 0 }", "step a 0: { r = 0 } to { r = 1 } by 1"] {
+        assert!(build(&with(step)).is_err(), "{step}");
+    }
+}
+
+const VALUE_AND_DATA: &str = "word data = 0\nword flag = 0
+let Coming = reader sees [flag = 0] ; ([flag = 2] & ([unsync flag] ; [data = 1]))
+thread writer
+  { writer sees one data and writer sees one flag and reader sees one flag = 0 } data := 1
+  { writer sees [data = 1] and writer sees one flag and reader sees one flag = 0 } flag :=rel 2
+  { true }
+thread reader registers a, b
+  { Coming } a <-acq flag
+  { a = 0 or a = 2 and reader sees [data = 1] } b <- data
+  { a = 0 or a = 2 and b = 1 }
+";
+
+/// Rule 7 says what the flag is, rule 8 what comes with it: joined they say both of the same views.
+#[test]
+fn the_value_and_what_is_handed_over_are_joined() {
+    let built = found(VALUE_AND_DATA);
+    assert!(built.open.is_empty());
+    assert_eq!(check(&built.image.bytes()).code, 0);
+    let relaxed = found(&VALUE_AND_DATA.replace(":=rel", ":="));
+    let kept = Duty::Kept { thread: 2, point: 0, actor: 1, action: 1 };
+    assert_eq!(relaxed.open.iter().map(|open| open.goal).collect::<Vec<_>>(), [Goal::Duty(kept)]);
 }

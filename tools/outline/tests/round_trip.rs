@@ -9,7 +9,7 @@ use reference::formula::nesting::Nesting;
 use reference::formula::parse::Counts;
 use reference::formula::{Assertion, Formula, Interval, Test};
 use reference::image::written::{Line, Written};
-use reference::image::{Access, Header, Instruction, Thread};
+use reference::image::{Access, Claim, Header, Instruction, Meeting, Note, Thread};
 
 /// A small generator of numbers, so that the test is the same every time.
 struct Dice(u64);
@@ -82,30 +82,49 @@ impl Dice {
 /// Two threads over two words and three registers, the second and third owned crosswise. Their operands
 /// are formulas 1 to 3.
 fn threads(number: &V, test: &T, three: &V) -> Vec<Thread> {
+    let store = |releasing| Access::Store { word: 1, value: three.clone(), releasing };
+    let swap = || Access::Swap { word: 2, value: three.clone() };
+    let note = |register, value: &V| Note::new(register, value.clone());
     let first = vec![
         Access::Load { register: 1, word: 2, acquiring: true }.into(),
         Instruction::Branch { test: test.clone(), target: 0 },
-        Access::Swap { word: 2, value: three.clone() }.into(),
+        swap().into(),
+        Instruction::trade(note(3, number), note(1, three)),
     ];
     let second = vec![
         Instruction::assign(2, number.clone()),
-        Access::Store { word: 1, value: three.clone(), releasing: true }.into(),
+        store(true).into(),
         Access::Load { register: 2, word: 1, acquiring: false }.into(),
         Access::Exchange { register: 2, word: 1, value: three.clone() }.into(),
         Access::FetchAdd { register: 2, word: 2, value: number.clone() }.into(),
+        Instruction::pair(store(false), note(2, number)),
+        Instruction::pair(store(true), note(2, three)),
+        Instruction::pair(swap(), note(2, number)),
     ];
     vec![first, second]
 }
 
-const OPERANDS: [&[u16]; 2] = [&[0, 2, 3], &[1, 3, 0, 3, 1]];
+/// The operands of each instruction.
+const OPERANDS: [&[&[u16]]; 2] =
+    [&[&[], &[2], &[3], &[1, 3]], &[&[1], &[3], &[], &[3], &[1], &[3, 1], &[3, 3], &[3, 1]]];
 
 /// A line about assertions, which are formulas 4 to 16.
 fn line(dice: &mut Dice, before: usize) -> Line {
     let premises =
         (0..dice.roll(before.min(4) + 1)).map(|_| 1 + dice.roll(before) as u16).collect();
-    let (rule, thread, point) = if before.is_multiple_of(2) { (16, 2, 1) } else { (20, 0, 0) };
+    let (rule, thread, point) = [(16, 2, 1), (20, 0, 0), (50, 2, 6), (1, 2, 7)][before % 4];
     let (left, right) = (4 + dice.roll(12) as u16, 4 + dice.roll(13) as u16);
     Line { rule, thread, point, left, right, premises }
+}
+
+/// A claim that names the threads in either order.
+fn claim(dice: &mut Dice) -> Claim {
+    let (first, second) = ((1, dice.number(0, 4)), (2, dice.number(0, 8)));
+    let swapped = dice.roll(2) == 1;
+    let [(thread, point), (other_thread, other_point)] =
+        if swapped { [second, first] } else { [first, second] };
+    let meeting = Meeting { thread, point, other_thread, other_point };
+    Claim { meeting, line: dice.roll(11) as u16 }
 }
 
 fn formulas(dice: &mut Dice, operands: [Formula; 3]) -> Vec<Formula> {
@@ -131,8 +150,8 @@ fn random_image(dice: &mut Dice) -> Written {
     let test = equal(&register(1), &constant(1));
     let threads = threads(&number, &test, &three);
     let operands = [Formula::Value(number), Formula::Test(test), Formula::Value(three)];
-    let fields = |(code, operands): (&Thread, &[u16])| {
-        code.iter().zip(operands).map(|(instruction, n)| instruction.fields(&[*n])).collect()
+    let fields = |(code, operands): (&Thread, &[&[u16]])| {
+        code.iter().zip(operands).map(|(instruction, n)| instruction.fields(n)).collect()
     };
     let counts = Counts { threads: 2, words: 2, registers: 3, range: dice.number(8, 16) };
     let start = vec![dice.number(0, 7), 5];
@@ -141,10 +160,10 @@ fn random_image(dice: &mut Dice) -> Written {
         header: Header { counts, start, owners: vec![1, 2, 1], marks },
         formulas: formulas(dice, operands).iter().map(Formula::encode).collect(),
         threads: threads.iter().zip(OPERANDS).map(fields).collect(),
-        outline: (0..10).map(|_| 4 + dice.roll(12) as u16).collect(),
+        outline: (0..14).map(|_| 4 + dice.roll(12) as u16).collect(),
         lines: (0..10).map(|before| line(dice, before)).collect(),
         obligations: duties(&threads).iter().map(|_| dice.roll(11) as u16).collect(),
-        claims: Vec::new(),
+        claims: (0..dice.roll(17)).map(|_| claim(dice)).collect(),
     }
 }
 

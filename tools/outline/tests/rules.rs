@@ -4,7 +4,7 @@ use outline::build::build;
 use outline::text::parse_source::parse;
 
 /// Every kind of instruction: a has acquiring load, releasing store, swap, assignment; b relaxed ones;
-/// c exchange and fetch-add.
+/// c exchange and fetch-add; d pairs and two assignments.
 const PROGRAM: &str = "
 word x = 0
 word y = 5
@@ -18,6 +18,9 @@ thread b
 thread c
   registers s, p
   { true } s <- exchange x := p + 1 { true } s <- fetch-add x + p { true }
+thread d
+  registers k, m
+  { true } x :=rel m | k := m + 1 { true } swap x := 3 | m := 0 { true } k, m := m, k { true }
 proof
 ";
 
@@ -65,6 +68,14 @@ const FITTING: &[&str] = &[
        to { b sees [cov x] ; one x = p + 1 } by 49",
     "step c 1: { c sees [cov x] ; one x and b sees [cov x] ; one x }
        to { b sees [cov x] ; one x = s + p } by 49",
+    "step d 2: { m = 1 and k = 2 } to { k = 1 and m = 2 } by 2",
+    "step d 2: { d sees [x = m + k] } to { d sees [x = k + m] } by 2",
+    "step d 0: { d sees one x } to { d sees one x = m } by 6",
+    "step d 0: { k = 1 } to { k = 1 } by 1",
+    "step d 0: { d sees one x and m = 1 } to { d sees one x = m and k = 2 } by 50",
+    "step d 0: { d sees one x and m = 1 } to { d sees one x = m and k = 2 }",
+    "step d 0: { d sees one x and m = k } to { d sees one x & [x = m and k = x + 1] } by 50",
+    "step d 1: { a sees [cov x] ; one x and d sees [cov x] ; one x } to { a sees [cov x] ; one x = 3 and m = 0 } by 50",
     "fact { r = 1 or q = 1 } to { q = 1 or r = 1 } by 20",
     "fact { r = 1 or q = 1 } to { q < 2 or r < 2 } by 20",
     "fact { r = 1 } to { r < 2 } by 21",
@@ -138,6 +149,14 @@ const UNFITTING: &[&str] = &[
     "step c 1: { c sees [cov x] ; one x } to { c sees one x = p + s } by 48",
     "step a 2: { a sees [cov x] ; one x } to { a sees one x = 2 } by 48",
     "step c 0: { a sees [x < 2] and a sees [p + 1 < 2] } to { a sees [x < 2] } by 9",
+    "step d 2: { m = 1 and m = 2 } to { k = 1 and m = 2 } by 2",
+    "step d 2: { q = 1 } to { q = 1 } by 1",
+    "step d 2: { m = 1 } to { k = 1 } by 50",
+    "step d 0: { k = 1 } to { k = 1 } by 50",
+    "step d 0: { k = 1 } to { k = 1 }",
+    "step d 1: { m = 1 } to { m = 1 } by 50",
+    "step d 1: { true } to { m = 0 } by 2",
+    "step a 1: { a sees one x } to { a sees one x = 1 } by 50",
     "fact { r = 1 } to { q < 2 } by 20",
     "fact { a sees one x } to { b sees one x } by 22",
     "fact { r < 2 } to { r = 1 } by 21",

@@ -1,7 +1,7 @@
 //! The order of class 4. In images from before it is: asserting thread, its point, acting thread, acting point.
 
 use crate::Refusal;
-use reference::checker::frames::THREAD;
+use reference::checker::frames::{OBLIGATIONS, THREAD};
 use reference::image::written::{instructions, numbers, Instruction, Record};
 
 const BRANCH: u8 = 6;
@@ -21,7 +21,8 @@ pub fn order(records: &mut [Record]) -> Result<(), Refusal> {
     let threads = records.iter().filter(|record| record.kind == THREAD);
     let threads = threads.map(|record| instructions(&record.body)).collect::<Option<Vec<_>>>();
     let threads = threads.ok_or(Refusal::Lengths)?;
-    let body = &mut records.last_mut().ok_or(Refusal::Lengths)?.body;
+    let obligations = records.iter_mut().find(|record| record.kind == OBLIGATIONS);
+    let body = &mut obligations.ok_or(Refusal::Lengths)?.body;
     let lines = numbers(body).ok_or(Refusal::Lengths)?;
     let (before, class_4) = lines.split_at_checked(others(&threads)).ok_or(Refusal::Lengths)?;
     let places = former_places(&threads);

@@ -3,7 +3,7 @@
 use reference::checker::obligations::{duties, Duty};
 use reference::checker::{check, decode};
 use reference::image::Thread;
-use reference::stored::{images, stored_images};
+use reference::stored::{stored_images, StoredImage};
 use rewrite::{set, Refusal, Step};
 
 /// Samples of the stored sets from before each step, with the verdicts of that time.
@@ -54,10 +54,23 @@ fn stored_verdicts_are_kept() {
         for step in from_here_on(first).skip(1) {
             set = rewritten(&set.bytes, step);
         }
-        let judged = images(&set.bytes).expect("a set");
-        assert!(judged.iter().all(|agrees| *agrees), "{first:?}: {judged:?}");
-        assert_eq!(judged.len(), set.rewritten + set.kept);
+        let cases = stored_images(&set.bytes).expect("a set");
+        let kept =
+            |case: &&StoredImage| check(case.image).fields() == case.fields || is_known_since(case);
+        assert_eq!(cases.iter().filter(kept).count(), cases.len(), "{first:?}");
+        assert_eq!(cases.len(), set.rewritten + set.kept);
+        let since = cases.iter().filter(|case| is_known_since(case)).count();
+        assert!(since <= 5, "{first:?}: {since} differ");
     }
+}
+
+/// Operations 9 to 12, which have ten bytes, have come since, and rule 50: what was a number out of range is a length
+/// now, or no fault of that record.
+fn is_known_since(case: &StoredImage) -> bool {
+    let [code, record, ..] = case.fields;
+    let now = check(case.image);
+    let longer = (now.code, now.record) == (5, record);
+    code == 6 && (longer || now.record == 0 || now.record > record)
 }
 
 /// The obligations of class 4 with their lines, in the order from before the actors.

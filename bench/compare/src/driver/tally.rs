@@ -4,7 +4,7 @@ use std::collections::BTreeMap;
 use std::fmt;
 
 /// Every code that an image can have; 1 is a buffer's.
-const CODES: [u16; 13] = [0, 2, 3, 4, 5, 6, 7, 8, 9, 20, 21, 22, 23];
+const CODES: [u16; 14] = [0, 2, 3, 4, 5, 6, 7, 8, 9, 20, 21, 22, 23, 26];
 
 #[derive(Default)]
 pub struct Tally(BTreeMap<u16, u64>);

@@ -1,4 +1,4 @@
-//! Prints how often each code and each rule occurs in generated images.
+//! Prints how often each code, rule and operation and each number of claims occurs in generated images.
 //!
 //! Usage: coverage [N] [SEED]
 
@@ -22,6 +22,14 @@ fn main() {
     println!("code class   images");
     for ((code, class), count) in &coverage.classes {
         println!("{code:>4} {class:>5} {count:>8}");
+    }
+    println!("operation   images");
+    for (operation, count) in &coverage.operations {
+        println!("{operation:>9} {count:>8}");
+    }
+    println!("claims   images");
+    for (claims, count) in &coverage.claims {
+        println!("{claims:>6} {count:>8}");
     }
     println!("rule justified    unfit  decided");
     for (rule, counts) in &coverage.rules {

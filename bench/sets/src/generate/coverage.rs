@@ -1,9 +1,9 @@
-//! How often codes and rules occur in images.
+//! How often codes, rules, operations and claims occur in images.
 
 use reference::checker::rules;
 use reference::checker::{check, decode};
 use reference::image::Image;
-use std::collections::BTreeMap;
+use std::collections::{BTreeMap, BTreeSet};
 
 /// Counts for one rule.
 #[derive(Clone, Copy, Debug, Default, PartialEq, Eq)]
@@ -22,6 +22,10 @@ pub struct Coverage {
     pub codes: BTreeMap<u16, u64>,
     pub rules: BTreeMap<u8, RuleCounts>,
     pub classes: BTreeMap<(u16, u16), u64>,
+    /// Images in order that have an instruction of an operation.
+    pub operations: BTreeMap<u8, u64>,
+    /// Images in order with so many claims.
+    pub claims: BTreeMap<usize, u64>,
 }
 
 impl Coverage {
@@ -33,6 +37,17 @@ impl Coverage {
         }
         if let Ok(image) = decode(bytes) {
             self.add_lines(&image, verdict.code == 22);
+            self.add_program(&image);
+        }
+    }
+
+    fn add_program(&mut self, image: &Image) {
+        *self.claims.entry(image.claims.len()).or_default() += 1;
+        let instructions = image.program.threads.iter().flatten();
+        let operations: BTreeSet<u8> =
+            instructions.map(|one| one.fields(&[]).first.operation).collect();
+        for operation in operations {
+            *self.operations.entry(operation).or_default() += 1;
         }
     }
 

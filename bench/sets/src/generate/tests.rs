@@ -21,6 +21,14 @@ fn every_code_and_rule_occurs() {
         let count = coverage.codes.get(&code).copied().unwrap_or(0);
         assert!(count >= 40, "code {code} occurs {count} times");
     }
+    for operation in 0..=12 {
+        let count = coverage.operations.get(&operation).copied().unwrap_or(0);
+        assert!(count >= 500, "operation {operation} occurs in {count} images");
+    }
+    for claims in [0, 1, 2, 16] {
+        let count = coverage.claims.get(&claims).copied().unwrap_or(0);
+        assert!(count >= 15, "{claims} claims occur in {count} images");
+    }
     for rule in rules() {
         let counts = coverage.rules.get(&rule).copied().unwrap_or_default();
         let enough = counts.justified >= 50 && counts.unfit >= 50 && counts.decided >= 15;

@@ -3,7 +3,7 @@
 use reference::stored::stored_images;
 
 /// The codes of the verdict table, but for the one of a short output, which no image has.
-const CODES: [u16; 13] = [0, 2, 3, 4, 5, 6, 7, 8, 9, 20, 21, 22, 23];
+const CODES: [u16; 14] = [0, 2, 3, 4, 5, 6, 7, 8, 9, 20, 21, 22, 23, 26];
 
 /// The line for a container of images, counted from the stored fields; none if it is cut short.
 pub fn line(name: &str, bytes: &[u8]) -> Option<String> {
@@ -25,7 +25,7 @@ mod tests {
         let cases = [Case::new("empty", Vec::new()), Case::new("cut short", vec![1])];
         let expected = "two.bin: 2 cases: 0 of code 0, 1 of code 2, 1 of code 3, 0 of code 4, \
              0 of code 5, 0 of code 6, 0 of code 7, 0 of code 8, 0 of code 9, 0 of code 20, \
-             0 of code 21, 0 of code 22, 0 of code 23; 0 differ";
+             0 of code 21, 0 of code 22, 0 of code 23, 0 of code 26; 0 differ";
         assert_eq!(line("two.bin", &container(&cases)).as_deref(), Some(expected));
     }
 

@@ -4,7 +4,7 @@
 use super::edits::Draft;
 use super::tour::Spare;
 use super::Case;
-use reference::checker::frames::{FORMULA, HEADER, LINE, OBLIGATIONS, OUTLINE, THREAD};
+use reference::checker::frames::{CLAIM, FORMULA, HEADER, LINE, OBLIGATIONS, OUTLINE, THREAD};
 
 /// A fault that can be added to the tour image, and its place.
 struct Fault {
@@ -25,7 +25,7 @@ fn faults() -> Vec<Fault> {
         fault("6 in a formula", (FORMULA, 4), |d| d.put(FORMULA, 4, &[0, 8])),
         fault("7 in a formula", (FORMULA, 5), |d| d.put(FORMULA, 5, &[5])),
         fault("5 in a thread", (THREAD, 0), |d| d.append(THREAD, 0, &[0])),
-        fault("6 in a thread", (THREAD, 1), |d| d.set(THREAD, 1, 1, 9)),
+        fault("6 in a thread", (THREAD, 1), |d| d.set(THREAD, 1, 1, 13)),
         fault("8 in a thread", (THREAD, 0), |d| {
             let number = d.spare(Spare::Test);
             d.set_number(THREAD, 0, 4, number)
@@ -46,7 +46,10 @@ fn faults() -> Vec<Fault> {
         }),
         fault("5 in the obligations", (OBLIGATIONS, 0), |d| d.append(OBLIGATIONS, 0, &[0])),
         fault("6 in the obligations", (OBLIGATIONS, 0), |d| d.set_number(OBLIGATIONS, 0, 0, 999)),
+        fault("5 in a claim", (CLAIM, 0), |d| d.append(CLAIM, 0, &[0])),
+        fault("6 in a claim", (CLAIM, 1), |d| d.set(CLAIM, 1, 2, 2)),
         fault("20 at an obligation", (OBLIGATIONS, 0), |d| d.set_number(OBLIGATIONS, 0, 4, 0)),
+        fault("26 at a claim", (CLAIM, 1), |d| d.set_number(CLAIM, 1, 4, 0)),
     ]
 }
 
@@ -85,10 +88,10 @@ fn with_frame_faults() -> Vec<Case> {
         let stray = [&draft.bytes()[..], &[0]].concat();
         cases.push(Case::new(format!("3 at the end before {}", fault.name), stray));
         let mut doubled = draft.clone();
-        doubled.records.push(draft.records[draft.records.len() - 1].clone());
+        doubled.records.push(draft.records[draft.index(OBLIGATIONS, 0)].clone());
         cases.push(doubled.case(format!("4 at the end before {}", fault.name)));
         let mut open = draft.clone();
-        open.records.pop();
+        open.records.truncate(draft.index(OBLIGATIONS, 0));
         cases.push(open.case(format!("4, obligations missing, before {}", fault.name)));
         let mut own = draft.clone();
         let index = draft.index(fault.record.0, fault.record.1);
@@ -150,7 +153,7 @@ fn within_thread() -> Vec<Case> {
         field(new(), 0, 2).append(THREAD, 0, &[0]).case("5 before 9 in one thread"),
         formula(new(), 0, Spare::Test).append(THREAD, 0, &[0]).case("5 before 8 in one thread"),
         field(new(), 0, 9).shorten(THREAD, 0, 5).case("5 before 6 in one thread"),
-        field(new(), 0, 2).set(THREAD, 1, 1, 9).case("9 in thread 1 before 6 in thread 2"),
+        field(new(), 0, 2).set(THREAD, 1, 1, 13).case("9 in thread 1 before 6 in thread 2"),
         formula(new(), 5, Spare::Test)
             .shorten(THREAD, 1, 1)
             .case("8 in thread 1 before 5 in thread 2"),
@@ -173,16 +176,16 @@ fn after_owners() -> Vec<Case> {
     let in_first = || Draft::new().set(THREAD, 0, 26, 7).set(THREAD, 0, 28, 3);
     vec![
         new().append(THREAD, 1, &[0]).case("5 before 23 in one thread"),
-        new().set(THREAD, 1, 1, 9).case("6 before 23: operation first"),
+        new().set(THREAD, 1, 1, 13).case("6 before 23: operation first"),
         new().set(THREAD, 1, 17, 3).case("6 before 23: word later"),
-        sort(new(), 1).set(THREAD, 1, 16, 9).case("6 before 8: sort first, operation 9 later"),
+        sort(new(), 1).set(THREAD, 1, 16, 13).case("6 before 8: sort first, operation 13 later"),
         sort(new(), 1).set_number(THREAD, 1, 19, 0).case("6 before 8: sort first, formula 0 later"),
         sort(new(), 1).case("8 before 23: sort first"),
         sort(new(), 3).case("8 before 23: sort later"),
         new().set(THREAD, 1, 2, 1).case("9 before 23: owner first"),
         new().set(THREAD, 1, 18, 1).case("9 before 23: owner later"),
         foreign.case("9 before 23 in one instruction: another thread's register on both sides"),
-        in_first().set(THREAD, 1, 1, 9).case("23 in thread 1 before 6 in thread 2"),
+        in_first().set(THREAD, 1, 1, 13).case("23 in thread 1 before 6 in thread 2"),
         in_first().append(THREAD, 1, &[0]).case("23 in thread 1 before 5 in thread 2"),
         new().set_number(OUTLINE, 0, 0, 0).case("23 in a thread before 6 in the outline"),
         new().set_number(OBLIGATIONS, 0, 0, 0).case("23 in a thread before 20"),
@@ -232,6 +235,6 @@ fn within_formula() -> Vec<Case> {
         put(2, &[0; 256]).case("5 before 7, left over, in a formula"),
         put(2, &[5]).put(FORMULA, 3, &[0, 8]).case("7 in a formula before 6 in the next"),
         put(2, &[0, 8]).put(FORMULA, 3, &[]).case("6 in a formula before 5 in the next"),
-        put(2, &[5]).set(THREAD, 0, 1, 9).case("7 in a formula before 6 in a thread"),
+        put(2, &[5]).set(THREAD, 0, 1, 13).case("7 in a formula before 6 in a thread"),
     ]
 }

@@ -14,11 +14,10 @@ fn named_code(label: &str) -> Option<u16> {
 }
 
 fn assert_labels(cases: &[Case]) {
-    for case in cases {
-        if let Some(code) = named_code(&case.label) {
-            assert_eq!(check(&case.image).code, code, "{}", case.label);
-        }
-    }
+    let differs =
+        |case: &&Case| named_code(&case.label).is_some_and(|code| check(&case.image).code != code);
+    let wrong: Vec<&str> = cases.iter().filter(differs).map(|case| &case.label[..]).collect();
+    assert!(wrong.is_empty(), "{wrong:#?}");
 }
 
 #[test]

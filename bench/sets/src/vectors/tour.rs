@@ -1,11 +1,11 @@
 //! The accepted image to which faults are added: every operation, two threads,
-//! lines of all three forms, 76 obligations.
+//! lines of all three forms, 144 obligations, two claims.
 
 use crate::generate::harness;
 use reference::formula::parse::Counts;
 use reference::formula::{Assertion, Interval, Test, Value};
 use reference::image::written::Record;
-use reference::image::{Access, Header, Instruction, Thread};
+use reference::image::{Access, Header, Instruction, Meeting, Note, Thread};
 use reference::proof::{implies, included, seen};
 use std::rc::Rc;
 
@@ -61,27 +61,47 @@ fn first_thread() -> Thread {
     ]
 }
 
-/// Thread 2 ends with the operations 7 and 8, each with the other's register as its operand.
+/// Thread 2 has the operations 7 to 12 from point 2 on. 7 and 8 have each the other's register as their operand; the
+/// last one trades these registers. Behind a branch that is always taken its last point is never reached.
 fn second_thread() -> Thread {
+    let note = || Note::new(2, register(4));
     vec![
         Access::Load { register: 2, word: 1, acquiring: true }.into(),
         Access::Store { word: 1, value: register(2), releasing: false }.into(),
         Access::Exchange { register: 2, word: 1, value: register(4) }.into(),
         Access::FetchAdd { register: 4, word: 2, value: register(2) }.into(),
+        Instruction::pair(Access::Store { word: 1, value: register(2), releasing: false }, note()),
+        Instruction::pair(Access::Store { word: 2, value: register(2), releasing: true }, note()),
+        Instruction::pair(Access::Swap { word: 1, value: register(2) }, note()),
+        Instruction::trade(Note::new(4, register(2)), note()),
+        Instruction::Branch { test: Test::truth().into(), target: 0 },
     ]
 }
 
-/// The thread, from 0, and the point of the instruction with this operation.
+/// The thread, from 0, of the instruction with this operation, and where its bytes begin in the record's body.
 pub fn place_of(operation: usize) -> (usize, usize) {
     match operation {
-        0..=6 => (0, operation),
-        _ => (1, operation - 5),
+        0..=6 => (0, 1 + 5 * operation),
+        7 | 8 => (1, 1 + 5 * (operation - 5)),
+        _ => (1, 21 + 10 * (operation - 9)),
     }
 }
 
+/// The claims: thread 2 is never at its last point, wherever thread 1 is.
+const NEVER: [Meeting; 2] = [
+    Meeting { thread: 1, point: 0, other_thread: 2, other_point: 9 },
+    Meeting { thread: 2, point: 9, other_thread: 1, other_point: 7 },
+];
+
 /// The records of the image.
 pub fn records() -> Vec<Record> {
-    let mut plan = harness::plan(harness::program(header(), vec![first_thread(), second_thread()]));
+    let mut program = harness::program(header(), vec![first_thread(), second_thread()]);
+    let never = Rc::new(Assertion::holds(Test::False));
+    *program.outline[1].last_mut().expect("a last point") = never.clone();
+    let mut plan = harness::plan(program);
+    let both = Assertion::both(Assertion::truth(), never.clone());
+    let ruled_out = implies(20, both, never, &[]);
+    plan.claims = NEVER.map(|meeting| (meeting, Some(ruled_out.clone()))).to_vec();
     let known = Interval::both(Interval::One(1), Interval::all(Test::Covered(2)));
     let part = included(39, known.clone(), Interval::One(1), &[]);
     let premises = [&seen(2, &part)];

@@ -7,7 +7,7 @@ use reference::checker::obligations::duties;
 use reference::formula::parse::Counts;
 use reference::formula::{Test, Value};
 use reference::image::written::{Half, Instruction, Line, Written};
-use reference::image::{self, Header, Thread};
+use reference::image::{self, Claim, Header, Meeting, Thread};
 
 /// How much an image holds.
 pub struct Size {
@@ -60,12 +60,13 @@ const INTERVAL: u8 = 2;
 const ASSERTION: u8 = 3;
 
 /// Those that set a register stand behind the others.
-const ACTION: [u8; 8] = [3, 4, 5, 0, 1, 2, 7, 8];
+const ACTION: [u8; 12] = [3, 4, 5, 0, 1, 2, 7, 8, 9, 10, 11, 12];
 /// The rules whose lines are triples.
-const TRIPLES: [u8; 19] = [1, 2, 3, 4, 5, 6, 7, 8, 9, 10, 11, 12, 13, 14, 15, 16, 47, 48, 49];
+const TRIPLES: [u8; 20] = [1, 2, 3, 4, 5, 6, 7, 8, 9, 10, 11, 12, 13, 14, 15, 16, 47, 48, 49, 50];
 
 const SWAP: u8 = 5;
 const BRANCH: u8 = 6;
+const TRADE: u8 = 12;
 
 /// A formula that fits in a record.
 fn formula(random: &mut Random, names: &Names, sort: u8, plain: bool, left: usize) -> Vec<u8> {
@@ -186,14 +187,24 @@ impl Program<'_> {
             let word = 1 + random.below(self.size.words) as u8;
             let mut register = |from: &[u8]| from[random.below(from.len())];
             let (operation, a, b, formula) = match operation {
-                0 => (0, register(&registers), 0, value),
+                TRADE if registers.len() < 2 => (0, register(&registers), 0, value),
+                0 | TRADE => (operation, register(&registers), 0, value),
                 1 | 2 => (operation, register(&registers), word, 0),
                 7 | 8 if free.is_empty() => (SWAP, word, 0, value),
                 7 | 8 => (operation, word, register(&free), value),
                 BRANCH => (BRANCH, random.below(points) as u8, 0, value + 1),
                 _ => (operation, word, 0, value),
             };
-            Instruction { first: Half { operation, a, b, formula }, second: None }
+            let first = Half { operation, a, b, formula };
+            let free = |r: &u8| operation != TRADE || *r != a;
+            let others: Vec<u8> = registers.iter().copied().filter(free).collect();
+            let noted = || Half {
+                operation: 0,
+                a: others[random.below(others.len())],
+                b: 0,
+                formula: value,
+            };
+            Instruction { first, second: (9..=TRADE).contains(&operation).then(noted) }
         };
         operations.iter().map(instruction).collect()
     }
@@ -246,6 +257,29 @@ impl Program<'_> {
         Line { rule, thread, point, left, right, premises }
     }
 
+    /// A few claims, or as many as there may be, where there are two threads.
+    fn claims(&self, random: &mut Random) -> Vec<Claim> {
+        let threads = self.size.threads;
+        let count = match random.below(8) {
+            _ if threads < 2 => 0,
+            0 => 16,
+            _ => random.below(3),
+        };
+        let point = |random: &mut Random, t: usize| random.below(self.threads[t].len() + 1) as u8;
+        let claim = |_| {
+            let first = random.below(threads);
+            let other = (first + 1 + random.below(threads - 1)) % threads;
+            let meeting = Meeting {
+                thread: first as u8 + 1,
+                point: point(random, first),
+                other_thread: other as u8 + 1,
+                other_point: point(random, other),
+            };
+            Claim { meeting, line: random.below(self.size.lines + 1) as u16 }
+        };
+        (0..count).map(claim).collect()
+    }
+
     /// A line number for each obligation. How many there are goes by the branches alone.
     fn obligations(&self, random: &mut Random) -> Vec<u16> {
         let stand_in = |&operation: &u8| match operation {
@@ -273,7 +307,7 @@ pub fn image(random: &mut Random, size: &Size) -> Vec<u8> {
         outline: program.outline(random),
         lines: (0..size.lines).map(|before| program.line(random, before, &actions)).collect(),
         obligations: program.obligations(random),
-        claims: Vec::new(),
+        claims: program.claims(random),
     };
     image.bytes()
 }

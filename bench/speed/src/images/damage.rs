@@ -46,6 +46,9 @@ const FORMULAS: [&[u8]; 12] = [
     &[28, 8],
 ];
 
+/// Those that code 23 is about, and those that have ten bytes.
+const OPERATIONS: [u8; 12] = [7, 8, 7, 8, 7, 8, 7, 8, 9, 10, 11, 12];
+
 const FORMULA: u8 = 2;
 const THREAD: u8 = 3;
 const LINE: u8 = 5;
@@ -55,10 +58,10 @@ fn rewrite(random: &mut Random, kind: u8, body: &mut Vec<u8>) {
     match kind {
         FORMULA if random.below(4) == 0 => body.resize(254 + random.below(4), 11),
         FORMULA => *body = FORMULAS[random.below(FORMULAS.len())].to_vec(),
-        // An exchange or fetch-add of some register, which its operand may name.
-        THREAD if body.len() > 1 && random.below(2) == 0 => {
-            let at = 1 + 5 * random.below(body.len() / 5);
-            body[at] = 7 + random.below(2) as u8;
+        // An exchange or fetch-add of some register, which its operand may name, or an operation of ten bytes.
+        THREAD if body.len() > 1 && random.below(8) > 0 => {
+            let at = if random.below(2) == 0 { 1 } else { 1 + 5 * random.below(body.len() / 5) };
+            body[at] = OPERATIONS[random.below(OPERATIONS.len())];
             body[at + 1] = 1;
             body[at + 2] = 1 + random.below(4) as u8;
         }
@@ -112,7 +115,7 @@ pub fn damage(random: &mut Random, image: &mut Vec<u8>) {
             let at = 4 + random.below(starts[1] - 4);
             image[at] = changed(random, image[at]);
         }
-        150..=349 => rewrite_record(random, &starts, image),
+        150..=449 => rewrite_record(random, &starts, image),
         // One to three bytes anywhere.
         _ => {
             for _ in 0..1 + random.below(3) {

@@ -154,6 +154,57 @@ fn an_operand_that_names_the_result_register_is_code_23() {
     }
 }
 
+/// The image with another body for its thread.
+fn with_thread(body: &[u8]) -> Vec<u8> {
+    let mut records = records();
+    records[0].1 = vec![1, 1, 2, 8, 0, 1, 1, 1, 1];
+    records[5].1 = body.to_vec();
+    bytes(&records)
+}
+
+#[test]
+fn operations_9_to_12_have_ten_bytes() {
+    for operation in 9..=12 {
+        let sound = [2, operation, 1, 0, 1, 0, 0, 2, 0, 1, 0];
+        expect(&with_thread(&sound), Ok(()));
+        expect(&with_thread(&sound[..6]), refused(5, 6));
+        expect(&with_thread(&[&sound[..], &[0]].concat()), refused(5, 6));
+        for (at, byte) in [(3, 1), (6, 3), (7, 3), (8, 1), (9, 0)] {
+            let mut wrong = sound;
+            wrong[at] = byte;
+            expect(&with_thread(&wrong), refused(6, 6));
+        }
+    }
+    expect(&with_thread(&[2, 12, 1, 0, 1, 0, 0, 1, 0, 1, 0]), refused(6, 6));
+    expect(&with_thread(&[2, 8, 1, 2, 1, 0, 0, 2, 0, 1, 0]), refused(5, 6));
+}
+
+#[test]
+fn claims_name_two_threads_and_points_of_theirs() {
+    let mut two = records();
+    two[0].1 = vec![2, 1, 1, 8, 0, 1, 1];
+    two.insert(6, (3, vec![1]));
+    two[7].1 = vec![2, 0, 2, 0, 2, 0];
+    two[10].1 = vec![1, 0, 2, 0, 2, 0, 2, 0];
+    let claimed = |body: &[u8], count: usize| {
+        let mut records = two.clone();
+        records.extend(vec![(8, body.to_vec()); count]);
+        bytes(&records)
+    };
+    expect(&claimed(&[1, 1, 2, 0, 1, 0], 16), Ok(()));
+    expect(&claimed(&[1, 1, 2, 0, 1, 0], 17), refused(4, 28));
+    expect(&claimed(&[1, 1, 2, 0, 1], 1), refused(5, 12));
+    for body in [
+        [1, 1, 1, 0, 1, 0],
+        [1, 2, 2, 0, 1, 0],
+        [2, 1, 1, 0, 1, 0],
+        [0, 0, 2, 0, 1, 0],
+        [1, 1, 2, 0, 3, 0],
+    ] {
+        expect(&claimed(&body, 1), refused(6, 12));
+    }
+}
+
 #[test]
 fn the_first_record_and_in_it_the_lowest_code_is_named() {
     let mut two = records();
@@ -176,7 +227,7 @@ fn stored_verdicts_are_met() {
     for case in &cases {
         let [code, record, ..] = case.fields;
         let refused = || Err(Refusal { code, record });
-        expect(case.image, if matches!(code, 0 | 20..=22) { Ok(()) } else { refused() });
+        expect(case.image, if matches!(code, 0 | 20..=22 | 26) { Ok(()) } else { refused() });
     }
     assert!(cases.len() > 2000);
 }

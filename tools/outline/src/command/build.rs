@@ -1,40 +1,64 @@
 //! `build`: an outline to an image, with the checker's own verdict on what was made.
 
-use crate::build::{build_past_failures, Built, Open};
+use crate::build::{build_watched, Built, Goal, Open};
 use crate::command::input::{called, mistake, mistakes, read, Input};
 use crate::command::judge::{judge, JUDGE};
 use crate::command::options::Options;
-use crate::command::{json, print, words, write, Done, Status};
+use crate::command::progress::Progress;
+use crate::command::truth::Looked;
+use crate::command::{interrupt, json, print, words, write, Done, Status};
 use crate::image::to_bytes;
 use crate::search::budget::TRIES;
+use crate::text::lex::Mistake;
 use crate::text::parse_source::parse_all;
 use crate::text::source::Source;
-use crate::text::{report, run};
-use reference::checker::obligations::Duty;
+use crate::text::{counted, report};
 use reference::checker::{limits, Verdict};
-use reference::explore::{seek, Bounds, Sought};
 
-/// How many open obligations are told with what was tried; the others are named only.
-const TOLD_IN_FULL: usize = 3;
+/// Which of those that are open are told with what was tried; the others are named only.
+enum Told {
+    First(usize),
+    At(u8, u8),
+    All,
+}
 
-/// How far runs are looked at for open obligations.
-const BOUNDS: Bounds = Bounds { steps: 12, writes: 6, starts: 64 };
-const MOST_STATES: usize = 30_000;
+impl Told {
+    fn of(options: &Options, source: &Source) -> Result<Told, String> {
+        let Some(at) = &options.at else {
+            return Ok(if options.all { Told::All } else { Told::First(3) });
+        };
+        let place = at.split_once(':').and_then(|(thread, point)| source.place(thread, point));
+        let (thread, point) =
+            place.ok_or(format!("`--at` wants THREAD:POINT of this outline, found `{at}`"))?;
+        Ok(Told::At(thread, point))
+    }
+
+    /// Whether the one with this number among all that is open is told in full.
+    fn in_full(&self, n: usize, goal: &Goal) -> bool {
+        match *self {
+            Told::First(most) => n < most,
+            Told::At(thread, point) => goal.is_at((thread, point)),
+            Told::All => true,
+        }
+    }
+}
 
 pub fn run(args: &[&str]) -> Done {
-    let options = Options::read(args, &["-o", "--partial", "--all", "--json"])?;
+    let options = Options::read(args, &["-o", "--partial", "--all", "--at", "--json"])?;
     let file = options.file()?;
     let Some(target) = &options.target else {
         return Err("`-o FILE` is wanted; see outline --help".into());
     };
+    interrupt::watch();
     let Input::Text(text) = read(file)? else {
         return Err(format!("{}: this is an image, not an outline", called(file)));
     };
     let source = parse_all(&text).map_err(|all| mistakes(file, &text, &all))?;
-    let built = build_past_failures(&source, TRIES).map_err(|e| mistake(file, &text, &e))?;
+    let told = Told::of(&options, &source)?;
+    let built = watched(&source).map_err(|e| mistake(file, &text, &e))?;
     let mut said: Vec<String> = built.failed.iter().map(|e| mistake(file, &text, e)).collect();
-    said.extend(open_ones(&source, &built, options.all));
-    let stays = !built.open.is_empty() || !built.failed.is_empty();
+    said.extend(open_ones(&source, &built, &told));
+    let stays = built.untried > 0 || !built.open.is_empty() || !built.failed.is_empty();
     if stays && !options.partial {
         said.push(nothing_written(called(file), &built));
         return tell(&options, &said, &[], None).map(|()| Status::Refused);
@@ -50,21 +74,41 @@ pub fn run(args: &[&str]) -> Done {
             "{target}: the library judges it; the program `verdict` reads at most {most} bytes"
         ));
     }
-    result.push(format!("{}   ({JUDGE})", words::verdict(&verdict, Some(&source))));
+    let claims = built.image.claims.len();
+    result.push(format!("{}   ({JUDGE})", words::verdict(&verdict, Some(&source), claims)));
     tell(&options, &said, &result, Some(&verdict))?;
     // Asked for with --partial, an image with open obligations is what was wanted.
     let wanted = verdict.code == 0 || options.partial;
     Ok(if wanted { Status::Accepted } else { Status::Refused })
 }
 
+/// Builds with progress on a terminal; an interrupt leaves the rest untried.
+fn watched(source: &Source) -> Result<Built, Mistake> {
+    let progress = Progress::default();
+    build_watched(source, TRIES, &|done, all| {
+        progress.at(done, all);
+        !interrupt::is_noted()
+    })
+}
+
 /// Why there is no image.
 fn nothing_written(file: &str, built: &Built) -> String {
-    let (open, all) = (built.open.len(), built.image.obligations.len());
     let failed = match built.failed.len() {
         0 => String::new(),
         n => format!("{n} named steps were not found, "),
     };
-    format!("{file}: {failed}{open} of {all} obligations are open; no image is written")
+    let (claims, duties) = (built.open_claims(), built.image.obligations.len());
+    let open = built.open.len() - claims;
+    let claims = match built.image.claims.len() {
+        0 => String::new(),
+        all => format!(", {claims} of {all} claims"),
+    };
+    let untried = match built.untried {
+        0 => String::new(),
+        n => format!("interrupted, {n} were not tried, "),
+    };
+    let all = format!("{open} of {duties} obligations{claims} are open");
+    format!("{file}: {untried}{failed}{all}; no image is written")
 }
 
 /// What stays open goes to standard error, what was written to standard output, unless the image goes there.
@@ -94,11 +138,17 @@ fn tell(
     Ok(())
 }
 
-/// A certificate made by search meets all but the open obligations, or this tool has a mistake.
+/// A certificate made by search serves all but what is open, or this tool has a mistake.
 fn agrees(source: &Source, built: &Built, verdict: &Verdict) -> Result<(), String> {
-    let met = built.image.obligations.iter().position(|n| *n == 0);
-    let met = met.unwrap_or(built.image.obligations.len());
-    if source.certificate.is_none() && met != usize::from(verdict.count) {
+    let image = &built.image;
+    let met = image.obligations.iter().position(|n| *n == 0).unwrap_or(image.obligations.len());
+    let wanted = match image.claims.iter().any(|claim| claim.line == 0) {
+        _ if met < image.obligations.len() => 20,
+        true => 26,
+        false => 0,
+    };
+    let right = (verdict.code, usize::from(verdict.count)) == (wanted, met);
+    if source.certificate.is_none() && !right {
         return Err(format!("mistake in this tool: the verdict is {verdict}"));
     }
     Ok(())
@@ -107,8 +157,12 @@ fn agrees(source: &Source, built: &Built, verdict: &Verdict) -> Result<(), Strin
 /// What was written, in one line.
 fn written(target: &str, built: &Built, bytes: usize) -> String {
     let i = &built.image;
+    let claims = match i.claims.len() {
+        0 => String::new(),
+        n => format!("{}, ", counted(n, "claim")),
+    };
     format!(
-        "{target}: {bytes} bytes, {} formulas, {} lines, {} obligations, {} open",
+        "{target}: {bytes} bytes, {} formulas, {} lines, {} obligations, {claims}{} open",
         i.formulas.len(),
         i.lines.len(),
         i.obligations.len(),
@@ -116,42 +170,19 @@ fn written(target: &str, built: &Built, bytes: usize) -> String {
     )
 }
 
-/// Open obligations, each with what the machine says of it.
-fn open_ones(source: &Source, built: &Built, all: bool) -> Vec<String> {
+/// What stays open, each with what the machine says of it.
+fn open_ones(source: &Source, built: &Built, told: &Told) -> Vec<String> {
     if built.open.is_empty() {
         return Vec::new();
     }
-    let duties: Vec<Duty> = built.open.iter().map(|o| o.duty).collect();
-    let sought = seek(&source.program(), &duties, BOUNDS, MOST_STATES);
-    let told = |(n, open): (usize, &Open)| {
-        let in_full = all || n < TOLD_IN_FULL;
+    let looked = Looked::at(source, &built.open);
+    let worded = |(n, open): (usize, &Open)| {
+        let in_full = told.in_full(n, &open.goal);
         let text = report::open(source, open, in_full);
         let (place, rest) = text.split_once('\n').expect("a line is told");
         // Whether it is false comes first: then nothing else matters.
-        let text = format!("{place}\n{}{rest}", truth(source, open, &sought, n, in_full));
+        let text = format!("{place}\n{}{rest}", looked.told(source, open, n, in_full));
         text.trim_end().to_string()
     };
-    built.open.iter().enumerate().map(told).collect()
-}
-
-/// False with a run, or not false as far as was looked.
-fn truth(source: &Source, open: &Open, sought: &Sought, n: usize, in_full: bool) -> String {
-    let Some(found) = &sought.runs[n] else {
-        let runs = match sought.all {
-            true => format!("no run breaks it (all {} states)", sought.states),
-            false => format!("no run of up to {} steps breaks it", sought.steps.saturating_sub(1)),
-        };
-        let why = match open.given_up {
-            Some(tries) => format!("given up after {tries} tries"),
-            None => "no rule leads there, as far as the search sees".into(),
-        };
-        return format!("  not false    {runs}: {why}\n");
-    };
-    let mut text = format!("  FALSE        a run of {} steps breaks it\n", found.steps.len());
-    if in_full {
-        for line in run::lines(&source.program(), &source.names, found) {
-            text += &format!("    {line}\n");
-        }
-    }
-    text
+    built.open.iter().enumerate().map(worded).collect()
 }

@@ -3,9 +3,9 @@
 use crate::command::input::Subject;
 use crate::command::judge::{judge, JUDGE};
 use crate::command::options::Options;
+use crate::command::progress::Progress;
 use crate::command::{json, print, words, Done, Status};
 use reference::checker::Verdict;
-use std::io::{IsTerminal, Write};
 use std::path::Path;
 use std::sync::atomic::{AtomicUsize, Ordering};
 use std::sync::Mutex;
@@ -65,7 +65,7 @@ fn judge_all(files: &[String]) -> Vec<Judged> {
     let (next, done) = (AtomicUsize::new(0), AtomicUsize::new(0));
     let answers: Mutex<Vec<Option<Judged>>> = Mutex::new(vec![None; files.len()]);
     let cores = std::thread::available_parallelism().map_or(1, |n| n.get()).min(files.len());
-    let progress = files.len() > 1 && std::io::stderr().is_terminal();
+    let progress = (files.len() > 1).then(Progress::default);
     std::thread::scope(|threads| {
         for _ in 0..cores {
             threads.spawn(|| loop {
@@ -74,15 +74,12 @@ fn judge_all(files: &[String]) -> Vec<Judged> {
                 let judged = judge_one(file);
                 answers.lock().expect("no thread panics")[at] = Some(judged);
                 let done = done.fetch_add(1, Ordering::Relaxed) + 1;
-                if progress {
-                    let _ = write!(std::io::stderr(), "\r{done} of {} ", files.len());
+                if let Some(progress) = &progress {
+                    progress.at(done, files.len());
                 }
             });
         }
     });
-    if progress {
-        let _ = write!(std::io::stderr(), "\r{:20}\r", "");
-    }
     let answers = answers.into_inner().expect("no thread panics");
     answers.into_iter().map(|a| a.expect("each file is judged")).collect()
 }
@@ -90,7 +87,7 @@ fn judge_all(files: &[String]) -> Vec<Judged> {
 fn judge_one(file: &str) -> Judged {
     let subject = Subject::of(file)?;
     let verdict = judge(&subject.bytes);
-    Ok((verdict, words::verdict(&verdict, subject.source())))
+    Ok((verdict, words::verdict(&verdict, subject.source(), subject.claims())))
 }
 
 fn as_words(file: &str, judged: &Judged) -> String {

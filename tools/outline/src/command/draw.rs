@@ -6,9 +6,10 @@ use crate::command::judge::judge;
 use crate::command::options::Options;
 use crate::command::report::{bounds, Loaded};
 use crate::command::{json, print, write, Done, Status};
-use crate::draw::{counted, Ending, Picture};
+use crate::draw::{Ending, Picture};
 use crate::markup::Element;
 use crate::report::{picture, unbroken, Content};
+use crate::text::counted;
 
 pub fn run(args: &[&str]) -> Done {
     let allowed = ["-o", "--steps", "--writes", "--starts", "--outcome", "--json"];

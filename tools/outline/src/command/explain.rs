@@ -1,4 +1,4 @@
-//! `explain`: each obligation with its line, the line's rule, and its premises as a tree.
+//! `explain`: each obligation and claim with its line, the line's rule, and its premises as a tree.
 
 use crate::command::input::Subject;
 use crate::command::judge::{judge, JUDGE};
@@ -8,6 +8,7 @@ use crate::image::{self, Image};
 use crate::text::print::Names;
 use crate::text::{report, show};
 use reference::checker::obligations::duties;
+use reference::checker::rules::OF_PAIR;
 use std::collections::BTreeSet;
 use std::fmt::Write;
 
@@ -15,20 +16,21 @@ pub fn run(args: &[&str]) -> Done {
     let options = Options::read(args, &["--json"])?;
     let subject = Subject::of(options.file()?)?;
     let verdict = judge(&subject.bytes);
-    let said = words::verdict(&verdict, subject.source());
+    let said = words::verdict(&verdict, subject.source(), subject.claims());
     let status = if verdict.code == 0 { Status::Accepted } else { Status::Refused };
     let Ok(image) = image::read(&subject.bytes) else {
         let all = [("fields", json::fields(&verdict)), ("words", json::text(&said))];
         print(if options.json { json::object(&all) + "\n" } else { said + "\n" })?;
         return Ok(status);
     };
-    let (mut text, list) = obligations(&subject, &image);
-    text = format!("{said}   ({JUDGE})\n{text}");
+    let explained = Explained::of(&subject, &image);
+    let mut text = format!("{said}   ({JUDGE})\n{}", explained.text);
     if options.json {
         let all = [
             ("fields", json::fields(&verdict)),
             ("words", json::text(&said)),
-            ("obligations", json::list(list)),
+            ("obligations", json::list(explained.obligations)),
+            ("claims", json::list(explained.claims)),
         ];
         text = json::object(&all) + "\n";
     }
@@ -36,27 +38,56 @@ pub fn run(args: &[&str]) -> Done {
     Ok(status)
 }
 
-/// Each obligation with its tree, as text and as JSON.
-fn obligations(subject: &Subject, image: &Image) -> (String, Vec<String>) {
-    let names = subject.names(&image.program);
-    let mut told = BTreeSet::new();
-    let (mut text, mut list) = (String::new(), Vec::new());
-    let numbered = duties(&image.program.threads).into_iter().zip(&image.written.obligations);
-    for (n, (duty, &line)) in (1..).zip(numbered) {
-        let place = report::duty(&names, subject.source(), &duty);
-        let mut tree = String::new();
-        if line > 0 {
-            branch(image, &names, line, 1, &mut told, &mut tree);
+/// Obligations and claims with their trees, as text and as JSON.
+struct Explained {
+    text: String,
+    obligations: Vec<String>,
+    claims: Vec<String>,
+}
+
+impl Explained {
+    fn of(subject: &Subject, image: &Image) -> Explained {
+        let (names, source) = (subject.names(&image.program), subject.source());
+        let mut told = BTreeSet::new();
+        let mut all =
+            Explained { text: String::new(), obligations: Vec::new(), claims: Vec::new() };
+        let numbered = duties(&image.program.threads).into_iter().zip(&image.written.obligations);
+        for (n, (duty, &line)) in (1..).zip(numbered) {
+            let place = report::duty(&names, source, &duty);
+            let tree = tree(image, &names, line, &mut told);
+            all.obligations.push(as_json("obligation", &place, line, &tree));
+            all.text += &as_text(n, &place, line, &tree);
         }
-        list.push(json::object(&[
-            ("obligation", json::text(&place)),
-            ("line", line.to_string()),
-            ("tree", json::text(&tree)),
-        ]));
-        let by = if line > 0 { format!("line {line}") } else { "no line".into() };
-        let _ = write!(text, "\n{n}. {place}: {by}\n{tree}");
+        for (n, claim) in (all.obligations.len() + 1..).zip(&image.written.claims) {
+            let place = report::claim(&names, source, &claim.meeting);
+            let tree = tree(image, &names, claim.line, &mut told);
+            all.claims.push(as_json("claim", &place, claim.line, &tree));
+            all.text += &as_text(n, &place, claim.line, &tree);
+        }
+        all
     }
-    (text, list)
+}
+
+fn as_json(what: &str, place: &str, line: u16, tree: &str) -> String {
+    json::object(&[
+        (what, json::text(place)),
+        ("line", line.to_string()),
+        ("tree", json::text(tree)),
+    ])
+}
+
+fn as_text(number: usize, place: &str, line: u16, tree: &str) -> String {
+    let by = if line > 0 { format!("line {line}") } else { "no line".into() };
+    format!("\n{number}. {place}: {by}\n{tree}")
+}
+
+/// What a line rests on; nothing for line 0.
+fn tree(image: &Image, names: &Names, line: u16, told: &mut BTreeSet<u16>) -> String {
+    let mut text = String::new();
+    if line > 0 {
+        branch(image, names, line, 1, told, &mut text);
+    }
+    text
 }
 
 /// A line and, the first time that it is met, what it rests on.
@@ -74,8 +105,10 @@ fn branch(
     let again = !told.insert(number) && !line.premises.is_empty();
     let above = if again { "   (its premises: above)" } else { "" };
     let says = show::arrow(line.rule);
-    let pad = "  ".repeat(depth);
-    let _ = writeln!(out, "{pad}line {number}, rule {}: {left} {says} {right}{above}", line.rule);
+    let half = image.program.is_pair((line.thread, line.point)) && line.rule != OF_PAIR;
+    let of = if half { " of the first half" } else { "" };
+    let (pad, rule) = ("  ".repeat(depth), line.rule);
+    let _ = writeln!(out, "{pad}line {number}, rule {rule}{of}: {left} {says} {right}{above}");
     if !again {
         for premise in &line.premises {
             branch(image, names, *premise, depth + 1, told, out);

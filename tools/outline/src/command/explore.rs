@@ -1,32 +1,30 @@
-//! `explore`: every run up to a bound; is an assertion false in one, can an outcome happen?
+//! `explore`: every run up to a bound; is an assertion or a claim false in one, can an outcome happen?
 
-use crate::command::input::{called, Subject};
+use crate::command::input::{called, mistakes, read, Input};
 use crate::command::options::Options;
 use crate::command::{json, print, Done, Status};
-use crate::text::parse_source::parse_test;
+use crate::text::parse_source::{parse_all, parse_test};
 use crate::text::print::Names;
-use crate::text::run;
+use crate::text::{counted, run};
 use reference::checker::decode;
 use reference::explore::truth::violation;
 use reference::explore::{explore, find, Bounds, Break, Cut, Fault, Outcome, Run, Sought};
 use reference::formula::Assertion;
-use reference::image::Program;
+use reference::image::{Meeting, Program};
 use reference::machine::{take, State, View};
 
 /// So many states are looked at for an outcome.
 const MOST_STATES: usize = 2_000_000;
 
 pub fn run(args: &[&str]) -> Done {
-    let allowed = ["--steps", "--writes", "--starts", "--outcome", "--json"];
+    let allowed = ["--steps", "--writes", "--starts", "--claims", "--outcome", "--json"];
     let options = Options::read(args, &allowed)?;
     let file = options.file()?;
     let subject = Subject::of(file)?;
-    let image = decode(&subject.bytes);
-    let image = image.map_err(|_| format!("{}: no program to run", called(file)))?;
-    let names = subject.names(&image.program);
     let (said, status) = match &options.outcome {
-        Some(outcome) => can_happen(&options, &image.program, &names, outcome)?,
-        None => assertions(&options, &image.program, &names),
+        Some(outcome) => can_happen(&options, &subject, outcome)?,
+        None if options.claims => claims_alone(&options, &subject),
+        None => outline(&options, &subject),
     };
     if options.json {
         let word = if status == Status::Accepted { "holds" } else { "false" };
@@ -47,26 +45,101 @@ pub fn run(args: &[&str]) -> Done {
     Ok(status)
 }
 
-/// Is an assertion false in a run?
-fn assertions(options: &Options, program: &Program, names: &Names) -> (Vec<String>, Status) {
-    let bounds = options.bounds();
-    let found = explore(program, &[], bounds);
-    match found.outcome {
-        Outcome::Holds { .. } => {
-            let seen = format!("holds in {} states, up to {} steps", found.states, bounds.steps);
-            (vec![seen, reach(&found.cut)], Status::Accepted)
-        }
-        Outcome::Breaks(Break { start, run, fault }) => {
-            let steps = run.len();
-            let run = Run { start, steps: run };
-            let mut said = vec![format!("FALSE: a run of {steps} steps breaks an assertion")];
-            said.extend(run::lines(program, names, &run));
-            if let Fault::Assertion { thread } = fault {
-                said.extend(false_there(program, names, &end_of(program, &run), thread));
+/// What is run: a program with its outline and claims. No certificate is needed for it.
+struct Subject {
+    program: Program,
+    claims: Vec<Meeting>,
+    names: Names,
+}
+
+impl Subject {
+    fn of(file: &str) -> Result<Subject, String> {
+        match read(file)? {
+            Input::Text(text) => {
+                let source = parse_all(&text).map_err(|all| mistakes(file, &text, &all))?;
+                let (program, claims) = (source.program(), source.meetings());
+                Ok(Subject { program, claims, names: source.names })
             }
-            (said, Status::Refused)
+            Input::Image(bytes) => {
+                let image = decode(&bytes);
+                let image = image.map_err(|_| format!("{}: no program to run", called(file)))?;
+                let claims = image.claims.iter().map(|claim| claim.meeting).collect();
+                let names = Names::of(&image.program);
+                Ok(Subject { program: image.program, claims, names })
+            }
         }
     }
+
+    fn run(&self, run: &Run) -> Vec<String> {
+        run::lines(&self.program, &self.names, run)
+    }
+
+    fn end_of(&self, run: &Run) -> State {
+        run.steps.iter().fold(run.start.clone(), |state, step| {
+            take(&self.program.threads, &state, *step).expect("a step of the run")
+        })
+    }
+
+    /// Two threads at their points.
+    fn met(&self, meeting: &Meeting) -> String {
+        let Meeting { thread, point, other_thread, other_point } = *meeting;
+        let (one, other) = (self.names.thread(thread), self.names.thread(other_thread));
+        format!("{one} at point {point}, {other} at point {other_point}")
+    }
+
+    /// The claims as they hold.
+    fn never(&self) -> impl Iterator<Item = String> + '_ {
+        self.claims.iter().map(|meeting| format!("never: {}", self.met(meeting)))
+    }
+}
+
+/// Is an assertion or a claim false in a run?
+fn outline(options: &Options, subject: &Subject) -> (Vec<String>, Status) {
+    let bounds = options.bounds();
+    let found = explore(&subject.program, &subject.claims, bounds);
+    let Break { start, run, fault } = match found.outcome {
+        Outcome::Holds { .. } => {
+            let seen = format!("holds in {} states, up to {} steps", found.states, bounds.steps);
+            let said = [seen].into_iter().chain(subject.never()).chain([reach(&found.cut)]);
+            return (said.collect(), Status::Accepted);
+        }
+        Outcome::Breaks(broken) => broken,
+    };
+    let run = Run { start, steps: run };
+    let said = match fault {
+        Fault::Assertion { thread } => {
+            let end = false_there(subject, &subject.end_of(&run), thread);
+            broken(subject, &run, "an assertion", end)
+        }
+        Fault::Claim(meeting) => broken_claim(subject, &run, &meeting),
+    };
+    (said, Status::Refused)
+}
+
+/// Is a claim false in a run, whatever the assertions say?
+fn claims_alone(options: &Options, subject: &Subject) -> (Vec<String>, Status) {
+    let in_one = |state: &State| subject.claims.iter().find(|meeting| state.has_meeting(meeting));
+    let wanted = |state: &State| in_one(state).is_some();
+    let sought = find(&subject.program, options.bounds(), MOST_STATES, &wanted);
+    let Some(run) = &sought.runs[0] else {
+        let seen = format!("no claim breaks in {}", counted(sought.states, "state"));
+        let said = [seen].into_iter().chain(subject.never()).chain([far(&sought)]);
+        return (said.collect(), Status::Accepted);
+    };
+    let state = subject.end_of(run);
+    let meeting = in_one(&state).expect("the run ends in a meeting");
+    (broken_claim(subject, run, meeting), Status::Refused)
+}
+
+/// A run that breaks something, and what is wrong at its end.
+fn broken(subject: &Subject, run: &Run, what: &str, end: Vec<String>) -> Vec<String> {
+    let first = format!("FALSE: a run of {} breaks {what}", counted(run.steps.len(), "step"));
+    [first].into_iter().chain(subject.run(run)).chain(end).collect()
+}
+
+fn broken_claim(subject: &Subject, run: &Run, meeting: &Meeting) -> Vec<String> {
+    let end = format!("claimed never to happen: {}", subject.met(meeting));
+    broken(subject, run, "a claim", vec![end])
 }
 
 /// Which bound kept some run from being looked at.
@@ -79,16 +152,19 @@ fn reach(cut: &Cut) -> String {
     format!("not all states: cut by {}", cut.join(", "))
 }
 
-fn end_of(program: &Program, run: &Run) -> State {
-    run.steps.iter().fold(run.start.clone(), |state, step| {
-        take(&program.threads, &state, *step).expect("a step of the run")
-    })
+/// How far a search has come.
+fn far(sought: &Sought) -> String {
+    match sought.all {
+        true => "these are all states".into(),
+        false => reach(&sought.cut),
+    }
 }
 
 /// The assertion that is false, and for what a thread should see the prospect that violates it.
-fn false_there(program: &Program, names: &Names, state: &State, thread: u8) -> Vec<String> {
+fn false_there(subject: &Subject, state: &State, thread: u8) -> Vec<String> {
+    let names = &subject.names;
     let point = state.points[usize::from(thread) - 1];
-    let assertion = program.assertion(thread, point);
+    let assertion = subject.program.assertion(thread, point);
     let name = names.thread(thread);
     let mut said = vec![format!("false: {name} at point {point}: {}", names.assertion(assertion))];
     violated(names, state, assertion, &mut said);
@@ -122,18 +198,17 @@ fn view(names: &Names, state: &State, view: &View) -> String {
 /// Can the test of registers be true when all threads are at their last points?
 fn can_happen(
     options: &Options,
-    program: &Program,
-    names: &Names,
+    subject: &Subject,
     outcome: &str,
 ) -> Result<(Vec<String>, Status), String> {
-    let sought = outcome_run(program, names, options.bounds(), outcome)?;
+    let sought = outcome_run(&subject.program, &subject.names, options.bounds(), outcome)?;
     let Some(run) = &sought.runs[0] else {
         let seen = format!("never: {outcome} (in {} states)", sought.states);
-        let all = if sought.all { "these are all states".into() } else { reach(&sought.cut) };
-        return Ok((vec![seen, all], Status::Accepted));
+        return Ok((vec![seen, far(&sought)], Status::Accepted));
     };
-    let mut said = vec![format!("happens: {outcome}, after {} steps", run.steps.len())];
-    said.extend(run::lines(program, names, run));
+    let steps = counted(run.steps.len(), "step");
+    let mut said = vec![format!("happens: {outcome}, after {steps}")];
+    said.extend(subject.run(run));
     Ok((said, Status::Refused))
 }
 

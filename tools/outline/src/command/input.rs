@@ -6,6 +6,7 @@ use crate::text::lex::{Mistake, Place};
 use crate::text::parse_source::parse_all;
 use crate::text::print::Names;
 use crate::text::source::Source;
+use reference::image::written::Written;
 use reference::image::Program;
 use std::io::Read;
 
@@ -71,12 +72,13 @@ impl Subject {
     pub fn names(&self, program: &Program) -> Names {
         match &self.outline {
             Some((source, _)) => source.names.clone(),
-            None => {
-                let header = &program.header;
-                let threads = program.threads.len();
-                Names::plain(header.start.len(), header.owners.len(), threads)
-            }
+            None => Names::of(program),
         }
+    }
+
+    /// How many claims the image has.
+    pub fn claims(&self) -> usize {
+        Written::read(&self.bytes).map_or(0, |image| image.claims.len())
     }
 
     pub fn source(&self) -> Option<&Source> {

@@ -6,11 +6,14 @@ pub mod draw;
 pub mod explain;
 pub mod explore;
 pub mod input;
+pub mod interrupt;
 pub mod json;
 pub mod judge;
 pub mod options;
+pub mod progress;
 pub mod report;
 pub mod show;
+pub mod truth;
 pub mod words;
 
 use std::io::Write;

@@ -10,6 +10,8 @@ pub struct Options {
     pub partial: bool,
     pub all: bool,
     pub json: bool,
+    pub claims: bool,
+    pub at: Option<String>,
     pub outcome: Option<String>,
     pub steps: Option<usize>,
     pub writes: Option<usize>,
@@ -28,6 +30,7 @@ impl Options {
             let mut value = || rest.next().copied().ok_or(format!("`{word}` wants a value"));
             match word {
                 "-o" => options.target = Some(value()?.into()),
+                "--at" => options.at = Some(value()?.into()),
                 "--outcome" => options.outcome = Some(value()?.into()),
                 "--steps" => options.steps = Some(number(word, value()?, 10_000)?),
                 "--writes" => options.writes = Some(number(word, value()?, 200)?),
@@ -35,6 +38,7 @@ impl Options {
                 "--partial" => options.partial = true,
                 "--all" => options.all = true,
                 "--json" => options.json = true,
+                "--claims" => options.claims = true,
                 file => options.files.push(file.into()),
             }
         }

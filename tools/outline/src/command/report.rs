@@ -47,7 +47,7 @@ pub fn bounds(options: &Options) -> Bounds {
 
 /// What was written goes to standard output, unless the page goes there.
 fn tell(options: &Options, target: &str, loaded: &Loaded, verdict: &Verdict) -> Result<(), String> {
-    let said = words::verdict(verdict, loaded.subject.source());
+    let said = words::verdict(verdict, loaded.subject.source(), loaded.subject.claims());
     let line = if options.json {
         let all = [
             ("written", json::text(target)),

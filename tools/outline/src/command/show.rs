@@ -12,7 +12,7 @@ pub fn run(words: &[&str]) -> Done {
     let file = options.file()?;
     let subject = Subject::of(file)?;
     let verdict = judge(&subject.bytes);
-    let said = words::verdict(&verdict, None);
+    let said = words::verdict(&verdict, None, subject.claims());
     let text = match image::read(&subject.bytes) {
         Ok(image) => show::show(&image),
         Err(_) => String::new(),

@@ -1,14 +1,14 @@
 //! Verdicts in words.
 
 use crate::image::fault;
+use crate::text::counted;
 use crate::text::source::Source;
 use reference::checker::Verdict;
 
 /// One line: ACCEPTED, or REFUSED with the code and what it is about.
-pub fn verdict(v: &Verdict, source: Option<&Source>) -> String {
+pub fn verdict(v: &Verdict, source: Option<&Source>, claims: usize) -> String {
     match v.code {
-        0 if v.count == 1 => "ACCEPTED: 1 obligation met".into(),
-        0 => format!("ACCEPTED: {} obligations met", v.count),
+        0 => accepted(v.count.into(), claims),
         20..=22 => {
             let lacks = match v.code {
                 20 => "it names no line".to_string(),
@@ -17,7 +17,24 @@ pub fn verdict(v: &Verdict, source: Option<&Source>) -> String {
             };
             format!("REFUSED: class {}, {}: {lacks} (code {})", v.class, place(v, source), v.code)
         }
+        26 => {
+            let lacks = match v.line {
+                0 => "it names no line".to_string(),
+                line => format!("its line {line} is not justified or concludes something else"),
+            };
+            let one = point(v.thread, v.point, source);
+            let other = point(v.other_thread, v.other_point, source);
+            format!("REFUSED: claim, never {one} and {other}: {lacks} (code 26)")
+        }
         code => format!("REFUSED: record {}: {} (code {code})", v.record, fault(code)),
+    }
+}
+
+fn accepted(obligations: usize, claims: usize) -> String {
+    let met = format!("ACCEPTED: {} met", counted(obligations, "obligation"));
+    match claims {
+        0 => met,
+        n => format!("{met}, {} shown", counted(n, "claim")),
     }
 }
 

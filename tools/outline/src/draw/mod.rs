@@ -7,6 +7,7 @@ pub mod story;
 mod timeline;
 
 use crate::markup::{el, Element};
+use crate::text::counted;
 use crate::text::print::Names;
 use canvas::{Canvas, LINE};
 use falsehood::{faults, Fault};
@@ -167,11 +168,6 @@ impl Picture<'_> {
         let words = (1..).zip(&self.names.words).map(|(x, name)| format!("{name} = {}", value(x)));
         format!("({})", words.collect::<Vec<String>>().join(", "))
     }
-}
-
-/// `1 step`, `2 steps`.
-pub fn counted(n: usize, what: &str) -> String {
-    format!("{n} {what}{}", if n == 1 { "" } else { "s" })
 }
 
 fn heading(canvas: &mut Canvas, text: &str) {

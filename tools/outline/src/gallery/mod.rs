@@ -7,8 +7,8 @@ pub mod times;
 use crate::build::{build, Built, Open};
 use crate::image::to_bytes;
 use crate::text::parse_source::parse;
-use crate::text::report;
 use crate::text::source::Source;
+use crate::text::{counted, report};
 pub use header::Header;
 use reference::explore::Break;
 use std::fmt::Write;
@@ -49,8 +49,7 @@ impl Example {
         let number = self.name.rsplit('-').next().unwrap_or_default();
         let steps = match self.broken.as_ref().map_or(0, |broken| broken.run.len()) {
             0 => "at the start".into(),
-            1 => "1 step".into(),
-            steps => format!("{steps} steps"),
+            steps => counted(steps, "step"),
         };
         format!("[{number}]({}.outline): {steps}", self.name)
     }
@@ -61,8 +60,9 @@ impl Example {
         format!("{} | {} | {}", image.lines.len(), image.formulas.len(), self.bytes)
     }
 
-    fn obligations(&self) -> usize {
-        self.built.image.obligations.len()
+    /// How many obligations and claims there are.
+    fn goals(&self) -> [usize; 2] {
+        [self.built.image.obligations.len(), self.built.image.claims.len()]
     }
 
     /// The first open obligation, in words.
@@ -114,18 +114,18 @@ pub fn tables(folder: &Path) -> Result<String, String> {
 
 fn proved_table(proved: &[&Example], wrong: &[&Example]) -> String {
     let mut text = String::from(
-        "| Program | Source | Proved | Obligations | Lines | Formulas | Bytes | Wrong variants |\n\
-         |---|---|---|---|---|---|---|---|\n",
+        "| Program | Source | Proved | Obligations | Claims | Lines | Formulas | Bytes | Wrong variants |\n\
+         |---|---|---|---|---|---|---|---|---|\n",
     );
     for e in proved {
         let variants = wrong.iter().filter(|w| variant_of(&w.name) == Some(&e.name));
         let links: Vec<String> = variants.map(|w| w.brief()).collect();
         let (from, shown) = (&e.header.from, &e.header.shown);
+        let [obligations, claims] = e.goals();
         let _ = writeln!(
             text,
-            "| {} | {from} | {shown} | {} | {} | {} |",
+            "| {} | {from} | {shown} | {obligations} | {claims} | {} | {} |",
             e.link(),
-            e.obligations(),
             e.size(),
             links.join(", ")
         );
@@ -145,7 +145,7 @@ fn beyond_table(beyond: &[&Example]) -> Result<String, String> {
             return Err(format!("{}: not seen to be true in every state", e.name));
         }
         let (from, shown, why) = (&e.header.from, &e.header.shown, &e.header.open);
-        let count = format!("{} ({} open)", e.obligations(), e.built.open.len());
+        let count = format!("{} ({} open)", e.goals()[0], e.built.open.len());
         let _ = writeln!(
             text,
             "| {} | {from} | {shown} | {count} | {} | {} | {why} |",
@@ -165,7 +165,8 @@ fn wrong_table(wrong: &[&Example]) -> Result<String, String> {
     );
     for e in wrong {
         let broken = e.broken.as_ref().ok_or(format!("{}: no run breaks it", e.name))?;
-        let (what, run) = (&e.header.first, run::words(&e.source, broken));
+        // A pair's bar would end the table's cell.
+        let (what, run) = (&e.header.first, run::words(&e.source, broken).replace('|', "\\|"));
         let _ = writeln!(text, "| {} | {what} | {} | {run} |", e.link(), e.first_open());
     }
     Ok(text)

@@ -2,26 +2,29 @@
 
 use crate::text::source::Source;
 use reference::explore::{explore, Bounds, Break, Fault, Outcome};
-use reference::image::Access;
+use reference::image::{Access, Meeting};
 use reference::machine::{take, State, Step};
 
 /// Every wrong variant breaks within these.
 const BOUNDS: Bounds = Bounds { steps: 10, writes: 6, starts: 4096 };
 
-/// A shortest run that makes an assertion false, if there is one.
+/// All states of an outline that stays open are within these: loops come back to states that were seen.
+const ALL: Bounds = Bounds { steps: 60, ..BOUNDS };
+
+/// A shortest run that makes an assertion or a claim false, if there is one.
 pub fn breaking(source: &Source) -> Option<Break> {
-    match explore(&source.program(), &[], BOUNDS).outcome {
+    match explore(&source.program(), &source.meetings(), BOUNDS).outcome {
         Outcome::Breaks(broken) => Some(broken),
         Outcome::Holds { .. } => None,
     }
 }
 
-/// Whether the bounds leave no state out and every assertion is true in each.
+/// Whether the bounds leave no state out and every assertion and claim is true in each.
 pub fn is_true_in_all_states(source: &Source) -> bool {
-    explore(&source.program(), &[], BOUNDS).outcome == Outcome::Holds { all: true }
+    explore(&source.program(), &source.meetings(), ALL).outcome == Outcome::Holds { all: true }
 }
 
-/// The run step by step, and which assertion is false at its end.
+/// The run step by step, and what is false at its end.
 pub fn words(source: &Source, broken: &Break) -> String {
     let mut state = broken.start.clone();
     let mut parts: Vec<String> = starts(source, &state).into_iter().collect();
@@ -30,14 +33,20 @@ pub fn words(source: &Source, broken: &Break) -> String {
         parts.push(step_words(source, &state, &next, step));
         state = next;
     }
-    let said = match broken.fault {
+    format!("{}. Now {}", parts.join("; "), fault(source, &state, broken.fault))
+}
+
+/// What is wrong at the end of the run.
+fn fault(source: &Source, state: &State, fault: Fault) -> String {
+    let named = |thread: u8, point: u8| format!("{}'s point {point}", source.names.thread(thread));
+    match fault {
         Fault::Assertion { thread } => {
-            let point = state.points[usize::from(thread) - 1];
-            format!("{}'s point {point}", source.names.thread(thread))
+            format!("false: {}", named(thread, state.points[usize::from(thread) - 1]))
         }
-        Fault::Claim(_) => "a claim".into(),
-    };
-    format!("{}. Now false: {said}", parts.join("; "))
+        Fault::Claim(Meeting { thread, point, other_thread, other_point }) => {
+            format!("together: {} and {}", named(thread, point), named(other_thread, other_point))
+        }
+    }
 }
 
 /// The open registers that do not start at 0.
@@ -53,27 +62,20 @@ fn step_words(source: &Source, before: &State, after: &State, step: Step) -> Str
     let point = before.points[usize::from(step.thread) - 1];
     let instruction = &source.threads[usize::from(step.thread) - 1][usize::from(point)];
     let text = format!("{thread} `{}`", source.names.instruction(instruction));
-    let row = |word: u8| before.row(word);
-    match instruction.access() {
-        Some(
-            Access::Load { word, .. }
-            | Access::Exchange { word, .. }
-            | Access::FetchAdd { word, .. },
-        ) => {
-            format!("{text} reads {}", row(*word)[step.position].value)
+    let Some(access) = instruction.access() else {
+        return match instruction.is_branch() {
+            true => format!("{text} goes to {}", after.points[usize::from(step.thread) - 1]),
+            false => text,
+        };
+    };
+    let row = before.row(access.word());
+    let picked = row[step.position].value;
+    let last = step.position + 1 == row.len();
+    match access {
+        Access::Load { .. } | Access::Exchange { .. } | Access::FetchAdd { .. } => {
+            format!("{text} reads {picked}")
         }
-        Some(Access::Store { word, .. } | Access::Swap { word, .. }) => {
-            let picked = row(*word)[step.position].value;
-            let last = step.position + 1 == row(*word).len();
-            if last {
-                text
-            } else {
-                format!("{text} behind {picked}, not last")
-            }
-        }
-        None if instruction.is_branch() => {
-            format!("{text} goes to {}", after.points[usize::from(step.thread) - 1])
-        }
-        None => text,
+        Access::Store { .. } | Access::Swap { .. } if last => text,
+        Access::Store { .. } | Access::Swap { .. } => format!("{text} behind {picked}, not last"),
     }
 }

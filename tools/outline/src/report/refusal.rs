@@ -3,9 +3,10 @@
 use super::goals::{asserting, goal_element, goal_words, kind, met, wanted};
 use super::parts::{self, note};
 use super::{Content, Subject};
-use crate::draw::{counted, Ending, Picture};
+use crate::draw::{Ending, Picture};
 use crate::judged::{Broken, Goal, Judged};
 use crate::markup::{el, of, Element};
+use crate::text::counted;
 use reference::explore::Sought;
 
 /// The first obligation that is not met: the one that the verdict names.

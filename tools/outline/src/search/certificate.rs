@@ -1,6 +1,6 @@
 //! The lines found so far, each conclusion once.
 
-use reference::checker::rules::{follows, MOST_PREMISES};
+use reference::checker::rules::{follows, MOST_PREMISES, OF_PAIR};
 use reference::formula::nesting::Nesting;
 use reference::image::{Program, Statement};
 use std::collections::HashMap;
@@ -18,12 +18,22 @@ pub struct Entry {
 pub struct Certificate {
     pub entries: Vec<Entry>,
     known: HashMap<Statement, usize>,
+    /// What is known of whole pairs: the same words mean something else of a first half.
+    pairs: HashMap<Statement, usize>,
 }
 
 impl Certificate {
-    /// The place of a line that says this.
+    /// The place of a line that says this, at a pair's point of the first half.
     pub fn find(&self, statement: &Statement) -> Option<usize> {
         self.known.get(statement).copied()
+    }
+
+    /// The conclusions by this rule and those that mean the same by their words.
+    fn known_by(&mut self, rule: u8) -> &mut HashMap<Statement, usize> {
+        match rule {
+            OF_PAIR => &mut self.pairs,
+            _ => &mut self.known,
+        }
     }
 
     /// Adds a line if it follows by its rule and its formulas fit their records.
@@ -34,8 +44,8 @@ impl Certificate {
         statement: Statement,
         premises: &[usize],
     ) -> Option<usize> {
-        if let Some(at) = self.find(&statement) {
-            return Some(at);
+        if let Some(at) = self.known_by(rule).get(&statement) {
+            return Some(*at);
         }
         let given: Vec<&Statement> = premises.iter().map(|p| &self.entries[*p].statement).collect();
         let (left, right) = statement.sides();
@@ -43,9 +53,10 @@ impl Certificate {
         if !fits || !follows(program, rule, &statement, &given) {
             return None;
         }
-        self.known.insert(statement.clone(), self.entries.len());
+        let next = self.entries.len();
+        self.known_by(rule).insert(statement.clone(), next);
         self.entries.push(Entry { rule, statement, premises: premises.to_vec() });
-        Some(self.entries.len() - 1)
+        Some(next)
     }
 
     /// The lines that the given ones rest on, in order, themselves among them.

@@ -3,6 +3,7 @@
 use super::prover::{At, Line, Prover};
 use crate::terms::*;
 use crate::text::source::{Hint, Middle};
+use reference::checker::rules::OF_PAIR;
 use reference::formula::{Assertion, Interval};
 use reference::image::Statement;
 
@@ -16,8 +17,9 @@ impl Prover<'_> {
                     return self.step_through(at, (left, right), (p, q));
                 }
                 match hint.rule {
+                    None => self.whole(at, left, right),
+                    Some(OF_PAIR) => self.by_half(at, left, right),
                     Some(rule) => self.step_by(at, rule, left, right),
-                    None => self.triple(at, left, right),
                 }
             }
             Statement::Implication { left, right } => match hint.rule {

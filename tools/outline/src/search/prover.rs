@@ -151,9 +151,10 @@ impl<'a> Prover<'a> {
         self.add(rule, at.triple(left, right), premises)
     }
 
-    /// The instruction at a place that has one.
+    /// The instruction at a place that has one; of a pair the first half, of which its lines speak.
     pub fn instruction(&self, at: At) -> Instruction {
-        self.program.instruction(at.thread, at.point).expect("an instruction stands here").clone()
+        let whole = self.program.instruction(at.thread, at.point);
+        whole.expect("an instruction stands here").first_half()
     }
 
     /// Rule 16; a missing implication is the identity, and none at all needs no line.

@@ -23,6 +23,7 @@ impl Prover<'_> {
         self.ways_kept(context, u, j, ways);
         self.ways_by_value(context, u, j, ways);
         self.ways_by_store(context, u, j, ways);
+        self.ways_by_handover(context, u, j, ways);
         self.ways_by_swap(context, u, j, ways);
         self.ways_apart(context, u, j, ways);
     }
@@ -82,13 +83,13 @@ impl Prover<'_> {
     }
 
     /// The intervals that may stand before a new write: beginnings of J, and what u sees already.
-    fn fronts(&self, context: &Context, u: u8, j: &I) -> Vec<I> {
+    pub fn fronts(&self, context: &Context, u: u8, j: &I) -> Vec<I> {
         let beginnings = cuts(j).into_iter().map(|c| c.0);
         unique([j.clone()].into_iter().chain(beginnings).chain(context.seen_by(u)))
     }
 
     /// What the writer may pass on: ends of J, and what t sees already, without the word and the result.
-    fn passed_on(&self, context: &Context, x: u8, j: &I) -> Vec<I> {
+    pub fn passed_on(&self, context: &Context, x: u8, j: &I) -> Vec<I> {
         let ends = cuts(j).into_iter().map(|c| c.1);
         let ways = unique(ends.chain(context.seen_by(context.at.thread)).chain([j.clone()]));
         let result = self.instruction(context.at).result();
@@ -197,6 +198,6 @@ pub fn covering(instruction: &Instruction) -> Option<(u8, u8, Write)> {
 }
 
 /// `[unsync x]`
-fn unsync(x: u8) -> I {
+pub fn unsync(x: u8) -> I {
     all(&Test::Unsync(x).into())
 }

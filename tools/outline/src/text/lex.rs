@@ -68,7 +68,7 @@ const MARKS: [&str; 24] = [
 const FETCH_ADD: &str = "fetch-add";
 
 /// The words that cannot be names.
-pub const KEYWORDS: [&str; 34] = [
+pub const KEYWORDS: [&str; 35] = [
     "range",
     "word",
     "register",
@@ -77,6 +77,7 @@ pub const KEYWORDS: [&str; 34] = [
     "of",
     "let",
     "thread",
+    "never",
     "proof",
     "certificate",
     "sees",

@@ -2,7 +2,10 @@
 
 pub mod lex;
 pub mod parse_certificate;
+pub mod parse_claim;
 pub mod parse_formula;
+pub mod parse_instruction;
+pub mod parse_proof;
 pub mod parse_source;
 pub mod print;
 pub mod report;
@@ -12,6 +15,14 @@ pub mod show;
 pub mod source;
 
 use reference::formula::Sort;
+
+/// A number of things, one thing without the plural's s.
+pub fn counted(number: usize, thing: &str) -> String {
+    match number {
+        1 => format!("1 {thing}"),
+        _ => format!("{number} {thing}s"),
+    }
+}
 
 /// The word for a sort in the text form and in messages.
 pub fn sort_name(sort: Sort) -> &'static str {

@@ -1,4 +1,4 @@
-//! The part `certificate`: formulas, lines and obligations written out in full.
+//! The part `certificate`: formulas, lines, obligations and claims written out in full.
 
 use crate::text::lex::{Mistake, Token};
 use crate::text::parse_formula::Cursor;
@@ -6,7 +6,7 @@ use crate::text::parse_source::{check_size, sort_word};
 use crate::text::source::Certificate;
 use reference::image::written::Line;
 
-/// Reads formulas, lines and obligations, numbered from 1 without gaps.
+/// Reads formulas, lines, obligations and claims, numbered from 1 without gaps.
 pub fn certificate(c: &mut Cursor) -> Result<Certificate, Mistake> {
     let mut all = Certificate::default();
     loop {
@@ -24,9 +24,9 @@ pub fn certificate(c: &mut Cursor) -> Result<Certificate, Mistake> {
             let next = one_line(c, all.formulas.len(), all.lines.len())?;
             all.lines.push(next);
         } else if c.take("obligations") {
-            while matches!(c.peek(), Token::Number(_)) {
-                all.obligations.push(within(c, "line", 0, all.lines.len())? as u16);
-            }
+            all.obligations.extend(line_numbers(c, 0, all.lines.len())?);
+        } else if c.take("claims") {
+            all.claims.extend(line_numbers(c, 0, all.lines.len())?);
         } else {
             return Ok(all);
         }
@@ -50,6 +50,15 @@ fn within(c: &mut Cursor, what: &str, least: usize, most: usize) -> Result<usize
     Ok(n)
 }
 
+/// As many numbers of lines as stand here.
+fn line_numbers(c: &mut Cursor, least: usize, most: usize) -> Result<Vec<u16>, Mistake> {
+    let mut numbers = Vec::new();
+    while matches!(c.peek(), Token::Number(_)) {
+        numbers.push(within(c, "line", least, most)? as u16);
+    }
+    Ok(numbers)
+}
+
 /// `rule R [at THREAD POINT] LEFT to RIGHT [from N ..]`
 fn one_line(c: &mut Cursor, formulas: usize, lines: usize) -> Result<Line, Mistake> {
     c.expect("rule")?;
@@ -66,9 +75,7 @@ fn one_line(c: &mut Cursor, formulas: usize, lines: usize) -> Result<Line, Mista
     let right = within(c, "formula", 1, formulas)? as u16;
     let mut premises = Vec::new();
     if c.take("from") {
-        while matches!(c.peek(), Token::Number(_)) {
-            premises.push(within(c, "line", 1, lines)? as u16);
-        }
+        premises = line_numbers(c, 1, lines)?;
     }
     Ok(Line { rule, thread, point, left, right, premises })
 }

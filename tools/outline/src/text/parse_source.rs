@@ -1,18 +1,20 @@
 //! Text to a source: declarations, threads, the parts `proof` and `certificate`.
 
-use crate::search::prover::{implication, inclusion, At};
 use crate::terms::*;
-use crate::text::lex::{tokens, Mistake, Place, Token, KEYWORDS};
+use crate::text::lex::{tokens, Mistake, Place, Token};
+use crate::text::parse_claim::{claim, point_of, Unplaced};
 use crate::text::parse_formula::Cursor;
+use crate::text::parse_instruction::instruction;
+use crate::text::parse_proof::proof;
 use crate::text::print::Names;
-use crate::text::scope::{Meaning, Scope};
+use crate::text::scope::Scope;
 use crate::text::sort_name;
-use crate::text::source::{Hint, Middle, Point, Source};
+use crate::text::source::{Labels, Point, Source};
 use reference::checker::limits;
 use reference::formula::atoms::{Atom, Atoms};
 use reference::formula::nesting::{Nesting, BYTES, NESTING};
 use reference::formula::{Formula, Sort};
-use reference::image::{Access, Header, Instruction};
+use reference::image::{Header, Instruction};
 
 /// Reads a whole source text, or finds its first mistake.
 pub fn parse(text: &str) -> Result<Source, Mistake> {
@@ -23,33 +25,74 @@ pub fn parse(text: &str) -> Result<Source, Mistake> {
 pub fn parse_all(text: &str) -> Result<Source, Vec<Mistake>> {
     let list = tokens(text).map_err(|e| vec![e])?;
     let scope = Scope::scan(&list).map_err(|e| vec![e])?;
-    let mut source = Source {
-        header: scope.header(),
-        names: scope.names.clone(),
-        threads: Vec::new(),
-        points: Vec::new(),
-        code_numbers: Vec::new(),
-        hints: Vec::new(),
-        certificate: None,
-    };
+    let mut draft = Draft::of(&scope);
     let mut cursor = Cursor { tokens: &list, at: 0, scope };
-    let mut mistakes = Mistakes::default();
     while *cursor.peek() != Token::End {
         let start = cursor.at;
-        if let Err(mistake) = item(&mut cursor, &mut source, &mut mistakes) {
-            mistakes.add(mistake);
-            mistakes.missing.extend(name_of_let(&list, start));
+        if let Err(mistake) = item(&mut cursor, &mut draft) {
+            draft.mistakes.add(mistake);
+            draft.mistakes.missing.extend(name_of_let(&list, start));
             cursor.at = cursor.at.max(start + 1);
             while !at_end_of_thread(&cursor) {
                 cursor.at += 1;
             }
         }
     }
-    if mistakes.all.is_empty() {
-        source.names.shorts = cursor.scope.shorts();
-        return Ok(source);
+    draft.finish(&cursor.scope)
+}
+
+/// A source in reading.
+struct Draft {
+    source: Source,
+    claims: Vec<Unplaced>,
+    mistakes: Mistakes,
+}
+
+impl Draft {
+    fn of(scope: &Scope) -> Draft {
+        let source = Source {
+            header: scope.header(),
+            names: scope.names.clone(),
+            threads: Vec::new(),
+            points: Vec::new(),
+            labels: Vec::new(),
+            code_numbers: Vec::new(),
+            claims: Vec::new(),
+            hints: Vec::new(),
+            certificate: None,
+        };
+        Draft { source, claims: Vec::new(), mistakes: Mistakes::default() }
     }
-    Err(mistakes.all)
+
+    /// The source, once all threads are there; a thread with a mistake has no points for a claim to name.
+    fn finish(mut self, scope: &Scope) -> Result<Source, Vec<Mistake>> {
+        if self.mistakes.all.is_empty() {
+            for claim in &self.claims {
+                match claim.placed(&self.source.labels) {
+                    Ok(claim) => self.source.claims.push(claim),
+                    Err(mistake) => self.mistakes.add(mistake),
+                }
+            }
+        }
+        if !self.mistakes.all.is_empty() {
+            return Err(self.mistakes.all);
+        }
+        self.source.names.shorts = scope.shorts();
+        Ok(self.source)
+    }
+
+    /// One more claim, if an image has room for it.
+    fn claim(&mut self, c: &mut Cursor) -> Result<(), Mistake> {
+        let place = c.line();
+        c.expect("never")?;
+        let claim = claim(c, place)?;
+        if self.claims.len() == limits::CLAIMS {
+            let text = format!("an image has at most {} claims", limits::CLAIMS);
+            return Err(Mistake { line: place, text });
+        }
+        self.claims.push(claim);
+        Ok(())
+    }
 }
 
 /// The mistakes of a text, without those that only follow from a `let` that failed.
@@ -98,7 +141,7 @@ pub fn parse_test(names: &Names, header: &Header, text: &str) -> Result<T, Mista
     Ok(test)
 }
 
-fn item(c: &mut Cursor, source: &mut Source, mistakes: &mut Mistakes) -> Result<(), Mistake> {
+fn item(c: &mut Cursor, draft: &mut Draft) -> Result<(), Mistake> {
     if c.take("range") {
         c.number()?;
         return Ok(());
@@ -120,16 +163,19 @@ fn item(c: &mut Cursor, source: &mut Source, mistakes: &mut Mistakes) -> Result<
         return short(c);
     }
     if c.take("thread") {
-        return thread(c, source, mistakes);
+        return thread(c, draft);
+    }
+    if c.sees_next("never") {
+        return draft.claim(c);
     }
     if c.take("proof") {
-        return proof(c, source);
+        return proof(c, &mut draft.source);
     }
     if c.take("certificate") {
-        source.certificate = Some(crate::text::parse_certificate::certificate(c)?);
+        draft.source.certificate = Some(crate::text::parse_certificate::certificate(c)?);
         return Ok(());
     }
-    c.wanted("`range`, `word`, `register`, `let`, `thread`, `proof` or `certificate`")
+    c.wanted("`range`, `word`, `register`, `let`, `thread`, `never`, `proof` or `certificate`")
 }
 
 /// `NAME of THREAD`, which the scope has read already.
@@ -184,29 +230,29 @@ pub fn sort_word(c: &mut Cursor) -> Option<Sort> {
 }
 
 /// A thread: points in braces with instructions between them.
-fn thread(c: &mut Cursor, source: &mut Source, mistakes: &mut Mistakes) -> Result<(), Mistake> {
+fn thread(c: &mut Cursor, draft: &mut Draft) -> Result<(), Mistake> {
     let line = c.line();
     let name = c.name()?;
     let number = c.scope.thread(&name, line)?;
     registers(c)?;
     let mut labels = Vec::new();
-    let mut points = vec![point_or_past(c, &mut labels, mistakes)?];
+    let mut points = vec![point_or_past(c, &mut labels, &mut draft.mistakes)?];
     let (mut code, mut numbers, mut jumps) = (Vec::new(), Vec::new(), Vec::new());
     while !at_end_of_thread(c) {
         let at = c.line();
         match instruction(c, number) {
-            Ok((instruction, jump)) => {
-                jumps.push(jump.map(|j| (j, at)));
-                code.push(instruction);
+            Ok(read) => {
+                jumps.push(read.jump.map(|jump| (jump, at)));
+                code.push(read.instruction);
+                numbers.push(read.numbers);
             }
             Err(mistake) => {
-                mistakes.add(mistake);
+                draft.mistakes.add(mistake);
                 to_next_point(c);
             }
         }
-        numbers.push(at_number(c)?);
         labels.truncate(points.len());
-        points.push(point_or_past(c, &mut labels, mistakes)?);
+        points.push(point_or_past(c, &mut labels, &mut draft.mistakes)?);
     }
     let (count, most) = (points.len(), usize::from(limits::POINTS));
     if count > most {
@@ -214,20 +260,21 @@ fn thread(c: &mut Cursor, source: &mut Source, mistakes: &mut Mistakes) -> Resul
         return Err(Mistake { line, text });
     }
     for (instruction, jump) in code.iter_mut().zip(jumps) {
-        if let (Instruction::Branch { target, .. }, Some((name, at))) = (instruction, jump) {
-            *target = resolve(&name, &labels, points.len(), at)?;
+        if let (Instruction::Branch { target, .. }, Some((named, at))) = (instruction, jump) {
+            *target = point_of(&named, &labels, at)?;
         }
     }
-    source.threads.push(code);
-    source.points.push(points);
-    source.code_numbers.push(numbers);
+    draft.source.threads.push(code);
+    draft.source.points.push(points);
+    draft.source.code_numbers.push(numbers);
+    draft.source.labels.push(labels);
     Ok(())
 }
 
 /// A point; one whose assertion cannot be read is noted and passed over, so that the thread goes on behind it.
 fn point_or_past(
     c: &mut Cursor,
-    labels: &mut Vec<Option<String>>,
+    labels: &mut Labels,
     mistakes: &mut Mistakes,
 ) -> Result<Point, Mistake> {
     let (before, line) = (labels.len(), c.line());
@@ -256,13 +303,13 @@ fn to_next_point(c: &mut Cursor) {
 
 fn at_end_of_thread(c: &Cursor) -> bool {
     *c.peek() == Token::End
-        || ["thread", "proof", "certificate", "let", "word", "register", "open", "range"]
+        || ["thread", "never", "proof", "certificate", "let", "word", "register", "open", "range"]
             .iter()
             .any(|k| c.sees_next(k))
 }
 
 /// `[LABEL :] { ASSERTION } [@ NUMBER]`
-fn point(c: &mut Cursor, labels: &mut Vec<Option<String>>) -> Result<Point, Mistake> {
+fn point(c: &mut Cursor, labels: &mut Labels) -> Result<Point, Mistake> {
     let label = match c.peek().clone() {
         Token::Name(n) => Some(n),
         _ if c.sees_next("{") => None,
@@ -303,192 +350,10 @@ pub fn braced(c: &mut Cursor) -> Result<A, Mistake> {
     Ok(a)
 }
 
-fn at_number(c: &mut Cursor) -> Result<Option<usize>, Mistake> {
+/// `@ NUMBER`, where it stands.
+pub fn at_number(c: &mut Cursor) -> Result<Option<usize>, Mistake> {
     if c.take("@") {
         return Ok(Some(c.number()?));
     }
     Ok(None)
-}
-
-/// An instruction, and for a branch its target as written.
-fn instruction(c: &mut Cursor, thread: u8) -> Result<(Instruction, Option<Token>), Mistake> {
-    let line = c.line();
-    let (instruction, jump) = if c.take("if") {
-        let test = c.test()?;
-        c.expect("goto")?;
-        let jump = c.peek().clone();
-        c.at += 1;
-        (Instruction::Branch { test, target: 0 }, Some(jump))
-    } else if c.take("swap") {
-        let word = c.word()?;
-        c.expect(":=")?;
-        (Access::Swap { word, value: c.value()? }.into(), None)
-    } else {
-        (move_value(c)?, None)
-    };
-    own(c, &instruction, thread, line)?;
-    Ok((instruction, jump))
-}
-
-/// Assignment, load or store, by what stands on the left.
-fn move_value(c: &mut Cursor) -> Result<Instruction, Mistake> {
-    match c.meaning().cloned() {
-        Some(Meaning::Register(register)) => {
-            c.at += 1;
-            if c.take(":=") {
-                return Ok(Instruction::assign(register, c.value()?));
-            }
-            if c.take("<-acq") {
-                if c.sees_next("exchange") || c.sees_next("fetch-add") {
-                    let text = "a word is wanted: exchange and fetch-add acquire by themselves, behind `<-`";
-                    return c.fail(text.into());
-                }
-                return Ok(Access::Load { register, word: c.word()?, acquiring: true }.into());
-            }
-            if c.take("<-") {
-                return fetched(c, register);
-            }
-            c.wanted("`:=`, `<-` or `<-acq` behind a register")
-        }
-        Some(Meaning::Word(word)) => {
-            c.at += 1;
-            let releasing = c.take(":=rel");
-            if !releasing && !c.take(":=") {
-                return c.wanted("`:=` or `:=rel` behind a word");
-            }
-            if c.sees_next("acq") {
-                return c.fail("`acq` belongs to a load, `<-acq`; a store may be `:=rel`".into());
-            }
-            Ok(Access::Store { word, value: c.value()?, releasing }.into())
-        }
-        None if moves_next(c) => c.fail(format!("{} is not declared", c.peek().shown())),
-        _ => c.wanted("an instruction (or the thread's end)"),
-    }
-}
-
-/// Does a name stand here that something is moved to?
-fn moves_next(c: &Cursor) -> bool {
-    let named = matches!(c.peek(), Token::Name(n) if !KEYWORDS.contains(&n.as_str()));
-    let next = c.tokens.get(c.at + 1).map(|t| &t.0);
-    named && [":=", ":=rel", "<-", "<-acq"].iter().any(|mark| next == Some(&Token::Mark(mark)))
-}
-
-/// What stands behind `<-`: a word, `exchange WORD := VALUE` or `fetch-add WORD + VALUE`.
-fn fetched(c: &mut Cursor, register: u8) -> Result<Instruction, Mistake> {
-    if c.take("exchange") {
-        let word = c.word()?;
-        c.expect(":=")?;
-        return Ok(Access::Exchange { register, word, value: c.value()? }.into());
-    }
-    if c.take("fetch-add") {
-        let word = c.word()?;
-        c.expect("+")?;
-        return Ok(Access::FetchAdd { register, word, value: c.value()? }.into());
-    }
-    if c.sees_next("swap") {
-        return c.fail("swap drops the old value; `exchange` hands it to the register".into());
-    }
-    if c.sees_next("rel") {
-        return c.fail("`rel` belongs to a store, `:=rel`; a load may be `<-acq`".into());
-    }
-    Ok(Access::Load { register, word: c.word()?, acquiring: false }.into())
-}
-
-/// Instructions use own registers only, and no word but the one moved.
-fn own(c: &Cursor, instruction: &Instruction, thread: u8, line: Place) -> Result<(), Mistake> {
-    let fault = |text: String| Err(Mistake { line, text });
-    let mut registers = instruction.registers_set();
-    for operand in instruction.operands() {
-        check_size(&operand, line)?;
-        if !registers_only(&operand) {
-            return fault("words, unsync and cov may not stand in an instruction's formula".into());
-        }
-        let named = registers_of(&operand);
-        if instruction.fetched().is_some_and(|fetched| named.contains(&fetched.register)) {
-            let text = "the register that gets the old value may not stand in the new one";
-            return fault(text.into());
-        }
-        registers.extend(named);
-    }
-    match registers.into_iter().find(|r| c.scope.owners[usize::from(*r) - 1] != thread) {
-        Some(r) => {
-            fault(format!("register `{}` belongs to another thread", c.scope.names.register(r)))
-        }
-        None => Ok(()),
-    }
-}
-
-/// The point that a branch goes to: a number or a label of the thread.
-fn resolve(
-    target: &Token,
-    labels: &[Option<String>],
-    points: usize,
-    line: Place,
-) -> Result<u8, Mistake> {
-    let found = match target {
-        Token::Number(n) => Some(*n),
-        Token::Name(n) => labels.iter().position(|l| l.as_ref() == Some(n)),
-        _ => None,
-    };
-    match found.filter(|p| *p < points) {
-        Some(p) => Ok(p as u8),
-        None => {
-            Err(Mistake { line, text: format!("{} is no point of this thread", target.shown()) })
-        }
-    }
-}
-
-/// `step THREAD POINT: {P} to {Q}`, `fact {P} to {Q}`, `part I in J`, each perhaps with `by RULE`.
-fn proof(c: &mut Cursor, source: &mut Source) -> Result<(), Mistake> {
-    loop {
-        let line = c.line();
-        let statement = if c.take("step") {
-            let name = c.name()?;
-            let at = At { thread: c.scope.thread(&name, line)?, point: c.number()? as u8 };
-            c.expect(":")?;
-            let (left, right) = from_to(c)?;
-            at.triple(&left, &right)
-        } else if c.take("fact") {
-            let (left, right) = from_to(c)?;
-            implication(&left, &right)
-        } else if c.take("part") {
-            let left = c.interval()?;
-            c.expect("in")?;
-            inclusion(&left, &c.interval()?)
-        } else {
-            return Ok(());
-        };
-        let rule = if c.take("by") { Some(c.number()? as u8) } else { None };
-        let middle = middle(c, rule)?;
-        let (left, right) = statement.sides();
-        check_size(&left, line)?;
-        check_size(&right, line)?;
-        source.hints.push(Hint { statement, rule, middle, line });
-    }
-}
-
-/// Behind `by 16` `through {P} to {Q}`, behind `by 31` `through I`: the formulas in the middle.
-fn middle(c: &mut Cursor, rule: Option<u8>) -> Result<Option<Middle>, Mistake> {
-    if !c.sees_next("through") {
-        return Ok(None);
-    }
-    match rule {
-        Some(16) => {
-            c.at += 1;
-            let (left, right) = from_to(c)?;
-            Ok(Some(Middle::Triple(left, right)))
-        }
-        Some(31) => {
-            c.at += 1;
-            Ok(Some(Middle::Interval(c.interval()?)))
-        }
-        _ => c.fail("only `by 16` and `by 31` have formulas in the middle".into()),
-    }
-}
-
-/// `{P} to {Q}`
-fn from_to(c: &mut Cursor) -> Result<(A, A), Mistake> {
-    let left = braced(c)?;
-    c.expect("to")?;
-    Ok((left, braced(c)?))
 }

@@ -1,7 +1,7 @@
 //! Formulas as text, in the syntax that `parse` reads back to the same formula.
 
 use reference::formula::{Assertion, Formula, Interval, Test, Value};
-use reference::image::{Access, Instruction, Note};
+use reference::image::{Access, Instruction, Program};
 
 /// Names of words, registers and threads; number 1 is first.
 #[derive(Debug, Clone, Default)]
@@ -40,13 +40,12 @@ impl Bound {
 
 impl Names {
     /// The names that `show` gives, since an image has none: w1, r1, t1.
-    pub fn plain(words: usize, registers: usize, threads: usize) -> Names {
+    pub fn of(program: &Program) -> Names {
         let list = |c: char, n: usize| (1..=n).map(|i| format!("{c}{i}")).collect();
-        let registers = list('r', registers);
         Names {
-            words: list('w', words),
-            registers,
-            threads: list('t', threads),
+            words: list('w', program.header.start.len()),
+            registers: list('r', program.header.owners.len()),
+            threads: list('t', program.threads.len()),
             shorts: Vec::new(),
         }
     }
@@ -82,42 +81,50 @@ impl Names {
 
     /// One instruction as text.
     pub fn instruction(&self, instruction: &Instruction) -> String {
-        match instruction {
-            Instruction::Act { access, notes } => {
-                let access = access.iter().map(|access| self.access(access));
-                let notes = notes.iter().map(|note| self.note(note));
-                access.chain(notes).collect::<Vec<String>>().join(", ")
-            }
+        self.instruction_with(instruction, &[])
+    }
+
+    /// One instruction with a text behind each of its formulas, as far as there are texts.
+    pub fn instruction_with(&self, instruction: &Instruction, behind: &[String]) -> String {
+        let mut behind = behind.iter();
+        let mut marked = |text: String| text + behind.next().map_or("", |mark| mark.as_str());
+        let (access, notes) = match instruction {
             Instruction::Branch { test, target } => {
-                format!("if {} goto {target}", self.test(test))
+                return marked(format!("if {} goto {target}", self.test(test)));
             }
+            Instruction::Act { access, notes } => (access, notes),
+        };
+        let mut parts = Vec::new();
+        if let Some(access) = access {
+            let text = self.access(access);
+            parts.push(if access.operand().is_some() { marked(text) } else { text });
         }
+        if !notes.is_empty() {
+            let registers: Vec<&str> = notes.iter().map(|n| self.register(n.register)).collect();
+            let values: Vec<String> = notes.iter().map(|n| marked(self.value(&n.value))).collect();
+            parts.push(format!("{} := {}", registers.join(", "), values.join(", ")));
+        }
+        parts.join(" | ")
     }
 
-    fn note(&self, note: &Note) -> String {
-        format!("{} := {}", self.register(note.register), self.value(&note.value))
-    }
-
+    /// An access as text; its value stands last.
     fn access(&self, access: &Access) -> String {
+        let name = self.word(access.word());
         match access {
-            Access::Load { register, word, acquiring } => {
+            Access::Load { register, acquiring, .. } => {
                 let mark = if *acquiring { "<-acq" } else { "<-" };
-                format!("{} {mark} {}", self.register(*register), self.word(*word))
+                format!("{} {mark} {name}", self.register(*register))
             }
-            Access::Store { word, value, releasing } => {
+            Access::Store { value, releasing, .. } => {
                 let mark = if *releasing { ":=rel" } else { ":=" };
-                format!("{} {mark} {}", self.word(*word), self.value(value))
+                format!("{name} {mark} {}", self.value(value))
             }
-            Access::Swap { word, value } => {
-                format!("swap {} := {}", self.word(*word), self.value(value))
+            Access::Swap { value, .. } => format!("swap {name} := {}", self.value(value)),
+            Access::Exchange { register, value, .. } => {
+                format!("{} <- exchange {name} := {}", self.register(*register), self.value(value))
             }
-            Access::Exchange { register, word, value } => {
-                let (register, word) = (self.register(*register), self.word(*word));
-                format!("{register} <- exchange {word} := {}", self.value(value))
-            }
-            Access::FetchAdd { register, word, value } => {
-                let (register, word) = (self.register(*register), self.word(*word));
-                format!("{register} <- fetch-add {word} + {}", self.value(value))
+            Access::FetchAdd { register, value, .. } => {
+                format!("{} <- fetch-add {name} + {}", self.register(*register), self.value(value))
             }
         }
     }

@@ -1,11 +1,13 @@
-//! Messages about obligations that stay open.
+//! Messages about obligations and claims that stay open.
 
-use crate::build::Open;
+use crate::build::{Goal, Open};
 use crate::text::print::Names;
 use crate::text::source::Source;
 use reference::checker::obligations::Duty;
-use reference::image::Statement;
+use reference::checker::rules::before_notes;
+use reference::image::{Instruction, Meeting, Statement};
 use std::fmt::Write;
+use std::slice;
 
 /// A thread's point with its name, and its line where there is a source.
 fn point(names: &Names, source: Option<&Source>, t: u8, p: u8) -> String {
@@ -14,9 +16,22 @@ fn point(names: &Names, source: Option<&Source>, t: u8, p: u8) -> String {
     format!("thread {t} ({}) point {p}{line}", names.thread(t))
 }
 
-/// An open obligation, in words.
-fn place(source: &Source, duty: &Duty) -> String {
-    worded(&source.names, Some(source), duty, ["not given by the start", "not kept by"])
+/// An open obligation or claim, in words.
+fn place(source: &Source, goal: &Goal) -> String {
+    match goal {
+        Goal::Duty(duty) => {
+            worded(&source.names, Some(source), duty, ["not given by the start", "not kept by"])
+        }
+        Goal::Claim(meeting) => claim(&source.names, Some(source), meeting),
+    }
+}
+
+/// A claim, in words.
+pub fn claim(names: &Names, source: Option<&Source>, meeting: &Meeting) -> String {
+    let Meeting { thread, point: at, other_thread, other_point } = *meeting;
+    let (one, other) =
+        (point(names, source, thread, at), point(names, source, other_thread, other_point));
+    format!("claim, never {one} and {other}")
 }
 
 /// An obligation, in words.
@@ -40,19 +55,29 @@ fn worded(names: &Names, source: Option<&Source>, duty: &Duty, [given, kept]: [&
     }
 }
 
-/// An open obligation: which one, and in full what is wanted and what was tried.
+/// An open obligation or claim: which one, and in full what is wanted and what was tried.
 pub fn open(source: &Source, open: &Open, in_full: bool) -> String {
-    let mut text = format!("open: {}\n", place(source, &open.duty));
+    let mut text = format!("open: {}\n", place(source, &open.goal));
     if !in_full {
         return text;
     }
-    if let Statement::Triple { thread, point, .. } = open.wanted {
-        let instruction = &source.threads[usize::from(thread) - 1][usize::from(point)];
+    let instruction = match open.wanted {
+        Statement::Triple { thread, point, .. } => {
+            source.threads[usize::from(thread) - 1].get(usize::from(point))
+        }
+        _ => None,
+    };
+    if let Some(instruction) = instruction {
         let _ = writeln!(text, "  instruction  {}", source.names.instruction(instruction));
     }
     let (left, right) = open.wanted.assertions();
     let _ = writeln!(text, "  from         {}", source.names.assertion(left));
     let _ = writeln!(text, "  to           {}", source.names.assertion(right));
+    if let Some(note) = instruction.and_then(Instruction::pair_note) {
+        // Rule 50 asks this of the first half, and of it speaks what follows.
+        let half = before_notes(right, slice::from_ref(note));
+        let _ = writeln!(text, "  first half   to {}", source.names.assertion(&half));
+    }
     for line in &open.tried {
         let _ = writeln!(text, "  {line}");
     }

@@ -2,9 +2,8 @@
 
 use crate::text::print::Names;
 use reference::explore::Run;
-use reference::image::{Access, Program};
+use reference::image::{Access, Instruction, Note, Program};
 use reference::machine::{take, State, Step};
-use std::fmt::Write;
 
 /// A run as lines: each step with what it reads or writes, then the registers reached.
 pub fn lines(program: &Program, names: &Names, run: &Run) -> Vec<String> {
@@ -38,35 +37,29 @@ fn one_step(program: &Program, names: &Names, state: &State, step: Step, after: 
     let instruction =
         program.instruction(step.thread, state.points[thread]).expect("an instruction");
     let who = names.thread(step.thread);
-    let mut text = format!("{who}: {}", names.instruction(instruction));
-    let read = |word: u8| state.row(word)[step.position].value;
-    let value = |r: u8| after.registers[usize::from(r) - 1];
-    // Writes in a row count from 1 here.
-    let place = step.position + 1;
-    if instruction.is_branch() {
-        let _ = write!(text, "   goes to point {}", after.points[thread]);
-    }
-    let _ = match instruction.access() {
-        Some(Access::Load { word, .. }) => {
-            write!(text, "   reads {} from write {place}", read(*word))
+    let done = match instruction {
+        Instruction::Branch { .. } => format!("goes to point {}", after.points[thread]),
+        Instruction::Act { access, notes } => {
+            let moved = access.iter().map(|access| accessed(access, state, step, after));
+            let value = |note: &Note| after.registers[usize::from(note.register) - 1].to_string();
+            let given: Vec<String> = notes.iter().map(value).collect();
+            let given = (!notes.is_empty()).then(|| format!("gives {}", given.join(", ")));
+            moved.chain(given).collect::<Vec<String>>().join(", ")
         }
-        Some(Access::Store { word, .. }) => {
-            let new = after.row(*word)[step.position + 1].value;
-            write!(text, "   writes {new} behind write {place}")
-        }
-        Some(
-            Access::Swap { word, .. }
-            | Access::Exchange { word, .. }
-            | Access::FetchAdd { word, .. },
-        ) => {
-            let new = after.row(*word)[step.position + 1].value;
-            let old = read(*word);
-            write!(text, "   reads {old}, writes {new} behind write {place}")
-        }
-        None => Ok(()),
     };
-    for note in instruction.notes() {
-        let _ = write!(text, "   gives {}", value(note.register));
+    format!("{who}: {}   {done}", names.instruction(instruction))
+}
+
+/// What an access reads or writes. Writes in a row count from 1 here.
+fn accessed(access: &Access, state: &State, step: Step, after: &State) -> String {
+    let (word, place) = (access.word(), step.position + 1);
+    let old = state.row(word)[step.position].value;
+    let new = || after.row(word)[step.position + 1].value;
+    match access {
+        Access::Load { .. } => format!("reads {old} from write {place}"),
+        Access::Store { .. } => format!("writes {} behind write {place}", new()),
+        Access::Swap { .. } | Access::Exchange { .. } | Access::FetchAdd { .. } => {
+            format!("reads {old}, writes {} behind write {place}", new())
+        }
     }
-    text
 }

@@ -5,13 +5,13 @@ use crate::text::print::Names;
 use crate::text::sort_name;
 use reference::checker::rules::Form;
 use reference::image::written::Line;
+use reference::image::Meeting;
 use std::fmt::Write;
 
 /// The text of an image. Every formula keeps its number, every line its place.
 pub fn show(image: &Image) -> String {
     let header = &image.program.header;
-    let threads = image.program.threads.len();
-    let names = Names::plain(header.start.len(), header.owners.len(), threads);
+    let names = Names::of(&image.program);
     let mut out = format!("range {}\n", header.counts.range);
     for (name, start) in names.words.iter().zip(&header.start) {
         let _ = writeln!(out, "word {name} = {start}");
@@ -23,6 +23,14 @@ pub fn show(image: &Image) -> String {
     let mut outline = image.written.outline.iter();
     for t in image.program.thread_numbers() {
         thread(&mut out, image, &names, t, &mut outline);
+    }
+    if !image.written.claims.is_empty() {
+        out.push('\n');
+    }
+    for claim in &image.written.claims {
+        let Meeting { thread, point, other_thread, other_point } = claim.meeting;
+        let (one, other) = (names.thread(thread), names.thread(other_thread));
+        let _ = writeln!(out, "never {one} {point} and {other} {other_point}");
     }
     certificate(&mut out, image, &names);
     out
@@ -42,11 +50,10 @@ fn thread<'a>(
     for (point, (assertion, number)) in points.enumerate() {
         let _ = writeln!(out, "  {{ {} }} @{number}", names.assertion(assertion));
         if let Some(instruction) = image.program.threads[index].get(point) {
-            let at = match image.written.threads[index][point].first.formula {
-                0 => String::new(),
-                n => format!(" @{n}"),
-            };
-            let _ = writeln!(out, "    {}{at}", names.instruction(instruction));
+            let written = image.written.threads[index][point];
+            let halves = [written.first].into_iter().chain(written.second);
+            let marks: Vec<String> = halves.map(|half| format!(" @{}", half.formula)).collect();
+            let _ = writeln!(out, "    {}", names.instruction_with(instruction, &marks));
         }
     }
 }
@@ -61,6 +68,10 @@ fn certificate(out: &mut String, image: &Image, names: &Names) {
         line(out, image, names, i + 1, l);
     }
     let _ = writeln!(out, "  obligations {}", listed(&image.written.obligations));
+    let claims: Vec<u16> = image.written.claims.iter().map(|claim| claim.line).collect();
+    if !claims.is_empty() {
+        let _ = writeln!(out, "  claims {}", listed(&claims));
+    }
 }
 
 fn listed(numbers: &[u16]) -> String {

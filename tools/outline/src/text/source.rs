@@ -4,13 +4,23 @@ use crate::terms::{A, I};
 use crate::text::lex::Place;
 use crate::text::print::Names;
 use reference::formula::Formula;
-use reference::image::{written, Header, Program, Statement, Thread};
+use reference::image::{written, Header, Meeting, Program, Statement, Thread};
 
 /// The assertion of a point, with the formula number that `@` asks for.
 #[derive(Debug, Clone)]
 pub struct Point {
     pub assertion: A,
     pub number: Option<usize>,
+    pub line: Place,
+}
+
+/// The label of each point of a thread.
+pub type Labels = Vec<Option<String>>;
+
+/// The claim that two threads are never at two points together.
+#[derive(Debug, Clone)]
+pub struct Claim {
+    pub meeting: Meeting,
     pub line: Place,
 }
 
@@ -37,6 +47,8 @@ pub struct Certificate {
     pub formulas: Vec<Formula>,
     pub lines: Vec<written::Line>,
     pub obligations: Vec<u16>,
+    /// A line for each claim, 0 for none.
+    pub claims: Vec<u16>,
 }
 
 /// A whole source.
@@ -46,13 +58,30 @@ pub struct Source {
     pub names: Names,
     pub threads: Vec<Thread>,
     pub points: Vec<Vec<Point>>,
-    /// The formula number that `@` asks for, by thread and instruction.
-    pub code_numbers: Vec<Vec<Option<usize>>>,
+    /// The labels of each thread's points.
+    pub labels: Vec<Labels>,
+    /// The numbers that `@` asks for, by thread, instruction and its formulas.
+    pub code_numbers: Vec<Vec<Vec<Option<usize>>>>,
+    pub claims: Vec<Claim>,
     pub hints: Vec<Hint>,
     pub certificate: Option<Certificate>,
 }
 
 impl Source {
+    /// The thread and the point by their names, the point perhaps by its number.
+    pub fn place(&self, thread: &str, point: &str) -> Option<(u8, u8)> {
+        let index = self.names.threads.iter().position(|name| name == thread)?;
+        let labels = &self.labels[index];
+        let labelled = labels.iter().position(|label| label.as_deref() == Some(point));
+        let found = labelled.or_else(|| point.parse().ok())?;
+        (found < labels.len()).then_some((index as u8 + 1, found as u8))
+    }
+
+    /// What is claimed never to happen.
+    pub fn meetings(&self) -> Vec<Meeting> {
+        self.claims.iter().map(|claim| claim.meeting).collect()
+    }
+
     /// The program with its outline.
     pub fn program(&self) -> Program {
         let assertions = |points: &Vec<Point>| points.iter().map(|p| p.assertion.clone()).collect();

@@ -4,8 +4,9 @@ use crate::blocks::{manual, of_kind};
 use outline::text::parse_source::parse;
 use reference::checker::rules::follows;
 
-/// The manual's instructions: row of its table, thread, point, what it writes, its register.
-const INSTRUCTIONS: [(&str, &str, u8, &str, &str); 8] = [
+/// The manual's instructions: row of its table, thread, point, what it writes, its register. A pair is read as its
+/// first half.
+const INSTRUCTIONS: [(&str, &str, u8, &str, &str); 10] = [
     ("acquiring load", "a", 0, "0", "r"),
     ("load", "b", 0, "0", "q"),
     ("releasing store", "a", 1, "1", "r"),
@@ -14,6 +15,8 @@ const INSTRUCTIONS: [(&str, &str, u8, &str, &str); 8] = [
     ("assignment", "a", 3, "0", "r"),
     ("exchange", "c", 0, "p + 1", "s"),
     ("fetch-add", "c", 1, "s + p", "s"),
+    ("releasing store", "d", 0, "m", "k"),
+    ("swap", "d", 1, "3", "m"),
 ];
 
 /// For each rule that asks for operations a triple of it, behind it its premise: T acts, F is written, R is set.
@@ -85,8 +88,26 @@ fn the_table_of_instructions_is_the_checkers() {
             "acquiring load" => told("load", true),
             "releasing store" => told("store", true),
             "exchange" | "fetch-add" => told("exchange, fetch-add", false),
+            "assignment" => told("assignment, two assignments", false),
             row => told(row, false),
         };
         assert_eq!(allowed(instruction), wanted, "{}", instruction.0);
     }
+}
+
+/// Whether a line for this step of the manual's program follows by the rule from the premise, if there is one.
+fn fits(rule: u8, line: &str, premise: Option<&str>) -> bool {
+    let steps: Vec<&str> = [line].into_iter().chain(premise).collect();
+    let text = format!("{}\nproof\n{}", of_kind("program")[0].text, steps.join("\n"));
+    let source = parse(&text).unwrap_or_else(|e| panic!("{text}: {e}"));
+    let statements: Vec<_> = source.hints.iter().map(|hint| &hint.statement).collect();
+    follows(&source.program(), rule, statements[0], &statements[1..])
+}
+
+#[test]
+fn two_assignments_and_pairs_have_a_rule_each() {
+    let traded = "step d 2: { m = 2 } to { k = 2 }";
+    assert!(fits(2, traded, None) && !fits(50, traded, Some(traded)));
+    let (pair, half) = ("step d 1: { o = 1 } to { m = 0 }", "step d 1: { o = 1 } to { 0 = 0 }");
+    assert!(fits(50, pair, Some(half)) && !fits(2, pair, None) && !fits(2, half, None));
 }

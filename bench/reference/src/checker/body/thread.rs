@@ -118,10 +118,7 @@ fn check_owner(instruction: &Instruction, thread: usize, header: &Header) -> Rea
 
 /// Code 23: the operand of exchange and fetch-add does not name the register that gets the old value.
 fn check_operand(instruction: &Instruction) -> Read<()> {
-    let named =
-        instruction.access().is_some_and(|access| match (access.operand(), access.result()) {
-            (Some(value), Some(register)) => value.has_register(register),
-            _ => false,
-        });
-    demand(!named, OPERAND)
+    let operand = instruction.access().and_then(Access::operand);
+    let named = |register: u8| operand.is_some_and(|value| value.has_register(register));
+    demand(!instruction.result().is_some_and(named), OPERAND)
 }

@@ -2,7 +2,7 @@
 
 use super::{Case, Draft, SMALL};
 use crate::vectors::formulas::long_formula;
-use reference::checker::frames::{FORMULA, LINE, THREAD};
+use reference::checker::frames::{CLAIM, FORMULA, LINE, OBLIGATIONS, THREAD};
 use reference::checker::limits;
 use reference::image::written::Record;
 
@@ -40,8 +40,8 @@ fn padded(length: usize) -> Vec<u8> {
     [&SMALL[..21], &full.repeat(records), &last.concat(), &SMALL[21..]].concat()
 }
 
-/// 3 inside a record, 4 between records: the small image cut at every length,
-/// the tour image around each border of records.
+/// 3 inside a record, 4 between records unless only claims are missing: the small image cut at every length,
+/// the tour image around borders of records of each kind.
 fn cut() -> Vec<Case> {
     let mut cases: Vec<Case> = (1..SMALL.len())
         .map(|length| {
@@ -53,7 +53,8 @@ fn cut() -> Vec<Case> {
         .collect();
     let draft = Draft::new();
     let bytes = draft.bytes();
-    for (index, record) in draft.records.iter().enumerate() {
+    for index in border_records(&draft) {
+        let record = &draft.records[index];
         let mut places = vec![0, 1, 2, 3, 4, record.body.len() + 3];
         places.dedup();
         for kept in places {
@@ -71,6 +72,15 @@ fn cut() -> Vec<Case> {
 /// The first, a middle and the last record of the tour image.
 fn some_records(draft: &Draft) -> [(&'static str, usize); 3] {
     [("first", 0), ("middle", draft.index(THREAD, 1)), ("last", draft.records.len() - 1)]
+}
+
+/// The records beside one of another kind, and the second of each kind.
+fn border_records(draft: &Draft) -> Vec<usize> {
+    let kind = |index: usize| draft.records.get(index).map(|record| record.kind);
+    let first = |index: usize| index == 0 || kind(index - 1) != kind(index);
+    let chosen =
+        |&index: &usize| first(index) || first(index - 1) || kind(index) != kind(index + 1);
+    (0..draft.records.len()).filter(chosen).collect()
 }
 
 /// Where a record starts in the image.
@@ -98,14 +108,14 @@ fn lengths() -> Vec<Case> {
     cases
 }
 
-/// Every other kind at every record; records missing, doubled and exchanged.
+/// Every other kind at records of each kind; records missing, doubled and exchanged.
 fn kinds() -> Vec<Case> {
     let draft = Draft::new();
     let mut cases = Vec::new();
-    for index in 0..draft.records.len() {
+    for index in border_records(&draft) {
         let number = index + 1;
         let high_byte = draft.records[index].kind + 256;
-        for kind in [0, 1, 2, 3, 4, 5, 6, 7, high_byte] {
+        for kind in [0, 1, 2, 3, 4, 5, 6, 7, 8, 9, high_byte] {
             let mut changed = draft.clone();
             changed.records[index].kind = kind;
             if kind != draft.records[index].kind {
@@ -127,10 +137,13 @@ fn kinds() -> Vec<Case> {
             );
         }
     }
-    for kind in 0..=7 {
-        let mut behind = draft.clone();
-        behind.records.push(Record::new(kind, []));
-        cases.push(behind.case(format!("4: a record of kind {kind} behind the obligations")));
+    for kind in [0, 1, 2, 3, 4, 5, 6, 7, 9, 10] {
+        for (place, claims) in [("obligations", 0), ("claims", draft.count(CLAIM))] {
+            let mut behind = draft.clone();
+            behind.records.truncate(draft.index(OBLIGATIONS, 0) + 1 + claims);
+            behind.records.push(Record::new(kind, []));
+            cases.push(behind.case(format!("4: a record of kind {kind} behind the {place}")));
+        }
     }
     cases
 }

@@ -18,7 +18,7 @@ fn numbers() -> Vec<Case> {
         let n = Draft::new().line_of_rule(rule);
         let set = |place, byte| Draft::new().set(LINE, n, place, byte);
         let set_number = |place, number| Draft::new().set_number(LINE, n, place, number);
-        for other in [0, 17, 19, 28, 29, 50, 255] {
+        for other in [0, 17, 19, 28, 29, 51, 52, 255] {
             cases.push(set(0, other).case(format!("6: {form} with rule {other}")));
         }
         for (side, place) in [("left", 3), ("right", 5)] {
@@ -76,6 +76,11 @@ fn places() -> Vec<Case> {
             (1, 8),
             (2, 1),
             (2, 2),
+            (2, 4),
+            (2, 7),
+            (2, 8),
+            (2, 9),
+            (2, 10),
             (3, 0),
             (255, 255),
         ] {

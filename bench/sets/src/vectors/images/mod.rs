@@ -1,6 +1,7 @@
 //! Damaged images: each condition of the verdict table's places "whole image",
 //! "record frame" and "body".
 
+mod claims;
 mod formula;
 mod frames;
 mod header;
@@ -9,6 +10,7 @@ mod numbers;
 mod obligations;
 mod outline;
 mod pads;
+mod pairs;
 mod thread;
 
 use super::edits::Draft;
@@ -27,10 +29,12 @@ pub fn cases() -> Vec<Case> {
         header::cases(),
         formula::cases(),
         thread::cases(),
+        pairs::cases(),
         outline::cases(),
         line::cases(),
         numbers::cases(),
         obligations::cases(),
+        claims::cases(),
         pads::cases(),
         precedence::cases(),
     ]

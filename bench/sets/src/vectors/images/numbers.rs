@@ -1,7 +1,8 @@
 //! Numbers of formulas and lines above 255: both bytes count.
 
 use super::{Case, Draft};
-use reference::checker::frames::{FORMULA, LINE, OBLIGATIONS, OUTLINE, THREAD};
+use crate::vectors::tour::place_of;
+use reference::checker::frames::{CLAIM, FORMULA, LINE, OBLIGATIONS, OUTLINE, THREAD};
 use reference::image::written::Record;
 
 /// The number under test; formula 1 and line 1 are others.
@@ -14,7 +15,10 @@ pub fn cases() -> Vec<Case> {
         moved(LINE, n, 5).case("accepted: right formula 257"),
         moved(OUTLINE, 0, 0).case("accepted: outline formula 257"),
         moved(THREAD, 0, 1 + 5 * 6 + 3).case("accepted: formula 257 of a branch"),
+        moved(THREAD, 1, place_of(9).1 + 3).case("accepted: formula 257 of a pair"),
+        moved(THREAD, 1, place_of(9).1 + 8).case("accepted: formula 257 of a pair's second half"),
         high_lines().case("accepted: premise 257, obligation with line 258"),
+        high_claim().case("accepted: claim with line 257"),
     ]
 }
 
@@ -38,6 +42,14 @@ fn moved(kind: u16, n: usize, place: usize) -> Draft {
     let own = usize::from(number(&draft, kind, n, place));
     let bytes = draft.body(FORMULA, own - 1).clone();
     draft.put(FORMULA, HIGH - 1, &bytes).set_number(kind, n, place, HIGH as u16)
+}
+
+/// The tour in which a claim has line 257.
+fn high_claim() -> Draft {
+    let mut draft = Draft::new();
+    let line = usize::from(number(&draft, CLAIM, 0, 4));
+    let line = Record::new(LINE, draft.body(LINE, line - 1).clone());
+    filled(draft, line, HIGH).set_number(CLAIM, 0, 4, HIGH as u16)
 }
 
 /// The tour in which the last obligation has line 258, whose second premise is 257.

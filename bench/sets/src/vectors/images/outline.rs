@@ -14,7 +14,7 @@ pub fn cases() -> Vec<Case> {
         Draft::new().append(OUTLINE, 0, &[1]).case("5: outline a byte too long"),
         Draft::new().append(OUTLINE, 0, &[1, 0]).case("5: outline a number too long"),
     ];
-    for (name, point) in [("first", 0), ("middle", 5), ("last", 12)] {
+    for (name, point) in [("first", 0), ("middle", 5), ("last", 17)] {
         let with = |number| Draft::new().set_number(OUTLINE, 0, 2 * point, number);
         for number in [0, formulas + 1, 0xffff] {
             cases.push(with(number).case(format!("6: {name} outline number {number}")));

@@ -1,4 +1,4 @@
-//! Codes 5, 6, 8, 9 and 23 in thread records.
+//! Codes 5, 6, 8, 9 and 23 in thread records, first halves of pairs among them.
 
 use super::{Case, Draft};
 use crate::vectors::tour::{place_of, Spare};
@@ -42,20 +42,20 @@ fn lengths() -> Vec<Case> {
 
 /// The tour with one field changed of the instruction with an operation.
 fn with_field(operation: usize, field: usize, byte: u8) -> Draft {
-    let (thread, point) = place_of(operation);
-    Draft::new().set(THREAD, thread, 1 + 5 * point + field, byte)
+    let (thread, place) = place_of(operation);
+    Draft::new().set(THREAD, thread, place + field, byte)
 }
 
 /// The tour with another formula for the instruction with an operation.
 fn with_formula(operation: usize, formula: u16) -> Draft {
-    let (thread, point) = place_of(operation);
-    Draft::new().set_number(THREAD, thread, 1 + 5 * point + 3, formula)
+    let (thread, place) = place_of(operation);
+    Draft::new().set_number(THREAD, thread, place + 3, formula)
 }
 
 fn numbers() -> Vec<Case> {
     let formulas = Draft::new().count(FORMULA) as u16;
     let mut cases = Vec::new();
-    for operation in 0..9 {
+    for operation in 0..13 {
         for (field, name) in [(1, "a"), (2, "b")] {
             for byte in [0, 1, 2, 3, 4, 5, 7, 8, 255] {
                 let label =
@@ -67,16 +67,18 @@ fn numbers() -> Vec<Case> {
             let label = format!("formula number: operation {operation} has formula {formula}");
             cases.push(with_formula(operation, formula).case(label));
         }
-        for other in [9, 10, 255] {
-            let label = format!("6: operation {other} in place of {operation}");
+        // Unknown operations have five bytes.
+        let code = if operation < 9 { 6 } else { 5 };
+        for other in [13, 14, 255] {
+            let label = format!("{code}: operation {other} in place of {operation}");
             cases.push(with_field(operation, 0, other).case(label));
         }
-        for other in (0..9).filter(|&other| usize::from(other) != operation) {
-            let label = format!("fields: operation {other} in place of {operation}");
+        for other in (0..13).filter(|&other| usize::from(other) != operation) {
+            let label = format!("fields, lengths: operation {other} in place of {operation}");
             cases.push(with_field(operation, 0, other).case(label));
         }
     }
-    cases.push(Draft::new().set(THREAD, 1, 1, 9).case("6: operation 9 in the last thread"));
+    cases.push(Draft::new().set(THREAD, 1, 1, 13).case("6: operation 13 in the last thread"));
     cases.push(Draft::new().set(THREAD, 1, 7, 3).case("6: word 3 in the last thread"));
     cases
 }
@@ -93,7 +95,7 @@ fn sorts() -> Vec<Case> {
         ("an assertion", Spare::HiddenStart),
     ];
     let mut cases = Vec::new();
-    for operation in [0, 3, 4, 5, 6, 7, 8] {
+    for operation in [0, 3, 4, 5, 6, 7, 8, 9, 10, 11, 12] {
         for (name, which) in spares {
             let label = format!("sort of a formula: operation {operation} has {name}");
             cases.push(with_formula(operation, draft.spare(which)).case(label));
@@ -133,6 +135,11 @@ fn owners() -> Vec<Case> {
         let label = format!("9: operation {operation} reads another thread's register");
         cases.push(with_formula(operation, draft.spare(Spare::OtherRegister)).case(label));
     }
+    for operation in [9, 10, 11, 12] {
+        let label = format!("9: operation {operation} reads another thread's register");
+        cases.push(with_formula(operation, draft.formula_number(&[1, 1])).case(label));
+    }
+    cases.push(with_field(12, 1, 1).case("9: operation 12 sets another thread's register"));
     for operation in [7, 8] {
         let label = format!("9: operation {operation} sets another thread's register");
         cases.push(with_field(operation, 2, 1).case(label));

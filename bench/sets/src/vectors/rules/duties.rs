@@ -221,15 +221,22 @@ fn three_threads() -> Vec<Case> {
         vec![constant_action(5, [4, 3], 1)],
     ];
     let two_actions = vec![vec![action(3), store(1)], vec![store(1), store(1)], vec![store(1)]];
+    let pairs = |word: u8| [9, 10, 11].map(|operation| constant_action(operation, [4, 4], word));
+    let trade = constant_action(12, [5, 6], 1);
+    let noting = vec![vec![action(9), action(12)], pairs(1).to_vec(), vec![trade]];
     let mut cases = each_missing("three threads", one_action);
+    cases.extend(each_missing("three threads with pairs", noting));
     cases.extend(each_missing("three threads, two actions", two_actions));
     cases
 }
 
-/// A program with every obligation met, and with each of them without a line in turn.
+/// A program with every obligation met, and with each of them without a line in turn. Registers 5 and 6 are thread 3's.
 fn each_missing(name: &str, threads: Vec<Thread>) -> Vec<Case> {
     let mut header = super::frame::header();
     header.counts.threads = threads.len() as u8;
+    header.counts.registers += 2;
+    header.owners.extend([3, 3]);
+    header.marks.extend([1, 1]);
     let plan = harness::plan(harness::program(header, threads));
     let mut cases = vec![Case::new(format!("accepted: {name}"), plan.bytes())];
     for (index, duty) in duties(&plan.program.threads).iter().enumerate() {

@@ -1,10 +1,13 @@
 //! Images about the rules: each rule justified and, changed in one place, not.
 
 mod changes;
+mod claims;
 mod conditions;
 mod duties;
 pub mod frame;
+mod grown;
 mod limits;
+mod pairs;
 mod premises;
 mod ranges;
 
@@ -21,5 +24,8 @@ pub fn cases() -> Vec<Case> {
     cases.extend(limits::cases());
     cases.extend(ranges::cases());
     cases.extend(duties::cases());
+    cases.extend(pairs::cases());
+    cases.extend(grown::cases());
+    cases.extend(claims::cases());
     cases
 }

@@ -6,12 +6,13 @@ use reference::checker::Refusal;
 /// The longest image that is read.
 const IMAGE_BYTES: usize = 262_144;
 
-/// The kind of the last record.
+/// The kind that must come last but for claims, and theirs.
 const OBLIGATIONS: usize = 6;
+const CLAIM: usize = 8;
 
-/// How many records of each kind there may be; there is no kind 0.
-const MOST: [usize; 7] = [0, 1, 500, 4, 1, 4000, 1];
-const RECORDS: usize = 4507;
+/// How many records of each kind there may be; there is no kind 0 and no kind 7.
+const MOST: [usize; 9] = [0, 1, 500, 4, 1, 4000, 1, 0, 16];
+const RECORDS: usize = 4523;
 
 pub struct Frames<'a> {
     image: &'a [u8],
@@ -19,6 +20,7 @@ pub struct Frames<'a> {
     pub formulas: usize,
     pub threads: usize,
     pub lines: usize,
+    pub claims: usize,
 }
 
 impl<'a> Frames<'a> {
@@ -28,7 +30,7 @@ impl<'a> Frames<'a> {
             return Err(Refusal::at(2, 0));
         }
         let mut starts = [0; RECORDS];
-        let mut counts = [0; 7];
+        let mut counts = [0; 9];
         let (mut last, mut at, mut record) = (0, 0, 1);
         while at < image.len() {
             let left = image.len() - at;
@@ -40,8 +42,9 @@ impl<'a> Frames<'a> {
                 return Err(Refusal::at(3, record));
             }
             let kind = number(image, at + 2);
-            let in_order = kind == last || kind == last + 1;
-            if !in_order || kind > OBLIGATIONS || counts[kind] == MOST[kind] {
+            let next = if last == OBLIGATIONS { CLAIM } else { last + 1 };
+            let in_order = kind == last || kind == next;
+            if !in_order || kind > CLAIM || counts[kind] == MOST[kind] {
                 return Err(Refusal::at(4, record));
             }
             counts[kind] += 1;
@@ -50,11 +53,11 @@ impl<'a> Frames<'a> {
             at += 2 + length;
             record += 1;
         }
-        if last != OBLIGATIONS {
+        if last != OBLIGATIONS && last != CLAIM {
             return Err(Refusal::at(4, record));
         }
-        let [_, _, formulas, threads, _, lines, _] = counts;
-        Ok(Frames { image, starts, formulas, threads, lines })
+        let [_, _, formulas, threads, _, lines, _, _, claims] = counts;
+        Ok(Frames { image, starts, formulas, threads, lines, claims })
     }
 
     /// The body of a record, counted from 1.

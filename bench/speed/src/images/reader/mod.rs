@@ -2,6 +2,7 @@
 //! nothing, keep no more of an image than where its records start, and differ in how they search a formula
 //! for what may not stand in it.
 
+mod claim;
 mod frames;
 mod header;
 mod line;
@@ -77,5 +78,9 @@ pub fn read<S: Search>(image: &[u8]) -> Answer {
     for before in 0..frames.lines {
         next(&|body| line::check::<S>(body, before, &frames))?;
     }
-    next(&|body| lists::check_obligations(body, &frames))
+    next(&|body| lists::check_obligations(body, &frames))?;
+    for _ in 0..frames.claims {
+        next(&|body| claim::check(body, &frames))?;
+    }
+    Ok(())
 }

@@ -9,6 +9,7 @@ mod fetches;
 mod inclusions;
 mod kept;
 mod loads;
+mod pairs;
 mod rows;
 mod start;
 mod stores;
@@ -29,6 +30,7 @@ pub fn cases() -> Vec<Case> {
     list.skipped();
     list.swaps();
     list.fetches();
+    list.pairs();
     list.start();
     list.rows();
     list.table();
