@@ -1,14 +1,18 @@
 //! Readable proof outlines to images of Hidokpalu, and back.
 //!
 //! `text` reads sources and writes texts, `search` finds certificate lines, `build` and `explicit`
-//! put images together, `gallery` makes the tables of the examples. What an image is and which
-//! lines are justified is the library `reference`'s.
+//! put images together, `gallery` makes the tables of the examples, `report` and `draw` make pages and
+//! drawings. What an image is and which lines are justified is the library `reference`'s.
 
 pub mod build;
 pub mod command;
+pub mod draw;
 pub mod explicit;
 pub mod gallery;
 pub mod image;
+pub mod judged;
+pub mod markup;
+pub mod report;
 pub mod search;
 pub mod terms;
 pub mod text;

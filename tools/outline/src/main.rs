@@ -1,6 +1,6 @@
-//! The program `outline`: builds, judges, shows, explains and explores proof outlines.
+//! The program `outline`: builds, judges, shows, explains, explores and draws proof outlines.
 
-use outline::command::{build, check, explain, explore, print, show, Done, Status};
+use outline::command::{build, check, draw, explain, explore, print, report, show, Done, Status};
 use std::process::ExitCode;
 
 const HELP: &str = "\
@@ -11,6 +11,10 @@ outline show FILE                                              an image as text,
 outline explain FILE                                           each obligation and claim with its line, rule and premises
 outline explore FILE [--steps N] [--writes N] [--starts N] [--claims] [--outcome \"a = 1 and b = 0\"]
                                                                every run up to a bound
+outline report FILE -o FILE.html [--steps N] [--writes N] [--starts N]
+                                                               a page: verdict, program, obligations, a run that breaks it
+outline draw FILE -o FILE.svg [--steps N] [--writes N] [--starts N] [--outcome \"a = 1 and b = 0\"]
+                                                               a run that breaks it, or that has the outcome, drawn
 
 FILE is an outline or an image; `-` is standard input, behind -o standard output. All take --json.
   --partial   writes an image with open obligations and claims too
@@ -30,6 +34,8 @@ fn main() -> ExitCode {
         ["show", rest @ ..] => show::run(rest),
         ["explain", rest @ ..] => explain::run(rest),
         ["explore", rest @ ..] => explore::run(rest),
+        ["report", rest @ ..] => report::run(rest),
+        ["draw", rest @ ..] => draw::run(rest),
         ["--help" | "-h" | "help"] => said(HELP),
         ["--version"] => said(concat!("outline ", env!("CARGO_PKG_VERSION"), "\n")),
         _ => Err(format!("usage:\n{HELP}").trim_end().into()),

@@ -38,3 +38,29 @@ fn every_outline_has_its_line() {
         assert_eq!(cells.len(), wanted, "{name}");
     }
 }
+
+/// Every accepted outline has its times; what they are differs from run to run.
+#[test]
+fn accepted_outlines_have_their_times() {
+    let text = std::fs::read_to_string(folder().join("README.md")).expect("the page is there");
+    let (_, times) = text.split_once("\n## Times\n").expect("the page has the times");
+    for name in proved(&text) {
+        let row = format!("| `{name}` | ");
+        let cells = times
+            .lines()
+            .find_map(|line| line.strip_prefix(&row))
+            .unwrap_or_else(|| panic!("no times of {name}"));
+        let numbers = cells.trim_end_matches(" |").split(" | ");
+        assert!(numbers.filter_map(|n| n.parse::<f64>().ok()).count() == 2, "{name}: {cells}");
+    }
+}
+
+/// The names in the first table.
+fn proved(text: &str) -> Vec<&str> {
+    let (_, first) = text.split_once("<!-- tables: by the program gallery -->").expect("tables");
+    let first = first.split("\n## ").next().expect("a part");
+    let rows = first.lines().filter_map(|line| line.strip_prefix("| [`"));
+    let names: Vec<&str> = rows.filter_map(|row| row.split('`').next()).collect();
+    assert!(names.len() > 10);
+    names
+}

@@ -15,7 +15,7 @@ pub fn first_failing(image: &Image, justified: &[bool]) -> Option<Verdict> {
 }
 
 /// Whether the line that the claim names is justified and rules the meeting out.
-fn is_shown(image: &Image, justified: &[bool], claim: &Claim) -> bool {
+pub fn is_shown(image: &Image, justified: &[bool], claim: &Claim) -> bool {
     let Some(index) = usize::from(claim.line).checked_sub(1) else {
         return false;
     };

@@ -140,7 +140,7 @@ pub fn judge(image: &Image, justified: &[bool]) -> Verdict {
 }
 
 /// The code of one obligation that names this line; 0 if it is met.
-fn judge_one(image: &Image, justified: &[bool], duty: &Duty, line: u16) -> u16 {
+pub fn judge_one(image: &Image, justified: &[bool], duty: &Duty, line: u16) -> u16 {
     let Some(index) = usize::from(line).checked_sub(1) else {
         return NO_LINE;
     };

@@ -6,7 +6,7 @@ use crate::command::judge::{judge, JUDGE};
 use crate::command::options::Options;
 use crate::command::progress::Progress;
 use crate::command::truth::Looked;
-use crate::command::{interrupt, json, print, words, Done, Status};
+use crate::command::{interrupt, json, print, words, write, Done, Status};
 use crate::image::to_bytes;
 use crate::search::budget::TRIES;
 use crate::text::lex::Mistake;
@@ -109,13 +109,6 @@ fn nothing_written(file: &str, built: &Built) -> String {
     };
     let all = format!("{open} of {duties} obligations{claims} are open");
     format!("{file}: {untried}{failed}{all}; no image is written")
-}
-
-fn write(target: &str, bytes: &[u8]) -> Result<(), String> {
-    match target {
-        "-" => print(bytes),
-        _ => std::fs::write(target, bytes).map_err(|e| format!("{target}: {e}")),
-    }
 }
 
 /// What stays open goes to standard error, what was written to standard output, unless the image goes there.

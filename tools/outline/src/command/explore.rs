@@ -8,7 +8,7 @@ use crate::text::print::Names;
 use crate::text::{counted, run};
 use reference::checker::decode;
 use reference::explore::truth::violation;
-use reference::explore::{explore, find, Break, Cut, Fault, Outcome, Run, Sought};
+use reference::explore::{explore, find, Bounds, Break, Cut, Fault, Outcome, Run, Sought};
 use reference::formula::Assertion;
 use reference::image::{Meeting, Program};
 use reference::machine::{take, State, View};
@@ -201,14 +201,7 @@ fn can_happen(
     subject: &Subject,
     outcome: &str,
 ) -> Result<(Vec<String>, Status), String> {
-    let program = &subject.program;
-    let test = parse_test(&subject.names, &program.header, outcome)
-        .map_err(|e| format!("--outcome: {}", e.text))?;
-    let ended = |state: &State| {
-        state.points.iter().zip(&program.threads).all(|(p, code)| usize::from(*p) == code.len())
-    };
-    let wanted = |state: &State| ended(state) && test.evaluate(&state.seen_at(View::default()));
-    let sought = find(program, options.bounds(), MOST_STATES, &wanted);
+    let sought = outcome_run(&subject.program, &subject.names, options.bounds(), outcome)?;
     let Some(run) = &sought.runs[0] else {
         let seen = format!("never: {outcome} (in {} states)", sought.states);
         return Ok((vec![seen, far(&sought)], Status::Accepted));
@@ -217,4 +210,20 @@ fn can_happen(
     let mut said = vec![format!("happens: {outcome}, after {steps}")];
     said.extend(subject.run(run));
     Ok((said, Status::Refused))
+}
+
+/// Looks for a shortest run at whose end all threads are at their last points and the registers pass the test.
+pub fn outcome_run(
+    program: &Program,
+    names: &Names,
+    bounds: Bounds,
+    outcome: &str,
+) -> Result<Sought, String> {
+    let test = parse_test(names, &program.header, outcome)
+        .map_err(|e| format!("--outcome: {}", e.text))?;
+    let ended = |state: &State| {
+        state.points.iter().zip(&program.threads).all(|(p, code)| usize::from(*p) == code.len())
+    };
+    let wanted = |state: &State| ended(state) && test.evaluate(&state.seen_at(View::default()));
+    Ok(find(program, bounds, MOST_STATES, &wanted))
 }

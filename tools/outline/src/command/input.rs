@@ -52,11 +52,16 @@ pub struct Subject {
 impl Subject {
     /// Reads and builds; open obligations are left to the verdict.
     pub fn of(file: &str) -> Result<Subject, String> {
-        match read(file)? {
-            Input::Image(bytes) => Ok(Subject { bytes, outline: None }),
+        Subject::made(file, &read(file)?)
+    }
+
+    /// Builds what was read from a file.
+    pub fn made(file: &str, input: &Input) -> Result<Subject, String> {
+        match input {
+            Input::Image(bytes) => Ok(Subject { bytes: bytes.clone(), outline: None }),
             Input::Text(text) => {
-                let source = parse_all(&text).map_err(|all| mistakes(file, &text, &all))?;
-                let built = build(&source).map_err(|e| mistake(file, &text, &e))?;
+                let source = parse_all(text).map_err(|all| mistakes(file, text, &all))?;
+                let built = build(&source).map_err(|e| mistake(file, text, &e))?;
                 let bytes = to_bytes(&built.image).map_err(|e| format!("{}: {e}", called(file)))?;
                 Ok(Subject { bytes, outline: Some((source, built)) })
             }

@@ -2,6 +2,9 @@
 
 use reference::checker::Verdict;
 
+/// The name of the proved checker, wherever it judges.
+pub const PROVED: &str = "proved checker";
+
 #[cfg(not(feature = "proved"))]
 mod linked {
     pub const JUDGE: &str = "independent checker";
@@ -16,7 +19,7 @@ mod linked {
     use reference::checker::verdict::RECORD_BYTES;
     use reference::checker::Verdict;
 
-    pub const JUDGE: &str = "proved checker";
+    pub const JUDGE: &str = super::PROVED;
 
     // A `&[u8]` of Rattle is a pointer and a length. include/hidokpalu.h says what the call does.
     extern "C" {

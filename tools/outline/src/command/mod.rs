@@ -2,6 +2,7 @@
 
 pub mod build;
 pub mod check;
+pub mod draw;
 pub mod explain;
 pub mod explore;
 pub mod input;
@@ -10,6 +11,7 @@ pub mod json;
 pub mod judge;
 pub mod options;
 pub mod progress;
+pub mod report;
 pub mod show;
 pub mod truth;
 pub mod words;
@@ -35,4 +37,12 @@ pub fn print(text: impl AsRef<[u8]>) -> Result<(), String> {
     let mut out = std::io::stdout().lock();
     let written = out.write_all(text.as_ref()).and_then(|()| out.flush());
     written.map_err(|e| format!("standard output: {e}"))
+}
+
+/// Writes a file, or standard output for `-`.
+pub fn write(target: &str, bytes: &[u8]) -> Result<(), String> {
+    match target {
+        "-" => print(bytes),
+        _ => std::fs::write(target, bytes).map_err(|e| format!("{target}: {e}")),
+    }
 }

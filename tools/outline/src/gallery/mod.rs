@@ -2,16 +2,17 @@
 
 mod header;
 mod run;
+pub mod times;
 
 use crate::build::{build, Built, Open};
 use crate::image::to_bytes;
 use crate::text::parse_source::parse;
 use crate::text::source::Source;
 use crate::text::{counted, report};
-use header::Header;
+pub use header::Header;
 use reference::explore::Break;
 use std::fmt::Write;
-use std::path::Path;
+use std::path::{Path, PathBuf};
 
 /// The marks in the page between which the tables stand.
 const BEGIN: &str = "<!-- tables: by the program gallery -->\n\n";
@@ -77,8 +78,8 @@ fn variant_of(name: &str) -> Option<&str> {
     name.split_once("-wrong-").map(|(program, _)| program)
 }
 
-/// Every outline of a folder, by name.
-fn read_all(folder: &Path) -> Result<Vec<Example>, String> {
+/// The files of all outlines of a folder, by name.
+fn outlines(folder: &Path) -> Result<Vec<PathBuf>, String> {
     let told = |e: std::io::Error| format!("{}: {e}", folder.display());
     let mut paths = Vec::new();
     for entry in std::fs::read_dir(folder).map_err(told)? {
@@ -88,11 +89,17 @@ fn read_all(folder: &Path) -> Result<Vec<Example>, String> {
         }
     }
     paths.sort();
-    let read = |path: &std::path::PathBuf| {
+    Ok(paths)
+}
+
+/// Every outline of a folder, by name.
+fn read_all(folder: &Path) -> Result<Vec<Example>, String> {
+    let told = |e: std::io::Error| format!("{}: {e}", folder.display());
+    let read = |path: &PathBuf| {
         let name = path.file_stem().expect("an outline has a name").to_string_lossy();
         Example::read(&name, &std::fs::read_to_string(path).map_err(told)?)
     };
-    paths.iter().map(read).collect()
+    outlines(folder)?.iter().map(read).collect()
 }
 
 /// The tables about the outlines of a folder.

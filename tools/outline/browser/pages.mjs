@@ -1,0 +1,19 @@
+// Pages of the examples.
+
+import { execFileSync } from "node:child_process";
+import { dirname, join } from "node:path";
+import { fileURLToPath } from "node:url";
+
+export const root = join(dirname(fileURLToPath(import.meta.url)), "../../..");
+export const program = join(root, "target/rust/release/outline");
+
+/** Writes the page of an example; whether it is accepted. A refusal has status 1. */
+export function report(outline, name, target) {
+  try {
+    execFileSync(outline, ["report", join(root, `examples/${name}.outline`), "-o", target], { stdio: "pipe" });
+    return true;
+  } catch (error) {
+    if (error.status !== 1) throw error;
+    return false;
+  }
+}

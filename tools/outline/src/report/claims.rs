@@ -1,0 +1,52 @@
+//! The claims of an image, in one sentence each.
+
+use super::parts::{self, answer, note, point};
+use super::trees::Trees;
+use super::Content;
+use crate::judged::{Goal, Judged};
+use crate::markup::{el, of, Element};
+use reference::image::Meeting;
+
+/// The claims of an image: this is the one place that lists them.
+fn claims(content: &Content) -> Vec<(&Judged, Meeting)> {
+    let claim = |judged: &'_ Judged| match judged.goal {
+        Goal::Claim(meeting) => Some(meeting),
+        Goal::Duty(_) => None,
+    };
+    content.judged.iter().filter_map(|judged| Some((judged, claim(judged)?))).collect()
+}
+
+pub fn section(content: &Content, accepted: bool) -> Element {
+    let out = parts::section("claims", "Claims");
+    let all = claims(content);
+    if all.is_empty() {
+        return out.add(note("The image makes no claim besides its assertions."));
+    }
+    let shown = match accepted {
+        true => "Shown, and true in every run:",
+        false => "The image is refused: none of these is a result.",
+    };
+    let mut trees = Trees::of(content);
+    let list = all.iter().map(|(judged, meeting)| item(content, &mut trees, judged, meeting));
+    out.add(note(shown)).add(of("ul", "claims").all(list.collect::<Vec<_>>()))
+}
+
+fn item(content: &Content, trees: &mut Trees, judged: &Judged, meeting: &Meeting) -> Element {
+    let (class, said) = answer(judged.code);
+    let words = sentence(content, meeting).text(" ").add(of("span", class).text(said));
+    match judged.line {
+        0 => el("li").add(words),
+        line => {
+            let details = el("details").add(el("summary").add(words)).add(trees.tree(line));
+            el("li").add(details)
+        }
+    }
+}
+
+/// A claim in words.
+pub fn sentence(content: &Content, meeting: &Meeting) -> Element {
+    let at = |thread: u8, p: u8| point(&content.words.names, thread, p);
+    let first = el("span").add(at(meeting.thread, meeting.point)).text(" and ");
+    let both = first.add(at(meeting.other_thread, meeting.other_point));
+    both.text(" never meet.")
+}

@@ -1,0 +1,168 @@
+//! What obligations and claims ask, in words.
+
+use super::parts::{code, formula, point};
+use super::{claims, Content};
+use crate::judged::Goal;
+use crate::markup::{el, of, Element};
+use reference::checker::obligations::Duty;
+use reference::image::{Instruction, Meeting};
+
+/// What the obligations of a class ask.
+pub fn class_title(class: u8) -> &'static str {
+    match class {
+        1 => "the start gives each thread’s first assertion",
+        2 => "an instruction, or a branch not taken, leads to the next point’s assertion",
+        3 => "a branch that is taken leads to its target’s assertion",
+        _ => "an assertion survives an instruction of another thread",
+    }
+}
+
+/// The class of an obligation.
+pub fn class_of(duty: &Duty) -> u8 {
+    match duty {
+        Duty::Start { .. } => 1,
+        Duty::Next { .. } => 2,
+        Duty::Taken { .. } => 3,
+        Duty::Kept { .. } => 4,
+    }
+}
+
+/// The text of the instruction that an obligation is about.
+fn instruction(content: &Content, thread: u8, point: u8) -> String {
+    let instruction = content.image.program.instruction(thread, point);
+    content.words.names.instruction(instruction.expect("an obligation's instruction"))
+}
+
+/// What would have to be so.
+pub fn goal_words(content: &Content, goal: &Goal) -> String {
+    match goal {
+        Goal::Duty(duty) => duty_words(content, duty),
+        Goal::Claim(meeting) => format!("{} never meet", met(content, meeting)),
+    }
+}
+
+/// Two threads at their points.
+pub fn met(content: &Content, meeting: &Meeting) -> String {
+    let name = |thread: u8| content.words.names.thread(thread);
+    let Meeting { thread, point, other_thread, other_point } = *meeting;
+    format!("{} at point {point} and {} at point {other_point}", name(thread), name(other_thread))
+}
+
+fn duty_words(content: &Content, duty: &Duty) -> String {
+    let names = &content.words.names;
+    let act = |t: u8, p: u8| format!("{}’s “{}”", names.thread(t), instruction(content, t, p));
+    match *duty {
+        Duty::Start { thread } => {
+            format!("{}’s assertion at point 0 is true at the start", names.thread(thread))
+        }
+        Duty::Next { thread, point } => {
+            format!(
+                "{} leads from the assertion at point {point} to that at point {}",
+                act(thread, point),
+                point + 1
+            )
+        }
+        Duty::Taken { thread, point } => {
+            format!(
+                "{}, taken at point {point}, leads to the assertion at its target",
+                act(thread, point)
+            )
+        }
+        Duty::Kept { thread, point, actor, action } => {
+            let name = names.thread(thread);
+            format!("{name}’s assertion at point {point} survives {}", act(actor, action))
+        }
+    }
+}
+
+/// Which kind of thing is asked.
+pub fn kind(goal: &Goal) -> String {
+    match goal {
+        Goal::Duty(duty) => format!("Class {}: {}.", class_of(duty), class_title(class_of(duty))),
+        Goal::Claim(_) => "A claim: two threads are never at these points together.".into(),
+    }
+}
+
+/// An obligation or a claim in words, its points as links.
+pub fn goal_element(content: &Content, goal: &Goal) -> Element {
+    match goal {
+        Goal::Duty(duty) => duty_element(content, duty).text("."),
+        Goal::Claim(meeting) => claims::sentence(content, meeting),
+    }
+}
+
+/// An obligation in words, its points as links.
+pub fn duty_element(content: &Content, duty: &Duty) -> Element {
+    let (names, program) = (&content.words.names, &content.image.program);
+    let at = |t: u8, p: u8| point(names, t, p);
+    let act = |t: u8, p: u8| code(&instruction(content, t, p));
+    let out = el("span");
+    match *duty {
+        Duty::Start { thread } => out.text("The start gives ").add(at(thread, 0)),
+        Duty::Next { thread, point } => {
+            let branch = program.instruction(thread, point).is_some_and(|i| i.is_branch());
+            let way = if branch { ", not taken, leads from " } else { " leads from " };
+            let out = out.add(act(thread, point)).text(way).add(at(thread, point));
+            out.text(format!(" to point {}", point + 1))
+        }
+        Duty::Taken { thread, point } => {
+            let out = out.add(act(thread, point)).text(", taken, leads from ");
+            out.add(at(thread, point)).text(" to its target")
+        }
+        Duty::Kept { thread, point, actor, action } => {
+            let out = out.add(at(thread, point)).text(" survives ").add(act(actor, action));
+            out.text(" of ").add(at(actor, action))
+        }
+    }
+}
+
+/// What a line would have to say, in the outline's own words.
+pub fn wanted(content: &Content, goal: &Goal) -> Element {
+    let at = |t: u8, p: u8| formula(&content.words, content.words.assertion(t, p));
+    let rows = match *goal {
+        Goal::Duty(duty) => duty_rows(content, duty, at),
+        Goal::Claim(meeting) => vec![
+            ("from", at(meeting.thread, meeting.point)),
+            ("and", at(meeting.other_thread, meeting.other_point)),
+            ("to", code("false")),
+        ],
+    };
+    let row = |(name, value): (&str, Element)| [el("dt").text(name), el("dd").add(value)];
+    of("dl", "wanted").all(rows.into_iter().flat_map(row))
+}
+
+/// What an obligation starts from, by which instruction, and where it leads.
+fn duty_rows(
+    content: &Content,
+    duty: Duty,
+    at: impl Fn(u8, u8) -> Element,
+) -> Vec<(&'static str, Element)> {
+    let act = |t: u8, p: u8| code(&instruction(content, t, p));
+    let step =
+        |t: u8, p: u8, to: u8| vec![("from", at(t, p)), ("by", act(t, p)), ("to", at(t, to))];
+    match duty {
+        Duty::Start { thread } => vec![("from", code("start")), ("to", at(thread, 0))],
+        Duty::Next { thread, point } => step(thread, point, point + 1),
+        Duty::Taken { thread, point } => {
+            let branch = content.image.program.instruction(thread, point);
+            let Some(Instruction::Branch { target, .. }) = branch else { return Vec::new() };
+            step(thread, point, *target)
+        }
+        Duty::Kept { thread, point, actor, action } => vec![
+            ("from", at(thread, point)),
+            ("and", at(actor, action)),
+            ("by", act(actor, action)),
+            ("to", at(thread, point)),
+        ],
+    }
+}
+
+/// The thread whose assertion an obligation is about.
+pub fn asserting(duty: &Duty) -> u8 {
+    match *duty {
+        Duty::Start { thread }
+        | Duty::Next { thread, .. }
+        | Duty::Taken { thread, .. }
+        | Duty::Kept { thread, .. } => thread,
+    }
+}

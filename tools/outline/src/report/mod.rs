@@ -1,0 +1,116 @@
+//! One page about one image: the verdict, the program with its outline, the obligations, what is proved and what is believed.
+//!
+//! The page stands alone: no script, nothing from the network. A file's words reach it through `markup` only.
+
+mod claims;
+mod goals;
+mod obligations;
+mod parts;
+mod program;
+mod refusal;
+pub mod rules;
+pub mod sha256;
+mod trees;
+mod trust;
+mod verdict;
+pub mod words;
+
+use crate::image::Image;
+use crate::judged::{Broken, Judged};
+use crate::markup::{el, of, Element};
+use reference::checker::Verdict;
+use reference::explore::Sought;
+pub use refusal::{picture, unbroken};
+use words::Words;
+
+const STYLE: &str = include_str!("style.css");
+
+/// Nothing but the page's own styles is allowed: a second lock behind the escaping.
+const POLICY: &str = "default-src 'none'; style-src 'unsafe-inline'";
+
+/// What a page is about.
+pub struct Subject<'a> {
+    /// The file's name, without its folder.
+    pub file: &'a str,
+    /// The comment at the front of an outline: its first paragraph, and what it says is shown.
+    pub about: Vec<String>,
+    pub bytes: &'a [u8],
+    pub verdict: Verdict,
+    /// Who judged.
+    pub judge: &'a str,
+    /// What the image says; none if it is refused for its bytes.
+    pub content: Option<Content>,
+}
+
+/// What a well-formed image says, and what was found out about it.
+pub struct Content {
+    pub image: Image,
+    pub words: Words,
+    pub judged: Vec<Judged>,
+    /// For a refusal: a run that breaks an obligation, or how far was looked for one.
+    pub sought: Option<Result<Broken, Sought>>,
+    /// What the search for a certificate says about the obligation that the verdict names.
+    pub tried: Vec<String>,
+}
+
+impl Subject<'_> {
+    pub fn is_accepted(&self) -> bool {
+        self.verdict.code == 0
+    }
+}
+
+/// The page as text.
+pub fn page(subject: &Subject) -> String {
+    let (mut links, mut sections) = (vec![("verdict", "Verdict")], vec![verdict::section(subject)]);
+    if let Some(content) = &subject.content {
+        if !subject.is_accepted() {
+            links.push(("refusal", "Why refused"));
+            sections.push(refusal::section(subject, content));
+        }
+        links.extend([
+            ("program", "Program"),
+            ("claims", "Claims"),
+            ("obligations", "Obligations"),
+        ]);
+        sections.push(program::section(content));
+        sections.push(claims::section(content, subject.is_accepted()));
+        sections.push(obligations::section(content));
+    }
+    links.push(("trust", "What is proved"));
+    sections.push(trust::section(subject.judge));
+    let main = el("main").add(heading(subject)).add(contents(&links)).all(sections);
+    let html = el("html").with("lang", "en").add(head(subject)).add(el("body").add(main));
+    format!("<!DOCTYPE html>\n{}\n", html.written())
+}
+
+fn head(subject: &Subject) -> Element {
+    let meta = |name: &'static str, content: &'static str| {
+        el("meta").with("name", name).with("content", content)
+    };
+    let word = if subject.is_accepted() { "accepted" } else { "refused" };
+    el("head")
+        .add(el("meta").with("charset", "utf-8"))
+        .add(el("meta").with("http-equiv", "Content-Security-Policy").with("content", POLICY))
+        .add(meta("viewport", "width=device-width, initial-scale=1"))
+        .add(meta("color-scheme", "light dark"))
+        .add(el("title").text(format!("{}: {word}", subject.file)))
+        .add(el("style").style(STYLE))
+}
+
+/// The file, and what its author says of it.
+fn heading(subject: &Subject) -> Element {
+    let top = el("header").add(of("p", "kind").text("Report on a proof outline"));
+    let top = top.add(el("h1").text(subject.file));
+    let said = subject.about.iter().map(|text| of("p", "about").text(text));
+    let mark = of("p", "note").text("In the author’s words, from the file’s comment; not checked.");
+    match subject.about.is_empty() {
+        true => top,
+        false => top.all(said).add(mark),
+    }
+}
+
+fn contents(links: &[(&'static str, &'static str)]) -> Element {
+    let link =
+        |(id, text): &(&str, &str)| el("li").add(el("a").with("href", format!("#{id}")).text(text));
+    el("nav").with("aria-label", "On this page").add(el("ul").all(links.iter().map(link)))
+}
