@@ -1,0 +1,4 @@
+pub mod Document
+pub mod Encode
+pub mod Parse
+pub mod Canonical
