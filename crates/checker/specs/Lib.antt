@@ -2,3 +2,4 @@ pub mod Answer
 pub mod Promise
 pub mod Found
 pub mod Uncut
+pub mod Acceptance

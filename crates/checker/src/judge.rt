@@ -68,7 +68,7 @@ fn judge_claims<'a, 'b, 'c>(
 }
 
 // On an image whose bytes are sound.
-fn judge_sound<'a, 'b>(s: &'a [u8], ix: &'b [usize], z: Sizes) -> Verdict
+pub fn judge_sound<'a, 'b>(s: &'a [u8], ix: &'b [usize], z: Sizes) -> Verdict
     requires { ⌜ now ix ≡ indexOf (now s) ⌝ }
     ensures { λ r. ⌜ r ≡ soundVerdict (now (s .entry)) z ⌝ }
 {

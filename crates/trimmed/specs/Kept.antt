@@ -35,6 +35,14 @@ selected m l = chosen (drop 1 m) l
 unfoldable pub renumbered : List Bool → ℕ → ℕ
 renumbered m n = setBelow n (drop 1 m)
 
+-- the new numbers as a table: of the first n, and of all that have a mark
+unfoldable pub numbersTo : List Bool → ℕ → List ℕ
+numbersTo m zero = replicate (length m) 0
+numbersTo m (suc n) = set (numbersTo m n) n (renumbered m n)
+
+unfoldable pub newNumbers : List Bool → List ℕ
+newNumbers m = numbersTo m (length m)
+
 -- the lines that obligations and claims name
 abbrev pub namedLines : Document → List ℕ
 namedLines D = D .obligations ++ map (λ c. c .line) (D .claims)

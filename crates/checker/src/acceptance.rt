@@ -1,0 +1,51 @@
+// What an accepted image holds, for calls that go on from there: trimming, bills.
+use crate::judge::judge_sound;
+use frames::index::fill_index;
+use image::decode::Decoded;
+use image::decode::decode_image;
+use program::sizes::Sizes;
+use report::verdict::Verdict;
+ghost use mathlib.Core.Path.{_≡_};
+ghost use lib.ListN.{replicate};
+ghost use Rattle.limits.specs.Limits.{records};
+ghost use Rattle.frames.specs.Records.{indexOf};
+ghost use Rattle.checker.specs.Acceptance.{grantedBy, acceptance};
+
+pub enum Acceptance {
+    Granted(Sizes),
+    Declined,
+}
+
+// By the verdict on sound bytes.
+fn granted_by(v: Verdict, z: Sizes) -> Acceptance
+    ensures { λ r. ⌜ r ≡ grantedBy z v ⌝ }
+{
+    match v {
+        Verdict::Accepted { count } => Acceptance::Granted(z),
+        Verdict::Refused { fault, record } => Acceptance::Declined,
+        Verdict::Failed {
+            what,
+            code,
+            line,
+            count,
+        } => Acceptance::Declined,
+        Verdict::Denied {
+            record,
+            place,
+            line,
+            count,
+        } => Acceptance::Declined,
+    }
+}
+
+// How much an image holds, if it is accepted. Fills the index of its records, a table of zeros.
+pub fn accept_image<'a, 'b>(image: &'a [u8], index: &'b mut [usize]) -> Acceptance
+    requires { ⌜ now index ≡ replicate records 0 ⌝ }
+    ensures { λ r. ⌜ (r ≡ acceptance (now (image .entry))) × (now (index .exit) ≡ indexOf (now (image .entry))) ⌝ }
+{
+    fill_index(image, index);
+    match decode_image(image, index) {
+        Decoded::Refused { fault, record } => Acceptance::Declined,
+        Decoded::Sound(z) => granted_by(judge_sound(image, index, z), z),
+    }
+}
