@@ -91,25 +91,25 @@ sound-checks s z e = go (wholeImage s) refl e
 -- which record is where
 
 module _ (z : Sizes) where
-  place-formula : (k : ℕ) → 1 ≤ k → k ≤ z .formulas → placeOf z (k + 1) ≡ Formula
+  pub place-formula : (k : ℕ) → 1 ≤ k → k ≤ z .formulas → placeOf z (k + 1) ≡ Formula
   unfolding placeOf
   place-formula k a b = let q : k + 1 ≡ 1 → ⊥ = omega arith in rw (ne-eqb (k + 1) 1 q, le-leb (k + 1) (formulasEnd z) (omega arith))
 
-  place-thread : (t : ℕ) → 1 ≤ t → t ≤ z .threads → placeOf z (z .formulas + t + 1) ≡ Thread t
+  pub place-thread : (t : ℕ) → 1 ≤ t → t ≤ z .threads → placeOf z (z .formulas + t + 1) ≡ Thread t
   unfolding placeOf
   place-thread t a b =
       let q : z .formulas + t + 1 ≡ 1 → ⊥ = omega arith in
       let d : z .formulas + t + 1 - formulasEnd z ≡ t = omega arith in
       rw (ne-eqb (z .formulas + t + 1) 1 q, lt-leb (z .formulas + t + 1) (formulasEnd z) (omega arith), le-leb (z .formulas + t + 1) (threadsEnd z) (omega arith), d)
 
-  place-outline : placeOf z (z .formulas + z .threads + 1 + 1) ≡ Outline
+  pub place-outline : placeOf z (z .formulas + z .threads + 1 + 1) ≡ Outline
   unfolding placeOf
   place-outline =
       let i : ℕ = z .formulas + z .threads + 1 + 1 in
       let q : i ≡ 1 → ⊥ = omega arith in
       rw (ne-eqb i 1 q, lt-leb i (formulasEnd z) (omega arith), lt-leb i (threadsEnd z) (omega arith), le-leb i (outlineAt z) (omega arith))
 
-  place-line : (n : ℕ) → 1 ≤ n → n ≤ z .lines → placeOf z (z .formulas + z .threads + 1 + n + 1) ≡ Line (n - 1)
+  pub place-line : (n : ℕ) → 1 ≤ n → n ≤ z .lines → placeOf z (z .formulas + z .threads + 1 + n + 1) ≡ Line (n - 1)
   unfolding placeOf
   place-line n a b =
       let i : ℕ = z .formulas + z .threads + 1 + n + 1 in
@@ -117,14 +117,14 @@ module _ (z : Sizes) where
       let d : i - outlineAt z - 1 ≡ n - 1 = omega arith in
       rw (ne-eqb i 1 q, lt-leb i (formulasEnd z) (omega arith), lt-leb i (threadsEnd z) (omega arith), lt-leb i (outlineAt z) (omega arith), le-leb i (linesEnd z) (omega arith), d)
 
-  place-obligations : placeOf z (z .formulas + z .threads + 1 + z .lines + 1 + 1) ≡ Obligations
+  pub place-obligations : placeOf z (z .formulas + z .threads + 1 + z .lines + 1 + 1) ≡ Obligations
   unfolding placeOf
   place-obligations =
       let i : ℕ = z .formulas + z .threads + 1 + z .lines + 1 + 1 in
       let q : i ≡ 1 → ⊥ = omega arith in
       rw (ne-eqb i 1 q, lt-leb i (formulasEnd z) (omega arith), lt-leb i (threadsEnd z) (omega arith), lt-leb i (outlineAt z) (omega arith), lt-leb i (linesEnd z) (omega arith), le-leb i (linesEnd z + 1) (omega arith))
 
-  place-claim : (k : ℕ) → k < z .claims → placeOf z (z .formulas + z .threads + 1 + z .lines + 2 + k + 1) ≡ Claim
+  pub place-claim : (k : ℕ) → k < z .claims → placeOf z (z .formulas + z .threads + 1 + z .lines + 2 + k + 1) ≡ Claim
   unfolding placeOf
   place-claim k b =
       let i : ℕ = z .formulas + z .threads + 1 + z .lines + 2 + k + 1 in
