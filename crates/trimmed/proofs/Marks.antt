@@ -12,7 +12,7 @@ use lib.Seq.{getD-set-same, getD-set-other, getD-drop}
 use Rattle.limits.specs.Numbers.{nth}
 use Rattle.trimmed.specs.Kept.{noted, setBelow, chosen, selected, renumbered}
 
-clash : false ≡ true → ⊥
+pub clash : false ≡ true → ⊥
 clash e = let q : _≡_ {A = ℕ} 0 1 = ap (λ (b : Bool). cond b 1 0) e in omega arith
 
 -- what has a mark is there
