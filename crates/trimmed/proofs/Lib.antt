@@ -1,3 +1,4 @@
 pub mod Marks
 pub mod Member
 pub mod Resting
+pub mod Using

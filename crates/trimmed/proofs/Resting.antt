@@ -107,12 +107,12 @@ module _ (l : List LineRecord) where
 
 -- of a document
 
-none-set : (n j : ℕ) → getD (replicate n false) j false ≡ true → ⊥
+pub none-set : (n j : ℕ) → getD (replicate n false) j false ≡ true → ⊥
 none-set zero j e = clash e
 none-set (suc n) zero e = clash e
 none-set (suc n) (suc j) e = none-set n j e
 
-replicate-length : {A : Type 0} (n : ℕ) (x : A) → length (replicate n x) ≡ n
+pub replicate-length : {A : Type 0} (n : ℕ) (x : A) → length (replicate n x) ≡ n
 replicate-length zero x = refl
 replicate-length (suc n) x = ap suc (replicate-length n x)
 
