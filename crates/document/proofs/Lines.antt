@@ -1,7 +1,7 @@
 -- A line in bytes, and back.
 use mathlib.Core.Path.{_≡_, refl, ap, sym, _∙_}
 use mathlib.Core.Bool.{true}
-use mathlib.Core.List.{List, [], _∷_, _++_, append-nil}
+use mathlib.Core.List.{List, [], _∷_, _++_}
 use Prim.Native.Nat.{ℕ, _+_, _*_, _≤_, _<_}
 use native.Mathlib.Omega.{arith}
 use lib.ListN.{length, getD, drop, length-append, length-drop}
@@ -15,7 +15,7 @@ use Rattle.document.specs.Canonical.{Byte, Short, Bytes, LineFits}
 use Rattle.document.specs.Encode.{numberBytes, lineBytes}
 use Rattle.document.specs.Parse.{lineRecord}
 use Rattle.document.proofs.Each.{each-cons, each-append, each-drop}
-use Rattle.document.proofs.Words.{word-two, two-bytes, numbers-back, numbers-size, numbers-bytes, byte-at, word-short, word-low, word-high, numbers-short, number-bytes, reads-all}
+use Rattle.document.proofs.Words.{word-two, two-bytes, numbers-alone, numbers-size, numbers-bytes, byte-at, word-short, word-low, word-high, numbers-short, number-bytes, reads-all}
 
 -- from a line
 
@@ -58,7 +58,7 @@ module _ (v : LineRecord) where
 
     pub line-premises : premises (lineBytes v) ≡ v .premises
     unfolding premises lineBytes
-    line-premises = ap (λ (b : List ℕ). numbers (length (v .premises)) b) (sym (append-nil (numberBytes (v .premises)))) ∙ numbers-back (v .premises) [] (f .premises)
+    line-premises = numbers-alone (v .premises) (f .premises)
 
     pub line-back : lineRecord (lineBytes v) ≡ v
     unfolding lineRecord

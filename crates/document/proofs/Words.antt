@@ -1,6 +1,6 @@
 -- 16-bit numbers in two bytes each, and back.
 use mathlib.Core.Path.{_≡_, refl, sym}
-use mathlib.Core.List.{List, [], _∷_, _++_}
+use mathlib.Core.List.{List, [], _∷_, _++_, append-nil}
 use Prim.Native.Nat.{ℕ, zero, suc, _+_, _*_, _/_, _%_, _≤_, _<_}
 use native.Mathlib.Omega.{arith}
 use native.Mathlib.Nat.{add-zero}
@@ -28,6 +28,9 @@ pub numbers-back : (l r : List ℕ) → Shorts l → numbers (length l) (numberB
 unfolding numbers numberBytes
 numbers-back [] r h = refl
 numbers-back (n ∷ l) r h = rw (word-two n (numberBytes l ++ r) (h 0 (omega arith)), numbers-back l r (each-tail Short 0 n l h))
+
+pub numbers-alone : (l : List ℕ) → Shorts l → numbers (length l) (numberBytes l) ≡ l
+numbers-alone l h = rw append-nil at (numbers-back l [] h)
 
 pub numbers-size : (l : List ℕ) → length (numberBytes l) ≡ 2 * length l
 unfolding numberBytes
