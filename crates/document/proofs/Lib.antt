@@ -6,3 +6,4 @@ pub mod Claims
 pub mod Parts
 pub mod Places
 pub mod RoundTrip
+pub mod Encoded

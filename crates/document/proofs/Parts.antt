@@ -1,11 +1,11 @@
 -- A list that has parts one behind the other.
-use mathlib.Core.Path.{_≡_, refl, ap, sym, _∙_}
+use mathlib.Core.Path.{_≡_, refl, sym}
 use mathlib.Core.List.{List, [], _∷_, _++_, map}
 use Prim.Native.Nat.{ℕ, zero, suc, _+_, _≤_, _<_}
 use native.Mathlib.Nat.{add-zero}
 use native.Mathlib.Omega.{arith}
-use lib.ListN.{length, getD, take, drop, length-map, take-append-drop, List·getD-append}
-use lib.Seq.{take-at, drop-at, getD-drop, drop-drop, drop-cons}
+use lib.ListN.{length, getD, take, drop, length-map, length-drop, take-append-drop, List·getD-append}
+use lib.Seq.{length-take-le, take-all, take-at, drop-at, getD-drop, drop-drop, drop-cons}
 use Rattle.limits.specs.Numbers.{nth}
 
 -- a part p with n members from place i on, and what is behind it
@@ -48,3 +48,10 @@ module _ {A : Type 0} (i : ℕ) (l : List A) where
 
   pub member-more : (d : A) (j : ℕ) → i < length l → i + 1 ≡ j → getD l i d ∷ drop j l ≡ drop i l
   member-more d j h e = let q : suc i ≡ j = omega arith in rw (← q, ← drop-cons l i d h)
+
+  pub part-length : (n : ℕ) → i + n ≤ length l → length (take n (drop i l)) ≡ n
+  part-length n h = length-take-le n (drop i l) (rw (length-drop i l) (omega arith))
+
+  -- the last part
+  pub part-last : (n : ℕ) → i + n ≡ length l → take n (drop i l) ≡ drop i l
+  part-last n e = take-all n (drop i l) (rw (length-drop i l) (omega arith))

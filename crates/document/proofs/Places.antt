@@ -1,9 +1,9 @@
 -- Which body of a document's records is whose.
 use mathlib.Core.Path.{_≡_, refl, ap, sym, _∙_}
 use mathlib.Core.List.{List, [], _∷_, _++_, map, append-nil, map-append}
-use Prim.Native.Nat.{ℕ, suc, _+_, _≤_, _<_}
+use Prim.Native.Nat.{ℕ, _+_, _≤_, _<_}
 use native.Mathlib.Omega.{arith}
-use lib.ListN.{length, getD, take, drop, length-append, length-map}
+use lib.ListN.{length, getD, drop, length-append, length-map}
 use Rattle.limits.specs.Numbers.{nth}
 use Rattle.program.specs.declared.sizes.Sizes.{Sizes}
 use Rattle.program.specs.Header.{threadCount}
@@ -14,7 +14,7 @@ use Rattle.content.specs.Certificate.{lineBody}
 use Rattle.content.specs.Image.{obligationsBody, claimBody}
 use Rattle.document.specs.Document.{Document}
 use Rattle.document.specs.Canonical.{noLine, noClaim}
-use Rattle.document.specs.Encode.{Entry, entries, itself, threadBytes, numberBytes, lineBytes, claimBytes, entriesOf, bodiesOf}
+use Rattle.document.specs.Encode.{entries, itself, threadBytes, numberBytes, lineBytes, claimBytes, entriesOf, bodiesOf}
 use Rattle.document.specs.Parse.{part, sizes}
 use Rattle.document.proofs.Parts.{part-is, part-behind, member-is, made-at, made-nth}
 
@@ -73,7 +73,8 @@ module _ (D : Document) where
 
     at-lines : drop (z .formulas + z .threads + 2) l ≡ fromLines
     at-lines =
-        part-behind (z .formulas + z .threads + 1) 1 l (numberBytes (D .outline) ∷ []) fromLines at-outline refl (z .formulas + z .threads + 2) (omega arith)
+        part-behind (z .formulas + z .threads + 1) 1 l (numberBytes (D .outline) ∷ []) fromLines at-outline refl
+        (z .formulas + z .threads + 2) (omega arith)
 
     lines-length : length (map lineBytes (D .lines)) ≡ z .lines
     unfolding sizes sizesOf
@@ -126,8 +127,8 @@ module _ (D : Document) where
     pub line-at : (n : ℕ) → 1 ≤ n → n ≤ length (D .lines) → lineBody z l n ≡ lineBytes (nth (D .lines) n noLine)
     unfolding lineBody
     line-at n a b =
-        made-nth lineBytes (D .lines) noLine (z .formulas + z .threads + 2) l fromObligations [] at-lines n (z .formulas + z .threads + 1 + n) a b
-        (omega arith)
+        made-nth lineBytes (D .lines) noLine (z .formulas + z .threads + 2) l fromObligations [] at-lines n
+        (z .formulas + z .threads + 1 + n) a b (omega arith)
 
     pub obligations-at : obligationsBody z l ≡ numberBytes (D .obligations)
     obligations-at = member-is (z .formulas + z .threads + 1 + z .lines + 1) l (numberBytes (D .obligations)) fromClaims [] at-obligations

@@ -1,7 +1,6 @@
 -- A document whose numbers fit is the document of its bodies.
-use mathlib.Core.Path.{_≡_, refl, ap, sym, _∙_}
-use mathlib.Core.List.{List, []}
-use Prim.Native.Nat.{ℕ, _+_}
+use mathlib.Core.Path.{_≡_}
+use mathlib.Core.List.{[]}
 use lib.ListN.{length}
 use Rattle.program.specs.Header.{threadCount}
 use Rattle.program.specs.Thread.{instructions}
@@ -18,7 +17,8 @@ use Rattle.document.proofs.Claims.{claim-back}
 use Rattle.document.proofs.Places.{header-at, formulas-part, threads-part, outline-at, lines-part, obligations-at, claims-part}
 
 pub parsed : (D : Document) → Canonical D → threadCount (D .header) ≡ length (D .threads)
-    → length (D .outline) ≡ tally (sizes D) (bodiesOf D) .points → length (D .obligations) ≡ obligationCount (sizes D) (bodiesOf D) → documentOf (sizes D) (bodiesOf D) ≡ D
+    → length (D .outline) ≡ tally (sizes D) (bodiesOf D) .points
+    → length (D .obligations) ≡ obligationCount (sizes D) (bodiesOf D) → documentOf (sizes D) (bodiesOf D) ≡ D
 unfolding documentOf
 parsed D c same points count =
     let outline = numbers-alone (D .outline) (c .outline) in

@@ -1,13 +1,13 @@
 -- A thread's instructions in bytes, and back.
-use mathlib.Core.Path.{_≡_, refl, ap, sym, _∙_}
+use mathlib.Core.Path.{_≡_, refl, sym}
 use mathlib.Core.Bool.{Bool, true, false, cond}
 use mathlib.Core.List.{List, [], _∷_, _++_}
-use Prim.Native.Nat.{ℕ, zero, suc, _+_, _-_, _*_, _≤_, _<_}
+use Prim.Native.Nat.{ℕ, zero, suc, _+_, _*_, _≤_}
 use native.Mathlib.Omega.{arith}
-use lib.ListN.{length, getD, take, drop, length-append, length-drop, drop-of-length-le}
+use lib.ListN.{length, getD, drop, length-append, length-drop, drop-of-length-le}
 use lib.Seq.{drop-at, drop-drop}
 use Rattle.logic.specs.Obligations.{flat}
-use Rattle.limits.specs.Numbers.{word, has}
+use Rattle.limits.specs.Numbers.{has}
 use Rattle.limits.proofs.Numbers.{has-true}
 use Rattle.program.specs.declared.instruction.Half.{Half}
 use Rattle.program.specs.declared.instruction.Instruction.{Instruction}
@@ -77,13 +77,16 @@ unfolding cut
 cut-back [] f = refl
 cut-back (i ∷ l) f =
     let r : List ℕ = flat instructionBytes l in
-    rw (instruction-first i r, instruction-back i r (f 0 (omega arith)), instruction-next i r, cut-back l (each-tail InstructionFits nothing i l f))
+    let e = instruction-back i r (f 0 (omega arith)) in
+    rw (instruction-first i r, e, instruction-next i r, cut-back l (each-tail InstructionFits nothing i l f))
 
 begins-all : (l : List Instruction) → begins (flat instructionBytes l) (length l) ≡ length (flat instructionBytes l)
 begins-all [] = begins-zero []
 begins-all (i ∷ l) =
     let r : List ℕ = flat instructionBytes l in
-    rw (begins-behind (instructionBytes i ++ r) (length l), instruction-first i r, instruction-next i r, begins-all l, length-append (instructionBytes i) r, instruction-size i)
+    let e = begins-behind (instructionBytes i ++ r) (length l) in
+    let d = length-append (instructionBytes i) r in
+    rw (e, instruction-first i r, instruction-next i r, begins-all l, d, instruction-size i)
 
 size-most : (op : ℕ) → instructionSize op ≤ 10
 unfolding instructionSize
@@ -167,7 +170,8 @@ module _ (b : List ℕ) (h : Bytes b) where
       go : (t : Bool) → twofold op ≡ t → cond t 10 5 ≤ length b → instructionBytes (instruction b) ++ drop (instructionSize op) b ≡ b
       go true e s =
           let r = reads-all (drop 5 b) 0 5 (rw (length-drop 5 b) (omega arith)) in
-          rw (e, word-low b h 3, word-high b h 3, half-again (drop 5 b) (each-drop Byte 0 5 b h), ← drop-drop 5 5 b, r) (reads-all b 0 5 (omega arith))
+          let d = half-again (drop 5 b) (each-drop Byte 0 5 b h) in
+          rw (e, word-low b h 3, word-high b h 3, d, ← drop-drop 5 5 b, r) (reads-all b 0 5 (omega arith))
       go false e s = rw (e, word-low b h 3, word-high b h 3) (reads-all b 0 5 s)
 
 cut-fits : (n : ℕ) (b : List ℕ) → Bytes b → Each InstructionFits nothing (cut n b)
@@ -175,7 +179,8 @@ unfolding cut
 cut-fits zero b h = each-nil InstructionFits nothing
 cut-fits (suc n) b h =
     let r : List ℕ = drop (instructionSize (getD b 0 0)) b in
-    each-cons InstructionFits nothing (instruction b) (cut n r) (instruction-fits b h) (cut-fits n r (each-drop Byte 0 (instructionSize (getD b 0 0)) b h))
+    each-cons InstructionFits nothing (instruction b) (cut n r) (instruction-fits b h)
+    (cut-fits n r (each-drop Byte 0 (instructionSize (getD b 0 0)) b h))
 
 cut-again : (n : ℕ) (b : List ℕ) → Bytes b → length b ≡ begins b n → flat instructionBytes (cut n b) ≡ b
 unfolding cut
@@ -189,7 +194,10 @@ cut-again (suc n) b h e =
 module _ (b : List ℕ) (h : Bytes b) where
   pub thread-fits : ThreadFits (instructions b)
   unfolding instructions lastPoint
-  thread-fits = record { points = omega (arith, instructions-length b, byte-at b h 0); each = cut-fits (lastPoint b) (drop 1 b) (each-drop Byte 0 1 b h) }
+  thread-fits = record {
+    points = omega (arith, instructions-length b, byte-at b h 0);
+    each = cut-fits (lastPoint b) (drop 1 b) (each-drop Byte 0 1 b h);
+  }
 
   pub thread-again : 1 ≤ getD b 0 0 → has 1 b ≡ true → length b ≡ threadSize b → threadBytes (instructions b) ≡ b
   unfolding threadBytes threadSize instructions lastPoint

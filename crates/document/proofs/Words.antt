@@ -10,7 +10,7 @@ use Rattle.limits.specs.Numbers.{word, numbers}
 use Rattle.report.specs.Record.{two}
 use Rattle.document.specs.Canonical.{Byte, Short, Bytes, Shorts}
 use Rattle.document.specs.Encode.{numberBytes}
-use Rattle.document.proofs.Each.{each-nil, each-cons, each-tail, each-append, each-drop, each-any, each-flat}
+use Rattle.document.proofs.Each.{each-nil, each-cons, each-tail, each-drop, each-any, each-flat}
 
 -- from a number
 
@@ -22,7 +22,9 @@ pub drop-two : (n : ℕ) (r : List ℕ) → drop 2 (two n ++ r) ≡ r
 drop-two n r = refl
 
 pub two-bytes : (n : ℕ) → Bytes (two n)
-two-bytes n = each-cons Byte 0 (n % 256) ((n / 256) % 256 ∷ []) (omega arith) (each-cons Byte 0 ((n / 256) % 256) [] (omega arith) (each-nil Byte 0))
+two-bytes n =
+    each-cons Byte 0 (n % 256) ((n / 256) % 256 ∷ []) (omega arith)
+    (each-cons Byte 0 ((n / 256) % 256) [] (omega arith) (each-nil Byte 0))
 
 pub numbers-back : (l r : List ℕ) → Shorts l → numbers (length l) (numberBytes l ++ r) ≡ l
 unfolding numbers numberBytes
@@ -64,7 +66,8 @@ module _ (b : List ℕ) (h : Bytes b) where
 pub numbers-short : (n : ℕ) (b : List ℕ) → Bytes b → Shorts (numbers n b)
 unfolding numbers
 numbers-short zero b h = each-nil Short 0
-numbers-short (suc n) b h = each-cons Short 0 (word b) (numbers n (drop 2 b)) (word-short b h 0) (numbers-short n (drop 2 b) (each-drop Byte 0 2 b h))
+numbers-short (suc n) b h =
+    each-cons Short 0 (word b) (numbers n (drop 2 b)) (word-short b h 0) (numbers-short n (drop 2 b) (each-drop Byte 0 2 b h))
 
 -- n of them, from byte i on
 abbrev pub reads : List ℕ → ℕ → ℕ → List ℕ
