@@ -1,0 +1,9 @@
+pub mod Each
+pub mod Words
+pub mod Threads
+pub mod Lines
+pub mod Claims
+pub mod Parts
+pub mod Places
+pub mod RoundTrip
+pub mod Encoded
