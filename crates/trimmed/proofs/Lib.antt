@@ -4,3 +4,4 @@ pub mod Resting
 pub mod Using
 pub mod Moved
 pub mod Again
+pub mod Repointed
