@@ -5,3 +5,4 @@ pub mod Using
 pub mod Moved
 pub mod Again
 pub mod Repointed
+pub mod Transfer
