@@ -1,7 +1,7 @@
 -- A claim in bytes, and back.
-use mathlib.Core.Path.{_≡_, refl, sym, _∙_}
-use mathlib.Core.List.{List, [], _∷_, _++_}
-use Prim.Native.Nat.{ℕ, _+_, _<_}
+use mathlib.Core.Path.{_≡_, refl}
+use mathlib.Core.List.{List, [], _∷_}
+use Prim.Native.Nat.{ℕ, _+_}
 use native.Mathlib.Omega.{arith}
 use lib.ListN.{length, getD, drop, drop-of-length-le}
 use Rattle.limits.specs.Numbers.{word}
@@ -62,7 +62,13 @@ module _ (c : ClaimRecord) where
 module _ (b : List ℕ) (h : Bytes b) where
   pub claim-fits : ClaimFits (claimRecord b)
   unfolding claimRecord
-  claim-fits = record { thread = byte-at b h 0; point = byte-at b h 1; other = byte-at b h 2; otherPoint = byte-at b h 3; line = word-short b h 4 }
+  claim-fits = record {
+    thread = byte-at b h 0;
+    point = byte-at b h 1;
+    other = byte-at b h 2;
+    otherPoint = byte-at b h 3;
+    line = word-short b h 4;
+  }
 
   pub claim-again : length b ≡ 6 → claimBytes (claimRecord b) ≡ b
   unfolding claimRecord claimBytes

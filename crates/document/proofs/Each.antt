@@ -3,7 +3,8 @@ use mathlib.Core.Path.{_≡_, refl}
 use mathlib.Core.List.{List, [], _∷_, _++_, map}
 use Prim.Native.Nat.{ℕ, zero, suc, _+_, _<_}
 use native.Mathlib.Omega.{arith}
-use lib.ListN.{length, getD, take, drop}
+use lib.ListN.{getD, take, drop, length-take}
+use lib.Seq.{getD-take, getD-drop}
 use Rattle.logic.specs.Obligations.{flat}
 use Rattle.document.specs.Canonical.{Each}
 
@@ -44,6 +45,14 @@ module _ {A B : Type 0} (F : A → Type 0) (d : A) (G : B → Type 0) (e : B) wh
   each-flat f h (x ∷ l) g = each-append F d (f x) (flat f l) (h x (g 0 (omega arith))) (each-flat f h l (each-tail G e x l g))
 
 -- what is made from each member gives it back
-pub map-back : {A B : Type 0} (F : A → Type 0) (d : A) (f : A → B) (g : B → A) → ((x : A) → F x → g (f x) ≡ x) → (l : List A) → Each F d l → map g (map f l) ≡ l
+pub map-back : {A B : Type 0} (F : A → Type 0) (d : A) (f : A → B) (g : B → A) → ((x : A) → F x → g (f x) ≡ x)
+    → (l : List A) → Each F d l → map g (map f l) ≡ l
 map-back F d f g h [] e = refl
 map-back F d f g h (x ∷ l) e = rw (h x (e 0 (omega arith)), map-back F d f g h l (each-tail F d x l e))
+
+-- n members from place i on
+pub part-each : {A : Type 0} (F : A → Type 0) (d : A) (i n : ℕ) (l : List A) → ((k : ℕ) → k < n → F (getD l (i + k) d))
+    → Each F d (take n (drop i l))
+part-each F d i n l h k b =
+    let s : k < n = omega (arith, length-take n (drop i l)) in
+    rw (getD-take n (drop i l) k d s, getD-drop i l k d) (h k s)

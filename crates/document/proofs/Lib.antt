@@ -3,3 +3,7 @@ pub mod Words
 pub mod Threads
 pub mod Lines
 pub mod Claims
+pub mod Parts
+pub mod Places
+pub mod RoundTrip
+pub mod Encoded

@@ -1,11 +1,11 @@
 -- A line in bytes, and back.
-use mathlib.Core.Path.{_≡_, refl, ap, sym, _∙_}
+use mathlib.Core.Path.{_≡_, refl}
 use mathlib.Core.Bool.{true}
-use mathlib.Core.List.{List, [], _∷_, _++_, append-nil}
-use Prim.Native.Nat.{ℕ, _+_, _*_, _≤_, _<_}
+use mathlib.Core.List.{List, _∷_, _++_}
+use Prim.Native.Nat.{ℕ, _+_, _*_, _≤_}
 use native.Mathlib.Omega.{arith}
-use lib.ListN.{length, getD, drop, length-append, length-drop}
-use Rattle.limits.specs.Numbers.{word, has, numbers}
+use lib.ListN.{length, getD, drop, length-drop}
+use Rattle.limits.specs.Numbers.{has}
 use Rattle.limits.proofs.Numbers.{has-true, numbers-length}
 use Rattle.records.specs.Line.{premises, lineSize}
 use Rattle.report.specs.Record.{two}
@@ -15,7 +15,8 @@ use Rattle.document.specs.Canonical.{Byte, Short, Bytes, LineFits}
 use Rattle.document.specs.Encode.{numberBytes, lineBytes}
 use Rattle.document.specs.Parse.{lineRecord}
 use Rattle.document.proofs.Each.{each-cons, each-append, each-drop}
-use Rattle.document.proofs.Words.{word-two, two-bytes, numbers-back, numbers-size, numbers-bytes, byte-at, word-short, word-low, word-high, numbers-short, number-bytes, reads-all}
+use Rattle.document.proofs.Words.{word-two, two-bytes, numbers-alone, numbers-size, numbers-bytes}
+use Rattle.document.proofs.Words.{byte-at, word-short, word-low, word-high, numbers-short, number-bytes, reads-all}
 
 -- from a line
 
@@ -58,7 +59,7 @@ module _ (v : LineRecord) where
 
     pub line-premises : premises (lineBytes v) ≡ v .premises
     unfolding premises lineBytes
-    line-premises = ap (λ (b : List ℕ). numbers (length (v .premises)) b) (sym (append-nil (numberBytes (v .premises)))) ∙ numbers-back (v .premises) [] (f .premises)
+    line-premises = numbers-alone (v .premises) (f .premises)
 
     pub line-back : lineRecord (lineBytes v) ≡ v
     unfolding lineRecord
@@ -99,5 +100,7 @@ module _ (b : List ℕ) (h : Bytes b) where
   line-again e d =
       let s : 8 ≤ length b = has-true 8 b e in
       let r : length (drop 8 b) ≡ 2 * getD b 7 0 = rw (length-drop 8 b) (omega arith) in
-      rw (word-low b h 3, word-high b h 3, word-low b h 5, word-high b h 5, numbers-length (getD b 7 0) (drop 8 b), number-bytes (getD b 7 0) (drop 8 b) r (each-drop Byte 0 8 b h))
+      let n = numbers-length (getD b 7 0) (drop 8 b) in
+      let m = number-bytes (getD b 7 0) (drop 8 b) r (each-drop Byte 0 8 b h) in
+      rw (word-low b h 3, word-high b h 3, word-low b h 5, word-high b h 5, n, m)
       (reads-all b 0 8 s)

@@ -1,23 +1,24 @@
 -- A thread's instructions in bytes, and back.
-use mathlib.Core.Path.{_≡_, refl, ap, sym, _∙_}
+use mathlib.Core.Path.{_≡_, refl, sym}
 use mathlib.Core.Bool.{Bool, true, false, cond}
 use mathlib.Core.List.{List, [], _∷_, _++_}
-use Prim.Native.Nat.{ℕ, zero, suc, _+_, _-_, _*_, _≤_, _<_}
+use Prim.Native.Nat.{ℕ, zero, suc, _+_, _*_, _≤_}
 use native.Mathlib.Omega.{arith}
-use lib.ListN.{length, getD, take, drop, length-append, length-drop, drop-of-length-le}
-use lib.Seq.{drop-at}
+use lib.ListN.{length, getD, drop, length-append, length-drop, drop-of-length-le}
+use lib.Seq.{drop-at, drop-drop}
 use Rattle.logic.specs.Obligations.{flat}
-use Rattle.limits.specs.Numbers.{word, has}
+use Rattle.limits.specs.Numbers.{has}
+use Rattle.limits.proofs.Numbers.{has-true}
 use Rattle.program.specs.declared.instruction.Half.{Half}
 use Rattle.program.specs.declared.instruction.Instruction.{Instruction}
 use Rattle.program.specs.Instruction.{twofold, instructionSize, half, noHalf, secondHalf, instruction}
 use Rattle.program.specs.Thread.{lastPoint, cut, begins, instructions, nothing, threadSize}
-use Rattle.program.proofs.Laws.Program.{begins-zero, begins-behind}
+use Rattle.program.proofs.Laws.Program.{begins-zero, begins-behind, instructions-length}
 use Rattle.report.specs.Record.{two}
 use Rattle.document.specs.Canonical.{Byte, Short, Bytes, Each, HalfFits, InstructionFits, ThreadFits}
 use Rattle.document.specs.Encode.{halfBytes, instructionBytes, threadBytes}
 use Rattle.document.proofs.Each.{each-nil, each-cons, each-tail, each-append, each-drop, each-flat}
-use Rattle.document.proofs.Words.{word-two, two-bytes}
+use Rattle.document.proofs.Words.{word-two, two-bytes, byte-at, word-short, word-low, word-high, reads, reads-all}
 
 -- from instructions
 
@@ -76,13 +77,16 @@ unfolding cut
 cut-back [] f = refl
 cut-back (i ∷ l) f =
     let r : List ℕ = flat instructionBytes l in
-    rw (instruction-first i r, instruction-back i r (f 0 (omega arith)), instruction-next i r, cut-back l (each-tail InstructionFits nothing i l f))
+    let e = instruction-back i r (f 0 (omega arith)) in
+    rw (instruction-first i r, e, instruction-next i r, cut-back l (each-tail InstructionFits nothing i l f))
 
 begins-all : (l : List Instruction) → begins (flat instructionBytes l) (length l) ≡ length (flat instructionBytes l)
 begins-all [] = begins-zero []
 begins-all (i ∷ l) =
     let r : List ℕ = flat instructionBytes l in
-    rw (begins-behind (instructionBytes i ++ r) (length l), instruction-first i r, instruction-next i r, begins-all l, length-append (instructionBytes i) r, instruction-size i)
+    let e = begins-behind (instructionBytes i ++ r) (length l) in
+    let d = length-append (instructionBytes i) r in
+    rw (e, instruction-first i r, instruction-next i r, begins-all l, d, instruction-size i)
 
 size-most : (op : ℕ) → instructionSize op ≤ 10
 unfolding instructionSize
@@ -124,3 +128,80 @@ module _ (l : List Instruction) where
   pub thread-short : ThreadFits l → Short (length (threadBytes l) + 2)
   unfolding threadBytes
   thread-short f = omega (arith, f .points, instructions-most l)
+
+-- from bytes
+
+module _ (b : List ℕ) (h : Bytes b) where
+  half-fits : HalfFits (half b)
+  unfolding half
+  half-fits = record { operation = byte-at b h 0; a = byte-at b h 1; b = byte-at b h 2; formula = word-short b h 3 }
+
+  half-again : halfBytes (half b) ≡ reads b 0 5
+  unfolding half halfBytes
+  half-again = rw (word-low b h 3, word-high b h 3)
+
+module _ (b : List ℕ) (h : Bytes b) where
+  abbrev op : ℕ
+  op = getD b 0 0
+
+  second-fits : HalfFits (secondHalf op b)
+  unfolding secondHalf
+  second-fits = go (twofold op)
+    where
+      go : (t : Bool) → HalfFits (cond t (half (drop 5 b)) noHalf)
+      go true = half-fits (drop 5 b) (each-drop Byte 0 5 b h)
+      go false = record { operation = omega arith; a = omega arith; b = omega arith; formula = omega arith }
+
+  instruction-fits : InstructionFits (instruction b)
+  unfolding instruction secondHalf
+  instruction-fits = record {
+    operation = byte-at b h 0;
+    a = byte-at b h 1;
+    b = byte-at b h 2;
+    formula = word-short b h 3;
+    second = second-fits;
+    single = λ e. rw e;
+  }
+
+  instruction-again : instructionSize op ≤ length b → instructionBytes (instruction b) ++ drop (instructionSize op) b ≡ b
+  unfolding instruction instructionBytes secondHalf instructionSize
+  instruction-again = go (twofold op) refl
+    where
+      go : (t : Bool) → twofold op ≡ t → cond t 10 5 ≤ length b → instructionBytes (instruction b) ++ drop (instructionSize op) b ≡ b
+      go true e s =
+          let r = reads-all (drop 5 b) 0 5 (rw (length-drop 5 b) (omega arith)) in
+          let d = half-again (drop 5 b) (each-drop Byte 0 5 b h) in
+          rw (e, word-low b h 3, word-high b h 3, d, ← drop-drop 5 5 b, r) (reads-all b 0 5 (omega arith))
+      go false e s = rw (e, word-low b h 3, word-high b h 3) (reads-all b 0 5 s)
+
+cut-fits : (n : ℕ) (b : List ℕ) → Bytes b → Each InstructionFits nothing (cut n b)
+unfolding cut
+cut-fits zero b h = each-nil InstructionFits nothing
+cut-fits (suc n) b h =
+    let r : List ℕ = drop (instructionSize (getD b 0 0)) b in
+    each-cons InstructionFits nothing (instruction b) (cut n r) (instruction-fits b h)
+    (cut-fits n r (each-drop Byte 0 (instructionSize (getD b 0 0)) b h))
+
+cut-again : (n : ℕ) (b : List ℕ) → Bytes b → length b ≡ begins b n → flat instructionBytes (cut n b) ≡ b
+unfolding cut
+cut-again zero b h e = sym (drop-of-length-le b {i = 0} (omega (arith, begins-zero b)))
+cut-again (suc n) b h e =
+    let k : ℕ = instructionSize (getD b 0 0) in
+    let q = begins-behind b n in
+    let r = cut-again n (drop k b) (each-drop Byte 0 k b h) (rw (length-drop k b) (omega arith)) in
+    rw r (instruction-again b h (omega arith))
+
+module _ (b : List ℕ) (h : Bytes b) where
+  pub thread-fits : ThreadFits (instructions b)
+  unfolding instructions lastPoint
+  thread-fits = record {
+    points = omega (arith, instructions-length b, byte-at b h 0);
+    each = cut-fits (lastPoint b) (drop 1 b) (each-drop Byte 0 1 b h);
+  }
+
+  pub thread-again : 1 ≤ getD b 0 0 → has 1 b ≡ true → length b ≡ threadSize b → threadBytes (instructions b) ≡ b
+  unfolding threadBytes threadSize instructions lastPoint
+  thread-again p e d =
+      let s : 1 ≤ length b = has-true 1 b e in
+      let q : length (instructions b) + 1 ≡ getD b 0 0 = omega (arith, instructions-length b) in
+      rw (q, cut-again (lastPoint b) (drop 1 b) (each-drop Byte 0 1 b h) (rw (length-drop 1 b) (omega arith))) (reads-all b 0 1 s)

@@ -1,6 +1,6 @@
 -- 16-bit numbers in two bytes each, and back.
 use mathlib.Core.Path.{_≡_, refl, sym}
-use mathlib.Core.List.{List, [], _∷_, _++_}
+use mathlib.Core.List.{List, [], _∷_, _++_, append-nil}
 use Prim.Native.Nat.{ℕ, zero, suc, _+_, _*_, _/_, _%_, _≤_, _<_}
 use native.Mathlib.Omega.{arith}
 use native.Mathlib.Nat.{add-zero}
@@ -10,7 +10,7 @@ use Rattle.limits.specs.Numbers.{word, numbers}
 use Rattle.report.specs.Record.{two}
 use Rattle.document.specs.Canonical.{Byte, Short, Bytes, Shorts}
 use Rattle.document.specs.Encode.{numberBytes}
-use Rattle.document.proofs.Each.{each-nil, each-cons, each-tail, each-append, each-drop, each-any, each-flat}
+use Rattle.document.proofs.Each.{each-nil, each-cons, each-tail, each-drop, each-any, each-flat}
 
 -- from a number
 
@@ -22,12 +22,17 @@ pub drop-two : (n : ℕ) (r : List ℕ) → drop 2 (two n ++ r) ≡ r
 drop-two n r = refl
 
 pub two-bytes : (n : ℕ) → Bytes (two n)
-two-bytes n = each-cons Byte 0 (n % 256) ((n / 256) % 256 ∷ []) (omega arith) (each-cons Byte 0 ((n / 256) % 256) [] (omega arith) (each-nil Byte 0))
+two-bytes n =
+    each-cons Byte 0 (n % 256) ((n / 256) % 256 ∷ []) (omega arith)
+    (each-cons Byte 0 ((n / 256) % 256) [] (omega arith) (each-nil Byte 0))
 
 pub numbers-back : (l r : List ℕ) → Shorts l → numbers (length l) (numberBytes l ++ r) ≡ l
 unfolding numbers numberBytes
 numbers-back [] r h = refl
 numbers-back (n ∷ l) r h = rw (word-two n (numberBytes l ++ r) (h 0 (omega arith)), numbers-back l r (each-tail Short 0 n l h))
+
+pub numbers-alone : (l : List ℕ) → Shorts l → numbers (length l) (numberBytes l) ≡ l
+numbers-alone l h = rw append-nil at (numbers-back l [] h)
 
 pub numbers-size : (l : List ℕ) → length (numberBytes l) ≡ 2 * length l
 unfolding numberBytes
@@ -61,7 +66,8 @@ module _ (b : List ℕ) (h : Bytes b) where
 pub numbers-short : (n : ℕ) (b : List ℕ) → Bytes b → Shorts (numbers n b)
 unfolding numbers
 numbers-short zero b h = each-nil Short 0
-numbers-short (suc n) b h = each-cons Short 0 (word b) (numbers n (drop 2 b)) (word-short b h 0) (numbers-short n (drop 2 b) (each-drop Byte 0 2 b h))
+numbers-short (suc n) b h =
+    each-cons Short 0 (word b) (numbers n (drop 2 b)) (word-short b h 0) (numbers-short n (drop 2 b) (each-drop Byte 0 2 b h))
 
 -- n of them, from byte i on
 abbrev pub reads : List ℕ → ℕ → ℕ → List ℕ
