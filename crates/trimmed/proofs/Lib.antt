@@ -4,3 +4,6 @@ pub mod Resting
 pub mod Using
 pub mod Moved
 pub mod Again
+pub mod CanonicalKept
+pub mod Trimming
+pub mod FormulaKept
