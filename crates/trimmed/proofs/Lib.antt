@@ -7,3 +7,5 @@ pub mod Again
 pub mod CanonicalKept
 pub mod Trimming
 pub mod FormulaKept
+pub mod Passing
+pub mod InstructionKept
