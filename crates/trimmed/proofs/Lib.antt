@@ -9,3 +9,4 @@ pub mod Trimming
 pub mod FormulaKept
 pub mod Passing
 pub mod InstructionKept
+pub mod ThreadKept
