@@ -10,3 +10,4 @@ pub mod FormulaKept
 pub mod Passing
 pub mod InstructionKept
 pub mod ThreadKept
+pub mod TallyKept
