@@ -4,5 +4,12 @@ pub mod Resting
 pub mod Using
 pub mod Moved
 pub mod Again
+pub mod CanonicalKept
+pub mod Trimming
+pub mod FormulaKept
+pub mod Passing
+pub mod InstructionKept
+pub mod ThreadKept
+pub mod TallyKept
 pub mod Repointed
 pub mod Transfer

@@ -42,7 +42,7 @@ module _ (u k : List Bool) (D : Document) where
   unfolding claimBy
   no-claim = rw (renumbered-0 k)
 
-  no-instruction : instructionBy f g nothing ≡ nothing
+  pub no-instruction : instructionBy f g nothing ≡ nothing
   unfolding instructionBy halfBy
   no-instruction = rw (renumbered-0 u)
 
