@@ -13,3 +13,4 @@ pub mod ThreadKept
 pub mod TallyKept
 pub mod Repointed
 pub mod Transfer
+pub mod ContentKept
