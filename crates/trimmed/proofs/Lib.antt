@@ -14,3 +14,4 @@ pub mod TallyKept
 pub mod Repointed
 pub mod Transfer
 pub mod ContentKept
+pub mod AcceptedKept
