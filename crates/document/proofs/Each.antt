@@ -23,6 +23,9 @@ module _ {A : Type 0} (F : A → Type 0) (d : A) where
   each-append [] m h g = g
   each-append (x ∷ l) m h g = each-cons x (l ++ m) (h 0 (omega arith)) (each-append l m (each-tail x l h) g)
 
+  pub each-take : (n : ℕ) (l : List A) → Each F d l → Each F d (take n l)
+  each-take n l h i b = let q : i < n = omega (arith, length-take n l) in rw (getD-take n l i d q) (h i (omega (arith, length-take n l)))
+
   pub each-drop : (n : ℕ) (l : List A) → Each F d l → Each F d (drop n l)
   each-drop zero l h = h
   each-drop (suc n) [] h = h

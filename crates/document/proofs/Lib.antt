@@ -7,3 +7,14 @@ pub mod Parts
 pub mod Places
 pub mod RoundTrip
 pub mod Encoded
+pub mod Front
+pub mod Cut
+pub mod Entries
+pub mod ByKind
+pub mod Runs
+pub mod Walk
+pub mod Taken
+pub mod Passing
+pub mod Tally
+pub mod Order
+pub mod Frames

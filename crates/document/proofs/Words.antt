@@ -87,3 +87,18 @@ number-bytes zero b e h = sym (drop-of-length-le b {i = 0} (omega arith))
 number-bytes (suc n) b e h =
     let r = number-bytes n (drop 2 b) (rw (length-drop 2 b) (omega arith)) (each-drop Byte 0 2 b h) in
     rw (word-low b h 0, word-high b h 0, r) (reads-all b 0 2 (omega arith))
+
+-- the two bytes in front
+pub front-short : (l : List ℕ) → Bytes l → Short (word l)
+front-short l h = word-short l h 0
+
+pub two-word : (l : List ℕ) → 2 ≤ length l → Bytes l → two (word l) ++ drop 2 l ≡ l
+unfolding word
+two-word [] g h = absurd (omega arith)
+two-word (x ∷ []) g h = absurd (omega arith)
+two-word (x ∷ y ∷ l) g h =
+    let p = h 0 (omega arith) in
+    let q = h 1 (omega arith) in
+    let a : (x + 256 * y) % 256 ≡ x = omega arith in
+    let b : (x + 256 * y) / 256 ≡ y = omega arith in
+    ap₂ (λ m n. m ∷ n ∷ l) a (rw (b, mod-eq-of-lt))
