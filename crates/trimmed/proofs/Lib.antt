@@ -11,3 +11,7 @@ pub mod Passing
 pub mod InstructionKept
 pub mod ThreadKept
 pub mod TallyKept
+pub mod ListKept
+pub mod LineKept
+pub mod ClaimKept
+pub mod AllPassed
