@@ -1,8 +1,8 @@
 -- A claim of the trimmed image passes its check.
-use mathlib.Core.Path.{_≡_, refl, ap, sym, _∙_}
+use mathlib.Core.Path.{_≡_, refl, ap, _∙_}
 use mathlib.Core.Bool.{Bool, true, _&&_}
 use mathlib.Core.List.{List}
-use Prim.Native.Nat.{ℕ, _+_, _≤_, _<_}
+use Prim.Native.Nat.{ℕ, _+_, _<_}
 use native.Mathlib.Omega.{arith}
 use lib.ListN.{length, getD, drop}
 use borrow.Author.Tests.{eq-eqb}
@@ -60,7 +60,8 @@ module _ {u k : List Bool} {D : Document} (T : Trimming u k D) where
     found : claimed (sizes D) (bodiesOf D) (claimBytes c) ≡ true
     unfolding claim sizes sizesOf
     found =
-        unless-passed _ _ _ (unless-passed _ _ _ (rw (Places.claim-at D (T .threads) i there) at (claim-passed (sizes D) (bodiesOf D) (T .checks) i there)) .1) .0
+        let e = rw (Places.claim-at D (T .threads) i there) at (claim-passed (sizes D) (bodiesOf D) (T .checks) i there) in
+        unless-passed _ _ _ (unless-passed _ _ _ e .1) .0
 
     -- its threads and points have the same bytes
 
@@ -76,11 +77,13 @@ module _ {u k : List Bool} {D : Document} (T : Trimming u k D) where
     unfolding different claimBytes claimBy
     different-same = refl
 
-    line-kept : within 0 (sizes D .lines) (word (drop 4 (claimBytes c))) ≡ true → within 0 (sizes E .lines) (word (drop 4 (claimBytes c′))) ≡ true
+    line-kept : within 0 (sizes D .lines) (word (drop 4 (claimBytes c))) ≡ true
+        → within 0 (sizes E .lines) (word (drop 4 (claimBytes c′))) ≡ true
     unfolding claimBy sizes sizesOf
     line-kept e =
         let h = within-true 0 (sizes D .lines) (c .line) (rw (claim-line c old-fits) at e) in
-        rw (claim-line c′ (claim-fits u k c old-fits)) (within-in 0 (sizes E .lines) (g (c .line)) (omega arith) (line-there u k D (c .line) (h .1)))
+        rw (claim-line c′ (claim-fits u k c old-fits))
+        (within-in 0 (sizes E .lines) (g (c .line)) (omega arith) (line-there u k D (c .line) (h .1)))
 
     found-kept : claimed (sizes E) (bodiesOf E) (claimBytes c′) ≡ true
     unfolding claimed

@@ -15,3 +15,4 @@ pub mod ListKept
 pub mod LineKept
 pub mod ClaimKept
 pub mod AllPassed
+pub mod ChecksKept

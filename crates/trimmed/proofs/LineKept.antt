@@ -1,23 +1,20 @@
 -- A line that stays passes its check under its new number.
-use mathlib.Core.Path.{_≡_, refl, ap, sym, _∙_, subst}
-use mathlib.Core.Bool.{Bool, true, false, not, _&&_}
-use mathlib.Core.List.{List, [], map}
+use mathlib.Core.Path.{_≡_, refl, ap, _∙_, subst}
+use mathlib.Core.Bool.{Bool, true, false, _&&_}
+use mathlib.Core.List.{List, map}
 use Prim.Native.Nat.{ℕ, _-_, _≤_, _<_}
 use native.Mathlib.Omega.{arith}
-use lib.Dec.{eqb}
 use lib.ListN.{length, getD, length-map}
 use borrow.Author.Tests.{eq-eqb}
-use Rattle.logic.specs.Opcode as Opcode
 use Rattle.limits.specs.Limits as Limits
 use Rattle.limits.specs.Numbers.{nth, within, every}
 use Rattle.limits.proofs.Inverse.{and-true, within-true}
 use Rattle.frames.specs.declared.fault.Checked.the-variants.{Passed}
 use Rattle.records.specs.declared.line.Form.{Form}
 use Rattle.records.specs.declared.line.Form.the-variants.{Triple, Implication, Inclusion, Pair, Unlisted}
-use Rattle.records.specs.Places.{instructionOf}
 use Rattle.records.specs.Line.{formOf, premises, tripleAt, nowhere, placed, numbered, lineNumbers}
 use Rattle.image.specs.Decode.{sizesOf}
-use Rattle.bodies.specs.Line.{sortedBy, lineSorted, line}
+use Rattle.bodies.specs.Line.{lineSorted, line}
 use Rattle.content.specs.Certificate.{left, right, lineBody}
 use Rattle.content.proofs.Inverse.{unless-passed, also-passed}
 use Rattle.content.proofs.Checked.{line-passed}
@@ -48,6 +45,10 @@ module _ {u k : List Bool} {D : Document} (T : Trimming u k D) where
 
   abbrev g : ℕ → ℕ
   g = renumbered k
+
+  -- the check of a line of the trimmed image
+  abbrev PassedAt : ℕ → Type 0
+  PassedAt j = line (sizes E) (bodiesOf E) (j - 1) (lineBody (sizes E) (bodiesOf E) j) ≡ Passed
 
   module _ (n : ℕ) (low : 1 ≤ n) (high : n ≤ length (D .lines)) (mark : getD k n false ≡ true) where
     abbrev v : LineRecord
@@ -83,12 +84,15 @@ module _ {u k : List Bool} {D : Document} (T : Trimming u k D) where
     abbrev lower : Bool
     lower = every (within 1 (n - 1)) (v .premises)
 
-    ranges : (within 1 (sizes D .formulas) (v .left) ≡ true) × (within 1 (sizes D .formulas) (v .right) ≡ true) × (few ≡ true) × (lower ≡ true)
+    abbrev there : ℕ → Bool
+    there m = within 1 (sizes D .formulas) m
+
+    ranges : (there (v .left) ≡ true) × (there (v .right) ≡ true) × (few ≡ true) × (lower ≡ true)
     unfolding numbered
     ranges =
         let e = rw (line-left v old-fits, line-right v old-fits, line-count v, line-premises v old-fits) at (numbers-passed .1) in
-        let h = and-true (within 1 (sizes D .formulas) (v .left)) (within 1 (sizes D .formulas) (v .right) && (few && lower)) e in
-        let i = and-true (within 1 (sizes D .formulas) (v .right)) (few && lower) (h .1) in
+        let h = and-true (there (v .left)) (there (v .right) && (few && lower)) e in
+        let i = and-true (there (v .right)) (few && lower) (h .1) in
         let j = and-true few lower (i .1) in
         (h .0, i .0, j .0, j .1)
 
@@ -122,7 +126,8 @@ module _ {u k : List Bool} {D : Document} (T : Trimming u k D) where
     form-same = rw (line-rule v′, line-rule v)
 
     -- a premise has a lower number, and so has its new one
-    premise-lower : (i : ℕ) → i < length (v .premises) → within 1 (n - 1) (getD (v .premises) i 0) ≡ true → within 1 (g n - 1) (g (getD (v .premises) i 0)) ≡ true
+    premise-lower : (i : ℕ) → i < length (v .premises) → within 1 (n - 1) (getD (v .premises) i 0) ≡ true
+        → within 1 (g n - 1) (g (getD (v .premises) i 0)) ≡ true
     premise-lower i c e =
         let p : ℕ = getD (v .premises) i 0 in
         let w = within-true 1 (n - 1) p e in
@@ -144,7 +149,9 @@ module _ {u k : List Bool} {D : Document} (T : Trimming u k D) where
     unfolding lineSorted lineBy
     sorted-kept =
         let o : Form = formOf (getD b 0 0) in
-        rw (form-same, line-left v′ new-fits, line-right v′ new-fits, line-left v old-fits, line-right v old-fits, sortedBy-kept T (v .left) (left-stays, left-in .1) o, sortedBy-kept T (v .right) (right-stays, right-in .1) o)
+        let e = sortedBy-kept T (v .left) (left-stays, left-in .1) o in
+        let d = sortedBy-kept T (v .right) (right-stays, right-in .1) o in
+        rw (form-same, line-left v′ new-fits, line-right v′ new-fits, line-left v old-fits, line-right v old-fits, e, d)
 
     sorted-passed : lineSorted (bodiesOf D) b ≡ true
     unfolding line
@@ -164,10 +171,10 @@ module _ {u k : List Bool} {D : Document} (T : Trimming u k D) where
         Places.line-at E (threads-kept T) (g n) (renumbered-low k n low mark) (line-there u k D n high)
         ∙ ap lineBytes (line-at u k D n low high mark)
 
-    stays-passed : line (sizes E) (bodiesOf E) (g n - 1) (lineBody (sizes E) (bodiesOf E) (g n)) ≡ Passed
+    stays-passed : PassedAt (g n)
     stays-passed = rw new-line check-kept
 
-  pub line-kept : (j : ℕ) → 1 ≤ j → j ≤ length (E .lines) → line (sizes E) (bodiesOf E) (j - 1) (lineBody (sizes E) (bodiesOf E) j) ≡ Passed
+  pub line-kept : (j : ℕ) → 1 ≤ j → j ≤ length (E .lines) → PassedAt j
   line-kept j a c =
       let s = line-from u k D j a c in
-      subst (λ (m : ℕ). line (sizes E) (bodiesOf E) (m - 1) (lineBody (sizes E) (bodiesOf E) m) ≡ Passed) (s .now) (stays-passed (s .old) (s .low) (s .high) (s .mark))
+      subst PassedAt (s .now) (stays-passed (s .old) (s .low) (s .high) (s .mark))

@@ -1,7 +1,7 @@
 -- The outline and the obligations of the trimmed image pass their checks.
 use mathlib.Core.Path.{_≡_, refl, ap, sym, _∙_}
 use mathlib.Core.Bool.{Bool, true}
-use mathlib.Core.List.{List, [], map, append-nil}
+use mathlib.Core.List.{List, [], append-nil}
 use Prim.Native.Nat.{ℕ, _*_, _≤_, _<_}
 use native.Mathlib.Omega.{arith}
 use lib.ListN.{length, getD}
@@ -48,7 +48,9 @@ module _ (l : List ℕ) (s : Shorts l) (n : ℕ) where
 
   exactly-in : (lo hi : ℕ) → length l ≡ n → every (within lo hi) l ≡ true → exactly n lo hi (numberBytes l) ≡ Passed
   unfolding exactly
-  exactly-in lo hi e h = unless-in _ _ _ (eq-eqb (length (numberBytes l)) (2 * n) (omega (arith, numbers-size l))) (unless-in _ _ _ (rw (numbers-whole e) h) refl)
+  exactly-in lo hi e h =
+      let q = eq-eqb (length (numberBytes l)) (2 * n) (omega (arith, numbers-size l)) in
+      unless-in _ _ _ q (unless-in _ _ _ (rw (numbers-whole e) h) refl)
 
 module _ {u k : List Bool} {D : Document} (T : Trimming u k D) where
   abbrev E : Document
@@ -71,12 +73,16 @@ module _ {u k : List Bool} {D : Document} (T : Trimming u k D) where
 
   outline-sorted : every (outlinedAt (bodiesOf D)) (D .outline) ≡ true
   unfolding outline
-  outline-sorted = rw (numbers-whole (D .outline) (T .canonical .outline) points (outline-found .0)) at (unless-passed _ _ _ (also-passed _ _ outline-was .1) .0)
+  outline-sorted =
+      let q = numbers-whole (D .outline) (T .canonical .outline) points (outline-found .0) in
+      rw q at (unless-passed _ _ _ (also-passed _ _ outline-was .1) .0)
 
   -- the formula of a point is there
   outline-in : (i : ℕ) → i < length (D .outline) → (1 ≤ getD (D .outline) i 0) × (getD (D .outline) i 0 ≤ length (D .formulas))
   unfolding sizes sizesOf
-  outline-in i b = within-true 1 (sizes D .formulas) (getD (D .outline) i 0) (every-at (within 1 (sizes D .formulas)) (D .outline) i 0 (outline-found .1) b)
+  outline-in i b =
+      let e = every-at (within 1 (sizes D .formulas)) (D .outline) i 0 (outline-found .1) b in
+      within-true 1 (sizes D .formulas) (getD (D .outline) i 0) e
 
   numbered-kept : every (within 1 (sizes E .formulas)) (E .outline) ≡ true
   numbered-kept =
@@ -104,10 +110,13 @@ module _ {u k : List Bool} {D : Document} (T : Trimming u k D) where
 
   -- the obligations
 
-  obligations-found : (length (D .obligations) ≡ obligationCount (sizes D) (bodiesOf D)) × (every (within 0 (sizes D .lines)) (D .obligations) ≡ true)
+  abbrev many : Document → ℕ
+  many F = obligationCount (sizes F) (bodiesOf F)
+
+  obligations-found : (length (D .obligations) ≡ many D) × (every (within 0 (sizes D .lines)) (D .obligations) ≡ true)
   unfolding obligations
   obligations-found =
-      exactly-found (D .obligations) (T .canonical .obligations) (obligationCount (sizes D) (bodiesOf D)) 0 (sizes D .lines)
+      exactly-found (D .obligations) (T .canonical .obligations) (many D) 0 (sizes D .lines)
       (rw (obligations-at D (T .threads)) at (obligations-passed (sizes D) (bodiesOf D) (T .checks)))
 
   lines-kept : every (within 0 (sizes E .lines)) (E .obligations) ≡ true
@@ -115,8 +124,8 @@ module _ {u k : List Bool} {D : Document} (T : Trimming u k D) where
   lines-kept =
       every-made (within 0 (sizes D .lines)) (within 0 (sizes E .lines)) (renumbered k) 0 (D .obligations)
       (λ i b e.
-        let n : ℕ = getD (D .obligations) i 0 in
-        within-in 0 (sizes E .lines) (renumbered k n) (omega arith) (line-there u k D n (within-true 0 (sizes D .lines) n e .1)))
+      let n : ℕ = getD (D .obligations) i 0 in
+      within-in 0 (sizes E .lines) (renumbered k n) (omega arith) (line-there u k D n (within-true 0 (sizes D .lines) n e .1)))
       (obligations-found .1)
 
   pub obligations-many : length (E .obligations) ≡ obligationCount (sizes E) (bodiesOf E)
@@ -125,5 +134,5 @@ module _ {u k : List Bool} {D : Document} (T : Trimming u k D) where
   pub obligations-kept : obligations (sizes E) (bodiesOf E) (obligationsBody (sizes E) (bodiesOf E)) ≡ Passed
   unfolding obligations
   obligations-kept =
-      rw (obligations-at E (threads-kept T))
-      (exactly-in (E .obligations) (canonical-kept u k D (T .canonical) .obligations) (obligationCount (sizes E) (bodiesOf E)) 0 (sizes E .lines) obligations-many lines-kept)
+      let s = canonical-kept u k D (T .canonical) .obligations in
+      rw (obligations-at E (threads-kept T)) (exactly-in (E .obligations) s (many E) 0 (sizes E .lines) obligations-many lines-kept)
