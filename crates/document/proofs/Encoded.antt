@@ -1,7 +1,7 @@
 -- The document of a sound image has the image's bodies, and its numbers fit.
 use mathlib.Core.Path.{_≡_, refl, ap, sym, _∙_}
 use mathlib.Core.List.{List, [], map}
-use Prim.Native.Nat.{ℕ, _+_, _*_, _<_}
+use Prim.Native.Nat.{ℕ, _+_, _*_, _≤_, _<_}
 use native.Mathlib.Omega.{arith}
 use lib.ListN.{length, getD, length-map}
 use borrow.Author.Tests.{eqb-true}
@@ -39,7 +39,7 @@ use Rattle.document.proofs.Threads.{thread-fits, thread-again}
 use Rattle.document.proofs.Lines.{line-fits, line-again}
 use Rattle.document.proofs.Claims.{claim-fits, claim-again}
 use Rattle.document.proofs.Parts.{part-more, member-more, part-length, part-last}
-use Rattle.document.proofs.Places.{bodies-are}
+use Rattle.document.proofs.Places.{threadsStart, outlineStart, linesStart, obligationsStart, claimsStart, bodies-are}
 
 -- a record that passes its check has the bytes of what it says
 
@@ -70,75 +70,68 @@ module _ (z : Sizes) (l : List (List ℕ)) (c : Checks z l) (count : length l �
   abbrev D : Document
   D = documentOf z l
 
-  -- where threads, outline, lines, obligations and claims begin
-  abbrev threadsAt : ℕ
-  threadsAt = z .formulas + 1
-
-  abbrev outlineAt : ℕ
-  outlineAt = z .formulas + z .threads + 1
-
-  abbrev linesAt : ℕ
-  linesAt = z .formulas + z .threads + 2
-
-  abbrev obligationsAt : ℕ
-  obligationsAt = z .formulas + z .threads + 1 + z .lines + 1
-
-  abbrev claimsAt : ℕ
-  claimsAt = z .formulas + z .threads + 1 + z .lines + 2
-
-  all : length l ≡ claimsAt + z .claims
+  all : length l ≡ claimsStart z + z .claims
   unfolding recordCount
   all = rw count (omega arith)
 
   body-bytes : (i : ℕ) → Bytes (getD l i [])
   body-bytes = each-any Bytes [] l (each-nil Byte 0) bytes
 
-  bytes-part : (i n : ℕ) → Each Bytes [] (part i n l)
-  bytes-part i n = part-each Bytes [] i n l (λ k b. body-bytes (i + k))
+  -- what is read from the bodies of a part
+  part-bytes : (i n : ℕ) → Each Bytes [] (part i n l)
+  part-bytes i n = part-each Bytes [] i n l (λ k b. body-bytes (i + k))
+
+  part-fits : {A : Type 0} (F : A → Type 0) (d : A) (f : List ℕ → A) → ((b : List ℕ) → Bytes b → F (f b))
+      → (i n : ℕ) → Each F d (map f (part i n l))
+  part-fits F d f h i n = each-map F d Bytes [] f h (part i n l) (part-bytes i n)
+
+  part-count : {A : Type 0} (f : List ℕ → A) (i n : ℕ) → i + n ≤ length l → length (map f (part i n l)) ≡ n
+  part-count f i n h = length-map (part i n l) f ∙ part-length i l n h
 
   -- what each body of a part gives back, the part gives back
   part-read : {A : Type 0} (f : List ℕ → A) (g : A → List ℕ) (i n : ℕ) → ((k : ℕ) → k < n → g (f (getD l (i + k) [])) ≡ getD l (i + k) [])
       → map g (map f (part i n l)) ≡ part i n l
   part-read f g i n h = map-back (λ b. g (f b) ≡ b) [] f g (λ b e. e) (part i n l) (part-each (λ b. g (f b) ≡ b) [] i n l h)
 
-  threads-read : map threadBytes (map instructions (part threadsAt (z .threads) l)) ≡ part threadsAt (z .threads) l
+  threads-read : map threadBytes (map instructions (part (threadsStart z) (z .threads) l)) ≡ part (threadsStart z) (z .threads) l
   unfolding thread threadBody
-  threads-read = part-read instructions threadBytes threadsAt (z .threads) (λ k b.
-      let q : threadsAt + k ≡ z .formulas + (k + 1) = omega arith in
+  threads-read = part-read instructions threadBytes (threadsStart z) (z .threads) (λ k b.
+      let q : threadsStart z + k ≡ z .formulas + (k + 1) = omega arith in
       let p = also-passed _ _ (thread-passed z l c (k + 1) (omega arith) (omega arith)) .0 in
       rw q (thread-read z (threadBody z l (k + 1)) (body-bytes (z .formulas + (k + 1))) p))
 
   outline-read : numberBytes (numbers (tally z l .points) (outlineBody z l)) ≡ outlineBody z l
   unfolding outline
   outline-read =
-      list-read (tally z l .points) 1 (z .formulas) (outlineBody z l) (body-bytes outlineAt) (also-passed _ _ (outline-passed z l c) .0)
+      list-read (tally z l .points) 1 (z .formulas) (outlineBody z l) (body-bytes (outlineStart z))
+      (also-passed _ _ (outline-passed z l c) .0)
 
-  lines-read : map lineBytes (map lineRecord (part linesAt (z .lines) l)) ≡ part linesAt (z .lines) l
+  lines-read : map lineBytes (map lineRecord (part (linesStart z) (z .lines) l)) ≡ part (linesStart z) (z .lines) l
   unfolding line lineBody
-  lines-read = part-read lineRecord lineBytes linesAt (z .lines) (λ k b.
-      let q : linesAt + k ≡ outlineAt + (k + 1) = omega arith in
+  lines-read = part-read lineRecord lineBytes (linesStart z) (z .lines) (λ k b.
+      let q : linesStart z + k ≡ outlineStart z + (k + 1) = omega arith in
       let p = also-passed _ _ (line-passed z l c (k + 1) (omega arith) (omega arith)) .0 in
-      rw q (line-read z l _ (lineBody z l (k + 1)) (body-bytes (outlineAt + (k + 1))) p))
+      rw q (line-read z l _ (lineBody z l (k + 1)) (body-bytes (outlineStart z + (k + 1))) p))
 
   obligations-read : numberBytes (numbers (obligationCount z l) (obligationsBody z l)) ≡ obligationsBody z l
   unfolding obligations
   obligations-read =
-      list-read (obligationCount z l) 0 (z .lines) (obligationsBody z l) (body-bytes obligationsAt) (obligations-passed z l c)
+      list-read (obligationCount z l) 0 (z .lines) (obligationsBody z l) (body-bytes (obligationsStart z)) (obligations-passed z l c)
 
-  claims-read : map claimBytes (map claimRecord (part claimsAt (z .claims) l)) ≡ part claimsAt (z .claims) l
+  claims-read : map claimBytes (map claimRecord (part (claimsStart z) (z .claims) l)) ≡ part (claimsStart z) (z .claims) l
   unfolding claimBody
-  claims-read = part-read claimRecord claimBytes claimsAt (z .claims) (λ k b.
-      claim-read z l (claimBody z l k) (body-bytes (claimsAt + k)) (claim-passed z l c k b))
+  claims-read = part-read claimRecord claimBytes (claimsStart z) (z .claims) (λ k b.
+      claim-read z l (claimBody z l k) (body-bytes (claimsStart z + k)) (claim-passed z l c k b))
 
   pub bodies-read : bodiesOf D ≡ l
   unfolding documentOf
   bodies-read =
-      let a = part-last claimsAt l (z .claims) (sym all) in
-      let b = member-more obligationsAt l [] claimsAt (omega (arith, all)) (omega arith) in
-      let d = part-more linesAt l (z .lines) obligationsAt (omega arith) in
-      let e = member-more outlineAt l [] linesAt (omega (arith, all)) (omega arith) in
-      let f = part-more threadsAt l (z .threads) outlineAt (omega arith) in
-      let g = part-more 1 l (z .formulas) threadsAt (omega arith) in
+      let a = part-last (claimsStart z) l (z .claims) (sym all) in
+      let b = member-more (obligationsStart z) l [] (claimsStart z) (omega (arith, all)) (omega arith) in
+      let d = part-more (linesStart z) l (z .lines) (obligationsStart z) (omega arith) in
+      let e = member-more (outlineStart z) l [] (linesStart z) (omega (arith, all)) (omega arith) in
+      let f = part-more (threadsStart z) l (z .threads) (outlineStart z) (omega arith) in
+      let g = part-more 1 l (z .formulas) (threadsStart z) (omega arith) in
       let h = member-more 0 l [] 1 (omega (arith, all)) refl in
       bodies-are D ∙ (rw (threads-read, outline-read, lines-read, obligations-read, claims-read, a, b, d, e, f, g) h)
 
@@ -146,26 +139,26 @@ module _ (z : Sizes) (l : List (List ℕ)) (c : Checks z l) (count : length l �
   unfolding documentOf
   canonical-read = record {
     header = body-bytes 0;
-    formulas = bytes-part 1 (z .formulas);
-    threads = each-map ThreadFits [] Bytes [] instructions thread-fits (part threadsAt (z .threads) l) (bytes-part threadsAt (z .threads));
-    outline = numbers-short (tally z l .points) (outlineBody z l) (body-bytes outlineAt);
-    lines = each-map LineFits noLine Bytes [] lineRecord line-fits (part linesAt (z .lines) l) (bytes-part linesAt (z .lines));
-    obligations = numbers-short (obligationCount z l) (obligationsBody z l) (body-bytes obligationsAt);
-    claims = each-map ClaimFits noClaim Bytes [] claimRecord claim-fits (part claimsAt (z .claims) l) (bytes-part claimsAt (z .claims));
+    formulas = part-bytes 1 (z .formulas);
+    threads = part-fits ThreadFits [] instructions thread-fits (threadsStart z) (z .threads);
+    outline = numbers-short (tally z l .points) (outlineBody z l) (body-bytes (outlineStart z));
+    lines = part-fits LineFits noLine lineRecord line-fits (linesStart z) (z .lines);
+    obligations = numbers-short (obligationCount z l) (obligationsBody z l) (body-bytes (obligationsStart z));
+    claims = part-fits ClaimFits noClaim claimRecord claim-fits (claimsStart z) (z .claims);
   }
 
   pub sizes-read : sizes D ≡ z
   unfolding documentOf sizes
   sizes-read =
       let f = part-length 1 l (z .formulas) (omega (arith, all)) in
-      let n = length-map (part linesAt (z .lines) l) lineRecord ∙ part-length linesAt l (z .lines) (omega (arith, all)) in
-      let m = length-map (part claimsAt (z .claims) l) claimRecord ∙ part-length claimsAt l (z .claims) (omega (arith, all)) in
+      let n = part-count lineRecord (linesStart z) (z .lines) (omega (arith, all)) in
+      let m = part-count claimRecord (claimsStart z) (z .claims) (omega (arith, all)) in
       rw (f, n, m) (sym (c .sizes))
 
   pub threads-same : threadCount (D .header) ≡ length (D .threads)
   unfolding documentOf sizesOf
   threads-same =
-      let t = length-map (part threadsAt (z .threads) l) instructions ∙ part-length threadsAt l (z .threads) (omega (arith, all)) in
+      let t = part-count instructions (threadsStart z) (z .threads) (omega (arith, all)) in
       sym (t ∙ ap (λ (y : Sizes). y .threads) (c .sizes))
 
 -- a document that has these sizes and bodies, whose numbers fit and whose lists are as long as the program asks

@@ -18,6 +18,23 @@ use Rattle.document.specs.Encode.{entries, itself, threadBytes, numberBy
 use Rattle.document.specs.Parse.{part, sizes}
 use Rattle.document.proofs.Parts.{part-is, part-behind, member-is, made-at, made-nth}
 
+-- the number of the first body of each kind, counted from 0; the header's is 0, the first formula's 1
+module _ (z : Sizes) where
+  abbrev pub threadsStart : ℕ
+  threadsStart = z .formulas + 1
+
+  abbrev pub outlineStart : ℕ
+  outlineStart = z .formulas + z .threads + 1
+
+  abbrev pub linesStart : ℕ
+  linesStart = z .formulas + z .threads + 2
+
+  abbrev pub obligationsStart : ℕ
+  obligationsStart = z .formulas + z .threads + 1 + z .lines + 1
+
+  abbrev pub claimsStart : ℕ
+  claimsStart = z .formulas + z .threads + 1 + z .lines + 2
+
 entries-bodies : {A : Type 0} (k : ℕ) (f : A → List ℕ) (l : List A) → map (λ e. e .body) (entries k f l) ≡ map f l
 entries-bodies k f [] = refl
 entries-bodies k f (x ∷ l) = ap (λ (m : List (List ℕ)). f x ∷ m) (entries-bodies k f l)
@@ -26,7 +43,7 @@ pub map-itself : (l : List (List ℕ)) → map itself l ≡ l
 map-itself [] = refl
 map-itself (b ∷ l) = ap (λ (m : List (List ℕ)). b ∷ m) (map-itself l)
 
--- the bodies behind the header, behind the formulas, ..
+-- the bodies from the first of a kind on
 module _ (D : Document) where
   abbrev pub fromClaims : List (List ℕ)
   fromClaims = map claimBytes (D .claims)
@@ -58,56 +75,54 @@ module _ (D : Document) where
     at-formulas : drop 1 l ≡ D .formulas ++ fromThreads
     at-formulas = rw bodies-are
 
-    at-threads : drop (z .formulas + 1) l ≡ fromThreads
+    at-threads : drop (threadsStart z) l ≡ fromThreads
     unfolding sizes sizesOf
-    at-threads = part-behind 1 (z .formulas) l (D .formulas) fromThreads at-formulas refl (z .formulas + 1) (omega arith)
+    at-threads = part-behind 1 (z .formulas) l (D .formulas) fromThreads at-formulas refl (threadsStart z) (omega arith)
 
     threads-length : length (map threadBytes (D .threads)) ≡ z .threads
     unfolding sizes sizesOf
     threads-length = length-map (D .threads) threadBytes ∙ sym same
 
-    at-outline : drop (z .formulas + z .threads + 1) l ≡ fromOutline
+    at-outline : drop (outlineStart z) l ≡ fromOutline
     at-outline =
-        part-behind (z .formulas + 1) (z .threads) l (map threadBytes (D .threads)) fromOutline at-threads threads-length
-        (z .formulas + z .threads + 1) (omega arith)
+        part-behind (threadsStart z) (z .threads) l (map threadBytes (D .threads)) fromOutline at-threads threads-length (outlineStart z)
+        (omega arith)
 
-    at-lines : drop (z .formulas + z .threads + 2) l ≡ fromLines
+    at-lines : drop (linesStart z) l ≡ fromLines
     at-lines =
-        part-behind (z .formulas + z .threads + 1) 1 l (numberBytes (D .outline) ∷ []) fromLines at-outline refl
-        (z .formulas + z .threads + 2) (omega arith)
+        part-behind (outlineStart z) 1 l (numberBytes (D .outline) ∷ []) fromLines at-outline refl (linesStart z) (omega arith)
 
     lines-length : length (map lineBytes (D .lines)) ≡ z .lines
     unfolding sizes sizesOf
     lines-length = length-map (D .lines) lineBytes
 
-    at-obligations : drop (z .formulas + z .threads + 1 + z .lines + 1) l ≡ fromObligations
+    at-obligations : drop (obligationsStart z) l ≡ fromObligations
     at-obligations =
-        part-behind (z .formulas + z .threads + 2) (z .lines) l (map lineBytes (D .lines)) fromObligations at-lines lines-length
-        (z .formulas + z .threads + 1 + z .lines + 1) (omega arith)
+        part-behind (linesStart z) (z .lines) l (map lineBytes (D .lines)) fromObligations at-lines lines-length (obligationsStart z)
+        (omega arith)
 
-    at-claims : drop (z .formulas + z .threads + 1 + z .lines + 2) l ≡ fromClaims
+    at-claims : drop (claimsStart z) l ≡ fromClaims
     at-claims =
-        part-behind (z .formulas + z .threads + 1 + z .lines + 1) 1 l (numberBytes (D .obligations) ∷ []) fromClaims at-obligations refl
-        (z .formulas + z .threads + 1 + z .lines + 2) (omega arith)
+        part-behind (obligationsStart z) 1 l (numberBytes (D .obligations) ∷ []) fromClaims at-obligations refl (claimsStart z)
+        (omega arith)
 
     -- the parts
     pub formulas-part : part 1 (z .formulas) l ≡ D .formulas
     unfolding sizes sizesOf
     formulas-part = part-is 1 (z .formulas) l (D .formulas) fromThreads at-formulas refl
 
-    pub threads-part : part (z .formulas + 1) (z .threads) l ≡ map threadBytes (D .threads)
-    threads-part = part-is (z .formulas + 1) (z .threads) l (map threadBytes (D .threads)) fromOutline at-threads threads-length
+    pub threads-part : part (threadsStart z) (z .threads) l ≡ map threadBytes (D .threads)
+    threads-part = part-is (threadsStart z) (z .threads) l (map threadBytes (D .threads)) fromOutline at-threads threads-length
 
-    pub lines-part : part (z .formulas + z .threads + 2) (z .lines) l ≡ map lineBytes (D .lines)
-    lines-part = part-is (z .formulas + z .threads + 2) (z .lines) l (map lineBytes (D .lines)) fromObligations at-lines lines-length
+    pub lines-part : part (linesStart z) (z .lines) l ≡ map lineBytes (D .lines)
+    lines-part = part-is (linesStart z) (z .lines) l (map lineBytes (D .lines)) fromObligations at-lines lines-length
 
-    claims-alone : drop (z .formulas + z .threads + 1 + z .lines + 2) l ≡ fromClaims ++ []
+    claims-alone : drop (claimsStart z) l ≡ fromClaims ++ []
     claims-alone = at-claims ∙ sym (append-nil fromClaims)
 
-    pub claims-part : part (z .formulas + z .threads + 1 + z .lines + 2) (z .claims) l ≡ map claimBytes (D .claims)
+    pub claims-part : part (claimsStart z) (z .claims) l ≡ map claimBytes (D .claims)
     unfolding sizes sizesOf
-    claims-part =
-        part-is (z .formulas + z .threads + 1 + z .lines + 2) (z .claims) l fromClaims [] claims-alone (length-map (D .claims) claimBytes)
+    claims-part = part-is (claimsStart z) (z .claims) l fromClaims [] claims-alone (length-map (D .claims) claimBytes)
 
     -- the bodies
     pub header-at : getD l 0 [] ≡ D .header
@@ -119,25 +134,22 @@ module _ (D : Document) where
     pub thread-at : (t : ℕ) → 1 ≤ t → t ≤ length (D .threads) → threadBody z l t ≡ threadBytes (nth (D .threads) t [])
     unfolding threadBody
     thread-at t a b =
-        made-nth threadBytes (D .threads) [] (z .formulas + 1) l fromOutline [] at-threads t (z .formulas + t) a b (omega arith)
+        made-nth threadBytes (D .threads) [] (threadsStart z) l fromOutline [] at-threads t (z .formulas + t) a b (omega arith)
 
     pub outline-at : outlineBody z l ≡ numberBytes (D .outline)
-    outline-at = member-is (z .formulas + z .threads + 1) l (numberBytes (D .outline)) fromLines [] at-outline
+    outline-at = member-is (outlineStart z) l (numberBytes (D .outline)) fromLines [] at-outline
 
     pub line-at : (n : ℕ) → 1 ≤ n → n ≤ length (D .lines) → lineBody z l n ≡ lineBytes (nth (D .lines) n noLine)
     unfolding lineBody
     line-at n a b =
-        made-nth lineBytes (D .lines) noLine (z .formulas + z .threads + 2) l fromObligations [] at-lines n
-        (z .formulas + z .threads + 1 + n) a b (omega arith)
+        made-nth lineBytes (D .lines) noLine (linesStart z) l fromObligations [] at-lines n (outlineStart z + n) a b (omega arith)
 
     pub obligations-at : obligationsBody z l ≡ numberBytes (D .obligations)
-    obligations-at = member-is (z .formulas + z .threads + 1 + z .lines + 1) l (numberBytes (D .obligations)) fromClaims [] at-obligations
+    obligations-at = member-is (obligationsStart z) l (numberBytes (D .obligations)) fromClaims [] at-obligations
 
     pub claim-at : (i : ℕ) → i < length (D .claims) → claimBody z l i ≡ claimBytes (getD (D .claims) i noClaim)
     unfolding claimBody
-    claim-at i b =
-        made-at claimBytes (D .claims) noClaim (z .formulas + z .threads + 1 + z .lines + 2) l [] [] claims-alone i
-        (z .formulas + z .threads + 1 + z .lines + 2 + i) b refl
+    claim-at i b = made-at claimBytes (D .claims) noClaim (claimsStart z) l [] [] claims-alone i (claimsStart z + i) b refl
 
     pub bodies-length : length l ≡ recordCount z
     unfolding recordCount sizes sizesOf

@@ -16,3 +16,6 @@ pub mod LineKept
 pub mod ClaimKept
 pub mod AllPassed
 pub mod ChecksKept
+pub mod Repointed
+pub mod Transfer
+pub mod ContentKept

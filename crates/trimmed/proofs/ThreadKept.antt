@@ -80,7 +80,7 @@ module _ {u k : List Bool} {D : Document} (T : Trimming u k D) where
     old-fits : ThreadFits is
     old-fits = each-nth ThreadFits [] (D .threads) t low high (T .canonical .threads)
 
-    old-instructions : instructions (threadBytes is) ≡ is
+    pub old-instructions : instructions (threadBytes is) ≡ is
     old-instructions = thread-instructions is old-fits
 
     new-instructions : instructions (threadBytes (map by is)) ≡ map by is
