@@ -10,7 +10,8 @@ use Rattle.program.specs.Thread.{nothing}
 use Rattle.program.specs.declared.instruction.Half.{Half}
 use Rattle.program.specs.declared.instruction.Instruction.{Instruction}
 use Rattle.document.specs.Document.{Document, LineRecord, ClaimRecord}
-use Rattle.document.specs.Canonical.{Short, Each, Bytes, Shorts, HalfFits, InstructionFits, ThreadFits, LineFits, ClaimFits, Canonical, noLine, noClaim}
+use Rattle.document.specs.Canonical.{Short, Each, Bytes, Shorts, Canonical, noLine, noClaim}
+use Rattle.document.specs.Canonical.{HalfFits, InstructionFits, ThreadFits, LineFits, ClaimFits}
 use Rattle.document.proofs.Each.{each-nil, each-cons, each-tail, each-map}
 use Rattle.trimmed.specs.Kept.{chosen, selected, renumbered}
 use Rattle.trimmed.specs.Trim.{halfBy, instructionBy, lineBy, claimBy, trimmedBy}
@@ -82,7 +83,16 @@ module _ (u k : List Bool) where
 
   pub claim-fits : (c : ClaimRecord) → ClaimFits c → ClaimFits (claimBy f g c)
   unfolding claimBy
-  claim-fits c h = record { thread = h .thread; point = h .point; other = h .other; otherPoint = h .otherPoint; line = short-kept k (c .line) (h .line) }
+  claim-fits c h = record {
+    thread = h .thread;
+    point = h .point;
+    other = h .other;
+    otherPoint = h .otherPoint;
+    line = short-kept k (c .line) (h .line);
+  }
+
+  lines-kept : (l : List LineRecord) → Each LineFits noLine l → Each LineFits noLine (map (lineBy f g) (selected k l))
+  lines-kept l c = each-map LineFits noLine LineFits noLine (lineBy f g) line-fits (selected k l) (selected-each LineFits noLine k l c)
 
   pub canonical-kept : (D : Document) → Canonical D → Canonical (trimmedBy u k D)
   canonical-kept D c = record {
@@ -90,7 +100,7 @@ module _ (u k : List Bool) where
     formulas = selected-each Bytes [] u (D .formulas) (c .formulas);
     threads = each-map ThreadFits [] ThreadFits [] (λ l. map (instructionBy f g) l) thread-fits (D .threads) (c .threads);
     outline = shorts-kept u (D .outline) (c .outline);
-    lines = each-map LineFits noLine LineFits noLine (lineBy f g) line-fits (selected k (D .lines)) (selected-each LineFits noLine k (D .lines) (c .lines));
+    lines = lines-kept (D .lines) (c .lines);
     obligations = shorts-kept k (D .obligations) (c .obligations);
     claims = each-map ClaimFits noClaim ClaimFits noClaim (claimBy f g) claim-fits (D .claims) (c .claims);
   }

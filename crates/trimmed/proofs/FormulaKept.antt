@@ -1,13 +1,13 @@
 -- A formula that stays is the same formula under its new number, and passes the same tests there.
-use mathlib.Core.Path.{_≡_, refl, ap, sym, _∙_}
+use mathlib.Core.Path.{_≡_, refl, sym, _∙_}
 use mathlib.Core.Bool.{Bool, true, false}
 use mathlib.Core.List.{List, []}
-use Prim.Native.Nat.{ℕ, zero, suc, _≤_, _<_}
+use Prim.Native.Nat.{ℕ, zero, suc, _≤_}
 use native.Mathlib.Omega.{arith}
 use lib.Dec.{eqb}
 use lib.ListN.{length, getD}
 use borrow.Author.Tests.{ne-eqb, le-leb}
-use Rattle.limits.specs.Numbers.{nth, within}
+use Rattle.limits.specs.Numbers.{within}
 use Rattle.records.specs.declared.line.Form.{Form}
 use Rattle.records.specs.declared.line.Form.the-variants.{Triple, Implication, Inclusion, Pair, Unlisted}
 use Rattle.image.specs.Decode.{sizesOf}

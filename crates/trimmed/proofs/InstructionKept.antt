@@ -1,8 +1,8 @@
 -- An instruction whose formulas stay passes the tests that it passed.
-use mathlib.Core.Path.{_≡_, refl, ap, sym, _∙_}
+use mathlib.Core.Path.{_≡_, refl}
 use mathlib.Core.Bool.{Bool, true, false, _&&_, cond}
-use mathlib.Core.List.{List, []}
-use Prim.Native.Nat.{ℕ, _≤_, _<_}
+use mathlib.Core.List.{List}
+use Prim.Native.Nat.{ℕ, _≤_}
 use native.Mathlib.Omega.{arith}
 use lib.Dec.{eqb, leb}
 use lib.ListN.{length}
@@ -15,9 +15,10 @@ use Rattle.program.specs.declared.instruction.Half.{Half}
 use Rattle.program.specs.declared.instruction.Instruction.{Instruction}
 use Rattle.program.specs.declared.instruction.Range.{Range}
 use Rattle.program.specs.declared.instruction.Fields.{Fields}
-use Rattle.program.specs.Instruction.{twofold, noHalf, range, unused, fields, fieldsOf, inside, fieldsFit, halfFits, differ, secondFits, ranged}
+use Rattle.program.specs.Instruction.{twofold, noHalf, range, unused, fields, fieldsOf, inside}
+use Rattle.program.specs.Instruction.{fieldsFit, halfFits, differ, secondFits, ranged}
 use Rattle.image.specs.Decode.{sizesOf}
-use Rattle.bodies.specs.Thread.{wanted, formulaSorted, sorted, target, registerOwned, formulaOwned, owned, resultAbsent}
+use Rattle.bodies.specs.Thread.{wanted, sorted, target, owned, resultAbsent}
 use Rattle.content.proofs.Program.{ranged-both, second-in}
 use Rattle.document.specs.Document.{Document}
 use Rattle.document.specs.Encode.{bodiesOf}
@@ -28,7 +29,8 @@ use Rattle.trimmed.specs.Closed.{Stays}
 use Rattle.trimmed.proofs.Marks.{renumbered-0}
 use Rattle.trimmed.proofs.Passing.{and-in, and-then}
 use Rattle.trimmed.proofs.Trimming.{Trimming}
-use Rattle.trimmed.proofs.FormulaKept.{Named, formula-kept, formula-within, formulaSorted-kept, formulaOwned-kept, registerOwned-kept}
+use Rattle.trimmed.proofs.FormulaKept.{Named, formula-kept, formula-within}
+use Rattle.trimmed.proofs.FormulaKept.{formulaSorted-kept, formulaOwned-kept, registerOwned-kept}
 
 -- an instruction of the document, with both its formulas
 pub record Stated (u : List Bool) (last : ℕ) (z : Sizes) (i : Instruction) : Type 0 where
@@ -63,11 +65,8 @@ module _ {u k : List Bool} {D : Document} (T : Trimming u k D) (last : ℕ) (i :
     with-formula e =
         let h = and-true (inside a (i .a)) (inside b (i .b) && within 1 (sizes D .formulas) (i .formula)) e in
         let g = and-true (inside b (i .b)) (within 1 (sizes D .formulas) (i .formula)) (h .1) in
-        let w = within-true 1 (sizes D .formulas) (i .formula) (g .1) in (
-          and-in (inside a (i .a)) (inside b (i .b) && within 1 (sizes E .formulas) (f (i .formula))) (h .0)
-              (and-in (inside b (i .b)) (within 1 (sizes E .formulas) (f (i .formula))) (g .0) (formula-within T (i .formula) (S .first) (w .0) (w .1))),
-          w .1,
-        )
+        let w = within-true 1 (sizes D .formulas) (i .formula) (g .1) in
+        (and-in _ _ (h .0) (and-in _ _ (g .0) (formula-within T (i .formula) (S .first) (w .0) (w .1))), w .1)
 
     without : Passes (fields a b unused) (fields a b unused)
     unfolding fieldsFit instructionBy
@@ -114,7 +113,8 @@ module _ {u k : List Bool} {D : Document} (T : Trimming u k D) (last : ℕ) (i :
   unfolding secondFits instructionBy halfBy
   second-kept = go (twofold (i .operation))
     where
-      go : (b : Bool) → cond b (halfFits (sizes D) (i .second) && differ i) true ≡ true → cond b (halfFits (sizes E) (i′ .second) && differ i) true ≡ true
+      go : (b : Bool) → cond b (halfFits (sizes D) (i .second) && differ i) true ≡ true
+          → cond b (halfFits (sizes E) (i′ .second) && differ i) true ≡ true
       go true e =
           let h = and-true (halfFits (sizes D) (i .second)) (differ i) e in
           and-in (halfFits (sizes E) (i′ .second)) (differ i) (half-kept (h .0)) (h .1)
@@ -128,12 +128,17 @@ module _ {u k : List Bool} {D : Document} (T : Trimming u k D) (last : ℕ) (i :
 
   pub sorted-kept : sorted (bodiesOf E) i′ ≡ sorted (bodiesOf D) i
   unfolding sorted instructionBy halfBy
-  sorted-kept = rw (formulaSorted-kept T (i .formula) first-named (wanted (i .operation)), formulaSorted-kept T (i .second .formula) second-named Codes.value)
+  sorted-kept =
+      let e = formulaSorted-kept T (i .formula) first-named (wanted (i .operation)) in
+      let d = formulaSorted-kept T (i .second .formula) second-named Codes.value in
+      rw (e, d)
 
   pub owned-kept : (t : ℕ) → owned (bodiesOf E) t i′ ≡ owned (bodiesOf D) t i
   unfolding owned target instructionBy halfBy
   owned-kept t =
-      rw (registerOwned-kept T t (target i), formulaOwned-kept T (i .formula) first-named t, registerOwned-kept T t (i .second .a), formulaOwned-kept T (i .second .formula) second-named t)
+      let e = formulaOwned-kept T (i .formula) first-named t in
+      let d = formulaOwned-kept T (i .second .formula) second-named t in
+      rw (registerOwned-kept T t (target i), e, registerOwned-kept T t (i .second .a), d)
 
   pub absent-kept : resultAbsent (bodiesOf E) i′ ≡ resultAbsent (bodiesOf D) i
   unfolding resultAbsent instructionBy

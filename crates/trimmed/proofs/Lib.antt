@@ -11,6 +11,11 @@ pub mod Passing
 pub mod InstructionKept
 pub mod ThreadKept
 pub mod TallyKept
+pub mod ListKept
+pub mod LineKept
+pub mod ClaimKept
+pub mod AllPassed
+pub mod ChecksKept
 pub mod Repointed
 pub mod Transfer
 pub mod ContentKept

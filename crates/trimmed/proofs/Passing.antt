@@ -34,7 +34,8 @@ also-in c d e h = rw (e, h)
 
 -- members that are made from members that pass
 module _ {A B : Type 0} (p : A → Bool) (q : B → Bool) (h : A → B) (d : A) where
-  pub every-made : (l : List A) → ((i : ℕ) → i < length l → p (getD l i d) ≡ true → q (h (getD l i d)) ≡ true) → every p l ≡ true → every q (map h l) ≡ true
+  pub every-made : (l : List A) → ((i : ℕ) → i < length l → p (getD l i d) ≡ true → q (h (getD l i d)) ≡ true)
+      → every p l ≡ true → every q (map h l) ≡ true
   unfolding every
   every-made [] g e = refl
   every-made (x ∷ l) g e =

@@ -1,5 +1,5 @@
 -- The trimmed image has the same instructions at the same points but for formulas' numbers, so as many points and obligations.
-use mathlib.Core.Path.{_≡_, refl, ap, ap₂, sym, _∙_}
+use mathlib.Core.Path.{_≡_, refl, ap, ap₂, sym}
 use mathlib.Core.Bool.{Bool, true, false, cond}
 use mathlib.Core.List.{List, [], _∷_, map}
 use Prim.Native.Nat.{ℕ, zero, suc, _+_, _≤_}
@@ -9,9 +9,8 @@ use lib.ListN.{length, getD}
 use borrow.Author.Tests.{eqb-false, ltb-false}
 use Rattle.program.specs.declared.instruction.Instruction.{Instruction}
 use Rattle.program.specs.Thread.{instructions, nothing}
-use Rattle.records.specs.declared.tally.Tally.{Tally}
 use Rattle.records.specs.Places.{threadBody, instructionOf}
-use Rattle.records.specs.Tally.{isBranch, branches, tallied, threadTally, plus, tallyTo, tally, obligationCount}
+use Rattle.records.specs.Tally.{isBranch, branches, threadTally, plus, tallyTo, tally, obligationCount}
 use Rattle.image.specs.Decode.{sizesOf}
 use Rattle.document.specs.Document.{Document}
 use Rattle.document.specs.Encode.{bodiesOf}
@@ -41,6 +40,7 @@ module _ {u k : List Bool} {D : Document} (T : Trimming u k D) where
     where
       none : nothing ≡ by nothing
       none = sym (no-instruction u k D)
+
       go : (a b : Bool) → eqb t 0 ≡ a → ltb (sizes D .threads) t ≡ b
           → cond a nothing (cond b nothing (getD (instructions (threadBody (sizes E) (bodiesOf E) t)) p nothing))
           ≡ by (cond a nothing (cond b nothing (getD (instructions (threadBody (sizes D) (bodiesOf D) t)) p nothing)))
@@ -50,16 +50,19 @@ module _ {u k : List Bool} {D : Document} (T : Trimming u k D) where
           let q = eqb-false t 0 e in
           let h = ltb-false (sizes D .threads) t d in
           let s = T .threads in
-          rw (instructions-kept T t (omega arith) (omega arith)) (map-at by (instructions (threadBody (sizes D) (bodiesOf D) t)) nothing nothing p (no-instruction u k D))
+          let is : List Instruction = instructions (threadBody (sizes D) (bodiesOf D) t) in
+          rw (instructions-kept T t (omega arith) (omega arith)) (map-at by is nothing nothing p (no-instruction u k D))
 
   pub operation-kept : (t p : ℕ) → instructionOf (sizes E) (bodiesOf E) t p .operation ≡ instructionOf (sizes D) (bodiesOf D) t p .operation
   unfolding instructionBy
   operation-kept t p = ap (λ (i : Instruction). i .operation) (instruction-kept t p)
 
-  thread-tally : (t : ℕ) → 1 ≤ t → t ≤ length (D .threads) → threadTally (threadBody (sizes E) (bodiesOf E) t) ≡ threadTally (threadBody (sizes D) (bodiesOf D) t)
+  thread-tally : (t : ℕ) → 1 ≤ t → t ≤ length (D .threads)
+      → threadTally (threadBody (sizes E) (bodiesOf E) t) ≡ threadTally (threadBody (sizes D) (bodiesOf D) t)
   unfolding threadTally
   thread-tally t a b =
-      rw (last-kept T t a b, instructions-kept T t a b, branches-kept (renumbered u) (renumbered k) (instructions (threadBody (sizes D) (bodiesOf D) t)))
+      let is : List Instruction = instructions (threadBody (sizes D) (bodiesOf D) t) in
+      rw (last-kept T t a b, instructions-kept T t a b, branches-kept (renumbered u) (renumbered k) is)
 
   pub tallyTo-kept : (t : ℕ) → t ≤ length (D .threads) → tallyTo (sizes E) (bodiesOf E) t ≡ tallyTo (sizes D) (bodiesOf D) t
   unfolding tallyTo

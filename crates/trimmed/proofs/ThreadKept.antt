@@ -1,8 +1,8 @@
 -- A thread of the trimmed image: the same instructions but for the numbers of their formulas, and it passes its check.
-use mathlib.Core.Path.{_≡_, refl, ap, sym, _∙_}
+use mathlib.Core.Path.{_≡_, refl, ap, _∙_}
 use mathlib.Core.Bool.{Bool, true}
 use mathlib.Core.List.{List, [], map}
-use Prim.Native.Nat.{ℕ, zero, suc, _+_, _-_, _≤_, _<_}
+use Prim.Native.Nat.{ℕ, zero, suc, _-_, _≤_, _<_}
 use native.Mathlib.Omega.{arith}
 use lib.ListN.{length, getD, length-map}
 use borrow.Author.Tests.{eq-eqb}
@@ -20,7 +20,7 @@ use Rattle.bodies.specs.Thread.{sorted, owned, resultAbsent, threadRegisters, t
 use Rattle.content.proofs.Inverse.{unless-passed, also-passed}
 use Rattle.content.proofs.Checked.{thread-passed}
 use Rattle.document.specs.Document.{Document}
-use Rattle.document.specs.Canonical.{Each, InstructionFits, ThreadFits}
+use Rattle.document.specs.Canonical.{Each, ThreadFits}
 use Rattle.document.specs.Encode.{threadBytes, bodiesOf}
 use Rattle.document.specs.Parse.{sizes}
 use Rattle.document.proofs.Threads.{thread-last, thread-instructions, thread-size, thread-has}
@@ -53,7 +53,7 @@ unfolding thread threadNumbers numbered threadRegisters
 thread-found z l t b e =
     let h = also-passed _ _ e in
     let n = and-true (within 1 Limits.points (getD b 0 0)) (every (ranged (lastPoint b) z) (instructions b))
-        (unless-passed _ _ _ (unless-passed _ _ _ (unless-passed _ _ _ (h .0) .1) .1) .0) in
+    (unless-passed _ _ _ (unless-passed _ _ _ (unless-passed _ _ _ (h .0) .1) .1) .0) in
     let s = unless-passed _ _ _ (h .1) in
     let o = unless-passed _ _ _ (s .1) in
     record { points = n .0; ranges = n .1; sorts = s .0; owns = o .0; absent = unless-passed _ _ _ (o .1) .0 }
@@ -96,12 +96,17 @@ module _ {u k : List Bool} {D : Document} (T : Trimming u k D) where
     unfolding sizes sizesOf
     found =
         let e = T .threads in
-        thread-found (sizes D) (bodiesOf D) t (threadBytes is) (rw old-body at (thread-passed (sizes D) (bodiesOf D) (T .checks) t low (omega arith)))
+        let p = thread-passed (sizes D) (bodiesOf D) (T .checks) t low (omega arith) in
+        thread-found (sizes D) (bodiesOf D) t (threadBytes is) (rw old-body at p)
+
+    -- a fact of each instruction of the document, for this thread's
+    here : (F : Instruction → Type 0) → Each (λ l. Each F nothing l) [] (D .threads) → Each F nothing is
+    here F h = each-nth (λ l. Each F nothing l) [] (D .threads) t low high h
 
     stated : (p : ℕ) → p < length is → Stated u last (sizes D) (getD is p nothing)
     stated p b = record {
-      first = each-nth (λ l. (p : ℕ) → p < length l → Stays u (getD l p nothing .formula)) [] (D .threads) t low high (λ i a p c. T .closed .instruction i p a c) p b;
-      second = each-nth (λ l. (p : ℕ) → p < length l → Stays u (getD l p nothing .second .formula)) [] (D .threads) t low high (λ i a p c. T .closed .second i p a c) p b;
+      first = here (λ i. Stays u (i .formula)) (λ n a p c. T .closed .instruction n p a c) p b;
+      second = here (λ i. Stays u (i .second .formula)) (λ n a p c. T .closed .second n p a c) p b;
       single = old-fits .each p b .single;
       ranges = every-at (ranged last (sizes D)) is p nothing (rw old-instructions at (found .ranges)) b;
     }
@@ -109,14 +114,16 @@ module _ {u k : List Bool} {D : Document} (T : Trimming u k D) where
     -- a test of an instruction that stays passed
     every-kept : (p q : Instruction → Bool) → ((i : Instruction) → Stated u last (sizes D) i → p i ≡ true → q (by i) ≡ true)
         → every p (instructions (threadBytes is)) ≡ true → every q (instructions (threadBytes (map by is))) ≡ true
-    every-kept p q h e = rw new-instructions (every-made p q by nothing is (λ n b. h (getD is n nothing) (stated n b)) (rw old-instructions at e))
+    every-kept p q h e =
+        rw new-instructions (every-made p q by nothing is (λ n b. h (getD is n nothing) (stated n b)) (rw old-instructions at e))
 
     points-kept : within 1 Limits.points (getD (threadBytes (map by is)) 0 0) ≡ true
     unfolding threadBytes
     points-kept = rw (length-map is by) (found .points)
 
     ranges-kept : every (ranged (lastPoint (threadBytes (map by is))) (sizes E)) (instructions (threadBytes (map by is))) ≡ true
-    ranges-kept = rw last-same (every-kept (ranged last (sizes D)) (ranged last (sizes E)) (λ i s e. ranged-kept T last i s) (found .ranges))
+    ranges-kept =
+        rw last-same (every-kept (ranged last (sizes D)) (ranged last (sizes E)) (λ i s e. ranged-kept T last i s) (found .ranges))
 
     sorts-kept : every (sorted (bodiesOf E)) (instructions (threadBytes (map by is))) ≡ true
     sorts-kept = every-kept (sorted (bodiesOf D)) (sorted (bodiesOf E)) (λ i s e. sorted-kept T last i s ∙ e) (found .sorts)

@@ -21,5 +21,6 @@ pub record Trimming (u k : List Bool) (D : Document) : Type 0 where
   pub checks : Checks (sizes D) (bodiesOf D)
 
 -- the trimmed document has as many
-pub threads-kept : {u k : List Bool} {D : Document} → Trimming u k D → threadCount (trimmedBy u k D .header) ≡ length (trimmedBy u k D .threads)
+pub threads-kept : {u k : List Bool} {D : Document} → Trimming u k D
+    → threadCount (trimmedBy u k D .header) ≡ length (trimmedBy u k D .threads)
 threads-kept {u} {k} {D} T = T .threads ∙ sym (threads-length u k D)
