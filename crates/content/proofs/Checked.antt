@@ -39,7 +39,7 @@ pub record Checks (z : Sizes) (l : List (List ℕ)) : Type 0 where
   pub sizes : z ≡ sizesOf (getD l 0 []) (z .formulas) (z .lines) (z .claims)
   pub passed : (i : ℕ) → i < recordCount z → check counted z l (placeOf z (i + 1)) (getD l i []) ≡ Passed
 
-refused-sound : (f : Fault) (i : ℕ) (z : Sizes) → Refused f i ≡ Sound z → ⊥
+pub refused-sound : (f : Fault) (i : ℕ) (z : Sizes) → Refused f i ≡ Sound z → ⊥
 refused-sound f i z e = let q : _≡_ {A = ℕ} 0 1 = cc in omega arith
 
 sound-sizes : (y z : Sizes) → Sound y ≡ Sound z → y ≡ z
@@ -56,12 +56,12 @@ module _ (t : ℕ) (z : Sizes) (l : List (List ℕ)) (y : Sizes) where
   abbrev behind : ℕ → ℕ → List (List ℕ) → Decoded
   behind i n m = firstFault t z l (i + 1) n (drop 1 m)
 
-  fault-sizes : (i n : ℕ) (m : List (List ℕ)) → firstFault t z l i n m ≡ Sound y → z ≡ y
+  pub fault-sizes : (i n : ℕ) (m : List (List ℕ)) → firstFault t z l i n m ≡ Sound y → z ≡ y
   unfolding firstFault
   fault-sizes i zero m e = sound-sizes z y e
   fault-sizes i (suc n) m e = fault-sizes (i + 1) n (drop 1 m) (step-passed (here i m) i (behind i n m) y e .1)
 
-  fault-passed : (i n j : ℕ) (m : List (List ℕ)) → j < n → firstFault t z l i n m ≡ Sound y → check t z l (placeOf z (i + j)) (getD m j []) ≡ Passed
+  pub fault-passed : (i n j : ℕ) (m : List (List ℕ)) → j < n → firstFault t z l i n m ≡ Sound y → check t z l (placeOf z (i + j)) (getD m j []) ≡ Passed
   unfolding firstFault
   fault-passed i zero j m b e = absurd (omega arith)
   fault-passed i (suc n) zero m b e = let q : i + 0 ≡ i = omega arith in rw q (step-passed (here i m) i (behind i n m) y e .0)

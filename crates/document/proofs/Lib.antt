@@ -18,3 +18,4 @@ pub mod Passing
 pub mod Tally
 pub mod Order
 pub mod Frames
+pub mod Inverse

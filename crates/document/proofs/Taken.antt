@@ -19,7 +19,7 @@ use Rattle.document.specs.Canonical.{Each, Bytes, Byte}
 use Rattle.document.specs.Encode.{Entry, entry, framed}
 use Rattle.document.specs.Framed.{Framable, kindOf, bodyOf}
 use Rattle.document.proofs.Each.{each-nil, each-cons, each-take, each-drop}
-use Rattle.document.proofs.Words.{two-word, front-short}
+use Rattle.document.proofs.Words.{two-word, word-front}
 use Rattle.document.proofs.ByKind.{walkKinds}
 use Rattle.document.proofs.Runs.{admit-passes}
 
@@ -33,7 +33,7 @@ module _ (l : List ℕ) (kinded : 2 ≤ word l) (inside : 2 + word l ≤ length 
   front-length = omega (arith, length-take (word l - 2) (drop 4 l), length-drop 4 l)
 
   front-short : Framable (body l)
-  front-short = let p = front-length in let q = front-short l bytes in omega arith
+  front-short = let p = front-length in let q = word-front l bytes in omega arith
 
   front-bytes : Bytes (body l)
   unfolding body

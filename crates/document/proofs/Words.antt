@@ -1,9 +1,9 @@
 -- 16-bit numbers in two bytes each, and back.
-use mathlib.Core.Path.{_≡_, refl, sym}
+use mathlib.Core.Path.{_≡_, refl, sym, ap₂}
 use mathlib.Core.List.{List, [], _∷_, _++_, append-nil}
 use Prim.Native.Nat.{ℕ, zero, suc, _+_, _*_, _/_, _%_, _≤_, _<_}
 use native.Mathlib.Omega.{arith}
-use native.Mathlib.Nat.{add-zero}
+use native.Mathlib.Nat.{add-zero, mod-eq-of-lt}
 use lib.ListN.{length, getD, drop, length-drop, drop-of-length-le}
 use lib.Seq.{getD-drop, drop-cons}
 use Rattle.limits.specs.Numbers.{word, numbers}
@@ -89,8 +89,8 @@ number-bytes (suc n) b e h =
     rw (word-low b h 0, word-high b h 0, r) (reads-all b 0 2 (omega arith))
 
 -- the two bytes in front
-pub front-short : (l : List ℕ) → Bytes l → Short (word l)
-front-short l h = word-short l h 0
+pub word-front : (l : List ℕ) → Bytes l → Short (word l)
+word-front l h = word-short l h 0
 
 pub two-word : (l : List ℕ) → 2 ≤ length l → Bytes l → two (word l) ++ drop 2 l ≡ l
 unfolding word

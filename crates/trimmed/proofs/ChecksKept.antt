@@ -28,16 +28,9 @@ use Rattle.trimmed.proofs.FormulaKept.{header-kept, formula-kept}
 use Rattle.trimmed.proofs.ThreadKept.{thread-kept}
 use Rattle.trimmed.proofs.ListKept.{outline-kept, obligations-kept}
 use Rattle.trimmed.proofs.LineKept.{line-kept}
+use Rattle.document.proofs.Inverse.{header-counts}
 use Rattle.trimmed.proofs.ClaimKept.{claim-kept}
 use Rattle.trimmed.proofs.AllPassed.{AllPassed, all-passed, fault-none}
-
--- a header that passes says how many thread records there are
-header-counts : (t : ℕ) (b : List ℕ) → header t b ≡ Passed → t ≡ threadCount b
-unfolding header headed Header.counted
-header-counts t b e =
-    let h = unless-passed _ _ _ (unless-passed _ _ _ (unless-passed _ _ _ e .1) .1) .0 in
-    let w = within-true t t (threadCount b) (and-true (within t t (threadCount b)) _ (and-true (Header.counted t b) _ h .0) .0) in
-    omega (arith, w .0, w .1)
 
 module _ {u k : List Bool} {D : Document} (T : Trimming u k D) where
   abbrev E : Document

@@ -16,6 +16,8 @@ pub mod LineKept
 pub mod ClaimKept
 pub mod AllPassed
 pub mod ChecksKept
+pub mod Says
+pub mod There
 pub mod Repointed
 pub mod Transfer
 pub mod ContentKept
