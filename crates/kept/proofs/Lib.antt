@@ -1,0 +1,3 @@
+pub mod Noted
+pub mod Parts
+pub mod KeptLines
