@@ -1,3 +1,4 @@
 pub mod Noted
 pub mod Parts
 pub mod KeptLines
+pub mod UsedFormulas

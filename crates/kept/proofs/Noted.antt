@@ -6,6 +6,7 @@ use Prim.Native.Nat.{ℕ, suc, _+_, _≤_, _<_}
 use native.Mathlib.Numerals.{add-one}
 use lib.ListN.{length, getD, set, drop, length-set, drop-of-length-le, List·getD-eq-default}
 use lib.Seq.{drop-cons, set-out}
+use Rattle.logic.specs.Obligations.{flat}
 use Rattle.limits.specs.Numbers.{numbers}
 use Rattle.limits.proofs.Numbers.{numbers-length}
 use Rattle.trimmed.specs.Kept.{noted}
@@ -45,6 +46,10 @@ note-one m after n e = rw (noted-cons, noted-nil) e
 pub note-two : (m between after : List Bool) (n k : ℕ) → between ≡ set m n true → after ≡ set between k true → after ≡ noted m (n ∷ k ∷ [])
 note-two m between after n k e d = rw (noted-cons, noted-cons, noted-nil, ← e) d
 
+-- three lists one after the other
+pub note-three : (m₀ m₁ m₂ m₃ : List Bool) (a b c : List ℕ) → m₁ ≡ noted m₀ a → m₂ ≡ noted m₁ b → m₃ ≡ noted m₂ c → m₃ ≡ noted m₀ (a ++ (b ++ c))
+note-three m₀ m₁ m₂ m₃ a b c e₁ e₂ e₃ = rw (noted-append m₀ a (b ++ c), ← e₁, noted-append m₁ b c, ← e₂) e₃
+
 -- a loop over a list of numbers, of whose n members the ones from i on are left
 
 pub note-start : (m : List Bool) (l : List ℕ) → noted m l ≡ noted m (drop 0 l)
@@ -66,3 +71,13 @@ pub numbers-more : (b : List ℕ) (n i x : ℕ) (m₀ m after : List Bool) → i
 numbers-more b n i x m₀ m after h e d u = note-more (numbers n b) n i x m after (noted m₀ (numbers n b)) h (numbers-length n b) e d u
 
 pub ruleset numbering = (note-start, note-more, note-all, note-long, numbers-length)
+
+-- a loop over a list whose members name some numbers each
+
+pub flat-more : {A : Type 0} (f : A → List ℕ) (l : List A) (d : A) (i : ℕ) (m after g : List Bool) → i < length l → g ≡ noted m (flat f (drop i l))
+    → after ≡ noted m (f (getD l i d)) → g ≡ noted after (flat f (drop (i + 1) l))
+flat-more f l d i m after g h e u =
+    noting m after g (flat f (drop i l)) (f (getD l i d)) (flat f (drop (i + 1) l)) e (rw (drop-cons l i d h, add-one i)) u
+
+pub flat-all : {A : Type 0} (f : A → List ℕ) (l : List A) (i : ℕ) (m g : List Bool) → length l ≤ i → g ≡ noted m (flat f (drop i l)) → m ≡ g
+flat-all {A = A} f l i m g h e = sym (e ∙ ap (λ (x : List A). noted m (flat f x)) (drop-of-length-le l h) ∙ noted-nil m)

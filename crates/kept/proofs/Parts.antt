@@ -7,7 +7,9 @@ use lib.ListN.{length, getD, drop, take, length-drop, length-map, List·getD-map
 use lib.Seq.{getD-take, getD-drop, length-take-le}
 use Rattle.limits.specs.Numbers.{word, numbers}
 use Rattle.program.specs.declared.sizes.Sizes.{Sizes}
+use Rattle.program.specs.Thread.{lastPoint, cut, instructions}
 use Rattle.records.specs.Line.{premises}
+use Rattle.records.specs.Places.{threadBody}
 use Rattle.image.specs.Decode.{recordCount}
 use Rattle.content.specs.Certificate.{left, right, lineBody}
 use Rattle.content.specs.Image.{claimBody}
@@ -29,6 +31,13 @@ module _ (z : Sizes) (l : List (List ℕ)) where
       List·getD-map lineRecord (part (z .formulas + z .threads + 2) (z .lines) l) i []
       ∙ ap lineRecord (part-at (z .formulas + z .threads + 2) (z .lines) l i [] h ∙ ap (λ (k : ℕ). getD l k []) q)
 
+  pub thread-at : (t : ℕ) → t < z .threads → getD (documentOf z l .threads) t [] ≡ instructions (threadBody z l (suc t))
+  unfolding documentOf instructions cut lastPoint threadBody
+  thread-at t h =
+      let q : z .formulas + 1 + t ≡ z .formulas + suc t = omega arith in
+      List·getD-map instructions (part (z .formulas + 1) (z .threads) l) t []
+      ∙ ap instructions (part-at (z .formulas + 1) (z .threads) l t [] h ∙ ap (λ (k : ℕ). getD l k []) q)
+
   pub claim-at : (i : ℕ) → i < z .claims → getD (documentOf z l .claims) i noClaim ≡ claimRecord (claimBody z l i)
   unfolding documentOf claimRecord claimBody word
   claim-at i h =
@@ -36,6 +45,11 @@ module _ (z : Sizes) (l : List (List ℕ)) where
       ∙ ap claimRecord (part-at (z .formulas + z .threads + 1 + z .lines + 2) (z .claims) l i [] h)
 
   module _ (whole : length l ≡ recordCount z) where
+    pub threads-length : length (documentOf z l .threads) ≡ z .threads
+    unfolding documentOf recordCount
+    threads-length =
+        length-map (part (z .formulas + 1) (z .threads) l) instructions ∙ part-length (z .formulas + 1) (z .threads) l (omega arith)
+
     pub lines-length : length (documentOf z l .lines) ≡ z .lines
     unfolding documentOf recordCount
     lines-length = length-map (part (z .formulas + z .threads + 2) (z .lines) l) lineRecord ∙ part-length (z .formulas + z .threads + 2) (z .lines) l (omega arith)

@@ -1,3 +1,4 @@
 // What stays of an accepted image when it is trimmed: which lines and formulas, their new numbers, and how long it then is.
+pub mod formulas;
 pub mod lines;
 pub mod note;
