@@ -2,3 +2,4 @@ pub mod Noted
 pub mod Parts
 pub mod KeptLines
 pub mod UsedFormulas
+pub mod Renumbered

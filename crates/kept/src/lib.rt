@@ -2,3 +2,4 @@
 pub mod formulas;
 pub mod lines;
 pub mod note;
+pub mod number;
