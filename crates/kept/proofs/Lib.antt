@@ -3,3 +3,5 @@ pub mod Parts
 pub mod KeptLines
 pub mod UsedFormulas
 pub mod Renumbered
+pub mod LeftOut
+pub mod TrimmedLength
