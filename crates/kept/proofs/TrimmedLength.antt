@@ -6,6 +6,8 @@ use Prim.Native.Nat.{ℕ, zero, suc, _+_, _-_, _*_, _≤_, _<_}
 use native.Mathlib.Omega.{arith}
 use lib.ListN.{length, getD, take, drop, length-append, length-map}
 use Rattle.logic.specs.Obligations.{flat}
+use Rattle.limits.specs.Limits as Limits
+use Rattle.frames.specs.Records.{bodies}
 use Rattle.frames.specs.Kinds as Kinds
 use Rattle.limits.specs.Numbers.{numbers}
 use Rattle.limits.proofs.Numbers.{numbers-length}
@@ -21,7 +23,7 @@ use Rattle.document.specs.Encode.{Entry, framed, halfBytes, instructionBytes, t
 use Rattle.document.specs.Parse.{lineRecord, part, documentOf}
 use Rattle.trimmed.specs.Kept.{chosen, selected, renumbered, kept, used}
 use Rattle.trimmed.specs.Trim.{halfBy, instructionBy, lineBy, claimBy, trimmedBy, trim}
-use Rattle.kept.specs.LeftOut.{leftOne, leftOut, leftBehind, LinesWhole}
+use Rattle.kept.specs.LeftOut.{leftOne, leftOut, leftBehind, Lengths}
 use Rattle.kept.proofs.Parts.{part-at, part-length}
 
 -- THE BYTES OF RECORDS, whose bodies have such lengths
@@ -133,3 +135,100 @@ module _ (f g : ℕ → ℕ) where
   claim-by : (c : ClaimRecord) → length (claimBytes (claimBy f g c)) ≡ length (claimBytes c)
   unfolding claimBytes claimBy
   claim-by c = refl
+
+abbrev pub lineLength : LineRecord → ℕ
+lineLength v = length (lineBytes v)
+
+-- WHAT STAYS AND WHAT IS LEFT OUT are all
+pub trimmed-and-left : (u k : List Bool) (D : Document)
+    → length (encode (trimmedBy u k D)) + (leftOut (drop 1 u) (map length (D .formulas)) + leftOut (drop 1 k) (map lineLength (D .lines))) ≡ length (encode D)
+unfolding selected
+trimmed-and-left u k D =
+    let f : ℕ → ℕ = renumbered u in
+    let g : ℕ → ℕ = renumbered k in
+    let before = encode-length D in
+    let after = encode-length (trimmedBy u k D) in
+    let formulas = total-split length (drop 1 u) (D .formulas) in
+    let threads = total-map (λ l. map (instructionBy f g) l) (λ i. length (threadBytes i)) (λ i. length (threadBytes i)) (thread-by f g) (D .threads) in
+    let outline = numbers-by f (D .outline) in
+    let lines = total-map (lineBy f g) lineLength lineLength (line-by f g) (chosen (drop 1 k) (D .lines)) in
+    let split = total-split lineLength (drop 1 k) (D .lines) in
+    let obligations = numbers-by g (D .obligations) in
+    let claims = total-map (claimBy f g) (λ c. length (claimBytes c)) (λ c. length (claimBytes c)) (claim-by f g) (D .claims) in
+    omega arith
+
+-- THE BODIES HAVE THESE LENGTHS
+
+numbers-long : (l : List ℕ) → length (numberBytes l) ≡ 2 * length l
+unfolding numberBytes
+numbers-long [] = refl
+numbers-long (n ∷ l) = let h = numbers-long l in omega arith
+
+line-long : (b : List ℕ) → lineLength (lineRecord b) ≡ lineSize b
+unfolding lineBytes lineRecord lineSize premises
+line-long b = let p = numbers-long (numbers (getD b 7 0) (drop 8 b)) in let n = numbers-length (getD b 7 0) (drop 8 b) in omega arith
+
+map-by : {A B C : Type 0} (f : B → C) (g : A → B) (h : A → C) (d : A) (l : List A) → ((i : ℕ) → i < length l → h (getD l i d) ≡ f (g (getD l i d)))
+    → map h l ≡ map f (map g l)
+map-by f g h d [] e = refl
+map-by f g h d (x ∷ l) e = ap₂ _∷_ (e 0 (omega arith)) (map-by f g h d l (λ i b. e (suc i) (omega arith)))
+
+module _ (z : Sizes) (s : List ℕ) (y : Lengths z s) where
+  abbrev l : List (List ℕ)
+  l = bodies s
+
+  abbrev D : Document
+  D = documentOf z l
+
+  pub room-formulas : 0 + 1 + z .formulas ≤ length (bodies s)
+  unfolding recordCount
+  room-formulas = omega (arith, y .records)
+
+  pub room-lines : z .formulas + z .threads + 1 + 1 + z .lines ≤ length (bodies s)
+  unfolding recordCount
+  room-lines = omega (arith, y .records)
+
+  pub bytes-few : length s ≤ Limits.imageBytes
+  bytes-few = y .short
+
+  abbrev bodied : List (List ℕ)
+  bodied = part (z .formulas + z .threads + 2) (z .lines) l
+
+  line-length : (i : ℕ) → i < z .lines → length (getD bodied i []) ≡ lineLength (lineRecord (getD bodied i []))
+  unfolding lineBody
+  line-length i b =
+      let n : z .formulas + z .threads + 2 + i ≡ z .formulas + z .threads + 1 + suc i = omega arith in
+      let q : getD bodied i [] ≡ lineBody z l (suc i) = part-at (z .formulas + z .threads + 2) (z .lines) l i [] b ∙ ap (λ (k : ℕ). getD l k []) n in
+      rw q (y .lines (suc i) (omega arith) (omega arith) ∙ sym (line-long (lineBody z l (suc i))))
+
+  formulas-out : (m : List Bool) → leftBehind l 0 (z .formulas) m 0 ≡ leftOut (drop 1 m) (map length (D .formulas))
+  unfolding leftBehind documentOf
+  formulas-out m = refl
+
+  lines-out : (m : List Bool) → leftBehind l (z .formulas + z .threads + 1) (z .lines) m 0 ≡ leftOut (drop 1 m) (map lineLength (D .lines))
+  unfolding leftBehind documentOf
+  lines-out m =
+      let q : z .formulas + z .threads + 1 + 1 ≡ z .formulas + z .threads + 2 = omega arith in
+      let room : z .formulas + z .threads + 2 + z .lines ≤ length l = let r = room-lines in omega arith in
+      let len = part-length (z .formulas + z .threads + 2) (z .lines) l room in
+      ap (λ (k : ℕ). leftOut (drop 1 m) (map length (part k (z .lines) l))) q
+      ∙ ap (leftOut (drop 1 m)) (map-by lineLength lineRecord length [] bodied (λ i b. line-length i (omega arith)))
+
+  module _ (k u : List Bool) (ek : k ≡ kept D) (eu : u ≡ used D) (a b : ℕ)
+      (ea : a ≡ leftBehind l 0 (z .formulas) u 0) (eb : b ≡ leftBehind l (z .formulas + z .threads + 1) (z .lines) k 0) where
+    all-bytes : length (encode (trim D)) + (a + b) ≡ length s
+    unfolding trim
+    all-bytes =
+        ap (λ (n : ℕ). length (encode (trim D)) + n)
+        (ap₂ _+_ (ea ∙ formulas-out u ∙ ap (λ (m : List Bool). leftOut (drop 1 m) (map length (D .formulas))) eu)
+        (eb ∙ lines-out k ∙ ap (λ (m : List Bool). leftOut (drop 1 m) (map lineLength (D .lines))) ek))
+        ∙ trimmed-and-left (used D) (kept D) D
+        ∙ y .document
+
+    pub left-within : a + b ≤ length s
+    left-within = let q = all-bytes in omega arith
+
+    pub trimmed-is : length s - (a + b) ≡ length (encode (trim D))
+    trimmed-is = let q = all-bytes in omega arith
+
+pub ruleset trimming = (left-within, trimmed-is)

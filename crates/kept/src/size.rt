@@ -8,12 +8,11 @@ ghost use Prim.Native.Nat.{_+_, _*_, _≤_, _<_};
 ghost use lib.ListN.{length, getD};
 ghost use Rattle.limits.specs.Limits.{imageBytes};
 ghost use Rattle.frames.specs.Records.{bodies, indexOf};
-ghost use Rattle.image.specs.Decode.{recordCount};
 ghost use Rattle.document.specs.Encode.{encode};
 ghost use Rattle.document.specs.Parse.{documentOf};
 ghost use Rattle.trimmed.specs.Kept.{kept, used};
 ghost use Rattle.trimmed.specs.Trim.{trim};
-ghost use Rattle.kept.specs.LeftOut.{leftOne, leftBehind, LinesWhole};
+ghost use Rattle.kept.specs.LeftOut.{leftOne, leftBehind, most, Lengths};
 
 // The bytes of the record that has i records before it, if number n has no mark. Length and kind are 4 bytes.
 fn left_one<'a, 'b, 'c>(s: &'a [u8], ix: &'b [usize], i: usize, m: &'c [bool], n: usize) -> usize
@@ -48,6 +47,28 @@ fn left_out<'a, 'b, 'c>(
     r
 }
 
+// Of the formulas without one of the marks u.
+fn left_formulas<'a, 'b, 'c>(s: &'a [u8], ix: &'b [usize], z: Sizes, u: &'c [bool]) -> usize
+    requires { ⌜ (now ix ≡ indexOf (now s)) × Lengths z (now s) ⌝ }
+    ensures { λ r. ⌜ (r ≡ leftBehind (bodies (now (s .entry))) 0 (z .formulas) (now (u .entry)) 0) × (r < most) ⌝ }
+{
+    left_out(s, ix, 0, z.formulas as usize, u)
+}
+
+// Of the lines without one of the marks k.
+fn left_lines<'a, 'b, 'c>(s: &'a [u8], ix: &'b [usize], z: Sizes, k: &'c [bool]) -> usize
+    requires { ⌜ (now ix ≡ indexOf (now s)) × Lengths z (now s) ⌝ }
+    ensures { λ r. ⌜ (r ≡ leftBehind (bodies (now (s .entry))) (z .formulas + z .threads + 1) (z .lines) (now (k .entry)) 0) × (r < most) ⌝ }
+{
+    left_out(
+        s,
+        ix,
+        (z.formulas as usize) + (z.threads as usize) + 1,
+        z.lines as usize,
+        k,
+    )
+}
+
 // With the marks k of the lines and u of the formulas that stay.
 pub fn trimmed_length<'a, 'b, 'c, 'd>(
     s: &'a [u8],
@@ -56,19 +77,11 @@ pub fn trimmed_length<'a, 'b, 'c, 'd>(
     k: &'c [bool],
     u: &'d [bool],
 ) -> usize
-    requires { ⌜ ((now ix ≡ indexOf (now s)) × (length (now s) ≤ imageBytes))
-        × (((length (bodies (now s)) ≡ recordCount z) × LinesWhole z (bodies (now s)))
-        × ((length (encode (documentOf z (bodies (now s)))) ≡ length (now s))
-        × ((now k ≡ kept (documentOf z (bodies (now s)))) × (now u ≡ used (documentOf z (bodies (now s))))))) ⌝ }
+    requires { ⌜ ((now ix ≡ indexOf (now s)) × Lengths z (now s))
+        × ((now k ≡ kept (documentOf z (bodies (now s)))) × (now u ≡ used (documentOf z (bodies (now s))))) ⌝ }
     ensures { λ r. ⌜ r ≡ length (encode (trim (documentOf z (bodies (now (s .entry)))))) ⌝ }
 {
-    let a = left_out(s, ix, 0, z.formulas as usize, u);
-    let b = left_out(
-        s,
-        ix,
-        (z.formulas as usize) + (z.threads as usize) + 1,
-        z.lines as usize,
-        k,
-    );
+    let a = left_formulas(s, ix, z, u);
+    let b = left_lines(s, ix, z, k);
     s.len() - (a + b)
 }
