@@ -100,11 +100,11 @@ module _ (D : Document) (C : Canonical D) (same : threadCount (D .header) ≡ le
         let r : every (ranged (length is) z) is ≡ true = rw (e, thread-last is, thread-instructions is (C .threads t a)) at h in
         every-at (ranged (length is) z) is p nothing r b
 
-    outline-ranged : (i : ℕ) → i < length (D .outline) → getD (D .outline) i 0 ≤ z .formulas
+    pub outline-ranged : (i : ℕ) → i < length (D .outline) → (1 ≤ getD (D .outline) i 0) × (getD (D .outline) i 0 ≤ z .formulas)
     unfolding Lists.outline exactly
     outline-ranged i b =
         let r : every (within 1 (z .formulas)) (D .outline) ≡ true = rw (outline-said D C same O) at (unless-passed _ _ _ (unless-passed _ _ _ (also-passed _ _ (outline-passed z l K) .0) .1) .0) in
-        within-true 1 (z .formulas) (getD (D .outline) i 0) (every-at (within 1 (z .formulas)) (D .outline) i 0 r b) .1
+        within-true 1 (z .formulas) (getD (D .outline) i 0) (every-at (within 1 (z .formulas)) (D .outline) i 0 r b)
 
     pub written-formulas : Written D
     unfolding sizes sizesOf
@@ -114,6 +114,6 @@ module _ (D : Document) (C : Canonical D) (same : threadCount (D .header) ≡ le
         there n (instruction t p a b) = first-there (length (getD (D .threads) t [])) z (getD (getD (D .threads) t []) p nothing) (instruction-ranged t p a b)
         there n (second t p a b) =
             second-there (length (getD (D .threads) t [])) z (getD (getD (D .threads) t []) p nothing) (instruction-ranged t p a b) (C .threads t a .each p b .single)
-        there n (outline i b) = outline-ranged i b
+        there n (outline i b) = outline-ranged i b .1
         there n (left-of j a b r) = subst (λ (x : ℕ). x ≤ length (D .formulas)) (left-said D C same j a b) (in-range z l K j a b .0 .1)
         there n (right-of j a b r) = subst (λ (x : ℕ). x ≤ length (D .formulas)) (right-said D C same j a b) (in-range z l K j a b .1 .1)
