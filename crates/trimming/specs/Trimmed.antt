@@ -10,6 +10,8 @@ use Rattle.program.specs.declared.sizes.Sizes.{Sizes}
 use Rattle.outline.specs.Verdict.{Image}
 use Rattle.content.specs.Image.{read, decode}
 use Rattle.checker.specs.Answer.{verdict}
+use Rattle.checker.specs.Acceptance.{acceptance}
+use Rattle.checker.specs.declared.acceptance.Acceptance.the-variants.{Granted}
 use Rattle.document.specs.Document.{Document}
 use Rattle.document.specs.Encode.{encode}
 use Rattle.document.specs.Parse.{documentOf}
@@ -46,6 +48,8 @@ pub record Trimmed (image trimmed : List ℕ) : Type 0 where
   pub same : SameContent before after
   -- accepted with the same count
   pub accepted : verdict trimmed ≡ verdict image
+  -- trimming it again gives the same bytes
+  pub again : (z : Sizes) → acceptance trimmed ≡ Granted z → trimmedBytes z trimmed ≡ trimmed
   -- what is left, as records: every line is one on which an obligation or a claim rests, every formula is used
   pub document : Document
   pub bytes : encode document ≡ trimmed
