@@ -3,3 +3,4 @@ pub mod formulas;
 pub mod lines;
 pub mod note;
 pub mod number;
+pub mod size;
