@@ -1,7 +1,7 @@
 -- Which lines stay: the ways through the code.
 use mathlib.Core.Path.{_≡_, refl, ap, sym, _∙_}
 use mathlib.Core.Bool.{Bool, true, false, cond}
-use mathlib.Core.List.{List, [], _∷_, _++_, map}
+use mathlib.Core.List.{List, []}
 use Prim.Native.Nat.{ℕ, zero, suc, _+_, _-_, _≤_, _<_}
 use native.Mathlib.Omega.{arith}
 use native.Mathlib.Numerals.{sub-one}
@@ -17,19 +17,21 @@ use Rattle.content.specs.Image.{claimBody}
 use Rattle.content.specs.Places.{claimedIn}
 use Rattle.content.specs.declared.claim.Claimed.{Claimed}
 use Rattle.document.specs.Document.{LineRecord}
-use Rattle.document.specs.Canonical.{noLine, noClaim}
+use Rattle.document.specs.Canonical.{noClaim}
 use Rattle.document.specs.Parse.{lineRecord, claimRecord, documentOf}
 use Rattle.trimmed.specs.Kept.{noted, keptTo, kept}
 use Rattle.kept.specs.Named.{claimLines, withPremises}
-use Rattle.kept.proofs.Noted.{noted-append, noted-length, note-more, note-all}
+use Rattle.kept.proofs.Noted.{noted-append, note-more, note-all}
 use Rattle.kept.proofs.Parts.{line-at, claim-at, lines-length, claims-length}
 
-pub obligations-are : (z : Sizes) (l : List (List ℕ)) (b : List ℕ) (n : ℕ) (m after : List Bool) → b ≡ getD l (z .formulas + z .threads + 1 + z .lines + 1) [] → n ≡ obligationCount z l
+pub obligations-are : (z : Sizes) (l : List (List ℕ)) (b : List ℕ) (n : ℕ) (m after : List Bool)
+    → b ≡ getD l (z .formulas + z .threads + 1 + z .lines + 1) [] → n ≡ obligationCount z l
     → after ≡ noted m (numbers n b) → after ≡ noted m (documentOf z l .obligations)
 unfolding documentOf
 obligations-are z l b n m after eb en e = rw (← eb, ← en) e
 
-pub premises-are : (b c : List ℕ) (n : ℕ) (m after : List Bool) → c ≡ drop 8 b → n ≡ getD b 7 0 → after ≡ noted m (numbers n c) → after ≡ noted m (premises b)
+pub premises-are : (b c : List ℕ) (n : ℕ) (m after : List Bool) → c ≡ drop 8 b → n ≡ getD b 7 0 → after ≡ noted m (numbers n c)
+    → after ≡ noted m (premises b)
 unfolding premises
 premises-are b c n m after ec en e = rw (← ec, ← en) e
 
@@ -45,20 +47,26 @@ module _ (z : Sizes) (l : List (List ℕ)) where
 
     claimed-at : (i : ℕ) (c : Claimed) → i < z .claims → c ≡ claimedIn (claimBody z l i) → c .line ≡ getD (claimLines z l) i 0
     unfolding claimLines claimedIn claimRecord
-    claimed-at i c h d = ap (λ (x : Claimed). x .line) d ∙ sym (List·getD-map (λ c. c .line) (documentOf z l .claims) i noClaim ∙ ap (λ c. c .line) (claim-at z l i h))
+    claimed-at i c h d =
+        ap (λ (x : Claimed). x .line) d
+        ∙ sym (List·getD-map (λ c. c .line) (documentOf z l .claims) i noClaim ∙ ap (λ c. c .line) (claim-at z l i h))
 
-    pub claims-more : (i : ℕ) (c : Claimed) (m₀ m after : List Bool) → i < z .claims → noted m₀ (claimLines z l) ≡ noted m (drop i (claimLines z l)) → c ≡ claimedIn (claimBody z l i)
+    pub claims-more : (i : ℕ) (c : Claimed) (m₀ m after : List Bool) → i < z .claims
+        → noted m₀ (claimLines z l) ≡ noted m (drop i (claimLines z l)) → c ≡ claimedIn (claimBody z l i)
         → after ≡ set m (c .line) true → noted m₀ (claimLines z l) ≡ noted after (drop (i + 1) (claimLines z l))
-    claims-more i c m₀ m after h e d u = note-more (claimLines z l) (z .claims) i (c .line) m after (noted m₀ (claimLines z l)) h claimed-length e (claimed-at i c h d) u
+    claims-more i c m₀ m after h e d u =
+        note-more (claimLines z l) (z .claims) i (c .line) m after (noted m₀ (claimLines z l)) h claimed-length e (claimed-at i c h d) u
 
-    pub claims-all : (i : ℕ) (m₀ m : List Bool) → z .claims ≤ i → noted m₀ (claimLines z l) ≡ noted m (drop i (claimLines z l)) → m ≡ noted m₀ (claimLines z l)
+    pub claims-all : (i : ℕ) (m₀ m : List Bool) → z .claims ≤ i → noted m₀ (claimLines z l) ≡ noted m (drop i (claimLines z l))
+        → m ≡ noted m₀ (claimLines z l)
     claims-all i m₀ m h e = note-all (claimLines z l) (z .claims) i m (noted m₀ (claimLines z l)) h claimed-length e
 
 pub ruleset claiming = (claims-start, claims-more, claims-all)
 
 -- one line
 module _ (z : Sizes) (l : List (List ℕ)) (n : ℕ) (m : List Bool) (b : Bool) (e : b ≡ getD m n false) where
-  pub line-noted : (c : List ℕ) (after : List Bool) → b ≡ true → c ≡ getD l (z .formulas + z .threads + 1 + n) [] → after ≡ noted m (premises c) → after ≡ withPremises z l n m
+  pub line-noted : (c : List ℕ) (after : List Bool) → b ≡ true → c ≡ getD l (z .formulas + z .threads + 1 + n) []
+      → after ≡ noted m (premises c) → after ≡ withPremises z l n m
   unfolding withPremises lineBody
   line-noted c after h d u = rw (← e, h, ← d) u
 
@@ -68,14 +76,6 @@ module _ (z : Sizes) (l : List (List ℕ)) (n : ℕ) (m : List Bool) (b : Bool) 
 
 pub ruleset lining = (line-noted, line-passed)
 
-pub premised-length : (z : Sizes) (l : List (List ℕ)) (n k : ℕ) (m after : List Bool) → length m ≡ k → after ≡ withPremises z l n m → length after ≡ k
-unfolding withPremises
-premised-length z l n k m after e d = go (getD m n false) d
-  where
-    go : (b : Bool) → after ≡ cond b (noted m (premises (lineBody z l n))) m → length after ≡ k
-    go true u = ap length u ∙ noted-length m (premises (lineBody z l n)) ∙ e
-    go false u = ap length u ∙ e
-
 -- from the last line down
 module _ (z : Sizes) (l : List (List ℕ)) where
   abbrev lines : List LineRecord
@@ -83,9 +83,12 @@ module _ (z : Sizes) (l : List (List ℕ)) where
 
   down-step : (n : ℕ) (m : List Bool) → suc n ≤ z .lines → keptTo lines (suc n) m ≡ keptTo lines n (withPremises z l (suc n) m)
   unfolding keptTo withPremises nth lineRecord
-  down-step n m h = let b : n < z .lines = omega arith in ap (λ (v : LineRecord). keptTo lines n (cond (getD m (suc n) false) (noted m (v .premises)) m)) (line-at z l n b)
+  down-step n m h =
+      let b : n < z .lines = omega arith in
+      ap (λ (v : LineRecord). keptTo lines n (cond (getD m (suc n) false) (noted m (v .premises)) m)) (line-at z l n b)
 
-  pub down-more : (n : ℕ) (g m after : List Bool) → 0 < n → n ≤ z .lines → g ≡ keptTo lines n m → after ≡ withPremises z l n m → g ≡ keptTo lines (n - 1) after
+  pub down-more : (n : ℕ) (g m after : List Bool) → 0 < n → n ≤ z .lines → g ≡ keptTo lines n m → after ≡ withPremises z l n m
+      → g ≡ keptTo lines (n - 1) after
   down-more zero g m after h b e d = absurd (omega arith)
   down-more (suc n) g m after h b e d = rw (sub-one (suc n), d) (e ∙ down-step n m b)
 
@@ -94,10 +97,12 @@ module _ (z : Sizes) (l : List (List ℕ)) where
   down-all zero g m h e = sym e
   down-all (suc n) g m h e = absurd (omega arith)
 
-pub ruleset passing = (premised-length, down-more, down-all)
+pub ruleset passing = (down-more, down-all)
 
-pub kept-is : (z : Sizes) (l : List (List ℕ)) (m₀ m₁ m₂ m₃ : List Bool) → length l ≡ recordCount z → m₀ ≡ replicate (suc Limits.lines) false → m₁ ≡ noted m₀ (documentOf z l .obligations)
+pub kept-is : (z : Sizes) (l : List (List ℕ)) (m₀ m₁ m₂ m₃ : List Bool) → length l ≡ recordCount z
+    → m₀ ≡ replicate (suc Limits.lines) false → m₁ ≡ noted m₀ (documentOf z l .obligations)
     → m₂ ≡ noted m₁ (claimLines z l) → m₃ ≡ keptTo (documentOf z l .lines) (z .lines) m₂ → m₃ ≡ kept (documentOf z l)
 unfolding kept claimLines
 kept-is z l m₀ m₁ m₂ m₃ whole e₀ e₁ e₂ e₃ =
-    rw (lines-length z l whole, noted-append (replicate (suc Limits.lines) false) (documentOf z l .obligations) (map (λ c. c .line) (documentOf z l .claims)), ← e₀, ← e₁, ← e₂) e₃
+    let named = noted-append (replicate (suc Limits.lines) false) (documentOf z l .obligations) (claimLines z l) in
+    rw (lines-length z l whole, named, ← e₀, ← e₁, ← e₂) e₃

@@ -1,11 +1,11 @@
 -- The bytes of the records that are left out: the ways through the code.
-use mathlib.Core.Path.{_≡_, refl, ap, sym, _∙_}
-use mathlib.Core.Bool.{Bool, true, false, cond}
+use mathlib.Core.Path.{_≡_, ap, _∙_}
+use mathlib.Core.Bool.{Bool, true, false}
 use mathlib.Core.List.{List, [], _∷_, map}
-use Prim.Native.Nat.{ℕ, zero, suc, _+_, _-_, _*_, _≤_, _<_}
+use Prim.Native.Nat.{ℕ, zero, suc, _+_, _-_, _≤_, _<_}
 use native.Mathlib.Numerals.{add-one}
 use native.Mathlib.Omega.{arith}
-use lib.ListN.{length, getD, take, drop, length-take, length-drop, drop-of-length-le}
+use lib.ListN.{length, getD, drop, length-take, length-drop, drop-of-length-le}
 use lib.Seq.{drop-cons, drop-drop, getD-drop}
 use Rattle.limits.specs.Limits as Limits
 use Rattle.limits.specs.Numbers.{word}
@@ -79,12 +79,14 @@ module _ (l : List (List ℕ)) (from n : ℕ) (m : List Bool) where
       → x ≡ leftOne m (i + 1) (length (getD l (from + (i + 1)) [])) → leftBehind l from n m 0 ≡ r + x + leftBehind l from n m (i + 1)
   behind-more i r x h w e d = let q = behind-step i h w in omega arith
 
-  pub behind-all : (i r : ℕ) → n ≤ i → leftBehind l from n m 0 ≡ r + leftBehind l from n m i → from + 1 + n ≤ length l → r ≡ leftBehind l from n m 0
+  pub behind-all : (i r : ℕ) → n ≤ i → leftBehind l from n m 0 ≡ r + leftBehind l from n m i → from + 1 + n ≤ length l
+      → r ≡ leftBehind l from n m 0
   unfolding leftBehind leftOut
   behind-all i r h e w =
       let len = part-length (from + 1) n l w in
       let b : length those ≤ i = omega arith in
-      let q : leftBehind l from n m i ≡ 0 = ap (λ (x : List (List ℕ)). leftOut (drop (suc i) m) (map length x)) (drop-of-length-le those b) in
+      let q : leftBehind l from n m i ≡ 0 =
+      ap (λ (x : List (List ℕ)). leftOut (drop (suc i) m) (map length x)) (drop-of-length-le those b) in
       omega (arith, e, q)
 
 pub ruleset leaving = (behind-start, behind-more, behind-all)

@@ -5,3 +5,4 @@ pub mod UsedFormulas
 pub mod Renumbered
 pub mod LeftOut
 pub mod TrimmedLength
+pub mod Measured

@@ -1,6 +1,6 @@
 -- The records of a document, by the bodies of the image.
-use mathlib.Core.Path.{_≡_, refl, ap, sym, _∙_}
-use mathlib.Core.List.{List, [], map}
+use mathlib.Core.Path.{_≡_, ap, _∙_}
+use mathlib.Core.List.{List, []}
 use Prim.Native.Nat.{ℕ, suc, _+_, _≤_, _<_}
 use native.Mathlib.Omega.{arith}
 use lib.ListN.{length, getD, drop, take, length-drop, length-map, List·getD-map}
@@ -11,7 +11,7 @@ use Rattle.program.specs.Thread.{lastPoint, cut, instructions}
 use Rattle.records.specs.Line.{premises}
 use Rattle.records.specs.Places.{threadBody}
 use Rattle.image.specs.Decode.{recordCount}
-use Rattle.content.specs.Certificate.{left, right, lineBody}
+use Rattle.content.specs.Certificate.{lineBody}
 use Rattle.content.specs.Image.{claimBody}
 use Rattle.document.specs.Canonical.{noLine, noClaim}
 use Rattle.document.specs.Parse.{lineRecord, claimRecord, part, documentOf}
@@ -52,8 +52,12 @@ module _ (z : Sizes) (l : List (List ℕ)) where
 
     pub lines-length : length (documentOf z l .lines) ≡ z .lines
     unfolding documentOf recordCount
-    lines-length = length-map (part (z .formulas + z .threads + 2) (z .lines) l) lineRecord ∙ part-length (z .formulas + z .threads + 2) (z .lines) l (omega arith)
+    lines-length =
+        length-map (part (z .formulas + z .threads + 2) (z .lines) l) lineRecord
+        ∙ part-length (z .formulas + z .threads + 2) (z .lines) l (omega arith)
 
     pub claims-length : length (documentOf z l .claims) ≡ z .claims
     unfolding documentOf recordCount
-    claims-length = length-map (part (z .formulas + z .threads + 1 + z .lines + 2) (z .claims) l) claimRecord ∙ part-length (z .formulas + z .threads + 1 + z .lines + 2) (z .claims) l (omega arith)
+    claims-length =
+        length-map (part (z .formulas + z .threads + 1 + z .lines + 2) (z .claims) l) claimRecord
+        ∙ part-length (z .formulas + z .threads + 1 + z .lines + 2) (z .claims) l (omega arith)

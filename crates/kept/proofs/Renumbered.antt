@@ -2,7 +2,7 @@
 use mathlib.Core.Path.{_≡_, refl, ap, sym, _∙_}
 use mathlib.Core.Bool.{Bool, true, false, cond}
 use mathlib.Core.List.{List, [], _∷_}
-use Prim.Native.Nat.{ℕ, zero, suc, _+_, _≤_, _<_}
+use Prim.Native.Nat.{ℕ, zero, suc, _+_, _≤_}
 use native.Mathlib.Nat.{add-zero}
 use native.Mathlib.Numerals.{add-one}
 use native.Mathlib.Omega.{arith}
@@ -37,31 +37,36 @@ renumbered-step : (m : List Bool) (i : ℕ) → renumbered m (i + 1) ≡ renumbe
 unfolding renumbered
 renumbered-step m i =
     let q : 1 + i ≡ suc i = omega arith in
-    rw (add-one i) (below-step i (drop 1 m) ∙ ap (λ (b : Bool). setBelow i (drop 1 m) + cond b 1 0) (getD-drop 1 m i false ∙ ap (λ (k : ℕ). getD m k false) q))
+    rw (add-one i)
+    (below-step i (drop 1 m)
+    ∙ ap (λ (b : Bool). setBelow i (drop 1 m) + cond b 1 0) (getD-drop 1 m i false ∙ ap (λ (k : ℕ). getD m k false) q))
 
-pub number-none : (m : List Bool) → 0 ≡ renumbered m 0
-unfolding renumbered setBelow
-number-none m = refl
+-- the table so far, and the number that comes next
+pub record Filled (m : List Bool) (t : List ℕ) (i n : ℕ) : Type 0 where
+  pub count : n ≡ renumbered m i
+  pub table : t ≡ numbersTo m i
+  pub few : n ≤ i
+  pub long : length t ≡ length m
 
-pub number-more : (m : List Bool) (i n k : ℕ) → n ≡ renumbered m i → k ≡ n + cond (getD m (i + 1) false) 1 0 → k ≡ renumbered m (i + 1)
-number-more m i n k e d = d ∙ ap (λ (x : ℕ). x + cond (getD m (i + 1) false) 1 0) e ∙ sym (renumbered-step m i)
+pub filled-none : (m : List Bool) (t : List ℕ) → t ≡ replicate (length m) 0 → Filled m t 0 0
+unfolding renumbered setBelow numbersTo
+filled-none m t e = record { count = refl; table = e; few = omega arith; long = ap length e ∙ length-replicate {A = ℕ} (length m) 0 }
 
-pub table-none : (m : List Bool) (t : List ℕ) → t ≡ replicate (length m) 0 → t ≡ numbersTo m 0
+pub filled-more : (m : List Bool) (t : List ℕ) (i n k : ℕ) → Filled m t i n → k ≡ n + cond (getD m (i + 1) false) 1 0 → k ≤ i + 1
+    → Filled m (set t i n) (i + 1) k
 unfolding numbersTo
-table-none m t e = e
+filled-more m t i n k f d b = record {
+  count = d ∙ ap (λ (x : ℕ). x + cond (getD m (i + 1) false) 1 0) (f .count) ∙ sym (renumbered-step m i);
+  table = rw (add-one i, ← f .table, ← f .count);
+  few = b;
+  long = length-set t i n ∙ f .long;
+}
 
-pub table-more : (m : List Bool) (t : List ℕ) (i n : ℕ) → t ≡ numbersTo m i → n ≡ renumbered m i → set t i n ≡ numbersTo m (i + 1)
-unfolding numbersTo
-table-more m t i n e d = rw (add-one i, e, d)
-
-pub table-all : (m : List Bool) (t : List ℕ) (i : ℕ) → i ≤ length m → length m ≤ i → t ≡ numbersTo m i → t ≡ newNumbers m
+pub filled-all : (m : List Bool) (t : List ℕ) (i n : ℕ) → i ≤ length m → length m ≤ i → Filled m t i n → t ≡ newNumbers m
 unfolding newNumbers
-table-all m t i a b e = let q : i ≡ length m = omega arith in rw q at e
+filled-all m t i n a b f = let q : i ≡ length m = omega arith in rw q at (f .table)
 
-pub table-long : (m : List Bool) (t : List ℕ) → t ≡ replicate (length m) 0 → length t ≡ length m
-table-long m t e = ap length e ∙ length-replicate {A = ℕ} (length m) 0
+pub zeros-long : (m : List Bool) (t : List ℕ) → t ≡ replicate (length m) 0 → length t ≡ length m
+zeros-long m t e = ap length e ∙ length-replicate {A = ℕ} (length m) 0
 
-pub table-kept : (t : List ℕ) (i n k : ℕ) → length t ≡ k → length (set t i n) ≡ k
-table-kept t i n k e = length-set t i n ∙ e
-
-pub ruleset numbering = (number-none, number-more, table-none, table-more, table-all, table-long, table-kept)
+pub ruleset filling = (filled-none, filled-more, filled-all, zeros-long)

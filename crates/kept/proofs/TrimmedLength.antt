@@ -2,9 +2,9 @@
 use mathlib.Core.Path.{_≡_, refl, ap, ap₂, sym, _∙_}
 use mathlib.Core.Bool.{Bool, true, false, cond}
 use mathlib.Core.List.{List, [], _∷_, _++_, map}
-use Prim.Native.Nat.{ℕ, zero, suc, _+_, _-_, _*_, _≤_, _<_}
+use Prim.Native.Nat.{ℕ, suc, _+_, _-_, _*_, _≤_, _<_}
 use native.Mathlib.Omega.{arith}
-use lib.ListN.{length, getD, take, drop, length-append, length-map}
+use lib.ListN.{length, getD, drop, length-append}
 use Rattle.logic.specs.Obligations.{flat}
 use Rattle.limits.specs.Limits as Limits
 use Rattle.frames.specs.Records.{bodies}
@@ -13,13 +13,13 @@ use Rattle.limits.specs.Numbers.{numbers}
 use Rattle.limits.proofs.Numbers.{numbers-length}
 use Rattle.program.specs.Instruction.{twofold}
 use Rattle.program.specs.declared.sizes.Sizes.{Sizes}
-use Rattle.program.specs.declared.instruction.Half.{Half}
 use Rattle.program.specs.declared.instruction.Instruction.{Instruction}
 use Rattle.records.specs.Line.{premises, lineSize}
 use Rattle.image.specs.Decode.{recordCount}
 use Rattle.content.specs.Certificate.{lineBody}
 use Rattle.document.specs.Document.{Document, LineRecord, ClaimRecord}
-use Rattle.document.specs.Encode.{Entry, framed, halfBytes, instructionBytes, threadBytes, numberBytes, lineBytes, claimBytes, entry, entries, itself, entriesOf, encode}
+use Rattle.document.specs.Encode.{Entry, framed, entry, entries, itself, entriesOf, encode}
+use Rattle.document.specs.Encode.{halfBytes, instructionBytes, threadBytes, numberBytes, lineBytes, claimBytes}
 use Rattle.document.specs.Parse.{lineRecord, part, documentOf}
 use Rattle.trimmed.specs.Kept.{chosen, selected, renumbered, kept, used}
 use Rattle.trimmed.specs.Trim.{halfBy, instructionBy, lineBy, claimBy, trimmedBy, trim}
@@ -52,7 +52,8 @@ framed-length e = omega arith
 
 flat-length : (a b : List Entry) → length (flat framed (a ++ b)) ≡ length (flat framed a) + length (flat framed b)
 flat-length [] b = omega arith
-flat-length (e ∷ a) b = rw (length-append (framed e) (flat framed (a ++ b)), length-append (framed e) (flat framed a), flat-length a b) (omega arith)
+flat-length (e ∷ a) b =
+    rw (length-append (framed e) (flat framed (a ++ b)), length-append (framed e) (flat framed a), flat-length a b) (omega arith)
 
 entries-length : {A : Type 0} (k : ℕ) (f : A → List ℕ) (l : List A) → length (flat framed (entries k f l)) ≡ total (λ x. length (f x)) l
 unfolding total
@@ -60,14 +61,24 @@ entries-length k f [] = refl
 entries-length k f (x ∷ l) =
     length-append (framed (entry k (f x))) (flat framed (entries k f l)) ∙ ap₂ _+_ (framed-length (entry k (f x))) (entries-length k f l)
 
+-- the lengths of bodies
+abbrev threadLength : List Instruction → ℕ
+threadLength l = length (threadBytes l)
+
+abbrev pub lineLength : LineRecord → ℕ
+lineLength v = length (lineBytes v)
+
+abbrev claimLength : ClaimRecord → ℕ
+claimLength c = length (claimBytes c)
+
 encode-length : (D : Document) → length (encode D) ≡
     length (D .header) + 4
     + (total length (D .formulas)
-    + (total (λ i. length (threadBytes i)) (D .threads)
+    + (total threadLength (D .threads)
     + (length (numberBytes (D .outline)) + 4
-    + (total (λ v. length (lineBytes v)) (D .lines)
+    + (total lineLength (D .lines)
     + (length (numberBytes (D .obligations)) + 4
-    + total (λ c. length (claimBytes c)) (D .claims))))))
+    + total claimLength (D .claims))))))
 unfolding encode entriesOf
 encode-length D =
     first Kinds.header (D .header) behind-header
@@ -84,7 +95,8 @@ encode-length D =
     ∙ ap (λ (n : ℕ). length (numberBytes (D .obligations)) + 4 + n) (entries-length Kinds.claim claimBytes (D .claims)))))))
   where
     first : (k : ℕ) (b : List ℕ) (l : List Entry) → length (flat framed (entry k b ∷ l)) ≡ length b + 4 + length (flat framed l)
-    first k b l = length-append (framed (entry k b)) (flat framed l) ∙ ap (λ (n : ℕ). n + length (flat framed l)) (framed-length (entry k b))
+    first k b l =
+        length-append (framed (entry k b)) (flat framed l) ∙ ap (λ (n : ℕ). n + length (flat framed l)) (framed-length (entry k b))
 
     behind-lines : List Entry
     behind-lines = entry Kinds.obligations (numberBytes (D .obligations)) ∷ entries Kinds.claim claimBytes (D .claims)
@@ -108,12 +120,15 @@ unfolding numberBytes
 numbers-by f [] = refl
 numbers-by f (n ∷ l) = ap (λ (k : ℕ). suc (suc k)) (numbers-by f l)
 
+abbrev five : ℕ → ℕ
+five n = suc (suc (suc (suc (suc n))))
+
 module _ (f g : ℕ → ℕ) where
   instruction-by : (i : Instruction) → length (instructionBytes (instructionBy f g i)) ≡ length (instructionBytes i)
   unfolding instructionBytes instructionBy halfBytes halfBy
   instruction-by i = go (twofold (i .operation))
     where
-      go : (b : Bool) → suc (suc (suc (suc (suc (length (cond b (halfBytes (halfBy f g (i .second))) [])))))) ≡ suc (suc (suc (suc (suc (length (cond b (halfBytes (i .second)) []))))))
+      go : (b : Bool) → five (length (cond b (halfBytes (halfBy f g (i .second))) [])) ≡ five (length (cond b (halfBytes (i .second)) []))
       go true = refl
       go false = refl
 
@@ -130,18 +145,16 @@ module _ (f g : ℕ → ℕ) where
 
   line-by : (v : LineRecord) → length (lineBytes (lineBy f g v)) ≡ length (lineBytes v)
   unfolding lineBytes lineBy
-  line-by v = ap (λ (n : ℕ). suc (suc (suc (suc (suc (suc (suc (suc n)))))))) (numbers-by g (v .premises))
+  line-by v = ap (λ (n : ℕ). five (suc (suc (suc n)))) (numbers-by g (v .premises))
 
   claim-by : (c : ClaimRecord) → length (claimBytes (claimBy f g c)) ≡ length (claimBytes c)
   unfolding claimBytes claimBy
   claim-by c = refl
 
-abbrev pub lineLength : LineRecord → ℕ
-lineLength v = length (lineBytes v)
-
 -- WHAT STAYS AND WHAT IS LEFT OUT are all
 pub trimmed-and-left : (u k : List Bool) (D : Document)
-    → length (encode (trimmedBy u k D)) + (leftOut (drop 1 u) (map length (D .formulas)) + leftOut (drop 1 k) (map lineLength (D .lines))) ≡ length (encode D)
+    → length (encode (trimmedBy u k D)) + (leftOut (drop 1 u) (map length (D .formulas)) + leftOut (drop 1 k) (map lineLength (D .lines)))
+    ≡ length (encode D)
 unfolding selected
 trimmed-and-left u k D =
     let f : ℕ → ℕ = renumbered u in
@@ -149,12 +162,12 @@ trimmed-and-left u k D =
     let before = encode-length D in
     let after = encode-length (trimmedBy u k D) in
     let formulas = total-split length (drop 1 u) (D .formulas) in
-    let threads = total-map (λ l. map (instructionBy f g) l) (λ i. length (threadBytes i)) (λ i. length (threadBytes i)) (thread-by f g) (D .threads) in
+    let threads = total-map (λ l. map (instructionBy f g) l) threadLength threadLength (thread-by f g) (D .threads) in
     let outline = numbers-by f (D .outline) in
     let lines = total-map (lineBy f g) lineLength lineLength (line-by f g) (chosen (drop 1 k) (D .lines)) in
     let split = total-split lineLength (drop 1 k) (D .lines) in
     let obligations = numbers-by g (D .obligations) in
-    let claims = total-map (claimBy f g) (λ c. length (claimBytes c)) (λ c. length (claimBytes c)) (claim-by f g) (D .claims) in
+    let claims = total-map (claimBy f g) claimLength claimLength (claim-by f g) (D .claims) in
     omega arith
 
 -- THE BODIES HAVE THESE LENGTHS
@@ -168,7 +181,8 @@ line-long : (b : List ℕ) → lineLength (lineRecord b) ≡ lineSize b
 unfolding lineBytes lineRecord lineSize premises
 line-long b = let p = numbers-long (numbers (getD b 7 0) (drop 8 b)) in let n = numbers-length (getD b 7 0) (drop 8 b) in omega arith
 
-map-by : {A B C : Type 0} (f : B → C) (g : A → B) (h : A → C) (d : A) (l : List A) → ((i : ℕ) → i < length l → h (getD l i d) ≡ f (g (getD l i d)))
+map-by : {A B C : Type 0} (f : B → C) (g : A → B) (h : A → C) (d : A) (l : List A)
+    → ((i : ℕ) → i < length l → h (getD l i d) ≡ f (g (getD l i d)))
     → map h l ≡ map f (map g l)
 map-by f g h d [] e = refl
 map-by f g h d (x ∷ l) e = ap₂ _∷_ (e 0 (omega arith)) (map-by f g h d l (λ i b. e (suc i) (omega arith)))
@@ -198,7 +212,8 @@ module _ (z : Sizes) (s : List ℕ) (y : Lengths z s) where
   unfolding lineBody
   line-length i b =
       let n : z .formulas + z .threads + 2 + i ≡ z .formulas + z .threads + 1 + suc i = omega arith in
-      let q : getD bodied i [] ≡ lineBody z l (suc i) = part-at (z .formulas + z .threads + 2) (z .lines) l i [] b ∙ ap (λ (k : ℕ). getD l k []) n in
+      let q : getD bodied i [] ≡ lineBody z l (suc i) =
+      part-at (z .formulas + z .threads + 2) (z .lines) l i [] b ∙ ap (λ (k : ℕ). getD l k []) n in
       rw q (y .lines (suc i) (omega arith) (omega arith) ∙ sym (line-long (lineBody z l (suc i))))
 
   formulas-out : (m : List Bool) → leftBehind l 0 (z .formulas) m 0 ≡ leftOut (drop 1 m) (map length (D .formulas))

@@ -58,7 +58,8 @@ fn left_formulas<'a, 'b, 'c>(s: &'a [u8], ix: &'b [usize], z: Sizes, u: &'c [boo
 // Of the lines without one of the marks k.
 fn left_lines<'a, 'b, 'c>(s: &'a [u8], ix: &'b [usize], z: Sizes, k: &'c [bool]) -> usize
     requires { ⌜ (now ix ≡ indexOf (now s)) × Lengths z (now s) ⌝ }
-    ensures { λ r. ⌜ (r ≡ leftBehind (bodies (now (s .entry))) (z .formulas + z .threads + 1) (z .lines) (now (k .entry)) 0) × (r < most) ⌝ }
+    ensures { λ r. ⌜ (r ≡ leftBehind (bodies (now (s .entry))) (z .formulas + z .threads + 1) (z .lines) (now (k .entry)) 0)
+        × (r < most) ⌝ }
 {
     left_out(
         s,

@@ -10,7 +10,8 @@ use Rattle.kept.proofs.formulas.note_lines.Statement.{statement}
 use Rattle.kept.proofs.formulas.note_lines.Tie as tie
 
 abbrev Inv-loop : tie.InvT-loop
-Inv-loop s ix z k m₀ lines n₀ m n = (n ≤ z .lines) × ((noted m₀ (markedFormulas z (bodies s) k 0) ≡ noted m (markedFormulas z (bodies s) k n)) × (length m ≡ length m₀))
+Inv-loop s ix z k m₀ lines n₀ m n =
+    (n ≤ z .lines) × ((noted m₀ (markedFormulas z (bodies s) k 0) ≡ noted m (markedFormulas z (bodies s) k n)) × (length m ≡ length m₀))
 
 abbrev μ-loop : tie.MeasureT-loop
 μ-loop s ix z k m₀ lines n₀ m n = z .lines - n

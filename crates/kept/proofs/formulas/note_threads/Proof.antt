@@ -10,7 +10,8 @@ use Rattle.kept.proofs.formulas.note_threads.Statement.{statement}
 use Rattle.kept.proofs.formulas.note_threads.Tie as tie
 
 abbrev Inv-loop : tie.InvT-loop
-Inv-loop s ix z m₀ threads t₀ m t = (t ≤ z .threads) × ((noted m₀ (threadFormulas z (bodies s) 0) ≡ noted m (threadFormulas z (bodies s) t)) × (length m ≡ length m₀))
+Inv-loop s ix z m₀ threads t₀ m t =
+    (t ≤ z .threads) × ((noted m₀ (threadFormulas z (bodies s) 0) ≡ noted m (threadFormulas z (bodies s) t)) × (length m ≡ length m₀))
 
 abbrev μ-loop : tie.MeasureT-loop
 μ-loop s ix z m₀ threads t₀ m t = z .threads - t

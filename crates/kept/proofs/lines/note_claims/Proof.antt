@@ -10,7 +10,8 @@ use Rattle.kept.proofs.lines.note_claims.Statement.{statement}
 use Rattle.kept.proofs.lines.note_claims.Tie as tie
 
 abbrev Inv-loop : tie.InvT-loop
-Inv-loop s ix z m₀ claims i₀ m i = (i ≤ z .claims) × ((noted m₀ (claimLines z (bodies s)) ≡ noted m (drop i (claimLines z (bodies s)))) × (length m ≡ length m₀))
+Inv-loop s ix z m₀ claims i₀ m i =
+    (i ≤ z .claims) × ((noted m₀ (claimLines z (bodies s)) ≡ noted m (drop i (claimLines z (bodies s)))) × (length m ≡ length m₀))
 
 abbrev μ-loop : tie.MeasureT-loop
 μ-loop s ix z m₀ claims i₀ m i = z .claims - i

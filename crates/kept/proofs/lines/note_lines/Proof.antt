@@ -10,7 +10,9 @@ use Rattle.kept.proofs.lines.note_lines.Statement.{statement}
 use Rattle.kept.proofs.lines.note_lines.Tie as tie
 
 abbrev Inv-loop : tie.InvT-loop
-Inv-loop s ix z m₀ n₀ m n = (n ≤ z .lines) × ((keptTo (documentOf z (bodies s) .lines) (z .lines) m₀ ≡ keptTo (documentOf z (bodies s) .lines) n m) × (length m ≡ length m₀))
+Inv-loop s ix z m₀ n₀ m n =
+    (n ≤ z .lines) × ((keptTo (documentOf z (bodies s) .lines) (z .lines) m₀ ≡ keptTo (documentOf z (bodies s) .lines) n m)
+    × (length m ≡ length m₀))
 
 abbrev μ-loop : tie.MeasureT-loop
 μ-loop s ix z m₀ n₀ m n = n

@@ -1,7 +1,6 @@
-use Rattle.kept.proofs.Noted.{numbering, numbers-more, note-long}
+use Rattle.kept.proofs.Noted.{numbering, numbers-more}
 use Rattle.trimmed.specs.Kept.{noted}
 use Rattle.limits.specs.Numbers.{numbers}
-use Rattle.limits.proofs.Numbers.{numbers-length}
 use Prim.Native.Nat.{_≤_, _-_}
 use mathlib.Core.Path.{_≡_}
 use lib.ListN.{length, drop}
@@ -26,6 +25,6 @@ note-numbers-spec =
     (λ c κs. search (numbering, tests))
     (λ c. search (numbering, tests))
     (λ c. search (numbering, tests))
-    (λ c. (search tests, (search (numbers-more, tests), search (note-long, tests))))
+    (λ c. (search tests, (search (numbers-more, tests), search tests)))
     (λ c. search (numbering, tests))
     (λ c. search (numbering, tests)))

@@ -9,7 +9,8 @@ use Rattle.kept.proofs.size.left_out.Statement.{statement}
 use Rattle.kept.proofs.size.left_out.Tie as tie
 
 abbrev Inv-loop : tie.InvT-loop
-Inv-loop s ix from count m r₀ i₀ r i = (i ≤ count) × ((r ≤ (Limits.imageBytes + 4) * i) × (leftBehind (bodies s) from count m 0 ≡ r + leftBehind (bodies s) from count m i))
+Inv-loop s ix from count m r₀ i₀ r i =
+    (i ≤ count) × ((r ≤ (Limits.imageBytes + 4) * i) × (leftBehind (bodies s) from count m 0 ≡ r + leftBehind (bodies s) from count m i))
 
 abbrev μ-loop : tie.MeasureT-loop
 μ-loop s ix from count m r₀ i₀ r i = count - i
