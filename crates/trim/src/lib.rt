@@ -1,0 +1,2 @@
+// The trimmed image, written to a buffer that the caller lends.
+pub mod put;
