@@ -1,2 +1,3 @@
 // The trimmed image, written to a buffer that the caller lends.
+pub mod numbers;
 pub mod put;
