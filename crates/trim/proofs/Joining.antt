@@ -66,3 +66,10 @@ module _ (g : ℕ → List ℕ) (o : List ℕ) (p : ℕ) where
       join-end = let k : i ≡ n = omega arith in rw k at e
 
 pub ruleset joining = (join-none, join-start, join-room, join-more, join-step, join-all, join-end)
+
+-- the invariant of such a loop: i pieces are written, and there is room for all
+abbrev pub Partly : (ℕ → List ℕ) → ℕ → List ℕ → ℕ → List ℕ → ℕ → ℕ → Type 0
+Partly g n o p w q i =
+    (i ≤ n)
+    × ((w ≡ overwritten o p (joined g i))
+    × ((q ≡ p + length (joined g i)) × ((p + length (joined g n) ≤ length o) × (length w ≡ length o))))

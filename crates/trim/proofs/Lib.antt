@@ -3,3 +3,4 @@ pub mod Joining
 pub mod Overwriting
 pub mod Putting
 pub mod Renewing
+pub mod Threads

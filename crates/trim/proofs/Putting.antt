@@ -19,6 +19,10 @@ module _ (o : List ℕ) (p : ℕ) where
       → v ≡ overwritten o p (x ++ y)
   then-put x y w v q h d e f = f ∙ (rw (d, e, over-behind o p x y h))
 
+  -- and there is room for y
+  pub then-room : (x y w : List ℕ) (q : ℕ) → p + (length x + length y) ≤ length o → w ≡ overwritten o p x → q ≡ p + length x → q + length y ≤ length w
+  then-room x y w q h d e = rw (d, over-length o p x (omega arith)) (omega arith)
+
   pub two-put : (n q : ℕ) (w v : List ℕ) → p + 2 ≤ length o → w ≡ overwritten o p (n % 256 ∷ []) → q ≡ p + 1 → v ≡ overwritten w q ((n / 256) % 256 ∷ [])
       → v ≡ overwritten o p (two n)
   two-put n q w v h = then-put (n % 256 ∷ []) ((n / 256) % 256 ∷ []) w v q h

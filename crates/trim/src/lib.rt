@@ -1,3 +1,4 @@
 // The trimmed image, written to a buffer that the caller lends.
 pub mod numbers;
 pub mod put;
+pub mod thread;

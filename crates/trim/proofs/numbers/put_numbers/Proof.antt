@@ -1,19 +1,13 @@
-use Rattle.trim.specs.Pieces.{joined, numberPiece}
-use Rattle.trim.specs.Overwritten.{overwritten}
-use lib.ListN.{length}
-use mathlib.Core.Path.{_≡_}
-use Prim.Native.Nat.{_+_, _≤_, _-_}
+use Rattle.trim.specs.Pieces.{numberPiece}
+use Prim.Native.Nat.{_-_}
 use Rattle.trim.proofs.Renewing.{numbering}
-use Rattle.trim.proofs.Joining.{joining}
+use Rattle.trim.proofs.Joining.{joining, Partly}
 use Rattle.limits.proofs.Auto.{tests}
 use Rattle.trim.proofs.numbers.put_numbers.Statement.{statement}
 use Rattle.trim.proofs.numbers.put_numbers.Tie as tie
 
 abbrev Inv-loop : tie.InvT-loop
-Inv-loop t b n out₀ at next₀ i₀ out next i =
-    (i ≤ n)
-    × ((out ≡ overwritten out₀ at (joined (numberPiece t b n) i))
-    × ((next ≡ at + length (joined (numberPiece t b n) i)) × ((at + length (joined (numberPiece t b n) n) ≤ length out₀) × (length out ≡ length out₀))))
+Inv-loop t b n out₀ at next₀ i₀ out next i = Partly (numberPiece t b n) n out₀ at out next i
 
 abbrev μ-loop : tie.MeasureT-loop
 μ-loop t b n out₀ at next₀ i₀ out next i = n - i
