@@ -1,5 +1,6 @@
 pub mod Flat
 pub mod Joining
+pub mod Lines
 pub mod Overwriting
 pub mod Putting
 pub mod Renewing

@@ -1,10 +1,10 @@
 -- What the functions of put.rt leave in the buffer.
 use mathlib.Core.Path.{_≡_, refl, ap, sym, _∙_}
-use mathlib.Core.List.{List, [], _∷_, _++_}
+use mathlib.Core.List.{List, [], _∷_, _++_, append-assoc}
 use Prim.Native.Nat.{ℕ, suc, _+_, _-_, _/_, _%_, _≤_, _<_}
 use native.Mathlib.Numerals.{add-one}
 use native.Mathlib.Omega.{arith}
-use lib.ListN.{length, getD, set, take, drop, length-set}
+use lib.ListN.{length, getD, set, take, drop, length-append}
 use lib.Seq.{take-suc, take-all, length-take-le}
 use Rattle.report.specs.Record.{two}
 use Rattle.trim.specs.Overwritten.{overwritten}
@@ -62,3 +62,40 @@ module _ (b o : List ℕ) (p : ℕ) where
     copy-all h = e ∙ ap (overwritten o p) (take-all i b h)
 
 pub ruleset copying = (copy-none, copy-more, copy-all)
+
+-- X is written in three parts
+module _ (x y z X : List ℕ) where
+  sum : X ≡ x ++ (y ++ z) → length X ≡ length x + (length y + length z)
+  sum e = rw (e, length-append x (y ++ z), length-append y z)
+
+  pub three-end : (p q r s : ℕ) → X ≡ x ++ (y ++ z) → q ≡ p + length x → r ≡ q + length y → s ≡ r + length z → s ≡ p + length X
+  three-end p q r s e a b c = rw (sum e) (omega arith)
+
+  module _ (o : List ℕ) (p : ℕ) (room : p + length X ≤ length o) (e : X ≡ x ++ (y ++ z)) where
+    all : p + (length x + (length y + length z)) ≤ length o
+    all = rw (sum e) at room
+
+    pub three-first : p + length x ≤ length o
+    three-first = let k = all in omega arith
+
+    module _ (w : List ℕ) (q : ℕ) (dw : w ≡ overwritten o p x) (eq : q ≡ p + length x) where
+      pub three-second : q + length y ≤ length w
+      three-second = then-room o p x y w q (let k = all in omega arith) dw eq
+
+      module _ (u : List ℕ) (r : ℕ) (du : u ≡ overwritten w q y) (er : r ≡ q + length y) where
+        two-parts : u ≡ overwritten o p (x ++ y)
+        two-parts = then-put o p x y w u q (let k = all in omega arith) dw eq du
+
+        two-end : r ≡ p + length (x ++ y)
+        two-end = rw (length-append x y) (omega arith)
+
+        two-room : p + (length (x ++ y) + length z) ≤ length o
+        two-room = rw (length-append x y) (let k = all in omega arith)
+
+        pub three-third : r + length z ≤ length u
+        three-third = then-room o p (x ++ y) z u r two-room two-parts two-end
+
+        pub three-put : (v : List ℕ) → v ≡ overwritten u r z → v ≡ overwritten o p X
+        three-put v dv = rw (e, ← append-assoc x y z) (then-put o p (x ++ y) z u v r two-room two-parts two-end dv)
+
+pub ruleset threefold = (three-end, three-put)

@@ -17,7 +17,8 @@ use Rattle.document.specs.Encode.{halfBytes, instructionBytes, threadBytes}
 use Rattle.trimmed.specs.Trim.{halfBy, instructionBy}
 use Rattle.trim.specs.Overwritten.{overwritten}
 use Rattle.trim.specs.Pieces.{joined, instructionPiece}
-use Rattle.trim.specs.Renewed.{renewed, renewedHalf, renewedInstruction, secondBytes}
+use Rattle.trim.specs.Parts.{secondBytes}
+use Rattle.trim.specs.Renewed.{renewed, renewedHalf, renewedInstruction}
 use Rattle.trim.proofs.Overwriting.{over-none, over-length}
 use Rattle.trim.proofs.Putting.{then-put, then-room}
 use Rattle.trim.proofs.Joining.{join-room}

@@ -1,3 +1,4 @@
 pub mod Overwritten
+pub mod Parts
 pub mod Pieces
 pub mod Renewed

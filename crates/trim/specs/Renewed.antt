@@ -1,14 +1,13 @@
 -- What a record names, renewed by tables: of the formulas f, of the lines g.
 use mathlib.Core.Bool.{cond}
-use mathlib.Core.List.{List, []}
+use mathlib.Core.List.{List}
 use Prim.Native.Nat.{ℕ, _-_}
 use lib.Dec.{ltb}
 use lib.ListN.{length, getD}
-use Rattle.program.specs.Instruction.{twofold}
 use Rattle.program.specs.declared.instruction.Half.{Half}
 use Rattle.program.specs.declared.instruction.Instruction.{Instruction}
-use Rattle.document.specs.Encode.{halfBytes}
-use Rattle.trimmed.specs.Trim.{halfBy, instructionBy}
+use Rattle.document.specs.Document.{LineRecord, ClaimRecord}
+use Rattle.trimmed.specs.Trim.{halfBy, instructionBy, lineBy, claimBy}
 
 -- a number past the table's end as the last that it has
 unfoldable pub renewed : List ℕ → ℕ → ℕ
@@ -21,6 +20,9 @@ renewedHalf f h = halfBy (renewed f) (renewed f) h
 unfoldable pub renewedInstruction : List ℕ → Instruction → Instruction
 renewedInstruction f i = instructionBy (renewed f) (renewed f) i
 
--- the bytes behind an operation's first half
-unfoldable pub secondBytes : ℕ → Half → List ℕ
-secondBytes op h = cond (twofold op) (halfBytes h) []
+unfoldable pub renewedLine : List ℕ → List ℕ → LineRecord → LineRecord
+renewedLine f g v = lineBy (renewed f) (renewed g) v
+
+-- a claim names no formula
+unfoldable pub renewedClaim : List ℕ → ClaimRecord → ClaimRecord
+renewedClaim g c = claimBy (renewed g) (renewed g) c

@@ -1,4 +1,6 @@
 // The trimmed image, written to a buffer that the caller lends.
+pub mod claim;
+pub mod line;
 pub mod numbers;
 pub mod put;
 pub mod thread;

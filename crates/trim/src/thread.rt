@@ -16,7 +16,8 @@ ghost use Rattle.program.specs.Thread.{lastPoint, instructions};
 ghost use Rattle.document.specs.Encode.{instructionBytes, threadBytes};
 ghost use Rattle.trim.specs.Overwritten.{overwritten};
 ghost use Rattle.trim.specs.Pieces.{joined, instructionPiece};
-ghost use Rattle.trim.specs.Renewed.{renewedHalf, renewedInstruction, secondBytes};
+ghost use Rattle.trim.specs.Parts.{secondBytes};
+ghost use Rattle.trim.specs.Renewed.{renewedHalf, renewedInstruction};
 
 // The second half of an instruction, where its operation has one.
 fn put_second<'a, 'b>(f: &'a [usize], operation: u8, h: Half, out: &'b mut [u8], at: usize) -> usize
