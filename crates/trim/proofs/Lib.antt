@@ -1,5 +1,8 @@
+pub mod Bodies
 pub mod Flat
+pub mod Framing
 pub mod Joining
+pub mod Keeping
 pub mod Lines
 pub mod Overwriting
 pub mod Putting

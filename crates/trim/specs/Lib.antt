@@ -1,4 +1,5 @@
 pub mod Overwritten
 pub mod Parts
 pub mod Pieces
+pub mod Records
 pub mod Renewed

@@ -1,6 +1,8 @@
 // The trimmed image, written to a buffer that the caller lends.
 pub mod claim;
+pub mod kept;
 pub mod line;
 pub mod numbers;
 pub mod put;
+pub mod record;
 pub mod thread;
