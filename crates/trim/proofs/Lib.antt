@@ -1,4 +1,5 @@
 pub mod Bodies
+pub mod Encoding
 pub mod Flat
 pub mod Framing
 pub mod Joining
@@ -7,4 +8,6 @@ pub mod Lines
 pub mod Overwriting
 pub mod Putting
 pub mod Renewing
+pub mod Sequence
+pub mod Tables
 pub mod Threads

@@ -63,6 +63,28 @@ module _ (b o : List ℕ) (p : ℕ) where
 
 pub ruleset copying = (copy-none, copy-more, copy-all)
 
+-- X is written in two parts
+module _ (x y X : List ℕ) where
+  pair-sum : X ≡ x ++ y → length X ≡ length x + length y
+  pair-sum e = rw (e, length-append x y)
+
+  pub pair-end : (p q r : ℕ) → X ≡ x ++ y → q ≡ p + length x → r ≡ q + length y → r ≡ p + length X
+  pair-end p q r e a b = rw (pair-sum e) (omega arith)
+
+  module _ (o : List ℕ) (p : ℕ) (room : p + length X ≤ length o) (e : X ≡ x ++ y) where
+    pair : p + (length x + length y) ≤ length o
+    pair = rw (pair-sum e) at room
+
+    pub pair-first : p + length x ≤ length o
+    pair-first = let k = pair in omega arith
+
+    module _ (w : List ℕ) (q : ℕ) (dw : w ≡ overwritten o p x) (eq : q ≡ p + length x) where
+      pub pair-second : q + length y ≤ length w
+      pair-second = then-room o p x y w q pair dw eq
+
+      pub pair-put : (v : List ℕ) → v ≡ overwritten w q y → v ≡ overwritten o p X
+      pair-put v dv = rw e (then-put o p x y w v q pair dw eq dv)
+
 -- X is written in three parts
 module _ (x y z X : List ℕ) where
   sum : X ≡ x ++ (y ++ z) → length X ≡ length x + (length y + length z)
@@ -97,5 +119,7 @@ module _ (x y z X : List ℕ) where
 
         pub three-put : (v : List ℕ) → v ≡ overwritten u r z → v ≡ overwritten o p X
         three-put v dv = rw (e, ← append-assoc x y z) (then-put o p (x ++ y) z u v r two-room two-parts two-end dv)
+
+pub ruleset twofold = (pair-end, pair-put)
 
 pub ruleset threefold = (three-end, three-put)

@@ -46,7 +46,7 @@ module _ (t b : List ℕ) (n : ℕ) where
   numbers-joined =
       let e : length (numbers n b) ≡ n = numbers-length n b in
       rw (flat-map (renewed t) two (numbers n b))
-      (rw e at (joined-flat (λ x. two (renewed t x)) 0 (numbers n b) (numberPiece t b n) (λ i s. refl)))
+      (rw e at (joined-flat (λ x. two (renewed t x)) 0 (numbers n b) (numberPiece t b n) (λ i. refl)))
 
   module _ (o w : List ℕ) (p q i : ℕ) where
     pub numbers-room : p + length (numberBytes (map (renewed t) (numbers n b))) ≤ length o → p + length (joined (numberPiece t b n) n) ≤ length o

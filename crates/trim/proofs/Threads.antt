@@ -111,7 +111,7 @@ module _ (f b : List ℕ) where
   unfolding threadBytes instructionPiece
   thread-is =
       let e : length (instructions b) ≡ lastPoint b = instructions-length b in
-      let j = joined-flat (λ i. instructionBytes (renewedInstruction f i)) nothing (instructions b) (instructionPiece f b) (λ i s. refl) in
+      let j = joined-flat (λ i. instructionBytes (renewedInstruction f i)) nothing (instructions b) (instructionPiece f b) (λ i. refl) in
       rw (length-map (instructions b) (renewedInstruction f), flat-map (renewedInstruction f) instructionBytes (instructions b), ← j, e)
 
   thread-size : length (threadBytes (map (renewedInstruction f) (instructions b))) ≡ 1 + length (joined (instructionPiece f b) (lastPoint b))

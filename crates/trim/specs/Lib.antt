@@ -3,3 +3,4 @@ pub mod Parts
 pub mod Pieces
 pub mod Records
 pub mod Renewed
+pub mod Whole
