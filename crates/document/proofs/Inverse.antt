@@ -88,7 +88,7 @@ documented s z b e =
     let D : Document = documentOf z (bodies s) in
     let d = encoded s z (record { count = f .count; bytes = f .bytes }) e in
     let k : kindsIn D ≡ kindsOf (z .formulas) (z .threads) (z .lines) (z .claims) =
-        rw (← d .threads) (ap (λ (x : Sizes). kindsOf (x .formulas) (x .threads) (x .lines) (x .claims)) (d .size)) in
+    rw (← d .threads) (ap (λ (x : Sizes). kindsOf (x .formulas) (x .threads) (x .lines) (x .claims)) (d .size)) in
     record {
       describes = d;
       encodes = sym (encode-entered D) ∙ rw (k, d .body) (f .whole);

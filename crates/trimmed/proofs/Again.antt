@@ -201,5 +201,5 @@ module _ (D : Document) (N : Named D) (F : Written D) where
     map-same f′ 0 (E .outline) (λ i b. formula-same _ (outline i b)),
     lines-same,
     map-same g′ 0 (E .obligations) (λ i b. line-same _ (named-again .obligations i b)),
-    claims-same
+    claims-same,
   )

@@ -326,8 +326,18 @@ module _ (D : Document) (N : Named D) (F : Written D) (T : Trimming (used D) (ke
       pub claim-kept : claimIn (claimBody z′ l′ i) ≡ claimIn (claimBody z l i)
       unfolding claimBy
       claim-kept =
-          rw (new-claim, old-claim, claim-thread (claimBy f g c), claim-point (claimBy f g c), claim-other (claimBy f g c), claim-otherPoint (claimBy f g c),
-          claim-thread c, claim-point c, claim-other c, claim-otherPoint c)
+          rw (
+            new-claim,
+            old-claim,
+            claim-thread (claimBy f g c),
+            claim-point (claimBy f g c),
+            claim-other (claimBy f g c),
+            claim-otherPoint (claimBy f g c),
+            claim-thread c,
+            claim-point c,
+            claim-other c,
+            claim-otherPoint c,
+          )
 
       claim-fit : ClaimFits c
       claim-fit = T .canonical .claims i h

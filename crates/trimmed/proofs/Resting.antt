@@ -171,9 +171,10 @@ module _ (D : Document) where
     rests-marked n (obligation i b) =
         (N .obligations i b, named-marked _ (N .obligations i b) (found-left (D .obligations) (map (λ c. c .line) (D .claims)) _ (found-at (D .obligations) i b)))
     rests-marked n (claim i b) = (N .claims i b, named-marked _ (N .claims i b) (found-right (D .obligations) (map (λ c. c .line) (D .claims)) _ (claim-found i b)))
-    rests-marked n (premise k i a b r h) =
-        (let q = N .lower k i a b h in omega arith,
-        keptTo-closed (D .lines) (N .lower) (length (D .lines)) first k i (omega arith) (let q = first-length in omega arith) a b (rests-marked k r .1) h)
+    rests-marked n (premise k i a b r h) = (
+      let q = N .lower k i a b h in omega arith,
+      keptTo-closed (D .lines) (N .lower) (length (D .lines)) first k i (omega arith) (let q = first-length in omega arith) a b (rests-marked k r .1) h,
+    )
 
 module _ (D : Document) where
   pub kept-length : length (kept D) ≡ suc Limits.lines

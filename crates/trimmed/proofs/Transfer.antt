@@ -40,5 +40,5 @@ module _ (P : Program) (p : ℕ → ℕ) (C B : Certificate) (Stays : ℕ → Ty
       (λ j b.
       let c : j < length (C .line n .premises) = let q = length-map (C .line n .premises) g in let r : length (B .line (g n) .premises) ≡ length (map g (C .line n .premises)) = ap length e in omega arith in
       let d : getD (B .line (g n) .premises) j 0 ≡ g (getD (C .line n .premises) j 0) =
-          ap (λ (l : List ℕ). getD l j 0) e ∙ subst (λ (x : ℕ). getD (map g (C .line n .premises)) j x ≡ g (getD (C .line n .premises) j 0)) zero-same (List·getD-map g (C .line n .premises) j 0) in
+      ap (λ (l : List ℕ). getD l j 0) e ∙ subst (λ (x : ℕ). getD (map g (C .line n .premises)) j x ≡ g (getD (C .line n .premises) j 0)) zero-same (List·getD-map g (C .line n .premises) j 0) in
       subst (Justified Q B) (sym d) (carried (ps j c) (K .rests n j s c)))

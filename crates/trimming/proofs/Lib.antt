@@ -1,2 +1,4 @@
 pub mod Whole
 pub mod Kept
+pub mod Ways
+pub mod Promised

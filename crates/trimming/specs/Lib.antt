@@ -1,1 +1,4 @@
 pub mod Trimmed
+pub mod Accepted
+pub mod Answer
+pub mod Promise

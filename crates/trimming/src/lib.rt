@@ -1,1 +1,4 @@
 // Trimming for the archive: `trim_image` is the entry point.
+pub mod answer;
+pub mod archive;
+pub mod entry;

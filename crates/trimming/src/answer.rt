@@ -1,0 +1,15 @@
+// What a call for trimming answers.
+
+// The code, and how many bytes were written: 0 with an error.
+pub struct Answer {
+    pub code: u16,
+    pub length: usize,
+}
+
+impl Answer {
+    pub const DONE: u16 = 0;
+    // The image is not accepted.
+    pub const NOT_ACCEPTED: u16 = 24;
+    // The buffer is shorter than the trimmed image.
+    pub const SHORT: u16 = 25;
+}
