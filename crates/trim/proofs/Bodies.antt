@@ -18,7 +18,8 @@ module _ (f g b : List ℕ) (k p : ℕ) (o : List ℕ) where
     unfolding renewedBody
     of-thread = rw (eq-eqb _ _ e)
 
-    pub thread-fits : p + length (renewedBody f g k b) ≤ length o → p + length (threadBytes (map (renewedInstruction f) (instructions b))) ≤ length o
+    pub thread-fits : p + length (renewedBody f g k b) ≤ length o
+        → p + length (threadBytes (map (renewedInstruction f) (instructions b))) ≤ length o
     thread-fits h = rw of-thread at h
 
   module _ (t : k ≡ Kinds.thread → ⊥) where

@@ -41,7 +41,8 @@ module _ (g : ℕ → List ℕ) (o : List ℕ) (p : ℕ) where
   unfolding joined
   join-start = sym (add-zero p)
 
-  module _ (w : List ℕ) (q i n : ℕ) (room : p + length (joined g n) ≤ length o) (d : w ≡ overwritten o p (joined g i)) (e : q ≡ p + length (joined g i)) where
+  module _ (w : List ℕ) (q i n : ℕ) (room : p + length (joined g n) ≤ length o) (d : w ≡ overwritten o p (joined g i))
+      (e : q ≡ p + length (joined g i)) where
     module _ (lt : i < n) where
       -- there is room for the next piece, and it is written
       pub join-room : q + length (g i) ≤ length w

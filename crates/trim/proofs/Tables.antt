@@ -22,7 +22,8 @@ unfolding numbersTo
 table-at m zero i h k = absurd (omega arith)
 table-at m (suc n) i h k = go (eqb i n) refl (λ j. table-at m n i j (omega arith))
   where
-    go : (b : Bool) → eqb i n ≡ b → (i < n → getD (numbersTo m n) i 0 ≡ renumbered m i) → getD (set (numbersTo m n) n (renumbered m n)) i 0 ≡ renumbered m i
+    go : (b : Bool) → eqb i n ≡ b → (i < n → getD (numbersTo m n) i 0 ≡ renumbered m i)
+        → getD (set (numbersTo m n) n (renumbered m n)) i 0 ≡ renumbered m i
     go true e f =
         let q : i ≡ n = eqb-true i n e in
         let j : n < length (numbersTo m n) = rw (table-length m n) (omega arith) in
