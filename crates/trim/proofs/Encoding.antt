@@ -1,11 +1,11 @@
 -- What is written is the trimmed document's bytes.
 use mathlib.Core.Path.{_≡_, refl, ap, sym, _∙_, fun-ext}
 use mathlib.Core.Bool.{Bool, false, cond}
-use mathlib.Core.List.{List, [], _∷_, _++_, map, append-assoc}
+use mathlib.Core.List.{List, [], _++_, map, append-assoc}
 use Prim.Native.Nat.{ℕ, _+_, _≤_}
 use native.Mathlib.Nat.{zero-add}
 use native.Mathlib.Omega.{arith}
-use lib.ListN.{length, getD, take, drop}
+use lib.ListN.{length, getD, drop}
 use Rattle.logic.specs.Obligations.{flat}
 use Rattle.limits.specs.Numbers.{numbers}
 use Rattle.frames.specs.Kinds as Kinds
@@ -14,7 +14,7 @@ use Rattle.program.specs.declared.sizes.Sizes.{Sizes}
 use Rattle.program.specs.declared.instruction.Instruction.{Instruction}
 use Rattle.image.specs.Decode.{recordCount}
 use Rattle.content.proofs.Sums.{flat-append}
-use Rattle.document.specs.Document.{Document, LineRecord, ClaimRecord}
+use Rattle.document.specs.Document.{Document, ClaimRecord}
 use Rattle.document.specs.Encode.{framed, entry, entries, itself, threadBytes, numberBytes, lineBytes, claimBytes, entriesOf, encode}
 use Rattle.document.specs.Parse.{lineRecord, claimRecord, part, documentOf}
 use Rattle.trimmed.specs.Kept.{chosen, selected, renumbered, newNumbers}

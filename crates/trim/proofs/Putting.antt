@@ -1,10 +1,10 @@
 -- What the functions of put.rt leave in the buffer.
-use mathlib.Core.Path.{_≡_, refl, ap, sym, _∙_}
+use mathlib.Core.Path.{_≡_, ap, sym, _∙_}
 use mathlib.Core.List.{List, [], _∷_, _++_, append-assoc}
-use Prim.Native.Nat.{ℕ, suc, _+_, _-_, _/_, _%_, _≤_, _<_}
+use Prim.Native.Nat.{ℕ, _+_, _-_, _/_, _%_, _≤_, _<_}
 use native.Mathlib.Numerals.{add-one}
 use native.Mathlib.Omega.{arith}
-use lib.ListN.{length, getD, set, take, drop, length-append}
+use lib.ListN.{length, getD, set, take, length-append}
 use lib.Seq.{take-suc, take-all, length-take-le}
 use Rattle.report.specs.Record.{two}
 use Rattle.trim.specs.Overwritten.{overwritten}
@@ -123,7 +123,5 @@ module _ (x y z X : List ℕ) where
 
         pub three-put : (v : List ℕ) → v ≡ overwritten u r z → v ≡ overwritten o p X
         three-put v dv = rw (e, ← append-assoc x y z) (then-put o p (x ++ y) z u v r two-room two-parts two-end dv)
-
-pub ruleset twofold = (pair-end, pair-put)
 
 pub ruleset threefold = (three-end, three-put)

@@ -1,12 +1,11 @@
 -- A thread's record is written: its points, and its instructions one behind the other.
-use mathlib.Core.Path.{_≡_, refl, ap, sym, _∙_}
-use mathlib.Core.Bool.{Bool, true, false, cond}
+use mathlib.Core.Path.{_≡_, refl, _∙_}
+use mathlib.Core.Bool.{Bool, true, false}
 use mathlib.Core.List.{List, [], _∷_, _++_, map}
-use Prim.Native.Nat.{ℕ, zero, suc, _+_, _-_, _≤_, _<_}
+use Prim.Native.Nat.{ℕ, _+_, _-_, _≤_, _<_}
 use native.Mathlib.Nat.{add-zero}
 use native.Mathlib.Omega.{arith}
-use lib.ListN.{length, getD, length-map, length-append}
-use Rattle.limits.specs.Numbers.{word, numbers}
+use lib.ListN.{length, getD, length-map}
 use Rattle.program.specs.Instruction.{twofold}
 use Rattle.program.specs.Thread.{lastPoint, instructions, nothing}
 use Rattle.program.specs.declared.instruction.Half.{Half}
@@ -19,7 +18,7 @@ use Rattle.trim.specs.Overwritten.{overwritten}
 use Rattle.trim.specs.Pieces.{joined, instructionPiece}
 use Rattle.trim.specs.Parts.{secondBytes}
 use Rattle.trim.specs.Renewed.{renewed, renewedHalf, renewedInstruction}
-use Rattle.trim.proofs.Overwriting.{over-none, over-length}
+use Rattle.trim.proofs.Overwriting.{over-none}
 use Rattle.trim.proofs.Putting.{then-put, then-room}
 use Rattle.trim.proofs.Joining.{join-room}
 use Rattle.trim.proofs.Flat.{flat-map, joined-flat}

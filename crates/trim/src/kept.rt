@@ -7,7 +7,7 @@ ghost use lib.ListN.{length, getD};
 ghost use Rattle.frames.specs.Records.{bodies, indexOf};
 ghost use Rattle.trim.specs.Overwritten.{overwritten};
 ghost use Rattle.trim.specs.Pieces.{joined};
-ghost use Rattle.trim.specs.Records.{recordBytes, recordPiece, keptPiece};
+ghost use Rattle.trim.specs.Records.{recordPiece, keptPiece};
 
 // The record at i, from 0.
 fn put_next<'a, 'b, 'c, 'd, 'e>(
