@@ -1,5 +1,5 @@
 -- A body is written as its kind says.
-use mathlib.Core.Path.{_≡_, refl, ap, sym, _∙_}
+use mathlib.Core.Path.{_≡_}
 use mathlib.Core.List.{List, map}
 use Prim.Native.Nat.{ℕ, _+_, _≤_}
 use borrow.Author.Tests.{eq-eqb, ne-eqb}
@@ -18,7 +18,8 @@ module _ (f g b : List ℕ) (k p : ℕ) (o : List ℕ) where
     unfolding renewedBody
     of-thread = rw (eq-eqb _ _ e)
 
-    pub thread-fits : p + length (renewedBody f g k b) ≤ length o → p + length (threadBytes (map (renewedInstruction f) (instructions b))) ≤ length o
+    pub thread-fits : p + length (renewedBody f g k b) ≤ length o
+        → p + length (threadBytes (map (renewedInstruction f) (instructions b))) ≤ length o
     thread-fits h = rw of-thread at h
 
   module _ (t : k ≡ Kinds.thread → ⊥) where

@@ -1,11 +1,11 @@
 -- What is written is the trimmed document's bytes.
 use mathlib.Core.Path.{_≡_, refl, ap, sym, _∙_, fun-ext}
 use mathlib.Core.Bool.{Bool, false, cond}
-use mathlib.Core.List.{List, [], _∷_, _++_, map, append-assoc}
+use mathlib.Core.List.{List, [], _++_, map, append-assoc}
 use Prim.Native.Nat.{ℕ, _+_, _≤_}
 use native.Mathlib.Nat.{zero-add}
 use native.Mathlib.Omega.{arith}
-use lib.ListN.{length, getD, take, drop}
+use lib.ListN.{length, getD, drop}
 use Rattle.logic.specs.Obligations.{flat}
 use Rattle.limits.specs.Numbers.{numbers}
 use Rattle.frames.specs.Kinds as Kinds
@@ -14,7 +14,7 @@ use Rattle.program.specs.declared.sizes.Sizes.{Sizes}
 use Rattle.program.specs.declared.instruction.Instruction.{Instruction}
 use Rattle.image.specs.Decode.{recordCount}
 use Rattle.content.proofs.Sums.{flat-append}
-use Rattle.document.specs.Document.{Document, LineRecord, ClaimRecord}
+use Rattle.document.specs.Document.{Document, ClaimRecord}
 use Rattle.document.specs.Encode.{framed, entry, entries, itself, threadBytes, numberBytes, lineBytes, claimBytes, entriesOf, encode}
 use Rattle.document.specs.Parse.{lineRecord, claimRecord, part, documentOf}
 use Rattle.trimmed.specs.Kept.{chosen, selected, renumbered, newNumbers}
@@ -23,7 +23,8 @@ use Rattle.trim.specs.Overwritten.{overwritten}
 use Rattle.trim.specs.Pieces.{joined}
 use Rattle.trim.specs.Records.{renewedBody, recordBytes, recordPiece, keptPiece, listBytes}
 use Rattle.trim.specs.Renewed.{renewed, renewedInstruction, renewedLine, renewedClaim}
-use Rattle.trim.specs.Whole.{formulasBytes, threadsBytes, outlineBytes, linesBytes, obligationsBytes, claimsBytes, programBytes, certificateBytes, behindBytes, wholeBytes}
+use Rattle.trim.specs.Whole.{formulasBytes, threadsBytes, outlineBytes, linesBytes, obligationsBytes, claimsBytes}
+use Rattle.trim.specs.Whole.{programBytes, certificateBytes, behindBytes, wholeBytes}
 use Rattle.trim.proofs.Flat.{flat-map, chosen-map, joined-part, joined-kept}
 use Rattle.trim.proofs.Tables.{renewed-new}
 
@@ -56,12 +57,14 @@ module _ (f g : List ℕ) (a c : ℕ → ℕ) (ef : renewed f ≡ a) (eg : renew
   unfolding recordBytes renewedBody
   header-are = refl
 
-  list-are : (t : List ℕ) (d : ℕ → ℕ) → renewed t ≡ d → (k n m : ℕ) → listBytes t l k n m ≡ framed (entry k (numberBytes (map d (numbers m (getD l n [])))))
+  list-are : (t : List ℕ) (d : ℕ → ℕ) → renewed t ≡ d → (k n m : ℕ)
+      → listBytes t l k n m ≡ framed (entry k (numberBytes (map d (numbers m (getD l n [])))))
   unfolding listBytes
   list-are t d e k n m = rw e
 
   module _ (n m : ℕ) (there : n + m ≤ length l) where
-    formulas-are : (u : List Bool) → joined (keptPiece f g l u Kinds.formula n) m ≡ flat framed (entries Kinds.formula itself (selected u (part n m l)))
+    formulas-are : (u : List Bool)
+        → joined (keptPiece f g l u Kinds.formula n) m ≡ flat framed (entries Kinds.formula itself (selected u (part n m l)))
     unfolding keptPiece recordBytes renewedBody selected
     formulas-are u =
         joined-kept (λ b. framed (entry Kinds.formula b)) [] l n m (keptPiece f g l u Kinds.formula n) there u (λ i. refl)
@@ -71,9 +74,11 @@ module _ (f g : List ℕ) (a c : ℕ → ℕ) (ef : renewed f ≡ a) (eg : renew
         ≡ flat framed (entries Kinds.thread threadBytes (map (λ b. map (instructionBy a c) b) (map instructions (part n m l))))
     unfolding recordPiece recordBytes
     threads-are =
-        joined-part (λ b. framed (entry Kinds.thread (threadBytes (map (instructionBy a c) (instructions b))))) [] l n m (recordPiece f g l Kinds.thread n) there
+        joined-part (λ b. framed (entry Kinds.thread (threadBytes (map (instructionBy a c) (instructions b))))) [] l n m
+        (recordPiece f g l Kinds.thread n) there
         (λ i. ap (λ b. framed (entry Kinds.thread b)) (thread-body (getD l (n + i) [])))
-        ∙ sym (flat-map (λ x. entry Kinds.thread (threadBytes x)) framed (map (λ b. map (instructionBy a c) b) (map instructions (part n m l)))
+        ∙ sym (flat-map (λ x. entry Kinds.thread (threadBytes x)) framed
+        (map (λ b. map (instructionBy a c) b) (map instructions (part n m l)))
         ∙ (flat-map (λ b. map (instructionBy a c) b) (λ x. framed (entry Kinds.thread (threadBytes x))) (map instructions (part n m l))
         ∙ flat-map instructions (λ b. framed (entry Kinds.thread (threadBytes (map (instructionBy a c) b)))) (part n m l)))
 
@@ -81,17 +86,20 @@ module _ (f g : List ℕ) (a c : ℕ → ℕ) (ef : renewed f ≡ a) (eg : renew
         ≡ flat framed (entries Kinds.line lineBytes (map (lineBy a c) (selected k (map lineRecord (part n m l)))))
     unfolding keptPiece recordBytes selected
     lines-are k =
-        joined-kept (λ b. framed (entry Kinds.line (lineBytes (lineBy a c (lineRecord b))))) [] l n m (keptPiece f g l k Kinds.line n) there k
+        joined-kept (λ b. framed (entry Kinds.line (lineBytes (lineBy a c (lineRecord b))))) [] l n m
+        (keptPiece f g l k Kinds.line n) there k
         (λ i. ap (λ b. cond (getD k (i + 1) false) (framed (entry Kinds.line b)) []) (line-body (getD l (n + i) [])))
         ∙ sym (flat-map (λ x. entry Kinds.line (lineBytes x)) framed (map (lineBy a c) (chosen (drop 1 k) (map lineRecord (part n m l))))
         ∙ (flat-map (lineBy a c) (λ x. framed (entry Kinds.line (lineBytes x))) (chosen (drop 1 k) (map lineRecord (part n m l)))
         ∙ (ap (flat (λ x. framed (entry Kinds.line (lineBytes (lineBy a c x))))) (chosen-map lineRecord (drop 1 k) (part n m l))
         ∙ flat-map lineRecord (λ x. framed (entry Kinds.line (lineBytes (lineBy a c x)))) (chosen (drop 1 k) (part n m l)))))
 
-    claims-are : joined (recordPiece f g l Kinds.claim n) m ≡ flat framed (entries Kinds.claim claimBytes (map (claimBy a c) (map claimRecord (part n m l))))
+    claims-are : joined (recordPiece f g l Kinds.claim n) m
+        ≡ flat framed (entries Kinds.claim claimBytes (map (claimBy a c) (map claimRecord (part n m l))))
     unfolding recordPiece recordBytes
     claims-are =
-        joined-part (λ b. framed (entry Kinds.claim (claimBytes (claimBy a c (claimRecord b))))) [] l n m (recordPiece f g l Kinds.claim n) there
+        joined-part (λ b. framed (entry Kinds.claim (claimBytes (claimBy a c (claimRecord b))))) [] l n m
+        (recordPiece f g l Kinds.claim n) there
         (λ i. ap (λ b. framed (entry Kinds.claim b)) (claim-body (getD l (n + i) [])))
         ∙ sym (flat-map (λ x. entry Kinds.claim (claimBytes x)) framed (map (claimBy a c) (map claimRecord (part n m l)))
         ∙ (flat-map (claimBy a c) (λ x. framed (entry Kinds.claim (claimBytes x))) (map claimRecord (part n m l))
@@ -112,7 +120,8 @@ encode-is D = simp flat-append
 seven : (a b c d e f g : List ℕ) → (a ++ (b ++ c)) ++ ((d ++ (e ++ f)) ++ g) ≡ a ++ (b ++ (c ++ (d ++ (e ++ (f ++ g)))))
 seven a b c d e f g = simp append-assoc
 
-module _ (z : Sizes) (l : List (List ℕ)) (u k : List Bool) (f g : List ℕ) (ef : f ≡ newNumbers u) (eg : g ≡ newNumbers k) (el : length l ≡ recordCount z) where
+module _ (z : Sizes) (l : List (List ℕ)) (u k : List Bool) (f g : List ℕ) (ef : f ≡ newNumbers u) (eg : g ≡ newNumbers k)
+    (el : length l ≡ recordCount z) where
   by-f : renewed f ≡ renumbered u
   by-f = ap renewed ef ∙ renewed-new u
 
@@ -140,12 +149,14 @@ module _ (z : Sizes) (l : List (List ℕ)) (u k : List Bool) (f g : List ℕ) (e
 
   lines-so : linesBytes z f g l k ≡ flat framed (entries Kinds.line lineBytes (trimmed .lines))
   unfolding linesBytes documentOf
-  lines-so = let h = count in lines-are f g (renumbered u) (renumbered k) by-f by-g l (z .formulas + z .threads + 2) (z .lines) (omega arith) k
+  lines-so =
+      let h = count in lines-are f g (renumbered u) (renumbered k) by-f by-g l (z .formulas + z .threads + 2) (z .lines) (omega arith) k
 
   obligations-so : obligationsBytes z g l ≡ framed (entry Kinds.obligations (numberBytes (trimmed .obligations)))
   unfolding obligationsBytes documentOf
   obligations-so =
-      list-are f g (renumbered u) (renumbered k) by-f by-g l g (renumbered k) by-g Kinds.obligations (z .formulas + z .threads + 1 + z .lines + 1) _
+      list-are f g (renumbered u) (renumbered k) by-f by-g l g (renumbered k) by-g Kinds.obligations
+      (z .formulas + z .threads + 1 + z .lines + 1) _
 
   claims-so : claimsBytes z f g l ≡ flat framed (entries Kinds.claim claimBytes (trimmed .claims))
   unfolding claimsBytes documentOf
@@ -160,7 +171,8 @@ module _ (z : Sizes) (l : List (List ℕ)) (u k : List Bool) (f g : List ℕ) (e
   pub whole-encodes : wholeBytes z f g l u k ≡ encode (trimmedBy u k (documentOf z l))
   unfolding wholeBytes programBytes certificateBytes behindBytes
   whole-encodes =
-      seven (recordBytes f g l Kinds.header 0) (formulasBytes z f g l u) (threadsBytes z f g l) (outlineBytes z f l) (linesBytes z f g l k) (obligationsBytes z g l)
+      seven (recordBytes f g l Kinds.header 0) (formulasBytes z f g l u) (threadsBytes z f g l) (outlineBytes z f l)
+      (linesBytes z f g l k) (obligationsBytes z g l)
       (claimsBytes z f g l)
       ∙ (rw (header-so, formulas-so, threads-so, outline-so, lines-so, obligations-so, claims-so, encode-is trimmed))
 

@@ -56,7 +56,8 @@ module _ {A : Type 0} (h : A → List ℕ) (d : A) (l : List A) (m : List Bool) 
   flat-one true x = append-nil (h x)
   flat-one false x = refl
 
-  joined-chosen : (n : ℕ) → n ≤ length l → ((i : ℕ) → g i ≡ cond (getD m i false) (h (getD l i d)) []) → joined g n ≡ flat h (chosen m (take n l))
+  joined-chosen : (n : ℕ) → n ≤ length l → ((i : ℕ) → g i ≡ cond (getD m i false) (h (getD l i d)) [])
+      → joined g n ≡ flat h (chosen m (take n l))
   unfolding joined
   joined-chosen zero k e = sym (ap (flat h) (chosen-nil m))
   joined-chosen (suc n) k e =
@@ -80,4 +81,5 @@ module _ {A : Type 0} (h : A → List ℕ) (d : A) (l : List A) (k n : ℕ) (g :
   pub joined-kept : (m : List Bool) → ((i : ℕ) → g i ≡ cond (getD m (i + 1) false) (h (getD l (k + i) d)) [])
       → joined g n ≡ flat h (chosen (drop 1 m) (take n (drop k l)))
   joined-kept m e =
-      joined-chosen h d (drop k l) (drop 1 m) g n enough (λ i. let q : 1 + i ≡ i + 1 = omega arith in e i ∙ (rw (getD-drop k l i d, getD-drop 1 m i false, q)))
+      joined-chosen h d (drop k l) (drop 1 m) g n enough (λ i. let q : 1 + i ≡ i + 1 = omega arith in e i ∙
+      (rw (getD-drop k l i d, getD-drop 1 m i false, q)))

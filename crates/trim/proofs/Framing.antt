@@ -1,9 +1,9 @@
 -- A body is written behind the place of its length and kind, then these in front of it.
-use mathlib.Core.Path.{_≡_, refl, ap, sym, _∙_}
-use mathlib.Core.List.{List, [], _∷_, _++_, map, append-assoc}
-use Prim.Native.Nat.{ℕ, _+_, _-_, _≤_, _<_}
+use mathlib.Core.Path.{_≡_, refl, _∙_}
+use mathlib.Core.List.{List, [], _++_, map}
+use Prim.Native.Nat.{ℕ, _+_, _-_, _≤_}
 use native.Mathlib.Omega.{arith}
-use lib.ListN.{length, getD, length-append}
+use lib.ListN.{length, getD}
 use Rattle.limits.specs.Numbers.{numbers}
 use Rattle.report.specs.Record.{two}
 use Rattle.document.specs.Encode.{framed, entry, numberBytes}
@@ -53,7 +53,8 @@ module _ (l : List (List ℕ)) (n k : ℕ) (b o : List ℕ) (p : ℕ) (eb : b �
       pub record-room : p + 4 + length (renewedBody f g k b) ≤ length o
       record-room = frame-room k (renewedBody f g k b) o p (rw record-is at room)
 
-      module _ (w : List ℕ) (q : ℕ) (d : w ≡ overwritten o (p + 4) (renewedBody f g k b)) (e : q ≡ p + 4 + length (renewedBody f g k b)) where
+      module _ (w : List ℕ) (q : ℕ) (d : w ≡ overwritten o (p + 4) (renewedBody f g k b))
+          (e : q ≡ p + 4 + length (renewedBody f g k b)) where
         pub record-behind : q ≤ length w
         record-behind = frame-behind k (renewedBody f g k b) o p (rw record-is at room) w q d e
 
@@ -75,14 +76,16 @@ module _ (l : List (List ℕ)) (n k : ℕ) (b o : List ℕ) (p : ℕ) (eb : b �
       pub list-room : p + 4 + length (numberBytes (map (renewed t) (numbers c b))) ≤ length o
       list-room = frame-room k listed o p (rw list-is at room)
 
-      module _ (w : List ℕ) (q : ℕ) (d : w ≡ overwritten o (p + 4) (numberBytes (map (renewed t) (numbers c b)))) (e : q ≡ p + 4 + length (numberBytes (map (renewed t) (numbers c b)))) where
+      module _ (w : List ℕ) (q : ℕ) (d : w ≡ overwritten o (p + 4) (numberBytes (map (renewed t) (numbers c b))))
+          (e : q ≡ p + 4 + length (numberBytes (map (renewed t) (numbers c b)))) where
         pub list-behind : q ≤ length w
         list-behind = frame-behind k listed o p (rw list-is at room) w q d e
 
         pub list-put : (v : List ℕ) → v ≡ overwritten w p (two (q - p - 2) ++ two k) → v ≡ overwritten o p (listBytes t l k n c)
         list-put v a = rw list-is (frame-whole k listed o p (rw list-is at room) w q d e v a)
 
-    pub list-end : (q r : ℕ) → q ≡ p + 4 + length (numberBytes (map (renewed t) (numbers c b))) → r ≡ q → r ≡ p + length (listBytes t l k n c)
+    pub list-end : (q r : ℕ) → q ≡ p + 4 + length (numberBytes (map (renewed t) (numbers c b))) → r ≡ q
+        → r ≡ p + length (listBytes t l k n c)
     list-end q r e d = rw list-is (frame-end k listed o p q r e d)
 
 pub ruleset recording = (record-room, record-behind, record-put, record-end)

@@ -1,14 +1,14 @@
 -- A loop that writes n pieces, one behind the other.
-use mathlib.Core.Path.{_≡_, refl, ap, sym, _∙_}
-use mathlib.Core.List.{List, [], _∷_, _++_, append-assoc}
+use mathlib.Core.Path.{_≡_, sym}
+use mathlib.Core.List.{List, _++_}
 use Prim.Native.Nat.{ℕ, zero, suc, _+_, _-_, _≤_, _<_}
 use native.Mathlib.Nat.{add-zero}
 use native.Mathlib.Numerals.{add-one}
 use native.Mathlib.Omega.{arith}
-use lib.ListN.{length, getD, take, length-append}
+use lib.ListN.{length, length-append}
 use Rattle.trim.specs.Overwritten.{overwritten}
 use Rattle.trim.specs.Pieces.{joined}
-use Rattle.trim.proofs.Overwriting.{over-none, over-length, over-behind}
+use Rattle.trim.proofs.Overwriting.{over-none, over-length}
 use Rattle.trim.proofs.Putting.{then-put}
 
 module _ (g : ℕ → List ℕ) where
@@ -41,7 +41,8 @@ module _ (g : ℕ → List ℕ) (o : List ℕ) (p : ℕ) where
   unfolding joined
   join-start = sym (add-zero p)
 
-  module _ (w : List ℕ) (q i n : ℕ) (room : p + length (joined g n) ≤ length o) (d : w ≡ overwritten o p (joined g i)) (e : q ≡ p + length (joined g i)) where
+  module _ (w : List ℕ) (q i n : ℕ) (room : p + length (joined g n) ≤ length o) (d : w ≡ overwritten o p (joined g i))
+      (e : q ≡ p + length (joined g i)) where
     module _ (lt : i < n) where
       -- there is room for the next piece, and it is written
       pub join-room : q + length (g i) ≤ length w

@@ -1,5 +1,5 @@
 -- Records one behind the other: all, or those with a mark.
-use mathlib.Core.Path.{_≡_, refl, ap, sym, _∙_}
+use mathlib.Core.Path.{_≡_, sym}
 use mathlib.Core.Bool.{Bool, true, false}
 use mathlib.Core.List.{List, []}
 use Prim.Native.Nat.{ℕ, _+_, _≤_, _<_}
@@ -12,12 +12,14 @@ use Rattle.trim.proofs.Overwriting.{over-none}
 use Rattle.trim.proofs.Joining.{join-room}
 
 module _ (f g : List ℕ) (l : List (List ℕ)) (k n : ℕ) where
-  pub next-room : (o w : List ℕ) (p q i c : ℕ) → p + length (joined (recordPiece f g l k n) c) ≤ length o → w ≡ overwritten o p (joined (recordPiece f g l k n) i)
+  pub next-room : (o w : List ℕ) (p q i c : ℕ) → p + length (joined (recordPiece f g l k n) c) ≤ length o
+      → w ≡ overwritten o p (joined (recordPiece f g l k n) i)
       → q ≡ p + length (joined (recordPiece f g l k n) i) → i < c → q + length (recordPiece f g l k n i) ≤ length w
   next-room o w p q i c = join-room (recordPiece f g l k n) o p w q i c
 
   module _ (m : List Bool) where
-    pub kept-next : (o w : List ℕ) (p q i c : ℕ) → p + length (joined (keptPiece f g l m k n) c) ≤ length o → w ≡ overwritten o p (joined (keptPiece f g l m k n) i)
+    pub kept-next : (o w : List ℕ) (p q i c : ℕ) → p + length (joined (keptPiece f g l m k n) c) ≤ length o
+        → w ≡ overwritten o p (joined (keptPiece f g l m k n) i)
         → q ≡ p + length (joined (keptPiece f g l m k n) i) → i < c → q + length (keptPiece f g l m k n i) ≤ length w
     kept-next o w p q i c = join-room (keptPiece f g l m k n) o p w q i c
 

@@ -1,13 +1,12 @@
 -- A line is written in three parts, a claim in two.
-use mathlib.Core.Path.{_≡_, refl, ap, sym, _∙_}
+use mathlib.Core.Path.{_≡_, _∙_}
 use mathlib.Core.List.{List, [], _∷_, _++_, map}
-use Prim.Native.Nat.{ℕ, zero, suc, _+_, _-_, _≤_, _<_}
+use Prim.Native.Nat.{ℕ, _+_, _-_, _≤_}
 use native.Mathlib.Omega.{arith}
 use lib.ListN.{length, getD, drop, length-map}
 use Rattle.limits.specs.Numbers.{word, numbers}
 use Rattle.limits.proofs.Numbers.{numbers-length}
 use Rattle.records.specs.Line.{premises}
-use Rattle.content.specs.Certificate.{left, right}
 use Rattle.report.specs.Record.{two}
 use Rattle.document.specs.Encode.{numberBytes, lineBytes, claimBytes}
 use Rattle.document.specs.Parse.{lineRecord, claimRecord}
@@ -35,11 +34,13 @@ module _ (f b o : List ℕ) (p : ℕ) where
   unfolding rightBytes
   right-room h = omega arith
 
-  pub right-next : (w : List ℕ) (q n : ℕ) → p + length (rightBytes f b) ≤ length o → w ≡ overwritten o p (two n) → q ≡ p + 2 → q + 1 ≤ length w
+  pub right-next : (w : List ℕ) (q n : ℕ) → p + length (rightBytes f b) ≤ length o → w ≡ overwritten o p (two n) → q ≡ p + 2
+      → q + 1 ≤ length w
   unfolding rightBytes
   right-next w q n h d e = then-room o p (two n) (0 ∷ []) w q h d e
 
-  pub right-put : (w v : List ℕ) (q m n x : ℕ) → p + length (rightBytes f b) ≤ length o → m ≡ word (drop 5 b) → n ≡ renewed f m → x ≡ getD b 7 0
+  pub right-put : (w v : List ℕ) (q m n x : ℕ) → p + length (rightBytes f b) ≤ length o → m ≡ word (drop 5 b) → n ≡ renewed f m
+      → x ≡ getD b 7 0
       → w ≡ overwritten o p (two n) → q ≡ p + 2 → v ≡ overwritten w q (x ∷ []) → v ≡ overwritten o p (rightBytes f b)
   unfolding rightBytes
   right-put w v q m n x h em en ex d e c = then-put o p (two n) (x ∷ []) w v q h d e c ∙ (rw (en, em, ex))
@@ -56,7 +57,8 @@ module _ (g b l : List ℕ) (n : ℕ) (el : l ≡ drop 8 b) (en : n ≡ getD b 7
   unfolding premises
   premises-are = rw (el, en)
 
-  pub premises-room : (p m : ℕ) → p + length (numberBytes (map (renewed g) (premises b))) ≤ m → p + length (numberBytes (map (renewed g) (numbers n l))) ≤ m
+  pub premises-room : (p m : ℕ) → p + length (numberBytes (map (renewed g) (premises b))) ≤ m
+      → p + length (numberBytes (map (renewed g) (numbers n l))) ≤ m
   premises-room p m h = rw premises-are h
 
   pub premises-put : (o v : List ℕ) (p : ℕ) → v ≡ overwritten o p (numberBytes (map (renewed g) (numbers n l)))
@@ -86,11 +88,13 @@ module _ (f g b : List ℕ) where
 
     module _ (w : List ℕ) (q : ℕ) (dw : w ≡ overwritten o p (leftBytes f b)) (eq : q ≡ p + length (leftBytes f b)) where
       pub line-second : q + length (rightBytes f b) ≤ length w
-      line-second = three-second (leftBytes f b) (rightBytes f b) listed (lineBytes (renewedLine f g (lineRecord b))) o p room line-is w q dw eq
+      line-second =
+          three-second (leftBytes f b) (rightBytes f b) listed (lineBytes (renewedLine f g (lineRecord b))) o p room line-is w q dw eq
 
       pub line-third : (u : List ℕ) (r : ℕ) → u ≡ overwritten w q (rightBytes f b) → r ≡ q + length (rightBytes f b)
           → r + length (numberBytes (map (renewed g) (premises b))) ≤ length u
-      line-third = three-third (leftBytes f b) (rightBytes f b) listed (lineBytes (renewedLine f g (lineRecord b))) o p room line-is w q dw eq
+      line-third =
+          three-third (leftBytes f b) (rightBytes f b) listed (lineBytes (renewedLine f g (lineRecord b))) o p room line-is w q dw eq
 
 pub ruleset lining = (line-is, line-first, line-second, line-third)
 
@@ -99,7 +103,8 @@ module _ (g b o : List ℕ) (p : ℕ) where
   unfolding claimBytes renewedClaim claimBy
   claim-room h = omega arith
 
-  pub claim-next : (w : List ℕ) (q x : ℕ) → p + length (claimBytes (renewedClaim g (claimRecord b))) ≤ length o → w ≡ overwritten o p (x ∷ []) → q ≡ p + 1
+  pub claim-next : (w : List ℕ) (q x : ℕ) → p + length (claimBytes (renewedClaim g (claimRecord b))) ≤ length o
+      → w ≡ overwritten o p (x ∷ []) → q ≡ p + 1
       → q + 5 ≤ length w
   unfolding claimBytes renewedClaim claimBy
   claim-next w q x h d e = then-room o p (x ∷ []) (0 ∷ 0 ∷ 0 ∷ 0 ∷ 0 ∷ []) w q h d e

@@ -1,7 +1,7 @@
 -- Bytes written behind others, or in front of them, are written at once.
-use mathlib.Core.Path.{_≡_, refl, ap, sym, _∙_}
-use mathlib.Core.List.{List, [], _∷_, _++_, append-assoc}
-use Prim.Native.Nat.{ℕ, zero, suc, _+_, _-_, _≤_, _<_}
+use mathlib.Core.Path.{_≡_, refl}
+use mathlib.Core.List.{List, [], _++_, append-assoc}
+use Prim.Native.Nat.{ℕ, _+_, _-_, _≤_}
 use native.Mathlib.Nat.{add-zero}
 use native.Mathlib.Omega.{arith}
 use lib.ListN.{length, take, drop, length-append, length-drop, take-append-drop}
@@ -21,7 +21,13 @@ module _ (o : List ℕ) (p : ℕ) where
     unfolding overwritten
     over-length h =
         let q : p ≤ length o = omega arith in
-        rw (length-append (take p o) (x ++ drop (p + length x) o), length-append x (drop (p + length x) o), length-take-le p o q, length-drop (p + length x) o) (omega arith)
+        rw (
+          length-append (take p o) (x ++ drop (p + length x) o),
+          length-append x
+              (drop (p + length x) o),
+          length-take-le p o q,
+          length-drop (p + length x) o,
+        ) (omega arith)
 
     over-take : p + length x ≤ length o → take (p + length x) (overwritten o p x) ≡ take p o ++ x
     unfolding overwritten
@@ -52,7 +58,14 @@ module _ (o : List ℕ) (p : ℕ) (x y : List ℕ) (h : p + (length x + length y
   over-behind =
       let q : p + length x ≤ length o = omega arith in
       let e : p + length x + length y ≡ p + (length x + length y) = omega arith in
-      rw (over-is (overwritten o p x) (p + length x) y, over-take o p x q, over-drop o p x (length y) q, e, append-assoc (take p o) x (y ++ drop (p + (length x + length y)) o))
+      rw (
+        over-is (overwritten o p x) (p + length x) y,
+        over-take o p x q,
+        over-drop o p x (length y) q,
+        e,
+        append-assoc (take p o) x
+            (y ++ drop (p + (length x + length y)) o),
+      )
       both
 
   pub over-before : overwritten (overwritten o (p + length x) y) p x ≡ overwritten o p (x ++ y)

@@ -1,10 +1,10 @@
 -- What the functions of put.rt leave in the buffer.
-use mathlib.Core.Path.{_≡_, refl, ap, sym, _∙_}
+use mathlib.Core.Path.{_≡_, ap, sym, _∙_}
 use mathlib.Core.List.{List, [], _∷_, _++_, append-assoc}
-use Prim.Native.Nat.{ℕ, suc, _+_, _-_, _/_, _%_, _≤_, _<_}
+use Prim.Native.Nat.{ℕ, _+_, _-_, _/_, _%_, _≤_, _<_}
 use native.Mathlib.Numerals.{add-one}
 use native.Mathlib.Omega.{arith}
-use lib.ListN.{length, getD, set, take, drop, length-append}
+use lib.ListN.{length, getD, set, take, length-append}
 use lib.Seq.{take-suc, take-all, length-take-le}
 use Rattle.report.specs.Record.{two}
 use Rattle.trim.specs.Overwritten.{overwritten}
@@ -15,15 +15,18 @@ module _ (o : List ℕ) (p : ℕ) where
   one-put x h = over-sets (x ∷ []) o p h
 
   -- first x, then y behind it
-  pub then-put : (x y w v : List ℕ) (q : ℕ) → p + (length x + length y) ≤ length o → w ≡ overwritten o p x → q ≡ p + length x → v ≡ overwritten w q y
+  pub then-put : (x y w v : List ℕ) (q : ℕ) → p + (length x + length y) ≤ length o → w ≡ overwritten o p x → q ≡ p + length x
+      → v ≡ overwritten w q y
       → v ≡ overwritten o p (x ++ y)
   then-put x y w v q h d e f = f ∙ (rw (d, e, over-behind o p x y h))
 
   -- and there is room for y
-  pub then-room : (x y w : List ℕ) (q : ℕ) → p + (length x + length y) ≤ length o → w ≡ overwritten o p x → q ≡ p + length x → q + length y ≤ length w
+  pub then-room : (x y w : List ℕ) (q : ℕ) → p + (length x + length y) ≤ length o → w ≡ overwritten o p x → q ≡ p + length x
+      → q + length y ≤ length w
   then-room x y w q h d e = rw (d, over-length o p x (omega arith)) (omega arith)
 
-  pub two-put : (n q : ℕ) (w v : List ℕ) → p + 2 ≤ length o → w ≡ overwritten o p (n % 256 ∷ []) → q ≡ p + 1 → v ≡ overwritten w q ((n / 256) % 256 ∷ [])
+  pub two-put : (n q : ℕ) (w v : List ℕ) → p + 2 ≤ length o → w ≡ overwritten o p (n % 256 ∷ []) → q ≡ p + 1
+      → v ≡ overwritten w q ((n / 256) % 256 ∷ [])
       → v ≡ overwritten o p (two n)
   two-put n q w v h = then-put (n % 256 ∷ []) ((n / 256) % 256 ∷ []) w v q h
 
@@ -35,7 +38,8 @@ module _ (o : List ℕ) (p : ℕ) where
       let b : t ≡ overwritten o p (x ∷ y ∷ z ∷ []) = then-put (x ∷ y ∷ []) (z ∷ []) u t r (omega arith) a (omega arith) dt in
       then-put (x ∷ y ∷ z ∷ []) (two n) t v s h b (omega arith)
 
-  pub frame-put : (e q k : ℕ) (w v : List ℕ) → p + 4 ≤ e → e ≤ length o → w ≡ overwritten o p (two (e - p - 2)) → q ≡ p + 2 → v ≡ overwritten w q (two k)
+  pub frame-put : (e q k : ℕ) (w v : List ℕ) → p + 4 ≤ e → e ≤ length o → w ≡ overwritten o p (two (e - p - 2)) → q ≡ p + 2
+      → v ≡ overwritten w q (two k)
       → v ≡ overwritten o p (two (e - p - 2) ++ two k)
   frame-put e q k w v g h = then-put (two (e - p - 2)) (two k) w v q (omega arith)
 
@@ -119,7 +123,5 @@ module _ (x y z X : List ℕ) where
 
         pub three-put : (v : List ℕ) → v ≡ overwritten u r z → v ≡ overwritten o p X
         three-put v dv = rw (e, ← append-assoc x y z) (then-put o p (x ++ y) z u v r two-room two-parts two-end dv)
-
-pub ruleset twofold = (pair-end, pair-put)
 
 pub ruleset threefold = (three-end, three-put)

@@ -1,12 +1,11 @@
 -- Numbers renewed, and written one behind the other.
-use mathlib.Core.Path.{_≡_, refl, ap, sym, _∙_}
-use mathlib.Core.Bool.{Bool, true, false, cond}
-use mathlib.Core.List.{List, [], _∷_, _++_, map}
-use Prim.Native.Nat.{ℕ, zero, suc, _+_, _-_, _≤_, _<_}
+use mathlib.Core.Path.{_≡_, refl, _∙_}
+use mathlib.Core.List.{List, map}
+use Prim.Native.Nat.{ℕ, _+_, _-_, _≤_, _<_}
 use native.Mathlib.Omega.{arith}
 use borrow.Author.Tests.{lt-ltb, le-ltb}
 use lib.ListN.{length, getD, List·getD-eq-default}
-use Rattle.limits.specs.Numbers.{word, numbers}
+use Rattle.limits.specs.Numbers.{numbers}
 use Rattle.limits.proofs.Numbers.{numbers-length}
 use Rattle.document.specs.Encode.{numberBytes}
 use Rattle.report.specs.Record.{two}
@@ -49,7 +48,8 @@ module _ (t b : List ℕ) (n : ℕ) where
       (rw e at (joined-flat (λ x. two (renewed t x)) 0 (numbers n b) (numberPiece t b n) (λ i. refl)))
 
   module _ (o w : List ℕ) (p q i : ℕ) where
-    pub numbers-room : p + length (numberBytes (map (renewed t) (numbers n b))) ≤ length o → p + length (joined (numberPiece t b n) n) ≤ length o
+    pub numbers-room : p + length (numberBytes (map (renewed t) (numbers n b))) ≤ length o
+        → p + length (joined (numberPiece t b n) n) ≤ length o
     numbers-room h = rw numbers-joined h
 
     pub numbers-next : p + length (joined (numberPiece t b n) n) ≤ length o → w ≡ overwritten o p (joined (numberPiece t b n) i)
@@ -57,7 +57,8 @@ module _ (t b : List ℕ) (n : ℕ) where
     numbers-next = join-room (numberPiece t b n) o p w q i n
 
     module _ (le : i ≤ n) (ge : n ≤ i) where
-      pub numbers-all : w ≡ overwritten o p (joined (numberPiece t b n) i) → w ≡ overwritten o p (numberBytes (map (renewed t) (numbers n b)))
+      pub numbers-all : w ≡ overwritten o p (joined (numberPiece t b n) i)
+          → w ≡ overwritten o p (numberBytes (map (renewed t) (numbers n b)))
       numbers-all d = let k : i ≡ n = omega arith in rw (k, numbers-joined) at d
 
       pub numbers-end : q ≡ p + length (joined (numberPiece t b n) i) → q ≡ p + length (numberBytes (map (renewed t) (numbers n b)))

@@ -5,7 +5,7 @@ use mathlib.Core.List.{List, [], _∷_}
 use Prim.Native.Nat.{ℕ, zero, suc, _+_, _-_, _≤_, _<_}
 use native.Mathlib.Omega.{arith}
 use lib.Dec.{eqb, ltb}
-use lib.ListN.{length, getD, set, drop, replicate, length-set, length-replicate}
+use lib.ListN.{length, getD, set, length-set, length-replicate}
 use lib.Seq.{getD-set-same, getD-set-other}
 use borrow.Author.Tests.{eqb-true, eqb-false, ltb-true, ltb-false}
 use Rattle.trimmed.specs.Kept.{setBelow, renumbered, numbersTo, newNumbers}
@@ -22,7 +22,8 @@ unfolding numbersTo
 table-at m zero i h k = absurd (omega arith)
 table-at m (suc n) i h k = go (eqb i n) refl (λ j. table-at m n i j (omega arith))
   where
-    go : (b : Bool) → eqb i n ≡ b → (i < n → getD (numbersTo m n) i 0 ≡ renumbered m i) → getD (set (numbersTo m n) n (renumbered m n)) i 0 ≡ renumbered m i
+    go : (b : Bool) → eqb i n ≡ b → (i < n → getD (numbersTo m n) i 0 ≡ renumbered m i)
+        → getD (set (numbersTo m n) n (renumbered m n)) i 0 ≡ renumbered m i
     go true e f =
         let q : i ≡ n = eqb-true i n e in
         let j : n < length (numbersTo m n) = rw (table-length m n) (omega arith) in

@@ -1,12 +1,11 @@
 -- A thread's record is written: its points, and its instructions one behind the other.
-use mathlib.Core.Path.{_≡_, refl, ap, sym, _∙_}
-use mathlib.Core.Bool.{Bool, true, false, cond}
+use mathlib.Core.Path.{_≡_, refl, _∙_}
+use mathlib.Core.Bool.{Bool, true, false}
 use mathlib.Core.List.{List, [], _∷_, _++_, map}
-use Prim.Native.Nat.{ℕ, zero, suc, _+_, _-_, _≤_, _<_}
+use Prim.Native.Nat.{ℕ, _+_, _-_, _≤_, _<_}
 use native.Mathlib.Nat.{add-zero}
 use native.Mathlib.Omega.{arith}
-use lib.ListN.{length, getD, length-map, length-append}
-use Rattle.limits.specs.Numbers.{word, numbers}
+use lib.ListN.{length, getD, length-map}
 use Rattle.program.specs.Instruction.{twofold}
 use Rattle.program.specs.Thread.{lastPoint, instructions, nothing}
 use Rattle.program.specs.declared.instruction.Half.{Half}
@@ -19,7 +18,7 @@ use Rattle.trim.specs.Overwritten.{overwritten}
 use Rattle.trim.specs.Pieces.{joined, instructionPiece}
 use Rattle.trim.specs.Parts.{secondBytes}
 use Rattle.trim.specs.Renewed.{renewed, renewedHalf, renewedInstruction}
-use Rattle.trim.proofs.Overwriting.{over-none, over-length}
+use Rattle.trim.proofs.Overwriting.{over-none}
 use Rattle.trim.proofs.Putting.{then-put, then-room}
 use Rattle.trim.proofs.Joining.{join-room}
 use Rattle.trim.proofs.Flat.{flat-map, joined-flat}
@@ -33,7 +32,8 @@ module _ (f : List ℕ) (op : ℕ) (h : Half) (o v : List ℕ) (p x r : ℕ) (b 
     pub second-room : p + length (secondBytes op (renewedHalf f h)) ≤ length o → p + 5 ≤ length o
     second-room k = rw both-halves at k
 
-    pub second-put : x ≡ renewed f (h .formula) → v ≡ overwritten o p (h .operation ∷ h .a ∷ h .b ∷ two x) → v ≡ overwritten o p (secondBytes op (renewedHalf f h))
+    pub second-put : x ≡ renewed f (h .formula) → v ≡ overwritten o p (h .operation ∷ h .a ∷ h .b ∷ two x)
+        → v ≡ overwritten o p (secondBytes op (renewedHalf f h))
     second-put e d = d ∙ (rw (e, both-halves))
 
     pub second-end : r ≡ p + 5 → r ≡ p + length (secondBytes op (renewedHalf f h))
@@ -77,7 +77,8 @@ module _ (f : List ℕ) (i : Instruction) (o : List ℕ) (p : ℕ) where
       pub instruction-next : q + length (secondBytes (i .operation) (renewedHalf f (i .second))) ≤ length w
       instruction-next = then-room o p (firstBytes x) behind w q whole d e
 
-      pub instruction-put : (v : List ℕ) → x ≡ renewed f (i .formula) → v ≡ overwritten w q (secondBytes (i .operation) (renewedHalf f (i .second)))
+      pub instruction-put : (v : List ℕ) → x ≡ renewed f (i .formula)
+          → v ≡ overwritten w q (secondBytes (i .operation) (renewedHalf f (i .second)))
           → v ≡ overwritten o p (instructionBytes (renewedInstruction f i))
       instruction-put v k c = rw (instruction-is, ← k) (then-put o p (firstBytes x) behind w v q whole d e c)
 
@@ -97,13 +98,15 @@ module _ (f b : List ℕ) where
     pub step-room : (p m : ℕ) → p + length (instructionPiece f b k) ≤ m → p + length (instructionBytes (renewedInstruction f i)) ≤ m
     step-room p m h = rw piece-is h
 
-    pub step-put : (o v : List ℕ) (p : ℕ) → v ≡ overwritten o p (instructionBytes (renewedInstruction f i)) → v ≡ overwritten o p (instructionPiece f b k)
+    pub step-put : (o v : List ℕ) (p : ℕ) → v ≡ overwritten o p (instructionBytes (renewedInstruction f i))
+        → v ≡ overwritten o p (instructionPiece f b k)
     step-put o v p d = rw piece-is at d
 
     pub step-end : (p r : ℕ) → r ≡ p + length (instructionBytes (renewedInstruction f i)) → r ≡ p + length (instructionPiece f b k)
     step-end p r d = rw piece-is at d
 
-  pub steps-next : (o w : List ℕ) (p q i n : ℕ) → p + length (joined (instructionPiece f b) n) ≤ length o → w ≡ overwritten o p (joined (instructionPiece f b) i)
+  pub steps-next : (o w : List ℕ) (p q i n : ℕ) → p + length (joined (instructionPiece f b) n) ≤ length o
+      → w ≡ overwritten o p (joined (instructionPiece f b) i)
       → q ≡ p + length (joined (instructionPiece f b) i) → i < n → q + length (instructionPiece f b i) ≤ length w
   steps-next o w p q i n = join-room (instructionPiece f b) o p w q i n
 
@@ -114,7 +117,8 @@ module _ (f b : List ℕ) where
       let j = joined-flat (λ i. instructionBytes (renewedInstruction f i)) nothing (instructions b) (instructionPiece f b) (λ i. refl) in
       rw (length-map (instructions b) (renewedInstruction f), flat-map (renewedInstruction f) instructionBytes (instructions b), ← j, e)
 
-  thread-size : length (threadBytes (map (renewedInstruction f) (instructions b))) ≡ 1 + length (joined (instructionPiece f b) (lastPoint b))
+  thread-size : length (threadBytes (map (renewedInstruction f) (instructions b)))
+      ≡ 1 + length (joined (instructionPiece f b) (lastPoint b))
   thread-size = rw thread-is (omega arith)
 
   module _ (o : List ℕ) (p : ℕ) (room : p + length (threadBytes (map (renewedInstruction f) (instructions b))) ≤ length o) where

@@ -14,10 +14,12 @@ ghost use Rattle.trim.specs.Renewed.{renewedClaim};
 
 pub fn put_claim<'a, 'b, 'c>(g: &'a [usize], b: &'b [u8], out: &'c mut [u8], at: usize) -> usize
     requires { ⌜ at + length (claimBytes (renewedClaim (now g) (claimRecord (now b)))) ≤ length (now out) ⌝ }
-    ensures { λ r. ⌜ now (out .exit) ≡ overwritten (now (out .entry)) at (claimBytes (renewedClaim (now (g .entry)) (claimRecord (now (b .entry))))) ⌝ }
+    ensures { λ r. ⌜ now (out .exit)
+        ≡ overwritten (now (out .entry)) at (claimBytes (renewedClaim (now (g .entry)) (claimRecord (now (b .entry))))) ⌝ }
     ensures { λ r. ⌜ r ≡ at + length (claimBytes (renewedClaim (now (g .entry)) (claimRecord (now (b .entry))))) ⌝ }
 {
-    let line = new_number(g, word_at(b, 4));
+    let old = word_at(b, 4);
+    let line = new_number(g, old);
     let next = put_byte(octet_at(b, 0), out, at);
     put_five(
         octet_at(b, 1),

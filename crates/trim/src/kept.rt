@@ -7,7 +7,7 @@ ghost use lib.ListN.{length, getD};
 ghost use Rattle.frames.specs.Records.{bodies, indexOf};
 ghost use Rattle.trim.specs.Overwritten.{overwritten};
 ghost use Rattle.trim.specs.Pieces.{joined};
-ghost use Rattle.trim.specs.Records.{recordBytes, recordPiece, keptPiece};
+ghost use Rattle.trim.specs.Records.{recordPiece, keptPiece};
 
 // The record at i, from 0.
 fn put_next<'a, 'b, 'c, 'd, 'e>(
@@ -24,7 +24,8 @@ fn put_next<'a, 'b, 'c, 'd, 'e>(
     requires { ⌜ now ix ≡ indexOf (now s) ⌝ }
     requires { ⌜ n + i < 1000000 ⌝ }
     requires { ⌜ at + length (recordPiece (now f) (now g) (bodies (now s)) kind n i) ≤ length (now out) ⌝ }
-    ensures { λ r. ⌜ now (out .exit) ≡ overwritten (now (out .entry)) at (recordPiece (now (f .entry)) (now (g .entry)) (bodies (now (s .entry))) kind n i) ⌝ }
+    ensures { λ r. ⌜ now (out .exit)
+        ≡ overwritten (now (out .entry)) at (recordPiece (now (f .entry)) (now (g .entry)) (bodies (now (s .entry))) kind n i) ⌝ }
     ensures { λ r. ⌜ r ≡ at + length (recordPiece (now (f .entry)) (now (g .entry)) (bodies (now (s .entry))) kind n i) ⌝ }
 {
     put_record(s, ix, f, g, kind, n + i, out, at)
@@ -45,7 +46,8 @@ pub fn put_records<'a, 'b, 'c, 'd, 'e>(
     requires { ⌜ now ix ≡ indexOf (now s) ⌝ }
     requires { ⌜ n + c < 1000000 ⌝ }
     requires { ⌜ at + length (joined (recordPiece (now f) (now g) (bodies (now s)) kind n) c) ≤ length (now out) ⌝ }
-    ensures { λ r. ⌜ now (out .exit) ≡ overwritten (now (out .entry)) at (joined (recordPiece (now (f .entry)) (now (g .entry)) (bodies (now (s .entry))) kind n) c) ⌝ }
+    ensures { λ r. ⌜ now (out .exit)
+        ≡ overwritten (now (out .entry)) at (joined (recordPiece (now (f .entry)) (now (g .entry)) (bodies (now (s .entry))) kind n) c) ⌝ }
     ensures { λ r. ⌜ r ≡ at + length (joined (recordPiece (now (f .entry)) (now (g .entry)) (bodies (now (s .entry))) kind n) c) ⌝ }
 {
     let mut next = at;
@@ -83,7 +85,9 @@ fn put_if_kept<'a, 'b, 'c, 'd, 'e, 'f>(
     requires { ⌜ now ix ≡ indexOf (now s) ⌝ }
     requires { ⌜ n + i < 1000000 ⌝ }
     requires { ⌜ at + length (keptPiece (now f) (now g) (bodies (now s)) (now m) kind n i) ≤ length (now out) ⌝ }
-    ensures { λ r. ⌜ now (out .exit) ≡ overwritten (now (out .entry)) at (keptPiece (now (f .entry)) (now (g .entry)) (bodies (now (s .entry))) (now (m .entry)) kind n i) ⌝ }
+    ensures { λ r. ⌜ now (out .exit)
+        ≡ overwritten (now (out .entry)) at
+        (keptPiece (now (f .entry)) (now (g .entry)) (bodies (now (s .entry))) (now (m .entry)) kind n i) ⌝ }
     ensures { λ r. ⌜ r ≡ at + length (keptPiece (now (f .entry)) (now (g .entry)) (bodies (now (s .entry))) (now (m .entry)) kind n i) ⌝ }
 {
     if is_kept(m, i + 1) {
@@ -108,8 +112,11 @@ pub fn put_kept<'a, 'b, 'c, 'd, 'e, 'f>(
     requires { ⌜ now ix ≡ indexOf (now s) ⌝ }
     requires { ⌜ n + c < 1000000 ⌝ }
     requires { ⌜ at + length (joined (keptPiece (now f) (now g) (bodies (now s)) (now m) kind n) c) ≤ length (now out) ⌝ }
-    ensures { λ r. ⌜ now (out .exit) ≡ overwritten (now (out .entry)) at (joined (keptPiece (now (f .entry)) (now (g .entry)) (bodies (now (s .entry))) (now (m .entry)) kind n) c) ⌝ }
-    ensures { λ r. ⌜ r ≡ at + length (joined (keptPiece (now (f .entry)) (now (g .entry)) (bodies (now (s .entry))) (now (m .entry)) kind n) c) ⌝ }
+    ensures { λ r. ⌜ now (out .exit)
+        ≡ overwritten (now (out .entry)) at
+        (joined (keptPiece (now (f .entry)) (now (g .entry)) (bodies (now (s .entry))) (now (m .entry)) kind n) c) ⌝ }
+    ensures { λ r. ⌜ r
+        ≡ at + length (joined (keptPiece (now (f .entry)) (now (g .entry)) (bodies (now (s .entry))) (now (m .entry)) kind n) c) ⌝ }
 {
     let mut next = at;
     let mut i: usize = 0;

@@ -25,7 +25,8 @@ fn put_left<'a, 'b, 'c>(f: &'a [usize], b: &'b [u8], out: &'c mut [u8], at: usiz
     ensures { λ r. ⌜ now (out .exit) ≡ overwritten (now (out .entry)) at (leftBytes (now (f .entry)) (now (b .entry))) ⌝ }
     ensures { λ r. ⌜ r ≡ at + length (leftBytes (now (f .entry)) (now (b .entry))) ⌝ }
 {
-    let left = new_number(f, word_at(b, 3));
+    let old = word_at(b, 3);
+    let left = new_number(f, old);
     put_five(
         octet_at(b, 0),
         octet_at(b, 1),
@@ -42,13 +43,15 @@ fn put_right<'a, 'b, 'c>(f: &'a [usize], b: &'b [u8], out: &'c mut [u8], at: usi
     ensures { λ r. ⌜ now (out .exit) ≡ overwritten (now (out .entry)) at (rightBytes (now (f .entry)) (now (b .entry))) ⌝ }
     ensures { λ r. ⌜ r ≡ at + length (rightBytes (now (f .entry)) (now (b .entry))) ⌝ }
 {
-    let next = put_word(new_number(f, word_at(b, 5)), out, at);
+    let old = word_at(b, 5);
+    let next = put_word(new_number(f, old), out, at);
     put_byte(octet_at(b, 7), out, next)
 }
 
 fn put_premises<'a, 'b, 'c>(g: &'a [usize], b: &'b [u8], out: &'c mut [u8], at: usize) -> usize
     requires { ⌜ at + length (numberBytes (map (renewed (now g)) (premises (now b)))) ≤ length (now out) ⌝ }
-    ensures { λ r. ⌜ now (out .exit) ≡ overwritten (now (out .entry)) at (numberBytes (map (renewed (now (g .entry))) (premises (now (b .entry))))) ⌝ }
+    ensures { λ r. ⌜ now (out .exit)
+        ≡ overwritten (now (out .entry)) at (numberBytes (map (renewed (now (g .entry))) (premises (now (b .entry))))) ⌝ }
     ensures { λ r. ⌜ r ≡ at + length (numberBytes (map (renewed (now (g .entry))) (premises (now (b .entry))))) ⌝ }
 {
     let l = rest(b, 8);
@@ -63,7 +66,8 @@ pub fn put_line<'a, 'b, 'c, 'd>(
     at: usize,
 ) -> usize
     requires { ⌜ at + length (lineBytes (renewedLine (now f) (now g) (lineRecord (now b)))) ≤ length (now out) ⌝ }
-    ensures { λ r. ⌜ now (out .exit) ≡ overwritten (now (out .entry)) at (lineBytes (renewedLine (now (f .entry)) (now (g .entry)) (lineRecord (now (b .entry))))) ⌝ }
+    ensures { λ r. ⌜ now (out .exit)
+        ≡ overwritten (now (out .entry)) at (lineBytes (renewedLine (now (f .entry)) (now (g .entry)) (lineRecord (now (b .entry))))) ⌝ }
     ensures { λ r. ⌜ r ≡ at + length (lineBytes (renewedLine (now (f .entry)) (now (g .entry)) (lineRecord (now (b .entry))))) ⌝ }
 {
     let right = put_left(f, b, out, at);

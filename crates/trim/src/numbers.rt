@@ -49,7 +49,8 @@ pub fn put_numbers<'a, 'b, 'c>(
     at: usize,
 ) -> usize
     requires { ⌜ at + length (numberBytes (map (renewed (now t)) (numbers n (now b)))) ≤ length (now out) ⌝ }
-    ensures { λ r. ⌜ now (out .exit) ≡ overwritten (now (out .entry)) at (numberBytes (map (renewed (now (t .entry))) (numbers n (now (b .entry))))) ⌝ }
+    ensures { λ r. ⌜ now (out .exit)
+        ≡ overwritten (now (out .entry)) at (numberBytes (map (renewed (now (t .entry))) (numbers n (now (b .entry))))) ⌝ }
     ensures { λ r. ⌜ r ≡ at + length (numberBytes (map (renewed (now (t .entry))) (numbers n (now (b .entry))))) ⌝ }
 {
     let mut next = at;

@@ -25,7 +25,9 @@ pub fn put_formulas<'a, 'b, 'c, 'd, 'e, 'f>(
 ) -> usize
     requires { ⌜ now ix ≡ indexOf (now s) ⌝ }
     requires { ⌜ at + length (formulasBytes z (now f) (now g) (bodies (now s)) (now u)) ≤ length (now out) ⌝ }
-    ensures { λ r. ⌜ now (out .exit) ≡ overwritten (now (out .entry)) at (formulasBytes z (now (f .entry)) (now (g .entry)) (bodies (now (s .entry))) (now (u .entry))) ⌝ }
+    ensures { λ r. ⌜ now (out .exit)
+        ≡ overwritten (now (out .entry)) at
+        (formulasBytes z (now (f .entry)) (now (g .entry)) (bodies (now (s .entry))) (now (u .entry))) ⌝ }
     ensures { λ r. ⌜ r ≡ at + length (formulasBytes z (now (f .entry)) (now (g .entry)) (bodies (now (s .entry))) (now (u .entry))) ⌝ }
 {
     put_kept(
@@ -53,7 +55,8 @@ pub fn put_threads<'a, 'b, 'c, 'd, 'e>(
 ) -> usize
     requires { ⌜ now ix ≡ indexOf (now s) ⌝ }
     requires { ⌜ at + length (threadsBytes z (now f) (now g) (bodies (now s))) ≤ length (now out) ⌝ }
-    ensures { λ r. ⌜ now (out .exit) ≡ overwritten (now (out .entry)) at (threadsBytes z (now (f .entry)) (now (g .entry)) (bodies (now (s .entry)))) ⌝ }
+    ensures { λ r. ⌜ now (out .exit)
+        ≡ overwritten (now (out .entry)) at (threadsBytes z (now (f .entry)) (now (g .entry)) (bodies (now (s .entry)))) ⌝ }
     ensures { λ r. ⌜ r ≡ at + length (threadsBytes z (now (f .entry)) (now (g .entry)) (bodies (now (s .entry)))) ⌝ }
 {
     let n = (z.formulas as usize) + 1;
@@ -90,7 +93,8 @@ pub fn put_lines<'a, 'b, 'c, 'd, 'e, 'f>(
 ) -> usize
     requires { ⌜ now ix ≡ indexOf (now s) ⌝ }
     requires { ⌜ at + length (linesBytes z (now f) (now g) (bodies (now s)) (now k)) ≤ length (now out) ⌝ }
-    ensures { λ r. ⌜ now (out .exit) ≡ overwritten (now (out .entry)) at (linesBytes z (now (f .entry)) (now (g .entry)) (bodies (now (s .entry))) (now (k .entry))) ⌝ }
+    ensures { λ r. ⌜ now (out .exit)
+        ≡ overwritten (now (out .entry)) at (linesBytes z (now (f .entry)) (now (g .entry)) (bodies (now (s .entry))) (now (k .entry))) ⌝ }
     ensures { λ r. ⌜ r ≡ at + length (linesBytes z (now (f .entry)) (now (g .entry)) (bodies (now (s .entry))) (now (k .entry))) ⌝ }
 {
     let n = (z.formulas as usize) + (z.threads as usize) + 2;
@@ -126,7 +130,8 @@ pub fn put_claims<'a, 'b, 'c, 'd, 'e>(
 ) -> usize
     requires { ⌜ now ix ≡ indexOf (now s) ⌝ }
     requires { ⌜ at + length (claimsBytes z (now f) (now g) (bodies (now s))) ≤ length (now out) ⌝ }
-    ensures { λ r. ⌜ now (out .exit) ≡ overwritten (now (out .entry)) at (claimsBytes z (now (f .entry)) (now (g .entry)) (bodies (now (s .entry)))) ⌝ }
+    ensures { λ r. ⌜ now (out .exit)
+        ≡ overwritten (now (out .entry)) at (claimsBytes z (now (f .entry)) (now (g .entry)) (bodies (now (s .entry)))) ⌝ }
     ensures { λ r. ⌜ r ≡ at + length (claimsBytes z (now (f .entry)) (now (g .entry)) (bodies (now (s .entry)))) ⌝ }
 {
     let n = (z.formulas as usize) + (z.threads as usize) + 1 + (z.lines as usize) + 2;

@@ -24,7 +24,8 @@ fn put_body<'a, 'b, 'c, 'd>(
     at: usize,
 ) -> usize
     requires { ⌜ at + length (renewedBody (now f) (now g) kind (now b)) ≤ length (now out) ⌝ }
-    ensures { λ r. ⌜ now (out .exit) ≡ overwritten (now (out .entry)) at (renewedBody (now (f .entry)) (now (g .entry)) kind (now (b .entry))) ⌝ }
+    ensures { λ r. ⌜ now (out .exit)
+        ≡ overwritten (now (out .entry)) at (renewedBody (now (f .entry)) (now (g .entry)) kind (now (b .entry))) ⌝ }
     ensures { λ r. ⌜ r ≡ at + length (renewedBody (now (f .entry)) (now (g .entry)) kind (now (b .entry))) ⌝ }
 {
     if kind == Kind::THREAD {
@@ -52,7 +53,8 @@ pub fn put_record<'a, 'b, 'c, 'd, 'e>(
 ) -> usize
     requires { ⌜ now ix ≡ indexOf (now s) ⌝ }
     requires { ⌜ at + length (recordBytes (now f) (now g) (bodies (now s)) kind n) ≤ length (now out) ⌝ }
-    ensures { λ r. ⌜ now (out .exit) ≡ overwritten (now (out .entry)) at (recordBytes (now (f .entry)) (now (g .entry)) (bodies (now (s .entry))) kind n) ⌝ }
+    ensures { λ r. ⌜ now (out .exit)
+        ≡ overwritten (now (out .entry)) at (recordBytes (now (f .entry)) (now (g .entry)) (bodies (now (s .entry))) kind n) ⌝ }
     ensures { λ r. ⌜ r ≡ at + length (recordBytes (now (f .entry)) (now (g .entry)) (bodies (now (s .entry))) kind n) ⌝ }
 {
     let b = body_of(s, ix, n);

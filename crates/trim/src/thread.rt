@@ -90,7 +90,8 @@ fn points_of(b: &[u8]) -> u8
 
 pub fn put_thread<'a, 'b, 'c>(f: &'a [usize], b: &'b [u8], out: &'c mut [u8], at: usize) -> usize
     requires { ⌜ at + length (threadBytes (map (renewedInstruction (now f)) (instructions (now b)))) ≤ length (now out) ⌝ }
-    ensures { λ r. ⌜ now (out .exit) ≡ overwritten (now (out .entry)) at (threadBytes (map (renewedInstruction (now (f .entry))) (instructions (now (b .entry))))) ⌝ }
+    ensures { λ r. ⌜ now (out .exit)
+        ≡ overwritten (now (out .entry)) at (threadBytes (map (renewedInstruction (now (f .entry))) (instructions (now (b .entry))))) ⌝ }
     ensures { λ r. ⌜ r ≡ at + length (threadBytes (map (renewedInstruction (now (f .entry))) (instructions (now (b .entry))))) ⌝ }
 {
     let next = put_byte(points_of(b), out, at);

@@ -34,7 +34,9 @@ fn put_program<'a, 'b, 'c, 'd, 'e, 'f>(
 ) -> usize
     requires { ⌜ now ix ≡ indexOf (now s) ⌝ }
     requires { ⌜ at + length (programBytes z (now f) (now g) (bodies (now s)) (now u)) ≤ length (now out) ⌝ }
-    ensures { λ r. ⌜ now (out .exit) ≡ overwritten (now (out .entry)) at (programBytes z (now (f .entry)) (now (g .entry)) (bodies (now (s .entry))) (now (u .entry))) ⌝ }
+    ensures { λ r. ⌜ now (out .exit)
+        ≡ overwritten (now (out .entry)) at
+        (programBytes z (now (f .entry)) (now (g .entry)) (bodies (now (s .entry))) (now (u .entry))) ⌝ }
     ensures { λ r. ⌜ r ≡ at + length (programBytes z (now (f .entry)) (now (g .entry)) (bodies (now (s .entry))) (now (u .entry))) ⌝ }
 {
     let formulas = put_record(s, ix, f, g, Kind::HEADER, 0, out, at);
@@ -55,7 +57,9 @@ fn put_certificate<'a, 'b, 'c, 'd, 'e, 'f>(
 ) -> usize
     requires { ⌜ now ix ≡ indexOf (now s) ⌝ }
     requires { ⌜ at + length (certificateBytes z (now f) (now g) (bodies (now s)) (now k)) ≤ length (now out) ⌝ }
-    ensures { λ r. ⌜ now (out .exit) ≡ overwritten (now (out .entry)) at (certificateBytes z (now (f .entry)) (now (g .entry)) (bodies (now (s .entry))) (now (k .entry))) ⌝ }
+    ensures { λ r. ⌜ now (out .exit)
+        ≡ overwritten (now (out .entry)) at
+        (certificateBytes z (now (f .entry)) (now (g .entry)) (bodies (now (s .entry))) (now (k .entry))) ⌝ }
     ensures { λ r. ⌜ r ≡ at + length (certificateBytes z (now (f .entry)) (now (g .entry)) (bodies (now (s .entry))) (now (k .entry))) ⌝ }
 {
     let lines = put_outline(s, ix, z, f, out, at);
@@ -76,7 +80,8 @@ fn put_behind<'a, 'b, 'c, 'd, 'e, 'f>(
 ) -> usize
     requires { ⌜ now ix ≡ indexOf (now s) ⌝ }
     requires { ⌜ at + length (behindBytes z (now f) (now g) (bodies (now s)) (now k)) ≤ length (now out) ⌝ }
-    ensures { λ r. ⌜ now (out .exit) ≡ overwritten (now (out .entry)) at (behindBytes z (now (f .entry)) (now (g .entry)) (bodies (now (s .entry))) (now (k .entry))) ⌝ }
+    ensures { λ r. ⌜ now (out .exit)
+        ≡ overwritten (now (out .entry)) at (behindBytes z (now (f .entry)) (now (g .entry)) (bodies (now (s .entry))) (now (k .entry))) ⌝ }
     ensures { λ r. ⌜ r ≡ at + length (behindBytes z (now (f .entry)) (now (g .entry)) (bodies (now (s .entry))) (now (k .entry))) ⌝ }
 {
     let claims = put_certificate(s, ix, z, f, g, k, out, at);
@@ -96,8 +101,11 @@ fn put_whole<'a, 'b, 'c, 'd, 'e, 'f, 'g>(
 ) -> usize
     requires { ⌜ now ix ≡ indexOf (now s) ⌝ }
     requires { ⌜ at + length (wholeBytes z (now f) (now g) (bodies (now s)) (now u) (now k)) ≤ length (now out) ⌝ }
-    ensures { λ r. ⌜ now (out .exit) ≡ overwritten (now (out .entry)) at (wholeBytes z (now (f .entry)) (now (g .entry)) (bodies (now (s .entry))) (now (u .entry)) (now (k .entry))) ⌝ }
-    ensures { λ r. ⌜ r ≡ at + length (wholeBytes z (now (f .entry)) (now (g .entry)) (bodies (now (s .entry))) (now (u .entry)) (now (k .entry))) ⌝ }
+    ensures { λ r. ⌜ now (out .exit)
+        ≡ overwritten (now (out .entry)) at
+        (wholeBytes z (now (f .entry)) (now (g .entry)) (bodies (now (s .entry))) (now (u .entry)) (now (k .entry))) ⌝ }
+    ensures { λ r. ⌜ r
+        ≡ at + length (wholeBytes z (now (f .entry)) (now (g .entry)) (bodies (now (s .entry))) (now (u .entry)) (now (k .entry))) ⌝ }
 {
     let outline = put_program(s, ix, z, f, g, u, out, at);
     put_behind(s, ix, z, f, g, k, out, outline)
@@ -118,7 +126,10 @@ pub fn write_trimmed<'a, 'b, 'c, 'd, 'e, 'f, 'g>(
     requires { ⌜ (now ix ≡ indexOf (now s)) × (length (bodies (now s)) ≡ recordCount z) ⌝ }
     requires { ⌜ (now f ≡ newNumbers (now u)) × (now g ≡ newNumbers (now k)) ⌝ }
     requires { ⌜ length (encode (trimmedBy (now u) (now k) (documentOf z (bodies (now s))))) ≤ length (now out) ⌝ }
-    ensures { λ r. ⌜ now (out .exit) ≡ encode (trimmedBy (now (u .entry)) (now (k .entry)) (documentOf z (bodies (now (s .entry))))) ++ drop (length (encode (trimmedBy (now (u .entry)) (now (k .entry)) (documentOf z (bodies (now (s .entry))))))) (now (out .entry)) ⌝ }
+    ensures { λ r. ⌜ now (out .exit)
+        ≡ encode (trimmedBy (now (u .entry)) (now (k .entry)) (documentOf z (bodies (now (s .entry)))))
+        ++ drop (length (encode (trimmedBy (now (u .entry)) (now (k .entry)) (documentOf z (bodies (now (s .entry)))))))
+        (now (out .entry)) ⌝ }
     ensures { λ r. ⌜ r ≡ length (encode (trimmedBy (now (u .entry)) (now (k .entry)) (documentOf z (bodies (now (s .entry)))))) ⌝ }
 {
     put_whole(s, ix, z, f, g, u, k, out, 0)

@@ -8,4 +8,9 @@ use Rattle.trim.proofs.line.put_line.Tie as tie
 pub put-line-spec : {M : Type 1} → statement M
 put-line-spec =
     tie.close
-    (tie.spec (λ c κs. search (lining, threefold, tests)) (λ c κs. search (lining, threefold, tests)) (λ c κs. search (lining, threefold, tests)) (λ c. search needs) (λ c. search (lining, threefold, tests)))
+    (tie.spec
+    (λ c κs. search (lining, threefold, tests))
+    (λ c κs. search (lining, threefold, tests))
+    (λ c κs. search (lining, threefold, tests))
+    (λ c. search needs)
+    (λ c. search (lining, threefold, tests)))

@@ -9,4 +9,9 @@ pub put-number-spec : {M : Type 1} → statement M
 unfolding numberPiece
 put-number-spec =
     tie.close
-    (tie.spec (λ c κs. search needs) (λ c κs. search needs) (λ c κs. search (numbering, tests)) (λ c. search needs) (λ c. (search (number-put, tests), search (number-size, tests))))
+    (tie.spec
+    (λ c κs. search needs)
+    (λ c κs. search needs)
+    (λ c κs. search (numbering, tests))
+    (λ c. search needs)
+    (λ c. (search (number-put, tests), search (number-size, tests))))

@@ -18,7 +18,13 @@ put-numbers-spec =
     (tie.spec
     Inv-loop
     μ-loop
-    (λ c. (search tests, (search (joining, numbering, tests), (search (joining, numbering, tests), (search (joining, numbering, tests), search tests)))))
+    (λ c. (
+      search tests,
+      (
+        search (joining, numbering, tests),
+        (search (joining, numbering, tests), (search (joining, numbering, tests), search tests)),
+      ),
+    ))
     (λ c κs. search (joining, numbering, tests))
     (λ c. search (joining, numbering, tests))
     (λ c. search (joining, numbering, tests))

@@ -6,4 +6,10 @@ use Rattle.trim.proofs.parts.put_formulas.Tie as tie
 
 pub put-formulas-spec : {M : Type 1} → statement M
 unfolding formulasBytes
-put-formulas-spec = tie.close (tie.spec (λ c. search needs) (λ c κs. (search tests, (search tests, search tests))) (λ c. search needs) (λ c. (search tests, search tests)))
+put-formulas-spec =
+    tie.close
+    (tie.spec
+    (λ c. search needs)
+    (λ c κs. (search tests, (search tests, search tests)))
+    (λ c. search needs)
+    (λ c. (search tests, search tests)))

@@ -8,4 +8,12 @@ pub put-lines-spec : {M : Type 1} → statement M
 unfolding linesBytes
 put-lines-spec =
     tie.close
-    (tie.spec (λ c. search needs) (λ c. search needs) (λ c. search needs) (λ c. search needs) (λ c. search needs) (λ c κs. (search tests, (search tests, search tests))) (λ c. search needs) (λ c. (search tests, search tests)))
+    (tie.spec
+    (λ c. search needs)
+    (λ c. search needs)
+    (λ c. search needs)
+    (λ c. search needs)
+    (λ c. search needs)
+    (λ c κs. (search tests, (search tests, search tests)))
+    (λ c. search needs)
+    (λ c. (search tests, search tests)))

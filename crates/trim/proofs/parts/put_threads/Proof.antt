@@ -7,4 +7,11 @@ use Rattle.trim.proofs.parts.put_threads.Tie as tie
 pub put-threads-spec : {M : Type 1} → statement M
 unfolding threadsBytes
 put-threads-spec =
-    tie.close (tie.spec (λ c. search needs) (λ c. search needs) (λ c. search needs) (λ c κs. (search tests, (search tests, search tests))) (λ c. search needs) (λ c. (search tests, search tests)))
+    tie.close
+    (tie.spec
+    (λ c. search needs)
+    (λ c. search needs)
+    (λ c. search needs)
+    (λ c κs. (search tests, (search tests, search tests)))
+    (λ c. search needs)
+    (λ c. (search tests, search tests)))

@@ -7,4 +7,9 @@ use Rattle.trim.proofs.whole.put_behind.Tie as tie
 
 pub put-behind-spec : {M : Type 1} → statement M
 put-behind-spec =
-    tie.close (tie.spec (λ c κs. (search tests, search (certificate-room, tests))) (λ c κs. (search tests, search (claims-room, tests))) (λ c. search needs) (λ c. (search (behind-is, pair-put, tests), search (behind-is, pair-end, tests))))
+    tie.close
+    (tie.spec
+    (λ c κs. (search tests, search (certificate-room, tests)))
+    (λ c κs. (search tests, search (claims-room, tests)))
+    (λ c. search needs)
+    (λ c. (search (behind-is, pair-put, tests), search (behind-is, pair-end, tests))))

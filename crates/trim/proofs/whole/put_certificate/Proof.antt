@@ -8,4 +8,9 @@ use Rattle.trim.proofs.whole.put_certificate.Tie as tie
 pub put-certificate-spec : {M : Type 1} → statement M
 put-certificate-spec =
     tie.close
-    (tie.spec (λ c κs. (search tests, search (outline-room, tests))) (λ c κs. (search tests, search (lines-room, tests))) (λ c κs. (search tests, search (obligations-room, tests))) (λ c. search needs) (λ c. (search (certificate-is, three-put, tests), search (certificate-is, three-end, tests))))
+    (tie.spec
+    (λ c κs. (search tests, search (outline-room, tests)))
+    (λ c κs. (search tests, search (lines-room, tests)))
+    (λ c κs. (search tests, search (obligations-room, tests)))
+    (λ c. search needs)
+    (λ c. (search (certificate-is, three-put, tests), search (certificate-is, three-end, tests))))

@@ -8,4 +8,9 @@ use Rattle.trim.proofs.whole.put_program.Tie as tie
 pub put-program-spec : {M : Type 1} → statement M
 put-program-spec =
     tie.close
-    (tie.spec (λ c κs. (search tests, search (header-room, tests))) (λ c κs. (search tests, search (formulas-room, tests))) (λ c κs. (search tests, search (threads-room, tests))) (λ c. search needs) (λ c. (search (program-is, three-put, tests), search (program-is, three-end, tests))))
+    (tie.spec
+    (λ c κs. (search tests, search (header-room, tests)))
+    (λ c κs. (search tests, search (formulas-room, tests)))
+    (λ c κs. (search tests, search (threads-room, tests)))
+    (λ c. search needs)
+    (λ c. (search (program-is, three-put, tests), search (program-is, three-end, tests))))
