@@ -1,0 +1,4 @@
+pub mod Sums
+pub mod Price
+pub mod Charge
+pub mod Count
