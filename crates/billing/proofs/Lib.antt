@@ -1,2 +1,3 @@
 pub mod Keys
-pub mod Count
+pub mod Counted
+pub mod Charging

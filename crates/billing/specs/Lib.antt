@@ -2,3 +2,4 @@ pub mod Sums
 pub mod Price
 pub mod Charge
 pub mod Count
+pub mod Accounts

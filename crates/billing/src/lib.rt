@@ -1,2 +1,4 @@
 // The price of a check: an accepted image is billed by its obligations, in all and by thread. `bill_image` is the entry point.
+pub mod accounts;
+pub mod count;
 pub mod tariff;
