@@ -1,3 +1,4 @@
 pub mod Keys
 pub mod Counted
 pub mod Charging
+pub mod Accounting

@@ -136,7 +136,7 @@ module _ (s : List ℕ) (z : Sizes) (c : Checks z (bodies s)) where
   abbrev P : Program
   P = programOf z (bodies s)
 
-  few-threads : z .threads ≤ Limits.threads
+  pub few-threads : z .threads ≤ Limits.threads
   unfolding sizesOf
   few-threads =
       let e = ap (λ (y : Sizes). y .threads) (c .sizes) in
