@@ -2,3 +2,4 @@ pub mod Keys
 pub mod Counted
 pub mod Charging
 pub mod Accounting
+pub mod Gathering
