@@ -3,3 +3,4 @@ pub mod Counted
 pub mod Charging
 pub mod Accounting
 pub mod Gathering
+pub mod Ways

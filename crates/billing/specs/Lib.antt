@@ -3,3 +3,6 @@ pub mod Price
 pub mod Charge
 pub mod Count
 pub mod Accounts
+pub mod Bill
+pub mod Output
+pub mod Promise
