@@ -3,6 +3,7 @@ pub mod Price
 pub mod Charge
 pub mod Count
 pub mod Accounts
+pub mod Most
 pub mod Bill
 pub mod Output
 pub mod Promise

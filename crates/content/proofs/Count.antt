@@ -33,7 +33,7 @@ branch-small i = go (eqb (i .operation) 6)
     go true = omega arith
     go false = omega arith
 
-branches-small : (is : List Instruction) → branches is ≤ length is
+pub branches-small : (is : List Instruction) → branches is ≤ length is
 unfolding branches
 branches-small [] = omega arith
 branches-small (i ∷ is) = let h = branches-small is in let b = branch-small i in omega arith
