@@ -39,7 +39,7 @@ pub record Checks (z : Sizes) (l : List (List ℕ)) : Type 0 where
   pub sizes : z ≡ sizesOf (getD l 0 []) (z .formulas) (z .lines) (z .claims)
   pub passed : (i : ℕ) → i < recordCount z → check counted z l (placeOf z (i + 1)) (getD l i []) ≡ Passed
 
-refused-sound : (f : Fault) (i : ℕ) (z : Sizes) → Refused f i ≡ Sound z → ⊥
+pub refused-sound : (f : Fault) (i : ℕ) (z : Sizes) → Refused f i ≡ Sound z → ⊥
 refused-sound f i z e = let q : _≡_ {A = ℕ} 0 1 = cc in omega arith
 
 sound-sizes : (y z : Sizes) → Sound y ≡ Sound z → y ≡ z
@@ -56,12 +56,12 @@ module _ (t : ℕ) (z : Sizes) (l : List (List ℕ)) (y : Sizes) where
   abbrev behind : ℕ → ℕ → List (List ℕ) → Decoded
   behind i n m = firstFault t z l (i + 1) n (drop 1 m)
 
-  fault-sizes : (i n : ℕ) (m : List (List ℕ)) → firstFault t z l i n m ≡ Sound y → z ≡ y
+  pub fault-sizes : (i n : ℕ) (m : List (List ℕ)) → firstFault t z l i n m ≡ Sound y → z ≡ y
   unfolding firstFault
   fault-sizes i zero m e = sound-sizes z y e
   fault-sizes i (suc n) m e = fault-sizes (i + 1) n (drop 1 m) (step-passed (here i m) i (behind i n m) y e .1)
 
-  fault-passed : (i n j : ℕ) (m : List (List ℕ)) → j < n → firstFault t z l i n m ≡ Sound y → check t z l (placeOf z (i + j)) (getD m j []) ≡ Passed
+  pub fault-passed : (i n j : ℕ) (m : List (List ℕ)) → j < n → firstFault t z l i n m ≡ Sound y → check t z l (placeOf z (i + j)) (getD m j []) ≡ Passed
   unfolding firstFault
   fault-passed i zero j m b e = absurd (omega arith)
   fault-passed i (suc n) zero m b e = let q : i + 0 ≡ i = omega arith in rw q (step-passed (here i m) i (behind i n m) y e .0)
@@ -91,25 +91,25 @@ sound-checks s z e = go (wholeImage s) refl e
 -- which record is where
 
 module _ (z : Sizes) where
-  place-formula : (k : ℕ) → 1 ≤ k → k ≤ z .formulas → placeOf z (k + 1) ≡ Formula
+  pub place-formula : (k : ℕ) → 1 ≤ k → k ≤ z .formulas → placeOf z (k + 1) ≡ Formula
   unfolding placeOf
   place-formula k a b = let q : k + 1 ≡ 1 → ⊥ = omega arith in rw (ne-eqb (k + 1) 1 q, le-leb (k + 1) (formulasEnd z) (omega arith))
 
-  place-thread : (t : ℕ) → 1 ≤ t → t ≤ z .threads → placeOf z (z .formulas + t + 1) ≡ Thread t
+  pub place-thread : (t : ℕ) → 1 ≤ t → t ≤ z .threads → placeOf z (z .formulas + t + 1) ≡ Thread t
   unfolding placeOf
   place-thread t a b =
       let q : z .formulas + t + 1 ≡ 1 → ⊥ = omega arith in
       let d : z .formulas + t + 1 - formulasEnd z ≡ t = omega arith in
       rw (ne-eqb (z .formulas + t + 1) 1 q, lt-leb (z .formulas + t + 1) (formulasEnd z) (omega arith), le-leb (z .formulas + t + 1) (threadsEnd z) (omega arith), d)
 
-  place-outline : placeOf z (z .formulas + z .threads + 1 + 1) ≡ Outline
+  pub place-outline : placeOf z (z .formulas + z .threads + 1 + 1) ≡ Outline
   unfolding placeOf
   place-outline =
       let i : ℕ = z .formulas + z .threads + 1 + 1 in
       let q : i ≡ 1 → ⊥ = omega arith in
       rw (ne-eqb i 1 q, lt-leb i (formulasEnd z) (omega arith), lt-leb i (threadsEnd z) (omega arith), le-leb i (outlineAt z) (omega arith))
 
-  place-line : (n : ℕ) → 1 ≤ n → n ≤ z .lines → placeOf z (z .formulas + z .threads + 1 + n + 1) ≡ Line (n - 1)
+  pub place-line : (n : ℕ) → 1 ≤ n → n ≤ z .lines → placeOf z (z .formulas + z .threads + 1 + n + 1) ≡ Line (n - 1)
   unfolding placeOf
   place-line n a b =
       let i : ℕ = z .formulas + z .threads + 1 + n + 1 in
@@ -117,14 +117,14 @@ module _ (z : Sizes) where
       let d : i - outlineAt z - 1 ≡ n - 1 = omega arith in
       rw (ne-eqb i 1 q, lt-leb i (formulasEnd z) (omega arith), lt-leb i (threadsEnd z) (omega arith), lt-leb i (outlineAt z) (omega arith), le-leb i (linesEnd z) (omega arith), d)
 
-  place-obligations : placeOf z (z .formulas + z .threads + 1 + z .lines + 1 + 1) ≡ Obligations
+  pub place-obligations : placeOf z (z .formulas + z .threads + 1 + z .lines + 1 + 1) ≡ Obligations
   unfolding placeOf
   place-obligations =
       let i : ℕ = z .formulas + z .threads + 1 + z .lines + 1 + 1 in
       let q : i ≡ 1 → ⊥ = omega arith in
       rw (ne-eqb i 1 q, lt-leb i (formulasEnd z) (omega arith), lt-leb i (threadsEnd z) (omega arith), lt-leb i (outlineAt z) (omega arith), lt-leb i (linesEnd z) (omega arith), le-leb i (linesEnd z + 1) (omega arith))
 
-  place-claim : (k : ℕ) → k < z .claims → placeOf z (z .formulas + z .threads + 1 + z .lines + 2 + k + 1) ≡ Claim
+  pub place-claim : (k : ℕ) → k < z .claims → placeOf z (z .formulas + z .threads + 1 + z .lines + 2 + k + 1) ≡ Claim
   unfolding placeOf
   place-claim k b =
       let i : ℕ = z .formulas + z .threads + 1 + z .lines + 2 + k + 1 in

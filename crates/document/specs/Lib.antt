@@ -2,3 +2,4 @@ pub mod Document
 pub mod Encode
 pub mod Parse
 pub mod Canonical
+pub mod Framed

@@ -7,7 +7,7 @@ use native.Mathlib.Omega.{arith}
 use lib.Dec.{eqb, ltb}
 use lib.ListN.{length, getD, drop, set}
 use lib.Seq.{getD-set-other}
-use borrow.Author.Tests.{eqb-true, eqb-false}
+use borrow.Author.Tests.{eqb-true, eqb-false, ltb-false}
 use Rattle.limits.specs.Limits as Limits
 use Rattle.limits.specs.Numbers.{word}
 use Rattle.frames.specs.Kinds as Kinds
@@ -46,7 +46,7 @@ one-more c k h b j = at (eqb j k) refl
 frame-keeps : (c : Seen) (l : List ℕ) → Few c → frame c l ≡ Passed → Few (counted c (order (word (drop 2 l))))
 frame-keeps c l h e = one-more c (order (word (drop 2 l))) h (framed c l e .admits .few)
 
-refused-sound : {Z : Type 0} (f : Fault) (i a b n m : ℕ) → Refused f i ≡ Sound a b n m → Z
+pub refused-sound : {Z : Type 0} (f : Fault) (i a b n m : ℕ) → Refused f i ≡ Sound a b n m → Z
 refused-sound f i a b n m e = let q : _≡_ {A = ℕ} 0 1 = cc in absurd (omega arith)
 
 -- no more formulas, lines and claims than an image may have
@@ -68,7 +68,7 @@ ended-few i c h a b n m = go (ltb (c .last) Kinds.obligations)
         record { formulas = omega (arith, h Kinds.formula); lines = omega (arith, h Kinds.line); claims = omega (arith, h Kinds.last) }
     go true e = refused-sound Kind i a b n m e
 
-passed-sound : (f : Checked) (g : Framing) (i a b n m : ℕ) → unlessFaulty f i g ≡ Sound a b n m → (f ≡ Passed) × (g ≡ Sound a b n m)
+pub passed-sound : (f : Checked) (g : Framing) (i a b n m : ℕ) → unlessFaulty f i g ≡ Sound a b n m → (f ≡ Passed) × (g ≡ Sound a b n m)
 passed-sound Passed g i a b n m e = (refl, e)
 passed-sound (Faulty f) g i a b n m e = refused-sound f i a b n m e
 
@@ -92,11 +92,20 @@ none-few (suc (suc (suc (suc (suc (suc zero)))))) = omega arith
 none-few (suc (suc (suc (suc (suc (suc (suc zero))))))) = omega arith
 none-few (suc (suc (suc (suc (suc (suc (suc (suc k)))))))) = omega arith
 
-pub counts-few : (s : List ℕ) (a b n m : ℕ) → wholeImage s ≡ Sound a b n m → Counts a n m
+-- a sound image is not too long, and its walk is sound
+pub record Walked (s : List ℕ) (a b n m : ℕ) : Type 0 where
+  pub few : length s ≤ Limits.imageBytes
+  pub walks : walk (length s) 1 none s ≡ Sound a b n m
+
+pub image-walked : (s : List ℕ) (a b n m : ℕ) → wholeImage s ≡ Sound a b n m → Walked s a b n m
 unfolding wholeImage frames
-counts-few s a b n m = go (eqb (length s) 0) (ltb Limits.imageBytes (length s))
+image-walked s a b n m = go (eqb (length s) 0) (ltb Limits.imageBytes (length s)) refl
   where
-    go : (p q : Bool) → cond p (Refused Size 0) (cond q (Refused Size 0) (walk (length s) 1 none s)) ≡ Sound a b n m → Counts a n m
-    go true q e = refused-sound Size 0 a b n m e
-    go false true e = refused-sound Size 0 a b n m e
-    go false false e = walk-few (length s) 1 none s none-few a b n m e
+    go : (p q : Bool) → ltb Limits.imageBytes (length s) ≡ q
+        → cond p (Refused Size 0) (cond q (Refused Size 0) (walk (length s) 1 none s)) ≡ Sound a b n m → Walked s a b n m
+    go true q d e = refused-sound Size 0 a b n m e
+    go false true d e = refused-sound Size 0 a b n m e
+    go false false d e = record { few = ltb-false Limits.imageBytes (length s) d; walks = e }
+
+pub counts-few : (s : List ℕ) (a b n m : ℕ) → wholeImage s ≡ Sound a b n m → Counts a n m
+counts-few s a b n m e = walk-few (length s) 1 none s none-few a b n m (image-walked s a b n m e .walks)

@@ -1,2 +1,4 @@
 pub mod Kept
 pub mod Trim
+pub mod Rests
+pub mod Closed

@@ -96,7 +96,7 @@ unfolding begins
 begins-zero l = refl
 
 -- an instruction more, in front
-begins-behind : (l : List ℕ) (p : ℕ) → begins l (suc p) ≡ instructionSize (getD l 0 0) + begins (drop (instructionSize (getD l 0 0)) l) p
+pub begins-behind : (l : List ℕ) (p : ℕ) → begins l (suc p) ≡ instructionSize (getD l 0 0) + begins (drop (instructionSize (getD l 0 0)) l) p
 unfolding begins
 begins-behind l zero = omega arith
 begins-behind l (suc p) = go (instructionSize (getD l 0 0)) (begins l (suc p)) (begins (drop (instructionSize (getD l 0 0)) l) p) (begins-behind l p)

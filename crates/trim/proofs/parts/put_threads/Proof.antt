@@ -1,0 +1,10 @@
+use Rattle.trim.specs.Whole.{threadsBytes}
+use Rattle.limits.proofs.Auto.{tests}
+use borrow.Author.Needs.{needs}
+use Rattle.trim.proofs.parts.put_threads.Statement.{statement}
+use Rattle.trim.proofs.parts.put_threads.Tie as tie
+
+pub put-threads-spec : {M : Type 1} → statement M
+unfolding threadsBytes
+put-threads-spec =
+    tie.close (tie.spec (λ c. search needs) (λ c. search needs) (λ c. search needs) (λ c κs. (search tests, (search tests, search tests))) (λ c. search needs) (λ c. (search tests, search tests)))

@@ -1,0 +1,16 @@
+use Rattle.trim.proofs.Framing.{tabling}
+use Rattle.limits.proofs.Auto.{tests}
+use borrow.Author.Needs.{needs}
+use Rattle.trim.proofs.record.put_list.Statement.{statement}
+use Rattle.trim.proofs.record.put_list.Tie as tie
+
+pub put-list-spec : {M : Type 1} → statement M
+put-list-spec =
+    tie.close
+    (tie.spec
+    (λ c κs. search needs)
+    (λ c. search needs)
+    (λ c κs. search (tabling, tests))
+    (λ c κs. (search tests, search (tabling, tests)))
+    (λ c. search needs)
+    (λ c. search (tabling, tests)))

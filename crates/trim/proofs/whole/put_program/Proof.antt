@@ -1,0 +1,11 @@
+use Rattle.trim.proofs.Sequence.{formulas-room, header-room, program-is, threads-room}
+use Rattle.trim.proofs.Putting.{three-end, three-put}
+use Rattle.limits.proofs.Auto.{tests}
+use borrow.Author.Needs.{needs}
+use Rattle.trim.proofs.whole.put_program.Statement.{statement}
+use Rattle.trim.proofs.whole.put_program.Tie as tie
+
+pub put-program-spec : {M : Type 1} → statement M
+put-program-spec =
+    tie.close
+    (tie.spec (λ c κs. (search tests, search (header-room, tests))) (λ c κs. (search tests, search (formulas-room, tests))) (λ c κs. (search tests, search (threads-room, tests))) (λ c. search needs) (λ c. (search (program-is, three-put, tests), search (program-is, three-end, tests))))

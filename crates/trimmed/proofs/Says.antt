@@ -1,0 +1,55 @@
+-- What a document's bytes say: the numbers of its outline, its obligations, its lines and its claims.
+use mathlib.Core.Path.{_≡_, ap, sym, _∙_}
+use mathlib.Core.List.{List}
+use Prim.Native.Nat.{ℕ, _≤_, _<_}
+use lib.ListN.{length, getD, drop}
+use Rattle.limits.specs.Numbers.{nth, word, numbers}
+use Rattle.program.specs.Header.{threadCount}
+use Rattle.program.specs.declared.sizes.Sizes.{Sizes}
+use Rattle.records.specs.Tally.{tally, obligationCount}
+use Rattle.records.specs.Line.{premises}
+use Rattle.content.specs.Program.{outlineBody}
+use Rattle.content.specs.Certificate.{left, right, lineBody}
+use Rattle.content.specs.Image.{obligationsBody, namedLine, claimBody}
+use Rattle.document.specs.Document.{Document, LineRecord, ClaimRecord}
+use Rattle.document.specs.Canonical.{Canonical, noLine, noClaim, LineFits}
+use Rattle.document.specs.Encode.{lineBytes, bodiesOf}
+use Rattle.document.specs.Parse.{sizes}
+use Rattle.document.proofs.Words.{numbers-alone}
+use Rattle.document.proofs.Lines.{line-left, line-right, line-premises}
+use Rattle.document.proofs.Claims.{claim-line}
+use Rattle.document.proofs.Places.{outline-at, line-at, obligations-at, claim-at}
+use Rattle.trimmed.proofs.ThreadKept.{each-nth}
+
+module _ (D : Document) (C : Canonical D) (same : threadCount (D .header) ≡ length (D .threads)) where
+  abbrev z : Sizes
+  z = sizes D
+
+  abbrev l : List (List ℕ)
+  l = bodiesOf D
+
+  pub outline-said : length (D .outline) ≡ tally z l .points → numbers (tally z l .points) (outlineBody z l) ≡ D .outline
+  outline-said e = rw (sym e, outline-at D same) (numbers-alone (D .outline) (C .outline))
+
+  pub obligations-said : length (D .obligations) ≡ obligationCount z l → numbers (obligationCount z l) (obligationsBody z l) ≡ D .obligations
+  obligations-said e = rw (sym e, obligations-at D same) (numbers-alone (D .obligations) (C .obligations))
+
+  pub named-said : length (D .obligations) ≡ obligationCount z l → (i : ℕ) → namedLine z l i ≡ getD (D .obligations) i 0
+  unfolding namedLine
+  named-said e i = rw (obligations-said e)
+
+  module _ (n : ℕ) (low : 1 ≤ n) (high : n ≤ length (D .lines)) where
+    pub line-fit : LineFits (nth (D .lines) n noLine)
+    line-fit = each-nth LineFits noLine (D .lines) n low high (C .lines)
+
+    pub left-said : left (lineBody z l n) ≡ nth (D .lines) n noLine .left
+    left-said = rw (line-at D same n low high) (line-left (nth (D .lines) n noLine) line-fit)
+
+    pub right-said : right (lineBody z l n) ≡ nth (D .lines) n noLine .right
+    right-said = rw (line-at D same n low high) (line-right (nth (D .lines) n noLine) line-fit)
+
+    pub premises-said : premises (lineBody z l n) ≡ nth (D .lines) n noLine .premises
+    premises-said = rw (line-at D same n low high) (line-premises (nth (D .lines) n noLine) line-fit)
+
+  pub claim-said : (i : ℕ) → i < length (D .claims) → word (drop 4 (claimBody z l i)) ≡ getD (D .claims) i noClaim .line
+  claim-said i h = rw (claim-at D same i h) (claim-line (getD (D .claims) i noClaim) (C .claims i h))

@@ -1,0 +1,1 @@
+// Trimming for the archive: `trim_image` is the entry point.
