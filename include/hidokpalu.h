@@ -98,6 +98,42 @@ enum hidokpalu_offset {
  */
 uint16_t check_image(const uint8_t *image, size_t image_len, uint8_t *out, size_t out_len);
 
+/* The code of a bill. */
+enum hidokpalu_bill_code {
+    HIDOKPALU_BILLED = 0,
+    HIDOKPALU_BILL_SHORT_ANSWER = 1, /* the answer has fewer than HIDOKPALU_BILL_NUMBERS; nothing is written */
+    HIDOKPALU_BILL_NOT_ACCEPTED = 30, /* the image is not accepted: `check_image` would answer another code than 0 */
+    HIDOKPALU_BILL_NUMBER_AT_END = 31 /* the image is accepted, and the number of billed images is UINT32_MAX */
+};
+
+/* Where each number of a bill stands. */
+enum hidokpalu_bill_index {
+    HIDOKPALU_BILL_CENTS = 0,
+    HIDOKPALU_BILL_BILLED = 1,    /* how many images are billed afterwards */
+    HIDOKPALU_BILL_THREADS = 2    /* four numbers: what is on the account of threads 1 to 4, 0 for one that is not there */
+};
+
+#define HIDOKPALU_BILL_NUMBERS 6
+
+/*
+ * Bills an image: so many cents for each of its obligations, by class (see `hidokpalu_class`), and a least charge. `billed`
+ * is how many images are billed before. Link target/staticlib/libbilling.a, which `rt staticlib billing` writes.
+ *
+ * Every image, tariff, number and answer will do; result and answer follow from these alone:
+ *
+ * - An answer below HIDOKPALU_BILL_NUMBERS numbers: the result is HIDOKPALU_BILL_SHORT_ANSWER whatever the image holds, and
+ *   nothing is written.
+ * - HIDOKPALU_BILLED: the bill is the larger of the sum over all obligations and the least charge, exact; the number is one
+ *   more. A thread's account has its start, its steps and branches, and interference by its instructions. The accounts add
+ *   up to the sum; the least charge is in none of them. Claims cost nothing.
+ * - HIDOKPALU_BILL_NOT_ACCEPTED, and after it HIDOKPALU_BILL_NUMBER_AT_END: bill and accounts are 0, and the number stays.
+ *
+ * Numbers behind the sixth stay. The caller sees to it that `answer` points to `answer_len` numbers that may be written; for
+ * the rest see `check_image`.
+ */
+uint16_t bill_image(const uint8_t *image, size_t image_len, uint16_t start, uint16_t step, uint16_t taken,
+                    uint16_t interference, uint16_t least, uint32_t billed, uint32_t *answer, size_t answer_len);
+
 #ifdef __cplusplus
 }
 #endif

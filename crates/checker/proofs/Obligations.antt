@@ -16,7 +16,7 @@ use Rattle.checker.proofs.Sums.{sum-le}
 
 -- lists that have a part of at most m members for each number
 
-sum-most : (f : ℕ → ℕ) (n m : ℕ) → ((k : ℕ) → k < n → f k ≤ m) → sum f n ≤ n * m
+pub sum-most : (f : ℕ → ℕ) (n m : ℕ) → ((k : ℕ) → k < n → f k ≤ m) → sum f n ≤ n * m
 sum-most f n m h = let i = sum-le (λ k. m) f n h in let e = sum-const m n in omega arith
 
 below-most : {B : Type 0} (f : ℕ → List B) (n m : ℕ) → ((k : ℕ) → k < n → length (f k) ≤ m) → length (flat f (below n)) ≤ n * m

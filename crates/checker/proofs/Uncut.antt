@@ -136,7 +136,7 @@ module _ (s : List ℕ) (z : Sizes) (c : Checks z (bodies s)) where
   abbrev P : Program
   P = programOf z (bodies s)
 
-  few-threads : z .threads ≤ Limits.threads
+  pub few-threads : z .threads ≤ Limits.threads
   unfolding sizesOf
   few-threads =
       let e = ap (λ (y : Sizes). y .threads) (c .sizes) in
@@ -146,7 +146,7 @@ module _ (s : List ℕ) (z : Sizes) (c : Checks z (bodies s)) where
   few-points : (t : ℕ) → Within (P .threads) t → P .points t ≤ Limits.points
   few-points t w = points-few z (bodies s) c t (w .0) (w .1)
 
-  few : length (obligations P) ≤ mostObligations
+  pub few : length (obligations P) ≤ mostObligations
   few = obligations-few P few-threads few-points
 
   named-few : (k : ℕ) → namedLine z (bodies s) k ≤ Limits.lines

@@ -3,6 +3,7 @@ use mathlib.Core.Path.{_≡_, refl, ap, sym, _∙_}
 use mathlib.Core.Bool.{Bool, true, false, cond}
 use mathlib.Core.List.{List, [], _∷_, _++_}
 use Prim.Native.Nat.{ℕ, zero, suc, _+_, _-_, _*_, _≤_, _<_}
+use native.Mathlib.Nat.{add-mul}
 use native.Mathlib.Omega.{arith}
 use lib.Dec.{eqb, eqb·suc-suc}
 use lib.ListN.{length, getD, length-append, length-map}
@@ -19,7 +20,7 @@ use Rattle.records.specs.Places.{threadBody, instructionOf}
 use Rattle.records.specs.Tally.{isBranch, branches, threadTally, tallyTo, tally, obligationCount}
 use Rattle.content.specs.Program.{instr, pointCount, programOf}
 use Rattle.content.specs.Image.{imageOf}
-use Rattle.content.proofs.Sums.{sum, sum-same, sum-front, sum-const, but, sum-cross, flat-below, flat-upTo, below-length}
+use Rattle.content.proofs.Sums.{sum, sum-same, sum-front, sum-const, but, sum-cross, Additive, lengths, parts-below, flat-below, flat-upTo, below-length}
 use Rattle.content.proofs.Instr.{branch-is, instruction-there}
 
 -- over the instructions of a thread
@@ -32,18 +33,23 @@ branch-small i = go (eqb (i .operation) 6)
     go true = omega arith
     go false = omega arith
 
-branches-small : (is : List Instruction) → branches is ≤ length is
+pub branches-small : (is : List Instruction) → branches is ≤ length is
 unfolding branches
 branches-small [] = omega arith
 branches-small (i ∷ is) = let h = branches-small is in let b = branch-small i in omega arith
 
--- each instruction counts for one and for one more if it is a branch; or for one if it is none
-step-sum : (is : List Instruction) → sum (λ k. 1 + isBranch (getD is k nothing)) (length is) ≡ length is + branches is
+-- each instruction counts for so much and for some more if it is a branch; or for one if it is none
+pub step-sum : (a b : ℕ) (is : List Instruction) → sum (λ k. a + isBranch (getD is k nothing) * b) (length is) ≡ length is * a + branches is * b
 unfolding sum branches
-step-sum [] = refl
-step-sum (i ∷ is) = let e = sum-front (λ k. 1 + isBranch (getD (i ∷ is) k nothing)) (length is) in let h = step-sum is in omega arith
+step-sum a b [] = omega arith
+step-sum a b (i ∷ is) =
+    let e = sum-front (λ k. a + isBranch (getD (i ∷ is) k nothing) * b) (length is) in
+    let h = step-sum a b is in
+    let p = add-mul 1 (length is) a in
+    let q = add-mul (isBranch i) (branches is) b in
+    omega arith
 
-action-sum : (is : List Instruction) → sum (λ k. 1 - isBranch (getD is k nothing)) (length is) ≡ length is - branches is
+pub action-sum : (is : List Instruction) → sum (λ k. 1 - isBranch (getD is k nothing)) (length is) ≡ length is - branches is
 unfolding sum branches
 action-sum [] = refl
 action-sum (i ∷ is) =
@@ -56,7 +62,7 @@ action-sum (i ∷ is) =
 -- over the threads: what each adds to the tally
 
 module _ (z : Sizes) (l : List (List ℕ)) where
-  abbrev body : ℕ → List ℕ
+  abbrev pub body : ℕ → List ℕ
   body u = threadBody z l (suc u)
 
   abbrev pub pointsOf : ℕ → ℕ
@@ -91,14 +97,14 @@ module _ (z : Sizes) (l : List (List ℕ)) where
 -- the obligations of one instruction
 
 module _ (z : Sizes) (l : List (List ℕ)) where
-  abbrev P : Program
+  abbrev pub P : Program
   P = programOf z l
 
-  own-length : (t k : ℕ) (i : Instruction) → length (own P t k (instr l i)) ≡ 1 + isBranch i
+  own-length : (t k : ℕ) (i : Instruction) → length (own P t k (instr l i)) ≡ 1 + isBranch i * 1
   unfolding isBranch
-  own-length t k i = go (instr l i) ∙ ap (λ (b : Bool). 1 + cond b 1 0) (branch-is l i)
+  own-length t k i = go (instr l i) ∙ ap (λ (b : Bool). 1 + cond b 1 0 * 1) (branch-is l i)
     where
-      go : (c : Instr) → length (own P t k c) ≡ 1 + cond (Statement.isBranch c) 1 0
+      go : (c : Instr) → length (own P t k c) ≡ 1 + cond (Statement.isBranch c) 1 0 * 1
       go (act A ns) = refl
       go (branch e a) = refl
 
@@ -110,26 +116,27 @@ module _ (z : Sizes) (l : List (List ℕ)) where
       go (act A ns) = refl
       go (branch e a) = refl
 
-  -- a sum over the points of a thread that have an instruction
-  instructed-sum : {B : Type 0} (f : ℕ → List B) (g : Instruction → ℕ) (u : ℕ) → u < z .threads → ((k : ℕ) → length (f k) ≡ g (instructionOf z l (suc u) k))
-      → length (flat f (instructed P (suc u))) ≡ sum (λ k. g (getD (instructions (body z l u)) k nothing)) (length (instructions (body z l u)))
+  -- a measure of a list that has a part for each point of a thread with an instruction
+  pub instructed-sum : {B : Type 0} (m : List B → ℕ) → Additive m → (f : ℕ → List B) (g : Instruction → ℕ) (u : ℕ) → u < z .threads
+      → ((k : ℕ) → m (f k) ≡ g (instructionOf z l (suc u) k))
+      → m (flat f (instructed P (suc u))) ≡ sum (λ k. g (getD (instructions (body z l u)) k nothing)) (length (instructions (body z l u)))
   unfolding pointCount
-  instructed-sum f g u b h =
+  instructed-sum m add f g u b h =
       let q : pointCount z l (suc u) - 1 ≡ length (instructions (body z l u)) = let e = instructions-length (body z l u) in omega arith in
-      rw q (flat-below f (length (instructions (body z l u)))
-      ∙ sum-same (λ k. length (f k)) (λ k. g (getD (instructions (body z l u)) k nothing)) (length (instructions (body z l u)))
+      rw q (parts-below m add f (length (instructions (body z l u)))
+      ∙ sum-same (λ k. m (f k)) (λ k. g (getD (instructions (body z l u)) k nothing)) (length (instructions (body z l u)))
       (λ k m. h k ∙ ap g (instruction-there z l (suc u) k (omega arith) (omega arith))))
 
   thread-steps : (u : ℕ) → u < z .threads → length (flat (λ k. own P (suc u) k (P .code (suc u) k)) (instructed P (suc u))) ≡ stepsOf z l u
   thread-steps u b =
-      let e = instructed-sum (λ k. own P (suc u) k (P .code (suc u) k)) (λ i. 1 + isBranch i) u b (λ k. own-length (suc u) k (instructionOf z l (suc u) k)) in
-      let d = step-sum (instructions (body z l u)) in
+      let e = instructed-sum length lengths (λ k. own P (suc u) k (P .code (suc u) k)) (λ i. 1 + isBranch i * 1) u b (λ k. own-length (suc u) k (instructionOf z l (suc u) k)) in
+      let d = step-sum 1 1 (instructions (body z l u)) in
       let c = instructions-length (body z l u) in
       omega arith
 
   thread-actions : (u j t : ℕ) → t < z .threads → length (flat (λ k. acting P u j (suc t) k (P .code (suc t) k)) (instructed P (suc t))) ≡ actionsOf z l t
   thread-actions u j t b =
-      let e = instructed-sum (λ k. acting P u j (suc t) k (P .code (suc t) k)) (λ i. 1 - isBranch i) t b (λ k. acting-length u j (suc t) k (instructionOf z l (suc t) k)) in
+      let e = instructed-sum length lengths (λ k. acting P u j (suc t) k (P .code (suc t) k)) (λ i. 1 - isBranch i) t b (λ k. acting-length u j (suc t) k (instructionOf z l (suc t) k)) in
       let d = action-sum (instructions (body z l t)) in
       let c = instructions-length (body z l t) in
       omega arith

@@ -1,4 +1,4 @@
--- Totals over 0 to n - 1, and the lengths of lists that have a part for each number.
+-- Totals over 0 to n - 1, and measures of lists that have a part for each number.
 use mathlib.Core.Path.{_≡_, refl, ap, ap₂, sym, _∙_}
 use mathlib.Core.Bool.{Bool, true, false, cond}
 use mathlib.Core.List.{List, [], _∷_, _++_, map, append-assoc}
@@ -29,6 +29,29 @@ pub sum-const : (c n : ℕ) → sum (λ k. c) n ≡ n * c
 unfolding sum
 sum-const c zero = omega arith
 sum-const c (suc n) = let h = sum-const c n in let m = add-mul n 1 c in omega arith
+
+pub sum-add : (f g : ℕ → ℕ) (n : ℕ) → sum (λ k. f k + g k) n ≡ sum f n + sum g n
+unfolding sum
+sum-add f g zero = refl
+sum-add f g (suc n) = let h = sum-add f g n in omega arith
+
+pub sum-scale : (f : ℕ → ℕ) (c n : ℕ) → sum (λ k. f k * c) n ≡ sum f n * c
+unfolding sum
+sum-scale f c zero = omega arith
+sum-scale f c (suc n) = let h = sum-scale f c n in let m = add-mul (sum f n) (f n) c in omega arith
+
+pub sum-zero : (f : ℕ → ℕ) (n : ℕ) → ((k : ℕ) → k < n → f k ≡ 0) → sum f n ≡ 0
+sum-zero f n h = let e = sum-same f (λ k. 0) n h in let d = sum-const 0 n in omega arith
+
+-- all but one are 0
+pub sum-one : (f : ℕ → ℕ) (n u : ℕ) → u < n → ((k : ℕ) → k < n → (k ≡ u → ⊥) → f k ≡ 0) → sum f n ≡ f u
+unfolding sum
+sum-one f zero u b h = absurd (omega arith)
+sum-one f (suc n) u b h = go (eqb u n) refl (λ c. sum-one f n u c (λ k d q. h k (omega arith) q))
+  where
+    go : (x : Bool) → eqb u n ≡ x → (u < n → sum f n ≡ f u) → sum f n + f n ≡ f u
+    go true e i = let q = eqb-true u n e in let o = sum-zero f n (λ k d. h k (omega arith) (omega arith)) in rw q (omega arith)
+    go false e i = let q = eqb-false u n e in let j = i (omega arith) in let o = h n (omega arith) (omega arith) in omega arith
 
 -- the numbers before u, and that of u
 pub sum-part : (f : ℕ → ℕ) (n u : ℕ) → u < n → sum f u + f u ≤ sum f n
@@ -80,30 +103,43 @@ sum-cross p a n =
     let d = cross-with p a (sum a n) n (λ k b. sum-least a n k b) in
     omega arith
 
--- lengths
+-- lists that have a part for each number
 
 pub flat-append : {A B : Type 0} (f : A → List B) (l m : List A) → flat f (l ++ m) ≡ flat f l ++ flat f m
 flat-append f [] m = refl
 flat-append f (a ∷ l) m = ap (λ k. f a ++ k) (flat-append f l m) ∙ sym (append-assoc (f a) (flat f l) (flat f m))
 
-flat-join : {A B : Type 0} (f : A → List B) (l m : List A) → length (flat f (l ++ m)) ≡ length (flat f l) + length (flat f m)
-flat-join f l m = ap length (flat-append f l m) ∙ length-append (flat f l) (flat f m)
-
-pub flat-below : {B : Type 0} (f : ℕ → List B) (n : ℕ) → length (flat f (below n)) ≡ sum (λ k. length (f k)) n
-unfolding sum
-flat-below f zero = refl
-flat-below f (suc n) =
-    let i = flat-below f n in
-    let p = flat-join f (below n) (n ∷ []) in
-    let q = length-append (f n) [] in
-    omega arith
-
 pub flat-map : {A B C : Type 0} (f : B → List C) (g : A → B) (l : List A) → flat f (map g l) ≡ flat (λ a. f (g a)) l
 flat-map f g [] = refl
 flat-map f g (a ∷ l) = ap (λ m. f (g a) ++ m) (flat-map f g l)
 
+-- a measure that adds up over the parts of a list, as its length does
+pub record Additive {B : Type 0} (m : List B → ℕ) : Type 0 where
+  pub none : m [] ≡ 0
+  pub joined : (a b : List B) → m (a ++ b) ≡ m a + m b
+
+module _ {B : Type 0} (m : List B → ℕ) (add : Additive m) (f : ℕ → List B) where
+  pub parts-below : (n : ℕ) → m (flat f (below n)) ≡ sum (λ k. m (f k)) n
+  unfolding sum
+  parts-below zero = add .none
+  parts-below (suc n) =
+      let i = parts-below n in
+      let p = ap m (flat-append f (below n) (n ∷ [])) ∙ add .joined (flat f (below n)) (f n ++ []) in
+      let q = add .joined (f n) [] in
+      let o = add .none in
+      omega arith
+
+pub parts-upTo : {B : Type 0} (m : List B → ℕ) → Additive m → (f : ℕ → List B) (n : ℕ) → m (flat f (upTo n)) ≡ sum (λ k. m (f (suc k))) n
+parts-upTo m add f n = ap m (flat-map f suc (below n)) ∙ parts-below m add (λ k. f (suc k)) n
+
+pub lengths : {B : Type 0} → Additive (length {A = B})
+lengths = record { none = refl; joined = length-append }
+
+pub flat-below : {B : Type 0} (f : ℕ → List B) (n : ℕ) → length (flat f (below n)) ≡ sum (λ k. length (f k)) n
+flat-below = parts-below length lengths
+
 pub flat-upTo : {B : Type 0} (f : ℕ → List B) (n : ℕ) → length (flat f (upTo n)) ≡ sum (λ k. length (f (suc k))) n
-flat-upTo f n = ap length (flat-map f suc (below n)) ∙ flat-below (λ k. f (suc k)) n
+flat-upTo = parts-upTo length lengths
 
 pub below-length : (n : ℕ) → length (below n) ≡ n
 below-length zero = refl

@@ -42,7 +42,7 @@ fn branches_of(b: &[u8]) -> usize
 }
 
 // Of one thread.
-fn thread_tally(b: &[u8]) -> Tally
+pub fn thread_tally(b: &[u8]) -> Tally
     ensures { λ r. ⌜ (r ≡ threadTally (now (b .entry))) × Small 1 r ⌝ }
 {
     let last = last_point(b);

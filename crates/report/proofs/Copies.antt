@@ -1,4 +1,4 @@
--- A record copied to the front of a buffer, byte by byte.
+-- A list of so many numbers copied to the front of a buffer, one by one.
 use mathlib.Core.Path.{_≡_, refl, ap, _∙_}
 use mathlib.Core.List.{List, _++_, append-assoc}
 use Prim.Native.Nat.{ℕ, suc, _+_, _≤_, _<_}
@@ -6,9 +6,8 @@ use native.Mathlib.Numerals.{add-one}
 use native.Mathlib.Omega.{arith}
 use lib.ListN.{length, getD, set, take, drop, length-set}
 use lib.Seq.{take-suc, drop-cons, set-at, take-all, length-take-le}
-use Rattle.report.specs.Record.{size}
 
-module _ (v o w : List ℕ) (i : ℕ) (l : length v ≡ size) (e : w ≡ take i v ++ drop i o) where
+module _ (size : ℕ) (v o w : List ℕ) (i : ℕ) (l : length v ≡ size) (e : w ≡ take i v ++ drop i o) where
   copy-byte : i < length v → i < length o → set w i (getD v i 0) ≡ take (i + 1) v ++ drop (i + 1) o
   copy-byte a b =
       let le : i ≤ length v = omega arith in
