@@ -3,7 +3,7 @@
 
 mod kept;
 
-use crate::checker::check;
+use crate::checker::accepted;
 use crate::image::written::Written;
 use kept::Kept;
 
@@ -21,21 +21,24 @@ pub struct Answer {
 
 /// The bytes of the image trimmed; none if it is not accepted.
 pub fn trimmed(image: &[u8]) -> Option<Vec<u8>> {
-    if check(image).code != 0 {
-        return None;
-    }
+    accepted(image)?;
     Written::read(image).map(|written| trim(written).bytes())
 }
 
 /// Writes the image trimmed to the front of `out`, or nothing; bytes behind it stay as they were.
 pub fn trim_into(image: &[u8], out: &mut [u8]) -> Answer {
-    let Some(bytes) = trimmed(image) else {
+    put(trimmed(image).as_deref(), out)
+}
+
+/// Writes what was trimmed, if there is any and it has room.
+pub fn put(trimmed: Option<&[u8]>, out: &mut [u8]) -> Answer {
+    let Some(bytes) = trimmed else {
         return Answer { code: NOT_ACCEPTED, length: 0 };
     };
     match out.get_mut(..bytes.len()) {
         None => Answer { code: OUTPUT_TOO_SHORT, length: 0 },
         Some(front) => {
-            front.copy_from_slice(&bytes);
+            front.copy_from_slice(bytes);
             Answer { code: 0, length: bytes.len() }
         }
     }
