@@ -6,7 +6,7 @@ use outline::command::{
 use std::process::ExitCode;
 
 const HELP: &str = "\
-outline build FILE.outline -o FILE.image [--partial] [--all] [--at THREAD:POINT]
+outline build FILE.outline -o FILE.image [--partial] [--all] [--at THREAD:POINT] [--all-lines]
                                                                finds a certificate, writes the image, says its verdict
 outline check FILE|FOLDER..                                    judges images and outlines
 outline show FILE                                              an image as text, its verdict first
@@ -23,6 +23,7 @@ outline bill FILE|FOLDER.. --tariff TARIFF [--billed N]        what the checks c
 FILE is an outline or an image; `-` is standard input, behind -o standard output. All take --json.
   --partial   writes an image with open obligations and claims too
   --all       tells all open obligations and claims in full
+  --all-lines writes every line that the search found, dead ones too
   --at        tells in full what is open at this point, by its number or its label
   --claims    looks at the claims alone, whatever the assertions say
   --outcome   can the registers be so when all threads have ended?

@@ -50,6 +50,9 @@ pub fn run(args: &[&str]) -> Done {
 /// The tariff of the file that is named.
 fn prices(options: &Options) -> Result<Tariff, String> {
     let file = options.tariff.as_deref().ok_or("`--tariff FILE` is wanted; see outline --help")?;
+    if file == "-" && options.files.iter().any(|file| file == "-") {
+        return Err("standard input is one file: the tariff or an image".into());
+    }
     let text = match read(file)? {
         Input::Text(text) => text,
         Input::Image(bytes) if bytes.is_empty() => String::new(),

@@ -9,6 +9,7 @@ pub struct Options {
     pub target: Option<String>,
     pub partial: bool,
     pub all: bool,
+    pub all_lines: bool,
     pub json: bool,
     pub claims: bool,
     pub at: Option<String>,
@@ -43,6 +44,7 @@ impl Options {
                 }
                 "--partial" => options.partial = true,
                 "--all" => options.all = true,
+                "--all-lines" => options.all_lines = true,
                 "--json" => options.json = true,
                 "--claims" => options.claims = true,
                 file => options.files.push(file.into()),

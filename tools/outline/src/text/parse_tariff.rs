@@ -8,22 +8,26 @@ const PRICED: [&str; 5] = ["start", "step", "taken", "interference", "least"];
 
 /// A tariff, or all mistakes of the text: each price stands there once, 0 to 65,535. `#` begins a comment.
 pub fn tariff(text: &str) -> Result<Tariff, Vec<Mistake>> {
-    let (mut prices, mut mistakes) = ([None; 5], Vec::new());
+    let (mut prices, mut named, mut mistakes) = ([0; 5], [false; 5], Vec::new());
     for (line, content) in (1..).zip(text.lines()) {
-        let told = price(content).and_then(|priced| match priced {
-            Some((at, _)) if prices[at].is_some() => Err(fault(content, 0, "is priced twice")),
-            Some((at, cents)) => Ok(prices[at] = Some(cents)),
-            None => Ok(()),
-        });
+        let Some(name) = words(content).next() else { continue };
+        let told = match PRICED.iter().position(|priced| *priced == name) {
+            None => Err(fault(content, 0, "is no part of a tariff")),
+            Some(at) if named[at] => Err(fault(content, 0, "is priced twice")),
+            Some(at) => {
+                named[at] = true;
+                price(content).map(|cents| prices[at] = cents)
+            }
+        };
         if let Err((column, text)) = told {
             mistakes.push(Mistake { line: Place { line, column }, text });
         }
     }
     let end = Place::from(text.lines().count().max(1));
-    for (name, _) in PRICED.iter().zip(prices).filter(|(_, cents)| cents.is_none()) {
+    for (name, _) in PRICED.iter().zip(named).filter(|(_, named)| !named) {
         mistakes.push(Mistake { line: end, text: format!("`{name}` has no price") });
     }
-    let [start, step, taken, interference, least] = prices.map(Option::unwrap_or_default);
+    let [start, step, taken, interference, least] = prices;
     let tariff = Tariff { start, step, taken, interference, least };
     if mistakes.is_empty() {
         Ok(tariff)
@@ -35,19 +39,16 @@ pub fn tariff(text: &str) -> Result<Tariff, Vec<Mistake>> {
 /// A fault with its column.
 type Fault = (usize, String);
 
-/// What a line prices, by its place in the list, and the cents; none of an empty line.
-fn price(content: &str) -> Result<Option<(usize, u16)>, Fault> {
-    let words: Vec<&str> = words(content).collect();
-    let Some(name) = words.first() else { return Ok(None) };
-    let at = PRICED.iter().position(|priced| priced == name);
-    let at = at.ok_or_else(|| fault(content, 0, "is no part of a tariff"))?;
-    let cents = match words[..] {
-        [_] => return Err(fault(content, 0, "wants a price in cents")),
-        [_, cents] => cents.parse().ok().filter(|_| cents.bytes().all(|b| b.is_ascii_digit())),
-        _ => return Err(fault(content, 2, "is too much: a line has one price")),
-    };
-    let cents = cents.ok_or_else(|| fault(content, 1, "is no price: cents are 0 to 65535"))?;
-    Ok(Some((at, cents)))
+/// The cents of a line that begins with a name.
+fn price(content: &str) -> Result<u16, Fault> {
+    let mut behind = words(content).skip(1);
+    let cents = behind.next().ok_or_else(|| fault(content, 0, "wants a price in cents"))?;
+    if behind.next().is_some() {
+        return Err(fault(content, 2, "is too much: a line has one price"));
+    }
+    let digits = cents.bytes().all(|byte| byte.is_ascii_digit());
+    let number = cents.parse().ok().filter(|_| digits);
+    number.ok_or_else(|| fault(content, 1, "is no price: cents are 0 to 65535"))
 }
 
 /// The words of a line before its comment.
@@ -93,11 +94,10 @@ mod tests {
             "5:1 `start` is priced twice",
             "6:1 `least` wants a price in cents",
             "7:16 `5` is too much: a line has one price",
-            "7:0 `step` has no price",
-            "7:0 `taken` has no price",
-            "7:0 `interference` has no price",
-            "7:0 `least` has no price",
         ];
         assert_eq!(told, expected);
+        let none = tariff("start 1\n# step 2\n").unwrap_err();
+        assert_eq!(none[0].to_string(), "line 2: `step` has no price");
+        assert_eq!(none.len(), 4);
     }
 }
