@@ -1,7 +1,7 @@
 //! Images that trimming makes smaller: dead lines and chains of them, lines and formulas written twice, unused formulas,
 //! premises that are not needed, lines on which a claim alone rests.
 
-mod insert;
+pub mod insert;
 
 use super::image::plan;
 use super::random::Random;
