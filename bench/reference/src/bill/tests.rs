@@ -28,7 +28,8 @@ fn three_threads() -> Vec<u8> {
     let branch = Instruction::Branch { test: Rc::new(Test::False), target: 0 };
     let threads = vec![vec![assign(1), assign(1)], vec![branch, assign(2)], Vec::new()];
     let points = threads.iter().map(|code| code.len() + 1);
-    let outline = points.map(|points| vec![Rc::new(Assertion::truth()); points]).collect();
+    let truth = Rc::new(Assertion::truth());
+    let outline = points.map(|points| vec![truth.clone(); points]).collect();
     let header = Header::cleared(counts, vec![0], vec![1, 2]);
     let program = Program { header, threads, outline };
     let lines =

@@ -15,12 +15,12 @@ const TRIMS: &str = "trim";
 const BILLS: &str = "bills";
 const SETS: [&str; 6] = [FORMULAS, "formulas", "images", "rules", TRIMS, BILLS];
 
-/// A set of formulas, of images trimmed or billed or, by any other name, of images judged.
+/// A set of formulas, by the front of its name of images trimmed or billed, by any other name of images judged.
 fn judge_of(name: &str) -> Judge {
     match name {
         FORMULAS => formulas,
-        TRIMS => trims::judged,
-        BILLS => bills::judged,
+        _ if name.starts_with(TRIMS) => trims::judged,
+        _ if name.starts_with(BILLS) => bills::judged,
         _ => images,
     }
 }

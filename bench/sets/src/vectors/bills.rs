@@ -1,6 +1,7 @@
 //! Images to be billed: each class priced, least charges, numbers at both ends, answers of several lengths.
 
 use super::images::SMALL;
+use super::refused::by_code;
 use super::tour;
 use crate::examples::{largest, message_passing, two_writes};
 use crate::generate::clutter;
@@ -109,14 +110,18 @@ fn rooms() -> Vec<BillCase> {
     cases
 }
 
-/// One byte of the small image changed; most have a fault then.
+/// An image of each code, and the small one with one byte changed, of which most have a fault then.
 fn refused() -> Vec<BillCase> {
+    let of_code = |(code, image): (u16, Vec<u8>)| {
+        let label = format!("verdict {code}");
+        BillCase { billed: code.into(), ..case(label, &image, DEAREST) }
+    };
     let changed = |place: usize| {
         let mut image = SMALL;
         image[place] ^= 5;
         case(format!("small, byte {place} changed"), &image, DEAREST)
     };
-    (0..SMALL.len()).map(changed).collect()
+    by_code().into_iter().map(of_code).chain((0..SMALL.len()).map(changed)).collect()
 }
 
 /// Programs of every number of threads.

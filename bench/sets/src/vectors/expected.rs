@@ -11,8 +11,12 @@ const BILL_CODES: [u16; 4] = [0, 1, 30, 31];
 /// is cut short.
 pub fn line(name: &str, bytes: &[u8]) -> Option<String> {
     let (codes, stored): (&[u16], Vec<u16>) = match name {
-        "trim.bin" => (&TRIM_CODES, trims::cases(bytes)?.iter().map(|case| case.code).collect()),
-        "bills.bin" => (&BILL_CODES, bills::cases(bytes)?.iter().map(|case| case.code).collect()),
+        _ if name.starts_with("trim") => {
+            (&TRIM_CODES, trims::cases(bytes)?.iter().map(|case| case.code).collect())
+        }
+        _ if name.starts_with("bills") => {
+            (&BILL_CODES, bills::cases(bytes)?.iter().map(|case| case.code).collect())
+        }
         _ => (&CODES, stored_images(bytes)?.iter().map(|case| case.fields[0]).collect()),
     };
     let of_code = |code| stored.iter().filter(|&&one| one == code).count();

@@ -10,6 +10,7 @@ pub mod formulas;
 pub mod images;
 mod nesting;
 pub mod precedence;
+mod refused;
 pub mod rules;
 pub mod store;
 pub mod tour;

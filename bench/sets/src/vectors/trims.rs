@@ -1,14 +1,15 @@
 //! Images to be trimmed: each clause of what is kept, and buffers of several lengths.
 
-use super::images::{self, SMALL};
-use super::{rules, tour};
+use super::images::SMALL;
+use super::refused::by_code;
+use super::tour;
 use crate::examples::{largest, message_passing, two_writes};
 use crate::generate::clutter;
 use crate::generate::clutter::insert::{insert_formula, insert_line, named_formulas};
 use reference::checker::check;
 use reference::image::written::{image_bytes, Line, Written};
 use reference::trim::trimmed;
-use std::collections::{BTreeMap, BTreeSet};
+use std::collections::BTreeSet;
 
 /// An image with a buffer of so many bytes.
 #[derive(Clone, Debug, PartialEq, Eq)]
@@ -29,7 +30,7 @@ pub fn cases() -> Vec<TrimCase> {
 }
 
 /// A buffer that is just long enough, or as long as an image that is not accepted.
-fn case(label: impl Into<String>, image: Vec<u8>) -> TrimCase {
+pub fn exact(label: impl Into<String>, image: Vec<u8>) -> TrimCase {
     let room = trimmed(&image).map_or(image.len(), |bytes| bytes.len());
     TrimCase { label: label.into(), image, room }
 }
@@ -42,17 +43,17 @@ fn tour() -> Written {
 fn changed(label: impl Into<String>, change: impl FnOnce(&mut Written)) -> TrimCase {
     let mut image = tour();
     change(&mut image);
-    case(label, image.bytes())
+    exact(label, image.bytes())
 }
 
 /// Buffers from none to longer than the image, of an image with nothing to trim and of one with dead lines.
 fn rooms() -> Vec<TrimCase> {
     let mut cases = Vec::new();
     for (name, image) in [("small", SMALL.to_vec()), ("tour", tour().bytes())] {
-        let exact = case("", image.clone()).room;
-        let all = [0, 1, exact - 1, exact, exact + 1, image.len(), image.len() + 100];
+        let length = exact("", image.clone()).room;
+        let all = [0, 1, length - 1, length, length + 1, image.len(), image.len() + 100];
         for room in BTreeSet::from(all) {
-            let label = format!("{name}: {room} bytes for {exact}");
+            let label = format!("{name}: {room} bytes for {length}");
             cases.push(TrimCase { label, image: image.clone(), room });
         }
     }
@@ -255,15 +256,8 @@ fn kept_chain(image: &mut Written) {
     image.lines[usize::from(image.obligations[0]) - 1].premises.push(300);
 }
 
-/// The first image of each code in the other sets: none is trimmed.
+/// An image of each code: none is trimmed.
 fn refused() -> Vec<TrimCase> {
-    let mut first = BTreeMap::new();
-    for case in images::cases().into_iter().chain(rules::cases()) {
-        let code = check(&case.image).code;
-        if code != 0 && case.image.len() < LONGEST {
-            first.entry(code).or_insert(case.image);
-        }
-    }
     let with_rooms = |(code, image): (u16, Vec<u8>)| {
         [0, image.len() + 10].map(|room| TrimCase {
             label: format!("verdict {code}, {room} bytes"),
@@ -271,15 +265,15 @@ fn refused() -> Vec<TrimCase> {
             room,
         })
     };
-    first.into_iter().flat_map(with_rooms).collect()
+    by_code().into_iter().flat_map(with_rooms).collect()
 }
 
 /// Proofs by hand, and as much as there may be.
 fn whole() -> Vec<TrimCase> {
     vec![
-        case("message passing", message_passing().bytes()),
-        case("two writes", two_writes().bytes()),
-        case("largest", largest()),
+        exact("message passing", message_passing().bytes()),
+        exact("two writes", two_writes().bytes()),
+        exact("largest", largest()),
     ]
 }
 
@@ -287,5 +281,5 @@ fn generated() -> Vec<TrimCase> {
     let images = (0..SEEDS).map(|seed| (seed, clutter::image(seed)));
     let short = images.filter(|(_, image)| image.len() <= LONGEST);
     let accepted = short.filter(|(_, image)| check(image).code == 0);
-    accepted.map(|(seed, image)| case(format!("generated from seed {seed}"), image)).collect()
+    accepted.map(|(seed, image)| exact(format!("generated from seed {seed}"), image)).collect()
 }
