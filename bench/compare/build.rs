@@ -12,12 +12,12 @@ fn main() {
     println!("cargo:rustc-link-search=native={archives}");
     for (name, told) in FURTHER {
         println!("cargo:rustc-check-cfg=cfg({told})");
-        println!("cargo:rerun-if-changed={archives}/lib{name}.a");
         if Path::new(&format!("{archives}/lib{name}.a")).exists() {
             println!("cargo:rustc-link-lib=static={name}");
             println!("cargo:rustc-cfg={told}");
         }
     }
     println!("cargo:rustc-link-lib=static=checker");
-    println!("cargo:rerun-if-changed={archives}/libchecker.a");
+    // The folder, so that an archive that comes later is seen whatever its date.
+    println!("cargo:rerun-if-changed={archives}");
 }
