@@ -5,24 +5,26 @@ mod proved;
 mod startup;
 mod timing;
 
+use driver::Task;
 use std::process::ExitCode;
 
 const USAGE: &str = "\
-usage: compare compare|trim|bill N [SEED] | files PATH... | bench [IMAGE...] | trim-bench [IMAGE...] |
+usage: compare compare|trim|bill N [SEED] | files|trim-files|bill-files PATH... | bench|trim-bench [IMAGE...] |
                images FOLDER | startup PROGRAM IMAGE";
 
 fn main() -> ExitCode {
     let arguments: Vec<String> = std::env::args().skip(1).collect();
     let words: Vec<&str> = arguments.iter().map(String::as_str).collect();
     let done = match words[..] {
-        [task @ ("compare" | "trim" | "bill"), images] => compare(task, images, "1"),
-        [task @ ("compare" | "trim" | "bill"), images, seed] => compare(task, images, seed),
+        ["compare", ref numbers @ ..] => compare(&driver::CHECK, numbers),
+        ["trim", ref numbers @ ..] => trimming().and_then(|task| compare(&task, numbers)),
+        ["bill", ref numbers @ ..] => billing().and_then(|task| compare(&task, numbers)),
         ["files", ref paths @ ..] => Ok(driver::files(&driver::CHECK, paths)),
+        ["trim-files", ref paths @ ..] => trimming().map(|task| driver::files(&task, paths)),
+        ["bill-files", ref paths @ ..] => billing().map(|task| driver::files(&task, paths)),
         ["images", folder] => Ok(timing::write(folder)),
         ["bench", ref names @ ..] => Ok(timing::run(&timing::CHECK, names)),
-        ["trim-bench", ref names @ ..] => {
-            linked(proved::TRIM.is_some(), "trim").map(|()| timing::run(&timing::TRIM, names))
-        }
+        ["trim-bench", ref names @ ..] => trimming().map(|_| timing::run(&timing::TRIM, names)),
         ["startup", program, image] => Ok(startup::run(program, image)),
         _ => Err(USAGE.into()),
     };
@@ -36,15 +38,22 @@ fn main() -> ExitCode {
     }
 }
 
-/// Compares on so many generated images from a seed; an error is wrong use.
-fn compare(task: &str, images: &str, seed: &str) -> Result<bool, String> {
-    let task = match task {
-        "trim" => linked(proved::TRIM.is_some(), "trim").map(|()| driver::TRIM)?,
-        "bill" => linked(proved::BILL.is_some(), "bills").map(|()| driver::BILL)?,
-        _ => driver::CHECK,
-    };
-    let numbers = number(images).zip(number(seed)).ok_or(USAGE)?;
-    Ok(driver::run(&task, numbers.0, numbers.1))
+/// Compares on so many generated images, from seed 1 or from the one given; an error is wrong use.
+fn compare(task: &Task, numbers: &[&str]) -> Result<bool, String> {
+    let numbers: Option<Vec<u64>> = numbers.iter().map(|text| text.parse().ok()).collect();
+    match numbers.as_deref() {
+        Some(&[images]) => Ok(driver::run(task, images, 1)),
+        Some(&[images, seed]) => Ok(driver::run(task, images, seed)),
+        _ => Err(USAGE.into()),
+    }
+}
+
+fn trimming() -> Result<Task, String> {
+    linked(proved::TRIM.is_some(), "trim").map(|()| driver::TRIM)
+}
+
+fn billing() -> Result<Task, String> {
+    linked(proved::BILL.is_some(), "bills").map(|()| driver::BILL)
 }
 
 /// An error if an archive was not there when this program was built.
@@ -53,8 +62,4 @@ fn linked(is_linked: bool, name: &str) -> Result<(), String> {
         "target/staticlib/lib{name}.a was not there: `rt staticlib {name}`, then build again"
     );
     is_linked.then_some(()).ok_or(fault)
-}
-
-fn number(text: &str) -> Option<u64> {
-    text.parse().ok()
 }
