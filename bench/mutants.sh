@@ -6,6 +6,7 @@
 #
 # An edit file has lines "file PATH", a path in reference/src, and pairs of lines
 # "- OLD" and "+ NEW": OLD occurs in the file, its first occurrence becomes NEW.
+# A line "sets NAME.." says which sets are judged again; without it all are.
 set -euo pipefail
 
 here=$(cd "$(dirname "${BASH_SOURCE[0]}")" && pwd)
@@ -36,7 +37,7 @@ judge() {
     if ! cargo build --quiet --offline -j1 -p reference --bin recheck 2>"$work/log"; then
         echo "DOES NOT BUILD  $1"
         unfit=$((unfit + 1))
-    elif timeout 120 "$work/target/debug/recheck" "$work/sets" >"$work/log" 2>&1; then
+    elif timeout 120 "$work/target/debug/recheck" "$work/sets" "${sets[@]}" >"$work/log" 2>&1; then
         echo "SURVIVES        $1"
         survived=$((survived + 1))
     fi
@@ -58,10 +59,11 @@ try_edit() {
 }
 
 for edits in "$work"/lists/*; do
-    file='' old=''
+    file='' old='' sets=()
     while IFS= read -r line; do
         case $line in
         'file '*) file=${line#file } ;;
+        'sets '*) read -ra sets <<<"${line#sets }" ;;
         '- '*) old=${line#- } ;;
         '+ '*) try_edit "$file" "$old" "${line#+ }" ;;
         esac

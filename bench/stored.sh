@@ -1,6 +1,6 @@
 #!/usr/bin/env bash
-# Writes every stored set: those that `vectors` makes, and `examples`, the images of ../examples and the two with
-# proofs written by hand.
+# Writes every stored set: those that `vectors` makes; `examples`, the images of ../examples and the two with proofs
+# written by hand; `trim-examples`, the accepted ones of ../examples with every line that the search found, trimmed.
 #
 # Usage: stored.sh FOLDER
 set -euo pipefail
@@ -18,3 +18,11 @@ for name in message-passing two-writes; do
     cp "$folder/$name.image" "$images/$name-by-hand.image"
 done
 ../target/rust/release/pack "$images" "$folder" examples
+
+rm "$images"/*
+for source in ../examples/*.outline; do
+    if ! grep -q '^# refused:' "$source"; then
+        ../target/rust/release/outline build "$source" -o "$images/$(basename "$source" .outline).image" --all-lines >/dev/null
+    fi
+done
+../target/rust/release/pack --trim "$images" "$folder" trim-examples

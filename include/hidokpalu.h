@@ -4,7 +4,8 @@
  * Link target/staticlib/libchecker.a, which `rt staticlib checker` writes (x86-64 Linux). Besides `check_image` it
  * needs memcpy and memset of the C library, and nothing else: no heap, no files, no state from one call to the next.
  * So any number of threads may call it at once. It needs 58 KB of stack on the smallest image; the most that was measured,
- * over all stored images, is 136 KB. Give it 192 KB.
+ * over all stored images, is 136 KB. Give it 192 KB. `trim_image` is in libtrimming.a (`rt staticlib trimming`), `bill_image` in
+ * libbilling.a (`rt staticlib billing`).
  */
 #ifndef HIDOKPALU_H
 #define HIDOKPALU_H
@@ -98,38 +99,49 @@ enum hidokpalu_offset {
  */
 uint16_t check_image(const uint8_t *image, size_t image_len, uint8_t *out, size_t out_len);
 
-/* The code of a bill. */
-enum hidokpalu_bill_code {
-    HIDOKPALU_BILLED = 0,
-    HIDOKPALU_BILL_SHORT_ANSWER = 1, /* the answer has fewer than HIDOKPALU_BILL_NUMBERS; nothing is written */
-    HIDOKPALU_BILL_NOT_ACCEPTED = 30, /* the image is not accepted: `check_image` would answer another code than 0 */
-    HIDOKPALU_BILL_NUMBER_AT_END = 31 /* the image is accepted, and the number of billed images is UINT32_MAX */
+/* Codes of the calls below, besides HIDOKPALU_ACCEPTED. */
+enum hidokpalu_further_code {
+    HIDOKPALU_TRIM_REFUSED = 24,  /* trim_image: the image is not accepted */
+    HIDOKPALU_TRIM_ROOM = 25,     /* trim_image: the buffer is shorter than the trimmed image */
+    HIDOKPALU_BILL_REFUSED = 30,  /* bill_image: the image is not accepted */
+    HIDOKPALU_BILL_END = 31       /* bill_image: the number of billed images is at its end */
 };
-
-/* Where each number of a bill stands. */
-enum hidokpalu_bill_index {
-    HIDOKPALU_BILL_CENTS = 0,
-    HIDOKPALU_BILL_BILLED = 1,    /* how many images are billed afterwards */
-    HIDOKPALU_BILL_THREADS = 2    /* four numbers: what is on the account of threads 1 to 4, 0 for one that is not there */
-};
-
-#define HIDOKPALU_BILL_NUMBERS 6
 
 /*
- * Bills an image: so many cents for each of its obligations, by class (see `hidokpalu_class`), and a least charge. `billed`
- * is how many images are billed before. Link target/staticlib/libbilling.a, which `rt staticlib billing` writes.
+ * Trims an image for the archive: from an accepted image one with the same program, outline and claims, the lines on
+ * which an obligation or a claim rests, and the formulas that are still named, both in their old order and renumbered.
+ * It is accepted with the same count, it is no longer than the image, and trimming it again gives the same bytes.
  *
- * Every image, tariff, number and answer will do; result and answer follow from these alone:
+ * - 0: the trimmed image stands in the front of the buffer, `*written` is its length, and the bytes behind it stay.
+ * - HIDOKPALU_TRIM_REFUSED: `check_image` does not accept the image, whatever the buffer's length. A claim that fails
+ *   is refused too.
+ * - HIDOKPALU_TRIM_ROOM: the buffer is shorter than the trimmed image. One as long as the image is long enough.
  *
- * - An answer below HIDOKPALU_BILL_NUMBERS numbers: the result is HIDOKPALU_BILL_SHORT_ANSWER whatever the image holds, and
- *   nothing is written.
- * - HIDOKPALU_BILLED: the bill is the larger of the sum over all obligations and the least charge, exact; the number is one
- *   more. A thread's account has its start, its steps and branches, and interference by its instructions. The accounts add
- *   up to the sum; the least charge is in none of them. Claims cost nothing.
- * - HIDOKPALU_BILL_NOT_ACCEPTED, and after it HIDOKPALU_BILL_NUMBER_AT_END: bill and accounts are 0, and the number stays.
+ * With an error `*written` is 0 and the buffer stays as it was. The caller sees to the pointers as above; `written`
+ * points to a number of its own.
+ */
+uint16_t trim_image(const uint8_t *image, size_t image_len, uint8_t *out, size_t out_len, size_t *written);
+
+/* How many numbers an answer of bill_image has, and where each stands. */
+#define HIDOKPALU_BILL_NUMBERS 6
+enum hidokpalu_bill_at {
+    HIDOKPALU_BILL_CENTS = 0,     /* the larger of the sum and the least charge */
+    HIDOKPALU_BILL_BILLED = 1,    /* how many images are billed by now */
+    HIDOKPALU_BILL_THREAD = 2     /* from here on the sums of threads 1 to 4, 0 for one that is not there */
+};
+
+/*
+ * Bills an accepted image: cents for each obligation by its class (`start`, `step`, `taken`, `interference`: classes 1
+ * to 4), and at least the least charge, which is in no thread's sum. Class 4 belongs to the thread that acts, the other
+ * classes to their own. Claims cost nothing. `billed` is how many images are billed already.
  *
- * Numbers behind the sixth stay. The caller sees to it that `answer` points to `answer_len` numbers that may be written; for
- * the rest see `check_image`.
+ * - 0: the answer's first HIDOKPALU_BILL_NUMBERS are written; the number is `billed` plus 1, for a bill of 0 cents too.
+ * - HIDOKPALU_SHORT_OUTPUT: the answer has fewer numbers, whatever the image and `billed`; nothing is written.
+ * - HIDOKPALU_BILL_REFUSED: `check_image` does not accept the image.
+ * - HIDOKPALU_BILL_END, after it: `billed` is 4294967295.
+ *
+ * With the last two cents and sums are 0 and the number is `billed`. Numbers behind the sixth stay. The caller sees to
+ * the pointers as above.
  */
 uint16_t bill_image(const uint8_t *image, size_t image_len, uint16_t start, uint16_t step, uint16_t taken,
                     uint16_t interference, uint16_t least, uint32_t billed, uint32_t *answer, size_t answer_len);

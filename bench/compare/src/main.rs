@@ -1,39 +1,65 @@
-//! The proved checker beside the independent one.
+//! The proved checker and what stands on it, beside the independent ones.
 
 mod driver;
 mod proved;
 mod startup;
 mod timing;
 
+use driver::Task;
 use std::process::ExitCode;
 
-const USAGE: &str = "usage: compare N [SEED] | files PATH... | bench [IMAGE...] | images FOLDER | \
-                     startup PROGRAM IMAGE";
+const USAGE: &str = "\
+usage: compare compare|trim|bill N [SEED] | files|trim-files|bill-files PATH... | bench|trim-bench [IMAGE...] |
+               images FOLDER | startup PROGRAM IMAGE";
 
 fn main() -> ExitCode {
     let arguments: Vec<String> = std::env::args().skip(1).collect();
     let words: Vec<&str> = arguments.iter().map(String::as_str).collect();
     let done = match words[..] {
-        ["compare", images] => number(images).map(|images| driver::run(images, 1)),
-        ["compare", images, seed] => {
-            number(images).zip(number(seed)).map(|(images, seed)| driver::run(images, seed))
-        }
-        ["files", ref paths @ ..] => Some(driver::files(paths)),
-        ["images", folder] => Some(timing::write(folder)),
-        ["bench", ref names @ ..] => Some(timing::run(names)),
-        ["startup", program, image] => Some(startup::run(program, image)),
-        _ => None,
+        ["compare", ref numbers @ ..] => compare(&driver::CHECK, numbers),
+        ["trim", ref numbers @ ..] => trimming().and_then(|task| compare(&task, numbers)),
+        ["bill", ref numbers @ ..] => billing().and_then(|task| compare(&task, numbers)),
+        ["files", ref paths @ ..] => Ok(driver::files(&driver::CHECK, paths)),
+        ["trim-files", ref paths @ ..] => trimming().map(|task| driver::files(&task, paths)),
+        ["bill-files", ref paths @ ..] => billing().map(|task| driver::files(&task, paths)),
+        ["images", folder] => Ok(timing::write(folder)),
+        ["bench", ref names @ ..] => Ok(timing::run(&timing::CHECK, names)),
+        ["trim-bench", ref names @ ..] => trimming().map(|_| timing::run(&timing::TRIM, names)),
+        ["startup", program, image] => Ok(startup::run(program, image)),
+        _ => Err(USAGE.into()),
     };
     match done {
-        Some(true) => ExitCode::SUCCESS,
-        Some(false) => ExitCode::FAILURE,
-        None => {
-            eprintln!("{USAGE}");
+        Ok(true) => ExitCode::SUCCESS,
+        Ok(false) => ExitCode::FAILURE,
+        Err(fault) => {
+            eprintln!("{fault}");
             ExitCode::from(2)
         }
     }
 }
 
-fn number(text: &str) -> Option<u64> {
-    text.parse().ok()
+/// Compares on so many generated images, from seed 1 or from the one given; an error is wrong use.
+fn compare(task: &Task, numbers: &[&str]) -> Result<bool, String> {
+    let numbers: Option<Vec<u64>> = numbers.iter().map(|text| text.parse().ok()).collect();
+    match numbers.as_deref() {
+        Some(&[images]) => Ok(driver::run(task, images, 1)),
+        Some(&[images, seed]) => Ok(driver::run(task, images, seed)),
+        _ => Err(USAGE.into()),
+    }
+}
+
+fn trimming() -> Result<Task, String> {
+    linked(proved::TRIM.is_some(), "trim").map(|()| driver::TRIM)
+}
+
+fn billing() -> Result<Task, String> {
+    linked(proved::BILL.is_some(), "bills").map(|()| driver::BILL)
+}
+
+/// An error if an archive was not there when this program was built.
+fn linked(is_linked: bool, name: &str) -> Result<(), String> {
+    let fault = format!(
+        "target/staticlib/lib{name}.a was not there: `rt staticlib {name}`, then build again"
+    );
+    is_linked.then_some(()).ok_or(fault)
 }

@@ -4,6 +4,7 @@
 //! the rules and the machine (the scope page), and from nothing else.
 
 pub mod assemble;
+pub mod bill;
 pub mod checker;
 pub mod explore;
 pub mod formula;
@@ -11,3 +12,4 @@ pub mod image;
 pub mod machine;
 pub mod proof;
 pub mod stored;
+pub mod trim;

@@ -1,6 +1,7 @@
 //! A source to an image: by search, or by a certificate written out.
 
 use crate::search::budget::{Budget, TRIES};
+use crate::search::kept::Kept;
 use crate::search::prover::{At, Prover};
 use crate::text::lex::Mistake;
 use crate::text::source::{Hint, Source};
@@ -105,13 +106,18 @@ pub type Watch<'a> = &'a dyn Fn(usize, usize) -> bool;
 
 /// As `build_past_failures`, while somebody watches.
 pub fn build_watched(source: &Source, tries: u64, watch: Watch) -> Result<Built, Mistake> {
+    build_with(source, Kept::Needed, tries, watch)
+}
+
+/// As `build_watched`, with these lines. A certificate that is written out has the lines that it has.
+pub fn build_with(source: &Source, kept: Kept, tries: u64, watch: Watch) -> Result<Built, Mistake> {
     match &source.certificate {
         Some(certificate) => crate::explicit::build(source, certificate),
-        None => Ok(search(source, tries, watch)),
+        None => Ok(search(source, kept, tries, watch)),
     }
 }
 
-fn search(source: &Source, tries: u64, watch: Watch) -> Built {
+fn search(source: &Source, kept: Kept, tries: u64, watch: Watch) -> Built {
     let program = source.program();
     let mut prover = Prover::new(&program, source.names.clone());
     prover.budget = Budget::of(tries);
@@ -136,7 +142,8 @@ fn search(source: &Source, tries: u64, watch: Watch) -> Built {
         found.push((goal, line));
     }
     let (tries, most_tries) = prover.budget.made();
-    Built { image: assemble(&program, &prover, &found), open, failed, untried, tries, most_tries }
+    let image = assemble(&program, &prover, kept, &found);
+    Built { image, open, failed, untried, tries, most_tries }
 }
 
 /// What is told of a goal for which no line was found.
@@ -192,11 +199,16 @@ fn take_hint(prover: &mut Prover, hint: &Hint) -> Result<(), Mistake> {
     Ok(())
 }
 
-/// Numbers formulas and lines; lines that nothing rests on are left out.
-fn assemble(program: &Program, prover: &Prover, found: &[(Goal, Option<usize>)]) -> Written {
+/// Numbers formulas and lines.
+fn assemble(
+    program: &Program,
+    prover: &Prover,
+    kept: Kept,
+    found: &[(Goal, Option<usize>)],
+) -> Written {
     let mut image = Assembly::of(program);
     let roots: Vec<usize> = found.iter().filter_map(|(_, line)| *line).collect();
-    let kept = prover.lines.needed(&roots);
+    let kept = kept.places(&prover.lines, program, &roots);
     let place = |at: usize| kept.binary_search(&at).map_or(0, |i| i as u16 + 1);
     for at in &kept {
         let entry = &prover.lines.entries[*at];

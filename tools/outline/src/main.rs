@@ -1,10 +1,12 @@
-//! The program `outline`: builds, judges, shows, explains, explores and draws proof outlines.
+//! The program `outline`: builds, judges, shows, explains, explores, draws, trims and bills proof outlines.
 
-use outline::command::{build, check, draw, explain, explore, print, report, show, Done, Status};
+use outline::command::{
+    bill, build, check, draw, explain, explore, print, report, show, trim, Done, Status,
+};
 use std::process::ExitCode;
 
 const HELP: &str = "\
-outline build FILE.outline -o FILE.image [--partial] [--all] [--at THREAD:POINT]
+outline build FILE.outline -o FILE.image [--partial] [--all] [--at THREAD:POINT] [--all-lines]
                                                                finds a certificate, writes the image, says its verdict
 outline check FILE|FOLDER..                                    judges images and outlines
 outline show FILE                                              an image as text, its verdict first
@@ -15,13 +17,18 @@ outline report FILE -o FILE.html [--steps N] [--writes N] [--starts N]
                                                                a page: verdict, program, obligations, a run that breaks it
 outline draw FILE -o FILE.svg [--steps N] [--writes N] [--starts N] [--outcome \"a = 1 and b = 0\"]
                                                                a run that breaks it, or that has the outcome, drawn
+outline trim FILE -o FILE.image                                an accepted image without lines and formulas that nothing rests on
+outline bill FILE|FOLDER.. --tariff TARIFF [--billed N]        what the checks cost in cents, by thread and together
 
 FILE is an outline or an image; `-` is standard input, behind -o standard output. All take --json.
   --partial   writes an image with open obligations and claims too
   --all       tells all open obligations and claims in full
+  --all-lines writes every line that the search found, dead ones too
   --at        tells in full what is open at this point, by its number or its label
   --claims    looks at the claims alone, whatever the assertions say
   --outcome   can the registers be so when all threads have ended?
+  --tariff    lines `start 10`, `step 25`, `taken 25`, `interference 40`, `least 500`, in cents; # begins a comment
+  --billed    how many images are billed already (0)
 Status: 0 accepted, true or never; 1 refused, open, false or happens; 2 wrong use, or a file that cannot be read or written.
 ";
 
@@ -36,6 +43,8 @@ fn main() -> ExitCode {
         ["explore", rest @ ..] => explore::run(rest),
         ["report", rest @ ..] => report::run(rest),
         ["draw", rest @ ..] => draw::run(rest),
+        ["trim", rest @ ..] => trim::run(rest),
+        ["bill", rest @ ..] => bill::run(rest),
         ["--help" | "-h" | "help"] => said(HELP),
         ["--version"] => said(concat!("outline ", env!("CARGO_PKG_VERSION"), "\n")),
         _ => Err(format!("usage:\n{HELP}").trim_end().into()),

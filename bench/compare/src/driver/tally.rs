@@ -3,28 +3,33 @@
 use std::collections::BTreeMap;
 use std::fmt;
 
-/// Every code that an image can have; 1 is a buffer's.
-const CODES: [u16; 14] = [0, 2, 3, 4, 5, 6, 7, 8, 9, 20, 21, 22, 23, 26];
-
-#[derive(Default)]
-pub struct Tally(BTreeMap<u16, u64>);
+/// Answers by their code.
+pub struct Tally {
+    counted: &'static str,
+    codes: BTreeMap<u16, u64>,
+}
 
 impl Tally {
-    pub fn count(&mut self, code: u16) {
-        *self.0.entry(code).or_default() += 1;
+    pub fn of(counted: &'static str) -> Tally {
+        Tally { counted, codes: BTreeMap::new() }
     }
 
-    /// The codes that never came.
-    pub fn missing(&self) -> Vec<u16> {
-        CODES.into_iter().filter(|code| !self.0.contains_key(code)).collect()
+    pub fn count(&mut self, code: u16) {
+        *self.codes.entry(code).or_default() += 1;
+    }
+
+    /// Those of the codes that never came.
+    pub fn missing(&self, codes: &[u16]) -> Vec<u16> {
+        codes.iter().copied().filter(|code| !self.codes.contains_key(code)).collect()
     }
 }
 
 impl fmt::Display for Tally {
     fn fmt(&self, out: &mut fmt::Formatter<'_>) -> fmt::Result {
-        write!(out, "{} images, none differs; code: images", self.0.values().sum::<u64>())?;
-        for (code, images) in &self.0 {
-            write!(out, "  {code}: {images}")?;
+        let Tally { counted, codes } = self;
+        write!(out, "{} {counted}, none differs; code: {counted}", codes.values().sum::<u64>())?;
+        for (code, count) in codes {
+            write!(out, "  {code}: {count}")?;
         }
         Ok(())
     }

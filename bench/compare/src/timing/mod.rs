@@ -1,4 +1,4 @@
-//! How long both checkers take, on images that ask much of one part each and on images that grow.
+//! How long both sides take, on images that ask much of one part each and on images that grow.
 
 mod images;
 mod measure;
@@ -7,14 +7,33 @@ use crate::proved;
 pub use measure::median;
 use measure::medians;
 use reference::checker::{self, decode, frames, rules};
+use reference::trim;
+use std::cell::RefCell;
 use std::hint::black_box;
 use std::path::Path;
 
-/// The target: the proved checker takes no longer than the independent one.
+/// The target: the proved side takes no longer than the independent one.
 const TARGET: f64 = 1.0;
 
-/// Times both checkers on the images with these names, or on all; false if an image is not accepted.
-pub fn run(names: &[&str]) -> bool {
+/// What is timed: each side is given an image and a buffer as long as it, and answers with a code.
+pub struct Timed {
+    proved: Task,
+    independent: Task,
+}
+
+type Task = fn(&[u8], &mut [u8]) -> u16;
+
+/// The verdict on an image.
+pub const CHECK: Timed = Timed { proved: proved::check_into, independent: checker::check_into };
+
+/// The image trimmed, its verdict included.
+pub const TRIM: Timed = Timed {
+    proved: |image, out| proved::TRIM.map_or(trim::NOT_ACCEPTED, |trim| trim(image, out).code),
+    independent: |image, out| trim::trim_into(image, out).code,
+};
+
+/// Times both sides on the images with these names, or on all; false if an image is not accepted.
+pub fn run(timed: &Timed, names: &[&str]) -> bool {
     println!("image                  bytes  formulas  lines   proved µs  independent µs  ratio");
     let mut above = Vec::new();
     for (name, make) in images::all() {
@@ -26,7 +45,7 @@ pub fn run(names: &[&str]) -> bool {
             println!("{name}: {fault}");
             return false;
         }
-        let ratio = time(name, image);
+        let ratio = time(timed, name, image);
         if ratio > TARGET {
             above.push(name);
         }
@@ -64,15 +83,15 @@ fn accepted(image: &[u8]) -> Result<(), String> {
 }
 
 /// Prints how long both take, and answers with the ratio.
-fn time(name: &str, image: &[u8]) -> f64 {
-    let task = |check: fn(&[u8], &mut [u8]) -> u16| {
+fn time(timed: &Timed, name: &str, image: &[u8]) -> f64 {
+    let task = |side: Task| {
+        let out = RefCell::new(vec![0; image.len()]);
         move || {
-            let mut out = [0; 22];
-            assert_eq!(black_box(check)(black_box(image), &mut out), 0);
-            black_box(out);
+            assert_eq!(black_box(side)(black_box(image), &mut out.borrow_mut()), 0);
+            black_box(&out);
         }
     };
-    let [proved, independent] = medians(task(proved::check_into), task(checker::check_into));
+    let [proved, independent] = medians(task(timed.proved), task(timed.independent));
     let ratio = proved / independent;
     let (formulas, lines) = (records(image, frames::FORMULA), records(image, frames::LINE));
     println!(

@@ -2,7 +2,7 @@
 //!
 //! Usage: recheck FOLDER [SET...], where without a SET those that `vectors` writes are judged
 
-use reference::stored::{formulas, images};
+use reference::stored::{bills, formulas, images, trims};
 use std::path::Path;
 use std::process::ExitCode;
 
@@ -11,12 +11,16 @@ type Judge = fn(&[u8]) -> Option<Vec<bool>>;
 /// How many cases that differ are named.
 const MOST_NAMED: usize = 50;
 const FORMULAS: &str = "formula-bytes";
-const SETS: [&str; 4] = [FORMULAS, "formulas", "images", "rules"];
+const TRIMS: &str = "trim";
+const BILLS: &str = "bills";
+const SETS: [&str; 6] = [FORMULAS, "formulas", "images", "rules", TRIMS, BILLS];
 
-/// A set of formulas or, by any other name, of images.
+/// A set of formulas, by the front of its name of images trimmed or billed, by any other name of images judged.
 fn judge_of(name: &str) -> Judge {
     match name {
         FORMULAS => formulas,
+        _ if name.starts_with(TRIMS) => trims::judged,
+        _ if name.starts_with(BILLS) => bills::judged,
         _ => images,
     }
 }

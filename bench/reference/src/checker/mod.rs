@@ -39,6 +39,11 @@ fn judge(image: &Image) -> Verdict {
     failing.map_or(met, |failing| Verdict { count: met.count, ..failing })
 }
 
+/// What an image says if it is accepted; none if it is not.
+pub fn accepted(image: &[u8]) -> Option<Image> {
+    decode(image).ok().filter(|image| judge(image).code == 0)
+}
+
 /// Reads an image, or finds the first fault of its frames and bodies.
 pub fn decode(image: &[u8]) -> Result<Image, Refusal> {
     decode_within(image, limits::IMAGE_BYTES)

@@ -1,4 +1,4 @@
-//! Prints for each stored set the line that the proved program `cases` writes if no verdict differs.
+//! Prints for each stored set the line that the proved program over it writes if no answer differs.
 //!
 //! Usage: expected FOLDER FILE...
 

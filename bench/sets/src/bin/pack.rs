@@ -1,8 +1,9 @@
-//! Writes the images of a folder as a stored set, in the order of their names, with their names as labels.
+//! Writes the images of a folder as a stored set, in the order of their names, with their names as labels: judged, or
+//! trimmed into buffers that are just long enough.
 //!
-//! Usage: pack IMAGES FOLDER NAME
+//! Usage: pack [--trim] IMAGES FOLDER NAME
 
-use sets::vectors::{store, Case};
+use sets::vectors::{store, trims, Case};
 use std::io::{Error, Result};
 use std::path::Path;
 
@@ -19,11 +20,17 @@ fn cases(images: &Path) -> Result<Vec<Case>> {
 
 fn main() -> Result<()> {
     let arguments: Vec<String> = std::env::args().skip(1).collect();
-    let [images, folder, name] = arguments.as_slice() else {
-        return Err(Error::other("usage: pack IMAGES FOLDER NAME"));
+    let words: Vec<&str> = arguments.iter().map(String::as_str).collect();
+    let (trim, [images, folder, name]) = match words[..] {
+        ["--trim", images, folder, name] => (true, [images, folder, name]),
+        [images, folder, name] => (false, [images, folder, name]),
+        _ => return Err(Error::other("usage: pack [--trim] IMAGES FOLDER NAME")),
     };
-    let cases = cases(Path::new(images))?;
-    store::write_images(Path::new(folder), name, &cases)?;
+    let (cases, folder) = (cases(Path::new(images))?, Path::new(folder));
     println!("{name}: {} cases", cases.len());
-    Ok(())
+    if trim {
+        let cases: Vec<_> = cases.into_iter().map(|c| trims::exact(c.label, c.image)).collect();
+        return store::write(folder, name, store::trims(&cases));
+    }
+    store::write_images(folder, name, &cases)
 }

@@ -3,7 +3,7 @@
 //! Usage: vectors FOLDER
 
 use sets::examples::{largest, message_passing, two_writes};
-use sets::vectors::{formulas, images, rules, store};
+use sets::vectors::{bills, formulas, images, rules, store, trims};
 use std::io::{Error, Result};
 use std::path::Path;
 
@@ -22,6 +22,10 @@ fn main() -> Result<()> {
         store::write_images(folder, name, &cases)?;
         println!("{name}: {} cases", cases.len());
     }
+    let (trims, bills) = (trims::cases(), bills::cases());
+    store::write(folder, "trim", store::trims(&trims))?;
+    store::write(folder, "bills", store::bills(&bills))?;
+    println!("trim: {} cases\nbills: {} cases", trims.len(), bills.len());
     std::fs::write(folder.join("message-passing.image"), message_passing().bytes())?;
     std::fs::write(folder.join("two-writes.image"), two_writes().bytes())?;
     std::fs::write(folder.join("largest.image"), largest())?;

@@ -21,12 +21,7 @@ pub fn image(seed: u64) -> Vec<u8> {
     if random.chance(1) {
         return whole_image_fault(random);
     }
-    let mut plan = match random.below(20) {
-        0 | 1 => changed_message_passing(random),
-        2 => many_leaves(random),
-        3 | 4 => claims::excluding(random),
-        _ => rule_plan(random),
-    };
+    let mut plan = plan(random);
     if random.chance(12) {
         edit_obligations(random, &mut plan);
     }
@@ -41,6 +36,16 @@ pub fn image(seed: u64) -> Vec<u8> {
         return damage::damaged(random, records);
     }
     image_bytes(&records)
+}
+
+/// A plan of any kind; about half of them are accepted.
+pub fn plan(random: &mut Random) -> Plan {
+    match random.below(20) {
+        0 | 1 => changed_message_passing(random),
+        2 => many_leaves(random),
+        3 | 4 => claims::excluding(random),
+        _ => rule_plan(random),
+    }
 }
 
 /// Empty, or about as long as the library or the program reads.

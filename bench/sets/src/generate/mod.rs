@@ -1,6 +1,7 @@
 //! Seeded images, valid and damaged, in which every code and every rule occurs.
 
 mod claims;
+pub mod clutter;
 pub mod coverage;
 pub mod damage;
 pub mod harness;

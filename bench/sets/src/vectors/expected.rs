@@ -1,23 +1,36 @@
-//! What the proved program `cases` writes of a stored set if no verdict differs.
+//! What the proved programs over stored sets write if no answer differs.
 
-use reference::stored::stored_images;
+use reference::stored::{bills, stored_images, trims};
 
 /// The codes of the verdict table, but for the one of a short output, which no image has.
 const CODES: [u16; 14] = [0, 2, 3, 4, 5, 6, 7, 8, 9, 20, 21, 22, 23, 26];
+const TRIM_CODES: [u16; 3] = [0, 24, 25];
+const BILL_CODES: [u16; 4] = [0, 1, 30, 31];
 
-/// The line for a container of images, counted from the stored fields; none if it is cut short.
+/// The line for a container, by its name of images trimmed, billed or judged, counted from what is stored; none if it
+/// is cut short.
 pub fn line(name: &str, bytes: &[u8]) -> Option<String> {
-    let cases = stored_images(bytes)?;
-    let of_code = |code| cases.iter().filter(|case| case.fields[0] == code).count();
+    let (codes, stored): (&[u16], Vec<u16>) = match name {
+        _ if name.starts_with("trim") => {
+            (&TRIM_CODES, trims::cases(bytes)?.iter().map(|case| case.code).collect())
+        }
+        _ if name.starts_with("bills") => {
+            (&BILL_CODES, bills::cases(bytes)?.iter().map(|case| case.code).collect())
+        }
+        _ => (&CODES, stored_images(bytes)?.iter().map(|case| case.fields[0]).collect()),
+    };
+    let of_code = |code| stored.iter().filter(|&&one| one == code).count();
     let counts: Vec<String> =
-        CODES.iter().map(|&code| format!("{} of code {code}", of_code(code))).collect();
-    Some(format!("{name}: {} cases: {}; 0 differ", cases.len(), counts.join(", ")))
+        codes.iter().map(|&code| format!("{} of code {code}", of_code(code))).collect();
+    Some(format!("{name}: {} cases: {}; 0 differ", stored.len(), counts.join(", ")))
 }
 
 #[cfg(test)]
 mod tests {
     use super::line;
-    use crate::vectors::store::container;
+    use crate::vectors::images::SMALL;
+    use crate::vectors::store::{container, trims};
+    use crate::vectors::trims::TrimCase;
     use crate::vectors::Case;
 
     #[test]
@@ -27,6 +40,14 @@ mod tests {
              0 of code 5, 0 of code 6, 0 of code 7, 0 of code 8, 0 of code 9, 0 of code 20, \
              0 of code 21, 0 of code 22, 0 of code 23, 0 of code 26; 0 differ";
         assert_eq!(line("two.bin", &container(&cases)).as_deref(), Some(expected));
+    }
+
+    #[test]
+    fn counts_what_was_trimmed() {
+        let case = |room| TrimCase { label: String::new(), image: SMALL.to_vec(), room };
+        let expected = "trim.bin: 3 cases: 1 of code 0, 0 of code 24, 2 of code 25; 0 differ";
+        let (bytes, _) = trims(&[case(49), case(50), case(0)]);
+        assert_eq!(line("trim.bin", &bytes).as_deref(), Some(expected));
     }
 
     #[test]

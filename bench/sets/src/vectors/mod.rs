@@ -1,17 +1,20 @@
-//! Stored sets of images with their verdicts.
+//! Stored sets of images with their verdicts, and of images trimmed and billed.
 //!
-//! The verdicts are the independent checker's. Each case has a label that names
+//! Verdicts and answers are the independent checker's. Each case has a label that names
 //! the clause of the scope page that it tests.
 
+pub mod bills;
 pub mod edits;
 pub mod expected;
 pub mod formulas;
 pub mod images;
 mod nesting;
 pub mod precedence;
+mod refused;
 pub mod rules;
 pub mod store;
 pub mod tour;
+pub mod trims;
 
 /// One stored image.
 #[derive(Clone, Debug, PartialEq, Eq)]

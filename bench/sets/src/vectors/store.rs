@@ -1,21 +1,35 @@
 //! The files of a set: a container of images and verdicts, as `reference::stored` reads it, and a text index.
 
+use super::bills::BillCase;
 use super::formulas::FormulaCase;
+use super::trims::TrimCase;
 use super::Case;
+use reference::bill::{bill_into, Tariff, ANSWER};
 use reference::checker::check;
 use reference::formula::parse::Counts;
 use reference::stored::answer;
+use reference::trim::trim_into;
 use std::fmt::Write as _;
 use std::io::Result;
 use std::path::Path;
+
+/// Appends a length of 32 bits.
+fn push_length(bytes: &mut Vec<u8>, length: usize) {
+    let length = u32::try_from(length).expect("a stored length has 32 bits");
+    bytes.extend(length.to_le_bytes());
+}
+
+/// Appends how many bytes there are, and these.
+fn push_counted(bytes: &mut Vec<u8>, content: &[u8]) {
+    push_length(bytes, content.len());
+    bytes.extend(content);
+}
 
 /// The container of a set of images.
 pub fn container(cases: &[Case]) -> Vec<u8> {
     let mut bytes = Vec::new();
     for case in cases {
-        let length = u32::try_from(case.image.len()).expect("a stored image has a 32-bit length");
-        bytes.extend(length.to_le_bytes());
-        bytes.extend(&case.image);
+        push_counted(&mut bytes, &case.image);
         bytes.extend(check(&case.image).fields().iter().flat_map(|field| field.to_le_bytes()));
     }
     bytes
@@ -60,14 +74,56 @@ pub fn formula_index(cases: &[FormulaCase]) -> String {
     text
 }
 
+/// The container and the index of images trimmed: number, label, bytes lent, code and length of each.
+pub fn trims(cases: &[TrimCase]) -> (Vec<u8>, String) {
+    let (mut bytes, mut text) = (Vec::new(), String::new());
+    for (number, case) in (1..).zip(cases) {
+        let mut out = vec![0; case.room];
+        let answer = trim_into(&case.image, &mut out);
+        push_counted(&mut bytes, &case.image);
+        push_length(&mut bytes, case.room);
+        bytes.extend(answer.code.to_le_bytes());
+        push_counted(&mut bytes, &out[..answer.length]);
+        let TrimCase { label, room, .. } = case;
+        let _ = writeln!(text, "{number}\t{label}\t{room} {} {}", answer.code, answer.length);
+    }
+    (bytes, text)
+}
+
+/// The container and the index of images billed: number, label, code and answer of each.
+pub fn bills(cases: &[BillCase]) -> (Vec<u8>, String) {
+    let (mut bytes, mut text) = (Vec::new(), String::new());
+    for (number, case) in (1..).zip(cases) {
+        // Room for all six in any case: a short answer leaves them 0.
+        let mut answer = vec![0; case.room.max(ANSWER)];
+        let code = bill_into(&case.image, &case.tariff, case.billed, &mut answer[..case.room]);
+        push_counted(&mut bytes, &case.image);
+        let Tariff { start, step, taken, interference, least } = case.tariff;
+        for price in [start, step, taken, interference, least] {
+            bytes.extend(price.to_le_bytes());
+        }
+        bytes.extend(case.billed.to_le_bytes());
+        push_length(&mut bytes, case.room);
+        bytes.extend(code.to_le_bytes());
+        bytes.extend(answer[..ANSWER].iter().flat_map(|number| number.to_le_bytes()));
+        let numbers: Vec<String> = answer[..ANSWER].iter().map(u32::to_string).collect();
+        let _ = writeln!(text, "{number}\t{}\t{code} {}", case.label, numbers.join(" "));
+    }
+    (bytes, text)
+}
+
+/// Writes a container and its index into a folder.
+pub fn write(folder: &Path, name: &str, (bytes, text): (Vec<u8>, String)) -> Result<()> {
+    std::fs::write(folder.join(format!("{name}.bin")), bytes)?;
+    std::fs::write(folder.join(format!("{name}.txt")), text)
+}
+
 /// Writes a set of images into a folder.
 pub fn write_images(folder: &Path, name: &str, cases: &[Case]) -> Result<()> {
-    std::fs::write(folder.join(format!("{name}.bin")), container(cases))?;
-    std::fs::write(folder.join(format!("{name}.txt")), index(cases))
+    write(folder, name, (container(cases), index(cases)))
 }
 
 /// Writes the bare formulas into a folder.
 pub fn write_formulas(folder: &Path, name: &str, cases: &[FormulaCase]) -> Result<()> {
-    std::fs::write(folder.join(format!("{name}.bin")), formula_container(cases))?;
-    std::fs::write(folder.join(format!("{name}.txt")), formula_index(cases))
+    write(folder, name, (formula_container(cases), formula_index(cases)))
 }

@@ -1,6 +1,9 @@
 //! Labels that name a code agree with the verdict.
-use super::{formulas, images, rules, Case};
+use super::{bills, formulas, images, rules, store, trims, Case};
 use reference::checker::check;
+use reference::image::written::Written;
+use reference::stored;
+use std::collections::BTreeMap;
 
 /// The code that a label names: "6: ...", "6 before 8 ...", "accepted: ...".
 fn named_code(label: &str) -> Option<u16> {
@@ -35,10 +38,57 @@ fn sets_are_large_enough() {
 
 #[test]
 fn labels_are_distinct() {
-    for cases in [images::cases(), rules::cases()] {
-        let mut labels: Vec<&str> = cases.iter().map(|case| case.label.as_str()).collect();
+    let labels = |cases: Vec<Case>| cases.into_iter().map(|case| case.label).collect();
+    let trims = trims::cases().into_iter().map(|case| case.label).collect();
+    let bills = bills::cases().into_iter().map(|case| case.label).collect();
+    let mut sets: [Vec<String>; 4] =
+        [labels(images::cases()), labels(rules::cases()), trims, bills];
+    for labels in &mut sets {
         labels.sort_unstable();
         let twice = labels.windows(2).find(|pair| pair[0] == pair[1]);
         assert_eq!(twice, None);
     }
+}
+
+/// How often each code comes.
+fn by_code(codes: impl Iterator<Item = u16>) -> BTreeMap<u16, usize> {
+    let mut counts = BTreeMap::new();
+    codes.for_each(|code| *counts.entry(code).or_insert(0) += 1);
+    counts
+}
+
+#[test]
+fn trims_are_read_back() {
+    let (bytes, text) = store::trims(&trims::cases());
+    let cases = stored::trims::cases(&bytes).expect("whole");
+    assert_eq!(cases.len(), text.lines().count());
+    let counts = by_code(cases.iter().map(|case| case.code));
+    assert!(counts.len() == 3 && counts.values().all(|&count| count >= 6), "{counts:?}");
+    assert!(stored::trims::judged(&bytes).expect("whole").iter().all(|&same| same));
+    assert!(stored::trims::cases(&bytes[..bytes.len() - 1]).is_none());
+    // Only what the label says is refused is refused.
+    for (case, line) in cases.iter().zip(text.lines()) {
+        assert_eq!(case.code == 24, line.contains("\tverdict "), "{line}");
+    }
+}
+
+#[test]
+fn trimmed_numbers_pass_255() {
+    let (bytes, _) = store::trims(&trims::cases());
+    let cases = stored::trims::cases(&bytes).expect("whole");
+    let images: Vec<Written> = cases.iter().filter_map(|c| Written::read(c.written)).collect();
+    assert!(images.iter().filter(|image| image.lines.len() > 300).count() >= 2);
+    assert!(images.iter().any(|image| image.formulas.len() > 300));
+}
+
+#[test]
+fn bills_are_read_back() {
+    let (bytes, text) = store::bills(&bills::cases());
+    let cases = stored::bills::cases(&bytes).expect("whole");
+    assert_eq!(cases.len(), text.lines().count());
+    let counts = by_code(cases.iter().map(|case| case.code));
+    let codes: Vec<u16> = counts.keys().copied().collect();
+    assert!(codes == [0, 1, 30, 31] && counts.values().all(|&count| count >= 4), "{counts:?}");
+    assert!(stored::bills::judged(&bytes).expect("whole").iter().all(|&same| same));
+    assert!(stored::bills::cases(&bytes[..bytes.len() - 1]).is_none());
 }

@@ -1,6 +1,6 @@
 //! `build`: an outline to an image, with the checker's own verdict on what was made.
 
-use crate::build::{build_watched, Built, Goal, Open};
+use crate::build::{build_with, Built, Goal, Open};
 use crate::command::input::{called, mistake, mistakes, read, Input};
 use crate::command::judge::{judge, JUDGE};
 use crate::command::options::Options;
@@ -9,6 +9,7 @@ use crate::command::truth::Looked;
 use crate::command::{interrupt, json, print, words, write, Done, Status};
 use crate::image::to_bytes;
 use crate::search::budget::TRIES;
+use crate::search::kept::Kept;
 use crate::text::lex::Mistake;
 use crate::text::parse_source::parse_all;
 use crate::text::source::Source;
@@ -44,7 +45,8 @@ impl Told {
 }
 
 pub fn run(args: &[&str]) -> Done {
-    let options = Options::read(args, &["-o", "--partial", "--all", "--at", "--json"])?;
+    let options =
+        Options::read(args, &["-o", "--partial", "--all", "--all-lines", "--at", "--json"])?;
     let file = options.file()?;
     let Some(target) = &options.target else {
         return Err("`-o FILE` is wanted; see outline --help".into());
@@ -55,7 +57,8 @@ pub fn run(args: &[&str]) -> Done {
     };
     let source = parse_all(&text).map_err(|all| mistakes(file, &text, &all))?;
     let told = Told::of(&options, &source)?;
-    let built = watched(&source).map_err(|e| mistake(file, &text, &e))?;
+    let kept = if options.all_lines { Kept::All } else { Kept::Needed };
+    let built = watched(&source, kept).map_err(|e| mistake(file, &text, &e))?;
     let mut said: Vec<String> = built.failed.iter().map(|e| mistake(file, &text, e)).collect();
     said.extend(open_ones(&source, &built, &told));
     let stays = built.untried > 0 || !built.open.is_empty() || !built.failed.is_empty();
@@ -83,9 +86,9 @@ pub fn run(args: &[&str]) -> Done {
 }
 
 /// Builds with progress on a terminal; an interrupt leaves the rest untried.
-fn watched(source: &Source) -> Result<Built, Mistake> {
+fn watched(source: &Source, kept: Kept) -> Result<Built, Mistake> {
     let progress = Progress::default();
-    build_watched(source, TRIES, &|done, all| {
+    build_with(source, kept, TRIES, &|done, all| {
         progress.at(done, all);
         !interrupt::is_noted()
     })

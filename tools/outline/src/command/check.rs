@@ -45,7 +45,7 @@ pub fn run(words: &[&str]) -> Done {
 }
 
 /// The files of folders, by name; a file that is named itself is taken as it is.
-fn gather(path: &Path, named: bool, files: &mut Vec<String>) -> Result<(), String> {
+pub fn gather(path: &Path, named: bool, files: &mut Vec<String>) -> Result<(), String> {
     if path.is_dir() {
         let entries = std::fs::read_dir(path).and_then(|all| all.collect::<Result<Vec<_>, _>>());
         let entries = entries.map_err(|e| format!("{}: {e}", path.display()))?;

@@ -1,5 +1,7 @@
 //! The commands: what they read, what they print, and their status.
 
+pub mod bill;
+pub mod biller;
 pub mod build;
 pub mod check;
 pub mod draw;
@@ -13,6 +15,8 @@ pub mod options;
 pub mod progress;
 pub mod report;
 pub mod show;
+pub mod trim;
+pub mod trimmer;
 pub mod truth;
 pub mod words;
 

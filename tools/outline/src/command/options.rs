@@ -9,6 +9,7 @@ pub struct Options {
     pub target: Option<String>,
     pub partial: bool,
     pub all: bool,
+    pub all_lines: bool,
     pub json: bool,
     pub claims: bool,
     pub at: Option<String>,
@@ -16,6 +17,8 @@ pub struct Options {
     pub steps: Option<usize>,
     pub writes: Option<usize>,
     pub starts: Option<usize>,
+    pub tariff: Option<String>,
+    pub billed: Option<u32>,
 }
 
 impl Options {
@@ -35,8 +38,13 @@ impl Options {
                 "--steps" => options.steps = Some(number(word, value()?, 10_000)?),
                 "--writes" => options.writes = Some(number(word, value()?, 200)?),
                 "--starts" => options.starts = Some(number(word, value()?, 1 << 20)?),
+                "--tariff" => options.tariff = Some(value()?.into()),
+                "--billed" => {
+                    options.billed = Some(number(word, value()?, u32::MAX as usize)? as u32);
+                }
                 "--partial" => options.partial = true,
                 "--all" => options.all = true,
+                "--all-lines" => options.all_lines = true,
                 "--json" => options.json = true,
                 "--claims" => options.claims = true,
                 file => options.files.push(file.into()),

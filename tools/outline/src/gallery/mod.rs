@@ -3,6 +3,7 @@
 mod header;
 mod run;
 pub mod times;
+mod trimmed;
 
 use crate::build::{build, Built, Open};
 use crate::image::to_bytes;
@@ -109,7 +110,13 @@ pub fn tables(folder: &Path) -> Result<String, String> {
         all.iter().partition(|e| variant_of(&e.name).is_some());
     let (beyond, proved): (Vec<&Example>, Vec<&Example>) =
         right.into_iter().partition(|e| !e.built.open.is_empty());
-    Ok([proved_table(&proved, &wrong), beyond_table(&beyond)?, wrong_table(&wrong)?].join("\n"))
+    let tables = [
+        proved_table(&proved, &wrong),
+        beyond_table(&beyond)?,
+        wrong_table(&wrong)?,
+        trimmed::table(&proved)?,
+    ];
+    Ok(tables.join("\n"))
 }
 
 fn proved_table(proved: &[&Example], wrong: &[&Example]) -> String {

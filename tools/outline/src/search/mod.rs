@@ -13,6 +13,7 @@ mod handover;
 mod head;
 mod implication;
 mod interval;
+pub mod kept;
 mod links;
 mod named;
 mod pair;

@@ -7,6 +7,7 @@ pub mod parse_formula;
 pub mod parse_instruction;
 pub mod parse_proof;
 pub mod parse_source;
+pub mod parse_tariff;
 pub mod print;
 pub mod report;
 pub mod run;

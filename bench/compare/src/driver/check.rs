@@ -1,9 +1,20 @@
 //! One image, both checkers, buffers of several lengths.
 
+use super::tally::Tally;
+use super::Task;
 use crate::proved;
 use reference::checker;
+use sets::generate;
 use sets::generate::random::Random;
 use std::fmt;
+
+/// The verdict on an image. Code 1 is a buffer's.
+pub const CHECK: Task = Task {
+    compare,
+    codes: &[0, 2, 3, 4, 5, 6, 7, 8, 9, 20, 21, 22, 23, 26],
+    counted: "images",
+    image: generate::image,
+};
 
 /// Lengths of buffers: none, one byte short, just long enough, and longer.
 const ROOMS: [usize; 5] = [0, 21, 22, 23, 64];
@@ -21,17 +32,24 @@ struct Answer {
 }
 
 /// Two answers that are not the same.
-pub struct Difference {
+struct Difference {
     room: usize,
     before: Bytes,
     proved: Answer,
     independent: Answer,
 }
 
+/// Counts the code on which both checkers agree.
+fn compare(image: &[u8], seed: u64, tally: &mut Tally) -> Result<(), String> {
+    let code = agreed(image, seed).map_err(|found| found.to_string())?;
+    tally.count(code);
+    Ok(())
+}
+
 /// The code on which both checkers agree; an error if they differ for some buffer.
 ///
 /// The code is that for a buffer that holds the record. `seed` decides what the buffers hold before.
-pub fn difference(image: &[u8], seed: u64) -> Result<u16, Box<Difference>> {
+fn agreed(image: &[u8], seed: u64) -> Result<u16, Box<Difference>> {
     let mut random = Random::new(seed);
     let mut code = 0;
     for room in ROOMS {

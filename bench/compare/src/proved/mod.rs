@@ -1,0 +1,17 @@
+//! The proved functions: the checker, and what stands on it if its archive was there when this program was built.
+
+mod bills;
+mod check;
+mod trim;
+
+pub use bills::BILL;
+pub use check::check_into;
+pub use trim::TRIM;
+
+use reference::bill::Tariff;
+use reference::trim::Answer;
+
+/// Trims an image into a buffer.
+pub type Trim = fn(&[u8], &mut [u8]) -> Answer;
+/// Bills an image, with so many billed already, into an answer.
+pub type Bill = fn(&[u8], &Tariff, u32, &mut [u32]) -> u16;

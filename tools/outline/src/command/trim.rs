@@ -1,0 +1,124 @@
+//! `trim`: an accepted image without what its obligations and claims do not rest on.
+
+use crate::command::input::{called, Subject};
+use crate::command::judge::{judge, JUDGE};
+use crate::command::options::Options;
+use crate::command::trimmer::{trimmed, TRIMMER};
+use crate::command::{json, print, words, write, Done, Status};
+use crate::text::counted;
+use reference::checker::Verdict;
+use reference::image::written::Written;
+
+pub fn run(args: &[&str]) -> Done {
+    let options = Options::read(args, &["-o", "--json"])?;
+    let file = options.file()?;
+    let Some(target) = &options.target else {
+        return Err("`-o FILE` is wanted; see outline --help".into());
+    };
+    let subject = Subject::of(file)?;
+    let Some(bytes) = trimmed(&subject.bytes) else {
+        return refused(&options, file, &subject);
+    };
+    let verdict = judge(&bytes);
+    if verdict.code != 0 {
+        return Err(format!("mistake in this tool: the verdict is {verdict}"));
+    }
+    write(target, &bytes)?;
+    let [before, after] = [&subject.bytes, &bytes].map(|bytes| Size::of(bytes));
+    let text = if options.json {
+        as_json(file, &verdict, &before, &after) + "\n"
+    } else {
+        let said = words::verdict(&verdict, None, subject.claims());
+        let dropped = before.without(&after);
+        format!("{target}: {after}\n{dropped}   ({TRIMMER})\n{said}   ({JUDGE})\n")
+    };
+    tell(target, &text)?;
+    Ok(Status::Accepted)
+}
+
+/// How much an image has.
+#[derive(Debug, Clone, Copy, PartialEq, Eq)]
+pub struct Size {
+    pub bytes: usize,
+    pub formulas: usize,
+    pub lines: usize,
+}
+
+impl Size {
+    /// Of an image in order.
+    pub fn of(bytes: &[u8]) -> Size {
+        let (formulas, lines) =
+            Written::read(bytes).map_or((0, 0), |image| (image.formulas.len(), image.lines.len()));
+        Size { bytes: bytes.len(), formulas, lines }
+    }
+
+    /// How much of it is gone, in words.
+    fn without(&self, after: &Size) -> String {
+        let gone = Size {
+            bytes: self.bytes - after.bytes,
+            formulas: self.formulas - after.formulas,
+            lines: self.lines - after.lines,
+        };
+        match gone.bytes {
+            0 => "nothing to drop: every line and formula is in use".into(),
+            _ => format!("dropped: {gone}"),
+        }
+    }
+
+    fn json(&self) -> String {
+        json::object(&[
+            ("bytes", self.bytes.to_string()),
+            ("formulas", self.formulas.to_string()),
+            ("lines", self.lines.to_string()),
+        ])
+    }
+}
+
+impl std::fmt::Display for Size {
+    fn fmt(&self, out: &mut std::fmt::Formatter) -> std::fmt::Result {
+        let all = [(self.bytes, "byte"), (self.formulas, "formula"), (self.lines, "line")];
+        out.write_str(&all.map(|(number, thing)| counted(number, thing)).join(", "))
+    }
+}
+
+/// Says why nothing is written, with the verdict.
+fn refused(options: &Options, file: &str, subject: &Subject) -> Done {
+    let verdict = judge(&subject.bytes);
+    let said = words::verdict(&verdict, subject.source(), subject.claims());
+    let file = called(file);
+    if options.json {
+        let all = [
+            ("file", json::text(file)),
+            ("accepted", false.to_string()),
+            ("fields", json::fields(&verdict)),
+            ("words", json::text(&said)),
+            ("judge", json::text(JUDGE)),
+        ];
+        tell(options.target.as_deref().unwrap_or_default(), &(json::object(&all) + "\n"))?;
+    } else {
+        eprintln!("{file}: {said}   ({JUDGE})");
+        eprintln!("{file}: only an accepted image is trimmed (code 24); nothing is written");
+    }
+    Ok(Status::Refused)
+}
+
+fn as_json(file: &str, verdict: &Verdict, before: &Size, after: &Size) -> String {
+    json::object(&[
+        ("file", json::text(called(file))),
+        ("accepted", true.to_string()),
+        ("fields", json::fields(verdict)),
+        ("before", before.json()),
+        ("after", after.json()),
+        ("trimmer", json::text(TRIMMER)),
+        ("judge", json::text(JUDGE)),
+    ])
+}
+
+/// Words go to standard output, unless the image goes there.
+fn tell(target: &str, text: &str) -> Result<(), String> {
+    if target != "-" {
+        return print(text);
+    }
+    eprint!("{text}");
+    Ok(())
+}
