@@ -101,6 +101,18 @@ fn obligations_that_are_named_are_not_searched_twice() {
     }
 }
 
+/// A step by its rule is a single line, and it fits the obligation as it stands.
+#[test]
+fn a_step_by_its_rule_makes_the_search_shorter() {
+    let path =
+        PathBuf::from(env!("CARGO_MANIFEST_DIR")).join("../../examples/message-passing.outline");
+    let text = std::fs::read_to_string(path).expect("readable");
+    let step = "step writer 1: { writer sees one flag and reader sees one flag = 0 and writer sees [data = 1] } \
+        to { Coming } by 8\n";
+    let (alone, with) = (found(&text), found(&format!("{text}proof {step}")));
+    assert!(with.open.is_empty() && with.tries + 100 < alone.tries, "{}", with.tries);
+}
+
 /// Facts that nothing needs are no premises: rule 20 has four at most.
 #[test]
 fn facts_that_are_not_needed_do_no_harm() {

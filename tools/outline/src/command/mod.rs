@@ -13,6 +13,7 @@ pub mod options;
 pub mod progress;
 pub mod report;
 pub mod show;
+pub mod spread;
 pub mod truth;
 pub mod words;
 
