@@ -59,7 +59,7 @@ impl Prover<'_> {
 
     /// {P} c {Q} by steps that fit as they stand, one of them or several joined: nothing is searched.
     pub fn by_fitting_steps(&mut self, at: At, p: &A, q: &A, steps: &[Line]) -> Option<Line> {
-        let mut given: Vec<Line> = steps.to_vec();
+        let mut given: Vec<Line> = unique(steps.iter().copied());
         given.retain(|line| shares_part(&self.right(*line), q) && self.gives(p, &self.left(*line)));
         let alone = given.iter().find(|line| self.gives(&self.right(**line), q));
         if let Some(&line) = alone {

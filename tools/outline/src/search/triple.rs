@@ -245,13 +245,10 @@ impl Prover<'_> {
 
     /// The triples that the writer named, where they lead to the goal.
     fn ways_by_steps(&mut self, context: &Context, goal: &A, ways: &mut Vec<Plan>) {
-        let at = context.at;
-        for line in self.steps.clone() {
-            if self.statement(line).place() == (at.thread, at.point) {
-                let right = self.right(line);
-                if let Some(last) = self.implied(&right, goal) {
-                    ways.push(then(Plan::Ready(line), last, &right, goal));
-                }
+        for line in self.steps_at(context.at) {
+            let right = self.right(line);
+            if let Some(last) = self.implied(&right, goal) {
+                ways.push(then(Plan::Ready(line), last, &right, goal));
             }
         }
     }
