@@ -49,11 +49,11 @@ fn compare(task: &Task, numbers: &[&str]) -> Result<bool, String> {
 }
 
 fn trimming() -> Result<Task, String> {
-    linked(proved::TRIM.is_some(), "trim").map(|()| driver::TRIM)
+    linked(proved::TRIM.is_some(), "trimming").map(|()| driver::TRIM)
 }
 
 fn billing() -> Result<Task, String> {
-    linked(proved::BILL.is_some(), "bills").map(|()| driver::BILL)
+    linked(proved::BILL.is_some(), "billing").map(|()| driver::BILL)
 }
 
 /// An error if an archive was not there when this program was built.

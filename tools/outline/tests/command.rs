@@ -199,6 +199,38 @@ fn check_takes_many_files_and_folders() {
     assert!(status == 2 && out.contains("none.image: NOT JUDGED: "), "{out}");
 }
 
+/// Folders in folders, the first file the slowest: each file is told once, in the order of names, and nothing else.
+#[test]
+fn check_tells_each_file_once_in_the_order_of_names() {
+    let folder = Folder::new("order");
+    let slow = std::fs::read_to_string(example("store-buffering")).expect("readable");
+    let mut names = Vec::new();
+    for inner in ["c", "a", "b"] {
+        std::fs::create_dir_all(folder.0.join(inner)).expect("a folder");
+        for n in (0..7).rev() {
+            let name = format!("{inner}/{n}.outline");
+            let quick = "word x = 0\nthread a { a sees [x = 0] }\n";
+            names.push(folder.with(&name, if name == "a/0.outline" { &slow } else { quick }));
+        }
+    }
+    names.sort();
+    let all = folder.0.to_string_lossy().into_owned();
+    let (status, out, err) = run(&["check", &all]);
+    let files: Vec<&str> =
+        out.lines().filter_map(|l| l.split_once(": ACCEPTED: ")).map(|l| l.0).collect();
+    assert_eq!((status, err.as_str()), (0, ""));
+    assert_eq!(files, names);
+    assert!(
+        out.ends_with(&format!("21 files: 21 accepted, 0 refused, 0 not judged ({})\n", judge()))
+    );
+    let (_, out, err) = run(&["check", &all, "--json"]);
+    assert!(err.is_empty() && out.lines().count() == names.len());
+    assert!(out
+        .lines()
+        .zip(&names)
+        .all(|(line, name)| line.contains(&format!("\"file\":\"{name}\""))));
+}
+
 #[test]
 fn standard_input_and_output_are_files_too() {
     let text = std::fs::read(example("polling")).expect("readable");

@@ -11,12 +11,20 @@ use reference::image::Statement;
 use std::path::PathBuf;
 use std::rc::Rc;
 
+/// An outline by its path from this package.
+fn outline(path: &str) -> Source {
+    let path = PathBuf::from(env!("CARGO_MANIFEST_DIR")).join(path);
+    parse(&std::fs::read_to_string(path).expect("readable")).expect("well formed")
+}
+
+/// An example without what it names.
 fn example(name: &str) -> Source {
-    let folder = PathBuf::from(env!("CARGO_MANIFEST_DIR")).join("../../examples");
-    let text = std::fs::read_to_string(folder.join(format!("{name}.outline"))).expect("an example");
-    let mut source = parse(&text).expect("well formed");
-    source.hints.clear();
-    source
+    Source { hints: Vec::new(), ..outline(&format!("../../examples/{name}.outline")) }
+}
+
+/// Not more than a twentieth above what is made without named steps.
+fn hardly_more(tries: u64, alone: u64) -> bool {
+    tries <= alone + alone / 20
 }
 
 fn named(statement: Statement) -> Hint {
@@ -46,15 +54,35 @@ fn found(text: &str) -> Built {
 
 #[test]
 fn many_named_steps_do_not_slow_the_search() {
-    for name in ["store-buffering", "coherence", "parity"] {
+    // In `peterson-entry` three points in a row assert the same, so that obligations are equal.
+    let examples =
+        ["store-buffering", "coherence", "parity", "ticket-lock", "peterson", "peterson-entry"];
+    for name in examples {
         let mut source = example(name);
         let alone = build(&source).expect("no hints");
         source.hints = steps_about_two_threads(&source);
         source.hints.truncate(16);
         let with = build(&source).expect("each step is found");
         assert!(source.hints.len() >= 12 && with.open.is_empty(), "{name}");
-        assert!(with.tries < 4 * alone.tries, "{name}: {} for {}", with.tries, alone.tries);
+        assert!(hardly_more(with.tries, alone.tries), "{name}: {} for {}", with.tries, alone.tries);
         assert_eq!(check(&with.image.bytes()).code, 0, "{name}");
+    }
+}
+
+/// The slow shapes that were told of, with the most tries that they may take, and that one of their steps may take.
+#[test]
+fn outlines_with_steps_about_two_threads_are_built_in_so_many_tries() {
+    let slow =
+        [("ticket-lock-16-steps", 16, 118_000, 30_000), ("peterson-4-steps", 4, 52_000, 10_000)];
+    for (name, steps, most, most_at_once) in slow {
+        let source = outline(&format!("tests/outlines/{name}.outline"));
+        assert_eq!(source.hints.len(), steps, "{name}");
+        let built = build(&source).unwrap_or_else(|e| panic!("{name}: {e}"));
+        assert!(built.open.is_empty() && check(&built.image.bytes()).code == 0, "{name}");
+        let (tries, at_once) = (built.tries, built.most_tries);
+        assert!(tries <= most && at_once <= most_at_once, "{name}: {tries}, {at_once} at once");
+        let alone = build(&Source { hints: Vec::new(), ..source }).expect("no hints");
+        assert!(hardly_more(tries, alone.tries), "{name}: {tries} for {}", alone.tries);
     }
 }
 
@@ -68,8 +96,43 @@ fn obligations_that_are_named_are_not_searched_twice() {
         let all = duties(&program.threads).into_iter().map(|d| d.wanted(&program)).filter(triple);
         source.hints = all.map(named).collect();
         let with = build(&source).expect("each step is found");
-        assert!(with.open.is_empty() && with.tries < 2 * alone.tries, "{name}: {}", with.tries);
+        assert!(
+            with.open.is_empty() && hardly_more(with.tries, alone.tries),
+            "{name}: {}",
+            with.tries
+        );
     }
+}
+
+/// A step by its rule is a single line, and it fits the obligation as it stands.
+#[test]
+fn a_step_by_its_rule_makes_the_search_shorter() {
+    let path =
+        PathBuf::from(env!("CARGO_MANIFEST_DIR")).join("../../examples/message-passing.outline");
+    let text = std::fs::read_to_string(path).expect("readable");
+    let step = "step writer 1: { writer sees one flag and reader sees one flag = 0 and writer sees [data = 1] } \
+        to { Coming } by 8\n";
+    let (alone, with) = (found(&text), found(&format!("{text}proof {step}")));
+    assert!(with.open.is_empty() && with.tries + 100 < alone.tries, "{}", with.tries);
+}
+
+/// Facts that nothing needs are no premises: rule 20 has four at most.
+#[test]
+fn facts_that_are_not_needed_do_no_harm() {
+    let mut source = example("ticket-lock");
+    let alone = build(&source).expect("no hints");
+    let program = source.program();
+    let pairs =
+        program.outline[0].iter().flat_map(|p| program.outline[1].iter().map(move |q| (p, q)));
+    let fact = |(p, q): (&Rc<Assertion>, &Rc<Assertion>)| {
+        let left = Rc::new(Assertion::both(p.clone(), q.clone()));
+        named(Statement::Implication { left, right: q.clone() })
+    };
+    source.hints = pairs.map(fact).take(16).collect();
+    let with = build(&source).expect("each fact is found");
+    assert!(with.open.is_empty() && with.tries < 2 * alone.tries, "{}", with.tries);
+    assert_eq!(with.image.lines.len(), alone.image.lines.len());
+    assert_eq!(check(&with.image.bytes()).code, 0);
 }
 
 #[test]

@@ -87,7 +87,7 @@ pub fn run(args: &[&str]) -> Done {
 
 /// Builds with progress on a terminal; an interrupt leaves the rest untried.
 fn watched(source: &Source, kept: Kept) -> Result<Built, Mistake> {
-    let progress = Progress::default();
+    let progress = Progress::on_terminal();
     build_with(source, kept, TRIES, &|done, all| {
         progress.at(done, all);
         !interrupt::is_noted()

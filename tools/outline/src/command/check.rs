@@ -4,11 +4,10 @@ use crate::command::input::Subject;
 use crate::command::judge::{judge, JUDGE};
 use crate::command::options::Options;
 use crate::command::progress::Progress;
+use crate::command::spread::spread;
 use crate::command::{json, print, words, Done, Status};
 use reference::checker::Verdict;
 use std::path::Path;
-use std::sync::atomic::{AtomicUsize, Ordering};
-use std::sync::Mutex;
 
 /// One file judged: the verdict with its words, or why there is none.
 type Judged = Result<(Verdict, String), String>;
@@ -62,26 +61,10 @@ pub fn gather(path: &Path, named: bool, files: &mut Vec<String>) -> Result<(), S
 
 /// All files, spread over the cores; answers stand in the order of the files.
 fn judge_all(files: &[String]) -> Vec<Judged> {
-    let (next, done) = (AtomicUsize::new(0), AtomicUsize::new(0));
-    let answers: Mutex<Vec<Option<Judged>>> = Mutex::new(vec![None; files.len()]);
-    let cores = std::thread::available_parallelism().map_or(1, |n| n.get()).min(files.len());
-    let progress = (files.len() > 1).then(Progress::default);
-    std::thread::scope(|threads| {
-        for _ in 0..cores {
-            threads.spawn(|| loop {
-                let at = next.fetch_add(1, Ordering::Relaxed);
-                let Some(file) = files.get(at) else { break };
-                let judged = judge_one(file);
-                answers.lock().expect("no thread panics")[at] = Some(judged);
-                let done = done.fetch_add(1, Ordering::Relaxed) + 1;
-                if let Some(progress) = &progress {
-                    progress.at(done, files.len());
-                }
-            });
-        }
-    });
-    let answers = answers.into_inner().expect("no thread panics");
-    answers.into_iter().map(|a| a.expect("each file is judged")).collect()
+    let cores = std::thread::available_parallelism().map_or(1, |n| n.get());
+    let progress = (files.len() > 1).then(Progress::on_terminal);
+    let told = |done: usize| progress.iter().for_each(|line| line.at(done, files.len()));
+    spread(files, cores, |file| judge_one(file), told)
 }
 
 fn judge_one(file: &str) -> Judged {

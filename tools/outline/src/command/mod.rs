@@ -15,6 +15,7 @@ pub mod options;
 pub mod progress;
 pub mod report;
 pub mod show;
+pub mod spread;
 pub mod trim;
 pub mod trimmer;
 pub mod truth;

@@ -1,12 +1,8 @@
-//! What the writer named, used first and as links of chains.
+//! Facts and parts that the writer named, used first and as links of chains.
 
-use crate::search::implication::conjuncts;
-use crate::search::prover::{At, Line, Prover};
+use crate::search::prover::{Line, Prover};
 use crate::terms::*;
 use reference::checker::rules::MOST_PREMISES;
-
-/// So many named steps of one instruction are joined at most.
-const MOST_JOINED: usize = 4;
 
 impl Prover<'_> {
     /// P to Q by rule 20 over facts that apply one after another.
@@ -65,59 +61,4 @@ impl Prover<'_> {
         self.linking = false;
         found
     }
-
-    /// {P} c {Q} by a step that was named, or by several that P gives, joined by rule 14.
-    pub fn by_steps(&mut self, at: At, p: &A, q: &A) -> Option<Line> {
-        let here = |line: &Line| self.statement(*line).place() == (at.thread, at.point);
-        let named: Vec<Line> = self.steps.iter().copied().filter(here).collect();
-        let mut given = Vec::new();
-        for line in named {
-            if self.implied(p, &self.left(line)).is_some() {
-                if let Some(found) = self.by_step(at, p, q, line) {
-                    return Some(found);
-                }
-                given.push(line);
-            }
-        }
-        given.sort_by_key(|line| !shares_part(&self.right(*line), q));
-        let mut joined: Vec<Line> = given.into_iter().take(MOST_JOINED).collect();
-        if joined.len() < 2 || !self.together_give(&joined, q) {
-            return None;
-        }
-        for line in joined.clone() {
-            let fewer: Vec<Line> = joined.iter().copied().filter(|l| *l != line).collect();
-            if self.together_give(&fewer, q) {
-                joined = fewer;
-            }
-        }
-        let whole = self.joined_steps(at, &joined)?;
-        self.by_step(at, p, q, whole)
-    }
-
-    fn by_step(&mut self, at: At, p: &A, q: &A, line: Line) -> Option<Line> {
-        let (left, right) = (self.left(line), self.right(line));
-        let last = if right == *q { None } else { Some(self.implied(&right, q)?) };
-        let first = if left == *p { None } else { Some(self.implied(p, &left)?) };
-        self.consequence(at, first, line, last)
-    }
-
-    fn together_give(&mut self, lines: &[Line], q: &A) -> bool {
-        let rights: Vec<A> = lines.iter().map(|line| self.right(*line)).collect();
-        fold_right(&rights, both).is_some_and(|all| self.implied(&all, q).is_some())
-    }
-
-    fn joined_steps(&mut self, at: At, lines: &[Line]) -> Option<Line> {
-        let (last, rest) = lines.split_last()?;
-        rest.iter().rev().try_fold(*last, |all, line| {
-            let left = both(&self.left(*line), &self.left(all));
-            let right = both(&self.right(*line), &self.right(all));
-            self.step(at, 14, &left, &right, &[*line, all])
-        })
-    }
-}
-
-/// Do two assertions have a conjunct in common?
-fn shares_part(a: &A, b: &A) -> bool {
-    let parts = conjuncts(b);
-    conjuncts(a).iter().any(|part| parts.contains(part))
 }

@@ -19,6 +19,7 @@ mod named;
 mod pair;
 mod plan;
 pub mod prover;
+mod steps;
 mod support;
 mod support_sees;
 mod tried;

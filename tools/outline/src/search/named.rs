@@ -17,7 +17,7 @@ impl Prover<'_> {
                     return self.step_through(at, (left, right), (p, q));
                 }
                 match hint.rule {
-                    None => self.whole(at, left, right),
+                    None => self.named_step(at, left, right),
                     Some(OF_PAIR) => self.by_half(at, left, right),
                     Some(rule) => self.step_by(at, rule, left, right),
                 }
@@ -32,6 +32,13 @@ impl Prover<'_> {
                 None => self.include(left, right),
             },
         }
+    }
+
+    /// By the obligations of its instruction where they make it up, else by search.
+    fn named_step(&mut self, at: At, l: &A, r: &A) -> Option<Line> {
+        let half = self.goal_of_half(at, r);
+        self.by_obligations(at, l, &half);
+        self.whole(at, l, r)
     }
 
     /// Rule 16 with its triple named.

@@ -17,9 +17,17 @@ impl Prover<'_> {
 
     /// Rule 50, where there is a pair.
     pub fn by_half(&mut self, at: At, p: &A, q: &A) -> Option<Line> {
-        let note = self.pair_note(at)?;
-        let half = self.triple(at, p, &before_notes(q, slice::from_ref(&note)))?;
+        self.pair_note(at)?;
+        let half = self.triple(at, p, &self.goal_of_half(at, q))?;
         self.step(at, OF_PAIR, p, q, &[half])
+    }
+
+    /// What the first half has to bring about for the whole instruction to bring about Q.
+    pub fn goal_of_half(&self, at: At, q: &A) -> A {
+        match self.pair_note(at) {
+            Some(note) => before_notes(q, slice::from_ref(&note)),
+            None => q.clone(),
+        }
     }
 
     fn pair_note(&self, at: At) -> Option<Note> {

@@ -33,6 +33,8 @@ pub struct Prover<'a> {
     pub steps: Vec<Line>,
     /// Where steps stand among the ways to a part of a goal.
     pub steps_stand: Stand,
+    /// Obligations that were not found when a step was named that they might make up.
+    pub postponed: HashSet<Statement>,
     /// Inclusions that the writer named.
     pub parts: Vec<Line>,
     /// Is what was named tried as a link already? One chain is not sought inside of another.
@@ -57,7 +59,8 @@ impl<'a> Prover<'a> {
             rows: HashMap::new(),
             facts: Vec::new(),
             steps: Vec::new(),
-            steps_stand: Stand::Last,
+            steps_stand: Stand::Nowhere,
+            postponed: HashSet::new(),
             parts: Vec::new(),
             linking: false,
             tried: Vec::new(),
@@ -99,14 +102,21 @@ impl<'a> Prover<'a> {
     }
 
     /// What was not found before may be found with a new line: triples rest on implications, and these on inclusions.
+    /// A triple from one view may rest on another one of the same instruction, and on no other triple.
     pub fn forget_failures(&mut self, named: &Statement) {
+        match named {
+            Statement::Triple { thread, point, left, .. } => {
+                if left.as_sees().is_some_and(|(u, _)| u == *thread) {
+                    let at = At { thread: *thread, point: *point };
+                    self.unreached.retain(|(place, ..)| *place != at);
+                }
+                return;
+            }
+            Statement::Implication { .. } => {}
+            Statement::Inclusion { .. } => self.missed = Default::default(),
+        }
         self.unreached.clear();
-        if !matches!(named, Statement::Triple { .. }) {
-            self.refuted = Default::default();
-        }
-        if matches!(named, Statement::Inclusion { .. }) {
-            self.missed = Default::default();
-        }
+        self.refuted = Default::default();
     }
 
     /// A search that also joins views with the tests about their own registers, and views of two threads:

@@ -25,25 +25,38 @@ pub fn expand(e: &T) -> A {
 impl Prover<'_> {
     /// The implications by which the case gives the goal; none are needed if it is plain.
     pub fn support(&mut self, case: &Case, goal: &A) -> Option<Vec<Line>> {
-        let (case, named) = self.with_facts(case);
-        let mut found = match self.support_parts(&case, goal) {
-            Some(found) => found,
-            None => vec![self.contradiction(&case)?],
-        };
-        found.extend(named);
-        Some(found)
+        self.with_or_without_facts(case, |all, case| {
+            let found = all.support_parts(case, goal);
+            found.or_else(|| Some(vec![all.contradiction(case)?]))
+        })
     }
 
     /// Does the case give the goal without being impossible?
     pub fn serves(&mut self, case: &Case, goal: &A) -> bool {
-        let (case, _) = self.with_facts(case);
-        self.support_parts(&case, goal).is_some()
+        self.with_or_without_facts(case, |all, case| all.support_parts(case, goal)).is_some()
     }
 
     /// Is the case impossible, as far as the rules can say so?
     pub fn impossible(&mut self, case: &Case) -> bool {
-        let (case, _) = self.with_facts(case);
-        self.contradiction(&case).is_some()
+        self.with_or_without_facts(case, |all, case| Some(vec![all.contradiction(case)?])).is_some()
+    }
+
+    /// Facts are used only where nothing is found without them: each is a premise more.
+    fn with_or_without_facts(
+        &mut self,
+        case: &Case,
+        search: impl Fn(&mut Self, &Case) -> Option<Vec<Line>>,
+    ) -> Option<Vec<Line>> {
+        if let Some(found) = search(self, case) {
+            return Some(found);
+        }
+        let (more, named) = self.with_facts(case);
+        if named.is_empty() {
+            return None;
+        }
+        let mut found = search(self, &more)?;
+        found.extend(named);
+        Some(found)
     }
 
     /// The case with what the writer's facts add to it.

@@ -36,43 +36,51 @@ impl Prover<'_> {
         if let Some(line) = self.lines.find(&at.triple(p, q)) {
             return Some(line);
         }
-        self.in_each_order(at, p, q).or_else(|| {
-            self.tried.clear();
+        let named = self.steps_at(at);
+        self.by_fitting_steps(at, p, q, &named)
+            .or_else(|| self.unaided(at, p, q))
+            .or_else(|| self.aided(at, p, q, &named))
+    }
+
+    /// Without the steps that were named, so that they never make a search longer that needs none of them.
+    fn unaided(&mut self, at: At, p: &A, q: &A) -> Option<Line> {
+        let stand = Stand::Nowhere;
+        self.with_steps(stand, at, p, q).or_else(|| {
             self.widened(|all| {
-                all.in_each_order(at, p, q).or_else(|| {
-                    let told = all.tried.clone();
-                    let found = all.triple_by_tests(at, p, q);
-                    all.tried = told;
-                    found
-                })
+                all.with_steps(stand, at, p, q).or_else(|| all.triple_by_tests(stand, at, p, q))
             })
         })
     }
 
-    /// By steps that were named, if they make the whole; else with them last, first and nowhere among the ways.
-    fn in_each_order(&mut self, at: At, p: &A, q: &A) -> Option<Line> {
-        if let Some(line) = self.by_steps(at, p, q) {
-            return Some(line);
+    /// With the steps that were named, their gaps searched: alone, then last and first among the ways.
+    fn aided(&mut self, at: At, p: &A, q: &A, named: &[Line]) -> Option<Line> {
+        if named.is_empty() {
+            return None;
         }
-        let here = |line: &Line| self.statement(*line).place() == (at.thread, at.point);
-        let orders: &[Stand] = match self.steps.iter().any(here) {
-            true => &[Stand::Last, Stand::First, Stand::Nowhere],
-            false => &[Stand::Last],
+        let told = self.tried.clone();
+        let search = |all: &mut Self| {
+            all.by_steps(at, p, q, named)
+                .or_else(|| all.with_steps(Stand::Last, at, p, q))
+                .or_else(|| all.with_steps(Stand::First, at, p, q))
         };
-        for stand in orders {
-            self.tried.clear();
-            self.steps_stand = *stand;
-            let found = self.triple_by_cases(at, p, q);
-            self.steps_stand = Stand::Last;
-            if found.is_some() {
-                return found;
-            }
-        }
-        None
+        let found = search(self).or_else(|| {
+            self.widened(|all| search(all).or_else(|| all.triple_by_tests(Stand::Last, at, p, q)))
+        });
+        self.tried = told;
+        found
+    }
+
+    /// By the ways to the goal, among which the steps that were named stand so.
+    fn with_steps(&mut self, stand: Stand, at: At, p: &A, q: &A) -> Option<Line> {
+        self.tried.clear();
+        self.steps_stand = stand;
+        let found = self.triple_by_cases(at, p, q);
+        self.steps_stand = Stand::Nowhere;
+        found
     }
 
     /// The tests of Q that the instruction keeps and P does not have, told apart first.
-    fn triple_by_tests(&mut self, at: At, p: &A, q: &A) -> Option<Line> {
+    fn triple_by_tests(&mut self, stand: Stand, at: At, p: &A, q: &A) -> Option<Line> {
         let (here, instruction) = (tests_of(p), self.instruction(at));
         let kept = |e: &T| !here.contains(e) && keeps(&instruction, e.as_ref()) == Some(true);
         let known: Vec<A> = tests_of(q)
@@ -82,8 +90,11 @@ impl Prover<'_> {
             .collect();
         let split = both(p, &fold_right(&known, both)?);
         let first = self.fact(20, p, &split, &[])?;
-        let line = self.triple_by_cases(at, &split, q)?;
-        self.consequence(at, Some(first), line, None)
+        // What was tried without these tests is told.
+        let told = self.tried.clone();
+        let line = self.with_steps(stand, at, &split, q);
+        self.tried = told;
+        self.consequence(at, Some(first), line?, None)
     }
 
     fn triple_by_cases(&mut self, at: At, p: &A, q: &A) -> Option<Line> {
@@ -234,13 +245,10 @@ impl Prover<'_> {
 
     /// The triples that the writer named, where they lead to the goal.
     fn ways_by_steps(&mut self, context: &Context, goal: &A, ways: &mut Vec<Plan>) {
-        let at = context.at;
-        for line in self.steps.clone() {
-            if self.statement(line).place() == (at.thread, at.point) {
-                let right = self.right(line);
-                if let Some(last) = self.implied(&right, goal) {
-                    ways.push(then(Plan::Ready(line), last, &right, goal));
-                }
+        for line in self.steps_at(context.at) {
+            let right = self.right(line);
+            if let Some(last) = self.implied(&right, goal) {
+                ways.push(then(Plan::Ready(line), last, &right, goal));
             }
         }
     }
