@@ -50,6 +50,8 @@ use Rattle.trimmed.proofs.Trimming.{Trimming, threads-kept}
 use Rattle.trimmed.proofs.FormulaKept as Formulas
 use Rattle.trimmed.proofs.FormulaKept.{header-kept, formula-kept}
 use Rattle.trimmed.proofs.ThreadKept.{each-nth, old-body, old-instructions, last-kept}
+use Rattle.trimmed.proofs.Says.{outline-said, named-said, premises-said, claim-said}
+use Rattle.trimmed.proofs.ListKept.{points-length, obligations-many}
 use Rattle.trimmed.proofs.TallyKept.{instruction-kept, tallyTo-kept, tally-kept, obligationCount-kept}
 use Rattle.trimmed.proofs.Repointed.{withPoints}
 use Rattle.trimmed.proofs.Transfer.{Carried}
@@ -150,12 +152,10 @@ module _ (D : Document) (N : Named D) (F : Written D) (T : Trimming (used D) (ke
     canonical = canonical-kept (used D) (kept D) D (T .canonical)
 
     outline-old : numbers (tally z l .points) (outlineBody z l) ≡ D .outline
-    outline-old = rw (sym O, Places.outline-at D (T .threads)) (numbers-alone (D .outline) (T .canonical .outline))
+    outline-old = outline-said D (T .canonical) (T .threads) O
 
     outline-new : numbers (tally z′ l′ .points) (outlineBody z′ l′) ≡ E .outline
-    outline-new =
-        let q : tally z′ l′ .points ≡ length (E .outline) = ap (λ (c : Tally). c .points) (tally-kept T) ∙ sym O ∙ sym (Moved.outline-length (used D) (kept D) D) in
-        rw (q, Places.outline-at E same-threads) (numbers-alone (E .outline) (canonical .outline))
+    outline-new = outline-said E canonical same-threads (points-length T)
 
     number-kept : (t k : ℕ) → outlineNumber z′ l′ t k ≡ f (outlineNumber z l t k)
     unfolding outlineNumber sizes sizesOf
@@ -262,7 +262,7 @@ module _ (D : Document) (N : Named D) (F : Written D) (T : Trimming (used D) (ke
       premises-same = line-premises (lineBy f g v) new-fits ∙ ap (map g) (sym (line-premises v old-fits))
 
       pub old-premises : premises (lineBody z l n) ≡ v .premises
-      old-premises = ap premises old-line ∙ line-premises v old-fits
+      old-premises = premises-said D (T .canonical) (T .threads) n (S .low) (S .high)
 
     abbrev C : Certificate
     C = certificateOf z l
@@ -293,21 +293,13 @@ module _ (D : Document) (N : Named D) (F : Written D) (T : Trimming (used D) (ke
 
     -- the lines that obligations name
 
-    obligations-old : numbers (obligationCount z l) (obligationsBody z l) ≡ D .obligations
-    obligations-old = rw (sym B, Places.obligations-at D (T .threads)) (numbers-alone (D .obligations) (T .canonical .obligations))
-
-    obligations-new : numbers (obligationCount z′ l′) (obligationsBody z′ l′) ≡ E .obligations
-    obligations-new =
-        let q : obligationCount z′ l′ ≡ length (E .obligations) = obligationCount-kept T ∙ sym B ∙ sym (Moved.obligations-length (used D) (kept D) D) in
-        rw (q, Places.obligations-at E same-threads) (numbers-alone (E .obligations) (canonical .obligations))
-
     pub named-old : (i : ℕ) → namedLine z l i ≡ getD (D .obligations) i 0
-    unfolding namedLine
-    named-old i = rw obligations-old
+    named-old = named-said D (T .canonical) (T .threads) B
 
     pub named-kept : (i : ℕ) → namedLine z′ l′ i ≡ g (namedLine z l i)
-    unfolding namedLine
-    named-kept i = rw (obligations-new, obligations-old) (Moved.obligation-at (used D) (kept D) D i)
+    named-kept i =
+        named-said E canonical same-threads (obligations-many T) i
+        ∙ (Moved.obligation-at (used D) (kept D) D i ∙ ap g (sym (named-old i)))
 
     -- the claims
 
@@ -343,7 +335,7 @@ module _ (D : Document) (N : Named D) (F : Written D) (T : Trimming (used D) (ke
       claim-fit = T .canonical .claims i h
 
       pub claimed-old : word (drop 4 (claimBody z l i)) ≡ c .line
-      claimed-old = rw old-claim (claim-line c claim-fit)
+      claimed-old = claim-said D (T .canonical) (T .threads) i h
 
       pub claimed-kept : word (drop 4 (claimBody z′ l′ i)) ≡ g (word (drop 4 (claimBody z l i)))
       unfolding claimBy
