@@ -1,0 +1,5 @@
+pub mod Views
+pub mod Writes
+pub mod Moves
+pub mod Same
+pub mod Standing

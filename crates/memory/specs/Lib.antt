@@ -1,0 +1,5 @@
+pub mod View
+pub mod Write
+pub mod Memory
+pub mod Insert
+pub mod Stands
