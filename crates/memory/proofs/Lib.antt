@@ -3,3 +3,5 @@ pub mod Writes
 pub mod Moves
 pub mod Same
 pub mod Standing
+pub mod Accesses
+pub mod Stepping

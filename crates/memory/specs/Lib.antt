@@ -3,3 +3,4 @@ pub mod Write
 pub mod Memory
 pub mod Insert
 pub mod Stands
+pub mod Access
