@@ -153,10 +153,10 @@ module _ (s : List ℕ) (z : Sizes) (c : Checks z (bodies s)) where
   no-formula f e = rw e (sym (none-tree s))
 
   -- the formulas of both halves
-  value-is : (i : Instruction) → wanted (i .operation) ≡ Codes.value → (1 ≤ i .formula) × (i .formula ≤ z .formulas) → sorted l i ≡ true → toTree (formula l Sort.value (i .formula)) ≡ treeAt s (formulaAt s (i .formula))
+  pub value-is : (i : Instruction) → wanted (i .operation) ≡ Codes.value → (1 ≤ i .formula) × (i .formula ≤ z .formulas) → sorted l i ≡ true → toTree (formula l Sort.value (i .formula)) ≡ treeAt s (formulaAt s (i .formula))
   value-is i w r d = tree-is Codes.value (i .formula) (r .0) (r .1) (formula-sorted z l c (wanted (i .operation)) (i .formula) (r .0) (sorted-both z l c i d .0) .0 ∙ w)
 
-  note-is : (last : ℕ) (i : Instruction) → twofold (i .operation) ≡ true → ranged last z i ≡ true → sorted l i ≡ true
+  pub note-is : (last : ℕ) (i : Instruction) → twofold (i .operation) ≡ true → ranged last z i ≡ true → sorted l i ≡ true
       → toTree (formula l Sort.value (i .second .formula)) ≡ treeAt s (formulaAt s (i .second .formula))
   note-is last i t e d =
       let r = second-in z i t (ranged-both last z i e .1) in
@@ -216,7 +216,7 @@ module _ (s : List ℕ) (z : Sizes) (c : Checks z (bodies s)) where
   instr-is last (suc (suc (suc (suc (suc (suc (suc (suc (suc (suc (suc (suc (suc m))))))))))))) a b f n e d = absurd (none-above z l c last (made (suc (suc (suc (suc (suc (suc (suc (suc (suc (suc (suc (suc (suc m))))))))))))) a b f n) (omega arith) e)
 
   -- an instruction of a thread: its fields are in their ranges, its formula is of the sort that it wants
-  fields-there : (t k : ℕ) (w : Within (z .threads) t) → suc k < P .points t → (ranged (lastPoint (body z l c t (w .0) (w .1))) z (instructionOf z l t k) ≡ true) × (sorted l (instructionOf z l t k) ≡ true)
+  pub fields-there : (t k : ℕ) (w : Within (z .threads) t) → suc k < P .points t → (ranged (lastPoint (body z l c t (w .0) (w .1))) z (instructionOf z l t k) ≡ true) × (sorted l (instructionOf z l t k) ≡ true)
   unfolding pointCount
   fields-there t k w h =
       let x : List ℕ = body z l c t (w .0) (w .1) in

@@ -1,0 +1,2 @@
+// Formulas over registers, worked out at given values.
+pub mod work;

@@ -1,0 +1,4 @@
+pub mod Ways
+pub mod Alike
+pub mod Instructions
+pub mod Worked

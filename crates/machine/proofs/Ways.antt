@@ -1,0 +1,64 @@
+-- The ways through the functions, one law for each that is not a chain of tests.
+use Prim.Native.Nat.{ℕ, _-_, _≤_, _<_}
+use mathlib.Core.Path.{_≡_, refl}
+use mathlib.Core.Bool.{Bool, true, false, not}
+use lib.Dec.{leb}
+use borrow.Author.Tests.{lt-ltb, le-ltb}
+use Rattle.columns.specs.Combine.{sumOf}
+use Rattle.memory.specs.View.{positionIn}
+use Rattle.memory.specs.Memory.{writeAt, sizeAt, viewOf}
+use Rattle.memory.specs.declared.view.View.{View}
+use Rattle.memory.specs.declared.write.Write.{Write}
+use Rattle.memory.specs.declared.memory.Memory.{Memory}
+use Rattle.program.specs.declared.instruction.Instruction.{Instruction}
+use Rattle.content.specs.Places.{registerFirst}
+use Rattle.machine.specs.Deed.{deedOf}
+use Rattle.machine.specs.Shared.{reachable, uncovered, fetchAdded}
+use Rattle.machine.specs.Locals.{withRegister, withBoth}
+use Rattle.machine.specs.declared.locals.Registers.{Registers}
+use Rattle.memory.specs.Access.{swapped}
+use Rattle.machine.specs.declared.deed.Deed.{Deed}
+
+module _ (i : Instruction) (v g w : ℕ) (b : Bool) (e : b ≡ registerFirst (i .operation)) where
+  pub deed-register : b ≡ true → w ≡ i .b - 1
+      → record { operation = i .operation; word = w; register = i .a; value = v; noted = i .second .a; note = g; target = i .a } ≡ deedOf i v g
+  unfolding deedOf
+  deed-register d q = rw (← e, d, q)
+
+  pub deed-word : b ≡ false → w ≡ i .a - 1
+      → record { operation = i .operation; word = w; register = i .b; value = v; noted = i .second .a; note = g; target = i .a } ≡ deedOf i v g
+  unfolding deedOf
+  deed-word d q = rw (← e, d, q)
+
+module _ (m : Memory) (t k p : ℕ) where
+  pub reach-there : (n q : ℕ) (v : View) → n ≡ sizeAt m k → v ≡ viewOf m t → q ≡ positionIn v k → p < n → leb q p ≡ reachable m t k p
+  unfolding reachable
+  reach-there n q v e d f h = rw (← e, lt-ltb _ _ h, ← d, ← f)
+
+  pub reach-past : (n : ℕ) → n ≡ sizeAt m k → n ≤ p → false ≡ reachable m t k p
+  unfolding reachable
+  reach-past n e h = rw (← e, le-ltb _ _ h)
+
+  module _ (b : Bool) (e : b ≡ reachable m t k p) where
+    pub uncovered-there : (w : Write) → b ≡ true → w ≡ writeAt m k p → not (w .covered) ≡ uncovered m t k p
+    unfolding uncovered
+    uncovered-there w h d = rw (← e, h, ← d)
+
+    pub uncovered-not : b ≡ false → false ≡ uncovered m t k p
+    unfolding uncovered
+    uncovered-not h = rw (← e, h)
+
+pub add-made : (m n : Memory) (R t p c : ℕ) (d : Deed) (w : Write) → w ≡ writeAt m (d .word) p → c ≡ sumOf R (w .value) (d .value) → n ≡ swapped m (d .word) c t p
+    → n ≡ fetchAdded m R d t p
+unfolding fetchAdded
+add-made m n R t p c d w e q h = rw (← e, ← q) h
+
+pub both-made : (g h r : Registers) (d : Deed) → h ≡ withRegister g (d .noted) (d .note) → r ≡ withRegister h (d .register) (d .value) → r ≡ withBoth g d
+unfolding withBoth
+both-made g h r d e q = rw (← e) q
+
+pub ruleset reaches = (reach-there, reach-past)
+
+pub ruleset uncovers = (uncovered-there, uncovered-not)
+
+pub ruleset deeds = (deed-register, deed-word)

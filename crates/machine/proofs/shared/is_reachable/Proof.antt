@@ -1,0 +1,9 @@
+use Rattle.machine.proofs.Ways.{reaches}
+use Rattle.limits.proofs.Auto.{tests}
+use borrow.Author.Needs.{needs}
+use Rattle.machine.proofs.shared.is_reachable.Statement.{statement}
+use Rattle.machine.proofs.shared.is_reachable.Tie as tie
+
+pub is-reachable-spec : {M : Type 1} → statement M
+is-reachable-spec =
+    tie.close (tie.spec (λ c κs. search needs) (λ c κs. search needs) (λ c κs. search needs) (λ c. search (reaches, tests)) (λ c. search (reaches, tests)))

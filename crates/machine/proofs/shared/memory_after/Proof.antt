@@ -1,0 +1,32 @@
+use Rattle.machine.specs.Shared.{memoryAfter}
+use Rattle.limits.proofs.Auto.{tests}
+use borrow.Author.Needs.{needs}
+use Rattle.machine.proofs.shared.memory_after.Statement.{statement}
+use Rattle.machine.proofs.shared.memory_after.Tie as tie
+
+pub memory-after-spec : {M : Type 1} → statement M
+unfolding memoryAfter
+memory-after-spec =
+    tie.close
+    (tie.spec
+    (λ c κs. search needs)
+    (λ c. search tests)
+    (λ c κs. search needs)
+    (λ c. search tests)
+    (λ c κs. search needs)
+    (λ c. search tests)
+    (λ c κs. search needs)
+    (λ c. search tests)
+    (λ c κs. search needs)
+    (λ c. search tests)
+    (λ c κs. search needs)
+    (λ c. search tests)
+    (λ c κs. search needs)
+    (λ c. search tests)
+    (λ c κs. search needs)
+    (λ c. search tests)
+    (λ c κs. search needs)
+    (λ c. search tests)
+    (λ c κs. search needs)
+    (λ c. search tests)
+    (λ c. search tests))

@@ -1,0 +1,4 @@
+pub mod Deed
+pub mod Locals
+pub mod Shared
+pub mod Stands

@@ -1,0 +1,10 @@
+use Rattle.memory.proofs.Accesses.{put-made}
+use Rattle.limits.proofs.Auto.{tests}
+use borrow.Author.Needs.{needs}
+use Rattle.memory.proofs.access.put.Statement.{statement}
+use Rattle.memory.proofs.access.put.Tie as tie
+
+pub put-spec : {M : Type 1} → statement M
+put-spec =
+    tie.close
+    (tie.spec (λ c κs. search needs) (λ c κs. search needs) (λ c κs. search needs) (λ c κs. search needs) (λ c. search (put-made, tests)))

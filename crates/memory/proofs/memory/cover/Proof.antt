@@ -1,0 +1,17 @@
+use Rattle.memory.proofs.Writes.{write-covered}
+use Rattle.limits.proofs.Auto.{tests}
+use borrow.Author.Needs.{needs}
+use Rattle.memory.proofs.memory.cover.Statement.{statement}
+use Rattle.memory.proofs.memory.cover.Tie as tie
+
+pub cover-spec : {M : Type 1} → statement M
+cover-spec =
+    tie.close
+    (tie.spec
+    (λ c κs. search needs)
+    (λ c. search needs)
+    (λ c. search needs)
+    (λ c κs. search needs)
+    (λ c. search needs)
+    (λ c. search needs)
+    (λ c. search (write-covered, tests)))

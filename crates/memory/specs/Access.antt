@@ -1,0 +1,32 @@
+-- What loads, stores and swaps do to rows and views: thread t, at position p of word k, all counted from 0.
+use Prim.Native.Nat.{ℕ}
+use mathlib.Core.Bool.{Bool, true, false, cond}
+use Rattle.memory.specs.View.{next, withPosition, joined}
+use Rattle.memory.specs.Memory.{writeAt, viewOf, withView, covering}
+use Rattle.memory.specs.Insert.{inserted}
+use Rattle.memory.specs.declared.view.View.{View}
+use Rattle.memory.specs.declared.memory.Memory.{Memory}
+
+-- if it acquires and the write is releasing, word by word the later of the thread's view and the stored one; else only that word moves
+unfoldable pub readView : Memory → Bool → ℕ → ℕ → ℕ → View
+readView m acquires t k p =
+    cond acquires (cond (writeAt m k p .releasing) (joined (viewOf m t) (writeAt m k p .stored)) (withPosition (viewOf m t) k p)) (withPosition (viewOf m t) k p)
+
+unfoldable pub loaded : Memory → Bool → ℕ → ℕ → ℕ → Memory
+loaded m acquires t k p = withView m t (readView m acquires t k p)
+
+-- a new write of value n from the view v: the view moves to it, and that view is stored with it
+unfoldable pub put : Memory → Bool → ℕ → ℕ → ℕ → ℕ → View → Memory
+put m releasing k n t p v =
+    withView (inserted m k p (record { value = n; releasing = releasing; covered = false; stored = withPosition v k (next p) })) t (withPosition v k (next p))
+
+unfoldable pub stored : Memory → Bool → ℕ → ℕ → ℕ → ℕ → Memory
+stored m releasing k n t p = put m releasing k n t p (viewOf m t)
+
+-- if the picked write is releasing, its stored view is joined in
+unfoldable pub swapView : Memory → ℕ → ℕ → ℕ → View
+swapView m t k p = cond (writeAt m k p .releasing) (joined (viewOf m t) (writeAt m k p .stored)) (viewOf m t)
+
+-- a releasing store that also covers the picked write
+unfoldable pub swapped : Memory → ℕ → ℕ → ℕ → ℕ → Memory
+swapped m k n t p = put (covering m k p) true k n t p (swapView m t k p)
