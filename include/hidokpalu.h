@@ -4,8 +4,8 @@
  * Link target/staticlib/libchecker.a, which `rt staticlib checker` writes (x86-64 Linux). Besides `check_image` it
  * needs memcpy and memset of the C library, and nothing else: no heap, no files, no state from one call to the next.
  * So any number of threads may call it at once. It needs 58 KB of stack on the smallest image; the most that was measured,
- * over all stored images, is 136 KB. Give it 192 KB. `trim_image` is in libtrimming.a (`rt staticlib trimming`), `bill_image` in
- * libbilling.a (`rt staticlib billing`).
+ * over all stored images, is 136 KB. Give it 192 KB. `trim_image` is in libtrimming.a (`rt staticlib trimming`) and takes 44 KB more:
+ * give it 256 KB. `bill_image` is in libbilling.a (`rt staticlib billing`) and takes 5 KB more. The three may be linked together.
  */
 #ifndef HIDOKPALU_H
 #define HIDOKPALU_H
