@@ -12,4 +12,6 @@ impl Answer {
     pub const NOT_ACCEPTED: u16 = 24;
     // The buffer is shorter than the trimmed image.
     pub const SHORT: u16 = 25;
+    // The length with an error.
+    pub const NOTHING: usize = 0;
 }

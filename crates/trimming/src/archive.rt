@@ -54,7 +54,7 @@ fn trim_accepted<'a, 'b, 'c>(s: &'a [u8], ix: &'b [usize], z: Sizes, out: &'c mu
     if out.len() < n {
         return Answer {
             code: Answer::SHORT,
-            length: 0,
+            length: Answer::NOTHING,
         };
     }
     write_numbered(s, ix, z, &u, &k, out);
@@ -74,7 +74,7 @@ pub fn trim_into<'a, 'b>(image: &'a [u8], out: &'b mut [u8]) -> Answer
         Acceptance::Granted(z) => trim_accepted(image, &index, z, out),
         Acceptance::Declined => Answer {
             code: Answer::NOT_ACCEPTED,
-            length: 0,
+            length: Answer::NOTHING,
         },
     }
 }
