@@ -1,22 +1,17 @@
 -- The next case of a file.
 use mathlib.Core.Path.{_≡_, sym, subst}
 use mathlib.Core.List.{List}
-use Prim.Native.Nat.{ℕ, _+_, _*_, _≤_}
-use lib.ListN.{length, take, drop}
+use Prim.Native.Nat.{ℕ, _≤_}
+use lib.ListN.{length, take}
 use Rattle.io.specs.Counts.{Counts}
-use Rattle.limits.specs.Numbers.{word}
 use Rattle.io.proofs.Counting.{counts}
 use Rattle.input.specs.declared.Filled.{Filled}
 use Rattle.input.specs.declared.Filled.the-variants.{Full, Ended, Failed}
-use Rattle.stored.specs.Next.{lengthIn, nextBy, Fits}
+use Rattle.stored.specs.Next.{nextBy, Fits}
 use Rattle.stored.specs.declared.end.End.{End}
 use Rattle.stored.specs.declared.end.End.the-variants.{Cut, Unread}
 use Rattle.stored.specs.declared.case.Next.{Next}
 use Rattle.stored.specs.declared.case.Next.the-variants.{Case, Over}
-
-pub length-is : (s : List ℕ) (a b : ℕ) → a ≡ word (drop 0 s) → b ≡ word (drop 2 s) → a + 65536 * b ≡ lengthIn s
-unfolding lengthIn
-length-is s a b e d = rw (e, d)
 
 module _ (p : Filled) (n : ℕ) where
   pub next-full : p ≡ Full → Case n ≡ nextBy p n

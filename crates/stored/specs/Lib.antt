@@ -1,5 +1,7 @@
 pub mod End
 pub mod File
 pub mod Next
+pub mod Number
+pub mod Room
 pub mod Tally
 pub mod Tallied

@@ -1,18 +1,12 @@
 -- The next case of a file.
 use mathlib.Core.List.{List}
-use Prim.Native.Nat.{ℕ, _+_, _*_}
-use lib.ListN.{drop}
-use Rattle.limits.specs.Numbers.{word}
+use Prim.Native.Nat.{ℕ}
 use Rattle.io.specs.Counts.{Counts}
 use Rattle.input.specs.declared.Filled.{Filled}
 use Rattle.input.specs.declared.Filled.the-variants.{Full, Ended, Failed}
 use Rattle.stored.specs.declared.end.End.the-variants.{Cut, Unread}
 use Rattle.stored.specs.declared.case.Next.{Next}
 use Rattle.stored.specs.declared.case.Next.the-variants.{Case, Over}
-
--- a body's length has four bytes, the low half first
-unfoldable pub lengthIn : List ℕ → ℕ
-lengthIn s = word s + 65536 * word (drop 2 s)
 
 -- a case whose body has n bytes, by what became of the part that was read last
 unfoldable pub nextBy : Filled → ℕ → Next

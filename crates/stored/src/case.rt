@@ -1,11 +1,11 @@
 // Cases read in order.
 use crate::end::End;
 use crate::end::end_after;
+use crate::number::long_at;
 use input::Filled;
 use input::fill;
-use limits::read::word_at;
 ghost use mathlib.Core.Path.{_≡_};
-ghost use Rattle.stored.specs.Next.{lengthIn, nextBy, Fits};
+ghost use Rattle.stored.specs.Next.{nextBy, Fits};
 
 // The length of the next case's body, or why there is none.
 pub enum Next {
@@ -17,16 +17,6 @@ struct Size;
 
 impl Size {
     pub const BYTES: usize = 4;
-
-    // How many numbers its first half has.
-    pub const HALF: usize = 65536;
-}
-
-// A body's length: its low half, then its high half.
-fn length_in(size: &[u8]) -> usize
-    ensures { λ r. ⌜ r ≡ lengthIn (now (size .entry)) ⌝ }
-{
-    word_at(size, 0) + Size::HALF * word_at(size, 2)
 }
 
 // What the part that was read last says of a case whose body has n bytes.
@@ -60,7 +50,7 @@ pub fn read_case<'a, 'b>(fd: i32, space: &'a mut [u8], tail: &'b mut [u8]) -> Ne
 {
     let mut size = [0u8; Size::BYTES];
     match fill(fd, &mut size) {
-        Filled::Full => read_body(fd, length_in(&size), space, tail),
+        Filled::Full => read_body(fd, long_at(&size, 0), space, tail),
         Filled::Ended(n) => Next::Over(end_after(n)),
         Filled::Failed => Next::Over(End::Unread),
     }

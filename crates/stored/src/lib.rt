@@ -1,6 +1,6 @@
 // What programs over stored cases share.
 //
-// A file holds its cases one after the other: the length of a body (16 bits, low byte first), the body, and a tail whose
+// A file holds its cases one after the other: the length of a body (32 bits, low byte first), the body, and a tail whose
 // length is the same for each case of the file.
 //
 // A contract cannot speak of what an operating system call read or wrote. So a function that reads promises only how
@@ -11,4 +11,6 @@ pub mod complaint;
 pub mod counts;
 pub mod end;
 pub mod file;
+pub mod number;
+pub mod room;
 pub mod tally;
