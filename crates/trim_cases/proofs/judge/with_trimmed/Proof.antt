@@ -1,0 +1,20 @@
+use Rattle.limits.proofs.Auto.{tests}
+use Rattle.trim_cases.proofs.Gathered.{lending}
+use borrow.Author.Needs.{needs}
+use Rattle.trim_cases.proofs.judge.with_trimmed.Statement.{statement}
+use Rattle.trim_cases.proofs.judge.with_trimmed.Tie as tie
+
+pub with-trimmed-spec : {M : Type 1} → statement M
+with-trimmed-spec =
+    tie.close
+    (tie.spec
+    (λ c κs. search needs)
+    (λ c κs. search needs)
+    (λ c. search (lending, tests))
+    (λ c. search (lending, tests))
+    (λ c κs. search needs)
+    (λ c. search (lending, tests))
+    (λ c κs. search needs)
+    (λ c. search needs)
+    (λ c κs. search needs)
+    (λ c. search (lending, tests)))
