@@ -39,7 +39,7 @@ use Rattle.memory.proofs.Stepping.{stands-load, stands-store, stands-swap}
 use Rattle.machine.specs.Deed.{deedOf}
 use Rattle.machine.specs.Shared.{reachable, uncovered, mayPick, fetchAdded, memoryAfter}
 use Rattle.machine.specs.Locals.{withRegister, withBoth, registersAfter, pointAfter}
-use Rattle.machine.specs.Stands.{SameRegs}
+use Rattle.machine.specs.Stands.{SameRegs, adds}
 use Rattle.machine.specs.declared.deed.Deed.{Deed}
 use Rattle.machine.specs.declared.locals.Registers.{Registers}
 use Rattle.machine.proofs.Alike.{from-zero, regs-set, reach-same, uncovered-same, value-same}
@@ -65,13 +65,6 @@ second-register z i t e =
     let w : Bool = within 1 (z .registers) (h .a) && y in
     let g = and-true (within Opcode.assign Opcode.assign (h .operation) && w) (differ i) (rw t at e) in
     within-true 1 (z .registers) (h .a) (and-true (within 1 (z .registers) (h .a)) y (and-true (within Opcode.assign Opcode.assign (h .operation)) w (g .0) .1) .0)
-
--- it adds a write
-abbrev pub adds : Instr → Bool
-adds (act none ns) = false
-adds (act (load a r x) ns) = false
-adds (act (write w x f) ns) = true
-adds (branch e a) = false
 
 module _ (z : Sizes) (l : List (List ℕ)) (checks : Checks z l) (few-words : z .words ≤ 8) (few-registers : z .registers ≤ 16) where
   abbrev P : Program

@@ -1,7 +1,9 @@
--- Registers and a thread's part of a state, as the code has them.
+-- Registers as the code has them; which instructions add a write.
 use mathlib.Core.Path.{_≡_}
 use Prim.Native.Nat.{ℕ}
+use mathlib.Core.Bool.{Bool, true, false}
 use lib.ListN.{length}
+use Rattle.logic.specs.Machine.{Access.none, Access.load, Access.write, Instr, Instr.act, Instr.branch}
 use Rattle.limits.specs.Numbers.{nth}
 use Rattle.machine.specs.declared.locals.Registers.{Registers}
 
@@ -9,3 +11,10 @@ use Rattle.machine.specs.declared.locals.Registers.{Registers}
 pub record SameRegs (h : Registers) (g : ℕ → ℕ) : Type 0 where
   pub sixteen : length (h .at) ≡ 16
   pub same : (r : ℕ) → nth (h .at) r 0 ≡ g r
+
+-- it adds a write
+abbrev pub adds : Instr → Bool
+adds (act none ns) = false
+adds (act (load a r x) ns) = false
+adds (act (write w x f) ns) = true
+adds (branch e a) = false

@@ -1,0 +1,119 @@
+-- The start on numbers stands for the logic's start with the given registers.
+use Prim.Native.Nat.{ℕ, zero, suc, _+_, _*_, _-_, _/_, _%_, _≤_, _<_}
+use mathlib.Core.Path.{_≡_, refl, ap, sym, _∙_, subst}
+use mathlib.Core.Bool.{Bool, true, false, cond, _&&_}
+use mathlib.Core.List.{List, []}
+use native.Mathlib.Omega.{arith}
+use native.Mathlib.Nat.{mod-eq-of-lt, mul-div-cancel}
+use native.Mathlib.Numerals.{add-one}
+use lib.Dec.{eqb, ltb, leb}
+use lib.ListN.{length, getD, take, drop, replicate, length-take, length-replicate, getD-replicate, List·getD-eq-default}
+use borrow.Author.Tests.{ne-eqb, le-ltb, lt-leb, ltb-true, ltb-false}
+use Rattle.logic.specs.Machine.{State, Program, begin}
+use Rattle.logic.specs.WellFormed.{WellFormed}
+use Rattle.logic.proofs.Invariant.{start-wf}
+use Rattle.logic.proofs.Starts.{begins}
+use Rattle.limits.specs.Numbers.{nth, within}
+use Rattle.frames.specs.Records.{bodies}
+use Rattle.program.specs.declared.sizes.Sizes.{Sizes}
+use Rattle.program.specs.Header.{wordCount, registerCount, startValues, marks, cleared}
+use Rattle.image.specs.Decode.{sizesOf}
+use Rattle.content.specs.Program.{programOf, outlineOf}
+use Rattle.content.proofs.Checked.{Checks}
+use Rattle.content.proofs.Program.{range-two, well-formed}
+use Rattle.columns.proofs.Listed.{column-length, column-getD}
+use Rattle.memory.specs.View.{startView}
+use Rattle.memory.specs.Write.{noView, noWrite, startWrite}
+use Rattle.memory.specs.Memory.{indexOf, writeAt, sizeAt, viewOf}
+use Rattle.memory.specs.Stands.{SameView, SameWrite, Stands}
+use Rattle.memory.specs.declared.view.View.{View}
+use Rattle.memory.specs.declared.write.Write.{Write}
+use Rattle.machine.specs.Stands.{SameRegs}
+use Rattle.replay.specs.Start.{startWrites, startMemory, startRegister, startValuesTo, startRegisters, started}
+use Rattle.replay.specs.Stands.{StandsFor}
+use Rattle.machine.proofs.Worked.{sizes-few}
+use Rattle.replay.proofs.Following.{Ready}
+
+first-view : SameView startView (λ y. 0)
+first-view = record { eight = length-replicate {A = ℕ} 8 0; same = λ k h. getD-replicate {A = ℕ} 8 k 0 0 h }
+
+module _ (b : List ℕ) (z : Sizes) (c : Checks z (bodies b)) (given : List ℕ) where
+  abbrev P : Program
+  P = programOf z (bodies b)
+
+  abbrev head : List ℕ
+  head = getD (bodies b) 0 []
+
+  -- registers count from 1
+  abbrev pub first : State
+  first = begin P (λ r. nth given r 0)
+
+  -- each place of a row holds its start write
+  abbrev write-of : ℕ → Write
+  write-of j = startWrite (nth (startValues head) (j / 64 + 1) 0)
+
+  write-is : (k : ℕ) → k < 8 → writeAt (startMemory head) k 0 ≡ startWrite (nth (startValues head) (suc k) 0)
+  unfolding writeAt startMemory startWrites indexOf
+  write-is k h =
+      let e : (k % 8) * 64 + 0 % 64 ≡ k * 64 = rw (mod-eq-of-lt h) (omega arith) in
+      ap (λ (j : ℕ). getD (startWrites head 512) j noWrite) e ∙ column-getD write-of noWrite 512 (k * 64) (omega arith)
+      ∙ ap (λ (j : ℕ). startWrite (nth (startValues head) j 0)) (ap (λ (j : ℕ). j + 1) (mul-div-cancel k (omega arith)) ∙ add-one k)
+
+  stands-start : Stands (startMemory head) first
+  unfolding startMemory startWrites sizeAt viewOf
+  stands-start = record {
+    rows = length-replicate {A = ℕ} 8 1;
+    places = column-length write-of 512;
+    threads = length-replicate {A = View} 4 startView;
+    size = λ k h. rw (mod-eq-of-lt h) (getD-replicate {A = ℕ} 8 k 1 0 h);
+    few = λ k h. omega arith;
+    writes = λ k p h g. let e : p ≡ 0 = omega arith in rw e (subst (λ (w : Write). SameWrite w (first .row (suc k) 0)) (sym (write-is k h)) (record { value = refl; releasing = refl; covered = refl; stored = first-view }));
+    views = λ t h. rw (mod-eq-of-lt h) (subst (λ (v : View). SameView v (λ y. 0)) (sym (getD-replicate {A = View} 4 t startView noView h)) first-view);
+  }
+
+  counts : z .registers ≡ registerCount head
+  unfolding sizesOf
+  counts = ap (λ (y : Sizes). y .registers) (c .sizes)
+
+  -- registers that are not there start at 0
+  cleared-past : (r : ℕ) → 16 < r → cleared head r ≡ true
+  unfolding cleared within marks
+  cleared-past r h =
+      let q : length (marks head) < r = omega (arith, length-take (registerCount head) (drop (4 + wordCount head + registerCount head) head), sizes-few z (bodies b) c .2, counts) in
+      go (leb 1 r) (leb r (length (marks head))) (lt-leb r (length (marks head)) q)
+    where
+      go : (x y : Bool) → y ≡ false → cond (x && y) (eqb (nth (marks head) r 0) 1) true ≡ true
+      go true y e = rw e
+      go false y e = refl
+
+  register-in : (i : ℕ) → i < 16 → startRegister head (P .range) given i ≡ first .reg (suc i)
+  unfolding startRegister nth
+  register-in i h =
+      let q : P .range ≡ 0 → ⊥ = λ e. omega (arith, range-two z (bodies b) c) in
+      let g : i ≤ 255 = omega arith in
+      rw (ne-eqb (P .range) 0 q, le-ltb 255 i g, add-one i)
+
+  register-is : (r : ℕ) → nth (startValuesTo head (P .range) given 16) r 0 ≡ first .reg r
+  unfolding startValuesTo nth cleared within
+  register-is zero = refl
+  register-is (suc i) = go (ltb i 16) refl
+    where
+      go : (d : Bool) → ltb i 16 ≡ d → getD (startValuesTo head (P .range) given 16) i 0 ≡ first .reg (suc i)
+      go true e = let h = ltb-true i 16 e in column-getD (startRegister head (P .range) given) 0 16 i h ∙ register-in i h
+      go false e =
+          let h = ltb-false i 16 e in
+          List·getD-eq-default (startValuesTo head (P .range) given 16) 0 (omega (arith, column-length (startRegister head (P .range) given) 16))
+          ∙ sym (ap (λ (x : Bool). cond x 0 (nth given (suc i) 0 % P .range)) (cleared-past (suc i) (omega arith)))
+
+  pub begun : Ready b z c first (started head (P .range) given)
+  unfolding started startRegisters startValuesTo
+  begun = record {
+    wf = start-wf (well-formed z (bodies b) c .start-values) (begins P (omega (arith, range-two z (bodies b) c)) (λ r. nth given r 0));
+    points = λ t w. well-formed z (bodies b) c .some-point t w;
+    stands = record {
+      memory = stands-start;
+      registers = record { sixteen = column-length (startRegister head (P .range) given) 16; same = register-is };
+      four = length-replicate {A = ℕ} 4 0;
+      points = λ t h. getD-replicate {A = ℕ} 4 t 0 0 h;
+    };
+  }

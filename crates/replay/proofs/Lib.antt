@@ -1,0 +1,7 @@
+pub mod Ways
+pub mod Starting
+pub mod Running
+pub mod Following
+pub mod Followed
+pub mod Begun
+pub mod Wholly

@@ -1,0 +1,17 @@
+-- The steps of a trace, two bytes each, until one is refused; half a step is 27.
+use Prim.Native.Nat.{ℕ, _+_}
+use mathlib.Core.Bool.{Bool, true, false}
+use mathlib.Core.List.{List, [], _∷_}
+use lib.Dec.{eqb}
+use Rattle.program.specs.declared.sizes.Sizes.{Sizes}
+use Rattle.replay.specs.Step.{stepped}
+use Rattle.replay.specs.declared.states.Machine.{Machine}
+use Rattle.replay.specs.declared.run.Run.{Run}
+
+-- from the state n on, k steps having been taken
+unfoldable pub ran : List ℕ → Sizes → ℕ → Machine → ℕ → List ℕ → Run
+ran s z room n k [] = record { code = 0; steps = k; machine = n }
+ran s z room n k (t ∷ []) = record { code = 27; steps = k; machine = n }
+ran s z room n k (t ∷ p ∷ l) =
+    elim (eqb (stepped s z room n t p .code) 0)
+    [ true ↦ ran s z room (stepped s z room n t p .machine) (k + 1) l | false ↦ record { code = stepped s z room n t p .code; steps = k; machine = n } ]

@@ -1,0 +1,104 @@
+// One step of a trace: refused, or taken.
+use crate::states::Machine;
+use crate::states::perform;
+use crate::states::point_of;
+use crate::pick::Refusal;
+use crate::pick::pick_refusal;
+use content::position::formula_at;
+use evaluate::work::work;
+use frames::index::body_of;
+use machine::deed::Deed;
+use machine::deed::before;
+use machine::deed::deed_of;
+use machine::locals::Registers;
+use program::sizes::Sizes;
+use program::thread::last_point;
+use records::place::instruction_of;
+ghost use mathlib.Core.Path.{_≡_};
+ghost use Rattle.frames.specs.Records.{indexOf};
+ghost use Rattle.replay.specs.Step.{valueAt, deedAt, lastOf, attempted, stepped};
+
+// The state after a step, and why it was refused: then the state stays.
+pub struct Stepped {
+    pub code: u8,
+    pub machine: Machine,
+}
+
+// The value of formula k at the registers.
+fn value_at<'a, 'b>(s: &'a [u8], ix: &'b [usize], z: Sizes, h: Registers, k: usize) -> u8
+    requires { ⌜ now ix ≡ indexOf (now s) ⌝ }
+    ensures { λ r. ⌜ r ≡ valueAt (now (s .entry)) z h k ⌝ }
+{
+    let g = h.at;
+    let at = formula_at(s, ix, k);
+    work(s, at, z.range, &g)
+}
+
+// The instruction at point k of thread t, its formulas worked out at the registers.
+fn deed_at<'a, 'b>(
+    s: &'a [u8],
+    ix: &'b [usize],
+    z: Sizes,
+    h: Registers,
+    t: u8,
+    k: u8,
+) -> Deed
+    requires { ⌜ now ix ≡ indexOf (now s) ⌝ }
+    ensures { λ r. ⌜ r ≡ deedAt (now (s .entry)) z h t k ⌝ }
+{
+    let i = instruction_of(s, ix, z, t as usize, k as usize);
+    let half = i.second;
+    let value = value_at(s, ix, z, h, i.formula);
+    let note = value_at(s, ix, z, h, half.formula);
+    deed_of(i, value, note)
+}
+
+// The last point of thread t.
+fn last_of<'a, 'b>(s: &'a [u8], ix: &'b [usize], z: Sizes, t: u8) -> usize
+    requires { ⌜ now ix ≡ indexOf (now s) ⌝ }
+    ensures { λ r. ⌜ r ≡ lastOf (now (s .entry)) z t ⌝ }
+{
+    let b = body_of(s, ix, (z.formulas as usize) + (t as usize));
+    last_point(b)
+}
+
+// A deed of thread t, counted from 0, at position p.
+fn attempt(z: Sizes, room: usize, n: Machine, d: Deed, t: u8, p: u8) -> Stepped
+    ensures { λ r. ⌜ r ≡ attempted z room n d t p ⌝ }
+{
+    let m = n.memory;
+    let code = pick_refusal(m, z.words, room, d, t, p);
+    if code == Refusal::ACCEPTED {
+        return Stepped { code, machine: perform(n, z.range, d, t, p) };
+    }
+    Stepped { code, machine: n }
+}
+
+// A step of thread t at position p, with so many places for writes.
+pub fn step<'a, 'b>(
+    s: &'a [u8],
+    ix: &'b [usize],
+    z: Sizes,
+    room: usize,
+    n: Machine,
+    t: u8,
+    p: u8,
+) -> Stepped
+    requires { ⌜ now ix ≡ indexOf (now s) ⌝ }
+    ensures { λ r. ⌜ r ≡ stepped (now (s .entry)) z room n t p ⌝ }
+{
+    if t == 0 {
+        return Stepped { code: Refusal::THREAD, machine: n };
+    }
+    if z.threads < t {
+        return Stepped { code: Refusal::THREAD, machine: n };
+    }
+    let u = before(t);
+    let k = point_of(n, u);
+    if last_of(s, ix, z, t) <= (k as usize) {
+        return Stepped { code: Refusal::THREAD, machine: n };
+    }
+    let h = n.registers;
+    let d = deed_at(s, ix, z, h, t, k);
+    attempt(z, room, n, d, u, p)
+}
