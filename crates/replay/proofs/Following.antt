@@ -124,7 +124,7 @@ module _ (b : List ℕ) (z : Sizes) (c : Checks z (bodies b)) where
   abbrev P : Program
   P = programOf z l
 
-  range-is : z .range ≡ P .range
+  pub range-is : z .range ≡ P .range
   unfolding sizesOf
   range-is = ap (λ (y : Sizes). y .range) (c .sizes)
 
@@ -297,8 +297,10 @@ module _ (b : List ℕ) (z : Sizes) (c : Checks z (bodies b)) where
             × (_≡_ {A = ℕ} (cond d (cond a (cond (g && leb room (used s (P .words))) 29 0) 28) 27) 0 → Ready (exec P (P .code (suc u) k) (suc u) p s) ((cond d (attempted z room n deed u p) (refused 27 n)) .machine))
         go false e = (refl, λ x. absurd (omega arith))
         go true e =
-            let more = ltb-true (suc k) (P .points (suc u)) e in
-            (attempted-code ∙ pick-is more, λ x.
-            let q = not-refused a g (leb room (used s (P .words))) x in
-            subst (Ready (exec P (P .code (suc u) k) (suc u) p s)) (sym (attempted-machine (pick-is more ∙ x)))
-            (taken more few (is-true (q .0)) (λ y. leb-false room (used s (P .words)) (q .1 y))))
+            let more = ltb-true (suc k) (P .points (suc u)) e in (
+              attempted-code ∙ pick-is more,
+              λ x.
+                  let q = not-refused a g (leb room (used s (P .words))) x in
+                  subst (Ready (exec P (P .code (suc u) k) (suc u) p s)) (sym (attempted-machine (pick-is more ∙ x)))
+                  (taken more few (is-true (q .0)) (λ y. leb-false room (used s (P .words)) (q .1 y))),
+            )

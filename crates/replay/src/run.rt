@@ -30,7 +30,11 @@ pub fn run_trace<'a, 'b, 'c>(
     let mut i: usize = 0;
     while i < trace.len() {
         if trace.len() - i < 2 {
-            return Run { code: Refusal::THREAD, steps, machine: n };
+            return Run {
+                code: Refusal::THREAD,
+                steps,
+                machine: n,
+            };
         }
         let after = i + 2;
         let more = steps + 1;
@@ -40,8 +44,16 @@ pub fn run_trace<'a, 'b, 'c>(
             steps = more;
             i = after;
         } else {
-            return Run { code: r.code, steps, machine: n };
+            return Run {
+                code: r.code,
+                steps,
+                machine: n,
+            };
         }
     }
-    Run { code: Refusal::ACCEPTED, steps, machine: n }
+    Run {
+        code: Refusal::ACCEPTED,
+        steps,
+        machine: n,
+    }
 }

@@ -22,7 +22,11 @@ fn start_memory(b: &[u8]) -> Memory
         writes[j] = start_write(start_value(b, j / 64 + 1));
         j += 1;
     }
-    Memory { sizes: [1; 8], writes, views: [view; 4] }
+    Memory {
+        sizes: [1; 8],
+        writes,
+        views: [view; 4],
+    }
 }
 
 // The register at index i: 0, or what is given, modulo the range.

@@ -1,9 +1,9 @@
 // One step of a trace: refused, or taken.
+use crate::pick::Refusal;
+use crate::pick::pick_refusal;
 use crate::states::Machine;
 use crate::states::perform;
 use crate::states::point_of;
-use crate::pick::Refusal;
-use crate::pick::pick_refusal;
 use content::position::formula_at;
 use evaluate::work::work;
 use frames::index::body_of;
@@ -35,14 +35,7 @@ fn value_at<'a, 'b>(s: &'a [u8], ix: &'b [usize], z: Sizes, h: Registers, k: usi
 }
 
 // The instruction at point k of thread t, its formulas worked out at the registers.
-fn deed_at<'a, 'b>(
-    s: &'a [u8],
-    ix: &'b [usize],
-    z: Sizes,
-    h: Registers,
-    t: u8,
-    k: u8,
-) -> Deed
+fn deed_at<'a, 'b>(s: &'a [u8], ix: &'b [usize], z: Sizes, h: Registers, t: u8, k: u8) -> Deed
     requires { ⌜ now ix ≡ indexOf (now s) ⌝ }
     ensures { λ r. ⌜ r ≡ deedAt (now (s .entry)) z h t k ⌝ }
 {
@@ -69,7 +62,10 @@ fn attempt(z: Sizes, room: usize, n: Machine, d: Deed, t: u8, p: u8) -> Stepped
     let m = n.memory;
     let code = pick_refusal(m, z.words, room, d, t, p);
     if code == Refusal::ACCEPTED {
-        return Stepped { code, machine: perform(n, z.range, d, t, p) };
+        return Stepped {
+            code,
+            machine: perform(n, z.range, d, t, p),
+        };
     }
     Stepped { code, machine: n }
 }
@@ -88,15 +84,24 @@ pub fn step<'a, 'b>(
     ensures { λ r. ⌜ r ≡ stepped (now (s .entry)) z room n t p ⌝ }
 {
     if t == 0 {
-        return Stepped { code: Refusal::THREAD, machine: n };
+        return Stepped {
+            code: Refusal::THREAD,
+            machine: n,
+        };
     }
     if z.threads < t {
-        return Stepped { code: Refusal::THREAD, machine: n };
+        return Stepped {
+            code: Refusal::THREAD,
+            machine: n,
+        };
     }
     let u = before(t);
     let k = point_of(n, u);
     if last_of(s, ix, z, t) <= (k as usize) {
-        return Stepped { code: Refusal::THREAD, machine: n };
+        return Stepped {
+            code: Refusal::THREAD,
+            machine: n,
+        };
     }
     let h = n.registers;
     let d = deed_at(s, ix, z, h, t, k);

@@ -35,7 +35,11 @@ pub struct Replayed {
 fn room_of(lent: usize) -> usize
     ensures { λ r. ⌜ r ≡ roomOf lent ⌝ }
 {
-    if lent < Table::MOST { lent } else { Table::MOST }
+    if lent < Table::MOST {
+        lent
+    } else {
+        Table::MOST
+    }
 }
 
 // On an accepted image.
@@ -53,15 +57,32 @@ fn replay_on<'a, 'b, 'c, 'd>(
     let b = body_of(s, ix, 0);
     let n = start_machine(b, z.range, given);
     if room < (z.words as usize) {
-        return Replayed { code: Refusal::ROOM, steps: 0, held: false, words: z.words, machine: n };
+        return Replayed {
+            code: Refusal::ROOM,
+            steps: 0,
+            held: false,
+            words: z.words,
+            machine: n,
+        };
     }
     let r = run_trace(s, ix, z, room, n, trace);
     let machine = r.machine;
-    Replayed { code: r.code, steps: r.steps, held: true, words: z.words, machine }
+    Replayed {
+        code: r.code,
+        steps: r.steps,
+        held: true,
+        words: z.words,
+        machine,
+    }
 }
 
 // A replay with so many entries lent.
-pub fn replay<'a, 'b, 'c>(image: &'a [u8], trace: &'b [u8], given: &'c [u8], lent: usize) -> Replayed
+pub fn replay<'a, 'b, 'c>(
+    image: &'a [u8],
+    trace: &'b [u8],
+    given: &'c [u8],
+    lent: usize,
+) -> Replayed
     ensures { λ r. ⌜ r ≡ replayOf (now (image .entry)) (now (trace .entry)) (now (given .entry)) lent ⌝ }
 {
     let mut index = [0usize; Limits::RECORDS];
