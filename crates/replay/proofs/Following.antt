@@ -124,7 +124,7 @@ module _ (b : List ℕ) (z : Sizes) (c : Checks z (bodies b)) where
   abbrev P : Program
   P = programOf z l
 
-  range-is : z .range ≡ P .range
+  pub range-is : z .range ≡ P .range
   unfolding sizesOf
   range-is = ap (λ (y : Sizes). y .range) (c .sizes)
 

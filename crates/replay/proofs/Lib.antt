@@ -5,3 +5,4 @@ pub mod Following
 pub mod Followed
 pub mod Begun
 pub mod Wholly
+pub mod Promised

@@ -6,3 +6,4 @@ pub mod Start
 pub mod Outcome
 pub mod Stands
 pub mod Whole
+pub mod Promise
