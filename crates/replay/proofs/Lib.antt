@@ -6,3 +6,4 @@ pub mod Followed
 pub mod Begun
 pub mod Wholly
 pub mod Promised
+pub mod Tables

@@ -7,3 +7,4 @@ pub mod Outcome
 pub mod Stands
 pub mod Whole
 pub mod Promise
+pub mod Table

@@ -4,4 +4,5 @@ pub mod run;
 pub mod start;
 pub mod states;
 pub mod step;
+pub mod table;
 pub mod whole;
