@@ -36,7 +36,7 @@ all-of Q d [] h = tt
 all-of Q d (p ∷ ps) h = (h 0 (omega arith), all-of Q d ps (λ i b. h (suc i) (omega arith)))
 
 module _ (P : Program) (ok : (t k : ℕ) → Within (P .threads) t → suc k < P .points t → T (proper P (P .points t) (P .code t k))) where
-  derived-valid : {s : Statement} → Derived P s → Valid P s
+  pub derived-valid : {s : Statement} → Derived P s → Valid P s
   derived-valid (by-rule {n = n} {ps = ps} {s = s} d a f) = sound P ok n s ps d a (all-of (Valid P) s ps (λ i b. derived-valid (f i b)))
 
   -- of an instruction that is no pair by the triple, of a pair by the statement about the whole
@@ -102,11 +102,11 @@ every-action P u j t k none ns = refl
 every-action P u j t k (load a r x) ns = refl
 every-action P u j t k (write m x f) ns = refl
 
--- what a run keeps
-record Inv (P : Program) (O : Outline) (s : State) : Type 0 where
-  wf : Wf P s
-  point : (t : ℕ) → Within (P .threads) t → s .point t < P .points t
-  true-there : Holds P O s
+-- what a run keeps, whatever state it is from
+pub record Inv (P : Program) (O : Outline) (s : State) : Type 0 where
+  pub wf : Wf P s
+  pub point : (t : ℕ) → Within (P .threads) t → s .point t < P .points t
+  pub true-there : Holds P O s
 
 module _ (P : Program) (O : Outline) (W : WellFormed P O) (D : Proved P O) where
   abbrev Wanted : Obligation → Type 0
@@ -220,11 +220,11 @@ module _ (P : Program) (O : Outline) (W : WellFormed P O) (D : Proved P O) where
           stepped s inv (m .thread) t-in more (instrAt P s (m .thread)) refl (m .position) (search (and-left, and-right))
       go false e = inv
 
-  run-keeps : (l : List Step) (s : State) → Inv P O s → Inv P O (run P s l)
+  pub run-keeps : (l : List Step) (s : State) → Inv P O s → Inv P O (run P s l)
   run-keeps [] s inv = inv
   run-keeps (m ∷ l) s inv = run-keeps l (step P s m) (step-keeps s inv m)
 
-  start-inv : (s : State) → Start P s → Inv P O s
+  pub start-inv : (s : State) → Start P s → Inv P O s
   start-inv s st =
       let wf : Wf P s = start-wf (W .start-values) st in
       record {
