@@ -1,6 +1,7 @@
 #!/usr/bin/env bash
 # Writes every stored set: those that `vectors` makes; `examples`, the images of ../examples and the two with proofs
-# written by hand; `trim-examples`, the accepted ones of ../examples with every line that the search found, trimmed.
+# written by hand; `replay-examples`, traces of the accepted ones among them; `trim-examples`, the accepted ones of
+# ../examples with every line that the search found, trimmed.
 #
 # Usage: stored.sh FOLDER
 set -euo pipefail
@@ -18,6 +19,7 @@ for name in message-passing two-writes; do
     cp "$folder/$name.image" "$images/$name-by-hand.image"
 done
 ../target/rust/release/pack "$images" "$folder" examples
+../target/rust/release/pack --replay "$images" "$folder" replay-examples
 
 rm "$images"/*
 for source in ../examples/*.outline; do

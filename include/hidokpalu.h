@@ -5,7 +5,8 @@
  * needs memcpy and memset of the C library, and nothing else: no heap, no files, no state from one call to the next.
  * So any number of threads may call it at once. It needs 58 KB of stack on the smallest image; the most that was measured,
  * over all stored images, is 136 KB. Give it 192 KB. `trim_image` is in libtrimming.a (`rt staticlib trimming`) and takes 44 KB more:
- * give it 256 KB. `bill_image` is in libbilling.a (`rt staticlib billing`) and takes 5 KB more. The three may be linked together.
+ * give it 256 KB. `bill_image` is in libbilling.a (`rt staticlib billing`) and takes 5 KB more. `replay_trace` is in
+ * libreplaying.a (`rt staticlib replaying`) and takes 50 KB more than `check_image`. The four may be linked together.
  */
 #ifndef HIDOKPALU_H
 #define HIDOKPALU_H
@@ -102,7 +103,11 @@ uint16_t check_image(const uint8_t *image, size_t image_len, uint8_t *out, size_
 /* Codes of the calls below, besides HIDOKPALU_ACCEPTED. */
 enum hidokpalu_further_code {
     HIDOKPALU_TRIM_REFUSED = 24,  /* trim_image: the image is not accepted */
+    HIDOKPALU_REPLAY_REFUSED = 24, /* replay_trace: the same */
     HIDOKPALU_TRIM_ROOM = 25,     /* trim_image: the buffer is shorter than the trimmed image */
+    HIDOKPALU_STEP_THREAD = 27,   /* replay_trace: the step's thread is absent or at its last point, or it is half a step */
+    HIDOKPALU_STEP_PICK = 28,     /* replay_trace: the step's position is not permitted */
+    HIDOKPALU_STEP_ROOM = 29,     /* replay_trace: no entry is left for a write */
     HIDOKPALU_BILL_REFUSED = 30,  /* bill_image: the image is not accepted */
     HIDOKPALU_BILL_END = 31       /* bill_image: the number of billed images is at its end */
 };
@@ -145,6 +150,50 @@ enum hidokpalu_bill_at {
  */
 uint16_t bill_image(const uint8_t *image, size_t image_len, uint16_t start, uint16_t step, uint16_t taken,
                     uint16_t interference, uint16_t least, uint32_t billed, uint32_t *answer, size_t answer_len);
+
+/* How many numbers an answer of replay_trace has, and where each stands. */
+#define HIDOKPALU_REPLAY_NUMBERS 21
+enum hidokpalu_replay_at {
+    HIDOKPALU_REPLAY_STEPS = 0,   /* the steps taken */
+    HIDOKPALU_REPLAY_POINT = 1,   /* from here on the points of threads 1 to 4, 0 for one that is not there */
+    HIDOKPALU_REPLAY_REGISTER = 5 /* from here on registers 1 to 16, 0 for one that is not there */
+};
+
+/* The most writes, the bytes of an entry of the table, and where each stands in it. */
+#define HIDOKPALU_WRITES 64
+#define HIDOKPALU_WRITE_BYTES 11
+enum hidokpalu_write_at {
+    HIDOKPALU_WRITE_VALUE = 0,
+    HIDOKPALU_WRITE_RELEASING = 1, /* 0 or 1 */
+    HIDOKPALU_WRITE_COVERED = 2,  /* 0 or 1 */
+    HIDOKPALU_WRITE_VIEW = 3      /* from here on a position in the row of words 1 to 8, from 0; 0 for one that is not there */
+};
+
+/*
+ * Replays a trace on the machine of an accepted image: two bytes for a step, the thread, from 1, and the position, from
+ * 0, in the row of the instruction's word of the write that it picks; 0 for an instruction that picks none. A register
+ * whose mark in the header is 0 starts with the byte that `given` has for it, modulo the range: the first byte is for
+ * register 1, a byte that is missing is 0, and bytes behind the 16th are not looked at.
+ *
+ * - HIDOKPALU_SHORT_OUTPUT: the answer has fewer than HIDOKPALU_REPLAY_NUMBERS, whatever the image and the trace; neither
+ *   it nor the table is written.
+ * - HIDOKPALU_REPLAY_REFUSED: `check_image` does not accept the image. The table stays, the answer's numbers are 0.
+ * - HIDOKPALU_STEP_ROOM before any step: the words have more start writes than there are entries, for an empty trace
+ *   too. The table stays; points and registers are as at the start, the steps are 0.
+ * - else each step in turn until one is refused: the lowest of HIDOKPALU_STEP_THREAD, a single last byte too,
+ *   HIDOKPALU_STEP_PICK and HIDOKPALU_STEP_ROOM, which only a step that adds a write can have. 0: the trace is at its end.
+ *   A refused step changes nothing. The answer has the steps taken, points and registers of the state reached, and the
+ *   table its writes: word by word, each row in order.
+ *
+ * The table has `table_len` / HIDOKPALU_WRITE_BYTES entries, of which at most HIDOKPALU_WRITES are used. Entries that are
+ * not used stay, and so do bytes behind the last whole entry and numbers behind the answer's last.
+ *
+ * Every state on the way is one of the machine's, so in each of them each thread's assertion at its point is true. The
+ * caller sees to the pointers as above; no two of the five overlap.
+ */
+uint16_t replay_trace(const uint8_t *image, size_t image_len, const uint8_t *trace, size_t trace_len,
+                      const uint8_t *given, size_t given_len, uint8_t *table, size_t table_len, size_t *answer,
+                      size_t answer_len);
 
 #ifdef __cplusplus
 }

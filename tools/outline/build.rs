@@ -4,7 +4,8 @@
 use std::path::Path;
 
 /// Archives that may be missing, and what the program is told if they are there.
-const FURTHER: [(&str, &str); 2] = [("trimming", "proved_trim"), ("billing", "proved_bills")];
+const FURTHER: [(&str, &str); 3] =
+    [("trimming", "proved_trim"), ("billing", "proved_bills"), ("replaying", "proved_replay")];
 
 fn main() {
     for (_, told) in FURTHER {

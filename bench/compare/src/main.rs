@@ -6,11 +6,12 @@ mod startup;
 mod timing;
 
 use driver::Task;
+use proved::Replay;
 use std::process::ExitCode;
 
 const USAGE: &str = "\
-usage: compare compare|trim|bill N [SEED] | files|trim-files|bill-files PATH... | bench|trim-bench [IMAGE...] |
-               images FOLDER | startup PROGRAM IMAGE";
+usage: compare compare|trim|bill|replay N [SEED] | files|trim-files|bill-files|replay-files PATH... |
+               bench|trim-bench [IMAGE...] | replay-bench | images FOLDER | startup PROGRAM IMAGE";
 
 fn main() -> ExitCode {
     let arguments: Vec<String> = std::env::args().skip(1).collect();
@@ -19,12 +20,17 @@ fn main() -> ExitCode {
         ["compare", ref numbers @ ..] => compare(&driver::CHECK, numbers),
         ["trim", ref numbers @ ..] => trimming().and_then(|task| compare(&task, numbers)),
         ["bill", ref numbers @ ..] => billing().and_then(|task| compare(&task, numbers)),
+        ["replay", ref numbers @ ..] => replaying().and_then(|_| compare(&driver::REPLAY, numbers)),
         ["files", ref paths @ ..] => Ok(driver::files(&driver::CHECK, paths)),
         ["trim-files", ref paths @ ..] => trimming().map(|task| driver::files(&task, paths)),
         ["bill-files", ref paths @ ..] => billing().map(|task| driver::files(&task, paths)),
+        ["replay-files", ref paths @ ..] => {
+            replaying().map(|_| driver::files(&driver::REPLAY, paths))
+        }
         ["images", folder] => Ok(timing::write(folder)),
         ["bench", ref names @ ..] => Ok(timing::run(&timing::CHECK, names)),
         ["trim-bench", ref names @ ..] => trimming().map(|_| timing::run(&timing::TRIM, names)),
+        ["replay-bench"] => replaying().map(timing::replay::run),
         ["startup", program, image] => Ok(startup::run(program, image)),
         _ => Err(USAGE.into()),
     };
@@ -54,6 +60,11 @@ fn trimming() -> Result<Task, String> {
 
 fn billing() -> Result<Task, String> {
     linked(proved::BILL.is_some(), "billing").map(|()| driver::BILL)
+}
+
+fn replaying() -> Result<Replay, String> {
+    linked(proved::REPLAY.is_some(), "replaying")?;
+    Ok(proved::REPLAY.expect("it is linked"))
 }
 
 /// An error if an archive was not there when this program was built.

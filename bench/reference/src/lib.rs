@@ -11,5 +11,6 @@ pub mod formula;
 pub mod image;
 pub mod machine;
 pub mod proof;
+pub mod replay;
 pub mod stored;
 pub mod trim;

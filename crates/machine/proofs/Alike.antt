@@ -60,7 +60,8 @@ module _ (m : Memory) (s : State) (st : Stands m s) (t k p : ℕ) (ht : t < 4) (
   unfolding uncovered
   uncovered-same = rw reach-same (go (ltb p (s .size (suc k))) refl (leb (s .view (suc t) (suc k)) p))
     where
-      go : (b : Bool) → ltb p (s .size (suc k)) ≡ b → (c : Bool) → cond (b && c) (not (writeAt m k p .covered)) false ≡ ((b && c) && not (s .row (suc k) p .covered))
+      go : (b : Bool) → ltb p (s .size (suc k)) ≡ b → (c : Bool)
+          → cond (b && c) (not (writeAt m k p .covered)) false ≡ ((b && c) && not (s .row (suc k) p .covered))
       go true e true = ap not (st .writes k p hk (ltb-true p (s .size (suc k)) e) .covered)
       go true e false = refl
       go false e c = refl

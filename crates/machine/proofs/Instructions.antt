@@ -31,7 +31,7 @@ use Rattle.content.proofs.Program.{made, fields-in, ranged-both, none-above}
 use Rattle.columns.specs.Combine.{sumOf}
 use Rattle.columns.proofs.Combining.{sum-modulo}
 use Rattle.memory.specs.View.{next}
-use Rattle.memory.specs.Memory.{writeAt}
+use Rattle.memory.specs.Memory.{first, writeAt}
 use Rattle.memory.specs.Access.{loaded, stored, swapped}
 use Rattle.memory.specs.Stands.{Stands, Named}
 use Rattle.memory.specs.declared.memory.Memory.{Memory}
@@ -45,7 +45,8 @@ use Rattle.machine.specs.declared.locals.Registers.{Registers}
 use Rattle.machine.proofs.Alike.{from-zero, regs-set, reach-same, uncovered-same, value-same}
 
 -- the memory does not speak of registers and points
-pub stands-locals : (m : Memory) (s : State) → Stands m s → (g q : ℕ → ℕ) → Stands m (record { size = s .size; row = s .row; view = s .view; reg = g; point = q })
+pub stands-locals : (m : Memory) (s : State) → Stands m s → (g q : ℕ → ℕ)
+    → Stands m (record { size = s .size; row = s .row; view = s .view; reg = g; point = q })
 stands-locals m s st g q = record {
   rows = st .rows;
   places = st .places;
@@ -57,23 +58,25 @@ stands-locals m s st g q = record {
 }
 
 -- a second half that there is: its register is there
-second-register : (z : Sizes) (i : Instruction) → twofold (i .operation) ≡ true → secondFits z i ≡ true → (1 ≤ i .second .a) × (i .second .a ≤ z .registers)
+second-register : (z : Sizes) (i : Instruction) → twofold (i .operation) ≡ true → secondFits z i ≡ true
+    → (1 ≤ i .second .a) × (i .second .a ≤ z .registers)
 unfolding secondFits halfFits
 second-register z i t e =
     let h : Half = i .second in
     let y : Bool = within 0 0 (h .b) && within 1 (z .formulas) (h .formula) in
     let w : Bool = within 1 (z .registers) (h .a) && y in
     let g = and-true (within Opcode.assign Opcode.assign (h .operation) && w) (differ i) (rw t at e) in
-    within-true 1 (z .registers) (h .a) (and-true (within 1 (z .registers) (h .a)) y (and-true (within Opcode.assign Opcode.assign (h .operation)) w (g .0) .1) .0)
+    within-true 1 (z .registers) (h .a)
+    (and-true (within 1 (z .registers) (h .a)) y (and-true (within Opcode.assign Opcode.assign (h .operation)) w (g .0) .1) .0)
 
 module _ (z : Sizes) (l : List (List ℕ)) (checks : Checks z l) (few-words : z .words ≤ 8) (few-registers : z .registers ≤ 16) where
   abbrev P : Program
   P = programOf z l
 
   module _ (s : State) (wf : Wf P s) (m : Memory) (st : Stands m s) (h : Registers) (same : SameRegs h (s .reg)) (t p : ℕ) (ht : t < 4) where
-    -- every row has room for one more
+    -- the table has room for one more write
     abbrev Room : Type 0
-    Room = (k : ℕ) → k < 8 → s .size (suc k) < 64
+    Room = first (m .sizes) 8 < 72
 
     -- the deed does what the instruction does
     pub record Made (d : Deed) (c : Instr) : Type 0 where
@@ -90,42 +93,55 @@ module _ (z : Sizes) (l : List (List ℕ)) (checks : Checks z l) (few-words : z 
 
     point-next : s .point (suc t) < 255 → next (s .point (suc t)) ≡ upd (s .point) (suc t) (suc (s .point (suc t))) (suc t)
     unfolding next
-    point-next b = rw (lt-ltb (s .point (suc t)) 255 b, add-one (s .point (suc t))) (sym (upd-same (s .point) (suc t) (suc (s .point (suc t)))))
+    point-next b =
+        rw (lt-ltb (s .point (suc t)) 255 b, add-one (s .point (suc t))) (sym (upd-same (s .point) (suc t) (suc (s .point (suc t)))))
 
     -- a register set to what the logic sets it to
-    set-to : (q : Registers) (g : ℕ → ℕ) → SameRegs q g → (r v w : ℕ) → (1 ≤ r) × (r ≤ z .registers) → v ≡ w → SameRegs (withRegister q r v) (upd g r w)
-    set-to q g k r v w i e = subst (λ (u : ℕ). SameRegs (withRegister q r v) (upd g r u)) e (regs-set q g k r v (i .0) (omega (arith, i .1, few-registers)))
+    set-to : (q : Registers) (g : ℕ → ℕ) → SameRegs q g → (r v w : ℕ) → (1 ≤ r) × (r ≤ z .registers) → v ≡ w
+        → SameRegs (withRegister q r v) (upd g r w)
+    set-to q g k r v w i e =
+        subst (λ (u : ℕ). SameRegs (withRegister q r v) (upd g r u)) e (regs-set q g k r v (i .0) (omega (arith, i .1, few-registers)))
 
     module _ (x : ℕ) (w : (1 ≤ x) × (x ≤ z .words)) where
       word-in : x ≤ 8
       word-in = omega (arith, w .1, few-words)
 
       reads : reachable m t (x - 1) p ≡ Logic.reachable s (suc t) x p
-      reads = from-zero 8 (λ (k x : ℕ). reachable m t k p ≡ Logic.reachable s (suc t) x p) (λ k hk. reach-same m s st t k p ht hk) x (w .0) word-in
+      reads = from-zero 8 (λ (k x : ℕ). reachable m t k p ≡ Logic.reachable s (suc t) x p) (λ k hk. reach-same m s st t k p ht hk) x
+          (w .0) word-in
 
       covers-not : uncovered m t (x - 1) p ≡ (Logic.reachable s (suc t) x p && not (s .row x p .covered))
-      covers-not = from-zero 8 (λ (k x : ℕ). uncovered m t k p ≡ (Logic.reachable s (suc t) x p && not (s .row x p .covered))) (λ k hk. uncovered-same m s st t k p ht hk) x (w .0) word-in
+      covers-not =
+          from-zero 8 (λ (k x : ℕ). uncovered m t k p ≡ (Logic.reachable s (suc t) x p && not (s .row x p .covered)))
+          (λ k hk. uncovered-same m s st t k p ht hk) x (w .0) word-in
 
       old-value : p < s .size x → writeAt m (x - 1) p .value ≡ s .row x p .value
-      old-value = from-zero 8 (λ (k x : ℕ). p < s .size x → writeAt m k p .value ≡ s .row x p .value) (λ k hk i. value-same m s st t k p ht hk i) x (w .0) word-in
+      old-value =
+          from-zero 8 (λ (k x : ℕ). p < s .size x → writeAt m k p .value ≡ s .row x p .value) (λ k hk i. value-same m s st t k p ht hk i) x
+          (w .0) word-in
 
       after-load : (a : Bool) → p < s .size x → Stands (loaded m a t (x - 1) p) (Logic.withView s (suc t) (Logic.readView s a (suc t) x p))
-      after-load a = from-zero 8 (λ (k x : ℕ). p < s .size x → Stands (loaded m a t k p) (Logic.withView s (suc t) (Logic.readView s a (suc t) x p))) (λ k hk i. stands-load m s st t k p ht hk i a) x (w .0) word-in
+      after-load a =
+          from-zero 8 (λ (k x : ℕ). p < s .size x → Stands (loaded m a t k p) (Logic.withView s (suc t) (Logic.readView s a (suc t) x p)))
+          (λ k hk i. stands-load m s st t k p ht hk i a) x (w .0) word-in
 
-      after-store : (b : Bool) (v n : ℕ) → v ≡ n → Room → p < s .size x → Stands (stored m b (x - 1) v t p) (Logic.insert b x n (suc t) p (s .view (suc t)) s)
-      after-store b v n e room i = subst (λ (u : ℕ). Stands (stored m b (x - 1) u t p) (Logic.insert b x n (suc t) p (s .view (suc t)) s)) (sym e) (go i)
+      after-store : (b : Bool) (v n : ℕ) → v ≡ n → Room → p < s .size x
+          → Stands (stored m b (x - 1) v t p) (Logic.insert b x n (suc t) p (s .view (suc t)) s)
+      after-store b v n e room i =
+          subst (λ (u : ℕ). Stands (stored m b (x - 1) u t p) (Logic.insert b x n (suc t) p (s .view (suc t)) s)) (sym e) (go i)
         where
           go : p < s .size x → Stands (stored m b (x - 1) n t p) (Logic.insert b x n (suc t) p (s .view (suc t)) s)
           go =
               from-zero 8 (λ (k x : ℕ). p < s .size x → Stands (stored m b k n t p) (Logic.insert b x n (suc t) p (s .view (suc t)) s))
-              (λ k hk i. stands-store m s st t k p ht hk i names (room k hk) b n) x (w .0) word-in
+              (λ k hk i. stands-store m s st t k p ht hk i names room b n) x (w .0) word-in
 
       after-swap : (v n : ℕ) → v ≡ n → Room → p < s .size x → Stands (swapped m (x - 1) v t p) (Logic.swapped x n (suc t) p s)
       after-swap v n e room i = subst (λ (u : ℕ). Stands (swapped m (x - 1) u t p) (Logic.swapped x n (suc t) p s)) (sym e) (go i)
         where
           go : p < s .size x → Stands (swapped m (x - 1) n t p) (Logic.swapped x n (suc t) p s)
           go =
-              from-zero 8 (λ (k x : ℕ). p < s .size x → Stands (swapped m k n t p) (Logic.swapped x n (suc t) p s)) (λ k hk i. stands-swap m s st t k p ht hk i names (room k hk) n) x (w .0) word-in
+              from-zero 8 (λ (k x : ℕ). p < s .size x → Stands (swapped m k n t p) (Logic.swapped x n (suc t) p s))
+              (λ k hk i. stands-swap m s st t k p ht hk i names room n) x (w .0) word-in
 
       -- the picked write of a load, of a store or swap
       read-in : T (Logic.reachable s (suc t) x p) → p < s .size x
@@ -147,11 +163,14 @@ module _ (z : Sizes) (l : List (List ℕ)) (checks : Checks z l) (few-words : z 
 
       abbrev Does : ℕ → ℕ → ℕ → Type 0
       Does op a b =
-          ranged last z (made op a b f n) ≡ true → first-is op → second-is op → test-is op → Made (deedOf (made op a b f n) v u) (instr l (made op a b f n))
+          ranged last z (made op a b f n) ≡ true → first-is op → second-is op → test-is op
+          → Made (deedOf (made op a b f n) v u) (instr l (made op a b f n))
 
       module _ (op a b : ℕ) (e : ranged last z (made op a b f n) ≡ true) where
         abbrev fields : Type 0
-        fields = ((fieldsOf op last z .a .low ≤ a) × (a ≤ fieldsOf op last z .a .high)) × ((fieldsOf op last z .b .low ≤ b) × (b ≤ fieldsOf op last z .b .high)) × ((fieldsOf op last z .formula .low ≤ f) × (f ≤ fieldsOf op last z .formula .high))
+        fields = ((fieldsOf op last z .a .low ≤ a) × (a ≤ fieldsOf op last z .a .high)) ×
+            ((fieldsOf op last z .b .low ≤ b) × (b ≤ fieldsOf op last z .b .high)) ×
+            ((fieldsOf op last z .formula .low ≤ f) × (f ≤ fieldsOf op last z .formula .high))
 
         in-fields : fields
         in-fields = fields-in (made op a b f n) (fieldsOf op last z) (ranged-both last z (made op a b f n) e .0)
@@ -161,13 +180,16 @@ module _ (z : Sizes) (l : List (List ℕ)) (checks : Checks z l) (few-words : z 
         noted-in d = second-register z (made op a b f n) d (ranged-both last z (made op a b f n) e .1)
 
       branch-point : (a : ℕ) → eqb v 1 ≡ test (P .range) (onRegs (s .reg)) (formula l Sort.test f) → s .point (suc t) < 255
-          → cond (eqb v 1) a (next (s .point (suc t))) ≡ upd (s .point) (suc t) (cond (test (P .range) (onRegs (s .reg)) (formula l Sort.test f)) a (suc (s .point (suc t)))) (suc t)
+          → cond (eqb v 1) a (next (s .point (suc t)))
+          ≡ upd (s .point) (suc t) (cond (test (P .range) (onRegs (s .reg)) (formula l Sort.test f)) a (suc (s .point (suc t)))) (suc t)
       branch-point a e b = rw (e, point-next b, upd-same (s .point) (suc t) (suc (s .point (suc t)))) (sym (upd-same (s .point) (suc t) _))
 
       fetch-sum : (a : ℕ) → (1 ≤ a) × (a ≤ z .words) → (v ≡ worked P s (formula l Sort.value f)) × (v < P .range) → p < s .size a
           → sumOf (P .range) (writeAt m (a - 1) p .value) v ≡ (s .row a p .value + worked P s (formula l Sort.value f)) % P .range
       fetch-sum a w e i =
-          ap₂ (sumOf (P .range)) (old-value a w i) (e .0) ∙ sum-modulo (P .range) (s .row a p .value) (worked P s (formula l Sort.value f)) (wf .small a p i) (subst (λ (k : ℕ). k < P .range) (e .0) (e .1))
+          ap₂ (sumOf (P .range)) (old-value a w i) (e .0)
+          ∙ sum-modulo (P .range) (s .row a p .value) (worked P s (formula l Sort.value f)) (wf .small a p i)
+          (subst (λ (k : ℕ). k < P .range) (e .0) (e .1))
 
       pub does : (op a b : ℕ) → Does op a b
       unfolding fieldsOf instr deedOf registerFirst mayPick memoryAfter fetchAdded registersAfter withBoth pointAfter twofold wanted
@@ -221,7 +243,8 @@ module _ (z : Sizes) (l : List (List ℕ)) (checks : Checks z l) (few-words : z 
       }
       does (suc (suc (suc (suc (suc (suc (suc (suc zero)))))))) a b e hv hu hb = let g = in-fields 8 a b e in record {
         picks = covers-not a (g .0);
-        memory = λ ok room. stands-locals _ _ (after-swap a (g .0) _ _ (fetch-sum a (g .0) (hv refl (g .2)) (write-in a (g .0) ok)) (room tt) (write-in a (g .0) ok)) _ _;
+        memory = λ ok room. stands-locals _ _
+            (after-swap a (g .0) _ _ (fetch-sum a (g .0) (hv refl (g .2)) (write-in a (g .0) ok)) (room tt) (write-in a (g .0) ok)) _ _;
         registers = λ ok. set-to h (s .reg) same b _ _ (g .1) (old-value a (g .0) (write-in a (g .0) ok));
         point = point-next;
       }
@@ -243,10 +266,15 @@ module _ (z : Sizes) (l : List (List ℕ)) (checks : Checks z l) (few-words : z 
         registers = λ ok. set-to h (s .reg) same (n .a) u _ (noted-in 11 a b e refl) (hu refl);
         point = point-next;
       }
-      does (suc (suc (suc (suc (suc (suc (suc (suc (suc (suc (suc (suc zero)))))))))))) a b e hv hu hb = let g = in-fields 12 a b e in record {
-        picks = refl;
-        memory = λ ok room. stands-locals m s st _ _;
-        registers = λ ok. set-to (withRegister h (n .a) u) _ (set-to h (s .reg) same (n .a) u _ (noted-in 12 a b e refl) (hu refl)) a v _ (g .0) (hv refl (g .2) .0);
-        point = point-next;
-      }
-      does (suc (suc (suc (suc (suc (suc (suc (suc (suc (suc (suc (suc (suc op))))))))))))) a b e hv hu hb = absurd (none-above z l checks last (made (suc (suc (suc (suc (suc (suc (suc (suc (suc (suc (suc (suc (suc op))))))))))))) a b f n) (omega arith) e)
+      does (suc (suc (suc (suc (suc (suc (suc (suc (suc (suc (suc (suc zero)))))))))))) a b e hv hu hb =
+          let g = in-fields 12 a b e in record {
+            picks = refl;
+            memory = λ ok room. stands-locals m s st _ _;
+            registers =
+                λ ok. set-to (withRegister h (n .a) u) _ (set-to h (s .reg) same (n .a) u _ (noted-in 12 a b e refl) (hu refl)) a v _ (g .0)
+                (hv refl (g .2) .0);
+            point = point-next;
+          }
+      does (suc (suc (suc (suc (suc (suc (suc (suc (suc (suc (suc (suc (suc op))))))))))))) a b e hv hu hb =
+          absurd (none-above z l checks last (made (suc (suc (suc (suc (suc (suc (suc (suc (suc (suc (suc (suc (suc op))))))))))))) a b f n)
+          (omega arith) e)

@@ -1,8 +1,9 @@
 -- The ways through the functions, one law for each that is not a chain of tests.
-use Prim.Native.Nat.{ℕ, _-_, _≤_, _<_}
+use Prim.Native.Nat.{ℕ, _-_, _%_, _≤_, _<_}
 use mathlib.Core.Path.{_≡_, refl}
 use mathlib.Core.Bool.{Bool, true, false, not}
 use lib.Dec.{leb}
+use lib.ListN.{getD}
 use borrow.Author.Tests.{lt-ltb, le-ltb}
 use Rattle.columns.specs.Combine.{sumOf}
 use Rattle.memory.specs.View.{positionIn}
@@ -31,12 +32,13 @@ module _ (i : Instruction) (v g w : ℕ) (b : Bool) (e : b ≡ registerFirst (i 
   deed-word d q = rw (← e, d, q)
 
 module _ (m : Memory) (t k p : ℕ) where
-  pub reach-there : (n q : ℕ) (v : View) → n ≡ sizeAt m k → v ≡ viewOf m t → q ≡ positionIn v k → p < n → leb q p ≡ reachable m t k p
-  unfolding reachable
+  pub reach-there : (n q : ℕ) (v : View) → n ≡ getD (m .sizes) (k % 8) 0 → v ≡ viewOf m t → q ≡ positionIn v k → p < n
+      → leb q p ≡ reachable m t k p
+  unfolding reachable sizeAt
   reach-there n q v e d f h = rw (← e, lt-ltb _ _ h, ← d, ← f)
 
-  pub reach-past : (n : ℕ) → n ≡ sizeAt m k → n ≤ p → false ≡ reachable m t k p
-  unfolding reachable
+  pub reach-past : (n : ℕ) → n ≡ getD (m .sizes) (k % 8) 0 → n ≤ p → false ≡ reachable m t k p
+  unfolding reachable sizeAt
   reach-past n e h = rw (← e, le-ltb _ _ h)
 
   module _ (b : Bool) (e : b ≡ reachable m t k p) where
@@ -48,12 +50,14 @@ module _ (m : Memory) (t k p : ℕ) where
     unfolding uncovered
     uncovered-not h = rw (← e, h)
 
-pub add-made : (m n : Memory) (R t p c : ℕ) (d : Deed) (w : Write) → w ≡ writeAt m (d .word) p → c ≡ sumOf R (w .value) (d .value) → n ≡ swapped m (d .word) c t p
+pub add-made : (m n : Memory) (R t p c : ℕ) (d : Deed) (w : Write) → w ≡ writeAt m (d .word) p → c ≡ sumOf R (w .value) (d .value)
+    → n ≡ swapped m (d .word) c t p
     → n ≡ fetchAdded m R d t p
 unfolding fetchAdded
 add-made m n R t p c d w e q h = rw (← e, ← q) h
 
-pub both-made : (g h r : Registers) (d : Deed) → h ≡ withRegister g (d .noted) (d .note) → r ≡ withRegister h (d .register) (d .value) → r ≡ withBoth g d
+pub both-made : (g h r : Registers) (d : Deed) → h ≡ withRegister g (d .noted) (d .note) → r ≡ withRegister h (d .register) (d .value)
+    → r ≡ withBoth g d
 unfolding withBoth
 both-made g h r d e q = rw (← e) q
 

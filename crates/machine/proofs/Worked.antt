@@ -52,8 +52,11 @@ unfolding header headed sizesOf
 sizes-few z l c =
     let b : List ℕ = getD l 0 [] in
     let h = unless-passed _ _ _ (unless-passed _ _ _ (unless-passed _ _ _ (header-passed z l c) .1) .1) .0 in
-    let k : Counted (c .counted) b = counted-in (c .counted) b (and-true _ _ h .0) in
-    (omega (arith, ap (λ (y : Sizes). y .threads) (c .sizes), k .threads .1), omega (arith, ap (λ (y : Sizes). y .words) (c .sizes), k .words .1), omega (arith, ap (λ (y : Sizes). y .registers) (c .sizes), k .registers))
+    let k : Counted (c .counted) b = counted-in (c .counted) b (and-true _ _ h .0) in (
+      omega (arith, ap (λ (y : Sizes). y .threads) (c .sizes), k .threads .1),
+      omega (arith, ap (λ (y : Sizes). y .words) (c .sizes), k .words .1),
+      omega (arith, ap (λ (y : Sizes). y .registers) (c .sizes), k .registers),
+    )
 
 module _ (b : List ℕ) (z : Sizes) (c : Checks z (bodies b)) where
   abbrev l : List (List ℕ)
@@ -73,16 +76,21 @@ module _ (b : List ℕ) (z : Sizes) (c : Checks z (bodies b)) where
     regs-are : registers (h .at) ≡ s .reg
     regs-are = fun-ext (same .same)
 
-    value-worked : (f : Value) (k : ℕ) → toTree f ≡ treeAt b (formulaAt b k) → T (bounded (P .range) f) → (valueOf h k ≡ worked P s f) × (valueOf h k < P .range)
+    value-worked : (f : Value) (k : ℕ) → toTree f ≡ treeAt b (formulaAt b k) → T (bounded (P .range) f)
+        → (valueOf h k ≡ worked P s f) × (valueOf h k < P .range)
     value-worked f k e i =
-        let q : valueOf h k ≡ value (P .range) (onRegs (registers (h .at))) f = ap (workedT (P .range) (h .at)) (sym e) ∙ worked-value (P .range) (h .at) small f i in
+        let q : valueOf h k ≡ value (P .range) (onRegs (registers (h .at))) f
+        = ap (workedT (P .range) (h .at)) (sym e) ∙ worked-value (P .range) (h .at) small f i in
         (q ∙ ap (λ (g : ℕ → ℕ). value (P .range) (onRegs g) f) regs-are, omega (arith, q, worked-below (P .range) (h .at) small f i))
 
-    test-worked : (f : Test) (k : ℕ) → toTree f ≡ treeAt b (formulaAt b k) → T (bounded (P .range) f) → eqb (valueOf h k) 1 ≡ test (P .range) (onRegs (s .reg)) f
+    test-worked : (f : Test) (k : ℕ) → toTree f ≡ treeAt b (formulaAt b k) → T (bounded (P .range) f)
+        → eqb (valueOf h k) 1 ≡ test (P .range) (onRegs (s .reg)) f
     test-worked f k e i =
-        ap (λ (n : ℕ). eqb n 1) (ap (workedT (P .range) (h .at)) (sym e)) ∙ worked-test (P .range) (h .at) small f i ∙ ap (λ (g : ℕ → ℕ). test (P .range) (onRegs g) f) regs-are
+        ap (λ (n : ℕ). eqb n 1) (ap (workedT (P .range) (h .at)) (sym e)) ∙ worked-test (P .range) (h .at) small f i
+        ∙ ap (λ (g : ℕ → ℕ). test (P .range) (onRegs g) f) regs-are
 
-    module _ (m : Memory) (st : Stands m s) (t p : ℕ) (ht : t < 4) (w : Within (z .threads) (suc t)) (more : suc (s .point (suc t)) < P .points (suc t)) where
+    module _ (m : Memory) (st : Stands m s) (t p : ℕ) (ht : t < 4) (w : Within (z .threads) (suc t))
+        (more : suc (s .point (suc t)) < P .points (suc t)) where
       abbrev i : Instruction
       i = instructionOf z l (suc t) (s .point (suc t))
 
@@ -96,22 +104,31 @@ module _ (b : List ℕ) (z : Sizes) (c : Checks z (bodies b)) where
           → (valueOf h (i .formula) ≡ worked P s (formula l Sort.value (i .formula))) × (valueOf h (i .formula) < P .range)
       first-formula d r =
           value-worked (formula l Sort.value (i .formula)) (i .formula) (value-is b z c i d r (facts .1))
-          (formula-bounded z l c (i .formula) (r .0) (r .1) Codes.value (formula-sorted z l c (wanted (i .operation)) (i .formula) (r .0) (sorted-both z l c i (facts .1) .0) .0 ∙ d))
+          (formula-bounded z l c (i .formula) (r .0) (r .1) Codes.value
+          (formula-sorted z l c (wanted (i .operation)) (i .formula) (r .0) (sorted-both z l c i (facts .1) .0) .0 ∙ d))
 
-      second-formula : twofold (i .operation) ≡ true → valueOf h (i .second .formula) ≡ worked P s (formula l Sort.value (i .second .formula))
+      second-formula : twofold (i .operation) ≡ true
+          → valueOf h (i .second .formula) ≡ worked P s (formula l Sort.value (i .second .formula))
       second-formula d =
           let r = second-in z i d (ranged-both last z i (facts .0) .1) in
           value-worked (formula l Sort.value (i .second .formula)) (i .second .formula) (note-is b z c last i d (facts .0) (facts .1))
-          (formula-bounded z l c (i .second .formula) (r .0) (r .1) Codes.value (formula-sorted z l c Codes.value (i .second .formula) (r .0) (sorted-both z l c i (facts .1) .1) .0)) .0
+          (formula-bounded z l c (i .second .formula) (r .0) (r .1) Codes.value
+          (formula-sorted z l c Codes.value (i .second .formula) (r .0) (sorted-both z l c i (facts .1) .1) .0)) .0
 
-      branch-formula : i .operation ≡ Opcode.branch → eqb (valueOf h (i .formula)) 1 ≡ test (P .range) (onRegs (s .reg)) (formula l Sort.test (i .formula))
+      branch-formula : i .operation ≡ Opcode.branch
+          → eqb (valueOf h (i .formula)) 1 ≡ test (P .range) (onRegs (s .reg)) (formula l Sort.test (i .formula))
       unfolding fieldsOf wanted
       branch-formula d =
           let g = fields-in i (fieldsOf (i .operation) last z) (ranged-both last z i (facts .0) .0) in
-          let r : (1 ≤ i .formula) × (i .formula ≤ z .formulas) = subst (λ (op : ℕ). (fieldsOf op last z .formula .low ≤ i .formula) × (i .formula ≤ fieldsOf op last z .formula .high)) d (g .2) in
+          let r : (1 ≤ i .formula) × (i .formula ≤ z .formulas)
+          = subst (λ (op : ℕ). (fieldsOf op last z .formula .low ≤ i .formula) × (i .formula ≤ fieldsOf op last z .formula .high)) d (g .2) in
           test-worked (formula l Sort.test (i .formula)) (i .formula) (test-is b z c (suc t) (s .point (suc t)) w more d)
-          (formula-bounded z l c (i .formula) (r .0) (r .1) Codes.test (formula-sorted z l c (wanted (i .operation)) (i .formula) (r .0) (sorted-both z l c i (facts .1) .0) .0 ∙ ap wanted d))
+          (formula-bounded z l c (i .formula) (r .0) (r .1) Codes.test
+          (formula-sorted z l c (wanted (i .operation)) (i .formula) (r .0) (sorted-both z l c i (facts .1) .0) .0 ∙ ap wanted d))
 
-      pub does-there : Made z l c (sizes-few z l c .1) (sizes-few z l c .2) s wf m st h same t p ht (deedOf i (valueOf h (i .formula)) (valueOf h (i .second .formula))) (P .code (suc t) (s .point (suc t)))
+      pub does-there : Made z l c (sizes-few z l c .1) (sizes-few z l c .2) s wf m st h same t p ht
+          (deedOf i (valueOf h (i .formula)) (valueOf h (i .second .formula))) (P .code (suc t) (s .point (suc t)))
       does-there =
-          does z l c (sizes-few z l c .1) (sizes-few z l c .2) s wf m st h same t p ht last (i .formula) (i .second) (valueOf h (i .formula)) (valueOf h (i .second .formula)) (i .operation) (i .a) (i .b) (facts .0) first-formula second-formula branch-formula
+          does z l c (sizes-few z l c .1) (sizes-few z l c .2) s wf m st h same t p ht last (i .formula) (i .second)
+          (valueOf h (i .formula)) (valueOf h (i .second .formula)) (i .operation) (i .a) (i .b)
+          (facts .0) first-formula second-formula branch-formula

@@ -5,7 +5,7 @@ use memory::access::load;
 use memory::access::store;
 use memory::access::swap;
 use memory::memory::Memory;
-use memory::memory::size_at;
+use memory::memory::size_in;
 use memory::memory::view_of;
 use memory::memory::write_at;
 use memory::view::position_in;
@@ -17,7 +17,8 @@ ghost use Rattle.machine.specs.Shared.{reachable, uncovered, mayPick, fe
 fn is_reachable(m: Memory, t: u8, k: u8, p: u8) -> bool
     ensures { λ r. ⌜ r ≡ reachable m t k p ⌝ }
 {
-    if p < size_at(m, k) {
+    let sizes = m.sizes;
+    if p < size_in(&sizes, k) {
         return position_in(view_of(m, t), k) <= p;
     }
     false

@@ -45,7 +45,8 @@ module _ (m n : Memory) (k t p : ℕ) where
   unfolding stored
   store-made b c v e d = rw (← e) d
 
-  pub swap-made : (c : ℕ) (i : Memory) (v : View) → i ≡ covering m k p → v ≡ swapView m t k p → n ≡ put i true k c t p v → n ≡ swapped m k c t p
+  pub swap-made : (c : ℕ) (i : Memory) (v : View) → i ≡ covering m k p → v ≡ swapView m t k p → n ≡ put i true k c t p v
+      → n ≡ swapped m k c t p
   unfolding swapped
   swap-made c i v ei ev d = rw (← ei, ← ev) d
 

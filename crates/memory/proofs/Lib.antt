@@ -1,6 +1,7 @@
 pub mod Views
 pub mod Writes
 pub mod Moves
+pub mod Places
 pub mod Same
 pub mod Standing
 pub mod Accesses

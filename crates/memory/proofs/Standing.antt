@@ -18,76 +18,46 @@ use Rattle.logic.proofs.Base.{upds, upd-same, upd-other, upd-case, down-is}
 use Rattle.columns.proofs.Listed.{column-length, column-getD}
 use Rattle.memory.specs.View.{next, upView}
 use Rattle.memory.specs.Write.{noView, noWrite, upWrite, coveredWrite}
-use Rattle.memory.specs.Memory.{indexOf, writeAt, sizeAt, viewOf, withView, covering}
-use Rattle.memory.specs.Insert.{source, movedTo, viewsTo, inserted}
+use Rattle.memory.specs.Memory.{first, indexOf, writeAt, sizeAt, viewOf, withView, covering}
+use Rattle.memory.specs.Insert.{movedTo, viewsTo, inserted}
 use Rattle.memory.specs.Stands.{SameView, SameWrite, Stands, Named}
 use Rattle.memory.specs.declared.view.View.{View}
 use Rattle.memory.specs.declared.write.Write.{Write}
 use Rattle.memory.specs.declared.memory.Memory.{Memory}
+use Rattle.memory.proofs.Places.{row-ends, apart, place, begins-same, begins-later}
 use Rattle.memory.proofs.Same.{set-upd, up-view-same, up-write-same}
 
--- places
-place : (k p : ℕ) → k < 8 → p < 64 → indexOf k p ≡ k * 64 + p
-unfolding indexOf
-place k p h g = rw (mod-eq-of-lt h, mod-eq-of-lt g)
-
--- two positions have two places
-apart : (j i k p : ℕ) → i < 64 → p < 64 → (j ≡ k → i ≡ p → ⊥) → j * 64 + i ≢ k * 64 + p
-apart j i k p h g differ e = go (eqb j k) (ltb j k) refl refl
-  where
-    go : (b c : Bool) → eqb j k ≡ b → ltb j k ≡ c → ⊥
-    go true c eb ec = let q : j ≡ k = eqb-true j k eb in differ q (omega arith)
-    go false true eb ec = let q : j < k = ltb-true j k ec in omega arith
-    go false false eb ec = let q : k ≤ j = ltb-false j k ec in let n : j ≢ k = eqb-false j k eb in omega arith
-
--- the writes of other words stay where they are
-source-else : (j i k p : ℕ) → i < 64 → p < 64 → k < 8 → j ≢ k → source (k * 64 + p) k (j * 64 + i) ≡ j * 64 + i
-unfolding source
-source-else j i k p h g w differ = rw (mod-eq-of-lt w) (go (ltb j k) refl)
-  where
-    go : (c : Bool) → ltb j k ≡ c → cond (ltb (k * 64 + p) (j * 64 + i)) (cond (ltb (j * 64 + i) (k * 64 + 64)) (j * 64 + i - 1) (j * 64 + i)) (j * 64 + i) ≡ j * 64 + i
-    go true e = let q : j < k = ltb-true j k e in let z : j * 64 + i ≤ k * 64 + p = omega arith in rw (le-ltb _ _ z)
-    go false e =
-        let q : k ≤ j = ltb-false j k e in
-        let a : k * 64 + p < j * 64 + i = omega arith in
-        let b : k * 64 + 64 ≤ j * 64 + i = omega arith in
-        rw (lt-ltb _ _ a, le-ltb _ _ b)
-
--- in the row itself, those behind the picked one come from one place before
-source-row : (i k p : ℕ) → i < 64 → k < 8 → source (k * 64 + p) k (k * 64 + i) ≡ k * 64 + Logic.down p i
-unfolding source Logic.down
-source-row i k p h w = rw (mod-eq-of-lt w) (go (leb i p) refl)
-  where
-    go : (c : Bool) → leb i p ≡ c → cond (ltb (k * 64 + p) (k * 64 + i)) (cond (ltb (k * 64 + i) (k * 64 + 64)) (k * 64 + i - 1) (k * 64 + i)) (k * 64 + i) ≡ k * 64 + cond c i (i - 1)
-    go true e = let q : i ≤ p = leb-true i p e in let z : k * 64 + i ≤ k * 64 + p = omega arith in rw (le-ltb _ _ z)
-    go false e =
-        let q : p < i = leb-false i p e in
-        let a : k * 64 + p < k * 64 + i = omega arith in
-        let b : k * 64 + i < k * 64 + 64 = omega arith in
-        rw (lt-ltb _ _ a, lt-ltb _ _ b) (omega arith)
-
 -- one place set: there the new write, elsewhere what was there
-set-place : (l : List Write) (rows : ℕ → ℕ → Logic.Write) (size : ℕ → ℕ) (k p : ℕ) (a : Write) → length l ≡ 512 → k < 8 → p < 64
-    → ((j : ℕ) → j < 8 → size (suc j) ≤ 64) → SameWrite a (rows (suc k) p)
-    → ((j i : ℕ) → j < 8 → i < size (suc j) → (j ≡ k → i ≡ p → ⊥) → SameWrite (getD l (indexOf j i) noWrite) (rows (suc j) i))
-    → (j i : ℕ) → j < 8 → i < size (suc j) → SameWrite (getD (set l (indexOf k p) a) (indexOf j i) noWrite) (rows (suc j) i)
-set-place l rows size k p a n h g few e else j i x y = go (eqb j k) (eqb i p) refl refl
+set-place : (l : List Write) (sizes : List ℕ) (rows : ℕ → ℕ → Logic.Write) (k p : ℕ) (a : Write) → length l ≡ 72 → first sizes 8 ≤ 72
+    → k < 8 → p < getD sizes k 0
+    → SameWrite a (rows (suc k) p)
+    → ((j i : ℕ) → j < 8 → i < getD sizes j 0 → (j ≡ k → i ≡ p → ⊥) → SameWrite (getD l (indexOf sizes j i) noWrite) (rows (suc j) i))
+    → (j i : ℕ) → j < 8 → i < getD sizes j 0 → SameWrite (getD (set l (indexOf sizes k p) a) (indexOf sizes j i) noWrite) (rows (suc j) i)
+set-place l sizes rows k p a n few h g e else j i x y = go (eqb j k) (eqb i p) refl refl
   where
-    i-small : i < 64
-    i-small = omega (arith, few j x)
+    there : j ≡ k → i ≡ p → SameWrite (getD (set l (indexOf sizes k p) a) (indexOf sizes j i) noWrite) (rows (suc j) i)
+    there u v = rw (u, v, getD-set-same l (indexOf sizes k p) a noWrite (omega (arith, place sizes few k p h g, row-ends sizes 8 k h, n))) e
 
-    there : j ≡ k → i ≡ p → SameWrite (getD (set l (indexOf k p) a) (indexOf j i) noWrite) (rows (suc j) i)
-    there u v = rw (u, v, getD-set-same l (indexOf k p) a noWrite (omega (arith, place k p h g, n))) e
+    other : (j ≡ k → i ≡ p → ⊥) → SameWrite (getD (set l (indexOf sizes k p) a) (indexOf sizes j i) noWrite) (rows (suc j) i)
+    other q =
+        rw (getD-set-other l (indexOf sizes k p) (indexOf sizes j i) a noWrite
+        (λ z. apart sizes j i k p y g q (sym (place sizes few j i x y) ∙ z ∙ place sizes few k p h g))) (else j i x y q)
 
-    other : (j ≡ k → i ≡ p → ⊥) → SameWrite (getD (set l (indexOf k p) a) (indexOf j i) noWrite) (rows (suc j) i)
-    other q = rw (getD-set-other l (indexOf k p) (indexOf j i) a noWrite (λ z. apart j i k p i-small g q (sym (place j i x i-small) ∙ z ∙ place k p h g))) (else j i x y q)
-
-    go : (b c : Bool) → eqb j k ≡ b → eqb i p ≡ c → SameWrite (getD (set l (indexOf k p) a) (indexOf j i) noWrite) (rows (suc j) i)
+    go : (b c : Bool) → eqb j k ≡ b → eqb i p ≡ c
+        → SameWrite (getD (set l (indexOf sizes k p) a) (indexOf sizes j i) noWrite) (rows (suc j) i)
     go true true u v = there (eqb-true j k u) (eqb-true i p v)
     go true false u v = other (λ z w. eqb-false i p v w)
     go false c u v = other (λ z w. eqb-false j k u z)
 
+next-is : (n : ℕ) → n < 255 → next n ≡ suc n
+unfolding next
+next-is n x = rw (lt-ltb n 255 x, add-one n)
+
 module _ (m : Memory) (s : State) (st : Stands m s) where
+  pub size-is : (k : ℕ) → k < 8 → getD (m .sizes) k 0 ≡ s .size (suc k)
+  unfolding sizeAt
+  size-is k h = rw (mod-eq-of-lt h) at (st .size k h)
+
   -- a thread's view set
   pub stands-view : (t : ℕ) (v : View) (w : Logic.View) → t < 4 → SameView v w → Stands (withView m t v) (Logic.withView s (suc t) w)
   unfolding withView writeAt sizeAt viewOf
@@ -98,7 +68,9 @@ module _ (m : Memory) (s : State) (st : Stands m s) where
     size = st .size;
     few = st .few;
     writes = st .writes;
-    views = λ u g. rw (mod-eq-of-lt h, mod-eq-of-lt g) (set-upd SameView (m .views) noView (s .view) 4 t v w (omega (arith, st .threads)) e (λ j i. rw (mod-eq-of-lt i) at (st .views j i)) u g);
+    views = λ u g. rw (mod-eq-of-lt h, mod-eq-of-lt g)
+        (set-upd SameView (m .views) noView (s .view) 4 t v w (omega (arith, st .threads)) e
+        (λ j i. rw (mod-eq-of-lt i) at (st .views j i)) u g);
   }
 
   -- a write covered
@@ -106,26 +78,32 @@ module _ (m : Memory) (s : State) (st : Stands m s) where
   unfolding covering coveredWrite writeAt sizeAt viewOf
   stands-cover k p h g = record {
     rows = st .rows;
-    places = length-set (m .writes) (indexOf k p) (coveredWrite (writeAt m k p)) ∙ st .places;
+    places = length-set (m .writes) (indexOf (m .sizes) k p) (coveredWrite (writeAt m k p)) ∙ st .places;
     threads = st .threads;
     size = st .size;
     few = st .few;
-    writes = set-place (m .writes) (Logic.cover (suc k) p s .row) (s .size) k p (coveredWrite (writeAt m k p)) (st .places) h (omega (arith, st .few k h)) (st .few) here other;
+    writes = λ j i x y. set-place (m .writes) (m .sizes) (Logic.cover (suc k) p s .row) k p (coveredWrite (writeAt m k p)) (st .places)
+        (st .few) h
+        (omega (arith, size-is k h)) here other j i x (omega (arith, size-is j x));
     views = st .views;
   }
     where
       here : SameWrite (coveredWrite (writeAt m k p)) (Logic.cover (suc k) p s .row (suc k) p)
-      here = let e = st .writes k p h g in simp upds (record { value = e .value; releasing = e .releasing; covered = refl; stored = e .stored })
+      here =
+          let e = st .writes k p h g in
+          simp upds (record { value = e .value; releasing = e .releasing; covered = refl; stored = e .stored })
 
-      other : (j i : ℕ) → j < 8 → i < s .size (suc j) → (j ≡ k → i ≡ p → ⊥) → SameWrite (getD (m .writes) (indexOf j i) noWrite) (Logic.cover (suc k) p s .row (suc j) i)
-      other j i a b q = go (eqb j k) refl
+      other : (j i : ℕ) → j < 8 → i < getD (m .sizes) j 0 → (j ≡ k → i ≡ p → ⊥)
+          → SameWrite (getD (m .writes) (indexOf (m .sizes) j i) noWrite) (Logic.cover (suc k) p s .row (suc j) i)
+      other j i a b q = go (eqb j k) refl (st .writes j i a (omega (arith, size-is j a)))
         where
-          go : (c : Bool) → eqb j k ≡ c → SameWrite (getD (m .writes) (indexOf j i) noWrite) (Logic.cover (suc k) p s .row (suc j) i)
-          go true e =
+          go : (c : Bool) → eqb j k ≡ c → SameWrite (getD (m .writes) (indexOf (m .sizes) j i) noWrite) (s .row (suc j) i)
+              → SameWrite (getD (m .writes) (indexOf (m .sizes) j i) noWrite) (Logic.cover (suc k) p s .row (suc j) i)
+          go true e w =
               let z : j ≡ k = eqb-true j k e in
-              let n : i ≢ p = λ w. q z w in
-              rw z (simp upds (rw z at (st .writes j i a b)))
-          go false e = let n : suc j ≢ suc k = λ (w : suc j ≡ suc k). eqb-false j k e (omega arith) in simp upds (st .writes j i a b)
+              let n : i ≢ p = λ y. q z y in
+              rw z (simp upds (rw z at w))
+          go false e w = let n : suc j ≢ suc k = λ (y : suc j ≡ suc k). eqb-false j k e (omega arith) in simp upds w
 
   module _ (names : Named s) where
     -- the state with a write inserted, before the thread moves to it
@@ -138,88 +116,154 @@ module _ (m : Memory) (s : State) (st : Stands m s) where
       point = s .point;
     }
 
-    module _ (k p : ℕ) (a : Write) (b : Logic.Write) (h : k < 8) (g : p < s .size (suc k)) (f : s .size (suc k) < 64) (e : SameWrite a b) where
+    module _ (k p : ℕ) (a : Write) (b : Logic.Write) (h : k < 8) (g : p < s .size (suc k)) (f : first (m .sizes) 8 < 72) (e : SameWrite a b) where
       abbrev comes : ℕ → Write
-      comes j = upWrite k p (getD (m .writes) (source (indexOf k p) k j) noWrite)
+      comes j = upWrite k p (getD (m .writes) (Logic.down (indexOf (m .sizes) k p) j) noWrite)
+
+      abbrev old : List ℕ
+      old = m .sizes
+
+      -- the sizes with one more write in the row
+      abbrev grown : List ℕ
+      grown = set (m .sizes) k (suc (s .size (suc k)))
+
+      row-few : first old k + s .size (suc k) < 72
+      row-few = omega (arith, row-ends old 8 k h, size-is k h)
+
+      sizes-are : set (m .sizes) (k % 8) (next (sizeAt m k)) ≡ grown
+      unfolding sizeAt
+      sizes-are = rw (mod-eq-of-lt h, size-is k h, next-is (s .size (suc k)) (omega (arith, row-few)))
+
+      grown-few : first grown 8 ≤ 72
+      grown-few = omega (arith, begins-later old k (suc (s .size (suc k))) 8 h (omega (arith, st .rows)), size-is k h)
+
+      grown-row : getD grown k 0 ≡ suc (s .size (suc k))
+      grown-row = getD-set-same old k (suc (s .size (suc k))) 0 (omega (arith, st .rows))
+
+      grown-else : (j : ℕ) → j ≢ k → getD grown j 0 ≡ getD old j 0
+      grown-else j n = getD-set-other old k j (suc (s .size (suc k))) 0 n
+
+      -- the place of the new write
+      new-place : indexOf old k (next p) ≡ indexOf grown k (suc p)
+      unfolding indexOf
+      new-place = rw (mod-eq-of-lt h, begins-same old k (suc (s .size (suc k))) k (omega arith), next-is p (omega (arith, row-few)))
+
+      picked : indexOf old k p ≡ first old k + p
+      picked = place old (omega arith) k p h (omega (arith, size-is k h))
+
+      -- in the row itself those behind the picked one come from one place before
+      from-row : (i : ℕ) → Logic.down (first old k + p) (first grown k + i) ≡ first old k + Logic.down p i
+      from-row i =
+          omega (
+            arith,
+            down-is (first old k + p) (first grown k + i),
+            down-is p i,
+            begins-same old k (suc (s .size (suc k))) k (omega arith),
+          )
+
+      -- the rows before it stay, those behind it come from one place before
+      from-else : (j i : ℕ) → j ≢ k → i < getD old j 0 → Logic.down (first old k + p) (first grown j + i) ≡ first old j + i
+      from-else j i n y = go (ltb j k) refl
+        where
+          go : (c : Bool) → ltb j k ≡ c → Logic.down (first old k + p) (first grown j + i) ≡ first old j + i
+          go true c =
+              let q : j < k = ltb-true j k c in
+              omega (
+                arith,
+                down-is (first old k + p) (first grown j + i),
+                begins-same old k (suc (s .size (suc k))) j (omega arith),
+                row-ends old k j q,
+              )
+          go false c =
+              let q : k ≤ j = ltb-false j k c in
+              let l : k < j = omega arith in
+              omega (
+                arith,
+                down-is (first old k + p) (first grown j + i),
+                begins-later old k (suc (s .size (suc k))) j l (omega (arith, st .rows)),
+                row-ends old j k l,
+                size-is k h,
+              )
 
       -- what is moved up
-      lifted : (j i : ℕ) → j < 8 → i < s .size (suc j) → SameWrite (upWrite k p (writeAt m j i)) (Logic.upWrite (suc k) p (s .row (suc j) i))
-      lifted j i x y = up-write-same (writeAt m j i) (s .row (suc j) i) (st .writes j i x y) k p h (omega (arith, names .stored (suc j) i (suc k) y))
+      lifted : (j i : ℕ) → j < 8 → i < s .size (suc j)
+          → SameWrite (upWrite k p (writeAt m j i)) (Logic.upWrite (suc k) p (s .row (suc j) i))
+      lifted j i x y =
+          up-write-same (writeAt m j i) (s .row (suc j) i) (st .writes j i x y) k p h
+          (omega (arith, names .stored (suc j) i (suc k) y, row-few))
 
-      new-few : (j : ℕ) → j < 8 → upd (s .size) (suc k) (suc (s .size (suc k))) (suc j) ≤ 64
-      new-few j x = upd-case (λ (n : ℕ). n ≤ 64) (s .size) (suc k) (suc (s .size (suc k))) (suc j) (λ q. omega arith) (λ q. st .few j x)
-
-      next-is : (n : ℕ) → n < 255 → next n ≡ suc n
-      unfolding next
-      next-is n x = rw (lt-ltb n 255 x, add-one n)
-
-      p-small : p < 64
-      p-small = omega (arith, f)
+      moved-long : length (movedTo m k p 72) ≡ 72
+      unfolding movedTo
+      moved-long = column-length comes 72
 
       -- a place of the list before the new write is put there
-      moved-at : (j i : ℕ) → j < 8 → i < 64 → getD (movedTo m k p 512) (indexOf j i) noWrite ≡ upWrite k p (getD (m .writes) (source (k * 64 + p) k (j * 64 + i)) noWrite)
+      moved-at : (j i : ℕ) → j < 8 → i < getD grown j 0
+          → getD (movedTo m k p 72) (indexOf grown j i) noWrite ≡ upWrite k p
+          (getD (m .writes) (Logic.down (first old k + p) (first grown j + i)) noWrite)
       unfolding movedTo
-      moved-at j i x y = column-getD comes noWrite 512 (indexOf j i) (omega (arith, place j i x y)) ∙ rw (place j i x y, place k p h p-small)
+      moved-at j i x y =
+          let q = place grown grown-few j i x y in
+          column-getD comes noWrite 72 (indexOf grown j i) (omega (arith, q, row-ends grown 8 j x, grown-few)) ∙ rw (q, picked)
 
-      moved-long : length (movedTo m k p 512) ≡ 512
-      unfolding movedTo
-      moved-long = column-length comes 512
-
-      -- in the row itself
-      moved-row : (i : ℕ) → i < suc (s .size (suc k)) → getD (movedTo m k p 512) (indexOf k i) noWrite ≡ upWrite k p (writeAt m k (Logic.down p i))
+      moved : (j i : ℕ) → j < 8 → i < getD grown j 0 → (j ≡ k → i ≡ suc p → ⊥)
+          → SameWrite (getD (movedTo m k p 72) (indexOf grown j i) noWrite) (behind k p b .row (suc j) i)
       unfolding writeAt
-      moved-row i y =
-          moved-at k i h (omega arith) ∙ rw (source-row i k p (omega arith) h, place k (Logic.down p i) h (omega (arith, down-is p i)))
-
-      -- in another row
-      moved-else : (j i : ℕ) → j < 8 → i < 64 → j ≢ k → getD (movedTo m k p 512) (indexOf j i) noWrite ≡ upWrite k p (writeAt m j i)
-      unfolding writeAt
-      moved-else j i x y n = moved-at j i x y ∙ rw (source-else j i k p y p-small h n, place j i x y)
-
-      moved : (j i : ℕ) → j < 8 → i < behind k p b .size (suc j) → (j ≡ k → i ≡ next p → ⊥) → SameWrite (getD (movedTo m k p 512) (indexOf j i) noWrite) (behind k p b .row (suc j) i)
-      moved j i x y q = go (eqb j k) refl
+      moved j i x y q = rw (moved-at j i x y) (go (eqb j k) refl)
         where
-          row : j ≡ k → i ≢ suc p → i < upd (s .size) (suc k) (suc (s .size (suc k))) (suc k) → SameWrite (getD (movedTo m k p 512) (indexOf k i) noWrite) (behind k p b .row (suc k) i)
-          row z n l =
-              let y′ : i < suc (s .size (suc k)) = rw upd-same at l in
-              rw (moved-row i y′) (simp upds (lifted k (Logic.down p i) h (omega (arith, down-is p i))))
+          row : i ≢ suc p → i < getD grown k 0
+              → SameWrite (upWrite k p (getD (m .writes) (Logic.down (first old k + p) (first grown k + i)) noWrite))
+              (behind k p b .row (suc k) i)
+          row n l =
+              let d : Logic.down p i < s .size (suc k) = omega (arith, down-is p i, grown-row) in
+              rw (from-row i, ← place old (omega arith) k (Logic.down p i) h (omega (arith, size-is k h)))
+              (simp upds (lifted k (Logic.down p i) h d))
 
-          go : (c : Bool) → eqb j k ≡ c → SameWrite (getD (movedTo m k p 512) (indexOf j i) noWrite) (behind k p b .row (suc j) i)
+          go : (c : Bool) → eqb j k ≡ c
+              → SameWrite (upWrite k p (getD (m .writes) (Logic.down (first old k + p) (first grown j + i)) noWrite))
+              (behind k p b .row (suc j) i)
           go true c =
               let z : j ≡ k = eqb-true j k c in
-              let n : i ≢ suc p = λ w. q z (w ∙ sym (next-is p (omega arith))) in
-              rw z (row z n (rw z at y))
+              rw z (row (λ w. q z w) (rw z at y))
           go false c =
               let n : j ≢ k = eqb-false j k c in
               let n′ : suc j ≢ suc k = λ (w : suc j ≡ suc k). n (omega arith) in
-              let y′ : i < s .size (suc j) = rw (upd-other (s .size) (suc k) (suc (s .size (suc k))) (suc j) n′) at y in
-              rw (moved-else j i x (omega (arith, st .few j x)) n) (simp upds (lifted j i x y′))
+              let y′ : i < getD old j 0 = omega (arith, grown-else j n) in
+              rw (from-else j i n y′, ← place old (omega arith) j i x y′) (simp upds (lifted j i x (omega (arith, size-is j x))))
+
+      grows : (j : ℕ) → j < 8 → getD grown j 0 ≡ behind k p b .size (suc j)
+      grows = set-upd (λ (c d : ℕ). c ≡ d) old 0 (s .size) 8 k (suc (s .size (suc k))) (suc (s .size (suc k)))
+          (omega (arith, st .rows)) refl size-is
+
+      sized : (j : ℕ) → j < 8 → sizeAt (inserted m k p a) j ≡ behind k p b .size (suc j)
+      unfolding inserted sizeAt
+      sized j x = rw (mod-eq-of-lt x) (ap (λ (l : List ℕ). getD l j 0) sizes-are ∙ grows j x)
 
       pub stands-insert : Stands (inserted m k p a) (behind k p b)
-      unfolding inserted writeAt sizeAt viewOf viewsTo
+      unfolding inserted writeAt viewOf viewsTo
       stands-insert = record {
         rows = length-set (m .sizes) (k % 8) (next (sizeAt m k)) ∙ st .rows;
-        places = length-set (movedTo m k p 512) (indexOf k (next p)) a ∙ length-moved;
+        places = length-set (movedTo m k p 72) (indexOf (m .sizes) k (next p)) a ∙ moved-long;
         threads = column-length seen 4;
-        size = λ j x. rw (mod-eq-of-lt x, mod-eq-of-lt h)
-            (set-upd (λ (c d : ℕ). c ≡ d) (m .sizes) 0 (s .size) 8 k (next (getD (m .sizes) k 0)) (suc (s .size (suc k))) (omega (arith, st .rows)) grown (λ j i. rw (mod-eq-of-lt i) at (st .size j i)) j x);
-        few = new-few;
-        writes = set-place (movedTo m k p 512) (behind k p b .row) (behind k p b .size) k (next p) a length-moved h (omega (arith, next-is p (omega arith))) new-few here moved;
-        views = λ t x. rw (mod-eq-of-lt x) (subst (λ (v : View). SameView v (Logic.upView (suc k) p (s .view (suc t)))) (sym (column-getD seen noView 4 t x))
-            (up-view-same (getD (m .views) t noView) (s .view (suc t)) (rw (mod-eq-of-lt x) at (st .views t x)) k p h (omega (arith, names .views (suc t) (suc k)))));
+        size = sized;
+        few = subst (λ (l : List ℕ). first l 8 ≤ 72) (sym sizes-are) grown-few;
+        writes = λ j i x y. subst
+            (λ (l : List ℕ). SameWrite (getD (set (movedTo m k p 72) (indexOf old k (next p)) a) (indexOf l j i) noWrite)
+            (behind k p b .row (suc j) i))
+            (sym sizes-are) (written j i x y);
+        views = λ t x. rw (mod-eq-of-lt x)
+            (subst (λ (v : View). SameView v (Logic.upView (suc k) p (s .view (suc t)))) (sym (column-getD seen noView 4 t x))
+            (up-view-same (getD (m .views) t noView) (s .view (suc t)) (rw (mod-eq-of-lt x) at (st .views t x)) k p h
+            (omega (arith, names .views (suc t) (suc k), row-few))));
       }
         where
           seen : ℕ → View
           seen j = upView k p (getD (m .views) j noView)
 
-          length-moved : length (movedTo m k p 512) ≡ 512
-          length-moved = moved-long
-
-          old : getD (m .sizes) k 0 ≡ s .size (suc k)
-          old = rw (mod-eq-of-lt h) at (st .size k h)
-
-          grown : next (getD (m .sizes) k 0) ≡ suc (s .size (suc k))
-          grown = rw old (next-is (s .size (suc k)) (omega arith))
-
-          here : SameWrite a (behind k p b .row (suc k) (next p))
-          here = rw (next-is p (omega arith)) (simp upds e)
+          written : (j i : ℕ) → j < 8 → i < behind k p b .size (suc j)
+              → SameWrite (getD (set (movedTo m k p 72) (indexOf old k (next p)) a) (indexOf grown j i) noWrite)
+              (behind k p b .row (suc j) i)
+          written j i x y =
+              rw new-place
+              (set-place (movedTo m k p 72) grown (behind k p b .row) k (suc p) a moved-long grown-few h (omega (arith, grown-row))
+              (simp upds e) moved j i x
+              (omega (arith, grows j x)))

@@ -10,16 +10,18 @@ use Rattle.logic.specs.Machine as Logic
 use Rattle.logic.specs.Machine.{State}
 use Rattle.logic.proofs.Base.{upds, by-word}
 use Rattle.memory.specs.View.{next, withPosition, joined}
-use Rattle.memory.specs.Memory.{writeAt, viewOf, covering}
+use Rattle.memory.specs.Memory.{first, writeAt, viewOf, covering}
 use Rattle.memory.specs.Access.{readView, loaded, put, stored, swapView, swapped}
 use Rattle.memory.specs.Stands.{SameView, SameWrite, Stands, Named}
 use Rattle.memory.specs.declared.view.View.{View}
 use Rattle.memory.specs.declared.memory.Memory.{Memory}
+use Rattle.memory.proofs.Places.{row-ends}
 use Rattle.memory.proofs.Same.{set-same, join-same}
-use Rattle.memory.proofs.Standing.{stands-view, stands-cover, stands-insert, behind}
+use Rattle.memory.proofs.Standing.{size-is, stands-view, stands-cover, stands-insert, behind}
 
 -- a view that moves to the new write
-move-same : (v : View) (w : Logic.View) (k p : ℕ) → SameView v w → k < 8 → p < 255 → SameView (withPosition v k (next p)) (Logic.moveTo (suc k) p w)
+move-same : (v : View) (w : Logic.View) (k p : ℕ) → SameView v w → k < 8 → p < 255
+    → SameView (withPosition v k (next p)) (Logic.moveTo (suc k) p w)
 unfolding next
 move-same v w k p e h g = rw (lt-ltb p 255 g, add-one p) (record { eight = q .eight; same = λ j i. q .same j i ∙ moved (suc j) })
   where
@@ -32,7 +34,8 @@ move-same v w k p e h g = rw (lt-ltb p 255 g, add-one p) (record { eight = q .ei
 names-cover : (s : State) (x p : ℕ) → Named s → p < s .size x → Named (Logic.cover x p s)
 names-cover s x p n h = record {
   views = n .views;
-  stored = by-word x _ (by-word p _ (λ y k. simp upds (n .stored x p y h)) (λ i q y k. simp upds (n .stored x i y k))) (λ z q i y k. simp upds (n .stored z i y k));
+  stored = by-word x _ (by-word p _ (λ y k. simp upds (n .stored x p y h)) (λ i q y k. simp upds (n .stored x i y k)))
+      (λ z q i y k. simp upds (n .stored z i y k));
 }
 
 module _ (m : Memory) (s : State) (st : Stands m s) (t k p : ℕ) (ht : t < 4) (hk : k < 8) (hp : p < s .size (suc k)) where
@@ -47,7 +50,9 @@ module _ (m : Memory) (s : State) (st : Stands m s) (t k p : ℕ) (ht : t < 4) (
   read-same false = set-same (viewOf m t) (s .view (suc t)) (st .views t ht) k p hk
   read-same true = rw (here .releasing) (go (s .row (suc k) p .releasing))
     where
-      go : (b : Bool) → SameView (cond b (joined (viewOf m t) (writeAt m k p .stored)) (withPosition (viewOf m t) k p)) (cond b (Logic.join (s .view (suc t)) (s .row (suc k) p .stored)) (upd (s .view (suc t)) (suc k) p))
+      go : (b : Bool)
+          → SameView (cond b (joined (viewOf m t) (writeAt m k p .stored)) (withPosition (viewOf m t) k p))
+          (cond b (Logic.join (s .view (suc t)) (s .row (suc k) p .stored)) (upd (s .view (suc t)) (suc k) p))
       go true = both-same
       go false = set-same (viewOf m t) (s .view (suc t)) (st .views t ht) k p hk
 
@@ -55,7 +60,9 @@ module _ (m : Memory) (s : State) (st : Stands m s) (t k p : ℕ) (ht : t < 4) (
   unfolding swapView
   swap-same = rw (here .releasing) (go (s .row (suc k) p .releasing))
     where
-      go : (b : Bool) → SameView (cond b (joined (viewOf m t) (writeAt m k p .stored)) (viewOf m t)) (cond b (Logic.join (s .view (suc t)) (s .row (suc k) p .stored)) (s .view (suc t)))
+      go : (b : Bool)
+          → SameView (cond b (joined (viewOf m t) (writeAt m k p .stored)) (viewOf m t))
+          (cond b (Logic.join (s .view (suc t)) (s .row (suc k) p .stored)) (s .view (suc t)))
       go true = both-same
       go false = st .views t ht
 
@@ -63,15 +70,17 @@ module _ (m : Memory) (s : State) (st : Stands m s) (t k p : ℕ) (ht : t < 4) (
   unfolding loaded
   stands-load a = stands-view m s st t (readView m a t k p) (Logic.readView s a (suc t) (suc k) p) ht (read-same a)
 
-  module _ (names : Named s) (room : s .size (suc k) < 64) where
-    stands-put : (b : Bool) (n : ℕ) (v : View) (w : Logic.View) → SameView v w → Stands (put m b k n t p v) (Logic.insert b (suc k) n (suc t) p w s)
+  module _ (names : Named s) (room : first (m .sizes) 8 < 72) where
+    stands-put : (b : Bool) (n : ℕ) (v : View) (w : Logic.View) → SameView v w
+        → Stands (put m b k n t p v) (Logic.insert b (suc k) n (suc t) p w s)
     unfolding put
     stands-put b n v w e =
-        stands-view _ (behind m s st names k p new) (stands-insert m s st names k p _ new hk hp room (record { value = refl; releasing = refl; covered = refl; stored = moved }))
+        stands-view _ (behind m s st names k p new)
+        (stands-insert m s st names k p _ new hk hp room (record { value = refl; releasing = refl; covered = refl; stored = moved }))
         t (withPosition v k (next p)) (Logic.moveTo (suc k) p w) ht moved
       where
         moved : SameView (withPosition v k (next p)) (Logic.moveTo (suc k) p w)
-        moved = move-same v w k p e hk (omega arith)
+        moved = move-same v w k p e hk (omega (arith, row-ends (m .sizes) 8 k hk, size-is m s st k hk))
 
         new : Logic.Write
         new = record { value = n; releasing = b; covered = false; stored = Logic.moveTo (suc k) p w }
@@ -80,9 +89,11 @@ module _ (m : Memory) (s : State) (st : Stands m s) (t k p : ℕ) (ht : t < 4) (
     unfolding stored
     stands-store b n = stands-put b n (viewOf m t) (s .view (suc t)) (st .views t ht)
 
-pub stands-swap : (m : Memory) (s : State) → Stands m s → (t k p : ℕ) → t < 4 → k < 8 → p < s .size (suc k) → Named s → s .size (suc k) < 64 → (n : ℕ)
+pub stands-swap : (m : Memory) (s : State) → Stands m s → (t k p : ℕ) → t < 4 → k < 8 → p < s .size (suc k) → Named s
+    → first (m .sizes) 8 < 72 → (n : ℕ)
     → Stands (swapped m k n t p) (Logic.swapped (suc k) n (suc t) p s)
-unfolding swapped
+unfolding swapped covering
 stands-swap m s st t k p ht hk hp names room n =
-    stands-put (covering m k p) (Logic.cover (suc k) p s) (stands-cover m s st k p hk hp) t k p ht hk hp (names-cover s (suc k) p names hp) room true n (swapView m t k p) (Logic.swapView s (suc t) (suc k) p)
+    stands-put (covering m k p) (Logic.cover (suc k) p s) (stands-cover m s st k p hk hp) t k p ht hk hp
+    (names-cover s (suc k) p names hp) room true n (swapView m t k p) (Logic.swapView s (suc t) (suc k) p)
     (swap-same m s st t k p ht hk hp)

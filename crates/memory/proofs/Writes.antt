@@ -19,7 +19,7 @@ pub write-up : (w : Write) (v : View) (k p : ℕ) → v ≡ upView k p (w .store
 unfolding upWrite
 write-up w v k p e = rw e
 
-module _ (m : Memory) (k p i : ℕ) (e : i ≡ indexOf k p) where
+module _ (m : Memory) (k p i : ℕ) (e : i ≡ indexOf (m .sizes) k p) where
   pub write-there : getD (m .writes) i noWrite ≡ writeAt m k p
   unfolding writeAt
   write-there = rw e

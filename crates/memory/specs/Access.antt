@@ -10,7 +10,8 @@ use Rattle.memory.specs.declared.memory.Memory.{Memory}
 -- if it acquires and the write is releasing, word by word the later of the thread's view and the stored one; else only that word moves
 unfoldable pub readView : Memory → Bool → ℕ → ℕ → ℕ → View
 readView m acquires t k p =
-    cond acquires (cond (writeAt m k p .releasing) (joined (viewOf m t) (writeAt m k p .stored)) (withPosition (viewOf m t) k p)) (withPosition (viewOf m t) k p)
+    cond acquires (cond (writeAt m k p .releasing) (joined (viewOf m t) (writeAt m k p .stored)) (withPosition (viewOf m t) k p))
+    (withPosition (viewOf m t) k p)
 
 unfoldable pub loaded : Memory → Bool → ℕ → ℕ → ℕ → Memory
 loaded m acquires t k p = withView m t (readView m acquires t k p)
@@ -18,7 +19,8 @@ loaded m acquires t k p = withView m t (readView m acquires t k p)
 -- a new write of value n from the view v: the view moves to it, and that view is stored with it
 unfoldable pub put : Memory → Bool → ℕ → ℕ → ℕ → ℕ → View → Memory
 put m releasing k n t p v =
-    withView (inserted m k p (record { value = n; releasing = releasing; covered = false; stored = withPosition v k (next p) })) t (withPosition v k (next p))
+    withView (inserted m k p (record { value = n; releasing = releasing; covered = false; stored = withPosition v k (next p) })) t
+    (withPosition v k (next p))
 
 unfoldable pub stored : Memory → Bool → ℕ → ℕ → ℕ → ℕ → Memory
 stored m releasing k n t p = put m releasing k n t p (viewOf m t)

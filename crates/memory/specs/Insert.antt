@@ -1,9 +1,8 @@
--- A write inserted behind position p of word k: those behind it in the row move up by one, and every view keeps its writes.
-use Prim.Native.Nat.{ℕ, _+_, _-_, _*_, _%_}
-use mathlib.Core.Bool.{cond}
+-- A write inserted behind position p of word k: those behind it in the table move up by one, and every view keeps its writes.
+use Prim.Native.Nat.{ℕ, _%_}
 use mathlib.Core.List.{List}
-use lib.Dec.{ltb}
 use lib.ListN.{getD, set}
+use Rattle.logic.specs.Machine.{down}
 use Rattle.columns.specs.Column.{column}
 use Rattle.memory.specs.View.{next, upView}
 use Rattle.memory.specs.Write.{noView, noWrite, upWrite}
@@ -12,16 +11,12 @@ use Rattle.memory.specs.declared.view.View.{View}
 use Rattle.memory.specs.declared.write.Write.{Write}
 use Rattle.memory.specs.declared.memory.Memory.{Memory}
 
--- where the write at place j comes from
-unfoldable pub source : ℕ → ℕ → ℕ → ℕ
-source picked k j = cond (ltb picked j) (cond (ltb j ((k % 8) * 64 + 64)) (j - 1) j) j
-
 -- the first n places
 unfoldable pub movedTo : Memory → ℕ → ℕ → ℕ → List Write
-movedTo m k p n = column (λ j. upWrite k p (getD (m .writes) (source (indexOf k p) k j) noWrite)) n
+movedTo m k p n = column (λ j. upWrite k p (getD (m .writes) (down (indexOf (m .sizes) k p) j) noWrite)) n
 
 unfoldable pub movedWrites : Memory → ℕ → ℕ → Memory
-movedWrites m k p = record { sizes = m .sizes; writes = movedTo m k p 512; views = m .views }
+movedWrites m k p = record { sizes = m .sizes; writes = movedTo m k p 72; views = m .views }
 
 -- the first n threads
 unfoldable pub viewsTo : Memory → ℕ → ℕ → ℕ → List View
@@ -33,6 +28,6 @@ movedViews m k p = record { sizes = m .sizes; writes = m .writes; views = viewsT
 unfoldable pub inserted : Memory → ℕ → ℕ → Write → Memory
 inserted m k p w = record {
   sizes = set (m .sizes) (k % 8) (next (sizeAt m k));
-  writes = set (movedTo m k p 512) (indexOf k (next p)) w;
+  writes = set (movedTo m k p 72) (indexOf (m .sizes) k (next p)) w;
   views = viewsTo m k p 4;
 }

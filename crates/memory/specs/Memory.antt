@@ -1,5 +1,5 @@
--- Rows of writes in one list, 64 places for each of eight words; the sizes of the rows; the views of four threads.
-use Prim.Native.Nat.{ℕ, _+_, _*_, _%_}
+-- Rows of writes in one list, word by word in row order; the sizes of the rows of eight words; the views of four threads.
+use Prim.Native.Nat.{ℕ, zero, suc, _+_, _%_}
 use mathlib.Core.List.{List}
 use lib.ListN.{getD, set}
 use Rattle.memory.specs.Write.{noView, noWrite, coveredWrite}
@@ -7,12 +7,17 @@ use Rattle.memory.specs.declared.view.View.{View}
 use Rattle.memory.specs.declared.write.Write.{Write}
 use Rattle.memory.specs.declared.memory.Memory.{Memory}
 
--- the place of position p of word k
-unfoldable pub indexOf : ℕ → ℕ → ℕ
-indexOf k p = (k % 8) * 64 + p % 64
+-- where the row of word k begins: the sum of the sizes before
+unfoldable pub first : List ℕ → ℕ → ℕ
+first sizes zero = 0
+first sizes (suc k) = first sizes k + getD sizes k 0
+
+-- the place of position p of word k, of 72
+unfoldable pub indexOf : List ℕ → ℕ → ℕ → ℕ
+indexOf sizes k p = (first sizes (k % 8) + p) % 72
 
 unfoldable pub writeAt : Memory → ℕ → ℕ → Write
-writeAt m k p = getD (m .writes) (indexOf k p) noWrite
+writeAt m k p = getD (m .writes) (indexOf (m .sizes) k p) noWrite
 
 unfoldable pub sizeAt : Memory → ℕ → ℕ
 sizeAt m k = getD (m .sizes) (k % 8) 0
@@ -25,4 +30,5 @@ withView m t v = record { sizes = m .sizes; writes = m .writes; views = set (m .
 
 -- the write at position p of word k, covered
 unfoldable pub covering : Memory → ℕ → ℕ → Memory
-covering m k p = record { sizes = m .sizes; writes = set (m .writes) (indexOf k p) (coveredWrite (writeAt m k p)); views = m .views }
+covering m k p =
+    record { sizes = m .sizes; writes = set (m .writes) (indexOf (m .sizes) k p) (coveredWrite (writeAt m k p)); views = m .views }

@@ -4,7 +4,7 @@ use Prim.Native.Nat.{ℕ, suc, _≤_, _<_}
 use lib.ListN.{length, getD}
 use Rattle.logic.specs.Machine as Logic
 use Rattle.logic.specs.Machine.{State}
-use Rattle.memory.specs.Memory.{writeAt, sizeAt, viewOf}
+use Rattle.memory.specs.Memory.{first, writeAt, sizeAt, viewOf}
 use Rattle.memory.specs.declared.view.View.{View}
 use Rattle.memory.specs.declared.write.Write.{Write}
 use Rattle.memory.specs.declared.memory.Memory.{Memory}
@@ -19,13 +19,13 @@ pub record SameWrite (a : Write) (b : Logic.Write) : Type 0 where
   pub covered : a .covered ≡ b .covered
   pub stored : SameView (a .stored) (b .stored)
 
--- each row has at most 64 writes; of what stands behind them nothing is said
+-- all rows together have at most 72 writes; of what stands behind them nothing is said
 pub record Stands (m : Memory) (s : State) : Type 0 where
   pub rows : length (m .sizes) ≡ 8
-  pub places : length (m .writes) ≡ 512
+  pub places : length (m .writes) ≡ 72
   pub threads : length (m .views) ≡ 4
   pub size : (k : ℕ) → k < 8 → sizeAt m k ≡ s .size (suc k)
-  pub few : (k : ℕ) → k < 8 → s .size (suc k) ≤ 64
+  pub few : first (m .sizes) 8 ≤ 72
   pub writes : (k p : ℕ) → k < 8 → p < s .size (suc k) → SameWrite (writeAt m k p) (s .row (suc k) p)
   pub views : (t : ℕ) → t < 4 → SameView (viewOf m t) (s .view (suc t))
 

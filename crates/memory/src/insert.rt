@@ -1,4 +1,4 @@
-// A write inserted behind another: those behind it in the row move up by one, and every view keeps its writes.
+// A write inserted behind another: those behind it in the table move up by one, and every view keeps its writes.
 use crate::memory::Memory;
 use crate::memory::index_of;
 use crate::view::next;
@@ -9,35 +9,33 @@ use crate::write::start_write;
 use crate::write::up_write;
 ghost use mathlib.Core.Path.{_≡_};
 ghost use Prim.Native.Nat.{_≤_};
-ghost use Rattle.memory.specs.Insert.{source, movedWrites, movedViews, inserted};
+ghost use Rattle.logic.specs.Machine.{down};
+ghost use Rattle.memory.specs.Insert.{movedWrites, movedViews, inserted};
 
-// Where the write at place j comes from: from one place before, if it stands behind the picked one in its row.
-fn source(picked: usize, k: u8, j: usize) -> usize
-    ensures { λ r. ⌜ (r ≡ source picked k j) × (r ≤ j) ⌝ }
+// Where the write at place j comes from: from one place before, if it stands behind the picked one.
+fn source(picked: usize, j: usize) -> usize
+    ensures { λ r. ⌜ (r ≡ down picked j) × (r ≤ j) ⌝ }
 {
-    let end = ((k % 8) as usize) * 64 + 64;
-    if picked < j {
-        if j < end {
-            return j - 1;
-        }
+    if j <= picked {
+        return j;
     }
-    j
+    j - 1
 }
 
 // The writes behind position p of word k, moved up.
 fn move_writes(m: Memory, k: u8, p: u8) -> Memory
     ensures { λ r. ⌜ r ≡ movedWrites m k p ⌝ }
 {
-    let picked = index_of(k, p);
+    let sizes = m.sizes;
+    let picked = index_of(&sizes, k, p);
     let none = start_write(0);
-    let mut writes = [none; 512];
+    let mut writes = [none; 72];
     let mut j: usize = 0;
-    while j < 512 {
-        let from = source(picked, k, j);
+    while j < 72 {
+        let from = source(picked, j);
         writes[j] = up_write(m.writes[from], k, p);
         j += 1;
     }
-    let sizes = m.sizes;
     let views = m.views;
     Memory {
         sizes,
@@ -71,7 +69,8 @@ pub fn insert(m: Memory, k: u8, p: u8, w: Write) -> Memory
     ensures { λ r. ⌜ r ≡ inserted m k p w ⌝ }
 {
     let mut n = move_views(move_writes(m, k, p), k, p);
-    let at = index_of(k, next(p));
+    let sizes = m.sizes;
+    let at = index_of(&sizes, k, next(p));
     let i = (k % 8) as usize;
     n.writes[at] = w;
     n.sizes[i] = next(m.sizes[i]);

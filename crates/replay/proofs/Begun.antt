@@ -1,10 +1,10 @@
 -- The start on numbers stands for the logic's start with the given registers.
-use Prim.Native.Nat.{ℕ, zero, suc, _+_, _*_, _-_, _/_, _%_, _≤_, _<_}
+use Prim.Native.Nat.{ℕ, zero, suc, _+_, _*_, _-_, _%_, _≤_, _<_}
 use mathlib.Core.Path.{_≡_, refl, ap, sym, _∙_, subst}
 use mathlib.Core.Bool.{Bool, true, false, cond, _&&_}
 use mathlib.Core.List.{List, []}
 use native.Mathlib.Omega.{arith}
-use native.Mathlib.Nat.{mod-eq-of-lt, mul-div-cancel}
+use native.Mathlib.Nat.{mod-eq-of-lt}
 use native.Mathlib.Numerals.{add-one}
 use lib.Dec.{eqb, ltb, leb}
 use lib.ListN.{length, getD, take, drop, replicate, length-take, length-replicate, getD-replicate, List·getD-eq-default}
@@ -24,15 +24,24 @@ use Rattle.content.proofs.Program.{range-two, well-formed}
 use Rattle.columns.proofs.Listed.{column-length, column-getD}
 use Rattle.memory.specs.View.{startView}
 use Rattle.memory.specs.Write.{noView, noWrite, startWrite}
-use Rattle.memory.specs.Memory.{indexOf, writeAt, sizeAt, viewOf}
+use Rattle.memory.specs.Memory.{first as row-first, indexOf, writeAt, sizeAt, viewOf}
 use Rattle.memory.specs.Stands.{SameView, SameWrite, Stands}
 use Rattle.memory.specs.declared.view.View.{View}
 use Rattle.memory.specs.declared.write.Write.{Write}
+use Rattle.memory.proofs.Places.{first-none, first-next, place}
 use Rattle.machine.specs.Stands.{SameRegs}
 use Rattle.replay.specs.Start.{startWrites, startMemory, startRegister, startValuesTo, startRegisters, started}
 use Rattle.replay.specs.Stands.{StandsFor}
 use Rattle.machine.proofs.Worked.{sizes-few}
 use Rattle.replay.proofs.Following.{Ready}
+
+-- a write in each row
+first-ones : (k : ℕ) → k ≤ 8 → row-first (replicate 8 1) k ≡ k
+first-ones zero h = sym (first-none (replicate 8 1))
+first-ones (suc k) h = omega (arith, first-next (replicate 8 1) k, first-ones k (omega arith), getD-replicate {A = ℕ} 8 k 1 0 (omega arith))
+
+start-few : row-first (replicate 8 1) 8 ≤ 72
+start-few = omega (arith, first-ones 8 (omega arith))
 
 first-view : SameView startView (λ y. 0)
 first-view = record { eight = length-replicate {A = ℕ} 8 0; same = λ k h. getD-replicate {A = ℕ} 8 k 0 0 h }
@@ -48,27 +57,30 @@ module _ (b : List ℕ) (z : Sizes) (c : Checks z (bodies b)) (given : List ℕ)
   abbrev pub first : State
   first = begin P (λ r. nth given r 0)
 
-  -- each place of a row holds its start write
   abbrev write-of : ℕ → Write
-  write-of j = startWrite (nth (startValues head) (j / 64 + 1) 0)
+  write-of j = startWrite (nth (startValues head) (j + 1) 0)
 
   write-is : (k : ℕ) → k < 8 → writeAt (startMemory head) k 0 ≡ startWrite (nth (startValues head) (suc k) 0)
-  unfolding writeAt startMemory startWrites indexOf
+  unfolding writeAt startMemory startWrites
   write-is k h =
-      let e : (k % 8) * 64 + 0 % 64 ≡ k * 64 = rw (mod-eq-of-lt h) (omega arith) in
-      ap (λ (j : ℕ). getD (startWrites head 512) j noWrite) e ∙ column-getD write-of noWrite 512 (k * 64) (omega arith)
-      ∙ ap (λ (j : ℕ). startWrite (nth (startValues head) j 0)) (ap (λ (j : ℕ). j + 1) (mul-div-cancel k (omega arith)) ∙ add-one k)
+      let e : indexOf (replicate 8 1) k 0 ≡ k = place (replicate 8 1) start-few k 0 h (omega (arith, getD-replicate {A = ℕ} 8 k 1 0 h))
+      ∙ omega (arith, first-ones k (omega arith)) in
+      ap (λ (j : ℕ). getD (startWrites head 72) j noWrite) e ∙ column-getD write-of noWrite 72 k (omega arith)
+      ∙ ap (λ (j : ℕ). startWrite (nth (startValues head) j 0)) (add-one k)
 
   stands-start : Stands (startMemory head) first
   unfolding startMemory startWrites sizeAt viewOf
   stands-start = record {
     rows = length-replicate {A = ℕ} 8 1;
-    places = column-length write-of 512;
+    places = column-length write-of 72;
     threads = length-replicate {A = View} 4 startView;
     size = λ k h. rw (mod-eq-of-lt h) (getD-replicate {A = ℕ} 8 k 1 0 h);
-    few = λ k h. omega arith;
-    writes = λ k p h g. let e : p ≡ 0 = omega arith in rw e (subst (λ (w : Write). SameWrite w (first .row (suc k) 0)) (sym (write-is k h)) (record { value = refl; releasing = refl; covered = refl; stored = first-view }));
-    views = λ t h. rw (mod-eq-of-lt h) (subst (λ (v : View). SameView v (λ y. 0)) (sym (getD-replicate {A = View} 4 t startView noView h)) first-view);
+    few = start-few;
+    writes = λ k p h g. let e : p ≡ 0 = omega arith in
+        rw e (subst (λ (w : Write). SameWrite w (first .row (suc k) 0)) (sym (write-is k h))
+        (record { value = refl; releasing = refl; covered = refl; stored = first-view }));
+    views = λ t h. rw (mod-eq-of-lt h)
+        (subst (λ (v : View). SameView v (λ y. 0)) (sym (getD-replicate {A = View} 4 t startView noView h)) first-view);
   }
 
   counts : z .registers ≡ registerCount head
@@ -79,7 +91,12 @@ module _ (b : List ℕ) (z : Sizes) (c : Checks z (bodies b)) (given : List ℕ)
   cleared-past : (r : ℕ) → 16 < r → cleared head r ≡ true
   unfolding cleared within marks
   cleared-past r h =
-      let q : length (marks head) < r = omega (arith, length-take (registerCount head) (drop (4 + wordCount head + registerCount head) head), sizes-few z (bodies b) c .2, counts) in
+      let q : length (marks head) < r = omega (
+        arith,
+        length-take (registerCount head) (drop (4 + wordCount head + registerCount head) head),
+        sizes-few z (bodies b) c .2,
+        counts,
+      ) in
       go (leb 1 r) (leb r (length (marks head))) (lt-leb r (length (marks head)) q)
     where
       go : (x y : Bool) → y ≡ false → cond (x && y) (eqb (nth (marks head) r 0) 1) true ≡ true
@@ -102,7 +119,8 @@ module _ (b : List ℕ) (z : Sizes) (c : Checks z (bodies b)) (given : List ℕ)
       go true e = let h = ltb-true i 16 e in column-getD (startRegister head (P .range) given) 0 16 i h ∙ register-in i h
       go false e =
           let h = ltb-false i 16 e in
-          List·getD-eq-default (startValuesTo head (P .range) given 16) 0 (omega (arith, column-length (startRegister head (P .range) given) 16))
+          List·getD-eq-default (startValuesTo head (P .range) given 16) 0
+          (omega (arith, column-length (startRegister head (P .range) given) 16))
           ∙ sym (ap (λ (x : Bool). cond x 0 (nth given (suc i) 0 % P .range)) (cleared-past (suc i) (omega arith)))
 
   pub begun : Ready b z c first (started head (P .range) given)

@@ -23,14 +23,16 @@ use Rattle.replay.specs.declared.run.Run.{Run}
 use Rattle.replay.proofs.Following.{Ready, step-is}
 
 -- a step that is not refused is permitted
-taken-step : (P : Program) (room : ℕ) (s : State) (t p : ℕ) → refusal P room s t p ≡ 0 → step P s (record { thread = t; position = p }) ≡ exec P (instrAt P s t) t p s
+taken-step : (P : Program) (room : ℕ) (s : State) (t p : ℕ) → refusal P room s t p ≡ 0
+    → step P s (record { thread = t; position = p }) ≡ exec P (instrAt P s t) t p s
 unfolding refusal
 taken-step P room s t p e = go (within (P .threads) t && ltb (suc (s .point t)) (P .points t)) (allowed (instrAt P s t) t p s) e
   where
     g : Bool
     g = adds (instrAt P s t) && leb room (used s (P .words))
 
-    go : (a d : Bool) → _≡_ {A = ℕ} (cond a (cond d (cond g 29 0) 28) 27) 0 → cond (a && d) (exec P (instrAt P s t) t p s) s ≡ exec P (instrAt P s t) t p s
+    go : (a d : Bool) → _≡_ {A = ℕ} (cond a (cond d (cond g 29 0) 28) 27) 0
+        → cond (a && d) (exec P (instrAt P s t) t p s) s ≡ exec P (instrAt P s t) t p s
     go true true x = refl
     go true false x = absurd (omega arith)
     go false d x = absurd (omega arith)
@@ -47,13 +49,18 @@ reached P room s k [] = record { taken = 0; counted = omega arith; state = refl 
 reached P room s k (t ∷ []) = record { taken = 0; counted = omega arith; state = refl }
 reached P room s k (t ∷ p ∷ l) = go (eqb (refusal P room s t p) 0) refl (reached P room (exec P (instrAt P s t) t p s) (k + 1) l)
   where
-    go : (b : Bool) → eqb (refusal P room s t p) 0 ≡ b → Reached P (exec P (instrAt P s t) t p s) (k + 1) l (replayed P room (exec P (instrAt P s t) t p s) (k + 1) l)
+    go : (b : Bool) → eqb (refusal P room s t p) 0 ≡ b
+        → Reached P (exec P (instrAt P s t) t p s) (k + 1) l (replayed P room (exec P (instrAt P s t) t p s) (k + 1) l)
         → Reached P s k (t ∷ p ∷ l)
-        (elim b as (λ x. Outcome) [ true ↦ replayed P room (exec P (instrAt P s t) t p s) (k + 1) l | false ↦ record { code = refusal P room s t p; steps = k; state = s } ])
+        (elim b as (λ x. Outcome) [
+          | true ↦ replayed P room (exec P (instrAt P s t) t p s) (k + 1) l
+          | false ↦ record { code = refusal P room s t p; steps = k; state = s }
+        ])
     go true e f = record {
       taken = suc (f .taken);
       counted = omega (arith, f .counted);
-      state = f .state ∙ ap (λ (q : State). run P q (take (f .taken) (stepsIn l))) (sym (taken-step P room s t p (eqb-true (refusal P room s t p) 0 e)));
+      state = f .state ∙ ap (λ (q : State). run P q (take (f .taken) (stepsIn l)))
+          (sym (taken-step P room s t p (eqb-true (refusal P room s t p) 0 e)));
     }
     go false e f = record { taken = 0; counted = omega arith; state = refl }
 
@@ -71,14 +78,20 @@ module _ (b : List ℕ) (z : Sizes) (c : Checks z (bodies b)) (room : ℕ) (few 
 
   -- a step of any thread, there or not
   any-step : (s : State) (n : Machine) → Ready b z c s n → (t p : ℕ)
-      → (stepped b z room n t p .code ≡ refusal P room s t p) × (refusal P room s t p ≡ 0 → Ready b z c (exec P (instrAt P s t) t p s) (stepped b z room n t p .machine))
+      → (stepped b z room n t p .code ≡ refusal P room s t p) ×
+      (refusal P room s t p ≡ 0 → Ready b z c (exec P (instrAt P s t) t p s) (stepped b z room n t p .machine))
   unfolding stepped refusal
   any-step s n r zero p = (refl, λ x. absurd (omega arith))
   any-step s n r (suc u) p = go (ltb (z .threads) (suc u)) refl
     where
       go : (d : Bool) → ltb (z .threads) (suc u) ≡ d
-          → (stepped b z room n (suc u) p .code ≡ refusal P room s (suc u) p) × (refusal P room s (suc u) p ≡ 0 → Ready b z c (exec P (instrAt P s (suc u)) (suc u) p s) (stepped b z room n (suc u) p .machine))
-      go true e = let h = ltb-true (z .threads) (suc u) e in (ap (λ (q : Stepped). q .code) (stepped-absent n u p h) ∙ sym (refusal-absent s u p h), λ x. absurd (omega (arith, refusal-absent s u p h)))
+          → (stepped b z room n (suc u) p .code ≡ refusal P room s (suc u) p) ×
+          (refusal P room s (suc u) p ≡ 0 → Ready b z c (exec P (instrAt P s (suc u)) (suc u) p s) (stepped b z room n (suc u) p .machine))
+      go true e =
+          let h = ltb-true (z .threads) (suc u) e in (
+            ap (λ (q : Stepped). q .code) (stepped-absent n u p h) ∙ sym (refusal-absent s u p h),
+            λ x. absurd (omega (arith, refusal-absent s u p h)),
+          )
       go false e = step-is b z c room s n r u p (omega arith, ltb-false (z .threads) (suc u) e) few
 
   pub record Matches (r : Run) (o : Outcome) : Type 0 where
@@ -90,16 +103,24 @@ module _ (b : List ℕ) (z : Sizes) (c : Checks z (bodies b)) (room : ℕ) (few 
   unfolding ran replayed
   follows s n r k [] = record { code = refl; steps = refl; ready = r }
   follows s n r k (t ∷ []) = record { code = refl; steps = refl; ready = r }
-  follows s n r k (t ∷ p ∷ l) = go (eqb (refusal P room s t p) 0) refl (λ q. follows (exec P (instrAt P s t) t p s) (stepped b z room n t p .machine) q (k + 1) l)
+  follows s n r k (t ∷ p ∷ l) =
+      go (eqb (refusal P room s t p) 0) refl (λ q. follows (exec P (instrAt P s t) t p s) (stepped b z room n t p .machine) q (k + 1) l)
     where
-      f : (stepped b z room n t p .code ≡ refusal P room s t p) × (refusal P room s t p ≡ 0 → Ready b z c (exec P (instrAt P s t) t p s) (stepped b z room n t p .machine))
+      f : (stepped b z room n t p .code ≡ refusal P room s t p) ×
+          (refusal P room s t p ≡ 0 → Ready b z c (exec P (instrAt P s t) t p s) (stepped b z room n t p .machine))
       f = any-step s n r t p
 
       go : (d : Bool) → eqb (refusal P room s t p) 0 ≡ d
-          → (Ready b z c (exec P (instrAt P s t) t p s) (stepped b z room n t p .machine) → Matches (ran b z room (stepped b z room n t p .machine) (k + 1) l) (replayed P room (exec P (instrAt P s t) t p s) (k + 1) l))
+          → (Ready b z c (exec P (instrAt P s t) t p s) (stepped b z room n t p .machine)
+          → Matches (ran b z room (stepped b z room n t p .machine) (k + 1) l) (replayed P room (exec P (instrAt P s t) t p s) (k + 1) l))
           → Matches
-          (elim (eqb (stepped b z room n t p .code) 0) as (λ x. Run)
-          [ true ↦ ran b z room (stepped b z room n t p .machine) (k + 1) l | false ↦ record { code = stepped b z room n t p .code; steps = k; machine = n } ])
-          (elim d as (λ x. Outcome) [ true ↦ replayed P room (exec P (instrAt P s t) t p s) (k + 1) l | false ↦ record { code = refusal P room s t p; steps = k; state = s } ])
+          (elim (eqb (stepped b z room n t p .code) 0) as (λ x. Run) [
+            | true ↦ ran b z room (stepped b z room n t p .machine) (k + 1) l
+            | false ↦ record { code = stepped b z room n t p .code; steps = k; machine = n }
+          ])
+          (elim d as (λ x. Outcome) [
+            | true ↦ replayed P room (exec P (instrAt P s t) t p s) (k + 1) l
+            | false ↦ record { code = refusal P room s t p; steps = k; state = s }
+          ])
       go true e rest = rw (f .0, e) (rest (f .1 (eqb-true (refusal P room s t p) 0 e)))
       go false e rest = rw (f .0, e) (record { code = f .0; steps = refl; ready = r })

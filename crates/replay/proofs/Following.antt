@@ -34,10 +34,12 @@ use Rattle.content.specs.Program.{instr, pointCount, programOf, outlineOf}
 use Rattle.content.proofs.Checked.{Checks}
 use Rattle.content.proofs.Program.{made, none-above, body, points-few, well-formed}
 use Rattle.content.proofs.Trees.{fields-there}
-use Rattle.memory.specs.Memory.{sizeAt}
+use Rattle.memory.specs.Memory.{first}
 use Rattle.memory.specs.Stands.{Stands}
 use Rattle.memory.specs.declared.memory.Memory.{Memory}
 use Rattle.memory.proofs.Same.{set-upd}
+use Rattle.memory.proofs.Places.{first-none, first-next}
+use Rattle.memory.proofs.Standing.{size-is}
 use Rattle.machine.specs.Deed.{deedOf}
 use Rattle.machine.specs.Shared.{mayPick, memoryAfter}
 use Rattle.machine.specs.Locals.{pointAfter}
@@ -59,29 +61,33 @@ unfolding deedOf
 deed-operation i v g = go (registerFirst (i .operation))
   where
     go : (b : Bool)
-        → (cond {A = Deed} b (record { operation = i .operation; word = i .b - 1; register = i .a; value = v; noted = i .second .a; note = g; target = i .a })
+        → (cond {A = Deed} b
+        (record { operation = i .operation; word = i .b - 1; register = i .a; value = v; noted = i .second .a; note = g; target = i .a })
         (record { operation = i .operation; word = i .a - 1; register = i .b; value = v; noted = i .second .a; note = g; target = i .a })) .operation ≡ i .operation
     go true = refl
     go false = refl
 
 -- the rows' sizes
-total-used : (m : Memory) (s : State) → Stands m s → (n : ℕ) → n ≤ 8 → total m n ≡ used s n
-unfolding total used
-total-used m s st zero h = refl
-total-used m s st (suc n) h = ap₂ (λ (a b : ℕ). a + b) (total-used m s st n (omega arith)) (st .size n (omega arith))
-
--- one row is no more than all
-used-most : (s : State) (n k : ℕ) → k < n → s .size (suc k) ≤ used s n
+pub total-used : (m : Memory) (s : State) → Stands m s → (n : ℕ) → n ≤ 8 → total m n ≡ used s n
 unfolding used
-used-most s zero k h = absurd (omega arith)
-used-most s (suc n) k h = go (ltb k n) refl (used-most s n k)
+total-used m s st zero h = sym (first-none (m .sizes))
+total-used m s st (suc n) h =
+    first-next (m .sizes) n ∙ ap₂ (λ (a b : ℕ). a + b) (total-used m s st n (omega arith)) (size-is m s st n (omega arith))
+
+-- words that are not there have a write each
+used-outer : (s : State) (words n : ℕ) → ((x : ℕ) → words < x → s .size x ≡ 1) → words ≤ n → used s n + words ≡ used s words + n
+unfolding used
+used-outer s words zero f h = let q : words ≡ 0 = omega arith in rw q
+used-outer s words (suc n) f h = go (ltb n words) refl (used-outer s words n f)
   where
-    go : (b : Bool) → ltb k n ≡ b → (k < n → s .size (suc k) ≤ used s n) → s .size (suc k) ≤ used s n + s .size (suc n)
-    go true e f = omega (arith, f (ltb-true k n e))
-    go false e f = let q : k ≡ n = omega (arith, ltb-false k n e) in rw q (omega arith)
+    go : (b : Bool) → ltb n words ≡ b → (words ≤ n → used s n + words ≡ used s words + n)
+        → used s n + s .size (suc n) + words ≡ used s words + suc n
+    go true e g = let q : words ≡ suc n = omega (arith, ltb-true n words e) in rw q
+    go false e g = let q : words ≤ n = ltb-false n words e in omega (arith, g q, f (suc n) (omega arith))
 
 -- room for a write, asked either way round
-room-either : (a g : Bool) (x room : ℕ) → _≡_ {A = ℕ} (cond a (cond g (cond (ltb x room) 0 29) 0) 28) (cond a (cond (g && leb room x) 29 0) 28)
+room-either : (a g : Bool) (x room : ℕ)
+    → _≡_ {A = ℕ} (cond a (cond g (cond (ltb x room) 0 29) 0) 28) (cond a (cond (g && leb room x) 29 0) 28)
 room-either false g x room = refl
 room-either true false x room = refl
 room-either true true x room = go (leb room x) refl
@@ -111,7 +117,9 @@ module _ (P : Program) (s : State) (t p : ℕ) where
   point-in n (act (write swap x f) ns) ok h = rw (upd-same (s .point) t (suc (s .point t))) h
   point-in n (act (write (exchange r) x f) ns) ok h = rw (upd-same (s .point) t (suc (s .point t))) h
   point-in n (act (write (fetchAdd r) x f) ns) ok h = rw (upd-same (s .point) t (suc (s .point t))) h
-  point-in n (branch e a) ok h = rw (upd-same (s .point) t (cond (test (P .range) (onRegs (s .reg)) e) a (suc (s .point t)))) (go (test (P .range) (onRegs (s .reg)) e))
+  point-in n (branch e a) ok h =
+      rw (upd-same (s .point) t (cond (test (P .range) (onRegs (s .reg)) e) a (suc (s .point t))))
+      (go (test (P .range) (onRegs (s .reg)) e))
     where
       go : (b : Bool) → cond b a (suc (s .point t)) < n
       go true = ltb→lt a n (and-right (only isReg e) (ltb a n) ok)
@@ -145,14 +153,24 @@ module _ (b : List ℕ) (z : Sizes) (c : Checks z (bodies b)) where
   adding-is last (suc (suc (suc (suc (suc (suc (suc (suc (suc (suc (suc zero))))))))))) a d f n e = refl
   adding-is last (suc (suc (suc (suc (suc (suc (suc (suc (suc (suc (suc (suc zero)))))))))))) a d f n e = refl
   adding-is last (suc (suc (suc (suc (suc (suc (suc (suc (suc (suc (suc (suc (suc op))))))))))))) a d f n e =
-      absurd (none-above z l c last (made (suc (suc (suc (suc (suc (suc (suc (suc (suc (suc (suc (suc (suc op))))))))))))) a d f n) (omega arith) e)
+      absurd (none-above z l c last (made (suc (suc (suc (suc (suc (suc (suc (suc (suc (suc (suc (suc (suc op))))))))))))) a d f n)
+      (omega arith) e)
 
   -- a step keeps the invariant
   exec-wf : (s : State) → Wf P s → (t p : ℕ) (i : Instr) → T (proper P (P .points t) i) → T (allowed i t p s) → Wf P (exec P i t p s)
   exec-wf s wf t p (act A ns) ok may =
       let k = pick-moved wf t p (touch A) (may-pick A ns t p s may) in
-      subst (Wf P) (exec-halves P t p s wf ns (P .points t) A ok may) (finish-wf P t (touch A) (allNotes A ns) (good P (P .points t) A ns ok) (pick (touch A) t p s) (k .wf) p (k .arrived))
-  exec-wf s wf t p (branch e a) ok may = record { outer = wf .outer; view-in = wf .view-in; stored-in = wf .stored-in; own = wf .own; small = wf .small; reg-small = wf .reg-small }
+      subst (Wf P) (exec-halves P t p s wf ns (P .points t) A ok may)
+      (finish-wf P t (touch A) (allNotes A ns) (good P (P .points t) A ns ok) (pick (touch A) t p s) (k .wf) p (k .arrived))
+  exec-wf s wf t p (branch e a) ok may =
+      record {
+        outer = wf .outer;
+        view-in = wf .view-in;
+        stored-in = wf .stored-in;
+        own = wf .own;
+        small = wf .small;
+        reg-small = wf .reg-small;
+      }
 
   -- what a run keeps
   pub record Ready (s : State) (n : Machine) : Type 0 where
@@ -193,17 +211,23 @@ module _ (b : List ℕ) (z : Sizes) (c : Checks z (bodies b)) where
     last-is = rw point-is (go (ltb k (lastPoint (threadBody z l (suc u)))) refl)
       where
         go : (a : Bool) → ltb k (lastPoint (threadBody z l (suc u))) ≡ a → a ≡ ltb (suc k) (lastPoint (threadBody z l (suc u)) + 1)
-        go true e = let q = ltb-true k (lastPoint (threadBody z l (suc u))) e in let g : suc k < lastPoint (threadBody z l (suc u)) + 1 = omega arith in sym (lt-ltb _ _ g)
-        go false e = let q = ltb-false k (lastPoint (threadBody z l (suc u))) e in let g : lastPoint (threadBody z l (suc u)) + 1 ≤ suc k = omega arith in sym (le-ltb _ _ g)
+        go true e =
+            let q = ltb-true k (lastPoint (threadBody z l (suc u))) e in
+            let g : suc k < lastPoint (threadBody z l (suc u)) + 1 = omega arith in sym (lt-ltb _ _ g)
+        go false e =
+            let q = ltb-false k (lastPoint (threadBody z l (suc u))) e in
+            let g : lastPoint (threadBody z l (suc u)) + 1 ≤ suc k = omega arith in sym (le-ltb _ _ g)
 
     module _ (more : suc k < P .points (suc u)) where
-      does : Made z l c (sizes-few z l c .1) (sizes-few z l c .2) s (r .wf) m (r .stands .memory) h (r .stands .registers) u p u-small deed (P .code (suc u) k)
+      does : Made z l c (sizes-few z l c .1) (sizes-few z l c .2) s (r .wf) m (r .stands .memory) h (r .stands .registers) u p u-small deed
+          (P .code (suc u) k)
       does = does-there b z c s (r .wf) h (r .stands .registers) m (r .stands .memory) u p u-small w more
 
       adding-there : adding (deed .operation) ≡ adds (P .code (suc u) k)
       adding-there =
           ap adding (deed-operation i (valueOf b z c h (i .formula)) (valueOf b z c h (i .second .formula)))
-          ∙ adding-is (lastPoint (body z l c (suc u) (w .0) (w .1))) (i .operation) (i .a) (i .b) (i .formula) (i .second) (fields-there b z c (suc u) k w more .0)
+          ∙ adding-is (lastPoint (body z l c (suc u) (w .0) (w .1))) (i .operation) (i .a) (i .b) (i .formula) (i .second)
+          (fields-there b z c (suc u) k w more .0)
 
       pick-is : pickRefusal m (z .words) room deed u p
           ≡ cond (allowed (P .code (suc u) k) (suc u) p s) (cond (adds (P .code (suc u) k) && leb room (used s (P .words))) 29 0) 28
@@ -212,14 +236,12 @@ module _ (b : List ℕ) (z : Sizes) (c : Checks z (bodies b)) where
           rw (does .picks, adding-there, total-used m s (r .stands .memory) (z .words) (sizes-few z l c .1))
           (room-either (allowed (P .code (suc u) k) (suc u) p s) (adds (P .code (suc u) k)) (used s (P .words)) room)
 
-      -- every row has room, if there is room for a write at all
+      -- the table has room for a write, with one of each word that is not there
       module _ (few : room ≤ 64) (may : T (allowed (P .code (suc u) k) (suc u) p s)) (some : T (adds (P .code (suc u) k)) → used s (P .words) < room) where
-        roomy : T (adds (P .code (suc u) k)) → (j : ℕ) → j < 8 → s .size (suc j) < 64
-        roomy a j x = go (ltb j (P .words)) refl
-          where
-            go : (d : Bool) → ltb j (P .words) ≡ d → s .size (suc j) < 64
-            go true e = omega (arith, used-most s (P .words) j (ltb-true j (P .words) e), some a)
-            go false e = let q = ltb-false j (P .words) e in omega (arith, r .wf .outer (suc j) (λ v. omega (arith, v .1)))
+        roomy : T (adds (P .code (suc u) k)) → first (m .sizes) 8 < 72
+        roomy a =
+            let outer : (x : ℕ) → P .words < x → s .size x ≡ 1 = λ x y. r .wf .outer x (λ v. omega (arith, v .1)) in
+            omega (arith, total-used m s (r .stands .memory) 8 (omega arith), used-outer s (P .words) 8 outer (sizes-few z l c .1), some a)
 
         abbrev next : State
         next = exec P (P .code (suc u) k) (suc u) p s
@@ -237,8 +259,10 @@ module _ (b : List ℕ) (z : Sizes) (c : Checks z (bodies b)) where
           registers = does .registers may;
           four = length-set (n .points) (u % 4) (pointAfter (pointOf n u) deed) ∙ r .stands .four;
           points = λ t x. rw (mod-eq-of-lt u-small)
-              (set-upd (λ (a d : ℕ). a ≡ d) (n .points) 0 (s .point) 4 u (pointAfter (pointOf n u) deed) (next .point (suc u)) (omega (arith, r .stands .four, u-small))
-              (ap (λ (j : ℕ). pointAfter j deed) point-is ∙ does .point k-small) (r .stands .points) t x ∙ sym (exec-point P s (suc u) p (P .code (suc u) k) (suc t)));
+              (set-upd (λ (a d : ℕ). a ≡ d) (n .points) 0 (s .point) 4 u (pointAfter (pointOf n u) deed) (next .point (suc u))
+              (omega (arith, r .stands .four, u-small))
+              (ap (λ (j : ℕ). pointAfter j deed) point-is ∙ does .point k-small) (r .stands .points) t x
+              ∙ sym (exec-point P s (suc u) p (P .code (suc u) k) (suc t)));
         }
 
         pub taken : Ready next (performed n (z .range) deed u p)
@@ -254,20 +278,24 @@ module _ (b : List ℕ) (z : Sizes) (c : Checks z (bodies b)) where
                 (λ q. rw q (point-in P s (suc u) p (P .points (suc u)) (P .code (suc u) k) its-proper more)) (λ q. r .points t x)
 
     refusal-in : refusal P room s (suc u) p
-        ≡ cond (ltb (suc k) (P .points (suc u))) (cond (allowed (P .code (suc u) k) (suc u) p s) (cond (adds (P .code (suc u) k) && leb room (used s (P .words))) 29 0) 28) 27
+        ≡ cond (ltb (suc k) (P .points (suc u)))
+        (cond (allowed (P .code (suc u) k) (suc u) p s) (cond (adds (P .code (suc u) k) && leb room (used s (P .words))) 29 0) 28) 27
     unfolding refusal
     refusal-in = rw (le-leb 1 (suc u) (w .0), le-leb (suc u) (P .threads) (w .1))
 
     stepped-in : stepped b z room n (suc u) p ≡ cond (ltb (suc k) (P .points (suc u))) (attempted z room n deed u p) (refused 27 n)
     unfolding stepped
-    stepped-in = let q : suc u ≡ 0 → ⊥ = omega arith in rw (ne-eqb (suc u) 0 q, sub-one (suc u), le-ltb (z .threads) (suc u) (w .1), last-is, deed-is)
+    stepped-in =
+        let q : suc u ≡ 0 → ⊥ = omega arith in
+        rw (ne-eqb (suc u) 0 q, sub-one (suc u), le-ltb (z .threads) (suc u) (w .1), last-is, deed-is)
 
     attempted-code : attempted z room n deed u p .code ≡ pickRefusal m (z .words) room deed u p
     unfolding attempted
     attempted-code = go (eqb (pickRefusal m (z .words) room deed u p) 0) refl
       where
         go : (d : Bool) → eqb (pickRefusal m (z .words) room deed u p) 0 ≡ d
-            → (cond d (record { code = 0; machine = performed n (z .range) deed u p }) (refused (pickRefusal m (z .words) room deed u p) n)) .code ≡ pickRefusal m (z .words) room deed u p
+            → (cond d (record { code = 0; machine = performed n (z .range) deed u p })
+            (refused (pickRefusal m (z .words) room deed u p) n)) .code ≡ pickRefusal m (z .words) room deed u p
         go true e = sym (eqb-true (pickRefusal m (z .words) room deed u p) 0 e)
         go false e = refl
 
@@ -293,8 +321,10 @@ module _ (b : List ℕ) (z : Sizes) (c : Checks z (bodies b)) where
         g = adds (P .code (suc u) k)
 
         go : (d : Bool) → ltb (suc k) (P .points (suc u)) ≡ d
-            → (_≡_ {A = ℕ} ((cond d (attempted z room n deed u p) (refused 27 n)) .code) (cond d (cond a (cond (g && leb room (used s (P .words))) 29 0) 28) 27))
-            × (_≡_ {A = ℕ} (cond d (cond a (cond (g && leb room (used s (P .words))) 29 0) 28) 27) 0 → Ready (exec P (P .code (suc u) k) (suc u) p s) ((cond d (attempted z room n deed u p) (refused 27 n)) .machine))
+            → (_≡_ {A = ℕ} ((cond d (attempted z room n deed u p) (refused 27 n)) .code)
+            (cond d (cond a (cond (g && leb room (used s (P .words))) 29 0) 28) 27))
+            × (_≡_ {A = ℕ} (cond d (cond a (cond (g && leb room (used s (P .words))) 29 0) 28) 27) 0
+            → Ready (exec P (P .code (suc u) k) (suc u) p s) ((cond d (attempted z room n deed u p) (refused 27 n)) .machine))
         go false e = (refl, λ x. absurd (omega arith))
         go true e =
             let more = ltb-true (suc k) (P .points (suc u)) e in (

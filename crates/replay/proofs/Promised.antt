@@ -46,7 +46,8 @@ every s z e =
     let b : List ℕ = replicate 22 0 in
     let v = Accepted (g .count) in
     let t : TrueInEveryRun s = promised s b v (codeFor v b) (bytesFor v b) (sym (g .verdict)) refl refl .accepted refl in
-    subst (λ (D : Image). EveryRun (D .program) (D .outline)) (same-content (t .content) (imageOf z (bodies s)) (sym (t .says) ∙ g .says)) (t .holds)
+    subst (λ (D : Image). EveryRun (D .program) (D .outline)) (same-content (t .content) (imageOf z (bodies s)) (sym (t .says) ∙ g .says))
+    (t .holds)
 
 pub follows-run : (s : List ℕ) (z : Sizes) (trace given : List ℕ) (room : ℕ) → acceptance s ≡ Granted z → room ≤ 64 → z .words ≤ room
     → Follows s z trace given room (replayOn s z trace given room)
@@ -57,7 +58,8 @@ follows-run s z trace given room e few fits =
     let m = follows s z c room few f (started (getD (bodies s) 0 []) (z .range) given)
     (subst (λ (R : ℕ). Ready s z c f (started (getD (bodies s) 0 []) R given)) (sym (range-is s z c)) (begun s z c given)) 0 trace in
     let q : Reached (programOf z (bodies s)) f 0 trace (outcome s z trace given room) = reached (programOf z (bodies s)) room f 0 trace in
-    let n : q .taken ≡ ran s z room (started (getD (bodies s) 0 []) (z .range) given) 0 trace .steps = omega (arith, q .counted, m .steps) in
+    let n : q .taken ≡ ran s z room (started (getD (bodies s) 0 []) (z .range) given) 0 trace .steps
+    = omega (arith, q .counted, m .steps) in
     rw (le-ltb room (z .words) fits) (record {
       code = m .code;
       steps = m .steps;
@@ -65,5 +67,6 @@ follows-run s z trace given room e few fits =
       stands = m .ready .stands;
       state = q .state ∙ ap (λ (j : ℕ). run (programOf z (bodies s)) f (take j (stepsIn trace))) n;
       holds = subst (Holds (programOf z (bodies s)) (outlineOf z (bodies s))) (sym (q .state))
-          (every s z e .holds f (begins (programOf z (bodies s)) (omega (arith, range-two z (bodies s) c)) (λ r. nth given r 0)) (take (q .taken) (stepsIn trace)));
+          (every s z e .holds f (begins (programOf z (bodies s)) (omega (arith, range-two z (bodies s) c)) (λ r. nth given r 0))
+          (take (q .taken) (stepsIn trace)));
     })

@@ -36,7 +36,8 @@ module _ (s : List ℕ) (z : Sizes) (room : ℕ) (l : List ℕ) where
   rest-step : (i : ℕ) → i < length l → 2 ≤ length l - i → drop i l ≡ getD l i 0 ∷ getD l (i + 1) 0 ∷ drop (i + 2) l
   rest-step i h g =
       let e : i + 1 + 1 ≡ i + 2 = omega arith in
-      drop-next l i h ∙ ap (λ (r : List ℕ). getD l i 0 ∷ r) (drop-next l (i + 1) (omega arith) ∙ ap (λ (j : ℕ). getD l (i + 1) 0 ∷ drop j l) e)
+      drop-next l i h ∙ ap (λ (r : List ℕ). getD l i 0 ∷ r)
+      (drop-next l (i + 1) (omega arith) ∙ ap (λ (j : ℕ). getD l (i + 1) 0 ∷ drop j l) e)
 
   -- n₀ and l: where the run began; n, k, i: the state, the steps and the place in the trace now
   module _ (n₀ n : Machine) (k i : ℕ) (e : ran s z room n₀ 0 l ≡ ran s z room n k (drop i l)) where
@@ -50,10 +51,13 @@ module _ (s : List ℕ) (z : Sizes) (room : ℕ) (l : List ℕ) where
 
     module _ (r : Stepped) (h : i < length l) (g : 2 ≤ length l - i) (d : r ≡ stepped s z room n (getD l i 0) (getD l (i + 1) 0)) where
       pub run-on : r .code ≡ 0 → ran s z room n₀ 0 l ≡ ran s z room (r .machine) (k + 1) (drop (i + 2) l)
-      run-on c = e ∙ ap (ran s z room n k) (rest-step i h g) ∙ by-code s z room n k (getD l i 0) (getD l (i + 1) 0) (drop (i + 2) l) r d true (eq-eqb (r .code) 0 c)
+      run-on c = e ∙ ap (ran s z room n k) (rest-step i h g) ∙ by-code s z room n k (getD l i 0) (getD l (i + 1) 0)
+          (drop (i + 2) l) r d true (eq-eqb (r .code) 0 c)
 
       pub run-refused : (r .code ≡ 0 → ⊥) → record { code = r .code; steps = k; machine = n } ≡ ran s z room n₀ 0 l
-      run-refused c = sym (e ∙ ap (ran s z room n k) (rest-step i h g) ∙ by-code s z room n k (getD l i 0) (getD l (i + 1) 0) (drop (i + 2) l) r d false (ne-eqb (r .code) 0 c))
+      run-refused c =
+          sym (e ∙ ap (ran s z room n k) (rest-step i h g) ∙ by-code s z room n k (getD l i 0) (getD l (i + 1) 0) (drop (i + 2) l) r d false
+          (ne-eqb (r .code) 0 c))
 
 pub run-begin : (s : List ℕ) (z : Sizes) (room : ℕ) (l : List ℕ) (n : Machine) → ran s z room n 0 l ≡ ran s z room n 0 (drop 0 l)
 run-begin s z room l n = refl

@@ -1,5 +1,5 @@
 -- The start: the ways through the functions, one law for each.
-use Prim.Native.Nat.{ℕ, _+_, _/_, _%_, _≤_, _<_}
+use Prim.Native.Nat.{ℕ, _+_, _%_, _≤_, _<_}
 use mathlib.Core.Path.{_≡_, refl, ap, sym, _∙_}
 use mathlib.Core.Bool.{Bool, true, false}
 use mathlib.Core.List.{List}
@@ -19,25 +19,27 @@ use Rattle.replay.specs.Start.{startWrites, startMemory, startRegister, 
 use Rattle.replay.specs.declared.states.Machine.{Machine}
 
 module _ (b : List ℕ) where
-  abbrev first : ℕ → Write
-  first j = startWrite (nth (startValues b) (j / 64 + 1) 0)
+  abbrev begins : ℕ → Write
+  begins j = startWrite (nth (startValues b) (j + 1) 0)
 
   pub writes-begin : (a : List Write) → take 0 a ≡ startWrites b 0
   unfolding startWrites
-  writes-begin a = sym (column-none first)
+  writes-begin a = sym (column-none begins)
 
-  pub writes-more : (a : List Write) (j v : ℕ) (w : Write) → v ≡ nth (startValues b) (j / 64 + 1) 0 → w ≡ startWrite v → j < 512 → length a ≡ 512 → take j a ≡ startWrites b j
+  pub writes-more : (a : List Write) (j v : ℕ) (w : Write) → v ≡ nth (startValues b) (j + 1) 0 → w ≡ startWrite v → j < 72 → length a ≡ 72
+      → take j a ≡ startWrites b j
       → take (j + 1) (set a j w) ≡ startWrites b (j + 1)
   unfolding startWrites
-  writes-more a j v w e d h l t = column-set first a j 512 w h l t (d ∙ ap startWrite e)
+  writes-more a j v w e d h l t = column-set begins a j 72 w h l t (d ∙ ap startWrite e)
 
-  pub writes-end : (a : List Write) (j : ℕ) (v : View) → v ≡ startView → j ≤ 512 → 512 ≤ j → length a ≡ 512 → take j a ≡ startWrites b j
+  pub writes-end : (a : List Write) (j : ℕ) (v : View) → v ≡ startView → j ≤ 72 → 72 ≤ j → length a ≡ 72 → take j a ≡ startWrites b j
       → record { sizes = replicate 8 1; writes = a; views = replicate 4 v } ≡ startMemory b
   unfolding startMemory startWrites
-  writes-end a j v e h g l t = rw (e, ← column-whole first a j 512 h g l t)
+  writes-end a j v e h g l t = rw (e, ← column-whole begins a j 72 h g l t)
 
   module _ (R : ℕ) (given : List ℕ) where
-    pub register-given : (i v : ℕ) (c : Bool) → (R ≡ 0 → ⊥) → i ≤ 255 → c ≡ cleared b (i + 1) → c ≡ false → v ≡ getD given i 0 → v % R ≡ startRegister b R given i
+    pub register-given : (i v : ℕ) (c : Bool) → (R ≡ 0 → ⊥) → i ≤ 255 → c ≡ cleared b (i + 1) → c ≡ false → v ≡ getD given i 0
+        → v % R ≡ startRegister b R given i
     unfolding startRegister
     register-given i v c z h e d q = rw (ne-eqb _ _ z, le-ltb _ _ h, ← e, d, q)
 
@@ -54,7 +56,8 @@ module _ (b : List ℕ) where
     unfolding startValuesTo
     values-more a i v e h l t = column-set (startRegister b R given) a i 16 v h l t e
 
-    pub values-end : (a : List ℕ) (i : ℕ) → i ≤ 16 → 16 ≤ i → length a ≡ 16 → take i a ≡ startValuesTo b R given i → record { at = a } ≡ startRegisters b R given
+    pub values-end : (a : List ℕ) (i : ℕ) → i ≤ 16 → 16 ≤ i → length a ≡ 16 → take i a ≡ startValuesTo b R given i
+        → record { at = a } ≡ startRegisters b R given
     unfolding startRegisters startValuesTo
     values-end a i h g l t = rw (← column-whole (startRegister b R given) a i 16 h g l t)
 

@@ -31,19 +31,6 @@ use Rattle.replay.specs.Step.{valueAt, deedAt, lastOf, attempted, steppe
 use Rattle.replay.specs.declared.states.Machine.{Machine}
 use Rattle.replay.specs.declared.step.Stepped.{Stepped}
 
-pub total-none : (m : Memory) → 0 ≡ total m 0
-unfolding total
-total-none m = refl
-
-pub total-more : (m : Memory) (k a v : ℕ) → a ≡ total m k → v ≡ sizeAt m k → a + v ≡ total m (k + 1)
-unfolding total
-total-more m k a v e d = rw (add-one k, e, d)
-
-pub total-all : (m : Memory) (k n a : ℕ) → k ≤ n → n ≤ k → a ≡ total m k → a ≡ total m n
-total-all m k n a h g e = let q : k ≡ n = omega arith in rw q at e
-
-pub ruleset totals = (total-none, total-more, total-all)
-
 module _ (m : Memory) (words room t p : ℕ) (d : Deed) (b : Bool) (e : b ≡ mayPick m d t p) where
   pub pick-not : b ≡ false → 28 ≡ pickRefusal m words room d t p
   unfolding pickRefusal
@@ -74,12 +61,14 @@ module _ (s : List ℕ) (z : Sizes) (h : Registers) where
   pub value-made : (k a v : ℕ) → a ≡ formulaAt s k → v ≡ workedT (z .range) (h .at) (parseTree s nesting a .tree) → v ≡ valueAt s z h k
   value-made k a v e d = rw (← e) d
 
-  pub deed-made : (t k v g : ℕ) (i : Instruction) (d : Deed) → i ≡ instructionOf z (bodies s) t k → v ≡ valueAt s z h (i .formula) → g ≡ valueAt s z h (i .second .formula)
+  pub deed-made : (t k v g : ℕ) (i : Instruction) (d : Deed) → i ≡ instructionOf z (bodies s) t k → v ≡ valueAt s z h (i .formula)
+      → g ≡ valueAt s z h (i .second .formula)
       → d ≡ deedOf i v g → d ≡ deedAt s z h t k
   unfolding deedAt
   deed-made t k v g i d ei ev eg ed = rw (← ei, ← ev, ← eg) ed
 
-pub last-made : (s : List ℕ) (z : Sizes) (t r : ℕ) (b : List ℕ) → b ≡ getD (bodies s) (z .formulas + t) [] → r ≡ lastPoint b → r ≡ lastOf s z t
+pub last-made : (s : List ℕ) (z : Sizes) (t r : ℕ) (b : List ℕ) → b ≡ getD (bodies s) (z .formulas + t) [] → r ≡ lastPoint b
+    → r ≡ lastOf s z t
 unfolding lastOf threadBody
 last-made s z t r b e d = rw (← e) d
 
@@ -98,7 +87,8 @@ module _ (s : List ℕ) (z : Sizes) (room : ℕ) (n : Machine) (t p : ℕ) where
       unfolding stepped
       step-last h = rw (ne-eqb _ _ a, le-ltb _ _ b, ← eu, ← ek, ← el, le-ltb _ _ h)
 
-      pub step-tried : (d : Deed) (r : Stepped) → k < last → d ≡ deedAt s z (n .registers) t k → r ≡ attempted z room n d u p → r ≡ stepped s z room n t p
+      pub step-tried : (d : Deed) (r : Stepped) → k < last → d ≡ deedAt s z (n .registers) t k → r ≡ attempted z room n d u p
+          → r ≡ stepped s z room n t p
       unfolding stepped
       step-tried d r h ed er = rw (ne-eqb _ _ a, le-ltb _ _ b, ← eu, ← ek, ← el, lt-ltb _ _ h, ← ed) er
 

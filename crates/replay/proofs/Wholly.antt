@@ -18,7 +18,8 @@ use Rattle.replay.specs.declared.run.Run.{Run}
 use Rattle.replay.specs.declared.whole.Replayed.{Replayed}
 
 module _ (s : List ℕ) (z : Sizes) (trace given : List ℕ) (room : ℕ) (b : List ℕ) (n : Machine) (eb : b ≡ getD (bodies s) 0 []) (en : n ≡ started b (z .range) given) where
-  pub on-short : room < z .words → record { code = 29; steps = 0; held = false; words = z .words; machine = n } ≡ replayOn s z trace given room
+  pub on-short : room < z .words
+      → record { code = 29; steps = 0; held = false; words = z .words; machine = n } ≡ replayOn s z trace given room
   unfolding replayOn
   on-short h = rw (lt-ltb _ _ h, ← eb, en)
 
@@ -28,11 +29,13 @@ module _ (s : List ℕ) (z : Sizes) (trace given : List ℕ) (room : ℕ) (b : L
   on-run r h e = rw (le-ltb _ _ h, ← eb, ← en, ← e)
 
 module _ (s trace given : List ℕ) (lent : ℕ) (a : Acceptance) (e : a ≡ acceptance s) where
-  pub whole-declined : (n : Machine) → a ≡ Declined → n ≡ started [] 0 [] → record { code = 24; steps = 0; held = false; words = 0; machine = n } ≡ replayOf s trace given lent
+  pub whole-declined : (n : Machine) → a ≡ Declined → n ≡ started [] 0 []
+      → record { code = 24; steps = 0; held = false; words = 0; machine = n } ≡ replayOf s trace given lent
   unfolding replayOf
   whole-declined n d q = rw (← e, d, q)
 
-  pub whole-granted : (z : Sizes) (room : ℕ) (r : Replayed) → a ≡ Granted z → room ≡ roomOf lent → r ≡ replayOn s z trace given room → r ≡ replayOf s trace given lent
+  pub whole-granted : (z : Sizes) (room : ℕ) (r : Replayed) → a ≡ Granted z → room ≡ roomOf lent → r ≡ replayOn s z trace given room
+      → r ≡ replayOf s trace given lent
   unfolding replayOf
   whole-granted z room r d q h = rw (← e, d, ← q) h
 

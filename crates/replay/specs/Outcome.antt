@@ -29,8 +29,10 @@ unfoldable pub replayed : Program → ℕ → State → ℕ → List ℕ → Out
 replayed P room s k [] = record { code = 0; steps = k; state = s }
 replayed P room s k (t ∷ []) = record { code = 27; steps = k; state = s }
 replayed P room s k (t ∷ p ∷ l) =
-    elim (eqb (refusal P room s t p) 0)
-    [ true ↦ replayed P room (exec P (instrAt P s t) t p s) (k + 1) l | false ↦ record { code = refusal P room s t p; steps = k; state = s } ]
+    elim (eqb (refusal P room s t p) 0) [
+      | true ↦ replayed P room (exec P (instrAt P s t) t p s) (k + 1) l
+      | false ↦ record { code = refusal P room s t p; steps = k; state = s }
+    ]
 
 -- the steps of a trace
 abbrev pub stepsIn : List ℕ → List Step

@@ -1,17 +1,16 @@
 -- Why a step is refused: 27 thread absent or at its last point, 28 position not permitted, 29 no entry left for a write; 0 if it is taken.
-use Prim.Native.Nat.{ℕ, zero, suc, _+_}
+use Prim.Native.Nat.{ℕ}
 use mathlib.Core.Bool.{Bool, false, not, cond}
 use lib.Dec.{eqb, ltb, leb}
 use Rattle.logic.specs.Opcode as Opcode
-use Rattle.memory.specs.Memory.{sizeAt}
+use Rattle.memory.specs.Memory.{first}
 use Rattle.memory.specs.declared.memory.Memory.{Memory}
 use Rattle.machine.specs.Shared.{mayPick}
 use Rattle.machine.specs.declared.deed.Deed.{Deed}
 
 -- how many writes the first n rows have
-unfoldable pub total : Memory → ℕ → ℕ
-total m zero = 0
-total m (suc n) = total m n + sizeAt m n
+abbrev pub total : Memory → ℕ → ℕ
+total m n = first (m .sizes) n
 
 -- the operation adds a write
 unfoldable pub adding : ℕ → Bool

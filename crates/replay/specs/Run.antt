@@ -13,5 +13,7 @@ unfoldable pub ran : List ℕ → Sizes → ℕ → Machine → ℕ → List ℕ
 ran s z room n k [] = record { code = 0; steps = k; machine = n }
 ran s z room n k (t ∷ []) = record { code = 27; steps = k; machine = n }
 ran s z room n k (t ∷ p ∷ l) =
-    elim (eqb (stepped s z room n t p .code) 0)
-    [ true ↦ ran s z room (stepped s z room n t p .machine) (k + 1) l | false ↦ record { code = stepped s z room n t p .code; steps = k; machine = n } ]
+    elim (eqb (stepped s z room n t p .code) 0) [
+      | true ↦ ran s z room (stepped s z room n t p .machine) (k + 1) l
+      | false ↦ record { code = stepped s z room n t p .code; steps = k; machine = n }
+    ]

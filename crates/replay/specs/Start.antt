@@ -1,5 +1,5 @@
 -- The start, on numbers. b is the header, R the range, given a byte for each register.
-use Prim.Native.Nat.{ℕ, _+_, _/_, _%_}
+use Prim.Native.Nat.{ℕ, _+_, _%_}
 use mathlib.Core.Bool.{cond}
 use mathlib.Core.List.{List}
 use lib.Dec.{eqb, ltb}
@@ -16,10 +16,10 @@ use Rattle.replay.specs.declared.states.Machine.{Machine}
 
 -- the first n places
 unfoldable pub startWrites : List ℕ → ℕ → List Write
-startWrites b n = column (λ j. startWrite (nth (startValues b) (j / 64 + 1) 0)) n
+startWrites b n = column (λ j. startWrite (nth (startValues b) (j + 1) 0)) n
 
 unfoldable pub startMemory : List ℕ → Memory
-startMemory b = record { sizes = replicate 8 1; writes = startWrites b 512; views = replicate 4 startView }
+startMemory b = record { sizes = replicate 8 1; writes = startWrites b 72; views = replicate 4 startView }
 
 -- the register at index i; those that do not start at 0 as they are given, modulo the range
 unfoldable pub startRegister : List ℕ → ℕ → List ℕ → ℕ → ℕ

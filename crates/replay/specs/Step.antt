@@ -49,4 +49,5 @@ module _ (s : List ℕ) (z : Sizes) where
   stepped room n t p =
       cond (eqb t 0) (refused 27 n)
       (cond (ltb (z .threads) t) (refused 27 n)
-      (cond (ltb (pointOf n (t - 1)) (lastOf t)) (attempted z room n (deedAt (n .registers) t (pointOf n (t - 1))) (t - 1) p) (refused 27 n)))
+      (cond (ltb (pointOf n (t - 1)) (lastOf t)) (attempted z room n (deedAt (n .registers) t (pointOf n (t - 1))) (t - 1) p)
+      (refused 27 n)))

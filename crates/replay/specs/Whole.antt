@@ -25,7 +25,8 @@ ofRun z r = record { code = r .code; steps = r .steps; held = true; words = z .w
 -- an accepted image: where the start writes do not fit, no step is taken and the table is not written
 unfoldable pub replayOn : List ℕ → Sizes → List ℕ → List ℕ → ℕ → Replayed
 replayOn s z trace given room =
-    cond (ltb room (z .words)) (record { code = 29; steps = 0; held = false; words = z .words; machine = started (getD (bodies s) 0 []) (z .range) given })
+    cond (ltb room (z .words))
+    (record { code = 29; steps = 0; held = false; words = z .words; machine = started (getD (bodies s) 0 []) (z .range) given })
     (ofRun z (ran s z room (started (getD (bodies s) 0 []) (z .range) given) 0 trace))
 
 -- points and registers of 0

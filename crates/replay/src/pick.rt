@@ -2,7 +2,7 @@
 use machine::deed::Deed;
 use machine::shared::may_pick;
 use memory::memory::Memory;
-use memory::memory::size_at;
+use memory::memory::first_of;
 use program::instruction::Instruction;
 ghost use mathlib.Core.Path.{_≡_};
 ghost use Prim.Native.Nat.{_≤_, _*_};
@@ -27,13 +27,8 @@ impl Refusal {
 pub fn total_of(m: Memory, n: u8) -> usize
     ensures { λ r. ⌜ (r ≡ total m n) × (r ≤ n * 255) ⌝ }
 {
-    let mut sum: usize = 0;
-    let mut k: u8 = 0;
-    while k < n {
-        sum += size_at(m, k) as usize;
-        k += 1;
-    }
-    sum
+    let sizes = m.sizes;
+    first_of(&sizes, n)
 }
 
 // The operation adds a write.

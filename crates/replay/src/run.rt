@@ -14,18 +14,11 @@ pub struct Run {
     pub machine: Machine,
 }
 
-pub fn run_trace<'a, 'b, 'c>(
-    s: &'a [u8],
-    ix: &'b [usize],
-    z: Sizes,
-    room: usize,
-    first: Machine,
-    trace: &'c [u8],
-) -> Run
+pub fn run_trace(s: &[u8], ix: &[usize], z: Sizes, room: usize, from: Machine, trace: &[u8]) -> Run
     requires { ⌜ now ix ≡ indexOf (now s) ⌝ }
-    ensures { λ r. ⌜ r ≡ ran (now (s .entry)) z room first 0 (now (trace .entry)) ⌝ }
+    ensures { λ r. ⌜ r ≡ ran (now (s .entry)) z room from 0 (now (trace .entry)) ⌝ }
 {
-    let mut n = first;
+    let mut n = from;
     let mut steps: usize = 0;
     let mut i: usize = 0;
     while i < trace.len() {
@@ -39,17 +32,16 @@ pub fn run_trace<'a, 'b, 'c>(
         let after = i + 2;
         let more = steps + 1;
         let r = step(s, ix, z, room, n, trace[i], trace[i + 1]);
-        if r.code == Refusal::ACCEPTED {
-            n = r.machine;
-            steps = more;
-            i = after;
-        } else {
+        if r.code != Refusal::ACCEPTED {
             return Run {
                 code: r.code,
                 steps,
                 machine: n,
             };
         }
+        n = r.machine;
+        steps = more;
+        i = after;
     }
     Run {
         code: Refusal::ACCEPTED,

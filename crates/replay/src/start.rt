@@ -10,16 +10,16 @@ use program::header::start_value;
 ghost use mathlib.Core.Path.{_≡_};
 ghost use Rattle.replay.specs.Start.{startMemory, startRegister, startRegisters, started};
 
-// b is the header. (Each place of a row holds its start write; the row has the first one alone.)
+// b is the header. Each row has one write; behind the last row nothing is looked at.
 fn start_memory(b: &[u8]) -> Memory
     ensures { λ r. ⌜ r ≡ startMemory (now (b .entry)) ⌝ }
 {
     let none = start_write(0);
     let view = start_view();
-    let mut writes = [none; 512];
+    let mut writes = [none; 72];
     let mut j: usize = 0;
-    while j < 512 {
-        writes[j] = start_write(start_value(b, j / 64 + 1));
+    while j < 72 {
+        writes[j] = start_write(start_value(b, j + 1));
         j += 1;
     }
     Memory {

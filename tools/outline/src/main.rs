@@ -1,7 +1,7 @@
-//! The program `outline`: builds, judges, shows, explains, explores, draws, trims and bills proof outlines.
+//! The program `outline`: builds, judges, shows, explains, explores, draws, trims, bills and replays proof outlines.
 
 use outline::command::{
-    bill, build, check, draw, explain, explore, print, report, show, trim, Done, Status,
+    bill, build, check, draw, explain, explore, print, replay, report, show, trim, Done, Status,
 };
 use std::process::ExitCode;
 
@@ -19,6 +19,8 @@ outline draw FILE -o FILE.svg [--steps N] [--writes N] [--starts N] [--outcome \
                                                                a run that breaks it, or that has the outcome, drawn
 outline trim FILE -o FILE.image                                an accepted image without lines and formulas that nothing rests on
 outline bill FILE|FOLDER.. --tariff TARIFF [--billed N]        what the checks cost in cents, by thread and together
+outline replay FILE TRACE [--given \"a = 1, b = 0\"] [--entries N] [-o FILE.svg]
+                                                               the steps of a trace, run on an accepted image's machine
 
 FILE is an outline or an image; `-` is standard input, behind -o standard output. All take --json.
   --partial   writes an image with open obligations and claims too
@@ -29,6 +31,8 @@ FILE is an outline or an image; `-` is standard input, behind -o standard output
   --outcome   can the registers be so when all threads have ended?
   --tariff    lines `start 10`, `step 25`, `taken 25`, `interference 40`, `least 500`, in cents; # begins a comment
   --billed    how many images are billed already (0)
+  --given     what open registers hold at the start (0)
+  --entries   room for so many writes (64)
 Status: 0 accepted, true or never; 1 refused, open, false or happens; 2 wrong use, or a file that cannot be read or written.
 ";
 
@@ -45,6 +49,7 @@ fn main() -> ExitCode {
         ["draw", rest @ ..] => draw::run(rest),
         ["trim", rest @ ..] => trim::run(rest),
         ["bill", rest @ ..] => bill::run(rest),
+        ["replay", rest @ ..] => replay::run(rest),
         ["--help" | "-h" | "help"] => said(HELP),
         ["--version"] => said(concat!("outline ", env!("CARGO_PKG_VERSION"), "\n")),
         _ => Err(format!("usage:\n{HELP}").trim_end().into()),

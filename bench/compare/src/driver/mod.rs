@@ -2,12 +2,14 @@
 
 mod bill;
 mod check;
+mod replay;
 mod sources;
 mod tally;
 mod trim;
 
 pub use bill::BILL;
 pub use check::CHECK;
+pub use replay::REPLAY;
 pub use trim::TRIM;
 
 use sets::vectors::Case;

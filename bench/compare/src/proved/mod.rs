@@ -2,10 +2,12 @@
 
 mod bills;
 mod check;
+mod replay;
 mod trim;
 
 pub use bills::BILL;
 pub use check::check_into;
+pub use replay::REPLAY;
 pub use trim::TRIM;
 
 use reference::bill::Tariff;
@@ -15,3 +17,5 @@ use reference::trim::Answer;
 pub type Trim = fn(&[u8], &mut [u8]) -> Answer;
 /// Bills an image, with so many billed already, into an answer.
 pub type Bill = fn(&[u8], &Tariff, u32, &mut [u32]) -> u16;
+/// Replays a trace of an image, with registers given, into a table and an answer.
+pub type Replay = fn(&[u8], &[u8], &[u8], &mut [u8], &mut [usize]) -> u16;

@@ -2,6 +2,7 @@
 
 mod images;
 mod measure;
+pub mod replay;
 
 use crate::proved;
 pub use measure::median;

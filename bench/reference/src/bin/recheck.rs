@@ -2,7 +2,7 @@
 //!
 //! Usage: recheck FOLDER [SET...], where without a SET those that `vectors` writes are judged
 
-use reference::stored::{bills, formulas, images, trims};
+use reference::stored::{bills, formulas, images, replays, trims};
 use std::path::Path;
 use std::process::ExitCode;
 
@@ -13,14 +13,16 @@ const MOST_NAMED: usize = 50;
 const FORMULAS: &str = "formula-bytes";
 const TRIMS: &str = "trim";
 const BILLS: &str = "bills";
-const SETS: [&str; 6] = [FORMULAS, "formulas", "images", "rules", TRIMS, BILLS];
+const REPLAYS: &str = "replay";
+const SETS: [&str; 7] = [FORMULAS, "formulas", "images", "rules", TRIMS, BILLS, REPLAYS];
 
-/// A set of formulas, by the front of its name of images trimmed or billed, by any other name of images judged.
+/// A set of formulas, by the front of its name of images trimmed, billed or replayed, by any other name of images judged.
 fn judge_of(name: &str) -> Judge {
     match name {
         FORMULAS => formulas,
         _ if name.starts_with(TRIMS) => trims::judged,
         _ if name.starts_with(BILLS) => bills::judged,
+        _ if name.starts_with(REPLAYS) => replays::judged,
         _ => images,
     }
 }

@@ -1,12 +1,13 @@
 //! Stored sets read back and judged again.
 //!
-//! Those of trimming and of bills are in [`trims`] and [`bills`].
+//! Those of trimming, of bills and of replay are in [`trims`], [`bills`] and [`replays`].
 //!
 //! A container of images has for each case its length (32 bits), the image, the nine fields of its
 //! verdict (16 bits each); one of formulas their length (32 bits), bytes, threads, words, registers and
 //! range (a byte each), result and sort (16 bits each). All numbers are little-endian.
 
 pub mod bills;
+pub mod replays;
 pub mod trims;
 
 use crate::checker::check;

@@ -1,9 +1,9 @@
-//! Writes the images of a folder as a stored set, in the order of their names, with their names as labels: judged, or
-//! trimmed into buffers that are just long enough.
+//! Writes the images of a folder as a stored set, in the order of their names, with their names as labels: judged,
+//! trimmed into buffers that are just long enough, or with traces that are replayed if they are accepted.
 //!
-//! Usage: pack [--trim] IMAGES FOLDER NAME
+//! Usage: pack [--trim|--replay] IMAGES FOLDER NAME
 
-use sets::vectors::{store, trims, Case};
+use sets::vectors::{replays, store, trims, Case};
 use std::io::{Error, Result};
 use std::path::Path;
 
@@ -21,16 +21,24 @@ fn cases(images: &Path) -> Result<Vec<Case>> {
 fn main() -> Result<()> {
     let arguments: Vec<String> = std::env::args().skip(1).collect();
     let words: Vec<&str> = arguments.iter().map(String::as_str).collect();
-    let (trim, [images, folder, name]) = match words[..] {
-        ["--trim", images, folder, name] => (true, [images, folder, name]),
-        [images, folder, name] => (false, [images, folder, name]),
-        _ => return Err(Error::other("usage: pack [--trim] IMAGES FOLDER NAME")),
+    let (kind, [images, folder, name]) = match words[..] {
+        [kind @ ("--trim" | "--replay"), images, folder, name] => (kind, [images, folder, name]),
+        [images, folder, name] => ("", [images, folder, name]),
+        _ => return Err(Error::other("usage: pack [--trim|--replay] IMAGES FOLDER NAME")),
     };
     let (cases, folder) = (cases(Path::new(images))?, Path::new(folder));
-    println!("{name}: {} cases", cases.len());
-    if trim {
-        let cases: Vec<_> = cases.into_iter().map(|c| trims::exact(c.label, c.image)).collect();
-        return store::write(folder, name, store::trims(&cases));
-    }
-    store::write_images(folder, name, &cases)
+    let (count, files) = match kind {
+        "--trim" => {
+            let cases: Vec<_> = cases.into_iter().map(|c| trims::exact(c.label, c.image)).collect();
+            (cases.len(), store::trims(&cases))
+        }
+        "--replay" => {
+            let cases: Vec<_> =
+                cases.iter().flat_map(|c| replays::of_image(&c.label, &c.image)).collect();
+            (cases.len(), store::replays(&cases))
+        }
+        _ => (cases.len(), (store::container(&cases), store::index(&cases))),
+    };
+    println!("{name}: {count} cases");
+    store::write(folder, name, files)
 }

@@ -3,7 +3,7 @@
 //! Usage: vectors FOLDER
 
 use sets::examples::{largest, message_passing, two_writes};
-use sets::vectors::{bills, formulas, images, rules, store, trims};
+use sets::vectors::{bills, formulas, images, replays, rules, store, trims};
 use std::io::{Error, Result};
 use std::path::Path;
 
@@ -26,6 +26,9 @@ fn main() -> Result<()> {
     store::write(folder, "trim", store::trims(&trims))?;
     store::write(folder, "bills", store::bills(&bills))?;
     println!("trim: {} cases\nbills: {} cases", trims.len(), bills.len());
+    let replays = replays::cases();
+    store::write(folder, "replay", store::replays(&replays))?;
+    println!("replay: {} cases", replays.len());
     std::fs::write(folder.join("message-passing.image"), message_passing().bytes())?;
     std::fs::write(folder.join("two-writes.image"), two_writes().bytes())?;
     std::fs::write(folder.join("largest.image"), largest())?;

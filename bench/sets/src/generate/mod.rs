@@ -10,6 +10,7 @@ pub mod instances;
 pub mod mutate;
 pub mod programs;
 pub mod random;
+pub mod traces;
 pub mod vocabulary;
 
 pub use image::image;

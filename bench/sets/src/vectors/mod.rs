@@ -1,4 +1,4 @@
-//! Stored sets of images with their verdicts, and of images trimmed and billed.
+//! Stored sets of images with their verdicts, of images trimmed and billed, and of traces replayed.
 //!
 //! Verdicts and answers are the independent checker's. Each case has a label that names
 //! the clause of the scope page that it tests.
@@ -11,6 +11,7 @@ pub mod images;
 mod nesting;
 pub mod precedence;
 mod refused;
+pub mod replays;
 pub mod rules;
 pub mod store;
 pub mod tour;

@@ -2,11 +2,13 @@
 
 use super::bills::BillCase;
 use super::formulas::FormulaCase;
+use super::replays::ReplayCase;
 use super::trims::TrimCase;
 use super::Case;
 use reference::bill::{bill_into, Tariff, ANSWER};
-use reference::checker::check;
+use reference::checker::{accepted, check};
 use reference::formula::parse::Counts;
+use reference::replay::{self, replayed, ANSWER_TOO_SHORT, WRITE_BYTES};
 use reference::stored::answer;
 use reference::trim::trim_into;
 use std::fmt::Write as _;
@@ -108,6 +110,34 @@ pub fn bills(cases: &[BillCase]) -> (Vec<u8>, String) {
         bytes.extend(answer[..ANSWER].iter().flat_map(|number| number.to_le_bytes()));
         let numbers: Vec<String> = answer[..ANSWER].iter().map(u32::to_string).collect();
         let _ = writeln!(text, "{number}\t{}\t{code} {}", case.label, numbers.join(" "));
+    }
+    (bytes, text)
+}
+
+/// The container and the index of traces replayed: number, label, bytes and numbers lent, code and answer of each.
+pub fn replays(cases: &[ReplayCase]) -> (Vec<u8>, String) {
+    let (mut bytes, mut text) = (Vec::new(), String::new());
+    for (number, ReplayCase { label, image, call }) in (1..).zip(cases) {
+        let program = accepted(image).map(|image| image.program);
+        let room = replay::room(call.table);
+        let replayed = replayed(program.as_ref(), &call.trace, &call.given, room);
+        let mut table = vec![0; call.table];
+        // Room for all numbers in any case: a short answer leaves them 0.
+        let mut answer = vec![0; call.numbers.max(replay::ANSWER)];
+        let code = replayed.put(&mut table, &mut answer[..call.numbers]);
+        let entries = if code == ANSWER_TOO_SHORT { 0 } else { replayed.writes.len() };
+        table.truncate(entries * WRITE_BYTES);
+        push_counted(&mut bytes, &[image, &call.trace, &call.given, &table[..]].concat());
+        let parts = [image, &call.trace, &call.given].map(Vec::len);
+        for length in parts.into_iter().chain([call.table, call.numbers]) {
+            push_length(&mut bytes, length);
+        }
+        bytes.extend(code.to_le_bytes());
+        let answer = &answer[..replay::ANSWER];
+        answer.iter().for_each(|&number| push_length(&mut bytes, number));
+        let numbers: Vec<String> = answer.iter().map(usize::to_string).collect();
+        let (bytes, lent) = (call.table, call.numbers);
+        let _ = writeln!(text, "{number}\t{label}\t{bytes} {lent} {code} {}", numbers.join(" "));
     }
     (bytes, text)
 }

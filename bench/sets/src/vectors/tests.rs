@@ -1,5 +1,5 @@
 //! Labels that name a code agree with the verdict.
-use super::{bills, formulas, images, rules, store, trims, Case};
+use super::{bills, formulas, images, replays, rules, store, trims, Case};
 use reference::checker::check;
 use reference::image::written::Written;
 use reference::stored;
@@ -41,8 +41,9 @@ fn labels_are_distinct() {
     let labels = |cases: Vec<Case>| cases.into_iter().map(|case| case.label).collect();
     let trims = trims::cases().into_iter().map(|case| case.label).collect();
     let bills = bills::cases().into_iter().map(|case| case.label).collect();
-    let mut sets: [Vec<String>; 4] =
-        [labels(images::cases()), labels(rules::cases()), trims, bills];
+    let replays = replays::cases().into_iter().map(|case| case.label).collect();
+    let mut sets: [Vec<String>; 5] =
+        [labels(images::cases()), labels(rules::cases()), trims, bills, replays];
     for labels in &mut sets {
         labels.sort_unstable();
         let twice = labels.windows(2).find(|pair| pair[0] == pair[1]);
@@ -91,4 +92,23 @@ fn bills_are_read_back() {
     assert!(codes == [0, 1, 30, 31] && counts.values().all(|&count| count >= 4), "{counts:?}");
     assert!(stored::bills::judged(&bytes).expect("whole").iter().all(|&same| same));
     assert!(stored::bills::cases(&bytes[..bytes.len() - 1]).is_none());
+}
+
+#[test]
+fn replays_are_read_back() {
+    let all = replays::cases();
+    let (bytes, text) = store::replays(&all);
+    let cases = stored::replays::cases(&bytes).expect("whole");
+    assert_eq!((cases.len(), text.lines().count()), (all.len(), all.len()));
+    let counts = by_code(cases.iter().map(|case| case.code));
+    let codes: Vec<u16> = counts.keys().copied().collect();
+    assert!(codes == [0, 1, 24, 27, 28, 29] && counts.values().all(|&n| n >= 12), "{counts:?}");
+    assert!(stored::replays::judged(&bytes).expect("whole").iter().all(|&same| same));
+    assert!(stored::replays::cases(&bytes[..bytes.len() - 1]).is_none());
+    for (case, stored) in all.iter().zip(&cases) {
+        let named = named_code(&case.label).filter(|&code| code < 30);
+        assert!(named.is_none_or(|code| code == stored.code), "{}: {}", case.label, stored.code);
+        let call = [&case.image, &case.call.trace, &case.call.given];
+        assert_eq!(call.map(|part| &part[..]), [stored.image, stored.trace, stored.given]);
+    }
 }

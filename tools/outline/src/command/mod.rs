@@ -13,6 +13,8 @@ pub mod json;
 pub mod judge;
 pub mod options;
 pub mod progress;
+pub mod replay;
+pub mod replayer;
 pub mod report;
 pub mod show;
 pub mod spread;

@@ -19,6 +19,8 @@ pub struct Options {
     pub starts: Option<usize>,
     pub tariff: Option<String>,
     pub billed: Option<u32>,
+    pub given: Option<String>,
+    pub entries: Option<usize>,
 }
 
 impl Options {
@@ -38,6 +40,8 @@ impl Options {
                 "--steps" => options.steps = Some(number(word, value()?, 10_000)?),
                 "--writes" => options.writes = Some(number(word, value()?, 200)?),
                 "--starts" => options.starts = Some(number(word, value()?, 1 << 20)?),
+                "--given" => options.given = Some(value()?.into()),
+                "--entries" => options.entries = Some(number(word, value()?, 64)?),
                 "--tariff" => options.tariff = Some(value()?.into()),
                 "--billed" => {
                     options.billed = Some(number(word, value()?, u32::MAX as usize)? as u32);

@@ -3,10 +3,20 @@
 use crate::text::print::Names;
 use reference::explore::Run;
 use reference::image::{Access, Instruction, Note, Program};
-use reference::machine::{take, State, Step};
+use reference::machine::{take, State, Step, Write};
 
-/// A run as lines: each step with what it reads or writes, then the registers reached.
+/// A run as lines: each step with what it reads or writes, the registers reached, and the values in each row.
 pub fn lines(program: &Program, names: &Names, run: &Run) -> Vec<String> {
+    let (mut lines, end) = steps(program, names, run);
+    for (x, row) in (1..).zip(&end.rows) {
+        let values: Vec<String> = row.iter().map(|write| write.value.to_string()).collect();
+        lines.push(format!("     {} was written {}", names.word(x), values.join(", ")));
+    }
+    lines
+}
+
+/// Each step of a run with what it reads or writes, and the registers reached; and the state at its end.
+pub fn steps(program: &Program, names: &Names, run: &Run) -> (Vec<String>, State) {
     let mut state = run.start.clone();
     let mut lines = Vec::new();
     if program.header.marks.contains(&0) {
@@ -20,11 +30,24 @@ pub fn lines(program: &Program, names: &Names, run: &Run) -> Vec<String> {
     if !names.registers.is_empty() {
         lines.push(format!("     then {}", registers(names, &state)));
     }
-    for (x, row) in (1..).zip(&state.rows) {
-        let values: Vec<String> = row.iter().map(|write| write.value.to_string()).collect();
-        lines.push(format!("     {} was written {}", names.word(x), values.join(", ")));
-    }
-    lines
+    (lines, state)
+}
+
+/// The writes of a table, word by word in row order, each with its place, its marks and its stored view.
+pub fn table(names: &Names, state: &State, writes: &[Write]) -> Vec<String> {
+    let places = (1..).zip(&state.rows).flat_map(|(x, row)| (1..=row.len()).map(move |n| (x, n)));
+    let view = |write: &Write| {
+        let places =
+            (1..).zip(&names.words).map(|(x, name)| format!("{name} {}", write.stored.at(x) + 1));
+        places.collect::<Vec<String>>().join(", ")
+    };
+    let line = |((x, place), write): ((u8, usize), &Write)| {
+        let mut text = format!("     {} write {place}: {}", names.word(x), write.value);
+        text += if write.releasing { ", releasing" } else { "" };
+        text += if write.covered { ", covered" } else { "" };
+        format!("{text}, stored view: {}", view(write))
+    };
+    places.zip(writes).map(line).collect()
 }
 
 fn registers(names: &Names, state: &State) -> String {

@@ -7,4 +7,5 @@ use Rattle.machine.proofs.deed.deed_of.Tie as tie
 pub deed-of-spec : {M : Type 1} → statement M
 deed-of-spec =
     tie.close
-    (tie.spec (λ c κs. search needs) (λ c κs. search needs) (λ c. search (deeds, tests)) (λ c κs. search needs) (λ c. search (deeds, tests)))
+    (tie.spec (λ c κs. search needs) (λ c κs. search needs) (λ c. search (deeds, tests)) (λ c κs. search needs)
+    (λ c. search (deeds, tests)))

@@ -6,4 +6,5 @@ use Rattle.machine.proofs.locals.point_after.Tie as tie
 
 pub point-after-spec : {M : Type 1} → statement M
 unfolding pointAfter
-point-after-spec = tie.close (tie.spec (λ c. search tests) (λ c κs. search needs) (λ c. search tests) (λ c κs. search needs) (λ c. search tests))
+point-after-spec =
+    tie.close (tie.spec (λ c. search tests) (λ c κs. search needs) (λ c. search tests) (λ c κs. search needs) (λ c. search tests))

@@ -6,4 +6,6 @@ use Rattle.machine.proofs.locals.with_register.Tie as tie
 
 pub with-register-spec : {M : Type 1} → statement M
 unfolding withRegister
-with-register-spec = tie.close (tie.spec (λ c. search tests) (λ c. search tests) (λ c. search needs) (λ c. search needs) (λ c. search needs) (λ c. search tests))
+with-register-spec =
+    tie.close
+    (tie.spec (λ c. search tests) (λ c. search tests) (λ c. search needs) (λ c. search needs) (λ c. search needs) (λ c. search tests))

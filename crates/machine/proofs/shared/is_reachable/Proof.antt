@@ -6,4 +6,11 @@ use Rattle.machine.proofs.shared.is_reachable.Tie as tie
 
 pub is-reachable-spec : {M : Type 1} → statement M
 is-reachable-spec =
-    tie.close (tie.spec (λ c κs. search needs) (λ c κs. search needs) (λ c κs. search needs) (λ c. search (reaches, tests)) (λ c. search (reaches, tests)))
+    tie.close
+    (tie.spec
+    (λ c. search needs)
+    (λ c κs. search needs)
+    (λ c κs. search needs)
+    (λ c κs. search needs)
+    (λ c. search (reaches, tests))
+    (λ c. search (reaches, tests)))

@@ -8,10 +8,10 @@ use Rattle.memory.proofs.insert.move_writes.Statement.{statement}
 use Rattle.memory.proofs.insert.move_writes.Tie as tie
 
 abbrev Inv-loop : tie.InvT-loop
-Inv-loop k p m picked writes₀ j₀ writes j = (j ≤ 512) × ((take j writes ≡ movedTo m k p j) × (length writes ≡ 512))
+Inv-loop k p m sizes picked writes₀ j₀ writes j = (j ≤ 72) × ((take j writes ≡ movedTo m k p j) × (length writes ≡ 72))
 
 abbrev μ-loop : tie.MeasureT-loop
-μ-loop k p m picked writes₀ j₀ writes j = 512 - j
+μ-loop k p m sizes picked writes₀ j₀ writes j = 72 - j
 
 pub move-writes-spec : {M : Type 1} → statement M
 move-writes-spec =
@@ -19,6 +19,7 @@ move-writes-spec =
     (tie.spec
     Inv-loop
     μ-loop
+    (λ c. search (moves, tests))
     (λ c κs. search (moves, tests))
     (λ c κs. search (moves, tests))
     (λ c. (search tests, (search (moves, tests), search (moves, tests))))

@@ -1,9 +1,9 @@
-use Rattle.memory.specs.Insert.{source}
+use Rattle.logic.specs.Machine.{down}
 use Rattle.limits.proofs.Auto.{tests}
 use borrow.Author.Needs.{needs}
 use Rattle.memory.proofs.insert.source.Statement.{statement}
 use Rattle.memory.proofs.insert.source.Tie as tie
 
 pub source-spec : {M : Type 1} → statement M
-unfolding source
-source-spec = tie.close (tie.spec (λ c. search needs) (λ c. search needs) (λ c. search needs) (λ c. search needs) (λ c. search tests) (λ c. search tests) (λ c. search tests))
+unfolding down
+source-spec = tie.close (tie.spec (λ c. search tests) (λ c. search needs) (λ c. search tests))

@@ -8,7 +8,8 @@ use Rattle.replay.proofs.run.run_trace.Statement.{statement}
 use Rattle.replay.proofs.run.run_trace.Tie as tie
 
 abbrev Inv-loop : tie.InvT-loop
-Inv-loop s ix z room trace n₀ steps₀ i₀ n steps i = (i ≤ length trace) × ((steps ≤ i) × (ran s z room n₀ 0 trace ≡ ran s z room n steps (drop i trace)))
+Inv-loop s ix z room trace n₀ steps₀ i₀ n steps i =
+    (i ≤ length trace) × ((steps ≤ i) × (ran s z room n₀ 0 trace ≡ ran s z room n steps (drop i trace)))
 
 abbrev μ-loop : tie.MeasureT-loop
 μ-loop s ix z room trace n₀ steps₀ i₀ n steps i = length trace - i
@@ -29,6 +30,6 @@ run-trace-spec =
     (λ c. search (runs, tests))
     (λ c κs. search (runs, tests))
     (λ c. search (runs, tests))
-    (λ c. (search tests, (search tests, search (runs, tests))))
     (λ c. search (runs, tests))
+    (λ c. (search tests, (search tests, search (runs, tests))))
     (λ c. search (runs, tests)))

@@ -8,10 +8,10 @@ use Rattle.replay.proofs.start.start_memory.Statement.{statement}
 use Rattle.replay.proofs.start.start_memory.Tie as tie
 
 abbrev Inv-loop : tie.InvT-loop
-Inv-loop b view writes₀ j₀ writes j = (j ≤ 512) × ((take j writes ≡ startWrites b j) × (length writes ≡ 512))
+Inv-loop b view writes₀ j₀ writes j = (j ≤ 72) × ((take j writes ≡ startWrites b j) × (length writes ≡ 72))
 
 abbrev μ-loop : tie.MeasureT-loop
-μ-loop b view writes₀ j₀ writes j = 512 - j
+μ-loop b view writes₀ j₀ writes j = 72 - j
 
 pub start-memory-spec : {M : Type 1} → statement M
 start-memory-spec =

@@ -5,4 +5,5 @@ use Rattle.replay.proofs.step.attempt.Statement.{statement}
 use Rattle.replay.proofs.step.attempt.Tie as tie
 
 pub attempt-spec : {M : Type 1} → statement M
-attempt-spec = tie.close (tie.spec (λ c κs. search needs) (λ c κs. search needs) (λ c. search (attempts, tests)) (λ c. search (attempts, tests)))
+attempt-spec =
+    tie.close (tie.spec (λ c κs. search needs) (λ c κs. search needs) (λ c. search (attempts, tests)) (λ c. search (attempts, tests)))

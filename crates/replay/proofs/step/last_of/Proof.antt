@@ -6,4 +6,5 @@ use Rattle.replay.proofs.step.last_of.Tie as tie
 
 pub last-of-spec : {M : Type 1} → statement M
 last-of-spec =
-    tie.close (tie.spec (λ c. search needs) (λ c. search needs) (λ c κs. search needs) (λ c κs. search needs) (λ c. search (last-made, tests)))
+    tie.close
+    (tie.spec (λ c. search needs) (λ c. search needs) (λ c κs. search needs) (λ c κs. search needs) (λ c. search (last-made, tests)))

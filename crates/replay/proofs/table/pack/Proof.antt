@@ -8,10 +8,10 @@ use Rattle.replay.proofs.table.pack.Statement.{statement}
 use Rattle.replay.proofs.table.pack.Tie as tie
 
 abbrev Inv-loop : tie.InvT-loop
-Inv-loop m words writes₀ e₀ writes e = (e ≤ 64) × ((take e writes ≡ packedTo m words e) × (length writes ≡ 64))
+Inv-loop words m n writes₀ e₀ writes e = (e ≤ 64) × ((take e writes ≡ packedTo m words e) × (length writes ≡ 64))
 
 abbrev μ-loop : tie.MeasureT-loop
-μ-loop m words writes₀ e₀ writes e = 64 - e
+μ-loop words m n writes₀ e₀ writes e = 64 - e
 
 pub pack-spec : {M : Type 1} → statement M
 pack-spec =
@@ -20,7 +20,10 @@ pack-spec =
     Inv-loop
     μ-loop
     (λ c κs. search (packs, tests))
+    (λ c κs. search (packs, tests))
     (λ c. (search tests, (search (packs, tests), search (packs, tests))))
+    (λ c. search (packs, tests))
+    (λ c. search (packs, tests))
     (λ c κs. search (packs, tests))
     (λ c. search (packs, tests))
     (λ c. search (packs, tests))

@@ -1,0 +1,5 @@
+pub mod Plain
+pub mod Absent
+pub mod Room
+pub mod Ways
+pub mod Promised

@@ -1,0 +1,31 @@
+// The entry point, for C and Rust.
+use crate::answer::Answer;
+use crate::answer::write_numbers;
+use crate::bytes::Entry;
+use crate::bytes::write_shown;
+use crate::shown::shown_of;
+use report::output::Output;
+ghost use Rattle.replaying.specs.Promise.{Written};
+
+// Replays a trace on the machine of an accepted image, and writes the state reached: the steps, points and registers to `answer`,
+// the writes to `table`. Room for fewer than 21 numbers is left as it is, and so is the table, and the answer is 1.
+#[no_mangle]
+pub extern "C" fn replay_trace<'a, 'b, 'c, 'd, 'e>(
+    image: &'a [u8],
+    trace: &'b [u8],
+    given: &'c [u8],
+    table: &'d mut [u8],
+    answer: &'e mut [usize],
+) -> u16
+    ensures { λ r. ⌜ Written (now (image .entry)) (now (trace .entry)) (now (given .entry)) (now (table .entry)) (now (answer .entry)) r
+        (now (table .exit)) (now (answer .exit)) ⌝ }
+{
+    if answer.len() < Answer::SIZE {
+        return Output::SHORT;
+    }
+    let s = shown_of(image, trace, given, table.len() / Entry::SIZE);
+    let a = s.answer;
+    write_numbers(a, answer);
+    write_shown(s, table);
+    a.code
+}

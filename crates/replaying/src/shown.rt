@@ -1,0 +1,66 @@
+// What a replay shows: the answer, and the writes for the table.
+use crate::answer::Answer;
+use crate::answer::answer_of;
+use memory::write::Write;
+use replay::pick::total_of;
+use replay::table::pack;
+use replay::whole::Replayed;
+use replay::whole::Table;
+use replay::whole::replay;
+ghost use mathlib.Core.Path.{_≡_};
+ghost use Prim.Native.Nat.{_≤_, min};
+ghost use lib.ListN.{length};
+ghost use Rattle.replay.specs.Whole.{replayOf};
+ghost use Rattle.replaying.specs.Table.{shownOf, shownBy};
+
+// So many writes are for the table, the first ones; those behind them are not.
+pub struct Shown {
+    pub answer: Answer,
+    pub count: usize,
+    pub writes: [Write; Table::MOST],
+}
+
+// How many entries are used, of so many writes and entries lent.
+fn least(writes: usize, lent: usize) -> usize
+    ensures { λ r. ⌜ r ≡ min writes (min lent 64) ⌝ }
+{
+    if writes <= lent {
+        if writes <= Table::MOST {
+            return writes;
+        }
+        return Table::MOST;
+    }
+    if lent <= Table::MOST {
+        return lent;
+    }
+    Table::MOST
+}
+
+// None where the table stays as it is.
+fn count_of(r: Replayed, lent: usize) -> usize
+    ensures { λ n. ⌜ (n ≡ length (shownOf r lent)) × (n ≤ min lent 64) ⌝ }
+{
+    if r.held {
+        let n = r.machine;
+        let m = n.memory;
+        return least(total_of(m, r.words), lent);
+    }
+    0
+}
+
+// A replay with so many entries lent.
+pub fn shown_of<'a, 'b, 'c>(image: &'a [u8], trace: &'b [u8], given: &'c [u8], lent: usize) -> Shown
+    ensures { λ s. ⌜ (s ≡ shownBy (replayOf (now (image .entry)) (now (trace .entry)) (now (given .entry)) lent) lent)
+        × ((s .count ≤ min lent 64) × (length (s .writes) ≡ 64)) ⌝ }
+{
+    let r = replay(image, trace, given, lent);
+    let n = r.machine;
+    let m = n.memory;
+    let p = pack(m, r.words);
+    let writes = p.writes;
+    Shown {
+        answer: answer_of(r),
+        count: count_of(r, lent),
+        writes,
+    }
+}

@@ -1,0 +1,197 @@
+//! `replay`: the steps that a pad left, run on the machine of an accepted image.
+
+use crate::command::input::{called, mistakes, Subject};
+use crate::command::judge::judge;
+use crate::command::options::Options;
+use crate::command::replayer::{replay, REPLAYER};
+use crate::command::{json, print, words, write, Done, Status};
+use crate::draw::{Ending, Picture};
+use crate::markup::Element;
+use crate::text::parse_trace::{given, trace};
+use crate::text::print::Names;
+use crate::text::refusal::refusal;
+use crate::text::{counted, run};
+use reference::checker::accepted;
+use reference::explore::Run;
+use reference::image::Program;
+use reference::machine::{State, Step};
+use reference::replay::{
+    entry_bytes, replayed, start, Replay, ANSWER, MOST_WRITES, NOT_ACCEPTED, WRITE_BYTES,
+};
+use std::io::Read;
+
+/// A drawing has no more steps.
+const MOST_DRAWN: usize = 200;
+
+pub fn run(args: &[&str]) -> Done {
+    let options = Options::read(args, &["-o", "--given", "--entries", "--json"])?;
+    let [file, trace_file] = &options.files[..] else {
+        return Err("an outline or image and a trace are wanted; see outline --help".into());
+    };
+    if file == "-" && trace_file == "-" {
+        return Err("standard input is one file: the image or the trace".into());
+    }
+    let subject = Subject::of(file)?;
+    let Some(image) = accepted(&subject.bytes) else {
+        return refused(&options, file, &subject);
+    };
+    let names = subject.names(&image.program);
+    let call = Call {
+        trace: trace_bytes(trace_file, &names)?,
+        given: given_bytes(&options, &image.program, &names)?,
+        entries: options.entries.unwrap_or(MOST_WRITES),
+    };
+    let replayed = call.replayed(&subject.bytes, &image.program)?;
+    let told = Told::of(&image.program, &names, &call, &replayed);
+    if let Some(target) = &options.target {
+        write(target, (told.drawn()?.written() + "\n").as_bytes())?;
+    }
+    let text = if options.json { told.json(file) } else { told.lines().join("\n") };
+    tell(&options, &(text + "\n"))?;
+    Ok(if replayed.code == 0 { Status::Accepted } else { Status::Refused })
+}
+
+/// What a call is given besides the image.
+struct Call {
+    trace: Vec<u8>,
+    given: Vec<u8>,
+    entries: usize,
+}
+
+impl Call {
+    /// The replay, of which answer and table have to be the independent ones.
+    fn replayed(&self, image: &[u8], program: &Program) -> Result<Replay, String> {
+        let (mut table, mut answer) = (vec![0; self.entries * WRITE_BYTES], [0; ANSWER]);
+        let code = replay(image, &self.trace, &self.given, &mut table, &mut answer);
+        let expected = replayed(Some(program), &self.trace, &self.given, self.entries);
+        let (mut other_table, mut other) = (vec![0; table.len()], [0; ANSWER]);
+        let other_code = expected.put(&mut other_table, &mut other);
+        if (code, answer, table) != (other_code, other, other_table) {
+            return Err(format!("the replays disagree: {code} {answer:?}, {other_code} {other:?}"));
+        }
+        Ok(expected)
+    }
+}
+
+/// The bytes of a trace, or those that its text stands for. Threads are few, so bytes have one that no text has.
+fn trace_bytes(file: &str, names: &Names) -> Result<Vec<u8>, String> {
+    let mut bytes = Vec::new();
+    let read = match file {
+        "-" => std::io::stdin().lock().read_to_end(&mut bytes),
+        _ => std::fs::File::open(file).and_then(|mut f| f.read_to_end(&mut bytes)),
+    };
+    read.map_err(|e| format!("{}: {e}", called(file)))?;
+    if bytes.iter().any(|&byte| byte < b'\t') {
+        return Ok(bytes);
+    }
+    let text = String::from_utf8(bytes).map_err(|_| format!("{}: no trace", called(file)))?;
+    trace(names, &text).map_err(|all| mistakes(file, &text, &all))
+}
+
+/// The bytes of registers, which have to be open.
+fn given_bytes(options: &Options, program: &Program, names: &Names) -> Result<Vec<u8>, String> {
+    let text = options.given.as_deref().unwrap_or_default();
+    let bytes = given(names, text).map_err(|text| format!("--given: {text}"))?;
+    let closed = (1..).zip(&bytes).find(|(r, &byte)| byte != 0 && program.header.is_cleared(*r));
+    match closed {
+        Some((r, _)) => Err(format!("--given: `{}` starts at 0", names.register(r))),
+        None => Ok(bytes),
+    }
+}
+
+/// A replay with what is needed to tell it.
+struct Told<'a> {
+    program: &'a Program,
+    names: &'a Names,
+    call: &'a Call,
+    replay: &'a Replay,
+    run: Run,
+    /// The steps as they are told.
+    steps: Vec<String>,
+    end: State,
+}
+
+impl<'a> Told<'a> {
+    fn of(program: &'a Program, names: &'a Names, call: &'a Call, replay: &'a Replay) -> Told<'a> {
+        let pairs = call.trace.chunks_exact(2).take(replay.steps);
+        let steps = pairs.map(|pair| Step { thread: pair[0], position: pair[1].into() });
+        let run = Run { start: start(&program.header, &call.given), steps: steps.collect() };
+        let (steps, end) = run::steps(program, names, &run);
+        Told { program, names, call, replay, run, steps, end }
+    }
+
+    /// The steps, the state reached, and how the run ended.
+    fn lines(&self) -> Vec<String> {
+        let table = run::table(self.names, &self.end, &self.replay.writes);
+        self.steps.iter().cloned().chain(table).chain([self.points(), self.ended()]).collect()
+    }
+
+    fn points(&self) -> String {
+        let points = self.names.threads.iter().zip(&self.end.points);
+        let all: Vec<String> =
+            points.map(|(name, point)| format!("{name} at point {point}")).collect();
+        format!("     {}", all.join(", "))
+    }
+
+    fn ended(&self) -> String {
+        let taken = counted(self.run.steps.len(), "step");
+        if self.replay.code == 0 {
+            return format!("the trace ended after {taken}   ({REPLAYER})");
+        }
+        let rest = &self.call.trace[2 * self.replay.steps..];
+        let why = refusal(self.program, self.names, &self.end, rest, self.call.entries);
+        format!("REFUSED after {taken} (code {}): {why}   ({REPLAYER})", self.replay.code)
+    }
+
+    fn drawn(&self) -> Result<Element, String> {
+        if self.run.steps.len() > MOST_DRAWN {
+            return Err(format!("a drawing has at most {MOST_DRAWN} steps"));
+        }
+        let ending = Ending::Outcome(self.points().trim().into());
+        let Told { program, names, run, .. } = self;
+        Ok(Picture { program, names, run, ending }.svg())
+    }
+
+    fn json(&self, file: &str) -> String {
+        let numbers = |all: &[u8]| json::list(all.iter().map(u8::to_string));
+        let entry = |write| numbers(&entry_bytes(write));
+        json::object(&[
+            ("file", json::text(called(file))),
+            ("code", self.replay.code.to_string()),
+            ("steps", self.replay.steps.to_string()),
+            ("points", numbers(&self.replay.points)),
+            ("registers", numbers(&self.replay.registers)),
+            ("table", json::list(self.replay.writes.iter().map(entry))),
+            ("told", json::texts(&self.lines())),
+            ("replayer", json::text(REPLAYER)),
+        ])
+    }
+}
+
+/// Says why nothing is replayed, with the verdict.
+fn refused(options: &Options, file: &str, subject: &Subject) -> Done {
+    let said = words::verdict(&judge(&subject.bytes), subject.source(), subject.claims());
+    let said = format!("NOT REPLAYED (code {NOT_ACCEPTED}): {said}");
+    let text = if options.json {
+        let all = [
+            ("file", json::text(called(file))),
+            ("code", NOT_ACCEPTED.to_string()),
+            ("told", json::texts(&[said])),
+            ("replayer", json::text(REPLAYER)),
+        ];
+        json::object(&all)
+    } else {
+        format!("{}: {said}   ({REPLAYER})", called(file))
+    };
+    print(text + "\n")?;
+    Ok(Status::Refused)
+}
+
+/// Words go to standard output, unless the drawing goes there.
+fn tell(options: &Options, text: &str) -> Result<(), String> {
+    if options.target.as_deref() != Some("-") {
+        return print(text);
+    }
+    eprint!("{text}");
+    Ok(())
+}
