@@ -6,7 +6,9 @@
  * So any number of threads may call it at once. It needs 58 KB of stack on the smallest image; the most that was measured,
  * over all stored images, is 136 KB. Give it 192 KB. `trim_image` is in libtrimming.a (`rt staticlib trimming`) and takes 44 KB more:
  * give it 256 KB. `bill_image` is in libbilling.a (`rt staticlib billing`) and takes 5 KB more. `replay_trace` is in
- * libreplaying.a (`rt staticlib replaying`) and takes 50 KB more than `check_image`. The four may be linked together.
+ * libreplaying.a (`rt staticlib replaying`) and takes 50 KB more than `check_image`. `check_handover` is in
+ * libhandover.a (`rt staticlib handover`), `replay_handover` in libreplay_across.a (`rt staticlib replay_across`). All may be
+ * linked together.
  */
 #ifndef HIDOKPALU_H
 #define HIDOKPALU_H
@@ -109,7 +111,10 @@ enum hidokpalu_further_code {
     HIDOKPALU_STEP_PICK = 28,     /* replay_trace: the step's position is not permitted */
     HIDOKPALU_STEP_ROOM = 29,     /* replay_trace: no entry is left for a write */
     HIDOKPALU_BILL_REFUSED = 30,  /* bill_image: the image is not accepted */
-    HIDOKPALU_BILL_END = 31       /* bill_image: the number of billed images is at its end */
+    HIDOKPALU_BILL_END = 31,      /* bill_image: the number of billed images is at its end */
+    HIDOKPALU_UNLIKE = 32,        /* check_handover, replay_handover: an image is not accepted, or the two are unlike */
+    HIDOKPALU_TABLE = 33,         /* the same: the table is too short, too long or somewhere out of range */
+    HIDOKPALU_UNSERVED = 34       /* the same: a named line does not serve */
 };
 
 /*
@@ -194,6 +199,52 @@ enum hidokpalu_write_at {
 uint16_t replay_trace(const uint8_t *image, size_t image_len, const uint8_t *trace, size_t trace_len,
                       const uint8_t *given, size_t given_len, uint8_t *table, size_t table_len, size_t *answer,
                       size_t answer_len);
+
+/* The bytes of an entry of a handover table, and where each number stands in it. */
+#define HIDOKPALU_HANDOVER_BYTES 3
+enum hidokpalu_handover_at {
+    HIDOKPALU_HANDOVER_POINT = 0, /* the new point */
+    HIDOKPALU_HANDOVER_LINE = 1   /* the line of the new image, 16 bits, low byte first */
+};
+
+/*
+ * Permits or refuses new code without a restart: from the old image to the new one, by a table with an entry for each old
+ * point, threads in order, last points too.
+ *
+ * - HIDOKPALU_UNLIKE: `check_image` does not accept one of the images, or the bodies of their header records differ
+ *   (threads, words, registers, range, start values, owners, start marks). How many points a thread has may differ.
+ * - HIDOKPALU_TABLE: the table has another length than HIDOKPALU_HANDOVER_BYTES for each old point, or anywhere a new
+ *   point that its thread does not have in the new image, or a line that the new image does not have, 0 too.
+ * - HIDOKPALU_UNSERVED, after every HIDOKPALU_TABLE: for some old point the line is no justified implication of the new
+ *   image whose left formula has the bytes of the old point's assertion and whose right formula those of the new point's.
+ * - 0: the handover is permitted. After every list of steps of the old program, the handover (the same memory, views and
+ *   registers, each point as the table has it) and every list of steps of the new program, refused ones among them, each
+ *   thread's assertion at its point in the new image is true.
+ *
+ * Lines that only a table names rest under no obligation, so trim_image drops them. The caller sees to the pointers as above.
+ */
+uint16_t check_handover(const uint8_t *old_image, size_t old_len, const uint8_t *new_image, size_t new_len,
+                        const uint8_t *table, size_t table_len);
+
+/*
+ * Replays a trace on the machine of the old image, hands over by the table `points`, and goes on with a second trace on
+ * the machine of the new image, with the same memory, views and registers. Answer and table are as of replay_trace, the
+ * registers given too; HIDOKPALU_SHORT_OUTPUT comes first.
+ *
+ * - HIDOKPALU_UNLIKE, HIDOKPALU_TABLE, HIDOKPALU_UNSERVED as of check_handover: the table stays, the answer's numbers are 0.
+ * - HIDOKPALU_STEP_ROOM before any step: as of replay_trace, on the old image.
+ * - a step refused in the first trace: its code, the steps so far, the old points, the state reached. The second trace is
+ *   not looked at.
+ * - else the second trace under the new code from the new points, an empty one too: its code, the steps of both traces,
+ *   the state reached.
+ *
+ * In each state on the way under the old code each thread's old assertion at its point is true, in each under the new code
+ * its new one. The caller sees to the pointers as above; no two of the eight overlap.
+ */
+uint16_t replay_handover(const uint8_t *old_image, size_t old_len, const uint8_t *new_image, size_t new_len,
+                         const uint8_t *points, size_t points_len, const uint8_t *first, size_t first_len,
+                         const uint8_t *second, size_t second_len, const uint8_t *given, size_t given_len,
+                         uint8_t *table, size_t table_len, size_t *answer, size_t answer_len);
 
 #ifdef __cplusplus
 }

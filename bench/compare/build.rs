@@ -4,8 +4,13 @@
 use std::path::Path;
 
 /// Archives that may be missing, and what the program is told if they are there.
-const FURTHER: [(&str, &str); 3] =
-    [("trimming", "proved_trim"), ("billing", "proved_bills"), ("replaying", "proved_replay")];
+const FURTHER: [(&str, &str); 5] = [
+    ("trimming", "proved_trim"),
+    ("billing", "proved_bills"),
+    ("replaying", "proved_replay"),
+    ("handover", "proved_handover"),
+    ("replay_across", "proved_across"),
+];
 
 fn main() {
     let here = std::env::var("CARGO_MANIFEST_DIR").expect("cargo sets it");

@@ -4,8 +4,12 @@
 use std::path::Path;
 
 /// Archives that may be missing, and what the program is told if they are there.
-const FURTHER: [(&str, &str); 3] =
-    [("trimming", "proved_trim"), ("billing", "proved_bills"), ("replaying", "proved_replay")];
+const FURTHER: [(&str, &str); 4] = [
+    ("trimming", "proved_trim"),
+    ("billing", "proved_bills"),
+    ("replaying", "proved_replay"),
+    ("handover", "proved_handover"),
+];
 
 fn main() {
     for (_, told) in FURTHER {

@@ -10,7 +10,7 @@ use proved::Replay;
 use std::process::ExitCode;
 
 const USAGE: &str = "\
-usage: compare compare|trim|bill|replay N [SEED] | files|trim-files|bill-files|replay-files PATH... |
+usage: compare compare|trim|bill|replay|handover N [SEED] | files|trim-files|bill-files|replay-files PATH... |
                bench|trim-bench [IMAGE...] | replay-bench | images FOLDER | startup PROGRAM IMAGE";
 
 fn main() -> ExitCode {
@@ -21,6 +21,9 @@ fn main() -> ExitCode {
         ["trim", ref numbers @ ..] => trimming().and_then(|task| compare(&task, numbers)),
         ["bill", ref numbers @ ..] => billing().and_then(|task| compare(&task, numbers)),
         ["replay", ref numbers @ ..] => replaying().and_then(|_| compare(&driver::REPLAY, numbers)),
+        ["handover", ref numbers @ ..] => {
+            linked(proved::HANDOVER.is_some(), "handover").and_then(|()| handovers(numbers))
+        }
         ["files", ref paths @ ..] => Ok(driver::files(&driver::CHECK, paths)),
         ["trim-files", ref paths @ ..] => trimming().map(|task| driver::files(&task, paths)),
         ["bill-files", ref paths @ ..] => billing().map(|task| driver::files(&task, paths)),
@@ -46,10 +49,19 @@ fn main() -> ExitCode {
 
 /// Compares on so many generated images, from seed 1 or from the one given; an error is wrong use.
 fn compare(task: &Task, numbers: &[&str]) -> Result<bool, String> {
+    count_and_seed(numbers).map(|(images, seed)| driver::run(task, images, seed))
+}
+
+/// The same on so many pairs of images.
+fn handovers(numbers: &[&str]) -> Result<bool, String> {
+    count_and_seed(numbers).map(|(pairs, seed)| driver::handover::run(pairs, seed))
+}
+
+fn count_and_seed(numbers: &[&str]) -> Result<(u64, u64), String> {
     let numbers: Option<Vec<u64>> = numbers.iter().map(|text| text.parse().ok()).collect();
     match numbers.as_deref() {
-        Some(&[images]) => Ok(driver::run(task, images, 1)),
-        Some(&[images, seed]) => Ok(driver::run(task, images, seed)),
+        Some(&[count]) => Ok((count, 1)),
+        Some(&[count, seed]) => Ok((count, seed)),
         _ => Err(USAGE.into()),
     }
 }

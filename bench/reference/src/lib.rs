@@ -8,6 +8,7 @@ pub mod bill;
 pub mod checker;
 pub mod explore;
 pub mod formula;
+pub mod handover;
 pub mod image;
 pub mod machine;
 pub mod proof;

@@ -58,7 +58,7 @@ stands-locals m s st g q = record {
 }
 
 -- a second half that there is: its register is there
-second-register : (z : Sizes) (i : Instruction) → twofold (i .operation) ≡ true → secondFits z i ≡ true
+pub second-register : (z : Sizes) (i : Instruction) → twofold (i .operation) ≡ true → secondFits z i ≡ true
     → (1 ≤ i .second .a) × (i .second .a ≤ z .registers)
 unfolding secondFits halfFits
 second-register z i t e =

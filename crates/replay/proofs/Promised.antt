@@ -39,7 +39,7 @@ same-content : (D E : Image) → read D ≡ read E → D ≡ E
 same-content D E e = cc
 
 -- demand 3, of what the image says
-every : (s : List ℕ) (z : Sizes) → acceptance s ≡ Granted z → EveryRun (programOf z (bodies s)) (outlineOf z (bodies s))
+pub every : (s : List ℕ) (z : Sizes) → acceptance s ≡ Granted z → EveryRun (programOf z (bodies s)) (outlineOf z (bodies s))
 unfolding codeFor fieldsOf gathered
 every s z e =
     let g = granted-holds s z e in

@@ -32,7 +32,7 @@ pub struct Replayed {
 }
 
 // How many entries are used at most, of so many lent.
-fn room_of(lent: usize) -> usize
+pub fn room_of(lent: usize) -> usize
     ensures { λ r. ⌜ r ≡ roomOf lent ⌝ }
 {
     if lent < Table::MOST {

@@ -9,17 +9,15 @@ use lib.Dec.{T, eqb, leb, leb→le, ltb→lt}
 use lib.ListN.{length, getD, drop, length-take}
 use borrow.Author.Tests.{lt-leb}
 use Rattle.logic.specs.Base.{upd, Within}
-use Rattle.logic.specs.Opcode as Opcode
 use Rattle.logic.specs.Machine.{State, Program, Step, Mode.store, Mode.swap, Mode.exchange, Mode.fetchAdd, Access.none, Access.load, Access.write, Instr, Instr.act, Instr.branch, exec, instrAt, permitted, step, run, begin}
 use Rattle.logic.proofs.Base.{is-true, upd-other, and-left, and-right}
 use Rattle.limits.specs.Numbers.{nth, within}
-use Rattle.limits.proofs.Inverse.{and-true, within-true}
 use Rattle.frames.specs.Records.{bodies}
 use Rattle.program.specs.declared.sizes.Sizes.{Sizes}
 use Rattle.program.specs.declared.instruction.Half.{Half}
 use Rattle.program.specs.declared.instruction.Instruction.{Instruction}
 use Rattle.program.specs.Header.{wordCount, registerCount, marks, cleared}
-use Rattle.program.specs.Instruction.{twofold, fieldsOf, halfFits, differ, secondFits, ranged}
+use Rattle.program.specs.Instruction.{twofold, fieldsOf, ranged}
 use Rattle.program.specs.Thread.{lastPoint}
 use Rattle.records.specs.Places.{instructionOf}
 use Rattle.image.specs.Decode.{sizesOf}
@@ -27,6 +25,7 @@ use Rattle.content.specs.Program.{instr, programOf}
 use Rattle.content.proofs.Checked.{Checks}
 use Rattle.content.proofs.Program.{made, fields-in, ranged-both, none-above, body}
 use Rattle.content.proofs.Trees.{fields-there}
+use Rattle.machine.proofs.Instructions.{second-register}
 
 -- a step that is not refused
 module _ (P : Program) (s : State) (m : Step) where
@@ -64,16 +63,6 @@ module _ (P : Program) (s : State) (t p v : ℕ) (other : v ≢ t) where
 pub absent-point : (P : Program) (v : ℕ) → P .threads < v → (l : List Step) (s : State) → s .point v ≡ 0 → run P s l .point v ≡ 0
 absent-point P v h = run-keeps P (λ (s : State). s .point v ≡ 0)
     (λ s m w more q. point-other P s (m .thread) (m .position) v (λ (e : v ≡ m .thread). omega (arith, w .1)) (instrAt P s (m .thread)) ∙ q)
-
--- a second half that there is: its register is there
-second-register : (z : Sizes) (i : Instruction) → twofold (i .operation) ≡ true → secondFits z i ≡ true → (1 ≤ i .second .a) × (i .second .a ≤ z .registers)
-unfolding secondFits halfFits
-second-register z i t e =
-    let h : Half = i .second in
-    let y : Bool = within 0 0 (h .b) && within 1 (z .formulas) (h .formula) in
-    let w : Bool = within 1 (z .registers) (h .a) && y in
-    let g = and-true (within Opcode.assign Opcode.assign (h .operation) && w) (differ i) (rw t at e) in
-    within-true 1 (z .registers) (h .a) (and-true (within 1 (z .registers) (h .a)) y (and-true (within Opcode.assign Opcode.assign (h .operation)) w (g .0) .1) .0)
 
 module _ (b : List ℕ) (z : Sizes) (c : Checks z (bodies b)) (r : ℕ) (past : z .registers < r) where
   abbrev l : List (List ℕ)
@@ -135,5 +124,8 @@ module _ (b : List ℕ) (z : Sizes) (c : Checks z (bodies b)) (r : ℕ) (past : 
   pub first-register : (given : ℕ → ℕ) → begin P given .reg r ≡ 0
   first-register given = ap (λ (x : Bool). cond x 0 (given r % P .range)) cleared-past
 
+  pub register-kept : (m : List Step) (s : State) → s .reg r ≡ 0 → run P s m .reg r ≡ 0
+  register-kept m s q = run-keeps P (λ (s : State). s .reg r ≡ 0) step-kept m s q
+
   pub absent-register : (given : ℕ → ℕ) (m : List Step) → run P (begin P given) m .reg r ≡ 0
-  absent-register given m = run-keeps P (λ (s : State). s .reg r ≡ 0) step-kept m (begin P given) (first-register given)
+  absent-register given m = register-kept m (begin P given) (first-register given)

@@ -47,7 +47,7 @@ use Rattle.replay.proofs.Following.{Ready, range-is, total-used}
 use Rattle.replay.proofs.Followed.{follows}
 use Rattle.replay.proofs.Begun.{begun}
 use Rattle.replay.proofs.Tables.{entries-length, table-stands}
-use Rattle.replay.proofs.Promised.{follows-run}
+use Rattle.replay.proofs.Promised.{every, follows-run}
 use Rattle.replaying.specs.Answer as Answered
 use Rattle.replaying.specs.Answer.{size, answerOf, numbersOf, numbersFor}
 use Rattle.replaying.specs.Table.{shownIn, shownOf, shownBy, putTo, entriesIn, laid, tableFor}
@@ -61,11 +61,8 @@ use Rattle.replaying.proofs.Plain.{plain-true}
 use Rattle.replaying.proofs.Room.{fits, used-first}
 use Rattle.replaying.proofs.Ways.{room-least, shown-are, put-placed}
 
-same-content : (D E : Image) → read D ≡ read E → D ≡ E
-same-content D E e = cc
-
 -- the writes of a state, all of them shown
-table-is : (P : Program) (m : Memory) (s : State) → Stands m s → Wf P s → P .words ≤ 8 → (lent : ℕ) → used s (P .words) ≤ roomOf lent → TableStands (P .words) (shownIn m (P .words) lent) s
+pub table-is : (P : Program) (m : Memory) (s : State) → Stands m s → Wf P s → P .words ≤ 8 → (lent : ℕ) → used s (P .words) ≤ roomOf lent → TableStands (P .words) (shownIn m (P .words) lent) s
 unfolding shownIn
 table-is P m s st wf few lent room =
     let n : total m (P .words) ≡ used s (P .words) = total-used m s st (P .words) few in
@@ -101,16 +98,6 @@ module _ (s : List ℕ) (z : Sizes) (e : acceptance s ≡ Granted z) (trace give
 
   c : Checks z (bodies s)
   c = sound-checks s z (granted-holds s z e .sound)
-
-  -- demand 3, of what the image says
-  every : EveryRun P O
-  unfolding codeFor fieldsOf gathered
-  every =
-      let g = granted-holds s z e in
-      let b : List ℕ = replicate 22 0 in
-      let v = Accepted (g .count) in
-      let t : TrueInEveryRun s = Checker.promised s b v (codeFor v b) (bytesFor v b) (sym (g .verdict)) refl refl .accepted refl in
-      subst (λ (D : Image). EveryRun (D .program) (D .outline)) (same-content (t .content) (imageOf z (bodies s)) (sym (t .says) ∙ g .says)) (t .holds)
 
   starts : Start P first
   starts = begins P (omega (arith, range-two z (bodies s) c)) (λ r. nth given r 0)
@@ -170,7 +157,7 @@ module _ (s : List ℕ) (z : Sizes) (e : acceptance s ≡ Granted z) (trace give
       answer = answer;
       table = table;
       fits = omega (arith, table .many, full);
-      on-the-way = λ k h. every .holds first starts (take k (stepsIn trace));
+      on-the-way = λ k h. every s z e .holds first starts (take k (stepsIn trace));
       holds = f .holds;
       plain = plain;
     }

@@ -224,13 +224,17 @@ module _ (r : Replayed) (lent : ℕ) where
   pub count-none : r .held ≡ false → 0 ≡ length (shownOf r lent)
   count-none h = rw (stays-is h)
 
-  pub shown-made : (q : Replayed) (p : Packed) (a : Answer) (n : ℕ) → q ≡ r → p ≡ packed (q .machine .memory) (q .words) → a ≡ answerOf q → n ≡ length (shownOf q lent)
+  pub shown-made : (p : Packed) (a : Answer) (n : ℕ) → p ≡ packed (r .machine .memory) (r .words) → a ≡ answerOf r → n ≡ length (shownOf r lent)
       → record { answer = a; count = n; writes = p .writes } ≡ shownBy r lent
   unfolding shownBy
-  shown-made q p a n eq ep ea en = rw (ep, ea, en, eq)
+  shown-made p a n ep ea en = rw (ep, ea, en)
 
-  pub shown-whole : (q : Replayed) (p : Packed) → p ≡ packed (q .machine .memory) (q .words) → length (p .writes) ≡ 64
-  shown-whole q p ep = rw ep (packed-length (q .machine .memory) (q .words))
+  pub shown-whole : (p : Packed) → p ≡ packed (r .machine .memory) (r .words) → length (p .writes) ≡ 64
+  shown-whole p ep = rw ep (packed-length (r .machine .memory) (r .words))
+
+  -- of a replay that is another's equal
+  pub shown-same : (q : Replayed) (s : Shown) → q ≡ r → s ≡ shownBy q lent → s ≡ shownBy r lent
+  shown-same q s eq es = es ∙ ap (λ (x : Replayed). shownBy x lent) eq
 
   -- the first writes are those that the table is given
   pub shown-are : take (shownBy r lent .count) (shownBy r lent .writes) ≡ shownOf r lent

@@ -48,12 +48,10 @@ fn count_of(r: Replayed, lent: usize) -> usize
     0
 }
 
-// A replay with so many entries lent.
-pub fn shown_of<'a, 'b, 'c>(image: &'a [u8], trace: &'b [u8], given: &'c [u8], lent: usize) -> Shown
-    ensures { λ s. ⌜ (s ≡ shownBy (replayOf (now (image .entry)) (now (trace .entry)) (now (given .entry)) lent) lent)
-        × ((s .count ≤ min lent 64) × (length (s .writes) ≡ 64)) ⌝ }
+// What is shown of a replay with so many entries lent.
+pub fn shown_by(r: Replayed, lent: usize) -> Shown
+    ensures { λ s. ⌜ (s ≡ shownBy r lent) × ((s .count ≤ min lent 64) × (length (s .writes) ≡ 64)) ⌝ }
 {
-    let r = replay(image, trace, given, lent);
     let n = r.machine;
     let m = n.memory;
     let p = pack(m, r.words);
@@ -63,4 +61,12 @@ pub fn shown_of<'a, 'b, 'c>(image: &'a [u8], trace: &'b [u8], given: &'c [u8], l
         count: count_of(r, lent),
         writes,
     }
+}
+
+// A replay with so many entries lent.
+pub fn shown_of<'a, 'b, 'c>(image: &'a [u8], trace: &'b [u8], given: &'c [u8], lent: usize) -> Shown
+    ensures { λ s. ⌜ (s ≡ shownBy (replayOf (now (image .entry)) (now (trace .entry)) (now (given .entry)) lent) lent)
+        × ((s .count ≤ min lent 64) × (length (s .writes) ≡ 64)) ⌝ }
+{
+    shown_by(replay(image, trace, given, lent), lent)
 }

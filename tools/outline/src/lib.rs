@@ -1,14 +1,16 @@
 //! Readable proof outlines to images of Hidokpalu, and back.
 //!
 //! `text` reads sources and writes texts, `search` finds certificate lines, `build` and `explicit`
-//! put images together, `gallery` makes the tables of the examples, `report` and `draw` make pages and
-//! drawings. What an image is and which lines are justified is the library `reference`'s.
+//! put images together, `handover` finds the table of a handover, `gallery` makes the tables of the
+//! examples, `report` and `draw` make pages and drawings. What an image is and which lines are justified
+//! is the library `reference`'s.
 
 pub mod build;
 pub mod command;
 pub mod draw;
 pub mod explicit;
 pub mod gallery;
+pub mod handover;
 pub mod image;
 pub mod judged;
 pub mod markup;

@@ -1,7 +1,9 @@
-//! The program `outline`: builds, judges, shows, explains, explores, draws, trims, bills and replays proof outlines.
+//! The program `outline`: builds, judges, shows, explains, explores, draws, trims, bills, replays and hands over proof
+//! outlines.
 
 use outline::command::{
-    bill, build, check, draw, explain, explore, print, replay, report, show, trim, Done, Status,
+    bill, build, check, draw, explain, explore, handover, print, replay, report, show, trim, Done,
+    Status,
 };
 use std::process::ExitCode;
 
@@ -21,8 +23,11 @@ outline trim FILE -o FILE.image                                an accepted image
 outline bill FILE|FOLDER.. --tariff TARIFF [--billed N]        what the checks cost in cents, by thread and together
 outline replay FILE TRACE [--given \"a = 1, b = 0\"] [--entries N] [-o FILE.svg]
                                                                the steps of a trace, run on an accepted image's machine
+outline handover OLD NEW -o FILE.image --table TABLE [--map THREAD.POINT=POINT]..
+                                                               new code without a restart: finds a line for each old point
+outline handover OLD NEW --table TABLE                         judges a table that is there
 
-FILE is an outline or an image; `-` is standard input, behind -o standard output. All take --json.
+FILE, OLD and NEW are outlines or images; `-` is standard input, behind -o standard output. All take --json.
   --partial   writes an image with open obligations and claims too
   --all       tells all open obligations and claims in full
   --all-lines writes every line that the search found, dead ones too
@@ -33,6 +38,8 @@ FILE is an outline or an image; `-` is standard input, behind -o standard output
   --billed    how many images are billed already (0)
   --given     what open registers hold at the start (0)
   --entries   room for so many writes (64)
+  --table     for each old point a new point and a line of the new image, three bytes
+  --map       where an old point goes on, points by number or label; the others are proposed
 Status: 0 accepted, true or never; 1 refused, open, false or happens; 2 wrong use, or a file that cannot be read or written.
 ";
 
@@ -50,6 +57,7 @@ fn main() -> ExitCode {
         ["trim", rest @ ..] => trim::run(rest),
         ["bill", rest @ ..] => bill::run(rest),
         ["replay", rest @ ..] => replay::run(rest),
+        ["handover", rest @ ..] => handover::run(rest),
         ["--help" | "-h" | "help"] => said(HELP),
         ["--version"] => said(concat!("outline ", env!("CARGO_PKG_VERSION"), "\n")),
         _ => Err(format!("usage:\n{HELP}").trim_end().into()),

@@ -2,6 +2,7 @@
 
 mod bill;
 mod check;
+pub mod handover;
 mod replay;
 mod sources;
 mod tally;

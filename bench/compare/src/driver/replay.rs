@@ -7,6 +7,7 @@ use reference::checker::accepted;
 use reference::replay::{replayed, room};
 use sets::generate::random::Random;
 use sets::generate::traces::{self, Call};
+use std::fmt::Debug;
 
 /// The replay of a trace.
 pub const REPLAY: Task =
@@ -20,8 +21,8 @@ const NUMBERS_BEHIND: usize = 8;
 
 /// What a call returned and left in its buffers and behind them.
 #[derive(Clone, Debug, PartialEq, Eq)]
-struct Left {
-    code: u16,
+pub(super) struct Left {
+    pub(super) code: u16,
     table: Vec<u8>,
     answer: Vec<usize>,
 }
@@ -48,7 +49,7 @@ fn compare(image: &[u8], seed: u64, tally: &mut Tally) -> Result<(), String> {
 }
 
 /// Buffers with room behind what is lent, all filled.
-fn before(random: &mut Random, call: &Call) -> Left {
+pub(super) fn before(random: &mut Random, call: &Call) -> Left {
     let table = (0..call.table + BYTES_BEHIND).map(|_| random.draw() as u8).collect();
     let answer = (0..call.numbers + NUMBERS_BEHIND).map(|_| random.draw() as usize).collect();
     Left { code: 0, table, answer }
@@ -56,13 +57,13 @@ fn before(random: &mut Random, call: &Call) -> Left {
 
 impl Left {
     /// What is lent of the buffers.
-    fn lent(&mut self, call: &Call) -> (&mut [u8], &mut [usize]) {
+    pub(super) fn lent(&mut self, call: &Call) -> (&mut [u8], &mut [usize]) {
         (&mut self.table[..call.table], &mut self.answer[..call.numbers])
     }
 }
 
 /// The call, both answers, and the first byte of the tables that differs.
-fn difference(call: &Call, proved: &Left, independent: &Left) -> String {
+pub(super) fn difference(call: &impl Debug, proved: &Left, independent: &Left) -> String {
     let mut bytes = proved.table.iter().zip(&independent.table);
     let byte = match bytes.position(|(one, other)| one != other) {
         None => "both tables are the same".into(),

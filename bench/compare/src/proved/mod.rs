@@ -2,11 +2,13 @@
 
 mod bills;
 mod check;
+mod handover;
 mod replay;
 mod trim;
 
 pub use bills::BILL;
 pub use check::check_into;
+pub use handover::{ACROSS, HANDOVER};
 pub use replay::REPLAY;
 pub use trim::TRIM;
 
@@ -19,3 +21,7 @@ pub type Trim = fn(&[u8], &mut [u8]) -> Answer;
 pub type Bill = fn(&[u8], &Tariff, u32, &mut [u32]) -> u16;
 /// Replays a trace of an image, with registers given, into a table and an answer.
 pub type Replay = fn(&[u8], &[u8], &[u8], &mut [u8], &mut [usize]) -> u16;
+/// Judges a handover: old image, new image, table.
+pub type Handover = fn(&[u8], &[u8], &[u8]) -> u16;
+/// Replays two traces across a handover into a table and an answer.
+pub type Across = fn(&reference::handover::Across, &mut [u8], &mut [usize]) -> u16;

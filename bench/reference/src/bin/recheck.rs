@@ -2,7 +2,7 @@
 //!
 //! Usage: recheck FOLDER [SET...], where without a SET those that `vectors` writes are judged
 
-use reference::stored::{bills, formulas, images, replays, trims};
+use reference::stored::{bills, crossings, formulas, handovers, images, replays, trims};
 use std::path::Path;
 use std::process::ExitCode;
 
@@ -14,15 +14,21 @@ const FORMULAS: &str = "formula-bytes";
 const TRIMS: &str = "trim";
 const BILLS: &str = "bills";
 const REPLAYS: &str = "replay";
-const SETS: [&str; 7] = [FORMULAS, "formulas", "images", "rules", TRIMS, BILLS, REPLAYS];
+const HANDOVERS: &str = "handover";
+const CROSSINGS: &str = "across";
+const SETS: [&str; 9] =
+    [FORMULAS, "formulas", "images", "rules", TRIMS, BILLS, REPLAYS, HANDOVERS, CROSSINGS];
 
-/// A set of formulas, by the front of its name of images trimmed, billed or replayed, by any other name of images judged.
+/// A set of formulas; by the front of its name of images trimmed, billed, replayed, handed over or replayed across a
+/// handover; by any other name of images judged.
 fn judge_of(name: &str) -> Judge {
     match name {
         FORMULAS => formulas,
         _ if name.starts_with(TRIMS) => trims::judged,
         _ if name.starts_with(BILLS) => bills::judged,
         _ if name.starts_with(REPLAYS) => replays::judged,
+        _ if name.starts_with(HANDOVERS) => handovers::judged,
+        _ if name.starts_with(CROSSINGS) => crossings::judged,
         _ => images,
     }
 }

@@ -1,10 +1,12 @@
 //! Every order of steps up to a bound, with exact truth of each assertion.
 
+mod across;
 mod duties;
 mod search;
 mod show;
 pub mod truth;
 
+pub use across::{across, BreakAcross, FoundAcross};
 pub use duties::{find, seek, Run, Sought};
 pub use search::{explore, reachable, Bounds, Break, Cut, Fault, Found, Outcome};
 pub use show::describe;

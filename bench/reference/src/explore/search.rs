@@ -96,11 +96,7 @@ pub fn explore(program: &Program, claims: &[Meeting], bounds: Bounds) -> Found {
 /// Every state reached, whatever the outline says.
 pub fn reachable(program: &Program, bounds: Bounds) -> Vec<Rc<State>> {
     let mut search = Search::new(program, bounds);
-    let mut index = 0;
-    while index < search.nodes.len() {
-        search.expand(index);
-        index += 1;
-    }
+    search.exhaust(usize::MAX);
     search.nodes.into_iter().map(|node| node.state).collect()
 }
 
@@ -109,10 +105,20 @@ impl<'a> Search<'a> {
     pub(super) fn new(program: &'a Program, bounds: Bounds) -> Search<'a> {
         let starts = State::has_more_starts(&program.header, bounds.starts);
         let cut = Cut { starts, ..Cut::default() };
+        Search::from(program, bounds, State::starts(&program.header, bounds.starts), cut)
+    }
+
+    /// A search that has reached these states only.
+    pub(super) fn from(
+        program: &'a Program,
+        bounds: Bounds,
+        reached: impl IntoIterator<Item = State>,
+        cut: Cut,
+    ) -> Search<'a> {
         let (nodes, known) = (Vec::new(), HashSet::new());
         let mut search = Search { program, bounds, nodes, known, cut };
-        for start in State::starts(&program.header, bounds.starts) {
-            search.add(start, 0, None);
+        for state in reached {
+            search.add(state, 0, None);
         }
         search
     }
@@ -129,6 +135,16 @@ impl<'a> Search<'a> {
             index += 1;
         }
         None
+    }
+
+    /// Visits states, whatever the outline says, while they are not more than `most`; says whether all were visited.
+    pub(super) fn exhaust(&mut self, most: usize) -> bool {
+        let mut index = 0;
+        while index < self.nodes.len() && self.nodes.len() <= most {
+            self.expand(index);
+            index += 1;
+        }
+        index == self.nodes.len()
     }
 
     /// Adds a state unless a bound forbids it, which is noted.
@@ -150,7 +166,7 @@ impl<'a> Search<'a> {
     }
 
     /// The first thread whose assertion at its point is false in a state, else the first claim that is.
-    fn false_at(&self, index: usize, claims: &[Meeting]) -> Option<Fault> {
+    pub(super) fn false_at(&self, index: usize, claims: &[Meeting]) -> Option<Fault> {
         let state = &self.nodes[index].state;
         let mut places = (1..).zip(state.points.iter().copied());
         let broken = |&(thread, point): &(u8, u8)| {
@@ -162,7 +178,7 @@ impl<'a> Search<'a> {
     }
 
     /// Adds the states that one step more leads to, within the bounds.
-    fn expand(&mut self, index: usize) {
+    pub(super) fn expand(&mut self, index: usize) {
         let (state, depth) = (self.nodes[index].state.clone(), self.nodes[index].depth);
         let positions = state.rows.iter().map(Vec::len).max().unwrap_or(1);
         for thread in 1..=state.points.len() as u8 {

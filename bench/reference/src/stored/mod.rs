@@ -7,6 +7,8 @@
 //! range (a byte each), result and sort (16 bits each). All numbers are little-endian.
 
 pub mod bills;
+pub mod crossings;
+pub mod handovers;
 pub mod replays;
 pub mod trims;
 

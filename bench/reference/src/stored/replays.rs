@@ -21,8 +21,8 @@ pub struct Case<'a> {
 }
 
 /// What stands in a table and in an answer before the call.
-const BEFORE: u8 = 0xA5;
-const NUMBER_BEFORE: usize = 0xA5A5_A5A5;
+pub(super) const BEFORE: u8 = 0xA5;
+pub(super) const NUMBER_BEFORE: usize = 0xA5A5_A5A5;
 
 /// The cases of a container; none if it is cut short.
 pub fn cases(mut bytes: &[u8]) -> Option<Vec<Case<'_>>> {
@@ -67,7 +67,7 @@ impl Case<'_> {
 }
 
 /// Whether these are in front, and what was there before behind them.
-fn holds<T: Copy + PartialEq>(room: &[T], front: &[T], before: T) -> bool {
+pub(super) fn holds<T: Copy + PartialEq>(room: &[T], front: &[T], before: T) -> bool {
     let (start, behind) = room.split_at(front.len().min(room.len()));
     start == front && behind.iter().all(|&item| item == before)
 }

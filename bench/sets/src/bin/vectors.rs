@@ -3,7 +3,7 @@
 //! Usage: vectors FOLDER
 
 use sets::examples::{largest, message_passing, two_writes};
-use sets::vectors::{bills, formulas, images, replays, rules, store, trims};
+use sets::vectors::{bills, formulas, handovers, images, replays, rules, store, trims};
 use std::io::{Error, Result};
 use std::path::Path;
 
@@ -29,6 +29,10 @@ fn main() -> Result<()> {
     let replays = replays::cases();
     store::write(folder, "replay", store::replays(&replays))?;
     println!("replay: {} cases", replays.len());
+    let (handovers, crossings) = (handovers::cases(), handovers::crossings());
+    store::write(folder, "handover", store::handovers(&handovers))?;
+    store::write(folder, "across", store::crossings(&crossings))?;
+    println!("handover: {} cases\nacross: {} cases", handovers.len(), crossings.len());
     std::fs::write(folder.join("message-passing.image"), message_passing().bytes())?;
     std::fs::write(folder.join("two-writes.image"), two_writes().bytes())?;
     std::fs::write(folder.join("largest.image"), largest())?;

@@ -4,6 +4,7 @@ pub mod deep;
 mod largest;
 mod message_passing;
 mod two_writes;
+pub mod update;
 
 pub use largest::largest;
 pub use message_passing::message_passing;

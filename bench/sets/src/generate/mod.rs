@@ -4,6 +4,7 @@ mod claims;
 pub mod clutter;
 pub mod coverage;
 pub mod damage;
+pub mod handovers;
 pub mod harness;
 pub mod image;
 pub mod instances;

@@ -64,7 +64,7 @@ pub fn call(random: &mut Random, program: Option<&Program>) -> Call {
     let numbers = if random.chance(95) { ANSWER + random.below(4) } else { random.below(ANSWER) };
     let table = table(random);
     let trace = match program {
-        Some(program) => trace(random, program, &given),
+        Some(program) => trace(random, program, start(&program.header, &given)),
         None => noise(random, 8),
     };
     Call { trace, given, table, numbers }
@@ -83,15 +83,15 @@ fn table(random: &mut Random) -> usize {
     entries * WRITE_BYTES + tail
 }
 
-/// Permitted steps, then perhaps one that is not, and perhaps bytes that are not looked at then.
-fn trace(random: &mut Random, program: &Program, given: &[u8]) -> Vec<u8> {
+/// Permitted steps from a state, then perhaps one that is not, and perhaps bytes that are not looked at then.
+pub fn trace(random: &mut Random, program: &Program, state: State) -> Vec<u8> {
     let most = match random.below(10) {
         0 => 0,
         1..=5 => 1 + random.below(12),
         6..=8 => 20 + random.below(60),
         _ => 100 + random.below(150),
     };
-    let (mut trace, state) = permitted(random, program, given, most);
+    let (mut trace, state) = permitted_from(random, &program.threads, state, most);
     if random.chance(40) {
         trace.extend(stray(random, &program.header, &state));
         let behind = random.below(4);
@@ -111,11 +111,20 @@ pub fn permitted(
     given: &[u8],
     most: usize,
 ) -> (Vec<u8>, State) {
-    let mut state = start(&program.header, given);
+    permitted_from(random, &program.threads, start(&program.header, given), most)
+}
+
+/// The same from any state.
+pub fn permitted_from(
+    random: &mut Random,
+    threads: &[Thread],
+    mut state: State,
+    most: usize,
+) -> (Vec<u8>, State) {
     let late = random.below(100);
     let mut trace = Vec::new();
     while trace.len() < 2 * most {
-        let Some((step, next)) = one_step(random, &program.threads, &state, late) else {
+        let Some((step, next)) = one_step(random, threads, &state, late) else {
             break;
         };
         trace.extend([step.thread, step.position as u8]);
@@ -173,6 +182,6 @@ fn stray(random: &mut Random, header: &Header, state: &State) -> [u8; 2] {
 }
 
 /// Any bytes, at most so many.
-fn noise(random: &mut Random, most: usize) -> Vec<u8> {
+pub fn noise(random: &mut Random, most: usize) -> Vec<u8> {
     (0..random.below(most + 1)).map(|_| random.draw() as u8).collect()
 }

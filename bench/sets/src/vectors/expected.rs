@@ -1,15 +1,17 @@
 //! What the proved programs over stored sets write if no answer differs.
 
-use reference::stored::{bills, replays, stored_images, trims};
+use reference::stored::{bills, crossings, handovers, replays, stored_images, trims};
 
 /// The codes of the verdict table, but for the one of a short output, which no image has.
 const CODES: [u16; 14] = [0, 2, 3, 4, 5, 6, 7, 8, 9, 20, 21, 22, 23, 26];
 const TRIM_CODES: [u16; 3] = [0, 24, 25];
 const BILL_CODES: [u16; 4] = [0, 1, 30, 31];
 const REPLAY_CODES: [u16; 6] = [0, 1, 24, 27, 28, 29];
+const HANDOVER_CODES: [u16; 4] = [0, 32, 33, 34];
+const CROSSING_CODES: [u16; 8] = [0, 1, 27, 28, 29, 32, 33, 34];
 
-/// The line for a container, by its name of images trimmed, billed, replayed or judged, counted from what is stored; none
-/// if it is cut short.
+/// The line for a container, by its name of images trimmed, billed, replayed, handed over or judged, counted from what is
+/// stored; none if it is cut short.
 pub fn line(name: &str, bytes: &[u8]) -> Option<String> {
     let (codes, stored): (&[u16], Vec<u16>) = match name {
         _ if name.starts_with("trim") => {
@@ -20,6 +22,12 @@ pub fn line(name: &str, bytes: &[u8]) -> Option<String> {
         }
         _ if name.starts_with("replay") => {
             (&REPLAY_CODES, replays::cases(bytes)?.iter().map(|case| case.code).collect())
+        }
+        _ if name.starts_with("handover") => {
+            (&HANDOVER_CODES, handovers::cases(bytes)?.iter().map(|case| case.code).collect())
+        }
+        _ if name.starts_with("across") => {
+            (&CROSSING_CODES, crossings::cases(bytes)?.iter().map(|case| case.code).collect())
         }
         _ => (&CODES, stored_images(bytes)?.iter().map(|case| case.fields[0]).collect()),
     };

@@ -7,6 +7,7 @@ pub mod bills;
 pub mod edits;
 pub mod expected;
 pub mod formulas;
+pub mod handovers;
 pub mod images;
 mod nesting;
 pub mod precedence;

@@ -2,13 +2,17 @@
 
 use super::bills::BillCase;
 use super::formulas::FormulaCase;
+use super::handovers::{CrossingCase, HandoverCase};
 use super::replays::ReplayCase;
 use super::trims::TrimCase;
 use super::Case;
+use crate::generate::handovers::Crossing;
+use crate::generate::traces::Call;
 use reference::bill::{bill_into, Tariff, ANSWER};
 use reference::checker::{accepted, check};
 use reference::formula::parse::Counts;
-use reference::replay::{self, replayed, ANSWER_TOO_SHORT, WRITE_BYTES};
+use reference::handover::{check_handover, permitted, replayed_across, Traces};
+use reference::replay::{self, replayed, Replay, ANSWER_TOO_SHORT, WRITE_BYTES};
 use reference::stored::answer;
 use reference::trim::trim_into;
 use std::fmt::Write as _;
@@ -121,23 +125,57 @@ pub fn replays(cases: &[ReplayCase]) -> (Vec<u8>, String) {
         let program = accepted(image).map(|image| image.program);
         let room = replay::room(call.table);
         let replayed = replayed(program.as_ref(), &call.trace, &call.given, room);
-        let mut table = vec![0; call.table];
-        // Room for all numbers in any case: a short answer leaves them 0.
-        let mut answer = vec![0; call.numbers.max(replay::ANSWER)];
-        let code = replayed.put(&mut table, &mut answer[..call.numbers]);
-        let entries = if code == ANSWER_TOO_SHORT { 0 } else { replayed.writes.len() };
-        table.truncate(entries * WRITE_BYTES);
-        push_counted(&mut bytes, &[image, &call.trace, &call.given, &table[..]].concat());
-        let parts = [image, &call.trace, &call.given].map(Vec::len);
-        for length in parts.into_iter().chain([call.table, call.numbers]) {
-            push_length(&mut bytes, length);
-        }
+        let told = push_replay(&mut bytes, &[image, &call.trace, &call.given], call, &replayed);
+        let _ = writeln!(text, "{number}\t{label}\t{told}");
+    }
+    (bytes, text)
+}
+
+/// The container and the index of replays across a handover, told as replays are.
+pub fn crossings(cases: &[CrossingCase]) -> (Vec<u8>, String) {
+    let (mut bytes, mut text) = (Vec::new(), String::new());
+    for (number, CrossingCase { label, pair, crossing }) in (1..).zip(cases) {
+        let Crossing { call, second } = crossing;
+        let handover = permitted(&pair.old, &pair.new, &pair.table);
+        let traces = Traces { first: &call.trace, second, given: &call.given };
+        let replayed = replayed_across(handover.as_ref(), &traces, replay::room(call.table));
+        let parts = [&pair.old, &pair.new, &pair.table, &call.trace, second, &call.given];
+        let told = push_replay(&mut bytes, &parts, call, &replayed);
+        let _ = writeln!(text, "{number}\t{label}\t{told}");
+    }
+    (bytes, text)
+}
+
+/// Appends what a call was given, with the entries that it writes, and its answer; says what is lent, code and answer.
+fn push_replay(bytes: &mut Vec<u8>, parts: &[&Vec<u8>], call: &Call, replayed: &Replay) -> String {
+    let mut table = vec![0; call.table];
+    // Room for all numbers in any case: a short answer leaves them 0.
+    let mut answer = vec![0; call.numbers.max(replay::ANSWER)];
+    let code = replayed.put(&mut table, &mut answer[..call.numbers]);
+    let entries = if code == ANSWER_TOO_SHORT { 0 } else { replayed.writes.len() };
+    table.truncate(entries * WRITE_BYTES);
+    let given = parts.iter().flat_map(|part| part.iter());
+    push_counted(bytes, &given.chain(&table).copied().collect::<Vec<u8>>());
+    for length in parts.iter().map(|part| part.len()).chain([call.table, call.numbers]) {
+        push_length(bytes, length);
+    }
+    bytes.extend(code.to_le_bytes());
+    let answer = &answer[..replay::ANSWER];
+    answer.iter().for_each(|&number| push_length(bytes, number));
+    let numbers: Vec<String> = answer.iter().map(usize::to_string).collect();
+    format!("{} {} {code} {}", call.table, call.numbers, numbers.join(" "))
+}
+
+/// The container and the index of handovers: number, label, code of each.
+pub fn handovers(cases: &[HandoverCase]) -> (Vec<u8>, String) {
+    let (mut bytes, mut text) = (Vec::new(), String::new());
+    for (number, HandoverCase { label, pair }) in (1..).zip(cases) {
+        let code = check_handover(&pair.old, &pair.new, &pair.table);
+        push_counted(&mut bytes, &[&pair.old[..], &pair.new, &pair.table].concat());
+        push_length(&mut bytes, pair.old.len());
+        push_length(&mut bytes, pair.new.len());
         bytes.extend(code.to_le_bytes());
-        let answer = &answer[..replay::ANSWER];
-        answer.iter().for_each(|&number| push_length(&mut bytes, number));
-        let numbers: Vec<String> = answer.iter().map(usize::to_string).collect();
-        let (bytes, lent) = (call.table, call.numbers);
-        let _ = writeln!(text, "{number}\t{label}\t{bytes} {lent} {code} {}", numbers.join(" "));
+        let _ = writeln!(text, "{number}\t{label}\t{code}");
     }
     (bytes, text)
 }

@@ -1,7 +1,9 @@
 //! Labels that name a code agree with the verdict.
-use super::{bills, formulas, images, replays, rules, store, trims, Case};
+use super::{bills, formulas, handovers, images, replays, rules, store, trims, Case};
+use crate::examples::{message_passing, two_writes};
 use reference::checker::check;
 use reference::image::written::Written;
+use reference::replay::replayed;
 use reference::stored;
 use std::collections::BTreeMap;
 
@@ -42,8 +44,10 @@ fn labels_are_distinct() {
     let trims = trims::cases().into_iter().map(|case| case.label).collect();
     let bills = bills::cases().into_iter().map(|case| case.label).collect();
     let replays = replays::cases().into_iter().map(|case| case.label).collect();
-    let mut sets: [Vec<String>; 5] =
-        [labels(images::cases()), labels(rules::cases()), trims, bills, replays];
+    let handovers = handovers::cases().into_iter().map(|case| case.label).collect();
+    let crossings = handovers::crossings().into_iter().map(|case| case.label).collect();
+    let [images, rules] = [images::cases(), rules::cases()].map(labels);
+    let mut sets: [Vec<String>; 7] = [images, rules, trims, bills, replays, handovers, crossings];
     for labels in &mut sets {
         labels.sort_unstable();
         let twice = labels.windows(2).find(|pair| pair[0] == pair[1]);
@@ -110,5 +114,61 @@ fn replays_are_read_back() {
         assert!(named.is_none_or(|code| code == stored.code), "{}: {}", case.label, stored.code);
         let call = [&case.image, &case.call.trace, &case.call.given];
         assert_eq!(call.map(|part| &part[..]), [stored.image, stored.trace, stored.given]);
+    }
+}
+
+#[test]
+fn handovers_are_read_back() {
+    let all = handovers::cases();
+    let (bytes, text) = store::handovers(&all);
+    let cases = stored::handovers::cases(&bytes).expect("whole");
+    assert_eq!((cases.len(), text.lines().count()), (all.len(), all.len()));
+    let counts = by_code(cases.iter().map(|case| case.code));
+    let codes: Vec<u16> = counts.keys().copied().collect();
+    assert!(codes == [0, 32, 33, 34] && counts.values().all(|&n| n >= 30), "{counts:?}");
+    assert!(stored::handovers::judged(&bytes).expect("whole").iter().all(|&same| same));
+    assert!(stored::handovers::cases(&bytes[..bytes.len() - 1]).is_none());
+    for (case, stored) in all.iter().zip(&cases) {
+        let named = named_code(&case.label);
+        assert!(named.is_none_or(|code| code == stored.code), "{}: {}", case.label, stored.code);
+        assert_eq!(case.pair.table, stored.table);
+    }
+}
+
+#[test]
+fn crossings_are_read_back() {
+    let all = handovers::crossings();
+    let (bytes, text) = store::crossings(&all);
+    let cases = stored::crossings::cases(&bytes).expect("whole");
+    assert_eq!((cases.len(), text.lines().count()), (all.len(), all.len()));
+    let counts = by_code(cases.iter().map(|case| case.code));
+    let codes: Vec<u16> = counts.keys().copied().collect();
+    assert!(codes == [0, 1, 27, 28, 29, 32, 33, 34], "{counts:?}");
+    assert!(counts.values().all(|&n| n >= 4), "{counts:?}");
+    assert!(stored::crossings::judged(&bytes).expect("whole").iter().all(|&same| same));
+    assert!(stored::crossings::cases(&bytes[..bytes.len() - 1]).is_none());
+    for (case, stored) in all.iter().zip(&cases) {
+        let named = named_code(&case.label);
+        assert!(named.is_none_or(|code| code == stored.code), "{}: {}", case.label, stored.code);
+        assert_eq!(case.crossing.second, stored.given.traces.second);
+    }
+}
+
+/// A run that is handed over to the same code ends as it does without that.
+#[test]
+fn runs_handed_over_to_themselves() {
+    let all = handovers::crossings();
+    let (bytes, _) = store::crossings(&all);
+    let cases = stored::crossings::cases(&bytes).expect("whole");
+    for name in ["message passing: ", "two writes: "] {
+        let named = all.iter().zip(&cases).filter(|(case, _)| case.label.starts_with(name));
+        let ends: Vec<_> =
+            named.map(|(_, stored)| (stored.code, stored.answer, stored.written)).collect();
+        assert!(ends.len() > 4 && ends.iter().all(|end| *end == ends[0]));
+        let plan = if ends[0].1[0] == 7 { message_passing() } else { two_writes() };
+        let trace = all.iter().find(|case| case.label.starts_with(name)).expect("there");
+        let whole = [&trace.crossing.call.trace[..], &trace.crossing.second].concat();
+        let replayed = replayed(Some(&plan.program), &whole, &[], 64);
+        assert_eq!((replayed.code, replayed.numbers()), (0, ends[0].1));
     }
 }

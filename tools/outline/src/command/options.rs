@@ -21,6 +21,8 @@ pub struct Options {
     pub billed: Option<u32>,
     pub given: Option<String>,
     pub entries: Option<usize>,
+    pub table: Option<String>,
+    pub map: Vec<String>,
 }
 
 impl Options {
@@ -43,6 +45,8 @@ impl Options {
                 "--given" => options.given = Some(value()?.into()),
                 "--entries" => options.entries = Some(number(word, value()?, 64)?),
                 "--tariff" => options.tariff = Some(value()?.into()),
+                "--table" => options.table = Some(value()?.into()),
+                "--map" => options.map.push(value()?.into()),
                 "--billed" => {
                     options.billed = Some(number(word, value()?, u32::MAX as usize)? as u32);
                 }

@@ -23,7 +23,7 @@ impl Prover<'_> {
         self.ways_kept(context, u, j, ways);
         self.ways_by_value(context, u, j, ways);
         self.ways_by_store(context, u, j, ways);
-        self.ways_by_handover(context, u, j, ways);
+        self.ways_by_release(context, u, j, ways);
         self.ways_by_swap(context, u, j, ways);
         self.ways_apart(context, u, j, ways);
     }

@@ -8,6 +8,7 @@ use super::random::Random;
 use super::{claims, image as any_image};
 use crate::examples::message_passing;
 use insert::{insert_formula, insert_line};
+use reference::assemble::Plan;
 use reference::checker::check;
 use reference::checker::limits::{FORMULAS, LINES};
 use reference::checker::rules::{Form, MOST_PREMISES};
@@ -22,7 +23,7 @@ pub fn image(seed: u64) -> Vec<u8> {
     if random.below(6) == 0 {
         return any_image(random.draw());
     }
-    let mut image = accepted(random);
+    let mut image = accepted(random).written();
     let changes = match random.below(20) {
         0 => 0,
         1 => 40 + random.below(100),
@@ -37,19 +38,19 @@ pub fn image(seed: u64) -> Vec<u8> {
     image.bytes()
 }
 
-fn accepted(random: &mut Random) -> Written {
+/// A plan of an accepted image.
+pub fn accepted(random: &mut Random) -> Plan {
     for _ in 0..TRIES {
         let plan = if random.chance(25) { claims::excluding(random) } else { plan(random) };
-        let image = plan.written();
-        if check(&image.bytes()).code == 0 {
-            return image;
+        if check(&plan.bytes()).code == 0 {
+            return plan;
         }
     }
-    message_passing().written()
+    message_passing()
 }
 
 /// One change, after which as many obligations and claims are met as before.
-fn change(random: &mut Random, image: &mut Written) {
+pub fn change(random: &mut Random, image: &mut Written) {
     match random.below(8) {
         0..=2 => dead_line(random, image),
         3 => dead_chain(random, image),

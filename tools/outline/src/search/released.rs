@@ -10,7 +10,7 @@ use reference::formula::Interval;
 
 impl Prover<'_> {
     /// From I ; one x = f and I ; [unsync x] ; K to what both give together.
-    pub fn ways_by_handover(&mut self, context: &Context, u: u8, j: &I, ways: &mut Vec<Plan>) {
+    pub fn ways_by_release(&mut self, context: &Context, u: u8, j: &I, ways: &mut Vec<Plan>) {
         let at = context.at;
         let Some(store) = self.instruction(at).releasing_store() else { return };
         let (x, new): (u8, I) = (store.word, store.settled().into());

@@ -1,0 +1,3 @@
+pub mod Handover
+pub mod Update
+pub mod Computed

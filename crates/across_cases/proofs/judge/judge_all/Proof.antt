@@ -1,0 +1,39 @@
+use borrow.Author.Needs.{needs}
+use mathlib.Core.Path.{_≡_}
+use lib.ListN.{length}
+use Rattle.stored.proofs.Cases.{bodies}
+use Rattle.stored.proofs.Tallies.{Running}
+use Rattle.across_cases.proofs.Gathered.{gathered}
+use Rattle.across_cases.proofs.judge.judge_all.Statement.{statement}
+use Rattle.across_cases.proofs.judge.judge_all.Tie as tie
+
+abbrev Inv-loop : tie.InvT-loop
+Inv-loop fd space₀ stored₀ tally₀ left₀ space stored tally left = (262145 ≡ length space) × ((118 ≡ length stored) × Running tally left)
+
+abbrev μ-loop : tie.MeasureT-loop
+μ-loop fd space₀ stored₀ tally₀ left₀ space stored tally left = left
+
+pub judge-all-spec : {M : Type 1} → statement M
+judge-all-spec =
+    tie.close
+    (tie.spec
+    Inv-loop
+    μ-loop
+    (λ c κs. search (gathered, bodies, needs))
+    (λ c κs. search (gathered, bodies, needs))
+    (λ c. search (gathered, bodies, needs))
+    (λ c. search (gathered, bodies, needs))
+    (λ c. search (gathered, bodies, needs))
+    (λ c. search (gathered, bodies, needs))
+    (λ c κs. search (gathered, bodies, needs))
+    (λ c. search (gathered, bodies, needs))
+    (λ c. search (gathered, bodies, needs))
+    (λ c. search (gathered, bodies, needs))
+    (λ c. search (gathered, bodies, needs))
+    (λ c κs. search (gathered, bodies, needs))
+    (λ c. search (gathered, bodies, needs))
+    (λ c. search (gathered, bodies, needs))
+    (λ c. search (gathered, bodies, needs))
+    (λ c. search (gathered, bodies, needs))
+    (λ c. search (gathered, bodies, needs))
+    (λ c. search (gathered, bodies, needs)))

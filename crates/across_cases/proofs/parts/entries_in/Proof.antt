@@ -1,0 +1,14 @@
+use Rattle.limits.proofs.Auto.{tests}
+use Rattle.across_cases.proofs.Ways.{parts}
+use borrow.Author.Needs.{needs}
+use Rattle.across_cases.proofs.parts.entries_in.Statement.{statement}
+use Rattle.across_cases.proofs.parts.entries_in.Tie as tie
+
+pub entries-in-spec : {M : Type 1} → statement M
+entries-in-spec =
+    tie.close
+    (tie.spec
+    (λ c κs. search needs)
+    (λ c κs. search needs)
+    (λ c κs. search needs)
+    (λ c. search (parts, tests)))

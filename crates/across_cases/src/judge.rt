@@ -1,0 +1,118 @@
+// The cases of a file: images, table of points, traces, given registers and entries as the body, lengths and answer as the tail.
+use crate::answer::Room;
+use crate::answer::Stored;
+use crate::answer::kind_of;
+use crate::answer::lent_at;
+use crate::answer::same_answer;
+use crate::parts::entries_in;
+use crate::parts::first_in;
+use crate::parts::given_in;
+use crate::parts::new_in;
+use crate::parts::old_in;
+use crate::parts::points_in;
+use crate::parts::second_in;
+use limits::Limits;
+use replay_across::entry::replay_handover;
+use stored::case::Next;
+use stored::case::read_case;
+use stored::end::End;
+use stored::tally::Judged;
+use stored::tally::Tally;
+use stored::tally::no_case;
+use stored::tally::with_case;
+ghost use mathlib.Core.Path.{_≡_};
+ghost use Prim.Native.Nat.{_+_};
+ghost use lib.ListN.{length};
+ghost use Rattle.limits.specs.Limits.{imageBytes};
+ghost use Rattle.replay_across.specs.Promise.{Written};
+ghost use Rattle.stored.specs.Tallied.{FromCases};
+ghost use Rattle.across_cases.specs.Parts.{oldIn, newIn, pointsIn, firstIn, secondIn, givenIn};
+ghost use Rattle.across_cases.specs.Answer.{blankTable, blankNumbers};
+ghost use Rattle.across_cases.specs.Judge.{Counted};
+
+// The call that is stored.
+fn replay_stored<'a, 'b, 'c, 'd>(
+    body: &'a [u8],
+    s: &'b [u8],
+    table: &'c mut [u8],
+    answer: &'d mut [usize],
+) -> u16
+    ensures { λ r. ⌜ Written (oldIn (now (s .entry)) (now (body .entry))) (newIn (now (s .entry)) (now (body .entry)))
+        (pointsIn (now (s .entry)) (now (body .entry))) (firstIn (now (s .entry)) (now (body .entry)))
+        (secondIn (now (s .entry)) (now (body .entry))) (givenIn (now (s .entry)) (now (body .entry)))
+        (now (table .entry)) (now (answer .entry)) r (now (table .exit)) (now (answer .exit)) ⌝ }
+{
+    replay_handover(
+        old_in(body, s),
+        new_in(body, s),
+        points_in(body, s),
+        first_in(body, s),
+        second_in(body, s),
+        given_in(body, s),
+        table,
+        answer,
+    )
+}
+
+fn blank_table() -> [u8; Room::BYTES]
+    ensures { λ r. ⌜ r ≡ blankTable ⌝ }
+{
+    [Room::BLANK; Room::BYTES]
+}
+
+fn blank_numbers() -> [usize; Room::NUMBERS]
+    ensures { λ r. ⌜ r ≡ blankNumbers ⌝ }
+{
+    [Room::EMPTY; Room::NUMBERS]
+}
+
+// The tally with a replay more, by its code, and whether it is the stored one.
+fn with_replay<'a, 'b>(t: Tally, body: &'a [u8], s: &'b [u8]) -> Tally
+    ensures { λ r. ⌜ Counted (now (body .entry)) (now (s .entry)) t r ⌝ }
+{
+    let mut table = blank_table();
+    let mut numbers = blank_numbers();
+    let n = lent_at(s, 24, Room::BYTES);
+    let m = lent_at(s, 28, Room::NUMBERS);
+    let code = replay_stored(body, s, &mut table[..n], &mut numbers[..m]);
+    let same = same_answer(code, &table, &numbers, s, entries_in(body, s));
+    with_case(t, kind_of(code), same)
+}
+
+// A byte more than an image may have.
+struct Space;
+
+impl Space {
+    pub const BYTES: usize = Limits::IMAGE_BYTES + 1;
+}
+
+fn space_for_body() -> [u8; Space::BYTES]
+    ensures { λ r. ⌜ imageBytes + 1 ≡ length r ⌝ }
+{
+    [0; Space::BYTES]
+}
+
+pub fn judge_all(fd: i32) -> Judged
+    ensures { λ r. ⌜ FromCases (r .tally) ⌝ }
+{
+    let mut space = space_for_body();
+    let mut stored = [0u8; Stored::BYTES];
+    let mut tally = no_case();
+    // One more shows that there are too many.
+    let mut left = Judged::MOST + 1;
+    while 0 < left {
+        match read_case(fd, &mut space, &mut stored) {
+            Next::Case(n) => {
+                tally = with_replay(tally, &space[..n], &stored);
+                left -= 1;
+            }
+            Next::Over(end) => {
+                return Judged { end, tally };
+            }
+        }
+    }
+    Judged {
+        end: End::Many,
+        tally,
+    }
+}

@@ -1,0 +1,4 @@
+pub mod Table
+pub mod Code
+pub mod Found
+pub mod Promise

@@ -1,0 +1,50 @@
+// The entry point, for C and Rust.
+use crate::permit::Handover;
+use crate::permit::handover_code;
+use checker::acceptance::Acceptance;
+use checker::acceptance::accept_image;
+use limits::Limits;
+use program::sizes::Sizes;
+ghost use mathlib.Core.Path.{_≡_};
+ghost use Rattle.frames.specs.Records.{indexOf};
+ghost use Rattle.image.specs.Decode.{decoded};
+ghost use Rattle.image.specs.declared.decode.Decoded.the-variants.{Sound};
+ghost use Rattle.checker.specs.Acceptance.{acceptance};
+ghost use Rattle.checker.specs.declared.acceptance.Acceptance.the-variants.{Granted};
+ghost use Rattle.handover.specs.Code.{byAcceptance};
+ghost use Rattle.handover.specs.Promise.{Promise};
+
+// The old image is accepted.
+fn code_from<'a, 'b, 'c, 'd>(
+    old: &'a [u8],
+    ox: &'b [usize],
+    z: Sizes,
+    new: &'c [u8],
+    table: &'d [u8],
+) -> u16
+    requires { ⌜ (now ox ≡ indexOf (now old)) × (decoded (now old) ≡ Sound z) ⌝ }
+    ensures { λ r. ⌜ r ≡ byAcceptance (now (old .entry)) (now (new .entry)) (now (table .entry)) (Granted z)
+        (acceptance (now (new .entry))) ⌝ }
+{
+    let mut nx = [0usize; Limits::RECORDS];
+    match accept_image(new, &mut nx) {
+        Acceptance::Declined => Handover::UNLIKE,
+        Acceptance::Granted(y) => handover_code(old, ox, z, new, &nx, y, table),
+    }
+}
+
+// Permits or refuses the handover from the old image to the new one by a table: for each old point, threads in order, a new point
+// (byte) and a line of the new image (16 bits). For every three byte strings: 32 if an image is not accepted or their headers differ;
+// 33 if the table is too short, too long or anywhere out of range; 34 if a named line is no justified implication from the old point's
+// assertion to the new one's. Code 0 means that after every run of the old code, the handover and every run of the new code each
+// thread's new assertion at its point is true.
+#[no_mangle]
+pub extern "C" fn check_handover(old: &[u8], new: &[u8], table: &[u8]) -> u16
+    ensures { λ r. ⌜ Promise (now (old .entry)) (now (new .entry)) (now (table .entry)) r ⌝ }
+{
+    let mut ox = [0usize; Limits::RECORDS];
+    match accept_image(old, &mut ox) {
+        Acceptance::Declined => Handover::UNLIKE,
+        Acceptance::Granted(z) => code_from(old, &ox, z, new, table),
+    }
+}

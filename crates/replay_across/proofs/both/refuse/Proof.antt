@@ -1,0 +1,18 @@
+use Rattle.replay_across.proofs.Ways.{refused-so}
+use Rattle.limits.proofs.Auto.{tests}
+use borrow.Author.Needs.{needs}
+use Rattle.replay_across.proofs.both.refuse.Statement.{statement}
+use Rattle.replay_across.proofs.both.refuse.Tie as tie
+
+pub refuse-spec : {M : Type 1} → statement M
+refuse-spec =
+    tie.close
+    (tie.spec
+    (λ c. search needs)
+    (λ c. search needs)
+    (λ c. search needs)
+    (λ c. search needs)
+    (λ c. search needs)
+    (λ c. search needs)
+    (λ c κs. search needs)
+    (λ c. search (refused-so, tests)))

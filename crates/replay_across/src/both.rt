@@ -1,0 +1,180 @@
+// A replay across a handover: whether it is permitted, the start, both runs.
+use crate::onward::go_on;
+use crate::onward::run_counted;
+use checker::acceptance::Acceptance;
+use checker::acceptance::accept_image;
+use frames::index::body_of;
+use handover::permit::Handover;
+use handover::permit::handover_code;
+use limits::Limits;
+use program::sizes::Sizes;
+use replay::pick::Refusal;
+use replay::start::start_machine;
+use replay::whole::Replayed;
+use replay::whole::room_of;
+use replaying::shown::Shown;
+use replaying::shown::shown_by;
+ghost use mathlib.Core.Path.{_≡_};
+ghost use Prim.Native.Nat.{_≤_, min};
+ghost use lib.ListN.{length};
+ghost use Rattle.frames.specs.Records.{indexOf};
+ghost use Rattle.image.specs.Decode.{decoded};
+ghost use Rattle.image.specs.declared.decode.Decoded.the-variants.{Sound};
+ghost use Rattle.checker.specs.Acceptance.{acceptance};
+ghost use Rattle.checker.specs.declared.acceptance.Acceptance.the-variants.{Granted};
+ghost use Rattle.replaying.specs.Table.{shownBy};
+ghost use Rattle.replay_across.specs.Numbers.{refusedBy, acrossOn, acrossBy, byAcceptance, acrossOf};
+
+// Points and registers of 0, and the table stays.
+fn refuse(s: &[u8], code: u8) -> Replayed
+    ensures { λ r. ⌜ r ≡ refusedBy code ⌝ }
+{
+    Replayed {
+        code,
+        steps: 0,
+        held: false,
+        words: 0,
+        machine: start_machine(&s[0..0], 0, &s[0..0]),
+    }
+}
+
+// The handover is permitted.
+fn run_both<'a, 'b, 'c, 'd, 'e, 'f, 'g, 'h>(
+    old: &'a [u8],
+    ox: &'b [usize],
+    z: Sizes,
+    new: &'c [u8],
+    nx: &'d [usize],
+    y: Sizes,
+    points: &'e [u8],
+    first: &'f [u8],
+    second: &'g [u8],
+    given: &'h [u8],
+    room: usize,
+) -> Replayed
+    requires { ⌜ ((now ox ≡ indexOf (now old)) × (decoded (now old) ≡ Sound z)) × (now nx ≡ indexOf (now new)) ⌝ }
+    ensures { λ r. ⌜ r ≡ acrossOn (now (old .entry)) z (now (new .entry)) y (now (points .entry)) (now (first .entry)) (now (second .entry))
+        (now (given .entry)) room ⌝ }
+{
+    let n = start_machine(body_of(old, ox, 0), z.range, given);
+    if room < (z.words as usize) {
+        return Replayed {
+            code: Refusal::ROOM,
+            steps: 0,
+            held: false,
+            words: z.words,
+            machine: n,
+        };
+    }
+    let r = run_counted(old, ox, z, room, n, first);
+    let q = go_on(old, ox, z, new, nx, y, points, room, r, second);
+    let machine = q.machine;
+    Replayed {
+        code: q.code,
+        steps: q.steps,
+        held: true,
+        words: z.words,
+        machine,
+    }
+}
+
+// Both images are accepted.
+fn replay_between<'a, 'b, 'c, 'd, 'e, 'f, 'g, 'h>(
+    old: &'a [u8],
+    ox: &'b [usize],
+    z: Sizes,
+    new: &'c [u8],
+    nx: &'d [usize],
+    y: Sizes,
+    points: &'e [u8],
+    first: &'f [u8],
+    second: &'g [u8],
+    given: &'h [u8],
+    room: usize,
+) -> Replayed
+    requires { ⌜ ((now ox ≡ indexOf (now old)) × (decoded (now old) ≡ Sound z))
+        × ((now nx ≡ indexOf (now new)) × (decoded (now new) ≡ Sound y)) ⌝ }
+    ensures { λ r. ⌜ r ≡ acrossBy (now (old .entry)) z (now (new .entry)) y (now (points .entry)) (now (first .entry)) (now (second .entry))
+        (now (given .entry)) room ⌝ }
+{
+    let code = handover_code(old, ox, z, new, nx, y, points);
+    if code == Handover::PERMITTED {
+        return run_both(old, ox, z, new, nx, y, points, first, second, given, room);
+    }
+    refuse(old, code as u8)
+}
+
+// The old image is accepted.
+fn replay_from<'a, 'b, 'c, 'd, 'e, 'f, 'g>(
+    old: &'a [u8],
+    ox: &'b [usize],
+    z: Sizes,
+    new: &'c [u8],
+    points: &'d [u8],
+    first: &'e [u8],
+    second: &'f [u8],
+    given: &'g [u8],
+    room: usize,
+) -> Replayed
+    requires { ⌜ (now ox ≡ indexOf (now old)) × (decoded (now old) ≡ Sound z) ⌝ }
+    ensures { λ r. ⌜ r ≡ byAcceptance (now (old .entry)) (now (new .entry)) (now (points .entry)) (now (first .entry)) (now (second .entry))
+        (now (given .entry)) room (Granted z) (acceptance (now (new .entry))) ⌝ }
+{
+    let mut nx = [0usize; Limits::RECORDS];
+    match accept_image(new, &mut nx) {
+        Acceptance::Declined => refuse(new, Handover::UNLIKE as u8),
+        Acceptance::Granted(y) => {
+            replay_between(old, ox, z, new, &nx, y, points, first, second, given, room)
+        }
+    }
+}
+
+// A replay with so many entries lent.
+pub fn replay_across<'a, 'b, 'c, 'd, 'e, 'f>(
+    old: &'a [u8],
+    new: &'b [u8],
+    points: &'c [u8],
+    first: &'d [u8],
+    second: &'e [u8],
+    given: &'f [u8],
+    lent: usize,
+) -> Replayed
+    ensures { λ r. ⌜ r ≡ acrossOf (now (old .entry)) (now (new .entry)) (now (points .entry)) (now (first .entry)) (now (second .entry))
+        (now (given .entry)) lent ⌝ }
+{
+    let mut ox = [0usize; Limits::RECORDS];
+    match accept_image(old, &mut ox) {
+        Acceptance::Declined => refuse(old, Handover::UNLIKE as u8),
+        Acceptance::Granted(z) => {
+            replay_from(
+                old,
+                &ox,
+                z,
+                new,
+                points,
+                first,
+                second,
+                given,
+                room_of(lent),
+            )
+        }
+    }
+}
+
+pub fn shown_across<'a, 'b, 'c, 'd, 'e, 'f>(
+    old: &'a [u8],
+    new: &'b [u8],
+    points: &'c [u8],
+    first: &'d [u8],
+    second: &'e [u8],
+    given: &'f [u8],
+    lent: usize,
+) -> Shown
+    ensures { λ s. ⌜ (s ≡ shownBy (acrossOf (now (old .entry)) (now (new .entry)) (now (points .entry)) (now (first .entry))
+        (now (second .entry)) (now (given .entry)) lent) lent) × ((s .count ≤ min lent 64) × (length (s .writes) ≡ 64)) ⌝ }
+{
+    shown_by(
+        replay_across(old, new, points, first, second, given, lent),
+        lent,
+    )
+}
