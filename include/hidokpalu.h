@@ -5,10 +5,11 @@
  * needs memcpy and memset of the C library, and nothing else: no heap, no files, no state from one call to the next.
  * So any number of threads may call it at once. It needs 58 KB of stack on the smallest image; the most that was measured,
  * over all stored images, is 136 KB. Give it 192 KB. `trim_image` is in libtrimming.a (`rt staticlib trimming`) and takes 44 KB more:
- * give it 256 KB. `bill_image` is in libbilling.a (`rt staticlib billing`) and takes 5 KB more. `replay_trace` is in
- * libreplaying.a (`rt staticlib replaying`) and takes 50 KB more than `check_image`. `check_handover` is in
- * libhandover.a (`rt staticlib handover`), `replay_handover` in libreplay_across.a (`rt staticlib replay_across`). All may be
- * linked together.
+ * give it 256 KB. `replay_trace` is in libreplaying.a (`rt staticlib replaying`) and takes 10 KB more than `check_image`.
+ * `check_handover` is in libhandover.a (`rt staticlib handover`) and takes 51 KB more, `replay_handover` in libreplay_across.a
+ * (`rt staticlib replay_across`) 55 KB more: give them 256 KB. `open_service` and the `serve_` calls are in libdesks.a
+ * (`rt staticlib desks`) and take at most 3 KB more than the calls without a service; what a service remembers stands in numbers that the
+ * host lends. All may be linked together.
  */
 #ifndef HIDOKPALU_H
 #define HIDOKPALU_H
@@ -110,11 +111,13 @@ enum hidokpalu_further_code {
     HIDOKPALU_STEP_THREAD = 27,   /* replay_trace: the step's thread is absent or at its last point, or it is half a step */
     HIDOKPALU_STEP_PICK = 28,     /* replay_trace: the step's position is not permitted */
     HIDOKPALU_STEP_ROOM = 29,     /* replay_trace: no entry is left for a write */
-    HIDOKPALU_BILL_REFUSED = 30,  /* bill_image: the image is not accepted */
-    HIDOKPALU_BILL_END = 31,      /* bill_image: the number of billed images is at its end */
+    HIDOKPALU_BILL_REFUSED = 30,  /* serve_bill: the image is not accepted */
+    HIDOKPALU_BILL_END = 31,      /* serve_bill: the caller's number of billed images is at its end */
     HIDOKPALU_UNLIKE = 32,        /* check_handover, replay_handover: an image is not accepted, or the two are unlike */
     HIDOKPALU_TABLE = 33,         /* the same: the table is too short, too long or somewhere out of range */
-    HIDOKPALU_UNSERVED = 34       /* the same: a named line does not serve */
+    HIDOKPALU_UNSERVED = 34,      /* the same: a named line does not serve */
+    HIDOKPALU_NO_CALLER = 35,     /* serve_...: no caller from 1 to HIDOKPALU_CALLERS */
+    HIDOKPALU_NO_RIGHT = 36       /* serve_...: the caller lacks the right */
 };
 
 /*
@@ -131,30 +134,6 @@ enum hidokpalu_further_code {
  * points to a number of its own.
  */
 uint16_t trim_image(const uint8_t *image, size_t image_len, uint8_t *out, size_t out_len, size_t *written);
-
-/* How many numbers an answer of bill_image has, and where each stands. */
-#define HIDOKPALU_BILL_NUMBERS 6
-enum hidokpalu_bill_at {
-    HIDOKPALU_BILL_CENTS = 0,     /* the larger of the sum and the least charge */
-    HIDOKPALU_BILL_BILLED = 1,    /* how many images are billed by now */
-    HIDOKPALU_BILL_THREAD = 2     /* from here on the sums of threads 1 to 4, 0 for one that is not there */
-};
-
-/*
- * Bills an accepted image: cents for each obligation by its class (`start`, `step`, `taken`, `interference`: classes 1
- * to 4), and at least the least charge, which is in no thread's sum. Class 4 belongs to the thread that acts, the other
- * classes to their own. Claims cost nothing. `billed` is how many images are billed already.
- *
- * - 0: the answer's first HIDOKPALU_BILL_NUMBERS are written; the number is `billed` plus 1, for a bill of 0 cents too.
- * - HIDOKPALU_SHORT_OUTPUT: the answer has fewer numbers, whatever the image and `billed`; nothing is written.
- * - HIDOKPALU_BILL_REFUSED: `check_image` does not accept the image.
- * - HIDOKPALU_BILL_END, after it: `billed` is 4294967295.
- *
- * With the last two cents and sums are 0 and the number is `billed`. Numbers behind the sixth stay. The caller sees to
- * the pointers as above.
- */
-uint16_t bill_image(const uint8_t *image, size_t image_len, uint16_t start, uint16_t step, uint16_t taken,
-                    uint16_t interference, uint16_t least, uint32_t billed, uint32_t *answer, size_t answer_len);
 
 /* How many numbers an answer of replay_trace has, and where each stands. */
 #define HIDOKPALU_REPLAY_NUMBERS 21
@@ -245,6 +224,101 @@ uint16_t replay_handover(const uint8_t *old_image, size_t old_len, const uint8_t
                          const uint8_t *points, size_t points_len, const uint8_t *first, size_t first_len,
                          const uint8_t *second, size_t second_len, const uint8_t *given, size_t given_len,
                          uint8_t *table, size_t table_len, size_t *answer, size_t answer_len);
+
+/*
+ * A SERVICE for up to HIDOKPALU_CALLERS callers, which count from 1. It is HIDOKPALU_SERVICE_NUMBERS numbers that the
+ * host lends to every call: the rights of each caller, then how many images each was billed. The host opens it once,
+ * hands it to every call, one call at a time, and writes nothing in it itself; it may keep any number of services.
+ *
+ * A call of a service is the call without one, except that
+ *
+ * - HIDOKPALU_NO_CALLER: the caller is not 1 to HIDOKPALU_CALLERS.
+ * - HIDOKPALU_NO_RIGHT, after it: the caller lacks the right that the call needs.
+ *
+ * Both come before every other check, HIDOKPALU_SHORT_OUTPUT too. With them the service and every buffer stay as they
+ * were, a length that is told is 0, and an answer of numbers that has its room becomes zeros.
+ *
+ * What a caller is answered follows from its rights, its number and its own calls: whatever other callers do between
+ * them, refused calls among it, its codes, buffers and bills and its number are the same.
+ */
+#define HIDOKPALU_CALLERS 8
+#define HIDOKPALU_SERVICE_NUMBERS 16
+
+/* Where the rights of caller 1 stand, and its number of billed images; those of the others follow. */
+enum hidokpalu_service_at {
+    HIDOKPALU_SERVICE_RIGHTS = 0,
+    HIDOKPALU_SERVICE_BILLED = 8
+};
+
+/* The rights of a caller: a sum of these. */
+enum hidokpalu_right {
+    HIDOKPALU_MAY_CHECK = 1,      /* serve_check, serve_trim, serve_handover */
+    HIDOKPALU_MAY_REPLAY = 2,     /* serve_replay, serve_replay_handover */
+    HIDOKPALU_MAY_BILL = 4        /* serve_bill */
+};
+
+/*
+ * Opens a service. `rights` has a byte for each caller, which is taken modulo 8; callers without a byte have no right,
+ * and bytes behind the eighth are not read.
+ *
+ * - 0: the first HIDOKPALU_SERVICE_NUMBERS of `service` are the rights, then a 0 for each caller; numbers behind stay.
+ * - HIDOKPALU_SHORT_OUTPUT: there are fewer numbers; nothing is written.
+ *
+ * Rights do not change from then on: no call writes them.
+ */
+uint16_t open_service(const uint8_t *rights, size_t rights_len, uint32_t *service, size_t service_len);
+
+/* `check_image` for a caller with HIDOKPALU_MAY_CHECK. */
+uint16_t serve_check(const uint32_t *service, size_t service_len, size_t caller, const uint8_t *image, size_t image_len,
+                     uint8_t *out, size_t out_len);
+
+/* `trim_image` for a caller with HIDOKPALU_MAY_CHECK. */
+uint16_t serve_trim(const uint32_t *service, size_t service_len, size_t caller, const uint8_t *image, size_t image_len,
+                    uint8_t *out, size_t out_len, size_t *written);
+
+/* `check_handover` for a caller with HIDOKPALU_MAY_CHECK. */
+uint16_t serve_handover(const uint32_t *service, size_t service_len, size_t caller, const uint8_t *old_image,
+                        size_t old_len, const uint8_t *new_image, size_t new_len, const uint8_t *table,
+                        size_t table_len);
+
+/* `replay_trace` for a caller with HIDOKPALU_MAY_REPLAY. */
+uint16_t serve_replay(const uint32_t *service, size_t service_len, size_t caller, const uint8_t *image,
+                      size_t image_len, const uint8_t *trace, size_t trace_len, const uint8_t *given, size_t given_len,
+                      uint8_t *table, size_t table_len, size_t *answer, size_t answer_len);
+
+/* `replay_handover` for a caller with HIDOKPALU_MAY_REPLAY. */
+uint16_t serve_replay_handover(const uint32_t *service, size_t service_len, size_t caller, const uint8_t *old_image,
+                               size_t old_len, const uint8_t *new_image, size_t new_len, const uint8_t *points,
+                               size_t points_len, const uint8_t *first, size_t first_len, const uint8_t *second,
+                               size_t second_len, const uint8_t *given, size_t given_len, uint8_t *table,
+                               size_t table_len, size_t *answer, size_t answer_len);
+
+/* How many numbers an answer of serve_bill has, and where each stands. */
+#define HIDOKPALU_BILL_NUMBERS 6
+enum hidokpalu_bill_at {
+    HIDOKPALU_BILL_CENTS = 0,     /* the larger of the sum and the least charge */
+    HIDOKPALU_BILL_BILLED = 1,    /* how many images the caller is billed by now */
+    HIDOKPALU_BILL_THREAD = 2     /* from here on the sums of threads 1 to 4, 0 for one that is not there */
+};
+
+/*
+ * Bills an accepted image to a caller with HIDOKPALU_MAY_BILL: cents for each obligation by its class (`start`, `step`,
+ * `taken`, `interference`: classes 1 to 4), and at least the least charge, which is in no thread's sum. Class 4 belongs
+ * to the thread that acts, the other classes to their own. Claims cost nothing.
+ *
+ * - 0: the answer's first HIDOKPALU_BILL_NUMBERS are written, and the caller's number is one higher, for a bill of 0
+ *   cents too. Nothing else in the service changes.
+ * - HIDOKPALU_SHORT_OUTPUT: the answer has fewer numbers, or the service ends before the caller's number, whatever the
+ *   image and that number; nothing is written.
+ * - HIDOKPALU_BILL_REFUSED: `check_image` does not accept the image.
+ * - HIDOKPALU_BILL_END, after it: the caller's number is 4294967295.
+ *
+ * With the last two cents and sums are 0 and the number stays. Numbers behind the sixth stay. The caller sees to the
+ * pointers as above; the service is memory of its own.
+ */
+uint16_t serve_bill(uint32_t *service, size_t service_len, size_t caller, const uint8_t *image, size_t image_len,
+                    uint16_t start, uint16_t step, uint16_t taken, uint16_t interference, uint16_t least,
+                    uint32_t *answer, size_t answer_len);
 
 #ifdef __cplusplus
 }

@@ -6,7 +6,7 @@ use std::path::Path;
 /// Archives that may be missing, and what the program is told if they are there.
 const FURTHER: [(&str, &str); 4] = [
     ("trimming", "proved_trim"),
-    ("billing", "proved_bills"),
+    ("desks", "proved_desks"),
     ("replaying", "proved_replay"),
     ("handover", "proved_handover"),
 ];

@@ -10,7 +10,7 @@ use proved::Replay;
 use std::process::ExitCode;
 
 const USAGE: &str = "\
-usage: compare compare|trim|bill|replay|handover N [SEED] | files|trim-files|bill-files|replay-files PATH... |
+usage: compare compare|trim|bill|replay|handover|desks N [SEED] | files|trim-files|bill-files|replay-files PATH... |
                bench|trim-bench [IMAGE...] | replay-bench | images FOLDER | startup PROGRAM IMAGE";
 
 fn main() -> ExitCode {
@@ -24,6 +24,7 @@ fn main() -> ExitCode {
         ["handover", ref numbers @ ..] => {
             linked(proved::HANDOVER.is_some(), "handover").and_then(|()| handovers(numbers))
         }
+        ["desks", ref numbers @ ..] => desks(numbers),
         ["files", ref paths @ ..] => Ok(driver::files(&driver::CHECK, paths)),
         ["trim-files", ref paths @ ..] => trimming().map(|task| driver::files(&task, paths)),
         ["bill-files", ref paths @ ..] => billing().map(|task| driver::files(&task, paths)),
@@ -47,7 +48,7 @@ fn main() -> ExitCode {
     }
 }
 
-/// Compares on so many generated images, from seed 1 or from the one given; an error is wrong use.
+/// Compares on so many generated images; an error is wrong use.
 fn compare(task: &Task, numbers: &[&str]) -> Result<bool, String> {
     count_and_seed(numbers).map(|(images, seed)| driver::run(task, images, seed))
 }
@@ -57,6 +58,13 @@ fn handovers(numbers: &[&str]) -> Result<bool, String> {
     count_and_seed(numbers).map(|(pairs, seed)| driver::handover::run(pairs, seed))
 }
 
+/// The same on sessions of several desks with so many calls together.
+fn desks(numbers: &[&str]) -> Result<bool, String> {
+    let desks = proved::DESKS.ok_or_else(|| missing("desks"))?;
+    count_and_seed(numbers).map(|(calls, seed)| driver::desks::run(&desks, calls, seed))
+}
+
+/// How many, and the seed of the first: 1, or the one given.
 fn count_and_seed(numbers: &[&str]) -> Result<(u64, u64), String> {
     let numbers: Option<Vec<u64>> = numbers.iter().map(|text| text.parse().ok()).collect();
     match numbers.as_deref() {
@@ -71,7 +79,7 @@ fn trimming() -> Result<Task, String> {
 }
 
 fn billing() -> Result<Task, String> {
-    linked(proved::BILL.is_some(), "billing").map(|()| driver::BILL)
+    linked(proved::BILL.is_some(), "desks").map(|()| driver::BILL)
 }
 
 fn replaying() -> Result<Replay, String> {
@@ -81,8 +89,9 @@ fn replaying() -> Result<Replay, String> {
 
 /// An error if an archive was not there when this program was built.
 fn linked(is_linked: bool, name: &str) -> Result<(), String> {
-    let fault = format!(
-        "target/staticlib/lib{name}.a was not there: `rt staticlib {name}`, then build again"
-    );
-    is_linked.then_some(()).ok_or(fault)
+    is_linked.then_some(()).ok_or_else(|| missing(name))
+}
+
+fn missing(name: &str) -> String {
+    format!("target/staticlib/lib{name}.a was not there: `rt staticlib {name}`, then build again")
 }

@@ -6,6 +6,7 @@
 pub mod assemble;
 pub mod bill;
 pub mod checker;
+pub mod desks;
 pub mod explore;
 pub mod formula;
 pub mod handover;

@@ -6,8 +6,9 @@ use lib.ListN.{take, drop}
 use Rattle.replay_across.specs.Promise.{Written}
 use Rattle.stored.specs.Tally.{withCase}
 use Rattle.stored.specs.declared.tally.Tally.{Tally}
-use Rattle.across_cases.specs.Parts.{oldIn, newIn, pointsIn, firstIn, secondIn, givenIn, entriesIn}
-use Rattle.across_cases.specs.Answer.{mostBytes, mostNumbers, blankTable, blankNumbers, lentAt, sameAnswer, kindOf}
+use Rattle.stored_answers.specs.Answer.{mostBytes, mostNumbers, blankTable, blankNumbers, lentAt, sameAnswer}
+use Rattle.stored_answers.specs.Kind.{kindOf}
+use Rattle.stored_answers.specs.Parts.{firstIn, secondIn, thirdIn, fourthIn, fifthIn, sixthIn, seventhOn}
 
 -- how many bytes and how many numbers are lent
 abbrev pub bytesLent : List ℕ → ℕ
@@ -21,5 +22,5 @@ pub record Counted (body s : List ℕ) (t r : Tally) : Type 0 where
   pub code : ℕ
   pub after : List ℕ
   pub told : List ℕ
-  pub called : Written (oldIn s body) (newIn s body) (pointsIn s body) (firstIn s body) (secondIn s body) (givenIn s body) (take (bytesLent s) blankTable) (take (numbersLent s) blankNumbers) code after told
-  pub counted : r ≡ withCase t (kindOf code) (sameAnswer code (after ++ drop (bytesLent s) blankTable) (told ++ drop (numbersLent s) blankNumbers) s (entriesIn s body))
+  pub called : Written (firstIn s body) (secondIn s body) (thirdIn s body) (fourthIn s body) (fifthIn s body) (sixthIn s body) (take (bytesLent s) blankTable) (take (numbersLent s) blankNumbers) code after told
+  pub counted : r ≡ withCase t (kindOf code) (sameAnswer code (after ++ drop (bytesLent s) blankTable) (told ++ drop (numbersLent s) blankNumbers) (drop 32 s) (seventhOn s body))

@@ -1,10 +1,8 @@
-// Replays the traces across each handover of the files that the arguments name, and writes a line for each file: how many answers there are of each
-// code, and how many differ from the stored ones. What is wrong with a file goes to standard error, and then there is no line
-// for it.
-mod answer;
+// Replays the traces across each handover of the files that the arguments name, and writes a line for each file: how many answers
+// there are of each code, and how many differ from the stored ones. What is wrong with a file goes to standard error, and then there
+// is no line for it.
 mod judge;
 mod line;
-mod parts;
 
 use judge::judge_all;
 use line::write_line;

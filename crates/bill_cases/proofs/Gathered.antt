@@ -6,7 +6,6 @@ use Prim.Native.Nat.{ℕ, _-_, _≤_, _<_}
 use native.Mathlib.Omega.{arith}
 use lib.ListN.{length, take, drop, length-append, length-drop}
 use lib.Seq.{length-take-le}
-use Rattle.billing.specs.Output.{tariffOf}
 use Rattle.billing.specs.Promise.{Written}
 use Rattle.billing.specs.declared.tariff.Tariff.{Tariff}
 use Rattle.stored.specs.Tally.{withCase}
@@ -16,7 +15,7 @@ use Rattle.bill_cases.specs.Answer.{most, room, tariffAt, billedAt, lent
 use Rattle.bill_cases.specs.Judge.{Counted}
 
 pub call-stored : (image s answer after : List ℕ) (f : Tariff) (n code : ℕ) → f ≡ tariffAt s → n ≡ billedAt s
-    → Written image (tariffOf (f .start) (f .step) (f .taken) (f .interference) (f .least)) n answer code after → Written image (tariffAt s) (billedAt s) answer code after
+    → Written image f n answer code after → Written image (tariffAt s) (billedAt s) answer code after
 call-stored image s answer after f n code e d w = rw (← e, ← d) w
 
 pub lent-within : (s : List ℕ) (n : ℕ) → n ≡ lentAt s → n ≤ most

@@ -1,5 +1,5 @@
 // Stored bills, and answers compared with them.
-use billing::entry::Numbers;
+use billing::numbers::Numbers;
 use billing::tariff::Tariff;
 use limits::read::word_at;
 use report::output::Output;

@@ -5,7 +5,7 @@ use crate::answer::billed_at;
 use crate::answer::lent_at;
 use crate::answer::same_answer;
 use crate::answer::tariff_at;
-use billing::entry::bill_image;
+use billing::numbers::bill_into;
 use limits::Limits;
 use stored::case::Next;
 use stored::case::read_case;
@@ -28,17 +28,7 @@ fn bill_stored<'a, 'b, 'c>(image: &'a [u8], s: &'b [u8], answer: &'c mut [u32]) 
     ensures { λ r. ⌜ Written (now (image .entry)) (tariffAt (now (s .entry))) (billedAt (now (s .entry))) (now (answer .entry)) r
         (now (answer .exit)) ⌝ }
 {
-    let f = tariff_at(s);
-    bill_image(
-        image,
-        f.start,
-        f.step,
-        f.taken,
-        f.interference,
-        f.least,
-        billed_at(s),
-        answer,
-    )
+    bill_into(image, tariff_at(s), billed_at(s), answer)
 }
 
 fn blank_room() -> [u32; Room::NUMBERS]

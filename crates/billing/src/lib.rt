@@ -1,7 +1,8 @@
-// The price of a check: an accepted image is billed by its obligations, in all and by thread. `bill_image` is the entry point.
+// The price of a check: an accepted image is billed by its obligations, in all and by thread. `bill` answers the bill, `bill_into`
+// writes its numbers.
 pub mod accounts;
 pub mod answer;
 pub mod bill;
 pub mod count;
-pub mod entry;
+pub mod numbers;
 pub mod tariff;

@@ -41,7 +41,8 @@ use Rattle.handover.proofs.Decided.{code-decided, same-threads}
 -- an accepted image: each obligation is derived
 
 bears-derived : (D : Image) → Admitted D → (w : Statement) (n : ℕ) → Bears D w n → Derived (D .program) w
-bears-derived D A w n h = subst (Derived (D .program)) (sym (h .says)) (justified-derived (D .program) (D .certificate) (A .lines) n (h .just))
+bears-derived D A w n h = subst (Derived (D .program)) (sym (h .says))
+    (justified-derived (D .program) (D .certificate) (A .lines) n (h .just))
 
 all-derived : (D : Image) → Admitted D → (os : List Obligation) (m : ℕ) → AllMet D os m → All (λ o. Derived (D .program) (asks D o)) os
 all-derived D A [] m h = tt
@@ -58,11 +59,13 @@ accepted-proved s z e =
     let g = granted-holds s z e in
     let D : Image = imageOf z (bodies s) in
     let f : finding D ≡ accepted (g .count) = accepted-found D (finding D) (g .count) (sym (ap answered (g .says)) ∙ g .verdict) in
-    all-derived D (sound-admitted s z (g .sound)) (obligations (D .program)) 0 (judge-met D (obligations (D .program)) 0 (g .count) (accepted-all D (g .count) f .0) .0)
+    all-derived D (sound-admitted s z (g .sound)) (obligations (D .program)) 0
+    (judge-met D (obligations (D .program)) 0 (g .count) (accepted-all D (g .count) f .0) .0)
 
 -- two accepted images with equal headers
 
-module _ (old : List ℕ) (z : Sizes) (new : List ℕ) (y : Sizes) (table : List ℕ) (a : acceptance old ≡ Granted z) (b : acceptance new ≡ Granted y) where
+module _ (old : List ℕ) (z : Sizes) (new : List ℕ) (y : Sizes) (table : List ℕ) (a : acceptance old ≡ Granted z)
+    (b : acceptance new ≡ Granted y) where
   abbrev P : Program
   P = programOf z (bodies old)
 
@@ -81,7 +84,8 @@ module _ (old : List ℕ) (z : Sizes) (new : List ℕ) (y : Sizes) (table : List
   new-sound : decoded new ≡ Decoded.Sound y
   new-sound = granted-holds new y b .sound
 
-  pub permitted-so : headerOf old ≡ headerOf new → Fits D E table → Serve D E table → Handover P Q (outlineOf z (bodies old)) (outlineOf y (bodies new)) (newPoint P table)
+  pub permitted-so : headerOf old ≡ headerOf new → Fits D E table → Serve D E table
+      → Handover P Q (outlineOf z (bodies old)) (outlineOf y (bodies new)) (newPoint P table)
   unfolding sizesOf
   permitted-so h F S = record {
     alike = record {
@@ -114,7 +118,8 @@ module _ (old : List ℕ) (z : Sizes) (new : List ℕ) (y : Sizes) (table : List
   pub across-holds : codeOf old z new y table ≡ 0 → EveryRunAcross P Q (outlineOf y (bodies new)) (newPoint P table)
   across-holds e =
       let r = zero-so e in
-      every-run-across P Q (outlineOf z (bodies old)) (outlineOf y (bodies new)) (newPoint P table) (sound-admitted old z old-sound .program)
+      every-run-across P Q (outlineOf z (bodies old)) (outlineOf y (bodies new)) (newPoint P table)
+      (sound-admitted old z old-sound .program)
       (sound-admitted new y new-sound .program) (permitted-so (r .0) (r .1) (r .2)) (accepted-proved old z a) (accepted-proved new y b)
 
   both-so : headerOf old ≡ headerOf new → BothAccepted old new D E
@@ -162,7 +167,8 @@ module _ (old new table : List ℕ) where
   code-is x w e d = ap₂ (byAcceptance old new table) e d
 
   decided-so : (D E : Image) → BothAccepted old new D E → Decided D E table (handoverCode old new table)
-  decided-so D E B = go (said old D (B .old-count) (B .old-says) (B .old-accepted)) (said new E (B .new-count) (B .new-says) (B .new-accepted))
+  decided-so D E B = go (said old D (B .old-count) (B .old-says) (B .old-accepted))
+      (said new E (B .new-count) (B .new-says) (B .new-accepted))
     where
       go : Said old D → Said new E → Decided D E table (handoverCode old new table)
       go x w =
@@ -176,7 +182,8 @@ module _ (old new table : List ℕ) where
       go : (x w : Acceptance) → acceptance old ≡ x → acceptance new ≡ w → handoverCode old new table ≡ 32
       go Declined w e d = code-is Declined w e d
       go (Granted z) Declined e d = code-is (Granted z) Declined e d
-      go (Granted z) (Granted y) e d = code-is (Granted z) (Granted y) e d ∙ other-unlike old z new y table e d (g (imageOf z (bodies old)) (imageOf y (bodies new)))
+      go (Granted z) (Granted y) e d = code-is (Granted z) (Granted y) e d ∙ other-unlike old z new y table e d
+          (g (imageOf z (bodies old)) (imageOf y (bodies new)))
 
   across-so : handoverCode old new table ≡ 0 → TrueAcross old new table
   across-so q = go (acceptance old) (acceptance new) refl refl
@@ -206,14 +213,16 @@ module _ (old new table : List ℕ) where
     pub old-declined : x ≡ Declined → Promise old new table 32
     old-declined h = promised 32 (sym (code-is Declined (acceptance new) (sym ex ∙ h) refl))
 
-    pub old-granted : (z : Sizes) (r : ℕ) → x ≡ Granted z → r ≡ byAcceptance old new table (Granted z) (acceptance new) → Promise old new table r
+    pub old-granted : (z : Sizes) (r : ℕ) → x ≡ Granted z → r ≡ byAcceptance old new table (Granted z) (acceptance new)
+        → Promise old new table r
     old-granted z r h q = promised r (q ∙ sym (code-is (Granted z) (acceptance new) (sym ex ∙ h) refl))
 
   module _ (z : Sizes) (w : Acceptance) (ew : w ≡ acceptance new) where
     pub new-declined : w ≡ Declined → 32 ≡ byAcceptance old new table (Granted z) (acceptance new)
     new-declined g = ap (byAcceptance old new table (Granted z)) (sym g ∙ ew)
 
-    pub new-granted : (y : Sizes) (r : ℕ) → w ≡ Granted y → r ≡ codeOf old z new y table → r ≡ byAcceptance old new table (Granted z) (acceptance new)
+    pub new-granted : (y : Sizes) (r : ℕ) → w ≡ Granted y → r ≡ codeOf old z new y table
+        → r ≡ byAcceptance old new table (Granted z) (acceptance new)
     new-granted y r g q = q ∙ ap (byAcceptance old new table (Granted z)) (sym g ∙ ew)
 
 pub granted-sound : (s : List ℕ) (x : Acceptance) (z : Sizes) → x ≡ acceptance s → x ≡ Granted z → decoded s ≡ Decoded.Sound z

@@ -42,7 +42,8 @@ module _ (n : ℕ) (points : ℕ → ℕ) (f : ℕ → ℕ → Bool) where
       each-at (λ j. f t j) k (points t) b (subst (λ (u : ℕ). each (points u) (λ j. f u j) ≡ true) q g)
 
   all-points : ((t k : ℕ) → Within n t → k < points t → f t k ≡ true) → each n (λ t. each (points (suc t)) (λ k. f (suc t) k)) ≡ true
-  all-points h = each-all (λ t. each (points (suc t)) (λ k. f (suc t) k)) n (λ t b. each-all (λ k. f (suc t) k) (points (suc t)) (λ k c. h (suc t) k (omega arith, omega arith) c))
+  all-points h = each-all (λ t. each (points (suc t)) (λ k. f (suc t) k)) n
+      (λ t b. each-all (λ k. f (suc t) k) (points (suc t)) (λ k c. h (suc t) k (omega arith, omega arith) c))
 
 within-so : (lo hi x : ℕ) → lo ≤ x → x ≤ hi → within lo hi x ≡ true
 unfolding within
@@ -52,12 +53,15 @@ module _ (D E : Image) (table : List ℕ) where
   pub table-fits : tableFits D E table ≡ true → Fits D E table
   unfolding tableFits threadsFit threadFits
   table-fits e =
-      let h = and-true (eqb (length table) (entrySize * pointsTo (D .program) (D .program .threads))) (each (D .program .threads) (λ t. each (D .program .points (suc t)) (λ k. inRange D E table (suc t) k))) e in
+      let h = and-true (eqb (length table) (entrySize * pointsTo (D .program) (D .program .threads)))
+      (each (D .program .threads) (λ t. each (D .program .points (suc t)) (λ k. inRange D E table (suc t) k))) e in
       let g : (t k : ℕ) → Within (D .program .threads) t → k < D .program .points t → inRange D E table t k ≡ true =
       point-at (D .program .threads) (D .program .points) (inRange D E table) (h .1) in
       let f : (t k : ℕ) (w : Within (D .program .threads) t) (b : k < D .program .points t)
-      → (ltb (newPoint (D .program) table t k) (E .program .points t) ≡ true) × (within 1 (E .certificate .count) (newLine (D .program) table t k) ≡ true) =
-      λ t k w b. and-true (ltb (newPoint (D .program) table t k) (E .program .points t)) (within 1 (E .certificate .count) (newLine (D .program) table t k)) (g t k w b) in
+      → (ltb (newPoint (D .program) table t k) (E .program .points t) ≡ true) ×
+      (within 1 (E .certificate .count) (newLine (D .program) table t k) ≡ true) =
+      λ t k w b. and-true (ltb (newPoint (D .program) table t k) (E .program .points t))
+      (within 1 (E .certificate .count) (newLine (D .program) table t k)) (g t k w b) in
       record {
         size = eqb-true (length table) (entrySize * pointsTo (D .program) (D .program .threads)) (h .0);
         points = λ t k w b. ltb-true (newPoint (D .program) table t k) (E .program .points t) (f t k w b .0);
@@ -76,7 +80,8 @@ module _ (D E : Image) (table : List ℕ) where
   unfolding linesServe
   lines-serve e t k w b =
       code-bears E (asked D E table t k) (newLine (D .program) table t k)
-      (eqb-true (lineCode E (asked D E table t k) (newLine (D .program) table t k)) 0 (point-at (D .program .threads) (D .program .points) (serves D E table) e t k w b))
+      (eqb-true (lineCode E (asked D E table t k) (newLine (D .program) table t k)) 0
+      (point-at (D .program .threads) (D .program .points) (serves D E table) e t k w b))
 
   pub serve-lines : Admitted E → Serve D E table → linesServe D E table ≡ true
   unfolding linesServe
@@ -96,10 +101,12 @@ module _ (D E : Image) (table : List ℕ) where
       go false b p q = out-of-range (λ (F : Fits D E table). true≢false (sym (fits-table F) ∙ p))
 
 -- equal headers have as many threads
-pub same-threads : (old : List ℕ) (z : Sizes) (new : List ℕ) (y : Sizes) → decoded old ≡ Sound z → decoded new ≡ Sound y → headerOf old ≡ headerOf new → z .threads ≡ y .threads
+pub same-threads : (old : List ℕ) (z : Sizes) (new : List ℕ) (y : Sizes) → decoded old ≡ Sound z → decoded new ≡ Sound y
+    → headerOf old ≡ headerOf new → z .threads ≡ y .threads
 unfolding sizesOf
 same-threads old z new y e d h =
-    ap (λ (x : Sizes). x .threads) (sound-checks old z e .sizes) ∙ ap (λ (b : List ℕ). threadCount b) h ∙ sym (ap (λ (x : Sizes). x .threads) (sound-checks new y d .sizes))
+    ap (λ (x : Sizes). x .threads) (sound-checks old z e .sizes) ∙ ap (λ (b : List ℕ). threadCount b) h ∙ sym
+    (ap (λ (x : Sizes). x .threads) (sound-checks new y d .sizes))
 
 -- accepted images, as the code finds them
 
@@ -119,10 +126,12 @@ module _ (old : List ℕ) (z : Sizes) (new : List ℕ) (y : Sizes) (table : List
   unfolding threadsServe threadServes entriesServe entryServes linesServe
   found-lines e d same f =
       let F = table-fits D E table f in
-      each-same (λ t. each (pointCount z (bodies old) (suc t)) (λ k. found (suc t) k)) (λ t. each (pointCount z (bodies old) (suc t)) (λ k. serves D E table (suc t) k)) (z .threads)
+      each-same (λ t. each (pointCount z (bodies old) (suc t)) (λ k. found (suc t) k))
+      (λ t. each (pointCount z (bodies old) (suc t)) (λ k. serves D E table (suc t) k)) (z .threads)
       (λ t b. each-same (λ k. found (suc t) k) (λ k. serves D E table (suc t) k) (pointCount z (bodies old) (suc t))
       (λ k a. let w : Within (z .threads) (suc t) = (omega arith, omega arith) in
-      found-served old z (sound-checks old z e) new y (sound-checks new y d) (suc t) k (newPoint (programOf z (bodies old)) table (suc t) k) (newLine (programOf z (bodies old)) table (suc t) k)
+      found-served old z (sound-checks old z e) new y (sound-checks new y d) (suc t) k
+      (newPoint (programOf z (bodies old)) table (suc t) k) (newLine (programOf z (bodies old)) table (suc t) k)
       w a (omega arith, omega arith) (F .points (suc t) k w a) (F .lines (suc t) k w a)))
     where
       found : ℕ → ℕ → Bool
@@ -130,7 +139,8 @@ module _ (old : List ℕ) (z : Sizes) (new : List ℕ) (y : Sizes) (table : List
           lineServes new y (marksTo new y (y .lines)) (lineNamed table (P (t - 1) + k)) (assertionOf old z t k)
           (assertionOf new y t (pointNamed table (P (t - 1) + k)))
 
-  pub marks-found : (m : Marks) (v : Bool) → m ≡ marksTo new y (y .lines) → v ≡ threadsServe old z new y (asMarks (m .on)) table (z .threads)
+  pub marks-found : (m : Marks) (v : Bool) → m ≡ marksTo new y (y .lines)
+      → v ≡ threadsServe old z new y (asMarks (m .on)) table (z .threads)
       → v ≡ threadsServe old z new y (marksTo new y (y .lines)) table (z .threads)
   marks-found m v em ev = ev ∙ ap (λ (x : Marks). threadsServe old z new y x table (z .threads)) em
 

@@ -57,23 +57,27 @@ module _ (z : Sizes) (l : List (List ℕ)) (y : Sizes) (m : List (List ℕ)) (i 
   unfolding formula
   same-formula e = rw e
 
-  same-body : Checks z l → 1 ≤ i → i ≤ z .formulas → sortOf (getD l i []) ≡ Codes.assertion → Checks y m → 1 ≤ j → j ≤ y .formulas → sortOf (getD m j []) ≡ Codes.assertion
+  same-body : Checks z l → 1 ≤ i → i ≤ z .formulas → sortOf (getD l i []) ≡ Codes.assertion → Checks y m → 1 ≤ j → j ≤ y .formulas
+      → sortOf (getD m j []) ≡ Codes.assertion
       → formula l Sort.assertion i ≡ formula m Sort.assertion j → getD l i [] ≡ getD m j []
   same-body c a b e d p q f g = body-bytes z l c i a b e ∙ ap (λ (x : Assertion). encode x []) g ∙ sym (body-bytes y m d j p q f)
 
 -- an implication is no triple
-not-taken : (t k : ℕ) (o : Bool) (a b p q : Assertion) → implies p q ≡ elim o as (λ (x : Bool). Statement) [ true ↦ Statement.pair t k a b | false ↦ Statement.triple t k a b ] → ⊥
+not-taken : (t k : ℕ) (o : Bool) (a b p q : Assertion)
+    → implies p q ≡ elim o as (λ (x : Bool). Statement) [ true ↦ Statement.pair t k a b | false ↦ Statement.triple t k a b ] → ⊥
 not-taken t k true a b p q e = let x : _≡_ {A = ℕ} 0 1 = cc in omega arith
 not-taken t k false a b p q e = let x : _≡_ {A = ℕ} 0 1 = cc in omega arith
 
 module _ (y : Sizes) (l : List (List ℕ)) (b : List ℕ) (p q : Assertion) where
   -- what a line of another form says is no implication
-  pub said-so : (f : Form) → implies p q ≡ saying y l f b → (f ≡ Implication) × (p ≡ formula l Sort.assertion (left b)) × (q ≡ formula l Sort.assertion (right b))
+  pub said-so : (f : Form) → implies p q ≡ saying y l f b
+      → (f ≡ Implication) × (p ≡ formula l Sort.assertion (left b)) × (q ≡ formula l Sort.assertion (right b))
   unfolding saying
   said-so Triple e = let x : _≡_ {A = ℕ} 0 1 = cc in absurd (omega arith)
   said-so Implication e = (refl, cc, cc)
   said-so Inclusion e = let x : _≡_ {A = ℕ} 0 1 = cc in absurd (omega arith)
-  said-so Pair e = absurd (not-taken (getD b 1 0) (getD b 2 0) (isPair (programOf y l .code (getD b 1 0) (getD b 2 0))) (formula l Sort.assertion (left b)) (formula l Sort.assertion (right b)) p q e)
+  said-so Pair e = absurd (not-taken (getD b 1 0) (getD b 2 0) (isPair (programOf y l .code (getD b 1 0) (getD b 2 0)))
+      (formula l Sort.assertion (left b)) (formula l Sort.assertion (right b)) p q e)
   said-so Unlisted e = let x : _≡_ {A = ℕ} 0 1 = cc in absurd (omega arith)
 
 is-form : (f : Form) → isImplication f ≡ true → f ≡ Implication
@@ -96,7 +100,8 @@ module _ (old : List ℕ) (z : Sizes) (c : Checks z (bodies old)) (new : List �
   abbrev M : Marks
   M = marksTo new y (y .lines)
 
-  module _ (t k p n : ℕ) (w : Within (z .threads) t) (b : k < pointCount z l t) (v : Within (y .threads) t) (a : p < pointCount y m t) (h : Within (y .lines) n) where
+  module _ (t k p n : ℕ) (w : Within (z .threads) t) (b : k < pointCount z l t) (v : Within (y .threads) t) (a : p < pointCount y m t)
+      (h : Within (y .lines) n) where
     abbrev body : List ℕ
     body = lineBody y m n
 
@@ -115,8 +120,10 @@ module _ (old : List ℕ) (z : Sizes) (c : Checks z (bodies old)) (new : List �
     found-bears : lineServes new y M n (assertionOf old z t k) (assertionOf new y t p) ≡ true → Bears E wanted n
     unfolding lineServes sidesMatch assertionOf saying
     found-bears e =
-        let g = and-true (isMarked M n) (isImplication form && (sameBytes (getD l o []) (getD m (left body) []) && sameBytes (getD m i []) (getD m (right body) []))) e in
-        let f = and-true (isImplication form) (sameBytes (getD l o []) (getD m (left body) []) && sameBytes (getD m i []) (getD m (right body) [])) (g .1) in
+        let g = and-true (isMarked M n) (isImplication form &&
+        (sameBytes (getD l o []) (getD m (left body) []) && sameBytes (getD m i []) (getD m (right body) []))) e in
+        let f = and-true (isImplication form) (sameBytes (getD l o []) (getD m (left body) []) && sameBytes (getD m i [])
+        (getD m (right body) [])) (g .1) in
         let q = and-true (sameBytes (getD l o []) (getD m (left body) [])) (sameBytes (getD m i []) (getD m (right body) [])) (f .1) in
         record {
           there = omega (arith, h .0);
@@ -127,7 +134,8 @@ module _ (old : List ℕ) (z : Sizes) (c : Checks z (bodies old)) (new : List �
         }
 
     -- the formulas of an implication are assertions that are there
-    sides-fine : form ≡ Implication → (sortOf (getD m (left body) []) ≡ Codes.assertion) × (sortOf (getD m (right body) []) ≡ Codes.assertion)
+    sides-fine : form ≡ Implication → (sortOf (getD m (left body) []) ≡ Codes.assertion) ×
+        (sortOf (getD m (right body) []) ≡ Codes.assertion)
     unfolding sortedBy sortAt
     sides-fine e =
         let r = sorted-passed y m d n (h .0) (h .1) in (
@@ -147,11 +155,14 @@ module _ (old : List ℕ) (z : Sizes) (c : Checks z (bodies old)) (new : List �
         let second = same-body y m y m i (right body) d (q .0) (q .1) (outline-fine y m d t p v a .0) d (r .1 .0) (r .1 .1) (u .1) (s .2) in
         let just = justified-marked (programOf y m) (certificateOf y m) (record { lower = checks-admitted y m d .lower }) n (g .just) in
         ap₂ _&&_ (marks-are new y d n ∙ holds-true (marked (programOf y m) (certificateOf y m) (y .lines) n) just)
-        (ap₂ _&&_ (ap isImplication (s .0)) (ap₂ _&&_ (equal-bytes (getD l o []) (getD m (left body) []) first) (equal-bytes (getD m i []) (getD m (right body) []) second)))
+        (ap₂ _&&_ (ap isImplication (s .0)) (ap₂ _&&_ (equal-bytes (getD l o []) (getD m (left body) []) first)
+        (equal-bytes (getD m i []) (getD m (right body) []) second)))
 
     -- by bytes as by what is said
     pub found-served : lineServes new y M n (assertionOf old z t k) (assertionOf new y t p) ≡ eqb (lineCode E wanted n) 0
     found-served =
         bool-ext (lineServes new y M n (assertionOf old z t k) (assertionOf new y t p)) (eqb (lineCode E wanted n) 0)
-        (λ g. is-true (eq-eqb (lineCode E wanted n) 0 (bears-code E (checks-admitted y m d) wanted n (found-bears (holds-true (lineServes new y M n (assertionOf old z t k) (assertionOf new y t p)) g)))))
+        (λ g. is-true (eq-eqb (lineCode E wanted n) 0
+        (bears-code E (checks-admitted y m d) wanted n
+        (found-bears (holds-true (lineServes new y M n (assertionOf old z t k) (assertionOf new y t p)) g)))))
         (λ g. is-true (bears-found (code-bears E wanted n (eqb-true (lineCode E wanted n) 0 (holds-true (eqb (lineCode E wanted n) 0) g)))))

@@ -67,7 +67,8 @@ module _ (table : List ℕ) (last lines from : ℕ) where
   unfolding entriesFit
   fit-more k u h e g = each-more fit k u h e g
 
-  pub fit-stops : (k n : ℕ) (u : Bool) → k < n → u ≡ entryFits table last lines (from + k) → u ≡ false → false ≡ entriesFit table last lines from n
+  pub fit-stops : (k n : ℕ) (u : Bool) → k < n → u ≡ entryFits table last lines (from + k) → u ≡ false
+      → false ≡ entriesFit table last lines from n
   unfolding entriesFit
   fit-stops k n u b e g = each-stops fit k n u b e g
 
@@ -93,19 +94,22 @@ module _ (old : List ℕ) (z : Sizes) (new : List ℕ) (y : Sizes) (table : List
   abbrev E : Image
   E = imageOf y (bodies new)
 
-  pub thread-fit : (t from last next : ℕ) (r : Bool) → from ≡ tallyTo z (bodies old) (t - 1) .points → last ≡ lastPoint (threadBody z (bodies old) t)
+  pub thread-fit : (t from last next : ℕ) (r : Bool) → from ≡ tallyTo z (bodies old) (t - 1) .points
+      → last ≡ lastPoint (threadBody z (bodies old) t)
       → next ≡ lastPoint (threadBody y (bodies new) t) → r ≡ entriesFit table next (y .lines) from (last + 1) → r ≡ threadFits D E table t
   unfolding entriesFit entryFits threadFits pointCount
   thread-fit t from last next r ef el en er =
       er ∙ ap (λ (n : ℕ). each (n + 1) (λ k. entryFits table next (y .lines) (from + k))) el
-      ∙ each-same (λ k. entryFits table next (y .lines) (from + k)) (λ k. inRange D E table t k) (lastPoint (threadBody z (bodies old) t) + 1) (λ k b. one k)
+      ∙ each-same (λ k. entryFits table next (y .lines) (from + k)) (λ k. inRange D E table t k)
+      (lastPoint (threadBody z (bodies old) t) + 1) (λ k b. one k)
     where
       at : (k : ℕ) → from + k ≡ pointsTo (programOf z (bodies old)) (t - 1) + k
       at k = ap (λ (n : ℕ). n + k) (ef ∙ points-are z (bodies old) (t - 1))
 
       one : (k : ℕ) → leb (pointNamed table (from + k)) next && within 1 (y .lines) (lineNamed table (from + k)) ≡ inRange D E table t k
       one k =
-          ap₂ _&&_ (ap₂ (λ (i n : ℕ). leb (pointNamed table i) n) (at k) en ∙ leb-ltb (pointNamed table (pointsTo (programOf z (bodies old)) (t - 1) + k)) (lastPoint (threadBody y (bodies new) t)))
+          ap₂ _&&_ (ap₂ (λ (i n : ℕ). leb (pointNamed table i) n) (at k) en ∙ leb-ltb
+          (pointNamed table (pointsTo (programOf z (bodies old)) (t - 1) + k)) (lastPoint (threadBody y (bodies new) t)))
           (ap (λ (i : ℕ). within 1 (y .lines) (lineNamed table i)) (at k))
 
   abbrev thread : ℕ → Bool
@@ -115,11 +119,13 @@ module _ (old : List ℕ) (z : Sizes) (new : List ℕ) (y : Sizes) (table : List
   unfolding threadsFit
   threads-none = each-none thread
 
-  pub threads-more : (t : ℕ) (u : Bool) → threadsFit D E table t ≡ true → u ≡ threadFits D E table (t + 1) → u ≡ true → threadsFit D E table (t + 1) ≡ true
+  pub threads-more : (t : ℕ) (u : Bool) → threadsFit D E table t ≡ true → u ≡ threadFits D E table (t + 1) → u ≡ true
+      → threadsFit D E table (t + 1) ≡ true
   unfolding threadsFit
   threads-more t u h e g = each-more thread t u h (e ∙ ap (threadFits D E table) (add-one t)) g
 
-  pub threads-stop : (t n : ℕ) (u : Bool) → t < n → n ≡ z .threads → u ≡ threadFits D E table (t + 1) → u ≡ false → false ≡ threadsFit D E table (z .threads)
+  pub threads-stop : (t n : ℕ) (u : Bool) → t < n → n ≡ z .threads → u ≡ threadFits D E table (t + 1) → u ≡ false
+      → false ≡ threadsFit D E table (z .threads)
   unfolding threadsFit
   threads-stop t n u b q e g = each-stops thread t (z .threads) u (omega arith) (e ∙ ap (threadFits D E table) (add-one t)) g
 
@@ -134,18 +140,22 @@ module _ (old : List ℕ) (z : Sizes) (new : List ℕ) (y : Sizes) (table : List
 
     pub table-other : (length table ≡ entrySize * n → ⊥) → false ≡ tableFits D E table
     unfolding tableFits
-    table-other h = rw (ne-eqb (length table) (entrySize * pointsTo (programOf z (bodies old)) (z .threads)) (λ (q : length table ≡ entrySize * pointsTo (programOf z (bodies old)) (z .threads)). h (q ∙ ap (λ (k : ℕ). entrySize * k) (sym size-is))))
+    table-other h = rw (ne-eqb (length table) (entrySize * pointsTo (programOf z (bodies old)) (z .threads))
+        (λ (q : length table ≡ entrySize * pointsTo (programOf z (bodies old)) (z .threads)). h
+        (q ∙ ap (λ (k : ℕ). entrySize * k) (sym size-is))))
 
     pub table-long : (r : Bool) → length table ≡ entrySize * n → r ≡ threadsFit D E table (z .threads) → r ≡ tableFits D E table
     unfolding tableFits
-    table-long r h g = rw (eq-eqb (length table) (entrySize * pointsTo (programOf z (bodies old)) (z .threads)) (h ∙ ap (λ (k : ℕ). entrySize * k) size-is)) g
+    table-long r h g = rw (eq-eqb (length table) (entrySize * pointsTo (programOf z (bodies old)) (z .threads))
+        (h ∙ ap (λ (k : ℕ). entrySize * k) size-is)) g
 
 pub ruleset table-ways = (threads-more, threads-stop, threads-done)
 
 -- the lines
 
 pub assertion-read : (s : List ℕ) (z : Sizes) (c : Totals) (t k n i : ℕ) (b r : List ℕ) → c ≡ totalsOf z (bodies s) → 1 ≤ t → t ≤ z .threads
-    → b ≡ getD (bodies s) (z .formulas + z .threads + 1) [] → n ≡ tallyTo z (bodies s) (t - 1) .points → i ≡ getD (numbers (c .points) b) (n + k) 0
+    → b ≡ getD (bodies s) (z .formulas + z .threads + 1) [] → n ≡ tallyTo z (bodies s) (t - 1) .points
+    → i ≡ getD (numbers (c .points) b) (n + k) 0
     → r ≡ getD (bodies s) i [] → r ≡ assertionOf s z t k
 unfolding assertionOf outlineNumber totalsOf
 assertion-read s z c t k n i b r ec low high eb en ei er =
@@ -171,7 +181,8 @@ module _ (f g : Form) (e : f ≡ g) where
 
 pub ruleset forms = (form-triple, form-implication, form-inclusion, form-pair, form-unlisted)
 
-module _ (s b p q : List ℕ) (i : ℕ) (x : List ℕ) (u : Bool) (ei : i ≡ word (drop 3 b)) (ex : x ≡ getD (bodies s) i []) (eu : u ≡ sameBytes p x) where
+module _ (s b p q : List ℕ) (i : ℕ) (x : List ℕ) (u : Bool) (ei : i ≡ word (drop 3 b)) (ex : x ≡ getD (bodies s) i [])
+    (eu : u ≡ sameBytes p x) where
   first-is : u ≡ sameBytes p (getD (bodies s) (word (drop 3 b)) [])
   first-is = eu ∙ ap (λ (l : List ℕ). sameBytes p l) (ex ∙ ap (λ (k : ℕ). getD (bodies s) k []) ei)
 
@@ -179,7 +190,8 @@ module _ (s b p q : List ℕ) (i : ℕ) (x : List ℕ) (u : Bool) (ei : i ≡ wo
   unfolding sidesMatch
   left-other h = ap (λ (v : Bool). v && sameBytes q (getD (bodies s) (word (drop 5 b)) [])) (sym h ∙ first-is)
 
-  pub left-same : (j : ℕ) (w : List ℕ) (v : Bool) → u ≡ true → j ≡ word (drop 5 b) → w ≡ getD (bodies s) j [] → v ≡ sameBytes q w → v ≡ sidesMatch s b p q
+  pub left-same : (j : ℕ) (w : List ℕ) (v : Bool) → u ≡ true → j ≡ word (drop 5 b) → w ≡ getD (bodies s) j [] → v ≡ sameBytes q w
+      → v ≡ sidesMatch s b p q
   unfolding sidesMatch
   left-same j w v h ej ew ev =
       ev ∙ ap (λ (l : List ℕ). sameBytes q l) (ew ∙ ap (λ (k : ℕ). getD (bodies s) k []) ej)
@@ -192,7 +204,8 @@ module _ (s : List ℕ) (z : Sizes) (m : Marks) (n : ℕ) (p q : List ℕ) (u : 
   unfolding lineServes
   line-unmarked h = rw (← e, h)
 
-  module _ (b : List ℕ) (v : Bool) (h : u ≡ true) (eb : b ≡ getD (bodies s) (z .formulas + z .threads + 1 + n) []) (ev : v ≡ isImplication (formOf (getD b 0 0))) where
+  module _ (b : List ℕ) (v : Bool) (h : u ≡ true) (eb : b ≡ getD (bodies s) (z .formulas + z .threads + 1 + n) [])
+      (ev : v ≡ isImplication (formOf (getD b 0 0))) where
     served : v && sidesMatch s b p q ≡ lineServes s z m n p q
     unfolding lineServes lineBody
     served = rw (← e, h, ← eb) (ap (λ (w : Bool). w && sidesMatch s b p q) ev)
@@ -206,7 +219,8 @@ module _ (s : List ℕ) (z : Sizes) (m : Marks) (n : ℕ) (p q : List ℕ) (u : 
 pub ruleset line-ways = (line-unmarked, line-other, line-sides)
 
 module _ (old : List ℕ) (z : Sizes) (new : List ℕ) (y : Sizes) (m : Marks) (table : List ℕ) where
-  pub entry-served : (t k i p n : ℕ) (a b : List ℕ) (r : Bool) → a ≡ assertionOf old z t k → p ≡ pointNamed table i → b ≡ assertionOf new y t p
+  pub entry-served : (t k i p n : ℕ) (a b : List ℕ) (r : Bool) → a ≡ assertionOf old z t k → p ≡ pointNamed table i
+      → b ≡ assertionOf new y t p
       → n ≡ lineNamed table i → r ≡ lineServes new y m n a b → r ≡ entryServes old z new y m table t k i
   unfolding entryServes
   entry-served t k i p n a b r ea ep eb en er = rw (← en, ← ep, ← ea, ← eb) er
@@ -219,20 +233,24 @@ module _ (old : List ℕ) (z : Sizes) (new : List ℕ) (y : Sizes) (m : Marks) (
     unfolding entriesServe
     serve-none = each-none entry
 
-    pub serve-more : (k : ℕ) (u : Bool) → entriesServe old z new y m table t from k ≡ true → u ≡ entryServes old z new y m table t k (from + k) → u ≡ true
+    pub serve-more : (k : ℕ) (u : Bool) → entriesServe old z new y m table t from k ≡ true
+        → u ≡ entryServes old z new y m table t k (from + k) → u ≡ true
         → entriesServe old z new y m table t from (k + 1) ≡ true
     unfolding entriesServe
     serve-more k u h e g = each-more entry k u h e g
 
-    pub serve-stops : (k n : ℕ) (u : Bool) → k < n → u ≡ entryServes old z new y m table t k (from + k) → u ≡ false → false ≡ entriesServe old z new y m table t from n
+    pub serve-stops : (k n : ℕ) (u : Bool) → k < n → u ≡ entryServes old z new y m table t k (from + k) → u ≡ false
+        → false ≡ entriesServe old z new y m table t from n
     unfolding entriesServe
     serve-stops k n u b e g = each-stops entry k n u b e g
 
-    pub serve-done : (k n : ℕ) → entriesServe old z new y m table t from k ≡ true → n ≤ k → k ≤ n → true ≡ entriesServe old z new y m table t from n
+    pub serve-done : (k n : ℕ) → entriesServe old z new y m table t from k ≡ true → n ≤ k → k ≤ n
+        → true ≡ entriesServe old z new y m table t from n
     unfolding entriesServe
     serve-done k n h a b = each-done entry k n h a b
 
-  pub thread-served : (t from last : ℕ) (r : Bool) → from ≡ tallyTo z (bodies old) (t - 1) .points → last ≡ lastPoint (threadBody z (bodies old) t)
+  pub thread-served : (t from last : ℕ) (r : Bool) → from ≡ tallyTo z (bodies old) (t - 1) .points
+      → last ≡ lastPoint (threadBody z (bodies old) t)
       → r ≡ entriesServe old z new y m table t from (last + 1) → r ≡ threadServes old z new y m table t
   unfolding threadServes pointCount
   thread-served t from last r ef el er = rw (← points-are z (bodies old) (t - 1), ← ef, ← el) er
@@ -254,7 +272,8 @@ module _ (old : List ℕ) (z : Sizes) (new : List ℕ) (y : Sizes) (m : Marks) (
   unfolding threadsServe
   all-stop t n u b q e g = each-stops each-thread t (z .threads) u (omega arith) (e ∙ ap (threadServes old z new y m table) (add-one t)) g
 
-  pub all-done : (t n : ℕ) → threadsServe old z new y m table t ≡ true → n ≡ z .threads → n ≤ t → t ≤ n → true ≡ threadsServe old z new y m table (z .threads)
+  pub all-done : (t n : ℕ) → threadsServe old z new y m table t ≡ true → n ≡ z .threads → n ≤ t → t ≤ n
+      → true ≡ threadsServe old z new y m table (z .threads)
   unfolding threadsServe
   all-done t n h q a b = each-done each-thread t (z .threads) h (omega arith) (omega arith)
 

@@ -21,7 +21,8 @@ use Rattle.handover.specs.Table.{entrySize, pointsTo, newPoint, newLine,
 module _ (D E : Image) (table : List ℕ) where
   -- the new point is one of the same thread, and the line is there; line 0 is not
   abbrev pub inRange : ℕ → ℕ → Bool
-  inRange t k = ltb (newPoint (D .program) table t k) (E .program .points t) && within 1 (E .certificate .count) (newLine (D .program) table t k)
+  inRange t k = ltb (newPoint (D .program) table t k) (E .program .points t) && within 1 (E .certificate .count)
+      (newLine (D .program) table t k)
 
   unfoldable pub threadFits : ℕ → Bool
   threadFits t = each (D .program .points t) (λ k. inRange t k)
@@ -55,7 +56,8 @@ headerOf s = getD (bodies s) 0 []
 
 -- of accepted images
 unfoldable pub codeOf : List ℕ → Sizes → List ℕ → Sizes → List ℕ → ℕ
-codeOf old z new y table = cond (sameBytes (headerOf old) (headerOf new)) (codeBetween (imageOf z (bodies old)) (imageOf y (bodies new)) table) 32
+codeOf old z new y table = cond (sameBytes (headerOf old) (headerOf new))
+    (codeBetween (imageOf z (bodies old)) (imageOf y (bodies new)) table) 32
 
 abbrev pub byAcceptance : List ℕ → List ℕ → List ℕ → Acceptance → Acceptance → ℕ
 byAcceptance old new table Declined b = 32

@@ -26,12 +26,15 @@ module _ (D E : Image) (table : List ℕ) where
   -- an entry for each old point and nothing else; each new point is one of the same thread, each line is there
   pub record Fits : Type 0 where
     pub size : length table ≡ entrySize * pointsTo (D .program) (D .program .threads)
-    pub points : (t k : ℕ) → Within (D .program .threads) t → k < D .program .points t → newPoint (D .program) table t k < E .program .points t
-    pub lines : (t k : ℕ) → Within (D .program .threads) t → k < D .program .points t → Within (E .certificate .count) (newLine (D .program) table t k)
+    pub points : (t k : ℕ) → Within (D .program .threads) t → k < D .program .points t
+        → newPoint (D .program) table t k < E .program .points t
+    pub lines : (t k : ℕ) → Within (D .program .threads) t → k < D .program .points t
+        → Within (E .certificate .count) (newLine (D .program) table t k)
 
   -- each line says that the new point's assertion follows from the old one, and is justified, by a rule from premises that are, to the last
   abbrev pub Serve : Type 0
-  Serve = (t k : ℕ) → Within (D .program .threads) t → k < D .program .points t → Bears E (asked D E table t k) (newLine (D .program) table t k)
+  Serve = (t k : ℕ) → Within (D .program .threads) t → k < D .program .points t
+      → Bears E (asked D E table t k) (newLine (D .program) table t k)
 
   -- what a code says of them
   pub data Decided : ℕ → Type 0 where

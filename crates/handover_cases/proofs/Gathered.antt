@@ -7,15 +7,16 @@ use Rattle.handover.specs.Promise.{Promise}
 use Rattle.stored.specs.Tally.{withCase}
 use Rattle.stored.specs.declared.tally.Tally.{Tally}
 use Rattle.stored.proofs.Tallies.{Running, running-none, running-more, running-over}
-use Rattle.handover_cases.specs.Parts.{oldIn, newIn, tableIn}
-use Rattle.handover_cases.specs.Answer.{sameCode, kindOf}
+use Rattle.stored_answers.specs.Kind.{kindOf}
+use Rattle.stored_answers.specs.Parts.{firstIn, secondIn, thirdOn}
+use Rattle.handover_cases.specs.Answer.{sameCode}
 use Rattle.handover_cases.specs.Judge.{Counted}
 
-pub call-stored : (s body old new table : List ℕ) (code : ℕ) → old ≡ oldIn s body → new ≡ newIn s body → table ≡ tableIn s body
-    → Promise old new table code → Promise (oldIn s body) (newIn s body) (tableIn s body) code
+pub call-stored : (s body old new table : List ℕ) (code : ℕ) → old ≡ firstIn s body → new ≡ secondIn s body → table ≡ thirdOn s body
+    → Promise old new table code → Promise (firstIn s body) (secondIn s body) (thirdOn s body) code
 call-stored s body old new table code o n t p = rw (← o, ← n, ← t) p
 
-pub handover-counted : (s body : List ℕ) (t u : Tally) (code kind : ℕ) (same : Bool) → Promise (oldIn s body) (newIn s body) (tableIn s body) code
+pub handover-counted : (s body : List ℕ) (t u : Tally) (code kind : ℕ) (same : Bool) → Promise (firstIn s body) (secondIn s body) (thirdOn s body) code
     → kind ≡ kindOf code → same ≡ sameCode code s → u ≡ withCase t kind same → Counted body s t u
 handover-counted s body t u code kind same p k e g = record { code = code; called = p; counted = rw (← k, ← e) g }
 

@@ -1,8 +1,8 @@
 -- Stored codes, and codes compared with them.
-use mathlib.Core.Bool.{Bool, cond}
+use mathlib.Core.Bool.{Bool}
 use mathlib.Core.List.{List}
-use Prim.Native.Nat.{ℕ, _-_}
-use lib.Dec.{eqb, ltb}
+use Prim.Native.Nat.{ℕ}
+use lib.Dec.{eqb}
 use lib.ListN.{drop}
 use Rattle.limits.specs.Numbers.{word}
 
@@ -11,7 +11,3 @@ codeAt s = word (drop 8 s)
 
 unfoldable pub sameCode : ℕ → List ℕ → Bool
 sameCode code s = eqb code (codeAt s)
-
--- the place of a code in a tally of 32: from 20 on it is 20 lower
-unfoldable pub kindOf : ℕ → ℕ
-kindOf code = cond (ltb code 20) code (code - 20)

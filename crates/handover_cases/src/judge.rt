@@ -1,10 +1,6 @@
 // The cases of a file: both images and the table as the body, lengths and code as the tail.
 use crate::answer::Stored;
-use crate::answer::kind_of;
 use crate::answer::same_code;
-use crate::parts::new_in;
-use crate::parts::old_in;
-use crate::parts::table_in;
 use handover::entry::check_handover;
 use limits::Limits;
 use stored::case::Next;
@@ -14,21 +10,25 @@ use stored::tally::Judged;
 use stored::tally::Tally;
 use stored::tally::no_case;
 use stored::tally::with_case;
+use stored_answers::kind::kind_of;
+use stored_answers::parts::first_in;
+use stored_answers::parts::second_in;
+use stored_answers::parts::third_on;
 ghost use mathlib.Core.Path.{_≡_};
 ghost use Prim.Native.Nat.{_+_};
 ghost use lib.ListN.{length};
 ghost use Rattle.limits.specs.Limits.{imageBytes};
 ghost use Rattle.handover.specs.Promise.{Promise};
 ghost use Rattle.stored.specs.Tallied.{FromCases};
-ghost use Rattle.handover_cases.specs.Parts.{oldIn, newIn, tableIn};
+ghost use Rattle.stored_answers.specs.Parts.{firstIn, secondIn, thirdOn};
 ghost use Rattle.handover_cases.specs.Judge.{Counted};
 
 // The call that is stored.
 fn code_of_stored<'a, 'b>(body: &'a [u8], s: &'b [u8]) -> u16
-    ensures { λ r. ⌜ Promise (oldIn (now (s .entry)) (now (body .entry))) (newIn (now (s .entry)) (now (body .entry)))
-        (tableIn (now (s .entry)) (now (body .entry))) r ⌝ }
+    ensures { λ r. ⌜ Promise (firstIn (now (s .entry)) (now (body .entry))) (secondIn (now (s .entry)) (now (body .entry)))
+        (thirdOn (now (s .entry)) (now (body .entry))) r ⌝ }
 {
-    check_handover(old_in(body, s), new_in(body, s), table_in(body, s))
+    check_handover(first_in(body, s), second_in(body, s), third_on(body, s))
 }
 
 // The tally with a handover more, by its code, and whether that is the stored one.

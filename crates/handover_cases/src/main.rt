@@ -4,7 +4,6 @@
 mod answer;
 mod judge;
 mod line;
-mod parts;
 
 use judge::judge_all;
 use line::write_line;

@@ -77,7 +77,8 @@ points-rise P n (suc m) h = go (eqb n (suc m)) refl (points-rise P n m)
     go false e ih = let g = ih (let q = eqb-false n (suc m) e in omega arith) in omega arith
 
 -- a thread that is not there has no entry
-past-table : (P : Program) (points : List ℕ) → length points ≡ entrySize * pointsTo P (P .threads) → (t k : ℕ) → P .threads ≤ t → newPoint P points (suc t) k ≡ 0
+past-table : (P : Program) (points : List ℕ) → length points ≡ entrySize * pointsTo P (P .threads) → (t k : ℕ) → P .threads ≤ t
+    → newPoint P points (suc t) k ≡ 0
 unfolding pointNamed
 past-table P points e t k h =
     let r = points-rise P (P .threads) (suc t - 1) (omega arith) in
@@ -89,7 +90,8 @@ unfolding used
 used-handed to s zero = refl
 used-handed to s (suc n) = ap (λ (k : ℕ). k + s .size (suc n)) (used-handed to s n)
 
-module _ (old : List ℕ) (z : Sizes) (new : List ℕ) (y : Sizes) (points : List ℕ) (a : acceptance old ≡ Granted z) (b : acceptance new ≡ Granted y)
+module _ (old : List ℕ) (z : Sizes) (new : List ℕ) (y : Sizes) (points : List ℕ) (a : acceptance old ≡ Granted z)
+    (b : acceptance new ≡ Granted y)
     (e : codeOf old z new y points ≡ 0) (first second given : List ℕ) (lent : ℕ) where
   abbrev P : Program
   P = programOf z (bodies old)
@@ -144,7 +146,8 @@ module _ (old : List ℕ) (z : Sizes) (new : List ℕ) (y : Sizes) (points : Lis
   old-run = ran old z room machine 0 first
 
   old-matches : Matches old z c room few (ran old z room machine 0 first) before
-  old-matches = follows old z c room few start machine (subst (λ (R : ℕ). Ready old z c start (started (headerOf old) R given)) (sym (range-is old z c)) (begun old z c given)) 0 first
+  old-matches = follows old z c room few start machine
+      (subst (λ (R : ℕ). Ready old z c start (started (headerOf old) R given)) (sym (range-is old z c)) (begun old z c given)) 0 first
 
   abbrev reached-machine : Machine
   reached-machine = ran old z room machine 0 first .machine
@@ -156,7 +159,8 @@ module _ (old : List ℕ) (z : Sizes) (new : List ℕ) (y : Sizes) (points : Lis
   unfolding mappedPoint
   mapped-is t h = go (ltb t (z .threads)) refl
     where
-      go : (x : Bool) → ltb t (z .threads) ≡ x → cond x (newPoint P points (suc t) (getD (reached-machine .points) t 0)) 0 ≡ to (suc t) (before .state .point (suc t))
+      go : (x : Bool) → ltb t (z .threads) ≡ x
+          → cond x (newPoint P points (suc t) (getD (reached-machine .points) t 0)) 0 ≡ to (suc t) (before .state .point (suc t))
       go true q = ap (λ (k : ℕ). newPoint P points (suc t) k) (old-matches .ready .stands .points t h)
       go false q = sym (past-table P points (fit-table .size) t (before .state .point (suc t)) (ltb-false t (z .threads) q))
 
@@ -166,14 +170,24 @@ module _ (old : List ℕ) (z : Sizes) (new : List ℕ) (y : Sizes) (points : Lis
   handed-stands =
       let m = old-matches .ready .stands .memory in
       record {
-        memory = record { rows = m .rows; places = m .places; threads = m .threads; size = m .size; few = m .few; writes = m .writes; views = m .views };
+        memory = record {
+          rows = m .rows;
+          places = m .places;
+          threads = m .threads;
+          size = m .size;
+          few = m .few;
+          writes = m .writes;
+          views = m .views;
+        };
         registers = old-matches .ready .stands .registers;
         four = refl;
         points = four-points;
       }
     where
       four-points : (t : ℕ) → t < 4
-          → getD (mappedPoint old z points 0 (getD (reached-machine .points) 0 0) ∷ mappedPoint old z points 1 (getD (reached-machine .points) 1 0) ∷ mappedPoint old z points 2 (getD (reached-machine .points) 2 0) ∷ mappedPoint old z points 3 (getD (reached-machine .points) 3 0) ∷ []) t 0
+          → getD (mappedPoint old z points 0 (getD (reached-machine .points) 0 0) ∷ mappedPoint old z points 1
+          (getD (reached-machine .points) 1 0) ∷ mappedPoint old z points 2
+          (getD (reached-machine .points) 2 0) ∷ mappedPoint old z points 3 (getD (reached-machine .points) 3 0) ∷ []) t 0
           ≡ to (suc t) (before .state .point (suc t))
       four-points zero h = mapped-is 0 h
       four-points (suc zero) h = mapped-is 1 h
@@ -216,20 +230,23 @@ module _ (old : List ℕ) (z : Sizes) (new : List ℕ) (y : Sizes) (points : Lis
   same-registers : z .registers ≡ y .registers
   unfolding sizesOf
   same-registers =
-      ap (λ (x : Sizes). x .registers) (c .sizes) ∙ ap (λ (l : List ℕ). registerCount l) (zero-so old z new y points a b e .0) ∙ sym (ap (λ (x : Sizes). x .registers) (d .sizes))
+      ap (λ (x : Sizes). x .registers) (c .sizes) ∙ ap (λ (l : List ℕ). registerCount l) (zero-so old z new y points a b e .0) ∙ sym
+      (ap (λ (x : Sizes). x .registers) (d .sizes))
 
   no-thread : (t : ℕ) → y .threads ≤ t → after .state .point (suc t) ≡ 0
   no-thread t h =
       let s : z .threads ≡ y .threads = permit .alike .threads in
       ap (λ (q : State). q .point (suc t)) after-state
-      ∙ absent-point Q (suc t) (omega arith) (take (after .steps) (stepsIn second)) (handed to (before .state)) (past-table P points (fit-table .size) t (before .state .point (suc t)) (omega arith))
+      ∙ absent-point Q (suc t) (omega arith) (take (after .steps) (stepsIn second)) (handed to (before .state))
+      (past-table P points (fit-table .size) t (before .state .point (suc t)) (omega arith))
 
   no-register : (r : ℕ) → y .registers < r → after .state .reg r ≡ 0
   no-register r h =
       let s = same-registers in
       ap (λ (q : State). q .reg r) after-state
       ∙ register-kept new y d r h (take (after .steps) (stepsIn second)) (handed to (before .state))
-      (ap (λ (q : State). q .reg r) before-state ∙ absent-register old z c r (omega arith) (λ r. nth given r 0) (take (before .steps) (stepsIn first)))
+      (ap (λ (q : State). q .reg r) before-state ∙ absent-register old z c r (omega arith) (λ r. nth given r 0)
+      (take (before .steps) (stepsIn first)))
 
   module _ (fit : z .words ≤ room) where
     full : used (after .state) (y .words) ≤ room
@@ -251,7 +268,8 @@ module _ (old : List ℕ) (z : Sizes) (new : List ℕ) (y : Sizes) (points : Lis
       unfolding shownOf
       table =
           subst (λ (n : ℕ). TableStands (y .words) (shownIn (new-run .machine .memory) n lent) (after .state)) (sym (permit .alike .words))
-          (table-is Q (new-run .machine .memory) (after .state) (new-matches .ready .stands .memory) (new-matches .ready .wf) (sizes-few y (bodies new) d .1) lent full)
+          (table-is Q (new-run .machine .memory) (after .state) (new-matches .ready .stands .memory) (new-matches .ready .wf)
+          (sizes-few y (bodies new) d .1) lent full)
 
       answer : AnswerStands (y .threads) (y .registers) (answerOf (ofRun z (behind old-run new-run))) (after .state)
       unfolding answerOf
@@ -269,11 +287,13 @@ module _ (old : List ℕ) (z : Sizes) (new : List ℕ) (y : Sizes) (points : Lis
           let g : getD (new-run .machine .points) t 0 ≡ after .state .point (suc t) = new-matches .ready .stands .points t (omega arith) in
           let w : Within (Q .threads) (suc t) = (omega arith, omega arith) in
           let s : Holds Q N (after .state) = subst (Holds Q N) (sym after-state) (new-way (take (after .steps) (stepsIn second))) in
-          subst (λ (f : ℕ → ℕ). plainTrue (Q .range) f (N (suc t) (getD (new-run .machine .points) t 0)) ≡ true) (sym (fun-ext (new-matches .ready .stands .registers .same)))
+          subst (λ (f : ℕ → ℕ). plainTrue (Q .range) f (N (suc t) (getD (new-run .machine .points) t 0)) ≡ true)
+          (sym (fun-ext (new-matches .ready .stands .registers .same)))
           (subst (λ (j : ℕ). T (ofRegs (N (suc t) j)) → plainTrue (Q .range) (after .state .reg) (N (suc t) j) ≡ true) (sym g)
           (λ i. plain-true Q (after .state) (N (suc t) (after .state .point (suc t))) i (s (suc t) w)) k)
 
-      whole : Across old z new y points first second given room (answerOf (ofRun z (behind old-run new-run))) (shownOf (ofRun z (behind old-run new-run)) lent)
+      whole : Across old z new y points first second given room (answerOf (ofRun z (behind old-run new-run)))
+          (shownOf (ofRun z (behind old-run new-run)) lent)
       unfolding answerOf
       whole = record {
         code = new-matches .code;
@@ -282,7 +302,8 @@ module _ (old : List ℕ) (z : Sizes) (new : List ℕ) (y : Sizes) (points : Lis
         answer = answer;
         table = table;
         fits = omega (arith, table .many, full);
-        old-way = λ k h. every-run P O (well-formed z (bodies old) c) (accepted-proved old z a) .holds start starts (take k (stepsIn first));
+        old-way = λ k h. every-run P O (well-formed z (bodies old) c) (accepted-proved old z a) .holds start starts
+            (take k (stepsIn first));
         new-way = λ k h. new-way (take k (stepsIn second));
         holds = subst (Holds Q N) (sym after-state) (new-way (take (after .steps) (stepsIn second)));
         plain = plain;
@@ -296,7 +317,8 @@ module _ (old : List ℕ) (z : Sizes) (new : List ℕ) (y : Sizes) (points : Lis
     unfolding acrossOn replayOn
     stopped-is h =
         rw (le-ltb room (z .words) fit)
-        (ap (ofRun z) (sym (on-refused old z new y points room old-run second (λ (q : old-run .code ≡ 0). h (sym (old-matches .code) ∙ q)))))
+        (ap (ofRun z) (sym (on-refused old z new y points room old-run second
+        (λ (q : old-run .code ≡ 0). h (sym (old-matches .code) ∙ q)))))
 
   unfit-is : room < z .words → acrossOn old z new y points first second given room ≡ replayOn old z first given room
   unfolding acrossOn replayOn
@@ -338,24 +360,33 @@ module _ (old new points first second given : List ℕ) (lent : ℕ) where
     replay-is = rw a
 
   -- of every input
-  promised : (a : Answer) (shown : List Write) → a ≡ answerOf all → shown ≡ shownOf all lent → Promise old new points first second given lent a shown
+  promised : (a : Answer) (shown : List Write) → a ≡ answerOf all → shown ≡ shownOf all lent
+      → Promise old new points first second given lent a shown
   promised a shown ea es = record {
     answer = ea;
     table = es;
-    refused = λ h. (ea ∙ ap answerOf (refused-is h) ∙ refused-answer code .0, es ∙ ap (λ (r : Replayed). shownOf r lent) (refused-is h) ∙ refused-answer code .1);
+    refused = λ h. (
+      ea ∙ ap answerOf (refused-is h) ∙ refused-answer code .0,
+      es ∙ ap (λ (r : Replayed). shownOf r lent) (refused-is h)
+          ∙ refused-answer code .1,
+    );
     unfit = λ z y p q h f. Replay.promised old first given lent a shown
         (ea ∙ ap answerOf (as-replay z y p q h (unfit-is old z new y points p q (sym (code-is z y p q) ∙ h) first second given lent f)))
-        (es ∙ ap (λ (r : Replayed). shownOf r lent) (as-replay z y p q h (unfit-is old z new y points p q (sym (code-is z y p q) ∙ h) first second given lent f)))
+        (es ∙ ap (λ (r : Replayed). shownOf r lent)
+        (as-replay z y p q h (unfit-is old z new y points p q (sym (code-is z y p q) ∙ h) first second given lent f)))
         .unfit z p f;
     stopped = λ z y p q h f g. Replay.promised old first given lent a shown
         (ea ∙ ap answerOf (as-replay z y p q h (stopped-is old z new y points p q (sym (code-is z y p q) ∙ h) first second given lent f g)))
-        (es ∙ ap (λ (r : Replayed). shownOf r lent) (as-replay z y p q h (stopped-is old z new y points p q (sym (code-is z y p q) ∙ h) first second given lent f g)))
+        (es ∙ ap (λ (r : Replayed). shownOf r lent)
+        (as-replay z y p q h (stopped-is old z new y points p q (sym (code-is z y p q) ∙ h) first second given lent f g)))
         .replays z p f;
-    goes-on = λ z y p q h f g. rw (ea, es, permitted-is z y p q h) (goes-on old z new y points p q (sym (code-is z y p q) ∙ h) first second given lent f g);
+    goes-on = λ z y p q h f g. rw (ea, es, permitted-is z y p q h)
+        (goes-on old z new y points p q (sym (code-is z y p q) ∙ h) first second given lent f g);
   }
     where
       as-replay : (z y : Sizes) → (p : acceptance old ≡ Granted z) → (q : acceptance new ≡ Granted y) → code ≡ 0
-          → acrossOn old z new y points first second given (roomOf lent) ≡ replayOn old z first given (roomOf lent) → all ≡ replayOf old first given lent
+          → acrossOn old z new y points first second given (roomOf lent) ≡ replayOn old z first given (roomOf lent)
+          → all ≡ replayOf old first given lent
       as-replay z y p q h s = permitted-is z y p q h ∙ s ∙ sym (replay-is z y p q)
 
 -- the entry point
@@ -366,7 +397,8 @@ module _ (old new points first second given table room : List ℕ) where
   abbrev replayed-all : Replayed
   replayed-all = acrossOf old new points first second given lent
 
-  shown-right : (y : Shown) → y ≡ shownBy replayed-all lent → Promise old new points first second given lent (y .answer) (take (y .count) (y .writes))
+  shown-right : (y : Shown) → y ≡ shownBy replayed-all lent
+      → Promise old new points first second given lent (y .answer) (take (y .count) (y .writes))
   unfolding shownBy
   shown-right y e =
       promised old new points first second given lent (y .answer) (take (y .count) (y .writes)) (ap (λ (x : Shown). x .answer) e)
@@ -383,7 +415,8 @@ module _ (old new points first second given table room : List ℕ) where
     bytes = rw (lt-ltb _ _ h);
   }
 
-  pub written-whole : (y : Shown) (after told : List ℕ) → size ≤ length room → y ≡ shownBy replayed-all lent → told ≡ numbersOf (y .answer) ++ drop size room
+  pub written-whole : (y : Shown) (after told : List ℕ) → size ≤ length room → y ≡ shownBy replayed-all lent
+      → told ≡ numbersOf (y .answer) ++ drop size room
       → after ≡ laid (take (y .count) (y .writes)) table → Written old new points first second given table room (y .answer .code) after told
   unfolding Answered.codeFor numbersFor tableFor
   written-whole y after told h e et es = record {

@@ -34,12 +34,14 @@ module _ (old : List ℕ) (z : Sizes) (points : List ℕ) (t k : ℕ) where
   unfolding mappedPoint
   mapped-none h = rw (le-ltb t (z .threads) h)
 
-  pub mapped-there : (n r : ℕ) → t < z .threads → n ≡ tallyTo z (bodies old) (t + 1 - 1) .points → r ≡ pointNamed points (n + k) → r ≡ mappedPoint old z points t k
+  pub mapped-there : (n r : ℕ) → t < z .threads → n ≡ tallyTo z (bodies old) (t + 1 - 1) .points → r ≡ pointNamed points (n + k)
+      → r ≡ mappedPoint old z points t k
   unfolding mappedPoint
   mapped-there n r h en er =
       let q : t + 1 - 1 ≡ suc t - 1 = omega arith in
       rw (lt-ltb t (z .threads) h)
-      (er ∙ ap (λ (i : ℕ). pointNamed points (i + k)) (en ∙ points-are z (bodies old) (t + 1 - 1) ∙ ap (pointsTo (programOf z (bodies old))) q))
+      (er ∙ ap (λ (i : ℕ). pointNamed points (i + k))
+      (en ∙ points-are z (bodies old) (t + 1 - 1) ∙ ap (pointsTo (programOf z (bodies old))) q))
 
 pub handed-so : (old : List ℕ) (z : Sizes) (points : List ℕ) (n : Machine) (a b c d : ℕ)
     → a ≡ mappedPoint old z points 0 (getD (n .points) 0 0) → b ≡ mappedPoint old z points 1 (getD (n .points) 1 0)
@@ -53,10 +55,15 @@ steps-half : (s : List ℕ) (z : Sizes) (room : ℕ) (n : Machine) (k : ℕ) (l 
 unfolding ran
 steps-half s z room n k [] = omega arith
 steps-half s z room n k (t ∷ []) = omega arith
-steps-half s z room n k (t ∷ p ∷ l) = go (eqb (stepped s z room n t p .code) 0) (steps-half s z room (stepped s z room n t p .machine) (k + 1) l)
+steps-half s z room n k (t ∷ p ∷ l) = go (eqb (stepped s z room n t p .code) 0)
+    (steps-half s z room (stepped s z room n t p .machine) (k + 1) l)
   where
     go : (b : Bool) → 2 * ran s z room (stepped s z room n t p .machine) (k + 1) l .steps ≤ 2 * (k + 1) + length l
-        → 2 * (elim b as (λ x. Run) [ true ↦ ran s z room (stepped s z room n t p .machine) (k + 1) l | false ↦ record { code = stepped s z room n t p .code; steps = k; machine = n } ]) .steps
+        → 2 * (elim b as (λ x. Run) [
+          | true ↦ ran s z room (stepped s z room n t p .machine)
+              (k + 1) l
+          | false ↦ record { code = stepped s z room n t p .code; steps = k; machine = n }
+        ]) .steps
         ≤ 2 * k + length (t ∷ p ∷ l)
     go true h = omega arith
     go false h = omega arith
@@ -78,23 +85,39 @@ pub ruleset going = (on-refused, on-taken)
 
 -- the whole
 
-pub refused-so : (n : Machine) (code : ℕ) → n ≡ started [] 0 [] → record { code = code; steps = 0; held = false; words = 0; machine = n } ≡ refusedBy code
+pub refused-so : (n : Machine) (code : ℕ) → n ≡ started [] 0 []
+    → record { code = code; steps = 0; held = false; words = 0; machine = n } ≡ refusedBy code
 unfolding refusedBy
 refused-so n code e = rw e
 
 module _ (old : List ℕ) (z : Sizes) (new : List ℕ) (y : Sizes) (points first second given : List ℕ) (room : ℕ) where
   module _ (b : List ℕ) (n : Machine) (eb : b ≡ headerOf old) (en : n ≡ started b (z .range) given) where
-    pub both-short : room < z .words → record { code = 29; steps = 0; held = false; words = z .words; machine = n } ≡ acrossOn old z new y points first second given room
+    pub both-short : room < z .words → record {
+      code = 29;
+      steps = 0;
+      held = false;
+      words = z .words;
+      machine =
+          n;
+    } ≡ acrossOn old z new y points first second given room
     unfolding acrossOn
     both-short h = rw (lt-ltb _ _ h, ← eb, en)
 
     pub both-run : (r q : Run) → z .words ≤ room → r ≡ ran old z room n 0 first → q ≡ wentOn old z new y points room r second
-        → record { code = q .code; steps = q .steps; held = true; words = z .words; machine = q .machine } ≡ acrossOn old z new y points first second given room
+        → record {
+          code = q .code;
+          steps = q .steps;
+          held = true;
+          words = z .words;
+          machine =
+              q .machine;
+        } ≡ acrossOn old z new y points first second given room
     unfolding acrossOn
     both-run r q h er eq = rw (le-ltb _ _ h, ← eb, ← en, ← er, ← eq)
 
   module _ (code : ℕ) (r : Replayed) (e : code ≡ codeOf old z new y points) where
-    pub between-permitted : code ≡ 0 → r ≡ acrossOn old z new y points first second given room → r ≡ acrossBy old z new y points first second given room
+    pub between-permitted : code ≡ 0 → r ≡ acrossOn old z new y points first second given room
+        → r ≡ acrossBy old z new y points first second given room
     unfolding acrossBy
     between-permitted h q = rw (← e, eq-eqb code 0 h) q
 
@@ -113,9 +136,11 @@ module _ (old new points first second given : List ℕ) (z : Sizes) (room : ℕ)
 module _ (old new points first second given : List ℕ) (lent : ℕ) (x : Acceptance) (r : Replayed) (ex : x ≡ acceptance old) where
   pub across-declined : x ≡ Declined → r ≡ refusedBy 32 → r ≡ acrossOf old new points first second given lent
   unfolding acrossOf
-  across-declined h q = q ∙ ap (λ (v : Acceptance). byAcceptance old new points first second given (roomOf lent) v (acceptance new)) (sym h ∙ ex)
+  across-declined h q = q ∙ ap (λ (v : Acceptance). byAcceptance old new points first second given (roomOf lent) v (acceptance new))
+      (sym h ∙ ex)
 
-  pub across-granted : (z : Sizes) (room : ℕ) → x ≡ Granted z → room ≡ roomOf lent → r ≡ byAcceptance old new points first second given room (Granted z) (acceptance new)
+  pub across-granted : (z : Sizes) (room : ℕ) → x ≡ Granted z → room ≡ roomOf lent
+      → r ≡ byAcceptance old new points first second given room (Granted z) (acceptance new)
       → r ≡ acrossOf old new points first second given lent
   unfolding acrossOf
   across-granted z room h e q =

@@ -52,7 +52,14 @@ module _ (old : List ℕ) (z : Sizes) (new : List ℕ) (y : Sizes) (points : Lis
 
   unfoldable pub acrossOn : List ℕ → List ℕ → List ℕ → ℕ → Replayed
   acrossOn first second given room =
-      cond (ltb room (z .words)) (record { code = 29; steps = 0; held = false; words = z .words; machine = started (headerOf old) (z .range) given })
+      cond (ltb room (z .words)) (record {
+        code = 29;
+        steps = 0;
+        held = false;
+        words = z .words;
+        machine = started (headerOf old)
+            (z .range) given;
+      })
       (ofRun z (wentOn room (ran old z room (started (headerOf old) (z .range) given) 0 first) second))
 
 -- points and registers of 0, and the table stays
@@ -69,4 +76,5 @@ byAcceptance old new points first second given room (Granted z) Declined = refus
 byAcceptance old new points first second given room (Granted z) (Granted y) = acrossBy old z new y points first second given room
 
 unfoldable pub acrossOf : List ℕ → List ℕ → List ℕ → List ℕ → List ℕ → List ℕ → ℕ → Replayed
-acrossOf old new points first second given lent = byAcceptance old new points first second given (roomOf lent) (acceptance old) (acceptance new)
+acrossOf old new points first second given lent = byAcceptance old new points first second given (roomOf lent) (acceptance old)
+    (acceptance new)

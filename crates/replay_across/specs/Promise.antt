@@ -81,13 +81,17 @@ pub record Promise (old new points first second given : List ℕ) (lent : ℕ) (
   pub table : shown ≡ shownOf (acrossOf old new points first second given lent) lent
   -- 32, 33 and 34 in the place of 24
   pub refused : (handoverCode old new points ≡ 0 → ⊥) → (a ≡ unpermitted (handoverCode old new points)) × (shown ≡ [])
-  pub unfit : (z y : Sizes) → acceptance old ≡ Granted z → acceptance new ≡ Granted y → handoverCode old new points ≡ 0 → roomOf lent < z .words
+  pub unfit : (z y : Sizes) → acceptance old ≡ Granted z → acceptance new ≡ Granted y → handoverCode old new points ≡ 0
+      → roomOf lent < z .words
       → Unfit old z first given (roomOf lent) a shown
   -- a step refused in the first trace: the replay of that trace under the old code, and nothing else
-  pub stopped : (z y : Sizes) → acceptance old ≡ Granted z → acceptance new ≡ Granted y → handoverCode old new points ≡ 0 → z .words ≤ roomOf lent
+  pub stopped : (z y : Sizes) → acceptance old ≡ Granted z → acceptance new ≡ Granted y → handoverCode old new points ≡ 0
+      → z .words ≤ roomOf lent
       → (before old z new y points first second given (roomOf lent) .code ≡ 0 → ⊥) → Replays old z first given (roomOf lent) a shown
-  pub goes-on : (z y : Sizes) → acceptance old ≡ Granted z → acceptance new ≡ Granted y → handoverCode old new points ≡ 0 → z .words ≤ roomOf lent
-      → before old z new y points first second given (roomOf lent) .code ≡ 0 → Across old z new y points first second given (roomOf lent) a shown
+  pub goes-on : (z y : Sizes) → acceptance old ≡ Granted z → acceptance new ≡ Granted y → handoverCode old new points ≡ 0
+      → z .words ≤ roomOf lent
+      → before old z new y points first second given (roomOf lent) .code ≡ 0
+      → Across old z new y points first second given (roomOf lent) a shown
 
 -- and of the table and the room for its numbers: the code that is answered, and what both hold afterwards
 pub record Written (old new points first second given table room : List ℕ) (code : ℕ) (after told : List ℕ) : Type 0 where

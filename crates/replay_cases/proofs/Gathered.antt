@@ -2,77 +2,29 @@
 use mathlib.Core.Path.{_≡_}
 use mathlib.Core.Bool.{Bool}
 use mathlib.Core.List.{List, _++_}
-use Prim.Native.Nat.{ℕ, _-_, _≤_, _<_}
-use native.Mathlib.Omega.{arith}
-use lib.ListN.{length, take, drop, length-append, length-drop}
-use lib.Seq.{length-take-le}
+use Prim.Native.Nat.{ℕ, _-_, _<_}
+use lib.ListN.{take, drop}
 use Rattle.replaying.specs.Promise.{Written}
 use Rattle.stored.specs.Tally.{withCase}
 use Rattle.stored.specs.declared.tally.Tally.{Tally}
 use Rattle.stored.proofs.Tallies.{Running, running-none, running-more, running-over}
-use Rattle.replay_cases.specs.Parts.{imageIn, traceIn, givenIn, entriesIn}
-use Rattle.replay_cases.specs.Answer.{mostBytes, mostNumbers, blankTable, blankNumbers, lentAt, sameAnswer}
+use Rattle.stored_answers.specs.Parts.{firstIn, secondIn, thirdIn, fourthOn}
+use Rattle.stored_answers.specs.Answer.{blankTable, blankNumbers, sameAnswer}
 use Rattle.replay_cases.specs.Judge.{bytesLent, numbersLent, Counted}
 
-pub call-stored : (s body image trace given table answer after told : List ℕ) (code : ℕ) → image ≡ imageIn s body → trace ≡ traceIn s body → given ≡ givenIn s body
-    → Written image trace given table answer code after told → Written (imageIn s body) (traceIn s body) (givenIn s body) table answer code after told
+pub call-stored : (s body image trace given table answer after told : List ℕ) (code : ℕ) → image ≡ firstIn s body → trace ≡ secondIn s body → given ≡ thirdIn s body
+    → Written image trace given table answer code after told → Written (firstIn s body) (secondIn s body) (thirdIn s body) table answer code after told
 call-stored s body image trace given table answer after told code i t g w = rw (← i, ← t, ← g) w
 
-lent-within : (s : List ℕ) (at most n : ℕ) → n ≡ lentAt s at most → n ≤ most
-unfolding lentAt
-lent-within s at most n e = omega arith
-
-table-length : {r : List ℕ} → r ≡ blankTable → length r ≡ mostBytes
-unfolding blankTable
-table-length q = rw q
-
-numbers-length : {r : List ℕ} → r ≡ blankNumbers → length r ≡ mostNumbers
-unfolding blankNumbers
-numbers-length q = rw q
-
--- a part is lent, and the rest stays
-module _ (s r : List ℕ) (at most n : ℕ) (e : n ≡ lentAt s at most) (z : length r ≡ most) where
-  fits : n ≤ length r
-  fits = rw z (lent-within s at most n e)
-
-  front : n ≡ length (take n r)
-  front = rw (length-take-le n r fits)
-
-  back : (after : List ℕ) → length after ≡ length (take n r) → most ≡ length (after ++ drop n r)
-  back after l = let h = lent-within s at most n e in rw (length-append after (drop n r), l, length-drop n r, z, ← front) (omega arith)
-
-module _ (s r : List ℕ) (n : ℕ) (e : n ≡ bytesLent s) (q : r ≡ blankTable) where
-  pub table-fits : n ≤ length r
-  table-fits = fits s r 12 mostBytes n e (table-length q)
-
-  pub table-front : n ≡ length (take n r)
-  table-front = front s r 12 mostBytes n e (table-length q)
-
-  pub table-back : (after : List ℕ) → length after ≡ length (take n r) → mostBytes ≡ length (after ++ drop n r)
-  table-back = back s r 12 mostBytes n e (table-length q)
-
-module _ (s r : List ℕ) (n : ℕ) (e : n ≡ numbersLent s) (q : r ≡ blankNumbers) where
-  pub numbers-fit : n ≤ length r
-  numbers-fit = fits s r 16 mostNumbers n e (numbers-length q)
-
-  pub numbers-front : n ≡ length (take n r)
-  numbers-front = front s r 16 mostNumbers n e (numbers-length q)
-
-  pub numbers-back : (told : List ℕ) → length told ≡ length (take n r) → mostNumbers ≡ length (told ++ drop n r)
-  numbers-back = back s r 16 mostNumbers n e (numbers-length q)
-
-  pub numbers-room : (told : List ℕ) → length told ≡ length (take n r) → 21 ≤ length (told ++ drop n r)
-  numbers-room told l = let h = numbers-back told l in omega arith
-
 module _ (s body table numbers : List ℕ) (n m : ℕ) (d : n ≡ bytesLent s) (e : m ≡ numbersLent s) (p : table ≡ blankTable) (q : numbers ≡ blankNumbers) where
-  pub replay-counted : (after told entries : List ℕ) (t u : Tally) (code : ℕ) (same : Bool)
-      → Written (imageIn s body) (traceIn s body) (givenIn s body) (take n table) (take m numbers) code after told → entries ≡ entriesIn s body
-      → same ≡ sameAnswer code (after ++ drop n table) (told ++ drop m numbers) s entries → u ≡ withCase t code same → Counted body s t u
-  replay-counted after told entries t u code same w k a g =
-      record { code = code; after = after; told = told; called = rw (← d, ← e, ← p, ← q) w; counted = rw (← d, ← e, ← p, ← q, ← k, ← a) g }
+  pub replay-counted : (after told stored entries : List ℕ) (t u : Tally) (code : ℕ) (same : Bool)
+      → Written (firstIn s body) (secondIn s body) (thirdIn s body) (take n table) (take m numbers) code after told → stored ≡ drop 20 s → entries ≡ fourthOn s body
+      → same ≡ sameAnswer code (after ++ drop n table) (told ++ drop m numbers) stored entries → u ≡ withCase t code same → Counted body s t u
+  replay-counted after told stored entries t u code same w z k a g =
+      record { code = code; after = after; told = told; called = rw (← d, ← e, ← p, ← q) w; counted = rw (← d, ← e, ← p, ← q, ← z, ← k, ← a) g }
 
 pub running-replay : (t r : Tally) (left : ℕ) (body s : List ℕ) → 0 < left → Running t left → Counted body s t r → Running r (left - 1)
 running-replay t r left body s h f c =
-    running-more t r left (c .code) (sameAnswer (c .code) (c .after ++ drop (bytesLent s) blankTable) (c .told ++ drop (numbersLent s) blankNumbers) s (entriesIn s body)) h f (c .counted)
+    running-more t r left (c .code) (sameAnswer (c .code) (c .after ++ drop (bytesLent s) blankTable) (c .told ++ drop (numbersLent s) blankNumbers) (drop 20 s) (fourthOn s body)) h f (c .counted)
 
 pub ruleset gathered = (running-none, running-replay, running-over)

@@ -6,8 +6,8 @@ use lib.ListN.{take, drop}
 use Rattle.replaying.specs.Promise.{Written}
 use Rattle.stored.specs.Tally.{withCase}
 use Rattle.stored.specs.declared.tally.Tally.{Tally}
-use Rattle.replay_cases.specs.Parts.{imageIn, traceIn, givenIn, entriesIn}
-use Rattle.replay_cases.specs.Answer.{mostBytes, mostNumbers, blankTable, blankNumbers, lentAt, sameAnswer}
+use Rattle.stored_answers.specs.Answer.{mostBytes, mostNumbers, blankTable, blankNumbers, lentAt, sameAnswer}
+use Rattle.stored_answers.specs.Parts.{firstIn, secondIn, thirdIn, fourthOn}
 
 -- how many bytes and how many numbers are lent
 abbrev pub bytesLent : List ℕ → ℕ
@@ -21,5 +21,5 @@ pub record Counted (body s : List ℕ) (t r : Tally) : Type 0 where
   pub code : ℕ
   pub after : List ℕ
   pub told : List ℕ
-  pub called : Written (imageIn s body) (traceIn s body) (givenIn s body) (take (bytesLent s) blankTable) (take (numbersLent s) blankNumbers) code after told
-  pub counted : r ≡ withCase t code (sameAnswer code (after ++ drop (bytesLent s) blankTable) (told ++ drop (numbersLent s) blankNumbers) s (entriesIn s body))
+  pub called : Written (firstIn s body) (secondIn s body) (thirdIn s body) (take (bytesLent s) blankTable) (take (numbersLent s) blankNumbers) code after told
+  pub counted : r ≡ withCase t code (sameAnswer code (after ++ drop (bytesLent s) blankTable) (told ++ drop (numbersLent s) blankNumbers) (drop 20 s) (fourthOn s body))

@@ -37,7 +37,8 @@ module _ (P : Program) (s : State) (m : Step) where
 
 -- what each step keeps, a run keeps
 module _ (P : Program) (Q : State → Type 0)
-    (keeps : (s : State) (m : Step) → Within (P .threads) (m .thread) → suc (s .point (m .thread)) < P .points (m .thread) → Q s → Q (exec P (instrAt P s (m .thread)) (m .thread) (m .position) s)) where
+    (keeps : (s : State) (m : Step) → Within (P .threads) (m .thread) → suc (s .point (m .thread)) < P .points (m .thread) → Q s
+    → Q (exec P (instrAt P s (m .thread)) (m .thread) (m .position) s)) where
   step-keeps : (s : State) (m : Step) → Q s → Q (step P s m)
   step-keeps s m q = go (permitted P m s) refl
     where
@@ -90,22 +91,28 @@ module _ (b : List ℕ) (z : Sizes) (c : Checks z (bodies b)) (r : ℕ) (past : 
     kept (suc (suc (suc (suc zero)))) a d f n e = refl
     kept (suc (suc (suc (suc (suc zero))))) a d f n e = refl
     kept (suc (suc (suc (suc (suc (suc zero)))))) a d f n e = refl
-    kept (suc (suc (suc (suc (suc (suc (suc zero))))))) a d f n e = let h = fields-in _ _ (ranged-both last z _ e .0) in set-other (s .reg) d _ (h .1 .1)
-    kept (suc (suc (suc (suc (suc (suc (suc (suc zero)))))))) a d f n e = let h = fields-in _ _ (ranged-both last z _ e .0) in set-other (s .reg) d _ (h .1 .1)
+    kept (suc (suc (suc (suc (suc (suc (suc zero))))))) a d f n e = let h = fields-in _ _ (ranged-both last z _ e .0) in set-other
+        (s .reg) d _ (h .1 .1)
+    kept (suc (suc (suc (suc (suc (suc (suc (suc zero)))))))) a d f n e = let h = fields-in _ _ (ranged-both last z _ e .0) in set-other
+        (s .reg) d _ (h .1 .1)
     kept (suc (suc (suc (suc (suc (suc (suc (suc (suc zero))))))))) a d f n e = set-other (s .reg) (n .a) _ (noted (made 9 a d f n) refl e)
-    kept (suc (suc (suc (suc (suc (suc (suc (suc (suc (suc zero)))))))))) a d f n e = set-other (s .reg) (n .a) _ (noted (made 10 a d f n) refl e)
-    kept (suc (suc (suc (suc (suc (suc (suc (suc (suc (suc (suc zero))))))))))) a d f n e = set-other (s .reg) (n .a) _ (noted (made 11 a d f n) refl e)
+    kept (suc (suc (suc (suc (suc (suc (suc (suc (suc (suc zero)))))))))) a d f n e = set-other (s .reg) (n .a) _
+        (noted (made 10 a d f n) refl e)
+    kept (suc (suc (suc (suc (suc (suc (suc (suc (suc (suc (suc zero))))))))))) a d f n e = set-other (s .reg) (n .a) _
+        (noted (made 11 a d f n) refl e)
     kept (suc (suc (suc (suc (suc (suc (suc (suc (suc (suc (suc (suc zero)))))))))))) a d f n e =
         let h = fields-in _ _ (ranged-both last z _ e .0) in
         set-other _ a _ (h .0 .1) ∙ set-other (s .reg) (n .a) _ (noted (made 12 a d f n) refl e)
     kept (suc (suc (suc (suc (suc (suc (suc (suc (suc (suc (suc (suc (suc op))))))))))))) a d f n e =
-        absurd (none-above z l c last (made (suc (suc (suc (suc (suc (suc (suc (suc (suc (suc (suc (suc (suc op))))))))))))) a d f n) (omega arith) e)
+        absurd (none-above z l c last (made (suc (suc (suc (suc (suc (suc (suc (suc (suc (suc (suc (suc (suc op))))))))))))) a d f n)
+        (omega arith) e)
 
   step-kept : (s : State) (m : Step) → Within (P .threads) (m .thread) → suc (s .point (m .thread)) < P .points (m .thread) → s .reg r ≡ 0
       → exec P (instrAt P s (m .thread)) (m .thread) (m .position) s .reg r ≡ 0
   step-kept s m w more q =
       let i : Instruction = instructionOf z l (m .thread) (s .point (m .thread)) in
-      kept s (m .thread) (m .position) (lastPoint (body z l c (m .thread) (w .0) (w .1))) (i .operation) (i .a) (i .b) (i .formula) (i .second)
+      kept s (m .thread) (m .position) (lastPoint (body z l c (m .thread) (w .0) (w .1))) (i .operation) (i .a) (i .b) (i .formula)
+      (i .second)
       (fields-there b z c (m .thread) (s .point (m .thread)) w more .0) ∙ q
 
   -- at the start it holds 0, whatever is given
@@ -114,7 +121,11 @@ module _ (b : List ℕ) (z : Sizes) (c : Checks z (bodies b)) (r : ℕ) (past : 
   cleared-past =
       let head : List ℕ = getD l 0 [] in
       let n : z .registers ≡ registerCount head = ap (λ (y : Sizes). y .registers) (c .sizes) in
-      let q : length (marks head) < r = omega (arith, length-take (registerCount head) (drop (4 + wordCount head + registerCount head) head)) in
+      let q : length (marks head) < r = omega (
+        arith,
+        length-take (registerCount head)
+            (drop (4 + wordCount head + registerCount head) head),
+      ) in
       go (leb 1 r) (leb r (length (marks head))) (lt-leb r (length (marks head)) q)
     where
       go : (x y : Bool) → y ≡ false → cond (x && y) (eqb (nth (marks (getD l 0 [])) r 0) 1) true ≡ true

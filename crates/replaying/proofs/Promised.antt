@@ -62,11 +62,13 @@ use Rattle.replaying.proofs.Room.{fits, used-first}
 use Rattle.replaying.proofs.Ways.{room-least, shown-are, put-placed}
 
 -- the writes of a state, all of them shown
-pub table-is : (P : Program) (m : Memory) (s : State) → Stands m s → Wf P s → P .words ≤ 8 → (lent : ℕ) → used s (P .words) ≤ roomOf lent → TableStands (P .words) (shownIn m (P .words) lent) s
+pub table-is : (P : Program) (m : Memory) (s : State) → Stands m s → Wf P s → P .words ≤ 8 → (lent : ℕ) → used s (P .words) ≤ roomOf lent
+    → TableStands (P .words) (shownIn m (P .words) lent) s
 unfolding shownIn
 table-is P m s st wf few lent room =
     let n : total m (P .words) ≡ used s (P .words) = total-used m s st (P .words) few in
-    let all : take (roomOf lent) (entries m (P .words)) ≡ entries m (P .words) = take-all (roomOf lent) (entries m (P .words)) (omega (arith, entries-length m (P .words))) in
+    let all : take (roomOf lent) (entries m (P .words)) ≡ entries m (P .words) = take-all (roomOf lent) (entries m (P .words))
+    (omega (arith, entries-length m (P .words))) in
     subst (λ (l : List Write). TableStands (P .words) l s) (sym all) (record {
       many = entries-length m (P .words) ∙ n;
       entry = entry;
@@ -75,9 +77,11 @@ table-is P m s st wf few lent room =
           omega (arith, entry k i h g .stored .same y b, wf .stored-in (suc k) i (suc y) g, wf .outer (suc y) q);
     })
   where
-    entry : (k i : ℕ) → k < P .words → i < s .size (suc k) → SameWrite (getD (entries m (P .words)) (used s k + i) (startWrite 0)) (s .row (suc k) i)
+    entry : (k i : ℕ) → k < P .words → i < s .size (suc k)
+        → SameWrite (getD (entries m (P .words)) (used s k + i) (startWrite 0)) (s .row (suc k) i)
     entry k i h g =
-        subst (λ (j : ℕ). SameWrite (getD (entries m (P .words)) (j + i) (startWrite 0)) (s .row (suc k) i)) (total-used m s st k (omega arith))
+        subst (λ (j : ℕ). SameWrite (getD (entries m (P .words)) (j + i) (startWrite 0)) (s .row (suc k) i))
+        (total-used m s st k (omega arith))
         (table-stands m s st (P .words) k i h (omega arith) g)
 
 module _ (s : List ℕ) (z : Sizes) (e : acceptance s ≡ Granted z) (trace given : List ℕ) (lent : ℕ) where
@@ -106,7 +110,8 @@ module _ (s : List ℕ) (z : Sizes) (e : acceptance s ≡ Granted z) (trace give
   ready = subst (λ (R : ℕ). Ready s z c first (started (getD (bodies s) 0 []) R given)) (sym (range-is s z c)) (begun s z c given)
 
   -- points and registers of a state of a run
-  answer-is : (r : Replayed) (q : State) (l : List Step) → StandsFor (r .machine) q → q ≡ run P first l → AnswerStands (z .threads) (z .registers) (answerOf r) q
+  answer-is : (r : Replayed) (q : State) (l : List Step) → StandsFor (r .machine) q → q ≡ run P first l
+      → AnswerStands (z .threads) (z .registers) (answerOf r) q
   unfolding answerOf
   answer-is r q l st is = record {
     points = st .points;
@@ -115,12 +120,20 @@ module _ (s : List ℕ) (z : Sizes) (e : acceptance s ≡ Granted z) (trace give
     no-register = λ x h. st .registers .same x ∙ ap (λ (y : State). y .reg x) is ∙ absent-register s z c x h (λ r. nth given r 0) l;
   }
 
-  unfit : room < z .words → Unfit s z trace given room (answerOf (replayOn s z trace given room)) (shownOf (replayOn s z trace given room) lent)
+  unfit : room < z .words → Unfit s z trace given room (answerOf (replayOn s z trace given room))
+      (shownOf (replayOn s z trace given room) lent)
   unfolding replayOn shownOf answerOf
   unfit h = rw (lt-ltb room (z .words) h) (record {
     code = refl;
     steps = refl;
-    answer = answer-is (record { code = 29; steps = 0; held = false; words = z .words; machine = started (getD (bodies s) 0 []) (z .range) given }) first [] (ready .stands) refl;
+    answer = answer-is (record {
+      code = 29;
+      steps = 0;
+      held = false;
+      words = z .words;
+      machine = started (getD (bodies s) 0 [])
+          (z .range) given;
+    }) first [] (ready .stands) refl;
     table = refl;
   })
 
@@ -132,7 +145,8 @@ module _ (s : List ℕ) (z : Sizes) (e : acceptance s ≡ Granted z) (trace give
     f = follows-run s z trace given room e (omega (arith, room-least lent)) fit
 
     wf : Wf P (outcome .state)
-    wf = follows s z c room (omega (arith, room-least lent)) first (started (getD (bodies s) 0 []) (z .range) given) ready 0 trace .ready .wf
+    wf = follows s z c room (omega (arith, room-least lent)) first
+        (started (getD (bodies s) 0 []) (z .range) given) ready 0 trace .ready .wf
 
     words-are : r .words ≡ z .words
     unfolding replayOn
@@ -143,7 +157,8 @@ module _ (s : List ℕ) (z : Sizes) (e : acceptance s ≡ Granted z) (trace give
 
     table : TableStands (z .words) (shownOf r lent) (outcome .state)
     unfolding shownOf
-    table = rw (f .held, words-are) (table-is P (r .machine .memory) (outcome .state) (f .stands .memory) wf (sizes-few z (bodies s) c .1) lent full)
+    table = rw (f .held, words-are) (table-is P (r .machine .memory) (outcome .state) (f .stands .memory) wf
+        (sizes-few z (bodies s) c .1) lent full)
 
     answer : AnswerStands (z .threads) (z .registers) (answerOf r) (outcome .state)
     answer = answer-is r (outcome .state) (take (r .steps) (stepsIn trace)) (f .stands) (f .state)
@@ -168,8 +183,10 @@ module _ (s : List ℕ) (z : Sizes) (e : acceptance s ≡ Granted z) (trace give
             let four = sizes-few z (bodies s) c .0 in
             let d : getD (r .machine .points) t 0 ≡ outcome .state .point (suc t) = answer .points t (omega arith) in
             let w : Within (P .threads) (suc t) = (omega arith, omega arith) in
-            subst (λ (g : ℕ → ℕ). plainTrue (P .range) g (O (suc t) (getD (r .machine .points) t 0)) ≡ true) (sym (fun-ext (answer .registers)))
-            (subst (λ (j : ℕ). T (ofRegs (O (suc t) j)) → plainTrue (P .range) (outcome .state .reg) (O (suc t) j) ≡ true) (sym d) (λ i. plain-true P (outcome .state) (O (suc t) (outcome .state .point (suc t))) i (f .holds (suc t) w)) k)
+            subst (λ (g : ℕ → ℕ). plainTrue (P .range) g (O (suc t) (getD (r .machine .points) t 0)) ≡ true)
+            (sym (fun-ext (answer .registers)))
+            (subst (λ (j : ℕ). T (ofRegs (O (suc t) j)) → plainTrue (P .range) (outcome .state .reg) (O (suc t) j) ≡ true) (sym d)
+            (λ i. plain-true P (outcome .state) (O (suc t) (outcome .state .point (suc t))) i (f .holds (suc t) w)) k)
 
 -- an image that is not accepted
 module _ (s trace given : List ℕ) (lent : ℕ) where
@@ -185,7 +202,8 @@ module _ (s trace given : List ℕ) (lent : ℕ) where
   granted-is z e = rw e
 
   -- of every input
-  pub promised : (a : Answer) (shown : List Write) → a ≡ answerOf (replayOf s trace given lent) → shown ≡ shownOf (replayOf s trace given lent) lent
+  pub promised : (a : Answer) (shown : List Write) → a ≡ answerOf (replayOf s trace given lent)
+      → shown ≡ shownOf (replayOf s trace given lent) lent
       → Promise s trace given lent a shown
   promised a shown ea es = record {
     answer = ea;
@@ -196,7 +214,8 @@ module _ (s trace given : List ℕ) (lent : ℕ) where
   }
 
 -- what is shown
-shown-right : (s trace given : List ℕ) (lent : ℕ) (y : Shown) → y ≡ shownBy (replayOf s trace given lent) lent → Promise s trace given lent (y .answer) (take (y .count) (y .writes))
+shown-right : (s trace given : List ℕ) (lent : ℕ) (y : Shown) → y ≡ shownBy (replayOf s trace given lent) lent
+    → Promise s trace given lent (y .answer) (take (y .count) (y .writes))
 unfolding shownBy
 shown-right s trace given lent y e =
     promised s trace given lent (y .answer) (take (y .count) (y .writes)) (ap (λ (x : Shown). x .answer) e)
@@ -220,7 +239,8 @@ module _ (s trace given table room : List ℕ) where
   }
 
   pub written-whole : (y : Shown) (after told : List ℕ) → size ≤ length room → y ≡ shownBy (replayOf s trace given lent) lent
-      → told ≡ numbersOf (y .answer) ++ drop size room → after ≡ laid (take (y .count) (y .writes)) table → Written s trace given table room (y .answer .code) after told
+      → told ≡ numbersOf (y .answer) ++ drop size room → after ≡ laid (take (y .count) (y .writes)) table
+      → Written s trace given table room (y .answer .code) after told
   unfolding Answered.codeFor numbersFor tableFor
   written-whole y after told h e et es = record {
     answer = y .answer;
@@ -231,10 +251,13 @@ module _ (s trace given table room : List ℕ) where
     bytes = rw (le-ltb _ _ h) es;
   }
 
-pub put-into : (s trace given : List ℕ) (table : List Write) (y : Shown) (a : Answer) (after : List Write) → y ≡ shownBy (replayOf s trace given (length table)) (length table)
-    → y .count ≤ min (length table) 64 → length (y .writes) ≡ 64 → a ≡ y .answer → after ≡ putTo y (y .count) table → Into s trace given table a after
+pub put-into : (s trace given : List ℕ) (table : List Write) (y : Shown) (a : Answer) (after : List Write)
+    → y ≡ shownBy (replayOf s trace given (length table)) (length table)
+    → y .count ≤ min (length table) 64 → length (y .writes) ≡ 64 → a ≡ y .answer → after ≡ putTo y (y .count) table
+    → Into s trace given table a after
 put-into s trace given table y a after e few whole ea es = record {
   shown = take (y .count) (y .writes);
-  right = subst (λ (x : Answer). Promise s trace given (length table) x (take (y .count) (y .writes))) (sym ea) (shown-right s trace given (length table) y e);
+  right = subst (λ (x : Answer). Promise s trace given (length table) x (take (y .count) (y .writes))) (sym ea)
+      (shown-right s trace given (length table) y e);
   writes = es ∙ put-placed y table whole (y .count) (omega arith) (omega arith);
 }

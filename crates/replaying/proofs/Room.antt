@@ -23,17 +23,21 @@ used-more : (s q : State) (x n : ℕ) → ((y : ℕ) → q .size y ≡ upd (s .s
 unfolding used
 used-more s q x zero e = omega arith
 used-more s q x (suc n) e =
-    upd-case (λ (j : ℕ). q .size (suc n) ≡ j → used q n + q .size (suc n) ≤ used s n + s .size (suc n) + min 1 (suc n + 1 - x)) (s .size) x (suc (s .size x)) (suc n)
+    upd-case (λ (j : ℕ). q .size (suc n) ≡ j → used q n + q .size (suc n) ≤ used s n + s .size (suc n) + min 1 (suc n + 1 - x))
+    (s .size) x (suc (s .size x)) (suc n)
     (λ i d. omega (arith, ap (s .size) i, used-more s q x n e)) (λ i d. omega (arith, used-more s q x n e)) (e (suc n))
 
 module _ (P : Program) (s : State) (t p n room : ℕ) (before : used s n ≤ room) where
   fits-after : (i : Instr) → (T (adds i) → used s n < room) → used (exec P i t p s) n ≤ room
   fits-after (act none ns) h = omega (arith, used-same s (exec P (act none ns) t p s) n (λ y. refl))
   fits-after (act (load a r x) ns) h = omega (arith, used-same s (exec P (act (load a r x) ns) t p s) n (λ y. refl))
-  fits-after (act (write (store d) x f) ns) h = omega (arith, used-more s (exec P (act (write (store d) x f) ns) t p s) x n (λ y. refl), h tt)
+  fits-after (act (write (store d) x f) ns) h = omega
+      (arith, used-more s (exec P (act (write (store d) x f) ns) t p s) x n (λ y. refl), h tt)
   fits-after (act (write swap x f) ns) h = omega (arith, used-more s (exec P (act (write swap x f) ns) t p s) x n (λ y. refl), h tt)
-  fits-after (act (write (exchange r) x f) ns) h = omega (arith, used-more s (exec P (act (write (exchange r) x f) ns) t p s) x n (λ y. refl), h tt)
-  fits-after (act (write (fetchAdd r) x f) ns) h = omega (arith, used-more s (exec P (act (write (fetchAdd r) x f) ns) t p s) x n (λ y. refl), h tt)
+  fits-after (act (write (exchange r) x f) ns) h = omega
+      (arith, used-more s (exec P (act (write (exchange r) x f) ns) t p s) x n (λ y. refl), h tt)
+  fits-after (act (write (fetchAdd r) x f) ns) h = omega
+      (arith, used-more s (exec P (act (write (fetchAdd r) x f) ns) t p s) x n (λ y. refl), h tt)
   fits-after (branch e a) h = omega (arith, used-same s (exec P (branch e a) t p s) n (λ y. refl))
 
 -- a step that is taken and adds a write has room for it
@@ -41,7 +45,8 @@ room-left : (P : Program) (room : ℕ) (s : State) (t p : ℕ) → refusal P roo
 unfolding refusal
 room-left P room s t p e a =
     leb-false room (used s (P .words))
-    (go (within (P .threads) t && ltb (suc (s .point t)) (P .points t)) (allowed (instrAt P s t) t p s) (adds (instrAt P s t)) (leb room (used s (P .words))) e a)
+    (go (within (P .threads) t && ltb (suc (s .point t)) (P .points t)) (allowed (instrAt P s t) t p s) (adds (instrAt P s t))
+    (leb room (used s (P .words))) e a)
   where
     go : (x y g d : Bool) → _≡_ {A = ℕ} (cond x (cond y (cond (g && d) 29 0) 28) 27) 0 → T g → d ≡ false
     go false y g d q h = absurd (omega arith)
@@ -50,16 +55,22 @@ room-left P room s t p e a =
     go true true true true q h = absurd (omega arith)
     go true true true false q h = refl
 
-pub fits : (P : Program) (room : ℕ) (s : State) (k : ℕ) (l : List ℕ) → used s (P .words) ≤ room → used (replayed P room s k l .state) (P .words) ≤ room
+pub fits : (P : Program) (room : ℕ) (s : State) (k : ℕ) (l : List ℕ) → used s (P .words) ≤ room
+    → used (replayed P room s k l .state) (P .words) ≤ room
 unfolding replayed
 fits P room s k [] h = h
 fits P room s k (t ∷ []) h = h
 fits P room s k (t ∷ p ∷ l) h = go (eqb (refusal P room s t p) 0) refl (fits P room (exec P (instrAt P s t) t p s) (k + 1) l)
   where
     go : (b : Bool) → eqb (refusal P room s t p) 0 ≡ b
-        → (used (exec P (instrAt P s t) t p s) (P .words) ≤ room → used (replayed P room (exec P (instrAt P s t) t p s) (k + 1) l .state) (P .words) ≤ room)
+        → (used (exec P (instrAt P s t) t p s) (P .words) ≤ room
+        → used (replayed P room (exec P (instrAt P s t) t p s) (k + 1) l .state) (P .words) ≤ room)
         → used
-        ((elim b as (λ x. Outcome) [ true ↦ replayed P room (exec P (instrAt P s t) t p s) (k + 1) l | false ↦ record { code = refusal P room s t p; steps = k; state = s } ]) .state)
+        ((elim b as (λ x. Outcome) [
+          | true ↦ replayed P room (exec P (instrAt P s t) t p s)
+              (k + 1) l
+          | false ↦ record { code = refusal P room s t p; steps = k; state = s }
+        ]) .state)
         (P .words) ≤ room
     go true e f = f (fits-after P s t p (P .words) room h (instrAt P s t) (room-left P room s t p (eqb-true (refusal P room s t p) 0 e)))
     go false e f = h

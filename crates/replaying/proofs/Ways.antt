@@ -28,7 +28,8 @@ use Rattle.replaying.specs.declared.answer.Answer.{Answer}
 use Rattle.replaying.specs.declared.shown.Shown.{Shown}
 
 -- one number more of a list copied to the front of a buffer
-pub copied : (size : ℕ) (v o w : List ℕ) (i b : ℕ) → length v ≡ size → w ≡ take i v ++ drop i o → b ≡ getD v i 0 → i < size → size ≤ length o → length w ≡ length o
+pub copied : (size : ℕ) (v o w : List ℕ) (i b : ℕ) → length v ≡ size → w ≡ take i v ++ drop i o → b ≡ getD v i 0 → i < size
+    → size ≤ length o → length w ≡ length o
     → (i + 1 ≤ size) × ((set w i b ≡ take (i + 1) v ++ drop (i + 1) o) × (length (set w i b) ≡ length o))
 copied size v o w i b l e q h g k = rw q (copy-more size v o w i l e h g k)
 
@@ -60,7 +61,8 @@ module _ (a : Answer) where
   number-register zero h g = absurd (omega arith)
   number-register (suc i) h g =
       let e : i ≡ length points + (suc i - 5) = omega (arith, four) in
-      sym (ap (λ (j : ℕ). getD (points ++ registers) j 0) e ∙ getD-append-add points registers (suc i - 5) 0 ∙ column-getD (λ r. getD (a .registers) r 0) 0 16 (suc i - 5) (omega arith))
+      sym (ap (λ (j : ℕ). getD (points ++ registers) j 0) e ∙ getD-append-add points registers (suc i - 5) 0 ∙ column-getD
+      (λ r. getD (a .registers) r 0) 0 16 (suc i - 5) (omega arith))
 
   pub number-past : (i : ℕ) → 21 ≤ i → 0 ≡ getD (numbersOf a) i 0
   number-past i g = sym (List·getD-eq-default (numbersOf a) 0 (omega (arith, numbers-length)))
@@ -113,7 +115,8 @@ bytes-length (w ∷ l) = omega (arith, length-append (entryBytes w) (tableBytes 
 bytes-append : (l r : List Write) → tableBytes (l ++ r) ≡ tableBytes l ++ tableBytes r
 unfolding tableBytes
 bytes-append [] r = refl
-bytes-append (w ∷ l) r = ap (λ (x : List ℕ). entryBytes w ++ x) (bytes-append l r) ∙ sym (append-assoc (entryBytes w) (tableBytes l) (tableBytes r))
+bytes-append (w ∷ l) r = ap (λ (x : List ℕ). entryBytes w ++ x) (bytes-append l r) ∙ sym
+    (append-assoc (entryBytes w) (tableBytes l) (tableBytes r))
 
 append-none : (l : List ℕ) → l ++ [] ≡ l
 append-none [] = refl
@@ -136,15 +139,29 @@ module _ (l : List Write) (e : ℕ) (t : List ℕ) (d : Write) (inside : e < len
   front-length = bytes-length (take e l) ∙ ap (λ (n : ℕ). n * 11) (length-take-le e l (omega arith))
 
   front-more : tableBytes (take (suc e) l) ≡ front ++ entryBytes (getD l e d)
-  front-more = ap tableBytes (take-suc l e d inside) ∙ bytes-append (take e l) (getD l e d ∷ []) ∙ ap (λ (x : List ℕ). front ++ x) (bytes-one (getD l e d))
+  front-more = ap tableBytes (take-suc l e d inside) ∙ bytes-append (take e l) (getD l e d ∷ []) ∙ ap (λ (x : List ℕ). front ++ x)
+      (bytes-one (getD l e d))
 
-  laid-more : (q o : List ℕ) → q ≡ laid (take e l) t → o ≡ entryBytes (getD l e d) ++ drop 11 (drop (e * 11) q) → take (e * 11) q ++ o ≡ laid (take (e + 1) l) t
+  laid-more : (q o : List ℕ) → q ≡ laid (take e l) t → o ≡ entryBytes (getD l e d) ++ drop 11 (drop (e * 11) q)
+      → take (e * 11) q ++ o ≡ laid (take (e + 1) l) t
   unfolding laid
   laid-more q o h g =
       let n : length (take e l) ≡ e = length-take-le e l (omega arith) in
       let m : length (take (suc e) l) ≡ suc e = length-take-le (suc e) l (omega arith) in
       let k : e * 11 + 11 ≡ suc e * 11 = omega arith in
-      rw (add-one e, g, h, n, m, take-at front (drop (e * 11) t) (e * 11) front-length, drop-at front (drop (e * 11) t) (e * 11) front-length, drop-drop 11 (e * 11) t, k, front-more)
+      rw (
+        add-one e,
+        g,
+        h,
+        n,
+        m,
+        take-at front (drop (e * 11) t) (e * 11) front-length,
+        drop-at front (drop (e * 11) t)
+            (e * 11) front-length,
+        drop-drop 11 (e * 11) t,
+        k,
+        front-more,
+      )
       (sym (append-assoc front (entryBytes (getD l e d)) (drop (suc e * 11) t)))
 
 laid-length : (l : List Write) (t : List ℕ) → length l * 11 ≤ length t → length (laid l t) ≡ length t
@@ -152,7 +169,8 @@ unfolding laid
 laid-length l t h = omega (arith, length-append (tableBytes l) (drop (length l * 11) t), bytes-length l, length-drop (length l * 11) t)
 
 -- the invariant after a turn: the entry is written to the part of the table behind those that are there
-module _ (l : List Write) (n e : ℕ) (t q : List ℕ) (d : Write) (some : e < n) (few : n ≤ 64) (whole : length l ≡ 64) (room : n * 11 ≤ length t) (same : length q ≡ length t) where
+module _ (l : List Write) (n e : ℕ) (t q : List ℕ) (d : Write) (some : e < n) (few : n ≤ 64) (whole : length l ≡ 64)
+    (room : n * 11 ≤ length t) (same : length q ≡ length t) where
   abbrev rest : List ℕ
   rest = drop (e * 11) q
 
@@ -163,7 +181,8 @@ module _ (l : List Write) (n e : ℕ) (t q : List ℕ) (d : Write) (some : e < n
   behind-none = drop-of-length-le rest {i = length q - e * 11} (omega (arith, length-drop (e * 11) q))
 
   pub laid-next : (o : List ℕ) → q ≡ laid (take e l) t → o ≡ entryBytes (getD l e d) ++ drop 11 (take (length q - e * 11) rest)
-      → (e + 1 ≤ n) × ((take (e * 11) q ++ (o ++ drop (length q - e * 11) rest) ≡ laid (take (e + 1) l) t) × (length (take (e * 11) q ++ (o ++ drop (length q - e * 11) rest)) ≡ length t))
+      → (e + 1 ≤ n) × ((take (e * 11) q ++ (o ++ drop (length q - e * 11) rest) ≡ laid (take (e + 1) l) t) ×
+      (length (take (e * 11) q ++ (o ++ drop (length q - e * 11) rest)) ≡ length t))
   laid-next o h g =
       let all : take (e * 11) q ++ (o ++ drop (length q - e * 11) rest) ≡ laid (take (e + 1) l) t =
       ap (λ (x : List ℕ). take (e * 11) q ++ (o ++ x)) behind-none ∙ ap (λ (x : List ℕ). take (e * 11) q ++ x) (append-none o)
@@ -195,9 +214,11 @@ module _ (m : Memory) (words lent n : ℕ) (n-is : n ≡ min (total m words) (mi
   shown-packed p e =
       let a = length-take n (column (λ e. getD all e none) 64) in
       let b = length-take (roomOf lent) all in
-      rw e (ext-getD none (take n (column (λ e. getD all e none) 64)) (take (roomOf lent) all) (omega (arith, a, b, column-length (λ e. getD all e none) 64, entries-length m words, room-least lent))
+      rw e (ext-getD none (take n (column (λ e. getD all e none) 64)) (take (roomOf lent) all)
+      (omega (arith, a, b, column-length (λ e. getD all e none) 64, entries-length m words, room-least lent))
       (λ i h. getD-take n (column (λ e. getD all e none) 64) i none (omega (arith, a))
-      ∙ column-getD (λ e. getD all e none) none 64 i (omega (arith, a)) ∙ sym (getD-take (roomOf lent) all i none (omega (arith, a, room-least lent)))))
+      ∙ column-getD (λ e. getD all e none) none 64 i (omega (arith, a)) ∙ sym
+      (getD-take (roomOf lent) all i none (omega (arith, a, room-least lent)))))
 
   pub shown-room : (t : List ℕ) → lent ≡ length t / 11 → n * 11 ≤ length t
   shown-room t e = omega arith
@@ -217,14 +238,22 @@ module _ (r : Replayed) (lent : ℕ) where
   unfolding shownOf
   stays-is h = rw h
 
-  pub count-held : (x n : ℕ) → r .held ≡ true → x ≡ total (r .machine .memory) (r .words) → n ≡ min x (min lent 64) → n ≡ length (shownOf r lent)
+  pub count-held : (x n : ℕ) → r .held ≡ true → x ≡ total (r .machine .memory) (r .words) → n ≡ min x (min lent 64)
+      → n ≡ length (shownOf r lent)
   unfolding shownIn
-  count-held x n h e d = rw (held-is h) (omega (arith, length-take (roomOf lent) (entries (r .machine .memory) (r .words)), entries-length (r .machine .memory) (r .words), room-least lent))
+  count-held x n h e d = rw (held-is h) (omega (
+    arith,
+    length-take (roomOf lent) (entries (r .machine .memory) (r .words)),
+    entries-length (r .machine .memory)
+        (r .words),
+    room-least lent,
+  ))
 
   pub count-none : r .held ≡ false → 0 ≡ length (shownOf r lent)
   count-none h = rw (stays-is h)
 
-  pub shown-made : (p : Packed) (a : Answer) (n : ℕ) → p ≡ packed (r .machine .memory) (r .words) → a ≡ answerOf r → n ≡ length (shownOf r lent)
+  pub shown-made : (p : Packed) (a : Answer) (n : ℕ) → p ≡ packed (r .machine .memory) (r .words) → a ≡ answerOf r
+      → n ≡ length (shownOf r lent)
       → record { answer = a; count = n; writes = p .writes } ≡ shownBy r lent
   unfolding shownBy
   shown-made p a n ep ea en = rw (ep, ea, en)
@@ -242,7 +271,8 @@ module _ (r : Replayed) (lent : ℕ) where
   shown-are = go (r .held) refl
     where
       go : (b : Bool) → r .held ≡ b → take (length (shownOf r lent)) (packed (r .machine .memory) (r .words) .writes) ≡ shownOf r lent
-      go true e = shown-packed (r .machine .memory) (r .words) lent (length (shownOf r lent)) (sym (count-held (total (r .machine .memory) (r .words)) (min (total (r .machine .memory) (r .words)) (min lent 64)) e refl refl))
+      go true e = shown-packed (r .machine .memory) (r .words) lent (length (shownOf r lent))
+          (sym (count-held (total (r .machine .memory) (r .words)) (min (total (r .machine .memory) (r .words)) (min lent 64)) e refl refl))
           (packed (r .machine .memory) (r .words)) refl ∙ sym (held-is e)
       go false e = rw (stays-is e)
 
@@ -259,7 +289,15 @@ module _ (s : Shown) (t : List Write) (whole : length (s .writes) ≡ 64) where
   put-is (suc n) h g =
       let i : n % 64 ≡ n = mod-eq-of-lt (omega arith) in
       let l : length (take n (s .writes)) ≡ n = length-take-le n (s .writes) (omega arith) in
-      rw (put-is n (omega arith) (omega arith), i, drop-cons t n noWrite (omega arith), set-at (take n (s .writes)) (getD t n noWrite) (drop (suc n) t) (getD (s .writes) n noWrite) n l, take-suc (s .writes) n noWrite (omega arith), append-assoc)
+      rw (
+        put-is n (omega arith) (omega arith),
+        i,
+        drop-cons t n noWrite (omega arith),
+        set-at (take n (s .writes)) (getD t n noWrite)
+            (drop (suc n) t) (getD (s .writes) n noWrite) n l,
+        take-suc (s .writes) n noWrite (omega arith),
+        append-assoc,
+      )
 
   pub put-placed : (n : ℕ) → n ≤ 64 → n ≤ length t → putTo s n t ≡ placed (take n (s .writes)) t
   unfolding placed

@@ -22,4 +22,5 @@ pub record AnswerStands (T R : ℕ) (a : Answer) (s : State) : Type 0 where
 pub record TableStands (words : ℕ) (l : List Write) (s : State) : Type 0 where
   pub many : length l ≡ used s words
   pub entry : (k i : ℕ) → k < words → i < s .size (suc k) → SameWrite (getD l (used s k + i) (startWrite 0)) (s .row (suc k) i)
-  pub no-word : (k i y : ℕ) → k < words → i < s .size (suc k) → words ≤ y → y < 8 → getD (getD l (used s k + i) (startWrite 0) .stored .at) y 0 ≡ 0
+  pub no-word : (k i y : ℕ) → k < words → i < s .size (suc k) → words ≤ y → y < 8
+      → getD (getD l (used s k + i) (startWrite 0) .stored .at) y 0 ≡ 0

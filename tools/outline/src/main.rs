@@ -1,9 +1,9 @@
-//! The program `outline`: builds, judges, shows, explains, explores, draws, trims, bills, replays and hands over proof
-//! outlines.
+//! The program `outline`: builds, judges, shows, explains, explores, draws, trims, bills, replays, hands over and serves
+//! proof outlines.
 
 use outline::command::{
-    bill, build, check, draw, explain, explore, handover, print, replay, report, show, trim, Done,
-    Status,
+    bill, build, check, draw, explain, explore, handover, print, replay, report, serve, show, trim,
+    Done, Status,
 };
 use std::process::ExitCode;
 
@@ -26,6 +26,7 @@ outline replay FILE TRACE [--given \"a = 1, b = 0\"] [--entries N] [-o FILE.svg]
 outline handover OLD NEW -o FILE.image --table TABLE [--map THREAD.POINT=POINT]..
                                                                new code without a restart: finds a line for each old point
 outline handover OLD NEW --table TABLE                         judges a table that is there
+outline serve FILE                                             calls of several desks to one service, in their order
 
 FILE, OLD and NEW are outlines or images; `-` is standard input, behind -o standard output. All take --json.
   --partial   writes an image with open obligations and claims too
@@ -58,6 +59,7 @@ fn main() -> ExitCode {
         ["bill", rest @ ..] => bill::run(rest),
         ["replay", rest @ ..] => replay::run(rest),
         ["handover", rest @ ..] => handover::run(rest),
+        ["serve", rest @ ..] => serve::run(rest),
         ["--help" | "-h" | "help"] => said(HELP),
         ["--version"] => said(concat!("outline ", env!("CARGO_PKG_VERSION"), "\n")),
         _ => Err(format!("usage:\n{HELP}").trim_end().into()),

@@ -2,6 +2,7 @@
 
 mod bill;
 mod check;
+pub mod desks;
 pub mod handover;
 mod replay;
 mod sources;

@@ -1,41 +1,31 @@
-//! The proved billing, from the crate `bills`.
+//! The proved billing: a service in which one caller may bill.
 
-use super::Bill;
+use super::{Bill, DESKS};
+use reference::bill::Tariff;
+use reference::desks::{Call, Lent, Request, Right, CALLERS, SERVICE};
 
 /// The function; none if its archive was not there.
-#[cfg(not(proved_bills))]
-pub const BILL: Option<Bill> = None;
+pub const BILL: Option<Bill> = match DESKS {
+    None => None,
+    Some(_) => Some(bill_into),
+};
 
-#[cfg(proved_bills)]
-pub const BILL: Option<Bill> = Some(linked::bill_into);
+/// Who bills.
+const CALLER: usize = 5;
 
-#[cfg(proved_bills)]
-mod linked {
-    use reference::bill::Tariff;
-
-    extern "C" {
-        fn bill_image(
-            image: *const u8,
-            length: usize,
-            start: u16,
-            step: u16,
-            taken: u16,
-            interference: u16,
-            least: u16,
-            billed: u32,
-            answer: *mut u32,
-            room: usize,
-        ) -> u16;
-    }
-
-    pub fn bill_into(image: &[u8], tariff: &Tariff, billed: u32, answer: &mut [u32]) -> u16 {
-        let Tariff { start, step, taken, interference, least } = *tariff;
-        let (from, length) = (image.as_ptr(), image.len());
-        let (to, room) = (answer.as_mut_ptr(), answer.len());
-        // SAFETY: pointers and lengths are those of slices that live until the call returns, no other
-        // reference to `answer` exists, and the function has no `requires`.
-        unsafe {
-            bill_image(from, length, start, step, taken, interference, least, billed, to, room)
-        }
-    }
+/// Bills as a caller of whom so many images are billed already. Panics if the service is not what it should be afterwards.
+fn bill_into(image: &[u8], tariff: &Tariff, billed: u32, answer: &mut [u32]) -> u16 {
+    let desks = DESKS.expect("the caller saw to the archive");
+    let mut service = [0; SERVICE];
+    service[CALLER - 1] = Right::Bill as u32;
+    service[CALLERS + CALLER - 1] = billed;
+    let mut after = service;
+    let request = Request::Bill { image: image.into(), tariff: *tariff, room: answer.len() };
+    let bill = answer.to_vec();
+    let mut lent = Lent { bytes: Vec::new(), written: 0, bill, replay: Vec::new() };
+    let code = (desks.serve)(&mut after, &Call { caller: CALLER, request }, &mut lent);
+    answer.copy_from_slice(&lent.bill);
+    service[CALLERS + CALLER - 1] = if code == 0 { billed + 1 } else { billed };
+    assert_eq!(after, service, "the service after a bill with code {code}");
+    code
 }

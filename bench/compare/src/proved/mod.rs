@@ -2,17 +2,21 @@
 
 mod bills;
 mod check;
+mod desks;
 mod handover;
 mod replay;
+mod replays;
 mod trim;
 
 pub use bills::BILL;
 pub use check::check_into;
+pub use desks::DESKS;
 pub use handover::{ACROSS, HANDOVER};
 pub use replay::REPLAY;
 pub use trim::TRIM;
 
 use reference::bill::Tariff;
+use reference::desks::{Call, Kind, Lent};
 use reference::trim::Answer;
 
 /// Trims an image into a buffer.
@@ -25,3 +29,16 @@ pub type Replay = fn(&[u8], &[u8], &[u8], &mut [u8], &mut [usize]) -> u16;
 pub type Handover = fn(&[u8], &[u8], &[u8]) -> u16;
 /// Replays two traces across a handover into a table and an answer.
 pub type Across = fn(&reference::handover::Across, &mut [u8], &mut [usize]) -> u16;
+
+/// A service: how it is opened, and how it serves a call.
+#[derive(Clone, Copy)]
+pub struct Desks {
+    pub open: fn(&[u8], &mut [u32]) -> u16,
+    pub serve: fn(&mut [u32], &Call, &mut Lent) -> u16,
+    /// What it can be asked for.
+    pub kinds: &'static [Kind],
+}
+
+/// All that a service can be asked for.
+pub const KINDS: [Kind; 6] =
+    [Kind::Check, Kind::Trim, Kind::Bill, Kind::Handover, Kind::Replay, Kind::ReplayHandover];

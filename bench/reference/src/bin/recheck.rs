@@ -2,7 +2,7 @@
 //!
 //! Usage: recheck FOLDER [SET...], where without a SET those that `vectors` writes are judged
 
-use reference::stored::{bills, crossings, formulas, handovers, images, replays, trims};
+use reference::stored::{bills, crossings, desks, formulas, handovers, images, replays, trims};
 use std::path::Path;
 use std::process::ExitCode;
 
@@ -16,11 +16,23 @@ const BILLS: &str = "bills";
 const REPLAYS: &str = "replay";
 const HANDOVERS: &str = "handover";
 const CROSSINGS: &str = "across";
-const SETS: [&str; 9] =
-    [FORMULAS, "formulas", "images", "rules", TRIMS, BILLS, REPLAYS, HANDOVERS, CROSSINGS];
+const DESKS: &str = "desks";
+const SETS: [&str; 11] = [
+    FORMULAS,
+    "formulas",
+    "images",
+    "rules",
+    TRIMS,
+    BILLS,
+    REPLAYS,
+    HANDOVERS,
+    CROSSINGS,
+    DESKS,
+    "desks-all",
+];
 
 /// A set of formulas; by the front of its name of images trimmed, billed, replayed, handed over or replayed across a
-/// handover; by any other name of images judged.
+/// handover, or of calls of desks; by any other name of images judged.
 fn judge_of(name: &str) -> Judge {
     match name {
         FORMULAS => formulas,
@@ -29,6 +41,7 @@ fn judge_of(name: &str) -> Judge {
         _ if name.starts_with(REPLAYS) => replays::judged,
         _ if name.starts_with(HANDOVERS) => handovers::judged,
         _ if name.starts_with(CROSSINGS) => crossings::judged,
+        _ if name.starts_with(DESKS) => desks::judged,
         _ => images,
     }
 }

@@ -56,6 +56,22 @@ impl Verdict {
         ]
     }
 
+    /// The verdict that a record carries.
+    pub fn of_record(record: &[u8; RECORD_BYTES]) -> Verdict {
+        let field = |n: usize| u16::from_le_bytes([record[4 + 2 * n], record[5 + 2 * n]]);
+        Verdict {
+            code: field(0),
+            record: field(1),
+            class: field(2),
+            thread: field(3),
+            point: field(4),
+            other_thread: field(5),
+            other_point: field(6),
+            line: field(7),
+            count: field(8),
+        }
+    }
+
     /// The verdict as a record: length, kind, nine fields.
     pub fn record(&self) -> [u8; RECORD_BYTES] {
         let length = (RECORD_BYTES - 2) as u16;

@@ -1,5 +1,6 @@
 //! Seeded images, valid and damaged, in which every code and every rule occurs.
 
+pub mod calls;
 mod claims;
 pub mod clutter;
 pub mod coverage;
@@ -11,6 +12,7 @@ pub mod instances;
 pub mod mutate;
 pub mod programs;
 pub mod random;
+pub mod tariffs;
 pub mod traces;
 pub mod vocabulary;
 

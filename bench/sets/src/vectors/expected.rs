@@ -1,6 +1,6 @@
 //! What the proved programs over stored sets write if no answer differs.
 
-use reference::stored::{bills, crossings, handovers, replays, stored_images, trims};
+use reference::stored::{bills, crossings, desks, handovers, replays, stored_images, trims};
 
 /// The codes of the verdict table, but for the one of a short output, which no image has.
 const CODES: [u16; 14] = [0, 2, 3, 4, 5, 6, 7, 8, 9, 20, 21, 22, 23, 26];
@@ -10,9 +10,16 @@ const REPLAY_CODES: [u16; 6] = [0, 1, 24, 27, 28, 29];
 const HANDOVER_CODES: [u16; 4] = [0, 32, 33, 34];
 const CROSSING_CODES: [u16; 8] = [0, 1, 27, 28, 29, 32, 33, 34];
 
+/// The words for what is done at a service, in the order of their numbers.
+const DEEDS: [&str; 8] =
+    ["opened", "set", "checked", "trimmed", "billed", "handed over", "replayed", "replayed across"];
+
 /// The line for a container, by its name of images trimmed, billed, replayed, handed over or judged, counted from what is
 /// stored; none if it is cut short.
 pub fn line(name: &str, bytes: &[u8]) -> Option<String> {
+    if name.starts_with("desks") {
+        return desk_line(name, bytes);
+    }
     let (codes, stored): (&[u16], Vec<u16>) = match name {
         _ if name.starts_with("trim") => {
             (&TRIM_CODES, trims::cases(bytes)?.iter().map(|case| case.code).collect())
@@ -35,6 +42,15 @@ pub fn line(name: &str, bytes: &[u8]) -> Option<String> {
     let counts: Vec<String> =
         codes.iter().map(|&code| format!("{} of code {code}", of_code(code))).collect();
     Some(format!("{name}: {} cases: {}; 0 differ", stored.len(), counts.join(", ")))
+}
+
+/// The line for calls of desks, counted by what is done.
+fn desk_line(name: &str, bytes: &[u8]) -> Option<String> {
+    let cases = desks::cases(bytes)?;
+    let of_deed = |deed| cases.iter().filter(|case| case.turn.deed as usize == deed).count();
+    let counts = DEEDS.iter().enumerate().map(|(deed, word)| format!("{} {word}", of_deed(deed)));
+    let counts: Vec<String> = counts.collect();
+    Some(format!("{name}: {} cases: {}; 0 differ", cases.len(), counts.join(", ")))
 }
 
 #[cfg(test)]

@@ -4,6 +4,7 @@
 //! the clause of the scope page that it tests.
 
 pub mod bills;
+pub mod desks;
 pub mod edits;
 pub mod expected;
 pub mod formulas;

@@ -1,10 +1,11 @@
 //! Labels that name a code agree with the verdict.
-use super::{bills, formulas, handovers, images, replays, rules, store, trims, Case};
+use super::{bills, desks, formulas, handovers, images, replays, rules, store, trims, Case};
 use crate::examples::{message_passing, two_writes};
 use reference::checker::check;
 use reference::image::written::Written;
 use reference::replay::replayed;
 use reference::stored;
+use reference::stored::desks::Deed;
 use std::collections::BTreeMap;
 
 /// The code that a label names: "6: ...", "6 before 8 ...", "accepted: ...".
@@ -46,8 +47,10 @@ fn labels_are_distinct() {
     let replays = replays::cases().into_iter().map(|case| case.label).collect();
     let handovers = handovers::cases().into_iter().map(|case| case.label).collect();
     let crossings = handovers::crossings().into_iter().map(|case| case.label).collect();
+    let desks = desks::cases().into_iter().map(|case| case.label).collect();
     let [images, rules] = [images::cases(), rules::cases()].map(labels);
-    let mut sets: [Vec<String>; 7] = [images, rules, trims, bills, replays, handovers, crossings];
+    let mut sets: [Vec<String>; 8] =
+        [images, rules, trims, bills, replays, handovers, crossings, desks];
     for labels in &mut sets {
         labels.sort_unstable();
         let twice = labels.windows(2).find(|pair| pair[0] == pair[1]);
@@ -96,6 +99,44 @@ fn bills_are_read_back() {
     assert!(codes == [0, 1, 30, 31] && counts.values().all(|&count| count >= 4), "{counts:?}");
     assert!(stored::bills::judged(&bytes).expect("whole").iter().all(|&same| same));
     assert!(stored::bills::cases(&bytes[..bytes.len() - 1]).is_none());
+}
+
+#[test]
+fn calls_of_desks_are_read_back() {
+    let (bytes, text) = store::desks(&desks::cases());
+    let cases = stored::desks::cases(&bytes).expect("whole");
+    assert!(cases.iter().map(|case| &case.turn).eq(desks::cases().iter().map(|case| &case.turn)));
+    assert!(stored::desks::judged(&bytes).expect("whole").iter().all(|&same| same));
+    assert!(stored::desks::cases(&bytes[..bytes.len() - 1]).is_none());
+    for (case, line) in cases.iter().zip(text.lines()) {
+        let label = line.split('\t').nth(1).expect("a label");
+        let named = named_code(label).filter(|_| (1..=8).contains(&case.turn.caller));
+        // A caller without the right is told so, whatever the label says of the rest.
+        assert!(case.left.code == 36 || named.is_none_or(|code| code == case.left.code), "{line}");
+    }
+}
+
+/// Every code that a call can answer is answered to somebody, and each of the eight is served and refused.
+#[test]
+fn calls_of_desks_have_every_code() {
+    let (bytes, _) = store::desks(&desks::cases());
+    let cases = stored::desks::cases(&bytes).expect("whole");
+    let of = |deed: Deed| {
+        let codes = cases.iter().filter(|case| case.turn.deed == deed).map(|case| case.left.code);
+        by_code(codes).into_keys().collect::<Vec<u16>>()
+    };
+    assert_eq!(of(Deed::Open), [0]);
+    assert_eq!(of(Deed::Check), [0, 1, 2, 3, 4, 5, 6, 7, 8, 9, 20, 21, 22, 23, 26, 35, 36]);
+    assert_eq!(of(Deed::Trim), [0, 24, 25, 35, 36]);
+    assert_eq!(of(Deed::Bill), [0, 1, 30, 31, 35, 36]);
+    assert_eq!(of(Deed::Handover), [0, 32, 33, 34, 35, 36]);
+    assert_eq!(of(Deed::Replay), [0, 1, 24, 27, 28, 29, 35, 36]);
+    assert_eq!(of(Deed::ReplayHandover), [0, 1, 27, 28, 29, 32, 33, 34, 35, 36]);
+    for caller in 1..=8 {
+        let codes = cases.iter().filter(|case| case.turn.caller == caller);
+        let codes = by_code(codes.map(|case| case.left.code));
+        assert!(codes.contains_key(&0) && codes.contains_key(&36), "{caller}: {codes:?}");
+    }
 }
 
 #[test]

@@ -1,14 +1,15 @@
 //! `bill`: what checks cost by a tariff, by thread and together.
 
-use crate::command::biller::{bill, BILLER};
 use crate::command::check::gather;
 use crate::command::input::{called, mistakes, read, Input, Subject};
 use crate::command::judge::judge;
 use crate::command::options::Options;
+use crate::command::service::{bill_for, one_biller, BILLER};
 use crate::command::{json, print, words, Done, Status};
 use crate::text::parse_tariff::tariff;
 use reference::bill::{Bill, Tariff, NOT_ACCEPTED};
 use reference::checker::accepted;
+use reference::desks::CALLERS;
 use std::path::Path;
 
 /// One file: its bill with the names of its threads and a word about it, or why there is none.
@@ -24,12 +25,12 @@ pub fn run(args: &[&str]) -> Done {
     if files.is_empty() {
         return Err("no file to bill; see outline --help".into());
     }
-    let mut number = options.billed.unwrap_or(0);
+    let mut service = one_biller(options.billed.unwrap_or(0));
     let (mut out, mut worst, mut sum) = (String::new(), Status::Accepted, 0);
     for file in &files {
-        let billed = bill_one(file, &prices, number);
+        let billed = bill_one(file, &prices, &mut service);
         if let Ok((bill, ..)) = &billed {
-            (number, sum) = (bill.billed, sum + u64::from(bill.cents));
+            sum += u64::from(bill.cents);
         }
         worst = worst.max(status(&billed));
         out += &if options.json { as_json(file, &billed) } else { as_words(file, &billed) };
@@ -41,7 +42,7 @@ pub fn run(args: &[&str]) -> Done {
         } else {
             String::new()
         };
-        out += &format!("{all}billed images: {number}   ({BILLER})\n");
+        out += &format!("{all}billed images: {}   ({BILLER})\n", service[CALLERS]);
     }
     print(out)?;
     Ok(worst)
@@ -61,9 +62,10 @@ fn prices(options: &Options) -> Result<Tariff, String> {
     tariff(&text).map_err(|all| mistakes(file, &text, &all))
 }
 
-fn bill_one(file: &str, prices: &Tariff, number: u32) -> Billed {
+/// A bill for the one caller of the service.
+fn bill_one(file: &str, prices: &Tariff, service: &mut [u32]) -> Billed {
     let subject = Subject::of(file)?;
-    let bill = bill(&subject.bytes, prices, number);
+    let bill = bill_for(service, 1, &subject.bytes, prices);
     let names = accepted(&subject.bytes).map(|image| subject.names(&image.program).threads);
     let said = match bill.code {
         0 => charged(&bill),
@@ -73,6 +75,7 @@ fn bill_one(file: &str, prices: &Tariff, number: u32) -> Billed {
             format!("NOT BILLED (code {NOT_ACCEPTED}): {said}")
         }
         code => {
+            let number = bill.billed;
             format!("NOT BILLED (code {code}): {number} images are billed, and no more are counted")
         }
     };
@@ -86,6 +89,13 @@ fn charged(bill: &Bill) -> String {
         true => format!("{} cents, the least charge; the obligations come to {sum}", bill.cents),
         false => format!("{} cents", bill.cents),
     }
+}
+
+/// A bill in one line: cents, what each thread that is there costs, and the number by now.
+pub fn in_a_line(bill: &Bill, names: &[String]) -> String {
+    let threads = by_thread(bill, names).map(|(name, cents)| format!("{name}: {cents}"));
+    let threads: Vec<String> = threads.collect();
+    format!("{}; {}; billed images: {}", charged(bill), threads.join(", "), bill.billed)
 }
 
 fn status(billed: &Billed) -> Status {

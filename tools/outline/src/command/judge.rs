@@ -31,18 +31,7 @@ mod linked {
         // SAFETY: pointers and lengths are those of slices that live until the call returns, the second borrowed
         // for writing alone, so they do not overlap; the function has no other precondition.
         unsafe { check_image(image.as_ptr(), image.len(), record.as_mut_ptr(), record.len()) };
-        let field = |n: usize| u16::from_le_bytes([record[4 + 2 * n], record[5 + 2 * n]]);
-        Verdict {
-            code: field(0),
-            record: field(1),
-            class: field(2),
-            thread: field(3),
-            point: field(4),
-            other_thread: field(5),
-            other_point: field(6),
-            line: field(7),
-            count: field(8),
-        }
+        Verdict::of_record(&record)
     }
 }
 

@@ -1,7 +1,6 @@
 //! The commands: what they read, what they print, and their status.
 
 pub mod bill;
-pub mod biller;
 pub mod build;
 pub mod check;
 pub mod draw;
@@ -18,6 +17,8 @@ pub mod progress;
 pub mod replay;
 pub mod replayer;
 pub mod report;
+pub mod serve;
+pub mod service;
 pub mod show;
 pub mod spread;
 pub mod trim;

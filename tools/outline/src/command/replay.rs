@@ -74,7 +74,7 @@ impl Call {
 }
 
 /// The bytes of a trace, or those that its text stands for. Threads are few, so bytes have one that no text has.
-fn trace_bytes(file: &str, names: &Names) -> Result<Vec<u8>, String> {
+pub fn trace_bytes(file: &str, names: &Names) -> Result<Vec<u8>, String> {
     let mut bytes = Vec::new();
     let read = match file {
         "-" => std::io::stdin().lock().read_to_end(&mut bytes),

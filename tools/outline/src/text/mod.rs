@@ -1,11 +1,13 @@
 //! The text form: reading sources, writing formulas, images and messages.
 
 pub mod lex;
+pub mod lines;
 pub mod parse_certificate;
 pub mod parse_claim;
 pub mod parse_formula;
 pub mod parse_instruction;
 pub mod parse_proof;
+pub mod parse_session;
 pub mod parse_source;
 pub mod parse_tariff;
 pub mod parse_trace;

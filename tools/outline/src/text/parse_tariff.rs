@@ -1,10 +1,14 @@
 //! Tariffs: a price in cents for each class, and the least charge, each on a line of its own.
 
 use super::lex::{Mistake, Place};
+use super::lines::{fault, mistake, number, words, Fault};
 use reference::bill::Tariff;
 
 /// What a tariff prices: the classes 1 to 4, and the least charge.
 const PRICED: [&str; 5] = ["start", "step", "taken", "interference", "least"];
+
+/// What is wrong with a price.
+pub const NO_PRICE: &str = "is no price: cents are 0 to 65535";
 
 /// A tariff, or all mistakes of the text: each price stands there once, 0 to 65,535. `#` begins a comment.
 pub fn tariff(text: &str) -> Result<Tariff, Vec<Mistake>> {
@@ -19,8 +23,8 @@ pub fn tariff(text: &str) -> Result<Tariff, Vec<Mistake>> {
                 price(content).map(|cents| prices[at] = cents)
             }
         };
-        if let Err((column, text)) = told {
-            mistakes.push(Mistake { line: Place { line, column }, text });
+        if let Err(fault) = told {
+            mistakes.push(mistake(line, fault));
         }
     }
     let end = Place::from(text.lines().count().max(1));
@@ -36,32 +40,19 @@ pub fn tariff(text: &str) -> Result<Tariff, Vec<Mistake>> {
     }
 }
 
-/// A fault with its column.
-type Fault = (usize, String);
-
 /// The cents of a line that begins with a name.
 fn price(content: &str) -> Result<u16, Fault> {
     let mut behind = words(content).skip(1);
-    let cents = behind.next().ok_or_else(|| fault(content, 0, "wants a price in cents"))?;
+    let price = behind.next().ok_or_else(|| fault(content, 0, "wants a price in cents"))?;
     if behind.next().is_some() {
         return Err(fault(content, 2, "is too much: a line has one price"));
     }
-    let digits = cents.bytes().all(|byte| byte.is_ascii_digit());
-    let number = cents.parse().ok().filter(|_| digits);
-    number.ok_or_else(|| fault(content, 1, "is no price: cents are 0 to 65535"))
+    cents(price).ok_or_else(|| fault(content, 1, NO_PRICE))
 }
 
-/// The words of a line before its comment.
-fn words(content: &str) -> impl Iterator<Item = &str> {
-    content.split('#').next().unwrap_or_default().split_whitespace()
-}
-
-/// What is wrong with a word of a line.
-fn fault(content: &str, word: usize, text: &str) -> Fault {
-    let word = words(content).nth(word).unwrap_or_default();
-    // The word is a part of the line, so the distance is where it begins.
-    let before = word.as_ptr() as usize - content.as_ptr() as usize;
-    (content[..before].chars().count() + 1, format!("`{word}` {text}"))
+/// A price in cents.
+pub fn cents(word: &str) -> Option<u16> {
+    number(word)
 }
 
 #[cfg(test)]

@@ -1,0 +1,3 @@
+pub mod Judge
+pub mod Same
+pub mod Turn

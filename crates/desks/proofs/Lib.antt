@@ -1,0 +1,6 @@
+pub mod Admitting
+pub mod Desks
+pub mod Opening
+pub mod Isolation
+pub mod Served
+pub mod Replies

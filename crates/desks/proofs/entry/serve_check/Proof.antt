@@ -1,0 +1,9 @@
+use Rattle.limits.proofs.Auto.{tests}
+use Rattle.desks.proofs.Replies.{serving}
+use borrow.Author.Needs.{needs}
+use Rattle.desks.proofs.entry.serve_check.Statement.{statement}
+use Rattle.desks.proofs.entry.serve_check.Tie as tie
+
+pub serve-check-spec : {M : Type 1} → statement M
+serve-check-spec =
+    tie.close (tie.spec (λ c κs. search needs) (λ c. search (serving, tests)) (λ c κs. search needs) (λ c. search needs) (λ c. search (serving, tests)))

@@ -1,0 +1,51 @@
+// A caller's bill.
+use crate::rights::Service;
+use billing::numbers::Numbers;
+use billing::numbers::bill_into;
+use billing::numbers::write_numbers;
+use billing::tariff::Tariff;
+use report::output::Output;
+ghost use mathlib.Core.Path.{_≡_};
+ghost use Rattle.billing.specs.Output.{size};
+ghost use Rattle.desks.specs.declared.rights.Right.the-variants.{Bill};
+ghost use Rattle.desks.specs.Desk.{admission};
+ghost use Rattle.desks.specs.Request.{cleared};
+ghost use Rattle.desks.specs.Promise.{BillServed};
+
+// No bill: all its numbers are 0, if there is room for them.
+pub fn clear_bill(answer: &mut [u32])
+    ensures { λ _. ⌜ now (answer .exit) ≡ cleared size (now (answer .entry)) ⌝ }
+{
+    if answer.len() < Numbers::SIZE {
+        return;
+    }
+    let none = Numbers {
+        at: [0; Numbers::SIZE],
+    };
+    write_numbers(none, answer);
+}
+
+// By the caller's own number, which a bill without an error raises.
+pub fn bill_caller<'a, 'b, 'c>(
+    service: &'a mut [u32],
+    caller: usize,
+    image: &'b [u8],
+    tariff: Tariff,
+    answer: &'c mut [u32],
+) -> u16
+    requires { ⌜ admission Bill (now service) caller ≡ 0 ⌝ }
+    ensures { λ r. ⌜ BillServed (now (service .entry)) caller (now (image .entry)) tariff (now (answer .entry)) (now (service .exit)) r
+        (now (answer .exit)) ⌝ }
+{
+    let at = Service::BILLED + caller;
+    if service.len() <= at {
+        return Output::SHORT;
+    }
+    let billed = service[at];
+    let code = bill_into(image, tariff, billed, answer);
+    if code != 0 {
+        return code;
+    }
+    service[at] = billed + 1;
+    0
+}

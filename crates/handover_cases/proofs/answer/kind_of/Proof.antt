@@ -1,7 +1,0 @@
-use Rattle.limits.proofs.Auto.{tests}
-use Rattle.handover_cases.proofs.Ways.{answers}
-use Rattle.handover_cases.proofs.answer.kind_of.Statement.{statement}
-use Rattle.handover_cases.proofs.answer.kind_of.Tie as tie
-
-pub kind-of-spec : {M : Type 1} → statement M
-kind-of-spec = tie.close (tie.spec (λ c. search (answers, tests)) (λ c. search (answers, tests)))

@@ -1,9 +1,0 @@
-use Rattle.limits.proofs.Auto.{tests}
-use Rattle.replay_cases.proofs.Ways.{answers}
-use borrow.Author.Needs.{needs}
-use Rattle.replay_cases.proofs.answer.told_number.Statement.{statement}
-use Rattle.replay_cases.proofs.answer.told_number.Tie as tie
-
-pub told-number-spec : {M : Type 1} → statement M
-told-number-spec =
-    tie.close (tie.spec (λ c. search (answers, tests)) (λ c. search (answers, tests)) (λ c. search needs) (λ c. search needs) (λ c κs. search needs) (λ c. search (answers, tests)))

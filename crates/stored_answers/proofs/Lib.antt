@@ -1,0 +1,5 @@
+pub mod Counting
+pub mod Lent
+pub mod Parted
+pub mod Same
+pub mod Ways

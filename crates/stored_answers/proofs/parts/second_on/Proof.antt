@@ -1,0 +1,13 @@
+use Rattle.limits.proofs.Auto.{tests}
+use Rattle.stored_answers.proofs.Parted.{parts}
+use borrow.Author.Needs.{needs}
+use Rattle.stored_answers.proofs.parts.second_on.Statement.{statement}
+use Rattle.stored_answers.proofs.parts.second_on.Tie as tie
+
+pub second-on-spec : {M : Type 1} → statement M
+second-on-spec =
+    tie.close
+    (tie.spec
+    (λ c κs. search needs)
+    (λ c κs. search needs)
+    (λ c. search (parts, tests)))

@@ -1,0 +1,3 @@
+pub mod Answer
+pub mod Kind
+pub mod Parts
