@@ -6,8 +6,8 @@ use Prim.Native.Nat.{ℕ, _-_, _≤_, _<_}
 use native.Mathlib.Omega.{arith}
 use lib.ListN.{length, take, drop, length-append, length-drop}
 use lib.Seq.{length-take-le}
-use Rattle.billing.specs.Output.{tariffOf}
-use Rattle.billing.specs.declared.tariff.Tariff.{Tariff}
+use Rattle.pricing.specs.Output.{tariffOf}
+use Rattle.charges.specs.declared.tariff.Tariff.{Tariff}
 use Rattle.service.specs.Opening.{openingCode, serviceFor}
 use Rattle.requests.specs.Promise.{CheckServed, TrimServed, BillServed, HandoverServed, ReplayServed, AcrossServed}
 use Rattle.stored.specs.Tally.{withCase}

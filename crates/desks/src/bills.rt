@@ -1,12 +1,12 @@
 // A caller's bill.
-use billing::numbers::Numbers;
-use billing::numbers::bill_into;
-use billing::numbers::write_numbers;
-use billing::tariff::Tariff;
+use billing::into::bill_into;
+use charges::tariff::Tariff;
+use pricing::numbers::Numbers;
+use pricing::numbers::write_numbers;
 use report::output::Output;
 use service::rights::Service;
 ghost use mathlib.Core.Path.{_≡_};
-ghost use Rattle.billing.specs.Output.{size};
+ghost use Rattle.pricing.specs.Output.{size};
 ghost use Rattle.service.specs.declared.rights.Right.the-variants.{Bill};
 ghost use Rattle.service.specs.Desk.{admission};
 ghost use Rattle.requests.specs.Request.{cleared};

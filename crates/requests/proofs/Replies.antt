@@ -11,7 +11,7 @@ use borrow.Author.Tests.{eq-eqb, ne-eqb, lt-ltb, le-ltb, eqb-false}
 use Rattle.checker.specs.Answer.{verdict}
 use Rattle.checker.specs.Promise as Checked
 use Rattle.trimming.specs.Promise as Trimmed
-use Rattle.billing.specs.Promise as Billed
+use Rattle.pricing.specs.Promise as Billed
 use Rattle.columns.specs.Column.{column}
 use Rattle.handover.specs.Promise as HandedOver
 use Rattle.memory.specs.declared.write.Write.{Write}
@@ -24,10 +24,10 @@ use Rattle.replay_across.specs.Promise as Across
 use Rattle.replaying.specs.Answer as Replay
 use Rattle.replaying.specs.Answer.{answerOf, numbersOf}
 use Rattle.replaying.specs.declared.answer.Answer.{Answer}
-use Rattle.billing.specs.declared.tariff.Tariff.{Tariff}
-use Rattle.billing.specs.declared.answer.Bill.{Bill}
-use Rattle.billing.specs.Bill.{notAccepted, numberAtEnd, lastNumber, unpriced, isAccepted, billOf}
-use Rattle.billing.specs.Output.{size, codeFor, numbersFor}
+use Rattle.charges.specs.declared.tariff.Tariff.{Tariff}
+use Rattle.pricing.specs.declared.answer.Bill.{Bill}
+use Rattle.pricing.specs.Bill.{notAccepted, numberAtEnd, lastNumber, unpriced, isAccepted, billOf}
+use Rattle.pricing.specs.Output.{size, codeFor, numbersFor}
 use Rattle.service.specs.declared.rights.Right.the-variants as Right
 use Rattle.service.specs.Desk.{callers, numberPlace, admission}
 use Rattle.service.specs.Serving.{raised}

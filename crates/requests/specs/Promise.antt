@@ -6,11 +6,11 @@ use Prim.Native.Nat.{ℕ}
 use lib.ListN.{getElem?}
 use Rattle.checker.specs.Promise as Checked
 use Rattle.trimming.specs.Promise as Trimmed
-use Rattle.billing.specs.Promise as Billed
+use Rattle.pricing.specs.Promise as Billed
 use Rattle.handover.specs.Promise as HandedOver
 use Rattle.replaying.specs.Promise as Replayed
 use Rattle.replay_across.specs.Promise as ReplayedAcross
-use Rattle.billing.specs.declared.tariff.Tariff.{Tariff}
+use Rattle.charges.specs.declared.tariff.Tariff.{Tariff}
 use Rattle.service.specs.Desk.{numberPlace, admission}
 use Rattle.service.specs.Serving.{Call}
 use Rattle.requests.specs.Request.{Request, toCheck, toTrim, toBill, toHandOver, toReplay, toReplayAcross, Reply, replied, rightFor, serve}

@@ -8,9 +8,9 @@ use lib.ListN.{length, drop, replicate}
 use Rattle.report.specs.Output as Verdict
 use Rattle.checker.specs.Answer.{verdict}
 use Rattle.trimming.specs.Answer.{answerFor, bufferFor}
-use Rattle.billing.specs.declared.tariff.Tariff.{Tariff}
-use Rattle.billing.specs.Bill.{billOf}
-use Rattle.billing.specs.Output.{size, codeFor, numbersFor}
+use Rattle.charges.specs.declared.tariff.Tariff.{Tariff}
+use Rattle.pricing.specs.Bill.{billOf}
+use Rattle.pricing.specs.Output.{size, codeFor, numbersFor}
 use Rattle.handover.specs.Code.{handoverCode}
 use Rattle.replay.specs.Whole.{replayOf}
 use Rattle.replay.specs.declared.whole.Replayed.{Replayed}
