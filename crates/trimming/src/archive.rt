@@ -2,13 +2,13 @@
 use crate::answer::Answer;
 use checker::acceptance::Acceptance;
 use checker::acceptance::accept_image;
-use kept::formulas::fill_used;
 use kept::lines::fill_kept;
-use kept::number::fill_numbers;
-use kept::size::trimmed_length;
 use limits::Limits;
+use notes::number::fill_numbers;
+use notes::size::trimmed_length;
 use program::sizes::Sizes;
 use trim::whole::write_trimmed;
+use used::formulas::fill_used;
 ghost use mathlib.Core.Path.{_≡_};
 ghost use Prim.Native.Nat.{_≤_};
 ghost use lib.ListN.{length};
