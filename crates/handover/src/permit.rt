@@ -1,10 +1,10 @@
 // The code of a handover between accepted images.
-use crate::bytes::same_bytes;
-use crate::lines::lines_serve;
-use crate::table::table_fits;
 use content::totals::Totals;
 use content::totals::totals_of;
 use frames::index::body_of;
+use handover_lines::lines::lines_serve;
+use handover_table::bytes::same_bytes;
+use handover_table::table::table_fits;
 use justify::pass::judge_lines;
 use program::sizes::Sizes;
 ghost use mathlib.Core.Path.{_≡_};
@@ -16,7 +16,7 @@ ghost use Rattle.content.specs.Image.{imageOf};
 ghost use Rattle.content.specs.Totals.{totalsOf};
 ghost use Rattle.justify.specs.Pass.{marksTo};
 ghost use Rattle.handover.specs.Code.{codeBetween, codeOf};
-ghost use Rattle.handover.specs.Found.{threadsServe};
+ghost use Rattle.handover_lines.specs.Found.{threadsServe};
 
 pub struct Handover;
 

@@ -19,7 +19,7 @@ use Rattle.limits.specs.Numbers.{nth}
 use Rattle.limits.proofs.Numbers.{byte-past}
 use Rattle.frames.specs.Records.{bodies}
 use Rattle.program.specs.declared.sizes.Sizes.{Sizes}
-use Rattle.program.specs.Header.{registerCount}
+use Rattle.header.specs.Header.{registerCount}
 use Rattle.image.specs.Decode.{sizesOf}
 use Rattle.content.specs.Program.{programOf, outlineOf}
 use Rattle.content.specs.Image.{imageOf}
@@ -32,7 +32,7 @@ use Rattle.checker.proofs.Granted.{granted-holds}
 use Rattle.columns.specs.Column.{column}
 use Rattle.memory.specs.declared.write.Write.{Write}
 use Rattle.machine.proofs.Worked.{sizes-few}
-use Rattle.handover.specs.Table.{entrySize, pointNamed, pointsTo, newPoint}
+use Rattle.handover_table.specs.Table.{entrySize, pointNamed, pointsTo, newPoint}
 use Rattle.handover.specs.Code as Code
 use Rattle.handover.specs.Code.{headerOf, codeOf, handoverCode}
 use Rattle.handover.specs.Promise.{Fits}

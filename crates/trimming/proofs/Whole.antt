@@ -8,7 +8,7 @@ use lib.ListN.{length, getD, length-map, length-append}
 use Rattle.logic.specs.Obligations.{Obligation, Obligation.start, below, upTo, steps, interferences}
 use Rattle.limits.specs.Limits as Limits
 use Rattle.limits.specs.Numbers.{nth}
-use Rattle.program.specs.Header.{threadCount}
+use Rattle.header.specs.Header.{threadCount}
 use Rattle.program.specs.declared.sizes.Sizes.{Sizes}
 use Rattle.records.specs.Tally.{tallyTo, tally, threadTally, obligationCount}
 use Rattle.image.specs.Decode.{sizesOf, recordCount}
@@ -40,7 +40,7 @@ use Rattle.trimmed.proofs.Trimming.{Trimming, threads-kept}
 use Rattle.trimmed.proofs.ChecksKept.{trimmed-sound}
 use Rattle.trimmed.proofs.There.{named-lines, written-formulas, outline-ranged}
 use Rattle.trimmed.proofs.Says.{named-said}
-use Rattle.kept.proofs.TrimmedLength.{trimmed-and-left}
+use Rattle.notes.proofs.TrimmedLength.{trimmed-and-left}
 
 -- a document whose bytes are a sound image
 pub record Whole (D : Document) : Type 0 where

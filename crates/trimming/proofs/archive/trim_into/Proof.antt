@@ -1,6 +1,6 @@
 use native.Mathlib.Omega.{arith}
 use Rattle.limits.proofs.Auto.{tests}
-use Rattle.trimming.proofs.Ways.{accepted-of, answering}
+use Rattle.archived.proofs.Ways.{accepted-of, answering}
 use borrow.Author.Needs.{needs}
 use Rattle.trimming.proofs.archive.trim_into.Statement.{statement}
 use Rattle.trimming.proofs.archive.trim_into.Tie as tie

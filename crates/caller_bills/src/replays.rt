@@ -1,0 +1,22 @@
+// A caller's replay that is refused.
+use replaying::answer::Answer;
+use replaying::answer::write_numbers;
+ghost use mathlib.Core.Path.{_≡_};
+ghost use Rattle.replaying.specs.Answer.{size};
+ghost use Rattle.requests.specs.Request.{cleared};
+
+// No replay: all its numbers are 0, if there is room for them.
+pub fn clear_replay(answer: &mut [usize])
+    ensures { λ _. ⌜ now (answer .exit) ≡ cleared size (now (answer .entry)) ⌝ }
+{
+    if answer.len() < Answer::SIZE {
+        return;
+    }
+    let none = Answer {
+        code: 0,
+        steps: 0,
+        points: [0; 4],
+        registers: [0; 16],
+    };
+    write_numbers(none, answer);
+}
