@@ -3,7 +3,7 @@ use crate::use_of::is_plain_of;
 use formula::code::Place;
 use frames::fault::Checked;
 use frames::fault::Fault;
-use frames::index::body_of;
+use index::table::body_of;
 use limits::Limits;
 use occurs::has::has_foreign;
 use occurs::has::has_register;
@@ -16,7 +16,8 @@ use program::thread::instruction_at;
 use program::thread::last_point;
 ghost use mathlib.Core.Path.{_≡_};
 ghost use Rattle.limits.specs.Numbers.{every};
-ghost use Rattle.frames.specs.Records.{bodies, indexOf};
+ghost use Rattle.frames.specs.Records.{bodies};
+ghost use Rattle.index.specs.Table.{indexOf};
 ghost use Rattle.program.specs.Thread.{instructions};
 ghost use Rattle.bodies.specs.Thread.{wanted, formulaSorted, sorted, target, registerOwned, formulaOwned, owned, resultAbsent, threadRegisters, thread};
 

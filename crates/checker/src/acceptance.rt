@@ -1,14 +1,14 @@
 // What an accepted image holds, for calls that go on from there: trimming, bills.
 use crate::judge::judge_sound;
-use frames::index::fill_index;
 use image::decode::Decoded;
 use image::decode::decode_image;
+use index::table::fill_index;
 use program::sizes::Sizes;
 use report::verdict::Verdict;
 ghost use mathlib.Core.Path.{_≡_};
 ghost use lib.ListN.{replicate};
 ghost use Rattle.limits.specs.Limits.{records};
-ghost use Rattle.frames.specs.Records.{indexOf};
+ghost use Rattle.index.specs.Table.{indexOf};
 ghost use Rattle.checker.specs.Acceptance.{grantedBy, acceptance};
 
 pub enum Acceptance {

@@ -11,8 +11,9 @@ use borrow.Author.Tests.{ltb-true, ltb-false, ne-eqb, lt-ltb, le-ltb}
 use Rattle.logic.specs.Formula.{Formula.const}
 use Rattle.limits.specs.Limits as Limits
 use Rattle.limits.specs.Numbers.{word}
-use Rattle.frames.specs.Records.{body, bodies, indexOf, startOf}
-use Rattle.frames.proofs.Laws.Index.{index-length, body-is, found-past}
+use Rattle.frames.specs.Records.{body, bodies, startOf}
+use Rattle.index.specs.Table.{indexOf}
+use Rattle.index.proofs.Laws.{index-length, body-is, found-past}
 use Rattle.limits.specs.Limits.{nesting}
 use Rattle.formula.specs.Reader.{sortOf}
 use Rattle.formula.specs.Tree.{ParsedTree, nodeAt, parseTree}

@@ -1,6 +1,6 @@
 // Where a formula stands in the image.
 ghost use mathlib.Core.Path.{_≡_};
-ghost use Rattle.frames.specs.Records.{indexOf};
+ghost use Rattle.index.specs.Table.{indexOf};
 ghost use Rattle.content.specs.Places.{bodyStart, formulaAt};
 
 // The body of the record at a position stands behind its length and its kind.

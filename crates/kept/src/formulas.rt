@@ -2,7 +2,7 @@
 use crate::note::is_noted;
 use crate::note::note_number;
 use crate::note::note_numbers;
-use frames::index::body_of;
+use index::table::body_of;
 use limits::read::word_at;
 use program::instruction::Instruction;
 use program::sizes::Sizes;
@@ -14,7 +14,8 @@ ghost use mathlib.Core.Bool.{false};
 ghost use Prim.Native.Nat.{suc, _<_};
 ghost use lib.ListN.{length, replicate};
 ghost use Rattle.limits.specs.Limits.{formulas};
-ghost use Rattle.frames.specs.Records.{bodies, indexOf};
+ghost use Rattle.frames.specs.Records.{bodies};
+ghost use Rattle.index.specs.Table.{indexOf};
 ghost use Rattle.image.specs.Decode.{recordCount};
 ghost use Rattle.document.specs.Parse.{documentOf};
 ghost use Rattle.trimmed.specs.Kept.{noted, instructionFormulas, kept, used};

@@ -1,11 +1,12 @@
 // The instruction at a thread's point, by the index of records.
-use frames::index::body_of;
+use index::table::body_of;
 use program::instruction::Instruction;
 use program::instruction::NO_HALF;
 use program::sizes::Sizes;
 use program::thread::instruction_at;
 ghost use mathlib.Core.Path.{_≡_};
-ghost use Rattle.frames.specs.Records.{bodies, indexOf};
+ghost use Rattle.frames.specs.Records.{bodies};
+ghost use Rattle.index.specs.Table.{indexOf};
 ghost use Rattle.records.specs.Places.{instructionOf};
 
 // Where there is none, a branch to point 0.

@@ -1,12 +1,13 @@
 // How many points and how many obligations there are.
-use frames::index::body_of;
+use index::table::body_of;
 use program::instruction::Instruction;
 use program::sizes::Sizes;
 use program::thread::instruction_at;
 use program::thread::last_point;
 ghost use mathlib.Core.Path.{_≡_};
 ghost use Prim.Native.Nat.{_≤_, _+_, _*_};
-ghost use Rattle.frames.specs.Records.{bodies, indexOf};
+ghost use Rattle.frames.specs.Records.{bodies};
+ghost use Rattle.index.specs.Table.{indexOf};
 ghost use Rattle.program.specs.Thread.{lastPoint, instructions};
 ghost use Rattle.records.specs.Tally.{isBranch, branches, threadTally, plus, tally, Small, obligationCount};
 

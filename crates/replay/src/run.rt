@@ -4,7 +4,7 @@ use crate::states::Machine;
 use crate::step::step;
 use program::sizes::Sizes;
 ghost use mathlib.Core.Path.{_≡_};
-ghost use Rattle.frames.specs.Records.{indexOf};
+ghost use Rattle.index.specs.Table.{indexOf};
 ghost use Rattle.replay.specs.Run.{ran};
 
 // Why the run ended, 0 if the trace did; the steps taken; the state reached.

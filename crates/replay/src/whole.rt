@@ -5,11 +5,11 @@ use crate::start::start_machine;
 use crate::states::Machine;
 use checker::acceptance::Acceptance;
 use checker::acceptance::accept_image;
-use frames::index::body_of;
+use index::table::body_of;
 use limits::Limits;
 use program::sizes::Sizes;
 ghost use mathlib.Core.Path.{_≡_};
-ghost use Rattle.frames.specs.Records.{indexOf};
+ghost use Rattle.index.specs.Table.{indexOf};
 ghost use Rattle.replay.specs.Whole.{roomOf, replayOn, replayOf};
 
 pub struct Table {}

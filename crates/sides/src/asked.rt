@@ -14,7 +14,7 @@ use conclusions::conclusion::Conclusion;
 use conclusions::conclusion::Premises;
 use conclusions::conclusion::conclusion_at;
 use content::acting::Acting;
-use frames::index::body_of;
+use index::table::body_of;
 use limits::Limits;
 use matcher::bind::Bind;
 use program::header::is_cleared;
@@ -25,7 +25,7 @@ use rows::by::by_rows;
 use rows::by::by_table;
 use rulebook::rule::Side;
 ghost use mathlib.Core.Path.{_≡_};
-ghost use Rattle.frames.specs.Records.{indexOf};
+ghost use Rattle.index.specs.Table.{indexOf};
 ghost use Rattle.sides.specs.Asked.{substitutionOf, assignedBy, loadedBy, ofInstruction, implicationsOf, ofNames, asked};
 
 // The registers that an instruction sets to formulas, by these: of an assignment, of two at once, of a pair.

@@ -5,12 +5,13 @@ use crate::numbers::put_numbers;
 use crate::put::put_bytes;
 use crate::put::put_frame;
 use crate::thread::put_thread;
-use frames::index::body_of;
 use frames::kind::Kind;
+use index::table::body_of;
 ghost use mathlib.Core.Path.{_≡_};
 ghost use Prim.Native.Nat.{_+_, _≤_};
 ghost use lib.ListN.{length};
-ghost use Rattle.frames.specs.Records.{bodies, indexOf};
+ghost use Rattle.frames.specs.Records.{bodies};
+ghost use Rattle.index.specs.Table.{indexOf};
 ghost use Rattle.trim.specs.Overwritten.{overwritten};
 ghost use Rattle.trim.specs.Records.{renewedBody, recordBytes, listBytes};
 

@@ -13,8 +13,9 @@ use borrow.Author.Tests.{eqb-true, eqb-false, eq-eqb, ne-eqb, lt-ltb, le-ltb, le
 use Rattle.limits.specs.Limits as Limits
 use Rattle.limits.specs.Numbers.{word, numbers}
 use Rattle.limits.proofs.Numbers.{number-past}
-use Rattle.frames.specs.Records.{body, bodies, indexOf}
-use Rattle.frames.proofs.Laws.Index.{index-length, entry-fits, start-is, found-past}
+use Rattle.frames.specs.Records.{body, bodies}
+use Rattle.index.specs.Table.{indexOf}
+use Rattle.index.proofs.Laws.{index-length, entry-fits, start-is, found-past}
 use Rattle.program.specs.declared.sizes.Sizes.{Sizes}
 use Rattle.program.specs.declared.instruction.Instruction.{Instruction}
 use Rattle.program.specs.Instruction.{firstOperation}

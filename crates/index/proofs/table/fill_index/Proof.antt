@@ -1,12 +1,14 @@
-use Rattle.frames.proofs.Laws.Index.{indexing, start-more, index-more, long}
+use Rattle.frames.proofs.Laws.Walk.{long}
+use Rattle.index.proofs.Laws.{indexing, start-more, index-more}
 use Prim.Native.Nat.{_≤_, _-_}
 use mathlib.Core.Path.{_≡_}
 use lib.ListN.{length}
 use Rattle.limits.specs.Limits as Limits
-use Rattle.frames.specs.Records.{startOf, indexTo}
+use Rattle.frames.specs.Records.{startOf}
+use Rattle.index.specs.Table.{indexTo}
 use Rattle.limits.proofs.Auto.{tests}
-use Rattle.frames.proofs.index.fill_index.Statement.{statement}
-use Rattle.frames.proofs.index.fill_index.Tie as tie
+use Rattle.index.proofs.table.fill_index.Statement.{statement}
+use Rattle.index.proofs.table.fill_index.Tie as tie
 
 abbrev Inv-loop : tie.InvT-loop
 Inv-loop s ix₀ p₀ i₀ ix p i = (i ≤ Limits.records) × ((p ≡ startOf s i) × ((ix ≡ indexTo s i) × (length ix ≡ Limits.records)))

@@ -11,7 +11,8 @@ ghost use Prim.Native.Nat.{_+_, min};
 ghost use lib.ListN.{length, getD, drop, replicate};
 ghost use Rattle.limits.specs.Limits.{records};
 ghost use Rattle.limits.specs.Numbers.{word};
-ghost use Rattle.frames.specs.Records.{body, bodies, indexOf};
+ghost use Rattle.frames.specs.Records.{body, bodies};
+ghost use Rattle.index.specs.Table.{indexOf};
 
 // The start of the record behind the one at a position.
 fn next_start(s: &[u8], at: usize) -> usize

@@ -1,8 +1,8 @@
-use Rattle.frames.proofs.Laws.Index.{looking}
+use Rattle.index.proofs.Laws.{looking}
 use Rattle.limits.proofs.Auto.{tests}
 use borrow.Author.Needs.{needs}
-use Rattle.frames.proofs.index.body_of.Statement.{statement}
-use Rattle.frames.proofs.index.body_of.Tie as tie
+use Rattle.index.proofs.table.body_of.Statement.{statement}
+use Rattle.index.proofs.table.body_of.Tie as tie
 
 pub body-of-spec : {M : Type 1} → statement M
 body-of-spec =

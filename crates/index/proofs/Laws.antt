@@ -12,7 +12,9 @@ use lib.Dec.{leb, eqb}
 use borrow.Author.Tests.{leb-true, leb-false, eqb-true, eqb-false}
 use Rattle.limits.specs.Limits as Limits
 use Rattle.limits.specs.Numbers.{word}
-use Rattle.frames.specs.Records.{body, cut, bodies, startOf, indexTo, indexOf}
+use Rattle.frames.proofs.Laws.Walk.{long}
+use Rattle.frames.specs.Records.{body, cut, bodies, startOf}
+use Rattle.index.specs.Table.{indexTo, indexOf}
 
 -- the table
 
@@ -59,9 +61,6 @@ stays s i (suc n) h a g = go (eqb i (suc n)) refl (λ b. stays s i n h b (omega 
 pub index-ended : (s l : List ℕ) (i p : ℕ) → i ≤ Limits.records → l ≡ indexTo s i → p ≡ startOf s i → length s ≤ p → l ≡ indexOf s
 unfolding indexOf
 index-ended s l i p h e d g = e ∙ sym (stays s i Limits.records (rw d at g) h (omega arith) .1)
-
-pub long : (l : List ℕ) (i v n : ℕ) → length l ≡ n → length (set l i v) ≡ n
-long l i v n e = length-set l i v ∙ e
 
 pub long-zeros : (l : List ℕ) → l ≡ replicate Limits.records 0 → length l ≡ Limits.records
 long-zeros l e = ap length e ∙ length-replicate {A = ℕ} Limits.records 0
