@@ -4,7 +4,7 @@ use crate::use_of::is_sort;
 use formula::code::Place;
 use frames::fault::Checked;
 use frames::fault::Fault;
-use index::table::body_of;
+use index::look::body_of;
 use limits::read::word_at;
 use program::sizes::Sizes;
 use records::line::Form;

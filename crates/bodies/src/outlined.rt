@@ -1,7 +1,7 @@
 // Which formulas may stand in an outline or a triple. Many lines may name one formula, so this is found out once for
 // each formula, and a look-up costs the same however long the formula is.
 use crate::use_of::is_outlined;
-use index::table::body_of;
+use index::look::body_of;
 use limits::Limits;
 use program::sizes::Sizes;
 ghost use mathlib.Core.Path.{_≡_};

@@ -1,5 +1,5 @@
 // The claims, by their numbers, from 0.
-use index::table::body_of;
+use index::look::body_of;
 use limits::read::octet_at;
 use limits::read::word_at;
 use program::sizes::Sizes;

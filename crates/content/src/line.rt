@@ -1,6 +1,6 @@
 // A line and its premises, by the line's number.
 use crate::position::formula_at;
-use index::table::body_of;
+use index::look::body_of;
 use limits::Limits;
 use limits::read::byte_at;
 use limits::read::word_at;

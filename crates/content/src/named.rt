@@ -1,6 +1,6 @@
 // The line that an obligation names.
 use crate::totals::Totals;
-use index::table::body_of;
+use index::look::body_of;
 use limits::read::number_at;
 use program::sizes::Sizes;
 ghost use mathlib.Core.Path.{_≡_};

@@ -2,7 +2,7 @@
 use crate::position::formula_at;
 use crate::totals::Totals;
 use crate::totals::before_thread;
-use index::table::body_of;
+use index::look::body_of;
 use limits::Limits;
 use limits::read::number_at;
 use program::sizes::Sizes;

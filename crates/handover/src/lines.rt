@@ -5,7 +5,7 @@ use crate::entries::point_named;
 use crate::points::points_before;
 use content::point::last_point_of;
 use content::totals::Totals;
-use index::table::body_of;
+use index::look::body_of;
 use limits::read::number_at;
 use limits::read::word_at;
 use marks::is_marked;

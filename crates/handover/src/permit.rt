@@ -4,7 +4,7 @@ use crate::lines::lines_serve;
 use crate::table::table_fits;
 use content::totals::Totals;
 use content::totals::totals_of;
-use index::table::body_of;
+use index::look::body_of;
 use justify::pass::judge_lines;
 use program::sizes::Sizes;
 ghost use mathlib.Core.Path.{_≡_};

@@ -5,7 +5,7 @@ use frames::fault::Checked;
 use frames::fault::Fault;
 use frames::walk::Framing;
 use frames::walk::read_frames;
-use index::table::body_of;
+use index::look::body_of;
 use limits::read::byte_at;
 use program::header::Header;
 use program::header::range_of;

@@ -1,71 +1,43 @@
--- The table of starts, and the body that it leads to.
-use Prim.Native.Nat.{ℕ, zero, suc, _+_, _-_, _≤_, _<_, min}
+-- The table, and what the look-ups take from it.
+use Prim.Native.Nat.{ℕ, zero, suc, _+_, _-_, _*_, _≤_, _<_, min}
 use mathlib.Core.Path.{_≡_, refl, ap, sym, _∙_, subst}
 use mathlib.Core.List.{List, [], _∷_}
-use mathlib.Core.Bool.{Bool, true, false}
-use native.Mathlib.Numerals.{add-one}
+use mathlib.Core.Bool.{Bool, true, false, cond}
+use native.Mathlib.Numerals.{add-one, sub-one}
 use native.Mathlib.Omega.{arith}
 use mathlib.Core.Logic.{_≢_}
 use lib.ListN.{length, getD, set, drop, take, replicate, drop-of-length-le, length-set, length-replicate, getD-replicate}
 use lib.Seq.{drop-drop, drop-length, getD-set-same, getD-set-other, set-getD}
-use lib.Dec.{leb, eqb}
-use borrow.Author.Tests.{leb-true, leb-false, eqb-true, eqb-false}
+use lib.Dec.{leb, ltb, eqb}
+use borrow.Author.Tests.{leb-true, leb-false, ltb-true, ltb-false, eqb-true, eqb-false, lt-ltb, le-ltb, le-leb, lt-leb, eq-eqb, ne-eqb}
 use Rattle.limits.specs.Limits as Limits
 use Rattle.limits.specs.Numbers.{word}
 use Rattle.frames.proofs.Laws.Walk.{long}
 use Rattle.frames.specs.Records.{body, cut, bodies, startOf}
-use Rattle.index.specs.Table.{indexTo, indexOf}
+use Rattle.program.specs.Thread.{lastPoint, begins}
+use Rattle.index.specs.Table.{room, tableSize, recordsTo, nextStart, isThread, firstFrom, firstThread, rowTo, rowOf, behind, rowsTo, indexOf, placeOf}
+use Rattle.index.specs.declared.starts.FirstThread.{FirstThread}
 
--- the table
+-- from record to record
 
-pub index-none : (s l : List ℕ) → l ≡ replicate Limits.records 0 → l ≡ indexTo s 0
-unfolding indexTo
-index-none s l e = e
+module _ (s : List ℕ) (p : ℕ) where
+  pub next-past : length s ≤ p → length s ≡ nextStart s p
+  unfolding nextStart
+  next-past h = omega arith
 
-pub start-none : (s : List ℕ) → 0 ≡ startOf s 0
-unfolding startOf
-start-none s = refl
+  pub next-over : (n : ℕ) → n ≡ word (drop p s) → length s - p < 2 → length s ≡ nextStart s p
+  unfolding nextStart
+  next-over n e h = omega arith
 
-pub index-more : (s l : List ℕ) (i p : ℕ) → l ≡ indexTo s i → p ≡ startOf s i → set l i (length s - p) ≡ indexTo s (i + 1)
-unfolding indexTo
-index-more s l i p e d = rw (add-one i, d, e)
+  pub next-cut : (n : ℕ) → n ≡ word (drop p s) → length s - p - 2 < n → length s ≡ nextStart s p
+  unfolding nextStart
+  next-cut n e h = omega arith
 
-pub start-more : (s : List ℕ) (i p q : ℕ) → p ≡ startOf s i → q ≡ min (length s) (p + 2 + word (drop p s)) → q ≡ startOf s (i + 1)
-unfolding startOf
-start-more s i p q e d = rw (add-one i, d, e)
+  pub next-in : (n : ℕ) → n ≡ word (drop p s) → 2 ≤ length s - p → n ≤ length s - p - 2 → p + 2 + n ≡ nextStart s p
+  unfolding nextStart
+  next-in n e h g = omega arith
 
-pub index-all : (s l : List ℕ) (i : ℕ) → i ≤ Limits.records → length l ≡ Limits.records → length l ≤ i → l ≡ indexTo s i → l ≡ indexOf s
-unfolding indexOf
-index-all s l i a n b e = let q : i ≡ Limits.records = omega arith in rw q at e
-
--- past the last record the table stays as it is
-
-unfilled : (s : List ℕ) (n i : ℕ) → n ≤ i → i < Limits.records → getD (indexTo s n) i 0 ≡ 0
-unfolding indexTo
-unfilled s zero i h g = getD-replicate Limits.records i 0 0 g
-unfilled s (suc n) i h g = let q : i ≢ n = λ e. omega arith in getD-set-other (indexTo s n) n i (length s - startOf s n) 0 q ∙ unfilled s n i (omega arith) g
-
-stays : (s : List ℕ) (i n : ℕ) → length s ≤ startOf s i → i ≤ n → n ≤ Limits.records → (length s ≤ startOf s n) × (indexTo s n ≡ indexTo s i)
-unfolding startOf indexTo
-stays s i zero h a g = let q : i ≡ 0 = omega arith in subst (λ (m : ℕ). (length s ≤ startOf s m) × (indexTo s m ≡ indexTo s i)) q (h, refl)
-stays s i (suc n) h a g = go (eqb i (suc n)) refl (λ b. stays s i n h b (omega arith))
-  where
-    go : (b : Bool) → eqb i (suc n) ≡ b → (i ≤ n → (length s ≤ startOf s n) × (indexTo s n ≡ indexTo s i)) → (length s ≤ startOf s (suc n)) × (indexTo s (suc n) ≡ indexTo s i)
-    go true e f = subst (λ (m : ℕ). (length s ≤ startOf s m) × (indexTo s m ≡ indexTo s i)) (eqb-true i (suc n) e) (h, refl)
-    go false e f =
-        let q = eqb-false i (suc n) e in
-        let p = f (omega arith) in
-        let z : length s - startOf s n ≡ getD (indexTo s n) n 0 = rw (unfilled s n n (omega arith) (omega arith)) (omega (arith, p .0)) in
-        (omega (arith, p .0), rw z (set-getD (indexTo s n) n 0) ∙ p .1)
-
-pub index-ended : (s l : List ℕ) (i p : ℕ) → i ≤ Limits.records → l ≡ indexTo s i → p ≡ startOf s i → length s ≤ p → l ≡ indexOf s
-unfolding indexOf
-index-ended s l i p h e d g = e ∙ sym (stays s i Limits.records (rw d at g) h (omega arith) .1)
-
-pub long-zeros : (l : List ℕ) → l ≡ replicate Limits.records 0 → length l ≡ Limits.records
-long-zeros l e = ap length e ∙ length-replicate {A = ℕ} Limits.records 0
-
-pub ruleset indexing = (index-none, start-none, index-more, start-more, index-all, index-ended, long, long-zeros)
+pub ruleset stepping = (next-past, next-over, next-cut, next-in)
 
 -- a record's body
 
@@ -85,117 +57,271 @@ module _ (s : List ℕ) (p : ℕ) (r : List ℕ) where
 
 pub ruleset bodied = (body-past, body-under, body-in)
 
--- the body that the table leads to is the one that is cut off
+-- room
 
-skip : ℕ → List ℕ → List ℕ
-skip zero l = l
-skip (suc i) l = skip i (drop (2 + word l) l)
+pub room-short : (s : List ℕ) → length s ≤ 1024 → 512 ≡ room s
+unfolding room
+room-short s h = rw (le-leb (length s) 1024 h)
 
-word-nil : word [] ≡ 0
-unfolding word
-word-nil = refl
+pub room-long : (s : List ℕ) → 1024 < length s → 4523 ≡ room s
+unfolding room
+room-long s h = rw (lt-leb (length s) 1024 h)
 
-skip-nil : (i : ℕ) → skip i [] ≡ []
-unfolding skip
-skip-nil zero = refl
-skip-nil (suc i) = rw word-nil (skip-nil i)
-
-skip-suc : (i : ℕ) (l : List ℕ) → skip (suc i) l ≡ drop (2 + word (skip i l)) (skip i l)
-unfolding skip
-skip-suc zero l = refl
-skip-suc (suc i) l = skip-suc i (drop (2 + word l) l)
-
-drop-min : (s : List ℕ) (n : ℕ) → drop (min (length s) n) s ≡ drop n s
-drop-min s n = go (leb (length s) n) refl
+pub room-few : (s : List ℕ) → room s ≤ Limits.records
+unfolding room
+room-few s = go (leb (length s) 1024)
   where
-    go : (b : Bool) → leb (length s) n ≡ b → drop (min (length s) n) s ≡ drop n s
-    go true e =
-        let h = leb-true (length s) n e in
-        let q : min (length s) n ≡ length s = omega arith in
-        rw (q, drop-length s, drop-of-length-le s h)
-    go false e =
-        let h = leb-false (length s) n e in
-        let q : min (length s) n ≡ n = omega arith in
-        rw q
+    go : (b : Bool) → cond b 512 Limits.records ≤ Limits.records
+    go true = omega arith
+    go false = omega arith
 
-start-skip : (s : List ℕ) (i : ℕ) → drop (startOf s i) s ≡ skip i s
-unfolding startOf skip
-start-skip s zero = refl
-start-skip s (suc i) =
-    let q : startOf s i + 2 + word (drop (startOf s i) s) ≡ startOf s i + (2 + word (drop (startOf s i) s)) = omega arith in
-    drop-min s _ ∙ (rw (q, ← drop-drop (2 + word (drop (startOf s i) s)) (startOf s i) s, start-skip s i) (sym (skip-suc i s)))
+pub size-is : (s : List ℕ) → tableSize s ≡ room s + 65
+unfolding tableSize
+size-is s = refl
 
-body-nil : body [] ≡ []
-unfolding body word
-body-nil = refl
+pub room-most : (s : List ℕ) (n : ℕ) → n ≡ room s → n ≤ 4523
+room-most s n e = omega (arith, room-few s)
 
-cut-in : (k i : ℕ) (l : List ℕ) → i < k → getD (cut k l) i [] ≡ body (skip i l)
-unfolding cut skip
-cut-in zero i l h = absurd (omega arith)
-cut-in (suc k) i [] h = sym (ap body (skip-nil i) ∙ body-nil)
-cut-in (suc k) zero (x ∷ l) h = refl
-cut-in (suc k) (suc i) (x ∷ l) h = cut-in k i (drop (2 + word (x ∷ l)) (x ∷ l)) (omega arith)
+pub ruleset rooms = (room-short, room-long)
 
-cut-past : (k i : ℕ) (l : List ℕ) → k ≤ i → getD (cut k l) i [] ≡ []
-unfolding cut
-cut-past zero i l h = refl
-cut-past (suc k) i [] h = refl
-cut-past (suc k) zero (x ∷ l) h = absurd (omega arith)
-cut-past (suc k) (suc i) (x ∷ l) h = cut-past k i (drop (2 + word (x ∷ l)) (x ∷ l)) (omega arith)
+-- the records
 
-pub index-length : (s : List ℕ) (n : ℕ) → length (indexTo s n) ≡ Limits.records
-unfolding indexTo
-index-length s zero = length-replicate {A = ℕ} Limits.records 0
-index-length s (suc n) = length-set (indexTo s n) n (length s - startOf s n) ∙ index-length s n
+pub records-none : (s l : List ℕ) → l ≡ replicate (tableSize s) 0 → l ≡ recordsTo s 0
+unfolding recordsTo
+records-none s l e = e
 
-start-low : (s : List ℕ) (i : ℕ) → startOf s i ≤ length s
+pub start-none : (s : List ℕ) → 0 ≡ startOf s 0
 unfolding startOf
-start-low s zero = omega arith
-start-low s (suc i) = omega arith
+start-none s = refl
 
-entry-is : (s : List ℕ) (n i : ℕ) → i < n → n ≤ Limits.records → getD (indexTo s n) i 0 ≡ length s - startOf s i
-unfolding indexTo
-entry-is s zero i h g = absurd (omega arith)
-entry-is s (suc n) i h g = go (eqb i n) refl (λ a. entry-is s n i a (omega arith))
+pub records-more : (s l : List ℕ) (i p : ℕ) → l ≡ recordsTo s i → p ≡ startOf s i → set l i (length s - p) ≡ recordsTo s (i + 1)
+unfolding recordsTo
+records-more s l i p e d = rw (add-one i, d, e)
+
+pub start-more : (s : List ℕ) (i p q : ℕ) → p ≡ startOf s i → q ≡ nextStart s p → q ≡ startOf s (i + 1)
+unfolding startOf nextStart
+start-more s i p q e d = rw (add-one i, d, e)
+
+pub records-all : (s l : List ℕ) (i n : ℕ) → i ≤ n → n ≤ i → l ≡ recordsTo s i → l ≡ recordsTo s n
+records-all s l i n a b e = let q : i ≡ n = omega arith in rw q at e
+
+pub zeros-long : (s l : List ℕ) → l ≡ replicate (tableSize s) 0 → length l ≡ tableSize s
+zeros-long s l e = ap length e ∙ length-replicate {A = ℕ} (tableSize s) 0
+
+pub place-there : (s l : List ℕ) (i n : ℕ) → length l ≡ tableSize s → n ≡ room s → i < n → i < length l
+place-there s l i n e d h = omega (arith, size-is s)
+
+pub records-length : (s : List ℕ) (n : ℕ) → length (recordsTo s n) ≡ tableSize s
+unfolding recordsTo
+records-length s zero = length-replicate {A = ℕ} (tableSize s) 0
+records-length s (suc n) = length-set (recordsTo s n) n (length s - startOf s n) ∙ records-length s n
+
+-- past the last record the table stays as it is
+
+unfilled : (s : List ℕ) (n i : ℕ) → n ≤ i → i < tableSize s → getD (recordsTo s n) i 0 ≡ 0
+unfolding recordsTo
+unfilled s zero i h g = getD-replicate (tableSize s) i 0 0 g
+unfilled s (suc n) i h g =
+    let q : i ≢ n = λ e. omega arith in
+    getD-set-other (recordsTo s n) n i (length s - startOf s n) 0 q ∙ unfilled s n i (omega arith) g
+
+stays : (s : List ℕ) (i n : ℕ) → length s ≤ startOf s i → i ≤ n → n ≤ tableSize s → (length s ≤ startOf s n) × (recordsTo s n ≡ recordsTo s i)
+unfolding startOf recordsTo
+stays s i zero h a g = let q : i ≡ 0 = omega arith in subst (λ (m : ℕ). (length s ≤ startOf s m) × (recordsTo s m ≡ recordsTo s i)) q (h, refl)
+stays s i (suc n) h a g = go (eqb i (suc n)) refl (λ b. stays s i n h b (omega arith))
   where
-    go : (b : Bool) → eqb i n ≡ b → (i < n → getD (indexTo s n) i 0 ≡ length s - startOf s i) → getD (set (indexTo s n) n (length s - startOf s n)) i 0 ≡ length s - startOf s i
-    go true e f =
-        let q = eqb-true i n e in
-        let z : n < length (indexTo s n) = rw (index-length s n) (omega arith) in
-        rw q (getD-set-same (indexTo s n) n (length s - startOf s n) 0 z)
+    go : (b : Bool) → eqb i (suc n) ≡ b → (i ≤ n → (length s ≤ startOf s n) × (recordsTo s n ≡ recordsTo s i))
+        → (length s ≤ startOf s (suc n)) × (recordsTo s (suc n) ≡ recordsTo s i)
+    go true e f = subst (λ (m : ℕ). (length s ≤ startOf s m) × (recordsTo s m ≡ recordsTo s i)) (eqb-true i (suc n) e) (h, refl)
     go false e f =
-        let q = eqb-false i n e in
-        getD-set-other (indexTo s n) n i (length s - startOf s n) 0 q ∙ f (omega arith)
+        let q = eqb-false i (suc n) e in
+        let p = f (omega arith) in
+        let z : length s - startOf s n ≡ getD (recordsTo s n) n 0 = rw (unfilled s n n (omega arith) (omega arith)) (omega (arith, p .0)) in
+        (omega (arith, p .0), rw z (set-getD (recordsTo s n) n 0) ∙ p .1)
 
--- what a look-up takes from the table: no more bytes than there are, and the record's start
+pub records-ended : (s l : List ℕ) (i p n : ℕ) → n ≡ room s → i ≤ n → l ≡ recordsTo s i → p ≡ startOf s i → length s ≤ p → l ≡ recordsTo s n
+records-ended s l i p n r h e d g = e ∙ sym (stays s i n (rw d at g) h (omega (arith, size-is s)) .1)
 
-module _ (s ix : List ℕ) (i : ℕ) (e : ix ≡ indexOf s) (h : i < length ix) where
-  low : i < Limits.records
-  unfolding indexOf
-  low = omega (arith, ap length e ∙ index-length s Limits.records)
+pub ruleset filling = (records-none, start-none, records-more, start-more, records-all, records-ended, zeros-long, place-there, long)
 
-  found : getD ix i 0 ≡ length s - startOf s i
-  unfolding indexOf
-  found = ap (λ (l : List ℕ). getD l i 0) e ∙ entry-is s Limits.records i low (omega arith)
+-- the first thread
 
-  pub entry-fits : getD ix i 0 ≤ length s
-  entry-fits = omega (arith, found)
+pub thread-is : (s : List ℕ) (p k : ℕ) → k ≡ word (drop (p + 2) s) → eqb k 3 ≡ isThread s p
+unfolding isThread
+thread-is s p k e = rw e
 
-  pub start-is : length s - getD ix i 0 ≡ startOf s i
-  start-is = omega (arith, found, start-low s i)
+pub first-none : (s : List ℕ) (n i p : ℕ) → n ≤ i → firstFrom s 0 0 n ≡ firstFrom s i p (n - i) → record { number = i; position = p } ≡ firstFrom s 0 0 n
+unfolding firstFrom
+first-none s n i p h e = let z : n - i ≡ 0 = omega arith in e' z
+  where
+    e' : n - i ≡ 0 → record { number = i; position = p } ≡ firstFrom s 0 0 n
+    e' z = sym (e ∙ ap (firstFrom s i p) z)
 
-pub body-is : (s : List ℕ) (i : ℕ) → i < Limits.records → getD (bodies s) i [] ≡ body (drop (startOf s i) s)
-unfolding bodies
-body-is s i h = rw (cut-in Limits.records i s h, start-skip s i)
+first-step : (s : List ℕ) (i p m : ℕ) → 0 < m
+    → firstFrom s i p m
+    ≡ cond (ltb p (length s))
+    (cond (isThread s p) (record { number = i; position = p }) (firstFrom s (i + 1) (nextStart s p) (m - 1)))
+    (record { number = i; position = p })
+unfolding firstFrom
+first-step s i p zero h = absurd (omega arith)
+first-step s i p (suc m) h = rw (sub-one (suc m))
 
-module _ (s ix : List ℕ) (i : ℕ) (r : List ℕ) (e : ix ≡ indexOf s) where
-  pub found-in : i < length ix → r ≡ body (drop (length s - getD ix i 0) s) → r ≡ getD (bodies s) i []
-  found-in h d = d ∙ (rw (start-is s ix i e h, body-is s i (low s ix i e h)))
+module _ (s : List ℕ) (n i p : ℕ) (h : i < n) (e : firstFrom s 0 0 n ≡ firstFrom s i p (n - i)) where
+  more : 0 < n - i
+  more = omega arith
 
-  pub found-past : length ix ≤ i → r ≡ body (drop (length s) s) → r ≡ getD (bodies s) i []
-  unfolding indexOf bodies
-  found-past h d =
-      let z : Limits.records ≤ i = omega (arith, ap length e ∙ index-length s Limits.records) in
-      d ∙ (rw (cut-past Limits.records i s z, drop-length s) body-nil)
+  pub first-ended : length s ≤ p → record { number = i; position = p } ≡ firstFrom s 0 0 n
+  first-ended g = sym (e ∙ (rw (first-step s i p (n - i) more, le-ltb p (length s) g)))
 
-pub ruleset looking = (entry-fits, found-in, found-past)
+  module _ (k : Bool) (g : p < length s) (d : k ≡ isThread s p) where
+    pub first-found : k ≡ true → record { number = i; position = p } ≡ firstFrom s 0 0 n
+    first-found f = sym (e ∙ (rw (first-step s i p (n - i) more, lt-ltb p (length s) g, ← d, f)))
+
+    pub first-next : k ≡ false → (q : ℕ) → q ≡ nextStart s p → firstFrom s 0 0 n ≡ firstFrom s (i + 1) q (n - (i + 1))
+    first-next f q c =
+        let z : n - i - 1 ≡ n - (i + 1) = omega arith in
+        e ∙ (rw (first-step s i p (n - i) more, lt-ltb p (length s) g, ← d, f, c, z))
+
+pub first-start : (s : List ℕ) (n : ℕ) → firstFrom s 0 0 n ≡ firstFrom s 0 0 (n - 0)
+first-start s n = let z : n - 0 ≡ n = omega arith in rw z
+
+-- the places of one thread
+
+module _ (l : List ℕ) (from : ℕ) (b : List ℕ) where
+  pub row-none : l ≡ rowTo l from b 0
+  unfolding rowTo
+  row-none = refl
+
+  pub row-more : (m : List ℕ) (p at : ℕ) → m ≡ rowTo l from b p → at ≡ begins (drop 1 b) p → set m (from + p) at ≡ rowTo l from b (p + 1)
+  unfolding rowTo
+  row-more m p at e d = rw (add-one p, e, d)
+
+  pub row-all : (m : List ℕ) (p n : ℕ) → n ≡ min 16 (lastPoint b) → p ≤ n → n ≤ p → m ≡ rowTo l from b p → m ≡ rowOf l from b
+  unfolding rowOf
+  row-all m p n e h g d = let q : p ≡ n = omega arith in d ∙ ap (rowTo l from b) (q ∙ e)
+
+  pub row-length : (p : ℕ) → length (rowTo l from b p) ≡ length l
+  unfolding rowTo
+  row-length zero = refl
+  row-length (suc p) = length-set (rowTo l from b p) (from + p) (begins (drop 1 b) p) ∙ row-length p
+
+  pub row-out : (p i : ℕ) → ((r : ℕ) → r < p → from + r ≡ i → ⊥) → getD (rowTo l from b p) i 0 ≡ getD l i 0
+  unfolding rowTo
+  row-out zero i h = refl
+  row-out (suc p) i h =
+      let q : i ≢ from + p = λ e. h p (omega arith) (sym e) in
+      getD-set-other (rowTo l from b p) (from + p) i (begins (drop 1 b) p) 0 q ∙ row-out p i (λ r g. h r (omega arith))
+
+  pub row-in : (n p : ℕ) → p < n → from + n ≤ length l → getD (rowTo l from b n) (from + p) 0 ≡ begins (drop 1 b) p
+  unfolding rowTo
+  row-in zero p h g = absurd (omega arith)
+  row-in (suc n) p h g = go (eqb p n) refl (λ a. row-in n p a (omega arith))
+    where
+      go : (c : Bool) → eqb p n ≡ c → (p < n → getD (rowTo l from b n) (from + p) 0 ≡ begins (drop 1 b) p)
+          → getD (set (rowTo l from b n) (from + n) (begins (drop 1 b) n)) (from + p) 0 ≡ begins (drop 1 b) p
+      go true e f =
+          let q = eqb-true p n e in
+          let z : from + n < length (rowTo l from b n) = rw (row-length n) (omega arith) in
+          rw q (getD-set-same (rowTo l from b n) (from + n) (begins (drop 1 b) n) 0 z)
+      go false e f =
+          let q = eqb-false p n e in
+          let d : from + p ≢ from + n = λ x. q (omega arith) in
+          getD-set-other (rowTo l from b n) (from + n) (from + p) (begins (drop 1 b) n) 0 d ∙ f (omega arith)
+
+pub row-place : (l m b : List ℕ) (from p q n : ℕ) → m ≡ rowTo l from b q → from + 16 ≤ length l → n ≤ 16 → p < n → from + p < length m
+row-place l m b from p q n e h k g = omega (arith, ap length e ∙ row-length l from b q)
+
+pub row-same : (l m b : List ℕ) (from q : ℕ) → m ≡ rowTo l from b q → length m ≡ length l
+row-same l m b from q e = ap length e ∙ row-length l from b q
+
+pub ruleset rowing = (row-none, row-more, row-all, row-place)
+
+-- the places of four threads
+
+module _ (s l : List ℕ) (from p : ℕ) where
+  pub rows-none : l ≡ rowsTo s l from p 0
+  unfolding rowsTo
+  rows-none = refl
+
+  pub behind-none : p ≡ behind s p 0
+  unfolding behind
+  behind-none = refl
+
+  pub rows-more : (m k b : List ℕ) (j q : ℕ) → m ≡ rowsTo s l from p j → q ≡ behind s p j → b ≡ body (drop q s) → k ≡ rowOf m (from + 16 * j) b
+      → k ≡ rowsTo s l from p (j + 1)
+  unfolding rowsTo
+  rows-more m k b j q e d c f = f ∙ (rw (add-one j, e, c, d))
+
+  pub behind-more : (j q r : ℕ) → q ≡ behind s p j → r ≡ nextStart s q → r ≡ behind s p (j + 1)
+  unfolding behind
+  behind-more j q r e d = d ∙ (rw (add-one j, e))
+
+  pub rows-all : (m : List ℕ) (j : ℕ) → j ≤ 4 → 4 ≤ j → m ≡ rowsTo s l from p j → m ≡ rowsTo s l from p 4
+  rows-all m j h g e = let q : j ≡ 4 = omega arith in rw q at e
+
+  pub rows-length : (j : ℕ) → length (rowsTo s l from p j) ≡ length l
+  unfolding rowsTo rowOf
+  rows-length zero = refl
+  rows-length (suc j) =
+      row-length (rowsTo s l from p j) (from + 16 * j) (body (drop (behind s p j) s)) (min 16 (lastPoint (body (drop (behind s p j) s)))) ∙ rows-length j
+
+  pub rows-out : (j i : ℕ) → i < from → getD (rowsTo s l from p j) i 0 ≡ getD l i 0
+  unfolding rowsTo rowOf
+  rows-out zero i h = refl
+  rows-out (suc j) i h =
+      row-out (rowsTo s l from p j) (from + 16 * j) (body (drop (behind s p j) s)) (min 16 (lastPoint (body (drop (behind s p j) s)))) i (λ r g e. omega arith)
+      ∙ rows-out j i h
+
+  pub rows-in : (k j q : ℕ) → j < k → q < 16 → q < lastPoint (body (drop (behind s p j) s)) → from + 16 * k ≤ length l
+      → getD (rowsTo s l from p k) (from + 16 * j + q) 0 ≡ begins (drop 1 (body (drop (behind s p j) s))) q
+  unfolding rowsTo rowOf
+  rows-in zero j q h a b g = absurd (omega arith)
+  rows-in (suc k) j q h a b g = go (eqb j k) refl (λ x. rows-in k j q x a b (omega arith))
+    where
+      its : ℕ → List ℕ
+      its i = body (drop (behind s p i) s)
+
+      go : (c : Bool) → eqb j k ≡ c
+          → (j < k → getD (rowsTo s l from p k) (from + 16 * j + q) 0 ≡ begins (drop 1 (its j)) q)
+          → getD (rowTo (rowsTo s l from p k) (from + 16 * k) (its k) (min 16 (lastPoint (its k)))) (from + 16 * j + q) 0 ≡ begins (drop 1 (its j)) q
+      go true e f =
+          let d = eqb-true j k e in
+          let w : q < lastPoint (its k) = subst (λ (i : ℕ). q < lastPoint (its i)) d b in
+          let z = row-in (rowsTo s l from p k) (from + 16 * k) (its k) (min 16 (lastPoint (its k))) q (omega arith) (rw (rows-length k) (omega arith)) in
+          subst
+          (λ (i : ℕ). getD (rowTo (rowsTo s l from p k) (from + 16 * k) (its k) (min 16 (lastPoint (its k)))) (from + 16 * i + q) 0 ≡ begins (drop 1 (its i)) q)
+          (sym d) z
+      go false e f =
+          let d = eqb-false j k e in
+          row-out (rowsTo s l from p k) (from + 16 * k) (its k) (min 16 (lastPoint (its k))) (from + 16 * j + q) (λ r g' e'. omega arith)
+          ∙ f (omega arith)
+
+pub rows-room : (s l m : List ℕ) (from p j : ℕ) → m ≡ rowsTo s l from p j → from + 64 ≤ length l → j < 4 → from + 16 * j + 16 ≤ length m
+rows-room s l m from p j e h g = omega (arith, ap length e ∙ rows-length s l from p j)
+
+pub rows-same : (s l m : List ℕ) (from p j : ℕ) → m ≡ rowsTo s l from p j → length m ≡ length l
+rows-same s l m from p j e = ap length e ∙ rows-length s l from p j
+
+-- the whole table
+
+module _ (s l : List ℕ) (n : ℕ) (e : n ≡ room s) (d : l ≡ recordsTo s n) where
+  records-long : length l ≡ n + 65
+  records-long = ap length d ∙ records-length s n ∙ size-is s ∙ (rw e)
+
+  pub noted-there : n < length l
+  noted-there = omega (arith, records-long)
+
+  module _ (f : FirstThread) (c : f ≡ firstFrom s 0 0 n) where
+    pub rows-fit : n + 1 + 64 ≤ length (set l n (f .number))
+    rows-fit = omega (arith, length-set l n (f .number), records-long)
+
+    pub index-filled : (m : List ℕ) → m ≡ rowsTo s (set l n (f .number)) (n + 1) (f .position) 4 → m ≡ indexOf s
+    unfolding indexOf firstThread
+    index-filled m g = g ∙ (rw (d, c, e))
+
+pub index-long : (s i l m : List ℕ) (n v from p : ℕ) → i ≡ replicate (tableSize s) 0 → l ≡ recordsTo s n → m ≡ rowsTo s (set l n v) from p 4
+    → length m ≡ length i
+index-long s i l m n v from p e d c =
+    ap length c ∙ rows-length s (set l n v) from p 4 ∙ length-set l n v ∙ ap length d ∙ records-length s n ∙ sym (zeros-long s i e)
+
+pub ruleset indexing = (noted-there, rows-fit, index-filled)

@@ -1,44 +1,47 @@
-// Where the records stand: one walk makes a table of them, so that a look-up costs the same for each record.
-//
-// The table is filled by a loop of its own, not by the walk over the frames. It then has a meaning for any bytes, sound
-// frames or not. An entry counts the bytes from the record's start to the image's end: it is 0 for a record that is not
-// there, so that a table of zeros need be filled as far as there are records only.
-use limits::read::part;
-use limits::read::word_at;
+// The table: a place for each record, then those of `starts`.
+use crate::starts::fill_rows;
+use crate::starts::first_thread;
+use crate::walk::next_start;
+use limits::Limits;
 ghost use mathlib.Core.Path.{_≡_};
-ghost use mathlib.Core.List.{[]};
-ghost use Prim.Native.Nat.{_+_, min};
-ghost use lib.ListN.{length, getD, drop, replicate};
-ghost use Rattle.limits.specs.Limits.{records};
-ghost use Rattle.limits.specs.Numbers.{word};
-ghost use Rattle.frames.specs.Records.{body, bodies};
-ghost use Rattle.index.specs.Table.{indexOf};
+ghost use Prim.Native.Nat.{_≤_};
+ghost use lib.ListN.{replicate};
+ghost use Rattle.index.specs.Table.{room, tableSize, recordsTo, indexOf};
 
-// The start of the record behind the one at a position.
-fn next_start(s: &[u8], at: usize) -> usize
-    ensures { λ r. ⌜ r ≡ min (length (now (s .entry))) (at + 2 + word (drop at (now (s .entry)))) ⌝ }
-{
-    if s.len() <= at {
-        return s.len();
-    }
-    let n = word_at(s, at);
-    if s.len() - at < 2 {
-        return s.len();
-    }
-    if s.len() - at - 2 < n {
-        return s.len();
-    }
-    at + 2 + n
+pub struct Table;
+
+impl Table {
+    // A shorter image has a shorter table, which is cleared sooner: a record has two bytes at least.
+    pub const SHORT_IMAGE: usize = 1024;
+
+    pub const SHORT_RECORDS: usize = 512;
+
+    // The number of the first thread's record; for each thread and point, where the instruction begins.
+    pub const STARTS: usize = 1 + Limits::THREADS * Limits::POINTS;
+
+    pub const SHORT: usize = Table::SHORT_RECORDS + Table::STARTS;
+
+    pub const LONG: usize = Limits::RECORDS + Table::STARTS;
 }
 
-// Fills a table of zeros.
-pub fn fill_index<'a, 'b>(s: &'a [u8], ix: &'b mut [usize])
-    requires { ⌜ now ix ≡ replicate records 0 ⌝ }
-    ensures { λ _. ⌜ now (ix .exit) ≡ indexOf (now (s .entry)) ⌝ }
+// How many records the table of an image has places for.
+pub fn room_for(s: &[u8]) -> usize
+    ensures { λ r. ⌜ (r ≡ room (now (s .entry))) × (r ≤ 4523) ⌝ }
+{
+    if s.len() <= Table::SHORT_IMAGE {
+        return Table::SHORT_RECORDS;
+    }
+    Limits::RECORDS
+}
+
+// The places of the records, in a table of zeros.
+fn fill_records<'a, 'b>(s: &'a [u8], ix: &'b mut [usize], n: usize)
+    requires { ⌜ (now ix ≡ replicate (tableSize (now s)) 0) × (n ≡ room (now s)) ⌝ }
+    ensures { λ _. ⌜ now (ix .exit) ≡ recordsTo (now (s .entry)) n ⌝ }
 {
     let mut p: usize = 0;
     let mut i: usize = 0;
-    while i < ix.len() {
+    while i < n {
         if s.len() <= p {
             return;
         }
@@ -48,28 +51,14 @@ pub fn fill_index<'a, 'b>(s: &'a [u8], ix: &'b mut [usize])
     }
 }
 
-// The body of the record at a position.
-fn body_at(s: &[u8], p: usize) -> &[u8]
-    ensures { λ r. ⌜ now r ≡ body (drop p (now (s .entry))) ⌝ }
+// Fills a table of zeros.
+pub fn fill_index<'a, 'b>(s: &'a [u8], ix: &'b mut [usize])
+    requires { ⌜ now ix ≡ replicate (tableSize (now s)) 0 ⌝ }
+    ensures { λ _. ⌜ now (ix .exit) ≡ indexOf (now (s .entry)) ⌝ }
 {
-    if s.len() <= p {
-        return part(s, p, 0);
-    }
-    let n = word_at(s, p);
-    if n < 2 {
-        return part(s, p, 0);
-    }
-    part(s, p + 4, n - 2)
-}
-
-// The body of the record that has i records before it.
-pub fn body_of<'a, 'b>(s: &'a [u8], ix: &'b [usize], i: usize) -> &'a [u8]
-    requires { ⌜ now ix ≡ indexOf (now s) ⌝ }
-    ensures { λ r. ⌜ now r ≡ getD (bodies (now (s .entry))) i [] ⌝ }
-{
-    if i < ix.len() {
-        let p = s.len() - ix[i];
-        return body_at(s, p);
-    }
-    body_at(s, s.len())
+    let n = room_for(s);
+    fill_records(s, ix, n);
+    let f = first_thread(s, n);
+    ix[n] = f.number;
+    fill_rows(s, ix, n + 1, f.position);
 }

@@ -2,7 +2,7 @@
 use crate::note::is_noted;
 use crate::note::note_number;
 use crate::note::note_numbers;
-use index::table::body_of;
+use index::look::body_of;
 use limits::read::word_at;
 use program::instruction::Instruction;
 use program::sizes::Sizes;

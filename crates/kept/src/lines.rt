@@ -3,7 +3,7 @@ use crate::note::is_noted;
 use crate::note::note_number;
 use crate::note::note_numbers;
 use content::claim::claim_of;
-use index::table::body_of;
+use index::look::body_of;
 use limits::read::byte_at;
 use limits::read::rest;
 use program::sizes::Sizes;

@@ -1,6 +1,6 @@
 // How long the trimmed image is: what stays keeps its length, so it is shorter by the formulas and the lines that are left out.
 use crate::note::is_noted;
-use index::table::body_of;
+use index::look::body_of;
 use program::sizes::Sizes;
 ghost use mathlib.Core.Path.{_≡_};
 ghost use mathlib.Core.List.{[]};

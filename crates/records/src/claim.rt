@@ -1,7 +1,7 @@
 // A claim: thread, point, other thread, other point (bytes), line (16 bits).
 use frames::fault::Checked;
 use frames::fault::Fault;
-use index::table::body_of;
+use index::look::body_of;
 use limits::range::in_range;
 use limits::range::word_within;
 use limits::read::byte_at;

@@ -6,7 +6,7 @@ use crate::states::perform;
 use crate::states::point_of;
 use content::position::formula_at;
 use evaluate::work::work;
-use index::table::body_of;
+use index::look::body_of;
 use machine::deed::Deed;
 use machine::deed::before;
 use machine::deed::deed_of;

@@ -5,7 +5,7 @@ use crate::start::start_machine;
 use crate::states::Machine;
 use checker::acceptance::Acceptance;
 use checker::acceptance::accept_image;
-use index::table::body_of;
+use index::look::body_of;
 use limits::Limits;
 use program::sizes::Sizes;
 ghost use mathlib.Core.Path.{_≡_};

@@ -5,7 +5,7 @@ use checker::acceptance::Acceptance;
 use checker::acceptance::accept_image;
 use handover::permit::Handover;
 use handover::permit::handover_code;
-use index::table::body_of;
+use index::look::body_of;
 use limits::Limits;
 use program::sizes::Sizes;
 use replay::pick::Refusal;

@@ -14,7 +14,7 @@ use conclusions::conclusion::Conclusion;
 use conclusions::conclusion::Premises;
 use conclusions::conclusion::conclusion_at;
 use content::acting::Acting;
-use index::table::body_of;
+use index::look::body_of;
 use limits::Limits;
 use matcher::bind::Bind;
 use program::header::is_cleared;

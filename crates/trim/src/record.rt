@@ -6,7 +6,7 @@ use crate::put::put_bytes;
 use crate::put::put_frame;
 use crate::thread::put_thread;
 use frames::kind::Kind;
-use index::table::body_of;
+use index::look::body_of;
 ghost use mathlib.Core.Path.{_≡_};
 ghost use Prim.Native.Nat.{_+_, _≤_};
 ghost use lib.ListN.{length};

@@ -1,8 +1,8 @@
 use Rattle.index.proofs.Laws.{bodied}
 use Rattle.limits.proofs.Auto.{tests}
 use borrow.Author.Needs.{needs}
-use Rattle.index.proofs.table.body_at.Statement.{statement}
-use Rattle.index.proofs.table.body_at.Tie as tie
+use Rattle.index.proofs.walk.body_at.Statement.{statement}
+use Rattle.index.proofs.walk.body_at.Tie as tie
 
 pub body-at-spec : {M : Type 1} → statement M
 body-at-spec =
