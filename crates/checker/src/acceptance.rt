@@ -7,8 +7,7 @@ use program::sizes::Sizes;
 use report::verdict::Verdict;
 ghost use mathlib.Core.Path.{_≡_};
 ghost use lib.ListN.{replicate};
-ghost use Rattle.limits.specs.Limits.{records};
-ghost use Rattle.index.specs.Table.{indexOf};
+ghost use Rattle.index.specs.Table.{tableSize, indexOf};
 ghost use Rattle.checker.specs.Acceptance.{grantedBy, acceptance};
 
 pub enum Acceptance {
@@ -38,9 +37,9 @@ fn granted_by(v: Verdict, z: Sizes) -> Acceptance
     }
 }
 
-// How much an image holds, if it is accepted. Fills the index of its records, a table of zeros.
+// How much an image holds, if it is accepted. Fills the index of its records, a table of zeros as long as the image asks for.
 pub fn accept_image<'a, 'b>(image: &'a [u8], index: &'b mut [usize]) -> Acceptance
-    requires { ⌜ now index ≡ replicate records 0 ⌝ }
+    requires { ⌜ now index ≡ replicate (tableSize (now image)) 0 ⌝ }
     ensures { λ r. ⌜ (r ≡ acceptance (now (image .entry))) × (now (index .exit) ≡ indexOf (now (image .entry))) ⌝ }
 {
     fill_index(image, index);

@@ -325,3 +325,13 @@ index-long s i l m n v from p e d c =
     ap length c ∙ rows-length s (set l n v) from p 4 ∙ length-set l n v ∙ ap length d ∙ records-length s n ∙ sym (zeros-long s i e)
 
 pub ruleset indexing = (noted-there, rows-fit, index-filled)
+
+-- an array of zeros, as long as the image asks for
+
+pub short-zeros : (s : List ℕ) → length s ≤ 1024 → replicate {A = ℕ} 577 0 ≡ replicate (tableSize s) 0
+short-zeros s h = let q : 577 ≡ tableSize s = omega (arith, size-is s, room-short s h) in ap (λ (n : ℕ). replicate {A = ℕ} n 0) q
+
+pub long-zeros : (s : List ℕ) → 1024 < length s → replicate {A = ℕ} 4588 0 ≡ replicate (tableSize s) 0
+long-zeros s h = let q : 4588 ≡ tableSize s = omega (arith, size-is s, room-long s h) in ap (λ (n : ℕ). replicate {A = ℕ} n 0) q
+
+pub ruleset zeros = (short-zeros, long-zeros)

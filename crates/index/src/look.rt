@@ -1,5 +1,5 @@
 // Look-ups: where a record starts, its body, and the instruction at a point of a thread's record.
-use crate::table::Table;
+use crate::table::IndexSize;
 use crate::walk::body_at;
 use limits::Limits;
 use limits::read::rest;
@@ -21,7 +21,7 @@ pub fn place_of<'a, 'b>(s: &'a [u8], ix: &'b [usize], i: usize) -> usize
     requires { ⌜ now ix ≡ indexOf (now s) ⌝ }
     ensures { λ r. ⌜ r ≡ placeOf (now (s .entry)) i ⌝ }
 {
-    if i < ix.len() - Table::STARTS {
+    if i < ix.len() - IndexSize::STARTS {
         return s.len() - ix[i];
     }
     s.len()
@@ -40,7 +40,7 @@ fn begins_in<'a, 'b, 'c>(s: &'a [u8], ix: &'b [usize], b: &'c [u8], i: usize, p:
     requires { ⌜ (now ix ≡ indexOf (now s)) × ((now b ≡ getD (bodies (now s)) i []) × ((p < lastPoint (now b)) × (p < 256))) ⌝ }
     ensures { λ r. ⌜ r ≡ begins (drop 1 (now (b .entry))) p ⌝ }
 {
-    let n = ix.len() - Table::STARTS;
+    let n = ix.len() - IndexSize::STARTS;
     let first = ix[n];
     if first <= i {
         if i - first < Limits::THREADS {

@@ -8,9 +8,9 @@ ghost use Prim.Native.Nat.{_≤_};
 ghost use lib.ListN.{replicate};
 ghost use Rattle.index.specs.Table.{room, tableSize, recordsTo, indexOf};
 
-pub struct Table;
+pub struct IndexSize;
 
-impl Table {
+impl IndexSize {
     // A shorter image has a shorter table, which is cleared sooner: a record has two bytes at least.
     pub const SHORT_IMAGE: usize = 1024;
 
@@ -19,17 +19,17 @@ impl Table {
     // The number of the first thread's record; for each thread and point, where the instruction begins.
     pub const STARTS: usize = 1 + Limits::THREADS * Limits::POINTS;
 
-    pub const SHORT: usize = Table::SHORT_RECORDS + Table::STARTS;
+    pub const SHORT: usize = IndexSize::SHORT_RECORDS + IndexSize::STARTS;
 
-    pub const LONG: usize = Limits::RECORDS + Table::STARTS;
+    pub const LONG: usize = Limits::RECORDS + IndexSize::STARTS;
 }
 
 // How many records the table of an image has places for.
 pub fn room_for(s: &[u8]) -> usize
     ensures { λ r. ⌜ (r ≡ room (now (s .entry))) × (r ≤ 4523) ⌝ }
 {
-    if s.len() <= Table::SHORT_IMAGE {
-        return Table::SHORT_RECORDS;
+    if s.len() <= IndexSize::SHORT_IMAGE {
+        return IndexSize::SHORT_RECORDS;
     }
     Limits::RECORDS
 }

@@ -6,7 +6,8 @@ use index::look::body_of;
 use limits::read::word_at;
 use program::instruction::Instruction;
 use program::sizes::Sizes;
-use program::thread::instruction_at;
+use program::thread::begins_behind;
+use program::thread::instruction_from;
 use program::thread::last_point;
 use records::tally::tally_of;
 ghost use mathlib.Core.Path.{_≡_};
@@ -34,10 +35,12 @@ fn note_thread<'a, 'b>(b: &'a [u8], m: &'b mut [bool])
     ensures { λ _. ⌜ now (m .exit) ≡ noted (now (m .entry)) (bodyFormulas (now (b .entry)) 0) ⌝ }
 {
     let last = last_point(b);
+    let mut at: usize = 0;
     let mut p: usize = 0;
     while p < last {
-        let i = instruction_at(b, p);
+        let i = instruction_from(b, p, at);
         note_instruction(i, m);
+        at = begins_behind(b, p, at);
         p += 1;
     }
 }

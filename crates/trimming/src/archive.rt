@@ -2,6 +2,7 @@
 use crate::answer::Answer;
 use checker::acceptance::Acceptance;
 use checker::acceptance::accept_image;
+use index::table::IndexSize;
 use kept::formulas::fill_used;
 use kept::lines::fill_kept;
 use kept::number::fill_numbers;
@@ -11,9 +12,9 @@ use program::sizes::Sizes;
 use trim::whole::write_trimmed;
 ghost use mathlib.Core.Path.{_≡_};
 ghost use Prim.Native.Nat.{_≤_};
-ghost use lib.ListN.{length};
+ghost use lib.ListN.{length, replicate};
 ghost use Rattle.frames.specs.Records.{bodies};
-ghost use Rattle.index.specs.Table.{indexOf};
+ghost use Rattle.index.specs.Table.{tableSize, indexOf};
 ghost use Rattle.document.specs.Parse.{documentOf};
 ghost use Rattle.trimmed.specs.Kept.{kept, used};
 ghost use Rattle.trimming.specs.Accepted.{Accepted};
@@ -65,17 +66,30 @@ fn trim_accepted<'a, 'b, 'c>(s: &'a [u8], ix: &'b [usize], z: Sizes, out: &'c mu
     }
 }
 
-// Of every byte string: an image that is not accepted leaves the buffer as it is.
-pub fn trim_into<'a, 'b>(image: &'a [u8], out: &'b mut [u8]) -> Answer
+// With a table of zeros, as long as the image asks for.
+fn trim_by<'a, 'b, 'c>(image: &'a [u8], index: &'b mut [usize], out: &'c mut [u8]) -> Answer
+    requires { ⌜ now index ≡ replicate (tableSize (now image)) 0 ⌝ }
     ensures { λ r. ⌜ (r ≡ answerFor (now (image .entry)) (now (out .entry)))
         × (now (out .exit) ≡ bufferFor (now (image .entry)) (now (out .entry))) ⌝ }
 {
-    let mut index = [0usize; Limits::RECORDS];
-    match accept_image(image, &mut index) {
-        Acceptance::Granted(z) => trim_accepted(image, &index, z, out),
+    match accept_image(image, index) {
+        Acceptance::Granted(z) => trim_accepted(image, index, z, out),
         Acceptance::Declined => Answer {
             code: Answer::NOT_ACCEPTED,
             length: Answer::NOTHING,
         },
     }
+}
+
+// Of every byte string: an image that is not accepted leaves the buffer as it is.
+pub fn trim_into<'a, 'b>(image: &'a [u8], out: &'b mut [u8]) -> Answer
+    ensures { λ r. ⌜ (r ≡ answerFor (now (image .entry)) (now (out .entry)))
+        × (now (out .exit) ≡ bufferFor (now (image .entry)) (now (out .entry))) ⌝ }
+{
+    if image.len() <= IndexSize::SHORT_IMAGE {
+        let mut index = [0usize; IndexSize::SHORT];
+        return trim_by(image, &mut index, out);
+    }
+    let mut index = [0usize; IndexSize::LONG];
+    trim_by(image, &mut index, out)
 }
