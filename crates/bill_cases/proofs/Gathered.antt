@@ -6,8 +6,8 @@ use Prim.Native.Nat.{ℕ, _-_, _≤_, _<_}
 use native.Mathlib.Omega.{arith}
 use lib.ListN.{length, take, drop, length-append, length-drop}
 use lib.Seq.{length-take-le}
-use Rattle.billing.specs.Promise.{Written}
-use Rattle.billing.specs.declared.tariff.Tariff.{Tariff}
+use Rattle.pricing.specs.Promise.{Written}
+use Rattle.charges.specs.declared.tariff.Tariff.{Tariff}
 use Rattle.stored.specs.Tally.{withCase}
 use Rattle.stored.specs.declared.tally.Tally.{Tally}
 use Rattle.stored.proofs.Tallies.{Running, running-none, running-more, running-over}

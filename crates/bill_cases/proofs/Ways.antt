@@ -7,7 +7,7 @@ use native.Mathlib.Omega.{arith}
 use lib.ListN.{drop}
 use borrow.Author.Tests.{eq-eqb, ne-eqb}
 use Rattle.limits.specs.Numbers.{word}
-use Rattle.billing.specs.Output.{tariffOf}
+use Rattle.pricing.specs.Output.{tariffOf}
 use Rattle.stored.specs.Number.{long}
 use Rattle.stored.specs.Room.{holds}
 use Rattle.bill_cases.specs.Answer.{blank, most, tariffAt, billedAt, lentAt, codeAt, numbersAt, writtenAt, sameAnswer}

@@ -5,8 +5,8 @@ use Prim.Native.Nat.{ℕ, min}
 use lib.Dec.{eqb}
 use lib.ListN.{drop, replicate}
 use Rattle.limits.specs.Numbers.{word}
-use Rattle.billing.specs.Output.{tariffOf}
-use Rattle.billing.specs.declared.tariff.Tariff.{Tariff}
+use Rattle.pricing.specs.Output.{tariffOf}
+use Rattle.charges.specs.declared.tariff.Tariff.{Tariff}
 use Rattle.stored.specs.Number.{long}
 use Rattle.stored.specs.Room.{holds}
 

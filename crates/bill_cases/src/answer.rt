@@ -1,7 +1,7 @@
 // Stored bills, and answers compared with them.
-use billing::numbers::Numbers;
-use billing::tariff::Tariff;
+use charges::tariff::Tariff;
 use limits::read::word_at;
+use pricing::numbers::Numbers;
 use report::output::Output;
 use stored::number::long_at;
 use stored::room::holds_numbers;

@@ -1,8 +1,4 @@
 // The price of a check: an accepted image is billed by its obligations, in all and by thread. `bill` answers the bill, `bill_into`
 // writes its numbers.
-pub mod accounts;
-pub mod answer;
 pub mod bill;
-pub mod count;
-pub mod numbers;
-pub mod tariff;
+pub mod into;

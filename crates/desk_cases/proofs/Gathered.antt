@@ -6,10 +6,10 @@ use Prim.Native.Nat.{ℕ, _-_, _≤_, _<_}
 use native.Mathlib.Omega.{arith}
 use lib.ListN.{length, take, drop, length-append, length-drop}
 use lib.Seq.{length-take-le}
-use Rattle.billing.specs.Output.{tariffOf}
-use Rattle.billing.specs.declared.tariff.Tariff.{Tariff}
-use Rattle.desks.specs.Opening.{openingCode, serviceFor}
-use Rattle.desks.specs.Promise.{CheckServed, TrimServed, BillServed, HandoverServed, ReplayServed, AcrossServed}
+use Rattle.pricing.specs.Output.{tariffOf}
+use Rattle.charges.specs.declared.tariff.Tariff.{Tariff}
+use Rattle.service.specs.Opening.{openingCode, serviceFor}
+use Rattle.requests.specs.Promise.{CheckServed, TrimServed, BillServed, HandoverServed, ReplayServed, AcrossServed}
 use Rattle.stored.specs.Tally.{withCase}
 use Rattle.stored.specs.declared.tally.Tally.{Tally}
 use Rattle.stored.proofs.Tallies.{Running, running-none, running-more, running-over}

@@ -5,8 +5,8 @@ use mathlib.Core.List.{List, _++_}
 use Prim.Native.Nat.{ℕ, _+_}
 use lib.Dec.{ltb, leb}
 use lib.ListN.{length, take, drop, set}
-use Rattle.desks.specs.Opening.{openingCode, serviceFor}
-use Rattle.desks.specs.Promise.{CheckServed, TrimServed, BillServed, HandoverServed, ReplayServed, AcrossServed}
+use Rattle.service.specs.Opening.{openingCode, serviceFor}
+use Rattle.requests.specs.Promise.{CheckServed, TrimServed, BillServed, HandoverServed, ReplayServed, AcrossServed}
 use Rattle.stored.specs.Tally.{withCase}
 use Rattle.stored.specs.declared.tally.Tally.{Tally}
 use Rattle.stored_answers.specs.Parts.{firstIn, secondIn, thirdIn, fourthIn, fifthIn, sixthOn}

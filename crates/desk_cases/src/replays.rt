@@ -19,7 +19,7 @@ use stored_answers::parts::fourth_in;
 use stored_answers::parts::second_in;
 use stored_answers::parts::sixth_on;
 use stored_answers::parts::third_in;
-ghost use Rattle.desks.specs.Promise.{HandoverServed, ReplayServed, AcrossServed};
+ghost use Rattle.requests.specs.Promise.{HandoverServed, ReplayServed, AcrossServed};
 ghost use Rattle.stored_answers.specs.Parts.{firstIn, secondIn, thirdIn, fourthIn, fifthIn, sixthOn};
 ghost use Rattle.desk_cases.specs.Turn.{callerAt, lengthsAt};
 ghost use Rattle.desk_cases.specs.Judge.{HandedOver, Replayed, ReplayedAcross};

@@ -1,5 +1,5 @@
 // What is stored of a turn at a service: what is done and by whom, what is lent, and what is left.
-use billing::tariff::Tariff;
+use charges::tariff::Tariff;
 use limits::read::rest;
 use limits::read::word_at;
 use stored::number::long_at;

@@ -1,16 +1,16 @@
 // A caller's bill.
-use crate::rights::Service;
-use billing::numbers::Numbers;
-use billing::numbers::bill_into;
-use billing::numbers::write_numbers;
-use billing::tariff::Tariff;
+use billing::into::bill_into;
+use charges::tariff::Tariff;
+use pricing::numbers::Numbers;
+use pricing::numbers::write_numbers;
 use report::output::Output;
+use service::rights::Service;
 ghost use mathlib.Core.Path.{_≡_};
-ghost use Rattle.billing.specs.Output.{size};
-ghost use Rattle.desks.specs.declared.rights.Right.the-variants.{Bill};
-ghost use Rattle.desks.specs.Desk.{admission};
-ghost use Rattle.desks.specs.Request.{cleared};
-ghost use Rattle.desks.specs.Promise.{BillServed};
+ghost use Rattle.pricing.specs.Output.{size};
+ghost use Rattle.service.specs.declared.rights.Right.the-variants.{Bill};
+ghost use Rattle.service.specs.Desk.{admission};
+ghost use Rattle.requests.specs.Request.{cleared};
+ghost use Rattle.requests.specs.Promise.{BillServed};
 
 // No bill: all its numbers are 0, if there is room for them.
 pub fn clear_bill(answer: &mut [u32])

@@ -3,16 +3,16 @@
 use crate::bills::bill_caller;
 use crate::bills::clear_bill;
 use crate::replays::clear_replay;
-use crate::rights::Right;
-use crate::rights::admitted;
-use billing::tariff::Tariff;
+use charges::tariff::Tariff;
 use checker::entry::check_image;
 use handover::entry::check_handover;
 use replay_across::entry::replay_handover;
 use replaying::entry::replay_trace;
+use service::rights::Right;
+use service::rights::admitted;
 use trimming::entry::trim_image;
-ghost use Rattle.billing.specs.Output.{tariffOf};
-ghost use Rattle.desks.specs.Promise.{CheckServed, TrimServed, BillServed, HandoverServed, ReplayServed, AcrossServed};
+ghost use Rattle.pricing.specs.Output.{tariffOf};
+ghost use Rattle.requests.specs.Promise.{CheckServed, TrimServed, BillServed, HandoverServed, ReplayServed, AcrossServed};
 
 #[no_mangle]
 pub extern "C" fn serve_check<'a, 'b, 'c>(

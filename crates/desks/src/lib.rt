@@ -3,4 +3,3 @@ pub mod bills;
 pub mod entry;
 pub mod open;
 pub mod replays;
-pub mod rights;

@@ -3,7 +3,7 @@ use replaying::answer::Answer;
 use replaying::answer::write_numbers;
 ghost use mathlib.Core.Path.{_≡_};
 ghost use Rattle.replaying.specs.Answer.{size};
-ghost use Rattle.desks.specs.Request.{cleared};
+ghost use Rattle.requests.specs.Request.{cleared};
 
 // No replay: all its numbers are 0, if there is room for them.
 pub fn clear_replay(answer: &mut [usize])

@@ -1,6 +1,6 @@
 -- Code 0 is a handover that the logic permits, so every run across it keeps the new assertions; the promise of the entry point.
 use mathlib.Core.Path.{_≡_, refl, ap, ap₂, sym, _∙_, subst, subst₂}
-use mathlib.Core.Bool.{Bool, true, false, cond, true≢false}
+use mathlib.Core.Bool.{Bool, true, false, cond}
 use mathlib.Core.List.{List, [], _∷_}
 use Prim.Native.Nat.{ℕ, suc}
 use native.Mathlib.Omega.{arith}
@@ -22,20 +22,19 @@ use Rattle.certificate.proofs.Marks.{justified-derived}
 use Rattle.outline.specs.Verdict.{Image, Finding, accepted, unmet, denied, finding, asks, Bears, AllMet, Admitted}
 use Rattle.outline.proofs.Accept.{judge-met, accepted-all}
 use Rattle.content.specs.Program.{programOf, outlineOf}
-use Rattle.content.specs.Image.{Result, refused, read, decode, imageOf, resultOf}
-use Rattle.content.proofs.Checked.{Checks, sound-checks}
+use Rattle.content.specs.Image.{read, decode, imageOf, resultOf}
+use Rattle.content.proofs.Checked.{sound-checks}
 use Rattle.content.proofs.Admitted.{sound-admitted}
-use Rattle.report.specs.declared.verdict.Verdict.{Verdict}
 use Rattle.report.specs.declared.verdict.Verdict.the-variants.{Accepted}
 use Rattle.checker.specs.Answer.{judged, answered, verdict}
 use Rattle.checker.specs.Acceptance.{acceptedAs, acceptance}
 use Rattle.checker.specs.declared.acceptance.Acceptance.{Acceptance}
 use Rattle.checker.specs.declared.acceptance.Acceptance.the-variants.{Granted, Declined}
 use Rattle.checker.proofs.Granted.{granted-holds}
-use Rattle.handover.specs.Table.{newPoint}
+use Rattle.handover_table.specs.Table.{newPoint}
 use Rattle.handover.specs.Code.{codeBetween, headerOf, codeOf, byAcceptance, handoverCode}
 use Rattle.handover.specs.Promise.{BothAccepted, Fits, Serve, Decided, permitted, out-of-range, unserved, TrueAcross, Promise}
-use Rattle.handover.proofs.Agreeing.{bytes-equal, equal-bytes}
+use Rattle.handover_table.proofs.Agreeing.{bytes-equal, equal-bytes}
 use Rattle.handover.proofs.Decided.{code-decided, same-threads}
 
 -- an accepted image: each obligation is derived

@@ -1,12 +1,11 @@
 -- What the tests of table and lines say, in words; and the ways to the code of a handover between accepted images.
 use mathlib.Core.Path.{_≡_, refl, ap, ap₂, sym, _∙_, subst}
 use mathlib.Core.Bool.{Bool, true, false, cond, _&&_, true≢false}
-use mathlib.Core.List.{List, []}
+use mathlib.Core.List.{List}
 use Prim.Native.Nat.{ℕ, suc, _+_, _-_, _*_, _≤_, _<_}
 use native.Mathlib.Omega.{arith}
-use native.Mathlib.Numerals.{sub-one}
-use lib.Dec.{eqb, leb, ltb}
-use lib.ListN.{length, getD}
+use lib.Dec.{eqb, ltb}
+use lib.ListN.{length}
 use borrow.Author.Tests.{eqb-true, eq-eqb, ltb-true, lt-ltb, le-leb}
 use Rattle.logic.specs.Base.{Within}
 use Rattle.logic.specs.Formula.{sameBytes}
@@ -21,16 +20,17 @@ use Rattle.outline.specs.Verdict.{Image, lineCode, Admitted}
 use Rattle.outline.proofs.Accept.{code-bears, bears-code}
 use Rattle.content.specs.Program.{pointCount, programOf}
 use Rattle.content.specs.Image.{imageOf}
-use Rattle.content.proofs.Checked.{Checks, sound-checks}
+use Rattle.content.proofs.Checked.{sound-checks}
 use Rattle.marks.specs.Marks.{asMarks}
 use Rattle.marks.specs.declared.Marks.{Marks}
 use Rattle.justify.specs.Pass.{marksTo}
-use Rattle.handover.specs.Table.{entrySize, pointNamed, lineNamed, pointsTo, newPoint, newLine, each}
-use Rattle.handover.specs.Code.{inRange, threadFits, threadsFit, tableFits, asked, serves, linesServe, codeBetween, headerOf, codeOf}
-use Rattle.handover.specs.Found.{assertionOf, lineServes, entryServes, entriesServe, threadServes, threadsServe}
+use Rattle.handover_table.specs.Table.{entrySize, pointNamed, lineNamed, pointsTo, newPoint, newLine, each}
+use Rattle.handover_table.specs.Fits.{inRange, threadFits, threadsFit, tableFits}
+use Rattle.handover.specs.Code.{asked, serves, linesServe, codeBetween, headerOf, codeOf}
+use Rattle.handover_lines.specs.Found.{assertionOf, lineServes, entryServes, entriesServe, threadServes, threadsServe}
 use Rattle.handover.specs.Promise.{Fits, Serve, Decided, permitted, out-of-range, unserved}
-use Rattle.handover.proofs.Agreeing.{bytes-equal}
-use Rattle.handover.proofs.Each.{each-at, each-all, each-same}
+use Rattle.handover_table.proofs.Agreeing.{bytes-equal}
+use Rattle.handover_table.proofs.Each.{each-at, each-all, each-same}
 use Rattle.handover.proofs.Served.{found-served}
 
 -- a test of every point, by threads that count from 1

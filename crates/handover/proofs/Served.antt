@@ -1,17 +1,16 @@
 -- What the code finds of a named line, by bytes, is what the new image says: the line is justified and says that the new point's
 -- assertion follows from the old one.
 use mathlib.Core.Path.{_≡_, refl, ap, ap₂, sym, _∙_, subst}
-use mathlib.Core.Bool.{Bool, true, false, cond, _&&_, true≢false}
+use mathlib.Core.Bool.{Bool, true, false, _&&_, true≢false}
 use mathlib.Core.List.{List, []}
-use Prim.Native.Nat.{ℕ, suc, _+_, _≤_, _<_}
+use Prim.Native.Nat.{ℕ, _≤_, _<_}
 use native.Mathlib.Omega.{arith}
-use lib.Dec.{T, eqb}
+use lib.Dec.{eqb}
 use lib.ListN.{getD}
 use borrow.Author.Tests.{eqb-true, eq-eqb}
 use Rattle.logic.specs.Base.{Within}
-use Rattle.logic.specs.Formula.{Sort, Formula, Assertion, encode, sameBytes}
-use Rattle.logic.specs.Statement.{Statement, implies, isPair, taking}
-use Rattle.logic.specs.Machine.{Instr}
+use Rattle.logic.specs.Formula.{Sort, Assertion, encode, sameBytes}
+use Rattle.logic.specs.Statement.{Statement, implies, isPair}
 use Rattle.logic.proofs.Base.{bool-ext, is-true, holds-true}
 use Rattle.limits.proofs.Inverse.{and-true}
 use Rattle.frames.specs.Records.{bodies}
@@ -21,7 +20,6 @@ use Rattle.program.specs.declared.sizes.Sizes.{Sizes}
 use Rattle.records.specs.declared.line.Form.{Form}
 use Rattle.records.specs.declared.line.Form.the-variants.{Triple, Implication, Inclusion, Pair, Unlisted}
 use Rattle.records.specs.Line.{formOf}
-use Rattle.bodies.specs.Use.{treeOf}
 use Rattle.bodies.specs.Formula.{countsOf}
 use Rattle.bodies.specs.Line.{sortAt, sortedBy}
 use Rattle.trees.proofs.Body.{reading-bytes}
@@ -42,8 +40,8 @@ use Rattle.marks.specs.Marks.{isMarked}
 use Rattle.marks.specs.declared.Marks.{Marks}
 use Rattle.justify.specs.Pass.{marksTo}
 use Rattle.justify.proofs.Justified.{marks-are}
-use Rattle.handover.specs.Found.{assertionOf, isImplication, sidesMatch, lineServes}
-use Rattle.handover.proofs.Agreeing.{bytes-equal, equal-bytes}
+use Rattle.handover_lines.specs.Found.{assertionOf, isImplication, sidesMatch, lineServes}
+use Rattle.handover_table.proofs.Agreeing.{bytes-equal, equal-bytes}
 
 -- an assertion's bytes are its record's body
 body-bytes : (z : Sizes) (l : List (List ℕ)) → Checks z l → (k : ℕ) → 1 ≤ k → k ≤ z .formulas → sortOf (getD l k []) ≡ Codes.assertion

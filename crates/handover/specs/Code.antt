@@ -1,13 +1,12 @@
 -- The codes of a handover: 32 an image is not accepted or the two are unlike; 33 the table is too short, too long or anywhere out of
 -- range; 34 a named line does not serve; 0 permitted.
-use mathlib.Core.Bool.{Bool, cond, _&&_}
+use mathlib.Core.Bool.{Bool, cond}
 use mathlib.Core.List.{List, []}
-use Prim.Native.Nat.{ℕ, suc, _*_}
-use lib.Dec.{eqb, ltb}
-use lib.ListN.{length, getD}
+use Prim.Native.Nat.{ℕ, suc}
+use lib.Dec.{eqb}
+use lib.ListN.{getD}
 use Rattle.logic.specs.Formula.{sameBytes}
 use Rattle.logic.specs.Statement.{Statement, implies}
-use Rattle.limits.specs.Numbers.{within}
 use Rattle.frames.specs.Records.{bodies}
 use Rattle.program.specs.declared.sizes.Sizes.{Sizes}
 use Rattle.outline.specs.Verdict.{Image, lineCode}
@@ -15,26 +14,11 @@ use Rattle.content.specs.Image.{imageOf}
 use Rattle.checker.specs.Acceptance.{acceptance}
 use Rattle.checker.specs.declared.acceptance.Acceptance.{Acceptance}
 use Rattle.checker.specs.declared.acceptance.Acceptance.the-variants.{Granted, Declined}
-use Rattle.handover.specs.Table.{entrySize, pointsTo, newPoint, newLine, each}
+use Rattle.handover_table.specs.Table.{newPoint, newLine, each}
+use Rattle.handover_table.specs.Fits.{tableFits}
 
 -- of what two images say
 module _ (D E : Image) (table : List ℕ) where
-  -- the new point is one of the same thread, and the line is there; line 0 is not
-  abbrev pub inRange : ℕ → ℕ → Bool
-  inRange t k = ltb (newPoint (D .program) table t k) (E .program .points t) && within 1 (E .certificate .count)
-      (newLine (D .program) table t k)
-
-  unfoldable pub threadFits : ℕ → Bool
-  threadFits t = each (D .program .points t) (λ k. inRange t k)
-
-  -- of the threads 1 to n
-  unfoldable pub threadsFit : ℕ → Bool
-  threadsFit n = each n (λ t. threadFits (suc t))
-
-  -- an entry for each old point and nothing else, each in range
-  unfoldable pub tableFits : Bool
-  tableFits = eqb (length table) (entrySize * pointsTo (D .program) (D .program .threads)) && threadsFit (D .program .threads)
-
   -- what the line for a point has to say: the new point's assertion follows from the old one
   abbrev pub asked : ℕ → ℕ → Statement
   asked t k = implies (D .outline t k) (E .outline t (newPoint (D .program) table t k))
@@ -48,7 +32,7 @@ module _ (D E : Image) (table : List ℕ) where
 
   -- every 33 before any 34
   unfoldable pub codeBetween : ℕ
-  codeBetween = cond tableFits (cond linesServe 0 34) 33
+  codeBetween = cond (tableFits D E table) (cond linesServe 0 34) 33
 
 -- the header's body: threads, words, registers, range, start values, owners, start marks, and nothing else
 abbrev pub headerOf : List ℕ → List ℕ

@@ -1,4 +1,2 @@
-pub mod Table
 pub mod Code
-pub mod Found
 pub mod Promise

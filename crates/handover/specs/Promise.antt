@@ -9,7 +9,7 @@ use Rattle.content.specs.Image.{read, decode}
 use Rattle.across.specs.Handover.{EveryRunAcross}
 use Rattle.checker.specs.Answer.{verdict}
 use Rattle.report.specs.declared.verdict.Verdict.the-variants.{Accepted}
-use Rattle.handover.specs.Table.{entrySize, pointsTo, newPoint, newLine}
+use Rattle.handover_table.specs.Table.{entrySize, pointsTo, newPoint, newLine}
 use Rattle.handover.specs.Code.{asked, headerOf, handoverCode}
 
 -- both images are accepted, say what D and E have, and have equal headers

@@ -1,8 +1,3 @@
 // New code without a restart: whether a handover from one accepted image to another is permitted. `check_handover` is the entry point.
-pub mod bytes;
-pub mod entries;
 pub mod entry;
-pub mod lines;
 pub mod permit;
-pub mod points;
-pub mod table;

@@ -1,9 +1,9 @@
 // The code of a handover between accepted images.
-use crate::bytes::same_bytes;
-use crate::lines::lines_serve;
-use crate::table::table_fits;
 use content::totals::Totals;
 use content::totals::totals_of;
+use handover_lines::lines::lines_serve;
+use handover_table::bytes::same_bytes;
+use handover_table::table::table_fits;
 use index::look::body_of;
 use justify::pass::judge_lines;
 use program::sizes::Sizes;
@@ -17,7 +17,7 @@ ghost use Rattle.content.specs.Image.{imageOf};
 ghost use Rattle.content.specs.Totals.{totalsOf};
 ghost use Rattle.justify.specs.Pass.{marksTo};
 ghost use Rattle.handover.specs.Code.{codeBetween, codeOf};
-ghost use Rattle.handover.specs.Found.{threadsServe};
+ghost use Rattle.handover_lines.specs.Found.{threadsServe};
 
 pub struct Handover;
 

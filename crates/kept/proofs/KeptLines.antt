@@ -20,9 +20,9 @@ use Rattle.document.specs.Document.{LineRecord}
 use Rattle.document.specs.Canonical.{noClaim}
 use Rattle.document.specs.Parse.{lineRecord, claimRecord, documentOf}
 use Rattle.trimmed.specs.Kept.{noted, keptTo, kept}
-use Rattle.kept.specs.Named.{claimLines, withPremises}
-use Rattle.kept.proofs.Noted.{noted-append, note-more, note-all}
-use Rattle.kept.proofs.Parts.{line-at, claim-at, lines-length, claims-length}
+use Rattle.notes.specs.Named.{claimLines, withPremises}
+use Rattle.notes.proofs.Noted.{noted-append, note-more, note-all}
+use Rattle.notes.proofs.Parts.{line-at, claim-at, lines-length, claims-length}
 
 pub obligations-are : (z : Sizes) (l : List (List ℕ)) (b : List ℕ) (n : ℕ) (m after : List Bool)
     → b ≡ getD l (z .formulas + z .threads + 1 + z .lines + 1) [] → n ≡ obligationCount z l

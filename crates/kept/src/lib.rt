@@ -1,6 +1,2 @@
-// What stays of an accepted image when it is trimmed: which lines and formulas, their new numbers, and how long it then is.
-pub mod formulas;
+// Which lines of an accepted image stay when it is trimmed: those on which an obligation or a claim rests.
 pub mod lines;
-pub mod note;
-pub mod number;
-pub mod size;

@@ -1,11 +1,11 @@
 // Which lines stay: those that obligations and claims name, and down from these all premises.
-use crate::note::is_noted;
-use crate::note::note_number;
-use crate::note::note_numbers;
 use content::claim::claim_of;
 use index::look::body_of;
 use limits::read::byte_at;
 use limits::read::rest;
+use notes::note::is_noted;
+use notes::note::note_number;
+use notes::note::note_numbers;
 use program::sizes::Sizes;
 use records::tally::count_obligations;
 ghost use mathlib.Core.Path.{_≡_};
@@ -19,7 +19,7 @@ ghost use Rattle.records.specs.Line.{premises};
 ghost use Rattle.image.specs.Decode.{recordCount};
 ghost use Rattle.document.specs.Parse.{documentOf};
 ghost use Rattle.trimmed.specs.Kept.{noted, keptTo, kept};
-ghost use Rattle.kept.specs.Named.{claimLines, withPremises};
+ghost use Rattle.notes.specs.Named.{claimLines, withPremises};
 
 // The lines that obligations name.
 fn note_obligations<'a, 'b, 'c>(s: &'a [u8], ix: &'b [usize], z: Sizes, m: &'c mut [bool])

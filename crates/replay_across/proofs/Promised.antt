@@ -32,7 +32,7 @@ use Rattle.checker.proofs.Granted.{granted-holds}
 use Rattle.columns.specs.Column.{column}
 use Rattle.memory.specs.declared.write.Write.{Write}
 use Rattle.machine.proofs.Worked.{sizes-few}
-use Rattle.handover.specs.Table.{entrySize, pointNamed, pointsTo, newPoint}
+use Rattle.handover_table.specs.Table.{entrySize, pointNamed, pointsTo, newPoint}
 use Rattle.handover.specs.Code as Code
 use Rattle.handover.specs.Code.{headerOf, codeOf, handoverCode}
 use Rattle.handover.specs.Promise.{Fits}

@@ -15,9 +15,9 @@ use Rattle.content.specs.Program.{programOf}
 use Rattle.checker.specs.Acceptance.{acceptance}
 use Rattle.checker.specs.declared.acceptance.Acceptance.{Acceptance}
 use Rattle.checker.specs.declared.acceptance.Acceptance.the-variants.{Granted, Declined}
-use Rattle.handover.specs.Table.{pointNamed, pointsTo, newPoint}
+use Rattle.handover_table.specs.Table.{pointNamed, pointsTo, newPoint}
 use Rattle.handover.specs.Code.{headerOf, codeOf}
-use Rattle.handover.proofs.Few.{points-are}
+use Rattle.handover_table.proofs.Few.{points-are}
 use Rattle.replay.specs.Step.{stepped}
 use Rattle.replay.specs.Start.{started}
 use Rattle.replay.specs.Run.{ran}

@@ -11,7 +11,7 @@ use Rattle.content.specs.Program.{programOf}
 use Rattle.checker.specs.Acceptance.{acceptance}
 use Rattle.checker.specs.declared.acceptance.Acceptance.{Acceptance}
 use Rattle.checker.specs.declared.acceptance.Acceptance.the-variants.{Granted, Declined}
-use Rattle.handover.specs.Table.{newPoint}
+use Rattle.handover_table.specs.Table.{newPoint}
 use Rattle.handover.specs.Code.{headerOf, codeOf}
 use Rattle.replay.specs.Start.{started}
 use Rattle.replay.specs.Run.{ran}

@@ -15,7 +15,7 @@ use Rattle.content.specs.Program.{programOf, outlineOf}
 use Rattle.checker.specs.Acceptance.{acceptance}
 use Rattle.checker.specs.declared.acceptance.Acceptance.the-variants.{Granted}
 use Rattle.memory.specs.declared.write.Write.{Write}
-use Rattle.handover.specs.Table.{newPoint}
+use Rattle.handover_table.specs.Table.{newPoint}
 use Rattle.handover.specs.Code.{handoverCode}
 use Rattle.replay.specs.Outcome.{Outcome, replayed, stepsIn}
 use Rattle.replay.specs.Whole.{roomOf}

@@ -1,8 +1,8 @@
 // The state at the handover: the same memory, views and registers, and mapped points.
 use content::totals::Totals;
 use content::totals::totals_of;
-use handover::entries::point_named;
-use handover::points::points_before;
+use handover_table::entries::point_named;
+use handover_table::points::points_before;
 use program::sizes::Sizes;
 use replay::states::Machine;
 ghost use mathlib.Core.Path.{_≡_};

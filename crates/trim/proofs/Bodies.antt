@@ -8,9 +8,9 @@ use Rattle.frames.specs.Kinds as Kinds
 use Rattle.program.specs.Thread.{instructions}
 use Rattle.document.specs.Encode.{threadBytes, lineBytes, claimBytes}
 use Rattle.document.specs.Parse.{lineRecord, claimRecord}
-use Rattle.trim.specs.Overwritten.{overwritten}
+use Rattle.put.specs.Overwritten.{overwritten}
 use Rattle.trim.specs.Records.{renewedBody}
-use Rattle.trim.specs.Renewed.{renewedInstruction, renewedLine, renewedClaim}
+use Rattle.put.specs.Renewed.{renewedInstruction, renewedLine, renewedClaim}
 
 module _ (f g b : List ℕ) (k p : ℕ) (o : List ℕ) where
   module _ (e : k ≡ Kinds.thread) where

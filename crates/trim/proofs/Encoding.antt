@@ -19,13 +19,13 @@ use Rattle.document.specs.Encode.{framed, entry, entries, itself, threadBytes, 
 use Rattle.document.specs.Parse.{lineRecord, claimRecord, part, documentOf}
 use Rattle.trimmed.specs.Kept.{chosen, selected, renumbered, newNumbers}
 use Rattle.trimmed.specs.Trim.{halfBy, instructionBy, lineBy, claimBy, trimmedBy}
-use Rattle.trim.specs.Overwritten.{overwritten}
-use Rattle.trim.specs.Pieces.{joined}
+use Rattle.put.specs.Overwritten.{overwritten}
+use Rattle.put.specs.Pieces.{joined}
 use Rattle.trim.specs.Records.{renewedBody, recordBytes, recordPiece, keptPiece, listBytes}
-use Rattle.trim.specs.Renewed.{renewed, renewedInstruction, renewedLine, renewedClaim}
+use Rattle.put.specs.Renewed.{renewed, renewedInstruction, renewedLine, renewedClaim}
 use Rattle.trim.specs.Whole.{formulasBytes, threadsBytes, outlineBytes, linesBytes, obligationsBytes, claimsBytes}
 use Rattle.trim.specs.Whole.{programBytes, certificateBytes, behindBytes, wholeBytes}
-use Rattle.trim.proofs.Flat.{flat-map, chosen-map, joined-part, joined-kept}
+use Rattle.put.proofs.Flat.{flat-map, chosen-map, joined-part, joined-kept}
 use Rattle.trim.proofs.Tables.{renewed-new}
 
 -- an instruction names no line, a claim no formula

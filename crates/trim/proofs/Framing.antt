@@ -7,10 +7,10 @@ use lib.ListN.{length, getD}
 use Rattle.limits.specs.Numbers.{numbers}
 use Rattle.report.specs.Record.{two}
 use Rattle.document.specs.Encode.{framed, entry, numberBytes}
-use Rattle.trim.specs.Overwritten.{overwritten}
+use Rattle.put.specs.Overwritten.{overwritten}
 use Rattle.trim.specs.Records.{renewedBody, recordBytes, listBytes}
-use Rattle.trim.specs.Renewed.{renewed}
-use Rattle.trim.proofs.Overwriting.{over-length, over-before}
+use Rattle.put.specs.Renewed.{renewed}
+use Rattle.put.proofs.Overwriting.{over-length, over-before}
 
 module _ (k : ℕ) (x o : List ℕ) (p : ℕ) where
   abbrev head : List ℕ

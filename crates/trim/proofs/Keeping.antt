@@ -5,11 +5,11 @@ use mathlib.Core.List.{List, []}
 use Prim.Native.Nat.{ℕ, _+_, _≤_, _<_}
 use native.Mathlib.Nat.{add-zero}
 use lib.ListN.{length, getD, List·getD-eq-default}
-use Rattle.trim.specs.Overwritten.{overwritten}
-use Rattle.trim.specs.Pieces.{joined}
+use Rattle.put.specs.Overwritten.{overwritten}
+use Rattle.put.specs.Pieces.{joined}
 use Rattle.trim.specs.Records.{recordBytes, recordPiece, keptPiece}
-use Rattle.trim.proofs.Overwriting.{over-none}
-use Rattle.trim.proofs.Joining.{join-room}
+use Rattle.put.proofs.Overwriting.{over-none}
+use Rattle.put.proofs.Joining.{join-room}
 
 module _ (f g : List ℕ) (l : List (List ℕ)) (k n : ℕ) where
   pub next-room : (o w : List ℕ) (p q i c : ℕ) → p + length (joined (recordPiece f g l k n) c) ≤ length o

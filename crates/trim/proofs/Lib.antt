@@ -1,13 +1,6 @@
 pub mod Bodies
 pub mod Encoding
-pub mod Flat
 pub mod Framing
-pub mod Joining
 pub mod Keeping
-pub mod Lines
-pub mod Overwriting
-pub mod Putting
-pub mod Renewing
 pub mod Sequence
 pub mod Tables
-pub mod Threads

@@ -8,11 +8,11 @@ use Rattle.frames.specs.Kinds as Kinds
 use Rattle.program.specs.declared.sizes.Sizes.{Sizes}
 use Rattle.records.specs.Tally.{tally, obligationCount}
 use Rattle.records.specs.declared.tally.Tally.{Tally}
-use Rattle.trim.specs.Overwritten.{overwritten}
+use Rattle.put.specs.Overwritten.{overwritten}
 use Rattle.trim.specs.Records.{recordBytes, listBytes}
 use Rattle.trim.specs.Whole.{formulasBytes, threadsBytes, outlineBytes, linesBytes, obligationsBytes, claimsBytes}
 use Rattle.trim.specs.Whole.{programBytes, certificateBytes, behindBytes, wholeBytes}
-use Rattle.trim.proofs.Putting.{pair-first, pair-second, three-first, three-second, three-third}
+use Rattle.put.proofs.Putting.{pair-first, pair-second, three-first, three-second, three-third}
 
 module _ (z : Sizes) (f g : List ℕ) (l : List (List ℕ)) where
   module _ (u : List Bool) where

@@ -9,8 +9,8 @@ use lib.ListN.{length, getD, set, length-set, length-replicate}
 use lib.Seq.{getD-set-same, getD-set-other}
 use borrow.Author.Tests.{eqb-true, eqb-false, ltb-true, ltb-false}
 use Rattle.trimmed.specs.Kept.{setBelow, renumbered, numbersTo, newNumbers}
-use Rattle.trim.specs.Renewed.{renewed}
-use Rattle.trim.proofs.Renewing.{new-in, new-past}
+use Rattle.put.specs.Renewed.{renewed}
+use Rattle.put.proofs.Renewing.{new-in, new-past}
 
 table-length : (m : List Bool) (n : ℕ) → length (numbersTo m n) ≡ length m
 unfolding numbersTo

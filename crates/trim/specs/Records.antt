@@ -9,7 +9,7 @@ use Rattle.frames.specs.Kinds as Kinds
 use Rattle.program.specs.Thread.{instructions}
 use Rattle.document.specs.Encode.{framed, entry, threadBytes, numberBytes, lineBytes, claimBytes}
 use Rattle.document.specs.Parse.{lineRecord, claimRecord}
-use Rattle.trim.specs.Renewed.{renewed, renewedInstruction, renewedLine, renewedClaim}
+use Rattle.put.specs.Renewed.{renewed, renewedInstruction, renewedLine, renewedClaim}
 
 -- tables of the formulas and of the lines
 module _ (f g : List ℕ) where

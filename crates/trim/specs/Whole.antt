@@ -5,7 +5,7 @@ use Prim.Native.Nat.{ℕ, _+_}
 use Rattle.frames.specs.Kinds as Kinds
 use Rattle.program.specs.declared.sizes.Sizes.{Sizes}
 use Rattle.records.specs.Tally.{tally, obligationCount}
-use Rattle.trim.specs.Pieces.{joined}
+use Rattle.put.specs.Pieces.{joined}
 use Rattle.trim.specs.Records.{recordBytes, recordPiece, keptPiece, listBytes}
 
 -- formulas are named by the outline, lines by the obligations

@@ -6,8 +6,8 @@ ghost use Prim.Native.Nat.{_+_, _≤_, _<_};
 ghost use lib.ListN.{length, getD};
 ghost use Rattle.frames.specs.Records.{bodies};
 ghost use Rattle.index.specs.Table.{indexOf};
-ghost use Rattle.trim.specs.Overwritten.{overwritten};
-ghost use Rattle.trim.specs.Pieces.{joined};
+ghost use Rattle.put.specs.Overwritten.{overwritten};
+ghost use Rattle.put.specs.Pieces.{joined};
 ghost use Rattle.trim.specs.Records.{recordPiece, keptPiece};
 
 // The record at i, from 0.

@@ -11,7 +11,7 @@ ghost use Prim.Native.Nat.{_+_, _≤_};
 ghost use lib.ListN.{length};
 ghost use Rattle.frames.specs.Records.{bodies};
 ghost use Rattle.index.specs.Table.{indexOf};
-ghost use Rattle.trim.specs.Overwritten.{overwritten};
+ghost use Rattle.put.specs.Overwritten.{overwritten};
 ghost use Rattle.trim.specs.Whole.{formulasBytes, threadsBytes, outlineBytes, linesBytes, obligationsBytes, claimsBytes};
 
 pub fn put_formulas<'a, 'b, 'c, 'd, 'e, 'f>(

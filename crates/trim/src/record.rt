@@ -1,18 +1,18 @@
 // Records by kind and place: length, kind, and the body with its formulas renewed by f and its lines by g.
-use crate::claim::put_claim;
-use crate::line::put_line;
-use crate::numbers::put_numbers;
-use crate::put::put_bytes;
-use crate::put::put_frame;
-use crate::thread::put_thread;
 use frames::kind::Kind;
 use index::look::body_of;
+use put::numbers::put_numbers;
+use put::put::put_bytes;
+use put::put::put_frame;
+use renewed::claim::put_claim;
+use renewed::line::put_line;
+use renewed::thread::put_thread;
 ghost use mathlib.Core.Path.{_≡_};
 ghost use Prim.Native.Nat.{_+_, _≤_};
 ghost use lib.ListN.{length};
 ghost use Rattle.frames.specs.Records.{bodies};
 ghost use Rattle.index.specs.Table.{indexOf};
-ghost use Rattle.trim.specs.Overwritten.{overwritten};
+ghost use Rattle.put.specs.Overwritten.{overwritten};
 ghost use Rattle.trim.specs.Records.{renewedBody, recordBytes, listBytes};
 
 // The body of a record of a kind that there may be many of, or of the header.

@@ -19,7 +19,7 @@ ghost use Rattle.document.specs.Encode.{encode};
 ghost use Rattle.document.specs.Parse.{documentOf};
 ghost use Rattle.trimmed.specs.Kept.{newNumbers};
 ghost use Rattle.trimmed.specs.Trim.{trimmedBy};
-ghost use Rattle.trim.specs.Overwritten.{overwritten};
+ghost use Rattle.put.specs.Overwritten.{overwritten};
 ghost use Rattle.trim.specs.Whole.{programBytes, certificateBytes, behindBytes, wholeBytes};
 
 // Header, formulas and threads.

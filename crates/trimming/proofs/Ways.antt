@@ -24,8 +24,8 @@ use Rattle.trimmed.specs.Kept.{kept, used, newNumbers}
 use Rattle.trimmed.specs.Trim.{trimmedBy, trim}
 use Rattle.trimmed.proofs.Resting.{kept-length}
 use Rattle.trimmed.proofs.Using.{used-length}
-use Rattle.kept.specs.LeftOut.{Lengths}
-use Rattle.kept.proofs.Measured.{sound-lengths}
+use Rattle.notes.specs.LeftOut.{Lengths}
+use Rattle.notes.proofs.Measured.{sound-lengths}
 use Rattle.trimming.specs.Trimmed.{trimmedBytes}
 use Rattle.trimming.specs.Accepted.{Accepted}
 use Rattle.trimming.specs.Answer.{answer, answeredBy, bufferBy, answerFor, bufferFor, answerWith, bufferWith}

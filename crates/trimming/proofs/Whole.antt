@@ -40,7 +40,7 @@ use Rattle.trimmed.proofs.Trimming.{Trimming, threads-kept}
 use Rattle.trimmed.proofs.ChecksKept.{trimmed-sound}
 use Rattle.trimmed.proofs.There.{named-lines, written-formulas, outline-ranged}
 use Rattle.trimmed.proofs.Says.{named-said}
-use Rattle.kept.proofs.TrimmedLength.{trimmed-and-left}
+use Rattle.notes.proofs.TrimmedLength.{trimmed-and-left}
 
 -- a document whose bytes are a sound image
 pub record Whole (D : Document) : Type 0 where

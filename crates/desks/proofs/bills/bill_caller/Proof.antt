@@ -1,10 +1,10 @@
 use lib.ListN.{getD}
-use Rattle.desks.specs.Desk.{numberPlace}
+use Rattle.service.specs.Desk.{numberPlace}
 use native.Mathlib.Omega.{arith}
 use Rattle.limits.proofs.Auto.{tests}
-use Rattle.desks.specs.declared.rights.Right.the-variants as Right
-use Rattle.desks.proofs.Admitting.{admitted-caller}
-use Rattle.desks.proofs.Replies.{number-goes-on, bill-missing, bill-failed, bill-counted}
+use Rattle.service.specs.declared.rights.Right.the-variants as Right
+use Rattle.service.proofs.Admitting.{admitted-caller}
+use Rattle.requests.proofs.Replies.{number-goes-on, bill-missing, bill-failed, bill-counted}
 use borrow.Author.Needs.{needs}
 use Rattle.desks.proofs.bills.bill_caller.Statement.{statement}
 use Rattle.desks.proofs.bills.bill_caller.Tie as tie

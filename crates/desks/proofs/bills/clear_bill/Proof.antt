@@ -1,5 +1,5 @@
 use Rattle.limits.proofs.Auto.{tests}
-use Rattle.desks.proofs.Replies.{clearing}
+use Rattle.requests.proofs.Replies.{clearing}
 use borrow.Author.Needs.{needs}
 use Rattle.desks.proofs.bills.clear_bill.Statement.{statement}
 use Rattle.desks.proofs.bills.clear_bill.Tie as tie

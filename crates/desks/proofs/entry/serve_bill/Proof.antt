@@ -1,5 +1,5 @@
 use Rattle.limits.proofs.Auto.{tests}
-use Rattle.desks.proofs.Replies.{bill-refused}
+use Rattle.requests.proofs.Replies.{bill-refused}
 use borrow.Author.Needs.{needs}
 use Rattle.desks.proofs.entry.serve_bill.Statement.{statement}
 use Rattle.desks.proofs.entry.serve_bill.Tie as tie

@@ -1,5 +1,5 @@
 use Rattle.limits.proofs.Auto.{tests}
-use Rattle.desks.proofs.Replies.{serving}
+use Rattle.requests.proofs.Replies.{serving}
 use borrow.Author.Needs.{needs}
 use Rattle.desks.proofs.entry.serve_check.Statement.{statement}
 use Rattle.desks.proofs.entry.serve_check.Tie as tie

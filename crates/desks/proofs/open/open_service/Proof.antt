@@ -1,5 +1,5 @@
 use Rattle.limits.proofs.Auto.{tests}
-use Rattle.desks.proofs.Opening.{openings}
+use Rattle.service.proofs.Opening.{openings}
 use borrow.Author.Needs.{needs}
 use Rattle.desks.proofs.open.open_service.Statement.{statement}
 use Rattle.desks.proofs.open.open_service.Tie as tie

@@ -1,5 +1,5 @@
 use Rattle.limits.proofs.Auto.{tests}
-use Rattle.desks.proofs.Replies.{cleared-short, replay-cleared}
+use Rattle.requests.proofs.Replies.{cleared-short, replay-cleared}
 use borrow.Author.Needs.{needs}
 use Rattle.desks.proofs.replays.clear_replay.Statement.{statement}
 use Rattle.desks.proofs.replays.clear_replay.Tie as tie

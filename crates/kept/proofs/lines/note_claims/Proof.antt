@@ -1,5 +1,5 @@
 use Rattle.kept.proofs.KeptLines.{claiming, claims-more}
-use Rattle.kept.specs.Named.{claimLines}
+use Rattle.notes.specs.Named.{claimLines}
 use Rattle.trimmed.specs.Kept.{noted}
 use Rattle.frames.specs.Records.{bodies}
 use Prim.Native.Nat.{_≤_, _-_}

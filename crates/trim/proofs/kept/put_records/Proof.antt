@@ -1,7 +1,7 @@
 use Rattle.frames.specs.Records.{bodies}
 use Prim.Native.Nat.{_-_}
 use Rattle.trim.specs.Records.{recordPiece}
-use Rattle.trim.proofs.Joining.{joining, Partly}
+use Rattle.put.proofs.Joining.{joining, Partly}
 use Rattle.trim.proofs.Keeping.{next-room}
 use Rattle.limits.proofs.Auto.{tests}
 use Rattle.trim.proofs.kept.put_records.Statement.{statement}

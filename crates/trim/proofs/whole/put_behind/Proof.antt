@@ -1,5 +1,5 @@
 use Rattle.trim.proofs.Sequence.{behind-is, certificate-room, claims-room}
-use Rattle.trim.proofs.Putting.{pair-end, pair-put}
+use Rattle.put.proofs.Putting.{pair-end, pair-put}
 use Rattle.limits.proofs.Auto.{tests}
 use borrow.Author.Needs.{needs}
 use Rattle.trim.proofs.whole.put_behind.Statement.{statement}

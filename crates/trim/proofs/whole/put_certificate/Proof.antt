@@ -1,5 +1,5 @@
 use Rattle.trim.proofs.Sequence.{certificate-is, lines-room, obligations-room, outline-room}
-use Rattle.trim.proofs.Putting.{three-end, three-put}
+use Rattle.put.proofs.Putting.{three-end, three-put}
 use Rattle.limits.proofs.Auto.{tests}
 use borrow.Author.Needs.{needs}
 use Rattle.trim.proofs.whole.put_certificate.Statement.{statement}

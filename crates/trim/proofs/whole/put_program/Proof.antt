@@ -1,5 +1,5 @@
 use Rattle.trim.proofs.Sequence.{formulas-room, header-room, program-is, threads-room}
-use Rattle.trim.proofs.Putting.{three-end, three-put}
+use Rattle.put.proofs.Putting.{three-end, three-put}
 use Rattle.limits.proofs.Auto.{tests}
 use borrow.Author.Needs.{needs}
 use Rattle.trim.proofs.whole.put_program.Statement.{statement}

@@ -1,6 +1,0 @@
-pub mod Admitting
-pub mod Desks
-pub mod Opening
-pub mod Isolation
-pub mod Served
-pub mod Replies

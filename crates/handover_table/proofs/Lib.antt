@@ -1,0 +1,4 @@
+pub mod Agreeing
+pub mod Each
+pub mod Few
+pub mod Ways

@@ -1,0 +1,3 @@
+pub mod Bill
+pub mod Output
+pub mod Promise

@@ -1,0 +1,5 @@
+pub mod Flat
+pub mod Joining
+pub mod Overwriting
+pub mod Putting
+pub mod Renewing

@@ -1,0 +1,3 @@
+pub mod Overwritten
+pub mod Pieces
+pub mod Renewed

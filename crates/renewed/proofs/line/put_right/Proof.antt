@@ -1,0 +1,17 @@
+use Rattle.renewed.proofs.Lines.{siding}
+use Rattle.limits.proofs.Auto.{tests}
+use borrow.Author.Needs.{needs}
+use Rattle.renewed.proofs.line.put_right.Statement.{statement}
+use Rattle.renewed.proofs.line.put_right.Tie as tie
+
+pub put-right-spec : {M : Type 1} → statement M
+put-right-spec =
+    tie.close
+    (tie.spec
+    (λ c κs. search needs)
+    (λ c κs. search needs)
+    (λ c κs. search (siding, tests))
+    (λ c κs. search needs)
+    (λ c κs. search (siding, tests))
+    (λ c. search needs)
+    (λ c. search (siding, tests)))

@@ -1,0 +1,4 @@
+pub mod Admitting
+pub mod Desks
+pub mod Opening
+pub mod Isolation

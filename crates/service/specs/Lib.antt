@@ -1,0 +1,4 @@
+pub mod Desk
+pub mod Opening
+pub mod Serving
+pub mod Isolation

@@ -1,0 +1,15 @@
+use Rattle.used.proofs.UsedFormulas.{used-is}
+use Rattle.limits.proofs.Auto.{tests}
+use borrow.Author.Needs.{needs}
+use Rattle.used.proofs.formulas.fill_used.Statement.{statement}
+use Rattle.used.proofs.formulas.fill_used.Tie as tie
+
+pub fill-used-spec : {M : Type 1} → statement M
+fill-used-spec =
+    tie.close
+    (tie.spec
+    (λ c κs. search needs)
+    (λ c κs. search needs)
+    (λ c κs. search needs)
+    (λ c. search needs)
+    (λ c. search (used-is, tests)))
