@@ -1,0 +1,16 @@
+use Rattle.limits.proofs.Auto.{tests}
+use Rattle.index.proofs.Laws.{short-zeros, long-zeros}
+use borrow.Author.Needs.{needs}
+use Rattle.trimming.proofs.archive.trim_into.Statement.{statement}
+use Rattle.trimming.proofs.archive.trim_into.Tie as tie
+
+pub trim-into-spec : {M : Type 1} → statement M
+trim-into-spec =
+    tie.close
+    (tie.spec
+    (λ c. search needs)
+    (λ c κs. short-zeros _ (search tests))
+    (λ c. search needs)
+    (λ c. search needs)
+    (λ c κs. long-zeros _ (search tests))
+    (λ c. search needs))
