@@ -16,11 +16,11 @@ use Rattle.logic.specs.Machine.{State}
 use Rattle.logic.proofs.Base.{upd-same, upd-other, by-word}
 use Rattle.limits.specs.Numbers.{nth}
 use Rattle.memory.specs.View.{positionIn}
-use Rattle.memory.specs.Memory.{writeAt, sizeAt, viewOf}
+use Rattle.memory.specs.Memory.{writeAt, sizeAt, viewOf, seenBy}
 use Rattle.memory.specs.Stands.{Stands}
 use Rattle.memory.specs.declared.memory.Memory.{Memory}
 use Rattle.memory.proofs.Same.{position-same}
-use Rattle.machine.specs.Shared.{reachable, uncovered}
+use Rattle.machine.specs.Shared.{reachableBy, reachable, uncovered}
 use Rattle.machine.specs.Locals.{withRegister}
 use Rattle.machine.specs.Stands.{SameRegs}
 use Rattle.machine.specs.declared.locals.Registers.{Registers}
@@ -49,7 +49,7 @@ regs-set h g e r v a b =
 
 module _ (m : Memory) (s : State) (st : Stands m s) (t k p : ℕ) (ht : t < 4) (hk : k < 8) where
   pub reach-same : reachable m t k p ≡ Logic.reachable s (suc t) (suc k) p
-  unfolding reachable
+  unfolding reachable reachableBy seenBy sizeAt viewOf
   reach-same = rw (st .size k hk, position-same (viewOf m t) (s .view (suc t)) (st .views t ht) k hk) (go (ltb p (s .size (suc k))))
     where
       go : (b : Bool) → cond b (leb (s .view (suc t) (suc k)) p) false ≡ (b && leb (s .view (suc t) (suc k)) p)

@@ -1,18 +1,23 @@
 -- Which positions may be picked, and what a step does to shared words and views.
 use mathlib.Core.Bool.{Bool, true, false, not, cond}
-use Prim.Native.Nat.{ℕ}
+use Prim.Native.Nat.{ℕ, _%_}
 use lib.Dec.{eqb, ltb, leb}
+use lib.ListN.{getD}
 use Rattle.logic.specs.Opcode as Opcode
 use Rattle.columns.specs.Combine.{sumOf}
 use Rattle.memory.specs.View.{positionIn}
-use Rattle.memory.specs.Memory.{writeAt, sizeAt, viewOf}
+use Rattle.memory.specs.Memory.{writeAt, seenBy}
 use Rattle.memory.specs.Access.{loaded, stored, swapped}
 use Rattle.memory.specs.declared.memory.Memory.{Memory}
+use Rattle.memory.specs.declared.memory.Sight.{Sight}
 use Rattle.machine.specs.declared.deed.Deed.{Deed}
 
 -- the position is there, at or after the thread's own
+unfoldable pub reachableBy : Sight → ℕ → ℕ → ℕ → Bool
+reachableBy g t k p = cond (ltb p (getD (g .sizes) (k % 8) 0)) (leb (positionIn (seenBy g t) k) p) false
+
 unfoldable pub reachable : Memory → ℕ → ℕ → ℕ → Bool
-reachable m t k p = cond (ltb p (sizeAt m k)) (leb (positionIn (viewOf m t) k) p) false
+reachable m t k p = reachableBy (record { sizes = m .sizes; views = m .views }) t k p
 
 unfoldable pub uncovered : Memory → ℕ → ℕ → ℕ → Bool
 uncovered m t k p = cond (reachable m t k p) (not (writeAt m k p .covered)) false

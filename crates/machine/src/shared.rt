@@ -4,39 +4,42 @@ use columns::combine::sum_of;
 use memory::access::load;
 use memory::access::store;
 use memory::access::swap;
-use memory::memory::Memory;
+use memory::memory::Sight;
 use memory::memory::size_in;
 use memory::memory::view_of;
 use memory::memory::write_at;
+use memory::table::Places;
 use memory::view::position_in;
 use program::instruction::Instruction;
 ghost use mathlib.Core.Path.{_≡_};
-ghost use Rattle.machine.specs.Shared.{reachable, uncovered, mayPick, fetchAdded, memoryAfter};
+ghost use lib.ListN.{length};
+ghost use Rattle.memory.specs.Memory.{memoryOf};
+ghost use Rattle.machine.specs.Shared.{reachableBy, uncovered, mayPick, fetchAdded, memoryAfter};
 
 // The position is there, at or after the thread's own.
-fn is_reachable(m: Memory, t: u8, k: u8, p: u8) -> bool
-    ensures { λ r. ⌜ r ≡ reachable m t k p ⌝ }
+fn is_reachable(g: Sight, t: u8, k: u8, p: u8) -> bool
+    ensures { λ r. ⌜ r ≡ reachableBy g t k p ⌝ }
 {
-    let sizes = m.sizes;
+    let sizes = g.sizes;
     if p < size_in(&sizes, k) {
-        return position_in(view_of(m, t), k) <= p;
+        return position_in(view_of(g, t), k) <= p;
     }
     false
 }
 
 // A write is put behind an uncovered one.
-fn is_uncovered(m: Memory, t: u8, k: u8, p: u8) -> bool
-    ensures { λ r. ⌜ r ≡ uncovered m t k p ⌝ }
+fn is_uncovered(table: &[u8; Places::BYTES], g: Sight, t: u8, k: u8, p: u8) -> bool
+    ensures { λ r. ⌜ r ≡ uncovered (memoryOf g (now (table .entry))) t k p ⌝ }
 {
-    if is_reachable(m, t, k, p) {
-        return !write_at(m, k, p).covered;
+    if is_reachable(g, t, k, p) {
+        return !write_at(table, g, k, p).covered;
     }
     false
 }
 
 // An instruction that picks no write has position 0.
-pub fn may_pick(m: Memory, d: Deed, t: u8, p: u8) -> bool
-    ensures { λ r. ⌜ r ≡ mayPick m d t p ⌝ }
+pub fn may_pick(table: &[u8; Places::BYTES], g: Sight, d: Deed, t: u8, p: u8) -> bool
+    ensures { λ r. ⌜ r ≡ mayPick (memoryOf g (now (table .entry))) d t p ⌝ }
 {
     let op = d.operation;
     if op == Instruction::ASSIGN {
@@ -49,56 +52,67 @@ pub fn may_pick(m: Memory, d: Deed, t: u8, p: u8) -> bool
         return p == 0;
     }
     if op == Instruction::LOAD {
-        return is_reachable(m, t, d.word, p);
+        return is_reachable(g, t, d.word, p);
     }
     if op == Instruction::ACQUIRE {
-        return is_reachable(m, t, d.word, p);
+        return is_reachable(g, t, d.word, p);
     }
-    is_uncovered(m, t, d.word, p)
+    is_uncovered(table, g, t, d.word, p)
 }
 
 // A swap that stores the old value plus the formula's.
-fn fetch_add(m: Memory, range: u8, d: Deed, t: u8, p: u8) -> Memory
-    ensures { λ r. ⌜ r ≡ fetchAdded m range d t p ⌝ }
+fn fetch_add(g: Sight, range: u8, d: Deed, t: u8, p: u8, table: &mut [u8; Places::BYTES]) -> Sight
+    requires { ⌜ length (now table) ≡ 792 ⌝ }
+    ensures { λ r. ⌜ memoryOf r (now (table .exit)) ≡ fetchAdded (memoryOf g (now (table .entry))) range d t p ⌝ }
+    ensures { λ _. ⌜ length (now (table .exit)) ≡ 792 ⌝ }
 {
-    let sum = sum_of(range, write_at(m, d.word, p).value, d.value);
-    swap(m, d.word, sum, t, p)
+    let sum = sum_of(range, write_at(table, g, d.word, p).value, d.value);
+    swap(g, d.word, sum, t, p, table)
 }
 
 // What thread t does to shared words and views at position p.
-pub fn memory_after(m: Memory, range: u8, d: Deed, t: u8, p: u8) -> Memory
-    ensures { λ r. ⌜ r ≡ memoryAfter m range d t p ⌝ }
+pub fn memory_after(
+    g: Sight,
+    range: u8,
+    d: Deed,
+    t: u8,
+    p: u8,
+    table: &mut [u8; Places::BYTES],
+) -> Sight
+    requires { ⌜ length (now table) ≡ 792 ⌝ }
+    ensures { λ r. ⌜ memoryOf r (now (table .exit)) ≡ memoryAfter (memoryOf g (now (table .entry))) range d t p ⌝ }
+    ensures { λ _. ⌜ length (now (table .exit)) ≡ 792 ⌝ }
 {
     let op = d.operation;
     if op == Instruction::LOAD {
-        return load(m, false, t, d.word, p);
+        return load(table, g, false, t, d.word, p);
     }
     if op == Instruction::ACQUIRE {
-        return load(m, true, t, d.word, p);
+        return load(table, g, true, t, d.word, p);
     }
     if op == Instruction::STORE {
-        return store(m, false, d.word, d.value, t, p);
+        return store(g, false, d.word, d.value, t, p, table);
     }
     if op == Instruction::RELEASE {
-        return store(m, true, d.word, d.value, t, p);
+        return store(g, true, d.word, d.value, t, p, table);
     }
     if op == Instruction::SWAP {
-        return swap(m, d.word, d.value, t, p);
+        return swap(g, d.word, d.value, t, p, table);
     }
     if op == Instruction::EXCHANGE {
-        return swap(m, d.word, d.value, t, p);
+        return swap(g, d.word, d.value, t, p, table);
     }
     if op == Instruction::FETCH_ADD {
-        return fetch_add(m, range, d, t, p);
+        return fetch_add(g, range, d, t, p, table);
     }
     if op == Instruction::PAIR_STORE {
-        return store(m, false, d.word, d.value, t, p);
+        return store(g, false, d.word, d.value, t, p, table);
     }
     if op == Instruction::PAIR_RELEASE {
-        return store(m, true, d.word, d.value, t, p);
+        return store(g, true, d.word, d.value, t, p, table);
     }
     if op == Instruction::PAIR_SWAP {
-        return swap(m, d.word, d.value, t, p);
+        return swap(g, d.word, d.value, t, p, table);
     }
-    m
+    g
 }

@@ -1,4 +1,5 @@
 pub mod Views
+pub mod Bytes
 pub mod Writes
 pub mod Moves
 pub mod Places
@@ -6,3 +7,4 @@ pub mod Same
 pub mod Standing
 pub mod Accesses
 pub mod Stepping
+pub mod Laid

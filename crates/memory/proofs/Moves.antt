@@ -1,67 +1,63 @@
 -- Writes moved up and one inserted: the ways through the functions, one law for each.
 use Prim.Native.Nat.{ℕ, _+_, _%_, _≤_, _<_}
-use mathlib.Core.Path.{_≡_, refl, ap, sym, _∙_}
+use mathlib.Core.Path.{_≡_, ap, sym, _∙_}
 use mathlib.Core.List.{List}
 use native.Mathlib.Omega.{arith}
-use lib.ListN.{length, getD, set, take, replicate, length-replicate}
+use lib.ListN.{length, getD, set, take}
 use Rattle.logic.specs.Machine.{down}
-use Rattle.columns.proofs.Listed.{column-none}
+use Rattle.logic.proofs.Base.{down-is}
+use Rattle.columns.specs.Column.{column}
+use Rattle.columns.proofs.Listed.{column-none, column-getD, column-same}
 use Rattle.memory.specs.View.{next, upView}
 use Rattle.memory.specs.Write.{noView, noWrite, upWrite}
-use Rattle.memory.specs.Memory.{indexOf, sizeAt}
-use Rattle.memory.specs.Insert.{movedTo, movedWrites, viewsTo, movedViews, inserted}
+use Rattle.memory.specs.Table.{writesIn, raisedAll, movedUp}
+use Rattle.memory.specs.Memory.{indexOf, sizeAt, memoryOf}
+use Rattle.memory.specs.Insert.{movedTo, viewsTo, grown, inserted}
 use Rattle.memory.specs.declared.view.View.{View}
 use Rattle.memory.specs.declared.write.Write.{Write}
 use Rattle.memory.specs.declared.memory.Memory.{Memory}
-use Rattle.memory.proofs.Views.{column-set, column-whole}
+use Rattle.memory.specs.declared.memory.Sight.{Sight}
+use Rattle.memory.proofs.Views.{column-set, column-whole, repeated}
 
-module _ (m : Memory) (k p : ℕ) where
-  abbrev comes : ℕ → Write
-  comes j = upWrite k p (getD (m .writes) (down (indexOf (m .sizes) k p) j) noWrite)
-
-  pub moves-begin : (a : List Write) → take 0 a ≡ movedTo m k p 0
-  unfolding movedTo
-  moves-begin a = sym (column-none comes)
-
-  pub moves-more : (a : List Write) (i j f : ℕ) (w : Write) → i ≡ indexOf (m .sizes) k p → f ≡ down i j
-      → w ≡ upWrite k p (getD (m .writes) f noWrite) → j < 72 → length a ≡ 72 → take j a ≡ movedTo m k p j
-      → take (j + 1) (set a j w) ≡ movedTo m k p (j + 1)
-  unfolding movedTo
-  moves-more a i j f w e d g h l t = column-set comes a j 72 w h l t (g ∙ rw (d, e))
-
-  pub moves-end : (a : List Write) (j : ℕ) → j ≤ 72 → 72 ≤ j → length a ≡ 72 → take j a ≡ movedTo m k p j
-      → record { sizes = m .sizes; writes = a; views = m .views } ≡ movedWrites m k p
-  unfolding movedWrites movedTo
-  moves-end a j h g l t = rw (← column-whole comes a j 72 h g l t)
-
+module _ (l : List View) (k p : ℕ) where
   abbrev sees : ℕ → View
-  sees j = upView k p (getD (m .views) j noView)
+  sees j = upView k p (getD l j noView)
 
-  pub views-begin : (a : List View) → take 0 a ≡ viewsTo m k p 0
+  pub views-begin : (a : List View) → take 0 a ≡ viewsTo l k p 0
   unfolding viewsTo
   views-begin a = sym (column-none sees)
 
-  pub views-more : (a : List View) (j : ℕ) (v : View) → v ≡ upView k p (getD (m .views) j noView)
-      → j < 4 → length a ≡ 4 → take j a ≡ viewsTo m k p j → take (j + 1) (set a j v) ≡ viewsTo m k p (j + 1)
+  pub views-more : (a : List View) (j : ℕ) (v : View) → v ≡ upView k p (getD l j noView)
+      → j < 4 → length a ≡ 4 → take j a ≡ viewsTo l k p j → take (j + 1) (set a j v) ≡ viewsTo l k p (j + 1)
   unfolding viewsTo
-  views-more a j v g h l t = column-set sees a j 4 v h l t g
+  views-more a j v g h n t = column-set sees a j 4 v h n t g
 
-  pub views-end : (a : List View) (j : ℕ) → j ≤ 4 → 4 ≤ j → length a ≡ 4 → take j a ≡ viewsTo m k p j
-      → record { sizes = m .sizes; writes = m .writes; views = a } ≡ movedViews m k p
-  unfolding movedViews viewsTo
-  views-end a j h g l t = rw (← column-whole sees a j 4 h g l t)
+  views-whole : (a : List View) (j : ℕ) → j ≤ 4 → 4 ≤ j → length a ≡ 4 → take j a ≡ viewsTo l k p j → a ≡ viewsTo l k p 4
+  unfolding viewsTo
+  views-whole a j h g n t = column-whole sees a j 4 h g n t
 
-pub repeated : {A : Type 0} (n : ℕ) (x : A) → length (replicate n x) ≡ n
-repeated n x = length-replicate n x
-
-pub ruleset moves = (moves-begin, moves-more, moves-end, repeated)
+pub views-end : (g : Sight) (k p s : ℕ) (a : List View) (j : ℕ) → j ≤ 4 → 4 ≤ j → length a ≡ 4 → take j a ≡ viewsTo (g .views) k p j
+    → s ≡ next (getD (g .sizes) (k % 8) 0) → record { sizes = set (g .sizes) (k % 8) s; views = a } ≡ grown g k p
+unfolding grown
+views-end g k p s a j h i n t e = rw (e, ← views-whole (g .views) k p a j h i n t)
 
 pub ruleset view-moves = (views-begin, views-more, views-end, repeated)
 
--- `at` is the place of the new write, s the new size of the row
-pub insert-made : (m a b : Memory) (k p q at s : ℕ) (w : Write) → a ≡ movedWrites m k p → b ≡ movedViews a k p → q ≡ next p
-    → at ≡ indexOf (m .sizes) k q
-    → s ≡ next (getD (m .sizes) (k % 8) 0)
-    → record { sizes = set (b .sizes) (k % 8) s; writes = set (b .writes) at w; views = b .views } ≡ inserted m k p w
-unfolding inserted movedWrites movedViews viewsTo sizeAt
-insert-made m a b k p q at s w ea eb eq et es = rw (es, et, eq, eb, ea)
+-- moved up after every stored view was raised
+moved-raised : (m : Memory) (k p q : ℕ) → q ≡ indexOf (m .sizes) k p → q < 72 → movedUp (raisedAll (m .writes) k p) q ≡ movedTo m k p 72
+unfolding movedUp raisedAll movedTo
+moved-raised m k p q e h =
+    column-same (λ j. getD (column raise 72) (down q j) noWrite) (λ j. raise (down (indexOf (m .sizes) k p) j)) 72
+    (λ j g. column-getD raise noWrite 72 (down q j) (omega (arith, down-is q j)) ∙ ap (λ (i : ℕ). raise (down i j)) e)
+  where
+    raise : ℕ → Write
+    raise i = upWrite k p (getD (m .writes) i noWrite)
+
+-- from the bytes b on: views raised, writes moved up, the new one put
+module _ (g r : Sight) (b : List ℕ) (k p : ℕ) (w : Write) where
+  pub insert-made : (c d f : List ℕ) (q n at : ℕ) → writesIn c ≡ raisedAll (writesIn b) k p → q ≡ indexOf (g .sizes) k p → q < 72
+      → writesIn d ≡ movedUp (writesIn c) q → n ≡ next p → at ≡ indexOf (g .sizes) k n → writesIn f ≡ set (writesIn d) at w
+      → r ≡ grown g k p → memoryOf r f ≡ inserted (memoryOf g b) k p w
+  unfolding inserted memoryOf grown sizeAt
+  insert-made c d f q n at ec eq few ed en ea ef er =
+      rw (er, ef, ed, ec, moved-raised (memoryOf g b) k p q eq few, ea, en)

@@ -11,7 +11,7 @@ use Rattle.logic.specs.Machine.{State}
 use Rattle.logic.proofs.Base.{upds, by-word}
 use Rattle.memory.specs.View.{next, withPosition, joined}
 use Rattle.memory.specs.Memory.{first, writeAt, viewOf, covering}
-use Rattle.memory.specs.Access.{readView, loaded, put, stored, swapView, swapped}
+use Rattle.memory.specs.Access.{readFrom, readView, loaded, put, stored, swapFrom, swapView, swapped}
 use Rattle.memory.specs.Stands.{SameView, SameWrite, Stands, Named}
 use Rattle.memory.specs.declared.view.View.{View}
 use Rattle.memory.specs.declared.memory.Memory.{Memory}
@@ -46,7 +46,7 @@ module _ (m : Memory) (s : State) (st : Stands m s) (t k p : ℕ) (ht : t < 4) (
   both-same = join-same (viewOf m t) (s .view (suc t)) (st .views t ht) (writeAt m k p .stored) (s .row (suc k) p .stored) (here .stored)
 
   read-same : (a : Bool) → SameView (readView m a t k p) (Logic.readView s a (suc t) (suc k) p)
-  unfolding readView
+  unfolding readView readFrom
   read-same false = set-same (viewOf m t) (s .view (suc t)) (st .views t ht) k p hk
   read-same true = rw (here .releasing) (go (s .row (suc k) p .releasing))
     where
@@ -57,7 +57,7 @@ module _ (m : Memory) (s : State) (st : Stands m s) (t k p : ℕ) (ht : t < 4) (
       go false = set-same (viewOf m t) (s .view (suc t)) (st .views t ht) k p hk
 
   swap-same : SameView (swapView m t k p) (Logic.swapView s (suc t) (suc k) p)
-  unfolding swapView
+  unfolding swapView swapFrom
   swap-same = rw (here .releasing) (go (s .row (suc k) p .releasing))
     where
       go : (b : Bool)

@@ -4,7 +4,7 @@ use mathlib.Core.Path.{_≡_, refl, ap, sym, _∙_}
 use mathlib.Core.List.{List}
 use native.Mathlib.Omega.{arith}
 use native.Mathlib.Numerals.{add-one}
-use lib.ListN.{length, getD, set, take}
+use lib.ListN.{length, getD, set, take, replicate, length-replicate}
 use lib.Seq.{take-suc-set, take-length}
 use Rattle.columns.specs.Column.{column}
 use Rattle.columns.proofs.Listed.{column-none, column-step}
@@ -25,6 +25,9 @@ pub column-whole : {A : Type 0} (f : ℕ → A) (a : List A) (i n : ℕ) → i �
 column-whole f a i n h k l e =
     let q : i ≡ n = omega arith in
     sym (take-length a) ∙ ap (λ (j : ℕ). take j a) l ∙ rw q at e
+
+pub repeated : {A : Type 0} (n : ℕ) (x : A) → length (replicate n x) ≡ n
+repeated n x = length-replicate n x
 
 module _ (v w : View) (a : List ℕ) where
   pub join-begin : take 0 a ≡ joinedTo v w 0

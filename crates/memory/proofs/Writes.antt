@@ -1,30 +1,25 @@
 -- Writes and their places: the ways through the functions, one law for each.
-use Prim.Native.Nat.{ℕ}
-use mathlib.Core.Path.{_≡_, refl, ap}
+use Prim.Native.Nat.{ℕ, _<_}
+use mathlib.Core.Path.{_≡_, sym, _∙_}
 use mathlib.Core.List.{List}
-use mathlib.Core.Bool.{true, false}
-use lib.ListN.{getD, set}
-use Rattle.memory.specs.View.{startView, upView}
-use Rattle.memory.specs.Write.{noWrite, startWrite, upWrite, coveredWrite}
-use Rattle.memory.specs.Memory.{indexOf, writeAt, covering}
+use mathlib.Core.Bool.{false}
+use Rattle.memory.specs.View.{startView}
+use Rattle.memory.specs.Write.{startWrite}
+use Rattle.memory.specs.Table.{readAt, writesIn, coveredAt}
+use Rattle.memory.specs.Memory.{indexOf, writeAt, covering, memoryOf}
 use Rattle.memory.specs.declared.view.View.{View}
 use Rattle.memory.specs.declared.write.Write.{Write}
-use Rattle.memory.specs.declared.memory.Memory.{Memory}
+use Rattle.memory.specs.declared.memory.Sight.{Sight}
+use Rattle.memory.proofs.Bytes.{write-in}
 
 pub write-start : (n : ℕ) (v : View) → v ≡ startView → record { value = n; releasing = false; covered = false; stored = v } ≡ startWrite n
 write-start n v e = rw e
 
-pub write-up : (w : Write) (v : View) (k p : ℕ) → v ≡ upView k p (w .stored)
-    → record { value = w .value; releasing = w .releasing; covered = w .covered; stored = v } ≡ upWrite k p w
-unfolding upWrite
-write-up w v k p e = rw e
+module _ (g : Sight) (b : List ℕ) (k p i : ℕ) (e : i ≡ indexOf (g .sizes) k p) where
+  pub write-there : (w : Write) → i < 72 → w ≡ readAt b i → w ≡ writeAt (memoryOf g b) k p
+  unfolding writeAt memoryOf
+  write-there w h d = rw (← e) (d ∙ sym (write-in b i h))
 
-module _ (m : Memory) (k p i : ℕ) (e : i ≡ indexOf (m .sizes) k p) where
-  pub write-there : getD (m .writes) i noWrite ≡ writeAt m k p
-  unfolding writeAt
-  write-there = rw e
-
-  pub write-covered : (w : Write) → w ≡ coveredWrite (getD (m .writes) i noWrite)
-      → record { sizes = m .sizes; writes = set (m .writes) i w; views = m .views } ≡ covering m k p
-  unfolding covering writeAt
-  write-covered w d = rw (d, e)
+  pub write-covered : (c : List ℕ) → writesIn c ≡ coveredAt (writesIn b) i → memoryOf g c ≡ covering (memoryOf g b) k p
+  unfolding covering coveredAt writeAt memoryOf
+  write-covered c d = rw (d, e)

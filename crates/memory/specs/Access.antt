@@ -5,13 +5,15 @@ use Rattle.memory.specs.View.{next, withPosition, joined}
 use Rattle.memory.specs.Memory.{writeAt, viewOf, withView, covering}
 use Rattle.memory.specs.Insert.{inserted}
 use Rattle.memory.specs.declared.view.View.{View}
+use Rattle.memory.specs.declared.write.Write.{Write}
 use Rattle.memory.specs.declared.memory.Memory.{Memory}
 
--- if it acquires and the write is releasing, word by word the later of the thread's view and the stored one; else only that word moves
+-- from the view v a load of w: if it acquires and w is releasing, word by word the later of v and the stored one; else only that word moves
+unfoldable pub readFrom : Write → View → Bool → ℕ → ℕ → View
+readFrom w v acquires k p = cond acquires (cond (w .releasing) (joined v (w .stored)) (withPosition v k p)) (withPosition v k p)
+
 unfoldable pub readView : Memory → Bool → ℕ → ℕ → ℕ → View
-readView m acquires t k p =
-    cond acquires (cond (writeAt m k p .releasing) (joined (viewOf m t) (writeAt m k p .stored)) (withPosition (viewOf m t) k p))
-    (withPosition (viewOf m t) k p)
+readView m acquires t k p = readFrom (writeAt m k p) (viewOf m t) acquires k p
 
 unfoldable pub loaded : Memory → Bool → ℕ → ℕ → ℕ → Memory
 loaded m acquires t k p = withView m t (readView m acquires t k p)
@@ -25,9 +27,12 @@ put m releasing k n t p v =
 unfoldable pub stored : Memory → Bool → ℕ → ℕ → ℕ → ℕ → Memory
 stored m releasing k n t p = put m releasing k n t p (viewOf m t)
 
--- if the picked write is releasing, its stored view is joined in
+-- the view v before a swap of w: if w is releasing, its stored view is joined in
+unfoldable pub swapFrom : Write → View → View
+swapFrom w v = cond (w .releasing) (joined v (w .stored)) v
+
 unfoldable pub swapView : Memory → ℕ → ℕ → ℕ → View
-swapView m t k p = cond (writeAt m k p .releasing) (joined (viewOf m t) (writeAt m k p .stored)) (viewOf m t)
+swapView m t k p = swapFrom (writeAt m k p) (viewOf m t)
 
 -- a releasing store that also covers the picked write
 unfoldable pub swapped : Memory → ℕ → ℕ → ℕ → ℕ → Memory

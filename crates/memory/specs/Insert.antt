@@ -10,24 +10,22 @@ use Rattle.memory.specs.Memory.{indexOf, sizeAt}
 use Rattle.memory.specs.declared.view.View.{View}
 use Rattle.memory.specs.declared.write.Write.{Write}
 use Rattle.memory.specs.declared.memory.Memory.{Memory}
+use Rattle.memory.specs.declared.memory.Sight.{Sight}
 
 -- the first n places
 unfoldable pub movedTo : Memory → ℕ → ℕ → ℕ → List Write
 movedTo m k p n = column (λ j. upWrite k p (getD (m .writes) (down (indexOf (m .sizes) k p) j) noWrite)) n
 
-unfoldable pub movedWrites : Memory → ℕ → ℕ → Memory
-movedWrites m k p = record { sizes = m .sizes; writes = movedTo m k p 72; views = m .views }
-
 -- the first n threads
-unfoldable pub viewsTo : Memory → ℕ → ℕ → ℕ → List View
-viewsTo m k p n = column (λ j. upView k p (getD (m .views) j noView)) n
+unfoldable pub viewsTo : List View → ℕ → ℕ → ℕ → List View
+viewsTo l k p n = column (λ j. upView k p (getD l j noView)) n
 
-unfoldable pub movedViews : Memory → ℕ → ℕ → Memory
-movedViews m k p = record { sizes = m .sizes; writes = m .writes; views = viewsTo m k p 4 }
+unfoldable pub grown : Sight → ℕ → ℕ → Sight
+grown g k p = record { sizes = set (g .sizes) (k % 8) (next (getD (g .sizes) (k % 8) 0)); views = viewsTo (g .views) k p 4 }
 
 unfoldable pub inserted : Memory → ℕ → ℕ → Write → Memory
 inserted m k p w = record {
   sizes = set (m .sizes) (k % 8) (next (sizeAt m k));
   writes = set (movedTo m k p 72) (indexOf (m .sizes) k (next p)) w;
-  views = viewsTo m k p 4;
+  views = viewsTo (m .views) k p 4;
 }

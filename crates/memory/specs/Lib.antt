@@ -1,5 +1,6 @@
 pub mod View
 pub mod Write
+pub mod Table
 pub mod Memory
 pub mod Insert
 pub mod Stands

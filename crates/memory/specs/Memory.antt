@@ -5,7 +5,9 @@ use lib.ListN.{getD, set}
 use Rattle.memory.specs.Write.{noView, noWrite, coveredWrite}
 use Rattle.memory.specs.declared.view.View.{View}
 use Rattle.memory.specs.declared.write.Write.{Write}
+use Rattle.memory.specs.Table.{writesIn}
 use Rattle.memory.specs.declared.memory.Memory.{Memory}
+use Rattle.memory.specs.declared.memory.Sight.{Sight}
 
 -- where the row of word k begins: the sum of the sizes before
 unfoldable pub first : List ℕ → ℕ → ℕ
@@ -32,3 +34,14 @@ withView m t v = record { sizes = m .sizes; writes = m .writes; views = set (m .
 unfoldable pub covering : Memory → ℕ → ℕ → Memory
 covering m k p =
     record { sizes = m .sizes; writes = set (m .writes) (indexOf (m .sizes) k p) (coveredWrite (writeAt m k p)); views = m .views }
+
+-- SIZES AND VIEWS APART FROM A TABLE OF BYTES
+
+unfoldable pub memoryOf : Sight → List ℕ → Memory
+memoryOf g b = record { sizes = g .sizes; writes = writesIn b; views = g .views }
+
+unfoldable pub seenBy : Sight → ℕ → View
+seenBy g t = getD (g .views) (t % 4) noView
+
+unfoldable pub withSeen : Sight → ℕ → View → Sight
+withSeen g t v = record { sizes = g .sizes; views = set (g .views) (t % 4) v }

@@ -1,6 +1,8 @@
 // The shared memory of the machine: rows of writes, and each thread's view.
 pub mod access;
 pub mod insert;
+pub mod layout;
 pub mod memory;
+pub mod table;
 pub mod view;
 pub mod write;

@@ -14,11 +14,10 @@ use Rattle.program.specs.declared.sizes.Sizes.{Sizes}
 use Rattle.content.specs.Program.{programOf}
 use Rattle.content.proofs.Checked.{Checks}
 use Rattle.machine.specs.Stands.{adds}
-use Rattle.replay.specs.Step.{refused, stepped}
+use Rattle.replay.specs.Step.{Stepped, refused, stepped}
 use Rattle.replay.specs.Run.{ran}
 use Rattle.replay.specs.Outcome.{used, refusal, Outcome, replayed, stepsIn}
 use Rattle.replay.specs.declared.states.Machine.{Machine}
-use Rattle.replay.specs.declared.step.Stepped.{Stepped}
 use Rattle.replay.specs.declared.run.Run.{Run}
 use Rattle.replay.proofs.Following.{Ready, step-is}
 

@@ -3,7 +3,7 @@ use Prim.Native.Nat.{ℕ, _+_, _%_, _≤_, _<_}
 use mathlib.Core.Path.{_≡_, refl, ap, sym, _∙_}
 use mathlib.Core.Bool.{Bool, true, false}
 use mathlib.Core.List.{List}
-use lib.ListN.{length, getD, set, take, replicate, length-replicate}
+use lib.ListN.{length, getD, set, take, replicate}
 use borrow.Author.Tests.{ne-eqb, le-ltb}
 use Rattle.limits.specs.Numbers.{nth}
 use Rattle.program.specs.Header.{startValues, cleared}
@@ -13,7 +13,7 @@ use Rattle.memory.specs.Write.{startWrite}
 use Rattle.memory.specs.declared.view.View.{View}
 use Rattle.memory.specs.declared.write.Write.{Write}
 use Rattle.memory.specs.declared.memory.Memory.{Memory}
-use Rattle.memory.proofs.Views.{column-set, column-whole}
+use Rattle.memory.proofs.Views.{column-set, column-whole, repeated}
 use Rattle.machine.specs.declared.locals.Registers.{Registers}
 use Rattle.replay.specs.Start.{startWrites, startMemory, startRegister, startValuesTo, startRegisters, started}
 use Rattle.replay.specs.declared.states.Machine.{Machine}
@@ -65,9 +65,6 @@ module _ (b : List ℕ) where
         → record { memory = m; registers = h; points = replicate 4 0 } ≡ started b R given
     unfolding started
     machine-made m h e d = rw (e, d)
-
-pub repeated : {A : Type 0} (n : ℕ) (x : A) → length (replicate n x) ≡ n
-repeated n x = length-replicate n x
 
 pub ruleset writings = (writes-begin, writes-more, writes-end, repeated)
 

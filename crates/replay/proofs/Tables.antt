@@ -5,7 +5,7 @@ use mathlib.Core.Bool.{Bool, true, false, cond}
 use mathlib.Core.List.{List, []}
 use native.Mathlib.Omega.{arith}
 use lib.Dec.{ltb}
-use lib.ListN.{length, getD, set, take, replicate, length-replicate, List·getD-eq-default}
+use lib.ListN.{length, getD, set, take, List·getD-eq-default}
 use borrow.Author.Tests.{ltb-true, ltb-false}
 use Rattle.columns.specs.Column.{column}
 use Rattle.columns.proofs.Listed.{column-none, column-length, column-getD}
@@ -15,7 +15,7 @@ use Rattle.logic.specs.Machine.{State}
 use Rattle.memory.specs.Stands.{SameWrite, Stands}
 use Rattle.memory.specs.declared.write.Write.{Write}
 use Rattle.memory.specs.declared.memory.Memory.{Memory}
-use Rattle.memory.proofs.Views.{column-set, column-whole}
+use Rattle.memory.proofs.Views.{column-set, column-whole, repeated}
 use Rattle.memory.proofs.Places.{row-ends, place}
 use Rattle.memory.proofs.Standing.{size-is}
 use Rattle.replay.specs.Refusal.{total}
@@ -60,9 +60,6 @@ module _ (m : Memory) (words : ℕ) where
       → record { writes = a } ≡ packed m words
   unfolding packed packedTo
   pack-end a e h g l t = rw (← column-whole entry a e 64 h g l t)
-
-pub repeated : {A : Type 0} (n : ℕ) (x : A) → length (replicate n x) ≡ n
-repeated n x = length-replicate n x
 
 pub ruleset packs = (pack-begin, pack-more, pack-end, repeated)
 

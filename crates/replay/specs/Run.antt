@@ -1,12 +1,14 @@
 -- The steps of a trace, two bytes each, until one is refused; half a step is 27.
 use Prim.Native.Nat.{ℕ, _+_}
-use mathlib.Core.Bool.{Bool, true, false}
+use mathlib.Core.Bool.{true, false}
 use mathlib.Core.List.{List, [], _∷_}
 use lib.Dec.{eqb}
 use Rattle.program.specs.declared.sizes.Sizes.{Sizes}
+use Rattle.replay.specs.State.{machineOf}
 use Rattle.replay.specs.Step.{stepped}
 use Rattle.replay.specs.declared.states.Machine.{Machine}
 use Rattle.replay.specs.declared.run.Run.{Run}
+use Rattle.replay.specs.declared.run.Reached.{Reached}
 
 -- from the state n on, k steps having been taken
 unfoldable pub ran : List ℕ → Sizes → ℕ → Machine → ℕ → List ℕ → Run
@@ -17,3 +19,7 @@ ran s z room n k (t ∷ p ∷ l) =
       | true ↦ ran s z room (stepped s z room n t p .machine) (k + 1) l
       | false ↦ record { code = stepped s z room n t p .code; steps = k; machine = n }
     ]
+
+-- apart from a table of bytes
+unfoldable pub runOf : Reached → List ℕ → Run
+runOf r b = record { code = r .code; steps = r .steps; machine = machineOf (r .threads) b }

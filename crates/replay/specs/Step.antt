@@ -15,10 +15,19 @@ use Rattle.evaluate.specs.Work.{workedT}
 use Rattle.machine.specs.Deed.{deedOf}
 use Rattle.machine.specs.declared.deed.Deed.{Deed}
 use Rattle.machine.specs.declared.locals.Registers.{Registers}
-use Rattle.replay.specs.State.{pointOf, performed}
+use Rattle.replay.specs.State.{pointOf, performed, machineOf}
 use Rattle.replay.specs.Refusal.{pickRefusal}
 use Rattle.replay.specs.declared.states.Machine.{Machine}
-use Rattle.replay.specs.declared.step.Stepped.{Stepped}
+use Rattle.replay.specs.declared.step.Taken.{Taken}
+
+-- the state after a step, and why it was refused
+pub record Stepped : Type 0 where
+  pub code : ℕ
+  pub machine : Machine
+
+-- apart from a table of bytes
+unfoldable pub takenOf : Taken → List ℕ → Stepped
+takenOf r b = record { code = r .code; machine = machineOf (r .threads) b }
 
 abbrev pub refused : ℕ → Machine → Stepped
 refused code n = record { code = code; machine = n }

@@ -2,10 +2,13 @@
 use machine::deed::Deed;
 use machine::shared::may_pick;
 use memory::memory::Memory;
+use memory::memory::Sight;
 use memory::memory::first_of;
+use memory::table::Places;
 use program::instruction::Instruction;
 ghost use mathlib.Core.Path.{_≡_};
 ghost use Prim.Native.Nat.{_≤_, _*_};
+ghost use Rattle.memory.specs.Memory.{memoryOf};
 ghost use Rattle.replay.specs.Refusal.{total, adding, pickRefusal};
 
 pub struct Refusal {}
@@ -45,12 +48,21 @@ fn is_adding(operation: u8) -> bool
 }
 
 // Why thread t may not do the deed at position p; 0 if it may.
-pub fn pick_refusal(m: Memory, words: u8, room: usize, d: Deed, t: u8, p: u8) -> u8
-    ensures { λ r. ⌜ r ≡ pickRefusal m words room d t p ⌝ }
+pub fn pick_refusal(
+    table: &[u8; Places::BYTES],
+    g: Sight,
+    words: u8,
+    room: usize,
+    d: Deed,
+    t: u8,
+    p: u8,
+) -> u8
+    ensures { λ r. ⌜ r ≡ pickRefusal (memoryOf g (now (table .entry))) words room d t p ⌝ }
 {
-    if may_pick(m, d, t, p) {
+    if may_pick(table, g, d, t, p) {
         if is_adding(d.operation) {
-            if total_of(m, words) < room {
+            let sizes = g.sizes;
+            if first_of(&sizes, words) < room {
                 return Refusal::ACCEPTED;
             }
             return Refusal::ROOM;

@@ -1,7 +1,7 @@
 // One step of a trace: refused, or taken.
 use crate::pick::Refusal;
 use crate::pick::pick_refusal;
-use crate::states::Machine;
+use crate::states::Threads;
 use crate::states::perform;
 use crate::states::point_of;
 use content::position::formula_at;
@@ -11,17 +11,20 @@ use machine::deed::Deed;
 use machine::deed::before;
 use machine::deed::deed_of;
 use machine::locals::Registers;
+use memory::table::Places;
 use program::sizes::Sizes;
 use program::thread::last_point;
 use records::place::instruction_of;
 ghost use mathlib.Core.Path.{_≡_};
+ghost use lib.ListN.{length};
 ghost use Rattle.index.specs.Table.{indexOf};
-ghost use Rattle.replay.specs.Step.{valueAt, deedAt, lastOf, attempted, stepped};
+ghost use Rattle.replay.specs.State.{machineOf};
+ghost use Rattle.replay.specs.Step.{valueAt, deedAt, lastOf, attempted, stepped, takenOf};
 
 // The state after a step, and why it was refused: then the state stays.
-pub struct Stepped {
+pub struct Taken {
     pub code: u8,
-    pub machine: Machine,
+    pub threads: Threads,
 }
 
 // The value of formula k at the registers.
@@ -56,54 +59,64 @@ fn last_of<'a, 'b>(s: &'a [u8], ix: &'b [usize], z: Sizes, t: u8) -> usize
 }
 
 // A deed of thread t, counted from 0, at position p.
-fn attempt(z: Sizes, room: usize, n: Machine, d: Deed, t: u8, p: u8) -> Stepped
-    ensures { λ r. ⌜ r ≡ attempted z room n d t p ⌝ }
+fn attempt(
+    z: Sizes,
+    room: usize,
+    n: Threads,
+    d: Deed,
+    t: u8,
+    p: u8,
+    table: &mut [u8; Places::BYTES],
+) -> Taken
+    requires { ⌜ length (now table) ≡ 792 ⌝ }
+    ensures { λ r. ⌜ takenOf r (now (table .exit)) ≡ attempted z room (machineOf n (now (table .entry))) d t p ⌝ }
+    ensures { λ _. ⌜ length (now (table .exit)) ≡ 792 ⌝ }
 {
-    let m = n.memory;
-    let code = pick_refusal(m, z.words, room, d, t, p);
+    let code = pick_refusal(table, n.sight, z.words, room, d, t, p);
     if code == Refusal::ACCEPTED {
-        return Stepped {
+        return Taken {
             code,
-            machine: perform(n, z.range, d, t, p),
+            threads: perform(n, z.range, d, t, p, table),
         };
     }
-    Stepped { code, machine: n }
+    Taken { code, threads: n }
 }
 
 // A step of thread t at position p, with so many places for writes.
-pub fn step<'a, 'b>(
+pub fn step<'a, 'b, 'c>(
     s: &'a [u8],
     ix: &'b [usize],
     z: Sizes,
     room: usize,
-    n: Machine,
+    n: Threads,
     t: u8,
     p: u8,
-) -> Stepped
-    requires { ⌜ now ix ≡ indexOf (now s) ⌝ }
-    ensures { λ r. ⌜ r ≡ stepped (now (s .entry)) z room n t p ⌝ }
+    table: &'c mut [u8; Places::BYTES],
+) -> Taken
+    requires { ⌜ (now ix ≡ indexOf (now s)) × (length (now table) ≡ 792) ⌝ }
+    ensures { λ r. ⌜ takenOf r (now (table .exit)) ≡ stepped (now (s .entry)) z room (machineOf n (now (table .entry))) t p ⌝ }
+    ensures { λ _. ⌜ length (now (table .exit)) ≡ 792 ⌝ }
 {
     if t == 0 {
-        return Stepped {
+        return Taken {
             code: Refusal::THREAD,
-            machine: n,
+            threads: n,
         };
     }
     if z.threads < t {
-        return Stepped {
+        return Taken {
             code: Refusal::THREAD,
-            machine: n,
+            threads: n,
         };
     }
     let u = before(t);
     let k = point_of(n, u);
     if last_of(s, ix, z, t) <= (k as usize) {
-        return Stepped {
+        return Taken {
             code: Refusal::THREAD,
-            machine: n,
+            threads: n,
         };
     }
-    let h = n.registers;
-    let d = deed_at(s, ix, z, h, t, k);
-    attempt(z, room, n, d, u, p)
+    let d = deed_at(s, ix, z, n.registers, t, k);
+    attempt(z, room, n, d, u, p, table)
 }

@@ -14,6 +14,7 @@ use Rattle.report.proofs.Copies.{copy-more}
 use Rattle.columns.specs.Column.{column}
 use Rattle.columns.proofs.Listed.{column-length, column-getD}
 use Rattle.memory.specs.Write.{noWrite, startWrite}
+use Rattle.memory.specs.Table.{bit}
 use Rattle.memory.specs.declared.write.Write.{Write}
 use Rattle.memory.specs.declared.memory.Memory.{Memory}
 use Rattle.replay.specs.Refusal.{total}
@@ -23,7 +24,7 @@ use Rattle.replay.specs.declared.table.Packed.{Packed}
 use Rattle.replay.specs.declared.whole.Replayed.{Replayed}
 use Rattle.replay.proofs.Tables.{entries-length}
 use Rattle.replaying.specs.Answer.{size, answerOf, numbersOf}
-use Rattle.replaying.specs.Table.{shownIn, shownOf, shownBy, writeIn, putTo, placed, bit, entryBytes, tableBytes, laid}
+use Rattle.replaying.specs.Table.{shownIn, shownOf, shownBy, writeIn, putTo, placed, entryBytes, tableBytes, laid}
 use Rattle.replaying.specs.declared.answer.Answer.{Answer}
 use Rattle.replaying.specs.declared.shown.Shown.{Shown}
 

@@ -1,11 +1,12 @@
 -- The table of writes, and the same as bytes.
-use mathlib.Core.Bool.{Bool, cond}
+use mathlib.Core.Bool.{cond}
 use mathlib.Core.List.{List, [], _∷_, _++_}
 use Prim.Native.Nat.{ℕ, zero, suc, _*_, _/_, _%_}
 use lib.Dec.{ltb}
 use lib.ListN.{length, getD, set, take, drop}
 use Rattle.columns.specs.Column.{column}
 use Rattle.memory.specs.Write.{noWrite}
+use Rattle.memory.specs.Table.{bit}
 use Rattle.memory.specs.declared.write.Write.{Write}
 use Rattle.memory.specs.declared.memory.Memory.{Memory}
 use Rattle.replay.specs.Table.{entries, packed}
@@ -41,9 +42,6 @@ unfoldable pub placed : List Write → List Write → List Write
 placed l table = l ++ drop (length l) table
 
 -- AS BYTES
-
-abbrev pub bit : Bool → ℕ
-bit b = cond b 1 0
 
 -- eleven for a write: value, releasing, covered, a position for each of eight words
 unfoldable pub entryBytes : Write → List ℕ

@@ -1,23 +1,18 @@
 // The table of writes as bytes: an entry of eleven for each write.
 use crate::shown::Shown;
+use memory::table::bit;
 use memory::write::Write;
 ghost use mathlib.Core.Path.{_≡_};
 ghost use mathlib.Core.List.{_++_};
 ghost use Prim.Native.Nat.{_≤_, _*_};
 ghost use lib.ListN.{length, getD, take, drop};
-ghost use Rattle.replaying.specs.Table.{bit, entryBytes, laid};
+ghost use Rattle.replaying.specs.Table.{entryBytes, laid};
 
 pub struct Entry {}
 
 impl Entry {
     // Value, releasing, covered, and a position for each of eight words.
     pub const SIZE: usize = 11;
-}
-
-fn bit(b: bool) -> u8
-    ensures { λ r. ⌜ r ≡ bit b ⌝ }
-{
-    if b { 1 } else { 0 }
 }
 
 // A byte of an entry.

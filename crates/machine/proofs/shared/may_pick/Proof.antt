@@ -1,3 +1,4 @@
+use Rattle.machine.proofs.Ways.{picks}
 use Rattle.machine.specs.Shared.{mayPick}
 use Rattle.limits.proofs.Auto.{tests}
 use borrow.Author.Needs.{needs}
@@ -13,8 +14,8 @@ may-pick-spec =
     (λ c. search tests)
     (λ c. search tests)
     (λ c κs. search needs)
-    (λ c. search tests)
+    (λ c. search (picks, tests))
     (λ c κs. search needs)
-    (λ c. search tests)
+    (λ c. search (picks, tests))
     (λ c κs. search needs)
     (λ c. search tests))

@@ -9,8 +9,6 @@ read-view-spec =
     tie.close
     (tie.spec
     (λ c κs. search needs)
-    (λ c κs. search needs)
-    (λ c κs. search needs)
     (λ c. search (reads, tests))
     (λ c κs. search needs)
     (λ c. search (reads, tests))

@@ -5,4 +5,12 @@ use Rattle.memory.proofs.access.swap.Statement.{statement}
 use Rattle.memory.proofs.access.swap.Tie as tie
 
 pub swap-spec : {M : Type 1} → statement M
-swap-spec = tie.close (tie.spec (λ c κs. search needs) (λ c κs. search needs) (λ c κs. search needs) (λ c. search (swap-made, tests)))
+swap-spec =
+    tie.close
+    (tie.spec
+    (λ c κs. search needs)
+    (λ c κs. search needs)
+    (λ c κs. search needs)
+    (λ c κs. search needs)
+    (λ c κs. search (swap-made, tests))
+    (λ c. (search (swap-made, tests), search tests)))

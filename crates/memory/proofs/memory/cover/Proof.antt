@@ -10,9 +10,5 @@ cover-spec =
     (tie.spec
     (λ c. search needs)
     (λ c κs. search needs)
-    (λ c. search needs)
-    (λ c. search needs)
     (λ c κs. search needs)
-    (λ c. search needs)
-    (λ c. search needs)
-    (λ c. search (write-covered, tests)))
+    (λ c. (search (write-covered, tests), search tests)))

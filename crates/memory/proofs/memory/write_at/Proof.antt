@@ -6,5 +6,4 @@ use Rattle.memory.proofs.memory.write_at.Tie as tie
 
 pub write-at-spec : {M : Type 1} → statement M
 write-at-spec =
-    tie.close
-    (tie.spec (λ c. search needs) (λ c κs. search needs) (λ c. search needs) (λ c. search needs) (λ c. search (write-there, tests)))
+    tie.close (tie.spec (λ c. search needs) (λ c κs. search needs) (λ c κs. search needs) (λ c. search (write-there, tests)))

@@ -10,6 +10,7 @@ pick-refusal-spec =
     (tie.spec
     (λ c κs. search needs)
     (λ c κs. search needs)
+    (λ c. search needs)
     (λ c κs. search needs)
     (λ c. search (picks, tests))
     (λ c. search (picks, tests))

@@ -15,4 +15,4 @@ perform-spec =
     (λ c. search needs)
     (λ c κs. search needs)
     (λ c κs. search needs)
-    (λ c. search (perform-made, tests)))
+    (λ c. (search (perform-made, tests), search tests)))

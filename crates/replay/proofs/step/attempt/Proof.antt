@@ -6,4 +6,9 @@ use Rattle.replay.proofs.step.attempt.Tie as tie
 
 pub attempt-spec : {M : Type 1} → statement M
 attempt-spec =
-    tie.close (tie.spec (λ c κs. search needs) (λ c κs. search needs) (λ c. search (attempts, tests)) (λ c. search (attempts, tests)))
+    tie.close
+    (tie.spec
+    (λ c κs. search needs)
+    (λ c κs. search needs)
+    (λ c. (search (attempts, tests), search tests))
+    (λ c. (search (attempts, tests), search tests)))

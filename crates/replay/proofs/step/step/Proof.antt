@@ -8,13 +8,13 @@ pub step-spec : {M : Type 1} → statement M
 step-spec =
     tie.close
     (tie.spec
-    (λ c. search (steps, tests))
-    (λ c. search (steps, tests))
+    (λ c. (search (steps, tests), search tests))
+    (λ c. (search (steps, tests), search tests))
     (λ c κs. search needs)
     (λ c κs. search needs)
     (λ c κs. search needs)
     (λ c. search needs)
-    (λ c. search (steps, tests))
+    (λ c. (search (steps, tests), search tests))
     (λ c κs. search needs)
     (λ c κs. search needs)
-    (λ c. search (steps, tests)))
+    (λ c. (search (steps, tests), search tests)))

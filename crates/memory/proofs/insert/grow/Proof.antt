@@ -4,17 +4,17 @@ use Rattle.limits.proofs.Auto.{tests}
 use Prim.Native.Nat.{_≤_, _-_}
 use mathlib.Core.Path.{_≡_}
 use lib.ListN.{take, length}
-use Rattle.memory.proofs.insert.move_views.Statement.{statement}
-use Rattle.memory.proofs.insert.move_views.Tie as tie
+use Rattle.memory.proofs.insert.grow.Statement.{statement}
+use Rattle.memory.proofs.insert.grow.Tie as tie
 
 abbrev Inv-loop : tie.InvT-loop
-Inv-loop k p m views₀ j₀ views j = (j ≤ 4) × ((take j views ≡ viewsTo m k p j) × (length views ≡ 4))
+Inv-loop k p g views₀ j₀ views j = (j ≤ 4) × ((take j views ≡ viewsTo (g .views) k p j) × (length views ≡ 4))
 
 abbrev μ-loop : tie.MeasureT-loop
-μ-loop k p m views₀ j₀ views j = 4 - j
+μ-loop k p g views₀ j₀ views j = 4 - j
 
-pub move-views-spec : {M : Type 1} → statement M
-move-views-spec =
+pub grow-spec : {M : Type 1} → statement M
+grow-spec =
     tie.close
     (tie.spec
     Inv-loop
@@ -29,4 +29,8 @@ move-views-spec =
     (λ c. search (view-moves, tests))
     (λ c. search (view-moves, tests))
     (λ c. (search tests, (search (view-moves, tests), search (view-moves, tests))))
+    (λ c. search (view-moves, tests))
+    (λ c. search (view-moves, tests))
+    (λ c κs. search (view-moves, tests))
+    (λ c. search (view-moves, tests))
     (λ c. search (view-moves, tests)))
