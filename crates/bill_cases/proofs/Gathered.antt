@@ -11,7 +11,7 @@ use Rattle.charges.specs.declared.tariff.Tariff.{Tariff}
 use Rattle.stored.specs.Tally.{withCase}
 use Rattle.stored.specs.declared.tally.Tally.{Tally}
 use Rattle.stored.proofs.Tallies.{Running, running-none, running-more, running-over}
-use Rattle.bill_cases.specs.Answer.{most, room, tariffAt, billedAt, lentAt, sameAnswer}
+use Rattle.bill_answers.specs.Answer.{most, room, tariffAt, billedAt, lentAt, sameAnswer}
 use Rattle.bill_cases.specs.Judge.{Counted}
 
 pub call-stored : (image s answer after : List ℕ) (f : Tariff) (n code : ℕ) → f ≡ tariffAt s → n ≡ billedAt s

@@ -6,7 +6,7 @@ use lib.ListN.{take, drop}
 use Rattle.pricing.specs.Promise.{Written}
 use Rattle.stored.specs.Tally.{withCase}
 use Rattle.stored.specs.declared.tally.Tally.{Tally}
-use Rattle.bill_cases.specs.Answer.{tariffAt, billedAt, room, lentAt, sameAnswer}
+use Rattle.bill_answers.specs.Answer.{tariffAt, billedAt, room, lentAt, sameAnswer}
 
 -- of an image and what is stored of its bill: by the code answered, and by whether code and room are as stored
 pub record Counted (image s : List ℕ) (t r : Tally) : Type 0 where

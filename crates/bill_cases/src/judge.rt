@@ -1,10 +1,10 @@
 // The cases of a file: an image as the body, what it is billed by and its bill as the tail.
-use crate::answer::Room;
-use crate::answer::Stored;
-use crate::answer::billed_at;
-use crate::answer::lent_at;
-use crate::answer::same_answer;
-use crate::answer::tariff_at;
+use bill_answers::answer::Room;
+use bill_answers::answer::Stored;
+use bill_answers::answer::billed_at;
+use bill_answers::answer::lent_at;
+use bill_answers::answer::same_answer;
+use bill_answers::answer::tariff_at;
 use billing::into::bill_into;
 use limits::Limits;
 use stored::case::Next;
@@ -20,7 +20,7 @@ ghost use lib.ListN.{length};
 ghost use Rattle.limits.specs.Limits.{imageBytes};
 ghost use Rattle.pricing.specs.Promise.{Written};
 ghost use Rattle.stored.specs.Tallied.{FromCases};
-ghost use Rattle.bill_cases.specs.Answer.{tariffAt, billedAt, room};
+ghost use Rattle.bill_answers.specs.Answer.{tariffAt, billedAt, room};
 ghost use Rattle.bill_cases.specs.Judge.{Counted};
 
 // The call that is stored.

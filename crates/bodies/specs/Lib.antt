@@ -1,6 +1,4 @@
 pub mod Formula
-pub mod Use
-pub mod Thread
 pub mod Lists
 pub mod Line
 pub mod Outlined

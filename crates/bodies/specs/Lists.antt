@@ -11,7 +11,7 @@ use Rattle.frames.specs.declared.fault.Checked.the-variants.{Passed}
 use Rattle.program.specs.declared.sizes.Sizes.{Sizes}
 use Rattle.records.specs.List.{exactly}
 use Rattle.records.specs.Tally.{tally, obligationCount}
-use Rattle.bodies.specs.Use.{outlined}
+use Rattle.thread_bodies.specs.Use.{outlined}
 
 -- formula k is body k of the image
 unfoldable pub outlinedAt : List (List ℕ) → ℕ → Bool

@@ -3,5 +3,3 @@ pub mod formula_body;
 pub mod line_body;
 pub mod list_body;
 pub mod outlined;
-pub mod thread_body;
-pub mod use_of;

@@ -1,6 +1,5 @@
 // A line's record: its numbers, then its formulas.
 use crate::outlined::formula_outlined;
-use crate::use_of::is_sort;
 use formula::code::Place;
 use frames::fault::Checked;
 use frames::fault::Fault;
@@ -10,6 +9,7 @@ use program::sizes::Sizes;
 use records::line::Form;
 use records::line::check_line_numbers;
 use records::line::line_form;
+use thread_bodies::use_of::is_sort;
 ghost use mathlib.Core.Path.{_≡_};
 ghost use Rattle.frames.specs.Records.{bodies};
 ghost use Rattle.index.specs.Table.{indexOf};

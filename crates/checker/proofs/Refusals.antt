@@ -25,9 +25,9 @@ use Rattle.frames.specs.declared.walk.Framing.the-variants as Framing
 use Rattle.frames.proofs.Passed.{framed}
 use Rattle.frames.proofs.Counted.{counts-few}
 use Rattle.program.specs.declared.sizes.Sizes.{Sizes}
-use Rattle.program.specs.Header as Header
-use Rattle.program.specs.Header.{valueRange, startValues, owners, marks, headed, header}
-use Rattle.program.proofs.Laws.Header.{counted-in}
+use Rattle.header.specs.Header as Header
+use Rattle.header.specs.Header.{valueRange, startValues, owners, marks, headed, header}
+use Rattle.header.proofs.Laws.{counted-in}
 use Rattle.image.specs.Body.{placeOf, check}
 use Rattle.image.specs.Decode as Decode
 use Rattle.image.specs.Decode.{recordCount, sizesOf, firstFault, behindFrames, decoded}

@@ -22,10 +22,10 @@ use Rattle.content.proofs.Checked.{sound-checks}
 use Rattle.marks.specs.declared.Marks.{Marks}
 use Rattle.justify.specs.Pass.{marksTo}
 use Rattle.justify.proofs.Justified.{marks-are}
-use Rattle.judging.specs.Claims.{firstDenied}
-use Rattle.judging.specs.Judge.{judgeAt, toOutcome}
-use Rattle.judging.specs.declared.outcome.Outcome.{Outcome}
-use Rattle.judging.specs.declared.outcome.Outcome.the-variants.{Met, Failed}
+use Rattle.outcomes.specs.Claims.{firstDenied}
+use Rattle.outcomes.specs.Judge.{judgeAt, toOutcome}
+use Rattle.outcomes.specs.declared.outcome.Outcome.{Outcome}
+use Rattle.outcomes.specs.declared.outcome.Outcome.the-variants.{Met, Failed}
 use Rattle.judging.proofs.Agreed.{judged-is, claims-are}
 use Rattle.report.specs.declared.obligation.Obligation.{Obligation}
 use Rattle.report.specs.declared.obligation.Place.{Place}

@@ -12,10 +12,10 @@ use Rattle.content.specs.Program.{programOf}
 use Rattle.content.specs.declared.claim.Claimed.{Claimed}
 use Rattle.marks.specs.declared.Marks.{Marks}
 use Rattle.justify.specs.Pass.{marksTo}
-use Rattle.judging.specs.Claims.{firstDenied}
-use Rattle.judging.specs.Judge.{judgeAt}
-use Rattle.judging.specs.declared.outcome.Outcome.{Outcome}
-use Rattle.judging.specs.declared.outcome.Outcome.the-variants.{Met, Failed}
+use Rattle.outcomes.specs.Claims.{firstDenied}
+use Rattle.outcomes.specs.Judge.{judgeAt}
+use Rattle.outcomes.specs.declared.outcome.Outcome.{Outcome}
+use Rattle.outcomes.specs.declared.outcome.Outcome.the-variants.{Met, Failed}
 use Rattle.report.specs.declared.obligation.Place.{Place}
 use Rattle.report.specs.declared.verdict.Verdict.{Verdict}
 use Rattle.report.specs.declared.verdict.Verdict.the-variants as Verdict

@@ -15,11 +15,11 @@ use Rattle.frames.specs.declared.fault.Checked.the-variants.{Passed, Faulty}
 use Rattle.frames.specs.declared.walk.Framing.{Framing}
 use Rattle.frames.specs.declared.walk.Framing.the-variants as Framing
 use Rattle.program.specs.declared.sizes.Sizes.{Sizes}
-use Rattle.program.specs.Header.{header}
+use Rattle.header.specs.Header.{header}
 use Rattle.records.specs.Places.{threadBody}
 use Rattle.records.specs.Claim as Claims
 use Rattle.bodies.specs.Formula as Formulas
-use Rattle.bodies.specs.Thread as Threads
+use Rattle.thread_bodies.specs.Thread as Threads
 use Rattle.bodies.specs.Lists as Lists
 use Rattle.bodies.specs.Line as Lines
 use Rattle.image.specs.declared.body.Place.the-variants.{Formula, Thread, Outline, Line, Obligations, Claim}

@@ -21,9 +21,9 @@ use Rattle.formula.specs.declared.reader.Reading.the-variants as Reading
 use Rattle.frames.specs.declared.fault.Checked.the-variants.{Passed}
 use Rattle.occurs.specs.Occurs.{occurs, register, start, shared}
 use Rattle.program.specs.declared.sizes.Sizes.{Sizes}
-use Rattle.program.specs.Header.{valueRange}
+use Rattle.header.specs.Header.{valueRange}
 use Rattle.image.specs.Decode.{sizesOf}
-use Rattle.bodies.specs.Use.{treeOf, startless, plain}
+use Rattle.thread_bodies.specs.Use.{treeOf, startless, plain}
 use Rattle.bodies.specs.Formula as Formulas
 use Rattle.bodies.specs.Formula.{countsOf, faultOf, read}
 use Rattle.trees.specs.ToTree.{toTree, ofTree, Sorted}

@@ -20,7 +20,7 @@ use Rattle.formula.specs.Tree.{ParsedTree, nodeAt, parseTree}
 use Rattle.program.specs.declared.sizes.Sizes.{Sizes}
 use Rattle.bodies.specs.Formula as Formulas
 use Rattle.bodies.specs.Formula.{countsOf}
-use Rattle.bodies.specs.Use.{treeOf}
+use Rattle.thread_bodies.specs.Use.{treeOf}
 use Rattle.trees.specs.ToTree.{toTree}
 use Rattle.trees.proofs.Part.{part-reading}
 use Rattle.content.specs.Places.{bodyStart, formulaAt}

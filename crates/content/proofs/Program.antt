@@ -26,17 +26,17 @@ use Rattle.program.specs.declared.sizes.Sizes.{Sizes}
 use Rattle.program.specs.declared.instruction.Half.{Half}
 use Rattle.program.specs.declared.instruction.Instruction.{Instruction}
 use Rattle.program.specs.declared.instruction.Fields.{Fields}
-use Rattle.program.specs.Header.{startValues, owners, marks, counted, headed, header}
+use Rattle.header.specs.Header.{startValues, owners, marks, counted, headed, header}
 use Rattle.program.specs.Instruction.{inside, twofold, fieldsOf, fieldsFit, differ, halfFits, secondFits, ranged}
 use Rattle.program.specs.Thread.{lastPoint, instructions, nothing, numbered, threadNumbers}
-use Rattle.program.proofs.Laws.Header.{counted-in}
+use Rattle.header.proofs.Laws.{counted-in}
 use Rattle.program.proofs.Laws.Program.{instructions-length}
 use Rattle.records.specs.Places.{threadBody}
 use Rattle.records.specs.List.{exactly}
 use Rattle.records.specs.Tally.{tallyTo, tally}
 use Rattle.occurs.specs.Occurs.{occurs, register}
-use Rattle.bodies.specs.Use.{treeOf, startless, plain, outlined, plainOf}
-use Rattle.bodies.specs.Thread.{wanted, formulaSorted, sorted, resultAbsent, threadRegisters, thread}
+use Rattle.thread_bodies.specs.Use.{treeOf, startless, plain, outlined, plainOf}
+use Rattle.thread_bodies.specs.Thread.{wanted, formulaSorted, sorted, resultAbsent, threadRegisters, thread}
 use Rattle.bodies.specs.Lists.{outlinedAt, outline}
 use Rattle.content.specs.Formula.{formula}
 use Rattle.content.specs.Program.{instr, pointCount, programOf, outlineBody, outlineNumber, outlineOf}

@@ -28,7 +28,7 @@ use Rattle.records.specs.Places.{instructionOf}
 use Rattle.records.specs.declared.line.Form.{Form}
 use Rattle.records.specs.declared.line.Form.the-variants.{Triple, Implication, Inclusion, Pair, Unlisted}
 use Rattle.records.specs.Line.{formOf, nowhere, placed}
-use Rattle.bodies.specs.Thread.{wanted, sorted}
+use Rattle.thread_bodies.specs.Thread.{wanted, sorted}
 use Rattle.bodies.specs.Line.{sortAt, sortedBy}
 use Rattle.trees.specs.ToTree.{toTree}
 use Rattle.trees.specs.Place as Place

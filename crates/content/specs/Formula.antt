@@ -3,7 +3,7 @@ use mathlib.Core.List.{List, []}
 use Prim.Native.Nat.{ℕ}
 use lib.ListN.{getD}
 use Rattle.logic.specs.Formula.{Sort, Formula}
-use Rattle.bodies.specs.Use.{treeOf}
+use Rattle.thread_bodies.specs.Use.{treeOf}
 use Rattle.trees.specs.ToTree.{ofTree}
 
 -- formula k, read as one of a sort

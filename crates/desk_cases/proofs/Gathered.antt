@@ -14,10 +14,10 @@ use Rattle.stored.specs.Tally.{withCase}
 use Rattle.stored.specs.declared.tally.Tally.{Tally}
 use Rattle.stored.proofs.Tallies.{Running, running-none, running-more, running-over}
 use Rattle.stored_answers.specs.Parts.{firstIn, secondIn, thirdIn, fourthIn, fifthIn, sixthOn}
-use Rattle.desk_cases.specs.declared.turn.Deed.{Deed}
-use Rattle.desk_cases.specs.declared.turn.Deed.the-variants.{Open, Set, Check, Trim, Bill, Handover, Replay, ReplayAcross, Other}
-use Rattle.desk_cases.specs.Turn.{mostBytes, mostNumbers, bytes, numbers, deedOf, callerAt, lengthsAt, setAt, bytesAt, numbersAt, tariffAt}
-use Rattle.desk_cases.specs.Same.{sameService, sameVerdict, sameTrimmed, sameBill, sameReplay}
+use Rattle.stored_turns.specs.declared.turn.Deed.{Deed}
+use Rattle.stored_turns.specs.declared.turn.Deed.the-variants.{Open, Set, Check, Trim, Bill, Handover, Replay, ReplayAcross, Other}
+use Rattle.stored_turns.specs.Turn.{mostBytes, mostNumbers, bytes, numbers, deedOf, callerAt, lengthsAt, setAt, bytesAt, numbersAt, tariffAt}
+use Rattle.stored_turns.specs.Same.{sameService, sameVerdict, sameTrimmed, sameBill, sameReplay}
 use Rattle.desk_cases.specs.Judge.{numberSet, Opened, Changed, Checked, Trimmed, Billed, HandedOver, Replayed, ReplayedAcross, Counted, opened, changed, checked, trimmed, billed, handed, replayed, across, other}
 
 -- a front of the room is lent, and the rest stays

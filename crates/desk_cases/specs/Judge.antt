@@ -10,9 +10,9 @@ use Rattle.requests.specs.Promise.{CheckServed, TrimServed, BillServed, Handove
 use Rattle.stored.specs.Tally.{withCase}
 use Rattle.stored.specs.declared.tally.Tally.{Tally}
 use Rattle.stored_answers.specs.Parts.{firstIn, secondIn, thirdIn, fourthIn, fifthIn, sixthOn}
-use Rattle.desk_cases.specs.declared.turn.Deed.the-variants.{Open, Set, Check, Trim, Bill, Handover, Replay, ReplayAcross, Other}
-use Rattle.desk_cases.specs.Turn.{deedOf, callerAt, lengthsAt, setAt, bytes, numbers, bytesAt, numbersAt, tariffAt}
-use Rattle.desk_cases.specs.Same.{sameService, sameVerdict, sameTrimmed, sameBill, sameReplay}
+use Rattle.stored_turns.specs.declared.turn.Deed.the-variants.{Open, Set, Check, Trim, Bill, Handover, Replay, ReplayAcross, Other}
+use Rattle.stored_turns.specs.Turn.{deedOf, callerAt, lengthsAt, setAt, bytes, numbers, bytesAt, numbersAt, tariffAt}
+use Rattle.stored_turns.specs.Same.{sameService, sameVerdict, sameTrimmed, sameBill, sameReplay}
 
 -- the number of a caller set by the host
 unfoldable pub numberSet : List ℕ → ℕ → ℕ → List ℕ

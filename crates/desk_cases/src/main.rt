@@ -4,9 +4,6 @@
 mod judge;
 mod line;
 mod replays;
-mod room;
-mod same;
-mod turn;
 
 use judge::judge_all;
 use line::write_line;

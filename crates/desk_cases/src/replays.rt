@@ -1,13 +1,4 @@
 // Turns that take several parts: a handover, a replay, a replay across a handover.
-use crate::room::blank_bytes;
-use crate::room::blank_wide;
-use crate::same::same_replay;
-use crate::same::same_service;
-use crate::turn::Number;
-use crate::turn::bytes_at;
-use crate::turn::caller_at;
-use crate::turn::lengths_at;
-use crate::turn::numbers_at;
 use desks::entry::serve_handover;
 use desks::entry::serve_replay;
 use desks::entry::serve_replay_handover;
@@ -19,9 +10,18 @@ use stored_answers::parts::fourth_in;
 use stored_answers::parts::second_in;
 use stored_answers::parts::sixth_on;
 use stored_answers::parts::third_in;
+use stored_turns::room::blank_bytes;
+use stored_turns::room::blank_wide;
+use stored_turns::same::same_replay;
+use stored_turns::same::same_service;
+use stored_turns::turn::Number;
+use stored_turns::turn::bytes_at;
+use stored_turns::turn::caller_at;
+use stored_turns::turn::lengths_at;
+use stored_turns::turn::numbers_at;
 ghost use Rattle.requests.specs.Promise.{HandoverServed, ReplayServed, AcrossServed};
 ghost use Rattle.stored_answers.specs.Parts.{firstIn, secondIn, thirdIn, fourthIn, fifthIn, sixthOn};
-ghost use Rattle.desk_cases.specs.Turn.{callerAt, lengthsAt};
+ghost use Rattle.stored_turns.specs.Turn.{callerAt, lengthsAt};
 ghost use Rattle.desk_cases.specs.Judge.{HandedOver, Replayed, ReplayedAcross};
 
 // The handover that is stored.

@@ -12,14 +12,14 @@ use Rattle.limits.proofs.Inverse.{and-true, within-true}
 use Rattle.frames.specs.Records.{bodies}
 use Rattle.frames.specs.declared.fault.Checked.the-variants.{Passed}
 use Rattle.program.specs.declared.sizes.Sizes.{Sizes}
-use Rattle.program.specs.Header.{threadCount}
+use Rattle.header.specs.Header.{threadCount}
 use Rattle.program.specs.Thread.{instructions, threadSize, numbered, threadNumbers}
 use Rattle.records.specs.Places.{threadBody}
 use Rattle.records.specs.Tally.{tally, obligationCount}
 use Rattle.records.specs.List.{exactly}
 use Rattle.records.specs.Line.{lineSize, lineNumbers}
 use Rattle.records.specs.Claim.{claim}
-use Rattle.bodies.specs.Thread.{thread}
+use Rattle.thread_bodies.specs.Thread.{thread}
 use Rattle.bodies.specs.Lists.{outline, obligations}
 use Rattle.bodies.specs.Line.{line}
 use Rattle.image.specs.Decode.{recordCount, sizesOf, decoded}

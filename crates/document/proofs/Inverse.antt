@@ -12,7 +12,7 @@ use Rattle.frames.specs.Records.{bodies}
 use Rattle.frames.specs.declared.fault.Fault.{Fault}
 use Rattle.frames.specs.declared.walk.Framing.{Framing}
 use Rattle.frames.specs.declared.walk.Framing.the-variants as Framing
-use Rattle.program.specs.Header.{threadCount, headed, header}
+use Rattle.header.specs.Header.{threadCount, headed, header}
 use Rattle.program.specs.declared.sizes.Sizes.{Sizes}
 use Rattle.image.specs.Decode.{recordCount, sizesOf, firstFault, behindFrames, decoded}
 use Rattle.image.specs.declared.decode.Decoded.{Decoded}
@@ -21,7 +21,7 @@ use Rattle.image.specs.Body.{placeOf, check}
 use Rattle.frames.specs.declared.fault.Checked.the-variants.{Passed}
 use Rattle.limits.specs.Numbers.{within}
 use Rattle.limits.proofs.Inverse.{and-true, within-true}
-use Rattle.program.specs.Header as Header
+use Rattle.header.specs.Header as Header
 use Rattle.content.proofs.Inverse.{unless-passed}
 use Rattle.content.proofs.Checked.{Checks, refused-sound, fault-sizes, fault-passed, sound-checks}
 use Rattle.document.specs.Document.{Document}

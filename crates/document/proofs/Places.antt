@@ -6,7 +6,7 @@ use native.Mathlib.Omega.{arith}
 use lib.ListN.{length, getD, drop, length-append, length-map}
 use Rattle.limits.specs.Numbers.{nth}
 use Rattle.program.specs.declared.sizes.Sizes.{Sizes}
-use Rattle.program.specs.Header.{threadCount}
+use Rattle.header.specs.Header.{threadCount}
 use Rattle.records.specs.Places.{threadBody}
 use Rattle.image.specs.Decode.{recordCount, sizesOf}
 use Rattle.content.specs.Program.{outlineBody}

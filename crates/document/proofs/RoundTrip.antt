@@ -2,7 +2,7 @@
 use mathlib.Core.Path.{_≡_}
 use mathlib.Core.List.{[]}
 use lib.ListN.{length}
-use Rattle.program.specs.Header.{threadCount}
+use Rattle.header.specs.Header.{threadCount}
 use Rattle.program.specs.Thread.{instructions}
 use Rattle.records.specs.Tally.{tally, obligationCount}
 use Rattle.document.specs.Document.{Document}

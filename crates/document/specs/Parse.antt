@@ -4,7 +4,7 @@ use Prim.Native.Nat.{ℕ, _+_}
 use lib.ListN.{length, getD, take, drop}
 use Rattle.limits.specs.Numbers.{word, numbers}
 use Rattle.program.specs.Thread.{instructions}
-use Rattle.program.specs.Header.{threadCount, wordCount, registerCount, valueRange}
+use Rattle.header.specs.Header.{threadCount, wordCount, registerCount, valueRange}
 use Rattle.program.specs.declared.sizes.Sizes.{Sizes}
 use Rattle.records.specs.Line.{premises}
 use Rattle.records.specs.Tally.{tally, obligationCount}

@@ -14,7 +14,7 @@ use Rattle.across.specs.Handover.{Handover, EveryRunAcross}
 use Rattle.across.proofs.Handover.{every-run-across}
 use Rattle.frames.specs.Records.{bodies}
 use Rattle.program.specs.declared.sizes.Sizes.{Sizes}
-use Rattle.program.specs.Header.{wordCount, valueRange}
+use Rattle.header.specs.Header.{wordCount, valueRange}
 use Rattle.image.specs.Decode.{decoded, sizesOf}
 use Rattle.image.specs.declared.decode.Decoded.{Decoded}
 use Rattle.image.specs.declared.decode.Decoded.the-variants as Decoded

@@ -13,7 +13,7 @@ use Rattle.limits.specs.Numbers.{within}
 use Rattle.limits.proofs.Inverse.{and-true, within-true}
 use Rattle.frames.specs.Records.{bodies}
 use Rattle.program.specs.declared.sizes.Sizes.{Sizes}
-use Rattle.program.specs.Header.{threadCount}
+use Rattle.header.specs.Header.{threadCount}
 use Rattle.image.specs.Decode.{decoded, sizesOf}
 use Rattle.image.specs.declared.decode.Decoded.the-variants.{Sound}
 use Rattle.outline.specs.Verdict.{Image, lineCode, Admitted}

@@ -5,10 +5,10 @@ use Prim.Native.Nat.{ℕ, _+_, _-_}
 use lib.Dec.{eqb, leb}
 use Rattle.frames.specs.declared.fault.Checked.{Checked}
 use Rattle.program.specs.declared.sizes.Sizes.{Sizes}
-use Rattle.program.specs.Header.{header}
+use Rattle.header.specs.Header.{header}
 use Rattle.records.specs.Claim as Claims
 use Rattle.bodies.specs.Formula as Formulas
-use Rattle.bodies.specs.Thread as Threads
+use Rattle.thread_bodies.specs.Thread as Threads
 use Rattle.bodies.specs.Lists as Lists
 use Rattle.bodies.specs.Line as Lines
 use Rattle.image.specs.declared.body.Place.{Place}

@@ -9,7 +9,7 @@ use Rattle.frames.specs.declared.fault.Checked.the-variants.{Passed, Faulty}
 use Rattle.frames.specs.declared.walk.Framing.{Framing}
 use Rattle.frames.specs.declared.walk.Framing.the-variants as Framing
 use Rattle.program.specs.declared.sizes.Sizes.{Sizes}
-use Rattle.program.specs.Header.{threadCount, wordCount, registerCount, valueRange}
+use Rattle.header.specs.Header.{threadCount, wordCount, registerCount, valueRange}
 use Rattle.image.specs.Body.{placeOf, check}
 use Rattle.image.specs.declared.decode.Decoded.{Decoded}
 use Rattle.image.specs.declared.decode.Decoded.the-variants.{Refused, Sound}

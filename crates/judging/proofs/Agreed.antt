@@ -23,13 +23,13 @@ use Rattle.content.proofs.Lines.{named-there, claim-fine}
 use Rattle.marks.specs.Marks.{isMarked}
 use Rattle.marks.specs.declared.Marks.{Marks}
 use Rattle.report.specs.declared.obligation.Obligation.{Obligation}
-use Rattle.judging.specs.declared.outcome.Outcome.{Outcome}
-use Rattle.judging.specs.declared.outcome.Outcome.the-variants.{Met, Failed}
+use Rattle.outcomes.specs.declared.outcome.Outcome.{Outcome}
+use Rattle.outcomes.specs.declared.outcome.Outcome.the-variants.{Met, Failed}
 use Rattle.report.specs.Place.{obligation}
-use Rattle.wanted.specs.Wanted.{wantedClaim}
+use Rattle.wanting.specs.Wanted.{wantedClaim}
 use Rattle.wanted.specs.Concluding.{meets, concludesAt, sustainedAt, codeAt}
-use Rattle.judging.specs.Claims.{firstDenied}
-use Rattle.judging.specs.Judge.{judgeOne, next, judged, judgeAt, toOutcome}
+use Rattle.outcomes.specs.Claims.{firstDenied}
+use Rattle.outcomes.specs.Judge.{judgeOne, next, judged, judgeAt, toOutcome}
 use Rattle.wanted.proofs.Asked.{InRange, concludes-asked, claim-asked}
 use Rattle.judging.proofs.Ranged.{obligations-ranged}
 

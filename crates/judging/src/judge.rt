@@ -1,9 +1,9 @@
 // All obligations of an image, in order.
-use crate::interference::judge_interferences;
-use crate::outcome::Outcome;
 use crate::steps::judge_starts;
 use crate::steps::judge_steps;
 use content::totals::totals_of;
+use interferences::interference::judge_interferences;
+use outcomes::outcome::Outcome;
 use program::sizes::Sizes;
 ghost use mathlib.Core.Path.{_≡_};
 ghost use Rattle.logic.specs.Obligations.{obligations};
@@ -11,7 +11,7 @@ ghost use Rattle.frames.specs.Records.{bodies};
 ghost use Rattle.index.specs.Table.{indexOf};
 ghost use Rattle.content.specs.Program.{programOf};
 ghost use Rattle.marks.specs.Marks.{asMarks};
-ghost use Rattle.judging.specs.Judge.{judgeAt};
+ghost use Rattle.outcomes.specs.Judge.{judgeAt};
 
 pub fn judge_obligations<'a, 'b, 'c>(
     s: &'a [u8],

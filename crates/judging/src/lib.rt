@@ -1,7 +1,4 @@
 // The obligations of a well-formed image in order, then its claims, each against the line that it names: how many are met, or the first
 // that is not.
-pub mod claims;
-pub mod interference;
 pub mod judge;
-pub mod outcome;
 pub mod steps;

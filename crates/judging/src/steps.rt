@@ -1,8 +1,8 @@
 // Starts, steps and branches taken, thread by thread.
-use crate::outcome::Outcome;
-use crate::outcome::judge_next;
 use content::point::last_point_of;
 use content::totals::Totals;
+use outcomes::outcome::Outcome;
+use outcomes::outcome::judge_next;
 use program::instruction::Instruction;
 use program::sizes::Sizes;
 use records::place::instruction_of;
@@ -14,7 +14,7 @@ ghost use Rattle.content.specs.Totals.{totalsOf};
 ghost use Rattle.program.specs.Thread.{lastPoint};
 ghost use Rattle.records.specs.Places.{threadBody};
 ghost use Rattle.marks.specs.Marks.{asMarks};
-ghost use Rattle.judging.specs.Walk.{startsTo, ownAt, ownTo, stepsTo};
+ghost use Rattle.outcomes.specs.Walk.{startsTo, ownAt, ownTo, stepsTo};
 
 // Each thread's start.
 pub fn judge_starts<'a, 'b, 'c>(

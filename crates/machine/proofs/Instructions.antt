@@ -22,7 +22,7 @@ use Rattle.program.specs.declared.sizes.Sizes.{Sizes}
 use Rattle.program.specs.declared.instruction.Half.{Half}
 use Rattle.program.specs.declared.instruction.Instruction.{Instruction}
 use Rattle.program.specs.Instruction.{twofold, fieldsOf, halfFits, differ, secondFits, ranged}
-use Rattle.bodies.specs.Thread.{wanted}
+use Rattle.thread_bodies.specs.Thread.{wanted}
 use Rattle.content.specs.Formula.{formula}
 use Rattle.content.specs.Places.{registerFirst}
 use Rattle.content.specs.Program.{instr, programOf}

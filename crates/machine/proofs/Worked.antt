@@ -21,13 +21,13 @@ use Rattle.formula.specs.Reader.{sortOf}
 use Rattle.trees.specs.ToTree.{toTree}
 use Rattle.program.specs.declared.sizes.Sizes.{Sizes}
 use Rattle.program.specs.declared.instruction.Instruction.{Instruction}
-use Rattle.program.specs.Header.{counted, startValues, owners, marks, headed, header}
+use Rattle.header.specs.Header.{counted, startValues, owners, marks, headed, header}
 use Rattle.program.specs.Instruction.{twofold, fieldsOf, ranged}
 use Rattle.program.specs.Thread.{lastPoint}
-use Rattle.program.proofs.Laws.Header.{Counted, counted-in}
+use Rattle.header.proofs.Laws.{Counted, counted-in}
 use Rattle.image.specs.Decode.{sizesOf}
 use Rattle.records.specs.Places.{instructionOf}
-use Rattle.bodies.specs.Thread.{wanted, sorted}
+use Rattle.thread_bodies.specs.Thread.{wanted, sorted}
 use Rattle.content.specs.Formula.{formula}
 use Rattle.content.specs.Places.{formulaAt}
 use Rattle.content.specs.Trees.{treeAt}

@@ -1,5 +1,4 @@
-// What the header and the threads of an image say: codes 5 and 6, and look-ups that are total.
-pub mod header;
+// What the threads of an image say: codes 5 and 6, and look-ups that are total.
 pub mod instruction;
 pub mod sizes;
 pub mod thread;

@@ -16,7 +16,7 @@ use Rattle.logic.proofs.Starts.{begins}
 use Rattle.limits.specs.Numbers.{nth, within}
 use Rattle.frames.specs.Records.{bodies}
 use Rattle.program.specs.declared.sizes.Sizes.{Sizes}
-use Rattle.program.specs.Header.{wordCount, registerCount, startValues, marks, cleared}
+use Rattle.header.specs.Header.{wordCount, registerCount, startValues, marks, cleared}
 use Rattle.image.specs.Decode.{sizesOf}
 use Rattle.content.specs.Program.{programOf, outlineOf}
 use Rattle.content.proofs.Checked.{Checks}

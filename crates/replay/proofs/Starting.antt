@@ -6,7 +6,7 @@ use mathlib.Core.List.{List}
 use lib.ListN.{length, getD, set, take, replicate}
 use borrow.Author.Tests.{ne-eqb, le-ltb}
 use Rattle.limits.specs.Numbers.{nth}
-use Rattle.program.specs.Header.{startValues, cleared}
+use Rattle.header.specs.Header.{startValues, cleared}
 use Rattle.columns.proofs.Listed.{column-none}
 use Rattle.memory.specs.View.{startView}
 use Rattle.memory.specs.Write.{startWrite}

@@ -5,7 +5,7 @@ use mathlib.Core.List.{List}
 use lib.Dec.{eqb, ltb}
 use lib.ListN.{getD, replicate}
 use Rattle.limits.specs.Numbers.{nth}
-use Rattle.program.specs.Header.{startValues, cleared}
+use Rattle.header.specs.Header.{startValues, cleared}
 use Rattle.columns.specs.Column.{column}
 use Rattle.memory.specs.View.{startView}
 use Rattle.memory.specs.Write.{startWrite}

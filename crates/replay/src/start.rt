@@ -1,12 +1,12 @@
 // The start: a write for each word, all views on these, registers that start at 0 or as they are given, every thread at point 0.
 use crate::states::Machine;
+use header::header::is_cleared;
+use header::header::start_value;
 use limits::read::octet_at;
 use machine::locals::Registers;
 use memory::memory::Memory;
 use memory::view::start_view;
 use memory::write::start_write;
-use program::header::is_cleared;
-use program::header::start_value;
 ghost use mathlib.Core.Path.{_≡_};
 ghost use Rattle.replay.specs.Start.{startMemory, startRegister, startRegisters, started};
 

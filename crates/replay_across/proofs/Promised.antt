@@ -19,7 +19,7 @@ use Rattle.limits.specs.Numbers.{nth}
 use Rattle.limits.proofs.Numbers.{byte-past}
 use Rattle.frames.specs.Records.{bodies}
 use Rattle.program.specs.declared.sizes.Sizes.{Sizes}
-use Rattle.program.specs.Header.{registerCount}
+use Rattle.header.specs.Header.{registerCount}
 use Rattle.image.specs.Decode.{sizesOf}
 use Rattle.content.specs.Program.{programOf, outlineOf}
 use Rattle.content.specs.Image.{imageOf}

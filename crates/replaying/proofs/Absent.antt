@@ -16,7 +16,7 @@ use Rattle.frames.specs.Records.{bodies}
 use Rattle.program.specs.declared.sizes.Sizes.{Sizes}
 use Rattle.program.specs.declared.instruction.Half.{Half}
 use Rattle.program.specs.declared.instruction.Instruction.{Instruction}
-use Rattle.program.specs.Header.{wordCount, registerCount, marks, cleared}
+use Rattle.header.specs.Header.{wordCount, registerCount, marks, cleared}
 use Rattle.program.specs.Instruction.{twofold, fieldsOf, ranged}
 use Rattle.program.specs.Thread.{lastPoint}
 use Rattle.records.specs.Places.{instructionOf}

@@ -7,7 +7,7 @@ use lib.Dec.{eqb, ltb}
 use lib.ListN.{length, drop, replicate}
 use Rattle.report.specs.Output as Verdict
 use Rattle.checker.specs.Answer.{verdict}
-use Rattle.trimming.specs.Answer.{answerFor, bufferFor}
+use Rattle.archived.specs.Answer.{answerFor, bufferFor}
 use Rattle.charges.specs.declared.tariff.Tariff.{Tariff}
 use Rattle.pricing.specs.Bill.{billOf}
 use Rattle.pricing.specs.Output.{size, codeFor, numbersFor}

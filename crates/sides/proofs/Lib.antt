@@ -1,4 +1,2 @@
-pub mod Sides
-pub mod NewValues
 pub mod SidesByNumber
 pub mod SidesLink

@@ -12,17 +12,17 @@ use Rattle.compare.specs.declared.replace.Substitution.{Substitution}
 use Rattle.rows.specs.Rows.{rowsT, tableT, lineOf, premisesOf}
 use Rattle.rows.specs.declared.by.Implications.{Implications}
 use Rattle.frames.specs.Records.{bodies}
-use Rattle.program.specs.Header.{valueRange, cleared}
+use Rattle.header.specs.Header.{valueRange, cleared}
 use Rattle.matcher.specs.declared.bind.Bind.{Bind}
 use Rattle.content.specs.declared.acting.Acting.{Acting}
 use Rattle.rulebook.specs.Rulebook.{nothing, isKept, assigned, loaded, stored, byRows, byTable, startValue, startsAtZero, newValue}
 use Rattle.conclusions.specs.Conclusion.{conclusionAt}
-use Rattle.sides.specs.Fresh.{freshIs}
-use Rattle.sides.specs.Side.{holeOf, numberIn, treeOf, apart, keeps, oneBy, isWith, storedBy, isStart}
+use Rattle.conditions.specs.Fresh.{freshIs}
+use Rattle.conditions.specs.Side.{holeOf, numberIn, treeOf, apart, keeps, oneBy, isWith, storedBy, isStart}
 use Rattle.sides.specs.Asked.{substitutionOf, assignedBy, loadedBy, ofInstruction, implicationsOf, ofNames, asked}
 use Rattle.conclusions.specs.declared.conclusion.Conclusion.{Conclusion}
 use Rattle.conclusions.specs.declared.conclusion.Premises.{Premises}
-use Rattle.sides.specs.declared.side.Position.{Position}
+use Rattle.conditions.specs.declared.side.Position.{Position}
 
 module _ (a : Acting) where
   pub substitutes-one : (w : Substitution) → a .whole ≡ Opcode.assign → w ≡ oneBy false (a .register) (Formula (a .formula) nesting) → w ≡ substitutionOf a

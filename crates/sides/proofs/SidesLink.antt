@@ -29,7 +29,7 @@ use Rattle.trees.proofs.ToTree.{tree-eq, tree-refl}
 use Rattle.rows.specs.Entailment.{impOf, impsFrom, premisesFrom}
 use Rattle.rows.specs.Rows.{rowsT, tableT, lineOf, premisesOf}
 use Rattle.frames.specs.Records.{bodies}
-use Rattle.program.specs.Header.{startValues, cleared, valueRange}
+use Rattle.header.specs.Header.{startValues, cleared, valueRange}
 use Rattle.program.specs.Instruction.{pairOperation, firstOperation}
 use Rattle.matcher.specs.Places.{takenOf}
 use Rattle.matcher.specs.declared.bind.Bind.{Bind}
@@ -39,8 +39,8 @@ use Rattle.content.specs.Trees.{treeAt, givesT, notesBy, actingAt}
 use Rattle.content.specs.declared.acting.Acting.{Acting}
 use Rattle.rulebook.specs.Listed.{sideNumber}
 use Rattle.conclusions.specs.Conclusion.{concludedAt, conclusionsFrom}
-use Rattle.sides.specs.Fresh.{formulaIs, sumIs, freshIs}
-use Rattle.sides.specs.Side.{holeOf, numberIn, treeOf, apart, keeps, oneBy, isWith, storedBy, isStart}
+use Rattle.conditions.specs.Fresh.{formulaIs, sumIs, freshIs}
+use Rattle.conditions.specs.Side.{holeOf, numberIn, treeOf, apart, keeps, oneBy, isWith, storedBy, isStart}
 use Rattle.sides.specs.Asked.{substitutionOf, assignedBy, loadedBy, ofInstruction, implicationsOf, ofNames, asked}
 use Rattle.conclusions.specs.declared.conclusion.Conclusion.{Conclusion}
 use Rattle.conclusions.specs.declared.conclusion.Premises.{Premises}

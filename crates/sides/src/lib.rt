@@ -1,4 +1,2 @@
 // What a rule asks besides its templates.
 pub mod asked;
-pub mod fresh;
-pub mod side;

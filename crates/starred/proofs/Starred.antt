@@ -14,15 +14,15 @@ use Rattle.image.specs.Decode.{recordCount, sizesOf, firstFault, decoded}
 use Rattle.image.specs.Body.{placeOf, check}
 use Rattle.bodies.specs.Formula as Formulas
 use Rattle.bodies.specs.Formula.{countsOf, read}
-use Rattle.bodies.specs.Thread.{threadRegisters, thread}
+use Rattle.thread_bodies.specs.Thread.{threadRegisters, thread}
 use Rattle.bodies.specs.Lists.{outlinedAt, outline, obligations}
 use Rattle.bodies.specs.Line.{sortAt, sortedBy, lineSorted, line}
-use Rattle.bodies.specs.Use as Use
-use Rattle.bodies.specs.Use.{startless}
+use Rattle.thread_bodies.specs.Use as Use
+use Rattle.thread_bodies.specs.Use.{startless}
 use Rattle.occurs.specs.Occurs.{isQueried, occurs}
 use Rattle.formula.specs.Reader.{inRange, operandFault, headFault, faultAt, readingOf}
-use Rattle.program.specs.Header as Header
-use Rattle.program.specs.Header.{startValues, owners, marks, cleared, headerSize, headed, header}
+use Rattle.header.specs.Header as Header
+use Rattle.header.specs.Header.{startValues, owners, marks, cleared, headerSize, headed, header}
 use Rattle.records.specs.List.{exactly}
 use Rattle.records.specs.Line as Line
 use Rattle.program.specs.Thread as Thread

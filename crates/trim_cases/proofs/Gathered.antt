@@ -10,7 +10,7 @@ use Rattle.trimming.specs.Promise.{Promise}
 use Rattle.stored.specs.Tally.{withCase}
 use Rattle.stored.specs.declared.tally.Tally.{Tally}
 use Rattle.stored.proofs.Tallies.{Running, running-none, running-more, running-over}
-use Rattle.trim_cases.specs.Answer.{most, blank, room, lentAt, sameAnswer}
+use Rattle.trim_answers.specs.Answer.{most, blank, room, lentAt, sameAnswer}
 use Rattle.trim_cases.specs.Judge.{Counted}
 
 lent-within : (s : List ℕ) (n : ℕ) → n ≡ lentAt s → n ≤ most

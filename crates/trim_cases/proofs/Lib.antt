@@ -1,3 +1,2 @@
+pub mod Ends
 pub mod Gathered
-pub mod Same
-pub mod Ways

@@ -10,7 +10,7 @@ use Rattle.stored.specs.Tally.{withCase}
 use Rattle.stored.specs.declared.tally.Tally.{Tally}
 use Rattle.stored.specs.declared.end.End.{End}
 use Rattle.stored.specs.declared.end.End.the-variants.{Cut}
-use Rattle.trim_cases.specs.Answer.{room, lentAt, sameAnswer}
+use Rattle.trim_answers.specs.Answer.{room, lentAt, sameAnswer}
 
 -- of an image, what is stored of the call and the stored trimmed bytes: by the code answered, and by whether code, length and
 -- room are as stored

@@ -1,8 +1,4 @@
 // The cases of a file: an image as the body with bytes lent and code as the tail, then the trimmed image as a body with no tail.
-use crate::answer::Room;
-use crate::answer::Stored;
-use crate::answer::lent_at;
-use crate::answer::same_answer;
 use limits::Limits;
 use stored::case::Next;
 use stored::case::read_case;
@@ -12,13 +8,17 @@ use stored::tally::Judged;
 use stored::tally::Tally;
 use stored::tally::no_case;
 use stored::tally::with_case;
+use trim_answers::answer::Room;
+use trim_answers::answer::Stored;
+use trim_answers::answer::lent_at;
+use trim_answers::answer::same_answer;
 use trimming::entry::trim_image;
 ghost use mathlib.Core.Path.{_≡_};
 ghost use Prim.Native.Nat.{_+_};
 ghost use lib.ListN.{length};
 ghost use Rattle.limits.specs.Limits.{imageBytes};
 ghost use Rattle.stored.specs.Tallied.{FromCases};
-ghost use Rattle.trim_cases.specs.Answer.{room};
+ghost use Rattle.trim_answers.specs.Answer.{room};
 ghost use Rattle.trim_cases.specs.Judge.{withinCase, Counted};
 
 fn blank_room() -> [u8; Room::BYTES]

@@ -10,11 +10,11 @@ use lib.Seq.{getD-drop}
 use borrow.Author.Tests.{ltb-true, ltb-false}
 use Rattle.frames.specs.declared.fault.Checked.the-variants.{Passed}
 use Rattle.program.specs.declared.sizes.Sizes.{Sizes}
-use Rattle.program.specs.Header.{header}
+use Rattle.header.specs.Header.{header}
 use Rattle.records.specs.Places.{threadBody}
 use Rattle.records.specs.Claim as Claims
 use Rattle.bodies.specs.Formula as Formulas
-use Rattle.bodies.specs.Thread as Threads
+use Rattle.thread_bodies.specs.Thread as Threads
 use Rattle.bodies.specs.Lists as Lists
 use Rattle.bodies.specs.Line as Lines
 use Rattle.image.specs.Body.{placeOf, check}

@@ -9,8 +9,8 @@ use Rattle.limits.specs.Numbers.{within}
 use Rattle.limits.proofs.Inverse.{and-true, within-true}
 use Rattle.frames.specs.declared.fault.Checked.the-variants.{Passed}
 use Rattle.frames.proofs.Counted.{Counts}
-use Rattle.program.specs.Header as Header
-use Rattle.program.specs.Header.{threadCount, headed, header}
+use Rattle.header.specs.Header as Header
+use Rattle.header.specs.Header.{threadCount, headed, header}
 use Rattle.bodies.specs.Formula.{countsOf, formula}
 use Rattle.image.specs.Decode.{sizesOf, recordCount, firstFault}
 use Rattle.image.specs.declared.decode.Decoded.the-variants.{Sound}

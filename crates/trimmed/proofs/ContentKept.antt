@@ -14,7 +14,7 @@ use Rattle.logic.specs.EveryRun.{Outline}
 use Rattle.limits.specs.Numbers.{nth, word, numbers, within}
 use Rattle.limits.proofs.Inverse.{within-true, every-at}
 use Rattle.content.proofs.Lines.{in-range}
-use Rattle.program.specs.Header.{startValues, cleared, valueRange, threadCount}
+use Rattle.header.specs.Header.{startValues, cleared, valueRange, threadCount}
 use Rattle.program.specs.Thread.{nothing, instructions, lastPoint}
 use Rattle.program.specs.declared.sizes.Sizes.{Sizes}
 use Rattle.program.specs.declared.instruction.Instruction.{Instruction}

@@ -11,7 +11,7 @@ use Rattle.limits.specs.Numbers.{within}
 use Rattle.records.specs.declared.line.Form.{Form}
 use Rattle.records.specs.declared.line.Form.the-variants.{Triple, Implication, Inclusion, Pair, Unlisted}
 use Rattle.image.specs.Decode.{sizesOf}
-use Rattle.bodies.specs.Thread.{formulaSorted, registerOwned, formulaOwned}
+use Rattle.thread_bodies.specs.Thread.{formulaSorted, registerOwned, formulaOwned}
 use Rattle.bodies.specs.Lists.{outlinedAt}
 use Rattle.bodies.specs.Line.{sortAt, sortedBy}
 use Rattle.document.specs.Document.{Document}

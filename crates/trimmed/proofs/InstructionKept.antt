@@ -18,7 +18,7 @@ use Rattle.program.specs.declared.instruction.Fields.{Fields}
 use Rattle.program.specs.Instruction.{twofold, noHalf, range, unused, fields, fieldsOf, inside}
 use Rattle.program.specs.Instruction.{fieldsFit, halfFits, differ, secondFits, ranged}
 use Rattle.image.specs.Decode.{sizesOf}
-use Rattle.bodies.specs.Thread.{wanted, sorted, target, owned, resultAbsent}
+use Rattle.thread_bodies.specs.Thread.{wanted, sorted, target, owned, resultAbsent}
 use Rattle.content.proofs.Program.{ranged-both, second-in}
 use Rattle.document.specs.Document.{Document}
 use Rattle.document.specs.Encode.{bodiesOf}

@@ -10,7 +10,7 @@ use Rattle.logic.specs.Opcode as Opcode
 use Rattle.limits.specs.Limits as Limits
 use Rattle.limits.specs.Numbers.{nth, word, numbers, within, every}
 use Rattle.limits.proofs.Inverse.{and-true, within-true, every-at}
-use Rattle.program.specs.Header.{threadCount}
+use Rattle.header.specs.Header.{threadCount}
 use Rattle.program.specs.Instruction.{twofold, noHalf, range, unused, fields, inside, fieldsOf, fieldsFit, ranged}
 use Rattle.program.specs.Thread.{nothing, lastPoint, instructions}
 use Rattle.program.specs.declared.sizes.Sizes.{Sizes}

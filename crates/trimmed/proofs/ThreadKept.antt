@@ -16,7 +16,7 @@ use Rattle.program.specs.Instruction.{ranged}
 use Rattle.program.specs.Thread.{lastPoint, instructions, nothing, numbered, threadNumbers}
 use Rattle.records.specs.Places.{threadBody}
 use Rattle.image.specs.Decode.{sizesOf}
-use Rattle.bodies.specs.Thread.{sorted, owned, resultAbsent, threadRegisters, thread}
+use Rattle.thread_bodies.specs.Thread.{sorted, owned, resultAbsent, threadRegisters, thread}
 use Rattle.content.proofs.Inverse.{unless-passed, also-passed}
 use Rattle.content.proofs.Checked.{thread-passed}
 use Rattle.document.specs.Document.{Document}

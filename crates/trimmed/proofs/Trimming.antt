@@ -3,7 +3,7 @@ use mathlib.Core.Path.{_≡_, sym, _∙_}
 use mathlib.Core.Bool.{Bool}
 use mathlib.Core.List.{List}
 use lib.ListN.{length}
-use Rattle.program.specs.Header.{threadCount}
+use Rattle.header.specs.Header.{threadCount}
 use Rattle.content.proofs.Checked.{Checks}
 use Rattle.document.specs.Document.{Document}
 use Rattle.document.specs.Canonical.{Canonical}

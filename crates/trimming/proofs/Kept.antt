@@ -42,7 +42,7 @@ use Rattle.trimmed.proofs.AcceptedKept.{total-kept, met-kept, sustained-kept}
 use Rattle.trimmed.proofs.Moved.{claims-length}
 use Rattle.trimmed.proofs.Repointed.{withPoints}
 use Rattle.logic.specs.Machine.{Program}
-use Rattle.trimming.specs.Trimmed.{trimmedBytes, SameProgram, SameContent, Trimmed}
+use Rattle.archived.specs.Trimmed.{trimmedBytes, SameProgram, SameContent, Trimmed}
 use Rattle.trimming.proofs.Whole.{Whole, named, written, trimming, encodable}
 
 -- accepted: each obligation is met and each claim borne out

@@ -1,4 +1,3 @@
 pub mod Whole
 pub mod Kept
-pub mod Ways
 pub mod Promised

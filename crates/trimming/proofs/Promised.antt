@@ -12,10 +12,10 @@ use Rattle.checker.specs.declared.acceptance.Acceptance.{Acceptance}
 use Rattle.checker.specs.declared.acceptance.Acceptance.the-variants.{Granted, Declined}
 use Rattle.checker.proofs.Granted.{granted-holds}
 use Rattle.document.specs.Canonical.{Bytes}
-use Rattle.trimming.specs.Trimmed.{trimmedBytes, Trimmed}
-use Rattle.trimming.specs.Answer.{answer, answeredBy, bufferBy, answerWith, bufferWith, answerFor, bufferFor}
+use Rattle.archived.specs.Trimmed.{trimmedBytes, Trimmed}
+use Rattle.archived.specs.Answer.{answer, answeredBy, bufferBy, answerWith, bufferWith, answerFor, bufferFor}
 use Rattle.trimming.specs.Promise.{Promise}
-use Rattle.trimming.specs.declared.answer.Answer.{Answer}
+use Rattle.archived.specs.declared.answer.Answer.{Answer}
 use Rattle.trimming.proofs.Kept.{is-trimmed}
 
 take-front : (t r : List ℕ) → take (length t) (t ++ r) ≡ t

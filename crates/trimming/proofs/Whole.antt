@@ -8,7 +8,7 @@ use lib.ListN.{length, getD, length-map, length-append}
 use Rattle.logic.specs.Obligations.{Obligation, Obligation.start, below, upTo, steps, interferences}
 use Rattle.limits.specs.Limits as Limits
 use Rattle.limits.specs.Numbers.{nth}
-use Rattle.program.specs.Header.{threadCount}
+use Rattle.header.specs.Header.{threadCount}
 use Rattle.program.specs.declared.sizes.Sizes.{Sizes}
 use Rattle.records.specs.Tally.{tallyTo, tally, threadTally, obligationCount}
 use Rattle.image.specs.Decode.{sizesOf, recordCount}

@@ -1,4 +1,1 @@
-pub mod Trimmed
-pub mod Accepted
-pub mod Answer
 pub mod Promise

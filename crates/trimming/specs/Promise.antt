@@ -3,8 +3,8 @@ use mathlib.Core.Path.{_≡_}
 use mathlib.Core.List.{List}
 use Prim.Native.Nat.{ℕ}
 use lib.ListN.{take}
-use Rattle.trimming.specs.Trimmed.{Trimmed}
-use Rattle.trimming.specs.Answer.{answerFor, bufferFor}
+use Rattle.archived.specs.Trimmed.{Trimmed}
+use Rattle.archived.specs.Answer.{answerFor, bufferFor}
 
 -- of an image and a buffer: the code, the length that is told, and the buffer afterwards
 pub record Promise (image buffer : List ℕ) (code written : ℕ) (after : List ℕ) : Type 0 where

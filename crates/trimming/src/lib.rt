@@ -1,4 +1,3 @@
 // Trimming for the archive: `trim_image` is the entry point.
-pub mod answer;
 pub mod archive;
 pub mod entry;

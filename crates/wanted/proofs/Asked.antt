@@ -46,10 +46,10 @@ use Rattle.content.proofs.Program.{points-few, well-formed}
 use Rattle.content.proofs.Trees.{outline-is, test-is}
 use Rattle.conclusions.specs.LineConclusion.{conclusionOf}
 use Rattle.conclusions.proofs.Stated.{conclusion-trees}
-use Rattle.wanted.specs.Wanted.{nextPoint, actingForm, assertedAt, wantedStart, wantedAction, wantedNext, wantedStep, wantedTarget, wantedKept, wantedClaim, wantedAt, implied, twoHoles, claimAt}
+use Rattle.wanting.specs.Wanted.{nextPoint, actingForm, assertedAt, wantedStart, wantedAction, wantedNext, wantedStep, wantedTarget, wantedKept, wantedClaim, wantedAt, implied, twoHoles, claimAt}
 use Rattle.report.specs.Place.{obligation}
 use Rattle.wanted.specs.Concluding.{meets, concludesAt}
-use Rattle.wanted.proofs.Compared.{starting, falsity, claim-compared, both, holding, negated, compared, start-compared, step-compared, kept-compared, next-compared, target-compared}
+use Rattle.wanting.proofs.Compared.{starting, falsity, claim-compared, both, holding, negated, compared, start-compared, step-compared, kept-compared, next-compared, target-compared}
 
 eqb-same : (a b : ℕ) → eqb a b ≡ eqb b a
 eqb-same a b = go (eqb b a) refl

@@ -16,8 +16,8 @@ use Rattle.conclusions.specs.declared.conclusion.Conclusion.{Conclusion}
 use Rattle.marks.specs.Marks.{isMarked}
 use Rattle.marks.specs.declared.Marks.{Marks}
 use Rattle.report.specs.declared.obligation.Obligation.{Obligation}
-use Rattle.wanted.specs.declared.wanted.Wanted.{Wanted}
-use Rattle.wanted.specs.Wanted.{wantedBytes, wantedClaim, wantedAt}
+use Rattle.wanting.specs.declared.wanted.Wanted.{Wanted}
+use Rattle.wanting.specs.Wanted.{wantedBytes, wantedClaim, wantedAt}
 use Rattle.wanted.specs.Concluding.{meets, concludesAt, sustainedAt, codeAt}
 
 pub said-is : (s : List ℕ) (z : Sizes) (w : Wanted) (n : ℕ) (c : Conclusion) (m : Whole) → c ≡ conclusionOf s z n

@@ -12,8 +12,8 @@ use Rattle.conclusions.specs.LineConclusion.{conclusionOf}
 use Rattle.marks.specs.Marks.{isMarked}
 use Rattle.marks.specs.declared.Marks.{Marks}
 use Rattle.report.specs.declared.obligation.Obligation.{Obligation}
-use Rattle.wanted.specs.declared.wanted.Wanted.{Wanted}
-use Rattle.wanted.specs.Wanted.{wantedBytes, wantedClaim, wantedAt}
+use Rattle.wanting.specs.declared.wanted.Wanted.{Wanted}
+use Rattle.wanting.specs.Wanted.{wantedBytes, wantedClaim, wantedAt}
 
 module _ (s : List ℕ) (z : Sizes) where
   -- a line with this number meets what is wanted

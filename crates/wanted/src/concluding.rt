@@ -1,8 +1,4 @@
 // Whether a line concludes what an obligation wants, and the code of what is wrong with it.
-use crate::wanted::WANTED;
-use crate::wanted::Wanted;
-use crate::wanted::wanted_claim;
-use crate::wanted::wanted_of;
 use conclusions::conclusion::match_conclusion;
 use conclusions::line_conclusion::conclusion_of;
 use content::claim::claim_of;
@@ -10,6 +6,10 @@ use content::totals::Totals;
 use marks::is_marked;
 use program::sizes::Sizes;
 use report::obligation::Obligation;
+use wanting::wanted::WANTED;
+use wanting::wanted::Wanted;
+use wanting::wanted::wanted_claim;
+use wanting::wanted::wanted_of;
 ghost use mathlib.Core.Path.{_≡_};
 ghost use Rattle.frames.specs.Records.{bodies};
 ghost use Rattle.index.specs.Table.{indexOf};

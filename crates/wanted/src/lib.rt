@@ -1,3 +1,2 @@
 // What an obligation wants of a line, and whether a line concludes it.
 pub mod concluding;
-pub mod wanted;

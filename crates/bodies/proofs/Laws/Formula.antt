@@ -1,16 +1,13 @@
 -- Formulas.
-use Prim.Native.Nat.{ℕ, _/_}
+use Prim.Native.Nat.{ℕ}
 use mathlib.Core.Path.{_≡_}
 use mathlib.Core.List.{List}
-use lib.ListN.{getD}
-use lib.Dec.{eqb}
 use Rattle.frames.specs.declared.fault.Fault.{Fault}
-use Rattle.frames.specs.declared.fault.Checked.{Checked}
 use Rattle.frames.specs.declared.fault.Checked.the-variants.{Passed, Faulty}
 use Rattle.formula.specs.declared.reader.Counts.{Counts}
 use Rattle.formula.specs.declared.reader.Reading.{Reading}
 use Rattle.formula.specs.declared.reader.Reading.the-variants as Reading
-use Rattle.formula.specs.Reader.{readingOf, sortOf}
+use Rattle.formula.specs.Reader.{readingOf}
 use Rattle.program.specs.declared.sizes.Sizes.{Sizes}
 use Rattle.bodies.specs.Formula.{countsOf, faultOf, read}
 
@@ -26,6 +23,3 @@ module _ (z : Sizes) (b : List ℕ) (n : Counts) (r : Reading) (en : n ≡ count
   read-fault c f q e = rw (← en, ← er, q, e)
 
 pub ruleset read-so = (read-formula, read-fault)
-
-pub sort-is : (b : List ℕ) (x s : ℕ) → x ≡ getD b 0 0 → eqb (x / 8) s ≡ eqb (sortOf b) s
-sort-is b x s e = rw e

@@ -11,7 +11,7 @@ use lib.Dec.{eqb}
 use borrow.Author.Tests.{eqb-true, eqb-false}
 use Rattle.limits.specs.Limits as Limits
 use Rattle.program.specs.declared.sizes.Sizes.{Sizes}
-use Rattle.bodies.specs.Use.{outlined}
+use Rattle.thread_bodies.specs.Use.{outlined}
 use Rattle.bodies.specs.Lists.{outlinedAt}
 use Rattle.bodies.specs.Outlined.{entries, outlinedTo, outlinedOf}
 

@@ -15,9 +15,9 @@ use Rattle.frames.specs.declared.fault.Checked.the-variants.{Passed, Faulty}
 use Rattle.frames.specs.declared.walk.Framing.{Framing}
 use Rattle.frames.specs.declared.walk.Framing.the-variants as Framing
 use Rattle.program.specs.declared.sizes.Sizes.{Sizes}
-use Rattle.program.specs.Header.{header}
+use Rattle.header.specs.Header.{header}
 use Rattle.bodies.specs.Formula as Formulas
-use Rattle.bodies.specs.Thread as Threads
+use Rattle.thread_bodies.specs.Thread as Threads
 use Rattle.records.specs.Claim as Claims
 use Rattle.bodies.specs.Lists as Lists
 use Rattle.bodies.specs.Line as Lines

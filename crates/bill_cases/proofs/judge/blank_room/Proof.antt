@@ -1,5 +1,5 @@
 use mathlib.Core.Path.{refl}
-use Rattle.bill_cases.specs.Answer.{room}
+use Rattle.bill_answers.specs.Answer.{room}
 use Rattle.bill_cases.proofs.judge.blank_room.Statement.{statement}
 use Rattle.bill_cases.proofs.judge.blank_room.Tie as tie
 

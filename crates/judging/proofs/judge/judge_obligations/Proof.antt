@@ -1,4 +1,4 @@
-use Rattle.judging.proofs.Groups.{all-judged}
+use Rattle.outcomes.proofs.Groups.{all-judged}
 use Rattle.limits.proofs.Auto.{tests}
 use borrow.Author.Needs.{needs}
 use Rattle.judging.proofs.judge.judge_obligations.Statement.{statement}

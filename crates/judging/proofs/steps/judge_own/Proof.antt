@@ -1,4 +1,4 @@
-use Rattle.judging.proofs.Groups.{instructions}
+use Rattle.outcomes.proofs.Groups.{instructions}
 use Rattle.limits.proofs.Auto.{tests}
 use borrow.Author.Needs.{needs}
 use Rattle.judging.proofs.steps.judge_own.Statement.{statement}

@@ -1,8 +1,8 @@
 use Rattle.marks.specs.Marks.{asMarks}
-use Rattle.judging.proofs.Groups.{starts-all, starts-more, starts-none}
+use Rattle.outcomes.proofs.Groups.{starts-all, starts-more, starts-none}
 use Prim.Native.Nat.{_-_, _≤_, _<_}
 use mathlib.Core.Path.{_≡_}
-use Rattle.judging.specs.Walk.{startsTo}
+use Rattle.outcomes.specs.Walk.{startsTo}
 use Rattle.limits.proofs.Auto.{tests}
 use Rattle.judging.proofs.steps.judge_starts.Statement.{statement}
 use Rattle.judging.proofs.steps.judge_starts.Tie as tie

@@ -1,8 +1,8 @@
 use Rattle.marks.specs.Marks.{asMarks}
-use Rattle.judging.proofs.Groups.{steps-all, steps-more, steps-none}
+use Rattle.outcomes.proofs.Groups.{steps-all, steps-more, steps-none}
 use Prim.Native.Nat.{_-_, _≤_, _<_}
 use mathlib.Core.Path.{_≡_}
-use Rattle.judging.specs.Walk.{stepsTo}
+use Rattle.outcomes.specs.Walk.{stepsTo}
 use Rattle.limits.proofs.Auto.{tests}
 use Rattle.judging.proofs.steps.judge_steps.Statement.{statement}
 use Rattle.judging.proofs.steps.judge_steps.Tie as tie

@@ -1,11 +1,11 @@
 use Rattle.marks.specs.Marks.{asMarks}
-use Rattle.judging.proofs.Groups.{own-all, own-more, own-none}
+use Rattle.outcomes.proofs.Groups.{own-all, own-more, own-none}
 use Prim.Native.Nat.{_-_, _≤_, _<_}
 use mathlib.Core.Path.{_≡_}
 use Rattle.frames.specs.Records.{bodies}
 use Rattle.program.specs.Thread.{lastPoint}
 use Rattle.records.specs.Places.{threadBody}
-use Rattle.judging.specs.Walk.{ownTo}
+use Rattle.outcomes.specs.Walk.{ownTo}
 use Rattle.limits.proofs.Auto.{tests}
 use Rattle.judging.proofs.steps.judge_thread.Statement.{statement}
 use Rattle.judging.proofs.steps.judge_thread.Tie as tie

@@ -1,5 +1,5 @@
 use mathlib.Core.Path.{refl}
-use Rattle.trim_cases.specs.Answer.{room}
+use Rattle.trim_answers.specs.Answer.{room}
 use Rattle.trim_cases.proofs.judge.blank_room.Statement.{statement}
 use Rattle.trim_cases.proofs.judge.blank_room.Tie as tie
 

@@ -1,5 +1,5 @@
 use Rattle.limits.proofs.Auto.{tests}
-use Rattle.trim_cases.proofs.Ways.{ends}
+use Rattle.trim_cases.proofs.Ends.{ends}
 use borrow.Author.Needs.{needs}
 use Rattle.trim_cases.proofs.judge.within_case.Statement.{statement}
 use Rattle.trim_cases.proofs.judge.within_case.Tie as tie

@@ -1,0 +1,24 @@
+use Rattle.limits.proofs.Auto.{tests}
+use Rattle.archived.proofs.Ways.{trimming-ways, room}
+use borrow.Author.Needs.{needs}
+use Rattle.archived.proofs.accepted.trim_accepted.Statement.{statement}
+use Rattle.archived.proofs.accepted.trim_accepted.Tie as tie
+
+pub trim-accepted-spec : {M : Type 1} → statement M
+trim-accepted-spec =
+    tie.close
+    (tie.spec
+    (λ c. search needs)
+    (λ c κs. search (trimming-ways, tests))
+    (λ c. search needs)
+    (λ c. search needs)
+    (λ c κs. search (trimming-ways, tests))
+    (λ c. search needs)
+    (λ c. search needs)
+    (λ c κs. search (trimming-ways, tests))
+    (λ c. search (trimming-ways, tests))
+    (λ c. search needs)
+    (λ c. search needs)
+    (λ c κs. ((search tests, search tests), ((search tests, search tests), room _ _ (c .before .before .before .before .trimmed-length .result) _ (search tests) (search tests))))
+    (λ c. search needs)
+    (λ c. search (trimming-ways, tests)))

@@ -1,0 +1,3 @@
+pub mod Trimmed
+pub mod Accepted
+pub mod Answer

@@ -1,0 +1,2 @@
+// Stored bills, and answers compared with them.
+pub mod answer;

@@ -1,0 +1,10 @@
+use Rattle.conditions.proofs.Sides.{starting}
+use Rattle.limits.proofs.Auto.{tests}
+use borrow.Author.Needs.{needs}
+use Rattle.conditions.proofs.side.is_start.Statement.{statement}
+use Rattle.conditions.proofs.side.is_start.Tie as tie
+
+pub is-start-spec : {M : Type 1} → statement M
+is-start-spec =
+    tie.close
+    (tie.spec (λ c κs. search needs) (λ c κs. search (starting, tests)) (λ c. search needs) (λ c. search needs) (λ c. search (starting, tests)) (λ c. search (starting, tests)))

@@ -1,0 +1,10 @@
+use Rattle.header.proofs.Laws.{heading}
+use Rattle.limits.proofs.Auto.{tests}
+use borrow.Author.Needs.{needs}
+use Rattle.header.proofs.header.is_cleared.Statement.{statement}
+use Rattle.header.proofs.header.is_cleared.Tie as tie
+
+pub is-cleared-spec : {M : Type 1} → statement M
+is-cleared-spec =
+    tie.close
+    (tie.spec (λ c κs. search needs) (λ c κs. search needs) (λ c κs. search needs) (λ c. search (heading, tests)) (λ c. search (heading, tests)))

@@ -1,0 +1,9 @@
+use Rattle.header.proofs.Laws.{heading}
+use Rattle.limits.proofs.Auto.{tests}
+use borrow.Author.Needs.{needs}
+use Rattle.header.proofs.header.marks_of.Statement.{statement}
+use Rattle.header.proofs.header.marks_of.Tie as tie
+
+pub marks-of-spec : {M : Type 1} → statement M
+marks-of-spec =
+    tie.close (tie.spec (λ c κs. search needs) (λ c κs. search needs) (λ c. search needs) (λ c. search needs) (λ c κs. search needs) (λ c. search (heading, tests)))

@@ -1,9 +1,0 @@
-use Rattle.program.proofs.Laws.Header.{heading}
-use Rattle.limits.proofs.Auto.{tests}
-use borrow.Author.Needs.{needs}
-use Rattle.program.proofs.header.marks_of.Statement.{statement}
-use Rattle.program.proofs.header.marks_of.Tie as tie
-
-pub marks-of-spec : {M : Type 1} → statement M
-marks-of-spec =
-    tie.close (tie.spec (λ c κs. search needs) (λ c κs. search needs) (λ c. search needs) (λ c. search needs) (λ c κs. search needs) (λ c. search (heading, tests)))

@@ -1,0 +1,21 @@
+use Rattle.limits.proofs.Auto.{tests}
+use Rattle.stored_turns.proofs.Ways.{reads}
+use borrow.Author.Needs.{needs}
+use Rattle.stored_turns.proofs.turn.tariff_at.Statement.{statement}
+use Rattle.stored_turns.proofs.turn.tariff_at.Tie as tie
+
+pub tariff-at-spec : {M : Type 1} → statement M
+tariff-at-spec =
+    tie.close
+    (tie.spec
+    (λ c κs. search needs)
+    (λ c. search needs)
+    (λ c κs. search needs)
+    (λ c. search needs)
+    (λ c κs. search needs)
+    (λ c. search needs)
+    (λ c κs. search needs)
+    (λ c. search needs)
+    (λ c κs. search needs)
+    (λ c. search needs)
+    (λ c. search (reads, tests)))

@@ -1,0 +1,2 @@
+pub mod Use
+pub mod Thread

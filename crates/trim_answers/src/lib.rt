@@ -1,0 +1,2 @@
+// Images trimmed before, and answers compared with them.
+pub mod answer;
