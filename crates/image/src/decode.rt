@@ -7,6 +7,7 @@ use frames::walk::Framing;
 use frames::walk::read_frames;
 use header::header::Header;
 use header::header::range_of;
+use index::look::body_of;
 use limits::read::byte_at;
 use program::sizes::Sizes;
 ghost use mathlib.Core.Path.{_≡_};
