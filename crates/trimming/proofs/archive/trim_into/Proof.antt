@@ -12,5 +12,7 @@ trim-into-spec =
     (λ c κs. short-zeros _ (search tests))
     (λ c. search needs)
     (λ c. search needs)
+    (λ c. search needs)
     (λ c κs. long-zeros _ (search tests))
+    (λ c. search needs)
     (λ c. search needs))
