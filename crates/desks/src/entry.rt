@@ -1,8 +1,8 @@
 // The entry points, for C and Rust. Each refuses with 35 what is no caller from 1 to 8, and with 36 a caller without the right, before
 // every other check; then the service and every buffer stay, and the rest of the answer is 0.
-use crate::bills::bill_caller;
-use crate::bills::clear_bill;
-use crate::replays::clear_replay;
+use caller_bills::bills::bill_caller;
+use caller_bills::bills::clear_bill;
+use caller_bills::replays::clear_replay;
 use charges::tariff::Tariff;
 use checker::entry::check_image;
 use handover::entry::check_handover;

@@ -6,8 +6,8 @@ use Rattle.service.specs.declared.rights.Right.the-variants as Right
 use Rattle.service.proofs.Admitting.{admitted-caller}
 use Rattle.requests.proofs.Replies.{number-goes-on, bill-missing, bill-failed, bill-counted}
 use borrow.Author.Needs.{needs}
-use Rattle.desks.proofs.bills.bill_caller.Statement.{statement}
-use Rattle.desks.proofs.bills.bill_caller.Tie as tie
+use Rattle.caller_bills.proofs.bills.bill_caller.Statement.{statement}
+use Rattle.caller_bills.proofs.bills.bill_caller.Tie as tie
 
 returns-2 : tie.Need-returns-2
 returns-2 c =
