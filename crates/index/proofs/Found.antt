@@ -164,16 +164,21 @@ module _ (s : List ℕ) where
   first-starts : (n i : ℕ) → firstFrom s i (startOf s i) n .position ≡ startOf s (firstFrom s i (startOf s i) n .number)
   unfolding firstFrom
   first-starts zero i = refl
-  first-starts (suc n) i = go (ltb (startOf s i) (length s)) (isThread s (startOf s i)) (later (λ j. first-starts n j) (i + 1) (omega arith))
+  first-starts (suc n) i = go (ltb (startOf s i) (length s)) (isThread s (startOf s i))
+      (later (λ j. first-starts n j) (i + 1) (omega arith))
     where
       later : ((j : ℕ) → firstFrom s j (startOf s j) n .position ≡ startOf s (firstFrom s j (startOf s j) n .number)) → (j : ℕ) → j ≡ suc i
           → firstFrom s j (nextStart s (startOf s i)) n .position ≡ startOf s (firstFrom s j (nextStart s (startOf s i)) n .number)
       later f j e = let d : nextStart s (startOf s i) ≡ startOf s j = next-is i ∙ ap (startOf s) (sym e) in rw d (f j)
 
       go : (b c : Bool)
-          → firstFrom s (i + 1) (nextStart s (startOf s i)) n .position ≡ startOf s (firstFrom s (i + 1) (nextStart s (startOf s i)) n .number)
-          → cond b (cond c (record { number = i; position = startOf s i }) (firstFrom s (i + 1) (nextStart s (startOf s i)) n)) (record { number = i; position = startOf s i }) .position
-          ≡ startOf s (cond b (cond c (record { number = i; position = startOf s i }) (firstFrom s (i + 1) (nextStart s (startOf s i)) n)) (record { number = i; position = startOf s i }) .number)
+          → firstFrom s (i + 1) (nextStart s (startOf s i)) n .position ≡ startOf s
+          (firstFrom s (i + 1) (nextStart s (startOf s i)) n .number)
+          → cond b (cond c (record { number = i; position = startOf s i }) (firstFrom s (i + 1) (nextStart s (startOf s i)) n))
+          (record { number = i; position = startOf s i }) .position
+          ≡ startOf s
+          (cond b (cond c (record { number = i; position = startOf s i }) (firstFrom s (i + 1) (nextStart s (startOf s i)) n))
+          (record { number = i; position = startOf s i }) .number)
       go true true h = refl
       go true false h = h
       go false c h = refl
@@ -270,7 +275,9 @@ module _ (s ix b : List ℕ) (i p : ℕ) (e : ix ≡ indexOf s) (d : b ≡ getD 
             let z : firstThread s .number + (i - f) ≡ i = omega arith in
             let its : b ≡ body (drop (startOf s (firstThread s .number + (i - f))) s) =
             d ∙ body-is s i (numbered-there s b i p d h) ∙ ap (λ (m : ℕ). body (drop (startOf s m) s)) (sym z) in
-            rw (e, en) (index-start s (i - f) p k q (subst (λ (l : List ℕ). p < lastPoint l) its h) ∙ ap (λ (l : List ℕ). begins (drop 1 l) p) (sym its))
+            rw (e, en)
+            (index-start s (i - f) p k q (subst (λ (l : List ℕ). p < lastPoint l) its h) ∙ ap (λ (l : List ℕ). begins (drop 1 l) p)
+            (sym its))
 
 pub begins-known : (b l : List ℕ) (p r : ℕ) → l ≡ drop 1 b → r ≡ begins l p → r ≡ begins (drop 1 b) p
 begins-known b l p r e d = rw (← e) d

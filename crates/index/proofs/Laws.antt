@@ -125,9 +125,11 @@ unfilled s (suc n) i h g =
     let q : i ≢ n = λ e. omega arith in
     getD-set-other (recordsTo s n) n i (length s - startOf s n) 0 q ∙ unfilled s n i (omega arith) g
 
-stays : (s : List ℕ) (i n : ℕ) → length s ≤ startOf s i → i ≤ n → n ≤ tableSize s → (length s ≤ startOf s n) × (recordsTo s n ≡ recordsTo s i)
+stays : (s : List ℕ) (i n : ℕ) → length s ≤ startOf s i → i ≤ n → n ≤ tableSize s → (length s ≤ startOf s n) ×
+    (recordsTo s n ≡ recordsTo s i)
 unfolding startOf recordsTo
-stays s i zero h a g = let q : i ≡ 0 = omega arith in subst (λ (m : ℕ). (length s ≤ startOf s m) × (recordsTo s m ≡ recordsTo s i)) q (h, refl)
+stays s i zero h a g = let q : i ≡ 0 = omega arith in subst (λ (m : ℕ). (length s ≤ startOf s m) × (recordsTo s m ≡ recordsTo s i)) q
+    (h, refl)
 stays s i (suc n) h a g = go (eqb i (suc n)) refl (λ b. stays s i n h b (omega arith))
   where
     go : (b : Bool) → eqb i (suc n) ≡ b → (i ≤ n → (length s ≤ startOf s n) × (recordsTo s n ≡ recordsTo s i))
@@ -150,7 +152,8 @@ pub thread-is : (s : List ℕ) (p k : ℕ) → k ≡ word (drop (p + 2) s) → e
 unfolding isThread
 thread-is s p k e = rw e
 
-pub first-none : (s : List ℕ) (n i p : ℕ) → n ≤ i → firstFrom s 0 0 n ≡ firstFrom s i p (n - i) → record { number = i; position = p } ≡ firstFrom s 0 0 n
+pub first-none : (s : List ℕ) (n i p : ℕ) → n ≤ i → firstFrom s 0 0 n ≡ firstFrom s i p (n - i) → record { number = i; position = p }
+    ≡ firstFrom s 0 0 n
 unfolding firstFrom
 first-none s n i p h e = let z : n - i ≡ 0 = omega arith in e' z
   where
@@ -247,7 +250,8 @@ module _ (s l : List ℕ) (from p : ℕ) where
   unfolding behind
   behind-none = refl
 
-  pub rows-more : (m k b : List ℕ) (j q : ℕ) → m ≡ rowsTo s l from p j → q ≡ behind s p j → b ≡ body (drop q s) → k ≡ rowOf m (from + 16 * j) b
+  pub rows-more : (m k b : List ℕ) (j q : ℕ) → m ≡ rowsTo s l from p j → q ≡ behind s p j → b ≡ body (drop q s) → k ≡ rowOf m
+      (from + 16 * j) b
       → k ≡ rowsTo s l from p (j + 1)
   unfolding rowsTo
   rows-more m k b j q e d c f = f ∙ (rw (add-one j, e, c, d))
@@ -263,13 +267,15 @@ module _ (s l : List ℕ) (from p : ℕ) where
   unfolding rowsTo rowOf
   rows-length zero = refl
   rows-length (suc j) =
-      row-length (rowsTo s l from p j) (from + 16 * j) (body (drop (behind s p j) s)) (min 16 (lastPoint (body (drop (behind s p j) s)))) ∙ rows-length j
+      row-length (rowsTo s l from p j) (from + 16 * j) (body (drop (behind s p j) s)) (min 16 (lastPoint (body (drop (behind s p j) s))))
+      ∙ rows-length j
 
   pub rows-out : (j i : ℕ) → i < from → getD (rowsTo s l from p j) i 0 ≡ getD l i 0
   unfolding rowsTo rowOf
   rows-out zero i h = refl
   rows-out (suc j) i h =
-      row-out (rowsTo s l from p j) (from + 16 * j) (body (drop (behind s p j) s)) (min 16 (lastPoint (body (drop (behind s p j) s)))) i (λ r g e. omega arith)
+      row-out (rowsTo s l from p j) (from + 16 * j) (body (drop (behind s p j) s)) (min 16 (lastPoint (body (drop (behind s p j) s)))) i
+      (λ r g e. omega arith)
       ∙ rows-out j i h
 
   pub rows-in : (k j q : ℕ) → j < k → q < 16 → q < lastPoint (body (drop (behind s p j) s)) → from + 16 * k ≤ length l
@@ -283,13 +289,16 @@ module _ (s l : List ℕ) (from p : ℕ) where
 
       go : (c : Bool) → eqb j k ≡ c
           → (j < k → getD (rowsTo s l from p k) (from + 16 * j + q) 0 ≡ begins (drop 1 (its j)) q)
-          → getD (rowTo (rowsTo s l from p k) (from + 16 * k) (its k) (min 16 (lastPoint (its k)))) (from + 16 * j + q) 0 ≡ begins (drop 1 (its j)) q
+          → getD (rowTo (rowsTo s l from p k) (from + 16 * k) (its k) (min 16 (lastPoint (its k)))) (from + 16 * j + q) 0 ≡ begins
+          (drop 1 (its j)) q
       go true e f =
           let d = eqb-true j k e in
           let w : q < lastPoint (its k) = subst (λ (i : ℕ). q < lastPoint (its i)) d b in
-          let z = row-in (rowsTo s l from p k) (from + 16 * k) (its k) (min 16 (lastPoint (its k))) q (omega arith) (rw (rows-length k) (omega arith)) in
+          let z = row-in (rowsTo s l from p k) (from + 16 * k) (its k) (min 16 (lastPoint (its k))) q (omega arith)
+          (rw (rows-length k) (omega arith)) in
           subst
-          (λ (i : ℕ). getD (rowTo (rowsTo s l from p k) (from + 16 * k) (its k) (min 16 (lastPoint (its k)))) (from + 16 * i + q) 0 ≡ begins (drop 1 (its i)) q)
+          (λ (i : ℕ). getD (rowTo (rowsTo s l from p k) (from + 16 * k) (its k) (min 16 (lastPoint (its k)))) (from + 16 * i + q) 0
+          ≡ begins (drop 1 (its i)) q)
           (sym d) z
       go false e f =
           let d = eqb-false j k e in
@@ -333,5 +342,3 @@ short-zeros s h = let q : 577 ≡ tableSize s = omega (arith, size-is s, room-sh
 
 pub long-zeros : (s : List ℕ) → 1024 < length s → replicate {A = ℕ} 4588 0 ≡ replicate (tableSize s) 0
 long-zeros s h = let q : 4588 ≡ tableSize s = omega (arith, size-is s, room-long s h) in ap (λ (n : ℕ). replicate {A = ℕ} n 0) q
-
-pub ruleset zeros = (short-zeros, long-zeros)

@@ -65,8 +65,6 @@ module _ (b : List ℕ) (last n p : ℕ) (e : last ≡ lastPoint b) where
 pub count-start : (l : List Instruction) → 0 + branches (drop 0 l) ≡ branches l
 count-start l = omega arith
 
-pub ruleset counting = (count-start, count-more, count-all)
-
 -- the tally of a thread
 
 small-product : (a b m : ℕ) → a ≤ m → b ≤ m → a * b ≤ m * m

@@ -6,4 +6,6 @@ use Rattle.index.proofs.look.place_of.Tie as tie
 
 pub place-of-spec : {M : Type 1} → statement M
 place-of-spec =
-    tie.close (tie.spec (λ c. search (looking, tests)) (λ c. search needs) (λ c. search needs) (λ c. search (looking, tests)) (λ c. search (looking, tests)) (λ c. search (looking, tests)))
+    tie.close
+    (tie.spec (λ c. search (looking, tests)) (λ c. search needs) (λ c. search needs) (λ c. search (looking, tests))
+    (λ c. search (looking, tests)) (λ c. search (looking, tests)))

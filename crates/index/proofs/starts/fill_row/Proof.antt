@@ -11,7 +11,8 @@ use Rattle.index.proofs.starts.fill_row.Tie as tie
 
 abbrev Inv-loop : tie.InvT-loop
 Inv-loop b ix₀ from n at₀ p₀ ix at p =
-    (n ≡ min 16 (lastPoint b)) × ((n ≤ 16) × ((from + 16 ≤ length ix₀) × ((p ≤ n) × ((at ≡ begins (drop 1 b) p) × (ix ≡ rowTo ix₀ from b p)))))
+    (n ≡ min 16 (lastPoint b)) ×
+    ((n ≤ 16) × ((from + 16 ≤ length ix₀) × ((p ≤ n) × ((at ≡ begins (drop 1 b) p) × (ix ≡ rowTo ix₀ from b p)))))
 
 abbrev μ-loop : tie.MeasureT-loop
 μ-loop b ix₀ from n at₀ p₀ ix at p = n - p

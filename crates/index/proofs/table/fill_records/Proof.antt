@@ -11,7 +11,8 @@ use Rattle.index.proofs.table.fill_records.Tie as tie
 
 abbrev Inv-loop : tie.InvT-loop
 Inv-loop s ix₀ n p₀ i₀ ix p i =
-    (n ≡ room s) × ((n ≤ 4523) × ((i ≤ n) × ((p ≡ startOf s i) × ((ix ≡ recordsTo s i) × ((length ix ≡ tableSize s) × (length ix ≡ length ix₀))))))
+    (n ≡ room s) ×
+    ((n ≤ 4523) × ((i ≤ n) × ((p ≡ startOf s i) × ((ix ≡ recordsTo s i) × ((length ix ≡ tableSize s) × (length ix ≡ length ix₀))))))
 
 abbrev μ-loop : tie.MeasureT-loop
 μ-loop s ix₀ n p₀ i₀ ix p i = n - i
@@ -31,6 +32,15 @@ fill-records-spec =
     (λ c κs. search tests)
     (λ c. search tests)
     (λ c. search tests)
-    (λ c. (search tests, (search tests, (search tests, (search (start-more, tests), (search (records-more, tests), (search (long, tests), search (long, tests))))))))
+    (λ c. (
+      search tests,
+      (
+        search tests,
+        (
+          search tests,
+          (search (start-more, tests), (search (records-more, tests), (search (long, tests), search (long, tests)))),
+        ),
+      ),
+    ))
     (λ c. search (filling, tests))
     (λ c. search (filling, tests)))
