@@ -3,7 +3,7 @@ use crate::outlined::formula_outlined;
 use formula::code::Place;
 use frames::fault::Checked;
 use frames::fault::Fault;
-use frames::index::body_of;
+use index::look::body_of;
 use limits::read::word_at;
 use program::sizes::Sizes;
 use records::line::Form;
@@ -11,7 +11,8 @@ use records::line::check_line_numbers;
 use records::line::line_form;
 use thread_bodies::use_of::is_sort;
 ghost use mathlib.Core.Path.{_≡_};
-ghost use Rattle.frames.specs.Records.{bodies, indexOf};
+ghost use Rattle.frames.specs.Records.{bodies};
+ghost use Rattle.index.specs.Table.{indexOf};
 ghost use Rattle.bodies.specs.Outlined.{outlinedOf};
 ghost use Rattle.bodies.specs.Line.{sortAt, sortedBy, lineSorted, line};
 

@@ -1,11 +1,12 @@
 // Which formulas may stand in an outline or a triple. Many lines may name one formula, so this is found out once for
 // each formula, and a look-up costs the same however long the formula is.
-use frames::index::body_of;
+use index::look::body_of;
 use limits::Limits;
 use program::sizes::Sizes;
 use thread_bodies::use_of::is_outlined;
 ghost use mathlib.Core.Path.{_≡_};
-ghost use Rattle.frames.specs.Records.{bodies, indexOf};
+ghost use Rattle.frames.specs.Records.{bodies};
+ghost use Rattle.index.specs.Table.{indexOf};
 ghost use Rattle.bodies.specs.Lists.{outlinedAt};
 ghost use Rattle.bodies.specs.Outlined.{entries, outlinedOf};
 

@@ -1,14 +1,13 @@
 // What an accepted image holds, for calls that go on from there: trimming, bills.
 use crate::judge::judge_sound;
-use frames::index::fill_index;
 use image::decode::Decoded;
 use image::decode::decode_image;
+use index::table::fill_index;
 use program::sizes::Sizes;
 use report::verdict::Verdict;
 ghost use mathlib.Core.Path.{_≡_};
 ghost use lib.ListN.{replicate};
-ghost use Rattle.limits.specs.Limits.{records};
-ghost use Rattle.frames.specs.Records.{indexOf};
+ghost use Rattle.index.specs.Table.{tableSize, indexOf};
 ghost use Rattle.checker.specs.Acceptance.{grantedBy, acceptance};
 
 pub enum Acceptance {
@@ -38,9 +37,9 @@ fn granted_by(v: Verdict, z: Sizes) -> Acceptance
     }
 }
 
-// How much an image holds, if it is accepted. Fills the index of its records, a table of zeros.
+// How much an image holds, if it is accepted. Fills the index of its records, a table of zeros as long as the image asks for.
 pub fn accept_image<'a, 'b>(image: &'a [u8], index: &'b mut [usize]) -> Acceptance
-    requires { ⌜ now index ≡ replicate records 0 ⌝ }
+    requires { ⌜ now index ≡ replicate (tableSize (now image)) 0 ⌝ }
     ensures { λ r. ⌜ (r ≡ acceptance (now (image .entry))) × (now (index .exit) ≡ indexOf (now (image .entry))) ⌝ }
 {
     fill_index(image, index);

@@ -4,19 +4,20 @@ use content::claim::Claimed;
 use content::claim::claim_of;
 use content::claim::claim_place;
 use frames::fault::Fault;
-use frames::index::fill_index;
 use image::decode::Decoded;
 use image::decode::decode_image;
+use index::table::IndexSize;
+use index::table::fill_index;
 use judging::judge::judge_obligations;
 use justify::pass::judge_lines;
-use limits::Limits;
 use outcomes::claims::first_denied;
 use outcomes::outcome::Outcome;
 use program::sizes::Sizes;
 use report::obligation::Place;
 use report::verdict::Verdict;
 ghost use mathlib.Core.Path.{_≡_};
-ghost use Rattle.frames.specs.Records.{indexOf};
+ghost use lib.ListN.{replicate};
+ghost use Rattle.index.specs.Table.{tableSize, indexOf};
 ghost use Rattle.checker.specs.Answer.{verdict, verdictWithin};
 ghost use Rattle.checker.specs.Found.{pointsOf, deniedAt, claimsVerdict, soundVerdict};
 ghost use Rattle.marks.specs.Marks.{asMarks};
@@ -89,15 +90,27 @@ pub fn judge_sound<'a, 'b>(s: &'a [u8], ix: &'b [usize], z: Sizes) -> Verdict
     }
 }
 
+// With a table of zeros, as long as the image asks for.
+fn judge_by<'a, 'b>(image: &'a [u8], index: &'b mut [usize]) -> Verdict
+    requires { ⌜ now index ≡ replicate (tableSize (now image)) 0 ⌝ }
+    ensures { λ r. ⌜ r ≡ verdict (now (image .entry)) ⌝ }
+{
+    fill_index(image, index);
+    match decode_image(image, index) {
+        Decoded::Refused { fault, record } => Verdict::Refused { fault, record },
+        Decoded::Sound(z) => judge_sound(image, index, z),
+    }
+}
+
 pub fn judge(image: &[u8]) -> Verdict
     ensures { λ r. ⌜ r ≡ verdict (now (image .entry)) ⌝ }
 {
-    let mut index = [0usize; Limits::RECORDS];
-    fill_index(image, &mut index);
-    match decode_image(image, &index) {
-        Decoded::Refused { fault, record } => Verdict::Refused { fault, record },
-        Decoded::Sound(z) => judge_sound(image, &index, z),
+    if image.len() <= IndexSize::SHORT_IMAGE {
+        let mut index = [0usize; IndexSize::SHORT];
+        return judge_by(image, &mut index);
     }
+    let mut index = [0usize; IndexSize::LONG];
+    judge_by(image, &mut index)
 }
 
 // For a caller that takes images of so many bytes at most.

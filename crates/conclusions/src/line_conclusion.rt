@@ -8,7 +8,7 @@ use records::place::instruction_of;
 use rulebook::rule::Form;
 use rulebook::rule::form_at;
 ghost use mathlib.Core.Path.{_≡_};
-ghost use Rattle.frames.specs.Records.{indexOf};
+ghost use Rattle.index.specs.Table.{indexOf};
 ghost use Rattle.conclusions.specs.LineConclusion.{spokenForm, conclusionBy, conclusionOf};
 ghost use Rattle.rulebook.specs.Rulebook.{ruleRow};
 

@@ -14,7 +14,7 @@ use rulebook::rule::Form;
 use rulebook::rule::Rule;
 use rulebook::rule::Rules;
 ghost use mathlib.Core.Path.{_≡_};
-ghost use Rattle.frames.specs.Records.{indexOf};
+ghost use Rattle.index.specs.Table.{indexOf};
 ghost use Rattle.conclusions.specs.Premises.{premiseConclusion, premisesOf, isImplicationAt, allImplications, matchPremises};
 
 // What premise j of line n concludes, of so many.

@@ -11,8 +11,9 @@ use borrow.Author.Tests.{ltb-true, ltb-false, ne-eqb, lt-ltb, le-ltb}
 use Rattle.logic.specs.Formula.{Formula.const}
 use Rattle.limits.specs.Limits as Limits
 use Rattle.limits.specs.Numbers.{word}
-use Rattle.frames.specs.Records.{body, bodies, indexOf, startOf}
-use Rattle.frames.proofs.Laws.Index.{index-length, body-is, found-past}
+use Rattle.frames.specs.Records.{body, bodies, startOf}
+use Rattle.index.specs.Table.{placeOf}
+use Rattle.index.proofs.Found.{body-is, body-past}
 use Rattle.limits.specs.Limits.{nesting}
 use Rattle.formula.specs.Reader.{sortOf}
 use Rattle.formula.specs.Tree.{ParsedTree, nodeAt, parseTree}
@@ -35,15 +36,11 @@ empty-body = refl
 -- a record whose body is not empty is there: it starts before the end of the image, and its body stands behind its frame
 module _ (s : List ℕ) (k : ℕ) (full : 1 ≤ length (getD (bodies s) k [])) where
   number-there : k < Limits.records
-  unfolding indexOf
   number-there = go (ltb k Limits.records) refl
     where
       go : (b : Bool) → ltb k Limits.records ≡ b → k < Limits.records
       go true e = ltb-true k Limits.records e
-      go false e =
-          let h : length (indexOf s) ≤ k = let q = index-length s Limits.records in let p = ltb-false k Limits.records e in omega arith in
-          let d = ap length (sym (found-past s (indexOf s) k (body (drop (length s) s)) refl h refl) ∙ ap body (drop-length s)) in
-          absurd (omega (arith, empty-body))
+      go false e = let d = ap length (body-past s k (ltb-false k Limits.records e)) in absurd (omega arith)
 
   its-body : getD (bodies s) k [] ≡ body (drop (startOf s k) s)
   its-body = body-is s k number-there
@@ -56,7 +53,7 @@ module _ (s : List ℕ) (k : ℕ) (full : 1 ≤ length (getD (bodies s) k [])) w
       go false e = let d = ap length (its-body ∙ ap body (drop-of-length-le s (ltb-false (startOf s k) (length s) e))) in absurd (omega (arith, empty-body))
 
   position-is : (k ≡ 0 → ⊥) → formulaAt s k ≡ startOf s k + 4
-  unfolding formulaAt bodyStart
+  unfolding formulaAt bodyStart placeOf
   position-is h = rw (ne-eqb k 0 h, lt-ltb k Limits.records number-there, lt-ltb (startOf s k) (length s) start-there)
 
   body-part : getD (bodies s) k [] ≡ take (word (drop (startOf s k) s) - 2) (drop (startOf s k + 4) s)

@@ -6,10 +6,9 @@ use lib.Dec.{eqb, leb, ltb}
 use lib.ListN.{length, getD, drop}
 use Rattle.limits.specs.Numbers.{word}
 use Rattle.logic.specs.Opcode as Opcode
-use Rattle.limits.specs.Limits as Limits
-use Rattle.frames.specs.Records.{startOf}
 use Rattle.program.specs.declared.instruction.Instruction.{Instruction}
 use Rattle.program.specs.Instruction.{firstOperation}
+use Rattle.index.specs.Table.{placeOf}
 use Rattle.content.specs.Certificate.{left, right}
 use Rattle.content.specs.declared.line.Line.{Line}
 use Rattle.content.specs.declared.acting.Acting.{Acting}
@@ -21,7 +20,7 @@ bodyStart s p = cond (ltb p (length s)) (p + 4) (length s)
 
 -- where formula k stands; where there is none, the end of the image, whose tree is that of the constant 0
 unfoldable pub formulaAt : List ℕ → ℕ → ℕ
-formulaAt s k = cond (eqb k 0) (length s) (cond (ltb k Limits.records) (bodyStart s (startOf s k)) (length s))
+formulaAt s k = cond (eqb k 0) (length s) (bodyStart s (placeOf s k))
 
 -- the line in a body
 unfoldable pub lineIn : List ℕ → List ℕ → Line

@@ -5,7 +5,8 @@ use program::instruction::first_operation;
 use program::sizes::Sizes;
 use records::place::instruction_of;
 ghost use mathlib.Core.Path.{_≡_};
-ghost use Rattle.frames.specs.Records.{bodies, indexOf};
+ghost use Rattle.frames.specs.Records.{bodies};
+ghost use Rattle.index.specs.Table.{indexOf};
 ghost use Rattle.records.specs.Places.{instructionOf};
 ghost use Rattle.content.specs.Places.{registerFirst, actingOf};
 

@@ -1,11 +1,12 @@
 // The claims, by their numbers, from 0.
-use frames::index::body_of;
+use index::look::body_of;
 use limits::read::octet_at;
 use limits::read::word_at;
 use program::sizes::Sizes;
 ghost use mathlib.Core.Path.{_≡_};
 ghost use Prim.Native.Nat.{_<_};
-ghost use Rattle.frames.specs.Records.{bodies, indexOf};
+ghost use Rattle.frames.specs.Records.{bodies};
+ghost use Rattle.index.specs.Table.{indexOf};
 ghost use Rattle.content.specs.Image.{claimBody, claimPlace};
 ghost use Rattle.content.specs.Places.{claimedIn};
 

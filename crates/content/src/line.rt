@@ -1,6 +1,6 @@
 // A line and its premises, by the line's number.
 use crate::position::formula_at;
-use frames::index::body_of;
+use index::look::body_of;
 use limits::Limits;
 use limits::read::byte_at;
 use limits::read::word_at;
@@ -9,7 +9,8 @@ use records::line::premise;
 ghost use mathlib.Core.Path.{_≡_};
 ghost use Prim.Native.Nat.{_<_};
 ghost use lib.ListN.{getD};
-ghost use Rattle.frames.specs.Records.{bodies, indexOf};
+ghost use Rattle.frames.specs.Records.{bodies};
+ghost use Rattle.index.specs.Table.{indexOf};
 ghost use Rattle.records.specs.Line.{premises};
 ghost use Rattle.content.specs.Certificate.{lineBody};
 ghost use Rattle.content.specs.Places.{lineIn};

@@ -1,11 +1,12 @@
 // The line that an obligation names.
 use crate::totals::Totals;
-use frames::index::body_of;
+use index::look::body_of;
 use limits::read::number_at;
 use program::sizes::Sizes;
 ghost use mathlib.Core.Path.{_≡_};
 ghost use Prim.Native.Nat.{_<_};
-ghost use Rattle.frames.specs.Records.{bodies, indexOf};
+ghost use Rattle.frames.specs.Records.{bodies};
+ghost use Rattle.index.specs.Table.{indexOf};
 ghost use Rattle.content.specs.Totals.{totalsOf};
 ghost use Rattle.content.specs.Image.{namedLine};
 

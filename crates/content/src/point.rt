@@ -2,14 +2,15 @@
 use crate::position::formula_at;
 use crate::totals::Totals;
 use crate::totals::before_thread;
-use frames::index::body_of;
+use index::look::body_of;
 use limits::Limits;
 use limits::read::number_at;
 use program::sizes::Sizes;
 use program::thread::last_point;
 ghost use mathlib.Core.Path.{_≡_};
 ghost use Prim.Native.Nat.{_<_};
-ghost use Rattle.frames.specs.Records.{bodies, indexOf};
+ghost use Rattle.frames.specs.Records.{bodies};
+ghost use Rattle.index.specs.Table.{indexOf};
 ghost use Rattle.program.specs.Thread.{lastPoint};
 ghost use Rattle.records.specs.Places.{threadBody};
 ghost use Rattle.content.specs.Totals.{totalsOf};

@@ -1,6 +1,7 @@
 // Where a formula stands in the image.
+use index::look::place_of;
 ghost use mathlib.Core.Path.{_≡_};
-ghost use Rattle.frames.specs.Records.{indexOf};
+ghost use Rattle.index.specs.Table.{indexOf};
 ghost use Rattle.content.specs.Places.{bodyStart, formulaAt};
 
 // The body of the record at a position stands behind its length and its kind.
@@ -21,9 +22,5 @@ pub fn formula_at<'a, 'b>(s: &'a [u8], ix: &'b [usize], k: usize) -> usize
     if k == 0 {
         return s.len();
     }
-    if k < ix.len() {
-        let p = s.len() - ix[k];
-        return body_start(s, p);
-    }
-    s.len()
+    body_start(s, place_of(s, ix, k))
 }

@@ -1,13 +1,16 @@
 // Totals over the threads: worked out once, for all look-ups.
+use index::look::body_of;
 use limits::Limits;
 use program::sizes::Sizes;
-use records::tally::count_obligations;
+use program::thread::last_point;
+use records::tally::obligations_by;
 use records::tally::tally_of;
 ghost use mathlib.Core.Path.{_≡_};
 ghost use Prim.Native.Nat.{_-_, _≤_};
 ghost use lib.ListN.{replicate};
 ghost use Rattle.limits.specs.Limits.{threads};
-ghost use Rattle.frames.specs.Records.{bodies, indexOf};
+ghost use Rattle.frames.specs.Records.{bodies};
+ghost use Rattle.index.specs.Table.{indexOf};
 ghost use Rattle.records.specs.Tally.{tallyTo};
 ghost use Rattle.content.specs.Totals.{pointsBefore, totalsOf};
 
@@ -41,10 +44,13 @@ fn fill_before<'a, 'b, 'c>(s: &'a [u8], ix: &'b [usize], z: Sizes, before: &'c m
     requires { ⌜ (now ix ≡ indexOf (now s)) × (now before ≡ replicate threads 0) ⌝ }
     ensures { λ _. ⌜ now (before .exit) ≡ pointsBefore z (bodies (now (s .entry))) ⌝ }
 {
+    let mut sum: usize = 0;
     let mut t: usize = 0;
     while t < Limits::THREADS {
-        before[t] = points_before(s, ix, z, t + 1);
+        before[t] = sum;
         t += 1;
+        let b = body_of(s, ix, (z.formulas as usize) + t);
+        sum += last_point(b) + 1;
     }
 }
 
@@ -58,7 +64,7 @@ pub fn totals_of<'a, 'b>(s: &'a [u8], ix: &'b [usize], z: Sizes) -> Totals
     Totals {
         points: c.points,
         before,
-        obligations: count_obligations(s, ix, z),
+        obligations: obligations_by(z.threads, c),
     }
 }
 

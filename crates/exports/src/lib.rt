@@ -5,14 +5,16 @@ use formula::reader::Counts;
 use formula::reader::Fault;
 use formula::reader::Reading;
 use formula::reader::read_formula;
-use frames::index::fill_index;
 use image::code::code_of;
 use image::decode::Decoded;
 use image::decode::decode_image;
-use limits::Limits;
+use index::table::IndexSize;
+use index::table::fill_index;
 ghost use mathlib.Core.Path.{_≡_};
 ghost use Prim.Native.Nat.{_+_};
+ghost use lib.ListN.{replicate};
 ghost use Rattle.formula.specs.Reader.{limit, readingOf};
+ghost use Rattle.index.specs.Table.{tableSize};
 ghost use Rattle.image.specs.Decode.{decoded};
 ghost use Rattle.exports.specs.Answers.{ofReading, ofDecoded};
 
@@ -46,16 +48,27 @@ pub extern "C" fn formula_answer(
     }
 }
 
-// The answer of `decode_image` as one number: 0 for a sound image, else the code times 65,536 and the record. (No image
-// has so many records; the remainder spares a proof of that.)
+// With a table of zeros, as long as the image asks for. (No image has 65,536 records; the remainder spares a proof of that.)
+fn answer_by<'a, 'b>(image: &'a [u8], index: &'b mut [usize]) -> usize
+    requires { ⌜ now index ≡ replicate (tableSize (now image)) 0 ⌝ }
+    ensures { λ r. ⌜ r ≡ ofDecoded (decoded (now (image .entry))) ⌝ }
+{
+    fill_index(image, index);
+    match decode_image(image, index) {
+        Decoded::Sound(_) => 0,
+        Decoded::Refused { fault, record } => code_of(fault) * 65536 + record % 65536,
+    }
+}
+
+// The answer of `decode_image` as one number: 0 for a sound image, else the code times 65,536 and the record.
 #[no_mangle]
 pub extern "C" fn image_answer(image: &[u8]) -> usize
     ensures { λ r. ⌜ r ≡ ofDecoded (decoded (now (image .entry))) ⌝ }
 {
-    let mut index = [0usize; Limits::RECORDS];
-    fill_index(image, &mut index);
-    match decode_image(image, &index) {
-        Decoded::Sound(_) => 0,
-        Decoded::Refused { fault, record } => code_of(fault) * 65536 + record % 65536,
+    if image.len() <= IndexSize::SHORT_IMAGE {
+        let mut index = [0usize; IndexSize::SHORT];
+        return answer_by(image, &mut index);
     }
+    let mut index = [0usize; IndexSize::LONG];
+    answer_by(image, &mut index)
 }

@@ -19,7 +19,7 @@ use rulebook::rule::Rule;
 use rulebook::rule::rule_at;
 use sides::asked::is_asked;
 ghost use mathlib.Core.Path.{_≡_};
-ghost use Rattle.frames.specs.Records.{indexOf};
+ghost use Rattle.index.specs.Table.{indexOf};
 ghost use Rattle.fitting.specs.Fit.{isAllowed, restAt, lineMatch, fitsRow, fitsLine};
 
 // A triple's rule has the operation among its own; a rule for pairs, that of the whole.

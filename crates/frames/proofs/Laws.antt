@@ -1,4 +1,3 @@
 pub mod Checks
 pub mod Frame
 pub mod Walk
-pub mod Index

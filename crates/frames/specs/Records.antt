@@ -1,7 +1,7 @@
 -- The bodies of an image's records, and where the records stand.
 use mathlib.Core.List.{List, [], _∷_}
 use Prim.Native.Nat.{ℕ, zero, suc, _+_, _-_, min}
-use lib.ListN.{length, take, drop, set, replicate}
+use lib.ListN.{length, take, drop}
 use Rattle.limits.specs.Limits as Limits
 use Rattle.limits.specs.Numbers.{word}
 
@@ -22,11 +22,3 @@ bodies s = cut Limits.records s
 unfoldable pub startOf : List ℕ → ℕ → ℕ
 startOf s zero = 0
 startOf s (suc i) = min (length s) (startOf s i + 2 + word (drop (startOf s i) s))
-
--- a table of the first i records: how many bytes there are from each one's start on, so 0 for a record that is not there
-unfoldable pub indexTo : List ℕ → ℕ → List ℕ
-indexTo s zero = replicate Limits.records 0
-indexTo s (suc i) = set (indexTo s i) i (length s - startOf s i)
-
-unfoldable pub indexOf : List ℕ → List ℕ
-indexOf s = indexTo s Limits.records

@@ -3,10 +3,11 @@ use crate::permit::Handover;
 use crate::permit::handover_code;
 use checker::acceptance::Acceptance;
 use checker::acceptance::accept_image;
-use limits::Limits;
+use index::table::IndexSize;
 use program::sizes::Sizes;
 ghost use mathlib.Core.Path.{_≡_};
-ghost use Rattle.frames.specs.Records.{indexOf};
+ghost use lib.ListN.{replicate};
+ghost use Rattle.index.specs.Table.{tableSize, indexOf};
 ghost use Rattle.image.specs.Decode.{decoded};
 ghost use Rattle.image.specs.declared.decode.Decoded.the-variants.{Sound};
 ghost use Rattle.checker.specs.Acceptance.{acceptance};
@@ -14,7 +15,25 @@ ghost use Rattle.checker.specs.declared.acceptance.Acceptance.the-variants.{Gra
 ghost use Rattle.handover.specs.Code.{byAcceptance};
 ghost use Rattle.handover.specs.Promise.{Promise};
 
-// The old image is accepted.
+// The old image is accepted. With a table of zeros, as long as the new image asks for.
+fn code_by<'a, 'b, 'c, 'd, 'e>(
+    old: &'a [u8],
+    ox: &'b [usize],
+    z: Sizes,
+    new: &'c [u8],
+    nx: &'d mut [usize],
+    table: &'e [u8],
+) -> u16
+    requires { ⌜ ((now ox ≡ indexOf (now old)) × (decoded (now old) ≡ Sound z)) × (now nx ≡ replicate (tableSize (now new)) 0) ⌝ }
+    ensures { λ r. ⌜ r ≡ byAcceptance (now (old .entry)) (now (new .entry)) (now (table .entry)) (Granted z)
+        (acceptance (now (new .entry))) ⌝ }
+{
+    match accept_image(new, nx) {
+        Acceptance::Declined => Handover::UNLIKE,
+        Acceptance::Granted(y) => handover_code(old, ox, z, new, nx, y, table),
+    }
+}
+
 fn code_from<'a, 'b, 'c, 'd>(
     old: &'a [u8],
     ox: &'b [usize],
@@ -26,10 +45,27 @@ fn code_from<'a, 'b, 'c, 'd>(
     ensures { λ r. ⌜ r ≡ byAcceptance (now (old .entry)) (now (new .entry)) (now (table .entry)) (Granted z)
         (acceptance (now (new .entry))) ⌝ }
 {
-    let mut nx = [0usize; Limits::RECORDS];
-    match accept_image(new, &mut nx) {
+    if new.len() <= IndexSize::SHORT_IMAGE {
+        let mut nx = [0usize; IndexSize::SHORT];
+        return code_by(old, ox, z, new, &mut nx, table);
+    }
+    let mut nx = [0usize; IndexSize::LONG];
+    code_by(old, ox, z, new, &mut nx, table)
+}
+
+// With a table of zeros, as long as the old image asks for.
+fn permit_by<'a, 'b, 'c, 'd>(
+    old: &'a [u8],
+    ox: &'b mut [usize],
+    new: &'c [u8],
+    table: &'d [u8],
+) -> u16
+    requires { ⌜ now ox ≡ replicate (tableSize (now old)) 0 ⌝ }
+    ensures { λ r. ⌜ Promise (now (old .entry)) (now (new .entry)) (now (table .entry)) r ⌝ }
+{
+    match accept_image(old, ox) {
         Acceptance::Declined => Handover::UNLIKE,
-        Acceptance::Granted(y) => handover_code(old, ox, z, new, &nx, y, table),
+        Acceptance::Granted(z) => code_from(old, ox, z, new, table),
     }
 }
 
@@ -42,9 +78,10 @@ fn code_from<'a, 'b, 'c, 'd>(
 pub extern "C" fn check_handover(old: &[u8], new: &[u8], table: &[u8]) -> u16
     ensures { λ r. ⌜ Promise (now (old .entry)) (now (new .entry)) (now (table .entry)) r ⌝ }
 {
-    let mut ox = [0usize; Limits::RECORDS];
-    match accept_image(old, &mut ox) {
-        Acceptance::Declined => Handover::UNLIKE,
-        Acceptance::Granted(z) => code_from(old, &ox, z, new, table),
+    if old.len() <= IndexSize::SHORT_IMAGE {
+        let mut ox = [0usize; IndexSize::SHORT];
+        return permit_by(old, &mut ox, new, table);
     }
+    let mut ox = [0usize; IndexSize::LONG];
+    permit_by(old, &mut ox, new, table)
 }

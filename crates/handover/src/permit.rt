@@ -1,15 +1,16 @@
 // The code of a handover between accepted images.
 use content::totals::Totals;
 use content::totals::totals_of;
-use frames::index::body_of;
 use handover_lines::lines::lines_serve;
 use handover_table::bytes::same_bytes;
 use handover_table::table::table_fits;
+use index::look::body_of;
 use justify::pass::judge_lines;
 use program::sizes::Sizes;
 ghost use mathlib.Core.Path.{_≡_};
 ghost use Prim.Native.Nat.{_≤_};
-ghost use Rattle.frames.specs.Records.{bodies, indexOf};
+ghost use Rattle.frames.specs.Records.{bodies};
+ghost use Rattle.index.specs.Table.{indexOf};
 ghost use Rattle.image.specs.Decode.{decoded};
 ghost use Rattle.image.specs.declared.decode.Decoded.the-variants.{Sound};
 ghost use Rattle.content.specs.Image.{imageOf};

@@ -1,11 +1,11 @@
 // Whether the lines that a table names serve.
 use content::point::last_point_of;
 use content::totals::Totals;
-use frames::index::body_of;
 use handover_table::bytes::same_bytes;
 use handover_table::entries::line_named;
 use handover_table::entries::point_named;
 use handover_table::points::points_before;
+use index::look::body_of;
 use limits::read::number_at;
 use limits::read::word_at;
 use marks::is_marked;
@@ -15,7 +15,8 @@ use records::line::line_form;
 ghost use mathlib.Core.Path.{_≡_};
 ghost use Prim.Native.Nat.{_+_, _≤_, _<_};
 ghost use lib.ListN.{getD};
-ghost use Rattle.frames.specs.Records.{bodies, indexOf};
+ghost use Rattle.frames.specs.Records.{bodies};
+ghost use Rattle.index.specs.Table.{indexOf};
 ghost use Rattle.image.specs.Decode.{decoded};
 ghost use Rattle.image.specs.declared.decode.Decoded.the-variants.{Sound};
 ghost use Rattle.records.specs.Line.{formOf};

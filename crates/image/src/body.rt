@@ -9,7 +9,8 @@ use program::sizes::Sizes;
 use records::claim::check_claim;
 use thread_bodies::thread_body::check_thread;
 ghost use mathlib.Core.Path.{_≡_};
-ghost use Rattle.frames.specs.Records.{bodies, indexOf};
+ghost use Rattle.frames.specs.Records.{bodies};
+ghost use Rattle.index.specs.Table.{indexOf};
 ghost use Rattle.bodies.specs.Outlined.{outlinedOf};
 ghost use Rattle.image.specs.Body.{placeOf, check};
 

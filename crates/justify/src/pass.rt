@@ -9,7 +9,7 @@ use marks::set_mark;
 use program::sizes::Sizes;
 use rulebook::template::all_templates;
 ghost use mathlib.Core.Path.{_≡_};
-ghost use Rattle.frames.specs.Records.{indexOf};
+ghost use Rattle.index.specs.Table.{indexOf};
 ghost use Rattle.marks.specs.Marks.{asMarks};
 ghost use Rattle.justify.specs.Pass.{premisesMarked, isJustified, marksTo};
 

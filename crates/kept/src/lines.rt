@@ -1,6 +1,6 @@
 // Which lines stay: those that obligations and claims name, and down from these all premises.
 use content::claim::claim_of;
-use frames::index::body_of;
+use index::look::body_of;
 use limits::read::byte_at;
 use limits::read::rest;
 use notes::note::is_noted;
@@ -13,7 +13,8 @@ ghost use mathlib.Core.Bool.{false};
 ghost use Prim.Native.Nat.{suc, _<_};
 ghost use lib.ListN.{length, replicate};
 ghost use Rattle.limits.specs.Limits.{lines};
-ghost use Rattle.frames.specs.Records.{bodies, indexOf};
+ghost use Rattle.frames.specs.Records.{bodies};
+ghost use Rattle.index.specs.Table.{indexOf};
 ghost use Rattle.records.specs.Line.{premises};
 ghost use Rattle.image.specs.Decode.{recordCount};
 ghost use Rattle.document.specs.Parse.{documentOf};

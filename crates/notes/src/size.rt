@@ -1,13 +1,14 @@
 // How long the trimmed image is: what stays keeps its length, so it is shorter by the formulas and the lines that are left out.
 use crate::note::is_noted;
-use frames::index::body_of;
+use index::look::body_of;
 use program::sizes::Sizes;
 ghost use mathlib.Core.Path.{_≡_};
 ghost use mathlib.Core.List.{[]};
 ghost use Prim.Native.Nat.{_+_, _*_, _≤_, _<_};
 ghost use lib.ListN.{length, getD};
 ghost use Rattle.limits.specs.Limits.{imageBytes};
-ghost use Rattle.frames.specs.Records.{bodies, indexOf};
+ghost use Rattle.frames.specs.Records.{bodies};
+ghost use Rattle.index.specs.Table.{indexOf};
 ghost use Rattle.document.specs.Encode.{encode};
 ghost use Rattle.document.specs.Parse.{documentOf};
 ghost use Rattle.trimmed.specs.Kept.{kept, used};

@@ -72,6 +72,15 @@ impl Instruction {
     pub const HALF: usize = 5;
 }
 
+// What stands at a point without an instruction: a branch to point 0.
+pub const NOTHING: Instruction = Instruction {
+    operation: Instruction::BRANCH,
+    a: 0,
+    b: 0,
+    formula: 0,
+    second: NO_HALF,
+};
+
 pub struct Range {
     pub low: usize,
     pub high: usize,

@@ -1,6 +1,6 @@
 // A thread's record: points n, then n - 1 instructions, each of five or ten bytes. 0 points are counted as 1.
 use crate::instruction::Instruction;
-use crate::instruction::NO_HALF;
+use crate::instruction::NOTHING;
 use crate::instruction::instruction_fits;
 use crate::instruction::instruction_size;
 use crate::instruction::read_instruction;
@@ -13,8 +13,8 @@ use limits::read::byte_at;
 use limits::read::octet_at;
 use limits::read::rest;
 ghost use mathlib.Core.Path.{_≡_};
-ghost use Prim.Native.Nat.{_<_, _≤_, _-_};
-ghost use lib.ListN.{getD};
+ghost use Prim.Native.Nat.{_<_, _≤_, _-_, _+_};
+ghost use lib.ListN.{getD, drop};
 ghost use Rattle.limits.specs.Numbers.{every};
 ghost use Rattle.program.specs.Instruction.{ranged};
 ghost use Rattle.program.specs.Thread.{lastPoint, begins, instructions, nothing, threadSize, numbered, threadNumbers};
@@ -31,7 +31,7 @@ pub fn last_point(b: &[u8]) -> usize
 }
 
 // Where instruction p begins, walked from the first one on.
-fn begins_at(l: &[u8], p: usize) -> usize
+pub fn begins_at(l: &[u8], p: usize) -> usize
     requires { ⌜ p < 256 ⌝ }
     ensures { λ r. ⌜ (r ≡ begins (now (l .entry)) p) × (r ≤ 2560) ⌝ }
 {
@@ -44,24 +44,37 @@ fn begins_at(l: &[u8], p: usize) -> usize
     at
 }
 
-// The instruction at a point; where there is none, a branch to point 0.
+// Where the instruction behind instruction p begins, for a loop that goes along.
+pub fn begins_behind(b: &[u8], p: usize, at: usize) -> usize
+    requires { ⌜ (p < 256) × (at ≡ begins (drop 1 (now b)) p) ⌝ }
+    ensures { λ r. ⌜ r ≡ begins (drop 1 (now (b .entry))) (p + 1) ⌝ }
+{
+    let l = rest(b, 1);
+    at + instruction_size(octet_at(l, at))
+}
+
+// The instruction at a point that begins there; where there is none, a branch to point 0.
+pub fn instruction_from(b: &[u8], p: usize, at: usize) -> Instruction
+    requires { ⌜ at ≡ begins (drop 1 (now b)) p ⌝ }
+    ensures { λ r. ⌜ r ≡ getD (instructions (now (b .entry))) p nothing ⌝ }
+{
+    if last_point(b) <= p {
+        return NOTHING;
+    }
+    let l = rest(b, 1);
+    let m = rest(l, at);
+    read_instruction(m)
+}
+
+// The instruction at a point, walked to.
 pub fn instruction_at(b: &[u8], p: usize) -> Instruction
     ensures { λ r. ⌜ r ≡ getD (instructions (now (b .entry))) p nothing ⌝ }
 {
-    let last = last_point(b);
-    if last <= p {
-        return Instruction {
-            operation: Instruction::BRANCH,
-            a: 0,
-            b: 0,
-            formula: 0,
-            second: NO_HALF,
-        };
+    if last_point(b) <= p {
+        return NOTHING;
     }
     let l = rest(b, 1);
-    let at = begins_at(l, p);
-    let m = rest(l, at);
-    read_instruction(m)
+    instruction_from(b, p, begins_at(l, p))
 }
 
 // Every instruction has its fields in range.
@@ -69,10 +82,12 @@ fn instructions_fit(b: &[u8], z: Sizes) -> bool
     ensures { λ r. ⌜ r ≡ every (ranged (lastPoint (now (b .entry))) z) (instructions (now (b .entry))) ⌝ }
 {
     let last = last_point(b);
+    let mut at: usize = 0;
     let mut p: usize = 0;
     while p < last {
-        let i = instruction_at(b, p);
+        let i = instruction_from(b, p, at);
         if instruction_fits(i, last, z) {
+            at = begins_behind(b, p, at);
             p += 1;
         } else {
             return false;

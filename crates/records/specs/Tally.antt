@@ -37,8 +37,11 @@ unfoldable pub tally : Sizes → List (List ℕ) → Tally
 tally z l = tallyTo z l (z .threads)
 
 -- class 1: each thread's start; classes 2 and 3: the steps; class 4: every point with every action, but for a thread's own
+abbrev pub obligationsBy : ℕ → Tally → ℕ
+obligationsBy threads c = threads + c .steps + (c .points * c .actions - c .own)
+
 unfoldable pub obligationCount : Sizes → List (List ℕ) → ℕ
-obligationCount z l = z .threads + tally z l .steps + (tally z l .points * tally z l .actions - tally z l .own)
+obligationCount z l = obligationsBy (z .threads) (tally z l)
 
 -- sums over k threads, each with less than 256 points
 pub record Small (k : ℕ) (c : Tally) : Type 0 where

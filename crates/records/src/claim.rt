@@ -1,7 +1,7 @@
 // A claim: thread, point, other thread, other point (bytes), line (16 bits).
 use frames::fault::Checked;
 use frames::fault::Fault;
-use frames::index::body_of;
+use index::look::body_of;
 use limits::range::in_range;
 use limits::range::word_within;
 use limits::read::byte_at;
@@ -9,7 +9,8 @@ use program::sizes::Sizes;
 use program::thread::last_point;
 ghost use mathlib.Core.Path.{_≡_};
 ghost use Prim.Native.Nat.{_≤_};
-ghost use Rattle.frames.specs.Records.{bodies, indexOf};
+ghost use Rattle.frames.specs.Records.{bodies};
+ghost use Rattle.index.specs.Table.{indexOf};
 ghost use Rattle.records.specs.Claim.{pointThere, different, claimed, claim};
 
 // Where its numbers stand, and its length.

@@ -14,7 +14,8 @@ use program::sizes::Sizes;
 ghost use mathlib.Core.Path.{_≡_};
 ghost use Prim.Native.Nat.{_<_};
 ghost use lib.ListN.{getD};
-ghost use Rattle.frames.specs.Records.{bodies, indexOf};
+ghost use Rattle.frames.specs.Records.{bodies};
+ghost use Rattle.index.specs.Table.{indexOf};
 ghost use Rattle.limits.specs.Numbers.{within, every};
 ghost use Rattle.records.specs.Line.{formOf, premises, lineSize, tripleAt, nowhere, placed, numbered, lineNumbers};
 

@@ -1,11 +1,11 @@
 // The instruction at a thread's point, by the index of records.
-use frames::index::body_of;
+use index::look::instruction_in;
 use program::instruction::Instruction;
-use program::instruction::NO_HALF;
+use program::instruction::NOTHING;
 use program::sizes::Sizes;
-use program::thread::instruction_at;
 ghost use mathlib.Core.Path.{_≡_};
-ghost use Rattle.frames.specs.Records.{bodies, indexOf};
+ghost use Rattle.frames.specs.Records.{bodies};
+ghost use Rattle.index.specs.Table.{indexOf};
 ghost use Rattle.records.specs.Places.{instructionOf};
 
 // Where there is none, a branch to point 0.
@@ -20,23 +20,10 @@ pub fn instruction_of<'a, 'b>(
     ensures { λ r. ⌜ r ≡ instructionOf z (bodies (now (s .entry))) t p ⌝ }
 {
     if t == 0 {
-        return Instruction {
-            operation: Instruction::BRANCH,
-            a: 0,
-            b: 0,
-            formula: 0,
-            second: NO_HALF,
-        };
+        return NOTHING;
     }
     if (z.threads as usize) < t {
-        return Instruction {
-            operation: Instruction::BRANCH,
-            a: 0,
-            b: 0,
-            formula: 0,
-            second: NO_HALF,
-        };
+        return NOTHING;
     }
-    let b = body_of(s, ix, (z.formulas as usize) + t);
-    instruction_at(b, p)
+    instruction_in(s, ix, (z.formulas as usize) + t, p)
 }

@@ -1,14 +1,16 @@
 // How many points and how many obligations there are.
-use frames::index::body_of;
+use index::look::body_of;
 use program::instruction::Instruction;
 use program::sizes::Sizes;
-use program::thread::instruction_at;
+use program::thread::begins_behind;
+use program::thread::instruction_from;
 use program::thread::last_point;
 ghost use mathlib.Core.Path.{_≡_};
 ghost use Prim.Native.Nat.{_≤_, _+_, _*_};
-ghost use Rattle.frames.specs.Records.{bodies, indexOf};
+ghost use Rattle.frames.specs.Records.{bodies};
+ghost use Rattle.index.specs.Table.{indexOf};
 ghost use Rattle.program.specs.Thread.{lastPoint, instructions};
-ghost use Rattle.records.specs.Tally.{isBranch, branches, threadTally, plus, tally, Small, obligationCount};
+ghost use Rattle.records.specs.Tally.{isBranch, branches, threadTally, plus, tally, Small, obligationsBy, obligationCount};
 
 // Sums over threads: of points, of obligations by steps, of actions, and of a thread's points times its own actions.
 pub struct Tally {
@@ -32,10 +34,12 @@ fn branches_of(b: &[u8]) -> usize
 {
     let last = last_point(b);
     let mut n: usize = 0;
+    let mut at: usize = 0;
     let mut p: usize = 0;
     while p < last {
-        let i = instruction_at(b, p);
+        let i = instruction_from(b, p, at);
         n += is_branch(i);
+        at = begins_behind(b, p, at);
         p += 1;
     }
     n
@@ -89,11 +93,20 @@ pub fn tally_of<'a, 'b>(s: &'a [u8], ix: &'b [usize], z: Sizes) -> Tally
     c
 }
 
-// How many obligations there are: for each thread its start; the steps; each point with each action of another thread.
+// How many obligations so many threads with these sums have: for each thread its start; the steps; each point with each action of
+// another thread.
+pub fn obligations_by(threads: u8, c: Tally) -> usize
+    requires { ⌜ Small 256 c × (c .own ≤ c .points * c .actions) ⌝ }
+    ensures { λ r. ⌜ r ≡ obligationsBy threads c ⌝ }
+{
+    (threads as usize) + c.steps + (c.points * c.actions - c.own)
+}
+
+// Of an image.
 pub fn count_obligations<'a, 'b>(s: &'a [u8], ix: &'b [usize], z: Sizes) -> usize
     requires { ⌜ now ix ≡ indexOf (now s) ⌝ }
     ensures { λ r. ⌜ r ≡ obligationCount z (bodies (now (s .entry))) ⌝ }
 {
     let c = tally_of(s, ix, z);
-    (z.threads as usize) + c.steps + (c.points * c.actions - c.own)
+    obligations_by(z.threads, c)
 }

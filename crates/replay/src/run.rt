@@ -10,7 +10,7 @@ use memory::table::Places;
 use program::sizes::Sizes;
 ghost use mathlib.Core.Path.{_≡_};
 ghost use lib.ListN.{length};
-ghost use Rattle.frames.specs.Records.{indexOf};
+ghost use Rattle.index.specs.Table.{indexOf};
 ghost use Rattle.replay.specs.State.{machineOf};
 ghost use Rattle.replay.specs.Run.{ran, runOf};
 

@@ -6,7 +6,7 @@ use crate::states::perform;
 use crate::states::point_of;
 use content::position::formula_at;
 use evaluate::work::work;
-use frames::index::body_of;
+use index::look::body_of;
 use machine::deed::Deed;
 use machine::deed::before;
 use machine::deed::deed_of;
@@ -17,7 +17,7 @@ use program::thread::last_point;
 use records::place::instruction_of;
 ghost use mathlib.Core.Path.{_≡_};
 ghost use lib.ListN.{length};
-ghost use Rattle.frames.specs.Records.{indexOf};
+ghost use Rattle.index.specs.Table.{indexOf};
 ghost use Rattle.replay.specs.State.{machineOf};
 ghost use Rattle.replay.specs.Step.{valueAt, deedAt, lastOf, attempted, stepped, takenOf};
 

@@ -5,11 +5,12 @@ use crate::start::start_machine;
 use crate::states::Machine;
 use checker::acceptance::Acceptance;
 use checker::acceptance::accept_image;
-use frames::index::body_of;
-use limits::Limits;
+use index::look::body_of;
+use index::table::IndexSize;
 use program::sizes::Sizes;
 ghost use mathlib.Core.Path.{_≡_};
-ghost use Rattle.frames.specs.Records.{indexOf};
+ghost use lib.ListN.{replicate};
+ghost use Rattle.index.specs.Table.{tableSize, indexOf};
 ghost use Rattle.replay.specs.Whole.{roomOf, replayOn, replayOf};
 
 pub struct Table {}
@@ -76,6 +77,29 @@ fn replay_on<'a, 'b, 'c, 'd>(
     }
 }
 
+// With a table of zeros, as long as the image asks for.
+fn replay_by<'a, 'b, 'c, 'd>(
+    image: &'a [u8],
+    index: &'b mut [usize],
+    trace: &'c [u8],
+    given: &'d [u8],
+    lent: usize,
+) -> Replayed
+    requires { ⌜ now index ≡ replicate (tableSize (now image)) 0 ⌝ }
+    ensures { λ r. ⌜ r ≡ replayOf (now (image .entry)) (now (trace .entry)) (now (given .entry)) lent ⌝ }
+{
+    match accept_image(image, index) {
+        Acceptance::Declined => Replayed {
+            code: Table::DECLINED,
+            steps: 0,
+            held: false,
+            words: 0,
+            machine: start_machine(&image[0..0], 0, &image[0..0]),
+        },
+        Acceptance::Granted(z) => replay_on(image, index, z, trace, given, room_of(lent)),
+    }
+}
+
 // A replay with so many entries lent.
 pub fn replay<'a, 'b, 'c>(
     image: &'a [u8],
@@ -85,15 +109,10 @@ pub fn replay<'a, 'b, 'c>(
 ) -> Replayed
     ensures { λ r. ⌜ r ≡ replayOf (now (image .entry)) (now (trace .entry)) (now (given .entry)) lent ⌝ }
 {
-    let mut index = [0usize; Limits::RECORDS];
-    match accept_image(image, &mut index) {
-        Acceptance::Declined => Replayed {
-            code: Table::DECLINED,
-            steps: 0,
-            held: false,
-            words: 0,
-            machine: start_machine(&image[0..0], 0, &image[0..0]),
-        },
-        Acceptance::Granted(z) => replay_on(image, &index, z, trace, given, room_of(lent)),
+    if image.len() <= IndexSize::SHORT_IMAGE {
+        let mut index = [0usize; IndexSize::SHORT];
+        return replay_by(image, &mut index, trace, given, lent);
     }
+    let mut index = [0usize; IndexSize::LONG];
+    replay_by(image, &mut index, trace, given, lent)
 }

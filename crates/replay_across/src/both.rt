@@ -3,10 +3,10 @@ use crate::onward::go_on;
 use crate::onward::run_counted;
 use checker::acceptance::Acceptance;
 use checker::acceptance::accept_image;
-use frames::index::body_of;
 use handover::permit::Handover;
 use handover::permit::handover_code;
-use limits::Limits;
+use index::look::body_of;
+use index::table::IndexSize;
 use program::sizes::Sizes;
 use replay::pick::Refusal;
 use replay::start::start_machine;
@@ -16,8 +16,8 @@ use replaying::shown::Shown;
 use replaying::shown::shown_by;
 ghost use mathlib.Core.Path.{_≡_};
 ghost use Prim.Native.Nat.{_≤_, min};
-ghost use lib.ListN.{length};
-ghost use Rattle.frames.specs.Records.{indexOf};
+ghost use lib.ListN.{length, replicate};
+ghost use Rattle.index.specs.Table.{tableSize, indexOf};
 ghost use Rattle.image.specs.Decode.{decoded};
 ghost use Rattle.image.specs.declared.decode.Decoded.the-variants.{Sound};
 ghost use Rattle.checker.specs.Acceptance.{acceptance};
@@ -104,7 +104,31 @@ fn replay_between<'a, 'b, 'c, 'd, 'e, 'f, 'g, 'h>(
     refuse(old, code as u8)
 }
 
-// The old image is accepted.
+// The old image is accepted. With a table of zeros, as long as the new image asks for.
+fn replay_from_by<'a, 'b, 'c, 'd, 'e, 'f, 'g, 'h>(
+    old: &'a [u8],
+    ox: &'b [usize],
+    z: Sizes,
+    new: &'c [u8],
+    nx: &'h mut [usize],
+    points: &'d [u8],
+    first: &'e [u8],
+    second: &'f [u8],
+    given: &'g [u8],
+    room: usize,
+) -> Replayed
+    requires { ⌜ ((now ox ≡ indexOf (now old)) × (decoded (now old) ≡ Sound z)) × (now nx ≡ replicate (tableSize (now new)) 0) ⌝ }
+    ensures { λ r. ⌜ r ≡ byAcceptance (now (old .entry)) (now (new .entry)) (now (points .entry)) (now (first .entry)) (now (second .entry))
+        (now (given .entry)) room (Granted z) (acceptance (now (new .entry))) ⌝ }
+{
+    match accept_image(new, nx) {
+        Acceptance::Declined => refuse(new, Handover::UNLIKE as u8),
+        Acceptance::Granted(y) => {
+            replay_between(old, ox, z, new, nx, y, points, first, second, given, room)
+        }
+    }
+}
+
 fn replay_from<'a, 'b, 'c, 'd, 'e, 'f, 'g>(
     old: &'a [u8],
     ox: &'b [usize],
@@ -120,11 +144,33 @@ fn replay_from<'a, 'b, 'c, 'd, 'e, 'f, 'g>(
     ensures { λ r. ⌜ r ≡ byAcceptance (now (old .entry)) (now (new .entry)) (now (points .entry)) (now (first .entry)) (now (second .entry))
         (now (given .entry)) room (Granted z) (acceptance (now (new .entry))) ⌝ }
 {
-    let mut nx = [0usize; Limits::RECORDS];
-    match accept_image(new, &mut nx) {
-        Acceptance::Declined => refuse(new, Handover::UNLIKE as u8),
-        Acceptance::Granted(y) => {
-            replay_between(old, ox, z, new, &nx, y, points, first, second, given, room)
+    if new.len() <= IndexSize::SHORT_IMAGE {
+        let mut nx = [0usize; IndexSize::SHORT];
+        return replay_from_by(old, ox, z, new, &mut nx, points, first, second, given, room);
+    }
+    let mut nx = [0usize; IndexSize::LONG];
+    replay_from_by(old, ox, z, new, &mut nx, points, first, second, given, room)
+}
+
+// With a table of zeros, as long as the old image asks for.
+fn replay_across_by<'a, 'b, 'c, 'd, 'e, 'f, 'g>(
+    old: &'a [u8],
+    ox: &'g mut [usize],
+    new: &'b [u8],
+    points: &'c [u8],
+    first: &'d [u8],
+    second: &'e [u8],
+    given: &'f [u8],
+    lent: usize,
+) -> Replayed
+    requires { ⌜ now ox ≡ replicate (tableSize (now old)) 0 ⌝ }
+    ensures { λ r. ⌜ r ≡ acrossOf (now (old .entry)) (now (new .entry)) (now (points .entry)) (now (first .entry)) (now (second .entry))
+        (now (given .entry)) lent ⌝ }
+{
+    match accept_image(old, ox) {
+        Acceptance::Declined => refuse(old, Handover::UNLIKE as u8),
+        Acceptance::Granted(z) => {
+            replay_from(old, ox, z, new, points, first, second, given, room_of(lent))
         }
     }
 }
@@ -142,23 +188,12 @@ pub fn replay_across<'a, 'b, 'c, 'd, 'e, 'f>(
     ensures { λ r. ⌜ r ≡ acrossOf (now (old .entry)) (now (new .entry)) (now (points .entry)) (now (first .entry)) (now (second .entry))
         (now (given .entry)) lent ⌝ }
 {
-    let mut ox = [0usize; Limits::RECORDS];
-    match accept_image(old, &mut ox) {
-        Acceptance::Declined => refuse(old, Handover::UNLIKE as u8),
-        Acceptance::Granted(z) => {
-            replay_from(
-                old,
-                &ox,
-                z,
-                new,
-                points,
-                first,
-                second,
-                given,
-                room_of(lent),
-            )
-        }
+    if old.len() <= IndexSize::SHORT_IMAGE {
+        let mut ox = [0usize; IndexSize::SHORT];
+        return replay_across_by(old, &mut ox, new, points, first, second, given, lent);
     }
+    let mut ox = [0usize; IndexSize::LONG];
+    replay_across_by(old, &mut ox, new, points, first, second, given, lent)
 }
 
 pub fn shown_across<'a, 'b, 'c, 'd, 'e, 'f>(

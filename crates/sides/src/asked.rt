@@ -14,9 +14,9 @@ use conditions::side::is_with;
 use conditions::side::number_in;
 use conditions::side::one_name;
 use content::acting::Acting;
-use frames::index::body_of;
 use header::header::is_cleared;
 use header::header::range_of;
+use index::look::body_of;
 use limits::Limits;
 use matcher::bind::Bind;
 use program::instruction::Instruction;
@@ -25,7 +25,7 @@ use rows::by::by_rows;
 use rows::by::by_table;
 use rulebook::rule::Side;
 ghost use mathlib.Core.Path.{_≡_};
-ghost use Rattle.frames.specs.Records.{indexOf};
+ghost use Rattle.index.specs.Table.{indexOf};
 ghost use Rattle.sides.specs.Asked.{substitutionOf, assignedBy, loadedBy, ofInstruction, implicationsOf, ofNames, asked};
 
 // The registers that an instruction sets to formulas, by these: of an assignment, of two at once, of a pair.

@@ -3,20 +3,22 @@ use crate::use_of::is_plain_of;
 use formula::code::Place;
 use frames::fault::Checked;
 use frames::fault::Fault;
-use frames::index::body_of;
 use header::header::owner_of;
 use header::header::owners_of;
+use index::look::body_of;
 use limits::Limits;
 use occurs::has::has_foreign;
 use occurs::has::has_register;
 use program::instruction::Instruction;
 use program::sizes::Sizes;
+use program::thread::begins_behind;
 use program::thread::check_thread_numbers;
-use program::thread::instruction_at;
+use program::thread::instruction_from;
 use program::thread::last_point;
 ghost use mathlib.Core.Path.{_≡_};
 ghost use Rattle.limits.specs.Numbers.{every};
-ghost use Rattle.frames.specs.Records.{bodies, indexOf};
+ghost use Rattle.frames.specs.Records.{bodies};
+ghost use Rattle.index.specs.Table.{indexOf};
 ghost use Rattle.program.specs.Thread.{instructions};
 ghost use Rattle.thread_bodies.specs.Thread.{wanted, formulaSorted, sorted, target, registerOwned, formulaOwned, owned, resultAbsent, threadRegisters, thread};
 
@@ -139,10 +141,12 @@ fn instructions_sorted<'a, 'b>(s: &'a [u8], ix: &'b [usize], b: &'a [u8]) -> boo
     ensures { λ r. ⌜ r ≡ every (sorted (bodies (now (s .entry)))) (instructions (now (b .entry))) ⌝ }
 {
     let last = last_point(b);
+    let mut at: usize = 0;
     let mut p: usize = 0;
     while p < last {
-        let i = instruction_at(b, p);
+        let i = instruction_from(b, p, at);
         if instruction_sorted(s, ix, i) {
+            at = begins_behind(b, p, at);
             p += 1;
         } else {
             return false;
@@ -156,10 +160,12 @@ fn instructions_owned<'a, 'b>(s: &'a [u8], ix: &'b [usize], t: u8, b: &'a [u8]) 
     ensures { λ r. ⌜ r ≡ every (owned (bodies (now (s .entry))) t) (instructions (now (b .entry))) ⌝ }
 {
     let last = last_point(b);
+    let mut at: usize = 0;
     let mut p: usize = 0;
     while p < last {
-        let i = instruction_at(b, p);
+        let i = instruction_from(b, p, at);
         if instruction_owned(s, ix, t, i) {
+            at = begins_behind(b, p, at);
             p += 1;
         } else {
             return false;
@@ -173,10 +179,12 @@ fn results_absent<'a, 'b>(s: &'a [u8], ix: &'b [usize], b: &'a [u8]) -> bool
     ensures { λ r. ⌜ r ≡ every (resultAbsent (bodies (now (s .entry)))) (instructions (now (b .entry))) ⌝ }
 {
     let last = last_point(b);
+    let mut at: usize = 0;
     let mut p: usize = 0;
     while p < last {
-        let i = instruction_at(b, p);
+        let i = instruction_from(b, p, at);
         if result_absent(s, ix, i) {
+            at = begins_behind(b, p, at);
             p += 1;
         } else {
             return false;

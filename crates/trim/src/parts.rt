@@ -9,7 +9,8 @@ use records::tally::tally_of;
 ghost use mathlib.Core.Path.{_≡_};
 ghost use Prim.Native.Nat.{_+_, _≤_};
 ghost use lib.ListN.{length};
-ghost use Rattle.frames.specs.Records.{bodies, indexOf};
+ghost use Rattle.frames.specs.Records.{bodies};
+ghost use Rattle.index.specs.Table.{indexOf};
 ghost use Rattle.put.specs.Overwritten.{overwritten};
 ghost use Rattle.trim.specs.Whole.{formulasBytes, threadsBytes, outlineBytes, linesBytes, obligationsBytes, claimsBytes};
 

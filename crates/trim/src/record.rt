@@ -1,6 +1,6 @@
 // Records by kind and place: length, kind, and the body with its formulas renewed by f and its lines by g.
-use frames::index::body_of;
 use frames::kind::Kind;
+use index::look::body_of;
 use put::numbers::put_numbers;
 use put::put::put_bytes;
 use put::put::put_frame;
@@ -10,7 +10,8 @@ use renewed::thread::put_thread;
 ghost use mathlib.Core.Path.{_≡_};
 ghost use Prim.Native.Nat.{_+_, _≤_};
 ghost use lib.ListN.{length};
-ghost use Rattle.frames.specs.Records.{bodies, indexOf};
+ghost use Rattle.frames.specs.Records.{bodies};
+ghost use Rattle.index.specs.Table.{indexOf};
 ghost use Rattle.put.specs.Overwritten.{overwritten};
 ghost use Rattle.trim.specs.Records.{renewedBody, recordBytes, listBytes};
 

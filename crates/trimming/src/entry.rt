@@ -1,6 +1,5 @@
 // The entry point, for C and Rust.
 use crate::archive::trim_into;
-use archived::answer::Answer;
 ghost use Rattle.trimming.specs.Promise.{Promise};
 
 // Trims an accepted image into the buffer, and says in `written` how many bytes that are. Answers 0; 24 for an image that is not

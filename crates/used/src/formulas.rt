@@ -1,12 +1,13 @@
 // Which formulas stay: those that instructions, the outline and the lines that stay name.
-use frames::index::body_of;
+use index::look::body_of;
 use limits::read::word_at;
 use notes::note::is_noted;
 use notes::note::note_number;
 use notes::note::note_numbers;
 use program::instruction::Instruction;
 use program::sizes::Sizes;
-use program::thread::instruction_at;
+use program::thread::begins_behind;
+use program::thread::instruction_from;
 use program::thread::last_point;
 use records::tally::tally_of;
 ghost use mathlib.Core.Path.{_≡_};
@@ -14,7 +15,8 @@ ghost use mathlib.Core.Bool.{false};
 ghost use Prim.Native.Nat.{suc, _<_};
 ghost use lib.ListN.{length, replicate};
 ghost use Rattle.limits.specs.Limits.{formulas};
-ghost use Rattle.frames.specs.Records.{bodies, indexOf};
+ghost use Rattle.frames.specs.Records.{bodies};
+ghost use Rattle.index.specs.Table.{indexOf};
 ghost use Rattle.image.specs.Decode.{recordCount};
 ghost use Rattle.document.specs.Parse.{documentOf};
 ghost use Rattle.trimmed.specs.Kept.{noted, instructionFormulas, kept, used};
@@ -33,10 +35,12 @@ fn note_thread<'a, 'b>(b: &'a [u8], m: &'b mut [bool])
     ensures { λ _. ⌜ now (m .exit) ≡ noted (now (m .entry)) (bodyFormulas (now (b .entry)) 0) ⌝ }
 {
     let last = last_point(b);
+    let mut at: usize = 0;
     let mut p: usize = 0;
     while p < last {
-        let i = instruction_at(b, p);
+        let i = instruction_from(b, p, at);
         note_instruction(i, m);
+        at = begins_behind(b, p, at);
         p += 1;
     }
 }

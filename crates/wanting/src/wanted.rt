@@ -14,7 +14,8 @@ use records::place::instruction_of;
 use report::obligation::Obligation;
 use rulebook::rule::Form;
 ghost use mathlib.Core.Path.{_≡_};
-ghost use Rattle.frames.specs.Records.{bodies, indexOf};
+ghost use Rattle.frames.specs.Records.{bodies};
+ghost use Rattle.index.specs.Table.{indexOf};
 ghost use Rattle.content.specs.Totals.{totalsOf};
 ghost use Rattle.wanting.specs.Wanted.{oneHole, twoHoles, threeHoles, nextPoint, actingForm, wantedStart, wantedAction, wantedNext, wantedStep, wantedTarget, wantedKept, wantedClaim, wantedAt};
 

@@ -13,15 +13,17 @@ use borrow.Author.Tests.{eqb-true, eqb-false, eq-eqb, ne-eqb, lt-ltb, le-ltb, le
 use Rattle.limits.specs.Limits as Limits
 use Rattle.limits.specs.Numbers.{word, numbers}
 use Rattle.limits.proofs.Numbers.{number-past}
-use Rattle.frames.specs.Records.{body, bodies, indexOf}
-use Rattle.frames.proofs.Laws.Index.{index-length, entry-fits, start-is, found-past}
+use Rattle.frames.specs.Records.{body, bodies}
+use Rattle.index.specs.Table.{placeOf}
+use Rattle.index.proofs.Found.{body-past}
 use Rattle.program.specs.declared.sizes.Sizes.{Sizes}
 use Rattle.program.specs.declared.instruction.Instruction.{Instruction}
 use Rattle.program.specs.Instruction.{firstOperation}
 use Rattle.records.specs.Line.{premises}
 use Rattle.records.specs.Places.{threadBody}
 use Rattle.records.specs.declared.tally.Tally.{Tally}
-use Rattle.records.specs.Tally.{tallyTo, tally, obligationCount}
+use Rattle.records.proofs.Laws.Counts.{own-least, count-is}
+use Rattle.records.specs.Tally.{threadTally, tallyTo, tally, obligationsBy, obligationCount}
 use Rattle.program.specs.Thread.{lastPoint}
 use Rattle.content.specs.Totals.{pointsBelow, pointsBefore, totalsOf}
 use Rattle.content.specs.declared.totals.Totals.{Totals}
@@ -48,29 +50,17 @@ module _ (s : List ℕ) where
   unfolding formulaAt
   at-none k h = rw (eq-eqb k 0 h)
 
-  module _ (ix : List ℕ) (k : ℕ) (e : ix ≡ indexOf s) (z : k ≡ 0 → ⊥) where
-    index-size : length ix ≡ Limits.records
-    unfolding indexOf
-    index-size = ap length e ∙ index-length s Limits.records
+  pub at-placed : (k p r : ℕ) → (k ≡ 0 → ⊥) → p ≡ placeOf s k → r ≡ bodyStart s p → r ≡ formulaAt s k
+  unfolding formulaAt
+  at-placed k p r z e d = rw (ne-eqb k 0 z, ← e) d
 
-    pub at-in : (r : ℕ) → k < length ix → r ≡ bodyStart s (length s - getD ix k 0) → r ≡ formulaAt s k
-    unfolding formulaAt
-    at-in r h d =
-        let q : k < Limits.records = omega (arith, index-size) in
-        d ∙ rw (ne-eqb k 0 z, lt-ltb k Limits.records q, start-is s ix k e h)
-
-    pub at-past : length ix ≤ k → length s ≡ formulaAt s k
-    unfolding formulaAt
-    at-past h = let q : Limits.records ≤ k = omega (arith, index-size) in rw (ne-eqb k 0 z, le-ltb k Limits.records q)
-
-pub ruleset positions = (start-past, start-in, at-none, entry-fits, at-in, at-past)
+pub ruleset positions = (start-past, start-in, at-none, at-placed)
 
 -- lines
 
 -- past the last record that an image may have there is no body
-no-body : (s : List ℕ) (i : ℕ) → Limits.records ≤ i → body (drop (length s) s) ≡ getD (bodies s) i []
-unfolding indexOf
-no-body s i h = found-past s (indexOf s) i (body (drop (length s) s)) refl (let q = index-length s Limits.records in omega arith) refl
+no-body : (s : List ℕ) (i : ℕ) → Limits.records ≤ i → [] ≡ getD (bodies s) i []
+no-body s i h = sym (body-past s i h)
 
 module _ (s : List ℕ) (z : Sizes) (n : ℕ) where
   pub line-past : (r : List ℕ) → Limits.records ≤ n → r ≡ getD (bodies s) n [] → r ≡ lineBody z (bodies s) n
@@ -132,9 +122,18 @@ pub below-none : (z : Sizes) (l : List (List ℕ)) (m : List ℕ) → m ≡ repl
 unfolding pointsBelow
 below-none z l m e = e
 
-pub below-more : (z : Sizes) (l : List (List ℕ)) (m : List ℕ) (t v : ℕ) → m ≡ pointsBelow z l t → v ≡ tallyTo z l (t + 1 - 1) .points → set m t v ≡ pointsBelow z l (t + 1)
+pub below-more : (z : Sizes) (l : List (List ℕ)) (m : List ℕ) (t v : ℕ) → m ≡ pointsBelow z l t → v ≡ tallyTo z l t .points → set m t v ≡ pointsBelow z l (t + 1)
 unfolding pointsBelow
-below-more z l m t v e d = let q : t + 1 - 1 ≡ t = omega arith in rw (add-one t, ← e) (ap (set m t) (d ∙ ap (λ (k : ℕ). tallyTo z l k .points) q))
+below-more z l m t v e d = rw (add-one t, ← e) (ap (set m t) d)
+
+pub points-none : (z : Sizes) (l : List (List ℕ)) → 0 ≡ tallyTo z l 0 .points
+unfolding tallyTo
+points-none z l = refl
+
+pub points-more : (z : Sizes) (l : List (List ℕ)) (t v n : ℕ) (b : List ℕ) → v ≡ tallyTo z l t .points → b ≡ getD l (z .formulas + (t + 1)) []
+    → n ≡ lastPoint b → v + (n + 1) ≡ tallyTo z l (t + 1) .points
+unfolding tallyTo threadTally threadBody
+points-more z l t v n b e d f = rw (add-one t, e, f, d, add-one t)
 
 pub below-all : (z : Sizes) (l : List (List ℕ)) (m : List ℕ) (t : ℕ) → t ≤ Limits.threads → Limits.threads ≤ t → m ≡ pointsBelow z l t → m ≡ pointsBefore z l
 unfolding pointsBefore
@@ -159,10 +158,10 @@ below-at z l (suc n) t h g = go (eqb t n) refl (λ b. below-at z l n t b (omega 
         let q : t ≢ n = eqb-false t n e in
         getD-set-other (pointsBelow z l n) n t (tallyTo z l n .points) 0 q ∙ f (omega arith)
 
-pub totals-are : (z : Sizes) (l : List (List ℕ)) (c : Tally) (b : List ℕ) (n : ℕ) → c ≡ tally z l → b ≡ pointsBefore z l → n ≡ obligationCount z l
+pub totals-are : (z : Sizes) (l : List (List ℕ)) (c : Tally) (b : List ℕ) (n : ℕ) → c ≡ tally z l → b ≡ pointsBefore z l → n ≡ obligationsBy (z .threads) c
     → record { points = c .points; before = b; obligations = n } ≡ totalsOf z l
 unfolding totalsOf
-totals-are z l c b n ec eb en = rw (ec, eb, en)
+totals-are z l c b n ec eb en = rw (eb, count-is z l c n ec en, ec)
 
 pub before-known : (z : Sizes) (l : List (List ℕ)) (y : Totals) (t : ℕ) → y ≡ totalsOf z l → 1 ≤ t → t ≤ Limits.threads → getD (y .before) (t - 1) 0 ≡ tallyTo z l (t - 1) .points
 unfolding totalsOf pointsBefore
@@ -180,7 +179,7 @@ zeros-long m e = ap length e ∙ length-replicate {A = ℕ} Limits.threads 0
 
 pub ruleset filling = (below-none, below-more, below-all, set-long, zeros-long)
 
-pub ruleset totals = (before-is, totals-are, before-known, known-length)
+pub ruleset totals = (before-is, own-least, totals-are, before-known, known-length)
 
 -- the lines that obligations name
 

@@ -1,4 +1,5 @@
-use Rattle.exports.proofs.Numbers.{answers}
+use Rattle.limits.proofs.Auto.{tests}
+use Rattle.index.proofs.Laws.{short-zeros, long-zeros}
 use borrow.Author.Needs.{needs}
 use Rattle.exports.proofs.image_answer.Statement.{statement}
 use Rattle.exports.proofs.image_answer.Tie as tie
@@ -8,13 +9,8 @@ image-answer-spec =
     tie.close
     (tie.spec
     (λ c. search needs)
-    (λ c κs. search needs)
-    (λ c. search needs)
-    (λ c κs. search needs)
+    (λ c κs. short-zeros _ (search tests))
     (λ c. search needs)
     (λ c. search needs)
-    (λ c κs. search needs)
-    (λ c. search needs)
-    (λ c. search needs)
-    (λ c. search (answers, needs))
-    (λ c. search (answers, needs)))
+    (λ c κs. long-zeros _ (search tests))
+    (λ c. search needs))

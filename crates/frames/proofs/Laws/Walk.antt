@@ -4,7 +4,7 @@ use mathlib.Core.Path.{_≡_, refl, ap, sym, _∙_, subst}
 use mathlib.Core.List.{List, [], _∷_}
 use native.Mathlib.Numerals.{sub-one}
 use native.Mathlib.Omega.{arith}
-use lib.ListN.{length, getD, drop, drop-of-length-le, length-drop}
+use lib.ListN.{length, getD, drop, set, drop-of-length-le, length-drop, length-set}
 use lib.Seq.{drop-drop}
 use Rattle.limits.specs.Numbers.{word}
 use Rattle.frames.proofs.Passed.{Admitted, framed}
@@ -70,3 +70,6 @@ pub walk-last : (s : List ℕ) (at i : ℕ) (c : Seen) (r : Framing) → length 
 walk-last s at i c r h e d = let q : length s ≤ at = omega arith in rw (e, drop-of-length-le s q, walk-end) d
 
 pub ruleset walking = (frame-fits, kind-known, kind-room, walk-start, walk-stop, walk-more, walk-last)
+
+pub long : (l : List ℕ) (i v n : ℕ) → length l ≡ n → length (set l i v) ≡ n
+long l i v n e = length-set l i v ∙ e

@@ -2,7 +2,7 @@
 use Prim.Native.Nat.{ℕ, zero, suc, _+_, _-_, _*_, _≤_, _<_}
 use mathlib.Core.Path.{_≡_, refl, ap, sym, _∙_}
 use mathlib.Core.List.{List}
-use mathlib.Core.Bool.{Bool, true, false, not}
+use mathlib.Core.Bool.{Bool, true, false, not, cond}
 use native.Mathlib.Omega.{arith}
 use lib.Dec.{eqb}
 use borrow.Author.Tests.{eq-eqb, ne-eqb}
@@ -153,6 +153,35 @@ pub walk-all : (l : List ℕ) (i p at : ℕ) → p ≤ i → i ≤ p → at ≡ 
 walk-all l i p at h g e = let q : i ≡ p = omega arith in rw (← q) e
 
 pub ruleset walking = (walk-start, walk-more, walk-all)
+
+-- sizes are at most ten bytes
+begins-low : (l : List ℕ) (p : ℕ) → begins l p ≤ 10 * p
+unfolding begins instructionSize
+begins-low l zero = omega arith
+begins-low l (suc p) = go (twofold (getD l (begins l p) 0)) (begins-low l p)
+  where
+    go : (b : Bool) → begins l p ≤ 10 * p → begins l p + cond b 10 5 ≤ 10 * suc p
+    go true h = omega arith
+    go false h = omega arith
+
+pub begins-few : (l : List ℕ) (p at : ℕ) → p < 256 → at ≡ begins l p → at ≤ 2550
+begins-few l p at h e = let q = begins-low l p in omega arith
+
+pub from-behind : (b l : List ℕ) (p at o n : ℕ) → l ≡ drop 1 b → at ≡ begins (drop 1 b) p → o ≡ getD l at 0 → n ≡ instructionSize o
+    → at + n ≡ begins (drop 1 b) (p + 1)
+from-behind b l p at o n d e f g = walk-more (drop 1 b) p at o n e (rw (← d) f) g
+
+pub from-in : (b l m : List ℕ) (last p at : ℕ) (r : Instruction) → last ≡ lastPoint b → p < last → l ≡ drop 1 b → at ≡ begins (drop 1 b) p → m ≡ drop at l
+    → r ≡ instruction m → r ≡ getD (instructions b) p nothing
+from-in b l m last p at r e h d f k g = at-in b last p e l m at r h d (rw d f) k g
+
+pub from-walked : (b l : List ℕ) (p at : ℕ) → l ≡ drop 1 b → at ≡ begins l p → at ≡ begins (drop 1 b) p
+from-walked b l p at d e = rw (← d) e
+
+pub from-start : (b : List ℕ) → 0 ≡ begins (drop 1 b) 0
+from-start b = walk-start (drop 1 b)
+
+pub ruleset going = (begins-few, from-behind, from-in, from-walked, from-start)
 
 -- the loop over a thread's instructions
 

@@ -21,7 +21,7 @@ use Rattle.program.specs.Thread.{lastPoint, instructions, nothing}
 use Rattle.program.proofs.Laws.Program.{instructions-length}
 use Rattle.records.specs.Places.{threadBody, instructionOf}
 use Rattle.records.specs.declared.tally.Tally.{Tally}
-use Rattle.records.specs.Tally.{isBranch, branches, tallied, threadTally, plus, tallyTo, tally, Small, obligationCount}
+use Rattle.records.specs.Tally.{isBranch, branches, tallied, threadTally, plus, tallyTo, tally, Small, obligationsBy, obligationCount}
 use Rattle.records.specs.List.{exactly}
 
 -- the instruction at a point
@@ -35,9 +35,9 @@ module _ (z : Sizes) (l : List (List ℕ)) (t p : ℕ) where
   unfolding instructionOf
   there-past h g = rw (ne-eqb _ _ h, lt-ltb _ _ g)
 
-  pub there-in : (b : List ℕ) (r : Instruction) → (t ≡ 0 → ⊥) → t ≤ z .threads → b ≡ getD l (z .formulas + t) [] → r ≡ getD (instructions b) p nothing → r ≡ instructionOf z l t p
+  pub there-in : (r : Instruction) → (t ≡ 0 → ⊥) → t ≤ z .threads → r ≡ getD (instructions (getD l (z .formulas + t) [])) p nothing → r ≡ instructionOf z l t p
   unfolding instructionOf threadBody
-  there-in b r h g e d = rw (ne-eqb _ _ h, le-ltb _ _ g, ← e) d
+  there-in r h g d = rw (ne-eqb _ _ h, le-ltb _ _ g) d
 
 pub ruleset placing = (there-not, there-past, there-in)
 
@@ -64,8 +64,6 @@ module _ (b : List ℕ) (last n p : ℕ) (e : last ≡ lastPoint b) where
 
 pub count-start : (l : List Instruction) → 0 + branches (drop 0 l) ≡ branches l
 count-start l = omega arith
-
-pub ruleset counting = (count-start, count-more, count-all)
 
 -- the tally of a thread
 
@@ -127,9 +125,9 @@ module _ (z : Sizes) (l : List (List ℕ)) (c : Tally) where
   unfolding tally
   own-least e = rw e (own-below z l (z .threads))
 
-  pub count-is : c ≡ tally z l → z .threads + c .steps + (c .points * c .actions - c .own) ≡ obligationCount z l
+  pub count-is : (r : ℕ) → c ≡ tally z l → r ≡ obligationsBy (z .threads) c → r ≡ obligationCount z l
   unfolding obligationCount
-  count-is e = rw e
+  count-is r e d = d ∙ (rw e)
 
 pub product-fits : (c : Tally) → Small 256 c → c .points * c .actions < 2 ^ 64
 product-fits c h = omega (arith, small-product (c .points) (c .actions) 65536 (omega arith) (omega arith))

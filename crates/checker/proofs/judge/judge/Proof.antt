@@ -1,5 +1,5 @@
-use Rattle.checker.proofs.Verdicts.{judging}
 use Rattle.limits.proofs.Auto.{tests}
+use Rattle.index.proofs.Laws.{short-zeros, long-zeros}
 use borrow.Author.Needs.{needs}
 use Rattle.checker.proofs.judge.judge.Statement.{statement}
 use Rattle.checker.proofs.judge.judge.Tie as tie
@@ -9,12 +9,8 @@ judge-spec =
     tie.close
     (tie.spec
     (λ c. search needs)
-    (λ c κs. search needs)
-    (λ c. search needs)
-    (λ c κs. search needs)
+    (λ c κs. short-zeros _ (search tests))
     (λ c. search needs)
     (λ c. search needs)
-    (λ c. search needs)
-    (λ c κs. search needs)
-    (λ c. search (judging, tests))
-    (λ c. search (judging, tests)))
+    (λ c κs. long-zeros _ (search tests))
+    (λ c. search needs))

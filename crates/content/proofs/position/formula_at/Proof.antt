@@ -7,4 +7,4 @@ use Rattle.content.proofs.position.formula_at.Tie as tie
 pub formula-at-spec : {M : Type 1} → statement M
 formula-at-spec =
     tie.close
-    (tie.spec (λ c. search (positions, tests)) (λ c. search needs) (λ c. search needs) (λ c. search (positions, tests)) (λ c κs. search needs) (λ c. search (positions, tests)) (λ c. search (positions, tests)))
+    (tie.spec (λ c. search (positions, tests)) (λ c κs. search needs) (λ c κs. search needs) (λ c. search (positions, tests)))

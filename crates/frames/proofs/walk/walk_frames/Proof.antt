@@ -2,8 +2,7 @@ use Prim.Native.Nat.{_≤_, _-_, _+_}
 use mathlib.Core.Path.{_≡_}
 use lib.ListN.{length, drop}
 use Rattle.frames.specs.Frames.{frames, walk}
-use Rattle.frames.proofs.Laws.Walk.{walking, kind-known, frame-fits, walk-more}
-use Rattle.frames.proofs.Laws.Index.{long}
+use Rattle.frames.proofs.Laws.Walk.{walking, kind-known, frame-fits, walk-more, long}
 use Rattle.limits.proofs.Auto.{tests}
 use Rattle.frames.proofs.walk.walk_frames.Statement.{statement}
 use Rattle.frames.proofs.walk.walk_frames.Tie as tie

@@ -1,5 +1,5 @@
-use Rattle.handover.proofs.Across.{granted-sound, old-declined, old-granted}
 use Rattle.limits.proofs.Auto.{tests}
+use Rattle.index.proofs.Laws.{short-zeros, long-zeros}
 use borrow.Author.Needs.{needs}
 use Rattle.handover.proofs.entry.check_handover.Statement.{statement}
 use Rattle.handover.proofs.entry.check_handover.Tie as tie
@@ -9,10 +9,8 @@ check-handover-spec =
     tie.close
     (tie.spec
     (λ c. search needs)
-    (λ c κs. search needs)
+    (λ c κs. short-zeros _ (search tests))
     (λ c. search needs)
     (λ c. search needs)
-    (λ c. search needs)
-    (λ c κs. (search needs, search (granted-sound, tests)))
-    (λ c. search (old-declined, tests))
-    (λ c. search (old-granted, tests)))
+    (λ c κs. long-zeros _ (search tests))
+    (λ c. search needs))

@@ -1,5 +1,5 @@
-use Rattle.handover.proofs.Across.{granted-sound, new-declined, new-granted}
 use Rattle.limits.proofs.Auto.{tests}
+use Rattle.index.proofs.Laws.{short-zeros, long-zeros}
 use borrow.Author.Needs.{needs}
 use Rattle.handover.proofs.entry.code_from.Statement.{statement}
 use Rattle.handover.proofs.entry.code_from.Tie as tie
@@ -9,10 +9,8 @@ code-from-spec =
     tie.close
     (tie.spec
     (λ c. search needs)
-    (λ c κs. search needs)
+    (λ c κs. ((search needs, search needs), short-zeros _ (search tests)))
     (λ c. search needs)
     (λ c. search needs)
-    (λ c. search needs)
-    (λ c κs. ((search needs, search needs), (search needs, search (granted-sound, tests))))
-    (λ c. search (new-declined, tests))
-    (λ c. search (new-granted, tests)))
+    (λ c κs. ((search needs, search needs), long-zeros _ (search tests)))
+    (λ c. search needs))

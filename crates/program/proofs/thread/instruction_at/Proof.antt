@@ -1,5 +1,5 @@
 use Rattle.limits.proofs.Auto.{tests}
-use Rattle.program.proofs.Laws.Program.{threading}
+use Rattle.program.proofs.Laws.Program.{threading, going}
 use borrow.Author.Needs.{needs}
 use Rattle.program.proofs.thread.instruction_at.Statement.{statement}
 use Rattle.program.proofs.thread.instruction_at.Tie as tie
@@ -9,9 +9,8 @@ instruction-at-spec =
     tie.close
     (tie.spec
     (λ c κs. search needs)
-    (λ c. search (threading, tests))
+    (λ c. search (going, threading, tests))
     (λ c κs. search needs)
     (λ c κs. search needs)
-    (λ c κs. search needs)
-    (λ c κs. search needs)
-    (λ c. search (threading, tests)))
+    (λ c κs. search (going, threading, tests))
+    (λ c. search needs))

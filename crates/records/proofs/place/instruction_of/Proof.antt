@@ -14,5 +14,4 @@ instruction-of-spec =
     (λ c. search needs)
     (λ c. search needs)
     (λ c κs. search needs)
-    (λ c κs. search needs)
     (λ c. search (placing, tests)))

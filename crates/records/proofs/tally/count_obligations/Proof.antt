@@ -7,4 +7,4 @@ use Rattle.records.proofs.tally.count_obligations.Tie as tie
 pub count-obligations-spec : {M : Type 1} → statement M
 count-obligations-spec =
     tie.close
-    (tie.spec (λ c κs. search needs) (λ c. search needs) (λ c. search needs) (λ c. search (numbering, tests)) (λ c. search (numbering, tests)) (λ c. search (numbering, tests)) (λ c. search (numbering, tests)))
+    (tie.spec (λ c κs. search needs) (λ c κs. search (numbering, tests)) (λ c. search (numbering, tests)))

@@ -1,5 +1,5 @@
-use Rattle.replay.proofs.Wholly.{wholes}
 use Rattle.limits.proofs.Auto.{tests}
+use Rattle.index.proofs.Laws.{short-zeros, long-zeros}
 use borrow.Author.Needs.{needs}
 use Rattle.replay.proofs.whole.replay.Statement.{statement}
 use Rattle.replay.proofs.whole.replay.Tie as tie
@@ -9,18 +9,8 @@ replay-spec =
     tie.close
     (tie.spec
     (λ c. search needs)
-    (λ c κs. search needs)
+    (λ c κs. short-zeros _ (search tests))
     (λ c. search needs)
     (λ c. search needs)
-    (λ c. search needs)
-    (λ c. search needs)
-    (λ c. search needs)
-    (λ c. search needs)
-    (λ c. search needs)
-    (λ c κs. search needs)
-    (λ c. search needs)
-    (λ c. search needs)
-    (λ c κs. search needs)
-    (λ c κs. search needs)
-    (λ c. search (wholes, tests))
-    (λ c. search (wholes, tests)))
+    (λ c κs. long-zeros _ (search tests))
+    (λ c. search needs))

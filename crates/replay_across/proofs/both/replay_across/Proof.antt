@@ -1,6 +1,5 @@
-use Rattle.replay_across.proofs.Ways.{across-declined, across-granted}
-use Rattle.handover.proofs.Across.{granted-sound}
 use Rattle.limits.proofs.Auto.{tests}
+use Rattle.index.proofs.Laws.{short-zeros, long-zeros}
 use borrow.Author.Needs.{needs}
 use Rattle.replay_across.proofs.both.replay_across.Statement.{statement}
 use Rattle.replay_across.proofs.both.replay_across.Tie as tie
@@ -10,13 +9,8 @@ replay-across-spec =
     tie.close
     (tie.spec
     (λ c. search needs)
-    (λ c κs. search needs)
+    (λ c κs. short-zeros _ (search tests))
     (λ c. search needs)
     (λ c. search needs)
-    (λ c κs. search needs)
-    (λ c. search needs)
-    (λ c. search needs)
-    (λ c κs. search needs)
-    (λ c κs. (search needs, search (granted-sound, tests)))
-    (λ c. search (across-declined, tests))
-    (λ c. search (across-granted, tests)))
+    (λ c κs. long-zeros _ (search tests))
+    (λ c. search needs))

@@ -1,6 +1,5 @@
-use Rattle.replay_across.proofs.Ways.{from-declined, from-granted}
-use Rattle.handover.proofs.Across.{granted-sound}
 use Rattle.limits.proofs.Auto.{tests}
+use Rattle.index.proofs.Laws.{short-zeros, long-zeros}
 use borrow.Author.Needs.{needs}
 use Rattle.replay_across.proofs.both.replay_from.Statement.{statement}
 use Rattle.replay_across.proofs.both.replay_from.Tie as tie
@@ -10,12 +9,8 @@ replay-from-spec =
     tie.close
     (tie.spec
     (λ c. search needs)
-    (λ c κs. search needs)
+    (λ c κs. ((search needs, search needs), short-zeros _ (search tests)))
     (λ c. search needs)
     (λ c. search needs)
-    (λ c κs. search needs)
-    (λ c. search needs)
-    (λ c. search needs)
-    (λ c κs. ((search needs, search needs), (search needs, search (granted-sound, tests))))
-    (λ c. search (from-declined, tests))
-    (λ c. search (from-granted, tests)))
+    (λ c κs. ((search needs, search needs), long-zeros _ (search tests)))
+    (λ c. search needs))

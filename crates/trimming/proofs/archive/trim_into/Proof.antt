@@ -1,24 +1,18 @@
-use native.Mathlib.Omega.{arith}
 use Rattle.limits.proofs.Auto.{tests}
-use Rattle.archived.proofs.Ways.{accepted-of, answering}
+use Rattle.index.proofs.Laws.{short-zeros, long-zeros}
 use borrow.Author.Needs.{needs}
 use Rattle.trimming.proofs.archive.trim_into.Statement.{statement}
 use Rattle.trimming.proofs.archive.trim_into.Tie as tie
-
-trim-accepted-requires : tie.Need-trim-accepted-requires
-trim-accepted-requires c κs =
-    (search tests, accepted-of _ (c .before .before .before .before .before .before .accept-image .result) _ (λ i h. omega (arith, c .before .before .before .before .before .before .before .before .before .shared-slice-known .given i)) (search tests) (search tests))
 
 pub trim-into-spec : {M : Type 1} → statement M
 trim-into-spec =
     tie.close
     (tie.spec
     (λ c. search needs)
-    (λ c κs. search needs)
+    (λ c κs. short-zeros _ (search tests))
     (λ c. search needs)
     (λ c. search needs)
-    trim-accepted-requires
     (λ c. search needs)
+    (λ c κs. long-zeros _ (search tests))
     (λ c. search needs)
-    (λ c. (search (answering, tests), search (answering, tests)))
-    (λ c. (search (answering, tests), search (answering, tests))))
+    (λ c. search needs))

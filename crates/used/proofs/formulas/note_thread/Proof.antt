@@ -1,18 +1,21 @@
 use Rattle.used.proofs.UsedFormulas.{threading, body-more}
 use Rattle.notes.specs.Named.{bodyFormulas}
 use Rattle.trimmed.specs.Kept.{noted}
-use Prim.Native.Nat.{_≤_, _-_}
+use Prim.Native.Nat.{_≤_, _<_, _-_}
 use mathlib.Core.Path.{_≡_, refl}
-use lib.ListN.{length}
+use lib.ListN.{length, drop}
+use Rattle.program.specs.Thread.{begins}
+use Rattle.program.proofs.Laws.Program.{from-start}
 use Rattle.limits.proofs.Auto.{tests}
 use Rattle.used.proofs.formulas.note_thread.Statement.{statement}
 use Rattle.used.proofs.formulas.note_thread.Tie as tie
 
 abbrev Inv-loop : tie.InvT-loop
-Inv-loop b m₀ last p₀ m p = (p ≤ last) × ((noted m₀ (bodyFormulas b 0) ≡ noted m (bodyFormulas b p)) × (length m ≡ length m₀))
+Inv-loop b m₀ last at₀ p₀ m at p =
+    (last < 256) × ((p ≤ last) × ((at ≡ begins (drop 1 b) p) × ((noted m₀ (bodyFormulas b 0) ≡ noted m (bodyFormulas b p)) × (length m ≡ length m₀))))
 
 abbrev μ-loop : tie.MeasureT-loop
-μ-loop b m₀ last p₀ m p = last - p
+μ-loop b m₀ last at₀ p₀ m at p = last - p
 
 pub note-thread-spec : {M : Type 1} → statement M
 note-thread-spec =
@@ -21,11 +24,12 @@ note-thread-spec =
     Inv-loop
     μ-loop
     (λ c κs. search (threading, tests))
-    (λ c. (search tests, (refl, search tests)))
+    (λ c. (search tests, (search tests, (search (from-start, tests), (refl, search tests)))))
+    (λ c κs. search (threading, tests))
     (λ c κs. search (threading, tests))
     (λ c κs. search (threading, tests))
     (λ c. search (threading, tests))
     (λ c. search (threading, tests))
-    (λ c. (search tests, (search (body-more, tests), search tests)))
+    (λ c. (search tests, (search tests, (search tests, (search (body-more, tests), search tests)))))
     (λ c. search (threading, tests))
     (λ c. search (threading, tests)))
