@@ -10,7 +10,7 @@ use Rattle.frames.specs.Records.{body, startOf}
 use Rattle.program.specs.Thread.{lastPoint, begins}
 use Rattle.index.specs.declared.starts.FirstThread.{FirstThread}
 
--- how many records the table has places for: a record has two bytes at least, so one of 1,024 bytes has at most 512
+-- how many records the table has places for: a record has two bytes at least, so an image of 1,024 bytes has at most 512
 unfoldable pub room : List ℕ → ℕ
 room s = cond (leb (length s) 1024) 512 Limits.records
 
