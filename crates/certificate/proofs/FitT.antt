@@ -36,7 +36,7 @@ use Rattle.compare.specs.Same.{sameTree}
 use Rattle.compare.specs.Replace.{replaceT}
 use Rattle.occurs.specs.Occurs.{occurs, register, wordAnyRole, flag}
 use Rattle.trees.specs.ToTree.{toTree, ofTree}
-use Rattle.rows.specs.Entailment.{ImpT}
+use Rattle.entailment.specs.Entailment.{ImpT}
 use Rattle.rows.specs.Rows.{rowsT, tableT}
 use Rattle.trees.proofs.ToTree.{ofTree-toTree, toTree-same}
 use Rattle.trees.proofs.Replace.{toTree-reg, toTree-word, toTree-notes}

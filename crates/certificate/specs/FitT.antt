@@ -23,7 +23,7 @@ use Rattle.compare.specs.Same.{sameTree}
 use Rattle.compare.specs.Replace.{NoteT, replaceT, oneName, named}
 use Rattle.occurs.specs.Occurs.{occurs, register, wordAnyRole, flag}
 use Rattle.trees.specs.ToTree.{toTree, noteT}
-use Rattle.rows.specs.Entailment.{ImpT}
+use Rattle.entailment.specs.Entailment.{ImpT}
 use Rattle.rows.specs.Rows.{rowsT, tableT}
 use Rattle.matcher.specs.Template.{numHole, formulaHole, patternToTree, Holes, instT}
 use Rattle.matcher.specs.Match.{Taken, andThen, when, matchT}

@@ -16,8 +16,8 @@ use Rattle.outline.specs.Verdict as Outline
 use Rattle.outline.specs.Verdict.{Finding, accepted, denied, outcome, judgeClaims, behindObligations}
 use Rattle.content.specs.Program.{programOf}
 use Rattle.content.specs.Image.{claimBody, claimPlace, imageOf, resultOf, decode}
-use Rattle.content.specs.Places.{claimedIn}
-use Rattle.content.specs.declared.claim.Claimed.{Claimed}
+use Rattle.lookups.specs.Places.{claimedIn}
+use Rattle.lookups.specs.declared.claim.Claimed.{Claimed}
 use Rattle.content.proofs.Checked.{sound-checks}
 use Rattle.marks.specs.declared.Marks.{Marks}
 use Rattle.justify.specs.Pass.{marksTo}

@@ -7,9 +7,9 @@ use Rattle.logic.specs.Obligations.{obligations}
 use Rattle.frames.specs.Records.{bodies}
 use Rattle.program.specs.declared.sizes.Sizes.{Sizes}
 use Rattle.content.specs.Image.{claimBody, claimPlace}
-use Rattle.content.specs.Places.{claimedIn}
+use Rattle.lookups.specs.Places.{claimedIn}
 use Rattle.content.specs.Program.{programOf}
-use Rattle.content.specs.declared.claim.Claimed.{Claimed}
+use Rattle.lookups.specs.declared.claim.Claimed.{Claimed}
 use Rattle.marks.specs.declared.Marks.{Marks}
 use Rattle.justify.specs.Pass.{marksTo}
 use Rattle.outcomes.specs.Claims.{firstDenied}

@@ -18,13 +18,13 @@ use Rattle.records.specs.Line.{formOf, placed}
 use Rattle.certificate.specs.FitT as FitT
 use Rattle.certificate.specs.FitT.{concluded}
 use Rattle.content.specs.Certificate.{lineBody, certificateOf}
-use Rattle.content.specs.Places.{lineIn}
+use Rattle.lookups.specs.Places.{lineIn}
 use Rattle.content.specs.Rule.{ruleOf}
-use Rattle.content.specs.Trees.{treeAt, formNumber, spoken}
+use Rattle.lookups.specs.Trees.{treeAt, formNumber, spoken}
 use Rattle.content.proofs.Checked.{Checks}
 use Rattle.content.proofs.Lines.{numbers-passed}
-use Rattle.content.proofs.Rule.{rule-form}
-use Rattle.content.proofs.Trees.{line-is}
+use Rattle.lookups.proofs.Rule.{rule-form}
+use Rattle.lookups.proofs.Trees.{line-is}
 use Rattle.rulebook.specs.Rulebook.{ruleRow}
 use Rattle.rulebook.specs.Listed.{numberOf}
 use Rattle.conclusions.specs.Conclusion.{concludedAt}

@@ -9,8 +9,8 @@ use Rattle.program.specs.Instruction.{pairOperation}
 use Rattle.records.specs.Places.{instructionOf}
 use Rattle.certificate.specs.FitT.{hoare, paired}
 use Rattle.content.specs.Certificate.{lineBody}
-use Rattle.content.specs.Places.{lineIn}
-use Rattle.content.specs.declared.line.Line.{Line}
+use Rattle.lookups.specs.Places.{lineIn}
+use Rattle.lookups.specs.declared.line.Line.{Line}
 use Rattle.rulebook.specs.Rulebook.{ruleRow}
 use Rattle.conclusions.specs.declared.conclusion.Conclusion.{Conclusion}
 

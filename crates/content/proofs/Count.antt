@@ -14,8 +14,8 @@ use Rattle.logic.proofs.Reordered.{reordered-length}
 use Rattle.logic.proofs.Order.{actions, formerly, reordered}
 use Rattle.program.specs.declared.sizes.Sizes.{Sizes}
 use Rattle.program.specs.declared.instruction.Instruction.{Instruction}
-use Rattle.program.specs.Thread.{lastPoint, instructions, nothing}
-use Rattle.program.proofs.Laws.Program.{instructions-length}
+use Rattle.threads.specs.Thread.{lastPoint, instructions, nothing}
+use Rattle.threads.proofs.Threads.{instructions-length}
 use Rattle.records.specs.Places.{threadBody, instructionOf}
 use Rattle.records.specs.Tally.{isBranch, branches, threadTally, tallyTo, tally, obligationCount}
 use Rattle.content.specs.Program.{instr, pointCount, programOf}

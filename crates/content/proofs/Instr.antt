@@ -16,7 +16,7 @@ use Rattle.program.specs.declared.sizes.Sizes.{Sizes}
 use Rattle.program.specs.declared.instruction.Half.{Half}
 use Rattle.program.specs.declared.instruction.Instruction.{Instruction}
 use Rattle.program.specs.Instruction.{pairOperation}
-use Rattle.program.specs.Thread.{instructions, nothing}
+use Rattle.threads.specs.Thread.{instructions, nothing}
 use Rattle.records.specs.Places.{threadBody, instructionOf}
 use Rattle.content.specs.Formula.{formula}
 use Rattle.content.specs.Program.{instr}

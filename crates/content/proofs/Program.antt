@@ -28,9 +28,9 @@ use Rattle.program.specs.declared.instruction.Instruction.{Instruction}
 use Rattle.program.specs.declared.instruction.Fields.{Fields}
 use Rattle.header.specs.Header.{startValues, owners, marks, counted, headed, header}
 use Rattle.program.specs.Instruction.{inside, twofold, fieldsOf, fieldsFit, differ, halfFits, secondFits, ranged}
-use Rattle.program.specs.Thread.{lastPoint, instructions, nothing, numbered, threadNumbers}
+use Rattle.threads.specs.Thread.{lastPoint, instructions, nothing, numbered, threadNumbers}
 use Rattle.header.proofs.Laws.{counted-in}
-use Rattle.program.proofs.Laws.Program.{instructions-length}
+use Rattle.threads.proofs.Threads.{instructions-length}
 use Rattle.records.specs.Places.{threadBody}
 use Rattle.records.specs.List.{exactly}
 use Rattle.records.specs.Tally.{tallyTo, tally}

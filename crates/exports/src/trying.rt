@@ -1,11 +1,11 @@
 // Tests by rows, and truth tables.
+use entailment::entailment::Sizes;
 use limits::Limits;
 use limits::read::rest;
 use limits::read::word_at;
 use rows::by::Implications;
 use rows::by::by_rows;
 use rows::by::by_table;
-use rows::entailment::Sizes;
 ghost use mathlib.Core.Path.{_≡_};
 ghost use Rattle.limits.specs.Limits.{nesting};
 ghost use Rattle.formula.specs.Tree.{parseTree};

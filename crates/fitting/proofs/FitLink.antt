@@ -24,9 +24,9 @@ use Rattle.matcher.proofs.Follow.{Sized, given, when-given}
 use Rattle.certificate.specs.FitT as FitT
 use Rattle.certificate.specs.FitT.{TreeConclusion, hoare, paired, implication, formOf, matchLine, matchAll, isImplication, preset, operationT, restT, answer, fitsT}
 use Rattle.program.specs.Instruction.{firstOperation}
-use Rattle.content.specs.Trees.{actingAt}
-use Rattle.content.specs.declared.line.Line.{Line}
-use Rattle.content.specs.declared.acting.Acting.{Acting}
+use Rattle.lookups.specs.Trees.{actingAt}
+use Rattle.lookups.specs.declared.line.Line.{Line}
+use Rattle.lookups.specs.declared.acting.Acting.{Acting}
 use Rattle.rulebook.specs.Rulebook.{anyImplications, ruleRow, templates}
 use Rattle.rulebook.specs.Listed.{numberOf, packed, premiseCount, allows}
 use Rattle.rulebook.specs.declared.rule.Rule as Code

@@ -12,9 +12,9 @@ use Rattle.matcher.specs.declared.bind.Bind.{Bind}
 use Rattle.matcher.specs.declared.whole.Whole.{Whole}
 use Rattle.certificate.specs.FitT.{hoare, paired}
 use Rattle.content.specs.Certificate.{lineBody}
-use Rattle.content.specs.Places.{actingOf, lineIn}
-use Rattle.content.specs.declared.line.Line.{Line}
-use Rattle.content.specs.declared.acting.Acting.{Acting}
+use Rattle.lookups.specs.Places.{actingOf, lineIn}
+use Rattle.lookups.specs.declared.line.Line.{Line}
+use Rattle.lookups.specs.declared.acting.Acting.{Acting}
 use Rattle.rulebook.specs.Rulebook.{ruleRow}
 use Rattle.rulebook.specs.declared.rule.Rule.{Rule}
 use Rattle.conclusions.specs.Conclusion.{matchConclusion}

@@ -21,17 +21,17 @@ use Rattle.certificate.specs.FitT.{TreeConclusion, concluded, acting, fitsT}
 use Rattle.certificate.specs.Lines.{Certificate, lineFits}
 use Rattle.certificate.proofs.FitT.{bridge}
 use Rattle.content.specs.Certificate.{lineBody, certificateOf}
-use Rattle.content.specs.Places.{lineIn}
+use Rattle.lookups.specs.Places.{lineIn}
 use Rattle.content.specs.Program.{programOf}
 use Rattle.content.specs.Rule.{ruleOf}
-use Rattle.content.specs.Trees.{actingAt}
-use Rattle.content.specs.declared.line.Line.{Line}
-use Rattle.content.specs.declared.acting.Acting.{Acting}
+use Rattle.lookups.specs.Trees.{actingAt}
+use Rattle.lookups.specs.declared.line.Line.{Line}
+use Rattle.lookups.specs.declared.acting.Acting.{Acting}
 use Rattle.limits.proofs.Inverse.{and-true, within-true}
 use Rattle.content.proofs.Checked.{Checks}
 use Rattle.content.proofs.Program.{range-two}
 use Rattle.content.proofs.Lines.{in-range, premises-few, premise-count, line-bounded}
-use Rattle.content.proofs.Trees.{acting-whole, acting-first, line-acting}
+use Rattle.lookups.proofs.Trees.{acting-whole, acting-first, line-acting}
 use Rattle.rulebook.specs.Rulebook.{templates}
 use Rattle.conclusions.specs.Conclusion.{concludedAt, conclusionAt, conclusionsFrom}
 use Rattle.conclusions.specs.LineConclusion.{conclusionBy, lineAt, operationAt, conclusionOf}

@@ -17,7 +17,7 @@ use Rattle.certificate.specs.Lines.{marked}
 use Rattle.outline.specs.Verdict.{Image, codeOf, lineCode, asks, code, judge, outcome, Finding, accepted, denied, forbids, sustained, judgeClaims}
 use Rattle.outline.specs.Verdict as Verdict
 use Rattle.content.specs.Image.{claimBody, imageOf}
-use Rattle.content.specs.Places.{claimedIn}
+use Rattle.lookups.specs.Places.{claimedIn}
 use Rattle.content.proofs.Checked.{Checks}
 use Rattle.content.proofs.Lines.{named-there, claim-fine}
 use Rattle.marks.specs.Marks.{isMarked}

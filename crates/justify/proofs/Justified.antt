@@ -17,7 +17,7 @@ use Rattle.records.specs.Line.{premises}
 use Rattle.certificate.specs.Lines.{Certificate, lineFits, marked}
 use Rattle.certificate.proofs.Marks.{each-at, all-at}
 use Rattle.content.specs.Certificate.{lineBody, certificateOf}
-use Rattle.content.specs.Places.{lineIn}
+use Rattle.lookups.specs.Places.{lineIn}
 use Rattle.content.specs.Program.{programOf}
 use Rattle.content.proofs.Checked.{Checks}
 use Rattle.content.proofs.Lines.{premise-count}

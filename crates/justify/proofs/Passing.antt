@@ -13,8 +13,8 @@ use Rattle.frames.specs.Records.{bodies}
 use Rattle.program.specs.declared.sizes.Sizes.{Sizes}
 use Rattle.records.specs.Line.{premises}
 use Rattle.content.specs.Certificate.{lineBody}
-use Rattle.content.specs.Places.{lineIn}
-use Rattle.content.specs.declared.line.Line.{Line}
+use Rattle.lookups.specs.Places.{lineIn}
+use Rattle.lookups.specs.declared.line.Line.{Line}
 use Rattle.rulebook.specs.Rulebook.{templates}
 use Rattle.conclusions.specs.LineConclusion.{lineAt}
 use Rattle.fitting.specs.Fit.{fitsLine}

@@ -8,13 +8,13 @@ use lib.ListN.{getD}
 use borrow.Author.Tests.{lt-ltb, le-ltb}
 use Rattle.logic.specs.Opcode as Opcode
 use Rattle.columns.specs.Combine.{sumOf}
-use Rattle.memory.specs.View.{positionIn}
+use Rattle.writes.specs.View.{positionIn}
 use Rattle.memory.specs.Memory.{writeAt, memoryOf, seenBy}
-use Rattle.memory.specs.declared.view.View.{View}
-use Rattle.memory.specs.declared.write.Write.{Write}
+use Rattle.writes.specs.declared.view.View.{View}
+use Rattle.writes.specs.declared.write.Write.{Write}
 use Rattle.memory.specs.declared.memory.Sight.{Sight}
 use Rattle.program.specs.declared.instruction.Instruction.{Instruction}
-use Rattle.content.specs.Places.{registerFirst}
+use Rattle.lookups.specs.Places.{registerFirst}
 use Rattle.machine.specs.Deed.{deedOf}
 use Rattle.machine.specs.Shared.{reachableBy, reachable, uncovered, mayPick, fetchAdded}
 use Rattle.machine.specs.Locals.{withRegister, withBoth}

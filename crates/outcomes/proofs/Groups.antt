@@ -14,7 +14,7 @@ use Rattle.logic.specs.Obligations.{Obligation.start, Obligation.step, Obligati
 use Rattle.frames.specs.Records.{bodies}
 use Rattle.program.specs.declared.sizes.Sizes.{Sizes}
 use Rattle.program.specs.declared.instruction.Instruction.{Instruction}
-use Rattle.program.specs.Thread.{lastPoint}
+use Rattle.threads.specs.Thread.{lastPoint}
 use Rattle.records.specs.Places.{threadBody, instructionOf}
 use Rattle.content.specs.Program.{instr, pointCount}
 use Rattle.content.proofs.Sums.{flat-append, flat-map}

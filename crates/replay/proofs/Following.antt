@@ -26,14 +26,14 @@ use Rattle.program.specs.declared.sizes.Sizes.{Sizes}
 use Rattle.program.specs.declared.instruction.Half.{Half}
 use Rattle.program.specs.declared.instruction.Instruction.{Instruction}
 use Rattle.program.specs.Instruction.{ranged}
-use Rattle.program.specs.Thread.{lastPoint}
+use Rattle.threads.specs.Thread.{lastPoint}
 use Rattle.image.specs.Decode.{sizesOf}
 use Rattle.records.specs.Places.{threadBody, instructionOf}
-use Rattle.content.specs.Places.{registerFirst}
+use Rattle.lookups.specs.Places.{registerFirst}
 use Rattle.content.specs.Program.{instr, pointCount, programOf, outlineOf}
 use Rattle.content.proofs.Checked.{Checks}
 use Rattle.content.proofs.Program.{made, none-above, body, points-few, well-formed}
-use Rattle.content.proofs.Trees.{fields-there}
+use Rattle.lookups.proofs.Trees.{fields-there}
 use Rattle.memory.specs.Memory.{first}
 use Rattle.memory.specs.Stands.{Stands}
 use Rattle.memory.specs.declared.memory.Memory.{Memory}
@@ -48,12 +48,12 @@ use Rattle.machine.specs.declared.deed.Deed.{Deed}
 use Rattle.machine.specs.declared.locals.Registers.{Registers}
 use Rattle.machine.proofs.Instructions.{Made}
 use Rattle.machine.proofs.Worked.{sizes-few, valueOf, does-there}
-use Rattle.replay.specs.State.{pointOf, performed}
-use Rattle.replay.specs.Refusal.{total, adding, pickRefusal}
-use Rattle.replay.specs.Step.{valueAt, workedOut, deedAt, lastOf, refused, attempted, stepped}
+use Rattle.steps.specs.State.{pointOf, performed}
+use Rattle.steps.specs.Refusal.{total, adding, pickRefusal}
+use Rattle.steps.specs.Step.{valueAt, workedOut, deedAt, lastOf, refused, attempted, stepped}
 use Rattle.replay.specs.Outcome.{used, refusal}
 use Rattle.replay.specs.Stands.{StandsFor}
-use Rattle.replay.specs.declared.states.Machine.{Machine}
+use Rattle.steps.specs.declared.states.Machine.{Machine}
 
 -- the deed's operation is the instruction's
 deed-operation : (i : Instruction) (v g : ℕ) → deedOf i v g .operation ≡ i .operation

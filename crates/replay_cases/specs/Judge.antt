@@ -3,7 +3,7 @@ use mathlib.Core.Path.{_≡_}
 use mathlib.Core.List.{List, _++_}
 use Prim.Native.Nat.{ℕ}
 use lib.ListN.{take, drop}
-use Rattle.replaying.specs.Promise.{Written}
+use Rattle.replay_promise.specs.Promise.{Written}
 use Rattle.stored.specs.Tally.{withCase}
 use Rattle.stored.specs.declared.tally.Tally.{Tally}
 use Rattle.stored_answers.specs.Answer.{mostBytes, mostNumbers, blankTable, blankNumbers, lentAt, sameAnswer}

@@ -13,10 +13,10 @@ use Rattle.pricing.specs.Bill.{billOf}
 use Rattle.pricing.specs.Output.{size, codeFor, numbersFor}
 use Rattle.handover.specs.Code.{handoverCode}
 use Rattle.replay.specs.Whole.{replayOf}
-use Rattle.replay.specs.declared.whole.Replayed.{Replayed}
-use Rattle.replaying.specs.Answer as Replay
-use Rattle.replaying.specs.Answer.{answerOf}
-use Rattle.replaying.specs.Table.{shownOf, entriesIn, tableFor}
+use Rattle.traces.specs.declared.replayed.Replayed.{Replayed}
+use Rattle.shown.specs.Answer as Replay
+use Rattle.shown.specs.Answer.{answerOf}
+use Rattle.shown.specs.Table.{shownOf, entriesIn, tableFor}
 use Rattle.replay_across.specs.Numbers.{acrossOf}
 use Rattle.service.specs.declared.rights.Right.{Right}
 use Rattle.service.specs.declared.rights.Right.the-variants.{Check, Replay, Bill}

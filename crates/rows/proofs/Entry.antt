@@ -11,14 +11,14 @@ use Rattle.limits.specs.Limits.{nesting}
 use Rattle.formula.specs.Tree.{Tree, parseTree}
 use Rattle.compare.specs.Same.{sameTree}
 use Rattle.leaves.specs.Gather.{Gathered}
-use Rattle.rows.specs.Entailment.{leavesAll, impOf, impsFrom, premisesFrom, gatherImps, gatherAll}
-use Rattle.rows.specs.Every.{everyT, everyBy, everyOf}
+use Rattle.entailment.specs.Entailment.{leavesAll, impOf, impsFrom, premisesFrom, gatherImps, gatherAll}
+use Rattle.entailment.specs.Every.{everyT, everyBy, everyOf}
 use Rattle.tables.specs.Table.{byLeaves}
 use Rattle.rows.specs.Rows.{byNames, rowsT, tableT, lineOf, premisesOf}
 use Rattle.values.specs.declared.value.Reading.{Reading}
-use Rattle.rows.specs.declared.entailment.Task.{Task}
+use Rattle.entailment.specs.declared.entailment.Task.{Task}
 use Rattle.rows.specs.declared.by.Implications.{Implications}
-use Rattle.rows.proofs.Distinct.{cut, imps-cut, every-cut}
+use Rattle.entailment.proofs.Distinct.{cut, imps-cut, every-cut}
 
 module _ (s lefts rights : List ℕ) (t : Task) where
   all-is : (w : ℕ) → gatherAll s lefts rights t w ≡ cut (distinct sameTree (leavesAll w (impOf s lefts rights t 0 ∷ premisesFrom s lefts rights t 0)))

@@ -30,11 +30,11 @@ use Rattle.leaves.specs.Count.{choicesBy, choicesT}
 use Rattle.columns.specs.Combine.{sumOf, combine}
 use Rattle.columns.proofs.Combining.{sum-modulo}
 use Rattle.values.specs.Value.{valueT}
-use Rattle.rows.specs.Entailment.{ImpT, impT, entailsT, leavesAll}
+use Rattle.entailment.specs.Entailment.{ImpT, impT, entailsT, leavesAll}
 use Rattle.tables.specs.Table.{byLeaves}
 use Rattle.rows.specs.Rows.{byNames, rowsT, tableT}
-use Rattle.rows.proofs.Distinct.{choices-two, two-choices}
-use Rattle.rows.proofs.Choices.{below-same}
+use Rattle.entailment.proofs.Distinct.{choices-two, two-choices}
+use Rattle.entailment.proofs.Choices.{below-same}
 
 map-join : {A B : Type 0} (g : A → B) (l m : List A) → map g (l ++ m) ≡ map g l ++ map g m
 map-join g [] m = refl

@@ -27,14 +27,14 @@ use Rattle.bits.specs.Words.{bit, ones, wordOf, wordsOf, denyWord, denyWords, n
 use Rattle.bits.proofs.Facts.{flag, bit-ones, flag-and, flag-deny, none-set}
 use Rattle.tables.specs.Table.{byLeaves, Later, Shows, TreeBits, Grown}
 use Rattle.tables.proofs.Showing.{shows-later}
-use Rattle.rows.specs.Entailment.{ImpT, impOf, premisesFrom, impAt, allAt, entailsAt, gatherAll}
-use Rattle.rows.specs.Every.{lastsOf, triedRows, rowsHold, everyOf}
+use Rattle.entailment.specs.Entailment.{ImpT, impOf, premisesFrom, impAt, allAt, entailsAt, gatherAll}
+use Rattle.entailment.specs.Every.{lastsOf, triedRows, rowsHold, everyOf}
 use Rattle.rows.specs.Tables.{ImpBits, AllBits, FailBits}
-use Rattle.rows.specs.declared.entailment.Task.{Task}
-use Rattle.rows.proofs.Entailing.{prems-step, prems-end}
-use Rattle.rows.proofs.Distinct.{two-choices, two-rows, rows-power}
-use Rattle.rows.proofs.Choices.{all-below, lasts-at, rows-count, tried-once}
-use Rattle.rows.proofs.RowsTried.{every-try}
+use Rattle.entailment.specs.declared.entailment.Task.{Task}
+use Rattle.entailment.proofs.Entailing.{prems-step, prems-end}
+use Rattle.entailment.proofs.Distinct.{two-choices, two-rows, rows-power}
+use Rattle.entailment.proofs.Choices.{all-below, lasts-at, rows-count, tried-once}
+use Rattle.entailment.proofs.RowsTried.{every-try}
 
 -- what is shown of two columns is shown of one made of them
 module _ (n : ℕ) (q : List ℕ) (f g h : List ℕ → List ℕ → Bool) (a b o : List ℕ) (ef : Shows n q f a) (eg : Shows n q g b) where

@@ -10,10 +10,10 @@ use Rattle.limits.specs.Limits.{nesting}
 use Rattle.formula.specs.Codes.{setOf}
 use Rattle.formula.specs.Tree.{Tree}
 use Rattle.tables.specs.Table.{byLeaves}
-use Rattle.rows.specs.Entailment.{ImpT, impOf, premisesFrom}
-use Rattle.rows.specs.Every.{everyT}
+use Rattle.entailment.specs.Entailment.{ImpT, impOf, premisesFrom}
+use Rattle.entailment.specs.Every.{everyT}
 use Rattle.values.specs.declared.value.Reading.{Reading}
-use Rattle.rows.specs.declared.entailment.Task.{Task}
+use Rattle.entailment.specs.declared.entailment.Task.{Task}
 use Rattle.rows.specs.declared.by.Implications.{Implications}
 
 -- by rows the leaves are names

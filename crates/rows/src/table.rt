@@ -1,11 +1,11 @@
 // By truth table: the line and its premises as bits, their leaves gathered on the same walk.
-use crate::entailment::Task;
-use crate::entailment::number_at;
 use bits::word::Words;
 use bits::word::combine_words;
 use bits::word::deny_words;
 use bits::word::none_set;
 use bits::word::rows_of;
+use entailment::entailment::Task;
+use entailment::entailment::number_at;
 use formula::code::Code;
 use leaves::slot::Slots;
 use limits::Limits;
@@ -16,8 +16,8 @@ ghost use lib.ListN.{length};
 ghost use Rattle.leaves.specs.Gather.{view};
 ghost use Rattle.digits.specs.Advance.{EveryOnce};
 ghost use Rattle.tables.specs.Table.{byLeaves, Grown};
-ghost use Rattle.rows.specs.Entailment.{impOf, gatherImp, gatherAll};
-ghost use Rattle.rows.specs.Every.{lastsOf, triedRows, rowsHold, everyOf};
+ghost use Rattle.entailment.specs.Entailment.{impOf, gatherImp, gatherAll};
+ghost use Rattle.entailment.specs.Every.{lastsOf, triedRows, rowsHold, everyOf};
 ghost use Rattle.rows.specs.Tables.{ImpBits, FailBits};
 
 // The rows at which an implication fails, with its leaves; answers how many leaves there are.

@@ -14,7 +14,7 @@ use Rattle.rows.specs.declared.by.Implications.{Implications}
 use Rattle.frames.specs.Records.{bodies}
 use Rattle.header.specs.Header.{valueRange, cleared}
 use Rattle.matcher.specs.declared.bind.Bind.{Bind}
-use Rattle.content.specs.declared.acting.Acting.{Acting}
+use Rattle.lookups.specs.declared.acting.Acting.{Acting}
 use Rattle.rulebook.specs.Rulebook.{nothing, isKept, assigned, loaded, stored, byRows, byTable, startValue, startsAtZero, newValue}
 use Rattle.conclusions.specs.Conclusion.{conclusionAt}
 use Rattle.conditions.specs.Fresh.{freshIs}

@@ -26,7 +26,7 @@ use Rattle.compare.specs.Replace.{NoteT, replaceT, nameCode, oneName, named, su
 use Rattle.compare.specs.declared.replace.Replacing.the-variants.{Formula, Word}
 use Rattle.occurs.specs.Occurs.{occurs, register, wordAnyRole, flag}
 use Rattle.trees.proofs.ToTree.{tree-eq, tree-refl}
-use Rattle.rows.specs.Entailment.{impOf, impsFrom, premisesFrom}
+use Rattle.entailment.specs.Entailment.{impOf, impsFrom, premisesFrom}
 use Rattle.rows.specs.Rows.{rowsT, tableT, lineOf, premisesOf}
 use Rattle.frames.specs.Records.{bodies}
 use Rattle.header.specs.Header.{startValues, cleared, valueRange}
@@ -35,8 +35,8 @@ use Rattle.matcher.specs.Places.{takenOf}
 use Rattle.matcher.specs.declared.bind.Bind.{Bind}
 use Rattle.certificate.specs.FitT as FitT
 use Rattle.certificate.specs.FitT.{Setup, TreeConclusion, formOf, holesFrom, orElse, apartT, keepsT, freshT, sideT, operationT}
-use Rattle.content.specs.Trees.{treeAt, givesT, notesBy, actingAt}
-use Rattle.content.specs.declared.acting.Acting.{Acting}
+use Rattle.lookups.specs.Trees.{treeAt, givesT, notesBy, actingAt}
+use Rattle.lookups.specs.declared.acting.Acting.{Acting}
 use Rattle.rulebook.specs.Listed.{sideNumber}
 use Rattle.conclusions.specs.Conclusion.{concludedAt, conclusionsFrom}
 use Rattle.conditions.specs.Fresh.{formulaIs, sumIs, freshIs}

@@ -25,8 +25,8 @@ use Rattle.header.specs.Header as Header
 use Rattle.header.specs.Header.{startValues, owners, marks, cleared, headerSize, headed, header}
 use Rattle.records.specs.List.{exactly}
 use Rattle.records.specs.Line as Line
-use Rattle.program.specs.Thread as Thread
-use Rattle.program.specs.Thread.{lastPoint, begins, instructions, threadSize, threadNumbers}
+use Rattle.threads.specs.Thread as Thread
+use Rattle.threads.specs.Thread.{lastPoint, begins, instructions, threadSize, threadNumbers}
 use Rattle.records.specs.Places.{threadBody}
 use Rattle.records.specs.Tally.{branches, threadTally, tallyTo, tally, obligationCount}
 use Rattle.records.specs.Line.{formOf, premises, lineSize, nowhere, placed, lineNumbers}

@@ -15,7 +15,7 @@ use Rattle.limits.specs.Numbers.{nth, word, numbers, within}
 use Rattle.limits.proofs.Inverse.{within-true, every-at}
 use Rattle.content.proofs.Lines.{in-range}
 use Rattle.header.specs.Header.{startValues, cleared, valueRange, threadCount}
-use Rattle.program.specs.Thread.{nothing, instructions, lastPoint}
+use Rattle.threads.specs.Thread.{nothing, instructions, lastPoint}
 use Rattle.program.specs.declared.sizes.Sizes.{Sizes}
 use Rattle.program.specs.declared.instruction.Instruction.{Instruction}
 use Rattle.records.specs.Places.{threadBody, instructionOf}

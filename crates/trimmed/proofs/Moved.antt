@@ -6,7 +6,7 @@ use Prim.Native.Nat.{ℕ, zero, suc, _+_, _≤_, _<_}
 use native.Mathlib.Omega.{arith}
 use lib.ListN.{length, getD, length-map, List·getD-map}
 use Rattle.limits.specs.Numbers.{nth}
-use Rattle.program.specs.Thread.{nothing}
+use Rattle.threads.specs.Thread.{nothing}
 use Rattle.program.specs.declared.instruction.Instruction.{Instruction}
 use Rattle.document.specs.Document.{Document, LineRecord, ClaimRecord}
 use Rattle.document.specs.Canonical.{noLine, noClaim}

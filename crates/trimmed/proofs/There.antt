@@ -12,7 +12,7 @@ use Rattle.limits.specs.Numbers.{nth, word, numbers, within, every}
 use Rattle.limits.proofs.Inverse.{and-true, within-true, every-at}
 use Rattle.header.specs.Header.{threadCount}
 use Rattle.program.specs.Instruction.{twofold, noHalf, range, unused, fields, inside, fieldsOf, fieldsFit, ranged}
-use Rattle.program.specs.Thread.{nothing, lastPoint, instructions}
+use Rattle.threads.specs.Thread.{nothing, lastPoint, instructions}
 use Rattle.program.specs.declared.sizes.Sizes.{Sizes}
 use Rattle.program.specs.declared.instruction.Fields.{Fields}
 use Rattle.program.specs.declared.instruction.Instruction.{Instruction}

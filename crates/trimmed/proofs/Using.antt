@@ -9,7 +9,7 @@ use lib.ListN.{length, getD, replicate}
 use Rattle.logic.specs.Obligations.{flat}
 use Rattle.limits.specs.Limits as Limits
 use Rattle.limits.specs.Numbers.{nth}
-use Rattle.program.specs.Thread.{nothing}
+use Rattle.threads.specs.Thread.{nothing}
 use Rattle.program.specs.declared.instruction.Instruction.{Instruction}
 use Rattle.document.specs.Document.{Document, LineRecord}
 use Rattle.document.specs.Canonical.{noLine, noClaim}

@@ -3,7 +3,7 @@ use mathlib.Core.List.{[]}
 use Prim.Native.Nat.{ℕ, _≤_, _<_}
 use lib.ListN.{length, getD}
 use Rattle.limits.specs.Numbers.{nth}
-use Rattle.program.specs.Thread.{nothing}
+use Rattle.threads.specs.Thread.{nothing}
 use Rattle.document.specs.Document.{Document, LineRecord}
 use Rattle.document.specs.Canonical.{noLine, noClaim}
 

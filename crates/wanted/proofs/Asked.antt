@@ -35,15 +35,15 @@ use Rattle.certificate.specs.FitT.{concluded, implication, hoare, paired}
 use Rattle.outline.specs.Verdict.{asks, forbids}
 use Rattle.content.specs.Formula.{formula}
 use Rattle.content.specs.Program.{pointCount, programOf, outlineOf}
-use Rattle.content.specs.Places.{formulaAt, claimedIn}
-use Rattle.content.specs.Trees.{treeAt}
+use Rattle.lookups.specs.Places.{formulaAt, claimedIn}
+use Rattle.lookups.specs.Trees.{treeAt}
 use Rattle.content.specs.Certificate.{certificateOf}
 use Rattle.content.specs.Image.{imageOf, claimBody}
 use Rattle.content.proofs.Instr.{branch-is, branch-read, pair-is}
 use Rattle.content.proofs.Checked.{Checks}
 use Rattle.content.proofs.Lines.{Claimed, claim-fine}
 use Rattle.content.proofs.Program.{points-few, well-formed}
-use Rattle.content.proofs.Trees.{outline-is, test-is}
+use Rattle.lookups.proofs.Trees.{outline-is, test-is}
 use Rattle.conclusions.specs.LineConclusion.{conclusionOf}
 use Rattle.conclusions.proofs.Stated.{conclusion-trees}
 use Rattle.wanting.specs.Wanted.{nextPoint, actingForm, assertedAt, wantedStart, wantedAction, wantedNext, wantedStep, wantedTarget, wantedKept, wantedClaim, wantedAt, implied, twoHoles, claimAt}

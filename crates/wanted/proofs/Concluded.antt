@@ -8,8 +8,8 @@ use Rattle.frames.specs.Records.{bodies}
 use Rattle.program.specs.declared.sizes.Sizes.{Sizes}
 use Rattle.matcher.specs.declared.whole.Whole.{Whole}
 use Rattle.content.specs.Image.{claimBody}
-use Rattle.content.specs.Places.{claimedIn}
-use Rattle.content.specs.declared.claim.Claimed.{Claimed}
+use Rattle.lookups.specs.Places.{claimedIn}
+use Rattle.lookups.specs.declared.claim.Claimed.{Claimed}
 use Rattle.conclusions.specs.Conclusion.{matchConclusion}
 use Rattle.conclusions.specs.LineConclusion.{conclusionOf}
 use Rattle.conclusions.specs.declared.conclusion.Conclusion.{Conclusion}

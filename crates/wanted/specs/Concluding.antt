@@ -6,7 +6,7 @@ use lib.Dec.{eqb}
 use Rattle.frames.specs.Records.{bodies}
 use Rattle.program.specs.declared.sizes.Sizes.{Sizes}
 use Rattle.content.specs.Image.{claimBody}
-use Rattle.content.specs.Places.{claimedIn}
+use Rattle.lookups.specs.Places.{claimedIn}
 use Rattle.conclusions.specs.Conclusion.{matchConclusion}
 use Rattle.conclusions.specs.LineConclusion.{conclusionOf}
 use Rattle.marks.specs.Marks.{isMarked}

@@ -11,7 +11,7 @@ use Rattle.compare.specs.Same.{sameTree}
 use Rattle.matcher.specs.Template.{hole}
 use Rattle.matcher.specs.Places.{proper}
 use Rattle.certificate.specs.FitT.{TreeConclusion, implication, placed}
-use Rattle.content.specs.Trees.{treeAt}
+use Rattle.lookups.specs.Trees.{treeAt}
 use Rattle.conclusions.specs.Conclusion.{concludedAt, matchConclusion}
 use Rattle.conclusions.specs.declared.conclusion.Conclusion.{Conclusion}
 use Rattle.conclusions.proofs.Follow.{StandSides}

@@ -16,8 +16,8 @@ use Rattle.matcher.specs.Template.{firstHole}
 use Rattle.matcher.specs.declared.bind.Bind.{Bind}
 use Rattle.certificate.specs.FitT.{implication, hoare, paired}
 use Rattle.content.specs.Program.{outlineNumber}
-use Rattle.content.specs.Places.{formulaAt}
-use Rattle.content.specs.declared.claim.Claimed.{Claimed}
+use Rattle.lookups.specs.Places.{formulaAt}
+use Rattle.lookups.specs.declared.claim.Claimed.{Claimed}
 use Rattle.report.specs.declared.obligation.Obligation.{Obligation}
 use Rattle.report.specs.declared.obligation.Obligation.the-variants.{Start, Step, Taken, Interference}
 use Rattle.wanting.specs.declared.wanted.Wanted.{Wanted}

@@ -7,7 +7,7 @@ use lib.Dec.{eqb}
 use lib.ListN.{getD}
 use Rattle.limits.specs.Numbers.{within}
 use Rattle.program.specs.declared.sizes.Sizes.{Sizes}
-use Rattle.program.specs.Thread.{lastPoint}
+use Rattle.threads.specs.Thread.{lastPoint}
 use Rattle.records.specs.Places.{threadBody}
 use Rattle.records.specs.Claim.{pointThere, different}
 

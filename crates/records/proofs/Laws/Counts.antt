@@ -17,8 +17,8 @@ use Rattle.frames.specs.declared.fault.Checked.{Checked}
 use Rattle.frames.specs.declared.fault.Checked.the-variants.{Passed, Faulty}
 use Rattle.program.specs.declared.sizes.Sizes.{Sizes}
 use Rattle.program.specs.declared.instruction.Instruction.{Instruction}
-use Rattle.program.specs.Thread.{lastPoint, instructions, nothing}
-use Rattle.program.proofs.Laws.Program.{instructions-length}
+use Rattle.threads.specs.Thread.{lastPoint, instructions, nothing}
+use Rattle.threads.proofs.Threads.{instructions-length}
 use Rattle.records.specs.Places.{threadBody, instructionOf}
 use Rattle.records.specs.declared.tally.Tally.{Tally}
 use Rattle.records.specs.Tally.{isBranch, branches, tallied, threadTally, plus, tallyTo, tally, Small, obligationsBy, obligationCount}

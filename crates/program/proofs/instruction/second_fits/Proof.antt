@@ -1,5 +1,5 @@
 use Rattle.limits.proofs.Auto.{tests}
-use Rattle.program.proofs.Laws.Program.{seconds}
+use Rattle.program.proofs.Instructed.{seconds}
 use borrow.Author.Needs.{needs}
 use Rattle.program.proofs.instruction.second_fits.Statement.{statement}
 use Rattle.program.proofs.instruction.second_fits.Tie as tie

@@ -2,8 +2,8 @@ use Rattle.records.proofs.Laws.Counts.{count-start, count-more, count-a
 use Prim.Native.Nat.{_≤_, _<_, _+_, _-_}
 use mathlib.Core.Path.{_≡_}
 use lib.ListN.{drop}
-use Rattle.program.specs.Thread.{lastPoint, begins, instructions}
-use Rattle.program.proofs.Laws.Program.{from-start}
+use Rattle.threads.specs.Thread.{lastPoint, begins, instructions}
+use Rattle.threads.proofs.Threads.{from-start}
 use Rattle.records.specs.Tally.{branches}
 use Rattle.limits.proofs.Auto.{tests}
 use Rattle.records.proofs.tally.branches_of.Statement.{statement}

@@ -46,16 +46,16 @@ use denote.Triple.Table.{entered, cited}
 use denote.Triple.Walked.{says, needs, Stays, stay-slice, stay-none, walkOf, goes-slice, goes-none, Walks, ends-at, walked, walk-meets}
 use denote.Exit.{yes}
 use denote.Signature.{plain}
-use Rattle.replaying.specs.Table.{writeIn, putTo}
-use Rattle.replaying.proofs.Ways.{put-length, put-next, put-none}
-use Rattle.memory.specs.declared.write.Write.{Write}
-use Rattle.replaying.specs.declared.shown.Shown.{Shown}
-use Rattle.memory.proofs.write.Write as S
-use Rattle.memory.proofs.write.Write.Laws as S′
-use Rattle.replaying.proofs.answer.Answer as R
-use Rattle.replaying.proofs.answer.Answer.Laws as R′
-use Rattle.replaying.proofs.shown.Shown as T
-use Rattle.replaying.proofs.shown.Shown.Laws as T′
+use Rattle.shown.specs.Table.{writeIn, putTo}
+use Rattle.shown.proofs.Ways.{put-length, put-next, put-none}
+use Rattle.writes.specs.declared.write.Write.{Write}
+use Rattle.shown.specs.declared.shown.Shown.{Shown}
+use Rattle.writes.proofs.write.Write as S
+use Rattle.writes.proofs.write.Write.Laws as S′
+use Rattle.shown.proofs.answer.Answer as R
+use Rattle.shown.proofs.answer.Answer.Laws as R′
+use Rattle.shown.proofs.shown.Shown as T
+use Rattle.shown.proofs.shown.Shown.Laws as T′
 use Rattle.replaying.proofs.into.write_in as write-in
 use Rattle.replaying.proofs.into.write_in.Symbol as write-in-def
 use Rattle.replaying.proofs.into.write_in.Symbol.{name as #replaying·into·write-in}

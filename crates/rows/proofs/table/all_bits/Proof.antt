@@ -1,12 +1,12 @@
 use Rattle.rows.proofs.Tabling.{rowsets}
-use Rattle.rows.proofs.Entailing.{gathered}
+use Rattle.entailment.proofs.Entailing.{gathered}
 use Prim.Native.Nat.{_≤_}
 use mathlib.Core.Path.{_≡_}
 use mathlib.Core.List.{[]}
 use lib.ListN.{length}
 use Rattle.leaves.specs.Gather.{keys, view}
 use Rattle.tables.specs.Table.{byLeaves}
-use Rattle.rows.specs.Entailment.{premisesFrom, gatherImps}
+use Rattle.entailment.specs.Entailment.{premisesFrom, gatherImps}
 use Rattle.rows.specs.Tables.{AllBits}
 use Rattle.limits.proofs.Auto.{tests}
 use Rattle.rows.proofs.table.all_bits.Statement.{statement}

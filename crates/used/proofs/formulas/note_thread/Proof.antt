@@ -4,8 +4,8 @@ use Rattle.trimmed.specs.Kept.{noted}
 use Prim.Native.Nat.{_≤_, _<_, _-_}
 use mathlib.Core.Path.{_≡_, refl}
 use lib.ListN.{length, drop}
-use Rattle.program.specs.Thread.{begins}
-use Rattle.program.proofs.Laws.Program.{from-start}
+use Rattle.threads.specs.Thread.{begins}
+use Rattle.threads.proofs.Threads.{from-start}
 use Rattle.limits.proofs.Auto.{tests}
 use Rattle.used.proofs.formulas.note_thread.Statement.{statement}
 use Rattle.used.proofs.formulas.note_thread.Tie as tie
