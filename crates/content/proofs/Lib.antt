@@ -7,3 +7,4 @@ pub mod Formulas
 pub mod Program
 pub mod Lines
 pub mod Admitted
+pub mod Worked
