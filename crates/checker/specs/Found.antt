@@ -26,11 +26,13 @@ pointsOf c = record { class = 0; thread = c .thread; point = c .point; «other_t
 module _ (s : List ℕ) (z : Sizes) where
   -- claim i fails, behind so many obligations
   unfoldable pub deniedAt : ℕ → ℕ → Verdict
-  deniedAt i n = Verdict.Denied (claimPlace z i) (pointsOf (claimedIn (claimBody z (bodies s) i))) (claimedIn (claimBody z (bodies s) i) .line) n
+  deniedAt i n = Verdict.Denied (claimPlace z i) (pointsOf (claimedIn (claimBody z (bodies s) i)))
+      (claimedIn (claimBody z (bodies s) i) .line) n
 
   -- the claims, behind so many obligations
   unfoldable pub claimsVerdict : Marks → ℕ → Verdict
-  claimsVerdict m n = cond (eqb (firstDenied s z m (z .claims) 0) (z .claims)) (Verdict.Accepted n) (deniedAt (firstDenied s z m (z .claims) 0) n)
+  claimsVerdict m n = cond (eqb (firstDenied s z m (z .claims) 0) (z .claims)) (Verdict.Accepted n)
+      (deniedAt (firstDenied s z m (z .claims) 0) n)
 
   abbrev pub verdictOf : Marks → Outcome → Verdict
   verdictOf m (Met n) = claimsVerdict m n

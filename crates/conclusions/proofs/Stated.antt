@@ -45,14 +45,25 @@ numbers-back = tt
 
 none-past : (n : ℕ) → 51 ≤ n → isListed (formOf n) ≡ false
 unfolding formOf
-none-past n h = let q : n ≡ 50 → ⊥ = omega arith in rw (le-ltb n 1 (omega arith), lt-leb n 16 (omega arith), le-ltb n 20 (omega arith), lt-leb n 27 (omega arith), le-ltb n 30 (omega arith), lt-leb n 46 (omega arith), lt-leb n 49 (omega arith), ne-eqb n 50 q)
+none-past n h = let q : n ≡ 50 → ⊥ = omega arith in
+    rw (
+      le-ltb n 1 (omega arith),
+      lt-leb n 16 (omega arith),
+      le-ltb n 20 (omega arith),
+      lt-leb n 27 (omega arith),
+      le-ltb n 30 (omega arith),
+      lt-leb n 46 (omega arith),
+      lt-leb n 49 (omega arith),
+      ne-eqb n 50 q,
+    )
 
 pub rule-number : (n : ℕ) → isListed (formOf n) ≡ true → numberOf (ruleOf n) ≡ n
 rule-number n l = go (ltb n 51) refl
   where
     go : (b : Bool) → ltb n 51 ≡ b → numberOf (ruleOf n) ≡ n
     go true e =
-        let h : T (not (isListed (formOf n)) || eqb (numberOf (ruleOf n)) n) = allBelow-at 51 (λ i. not (isListed (formOf i)) || eqb (numberOf (ruleOf i)) i) numbers-back n (ltb-true n 51 e) in
+        let h : T (not (isListed (formOf n)) || eqb (numberOf (ruleOf n)) n) =
+        allBelow-at 51 (λ i. not (isListed (formOf i)) || eqb (numberOf (ruleOf i)) i) numbers-back n (ltb-true n 51 e) in
         eqb→eq (numberOf (ruleOf n)) n (rw l at h)
     go false e = absurd (true≢false (sym l ∙ none-past n (ltb-false n 51 e)))
 
@@ -85,7 +96,14 @@ module _ (s : List ℕ) (z : Sizes) (c : Checks z (bodies s)) (n : ℕ) (w : Wit
   pub conclusion-trees : concludedAt s (conclusionOf s z n) ≡ concluded (certificateOf z (bodies s) .line n .says)
   unfolding conclusionOf conclusionBy lineAt
   conclusion-trees =
-      ap (λ (f : ℕ). record { form = f; thread = lineAt s z n .thread; point = lineAt s z n .point; left = treeAt s (lineAt s z n .left); right = treeAt s (lineAt s z n .right) })
+      ap
+      (λ (f : ℕ). record {
+        form = f;
+        thread = lineAt s z n .thread;
+        point = lineAt s z n .point;
+        left = treeAt s (lineAt s z n .left);
+        right = treeAt s (lineAt s z n .right);
+      })
       (ap (λ (f : ℕ). spokenForm f (operationAt s z (lineAt s z n))) (conclusion-form (lineAt s z n .rule) line-listed)
       ∙ spoken-is (formOf (lineAt s z n .rule)) (operationAt s z (lineAt s z n)))
       ∙ sym (line-is s z c n w)

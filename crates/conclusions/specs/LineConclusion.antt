@@ -20,7 +20,13 @@ spokenForm f op = cond (eqb f paired) (cond (pairOperation op) paired hoare) f
 
 -- with the operation at its thread and point
 unfoldable pub conclusionBy : Line → ℕ → Conclusion
-conclusionBy l op = record { form = spokenForm (ruleRow (l .rule) .form) op; thread = l .thread; point = l .point; left = l .left; right = l .right }
+conclusionBy l op = record {
+  form = spokenForm (ruleRow (l .rule) .form) op;
+  thread = l .thread;
+  point = l .point;
+  left = l .left;
+  right = l .right;
+}
 
 -- line n
 unfoldable pub lineAt : List ℕ → Sizes → ℕ → Line

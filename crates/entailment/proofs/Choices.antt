@@ -47,15 +47,19 @@ module _ (s : List ℕ) (w : Reading) (q values : List ℕ) where
   all-is : (ps : List ImpT) → allAt s w q values ps ≡ all (impT w (rowAt s q 0 values)) ps
   unfolding allAt
   all-is [] = refl
-  all-is (p ∷ ps) = ap₂ (λ (a b : Bool). cond a b false) (imp-is p) (all-is ps) ∙ go (impT w (rowAt s q 0 values) p) (all (impT w (rowAt s q 0 values)) ps)
+  all-is (p ∷ ps) = ap₂ (λ (a b : Bool). cond a b false) (imp-is p) (all-is ps)
+      ∙ go (impT w (rowAt s q 0 values) p) (all (impT w (rowAt s q 0 values)) ps)
     where
       go : (a b : Bool) → cond a b false ≡ (a && b)
       go true b = refl
       go false b = refl
 
-  entails-is : (lefts rights : List ℕ) (t : Task) → entailsAt s lefts rights t w q values ≡ entailsT w (premisesFrom s lefts rights t 0) (impOf s lefts rights t 0) (rowAt s q 0 values)
+  entails-is : (lefts rights : List ℕ) (t : Task) → entailsAt s lefts rights t w q values ≡ entailsT w (premisesFrom s lefts rights t 0)
+      (impOf s lefts rights t 0) (rowAt s q 0 values)
   unfolding entailsAt
-  entails-is lefts rights t = ap₂ (λ (a b : Bool). cond a true (not b)) (imp-is (impOf s lefts rights t 0)) (all-is (premisesFrom s lefts rights t 0)) ∙ go (impT w (rowAt s q 0 values) (impOf s lefts rights t 0)) (all (impT w (rowAt s q 0 values)) (premisesFrom s lefts rights t 0))
+  entails-is lefts rights t = ap₂ (λ (a b : Bool). cond a true (not b)) (imp-is (impOf s lefts rights t 0))
+      (all-is (premisesFrom s lefts rights t 0)) ∙ go (impT w (rowAt s q 0 values) (impOf s lefts rights t 0))
+      (all (impT w (rowAt s q 0 values)) (premisesFrom s lefts rights t 0))
     where
       go : (a b : Bool) → cond a true (not b) ≡ (not b || a)
       go true true = refl
@@ -70,32 +74,42 @@ rowsBy s lefts rights t w q j values =
     (λ u. valueIn values (slotFrom s q (slots - j) j u))
 
 -- a value set in a slot is a choice for its leaf
-row-chosen : (s q values : List ℕ) (j k : ℕ) → length values ≡ slots → j < slots → choose sameTree (rowAt s q (j + 1) values) (slotAt s q j) k ≡ rowAt s q j (set values j k)
+row-chosen : (s q values : List ℕ) (j k : ℕ) → length values ≡ slots → j < slots
+    → choose sameTree (rowAt s q (j + 1) values) (slotAt s q j) k ≡ rowAt s q j (set values j k)
 unfolding choose valueIn
 row-chosen s q values j k l h = fun-ext (λ u. go u (sameTree u (slotAt s q j)) refl)
   where
-    go : (u : Tree) (b : Bool) → sameTree u (slotAt s q j) ≡ b → cond (sameTree u (slotAt s q j)) k (rowAt s q (j + 1) values u) ≡ rowAt s q j (set values j k) u
+    go : (u : Tree) (b : Bool) → sameTree u (slotAt s q j) ≡ b
+        → cond (sameTree u (slotAt s q j)) k (rowAt s q (j + 1) values u) ≡ rowAt s q j (set values j k) u
     go u true e = rw (from-next s q j u h, e, lt-ltb _ _ h) (sym (getD-set-same values j k 0 (omega arith)))
-    go u false e = rw (from-next s q j u h, e) (ap (λ (n : ℕ). cond (ltb (slotFrom s q (slots - (j + 1)) (j + 1) u) slots) n 0) (sym (getD-set-other values j (slotFrom s q (slots - (j + 1)) (j + 1) u) k 0 (λ d. omega (arith, from-least s q u (slots - (j + 1)) (j + 1))))))
+    go u false e = rw (from-next s q j u h, e) (ap (λ (n : ℕ). cond (ltb (slotFrom s q (slots - (j + 1)) (j + 1) u) slots) n 0)
+        (sym (getD-set-other values j (slotFrom s q (slots - (j + 1)) (j + 1) u) k 0
+        (λ d. omega (arith, from-least s q u (slots - (j + 1)) (j + 1))))))
 
 module _ (s lefts rights : List ℕ) (t : Task) (w : Reading) (q : List ℕ) where
-  rows-step : (j : ℕ) (values : List ℕ) → length values ≡ slots → j < slots → rowsBy s lefts rights t w q (j + 1) values ≡ allBelow (choicesT (w .range) (slotAt s q j)) (λ k. rowsBy s lefts rights t w q j (set values j k))
+  rows-step : (j : ℕ) (values : List ℕ) → length values ≡ slots → j < slots
+      → rowsBy s lefts rights t w q (j + 1) values ≡ allBelow (choicesT (w .range) (slotAt s q j))
+      (λ k. rowsBy s lefts rights t w q j (set values j k))
   rows-step j values l h =
-      ap (λ (l : List Tree). allRows sameTree (choicesT (w .range)) l f (rowAt s q (j + 1) values)) (ap (kept s q) (omega arith) ∙ kept-step s q j)
-      ∙ ap (allBelow (choicesT (w .range) (slotAt s q j))) (fun-ext (λ k. ap (allRows sameTree (choicesT (w .range)) (kept s q j) f) (row-chosen s q values j k l h)))
+      ap (λ (l : List Tree). allRows sameTree (choicesT (w .range)) l f (rowAt s q (j + 1) values))
+      (ap (kept s q) (omega arith) ∙ kept-step s q j)
+      ∙ ap (allBelow (choicesT (w .range) (slotAt s q j)))
+      (fun-ext (λ k. ap (allRows sameTree (choicesT (w .range)) (kept s q j) f) (row-chosen s q values j k l h)))
     where
       f : (Tree → ℕ) → Bool
       f = entailsT w (premisesFrom s lefts rights t 0) (impOf s lefts rights t 0)
 
   rows-zero : (values : List ℕ) → rowsBy s lefts rights t w q 0 values ≡ entailsAt s lefts rights t w q values
   rows-zero values =
-      ap (λ (k : List Tree). allRows sameTree (choicesT (w .range)) k (entailsT w (premisesFrom s lefts rights t 0) (impOf s lefts rights t 0)) (rowAt s q 0 values)) (kept-none s q)
+      ap (λ (k : List Tree). allRows sameTree (choicesT (w .range)) k
+      (entailsT w (premisesFrom s lefts rights t 0) (impOf s lefts rights t 0)) (rowAt s q 0 values)) (kept-none s q)
       ∙ sym (entails-is s w q values lefts rights t)
 
 -- every number below another
 pub below-same : (n : ℕ) (f g : ℕ → Bool) → ((i : ℕ) → i < n → f i ≡ g i) → allBelow n f ≡ allBelow n g
 below-same zero f g h = refl
-below-same (suc n) f g h = ap₂ (λ (a b : Bool). elim a as (λ x. Bool) [ true ↦ b | false ↦ false ]) (h n (omega arith)) (below-same n f g (λ i l. h i (omega arith)))
+below-same (suc n) f g h = ap₂ (λ (a b : Bool). elim a as (λ x. Bool) [ true ↦ b | false ↦ false ]) (h n (omega arith))
+    (below-same n f g (λ i l. h i (omega arith)))
 
 -- every row of a list
 module _ {A : Type 0} (f : A → Bool) (d : A) where
@@ -142,7 +156,8 @@ unfolding rowsOf
 rows-set [] j m h e = absurd (omega arith)
 rows-set (x ∷ ms) zero m h e = ap (λ (n : ℕ). suc m * n) (sym (ap (λ (k : ℕ). suc k * rowsOf ms) e ∙ one-mul (rowsOf ms)))
 rows-set (x ∷ ms) (suc j) m h e =
-    ap (λ (n : ℕ). suc x * n) (rows-set ms j m (omega arith) e) ∙ sym (mul-assoc (suc x) (suc m) (rowsOf ms)) ∙ ap (λ (n : ℕ). n * rowsOf ms) (mul-comm (suc x) (suc m)) ∙ mul-assoc (suc m) (suc x) (rowsOf ms)
+    ap (λ (n : ℕ). suc x * n) (rows-set ms j m (omega arith) e) ∙ sym (mul-assoc (suc x) (suc m) (rowsOf ms))
+    ∙ ap (λ (n : ℕ). n * rowsOf ms) (mul-comm (suc x) (suc m)) ∙ mul-assoc (suc m) (suc x) (rowsOf ms)
 
 rows-none : (n : ℕ) → rowsOf (replicate n 0) ≡ 1
 unfolding rowsOf
@@ -173,14 +188,17 @@ module _ (s q : List ℕ) (R : ℕ) where
       past i = le-ltb i 0 (omega arith)
   lasts-at (suc k) i h = ap (λ (l : List ℕ). getD l i 0) (lasts-step k) ∙ go (eqb i k) refl (lasts-at k i (omega arith))
     where
-      go : (b : Bool) → eqb i k ≡ b → getD (lastsOf s q R k) i 0 ≡ cond (ltb i k) (chosen i - 1) 0 → getD (set (lastsOf s q R k) k (chosen k - 1)) i 0 ≡ cond (ltb i (suc k)) (chosen i - 1) 0
+      go : (b : Bool) → eqb i k ≡ b → getD (lastsOf s q R k) i 0 ≡ cond (ltb i k) (chosen i - 1) 0
+          → getD (set (lastsOf s q R k) k (chosen k - 1)) i 0 ≡ cond (ltb i (suc k)) (chosen i - 1) 0
       go true e ih =
           let z : i ≡ k = eqb-true i k e in
-          ap (λ (i : ℕ). getD (set (lastsOf s q R k) k (chosen k - 1)) i 0) z ∙ getD-set-same (lastsOf s q R k) k (chosen k - 1) 0 (let l = lasts-length k in omega arith)
+          ap (λ (i : ℕ). getD (set (lastsOf s q R k) k (chosen k - 1)) i 0) z
+          ∙ getD-set-same (lastsOf s q R k) k (chosen k - 1) 0 (let l = lasts-length k in omega arith)
           ∙ sym (ap₂ (λ (b : Bool) (n : ℕ). cond b n 0) (lt-ltb i (suc k) (omega arith)) (ap (λ (i : ℕ). chosen i - 1) z))
       go false e ih =
           let z : i ≡ k → ⊥ = eqb-false i k e in
-          getD-set-other (lastsOf s q R k) k i (chosen k - 1) 0 z ∙ ih ∙ ap (λ (b : Bool). cond b (chosen i - 1) 0) (below (ltb i k) (ltb i (suc k)) refl refl)
+          getD-set-other (lastsOf s q R k) k i (chosen k - 1) 0 z ∙ ih
+          ∙ ap (λ (b : Bool). cond b (chosen i - 1) 0) (below (ltb i k) (ltb i (suc k)) refl refl)
         where
           below : (a b : Bool) → ltb i k ≡ a → ltb i (suc k) ≡ b → ltb i k ≡ ltb i (suc k)
           below true b ea eb = ea ∙ sym (lt-ltb i (suc k) (omega (arith, ltb-true i k ea)))
@@ -192,7 +210,8 @@ module _ (s q : List ℕ) (R : ℕ) where
   unfolding triedRows
   tried-once k n e =
       subst (λ (m : ℕ). EveryOnce (lastsOf s q R k) (rowsFrom (lastsOf s q R k) m (replicate slots 0))) (sym e)
-      (subst (λ (m : ℕ). EveryOnce (lastsOf s q R k) (rowsFrom (lastsOf s q R k) (rowsOf (lastsOf s q R k)) (replicate m 0))) (lasts-length k) (every-once (lastsOf s q R k)))
+      (subst (λ (m : ℕ). EveryOnce (lastsOf s q R k) (rowsFrom (lastsOf s q R k) (rowsOf (lastsOf s q R k)) (replicate m 0)))
+      (lasts-length k) (every-once (lastsOf s q R k)))
 
   module _ (two : 2 ≤ R) where
     pub rows-count : (k : ℕ) → k ≤ slots → rowsOf (lastsOf s q R k) ≡ rowCount sameTree (choicesT R) (kept s q k)
@@ -220,8 +239,10 @@ module _ (s lefts rights : List ℕ) (t : Task) (w : Reading) (q : List ℕ) (tw
     front : (i : ℕ) → i < j → getD r i 0 < c i
     behind : (i : ℕ) → j ≤ i → getD r i 0 ≡ getD values i 0
 
-  each-row : (j : ℕ) (values : List ℕ) → length values ≡ slots → j ≤ slots → T (rowsBy s lefts rights t w q j values) → (r : List ℕ) → Of j values r → T (E r)
-  each-row zero values l h p r o = subst T (rows-zero s lefts rights t w q values ∙ ap E (ext-getD 0 values r (l ∙ sym (o .long)) (λ i k. sym (o .behind i (omega arith))))) p
+  each-row : (j : ℕ) (values : List ℕ) → length values ≡ slots → j ≤ slots → T (rowsBy s lefts rights t w q j values) → (r : List ℕ)
+      → Of j values r → T (E r)
+  each-row zero values l h p r o = subst T (rows-zero s lefts rights t w q values
+      ∙ ap E (ext-getD 0 values r (l ∙ sym (o .long)) (λ i k. sym (o .behind i (omega arith))))) p
   each-row (suc j) values l h p r o =
       each-row j (set values j v) (length-set values j v ∙ l) (omega arith)
       (allBelow-at (c j) (λ k. rowsBy s lefts rights t w q j (set values j k)) (subst T stepped p) v (o .front j (omega arith))) r
@@ -231,21 +252,33 @@ module _ (s lefts rights : List ℕ) (t : Task) (w : Reading) (q : List ℕ) (tw
       v = getD r j 0
 
       stepped : rowsBy s lefts rights t w q (suc j) values ≡ allBelow (c j) (λ k. rowsBy s lefts rights t w q j (set values j k))
-      stepped = let e : suc j ≡ j + 1 = omega arith in ap (λ (n : ℕ). rowsBy s lefts rights t w q n values) e ∙ rows-step s lefts rights t w q j values l (omega arith)
+      stepped = let e : suc j ≡ j + 1 = omega arith in
+          ap (λ (n : ℕ). rowsBy s lefts rights t w q n values) e ∙ rows-step s lefts rights t w q j values l (omega arith)
 
       go : (i : ℕ) → j ≤ i → (b : Bool) → eqb i j ≡ b → getD r i 0 ≡ getD (set values j v) i 0
-      go i k true e = let z : i ≡ j = eqb-true i j e in ap (λ (i : ℕ). getD r i 0) z ∙ sym (ap (λ (i : ℕ). getD (set values j v) i 0) z ∙ getD-set-same values j v 0 (omega arith))
+      go i k true e = let z : i ≡ j = eqb-true i j e in
+          ap (λ (i : ℕ). getD r i 0) z ∙ sym (ap (λ (i : ℕ). getD (set values j v) i 0) z ∙ getD-set-same values j v 0 (omega arith))
       go i k false e = let z : i ≡ j → ⊥ = eqb-false i j e in o .behind i (omega arith) ∙ sym (getD-set-other values j i v 0 z)
 
-  all-rows : (j : ℕ) (values : List ℕ) → length values ≡ slots → j ≤ slots → ((r : List ℕ) → Of j values r → T (E r)) → T (rowsBy s lefts rights t w q j values)
-  all-rows zero values l h f = subst T (sym (rows-zero s lefts rights t w q values)) (f values (record { long = l; front = λ i k. absurd (omega arith); behind = λ i k. refl }))
+  all-rows : (j : ℕ) (values : List ℕ) → length values ≡ slots → j ≤ slots → ((r : List ℕ) → Of j values r → T (E r))
+      → T (rowsBy s lefts rights t w q j values)
+  all-rows zero values l h f = subst T (sym (rows-zero s lefts rights t w q values))
+      (f values (record { long = l; front = λ i k. absurd (omega arith); behind = λ i k. refl }))
   all-rows (suc j) values l h f =
       subst T (sym stepped)
       (below-from (c j) (λ k. rowsBy s lefts rights t w q j (set values j k)) (λ v hv.
-      all-rows j (set values j v) (length-set values j v ∙ l) (omega arith) (λ r o. f r (record { long = o .long; front = λ i k. front v hv r o i k (eqb i j) refl; behind = λ i k. o .behind i (omega arith) ∙ getD-set-other values j i v 0 (λ e. omega arith) }))))
+      all-rows j (set values j v) (length-set values j v ∙ l) (omega arith)
+      (λ r o. f r
+      (record {
+        long = o .long;
+        front = λ i k. front v hv r o i k (eqb i j) refl;
+        behind = λ i k. o .behind i (omega arith)
+            ∙ getD-set-other values j i v 0 (λ e. omega arith);
+      }))))
     where
       stepped : rowsBy s lefts rights t w q (suc j) values ≡ allBelow (c j) (λ k. rowsBy s lefts rights t w q j (set values j k))
-      stepped = let e : suc j ≡ j + 1 = omega arith in ap (λ (n : ℕ). rowsBy s lefts rights t w q n values) e ∙ rows-step s lefts rights t w q j values l (omega arith)
+      stepped = let e : suc j ≡ j + 1 = omega arith in
+          ap (λ (n : ℕ). rowsBy s lefts rights t w q n values) e ∙ rows-step s lefts rights t w q j values l (omega arith)
 
       front : (v : ℕ) → v < c j → (r : List ℕ) → Of j (set values j v) r → (i : ℕ) → i < suc j → (b : Bool) → eqb i j ≡ b → getD r i 0 < c i
       front v hv r o i k true e =
@@ -286,7 +319,8 @@ module _ (s lefts rights : List ℕ) (t : Task) (w : Reading) (q : List ℕ) (tw
             let y = low i (ltb-true i slots e) in
             let z = zeros slots i in
             omega arith
-        behind i b false e = List·getD-eq-default r 0 (let l = at .0 ∙ lasts-length s q (w .range) k in omega (arith, ltb-false i slots e)) ∙ sym (zeros slots i)
+        behind i b false e = List·getD-eq-default r 0 (let l = at .0 ∙ lasts-length s q (w .range) k in
+            omega (arith, ltb-false i slots e)) ∙ sym (zeros slots i)
 
     choice-of : (r : List ℕ) → Of k none r → Choice ms r
     choice-of r o = choice-from ms r (o .long ∙ sym (lasts-length s q (w .range) k)) (λ i b. go i (ltb i k) refl)
@@ -307,7 +341,8 @@ module _ (s lefts rights : List ℕ) (t : Task) (w : Reading) (q : List ℕ) (tw
       unfolding rowsHold
       rows-tried =
           bool-ext (all E rows) (rowsBy s lefts rights t w q k none)
-          (λ p. all-rows k none refl h (λ r o. let i = once .tried r (choice-of r o) in subst (λ (r : List ℕ). T (E r)) (i .2) (all-at E [] rows p (i .0) (i .1))))
+          (λ p. all-rows k none refl h (λ r o. let i = once .tried r (choice-of r o) in
+          subst (λ (r : List ℕ). T (E r)) (i .2) (all-at E [] rows p (i .0) (i .1))))
           (λ p. all-from E [] rows (λ i b. each-row k none refl h p (getD rows i []) (of-choice (getD rows i []) (once .choices i b))))
         where
           once : EveryOnce ms (triedRows s q (w .range) k n)

@@ -43,7 +43,8 @@ module _ {K : Type 0} {eq : K → K → Bool} (E : Equality eq) where
   in-distinct m [] = ap (isIn eq m) distinct-none
   in-distinct m (n ∷ l) = go (isIn eq n l) (eq m n) refl refl (in-distinct m l)
     where
-      go : (a b : Bool) → isIn eq n l ≡ a → eq m n ≡ b → isIn eq m (distinct eq l) ≡ isIn eq m l → isIn eq m (distinct eq (n ∷ l)) ≡ isIn eq m (n ∷ l)
+      go : (a b : Bool) → isIn eq n l ≡ a → eq m n ≡ b → isIn eq m (distinct eq l) ≡ isIn eq m l
+          → isIn eq m (distinct eq (n ∷ l)) ≡ isIn eq m (n ∷ l)
       go true true ea eb ih =
           let e : isIn eq m l ≡ true = ap (λ (k : K). isIn eq k l) (E .equal m n (is-true eb)) ∙ ea in
           rw (distinct-step n l, ea, in-step m n l, eb) (ih ∙ e)
@@ -71,7 +72,8 @@ put-cut c o l r m = go (ltb slots (length (each m))) (isIn sameTree t m) (ltb (l
     t : Tree
     t = node c o l r
 
-    go : (a b d : Bool) → ltb slots (length (each m)) ≡ a → isIn sameTree t m ≡ b → ltb (length (each m)) slots ≡ d → putT t (cut (each m)) ≡ cut (each (t ∷ m))
+    go : (a b d : Bool) → ltb slots (length (each m)) ≡ a → isIn sameTree t m ≡ b → ltb (length (each m)) slots ≡ d
+        → putT t (cut (each m)) ≡ cut (each (t ∷ m))
     go true true d ea eb ed = rw (ea, put-many, distinct-step trees-equal t m, eb, ea)
     go true false d ea eb ed =
         let h : slots < suc (length (each m)) = omega (arith, ltb-true slots (length (each m)) ea) in
@@ -91,14 +93,19 @@ leaves-node w c o l r = refl
 gather-cut : (w : ℕ) (t : Tree) (m : List Tree) → gatherT w t (cut (each m)) ≡ cut (each (leavesT w t ++ m))
 unfolding gatherT leavesT
 gather-cut w none m = refl
-gather-cut w (node c o l r) m = gather-node w c o l r (cut (each m)) ∙ go (member w c) refl (gather-cut w r m) (gather-cut w l (leavesT w r ++ m))
+gather-cut w (node c o l r) m = gather-node w c o l r (cut (each m))
+    ∙ go (member w c) refl (gather-cut w r m) (gather-cut w l (leavesT w r ++ m))
   where
-    go : (b : Bool) → member w c ≡ b → gatherT w r (cut (each m)) ≡ cut (each (leavesT w r ++ m)) → gatherT w l (cut (each (leavesT w r ++ m))) ≡ cut (each (leavesT w l ++ (leavesT w r ++ m)))
-        → cond (member w c) (putT (node c o l r) (cut (each m))) (gatherT w l (gatherT w r (cut (each m)))) ≡ cut (each (leavesT w (node c o l r) ++ m))
+    go : (b : Bool) → member w c ≡ b → gatherT w r (cut (each m)) ≡ cut (each (leavesT w r ++ m))
+        → gatherT w l (cut (each (leavesT w r ++ m))) ≡ cut (each (leavesT w l ++ (leavesT w r ++ m)))
+        → cond (member w c) (putT (node c o l r) (cut (each m))) (gatherT w l (gatherT w r (cut (each m)))) ≡ cut
+        (each (leavesT w (node c o l r) ++ m))
     go true e f g = rw (leaves-node, e) (put-cut c o l r m)
-    go false e f g = rw (leaves-node, e) (ap (gatherT w l) f ∙ g ∙ ap (λ (k : List Tree). cut (each k)) (sym (append-assoc (leavesT w l) (leavesT w r) m)))
+    go false e f g = rw (leaves-node, e) (ap (gatherT w l) f ∙ g
+        ∙ ap (λ (k : List Tree). cut (each k)) (sym (append-assoc (leavesT w l) (leavesT w r) m)))
 
-imp-cut : (w : ℕ) (p : ImpT) (m : List Tree) → gatherImp w p (cut (each m)) ≡ cut (each ((leavesT w (p .left) ++ leavesT w (p .right)) ++ m))
+imp-cut : (w : ℕ) (p : ImpT) (m : List Tree) → gatherImp w p (cut (each m)) ≡ cut
+    (each ((leavesT w (p .left) ++ leavesT w (p .right)) ++ m))
 unfolding gatherImp
 imp-cut w p m =
     ap (gatherT w (p .left)) (gather-cut w (p .right) m)
@@ -132,10 +139,13 @@ module _ (R : ℕ) (two : 2 ≤ R) where
   rows-power (suc n) (t ∷ l) h = let e = mul-le-mul (choices-two t) (rows-power n l (omega arith)) in let p = pow-suc 2 n in omega arith
 
   pub every-cut : (limit : ℕ) → limit ≤ 4096 → (l : List Tree) (w : Reading) → w .range ≡ R → (ps : List ImpT) (c : ImpT)
-      → everyBy (cut l) w limit ps c ≡ (leb (rowCount sameTree (choicesT (w .range)) l) limit && allRows sameTree (choicesT (w .range)) l (entailsT w ps c) (λ u. 0))
+      → everyBy (cut l) w limit ps c ≡ (leb (rowCount sameTree (choicesT (w .range)) l) limit
+      && allRows sameTree (choicesT (w .range)) l (entailsT w ps c) (λ u. 0))
   every-cut limit h l w e ps c = go (ltb slots (length l)) refl
     where
-      go : (b : Bool) → ltb slots (length l) ≡ b → everyBy (cut l) w limit ps c ≡ (leb (rowCount sameTree (choicesT (w .range)) l) limit && allRows sameTree (choicesT (w .range)) l (entailsT w ps c) (λ u. 0))
+      go : (b : Bool) → ltb slots (length l) ≡ b → everyBy (cut l) w limit ps
+          c ≡ (leb (rowCount sameTree (choicesT (w .range)) l) limit
+          && allRows sameTree (choicesT (w .range)) l (entailsT w ps c) (λ u. 0))
       go true d =
           let k : 13 ≤ length l = omega (arith, ltb-true slots (length l) d) in
           let p : limit < rowCount sameTree (choicesT R) l = omega (arith, rows-power 13 l k) in

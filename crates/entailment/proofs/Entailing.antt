@@ -49,13 +49,17 @@ module _ (s lefts rights : List ℕ) (t : Task) where
     holds i = impAt s w q (rowIn ms i)
 
     -- an implication fails where the left side is true and the right side is not
-    pub imp-fails : (i l r : ℕ) (a b o : List ℕ) → l ≡ getD lefts i 0 → take n a ≡ columnOf s w q ms n (parseTree s (t .left) l .tree) → r ≡ getD rights i 0
+    pub imp-fails : (i l r : ℕ) (a b o : List ℕ) → l ≡ getD lefts i 0 → take n a ≡ columnOf s w q ms n (parseTree s (t .left) l .tree)
+        → r ≡ getD rights i 0
         → take n b ≡ columnOf s w q ms n (parseTree s (t .right) r .tree) → take n o ≡ denied n a b → take n o ≡ impFails s w q ms n (imp i)
     unfolding denyOf denied impFails impAt impOf
-    imp-fails i l r a b o el ea er eb eo = eo ∙ column-same (λ (k : ℕ). cond (eqb (getD a k 0) 1) (cond (eqb (getD b k 0) 1) 0 1) 0) (λ (k : ℕ). cond (holds k (imp i)) 0 1) n (λ k h.
+    imp-fails i l r a b o el ea er eb eo = eo ∙ column-same (λ (k : ℕ). cond (eqb (getD a k 0) 1) (cond (eqb (getD b k 0) 1) 0 1) 0)
+        (λ (k : ℕ). cond (holds k (imp i)) 0 1) n (λ k h.
         ap₂ (λ (x y : ℕ). cond (eqb x 1) (cond (eqb y 1) 0 1) 0)
-        (column-value s w q ms n (parseTree s (t .left) l .tree) a ea k h ∙ ap (λ (x : ℕ). rowValue s w q (rowIn ms k) (parseTree s (t .left) x .tree)) el)
-        (column-value s w q ms n (parseTree s (t .right) r .tree) b eb k h ∙ ap (λ (x : ℕ). rowValue s w q (rowIn ms k) (parseTree s (t .right) x .tree)) er)
+        (column-value s w q ms n (parseTree s (t .left) l .tree) a ea k h
+        ∙ ap (λ (x : ℕ). rowValue s w q (rowIn ms k) (parseTree s (t .left) x .tree)) el)
+        (column-value s w q ms n (parseTree s (t .right) r .tree) b eb k h
+        ∙ ap (λ (x : ℕ). rowValue s w q (rowIn ms k) (parseTree s (t .right) x .tree)) er)
         ∙ go (eqb (rowValue s w q (rowIn ms k) (imp i .left)) 1) (eqb (rowValue s w q (rowIn ms k) (imp i .right)) 1))
       where
         go : (x y : Bool) → _≡_ {A = ℕ} (cond x (cond y 0 1) 0) (cond (cond x y true) 0 1)
@@ -65,8 +69,10 @@ module _ (s lefts rights : List ℕ) (t : Task) where
 pub ruleset implications = (imp-fails)
 
 -- the leaves of implications
-pub gather-imp : (s lefts rights : List ℕ) (t : Task) (i w l r n m k : ℕ) (q q₂ q₃ : List ℕ) → r ≡ getD rights i 0 → view s m q₂ ≡ gatherT w (parseTree s (t .right) r .tree) (view s n q) → l ≡ getD lefts i 0
-    → view s k q₃ ≡ gatherT w (parseTree s (t .left) l .tree) (view s m q₂) → view s k q₃ ≡ gatherImp w (impOf s lefts rights t i) (view s n q)
+pub gather-imp : (s lefts rights : List ℕ) (t : Task) (i w l r n m k : ℕ) (q q₂ q₃ : List ℕ) → r ≡ getD rights i 0
+    → view s m q₂ ≡ gatherT w (parseTree s (t .right) r .tree) (view s n q) → l ≡ getD lefts i 0
+    → view s k q₃ ≡ gatherT w (parseTree s (t .left) l .tree) (view s m q₂)
+    → view s k q₃ ≡ gatherImp w (impOf s lefts rights t i) (view s n q)
 unfolding gatherImp impOf
 gather-imp s lefts rights t i w l r n m k q q₂ q₃ er eh el ek = ek ∙ rw (el, eh, er)
 
@@ -81,20 +87,25 @@ module _ (s lefts rights : List ℕ) (t : Task) (w : ℕ) where
       let h : t .premises ≤ t .premises = omega arith in
       rw (kept-none, prems-end s lefts rights t (t .premises) h)
 
-  pub all-next : (i n m : ℕ) (q q₂ : List ℕ) → i ≤ t .premises → 0 < i → view s n q ≡ gatherImps w (premisesFrom s lefts rights t i) (keys []) → view s m q₂ ≡ gatherImp w (impOf s lefts rights t i) (view s n q)
+  pub all-next : (i n m : ℕ) (q q₂ : List ℕ) → i ≤ t .premises → 0 < i
+      → view s n q ≡ gatherImps w (premisesFrom s lefts rights t i) (keys [])
+      → view s m q₂ ≡ gatherImp w (impOf s lefts rights t i) (view s n q)
       → view s m q₂ ≡ gatherImps w (premisesFrom s lefts rights t (i - 1)) (keys [])
   all-next i n m q q₂ l z e f =
       let k : i - 1 < t .premises = omega arith in
       let d : i - 1 + 1 ≡ i = omega arith in
       f ∙ rw (e, prems-step s lefts rights t (i - 1) k, imps-step, d)
 
-  pub all-end : (i n m : ℕ) (q q₂ : List ℕ) → i ≤ 0 → view s n q ≡ gatherImps w (premisesFrom s lefts rights t i) (keys []) → view s m q₂ ≡ gatherImp w (impOf s lefts rights t 0) (view s n q)
+  pub all-end : (i n m : ℕ) (q q₂ : List ℕ) → i ≤ 0 → view s n q ≡ gatherImps w (premisesFrom s lefts rights t i) (keys [])
+      → view s m q₂ ≡ gatherImp w (impOf s lefts rights t 0) (view s n q)
       → view s m q₂ ≡ gatherAll s lefts rights t w
   unfolding gatherAll
   all-end i n m q q₂ z e f = let d : i ≡ 0 = omega arith in f ∙ rw (e, d)
 
   -- without premises
-  pub all-alone : (m : ℕ) (q q₂ : List ℕ) → t .premises ≡ 0 → view s m q₂ ≡ gatherImp w (impOf s lefts rights t 0) (view s 0 q) → view s m q₂ ≡ gatherAll s lefts rights t w
-  all-alone m q q₂ z f = all-end 0 0 m q q₂ (omega arith) (all-begin q ∙ ap (λ (i : ℕ). gatherImps w (premisesFrom s lefts rights t i) (keys [])) z) f
+  pub all-alone : (m : ℕ) (q q₂ : List ℕ) → t .premises ≡ 0 → view s m q₂ ≡ gatherImp w (impOf s lefts rights t 0) (view s 0 q)
+      → view s m q₂ ≡ gatherAll s lefts rights t w
+  all-alone m q q₂ z f = all-end 0 0 m q q₂ (omega arith)
+      (all-begin q ∙ ap (λ (i : ℕ). gatherImps w (premisesFrom s lefts rights t i) (keys [])) z) f
 
 pub ruleset gathered = (all-begin, all-next, all-end)

@@ -38,7 +38,8 @@ module _ (s q : List ℕ) (R : ℕ) (a : List ℕ) where
   unfolding lastsOf
   lasts-begin e = e
 
-  pub lasts-more : (j k c x : ℕ) (p : Slot) → a ≡ lastsOf s q R j → p ≡ numbers q j → c ≡ choicesT R (slotTree s p) → x ≡ c - 1 → set a j x ≡ lastsOf s q R (j + 1)
+  pub lasts-more : (j k c x : ℕ) (p : Slot) → a ≡ lastsOf s q R j → p ≡ numbers q j → c ≡ choicesT R (slotTree s p) → x ≡ c - 1
+      → set a j x ≡ lastsOf s q R (j + 1)
   unfolding slotAt
   lasts-more j k c x p e ep ec ex =
       ap₂ (λ (l : List ℕ) (y : ℕ). set l j y) e (ex ∙ ap (λ (n : ℕ). n - 1) (ec ∙ ap (λ (p : Slot). choicesT R (slotTree s p)) ep))
@@ -64,14 +65,17 @@ zero-in i = go (ltb i slots)
     go false = refl
 
 -- the rows at which nothing fails
-pub none-fail : (s lefts rights : List ℕ) (t : Task) (w : Reading) (q ms : List ℕ) (n : ℕ) (fails : List ℕ) (r : Bool) → t .premises ≡ 0 → take n fails ≡ impFails s w q ms n (impOf s lefts rights t 0) → r ≡ noneBelow fails n
+pub none-fail : (s lefts rights : List ℕ) (t : Task) (w : Reading) (q ms : List ℕ) (n : ℕ) (fails : List ℕ) (r : Bool) → t .premises ≡ 0
+    → take n fails ≡ impFails s w q ms n (impOf s lefts rights t 0) → r ≡ noneBelow fails n
     → r ≡ holdFrom s lefts rights t w q ms n
 unfolding impFails noneBelow holdFrom entailsAt allAt rowIn
 none-fail s lefts rights t w q ms n fails r z ef er =
-    er ∙ all-below (entailsAt s lefts rights t w q) [] (rowsFrom ms n (replicate slots 0)) n (λ i. not (eqb (getD fails i 0) 1)) (from-long ms n (replicate slots 0)) (λ i h.
+    er ∙ all-below (entailsAt s lefts rights t w q) [] (rowsFrom ms n (replicate slots 0)) n (λ i. not (eqb (getD fails i 0) 1))
+    (from-long ms n (replicate slots 0)) (λ i h.
     ap (λ (m : ℕ). not (eqb m 1)) (column-at failing 0 fails n i ef h)
     ∙ go (impAt s w q (rowIn ms i) (impOf s lefts rights t 0))
-    ∙ ap (λ (l : List ImpT). cond (impAt s w q (rowIn ms i) (impOf s lefts rights t 0)) true (not (allAt s w q (rowIn ms i) l))) (sym (prems-end s lefts rights t 0 (omega arith)))
+    ∙ ap (λ (l : List ImpT). cond (impAt s w q (rowIn ms i) (impOf s lefts rights t 0)) true (not (allAt s w q (rowIn ms i) l)))
+    (sym (prems-end s lefts rights t 0 (omega arith)))
     ∙ ap (entailsAt s lefts rights t w q) (sym (from-at ms n i (replicate slots 0) h)))
   where
     failing : ℕ → ℕ
@@ -82,17 +86,21 @@ none-fail s lefts rights t w q ms n fails r z ef er =
     go false = refl
 
 -- by the last values of the slots
-pub rows-hold : (s lefts rights : List ℕ) (t : Task) (w : Reading) (q : List ℕ) (k n : ℕ) (ms : List ℕ) (r : Bool) → ms ≡ lastsOf s q (w .range) k → r ≡ holdFrom s lefts rights t w q ms n → r ≡ rowsHold s lefts rights t w q k n
+pub rows-hold : (s lefts rights : List ℕ) (t : Task) (w : Reading) (q : List ℕ) (k n : ℕ) (ms : List ℕ) (r : Bool)
+    → ms ≡ lastsOf s q (w .range) k → r ≡ holdFrom s lefts rights t w q ms n → r ≡ rowsHold s lefts rights t w q k n
 unfolding holdFrom rowsHold triedRows
-rows-hold s lefts rights t w q k n ms r em e = e ∙ ap (λ (ms : List ℕ). all (entailsAt s lefts rights t w q) (rowsFrom ms n (replicate slots 0))) em
+rows-hold s lefts rights t w q k n ms r em e = e ∙ ap
+    (λ (ms : List ℕ). all (entailsAt s lefts rights t w q) (rowsFrom ms n (replicate slots 0))) em
 
 -- what is tried is every choice exactly once
-pub rows-once : (s q : List ℕ) (w : Reading) (k n : ℕ) → n ≡ rowsOf (lastsOf s q (w .range) k) → EveryOnce (lastsOf s q (w .range) k) (triedRows s q (w .range) k n)
+pub rows-once : (s q : List ℕ) (w : Reading) (k n : ℕ) → n ≡ rowsOf (lastsOf s q (w .range) k)
+    → EveryOnce (lastsOf s q (w .range) k) (triedRows s q (w .range) k n)
 rows-once s q w k n e = tried-once s q (w .range) k n e
 
 pub ruleset holding = (none-fail, rows-hold, rows-once)
 
-module _ (s lefts rights : List ℕ) (t : Task) (w : Reading) (limit n : ℕ) (q : List ℕ) (eg : view s n q ≡ gatherAll s lefts rights t (w .leaves)) where
+module _ (s lefts rights : List ℕ) (t : Task) (w : Reading) (limit n : ℕ) (q : List ℕ)
+    (eg : view s n q ≡ gatherAll s lefts rights t (w .leaves)) where
   pub every-many : slots < n → false ≡ everyOf s lefts rights t w limit
   unfolding everyOf
   every-many h = rw (← eg, view-many s n q h)
@@ -102,9 +110,13 @@ module _ (s lefts rights : List ℕ) (t : Task) (w : Reading) (limit n : ℕ) (q
     count = rowCount sameTree (choicesT (w .range)) (kept s q n)
 
     -- the count is above the limit if what is told is
-    told : (b : Bool) → ltb limit (1 * count) ≡ b → r ≡ cond b (limit + 1) (1 * count) → (limit < r → limit < count) × (r ≤ limit → count ≤ limit)
+    told : (b : Bool) → ltb limit (1 * count) ≡ b → r ≡ cond b (limit + 1) (1 * count)
+        → (limit < r → limit < count) × (r ≤ limit → count ≤ limit)
     told true e d = (λ l. omega (arith, one-mul count, ltb-true limit (1 * count) e), λ l. absurd (omega arith))
-    told false e d = (λ l. omega (arith, one-mul count, ltb-false limit (1 * count) e), λ l. omega (arith, one-mul count, ltb-false limit (1 * count) e))
+    told false e d = (
+      λ l. omega (arith, one-mul count, ltb-false limit (1 * count) e),
+      λ l. omega (arith, one-mul count, ltb-false limit (1 * count) e),
+    )
 
     counted : (limit < r → limit < count) × (r ≤ limit → count ≤ limit)
     unfolding rowsUpTo capped
@@ -130,6 +142,9 @@ module _ (s lefts rights : List ℕ) (t : Task) (w : Reading) (limit n : ℕ) (q
     unfolding everyOf
     every-try b two l e =
         e ∙ rows-tried s lefts rights t w q two n h r (every-rows two l)
-        ∙ rw (← eg, view-keys s n q h, le-leb count limit (counted .1 l)) (ap (allRows sameTree (choicesT (w .range)) (kept s q n) (entailsT w (premisesFrom s lefts rights t 0) (impOf s lefts rights t 0))) (fun-ext (λ u. zero-in (slotFrom s q (slots - n) n u))))
+        ∙ rw (← eg, view-keys s n q h, le-leb count limit (counted .1 l))
+        (ap (allRows sameTree (choicesT (w .range)) (kept s q n)
+        (entailsT w (premisesFrom s lefts rights t 0) (impOf s lefts rights t 0)))
+        (fun-ext (λ u. zero-in (slotFrom s q (slots - n) n u))))
 
 pub ruleset everys = (every-many, every-over, every-rows, every-try)

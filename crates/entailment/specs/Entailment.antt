@@ -40,7 +40,10 @@ gatherImps w (p ∷ ps) m = gatherImp w p (gatherImps w ps m)
 
 -- the implication with the number i, by positions: 0 is the line, the premises begin at 1
 unfoldable pub impOf : List ℕ → List ℕ → List ℕ → Task → ℕ → ImpT
-impOf s lefts rights t i = record { left = parseTree s (t .left) (getD lefts i 0) .tree; right = parseTree s (t .right) (getD rights i 0) .tree }
+impOf s lefts rights t i = record {
+  left = parseTree s (t .left) (getD lefts i 0) .tree;
+  right = parseTree s (t .right) (getD rights i 0) .tree;
+}
 
 -- d implications from the number i
 unfoldable pub impsFrom : List ℕ → List ℕ → List ℕ → Task → ℕ → ℕ → List ImpT
@@ -60,7 +63,8 @@ allAt s w q values [] = true
 allAt s w q values (p ∷ ps) = cond (impAt s w q values p) (allAt s w q values ps) false
 
 unfoldable pub entailsAt : List ℕ → List ℕ → List ℕ → Task → Reading → List ℕ → List ℕ → Bool
-entailsAt s lefts rights t w q values = cond (impAt s w q values (impOf s lefts rights t 0)) true (not (allAt s w q values (premisesFrom s lefts rights t 0)))
+entailsAt s lefts rights t w q values = cond (impAt s w q values (impOf s lefts rights t 0)) true
+    (not (allAt s w q values (premisesFrom s lefts rights t 0)))
 
 unfoldable pub gatherAll : List ℕ → List ℕ → List ℕ → Task → ℕ → Gathered
 gatherAll s lefts rights t w = gatherImp w (impOf s lefts rights t 0) (gatherImps w (premisesFrom s lefts rights t 0) (keys []))

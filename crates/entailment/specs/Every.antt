@@ -41,7 +41,9 @@ rowsHold s lefts rights t w q k n = all (entailsAt s lefts rights t w q) (triedR
 -- by what was gathered
 abbrev pub everyBy : Gathered → Reading → ℕ → List ImpT → ImpT → Bool
 everyBy many w limit ps c = false
-everyBy (keys l) w limit ps c = leb (rowCount sameTree (choicesT (w .range)) l) limit && allRows sameTree (choicesT (w .range)) l (entailsT w ps c) (λ u. 0)
+everyBy (keys l) w limit ps c = leb (rowCount sameTree (choicesT (w .range)) l) limit
+    && allRows sameTree (choicesT (w .range)) l (entailsT w ps c) (λ u. 0)
 
 unfoldable pub everyOf : List ℕ → List ℕ → List ℕ → Task → Reading → ℕ → Bool
-everyOf s lefts rights t w limit = everyBy (gatherAll s lefts rights t (w .leaves)) w limit (premisesFrom s lefts rights t 0) (impOf s lefts rights t 0)
+everyOf s lefts rights t w limit = everyBy (gatherAll s lefts rights t (w .leaves)) w limit (premisesFrom s lefts rights t 0)
+    (impOf s lefts rights t 0)

@@ -46,7 +46,8 @@ pub fn imp_fails(
     room: &mut [u8],
 )
     requires { ⌜ (n ≤ 4096) × ((n ≤ length (now out)) × (n ≤ length (now room))) ⌝ }
-    ensures { λ _. ⌜ take n (now (out .exit)) ≡ impFails (now (s .entry)) w (now (slots .entry)) (now (lasts .entry)) n (impOf (now (s .entry)) (now (lefts .entry)) (now (rights .entry)) t i) ⌝ }
+    ensures { λ _. ⌜ take n (now (out .exit)) ≡ impFails (now (s .entry)) w (now (slots .entry)) (now (lasts .entry)) n
+        (impOf (now (s .entry)) (now (lefts .entry)) (now (rights .entry)) t i) ⌝ }
 {
     whole_column(s, number_at(lefts, i), t.left, w, slots, lasts, n, out);
     whole_column(s, number_at(rights, i), t.right, w, slots, lasts, n, room);
@@ -65,7 +66,8 @@ pub fn gather_imp(
     slots: &mut [usize; Slots::NUMBERS],
 ) -> usize
     requires { ⌜ length (now slots) ≡ 36 ⌝ }
-    ensures { λ r. ⌜ view (now (s .entry)) r (now (slots .exit)) ≡ gatherImp set (impOf (now (s .entry)) (now (lefts .entry)) (now (rights .entry)) t i) (view (now (s .entry)) n (now (slots .entry))) ⌝ }
+    ensures { λ r. ⌜ view (now (s .entry)) r (now (slots .exit)) ≡ gatherImp set
+        (impOf (now (s .entry)) (now (lefts .entry)) (now (rights .entry)) t i) (view (now (s .entry)) n (now (slots .entry))) ⌝ }
     ensures { λ _. ⌜ length (now (slots .exit)) ≡ 36 ⌝ }
 {
     let m = gather_at(s, number_at(rights, i), t.right, set, n, slots);
@@ -82,7 +84,9 @@ pub fn gather_line(
     slots: &mut [usize; Slots::NUMBERS],
 ) -> usize
     requires { ⌜ (length (now slots) ≡ 36) × (t .premises ≡ 0) ⌝ }
-    ensures { λ r. ⌜ view (now (s .entry)) r (now (slots .exit)) ≡ gatherAll (now (s .entry)) (now (lefts .entry)) (now (rights .entry)) t set ⌝ }
+    ensures { λ r. ⌜ view (now (s .entry)) r (now (slots .exit))
+        ≡ gatherAll (now (s .entry)) (now (lefts .entry)) (now (rights .entry)) t set
+        ⌝ }
 {
     gather_imp(s, lefts, rights, t, 0, set, 0, slots)
 }

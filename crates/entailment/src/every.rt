@@ -57,7 +57,9 @@ fn none_fails(
 ) -> bool
     requires { ⌜ (n ≤ 4096) × ((n ≤ length (now fails)) × (n ≤ length (now room))) ⌝ }
     requires { ⌜ t .premises ≡ 0 ⌝ }
-    ensures { λ r. ⌜ r ≡ holdFrom (now (s .entry)) (now (lefts .entry)) (now (rights .entry)) t w (now (slots .entry)) (now (lasts .entry)) n ⌝ }
+    ensures { λ r. ⌜ r
+        ≡ holdFrom (now (s .entry)) (now (lefts .entry)) (now (rights .entry)) t w (now (slots .entry)) (now (lasts .entry)) n
+        ⌝ }
 {
     imp_fails(s, lefts, rights, t, 0, w, slots, lasts, n, fails, room);
     none_below(fails, n)
@@ -75,7 +77,9 @@ fn try_rows(
     n: usize,
 ) -> bool
     requires { ⌜ (n ≤ 4096) × (t .premises ≡ 0) ⌝ }
-    ensures { λ r. ⌜ r ≡ holdFrom (now (s .entry)) (now (lefts .entry)) (now (rights .entry)) t w (now (slots .entry)) (now (lasts .entry)) n ⌝ }
+    ensures { λ r. ⌜ r
+        ≡ holdFrom (now (s .entry)) (now (lefts .entry)) (now (rights .entry)) t w (now (slots .entry)) (now (lasts .entry)) n
+        ⌝ }
 {
     if n <= Block::FEW {
         let mut fails: [u8; Block::FEW] = [0; Block::FEW];
@@ -123,7 +127,8 @@ pub fn rows_hold(
     requires { ⌜ (k ≤ 12) × ((rows ≤ 4096) × (t .premises ≡ 0)) ⌝ }
     requires { ⌜ rows ≡ rowsOf (lastsOf (now s) (now slots) (w .range) k) ⌝ }
     ensures { λ r. ⌜ r ≡ rowsHold (now (s .entry)) (now (lefts .entry)) (now (rights .entry)) t w (now (slots .entry)) k rows ⌝ }
-    ensures once { λ _. ⌜ EveryOnce (lastsOf (now (s .entry)) (now (slots .entry)) (w .range) k) (triedRows (now (s .entry)) (now (slots .entry)) (w .range) k rows) ⌝ }
+    ensures once { λ _. ⌜ EveryOnce (lastsOf (now (s .entry)) (now (slots .entry)) (w .range) k)
+        (triedRows (now (s .entry)) (now (slots .entry)) (w .range) k rows) ⌝ }
 {
     let mut lasts: [u8; Slots::COUNT] = [0; Slots::COUNT];
     fill_lasts(s, w.range, slots, k, &mut lasts);

@@ -116,7 +116,8 @@ fn judge_actor<'a, 'b, 'c>(
     r: Outcome,
 ) -> Outcome
     requires { ⌜ (now ix ≡ indexOf (now s)) × (y ≡ totalsOf z (bodies (now s))) ⌝ }
-    ensures { λ q. ⌜ q ≡ actionsTo (now (s .entry)) z (asMarks (now (m .entry))) t (lastPoint (threadBody z (bodies (now (s .entry))) t)) r ⌝ }
+    ensures { λ q. ⌜ q
+        ≡ actionsTo (now (s .entry)) z (asMarks (now (m .entry))) t (lastPoint (threadBody z (bodies (now (s .entry))) t)) r ⌝ }
 {
     let last = last_point_of(s, ix, z, t);
     let mut q = r;

@@ -50,7 +50,8 @@ module _ (s : List ℕ) (k : ℕ) (full : 1 ≤ length (getD (bodies s) k [])) w
     where
       go : (b : Bool) → ltb (startOf s k) (length s) ≡ b → startOf s k < length s
       go true e = ltb-true (startOf s k) (length s) e
-      go false e = let d = ap length (its-body ∙ ap body (drop-of-length-le s (ltb-false (startOf s k) (length s) e))) in absurd (omega (arith, empty-body))
+      go false e = let d = ap length (its-body ∙ ap body (drop-of-length-le s (ltb-false (startOf s k) (length s) e))) in
+          absurd (omega (arith, empty-body))
 
   position-is : (k ≡ 0 → ⊥) → formulaAt s k ≡ startOf s k + 4
   unfolding formulaAt bodyStart placeOf
@@ -67,9 +68,11 @@ module _ (s : List ℕ) (z : Sizes) (c : Checks z (bodies s)) (k : ℕ) (low : 1
   pub position-parse : parseTree s nesting (formulaAt s k) ≡ record { tree = treeOf its; end = formulaAt s k + length its }
   unfolding Formulas.formula
   position-parse =
-      let full : 1 ≤ length its = within-true 1 Limits.formulaBytes (length its) (unless-passed _ _ _ (formula-passed z (bodies s) c k low high) .0) .0 in
+      let full : 1 ≤ length its = within-true 1 Limits.formulaBytes (length its)
+      (unless-passed _ _ _ (formula-passed z (bodies s) c k low high) .0) .0 in
       let q : k ≡ 0 → ⊥ = omega arith in
-      let e = part-reading s its (countsOf z) (word (drop (startOf s k) s) - 2) (startOf s k + 4) (body-part s k full) (sortOf its) (formula-read z (bodies s) c k low high (sortOf its) refl) in
+      let e = part-reading s its (countsOf z) (word (drop (startOf s k) s) - 2) (startOf s k + 4) (body-part s k full) (sortOf its)
+      (formula-read z (bodies s) c k low high (sortOf its) refl) in
       rw (position-is s k full q) e
 
   pub position-tree : parseTree s nesting (formulaAt s k) .tree ≡ treeOf its

@@ -26,12 +26,23 @@ past : (n : ℕ) → 51 ≤ n → rowForm n ≡ formNumber (formOf n)
 unfolding ruleOf formOf
 past n h =
     let q : n ≡ 50 → ⊥ = omega arith in
-    rw (List·getD-eq-default rules unlisted h, le-ltb n 1 (omega arith), lt-leb n 16 (omega arith), le-ltb n 20 (omega arith), lt-leb n 27 (omega arith), le-ltb n 30 (omega arith), lt-leb n 46 (omega arith), lt-leb n 49 (omega arith), ne-eqb n 50 q)
+    rw (
+      List·getD-eq-default rules unlisted h,
+      le-ltb n 1 (omega arith),
+      lt-leb n 16 (omega arith),
+      le-ltb n 20 (omega arith),
+      lt-leb n 27 (omega arith),
+      le-ltb n 30 (omega arith),
+      lt-leb n 46 (omega arith),
+      lt-leb n 49 (omega arith),
+      ne-eqb n 50 q,
+    )
 
 pub rule-form : (n : ℕ) → rowForm n ≡ formNumber (formOf n)
 rule-form n = go (ltb n 51) refl
   where
     go : (b : Bool) → ltb n 51 ≡ b → rowForm n ≡ formNumber (formOf n)
     go true e =
-        eqb→eq (rowForm n) (formNumber (formOf n)) (allBelow-at 51 (λ i. eqb (rowForm i) (formNumber (formOf i))) listed n (ltb-true n 51 e))
+        eqb→eq (rowForm n) (formNumber (formOf n)) (allBelow-at 51 (λ i. eqb (rowForm i) (formNumber (formOf i))) listed n
+        (ltb-true n 51 e))
     go false e = past n (ltb-false n 51 e)

@@ -1,4 +1,5 @@
--- Where the code finds what an image says: a formula by its position in the image, a line and an instruction by their numbers and positions.
+-- Where the code finds what an image says: a formula by its position in the image, a line and an instruction by their numbers and
+-- positions.
 use mathlib.Core.Bool.{Bool, true, cond}
 use mathlib.Core.List.{List}
 use Prim.Native.Nat.{ℕ, _+_}
@@ -50,4 +51,5 @@ actingOf s i =
     cond (eqb (i .operation) Opcode.branch) (acts (i .operation) (i .operation) 0 0 (length s) 0 (length s))
     (cond (registerFirst (i .operation))
     (acts (i .operation) (i .operation) (i .b) (i .a) (formulaAt s (i .formula)) (i .second .a) (formulaAt s (i .second .formula)))
-    (acts (firstOperation (i .operation)) (i .operation) (i .a) (i .b) (formulaAt s (i .formula)) (i .second .a) (formulaAt s (i .second .formula))))
+    (acts (firstOperation (i .operation)) (i .operation) (i .a) (i .b) (formulaAt s (i .formula)) (i .second .a)
+    (formulaAt s (i .second .formula))))

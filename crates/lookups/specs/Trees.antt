@@ -58,4 +58,11 @@ abbrev pub notesAt : List ℕ → Acting → List NoteT
 notesAt s a = notesBy (a .whole) (givesT (a .register) (treeAt s (a .formula))) (givesT (a .noted) (treeAt s (a .note)))
 
 abbrev pub actingAt : List ℕ → Acting → FitT.Acting
-actingAt s a = record { operation = a .operation; whole = a .whole; word = a .word; register = a .register; formula = treeAt s (a .formula); notes = notesAt s a }
+actingAt s a = record {
+  operation = a .operation;
+  whole = a .whole;
+  word = a .word;
+  register = a .register;
+  formula = treeAt s (a .formula);
+  notes = notesAt s a;
+}

@@ -1,4 +1,5 @@
-// Look-ups in a well-formed image, for the code that judges its lines. Each is total: its equation has no condition but the index and the sums.
+// Look-ups in a well-formed image, for the code that judges its lines. Each is total: its equation has no condition but the index and the
+// sums.
 pub mod acting;
 pub mod claim;
 pub mod line;

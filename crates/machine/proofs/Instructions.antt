@@ -73,7 +73,8 @@ module _ (z : Sizes) (l : List (List ℕ)) (checks : Checks z l) (few-words : z 
   abbrev P : Program
   P = programOf z l
 
-  module _ (s : State) (wf : Wf P s) (m : Memory) (st : Stands m s) (h : Registers) (same : SameRegs h (s .reg)) (t p : ℕ) (ht : t < 4) where
+  module _ (s : State) (wf : Wf P s) (m : Memory) (st : Stands m s) (h : Registers) (same : SameRegs h (s .reg)) (t p : ℕ)
+      (ht : t < 4) where
     -- the table has room for one more write
     abbrev Room : Type 0
     Room = first (m .sizes) 8 < 72

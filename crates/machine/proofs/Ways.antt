@@ -24,12 +24,14 @@ use Rattle.machine.specs.declared.deed.Deed.{Deed}
 
 module _ (i : Instruction) (v g w : ℕ) (b : Bool) (e : b ≡ registerFirst (i .operation)) where
   pub deed-register : b ≡ true → w ≡ i .b - 1
-      → record { operation = i .operation; word = w; register = i .a; value = v; noted = i .second .a; note = g; target = i .a } ≡ deedOf i v g
+      → record { operation = i .operation; word = w; register = i .a; value = v; noted = i .second .a; note = g; target = i .a } ≡ deedOf
+      i v g
   unfolding deedOf
   deed-register d q = rw (← e, d, q)
 
   pub deed-word : b ≡ false → w ≡ i .a - 1
-      → record { operation = i .operation; word = w; register = i .b; value = v; noted = i .second .a; note = g; target = i .a } ≡ deedOf i v g
+      → record { operation = i .operation; word = w; register = i .b; value = v; noted = i .second .a; note = g; target = i .a } ≡ deedOf
+      i v g
   unfolding deedOf
   deed-word d q = rw (← e, d, q)
 

@@ -121,7 +121,8 @@ module _ (b : List ℕ) (z : Sizes) (c : Checks z (bodies b)) where
       branch-formula d =
           let g = fields-in i (fieldsOf (i .operation) last z) (ranged-both last z i (facts .0) .0) in
           let r : (1 ≤ i .formula) × (i .formula ≤ z .formulas)
-          = subst (λ (op : ℕ). (fieldsOf op last z .formula .low ≤ i .formula) × (i .formula ≤ fieldsOf op last z .formula .high)) d (g .2) in
+          = subst (λ (op : ℕ). (fieldsOf op last z .formula .low ≤ i .formula) × (i .formula ≤ fieldsOf op last z .formula .high)) d
+          (g .2) in
           test-worked (formula l Sort.test (i .formula)) (i .formula) (test-is b z c (suc t) (s .point (suc t)) w more d)
           (formula-bounded z l c (i .formula) (r .0) (r .1) Codes.test
           (formula-sorted z l c (wanted (i .operation)) (i .formula) (r .0) (sorted-both z l c i (facts .1) .0) .0 ∙ ap wanted d))

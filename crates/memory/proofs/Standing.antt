@@ -116,7 +116,8 @@ module _ (m : Memory) (s : State) (st : Stands m s) where
       point = s .point;
     }
 
-    module _ (k p : ℕ) (a : Write) (b : Logic.Write) (h : k < 8) (g : p < s .size (suc k)) (f : first (m .sizes) 8 < 72) (e : SameWrite a b) where
+    module _ (k p : ℕ) (a : Write) (b : Logic.Write) (h : k < 8) (g : p < s .size (suc k)) (f : first (m .sizes) 8 < 72)
+        (e : SameWrite a b) where
       abbrev comes : ℕ → Write
       comes j = upWrite k p (getD (m .writes) (Logic.down (indexOf (m .sizes) k p) j) noWrite)
 

@@ -62,7 +62,8 @@ module _ (i : Instruction) (z : Sizes) (t : Bool) (e : t ≡ twofold (i .operati
 
 pub ruleset seconds = (second-alone, second-faulty, second-differs, second-noted)
 
-module _ (i : Instruction) (last : ℕ) (z : Sizes) (f : Fields) (g : Bool) (e : f ≡ fieldsOf (i .operation) last z) (d : g ≡ fieldsFit i f) where
+module _ (i : Instruction) (last : ℕ) (z : Sizes) (f : Fields) (g : Bool) (e : f ≡ fieldsOf (i .operation) last z)
+    (d : g ≡ fieldsFit i f) where
   pub fits-none : g ≡ false → false ≡ ranged last z i
   unfolding ranged
   fits-none h = rw (← e, ← d, h)

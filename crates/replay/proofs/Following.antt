@@ -63,7 +63,8 @@ deed-operation i v g = go (registerFirst (i .operation))
     go : (b : Bool)
         → (cond {A = Deed} b
         (record { operation = i .operation; word = i .b - 1; register = i .a; value = v; noted = i .second .a; note = g; target = i .a })
-        (record { operation = i .operation; word = i .a - 1; register = i .b; value = v; noted = i .second .a; note = g; target = i .a })) .operation ≡ i .operation
+        (record { operation = i .operation; word = i .a - 1; register = i .b; value = v; noted = i .second .a; note = g; target = i .a }))
+        .operation ≡ i .operation
     go true = refl
     go false = refl
 
@@ -237,7 +238,8 @@ module _ (b : List ℕ) (z : Sizes) (c : Checks z (bodies b)) where
           (room-either (allowed (P .code (suc u) k) (suc u) p s) (adds (P .code (suc u) k)) (used s (P .words)) room)
 
       -- the table has room for a write, with one of each word that is not there
-      module _ (few : room ≤ 64) (may : T (allowed (P .code (suc u) k) (suc u) p s)) (some : T (adds (P .code (suc u) k)) → used s (P .words) < room) where
+      module _ (few : room ≤ 64) (may : T (allowed (P .code (suc u) k) (suc u) p s))
+          (some : T (adds (P .code (suc u) k)) → used s (P .words) < room) where
         roomy : T (adds (P .code (suc u) k)) → first (m .sizes) 8 < 72
         roomy a =
             let outer : (x : ℕ) → P .words < x → s .size x ≡ 1 = λ x y. r .wf .outer x (λ v. omega (arith, v .1)) in

@@ -40,8 +40,7 @@ module _ (old : List ℕ) (z : Sizes) (new : List ℕ) (y : Sizes) (points first
       steps = 0;
       held = false;
       words = z .words;
-      machine =
-          n;
+      machine = n;
     } ≡ acrossOn old z new y points first second given room
     unfolding acrossOn
     both-short h = rw (lt-ltb _ _ h, ← eb, en)
@@ -52,8 +51,7 @@ module _ (old : List ℕ) (z : Sizes) (new : List ℕ) (y : Sizes) (points first
           steps = q .steps;
           held = true;
           words = z .words;
-          machine =
-              q .machine;
+          machine = q .machine;
         } ≡ acrossOn old z new y points first second given room
     unfolding acrossOn
     both-run r q h er eq = rw (le-ltb _ _ h, ← eb, ← en, ← er, ← eq)

@@ -21,5 +21,7 @@ pub record Counted (body s : List ℕ) (t r : Tally) : Type 0 where
   pub code : ℕ
   pub after : List ℕ
   pub told : List ℕ
-  pub called : Written (firstIn s body) (secondIn s body) (thirdIn s body) (take (bytesLent s) blankTable) (take (numbersLent s) blankNumbers) code after told
-  pub counted : r ≡ withCase t code (sameAnswer code (after ++ drop (bytesLent s) blankTable) (told ++ drop (numbersLent s) blankNumbers) (drop 20 s) (fourthOn s body))
+  pub called : Written (firstIn s body) (secondIn s body) (thirdIn s body) (take (bytesLent s) blankTable)
+      (take (numbersLent s) blankNumbers) code after told
+  pub counted : r ≡ withCase t code (sameAnswer code (after ++ drop (bytesLent s) blankTable) (told ++ drop (numbersLent s) blankNumbers)
+      (drop 20 s) (fourthOn s body))

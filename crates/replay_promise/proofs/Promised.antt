@@ -1,4 +1,5 @@
--- What a replay promises: the answer and the table stand for the state that the logic's machine reaches, and its outline is true on the way and there.
+-- What a replay promises: the answer and the table stand for the state that the logic's machine reaches, and its outline is true on the
+-- way and there.
 use mathlib.Core.Path.{_≡_, refl, ap, ap₂, sym, _∙_, subst, fun-ext}
 use mathlib.Core.Bool.{true, false}
 use mathlib.Core.List.{List, [], _++_}

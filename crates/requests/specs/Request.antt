@@ -23,8 +23,10 @@ use Rattle.service.specs.declared.rights.Right.the-variants.{Check, Replay, Bil
 use Rattle.service.specs.Desk.{Desk, holds}
 use Rattle.service.specs.Serving.{Call, Served, Turn, Conduct, serveBy, serveAllBy}
 
--- a call with all that it is lent: an image and the buffer for its verdict; an image and the buffer for the trimmed one; an image, a tariff and
--- the room for the bill's numbers; two images and the table of a handover; an image, a trace, given registers, the table of writes and the room for the numbers of the answer; two images,
+-- a call with all that it is lent: an image and the buffer for its verdict; an image and the buffer for the trimmed one; an image, a
+-- tariff and
+-- the room for the bill's numbers; two images and the table of a handover; an image, a trace, given registers, the table of writes and
+-- the room for the numbers of the answer; two images,
 -- the table of a handover, two traces, and the rest as in a replay
 pub data Request : Type 0 where
   toCheck toTrim : List ℕ → List ℕ → Request

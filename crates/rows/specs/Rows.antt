@@ -20,7 +20,8 @@ use Rattle.rows.specs.declared.by.Implications.{Implications}
 abbrev pub byNames : ℕ → Reading
 byNames R = record { leaves = setOf (Code.reg ∷ Code.word ∷ Code.unsync ∷ Code.cov ∷ []); range = R }
 
--- wherever the left test is true the right one is, at every row, of which there are at most 4,096. (A range of one value or none has no rows to try)
+-- wherever the left test is true the right one is, at every row, of which there are at most 4,096. (A range of one value or none has no
+-- rows to try)
 unfoldable pub rowsT : ℕ → Tree → Tree → Bool
 rowsT R u v = cond (ltb R 2) false (everyT (byNames R) Limits.rows [] (record { left = u; right = v }))
 

@@ -32,9 +32,11 @@ fn imp_bits(
     out: &mut [u64; Words::COUNT],
 ) -> usize
     requires { ⌜ (length (now slots) ≡ 36) × (length (now out) ≡ 16) ⌝ }
-    ensures { λ r. ⌜ view (now (s .entry)) r (now (slots .exit)) ≡ gatherImp (byLeaves .leaves) (impOf (now (s .entry)) (now (lefts .entry)) (now (rights .entry)) t i) (view (now (s .entry)) n (now (slots .entry))) ⌝ }
+    ensures { λ r. ⌜ view (now (s .entry)) r (now (slots .exit)) ≡ gatherImp (byLeaves .leaves)
+        (impOf (now (s .entry)) (now (lefts .entry)) (now (rights .entry)) t i) (view (now (s .entry)) n (now (slots .entry))) ⌝ }
     ensures { λ r. ⌜ Grown n (now (slots .entry)) r (now (slots .exit)) (now (out .exit)) ⌝ }
-    ensures { λ r. ⌜ ImpBits (now (s .entry)) r (now (slots .exit)) (impOf (now (s .entry)) (now (lefts .entry)) (now (rights .entry)) t i) (now (out .exit)) ⌝ }
+    ensures { λ r. ⌜ ImpBits (now (s .entry)) r (now (slots .exit)) (impOf (now (s .entry)) (now (lefts .entry)) (now (rights .entry)) t i)
+        (now (out .exit)) ⌝ }
 {
     let mut b: [u64; Words::COUNT] = [0; Words::COUNT];
     let m = table_at(s, number_at(rights, i), t.right, n, slots, &mut b);
@@ -53,7 +55,8 @@ fn all_bits(
     out: &mut [u64; Words::COUNT],
 ) -> usize
     requires { ⌜ (length (now slots) ≡ 36) × (length (now out) ≡ 16) ⌝ }
-    ensures { λ r. ⌜ view (now (s .entry)) r (now (slots .exit)) ≡ gatherAll (now (s .entry)) (now (lefts .entry)) (now (rights .entry)) t (byLeaves .leaves) ⌝ }
+    ensures { λ r. ⌜ view (now (s .entry)) r (now (slots .exit)) ≡ gatherAll (now (s .entry)) (now (lefts .entry)) (now (rights .entry)) t
+        (byLeaves .leaves) ⌝ }
     ensures { λ r. ⌜ FailBits (now (s .entry)) (now (lefts .entry)) (now (rights .entry)) t r (now (slots .exit)) (now (out .exit)) ⌝ }
 {
     let mut holds: [u64; Words::COUNT] = [Words::ALL; Words::COUNT];
@@ -83,7 +86,8 @@ fn bits_hold(
     requires { ⌜ k ≤ 10 ⌝ }
     requires { ⌜ FailBits (now s) (now lefts) (now rights) t k (now slots) (now fails) ⌝ }
     ensures { λ r. ⌜ r ≡ rowsHold (now (s .entry)) (now (lefts .entry)) (now (rights .entry)) t byLeaves (now (slots .entry)) k (2 ^ k) ⌝ }
-    ensures once { λ _. ⌜ EveryOnce (lastsOf (now (s .entry)) (now (slots .entry)) 2 k) (triedRows (now (s .entry)) (now (slots .entry)) 2 k (2 ^ k)) ⌝ }
+    ensures once { λ _. ⌜ EveryOnce (lastsOf (now (s .entry)) (now (slots .entry)) 2 k)
+        (triedRows (now (s .entry)) (now (slots .entry)) 2 k (2 ^ k)) ⌝ }
 {
     none_set(fails, rows_of(k))
 }

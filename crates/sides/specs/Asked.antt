@@ -26,7 +26,14 @@ unfoldable pub substitutionOf : Acting → Substitution
 substitutionOf a =
     cond (eqb (a .whole) Opcode.assign) (oneBy false (a .register) (Formula (a .formula) nesting))
     (cond (eqb (a .whole) Opcode.assignTwo)
-    (record { word = false; number = a .register; by = Formula (a .formula) nesting; two = true; second = a .noted; with = Formula (a .note) nesting })
+    (record {
+      word = false;
+      number = a .register;
+      by = Formula (a .formula) nesting;
+      two = true;
+      second = a .noted;
+      with = Formula (a .note) nesting;
+    })
     (oneBy false (a .noted) (Formula (a .note) nesting)))
 
 -- the formula in hole 0 is the one in hole 1 with these registers replaced

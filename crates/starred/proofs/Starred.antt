@@ -47,5 +47,12 @@ use Rattle.checker.specs.Answer.{verdict}
 use Rattle.starred.specs.Table.{holds, table}
 
 pub starred : T (all holds table)
-unfolding verdict codeFor bytesFor begins fieldsOf gathered Place.placeOf recordBytes codeOf Formulas.formula Formulas.faultOf Header.counted Line.numbered Thread.cut Thread.numbered Use.outlined admit also bodies body branches check choose cleared countsOf cut decode decoded distinct ended every exactly faultAt firstFault fitsAt formOf formula frame frames has hasOperand headFault headed header headerSize inRange instructions isIn isQueried judge lastPoint line lineBody lineCode judgeClaims lineNumbers lineSize lineSorted marked member most namedLine nodeAt nowhere numbers obligationCount obligations occurs order operandFault outline outlineNumber outlinedAt owners marks partCount partPlace placeOf placed pointCount premises read readingOf recordCount ruleOf same same-leaf saying sizesOf parseTree sortAt sortedBy startValues startless tally tallyTo thread threadBody threadNumbers threadRegisters threadSize threadTally unless upd walk wholeImage within word same-name ℕ-discrete
+unfolding verdict codeFor bytesFor begins fieldsOf gathered Place.placeOf recordBytes codeOf Formulas.formula Formulas.faultOf
+    Header.counted Line.numbered Thread.cut Thread.numbered Use.outlined admit also bodies body branches check choose cleared countsOf cut
+    decode decoded distinct ended every exactly faultAt firstFault fitsAt formOf formula frame frames has hasOperand headFault headed
+    header headerSize inRange instructions isIn isQueried judge lastPoint line lineBody lineCode judgeClaims lineNumbers lineSize
+    lineSorted marked member most namedLine nodeAt nowhere numbers obligationCount obligations occurs order operandFault outline
+    outlineNumber outlinedAt owners marks partCount partPlace placeOf placed pointCount premises read readingOf recordCount ruleOf same
+    same-leaf saying sizesOf parseTree sortAt sortedBy startValues startless tally tallyTo thread threadBody threadNumbers threadRegisters
+    threadSize threadTally unless upd walk wholeImage within word same-name ℕ-discrete
 starred = tt

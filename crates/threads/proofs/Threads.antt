@@ -35,10 +35,12 @@ unfolding begins
 begins-zero l = refl
 
 -- an instruction more, in front
-pub begins-behind : (l : List ℕ) (p : ℕ) → begins l (suc p) ≡ instructionSize (getD l 0 0) + begins (drop (instructionSize (getD l 0 0)) l) p
+pub begins-behind : (l : List ℕ) (p : ℕ) → begins l (suc p) ≡ instructionSize (getD l 0 0) + begins
+    (drop (instructionSize (getD l 0 0)) l) p
 unfolding begins
 begins-behind l zero = omega arith
-begins-behind l (suc p) = go (instructionSize (getD l 0 0)) (begins l (suc p)) (begins (drop (instructionSize (getD l 0 0)) l) p) (begins-behind l p)
+begins-behind l (suc p) = go (instructionSize (getD l 0 0)) (begins l (suc p)) (begins (drop (instructionSize (getD l 0 0)) l) p)
+    (begins-behind l p)
   where
     go : (k a b : ℕ) → a ≡ k + b → a + instructionSize (getD l a 0) ≡ k + (b + instructionSize (getD (drop k l) b 0))
     go k a b e = rw (e, getD-drop k l b 0) (omega arith)
@@ -60,7 +62,8 @@ instructions-length b = cut-length (lastPoint b) (drop 1 b)
 
 module _ (b : List ℕ) (last p : ℕ) (e : last ≡ lastPoint b) where
   pub at-past : last ≤ p → nothing ≡ getD (instructions b) p nothing
-  at-past h = let q : length (instructions b) ≤ p = rw (instructions-length b, ← e) h in sym (List·getD-eq-default (instructions b) nothing q)
+  at-past h = let q : length (instructions b) ≤ p = rw (instructions-length b, ← e) h in
+      sym (List·getD-eq-default (instructions b) nothing q)
 
   pub at-in : (l m : List ℕ) (at : ℕ) (r : Instruction) → p < last → l ≡ drop 1 b → at ≡ begins l p → m ≡ drop at l → r ≡ instruction m
       → r ≡ getD (instructions b) p nothing
@@ -110,7 +113,8 @@ pub from-behind : (b l : List ℕ) (p at o n : ℕ) → l ≡ drop 1 b → at �
     → at + n ≡ begins (drop 1 b) (p + 1)
 from-behind b l p at o n d e f g = walk-more (drop 1 b) p at o n e (rw (← d) f) g
 
-pub from-in : (b l m : List ℕ) (last p at : ℕ) (r : Instruction) → last ≡ lastPoint b → p < last → l ≡ drop 1 b → at ≡ begins (drop 1 b) p → m ≡ drop at l
+pub from-in : (b l m : List ℕ) (last p at : ℕ) (r : Instruction) → last ≡ lastPoint b → p < last → l ≡ drop 1 b → at ≡ begins (drop 1 b) p
+    → m ≡ drop at l
     → r ≡ instruction m → r ≡ getD (instructions b) p nothing
 from-in b l m last p at r e h d f k g = at-in b last p e l m at r h d (rw d f) k g
 
@@ -127,5 +131,6 @@ pub ruleset going = (begins-few, from-behind, from-in, from-walked, from-start)
 pub instructions-count : (b : List ℕ) (last : ℕ) → last ≡ lastPoint b → length (instructions b) ≡ last
 instructions-count b last e = instructions-length b ∙ sym e
 
-pub fit-start : (b : List ℕ) (last : ℕ) (z : Sizes) → last ≡ lastPoint b → every (ranged (lastPoint b) z) (instructions b) ≡ every (ranged last z) (drop 0 (instructions b))
+pub fit-start : (b : List ℕ) (last : ℕ) (z : Sizes) → last ≡ lastPoint b
+    → every (ranged (lastPoint b) z) (instructions b) ≡ every (ranged last z) (drop 0 (instructions b))
 fit-start b last z e = rw e

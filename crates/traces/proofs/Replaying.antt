@@ -14,7 +14,8 @@ use Rattle.traces.specs.Replayed.{ofRun, replayOn}
 use Rattle.traces.specs.declared.run.Run.{Run}
 use Rattle.traces.specs.declared.replayed.Replayed.{Replayed}
 
-module _ (s : List ℕ) (z : Sizes) (trace given : List ℕ) (room : ℕ) (b : List ℕ) (n : Machine) (eb : b ≡ getD (bodies s) 0 []) (en : n ≡ started b (z .range) given) where
+module _ (s : List ℕ) (z : Sizes) (trace given : List ℕ) (room : ℕ) (b : List ℕ) (n : Machine) (eb : b ≡ getD (bodies s) 0 [])
+    (en : n ≡ started b (z .range) given) where
   pub on-short : room < z .words
       → record { code = 29; steps = 0; held = false; words = z .words; machine = n } ≡ replayOn s z trace given room
   unfolding replayOn

@@ -19,8 +19,10 @@ module _ (D : Document) where
 
   -- the formulas of instructions, 0 for none, of the outline, and of the lines on which something rests
   pub data Uses : ℕ → Type 0 where
-    instruction : (t p : ℕ) → t < length (D .threads) → p < length (getD (D .threads) t []) → Uses (getD (getD (D .threads) t []) p nothing .formula)
-    second : (t p : ℕ) → t < length (D .threads) → p < length (getD (D .threads) t []) → Uses (getD (getD (D .threads) t []) p nothing .second .formula)
+    instruction : (t p : ℕ) → t < length (D .threads) → p < length (getD (D .threads) t [])
+        → Uses (getD (getD (D .threads) t []) p nothing .formula)
+    second : (t p : ℕ) → t < length (D .threads) → p < length (getD (D .threads) t [])
+        → Uses (getD (getD (D .threads) t []) p nothing .second .formula)
     outline : (i : ℕ) → i < length (D .outline) → Uses (getD (D .outline) i 0)
     left : (n : ℕ) → 1 ≤ n → n ≤ length (D .lines) → Rests n → Uses (line n .left)
     right : (n : ℕ) → 1 ≤ n → n ≤ length (D .lines) → Rests n → Uses (line n .right)

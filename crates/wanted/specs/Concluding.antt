@@ -27,7 +27,8 @@ module _ (s : List ℕ) (z : Sizes) where
   unfoldable pub sustainedAt : Marks → ℕ → Bool
   sustainedAt m i =
       cond (eqb (claimedIn (claimBody z (bodies s) i) .line) 0) false
-      (cond (meets (wantedClaim s z (claimedIn (claimBody z (bodies s) i))) (claimedIn (claimBody z (bodies s) i) .line)) (isMarked m (claimedIn (claimBody z (bodies s) i) .line)) false)
+      (cond (meets (wantedClaim s z (claimedIn (claimBody z (bodies s) i))) (claimedIn (claimBody z (bodies s) i) .line))
+      (isMarked m (claimedIn (claimBody z (bodies s) i) .line)) false)
 
   -- 20 no line; 21 the line concludes something else; 22 it is unjustified
   unfoldable pub codeAt : Marks → Obligation → ℕ → ℕ

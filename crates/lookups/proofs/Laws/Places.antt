@@ -78,7 +78,8 @@ module _ (s : List ℕ) (z : Sizes) (n : ℕ) where
     pub premise-read : (j r : ℕ) → r ≡ getD (premises b) j 0 → r ≡ getD (premises (lineBody z (bodies s) n)) j 0
     premise-read j r d = rw (← e) d
 
-pub line-is : (s b : List ℕ) (rule t p x y l r c : ℕ) → rule ≡ getD b 0 0 → t ≡ getD b 1 0 → p ≡ getD b 2 0 → x ≡ word (drop 3 b) → l ≡ formulaAt s x → y ≡ word (drop 5 b) → r ≡ formulaAt s y → c ≡ getD b 7 0
+pub line-is : (s b : List ℕ) (rule t p x y l r c : ℕ) → rule ≡ getD b 0 0 → t ≡ getD b 1 0 → p ≡ getD b 2 0 → x ≡ word (drop 3 b)
+    → l ≡ formulaAt s x → y ≡ word (drop 5 b) → r ≡ formulaAt s y → c ≡ getD b 7 0
     → record { rule = rule; thread = t; point = p; left = l; right = r; count = c } ≡ lineIn s b
 unfolding lineIn
 line-is s b rule t p x y l r c e₀ e₁ e₂ ex el ey er ec = rw (e₀, e₁, e₂, el, er, ec, ex, ey)
@@ -92,12 +93,14 @@ module _ (s : List ℕ) (i : Instruction) where
   unfolding actingOf
   acts-not g = rw (eq-eqb (i .operation) 6 g)
 
-  module _ (n : i .operation ≡ 6 → ⊥) (f g : ℕ) (ef : f ≡ formulaAt s (i .formula)) (eg : g ≡ formulaAt s (i .second .formula)) (r : Bool) (er : r ≡ registerFirst (i .operation)) where
+  module _ (n : i .operation ≡ 6 → ⊥) (f g : ℕ) (ef : f ≡ formulaAt s (i .formula)) (eg : g ≡ formulaAt s (i .second .formula)) (r : Bool)
+      (er : r ≡ registerFirst (i .operation)) where
     pub acts-early : r ≡ true → acts (i .operation) (i .operation) (i .b) (i .a) f (i .second .a) g ≡ actingOf s i
     unfolding actingOf
     acts-early h = rw (ne-eqb (i .operation) 6 n, ← er, h, ef, eg)
 
-    pub acts-writing : (o : ℕ) → r ≡ false → o ≡ firstOperation (i .operation) → acts o (i .operation) (i .a) (i .b) f (i .second .a) g ≡ actingOf s i
+    pub acts-writing : (o : ℕ) → r ≡ false → o ≡ firstOperation (i .operation)
+        → acts o (i .operation) (i .a) (i .b) f (i .second .a) g ≡ actingOf s i
     unfolding actingOf
     acts-writing o h e = rw (ne-eqb (i .operation) 6 n, ← er, h, ef, eg, e)
 
@@ -114,15 +117,37 @@ unfolding tallyTo threadBody
 tally-same y z l zero e = refl
 tally-same y z l (suc n) e = rw (tally-same y z l n e, e)
 
-pub before-is : (z : Sizes) (l : List (List ℕ)) (t : ℕ) (c : Tally) → c ≡ tally (record { threads = t - 1; words = z .words; registers = z .registers; range = z .range; formulas = z .formulas; lines = z .lines; claims = z .claims }) l → c .points ≡ tallyTo z l (t - 1) .points
+pub before-is : (z : Sizes) (l : List (List ℕ)) (t : ℕ) (c : Tally)
+    → c ≡ tally
+    (record {
+      threads = t - 1;
+      words = z .words;
+      registers = z .registers;
+      range = z .range;
+      formulas = z .formulas;
+      lines = z .lines;
+      claims = z .claims;
+    }) l → c .points ≡ tallyTo z l (t - 1) .points
 unfolding tally
-before-is z l t c e = ap (λ (d : Tally). d .points) (e ∙ tally-same (record { threads = t - 1; words = z .words; registers = z .registers; range = z .range; formulas = z .formulas; lines = z .lines; claims = z .claims }) z l (t - 1) refl)
+before-is z l t c e = ap (λ (d : Tally). d .points)
+    (e
+    ∙ tally-same
+    (record {
+      threads = t - 1;
+      words = z .words;
+      registers = z .registers;
+      range = z .range;
+      formulas = z .formulas;
+      lines = z .lines;
+      claims = z .claims;
+    }) z l (t - 1) refl)
 
 pub below-none : (z : Sizes) (l : List (List ℕ)) (m : List ℕ) → m ≡ replicate Limits.threads 0 → m ≡ pointsBelow z l 0
 unfolding pointsBelow
 below-none z l m e = e
 
-pub below-more : (z : Sizes) (l : List (List ℕ)) (m : List ℕ) (t v : ℕ) → m ≡ pointsBelow z l t → v ≡ tallyTo z l t .points → set m t v ≡ pointsBelow z l (t + 1)
+pub below-more : (z : Sizes) (l : List (List ℕ)) (m : List ℕ) (t v : ℕ) → m ≡ pointsBelow z l t → v ≡ tallyTo z l t .points
+    → set m t v ≡ pointsBelow z l (t + 1)
 unfolding pointsBelow
 below-more z l m t v e d = rw (add-one t, ← e) (ap (set m t) d)
 
@@ -130,12 +155,14 @@ pub points-none : (z : Sizes) (l : List (List ℕ)) → 0 ≡ tallyTo z l 0 .poi
 unfolding tallyTo
 points-none z l = refl
 
-pub points-more : (z : Sizes) (l : List (List ℕ)) (t v n : ℕ) (b : List ℕ) → v ≡ tallyTo z l t .points → b ≡ getD l (z .formulas + (t + 1)) []
+pub points-more : (z : Sizes) (l : List (List ℕ)) (t v n : ℕ) (b : List ℕ) → v ≡ tallyTo z l t .points
+    → b ≡ getD l (z .formulas + (t + 1)) []
     → n ≡ lastPoint b → v + (n + 1) ≡ tallyTo z l (t + 1) .points
 unfolding tallyTo threadTally threadBody
 points-more z l t v n b e d f = rw (add-one t, e, f, d, add-one t)
 
-pub below-all : (z : Sizes) (l : List (List ℕ)) (m : List ℕ) (t : ℕ) → t ≤ Limits.threads → Limits.threads ≤ t → m ≡ pointsBelow z l t → m ≡ pointsBefore z l
+pub below-all : (z : Sizes) (l : List (List ℕ)) (m : List ℕ) (t : ℕ) → t ≤ Limits.threads → Limits.threads ≤ t → m ≡ pointsBelow z l t
+    → m ≡ pointsBefore z l
 unfolding pointsBefore
 below-all z l m t h g e = let q : t ≡ Limits.threads = omega arith in rw q at e
 
@@ -149,7 +176,8 @@ unfolding pointsBelow
 below-at z l zero t h g = absurd (omega arith)
 below-at z l (suc n) t h g = go (eqb t n) refl (λ b. below-at z l n t b (omega arith))
   where
-    go : (b : Bool) → eqb t n ≡ b → (t < n → getD (pointsBelow z l n) t 0 ≡ tallyTo z l t .points) → getD (set (pointsBelow z l n) n (tallyTo z l n .points)) t 0 ≡ tallyTo z l t .points
+    go : (b : Bool) → eqb t n ≡ b → (t < n → getD (pointsBelow z l n) t 0 ≡ tallyTo z l t .points)
+        → getD (set (pointsBelow z l n) n (tallyTo z l n .points)) t 0 ≡ tallyTo z l t .points
     go true e f =
         let q = eqb-true t n e in
         let i : n < length (pointsBelow z l n) = let a = below-length z l n in omega arith in
@@ -158,12 +186,14 @@ below-at z l (suc n) t h g = go (eqb t n) refl (λ b. below-at z l n t b (omega 
         let q : t ≢ n = eqb-false t n e in
         getD-set-other (pointsBelow z l n) n t (tallyTo z l n .points) 0 q ∙ f (omega arith)
 
-pub totals-are : (z : Sizes) (l : List (List ℕ)) (c : Tally) (b : List ℕ) (n : ℕ) → c ≡ tally z l → b ≡ pointsBefore z l → n ≡ obligationsBy (z .threads) c
+pub totals-are : (z : Sizes) (l : List (List ℕ)) (c : Tally) (b : List ℕ) (n : ℕ) → c ≡ tally z l → b ≡ pointsBefore z l
+    → n ≡ obligationsBy (z .threads) c
     → record { points = c .points; before = b; obligations = n } ≡ totalsOf z l
 unfolding totalsOf
 totals-are z l c b n ec eb en = rw (eb, count-is z l c n ec en, ec)
 
-pub before-known : (z : Sizes) (l : List (List ℕ)) (y : Totals) (t : ℕ) → y ≡ totalsOf z l → 1 ≤ t → t ≤ Limits.threads → getD (y .before) (t - 1) 0 ≡ tallyTo z l (t - 1) .points
+pub before-known : (z : Sizes) (l : List (List ℕ)) (y : Totals) (t : ℕ) → y ≡ totalsOf z l → 1 ≤ t → t ≤ Limits.threads
+    → getD (y .before) (t - 1) 0 ≡ tallyTo z l (t - 1) .points
 unfolding totalsOf pointsBefore
 before-known z l y t e a b = rw e (below-at z l Limits.threads (t - 1) (omega arith) (omega arith))
 
@@ -183,7 +213,8 @@ pub ruleset totals = (before-is, own-least, totals-are, before-known, known-leng
 
 -- the lines that obligations name
 
-pub named-is : (s : List ℕ) (z : Sizes) (y : Totals) (b : List ℕ) (i r : ℕ) → y ≡ totalsOf z (bodies s) → b ≡ getD (bodies s) (z .formulas + z .threads + 1 + z .lines + 1) [] → r ≡ getD (numbers (y .obligations) b) i 0
+pub named-is : (s : List ℕ) (z : Sizes) (y : Totals) (b : List ℕ) (i r : ℕ) → y ≡ totalsOf z (bodies s)
+    → b ≡ getD (bodies s) (z .formulas + z .threads + 1 + z .lines + 1) [] → r ≡ getD (numbers (y .obligations) b) i 0
     → r ≡ namedLine z (bodies s) i
 unfolding namedLine totalsOf
 named-is s z y b i r ey eb d = rw (← eb) (d ∙ (rw ey))
@@ -222,7 +253,8 @@ module _ (z : Sizes) (l : List (List ℕ)) (t : ℕ) where
 
       past-number : tally z l .points ≤ tallyTo z l (t - 1) .points + p → 0 ≡ outlineNumber z l t p
       unfolding outlineNumber
-      past-number q = rw (ne-eqb t 0 h, le-ltb (z .threads) t g) (number-past (tally z l .points) (getD l (z .formulas + z .threads + 1) []) (tallyTo z l (t - 1) .points + p) q)
+      past-number q = rw (ne-eqb t 0 h, le-ltb (z .threads) t g)
+          (number-past (tally z l .points) (getD l (z .formulas + z .threads + 1) []) (tallyTo z l (t - 1) .points + p) q)
 
       pub number-over : y .points ≤ p → 0 ≡ outlineNumber z l t p
       number-over b = past-number (let d = points-are in omega arith)
@@ -230,7 +262,8 @@ module _ (z : Sizes) (l : List (List ℕ)) (t : ℕ) where
       pub number-late : (n : ℕ) → n ≡ tallyTo z l (t - 1) .points → y .points - p ≤ n → 0 ≡ outlineNumber z l t p
       number-late n en b = past-number (let d = points-are in omega arith)
 
-      pub number-there : (n r : ℕ) (b : List ℕ) → n ≡ tallyTo z l (t - 1) .points → b ≡ getD l (z .formulas + z .threads + 1) [] → r ≡ getD (numbers (y .points) b) (n + p) 0 → r ≡ outlineNumber z l t p
+      pub number-there : (n r : ℕ) (b : List ℕ) → n ≡ tallyTo z l (t - 1) .points → b ≡ getD l (z .formulas + z .threads + 1) []
+          → r ≡ getD (numbers (y .points) b) (n + p) 0 → r ≡ outlineNumber z l t p
       unfolding outlineNumber
       number-there n r b en eb d = rw (ne-eqb t 0 h, le-ltb (z .threads) t g, ← en, ← eb, ← points-are) d
 

@@ -11,7 +11,8 @@ use Rattle.judging.proofs.steps.judge_thread.Statement.{statement}
 use Rattle.judging.proofs.steps.judge_thread.Tie as tie
 
 abbrev Inv-loop : tie.InvT-loop
-Inv-loop s ix z y m t last q₀ k₀ q k = (last ≡ lastPoint (threadBody z (bodies s) t)) × ((last < 256) × ((k ≤ last) × (q ≡ ownTo s z (asMarks m) t k q₀)))
+Inv-loop s ix z y m t last q₀ k₀ q k = (last ≡ lastPoint (threadBody z (bodies s) t))
+    × ((last < 256) × ((k ≤ last) × (q ≡ ownTo s z (asMarks m) t k q₀)))
 
 abbrev μ-loop : tie.MeasureT-loop
 μ-loop s ix z y m t last q₀ k₀ q k = last - k

@@ -12,7 +12,8 @@ use Rattle.lookups.proofs.totals.fill_before.Tie as tie
 
 abbrev Inv-loop : tie.InvT-loop
 Inv-loop s ix z before₀ sum₀ t₀ before sum t =
-    (t ≤ Limits.threads) × ((before ≡ pointsBelow z (bodies s) t) × ((length before ≡ Limits.threads) × ((sum ≡ tallyTo z (bodies s) t .points) × (sum ≤ 256 * t))))
+    (t ≤ Limits.threads) × ((before ≡ pointsBelow z (bodies s) t)
+    × ((length before ≡ Limits.threads) × ((sum ≡ tallyTo z (bodies s) t .points) × (sum ≤ 256 * t))))
 
 abbrev μ-loop : tie.MeasureT-loop
 μ-loop s ix z before₀ sum₀ t₀ before sum t = Limits.threads - t

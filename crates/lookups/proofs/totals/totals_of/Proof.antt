@@ -7,4 +7,5 @@ use Rattle.lookups.proofs.totals.totals_of.Tie as tie
 pub totals-of-spec : {M : Type 1} → statement M
 totals-of-spec =
     tie.close
-    (tie.spec (λ c κs. search needs) (λ c. search needs) (λ c κs. search needs) (λ c κs. search (totals, tests)) (λ c. search (totals, tests)))
+    (tie.spec (λ c κs. search needs) (λ c. search needs) (λ c κs. search needs) (λ c κs. search (totals, tests))
+    (λ c. search (totals, tests)))

@@ -7,4 +7,5 @@ use Rattle.program.proofs.instruction.instruction_fits.Tie as tie
 pub instruction-fits-spec : {M : Type 1} → statement M
 instruction-fits-spec =
     tie.close
-    (tie.spec (λ c κs. search needs) (λ c κs. search needs) (λ c κs. search needs) (λ c. search (ranging, tests)) (λ c. search (ranging, tests)))
+    (tie.spec (λ c κs. search needs) (λ c κs. search needs) (λ c κs. search needs) (λ c. search (ranging, tests))
+    (λ c. search (ranging, tests)))

@@ -5,4 +5,5 @@ use Rattle.program.proofs.instruction.instruction_size.Statement.{state
 use Rattle.program.proofs.instruction.instruction_size.Tie as tie
 
 pub instruction-size-spec : {M : Type 1} → statement M
-instruction-size-spec = tie.close (tie.spec (λ c κs. search needs) (λ c. search needs) (λ c. search (halving, tests)) (λ c. search (halving, tests)))
+instruction-size-spec = tie.close (tie.spec (λ c κs. search needs) (λ c. search needs) (λ c. search (halving, tests))
+    (λ c. search (halving, tests)))

@@ -6,4 +6,5 @@ use Rattle.program.proofs.instruction.second_half.Tie as tie
 
 pub second-half-spec : {M : Type 1} → statement M
 second-half-spec =
-    tie.close (tie.spec (λ c κs. search needs) (λ c κs. search needs) (λ c κs. search needs) (λ c. search (halving, tests)) (λ c. search (halving, tests)))
+    tie.close (tie.spec (λ c κs. search needs) (λ c κs. search needs) (λ c κs. search needs) (λ c. search (halving, tests))
+    (λ c. search (halving, tests)))

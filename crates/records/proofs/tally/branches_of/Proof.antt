@@ -11,7 +11,10 @@ use Rattle.records.proofs.tally.branches_of.Tie as tie
 
 abbrev Inv-loop : tie.InvT-loop
 Inv-loop b last n₀ at₀ p₀ n at p =
-    (last ≡ lastPoint b) × ((last < 256) × ((p ≤ last) × ((at ≡ begins (drop 1 b) p) × ((n ≤ p) × (n + branches (drop p (instructions b)) ≡ branches (instructions b))))))
+    (last ≡ lastPoint b)
+    ×
+    ((last < 256)
+    × ((p ≤ last) × ((at ≡ begins (drop 1 b) p) × ((n ≤ p) × (n + branches (drop p (instructions b)) ≡ branches (instructions b))))))
 
 abbrev μ-loop : tie.MeasureT-loop
 μ-loop b last n₀ at₀ p₀ n at p = last - p

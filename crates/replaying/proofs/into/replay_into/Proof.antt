@@ -1,4 +1,5 @@
--- `replay_into` meets its contract: a walk of its MIR, by hand. `shown_of` is called with copies of the three slices, and `put_shown` with the table, which is given up for good.
+-- `replay_into` meets its contract: a walk of its MIR, by hand. `shown_of` is called with copies of the three slices, and `put_shown`
+-- with the table, which is given up for good.
 use mathlib.Core.Path.{_≡_, refl}
 use Prim.Native.Nat.{ℕ, _≤_, min}
 use mathlib.Core.List.{[], _∷_, List}
@@ -243,7 +244,8 @@ module _ {M : Type 1} (𝓤 : URA M) (H : Heap 𝓤) (A : Atoms 𝓤) (W : Given
         -- [the last list; true; the token and the result; the tokens; _8; …]
         move ! (2 ∷ []) $ split ! $ move ! (1 ∷ []) $ peeks ! R.the-row (Is R.the-row) (shows 𝓤 H A R.the-row) a (y ∷ []) (λ ga.
         land ! (from ! (stop !)) (init ! 21 refl (LL.lawful R.the-type R′.the-laws 𝓤 H A W .typed a _ ga .0)) $
-        returns ! (look ! 21 refl) $ forget ! 5 refl $ forget ! 7 refl $ forget ! 9 refl $ forget ! 11 refl $ forget ! 13 refl $ forget ! 15 refl $ forget ! 17 refl $ forget ! 19 refl $ forget ! 21 refl $
+        returns ! (look ! 21 refl) $ forget ! 5 refl $ forget ! 7 refl $ forget ! 9 refl $ forget ! 11 refl $ forget ! 13 refl $ forget !
+        15 refl $ forget ! 17 refl $ forget ! 19 refl $ forget ! 21 refl $
         move ! (21 ∷ 22 ∷ []) $ free1 ! $ move ! (19 ∷ 20 ∷ []) $ free1 ! $ move ! (17 ∷ 18 ∷ []) $ free1 ! $ move !
         (15 ∷ 16 ∷ []) $ free1 ! $ move ! (13 ∷ 14 ∷ []) $ free1 ! $
         move ! (11 ∷ 12 ∷ []) $ free1 ! $ move ! (9 ∷ 10 ∷ []) $ free1 ! $ move ! (7 ∷ 8 ∷ []) $ free1 ! $ move !
@@ -290,7 +292,8 @@ replay-into-spec 𝓤 H 𝓜 𝓖 𝓡 =
     entered 𝓤 H (tripleOf 𝓤 H (𝓖 .A) f.signature (f.spec 𝓤 H (𝓖 .A) (𝓜 .mem) (𝓡 .run)))
     (tables 𝓤 H 𝓜 𝓡 code.env .C) (tables 𝓤 H 𝓜 𝓡 code.env .Λ) #replaying·into·replay-into code.function (code.unfolded 𝓤 H 𝓜 𝓡)
     (replay-into-meets 𝓤 H (𝓖 .A) (givenOf 𝓤 H 𝓜 𝓖) (𝓜 .mem) (𝓡 .run) (tablesOf 𝓤 H 𝓜 (tables 𝓤 H 𝓜 𝓡 code.env))
-    (cited 𝓤 H (ShownOf 𝓤 H (𝓖 .A) (𝓜 .mem) (𝓡 .run)) 𝓜 𝓡 code.env #replaying·whole·shown-of shown-of-def.routine code.calls-replaying·whole·shown-of (shown-of-thm.met 𝓤 H 𝓜 𝓖 𝓡))
+    (cited 𝓤 H (ShownOf 𝓤 H (𝓖 .A) (𝓜 .mem) (𝓡 .run)) 𝓜 𝓡 code.env #replaying·whole·shown-of shown-of-def.routine
+    code.calls-replaying·whole·shown-of (shown-of-thm.met 𝓤 H 𝓜 𝓖 𝓡))
     (cited 𝓤 H (PutShown 𝓤 H (𝓖 .A) (𝓜 .mem)
     (𝓡 .run)) 𝓜 𝓡 code.env #replaying·into·put-shown put-shown-def.routine code.calls-replaying·into·put-shown
     (put-shown-thm.met 𝓤 H 𝓜 𝓖 𝓡)))

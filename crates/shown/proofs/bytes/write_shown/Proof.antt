@@ -16,12 +16,18 @@ abbrev μ-loop : tie.MeasureT-loop
 
 loop-again : tie.Need-loop-again Inv-loop μ-loop
 loop-again c =
-    laid-next (c .before .before .before .before .before .before .before .before .args .t1 .writes) (c .before .before .before .before .before .before .before .before .args .t1 .count) (c .before .before .before .before .before .before .loop .e) (c .before .before .before .before .before .before .before .before .args .table .now) (c .before .before .before .before .before .before .loop .table) noWrite
-    (search tests) (search tests) (search tests) (search tests) (search tests) (c .before .before .write-entry .last .1 .0) (search tests) (search tests)
+    laid-next (c .before .before .before .before .before .before .before .before .args .t1 .writes)
+    (c .before .before .before .before .before .before .before .before .args .t1 .count)
+    (c .before .before .before .before .before .before .loop .e)
+    (c .before .before .before .before .before .before .before .before .args .table .now)
+    (c .before .before .before .before .before .before .loop .table) noWrite
+    (search tests) (search tests) (search tests) (search tests) (search tests) (c .before .before .write-entry .last .1 .0) (search tests)
+    (search tests)
 
 returns : tie.Need-returns Inv-loop μ-loop
 returns c =
-    laid-all (c .before .before .before .args .t1 .writes) (c .before .loop .e) (c .before .before .before .args .t1 .count) (c .before .before .before .args .table .now) (c .before .loop .table)
+    laid-all (c .before .before .before .args .t1 .writes) (c .before .loop .e) (c .before .before .before .args .t1 .count)
+    (c .before .before .before .args .table .now) (c .before .loop .table)
     (search tests) (search tests) (search tests)
 
 pub write-shown-spec : {M : Type 1} → statement M

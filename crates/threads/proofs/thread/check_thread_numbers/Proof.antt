@@ -9,4 +9,5 @@ pub check-thread-numbers-spec : {M : Type 1} → statement M
 unfolding threadNumbers
 check-thread-numbers-spec =
     tie.close
-    (tie.spec (λ c. search (checking, tests)) (λ c κs. search needs) (λ c. search (checking, tests)) (λ c κs. search needs) (λ c. search (checking, tests)) (λ c. search (checking, tests)))
+    (tie.spec (λ c. search (checking, tests)) (λ c κs. search needs) (λ c. search (checking, tests)) (λ c κs. search needs)
+    (λ c. search (checking, tests)) (λ c. search (checking, tests)))

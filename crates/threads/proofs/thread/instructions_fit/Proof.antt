@@ -11,7 +11,12 @@ use Rattle.threads.proofs.thread.instructions_fit.Statement.{statement}
 use Rattle.threads.proofs.thread.instructions_fit.Tie as tie
 
 abbrev Inv-loop : tie.InvT-loop
-Inv-loop b z last at₀ p₀ at p = (last ≡ lastPoint b) × ((last < 256) × ((p ≤ last) × ((at ≡ begins (drop 1 b) p) × (every (ranged (lastPoint b) z) (instructions b) ≡ every (ranged last z) (drop p (instructions b))))))
+Inv-loop b z last at₀ p₀ at p = (last ≡ lastPoint b)
+    ×
+    ((last < 256)
+    ×
+    ((p ≤ last)
+    × ((at ≡ begins (drop 1 b) p) × (every (ranged (lastPoint b) z) (instructions b) ≡ every (ranged last z) (drop p (instructions b))))))
 
 abbrev μ-loop : tie.MeasureT-loop
 μ-loop b z last at₀ p₀ at p = last - p

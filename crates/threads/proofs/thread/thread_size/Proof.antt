@@ -6,4 +6,5 @@ use Rattle.threads.proofs.thread.thread_size.Tie as tie
 
 pub thread-size-spec : {M : Type 1} → statement M
 thread-size-spec =
-    tie.close (tie.spec (λ c κs. search needs) (λ c κs. search needs) (λ c κs. search needs) (λ c. search needs) (λ c. search (threading, tests)))
+    tie.close (tie.spec (λ c κs. search needs) (λ c κs. search needs) (λ c κs. search needs) (λ c. search needs)
+    (λ c. search (threading, tests)))

@@ -12,7 +12,10 @@ use Rattle.used.proofs.formulas.note_thread.Tie as tie
 
 abbrev Inv-loop : tie.InvT-loop
 Inv-loop b m₀ last at₀ p₀ m at p =
-    (last < 256) × ((p ≤ last) × ((at ≡ begins (drop 1 b) p) × ((noted m₀ (bodyFormulas b 0) ≡ noted m (bodyFormulas b p)) × (length m ≡ length m₀))))
+    (last < 256)
+    ×
+    ((p ≤ last)
+    × ((at ≡ begins (drop 1 b) p) × ((noted m₀ (bodyFormulas b 0) ≡ noted m (bodyFormulas b p)) × (length m ≡ length m₀))))
 
 abbrev μ-loop : tie.MeasureT-loop
 μ-loop b m₀ last at₀ p₀ m at p = last - p
