@@ -1,6 +1,7 @@
 #!/usr/bin/env bash
 # Tries the edits that the gate leaves out, crates/NAME/also-refused/*.edit, of every crate or of those that are named: the prover must
-# refuse each. What is proved under target/ is taken over, so that only what has changed since is proved again.
+# refuse each. What is proved under target/ is taken over, so that only what has changed since is proved again. TMPDIR=/dev/shm is
+# quicker where there is room for 3 GB.
 set -eu
 cd "$(dirname "$0")/.."
 
