@@ -10,7 +10,8 @@ use Rattle.logic.specs.Machine.{Program, Access.none, Access.load, Instr, Instr
 use Rattle.logic.proofs.Computed.{begun, picture, draw, yes-no, write-of, by, nothing, at-points, sender, receiver, message-passing}
 use Rattle.across.specs.Handover.{NewPoint, handed, across}
 
--- the new code: thread 1 has nothing left to do; thread 2 clears register 2, loads the flag into register 1, then the message into register 2
+-- the new code: thread 1 has nothing left to do; thread 2 clears register 2, loads the flag into register 1, then the message into
+-- register 2
 unfoldable taker : List Instr
 taker = act none (record { to = 2; by = const 0 } ∷ []) ∷ act (load true 1 2) [] ∷ act (load false 2 1) [] ∷ []
 

@@ -22,5 +22,7 @@ pub record Counted (body s : List ℕ) (t r : Tally) : Type 0 where
   pub code : ℕ
   pub after : List ℕ
   pub told : List ℕ
-  pub called : Written (firstIn s body) (secondIn s body) (thirdIn s body) (fourthIn s body) (fifthIn s body) (sixthIn s body) (take (bytesLent s) blankTable) (take (numbersLent s) blankNumbers) code after told
-  pub counted : r ≡ withCase t (kindOf code) (sameAnswer code (after ++ drop (bytesLent s) blankTable) (told ++ drop (numbersLent s) blankNumbers) (drop 32 s) (seventhOn s body))
+  pub called : Written (firstIn s body) (secondIn s body) (thirdIn s body) (fourthIn s body) (fifthIn s body) (sixthIn s body)
+      (take (bytesLent s) blankTable) (take (numbersLent s) blankNumbers) code after told
+  pub counted : r ≡ withCase t (kindOf code) (sameAnswer code (after ++ drop (bytesLent s) blankTable)
+      (told ++ drop (numbersLent s) blankNumbers) (drop 32 s) (seventhOn s body))

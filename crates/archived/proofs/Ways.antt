@@ -39,29 +39,35 @@ module _ (s : List ℕ) (z : Sizes) (A : Accepted s z) where
   d = documented s z (A .bytes) (holds .sound)
 
   pub records-all : length (bodies s) ≡ recordCount z
-  records-all = sym (ap length (d .describes .body)) ∙ bodies-length (documentOf z (bodies s)) (d .describes .threads) ∙ ap recordCount (d .describes .size)
+  records-all = sym (ap length (d .describes .body)) ∙ bodies-length (documentOf z (bodies s)) (d .describes .threads)
+      ∙ ap recordCount (d .describes .size)
 
   pub lengths : Lengths z s
   lengths = sound-lengths s z (holds .sound) records-all (ap length (d .encodes))
 
 -- the tables of new numbers, before they are filled
 
-pub formulas-table : (s : List ℕ) (z : Sizes) (u : List Bool) (t : List ℕ) → u ≡ used (documentOf z (bodies s)) → t ≡ replicate (suc Limits.formulas) 0 → t ≡ replicate (length u) 0
+pub formulas-table : (s : List ℕ) (z : Sizes) (u : List Bool) (t : List ℕ) → u ≡ used (documentOf z (bodies s))
+    → t ≡ replicate (suc Limits.formulas) 0 → t ≡ replicate (length u) 0
 formulas-table s z u t e h = h ∙ ap (λ (n : ℕ). replicate n 0) (sym (ap length e ∙ used-length (documentOf z (bodies s))))
 
-pub lines-table : (s : List ℕ) (z : Sizes) (k : List Bool) (t : List ℕ) → k ≡ kept (documentOf z (bodies s)) → t ≡ replicate (suc Limits.lines) 0 → t ≡ replicate (length k) 0
+pub lines-table : (s : List ℕ) (z : Sizes) (k : List Bool) (t : List ℕ) → k ≡ kept (documentOf z (bodies s))
+    → t ≡ replicate (suc Limits.lines) 0 → t ≡ replicate (length k) 0
 lines-table s z k t e h = h ∙ ap (λ (n : ℕ). replicate n 0) (sym (ap length e ∙ kept-length (documentOf z (bodies s))))
 
-module _ (s : List ℕ) (z : Sizes) (u k : List Bool) (eu : u ≡ used (documentOf z (bodies s))) (ek : k ≡ kept (documentOf z (bodies s))) where
+module _ (s : List ℕ) (z : Sizes) (u k : List Bool) (eu : u ≡ used (documentOf z (bodies s)))
+    (ek : k ≡ kept (documentOf z (bodies s))) where
   trimmed-is : encode (trimmedBy u k (documentOf z (bodies s))) ≡ trimmedBytes z s
   unfolding trimmedBytes trim
   trimmed-is = rw (eu, ek)
 
-  pub trimmed-room : (o : List ℕ) → length (trimmedBytes z s) ≤ length o → length (encode (trimmedBy u k (documentOf z (bodies s)))) ≤ length o
+  pub trimmed-room : (o : List ℕ) → length (trimmedBytes z s) ≤ length o
+      → length (encode (trimmedBy u k (documentOf z (bodies s)))) ≤ length o
   trimmed-room o h = rw trimmed-is h
 
   pub trimmed-written : (o after : List ℕ) → length (trimmedBytes z s) ≤ length o
-      → after ≡ encode (trimmedBy u k (documentOf z (bodies s))) ++ drop (length (encode (trimmedBy u k (documentOf z (bodies s))))) o → after ≡ bufferBy (trimmedBytes z s) o
+      → after ≡ encode (trimmedBy u k (documentOf z (bodies s))) ++ drop (length (encode (trimmedBy u k (documentOf z (bodies s))))) o
+      → after ≡ bufferBy (trimmedBytes z s) o
   unfolding bufferBy
   trimmed-written o after h e = rw (le-ltb _ _ h) (e ∙ rw trimmed-is)
 
@@ -82,7 +88,17 @@ pub room : (s : List ℕ) (z : Sizes) (n m : ℕ) → n ≡ length (encode (trim
 unfolding trimmedBytes
 room s z n m e h = rw (← e) h
 
-pub ruleset trimming-ways = (records-all, lengths, formulas-table, lines-table, trimmed-room, trimmed-written, short-answer, short-buffer, done-answer)
+pub ruleset trimming-ways = (
+  records-all,
+  lengths,
+  formulas-table,
+  lines-table,
+  trimmed-room,
+  trimmed-written,
+  short-answer,
+  short-buffer,
+  done-answer,
+)
 
 pub accepted-of : (s : List ℕ) (a : Acceptance) (z : Sizes) → Bytes s → a ≡ acceptance s → a ≡ Granted z → Accepted s z
 accepted-of s a z b e h = record { bytes = b; granted = sym e ∙ h }

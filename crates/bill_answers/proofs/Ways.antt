@@ -12,12 +12,14 @@ use Rattle.stored.specs.Number.{long}
 use Rattle.stored.specs.Room.{holds}
 use Rattle.bill_answers.specs.Answer.{blank, most, tariffAt, billedAt, lentAt, codeAt, numbersAt, writtenAt, sameAnswer}
 
-pub tariff-read : (s : List ℕ) (a b c d e : ℕ) → a ≡ word (drop 0 s) → b ≡ word (drop 2 s) → c ≡ word (drop 4 s) → d ≡ word (drop 6 s) → e ≡ word (drop 8 s)
+pub tariff-read : (s : List ℕ) (a b c d e : ℕ) → a ≡ word (drop 0 s) → b ≡ word (drop 2 s) → c ≡ word (drop 4 s) → d ≡ word (drop 6 s)
+    → e ≡ word (drop 8 s)
     → tariffOf a b c d e ≡ tariffAt s
 unfolding tariffAt
 tariff-read s a b c d e ea eb ec ed ee = rw (ea, eb, ec, ed, ee)
 
-pub numbers-read : (s : List ℕ) (a b c d e f : ℕ) → a ≡ long (drop 20 s) → b ≡ long (drop 24 s) → c ≡ long (drop 28 s) → d ≡ long (drop 32 s) → e ≡ long (drop 36 s)
+pub numbers-read : (s : List ℕ) (a b c d e f : ℕ) → a ≡ long (drop 20 s) → b ≡ long (drop 24 s) → c ≡ long (drop 28 s)
+    → d ≡ long (drop 32 s) → e ≡ long (drop 36 s)
     → f ≡ long (drop 40 s) → a ∷ b ∷ c ∷ d ∷ e ∷ f ∷ [] ≡ numbersAt s
 unfolding numbersAt
 numbers-read s a b c d e f ea eb ec ed ee ef = rw (ea, eb, ec, ed, ee, ef)
@@ -44,7 +46,8 @@ module _ (code stored : ℕ) (room s : List ℕ) (e : stored ≡ word (drop 18 s
   unfolding sameAnswer codeAt writtenAt
   none-written r h z q = rw (← e, eq-eqb _ _ h, eq-eqb _ _ z) q
 
-  pub all-written : (r : Bool) (n : List ℕ) → code ≡ stored → (code ≡ 1 → ⊥) → n ≡ numbersAt s → r ≡ holds room n blank → r ≡ sameAnswer code room s
+  pub all-written : (r : Bool) (n : List ℕ) → code ≡ stored → (code ≡ 1 → ⊥) → n ≡ numbersAt s → r ≡ holds room n blank
+      → r ≡ sameAnswer code room s
   unfolding sameAnswer codeAt writtenAt
   all-written r n h z d q = rw (← e, eq-eqb _ _ h, ne-eqb _ _ z, ← d) q
 

@@ -36,15 +36,18 @@ module _ (s r : List ℕ) (n : ℕ) (e : n ≡ lentAt s) (q : r ≡ room) where
   lent-front = let h = lent-within s n e in rw (q, length-take-le n room h)
 
   pub lent-back : (after : List ℕ) → length after ≡ length (take n r) → most ≡ length (after ++ drop n r)
-  lent-back after l = let h = lent-within s n e in let z : length r ≡ most = room-length q in rw (length-append after (drop n r), l, length-drop n r, z, ← lent-front) (omega arith)
+  lent-back after l = let h = lent-within s n e in let z : length r ≡ most = room-length q in
+      rw (length-append after (drop n r), l, length-drop n r, z, ← lent-front) (omega arith)
 
-  pub bill-counted : (image after : List ℕ) (t u : Tally) (code : ℕ) (same : Bool) → Written image (tariffAt s) (billedAt s) (take n r) code after
+  pub bill-counted : (image after : List ℕ) (t u : Tally) (code : ℕ) (same : Bool)
+      → Written image (tariffAt s) (billedAt s) (take n r) code after
       → same ≡ sameAnswer code (after ++ drop n r) s → u ≡ withCase t code same → Counted image s t u
   bill-counted image after t u code same w d g =
       record { code = code; after = after; billed = rw (← e, ← q) w; counted = rw (← e, ← q, ← d) g }
 
 pub running-bill : (t r : Tally) (left : ℕ) (image s : List ℕ) → 0 < left → Running t left → Counted image s t r → Running r (left - 1)
-running-bill t r left image s h f c = running-more t r left (c .code) (sameAnswer (c .code) (c .after ++ drop (lentAt s) room) s) h f (c .counted)
+running-bill t r left image s h f c = running-more t r left (c .code) (sameAnswer (c .code) (c .after ++ drop (lentAt s) room) s) h f
+    (c .counted)
 
 pub ruleset lending = (lent-fits, lent-front, lent-back, bill-counted)
 

@@ -26,7 +26,8 @@ bit-and a b i =
 pub bit-or : (a b i : ℕ) → bit (bitOr a b) i ≡ max (bit a i) (bit b i)
 bit-or a b i =
     ap (λ (n : ℕ). n % 2) (or-shr a b i ∙ or-step (a / 2 ^ i) (b / 2 ^ i))
-    ∙ digits-mod (bitOr (a / 2 ^ i / 2) (b / 2 ^ i / 2)) (let h = mod-lt (a / 2 ^ i) {m = 2} (omega arith) in let k = mod-lt (b / 2 ^ i) {m = 2} (omega arith) in omega arith)
+    ∙ digits-mod (bitOr (a / 2 ^ i / 2) (b / 2 ^ i / 2))
+    (let h = mod-lt (a / 2 ^ i) {m = 2} (omega arith) in let k = mod-lt (b / 2 ^ i) {m = 2} (omega arith) in omega arith)
 
 told : (b : Bool) → T b → b ≡ true
 told true h = refl
@@ -36,7 +37,8 @@ ones-bits : allBelow 64 (λ i. eqb (bit ones i) 1) ≡ true
 ones-bits = refl
 
 pub bit-ones : (i : ℕ) → i < 64 → bit ones i ≡ 1
-bit-ones i h = eqb-true (bit ones i) 1 (told (eqb (bit ones i) 1) (allBelow-at 64 (λ i. eqb (bit ones i) 1) (subst T (sym ones-bits) tt) i h))
+bit-ones i h = eqb-true (bit ones i) 1 (told (eqb (bit ones i) 1)
+    (allBelow-at 64 (λ i. eqb (bit ones i) 1) (subst T (sym ones-bits) tt) i h))
 
 pub bit-none : (i : ℕ) → bit 0 i ≡ 0
 bit-none i = ap (λ (n : ℕ). n % 2) (zero-div (2 ^ i))
@@ -94,7 +96,8 @@ leaf-bit j w i hj hw hi =
     eqb-true (bit (leafWord j w) i) (bit (64 * w + i) j)
     (told (eqb (bit (leafWord j w) i) (bit (64 * w + i) j)) (allBelow-at 64 (λ i. eqb (bit (leafWord j w) i) (bit (64 * w + i) j))
     (allBelow-at 16 (λ w. allBelow 64 (λ i. eqb (bit (leafWord j w) i) (bit (64 * w + i) j)))
-    (allBelow-at 10 (λ j. allBelow 16 (λ w. allBelow 64 (λ i. eqb (bit (leafWord j w) i) (bit (64 * w + i) j)))) (subst T (sym leaf-bits) tt) j hj) w hw) i hi))
+    (allBelow-at 10 (λ j. allBelow 16 (λ w. allBelow 64 (λ i. eqb (bit (leafWord j w) i) (bit (64 * w + i) j))))
+    (subst T (sym leaf-bits) tt) j hj) w hw) i hi))
 
 -- the first bits of a word
 low-next : (x c : ℕ) → x % 2 ^ suc c ≡ bit x c * 2 ^ c + x % 2 ^ c
@@ -103,7 +106,8 @@ low-next x c = let e : suc c ≡ 1 + c = omega arith in ap (λ (n : ℕ). x % 2 
 pub low-none : (x c : ℕ) → ((i : ℕ) → i < c → bit x i ≡ 0) → x % 2 ^ c ≡ 0
 low-none x zero h = let k = mod-lt x {m = 1} (omega arith) in omega arith
 low-none x (suc c) h =
-    low-next x c ∙ ap₂ (λ (a b : ℕ). a * 2 ^ c + b) (h c (omega arith)) (low-none x c (λ i k. h i (omega arith))) ∙ (let e = zero-mul (2 ^ c) in omega arith)
+    low-next x c ∙ ap₂ (λ (a b : ℕ). a * 2 ^ c + b) (h c (omega arith)) (low-none x c (λ i k. h i (omega arith)))
+    ∙ (let e = zero-mul (2 ^ c) in omega arith)
 
 pub none-low : (x c i : ℕ) → x % 2 ^ c ≡ 0 → i < c → bit x i ≡ 0
 none-low x zero i e h = absurd (omega arith)
@@ -120,7 +124,8 @@ none-low x (suc c) i e h = go (λ r k. none-low x c i r k) (bit x c) refl (let k
         last false et = let q : i ≡ c = omega (arith, ltb-false i c et) in ap (bit x) q ∙ eb
     go ih (suc b) eb k =
         let q : bit x c ≡ 1 = omega arith in
-        absurd (let d = low-next x c in let p = pow-pos c in let m = one-mul (2 ^ c) in let f : bit x c * 2 ^ c ≡ 1 * 2 ^ c = ap (λ (n : ℕ). n * 2 ^ c) q in omega arith)
+        absurd (let d = low-next x c in let p = pow-pos c in let m = one-mul (2 ^ c) in
+        let f : bit x c * 2 ^ c ≡ 1 * 2 ^ c = ap (λ (n : ℕ). n * 2 ^ c) q in omega arith)
 
 -- the bit at place i of word w is row 64 * w + i
 place : (r : ℕ) → 64 * (r / 64) + r % 64 ≡ r
@@ -142,7 +147,8 @@ none-set a n h = bool-ext (allBelow 16 clear) (allBelow n unset) down up
         let w : r / 64 < 16 = div-lt-iff-lt-mul {k = 64} (omega arith) .1 (omega arith) in
         let i : r % 64 < 64 = mod-lt r (omega arith) in
         let e = eqb→eq (bitAnd (getD a (r / 64) 0) (2 ^ min 64 (n - 64 * (r / 64)) - 1)) 0 (allBelow-at 16 clear p (r / 64) w) in
-        let z : getD a (r / 64) 0 % 2 ^ min 64 (n - 64 * (r / 64)) ≡ 0 = sym (and-mask (getD a (r / 64) 0) (min 64 (n - 64 * (r / 64)))) ∙ e in
+        let z : getD a (r / 64) 0 % 2 ^ min 64 (n - 64 * (r / 64)) ≡ 0 = sym (and-mask (getD a (r / 64) 0) (min 64 (n - 64 * (r / 64))))
+        ∙ e in
         is-true (eq-eqb _ _ (none-low (getD a (r / 64) 0) (min 64 (n - 64 * (r / 64))) (r % 64) z (omega (arith, place r)))))
 
     up : T (allBelow n unset) → T (allBelow 16 clear)
@@ -150,4 +156,5 @@ none-set a n h = bool-ext (allBelow 16 clear) (allBelow n unset) down up
         is-true (eq-eqb _ _ (and-mask (getD a w 0) (min 64 (n - 64 * w)) ∙ low-none (getD a w 0) (min 64 (n - 64 * w)) (λ i l.
         let d : (64 * w + i) / 64 ≡ w = ap (λ (m : ℕ). (m + i) / 64) (mul-comm 64 w) ∙ digits-div w (omega arith) in
         let m : (64 * w + i) % 64 ≡ i = ap (λ (m : ℕ). (m + i) % 64) (mul-comm 64 w) ∙ digits-mod w (omega arith) in
-        sym (ap₂ (λ (x y : ℕ). bit (getD a x 0) y) d m) ∙ eqb→eq (bit (getD a ((64 * w + i) / 64) 0) ((64 * w + i) % 64)) 0 (allBelow-at n unset p (64 * w + i) (omega arith))))))
+        sym (ap₂ (λ (x y : ℕ). bit (getD a x 0) y) d m)
+        ∙ eqb→eq (bit (getD a ((64 * w + i) / 64) 0) ((64 * w + i) % 64)) 0 (allBelow-at n unset p (64 * w + i) (omega arith))))))

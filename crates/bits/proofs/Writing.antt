@@ -55,7 +55,8 @@ module _ (c o a b : ℕ) where
   unfolding wordOf
   word-holds e = rw e
 
-  pub word-other : (c ≡ byte Code.const → ⊥) → (c ≡ byte Code.not → ⊥) → (c ≡ byte Code.and → ⊥) → (c ≡ byte Code.or → ⊥) → (c ≡ byte Code.bothA → ⊥) → (c ≡ byte Code.eitherA → ⊥) → (c ≡ byte Code.holds → ⊥)
+  pub word-other : (c ≡ byte Code.const → ⊥) → (c ≡ byte Code.not → ⊥) → (c ≡ byte Code.and → ⊥) → (c ≡ byte Code.or → ⊥)
+      → (c ≡ byte Code.bothA → ⊥) → (c ≡ byte Code.eitherA → ⊥) → (c ≡ byte Code.holds → ⊥)
       → 0 ≡ wordOf c o a b
   unfolding wordOf
   word-other d e f g h i j = rw (ne-eqb _ _ d, ne-eqb _ _ e, ne-eqb _ _ f, ne-eqb _ _ g, ne-eqb _ _ h, ne-eqb _ _ i, ne-eqb _ _ j)
@@ -75,7 +76,8 @@ module _ (c o : ℕ) (a₀ b a : List ℕ) where
   zip-begin = column-begin made a
 
   module _ (i : ℕ) (e : take i a ≡ wordsOf c o i a₀ b) (l : length a ≡ 16) where
-    pub zip-more : (x : ℕ) → i < 16 → drop i a ≡ drop i a₀ → x ≡ wordOf c o (getD a i 0) (getD b i 0) → take (i + 1) (set a i x) ≡ wordsOf c o (i + 1) a₀ b
+    pub zip-more : (x : ℕ) → i < 16 → drop i a ≡ drop i a₀ → x ≡ wordOf c o (getD a i 0) (getD b i 0)
+        → take (i + 1) (set a i x) ≡ wordsOf c o (i + 1) a₀ b
     unfolding wordsOf
     zip-more x h d f = column-more made a a i 16 x h (omega arith) refl e (f ∙ ap (λ (n : ℕ). wordOf c o n (getD b i 0)) (rest-at a a₀ i d))
 
@@ -98,7 +100,8 @@ module _ (a₀ b a : List ℕ) where
   deny-begin = column-begin kept a
 
   module _ (i : ℕ) (e : take i a ≡ denyWords i a₀ b) (l : length a ≡ 16) where
-    pub deny-more : (x : ℕ) → i < 16 → drop i a ≡ drop i a₀ → x ≡ denyWord (getD a i 0) (getD b i 0) → take (i + 1) (set a i x) ≡ denyWords (i + 1) a₀ b
+    pub deny-more : (x : ℕ) → i < 16 → drop i a ≡ drop i a₀ → x ≡ denyWord (getD a i 0) (getD b i 0)
+        → take (i + 1) (set a i x) ≡ denyWords (i + 1) a₀ b
     unfolding denyWords
     deny-more x h d f = column-more kept a a i 16 x h (omega arith) refl e (f ∙ ap (λ (n : ℕ). denyWord n (getD b i 0)) (rest-at a a₀ i d))
 
@@ -199,7 +202,8 @@ module _ (n w : ℕ) where
 
   module _ (h : n < 64 * w + 64) (k : 64 * w < n) where
     shifted : 1 * 2 ^ (n - 64 * w) % 18446744073709551616 ≡ 2 ^ (n - 64 * w)
-    shifted = ap (λ (x : ℕ). x % 18446744073709551616) (one-mul (2 ^ (n - 64 * w))) ∙ mod-eq-of-lt (pow-lt {i = n - 64 * w} {j = 64} (omega arith))
+    shifted = ap (λ (x : ℕ). x % 18446744073709551616) (one-mul (2 ^ (n - 64 * w)))
+        ∙ mod-eq-of-lt (pow-lt {i = n - 64 * w} {j = 64} (omega arith))
 
     pub mask-shifts : 1 ≤ 1 * 2 ^ (n - 64 * w) % 18446744073709551616
     mask-shifts = subst (λ (x : ℕ). 1 ≤ x) (sym shifted) (pow-pos (n - 64 * w))

@@ -41,7 +41,8 @@ denyWords n a b = column (λ w. denyWord (getD a w 0) (getD b w 0)) n
 
 -- the first six leaves go through their values in each word, the others from word to word
 abbrev pub patterns : List ℕ
-patterns = 0xaaaa_aaaa_aaaa_aaaa ∷ 0xcccc_cccc_cccc_cccc ∷ 0xf0f0_f0f0_f0f0_f0f0 ∷ 0xff00_ff00_ff00_ff00 ∷ 0xffff_0000_ffff_0000 ∷ 0xffff_ffff_0000_0000 ∷ []
+patterns = 0xaaaa_aaaa_aaaa_aaaa ∷ 0xcccc_cccc_cccc_cccc ∷ 0xf0f0_f0f0_f0f0_f0f0 ∷ 0xff00_ff00_ff00_ff00 ∷ 0xffff_0000_ffff_0000
+    ∷ 0xffff_ffff_0000_0000 ∷ []
 
 unfoldable pub leafWord : ℕ → ℕ → ℕ
 leafWord j w = cond (ltb j 6) (getD patterns j 0) (cond (eqb (bit w (j - 6)) 1) ones 0)

@@ -19,7 +19,8 @@ outlinedAt l k = outlined (getD l k [])
 
 -- a formula per point, threads in order
 unfoldable pub outline : Sizes → List (List ℕ) → List ℕ → Checked
-outline z l b = also (exactly (tally z l .points) 1 (z .formulas) b) (unless (every (outlinedAt l) (numbers (tally z l .points) b)) Sort Passed)
+outline z l b = also (exactly (tally z l .points) 1 (z .formulas) b)
+    (unless (every (outlinedAt l) (numbers (tally z l .points) b)) Sort Passed)
 
 -- a line number per obligation, 0 for none
 unfoldable pub obligations : Sizes → List (List ℕ) → List ℕ → Checked

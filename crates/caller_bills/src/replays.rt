@@ -1,8 +1,8 @@
 // A caller's replay that is refused.
-use replaying::answer::Answer;
-use replaying::answer::write_numbers;
+use shown::answer::Answer;
+use shown::answer::write_numbers;
 ghost use mathlib.Core.Path.{_≡_};
-ghost use Rattle.replaying.specs.Answer.{size};
+ghost use Rattle.shown.specs.Answer.{size};
 ghost use Rattle.requests.specs.Request.{cleared};
 
 // No replay: all its numbers are 0, if there is room for them.

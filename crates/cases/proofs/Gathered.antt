@@ -9,7 +9,8 @@ use Rattle.report.specs.Fields.{fieldsOf}
 use Rattle.cases.specs.Fields.{fieldsAt, sameFields}
 use Rattle.cases.specs.Judge.{withVerdict}
 
-pub running-verdict : (t r : Tally) (left : ℕ) (v : Verdict) (s : List ℕ) → 0 < left → Running t left → r ≡ withVerdict t v s → Running r (left - 1)
+pub running-verdict : (t r : Tally) (left : ℕ) (v : Verdict) (s : List ℕ) → 0 < left → Running t left → r ≡ withVerdict t v s
+    → Running r (left - 1)
 unfolding withVerdict
 running-verdict t r left v s h f e = running-more t r left (fieldsOf v .code) (sameFields (fieldsOf v) (fieldsAt s)) h f e
 

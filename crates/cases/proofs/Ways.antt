@@ -13,13 +13,16 @@ use Rattle.stored.specs.declared.tally.Tally.{Tally}
 use Rattle.cases.specs.Fields.{fieldsAt, sameFields}
 use Rattle.cases.specs.Judge.{withVerdict}
 
-pub fields-read : (s : List ℕ) (a b c d e f g h i : ℕ) → a ≡ word (drop 0 s) → b ≡ word (drop 2 s) → c ≡ word (drop 4 s) → d ≡ word (drop 6 s) → e ≡ word (drop 8 s)
+pub fields-read : (s : List ℕ) (a b c d e f g h i : ℕ) → a ≡ word (drop 0 s) → b ≡ word (drop 2 s) → c ≡ word (drop 4 s)
+    → d ≡ word (drop 6 s) → e ≡ word (drop 8 s)
     → f ≡ word (drop 10 s) → g ≡ word (drop 12 s) → h ≡ word (drop 14 s) → i ≡ word (drop 16 s)
-    → record { code = a; «record» = b; class = c; thread = d; point = e; «other_thread» = f; «other_point» = g; line = h; count = i } ≡ fieldsAt s
+    → record { code = a; «record» = b; class = c; thread = d; point = e; «other_thread» = f; «other_point» = g; line = h; count = i }
+    ≡ fieldsAt s
 unfolding fieldsAt
 fields-read s a b c d e f g h i ea eb ec ed ee ef eg eh ei = rw (ea, eb, ec, ed, ee, ef, eg, eh, ei)
 
-pub verdict-counted : (t r : Tally) (v : Verdict) (s : List ℕ) (f g : Fields) (same : Bool) → f ≡ fieldsOf v → g ≡ fieldsAt s → same ≡ sameFields f g → r ≡ withCase t (f .code) same
+pub verdict-counted : (t r : Tally) (v : Verdict) (s : List ℕ) (f g : Fields) (same : Bool) → f ≡ fieldsOf v → g ≡ fieldsAt s
+    → same ≡ sameFields f g → r ≡ withCase t (f .code) same
     → r ≡ withVerdict t v s
 unfolding withVerdict
 verdict-counted t r v s f g same ef eg es er = rw (← ef, ← eg, ← es) er

@@ -25,8 +25,10 @@ fieldsAt s =
 -- from the class to the other point
 unfoldable pub samePlace : Fields → Fields → Bool
 samePlace a b =
-    eqb (a .class) (b .class) && (eqb (a .thread) (b .thread) && (eqb (a .point) (b .point) && (eqb (a .«other_thread») (b .«other_thread») && eqb (a .«other_point») (b .«other_point»))))
+    eqb (a .class) (b .class) && (eqb (a .thread) (b .thread)
+    && (eqb (a .point) (b .point) && (eqb (a .«other_thread») (b .«other_thread») && eqb (a .«other_point») (b .«other_point»))))
 
 -- in all nine
 unfoldable pub sameFields : Fields → Fields → Bool
-sameFields a b = eqb (a .code) (b .code) && (eqb (a .«record») (b .«record») && (eqb (a .line) (b .line) && (eqb (a .count) (b .count) && samePlace a b)))
+sameFields a b = eqb (a .code) (b .code) && (eqb (a .«record») (b .«record»)
+    && (eqb (a .line) (b .line) && (eqb (a .count) (b .count) && samePlace a b)))

@@ -49,29 +49,43 @@ module _ (P : Program) (C : Certificate) where
   marks-in zero k h = absurd h
   marks-in (suc n) k h = go (eqb k (suc n)) refl h (λ g. marks-in n k g)
     where
-      go : (b : Bool) → eqb k (suc n) ≡ b → T (cond b (lineFits P C (suc n) && all (marked P C n) (C .line (suc n) .premises)) (marked P C n k)) → (T (marked P C n k) → Within n k) → Within (suc n) k
+      go : (b : Bool) → eqb k (suc n) ≡ b → T (cond b (lineFits P C (suc n) && all (marked P C n) (C .line (suc n) .premises))
+          (marked P C n k)) → (T (marked P C n k) → Within n k) → Within (suc n) k
       go true e h ih = let q = eqb-true k (suc n) e in (omega arith, omega arith)
       go false e h ih = let w = ih h in (w .0, omega (arith, w .1))
 
   -- a marked line fits, and its premises are marked
-  mark-gives : (k : ℕ) → T (marked P C (C .count) k) → T (lineFits P C k) × ((i : ℕ) → i < length (C .line k .premises) → T (marked P C (C .count) (getD (C .line k .premises) i 0)) × (getD (C .line k .premises) i 0 < k))
+  mark-gives : (k : ℕ) → T (marked P C (C .count) k)
+      → T (lineFits P C k) × ((i : ℕ) → i < length (C .line k .premises)
+      → T (marked P C (C .count) (getD (C .line k .premises) i 0)) × (getD (C .line k .premises) i 0 < k))
   mark-gives zero h = let w = marks-in (C .count) 0 h in absurd (omega (arith, w .0))
   mark-gives (suc n) h =
       let w = marks-in (C .count) (suc n) h in
-      let g : T (lineFits P C (suc n) && all (marked P C n) (C .line (suc n) .premises)) = subst T (mark-stays (C .count) (suc n) (suc n) (omega arith) (w .1) ∙ mark-new n) h in
-      (and-left (lineFits P C (suc n)) _ g, λ i b. earlier i (each-at (marked P C n) (C .line (suc n) .premises) (and-right (lineFits P C (suc n)) (all (marked P C n) (C .line (suc n) .premises)) g) i b) (w .1))
+      let g : T (lineFits P C (suc n) && all (marked P C n) (C .line (suc n) .premises)) =
+      subst T (mark-stays (C .count) (suc n) (suc n) (omega arith) (w .1) ∙ mark-new n) h in (
+        and-left (lineFits P C (suc n)) _ g,
+        λ i b. earlier i
+            (each-at (marked P C n) (C .line (suc n) .premises)
+            (and-right (lineFits P C (suc n)) (all (marked P C n) (C .line (suc n) .premises)) g) i b) (w .1),
+      )
     where
-      earlier : (i : ℕ) → T (marked P C n (getD (C .line (suc n) .premises) i 0)) → suc n ≤ C .count → T (marked P C (C .count) (getD (C .line (suc n) .premises) i 0)) × (getD (C .line (suc n) .premises) i 0 < suc n)
+      earlier : (i : ℕ) → T (marked P C n (getD (C .line (suc n) .premises) i 0)) → suc n ≤ C .count
+          → T (marked P C (C .count) (getD (C .line (suc n) .premises) i 0)) × (getD (C .line (suc n) .premises) i 0 < suc n)
       earlier i g b =
           let w = marks-in n (getD (C .line (suc n) .premises) i 0) g in
           (subst T (sym (mark-stays (C .count) n (getD (C .line (suc n) .premises) i 0) (w .1) (omega arith))) g, omega (arith, w .1))
 
-  mark-takes : (k : ℕ) → Within (C .count) k → T (lineFits P C k) → ((i : ℕ) → i < length (C .line k .premises) → T (marked P C (C .count) (getD (C .line k .premises) i 0)) × (getD (C .line k .premises) i 0 < k))
+  mark-takes : (k : ℕ) → Within (C .count) k → T (lineFits P C k)
+      → ((i : ℕ) → i < length (C .line k .premises) → T (marked P C (C .count) (getD (C .line k .premises) i 0))
+      × (getD (C .line k .premises) i 0 < k))
       → T (marked P C (C .count) k)
   mark-takes zero w f h = absurd (omega (arith, w .0))
   mark-takes (suc n) w f h =
       subst T (sym (mark-stays (C .count) (suc n) (suc n) (omega arith) (w .1) ∙ mark-new n))
-      (and-both (lineFits P C (suc n)) (all (marked P C n) (C .line (suc n) .premises)) f (all-at (marked P C n) (C .line (suc n) .premises) (λ i b. let z = h i b in subst T (mark-stays (C .count) n (getD (C .line (suc n) .premises) i 0) (omega (arith, z .1)) (omega (arith, w .1))) (z .0))))
+      (and-both (lineFits P C (suc n)) (all (marked P C n) (C .line (suc n) .premises)) f
+      (all-at (marked P C n) (C .line (suc n) .premises)
+      (λ i b. let z = h i b in subst T (mark-stays (C .count) n (getD (C .line (suc n) .premises) i 0) (omega (arith, z .1))
+      (omega (arith, w .1))) (z .0))))
 
   -- marked: justified. By induction on a bound of the line's number
   just-below : (n k : ℕ) → k ≤ n → T (marked P C (C .count) k) → Justified P C k
@@ -94,11 +108,14 @@ module _ (P : Program) (C : Certificate) where
       (λ i b. (justified-marked L (getD (C .line k .premises) i 0) (f i b), L .lower k w i b))
 
   -- justified: derived
-  pub justified-derived : ((n : ℕ) → Within (C .count) n → T (admitted P (C .line n .says))) → (k : ℕ) → Justified P C k → Derived P (C .line k .says)
+  pub justified-derived : ((n : ℕ) → Within (C .count) n → T (admitted P (C .line n .says))) → (k : ℕ) → Justified P C k
+      → Derived P (C .line k .says)
   justified-derived ok k (justified w d f) =
-      by-rule d (ok k w) (λ i b. at-place (λ p. C .line p .says) (C .line k .premises) i (C .line k .says) (λ c. justified-derived ok (getD (C .line k .premises) i 0) (f i c)) b)
+      by-rule d (ok k w) (λ i b. at-place (λ p. C .line p .says) (C .line k .premises) i (C .line k .says)
+      (λ c. justified-derived ok (getD (C .line k .premises) i 0) (f i c)) b)
     where
-      at-place : (g : ℕ → Statement) (l : List ℕ) (i : ℕ) (d : Statement) → (i < length l → Derived P (g (getD l i 0))) → i < length (map g l) → Derived P (getD (map g l) i d)
+      at-place : (g : ℕ → Statement) (l : List ℕ) (i : ℕ) (d : Statement) → (i < length l → Derived P (g (getD l i 0)))
+          → i < length (map g l) → Derived P (getD (map g l) i d)
       at-place g [] i d h b = absurd (omega arith)
       at-place g (x ∷ l) zero d h b = h (omega arith)
       at-place g (x ∷ l) (suc i) d h b = at-place g l i d (λ c. h (omega arith)) (omega arith)

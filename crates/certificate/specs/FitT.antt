@@ -23,7 +23,7 @@ use Rattle.compare.specs.Same.{sameTree}
 use Rattle.compare.specs.Replace.{NoteT, replaceT, oneName, named}
 use Rattle.occurs.specs.Occurs.{occurs, register, wordAnyRole, flag}
 use Rattle.trees.specs.ToTree.{toTree, noteT}
-use Rattle.rows.specs.Entailment.{ImpT}
+use Rattle.entailment.specs.Entailment.{ImpT}
 use Rattle.rows.specs.Rows.{rowsT, tableT}
 use Rattle.matcher.specs.Template.{numHole, formulaHole, patternToTree, Holes, instT}
 use Rattle.matcher.specs.Match.{Taken, andThen, when, matchT}
@@ -124,7 +124,11 @@ matchPremises i k implications vs b = when (leb (length vs) Limits.premises && a
 -- before the match: the thread, the word, the register and the formula of the instruction are set
 abbrev pub preset : ℕ → Acting → Taken
 preset t c = record {
-  num = λ j. elim (eqb j (numHole Pattern.t)) [ true ↦ some t | false ↦ elim (eqb j (numHole Pattern.x)) [ true ↦ some (c .word) | false ↦ elim (eqb j (numHole Pattern.r)) [ true ↦ some (c .register) | false ↦ none ] ] ];
+  num = λ j. elim (eqb j (numHole Pattern.t)) [
+    | true ↦ some t
+    | false ↦ elim (eqb j (numHole Pattern.x))
+        [ true ↦ some (c .word) | false ↦ elim (eqb j (numHole Pattern.r)) [ true ↦ some (c .register) | false ↦ none ] ]
+  ];
   tree = λ j. elim (eqb j formulaHole) [ true ↦ some (c .formula) | false ↦ none ];
 }
 
@@ -161,7 +165,8 @@ module _ (a : Acting) where
 
   -- the word in no role, nor the result register of an exchange or a fetch-add
   abbrev pub apartT : Tree → Bool
-  apartT u = not (occurs (wordAnyRole (a .word)) [] u) && (not (isAmong (a .operation) Rules.returning) || not (occurs (register (a .register)) [] u))
+  apartT u = not (occurs (wordAnyRole (a .word)) [] u)
+      && (not (isAmong (a .operation) Rules.returning) || not (occurs (register (a .register)) [] u))
 
   abbrev pub keepsT : Tree → Bool
   keepsT u = elim (isAmong (a .operation) Rules.loads) [
@@ -183,7 +188,8 @@ module _ (a : Acting) where
 module _ (h : Setup) (a : Acting) where
   abbrev pub sideT : Holes → TreeConclusion → List TreeConclusion → Side → Bool
   sideT c v vs (p is q with b) = sameTree (replaceT (replacing a b) (instT c (patternToTree q))) (instT c (patternToTree p))
-  sideT c v vs (start-of n p) = sameTree (instT c (patternToTree p)) (node (byte Code.const) (h .init (c .num (numHole n))) Tree.none Tree.none)
+  sideT c v vs (start-of n p) = sameTree (instT c (patternToTree p))
+      (node (byte Code.const) (h .init (c .num (numHole n))) Tree.none Tree.none)
   sideT c v vs (starts-at-0 n) = h .cleared (c .num (numHole n))
   sideT c v vs (is-new p) = sameTree (instT c (patternToTree p)) (freshT a)
   sideT c v vs (kept p) = keepsT a (instT c (patternToTree p))

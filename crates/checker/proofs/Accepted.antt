@@ -76,7 +76,8 @@ module _ (s : List ℕ) where
   unfolding codeFor verdict
   judged-right b D e = record {
     only-if = λ h. right-met D (finding D) right (coded (ltb (length b) size) h);
-    if-met = λ r h g. rw (le-ltb _ _ r) (ap (λ (v : Verdict). fieldsOf v .code) (answer ∙ ap (judged D) (each-accepted D A h g)) ∙ met-code D (total D));
+    if-met = λ r h g. rw (le-ltb _ _ r) (ap (λ (v : Verdict). fieldsOf v .code) (answer ∙ ap (judged D) (each-accepted D A h g))
+        ∙ met-code D (total D));
     finding = finding D;
     right = right;
     answer = answer;
@@ -96,7 +97,8 @@ module _ (s : List ℕ) where
       coded false h = subst (λ (v : Verdict). fieldsOf v .code ≡ 0) answer h
 
   -- DEMANDS 1, 2 AND 3, of what the code answers and leaves in the buffer
-  pub promised : (b : List ℕ) (v : Verdict) (c : ℕ) (after : List ℕ) → v ≡ verdict s → c ≡ codeFor v b → after ≡ bytesFor v b → Promise s b c after
+  pub promised : (b : List ℕ) (v : Verdict) (c : ℕ) (after : List ℕ) → v ≡ verdict s → c ≡ codeFor v b → after ≡ bytesFor v b
+      → Promise s b c after
   promised b v c after e f g =
       let q : c ≡ codeFor (verdict s) b = f ∙ ap (λ (w : Verdict). codeFor w b) e in
       record {

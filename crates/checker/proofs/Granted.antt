@@ -41,7 +41,8 @@ module _ (s : List ℕ) (d : Decoded) (e : d ≡ decoded s) where
   unfolding acceptance
   declined-bytes f i h = rw (← e, h)
 
-  pub granted-found : (z : Sizes) (v : Verdict) (r : Acceptance) → d ≡ Decoded.Sound z → v ≡ soundVerdict s z → r ≡ grantedBy z v → r ≡ acceptance s
+  pub granted-found : (z : Sizes) (v : Verdict) (r : Acceptance) → d ≡ Decoded.Sound z → v ≡ soundVerdict s z → r ≡ grantedBy z v
+      → r ≡ acceptance s
   unfolding acceptance
   granted-found z v r h g q = q ∙ ap (grantedBy z) (judge-found s d e z v h g) ∙ ap (λ (x : Decoded). acceptedAs x (verdict s)) (sym h ∙ e)
 

@@ -100,7 +100,8 @@ ended-within i c b = go (ltb (c .last) Kinds.obligations)
     count : ℕ → ℕ
     count k = getD (c .count) k 0
 
-    go : (p : Bool) → Within (cond p (Framing.Refused Kind i) (Framing.Sound (count Kinds.formula) (count Kinds.thread) (count Kinds.line) (count Kinds.last)))
+    go : (p : Bool) → Within (cond p (Framing.Refused Kind i)
+        (Framing.Sound (count Kinds.formula) (count Kinds.thread) (count Kinds.line) (count Kinds.last)))
     go true = let f = b .few in omega arith
     go false = let f = b .few in let g = b .fewer Kinds.formula in omega arith
 
@@ -135,7 +136,8 @@ pub header-threads : (t : ℕ) (b : List ℕ) → header t b ≡ Passed → getD
 unfolding header headed
 header-threads t b e =
     let h = unless-passed _ _ _ (unless-passed _ _ _ (unless-passed _ _ _ e .1) .1) .0 in
-    let lists = every (within 0 (valueRange b - 1)) (startValues b) && (every (within 1 (getD b 0 0)) (owners b) && every (within 0 1) (marks b)) in
+    let lists = every (within 0 (valueRange b - 1)) (startValues b)
+    && (every (within 1 (getD b 0 0)) (owners b) && every (within 0 1) (marks b)) in
     counted-in t b (and-true (Header.counted t b) lists h .0) .threads .1
 
 refused-number : (f g : Fault) (i r : ℕ) → _≡_ {A = Decoded} (Refused f i) (Refused g r) → i ≡ r

@@ -63,7 +63,8 @@ fault-small Operand = omega arith
 code-small : (D : Image) (o : Logic.Obligation) (n : ℕ) → Outline.code D o n ≤ 22
 unfolding Outline.lineCode
 code-small D o n =
-    go (eqb n 0) (sameStatement (Outline.asks D o) (D .certificate .line n .says)) (marked (D .program) (D .certificate) (D .certificate .count) n)
+    go (eqb n 0) (sameStatement (Outline.asks D o) (D .certificate .line n .says))
+    (marked (D .program) (D .certificate) (D .certificate .count) n)
   where
     go : (a b c : Bool) → Outline.codeOf a b c ≤ 22
     go true b c = omega arith
@@ -223,7 +224,8 @@ module _ (s : List ℕ) (z : Sizes) (c : Checks z (bodies s)) where
       let f = few in
       let r = all-at (InRange P) (obligations P) (n - 0) (start 0) (obligations-ranged P) (h .inside) in
       let q = named-few n in
-      failed-uncut o x _ _ (subst Named (h .its) (ranged-named _ r)) (let b = code-small D o l in omega (arith, h .fails)) (omega (arith, h .line, h .inside))
+      failed-uncut o x _ _ (subst Named (h .its) (ranged-named _ r)) (let b = code-small D o l in omega (arith, h .fails))
+      (omega (arith, h .line, h .inside))
       (omega (arith, h .line, h .inside))
 
 -- of the verdict on any image

@@ -16,8 +16,8 @@ use Rattle.outline.specs.Verdict as Outline
 use Rattle.outline.specs.Verdict.{Finding, accepted, denied, outcome, judgeClaims, behindObligations}
 use Rattle.content.specs.Program.{programOf}
 use Rattle.content.specs.Image.{claimBody, claimPlace, imageOf, resultOf, decode}
-use Rattle.content.specs.Places.{claimedIn}
-use Rattle.content.specs.declared.claim.Claimed.{Claimed}
+use Rattle.lookups.specs.Places.{claimedIn}
+use Rattle.lookups.specs.declared.claim.Claimed.{Claimed}
 use Rattle.content.proofs.Checked.{sound-checks}
 use Rattle.marks.specs.declared.Marks.{Marks}
 use Rattle.justify.specs.Pass.{marksTo}
@@ -34,7 +34,8 @@ use Rattle.report.specs.declared.verdict.Verdict.the-variants as Verdict
 use Rattle.checker.specs.Answer.{judged, answered, verdict}
 use Rattle.checker.specs.Found.{pointsOf, deniedAt, claimsVerdict, verdictOf, soundVerdict}
 
-pub denied-placed : (s : List ℕ) (z : Sizes) (i n : ℕ) (c : Claimed) (k : ℕ) (p : Place) → c ≡ claimedIn (claimBody z (bodies s) i) → k ≡ claimPlace z i → p ≡ pointsOf c
+pub denied-placed : (s : List ℕ) (z : Sizes) (i n : ℕ) (c : Claimed) (k : ℕ) (p : Place) → c ≡ claimedIn (claimBody z (bodies s) i)
+    → k ≡ claimPlace z i → p ≡ pointsOf c
     → Verdict.Denied k p (c .line) n ≡ deniedAt s z i n
 unfolding deniedAt
 denied-placed s z i n c k p ec ek ep = rw (ep, ek, ec)
@@ -50,7 +51,8 @@ module _ (s : List ℕ) (z : Sizes) (m : Marks) (n k : ℕ) (e : k ≡ firstDeni
 
 pub ruleset denying = (denied-placed, claims-borne, claims-denied)
 
-module _ (s : List ℕ) (z : Sizes) (m : Marks) (r : Outcome) (e : m ≡ marksTo s z (z .lines)) (d : r ≡ judgeAt s z m (obligations (programOf z (bodies s))) 0) where
+module _ (s : List ℕ) (z : Sizes) (m : Marks) (r : Outcome) (e : m ≡ marksTo s z (z .lines))
+    (d : r ≡ judgeAt s z m (obligations (programOf z (bodies s))) 0) where
   sound-is : verdictOf s z m r ≡ soundVerdict s z
   unfolding soundVerdict
   sound-is = rw (← e, ← d)
@@ -72,7 +74,8 @@ module _ (s : List ℕ) (d : Decoded) (e : d ≡ decoded s) where
     abbrev D : Outline.Image
     D = imageOf z (bodies s)
 
-    agree : ((n : ℕ) → judgeClaims D (z .claims) 0 n ≡ cond (eqb (firstDenied s z m (z .claims) 0) (z .claims)) (accepted n) (denied (firstDenied s z m (z .claims) 0) n))
+    agree : ((n : ℕ) → judgeClaims D (z .claims) 0 n ≡ cond (eqb (firstDenied s z m (z .claims) 0) (z .claims)) (accepted n)
+        (denied (firstDenied s z m (z .claims) 0) n))
         → (x : Outline.Outcome) → verdictOf s z m (toOutcome x) ≡ judged D (behindObligations D x)
     unfolding claimsVerdict deniedAt claimedIn pointsOf
     agree h (Outline.met n) = rw (h n) (go (eqb (firstDenied s z m (z .claims) 0) (z .claims)))
@@ -92,6 +95,7 @@ module _ (s : List ℕ) (d : Decoded) (e : d ≡ decoded s) where
       let c = sound-checks s z q in
       let m = marksTo s z (z .lines) in
       g ∙ ap (verdictOf s z m) (judged-is s z c m (λ k w. marks-are s z c k))
-      ∙ agree z m (claims-are s z c m (λ k w. marks-are s z c k)) (outcome (imageOf z (bodies s))) ∙ ap (λ (x : Decoded). answered (resultOf (bodies s) x)) (sym q)
+      ∙ agree z m (claims-are s z c m (λ k w. marks-are s z c k)) (outcome (imageOf z (bodies s)))
+      ∙ ap (λ (x : Decoded). answered (resultOf (bodies s) x)) (sym q)
 
 pub ruleset judging = (judge-refused, judge-found)

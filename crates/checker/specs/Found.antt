@@ -7,9 +7,9 @@ use Rattle.logic.specs.Obligations.{obligations}
 use Rattle.frames.specs.Records.{bodies}
 use Rattle.program.specs.declared.sizes.Sizes.{Sizes}
 use Rattle.content.specs.Image.{claimBody, claimPlace}
-use Rattle.content.specs.Places.{claimedIn}
+use Rattle.lookups.specs.Places.{claimedIn}
 use Rattle.content.specs.Program.{programOf}
-use Rattle.content.specs.declared.claim.Claimed.{Claimed}
+use Rattle.lookups.specs.declared.claim.Claimed.{Claimed}
 use Rattle.marks.specs.declared.Marks.{Marks}
 use Rattle.justify.specs.Pass.{marksTo}
 use Rattle.outcomes.specs.Claims.{firstDenied}
@@ -26,11 +26,13 @@ pointsOf c = record { class = 0; thread = c .thread; point = c .point; «other_t
 module _ (s : List ℕ) (z : Sizes) where
   -- claim i fails, behind so many obligations
   unfoldable pub deniedAt : ℕ → ℕ → Verdict
-  deniedAt i n = Verdict.Denied (claimPlace z i) (pointsOf (claimedIn (claimBody z (bodies s) i))) (claimedIn (claimBody z (bodies s) i) .line) n
+  deniedAt i n = Verdict.Denied (claimPlace z i) (pointsOf (claimedIn (claimBody z (bodies s) i)))
+      (claimedIn (claimBody z (bodies s) i) .line) n
 
   -- the claims, behind so many obligations
   unfoldable pub claimsVerdict : Marks → ℕ → Verdict
-  claimsVerdict m n = cond (eqb (firstDenied s z m (z .claims) 0) (z .claims)) (Verdict.Accepted n) (deniedAt (firstDenied s z m (z .claims) 0) n)
+  claimsVerdict m n = cond (eqb (firstDenied s z m (z .claims) 0) (z .claims)) (Verdict.Accepted n)
+      (deniedAt (firstDenied s z m (z .claims) 0) n)
 
   abbrev pub verdictOf : Marks → Outcome → Verdict
   verdictOf m (Met n) = claimsVerdict m n

@@ -16,7 +16,8 @@ use Rattle.report.specs.declared.verdict.Verdict.{Verdict}
 use Rattle.checker.specs.Answer.{judged, verdict}
 use Rattle.checker.specs.Uncut.{Uncut}
 
--- the image says what `content` has, and after every finite list of steps of that program, refused ones among them, each thread's assertion at its point is true
+-- the image says what `content` has, and after every finite list of steps of that program, refused ones among them, each thread's
+-- assertion at its point is true
 -- and no claim's threads are at its points together
 pub record TrueInEveryRun (image : List ℕ) : Type 0 where
   pub content : Image

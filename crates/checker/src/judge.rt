@@ -1,8 +1,5 @@
 // The verdict on an image: the first fault of its bytes, or the first obligation that is not met, or the first claim that fails, or
 // accepted.
-use content::claim::Claimed;
-use content::claim::claim_of;
-use content::claim::claim_place;
 use frames::fault::Fault;
 use image::decode::Decoded;
 use image::decode::decode_image;
@@ -10,6 +7,9 @@ use index::table::IndexSize;
 use index::table::fill_index;
 use judging::judge::judge_obligations;
 use justify::pass::judge_lines;
+use lookups::claim::Claimed;
+use lookups::claim::claim_of;
+use lookups::claim::claim_place;
 use outcomes::claims::first_denied;
 use outcomes::outcome::Outcome;
 use program::sizes::Sizes;

@@ -76,9 +76,33 @@ module _ (R c o a b : ℕ) where
   unfolding combine
   combine-holds e = rw e
 
-  pub combine-other : (c ≡ byte Code.const → ⊥) → (c ≡ byte Code.sum → ⊥) → (c ≡ byte Code.equal → ⊥) → (c ≡ byte Code.less → ⊥) → (c ≡ byte Code.not → ⊥) → (c ≡ byte Code.and → ⊥)
+  pub combine-other : (c ≡ byte Code.const → ⊥) → (c ≡ byte Code.sum → ⊥) → (c ≡ byte Code.equal → ⊥) → (c ≡ byte Code.less → ⊥)
+      → (c ≡ byte Code.not → ⊥) → (c ≡ byte Code.and → ⊥)
       → (c ≡ byte Code.or → ⊥) → (c ≡ byte Code.bothA → ⊥) → (c ≡ byte Code.eitherA → ⊥) → (c ≡ byte Code.holds → ⊥) → 0 ≡ combine R c o a b
   unfolding combine
-  combine-other a b c d e f g h i j = rw (ne-eqb _ _ a, ne-eqb _ _ b, ne-eqb _ _ c, ne-eqb _ _ d, ne-eqb _ _ e, ne-eqb _ _ f, ne-eqb _ _ g, ne-eqb _ _ h, ne-eqb _ _ i, ne-eqb _ _ j)
+  combine-other a b c d e f g h i j = rw (
+    ne-eqb _ _ a,
+    ne-eqb _ _ b,
+    ne-eqb _ _ c,
+    ne-eqb _ _ d,
+    ne-eqb _ _ e,
+    ne-eqb _ _ f,
+    ne-eqb _ _ g,
+    ne-eqb _ _ h,
+    ne-eqb _ _ i,
+    ne-eqb _ _ j,
+  )
 
-pub ruleset combines = (combine-const, combine-sum, combine-equal, combine-less, combine-not, combine-and, combine-or, combine-both, combine-either, combine-holds, combine-other)
+pub ruleset combines = (
+  combine-const,
+  combine-sum,
+  combine-equal,
+  combine-less,
+  combine-not,
+  combine-and,
+  combine-or,
+  combine-both,
+  combine-either,
+  combine-holds,
+  combine-other,
+)

@@ -30,7 +30,8 @@ module _ {A : Type 0} (f : ℕ → A) where
   column-getD d (suc n) i h = ap (λ (l : List A). getD l i d) (column-step n) ∙ go (ltb i n) refl (column-getD d n i)
     where
       go : (b : Bool) → ltb i n ≡ b → (i < n → getD (column f n) i d ≡ f i) → getD (column f n ++ (f n ∷ [])) i d ≡ f i
-      go true e ih = List·getD-append (column f n) (f n ∷ []) d i (let k = column-length n in omega (arith, ltb-true i n e)) ∙ ih (ltb-true i n e)
+      go true e ih = List·getD-append (column f n) (f n ∷ []) d i (let k = column-length n in omega (arith, ltb-true i n e))
+          ∙ ih (ltb-true i n e)
       go false e ih =
           let q : i ≡ n = omega (arith, ltb-false i n e) in
           rw q (getD-at (column f n) (f n) [] d n (column-length n))

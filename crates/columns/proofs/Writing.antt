@@ -13,7 +13,8 @@ use Rattle.columns.specs.Column.{column, constant, combined, denyOf, den
 use Rattle.columns.proofs.Listed.{column-none, column-step}
 
 -- one more value written
-pub column-more : (f : ℕ → ℕ) (o a : List ℕ) (i n x : ℕ) → i < n → n ≤ length o → length a ≡ length o → take i a ≡ column f i → x ≡ f i → take (i + 1) (set a i x) ≡ column f (i + 1)
+pub column-more : (f : ℕ → ℕ) (o a : List ℕ) (i n x : ℕ) → i < n → n ≤ length o → length a ≡ length o → take i a ≡ column f i → x ≡ f i
+    → take (i + 1) (set a i x) ≡ column f (i + 1)
 column-more f o a i n x h k l e d = rw (add-one i) (take-suc-set a i x (omega arith) ∙ rw (e, d, column-step f i))
 
 -- the values that are still to be written are as they were
@@ -21,7 +22,8 @@ pub rest-more : (a b : List ℕ) (i x : ℕ) → drop i a ≡ drop i b → drop 
 rest-more a b i x e = drop-set-lt (i + 1) a i x (omega arith) ∙ sym (drop-drop 1 i a) ∙ ap (drop 1) e ∙ drop-drop 1 i b
 
 pub rest-at : (a b : List ℕ) (i : ℕ) → drop i a ≡ drop i b → getD a i 0 ≡ getD b i 0
-rest-at a b i e = let z : i + 0 ≡ i = omega arith in sym (rw z at (getD-drop i a 0 0)) ∙ ap (λ (l : List ℕ). getD l 0 0) e ∙ rw z at (getD-drop i b 0 0)
+rest-at a b i e = let z : i + 0 ≡ i = omega arith in
+    sym (rw z at (getD-drop i a 0 0)) ∙ ap (λ (l : List ℕ). getD l 0 0) e ∙ rw z at (getD-drop i b 0 0)
 
 pub column-begin : (f : ℕ → ℕ) (a : List ℕ) → take 0 a ≡ column f 0
 column-begin f a = sym (column-none f)
@@ -35,7 +37,8 @@ module _ (v : ℕ) (a : List ℕ) where
   unfolding constant
   fill-begin = column-begin (λ (i : ℕ). v) a
 
-  pub fill-more : (o : List ℕ) (i n : ℕ) → i < n → n ≤ length o → length a ≡ length o → take i a ≡ constant v i → take (i + 1) (set a i v) ≡ constant v (i + 1)
+  pub fill-more : (o : List ℕ) (i n : ℕ) → i < n → n ≤ length o → length a ≡ length o → take i a ≡ constant v i
+      → take (i + 1) (set a i v) ≡ constant v (i + 1)
   unfolding constant
   fill-more o i n h k l e = column-more (λ (i : ℕ). v) o a i n v h k l e refl
 
@@ -55,7 +58,8 @@ module _ (R c o : ℕ) (a₀ b a : List ℕ) where
   zip-begin = column-begin made a
 
   module _ (i : ℕ) (e : take i a ≡ combined R c o i a₀ b) where
-    pub zip-more : (n x : ℕ) → i < n → n ≤ length a₀ → length a ≡ length a₀ → drop i a ≡ drop i a₀ → x ≡ combine R c o (getD a i 0) (getD b i 0) → take (i + 1) (set a i x) ≡ combined R c o (i + 1) a₀ b
+    pub zip-more : (n x : ℕ) → i < n → n ≤ length a₀ → length a ≡ length a₀ → drop i a ≡ drop i a₀
+        → x ≡ combine R c o (getD a i 0) (getD b i 0) → take (i + 1) (set a i x) ≡ combined R c o (i + 1) a₀ b
     unfolding combined
     zip-more n x h k l d f = column-more made a₀ a i n x h k l e (f ∙ ap (λ (n : ℕ). combine R c o n (getD b i 0)) (rest-at a a₀ i d))
 
@@ -79,7 +83,8 @@ module _ (a₀ b a : List ℕ) where
   deny-begin = column-begin kept a
 
   module _ (i : ℕ) (e : take i a ≡ denied i a₀ b) where
-    pub deny-more : (n x : ℕ) → i < n → n ≤ length a₀ → length a ≡ length a₀ → drop i a ≡ drop i a₀ → x ≡ denyOf (getD a i 0) (getD b i 0) → take (i + 1) (set a i x) ≡ denied (i + 1) a₀ b
+    pub deny-more : (n x : ℕ) → i < n → n ≤ length a₀ → length a ≡ length a₀ → drop i a ≡ drop i a₀ → x ≡ denyOf (getD a i 0) (getD b i 0)
+        → take (i + 1) (set a i x) ≡ denied (i + 1) a₀ b
     unfolding denied
     deny-more n x h k l d f = column-more kept a₀ a i n x h k l e (f ∙ ap (λ (n : ℕ). denyOf n (getD b i 0)) (rest-at a a₀ i d))
 
@@ -97,14 +102,16 @@ module _ (a : List ℕ) where
 
   pub none-next : (i found v : ℕ) → found ≡ cond (noneBelow a i) 0 1 → v ≡ seenOf found (getD a i 0) → v ≡ cond (noneBelow a (i + 1)) 0 1
   unfolding noneBelow seenOf
-  none-next i found v e d = d ∙ ap (cond (eqb (getD a i 0) 1) 1) e ∙ go (eqb (getD a i 0) 1) (noneBelow a i) ∙ ap (λ (m : ℕ). cond (noneBelow a m) 0 1) (sym (add-one i))
+  none-next i found v e d = d ∙ ap (cond (eqb (getD a i 0) 1) 1) e ∙ go (eqb (getD a i 0) 1) (noneBelow a i)
+      ∙ ap (λ (m : ℕ). cond (noneBelow a m) 0 1) (sym (add-one i))
     where
       go : (x y : Bool) → _≡_ {A = ℕ} (cond x 1 (cond y 0 1)) (cond (elim (not x) as (λ z. Bool) [ true ↦ y | false ↦ false ]) 0 1)
       go true y = refl
       go false y = refl
 
   pub none-end : (i n found : ℕ) → i ≤ n → n ≤ i → found ≡ cond (noneBelow a i) 0 1 → eqb found 0 ≡ noneBelow a n
-  none-end i n found h k e = let q : i ≡ n = omega arith in ap (λ (m : ℕ). eqb m 0) (e ∙ ap (λ (m : ℕ). cond (noneBelow a m) 0 1) q) ∙ go (noneBelow a n)
+  none-end i n found h k e = let q : i ≡ n = omega arith in
+      ap (λ (m : ℕ). eqb m 0) (e ∙ ap (λ (m : ℕ). cond (noneBelow a m) 0 1) q) ∙ go (noneBelow a n)
     where
       go : (x : Bool) → eqb (cond x 0 1) 0 ≡ x
       go true = refl

@@ -38,7 +38,8 @@ pub same-node-none : (c o : ℕ) (l r : Tree) → sameTree (node c o l r) none �
 unfolding sameTree
 same-node-none c o l r = refl
 
-pub same-nodes : (c o d p : ℕ) (l r m s : Tree) → sameTree (node c o l r) (node d p m s) ≡ (eqb c d && (eqb o p && (sameTree l m && sameTree r s)))
+pub same-nodes : (c o d p : ℕ) (l r m s : Tree) → sameTree (node c o l r)
+    (node d p m s) ≡ (eqb c d && (eqb o p && (sameTree l m && sameTree r s)))
 unfolding sameTree
 same-nodes c o d p l r m s = refl
 
@@ -61,7 +62,8 @@ follow f (Ended p q) = Yes p q
 follow f (One p q) = f p q
 follow f (Two p q) = thenSame (f p q) f
 
-and-then : (x : Bool) (e d : ℕ) (y : ℕ → ℕ → Bool) (a : ℕ → ℕ → Same) → cond (x && y e d) (a e d) No ≡ thenSame (cond x (Yes e d) No) (λ p q. cond (y p q) (a p q) No)
+and-then : (x : Bool) (e d : ℕ) (y : ℕ → ℕ → Bool) (a : ℕ → ℕ → Same)
+    → cond (x && y e d) (a e d) No ≡ thenSame (cond x (Yes e d) No) (λ p q. cond (y p q) (a p q) No)
 and-then true e d y a = refl
 and-then false e d y a = refl
 
@@ -76,8 +78,10 @@ rightOf f x = part f (ltb 1 (x .parts)) (part f (ltb 0 (x .parts)) (x .next) .en
 abbrev Through : (Tree → Tree) → Node → Type 0
 Through g x =
     (f : ℕ → ParsedTree)
-    → g (node (x .code) (x .operand) (part f (ltb 0 (x .parts)) (x .next) .tree) (part f (ltb 1 (x .parts)) (part f (ltb 0 (x .parts)) (x .next) .end) .tree))
-    ≡ node (x .code) (x .operand) (g (part f (ltb 0 (x .parts)) (x .next) .tree)) (g (part f (ltb 1 (x .parts)) (part f (ltb 0 (x .parts)) (x .next) .end) .tree))
+    → g (node (x .code) (x .operand) (part f (ltb 0 (x .parts)) (x .next) .tree)
+    (part f (ltb 1 (x .parts)) (part f (ltb 0 (x .parts)) (x .next) .end) .tree))
+    ≡ node (x .code) (x .operand) (g (part f (ltb 0 (x .parts)) (x .next) .tree))
+    (g (part f (ltb 1 (x .parts)) (part f (ltb 0 (x .parts)) (x .next) .end) .tree))
 
 module _ (g : Tree → Tree) (g0 : g none ≡ none) (s : List ℕ) (a m b k : ℕ) (gn : (m ≡ 0 → ⊥) → Through g (nodeAt s a)) where
   abbrev x : Node
@@ -94,27 +98,115 @@ module _ (g : Tree → Tree) (g0 : g none ≡ none) (s : List ℕ) (a m b k : �
 
   by-pair : simOf g (parseTree s m a) (parseTree s k b) ≡ follow sub (pairAt s a m b k)
   unfolding pairAt pairOf
-  by-pair = go (eqb m 0) (eqb k 0) (eqb (x .code) (y .code)) (eqb (x .operand) (y .operand)) (eqb (x .parts) 0) (eqb (x .parts) 1) refl refl refl refl refl refl
+  by-pair = go (eqb m 0) (eqb k 0) (eqb (x .code) (y .code)) (eqb (x .operand) (y .operand)) (eqb (x .parts) 0) (eqb (x .parts) 1) refl
+      refl refl refl refl refl
     where
-      go : (i j c o p q : Bool) → eqb m 0 ≡ i → eqb k 0 ≡ j → eqb (x .code) (y .code) ≡ c → eqb (x .operand) (y .operand) ≡ o → eqb (x .parts) 0 ≡ p → eqb (x .parts) 1 ≡ q → simOf g (parseTree s m a) (parseTree s k b) ≡ follow sub (pairAt s a m b k)
-      go true true c o p q e₁ e₂ e₃ e₄ e₅ e₆ = rw (e₁, e₂, parse-zero s m a (eqb-true _ _ e₁), parse-zero s k b (eqb-true _ _ e₂), g0, same-none)
-      go true false c o p q e₁ e₂ e₃ e₄ e₅ e₆ = rw (e₁, e₂, parse-zero s m a (eqb-true _ _ e₁), parse-step s k b (eqb-false _ _ e₂), g0, same-none-node)
-      go false true c o p q e₁ e₂ e₃ e₄ e₅ e₆ = rw (e₁, e₂, parse-step s m a (eqb-false _ _ e₁), parse-zero s k b (eqb-true _ _ e₂), gn (eqb-false _ _ e₁) (λ p. parseTree s (m - 1) p), same-node-none)
-      go false false false o p q e₁ e₂ e₃ e₄ e₅ e₆ = rw (e₁, e₂, parse-step s m a (eqb-false _ _ e₁), parse-step s k b (eqb-false _ _ e₂), gn (eqb-false _ _ e₁) (λ p. parseTree s (m - 1) p), same-nodes, e₃)
-      go false false true false p q e₁ e₂ e₃ e₄ e₅ e₆ = rw (e₁, e₂, parse-step s m a (eqb-false _ _ e₁), parse-step s k b (eqb-false _ _ e₂), gn (eqb-false _ _ e₁) (λ p. parseTree s (m - 1) p), same-nodes, e₃, e₄)
+      go : (i j c o p q : Bool) → eqb m 0 ≡ i → eqb k 0 ≡ j → eqb (x .code) (y .code) ≡ c → eqb (x .operand) (y .operand) ≡ o
+          → eqb (x .parts) 0 ≡ p → eqb (x .parts) 1 ≡ q → simOf g (parseTree s m a) (parseTree s k b) ≡ follow sub (pairAt s a m b k)
+      go true true c o p q e₁ e₂ e₃ e₄ e₅ e₆ = rw (
+        e₁,
+        e₂,
+        parse-zero s m a (eqb-true _ _ e₁),
+        parse-zero s k b (eqb-true _ _ e₂),
+        g0,
+        same-none,
+      )
+      go true false c o p q e₁ e₂ e₃ e₄ e₅ e₆ = rw (
+        e₁,
+        e₂,
+        parse-zero s m a (eqb-true _ _ e₁),
+        parse-step s k b (eqb-false _ _ e₂),
+        g0,
+        same-none-node,
+      )
+      go false true c o p q e₁ e₂ e₃ e₄ e₅ e₆ = rw (
+        e₁,
+        e₂,
+        parse-step s m a (eqb-false _ _ e₁),
+        parse-zero s k b (eqb-true _ _ e₂),
+        gn (eqb-false _ _ e₁) (λ p. parseTree s (m - 1) p),
+        same-node-none,
+      )
+      go false false false o p q e₁ e₂ e₃ e₄ e₅ e₆ = rw (
+        e₁,
+        e₂,
+        parse-step s m a (eqb-false _ _ e₁),
+        parse-step s k b (eqb-false _ _ e₂),
+        gn (eqb-false _ _ e₁) (λ p. parseTree s (m - 1) p),
+        same-nodes,
+        e₃,
+      )
+      go false false true false p q e₁ e₂ e₃ e₄ e₅ e₆ =
+          rw (
+            e₁,
+            e₂,
+            parse-step s m a (eqb-false _ _ e₁),
+            parse-step s k b (eqb-false _ _ e₂),
+            gn (eqb-false _ _ e₁) (λ p. parseTree s (m - 1) p),
+            same-nodes,
+            e₃,
+            e₄,
+          )
       go false false true true true q e₁ e₂ e₃ e₄ e₅ e₆ =
           let n : x .parts ≡ 0 = eqb-true _ _ e₅ in
-          rw (e₁, e₂, parse-step s m a (eqb-false _ _ e₁), parse-step s k b (eqb-false _ _ e₂), gn (eqb-false _ _ e₁) (λ p. parseTree s (m - 1) p), same-nodes, e₃, e₄, e₅, alike e₃, n, g0, same-none)
+          rw (
+            e₁,
+            e₂,
+            parse-step s m a (eqb-false _ _ e₁),
+            parse-step s k b (eqb-false _ _ e₂),
+            gn (eqb-false _ _ e₁) (λ p. parseTree s (m - 1) p),
+            same-nodes,
+            e₃,
+            e₄,
+            e₅,
+            alike e₃,
+            n,
+            g0,
+            same-none,
+          )
       go false false true true false true e₁ e₂ e₃ e₄ e₅ e₆ =
           let n : x .parts ≡ 1 = eqb-true _ _ e₆ in
-          rw (e₁, e₂, parse-step s m a (eqb-false _ _ e₁), parse-step s k b (eqb-false _ _ e₂), gn (eqb-false _ _ e₁) (λ p. parseTree s (m - 1) p), same-nodes, e₃, e₄, e₅, e₆, alike e₃, n, g0, same-none, and-true)
+          rw (
+            e₁,
+            e₂,
+            parse-step s m a (eqb-false _ _ e₁),
+            parse-step s k b (eqb-false _ _ e₂),
+            gn (eqb-false _ _ e₁) (λ p. parseTree s (m - 1) p),
+            same-nodes,
+            e₃,
+            e₄,
+            e₅,
+            e₆,
+            alike e₃,
+            n,
+            g0,
+            same-none,
+            and-true,
+          )
       go false false true true false false e₁ e₂ e₃ e₄ e₅ e₆ =
           let z₀ : x .parts ≡ 0 → ⊥ = eqb-false _ _ e₅ in
           let z₁ : x .parts ≡ 1 → ⊥ = eqb-false _ _ e₆ in
           let t₀ : 0 < x .parts = omega arith in
           let t₁ : 1 < x .parts = omega arith in
-          rw (e₁, e₂, parse-step s m a (eqb-false _ _ e₁), parse-step s k b (eqb-false _ _ e₂), gn (eqb-false _ _ e₁) (λ p. parseTree s (m - 1) p), same-nodes, e₃, e₄, e₅, e₆, alike e₃, lt-ltb _ _ t₀, lt-ltb _ _ t₁)
-          (and-then (sameTree (g (parseTree s (m - 1) (x .next) .tree)) (parseTree s (k - 1) (y .next) .tree)) (parseTree s (m - 1) (x .next) .end) (parseTree s (k - 1) (y .next) .end) (λ p q. sameTree (g (parseTree s (m - 1) p .tree)) (parseTree s (k - 1) q .tree)) (λ p q. Yes (parseTree s (m - 1) p .end) (parseTree s (k - 1) q .end)))
+          rw (
+            e₁,
+            e₂,
+            parse-step s m a (eqb-false _ _ e₁),
+            parse-step s k b (eqb-false _ _ e₂),
+            gn (eqb-false _ _ e₁) (λ p. parseTree s (m - 1) p),
+            same-nodes,
+            e₃,
+            e₄,
+            e₅,
+            e₆,
+            alike e₃,
+            lt-ltb _ _ t₀,
+            lt-ltb _ _ t₁,
+          )
+          (and-then (sameTree (g (parseTree s (m - 1) (x .next) .tree)) (parseTree s (k - 1) (y .next) .tree))
+          (parseTree s (m - 1) (x .next) .end) (parseTree s (k - 1) (y .next) .end)
+          (λ p q. sameTree (g (parseTree s (m - 1) p .tree)) (parseTree s (k - 1) q .tree))
+          (λ p q. Yes (parseTree s (m - 1) p .end) (parseTree s (k - 1) q .end)))
 
 -- parts are read only where nesting is left, on both sides
 shallow : (m k a b : ℕ) (t : Pair) (u : Pair) → t ≡ cond (eqb m 0) (cond (eqb k 0) (Ended a b) Differ) (cond (eqb k 0) Differ u)
@@ -125,9 +217,18 @@ shallow m k a b t u = go (eqb m 0) (eqb k 0) refl refl
     Deep = ((p q : ℕ) → t ≡ One p q → (1 ≤ m) × (1 ≤ k)) × ((p q : ℕ) → t ≡ Two p q → (1 ≤ m) × (1 ≤ k))
 
     go : (i j : Bool) → eqb m 0 ≡ i → eqb k 0 ≡ j → t ≡ cond i (cond j (Ended a b) Differ) (cond j Differ u) → Deep
-    go true true d e h = ((λ p q o. let z : _≡_ {A = ℕ} 0 1 = cc in absurd (omega arith)), (λ p q o. let z : _≡_ {A = ℕ} 0 1 = cc in absurd (omega arith)))
-    go true false d e h = ((λ p q o. let z : _≡_ {A = ℕ} 0 1 = cc in absurd (omega arith)), (λ p q o. let z : _≡_ {A = ℕ} 0 1 = cc in absurd (omega arith)))
-    go false true d e h = ((λ p q o. let z : _≡_ {A = ℕ} 0 1 = cc in absurd (omega arith)), (λ p q o. let z : _≡_ {A = ℕ} 0 1 = cc in absurd (omega arith)))
+    go true true d e h = (
+      (λ p q o. let z : _≡_ {A = ℕ} 0 1 = cc in absurd (omega arith)),
+      (λ p q o. let z : _≡_ {A = ℕ} 0 1 = cc in absurd (omega arith)),
+    )
+    go true false d e h = (
+      (λ p q o. let z : _≡_ {A = ℕ} 0 1 = cc in absurd (omega arith)),
+      (λ p q o. let z : _≡_ {A = ℕ} 0 1 = cc in absurd (omega arith)),
+    )
+    go false true d e h = (
+      (λ p q o. let z : _≡_ {A = ℕ} 0 1 = cc in absurd (omega arith)),
+      (λ p q o. let z : _≡_ {A = ℕ} 0 1 = cc in absurd (omega arith)),
+    )
     go false false d e h =
         let x = eqb-false m 0 d in
         let y = eqb-false k 0 e in
@@ -167,7 +268,8 @@ module _ (s : List ℕ) (a m b k : ℕ) where
   unfolding pairAt
   pair-right e d = rw (ne-eqb _ _ e, eq-eqb _ _ d)
 
-pub pair-deep : (s : List ℕ) (a m b k : ℕ) (x y : Node) (r : Pair) → (m ≡ 0 → ⊥) → (k ≡ 0 → ⊥) → x ≡ nodeAt s a → y ≡ nodeAt s b → r ≡ pairOf x y → r ≡ pairAt s a m b k
+pub pair-deep : (s : List ℕ) (a m b k : ℕ) (x y : Node) (r : Pair) → (m ≡ 0 → ⊥) → (k ≡ 0 → ⊥) → x ≡ nodeAt s a → y ≡ nodeAt s b
+    → r ≡ pairOf x y → r ≡ pairAt s a m b k
 unfolding pairAt
 pair-deep s a m b k x y r zm zk ex ey er = rw (er, ex, ey, ne-eqb _ _ zm, ne-eqb _ _ zk)
 
@@ -182,13 +284,16 @@ module _ (s : List ℕ) (a m b k : ℕ) (t : Pair) (et : t ≡ pairAt s a m b k)
   pub same-ended : (p q : ℕ) → t ≡ Ended p q → Yes p q ≡ sameOf (parseTree s m a) (parseTree s k b)
   same-ended p q d = rw (same-by, d)
 
-  pub same-one : (p q : ℕ) (r : Same) → t ≡ One p q → r ≡ sameOf (parseTree s (m - 1) p) (parseTree s (k - 1) q) → r ≡ sameOf (parseTree s m a) (parseTree s k b)
+  pub same-one : (p q : ℕ) (r : Same) → t ≡ One p q → r ≡ sameOf (parseTree s (m - 1) p) (parseTree s (k - 1) q)
+      → r ≡ sameOf (parseTree s m a) (parseTree s k b)
   same-one p q r d e = rw (same-by, d) e
 
-  pub same-two-no : (p q : ℕ) (r : Same) → t ≡ Two p q → r ≡ sameOf (parseTree s (m - 1) p) (parseTree s (k - 1) q) → r ≡ No → No ≡ sameOf (parseTree s m a) (parseTree s k b)
+  pub same-two-no : (p q : ℕ) (r : Same) → t ≡ Two p q → r ≡ sameOf (parseTree s (m - 1) p) (parseTree s (k - 1) q) → r ≡ No
+      → No ≡ sameOf (parseTree s m a) (parseTree s k b)
   same-two-no p q r d e f = rw (same-by, d, ← e, f)
 
-  pub same-two : (p q p₂ q₂ : ℕ) (r r₂ : Same) → t ≡ Two p q → r ≡ sameOf (parseTree s (m - 1) p) (parseTree s (k - 1) q) → r ≡ Yes p₂ q₂ → r₂ ≡ sameOf (parseTree s (m - 1) p₂) (parseTree s (k - 1) q₂) → r₂ ≡ sameOf (parseTree s m a) (parseTree s k b)
+  pub same-two : (p q p₂ q₂ : ℕ) (r r₂ : Same) → t ≡ Two p q → r ≡ sameOf (parseTree s (m - 1) p) (parseTree s (k - 1) q) → r ≡ Yes p₂ q₂
+      → r₂ ≡ sameOf (parseTree s (m - 1) p₂) (parseTree s (k - 1) q₂) → r₂ ≡ sameOf (parseTree s m a) (parseTree s k b)
   same-two p q p₂ q₂ r r₂ d e f g = rw (same-by, d, ← e, f) g
 
 pub ruleset sames = (same-differ, same-ended, same-one, same-two-no, same-two, one-left, one-right, two-left, two-right, lower)
@@ -234,7 +339,8 @@ pub ruleset seconds = (second-name, second-operand, second-code, second-none)
 
 pub ruleset pairs = (pair-ended, pair-left, pair-right, pair-deep)
 
-replace-node : (σ : ℕ → ℕ → Tree) (c o : ℕ) (l r : Tree) → replaceT σ (node c o l r) ≡ cond (isName c) (σ c o) (node c o (replaceT σ l) (replaceT σ r))
+replace-node : (σ : ℕ → ℕ → Tree) (c o : ℕ) (l r : Tree)
+    → replaceT σ (node c o l r) ≡ cond (isName c) (σ c o) (node c o (replaceT σ l) (replaceT σ r))
 unfolding replaceT
 replace-node σ c o l r = refl
 
@@ -296,7 +402,8 @@ module _ (s : List ℕ) (a k : ℕ) (w : Substitution) where
   hit-other e z = go at-first at-second (rw (ne-eqb _ _ z) at e)
     where
       go : (i j : Bool) → cond i (Name (nodeAt s a .next) (w .by)) (cond j (Name (nodeAt s a .next) (w .with)) Other) ≡ Other
-          → cond i (standsFor s (w .by) .tree) (cond j (standsFor s (w .with) .tree) (node (nodeAt s a .code) (nodeAt s a .operand) none none))
+          → cond i (standsFor s (w .by) .tree) (cond j (standsFor s (w .with) .tree)
+          (node (nodeAt s a .code) (nodeAt s a .operand) none none))
           ≡ node (nodeAt s a .code) (nodeAt s a .operand) none none
       go false false d = refl
       go false true d = let z : _≡_ {A = ℕ} 0 1 = cc in absurd (omega arith)
@@ -313,7 +420,8 @@ module _ (s : List ℕ) (a k : ℕ) (w : Substitution) where
   hit-is n by e = go (eqb k 0) at-first at-second refl refl refl e
     where
       go : (z i j : Bool) → eqb k 0 ≡ z → at-first ≡ i → at-second ≡ j
-          → cond z Other (cond i (Name (nodeAt s a .next) (w .by)) (cond j (Name (nodeAt s a .next) (w .with)) Other)) ≡ Name n by → IsHit n by
+          → cond z Other (cond i (Name (nodeAt s a .next) (w .by)) (cond j (Name (nodeAt s a .next) (w .with)) Other)) ≡ Name n by
+          → IsHit n by
       go true i j e₁ e₂ e₃ d = let z : _≡_ {A = ℕ} 0 1 = cc in absurd (omega arith)
       go false true j e₁ e₂ e₃ d =
           let q : w .by ≡ by = cc in
@@ -345,10 +453,12 @@ pub word-parts : partCount (byte Code.word) ≡ 0
 word-parts = name-parts (byte Code.word) is-word
 
 module _ (s : List ℕ) (by : Replacing) (b k : ℕ) (r : Same) where
-  pub stands-formula : (at left : ℕ) → by ≡ Formula at left → r ≡ sameOf (parseTree s left at) (parseTree s k b) → r ≡ sameOf (standsFor s by) (parseTree s k b)
+  pub stands-formula : (at left : ℕ) → by ≡ Formula at left → r ≡ sameOf (parseTree s left at) (parseTree s k b)
+      → r ≡ sameOf (standsFor s by) (parseTree s k b)
   stands-formula at left e d = rw e d
 
-  pub stands-word : (x : ℕ) → by ≡ Word x → r ≡ sameOf (leafOnly (byte Code.word) x) (parseTree s k b) → r ≡ sameOf (standsFor s by) (parseTree s k b)
+  pub stands-word : (x : ℕ) → by ≡ Word x → r ≡ sameOf (leafOnly (byte Code.word) x) (parseTree s k b)
+      → r ≡ sameOf (standsFor s by) (parseTree s k b)
   stands-word x e d = rw e d
 
 pub ruleset stands = (stands-formula, stands-word, word-parts)
@@ -382,10 +492,12 @@ module _ (s : List ℕ) (a m b k : ℕ) (w : Substitution) (h : Hit) (eh : h ≡
       let p : nodeAt s a .parts ≡ 0 = parts-of s a ∙ name-parts (nodeAt s a .code) (i .name) in
       rw (parse-step s m a (i .deep), replace-node, i .name, i .put, p, i .past)
 
-  pub replaced-hit-no : (n : ℕ) (by : Replacing) (r : Same) → h ≡ Name n by → r ≡ sameOf (standsFor s by) (parseTree s k b) → r ≡ No → No ≡ want
+  pub replaced-hit-no : (n : ℕ) (by : Replacing) (r : Same) → h ≡ Name n by → r ≡ sameOf (standsFor s by) (parseTree s k b) → r ≡ No
+      → No ≡ want
   replaced-hit-no n by r d e f = rw (replaced-name n by d, said-no (standsFor s by) (parseTree s k b) (sym e ∙ f))
 
-  pub replaced-hit : (n : ℕ) (by : Replacing) (p q : ℕ) (r : Same) → h ≡ Name n by → r ≡ sameOf (standsFor s by) (parseTree s k b) → r ≡ Yes p q → Yes n q ≡ want
+  pub replaced-hit : (n : ℕ) (by : Replacing) (p q : ℕ) (r : Same) → h ≡ Name n by → r ≡ sameOf (standsFor s by) (parseTree s k b)
+      → r ≡ Yes p q → Yes n q ≡ want
   replaced-hit n by p q r d e f =
       let y = said-yes (standsFor s by) (parseTree s k b) p q (sym e ∙ f) in
       rw (replaced-name n by d, y .0, y .2)
@@ -396,7 +508,9 @@ module _ (s : List ℕ) (a m b k : ℕ) (w : Substitution) (h : Hit) (eh : h ≡
     through z f = rw replace-node (go (isName (nodeAt s a .code)) refl)
       where
         go : (i : Bool) → isName (nodeAt s a .code) ≡ i
-            → cond i (put-there s a m w) (node (nodeAt s a .code) (nodeAt s a .operand) (put (leftOf f (nodeAt s a))) (put (rightOf f (nodeAt s a)))) ≡ node (nodeAt s a .code) (nodeAt s a .operand) (put (leftOf f (nodeAt s a))) (put (rightOf f (nodeAt s a)))
+            → cond i (put-there s a m w) (node (nodeAt s a .code) (nodeAt s a .operand) (put (leftOf f (nodeAt s a)))
+            (put (rightOf f (nodeAt s a)))) ≡ node (nodeAt s a .code) (nodeAt s a .operand) (put (leftOf f (nodeAt s a)))
+            (put (rightOf f (nodeAt s a)))
         go true e =
             let p : nodeAt s a .parts ≡ 0 = parts-of s a ∙ name-parts (nodeAt s a .code) e in
             rw (hit-other s a m w (sym eh ∙ o) z, p) (simp replace-none)
@@ -414,15 +528,31 @@ module _ (s : List ℕ) (a m b k : ℕ) (w : Substitution) (h : Hit) (eh : h ≡
     pub replaced-one : (p q : ℕ) (r : Same) → t ≡ One p q → r ≡ replacedOf s w (parseTree s (m - 1) p) (parseTree s (k - 1) q) → r ≡ want
     replaced-one p q r d e = rw (replaced-by, d) e
 
-    pub replaced-two-no : (p q : ℕ) (r : Same) → t ≡ Two p q → r ≡ replacedOf s w (parseTree s (m - 1) p) (parseTree s (k - 1) q) → r ≡ No → No ≡ want
+    pub replaced-two-no : (p q : ℕ) (r : Same) → t ≡ Two p q → r ≡ replacedOf s w (parseTree s (m - 1) p) (parseTree s (k - 1) q) → r ≡ No
+        → No ≡ want
     replaced-two-no p q r d e f = rw (replaced-by, d, ← e, f)
 
-    pub replaced-two : (p q p₂ q₂ : ℕ) (r r₂ : Same) → t ≡ Two p q → r ≡ replacedOf s w (parseTree s (m - 1) p) (parseTree s (k - 1) q) → r ≡ Yes p₂ q₂ → r₂ ≡ replacedOf s w (parseTree s (m - 1) p₂) (parseTree s (k - 1) q₂) → r₂ ≡ want
+    pub replaced-two : (p q p₂ q₂ : ℕ) (r r₂ : Same) → t ≡ Two p q → r ≡ replacedOf s w (parseTree s (m - 1) p) (parseTree s (k - 1) q)
+        → r ≡ Yes p₂ q₂ → r₂ ≡ replacedOf s w (parseTree s (m - 1) p₂) (parseTree s (k - 1) q₂) → r₂ ≡ want
     replaced-two p q p₂ q₂ r r₂ d e f g = rw (replaced-by, d, ← e, f) g
 
-pub ruleset replaces = (replaced-hit-no, replaced-hit, replaced-differ, replaced-ended, replaced-one, replaced-two-no, replaced-two, one-left, one-right, two-left, two-right, lower)
+pub ruleset replaces = (
+  replaced-hit-no,
+  replaced-hit,
+  replaced-differ,
+  replaced-ended,
+  replaced-one,
+  replaced-two-no,
+  replaced-two,
+  one-left,
+  one-right,
+  two-left,
+  two-right,
+  lower,
+)
 
 -- one name alone
-pub one-alone : (s : List ℕ) (w : Substitution) → w .two ≡ false → (c o : ℕ) → substituted s w c o ≡ oneName (w .word) (w .number) (standsFor s (w .by) .tree) c o
+pub one-alone : (s : List ℕ) (w : Substitution) → w .two ≡ false → (c o : ℕ)
+    → substituted s w c o ≡ oneName (w .word) (w .number) (standsFor s (w .by) .tree) c o
 unfolding substituted oneName
 one-alone s w e c o = rw e

@@ -70,19 +70,25 @@ module _ (s t : List ℕ) (i thread point form : ℕ) (p q : Tree) (c : Conclusi
     at-right = ap (λ (k : ℕ). parseTree t nesting k .tree) (left-follows .tpl o) ∙ st .right
 
     right-follows : Follows s t nesting (first .tpl) (c .right) (first .bind) second
-    right-follows = match-follows s t nesting (first .tpl) (c .right) (first .bind) (left-follows .sized) (subst (λ u. T (proper u)) (sym at-right) (st .holes-right))
+    right-follows = match-follows s t nesting (first .tpl) (c .right) (first .bind) (left-follows .sized)
+        (subst (λ u. T (proper u)) (sym at-right) (st .holes-right))
 
   left-same : matchT p (parseTree s nesting (c .left) .tree) (takenOf s b) ≡ given s (first .ok) (first .bind)
-  left-same = subst (λ u. matchT u (parseTree s nesting (c .left) .tree) (takenOf s b) ≡ given s (first .ok) (first .bind)) (st .left) (left-follows .same)
+  left-same = subst (λ u. matchT u (parseTree s nesting (c .left) .tree) (takenOf s b) ≡ given s (first .ok) (first .bind)) (st .left)
+      (left-follows .same)
 
-  right-same : (o : first .ok ≡ true) → matchT q (parseTree s nesting (c .right) .tree) (takenOf s (first .bind)) ≡ given s (second .ok) (second .bind)
-  right-same o = subst (λ u. matchT u (parseTree s nesting (c .right) .tree) (takenOf s (first .bind)) ≡ given s (second .ok) (second .bind)) (at-right o) (right-follows o .same)
+  right-same : (o : first .ok ≡ true) → matchT q (parseTree s nesting (c .right) .tree) (takenOf s (first .bind)) ≡ given s (second .ok)
+      (second .bind)
+  right-same o = subst (λ u. matchT u (parseTree s nesting (c .right) .tree) (takenOf s (first .bind)) ≡ given s (second .ok)
+      (second .bind)) (at-right o) (right-follows o .same)
 
   both-same : first .ok ≡ true
-      → andThen (matchT p (parseTree s nesting (c .left) .tree) (takenOf s b)) (matchT q (parseTree s nesting (c .right) .tree)) ≡ given s (second .ok) (second .bind)
+      → andThen (matchT p (parseTree s nesting (c .left) .tree) (takenOf s b)) (matchT q (parseTree s nesting (c .right) .tree)) ≡ given s
+      (second .ok) (second .bind)
   both-same o = rw (left-same, o) (right-same o)
 
-  first-fails : first .ok ≡ false → andThen (matchT p (parseTree s nesting (c .left) .tree) (takenOf s b)) (matchT q (parseTree s nesting (c .right) .tree)) ≡ none
+  first-fails : first .ok ≡ false → andThen (matchT p (parseTree s nesting (c .left) .tree) (takenOf s b))
+      (matchT q (parseTree s nesting (c .right) .tree)) ≡ none
   first-fails o = rw (left-same, o)
 
   pub sides-follow : SidesFollow s t i thread point form p q c b (matchConclusion s t i form thread point c b)
@@ -90,7 +96,8 @@ module _ (s t : List ℕ) (i thread point form : ℕ) (p q : Tree) (c : Conclusi
   sides-follow = go (placedAt form thread point c) refl (first .ok) refl
     where
       go : (here : Bool) → placedAt form thread point c ≡ here → (o : Bool) → first .ok ≡ o
-          → SidesFollow s t i thread point form p q c b (cond here (cond (first .ok) (wholeOf second) (wholeOf first)) (record { ok = false; tpl = i; bind = b }))
+          → SidesFollow s t i thread point form p q c b
+          (cond here (cond (first .ok) (wholeOf second) (wholeOf first)) (record { ok = false; tpl = i; bind = b }))
       go false h o e = record { same = rw (placed-same s form thread point c, h); tpl = λ y. absurd (false≢true y); sized = z }
       go true h true e = record {
         same = rw (placed-same s form thread point c, h, e) (both-same e);
@@ -103,7 +110,8 @@ module _ (s t : List ℕ) (i thread point form : ℕ) (p q : Tree) (c : Conclusi
         sized = rw e (left-follows .sized);
       }
 
-pub conclusion-follows : (s t : List ℕ) (i thread point : ℕ) (m : Shape) (c : Conclusion) (b : Bind) → Sized b → Stands t i m → ConclusionFollows s t i thread point m c b (matchConclusion s t i (formOf m) thread point c b)
+pub conclusion-follows : (s t : List ℕ) (i thread point : ℕ) (m : Shape) (c : Conclusion) (b : Bind) → Sized b → Stands t i m
+    → ConclusionFollows s t i thread point m c b (matchConclusion s t i (formOf m) thread point c b)
 conclusion-follows s t i thread point m = sides-follow s t i thread point (formOf m) (leftOf m) (rightOf m)
 
 -- the templates of shapes stand one after the other
@@ -138,14 +146,17 @@ module _ (s t : List ℕ) (thread point : ℕ) (p : Premises) where
     one-follows : ConclusionFollows s t i thread point m (conclusionAt p j) b one
     one-follows = conclusion-follows s t i thread point m (conclusionAt p j) b z st
 
-    more-follow : (o : Bool) → one .ok ≡ o → (o ≡ true → FromFollows s thread point p l (j + 1) (one .bind) rest) → FromFollows s thread point p (m ∷ l) j b (cond o rest one)
+    more-follow : (o : Bool) → one .ok ≡ o → (o ≡ true → FromFollows s thread point p l (j + 1) (one .bind) rest)
+        → FromFollows s thread point p (m ∷ l) j b (cond o rest one)
     more-follow true o g = record { same = rw (one-follows .same, o) (g refl .same); sized = g refl .sized }
     more-follow false o g = record { same = rw (one-follows .same, o); sized = one-follows .sized }
 
-  pub from-follows : (l : List Shape) (i j : ℕ) (b : Bind) → Sized b → StandAll t i l → FromFollows s thread point p l j b (matchFrom s t thread point p (length l) i (packed l) j b)
+  pub from-follows : (l : List Shape) (i j : ℕ) (b : Bind) → Sized b → StandAll t i l
+      → FromFollows s thread point p l j b (matchFrom s t thread point p (length l) i (packed l) j b)
   unfolding matchFrom
   from-follows [] i j b z st = record { same = refl; sized = z }
   from-follows (m ∷ l) i j b z st =
       rw (form-of m (packed l), forms-left m (packed l))
       (more-follow m l i j b z (st .0) (one m l i j b z (st .0) .ok) refl
-      (λ o. from-follows l (one m l i j b z (st .0) .tpl) (j + 1) (one m l i j b z (st .0) .bind) (one-follows m l i j b z (st .0) .sized) (subst (λ q. StandAll t q l) (sym (one-follows m l i j b z (st .0) .tpl o)) (st .1))))
+      (λ o. from-follows l (one m l i j b z (st .0) .tpl) (j + 1) (one m l i j b z (st .0) .bind) (one-follows m l i j b z (st .0) .sized)
+      (subst (λ q. StandAll t q l) (sym (one-follows m l i j b z (st .0) .tpl o)) (st .1))))

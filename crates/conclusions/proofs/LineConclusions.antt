@@ -11,8 +11,8 @@ use Rattle.program.specs.Instruction.{pairOperation}
 use Rattle.records.specs.Places.{instructionOf}
 use Rattle.certificate.specs.FitT.{hoare, paired}
 use Rattle.content.specs.Certificate.{lineBody}
-use Rattle.content.specs.Places.{lineIn}
-use Rattle.content.specs.declared.line.Line.{Line}
+use Rattle.lookups.specs.Places.{lineIn}
+use Rattle.lookups.specs.declared.line.Line.{Line}
 use Rattle.rulebook.specs.Rulebook.{ruleRow}
 use Rattle.conclusions.specs.LineConclusion.{spokenForm, conclusionBy, lineAt, conclusionOf}
 use Rattle.conclusions.specs.declared.conclusion.Conclusion.{Conclusion}
@@ -35,8 +35,10 @@ pub conclusion-by : (l : Line) (op f : ℕ) → f ≡ spokenForm (ruleRow (l .ru
 unfolding conclusionBy
 conclusion-by l op f e = rw (← e)
 
-module _ (s : List ℕ) (z : Sizes) (n : ℕ) (l : Line) (e : l ≡ lineIn s (lineBody z (bodies s) n)) (f : ℕ) (g : f ≡ ruleRow (l .rule) .form) where
-  pub conclusion-pair : (i : Instruction) (c : Conclusion) → f ≡ paired → i ≡ instructionOf z (bodies s) (l .thread) (l .point) → c ≡ conclusionBy l (i .operation) → c ≡ conclusionOf s z n
+module _ (s : List ℕ) (z : Sizes) (n : ℕ) (l : Line) (e : l ≡ lineIn s (lineBody z (bodies s) n)) (f : ℕ)
+    (g : f ≡ ruleRow (l .rule) .form) where
+  pub conclusion-pair : (i : Instruction) (c : Conclusion) → f ≡ paired → i ≡ instructionOf z (bodies s) (l .thread) (l .point)
+      → c ≡ conclusionBy l (i .operation) → c ≡ conclusionOf s z n
   unfolding conclusionOf lineAt
   conclusion-pair i c h d q = rw (← e) (q ∙ ap (λ (j : Instruction). conclusionBy l (j .operation)) d)
 

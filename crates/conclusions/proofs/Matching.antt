@@ -48,7 +48,8 @@ module _ (s t : List ℕ) (i form thread point : ℕ) (c : Conclusion) (b : Bind
     unfolding matchConclusion
     conclusion-left n = rw (← e, h, ← d, n)
 
-    pub conclusion-both : (r : Whole) → m .ok ≡ true → r ≡ wholeAt s t nesting (m .tpl) (c .right) (m .bind) → r ≡ matchConclusion s t i form thread point c b
+    pub conclusion-both : (r : Whole) → m .ok ≡ true → r ≡ wholeAt s t nesting (m .tpl) (c .right) (m .bind)
+        → r ≡ matchConclusion s t i form thread point c b
     unfolding matchConclusion
     conclusion-both r o g = rw (← e, h, ← d, o) g
 
@@ -67,7 +68,8 @@ pub ruleset conclusions = (conclusion-there, conclusion-missing)
 module _ (s t : List ℕ) (thread point : ℕ) (p : Premises) where
   from-step : (n i forms j : ℕ) (b : Bind) → (n ≡ 0 → ⊥)
       → matchFrom s t thread point p n i forms j b
-      ≡ thenWhole (matchConclusion s t i (forms % 4) thread point (conclusionAt p j) b) (λ m. matchFrom s t thread point p (n - 1) (m .tpl) (forms / 4) (j + 1) (m .bind))
+      ≡ thenWhole (matchConclusion s t i (forms % 4) thread point (conclusionAt p j) b)
+      (λ m. matchFrom s t thread point p (n - 1) (m .tpl) (forms / 4) (j + 1) (m .bind))
   unfolding matchFrom
   from-step zero i forms j b z = absurd (z refl)
   from-step (suc n) i forms j b z = rw (sub-one (suc n))
@@ -77,11 +79,13 @@ module _ (s t : List ℕ) (thread point : ℕ) (p : Premises) where
     unfolding matchFrom
     from-none e = rw e
 
-    module _ (z : n ≡ 0 → ⊥) (c : Conclusion) (e : c ≡ conclusionAt p j) (m : Whole) (d : m ≡ matchConclusion s t i (forms % 4) thread point c b) where
+    module _ (z : n ≡ 0 → ⊥) (c : Conclusion) (e : c ≡ conclusionAt p j) (m : Whole)
+        (d : m ≡ matchConclusion s t i (forms % 4) thread point c b) where
       pub from-no : m .ok ≡ false → m ≡ matchFrom s t thread point p n i forms j b
       from-no o = rw (from-step n i forms j b z, ← e, ← d, o)
 
-      pub from-more : (r : Whole) → m .ok ≡ true → r ≡ matchFrom s t thread point p (n - 1) (m .tpl) (forms / 4) (j + 1) (m .bind) → r ≡ matchFrom s t thread point p n i forms j b
+      pub from-more : (r : Whole) → m .ok ≡ true → r ≡ matchFrom s t thread point p (n - 1) (m .tpl) (forms / 4) (j + 1) (m .bind)
+          → r ≡ matchFrom s t thread point p n i forms j b
       from-more r o g = rw (from-step n i forms j b z, ← e, ← d, o) g
 
 pub ruleset following = (from-none, from-no, from-more, lower)

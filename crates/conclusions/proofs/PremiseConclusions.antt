@@ -27,11 +27,13 @@ module _ (s : List ℕ) (z : Sizes) (n count : ℕ) where
   unfolding premiseConclusion
   premise-past j h = rw (le-leb _ _ h)
 
-  pub premise-there : (j m : ℕ) (c : Conclusion) → j < count → m ≡ getD (Lines.premises (lineBody z (bodies s) n)) j 0 → c ≡ conclusionOf s z m → c ≡ premiseConclusion s z n count j
+  pub premise-there : (j m : ℕ) (c : Conclusion) → j < count → m ≡ getD (Lines.premises (lineBody z (bodies s) n)) j 0
+      → c ≡ conclusionOf s z m → c ≡ premiseConclusion s z n count j
   unfolding premiseConclusion
   premise-there j m c h e d = rw (lt-leb _ _ h, ← e) d
 
-  pub premises-is : (a b c d : Conclusion) → a ≡ premiseConclusion s z n count 0 → b ≡ premiseConclusion s z n count 1 → c ≡ premiseConclusion s z n count 2 → d ≡ premiseConclusion s z n count 3
+  pub premises-is : (a b c d : Conclusion) → a ≡ premiseConclusion s z n count 0 → b ≡ premiseConclusion s z n count 1
+      → c ≡ premiseConclusion s z n count 2 → d ≡ premiseConclusion s z n count 3
       → record { count = count; conclusions = a ∷ b ∷ c ∷ d ∷ [] } ≡ premisesOf s z n count
   unfolding premisesOf
   premises-is a b c d e f g h = rw (e, f, g, h)
@@ -41,7 +43,8 @@ module _ (p : Premises) where
   unfolding isImplicationAt
   implication-past j h = rw (le-leb _ _ h)
 
-  pub implication-there : (j : ℕ) (c : Conclusion) (b : Bool) → j < p .count → c ≡ conclusionAt p j → b ≡ eqb (c .form) implication → b ≡ isImplicationAt p j
+  pub implication-there : (j : ℕ) (c : Conclusion) (b : Bool) → j < p .count → c ≡ conclusionAt p j → b ≡ eqb (c .form) implication
+      → b ≡ isImplicationAt p j
   unfolding isImplicationAt
   implication-there j c b h e d = rw (lt-leb _ _ h, ← e) d
 
@@ -58,26 +61,42 @@ module _ (p : Premises) where
     unfolding allImplications
     not-second a b e h f g = rw (le-ltb _ _ few, ← e, h, ← f, g)
 
-    pub not-third : (a b c : Bool) → a ≡ isImplicationAt p 0 → a ≡ true → b ≡ isImplicationAt p 1 → b ≡ true → c ≡ isImplicationAt p 2 → c ≡ false → false ≡ allImplications p
+    pub not-third : (a b c : Bool) → a ≡ isImplicationAt p 0 → a ≡ true → b ≡ isImplicationAt p 1 → b ≡ true → c ≡ isImplicationAt p 2
+        → c ≡ false → false ≡ allImplications p
     unfolding allImplications
     not-third a b c e h f g i k = rw (le-ltb _ _ few, ← e, h, ← f, g, ← i, k)
 
-    pub by-fourth : (a b c d : Bool) → a ≡ isImplicationAt p 0 → a ≡ true → b ≡ isImplicationAt p 1 → b ≡ true → c ≡ isImplicationAt p 2 → c ≡ true → d ≡ isImplicationAt p 3 → d ≡ allImplications p
+    pub by-fourth : (a b c d : Bool) → a ≡ isImplicationAt p 0 → a ≡ true → b ≡ isImplicationAt p 1 → b ≡ true → c ≡ isImplicationAt p 2
+        → c ≡ true → d ≡ isImplicationAt p 3 → d ≡ allImplications p
     unfolding allImplications
     by-fourth a b c d e h f g i k l = rw (le-ltb _ _ few, ← e, h, ← f, g, ← i, k) l
 
-pub ruleset premising = (premise-past, premise-there, premises-is, implication-past, implication-there, too-many, not-first, not-second, not-third, by-fourth)
+pub ruleset premising = (
+  premise-past,
+  premise-there,
+  premises-is,
+  implication-past,
+  implication-there,
+  too-many,
+  not-first,
+  not-second,
+  not-third,
+  by-fourth,
+)
 
 module _ (s t : List ℕ) (i : ℕ) (w : Rule) (thread point : ℕ) (p : Premises) (b : Bind) where
-  pub premises-any : (o : Bool) → w .premises ≡ anyImplications → o ≡ allImplications p → record { ok = o; tpl = i; bind = b } ≡ matchPremises s t i w thread point p b
+  pub premises-any : (o : Bool) → w .premises ≡ anyImplications → o ≡ allImplications p
+      → record { ok = o; tpl = i; bind = b } ≡ matchPremises s t i w thread point p b
   unfolding matchPremises
   premises-any o e d = rw (eq-eqb _ _ e, d)
 
-  pub premises-counted : (r : Whole) → (w .premises ≡ anyImplications → ⊥) → w .premises ≡ p .count → r ≡ matchFrom s t thread point p (p .count) i (w .forms) 0 b → r ≡ matchPremises s t i w thread point p b
+  pub premises-counted : (r : Whole) → (w .premises ≡ anyImplications → ⊥) → w .premises ≡ p .count
+      → r ≡ matchFrom s t thread point p (p .count) i (w .forms) 0 b → r ≡ matchPremises s t i w thread point p b
   unfolding matchPremises
   premises-counted r n e d = rw (ne-eqb _ _ n, eq-eqb _ _ e) d
 
-  pub premises-other : (w .premises ≡ anyImplications → ⊥) → (w .premises ≡ p .count → ⊥) → record { ok = false; tpl = i; bind = b } ≡ matchPremises s t i w thread point p b
+  pub premises-other : (w .premises ≡ anyImplications → ⊥) → (w .premises ≡ p .count → ⊥)
+      → record { ok = false; tpl = i; bind = b } ≡ matchPremises s t i w thread point p b
   unfolding matchPremises
   premises-other n m = rw (ne-eqb _ _ n, ne-eqb _ _ m)
 

@@ -116,7 +116,8 @@ module _ (n : Rule) where
   -- operations are 0 to 12
   pub row-operations : (op : ℕ) → op ≤ Opcode.assignTwo → allows (ruleRow (numberOf n) .operations) op ≡ isAmong op (row n .operations)
   row-operations op h =
-      same-bits (allows (ruleRow (numberOf n) .operations) op) (isAmong op (row n .operations)) (each-bit operations op (and-left bits side (and-left (bits && side) stands asks)) (known op h))
+      same-bits (allows (ruleRow (numberOf n) .operations) op) (isAmong op (row n .operations))
+      (each-bit operations op (and-left bits side (and-left (bits && side) stands asks)) (known op h))
     where
       known : (op : ℕ) → op ≤ Opcode.assignTwo → T (isAmong op operations)
       known zero h = tt

@@ -15,7 +15,13 @@ use Rattle.conclusions.specs.declared.conclusion.Premises.{Premises}
 
 -- what a conclusion says, as trees
 abbrev pub concludedAt : List ℕ → Conclusion → TreeConclusion
-concludedAt s c = record { form = c .form; thread = c .thread; point = c .point; left = parseTree s nesting (c .left) .tree; right = parseTree s nesting (c .right) .tree }
+concludedAt s c = record {
+  form = c .form;
+  thread = c .thread;
+  point = c .point;
+  left = parseTree s nesting (c .left) .tree;
+  right = parseTree s nesting (c .right) .tree;
+}
 
 -- of the form that is wanted; a Hoare triple, of a pair too, is for the same thread and point
 unfoldable pub placedAt : ℕ → ℕ → ℕ → Conclusion → Bool
@@ -44,4 +50,5 @@ conclusionsFrom p (suc n) j = conclusionAt p j ∷ conclusionsFrom p n (j + 1)
 unfoldable pub matchFrom : List ℕ → List ℕ → ℕ → ℕ → Premises → ℕ → ℕ → ℕ → ℕ → Bind → Whole
 matchFrom s t thread point p zero i forms j b = record { ok = true; tpl = i; bind = b }
 matchFrom s t thread point p (suc n) i forms j b =
-    thenWhole (matchConclusion s t i (forms % 4) thread point (conclusionAt p j) b) (λ m. matchFrom s t thread point p n (m .tpl) (forms / 4) (j + 1) (m .bind))
+    thenWhole (matchConclusion s t i (forms % 4) thread point (conclusionAt p j) b)
+    (λ m. matchFrom s t thread point p n (m .tpl) (forms / 4) (j + 1) (m .bind))

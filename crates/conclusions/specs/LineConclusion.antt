@@ -9,8 +9,8 @@ use Rattle.program.specs.Instruction.{pairOperation}
 use Rattle.records.specs.Places.{instructionOf}
 use Rattle.certificate.specs.FitT.{hoare, paired}
 use Rattle.content.specs.Certificate.{lineBody}
-use Rattle.content.specs.Places.{lineIn}
-use Rattle.content.specs.declared.line.Line.{Line}
+use Rattle.lookups.specs.Places.{lineIn}
+use Rattle.lookups.specs.declared.line.Line.{Line}
 use Rattle.rulebook.specs.Rulebook.{ruleRow}
 use Rattle.conclusions.specs.declared.conclusion.Conclusion.{Conclusion}
 
@@ -20,7 +20,13 @@ spokenForm f op = cond (eqb f paired) (cond (pairOperation op) paired hoare) f
 
 -- with the operation at its thread and point
 unfoldable pub conclusionBy : Line → ℕ → Conclusion
-conclusionBy l op = record { form = spokenForm (ruleRow (l .rule) .form) op; thread = l .thread; point = l .point; left = l .left; right = l .right }
+conclusionBy l op = record {
+  form = spokenForm (ruleRow (l .rule) .form) op;
+  thread = l .thread;
+  point = l .point;
+  left = l .left;
+  right = l .right;
+}
 
 -- line n
 unfoldable pub lineAt : List ℕ → Sizes → ℕ → Line

@@ -25,7 +25,11 @@ premiseConclusion s z n count j = cond (leb count j) noConclusion (conclusionOf 
 
 unfoldable pub premisesOf : List ℕ → Sizes → ℕ → ℕ → Premises
 premisesOf s z n count =
-    record { count = count; conclusions = premiseConclusion s z n count 0 ∷ premiseConclusion s z n count 1 ∷ premiseConclusion s z n count 2 ∷ premiseConclusion s z n count 3 ∷ [] }
+    record {
+      count = count;
+      conclusions = premiseConclusion s z n count 0 ∷ premiseConclusion s z n count 1
+          ∷ premiseConclusion s z n count 2 ∷ premiseConclusion s z n count 3 ∷ [];
+    }
 
 -- premise j is an implication, or there is no such premise
 unfoldable pub isImplicationAt : Premises → ℕ → Bool

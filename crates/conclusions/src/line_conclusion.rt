@@ -1,7 +1,7 @@
 // What the lines of a certificate conclude.
 use crate::conclusion::Conclusion;
-use content::line::Line;
-use content::line::line_of;
+use lookups::line::Line;
+use lookups::line::line_of;
 use program::instruction::is_pair;
 use program::sizes::Sizes;
 use records::place::instruction_of;

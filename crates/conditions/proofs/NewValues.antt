@@ -68,15 +68,18 @@ module _ (s : List ℕ) (r f at k : ℕ) where
       two = ap (λ (n : Node). n .parts) ex ∙ parts-of s at ∙ ap (λ (n : Node). partCount (n .code)) (sym ex) ∙ ap partCount c
 
       -- the parts are compared one after the other
-      split : sumIs s r f (parseTree s k at .tree) ≡ sameTree (leafOnly (byte Code.reg) r .tree) (first .tree) && formulaIs s f (parseTree s (k - 1) (first .end) .tree)
+      split : sumIs s r f (parseTree s k at .tree) ≡ sameTree (leafOnly (byte Code.reg) r .tree) (first .tree)
+          && formulaIs s f (parseTree s (k - 1) (first .end) .tree)
       unfolding sumIs formulaIs
       split = rw (stepped, same-nodes, eq-eqb _ _ (sym c), eq-eqb _ _ (sym o), two)
 
       module _ (v : Same) (ev : v ≡ sameOf (leafOnly (byte Code.reg) r) first) where
         pub sum-first : v ≡ No → false ≡ sumIs s r f (parseTree s k at .tree)
-        sum-first n = let q : false ≡ sameTree (leafOnly (byte Code.reg) r .tree) (first .tree) = answer-no _ 0 (first .end) (sym n ∙ ev) in rw (split, ← q)
+        sum-first n = let q : false ≡ sameTree (leafOnly (byte Code.reg) r .tree) (first .tree) =
+            answer-no _ 0 (first .end) (sym n ∙ ev) in rw (split, ← q)
 
-        pub sum-second : (a q : ℕ) (u : Bool) → v ≡ Yes a q → u ≡ formulaIs s f (parseTree s (k - 1) q .tree) → u ≡ sumIs s r f (parseTree s k at .tree)
+        pub sum-second : (a q : ℕ) (u : Bool) → v ≡ Yes a q → u ≡ formulaIs s f (parseTree s (k - 1) q .tree)
+            → u ≡ sumIs s r f (parseTree s k at .tree)
         sum-second a q u n d =
             let y : true ≡ sameTree (leafOnly (byte Code.reg) r .tree) (first .tree) = answer-yes _ 0 (first .end) a q (sym n ∙ ev) in
             let z : q ≡ first .end = yes-end (sameTree (leafOnly (byte Code.reg) r .tree) (first .tree)) 0 (first .end) a q (sym n ∙ ev) in
@@ -95,4 +98,15 @@ module _ (s : List ℕ) (op r f : ℕ) (t : Tree) (u : Bool) where
   unfolding freshIs
   fresh-formula h d = rw (ne-eqb _ _ h) d
 
-pub ruleset comparing = (formula-no, formula-yes, sum-zero, sum-other, sum-operand, sum-first, sum-second, reg-parts, fresh-sum, fresh-formula)
+pub ruleset comparing = (
+  formula-no,
+  formula-yes,
+  sum-zero,
+  sum-other,
+  sum-operand,
+  sum-first,
+  sum-second,
+  reg-parts,
+  fresh-sum,
+  fresh-formula,
+)

@@ -91,7 +91,8 @@ pub answer-yes : (b : Bool) (i j p q : ℕ) → Yes p q ≡ cond b (Yes i j) No 
 answer-yes true i j p q h = refl
 answer-yes false i j p q h = absurd (no-yes (sym h))
 
-module _ (s : List ℕ) (w : Substitution) (p q : Position) (r : Same) (e : r ≡ replacedOf s w (parseTree s (q .left) (q .at)) (parseTree s (p .left) (p .at))) where
+module _ (s : List ℕ) (w : Substitution) (p q : Position) (r : Same)
+    (e : r ≡ replacedOf s w (parseTree s (q .left) (q .at)) (parseTree s (p .left) (p .at))) where
   pub with-no : r ≡ No → false ≡ isWith s w (treeOf s p) (treeOf s q)
   unfolding isWith
   with-no n = answer-no _ (parseTree s (q .left) (q .at) .end) (parseTree s (p .left) (p .at) .end) (sym n ∙ e)
@@ -107,7 +108,8 @@ module _ (s : List ℕ) (x f : ℕ) (p q : Position) (o : Bool) (e : o ≡ occur
   unfolding storedBy
   stored-flag h = rw (← e, h)
 
-  pub stored-with : (b : Bool) (w : Substitution) → o ≡ false → w ≡ oneBy true x (Formula f nesting) → b ≡ isWith s w (treeOf s p) (treeOf s q) → b ≡ storedBy s x f (treeOf s p) (treeOf s q)
+  pub stored-with : (b : Bool) (w : Substitution) → o ≡ false → w ≡ oneBy true x (Formula f nesting)
+      → b ≡ isWith s w (treeOf s p) (treeOf s q) → b ≡ storedBy s x f (treeOf s p) (treeOf s q)
   unfolding storedBy
   stored-with b w h g d = rw (← e, h, ← g) d
 
@@ -121,14 +123,17 @@ pub number-taken : (b : Bind) (j n : ℕ) → n ≡ getD (b .num) j 0 → n - 1 
 unfolding numberIn
 number-taken b j n e = rw (← e)
 
-module _ (s h : List ℕ) (x v : ℕ) (p : Position) (r : Same) (e : v ≡ nth (startValues h) x 0) (d : r ≡ sameOf (leafOnly (byte Code.const) v) (parseTree s (p .left) (p .at))) where
+module _ (s h : List ℕ) (x v : ℕ) (p : Position) (r : Same) (e : v ≡ nth (startValues h) x 0)
+    (d : r ≡ sameOf (leafOnly (byte Code.const) v) (parseTree s (p .left) (p .at))) where
   pub start-no : r ≡ No → false ≡ isStart h x (treeOf s p)
   unfolding isStart
-  start-no n = rw (← e) (answer-no (sameTree (leafOnly (byte Code.const) v .tree) (treeOf s p)) 0 (parseTree s (p .left) (p .at) .end) (sym n ∙ d))
+  start-no n = rw (← e) (answer-no (sameTree (leafOnly (byte Code.const) v .tree) (treeOf s p)) 0 (parseTree s (p .left) (p .at) .end)
+      (sym n ∙ d))
 
   pub start-yes : (i j : ℕ) → r ≡ Yes i j → true ≡ isStart h x (treeOf s p)
   unfolding isStart
-  start-yes i j n = rw (← e) (answer-yes (sameTree (leafOnly (byte Code.const) v .tree) (treeOf s p)) 0 (parseTree s (p .left) (p .at) .end) i j (sym n ∙ d))
+  start-yes i j n = rw (← e) (answer-yes (sameTree (leafOnly (byte Code.const) v .tree) (treeOf s p)) 0
+      (parseTree s (p .left) (p .at) .end) i j (sym n ∙ d))
 
 pub const-parts : partCount (byte Code.const) ≡ 0
 unfolding partCount

@@ -61,7 +61,8 @@ module _ (t : ℕ) (z : Sizes) (l : List (List ℕ)) (y : Sizes) where
   fault-sizes i zero m e = sound-sizes z y e
   fault-sizes i (suc n) m e = fault-sizes (i + 1) n (drop 1 m) (step-passed (here i m) i (behind i n m) y e .1)
 
-  pub fault-passed : (i n j : ℕ) (m : List (List ℕ)) → j < n → firstFault t z l i n m ≡ Sound y → check t z l (placeOf z (i + j)) (getD m j []) ≡ Passed
+  pub fault-passed : (i n j : ℕ) (m : List (List ℕ)) → j < n → firstFault t z l i n m ≡ Sound y
+      → check t z l (placeOf z (i + j)) (getD m j []) ≡ Passed
   unfolding firstFault
   fault-passed i zero j m b e = absurd (omega arith)
   fault-passed i (suc n) zero m b e = let q : i + 0 ≡ i = omega arith in rw q (step-passed (here i m) i (behind i n m) y e .0)
@@ -78,12 +79,13 @@ sound-checks s z e = go (wholeImage s) refl e
   where
     go : (g : Framing) → wholeImage s ≡ g → behindFrames (bodies s) g ≡ Sound z → Checks z (bodies s)
     go (Framing.Refused f r) w d = absurd (refused-sound f r z d)
-    go (Framing.Sound f t n m) w d = subst (λ (x : Sizes). Checks x (bodies s)) (fault-sizes t y (bodies s) z 1 (recordCount y) (bodies s) d) (record {
-      counted = t;
-      few = counts-few s f t n m w;
-      sizes = refl;
-      passed = λ i b. let q : i + 1 ≡ 1 + i = omega arith in rw q (fault-passed t y (bodies s) z 1 (recordCount y) i (bodies s) b d);
-    })
+    go (Framing.Sound f t n m) w d = subst (λ (x : Sizes). Checks x (bodies s))
+        (fault-sizes t y (bodies s) z 1 (recordCount y) (bodies s) d) (record {
+          counted = t;
+          few = counts-few s f t n m w;
+          sizes = refl;
+          passed = λ i b. let q : i + 1 ≡ 1 + i = omega arith in rw q (fault-passed t y (bodies s) z 1 (recordCount y) i (bodies s) b d);
+        })
       where
         y : Sizes
         y = sizesOf (getD (bodies s) 0 []) f n m
@@ -100,7 +102,12 @@ module _ (z : Sizes) where
   place-thread t a b =
       let q : z .formulas + t + 1 ≡ 1 → ⊥ = omega arith in
       let d : z .formulas + t + 1 - formulasEnd z ≡ t = omega arith in
-      rw (ne-eqb (z .formulas + t + 1) 1 q, lt-leb (z .formulas + t + 1) (formulasEnd z) (omega arith), le-leb (z .formulas + t + 1) (threadsEnd z) (omega arith), d)
+      rw (
+        ne-eqb (z .formulas + t + 1) 1 q,
+        lt-leb (z .formulas + t + 1) (formulasEnd z) (omega arith),
+        le-leb (z .formulas + t + 1) (threadsEnd z) (omega arith),
+        d,
+      )
 
   pub place-outline : placeOf z (z .formulas + z .threads + 1 + 1) ≡ Outline
   unfolding placeOf
@@ -115,21 +122,42 @@ module _ (z : Sizes) where
       let i : ℕ = z .formulas + z .threads + 1 + n + 1 in
       let q : i ≡ 1 → ⊥ = omega arith in
       let d : i - outlineAt z - 1 ≡ n - 1 = omega arith in
-      rw (ne-eqb i 1 q, lt-leb i (formulasEnd z) (omega arith), lt-leb i (threadsEnd z) (omega arith), lt-leb i (outlineAt z) (omega arith), le-leb i (linesEnd z) (omega arith), d)
+      rw (
+        ne-eqb i 1 q,
+        lt-leb i (formulasEnd z) (omega arith),
+        lt-leb i (threadsEnd z) (omega arith),
+        lt-leb i (outlineAt z) (omega arith),
+        le-leb i (linesEnd z) (omega arith),
+        d,
+      )
 
   pub place-obligations : placeOf z (z .formulas + z .threads + 1 + z .lines + 1 + 1) ≡ Obligations
   unfolding placeOf
   place-obligations =
       let i : ℕ = z .formulas + z .threads + 1 + z .lines + 1 + 1 in
       let q : i ≡ 1 → ⊥ = omega arith in
-      rw (ne-eqb i 1 q, lt-leb i (formulasEnd z) (omega arith), lt-leb i (threadsEnd z) (omega arith), lt-leb i (outlineAt z) (omega arith), lt-leb i (linesEnd z) (omega arith), le-leb i (linesEnd z + 1) (omega arith))
+      rw (
+        ne-eqb i 1 q,
+        lt-leb i (formulasEnd z) (omega arith),
+        lt-leb i (threadsEnd z) (omega arith),
+        lt-leb i (outlineAt z) (omega arith),
+        lt-leb i (linesEnd z) (omega arith),
+        le-leb i (linesEnd z + 1) (omega arith),
+      )
 
   pub place-claim : (k : ℕ) → k < z .claims → placeOf z (z .formulas + z .threads + 1 + z .lines + 2 + k + 1) ≡ Claim
   unfolding placeOf
   place-claim k b =
       let i : ℕ = z .formulas + z .threads + 1 + z .lines + 2 + k + 1 in
       let q : i ≡ 1 → ⊥ = omega arith in
-      rw (ne-eqb i 1 q, lt-leb i (formulasEnd z) (omega arith), lt-leb i (threadsEnd z) (omega arith), lt-leb i (outlineAt z) (omega arith), lt-leb i (linesEnd z) (omega arith), lt-leb i (linesEnd z + 1) (omega arith))
+      rw (
+        ne-eqb i 1 q,
+        lt-leb i (formulasEnd z) (omega arith),
+        lt-leb i (threadsEnd z) (omega arith),
+        lt-leb i (outlineAt z) (omega arith),
+        lt-leb i (linesEnd z) (omega arith),
+        lt-leb i (linesEnd z + 1) (omega arith),
+      )
 
 module _ (z : Sizes) (l : List (List ℕ)) (c : Checks z l) where
   pub header-passed : header (c .counted) (getD l 0 []) ≡ Passed

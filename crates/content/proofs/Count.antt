@@ -14,8 +14,8 @@ use Rattle.logic.proofs.Reordered.{reordered-length}
 use Rattle.logic.proofs.Order.{actions, formerly, reordered}
 use Rattle.program.specs.declared.sizes.Sizes.{Sizes}
 use Rattle.program.specs.declared.instruction.Instruction.{Instruction}
-use Rattle.program.specs.Thread.{lastPoint, instructions, nothing}
-use Rattle.program.proofs.Laws.Program.{instructions-length}
+use Rattle.threads.specs.Thread.{lastPoint, instructions, nothing}
+use Rattle.threads.proofs.Threads.{instructions-length}
 use Rattle.records.specs.Places.{threadBody, instructionOf}
 use Rattle.records.specs.Tally.{isBranch, branches, threadTally, tallyTo, tally, obligationCount}
 use Rattle.content.specs.Program.{instr, pointCount, programOf}
@@ -39,7 +39,8 @@ branches-small [] = omega arith
 branches-small (i ∷ is) = let h = branches-small is in let b = branch-small i in omega arith
 
 -- each instruction counts for so much and for some more if it is a branch; or for one if it is none
-pub step-sum : (a b : ℕ) (is : List Instruction) → sum (λ k. a + isBranch (getD is k nothing) * b) (length is) ≡ length is * a + branches is * b
+pub step-sum : (a b : ℕ) (is : List Instruction) → sum (λ k. a + isBranch (getD is k nothing) * b) (length is) ≡ length is * a + branches
+    is * b
 unfolding sum branches
 step-sum a b [] = omega arith
 step-sum a b (i ∷ is) =
@@ -129,14 +130,17 @@ module _ (z : Sizes) (l : List (List ℕ)) where
 
   thread-steps : (u : ℕ) → u < z .threads → length (flat (λ k. own P (suc u) k (P .code (suc u) k)) (instructed P (suc u))) ≡ stepsOf z l u
   thread-steps u b =
-      let e = instructed-sum length lengths (λ k. own P (suc u) k (P .code (suc u) k)) (λ i. 1 + isBranch i * 1) u b (λ k. own-length (suc u) k (instructionOf z l (suc u) k)) in
+      let e = instructed-sum length lengths (λ k. own P (suc u) k (P .code (suc u) k)) (λ i. 1 + isBranch i * 1) u b
+      (λ k. own-length (suc u) k (instructionOf z l (suc u) k)) in
       let d = step-sum 1 1 (instructions (body z l u)) in
       let c = instructions-length (body z l u) in
       omega arith
 
-  thread-actions : (u j t : ℕ) → t < z .threads → length (flat (λ k. acting P u j (suc t) k (P .code (suc t) k)) (instructed P (suc t))) ≡ actionsOf z l t
+  thread-actions : (u j t : ℕ) → t < z .threads → length
+      (flat (λ k. acting P u j (suc t) k (P .code (suc t) k)) (instructed P (suc t))) ≡ actionsOf z l t
   thread-actions u j t b =
-      let e = instructed-sum length lengths (λ k. acting P u j (suc t) k (P .code (suc t) k)) (λ i. 1 - isBranch i) t b (λ k. acting-length u j (suc t) k (instructionOf z l (suc t) k)) in
+      let e = instructed-sum length lengths (λ k. acting P u j (suc t) k (P .code (suc t) k)) (λ i. 1 - isBranch i) t b
+      (λ k. acting-length u j (suc t) k (instructionOf z l (suc t) k)) in
       let d = action-sum (instructions (body z l t)) in
       let c = instructions-length (body z l t) in
       omega arith
@@ -161,7 +165,8 @@ module _ (z : Sizes) (l : List (List ℕ)) where
   unfolding tally
   steps-length =
       flat-upTo (λ t. flat (λ k. own P t k (P .code t k)) (instructed P t)) (z .threads)
-      ∙ sum-same (λ u. length (flat (λ k. own P (suc u) k (P .code (suc u) k)) (instructed P (suc u)))) (stepsOf z l) (z .threads) thread-steps
+      ∙ sum-same (λ u. length (flat (λ k. own P (suc u) k (P .code (suc u) k)) (instructed P (suc u)))) (stepsOf z l) (z .threads)
+      thread-steps
       ∙ sym (tally-steps z l (z .threads))
 
   -- at one point of a thread, the actions of the others
@@ -170,10 +175,12 @@ module _ (z : Sizes) (l : List (List ℕ)) where
       flat-upTo (λ t. actions P (suc u) j t) (z .threads)
       ∙ sum-same (λ t. length (actions P (suc u) j (suc t))) (but u (actionsOf z l)) (z .threads) (λ t b. other-actions u j t b)
 
-  thread-length : (u : ℕ) → length (flat (λ j. flat (λ t. actions P (suc u) j t) (upTo (z .threads))) (below (P .points (suc u)))) ≡ pointsOf z l u * sum (but u (actionsOf z l)) (z .threads)
+  thread-length : (u : ℕ) → length (flat (λ j. flat (λ t. actions P (suc u) j t) (upTo (z .threads))) (below (P .points (suc u))))
+      ≡ pointsOf z l u * sum (but u (actionsOf z l)) (z .threads)
   thread-length u =
       flat-below (λ j. flat (λ t. actions P (suc u) j t) (upTo (z .threads))) (pointsOf z l u)
-      ∙ sum-same (λ j. length (flat (λ t. actions P (suc u) j t) (upTo (z .threads)))) (λ j. sum (but u (actionsOf z l)) (z .threads)) (pointsOf z l u) (λ j b. point-length u j)
+      ∙ sum-same (λ j. length (flat (λ t. actions P (suc u) j t) (upTo (z .threads)))) (λ j. sum (but u (actionsOf z l)) (z .threads))
+      (pointsOf z l u) (λ j b. point-length u j)
       ∙ sum-const (sum (but u (actionsOf z l)) (z .threads)) (pointsOf z l u)
 
   -- class 4 is counted by the asserting side, as many in the one order as in the other

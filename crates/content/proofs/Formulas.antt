@@ -40,8 +40,10 @@ read-passed : (b : List ℕ) (n : Counts) → read (readingOf b n) ≡ Passed �
 unfolding read readingOf
 read-passed b n e = go (eqb (faultAt b n nesting (sortOf b) 0) 0) (eqb (parseTree b nesting 0 .end) (length b)) e
   where
-    go : (c d : Bool) → read (cond c (cond d (Reading.Formula (sortOf b)) (Reading.Fault malformed)) (Reading.Fault (faultAt b n nesting (sortOf b) 0))) ≡ Passed
-        → cond c (cond d (Reading.Formula (sortOf b)) (Reading.Fault malformed)) (Reading.Fault (faultAt b n nesting (sortOf b) 0)) ≡ Reading.Formula (sortOf b)
+    go : (c d : Bool) → read (cond c (cond d (Reading.Formula (sortOf b)) (Reading.Fault malformed))
+        (Reading.Fault (faultAt b n nesting (sortOf b) 0))) ≡ Passed
+        → cond c (cond d (Reading.Formula (sortOf b)) (Reading.Fault malformed))
+        (Reading.Fault (faultAt b n nesting (sortOf b) 0)) ≡ Reading.Formula (sortOf b)
     go true true h = refl
     go true false h = absurd (faulty-passed (faultOf malformed) h)
     go false d h = absurd (faulty-passed (faultOf (faultAt b n nesting (sortOf b) 0)) h)
@@ -77,17 +79,20 @@ module _ (z : Sizes) (l : List (List ℕ)) (c : Checks z l) (k : ℕ) (low : 1 �
   -- an assertion: registers alone under holds
   pub assertion-plain : sortOf body ≡ Codes.assertion → T (Names.plain (formula l Sort.assertion k))
   unfolding formula
-  assertion-plain e = reads-plain body (countsOf z) nesting 0 (reading-fault body (countsOf z) Codes.assertion (formula-read Codes.assertion e))
+  assertion-plain e = reads-plain body (countsOf z) nesting 0
+      (reading-fault body (countsOf z) Codes.assertion (formula-read Codes.assertion e))
 
   regs-only : (s : Sort) → Sorted s (treeOf body) → plain body ≡ true → T (only isReg (formula l s k))
   unfolding formula plain
-  regs-only s e h = is-true (not-false (only isReg (ofTree s (treeOf body))) (sym (no-shared (ofTree s (treeOf body))) ∙ ap (λ (t : Tree). occurs shared [] t) e ∙ not-true (occurs shared [] (treeOf body)) h))
+  regs-only s e h = is-true (not-false (only isReg (ofTree s (treeOf body)))
+      (sym (no-shared (ofTree s (treeOf body))) ∙ ap (λ (t : Tree). occurs shared [] t) e ∙ not-true (occurs shared [] (treeOf body)) h))
 
   pub value-regs : sortOf body ≡ Codes.value → plain body ≡ true → T (only isReg (formula l Sort.value k))
   value-regs e h = regs-only Sort.value (sorted Codes.value e) h
 
   -- a register that is not in its bytes
-  pub value-lacks : (r : ℕ) → sortOf body ≡ Codes.value → occurs (register r) [] (treeOf body) ≡ false → T (only (notReg r) (formula l Sort.value k))
+  pub value-lacks : (r : ℕ) → sortOf body ≡ Codes.value → occurs (register r) [] (treeOf body) ≡ false
+      → T (only (notReg r) (formula l Sort.value k))
   unfolding formula
   value-lacks r e h =
       is-true (not-false (only (notReg r) (ofTree Sort.value (treeOf body))) (sym (no-register r (ofTree Sort.value (treeOf body)))
@@ -99,4 +104,6 @@ module _ (z : Sizes) (l : List (List ℕ)) (c : Checks z l) (k : ℕ) (low : 1 �
   pub assertion-startless : sortOf body ≡ Codes.assertion → startless body ≡ true → T (Names.startless (formula l Sort.assertion k))
   unfolding formula startless
   assertion-startless e h =
-      is-true (not-false (Names.startless (ofTree Sort.assertion (treeOf body))) (sym (no-start (ofTree Sort.assertion (treeOf body))) ∙ ap (λ (t : Tree). occurs start [] t) (sorted Codes.assertion e) ∙ not-true (occurs start [] (treeOf body)) h))
+      is-true (not-false (Names.startless (ofTree Sort.assertion (treeOf body)))
+      (sym (no-start (ofTree Sort.assertion (treeOf body))) ∙ ap (λ (t : Tree). occurs start [] t) (sorted Codes.assertion e)
+      ∙ not-true (occurs start [] (treeOf body)) h))

@@ -16,7 +16,7 @@ use Rattle.program.specs.declared.sizes.Sizes.{Sizes}
 use Rattle.program.specs.declared.instruction.Half.{Half}
 use Rattle.program.specs.declared.instruction.Instruction.{Instruction}
 use Rattle.program.specs.Instruction.{pairOperation}
-use Rattle.program.specs.Thread.{instructions, nothing}
+use Rattle.threads.specs.Thread.{instructions, nothing}
 use Rattle.records.specs.Places.{threadBody, instructionOf}
 use Rattle.content.specs.Formula.{formula}
 use Rattle.content.specs.Program.{instr}
@@ -67,7 +67,23 @@ module _ (l : List (List ℕ)) (a b f : ℕ) (n : Half) where
       let n10 : op ≡ 10 → ⊥ = omega arith in
       let n11 : op ≡ 11 → ⊥ = omega arith in
       let n12 : op ≡ 12 → ⊥ = omega arith in
-      rw (ne-eqb op 0 n0, ne-eqb op 1 n1, ne-eqb op 2 n2, ne-eqb op 3 n3, ne-eqb op 4 n4, ne-eqb op 5 n5, ne-eqb op 6 n6, ne-eqb op 7 n7, ne-eqb op 8 n8, ne-eqb op 9 n9, ne-eqb op 10 n10, ne-eqb op 11 n11, ne-eqb op 12 n12, le-ltb op 9 (omega arith), lt-leb op 11 (omega arith))
+      rw (
+        ne-eqb op 0 n0,
+        ne-eqb op 1 n1,
+        ne-eqb op 2 n2,
+        ne-eqb op 3 n3,
+        ne-eqb op 4 n4,
+        ne-eqb op 5 n5,
+        ne-eqb op 6 n6,
+        ne-eqb op 7 n7,
+        ne-eqb op 8 n8,
+        ne-eqb op 9 n9,
+        ne-eqb op 10 n10,
+        ne-eqb op 11 n11,
+        ne-eqb op 12 n12,
+        le-ltb op 9 (omega arith),
+        lt-leb op 11 (omega arith),
+      )
 
   pair-at : (op : ℕ) → isPair (instr l (made op)) ≡ pairOperation op
   unfolding instr pairOperation
@@ -84,12 +100,14 @@ module _ (l : List (List ℕ)) (a b f : ℕ) (n : Half) where
   pair-at (suc (suc (suc (suc (suc (suc (suc (suc (suc (suc zero)))))))))) = refl
   pair-at (suc (suc (suc (suc (suc (suc (suc (suc (suc (suc (suc zero))))))))))) = refl
   pair-at (suc (suc (suc (suc (suc (suc (suc (suc (suc (suc (suc (suc zero)))))))))))) = refl
-  pair-at (suc (suc (suc (suc (suc (suc (suc (suc (suc (suc (suc (suc (suc m))))))))))))) = no-pair-above (suc (suc (suc (suc (suc (suc (suc (suc (suc (suc (suc (suc (suc m))))))))))))) (omega arith)
+  pair-at (suc (suc (suc (suc (suc (suc (suc (suc (suc (suc (suc (suc (suc m))))))))))))) =
+      no-pair-above (suc (suc (suc (suc (suc (suc (suc (suc (suc (suc (suc (suc (suc m))))))))))))) (omega arith)
 
 pub pair-is : (l : List (List ℕ)) (i : Instruction) → isPair (instr l i) ≡ pairOperation (i .operation)
 pair-is l i = pair-at l (i .a) (i .b) (i .formula) (i .second) (i .operation)
 
 -- in a thread that is there, the instruction at a point is the thread's
-pub instruction-there : (z : Sizes) (l : List (List ℕ)) (t p : ℕ) → 1 ≤ t → t ≤ z .threads → instructionOf z l t p ≡ getD (instructions (threadBody z l t)) p nothing
+pub instruction-there : (z : Sizes) (l : List (List ℕ)) (t p : ℕ) → 1 ≤ t → t ≤ z .threads
+    → instructionOf z l t p ≡ getD (instructions (threadBody z l t)) p nothing
 unfolding instructionOf
 instruction-there z l t p a b = let q : t ≡ 0 → ⊥ = omega arith in rw (ne-eqb t 0 q, le-ltb (z .threads) t b)

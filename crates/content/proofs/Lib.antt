@@ -6,8 +6,5 @@ pub mod Checked
 pub mod Formulas
 pub mod Program
 pub mod Lines
-pub mod Rule
 pub mod Admitted
-pub mod Laws
-pub mod Positions
-pub mod Trees
+pub mod Worked

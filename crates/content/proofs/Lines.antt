@@ -22,8 +22,8 @@ use Rattle.limits.proofs.Numbers.{numbers-length}
 use Rattle.formula.specs.Codes as Codes
 use Rattle.formula.specs.Reader.{sortOf}
 use Rattle.program.specs.declared.sizes.Sizes.{Sizes}
-use Rattle.program.specs.Thread.{lastPoint, instructions, nothing}
-use Rattle.program.proofs.Laws.Program.{instructions-length}
+use Rattle.threads.specs.Thread.{lastPoint, instructions, nothing}
+use Rattle.threads.proofs.Threads.{instructions-length}
 use Rattle.records.specs.Places.{threadBody, instructionOf}
 use Rattle.records.specs.declared.line.Form.{Form}
 use Rattle.records.specs.declared.line.Form.the-variants.{Triple, Implication, Inclusion, Pair, Unlisted}
@@ -76,14 +76,17 @@ module _ (z : Sizes) (l : List (List ℕ)) (t k : ℕ) (e : eqb (instructionOf z
       go false h =
           let q = ltb-false k (lastPoint (threadBody z l t)) h in
           let m : length (instructions (threadBody z l t)) ≤ k = let n = instructions-length (threadBody z l t) in omega arith in
-          absurd (nothing-not (instruction-there z l t k thread-low thread-high ∙ List·getD-eq-default (instructions (threadBody z l t)) nothing m))
+          absurd
+          (nothing-not (instruction-there z l t k thread-low thread-high
+          ∙ List·getD-eq-default (instructions (threadBody z l t)) nothing m))
 
 -- an obligation names a line that is there, or none
 pub named-there : (z : Sizes) (l : List (List ℕ)) → Checks z l → (i : ℕ) → namedLine z l i ≤ z .lines
 unfolding obligations exactly namedLine within
 named-there z l c i =
     let numbered = unless-passed _ _ _ (unless-passed _ _ _ (obligations-passed z l c) .1) .0 in
-    within-true 0 (z .lines) (namedLine z l i) (every-or (within 0 (z .lines)) (numbers (obligationCount z l) (obligationsBody z l)) i 0 numbered (le-leb 0 (z .lines) (omega arith))) .1
+    within-true 0 (z .lines) (namedLine z l i) (every-or (within 0 (z .lines)) (numbers (obligationCount z l) (obligationsBody z l)) i 0
+    numbered (le-leb 0 (z .lines) (omega arith))) .1
 
 -- a claim: two threads that are there, with points of theirs, and a line that is there, or none
 pub record Claimed (z : Sizes) (l : List (List ℕ)) (b : List ℕ) : Type 0 where
@@ -93,7 +96,8 @@ pub record Claimed (z : Sizes) (l : List (List ℕ)) (b : List ℕ) : Type 0 whe
   pub beyond : getD b 3 0 < pointCount z l (getD b 2 0)
   pub line : word (drop 4 b) ≤ z .lines
 
-point-in : (z : Sizes) (l : List (List ℕ)) (b : List ℕ) (i : ℕ) → pointThere z l b i ≡ true → Within (z .threads) (getD b i 0) × (getD b (i + 1) 0 < pointCount z l (getD b i 0))
+point-in : (z : Sizes) (l : List (List ℕ)) (b : List ℕ) (i : ℕ) → pointThere z l b i ≡ true
+    → Within (z .threads) (getD b i 0) × (getD b (i + 1) 0 < pointCount z l (getD b i 0))
 unfolding pointThere pointCount
 point-in z l b i e =
     let h = and-true (within 1 (z .threads) (getD b i 0)) (within 0 (lastPoint (threadBody z l (getD b i 0))) (getD b (i + 1) 0)) e in
@@ -131,7 +135,8 @@ module _ (z : Sizes) (l : List (List ℕ)) (c : Checks z l) (n : ℕ) (low : 1 �
 
   pub sorted-passed : (sortedBy l form (left body) ≡ true) × (sortedBy l form (right body) ≡ true)
   unfolding line lineSorted
-  sorted-passed = and-true (sortedBy l form (left body)) (sortedBy l form (right body)) (unless-passed _ _ _ (also-passed _ _ (line-passed z l c n low high) .1) .0)
+  sorted-passed = and-true (sortedBy l form (left body)) (sortedBy l form (right body))
+      (unless-passed _ _ _ (also-passed _ _ (line-passed z l c n low high) .1) .0)
 
   -- its formulas are there; its premises are few and have lower numbers
   abbrev few : Bool
@@ -155,7 +160,8 @@ module _ (z : Sizes) (l : List (List ℕ)) (c : Checks z l) (n : ℕ) (low : 1 �
   premises-few = within-true 0 Limits.premises (getD body 7 0) (ranges .2) .1
 
   pub line-lower : (i : ℕ) → i < length (premises body) → getD (premises body) i 0 < n
-  line-lower i b = let h = within-true 1 (n - 1) (getD (premises body) i 0) (every-at (within 1 (n - 1)) (premises body) i 0 (in-range .2) b) in omega (arith, h .0, h .1)
+  line-lower i b = let h = within-true 1 (n - 1) (getD (premises body) i 0)
+      (every-at (within 1 (n - 1)) (premises body) i 0 (in-range .2) b) in omega (arith, h .0, h .1)
 
   -- as many premises as it says
   pub premise-count : length (premises body) ≡ getD body 7 0
@@ -182,7 +188,8 @@ module _ (z : Sizes) (l : List (List ℕ)) (c : Checks z l) (n : ℕ) (low : 1 �
   sides-startless e d =
       let a = outlined-fine z l c (left body) e in
       let b = outlined-fine z l c (right body) d in
-      and-both (Names.startless before) (Names.startless after) (assertion-startless z l c (left body) (in-range .0 .0) (in-range .0 .1) (a .0) (a .1))
+      and-both (Names.startless before) (Names.startless after)
+      (assertion-startless z l c (left body) (in-range .0 .0) (in-range .0 .1) (a .0) (a .1))
       (assertion-startless z l c (right body) (in-range .1 .0) (in-range .1 .1) (b .0) (b .1))
 
   -- its thread and point, if it is a triple
@@ -210,16 +217,20 @@ module _ (z : Sizes) (l : List (List ℕ)) (c : Checks z l) (n : ℕ) (low : 1 �
     action-there : T (instructed && acts)
     action-there =
         and-both instructed acts
-        (and-both (Base.within (z .threads) t) (ltb (suc k) (P .points t)) (within-there (z .threads) t (triple-there .0 .0) (triple-there .0 .1)) (lt→ltb (suc k) (P .points t) (triple-there .1)))
+        (and-both (Base.within (z .threads) t) (ltb (suc k) (P .points t))
+        (within-there (z .threads) t (triple-there .0 .0) (triple-there .0 .1)) (lt→ltb (suc k) (P .points t) (triple-there .1)))
         (rw (branch-is l (instructionOf z l t k), no-branch) tt)
 
-  triple-fine : placed z l Triple body ≡ true → outlinedAt l (left body) ≡ true → outlinedAt l (right body) ≡ true → T (admittedAt P t k before after)
+  triple-fine : placed z l Triple body ≡ true → outlinedAt l (left body) ≡ true → outlinedAt l (right body) ≡ true
+      → T (admittedAt P t k before after)
   triple-fine e p q =
-      and-both (instructed && acts) ((Names.plain before && Names.plain after) && (Names.startless before && Names.startless after)) (action-there e)
+      and-both (instructed && acts) ((Names.plain before && Names.plain after) && (Names.startless before && Names.startless after))
+      (action-there e)
       (and-both (Names.plain before && Names.plain after) (Names.startless before && Names.startless after)
       (sides-plain (outlined-fine z l c (left body) p .0) (outlined-fine z l c (right body) q .0)) (sides-startless p q))
 
-  line-fine : (f : Form) → placed z l f body ≡ true → sortedBy l f (left body) ≡ true → sortedBy l f (right body) ≡ true → T (admitted P (saying z l f body))
+  line-fine : (f : Form) → placed z l f body ≡ true → sortedBy l f (left body) ≡ true → sortedBy l f (right body) ≡ true
+      → T (admitted P (saying z l f body))
   unfolding saying placed sortedBy sortAt
   line-fine Triple e p q = triple-fine e p q
   line-fine Pair e p q = taking-fine (isPair (P .code t k))
@@ -227,7 +238,8 @@ module _ (z : Sizes) (l : List (List ℕ)) (c : Checks z l) (n : ℕ) (low : 1 �
       taking-fine : (b : Bool) → T (admitted P (elim b [ true ↦ pair t k before after | false ↦ triple t k before after ]))
       taking-fine true = triple-fine e p q
       taking-fine false = triple-fine e p q
-  line-fine Implication e p q = sides-plain (eqb-true (sortOf (getD l (left body) [])) Codes.assertion p) (eqb-true (sortOf (getD l (right body) [])) Codes.assertion q)
+  line-fine Implication e p q = sides-plain (eqb-true (sortOf (getD l (left body) [])) Codes.assertion p)
+      (eqb-true (sortOf (getD l (right body) [])) Codes.assertion q)
   line-fine Inclusion e p q = tt
   line-fine Unlisted e p q = tt
 
@@ -238,7 +250,8 @@ module _ (z : Sizes) (l : List (List ℕ)) (c : Checks z l) (n : ℕ) (low : 1 �
       (formula-bounded z l c (left body) (in-range .0 .0) (in-range .0 .1) p e)
       (formula-bounded z l c (right body) (in-range .1 .0) (in-range .1 .1) p d)
 
-  line-constants : (f : Form) → placed z l f body ≡ true → sortedBy l f (left body) ≡ true → sortedBy l f (right body) ≡ true → T (boundedSides (P .range) (saying z l f body))
+  line-constants : (f : Form) → placed z l f body ≡ true → sortedBy l f (left body) ≡ true → sortedBy l f (right body) ≡ true
+      → T (boundedSides (P .range) (saying z l f body))
   unfolding saying placed sortedBy sortAt
   line-constants Triple h p q = sides-bounded Codes.assertion (outlined-fine z l c (left body) p .0) (outlined-fine z l c (right body) q .0)
   line-constants Pair h p q = taking-bounded (isPair (P .code t k))
@@ -246,8 +259,10 @@ module _ (z : Sizes) (l : List (List ℕ)) (c : Checks z l) (n : ℕ) (low : 1 �
       taking-bounded : (b : Bool) → T (boundedSides (P .range) (elim b [ true ↦ pair t k before after | false ↦ triple t k before after ]))
       taking-bounded true = sides-bounded Codes.assertion (outlined-fine z l c (left body) p .0) (outlined-fine z l c (right body) q .0)
       taking-bounded false = sides-bounded Codes.assertion (outlined-fine z l c (left body) p .0) (outlined-fine z l c (right body) q .0)
-  line-constants Implication h p q = sides-bounded Codes.assertion (eqb-true (sortOf (getD l (left body) [])) Codes.assertion p) (eqb-true (sortOf (getD l (right body) [])) Codes.assertion q)
-  line-constants Inclusion h p q = sides-bounded Codes.interval (eqb-true (sortOf (getD l (left body) [])) Codes.interval p) (eqb-true (sortOf (getD l (right body) [])) Codes.interval q)
+  line-constants Implication h p q = sides-bounded Codes.assertion (eqb-true (sortOf (getD l (left body) [])) Codes.assertion p)
+      (eqb-true (sortOf (getD l (right body) [])) Codes.assertion q)
+  line-constants Inclusion h p q = sides-bounded Codes.interval (eqb-true (sortOf (getD l (left body) [])) Codes.interval p)
+      (eqb-true (sortOf (getD l (right body) [])) Codes.interval q)
   line-constants Unlisted h p q = absurd (true≢false (sym h))
 
   -- its constants are values

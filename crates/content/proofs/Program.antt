@@ -28,9 +28,9 @@ use Rattle.program.specs.declared.instruction.Instruction.{Instruction}
 use Rattle.program.specs.declared.instruction.Fields.{Fields}
 use Rattle.header.specs.Header.{startValues, owners, marks, counted, headed, header}
 use Rattle.program.specs.Instruction.{inside, twofold, fieldsOf, fieldsFit, differ, halfFits, secondFits, ranged}
-use Rattle.program.specs.Thread.{lastPoint, instructions, nothing, numbered, threadNumbers}
+use Rattle.threads.specs.Thread.{lastPoint, instructions, nothing, numbered, threadNumbers}
 use Rattle.header.proofs.Laws.{counted-in}
-use Rattle.program.proofs.Laws.Program.{instructions-length}
+use Rattle.threads.proofs.Threads.{instructions-length}
 use Rattle.records.specs.Places.{threadBody}
 use Rattle.records.specs.List.{exactly}
 use Rattle.records.specs.Tally.{tallyTo, tally}
@@ -56,20 +56,26 @@ made op a b f h = record { operation = op; a = a; b = b; formula = f; second = h
 
 -- the fields of an instruction are in their ranges
 pub fields-in : (i : Instruction) (f : Fields) → fieldsFit i f ≡ true
-    → ((f .a .low ≤ i .a) × (i .a ≤ f .a .high)) × ((f .b .low ≤ i .b) × (i .b ≤ f .b .high)) × ((f .formula .low ≤ i .formula) × (i .formula ≤ f .formula .high))
+    → ((f .a .low ≤ i .a) × (i .a ≤ f .a .high)) × ((f .b .low ≤ i .b) × (i .b ≤ f .b .high))
+    × ((f .formula .low ≤ i .formula) × (i .formula ≤ f .formula .high))
 unfolding fieldsFit
 fields-in i f e =
     let h = and-true (inside (f .a) (i .a)) (inside (f .b) (i .b) && inside (f .formula) (i .formula)) e in
-    let g = and-true (inside (f .b) (i .b)) (inside (f .formula) (i .formula)) (h .1) in
-    (within-true (f .a .low) (f .a .high) (i .a) (h .0), within-true (f .b .low) (f .b .high) (i .b) (g .0), within-true (f .formula .low) (f .formula .high) (i .formula) (g .1))
+    let g = and-true (inside (f .b) (i .b)) (inside (f .formula) (i .formula)) (h .1) in (
+      within-true (f .a .low) (f .a .high) (i .a) (h .0),
+      within-true (f .b .low) (f .b .high) (i .b) (g .0),
+      within-true (f .formula .low) (f .formula .high) (i .formula) (g .1),
+    )
 
 -- both halves of an instruction are
-pub ranged-both : (last : ℕ) (z : Sizes) (i : Instruction) → ranged last z i ≡ true → (fieldsFit i (fieldsOf (i .operation) last z) ≡ true) × (secondFits z i ≡ true)
+pub ranged-both : (last : ℕ) (z : Sizes) (i : Instruction) → ranged last z i ≡ true
+    → (fieldsFit i (fieldsOf (i .operation) last z) ≡ true) × (secondFits z i ≡ true)
 unfolding ranged
 ranged-both last z i e = and-true (fieldsFit i (fieldsOf (i .operation) last z)) (secondFits z i) e
 
 -- a second half that there is: its formula is there
-pub second-in : (z : Sizes) (i : Instruction) → twofold (i .operation) ≡ true → secondFits z i ≡ true → (1 ≤ i .second .formula) × (i .second .formula ≤ z .formulas)
+pub second-in : (z : Sizes) (i : Instruction) → twofold (i .operation) ≡ true → secondFits z i ≡ true
+    → (1 ≤ i .second .formula) × (i .second .formula ≤ z .formulas)
 unfolding secondFits halfFits
 second-in z i t e =
     let h : Half = i .second in
@@ -127,12 +133,15 @@ module _ (z : Sizes) (l : List (List ℕ)) (c : Checks z l) where
       (eqb-true (sortOf (getD l k [])) sort (h .0), h .1)
 
   -- of both halves
-  pub sorted-both : (i : Instruction) → sorted l i ≡ true → (formulaSorted l (wanted (i .operation)) (i .formula) ≡ true) × (formulaSorted l Codes.value (i .second .formula) ≡ true)
+  pub sorted-both : (i : Instruction) → sorted l i ≡ true
+      → (formulaSorted l (wanted (i .operation)) (i .formula) ≡ true) × (formulaSorted l Codes.value (i .second .formula) ≡ true)
   unfolding sorted
   sorted-both i e = and-true (formulaSorted l (wanted (i .operation)) (i .formula)) (formulaSorted l Codes.value (i .second .formula)) e
 
-  value-fine : (k : ℕ) → 1 ≤ k → k ≤ z .formulas → (sortOf (getD l k []) ≡ Codes.value) × (plain (getD l k []) ≡ true) → T (only isReg (formula l Sort.value k) && bounded (P .range) (formula l Sort.value k))
-  value-fine k a b h = and-both (only isReg (formula l Sort.value k)) (bounded (P .range) (formula l Sort.value k)) (value-regs z l c k a b (h .0) (h .1)) (formula-bounded z l c k a b Codes.value (h .0))
+  value-fine : (k : ℕ) → 1 ≤ k → k ≤ z .formulas → (sortOf (getD l k []) ≡ Codes.value) × (plain (getD l k []) ≡ true)
+      → T (only isReg (formula l Sort.value k) && bounded (P .range) (formula l Sort.value k))
+  value-fine k a b h = and-both (only isReg (formula l Sort.value k)) (bounded (P .range) (formula l Sort.value k))
+      (value-regs z l c k a b (h .0) (h .1)) (formula-bounded z l c k a b Codes.value (h .0))
 
   module _ (last : ℕ) where
     abbrev Proper : Instruction → Type 0
@@ -149,21 +158,26 @@ module _ (z : Sizes) (l : List (List ℕ)) (c : Checks z l) where
     first-fields i e = ranged-both last z i e .0
 
     -- the formula of the first half, where it is there
-    first-fine : (i : Instruction) → wanted (i .operation) ≡ Codes.value → (1 ≤ i .formula) × (i .formula ≤ z .formulas) → sorted l i ≡ true → T (valued (i .formula))
-    first-fine i w r d = let s = formula-sorted (wanted (i .operation)) (i .formula) (r .0) (sorted-both i d .0) in value-fine (i .formula) (r .0) (r .1) (s .0 ∙ w, s .1)
+    first-fine : (i : Instruction) → wanted (i .operation) ≡ Codes.value → (1 ≤ i .formula) × (i .formula ≤ z .formulas)
+        → sorted l i ≡ true → T (valued (i .formula))
+    first-fine i w r d = let s = formula-sorted (wanted (i .operation)) (i .formula) (r .0) (sorted-both i d .0) in
+        value-fine (i .formula) (r .0) (r .1) (s .0 ∙ w, s .1)
 
     -- the note of the second half
-    note-fine : (i : Instruction) → twofold (i .operation) ≡ true → ranged last z i ≡ true → sorted l i ≡ true → T (valued (i .second .formula) && true)
+    note-fine : (i : Instruction) → twofold (i .operation) ≡ true → ranged last z i ≡ true → sorted l i ≡ true
+        → T (valued (i .second .formula) && true)
     note-fine i t e d =
         let r = second-in z i t (ranged-both last z i e .1) in
-        alone (valued (i .second .formula)) (value-fine (i .second .formula) (r .0) (r .1) (formula-sorted Codes.value (i .second .formula) (r .0) (sorted-both i d .1)))
+        alone (valued (i .second .formula)) (value-fine (i .second .formula) (r .0) (r .1)
+        (formula-sorted Codes.value (i .second .formula) (r .0) (sorted-both i d .1)))
 
     -- a write of the word a: b is what else is asked of its formula
     writing : (a f : ℕ) (b : Bool) → (1 ≤ a) × (a ≤ z .words) → T (valued f) → T b → T (Base.within (z .words) a && (valued f && b))
     writing a f b w v h =
         and-both (Base.within (z .words) a) (valued f && b) (within-there (z .words) a (w .0) (w .1)) (and-both (valued f) b v h)
 
-    write-fine : (i : Instruction) → wanted (i .operation) ≡ Codes.value → fieldsOf (i .operation) last z ≡ fieldsOf Opcode.store last z → ranged last z i ≡ true
+    write-fine : (i : Instruction) → wanted (i .operation) ≡ Codes.value → fieldsOf (i .operation) last z ≡ fieldsOf Opcode.store last z
+        → ranged last z i ≡ true
         → sorted l i ≡ true → T (Base.within (z .words) (i .a) && (valued (i .formula) && true))
     unfolding fieldsOf
     write-fine i w q e d =
@@ -171,11 +185,13 @@ module _ (z : Sizes) (l : List (List ℕ)) (c : Checks z l) where
         writing (i .a) (i .formula) true (h .0) (first-fine i w (h .2) d) tt
 
     -- with a note
-    pair-fine : (i : Instruction) → wanted (i .operation) ≡ Codes.value → fieldsOf (i .operation) last z ≡ fieldsOf Opcode.store last z → twofold (i .operation) ≡ true
+    pair-fine : (i : Instruction) → wanted (i .operation) ≡ Codes.value → fieldsOf (i .operation) last z ≡ fieldsOf Opcode.store last z
+        → twofold (i .operation) ≡ true
         → ranged last z i ≡ true → sorted l i ≡ true
         → T ((Base.within (z .words) (i .a) && (valued (i .formula) && true)) && (valued (i .second .formula) && true))
     pair-fine i w q t e d =
-        and-both (Base.within (z .words) (i .a) && (valued (i .formula) && true)) (valued (i .second .formula) && true) (write-fine i w q e d) (note-fine i t e d)
+        and-both (Base.within (z .words) (i .a) && (valued (i .formula) && true)) (valued (i .second .formula) && true)
+        (write-fine i w q e d) (note-fine i t e d)
 
     result-fine : (i : Instruction) → wanted (i .operation) ≡ Codes.value → fieldsOf (i .operation) last z ≡ fieldsOf Opcode.exchange last z
         → leb (i .operation) Opcode.branch ≡ false → ltb Opcode.fetchAdd (i .operation) ≡ false
@@ -187,7 +203,8 @@ module _ (z : Sizes) (l : List (List ℕ)) (c : Checks z l) where
         let s = formula-sorted (wanted (i .operation)) (i .formula) (h .2 .0) (sorted-both i d .0) in
         alone (Base.within (z .words) (i .a) && (valued (i .formula) && only (notReg (i .b)) (formula l Sort.value (i .formula))))
         (writing (i .a) (i .formula) (only (notReg (i .b)) (formula l Sort.value (i .formula))) (h .0) (first-fine i w (h .2) d)
-        (value-lacks z l c (i .formula) (h .2 .0) (h .2 .1) (i .b) (s .0 ∙ w) (not-true (occurs (register (i .b)) [] (treeOf (getD l (i .formula) []))) (rw (o, o′) at g))))
+        (value-lacks z l c (i .formula) (h .2 .0) (h .2 .1) (i .b) (s .0 ∙ w)
+        (not-true (occurs (register (i .b)) [] (treeOf (getD l (i .formula) []))) (rw (o, o′) at g))))
 
     -- no operation is above 12: its first field has no range
     pub none-above : (i : Instruction) → 12 < i .operation → ranged last z i ≡ true → ⊥
@@ -197,29 +214,49 @@ module _ (z : Sizes) (l : List (List ℕ)) (c : Checks z l) where
         let p : op ≡ 0 → ⊥ = omega arith in
         let q : op ≡ 6 → ⊥ = omega arith in
         let r : op ≡ 12 → ⊥ = omega arith in
-        let h = fields-in _ _ (rw (ne-eqb op 0 p, lt-leb op 2 (omega arith), lt-leb op 5 (omega arith), ne-eqb op 6 q, lt-leb op 8 (omega arith), lt-leb op 11 (omega arith), ne-eqb op 12 r) at (first-fields i e)) in
+        let h =
+        fields-in _ _
+        (rw (
+          ne-eqb op 0 p,
+          lt-leb op 2 (omega arith),
+          lt-leb op 5 (omega arith),
+          ne-eqb op 6 q,
+          lt-leb op 8 (omega arith),
+          lt-leb op 11 (omega arith),
+          ne-eqb op 12 r,
+        ) at (first-fields i e)) in
         omega arith
 
     instr-proper : (op a b f : ℕ) (n : Half) → Proper (made op a b f n)
     unfolding fieldsOf instr wanted twofold
-    instr-proper zero a b f n e d g = let h = fields-in _ _ (first-fields _ e) in alone (valued f) (first-fine (made 0 a b f n) refl (h .2) d)
-    instr-proper (suc zero) a b f n e d g = let h = fields-in _ _ (first-fields _ e) in alone (Base.within (z .words) b) (within-there (z .words) b (h .1 .0) (h .1 .1))
-    instr-proper (suc (suc zero)) a b f n e d g = let h = fields-in _ _ (first-fields _ e) in alone (Base.within (z .words) b) (within-there (z .words) b (h .1 .0) (h .1 .1))
-    instr-proper (suc (suc (suc zero))) a b f n e d g = alone (Base.within (z .words) a && (valued f && true)) (write-fine (made 3 a b f n) refl refl e d)
-    instr-proper (suc (suc (suc (suc zero)))) a b f n e d g = alone (Base.within (z .words) a && (valued f && true)) (write-fine (made 4 a b f n) refl refl e d)
-    instr-proper (suc (suc (suc (suc (suc zero))))) a b f n e d g = alone (Base.within (z .words) a && (valued f && true)) (write-fine (made 5 a b f n) refl refl e d)
+    instr-proper zero a b f n e d g = let h = fields-in _ _ (first-fields _ e) in
+        alone (valued f) (first-fine (made 0 a b f n) refl (h .2) d)
+    instr-proper (suc zero) a b f n e d g = let h = fields-in _ _ (first-fields _ e) in
+        alone (Base.within (z .words) b) (within-there (z .words) b (h .1 .0) (h .1 .1))
+    instr-proper (suc (suc zero)) a b f n e d g = let h = fields-in _ _ (first-fields _ e) in
+        alone (Base.within (z .words) b) (within-there (z .words) b (h .1 .0) (h .1 .1))
+    instr-proper (suc (suc (suc zero))) a b f n e d g =
+        alone (Base.within (z .words) a && (valued f && true)) (write-fine (made 3 a b f n) refl refl e d)
+    instr-proper (suc (suc (suc (suc zero)))) a b f n e d g =
+        alone (Base.within (z .words) a && (valued f && true)) (write-fine (made 4 a b f n) refl refl e d)
+    instr-proper (suc (suc (suc (suc (suc zero))))) a b f n e d g =
+        alone (Base.within (z .words) a && (valued f && true)) (write-fine (made 5 a b f n) refl refl e d)
     instr-proper (suc (suc (suc (suc (suc (suc zero)))))) a b f n e d g =
         let h = fields-in _ _ (first-fields _ e) in
         let s = formula-sorted Codes.test f (h .2 .0) (sorted-both (made 6 a b f n) d .0) in
-        and-both (only isReg (formula l Sort.test f)) (ltb a (last + 1)) (test-regs z l c f (h .2 .0) (h .2 .1) (s .0) (s .1)) (lt→ltb a (last + 1) (omega (arith, h .0 .1)))
+        and-both (only isReg (formula l Sort.test f)) (ltb a (last + 1)) (test-regs z l c f (h .2 .0) (h .2 .1) (s .0) (s .1))
+        (lt→ltb a (last + 1) (omega (arith, h .0 .1)))
     instr-proper (suc (suc (suc (suc (suc (suc (suc zero))))))) a b f n e d g = result-fine (made 7 a b f n) refl refl refl refl e d g
     instr-proper (suc (suc (suc (suc (suc (suc (suc (suc zero)))))))) a b f n e d g = result-fine (made 8 a b f n) refl refl refl refl e d g
     instr-proper (suc (suc (suc (suc (suc (suc (suc (suc (suc zero))))))))) a b f n e d g = pair-fine (made 9 a b f n) refl refl refl e d
-    instr-proper (suc (suc (suc (suc (suc (suc (suc (suc (suc (suc zero)))))))))) a b f n e d g = pair-fine (made 10 a b f n) refl refl refl e d
-    instr-proper (suc (suc (suc (suc (suc (suc (suc (suc (suc (suc (suc zero))))))))))) a b f n e d g = pair-fine (made 11 a b f n) refl refl refl e d
+    instr-proper (suc (suc (suc (suc (suc (suc (suc (suc (suc (suc zero)))))))))) a b f n e d g =
+        pair-fine (made 10 a b f n) refl refl refl e d
+    instr-proper (suc (suc (suc (suc (suc (suc (suc (suc (suc (suc (suc zero))))))))))) a b f n e d g =
+        pair-fine (made 11 a b f n) refl refl refl e d
     instr-proper (suc (suc (suc (suc (suc (suc (suc (suc (suc (suc (suc (suc zero)))))))))))) a b f n e d g =
         let h = fields-in _ _ (first-fields _ e) in
-        and-both (valued f) (valued (n .formula) && true) (first-fine (made 12 a b f n) refl (h .2) d) (note-fine (made 12 a b f n) refl e d)
+        and-both (valued f) (valued (n .formula) && true) (first-fine (made 12 a b f n) refl (h .2) d)
+        (note-fine (made 12 a b f n) refl e d)
     instr-proper (suc (suc (suc (suc (suc (suc (suc (suc (suc (suc (suc (suc (suc m))))))))))))) a b f n e d g =
         absurd (none-above (made (suc (suc (suc (suc (suc (suc (suc (suc (suc (suc (suc (suc (suc m))))))))))))) a b f n) (omega arith) e)
 
@@ -246,7 +283,8 @@ module _ (z : Sizes) (l : List (List ℕ)) (c : Checks z l) where
 
     thread-absent : every (resultAbsent l) (instructions body) ≡ true
     unfolding thread threadRegisters
-    thread-absent = unless-passed _ _ _ (unless-passed _ _ _ (unless-passed _ _ _ (also-passed _ _ (thread-passed z l c t low high) .1) .1) .1) .0
+    thread-absent = unless-passed _ _ _ (unless-passed _ _ _
+        (unless-passed _ _ _ (also-passed _ _ (thread-passed z l c t low high) .1) .1) .1) .0
 
     instruction-proper : (k : ℕ) → suc k < P .points t → T (proper P (P .points t) (P .code t k))
     unfolding pointCount
@@ -254,7 +292,10 @@ module _ (z : Sizes) (l : List (List ℕ)) (c : Checks z l) where
         let m : k < length (instructions body) = let q = instructions-length body in omega arith in
         let i : Instruction = getD (instructions body) k nothing in
         rw (instruction-there z l t k low high)
-        (instr-proper (lastPoint body) (i .operation) (i .a) (i .b) (i .formula) (i .second) (every-at (ranged (lastPoint body) z) (instructions body) k nothing thread-ranged m) (every-at (sorted l) (instructions body) k nothing thread-sorted m) (every-at (resultAbsent l) (instructions body) k nothing thread-absent m))
+        (instr-proper (lastPoint body) (i .operation) (i .a) (i .b) (i .formula) (i .second)
+        (every-at (ranged (lastPoint body) z) (instructions body) k nothing thread-ranged m)
+        (every-at (sorted l) (instructions body) k nothing thread-sorted m)
+        (every-at (resultAbsent l) (instructions body) k nothing thread-absent m))
 
   -- the outline
 
@@ -284,7 +325,8 @@ module _ (z : Sizes) (l : List (List ℕ)) (c : Checks z l) where
   -- an assertion in which start does not occur
   pub outlined-fine : (k : ℕ) → outlinedAt l k ≡ true → (sortOf (getD l k []) ≡ Codes.assertion) × (startless (getD l k []) ≡ true)
   unfolding outlinedAt outlined
-  outlined-fine k e = let h = and-true (eqb (sortOf (getD l k [])) Codes.assertion) (startless (getD l k [])) e in (eqb-true (sortOf (getD l k [])) Codes.assertion (h .0), h .1)
+  outlined-fine k e = let h = and-true (eqb (sortOf (getD l k [])) Codes.assertion) (startless (getD l k [])) e in
+      (eqb-true (sortOf (getD l k [])) Codes.assertion (h .0), h .1)
 
   -- the formula of a point: it is there, and is an assertion without start
   module _ (t k : ℕ) (w : Within (z .threads) t) (b : k < P .points t) where
@@ -294,13 +336,18 @@ module _ (z : Sizes) (l : List (List ℕ)) (c : Checks z l) where
 
     pub outline-range : (1 ≤ outlineNumber z l t k) × (outlineNumber z l t k ≤ z .formulas)
     outline-range =
-        within-true 1 (z .formulas) (outlineNumber z l t k) (rw number-is (every-at (within 1 (z .formulas)) outlineNumbers (tallyTo z l (t - 1) .points + k) 0 outline-numbered (outline-there t k w b)))
+        within-true 1 (z .formulas) (outlineNumber z l t k)
+        (rw number-is (every-at (within 1 (z .formulas)) outlineNumbers (tallyTo z l (t - 1) .points + k) 0 outline-numbered
+        (outline-there t k w b)))
 
-    pub outline-fine : (sortOf (getD l (outlineNumber z l t k) []) ≡ Codes.assertion) × (startless (getD l (outlineNumber z l t k) []) ≡ true)
-    outline-fine = outlined-fine (outlineNumber z l t k) (rw number-is (every-at (outlinedAt l) outlineNumbers (tallyTo z l (t - 1) .points + k) 0 outline-sorted (outline-there t k w b)))
+    pub outline-fine : (sortOf (getD l (outlineNumber z l t k) []) ≡ Codes.assertion)
+        × (startless (getD l (outlineNumber z l t k) []) ≡ true)
+    outline-fine = outlined-fine (outlineNumber z l t k)
+        (rw number-is (every-at (outlinedAt l) outlineNumbers (tallyTo z l (t - 1) .points + k) 0 outline-sorted (outline-there t k w b)))
 
     outline-startless : T (Names.startless (outlineOf z l t k))
-    outline-startless = assertion-startless z l c (outlineNumber z l t k) (outline-range .0) (outline-range .1) (outline-fine .0) (outline-fine .1)
+    outline-startless = assertion-startless z l c (outlineNumber z l t k) (outline-range .0) (outline-range .1) (outline-fine .0)
+        (outline-fine .1)
 
   pub well-formed : WellFormed P (outlineOf z l)
   unfolding pointCount

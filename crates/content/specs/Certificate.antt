@@ -28,7 +28,8 @@ module _ (z : Sizes) (l : List (List ℕ)) where
   saying Triple b = triple (getD b 1 0) (getD b 2 0) (formula l Sort.assertion (left b)) (formula l Sort.assertion (right b))
   saying Implication b = implies (formula l Sort.assertion (left b)) (formula l Sort.assertion (right b))
   saying Pair b =
-      taking (getD b 1 0) (getD b 2 0) (programOf z l .code (getD b 1 0) (getD b 2 0)) (formula l Sort.assertion (left b)) (formula l Sort.assertion (right b))
+      taking (getD b 1 0) (getD b 2 0) (programOf z l .code (getD b 1 0) (getD b 2 0)) (formula l Sort.assertion (left b))
+      (formula l Sort.assertion (right b))
   saying Inclusion b = inside (formula l Sort.interval (left b)) (formula l Sort.interval (right b))
   saying Unlisted b = inside (formula l Sort.interval (left b)) (formula l Sort.interval (right b))
 

@@ -40,7 +40,13 @@ module _ (z : Sizes) (l : List (List ℕ)) where
   claimsOf = record { count = z .claims; claim = λ i. claimIn (claimBody i); line = λ i. word (drop 4 (claimBody i)); place = claimPlace z }
 
   abbrev pub imageOf : Image
-  imageOf = record { program = programOf z l; outline = outlineOf z l; certificate = certificateOf z l; named = namedLine; claims = claimsOf }
+  imageOf = record {
+    program = programOf z l;
+    outline = outlineOf z l;
+    certificate = certificateOf z l;
+    named = namedLine;
+    claims = claimsOf;
+  }
 
 -- a fault and its record, or what the image says
 pub data Result : Type 0 where

@@ -3,6 +3,3 @@ pub mod Rule
 pub mod Program
 pub mod Certificate
 pub mod Image
-pub mod Totals
-pub mod Places
-pub mod Trees

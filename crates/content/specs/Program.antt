@@ -14,7 +14,7 @@ use Rattle.program.specs.declared.sizes.Sizes.{Sizes}
 use Rattle.program.specs.declared.instruction.Half.{Half}
 use Rattle.program.specs.declared.instruction.Instruction.{Instruction}
 use Rattle.header.specs.Header.{startValues, cleared, valueRange}
-use Rattle.program.specs.Thread.{lastPoint}
+use Rattle.threads.specs.Thread.{lastPoint}
 use Rattle.records.specs.Places.{threadBody, instructionOf}
 use Rattle.records.specs.Tally.{tallyTo, tally}
 use Rattle.content.specs.Formula.{formula}
@@ -44,8 +44,10 @@ module _ (l : List (List ℕ)) where
       (cond (eqb (i .operation) Opcode.branch) (branch (formula l Sort.test (i .formula)) (i .a))
       (cond (eqb (i .operation) Opcode.exchange) (act (write (exchange (i .b)) (i .a) (formula l Sort.value (i .formula))) [])
       (cond (eqb (i .operation) Opcode.fetchAdd) (act (write (fetchAdd (i .b)) (i .a) (formula l Sort.value (i .formula))) [])
-      (cond (eqb (i .operation) Opcode.pairStore) (act (write (store false) (i .a) (formula l Sort.value (i .formula))) (noteOf (i .second) ∷ []))
-      (cond (eqb (i .operation) Opcode.pairRelease) (act (write (store true) (i .a) (formula l Sort.value (i .formula))) (noteOf (i .second) ∷ []))
+      (cond (eqb (i .operation) Opcode.pairStore) (act (write (store false) (i .a) (formula l Sort.value (i .formula)))
+      (noteOf (i .second) ∷ []))
+      (cond (eqb (i .operation) Opcode.pairRelease) (act (write (store true) (i .a) (formula l Sort.value (i .formula)))
+      (noteOf (i .second) ∷ []))
       (cond (eqb (i .operation) Opcode.pairSwap) (act (write swap (i .a) (formula l Sort.value (i .formula))) (noteOf (i .second) ∷ []))
       (cond (eqb (i .operation) Opcode.assignTwo) (act none (gives (i .a) (formula l Sort.value (i .formula)) ∷ noteOf (i .second) ∷ []))
       idle))))))))))))

@@ -1,8 +1,1 @@
-// What a well-formed image says, and look-ups for the code that judges its lines. Each look-up is total: its equation has no condition but the index and the sums.
-pub mod acting;
-pub mod claim;
-pub mod line;
-pub mod named;
-pub mod point;
-pub mod position;
-pub mod totals;
+// What a well-formed image says: program, outline, certificate and claims of the logic. No code.

@@ -46,7 +46,8 @@ module _ (service body s : List ℕ) (t : Tally) where
   -- the parts that are read, by their lengths
   pub record HandedOver (r : Tally) : Type 0 where
     pub code : ℕ
-    pub served : HandoverServed service (callerAt s) (firstIn (lengthsAt s) body) (secondIn (lengthsAt s) body) (thirdIn (lengthsAt s) body) code
+    pub served : HandoverServed service (callerAt s) (firstIn (lengthsAt s) body) (secondIn (lengthsAt s) body)
+        (thirdIn (lengthsAt s) body) code
     pub counted : r ≡ withCase t 5 (sameService code service s)
 
   pub record Replayed (r : Tally) : Type 0 where

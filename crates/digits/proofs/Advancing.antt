@@ -1,4 +1,5 @@
--- The one fact on rows: those from all zeros on are every choice exactly once, and no other. And a digit by itself: its runs, and its cycle.
+-- The one fact on rows: those from all zeros on are every choice exactly once, and no other. And a digit by itself: its runs, and its
+-- cycle.
 use Prim.Native.Nat.{ℕ, zero, suc, _+_, _*_, _/_, _%_, _^_, _≤_, _<_}
 use mathlib.Core.Path.{_≡_, refl, ap, ap₂, sym, _∙_, subst}
 use mathlib.Core.List.{List, [], _∷_}
@@ -32,19 +33,23 @@ after-none zero r = refl
 after-none (suc i) r = after-none i r
 
 -- the first digit of a row, and the others
-after-first : (m : ℕ) (ms : List ℕ) (i d : ℕ) (r : List ℕ) → d ≤ m → after (m ∷ ms) i (d ∷ r) ≡ (d + i) % suc m ∷ after ms ((d + i) / suc m) r
+after-first : (m : ℕ) (ms : List ℕ) (i d : ℕ) (r : List ℕ) → d ≤ m
+    → after (m ∷ ms) i (d ∷ r) ≡ (d + i) % suc m ∷ after ms ((d + i) / suc m) r
 after-first m ms zero d r h =
     let e : d + 0 ≡ d = omega arith in
     let l : d < suc m = omega arith in
     after-zero (m ∷ ms) (d ∷ r)
-    ∙ sym (ap₂ (λ (a b : ℕ). a ∷ after ms b r) (ap (λ (n : ℕ). n % suc m) e ∙ mod-eq-of-lt l) (ap (λ (n : ℕ). n / suc m) e ∙ div-eq-of-lt l) ∙ ap (λ (t : List ℕ). d ∷ t) (after-zero ms r))
+    ∙ sym (ap₂ (λ (a b : ℕ). a ∷ after ms b r) (ap (λ (n : ℕ). n % suc m) e ∙ mod-eq-of-lt l)
+    (ap (λ (n : ℕ). n / suc m) e ∙ div-eq-of-lt l) ∙ ap (λ (t : List ℕ). d ∷ t) (after-zero ms r))
 after-first m ms (suc i) d r h = after-step (m ∷ ms) i (d ∷ r) ∙ go (ltb d m) refl (λ d r h. after-first m ms i d r h)
   where
-    go : (b : Bool) → ltb d m ≡ b → ((d : ℕ) (r : List ℕ) → d ≤ m → after (m ∷ ms) i (d ∷ r) ≡ (d + i) % suc m ∷ after ms ((d + i) / suc m) r)
+    go : (b : Bool) → ltb d m ≡ b → ((d : ℕ) (r : List ℕ) → d ≤ m
+        → after (m ∷ ms) i (d ∷ r) ≡ (d + i) % suc m ∷ after ms ((d + i) / suc m) r)
         → after (m ∷ ms) i (advance (m ∷ ms) (d ∷ r)) ≡ (d + suc i) % suc m ∷ after ms ((d + suc i) / suc m) r
     go true e ih =
         let q : suc d + i ≡ d + suc i = omega arith in
-        ap (after (m ∷ ms) i) (advance-up m ms d r (ltb-true d m e)) ∙ ih (suc d) r (omega (arith, ltb-true d m e)) ∙ ap (λ (n : ℕ). n % suc m ∷ after ms (n / suc m) r) q
+        ap (after (m ∷ ms) i) (advance-up m ms d r (ltb-true d m e)) ∙ ih (suc d) r (omega (arith, ltb-true d m e))
+        ∙ ap (λ (n : ℕ). n % suc m ∷ after ms (n / suc m) r) q
     go false e ih =
         let k : m ≤ d = ltb-false d m e in
         let q : d + suc i ≡ 1 * suc m + (0 + i) = omega arith in
@@ -60,7 +65,8 @@ abbrev zeros : List ℕ → List ℕ
 zeros ms = replicate (length ms) 0
 
 pub zero-first : (m : ℕ) (ms : List ℕ) (i : ℕ) (r : List ℕ) → after (m ∷ ms) i (0 ∷ r) ≡ i % suc m ∷ after ms (i / suc m) r
-zero-first m ms i r = let e : 0 + i ≡ i = omega arith in after-first m ms i 0 r (omega arith) ∙ ap (λ (n : ℕ). n % suc m ∷ after ms (n / suc m) r) e
+zero-first m ms i r = let e : 0 + i ≡ i = omega arith in
+    after-first m ms i 0 r (omega arith) ∙ ap (λ (n : ℕ). n % suc m ∷ after ms (n / suc m) r) e
 
 -- a row's place among them
 place : List ℕ → List ℕ → ℕ
@@ -71,7 +77,8 @@ place (m ∷ ms) (d ∷ r) = place ms r * suc m + d
 after-choice : (ms : List ℕ) (i : ℕ) → Choice ms (after ms i (zeros ms))
 after-choice [] i = subst (Choice []) (sym (after-none i [])) tt
 after-choice (m ∷ ms) i =
-    subst (Choice (m ∷ ms)) (sym (zero-first m ms i (zeros ms))) (let h = mod-lt i {m = suc m} (omega arith) in omega arith, after-choice ms (i / suc m))
+    subst (Choice (m ∷ ms)) (sym (zero-first m ms i (zeros ms)))
+    (let h = mod-lt i {m = suc m} (omega arith) in omega arith, after-choice ms (i / suc m))
 
 after-place : (ms r : List ℕ) → Choice ms r → after ms (place ms r) (zeros ms) ≡ r
 unfolding place
@@ -82,7 +89,8 @@ after-place (m ∷ ms) (d ∷ r) c =
     let l : d < suc m = omega (arith, c .0) in
     let z : place ms r + 0 ≡ place ms r = omega arith in
     zero-first m ms (place ms r * suc m + d) (zeros ms)
-    ∙ ap₂ (λ (a b : ℕ). a ∷ after ms b (zeros ms)) (mul-add-mod-self-right (place ms r) (suc m) d ∙ mod-eq-of-lt l) (mul-add-div-right (omega arith) (place ms r) d ∙ ap (λ (n : ℕ). place ms r + n) (div-eq-of-lt l) ∙ z)
+    ∙ ap₂ (λ (a b : ℕ). a ∷ after ms b (zeros ms)) (mul-add-mod-self-right (place ms r) (suc m) d ∙ mod-eq-of-lt l)
+    (mul-add-div-right (omega arith) (place ms r) d ∙ ap (λ (n : ℕ). place ms r + n) (div-eq-of-lt l) ∙ z)
     ∙ ap (λ (t : List ℕ). d ∷ t) (after-place ms r (c .1))
 
 place-less : (ms r : List ℕ) → Choice ms r → place ms r < rowsOf ms
@@ -105,7 +113,8 @@ place-after [] i h = omega arith
 place-after (m ∷ ms) i h =
     let g : i < rowsOf ms * suc m = let f = mul-comm (suc m) (rowsOf ms) in omega arith in
     let l : i / suc m < rowsOf ms = div-lt-iff-lt-mul {k = suc m} (omega arith) .1 g in
-    ap (place (m ∷ ms)) (zero-first m ms i (zeros ms)) ∙ ap (λ (n : ℕ). n * suc m + i % suc m) (place-after ms (i / suc m) l) ∙ div-add-mod' i (suc m)
+    ap (place (m ∷ ms)) (zero-first m ms i (zeros ms)) ∙ ap (λ (n : ℕ). n * suc m + i % suc m) (place-after ms (i / suc m) l)
+    ∙ div-add-mod' i (suc m)
 
 -- the list of rows
 from-length : (ms : List ℕ) (n : ℕ) (r : List ℕ) → length (rowsFrom ms n r) ≡ n
@@ -122,7 +131,8 @@ from-at ms (suc n) (suc i) r h = from-at ms n i (advance ms r) (omega arith)
 pub every-once : (ms : List ℕ) → EveryOnce ms (rowsFrom ms (rowsOf ms) (replicate (length ms) 0))
 every-once ms = record {
   choices = λ i h. subst (Choice ms) (sym (there i h)) (after-choice ms i);
-  tried = λ r c. let l : place ms r < length rows = within (place-less ms r c) in (place ms r, l, there (place ms r) l ∙ after-place ms r c);
+  tried = λ r c. let l : place ms r < length rows = within (place-less ms r c) in
+      (place ms r, l, there (place ms r) l ∙ after-place ms r c);
   once = λ i j h k e. sym (at i h) ∙ ap (place ms) e ∙ at j k;
 }
   where
@@ -175,7 +185,8 @@ digit ms n j i = getD (after ms i (replicate n 0)) j 0
 -- each value stays for a run
 pub digit-run : (ms : List ℕ) (n j v x : ℕ) → j < n → v ≤ getD ms j 0 → x < run ms j → digit ms n j (run ms j * v + x) ≡ v
 unfolding run
-digit-run [] n j v x hj hv hx = ap (λ (r : List ℕ). getD r j 0) (after-none (run [] j * v + x) (replicate n 0)) ∙ zero-at n j ∙ (let e = none-at j in let q : 0 ≡ v = omega arith in q)
+digit-run [] n j v x hj hv hx = ap (λ (r : List ℕ). getD r j 0) (after-none (run [] j * v + x) (replicate n 0)) ∙ zero-at n j
+    ∙ (let e = none-at j in let q : 0 ≡ v = omega arith in q)
 digit-run (m ∷ ms) zero j v x hj hv hx = absurd (omega arith)
 digit-run (m ∷ ms) (suc n) zero v x hj hv hx =
     let l : v < suc m = omega arith in
@@ -192,13 +203,16 @@ digit-run (m ∷ ms) (suc n) (suc j) v x hj hv hx =
 -- behind the run of its last value it goes through the same values again
 pub digit-cycle : (ms : List ℕ) (n j i : ℕ) → j < n → digit ms n j (run ms j * suc (getD ms j 0) + i) ≡ digit ms n j i
 unfolding run
-digit-cycle [] n j i hj = ap (λ (r : List ℕ). getD r j 0) (after-none (run [] j * suc (getD [] j 0) + i) (replicate n 0) ∙ sym (after-none i (replicate n 0)))
+digit-cycle [] n j i hj = ap (λ (r : List ℕ). getD r j 0)
+    (after-none (run [] j * suc (getD [] j 0) + i) (replicate n 0) ∙ sym (after-none i (replicate n 0)))
 digit-cycle (m ∷ ms) zero j i hj = absurd (omega arith)
 digit-cycle (m ∷ ms) (suc n) zero i hj =
-    ap (λ (r : List ℕ). getD r 0 0) (zero-first m ms (1 * suc m + i) (replicate n 0)) ∙ mul-add-mod-self-right 1 (suc m) i ∙ sym (ap (λ (r : List ℕ). getD r 0 0) (zero-first m ms i (replicate n 0)))
+    ap (λ (r : List ℕ). getD r 0 0) (zero-first m ms (1 * suc m + i) (replicate n 0)) ∙ mul-add-mod-self-right 1 (suc m) i
+    ∙ sym (ap (λ (r : List ℕ). getD r 0 0) (zero-first m ms i (replicate n 0)))
 digit-cycle (m ∷ ms) (suc n) (suc j) i hj =
     let c : ℕ = suc (getD ms j 0) in
-    let e : suc m * run ms j * suc (getD ms j 0) ≡ run ms j * suc (getD ms j 0) * suc m = mul-assoc (suc m) (run ms j) (suc (getD ms j 0)) ∙ mul-comm (suc m) (run ms j * suc (getD ms j 0)) in
+    let e : suc m * run ms j * suc (getD ms j 0) ≡ run ms j * suc (getD ms j 0) * suc m = mul-assoc (suc m) (run ms j) (suc (getD ms j 0))
+    ∙ mul-comm (suc m) (run ms j * suc (getD ms j 0)) in
     ap (λ (r : List ℕ). getD r (suc j) 0) (zero-first m ms (suc m * run ms j * suc (getD ms j 0) + i) (replicate n 0))
     ∙ ap (digit ms n j) (ap (λ (k : ℕ). (k + i) / suc m) e ∙ mul-add-div-right (omega arith) (run ms j * suc (getD ms j 0)) i)
     ∙ digit-cycle ms n j (i / suc m) (omega arith)
@@ -221,11 +235,13 @@ run-next (m ∷ ms) (suc j) = ap (λ (n : ℕ). suc m * n) (run-next ms j) ∙ s
 pub digit-bit : (ms : List ℕ) (n k j i : ℕ) → ((h : ℕ) → h < k → getD ms h 0 ≡ 1) → i < 2 ^ k → j < n → digit ms n j i ≡ i / 2 ^ j % 2
 digit-bit ms n zero j i two hi hj =
     let z : i ≡ 0 = omega arith in
-    ap (digit ms n j) z ∙ ap (λ (r : List ℕ). getD r j 0) (after-zero ms (replicate n 0)) ∙ zero-at n j ∙ sym (ap (λ (i : ℕ). i / 2 ^ j % 2) z ∙ ap (λ (x : ℕ). x % 2) (zero-div (2 ^ j)))
+    ap (digit ms n j) z ∙ ap (λ (r : List ℕ). getD r j 0) (after-zero ms (replicate n 0)) ∙ zero-at n j
+    ∙ sym (ap (λ (i : ℕ). i / 2 ^ j % 2) z ∙ ap (λ (x : ℕ). x % 2) (zero-div (2 ^ j)))
 digit-bit [] n (suc k) j i two hi hj = absurd (let e = two 0 (omega arith) in omega arith)
 digit-bit (m ∷ ms) zero (suc k) j i two hi hj = absurd (omega arith)
 digit-bit (m ∷ ms) (suc n) (suc k) zero i two hi hj =
-    ap (λ (r : List ℕ). getD r 0 0) (zero-first m ms i (replicate n 0)) ∙ ap (λ (m : ℕ). i % suc m) (two 0 (omega arith)) ∙ sym (ap (λ (x : ℕ). x % 2) (div-one i))
+    ap (λ (r : List ℕ). getD r 0 0) (zero-first m ms i (replicate n 0)) ∙ ap (λ (m : ℕ). i % suc m) (two 0 (omega arith))
+    ∙ sym (ap (λ (x : ℕ). x % 2) (div-one i))
 digit-bit (m ∷ ms) (suc n) (suc k) (suc j) i two hi hj =
     let h : i < 2 ^ k * 2 = let e = pow-suc 2 k in omega arith in
     ap (λ (r : List ℕ). getD r (suc j) 0) (zero-first m ms i (replicate n 0))
@@ -236,13 +252,16 @@ digit-bit (m ∷ ms) (suc n) (suc k) (suc j) i two hi hj =
 -- a digit comes again behind the rows of all digits up to it, and of more
 many-times : (f : ℕ → ℕ) (p : ℕ) → ((i : ℕ) → f (p + i) ≡ f i) → (c i : ℕ) → f (p * c + i) ≡ f i
 many-times f p h zero i = let e : p * 0 + i ≡ i = let m = mul-zero p in omega arith in ap f e
-many-times f p h (suc c) i = let e : p * suc c + i ≡ p + (p * c + i) = let m = mul-suc p c in omega arith in ap f e ∙ h (p * c + i) ∙ many-times f p h c i
+many-times f p h (suc c) i = let e : p * suc c + i ≡ p + (p * c + i) = let m = mul-suc p c in omega arith in
+    ap f e ∙ h (p * c + i) ∙ many-times f p h c i
 
 pub digit-again : (ms : List ℕ) (n k j i : ℕ) → k < n → k < j → digit ms n k (run ms j + i) ≡ digit ms n k i
 digit-again ms n k zero i hn hj = absurd (omega arith)
-digit-again ms n k (suc j) i hn hj = ap (λ (r : ℕ). digit ms n k (r + i)) (run-next ms j) ∙ go (ltb k j) refl (λ l i. digit-again ms n k j i hn l)
+digit-again ms n k (suc j) i hn hj = ap (λ (r : ℕ). digit ms n k (r + i)) (run-next ms j)
+    ∙ go (ltb k j) refl (λ l i. digit-again ms n k j i hn l)
   where
-    go : (b : Bool) → ltb k j ≡ b → (k < j → (i : ℕ) → digit ms n k (run ms j + i) ≡ digit ms n k i) → digit ms n k (run ms j * suc (getD ms j 0) + i) ≡ digit ms n k i
+    go : (b : Bool) → ltb k j ≡ b → (k < j → (i : ℕ) → digit ms n k (run ms j + i) ≡ digit ms n k i)
+        → digit ms n k (run ms j * suc (getD ms j 0) + i) ≡ digit ms n k i
     go true e ih = many-times (digit ms n k) (run ms j) (ih (ltb-true k j e)) (suc (getD ms j 0)) i
     go false e ih =
         let q : j ≡ k = omega (arith, ltb-false k j e) in

@@ -23,10 +23,13 @@ use Rattle.digits.proofs.Advancing.{run, digit-run, run-first, run-next
 module _ (v from : ℕ) (o a : List ℕ) where
   pub run-begin : take (from + 0) o ≡ take from o ++ constant v 0
   unfolding constant
-  run-begin = let e : from + 0 ≡ from = omega arith in ap (λ (n : ℕ). take n o) e ∙ sym (append-nil (take from o)) ∙ ap (λ (l : List ℕ). take from o ++ l) (sym (column-none (λ (i : ℕ). v)))
+  run-begin = let e : from + 0 ≡ from = omega arith in
+      ap (λ (n : ℕ). take n o) e ∙ sym (append-nil (take from o))
+      ∙ ap (λ (l : List ℕ). take from o ++ l) (sym (column-none (λ (i : ℕ). v)))
 
   module _ (i count : ℕ) (e : take (from + i) a ≡ take from o ++ constant v i) where
-    pub run-more : i < count → from + count ≤ length o → length a ≡ length o → take (from + (i + 1)) (set a (from + i) v) ≡ take from o ++ constant v (i + 1)
+    pub run-more : i < count → from + count ≤ length o → length a ≡ length o
+        → take (from + (i + 1)) (set a (from + i) v) ≡ take from o ++ constant v (i + 1)
     unfolding constant
     run-more h k l =
         let s : from + (i + 1) ≡ suc (from + i) = omega arith in
@@ -47,13 +50,15 @@ module _ (from : ℕ) (o a : List ℕ) where
   front-begin = let e : from + 0 ≡ from = omega arith in ap (λ (n : ℕ). take n o) e ∙ sym (append-nil (take from o))
 
   module _ (i count : ℕ) (e : take (from + i) a ≡ take from o ++ take i o) where
-    pub front-more : i < count → count ≤ from → from + count ≤ length o → length a ≡ length o → take (from + (i + 1)) (set a (from + i) (getD a i 0)) ≡ take from o ++ take (i + 1) o
+    pub front-more : i < count → count ≤ from → from + count ≤ length o → length a ≡ length o
+        → take (from + (i + 1)) (set a (from + i) (getD a i 0)) ≡ take from o ++ take (i + 1) o
     front-more h c k l =
         let s : from + (i + 1) ≡ suc (from + i) = omega arith in
         let j : i < from = omega arith in
         let m : i < length (take from o) = let m = length-take-le from o (omega arith) in omega arith in
         let g : getD a i 0 ≡ getD o i 0 =
-        sym (getD-take (from + i) a i 0 (omega arith)) ∙ ap (λ (l : List ℕ). getD l i 0) e ∙ List·getD-append (take from o) (take i o) 0 i m ∙ getD-take from o i 0 j in
+        sym (getD-take (from + i) a i 0 (omega arith)) ∙ ap (λ (l : List ℕ). getD l i 0) e
+        ∙ List·getD-append (take from o) (take i o) 0 i m ∙ getD-take from o i 0 j in
         ap (λ (n : ℕ). take n (set a (from + i) (getD a i 0))) s
         ∙ take-suc-set a (from + i) (getD a i 0) (omega arith)
         ∙ ap₂ (λ (l : List ℕ) (x : ℕ). l ++ (x ∷ [])) e g
@@ -76,7 +81,9 @@ module _ (n m r : ℕ) where
   longer-whole h = rw (le-ltb _ _ h)
 
   pub longer-fits : (l : ℕ) → r < n → n ≤ 4096 → l < 256 → Fits w64 (r * (l + 1))
-  longer-fits l h k s = fits-under w64 (r * (l + 1)) 2097152 (let p : r * (l + 1) ≤ 1048576 = mul-le-mul {n₁ = r} {m₁ = l + 1} {n₂ = 4096} {m₂ = 256} (omega arith) (omega arith) in omega arith) tt
+  longer-fits l h k s = fits-under w64 (r * (l + 1)) 2097152
+      (let p : r * (l + 1) ≤ 1048576 = mul-le-mul {n₁ = r} {m₁ = l + 1} {n₂ = 4096} {m₂ = 256} (omega arith) (omega arith) in omega arith)
+      tt
 
 pub ruleset lengthening = (longer-more, longer-whole, longer-fits)
 
@@ -109,7 +116,8 @@ module _ (n : ℕ) (ms : List ℕ) where
       go true e ih =
           let h : runOf n ms j < n = ltb-true (runOf n ms j) n e in
           let q : runOf n ms (suc j) ≡ run ms (suc j) =
-          run-step j ∙ sym (longer-more n (getD ms j 0) (runOf n ms j) (getD ms j 0) h refl) ∙ ap₂ (λ (a b : ℕ). a * b) (ih .0 h) (add-one (getD ms j 0)) ∙ sym (run-next ms j) in
+          run-step j ∙ sym (longer-more n (getD ms j 0) (runOf n ms j) (getD ms j 0) h refl)
+          ∙ ap₂ (λ (a b : ℕ). a * b) (ih .0 h) (add-one (getD ms j 0)) ∙ sym (run-next ms j) in
           (λ k. q, λ k. omega arith)
       go false e ih =
           let h : n ≤ runOf n ms j = ltb-false (runOf n ms j) n e in
@@ -141,8 +149,10 @@ module _ (ms : List ℕ) (j n : ℕ) (hj : j < slots) where
 
           first : (u : ℕ) → v ≡ u → getD (rowIn ms (r * v + x)) j 0 ≡ v
           first zero z =
-              let p : r * v + x ≡ run ms j * 0 + x = ap (λ (k : ℕ). r * k + x) z ∙ ap (λ (k : ℕ). k + x) (mul-zero r ∙ sym (mul-zero (run ms j))) in
-              let w : x < run ms j = let l = long in let c = mul-zero r in let y : r * v + x ≡ r * 0 + x = ap (λ (k : ℕ). r * k + x) z in omega arith in
+              let p : r * v + x ≡ run ms j * 0 + x = ap (λ (k : ℕ). r * k + x) z
+              ∙ ap (λ (k : ℕ). k + x) (mul-zero r ∙ sym (mul-zero (run ms j))) in
+              let w : x < run ms j = let l = long in let c = mul-zero r in let y : r * v + x ≡ r * 0 + x = ap (λ (k : ℕ). r * k + x) z in
+              omega arith in
               ap (λ (k : ℕ). getD (rowIn ms k) j 0) p ∙ digit-run ms slots j 0 x hj (omega arith) w ∙ sym z
           first (suc u) z =
               let y : r * v ≡ r * u + r = ap (λ (k : ℕ). r * k) z ∙ mul-suc r u in
@@ -160,16 +170,19 @@ run-some n ms (suc j) = go (ltb (runOf n ms j) n) (run-some n ms j)
 
 -- columns behind one another
 column-join : (f : ℕ → ℕ) (k n : ℕ) → column f (k + n) ≡ column f k ++ column (λ i. f (k + i)) n
-column-join f k zero = let e : k + 0 ≡ k = omega arith in ap (column f) e ∙ sym (append-nil (column f k)) ∙ ap (λ (l : List ℕ). column f k ++ l) (sym (column-none (λ (i : ℕ). f (k + i))))
+column-join f k zero = let e : k + 0 ≡ k = omega arith in
+    ap (column f) e ∙ sym (append-nil (column f k)) ∙ ap (λ (l : List ℕ). column f k ++ l) (sym (column-none (λ (i : ℕ). f (k + i))))
 column-join f k (suc n) =
     let e : k + suc n ≡ suc (k + n) = omega arith in
     ap (column f) e ∙ column-step f (k + n) ∙ ap (λ (l : List ℕ). l ++ (f (k + n) ∷ [])) (column-join f k n)
-    ∙ append-assoc (column f k) (column (λ i. f (k + i)) n) (f (k + n) ∷ []) ∙ ap (λ (l : List ℕ). column f k ++ l) (sym (column-step (λ (i : ℕ). f (k + i)) n))
+    ∙ append-assoc (column f k) (column (λ i. f (k + i)) n) (f (k + n) ∷ [])
+    ∙ ap (λ (l : List ℕ). column f k ++ l) (sym (column-step (λ (i : ℕ). f (k + i)) n))
 
 column-front : (f : ℕ → ℕ) (k n : ℕ) → k ≤ n → take k (column f n) ≡ column f k
 column-front f k n h =
     let e : n ≡ k + (n - k) = omega arith in
-    ap (λ (m : ℕ). take k (column f m)) e ∙ ap (take k) (column-join f k (n - k)) ∙ front (column f k) (column (λ i. f (k + i)) (n - k)) k (column-length f k)
+    ap (λ (m : ℕ). take k (column f m)) e ∙ ap (take k) (column-join f k (n - k))
+    ∙ front (column f k) (column (λ i. f (k + i)) (n - k)) k (column-length f k)
   where
     front : (p q : List ℕ) (n : ℕ) → length p ≡ n → take n (p ++ q) ≡ p
     front p q n e = take-at p q n e
@@ -190,10 +203,12 @@ module _ (ms : List ℕ) (j r n : ℕ) (a : List ℕ) where
     pub runs-within : n ≤ length a → to + c ≤ length a
     runs-within h = omega arith
 
-    pub runs-more : (l : ℕ) (b : List ℕ) → j < 12 → r ≡ runOf n ms j → v ≤ l → l ≡ getD ms j 0 → take to a ≡ slotColumn ms j to → take (to + c) b ≡ take to a ++ constant v c → take (to + c) b ≡ slotColumn ms j (to + c)
+    pub runs-more : (l : ℕ) (b : List ℕ) → j < 12 → r ≡ runOf n ms j → v ≤ l → l ≡ getD ms j 0 → take to a ≡ slotColumn ms j to
+        → take (to + c) b ≡ take to a ++ constant v c → take (to + c) b ≡ slotColumn ms j (to + c)
     unfolding slotColumn constant
     runs-more l b hj er hv el ea eb =
-        eb ∙ ap₂ (λ (l m : List ℕ). l ++ m) ea (column-same (λ (i : ℕ). v) (λ i. g (to + i)) c (λ i h. sym (here i h))) ∙ sym (column-join g to c)
+        eb ∙ ap₂ (λ (l m : List ℕ). l ++ m) ea (column-same (λ (i : ℕ). v) (λ i. g (to + i)) c (λ i h. sym (here i h)))
+        ∙ sym (column-join g to c)
       where
         g : ℕ → ℕ
         g i = valueIn (rowIn ms i) j
@@ -204,7 +219,8 @@ module _ (ms : List ℕ) (j r n : ℕ) (a : List ℕ) where
             ap (λ (k : ℕ). g (k + i)) e ∙ value-run ms j n hj v i r er (omega arith) (omega arith) (omega arith)
 
   -- all of them
-  pub runs-end : (to v l : ℕ) → to ≡ min (r * v) n → v ≤ l + 1 → l < v → l ≡ getD ms j 0 → r ≡ runOf n ms j → take to a ≡ slotColumn ms j to → take (spanOf n ms (j + 1)) a ≡ slotColumn ms j (spanOf n ms (j + 1))
+  pub runs-end : (to v l : ℕ) → to ≡ min (r * v) n → v ≤ l + 1 → l < v → l ≡ getD ms j 0 → r ≡ runOf n ms j
+      → take to a ≡ slotColumn ms j to → take (spanOf n ms (j + 1)) a ≡ slotColumn ms j (spanOf n ms (j + 1))
   unfolding spanOf
   runs-end to v l et h k el er ea =
       let q : to ≡ min n (runOf n ms (j + 1)) = whole (ltb r n) refl in
@@ -217,7 +233,8 @@ module _ (ms : List ℕ) (j r n : ℕ) (a : List ℕ) where
       next = ap (runOf n ms) (add-one j) ∙ run-step n ms j ∙ ap (longerRun n (getD ms j 0)) (sym er)
 
       whole : (b : Bool) → ltb r n ≡ b → to ≡ min n (runOf n ms (j + 1))
-      whole true e = let f : runOf n ms (j + 1) ≡ r * (getD ms j 0 + 1) = next ∙ sym (longer-more n (getD ms j 0) r (getD ms j 0) (ltb-true r n e) refl) in let g = times in omega arith
+      whole true e = let f : runOf n ms (j + 1) ≡ r * (getD ms j 0 + 1) = next
+          ∙ sym (longer-more n (getD ms j 0) r (getD ms j 0) (ltb-true r n e) refl) in let g = times in omega arith
       whole false e =
           let f : runOf n ms (j + 1) ≡ r = next ∙ sym (longer-whole n (getD ms j 0) r (ltb-false r n e)) in
           let m : r * 1 ≤ r * (getD ms j 0 + 1) = mul-le-mul (omega arith) (omega arith) in
@@ -235,13 +252,19 @@ module _ (p n : ℕ) (a₀ : List ℕ) where
   widen-begin f e c = (e, c)
 
   module _ (to : ℕ) (a : List ℕ) (w : Widened p n a₀ to a) where
-    pub widen-more : (c : ℕ) (b : List ℕ) → to < n → c ≡ min to (n - to) → take (to + c) b ≡ take to a ++ take c a → Widened p n a₀ (to + c) b
+    pub widen-more : (c : ℕ) (b : List ℕ) → to < n → c ≡ min to (n - to) → take (to + c) b ≡ take to a ++ take c a
+        → Widened p n a₀ (to + c) b
     unfolding Widened Cycles
     widen-more c b less ec eb f e cy = (
       eb ∙ ap₂ (λ (l m : List ℕ). l ++ m) (w f e cy .0)
-          (sym (take-take c to a front) ∙ ap (take c) (w f e cy .0) ∙ column-front f c to front ∙ column-same f (λ i. f (to + i)) c (λ i h. sym (again .1 i)))
+          (sym (take-take c to a front) ∙ ap (take c) (w f e cy .0) ∙ column-front f c to front
+          ∙ column-same f (λ i. f (to + i)) c (λ i h. sym (again .1 i)))
           ∙ sym (column-join f to c),
-      λ h. (omega (arith, again .0), λ i. let d : c ≡ to = omega arith in let q : to + c + i ≡ to + (to + i) = omega arith in ap f q ∙ again .1 (to + i) ∙ again .1 i),
+      λ h. (
+        omega (arith, again .0),
+        λ i. let d : c ≡ to = omega arith in let q : to + c + i ≡ to + (to + i) = omega arith in
+            ap f q ∙ again .1 (to + i) ∙ again .1 i,
+      ),
     )
       where
         front : c ≤ to
@@ -266,9 +289,11 @@ module _ (p n : ℕ) (a₀ : List ℕ) where
 pub ruleset widening = (widen-begin, widen-more, widen-end, widen-some, widen-front, widen-within)
 
 -- past the last slot
-pub slot-past : (ms : List ℕ) (j m n : ℕ) (a : List ℕ) → 12 ≤ j → m ≡ spanOf n ms 0 → take m a ≡ constant 0 m → take (spanOf n ms 0) a ≡ slotColumn ms j (spanOf n ms 0)
+pub slot-past : (ms : List ℕ) (j m n : ℕ) (a : List ℕ) → 12 ≤ j → m ≡ spanOf n ms 0 → take m a ≡ constant 0 m
+    → take (spanOf n ms 0) a ≡ slotColumn ms j (spanOf n ms 0)
 unfolding slotColumn constant valueIn
-slot-past ms j m n a h em e = (rw em at e) ∙ column-same (λ (i : ℕ). 0) (λ (i : ℕ). cond (ltb j slots) (getD (rowIn ms i) j 0) 0) (spanOf n ms 0) (λ i k. sym (rw (le-ltb _ _ h)))
+slot-past ms j m n a h em e = (rw em at e) ∙ column-same (λ (i : ℕ). 0) (λ (i : ℕ). cond (ltb j slots) (getD (rowIn ms i) j 0) 0)
+    (spanOf n ms 0) (λ i k. sym (rw (le-ltb _ _ h)))
 
 pub level-slot : (j : ℕ) → j < 12 → j + 1 ≡ levelIn j
 unfolding levelIn
@@ -304,15 +329,18 @@ module _ (n : ℕ) (ms : List ℕ) where
     where
       go : (b : Bool) → ltb (runOf n ms k) n ≡ b → min n (runOf n ms k) ≤ min n (runOf n ms (suc k))
       go true e =
-          let f : runOf n ms (suc k) ≡ runOf n ms k * (getD ms k 0 + 1) = run-step n ms k ∙ sym (longer-more n (getD ms k 0) (runOf n ms k) (getD ms k 0) (ltb-true (runOf n ms k) n e) refl) in
+          let f : runOf n ms (suc k) ≡ runOf n ms k * (getD ms k 0 + 1) = run-step n ms k
+          ∙ sym (longer-more n (getD ms k 0) (runOf n ms k) (getD ms k 0) (ltb-true (runOf n ms k) n e) refl) in
           let m : runOf n ms k * 1 ≤ runOf n ms k * (getD ms k 0 + 1) = mul-le-mul (omega arith) (omega arith) in
           let o = mul-one (runOf n ms k) in
           omega arith
-      go false e = let f : runOf n ms (suc k) ≡ runOf n ms k = run-step n ms k ∙ sym (longer-whole n (getD ms k 0) (runOf n ms k) (ltb-false (runOf n ms k) n e)) in omega arith
+      go false e = let f : runOf n ms (suc k) ≡ runOf n ms k = run-step n ms k
+          ∙ sym (longer-whole n (getD ms k 0) (runOf n ms k) (ltb-false (runOf n ms k) n e)) in omega arith
 
   span-far : (i d : ℕ) → spanOf n ms i ≤ spanOf n ms (i + d)
   span-far i zero = let q : i + 0 ≡ i = omega arith in rw q (omega arith)
-  span-far i (suc d) = let q : i + suc d ≡ suc (i + d) = omega arith in rw q (let e = span-far i d in let f = span-step (i + d) in omega arith)
+  span-far i (suc d) = let q : i + suc d ≡ suc (i + d) = omega arith in
+      rw q (let e = span-far i d in let f = span-step (i + d) in omega arith)
 
   pub span-more : (i j : ℕ) → i ≤ j → spanOf n ms i ≤ spanOf n ms j
   span-more i j h = let q : i + (j - i) ≡ j = omega arith in rw q at (span-far i (j - i))

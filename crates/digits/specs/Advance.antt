@@ -6,7 +6,8 @@ use mathlib.Core.Bool.{cond}
 use lib.ListN.{length, getD}
 use lib.Dec.{ltb}
 
--- the row after a row, by the last value of each digit: the first digit that is not at its last value goes up by one, those before it go back to 0
+-- the row after a row, by the last value of each digit: the first digit that is not at its last value goes up by one, those before it go
+-- back to 0
 unfoldable pub advance : List ℕ → List ℕ → List ℕ
 advance [] r = r
 advance (m ∷ ms) [] = []

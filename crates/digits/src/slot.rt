@@ -46,7 +46,8 @@ pub fn span_of(lasts: &[u8; Slots::COUNT], j: usize, n: usize) -> usize
 fn set_runs(lasts: &[u8; Slots::COUNT], j: usize, run: usize, n: usize, out: &mut [u8])
     requires { ⌜ (j < 12) × (run ≡ runOf n (now lasts) j) ⌝ }
     requires { ⌜ n ≤ length (now out) ⌝ }
-    ensures { λ _. ⌜ take (spanOf n (now (lasts .entry)) (j + 1)) (now (out .exit)) ≡ slotColumn (now (lasts .entry)) j (spanOf n (now (lasts .entry)) (j + 1)) ⌝ }
+    ensures { λ _. ⌜ take (spanOf n (now (lasts .entry)) (j + 1)) (now (out .exit)) ≡ slotColumn (now (lasts .entry)) j
+        (spanOf n (now (lasts .entry)) (j + 1)) ⌝ }
 {
     let last = wide(lasts[j]);
     let mut to: usize = 0;
@@ -64,7 +65,8 @@ fn set_runs(lasts: &[u8; Slots::COUNT], j: usize, run: usize, n: usize, out: &mu
 pub fn take_slot(lasts: &[u8; Slots::COUNT], j: usize, n: usize, out: &mut [u8]) -> usize
     requires { ⌜ (n ≤ 4096) × (n ≤ length (now out)) ⌝ }
     ensures { λ r. ⌜ r ≡ levelIn j ⌝ }
-    ensures { λ r. ⌜ take (spanOf n (now (lasts .entry)) r) (now (out .exit)) ≡ slotColumn (now (lasts .entry)) j (spanOf n (now (lasts .entry)) r) ⌝ }
+    ensures { λ r. ⌜ take (spanOf n (now (lasts .entry)) r) (now (out .exit)) ≡ slotColumn (now (lasts .entry)) j
+        (spanOf n (now (lasts .entry)) r) ⌝ }
 {
     if j < Slots::COUNT {
         let run = run_of(lasts, j, n);

@@ -13,7 +13,7 @@ use Rattle.frames.specs.Records.{bodies}
 use Rattle.frames.specs.declared.fault.Checked.the-variants.{Passed}
 use Rattle.program.specs.declared.sizes.Sizes.{Sizes}
 use Rattle.header.specs.Header.{threadCount}
-use Rattle.program.specs.Thread.{instructions, threadSize, numbered, threadNumbers}
+use Rattle.threads.specs.Thread.{instructions, threadSize, numbered, threadNumbers}
 use Rattle.records.specs.Places.{threadBody}
 use Rattle.records.specs.Tally.{tally, obligationCount}
 use Rattle.records.specs.List.{exactly}

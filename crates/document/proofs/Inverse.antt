@@ -45,7 +45,8 @@ unfolding recordCount
 some-records z = omega arith
 
 -- the first record is the header
-head-first : (t : ℕ) (z : Sizes) (l : List (List ℕ)) → check t z l (placeOf z (1 + 0)) (getD l 0 []) ≡ Passed → header t (getD l 0 []) ≡ Passed
+head-first : (t : ℕ) (z : Sizes) (l : List (List ℕ)) → check t z l (placeOf z (1 + 0)) (getD l 0 []) ≡ Passed
+    → header t (getD l 0 []) ≡ Passed
 unfolding check placeOf
 head-first t z l e = e
 
@@ -58,17 +59,20 @@ header-counts t b e =
     omega (arith, w .0, w .1)
 
 -- the frames of a sound image
-sound-frames : (s : List ℕ) (z : Sizes) → decoded s ≡ Sound z → wholeImage s ≡ Framing.Sound (z .formulas) (z .threads) (z .lines) (z .claims)
+sound-frames : (s : List ℕ) (z : Sizes) → decoded s ≡ Sound z
+    → wholeImage s ≡ Framing.Sound (z .formulas) (z .threads) (z .lines) (z .claims)
 unfolding decoded sizesOf
 sound-frames s z e = go (wholeImage s) refl e
   where
-    go : (g : Framing) → wholeImage s ≡ g → behindFrames (bodies s) g ≡ Sound z → wholeImage s ≡ Framing.Sound (z .formulas) (z .threads) (z .lines) (z .claims)
+    go : (g : Framing) → wholeImage s ≡ g → behindFrames (bodies s) g ≡ Sound z
+        → wholeImage s ≡ Framing.Sound (z .formulas) (z .threads) (z .lines) (z .claims)
     go (Framing.Refused f r) w d = absurd (refused-sound f r z d)
     go (Framing.Sound f t n m) w d =
         let h : List ℕ = getD (bodies s) 0 [] in
         let y : Sizes = sizesOf h f n m in
         let q : y ≡ z = fault-sizes t y (bodies s) z 1 (recordCount y) (bodies s) d in
-        let p : header t h ≡ Passed = head-first t y (bodies s) (fault-passed t y (bodies s) z 1 (recordCount y) 0 (bodies s) (some-records y) d) in
+        let p : header t h ≡ Passed = head-first t y (bodies s)
+        (fault-passed t y (bodies s) z 1 (recordCount y) 0 (bodies s) (some-records y) d) in
         let r : t ≡ threadCount h = header-counts t h p in
         w ∙ ap (λ (x : ℕ). Framing.Sound f x n m) r ∙ ap (λ (x : Sizes). Framing.Sound (x .formulas) (x .threads) (x .lines) (x .claims)) q
 
@@ -119,7 +123,8 @@ module _ (D : Document) (same : threadCount (D .header) ≡ length (D .threads))
     unfolding encode bodiesOf
     bodies-encode = bodies-framed (entriesOf D) entries-few (K .framable)
 
-    whole-encode : wholeImage (encode D) ≡ Framing.Sound (length (D .formulas)) (length (D .threads)) (length (D .lines)) (length (D .claims))
+    whole-encode : wholeImage (encode D) ≡ Framing.Sound (length (D .formulas)) (length (D .threads)) (length (D .lines))
+        (length (D .claims))
     unfolding encode bodiesOf
     whole-encode =
         let n = K .numbered in

@@ -3,7 +3,7 @@ use mathlib.Core.Path.{_≡_}
 use mathlib.Core.List.{[]}
 use lib.ListN.{length}
 use Rattle.header.specs.Header.{threadCount}
-use Rattle.program.specs.Thread.{instructions}
+use Rattle.threads.specs.Thread.{instructions}
 use Rattle.records.specs.Tally.{tally, obligationCount}
 use Rattle.document.specs.Document.{Document}
 use Rattle.document.specs.Canonical.{Canonical, ThreadFits, LineFits, ClaimFits, noLine, noClaim}

@@ -12,8 +12,8 @@ use Rattle.limits.proofs.Numbers.{has-true}
 use Rattle.program.specs.declared.instruction.Half.{Half}
 use Rattle.program.specs.declared.instruction.Instruction.{Instruction}
 use Rattle.program.specs.Instruction.{twofold, instructionSize, half, noHalf, secondHalf, instruction}
-use Rattle.program.specs.Thread.{lastPoint, cut, begins, instructions, nothing, threadSize}
-use Rattle.program.proofs.Laws.Program.{begins-zero, begins-behind, instructions-length}
+use Rattle.threads.specs.Thread.{lastPoint, cut, begins, instructions, nothing, threadSize}
+use Rattle.threads.proofs.Threads.{begins-zero, begins-behind, instructions-length}
 use Rattle.report.specs.Record.{two}
 use Rattle.document.specs.Canonical.{Byte, Short, Bytes, Each, HalfFits, InstructionFits, ThreadFits}
 use Rattle.document.specs.Encode.{halfBytes, instructionBytes, threadBytes}

@@ -3,7 +3,7 @@ use mathlib.Core.List.{List, [], map}
 use Prim.Native.Nat.{ℕ, _+_}
 use lib.ListN.{length, getD, take, drop}
 use Rattle.limits.specs.Numbers.{word, numbers}
-use Rattle.program.specs.Thread.{instructions}
+use Rattle.threads.specs.Thread.{instructions}
 use Rattle.header.specs.Header.{threadCount, wordCount, registerCount, valueRange}
 use Rattle.program.specs.declared.sizes.Sizes.{Sizes}
 use Rattle.records.specs.Line.{premises}

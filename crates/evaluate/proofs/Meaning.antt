@@ -56,7 +56,8 @@ module _ (R : ℕ) (g : List ℕ) (small : (r : ℕ) → nth g r 0 < R) where
   worked-value (reg r) h = refl
   worked-value (word x) h = refl
   worked-value (sum a b) h =
-      ap₂ (sumOf R) (worked-value a (search and-left)) (worked-value b (search and-right)) ∙ sum-modulo R (means a) (means b) (worked-below a (search and-left)) (worked-below b (search and-right))
+      ap₂ (sumOf R) (worked-value a (search and-left)) (worked-value b (search and-right))
+      ∙ sum-modulo R (means a) (means b) (worked-below a (search and-left)) (worked-below b (search and-right))
 
   pub worked-test : (e : Test) → T (bounded R e) → eqb (workedT R g (toTree e)) 1 ≡ test R (onRegs (registers g)) e
   unfolding workedT workedHere combine
@@ -65,8 +66,10 @@ module _ (R : ℕ) (g : List ℕ) (small : (r : ℕ) → nth g r 0 < R) where
   worked-test (less a b) h = bit (ltb (v a) (v b)) ∙ ap₂ ltb (worked-value a (search and-left)) (worked-value b (search and-right))
   worked-test (Formula.not e) h = bit-not (eqb (workedT R g (toTree e)) 1) ∙ ap not (worked-test e h)
   worked-test (and e f) h =
-      bit-and (eqb (workedT R g (toTree e)) 1) (workedT R g (toTree f)) ∙ ap₂ (λ (a b : Bool). a && b) (worked-test e (search and-left)) (worked-test f (search and-right))
+      bit-and (eqb (workedT R g (toTree e)) 1) (workedT R g (toTree f))
+      ∙ ap₂ (λ (a b : Bool). a && b) (worked-test e (search and-left)) (worked-test f (search and-right))
   worked-test (or e f) h =
-      bit-or (eqb (workedT R g (toTree e)) 1) (workedT R g (toTree f)) ∙ ap₂ (λ (a b : Bool). a || b) (worked-test e (search and-left)) (worked-test f (search and-right))
+      bit-or (eqb (workedT R g (toTree e)) 1) (workedT R g (toTree f))
+      ∙ ap₂ (λ (a b : Bool). a || b) (worked-test e (search and-left)) (worked-test f (search and-right))
   worked-test (unsync x) h = refl
   worked-test (cov x) h = refl

@@ -29,14 +29,17 @@ module _ (R : ℕ) (g : List ℕ) where
     work-whole w e = ap (λ (u : Worked). u .value) e
 
     module _ (x : Node) (v : ℕ) (z : k ≡ 0 → ⊥) (e : x ≡ nodeAt s at) where
-      pub work-leaf : x .parts ≡ 0 → v ≡ workedHere R g (x .code) (x .operand) 0 0 → record { value = v; end = x .next } ≡ workedAt R g (parseTree s k at)
+      pub work-leaf : x .parts ≡ 0 → v ≡ workedHere R g (x .code) (x .operand) 0 0
+          → record { value = v; end = x .next } ≡ workedAt R g (parseTree s k at)
       work-leaf p q = rw (parse-step s k at z, ← e, p, worked-node, worked-none, q)
 
       module _ (a : Worked) (n : x .parts ≡ 0 → ⊥) (f : a ≡ workedAt R g (parseTree s (k - 1) (x .next))) where
-        pub work-one : x .parts ≡ 1 → v ≡ workedHere R g (x .code) (x .operand) (a .value) 0 → record { value = v; end = a .end } ≡ workedAt R g (parseTree s k at)
+        pub work-one : x .parts ≡ 1 → v ≡ workedHere R g (x .code) (x .operand) (a .value) 0
+            → record { value = v; end = a .end } ≡ workedAt R g (parseTree s k at)
         work-one p q = rw (parse-step s k at z, ← e, p, worked-node, worked-none, q, f)
 
-        pub work-two : (b : Worked) → (x .parts ≡ 1 → ⊥) → b ≡ workedAt R g (parseTree s (k - 1) (a .end)) → v ≡ workedHere R g (x .code) (x .operand) (a .value) (b .value)
+        pub work-two : (b : Worked) → (x .parts ≡ 1 → ⊥) → b ≡ workedAt R g (parseTree s (k - 1) (a .end))
+            → v ≡ workedHere R g (x .code) (x .operand) (a .value) (b .value)
             → record { value = v; end = b .end } ≡ workedAt R g (parseTree s k at)
         work-two b p h q =
             let t₀ : 0 < x .parts = omega arith in

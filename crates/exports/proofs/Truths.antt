@@ -12,11 +12,13 @@ use Rattle.rows.specs.declared.by.Implications.{Implications}
 use Rattle.exports.specs.Answers.{ofTruth}
 use Rattle.exports.specs.Places.{pairsIn, sideIn, implicationsIn}
 
-pub rows-is : (s : List ℕ) (a b v r : ℕ) (t : Bool) → t ≡ rowsT v (parseTree s nesting a .tree) (parseTree s nesting b .tree) → r ≡ ofTruth t
+pub rows-is : (s : List ℕ) (a b v r : ℕ) (t : Bool) → t ≡ rowsT v (parseTree s nesting a .tree) (parseTree s nesting b .tree)
+    → r ≡ ofTruth t
     → r ≡ ofTruth (rowsT v (parseTree s nesting a .tree) (parseTree s nesting b .tree))
 rows-is s a b v r t e h = h ∙ ap ofTruth e
 
-pub side-is : (p : List ℕ) (a b c d e : ℕ) → a ≡ word (drop 0 p) → b ≡ word (drop 4 p) → c ≡ word (drop 8 p) → d ≡ word (drop 12 p) → e ≡ word (drop 16 p)
+pub side-is : (p : List ℕ) (a b c d e : ℕ) → a ≡ word (drop 0 p) → b ≡ word (drop 4 p) → c ≡ word (drop 8 p) → d ≡ word (drop 12 p)
+    → e ≡ word (drop 16 p)
     → a ∷ b ∷ c ∷ d ∷ e ∷ [] ≡ sideIn p
 unfolding sideIn
 side-is p a b c d e x y z v w = rw (x, y, z, v, w)
@@ -26,7 +28,8 @@ pub implications-is : (p q l r : List ℕ) (n : ℕ) → l ≡ sideIn p → q �
 unfolding implicationsIn
 implications-is p q l r n x y z w = rw (x, z, y, w)
 
-pub table-is : (s p : List ℕ) (i : Implications) (r : ℕ) (t : Bool) → i ≡ implicationsIn p → t ≡ tableT (premisesOf s i) (lineOf s i) → r ≡ ofTruth t
+pub table-is : (s p : List ℕ) (i : Implications) (r : ℕ) (t : Bool) → i ≡ implicationsIn p → t ≡ tableT (premisesOf s i) (lineOf s i)
+    → r ≡ ofTruth t
     → r ≡ ofTruth (tableT (premisesOf s (implicationsIn p)) (lineOf s (implicationsIn p)))
 table-is s p i r t e h g = g ∙ ap ofTruth (h ∙ ap (λ (i : Implications). tableT (premisesOf s i) (lineOf s i)) e)
 

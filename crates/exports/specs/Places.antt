@@ -1,4 +1,5 @@
--- Positions of implications in bytes: left and right of the line, then of each premise, 16 bits each, little-endian. Past the end they are 0.
+-- Positions of implications in bytes: left and right of the line, then of each premise, 16 bits each, little-endian. Past the end they
+-- are 0.
 use Prim.Native.Nat.{ℕ, _/_}
 use mathlib.Core.List.{List, [], _∷_}
 use mathlib.Core.Bool.{cond}

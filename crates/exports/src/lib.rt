@@ -34,7 +34,9 @@ pub extern "C" fn formula_answer(
     registers: u8,
     values: u8,
 ) -> usize
-    ensures { λ r. ⌜ r ≡ ofReading (readingOf (now (body .entry)) (record { threads = threads; words = words; registers = registers; values = values })) ⌝ }
+    ensures { λ r.
+        ⌜ r ≡ ofReading (readingOf (now (body .entry))
+        (record { threads = threads; words = words; registers = registers; values = values })) ⌝ }
 {
     let n = Counts {
         threads,

@@ -1,11 +1,11 @@
 // Tests by rows, and truth tables.
+use entailment::entailment::Sizes;
 use limits::Limits;
 use limits::read::rest;
 use limits::read::word_at;
 use rows::by::Implications;
 use rows::by::by_rows;
 use rows::by::by_table;
-use rows::entailment::Sizes;
 ghost use mathlib.Core.Path.{_≡_};
 ghost use Rattle.limits.specs.Limits.{nesting};
 ghost use Rattle.formula.specs.Tree.{parseTree};
@@ -25,7 +25,9 @@ fn truth(yes: bool) -> usize
 // The answer of `by_rows` on the tests at two positions, over so many values: 1 for true, 0 for false.
 #[no_mangle]
 pub extern "C" fn rows_answer(body: &[u8], left: usize, right: usize, range: u8) -> usize
-    ensures { λ r. ⌜ r ≡ ofTruth (rowsT range (parseTree (now (body .entry)) nesting left .tree) (parseTree (now (body .entry)) nesting right .tree)) ⌝ }
+    ensures { λ r.
+        ⌜ r ≡ ofTruth (rowsT range (parseTree (now (body .entry)) nesting left .tree) (parseTree (now (body .entry)) nesting right .tree))
+        ⌝ }
 {
     let k = Limits::NESTING;
     truth(by_rows(body, left, k, right, k, range))
@@ -79,7 +81,9 @@ fn implications_in(places: &[u8]) -> Implications
 // The answer of `by_table` on the implications whose positions are given: 1 for true, 0 for false.
 #[no_mangle]
 pub extern "C" fn table_answer(body: &[u8], places: &[u8]) -> usize
-    ensures { λ r. ⌜ r ≡ ofTruth (tableT (premisesOf (now (body .entry)) (implicationsIn (now (places .entry)))) (lineOf (now (body .entry)) (implicationsIn (now (places .entry))))) ⌝ }
+    ensures { λ r.
+        ⌜ r ≡ ofTruth (tableT (premisesOf (now (body .entry)) (implicationsIn (now (places .entry))))
+        (lineOf (now (body .entry)) (implicationsIn (now (places .entry))))) ⌝ }
 {
     truth(by_table(body, implications_in(places)))
 }

@@ -24,9 +24,9 @@ use Rattle.matcher.proofs.Follow.{Sized, given, when-given}
 use Rattle.certificate.specs.FitT as FitT
 use Rattle.certificate.specs.FitT.{TreeConclusion, hoare, paired, implication, formOf, matchLine, matchAll, isImplication, preset, operationT, restT, answer, fitsT}
 use Rattle.program.specs.Instruction.{firstOperation}
-use Rattle.content.specs.Trees.{actingAt}
-use Rattle.content.specs.declared.line.Line.{Line}
-use Rattle.content.specs.declared.acting.Acting.{Acting}
+use Rattle.lookups.specs.Trees.{actingAt}
+use Rattle.lookups.specs.declared.line.Line.{Line}
+use Rattle.lookups.specs.declared.acting.Acting.{Acting}
 use Rattle.rulebook.specs.Rulebook.{anyImplications, ruleRow, templates}
 use Rattle.rulebook.specs.Listed.{numberOf, packed, premiseCount, allows}
 use Rattle.rulebook.specs.declared.rule.Rule as Code
@@ -54,7 +54,8 @@ other-count : (i k : ℕ) (l : List Shape) (vs : List TreeConclusion) (b : Taken
 other-count i k [] [] b n = absurd (n refl)
 other-count i k [] (v ∷ vs) b n = refl
 other-count i k (m ∷ l) [] b n = refl
-other-count i k (m ∷ l) (v ∷ vs) b n = then-none (matchLine i k m v b) (matchAll i k l vs) (λ z. other-count i k l vs z (λ e. n (omega arith)))
+other-count i k (m ∷ l) (v ∷ vs) b n = then-none (matchLine i k m v b) (matchAll i k l vs)
+    (λ z. other-count i k l vs z (λ e. n (omega arith)))
 
 four : (a b c d : Bool) → a && (b && (c && (d && true))) ≡ cond a (cond b (cond c d false) false) false
 four true true true true = refl
@@ -75,7 +76,9 @@ module _ (s : List ℕ) (p : Conclusions.Premises) where
   says = map (concludedAt s) (conclusionsFrom p (p .count) 0)
 
   -- at most four, implications all of them
-  implications-are : (n : ℕ) → p .count ≡ n → n ≤ Limits.premises → leb (length (map (concludedAt s) (conclusionsFrom p n 0))) Limits.premises && all isImplication (map (concludedAt s) (conclusionsFrom p n 0)) ≡ allImplications p
+  implications-are : (n : ℕ) → p .count ≡ n → n ≤ Limits.premises
+      → leb (length (map (concludedAt s) (conclusionsFrom p n 0))) Limits.premises
+      && all isImplication (map (concludedAt s) (conclusionsFrom p n 0)) ≡ allImplications p
   unfolding allImplications isImplicationAt conclusionAt
   implications-are zero e h = rw e
   implications-are (suc zero) e h = rw e (four (is 0) true true true)
@@ -88,23 +91,29 @@ module _ (s : List ℕ) (p : Conclusions.Premises) where
     abbrev found : Whole
     found = matchPremises s templates i w thread point p b
 
-    premises-same : (W : Premises) → w .premises ≡ premiseCount W → w .forms ≡ packed (shapes W) → length (shapes W) ≤ Limits.premises → StandAll templates i (shapes W)
+    premises-same : (W : Premises) → w .premises ≡ premiseCount W → w .forms ≡ packed (shapes W) → length (shapes W) ≤ Limits.premises
+        → StandAll templates i (shapes W)
         → FitT.matchPremises thread point W says (takenOf s b) ≡ given s (found .ok) (found .bind)
     unfolding matchPremises
     premises-same implications e f h st =
-        rw (eq-eqb (w .premises) anyImplications e) (when-given s (leb (length says) Limits.premises && all isImplication says) b ∙ ap (λ (x : Bool). given s x b) (implications-are (p .count) refl few))
-    premises-same (these l) e f h st = rw (ne-eqb (w .premises) anyImplications (λ (q : w .premises ≡ anyImplications). omega arith)) (go (eqb (w .premises) (p .count)) refl)
+        rw (eq-eqb (w .premises) anyImplications e) (when-given s (leb (length says) Limits.premises && all isImplication says) b
+        ∙ ap (λ (x : Bool). given s x b) (implications-are (p .count) refl few))
+    premises-same (these l) e f h st = rw (ne-eqb (w .premises) anyImplications (λ (q : w .premises ≡ anyImplications). omega arith))
+        (go (eqb (w .premises) (p .count)) refl)
       where
         go : (x : Bool) → eqb (w .premises) (p .count) ≡ x
             → matchAll thread point l says (takenOf s b)
-            ≡ given s (cond x (matchFrom s templates thread point p (p .count) i (w .forms) 0 b) (record { ok = false; tpl = i; bind = b }) .ok)
+            ≡ given s (cond x (matchFrom s templates thread point p (p .count) i (w .forms) 0 b)
+            (record { ok = false; tpl = i; bind = b }) .ok)
             (cond x (matchFrom s templates thread point p (p .count) i (w .forms) 0 b) (record { ok = false; tpl = i; bind = b }) .bind)
         go true d =
             let q : p .count ≡ length l = sym (eqb-true (w .premises) (p .count) d) ∙ e in
             subst₂
-            (λ (n g : ℕ). matchAll thread point l (map (concludedAt s) (conclusionsFrom p n 0)) (takenOf s b) ≡ given s (matchFrom s templates thread point p n i g 0 b .ok) (matchFrom s templates thread point p n i g 0 b .bind))
+            (λ (n g : ℕ). matchAll thread point l (map (concludedAt s) (conclusionsFrom p n 0)) (takenOf s b) ≡ given s
+            (matchFrom s templates thread point p n i g 0 b .ok) (matchFrom s templates thread point p n i g 0 b .bind))
             (sym q) (sym f) (from-follows s templates thread point p l i 0 b z st .same)
-        go false d = other-count thread point l says (takenOf s b) (λ q. eqb-false (w .premises) (p .count) d (e ∙ q ∙ conclusions-length (p .count) 0))
+        go false d = other-count thread point l says (takenOf s b)
+            (λ q. eqb-false (w .premises) (p .count) d (e ∙ q ∙ conclusions-length (p .count) 0))
 
 -- what is asked besides is asked where the operation is allowed
 and-where : (x y h k : Bool) → x ≡ y → (x ≡ true → h ≡ k) → x && h ≡ cond y k false
@@ -119,7 +128,8 @@ pub record Known (a : Acting) : Type 0 where
 
 -- THE LINE
 
-module _ (s : List ℕ) (n : Rule) (l : Line) (named : l .rule ≡ numberOf n) (a : Acting) (known : Known a) (p : Conclusions.Premises) (few : p .count ≤ Limits.premises) where
+module _ (s : List ℕ) (n : Rule) (l : Line) (named : l .rule ≡ numberOf n) (a : Acting) (known : Known a) (p : Conclusions.Premises)
+    (few : p .count ≤ Limits.premises) where
   abbrev c : Conclusion
   c = conclusionBy l (a .whole)
 
@@ -145,11 +155,13 @@ module _ (s : List ℕ) (n : Rule) (l : Line) (named : l .rule ≡ numberOf n) (
   unfolding isAllowed
   operation-is =
       rw form-is
-      (ap₂ (λ (x y : Bool). cond (eqb (formOf (row n .says)) hoare) x (cond (eqb (formOf (row n .says)) paired) y true)) (bits (a .operation) (known .operation)) (bits (a .whole) (known .whole)))
+      (ap₂ (λ (x y : Bool). cond (eqb (formOf (row n .says)) hoare) x (cond (eqb (formOf (row n .says)) paired) y true))
+      (bits (a .operation) (known .operation)) (bits (a .whole) (known .whole)))
 
   rest-is : (b : Bind) → restT (setupIn s) A (row n) (concludedAt s c) (says s p) (takenOf s b) ≡ restAt s w a c p b
   unfolding restAt
-  rest-is b = and-where _ _ _ _ operation-is (λ e. sides-are s b a c p few (known .first) n e ∙ ap (λ (k : ℕ). asked s k b a c p) (sym (its (λ r. r .side) ∙ row-side n)))
+  rest-is b = and-where _ _ _ _ operation-is (λ e. sides-are s b a c p few (known .first) n e
+      ∙ ap (λ (k : ℕ). asked s k b a c p) (sym (its (λ r. r .side) ∙ row-side n)))
 
   abbrev b₀ : Bind
   b₀ = presetAt (l .thread) (a .word) (a .register) (a .formula)
@@ -162,19 +174,24 @@ module _ (s : List ℕ) (n : Rule) (l : Line) (named : l .rule ≡ numberOf n) (
 
   follows : ConclusionFollows s templates (w .template) (c .thread) (c .point) (row n .says) c b₀ m
   follows =
-      subst (λ (f : ℕ). ConclusionFollows s templates (w .template) (c .thread) (c .point) (row n .says) c b₀ (matchConclusion s templates (w .template) f (c .thread) (c .point) c b₀)) (sym form-is)
-      (conclusion-follows s templates (w .template) (c .thread) (c .point) (row n .says) c b₀ (preset-sized (l .thread) (a .word) (a .register) (a .formula)) (stands .0))
+      subst (λ (f : ℕ). ConclusionFollows s templates (w .template) (c .thread) (c .point) (row n .says) c b₀
+      (matchConclusion s templates (w .template) f (c .thread) (c .point) c b₀)) (sym form-is)
+      (conclusion-follows s templates (w .template) (c .thread) (c .point) (row n .says) c b₀
+      (preset-sized (l .thread) (a .word) (a .register) (a .formula)) (stands .0))
 
   line-same : matchLine (c .thread) (c .point) (row n .says) (concludedAt s c) (preset (c .thread) A) ≡ given s (m .ok) (m .bind)
   unfolding conclusionBy
-  line-same = ap (matchLine (c .thread) (c .point) (row n .says) (concludedAt s c)) (sym (preset-taken s (l .thread) (a .operation) (a .whole) (a .word) (a .register) (a .formula) (A .notes))) ∙ follows .same
+  line-same = ap (matchLine (c .thread) (c .point) (row n .says) (concludedAt s c))
+      (sym (preset-taken s (l .thread) (a .operation) (a .whole) (a .word) (a .register) (a .formula) (A .notes))) ∙ follows .same
 
   abbrev q : Whole
   q = matchPremises s templates (m .tpl) w (c .thread) (c .point) p (m .bind)
 
-  rests-same : m .ok ≡ true → FitT.matchPremises (c .thread) (c .point) (row n .premises) (says s p) (takenOf s (m .bind)) ≡ given s (q .ok) (q .bind)
+  rests-same : m .ok ≡ true → FitT.matchPremises (c .thread) (c .point) (row n .premises) (says s p) (takenOf s (m .bind)) ≡ given s
+      (q .ok) (q .bind)
   rests-same o =
-      premises-same s p (c .thread) (c .point) (m .tpl) w (m .bind) (follows .sized) few (row n .premises) (its (λ r. r .premises) ∙ row-premises n) (its (λ r. r .forms) ∙ row-forms n) (row-few n)
+      premises-same s p (c .thread) (c .point) (m .tpl) w (m .bind) (follows .sized) few (row n .premises)
+      (its (λ r. r .premises) ∙ row-premises n) (its (λ r. r .forms) ∙ row-forms n) (row-few n)
       (subst (λ (i : ℕ). StandAll templates i (shapes (row n .premises))) (sym (follows .tpl o)) (stands .1))
 
   abbrev asks : Taken → Bool
@@ -182,13 +199,15 @@ module _ (s : List ℕ) (n : Rule) (l : Line) (named : l .rule ≡ numberOf n) (
 
   pub fits-same : fitsT (setupIn s) A n (concludedAt s c) (says s p) ≡ fitsRow s templates l a p
   unfolding fitsRow lineMatch
-  fits-same = ap (λ (o : Option Taken). answer (andThen o (FitT.matchPremises (c .thread) (c .point) (row n .premises) (says s p))) asks) line-same ∙ go (m .ok) refl
+  fits-same = ap (λ (o : Option Taken). answer (andThen o (FitT.matchPremises (c .thread) (c .point) (row n .premises) (says s p))) asks)
+      line-same ∙ go (m .ok) refl
     where
       then : (k : Bool) → answer (given s k (q .bind)) asks ≡ cond k (restAt s w a c p (q .bind)) false
       then true = rest-is (q .bind)
       then false = refl
 
-      go : (k : Bool) → m .ok ≡ k → answer (andThen (given s k (m .bind)) (FitT.matchPremises (c .thread) (c .point) (row n .premises) (says s p))) asks
+      go : (k : Bool) → m .ok ≡ k → answer (andThen (given s k (m .bind))
+          (FitT.matchPremises (c .thread) (c .point) (row n .premises) (says s p))) asks
           ≡ cond k (cond (q .ok) (restAt s w a c p (q .bind)) false) false
       go true e = ap (λ (o : Option Taken). answer o asks) (rests-same e) ∙ then (q .ok)
       go false e = refl

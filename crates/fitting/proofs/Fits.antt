@@ -12,9 +12,9 @@ use Rattle.matcher.specs.declared.bind.Bind.{Bind}
 use Rattle.matcher.specs.declared.whole.Whole.{Whole}
 use Rattle.certificate.specs.FitT.{hoare, paired}
 use Rattle.content.specs.Certificate.{lineBody}
-use Rattle.content.specs.Places.{actingOf, lineIn}
-use Rattle.content.specs.declared.line.Line.{Line}
-use Rattle.content.specs.declared.acting.Acting.{Acting}
+use Rattle.lookups.specs.Places.{actingOf, lineIn}
+use Rattle.lookups.specs.declared.line.Line.{Line}
+use Rattle.lookups.specs.declared.acting.Acting.{Acting}
 use Rattle.rulebook.specs.Rulebook.{ruleRow}
 use Rattle.rulebook.specs.declared.rule.Rule.{Rule}
 use Rattle.conclusions.specs.Conclusion.{matchConclusion}
@@ -51,12 +51,14 @@ module _ (s : List ℕ) (w : Rule) (a : Acting) (c : Conclusion) (p : Premises) 
 
 pub ruleset allowing = (allowed-triple, allowed-pair, allowed-other, rest-asked, rest-refused)
 
-pub line-matched : (s t : List ℕ) (w : Rule) (l : Line) (a : Acting) (c : Conclusion) (b : Bind) (r : Whole) → b ≡ presetAt (l .thread) (a .word) (a .register) (a .formula)
+pub line-matched : (s t : List ℕ) (w : Rule) (l : Line) (a : Acting) (c : Conclusion) (b : Bind) (r : Whole)
+    → b ≡ presetAt (l .thread) (a .word) (a .register) (a .formula)
     → r ≡ matchConclusion s t (w .template) (w .form) (c .thread) (c .point) c b → r ≡ lineMatch s t w l a c
 unfolding lineMatch
 line-matched s t w l a c b r e d = rw (← e) d
 
-module _ (s t : List ℕ) (l : Line) (a : Acting) (p : Premises) (w : Rule) (c : Conclusion) (m : Whole) (ew : w ≡ ruleRow (l .rule)) (ec : c ≡ conclusionBy l (a .whole)) (em : m ≡ lineMatch s t w l a c) where
+module _ (s t : List ℕ) (l : Line) (a : Acting) (p : Premises) (w : Rule) (c : Conclusion) (m : Whole) (ew : w ≡ ruleRow (l .rule))
+    (ec : c ≡ conclusionBy l (a .whole)) (em : m ≡ lineMatch s t w l a c) where
   pub row-conclusion : m .ok ≡ false → false ≡ fitsRow s t l a p
   unfolding fitsRow
   row-conclusion h = rw (← ew, ← ec, ← em, h)
@@ -71,7 +73,8 @@ module _ (s t : List ℕ) (l : Line) (a : Acting) (p : Premises) (w : Rule) (c :
     row-rest r g d = rw (← ew, ← ec, ← em, h, ← eq, g) d
 
 pub line-fits : (s t : List ℕ) (z : Sizes) (n : ℕ) (l : Line) (a : Acting) (p : Premises) (r : Bool)
-    → l ≡ lineIn s (lineBody z (bodies s) n) → a ≡ actingOf s (instructionOf z (bodies s) (l .thread) (l .point)) → p ≡ premisesOf s z n (l .count) → r ≡ fitsRow s t l a p → r ≡ fitsLine s t z n
+    → l ≡ lineIn s (lineBody z (bodies s) n) → a ≡ actingOf s (instructionOf z (bodies s) (l .thread) (l .point))
+    → p ≡ premisesOf s z n (l .count) → r ≡ fitsRow s t l a p → r ≡ fitsLine s t z n
 unfolding fitsLine actingIn lineAt
 line-fits s t z n l a p r e d f g = rw (← e, ← d, ← f) g
 

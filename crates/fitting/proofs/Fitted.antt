@@ -21,17 +21,17 @@ use Rattle.certificate.specs.FitT.{TreeConclusion, concluded, acting, fitsT}
 use Rattle.certificate.specs.Lines.{Certificate, lineFits}
 use Rattle.certificate.proofs.FitT.{bridge}
 use Rattle.content.specs.Certificate.{lineBody, certificateOf}
-use Rattle.content.specs.Places.{lineIn}
+use Rattle.lookups.specs.Places.{lineIn}
 use Rattle.content.specs.Program.{programOf}
 use Rattle.content.specs.Rule.{ruleOf}
-use Rattle.content.specs.Trees.{actingAt}
-use Rattle.content.specs.declared.line.Line.{Line}
-use Rattle.content.specs.declared.acting.Acting.{Acting}
+use Rattle.lookups.specs.Trees.{actingAt}
+use Rattle.lookups.specs.declared.line.Line.{Line}
+use Rattle.lookups.specs.declared.acting.Acting.{Acting}
 use Rattle.limits.proofs.Inverse.{and-true, within-true}
 use Rattle.content.proofs.Checked.{Checks}
 use Rattle.content.proofs.Program.{range-two}
 use Rattle.content.proofs.Lines.{in-range, premises-few, premise-count, line-bounded}
-use Rattle.content.proofs.Trees.{acting-whole, acting-first, line-acting}
+use Rattle.lookups.proofs.Trees.{acting-whole, acting-first, line-acting}
 use Rattle.rulebook.specs.Rulebook.{templates}
 use Rattle.conclusions.specs.Conclusion.{concludedAt, conclusionAt, conclusionsFrom}
 use Rattle.conclusions.specs.LineConclusion.{conclusionBy, lineAt, operationAt, conclusionOf}
@@ -80,7 +80,8 @@ module _ (s : List ℕ) (z : Sizes) (c : Checks z (bodies s)) where
     p = premisesOf s z n (its .count)
 
     -- the premises as many as they are
-    conclusions-are : (qs : List ℕ) → ps ≡ qs → length qs ≤ Limits.premises → its .count ≡ length qs → conclusionsFrom p (p .count) 0 ≡ map (conclusionOf s z) qs
+    conclusions-are : (qs : List ℕ) → ps ≡ qs → length qs ≤ Limits.premises → its .count ≡ length qs
+        → conclusionsFrom p (p .count) 0 ≡ map (conclusionOf s z) qs
     unfolding premisesOf conclusionAt premiseConclusion
     conclusions-are [] e h d = rw d
     conclusions-are (a ∷ []) e h d = rw (d, e)
@@ -89,7 +90,8 @@ module _ (s : List ℕ) (z : Sizes) (c : Checks z (bodies s)) where
     conclusions-are (a ∷ b ∷ c ∷ d ∷ []) e h f = rw (f, e)
     conclusions-are (a ∷ b ∷ c ∷ d ∷ f ∷ qs) e h g = absurd (omega arith)
 
-    lower-concluded : (qs : List ℕ) → every (within 1 (n - 1)) qs ≡ true → map (concludedAt s) (map (conclusionOf s z) qs) ≡ map concluded (map (λ m. C .line m .says) qs)
+    lower-concluded : (qs : List ℕ) → every (within 1 (n - 1)) qs ≡ true
+        → map (concludedAt s) (map (conclusionOf s z) qs) ≡ map concluded (map (λ m. C .line m .says) qs)
     unfolding every
     lower-concluded [] e = refl
     lower-concluded (m ∷ qs) e =
@@ -106,7 +108,8 @@ module _ (s : List ℕ) (z : Sizes) (c : Checks z (bodies s)) where
     count-few = premises-few z l c n (w .0) (w .1)
 
     premises-concluded : says s p ≡ map concluded (map (λ m. C .line m .says) ps)
-    premises-concluded = ap (map (concludedAt s)) (conclusions-are ps refl (subst (λ (k : ℕ). k ≤ Limits.premises) count-is count-few) count-is) ∙ lower-concluded ps (in-range z l c n (w .0) (w .1) .2)
+    premises-concluded = ap (map (concludedAt s)) (conclusions-are ps refl (subst (λ (k : ℕ). k ≤ Limits.premises) count-is count-few)
+        count-is) ∙ lower-concluded ps (in-range z l c n (w .0) (w .1) .2)
 
     acting-concluded : acting (P .code (its .thread) (its .point)) ≡ actingAt s (actingIn s z its)
     unfolding actingIn lineAt lineIn
@@ -115,8 +118,10 @@ module _ (s : List ℕ) (z : Sizes) (c : Checks z (bodies s)) where
     acting-known : Known (actingIn s z its)
     unfolding actingIn
     acting-known = record {
-      operation = subst (λ (k : ℕ). k ≤ Opcode.assignTwo) (ap (λ (a : FitT.Acting). a .operation) acting-concluded) (opcode-known (first (P .code (its .thread) (its .point))));
-      whole = subst (λ (k : ℕ). k ≤ Opcode.assignTwo) (ap (λ (a : FitT.Acting). a .whole) acting-concluded) (opcode-known (P .code (its .thread) (its .point)));
+      operation = subst (λ (k : ℕ). k ≤ Opcode.assignTwo) (ap (λ (a : FitT.Acting). a .operation) acting-concluded)
+          (opcode-known (first (P .code (its .thread) (its .point))));
+      whole = subst (λ (k : ℕ). k ≤ Opcode.assignTwo) (ap (λ (a : FitT.Acting). a .whole) acting-concluded)
+          (opcode-known (P .code (its .thread) (its .point)));
       first = acting-first s (instructionOf z l (its .thread) (its .point));
     }
 
@@ -129,7 +134,9 @@ module _ (s : List ℕ) (z : Sizes) (c : Checks z (bodies s)) where
 
     acting-there : actingAt s (actingIn s z its) ≡ acting (P .code (concluded S .thread) (concluded S .point))
     unfolding conclusionOf conclusionBy
-    acting-there = sym acting-concluded ∙ ap₂ (λ (t k : ℕ). acting (P .code t k)) (ap (λ (v : TreeConclusion). v .thread) (conclusion-trees s z c n w)) (ap (λ (v : TreeConclusion). v .point) (conclusion-trees s z c n w))
+    acting-there = sym acting-concluded ∙ ap₂ (λ (t k : ℕ). acting (P .code t k))
+        (ap (λ (v : TreeConclusion). v .thread) (conclusion-trees s z c n w))
+        (ap (λ (v : TreeConclusion). v .point) (conclusion-trees s z c n w))
 
     abbrev fitted : FitT.Acting → TreeConclusion → List TreeConclusion → Bool
     fitted a v vs = fitsT (setupIn s) a (ruleOf (its .rule)) v vs
@@ -142,8 +149,10 @@ module _ (s : List ℕ) (z : Sizes) (c : Checks z (bodies s)) where
     pub fits-is : fitsLine s templates z n ≡ lineFits P C n
     unfolding fitsLine conclusionOf lineAt lineIn
     fits-is =
-        sym (fits-same s (ruleOf (its .rule)) its (sym (rule-number (its .rule) (line-listed s z c n w))) (actingIn s z its) acting-known p premises-few-here)
+        sym (fits-same s (ruleOf (its .rule)) its (sym (rule-number (its .rule) (line-listed s z c n w))) (actingIn s z its) acting-known
+        p premises-few-here)
         ∙ ap (λ (op : ℕ). fitted (actingAt s (actingIn s z its)) (concludedAt s (conclusionBy its op)) (says s p)) whole-is
-        ∙ ap₂ (λ (v : TreeConclusion) (vs : List TreeConclusion). fitted (actingAt s (actingIn s z its)) v vs) (conclusion-trees s z c n w) premises-concluded
+        ∙ ap₂ (λ (v : TreeConclusion) (vs : List TreeConclusion). fitted (actingAt s (actingIn s z its)) v vs)
+        (conclusion-trees s z c n w) premises-concluded
         ∙ ap (λ (a : FitT.Acting). fitted a (concluded S) (map concluded (map (λ m. C .line m .says) ps))) acting-there
         ∙ bridge P (range-two z l c) (ruleOf (its .rule)) S (map (λ m. C .line m .says) ps) (line-bounded z l c n (w .0) (w .1))

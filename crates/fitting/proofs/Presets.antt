@@ -16,7 +16,11 @@ use Rattle.matcher.proofs.Follow.{Sized}
 use Rattle.certificate.specs.FitT.{Acting, preset}
 use Rattle.fitting.specs.Preset.{presetAt}
 
-pub preset-is : (t x r f : ℕ) → record { at = 0 ∷ 0 ∷ 0 ∷ 0 ∷ f ∷ []; left = 0 ∷ 0 ∷ 0 ∷ 0 ∷ nesting ∷ []; num = (t + 1) ∷ (x + 1) ∷ (r + 1) ∷ 0 ∷ 0 ∷ [] } ≡ presetAt t x r f
+pub preset-is : (t x r f : ℕ) → record {
+  at = 0 ∷ 0 ∷ 0 ∷ 0 ∷ f ∷ [];
+  left = 0 ∷ 0 ∷ 0 ∷ 0 ∷ nesting ∷ [];
+  num = (t + 1) ∷ (x + 1) ∷ (r + 1) ∷ 0 ∷ 0 ∷ [];
+} ≡ presetAt t x r f
 unfolding presetAt
 preset-is t x r f = refl
 

@@ -10,9 +10,9 @@ use Rattle.records.specs.Places.{instructionOf}
 use Rattle.matcher.specs.declared.bind.Bind.{Bind}
 use Rattle.matcher.specs.declared.whole.Whole.{Whole}
 use Rattle.certificate.specs.FitT.{hoare, paired}
-use Rattle.content.specs.Places.{actingOf}
-use Rattle.content.specs.declared.line.Line.{Line}
-use Rattle.content.specs.declared.acting.Acting.{Acting}
+use Rattle.lookups.specs.Places.{actingOf}
+use Rattle.lookups.specs.declared.line.Line.{Line}
+use Rattle.lookups.specs.declared.acting.Acting.{Acting}
 use Rattle.rulebook.specs.Rulebook.{ruleRow}
 use Rattle.rulebook.specs.declared.rule.Rule.{Rule}
 use Rattle.conclusions.specs.Conclusion.{matchConclusion}
@@ -25,7 +25,8 @@ use Rattle.conclusions.specs.declared.conclusion.Premises.{Premises}
 
 -- a triple's rule has the operation among its own; a rule for pairs, that of the whole
 unfoldable pub isAllowed : Rule → Acting → Bool
-isAllowed w a = cond (eqb (w .form) hoare) (member (w .operations) (a .operation)) (cond (eqb (w .form) paired) (member (w .operations) (a .whole)) true)
+isAllowed w a = cond (eqb (w .form) hoare) (member (w .operations) (a .operation))
+    (cond (eqb (w .form) paired) (member (w .operations) (a .whole)) true)
 
 -- what is left to ask once the templates are matched
 unfoldable pub restAt : List ℕ → Rule → Acting → Conclusion → Premises → Bind → Bool
@@ -37,13 +38,15 @@ thenAsk m f = cond (m .ok) (f m) false
 
 -- the line's own conclusion against its rule's templates, with what is known of their holes
 unfoldable pub lineMatch : List ℕ → List ℕ → Rule → Line → Acting → Conclusion → Whole
-lineMatch s t w l a c = matchConclusion s t (w .template) (w .form) (c .thread) (c .point) c (presetAt (l .thread) (a .word) (a .register) (a .formula))
+lineMatch s t w l a c = matchConclusion s t (w .template) (w .form) (c .thread) (c .point) c
+    (presetAt (l .thread) (a .word) (a .register) (a .formula))
 
 -- line, premises, then the rest, with the templates t
 unfoldable pub fitsRow : List ℕ → List ℕ → Line → Acting → Premises → Bool
 fitsRow s t l a p =
     thenAsk (lineMatch s t (ruleRow (l .rule)) l a (conclusionBy l (a .whole)))
-    (λ m. thenAsk (matchPremises s t (m .tpl) (ruleRow (l .rule)) (conclusionBy l (a .whole) .thread) (conclusionBy l (a .whole) .point) p (m .bind))
+    (λ m. thenAsk (matchPremises s t (m .tpl) (ruleRow (l .rule)) (conclusionBy l (a .whole) .thread) (conclusionBy l (a .whole) .point) p
+    (m .bind))
     (λ q. restAt s (ruleRow (l .rule)) a (conclusionBy l (a .whole)) p (q .bind)))
 
 -- the instruction of a line

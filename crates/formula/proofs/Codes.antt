@@ -38,7 +38,8 @@ above : (c : ℕ) (l : List Code) → 32 ≤ c → T (low l) → among c l ≡ f
 above c [] h t = refl
 above c (k ∷ l) h t = go (ltb (byte k) 32) refl t (λ u. above c l h u)
   where
-    go : (b : Bool) → ltb (byte k) 32 ≡ b → T (cond b (low l) false) → (T (low l) → among c l ≡ false) → cond (eqb c (byte k)) true (among c l) ≡ false
+    go : (b : Bool) → ltb (byte k) 32 ≡ b → T (cond b (low l) false) → (T (low l) → among c l ≡ false)
+        → cond (eqb c (byte k)) true (among c l) ≡ false
     go true e t ih = let q = ltb-true (byte k) 32 e in rw (ne-eqb c (byte k) (λ (d : c ≡ byte k). omega arith)) (ih t)
     go false e t ih = absurd t
 
@@ -84,7 +85,8 @@ module _ (c : ℕ) (r : Bool) where
       where
         at : Bool → Bool → Bool → Bool → Bool → Bool → List Code
         at i j k l m n =
-            cond i (codesAt value) (cond j (codesAt test) (cond k (codesAt interval) (cond l (codesAt assertion) (cond m (codesAt regValue) (cond n (codesAt regTest) [])))))
+            cond i (codesAt value) (cond j (codesAt test)
+            (cond k (codesAt interval) (cond l (codesAt assertion) (cond m (codesAt regValue) (cond n (codesAt regTest) [])))))
 
         go : (i j k l m n : Bool) → member (setOf (at i j k l m n)) c ≡ among c (at i j k l m n)
         go true j k l m n = member-among (setOf (codesAt value)) (codesAt value) tt tt c
@@ -142,7 +144,8 @@ module _ (p : ℕ) where
   unfolding setAt
   set-regTest e = rw e
 
-  pub set-none : (p ≡ value → ⊥) → (p ≡ test → ⊥) → (p ≡ interval → ⊥) → (p ≡ assertion → ⊥) → (p ≡ regValue → ⊥) → (p ≡ regTest → ⊥) → 0 ≡ setAt p
+  pub set-none : (p ≡ value → ⊥) → (p ≡ test → ⊥) → (p ≡ interval → ⊥) → (p ≡ assertion → ⊥) → (p ≡ regValue → ⊥) → (p ≡ regTest → ⊥)
+      → 0 ≡ setAt p
   unfolding setAt
   set-none a b c d e f = rw (ne-eqb _ _ a, ne-eqb _ _ b, ne-eqb _ _ c, ne-eqb _ _ d, ne-eqb _ _ e, ne-eqb _ _ f)
 

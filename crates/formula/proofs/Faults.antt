@@ -50,7 +50,8 @@ module _ (s : List ℕ) (n : Counts) (p at : ℕ) where
 
       pub head-operand : (r : ℕ) → o ≡ true → r ≡ operandAnswer s n (getD s at 0) (at + 1) → r ≡ headAnswer s n p at
       unfolding headAnswer headFault nodeAt operandAnswer
-      head-operand r z e = rw (lt-ltb _ _ h, ← ef, d, ← eo, z) (e ∙ ap (λ (i : ℕ). answer (operandFault s n (getD s at 0) (at + 1)) i) (omega arith))
+      head-operand r z e = rw (lt-ltb _ _ h, ← ef, d, ← eo, z)
+          (e ∙ ap (λ (i : ℕ). answer (operandFault s n (getD s at 0) (at + 1)) i) (omega arith))
 
 pub ruleset heads = (operand-past, operand-range, operand-fine, head-past, head-unfit, head-plain, head-operand)
 
@@ -85,7 +86,8 @@ head-small s n p at =
     small-pick (ltb at (length s)) _ _
     (small-pick (fitsAt (getD s at 0) p) _ _
     (small-pick (hasOperand (getD s at 0)) _ _
-    (small-pick (ltb (at + 1) (length s)) _ _ (small-pick (inRange n (getD s at 0) (getD s (at + 1) 0)) _ _ (omega arith) (omega arith)) (omega arith))
+    (small-pick (ltb (at + 1) (length s)) _ _ (small-pick (inRange n (getD s at 0) (getD s (at + 1) 0)) _ _ (omega arith) (omega arith))
+    (omega arith))
     (omega arith))
     (omega arith))
     (omega arith)
@@ -95,20 +97,28 @@ unfolding faultAt
 fault-small s n zero p at = omega arith
 fault-small s n (suc k) p at =
     small-pick (eqb (headFault s n p at) 0) _ _
-    (small-pick (eqb (partFault (λ q. faultAt s n k (partPlace (nodeAt s at .code) p) q) (ltb 0 (nodeAt s at .parts)) (nodeAt s at .next)) 0) _ _
-    (small-part (λ q. faultAt s n k (partPlace (nodeAt s at .code) p) (parseTree s k q .end)) (ltb 1 (nodeAt s at .parts)) (nodeAt s at .next) (λ q. fault-small s n k (partPlace (nodeAt s at .code) p) (parseTree s k q .end)))
-    (small-part (λ q. faultAt s n k (partPlace (nodeAt s at .code) p) q) (ltb 0 (nodeAt s at .parts)) (nodeAt s at .next) (λ q. fault-small s n k (partPlace (nodeAt s at .code) p) q)))
+    (small-pick (eqb (partFault (λ q. faultAt s n k (partPlace (nodeAt s at .code) p) q) (ltb 0 (nodeAt s at .parts)) (nodeAt s at .next))
+    0) _ _
+    (small-part (λ q. faultAt s n k (partPlace (nodeAt s at .code) p) (parseTree s k q .end)) (ltb 1 (nodeAt s at .parts))
+    (nodeAt s at .next) (λ q. fault-small s n k (partPlace (nodeAt s at .code) p) (parseTree s k q .end)))
+    (small-part (λ q. faultAt s n k (partPlace (nodeAt s at .code) p) q) (ltb 0 (nodeAt s at .parts)) (nodeAt s at .next)
+    (λ q. fault-small s n k (partPlace (nodeAt s at .code) p) q)))
     (head-small s n p at)
 
 pub fault-step : (s : List ℕ) (n : Counts) (k p at : ℕ) → (k ≡ 0 → ⊥)
-    → faultAt s n k p at ≡ first (headFault s n p at) (cond (eqb (nodeAt s at .parts) 0) 0 (first (faultAt s n (k - 1) (partPlace (nodeAt s at .code) p) (nodeAt s at .next)) (cond (eqb (nodeAt s at .parts) 1) 0 (faultAt s n (k - 1) (partPlace (nodeAt s at .code) p) (parseTree s (k - 1) (nodeAt s at .next) .end)))))
+    → faultAt s n k p at ≡ first (headFault s n p at)
+    (cond (eqb (nodeAt s at .parts) 0) 0 (first (faultAt s n (k - 1) (partPlace (nodeAt s at .code) p) (nodeAt s at .next))
+    (cond (eqb (nodeAt s at .parts) 1) 0 (faultAt s n (k - 1) (partPlace (nodeAt s at .code) p)
+    (parseTree s (k - 1) (nodeAt s at .next) .end)))))
 unfolding faultAt
 fault-step s n zero p at h = absurd (h refl)
 fault-step s n (suc k) p at h =
     rw (sub-one (suc k))
-    (ap (first (headFault s n p at)) (by-count (λ q. faultAt s n k (partPlace (nodeAt s at .code) p) q) (λ q. faultAt s n k (partPlace (nodeAt s at .code) p) (parseTree s k q .end)) (nodeAt s at .parts) (nodeAt s at .next)))
+    (ap (first (headFault s n p at)) (by-count (λ q. faultAt s n k (partPlace (nodeAt s at .code) p) q)
+    (λ q. faultAt s n k (partPlace (nodeAt s at .code) p) (parseTree s k q .end)) (nodeAt s at .parts) (nodeAt s at .next)))
   where
-    by-count : (f g : ℕ → ℕ) (c at : ℕ) → first (partFault f (ltb 0 c) at) (partFault g (ltb 1 c) at) ≡ cond (eqb c 0) 0 (first (f at) (cond (eqb c 1) 0 (g at)))
+    by-count : (f g : ℕ → ℕ) (c at : ℕ) → first (partFault f (ltb 0 c) at) (partFault g (ltb 1 c) at) ≡ cond (eqb c 0) 0
+        (first (f at) (cond (eqb c 1) 0 (g at)))
     by-count f g zero at = refl
     by-count f g (suc zero) at = refl
     by-count f g (suc (suc c)) at =
@@ -123,7 +133,9 @@ inside : (s : List ℕ) (n : Counts) (p at : ℕ) → headFault s n p at ≡ 0 �
 unfolding headFault
 inside s n p at = go (ltb at (length s)) refl
   where
-    go : (b : Bool) → ltb at (length s) ≡ b → cond b (cond (fitsAt (getD s at 0) p) (cond (hasOperand (getD s at 0)) (operandFault s n (getD s at 0) (at + 1)) 0) malformed) malformed ≡ 0 → at < length s
+    go : (b : Bool) → ltb at (length s) ≡ b → cond b
+        (cond (fitsAt (getD s at 0) p) (cond (hasOperand (getD s at 0)) (operandFault s n (getD s at 0) (at + 1)) 0) malformed)
+        malformed ≡ 0 → at < length s
     go true e h = ltb-true at (length s) e
     go false e h = absurd (omega arith)
 
@@ -133,7 +145,8 @@ unfolding nodeAt
 node-inside s at h = rw (lt-ltb _ _ h) (go (hasOperand (getD s at 0)))
   where
     n : Bool → Node
-    n b = cond b (record { code = getD s at 0; operand = getD s (at + 1) 0; parts = partCount (getD s at 0); next = at + 2 }) (record { code = getD s at 0; operand = 0; parts = partCount (getD s at 0); next = at + 1 })
+    n b = cond b (record { code = getD s at 0; operand = getD s (at + 1) 0; parts = partCount (getD s at 0); next = at + 2 })
+        (record { code = getD s at 0; operand = 0; parts = partCount (getD s at 0); next = at + 1 })
 
     go : (b : Bool) → (n b .code ≡ getD s at 0) × (n b .parts ≡ partCount (getD s at 0))
     go true = (refl, refl)
@@ -149,9 +162,13 @@ module _ (s : List ℕ) (n : Counts) (k p at : ℕ) where
   read-zero z = rw z
 
   module _ (h : ℕ) (z : k ≡ 0 → ⊥) (e : h ≡ headAnswer s n p at) where
-    head-said : (h < limit → (headFault s n p at ≡ h) × (eqb (headFault s n p at) 0 ≡ false)) × (limit ≤ h → (headFault s n p at ≡ 0) × (h - limit ≡ nodeAt s at .next))
+    head-said : (h < limit → (headFault s n p at ≡ h) × (eqb (headFault s n p at) 0 ≡ false))
+        × (limit ≤ h → (headFault s n p at ≡ 0) × (h - limit ≡ nodeAt s at .next))
     unfolding headAnswer
-    head-said = (said-fault h (headFault s n p at) (nodeAt s at .next) (head-small s n p at) e, said-end h (headFault s n p at) (nodeAt s at .next) (head-small s n p at) e)
+    head-said = (
+      said-fault h (headFault s n p at) (nodeAt s at .next) (head-small s n p at) e,
+      said-end h (headFault s n p at) (nodeAt s at .next) (head-small s n p at) e,
+    )
 
     pub read-head : h < limit → h ≡ readAnswer s n k p at
     unfolding readAnswer
@@ -208,7 +225,19 @@ module _ (s : List ℕ) (n : Counts) (k p at : ℕ) where
             let q = said-end g fa en (fault-small s n (k - 1) w (nodeAt s at .next)) is f in
             let t₀ : 0 < c = omega arith in
             let t₁ : 1 < c = omega arith in
-            rw (fault-step s n k p at z, parse-step s k at z, own, count, ne-eqb _ _ b, ne-eqb _ _ o, code, ← ew, lt-ltb _ _ t₀, lt-ltb _ _ t₁, q .0) (er ∙ rw (q .1) refl)
+            rw (
+              fault-step s n k p at z,
+              parse-step s k at z,
+              own,
+              count,
+              ne-eqb _ _ b,
+              ne-eqb _ _ o,
+              code,
+              ← ew,
+              lt-ltb _ _ t₀,
+              lt-ltb _ _ t₁,
+              q .0,
+            ) (er ∙ rw (q .1) refl)
 
 pub ruleset reads = (read-zero, read-head, read-inside, read-leaf, read-part, read-one, read-two, lower)
 

@@ -21,7 +21,8 @@ module _ (s : List ℕ) (at p : ℕ) (o : Bool) (h : at < length s) (e : o ≡ h
   unfolding nodeAt
   node-plain z = rw (lt-ltb _ _ h, ← e, z, ← q)
 
-  pub node-operand : (b : ℕ) → o ≡ true → b ≡ getD s (at + 1) 0 → record { code = getD s at 0; operand = b; parts = p; next = at + 2 } ≡ nodeAt s at
+  pub node-operand : (b : ℕ) → o ≡ true → b ≡ getD s (at + 1) 0
+      → record { code = getD s at 0; operand = b; parts = p; next = at + 2 } ≡ nodeAt s at
   unfolding nodeAt
   node-operand b z d = rw (lt-ltb _ _ h, ← e, z, ← q, d)
 

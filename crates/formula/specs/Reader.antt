@@ -64,7 +64,8 @@ faultAt s n zero place at = malformed
 faultAt s n (suc k) place at =
     first (headFault s n place at)
     (first (partFault (λ p. faultAt s n k (partPlace (nodeAt s at .code) place) p) (ltb 0 (nodeAt s at .parts)) (nodeAt s at .next))
-    (partFault (λ p. faultAt s n k (partPlace (nodeAt s at .code) place) (parseTree s k p .end)) (ltb 1 (nodeAt s at .parts)) (nodeAt s at .next)))
+    (partFault (λ p. faultAt s n k (partPlace (nodeAt s at .code) place) (parseTree s k p .end)) (ltb 1 (nodeAt s at .parts))
+    (nodeAt s at .next)))
 
 unfoldable pub readAnswer : List ℕ → Counts → ℕ → ℕ → ℕ → ℕ
 readAnswer s n k place at = answer (faultAt s n k place at) (parseTree s k at .end)

@@ -10,9 +10,11 @@ use Rattle.stored.proofs.Tallies.{Running, running-none, running-more, running-
 use Rattle.formula_cases.specs.Answer.{kindOf, isAnswer}
 use Rattle.formula_cases.specs.Judge.{countsAt, withFormula}
 
-pub running-formula : (t q : Tally) (left : ℕ) (body s : List ℕ) → 0 < left → Running t left → q ≡ withFormula t body s → Running q (left - 1)
+pub running-formula : (t q : Tally) (left : ℕ) (body s : List ℕ) → 0 < left → Running t left → q ≡ withFormula t body s
+    → Running q (left - 1)
 unfolding withFormula
 running-formula t q left body s h f e =
-    running-more t q left (kindOf (readingOf body (countsAt s))) (isAnswer (readingOf body (countsAt s)) (word (drop 4 s)) (word (drop 6 s))) h f e
+    running-more t q left (kindOf (readingOf body (countsAt s)))
+    (isAnswer (readingOf body (countsAt s)) (word (drop 4 s)) (word (drop 6 s))) h f e
 
 pub ruleset gathered = (running-none, running-formula, running-over)

@@ -49,7 +49,8 @@ pub counts-read : (s : List ℕ) (a b c d : ℕ) → a ≡ getD s 0 0 → b ≡ 
 unfolding countsAt
 counts-read s a b c d ea eb ec ed = rw (ea, eb, ec, ed)
 
-pub formula-counted : (t q : Tally) (body s : List ℕ) (n : Counts) (r : Reading) (a b k : ℕ) (same : Bool) → n ≡ countsAt s → r ≡ readingOf body n → a ≡ word (drop 4 s)
+pub formula-counted : (t q : Tally) (body s : List ℕ) (n : Counts) (r : Reading) (a b k : ℕ) (same : Bool) → n ≡ countsAt s
+    → r ≡ readingOf body n → a ≡ word (drop 4 s)
     → b ≡ word (drop 6 s) → same ≡ isAnswer r a b → k ≡ kindOf r → q ≡ withCase t k same → q ≡ withFormula t body s
 unfolding withFormula
 formula-counted t q body s n r a b k same en er ea eb es ek eq = rw (← en, ← er, ← ea, ← eb, ← es, ← ek) eq

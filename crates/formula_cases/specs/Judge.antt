@@ -15,4 +15,5 @@ countsAt s = record { threads = getD s 0 0; words = getD s 1 0; registers = getD
 
 -- by the reading's kind, and by whether it is the stored one
 unfoldable pub withFormula : Tally → List ℕ → List ℕ → Tally
-withFormula t body s = withCase t (kindOf (readingOf body (countsAt s))) (isAnswer (readingOf body (countsAt s)) (word (drop 4 s)) (word (drop 6 s)))
+withFormula t body s = withCase t (kindOf (readingOf body (countsAt s)))
+    (isAnswer (readingOf body (countsAt s)) (word (drop 4 s)) (word (drop 6 s)))

@@ -59,7 +59,8 @@ ended-few : (i : ℕ) (c : Seen) → Few c → (a b n m : ℕ) → ended i c ≡
 unfolding ended most
 ended-few i c h a b n m = go (ltb (c .last) Kinds.obligations)
   where
-    go : (p : Bool) → cond p (Refused Kind i) (Sound (getD (c .count) Kinds.formula 0) (getD (c .count) Kinds.thread 0) (getD (c .count) Kinds.line 0) (getD (c .count) Kinds.last 0)) ≡ Sound a b n m
+    go : (p : Bool) → cond p (Refused Kind i) (Sound (getD (c .count) Kinds.formula 0) (getD (c .count) Kinds.thread 0)
+        (getD (c .count) Kinds.line 0) (getD (c .count) Kinds.last 0)) ≡ Sound a b n m
         → Counts a n m
     go false e =
         let f : getD (c .count) Kinds.formula 0 ≡ a = cc in
@@ -77,8 +78,10 @@ unfolding walk
 walk-few zero i c l h a b n m e = ended-few i c h a b n m e
 walk-few (suc k) i c [] h a b n m e = ended-few i c h a b n m e
 walk-few (suc k) i c (x ∷ l) h a b n m e =
-    let p = passed-sound (frame c (x ∷ l)) (walk k (i + 1) (counted c (order (word (drop 2 (x ∷ l))))) (drop (2 + word (x ∷ l)) (x ∷ l))) i a b n m e in
-    walk-few k (i + 1) (counted c (order (word (drop 2 (x ∷ l))))) (drop (2 + word (x ∷ l)) (x ∷ l)) (frame-keeps c (x ∷ l) h (p .0)) a b n m (p .1)
+    let p = passed-sound (frame c (x ∷ l)) (walk k (i + 1) (counted c (order (word (drop 2 (x ∷ l))))) (drop (2 + word (x ∷ l)) (x ∷ l)))
+    i a b n m e in
+    walk-few k (i + 1) (counted c (order (word (drop 2 (x ∷ l))))) (drop (2 + word (x ∷ l)) (x ∷ l)) (frame-keeps c (x ∷ l) h (p .0)) a b
+    n m (p .1)
 
 none-few : Few none
 unfolding most

@@ -1,11 +1,11 @@
 // The code of a handover between accepted images.
-use content::totals::Totals;
-use content::totals::totals_of;
 use handover_lines::lines::lines_serve;
 use handover_table::bytes::same_bytes;
 use handover_table::table::table_fits;
 use index::look::body_of;
 use justify::pass::judge_lines;
+use lookups::totals::Totals;
+use lookups::totals::totals_of;
 use program::sizes::Sizes;
 ghost use mathlib.Core.Path.{_≡_};
 ghost use Prim.Native.Nat.{_≤_};
@@ -14,7 +14,7 @@ ghost use Rattle.index.specs.Table.{indexOf};
 ghost use Rattle.image.specs.Decode.{decoded};
 ghost use Rattle.image.specs.declared.decode.Decoded.the-variants.{Sound};
 ghost use Rattle.content.specs.Image.{imageOf};
-ghost use Rattle.content.specs.Totals.{totalsOf};
+ghost use Rattle.lookups.specs.Totals.{totalsOf};
 ghost use Rattle.justify.specs.Pass.{marksTo};
 ghost use Rattle.handover.specs.Code.{codeBetween, codeOf};
 ghost use Rattle.handover_lines.specs.Found.{threadsServe};

@@ -16,7 +16,8 @@ pub call-stored : (s body old new table : List ℕ) (code : ℕ) → old ≡ fir
     → Promise old new table code → Promise (firstIn s body) (secondIn s body) (thirdOn s body) code
 call-stored s body old new table code o n t p = rw (← o, ← n, ← t) p
 
-pub handover-counted : (s body : List ℕ) (t u : Tally) (code kind : ℕ) (same : Bool) → Promise (firstIn s body) (secondIn s body) (thirdOn s body) code
+pub handover-counted : (s body : List ℕ) (t u : Tally) (code kind : ℕ) (same : Bool)
+    → Promise (firstIn s body) (secondIn s body) (thirdOn s body) code
     → kind ≡ kindOf code → same ≡ sameCode code s → u ≡ withCase t kind same → Counted body s t u
 handover-counted s body t u code kind same p k e g = record { code = code; called = p; counted = rw (← k, ← e) g }
 

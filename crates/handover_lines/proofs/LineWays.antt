@@ -11,7 +11,7 @@ use Rattle.logic.specs.Formula.{sameBytes}
 use Rattle.limits.specs.Numbers.{word, numbers}
 use Rattle.frames.specs.Records.{bodies}
 use Rattle.program.specs.declared.sizes.Sizes.{Sizes}
-use Rattle.program.specs.Thread.{lastPoint}
+use Rattle.threads.specs.Thread.{lastPoint}
 use Rattle.records.specs.Places.{threadBody}
 use Rattle.records.specs.Tally.{tallyTo}
 use Rattle.records.specs.declared.line.Form.{Form}
@@ -19,8 +19,8 @@ use Rattle.records.specs.declared.line.Form.the-variants.{Triple, Implication, 
 use Rattle.records.specs.Line.{formOf}
 use Rattle.content.specs.Program.{pointCount, outlineNumber}
 use Rattle.content.specs.Certificate.{lineBody}
-use Rattle.content.specs.Totals.{totalsOf}
-use Rattle.content.specs.declared.totals.Totals.{Totals}
+use Rattle.lookups.specs.Totals.{totalsOf}
+use Rattle.lookups.specs.declared.totals.Totals.{Totals}
 use Rattle.marks.specs.Marks.{isMarked}
 use Rattle.marks.specs.declared.Marks.{Marks}
 use Rattle.handover_table.specs.Table.{pointNamed, lineNamed}

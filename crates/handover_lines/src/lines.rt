@@ -1,6 +1,4 @@
 // Whether the lines that a table names serve.
-use content::point::last_point_of;
-use content::totals::Totals;
 use handover_table::bytes::same_bytes;
 use handover_table::entries::line_named;
 use handover_table::entries::point_named;
@@ -8,6 +6,8 @@ use handover_table::points::points_before;
 use index::look::body_of;
 use limits::read::number_at;
 use limits::read::word_at;
+use lookups::point::last_point_of;
+use lookups::totals::Totals;
 use marks::is_marked;
 use program::sizes::Sizes;
 use records::line::Form;
@@ -20,7 +20,7 @@ ghost use Rattle.index.specs.Table.{indexOf};
 ghost use Rattle.image.specs.Decode.{decoded};
 ghost use Rattle.image.specs.declared.decode.Decoded.the-variants.{Sound};
 ghost use Rattle.records.specs.Line.{formOf};
-ghost use Rattle.content.specs.Totals.{totalsOf};
+ghost use Rattle.lookups.specs.Totals.{totalsOf};
 ghost use Rattle.marks.specs.Marks.{asMarks};
 ghost use Rattle.handover_lines.specs.Found.{assertionOf, isImplication, sidesMatch, lineServes, entryServes, entriesServe, threadServes, threadsServe};
 

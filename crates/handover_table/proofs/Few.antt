@@ -6,14 +6,14 @@ use native.Mathlib.Omega.{arith}
 use Rattle.limits.specs.Limits as Limits
 use Rattle.frames.specs.Records.{bodies}
 use Rattle.program.specs.declared.sizes.Sizes.{Sizes}
-use Rattle.program.specs.Thread.{lastPoint}
+use Rattle.threads.specs.Thread.{lastPoint}
 use Rattle.records.specs.Places.{threadBody}
 use Rattle.records.specs.Tally.{threadTally, tallyTo, tally}
 use Rattle.image.specs.Decode.{decoded}
 use Rattle.image.specs.declared.decode.Decoded.the-variants.{Sound}
 use Rattle.content.specs.Program.{pointCount, programOf}
-use Rattle.content.specs.Totals.{totalsOf}
-use Rattle.content.specs.declared.totals.Totals.{Totals}
+use Rattle.lookups.specs.Totals.{totalsOf}
+use Rattle.lookups.specs.declared.totals.Totals.{Totals}
 use Rattle.content.proofs.Checked.{Checks, sound-checks}
 use Rattle.content.proofs.Program.{points-few}
 use Rattle.checker.proofs.Uncut.{few-threads}

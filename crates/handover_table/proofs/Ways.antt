@@ -11,14 +11,14 @@ use borrow.Author.Tests.{leb-true, leb-false, lt-ltb, le-ltb, le-leb, lt-leb, eq
 use Rattle.limits.specs.Numbers.{word, within}
 use Rattle.frames.specs.Records.{bodies}
 use Rattle.program.specs.declared.sizes.Sizes.{Sizes}
-use Rattle.program.specs.Thread.{lastPoint}
+use Rattle.threads.specs.Thread.{lastPoint}
 use Rattle.records.specs.Places.{threadBody}
 use Rattle.records.specs.Tally.{tallyTo, tally}
 use Rattle.outline.specs.Verdict.{Image}
 use Rattle.content.specs.Program.{pointCount, programOf}
 use Rattle.content.specs.Image.{imageOf}
-use Rattle.content.specs.Totals.{totalsOf}
-use Rattle.content.specs.declared.totals.Totals.{Totals}
+use Rattle.lookups.specs.Totals.{totalsOf}
+use Rattle.lookups.specs.declared.totals.Totals.{Totals}
 use Rattle.handover_table.specs.Table.{entrySize, pointNamed, lineNamed, pointsTo, each}
 use Rattle.handover_table.specs.Fits.{entryFits, entriesFit, inRange, threadFits, threadsFit, tableFits}
 use Rattle.handover_table.proofs.Each.{each-same, each-none, each-more, each-stops, each-done}

@@ -1,6 +1,6 @@
 // How many points there are, in all and before a thread; an accepted image has few.
-use content::totals::Totals;
-use content::totals::before_thread;
+use lookups::totals::Totals;
+use lookups::totals::before_thread;
 use program::sizes::Sizes;
 ghost use mathlib.Core.Path.{_≡_};
 ghost use Prim.Native.Nat.{_-_, _≤_};
@@ -9,7 +9,7 @@ ghost use Rattle.index.specs.Table.{indexOf};
 ghost use Rattle.records.specs.Tally.{tallyTo};
 ghost use Rattle.image.specs.Decode.{decoded};
 ghost use Rattle.image.specs.declared.decode.Decoded.the-variants.{Sound};
-ghost use Rattle.content.specs.Totals.{totalsOf};
+ghost use Rattle.lookups.specs.Totals.{totalsOf};
 ghost use Rattle.handover_table.specs.Table.{mostPoints};
 
 pub fn points_in(s: &[u8], z: Sizes, c: Totals) -> usize

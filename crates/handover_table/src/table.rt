@@ -3,8 +3,8 @@ use crate::entries::Entry;
 use crate::entries::entries_fit;
 use crate::points::points_before;
 use crate::points::points_in;
-use content::point::last_point_of;
-use content::totals::Totals;
+use lookups::point::last_point_of;
+use lookups::totals::Totals;
 use program::sizes::Sizes;
 ghost use mathlib.Core.Path.{_≡_};
 ghost use Prim.Native.Nat.{_≤_};
@@ -13,7 +13,7 @@ ghost use Rattle.index.specs.Table.{indexOf};
 ghost use Rattle.image.specs.Decode.{decoded};
 ghost use Rattle.image.specs.declared.decode.Decoded.the-variants.{Sound};
 ghost use Rattle.content.specs.Image.{imageOf};
-ghost use Rattle.content.specs.Totals.{totalsOf};
+ghost use Rattle.lookups.specs.Totals.{totalsOf};
 ghost use Rattle.handover_table.specs.Fits.{threadFits, threadsFit, tableFits};
 
 // The entries of thread t.

@@ -12,9 +12,9 @@ use borrow.Author.Tests.{leb-true, leb-false, ltb-true, ltb-false, eqb-true, eqb
 use Rattle.limits.specs.Limits as Limits
 use Rattle.limits.specs.Numbers.{word}
 use Rattle.frames.specs.Records.{body, cut, bodies, startOf}
-use Rattle.program.specs.Thread.{lastPoint, begins, instructions, nothing}
+use Rattle.threads.specs.Thread.{lastPoint, begins, instructions, nothing}
 use Rattle.program.specs.declared.instruction.Instruction.{Instruction}
-use Rattle.program.proofs.Laws.Program.{at-past}
+use Rattle.threads.proofs.Threads.{at-past}
 use Rattle.index.specs.Table.{room, tableSize, recordsTo, nextStart, isThread, firstFrom, firstThread, behind, rowsTo, indexOf, placeOf}
 use Rattle.index.specs.declared.starts.FirstThread.{FirstThread}
 use Rattle.index.proofs.Laws.{room-few, size-is, records-length, rows-length, rows-out, rows-in}

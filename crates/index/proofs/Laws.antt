@@ -14,7 +14,7 @@ use Rattle.limits.specs.Limits as Limits
 use Rattle.limits.specs.Numbers.{word}
 use Rattle.frames.proofs.Laws.Walk.{long}
 use Rattle.frames.specs.Records.{body, cut, bodies, startOf}
-use Rattle.program.specs.Thread.{lastPoint, begins}
+use Rattle.threads.specs.Thread.{lastPoint, begins}
 use Rattle.index.specs.Table.{room, tableSize, recordsTo, nextStart, isThread, firstFrom, firstThread, rowTo, rowOf, behind, rowsTo, indexOf, placeOf}
 use Rattle.index.specs.declared.starts.FirstThread.{FirstThread}
 

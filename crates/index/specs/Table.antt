@@ -7,7 +7,7 @@ use lib.ListN.{length, drop, set, replicate}
 use Rattle.limits.specs.Limits as Limits
 use Rattle.limits.specs.Numbers.{word}
 use Rattle.frames.specs.Records.{body, startOf}
-use Rattle.program.specs.Thread.{lastPoint, begins}
+use Rattle.threads.specs.Thread.{lastPoint, begins}
 use Rattle.index.specs.declared.starts.FirstThread.{FirstThread}
 
 -- how many records the table has places for: a record has two bytes at least, so an image of 1,024 bytes has at most 512

@@ -5,15 +5,15 @@ use limits::Limits;
 use limits::read::rest;
 use program::instruction::Instruction;
 use program::instruction::NOTHING;
-use program::thread::begins_at;
-use program::thread::instruction_from;
-use program::thread::last_point;
+use threads::thread::begins_at;
+use threads::thread::instruction_from;
+use threads::thread::last_point;
 ghost use mathlib.Core.Path.{_≡_};
 ghost use mathlib.Core.List.{[]};
 ghost use Prim.Native.Nat.{_<_};
 ghost use lib.ListN.{getD, drop};
 ghost use Rattle.frames.specs.Records.{bodies};
-ghost use Rattle.program.specs.Thread.{lastPoint, begins, instructions, nothing};
+ghost use Rattle.threads.specs.Thread.{lastPoint, begins, instructions, nothing};
 ghost use Rattle.index.specs.Table.{indexOf, placeOf};
 
 // Where the record starts that has i records before it; the image's end, if there is none.

@@ -4,12 +4,12 @@ use crate::walk::next_start;
 use frames::kind::Kind;
 use limits::Limits;
 use limits::read::word_at;
-use program::thread::begins_behind;
-use program::thread::last_point;
+use threads::thread::begins_behind;
+use threads::thread::last_point;
 ghost use mathlib.Core.Path.{_≡_};
 ghost use Prim.Native.Nat.{_+_, _≤_, _<_, min};
 ghost use lib.ListN.{length};
-ghost use Rattle.program.specs.Thread.{lastPoint};
+ghost use Rattle.threads.specs.Thread.{lastPoint};
 ghost use Rattle.index.specs.Table.{isThread, firstFrom, rowOf, rowsTo};
 
 // The first record of a thread: how many records there are before it, and where it starts.

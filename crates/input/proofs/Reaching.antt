@@ -33,7 +33,8 @@ module _ (failed : Bool) (more done : ℕ) where
   unfolding reachedBy Goes
   goes-by room h = go failed (eqb more 0) (λ e. eqb-false more 0 e)
     where
-      go : (f z : Bool) → (z ≡ false → more ≡ 0 → ⊥) → Goes (cond f (Over Failed) (cond z (Over (Ended done)) (More (done + more)))) done room
+      go : (f z : Bool) → (z ≡ false → more ≡ 0 → ⊥) → Goes (cond f (Over Failed) (cond z (Over (Ended done)) (More (done + more)))) done
+          room
       go true z n = tt
       go false true n = refl
       go false false n = let m : more ≡ 0 → ⊥ = n refl in (omega arith, h)

@@ -1,6 +1,6 @@
 // Each assertion under the actions of the other threads: by acting thread, acting point, asserting thread, asserting point.
-use content::point::last_point_of;
-use content::totals::Totals;
+use lookups::point::last_point_of;
+use lookups::totals::Totals;
 use outcomes::outcome::Outcome;
 use outcomes::outcome::judge_next;
 use program::instruction::Instruction;
@@ -10,8 +10,8 @@ use report::obligation::Obligation;
 ghost use mathlib.Core.Path.{_≡_};
 ghost use Rattle.frames.specs.Records.{bodies};
 ghost use Rattle.index.specs.Table.{indexOf};
-ghost use Rattle.content.specs.Totals.{totalsOf};
-ghost use Rattle.program.specs.Thread.{lastPoint};
+ghost use Rattle.lookups.specs.Totals.{totalsOf};
+ghost use Rattle.threads.specs.Thread.{lastPoint};
 ghost use Rattle.records.specs.Places.{threadBody};
 ghost use Rattle.marks.specs.Marks.{asMarks};
 ghost use Rattle.outcomes.specs.Walk.{actingAt, assertionsAt, assertionsTo, actionsTo, interferencesTo};
@@ -116,7 +116,8 @@ fn judge_actor<'a, 'b, 'c>(
     r: Outcome,
 ) -> Outcome
     requires { ⌜ (now ix ≡ indexOf (now s)) × (y ≡ totalsOf z (bodies (now s))) ⌝ }
-    ensures { λ q. ⌜ q ≡ actionsTo (now (s .entry)) z (asMarks (now (m .entry))) t (lastPoint (threadBody z (bodies (now (s .entry))) t)) r ⌝ }
+    ensures { λ q. ⌜ q
+        ≡ actionsTo (now (s .entry)) z (asMarks (now (m .entry))) t (lastPoint (threadBody z (bodies (now (s .entry))) t)) r ⌝ }
 {
     let last = last_point_of(s, ix, z, t);
     let mut q = r;

@@ -17,7 +17,7 @@ use Rattle.certificate.specs.Lines.{marked}
 use Rattle.outline.specs.Verdict.{Image, codeOf, lineCode, asks, code, judge, outcome, Finding, accepted, denied, forbids, sustained, judgeClaims}
 use Rattle.outline.specs.Verdict as Verdict
 use Rattle.content.specs.Image.{claimBody, imageOf}
-use Rattle.content.specs.Places.{claimedIn}
+use Rattle.lookups.specs.Places.{claimedIn}
 use Rattle.content.proofs.Checked.{Checks}
 use Rattle.content.proofs.Lines.{named-there, claim-fine}
 use Rattle.marks.specs.Marks.{isMarked}
@@ -46,7 +46,8 @@ codes-same false true false = refl
 codes-same false false c = refl
 
 -- the first that is not met stays
-failed-stays : (s : List ℕ) (z : Sizes) (m : Marks) (os : List Logic.Obligation) (p : Obligation) (e n c : ℕ) → judged s z m os (Failed p e n c) ≡ Failed p e n c
+failed-stays : (s : List ℕ) (z : Sizes) (m : Marks) (os : List Logic.Obligation) (p : Obligation) (e n c : ℕ)
+    → judged s z m os (Failed p e n c) ≡ Failed p e n c
 unfolding judged next
 failed-stays s z m [] p e n c = refl
 failed-stays s z m (o ∷ os) p e n c = failed-stays s z m os p e n c
@@ -56,14 +57,16 @@ module _ (s : List ℕ) (z : Sizes) (c : Checks z (bodies s)) where
   D = imageOf z (bodies s)
 
   -- the marks are those of the lines
-  module _ (m : Marks) (marking : (k : ℕ) → Within (z .lines) k → isMarked m k ≡ marked (D .program) (D .certificate) (D .certificate .count) k) where
+  module _ (m : Marks) (marking : (k : ℕ) → Within (z .lines) k
+      → isMarked m k ≡ marked (D .program) (D .certificate) (D .certificate .count) k) where
     code-same : (o : Logic.Obligation) → InRange (D .program) o → (i : ℕ) → codeAt s z m (obligation o) (D .named i) ≡ code D o (D .named i)
     unfolding codeAt lineCode
     code-same o r i = go (eqb (D .named i) 0) refl
       where
         go : (b : Bool) → eqb (D .named i) 0 ≡ b
             → cond (eqb (D .named i) 0) 20 (cond (concludesAt s z (obligation o) (D .named i)) (cond (isMarked m (D .named i)) 0 22) 21)
-            ≡ codeOf (eqb (D .named i) 0) (sameStatement (asks D o) (D .certificate .line (D .named i) .says)) (marked (D .program) (D .certificate) (D .certificate .count) (D .named i))
+            ≡ codeOf (eqb (D .named i) 0) (sameStatement (asks D o) (D .certificate .line (D .named i) .says))
+            (marked (D .program) (D .certificate) (D .certificate .count) (D .named i))
         go true e = rw e
         go false e =
             let q = eqb-false (D .named i) 0 e in
@@ -80,7 +83,8 @@ module _ (s : List ℕ) (z : Sizes) (c : Checks z (bodies s)) where
     judge-same (o ∷ os) r i = rw (code-same o (r .0) i) (go (eqb (code D o (D .named i)) 0) (λ k. judge-same os (r .1) k))
       where
         go : (b : Bool) → ((k : ℕ) → judgeAt s z m os k ≡ toOutcome (judge D os k))
-            → judged s z m os (cond b (Met (i + 1)) (Failed (obligation o) (code D o (D .named i)) (D .named i) i)) ≡ toOutcome (Step o os i b)
+            → judged s z m os (cond b (Met (i + 1)) (Failed (obligation o) (code D o (D .named i)) (D .named i) i)) ≡ toOutcome
+            (Step o os i b)
         go true ih = rw (add-one i) (ih (suc i))
         go false ih = failed-stays s z m os (obligation o) (code D o (D .named i)) (D .named i) i
 
@@ -96,15 +100,19 @@ module _ (s : List ℕ) (z : Sizes) (c : Checks z (bodies s)) where
     sustained-same i h = go (eqb (D .claims .line i) 0) refl
       where
         go : (b : Bool) → eqb (D .claims .line i) 0 ≡ b
-            → cond (eqb (D .claims .line i) 0) false (cond (meets s z (wantedClaim s z (claimedIn (body i))) (D .claims .line i)) (isMarked m (D .claims .line i)) false)
-            ≡ eqb (codeOf (eqb (D .claims .line i) 0) (sameStatement (forbids D i) (D .certificate .line (D .claims .line i) .says)) (marked (D .program) (D .certificate) (D .certificate .count) (D .claims .line i))) 0
+            → cond (eqb (D .claims .line i) 0) false (cond (meets s z (wantedClaim s z (claimedIn (body i))) (D .claims .line i))
+            (isMarked m (D .claims .line i)) false)
+            ≡ eqb (codeOf (eqb (D .claims .line i) 0) (sameStatement (forbids D i) (D .certificate .line (D .claims .line i) .says))
+            (marked (D .program) (D .certificate) (D .certificate .count) (D .claims .line i))) 0
         go true e = rw e
         go false e =
             let q = eqb-false (D .claims .line i) 0 e in
             let f = claim-fine z (bodies s) c i h in
             let w : Within (z .lines) (D .claims .line i) = (omega arith, f .line) in
-            borne-same (eqb (D .claims .line i) 0) (meets s z (wantedClaim s z (claimedIn (body i))) (D .claims .line i)) (isMarked m (D .claims .line i))
-            ∙ ap₂ (λ (x y : Bool). eqb (codeOf (eqb (D .claims .line i) 0) x y) 0) (claim-asked s z c (D .claims .line i) w i h) (marking (D .claims .line i) w)
+            borne-same (eqb (D .claims .line i) 0) (meets s z (wantedClaim s z (claimedIn (body i))) (D .claims .line i))
+            (isMarked m (D .claims .line i))
+            ∙ ap₂ (λ (x y : Bool). eqb (codeOf (eqb (D .claims .line i) 0) x y) 0) (claim-asked s z c (D .claims .line i) w i h)
+            (marking (D .claims .line i) w)
 
     -- the first claim that fails, of n from i on; the number behind them if there is none
     abbrev found : ℕ → ℕ → ℕ → Finding
@@ -119,7 +127,8 @@ module _ (s : List ℕ) (z : Sizes) (c : Checks z (bodies s)) where
         rw (sustained-same i b) (go (sustained D i) (rw (← g) at (claims-from n (suc i) d (omega arith))))
       where
         go : (x : Bool) → judgeClaims D n (suc i) d ≡ found (i + suc n) (firstDenied s z m n (suc i)) d
-            → elim x [ true ↦ judgeClaims D n (suc i) d | false ↦ denied i d ] ≡ found (i + suc n) (cond x (firstDenied s z m n (suc i)) i) d
+            → elim x [ true ↦ judgeClaims D n (suc i) d | false ↦ denied i d ] ≡ found (i + suc n)
+            (cond x (firstDenied s z m n (suc i)) i) d
         go true h = h
         go false h = rw (ne-eqb i (i + suc n) (λ q. omega arith))
 

@@ -35,14 +35,16 @@ module _ (P : Program) where
   own-ranged t k (act A ns) e w h = ((w, h), tt)
   own-ranged t k (branch a b) e w h = ((w, (h, ap isBranch e)), ((w, h), tt))
 
-  acting-ranged : (u j t k : ℕ) (x : Instr) → Within (P .threads) u → j < P .points u → Within (P .threads) t → suc k < P .points t → All Fine (acting P u j t k x)
+  acting-ranged : (u j t k : ℕ) (x : Instr) → Within (P .threads) u → j < P .points u → Within (P .threads) t → suc k < P .points t
+      → All Fine (acting P u j t k x)
   acting-ranged u j t k (act A ns) w h y g = (((w, h), (y, g)), tt)
   acting-ranged u j t k (branch a b) w h y g = tt
 
   assertions-ranged : (t k u : ℕ) → Within (P .threads) t → suc k < P .points t → Within (P .threads) u → All Fine (assertions P t k u)
   assertions-ranged t k u y g w = go (eqb t u)
     where
-      go : (b : Bool) → All Fine (elim b as (λ y. List Obligation) [ true ↦ [] | false ↦ flat (λ j. acting P u j t k (P .code t k)) (below (asserted P u)) ])
+      go : (b : Bool) → All Fine (elim b as (λ y. List Obligation)
+          [ true ↦ [] | false ↦ flat (λ j. acting P u j t k (P .code t k)) (below (asserted P u)) ])
       go true = tt
       go false =
           all-flat Fine (λ j. acting P u j t k (P .code t k)) (below (asserted P u))
@@ -66,5 +68,6 @@ module _ (P : Program) where
 
   pub obligations-ranged : All Fine (obligations P)
   obligations-ranged =
-      All-join Fine (starts P) (steps P ++ interferences P) (all-map Fine start (upTo (P .threads)) (all-up (λ t. Fine (start t)) (P .threads) (λ t w. w)))
+      All-join Fine (starts P) (steps P ++ interferences P)
+      (all-map Fine start (upTo (P .threads)) (all-up (λ t. Fine (start t)) (P .threads) (λ t w. w)))
       (All-join Fine (steps P) (interferences P) steps-ranged interferences-ranged)

@@ -1,8 +1,8 @@
 // All obligations of an image, in order.
 use crate::steps::judge_starts;
 use crate::steps::judge_steps;
-use content::totals::totals_of;
 use interferences::interference::judge_interferences;
+use lookups::totals::totals_of;
 use outcomes::outcome::Outcome;
 use program::sizes::Sizes;
 ghost use mathlib.Core.Path.{_≡_};

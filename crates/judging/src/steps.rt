@@ -1,6 +1,6 @@
 // Starts, steps and branches taken, thread by thread.
-use content::point::last_point_of;
-use content::totals::Totals;
+use lookups::point::last_point_of;
+use lookups::totals::Totals;
 use outcomes::outcome::Outcome;
 use outcomes::outcome::judge_next;
 use program::instruction::Instruction;
@@ -10,8 +10,8 @@ use report::obligation::Obligation;
 ghost use mathlib.Core.Path.{_≡_};
 ghost use Rattle.frames.specs.Records.{bodies};
 ghost use Rattle.index.specs.Table.{indexOf};
-ghost use Rattle.content.specs.Totals.{totalsOf};
-ghost use Rattle.program.specs.Thread.{lastPoint};
+ghost use Rattle.lookups.specs.Totals.{totalsOf};
+ghost use Rattle.threads.specs.Thread.{lastPoint};
 ghost use Rattle.records.specs.Places.{threadBody};
 ghost use Rattle.marks.specs.Marks.{asMarks};
 ghost use Rattle.outcomes.specs.Walk.{startsTo, ownAt, ownTo, stepsTo};

@@ -17,7 +17,7 @@ use Rattle.records.specs.Line.{premises}
 use Rattle.certificate.specs.Lines.{Certificate, lineFits, marked}
 use Rattle.certificate.proofs.Marks.{each-at, all-at}
 use Rattle.content.specs.Certificate.{lineBody, certificateOf}
-use Rattle.content.specs.Places.{lineIn}
+use Rattle.lookups.specs.Places.{lineIn}
 use Rattle.content.specs.Program.{programOf}
 use Rattle.content.proofs.Checked.{Checks}
 use Rattle.content.proofs.Lines.{premise-count}
@@ -39,7 +39,8 @@ module _ (s : List ℕ) (z : Sizes) (n : ℕ) (m : Marks) where
   first-marked zero h i b = absurd (omega arith)
   first-marked (suc k) h i b = go (premisesMarked s z n m k) refl h (λ g c. first-marked k g i c)
     where
-      go : (p : Bool) → premisesMarked s z n m k ≡ p → T (cond p (isMarked m (getD ps k 0)) false) → (T (premisesMarked s z n m k) → i < k → T (isMarked m (getD ps i 0))) → T (isMarked m (getD ps i 0))
+      go : (p : Bool) → premisesMarked s z n m k ≡ p → T (cond p (isMarked m (getD ps k 0)) false)
+          → (T (premisesMarked s z n m k) → i < k → T (isMarked m (getD ps i 0))) → T (isMarked m (getD ps i 0))
       go true e h ih = at (eqb i k) refl
         where
           at : (q : Bool) → eqb i k ≡ q → T (isMarked m (getD ps i 0))
@@ -57,7 +58,8 @@ module _ (s : List ℕ) (z : Sizes) (n : ℕ) (m : Marks) where
       go false g = absurd g
 
   premises-are : premisesMarked s z n m (length ps) ≡ all (isMarked m) ps
-  premises-are = bool-ext (premisesMarked s z n m (length ps)) (all (isMarked m) ps) (λ h. all-at (isMarked m) ps (first-marked (length ps) h)) (λ h. all-marked (length ps) (each-at (isMarked m) ps h))
+  premises-are = bool-ext (premisesMarked s z n m (length ps)) (all (isMarked m) ps)
+      (λ h. all-at (isMarked m) ps (first-marked (length ps) h)) (λ h. all-marked (length ps) (each-at (isMarked m) ps h))
 
 all-same : (f g : ℕ → Bool) → ((k : ℕ) → f k ≡ g k) → (l : List ℕ) → all f l ≡ all g l
 all-same f g h [] = refl
@@ -87,7 +89,8 @@ module _ (s : List ℕ) (z : Sizes) (c : Checks z (bodies s)) where
     unfolding isJustified
     line-justified =
         ap₂ (λ (p f : Bool). cond p f false)
-        (ap (premisesMarked s z (suc n) m) count-is ∙ premises-are s z (suc n) m ∙ all-same (isMarked m) (marked P C n) same (premises (lineBody z (bodies s) (suc n))))
+        (ap (premisesMarked s z (suc n) m) count-is ∙ premises-are s z (suc n) m
+        ∙ all-same (isMarked m) (marked P C n) same (premises (lineBody z (bodies s) (suc n))))
         (fits-is s z c (suc n) (omega arith, b))
         ∙ swap (all (marked P C n) (C .line (suc n) .premises)) (lineFits P C (suc n))
       where
@@ -104,8 +107,11 @@ module _ (s : List ℕ) (z : Sizes) (c : Checks z (bodies s)) where
         new : Bool
         new = isJustified s templates z (suc n) m
 
-        go : (e : Bool) → eqb k (suc n) ≡ e → isMarked (withMark m (suc n) new) k ≡ cond e (lineFits P C (suc n) && all (marked P C n) (C .line (suc n) .premises)) (marked P C n k)
-        go true e = subst (λ (j : ℕ). isMarked (withMark m (suc n) new) j ≡ lineFits P C (suc n) && all (marked P C n) (C .line (suc n) .premises)) (sym (eqb-true k (suc n) e)) (marked-same m (suc n) new (sized n) (omega arith) (omega (arith, c .few)) ∙ line-justified)
+        go : (e : Bool) → eqb k (suc n) ≡ e → isMarked (withMark m (suc n) new) k ≡ cond e
+            (lineFits P C (suc n) && all (marked P C n) (C .line (suc n) .premises)) (marked P C n k)
+        go true e = subst (λ (j : ℕ). isMarked (withMark m (suc n) new) j ≡ lineFits P C (suc n)
+            && all (marked P C n) (C .line (suc n) .premises)) (sym (eqb-true k (suc n) e))
+            (marked-same m (suc n) new (sized n) (omega arith) (omega (arith, c .few)) ∙ line-justified)
         go false e = marked-other m (suc n) new k (eqb-false k (suc n) e) ∙ same k
 
   marks-to : (n : ℕ) → n ≤ z .lines → (k : ℕ) → isMarked (marksTo s z n) k ≡ marked P C n k

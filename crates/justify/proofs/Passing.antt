@@ -13,8 +13,8 @@ use Rattle.frames.specs.Records.{bodies}
 use Rattle.program.specs.declared.sizes.Sizes.{Sizes}
 use Rattle.records.specs.Line.{premises}
 use Rattle.content.specs.Certificate.{lineBody}
-use Rattle.content.specs.Places.{lineIn}
-use Rattle.content.specs.declared.line.Line.{Line}
+use Rattle.lookups.specs.Places.{lineIn}
+use Rattle.lookups.specs.declared.line.Line.{Line}
 use Rattle.rulebook.specs.Rulebook.{templates}
 use Rattle.conclusions.specs.LineConclusion.{lineAt}
 use Rattle.fitting.specs.Fit.{fitsLine}
@@ -37,7 +37,8 @@ module _ (s : List ℕ) (z : Sizes) (n : ℕ) (m : Marks) where
   unfolding premisesMarked
   premises-none = refl
 
-  module _ (j p : ℕ) (b : Bool) (so : true ≡ premisesMarked s z n m j) (e : p ≡ getD (premises (lineBody z (bodies s) n)) j 0) (d : b ≡ isMarked m p) where
+  module _ (j p : ℕ) (b : Bool) (so : true ≡ premisesMarked s z n m j) (e : p ≡ getD (premises (lineBody z (bodies s) n)) j 0)
+      (d : b ≡ isMarked m p) where
     premises-step : b ≡ premisesMarked s z n m (j + 1)
     unfolding premisesMarked
     premises-step = rw (add-one j, ← so, ← e) d
@@ -53,7 +54,8 @@ module _ (s : List ℕ) (z : Sizes) (n : ℕ) (m : Marks) where
 
 pub ruleset premising = (premises-none, premises-more, premises-miss, premises-all)
 
-module _ (s t : List ℕ) (z : Sizes) (n : ℕ) (m : Marks) (l : Line) (a : Bool) (e : l ≡ lineIn s (lineBody z (bodies s) n)) (d : a ≡ premisesMarked s z n m (l .count)) where
+module _ (s t : List ℕ) (z : Sizes) (n : ℕ) (m : Marks) (l : Line) (a : Bool) (e : l ≡ lineIn s (lineBody z (bodies s) n))
+    (d : a ≡ premisesMarked s z n m (l .count)) where
   pub justified-fits : (b : Bool) → a ≡ true → b ≡ fitsLine s t z n → b ≡ isJustified s t z n m
   unfolding isJustified lineAt
   justified-fits b h f = rw (← e, ← d, h) f
@@ -76,7 +78,8 @@ module _ (s : List ℕ) (z : Sizes) where
   unfolding marksTo
   marks-step n = rw (add-one n)
 
-  pub marks-more : (t : List ℕ) (n : ℕ) (on after : List Bool) (b : Bool) → t ≡ templates → These on n → b ≡ isJustified s t z (n + 1) (asMarks on)
+  pub marks-more : (t : List ℕ) (n : ℕ) (on after : List Bool) (b : Bool) → t ≡ templates → These on n
+      → b ≡ isJustified s t z (n + 1) (asMarks on)
       → after ≡ withMark (asMarks on) (n + 1) b .on → These after (n + 1)
   marks-more t n on after b e d f g = rw (marks-step n, ← d, ← e, ← f, g)
 

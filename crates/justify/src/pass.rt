@@ -1,8 +1,8 @@
 // One pass over the lines. A line rests on lower lines alone, whose marks are set by then.
-use content::line::line_of;
-use content::line::premise_of;
 use fitting::fit::fits_line;
 use limits::Limits;
+use lookups::line::line_of;
+use lookups::line::premise_of;
 use marks::Marks;
 use marks::is_marked;
 use marks::set_mark;

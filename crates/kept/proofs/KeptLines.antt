@@ -14,8 +14,8 @@ use Rattle.records.specs.Tally.{obligationCount}
 use Rattle.image.specs.Decode.{recordCount}
 use Rattle.content.specs.Certificate.{lineBody}
 use Rattle.content.specs.Image.{claimBody}
-use Rattle.content.specs.Places.{claimedIn}
-use Rattle.content.specs.declared.claim.Claimed.{Claimed}
+use Rattle.lookups.specs.Places.{claimedIn}
+use Rattle.lookups.specs.declared.claim.Claimed.{Claimed}
 use Rattle.document.specs.Document.{LineRecord}
 use Rattle.document.specs.Canonical.{noClaim}
 use Rattle.document.specs.Parse.{lineRecord, claimRecord, documentOf}

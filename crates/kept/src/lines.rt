@@ -1,8 +1,8 @@
 // Which lines stay: those that obligations and claims name, and down from these all premises.
-use content::claim::claim_of;
 use index::look::body_of;
 use limits::read::byte_at;
 use limits::read::rest;
+use lookups::claim::claim_of;
 use notes::note::is_noted;
 use notes::note::note_number;
 use notes::note::note_numbers;

@@ -98,9 +98,11 @@ module _ (s q : List ℕ) (R limit : ℕ) where
       go true d = let h : limit < 1 = ltb-true limit 1 d in rw (capped-high limit 1 1 h) (omega arith)
       go false d = rw (capped-low limit 1 1 (ltb-false limit 1 d))
 
-  pub rows-next : (p : Slot) (j c r r₂ : ℕ) → r ≡ rowsUpTo s q R limit j → p ≡ numbers q j → c ≡ choicesT R (slotTree s p) → r₂ ≡ capped limit c r → r₂ ≡ rowsUpTo s q R limit (j + 1)
+  pub rows-next : (p : Slot) (j c r r₂ : ℕ) → r ≡ rowsUpTo s q R limit j → p ≡ numbers q j → c ≡ choicesT R (slotTree s p)
+      → r₂ ≡ capped limit c r → r₂ ≡ rowsUpTo s q R limit (j + 1)
   unfolding rowsUpTo slotAt
-  rows-next p j c r r₂ e ep ec f = f ∙ rw (e, ec, ep, kept-next s q j) (capped-twice limit (choicesT R (slotTree s (numbers q j))) (rowCount sameTree (choicesT R) (kept s q j)))
+  rows-next p j c r r₂ e ep ec f = f ∙ rw (e, ec, ep, kept-next s q j)
+      (capped-twice limit (choicesT R (slotTree s (numbers q j))) (rowCount sameTree (choicesT R) (kept s q j)))
 
   pub rows-end : (j n r : ℕ) → r ≡ rowsUpTo s q R limit j → j ≤ n → n ≤ j → r ≡ rowsUpTo s q R limit n
   rows-end j n r e h g = let d : j ≡ n = omega arith in e ∙ ap (rowsUpTo s q R limit) d

@@ -46,15 +46,18 @@ module _ (s q : List ℕ) (t : Tree) where
   from-skip zero h g = of-is s q t
   from-skip (suc n) h g = go (sameTree t (slotAt s q n)) (from-skip n (omega arith) (omega arith) ∙ from-next s q n t (omega arith))
     where
-      go : (b : Bool) → slotOf s q t ≡ cond b n (slotFrom s q (slots - (n + 1)) (n + 1) t) → slotOf s q t ≡ slotFrom s q (slots - suc n) (suc n) t
+      go : (b : Bool) → slotOf s q t ≡ cond b n (slotFrom s q (slots - (n + 1)) (n + 1) t)
+          → slotOf s q t ≡ slotFrom s q (slots - suc n) (suc n) t
       go true e = absurd (omega arith)
       go false e = let f : n + 1 ≡ suc n = omega arith in rw (← f) e
 
   pub in-kept : (n : ℕ) → n ≤ slots → isIn sameTree t (kept s q n) ≡ ltb (slotOf s q t) n
   in-kept zero h = let e : 0 ≤ slotOf s q t = omega arith in rw (kept-none, in-none, le-ltb _ _ e)
-  in-kept (suc n) h = rw (kept-step s q n, in-step) (go (ltb (slotOf s q t) n) (sameTree t (slotAt s q n)) refl refl (in-kept n (omega arith)))
+  in-kept (suc n) h = rw (kept-step s q n, in-step)
+      (go (ltb (slotOf s q t) n) (sameTree t (slotAt s q n)) refl refl (in-kept n (omega arith)))
     where
-      go : (a b : Bool) → ltb (slotOf s q t) n ≡ a → sameTree t (slotAt s q n) ≡ b → isIn sameTree t (kept s q n) ≡ ltb (slotOf s q t) n → (sameTree t (slotAt s q n) || isIn sameTree t (kept s q n)) ≡ ltb (slotOf s q t) (suc n)
+      go : (a b : Bool) → ltb (slotOf s q t) n ≡ a → sameTree t (slotAt s q n) ≡ b → isIn sameTree t (kept s q n) ≡ ltb (slotOf s q t) n
+          → (sameTree t (slotAt s q n) || isIn sameTree t (kept s q n)) ≡ ltb (slotOf s q t) (suc n)
       go true true ea eb ih = let l : slotOf s q t < suc n = omega (arith, ltb-true (slotOf s q t) n ea) in rw (eb, lt-ltb _ _ l)
       go true false ea eb ih = let l : slotOf s q t < suc n = omega (arith, ltb-true (slotOf s q t) n ea) in rw (eb, ih, ea, lt-ltb _ _ l)
       go false true ea eb ih =
@@ -62,7 +65,8 @@ module _ (s q : List ℕ) (t : Tree) where
           let l : slotOf s q t < suc n = omega arith in
           rw (eb, lt-ltb _ _ l)
       go false false ea eb ih =
-          let f : slotOf s q t ≡ slotFrom s q (slots - (n + 1)) (n + 1) t = from-skip n (omega arith) (ltb-false (slotOf s q t) n ea) ∙ from-next s q n t (omega arith) ∙ rw eb in
+          let f : slotOf s q t ≡ slotFrom s q (slots - (n + 1)) (n + 1) t = from-skip n (omega arith) (ltb-false (slotOf s q t) n ea)
+          ∙ from-next s q n t (omega arith) ∙ rw eb in
           let l : suc n ≤ slotOf s q t = omega (arith, from-least s q t (slots - (n + 1)) (n + 1)) in
           rw (eb, ih, ea, le-ltb _ _ l)
 
@@ -87,7 +91,11 @@ module _ (q : List ℕ) (n : ℕ) (p : Slot) where
 
   numbers-other : (j : ℕ) → j < n → numbers written j ≡ numbers q j
   unfolding numbers
-  numbers-other j h i = record { place = other (3 * j) (omega arith) i; operand = other (3 * j + 1) (omega arith) i; left = other (3 * j + 2) (omega arith) i }
+  numbers-other j h i = record {
+    place = other (3 * j) (omega arith) i;
+    operand = other (3 * j + 1) (omega arith) i;
+    left = other (3 * j + 2) (omega arith) i;
+  }
 
   module _ (b : 3 * n + 2 < length q) where
     first : getD written (3 * n) 0 ≡ p .place
@@ -102,7 +110,8 @@ module _ (q : List ℕ) (n : ℕ) (p : Slot) where
         ∙ getD-set-same (set q (3 * n) (p .place)) (3 * n + 1) (p .operand) 0 (omega (arith, length-set q (3 * n) (p .place)))
 
     third : getD written (3 * n + 2) 0 ≡ p .left
-    third = getD-set-same (set (set q (3 * n) (p .place)) (3 * n + 1) (p .operand)) (3 * n + 2) (p .left) 0 (omega (arith, length-set q (3 * n) (p .place), length-set (set q (3 * n) (p .place)) (3 * n + 1) (p .operand)))
+    third = getD-set-same (set (set q (3 * n) (p .place)) (3 * n + 1) (p .operand)) (3 * n + 2) (p .left) 0
+        (omega (arith, length-set q (3 * n) (p .place), length-set (set q (3 * n) (p .place)) (3 * n + 1) (p .operand)))
 
     numbers-same : numbers written n ≡ p
     unfolding numbers
@@ -132,11 +141,14 @@ put-many : (c o : ℕ) (l r : Tree) → putT (node c o l r) many ≡ many
 unfolding putT
 put-many c o l r = refl
 
-pub put-keys : (c o : ℕ) (l r : Tree) (k : List Tree) → putT (node c o l r) (keys k) ≡ cond (isIn sameTree (node c o l r) k) (keys k) (cond (ltb (length k) slots) (keys (node c o l r ∷ k)) many)
+pub put-keys : (c o : ℕ) (l r : Tree) (k : List Tree)
+    → putT (node c o l r) (keys k) ≡ cond (isIn sameTree (node c o l r) k) (keys k)
+    (cond (ltb (length k) slots) (keys (node c o l r ∷ k)) many)
 unfolding putT
 put-keys c o l r k = refl
 
-put-some : (c o : ℕ) (l r t : Tree) (k : List Tree) → t ≡ node c o l r → putT t (keys k) ≡ cond (isIn sameTree t k) (keys k) (cond (ltb (length k) slots) (keys (t ∷ k)) many)
+put-some : (c o : ℕ) (l r t : Tree) (k : List Tree) → t ≡ node c o l r
+    → putT t (keys k) ≡ cond (isIn sameTree t k) (keys k) (cond (ltb (length k) slots) (keys (t ∷ k)) many)
 put-some c o l r t k e = rw e (put-keys c o l r k)
 
 pub view-keys : (s : List ℕ) (n : ℕ) (q : List ℕ) → n ≤ slots → view s n q ≡ keys (kept s q n)
@@ -155,7 +167,8 @@ module _ (s : List ℕ) (at left n : ℕ) (q : List ℕ) where
   put-over z h = rw (view-many s n q h, parse-step s left at z, put-many)
 
   module _ (r : ℕ) (z : left ≡ 0 → ⊥) (h : n ≤ slots) (er : r ≡ slotWithin s q n (parseTree s left at .tree)) where
-    put-by : putT (parseTree s left at .tree) (view s n q) ≡ cond (ltb r n) (keys (kept s q n)) (cond (ltb n slots) (keys (parseTree s left at .tree ∷ kept s q n)) many)
+    put-by : putT (parseTree s left at .tree) (view s n q) ≡ cond (ltb r n) (keys (kept s q n))
+        (cond (ltb n slots) (keys (parseTree s left at .tree ∷ kept s q n)) many)
     unfolding slotWithin
     put-by =
         ap (putT (parseTree s left at .tree)) (view-keys s n q h)
@@ -165,16 +178,19 @@ module _ (s : List ℕ) (at left n : ℕ) (q : List ℕ) where
     pub put-there : r < n → view s n q ≡ putT (parseTree s left at .tree) (view s n q)
     put-there l = view-keys s n q h ∙ sym (put-by ∙ rw (lt-ltb _ _ l))
 
-    pub put-new : (p : Slot) (m : ℕ) (q₂ : List ℕ) → length q ≡ 36 → n ≤ r → p ≡ leafSlot s at left → m ≡ countPut n → q₂ ≡ slotPut n p q → view s m q₂ ≡ putT (parseTree s left at .tree) (view s n q)
+    pub put-new : (p : Slot) (m : ℕ) (q₂ : List ℕ) → length q ≡ 36 → n ≤ r → p ≡ leafSlot s at left → m ≡ countPut n → q₂ ≡ slotPut n p q
+        → view s m q₂ ≡ putT (parseTree s left at .tree) (view s n q)
     unfolding countPut slotPut
     put-new p m q₂ len l ep em eq = ap₂ (view s) em eq ∙ go (ltb n slots) refl ∙ sym (put-by ∙ rw (le-ltb _ _ l))
       where
-        go : (b : Bool) → ltb n slots ≡ b → view s (countPut n) (slotPut n p q) ≡ cond (ltb n slots) (keys (parseTree s left at .tree ∷ kept s q n)) many
+        go : (b : Bool) → ltb n slots ≡ b → view s (countPut n) (slotPut n p q) ≡ cond (ltb n slots)
+            (keys (parseTree s left at .tree ∷ kept s q n)) many
         go true e =
             let h : n < slots = ltb-true n slots e in
             let m : n + 1 ≤ slots = omega arith in
             let b : 3 * n + 2 < length q = omega arith in
-            rw e (view-keys s (n + 1) (written q n p) m ∙ ap keys (kept-written q n p s b ∙ ap (λ (t : Tree). t ∷ kept s q n) (ap (slotTree s) ep ∙ leaf-slot s at left z)))
+            rw e (view-keys s (n + 1) (written q n p) m ∙ ap keys
+            (kept-written q n p s b ∙ ap (λ (t : Tree). t ∷ kept s q n) (ap (slotTree s) ep ∙ leaf-slot s at left z)))
         go false e =
             let m : slots < slots + 1 = omega arith in
             rw e (view-many s (slots + 1) q m)
@@ -199,7 +215,8 @@ gather-none : (w : ℕ) (m : Gathered) → gatherT w none m ≡ m
 unfolding gatherT
 gather-none w m = refl
 
-pub gather-node : (w c o : ℕ) (l r : Tree) (m : Gathered) → gatherT w (node c o l r) m ≡ cond (member w c) (putT (node c o l r) m) (gatherT w l (gatherT w r m))
+pub gather-node : (w c o : ℕ) (l r : Tree) (m : Gathered)
+    → gatherT w (node c o l r) m ≡ cond (member w c) (putT (node c o l r) m) (gatherT w l (gatherT w r m))
 unfolding gatherT
 gather-node w c o l r m = refl
 
@@ -208,17 +225,23 @@ module _ (s : List ℕ) (k at w n : ℕ) (q : List ℕ) where
   gather-zero z = rw (parse-zero s k at z, gather-none)
 
   module _ (x : Node) (b : Bool) (z : k ≡ 0 → ⊥) (e : x ≡ nodeAt s at) (eb : b ≡ member w (x .code)) where
-    pub gather-here : (m : ℕ) (q₂ : List ℕ) → b ≡ true → view s m q₂ ≡ putT (parseTree s k at .tree) (view s n q) → view s m q₂ ≡ gatherT w (parseTree s k at .tree) (view s n q)
+    pub gather-here : (m : ℕ) (q₂ : List ℕ) → b ≡ true → view s m q₂ ≡ putT (parseTree s k at .tree) (view s n q)
+        → view s m q₂ ≡ gatherT w (parseTree s k at .tree) (view s n q)
     gather-here m q₂ d f = f ∙ rw (parse-step s k at z, ← e, gather-node, ← eb, d)
 
     pub gather-leaf : b ≡ false → x .parts ≡ 0 → view s n q ≡ gatherT w (parseTree s k at .tree) (view s n q)
     gather-leaf d p = rw (parse-step s k at z, ← e, gather-node, ← eb, d, p) (simp gather-none)
 
-    pub gather-one : (m : ℕ) (q₂ : List ℕ) → b ≡ false → (x .parts ≡ 0 → ⊥) → x .parts ≡ 1 → view s m q₂ ≡ gatherT w (parseTree s (k - 1) (x .next) .tree) (view s n q) → view s m q₂ ≡ gatherT w (parseTree s k at .tree) (view s n q)
+    pub gather-one : (m : ℕ) (q₂ : List ℕ) → b ≡ false → (x .parts ≡ 0 → ⊥) → x .parts ≡ 1
+        → view s m q₂ ≡ gatherT w (parseTree s (k - 1) (x .next) .tree) (view s n q)
+        → view s m q₂ ≡ gatherT w (parseTree s k at .tree) (view s n q)
     gather-one m q₂ d p o f = f ∙ rw (parse-step s k at z, ← e, gather-node, ← eb, d, o, gather-none)
 
-    pub gather-two : (y m m₂ : ℕ) (q₂ q₃ : List ℕ) → b ≡ false → (x .parts ≡ 0 → ⊥) → (x .parts ≡ 1 → ⊥) → y ≡ parseTree s (k - 1) (x .next) .end
-        → view s m q₂ ≡ gatherT w (parseTree s (k - 1) y .tree) (view s n q) → view s m₂ q₃ ≡ gatherT w (parseTree s (k - 1) (x .next) .tree) (view s m q₂) → view s m₂ q₃ ≡ gatherT w (parseTree s k at .tree) (view s n q)
+    pub gather-two : (y m m₂ : ℕ) (q₂ q₃ : List ℕ) → b ≡ false → (x .parts ≡ 0 → ⊥) → (x .parts ≡ 1 → ⊥)
+        → y ≡ parseTree s (k - 1) (x .next) .end
+        → view s m q₂ ≡ gatherT w (parseTree s (k - 1) y .tree) (view s n q)
+        → view s m₂ q₃ ≡ gatherT w (parseTree s (k - 1) (x .next) .tree) (view s m q₂)
+        → view s m₂ q₃ ≡ gatherT w (parseTree s k at .tree) (view s n q)
     gather-two y m m₂ q₂ q₃ d p o em f f₂ =
         let t₀ : 0 < x .parts = omega arith in
         let t₁ : 1 < x .parts = omega arith in
@@ -248,7 +271,8 @@ module _ (s q q₂ : List ℕ) (n : ℕ) (t : Tree) (same : (j : ℕ) → j < n 
       ∙ go (sameTree t (slotAt s q j)) refl (λ k. from-later d (suc j) k) (subst (λ (x : ℕ). x < n) (from-step s q d j t) h)
       ∙ sym (from-step s q d j t)
     where
-      go : (b : Bool) → sameTree t (slotAt s q j) ≡ b → (slotFrom s q d (suc j) t < n → slotFrom s q₂ d (suc j) t ≡ slotFrom s q d (suc j) t)
+      go : (b : Bool) → sameTree t (slotAt s q j) ≡ b
+          → (slotFrom s q d (suc j) t < n → slotFrom s q₂ d (suc j) t ≡ slotFrom s q d (suc j) t)
           → cond (sameTree t (slotAt s q j)) j (slotFrom s q d (suc j) t) < n
           → cond (sameTree t (slotAt s q₂ j)) j (slotFrom s q₂ d (suc j) t) ≡ cond (sameTree t (slotAt s q j)) j (slotFrom s q d (suc j) t)
       go true e ih h =
@@ -263,7 +287,8 @@ module _ (s q q₂ : List ℕ) (n : ℕ) (t : Tree) (same : (j : ℕ) → j < n 
   slot-later h = of-is s q₂ t ∙ from-later slots 0 (let e = of-is s q t in omega arith) ∙ sym (of-is s q t)
 
 -- a new tree is in the slot that was written
-module _ (s : List ℕ) (at left n : ℕ) (p : Slot) (q : List ℕ) (z : left ≡ 0 → ⊥) (h : n < slots) (len : length q ≡ 36) (ep : p ≡ leafSlot s at left) where
+module _ (s : List ℕ) (at left n : ℕ) (p : Slot) (q : List ℕ) (z : left ≡ 0 → ⊥) (h : n < slots) (len : length q ≡ 36)
+    (ep : p ≡ leafSlot s at left) where
   abbrev t : Tree
   t = parseTree s left at .tree
 
@@ -271,13 +296,17 @@ module _ (s : List ℕ) (at left n : ℕ) (p : Slot) (q : List ℕ) (z : left �
   put-slot l = let a = least in let b = most in omega arith
     where
       least : n ≤ slotOf s (written q n p) t
-      least = ltb-false (slotOf s (written q n p) t) n (sym (in-kept s (written q n p) t n (omega arith)) ∙ ap (isIn sameTree t) (kept-other q n p s n (omega arith)) ∙ in-kept s q t n (omega arith) ∙ le-ltb _ _ l)
+      least = ltb-false (slotOf s (written q n p) t) n
+          (sym (in-kept s (written q n p) t n (omega arith)) ∙ ap (isIn sameTree t) (kept-other q n p s n (omega arith))
+          ∙ in-kept s q t n (omega arith) ∙ le-ltb _ _ l)
 
       here : kept s (written q n p) (n + 1) ≡ t ∷ kept s q n
       here = kept-written q n p s (omega arith) ∙ ap (λ (u : Tree). u ∷ kept s q n) (ap (slotTree s) ep ∙ leaf-slot s at left z)
 
       most : slotOf s (written q n p) t < n + 1
-      most = ltb-true (slotOf s (written q n p) t) (n + 1) (sym (in-kept s (written q n p) t (n + 1) (omega arith)) ∙ ap (isIn sameTree t) here ∙ in-step t t (kept s q n) ∙ rw (same-self t))
+      most = ltb-true (slotOf s (written q n p) t) (n + 1)
+          (sym (in-kept s (written q n p) t (n + 1) (omega arith)) ∙ ap (isIn sameTree t) here ∙ in-step t t (kept s q n)
+          ∙ rw (same-self t))
 
   pub slot-put : (q₂ : List ℕ) → q₂ ≡ slotPut n p q → n ≤ slotOf s q t → slotOf s q₂ t ≡ n
   unfolding slotPut

@@ -17,7 +17,8 @@ use Rattle.leaves.specs.declared.slot.Slot.{Slot}
 
 -- the slot of a leaf
 module _ (s : List ℕ) (at left : ℕ) (x : Node) (e : x ≡ nodeAt s at) where
-  pub slot-plain : (c o : ℕ) → c ≡ x .code → o ≡ x .operand → x .parts ≡ 0 → record { place = c; operand = o; left = 0 } ≡ leafSlot s at left
+  pub slot-plain : (c o : ℕ) → c ≡ x .code → o ≡ x .operand → x .parts ≡ 0
+      → record { place = c; operand = o; left = 0 } ≡ leafSlot s at left
   unfolding leafSlot
   slot-plain c o ec eo p = rw (← e, eq-eqb _ _ p, ec, eo)
 
@@ -52,7 +53,8 @@ module _ (s : List ℕ) (at left : ℕ) (x : Node) (p : Slot) where
       unfolding sameSlot
       slot-cut f q = rw (eq-eqb _ _ z, eq-eqb _ _ (sym ec ∙ d), eq-eqb _ _ (sym eo ∙ f), ne-eqb _ _ q)
 
-  pub slot-told : (b : Bool) → (p .left ≡ 0 → ⊥) → b ≡ sameTree (parseTree s left at .tree) (parseTree s (p .left) (p .place) .tree) → b ≡ sameSlot s at left x p
+  pub slot-told : (b : Bool) → (p .left ≡ 0 → ⊥) → b ≡ sameTree (parseTree s left at .tree) (parseTree s (p .left) (p .place) .tree)
+      → b ≡ sameSlot s at left x p
   unfolding sameSlot
   slot-told b z e = rw (ne-eqb _ _ z) e
 
@@ -91,9 +93,11 @@ module _ (s : List ℕ) (at left : ℕ) (z : left ≡ 0 → ⊥) (p : Slot) wher
 
   same-slot : sameSlot s at left x p ≡ sameTree (parseTree s left at .tree) (slotTree s p)
   unfolding sameSlot slotTree
-  same-slot = go (eqb (p .left) 0) (eqb (x .code) (p .place)) (eqb (x .operand) (p .operand)) (eqb (x .parts) 0) (eqb left 1) refl refl refl refl refl
+  same-slot = go (eqb (p .left) 0) (eqb (x .code) (p .place)) (eqb (x .operand) (p .operand)) (eqb (x .parts) 0) (eqb left 1) refl refl
+      refl refl refl
     where
-      go : (i a b c d : Bool) → eqb (p .left) 0 ≡ i → eqb (x .code) (p .place) ≡ a → eqb (x .operand) (p .operand) ≡ b → eqb (x .parts) 0 ≡ c → eqb left 1 ≡ d → sameSlot s at left x p ≡ sameTree (parseTree s left at .tree) (slotTree s p)
+      go : (i a b c d : Bool) → eqb (p .left) 0 ≡ i → eqb (x .code) (p .place) ≡ a → eqb (x .operand) (p .operand) ≡ b
+          → eqb (x .parts) 0 ≡ c → eqb left 1 ≡ d → sameSlot s at left x p ≡ sameTree (parseTree s left at .tree) (slotTree s p)
       go false a b c d ei ea eb ec ed = rw ei
       go true false b c d ei ea eb ec ed = rw (ei, ea, parse-step s left at z, same-nodes, ea)
       go true true false c d ei ea eb ec ed = rw (ei, ea, eb, parse-step s left at z, same-nodes, ea, eb)
@@ -105,7 +109,20 @@ module _ (s : List ℕ) (at left : ℕ) (z : left ≡ 0 → ⊥) (p : Slot) wher
           let t₀ : 0 < x .parts = omega arith in
           let o : left ≡ 1 = eqb-true left 1 ed in
           let y : left - 1 ≡ 0 = omega arith in
-          rw (ei, ea, eb, ec, ed, parse-step s left at z, same-nodes, ea, eb, lt-ltb _ _ t₀, parse-zero s (left - 1) (x .next) y, same-none) (right (ltb 1 (x .parts)) y)
+          rw (
+            ei,
+            ea,
+            eb,
+            ec,
+            ed,
+            parse-step s left at z,
+            same-nodes,
+            ea,
+            eb,
+            lt-ltb _ _ t₀,
+            parse-zero s (left - 1) (x .next) y,
+            same-none,
+          ) (right (ltb 1 (x .parts)) y)
         where
           right : (b : Bool) → left - 1 ≡ 0 → true ≡ sameTree (part (λ q. parseTree s (left - 1) q) b (x .next) .tree) none
           right true y = rw (parse-zero s (left - 1) (x .next) y, same-none)
@@ -115,7 +132,20 @@ module _ (s : List ℕ) (at left : ℕ) (z : left ≡ 0 → ⊥) (p : Slot) wher
           let t₀ : 0 < x .parts = omega arith in
           let o : left ≡ 1 → ⊥ = eqb-false left 1 ed in
           let y : left - 1 ≡ 0 → ⊥ = λ q. omega arith in
-          rw (ei, ea, eb, ec, ed, parse-step s left at z, same-nodes, ea, eb, lt-ltb _ _ t₀, parse-step s (left - 1) (x .next) y, same-node-none)
+          rw (
+            ei,
+            ea,
+            eb,
+            ec,
+            ed,
+            parse-step s left at z,
+            same-nodes,
+            ea,
+            eb,
+            lt-ltb _ _ t₀,
+            parse-step s (left - 1) (x .next) y,
+            same-node-none,
+          )
 
 -- the same of a leaf without parts
 module _ (s : List ℕ) (c o : ℕ) (none-of : partCount c ≡ 0) (p : Slot) where
@@ -128,11 +158,14 @@ module _ (s : List ℕ) (c o : ℕ) (none-of : partCount c ≡ 0) (p : Slot) whe
       join true false = refl
       join false b = refl
 
-      go : (i a : Bool) → eqb (p .left) 0 ≡ i → eqb c (nodeAt s (p .place) .code) ≡ a → samePlain s c o p ≡ sameTree (node c o none none) (slotTree s p)
+      go : (i a : Bool) → eqb (p .left) 0 ≡ i → eqb c (nodeAt s (p .place) .code) ≡ a
+          → samePlain s c o p ≡ sameTree (node c o none none) (slotTree s p)
       go true a ei ea = rw (ei, same-nodes) (join (eqb c (p .place)) (eqb o (p .operand)))
       go false true ei ea =
-          let n : nodeAt s (p .place) .parts ≡ 0 = parts-of s (p .place) ∙ ap partCount (sym (eqb-true c (nodeAt s (p .place) .code) ea)) ∙ none-of in
-          rw (ei, parse-step s (p .left) (p .place) (eqb-false (p .left) 0 ei), same-nodes, n, ea) (join true (eqb o (nodeAt s (p .place) .operand)))
+          let n : nodeAt s (p .place) .parts ≡ 0 = parts-of s (p .place) ∙ ap partCount (sym (eqb-true c (nodeAt s (p .place) .code) ea))
+          ∙ none-of in
+          rw (ei, parse-step s (p .left) (p .place) (eqb-false (p .left) 0 ei), same-nodes, n, ea)
+          (join true (eqb o (nodeAt s (p .place) .operand)))
       go false false ei ea = rw (ei, parse-step s (p .left) (p .place) (eqb-false (p .left) 0 ei), same-nodes, ea)
 
 -- a slot holds a node, never nothing
@@ -140,7 +173,8 @@ slot-node : (s : List ℕ) (p : Slot) → sameTree none (slotTree s p) ≡ false
 unfolding slotTree
 slot-node s p = go (eqb (p .left) 0) refl
   where
-    go : (b : Bool) → eqb (p .left) 0 ≡ b → sameTree none (cond b (node (p .place) (p .operand) none none) (parseTree s (p .left) (p .place) .tree)) ≡ false
+    go : (b : Bool) → eqb (p .left) 0 ≡ b → sameTree none
+        (cond b (node (p .place) (p .operand) none none) (parseTree s (p .left) (p .place) .tree)) ≡ false
     go true e = same-none-node (p .place) (p .operand) none none
     go false e = rw (parse-step s (p .left) (p .place) (eqb-false (p .left) 0 e), same-none-node)
 
@@ -150,7 +184,8 @@ unfolding slotTree leafSlot
 leaf-slot s at left z = go (eqb (nodeAt s at .parts) 0) refl
   where
     at-slot : Bool → Slot
-    at-slot b = cond b (record { place = nodeAt s at .code; operand = nodeAt s at .operand; left = 0 }) (record { place = at; operand = 0; left = left })
+    at-slot b = cond b (record { place = nodeAt s at .code; operand = nodeAt s at .operand; left = 0 })
+        (record { place = at; operand = 0; left = left })
 
     go : (b : Bool) → eqb (nodeAt s at .parts) 0 ≡ b → slotTree s (at-slot b) ≡ parseTree s left at .tree
     go true e =
@@ -159,11 +194,13 @@ leaf-slot s at left z = go (eqb (nodeAt s at .parts) 0) refl
     go false e = rw (ne-eqb _ _ z)
 
 -- from one slot to the next
-pub from-step : (s q : List ℕ) (d j : ℕ) (t : Tree) → slotFrom s q (suc d) j t ≡ cond (sameTree t (slotAt s q j)) j (slotFrom s q d (suc j) t)
+pub from-step : (s q : List ℕ) (d j : ℕ) (t : Tree)
+    → slotFrom s q (suc d) j t ≡ cond (sameTree t (slotAt s q j)) j (slotFrom s q d (suc j) t)
 unfolding slotFrom
 from-step s q d j t = refl
 
-pub from-next : (s q : List ℕ) (j : ℕ) (t : Tree) → j < slots → slotFrom s q (slots - j) j t ≡ cond (sameTree t (slotAt s q j)) j (slotFrom s q (slots - (j + 1)) (j + 1) t)
+pub from-next : (s q : List ℕ) (j : ℕ) (t : Tree) → j < slots
+    → slotFrom s q (slots - j) j t ≡ cond (sameTree t (slotAt s q j)) j (slotFrom s q (slots - (j + 1)) (j + 1) t)
 from-next s q j t h =
     let e : slots - j ≡ suc (slots - (j + 1)) = omega arith in
     let f : suc j ≡ j + 1 = omega arith in
@@ -219,7 +256,8 @@ module _ (s q : List ℕ) (at left : ℕ) where
   tree = parseTree s left at .tree
 
   pub of-zero : left ≡ 0 → slots ≡ slotOf s q tree
-  of-zero z = sym (of-is s q tree ∙ ap (λ (u : ParsedTree). slotFrom s q slots 0 (u .tree)) (parse-zero s left at z) ∙ from-none s q slots 0)
+  of-zero z = sym (of-is s q tree ∙ ap (λ (u : ParsedTree). slotFrom s q slots 0 (u .tree)) (parse-zero s left at z)
+      ∙ from-none s q slots 0)
 
   pub of-begin : slotOf s q tree ≡ slotFrom s q (slots - 0) 0 tree
   of-begin = of-is s q tree
@@ -234,7 +272,8 @@ module _ (s q : List ℕ) (at left : ℕ) where
   unfolding slotWithin
   of-all r e = let h = of-is s q tree in let k = from-most s q tree slots 0 in omega arith
 
-  module _ (x : Node) (p : Slot) (j n : ℕ) (b : Bool) (l : 0 < left) (ex : x ≡ nodeAt s at) (g : j < n) (m : n ≤ 12) (ep : p ≡ numbers q j) (eb : b ≡ sameSlot s at left x p) (e : slotOf s q tree ≡ slotFrom s q (slots - j) j tree) where
+  module _ (x : Node) (p : Slot) (j n : ℕ) (b : Bool) (l : 0 < left) (ex : x ≡ nodeAt s at) (g : j < n) (m : n ≤ 12)
+      (ep : p ≡ numbers q j) (eb : b ≡ sameSlot s at left x p) (e : slotOf s q tree ≡ slotFrom s q (slots - j) j tree) where
     z : left ≡ 0 → ⊥
     z e = omega arith
 
@@ -260,10 +299,12 @@ module _ (s q : List ℕ) (c o : ℕ) where
   pub plain-begin : slotOf s q (node c o none none) ≡ slotFrom s q (slots - 0) 0 (node c o none none)
   plain-begin = of-is s q leaf
 
-  pub plain-end : (j : ℕ) → j ≤ slots → slots ≤ j → slotOf s q (node c o none none) ≡ slotFrom s q (slots - j) j (node c o none none) → slots ≡ slotOf s q (node c o none none)
+  pub plain-end : (j : ℕ) → j ≤ slots → slots ≤ j → slotOf s q (node c o none none) ≡ slotFrom s q (slots - j) j (node c o none none)
+      → slots ≡ slotOf s q (node c o none none)
   plain-end j h g e = sym (e ∙ from-end s q j leaf g h)
 
-  module _ (p : Slot) (j : ℕ) (b : Bool) (z : partCount c ≡ 0) (h : j < slots) (ep : p ≡ numbers q j) (eb : b ≡ samePlain s c o p) (e : slotOf s q (node c o none none) ≡ slotFrom s q (slots - j) j (node c o none none)) where
+  module _ (p : Slot) (j : ℕ) (b : Bool) (z : partCount c ≡ 0) (h : j < slots) (ep : p ≡ numbers q j) (eb : b ≡ samePlain s c o p)
+      (e : slotOf s q (node c o none none) ≡ slotFrom s q (slots - j) j (node c o none none)) where
     plain-here : b ≡ sameTree leaf (slotAt s q j)
     unfolding slotAt
     plain-here = eb ∙ ap (samePlain s c o) ep ∙ same-plain s c o z (numbers q j)

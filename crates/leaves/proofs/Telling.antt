@@ -41,14 +41,19 @@ module _ (s : List ℕ) where
   rest-after m k p q ms ks Differ e = ap (λ (r : Same). andThen r (rest ms ks)) (sym (same-differ s p m q k Differ e refl))
   rest-after m k p q ms ks (Ended a b) e = ap (λ (r : Same). andThen r (rest ms ks)) (sym (same-ended s p m q k (Ended a b) e a b refl))
   rest-after m k p q ms ks (One a b) e =
-      ap (λ (r : Same). andThen r (rest ms ks)) (sym (same-one s p m q k (One a b) e a b (sameOf (parseTree s (m - 1) a) (parseTree s (k - 1) b)) refl refl))
+      ap (λ (r : Same). andThen r (rest ms ks))
+      (sym (same-one s p m q k (One a b) e a b (sameOf (parseTree s (m - 1) a) (parseTree s (k - 1) b)) refl refl))
   rest-after m k p q ms ks (Two a b) e = go (sameOf (parseTree s (m - 1) a) (parseTree s (k - 1) b)) refl
     where
       go : (r : Same) → r ≡ sameOf (parseTree s (m - 1) a) (parseTree s (k - 1) b)
-          → andThen (sameOf (parseTree s m p) (parseTree s k q)) (rest ms ks) ≡ andThen (sameOf (parseTree s (m - 1) a) (parseTree s (k - 1) b)) (rest ((m - 1) ∷ ms) ((k - 1) ∷ ks))
-      go No d = ap (λ (r : Same). andThen r (rest ms ks)) (sym (same-two-no s p m q k (Two a b) e a b No refl d refl)) ∙ ap (λ (r : Same). andThen r (rest ((m - 1) ∷ ms) ((k - 1) ∷ ks))) d
+          → andThen (sameOf (parseTree s m p) (parseTree s k q)) (rest ms ks) ≡ andThen
+          (sameOf (parseTree s (m - 1) a) (parseTree s (k - 1) b)) (rest ((m - 1) ∷ ms) ((k - 1) ∷ ks))
+      go No d = ap (λ (r : Same). andThen r (rest ms ks)) (sym (same-two-no s p m q k (Two a b) e a b No refl d refl))
+          ∙ ap (λ (r : Same). andThen r (rest ((m - 1) ∷ ms) ((k - 1) ∷ ks))) d
       go (Yes a₂ b₂) d =
-          ap (λ (r : Same). andThen r (rest ms ks)) (sym (same-two s p m q k (Two a b) e a b a₂ b₂ (Yes a₂ b₂) (sameOf (parseTree s (m - 1) a₂) (parseTree s (k - 1) b₂)) refl d refl refl))
+          ap (λ (r : Same). andThen r (rest ms ks)) (sym
+          (same-two s p m q k (Two a b) e a b a₂ b₂ (Yes a₂ b₂) (sameOf (parseTree s (m - 1) a₂) (parseTree s (k - 1) b₂)) refl d refl
+          refl))
           ∙ ap (λ (r : Same). andThen r (rest ((m - 1) ∷ ms) ((k - 1) ∷ ks))) d
 
 -- so many parts are still to be compared, none of them without so much nesting left
@@ -77,7 +82,15 @@ module _ (s : List ℕ) (a m b k : ℕ) where
       go false = refl
 
   pub due-begin : (l : ℕ) → l ≤ m → l ≤ k → Open s a m b k a b 1 l
-  due-begin l h g = record { ms = m ∷ []; ks = k ∷ []; many = refl; many₂ = refl; deep = (h, tt); deep₂ = (g, tt); is = alone (parseTree s m a) (parseTree s k b) }
+  due-begin l h g = record {
+    ms = m ∷ [];
+    ks = k ∷ [];
+    many = refl;
+    many₂ = refl;
+    deep = (h, tt);
+    deep₂ = (g, tt);
+    is = alone (parseTree s m a) (parseTree s k b);
+  }
 
   module _ (p q due left : ℕ) (o : Open s a m b k p q due left) where
     pub due-end : due ≤ 0 → true ≡ sameTree (parseTree s m a .tree) (parseTree s k b .tree)
@@ -92,16 +105,19 @@ module _ (s : List ℕ) (a m b k : ℕ) where
       abbrev t : Pair
       t = pairOf (nodeAt s p) (nodeAt s q)
 
-      stepped : {Z : Type 0} → ((m k : ℕ) (ms ks : List ℕ) → suc (length ms) ≡ due → suc (length ks) ≡ due → left ≤ m → left ≤ k → All (λ n. left ≤ n) ms → All (λ n. left ≤ n) ks → whole ≡ after s t m k ms ks → Z) → Z
+      stepped : {Z : Type 0} → ((m k : ℕ) (ms ks : List ℕ) → suc (length ms) ≡ due → suc (length ks) ≡ due → left ≤ m → left ≤ k
+          → All (λ n. left ≤ n) ms → All (λ n. left ≤ n) ks → whole ≡ after s t m k ms ks → Z) → Z
       stepped {Z} f = go (o .ms) (o .ks) (o .many) (o .many₂) (o .deep) (o .deep₂) (o .is)
         where
-          go : (ms ks : List ℕ) → length ms ≡ due → length ks ≡ due → All (λ n. left ≤ n) ms → All (λ n. left ≤ n) ks → whole ≡ rest s ms ks p q → Z
+          go : (ms ks : List ℕ) → length ms ≡ due → length ks ≡ due → All (λ n. left ≤ n) ms → All (λ n. left ≤ n) ks
+              → whole ≡ rest s ms ks p q → Z
           go [] ks e d h g i = absurd (omega arith)
           go (m ∷ ms) [] e d h g i = absurd (omega arith)
           go (m ∷ ms) (k ∷ ks) e d h g i =
               let zm : m ≡ 0 → ⊥ = λ c. z (omega (arith, h .0)) in
               let zk : k ≡ 0 → ⊥ = λ c. z (omega (arith, g .0)) in
-              f m k ms ks e d (h .0) (g .0) (h .1) (g .1) (i ∙ rest-after s m k p q ms ks t (pair-deep s p m q k (nodeAt s p) (nodeAt s q) t zm zk refl refl refl))
+              f m k ms ks e d (h .0) (g .0) (h .1) (g .1) (i
+              ∙ rest-after s m k p q ms ks t (pair-deep s p m q k (nodeAt s p) (nodeAt s q) t zm zk refl refl refl))
 
       pub due-differ : n .differ ≡ true → false ≡ sameTree (parseTree s m a .tree) (parseTree s k b .tree)
       unfolding stepOf after
@@ -115,14 +131,32 @@ module _ (s : List ℕ) (a m b k : ℕ) where
 
       pub due-next : n .differ ≡ false → Open s a m b k (n .first) (n .second) (n .due) (left - 1)
       unfolding stepOf after
-      due-next d = stepped (λ m′ k′ ms ks e f l g h i j. subst (λ (n : Step). Open s a m b k (n .first) (n .second) (n .due) (left - 1)) (sym en) (go t en m′ k′ ms ks e f l g h i j))
+      due-next d = stepped (λ m′ k′ ms ks e f l g h i j. subst (λ (n : Step). Open s a m b k (n .first) (n .second) (n .due) (left - 1))
+          (sym en) (go t en m′ k′ ms ks e f l g h i j))
         where
-          go : (t : Pair) → n ≡ stepOf t due → (m′ k′ : ℕ) (ms ks : List ℕ) → suc (length ms) ≡ due → suc (length ks) ≡ due → left ≤ m′ → left ≤ k′ → All (λ n. left ≤ n) ms → All (λ n. left ≤ n) ks → whole ≡ after s t m′ k′ ms ks
+          go : (t : Pair) → n ≡ stepOf t due → (m′ k′ : ℕ) (ms ks : List ℕ) → suc (length ms) ≡ due → suc (length ks) ≡ due → left ≤ m′
+              → left ≤ k′ → All (λ n. left ≤ n) ms → All (λ n. left ≤ n) ks → whole ≡ after s t m′ k′ ms ks
               → Open s a m b k (stepOf t due .first) (stepOf t due .second) (stepOf t due .due) (left - 1)
           go Differ e m′ k′ ms ks f g l r h i j = absurd (true≢false (sym (ap (λ (n : Step). n .differ) e) ∙ d))
-          go (Ended p q) e m′ k′ ms ks f g l r h i j = record { ms = ms; ks = ks; many = omega arith; many₂ = omega arith; deep = less (left - 1) left ms (omega arith) h; deep₂ = less (left - 1) left ks (omega arith) i; is = j }
+          go (Ended p q) e m′ k′ ms ks f g l r h i j = record {
+            ms = ms;
+            ks = ks;
+            many = omega arith;
+            many₂ = omega arith;
+            deep = less (left - 1) left ms (omega arith) h;
+            deep₂ = less (left - 1) left ks (omega arith) i;
+            is = j;
+          }
           go (One p q) e m′ k′ ms ks f g l r h i j =
-              record { ms = (m′ - 1) ∷ ms; ks = (k′ - 1) ∷ ks; many = f; many₂ = g; deep = (omega arith, less (left - 1) left ms (omega arith) h); deep₂ = (omega arith, less (left - 1) left ks (omega arith) i); is = j }
+              record {
+                ms = (m′ - 1) ∷ ms;
+                ks = (k′ - 1) ∷ ks;
+                many = f;
+                many₂ = g;
+                deep = (omega arith, less (left - 1) left ms (omega arith) h);
+                deep₂ = (omega arith, less (left - 1) left ks (omega arith) i);
+                is = j;
+              }
           go (Two p q) e m′ k′ ms ks f g l r h i j =
               record {
                 ms = (m′ - 1) ∷ (m′ - 1) ∷ ms;
@@ -162,7 +196,8 @@ module _ (t : Pair) (due : ℕ) where
   unfolding stepOf
   step-two p q e = rw e
 
-pub step-there : (s : List ℕ) (p q due : ℕ) (x y : Node) (t : Pair) (n : Step) → x ≡ nodeAt s p → y ≡ nodeAt s q → t ≡ pairOf x y → n ≡ stepOf t due → n ≡ stepOf (pairOf (nodeAt s p) (nodeAt s q)) due
+pub step-there : (s : List ℕ) (p q due : ℕ) (x y : Node) (t : Pair) (n : Step) → x ≡ nodeAt s p → y ≡ nodeAt s q → t ≡ pairOf x y
+    → n ≡ stepOf t due → n ≡ stepOf (pairOf (nodeAt s p) (nodeAt s q)) due
 step-there s p q due x y t n ex ey et en = en ∙ ap (λ (t : Pair). stepOf t due) (et ∙ ap₂ pairOf ex ey)
 
 pub ruleset stepping = (step-differ, step-ended, step-one, step-two)
@@ -174,7 +209,8 @@ module _ (s : List ℕ) (a m b k : ℕ) (g : Same) (e : g ≡ sameOf (parseTree 
   told false i j d = (λ p q f. let z : _≡_ {A = ℕ} 0 1 = cc in absurd (omega arith), λ f. refl)
 
   pub parts-same : (p q : ℕ) → g ≡ Yes p q → true ≡ sameTree (parseTree s m a .tree) (parseTree s k b .tree)
-  parts-same p q d = told (sameTree (parseTree s m a .tree) (parseTree s k b .tree)) (parseTree s m a .end) (parseTree s k b .end) e .0 p q d
+  parts-same p q d = told (sameTree (parseTree s m a .tree) (parseTree s k b .tree)) (parseTree s m a .end) (parseTree s k b .end) e .0 p
+      q d
 
   pub parts-differ : g ≡ No → false ≡ sameTree (parseTree s m a .tree) (parseTree s k b .tree)
   parts-differ d = told (sameTree (parseTree s m a .tree) (parseTree s k b .tree)) (parseTree s m a .end) (parseTree s k b .end) e .1 d

@@ -35,7 +35,8 @@ pub fn add_leaf(
     slots: &mut [usize; Slots::NUMBERS],
 ) -> usize
     requires { ⌜ length (now slots) ≡ 36 ⌝ }
-    ensures { λ r. ⌜ view (now (s .entry)) r (now (slots .exit)) ≡ putT (parseTree (now (s .entry)) left at .tree) (view (now (s .entry)) n (now (slots .entry))) ⌝ }
+    ensures { λ r. ⌜ view (now (s .entry)) r (now (slots .exit)) ≡ putT (parseTree (now (s .entry)) left at .tree)
+        (view (now (s .entry)) n (now (slots .entry))) ⌝ }
     ensures { λ _. ⌜ length (now (slots .exit)) ≡ 36 ⌝ }
 {
     if left == 0 {
@@ -60,7 +61,8 @@ pub fn gather_at(
     slots: &mut [usize; Slots::NUMBERS],
 ) -> usize
     requires { ⌜ length (now slots) ≡ 36 ⌝ }
-    ensures { λ r. ⌜ view (now (s .entry)) r (now (slots .exit)) ≡ gatherT set (parseTree (now (s .entry)) left at .tree) (view (now (s .entry)) n (now (slots .entry))) ⌝ }
+    ensures { λ r. ⌜ view (now (s .entry)) r (now (slots .exit)) ≡ gatherT set (parseTree (now (s .entry)) left at .tree)
+        (view (now (s .entry)) n (now (slots .entry))) ⌝ }
     ensures { λ _. ⌜ length (now (slots .exit)) ≡ 36 ⌝ }
 {
     if left == 0 {

@@ -35,7 +35,8 @@ module _ (s : List ℕ) (from n : ℕ) where
   part-in = let z : from + n - from ≡ n = omega arith in rw z
 
 pub rest-all : (s r : List ℕ) (from : ℕ) → r ≡ take (length s) (drop from s) → r ≡ drop from s
-rest-all s r from e = let h : length (drop from s) ≤ length s = rw (length-drop from s) (omega arith) in rw (take-all (length s) (drop from s) h) at e
+rest-all s r from e = let h : length (drop from s) ≤ length s = rw (length-drop from s) (omega arith) in
+    rw (take-all (length s) (drop from s) h) at e
 
 pub nth-none : {A : Type 0} (l : List A) (k : ℕ) (d : A) → k ≡ 0 → d ≡ nth l k d
 unfolding nth
@@ -117,7 +118,8 @@ every-cons f x l = refl
 pub each-start : {A : Type 0} (f : A → Bool) (l : List A) → every f l ≡ every f (drop 0 l)
 each-start f l = refl
 
-module _ {A : Type 0} (f : A → Bool) (i n : ℕ) (l : List A) (g : Bool) (d x : A) (u : Bool) (lt : i < n) (len : length l ≡ n) (e : g ≡ every f (drop i l)) (ex : x ≡ getD l i d) (eu : u ≡ f x) where
+module _ {A : Type 0} (f : A → Bool) (i n : ℕ) (l : List A) (g : Bool) (d x : A) (u : Bool) (lt : i < n) (len : length l ≡ n)
+    (e : g ≡ every f (drop i l)) (ex : x ≡ getD l i d) (eu : u ≡ f x) where
   turn : g ≡ u && every f (drop (suc i) l)
   turn = let h : i < length l = rw len lt in rw (e, drop-cons l i d h, every-cons, ← ex, ← eu)
 

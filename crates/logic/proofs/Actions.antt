@@ -51,12 +51,15 @@ flag-word x (n-word y) h = tt
 flag-word x (n-unsync y) h = h
 flag-word x (n-cov y) h = h
 
-cover-sees : (P : Program) (b : Bool) (x p : ℕ) (s : State) (u : ℕ) (i : Interval) → T (only (notWord x) i) → Sees P s u i → Sees P (coverIf b x p s) u i
+cover-sees : (P : Program) (b : Bool) (x p : ℕ) (s : State) (u : ℕ) (i : Interval) → T (only (notWord x) i) → Sees P s u i
+    → Sees P (coverIf b x p s) u i
 cover-sees P b x p s u i c h l pr =
-    sat-agree (P .range) (notFlag x) (at P s) (at P (coverIf b x p s)) (cover-same P b x p s) i (all-weaken (notWord x) (notFlag x) (flag-word x) (names i) c) l (h l pr)
+    sat-agree (P .range) (notFlag x) (at P s) (at P (coverIf b x p s)) (cover-same P b x p s) i
+    (all-weaken (notWord x) (notFlag x) (flag-word x) (names i) c) l (h l pr)
 
 -- a word is written
-module _ {P : Program} {t : ℕ} (rel swaps : Bool) (x : ℕ) (f : Value) (ns : List Note) (g : Good P (write rel swaps x f) ns) {s : State} (wf : Wf P s) (p : ℕ)
+module _ {P : Program} {t : ℕ} (rel swaps : Bool) (x : ℕ) (f : Value) (ns : List Note) (g : Good P (write rel swaps x f) ns) {s : State}
+    (wf : Wf P s) (p : ℕ)
     (arr : Arrived (write rel swaps x f) t p s) where
   unfoldable pub write-act : Insertion P (coverIf swaps x p s)
   write-act = record {
@@ -90,35 +93,42 @@ module _ {P : Program} {t : ℕ} (rel swaps : Bool) (x : ℕ) (f : Value) (ns : 
 -- 9: a write of f to x keeps a test that held, and would hold with f for x
 module _ {P : Program} {s : State} (d : Insertion P s) (f : Value) (e : Test) (no-flag : T (only (notFlag (d .x)) e)) (ρ : View → Env)
     (ag : (v : View) → Agree (notFlag (d .x)) (ρ v) (at P s v)) (value-f : (v : View) → value (P .range) (ρ v) f ≡ d .n) where
-  nine-new : (v : View) → v (d .x) ≡ suc (d .p) → (n : Name) → T (notFlag (d .x) n) → Same (under (P .range) (wordBy (d .x) f) (ρ (old d v))) (at P (result d) v) n
+  nine-new : (v : View) → v (d .x) ≡ suc (d .p) → (n : Name) → T (notFlag (d .x) n)
+      → Same (under (P .range) (wordBy (d .x) f) (ρ (old d v))) (at P (result d) v) n
   nine-new v q (n-reg r) h = ag (old d v) .same (n-reg r) h
   nine-new v q (n-word y) h =
       by-word (d .x) (λ y. under (P .range) (wordBy (d .x) f) (ρ (old d v)) .word y ≡ at P (result d) v .word y)
-      (ap (value (P .range) (ρ (old d v))) (upd-same word (d .x) f) ∙ value-f (old d v) ∙ sym (ap (λ (w : Write). w .value) (row-new d v q)))
-      (λ y n. ap (value (P .range) (ρ (old d v))) (upd-other word (d .x) f y n) ∙ ag (old d v) .same (n-word y) tt ∙ result-same d v (n-word y) (λ z. absurd (n z))) y
+      (ap (value (P .range) (ρ (old d v))) (upd-same word (d .x) f) ∙ value-f (old d v)
+      ∙ sym (ap (λ (w : Write). w .value) (row-new d v q)))
+      (λ y n. ap (value (P .range) (ρ (old d v))) (upd-other word (d .x) f y n) ∙ ag (old d v) .same (n-word y) tt
+      ∙ result-same d v (n-word y) (λ z. absurd (n z))) y
   nine-new v q (n-unsync y) h = ag (old d v) .same (n-unsync y) h ∙ result-same d v (n-unsync y) (λ z. absurd (not-eqb y (d .x) h z))
   nine-new v q (n-cov y) h = ag (old d v) .same (n-cov y) h ∙ result-same d v (n-cov y) (λ z. absurd (not-eqb y (d .x) h z))
 
   nine-old : (v : View) → v (d .x) ≢ suc (d .p) → (n : Name) → T (notFlag (d .x) n) → Same (ρ (old d v)) (at P (result d) v) n
   nine-old v k n h = same-trans (ρ (old d v)) (at P s (old d v)) (at P (result d) v) n (ag (old d v) .same n h) (result-same d v n (λ z. k))
 
-  nine-at : (v : View) → T (test (P .range) (ρ (old d v)) e) → T (test (P .range) (ρ (old d v)) (replace (wordBy (d .x) f) e)) → T (test (P .range) (at P (result d) v) e)
+  nine-at : (v : View) → T (test (P .range) (ρ (old d v)) e) → T (test (P .range) (ρ (old d v)) (replace (wordBy (d .x) f) e))
+      → T (test (P .range) (at P (result d) v) e)
   nine-at v h g = by-word (suc (d .p)) (λ i. v (d .x) ≡ i → T (test (P .range) (at P (result d) v) e))
       (λ q. subst T (replaced P (wordBy (d .x) f) e (ρ (old d v)) ∙ test-agree (P .range) (record { same = nine-new v q }) e no-flag) g)
       (λ i n q. subst T (test-agree (P .range) (record { same = nine-old v (λ z. n (sym q ∙ z)) }) e no-flag) h)
       (v (d .x)) refl
 
-  nine-all : (l : List View) → All (λ v. T (test (P .range) (ρ v) e)) (map (old d) l) → All (λ v. T (test (P .range) (ρ v) (replace (wordBy (d .x) f) e))) (map (old d) l)
+  nine-all : (l : List View) → All (λ v. T (test (P .range) (ρ v) e)) (map (old d) l)
+      → All (λ v. T (test (P .range) (ρ v) (replace (wordBy (d .x) f) e))) (map (old d) l)
       → All (λ v. T (test (P .range) (at P (result d) v) e)) l
   nine-all [] h g = tt
   nine-all (v ∷ l) h g = (nine-at v (h .0) (g .0), nine-all l (h .1) (g .1))
 
   nine : (u : ℕ) → ((l : List View) → Prospect (s .size) (s .view u) l → Sat (P .range) ρ (box e) l)
-      → ((l : List View) → Prospect (s .size) (s .view u) l → Sat (P .range) ρ (box (replace (wordBy (d .x) f) e)) l) → Sees P (result d) u (box e)
+      → ((l : List View) → Prospect (s .size) (s .view u) l → Sat (P .range) ρ (box (replace (wordBy (d .x) f) e)) l)
+      → Sees P (result d) u (box e)
   nine u h g l pr = nine-all l (h (map (old d) l) (result-prospect d u l pr)) (g (map (old d) l) (result-prospect d u l pr))
 
 -- 12, 13: once the last write is covered too, a thread that saw C sees covered writes alone
-pub covered : (P : Program) (s : State) (p x : ℕ) → suc p ≡ s .size x → (u : ℕ) → Sees P s u (C x) → Sees P (coverIf true x p s) u (box (cov x))
+pub covered : (P : Program) (s : State) (p x : ℕ) → suc p ≡ s .size x → (u : ℕ) → Sees P s u (C x)
+    → Sees P (coverIf true x p s) u (box (cov x))
 covered P s p x last u h (v ∷ l) pr = All-map _ _ each (v ∷ l) (from-all (s .size) (s .view u) (v ∷ l) pr)
   where
     first : (w : View) → w x ≢ p → Sat (P .range) (at P s) (C x) (w ∷ upd w x p ∷ []) → T (s .row x (w x) .covered)
@@ -131,7 +141,11 @@ covered P s p x last u h (v ∷ l) pr = All-map _ _ each (v ∷ l) (from-all (s 
         (first w (λ q. n (e ∙ q)) (h (w ∷ upd w x p ∷ []) (
           g .0,
           g .1,
-          (by-word x _ (simp upds (omega arith)) (λ y q. simp upds (g .0 y)), by-word x _ (simp upds (omega (arith, g .0 x))) (λ y q. simp upds (omega arith)), tt),
+          (
+            by-word x _ (simp upds (omega arith)) (λ y q. simp upds (g .0 y)),
+            by-word x _ (simp upds (omega (arith, g .0 x))) (λ y q. simp upds (omega arith)),
+            tt,
+          ),
         )))))
         (w x) refl
 
@@ -150,29 +164,37 @@ module _ (P : Program) (t : ℕ) where
         → Triple P t A ns (sees t (chop (box (replace (notes ns) e)) i)) (eitherA (holds e) q)
     rule-4 e c i q prem s wf p arr h = go (test (P .range) (at P s (s .view t)) (replace (notes ns) e)) refl
       where
-        go : (b : Bool) → test (P .range) (at P s (s .view t)) (replace (notes ns) e) ≡ b → True P (finish P A ns t p s) (eitherA (holds e) q)
+        go : (b : Bool) → test (P .range) (at P s (s .view t)) (replace (notes ns) e) ≡ b
+            → True P (finish P A ns t p s) (eitherA (holds e) q)
         go true z = inl (is-true (sym (given-test P s t ns e c) ∙ z))
         go false z = inr (prem s wf p arr (head-off wf t (replace (notes ns) e) i z h))
 
-  pub rule-1 : (A : Touch) (ns : List Note) → Good P A ns → (q : Assertion) → T (startless q) → T (only (untouched A ns) q) → Triple P t A ns q q
-  rule-1 none ns g q z c s wf p arr h = regs-kept P s (λ r. workedAt P s t (noted ns r)) (upd (s .point) t (suc (s .point t))) (kept ns) (given-kept P s t ns) q z c h
-  rule-1 (load a x) ns g q z c s wf p arr h = regs-kept P s (λ r. workedAt P s t (noted ns r)) (upd (s .point) t (suc (s .point t))) (kept ns) (given-kept P s t ns) q z c h
+  pub rule-1 : (A : Touch) (ns : List Note) → Good P A ns → (q : Assertion) → T (startless q) → T (only (untouched A ns) q)
+      → Triple P t A ns q q
+  rule-1 none ns g q z c s wf p arr h = regs-kept P s (λ r. workedAt P s t (noted ns r)) (upd (s .point) t (suc (s .point t))) (kept ns)
+      (given-kept P s t ns) q z c h
+  rule-1 (load a x) ns g q z c s wf p arr h = regs-kept P s (λ r. workedAt P s t (noted ns r)) (upd (s .point) t (suc (s .point t)))
+      (kept ns) (given-kept P s t ns) q z c h
   rule-1 (write rel swaps x f) ns g q z c s wf p arr h =
-      regs-kept P (memory P (write rel swaps x f) t p s) (λ r. workedAt P s t (noted ns r)) (upd (s .point) t (suc (s .point t))) (kept ns) (given-kept P s t ns) q z
+      regs-kept P (memory P (write rel swaps x f) t p s) (λ r. workedAt P s t (noted ns r)) (upd (s .point) t (suc (s .point t)))
+      (kept ns) (given-kept P s t ns) q z
       (both-left (regsIn (kept ns)) (notWord x) (names q) c)
       (write-keeps rel swaps x f ns g wf p arr q z (both-right (regsIn (kept ns)) (notWord x) (names q) c) h)
 
-  pub rule-2 : (ns : List Note) (q : Assertion) → T (startless q) → T (all (λ (n : Note). only isReg (n .by)) ns) → Triple P t none ns (replace (notes ns) q) q
+  pub rule-2 : (ns : List Note) (q : Assertion) → T (startless q) → T (all (λ (n : Note). only isReg (n .by)) ns)
+      → Triple P t none ns (replace (notes ns) q) q
   rule-2 ns q z c s wf p arr h = given-true P s t ns (upd (s .point) t (suc (s .point t))) (all-All _ ns c) q z h
 
   module _ (x : ℕ) (ns : List Note) (i : Interval) (q : Assertion) where
     pub rule-5-load : Triple P t (load true x) ns (sees t i) q → Triple P t (load true x) ns (sees t (chop (box (unsync x)) i)) q
     rule-5-load prem s wf p arr h = prem s wf p arr (head-off wf t (unsync x) i (synced wf arr) h)
 
-    pub rule-5-swap : (f : Value) → Triple P t (write true true x f) ns (sees t i) q → Triple P t (write true true x f) ns (sees t (chop (box (unsync x)) i)) q
+    pub rule-5-swap : (f : Value) → Triple P t (write true true x f) ns (sees t i) q
+        → Triple P t (write true true x f) ns (sees t (chop (box (unsync x)) i)) q
     rule-5-swap f prem s wf p arr h = prem s wf p arr (head-off wf t (unsync x) i (synced wf (arr .0)) h)
 
-    pub rule-10 : (rel swaps : Bool) (f : Value) → Triple P t (write rel swaps x f) ns (sees t i) q → Triple P t (write rel swaps x f) ns (sees t (chop (box (cov x)) i)) q
+    pub rule-10 : (rel swaps : Bool) (f : Value) → Triple P t (write rel swaps x f) ns (sees t i) q
+        → Triple P t (write rel swaps x f) ns (sees t (chop (box (cov x)) i)) q
     rule-10 rel swaps f prem s wf p arr h = prem s wf p arr (head-off wf t (cov x) i (bare wf (arr .0) (arr .1)) h)
 
   module _ (x : ℕ) (f : Value) where
@@ -183,15 +205,19 @@ module _ (P : Program) (t : ℕ) where
 
       pub rule-6 : T (only isReg f) → Triple P t (write rel false x f) [] (sees t (one x)) (sees t (newest x f))
       unfolding write-act
-      rule-6 c s wf p arr h = last-own (write-act rel false x f [] g wf p arr) (store-last s wf p arr h) f (write-value rel false x f [] g wf p arr c)
+      rule-6 c s wf p arr h = last-own (write-act rel false x f [] g wf p arr) (store-last s wf p arr h) f
+          (write-value rel false x f [] g wf p arr c)
 
-      pub rule-7 : T (only isReg f) → (u : ℕ) (i : Interval) → Triple P t (write rel false x f) [] (bothA (sees t (one x)) (sees u i)) (sees u (chop i (newest x f)))
+      pub rule-7 : T (only isReg f) → (u : ℕ) (i : Interval)
+          → Triple P t (write rel false x f) [] (bothA (sees t (one x)) (sees u i)) (sees u (chop i (newest x f)))
       unfolding write-act
       rule-7 c u i s wf p arr h =
-          last-other (write-act rel false x f [] g wf p arr) (store-last s wf p arr (h .0)) f (write-value rel false x f [] g wf p arr c) u i (h .1)
+          last-other (write-act rel false x f [] g wf p arr) (store-last s wf p arr (h .0)) f (write-value rel false x f [] g wf p arr c)
+          u i (h .1)
 
     pub rule-8 : Good P (write true false x f) [] → (u : ℕ) (i j : Interval) → T (only (notWord x) j)
-        → Triple P t (write true false x f) [] (bothA (sees t (one x)) (bothA (sees u i) (sees t j))) (sees u (chop i (chop (box (unsync x)) j)))
+        → Triple P t (write true false x f) [] (bothA (sees t (one x)) (bothA (sees u i) (sees t j)))
+        (sees u (chop i (chop (box (unsync x)) j)))
     unfolding write-act
     rule-8 g u i j no-x s wf p arr h =
         last-sync (write-act true false x f [] g wf p arr) (store-last true g s wf p arr (h .0)) refl j no-x (h .1 .1) u i (h .1 .0)
@@ -203,31 +229,39 @@ module _ (P : Program) (t : ℕ) where
     module _ (g : Good P (write true true x f) []) where
       pub rule-11 : T (only isReg f) → Triple P t (write true true x f) [] (sees t (C x)) (sees t (newest x f))
       unfolding write-act
-      rule-11 c s wf p arr h = last-own (write-act true true x f [] g wf p arr) (swap-last s wf p arr h) f (write-value true true x f [] g wf p arr c)
+      rule-11 c s wf p arr h = last-own (write-act true true x f [] g wf p arr) (swap-last s wf p arr h) f
+          (write-value true true x f [] g wf p arr c)
 
-      pub rule-12 : T (only isReg f) → (u : ℕ) → Triple P t (write true true x f) [] (bothA (sees t (C x)) (sees u (C x))) (sees u (chop (box (cov x)) (newest x f)))
+      pub rule-12 : T (only isReg f) → (u : ℕ) → Triple P t (write true true x f) [] (bothA (sees t (C x)) (sees u (C x)))
+          (sees u (chop (box (cov x)) (newest x f)))
       unfolding write-act
       rule-12 c u s wf p arr h =
-          last-other (write-act true true x f [] g wf p arr) (swap-last s wf p arr (h .0)) f (write-value true true x f [] g wf p arr c) u (box (cov x))
+          last-other (write-act true true x f [] g wf p arr) (swap-last s wf p arr (h .0)) f (write-value true true x f [] g wf p arr c) u
+          (box (cov x))
           (covered P s p x (swap-last s wf p arr (h .0)) u (h .1))
 
       pub rule-13 : (u : ℕ) (j : Interval) → T (only (notWord x) j)
-          → Triple P t (write true true x f) [] (bothA (sees t (C x)) (bothA (sees u (C x)) (sees t j))) (sees u (chop (box (cov x)) (chop (box (unsync x)) j)))
+          → Triple P t (write true true x f) [] (bothA (sees t (C x)) (bothA (sees u (C x)) (sees t j)))
+          (sees u (chop (box (cov x)) (chop (box (unsync x)) j)))
       unfolding write-act
       rule-13 u j no-x s wf p arr h =
-          last-sync (write-act true true x f [] g wf p arr) (swap-last s wf p arr (h .0)) refl j no-x (cover-sees P true x p s t j no-x (h .1 .1)) u (box (cov x))
+          last-sync (write-act true true x f [] g wf p arr) (swap-last s wf p arr (h .0)) refl j no-x
+          (cover-sees P true x p s t j no-x (h .1 .1)) u (box (cov x))
           (covered P s p x (swap-last s wf p arr (h .0)) u (h .1 .0))
 
     pub rule-9 : (rel swaps : Bool) → Good P (write rel swaps x f) [] → T (only isReg f) → (u : ℕ) (e : Test) → T (only (notFlag x) e)
         → Triple P t (write rel swaps x f) [] (bothA (sees u (box e)) (sees u (box (replace (wordBy x f) e)))) (sees u (box e))
     unfolding write-act
     rule-9 rel swaps g c u e no-flag s wf p arr h =
-        nine (write-act rel swaps x f [] g wf p arr) f e no-flag (at P s) (cover-same P swaps x p s) (λ v. value-agree (P .range) (regs-same refl) f c) u (h .0) (h .1)
+        nine (write-act rel swaps x f [] g wf p arr) f e no-flag (at P s) (cover-same P swaps x p s)
+        (λ v. value-agree (P .range) (regs-same refl) f c) u (h .0) (h .1)
 
   -- notes besides: what their registers are not in
-  pub with-notes : (A : Touch) (ns : List Note) (a q : Assertion) → T (startless q) → T (only (regsIn (kept ns)) q) → Triple P t A [] a q → Triple P t A ns a q
+  pub with-notes : (A : Touch) (ns : List Note) (a q : Assertion) → T (startless q) → T (only (regsIn (kept ns)) q) → Triple P t A [] a q
+      → Triple P t A ns a q
   with-notes A ns a q z c prem s wf p arr h =
-      regs-kept P (finish P A [] t p s) (λ r. workedAt P s t (noted ns r)) (upd (s .point) t (suc (s .point t))) (kept ns) (given-kept P s t ns) q z c (prem s wf p arr h)
+      regs-kept P (finish P A [] t p s) (λ r. workedAt P s t (noted ns r)) (upd (s .point) t (suc (s .point t))) (kept ns)
+      (given-kept P s t ns) q z c (prem s wf p arr h)
 
   -- 50: notes of registers alone, by replacement
   pub rule-50 : (A : Touch) (ns : List Note) (a q : Assertion) → T (startless q) → T (all (λ (n : Note). only isReg (n .by)) ns)
@@ -241,32 +275,38 @@ module _ (P : Program) (t : ℕ) where
 
   -- 48, 49: a swap of n into x with the notes ns, after which F says what n was
   module _ (x : ℕ) (n F : Value) (ns : List Note) (g : Good P (write true true x n) ns)
-      (says : (s : State) (p : ℕ) (v : View) → value (P .range) (at P (finish P (write true true x n) ns t p s) v) F ≡ workedAt P s t n) where
-    -- what was stored, as a constant, is what F says
-    as-said : (s : State) (p : ℕ) (l : List View) → Sat (P .range) (at P (finish P (write true true x n) ns t p s)) (newest x (const (workedAt P s t n))) l
-        → Sat (P .range) (at P (finish P (write true true x n) ns t p s)) (newest x F) l
-    as-said s p l h = (
-      h .0,
-      All-map _ _ (λ v k. subst (λ (m : ℕ). T (eqb (at P (finish P (write true true x n) ns t p s) v .word x) m)) (sym (says s p v)) k) l (h .1),
-    )
+      (says : (s : State) (p : ℕ) (v : View) → value (P .range) (at P (finish P (write true true x n) ns t p s) v) F ≡ workedAt P s t n)
+    where
+      -- what was stored, as a constant, is what F says
+      as-said : (s : State) (p : ℕ) (l : List View) → Sat (P .range) (at P (finish P (write true true x n) ns t p s))
+          (newest x (const (workedAt P s t n))) l
+          → Sat (P .range) (at P (finish P (write true true x n) ns t p s)) (newest x F) l
+      as-said s p l h = (
+        h .0,
+        All-map _ _ (λ v k. subst (λ (m : ℕ). T (eqb (at P (finish P (write true true x n) ns t p s) v .word x) m)) (sym (says s p v)) k) l
+            (h .1),
+      )
 
-    -- and registers are not in that
-    stored : (s : State) (p u : ℕ) (i : Interval) → T (only (regsIn (λ r. false)) i) → Sees P (memory P (write true true x n) t p s) u i
-        → Sees P (finish P (write true true x n) ns t p s) u i
-    stored s p u i c h =
-        regs-kept P (memory P (write true true x n) t p s) (λ r. workedAt P s t (noted ns r)) (upd (s .point) t (suc (s .point t))) (λ r. false) (λ r k. absurd k)
-        (sees u i) tt c h
+      -- and registers are not in that
+      stored : (s : State) (p u : ℕ) (i : Interval) → T (only (regsIn (λ r. false)) i) → Sees P (memory P (write true true x n) t p s) u i
+          → Sees P (finish P (write true true x n) ns t p s) u i
+      stored s p u i c h =
+          regs-kept P (memory P (write true true x n) t p s) (λ r. workedAt P s t (noted ns r)) (upd (s .point) t (suc (s .point t)))
+          (λ r. false) (λ r k. absurd k)
+          (sees u i) tt c h
 
-    pub rule-48 : Triple P t (write true true x n) ns (sees t (C x)) (sees t (newest x F))
-    unfolding write-act
-    rule-48 s wf p arr h l pr =
-        as-said s p l (stored s p t (newest x (const (workedAt P s t n))) tt
-        (last-own (write-act true true x n ns g wf p arr) (swap-last x n s wf p arr h) (const (workedAt P s t n)) (λ v. refl)) l pr)
+      pub rule-48 : Triple P t (write true true x n) ns (sees t (C x)) (sees t (newest x F))
+      unfolding write-act
+      rule-48 s wf p arr h l pr =
+          as-said s p l (stored s p t (newest x (const (workedAt P s t n))) tt
+          (last-own (write-act true true x n ns g wf p arr) (swap-last x n s wf p arr h) (const (workedAt P s t n)) (λ v. refl)) l pr)
 
-    pub rule-49 : (u : ℕ) → Triple P t (write true true x n) ns (bothA (sees t (C x)) (sees u (C x))) (sees u (chop (box (cov x)) (newest x F)))
-    unfolding write-act
-    rule-49 u s wf p arr h l pr =
-        let k = stored s p u (chop (box (cov x)) (newest x (const (workedAt P s t n)))) tt
-        (last-other (write-act true true x n ns g wf p arr) (swap-last x n s wf p arr (h .0)) (const (workedAt P s t n)) (λ v. refl) u (box (cov x))
-        (covered P s p x (swap-last x n s wf p arr (h .0)) u (h .1))) l pr in
-        (k .0, k .1, as-said s p (drop (k .0) l) (k .2))
+      pub rule-49 : (u : ℕ) → Triple P t (write true true x n) ns (bothA (sees t (C x)) (sees u (C x)))
+          (sees u (chop (box (cov x)) (newest x F)))
+      unfolding write-act
+      rule-49 u s wf p arr h l pr =
+          let k = stored s p u (chop (box (cov x)) (newest x (const (workedAt P s t n)))) tt
+          (last-other (write-act true true x n ns g wf p arr) (swap-last x n s wf p arr (h .0)) (const (workedAt P s t n)) (λ v. refl) u
+          (box (cov x))
+          (covered P s p x (swap-last x n s wf p arr (h .0)) u (h .1))) l pr in
+          (k .0, k .1, as-said s p (drop (k .0) l) (k .2))

@@ -70,7 +70,8 @@ module _ {ok : Name → Bool} {ρ σ : Env} (R : ℕ) (ag : Agree ok ρ σ) wher
   test-agree e h = test-same R ρ σ e (every (names e) h)
 
 -- all of the mapped list: all of the list
-pub All-back : (F P Q : View → Type 0) (g : View → View) → ((v : View) → F v → P (g v) → Q v) → (l : List View) → All F l → All P (map g l) → All Q l
+pub All-back : (F P Q : View → Type 0) (g : View → View) → ((v : View) → F v → P (g v) → Q v) → (l : List View) → All F l
+    → All P (map g l) → All Q l
 All-back F P Q g f [] k h = tt
 All-back F P Q g f (v ∷ l) k h = (f v (k .0) (h .0), All-back F P Q g f l (k .1) (h .1))
 
@@ -112,16 +113,21 @@ All-every P f [] = tt
 All-every P f (v ∷ l) = (f v, All-every P f l)
 
 -- the same list
-pub sat-agree : (R : ℕ) (ok : Name → Bool) (ρ σ : View → Env) → ((v : View) → Agree ok (ρ v) (σ v)) → (i : Interval) → T (only ok i) → (l : List View) → Sat R ρ i l → Sat R σ i l
+pub sat-agree : (R : ℕ) (ok : Name → Bool) (ρ σ : View → Env) → ((v : View) → Agree ok (ρ v) (σ v)) → (i : Interval) → T (only ok i)
+    → (l : List View) → Sat R ρ i l → Sat R σ i l
 sat-agree R ok ρ σ ag i c l h =
     transport R ok ρ σ (λ v. v) i c l (All-every _ (λ v. record { agree = ag v; still = λ y q. refl }) l)
     (subst (λ (z : List View). Sat R ρ i z) (sym (map-same l)) h)
 
 -- from what each thread sees, what the assertions say
-module _ (P : Program) (ok : Name → Bool) (w w′ : World) (f : (u : ℕ) (i : Interval) → T (only ok i) → Seen P w u i → Seen P w′ u i) (ag : Agree ok (w .held) (w′ .held)) where
+module _ (P : Program) (ok : Name → Bool) (w w′ : World) (f : (u : ℕ) (i : Interval) → T (only ok i) → Seen P w u i → Seen P w′ u i)
+    (ag : Agree ok (w .held) (w′ .held)) where
   pub keep-truth : (a : Assertion) → T (startless a) → T (only ok a) → Truth P w a → Truth P w′ a
   keep-truth (sees u i) z c h = f u i c h
-  keep-truth (bothA a b) z c h = (keep-truth a (search and-left) (search all-left) (h .0), keep-truth b (search and-right) (search all-right) (h .1))
+  keep-truth (bothA a b) z c h = (
+    keep-truth a (search and-left) (search all-left) (h .0),
+    keep-truth b (search and-right) (search all-right) (h .1),
+  )
   keep-truth (eitherA a b) z c (inl h) = inl (keep-truth a (search and-left) (search all-left) h)
   keep-truth (eitherA a b) z c (inr h) = inr (keep-truth b (search and-right) (search all-right) h)
   keep-truth start z c h = absurd z

@@ -101,16 +101,19 @@ module _ {P : Program} {s : State} (wf : Wf P s) (t p : ℕ) where
       record { wf = k .wf; arrived = (k .arrived, not-true (s .row x p .covered) (search and-right)); points = refl; still = k .still }
 
   -- the triple, of every permitted pick
-  pub triple-moved : (A : Touch) (ns : List Note) (a b : Assertion) → Triple P t A ns a b → T (startless a) → T (mayPick A t p s) → True P s a → True P (finish P A ns t p (pick A t p s)) b
+  pub triple-moved : (A : Touch) (ns : List Note) (a b : Assertion) → Triple P t A ns a b → T (startless a) → T (mayPick A t p s)
+      → True P s a → True P (finish P A ns t p (pick A t p s)) b
   triple-moved A ns a b tr z ok h = let k = pick-moved A ok in tr (pick A t p s) (k .wf) p (k .arrived) (k .still a z h)
 
 -- 4, 5, 10: where the test fails at the thread's own view, the cut has nothing to its left
 module _ {P : Program} {s : State} (wf : Wf P s) where
-  cut-first : (ρ : View → Env) (e : Test) (i : Interval) (v : View) (l : List View) → test (P .range) (ρ v) e ≡ false → Sat (P .range) ρ (chop (box e) i) (v ∷ l) → Sat (P .range) ρ i (v ∷ l)
+  cut-first : (ρ : View → Env) (e : Test) (i : Interval) (v : View) (l : List View) → test (P .range) (ρ v) e ≡ false
+      → Sat (P .range) ρ (chop (box e) i) (v ∷ l) → Sat (P .range) ρ i (v ∷ l)
   cut-first ρ e i v l no-e (zero, h, g) = g
   cut-first ρ e i v l no-e (suc k, h, g) = absurd (subst T no-e (h .0))
 
-  pub head-off : (t : ℕ) (e : Test) (i : Interval) → test (P .range) (at P s (s .view t)) e ≡ false → Sees P s t (chop (box e) i) → Sees P s t i
+  pub head-off : (t : ℕ) (e : Test) (i : Interval) → test (P .range) (at P s (s .view t)) e ≡ false → Sees P s t (chop (box e) i)
+      → Sees P s t i
   head-off t e i no-e h (v ∷ l) pr =
       sat-drop (P .range) (at P s) i 1 (s .view t ∷ v ∷ l)
       (cut-first (at P s) e i (s .view t) (v ∷ l) no-e (h (s .view t ∷ v ∷ l) (wf .view-in t, (λ y. omega arith), pr)))

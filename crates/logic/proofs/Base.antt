@@ -86,7 +86,8 @@ module _ {A : Type 0} where
 
   pub all-left : (f : A → Bool) (l m : List A) → T (all f (l ++ m)) → T (all f l)
   all-left f [] m h = tt
-  all-left f (x ∷ l) m h = and-both (f x) (all f l) (and-left (f x) (all f (l ++ m)) h) (all-left f l m (and-right (f x) (all f (l ++ m)) h))
+  all-left f (x ∷ l) m h = and-both (f x) (all f l) (and-left (f x) (all f (l ++ m)) h)
+      (all-left f l m (and-right (f x) (all f (l ++ m)) h))
 
   pub all-right : (f : A → Bool) (l m : List A) → T (all f (l ++ m)) → T (all f m)
   all-right f [] m h = h
@@ -100,9 +101,11 @@ pub later-none : (W : ℕ) (a b : View) → later W a b ≡ false → (y : ℕ) 
 later-none zero a b e y g h = omega arith
 later-none (suc W) a b e y g h = go (ltb (b (suc W)) (a (suc W))) refl e (λ d z k. later-none W a b d z k)
   where
-    go : (c : Bool) → ltb (b (suc W)) (a (suc W)) ≡ c → (c || later W a b) ≡ false → (later W a b ≡ false → (z : ℕ) → 1 ≤ z → z ≤ W → a z ≤ b z) → a y ≤ b y
+    go : (c : Bool) → ltb (b (suc W)) (a (suc W)) ≡ c → (c || later W a b) ≡ false
+        → (later W a b ≡ false → (z : ℕ) → 1 ≤ z → z ≤ W → a z ≤ b z) → a y ≤ b y
     go true q d f = absurd (true≢false d)
-    go false q d f = by-word (suc W) (λ z. 1 ≤ z → z ≤ suc W → a z ≤ b z) (λ z k. ltb-false (b (suc W)) (a (suc W)) q) (λ z n i k. f d z i (omega arith)) y g h
+    go false q d f = by-word (suc W) (λ z. 1 ≤ z → z ≤ suc W → a z ≤ b z) (λ z k. ltb-false (b (suc W)) (a (suc W)) q)
+        (λ z n i k. f d z i (omega arith)) y g h
 
 pub is-within : (n k : ℕ) → Within n k ⊎ (Within n k → ⊥)
 is-within n k = go (leb 1 k) (leb k n) refl refl

@@ -1,4 +1,5 @@
--- Computed runs, worked out by hand from the scope page: message passing; a swap, a write in the middle of a row, a covered write that is read; exchange and fetch-add;
+-- Computed runs, worked out by hand from the scope page: message passing; a swap, a write in the middle of a row, a covered write that is
+-- read; exchange and fetch-add;
 -- marks and views handed on; a register that starts anywhere.
 use mathlib.Core.Path.{_≡_, refl}
 use mathlib.Core.Bool.{Bool, true, false, not, cond}
@@ -134,7 +135,8 @@ mixed = record {
   init = λ x. 0;
   cleared = λ r. true;
   points = upd (λ t. 2) 3 3;
-  code = upd (upd (upd (λ t k. nothing) 1 (at-points (act (write (store false) 1 (const 1)) [] ∷ []))) 2 (at-points (act (write swap 1 (const 2)) [] ∷ [])))
+  code = upd (upd (upd (λ t k. nothing) 1 (at-points (act (write (store false) 1 (const 1)) [] ∷ []))) 2
+      (at-points (act (write swap 1 (const 2)) [] ∷ [])))
       3 (at-points (act (load false 3 1) [] ∷ act (write (store false) 1 (const 3)) [] ∷ []));
 }
 
@@ -159,7 +161,8 @@ covered-read : picture (run mixed (begun mixed) middle) ≡ record {
 unfolding draw yes-no picture write-of by nothing at-points mixed middle upd up down
 covered-read = refl
 
--- MARKS AND MIDDLES, two words. Thread 1 stores 1 to word 1, releasing 1 to word 2, then releasing 5 to word 2; thread 2 swaps 2 into word 2;
+-- MARKS AND MIDDLES, two words. Thread 1 stores 1 to word 1, releasing 1 to word 2, then releasing 5 to word 2; thread 2 swaps 2 into
+-- word 2;
 -- thread 3 loads word 2, relaxed and then acquiring, assigns, and stores 3 to word 2, releasing
 unfoldable pub handed : Program
 handed = record {
@@ -169,9 +172,16 @@ handed = record {
   init = λ x. 0;
   cleared = λ r. true;
   points = upd (upd (λ t. 2) 1 4) 3 5;
-  code = upd (upd (upd (λ t k. nothing) 1 (at-points (act (write (store false) 1 (const 1)) [] ∷ act (write (store true) 2 (const 1)) [] ∷ act (write (store true) 2 (const 5)) [] ∷ [])))
+  code =
+      upd
+      (upd
+      (upd (λ t k. nothing) 1
+      (at-points (act (write (store false) 1 (const 1)) [] ∷ act (write (store true) 2 (const 1)) []
+      ∷ act (write (store true) 2 (const 5)) [] ∷ [])))
       2 (at-points (act (write swap 2 (const 2)) [] ∷ [])))
-      3 (at-points (act (load false 1 2) [] ∷ act (load true 2 2) [] ∷ act none (record { to = 3; by = sum (reg 2) (sum (reg 2) (const 7)) } ∷ []) ∷ act (write (store true) 2 (const 3)) [] ∷ []));
+      3
+      (at-points (act (load false 1 2) [] ∷ act (load true 2 2) []
+      ∷ act none (record { to = 3; by = sum (reg 2) (sum (reg 2) (const 7)) } ∷ []) ∷ act (write (store true) 2 (const 3)) [] ∷ []));
 }
 
 hand-over : List Step
@@ -192,7 +202,8 @@ hand-over =
 handed-over : picture (run handed (begun handed) hand-over) ≡ record {
   rows =
       (write-of 0 0 0 (0 ∷ 0 ∷ []) ∷ write-of 1 0 0 (1 ∷ 0 ∷ []) ∷ [])
-      ∷ (write-of 0 0 0 (0 ∷ 0 ∷ []) ∷ write-of 1 1 1 (1 ∷ 1 ∷ []) ∷ write-of 2 1 0 (1 ∷ 2 ∷ []) ∷ write-of 3 1 0 (1 ∷ 3 ∷ []) ∷ write-of 5 1 0 (1 ∷ 4 ∷ []) ∷ [])
+      ∷ (write-of 0 0 0 (0 ∷ 0 ∷ []) ∷ write-of 1 1 1 (1 ∷ 1 ∷ []) ∷ write-of 2 1 0 (1 ∷ 2 ∷ []) ∷ write-of 3 1 0 (1 ∷ 3 ∷ [])
+      ∷ write-of 5 1 0 (1 ∷ 4 ∷ []) ∷ [])
       ∷ [];
   views = (1 ∷ 4 ∷ []) ∷ (1 ∷ 2 ∷ []) ∷ (1 ∷ 3 ∷ []) ∷ [];
   registers = 1 ∷ 1 ∷ 1 ∷ [];
@@ -215,7 +226,9 @@ dropped = record {
   init = λ x. 0;
   cleared = λ r. true;
   points = upd (λ t. 2) 1 3;
-  code = upd (upd (λ t k. nothing) 1 (at-points (act (write (store false) 2 (const 1)) [] ∷ act (write (store false) 1 (const 1)) [] ∷ []))) 2 (at-points (act (write swap 1 (const 4)) [] ∷ []));
+  code =
+      upd (upd (λ t k. nothing) 1 (at-points (act (write (store false) 2 (const 1)) [] ∷ act (write (store false) 1 (const 1)) [] ∷ [])))
+      2 (at-points (act (write swap 1 (const 4)) [] ∷ []));
 }
 
 not-joined : map (run dropped (begun dropped) (by 1 0 ∷ by 1 0 ∷ by 2 1 ∷ []) .view 2) (upTo 2) ≡ 2 ∷ 0 ∷ []
@@ -234,7 +247,9 @@ tickets R = record {
   cleared = λ r. true;
   points = upd (λ t. 4) 1 3;
   code = upd (upd (λ t k. nothing) 1 (at-points (act (write (fetchAdd 1) 1 (const 3)) [] ∷ act (write (store true) 2 (const 4)) [] ∷ [])))
-      2 (at-points (act (write (exchange 3) 1 (const 7)) [] ∷ act (write (exchange 3) 2 (const 1)) [] ∷ act (write (fetchAdd 3) 1 (const 6)) [] ∷ []));
+      2
+      (at-points (act (write (exchange 3) 1 (const 7)) [] ∷ act (write (exchange 3) 2 (const 1)) []
+      ∷ act (write (fetchAdd 3) 1 (const 6)) [] ∷ []));
 }
 
 ticket-steps : List Step

@@ -163,7 +163,8 @@ module _ (releasing : Bool) (x n t p : ℕ) (v : View) (s : State) where
     new-stored = λ y. simp upds;
     moved = simp upds;
     own-view = λ y q. simp upds;
-    views = λ u q y. subst (Keeps x p y (s .view u y)) (sym (upd-other₁ (λ z. upView x p (s .view z)) t (moveTo x p v) u y q)) (keeps-up x p y (s .view u));
+    views = λ u q y. subst (Keeps x p y (s .view u y)) (sym (upd-other₁ (λ z. upView x p (s .view z)) t (moveTo x p v) u y q))
+        (keeps-up x p y (s .view u));
     registers = λ r. refl;
   }
 
@@ -217,14 +218,16 @@ module _ (P : Program) (t p : ℕ) (s : State) where
     where
       only-moved : (a b : Bool) → (a ≡ false) ⊎ (b ≡ false)
           → (upd (s .view) t (cond (a && b) (join (s .view t) (s .row x p .stored)) (upd (s .view t) x p)) t x ≡ p)
-          × ((y : ℕ) → y ≢ x → upd (s .view) t (cond (a && b) (join (s .view t) (s .row x p .stored)) (upd (s .view t) x p)) t y ≡ s .view t y)
+          × ((y : ℕ) → y ≢ x → upd (s .view) t (cond (a && b) (join (s .view t) (s .row x p .stored)) (upd (s .view t) x p)) t y ≡ s .view
+          t y)
       only-moved false b h = (simp upds, λ y q. simp upds)
       only-moved true false h = (simp upds, λ y q. simp upds)
       only-moved true true (inl e) = absurd (true≢false e)
       only-moved true true (inr e) = absurd (true≢false e)
 
   -- a store; a swap, which is a releasing store that also covers the picked write
-  pub stores : (releasing : Bool) (x : ℕ) (f : Value) → Inserts releasing x (worked P s f) t p (s .view t) s (done P (write (store releasing) x f) [] t p s)
+  pub stores : (releasing : Bool) (x : ℕ) (f : Value)
+      → Inserts releasing x (worked P s f) t p (s .view t) s (done P (write (store releasing) x f) [] t p s)
   stores releasing x f = inserts releasing x (worked P s f) t p (s .view t) s
 
   pub swaps-in : (x n : ℕ) → Swaps x n t p s (swapped x n t p s)
@@ -268,7 +271,8 @@ module _ (P : Program) (t p : ℕ) (s : State) where
   pub exchanges : (r x : ℕ) (f : Value) → Returns r x (worked P s f) t p s (done P (write (exchange r) x f) [] t p s)
   exchanges r x f = returns-in r x (worked P s f)
 
-  pub adds : (r x : ℕ) (f : Value) → Returns r x ((s .row x p .value + worked P s f) % P .range) t p s (done P (write (fetchAdd r) x f) [] t p s)
+  pub adds : (r x : ℕ) (f : Value) → Returns r x ((s .row x p .value + worked P s f) % P .range) t p s
+      (done P (write (fetchAdd r) x f) [] t p s)
   adds r x f = returns-in r x ((s .row x p .value + worked P s f) % P .range)
 
   -- an action leads to the next point, and a branch to its target or to the next point; all else is the action's, or stays
@@ -281,10 +285,31 @@ module _ (P : Program) (t p : ℕ) (s : State) where
   still (write (fetchAdd r) x f) ns u = refl
 
   pub goes-on : (A : Access) (ns : List Note) → Goes (suc (s .point t)) t (done P A ns t p s) (exec P (act A ns) t p s)
-  goes-on A ns = record { point = simp upds; points = λ u q. simp upds; sizes = λ y. refl; rows = λ y i. refl; views = λ u y. refl; registers = λ r. refl }
+  goes-on A ns = record {
+    point = simp upds;
+    points = λ u q. simp upds;
+    sizes = λ y. refl;
+    rows = λ y i. refl;
+    views = λ u y. refl;
+    registers = λ r. refl;
+  }
 
   pub taken : (e : Test) (a : ℕ) → test (P .range) (onRegs (s .reg)) e ≡ true → Goes a t s (exec P (branch e a) t p s)
-  taken e a h = record { point = simp (upds, h); points = λ u q. simp upds; sizes = λ y. refl; rows = λ y i. refl; views = λ u y. refl; registers = λ r. refl }
+  taken e a h = record {
+    point = simp (upds, h);
+    points = λ u q. simp upds;
+    sizes = λ y. refl;
+    rows = λ y i. refl;
+    views = λ u y. refl;
+    registers = λ r. refl;
+  }
 
   pub not-taken : (e : Test) (a : ℕ) → test (P .range) (onRegs (s .reg)) e ≡ false → Goes (suc (s .point t)) t s (exec P (branch e a) t p s)
-  not-taken e a h = record { point = simp (upds, h); points = λ u q. simp upds; sizes = λ y. refl; rows = λ y i. refl; views = λ u y. refl; registers = λ r. refl }
+  not-taken e a h = record {
+    point = simp (upds, h);
+    points = λ u q. simp upds;
+    sizes = λ y. refl;
+    rows = λ y i. refl;
+    views = λ u y. refl;
+    registers = λ r. refl;
+  }

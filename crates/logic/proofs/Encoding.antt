@@ -41,20 +41,26 @@ abbrev read : ℕ → (s : Sort) → Reader (Formula s)
 read zero s l = none
 read (suc n) s [] = none
 read (suc n) Sort.value (c ∷ l) =
-    case c (byte Code.const) (one-part const operand l) (case c (byte Code.reg) (one-part reg operand l) (case c (byte Code.word) (one-part word operand l)
+    case c (byte Code.const) (one-part const operand l)
+    (case c (byte Code.reg) (one-part reg operand l) (case c (byte Code.word) (one-part word operand l)
     (case c (byte Code.sum) (two-parts sum (read n Sort.value) (read n Sort.value) l) none)))
 read (suc n) Sort.test (c ∷ l) =
     case c (byte Code.false) (got Formula.false l) (case c (byte Code.equal) (two-parts equal (read n Sort.value) (read n Sort.value) l)
-    (case c (byte Code.less) (two-parts less (read n Sort.value) (read n Sort.value) l) (case c (byte Code.not) (one-part Formula.not (read n Sort.test) l)
-    (case c (byte Code.and) (two-parts and (read n Sort.test) (read n Sort.test) l) (case c (byte Code.or) (two-parts or (read n Sort.test) (read n Sort.test) l)
+    (case c (byte Code.less) (two-parts less (read n Sort.value) (read n Sort.value) l)
+    (case c (byte Code.not) (one-part Formula.not (read n Sort.test) l)
+    (case c (byte Code.and) (two-parts and (read n Sort.test) (read n Sort.test) l)
+    (case c (byte Code.or) (two-parts or (read n Sort.test) (read n Sort.test) l)
     (case c (byte Code.unsync) (one-part unsync operand l) (case c (byte Code.cov) (one-part cov operand l) none)))))))
 read (suc n) Sort.interval (c ∷ l) =
     case c (byte Code.box) (one-part box (read n Sort.test) l) (case c (byte Code.one) (one-part one operand l)
-    (case c (byte Code.chop) (two-parts chop (read n Sort.interval) (read n Sort.interval) l) (case c (byte Code.both) (two-parts both (read n Sort.interval) (read n Sort.interval) l)
+    (case c (byte Code.chop) (two-parts chop (read n Sort.interval) (read n Sort.interval) l)
+    (case c (byte Code.both) (two-parts both (read n Sort.interval) (read n Sort.interval) l)
     (case c (byte Code.either) (two-parts either (read n Sort.interval) (read n Sort.interval) l) none))))
 read (suc n) Sort.assertion (c ∷ l) =
-    case c (byte Code.sees) (two-parts sees operand (read n Sort.interval) l) (case c (byte Code.bothA) (two-parts bothA (read n Sort.assertion) (read n Sort.assertion) l)
-    (case c (byte Code.eitherA) (two-parts eitherA (read n Sort.assertion) (read n Sort.assertion) l) (case c (byte Code.start) (got start l)
+    case c (byte Code.sees) (two-parts sees operand (read n Sort.interval) l)
+    (case c (byte Code.bothA) (two-parts bothA (read n Sort.assertion) (read n Sort.assertion) l)
+    (case c (byte Code.eitherA) (two-parts eitherA (read n Sort.assertion) (read n Sort.assertion) l)
+    (case c (byte Code.start) (got start l)
     (case c (byte Code.holds) (one-part holds (read n Sort.test) l) none))))
 
 one-back : {A B : Type 0} (f : A → B) (r : Reader A) (a : A) (l m : List ℕ) → r m ≡ got a l → one-part f r m ≡ got (f a) l
@@ -69,7 +75,8 @@ two-back {A} {B} f r q a b k l m e d =
 abbrev Back : (s : Sort) → Formula s → Type 0
 Back s f = (n : ℕ) → nesting f ≤ n → (l : List ℕ) → read n s (encode f l) ≡ got f l
 
-back-suc : (s : Sort) (f : Formula s) → 1 ≤ nesting f → ((n : ℕ) → nesting f ≤ suc n → (l : List ℕ) → read (suc n) s (encode f l) ≡ got f l) → Back s f
+back-suc : (s : Sort) (f : Formula s) → 1 ≤ nesting f
+    → ((n : ℕ) → nesting f ≤ suc n → (l : List ℕ) → read (suc n) s (encode f l) ≡ got f l) → Back s f
 back-suc s f h g zero k l = absurd (omega arith)
 back-suc s f h g (suc n) k l = g n k l
 
@@ -77,9 +84,11 @@ back-one : (s r : Sort) (c : Formula r → Formula s) (f : Formula r) → Back r
     → one-part c (read n r) (encode f l) ≡ got (c f) l
 back-one s r c f b n h l = one-back c (read n r) f l (encode f l) (b n (omega arith) l)
 
-back-two : (s r : Sort) (c : Formula r → Formula r → Formula s) (f g : Formula r) → Back r f → Back r g → (n : ℕ) → suc (max (nesting f) (nesting g)) ≤ suc n
+back-two : (s r : Sort) (c : Formula r → Formula r → Formula s) (f g : Formula r) → Back r f → Back r g → (n : ℕ)
+    → suc (max (nesting f) (nesting g)) ≤ suc n
     → (l : List ℕ) → two-parts c (read n r) (read n r) (encode f (encode g l)) ≡ got (c f g) l
-back-two s r c f g b d n h l = two-back c (read n r) (read n r) f g (encode f (encode g l)) (encode g l) l (b n (omega arith) (encode g l)) (d n (omega arith) l)
+back-two s r c f g b d n h l = two-back c (read n r) (read n r) f g (encode f (encode g l)) (encode g l) l
+    (b n (omega arith) (encode g l)) (d n (omega arith) l)
 
 read-back : {s : Sort} (f : Formula s) → Back s f
 read-back (const k) = back-suc Sort.value (const k) (omega arith) (λ n h l. refl)
@@ -96,12 +105,17 @@ read-back (unsync k) = back-suc Sort.test (unsync k) (omega arith) (λ n h l. re
 read-back (cov k) = back-suc Sort.test (cov k) (omega arith) (λ n h l. refl)
 read-back (box a) = back-suc Sort.interval (box a) (omega arith) (back-one Sort.interval Sort.test box a (read-back a))
 read-back (one k) = back-suc Sort.interval (one k) (omega arith) (λ n h l. refl)
-read-back (chop a b) = back-suc Sort.interval (chop a b) (omega arith) (back-two Sort.interval Sort.interval chop a b (read-back a) (read-back b))
-read-back (both a b) = back-suc Sort.interval (both a b) (omega arith) (back-two Sort.interval Sort.interval both a b (read-back a) (read-back b))
-read-back (either a b) = back-suc Sort.interval (either a b) (omega arith) (back-two Sort.interval Sort.interval either a b (read-back a) (read-back b))
+read-back (chop a b) = back-suc Sort.interval (chop a b) (omega arith)
+    (back-two Sort.interval Sort.interval chop a b (read-back a) (read-back b))
+read-back (both a b) = back-suc Sort.interval (both a b) (omega arith)
+    (back-two Sort.interval Sort.interval both a b (read-back a) (read-back b))
+read-back (either a b) = back-suc Sort.interval (either a b) (omega arith)
+    (back-two Sort.interval Sort.interval either a b (read-back a) (read-back b))
 read-back (sees t i) = back-suc Sort.assertion (sees t i) (omega arith) (back-one Sort.assertion Sort.interval (sees t) i (read-back i))
-read-back (bothA a b) = back-suc Sort.assertion (bothA a b) (omega arith) (back-two Sort.assertion Sort.assertion bothA a b (read-back a) (read-back b))
-read-back (eitherA a b) = back-suc Sort.assertion (eitherA a b) (omega arith) (back-two Sort.assertion Sort.assertion eitherA a b (read-back a) (read-back b))
+read-back (bothA a b) = back-suc Sort.assertion (bothA a b) (omega arith)
+    (back-two Sort.assertion Sort.assertion bothA a b (read-back a) (read-back b))
+read-back (eitherA a b) = back-suc Sort.assertion (eitherA a b) (omega arith)
+    (back-two Sort.assertion Sort.assertion eitherA a b (read-back a) (read-back b))
 read-back start = back-suc Sort.assertion start (omega arith) (λ n h l. refl)
 read-back (holds a) = back-suc Sort.assertion (holds a) (omega arith) (back-one Sort.assertion Sort.test holds a (read-back a))
 

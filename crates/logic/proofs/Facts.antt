@@ -80,7 +80,8 @@ by-two P a b c = by-word 1 P a (λ y p. by-word 2 (λ z. z ≢ 1 → P z) (λ k.
 
 -- it names writes that are there, if the rows of other words have their first
 names-two : (size : ℕ → ℕ) (m n : ℕ) → m < size 1 → n < size 2 → ((y : ℕ) → 0 < size y) → Names size (naming m n)
-names-two size m n p q h = by-two _ (omega (arith, naming-one m n)) (omega (arith, naming-two m n)) (λ y a b. omega (arith, elsewhere m n y a b, h y))
+names-two size m n p q h = by-two _ (omega (arith, naming-one m n)) (omega (arith, naming-two m n))
+    (λ y a b. omega (arith, elsewhere m n y a b, h y))
 
 -- it is not before a view that names the first write of every other word
 after-two : (v : View) (m n : ℕ) → v 1 ≤ m → v 2 ≤ n → ((y : ℕ) → y ≢ 1 → y ≢ 2 → v y ≡ 0) → (y : ℕ) → v y ≤ naming m n y
@@ -106,14 +107,18 @@ module _ (s : State) (t : ℕ) (h : Small s t) where
 
   twice : (m n i j : ℕ) → m < s .size 1 → n < s .size 2 → s .view t 1 ≤ m → s .view t 2 ≤ n → i < s .size 1 → j < s .size 2 → m ≤ i → n ≤ j
       → Prospect (s .size) (s .view t) (naming m n ∷ naming i j ∷ [])
-  twice m n i j a b c d e f p q =
-      (names-two (s .size) m n a b (h .filled), after-two (s .view t) m n c d (h .first), (names-two (s .size) i j e f (h .filled), after-naming, tt))
+  twice m n i j a b c d e f p q = (
+    names-two (s .size) m n a b (h .filled),
+    after-two (s .view t) m n c d (h .first),
+    (names-two (s .size) i j e f (h .filled), after-naming, tt),
+  )
     where
       after-naming : (y : ℕ) → naming m n y ≤ naming i j y
       after-naming = after-two (naming m n) i j (omega (arith, naming-one m n)) (omega (arith, naming-two m n)) (elsewhere m n)
 
 -- of a prospect: each view names writes that are there, none before the thread's
-each-view : (size : ℕ → ℕ) (a : View) (l : List View) → Prospect size a l → From size a l × All (λ w. Names size w × ((y : ℕ) → a y ≤ w y)) l
+each-view : (size : ℕ → ℕ) (a : View) (l : List View) → Prospect size a l
+    → From size a l × All (λ w. Names size w × ((y : ℕ) → a y ≤ w y)) l
 each-view size a (v ∷ l) h = (h, from-all size a (v ∷ l) h)
 
 -- a list of one view cut in two; of two views
@@ -166,7 +171,8 @@ twinned-small = record {
 two-writes : True twins twinned (sees 2 (one 1)) → ⊥
 unfolding by nothing at-points twins twinned upd naming up down
 two-writes h =
-    let r = h (naming 0 0 ∷ naming 1 0 ∷ []) (twice twinned 2 twinned-small 0 0 1 0 (omega arith) (omega arith) (omega arith) (omega arith) (omega arith) (omega arith) (omega arith) (omega arith)) in
+    let r = h (naming 0 0 ∷ naming 1 0 ∷ []) (twice twinned 2 twinned-small 0 0 1 0 (omega arith) (omega arith) (omega arith)
+    (omega arith) (omega arith) (omega arith) (omega arith) (omega arith)) in
     omega (arith, r .1 .0, r .1 .1 .0)
 
 -- their values are equal
@@ -189,8 +195,11 @@ one-by-one : True twins twinned (sees 2 (chop (one 1) (one 1)))
 unfolding by nothing at-points twins twinned upd up down
 one-by-one l h =
     let r = each-view (twinned .size) (twinned .view 2) l h in
-    let c = cut (twinned .size) (past 1) (past-stays 1) _ (twinned .view 2) l (r .0) (r .1) in
-    (c .0, (0, All-map _ _ (λ v k. past-no 1 v (k .1)) (take (c .0) l) (c .1)), (1, All-map _ _ (λ v k. past-yes 1 v (k .0 .0 1) (k .1)) (drop (c .0) l) (c .2)))
+    let c = cut (twinned .size) (past 1) (past-stays 1) _ (twinned .view 2) l (r .0) (r .1) in (
+      c .0,
+      (0, All-map _ _ (λ v k. past-no 1 v (k .1)) (take (c .0) l) (c .1)),
+      (1, All-map _ _ (λ v k. past-yes 1 v (k .0 .0 1) (k .1)) (drop (c .0) l) (c .2)),
+    )
 
 -- A MESSAGE SENT: thread 1 has stored 1 to word 1 and, releasing, 1 to word 2; thread 2 has seen neither
 sent : State
@@ -207,7 +216,8 @@ sent-once : (m n : ℕ) → m < 2 → n < 2 → Prospect (sent .size) (sent .vie
 unfolding by nothing at-points sender receiver message-passing sent upd up down
 sent-once m n a b = once sent 2 sent-small m n a b (omega arith) (omega arith)
 
-sent-twice : (m n i j : ℕ) → m < 2 → n < 2 → i < 2 → j < 2 → m ≤ i → n ≤ j → Prospect (sent .size) (sent .view 2) (naming m n ∷ naming i j ∷ [])
+sent-twice : (m n i j : ℕ) → m < 2 → n < 2 → i < 2 → j < 2 → m ≤ i → n ≤ j
+    → Prospect (sent .size) (sent .view 2) (naming m n ∷ naming i j ∷ [])
 unfolding by nothing at-points sender receiver message-passing sent upd up down
 sent-twice m n i j a b c d = twice sent 2 sent-small m n i j a b (omega arith) (omega arith) c d
 
@@ -223,7 +233,9 @@ not-only-new h = h (naming 0 0 ∷ []) (sent-once 0 0 (omega arith) (omega arith
 -- nor one of the two for the whole of each prospect: it moves on within one
 not-either : True message-passing sent (sees 2 (either (box (is 1 0)) (box (is 1 1)))) → ⊥
 unfolding by nothing at-points sender receiver message-passing sent upd naming is up down
-not-either h = neither (λ a. a .1 .0) (λ b. b .0) (h (naming 0 0 ∷ naming 1 0 ∷ []) (sent-twice 0 0 1 0 (omega arith) (omega arith) (omega arith) (omega arith) (omega arith) (omega arith)))
+not-either h = neither (λ a. a .1 .0) (λ b. b .0)
+    (h (naming 0 0 ∷ naming 1 0 ∷ []) (sent-twice 0 0 1 0 (omega arith) (omega arith) (omega arith) (omega arith) (omega arith)
+    (omega arith)))
 
 -- but the old one and then the new one, either part perhaps empty
 old-then-new : True message-passing sent (sees 2 (chop (box (is 1 0)) (box (is 1 1))))
@@ -241,24 +253,29 @@ unfolding by nothing at-points sender receiver message-passing sent upd naming i
 not-new-then-old h =
     neither (λ a. a) (λ b. b)
     (cut-two (message-passing .range) (at message-passing sent) (is 1 1) (is 1 0) (naming 0 0) (naming 1 0)
-    (h (naming 0 0 ∷ naming 1 0 ∷ []) (sent-twice 0 0 1 0 (omega arith) (omega arith) (omega arith) (omega arith) (omega arith) (omega arith))))
+    (h (naming 0 0 ∷ naming 1 0 ∷ []) (sent-twice 0 0 1 0 (omega arith) (omega arith) (omega arith) (omega arith) (omega arith)
+    (omega arith))))
 
 -- whoever reads the flag relaxed may still miss the message
 not-relaxed : True message-passing sent (sees 2 (chop (box (is 2 0)) (box (is 1 1)))) → ⊥
 unfolding by nothing at-points sender receiver message-passing sent upd naming is up down
 not-relaxed h =
     neither (λ a. a) (λ b. b)
-    (cut-one (message-passing .range) (at message-passing sent) (is 2 0) (is 1 1) (naming 0 1) (h (naming 0 1 ∷ []) (sent-once 0 1 (omega arith) (omega arith))))
+    (cut-one (message-passing .range) (at message-passing sent) (is 2 0) (is 1 1) (naming 0 1)
+    (h (naming 0 1 ∷ []) (sent-once 0 1 (omega arith) (omega arith))))
 
 -- the flag is not there, or it is not synchronised with, or the message is there: in this order
-sync-then : (l : List View) → From (sent .size) (sent .view 2) l → All (λ w. (Names (sent .size) w × ((y : ℕ) → sent .view 2 y ≤ w y)) × (past 2 w ≡ true)) l
+sync-then : (l : List View) → From (sent .size) (sent .view 2) l
+    → All (λ w. (Names (sent .size) w × ((y : ℕ) → sent .view 2 y ≤ w y)) × (past 2 w ≡ true)) l
     → Sat (message-passing .range) (at message-passing sent) (chop (box (unsync 2)) (box (is 1 1))) l
 unfolding by nothing at-points sender receiver message-passing sent upd naming is up down
 sync-then l f q =
     let d = cut (sent .size) (past 1) (past-stays 1) _ (sent .view 2) l f q in (
       d .0,
-      All-map _ _ (λ v k. reads message-passing sent (unsync 2) v 0 1 (past-no 1 v (k .1)) (past-yes 2 v (k .0 .0 .0 2) (k .0 .1)) tt) (take (d .0) l) (d .1),
-      All-map _ _ (λ v k. reads message-passing sent (is 1 1) v 1 (v 2) (past-yes 1 v (k .0 .0 .0 1) (k .1)) refl tt) (drop (d .0) l) (d .2),
+      All-map _ _ (λ v k. reads message-passing sent (unsync 2) v 0 1 (past-no 1 v (k .1)) (past-yes 2 v (k .0 .0 .0 2) (k .0 .1)) tt)
+          (take (d .0) l) (d .1),
+      All-map _ _ (λ v k. reads message-passing sent (is 1 1) v 1 (v 2) (past-yes 1 v (k .0 .0 .0 1) (k .1)) refl tt) (drop (d .0) l)
+          (d .2),
     )
 
 message-follows : True message-passing sent (sees 2 (chop (box (is 2 0)) (chop (box (unsync 2)) (box (is 1 1)))))
@@ -283,12 +300,15 @@ not-in-sync h = h (naming 0 1 ∷ []) (sent-once 0 1 (omega arith) (omega arith)
 own-in-sync : True message-passing sent (sees 1 (box (Formula.not (unsync 2))))
 unfolding by nothing at-points sender receiver message-passing sent upd naming up down
 own-in-sync l h =
-    All-map _ _ (λ v k. reads message-passing sent (Formula.not (unsync 2)) v 1 1 (pinned (v 1) 1 (k .0 1) (k .1 1)) (pinned (v 2) 1 (k .0 2) (k .1 2)) tt) l (each-view (sent .size) (sent .view 1) l h .1)
+    All-map _ _ (λ v k. reads message-passing sent (Formula.not (unsync 2)) v 1 1 (pinned (v 1) 1 (k .0 1) (k .1 1))
+    (pinned (v 2) 1 (k .0 2) (k .1 2)) tt) l (each-view (sent .size) (sent .view 1) l h .1)
 
 -- AN EMPTY PART satisfies every interval, in the first place and in the second; but not both parts are empty
-sees-new : (l : List View) → Prospect (sent .size) (sent .view 1) l → Sat (message-passing .range) (at message-passing sent) (box (is 1 1)) l
+sees-new : (l : List View) → Prospect (sent .size) (sent .view 1) l
+    → Sat (message-passing .range) (at message-passing sent) (box (is 1 1)) l
 unfolding by nothing at-points sender receiver message-passing sent upd naming is up down
-sees-new l h = All-map _ _ (λ v k. reads message-passing sent (is 1 1) v 1 (v 2) (pinned (v 1) 1 (k .0 1) (k .1 1)) refl tt) l (each-view (sent .size) (sent .view 1) l h .1)
+sees-new l h = All-map _ _ (λ v k. reads message-passing sent (is 1 1) v 1 (v 2) (pinned (v 1) 1 (k .0 1) (k .1 1)) refl tt) l
+    (each-view (sent .size) (sent .view 1) l h .1)
 
 first-empty : True message-passing sent (sees 1 (chop (box Formula.false) (box (is 1 1))))
 first-empty l h = (0, tt, sees-new l h)
@@ -303,7 +323,8 @@ second-empty l h = (
 not-both-empty : True message-passing sent (sees 2 (chop (box Formula.false) (box Formula.false))) → ⊥
 not-both-empty h =
     neither (λ a. a) (λ b. b)
-    (cut-one (message-passing .range) (at message-passing sent) Formula.false Formula.false (naming 0 0) (h (naming 0 0 ∷ []) (sent-once 0 0 (omega arith) (omega arith))))
+    (cut-one (message-passing .range) (at message-passing sent) Formula.false Formula.false (naming 0 0)
+    (h (naming 0 0 ∷ []) (sent-once 0 0 (omega arith) (omega arith))))
 
 -- START is true of the start states only
 at-start : True message-passing (begun message-passing) start
@@ -350,7 +371,8 @@ taken-in = run message-passing (begun message-passing) (by 1 0 ∷ by 1 0 ∷ by
 acquired : True message-passing taken-in (sees 2 (both (box (Formula.not (unsync 2))) (box (is 1 1))))
 unfolding by nothing at-points sender receiver message-passing taken-in upd naming is up down
 acquired l h = (
-  All-map _ _ (λ v k. reads message-passing taken-in (Formula.not (unsync 2)) v 1 1 (pinned (v 1) 1 (k .0 1) (k .1 1)) (pinned (v 2) 1 (k .0 2) (k .1 2)) tt) l
+  All-map _ _ (λ v k. reads message-passing taken-in (Formula.not (unsync 2)) v 1 1 (pinned (v 1) 1 (k .0 1) (k .1 1))
+      (pinned (v 2) 1 (k .0 2) (k .1 2)) tt) l
       (each-view (taken-in .size) (taken-in .view 2) l h .1),
   All-map _ _ (λ v k. reads message-passing taken-in (is 1 1) v 1 (v 2) (pinned (v 1) 1 (k .0 1) (k .1 1)) refl tt) l
       (each-view (taken-in .size) (taken-in .view 2) l h .1),

@@ -1,4 +1,5 @@
--- What the names stand for at a view, in the scope page's sentences, for every program, state and view; and the two flags computed, in each combination.
+-- What the names stand for at a view, in the scope page's sentences, for every program, state and view; and the two flags computed, in
+-- each combination.
 use mathlib.Core.Path.{_≡_, refl}
 use mathlib.Core.Bool.{Bool, true, false, _||_}
 use mathlib.Core.List.{List, [], _∷_, map}
@@ -44,13 +45,16 @@ behind-later (suc n) w v h = go (ltb (v (suc n)) (w (suc n))) refl (behind-later
 module _ (P : Program) (s : State) (v : View) (x : ℕ) where
   pub unsync-sound : T (at P s v .unsync x) → Unsync P s v x
   unsync-sound h = record {
-    releasing = holds-true (s .row x (v x) .releasing) (and-left (s .row x (v x) .releasing) (later (P .words) (s .row x (v x) .stored) v) h);
-    behind = later-behind (P .words) (s .row x (v x) .stored) v (and-right (s .row x (v x) .releasing) (later (P .words) (s .row x (v x) .stored) v) h);
+    releasing = holds-true (s .row x (v x) .releasing)
+        (and-left (s .row x (v x) .releasing) (later (P .words) (s .row x (v x) .stored) v) h);
+    behind = later-behind (P .words) (s .row x (v x) .stored) v
+        (and-right (s .row x (v x) .releasing) (later (P .words) (s .row x (v x) .stored) v) h);
   }
 
   pub unsync-whole : Unsync P s v x → T (at P s v .unsync x)
   unsync-whole h =
-      and-both (s .row x (v x) .releasing) (later (P .words) (s .row x (v x) .stored) v) (is-true (h .releasing)) (behind-later (P .words) (s .row x (v x) .stored) v (h .behind))
+      and-both (s .row x (v x) .releasing) (later (P .words) (s .row x (v x) .stored) v) (is-true (h .releasing))
+      (behind-later (P .words) (s .row x (v x) .stored) v (h .behind))
 
   -- cov x: that write is covered; a word's value is that of the write named; a register's is the state's
   pub cov-covered : at P s v .cov x ≡ s .row x (v x) .covered
@@ -80,7 +84,8 @@ unfolding yes-no by nothing at-points handed upd naming flags up down
 handed-flags = refl
 
 -- word 1: its second write has a later view, and is not releasing; once swapped it is covered
-dropped-flags : map (λ l. flags dropped (run dropped (begun dropped) l) (naming 1 0) 1) ((by 1 0 ∷ by 1 0 ∷ []) ∷ (by 1 0 ∷ by 1 0 ∷ by 2 1 ∷ []) ∷ [])
+dropped-flags : map (λ l. flags dropped (run dropped (begun dropped) l) (naming 1 0) 1)
+    ((by 1 0 ∷ by 1 0 ∷ []) ∷ (by 1 0 ∷ by 1 0 ∷ by 2 1 ∷ []) ∷ [])
     ≡ (0 ∷ 0 ∷ []) ∷ (0 ∷ 1 ∷ []) ∷ []
 unfolding yes-no by nothing at-points dropped upd naming flags up down
 dropped-flags = refl

@@ -1,4 +1,5 @@
--- A step in two halves, as the proofs use it: first the thread's view moves to the write that it picks, then shared words and registers change.
+-- A step in two halves, as the proofs use it: first the thread's view moves to the write that it picks, then shared words and registers
+-- change.
 -- What is done to shared words is a touch; what the registers are given, the result register among them, is notes, all at a time,
 -- worked out where the thread has arrived: a load into r of x gives r the value of the word x.
 use mathlib.Core.Bool.{Bool, true, false, cond, not, _&&_}

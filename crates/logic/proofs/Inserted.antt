@@ -25,7 +25,8 @@ module _ (x p : ℕ) where
   -- an old stored view, after the insertion, against a new view; and before it, against the view that it stands for
   galois : (a v : View) (y : ℕ) → ltb (v y) (upView x p a y) ≡ ltb (downView x p v y) (a y)
   galois a v = by-word x _
-      (simp upd-same (same-test (up p (a x)) (v x) (a x) (down p (v x)) (omega (arith, up-is p (a x), down-is p (v x))) (omega (arith, up-is p (a x), down-is p (v x)))))
+      (simp upd-same (same-test (up p (a x)) (v x) (a x) (down p (v x)) (omega (arith, up-is p (a x), down-is p (v x)))
+      (omega (arith, up-is p (a x), down-is p (v x)))))
       (λ y q. simp upd-other)
 
   later-down : (W : ℕ) (a v : View) → later W (upView x p a) v ≡ later W a (downView x p v)
@@ -77,7 +78,8 @@ new {s = s} d = record { value = d .n; releasing = d .releasing; covered = false
 module _ {P : Program} {s : State} (d : Insertion P s) where
   -- the write that a new view names, if it is not the new one: the old write that the view stands for, moved
   row-old : (v : View) (y : ℕ) → (y ≡ d .x → v (d .x) ≢ suc (d .p)) → result d .row y (v y) ≡ upWrite (d .x) (d .p) (s .row y (old d v y))
-  row-old v = by-word (d .x) (λ y. (y ≡ d .x → v (d .x) ≢ suc (d .p)) → result d .row y (v y) ≡ upWrite (d .x) (d .p) (s .row y (old d v y)))
+  row-old v = by-word (d .x) (λ y. (y ≡ d .x → v (d .x) ≢ suc (d .p))
+      → result d .row y (v y) ≡ upWrite (d .x) (d .p) (s .row y (old d v y)))
       (λ f. let q : v (d .x) ≢ suc (d .p) = f refl in simp upds)
       (λ y q f. simp upds)
 
@@ -95,7 +97,8 @@ module _ {P : Program} {s : State} (d : Insertion P s) where
 
   -- a prospect of the new state is one of the old state, its views taken for those that they stand for
   names-old : (v : View) → Names (result d .size) v → Names (s .size) (old d v)
-  names-old v h = by-word (d .x) _ (simp upd-same (omega (arith, d .inside, simp upd-same at (h (d .x)), down-is (d .p) (v (d .x))))) (λ y q. simp upd-other (simp upd-other at (h y)))
+  names-old v h = by-word (d .x) _ (simp upd-same (omega (arith, d .inside, simp upd-same at (h (d .x)), down-is (d .p) (v (d .x)))))
+      (λ y q. simp upd-other (simp upd-other at (h y)))
 
   from-old : (a b : View) → ((v : View) → ((y : ℕ) → a y ≤ v y) → (y : ℕ) → b y ≤ old d v y)
       → (l : List View) → From (result d .size) a l → From (s .size) b (map (old d) l)
@@ -106,16 +109,23 @@ module _ {P : Program} {s : State} (d : Insertion P s) where
   view-old v = by-word (d .t) _
       (λ f. by-word (d .x) _ (simp upds (omega (arith, simp upds at (f (d .x)), d .here, down-is (d .p) (v (d .x)))))
       (λ y q. simp upds (omega (arith, simp upds at (f y)))))
-      (λ u qu f. by-word (d .x) _ (simp upds (omega (arith, simp upds at (f (d .x)), up-is (d .p) (s .view u (d .x)), down-is (d .p) (v (d .x))))) (λ y q. simp upds (omega (arith, simp upds at (f y)))))
+      (λ u qu f. by-word (d .x) _
+      (simp upds (omega (arith, simp upds at (f (d .x)), up-is (d .p) (s .view u (d .x)), down-is (d .p) (v (d .x)))))
+      (λ y q. simp upds (omega (arith, simp upds at (f y)))))
 
-  pub result-prospect : (u : ℕ) (l : List View) → Prospect (result d .size) (result d .view u) l → Prospect (s .size) (s .view u) (map (old d) l)
+  pub result-prospect : (u : ℕ) (l : List View) → Prospect (result d .size) (result d .view u) l
+      → Prospect (s .size) (s .view u) (map (old d) l)
   result-prospect u [] h = h
   result-prospect u (v ∷ l) h = from-old (result d .view u) (s .view u) (λ w. view-old w u) (v ∷ l) h
 
   pub result-kept : (u : ℕ) (i : Interval) → T (only (notWord (d .x)) i) → Sees P s u i → Sees P (result d) u i
   result-kept u i no-x h l pr =
       transport (P .range) (notWord (d .x)) (at P s) (at P (result d)) (old d) i no-x l
-      (All-every _ (λ v. record { agree = record { same = λ n q. result-same v n (λ z. absurd (not-about (d .x) n q z)) }; still = λ y q. down-still (d .x) (d .p) v y (not-eqb y (d .x) q) }) l)
+      (All-every _
+      (λ v. record {
+        agree = record { same = λ n q. result-same v n (λ z. absurd (not-about (d .x) n q z)) };
+        still = λ y q. down-still (d .x) (d .p) v y (not-eqb y (d .x) q);
+      }) l)
       (h (map (old d) l) (result-prospect u l pr))
 
   -- well-formedness
@@ -134,10 +144,17 @@ module _ {P : Program} {s : State} (d : Insertion P s) where
     view-in = by-word (d .t) _ (λ y. simp upds (move-in y)) (λ u q y. simp upds (up-in (s .view u) (d .wf .view-in u) y));
     stored-in = by-word (d .x) _
         (by-word (suc (d .p)) _ (λ z h. simp upds (move-in z))
-        (λ i q z h. simp upds (up-in (s .row (d .x) (down (d .p) i) .stored) (λ y. d .wf .stored-in (d .x) (down (d .p) i) y (down-in i q h)) z)))
+        (λ i q z h. simp upds (up-in (s .row (d .x) (down (d .p) i) .stored)
+        (λ y. d .wf .stored-in (d .x) (down (d .p) i) y (down-in i q h)) z)))
         (λ y q i z h. simp upds (up-in (s .row y i .stored) (λ w. d .wf .stored-in y i w (simp upds at h)) z));
     own = by-word (d .x) _
-        (by-word (suc (d .p)) _ (λ h. simp upds) (λ i q h. simp upds (omega (arith, d .wf .own (d .x) (down (d .p) i) (down-in i q h), up-is (d .p) (s .row (d .x) (down (d .p) i) .stored (d .x)), down-is (d .p) i))))
+        (by-word (suc (d .p)) _ (λ h. simp upds) (λ i q h. simp upds
+        (omega (
+          arith,
+          d .wf .own (d .x) (down (d .p) i) (down-in i q h),
+          up-is (d .p) (s .row (d .x) (down (d .p) i) .stored (d .x)),
+          down-is (d .p) i,
+        ))))
         (λ y q i h. simp upds (d .wf .own y i (simp upds at h)));
     small = by-word (d .x) _
         (by-word (suc (d .p)) _ (λ h. simp upds (d .small)) (λ i q h. simp upds (d .wf .small (d .x) (down (d .p) i) (down-in i q h))))

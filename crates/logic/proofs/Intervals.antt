@@ -30,8 +30,11 @@ module _ (R : ℕ) (ρ : View → Env) where
   pub sat-drop : (i : Interval) (m : ℕ) (l : List View) → Sat R ρ i l → Sat R ρ i (drop m l)
   sat-drop (box e) m l h = All-drop _ m l h
   sat-drop (one x) m l h = (h .0, All-drop _ m l (h .1))
-  sat-drop (chop i j) m l h =
-      (h .0 - m, rw (← drop-take m (h .0) l) (sat-drop i m (take (h .0) l) (h .1)), rw drop-drop-sub (sat-drop j (m - h .0) (drop (h .0) l) (h .2)))
+  sat-drop (chop i j) m l h = (
+    h .0 - m,
+    rw (← drop-take m (h .0) l) (sat-drop i m (take (h .0) l) (h .1)),
+    rw drop-drop-sub (sat-drop j (m - h .0) (drop (h .0) l) (h .2)),
+  )
   sat-drop (both i j) m l h = (sat-drop i m l (h .0), sat-drop j m l (h .1))
   sat-drop (either i j) m l (inl h) = inl (sat-drop i m l h)
   sat-drop (either i j) m l (inr h) = inr (sat-drop j m l h)

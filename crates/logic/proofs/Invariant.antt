@@ -45,8 +45,11 @@ module _ {P : Program} {s : State} (wf : Wf P s) where
   cover-wf true x p inside = record {
     outer = wf .outer;
     view-in = wf .view-in;
-    stored-in = by-word x _ (by-word p _ (λ y k. simp upds (wf .stored-in x p y inside)) (λ i q y k. simp upds (wf .stored-in x i y k))) (λ z q i y k. simp upds (wf .stored-in z i y k));
-    own = by-word x _ (by-word p _ (λ k. simp upds (wf .own x p inside)) (λ i q k. simp upds (wf .own x i k))) (λ z q i k. simp upds (wf .own z i k));
-    small = by-word x _ (by-word p _ (λ k. simp upds (wf .small x p inside)) (λ i q k. simp upds (wf .small x i k))) (λ z q i k. simp upds (wf .small z i k));
+    stored-in = by-word x _ (by-word p _ (λ y k. simp upds (wf .stored-in x p y inside)) (λ i q y k. simp upds (wf .stored-in x i y k)))
+        (λ z q i y k. simp upds (wf .stored-in z i y k));
+    own = by-word x _ (by-word p _ (λ k. simp upds (wf .own x p inside)) (λ i q k. simp upds (wf .own x i k)))
+        (λ z q i k. simp upds (wf .own z i k));
+    small = by-word x _ (by-word p _ (λ k. simp upds (wf .small x p inside)) (λ i q k. simp upds (wf .small x i k)))
+        (λ z q i k. simp upds (wf .small z i k));
     reg-small = wf .reg-small;
   }

@@ -24,11 +24,13 @@ use Rattle.logic.specs.Truth.{Sat, From, Sees}
 
 module _ {P : Program} {s : State} (d : Insertion P s) (last : suc (d .p) ≡ s .size (d .x)) where
   -- the list is cut where the new write comes in
-  cut-new : (a : View) (l : List View) → From (result d .size) a l → (k : ℕ) × All (λ v. v (d .x) ≤ d .p) (take k l) × All (λ v. v (d .x) ≡ suc (d .p)) (drop k l)
+  cut-new : (a : View) (l : List View) → From (result d .size) a l
+      → (k : ℕ) × All (λ v. v (d .x) ≤ d .p) (take k l) × All (λ v. v (d .x) ≡ suc (d .p)) (drop k l)
   cut-new a [] h = (0, tt, tt)
   cut-new a (v ∷ l) h = go (leb (v (d .x)) (d .p)) refl (cut-new v l (h .2))
     where
-      go : (b : Bool) → leb (v (d .x)) (d .p) ≡ b → (k : ℕ) × All (λ w. w (d .x) ≤ d .p) (take k l) × All (λ w. w (d .x) ≡ suc (d .p)) (drop k l)
+      go : (b : Bool) → leb (v (d .x)) (d .p) ≡ b → (k : ℕ) × All (λ w. w (d .x) ≤ d .p) (take k l)
+          × All (λ w. w (d .x) ≡ suc (d .p)) (drop k l)
           → (k : ℕ) × All (λ w. w (d .x) ≤ d .p) (take k (v ∷ l)) × All (λ w. w (d .x) ≡ suc (d .p)) (drop k (v ∷ l))
       go true e c = (suc (c .0), (leb-true (v (d .x)) (d .p) e, c .1), c .2)
       go false e c = (
@@ -43,18 +45,22 @@ module _ {P : Program} {s : State} (d : Insertion P s) (last : suc (d .p) ≡ s 
   old-still v h = by-word (d .x) _ (simp upds (omega (arith, down-is (d .p) (v (d .x))))) (λ y q. simp upds)
 
   -- before the new write comes in, what a thread saw
-  old-part : (u : ℕ) (i : Interval) → Sees P s u i → (l : List View) → From (result d .size) (result d .view u) l → All (λ v. v (d .x) ≤ d .p) l → Sat (P .range) (at P (result d)) i l
+  old-part : (u : ℕ) (i : Interval) → Sees P s u i → (l : List View) → From (result d .size) (result d .view u) l
+      → All (λ v. v (d .x) ≤ d .p) l → Sat (P .range) (at P (result d)) i l
   old-part u i h [] g a = sat-empty (P .range) (at P (result d)) i
   old-part u i h (v ∷ l) g a =
       transport (P .range) (λ n. true) (at P s) (at P (result d)) (old d) i (only-any (names i)) (v ∷ l)
-      (All-map _ _ (λ w k. record { agree = record { same = λ n q. result-same d w n (λ z. omega arith) }; still = λ y q. old-still w k y }) (v ∷ l) a)
+      (All-map _ _
+      (λ w k. record { agree = record { same = λ n q. result-same d w n (λ z. omega arith) }; still = λ y q. old-still w k y })
+      (v ∷ l) a)
       (h (map (old d) (v ∷ l)) (result-prospect d u (v ∷ l) g))
 
   module _ (f : Value) (value-f : (v : View) → value (P .range) (at P (result d) v) f ≡ d .n) where
     -- from then on, the stored value
     new-value : (v : View) → v (d .x) ≡ suc (d .p) → T (test (P .range) (at P (result d) v) (equal (word (d .x)) f))
     new-value v q =
-        subst (λ (n : ℕ). T (eqb n (value (P .range) (at P (result d) v) f))) (value-f v ∙ sym (ap (λ (w : Write). w .value) (row-new d v q)))
+        subst (λ (n : ℕ). T (eqb n (value (P .range) (at P (result d) v) f)))
+        (value-f v ∙ sym (ap (λ (w : Write). w .value) (row-new d v q)))
         (eqb-refl (value (P .range) (at P (result d) v) f))
 
     new-part : (l : List View) → All (λ v. v (d .x) ≡ suc (d .p)) l → Sat (P .range) (at P (result d)) (newest (d .x) f) l
@@ -69,8 +75,11 @@ module _ {P : Program} {s : State} (d : Insertion P s) (last : suc (d .p) ≡ s 
     -- 7, 12
     pub last-other : (u : ℕ) (i : Interval) → Sees P s u i → Sees P (result d) u (chop i (newest (d .x) f))
     last-other u i h (v ∷ l) g =
-        let c = cut-new (result d .view u) (v ∷ l) g in
-        (c .0, old-part u i h (take (c .0) (v ∷ l)) (from-take (result d .size) (result d .view u) (c .0) (v ∷ l) g) (c .1), new-part (drop (c .0) (v ∷ l)) (c .2))
+        let c = cut-new (result d .view u) (v ∷ l) g in (
+          c .0,
+          old-part u i h (take (c .0) (v ∷ l)) (from-take (result d .size) (result d .view u) (c .0) (v ∷ l) g) (c .1),
+          new-part (drop (c .0) (v ∷ l)) (c .2),
+        )
 
   -- a view that names the new write and is not unsynchronized has all that the storing thread had
   module _ (r : d .releasing ≡ true) (j : Interval) (no-x : T (only (notWord (d .x)) j)) (h : Sees P s (d .t) j) where
@@ -86,11 +95,13 @@ module _ {P : Program} {s : State} (d : Insertion P s) (last : suc (d .p) ≡ s 
         go (inl k) = simp upds (later-none (P .words) (moveTo (d .x) (d .p) (s .view (d .t))) v none-later y (k .0) (k .1))
         go (inr k) = omega (arith, result-wf d .view-in (d .t) y, result-wf d .outer y k)
 
-    sync-part : (a : View) (l : List View) → From (result d .size) a l → All (λ v. v (d .x) ≡ suc (d .p)) l → Sat (P .range) (at P (result d)) (chop (box (unsync (d .x))) j) l
+    sync-part : (a : View) (l : List View) → From (result d .size) a l → All (λ v. v (d .x) ≡ suc (d .p)) l
+        → Sat (P .range) (at P (result d)) (chop (box (unsync (d .x))) j) l
     sync-part a [] g e = (0, tt, sat-empty (P .range) (at P (result d)) j)
     sync-part a (v ∷ l) g e = go (at P (result d) v .unsync (d .x)) refl (sync-part v l (g .2) (e .1))
       where
-        go : (b : Bool) → at P (result d) v .unsync (d .x) ≡ b → Sat (P .range) (at P (result d)) (chop (box (unsync (d .x))) j) l → Sat (P .range) (at P (result d)) (chop (box (unsync (d .x))) j) (v ∷ l)
+        go : (b : Bool) → at P (result d) v .unsync (d .x) ≡ b → Sat (P .range) (at P (result d)) (chop (box (unsync (d .x))) j) l
+            → Sat (P .range) (at P (result d)) (chop (box (unsync (d .x))) j) (v ∷ l)
         go true q c = (suc (c .0), (subst T (sym q) tt, c .1), c .2)
         go false q c = (0, tt, result-kept d (d .t) j no-x h (v ∷ l) (g .0, synced v (e .0) q, g .2))
 

@@ -43,7 +43,8 @@ module _ (R : ℕ) (ρ : View → Env) where
   says-one x (v ∷ l) h = (v x, all-places (λ w. w x ≡ v x) (v ∷ l) (λ i b. h i 0 b (omega arith)))
 
   -- I;J: the list is cut in two, either part perhaps empty, the first satisfying I and the second J
-  pub chop-says : (i j : Interval) (l : List View) → Sat R ρ (chop i j) l → (a : List View) × (b : List View) × (a ++ b ≡ l) × Sat R ρ i a × Sat R ρ j b
+  pub chop-says : (i j : Interval) (l : List View) → Sat R ρ (chop i j) l
+      → (a : List View) × (b : List View) × (a ++ b ≡ l) × Sat R ρ i a × Sat R ρ j b
   chop-says i j l h = (take (h .0) l, drop (h .0) l, take-append-drop (h .0) l, h .1, h .2)
 
   pub says-chop : (i j : Interval) (a b : List View) → Sat R ρ i a → Sat R ρ j b → Sat R ρ (chop i j) (a ++ b)

@@ -81,7 +81,8 @@ module _ (P : Program) where
   assertions-all Q t k u h = go (eqb t u)
     where
       go : (b : Bool)
-          → All Q (elim b as (λ y. List Obligation) [ true ↦ [] | false ↦ flat (λ j. acting P u j t k (P .code t k)) (below (asserted P u)) ])
+          → All Q
+          (elim b as (λ y. List Obligation) [ true ↦ [] | false ↦ flat (λ j. acting P u j t k (P .code t k)) (below (asserted P u)) ])
       go true = tt
       go false = flat-every Q (λ j. acting P u j t k (P .code t k)) (λ j. acting-all Q u j t k (P .code t k) (h j)) (below (asserted P u))
 

@@ -23,7 +23,8 @@ pub data Picked (s : State) (t p : ℕ) : Instr → Type 0 where
   -- a load: any write at or after the thread's own, covered or not, releasing or not
   by-load : {acquires : Bool} {r x : ℕ} {ns : List Note} → Reached s t x p → Picked s t p (act (load acquires r x) ns)
   -- a store, a swap, an exchange or a fetch-add: an uncovered one
-  by-write : {m : Mode} {x : ℕ} {f : Value} {ns : List Note} → Reached s t x p → s .row x p .covered ≡ false → Picked s t p (act (write m x f) ns)
+  by-write : {m : Mode} {x : ℕ} {f : Value} {ns : List Note} → Reached s t x p → s .row x p .covered ≡ false
+      → Picked s t p (act (write m x f) ns)
 
 -- a step that is not refused: its thread is there and not at its last point, and its position is one of its instruction
 pub record Permitted (P : Program) (m : Step) (s : State) : Type 0 where
@@ -39,19 +40,22 @@ module _ (s : State) (t : ℕ) where
   }
 
   reached-reachable : (x p : ℕ) → Reached s t x p → T (reachable s t x p)
-  reached-reachable x p h = and-both (ltb p (s .size x)) (leb (s .view t x) p) (lt→ltb p (s .size x) (h .there)) (le→leb (s .view t x) p (h .at-or-after))
+  reached-reachable x p h = and-both (ltb p (s .size x)) (leb (s .view t x) p) (lt→ltb p (s .size x) (h .there))
+      (le→leb (s .view t x) p (h .at-or-after))
 
   pub allowed-picked : (c : Instr) (p : ℕ) → T (allowed c t p s) → Picked s t p c
   allowed-picked (act none ns) p h = by-assignment (eqb→eq p 0 h)
   allowed-picked (act (load acquires r x) ns) p h = by-load (reachable-reached x p h)
   allowed-picked (act (write m x f) ns) p h =
-      by-write (reachable-reached x p (and-left (reachable s t x p) (not (s .row x p .covered)) h)) (not-true (s .row x p .covered) (and-right (reachable s t x p) (not (s .row x p .covered)) h))
+      by-write (reachable-reached x p (and-left (reachable s t x p) (not (s .row x p .covered)) h))
+      (not-true (s .row x p .covered) (and-right (reachable s t x p) (not (s .row x p .covered)) h))
   allowed-picked (branch e a) p h = by-branch (eqb→eq p 0 h)
 
   pub picked-allowed : (c : Instr) (p : ℕ) → Picked s t p c → T (allowed c t p s)
   picked-allowed (act none ns) p (by-assignment e) = rw e tt
   picked-allowed (act (load acquires r x) ns) p (by-load h) = reached-reachable x p h
-  picked-allowed (act (write m x f) ns) p (by-write h e) = and-both (reachable s t x p) (not (s .row x p .covered)) (reached-reachable x p h) (rw e tt)
+  picked-allowed (act (write m x f) ns) p (by-write h e) =
+      and-both (reachable s t x p) (not (s .row x p .covered)) (reached-reachable x p h) (rw e tt)
   picked-allowed (branch e a) p (by-branch q) = rw q tt
 
 module _ (P : Program) (m : Step) (s : State) where
@@ -81,7 +85,8 @@ module _ (P : Program) (m : Step) (s : State) where
   permitted-whole h =
       and-both (present && moving) fitting
       (and-both present moving
-      (and-both (leb 1 (m .thread)) (leb (m .thread) (P .threads)) (le→leb 1 (m .thread) (h .thread-there .0)) (le→leb (m .thread) (P .threads) (h .thread-there .1)))
+      (and-both (leb 1 (m .thread)) (leb (m .thread) (P .threads)) (le→leb 1 (m .thread) (h .thread-there .0))
+      (le→leb (m .thread) (P .threads) (h .thread-there .1)))
       (lt→ltb (suc (s .point (m .thread))) (P .points (m .thread)) (h .not-at-last)))
       (picked-allowed s (m .thread) (instrAt P s (m .thread)) (m .position) (h .position))
 
@@ -106,6 +111,7 @@ wide = record {
   point = λ t. 0;
 }
 
-far : allowed (act (load false 1 1) []) 1 4000 wide && (allowed (act (write (store true) 1 (const 0)) []) 1 4000 wide && allowed (act (write swap 1 (const 0)) []) 1 4000 wide) ≡ true
+far : allowed (act (load false 1 1) []) 1 4000 wide
+    && (allowed (act (write (store true) 1 (const 0)) []) 1 4000 wide && allowed (act (write swap 1 (const 0)) []) 1 4000 wide) ≡ true
 unfolding wide
 far = refl

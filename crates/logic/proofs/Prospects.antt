@@ -73,6 +73,7 @@ module _ {P : Program} {s : State} (wf : Wf P s) where
           go (inl k) = h .1 y k
           go (inr k) = omega (arith, outside v n y k)
 
-  pub prospect-words : (t : ℕ) (l : List View) → (Prospect (s .size) (s .view t) l → ProspectIn P s (s .view t) l) × (ProspectIn P s (s .view t) l → Prospect (s .size) (s .view t) l)
+  pub prospect-words : (t : ℕ) (l : List View) → (Prospect (s .size) (s .view t) l → ProspectIn P s (s .view t) l)
+      × (ProspectIn P s (s .view t) l → Prospect (s .size) (s .view t) l)
   prospect-words t [] = ((λ h. h), (λ h. h))
   prospect-words t (v ∷ l) = (words-from (s .view t) (v ∷ l), from-words (s .view t) (wf .view-in t) (v ∷ l))

@@ -32,7 +32,8 @@ regs-same {ρ} {σ} e = record { same = go }
     go (n-cov y) h = absurd h
 
 -- what holds of the values that registers are given, and of registers, holds of each register's value
-pub noted-all : (Q : Value → Type 0) → ((r : ℕ) → Q (reg r)) → (ns : List Note) → All (λ (n : Note). Q (n .by)) ns → (r : ℕ) → Q (noted ns r)
+pub noted-all : (Q : Value → Type 0) → ((r : ℕ) → Q (reg r)) → (ns : List Note) → All (λ (n : Note). Q (n .by)) ns → (r : ℕ)
+    → Q (noted ns r)
 noted-all Q f [] h r = f r
 noted-all Q f (n ∷ ns) h r = upd-case Q (noted ns) (n .to) (n .by) r (λ e. h .0) (λ e. noted-all Q f ns (h .1) r)
 
@@ -65,12 +66,15 @@ module _ (P : Program) (s : State) (g pt : ℕ → ℕ) where
       → (q : Assertion) → T (startless q) → T (only ok q) → Truth P (record { state = s; at = ρ; held = held }) q → True P after q
   regs-true ok ρ held f k q z c h =
       world-true P after q
-      (keep-truth P ok (record { state = s; at = ρ; held = held }) (world P after) (λ u i d g l pr. sat-agree (P .range) ok ρ (at P after) f i d l (g l pr)) k q z c h)
+      (keep-truth P ok (record { state = s; at = ρ; held = held }) (world P after)
+      (λ u i d g l pr. sat-agree (P .range) ok ρ (at P after) f i d l (g l pr)) k q z c h)
 
   -- 1: registers that pass keep their value
-  pub regs-kept : (ok : ℕ → Bool) → ((r : ℕ) → T (ok r) → s .reg r ≡ g r) → (q : Assertion) → T (startless q) → T (only (regsIn ok) q) → True P s q → True P after q
+  pub regs-kept : (ok : ℕ → Bool) → ((r : ℕ) → T (ok r) → s .reg r ≡ g r) → (q : Assertion) → T (startless q) → T (only (regsIn ok) q)
+      → True P s q → True P after q
   regs-kept ok e q z c h =
-      regs-true (regsIn ok) (at P s) (onRegs (s .reg)) (λ v. reg-agree (regsIn ok) (at P s v) g e) (reg-agree (regsIn ok) (onRegs (s .reg)) g e)
+      regs-true (regsIn ok) (at P s) (onRegs (s .reg)) (λ v. reg-agree (regsIn ok) (at P s v) g e)
+      (reg-agree (regsIn ok) (onRegs (s .reg)) g e)
       q z c (true-world P s q h)
 
 module _ (P : Program) (s : State) (t : ℕ) (ns : List Note) where
@@ -81,7 +85,8 @@ module _ (P : Program) (s : State) (t : ℕ) (ns : List Note) where
   given-kept r h = sym (ap (workedAt P s t) (noted-kept ns r h))
 
   -- 2: a formula with the registers replaced, before; the formula, after
-  pub given-true : (pt : ℕ → ℕ) → All (λ (n : Note). T (only isReg (n .by))) ns → (q : Assertion) → T (startless q) → True P s (replace (notes ns) q)
+  pub given-true : (pt : ℕ → ℕ) → All (λ (n : Note). T (only isReg (n .by))) ns → (q : Assertion) → T (startless q)
+      → True P s (replace (notes ns) q)
       → True P (withPoints (withRegs s given) pt) q
   given-true pt plain q z h =
       regs-true P s given pt (λ n. true) (λ v. under (P .range) (notes ns) (at P s v)) (under (P .range) (notes ns) (onRegs (s .reg)))
@@ -93,7 +98,8 @@ module _ (P : Program) (s : State) (t : ℕ) (ns : List Note) where
       anywhere ρ e r = value-agree (P .range) (regs-same e) (noted ns r) (noted-all (λ f. T (only isReg f)) (λ r. tt) ns plain r)
 
   -- 3: a test of registers after is the test with the registers replaced, where the thread is
-  pub given-test : (e : Test) → T (only isReg e) → test (P .range) (at P s (s .view t)) (replace (notes ns) e) ≡ test (P .range) (onRegs given) e
+  pub given-test : (e : Test) → T (only isReg e) → test (P .range) (at P s (s .view t)) (replace (notes ns) e) ≡ test (P .range)
+      (onRegs given) e
   given-test e c = replaced P (notes ns) e (at P s (s .view t)) ∙ test-agree (P .range) (regs-same refl) e c
 
   -- values stay below the range
@@ -104,4 +110,5 @@ module _ (P : Program) (s : State) (t : ℕ) (ns : List Note) where
   worked-small wf (sum a b) k = mod-lt _ (omega (arith, wf .reg-small 0))
 
   pub given-small : Wf P s → All (λ (n : Note). T (bounded (P .range) (n .by))) ns → (r : ℕ) → given r < P .range
-  given-small wf h = noted-all (λ f. workedAt P s t f < P .range) (wf .reg-small) ns (All-map _ _ (λ (n : Note) k. worked-small wf (n .by) k) ns h)
+  given-small wf h = noted-all (λ f. workedAt P s t f < P .range) (wf .reg-small) ns
+      (All-map _ _ (λ (n : Note) k. worked-small wf (n .by) k) ns h)

@@ -1,4 +1,5 @@
--- One fact on replacement, whatever the sort: a formula with its names replaced means what the formula means where the names stand for those values.
+-- One fact on replacement, whatever the sort: a formula with its names replaced means what the formula means where the names stand for
+-- those values.
 use mathlib.Core.Path.{_≡_, refl, ap, ap₂, subst}
 use mathlib.Core.Bool.{not, _&&_, _||_}
 use mathlib.Core.List.{List}

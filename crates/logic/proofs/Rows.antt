@@ -20,7 +20,8 @@ pub allBelow-at : (n : ℕ) (f : ℕ → Bool) → T (allBelow n f) → (k : ℕ
 allBelow-at zero f h = λ k b. absurd (omega arith)
 allBelow-at (suc n) f h = go (f n) refl h (allBelow-at n f)
   where
-    go : (b : Bool) → f n ≡ b → T (elim b as (λ x. Bool) [ true ↦ allBelow n f | false ↦ false ]) → (T (allBelow n f) → (k : ℕ) → k < n → T (f k)) → (k : ℕ) → k < suc n → T (f k)
+    go : (b : Bool) → f n ≡ b → T (elim b as (λ x. Bool) [ true ↦ allBelow n f | false ↦ false ])
+        → (T (allBelow n f) → (k : ℕ) → k < n → T (f k)) → (k : ℕ) → k < suc n → T (f k)
     go true e h r = by-word n (λ k. k < suc n → T (f k)) (λ b. rw e tt) (λ k q b. r h k (omega arith))
     go false e h r = absurd h
 
@@ -54,7 +55,8 @@ module _ {K : Type 0} {eq : K → K → Bool} (E : Equality eq) where
   distinct-all P [] h = tt
   distinct-all P (n ∷ l) h = go (isIn eq n l) refl h (distinct-all P l)
     where
-      go : (b : Bool) → isIn eq n l ≡ b → All P (cond b (distinct eq l) (n ∷ distinct eq l)) → (All P (distinct eq l) → All P l) → All P (n ∷ l)
+      go : (b : Bool) → isIn eq n l ≡ b → All P (cond b (distinct eq l) (n ∷ distinct eq l)) → (All P (distinct eq l) → All P l)
+          → All P (n ∷ l)
       go true e h r = (in-all P n l (is-true e) (r h), r h)
       go false e h r = (h .0, r (h .1))
 
@@ -71,13 +73,18 @@ module _ {K : Type 0} {eq : K → K → Bool} (E : Equality eq) where
   copy-all : (l : List K) (μ ν : K → ℕ) → All (λ m. copy l μ ν m ≡ μ m) l
   unfolding copy
   copy-all [] μ ν = tt
-  copy-all (n ∷ l) μ ν = (copy-keeps l μ (choose eq ν n (μ n)) n (choose-same ν μ n n (λ z. absurd (T-not (eq n n) z (E .self n)))), copy-all l μ (choose eq ν n (μ n)))
+  copy-all (n ∷ l) μ ν = (
+    copy-keeps l μ (choose eq ν n (μ n)) n (choose-same ν μ n n (λ z. absurd (T-not (eq n n) z (E .self n)))),
+    copy-all l μ (choose eq ν n (μ n)),
+  )
 
   module _ (choices : K → ℕ) where
-    rows-at : (l : List K) (f : (K → ℕ) → Bool) (μ ν : K → ℕ) → ((n : K) → μ n < choices n) → T (allRows eq choices l f ν) → T (f (copy l μ ν))
+    rows-at : (l : List K) (f : (K → ℕ) → Bool) (μ ν : K → ℕ) → ((n : K) → μ n < choices n) → T (allRows eq choices l f ν)
+        → T (f (copy l μ ν))
     unfolding copy
     rows-at [] f μ ν r h = h
-    rows-at (n ∷ l) f μ ν r h = rows-at l f μ (choose eq ν n (μ n)) r (allBelow-at (choices n) (λ k. allRows eq choices l f (choose eq ν n k)) h (μ n) (r n))
+    rows-at (n ∷ l) f μ ν r h = rows-at l f μ (choose eq ν n (μ n)) r
+        (allBelow-at (choices n) (λ k. allRows eq choices l f (choose eq ν n k)) h (μ n) (r n))
 
     -- the one fact: a test that passes at every row, and that goes by the listed keys alone, passes
     pub row-sound : (l : List K) (f : (K → ℕ) → Bool) → ((μ ν : K → ℕ) → All (λ n. μ n ≡ ν n) l → f μ ≡ f ν)
@@ -148,5 +155,7 @@ by-rows R e f h ρ small =
     subst (λ (ρ : Env). T (test R ρ e) → T (test R ρ f)) (row-of-meaning ρ)
     (imp (test R (meaning (row-of ρ)) e) (test R (meaning (row-of ρ)) f)
     (row-sound names-equal (choices R) (names e ++ names f) (λ ν. not (test R (meaning ν) e) || test R (meaning ν) f)
-    (λ μ ν a. ap₂ (λ a b. not a || b) (row-test R μ ν e (All-left _ (names e) (names f) a)) (row-test R μ ν f (All-right _ (names e) (names f) a)))
-    (and-right (leb (rowCount same-name (choices R) (distinct same-name (names e ++ names f))) Limits.rows) _ h) (row-of ρ) (row-in R ρ small)))
+    (λ μ ν a. ap₂ (λ a b. not a || b) (row-test R μ ν e (All-left _ (names e) (names f) a))
+    (row-test R μ ν f (All-right _ (names e) (names f) a)))
+    (and-right (leb (rowCount same-name (choices R) (distinct same-name (names e ++ names f))) Limits.rows) _ h) (row-of ρ)
+    (row-in R ρ small)))

@@ -55,10 +55,12 @@ module _ (τ : Test → Bool) where
   table-mono : (α β : Assertion → Bool) → Le α β → (a : Assertion) → T (table τ α a) → T (table τ β a)
   unfolding Le
   table-mono α β f (sees t i) h = f (sees t i) h
-  table-mono α β f (bothA a b) h = and-both (table τ β a) (table τ β b) (table-mono α β f a (search and-left)) (table-mono α β f b (search and-right))
+  table-mono α β f (bothA a b) h = and-both (table τ β a) (table τ β b) (table-mono α β f a (search and-left))
+      (table-mono α β f b (search and-right))
   table-mono α β f (eitherA a b) h = go (or-cases (table τ α a) (table τ α b) h) (table-mono α β f a) (table-mono α β f b)
     where
-      go : T (table τ α a) ⊎ T (table τ α b) → (T (table τ α a) → T (table τ β a)) → (T (table τ α b) → T (table τ β b)) → T (table τ β a || table τ β b)
+      go : T (table τ α a) ⊎ T (table τ α b) → (T (table τ α a) → T (table τ β a)) → (T (table τ α b) → T (table τ β b))
+          → T (table τ β a || table τ β b)
       go (inl k) f g = or-left (table τ β a) (table τ β b) (f k)
       go (inr k) f g = or-right (table τ β a) (table τ β b) (g k)
   table-mono α β f start h = f start h
@@ -136,7 +138,8 @@ module _ (P : Program) (s : State) where
   sure-true α f (bothA a b) h = (sure-true α f a (search and-left), sure-true α f b (search and-right))
   sure-true α f (eitherA a b) h = go (or-cases (table now α a) (table now α b) h) (sure-true α f a) (sure-true α f b)
     where
-      go : T (table now α a) ⊎ T (table now α b) → (T (table now α a) → True P s a) → (T (table now α b) → True P s b) → True P s a ⊎ True P s b
+      go : T (table now α a) ⊎ T (table now α b) → (T (table now α a) → True P s a) → (T (table now α b) → True P s b)
+          → True P s a ⊎ True P s b
       go (inl k) f g = inl (f k)
       go (inr k) f g = inr (g k)
   sure-true α f start h = f start h
@@ -164,8 +167,13 @@ module _ (P : Program) (s : State) where
   more (sees t i) α f h = more-leaf α f (sees t i) h refl
   more (bothA a b) α f h =
       let m = more a α f (h .0) in
-      let n = more b (m .0) (m .1) (h .1) in
-      (n .0, n .1, (λ c k. n .2 c (m .2 c k)), and-both (table now (n .0) a) (table now (n .0) b) (table-mono now (m .0) (n .0) (n .2) a (m .3)) (n .3))
+      let n = more b (m .0) (m .1) (h .1) in (
+        n .0,
+        n .1,
+        (λ c k. n .2 c (m .2 c k)),
+        and-both (table now (n .0) a) (table now (n .0) b)
+            (table-mono now (m .0) (n .0) (n .2) a (m .3)) (n .3),
+      )
   more (eitherA a b) α f (inl h) = let m = more a α f h in (m .0, m .1, m .2, or-left (table now (m .0) a) (table now (m .0) b) (m .3))
   more (eitherA a b) α f (inr h) = let m = more b α f h in (m .0, m .1, m .2, or-right (table now (m .0) a) (table now (m .0) b) (m .3))
   more start α f h = more-leaf α f start h refl
@@ -187,7 +195,8 @@ module _ (P : Program) (s : State) where
   Due : (Assertion → Bool) → List Imp → Type 0
   Due α ps = (p : Imp) × True P s (p .right) × ((β : Assertion → Bool) → Le α β → T (table now β (p .right)) → total β ps < total α ps)
 
-  scan : (α : Assertion → Bool) → Sure α → (ps : List Imp) → All (λ (p : Imp). True P s (p .left) → True P s (p .right)) ps → Kept α ps ⊎ Due α ps
+  scan : (α : Assertion → Bool) → Sure α → (ps : List Imp) → All (λ (p : Imp). True P s (p .left) → True P s (p .right)) ps
+      → Kept α ps ⊎ Due α ps
   unfolding Kept Due total
   scan α f [] hs = inl tt
   scan α f (p ∷ ps) hs = go (true-or-not (table now α (p .left))) (true-or-not (table now α (p .right))) (scan α f ps (hs .1))

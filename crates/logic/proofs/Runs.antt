@@ -45,7 +45,8 @@ module _ (P : Program) (ok : (t k : ℕ) → Within (P .threads) t → suc k < P
     where
       go : (p : Bool) → isPair c ≡ p → Derived P (elim p [ true ↦ pair t k a b | false ↦ triple t k a b ]) → ValidTriple P t c a b
       go true q d = subst (λ (i : Instr). ValidTriple P t i a b) e (derived-valid d)
-      go false q d = subst (λ (i : Instr). ValidTriple P t i a b) (ap first e ∙ first-alone c (subst (λ (p : Bool). T (not p)) (sym q) tt)) (derived-valid d)
+      go false q d = subst (λ (i : Instr). ValidTriple P t i a b)
+          (ap first e ∙ first-alone c (subst (λ (p : Bool). T (not p)) (sym q) tt)) (derived-valid d)
 
 -- members of the list of obligations
 flat-in : {A B : Type 0} (Q : B → Type 0) (f : A → List B) (l : List A) → All Q (flat f l) → All (λ a. All Q (f a)) l
@@ -69,7 +70,8 @@ up-in Q n h (suc k) w = below-in (λ k. Q (suc k)) n (map-in Q suc (below n) h) 
 module _ (P : Program) (Q : Obligation → Type 0) (h : All Q (obligations P)) where
   -- class 1; 2 and 3; 4
   each-start : (t : ℕ) → Within (P .threads) t → Q (Obligations.start t)
-  each-start = up-in (λ t. Q (Obligations.start t)) (P .threads) (map-in Q Obligations.start (upTo (P .threads)) (All-left Q (starts P) (steps P ++ interferences P) h))
+  each-start = up-in (λ t. Q (Obligations.start t)) (P .threads)
+      (map-in Q Obligations.start (upTo (P .threads)) (All-left Q (starts P) (steps P ++ interferences P) h))
 
   each-step : (t k : ℕ) → Within (P .threads) t → suc k < P .points t → All Q (own P t k (P .code t k))
   each-step t k w b =
@@ -81,10 +83,13 @@ module _ (P : Program) (Q : Obligation → Type 0) (h : All Q (obligations P)) w
 
   differ : (u t k : ℕ) → u ≢ t → All Q (assertions P t k u) → All Q (flat (λ j. acting P u j t k (P .code t k)) (below (asserted P u)))
   differ u t k q g =
-      subst (λ (z : Bool). All Q (elim z as (λ y. List Obligation) [ true ↦ [] | false ↦ flat (λ j. acting P u j t k (P .code t k)) (below (asserted P u)) ]))
+      subst
+      (λ (z : Bool). All Q (elim z as (λ y. List Obligation)
+      [ true ↦ [] | false ↦ flat (λ j. acting P u j t k (P .code t k)) (below (asserted P u)) ]))
       (ne-eqb t u (λ (e : t ≡ u). q (sym e))) g
 
-  each-other : (u j t k : ℕ) → Within (P .threads) u → j < P .points u → Within (P .threads) t → suc k < P .points t → u ≢ t → All Q (acting P u j t k (P .code t k))
+  each-other : (u j t k : ℕ) → Within (P .threads) u → j < P .points u → Within (P .threads) t → suc k < P .points t → u ≢ t
+      → All Q (acting P u j t k (P .code t k))
   each-other u j t k w b v c q =
       below-in (λ j. All Q (acting P u j t k (P .code t k))) (asserted P u)
       (flat-in Q (λ j. acting P u j t k (P .code t k)) (below (asserted P u)) (differ u t k q
@@ -94,10 +99,12 @@ module _ (P : Program) (Q : Obligation → Type 0) (h : All Q (obligations P)) w
       (flat-in Q (λ k. flat (λ u. assertions P t k u) (upTo (P .threads))) (instructed P t)
       (up-in (λ t. All Q (flat (λ k. flat (λ u. assertions P t k u) (upTo (P .threads))) (instructed P t))) (P .threads)
       (flat-in Q (λ t. flat (λ k. flat (λ u. assertions P t k u) (upTo (P .threads))) (instructed P t)) (upTo (P .threads))
-      (All-right Q (steps P) (interferences P) (All-right Q (starts P) (steps P ++ interferences P) h))) t v)) k (omega arith))) u w))) j (omega arith)
+      (All-right Q (steps P) (interferences P) (All-right Q (starts P) (steps P ++ interferences P) h))) t v)) k (omega arith))) u w))) j
+      (omega arith)
 
 -- class 4 has every action, of each kind
-every-action : (P : Program) (u j t k : ℕ) (A : Access) (ns : List Note) → acting P u j t k (act A ns) ≡ Obligations.interference u j t k ∷ []
+every-action : (P : Program) (u j t k : ℕ) (A : Access) (ns : List Note)
+    → acting P u j t k (act A ns) ≡ Obligations.interference u j t k ∷ []
 every-action P u j t k none ns = refl
 every-action P u j t k (load a r x) ns = refl
 every-action P u j t k (write m x f) ns = refl
@@ -134,13 +141,15 @@ module _ (P : Program) (O : Outline) (W : WellFormed P O) (D : Proved P O) where
           (triple-moved (inv .wf) t p (touch A) (allNotes A ns) a b v z (may-pick A ns t p s may) h)
 
       -- so does what is derived of it
-      goes-on : (a b : Assertion) → Derived P (taking t (s .point t) (act A ns) a b) → T (startless a) → True P s a → True P (exec P (act A ns) t p s) b
+      goes-on : (a b : Assertion) → Derived P (taking t (s .point t) (act A ns) a b) → T (startless a) → True P s a
+          → True P (exec P (act A ns) t p s) b
       goes-on a b d = moves-on a b (derived-triple P (W .instructions) t (s .point t) (act A ns) e a b d)
 
       acted-wf : Wf P (exec P (act A ns) t p s)
       acted-wf =
           let k = pick-moved (inv .wf) t p (touch A) (may-pick A ns t p s may) in
-          subst (Wf P) halves (finish-wf P t (touch A) (allNotes A ns) (good P (P .points t) A ns its-proper) (pick (touch A) t p s) (k .wf) p (k .arrived))
+          subst (Wf P) halves (finish-wf P t (touch A) (allNotes A ns) (good P (P .points t) A ns its-proper) (pick (touch A) t p s)
+          (k .wf) p (k .arrived))
 
       -- only the acting thread's point changes, to the next one
       acted-points : exec P (act A ns) t p s .point ≡ upd (s .point) t (suc (s .point t))
@@ -158,12 +167,14 @@ module _ (P : Program) (O : Outline) (W : WellFormed P O) (D : Proved P O) where
       acted = record {
         wf = acted-wf;
         point = λ u b. subst (λ (z : ℕ → ℕ). z u < P .points u) (sym acted-points)
-            (by-word t (λ u. Within (P .threads) u → upd (s .point) t (suc (s .point t)) u < P .points u) (λ b. simp upds more) (λ u n b. simp upds (inv .point u b)) u b);
+            (by-word t (λ u. Within (P .threads) u → upd (s .point) t (suc (s .point t)) u < P .points u) (λ b. simp upds more)
+            (λ u n b. simp upds (inv .point u b)) u b);
         true-there = λ u b. subst (λ (z : ℕ → ℕ). True P (exec P (act A ns) t p s) (O u (z u))) (sym acted-points)
             (by-word t (λ u. Within (P .threads) u → True P (exec P (act A ns) t p s) (O u (upd (s .point) t (suc (s .point t)) u)))
             (λ b. simp upds (goes-on (O t (s .point t)) (O t (suc (s .point t))) next (no-start-at t b) (inv .true-there t b)))
             (λ u n b. simp upds (goes-on (bothA (O u (s .point u)) (O t (s .point t))) (O u (s .point u)) (kept u b n)
-            (and-both (startless (O u (s .point u))) (startless (O t (s .point t))) (no-start-at u b) (no-start-at t t-in)) (inv .true-there u b, inv .true-there t t-in)))
+            (and-both (startless (O u (s .point u))) (startless (O t (s .point t))) (no-start-at u b) (no-start-at t t-in))
+            (inv .true-there u b, inv .true-there t t-in)))
             u b);
       }
         where
@@ -179,7 +190,14 @@ module _ (P : Program) (O : Outline) (W : WellFormed P O) (D : Proved P O) where
     -- a branch that goes to the point k
     goes : (k : ℕ) → k < P .points t → True P s (O t k) → Inv P O (withPoint s t k)
     goes k b h = record {
-      wf = record { outer = inv .wf .outer; view-in = inv .wf .view-in; stored-in = inv .wf .stored-in; own = inv .wf .own; small = inv .wf .small; reg-small = inv .wf .reg-small };
+      wf = record {
+        outer = inv .wf .outer;
+        view-in = inv .wf .view-in;
+        stored-in = inv .wf .stored-in;
+        own = inv .wf .own;
+        small = inv .wf .small;
+        reg-small = inv .wf .reg-small;
+      };
       point = by-word t _ (λ c. simp upds b) (λ u n c. simp upds (inv .point u c));
       true-there = by-word t _ (λ c. simp upds (moved-on s t k (O t k) (W .no-start t k c b) h))
           (λ u n c. simp upds (moved-on s t k (O u (s .point u)) (no-start-at u c) (inv .true-there u c)));
@@ -192,7 +210,8 @@ module _ (P : Program) (O : Outline) (W : WellFormed P O) (D : Proved P O) where
         obs = subst (λ (i : Instr). All Wanted (own P t (s .point t) i)) q (each-step P Wanted D t (s .point t) t-in more)
 
         target : a < P .points t
-        target = ltb→lt a (P .points t) (and-right (only isReg e) (ltb a (P .points t)) (subst (λ (i : Instr). T (proper P (P .points t) i)) q (W .instructions t (s .point t) t-in more)))
+        target = ltb→lt a (P .points t) (and-right (only isReg e) (ltb a (P .points t))
+            (subst (λ (i : Instr). T (proper P (P .points t) i)) q (W .instructions t (s .point t) t-in more)))
 
         to-target : Derived P (implies (bothA (O t (s .point t)) (holds e)) (O t a))
         to-target = rw q at (obs .0)
@@ -202,7 +221,8 @@ module _ (P : Program) (O : Outline) (W : WellFormed P O) (D : Proved P O) where
 
         go : (b : Bool) → test (P .range) (onRegs (s .reg)) e ≡ b → Inv P O (withPoint s t (cond b a (suc (s .point t))))
         go true z = goes a target (derived-valid P (W .instructions) to-target s (inv .wf) (inv .true-there t t-in, is-true z))
-        go false z = goes (suc (s .point t)) more (derived-valid P (W .instructions) to-next s (inv .wf) (inv .true-there t t-in, subst (λ (b : Bool). T (not b)) (sym z) tt))
+        go false z = goes (suc (s .point t)) more (derived-valid P (W .instructions) to-next s (inv .wf)
+            (inv .true-there t t-in, subst (λ (b : Bool). T (not b)) (sym z) tt))
 
     stepped : (c : Instr) → instrAt P s t ≡ c → (p : ℕ) → T (allowed c t p s) → Inv P O (exec P c t p s)
     stepped (act A ns) e p may = acted A ns e p may
@@ -215,8 +235,12 @@ module _ (P : Program) (O : Outline) (W : WellFormed P O) (D : Proved P O) where
       go : (b : Bool) → permitted P m s ≡ b → Inv P O (cond b (exec P (instrAt P s (m .thread)) (m .thread) (m .position) s) s)
       go true e =
           let ok : T (permitted P m s) = is-true e in
-          let t-in : Within (P .threads) (m .thread) = (leb→le 1 (m .thread) (search (and-left, and-right)), leb→le (m .thread) (P .threads) (search (and-left, and-right))) in
-          let more : suc (s .point (m .thread)) < P .points (m .thread) = ltb→lt (suc (s .point (m .thread))) (P .points (m .thread)) (search (and-left, and-right)) in
+          let t-in : Within (P .threads) (m .thread) = (
+            leb→le 1 (m .thread) (search (and-left, and-right)),
+            leb→le (m .thread) (P .threads) (search (and-left, and-right)),
+          ) in
+          let more : suc (s .point (m .thread)) < P .points (m .thread) =
+          ltb→lt (suc (s .point (m .thread))) (P .points (m .thread)) (search (and-left, and-right)) in
           stepped s inv (m .thread) t-in more (instrAt P s (m .thread)) refl (m .position) (search (and-left, and-right))
       go false e = inv
 

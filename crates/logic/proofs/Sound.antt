@@ -64,10 +64,18 @@ module _ (P : Program) (t : ℕ) where
   pub finish-wf : (A : Touch) (ns : List Note) → Good P A ns → (s : State) → Wf P s → (p : ℕ) → Arrived A t p s → Wf P (finish P A ns t p s)
   finish-wf A ns g s wf p arr =
       let k = memory-wf A ns g s wf p arr in
-      record { outer = k .outer; view-in = k .view-in; stored-in = k .stored-in; own = k .own; small = k .small; reg-small = given-in A ns g s wf }
+      record {
+        outer = k .outer;
+        view-in = k .view-in;
+        stored-in = k .stored-in;
+        own = k .own;
+        small = k .small;
+        reg-small = given-in A ns g s wf;
+      }
 
 -- a proper instruction, as the halves ask for it
-bounded-notes : (P : Program) (ns : List Note) → T (all (λ (n : Note). properValue P (n .by)) ns) → T (all (λ (n : Note). bounded (P .range) (n .by)) ns)
+bounded-notes : (P : Program) (ns : List Note) → T (all (λ (n : Note). properValue P (n .by)) ns)
+    → T (all (λ (n : Note). bounded (P .range) (n .by)) ns)
 bounded-notes P [] h = tt
 bounded-notes P (n ∷ ns) h =
     and-both (bounded (P .range) (n .by)) (all (λ (n : Note). bounded (P .range) (n .by)) ns) (search (and-left, and-right))
@@ -81,7 +89,8 @@ good P n Machine.none ns h = bounded-notes P ns (search (and-left, and-right))
 good P n (Machine.load a r x) ns h = bounded-notes P ns (search (and-left, and-right))
 good P n (Machine.write m x f) ns h = go m (search (and-left, and-right)) (bounded-notes P ns (search (and-left, and-right)))
   where
-    go : (m : Mode) → T (within (P .words) x && (properValue P f && lacksResult m f)) → T (all (λ (n : Note). bounded (P .range) (n .by)) ns)
+    go : (m : Mode) → T (within (P .words) x && (properValue P f && lacksResult m f))
+        → T (all (λ (n : Note). bounded (P .range) (n .by)) ns)
         → Good P (touch (Machine.write m x f)) (allNotes (Machine.write m x f) ns)
     go (store b) h k = (is-in (P .words) x (search (and-left, and-right)), search (and-left, and-right), k)
     go swap h k = (is-in (P .words) x (search (and-left, and-right)), search (and-left, and-right), k)
@@ -126,7 +135,8 @@ module _ (R : ℕ) (ρ : View → Env) where
   rule-30 e f g [] s h = tt
   rule-30 e f g (v ∷ l) s h = (g v (s .0) (h .0), rule-30 e f g l (s .1) (h .1))
 
-  rule-45 : (e f : Test) (l : List View) → All (λ v. T (test R (ρ v) e)) l → All (λ v. T (test R (ρ v) f)) l → All (λ v. T (test R (ρ v) (and e f))) l
+  rule-45 : (e f : Test) (l : List View) → All (λ v. T (test R (ρ v) e)) l → All (λ v. T (test R (ρ v) f)) l
+      → All (λ v. T (test R (ρ v) (and e f))) l
   rule-45 e f [] h g = tt
   rule-45 e f (v ∷ l) h g = (and-both (test R (ρ v) e) (test R (ρ v) f) (h .0) (g .0), rule-45 e f l (h .1) (g .1))
 
@@ -137,7 +147,8 @@ one-of f g (inr h) = g h
 both-join : (a b : Name → Bool) (l : List Name) → T (all a l) → T (all b l) → T (all (λ n. a n && b n) l)
 both-join a b [] h g = tt
 both-join a b (n ∷ l) h g =
-    and-both (a n && b n) (all (λ n. a n && b n) l) (and-both (a n) (b n) (search and-left) (search and-left)) (both-join a b l (search and-right) (search and-right))
+    and-both (a n && b n) (all (λ n. a n && b n) l) (and-both (a n) (b n) (search and-left) (search and-left))
+    (both-join a b l (search and-right) (search and-right))
 
 -- rule 1's side condition, as the halves ask for it
 load-keeps : (a : Bool) (r x : ℕ) (n : Name) → T (notReg r n) → T (untouched (load a x) (allNotes (Machine.load a r x) []) n)
@@ -162,43 +173,52 @@ into-keeps r x f (n-word q) h = and-left (not (eqb q x)) true h
 into-keeps r x f (n-unsync q) h = and-left (not (eqb q x)) true h
 into-keeps r x f (n-cov q) h = and-left (not (eqb q x)) true h
 
-write-keeps : (m : Mode) (x : ℕ) (f : Value) (n : Name) → T (apart m x n) → T (untouched (touch (Machine.write m x f)) (allNotes (Machine.write m x f) []) n)
+write-keeps : (m : Mode) (x : ℕ) (f : Value) (n : Name) → T (apart m x n)
+    → T (untouched (touch (Machine.write m x f)) (allNotes (Machine.write m x f) []) n)
 write-keeps (store b) x f = word-keeps b false x f
 write-keeps swap x f = word-keeps true true x f
 write-keeps (exchange r) x f = into-keeps r x f
 write-keeps (fetchAdd r) x f = into-keeps r x (newValue (fetchAdd r) x f)
 
 module _ (P : Program) where
-  kept : (t n : ℕ) (c : Instr) (a : Assertion) → T (proper P n (first c)) → T (startless a) → T (keeps (first c) a) → ValidTriple P t (first c) a a
+  kept : (t n : ℕ) (c : Instr) (a : Assertion) → T (proper P n (first c)) → T (startless a) → T (keeps (first c) a)
+      → ValidTriple P t (first c) a a
   kept t n (act Machine.none ns) a ok z h = absurd h
   kept t n (act (Machine.load q r x) ns) a ok z h =
       rule-1 P t (load q x) (allNotes (Machine.load q r x) []) tt a z (all-weaken _ _ (load-keeps q r x) (names a) h)
   kept t n (act (Machine.write m x f) ns) a ok z h =
-      rule-1 P t (touch (Machine.write m x f)) (allNotes (Machine.write m x f) []) (good P n (Machine.write m x f) [] ok) a z (all-weaken _ _ (write-keeps m x f) (names a) h)
+      rule-1 P t (touch (Machine.write m x f)) (allNotes (Machine.write m x f) []) (good P n (Machine.write m x f) [] ok) a z
+      (all-weaken _ _ (write-keeps m x f) (names a) h)
   kept t n (branch e k) a ok z h = absurd h
 
   -- 14 to 16, of any instruction
-  both-triples : (t : ℕ) (c : Instr) (a b q r : Assertion) → ValidTriple P t c a q → ValidTriple P t c b r → ValidTriple P t c (bothA a b) (bothA q r)
+  both-triples : (t : ℕ) (c : Instr) (a b q r : Assertion) → ValidTriple P t c a q → ValidTriple P t c b r
+      → ValidTriple P t c (bothA a b) (bothA q r)
   both-triples t (act A ns) a b q r d e = λ s wf p arr h. (d s wf p arr (h .0), e s wf p arr (h .1))
   both-triples t (branch e k) a b q r d _ = tt
 
-  either-triples : (t : ℕ) (c : Instr) (a b q r : Assertion) → ValidTriple P t c a q → ValidTriple P t c b r → ValidTriple P t c (eitherA a b) (eitherA q r)
+  either-triples : (t : ℕ) (c : Instr) (a b q r : Assertion) → ValidTriple P t c a q → ValidTriple P t c b r
+      → ValidTriple P t c (eitherA a b) (eitherA q r)
   either-triples t (act A ns) a b q r d e = λ s wf p arr h. map-or (d s wf p arr) (e s wf p arr) h
   either-triples t (branch e k) a b q r d _ = tt
 
-  weakened : (t n : ℕ) (c : Instr) (a b q r : Assertion) → T (proper P n c) → Valid P (implies a b) → ValidTriple P t c b q → Valid P (implies q r) → ValidTriple P t c a r
-  weakened t n (act A ns) a b q r ok i d j = λ s wf p arr h. j _ (finish-wf P t (touch A) (allNotes A ns) (good P n A ns ok) s wf p arr) (d s wf p arr (i s wf h))
+  weakened : (t n : ℕ) (c : Instr) (a b q r : Assertion) → T (proper P n c) → Valid P (implies a b) → ValidTriple P t c b q
+      → Valid P (implies q r) → ValidTriple P t c a r
+  weakened t n (act A ns) a b q r ok i d j = λ s wf p arr h. j _ (finish-wf P t (touch A) (allNotes A ns) (good P n A ns ok) s wf p arr)
+      (d s wf p arr (i s wf h))
   weakened t n (branch e k) a b q r ok i d j = tt
 
   -- 5, 9, 13, 47: by the way the word is written
-  synced : (t x : ℕ) (m : Mode) (f : Value) (i : Interval) (q : Assertion) → T (covers m) → ValidTriple P t (act (Machine.write m x f) []) (sees t i) q
+  synced : (t x : ℕ) (m : Mode) (f : Value) (i : Interval) (q : Assertion) → T (covers m)
+      → ValidTriple P t (act (Machine.write m x f) []) (sees t i) q
       → ValidTriple P t (act (Machine.write m x f) []) (sees t (chop (box (unsync x)) i)) q
   synced t x (store b) f i q c = absurd c
   synced t x swap f i q c = rule-5-swap P t x [] i q f
   synced t x (exchange r) f i q c = rule-5-swap P t x (into r x []) i q f
   synced t x (fetchAdd r) f i q c = rule-5-swap P t x (into r x []) i q (sum (word x) f)
 
-  nine : (t x u : ℕ) (m : Mode) (f : Value) (e : Test) → T (not (returns m)) → Good P (touch (Machine.write m x f)) (allNotes (Machine.write m x f) [])
+  nine : (t x u : ℕ) (m : Mode) (f : Value) (e : Test) → T (not (returns m))
+      → Good P (touch (Machine.write m x f)) (allNotes (Machine.write m x f) [])
       → T (only isReg f) → T (only (notFlag x) e)
       → ValidTriple P t (act (Machine.write m x f) []) (bothA (sees u (box e)) (sees u (box (replace (wordBy x f) e)))) (sees u (box e))
   nine t x u (store b) f e c g p = rule-9 P t x f b false g p u e
@@ -216,14 +236,17 @@ module _ (P : Program) where
   apart-reg r x (n-unsync q) h = tt
   apart-reg r x (n-cov q) h = tt
 
-  thirteen-into : (t r x u : ℕ) (f : Value) (j : Interval) → Good P (write true true x f) (into r x []) → T (all (λ n. notWord x n && notReg r n) (names j))
-      → Triple P t (write true true x f) (into r x []) (bothA (sees t (C x)) (bothA (sees u (C x)) (sees t j))) (sees u (chop (box (cov x)) (chop (box (unsync x)) j)))
+  thirteen-into : (t r x u : ℕ) (f : Value) (j : Interval) → Good P (write true true x f) (into r x [])
+      → T (all (λ n. notWord x n && notReg r n) (names j))
+      → Triple P t (write true true x f) (into r x []) (bothA (sees t (C x)) (bothA (sees u (C x)) (sees t j)))
+      (sees u (chop (box (cov x)) (chop (box (unsync x)) j)))
   thirteen-into t r x u f j g c =
       with-notes P t (write true true x f) (into r x []) (bothA (sees t (C x)) (bothA (sees u (C x)) (sees t j)))
       (sees u (chop (box (cov x)) (chop (box (unsync x)) j))) tt (all-weaken _ _ (apart-reg r x) (names j) c)
       (rule-13 P t x f (g .0, g .1, tt) u j (all-weaken _ _ (apart-word r x) (names j) c))
 
-  thirteen : (t x u : ℕ) (m : Mode) (f : Value) (j : Interval) → T (covers m) → Good P (touch (Machine.write m x f)) (allNotes (Machine.write m x f) [])
+  thirteen : (t x u : ℕ) (m : Mode) (f : Value) (j : Interval) → T (covers m)
+      → Good P (touch (Machine.write m x f)) (allNotes (Machine.write m x f) [])
       → T (only (apart m x) j) → ValidTriple P t (act (Machine.write m x f) []) (bothA (sees t (C x)) (bothA (sees u (C x)) (sees t j)))
       (sees u (chop (box (cov x)) (chop (box (unsync x)) j)))
   thirteen t x u (store b) f j d g c = absurd d
@@ -239,7 +262,8 @@ module _ (P : Program) where
   forty-seven t x (fetchAdd r) f e c = rule-3 P t (write true true x (sum (word x) f)) (into r x []) e
 
   -- 50
-  paired : (t x : ℕ) (m : Mode) (f : Value) (ns : List Note) (p q : Assertion) → T (not (returns m)) → T (startless q) → T (all (λ (n : Note). only isReg (n .by)) ns)
+  paired : (t x : ℕ) (m : Mode) (f : Value) (ns : List Note) (p q : Assertion) → T (not (returns m)) → T (startless q)
+      → T (all (λ (n : Note). only isReg (n .by)) ns)
       → ValidTriple P t (act (Machine.write m x f) []) p (replace (notes ns) q) → ValidTriple P t (act (Machine.write m x f) ns) p q
   paired t x (store b) f ns p q c z k = rule-50 P t (write b false x f) ns p q z k
   paired t x swap f ns p q c z k = rule-50 P t (write true true x f) ns p q z k
@@ -251,7 +275,8 @@ module _ (P : Program) where
       → value (P .range) (at P (finish P (write true true x g) (into r x []) t p s) v) f ≡ workedAt P s t f
   operand t r x g f plain lacks s p v = value-agree (P .range) (record { same = rest }) f (both-join isReg (notReg r) (names f) plain lacks)
     where
-      rest : (n : Name) → T (isReg n && notReg r n) → Same (at P (finish P (write true true x g) (into r x []) t p s) v) (at P s (s .view t)) n
+      rest : (n : Name) → T (isReg n && notReg r n) → Same (at P (finish P (write true true x g) (into r x []) t p s) v)
+          (at P s (s .view t)) n
       rest (n-reg q) h = ap (workedAt P s t) (upd-other reg r (word x) q (not-eqb q r h))
       rest (n-word q) h = absurd h
       rest (n-unsync q) h = absurd h
@@ -259,30 +284,39 @@ module _ (P : Program) where
 
   -- fetch-add: the result register is the old value
   added : (t r x : ℕ) (f : Value) → T (only isReg f) → T (only (notReg r) f) → (s : State) (p : ℕ) (v : View)
-      → value (P .range) (at P (finish P (write true true x (sum (word x) f)) (into r x []) t p s) v) (sum (reg r) f) ≡ workedAt P s t (sum (word x) f)
+      → value (P .range) (at P (finish P (write true true x (sum (word x) f)) (into r x []) t p s) v) (sum (reg r) f) ≡ workedAt P s t
+      (sum (word x) f)
   added t r x f plain lacks s p v =
       ap₂ (λ m n. (m + n) % P .range) (ap (workedAt P s t) (upd-same reg r (word x))) (operand t r x (sum (word x) f) f plain lacks s p v)
 
   forty-eight : (t x : ℕ) (m : Mode) (f : Value) → T (returns m) → Good P (touch (Machine.write m x f)) (allNotes (Machine.write m x f) [])
-      → T (only isReg f) → T (lacksResult m f) → ValidTriple P t (act (Machine.write m x f) []) (sees t (C x)) (sees t (newest x (freshValue m f)))
+      → T (only isReg f) → T (lacksResult m f) → ValidTriple P t (act (Machine.write m x f) []) (sees t (C x))
+      (sees t (newest x (freshValue m f)))
   forty-eight t x (store b) f z g plain lacks = absurd z
   forty-eight t x swap f z g plain lacks = absurd z
   forty-eight t x (exchange r) f z g plain lacks = rule-48 P t x f f (into r x []) g (operand t r x f f plain lacks)
-  forty-eight t x (fetchAdd r) f z g plain lacks = rule-48 P t x (sum (word x) f) (sum (reg r) f) (into r x []) g (added t r x f plain lacks)
+  forty-eight t x (fetchAdd r) f z g plain lacks =
+      rule-48 P t x (sum (word x) f) (sum (reg r) f) (into r x []) g (added t r x f plain lacks)
 
   forty-nine : (t x u : ℕ) (m : Mode) (f : Value) → T (returns m) → Good P (touch (Machine.write m x f)) (allNotes (Machine.write m x f) [])
       → T (only isReg f) → T (lacksResult m f)
-      → ValidTriple P t (act (Machine.write m x f) []) (bothA (sees t (C x)) (sees u (C x))) (sees u (chop (box (cov x)) (newest x (freshValue m f))))
+      → ValidTriple P t (act (Machine.write m x f) []) (bothA (sees t (C x)) (sees u (C x)))
+      (sees u (chop (box (cov x)) (newest x (freshValue m f))))
   forty-nine t x u (store b) f z g plain lacks = absurd z
   forty-nine t x u swap f z g plain lacks = absurd z
   forty-nine t x u (exchange r) f z g plain lacks = rule-49 P t x f f (into r x []) g (operand t r x f f plain lacks) u
-  forty-nine t x u (fetchAdd r) f z g plain lacks = rule-49 P t x (sum (word x) f) (sum (reg r) f) (into r x []) g (added t r x f plain lacks) u
+  forty-nine t x u (fetchAdd r) f z g plain lacks =
+      rule-49 P t x (sum (word x) f) (sum (reg r) f) (into r x []) g (added t r x f plain lacks) u
 
   -- 26
   start-sees : (s : State) → Start P s → (t x : ℕ) → Sees P s t (newest x (const (P .init x)))
   start-sees s st t x (v ∷ l) pr =
-      let zeros : All (λ (w : View). w x ≡ 0) (v ∷ l) = All-map _ _ (λ w h. omega (arith, h .0 x, st .one-write x)) (v ∷ l) (from-all (s .size) (s .view t) (v ∷ l) pr) in
-      ((0, zeros), All-map _ _ (λ (w : View) e. is-true (eq-eqb (s .row x (w x) .value) (P .init x) (ap (λ i. s .row x i .value) e ∙ st .given-value x))) (v ∷ l) zeros)
+      let zeros : All (λ (w : View). w x ≡ 0) (v ∷ l) =
+      All-map _ _ (λ w h. omega (arith, h .0 x, st .one-write x)) (v ∷ l) (from-all (s .size) (s .view t) (v ∷ l) pr) in (
+        (0, zeros),
+        All-map _ _ (λ (w : View) e. is-true
+            (eq-eqb (s .row x (w x) .value) (P .init x) (ap (λ i. s .row x i .value) e ∙ st .given-value x))) (v ∷ l) zeros,
+      )
 
   -- 20: the implications among the premises
   implications : (ps : List Statement) → T (all isImp ps) → All (Valid P) ps → (s : State) → Wf P s
@@ -304,7 +338,8 @@ module _ (P : Program) where
 
     at-proper : (t k : ℕ) (a b : Assertion) → T (admittedAt P t k a b) → T (proper P (P .points t) (P .code t k))
     at-proper t k a b h =
-        ok t k (leb→le 1 t (search (and-left, and-right)), leb→le t (P .threads) (search (and-left, and-right))) (ltb→lt (suc k) (P .points t) (search (and-left, and-right)))
+        ok t k (leb→le 1 t (search (and-left, and-right)), leb→le t (P .threads) (search (and-left, and-right)))
+        (ltb→lt (suc k) (P .points t) (search (and-left, and-right)))
 
     its-proper : (s : Statement) → T (admitted P s) → Proper s
     its-proper (inside i j) h = tt
@@ -312,77 +347,102 @@ module _ (P : Program) where
     its-proper (triple t k a b) h = first-proper P (P .points t) (P .code t k) (at-proper t k a b h)
     its-proper (pair t k a b) h = at-proper t k a b h
 
-    its-good : (t k : ℕ) (A : Access) (ns : List Note) → half P t k ≡ act A ns → T (proper P (P .points t) (half P t k)) → Good P (touch A) (allNotes A ns)
+    its-good : (t k : ℕ) (A : Access) (ns : List Note) → half P t k ≡ act A ns → T (proper P (P .points t) (half P t k))
+        → Good P (touch A) (allNotes A ns)
     its-good t k A ns e h = good P (P .points t) A ns (subst (λ (z : Instr). T (proper P (P .points t) z)) e h)
 
     -- its formula is over registers
-    written : (t k : ℕ) (m : Mode) (x : ℕ) (f : Value) → half P t k ≡ act (Machine.write m x f) [] → T (proper P (P .points t) (half P t k)) → T (only isReg f)
+    written : (t k : ℕ) (m : Mode) (x : ℕ) (f : Value) → half P t k ≡ act (Machine.write m x f) []
+        → T (proper P (P .points t) (half P t k)) → T (only isReg f)
     written t k m x f e h =
-        let g : T (properAccess P (Machine.write m x f)) = and-left (properAccess P (Machine.write m x f)) true (subst (λ (z : Instr). T (proper P (P .points t) z)) e h) in
+        let g : T (properAccess P (Machine.write m x f)) =
+        and-left (properAccess P (Machine.write m x f)) true (subst (λ (z : Instr). T (proper P (P .points t) z)) e h) in
         search (and-left, and-right)
 
     -- it lacks the result register
-    unnamed : (t k : ℕ) (m : Mode) (x : ℕ) (f : Value) → half P t k ≡ act (Machine.write m x f) [] → T (proper P (P .points t) (half P t k)) → T (lacksResult m f)
+    unnamed : (t k : ℕ) (m : Mode) (x : ℕ) (f : Value) → half P t k ≡ act (Machine.write m x f) []
+        → T (proper P (P .points t) (half P t k)) → T (lacksResult m f)
     unnamed t k m x f e h =
-        let g : T (properAccess P (Machine.write m x f)) = and-left (properAccess P (Machine.write m x f)) true (subst (λ (z : Instr). T (proper P (P .points t) z)) e h) in
+        let g : T (properAccess P (Machine.write m x f)) =
+        and-left (properAccess P (Machine.write m x f)) true (subst (λ (z : Instr). T (proper P (P .points t) z)) e h) in
         search (and-left, and-right)
 
     -- its notes are
-    noted-plain : (t k : ℕ) (A : Access) (ns : List Note) → P .code t k ≡ act A ns → T (proper P (P .points t) (P .code t k)) → T (all (λ (n : Note). only isReg (n .by)) ns)
-    noted-plain t k A ns e h = go ns (and-right (properAccess P A) (all (λ (n : Note). properValue P (n .by)) ns) (subst (λ (z : Instr). T (proper P (P .points t) z)) e h))
+    noted-plain : (t k : ℕ) (A : Access) (ns : List Note) → P .code t k ≡ act A ns → T (proper P (P .points t) (P .code t k))
+        → T (all (λ (n : Note). only isReg (n .by)) ns)
+    noted-plain t k A ns e h = go ns (and-right (properAccess P A) (all (λ (n : Note). properValue P (n .by)) ns)
+        (subst (λ (z : Instr). T (proper P (P .points t) z)) e h))
       where
         go : (ns : List Note) → T (all (λ (n : Note). properValue P (n .by)) ns) → T (all (λ (n : Note). only isReg (n .by)) ns)
         go [] h = tt
-        go (n ∷ ns) h = and-both (only isReg (n .by)) (all (λ (n : Note). only isReg (n .by)) ns) (search (and-left, and-right)) (go ns (search (and-left, and-right)))
+        go (n ∷ ns) h = and-both (only isReg (n .by)) (all (λ (n : Note). only isReg (n .by)) ns) (search (and-left, and-right))
+            (go ns (search (and-left, and-right)))
 
     pub sound : (n : Rule) (s : Statement) (ps : List Statement) → Inference P n ps s → T (admitted P s) → All (Valid P) ps → Valid P s
-    sound n s ps (Inference.i1 {t = t} {k = k} {p = p} c) h vs = kept t (P .points t) (P .code t k) p (its-proper s h) (search (and-left, and-right)) c
+    sound n s ps (Inference.i1 {t = t} {k = k} {p = p} c) h vs =
+        kept t (P .points t) (P .code t k) p (its-proper s h) (search (and-left, and-right)) c
     sound n s ps (Inference.i2 {t = t} {k = k} {ns = ns} {q = q} e) h vs =
         rw e (rule-2 P t ns q (search (and-left, and-right)) (noted-plain t k Machine.none ns e (at-proper t k (replace (notes ns) q) q h)))
-    sound n s ps (Inference.i3 {t = t} {r = r} {x = x} {acq = acq} {e = e} c) h vs = rw c (rule-3 P t (load acq x) (allNotes (Machine.load acq r x) []) e (search (and-left, and-right)))
+    sound n s ps (Inference.i3 {t = t} {r = r} {x = x} {acq = acq} {e = e} c) h vs =
+        rw c (rule-3 P t (load acq x) (allNotes (Machine.load acq r x) []) e (search (and-left, and-right)))
     sound n s ps (Inference.i4 {t = t} {r = r} {x = x} {acq = acq} {e = e} {i = i} {q = q} c) h vs =
         rw c (rule-4 P t (load acq x) (allNotes (Machine.load acq r x) []) e (search (and-left, and-right)) i q (rw c at (vs .0)))
-    sound n s ps (Inference.i5-load {t = t} {r = r} {x = x} {i = i} {q = q} e) h vs = rw e (rule-5-load P t x (allNotes (Machine.load true r x) []) i q (rw e at (vs .0)))
-    sound n s ps (Inference.i5-swap {t = t} {x = x} {m = m} {f = f} {i = i} {q = q} e c) h vs = rw e (synced t x m f i q c (rw e at (vs .0)))
+    sound n s ps (Inference.i5-load {t = t} {r = r} {x = x} {i = i} {q = q} e) h vs =
+        rw e (rule-5-load P t x (allNotes (Machine.load true r x) []) i q (rw e at (vs .0)))
+    sound n s ps (Inference.i5-swap {t = t} {x = x} {m = m} {f = f} {i = i} {q = q} e c) h vs =
+        rw e (synced t x m f i q c (rw e at (vs .0)))
     sound n s ps (Inference.i6 {t = t} {k = k} {x = x} {rel = rel} {f = f} e) h vs =
-        rw e (rule-6 P t x f rel (its-good t k (Machine.write (store rel) x f) [] e (its-proper s h)) (written t k (store rel) x f e (its-proper s h)))
+        rw e (rule-6 P t x f rel (its-good t k (Machine.write (store rel) x f) [] e (its-proper s h))
+        (written t k (store rel) x f e (its-proper s h)))
     sound n s ps (Inference.i7 {t = t} {k = k} {x = x} {u = u} {rel = rel} {f = f} {i = i} e) h vs =
-        rw e (rule-7 P t x f rel (its-good t k (Machine.write (store rel) x f) [] e (its-proper s h)) (written t k (store rel) x f e (its-proper s h)) u i)
+        rw e (rule-7 P t x f rel (its-good t k (Machine.write (store rel) x f) [] e (its-proper s h))
+        (written t k (store rel) x f e (its-proper s h)) u i)
     sound n s ps (Inference.i8 {t = t} {k = k} {x = x} {u = u} {f = f} {i = i} {j = j} e c) h vs =
         rw e (rule-8 P t x f (its-good t k (Machine.write (store true) x f) [] e (its-proper s h)) u i j c)
     sound n s ps (Inference.i9 {t = t} {k = k} {x = x} {u = u} {m = m} {f = f} {e = e} q d c) h vs =
         rw q (nine t x u m f e d (its-good t k (Machine.write m x f) [] q (its-proper s h)) (written t k m x f q (its-proper s h)) c)
-    sound n s ps (Inference.i10 {t = t} {x = x} {m = m} {f = f} {i = i} {q = q} e) h vs = rw e (rule-10 P t x (allNotes (Machine.write m x f) []) i q (releases m) (covers m) (newValue m x f) (rw e at (vs .0)))
+    sound n s ps (Inference.i10 {t = t} {x = x} {m = m} {f = f} {i = i} {q = q} e) h vs =
+        rw e (rule-10 P t x (allNotes (Machine.write m x f) []) i q (releases m) (covers m) (newValue m x f) (rw e at (vs .0)))
     sound n s ps (Inference.i11 {t = t} {k = k} {x = x} {f = f} e) h vs =
         rw e (rule-11 P t x f (its-good t k (Machine.write swap x f) [] e (its-proper s h)) (written t k swap x f e (its-proper s h)))
     sound n s ps (Inference.i12 {t = t} {k = k} {x = x} {u = u} {f = f} e) h vs =
         rw e (rule-12 P t x f (its-good t k (Machine.write swap x f) [] e (its-proper s h)) (written t k swap x f e (its-proper s h)) u)
     sound n s ps (Inference.i13 {t = t} {k = k} {x = x} {u = u} {m = m} {f = f} {j = j} e d c) h vs =
         rw e (thirteen t x u m f j d (its-good t k (Machine.write m x f) [] e (its-proper s h)) c)
-    sound n s ps (Inference.i47 {t = t} {x = x} {m = m} {f = f} {e = e} q c) h vs = rw q (forty-seven t x m f e c (search (and-left, and-right)))
+    sound n s ps (Inference.i47 {t = t} {x = x} {m = m} {f = f} {e = e} q c) h vs =
+        rw q (forty-seven t x m f e c (search (and-left, and-right)))
     sound n s ps (Inference.i48 {t = t} {k = k} {x = x} {m = m} {f = f} e z) h vs =
-        rw e (forty-eight t x m f z (its-good t k (Machine.write m x f) [] e (its-proper s h)) (written t k m x f e (its-proper s h)) (unnamed t k m x f e (its-proper s h)))
+        rw e (forty-eight t x m f z (its-good t k (Machine.write m x f) [] e (its-proper s h)) (written t k m x f e (its-proper s h))
+        (unnamed t k m x f e (its-proper s h)))
     sound n s ps (Inference.i49 {t = t} {k = k} {x = x} {u = u} {m = m} {f = f} e z) h vs =
-        rw e (forty-nine t x u m f z (its-good t k (Machine.write m x f) [] e (its-proper s h)) (written t k m x f e (its-proper s h)) (unnamed t k m x f e (its-proper s h)))
+        rw e (forty-nine t x u m f z (its-good t k (Machine.write m x f) [] e (its-proper s h)) (written t k m x f e (its-proper s h))
+        (unnamed t k m x f e (its-proper s h)))
     sound n s ps (Inference.i50 {t = t} {k = k} {x = x} {m = m} {f = f} {n = r} {ns = ns} {p = p} {q = q} e c) h vs =
-        rw e (paired t x m f (r ∷ ns) p q c (search (and-left, and-right)) (noted-plain t k (Machine.write m x f) (r ∷ ns) e (its-proper s h)) (rw e at (vs .0)))
-    sound n s ps (Inference.i14 {t = t} {k = k} {a = a} {b = b} {q = q} {r = r} z) h vs = both-triples t (half P t k) a b q r (vs .0) (vs .1 .0)
-    sound n s ps (Inference.i15 {t = t} {k = k} {a = a} {b = b} {q = q} {r = r} z) h vs = either-triples t (half P t k) a b q r (vs .0) (vs .1 .0)
+        rw e (paired t x m f (r ∷ ns) p q c (search (and-left, and-right))
+        (noted-plain t k (Machine.write m x f) (r ∷ ns) e (its-proper s h)) (rw e at (vs .0)))
+    sound n s ps (Inference.i14 {t = t} {k = k} {a = a} {b = b} {q = q} {r = r} z) h vs =
+        both-triples t (half P t k) a b q r (vs .0) (vs .1 .0)
+    sound n s ps (Inference.i15 {t = t} {k = k} {a = a} {b = b} {q = q} {r = r} z) h vs =
+        either-triples t (half P t k) a b q r (vs .0) (vs .1 .0)
     sound n s ps (Inference.i16 {t = t} {k = k} {a = a} {b = b} {q = q} {r = r} z) h vs =
         weakened t (P .points t) (half P t k) a b q r (its-proper s h) (vs .0) (vs .1 .0) (vs .1 .1 .0)
     sound n s ps (Inference.i20 {a = a} {b = b} l i c) h vs = λ s wf g.
-        rule-20 P s (map impOf ps) (record { left = a; right = b }) (by-table (map impOf ps) (record { left = a; right = b }) c) (implications ps i vs s wf) g
+        rule-20 P s (map impOf ps) (record { left = a; right = b }) (by-table (map impOf ps) (record { left = a; right = b }) c)
+        (implications ps i vs s wf) g
     sound n s ps (Inference.i21 {e = e} {f = f} c) h vs = λ s wf g. by-rows (P .range) e f c (onRegs (s .reg)) (small-held wf) g
     sound n s ps (Inference.i22 {t = t}) h vs = λ s wf g l pr. vs .0 (at P s) l (small-all wf t l pr) (g l pr)
     sound n s ps (Inference.i23 {t = t} {e = e} {f = f} c) h vs = λ s wf g.
         subst T (at-held wf (s .view t) f h)
-        (by-rows (P .range) e f c (at P s (s .view t)) (small-at wf (s .view t) (wf .view-in t)) (g (s .view t ∷ []) (wf .view-in t, (λ y. omega arith), tt) .0))
+        (by-rows (P .range) e f c (at P s (s .view t)) (small-at wf (s .view t) (wf .view-in t))
+        (g (s .view t ∷ []) (wf .view-in t, (λ y. omega arith), tt) .0))
     sound n s ps (Inference.i24 {t = t} {e = e} {f = f} c) h vs = λ s wf g l pr.
-        All-map _ _ (λ v k. by-rows (P .range) e f c (at P s v) k (subst T (sym (at-held wf v e (and-left (only isReg e) true h))) g)) l (small-all wf t l pr)
+        All-map _ _ (λ v k. by-rows (P .range) e f c (at P s v) k (subst T (sym (at-held wf v e (and-left (only isReg e) true h))) g)) l
+        (small-all wf t l pr)
     sound n s ps Inference.i25 h vs = λ s wf g l pr. (g .0 l pr, g .1 l pr)
     sound n s ps (Inference.i26 {t = t} {x = x}) h vs = λ s wf g. start-sees s g t x
     sound n s ps (Inference.i27 {r = r} c) h vs = λ s wf g. is-true (eq-eqb (s .reg r) 0 (g .registers r c))
-    sound n s ps (Inference.i30 {e = e} {f = f} c) h vs = λ ρ l small g. rule-30 (P .range) ρ e f (λ v. by-rows (P .range) e f c (ρ v)) l small g
+    sound n s ps (Inference.i30 {e = e} {f = f} c) h vs =
+        λ ρ l small g. rule-30 (P .range) ρ e f (λ v. by-rows (P .range) e f c (ρ v)) l small g
     sound n s ps Inference.i31 h vs = λ ρ l small g. vs .1 .0 ρ l small (vs .0 ρ l small g)
     sound n s ps Inference.i32 h vs = λ ρ l small g.
         (g .0, vs .0 ρ (take (g .0) l) (All-take _ (g .0) l small) (g .1), vs .1 .0 ρ (drop (g .0) l) (All-drop _ (g .0) l small) (g .2))

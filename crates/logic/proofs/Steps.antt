@@ -47,7 +47,8 @@ module _ (P : Program) (t p : ℕ) where
       to-new : moveTo x p (upd (s .view) t v t) ≡ moveTo x p w
       to-new = ap (moveTo x p) (upd-same (s .view) t v) ∙ e
 
-      views : upd (λ u. upView x p (upd (s .view) t v u)) t (moveTo x p (upd (s .view) t v t)) ≡ upd (λ u. upView x p (s .view u)) t (moveTo x p w)
+      views : upd (λ u. upView x p (upd (s .view) t v u)) t (moveTo x p (upd (s .view) t v t)) ≡ upd (λ u. upView x p (s .view u)) t
+          (moveTo x p w)
       views = fun-ext (by-word t _ (simp upds e) (λ u n. simp upds))
 
   -- the new write's place is not the picked one's: whether the view moved to the picked write first makes no difference
@@ -57,7 +58,8 @@ module _ (P : Program) (t p : ℕ) where
   swap-over : (x : ℕ) (s : State) → moveTo x p (readView s true t x p) ≡ moveTo x p (swapView s t x p)
   swap-over x s = go (s .row x p .releasing)
     where
-      go : (b : Bool) → moveTo x p (cond b (join (s .view t) (s .row x p .stored)) (upd (s .view t) x p)) ≡ moveTo x p (cond b (join (s .view t) (s .row x p .stored)) (s .view t))
+      go : (b : Bool) → moveTo x p (cond b (join (s .view t) (s .row x p .stored)) (upd (s .view t) x p)) ≡ moveTo x p
+          (cond b (join (s .view t) (s .row x p .stored)) (s .view t))
       go true = refl
       go false = move-over x (s .view t)
 
@@ -76,26 +78,33 @@ module _ (P : Program) (t p : ℕ) where
 
     swap-halves : (x : ℕ) (f : Value) (n : ℕ) → workedAt P (withView s t (readView s true t x p)) t f ≡ n
         → memory P (Halves.write true true x f) t p (withView s t (readView s true t x p)) ≡ swapped x n t p s
-    swap-halves x f n e = moved-first x true (workedAt P (withView s t (readView s true t x p)) t f) n (readView s true t x p) (swapView s t x p) (cover x p s) e (swap-over x s)
+    swap-halves x f n e = moved-first x true (workedAt P (withView s t (readView s true t x p)) t f) n (readView s true t x p)
+        (swapView s t x p) (cover x p s) e (swap-over x s)
 
-    memory-halves : (A : Access) → T (properAccess P A) → T (allowed (act A ns) t p s) → memory P (touch A) t p (pick (touch A) t p s) ≡ shared P A t p s
+    memory-halves : (A : Access) → T (properAccess P A) → T (allowed (act A ns) t p s)
+        → memory P (touch A) t p (pick (touch A) t p s) ≡ shared P A t p s
     memory-halves none ok may = refl
     memory-halves (load a r x) ok may = refl
     memory-halves (write (store releasing) x f) ok may =
         moved-first x releasing (workedAt P (withView s t (upd (s .view t) x p)) t f) (worked P s f) (upd (s .view t) x p) (s .view t) s
         (operand f (search (and-left, and-right)) (upd (s .view t) x p)) (move-over x (s .view t))
-    memory-halves (write swap x f) ok may = swap-halves x f (worked P s f) (operand f (search (and-left, and-right)) (readView s true t x p))
-    memory-halves (write (exchange r) x f) ok may = swap-halves x f (worked P s f) (operand f (search (and-left, and-right)) (readView s true t x p))
+    memory-halves (write swap x f) ok may = swap-halves x f (worked P s f)
+        (operand f (search (and-left, and-right)) (readView s true t x p))
+    memory-halves (write (exchange r) x f) ok may =
+        swap-halves x f (worked P s f) (operand f (search (and-left, and-right)) (readView s true t x p))
     memory-halves (write (fetchAdd r) x f) ok may =
         swap-halves x (sum (word x) f) ((s .row x p .value + worked P s f) % P .range)
-        (ap₂ (λ m n. (m + n) % P .range) (ap (λ i. s .row x i .value) (pick-moved wf t p (Halves.write true true x f) may .arrived .0 .here)) (operand f (search (and-left, and-right)) (readView s true t x p)))
+        (ap₂ (λ m n. (m + n) % P .range) (ap (λ i. s .row x i .value)
+        (pick-moved wf t p (Halves.write true true x f) may .arrived .0 .here))
+        (operand f (search (and-left, and-right)) (readView s true t x p)))
 
     -- the registers
     into-halves : T (all (λ (n : Note). properValue P (n .by)) ns) → (r x : ℕ) (v : View) → withView s t v .view t x ≡ p
         → (q : ℕ) → workedAt P (withView s t v) t (noted (into r x ns) q) ≡ upd (given P s ns (s .reg)) r (s .row x p .value) q
     into-halves ok r x v here =
         by-word r _
-        (ap (workedAt P (withView s t v) t) (upd-same (noted ns) r (word x)) ∙ ap (λ i. s .row x i .value) here ∙ sym (upd-same (given P s ns (s .reg)) r (s .row x p .value)))
+        (ap (workedAt P (withView s t v) t) (upd-same (noted ns) r (word x)) ∙ ap (λ i. s .row x i .value) here
+        ∙ sym (upd-same (given P s ns (s .reg)) r (s .row x p .value)))
         (λ q n. ap (workedAt P (withView s t v) t) (upd-other (noted ns) r (word x) q n)
         ∙ notes-halves ns ok s (withView s t v) refl q ∙ sym (upd-other (given P s ns (s .reg)) r (s .row x p .value) q n))
 
@@ -105,12 +114,15 @@ module _ (P : Program) (t p : ℕ) where
     regs-halves (load a r x) ok may = into-halves ok r x (readView s a t x p) (pick-moved wf t p (Halves.load a x) may .arrived .here)
     regs-halves (write (store b) x f) ok may = notes-halves ns ok s (pick (touch (write (store b) x f)) t p s) refl
     regs-halves (write swap x f) ok may = notes-halves ns ok s (pick (touch (write swap x f)) t p s) refl
-    regs-halves (write (exchange r) x f) ok may = into-halves ok r x (readView s true t x p) (pick-moved wf t p (Halves.write true true x f) may .arrived .0 .here)
-    regs-halves (write (fetchAdd r) x f) ok may = into-halves ok r x (readView s true t x p) (pick-moved wf t p (Halves.write true true x f) may .arrived .0 .here)
+    regs-halves (write (exchange r) x f) ok may = into-halves ok r x (readView s true t x p)
+        (pick-moved wf t p (Halves.write true true x f) may .arrived .0 .here)
+    regs-halves (write (fetchAdd r) x f) ok may = into-halves ok r x (readView s true t x p)
+        (pick-moved wf t p (Halves.write true true x f) may .arrived .0 .here)
 
     pub exec-halves : (n : ℕ) (A : Access) → T (proper P n (act A ns)) → T (allowed (act A ns) t p s)
         → finish P (touch A) (allNotes A ns) t p (pick (touch A) t p s) ≡ exec P (act A ns) t p s
-    exec-halves n A ok may = go A (memory-halves A (search (and-left, and-right)) may) (fun-ext (regs-halves A (search (and-left, and-right)) may))
+    exec-halves n A ok may = go A (memory-halves A (search (and-left, and-right)) may)
+        (fun-ext (regs-halves A (search (and-left, and-right)) may))
       where
         go : (A : Access) → memory P (touch A) t p (pick (touch A) t p s) ≡ shared P A t p s
             → (λ (q : ℕ). workedAt P (pick (touch A) t p s) t (noted (allNotes A ns) q)) ≡ returned A p s (given P s ns (s .reg))

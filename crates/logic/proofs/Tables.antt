@@ -42,20 +42,25 @@ module _ (μ ν : Leaf → ℕ) where
   same-test (equal a b) h = ap (λ (n : ℕ). eqb n 1) (h .0)
   same-test (less a b) h = ap (λ (n : ℕ). eqb n 1) (h .0)
   same-test (Formula.not e) h = ap not (same-test e h)
-  same-test (and e f) h = ap₂ _&&_ (same-test e (All-left Same (leavesT e) (leavesT f) h)) (same-test f (All-right Same (leavesT e) (leavesT f) h))
-  same-test (or e f) h = ap₂ _||_ (same-test e (All-left Same (leavesT e) (leavesT f) h)) (same-test f (All-right Same (leavesT e) (leavesT f) h))
+  same-test (and e f) h = ap₂ _&&_ (same-test e (All-left Same (leavesT e) (leavesT f) h))
+      (same-test f (All-right Same (leavesT e) (leavesT f) h))
+  same-test (or e f) h = ap₂ _||_ (same-test e (All-left Same (leavesT e) (leavesT f) h))
+      (same-test f (All-right Same (leavesT e) (leavesT f) h))
   same-test (unsync x) h = ap (λ (n : ℕ). eqb n 1) (h .0)
   same-test (cov x) h = ap (λ (n : ℕ). eqb n 1) (h .0)
 
   same-asn : (a : Assertion) → All Same (leaves a) → inRow μ a ≡ inRow ν a
   same-asn (sees t i) h = ap (λ (n : ℕ). eqb n 1) (h .0)
-  same-asn (bothA a b) h = ap₂ _&&_ (same-asn a (All-left Same (leaves a) (leaves b) h)) (same-asn b (All-right Same (leaves a) (leaves b) h))
-  same-asn (eitherA a b) h = ap₂ _||_ (same-asn a (All-left Same (leaves a) (leaves b) h)) (same-asn b (All-right Same (leaves a) (leaves b) h))
+  same-asn (bothA a b) h = ap₂ _&&_ (same-asn a (All-left Same (leaves a) (leaves b) h))
+      (same-asn b (All-right Same (leaves a) (leaves b) h))
+  same-asn (eitherA a b) h = ap₂ _||_ (same-asn a (All-left Same (leaves a) (leaves b) h))
+      (same-asn b (All-right Same (leaves a) (leaves b) h))
   same-asn start h = ap (λ (n : ℕ). eqb n 1) (h .0)
   same-asn (holds e) h = same-test e h
 
   same-imp : (p : Imp) → All Same (leaves (p .left) ++ leaves (p .right)) → impRow μ p ≡ impRow ν p
-  same-imp p h = ap₂ (λ a b. not a || b) (same-asn (p .left) (All-left Same (leaves (p .left)) (leaves (p .right)) h)) (same-asn (p .right) (All-right Same (leaves (p .left)) (leaves (p .right)) h))
+  same-imp p h = ap₂ (λ a b. not a || b) (same-asn (p .left) (All-left Same (leaves (p .left)) (leaves (p .right)) h))
+      (same-asn (p .right) (All-right Same (leaves (p .left)) (leaves (p .right)) h))
 
   same-all : (ps : List Imp) → All Same (leavesAll ps) → all (impRow μ) ps ≡ all (impRow ν) ps
   same-all [] h = refl

@@ -19,7 +19,8 @@ pub record Claim : Type 0 where
 
 -- in no state of a run, from any start, are both threads at their points
 pub record NeverBoth (P : Program) (c : Claim) : Type 0 where
-  pub never : (s : State) → Start P s → (l : List Step) → run P s l .point (c .thread) ≡ c .point → run P s l .point (c .other) ≡ c .otherPoint → ⊥
+  pub never : (s : State) → Start P s → (l : List Step) → run P s l .point (c .thread) ≡ c .point
+      → run P s l .point (c .other) ≡ c .otherPoint → ⊥
 
 -- its threads are there
 abbrev pub threadsIn : Program → Claim → Type 0

@@ -50,14 +50,17 @@ keeps (branch e k) a = false
 pub data Inference (P : Program) : Rule → List Statement → Statement → Type 0 where
   i1 : {t k : ℕ} {p : Assertion} → T (keeps (half P t k) p) → Inference P r1 [] (triple t k p p)
   i2 : {t k : ℕ} {ns : List Note} {q : Assertion} → P .code t k ≡ act none ns → Inference P r2 [] (triple t k (replace (notes ns) q) q)
-  i3 : {t k r x : ℕ} {acq : Bool} {e : Test} → half P t k ≡ act (load acq r x) [] → Inference P r3 [] (triple t k (sees t (box (replace (regBy r (word x)) e))) (holds e))
+  i3 : {t k r x : ℕ} {acq : Bool} {e : Test} → half P t k ≡ act (load acq r x) []
+      → Inference P r3 [] (triple t k (sees t (box (replace (regBy r (word x)) e))) (holds e))
   i4 : {t k r x : ℕ} {acq : Bool} {e : Test} {i : Interval} {q : Assertion} → half P t k ≡ act (load acq r x) []
-      → Inference P r4 (triple t k (sees t i) q ∷ []) (triple t k (sees t (chop (box (replace (regBy r (word x)) e)) i)) (eitherA (holds e) q))
+      → Inference P r4 (triple t k (sees t i) q ∷ [])
+      (triple t k (sees t (chop (box (replace (regBy r (word x)) e)) i)) (eitherA (holds e) q))
   i5-load : {t k r x : ℕ} {i : Interval} {q : Assertion} → half P t k ≡ act (load true r x) []
       → Inference P r5 (triple t k (sees t i) q ∷ []) (triple t k (sees t (chop (box (unsync x)) i)) q)
   i5-swap : {t k x : ℕ} {m : Mode} {f : Value} {i : Interval} {q : Assertion} → half P t k ≡ act (write m x f) [] → T (covers m)
       → Inference P r5 (triple t k (sees t i) q ∷ []) (triple t k (sees t (chop (box (unsync x)) i)) q)
-  i6 : {t k x : ℕ} {rel : Bool} {f : Value} → half P t k ≡ act (write (store rel) x f) [] → Inference P r6 [] (triple t k (sees t (one x)) (sees t (newest x f)))
+  i6 : {t k x : ℕ} {rel : Bool} {f : Value} → half P t k ≡ act (write (store rel) x f) []
+      → Inference P r6 [] (triple t k (sees t (one x)) (sees t (newest x f)))
   i7 : {t k x u : ℕ} {rel : Bool} {f : Value} {i : Interval} → half P t k ≡ act (write (store rel) x f) []
       → Inference P r7 [] (triple t k (bothA (sees t (one x)) (sees u i)) (sees u (chop i (newest x f))))
   i8 : {t k x u : ℕ} {f : Value} {i j : Interval} → half P t k ≡ act (write (store true) x f) [] → T (only (notWord x) j)
@@ -66,23 +69,30 @@ pub data Inference (P : Program) : Rule → List Statement → Statement → Typ
       → Inference P r9 [] (triple t k (bothA (sees u (box e)) (sees u (box (replace (wordBy x f) e)))) (sees u (box e)))
   i10 : {t k x : ℕ} {m : Mode} {f : Value} {i : Interval} {q : Assertion} → half P t k ≡ act (write m x f) []
       → Inference P r10 (triple t k (sees t i) q ∷ []) (triple t k (sees t (chop (box (cov x)) i)) q)
-  i11 : {t k x : ℕ} {f : Value} → half P t k ≡ act (write swap x f) [] → Inference P r11 [] (triple t k (sees t (C x)) (sees t (newest x f)))
+  i11 : {t k x : ℕ} {f : Value} → half P t k ≡ act (write swap x f) []
+      → Inference P r11 [] (triple t k (sees t (C x)) (sees t (newest x f)))
   i12 : {t k x u : ℕ} {f : Value} → half P t k ≡ act (write swap x f) []
       → Inference P r12 [] (triple t k (bothA (sees t (C x)) (sees u (C x))) (sees u (chop (box (cov x)) (newest x f))))
   i13 : {t k x u : ℕ} {m : Mode} {f : Value} {j : Interval} → half P t k ≡ act (write m x f) [] → T (covers m) → T (only (apart m x) j)
-      → Inference P r13 [] (triple t k (bothA (sees t (C x)) (bothA (sees u (C x)) (sees t j))) (sees u (chop (box (cov x)) (chop (box (unsync x)) j))))
-  i14 : {t k : ℕ} {a b q r : Assertion} → T (not (isBranch (half P t k))) → Inference P r14 (triple t k a q ∷ triple t k b r ∷ []) (triple t k (bothA a b) (bothA q r))
-  i15 : {t k : ℕ} {a b q r : Assertion} → T (not (isBranch (half P t k))) → Inference P r15 (triple t k a q ∷ triple t k b r ∷ []) (triple t k (eitherA a b) (eitherA q r))
-  i16 : {t k : ℕ} {a b q r : Assertion} → T (not (isBranch (half P t k))) → Inference P r16 (implies a b ∷ triple t k b q ∷ implies q r ∷ []) (triple t k a r)
+      → Inference P r13 [] (triple t k (bothA (sees t (C x)) (bothA (sees u (C x)) (sees t j)))
+      (sees u (chop (box (cov x)) (chop (box (unsync x)) j))))
+  i14 : {t k : ℕ} {a b q r : Assertion} → T (not (isBranch (half P t k)))
+      → Inference P r14 (triple t k a q ∷ triple t k b r ∷ []) (triple t k (bothA a b) (bothA q r))
+  i15 : {t k : ℕ} {a b q r : Assertion} → T (not (isBranch (half P t k)))
+      → Inference P r15 (triple t k a q ∷ triple t k b r ∷ []) (triple t k (eitherA a b) (eitherA q r))
+  i16 : {t k : ℕ} {a b q r : Assertion} → T (not (isBranch (half P t k)))
+      → Inference P r16 (implies a b ∷ triple t k b q ∷ implies q r ∷ []) (triple t k a r)
   i47 : {t k x : ℕ} {m : Mode} {f : Value} {e : Test} → half P t k ≡ act (write m x f) [] → T (returns m)
       → Inference P r47 [] (triple t k (sees t (box (replace (regBy (resultOf m) (word x)) e))) (holds e))
   i48 : {t k x : ℕ} {m : Mode} {f : Value} → half P t k ≡ act (write m x f) [] → T (returns m)
       → Inference P r48 [] (triple t k (sees t (C x)) (sees t (newest x (freshValue m f))))
   i49 : {t k x u : ℕ} {m : Mode} {f : Value} → half P t k ≡ act (write m x f) [] → T (returns m)
       → Inference P r49 [] (triple t k (bothA (sees t (C x)) (sees u (C x))) (sees u (chop (box (cov x)) (newest x (freshValue m f)))))
-  i50 : {t k x : ℕ} {m : Mode} {f : Value} {n : Note} {ns : List Note} {p q : Assertion} → P .code t k ≡ act (write m x f) (n ∷ ns) → T (not (returns m))
+  i50 : {t k x : ℕ} {m : Mode} {f : Value} {n : Note} {ns : List Note} {p q : Assertion} → P .code t k ≡ act (write m x f) (n ∷ ns)
+      → T (not (returns m))
       → Inference P r50 (triple t k p (replace (notes (n ∷ ns)) q) ∷ []) (pair t k p q)
-  i20 : {ps : List Statement} {a b : Assertion} → length ps ≤ Limits.premises → T (all isImp ps) → T (byTable (map impOf ps) (record { left = a; right = b })) → Inference P r20 ps (implies a b)
+  i20 : {ps : List Statement} {a b : Assertion} → length ps ≤ Limits.premises → T (all isImp ps)
+      → T (byTable (map impOf ps) (record { left = a; right = b })) → Inference P r20 ps (implies a b)
   i21 : {e f : Test} → T (byRows (P .range) e f) → Inference P r21 [] (implies (holds e) (holds f))
   i22 : {t : ℕ} {i j : Interval} → Inference P r22 (inside i j ∷ []) (implies (sees t i) (sees t j))
   i23 : {t : ℕ} {e f : Test} → T (byRows (P .range) e f) → Inference P r23 [] (implies (sees t (box e)) (holds f))

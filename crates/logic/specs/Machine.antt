@@ -140,7 +140,10 @@ insert releasing x n t p v s = record {
 abbrev pub cover : ℕ → ℕ → State → State
 cover x p s = record {
   size = s .size;
-  row = upd (s .row) x (upd (s .row x) p (record { value = s .row x p .value; releasing = s .row x p .releasing; covered = true; stored = s .row x p .stored }));
+  row =
+      upd (s .row) x
+      (upd (s .row x) p
+      (record { value = s .row x p .value; releasing = s .row x p .releasing; covered = true; stored = s .row x p .stored }));
   view = s .view;
   reg = s .reg;
   point = s .point;

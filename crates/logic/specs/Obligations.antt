@@ -8,7 +8,8 @@ use Rattle.logic.specs.Machine.{Program, Instr, Instr.act, Instr.branch}
 use Rattle.logic.specs.Statement.{Statement, implies, taking}
 use Rattle.logic.specs.EveryRun.{Outline}
 
--- class 1: start t. Class 2: step t k, the instruction at point k of t leads to the next point. Class 3: taken t k, a branch leads to its target.
+-- class 1: start t. Class 2: step t k, the instruction at point k of t leads to the next point. Class 3: taken t k, a branch leads to its
+-- target.
 -- Class 4: interference u j t k, the assertion of u at its point j under the instruction at point k of t
 pub data Obligation : Type 0 where
   start : ℕ → Obligation

@@ -46,7 +46,12 @@ same-name m n = elim (Name-discrete ℕ-discrete m n) [ yes q ↦ true | no q �
 
 -- a row of names: a number for each; of a flag, 1 for true
 abbrev pub meaning : (Name → ℕ) → Env
-meaning ν = record { reg = λ r. ν (n-reg r); word = λ x. ν (n-word x); unsync = λ x. eqb (ν (n-unsync x)) 1; cov = λ x. eqb (ν (n-cov x)) 1 }
+meaning ν = record {
+  reg = λ r. ν (n-reg r);
+  word = λ x. ν (n-word x);
+  unsync = λ x. eqb (ν (n-unsync x)) 1;
+  cov = λ x. eqb (ν (n-cov x)) 1;
+}
 
 -- every choice of a value for each register or word, of true or false for each flag
 abbrev pub choices : ℕ → Name → ℕ

@@ -15,7 +15,7 @@ use Rattle.logic.specs.Machine as Logic
 use Rattle.logic.specs.Machine.{State}
 use Rattle.logic.proofs.Base.{upd-same, upd-other, by-word}
 use Rattle.limits.specs.Numbers.{nth}
-use Rattle.memory.specs.View.{positionIn}
+use Rattle.writes.specs.View.{positionIn}
 use Rattle.memory.specs.Memory.{writeAt, sizeAt, viewOf, seenBy}
 use Rattle.memory.specs.Stands.{Stands}
 use Rattle.memory.specs.declared.memory.Memory.{Memory}

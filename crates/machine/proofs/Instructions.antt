@@ -24,13 +24,13 @@ use Rattle.program.specs.declared.instruction.Instruction.{Instruction}
 use Rattle.program.specs.Instruction.{twofold, fieldsOf, halfFits, differ, secondFits, ranged}
 use Rattle.thread_bodies.specs.Thread.{wanted}
 use Rattle.content.specs.Formula.{formula}
-use Rattle.content.specs.Places.{registerFirst}
+use Rattle.lookups.specs.Places.{registerFirst}
 use Rattle.content.specs.Program.{instr, programOf}
 use Rattle.content.proofs.Checked.{Checks}
 use Rattle.content.proofs.Program.{made, fields-in, ranged-both, none-above}
 use Rattle.columns.specs.Combine.{sumOf}
 use Rattle.columns.proofs.Combining.{sum-modulo}
-use Rattle.memory.specs.View.{next}
+use Rattle.writes.specs.View.{next}
 use Rattle.memory.specs.Memory.{first, writeAt}
 use Rattle.memory.specs.Access.{loaded, stored, swapped}
 use Rattle.memory.specs.Stands.{Stands, Named}
@@ -73,7 +73,8 @@ module _ (z : Sizes) (l : List (List ℕ)) (checks : Checks z l) (few-words : z 
   abbrev P : Program
   P = programOf z l
 
-  module _ (s : State) (wf : Wf P s) (m : Memory) (st : Stands m s) (h : Registers) (same : SameRegs h (s .reg)) (t p : ℕ) (ht : t < 4) where
+  module _ (s : State) (wf : Wf P s) (m : Memory) (st : Stands m s) (h : Registers) (same : SameRegs h (s .reg)) (t p : ℕ)
+      (ht : t < 4) where
     -- the table has room for one more write
     abbrev Room : Type 0
     Room = first (m .sizes) 8 < 72

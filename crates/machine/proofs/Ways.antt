@@ -8,13 +8,13 @@ use lib.ListN.{getD}
 use borrow.Author.Tests.{lt-ltb, le-ltb}
 use Rattle.logic.specs.Opcode as Opcode
 use Rattle.columns.specs.Combine.{sumOf}
-use Rattle.memory.specs.View.{positionIn}
+use Rattle.writes.specs.View.{positionIn}
 use Rattle.memory.specs.Memory.{writeAt, memoryOf, seenBy}
-use Rattle.memory.specs.declared.view.View.{View}
-use Rattle.memory.specs.declared.write.Write.{Write}
+use Rattle.writes.specs.declared.view.View.{View}
+use Rattle.writes.specs.declared.write.Write.{Write}
 use Rattle.memory.specs.declared.memory.Sight.{Sight}
 use Rattle.program.specs.declared.instruction.Instruction.{Instruction}
-use Rattle.content.specs.Places.{registerFirst}
+use Rattle.lookups.specs.Places.{registerFirst}
 use Rattle.machine.specs.Deed.{deedOf}
 use Rattle.machine.specs.Shared.{reachableBy, reachable, uncovered, mayPick, fetchAdded}
 use Rattle.machine.specs.Locals.{withRegister, withBoth}
@@ -24,12 +24,14 @@ use Rattle.machine.specs.declared.deed.Deed.{Deed}
 
 module _ (i : Instruction) (v g w : ℕ) (b : Bool) (e : b ≡ registerFirst (i .operation)) where
   pub deed-register : b ≡ true → w ≡ i .b - 1
-      → record { operation = i .operation; word = w; register = i .a; value = v; noted = i .second .a; note = g; target = i .a } ≡ deedOf i v g
+      → record { operation = i .operation; word = w; register = i .a; value = v; noted = i .second .a; note = g; target = i .a } ≡ deedOf
+      i v g
   unfolding deedOf
   deed-register d q = rw (← e, d, q)
 
   pub deed-word : b ≡ false → w ≡ i .a - 1
-      → record { operation = i .operation; word = w; register = i .b; value = v; noted = i .second .a; note = g; target = i .a } ≡ deedOf i v g
+      → record { operation = i .operation; word = w; register = i .b; value = v; noted = i .second .a; note = g; target = i .a } ≡ deedOf
+      i v g
   unfolding deedOf
   deed-word d q = rw (← e, d, q)
 

@@ -23,20 +23,20 @@ use Rattle.program.specs.declared.sizes.Sizes.{Sizes}
 use Rattle.program.specs.declared.instruction.Instruction.{Instruction}
 use Rattle.header.specs.Header.{counted, startValues, owners, marks, headed, header}
 use Rattle.program.specs.Instruction.{twofold, fieldsOf, ranged}
-use Rattle.program.specs.Thread.{lastPoint}
+use Rattle.threads.specs.Thread.{lastPoint}
 use Rattle.header.proofs.Laws.{Counted, counted-in}
 use Rattle.image.specs.Decode.{sizesOf}
 use Rattle.records.specs.Places.{instructionOf}
 use Rattle.thread_bodies.specs.Thread.{wanted, sorted}
 use Rattle.content.specs.Formula.{formula}
-use Rattle.content.specs.Places.{formulaAt}
-use Rattle.content.specs.Trees.{treeAt}
+use Rattle.lookups.specs.Places.{formulaAt}
+use Rattle.lookups.specs.Trees.{treeAt}
 use Rattle.content.specs.Program.{instr, programOf}
 use Rattle.content.proofs.Inverse.{unless-passed}
 use Rattle.content.proofs.Checked.{Checks, header-passed}
 use Rattle.content.proofs.Formulas.{formula-bounded}
 use Rattle.content.proofs.Program.{fields-in, ranged-both, second-in, formula-sorted, sorted-both, body}
-use Rattle.content.proofs.Trees.{value-is, note-is, fields-there, test-is}
+use Rattle.lookups.proofs.Trees.{value-is, note-is, fields-there, test-is}
 use Rattle.evaluate.specs.Work.{workedT}
 use Rattle.evaluate.proofs.Meaning.{registers, worked-below, worked-value, worked-test}
 use Rattle.memory.specs.Stands.{Stands}
@@ -121,7 +121,8 @@ module _ (b : List ℕ) (z : Sizes) (c : Checks z (bodies b)) where
       branch-formula d =
           let g = fields-in i (fieldsOf (i .operation) last z) (ranged-both last z i (facts .0) .0) in
           let r : (1 ≤ i .formula) × (i .formula ≤ z .formulas)
-          = subst (λ (op : ℕ). (fieldsOf op last z .formula .low ≤ i .formula) × (i .formula ≤ fieldsOf op last z .formula .high)) d (g .2) in
+          = subst (λ (op : ℕ). (fieldsOf op last z .formula .low ≤ i .formula) × (i .formula ≤ fieldsOf op last z .formula .high)) d
+          (g .2) in
           test-worked (formula l Sort.test (i .formula)) (i .formula) (test-is b z c (suc t) (s .point (suc t)) w more d)
           (formula-bounded z l c (i .formula) (r .0) (r .1) Codes.test
           (formula-sorted z l c (wanted (i .operation)) (i .formula) (r .0) (sorted-both z l c i (facts .1) .0) .0 ∙ ap wanted d))

@@ -2,7 +2,7 @@
 use mathlib.Core.Bool.{cond}
 use Prim.Native.Nat.{ℕ, _-_}
 use Rattle.program.specs.declared.instruction.Instruction.{Instruction}
-use Rattle.content.specs.Places.{registerFirst}
+use Rattle.lookups.specs.Places.{registerFirst}
 use Rattle.machine.specs.declared.deed.Deed.{Deed}
 
 -- v and g: the values of the formula and of the second one. Words count from 0 here

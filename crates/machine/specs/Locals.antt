@@ -4,7 +4,7 @@ use Prim.Native.Nat.{ℕ, _-_}
 use lib.Dec.{eqb, ltb}
 use lib.ListN.{set}
 use Rattle.logic.specs.Opcode as Opcode
-use Rattle.memory.specs.View.{next}
+use Rattle.writes.specs.View.{next}
 use Rattle.machine.specs.declared.deed.Deed.{Deed}
 use Rattle.machine.specs.declared.locals.Registers.{Registers}
 

@@ -5,7 +5,7 @@ use lib.Dec.{eqb, ltb, leb}
 use lib.ListN.{getD}
 use Rattle.logic.specs.Opcode as Opcode
 use Rattle.columns.specs.Combine.{sumOf}
-use Rattle.memory.specs.View.{positionIn}
+use Rattle.writes.specs.View.{positionIn}
 use Rattle.memory.specs.Memory.{writeAt, seenBy}
 use Rattle.memory.specs.Access.{loaded, stored, swapped}
 use Rattle.memory.specs.declared.memory.Memory.{Memory}

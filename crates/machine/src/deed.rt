@@ -2,7 +2,7 @@
 use program::instruction::Instruction;
 ghost use mathlib.Core.Path.{_≡_};
 ghost use Prim.Native.Nat.{_-_};
-ghost use Rattle.content.specs.Places.{registerFirst};
+ghost use Rattle.lookups.specs.Places.{registerFirst};
 ghost use Rattle.machine.specs.Deed.{deedOf};
 
 // The word counts from 0, registers from 1. What an operation has not is not looked at.

@@ -1,7 +1,7 @@
 // Registers and points.
 use crate::deed::Deed;
-use memory::view::next;
 use program::instruction::Instruction;
+use writes::view::next;
 ghost use mathlib.Core.Path.{_≡_};
 ghost use Rattle.machine.specs.Locals.{withRegister, withBoth, registersAfter, pointAfter};
 

@@ -54,7 +54,8 @@ none-marked n = go (eqb n 0) (ltb (n - 1) lines) refl refl
     go : (a b : Bool) → eqb n 0 ≡ a → ltb (n - 1) lines ≡ b → isMarked noMarks n ≡ false
     go true b e d = rw e
     go false true e d = rw e (getD-replicate lines (n - 1) false false (ltb-true (n - 1) lines d))
-    go false false e d = let z = eqb-false n 0 e in let q = ltb-false (n - 1) lines d in let k = none-length in sym (mark-past (noMarks .on) n z (omega arith))
+    go false false e d = let z = eqb-false n 0 e in let q = ltb-false (n - 1) lines d in let k = none-length in
+        sym (mark-past (noMarks .on) n z (omega arith))
 
 module _ (m : Marks) (n : ℕ) (b : Bool) where
   pub with-length : length (withMark m n b .on) ≡ length (m .on)

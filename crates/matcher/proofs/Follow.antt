@@ -37,7 +37,8 @@ pub record Sized (b : Bind) : Type 0 where
 -- TAKING
 module _ (s : List ℕ) (b : Bind) (z : Sized b) where
   -- a number
-  num-set : (j n : ℕ) → j < holeCount → takenOf s (record { at = b .at; left = b .left; num = set (b .num) j (n + 1) }) ≡ record { num = upd (takenOf s b .num) j (some n); tree = takenOf s b .tree }
+  num-set : (j n : ℕ) → j < holeCount → takenOf s (record { at = b .at; left = b .left; num = set (b .num) j (n + 1) }) ≡ record
+      { num = upd (takenOf s b .num) j (some n); tree = takenOf s b .tree }
   num-set j n h = λ q. record { num = nums q; tree = takenOf s b .tree }
     where
       value : ℕ → Option ℕ
@@ -48,8 +49,10 @@ module _ (s : List ℕ) (b : Bind) (z : Sized b) where
 
       nums : (λ (i : ℕ). value (getD (set (b .num) j (n + 1)) i 0)) ≡ upd (λ (i : ℕ). value (getD (b .num) i 0)) j (some n)
       nums = fun-ext (by-word j _
-          (ap value (getD-set-same (b .num) j (n + 1) 0 (omega (arith, z .num))) ∙ suc-value ∙ sym (upd-same (λ (i : ℕ). value (getD (b .num) i 0)) j (some n)))
-          (λ i q. ap value (getD-set-other (b .num) j i (n + 1) 0 q) ∙ sym (upd-other (λ (i : ℕ). value (getD (b .num) i 0)) j (some n) i q)))
+          (ap value (getD-set-same (b .num) j (n + 1) 0 (omega (arith, z .num))) ∙ suc-value
+          ∙ sym (upd-same (λ (i : ℕ). value (getD (b .num) i 0)) j (some n)))
+          (λ i q. ap value (getD-set-other (b .num) j i (n + 1) 0 q)
+          ∙ sym (upd-other (λ (i : ℕ). value (getD (b .num) i 0)) j (some n) i q)))
 
   -- a formula
   tree-set : (j at k : ℕ) → j < holeCount → k ≢ 0 → takenOf s (record { at = set (b .at) j at; left = set (b .left) j k; num = b .num })
@@ -59,10 +62,13 @@ module _ (s : List ℕ) (b : Bind) (z : Sized b) where
       value : ℕ → ℕ → Option Tree
       value m p = cond (eqb m 0) none (some (parseTree s m p .tree))
 
-      trees : (λ (i : ℕ). value (getD (set (b .left) j k) i 0) (getD (set (b .at) j at) i 0)) ≡ upd (λ (i : ℕ). value (getD (b .left) i 0) (getD (b .at) i 0)) j (some (parseTree s k at .tree))
+      trees : (λ (i : ℕ). value (getD (set (b .left) j k) i 0) (getD (set (b .at) j at) i 0)) ≡ upd
+          (λ (i : ℕ). value (getD (b .left) i 0) (getD (b .at) i 0)) j (some (parseTree s k at .tree))
       trees = fun-ext (by-word j _
           (ap₂ value (getD-set-same (b .left) j k 0 (omega (arith, z .left))) (getD-set-same (b .at) j at 0 (omega (arith, z .at)))
-          ∙ (rw (ne-eqb k 0 n) (sym (upd-same (λ (i : ℕ). value (getD (b .left) i 0) (getD (b .at) i 0)) j (some (parseTree s k at .tree))))))
+          ∙
+          (rw (ne-eqb k 0 n)
+          (sym (upd-same (λ (i : ℕ). value (getD (b .left) i 0) (getD (b .at) i 0)) j (some (parseTree s k at .tree))))))
           (λ i q. ap₂ value (getD-set-other (b .left) j i k 0 q) (getD-set-other (b .at) j i at 0 q)
           ∙ sym (upd-other (λ (i : ℕ). value (getD (b .left) i 0) (getD (b .at) i 0)) j (some (parseTree s k at .tree)) i q)))
 
@@ -79,11 +85,13 @@ abbrev taking : Bind → ℕ → ℕ → Bool → Bool → Bool → Taken
 taking b o n i j e =
     cond i
     (cond j
-    (cond e (record { ok = true; bind = record { at = b .at; left = b .left; num = set (b .num) o (n + 1) } }) (record { ok = eqb (getD (b .num) o 0) (n + 1); bind = b }))
+    (cond e (record { ok = true; bind = record { at = b .at; left = b .left; num = set (b .num) o (n + 1) } })
+    (record { ok = eqb (getD (b .num) o 0) (n + 1); bind = b }))
     (record { ok = false; bind = b }))
     (record { ok = eqb (o - firstNumber) n; bind = b })
 
-operand-follows : (s : List ℕ) (b : Bind) → Sized b → (d o n : ℕ) → hasOperand d ≡ true → T (cond (ltb o firstNumber) (ltb o holeCount) true)
+operand-follows : (s : List ℕ) (b : Bind) → Sized b → (d o n : ℕ) → hasOperand d ≡ true
+    → T (cond (ltb o firstNumber) (ltb o holeCount) true)
     → takeOperand d o n (takenOf s b) ≡ given s (operandOf o n b .ok) (operandOf o n b .bind)
 unfolding operandOf
 operand-follows s b z d o n h p = go (hasOperand d) (ltb o firstNumber) (ltb o holeCount) (eqb (getD (b .num) o 0) 0) h refl refl refl p
@@ -99,7 +107,15 @@ operand-follows s b z d o n h p = go (hasOperand d) (ltb o firstNumber) (ltb o h
             cases false e = let f = eqb-false (m - 1) n e in sym (ne-eqb m (n + 1) (λ (g : m ≡ n + 1). f (omega arith)))
 
     go : (a i j e : Bool) → a ≡ true → ltb o firstNumber ≡ i → ltb o holeCount ≡ j → eqb (getD (b .num) o 0) 0 ≡ e → T (cond i j true)
-        → _≡_ {A = Option Trees.Taken} (elim a [ false ↦ when (eqb 0 n) (takenOf s b) | true ↦ elim i [ true ↦ takeNum o n (takenOf s b) (cond e none (some (getD (b .num) o 0 - 1))) | false ↦ when (eqb (o - firstNumber) n) (takenOf s b) ] ])
+        → _≡_ {A = Option Trees.Taken}
+        (elim a [
+          | false ↦ when (eqb 0 n) (takenOf s b)
+          | true ↦ elim i [
+            | true ↦ takeNum o n (takenOf s b) (cond e none (some (getD (b .num) o 0 - 1)))
+            | false ↦ when (eqb (o - firstNumber) n)
+                (takenOf s b)
+          ]
+        ])
         (given s (taking b o n i j e .ok) (taking b o n i j e .bind))
     go false i j e h q r w p = let y : _≡_ {A = ℕ} 0 1 = cc in absurd (omega arith)
     go true true true true h q r w p = ap some (sym (num-set s b z o n (ltb-true o holeCount r)))
@@ -110,7 +126,12 @@ operand-follows s b z d o n h p = go (hasOperand d) (ltb o firstNumber) (ltb o h
 operand-none : (d o n : ℕ) (b : Trees.Taken) → hasOperand d ≡ false → n ≡ 0 → takeOperand d o n b ≡ some b
 operand-none d o n b h e = go (hasOperand d) h
   where
-    go : (a : Bool) → a ≡ false → _≡_ {A = Option Trees.Taken} (elim a [ false ↦ when (eqb 0 n) b | true ↦ elim (ltb o firstNumber) [ true ↦ takeNum o n b (b .num o) | false ↦ when (eqb (o - firstNumber) n) b ] ]) (some b)
+    go : (a : Bool) → a ≡ false → _≡_ {A = Option Trees.Taken}
+        (elim a [
+          | false ↦ when (eqb 0 n) b
+          | true ↦ elim (ltb o firstNumber)
+              [ true ↦ takeNum o n b (b .num o) | false ↦ when (eqb (o - firstNumber) n) b ]
+        ]) (some b)
     go true h = let y : _≡_ {A = ℕ} 0 1 = cc in absurd (omega arith)
     go false h = rw e
 
@@ -170,7 +191,8 @@ pub record Follows (s t : List ℕ) (k i at : ℕ) (b : Bind) (m : Match) : Type
 
 match-node : (d o : ℕ) (l r u : Tree) (b : Trees.Taken) → matchT (node d o l r) u b ≡ elim (leb firstHole d) [
   | true ↦ takeTree (d - firstHole) u b (b .tree (d - firstHole))
-  | false ↦ isNode u (λ e n m s. andThen (when (eqb d e) b) (λ b₀. andThen (takeOperand d o n b₀) (λ b₁. andThen (matchT l m b₁) (λ b₂. matchT r s b₂))))
+  | false ↦ isNode u (λ e n m s. andThen (when (eqb d e) b)
+      (λ b₀. andThen (takeOperand d o n b₀) (λ b₁. andThen (matchT l m b₁) (λ b₂. matchT r s b₂))))
 ]
 unfolding matchT
 match-node d o l r u b = refl
@@ -179,7 +201,8 @@ match-none : (b : Trees.Taken) → matchT Tree.none Tree.none b ≡ some b
 unfolding matchT
 match-none b = refl
 
-proper-node : (d o : ℕ) (l r : Tree) → proper (node d o l r) ≡ cond (ltb d firstHole) (cond (hasOperand d) (cond (ltb o firstNumber) (ltb o holeCount) true) true && (proper l && proper r)) (ltb (d - firstHole) holeCount)
+proper-node : (d o : ℕ) (l r : Tree) → proper (node d o l r) ≡ cond (ltb d firstHole)
+    (cond (hasOperand d) (cond (ltb o firstNumber) (ltb o holeCount) true) true && (proper l && proper r)) (ltb (d - firstHole) holeCount)
 unfolding proper
 proper-node d o l r = refl
 
@@ -189,7 +212,8 @@ unfolding isThere
 there-equal s p m q k = go (eqb p q) refl
   where
     go : (x : Bool) → eqb p q ≡ x → cond x (eqb m k) false ≡ true → sameTree (parseTree s m p .tree) (parseTree s k q .tree) ≡ true
-    go true e h = rw (eqb-true p q e, eqb-true m k h) (holds-true (sameTree (parseTree s k q .tree) (parseTree s k q .tree)) (tree-refl (parseTree s k q .tree)))
+    go true e h = rw (eqb-true p q e, eqb-true m k h)
+        (holds-true (sameTree (parseTree s k q .tree) (parseTree s k q .tree)) (tree-refl (parseTree s k q .tree)))
     go false e h = absurd (true≢false (sym h))
 
 -- a hole
@@ -202,7 +226,8 @@ module _ (s t : List ℕ) (k i at : ℕ) (b : Bind) (z : Sized b) where
 
   hole-follows : firstHole ≤ h₀ .code → j₀ < holeCount → Follows s t (suc k) i at b (matchAt s t (suc k) i at b)
   unfolding matchAt rootAt holeAt
-  hole-follows large below = go (eqb (getD (b .left) j₀ 0) 0) refl (sameTree (parseTree s (getD (b .left) j₀ 0) (getD (b .at) j₀ 0) .tree) (parseTree s (suc k) at .tree)) refl
+  hole-follows large below = go (eqb (getD (b .left) j₀ 0) 0) refl
+      (sameTree (parseTree s (getD (b .left) j₀ 0) (getD (b .at) j₀ 0) .tree) (parseTree s (suc k) at .tree)) refl
     where
       parts : h₀ .parts ≡ 0
       parts = parts-of t i ∙ hole-leaf (h₀ .code) large
@@ -210,10 +235,12 @@ module _ (s t : List ℕ) (k i at : ℕ) (b : Bind) (z : Sized b) where
       ended : h₀ .next ≡ parseTree t (suc k) i .end
       ended = let n : suc k ≡ 0 → ⊥ = omega arith in rw (parse-step t (suc k) i n, parts)
 
-      taken : matchT (parseTree t (suc k) i .tree) (parseTree s (suc k) at .tree) (takenOf s b) ≡ takeTree j₀ (parseTree s (suc k) at .tree) (takenOf s b) (takenOf s b .tree j₀)
+      taken : matchT (parseTree t (suc k) i .tree) (parseTree s (suc k) at .tree) (takenOf s b) ≡ takeTree j₀
+          (parseTree s (suc k) at .tree) (takenOf s b) (takenOf s b .tree j₀)
       taken = let n : suc k ≡ 0 → ⊥ = omega arith in rw (parse-step t (suc k) i n, match-node, le-leb firstHole (h₀ .code) large)
 
-      root : matchAt s t (suc k) i at b ≡ grown (λ i' at' b'. matchAt s t k i' at' b') (parseTree s (suc k) at .end) (holeAt s (h₀ .next) j₀ at (suc k) b)
+      root : matchAt s t (suc k) i at b ≡ grown (λ i' at' b'. matchAt s t k i' at' b') (parseTree s (suc k) at .end)
+          (holeAt s (h₀ .next) j₀ at (suc k) b)
       root = let n : suc k ≡ 0 → ⊥ = omega arith in rw (ne-eqb (suc k) 0 n, le-ltb (h₀ .code) firstHole large, lt-ltb j₀ holeCount below)
 
       there : Bool
@@ -223,7 +250,8 @@ module _ (s t : List ℕ) (k i at : ℕ) (b : Bind) (z : Sized b) where
       alike = sameTree (parseTree s (getD (b .left) j₀ 0) (getD (b .at) j₀ 0) .tree) (parseTree s (suc k) at .tree)
 
       held : (x : Bool) → alike ≡ true → grown (λ i' at' b'. matchAt s t k i' at' b') (parseTree s (suc k) at .end)
-          (cond x (opened (h₀ .next) b) (heldAt b (h₀ .next) (sameOf (parseTree s (getD (b .left) j₀ 0) (getD (b .at) j₀ 0)) (parseTree s (suc k) at))))
+          (cond x (opened (h₀ .next) b) (heldAt b (h₀ .next)
+          (sameOf (parseTree s (getD (b .left) j₀ 0) (getD (b .at) j₀ 0)) (parseTree s (suc k) at))))
           ≡ record { ok = true; tpl = h₀ .next; next = parseTree s (suc k) at .end; bind = b }
       held true d = refl
       held false d = rw d
@@ -232,10 +260,16 @@ module _ (s t : List ℕ) (k i at : ℕ) (b : Bind) (z : Sized b) where
       elsewhere true y d = absurd (true≢false (sym (there-equal s (getD (b .at) j₀ 0) (getD (b .left) j₀ 0) at (suc k) y) ∙ d))
       elsewhere false y d = refl
 
-      go : (e : Bool) → eqb (getD (b .left) j₀ 0) 0 ≡ e → (q : Bool) → sameTree (parseTree s (getD (b .left) j₀ 0) (getD (b .at) j₀ 0) .tree) (parseTree s (suc k) at .tree) ≡ q
+      go : (e : Bool) → eqb (getD (b .left) j₀ 0) 0 ≡ e → (q : Bool)
+          → sameTree (parseTree s (getD (b .left) j₀ 0) (getD (b .at) j₀ 0) .tree) (parseTree s (suc k) at .tree) ≡ q
           → Follows s t (suc k) i at b (matchAt s t (suc k) i at b)
       go true e q d =
-          let r : matchAt s t (suc k) i at b ≡ record { ok = true; tpl = h₀ .next; next = parseTree s (suc k) at .end; bind = record { at = set (b .at) j₀ at; left = set (b .left) j₀ (suc k); num = b .num } } = root ∙ (rw e) in
+          let r : matchAt s t (suc k) i at b ≡ record {
+            ok = true;
+            tpl = h₀ .next;
+            next = parseTree s (suc k) at .end;
+            bind = record { at = set (b .at) j₀ at; left = set (b .left) j₀ (suc k); num = b .num };
+          } = root ∙ (rw e) in
           subst (Follows s t (suc k) i at b) (sym r) (record {
             same = taken ∙ (rw e (ap some (sym (tree-set s b z j₀ at (suc k) below (λ (y : suc k ≡ 0). omega arith)))));
             tpl = λ o. ended;
@@ -243,7 +277,8 @@ module _ (s t : List ℕ) (k i at : ℕ) (b : Bind) (z : Sized b) where
             sized = record { at = length-set (b .at) j₀ at ∙ z .at; left = length-set (b .left) j₀ (suc k) ∙ z .left; num = z .num };
           })
       go false e true d =
-          let r : matchAt s t (suc k) i at b ≡ record { ok = true; tpl = h₀ .next; next = parseTree s (suc k) at .end; bind = b } = root ∙ (rw e (held there d)) in
+          let r : matchAt s t (suc k) i at b ≡ record { ok = true; tpl = h₀ .next; next = parseTree s (suc k) at .end; bind = b } = root
+          ∙ (rw e (held there d)) in
           subst (Follows s t (suc k) i at b) (sym r) (record {
             same = taken ∙ (rw (e, d));
             tpl = λ o. ended;
@@ -261,7 +296,8 @@ module _ (s t : List ℕ) (k i at : ℕ) (b : Bind) (z : Sized b) where
           })
 
 -- the parts of two nodes that are alike
-module _ (s t : List ℕ) (k : ℕ) (ih : (i at : ℕ) (b : Bind) → Sized b → T (proper (parseTree t k i .tree)) → Follows s t k i at b (matchAt s t k i at b)) where
+module _ (s t : List ℕ) (k : ℕ) (ih : (i at : ℕ) (b : Bind) → Sized b → T (proper (parseTree t k i .tree))
+    → Follows s t k i at b (matchAt s t k i at b)) where
   abbrev first : List ℕ → Node → ParsedTree
   first l x = part (λ p. parseTree l k p) (ltb 0 (x .parts)) (x .next)
 
@@ -269,7 +305,8 @@ module _ (s t : List ℕ) (k : ℕ) (ih : (i at : ℕ) (b : Bind) → Sized b �
   second l x = part (λ p. parseTree l k p) (ltb 1 (x .parts)) (first l x .end)
 
   record PartsFollow (h x : Node) (b : Bind) (m : Match) : Type 0 where
-    same : andThen (matchT (first t h .tree) (first s x .tree) (takenOf s b)) (λ b₂. matchT (second t h .tree) (second s x .tree) b₂) ≡ given s (m .ok) (m .bind)
+    same : andThen (matchT (first t h .tree) (first s x .tree) (takenOf s b))
+        (λ b₂. matchT (second t h .tree) (second s x .tree) b₂) ≡ given s (m .ok) (m .bind)
     tpl : m .ok ≡ true → m .tpl ≡ second t h .end
     next : m .ok ≡ true → m .next ≡ second s x .end
     sized : Sized (m .bind)
@@ -277,7 +314,8 @@ module _ (s t : List ℕ) (k : ℕ) (ih : (i at : ℕ) (b : Bind) → Sized b �
   abbrev subMatch : ℕ → ℕ → Bind → Match
   subMatch i at b = matchAt s t k i at b
 
-  parts-follow : (h x : Node) (b : Bind) → Sized b → (end p : ℕ) → h .parts ≡ p → x .parts ≡ p → p < 3 → T (proper (first t h .tree)) → T (proper (second t h .tree))
+  parts-follow : (h x : Node) (b : Bind) → Sized b → (end p : ℕ) → h .parts ≡ p → x .parts ≡ p → p < 3 → T (proper (first t h .tree))
+      → T (proper (second t h .tree))
       → PartsFollow h x b (grown subMatch end (rooted h x b))
   parts-follow h x b z end zero eh ex l pf ps = record {
     same = rw (eh, ex, match-none, match-none);
@@ -287,7 +325,8 @@ module _ (s t : List ℕ) (k : ℕ) (ih : (i at : ℕ) (b : Bind) → Sized b �
   }
   parts-follow h x b z end (suc zero) eh ex l pf ps = go (subMatch (h .next) (x .next) b) (ih (h .next) (x .next) b z (rw eh at pf)) refl
     where
-      go : (m : Match) → Follows s t k (h .next) (x .next) b m → subMatch (h .next) (x .next) b ≡ m → PartsFollow h x b (grown subMatch end (rooted h x b))
+      go : (m : Match) → Follows s t k (h .next) (x .next) b m → subMatch (h .next) (x .next) b ≡ m
+          → PartsFollow h x b (grown subMatch end (rooted h x b))
       go m f e = let q : grown subMatch end (rooted h x b) ≡ m = rw (ex, e) in subst (PartsFollow h x b) (sym q) (record {
         same = rw (eh, ex, f .same) (last (m .ok));
         tpl = λ o. f .tpl o ∙ (rw eh);
@@ -298,12 +337,16 @@ module _ (s t : List ℕ) (k : ℕ) (ih : (i at : ℕ) (b : Bind) → Sized b �
           last : (o : Bool) → andThen (given s o (m .bind)) (λ b₂. matchT Tree.none Tree.none b₂) ≡ given s o (m .bind)
           last true = match-none (takenOf s (m .bind))
           last false = refl
-  parts-follow h x b z end (suc (suc zero)) eh ex l pf ps = go (subMatch (h .next) (x .next) b) (ih (h .next) (x .next) b z (rw eh at pf)) refl
+  parts-follow h x b z end (suc (suc zero)) eh ex l pf ps =
+      go (subMatch (h .next) (x .next) b) (ih (h .next) (x .next) b z (rw eh at pf)) refl
     where
-      two : (m : Match) → Follows s t k (h .next) (x .next) b m → subMatch (h .next) (x .next) b ≡ m → m .ok ≡ true → PartsFollow h x b (grown subMatch end (rooted h x b))
+      two : (m : Match) → Follows s t k (h .next) (x .next) b m → subMatch (h .next) (x .next) b ≡ m → m .ok ≡ true
+          → PartsFollow h x b (grown subMatch end (rooted h x b))
       two m f e o =
-          let pr : T (proper (parseTree t k (m .tpl) .tree)) = subst (λ (n : ℕ). T (proper (parseTree t k n .tree))) (sym (f .tpl o)) (rw eh at ps) in
-          let g : Follows s t k (m .tpl) (m .next) (m .bind) (subMatch (m .tpl) (m .next) (m .bind)) = ih (m .tpl) (m .next) (m .bind) (f .sized) pr in
+          let pr : T (proper (parseTree t k (m .tpl) .tree)) =
+          subst (λ (n : ℕ). T (proper (parseTree t k n .tree))) (sym (f .tpl o)) (rw eh at ps) in
+          let g : Follows s t k (m .tpl) (m .next) (m .bind) (subMatch (m .tpl) (m .next) (m .bind)) =
+          ih (m .tpl) (m .next) (m .bind) (f .sized) pr in
           let q : grown subMatch end (rooted h x b) ≡ subMatch (m .tpl) (m .next) (m .bind) = rw (ex, e, o) in
           subst (PartsFollow h x b) (sym q) (record {
             same = rw (eh, ex, f .same, o, ← f .tpl o, ← f .next o) (g .same);
@@ -312,7 +355,8 @@ module _ (s t : List ℕ) (k : ℕ) (ih : (i at : ℕ) (b : Bind) → Sized b �
             sized = g .sized;
           })
 
-      go : (m : Match) → Follows s t k (h .next) (x .next) b m → subMatch (h .next) (x .next) b ≡ m → PartsFollow h x b (grown subMatch end (rooted h x b))
+      go : (m : Match) → Follows s t k (h .next) (x .next) b m → subMatch (h .next) (x .next) b ≡ m
+          → PartsFollow h x b (grown subMatch end (rooted h x b))
       go m f e = split (m .ok) refl
         where
           split : (o : Bool) → m .ok ≡ o → PartsFollow h x b (grown subMatch end (rooted h x b))
@@ -349,7 +393,10 @@ module _ (s t : List ℕ) (k : ℕ) (ih : (i at : ℕ) (b : Bind) → Sized b �
     unfolding parseTree
     tpl-tree = refl
 
-    its-tree : parseTree s (suc k) at ≡ record { tree = node (x .code) (x .operand) (first s x .tree) (second s x .tree); end = second s x .end }
+    its-tree : parseTree s (suc k) at ≡ record {
+      tree = node (x .code) (x .operand) (first s x .tree) (second s x .tree);
+      end = second s x .end;
+    }
     unfolding parseTree
     its-tree = refl
 
@@ -358,7 +405,9 @@ module _ (s t : List ℕ) (k : ℕ) (ih : (i at : ℕ) (b : Bind) → Sized b �
 
     -- on trees: the codes, the operands, the parts
     by-tree : matchT (parseTree t (suc k) i .tree) (parseTree s (suc k) at .tree) (takenOf s b)
-        ≡ andThen (when (eqb (h .code) (x .code)) (takenOf s b)) (λ b₀. andThen (takeOperand (h .code) (h .operand) (x .operand) b₀) (λ b₁. andThen (matchT left-tpl (first s x .tree) b₁) (λ b₂. matchT right-tpl (second s x .tree) b₂)))
+        ≡ andThen (when (eqb (h .code) (x .code)) (takenOf s b))
+        (λ b₀. andThen (takeOperand (h .code) (h .operand) (x .operand) b₀)
+        (λ b₁. andThen (matchT left-tpl (first s x .tree) b₁) (λ b₂. matchT right-tpl (second s x .tree) b₂)))
     by-tree = rw (tpl-tree, its-tree, match-node, lt-leb firstHole (h .code) low)
 
     -- by positions
@@ -366,7 +415,8 @@ module _ (s t : List ℕ) (k : ℕ) (ih : (i at : ℕ) (b : Bind) → Sized b �
     unfolding matchAt rootAt
     by-place = rw (ne-eqb (suc k) 0 not-zero, lt-ltb (h .code) firstHole low)
 
-    refused-follows : matchT (parseTree t (suc k) i .tree) (parseTree s (suc k) at .tree) (takenOf s b) ≡ none → nodeOf h x b ≡ refused b → Follows s t (suc k) i at b (matchAt s t (suc k) i at b)
+    refused-follows : matchT (parseTree t (suc k) i .tree) (parseTree s (suc k) at .tree) (takenOf s b) ≡ none → nodeOf h x b ≡ refused b
+        → Follows s t (suc k) i at b (matchAt s t (suc k) i at b)
     refused-follows e d =
         let q : matchAt s t (suc k) i at b ≡ record { ok = false; tpl = 0; next = 0; bind = b } = by-place ∙ (rw d) in
         subst (Follows s t (suc k) i at b) (sym q) (record {
@@ -378,11 +428,13 @@ module _ (s t : List ℕ) (k : ℕ) (ih : (i at : ℕ) (b : Bind) → Sized b �
 
     -- once the operands are taken
     goes-on : (b′ : Bind) → Sized b′ → h .code ≡ x .code → T (proper left-tpl) → T (proper right-tpl) → nodeOf h x b ≡ rooted h x b′
-        → matchT (parseTree t (suc k) i .tree) (parseTree s (suc k) at .tree) (takenOf s b) ≡ andThen (matchT left-tpl (first s x .tree) (takenOf s b′)) (λ b₂. matchT right-tpl (second s x .tree) b₂)
+        → matchT (parseTree t (suc k) i .tree) (parseTree s (suc k) at .tree) (takenOf s b) ≡ andThen
+        (matchT left-tpl (first s x .tree) (takenOf s b′)) (λ b₂. matchT right-tpl (second s x .tree) b₂)
         → Follows s t (suc k) i at b (matchAt s t (suc k) i at b)
     goes-on b′ z′ c pl pr d e =
         let hp : h .parts ≡ x .parts = parts-of t i ∙ ap partCount c ∙ sym (parts-of s at) in
-        let f : PartsFollow h x b′ (grown subMatch end (rooted h x b′)) = parts-follow h x b′ z′ end (x .parts) hp refl (part-small s at x refl) pl pr in
+        let f : PartsFollow h x b′ (grown subMatch end (rooted h x b′)) =
+        parts-follow h x b′ z′ end (x .parts) hp refl (part-small s at x refl) pl pr in
         let q : matchAt s t (suc k) i at b ≡ grown subMatch end (rooted h x b′) = by-place ∙ (rw d) in
         subst (Follows s t (suc k) i at b) (sym q) (record {
           same = e ∙ f .same;
@@ -397,7 +449,8 @@ module _ (s t : List ℕ) (k : ℕ) (ih : (i at : ℕ) (b : Bind) → Sized b �
       where
         fine : T (operand-ok && (proper left-tpl && proper right-tpl))
         fine =
-            let g : T (proper (node (h .code) (h .operand) left-tpl right-tpl)) = subst (λ (u : ParsedTree). T (proper (u .tree))) tpl-tree pr in
+            let g : T (proper (node (h .code) (h .operand) left-tpl right-tpl)) =
+            subst (λ (u : ParsedTree). T (proper (u .tree))) tpl-tree pr in
             rw (proper-node, lt-ltb (h .code) firstHole low) at g
 
         operand-fine : T operand-ok
@@ -409,25 +462,33 @@ module _ (s t : List ℕ) (k : ℕ) (ih : (i at : ℕ) (b : Bind) → Sized b �
         right-fine : T (proper right-tpl)
         right-fine = and-right (proper left-tpl) (proper right-tpl) (and-right operand-ok (proper left-tpl && proper right-tpl) fine)
 
-        with-operand : (c : eqb (h .code) (x .code) ≡ true) → hasOperand (h .code) ≡ true → (o : Bool) → operandOf (h .operand) (x .operand) b .ok ≡ o → Follows s t (suc k) i at b (matchAt s t (suc k) i at b)
+        with-operand : (c : eqb (h .code) (x .code) ≡ true) → hasOperand (h .code) ≡ true → (o : Bool)
+            → operandOf (h .operand) (x .operand) b .ok ≡ o → Follows s t (suc k) i at b (matchAt s t (suc k) i at b)
         with-operand c p o e =
-            let w : takeOperand (h .code) (h .operand) (x .operand) (takenOf s b) ≡ given s (operandOf (h .operand) (x .operand) b .ok) (operandOf (h .operand) (x .operand) b .bind) =
+            let w : takeOperand (h .code) (h .operand) (x .operand) (takenOf s b) ≡ given s (operandOf (h .operand) (x .operand) b .ok)
+            (operandOf (h .operand) (x .operand) b .bind) =
             operand-follows s b z (h .code) (h .operand) (x .operand) p (rw p at operand-fine) in
             settle o e w
           where
-            settle : (o : Bool) → operandOf (h .operand) (x .operand) b .ok ≡ o → takeOperand (h .code) (h .operand) (x .operand) (takenOf s b) ≡ given s (operandOf (h .operand) (x .operand) b .ok) (operandOf (h .operand) (x .operand) b .bind)
+            settle : (o : Bool) → operandOf (h .operand) (x .operand) b .ok ≡ o
+                → takeOperand (h .code) (h .operand) (x .operand) (takenOf s b) ≡ given s (operandOf (h .operand) (x .operand) b .ok)
+                (operandOf (h .operand) (x .operand) b .bind)
                 → Follows s t (suc k) i at b (matchAt s t (suc k) i at b)
             settle true e w =
-                goes-on (operandOf (h .operand) (x .operand) b .bind) (operand-sized b z (h .operand) (x .operand)) (eqb-true (h .code) (x .code) c) left-fine right-fine (rw (c, p, e))
+                goes-on (operandOf (h .operand) (x .operand) b .bind) (operand-sized b z (h .operand) (x .operand))
+                (eqb-true (h .code) (x .code) c) left-fine right-fine (rw (c, p, e))
                 (by-tree ∙ (rw (c, w, e)))
             settle false e w = refused-follows (by-tree ∙ (rw (c, w, e))) (rw (c, p, e))
 
-        no-operands : (c : eqb (h .code) (x .code) ≡ true) → hasOperand (h .code) ≡ false → Follows s t (suc k) i at b (matchAt s t (suc k) i at b)
+        no-operands : (c : eqb (h .code) (x .code) ≡ true) → hasOperand (h .code) ≡ false
+            → Follows s t (suc k) i at b (matchAt s t (suc k) i at b)
         no-operands c p =
             let n : x .operand ≡ 0 = no-operand s at (ap hasOperand (sym (eqb-true (h .code) (x .code) c)) ∙ p) in
-            goes-on b z (eqb-true (h .code) (x .code) c) left-fine right-fine (rw (c, p)) (by-tree ∙ (rw (c, operand-none (h .code) (h .operand) (x .operand) (takenOf s b) p n)))
+            goes-on b z (eqb-true (h .code) (x .code) c) left-fine right-fine (rw (c, p))
+            (by-tree ∙ (rw (c, operand-none (h .code) (h .operand) (x .operand) (takenOf s b) p n)))
 
-        operands : (c : eqb (h .code) (x .code) ≡ true) → (p : Bool) → hasOperand (h .code) ≡ p → Follows s t (suc k) i at b (matchAt s t (suc k) i at b)
+        operands : (c : eqb (h .code) (x .code) ≡ true) → (p : Bool) → hasOperand (h .code) ≡ p
+            → Follows s t (suc k) i at b (matchAt s t (suc k) i at b)
         operands c true p = with-operand c p (operandOf (h .operand) (x .operand) b .ok) refl
         operands c false p = no-operands c p
 
@@ -436,7 +497,8 @@ module _ (s t : List ℕ) (k : ℕ) (ih : (i at : ℕ) (b : Bind) → Sized b �
         codes false c = refused-follows (by-tree ∙ (rw c)) (rw c)
 
 -- THE MATCHER BY POSITIONS IS THE MATCHER ON TREES
-pub match-follows : (s t : List ℕ) (k i at : ℕ) (b : Bind) → Sized b → T (proper (parseTree t k i .tree)) → Follows s t k i at b (matchAt s t k i at b)
+pub match-follows : (s t : List ℕ) (k i at : ℕ) (b : Bind) → Sized b → T (proper (parseTree t k i .tree))
+    → Follows s t k i at b (matchAt s t k i at b)
 unfolding matchAt
 match-follows s t zero i at b z pr = record {
   same = rw (parse-zero t 0 i refl, parse-zero s 0 at refl) (match-none (takenOf s b));
@@ -446,9 +508,11 @@ match-follows s t zero i at b z pr = record {
 }
 match-follows s t (suc k) i at b z pr = go (ltb (nodeAt t i .code) firstHole) refl (λ i at b z pr. match-follows s t k i at b z pr)
   where
-    go : (c : Bool) → ltb (nodeAt t i .code) firstHole ≡ c → ((i at : ℕ) (b : Bind) → Sized b → T (proper (parseTree t k i .tree)) → Follows s t k i at b (matchAt s t k i at b))
+    go : (c : Bool) → ltb (nodeAt t i .code) firstHole ≡ c
+        → ((i at : ℕ) (b : Bind) → Sized b → T (proper (parseTree t k i .tree)) → Follows s t k i at b (matchAt s t k i at b))
         → Follows s t (suc k) i at b (matchAt s t (suc k) i at b)
     go true c ih = node-follows s t k ih i at b z (ltb-true (nodeAt t i .code) firstHole c) pr
     go false c ih =
         let n : suc k ≡ 0 → ⊥ = omega arith in
-        hole-follows s t k i at b z (ltb-false (nodeAt t i .code) firstHole c) (ltb→lt (nodeAt t i .code - firstHole) holeCount (rw (parse-step t (suc k) i n, proper-node, c) at pr))
+        hole-follows s t k i at b z (ltb-false (nodeAt t i .code) firstHole c)
+        (ltb→lt (nodeAt t i .code - firstHole) holeCount (rw (parse-step t (suc k) i n, proper-node, c) at pr))

@@ -19,7 +19,9 @@ use Rattle.matcher.specs.Template.{firstHole, firstNumber, formulaHole, 
 hole-at : (c : Holes) (k : ℕ) → instT c (hole k) ≡ c .tree k
 hole-at c k = go (leb firstHole (firstHole + k)) (le-leb firstHole (firstHole + k) (omega arith))
   where
-    go : (b : Bool) → b ≡ true → _≡_ {A = Tree} (elim b [ true ↦ c .tree (firstHole + k - firstHole) | false ↦ node (firstHole + k) (operandT c (firstHole + k) 0) Tree.none Tree.none ]) (c .tree k)
+    go : (b : Bool) → b ≡ true → _≡_ {A = Tree} (elim b
+        [ true ↦ c .tree (firstHole + k - firstHole) | false ↦ node (firstHole + k) (operandT c (firstHole + k) 0) Tree.none Tree.none ])
+        (c .tree k)
     go true e = ap (c .tree) (let q : firstHole + k - firstHole ≡ k = omega arith in q)
     go false e = let z : _≡_ {A = ℕ} 0 1 = cc in absurd (omega arith)
 
@@ -40,7 +42,8 @@ pub record Agrees (g : Given) (c : Holes) : Type 0 where
   pub f : ofTree Sort.value (c .tree formulaHole) ≡ g .f
 
 module _ (g : Given) (c : Holes) (ag : Agrees g c) where
-  op-ofTree : (n : Num) → _≡_ {A = ℕ} (elim (ltb (numHole n) firstNumber) [ true ↦ c .num (numHole n) | false ↦ numHole n - firstNumber ]) (number g (fillOf c) n)
+  op-ofTree : (n : Num) → _≡_ {A = ℕ} (elim (ltb (numHole n) firstNumber) [ true ↦ c .num (numHole n) | false ↦ numHole n - firstNumber ])
+      (number g (fillOf c) n)
   op-ofTree t = ag .t
   op-ofTree x = ag .x
   op-ofTree r = ag .r

@@ -31,7 +31,8 @@ unfolding isThere
 there-left p m q k o h e = rw (eq-eqb _ _ h) e
 
 module _ (s : List ℕ) (tpl j at k : ℕ) (b : Bind) where
-  pub hole-new : getD (b .left) j 0 ≡ 0 → opened tpl (record { at = set (b .at) j at; left = set (b .left) j k; num = b .num }) ≡ holeAt s tpl j at k b
+  pub hole-new : getD (b .left) j 0 ≡ 0 → opened tpl (record { at = set (b .at) j at; left = set (b .left) j k; num = b .num }) ≡ holeAt s
+      tpl j at k b
   unfolding holeAt
   hole-new z = rw (eq-eqb _ _ z)
 
@@ -95,7 +96,8 @@ module _ (s t : List ℕ) (i at k : ℕ) (b : Bind) where
     unfolding rootAt
     root-node x r l e d = rw (ne-eqb _ _ z, ← eh, lt-ltb _ _ l, ← e) d
 
-    pub root-hole : (r : Root) → firstHole ≤ h .code → h .code - firstHole < holeCount → r ≡ holeAt s (h .next) (h .code - firstHole) at k b → r ≡ rootAt s t i at k b
+    pub root-hole : (r : Root) → firstHole ≤ h .code → h .code - firstHole < holeCount
+        → r ≡ holeAt s (h .next) (h .code - firstHole) at k b → r ≡ rootAt s t i at k b
     unfolding rootAt
     root-hole r l u e = rw (ne-eqb _ _ z, ← eh, le-ltb _ _ l, lt-ltb _ _ u) e
 
@@ -105,7 +107,8 @@ module _ (s t : List ℕ) (i at k : ℕ) (b : Bind) where
 
 pub ruleset roots = (root-zero, root-node, root-hole, root-bad, part-small)
 
-pub match-step : (s t : List ℕ) (k i at : ℕ) (b : Bind) → matchAt s t k i at b ≡ grown (λ i' at' b'. matchAt s t (k - 1) i' at' b') (parseTree s k at .end) (rootAt s t i at k b)
+pub match-step : (s t : List ℕ) (k i at : ℕ) (b : Bind)
+    → matchAt s t k i at b ≡ grown (λ i' at' b'. matchAt s t (k - 1) i' at' b') (parseTree s k at .end) (rootAt s t i at k b)
 unfolding matchAt rootAt
 match-step s t zero i at b = refl
 match-step s t (suc k) i at b = rw (sub-one (suc k))
@@ -137,10 +140,12 @@ module _ (s t : List ℕ) (i at k : ℕ) (b : Bind) (r : Root) (e : r ≡ rootAt
       match-two m₂ o d = rw (match-step, ← e, ne-eqb _ _ n₂, eq-eqb _ _ q, ← em, o) d
 
     module _ (n₃ : r .kind ≡ 3 → ⊥) where
-      pub match-open : (next : ℕ) → r .kind ≡ 4 → next ≡ parseTree s k at .end → record { ok = true; tpl = r .tpl; next = next; bind = r .bind } ≡ matchAt s t k i at b
+      pub match-open : (next : ℕ) → r .kind ≡ 4 → next ≡ parseTree s k at .end
+          → record { ok = true; tpl = r .tpl; next = next; bind = r .bind } ≡ matchAt s t k i at b
       match-open next q d = rw (match-step, ← e, ne-eqb _ _ n₂, ne-eqb _ _ n₃, eq-eqb _ _ q, ← d)
 
-      pub match-root : (r .kind ≡ 4 → ⊥) → record { ok = ltb 0 (r .kind); tpl = r .tpl; next = r .next; bind = r .bind } ≡ matchAt s t k i at b
+      pub match-root : (r .kind ≡ 4 → ⊥) → record { ok = ltb 0 (r .kind); tpl = r .tpl; next = r .next; bind = r .bind } ≡ matchAt s t k i
+          at b
       match-root n₄ = rw (match-step, ← e, ne-eqb _ _ n₂, ne-eqb _ _ n₃, ne-eqb _ _ n₄)
 
   pub falls-one : (m : ℕ) → k ≡ m → r .kind ≡ 2 → k - 1 < m

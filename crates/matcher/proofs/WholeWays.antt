@@ -32,8 +32,10 @@ module _ (s t : List ℕ) (i at k : ℕ) (b : Bind) (r : Root) (e : r ≡ rootAt
     unfolding wholeAt
     whole-root n₃ = go (eqb (r .kind) 4) refl
       where
-        go : (x : Bool) → eqb (r .kind) 4 ≡ x → record { ok = ltb 0 (r .kind); tpl = r .tpl; bind = r .bind } ≡ wholeOf (matchAt s t k i at b)
-        go true d = let q : r .kind ≡ 4 = eqb-true (r .kind) 4 d in (rw q) ∙ ap wholeOf (match-open s t i at k b r e n₂ n₃ (parseTree s k at .end) q refl)
+        go : (x : Bool) → eqb (r .kind) 4 ≡ x → record { ok = ltb 0 (r .kind); tpl = r .tpl; bind = r .bind } ≡ wholeOf
+            (matchAt s t k i at b)
+        go true d = let q : r .kind ≡ 4 = eqb-true (r .kind) 4 d in
+            (rw q) ∙ ap wholeOf (match-open s t i at k b r e n₂ n₃ (parseTree s k at .end) q refl)
         go false d = ap wholeOf (match-root s t i at k b r e n₂ n₃ (eqb-false (r .kind) 4 d))
 
 pub ruleset wholes = (whole-one, whole-first-no, whole-two, whole-root, parting)

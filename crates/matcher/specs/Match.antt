@@ -45,5 +45,6 @@ matchT Tree.none Tree.none b = some b
 matchT Tree.none (node e n m s) b = none
 matchT (node d o l r) u b = elim (leb firstHole d) [
   | true ↦ takeTree (d - firstHole) u b (b .tree (d - firstHole))
-  | false ↦ isNode u (λ e n m s. andThen (when (eqb d e) b) (λ b₀. andThen (takeOperand d o n b₀) (λ b₁. andThen (matchT l m b₁) (λ b₂. matchT r s b₂))))
+  | false ↦ isNode u (λ e n m s. andThen (when (eqb d e) b)
+      (λ b₀. andThen (takeOperand d o n b₀) (λ b₁. andThen (matchT l m b₁) (λ b₂. matchT r s b₂))))
 ]

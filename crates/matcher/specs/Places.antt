@@ -108,4 +108,5 @@ takenOf s b = record {
 unfoldable pub proper : Tree → Bool
 proper Tree.none = true
 proper (Tree.node d o l r) =
-    cond (ltb d firstHole) (cond (hasOperand d) (cond (ltb o firstNumber) (ltb o holeCount) true) true && (proper l && proper r)) (ltb (d - firstHole) holeCount)
+    cond (ltb d firstHole) (cond (hasOperand d) (cond (ltb o firstNumber) (ltb o holeCount) true) true && (proper l && proper r))
+    (ltb (d - firstHole) holeCount)

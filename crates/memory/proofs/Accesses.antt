@@ -3,12 +3,12 @@ use Prim.Native.Nat.{ℕ}
 use mathlib.Core.Path.{_≡_, refl, ap, _∙_}
 use mathlib.Core.Bool.{Bool, true, false}
 use mathlib.Core.List.{List}
-use Rattle.memory.specs.View.{next, withPosition, joined}
+use Rattle.writes.specs.View.{next, withPosition, joined}
 use Rattle.memory.specs.Memory.{writeAt, viewOf, withView, covering, memoryOf, seenBy, withSeen}
 use Rattle.memory.specs.Insert.{inserted}
 use Rattle.memory.specs.Access.{readFrom, readView, loaded, put, stored, swapFrom, swapView, swapped}
-use Rattle.memory.specs.declared.view.View.{View}
-use Rattle.memory.specs.declared.write.Write.{Write}
+use Rattle.writes.specs.declared.view.View.{View}
+use Rattle.writes.specs.declared.write.Write.{Write}
 use Rattle.memory.specs.declared.memory.Sight.{Sight}
 
 module _ (w : Write) (v r : View) where

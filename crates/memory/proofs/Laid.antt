@@ -8,12 +8,12 @@ use lib.ListN.{length, getD, set, take, length-map}
 use lib.Seq.{take-suc-set, take-suc, take-length}
 use Rattle.columns.specs.Column.{column}
 use Rattle.columns.proofs.Listed.{column-none, column-length}
-use Rattle.memory.specs.Write.{noWrite}
-use Rattle.memory.specs.Table.{readAt, writesIn}
+use Rattle.writes.specs.Write.{noWrite}
+use Rattle.writes.specs.Table.{readAt, writesIn}
 use Rattle.memory.specs.Memory.{memoryOf}
-use Rattle.memory.specs.declared.write.Write.{Write}
+use Rattle.writes.specs.declared.write.Write.{Write}
 use Rattle.memory.specs.declared.memory.Sight.{Sight}
-use Rattle.memory.proofs.Views.{column-set, column-whole, repeated}
+use Rattle.writes.proofs.Views.{column-set, column-whole, repeated}
 
 writes-length : (b : List ℕ) → length (writesIn b) ≡ 72
 unfolding writesIn

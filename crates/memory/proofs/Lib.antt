@@ -1,5 +1,3 @@
-pub mod Views
-pub mod Bytes
 pub mod Writes
 pub mod Moves
 pub mod Places

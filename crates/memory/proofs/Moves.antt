@@ -8,16 +8,16 @@ use Rattle.logic.specs.Machine.{down}
 use Rattle.logic.proofs.Base.{down-is}
 use Rattle.columns.specs.Column.{column}
 use Rattle.columns.proofs.Listed.{column-none, column-getD, column-same}
-use Rattle.memory.specs.View.{next, upView}
-use Rattle.memory.specs.Write.{noView, noWrite, upWrite}
-use Rattle.memory.specs.Table.{writesIn, raisedAll, movedUp}
+use Rattle.writes.specs.View.{next, upView}
+use Rattle.writes.specs.Write.{noView, noWrite, upWrite}
+use Rattle.writes.specs.Table.{writesIn, raisedAll, movedUp}
 use Rattle.memory.specs.Memory.{indexOf, sizeAt, memoryOf}
 use Rattle.memory.specs.Insert.{movedTo, viewsTo, grown, inserted}
-use Rattle.memory.specs.declared.view.View.{View}
-use Rattle.memory.specs.declared.write.Write.{Write}
+use Rattle.writes.specs.declared.view.View.{View}
+use Rattle.writes.specs.declared.write.Write.{Write}
 use Rattle.memory.specs.declared.memory.Memory.{Memory}
 use Rattle.memory.specs.declared.memory.Sight.{Sight}
-use Rattle.memory.proofs.Views.{column-set, column-whole, repeated}
+use Rattle.writes.proofs.Views.{column-set, column-whole, repeated}
 
 module _ (l : List View) (k p : ℕ) where
   abbrev sees : ℕ → View

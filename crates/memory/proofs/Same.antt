@@ -15,11 +15,11 @@ use Rattle.logic.specs.Base.{upd}
 use Rattle.logic.specs.Machine as Logic
 use Rattle.logic.proofs.Base.{upd-same, upd-other}
 use Rattle.columns.proofs.Listed.{column-length, column-getD}
-use Rattle.memory.specs.View.{next, up, positionIn, withPosition, upView, joinedTo, joined}
-use Rattle.memory.specs.Write.{upWrite, coveredWrite}
+use Rattle.writes.specs.View.{next, up, positionIn, withPosition, upView, joinedTo, joined}
+use Rattle.writes.specs.Write.{upWrite, coveredWrite}
 use Rattle.memory.specs.Stands.{SameView, SameWrite}
-use Rattle.memory.specs.declared.view.View.{View}
-use Rattle.memory.specs.declared.write.Write.{Write}
+use Rattle.writes.specs.declared.view.View.{View}
+use Rattle.writes.specs.declared.write.Write.{Write}
 
 -- a list set at one place, and a function changed at one: numbers count from 0 there and from 1 here
 pub set-upd : {A B : Type 0} (R : A → B → Type 0) (l : List A) (d : A) (f : ℕ → B) (n k : ℕ) (a : A) (b : B) → k < length l → R a b

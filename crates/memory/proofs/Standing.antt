@@ -16,13 +16,13 @@ use Rattle.logic.specs.Machine as Logic
 use Rattle.logic.specs.Machine.{State}
 use Rattle.logic.proofs.Base.{upds, upd-same, upd-other, upd-case, down-is}
 use Rattle.columns.proofs.Listed.{column-length, column-getD}
-use Rattle.memory.specs.View.{next, upView}
-use Rattle.memory.specs.Write.{noView, noWrite, upWrite, coveredWrite}
+use Rattle.writes.specs.View.{next, upView}
+use Rattle.writes.specs.Write.{noView, noWrite, upWrite, coveredWrite}
 use Rattle.memory.specs.Memory.{first, indexOf, writeAt, sizeAt, viewOf, withView, covering}
 use Rattle.memory.specs.Insert.{movedTo, viewsTo, inserted}
 use Rattle.memory.specs.Stands.{SameView, SameWrite, Stands, Named}
-use Rattle.memory.specs.declared.view.View.{View}
-use Rattle.memory.specs.declared.write.Write.{Write}
+use Rattle.writes.specs.declared.view.View.{View}
+use Rattle.writes.specs.declared.write.Write.{Write}
 use Rattle.memory.specs.declared.memory.Memory.{Memory}
 use Rattle.memory.proofs.Places.{row-ends, apart, place, begins-same, begins-later}
 use Rattle.memory.proofs.Same.{set-upd, up-view-same, up-write-same}
@@ -116,7 +116,8 @@ module _ (m : Memory) (s : State) (st : Stands m s) where
       point = s .point;
     }
 
-    module _ (k p : ℕ) (a : Write) (b : Logic.Write) (h : k < 8) (g : p < s .size (suc k)) (f : first (m .sizes) 8 < 72) (e : SameWrite a b) where
+    module _ (k p : ℕ) (a : Write) (b : Logic.Write) (h : k < 8) (g : p < s .size (suc k)) (f : first (m .sizes) 8 < 72)
+        (e : SameWrite a b) where
       abbrev comes : ℕ → Write
       comes j = upWrite k p (getD (m .writes) (Logic.down (indexOf (m .sizes) k p) j) noWrite)
 

@@ -9,11 +9,11 @@ use Rattle.logic.specs.Base.{upd}
 use Rattle.logic.specs.Machine as Logic
 use Rattle.logic.specs.Machine.{State}
 use Rattle.logic.proofs.Base.{upds, by-word}
-use Rattle.memory.specs.View.{next, withPosition, joined}
+use Rattle.writes.specs.View.{next, withPosition, joined}
 use Rattle.memory.specs.Memory.{first, writeAt, viewOf, covering}
 use Rattle.memory.specs.Access.{readFrom, readView, loaded, put, stored, swapFrom, swapView, swapped}
 use Rattle.memory.specs.Stands.{SameView, SameWrite, Stands, Named}
-use Rattle.memory.specs.declared.view.View.{View}
+use Rattle.writes.specs.declared.view.View.{View}
 use Rattle.memory.specs.declared.memory.Memory.{Memory}
 use Rattle.memory.proofs.Places.{row-ends}
 use Rattle.memory.proofs.Same.{set-same, join-same}

@@ -1,11 +1,11 @@
 -- What loads, stores and swaps do to rows and views: thread t, at position p of word k, all counted from 0.
 use Prim.Native.Nat.{ℕ}
 use mathlib.Core.Bool.{Bool, true, false, cond}
-use Rattle.memory.specs.View.{next, withPosition, joined}
+use Rattle.writes.specs.View.{next, withPosition, joined}
 use Rattle.memory.specs.Memory.{writeAt, viewOf, withView, covering}
 use Rattle.memory.specs.Insert.{inserted}
-use Rattle.memory.specs.declared.view.View.{View}
-use Rattle.memory.specs.declared.write.Write.{Write}
+use Rattle.writes.specs.declared.view.View.{View}
+use Rattle.writes.specs.declared.write.Write.{Write}
 use Rattle.memory.specs.declared.memory.Memory.{Memory}
 
 -- from the view v a load of w: if it acquires and w is releasing, word by word the later of v and the stored one; else only that word moves

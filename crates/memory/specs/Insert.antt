@@ -4,11 +4,11 @@ use mathlib.Core.List.{List}
 use lib.ListN.{getD, set}
 use Rattle.logic.specs.Machine.{down}
 use Rattle.columns.specs.Column.{column}
-use Rattle.memory.specs.View.{next, upView}
-use Rattle.memory.specs.Write.{noView, noWrite, upWrite}
+use Rattle.writes.specs.View.{next, upView}
+use Rattle.writes.specs.Write.{noView, noWrite, upWrite}
 use Rattle.memory.specs.Memory.{indexOf, sizeAt}
-use Rattle.memory.specs.declared.view.View.{View}
-use Rattle.memory.specs.declared.write.Write.{Write}
+use Rattle.writes.specs.declared.view.View.{View}
+use Rattle.writes.specs.declared.write.Write.{Write}
 use Rattle.memory.specs.declared.memory.Memory.{Memory}
 use Rattle.memory.specs.declared.memory.Sight.{Sight}
 

@@ -1,6 +1,3 @@
-pub mod View
-pub mod Write
-pub mod Table
 pub mod Memory
 pub mod Insert
 pub mod Stands

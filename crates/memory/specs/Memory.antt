@@ -2,10 +2,10 @@
 use Prim.Native.Nat.{ℕ, zero, suc, _+_, _%_}
 use mathlib.Core.List.{List}
 use lib.ListN.{getD, set}
-use Rattle.memory.specs.Write.{noView, noWrite, coveredWrite}
-use Rattle.memory.specs.declared.view.View.{View}
-use Rattle.memory.specs.declared.write.Write.{Write}
-use Rattle.memory.specs.Table.{writesIn}
+use Rattle.writes.specs.Write.{noView, noWrite, coveredWrite}
+use Rattle.writes.specs.declared.view.View.{View}
+use Rattle.writes.specs.declared.write.Write.{Write}
+use Rattle.writes.specs.Table.{writesIn}
 use Rattle.memory.specs.declared.memory.Memory.{Memory}
 use Rattle.memory.specs.declared.memory.Sight.{Sight}
 

@@ -5,8 +5,8 @@ use lib.ListN.{length, getD}
 use Rattle.logic.specs.Machine as Logic
 use Rattle.logic.specs.Machine.{State}
 use Rattle.memory.specs.Memory.{first, writeAt, sizeAt, viewOf}
-use Rattle.memory.specs.declared.view.View.{View}
-use Rattle.memory.specs.declared.write.Write.{Write}
+use Rattle.writes.specs.declared.view.View.{View}
+use Rattle.writes.specs.declared.write.Write.{Write}
 use Rattle.memory.specs.declared.memory.Memory.{Memory}
 
 pub record SameView (v : View) (w : Logic.View) : Type 0 where

@@ -1,14 +1,14 @@
 // A write inserted behind another: those behind it in the table move up by one, and every view keeps its writes.
 use crate::memory::Sight;
 use crate::memory::index_of;
-use crate::table::Places;
-use crate::table::move_up;
-use crate::table::put_at;
-use crate::table::raise_all;
-use crate::view::next;
-use crate::view::start_view;
-use crate::view::up_view;
-use crate::write::Write;
+use writes::table::Places;
+use writes::table::move_up;
+use writes::table::put_at;
+use writes::table::raise_all;
+use writes::view::next;
+use writes::view::start_view;
+use writes::view::up_view;
+use writes::write::Write;
 ghost use mathlib.Core.Path.{_≡_};
 ghost use lib.ListN.{length};
 ghost use Rattle.memory.specs.Memory.{memoryOf};

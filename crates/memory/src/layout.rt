@@ -1,13 +1,13 @@
 // A memory's writes laid out as bytes, and taken from there.
 use crate::memory::Memory;
 use crate::memory::Sight;
-use crate::table::Places;
-use crate::table::put_at;
-use crate::table::read_at;
-use crate::write::start_write;
+use writes::table::Places;
+use writes::table::put_at;
+use writes::table::read_at;
+use writes::write::start_write;
 ghost use mathlib.Core.Path.{_≡_};
 ghost use lib.ListN.{length};
-ghost use Rattle.memory.specs.Table.{writesIn};
+ghost use Rattle.writes.specs.Table.{writesIn};
 ghost use Rattle.memory.specs.Memory.{memoryOf};
 
 pub fn lay_out(m: Memory, table: &mut [u8; Places::BYTES])

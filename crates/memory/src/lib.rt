@@ -3,6 +3,3 @@ pub mod access;
 pub mod insert;
 pub mod layout;
 pub mod memory;
-pub mod table;
-pub mod view;
-pub mod write;

@@ -1,12 +1,12 @@
 // One table of writes, word by word in row order, with the sizes of eight rows, and the views of four threads. Words, threads and
 // positions count from 0 here; a number past the last one is taken modulo eight, four or 72.
-use crate::table::Places;
-use crate::table::cover_at;
-use crate::table::read_at;
-use crate::view::View;
-use crate::write::Write;
 use limits::read::byte_at;
 use limits::read::octet_at;
+use writes::table::Places;
+use writes::table::cover_at;
+use writes::table::read_at;
+use writes::view::View;
+use writes::write::Write;
 ghost use mathlib.Core.Path.{_≡_};
 ghost use Prim.Native.Nat.{_≤_, _<_, _*_, _%_};
 ghost use lib.ListN.{length, getD};

@@ -7,7 +7,7 @@ use lib.ListN.{length, getD, drop, take, length-drop, length-map, List·getD-map
 use lib.Seq.{getD-take, getD-drop, length-take-le}
 use Rattle.limits.specs.Numbers.{word, numbers}
 use Rattle.program.specs.declared.sizes.Sizes.{Sizes}
-use Rattle.program.specs.Thread.{lastPoint, cut, instructions}
+use Rattle.threads.specs.Thread.{lastPoint, cut, instructions}
 use Rattle.records.specs.Line.{premises}
 use Rattle.records.specs.Places.{threadBody}
 use Rattle.image.specs.Decode.{recordCount}

@@ -5,7 +5,7 @@ use Prim.Native.Nat.{ℕ, suc}
 use lib.ListN.{getD, drop}
 use Rattle.logic.specs.Obligations.{flat}
 use Rattle.program.specs.declared.sizes.Sizes.{Sizes}
-use Rattle.program.specs.Thread.{instructions}
+use Rattle.threads.specs.Thread.{instructions}
 use Rattle.records.specs.Line.{premises}
 use Rattle.content.specs.Certificate.{left, right, lineBody}
 use Rattle.document.specs.Parse.{documentOf}

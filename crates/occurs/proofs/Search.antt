@@ -29,13 +29,15 @@ module _ (w : Query) (owners : List ℕ) (c o : ℕ) (t : Bool) (e : t ≡ membe
   unfolding isQueried
   query-equal d z q = rw (← e, d, ne-eqb _ _ z, eq-eqb _ _ q)
 
-  pub query-foreign : (n : ℕ) → t ≡ true → (w .operand ≡ any → ⊥) → (w .operand ≡ equal → ⊥) → n ≡ ownerOf owners o → not (eqb n (w .number)) ≡ isQueried w owners c o
+  pub query-foreign : (n : ℕ) → t ≡ true → (w .operand ≡ any → ⊥) → (w .operand ≡ equal → ⊥) → n ≡ ownerOf owners o
+      → not (eqb n (w .number)) ≡ isQueried w owners c o
   unfolding isQueried
   query-foreign n d z q f = rw (← e, d, ne-eqb _ _ z, ne-eqb _ _ q, f)
 
 pub ruleset queries = (query-no, query-any, query-equal, query-foreign)
 
-occurs-node : (w : Query) (owners : List ℕ) (c o : ℕ) (l r : Tree) → occurs w owners (node c o l r) ≡ cond (isQueried w owners c o) true (cond (occurs w owners l) true (occurs w owners r))
+occurs-node : (w : Query) (owners : List ℕ) (c o : ℕ) (l r : Tree)
+    → occurs w owners (node c o l r) ≡ cond (isQueried w owners c o) true (cond (occurs w owners l) true (occurs w owners r))
 unfolding occurs
 occurs-node w owners c o l r = refl
 
@@ -77,7 +79,8 @@ module _ (w : Query) (owners : List ℕ) (s : List ℕ) (k at : ℕ) where
           let q = said-no (occurs w owners (left .tree)) (left .end) m g eg d in
           rw (parse-step s k at z, ← e, occurs-node, ← et, h, o, q .0, occurs-none, q .1)
 
-      pub find-two : (m : ℕ) (r : Found) → g ≡ No m → (x .parts ≡ 1 → ⊥) → r ≡ foundIn w owners (parseTree s (k - 1) m) → r ≡ foundIn w owners (parseTree s k at)
+      pub find-two : (m : ℕ) (r : Found) → g ≡ No m → (x .parts ≡ 1 → ⊥) → r ≡ foundIn w owners (parseTree s (k - 1) m)
+          → r ≡ foundIn w owners (parseTree s k at)
       find-two m r d o er =
           let q = said-no (occurs w owners (left .tree)) (left .end) m g eg d in
           let t₁ : 1 < x .parts = omega arith in

@@ -8,8 +8,8 @@ use Rattle.frames.specs.Records.{bodies}
 use Rattle.program.specs.declared.sizes.Sizes.{Sizes}
 use Rattle.records.specs.Tally.{obligationCount}
 use Rattle.content.specs.Image.{obligationsBody, namedLine}
-use Rattle.content.specs.Totals.{totalsOf}
-use Rattle.content.specs.declared.totals.Totals.{Totals}
+use Rattle.lookups.specs.Totals.{totalsOf}
+use Rattle.lookups.specs.declared.totals.Totals.{Totals}
 use Rattle.marks.specs.declared.Marks.{Marks}
 use Rattle.report.specs.declared.obligation.Obligation.{Obligation}
 use Rattle.outcomes.specs.declared.outcome.Outcome.{Outcome}

@@ -19,7 +19,8 @@ use Rattle.wanted.specs.Concluding.{codeAt}
 module _ (s : List ℕ) (z : Sizes) (m : Marks) where
   -- the obligation with number c
   unfoldable pub judgeOne : Obligation → ℕ → Outcome
-  judgeOne o c = cond (eqb (codeAt s z m o (namedLine z (bodies s) c)) 0) (Met (c + 1)) (Failed o (codeAt s z m o (namedLine z (bodies s) c)) (namedLine z (bodies s) c) c)
+  judgeOne o c = cond (eqb (codeAt s z m o (namedLine z (bodies s) c)) 0) (Met (c + 1))
+      (Failed o (codeAt s z m o (namedLine z (bodies s) c)) (namedLine z (bodies s) c) c)
 
   -- the outcome so far, and one obligation more; the first that is not met stays
   unfoldable pub next : Obligation → Outcome → Outcome

@@ -50,4 +50,5 @@ module _ (s : List ℕ) (z : Sizes) (m : Marks) where
   actionsTo t n r = judged s z m (flat (λ k. flat (λ u. assertions P t k u) (upTo (P .threads))) (below n)) r
 
   unfoldable pub interferencesTo : ℕ → Outcome → Outcome
-  interferencesTo n r = judged s z m (flat (λ t. flat (λ k. flat (λ u. assertions P t k u) (upTo (P .threads))) (instructed P t)) (upTo n)) r
+  interferencesTo n r = judged s z m (flat (λ t. flat (λ k. flat (λ u. assertions P t k u) (upTo (P .threads))) (instructed P t))
+      (upTo n)) r

@@ -1,13 +1,13 @@
 // The claims of an image in order, each against the line that it names.
-use content::totals::Totals;
-use content::totals::totals_of;
+use lookups::totals::Totals;
+use lookups::totals::totals_of;
 use program::sizes::Sizes;
 use wanted::concluding::is_sustained;
 ghost use mathlib.Core.Path.{_≡_};
 ghost use Prim.Native.Nat.{_≤_};
 ghost use Rattle.frames.specs.Records.{bodies};
 ghost use Rattle.index.specs.Table.{indexOf};
-ghost use Rattle.content.specs.Totals.{totalsOf};
+ghost use Rattle.lookups.specs.Totals.{totalsOf};
 ghost use Rattle.marks.specs.Marks.{asMarks};
 ghost use Rattle.outcomes.specs.Claims.{firstDenied};
 

@@ -1,6 +1,6 @@
 // The outcome so far, and one obligation more.
-use content::named::named_line;
-use content::totals::Totals;
+use lookups::named::named_line;
+use lookups::totals::Totals;
 use program::sizes::Sizes;
 use report::obligation::Obligation;
 use wanted::concluding::Unmet;
@@ -8,7 +8,7 @@ use wanted::concluding::code_at;
 ghost use mathlib.Core.Path.{_≡_};
 ghost use Rattle.frames.specs.Records.{bodies};
 ghost use Rattle.index.specs.Table.{indexOf};
-ghost use Rattle.content.specs.Totals.{totalsOf};
+ghost use Rattle.lookups.specs.Totals.{totalsOf};
 ghost use Rattle.marks.specs.Marks.{asMarks};
 ghost use Rattle.outcomes.specs.Judge.{judgeOne, next};
 

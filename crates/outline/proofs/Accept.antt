@@ -29,7 +29,8 @@ module _ (D : Image) where
   pub code-bears : (w : Statement) (n : ℕ) → lineCode D w n ≡ 0 → Bears D w n
   unfolding lineCode
   code-bears w n e =
-      go (eqb n 0) refl (sameStatement w (D .certificate .line n .says)) refl (marked (D .program) (D .certificate) (D .certificate .count) n) refl e
+      go (eqb n 0) refl (sameStatement w (D .certificate .line n .says)) refl
+      (marked (D .program) (D .certificate) (D .certificate .count) n) refl e
     where
       go : (a : Bool) → eqb n 0 ≡ a → (b : Bool) → sameStatement w (D .certificate .line n .says) ≡ b
           → (c : Bool) → marked (D .program) (D .certificate) (D .certificate .count) n ≡ c → codeOf a b c ≡ 0 → Bears D w n
@@ -47,8 +48,10 @@ module _ (D : Image) where
   bears-code A w n m =
       rw (
         ne-eqb n 0 (m .there),
-        holds-true (sameStatement w (D .certificate .line n .says)) (subst (λ (z : Statement). T (sameStatement w z)) (m .says) (statement-refl w)),
-        holds-true (marked (D .program) (D .certificate) (D .certificate .count) n) (justified-marked (D .program) (D .certificate) (record { lower = A .lower }) n (m .just)),
+        holds-true (sameStatement w (D .certificate .line n .says))
+            (subst (λ (z : Statement). T (sameStatement w z)) (m .says) (statement-refl w)),
+        holds-true (marked (D .program) (D .certificate) (D .certificate .count) n)
+            (justified-marked (D .program) (D .certificate) (record { lower = A .lower }) n (m .just)),
       )
 
   abbrev Step : ℕ → Obligation → List Obligation → ℕ → Bool → Outcome
@@ -60,15 +63,20 @@ module _ (D : Image) where
   judge-met (o ∷ os) m d e = go (eqb (code D o (D .named m)) 0) refl e (judge-met os (suc m) d)
     where
       go : (b : Bool) → eqb (code D o (D .named m)) 0 ≡ b → Step (code D o (D .named m)) o os m b ≡ met d
-          → (judge D os (suc m) ≡ met d → AllMet D os (suc m) × (d ≡ suc m + length os)) → (Met D o (D .named m) × AllMet D os (suc m)) × (d ≡ m + suc (length os))
-      go true q e ih = let r = ih e in ((code-bears (asks D o) (D .named m) (eqb-true (code D o (D .named m)) 0 q), r .0), omega (arith, r .1))
+          → (judge D os (suc m) ≡ met d → AllMet D os (suc m) × (d ≡ suc m + length os))
+          → (Met D o (D .named m) × AllMet D os (suc m)) × (d ≡ m + suc (length os))
+      go true q e ih = let r = ih e in (
+        (code-bears (asks D o) (D .named m) (eqb-true (code D o (D .named m)) 0 q), r .0),
+        omega (arith, r .1),
+      )
       go false q e ih = let z : _≡_ {A = ℕ} 0 1 = cc in absurd (omega arith)
 
   pub met-judge : Admitted D → (os : List Obligation) (m : ℕ) → AllMet D os m → judge D os m ≡ met (m + length os)
   unfolding judge
   met-judge A [] m h = ap met (let q : m ≡ m + 0 = omega arith in q)
   met-judge A (o ∷ os) m h =
-      subst (λ (b : Bool). Step (code D o (D .named m)) o os m b ≡ met (m + suc (length os))) (sym (eq-eqb (code D o (D .named m)) 0 (bears-code A (asks D o) (D .named m) (h .0))))
+      subst (λ (b : Bool). Step (code D o (D .named m)) o os m b ≡ met (m + suc (length os)))
+      (sym (eq-eqb (code D o (D .named m)) 0 (bears-code A (asks D o) (D .named m) (h .0))))
       (met-judge A os (suc m) (h .1) ∙ ap met (let q : suc m + length os ≡ m + suc (length os) = omega arith in q))
 
   -- the one that is named: those before it are met, it has its own line and code, and it is not met
@@ -123,7 +131,8 @@ module _ (D : Image) where
 
   -- what a line bears out is derived
   bears-derived : Admitted D → (w : Statement) (n : ℕ) → Bears D w n → Derived (D .program) w
-  bears-derived A w n h = subst (Derived (D .program)) (sym (h .says)) (justified-derived (D .program) (D .certificate) (A .lines) n (h .just))
+  bears-derived A w n h = subst (Derived (D .program)) (sym (h .says))
+      (justified-derived (D .program) (D .certificate) (A .lines) n (h .just))
 
   all-derived : Admitted D → (os : List Obligation) (m : ℕ) → AllMet D os m → All (λ o. Derived (D .program) (asks D o)) os
   all-derived A [] m h = tt
@@ -132,17 +141,20 @@ module _ (D : Image) where
 
 -- DEMAND 3: if every obligation is met, the outline is true in every run
 pub accepted-sound : (D : Image) → Admitted D → (d : ℕ) → outcome D ≡ met d → EveryRun (D .program) (D .outline)
-accepted-sound D A d e = every-run (D .program) (D .outline) (A .program) (all-derived D A (obligations (D .program)) 0 (judge-met D (obligations (D .program)) 0 d e .0))
+accepted-sound D A d e = every-run (D .program) (D .outline) (A .program)
+    (all-derived D A (obligations (D .program)) 0 (judge-met D (obligations (D .program)) 0 d e .0))
 
 -- DEMAND 2: accepted exactly if each obligation is met by its line, and then all are counted
 pub accepted-met : (D : Image) (d : ℕ) → outcome D ≡ met d → AllMet D (obligations (D .program)) 0 × (d ≡ length (obligations (D .program)))
 accepted-met D d e = let r = judge-met D (obligations (D .program)) 0 d e in (r .0, omega (arith, r .1))
 
 pub met-accepted : (D : Image) → Admitted D → AllMet D (obligations (D .program)) 0 → outcome D ≡ met (length (obligations (D .program)))
-met-accepted D A h = met-judge D A (obligations (D .program)) 0 h ∙ ap met (let q : 0 + length (obligations (D .program)) ≡ length (obligations (D .program)) = omega arith in q)
+met-accepted D A h = met-judge D A (obligations (D .program)) 0 h
+    ∙ ap met (let q : 0 + length (obligations (D .program)) ≡ length (obligations (D .program)) = omega arith in q)
 
 -- else the first that is not met
-pub failed-first : (D : Image) (c : ℕ) (o : Obligation) (n k : ℕ) → outcome D ≡ failed c o n k → First D (obligations (D .program)) 0 c o n k
+pub failed-first : (D : Image) (c : ℕ) (o : Obligation) (n k : ℕ) → outcome D ≡ failed c o n k
+    → First D (obligations (D .program)) 0 c o n k
 failed-first D = judge-failed D (obligations (D .program)) 0
 
 -- CLAIMS
@@ -157,11 +169,13 @@ module _ (D : Image) where
   claims-accepted zero i m d e = ((let q : m ≡ d = cc in q), λ j a b. absurd (omega arith))
   claims-accepted (suc n) i m d e = go (sustained D i) refl e (claims-accepted n (suc i) m d)
     where
-      go : (b : Bool) → sustained D i ≡ b → Next n i m b ≡ accepted d → (judgeClaims D n (suc i) m ≡ accepted d → (m ≡ d) × ((j : ℕ) → suc i ≤ j → j < suc i + n → Sustains D j))
+      go : (b : Bool) → sustained D i ≡ b → Next n i m b ≡ accepted d
+          → (judgeClaims D n (suc i) m ≡ accepted d → (m ≡ d) × ((j : ℕ) → suc i ≤ j → j < suc i + n → Sustains D j))
           → (m ≡ d) × ((j : ℕ) → i ≤ j → j < i + suc n → Sustains D j)
       go true q e ih = let r = ih e in (r .0, λ j a b. pick (eqb i j) j refl a b (r .1))
         where
-          pick : (x : Bool) (j : ℕ) → eqb i j ≡ x → i ≤ j → j < i + suc n → ((j : ℕ) → suc i ≤ j → j < suc i + n → Sustains D j) → Sustains D j
+          pick : (x : Bool) (j : ℕ) → eqb i j ≡ x → i ≤ j → j < i + suc n → ((j : ℕ) → suc i ≤ j → j < suc i + n → Sustains D j)
+              → Sustains D j
           pick true j y a b f = subst (Sustains D) (eqb-true i j y) (code-bears D (forbids D i) (D .claims .line i) (eqb-true _ 0 q))
           pick false j y a b f = let z = eqb-false i j y in f j (omega arith) (omega arith)
       go false q e ih = let z : _≡_ {A = ℕ} 0 1 = cc in absurd (omega arith)
@@ -170,7 +184,8 @@ module _ (D : Image) where
   unfolding judgeClaims
   sustained-accepted A zero i m h = refl
   sustained-accepted A (suc n) i m h =
-      subst (λ (b : Bool). Next n i m b ≡ accepted m) (sym (eq-eqb _ 0 (bears-code D A (forbids D i) (D .claims .line i) (h i (omega arith) (omega arith)))))
+      subst (λ (b : Bool). Next n i m b ≡ accepted m)
+      (sym (eq-eqb _ 0 (bears-code D A (forbids D i) (D .claims .line i) (h i (omega arith) (omega arith)))))
       (sustained-accepted A n (suc i) m (λ j a b. h j (omega arith) (omega arith)))
 
   -- else the first that is not
@@ -186,10 +201,17 @@ module _ (D : Image) where
   claims-denied A zero i m k d e = let z : _≡_ {A = ℕ} 0 1 = cc in absurd (omega arith)
   claims-denied A (suc n) i m k d e = go (sustained D i) refl e (claims-denied A n (suc i) m k d)
     where
-      go : (b : Bool) → sustained D i ≡ b → Next n i m b ≡ denied k d → (judgeClaims D n (suc i) m ≡ denied k d → FirstDenied n (suc i) m k d) → FirstDenied (suc n) i m k d
+      go : (b : Bool) → sustained D i ≡ b → Next n i m b ≡ denied k d
+          → (judgeClaims D n (suc i) m ≡ denied k d → FirstDenied n (suc i) m k d) → FirstDenied (suc n) i m k d
       go true q e ih =
           let f = ih e in
-          record { all = f .all; late = omega (arith, f .late); inside = omega (arith, f .inside); before = λ j a b. pick (eqb i j) j refl a b (f .before); fails = f .fails }
+          record {
+            all = f .all;
+            late = omega (arith, f .late);
+            inside = omega (arith, f .inside);
+            before = λ j a b. pick (eqb i j) j refl a b (f .before);
+            fails = f .fails;
+          }
         where
           pick : (x : Bool) (j : ℕ) → eqb i j ≡ x → i ≤ j → j < k → ((j : ℕ) → suc i ≤ j → j < k → Sustains D j) → Sustains D j
           pick true j y a b f = subst (Sustains D) (eqb-true i j y) (code-bears D (forbids D i) (D .claims .line i) (eqb-true _ 0 q))
@@ -222,8 +244,10 @@ module _ (D : Image) where
   denied-first A m k d p e = claims-denied A (D .claims .count) 0 m k d (sym (ap (behindObligations D) p) ∙ e)
 
   -- THE CLAIMS of an accepted image: in no run are both threads at their points
-  pub accepted-never : Admitted D → (d : ℕ) → finding D ≡ accepted d → (i : ℕ) → i < D .claims .count → NeverBoth (D .program) (D .claims .claim i)
+  pub accepted-never : Admitted D → (d : ℕ) → finding D ≡ accepted d → (i : ℕ) → i < D .claims .count
+      → NeverBoth (D .program) (D .claims .claim i)
   accepted-never A d e i b =
       let r = accepted-all d e in
-      never-both (D .program) (D .outline) (A .program) (all-derived D A (obligations (D .program)) 0 (judge-met D (obligations (D .program)) 0 d (r .0) .0))
+      never-both (D .program) (D .outline) (A .program)
+      (all-derived D A (obligations (D .program)) 0 (judge-met D (obligations (D .program)) 0 d (r .0) .0))
       (D .claims .claim i) (A .claims i b) (bears-derived D A (forbids D i) (D .claims .line i) (r .1 i b))

@@ -22,12 +22,14 @@ use Rattle.outline.proofs.Accept.{First, accepted-met, met-accepted, fa
 
 module _ (D : Image) where
   -- obligations met from number m on: each of the first j
-  met-before : (j : ℕ) (os : List Obligation) (m : ℕ) → AllMet D (take j os) m → (i : ℕ) → i < j → i < length os → Met D (getD os i (start 0)) (D .named (m + i))
+  met-before : (j : ℕ) (os : List Obligation) (m : ℕ) → AllMet D (take j os) m → (i : ℕ) → i < j → i < length os
+      → Met D (getD os i (start 0)) (D .named (m + i))
   met-before zero os m h i b c = absurd (omega arith)
   met-before (suc j) [] m h i b c = absurd (omega arith)
   met-before (suc j) (o ∷ os) m h zero b c = subst (λ (z : ℕ). Met D o (D .named z)) (let e : m ≡ m + 0 = omega arith in e) (h .0)
   met-before (suc j) (o ∷ os) m h (suc i) b c =
-      subst (λ (z : ℕ). Met D (getD os i (start 0)) (D .named z)) (let e : suc m + i ≡ m + suc i = omega arith in e) (met-before j os (suc m) (h .1) i (omega arith) (omega arith))
+      subst (λ (z : ℕ). Met D (getD os i (start 0)) (D .named z)) (let e : suc m + i ≡ m + suc i = omega arith in e)
+      (met-before j os (suc m) (h .1) i (omega arith) (omega arith))
 
   all-each : (os : List Obligation) → AllMet D os 0 → (i : ℕ) → i < length os → Met D (getD os i (start 0)) (D .named i)
   all-each os h i b =
@@ -38,24 +40,30 @@ module _ (D : Image) where
   each-all [] m h = tt
   each-all (o ∷ os) m h = (
     subst (λ (z : ℕ). Met D o (D .named z)) (let e : m + 0 ≡ m = omega arith in e) (h 0 (omega arith)),
-    each-all os (suc m) (λ i b. subst (λ (z : ℕ). Met D (getD os i (start 0)) (D .named z)) (let e : m + suc i ≡ suc m + i = omega arith in e) (h (suc i) (omega arith))),
+    each-all os (suc m) (λ i b. subst (λ (z : ℕ). Met D (getD os i (start 0)) (D .named z))
+        (let e : m + suc i ≡ suc m + i = omega arith in e) (h (suc i) (omega arith))),
   )
 
   -- a code that is not 0 says what is lacking
   code-lacks : Admitted D → (o : Obligation) (n : ℕ) → code D o n ≢ 0 → Lacks D o n (code D o n)
   unfolding lineCode
   code-lacks A o n =
-      go (eqb n 0) refl (sameStatement (asks D o) (D .certificate .line n .says)) refl (marked (D .program) (D .certificate) (D .certificate .count) n) refl
+      go (eqb n 0) refl (sameStatement (asks D o) (D .certificate .line n .says)) refl
+      (marked (D .program) (D .certificate) (D .certificate .count) n) refl
     where
       go : (a : Bool) → eqb n 0 ≡ a → (b : Bool) → sameStatement (asks D o) (D .certificate .line n .says) ≡ b
           → (c : Bool) → marked (D .program) (D .certificate) (D .certificate .count) n ≡ c → codeOf a b c ≢ 0 → Lacks D o n (codeOf a b c)
       go true p b q c r h = no-line (eqb-true n 0 p)
       go false p false q c r h =
           other-statement (eqb-false n 0 p)
-          (λ e. true≢false (sym (holds-true (sameStatement (asks D o) (D .certificate .line n .says)) (subst (λ (z : Statement). T (sameStatement (asks D o) z)) e (statement-refl (asks D o)))) ∙ q))
+          (λ e. true≢false
+          (sym (holds-true (sameStatement (asks D o) (D .certificate .line n .says))
+          (subst (λ (z : Statement). T (sameStatement (asks D o) z)) e (statement-refl (asks D o)))) ∙ q))
       go false p true q false r h =
           not-justified (eqb-false n 0 p) (statement-eq (asks D o) (D .certificate .line n .says) (is-true q))
-          (λ j. true≢false (sym (holds-true (marked (D .program) (D .certificate) (D .certificate .count) n) (justified-marked (D .program) (D .certificate) (record { lower = A .lower }) n j)) ∙ r))
+          (λ j. true≢false
+          (sym (holds-true (marked (D .program) (D .certificate) (D .certificate .count) n)
+          (justified-marked (D .program) (D .certificate) (record { lower = A .lower }) n j)) ∙ r))
       go false p true q true r h = absurd (h refl)
 
   -- claims name no obligation
@@ -64,7 +72,8 @@ module _ (D : Image) where
   never-unmet zero i m c o l k e = let z : _≡_ {A = ℕ} 0 1 = cc in omega arith
   never-unmet (suc n) i m c o l k e = go (sustained D i) e (never-unmet n (suc i) m c o l k)
     where
-      go : (b : Bool) → elim b as (λ x. Finding) [ true ↦ judgeClaims D n (suc i) m | false ↦ denied i m ] ≡ unmet c o l k → (judgeClaims D n (suc i) m ≡ unmet c o l k → ⊥) → ⊥
+      go : (b : Bool) → elim b as (λ x. Finding) [ true ↦ judgeClaims D n (suc i) m | false ↦ denied i m ] ≡ unmet c o l k
+          → (judgeClaims D n (suc i) m ≡ unmet c o l k → ⊥) → ⊥
       go true e ih = ih e
       go false e ih = let z : _≡_ {A = ℕ} 0 1 = cc in omega arith
 
@@ -73,7 +82,8 @@ module _ (D : Image) where
       let z : k - 0 ≡ k = omega arith in
       let eo : numbered D k ≡ o = subst (λ (j : ℕ). getD (obligations (D .program)) j (start 0) ≡ o) z (f .its) in
       let lacking : Lacks D o n c = subst (Lacks D o n) (f .fails) (code-lacks A o n (λ y. f .bad (sym (f .fails) ∙ y))) in
-      let its : Lacks D (numbered D k) (D .named k) c = subst (λ (w : Obligation). Lacks D w (D .named k) c) (sym eo) (subst (λ (w : ℕ). Lacks D o w c) (f .line) lacking) in
+      let its : Lacks D (numbered D k) (D .named k) c =
+      subst (λ (w : Obligation). Lacks D w (D .named k) c) (sym eo) (subst (λ (w : ℕ). Lacks D o w c) (f .line) lacking) in
       subst (λ (w : ℕ). Judged D (unmet c o w k)) (sym (f .line))
       (subst (λ (w : Obligation). Judged D (unmet c w (D .named k) k)) eo (first-unmet k (omega (arith, f .inside)) (before f) its))
     where
@@ -108,4 +118,5 @@ module _ (D : Image) where
   pub each-accepted : Admitted D → EachMet D → EachSustained D → finding D ≡ accepted (total D)
   each-accepted A h g =
       all-accepted D A (total D)
-      (met-accepted D A (each-all (obligations (D .program)) 0 (λ i b. subst (λ (z : ℕ). Met D (numbered D i) (D .named z)) (let e : i ≡ 0 + i = omega arith in e) (h i b)))) g
+      (met-accepted D A (each-all (obligations (D .program)) 0
+      (λ i b. subst (λ (z : ℕ). Met D (numbered D i) (D .named z)) (let e : i ≡ 0 + i = omega arith in e) (h i b)))) g

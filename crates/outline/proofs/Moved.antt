@@ -20,11 +20,13 @@ and-assoc true b c = refl
 and-assoc false b c = refl
 
 -- a record for two lists, one behind the other
-met-append : (f : Obligation → ℕ → Bool) (os ps : List Obligation) (r q : List ℕ) → length r ≡ length os → allMet f (os ++ ps) (r ++ q) ≡ allMet f os r && allMet f ps q
+met-append : (f : Obligation → ℕ → Bool) (os ps : List Obligation) (r q : List ℕ) → length r ≡ length os
+    → allMet f (os ++ ps) (r ++ q) ≡ allMet f os r && allMet f ps q
 met-append f [] ps [] q e = refl
 met-append f [] ps (n ∷ r) q e = absurd (omega arith)
 met-append f (o ∷ os) ps [] q e = absurd (omega arith)
-met-append f (o ∷ os) ps (n ∷ r) q e = ap (λ (b : Bool). f o n && b) (met-append f os ps r q (omega arith)) ∙ and-assoc (f o n) (allMet f os r) (allMet f ps q)
+met-append f (o ∷ os) ps (n ∷ r) q e = ap (λ (b : Bool). f o n && b) (met-append f os ps r q (omega arith))
+    ∙ and-assoc (f o n) (allMet f os r) (allMet f ps q)
 
 module _ (D : Image) where
   abbrev meets : Obligation → ℕ → Bool
@@ -57,7 +59,8 @@ module _ (D : Image) where
       go false h = refl
 
   -- the first lists, and what is behind them
-  judged-split : (os ps : List Obligation) → isMet (judge D (os ++ ps) 0) ≡ allMet meets os (lines os 0) && allMet meets ps (lines ps (length os))
+  judged-split : (os ps : List Obligation) → isMet (judge D (os ++ ps) 0) ≡ allMet meets os (lines os 0)
+      && allMet meets ps (lines ps (length os))
   judged-split os ps =
       let q : 0 + length os ≡ length os = omega arith in
       judged-met (os ++ ps) 0

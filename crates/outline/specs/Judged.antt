@@ -40,5 +40,6 @@ module _ (D : Image) where
   -- lacks, its line and how many are before it; or, where every obligation is met, the first claim that is not sustained
   pub data Judged : Finding → Type 0 where
     each-met : EachMet → EachSustained → Judged (accepted total)
-    first-unmet : {c : ℕ} (k : ℕ) → k < total → ((i : ℕ) → i < k → Meets i) → Lacks (numbered k) (D .named k) c → Judged (unmet c (numbered k) (D .named k) k)
+    first-unmet : {c : ℕ} (k : ℕ) → k < total → ((i : ℕ) → i < k → Meets i) → Lacks (numbered k) (D .named k) c
+        → Judged (unmet c (numbered k) (D .named k) k)
     first-denied : (i : ℕ) → EachMet → i < D .claims .count → ((j : ℕ) → j < i → Sustains j) → (Sustains i → ⊥) → Judged (denied i total)

@@ -1,4 +1,5 @@
--- The verdict on a well-formed image: its obligations in order, each met by the line that it names, or the first that is not; then its claims.
+-- The verdict on a well-formed image: its obligations in order, each met by the line that it names, or the first that is not; then its
+-- claims.
 use mathlib.Core.Path.{_≡_}
 use mathlib.Core.Bool.{Bool, true, false}
 use mathlib.Core.List.{List, [], _∷_}
@@ -49,7 +50,8 @@ module _ (D : Image) where
 
   -- of the line n, where the statement w is wanted
   unfoldable pub lineCode : Statement → ℕ → ℕ
-  lineCode w n = codeOf (eqb n 0) (sameStatement w (D .certificate .line n .says)) (marked (D .program) (D .certificate) (D .certificate .count) n)
+  lineCode w n = codeOf (eqb n 0) (sameStatement w (D .certificate .line n .says))
+      (marked (D .program) (D .certificate) (D .certificate .count) n)
 
   abbrev pub code : Obligation → ℕ → ℕ
   code o n = lineCode (asks o) n
@@ -109,5 +111,6 @@ module _ (D : Image) where
 pub record Admitted (D : Image) : Type 0 where
   pub program : WellFormed (D .program) (D .outline)
   pub lines : (n : ℕ) → Within (D .certificate .count) n → T (admitted (D .program) (D .certificate .line n .says))
-  pub lower : (n : ℕ) → Within (D .certificate .count) n → (i : ℕ) → i < length (D .certificate .line n .premises) → getD (D .certificate .line n .premises) i 0 < n
+  pub lower : (n : ℕ) → Within (D .certificate .count) n → (i : ℕ) → i < length (D .certificate .line n .premises)
+      → getD (D .certificate .line n .premises) i 0 < n
   pub claims : (i : ℕ) → i < D .claims .count → threadsIn (D .program) (D .claims .claim i)

@@ -30,7 +30,8 @@ old-value : T (fits (tickets 8) r47 (triple 2 2 (sees 2 (box (equal (word 1) (co
 unfolding nothing at-points tickets upd same
 old-value = tt
 
-old-value-elsewhere : fits (tickets 8) r47 (triple 2 2 (sees 2 (box (equal (word 1) (const 2)))) (holds (equal (reg 1) (const 2)))) [] ≡ false
+old-value-elsewhere : fits (tickets 8) r47 (triple 2 2 (sees 2 (box (equal (word 1) (const 2)))) (holds (equal (reg 1) (const 2))))
+    [] ≡ false
 unfolding nothing at-points tickets upd same
 old-value-elsewhere = refl
 

@@ -26,16 +26,19 @@ All-all f [] h = tt
 All-all f (x ∷ l) h = and-both (f x) (all f l) (h .0) (All-all f l (h .1))
 
 -- lines of one form for one point
-at-eq : (form : ℕ → ℕ → Assertion → Assertion → Statement) (t u k j : ℕ) (a c b d : Assertion) → T ((eqb t u && eqb k j) && (same a c && same b d)) → form t k a b ≡ form u j c d
+at-eq : (form : ℕ → ℕ → Assertion → Assertion → Statement) (t u k j : ℕ) (a c b d : Assertion)
+    → T ((eqb t u && eqb k j) && (same a c && same b d)) → form t k a b ≡ form u j c d
 at-eq form t u k j a c b d h =
-    go (eqb→eq t u (search (and-left, and-right))) (eqb→eq k j (search (and-left, and-right))) (same-eq a c (search (and-left, and-right))) (same-eq b d (search (and-left, and-right)))
+    go (eqb→eq t u (search (and-left, and-right))) (eqb→eq k j (search (and-left, and-right)))
+    (same-eq a c (search (and-left, and-right))) (same-eq b d (search (and-left, and-right)))
   where
     go : t ≡ u → k ≡ j → a ≡ c → b ≡ d → form t k a b ≡ form u j c d
     go p q e d = cc
 
 at-refl : (t k : ℕ) (a b : Assertion) → T ((eqb t t && eqb k k) && (same a a && same b b))
 at-refl t k a b =
-    and-both (eqb t t && eqb k k) (same a a && same b b) (and-both (eqb t t) (eqb k k) (eqb-refl t) (eqb-refl k)) (and-both (same a a) (same b b) (same-refl a) (same-refl b))
+    and-both (eqb t t && eqb k k) (same a a && same b b) (and-both (eqb t t) (eqb k k) (eqb-refl t) (eqb-refl k))
+    (and-both (same a a) (same b b) (same-refl a) (same-refl b))
 
 -- lines that say the same are one
 pub statement-eq : (s r : Statement) → T (sameStatement s r) → s ≡ r
@@ -66,7 +69,8 @@ pub all-eq : (l m : List Statement) → T (sameAll l m) → l ≡ m
 all-eq [] [] h = refl
 all-eq [] (r ∷ m) h = absurd h
 all-eq (s ∷ l) [] h = absurd h
-all-eq (s ∷ l) (r ∷ m) h = ap₂ (λ (s : Statement) (l : List Statement). s ∷ l) (statement-eq s r (search and-left)) (all-eq l m (search and-right))
+all-eq (s ∷ l) (r ∷ m) h = ap₂ (λ (s : Statement) (l : List Statement). s ∷ l) (statement-eq s r (search and-left))
+    (all-eq l m (search and-right))
 
 pub all-refl : (l : List Statement) → T (sameAll l l)
 all-refl [] = tt
@@ -93,7 +97,8 @@ pub record Fit (P : Program) (t k : ℕ) (σ : Fill) (R : Row) (s : Statement) (
   pub op : T (operationFits P t k (R .says) (R .operations))
   pub side : All (λ c. T (sideHolds P t k σ s ps c)) (R .sides)
 
-pub fit : (P : Program) (n : Rule) (s : Statement) (ps : List Statement) → T (fits P n s ps) → Fit P (threadOf s) (pointOf s) (found (row n) s ps) (row n) s ps
+pub fit : (P : Program) (n : Rule) (s : Statement) (ps : List Statement) → T (fits P n s ps)
+    → Fit P (threadOf s) (pointOf s) (found (row n) s ps) (row n) s ps
 fit P n s ps h = go (found (row n) s ps) (row n) h
   where
     go : (σ : Fill) (R : Row) → T (fitsBy P (threadOf s) (pointOf s) σ R s ps) → Fit P (threadOf s) (pointOf s) σ R s ps
@@ -104,18 +109,23 @@ fit P n s ps h = go (found (row n) s ps) (row n) h
       side = all-All (sideHolds P (threadOf s) (pointOf s) σ s ps) (R .sides) (search (and-left, and-right));
     }
 
-pub fit-back : (P : Program) (n : Rule) (s : Statement) (ps : List Statement) → Fit P (threadOf s) (pointOf s) (found (row n) s ps) (row n) s ps → T (fits P n s ps)
+pub fit-back : (P : Program) (n : Rule) (s : Statement) (ps : List Statement)
+    → Fit P (threadOf s) (pointOf s) (found (row n) s ps) (row n) s ps → T (fits P n s ps)
 fit-back P n s ps g = go (threadOf s) (pointOf s) (found (row n) s ps) (row n) g
   where
     go : (t k : ℕ) (σ : Fill) (R : Row) → Fit P t k σ R s ps → T (fitsBy P t k σ R s ps)
     go t k σ R g =
-        and-both (sameStatement (filled P t k σ (R .says)) s && premisesFit P t k σ (R .premises) ps) (operationFits P t k (R .says) (R .operations) && all (sideHolds P t k σ s ps) (R .sides))
+        and-both (sameStatement (filled P t k σ (R .says)) s && premisesFit P t k σ (R .premises) ps)
+        (operationFits P t k (R .says) (R .operations) && all (sideHolds P t k σ s ps) (R .sides))
         (and-both (sameStatement (filled P t k σ (R .says)) s) (premisesFit P t k σ (R .premises) ps)
-        (subst (λ (z : Statement). T (sameStatement (filled P t k σ (R .says)) z)) (g .says) (statement-refl (filled P t k σ (R .says)))) (premises-back P t k σ (R .premises) ps (g .premises)))
-        (and-both (operationFits P t k (R .says) (R .operations)) (all (sideHolds P t k σ s ps) (R .sides)) (g .op) (All-all (sideHolds P t k σ s ps) (R .sides) (g .side)))
+        (subst (λ (z : Statement). T (sameStatement (filled P t k σ (R .says)) z)) (g .says) (statement-refl (filled P t k σ (R .says))))
+        (premises-back P t k σ (R .premises) ps (g .premises)))
+        (and-both (operationFits P t k (R .says) (R .operations)) (all (sideHolds P t k σ s ps) (R .sides)) (g .op)
+        (All-all (sideHolds P t k σ s ps) (R .sides) (g .side)))
 
 -- AN OPERATION AMONG THOSE ALLOWED, as a triple reads the instruction
-not-assign : (l : List ℕ) → isAmong Opcode.assign l ≡ false → isAmong Opcode.assignTwo l ≡ false → (ns : List Note) → T (isAmong (opcode (act none ns)) l) → ⊥
+not-assign : (l : List ℕ) → isAmong Opcode.assign l ≡ false → isAmong Opcode.assignTwo l ≡ false → (ns : List Note)
+    → T (isAmong (opcode (act none ns)) l) → ⊥
 not-assign l e d [] h = subst T e h
 not-assign l e d (n ∷ []) h = subst T e h
 not-assign l e d (n ∷ m ∷ ns) h = subst T d h
@@ -131,7 +141,8 @@ as-assign (act (write (exchange r) x f) ns) h g = absurd h
 as-assign (act (write (fetchAdd r) x f) ns) h g = absurd h
 as-assign (branch e a) h g = absurd h
 
-pub as-load : {Z : Type 0} (c : Instr) → T (isAmong (opcode (first c)) Rules.loads) → ((acq : Bool) (r x : ℕ) → first c ≡ act (load acq r x) [] → Z) → Z
+pub as-load : {Z : Type 0} (c : Instr) → T (isAmong (opcode (first c)) Rules.loads)
+    → ((acq : Bool) (r x : ℕ) → first c ≡ act (load acq r x) [] → Z) → Z
 as-load (act none ns) h g = absurd (not-assign Rules.loads refl refl ns h)
 as-load (act (load true r x) ns) h g = g true r x refl
 as-load (act (load false r x) ns) h g = g false r x refl
@@ -142,7 +153,8 @@ as-load (act (write (exchange r) x f) ns) h g = absurd h
 as-load (act (write (fetchAdd r) x f) ns) h g = absurd h
 as-load (branch e a) h g = absurd h
 
-pub as-acquire : {Z : Type 0} (c : Instr) → T (isAmong (opcode (first c)) Rules.acquiring) → ((r x : ℕ) → first c ≡ act (load true r x) [] → Z)
+pub as-acquire : {Z : Type 0} (c : Instr) → T (isAmong (opcode (first c)) Rules.acquiring)
+    → ((r x : ℕ) → first c ≡ act (load true r x) [] → Z)
     → ((m : Mode) (x : ℕ) (f : Value) → first c ≡ act (write m x f) [] → T (covers m) → Z) → Z
 as-acquire (act none ns) h g k = absurd (not-assign Rules.acquiring refl refl ns h)
 as-acquire (act (load true r x) ns) h g k = g r x refl
@@ -154,7 +166,8 @@ as-acquire (act (write (exchange r) x f) ns) h g k = k (exchange r) x f refl tt
 as-acquire (act (write (fetchAdd r) x f) ns) h g k = k (fetchAdd r) x f refl tt
 as-acquire (branch e a) h g k = absurd h
 
-pub as-store : {Z : Type 0} (c : Instr) → T (isAmong (opcode (first c)) Rules.stores) → ((rel : Bool) (x : ℕ) (f : Value) → first c ≡ act (write (store rel) x f) [] → Z) → Z
+pub as-store : {Z : Type 0} (c : Instr) → T (isAmong (opcode (first c)) Rules.stores)
+    → ((rel : Bool) (x : ℕ) (f : Value) → first c ≡ act (write (store rel) x f) [] → Z) → Z
 as-store (act none ns) h g = absurd (not-assign Rules.stores refl refl ns h)
 as-store (act (load true r x) ns) h g = absurd h
 as-store (act (load false r x) ns) h g = absurd h
@@ -165,7 +178,8 @@ as-store (act (write (exchange r) x f) ns) h g = absurd h
 as-store (act (write (fetchAdd r) x f) ns) h g = absurd h
 as-store (branch e a) h g = absurd h
 
-pub as-release : {Z : Type 0} (c : Instr) → T (isAmong (opcode (first c)) Rules.releasing) → ((x : ℕ) (f : Value) → first c ≡ act (write (store true) x f) [] → Z) → Z
+pub as-release : {Z : Type 0} (c : Instr) → T (isAmong (opcode (first c)) Rules.releasing)
+    → ((x : ℕ) (f : Value) → first c ≡ act (write (store true) x f) [] → Z) → Z
 as-release (act none ns) h g = absurd (not-assign Rules.releasing refl refl ns h)
 as-release (act (load true r x) ns) h g = absurd h
 as-release (act (load false r x) ns) h g = absurd h
@@ -176,7 +190,8 @@ as-release (act (write (exchange r) x f) ns) h g = absurd h
 as-release (act (write (fetchAdd r) x f) ns) h g = absurd h
 as-release (branch e a) h g = absurd h
 
-pub as-store-swap : {Z : Type 0} (c : Instr) → T (isAmong (opcode (first c)) Rules.storesSwaps) → ((m : Mode) (x : ℕ) (f : Value) → first c ≡ act (write m x f) [] → T (not (returns m)) → Z) → Z
+pub as-store-swap : {Z : Type 0} (c : Instr) → T (isAmong (opcode (first c)) Rules.storesSwaps)
+    → ((m : Mode) (x : ℕ) (f : Value) → first c ≡ act (write m x f) [] → T (not (returns m)) → Z) → Z
 as-store-swap (act none ns) h g = absurd (not-assign Rules.storesSwaps refl refl ns h)
 as-store-swap (act (load true r x) ns) h g = absurd h
 as-store-swap (act (load false r x) ns) h g = absurd h
@@ -187,7 +202,8 @@ as-store-swap (act (write (exchange r) x f) ns) h g = absurd h
 as-store-swap (act (write (fetchAdd r) x f) ns) h g = absurd h
 as-store-swap (branch e a) h g = absurd h
 
-pub as-write : {Z : Type 0} (c : Instr) → T (isAmong (opcode (first c)) Rules.writes) → ((m : Mode) (x : ℕ) (f : Value) → first c ≡ act (write m x f) [] → Z) → Z
+pub as-write : {Z : Type 0} (c : Instr) → T (isAmong (opcode (first c)) Rules.writes)
+    → ((m : Mode) (x : ℕ) (f : Value) → first c ≡ act (write m x f) [] → Z) → Z
 as-write (act none ns) h g = absurd (not-assign Rules.writes refl refl ns h)
 as-write (act (load true r x) ns) h g = absurd h
 as-write (act (load false r x) ns) h g = absurd h
@@ -198,7 +214,8 @@ as-write (act (write (exchange r) x f) ns) h g = g (exchange r) x f refl
 as-write (act (write (fetchAdd r) x f) ns) h g = g (fetchAdd r) x f refl
 as-write (branch e a) h g = absurd h
 
-pub as-swap : {Z : Type 0} (c : Instr) → T (isAmong (opcode (first c)) Rules.swaps) → ((x : ℕ) (f : Value) → first c ≡ act (write swap x f) [] → Z) → Z
+pub as-swap : {Z : Type 0} (c : Instr) → T (isAmong (opcode (first c)) Rules.swaps)
+    → ((x : ℕ) (f : Value) → first c ≡ act (write swap x f) [] → Z) → Z
 as-swap (act none ns) h g = absurd (not-assign Rules.swaps refl refl ns h)
 as-swap (act (load true r x) ns) h g = absurd h
 as-swap (act (load false r x) ns) h g = absurd h
@@ -209,7 +226,8 @@ as-swap (act (write (exchange r) x f) ns) h g = absurd h
 as-swap (act (write (fetchAdd r) x f) ns) h g = absurd h
 as-swap (branch e a) h g = absurd h
 
-pub as-covering : {Z : Type 0} (c : Instr) → T (isAmong (opcode (first c)) Rules.covering) → ((m : Mode) (x : ℕ) (f : Value) → first c ≡ act (write m x f) [] → T (covers m) → Z) → Z
+pub as-covering : {Z : Type 0} (c : Instr) → T (isAmong (opcode (first c)) Rules.covering)
+    → ((m : Mode) (x : ℕ) (f : Value) → first c ≡ act (write m x f) [] → T (covers m) → Z) → Z
 as-covering (act none ns) h g = absurd (not-assign Rules.covering refl refl ns h)
 as-covering (act (load true r x) ns) h g = absurd h
 as-covering (act (load false r x) ns) h g = absurd h
@@ -220,7 +238,8 @@ as-covering (act (write (exchange r) x f) ns) h g = g (exchange r) x f refl tt
 as-covering (act (write (fetchAdd r) x f) ns) h g = g (fetchAdd r) x f refl tt
 as-covering (branch e a) h g = absurd h
 
-pub as-returning : {Z : Type 0} (c : Instr) → T (isAmong (opcode (first c)) Rules.returning) → ((m : Mode) (x : ℕ) (f : Value) → first c ≡ act (write m x f) [] → T (returns m) → Z) → Z
+pub as-returning : {Z : Type 0} (c : Instr) → T (isAmong (opcode (first c)) Rules.returning)
+    → ((m : Mode) (x : ℕ) (f : Value) → first c ≡ act (write m x f) [] → T (returns m) → Z) → Z
 as-returning (act none ns) h g = absurd (not-assign Rules.returning refl refl ns h)
 as-returning (act (load true r x) ns) h g = absurd h
 as-returning (act (load false r x) ns) h g = absurd h

@@ -100,7 +100,8 @@ op-kept (act (write (exchange r) x f) ns) a h = tt
 op-kept (act (write (fetchAdd r) x f) ns) a h = tt
 op-kept (branch e k) a h = absurd h
 
-op-pair : (m : Mode) (x : ℕ) (f : Value) (n : Note) (ns : List Note) → T (not (returns m)) → T (isAmong (opcode (act (write m x f) (n ∷ ns))) Rules.pairs)
+op-pair : (m : Mode) (x : ℕ) (f : Value) (n : Note) (ns : List Note) → T (not (returns m))
+    → T (isAmong (opcode (act (write m x f) (n ∷ ns))) Rules.pairs)
 op-pair (store true) x f n ns h = tt
 op-pair (store false) x f n ns h = tt
 op-pair swap x f n ns h = tt
@@ -109,7 +110,8 @@ op-pair (fetchAdd r) x f n ns h = absurd h
 
 module _ (P : Program) where
   -- the row's shapes, filled in any way: the rule
-  pub rule-of : (n : Rule) (σ : Fill) (s : Statement) (ps : List Statement) → Fit P (threadOf s) (pointOf s) σ (row n) s ps → Inference P n ps s
+  pub rule-of : (n : Rule) (σ : Fill) (s : Statement) (ps : List Statement) → Fit P (threadOf s) (pointOf s) σ (row n) s ps
+      → Inference P n ps s
   rule-of r1 σ s ps g = subst₂ (Inference P r1) (g .premises) (g .says) (i1 (g .side .0))
   rule-of r2 σ s ps g =
       subst₂ (Inference P r2) (g .premises) (g .says) (as-assign (P .code (threadOf s) (pointOf s)) (g .op) (λ ns e.
@@ -121,20 +123,27 @@ module _ (P : Program) where
       (sym (same-eq (σ .test 3) (replace (regBy r (word x)) (σ .test 2)) (rw e at (g .side .0)))) (i3 {e = σ .test 2} e)))
   rule-of r4 σ s ps g =
       subst₂ (Inference P r4) (g .premises) (g .says) (as-load (P .code (threadOf s) (pointOf s)) (g .op) (λ acq r x e.
-      subst (λ (a : Test). Inference P r4 (triple (threadOf s) (pointOf s) (sees (threadOf s) (σ .interval 0)) (σ .assertion 1) ∷ []) (triple (threadOf s) (pointOf s) (sees (threadOf s) (chop (box a) (σ .interval 0))) (eitherA (holds (σ .test 2)) (σ .assertion 1))))
+      subst (λ (a : Test). Inference P r4 (triple (threadOf s) (pointOf s) (sees (threadOf s) (σ .interval 0)) (σ .assertion 1) ∷ [])
+      (triple (threadOf s) (pointOf s) (sees (threadOf s) (chop (box a) (σ .interval 0)))
+      (eitherA (holds (σ .test 2)) (σ .assertion 1))))
       (sym (same-eq (σ .test 3) (replace (regBy r (word x)) (σ .test 2)) (rw e at (g .side .0)))) (i4 {e = σ .test 2} e)))
   rule-of r5 σ s ps g =
-      subst₂ (Inference P r5) (g .premises) (g .says) (as-acquire (P .code (threadOf s) (pointOf s)) (g .op) (λ r x e. rw e (i5-load e)) (λ m x f e c. rw e (i5-swap e c)))
+      subst₂ (Inference P r5) (g .premises) (g .says)
+      (as-acquire (P .code (threadOf s) (pointOf s)) (g .op) (λ r x e. rw e (i5-load e)) (λ m x f e c. rw e (i5-swap e c)))
   rule-of r6 σ s ps g =
       subst₂ (Inference P r6) (g .premises) (g .says) (as-store (P .code (threadOf s) (pointOf s)) (g .op) (λ rel x f e. rw e (i6 e)))
   rule-of r7 σ s ps g =
       subst₂ (Inference P r7) (g .premises) (g .says) (as-store (P .code (threadOf s) (pointOf s)) (g .op) (λ rel x f e. rw e (i7 e)))
   rule-of r8 σ s ps g =
-      subst₂ (Inference P r8) (g .premises) (g .says) (as-release (P .code (threadOf s) (pointOf s)) (g .op) (λ x f e. rw e (i8 e (rw e at (g .side .0)))))
+      subst₂ (Inference P r8) (g .premises) (g .says)
+      (as-release (P .code (threadOf s) (pointOf s)) (g .op) (λ x f e. rw e (i8 e (rw e at (g .side .0)))))
   rule-of r9 σ s ps g =
       subst₂ (Inference P r9) (g .premises) (g .says) (as-store-swap (P .code (threadOf s) (pointOf s)) (g .op) (λ m x f e c.
-      subst (λ (a : Test). Inference P r9 [] (triple (threadOf s) (pointOf s) (bothA (sees (σ .u) (box (σ .test 2))) (sees (σ .u) (box a))) (sees (σ .u) (box (σ .test 2)))))
-      (sym (same-eq (σ .test 3) (replace (wordBy x f) (σ .test 2)) (rw e at (g .side .0)))) (i9 {e = σ .test 2} e c (rw e at (g .side .1 .0)))))
+      subst
+      (λ (a : Test). Inference P r9 [] (triple (threadOf s) (pointOf s) (bothA (sees (σ .u) (box (σ .test 2))) (sees (σ .u) (box a)))
+      (sees (σ .u) (box (σ .test 2)))))
+      (sym (same-eq (σ .test 3) (replace (wordBy x f) (σ .test 2)) (rw e at (g .side .0))))
+      (i9 {e = σ .test 2} e c (rw e at (g .side .1 .0)))))
   rule-of r10 σ s ps g =
       subst₂ (Inference P r10) (g .premises) (g .says) (as-write (P .code (threadOf s) (pointOf s)) (g .op) (λ m x f e. rw e (i10 e)))
   rule-of r11 σ s ps g =
@@ -142,13 +151,15 @@ module _ (P : Program) where
   rule-of r12 σ s ps g =
       subst₂ (Inference P r12) (g .premises) (g .says) (as-swap (P .code (threadOf s) (pointOf s)) (g .op) (λ x f e. rw e (i12 e)))
   rule-of r13 σ s ps g =
-      subst₂ (Inference P r13) (g .premises) (g .says) (as-covering (P .code (threadOf s) (pointOf s)) (g .op) (λ m x f e c. rw e (i13 e c (rw e at (g .side .0)))))
+      subst₂ (Inference P r13) (g .premises) (g .says)
+      (as-covering (P .code (threadOf s) (pointOf s)) (g .op) (λ m x f e c. rw e (i13 e c (rw e at (g .side .0)))))
   rule-of r14 σ s ps g = subst₂ (Inference P r14) (g .premises) (g .says) (i14 (acts (P .code (threadOf s) (pointOf s)) (g .op)))
   rule-of r15 σ s ps g = subst₂ (Inference P r15) (g .premises) (g .says) (i15 (acts (P .code (threadOf s) (pointOf s)) (g .op)))
   rule-of r16 σ s ps g = subst₂ (Inference P r16) (g .premises) (g .says) (i16 (acts (P .code (threadOf s) (pointOf s)) (g .op)))
   rule-of r20 σ s ps g =
       subst (Inference P r20 ps) (g .says)
-      (i20 (leb→le (length ps) Limits.premises (and-left (leb (length ps) Limits.premises) (all isImp ps) (g .premises))) (and-right (leb (length ps) Limits.premises) (all isImp ps) (g .premises))
+      (i20 (leb→le (length ps) Limits.premises (and-left (leb (length ps) Limits.premises) (all isImp ps) (g .premises)))
+      (and-right (leb (length ps) Limits.premises) (all isImp ps) (g .premises))
       (subst (λ (z : Statement). T (byTable (map impOf ps) (impOf z))) (sym (g .says)) (g .side .0)))
   rule-of r21 σ s ps g = subst₂ (Inference P r21) (g .premises) (g .says) (i21 (g .side .0))
   rule-of r22 σ s ps g = subst₂ (Inference P r22) (g .premises) (g .says) i22
@@ -157,7 +168,8 @@ module _ (P : Program) where
   rule-of r25 σ s ps g = subst₂ (Inference P r25) (g .premises) (g .says) i25
   rule-of r26 σ s ps g =
       subst₂ (Inference P r26) (g .premises) (g .says)
-      (subst (λ (n : Value). Inference P r26 [] (implies start (sees (σ .u) (newest (σ .y) n)))) (sym (same-eq (σ .value 0) (const (P .init (σ .y))) (g .side .0))) i26)
+      (subst (λ (n : Value). Inference P r26 [] (implies start (sees (σ .u) (newest (σ .y) n))))
+      (sym (same-eq (σ .value 0) (const (P .init (σ .y))) (g .side .0))) i26)
   rule-of r27 σ s ps g = subst₂ (Inference P r27) (g .premises) (g .says) (i27 (g .side .0))
   rule-of r30 σ s ps g = subst₂ (Inference P r30) (g .premises) (g .says) (i30 (g .side .0))
   rule-of r31 σ s ps g = subst₂ (Inference P r31) (g .premises) (g .says) i31
@@ -182,38 +194,59 @@ module _ (P : Program) where
       (sym (same-eq (σ .test 3) (replace (regBy (resultOf m) (word x)) (σ .test 2)) (rw e at (g .side .0)))) (i47 {e = σ .test 2} e c)))
   rule-of r48 σ s ps g =
       subst₂ (Inference P r48) (g .premises) (g .says) (as-returning (P .code (threadOf s) (pointOf s)) (g .op) (λ m x f e c. rw e
-      (subst (λ (n : Value). Inference P r48 [] (triple (threadOf s) (pointOf s) (sees (threadOf s) (C x)) (sees (threadOf s) (newest x n))))
+      (subst
+      (λ (n : Value). Inference P r48 [] (triple (threadOf s) (pointOf s) (sees (threadOf s) (C x)) (sees (threadOf s) (newest x n))))
       (sym (same-eq (σ .value 0) (freshValue m f) (rw e at (g .side .0)))) (i48 e c))))
   rule-of r49 σ s ps g =
       subst₂ (Inference P r49) (g .premises) (g .says) (as-returning (P .code (threadOf s) (pointOf s)) (g .op) (λ m x f e c. rw e
-      (subst (λ (n : Value). Inference P r49 [] (triple (threadOf s) (pointOf s) (bothA (sees (threadOf s) (C x)) (sees (σ .u) (C x))) (sees (σ .u) (chop (box (cov x)) (newest x n)))))
+      (subst
+      (λ (n : Value). Inference P r49 [] (triple (threadOf s) (pointOf s) (bothA (sees (threadOf s) (C x)) (sees (σ .u) (C x)))
+      (sees (σ .u) (chop (box (cov x)) (newest x n)))))
       (sym (same-eq (σ .value 0) (freshValue m f) (rw e at (g .side .0)))) (i49 e c))))
   rule-of r50 σ s ps g =
       subst₂ (Inference P r50) (g .premises) (g .says) (as-pair (P .code (threadOf s) (pointOf s)) (g .op) (λ m x f n ns e c.
-      subst (λ (a : Assertion). Inference P r50 (triple (threadOf s) (pointOf s) (σ .assertion 2) a ∷ []) (pair (threadOf s) (pointOf s) (σ .assertion 2) (σ .assertion 1)))
+      subst (λ (a : Assertion). Inference P r50 (triple (threadOf s) (pointOf s) (σ .assertion 2) a ∷ [])
+      (pair (threadOf s) (pointOf s) (σ .assertion 2) (σ .assertion 1)))
       (sym (same-eq (σ .assertion 0) (replace (notes (n ∷ ns)) (σ .assertion 1)) (rw e at (g .side .0)))) (i50 {q = σ .assertion 1} e c)))
 
   -- the rule: the row's shapes, filled with what is found in the line
-  pub fits-of : (n : Rule) (s : Statement) (ps : List Statement) → Inference P n ps s → Fit P (threadOf s) (pointOf s) (found (row n) s ps) (row n) s ps
+  pub fits-of : (n : Rule) (s : Statement) (ps : List Statement) → Inference P n ps s
+      → Fit P (threadOf s) (pointOf s) (found (row n) s ps) (row n) s ps
   unfolding upd
   fits-of r1 s ps (i1 {t = t} {k = k} {p = p} c) = record { says = refl; premises = refl; op = op-kept (P .code t k) p c; side = (c, tt) }
-  fits-of r2 s ps (i2 {ns = ns} {q = q} e) = record { says = refl; premises = refl; op = rw e (op-assign ns); side = (rw e (same-refl (replace (notes ns) q)), tt) }
-  fits-of r3 s ps (i3 {r = r} {x = x} {acq = acq} {e = q} e) = record { says = refl; premises = refl; op = rw e (op-load acq r x); side = (rw e (same-refl (replace (regBy r (word x)) q)), tt) }
-  fits-of r4 s ps (i4 {r = r} {x = x} {acq = acq} {e = q} e) = record { says = refl; premises = refl; op = rw e (op-load acq r x); side = (rw e (same-refl (replace (regBy r (word x)) q)), tt) }
+  fits-of r2 s ps (i2 {ns = ns} {q = q} e) = record
+      { says = refl; premises = refl; op = rw e (op-assign ns); side = (rw e (same-refl (replace (notes ns) q)), tt) }
+  fits-of r3 s ps (i3 {r = r} {x = x} {acq = acq} {e = q} e) =
+      record { says = refl; premises = refl; op = rw e (op-load acq r x); side = (rw e (same-refl (replace (regBy r (word x)) q)), tt) }
+  fits-of r4 s ps (i4 {r = r} {x = x} {acq = acq} {e = q} e) =
+      record { says = refl; premises = refl; op = rw e (op-load acq r x); side = (rw e (same-refl (replace (regBy r (word x)) q)), tt) }
   fits-of r5 s ps (i5-load e) = record { says = rw e; premises = refl; op = rw e tt; side = tt }
-  fits-of r5 s ps (i5-swap {x = x} {m = m} {f = f} e c) = record { says = rw e; premises = refl; op = rw e (op-acquiring m x f c); side = tt }
+  fits-of r5 s ps (i5-swap {x = x} {m = m} {f = f} e c) =
+      record { says = rw e; premises = refl; op = rw e (op-acquiring m x f c); side = tt }
   fits-of r6 s ps (i6 {x = x} {rel = rel} {f = f} e) = record { says = rw e; premises = refl; op = rw e (op-store rel x f); side = tt }
   fits-of r7 s ps (i7 {x = x} {rel = rel} {f = f} e) = record { says = rw e; premises = refl; op = rw e (op-store rel x f); side = tt }
   fits-of r8 s ps (i8 e c) = record { says = rw e; premises = refl; op = rw e tt; side = (rw e c, tt) }
-  fits-of r9 s ps (i9 {x = x} {m = m} {f = f} {e = q} e d c) = record { says = refl; premises = refl; op = rw e (op-store-swap m x f d); side = (rw e (same-refl (replace (wordBy x f) q)), (rw e c, tt)) }
+  fits-of r9 s ps (i9 {x = x} {m = m} {f = f} {e = q} e d c) =
+      record {
+        says = refl;
+        premises = refl;
+        op = rw e (op-store-swap m x f d);
+        side = (rw e (same-refl (replace (wordBy x f) q)), (rw e c, tt));
+      }
   fits-of r10 s ps (i10 {x = x} {m = m} {f = f} e) = record { says = rw e; premises = refl; op = rw e (op-write m x f); side = tt }
   fits-of r11 s ps (i11 e) = record { says = rw e; premises = refl; op = rw e tt; side = tt }
   fits-of r12 s ps (i12 e) = record { says = rw e; premises = refl; op = rw e tt; side = tt }
-  fits-of r13 s ps (i13 {x = x} {m = m} {f = f} e d c) = record { says = rw e; premises = refl; op = rw e (op-covering m x f d); side = (rw e c, tt) }
+  fits-of r13 s ps (i13 {x = x} {m = m} {f = f} e d c) =
+      record { says = rw e; premises = refl; op = rw e (op-covering m x f d); side = (rw e c, tt) }
   fits-of r14 s ps (i14 {t = t} {k = k} c) = record { says = refl; premises = refl; op = op-acts (P .code t k) c; side = tt }
   fits-of r15 s ps (i15 {t = t} {k = k} c) = record { says = refl; premises = refl; op = op-acts (P .code t k) c; side = tt }
   fits-of r16 s ps (i16 {t = t} {k = k} c) = record { says = refl; premises = refl; op = op-acts (P .code t k) c; side = tt }
-  fits-of r20 s ps (i20 l i c) = record { says = refl; premises = and-both (leb (length ps) Limits.premises) (all isImp ps) (le→leb (length ps) Limits.premises l) i; op = tt; side = (c, tt) }
+  fits-of r20 s ps (i20 l i c) = record {
+    says = refl;
+    premises = and-both (leb (length ps) Limits.premises) (all isImp ps) (le→leb (length ps) Limits.premises l) i;
+    op = tt;
+    side = (c, tt);
+  }
   fits-of r21 s ps (i21 c) = record { says = refl; premises = refl; op = tt; side = (c, tt) }
   fits-of r22 s ps i22 = record { says = refl; premises = refl; op = tt; side = tt }
   fits-of r23 s ps (i23 c) = record { says = refl; premises = refl; op = tt; side = (c, tt) }
@@ -244,8 +277,10 @@ module _ (P : Program) where
     op = rw e (op-returning m x f c);
     side = (rw e (same-refl (replace (regBy (resultOf m) (word x)) q)), tt);
   }
-  fits-of r48 s ps (i48 {x = x} {m = m} {f = f} e c) = record { says = rw e; premises = refl; op = rw e (op-returning m x f c); side = (rw e (same-refl (freshValue m f)), tt) }
-  fits-of r49 s ps (i49 {x = x} {m = m} {f = f} e c) = record { says = rw e; premises = refl; op = rw e (op-returning m x f c); side = (rw e (same-refl (freshValue m f)), tt) }
+  fits-of r48 s ps (i48 {x = x} {m = m} {f = f} e c) =
+      record { says = rw e; premises = refl; op = rw e (op-returning m x f c); side = (rw e (same-refl (freshValue m f)), tt) }
+  fits-of r49 s ps (i49 {x = x} {m = m} {f = f} e c) =
+      record { says = rw e; premises = refl; op = rw e (op-returning m x f c); side = (rw e (same-refl (freshValue m f)), tt) }
   fits-of r50 s ps (i50 {x = x} {m = m} {f = f} {n = n} {ns = ns} {q = q} e c) = record {
     says = refl;
     premises = refl;

@@ -1,4 +1,5 @@
--- Whether a line fits its row of the table, as a test that computes: what stands in the holes is found, and the pattern so filled is compared.
+-- Whether a line fits its row of the table, as a test that computes: what stands in the holes is found, and the pattern so filled is
+-- compared.
 -- That this is what the rules say is proved (proofs/Rules.antt), so nothing here has to be believed.
 use mathlib.Core.Bool.{Bool, true, false, _&&_, _||_}
 use mathlib.Core.List.{List, [], _∷_, map}
@@ -119,10 +120,38 @@ findN Pattern.y n σ = record { u = σ .u; y = n; assertion = σ .assertion; int
 
 -- σ with the holes of the pattern as they stand in the formula
 abbrev pub find : {s : Sort} → Pattern s → Formula s → Fill → Fill
-find (Pattern.anyA k) a σ = record { u = σ .u; y = σ .y; assertion = upd (σ .assertion) k a; interval = σ .interval; test = σ .test; value = σ .value }
-find (Pattern.anyI k) a σ = record { u = σ .u; y = σ .y; assertion = σ .assertion; interval = upd (σ .interval) k a; test = σ .test; value = σ .value }
-find (Pattern.anyE k) a σ = record { u = σ .u; y = σ .y; assertion = σ .assertion; interval = σ .interval; test = upd (σ .test) k a; value = σ .value }
-find (Pattern.anyV k) a σ = record { u = σ .u; y = σ .y; assertion = σ .assertion; interval = σ .interval; test = σ .test; value = upd (σ .value) k a }
+find (Pattern.anyA k) a σ = record {
+  u = σ .u;
+  y = σ .y;
+  assertion = upd (σ .assertion) k a;
+  interval = σ .interval;
+  test = σ .test;
+  value = σ .value;
+}
+find (Pattern.anyI k) a σ = record {
+  u = σ .u;
+  y = σ .y;
+  assertion = σ .assertion;
+  interval = upd (σ .interval) k a;
+  test = σ .test;
+  value = σ .value;
+}
+find (Pattern.anyE k) a σ = record {
+  u = σ .u;
+  y = σ .y;
+  assertion = σ .assertion;
+  interval = σ .interval;
+  test = upd (σ .test) k a;
+  value = σ .value;
+}
+find (Pattern.anyV k) a σ = record {
+  u = σ .u;
+  y = σ .y;
+  assertion = σ .assertion;
+  interval = σ .interval;
+  test = σ .test;
+  value = upd (σ .value) k a;
+}
 find Pattern.f a σ = σ
 find (Pattern.const n) a σ = σ
 find (Pattern.reg n) a σ = findN n (numberV a) σ

@@ -21,8 +21,10 @@ pub data By : Type 0 where
   by-notes r-by-x x-by-f : By
 
 infix 30 _is_with_
--- what is asked besides. The first is the second with something replaced; it is the start value of the word; the register starts at 0; it is the new write's value (freshValue);
--- kept: a load's register is not in it, or else the word in no role nor the result register; lacks-x: the word x in no role nor the result register;
+-- what is asked besides. The first is the second with something replaced; it is the start value of the word; the register starts at 0; it
+-- is the new write's value (freshValue);
+-- kept: a load's register is not in it, or else the word in no role nor the result register; lacks-x: the word x in no role nor the
+-- result register;
 -- no-flag: neither unsync x nor cov x; wherever the one test is true the other is, by rows; by truth table
 pub data Side : Type 0 where
   _is_with_ : {s : Sort} → Pattern s → Pattern s → By → Side
@@ -147,12 +149,14 @@ row r4 = tri loads (sees t (chop (box F) I)) (eitherA (holds E) Q) (triple (sees
 row r5 = tri acquiring (sees t (chop (box (unsync x)) I)) Q (triple (sees t I) Q ∷ []) []
 row r6 = tri stores (sees t (one x)) (sees t newest) [] []
 row r7 = tri stores (bothA (sees t (one x)) (sees u I)) (sees u (chop I newest)) [] []
-row r8 = tri releasing (bothA (sees t (one x)) (bothA (sees u I) (sees t J))) (sees u (chop I (chop (box (unsync x)) J))) [] (lacks-x J ∷ [])
+row r8 = tri releasing (bothA (sees t (one x)) (bothA (sees u I) (sees t J))) (sees u (chop I (chop (box (unsync x)) J))) []
+    (lacks-x J ∷ [])
 row r9 = tri storesSwaps (bothA (sees u (box E)) (sees u (box F))) (sees u (box E)) [] ((F is E with x-by-f) ∷ no-flag E ∷ [])
 row r10 = tri writes (sees t (chop (box (cov x)) I)) Q (triple (sees t I) Q ∷ []) []
 row r11 = tri swaps (sees t C) (sees t newest) [] []
 row r12 = tri swaps (bothA (sees t C) (sees u C)) (sees u (chop (box (cov x)) newest)) [] []
-row r13 = tri covering (bothA (sees t C) (bothA (sees u C) (sees t J))) (sees u (chop (box (cov x)) (chop (box (unsync x)) J))) [] (lacks-x J ∷ [])
+row r13 = tri covering (bothA (sees t C) (bothA (sees u C) (sees t J))) (sees u (chop (box (cov x)) (chop (box (unsync x)) J))) []
+    (lacks-x J ∷ [])
 row r14 = tri actions (bothA P Q) (bothA R S) (triple P R ∷ triple Q S ∷ []) []
 row r15 = tri actions (eitherA P Q) (eitherA R S) (triple P R ∷ triple Q S ∷ []) []
 row r16 = tri actions P S (implies P Q ∷ triple Q R ∷ implies R S ∷ []) []

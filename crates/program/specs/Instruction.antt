@@ -23,7 +23,8 @@ pairOperation op = cond (ltb op Opcode.pairStore) false (leb op Opcode.pairSwap)
 -- the operation of its first half
 unfoldable pub firstOperation : ℕ → ℕ
 firstOperation op =
-    cond (eqb op Opcode.pairStore) Opcode.store (cond (eqb op Opcode.pairRelease) Opcode.release (cond (eqb op Opcode.pairSwap) Opcode.swap op))
+    cond (eqb op Opcode.pairStore) Opcode.store (cond (eqb op Opcode.pairRelease) Opcode.release
+    (cond (eqb op Opcode.pairSwap) Opcode.swap op))
 
 -- how many bytes an instruction has, by its operation as written
 unfoldable pub instructionSize : ℕ → ℕ
@@ -40,7 +41,13 @@ unfoldable pub secondHalf : ℕ → List ℕ → Half
 secondHalf op l = cond (twofold op) (half (drop 5 l)) noHalf
 
 unfoldable pub instruction : List ℕ → Instruction
-instruction l = record { operation = getD l 0 0; a = getD l 1 0; b = getD l 2 0; formula = word (drop 3 l); second = secondHalf (getD l 0 0) l }
+instruction l = record {
+  operation = getD l 0 0;
+  a = getD l 1 0;
+  b = getD l 2 0;
+  formula = word (drop 3 l);
+  second = secondHalf (getD l 0 0) l;
+}
 
 abbrev pub range : ℕ → ℕ → Range
 range low high = record { low = low; high = high }

@@ -1,4 +1,3 @@
-// What the threads of an image say: codes 5 and 6, and look-ups that are total.
+// Instructions: their bytes, and the ranges of their numbers, code 6.
 pub mod instruction;
 pub mod sizes;
-pub mod thread;

@@ -4,7 +4,7 @@ use Prim.Native.Nat.{ℕ, zero, suc}
 use lib.ListN.{getD}
 use Rattle.limits.specs.Numbers.{numbers}
 use Rattle.report.specs.Record.{two}
-use Rattle.program.specs.Thread.{instructions, nothing}
+use Rattle.threads.specs.Thread.{instructions, nothing}
 use Rattle.document.specs.Encode.{instructionBytes}
 use Rattle.put.specs.Renewed.{renewed, renewedInstruction}
 

@@ -10,7 +10,7 @@ use Rattle.frames.specs.declared.fault.Fault.the-variants.{Body, Number}
 use Rattle.frames.specs.declared.fault.Checked.{Checked}
 use Rattle.frames.specs.declared.fault.Checked.the-variants.{Passed}
 use Rattle.program.specs.declared.sizes.Sizes.{Sizes}
-use Rattle.program.specs.Thread.{lastPoint}
+use Rattle.threads.specs.Thread.{lastPoint}
 use Rattle.records.specs.Places.{threadBody}
 
 -- the thread at an offset is there, and has the point behind it; the last one too

@@ -6,7 +6,7 @@ use lib.Dec.{eqb, ltb}
 use lib.ListN.{getD}
 use Rattle.program.specs.declared.sizes.Sizes.{Sizes}
 use Rattle.program.specs.declared.instruction.Instruction.{Instruction}
-use Rattle.program.specs.Thread.{instructions, nothing}
+use Rattle.threads.specs.Thread.{instructions, nothing}
 
 unfoldable pub threadBody : Sizes → List (List ℕ) → ℕ → List ℕ
 threadBody z l t = getD l (z .formulas + t) []

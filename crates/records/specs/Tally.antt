@@ -6,7 +6,7 @@ use lib.Dec.{eqb}
 use Rattle.logic.specs.Opcode as Opcode
 use Rattle.program.specs.declared.sizes.Sizes.{Sizes}
 use Rattle.program.specs.declared.instruction.Instruction.{Instruction}
-use Rattle.program.specs.Thread.{lastPoint, instructions}
+use Rattle.threads.specs.Thread.{lastPoint, instructions}
 use Rattle.records.specs.Places.{threadBody}
 use Rattle.records.specs.declared.tally.Tally.{Tally}
 

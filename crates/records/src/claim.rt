@@ -6,7 +6,7 @@ use limits::range::in_range;
 use limits::range::word_within;
 use limits::read::byte_at;
 use program::sizes::Sizes;
-use program::thread::last_point;
+use threads::thread::last_point;
 ghost use mathlib.Core.Path.{_≡_};
 ghost use Prim.Native.Nat.{_≤_};
 ghost use Rattle.frames.specs.Records.{bodies};

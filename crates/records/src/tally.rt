@@ -2,14 +2,14 @@
 use index::look::body_of;
 use program::instruction::Instruction;
 use program::sizes::Sizes;
-use program::thread::begins_behind;
-use program::thread::instruction_from;
-use program::thread::last_point;
+use threads::thread::begins_behind;
+use threads::thread::instruction_from;
+use threads::thread::last_point;
 ghost use mathlib.Core.Path.{_≡_};
 ghost use Prim.Native.Nat.{_≤_, _+_, _*_};
 ghost use Rattle.frames.specs.Records.{bodies};
 ghost use Rattle.index.specs.Table.{indexOf};
-ghost use Rattle.program.specs.Thread.{lastPoint, instructions};
+ghost use Rattle.threads.specs.Thread.{lastPoint, instructions};
 ghost use Rattle.records.specs.Tally.{isBranch, branches, threadTally, plus, tally, Small, obligationsBy, obligationCount};
 
 // Sums over threads: of points, of obligations by steps, of actions, and of a thread's points times its own actions.

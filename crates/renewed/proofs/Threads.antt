@@ -7,10 +7,10 @@ use native.Mathlib.Nat.{add-zero}
 use native.Mathlib.Omega.{arith}
 use lib.ListN.{length, getD, length-map}
 use Rattle.program.specs.Instruction.{twofold}
-use Rattle.program.specs.Thread.{lastPoint, instructions, nothing}
+use Rattle.threads.specs.Thread.{lastPoint, instructions, nothing}
 use Rattle.program.specs.declared.instruction.Half.{Half}
 use Rattle.program.specs.declared.instruction.Instruction.{Instruction}
-use Rattle.program.proofs.Laws.Program.{instructions-length}
+use Rattle.threads.proofs.Threads.{instructions-length}
 use Rattle.report.specs.Record.{two}
 use Rattle.document.specs.Encode.{halfBytes, instructionBytes, threadBytes}
 use Rattle.trimmed.specs.Trim.{halfBy, instructionBy}

@@ -22,15 +22,15 @@ use Rattle.content.specs.Program.{programOf, outlineOf}
 use Rattle.content.proofs.Checked.{Checks}
 use Rattle.content.proofs.Program.{range-two, well-formed}
 use Rattle.columns.proofs.Listed.{column-length, column-getD}
-use Rattle.memory.specs.View.{startView}
-use Rattle.memory.specs.Write.{noView, noWrite, startWrite}
+use Rattle.writes.specs.View.{startView}
+use Rattle.writes.specs.Write.{noView, noWrite, startWrite}
 use Rattle.memory.specs.Memory.{first as row-first, indexOf, writeAt, sizeAt, viewOf}
 use Rattle.memory.specs.Stands.{SameView, SameWrite, Stands}
-use Rattle.memory.specs.declared.view.View.{View}
-use Rattle.memory.specs.declared.write.Write.{Write}
+use Rattle.writes.specs.declared.view.View.{View}
+use Rattle.writes.specs.declared.write.Write.{Write}
 use Rattle.memory.proofs.Places.{first-none, first-next, place}
 use Rattle.machine.specs.Stands.{SameRegs}
-use Rattle.replay.specs.Start.{startWrites, startMemory, startRegister, startValuesTo, startRegisters, started}
+use Rattle.traces.specs.Start.{startWrites, startMemory, startRegister, startValuesTo, startRegisters, started}
 use Rattle.replay.specs.Stands.{StandsFor}
 use Rattle.machine.proofs.Worked.{sizes-few}
 use Rattle.replay.proofs.Following.{Ready}

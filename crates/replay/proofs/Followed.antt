@@ -14,11 +14,11 @@ use Rattle.program.specs.declared.sizes.Sizes.{Sizes}
 use Rattle.content.specs.Program.{programOf}
 use Rattle.content.proofs.Checked.{Checks}
 use Rattle.machine.specs.Stands.{adds}
-use Rattle.replay.specs.Step.{Stepped, refused, stepped}
-use Rattle.replay.specs.Run.{ran}
+use Rattle.steps.specs.Step.{Stepped, refused, stepped}
+use Rattle.traces.specs.Run.{ran}
 use Rattle.replay.specs.Outcome.{used, refusal, Outcome, replayed, stepsIn}
-use Rattle.replay.specs.declared.states.Machine.{Machine}
-use Rattle.replay.specs.declared.run.Run.{Run}
+use Rattle.steps.specs.declared.states.Machine.{Machine}
+use Rattle.traces.specs.declared.run.Run.{Run}
 use Rattle.replay.proofs.Following.{Ready, step-is}
 
 -- a step that is not refused is permitted

@@ -26,14 +26,14 @@ use Rattle.program.specs.declared.sizes.Sizes.{Sizes}
 use Rattle.program.specs.declared.instruction.Half.{Half}
 use Rattle.program.specs.declared.instruction.Instruction.{Instruction}
 use Rattle.program.specs.Instruction.{ranged}
-use Rattle.program.specs.Thread.{lastPoint}
+use Rattle.threads.specs.Thread.{lastPoint}
 use Rattle.image.specs.Decode.{sizesOf}
 use Rattle.records.specs.Places.{threadBody, instructionOf}
-use Rattle.content.specs.Places.{registerFirst}
+use Rattle.lookups.specs.Places.{registerFirst}
 use Rattle.content.specs.Program.{instr, pointCount, programOf, outlineOf}
 use Rattle.content.proofs.Checked.{Checks}
 use Rattle.content.proofs.Program.{made, none-above, body, points-few, well-formed}
-use Rattle.content.proofs.Trees.{fields-there}
+use Rattle.lookups.proofs.Trees.{fields-there}
 use Rattle.memory.specs.Memory.{first}
 use Rattle.memory.specs.Stands.{Stands}
 use Rattle.memory.specs.declared.memory.Memory.{Memory}
@@ -48,12 +48,12 @@ use Rattle.machine.specs.declared.deed.Deed.{Deed}
 use Rattle.machine.specs.declared.locals.Registers.{Registers}
 use Rattle.machine.proofs.Instructions.{Made}
 use Rattle.machine.proofs.Worked.{sizes-few, valueOf, does-there}
-use Rattle.replay.specs.State.{pointOf, performed}
-use Rattle.replay.specs.Refusal.{total, adding, pickRefusal}
-use Rattle.replay.specs.Step.{valueAt, workedOut, deedAt, lastOf, refused, attempted, stepped}
+use Rattle.steps.specs.State.{pointOf, performed}
+use Rattle.steps.specs.Refusal.{total, adding, pickRefusal}
+use Rattle.steps.specs.Step.{valueAt, workedOut, deedAt, lastOf, refused, attempted, stepped}
 use Rattle.replay.specs.Outcome.{used, refusal}
 use Rattle.replay.specs.Stands.{StandsFor}
-use Rattle.replay.specs.declared.states.Machine.{Machine}
+use Rattle.steps.specs.declared.states.Machine.{Machine}
 
 -- the deed's operation is the instruction's
 deed-operation : (i : Instruction) (v g : ℕ) → deedOf i v g .operation ≡ i .operation
@@ -63,7 +63,8 @@ deed-operation i v g = go (registerFirst (i .operation))
     go : (b : Bool)
         → (cond {A = Deed} b
         (record { operation = i .operation; word = i .b - 1; register = i .a; value = v; noted = i .second .a; note = g; target = i .a })
-        (record { operation = i .operation; word = i .a - 1; register = i .b; value = v; noted = i .second .a; note = g; target = i .a })) .operation ≡ i .operation
+        (record { operation = i .operation; word = i .a - 1; register = i .b; value = v; noted = i .second .a; note = g; target = i .a }))
+        .operation ≡ i .operation
     go true = refl
     go false = refl
 
@@ -237,7 +238,8 @@ module _ (b : List ℕ) (z : Sizes) (c : Checks z (bodies b)) where
           (room-either (allowed (P .code (suc u) k) (suc u) p s) (adds (P .code (suc u) k)) (used s (P .words)) room)
 
       -- the table has room for a write, with one of each word that is not there
-      module _ (few : room ≤ 64) (may : T (allowed (P .code (suc u) k) (suc u) p s)) (some : T (adds (P .code (suc u) k)) → used s (P .words) < room) where
+      module _ (few : room ≤ 64) (may : T (allowed (P .code (suc u) k) (suc u) p s))
+          (some : T (adds (P .code (suc u) k)) → used s (P .words) < room) where
         roomy : T (adds (P .code (suc u) k)) → first (m .sizes) 8 < 72
         roomy a =
             let outer : (x : ℕ) → P .words < x → s .size x ≡ 1 = λ x y. r .wf .outer x (λ v. omega (arith, v .1)) in

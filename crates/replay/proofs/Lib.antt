@@ -1,9 +1,4 @@
-pub mod Ways
-pub mod Starting
-pub mod Running
 pub mod Following
 pub mod Followed
 pub mod Begun
-pub mod Wholly
 pub mod Promised
-pub mod Tables

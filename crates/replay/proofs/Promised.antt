@@ -24,13 +24,14 @@ use Rattle.checker.specs.Promise.{TrueInEveryRun}
 use Rattle.checker.specs.declared.acceptance.Acceptance.the-variants.{Granted}
 use Rattle.checker.proofs.Granted.{granted-holds}
 use Rattle.checker.proofs.Accepted.{promised}
-use Rattle.replay.specs.Start.{started}
-use Rattle.replay.specs.Run.{ran}
+use Rattle.traces.specs.Start.{started}
+use Rattle.traces.specs.Run.{ran}
 use Rattle.replay.specs.Outcome.{replayed, stepsIn}
-use Rattle.replay.specs.Whole.{roomOf, ofRun, replayOn, byAcceptance, replayOf}
+use Rattle.traces.specs.Replayed.{roomOf, ofRun, replayOn}
+use Rattle.replay.specs.Whole.{byAcceptance, replayOf}
 use Rattle.replay.specs.Promise.{outcome, first, Follows}
-use Rattle.replay.specs.declared.run.Run.{Run}
-use Rattle.replay.specs.declared.whole.Replayed.{Replayed}
+use Rattle.traces.specs.declared.run.Run.{Run}
+use Rattle.traces.specs.declared.replayed.Replayed.{Replayed}
 use Rattle.replay.proofs.Following.{Ready, range-is}
 use Rattle.replay.proofs.Followed.{Reached, reached, Matches, follows}
 use Rattle.replay.proofs.Begun.{begun}

@@ -12,7 +12,7 @@ use Rattle.program.specs.declared.sizes.Sizes.{Sizes}
 use Rattle.content.specs.Program.{programOf, outlineOf}
 use Rattle.replay.specs.Outcome.{Outcome, replayed, stepsIn}
 use Rattle.replay.specs.Stands.{StandsFor}
-use Rattle.replay.specs.declared.whole.Replayed.{Replayed}
+use Rattle.traces.specs.declared.replayed.Replayed.{Replayed}
 
 module _ (s : List ℕ) (z : Sizes) (trace given : List ℕ) (room : ℕ) where
   abbrev pub P : Program

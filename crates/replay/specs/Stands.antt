@@ -5,7 +5,7 @@ use lib.ListN.{length, getD}
 use Rattle.logic.specs.Machine.{State}
 use Rattle.memory.specs.Stands.{Stands}
 use Rattle.machine.specs.Stands.{SameRegs}
-use Rattle.replay.specs.declared.states.Machine.{Machine}
+use Rattle.steps.specs.declared.states.Machine.{Machine}
 
 pub record StandsFor (n : Machine) (s : State) : Type 0 where
   pub memory : Stands (n .memory) s

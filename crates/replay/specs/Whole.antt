@@ -1,37 +1,12 @@
--- A replay on numbers: 24 for an image that is not accepted; 29 where the start writes do not fit; else the run over the trace.
+-- A replay on numbers: 24 for an image that is not accepted, else by `replayOn`.
 use Prim.Native.Nat.{ℕ}
-use mathlib.Core.Bool.{true, false, cond}
-use mathlib.Core.List.{List, []}
-use lib.Dec.{ltb}
-use lib.ListN.{getD}
-use Rattle.frames.specs.Records.{bodies}
-use Rattle.program.specs.declared.sizes.Sizes.{Sizes}
+use mathlib.Core.Bool.{false}
+use mathlib.Core.List.{List}
 use Rattle.checker.specs.Acceptance.{acceptance}
 use Rattle.checker.specs.declared.acceptance.Acceptance.{Acceptance}
 use Rattle.checker.specs.declared.acceptance.Acceptance.the-variants.{Granted, Declined}
-use Rattle.replay.specs.Start.{started}
-use Rattle.replay.specs.Run.{ran}
-use Rattle.replay.specs.declared.states.Machine.{Machine}
-use Rattle.replay.specs.declared.run.Run.{Run}
-use Rattle.replay.specs.declared.whole.Replayed.{Replayed}
-
--- the smaller of what is lent and 64
-unfoldable pub roomOf : ℕ → ℕ
-roomOf lent = cond (ltb lent 64) lent 64
-
-abbrev pub ofRun : Sizes → Run → Replayed
-ofRun z r = record { code = r .code; steps = r .steps; held = true; words = z .words; machine = r .machine }
-
--- an accepted image: where the start writes do not fit, no step is taken and the table is not written
-unfoldable pub replayOn : List ℕ → Sizes → List ℕ → List ℕ → ℕ → Replayed
-replayOn s z trace given room =
-    cond (ltb room (z .words))
-    (record { code = 29; steps = 0; held = false; words = z .words; machine = started (getD (bodies s) 0 []) (z .range) given })
-    (ofRun z (ran s z room (started (getD (bodies s) 0 []) (z .range) given) 0 trace))
-
--- points and registers of 0
-abbrev pub blank : Machine
-blank = started [] 0 []
+use Rattle.traces.specs.Replayed.{roomOf, replayOn, blank}
+use Rattle.traces.specs.declared.replayed.Replayed.{Replayed}
 
 abbrev pub byAcceptance : List ℕ → List ℕ → List ℕ → ℕ → Acceptance → Replayed
 byAcceptance s trace given room (Granted z) = replayOn s z trace given room

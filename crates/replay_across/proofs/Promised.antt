@@ -30,41 +30,43 @@ use Rattle.checker.specs.declared.acceptance.Acceptance.{Acceptance}
 use Rattle.checker.specs.declared.acceptance.Acceptance.the-variants.{Granted, Declined}
 use Rattle.checker.proofs.Granted.{granted-holds}
 use Rattle.columns.specs.Column.{column}
-use Rattle.memory.specs.declared.write.Write.{Write}
+use Rattle.writes.specs.declared.write.Write.{Write}
 use Rattle.machine.proofs.Worked.{sizes-few}
 use Rattle.handover_table.specs.Table.{entrySize, pointNamed, pointsTo, newPoint}
 use Rattle.handover.specs.Code as Code
 use Rattle.handover.specs.Code.{headerOf, codeOf, handoverCode}
 use Rattle.handover.specs.Promise.{Fits}
 use Rattle.handover.proofs.Across.{accepted-proved, permitted-so, zero-so, across-holds}
-use Rattle.replay.specs.Start.{startRegister, startValuesTo, startRegisters, started}
-use Rattle.replay.specs.Run.{ran}
+use Rattle.traces.specs.Start.{startRegister, startValuesTo, startRegisters, started}
+use Rattle.traces.specs.Run.{ran}
 use Rattle.replay.specs.Outcome.{Outcome, used, replayed, stepsIn}
 use Rattle.replay.specs.Stands.{StandsFor}
-use Rattle.replay.specs.Whole.{roomOf, ofRun, replayOn, replayOf}
-use Rattle.replay.specs.declared.states.Machine.{Machine}
-use Rattle.replay.specs.declared.run.Run.{Run}
-use Rattle.replay.specs.declared.whole.Replayed.{Replayed}
+use Rattle.traces.specs.Replayed.{roomOf, ofRun, replayOn}
+use Rattle.replay.specs.Whole.{replayOf}
+use Rattle.steps.specs.declared.states.Machine.{Machine}
+use Rattle.traces.specs.declared.run.Run.{Run}
+use Rattle.traces.specs.declared.replayed.Replayed.{Replayed}
 use Rattle.replay.proofs.Following.{Ready, range-is}
 use Rattle.replay.proofs.Followed.{Reached, reached, Matches, follows}
 use Rattle.replay.proofs.Begun.{begun}
-use Rattle.replaying.specs.declared.answer.Answer.{Answer}
-use Rattle.replaying.specs.Answer as Answered
-use Rattle.replaying.specs.Answer.{size, answerOf, numbersOf, numbersFor}
-use Rattle.replaying.specs.declared.shown.Shown.{Shown}
-use Rattle.replaying.specs.Table.{shownIn, shownOf, shownBy, entriesIn, laid, tableFor}
-use Rattle.replaying.specs.Plain.{ofRegs, plainTrue}
-use Rattle.replaying.specs.Stands.{AnswerStands, TableStands}
-use Rattle.replaying.specs.Promise as Replaying
-use Rattle.replaying.proofs.Absent.{absent-point, absent-register, register-kept}
-use Rattle.replaying.proofs.Plain.{plain-true}
-use Rattle.replaying.proofs.Room.{fits, used-first}
-use Rattle.replaying.proofs.Ways.{room-least, shown-are}
-use Rattle.replaying.proofs.Promised as Replay
-use Rattle.replaying.proofs.Promised.{table-is}
-use Rattle.replay_across.specs.Numbers.{mappedPoint, handedOver, behind, wentOn, acrossOn, refusedBy, acrossBy, byAcceptance, acrossOf}
+use Rattle.shown.specs.declared.answer.Answer.{Answer}
+use Rattle.shown.specs.Answer as Answered
+use Rattle.shown.specs.Answer.{size, answerOf, numbersOf, numbersFor}
+use Rattle.shown.specs.declared.shown.Shown.{Shown}
+use Rattle.shown.specs.Table.{shownIn, shownOf, shownBy, entriesIn, laid, tableFor}
+use Rattle.replay_promise.specs.Plain.{ofRegs, plainTrue}
+use Rattle.replay_promise.specs.Stands.{AnswerStands, TableStands}
+use Rattle.replay_promise.specs.Promise as Replaying
+use Rattle.replay_promise.proofs.Absent.{absent-point, absent-register, register-kept}
+use Rattle.replay_promise.proofs.Plain.{plain-true}
+use Rattle.replay_promise.proofs.Room.{fits, used-first}
+use Rattle.shown.proofs.Ways.{room-least, shown-are}
+use Rattle.replay_promise.proofs.Promised as Replay
+use Rattle.replay_promise.proofs.Promised.{table-is}
+use Rattle.joined.specs.Joined.{mappedPoint, handedOver, behind, wentOn}
+use Rattle.replay_across.specs.Numbers.{acrossOn, refusedBy, acrossBy, byAcceptance, acrossOf}
 use Rattle.replay_across.specs.Promise.{unpermitted, Across, Promise, Written}
-use Rattle.replay_across.proofs.Ways.{on-refused}
+use Rattle.joined.proofs.Joining.{on-refused}
 
 -- more threads have more points
 points-rise : (P : Program) (n m : ℕ) → n ≤ m → pointsTo P n ≤ pointsTo P m

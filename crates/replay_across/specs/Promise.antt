@@ -14,17 +14,17 @@ use Rattle.program.specs.declared.sizes.Sizes.{Sizes}
 use Rattle.content.specs.Program.{programOf, outlineOf}
 use Rattle.checker.specs.Acceptance.{acceptance}
 use Rattle.checker.specs.declared.acceptance.Acceptance.the-variants.{Granted}
-use Rattle.memory.specs.declared.write.Write.{Write}
+use Rattle.writes.specs.declared.write.Write.{Write}
 use Rattle.handover_table.specs.Table.{newPoint}
 use Rattle.handover.specs.Code.{handoverCode}
 use Rattle.replay.specs.Outcome.{Outcome, replayed, stepsIn}
-use Rattle.replay.specs.Whole.{roomOf}
-use Rattle.replaying.specs.declared.answer.Answer.{Answer}
-use Rattle.replaying.specs.Answer.{answerOf, codeFor, numbersFor}
-use Rattle.replaying.specs.Table.{shownOf, entriesIn, tableFor}
-use Rattle.replaying.specs.Plain.{ofRegs, plainTrue}
-use Rattle.replaying.specs.Stands.{AnswerStands, TableStands}
-use Rattle.replaying.specs.Promise.{Unfit, Replays}
+use Rattle.traces.specs.Replayed.{roomOf}
+use Rattle.shown.specs.declared.answer.Answer.{Answer}
+use Rattle.shown.specs.Answer.{answerOf, codeFor, numbersFor}
+use Rattle.shown.specs.Table.{shownOf, entriesIn, tableFor}
+use Rattle.replay_promise.specs.Plain.{ofRegs, plainTrue}
+use Rattle.replay_promise.specs.Stands.{AnswerStands, TableStands}
+use Rattle.replay_promise.specs.Promise.{Unfit, Replays}
 use Rattle.replay_across.specs.Numbers.{acrossOf}
 
 -- a handover that is not permitted

@@ -1,19 +1,19 @@
 // A replay across a handover: whether it is permitted, the start, both runs.
-use crate::onward::go_on;
-use crate::onward::run_counted;
 use checker::acceptance::Acceptance;
 use checker::acceptance::accept_image;
 use handover::permit::Handover;
 use handover::permit::handover_code;
 use index::look::body_of;
 use index::table::IndexSize;
+use joined::onward::go_on;
+use joined::onward::run_counted;
 use program::sizes::Sizes;
-use replay::pick::Refusal;
-use replay::start::start_machine;
-use replay::whole::Replayed;
-use replay::whole::room_of;
-use replaying::shown::Shown;
-use replaying::shown::shown_by;
+use shown::shown::Shown;
+use shown::shown::shown_by;
+use steps::pick::Refusal;
+use traces::replayed::Replayed;
+use traces::replayed::room_of;
+use traces::start::start_machine;
 ghost use mathlib.Core.Path.{_≡_};
 ghost use Prim.Native.Nat.{_≤_, min};
 ghost use lib.ListN.{length, replicate};
@@ -22,7 +22,7 @@ ghost use Rattle.image.specs.Decode.{decoded};
 ghost use Rattle.image.specs.declared.decode.Decoded.the-variants.{Sound};
 ghost use Rattle.checker.specs.Acceptance.{acceptance};
 ghost use Rattle.checker.specs.declared.acceptance.Acceptance.the-variants.{Granted};
-ghost use Rattle.replaying.specs.Table.{shownBy};
+ghost use Rattle.shown.specs.Table.{shownBy};
 ghost use Rattle.replay_across.specs.Numbers.{refusedBy, acrossOn, acrossBy, byAcceptance, acrossOf};
 
 // Points and registers of 0, and the table stays.

@@ -1,10 +1,10 @@
 // The entry point, for C and Rust.
 use crate::both::shown_across;
-use replaying::answer::Answer;
-use replaying::answer::write_numbers;
-use replaying::bytes::Entry;
-use replaying::bytes::write_shown;
 use report::output::Output;
+use shown::answer::Answer;
+use shown::answer::write_numbers;
+use shown::bytes::Entry;
+use shown::bytes::write_shown;
 ghost use Rattle.replay_across.specs.Promise.{Written};
 
 // Replays the first trace on the machine of the old image, hands over by the table of points and goes on with the second trace on the

@@ -2,5 +2,3 @@
 // point.
 pub mod both;
 pub mod entry;
-pub mod mapped;
-pub mod onward;

@@ -4,7 +4,7 @@ use mathlib.Core.Bool.{Bool}
 use mathlib.Core.List.{List, _++_}
 use Prim.Native.Nat.{ℕ, _-_, _<_}
 use lib.ListN.{take, drop}
-use Rattle.replaying.specs.Promise.{Written}
+use Rattle.replay_promise.specs.Promise.{Written}
 use Rattle.stored.specs.Tally.{withCase}
 use Rattle.stored.specs.declared.tally.Tally.{Tally}
 use Rattle.stored.proofs.Tallies.{Running, running-none, running-more, running-over}
@@ -12,19 +12,31 @@ use Rattle.stored_answers.specs.Parts.{firstIn, secondIn, thirdIn, fourthOn}
 use Rattle.stored_answers.specs.Answer.{blankTable, blankNumbers, sameAnswer}
 use Rattle.replay_cases.specs.Judge.{bytesLent, numbersLent, Counted}
 
-pub call-stored : (s body image trace given table answer after told : List ℕ) (code : ℕ) → image ≡ firstIn s body → trace ≡ secondIn s body → given ≡ thirdIn s body
-    → Written image trace given table answer code after told → Written (firstIn s body) (secondIn s body) (thirdIn s body) table answer code after told
+pub call-stored : (s body image trace given table answer after told : List ℕ) (code : ℕ) → image ≡ firstIn s body
+    → trace ≡ secondIn s body → given ≡ thirdIn s body
+    → Written image trace given table answer code after told
+    → Written (firstIn s body) (secondIn s body) (thirdIn s body) table answer code after told
 call-stored s body image trace given table answer after told code i t g w = rw (← i, ← t, ← g) w
 
-module _ (s body table numbers : List ℕ) (n m : ℕ) (d : n ≡ bytesLent s) (e : m ≡ numbersLent s) (p : table ≡ blankTable) (q : numbers ≡ blankNumbers) where
+module _ (s body table numbers : List ℕ) (n m : ℕ) (d : n ≡ bytesLent s) (e : m ≡ numbersLent s) (p : table ≡ blankTable)
+    (q : numbers ≡ blankNumbers) where
   pub replay-counted : (after told stored entries : List ℕ) (t u : Tally) (code : ℕ) (same : Bool)
-      → Written (firstIn s body) (secondIn s body) (thirdIn s body) (take n table) (take m numbers) code after told → stored ≡ drop 20 s → entries ≡ fourthOn s body
-      → same ≡ sameAnswer code (after ++ drop n table) (told ++ drop m numbers) stored entries → u ≡ withCase t code same → Counted body s t u
+      → Written (firstIn s body) (secondIn s body) (thirdIn s body) (take n table) (take m numbers) code after told → stored ≡ drop 20 s
+      → entries ≡ fourthOn s body
+      → same ≡ sameAnswer code (after ++ drop n table) (told ++ drop m numbers) stored entries → u ≡ withCase t code same
+      → Counted body s t u
   replay-counted after told stored entries t u code same w z k a g =
-      record { code = code; after = after; told = told; called = rw (← d, ← e, ← p, ← q) w; counted = rw (← d, ← e, ← p, ← q, ← z, ← k, ← a) g }
+      record {
+        code = code;
+        after = after;
+        told = told;
+        called = rw (← d, ← e, ← p, ← q) w;
+        counted = rw (← d, ← e, ← p, ← q, ← z, ← k, ← a) g;
+      }
 
 pub running-replay : (t r : Tally) (left : ℕ) (body s : List ℕ) → 0 < left → Running t left → Counted body s t r → Running r (left - 1)
 running-replay t r left body s h f c =
-    running-more t r left (c .code) (sameAnswer (c .code) (c .after ++ drop (bytesLent s) blankTable) (c .told ++ drop (numbersLent s) blankNumbers) (drop 20 s) (fourthOn s body)) h f (c .counted)
+    running-more t r left (c .code) (sameAnswer (c .code) (c .after ++ drop (bytesLent s) blankTable)
+    (c .told ++ drop (numbersLent s) blankNumbers) (drop 20 s) (fourthOn s body)) h f (c .counted)
 
 pub ruleset gathered = (running-none, running-replay, running-over)

@@ -3,7 +3,7 @@ use mathlib.Core.Path.{_≡_}
 use mathlib.Core.List.{List, _++_}
 use Prim.Native.Nat.{ℕ}
 use lib.ListN.{take, drop}
-use Rattle.replaying.specs.Promise.{Written}
+use Rattle.replay_promise.specs.Promise.{Written}
 use Rattle.stored.specs.Tally.{withCase}
 use Rattle.stored.specs.declared.tally.Tally.{Tally}
 use Rattle.stored_answers.specs.Answer.{mostBytes, mostNumbers, blankTable, blankNumbers, lentAt, sameAnswer}
@@ -21,5 +21,7 @@ pub record Counted (body s : List ℕ) (t r : Tally) : Type 0 where
   pub code : ℕ
   pub after : List ℕ
   pub told : List ℕ
-  pub called : Written (firstIn s body) (secondIn s body) (thirdIn s body) (take (bytesLent s) blankTable) (take (numbersLent s) blankNumbers) code after told
-  pub counted : r ≡ withCase t code (sameAnswer code (after ++ drop (bytesLent s) blankTable) (told ++ drop (numbersLent s) blankNumbers) (drop 20 s) (fourthOn s body))
+  pub called : Written (firstIn s body) (secondIn s body) (thirdIn s body) (take (bytesLent s) blankTable)
+      (take (numbersLent s) blankNumbers) code after told
+  pub counted : r ≡ withCase t code (sameAnswer code (after ++ drop (bytesLent s) blankTable) (told ++ drop (numbersLent s) blankNumbers)
+      (drop 20 s) (fourthOn s body))

@@ -22,7 +22,7 @@ ghost use mathlib.Core.Path.{_≡_};
 ghost use Prim.Native.Nat.{_+_};
 ghost use lib.ListN.{length};
 ghost use Rattle.limits.specs.Limits.{imageBytes};
-ghost use Rattle.replaying.specs.Promise.{Written};
+ghost use Rattle.replay_promise.specs.Promise.{Written};
 ghost use Rattle.stored.specs.Tallied.{FromCases};
 ghost use Rattle.stored_answers.specs.Parts.{firstIn, secondIn, thirdIn};
 ghost use Rattle.replay_cases.specs.Judge.{Counted};

@@ -1,5 +1,1 @@
-pub mod Plain
-pub mod Absent
-pub mod Room
-pub mod Ways
-pub mod Promised
+pub mod Wholly

@@ -1,11 +1,11 @@
 // The entry point, for C and Rust.
-use crate::answer::Answer;
-use crate::answer::write_numbers;
-use crate::bytes::Entry;
-use crate::bytes::write_shown;
-use crate::shown::shown_of;
+use crate::whole::shown_of;
 use report::output::Output;
-ghost use Rattle.replaying.specs.Promise.{Written};
+use shown::answer::Answer;
+use shown::answer::write_numbers;
+use shown::bytes::Entry;
+use shown::bytes::write_shown;
+ghost use Rattle.replay_promise.specs.Promise.{Written};
 
 // Replays a trace on the machine of an accepted image, and writes the state reached: the steps, points and registers to `answer`,
 // the writes to `table`. Room for fewer than 21 numbers is left as it is, and so is the table, and the answer is 1.

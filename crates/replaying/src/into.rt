@@ -1,14 +1,14 @@
 // The table as a slice of write structs, the form that the page names. A function over such a slice is proved by a walk of its code,
 // by hand, so there are two, and they are thin: what is shown is worked out by functions on values and bytes.
-use crate::answer::Answer;
-use crate::shown::Shown;
-use crate::shown::shown_of;
-use memory::write::Write;
+use crate::whole::shown_of;
+use shown::answer::Answer;
+use shown::shown::Shown;
+use writes::write::Write;
 ghost use mathlib.Core.Path.{_≡_};
 ghost use Prim.Native.Nat.{_≤_};
 ghost use lib.ListN.{length};
-ghost use Rattle.replaying.specs.Table.{writeIn, putTo};
-ghost use Rattle.replaying.specs.Promise.{Into};
+ghost use Rattle.shown.specs.Table.{writeIn, putTo};
+ghost use Rattle.replay_promise.specs.Promise.{Into};
 
 // The write for an entry.
 fn write_in(s: Shown, e: usize) -> Write

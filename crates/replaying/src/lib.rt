@@ -1,6 +1,4 @@
 // Replay of a trace for callers: `replay_trace` and `replay_into` are the entry points.
-pub mod answer;
-pub mod bytes;
 pub mod entry;
 pub mod into;
-pub mod shown;
+pub mod whole;

@@ -11,7 +11,14 @@ module _ (size : ℕ) (v o w : List ℕ) (i : ℕ) (l : length v ≡ size) (e : 
   copy-byte : i < length v → i < length o → set w i (getD v i 0) ≡ take (i + 1) v ++ drop (i + 1) o
   copy-byte a b =
       let le : i ≤ length v = omega arith in
-      rw (add-one i, e, drop-cons o i 0 b, set-at (take i v) (getD o i 0) (drop (suc i) o) (getD v i 0) i (length-take-le i v le), take-suc v i 0 a, append-assoc)
+      rw (
+        add-one i,
+        e,
+        drop-cons o i 0 b,
+        set-at (take i v) (getD o i 0) (drop (suc i) o) (getD v i 0) i (length-take-le i v le),
+        take-suc v i 0 a,
+        append-assoc,
+      )
 
   -- the invariant after a turn
   pub copy-more : i < size → size ≤ length o → length w ≡ length o

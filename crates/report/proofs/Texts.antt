@@ -26,7 +26,8 @@ added-both w a b = rw (take-again room (w ++ a) b, append-assoc w a b)
 module _ (t : Text) (l : length (t .bytes) ≡ room) where
   put-nothing : written t ≡ added (written t) []
   unfolding written added
-  put-nothing = let h : length (take (t .len) (t .bytes)) ≤ room = simp length-take (omega arith) in rw (append-nil, take-all room (take (t .len) (t .bytes)) h)
+  put-nothing = let h : length (take (t .len) (t .bytes)) ≤ room = simp length-take (omega arith) in
+      rw (append-nil, take-all room (take (t .len) (t .bytes)) h)
 
   module _ (b : ℕ) where
     pub byte-full : room ≤ t .len → written (record { bytes = t .bytes; len = room }) ≡ added (written t) (b ∷ [])
@@ -59,17 +60,20 @@ module _ (t : Text) (n left : ℕ) where
     pub digits-last : n < 10 → written r ≡ added (written t) (digit n ∷ []) → written r ≡ added (written t) (digits left n)
     digits-last h e = rw (digits-step left n z, lt-ltb _ _ h) e
 
-    pub digits-more : (q : Text) → 10 ≤ n → written q ≡ added (written t) (digits (left - 1) (n / 10)) → written r ≡ added (written q) (digit (n % 10) ∷ [])
+    pub digits-more : (q : Text) → 10 ≤ n → written q ≡ added (written t) (digits (left - 1) (n / 10))
+        → written r ≡ added (written q) (digit (n % 10) ∷ [])
         → written r ≡ added (written t) (digits left n)
     digits-more q h e d = rw (digits-step left n z, le-ltb _ _ h) (rw (d, e, added-both))
 
 pub ruleset spelling = (digits-none, digits-last, digits-more, lower)
 
-pub number-put : (t q r : Text) (n b : ℕ) → written q ≡ added (written t) (decimal n) → written r ≡ added (written q) (b ∷ []) → written r ≡ added (written t) (numbered n b)
+pub number-put : (t q r : Text) (n b : ℕ) → written q ≡ added (written t) (decimal n) → written r ≡ added (written q) (b ∷ [])
+    → written r ≡ added (written t) (numbered n b)
 unfolding numbered
 number-put t q r n b e d = rw (d, e, added-both)
 
-pub place-put : (f : Fields) (t a b c d r : Text) → written a ≡ added (written t) (numbered (f .class) space) → written b ≡ added (written a) (numbered (f .thread) space)
+pub place-put : (f : Fields) (t a b c d r : Text) → written a ≡ added (written t) (numbered (f .class) space)
+    → written b ≡ added (written a) (numbered (f .thread) space)
     → written c ≡ added (written b) (numbered (f .point) space) → written d ≡ added (written c) (numbered (f .«other_thread») space)
     → written r ≡ added (written d) (numbered (f .«other_point») space) → written r ≡ added (written t) (placeText f)
 unfolding placeText
@@ -105,8 +109,10 @@ length-text f =
       length-numbered (f .count) newline,
     ))
 
-pub text-put : (f : Fields) (l : List ℕ) (a b c d r : Text) → written a ≡ added (written (record { bytes = l; len = 0 })) (numbered (f .code) space)
-    → written b ≡ added (written a) (numbered (f .«record») space) → written c ≡ added (written b) (placeText f) → written d ≡ added (written c) (numbered (f .line) space)
+pub text-put : (f : Fields) (l : List ℕ) (a b c d r : Text)
+    → written a ≡ added (written (record { bytes = l; len = 0 })) (numbered (f .code) space)
+    → written b ≡ added (written a) (numbered (f .«record») space) → written c ≡ added (written b) (placeText f)
+    → written d ≡ added (written c) (numbered (f .line) space)
     → written r ≡ added (written d) (numbered (f .count) newline) → take (r .len) (r .bytes) ≡ textOf f
 unfolding textOf written added
 text-put f l a b c d r e₁ e₂ e₃ e₄ e₅ = rw (e₅, e₄, e₃, e₂, e₁) (simp (added-both, append-assoc) (take-all room (textOf f) (length-text f)))

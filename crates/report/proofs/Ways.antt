@@ -30,7 +30,8 @@ module _ (o : Obligation) (t k : ℕ) where
   unfolding placeOf
   place-taken e = rw e
 
-  pub place-interference : (u j : ℕ) → o ≡ Interference t k u j → record { class = 4; thread = t; point = k; «other_thread» = u; «other_point» = j } ≡ placeOf o
+  pub place-interference : (u j : ℕ) → o ≡ Interference t k u j
+      → record { class = 4; thread = t; point = k; «other_thread» = u; «other_point» = j } ≡ placeOf o
   unfolding placeOf
   place-interference u j e = rw e
 
@@ -45,7 +46,8 @@ module _ (v : Verdict) where
   unfolding fieldsOf
   fields-refused f i c r e h d = rw (d, e, h)
 
-  pub fields-failed : (o : Obligation) (c l n : ℕ) (p : Place) (r : Fields) → v ≡ Failed o c l n → p ≡ placeOf o → r ≡ gathered c 0 p l n → r ≡ fieldsOf v
+  pub fields-failed : (o : Obligation) (c l n : ℕ) (p : Place) (r : Fields) → v ≡ Failed o c l n → p ≡ placeOf o → r ≡ gathered c 0 p l n
+      → r ≡ fieldsOf v
   unfolding fieldsOf
   fields-failed o c l n p r e h d = rw (d, e, h)
 

@@ -15,5 +15,6 @@ two n = n % 256 ∷ (n / 256) % 256 ∷ []
 
 unfoldable pub recordBytes : Fields → List ℕ
 recordBytes f =
-    two (size - 2) ++ two kind ++ two (f .code) ++ two (f .«record») ++ two (f .class) ++ two (f .thread) ++ two (f .point) ++ two (f .«other_thread») ++ two (f .«other_point»)
+    two (size - 2) ++ two kind ++ two (f .code) ++ two (f .«record») ++ two (f .class) ++ two (f .thread) ++ two (f .point)
+    ++ two (f .«other_thread») ++ two (f .«other_point»)
     ++ two (f .line) ++ two (f .count)

@@ -43,7 +43,9 @@ newline = 10
 
 -- from the class to the other point
 unfoldable pub placeText : Fields → List ℕ
-placeText f = numbered (f .class) space ++ (numbered (f .thread) space ++ (numbered (f .point) space ++ (numbered (f .«other_thread») space ++ numbered (f .«other_point») space)))
+placeText f = numbered (f .class) space ++ (numbered (f .thread) space
+    ++ (numbered (f .point) space ++ (numbered (f .«other_thread») space ++ numbered (f .«other_point») space)))
 
 unfoldable pub textOf : Fields → List ℕ
-textOf f = numbered (f .code) space ++ (numbered (f .«record») space ++ (placeText f ++ (numbered (f .line) space ++ numbered (f .count) newline)))
+textOf f = numbered (f .code) space ++ (numbered (f .«record») space
+    ++ (placeText f ++ (numbered (f .line) space ++ numbered (f .count) newline)))

@@ -14,16 +14,16 @@ use Rattle.trimming.specs.Promise as Trimmed
 use Rattle.pricing.specs.Promise as Billed
 use Rattle.columns.specs.Column.{column}
 use Rattle.handover.specs.Promise as HandedOver
-use Rattle.memory.specs.declared.write.Write.{Write}
+use Rattle.writes.specs.declared.write.Write.{Write}
 use Rattle.replay.specs.Whole.{replayOf}
-use Rattle.replay.specs.declared.whole.Replayed.{Replayed}
-use Rattle.replaying.specs.Promise as Once
-use Rattle.replaying.specs.Table.{shownOf, entriesIn, tableFor}
+use Rattle.traces.specs.declared.replayed.Replayed.{Replayed}
+use Rattle.replay_promise.specs.Promise as Once
+use Rattle.shown.specs.Table.{shownOf, entriesIn, tableFor}
 use Rattle.replay_across.specs.Numbers.{acrossOf}
 use Rattle.replay_across.specs.Promise as Across
-use Rattle.replaying.specs.Answer as Replay
-use Rattle.replaying.specs.Answer.{answerOf, numbersOf}
-use Rattle.replaying.specs.declared.answer.Answer.{Answer}
+use Rattle.shown.specs.Answer as Replay
+use Rattle.shown.specs.Answer.{answerOf, numbersOf}
+use Rattle.shown.specs.declared.answer.Answer.{Answer}
 use Rattle.charges.specs.declared.tariff.Tariff.{Tariff}
 use Rattle.pricing.specs.declared.answer.Bill.{Bill}
 use Rattle.pricing.specs.Bill.{notAccepted, numberAtEnd, lastNumber, unpriced, isAccepted, billOf}

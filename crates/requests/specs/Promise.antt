@@ -8,7 +8,7 @@ use Rattle.checker.specs.Promise as Checked
 use Rattle.trimming.specs.Promise as Trimmed
 use Rattle.pricing.specs.Promise as Billed
 use Rattle.handover.specs.Promise as HandedOver
-use Rattle.replaying.specs.Promise as Replayed
+use Rattle.replay_promise.specs.Promise as Replayed
 use Rattle.replay_across.specs.Promise as ReplayedAcross
 use Rattle.charges.specs.declared.tariff.Tariff.{Tariff}
 use Rattle.service.specs.Desk.{numberPlace, admission}

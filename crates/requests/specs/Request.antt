@@ -13,18 +13,20 @@ use Rattle.pricing.specs.Bill.{billOf}
 use Rattle.pricing.specs.Output.{size, codeFor, numbersFor}
 use Rattle.handover.specs.Code.{handoverCode}
 use Rattle.replay.specs.Whole.{replayOf}
-use Rattle.replay.specs.declared.whole.Replayed.{Replayed}
-use Rattle.replaying.specs.Answer as Replay
-use Rattle.replaying.specs.Answer.{answerOf}
-use Rattle.replaying.specs.Table.{shownOf, entriesIn, tableFor}
+use Rattle.traces.specs.declared.replayed.Replayed.{Replayed}
+use Rattle.shown.specs.Answer as Replay
+use Rattle.shown.specs.Answer.{answerOf}
+use Rattle.shown.specs.Table.{shownOf, entriesIn, tableFor}
 use Rattle.replay_across.specs.Numbers.{acrossOf}
 use Rattle.service.specs.declared.rights.Right.{Right}
 use Rattle.service.specs.declared.rights.Right.the-variants.{Check, Replay, Bill}
 use Rattle.service.specs.Desk.{Desk, holds}
 use Rattle.service.specs.Serving.{Call, Served, Turn, Conduct, serveBy, serveAllBy}
 
--- a call with all that it is lent: an image and the buffer for its verdict; an image and the buffer for the trimmed one; an image, a tariff and
--- the room for the bill's numbers; two images and the table of a handover; an image, a trace, given registers, the table of writes and the room for the numbers of the answer; two images,
+-- a call with all that it is lent: an image and the buffer for its verdict; an image and the buffer for the trimmed one; an image, a
+-- tariff and
+-- the room for the bill's numbers; two images and the table of a handover; an image, a trace, given registers, the table of writes and
+-- the room for the numbers of the answer; two images,
 -- the table of a handover, two traces, and the rest as in a replay
 pub data Request : Type 0 where
   toCheck toTrim : List ℕ → List ℕ → Request

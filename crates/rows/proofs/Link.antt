@@ -30,11 +30,11 @@ use Rattle.leaves.specs.Count.{choicesBy, choicesT}
 use Rattle.columns.specs.Combine.{sumOf, combine}
 use Rattle.columns.proofs.Combining.{sum-modulo}
 use Rattle.values.specs.Value.{valueT}
-use Rattle.rows.specs.Entailment.{ImpT, impT, entailsT, leavesAll}
+use Rattle.entailment.specs.Entailment.{ImpT, impT, entailsT, leavesAll}
 use Rattle.tables.specs.Table.{byLeaves}
 use Rattle.rows.specs.Rows.{byNames, rowsT, tableT}
-use Rattle.rows.proofs.Distinct.{choices-two, two-choices}
-use Rattle.rows.proofs.Choices.{below-same}
+use Rattle.entailment.proofs.Distinct.{choices-two, two-choices}
+use Rattle.entailment.proofs.Choices.{below-same}
 
 map-join : {A B : Type 0} (g : A → B) (l m : List A) → map g (l ++ m) ≡ map g l ++ map g m
 map-join g [] m = refl
@@ -57,10 +57,12 @@ module _ {K : Type 0} (eq : K → K → Bool) (equal : (a b : K) → T (eq a b) 
       go true e = let q : c k ≡ c n = ap c (equal k n (is-true e)) in omega arith
       go false e = small k
 
-  rows-below : (f g : (K → ℕ) → Bool) → ((ν : K → ℕ) → Below ν → f ν ≡ g ν) → (l : List K) (ν : K → ℕ) → Below ν → allRows eq c l f ν ≡ allRows eq c l g ν
+  rows-below : (f g : (K → ℕ) → Bool) → ((ν : K → ℕ) → Below ν → f ν ≡ g ν) → (l : List K) (ν : K → ℕ) → Below ν
+      → allRows eq c l f ν ≡ allRows eq c l g ν
   rows-below f g say [] ν small = say ν small
   rows-below f g say (n ∷ l) ν small =
-      below-same (c n) (λ v. allRows eq c l f (choose eq ν n v)) (λ v. allRows eq c l g (choose eq ν n v)) (λ v h. rows-below f g say l (choose eq ν n v) (chosen-below ν n v small h))
+      below-same (c n) (λ v. allRows eq c l f (choose eq ν n v)) (λ v. allRows eq c l g (choose eq ν n v))
+      (λ v h. rows-below f g say l (choose eq ν n v) (chosen-below ν n v small h))
 
 -- keys that stand for others, one for one: what is counted and tried over the ones is over the others
 module _ {K L : Type 0} (eqK : K → K → Bool) (eqL : L → L → Bool) (g : K → L) (alike : (a b : K) → eqL (g a) (g b) ≡ eqK a b) where
@@ -74,7 +76,8 @@ module _ {K L : Type 0} (eqK : K → K → Bool) (eqL : L → L → Bool) (g : K
   distinct-map [] = refl
   distinct-map (n ∷ l) = ap₂ (λ (b : Bool) (k : List L). cond b k (g n ∷ k)) (in-map n l) (distinct-map l) ∙ go (isIn eqK n l)
     where
-      go : (b : Bool) → cond b (map g (distinct eqK l)) (g n ∷ map g (distinct eqK l)) ≡ map g (cond b (distinct eqK l) (n ∷ distinct eqK l))
+      go : (b : Bool) → cond b (map g (distinct eqK l)) (g n ∷ map g (distinct eqK l)) ≡ map g
+          (cond b (distinct eqK l) (n ∷ distinct eqK l))
       go true = refl
       go false = refl
 
@@ -89,7 +92,8 @@ module _ {K L : Type 0} (eqK : K → K → Bool) (eqL : L → L → Bool) (g : K
       rows-map [] ν = say ν
       rows-map (n ∷ l) ν =
           ap₂ allBelow (as-many n)
-          (fun-ext (λ k. rows-map l (choose eqL ν (g n) k) ∙ ap (allRows eqK cK l h) (fun-ext (λ m. ap (λ (b : Bool). cond b k (ν (g m))) (alike m n)))))
+          (fun-ext (λ k. rows-map l (choose eqL ν (g n) k)
+          ∙ ap (allRows eqK cK l h) (fun-ext (λ m. ap (λ (b : Bool). cond b k (ν (g m))) (alike m n)))))
 
       pub embedded : (l : List K) → everyRow eqL cL (map g l) f ≡ everyRow eqK cK l h
       embedded l = ap (λ (k : List L). allRows eqL cL k f (λ x. 0)) (distinct-map l) ∙ rows-map (distinct eqK l) (λ x. 0)
@@ -106,7 +110,8 @@ nameToTree (n-cov x) = node (byte Code.cov) x none none
 
 nameOf : Tree → Name
 nameOf none = n-reg 0
-nameOf (node c o l r) = cond (eqb c (byte Code.reg)) (n-reg o) (cond (eqb c (byte Code.word)) (n-word o) (cond (eqb c (byte Code.unsync)) (n-unsync o) (n-cov o)))
+nameOf (node c o l r) = cond (eqb c (byte Code.reg)) (n-reg o)
+    (cond (eqb c (byte Code.word)) (n-word o) (cond (eqb c (byte Code.unsync)) (n-unsync o) (n-cov o)))
 
 name-of : (n : Name) → nameOf (nameToTree n) ≡ n
 unfolding nameToTree nameOf
@@ -120,8 +125,10 @@ unfolding same-name
 name-alike m n = go (Name-discrete ℕ-discrete m n)
   where
     go : (d : Dec (m ≡ n)) → sameTree (nameToTree m) (nameToTree n) ≡ elim d as (λ x. Bool) [ yes q ↦ true | no q ↦ false ]
-    go (yes q) = bool-ext (sameTree (nameToTree m) (nameToTree n)) true (λ h. tt) (λ h. subst (λ (k : Name). T (sameTree (nameToTree m) (nameToTree k))) q (tree-refl (nameToTree m)))
-    go (no q) = bool-ext (sameTree (nameToTree m) (nameToTree n)) false (λ h. q (sym (name-of m) ∙ ap nameOf (tree-eq (nameToTree m) (nameToTree n) h) ∙ name-of n)) (λ h. absurd h)
+    go (yes q) = bool-ext (sameTree (nameToTree m) (nameToTree n)) true (λ h. tt)
+        (λ h. subst (λ (k : Name). T (sameTree (nameToTree m) (nameToTree k))) q (tree-refl (nameToTree m)))
+    go (no q) = bool-ext (sameTree (nameToTree m) (nameToTree n)) false
+        (λ h. q (sym (name-of m) ∙ ap nameOf (tree-eq (nameToTree m) (nameToTree n) h) ∙ name-of n)) (λ h. absurd h)
 
 name-choices : (R : ℕ) (n : Name) → choicesT R (nameToTree n) ≡ choices R n
 unfolding choicesT choicesBy nameToTree
@@ -196,11 +203,15 @@ module _ (R : ℕ) (ν : Tree → ℕ) (small : (u : Tree) → ν u < choicesT R
   toTree-test : (e : Test) → T (bounded R e) → eqb (v (toTree e)) 1 ≡ test R ρ e
   unfolding valueT combine member nameToTree
   toTree-test Formula.false h = refl
-  toTree-test (equal a b) h = bit (eqb (v (toTree a)) (v (toTree b))) ∙ ap₂ eqb (toTree-value a (search and-left)) (toTree-value b (search and-right))
-  toTree-test (less a b) h = bit (ltb (v (toTree a)) (v (toTree b))) ∙ ap₂ ltb (toTree-value a (search and-left)) (toTree-value b (search and-right))
+  toTree-test (equal a b) h = bit (eqb (v (toTree a)) (v (toTree b)))
+      ∙ ap₂ eqb (toTree-value a (search and-left)) (toTree-value b (search and-right))
+  toTree-test (less a b) h = bit (ltb (v (toTree a)) (v (toTree b)))
+      ∙ ap₂ ltb (toTree-value a (search and-left)) (toTree-value b (search and-right))
   toTree-test (Formula.not e) h = bit-not (eqb (v (toTree e)) 1) ∙ ap not (toTree-test e h)
-  toTree-test (and e f) h = bit-and (eqb (v (toTree e)) 1) (v (toTree f)) ∙ ap₂ (λ (a b : Bool). a && b) (toTree-test e (search and-left)) (toTree-test f (search and-right))
-  toTree-test (or e f) h = bit-or (eqb (v (toTree e)) 1) (v (toTree f)) ∙ ap₂ (λ (a b : Bool). a || b) (toTree-test e (search and-left)) (toTree-test f (search and-right))
+  toTree-test (and e f) h = bit-and (eqb (v (toTree e)) 1) (v (toTree f))
+      ∙ ap₂ (λ (a b : Bool). a && b) (toTree-test e (search and-left)) (toTree-test f (search and-right))
+  toTree-test (or e f) h = bit-or (eqb (v (toTree e)) 1) (v (toTree f))
+      ∙ ap₂ (λ (a b : Bool). a || b) (toTree-test e (search and-left)) (toTree-test f (search and-right))
   toTree-test (unsync x) h = refl
   toTree-test (cov x) h = refl
 
@@ -210,10 +221,13 @@ toTree-rows R two e f he hf =
     rw (le-ltb R 2 two)
     (ap₂ (λ (a b : Bool). a && b)
     (ap (λ (l : List Tree). leb (rowCount sameTree (choicesT R) (distinct sameTree l)) Limits.rows) listed
-    ∙ ap (λ (n : ℕ). leb n Limits.rows) (embedded-count same-name sameTree nameToTree name-alike (choices R) (choicesT R) (name-choices R) (names e ++ names f)))
+    ∙ ap (λ (n : ℕ). leb n Limits.rows) (embedded-count same-name sameTree nameToTree name-alike (choices R) (choicesT R) (name-choices R)
+    (names e ++ names f)))
     (ap (λ (l : List Tree). everyRow sameTree (choicesT R) l (entailsT (byNames R) [] c)) listed
-    ∙ rows-below sameTree tree-eq (choicesT R) (entailsT (byNames R) [] c) plainly said (distinct sameTree (map nameToTree (names e ++ names f))) (λ u. 0) (λ u. omega (arith, choices-two R two u))
-    ∙ embedded same-name sameTree nameToTree name-alike (choices R) (choicesT R) (name-choices R) plainly (λ ν. not (test R (meaning ν) e) || test R (meaning ν) f) (λ ν. refl) (names e ++ names f)))
+    ∙ rows-below sameTree tree-eq (choicesT R) (entailsT (byNames R) [] c) plainly said
+    (distinct sameTree (map nameToTree (names e ++ names f))) (λ u. 0) (λ u. omega (arith, choices-two R two u))
+    ∙ embedded same-name sameTree nameToTree name-alike (choices R) (choicesT R) (name-choices R) plainly
+    (λ ν. not (test R (meaning ν) e) || test R (meaning ν) f) (λ ν. refl) (names e ++ names f)))
   where
     -- the two tests, read plainly
     plainly : (Tree → ℕ) → Bool
@@ -226,7 +240,8 @@ toTree-rows R two e f he hf =
     said ν small = ap₂ (λ (a b : Bool). not a || b) (toTree-test R ν small e he) (toTree-test R ν small f hf)
 
     listed : leavesAll (byNames R .leaves) (c ∷ []) ≡ map nameToTree (names e ++ names f)
-    listed = join-none (leavesT (byNames R .leaves) (toTree e) ++ leavesT (byNames R .leaves) (toTree f)) ∙ ap₂ (λ (l m : List Tree). l ++ m) (names-test R e) (names-test R f) ∙ sym (map-join nameToTree (names e) (names f))
+    listed = join-none (leavesT (byNames R .leaves) (toTree e) ++ leavesT (byNames R .leaves) (toTree f))
+        ∙ ap₂ (λ (l m : List Tree). l ++ m) (names-test R e) (names-test R f) ∙ sym (map-join nameToTree (names e) (names f))
 
 -- leaves and their trees
 leafToTree : Leaf → Tree
@@ -261,9 +276,11 @@ leaf-alike : (a b : Leaf) → sameTree (leafToTree a) (leafToTree b) ≡ same-le
 unfolding same-leaf leafToTree
 leaf-alike (l-assertion a) (l-assertion b) = toTree-same a b
 leaf-alike (l-assertion a) (l-test f) =
-    bool-ext (sameTree (toTree a) (toTree f)) false (λ h. let e = ap codeOf (tree-eq (toTree a) (toTree f) h) in omega (arith, assertion-code a, test-code f)) (λ h. absurd h)
+    bool-ext (sameTree (toTree a) (toTree f)) false
+    (λ h. let e = ap codeOf (tree-eq (toTree a) (toTree f) h) in omega (arith, assertion-code a, test-code f)) (λ h. absurd h)
 leaf-alike (l-test e) (l-assertion b) =
-    bool-ext (sameTree (toTree e) (toTree b)) false (λ h. let d = ap codeOf (tree-eq (toTree e) (toTree b) h) in omega (arith, assertion-code b, test-code e)) (λ h. absurd h)
+    bool-ext (sameTree (toTree e) (toTree b)) false
+    (λ h. let d = ap codeOf (tree-eq (toTree e) (toTree b) h) in omega (arith, assertion-code b, test-code e)) (λ h. absurd h)
 leaf-alike (l-test e) (l-test f) = toTree-same e f
 
 abbrev C : ℕ
@@ -275,16 +292,20 @@ leaves-test Formula.false = refl
 leaves-test (equal a b) = refl
 leaves-test (less a b) = refl
 leaves-test (Formula.not e) = ap (λ (l : List Tree). l ++ []) (leaves-test e) ∙ join-none (map leafToTree (Table.leavesT e))
-leaves-test (and e f) = ap₂ (λ (l m : List Tree). l ++ m) (leaves-test e) (leaves-test f) ∙ sym (map-join leafToTree (Table.leavesT e) (Table.leavesT f))
-leaves-test (or e f) = ap₂ (λ (l m : List Tree). l ++ m) (leaves-test e) (leaves-test f) ∙ sym (map-join leafToTree (Table.leavesT e) (Table.leavesT f))
+leaves-test (and e f) = ap₂ (λ (l m : List Tree). l ++ m) (leaves-test e) (leaves-test f)
+    ∙ sym (map-join leafToTree (Table.leavesT e) (Table.leavesT f))
+leaves-test (or e f) = ap₂ (λ (l m : List Tree). l ++ m) (leaves-test e) (leaves-test f)
+    ∙ sym (map-join leafToTree (Table.leavesT e) (Table.leavesT f))
 leaves-test (unsync x) = refl
 leaves-test (cov x) = refl
 
 leaves-assertion : (a : Assertion) → leavesT C (toTree a) ≡ map leafToTree (Table.leaves a)
 unfolding leavesT member leafToTree
 leaves-assertion (sees t i) = refl
-leaves-assertion (bothA a b) = ap₂ (λ (l m : List Tree). l ++ m) (leaves-assertion a) (leaves-assertion b) ∙ sym (map-join leafToTree (Table.leaves a) (Table.leaves b))
-leaves-assertion (eitherA a b) = ap₂ (λ (l m : List Tree). l ++ m) (leaves-assertion a) (leaves-assertion b) ∙ sym (map-join leafToTree (Table.leaves a) (Table.leaves b))
+leaves-assertion (bothA a b) = ap₂ (λ (l m : List Tree). l ++ m) (leaves-assertion a) (leaves-assertion b)
+    ∙ sym (map-join leafToTree (Table.leaves a) (Table.leaves b))
+leaves-assertion (eitherA a b) = ap₂ (λ (l m : List Tree). l ++ m) (leaves-assertion a) (leaves-assertion b)
+    ∙ sym (map-join leafToTree (Table.leaves a) (Table.leaves b))
 leaves-assertion start = refl
 leaves-assertion (holds e) = ap (λ (l : List Tree). l ++ []) (leaves-test e) ∙ join-none (map leafToTree (Table.leavesT e))
 
@@ -295,7 +316,8 @@ leaves-all : (ps : List Imp) → leavesAll C (map impToTree ps) ≡ map leafToTr
 leaves-all [] = refl
 leaves-all (p ∷ ps) =
     ap₂ (λ (l m : List Tree). l ++ m)
-    (ap₂ (λ (l m : List Tree). l ++ m) (leaves-assertion (p .left)) (leaves-assertion (p .right)) ∙ sym (map-join leafToTree (Table.leaves (p .left)) (Table.leaves (p .right))))
+    (ap₂ (λ (l m : List Tree). l ++ m) (leaves-assertion (p .left)) (leaves-assertion (p .right))
+    ∙ sym (map-join leafToTree (Table.leaves (p .left)) (Table.leaves (p .right))))
     (leaves-all ps)
     ∙ sym (map-join leafToTree (Table.leaves (p .left) ++ Table.leaves (p .right)) (Table.leavesAll ps))
 
@@ -320,8 +342,10 @@ module _ (ν : Tree → ℕ) where
   table-assertion : (a : Assertion) → eqb (tv (toTree a)) 1 ≡ inRow at a
   unfolding valueT combine member leafToTree
   table-assertion (sees t i) = refl
-  table-assertion (bothA a b) = bit-and (eqb (tv (toTree a)) 1) (tv (toTree b)) ∙ ap₂ (λ (a b : Bool). a && b) (table-assertion a) (table-assertion b)
-  table-assertion (eitherA a b) = bit-or (eqb (tv (toTree a)) 1) (tv (toTree b)) ∙ ap₂ (λ (a b : Bool). a || b) (table-assertion a) (table-assertion b)
+  table-assertion (bothA a b) = bit-and (eqb (tv (toTree a)) 1) (tv (toTree b))
+      ∙ ap₂ (λ (a b : Bool). a && b) (table-assertion a) (table-assertion b)
+  table-assertion (eitherA a b) = bit-or (eqb (tv (toTree a)) 1) (tv (toTree b))
+      ∙ ap₂ (λ (a b : Bool). a || b) (table-assertion a) (table-assertion b)
   table-assertion start = refl
   table-assertion (holds e) = table-test e
 
@@ -339,7 +363,8 @@ module _ {K : Type 0} (eq : K → K → Bool) where
   power (k ∷ l) = ap (λ (n : ℕ). 2 * n) (power l) ∙ mul-comm 2 (2 ^ length l) ∙ sym (pow-suc 2 (length l))
 
 power-limit : (n m : ℕ) → leb (2 ^ n) (2 ^ m) ≡ leb n m
-power-limit n m = bool-ext (leb (2 ^ n) (2 ^ m)) (leb n m) (λ h. go (leb n m) refl (leb→le (2 ^ n) (2 ^ m) h)) (λ h. le→leb (2 ^ n) (2 ^ m) (pow-le-pow-right (omega arith) (leb→le n m h)))
+power-limit n m = bool-ext (leb (2 ^ n) (2 ^ m)) (leb n m) (λ h. go (leb n m) refl (leb→le (2 ^ n) (2 ^ m) h))
+    (λ h. le→leb (2 ^ n) (2 ^ m) (pow-le-pow-right (omega arith) (leb→le n m h)))
   where
     positive : (m : ℕ) → 1 ≤ 2 ^ m
     positive zero = omega arith
@@ -357,8 +382,10 @@ unfolding tableT
 toTree-table ps c =
     ap₂ (λ (a b : Bool). a && b)
     (ap (λ (l : List Tree). leb (rowCount sameTree (choicesT 2) (distinct sameTree l)) (2 ^ Limits.leaves)) (leaves-all (c ∷ ps))
-    ∙ ap (λ (n : ℕ). leb n (2 ^ Limits.leaves)) (embedded-count same-leaf sameTree leafToTree leaf-alike (λ l. 2) (choicesT 2) (λ l. two-choices (leafToTree l)) (Table.leavesAll (c ∷ ps)) ∙ power same-leaf (distinct same-leaf (Table.leavesAll (c ∷ ps))))
+    ∙ ap (λ (n : ℕ). leb n (2 ^ Limits.leaves)) (embedded-count same-leaf sameTree leafToTree leaf-alike (λ l. 2) (choicesT 2)
+    (λ l. two-choices (leafToTree l)) (Table.leavesAll (c ∷ ps)) ∙ power same-leaf (distinct same-leaf (Table.leavesAll (c ∷ ps))))
     ∙ power-limit (length (distinct same-leaf (Table.leavesAll (c ∷ ps)))) Limits.leaves)
     (ap (λ (l : List Tree). everyRow sameTree (choicesT 2) l (entailsT byLeaves (map impToTree ps) (impToTree c))) (leaves-all (c ∷ ps))
-    ∙ embedded same-leaf sameTree leafToTree leaf-alike (λ l. 2) (choicesT 2) (λ l. two-choices (leafToTree l)) (entailsT byLeaves (map impToTree ps) (impToTree c)) (λ ν. not (all (impRow ν) ps) || impRow ν c)
+    ∙ embedded same-leaf sameTree leafToTree leaf-alike (λ l. 2) (choicesT 2) (λ l. two-choices (leafToTree l))
+    (entailsT byLeaves (map impToTree ps) (impToTree c)) (λ ν. not (all (impRow ν) ps) || impRow ν c)
     (λ ν. ap₂ (λ (a b : Bool). not a || b) (table-all ν ps) (table-imp ν c)) (Table.leavesAll (c ∷ ps)))

@@ -27,22 +27,24 @@ use Rattle.bits.specs.Words.{bit, ones, wordOf, wordsOf, denyWord, denyWords, n
 use Rattle.bits.proofs.Facts.{flag, bit-ones, flag-and, flag-deny, none-set}
 use Rattle.tables.specs.Table.{byLeaves, Later, Shows, TreeBits, Grown}
 use Rattle.tables.proofs.Showing.{shows-later}
-use Rattle.rows.specs.Entailment.{ImpT, impOf, premisesFrom, impAt, allAt, entailsAt, gatherAll}
-use Rattle.rows.specs.Every.{lastsOf, triedRows, rowsHold, everyOf}
+use Rattle.entailment.specs.Entailment.{ImpT, impOf, premisesFrom, impAt, allAt, entailsAt, gatherAll}
+use Rattle.entailment.specs.Every.{lastsOf, triedRows, rowsHold, everyOf}
 use Rattle.rows.specs.Tables.{ImpBits, AllBits, FailBits}
-use Rattle.rows.specs.declared.entailment.Task.{Task}
-use Rattle.rows.proofs.Entailing.{prems-step, prems-end}
-use Rattle.rows.proofs.Distinct.{two-choices, two-rows, rows-power}
-use Rattle.rows.proofs.Choices.{all-below, lasts-at, rows-count, tried-once}
-use Rattle.rows.proofs.RowsTried.{every-try}
+use Rattle.entailment.specs.declared.entailment.Task.{Task}
+use Rattle.entailment.proofs.Entailing.{prems-step, prems-end}
+use Rattle.entailment.proofs.Distinct.{two-choices, two-rows, rows-power}
+use Rattle.entailment.proofs.Choices.{all-below, lasts-at, rows-count, tried-once}
+use Rattle.entailment.proofs.RowsTried.{every-try}
 
 -- what is shown of two columns is shown of one made of them
 module _ (n : ℕ) (q : List ℕ) (f g h : List ℕ → List ℕ → Bool) (a b o : List ℕ) (ef : Shows n q f a) (eg : Shows n q g b) where
   shows-deny : ((p v : List ℕ) → (f p v && not (g p v)) ≡ h p v) → o ≡ denyWords 16 a b → Shows n q h o
   unfolding Shows denyWords
   shows-deny said e x w i hw hi hr =
-      ap (λ (l : List ℕ). bit (getD l w 0) i) e ∙ ap (λ (y : ℕ). bit y i) (column-getD (λ (w : ℕ). denyWord (getD a w 0) (getD b w 0)) 0 16 w hw)
-      ∙ flag-deny i (getD a w 0) (getD b w 0) (f (x .slots) v) (g (x .slots) v) hi (ef x w i hw hi hr) (eg x w i hw hi hr) ∙ ap flag (said (x .slots) v)
+      ap (λ (l : List ℕ). bit (getD l w 0) i) e ∙ ap (λ (y : ℕ). bit y i)
+      (column-getD (λ (w : ℕ). denyWord (getD a w 0) (getD b w 0)) 0 16 w hw)
+      ∙ flag-deny i (getD a w 0) (getD b w 0) (f (x .slots) v) (g (x .slots) v) hi (ef x w i hw hi hr) (eg x w i hw hi hr)
+      ∙ ap flag (said (x .slots) v)
     where
       v : List ℕ
       v = rowIn (x .lasts) (64 * w + i)
@@ -50,8 +52,10 @@ module _ (n : ℕ) (q : List ℕ) (f g h : List ℕ → List ℕ → Bool) (a b 
   shows-and : ((p v : List ℕ) → (f p v && g p v) ≡ h p v) → o ≡ wordsOf (byte Code.and) 0 16 a b → Shows n q h o
   unfolding Shows wordsOf wordOf
   shows-and said e x w i hw hi hr =
-      ap (λ (l : List ℕ). bit (getD l w 0) i) e ∙ ap (λ (y : ℕ). bit y i) (column-getD (λ (w : ℕ). wordOf (byte Code.and) 0 (getD a w 0) (getD b w 0)) 0 16 w hw)
-      ∙ flag-and i (getD a w 0) (f (x .slots) v) (ef x w i hw hi hr) (getD b w 0) (g (x .slots) v) (eg x w i hw hi hr) ∙ ap flag (said (x .slots) v)
+      ap (λ (l : List ℕ). bit (getD l w 0) i) e ∙ ap (λ (y : ℕ). bit y i)
+      (column-getD (λ (w : ℕ). wordOf (byte Code.and) 0 (getD a w 0) (getD b w 0)) 0 16 w hw)
+      ∙ flag-and i (getD a w 0) (f (x .slots) v) (ef x w i hw hi hr) (getD b w 0) (g (x .slots) v) (eg x w i hw hi hr)
+      ∙ ap flag (said (x .slots) v)
     where
       v : List ℕ
       v = rowIn (x .lasts) (64 * w + i)
@@ -69,14 +73,19 @@ module _ (s lefts rights : List ℕ) (t : Task) where
   imp = impOf s lefts rights t
 
   -- an implication fails where the left side is true and the right side is not
-  pub imp-bits : (i l r m k : ℕ) (q₂ q₃ b a o : List ℕ) → r ≡ getD rights i 0 → TreeBits s m q₂ (parseTree s (t .right) r .tree) b → l ≡ getD lefts i 0 → Grown m q₂ k q₃ a → TreeBits s k q₃ (parseTree s (t .left) l .tree) a
+  pub imp-bits : (i l r m k : ℕ) (q₂ q₃ b a o : List ℕ) → r ≡ getD rights i 0 → TreeBits s m q₂ (parseTree s (t .right) r .tree) b
+      → l ≡ getD lefts i 0 → Grown m q₂ k q₃ a → TreeBits s k q₃ (parseTree s (t .left) l .tree) a
       → o ≡ denyWords 16 a b → ImpBits s k q₃ (impOf s lefts rights t i) o
   unfolding ImpBits TreeBits impAt impOf
   imp-bits i l r m k q₂ q₃ b a o er hb el g ha e =
-      shows-deny k q₃ (λ p v. eqb (rowValue s byLeaves p v (parseTree s (t .left) l .tree)) 1) (λ p v. eqb (rowValue s byLeaves p v (parseTree s (t .right) r .tree)) 1) (λ p v. not (impAt s byLeaves p v (imp i))) a b o
+      shows-deny k q₃ (λ p v. eqb (rowValue s byLeaves p v (parseTree s (t .left) l .tree)) 1)
+      (λ p v. eqb (rowValue s byLeaves p v (parseTree s (t .right) r .tree)) 1) (λ p v. not (impAt s byLeaves p v (imp i))) a b o
       ha (shows-later _ m k q₂ q₃ b (g .more) (g .same) hb)
-      (λ p v. go (eqb (rowValue s byLeaves p v (parseTree s (t .left) l .tree)) 1) (eqb (rowValue s byLeaves p v (parseTree s (t .right) r .tree)) 1)
-      ∙ ap₂ (λ (x y : ℕ). not (cond (eqb (rowValue s byLeaves p v (parseTree s (t .left) x .tree)) 1) (eqb (rowValue s byLeaves p v (parseTree s (t .right) y .tree)) 1) true)) el er) e
+      (λ p v. go (eqb (rowValue s byLeaves p v (parseTree s (t .left) l .tree)) 1)
+      (eqb (rowValue s byLeaves p v (parseTree s (t .right) r .tree)) 1)
+      ∙ ap₂
+      (λ (x y : ℕ). not (cond (eqb (rowValue s byLeaves p v (parseTree s (t .left) x .tree)) 1)
+      (eqb (rowValue s byLeaves p v (parseTree s (t .right) y .tree)) 1) true)) el er) e
     where
       go : (x y : Bool) → (x && not y) ≡ not (cond x y true)
       go true y = refl
@@ -85,7 +94,9 @@ module _ (s lefts rights : List ℕ) (t : Task) where
   -- without a premise, all rows
   pub rows-begin : (q : List ℕ) → AllBits s 0 q (premisesFrom s lefts rights t (t .premises)) (replicate 16 18446744073709551615)
   unfolding AllBits Shows allAt
-  rows-begin q x w i hw hi hr = ap (λ (y : ℕ). bit y i) (same 16 w hw) ∙ bit-ones i hi ∙ ap (λ (l : List ImpT). flag (allAt s byLeaves (x .slots) (rowIn (x .lasts) (64 * w + i)) l)) (sym (prems-end s lefts rights t (t .premises) (omega arith)))
+  rows-begin q x w i hw hi hr = ap (λ (y : ℕ). bit y i) (same 16 w hw) ∙ bit-ones i hi
+      ∙ ap (λ (l : List ImpT). flag (allAt s byLeaves (x .slots) (rowIn (x .lasts) (64 * w + i)) l))
+      (sym (prems-end s lefts rights t (t .premises) (omega arith)))
     where
       same : (n w : ℕ) → w < n → getD (replicate {A = ℕ} n ones) w 0 ≡ ones
       same zero w h = absurd (omega arith)
@@ -93,15 +104,18 @@ module _ (s lefts rights : List ℕ) (t : Task) where
       same (suc n) (suc w) h = same n w (omega arith)
 
   module _ (i n m : ℕ) (q q₂ a c o : List ℕ) (ha : AllBits s n q (premisesFrom s lefts rights t i) a) (g : Grown n q m q₂ c) where
-    pub rows-next : i ≤ t .premises → 0 < i → ImpBits s m q₂ (impOf s lefts rights t i) c → o ≡ denyWords 16 a c → AllBits s m q₂ (premisesFrom s lefts rights t (i - 1)) o
+    pub rows-next : i ≤ t .premises → 0 < i → ImpBits s m q₂ (impOf s lefts rights t i) c → o ≡ denyWords 16 a c
+        → AllBits s m q₂ (premisesFrom s lefts rights t (i - 1)) o
     unfolding AllBits ImpBits allAt
     rows-next l z hc e =
-        shows-deny m q₂ (λ p v. allAt s byLeaves p v (prems i)) (λ p v. not (impAt s byLeaves p v (imp i))) (λ p v. allAt s byLeaves p v (prems (i - 1))) a c o
+        shows-deny m q₂ (λ p v. allAt s byLeaves p v (prems i)) (λ p v. not (impAt s byLeaves p v (imp i)))
+        (λ p v. allAt s byLeaves p v (prems (i - 1))) a c o
         (shows-later _ n m q q₂ a (g .more) (g .same) ha) hc
         (λ p v. go (allAt s byLeaves p v (prems i)) (impAt s byLeaves p v (imp i)) ∙ sym (ap (allAt s byLeaves p v) before)) e
       where
         before : prems (i - 1) ≡ imp i ∷ prems i
-        before = let f : i - 1 + 1 ≡ i = omega arith in prems-step s lefts rights t (i - 1) (omega arith) ∙ ap (λ (j : ℕ). imp j ∷ prems j) f
+        before = let f : i - 1 + 1 ≡ i = omega arith in
+            prems-step s lefts rights t (i - 1) (omega arith) ∙ ap (λ (j : ℕ). imp j ∷ prems j) f
 
         go : (x y : Bool) → (x && not (not y)) ≡ cond y x false
         go true true = refl
@@ -113,9 +127,11 @@ module _ (s lefts rights : List ℕ) (t : Task) where
     pub rows-end : i ≤ 0 → ImpBits s m q₂ (impOf s lefts rights t 0) c → o ≡ wordsOf 12 0 16 c a → FailBits s lefts rights t m q₂ o
     unfolding AllBits ImpBits FailBits entailsAt
     rows-end l hc e =
-        shows-and m q₂ (λ p v. not (impAt s byLeaves p v (imp 0))) (λ p v. allAt s byLeaves p v (prems i)) (λ p v. not (entailsAt s lefts rights t byLeaves p v)) c a o
+        shows-and m q₂ (λ p v. not (impAt s byLeaves p v (imp 0))) (λ p v. allAt s byLeaves p v (prems i))
+        (λ p v. not (entailsAt s lefts rights t byLeaves p v)) c a o
         hc (shows-later _ n m q q₂ a (g .more) (g .same) ha)
-        (λ p v. ap (λ (j : ℕ). not (impAt s byLeaves p v (imp 0)) && allAt s byLeaves p v (prems j)) none ∙ go (impAt s byLeaves p v (imp 0)) (allAt s byLeaves p v (prems 0))) e
+        (λ p v. ap (λ (j : ℕ). not (impAt s byLeaves p v (imp 0)) && allAt s byLeaves p v (prems j)) none
+        ∙ go (impAt s byLeaves p v (imp 0)) (allAt s byLeaves p v (prems 0))) e
       where
         none : i ≡ 0
         none = omega arith
@@ -128,7 +144,13 @@ module _ (s lefts rights : List ℕ) (t : Task) where
 -- what grows
 module _ (n m : ℕ) (q q₂ a b o : List ℕ) (g : Grown n q m q₂ b) where
   pub grown-deny : (k : ℕ) (q₃ : List ℕ) → Grown m q₂ k q₃ a → o ≡ denyWords 16 a b → Grown n q k q₃ o
-  grown-deny k q₃ h e = record { more = let x = g .more in let y = h .more in omega arith; same = λ j l. h .same j (let y = g .more in omega arith) ∙ g .same j l; long = h .long; wide = wide-deny o a b e }
+  grown-deny k q₃ h e = record {
+    more = let x = g .more in let y = h .more in
+        omega arith;
+    same = λ j l. h .same j (let y = g .more in omega arith) ∙ g .same j l;
+    long = h .long;
+    wide = wide-deny o a b e;
+  }
 
 pub ruleset implied = (imp-bits, grown-deny)
 
@@ -151,14 +173,26 @@ module _ (s lefts rights : List ℕ) (t : Task) (q : List ℕ) (k : ℕ) (few : 
   ms = lastsOf s q 2 k
 
   abbrev now : Later k q
-  now = record { count = k; slots = q; lasts = ms; few = few; more = omega arith; same = λ j h. refl; two = λ j h. lasts-at s q 2 k j (omega arith) ∙ ap₂ (λ (b : Bool) (n : ℕ). cond b (n - 1) 0) (lt-ltb j k h) (two-choices (slotAt s q j)) }
+  now = record {
+    count = k;
+    slots = q;
+    lasts = ms;
+    few = few;
+    more = omega arith;
+    same = λ j h. refl;
+    two =
+        λ j h. lasts-at s q 2 k j (omega arith) ∙ ap₂ (λ (b : Bool) (n : ℕ). cond b (n - 1) 0) (lt-ltb j k h) (two-choices (slotAt s q j));
+  }
 
-  pub bits-hold : (a : List ℕ) (n : ℕ) (r : Bool) → FailBits s lefts rights t k q a → n ≡ 2 ^ k → n ≤ 1024 → r ≡ noneSet a n 16 → r ≡ rowsHold s lefts rights t byLeaves q k (2 ^ k)
+  pub bits-hold : (a : List ℕ) (n : ℕ) (r : Bool) → FailBits s lefts rights t k q a → n ≡ 2 ^ k → n ≤ 1024 → r ≡ noneSet a n 16
+      → r ≡ rowsHold s lefts rights t byLeaves q k (2 ^ k)
   unfolding FailBits Shows rowsHold triedRows rowIn
   bits-hold a n r hf en l e =
       e ∙ ap (λ (n : ℕ). noneSet a n 16) en ∙ none-set a (2 ^ k) (omega arith)
-      ∙ all-below (entailsAt s lefts rights t byLeaves q) [] (rowsFrom ms (2 ^ k) (replicate slots 0)) (2 ^ k) (λ r. eqb (bit (getD a (r / 64) 0) (r % 64)) 0) (from-long ms (2 ^ k) (replicate slots 0)) (λ r h.
-      ap (λ (x : ℕ). eqb x 0) (hf now (r / 64) (r % 64) (div-lt-iff-lt-mul {k = 64} (omega arith) .1 (omega arith)) (mod-lt r (omega arith)) (omega (arith, place r)))
+      ∙ all-below (entailsAt s lefts rights t byLeaves q) [] (rowsFrom ms (2 ^ k) (replicate slots 0)) (2 ^ k)
+      (λ r. eqb (bit (getD a (r / 64) 0) (r % 64)) 0) (from-long ms (2 ^ k) (replicate slots 0)) (λ r h.
+      ap (λ (x : ℕ). eqb x 0) (hf now (r / 64) (r % 64) (div-lt-iff-lt-mul {k = 64} (omega arith) .1 (omega arith))
+      (mod-lt r (omega arith)) (omega (arith, place r)))
       ∙ go (entailsAt s lefts rights t byLeaves q (rowIn ms (64 * (r / 64) + r % 64)))
       ∙ ap (entailsAt s lefts rights t byLeaves q) (ap (rowIn ms) (place r) ∙ sym (from-at ms (2 ^ k) r (replicate slots 0) h)))
     where
@@ -194,6 +228,8 @@ module _ (s lefts rights : List ℕ) (t : Task) (k : ℕ) (q : List ℕ) (eg : v
       count = two-rows (kept s q k) ∙ ap (λ (n : ℕ). 2 ^ n) (kept-length s q k)
 
       told : 2 ^ k ≡ rowsUpTo s q 2 1024 k
-      told = let l : 1 * rowCount sameTree (choicesT 2) (kept s q k) ≤ 1024 = omega (arith, one-mul (rowCount sameTree (choicesT 2) (kept s q k)), count, low) in rw (le-ltb _ _ l) (sym (one-mul (rowCount sameTree (choicesT 2) (kept s q k)) ∙ count))
+      told = let l : 1 * rowCount sameTree (choicesT 2) (kept s q k) ≤ 1024 =
+          omega (arith, one-mul (rowCount sameTree (choicesT 2) (kept s q k)), count, low) in
+          rw (le-ltb _ _ l) (sym (one-mul (rowCount sameTree (choicesT 2) (kept s q k)) ∙ count))
 
 pub ruleset tabled = (bits-many, bits-try)

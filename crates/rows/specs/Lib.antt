@@ -1,4 +1,2 @@
-pub mod Entailment
-pub mod Every
 pub mod Rows
 pub mod Tables

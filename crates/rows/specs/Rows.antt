@@ -10,17 +10,18 @@ use Rattle.limits.specs.Limits.{nesting}
 use Rattle.formula.specs.Codes.{setOf}
 use Rattle.formula.specs.Tree.{Tree}
 use Rattle.tables.specs.Table.{byLeaves}
-use Rattle.rows.specs.Entailment.{ImpT, impOf, premisesFrom}
-use Rattle.rows.specs.Every.{everyT}
+use Rattle.entailment.specs.Entailment.{ImpT, impOf, premisesFrom}
+use Rattle.entailment.specs.Every.{everyT}
 use Rattle.values.specs.declared.value.Reading.{Reading}
-use Rattle.rows.specs.declared.entailment.Task.{Task}
+use Rattle.entailment.specs.declared.entailment.Task.{Task}
 use Rattle.rows.specs.declared.by.Implications.{Implications}
 
 -- by rows the leaves are names
 abbrev pub byNames : ℕ → Reading
 byNames R = record { leaves = setOf (Code.reg ∷ Code.word ∷ Code.unsync ∷ Code.cov ∷ []); range = R }
 
--- wherever the left test is true the right one is, at every row, of which there are at most 4,096. (A range of one value or none has no rows to try)
+-- wherever the left test is true the right one is, at every row, of which there are at most 4,096. (A range of one value or none has no
+-- rows to try)
 unfoldable pub rowsT : ℕ → Tree → Tree → Bool
 rowsT R u v = cond (ltb R 2) false (everyT (byNames R) Limits.rows [] (record { left = u; right = v }))
 

@@ -3,8 +3,8 @@ use Prim.Native.Nat.{ℕ}
 use mathlib.Core.List.{List}
 use mathlib.Core.Bool.{not}
 use Rattle.tables.specs.Table.{byLeaves, Shows}
-use Rattle.rows.specs.Entailment.{ImpT, impAt, allAt, entailsAt}
-use Rattle.rows.specs.declared.entailment.Task.{Task}
+use Rattle.entailment.specs.Entailment.{ImpT, impAt, allAt, entailsAt}
+use Rattle.entailment.specs.declared.entailment.Task.{Task}
 
 -- the rows at which an implication fails
 unfoldable pub ImpBits : List ℕ → ℕ → List ℕ → ImpT → List ℕ → Type 0

@@ -1,8 +1,8 @@
 // By rows, and by truth table.
-use crate::entailment::Sizes;
-use crate::entailment::Task;
-use crate::every::every_row;
 use crate::table::by_bits;
+use entailment::entailment::Sizes;
+use entailment::entailment::Task;
+use entailment::every::every_row;
 use formula::code::Code;
 use limits::Limits;
 use values::value::Reading;

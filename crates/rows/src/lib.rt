@@ -1,5 +1,3 @@
 // Tests by rows, and truth tables: every row tried, from all zeros on. One fact on rows for both.
 pub mod by;
-pub mod entailment;
-pub mod every;
 pub mod table;

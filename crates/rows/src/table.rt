@@ -1,11 +1,11 @@
 // By truth table: the line and its premises as bits, their leaves gathered on the same walk.
-use crate::entailment::Task;
-use crate::entailment::number_at;
 use bits::word::Words;
 use bits::word::combine_words;
 use bits::word::deny_words;
 use bits::word::none_set;
 use bits::word::rows_of;
+use entailment::entailment::Task;
+use entailment::entailment::number_at;
 use formula::code::Code;
 use leaves::slot::Slots;
 use limits::Limits;
@@ -16,8 +16,8 @@ ghost use lib.ListN.{length};
 ghost use Rattle.leaves.specs.Gather.{view};
 ghost use Rattle.digits.specs.Advance.{EveryOnce};
 ghost use Rattle.tables.specs.Table.{byLeaves, Grown};
-ghost use Rattle.rows.specs.Entailment.{impOf, gatherImp, gatherAll};
-ghost use Rattle.rows.specs.Every.{lastsOf, triedRows, rowsHold, everyOf};
+ghost use Rattle.entailment.specs.Entailment.{impOf, gatherImp, gatherAll};
+ghost use Rattle.entailment.specs.Every.{lastsOf, triedRows, rowsHold, everyOf};
 ghost use Rattle.rows.specs.Tables.{ImpBits, FailBits};
 
 // The rows at which an implication fails, with its leaves; answers how many leaves there are.
@@ -32,9 +32,11 @@ fn imp_bits(
     out: &mut [u64; Words::COUNT],
 ) -> usize
     requires { ⌜ (length (now slots) ≡ 36) × (length (now out) ≡ 16) ⌝ }
-    ensures { λ r. ⌜ view (now (s .entry)) r (now (slots .exit)) ≡ gatherImp (byLeaves .leaves) (impOf (now (s .entry)) (now (lefts .entry)) (now (rights .entry)) t i) (view (now (s .entry)) n (now (slots .entry))) ⌝ }
+    ensures { λ r. ⌜ view (now (s .entry)) r (now (slots .exit)) ≡ gatherImp (byLeaves .leaves)
+        (impOf (now (s .entry)) (now (lefts .entry)) (now (rights .entry)) t i) (view (now (s .entry)) n (now (slots .entry))) ⌝ }
     ensures { λ r. ⌜ Grown n (now (slots .entry)) r (now (slots .exit)) (now (out .exit)) ⌝ }
-    ensures { λ r. ⌜ ImpBits (now (s .entry)) r (now (slots .exit)) (impOf (now (s .entry)) (now (lefts .entry)) (now (rights .entry)) t i) (now (out .exit)) ⌝ }
+    ensures { λ r. ⌜ ImpBits (now (s .entry)) r (now (slots .exit)) (impOf (now (s .entry)) (now (lefts .entry)) (now (rights .entry)) t i)
+        (now (out .exit)) ⌝ }
 {
     let mut b: [u64; Words::COUNT] = [0; Words::COUNT];
     let m = table_at(s, number_at(rights, i), t.right, n, slots, &mut b);
@@ -53,7 +55,8 @@ fn all_bits(
     out: &mut [u64; Words::COUNT],
 ) -> usize
     requires { ⌜ (length (now slots) ≡ 36) × (length (now out) ≡ 16) ⌝ }
-    ensures { λ r. ⌜ view (now (s .entry)) r (now (slots .exit)) ≡ gatherAll (now (s .entry)) (now (lefts .entry)) (now (rights .entry)) t (byLeaves .leaves) ⌝ }
+    ensures { λ r. ⌜ view (now (s .entry)) r (now (slots .exit)) ≡ gatherAll (now (s .entry)) (now (lefts .entry)) (now (rights .entry)) t
+        (byLeaves .leaves) ⌝ }
     ensures { λ r. ⌜ FailBits (now (s .entry)) (now (lefts .entry)) (now (rights .entry)) t r (now (slots .exit)) (now (out .exit)) ⌝ }
 {
     let mut holds: [u64; Words::COUNT] = [Words::ALL; Words::COUNT];
@@ -83,7 +86,8 @@ fn bits_hold(
     requires { ⌜ k ≤ 10 ⌝ }
     requires { ⌜ FailBits (now s) (now lefts) (now rights) t k (now slots) (now fails) ⌝ }
     ensures { λ r. ⌜ r ≡ rowsHold (now (s .entry)) (now (lefts .entry)) (now (rights .entry)) t byLeaves (now (slots .entry)) k (2 ^ k) ⌝ }
-    ensures once { λ _. ⌜ EveryOnce (lastsOf (now (s .entry)) (now (slots .entry)) 2 k) (triedRows (now (s .entry)) (now (slots .entry)) 2 k (2 ^ k)) ⌝ }
+    ensures once { λ _. ⌜ EveryOnce (lastsOf (now (s .entry)) (now (slots .entry)) 2 k)
+        (triedRows (now (s .entry)) (now (slots .entry)) 2 k (2 ^ k)) ⌝ }
 {
     none_set(fails, rows_of(k))
 }

@@ -37,7 +37,16 @@ unfolding formBy
 past n h =
     let a : n ≡ 0 → ⊥ = omega arith in
     let b : n ≡ 50 → ⊥ = omega arith in
-    rw (ne-eqb n 0 a, lt-leb n 16 (omega arith), le-ltb n 20 (omega arith), lt-leb n 27 (omega arith), le-ltb n 30 (omega arith), lt-leb n 46 (omega arith), le-ltb n 50 (omega arith), ne-eqb n 50 b)
+    rw (
+      ne-eqb n 0 a,
+      lt-leb n 16 (omega arith),
+      le-ltb n 20 (omega arith),
+      lt-leb n 27 (omega arith),
+      le-ltb n 30 (omega arith),
+      lt-leb n 46 (omega arith),
+      le-ltb n 50 (omega arith),
+      ne-eqb n 50 b,
+    )
 
 form-is : (n : ℕ) → formBy n ≡ ruleRow n .form
 unfolding formBy ruleRow

@@ -94,7 +94,8 @@ sameBit false false = true
 
 abbrev pub operations : List ℕ
 operations =
-    Opcode.assign ∷ Opcode.load ∷ Opcode.acquire ∷ Opcode.store ∷ Opcode.release ∷ Opcode.swap ∷ Opcode.branch ∷ Opcode.exchange ∷ Opcode.fetchAdd
+    Opcode.assign ∷ Opcode.load ∷ Opcode.acquire ∷ Opcode.store ∷ Opcode.release ∷ Opcode.swap ∷ Opcode.branch ∷ Opcode.exchange
+    ∷ Opcode.fetchAdd
     ∷ Opcode.pairStore ∷ Opcode.pairRelease ∷ Opcode.pairSwap ∷ Opcode.assignTwo ∷ []
 
 -- what is asked besides, by number
@@ -114,11 +115,14 @@ sideNumber (by-table ∷ l) = byTable
 
 -- the number of premises, no more than a line may have
 abbrev pub premisesRight : Rule → Bool
-premisesRight n = eqb (ruleRow (numberOf n) .premises) (premiseCount (row n .premises)) && leb (length (shapes (row n .premises))) Limits.premises
+premisesRight n = eqb (ruleRow (numberOf n) .premises) (premiseCount (row n .premises))
+    && leb (length (shapes (row n .premises))) Limits.premises
 
 -- the code's row of the rule says what the logic's says
 abbrev pub listedRight : Rule → Bool
 listedRight n =
-    (eqb (ruleRow (numberOf n) .form) (formOf (row n .says)) && (premisesRight n && eqb (ruleRow (numberOf n) .forms) (packed (shapes (row n .premises)))))
-    && ((all (λ op. sameBit (allows (ruleRow (numberOf n) .operations) op) (isAmong op (row n .operations))) operations && eqb (ruleRow (numberOf n) .side) (sideNumber (row n .sides)))
+    (eqb (ruleRow (numberOf n) .form) (formOf (row n .says))
+    && (premisesRight n && eqb (ruleRow (numberOf n) .forms) (packed (shapes (row n .premises)))))
+    && ((all (λ op. sameBit (allows (ruleRow (numberOf n) .operations) op) (isAmong op (row n .operations))) operations
+    && eqb (ruleRow (numberOf n) .side) (sideNumber (row n .sides)))
     && standAt (ruleRow (numberOf n) .template) (trees (row n .says ∷ shapes (row n .premises))))

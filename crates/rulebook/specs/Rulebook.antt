@@ -46,7 +46,8 @@ abbrev pub anyImplications : ℕ
 anyImplications = 5
 
 abbrev pub rule : ℕ → ℕ → ℕ → ℕ → ℕ → ℕ → Rule
-rule form template premises forms operations side = record { form = form; template = template; premises = premises; forms = forms; operations = operations; side = side }
+rule form template premises forms operations side =
+    record { form = form; template = template; premises = premises; forms = forms; operations = operations; side = side }
 
 abbrev pub unlisted : Rule
 unlisted = rule unlistedForm 0 0 0 0 nothing

@@ -26,7 +26,7 @@ use Rattle.compare.specs.Replace.{NoteT, replaceT, nameCode, oneName, named, su
 use Rattle.compare.specs.declared.replace.Replacing.the-variants.{Formula, Word}
 use Rattle.occurs.specs.Occurs.{occurs, register, wordAnyRole, flag}
 use Rattle.trees.proofs.ToTree.{tree-eq, tree-refl}
-use Rattle.rows.specs.Entailment.{impOf, impsFrom, premisesFrom}
+use Rattle.entailment.specs.Entailment.{impOf, impsFrom, premisesFrom}
 use Rattle.rows.specs.Rows.{rowsT, tableT, lineOf, premisesOf}
 use Rattle.frames.specs.Records.{bodies}
 use Rattle.header.specs.Header.{startValues, cleared, valueRange}
@@ -35,8 +35,8 @@ use Rattle.matcher.specs.Places.{takenOf}
 use Rattle.matcher.specs.declared.bind.Bind.{Bind}
 use Rattle.certificate.specs.FitT as FitT
 use Rattle.certificate.specs.FitT.{Setup, TreeConclusion, formOf, holesFrom, orElse, apartT, keepsT, freshT, sideT, operationT}
-use Rattle.content.specs.Trees.{treeAt, givesT, notesBy, actingAt}
-use Rattle.content.specs.declared.acting.Acting.{Acting}
+use Rattle.lookups.specs.Trees.{treeAt, givesT, notesBy, actingAt}
+use Rattle.lookups.specs.declared.acting.Acting.{Acting}
 use Rattle.rulebook.specs.Listed.{sideNumber}
 use Rattle.conclusions.specs.Conclusion.{concludedAt, conclusionsFrom}
 use Rattle.conditions.specs.Fresh.{formulaIs, sumIs, freshIs}
@@ -58,7 +58,8 @@ and-one true = refl
 and-one false = refl
 
 same-sym : (u v : Tree) → sameTree u v ≡ sameTree v u
-same-sym u v = bool-ext (sameTree u v) (sameTree v u) (λ h. subst (λ w. T (sameTree w u)) (tree-eq u v h) (tree-refl u)) (λ h. subst (λ w. T (sameTree w v)) (tree-eq v u h) (tree-refl v))
+same-sym u v = bool-ext (sameTree u v) (sameTree v u) (λ h. subst (λ w. T (sameTree w u)) (tree-eq u v h) (tree-refl u))
+    (λ h. subst (λ w. T (sameTree w v)) (tree-eq v u h) (tree-refl v))
 
 plain : (o : Bool) → not o && true ≡ cond o false true
 plain true = refl
@@ -76,7 +77,13 @@ past-returning : (n : ℕ) → 9 ≤ n → isAmong n Rules.returning ≡ false
 past-returning n h = rw (ne-eqb n 7 (λ e. omega arith), ne-eqb n 8 (λ e. omega arith))
 
 past-writes : (n : ℕ) → 9 ≤ n → isAmong n Rules.writes ≡ false
-past-writes n h = rw (ne-eqb n 3 (λ e. omega arith), ne-eqb n 4 (λ e. omega arith), ne-eqb n 5 (λ e. omega arith), ne-eqb n 7 (λ e. omega arith), ne-eqb n 8 (λ e. omega arith))
+past-writes n h = rw (
+  ne-eqb n 3 (λ e. omega arith),
+  ne-eqb n 4 (λ e. omega arith),
+  ne-eqb n 5 (λ e. omega arith),
+  ne-eqb n 7 (λ e. omega arith),
+  ne-eqb n 8 (λ e. omega arith),
+)
 
 past-loads : (n : ℕ) → 9 ≤ n → isAmong n Rules.loads ≡ false
 past-loads n h = rw (ne-eqb n 1 (λ e. omega arith), ne-eqb n 2 (λ e. omega arith))
@@ -115,7 +122,11 @@ keeps-is (suc (suc (suc (suc (suc (suc (suc (suc (suc op))))))))) w x r u v ns =
     ∙ sym (rw (le-ltb n 1 (omega arith), lt-leb n 2 (omega arith), ne-eqb n 6 (λ e. omega arith), lt-leb n 8 (omega arith)))
   where
     rest : (a b : Bool) → a ≡ false → b ≡ false
-        → elim a as (λ y. Bool) [ true ↦ not (occurs (register r) [] u) | false ↦ elim b as (λ y. Bool) [ true ↦ apartT (acts (suc (suc (suc (suc (suc (suc (suc (suc (suc op))))))))) w x r v ns) u | false ↦ false ] ] ≡ false
+        → elim a as (λ y. Bool) [
+          | true ↦ not (occurs (register r) [] u)
+          | false ↦ elim b as (λ y. Bool)
+              [ true ↦ apartT (acts (suc (suc (suc (suc (suc (suc (suc (suc (suc op))))))))) w x r v ns) u | false ↦ false ]
+        ] ≡ false
     rest a b e d = rw (e, d)
 
 module _ (s : List ℕ) (b : Bind) where
@@ -124,7 +135,8 @@ module _ (s : List ℕ) (b : Bind) where
   unfolding holeOf parseTree
   hole-tree j = go (getD (b .left) j 0) (eqb (getD (b .left) j 0) 0) refl
     where
-      go : (k : ℕ) (e : Bool) → eqb k 0 ≡ e → orElse Tree.none (cond e none (some (parseTree s k (getD (b .at) j 0) .tree))) ≡ parseTree s k (getD (b .at) j 0) .tree
+      go : (k : ℕ) (e : Bool) → eqb k 0 ≡ e → orElse Tree.none (cond e none (some (parseTree s k (getD (b .at) j 0) .tree))) ≡ parseTree s
+          k (getD (b .at) j 0) .tree
       go k true e = rw (eqb-true k 0 e)
       go k false e = refl
 
@@ -136,7 +148,8 @@ module _ (s : List ℕ) (b : Bind) where
       go n true e = rw (eqb-true n 0 e)
       go n false e = refl
 
-module _ (s : List ℕ) (b : Bind) (a : Acting) (c : Conclusion) (p : Premises) (few : p .count ≤ Limits.premises) (whole : a .operation ≡ firstOperation (a .whole)) where
+module _ (s : List ℕ) (b : Bind) (a : Acting) (c : Conclusion) (p : Premises) (few : p .count ≤ Limits.premises)
+    (whole : a .operation ≡ firstOperation (a .whole)) where
   abbrev vs : List TreeConclusion
   vs = map (concludedAt s) (conclusionsFrom p (p .count) 0)
 
@@ -148,7 +161,8 @@ module _ (s : List ℕ) (b : Bind) (a : Acting) (c : Conclusion) (p : Premises) 
   allowed n = operationT (actingAt s a) (formOf (row n .says)) (row n .operations)
 
   -- the line's premises, as implications
-  table-is : (n : ℕ) → p .count ≡ n → n ≤ Limits.premises → map FitT.impOf (map (concludedAt s) (conclusionsFrom p n 0)) ≡ premisesOf s (implicationsOf c p)
+  table-is : (n : ℕ) → p .count ≡ n → n ≤ Limits.premises
+      → map FitT.impOf (map (concludedAt s) (conclusionsFrom p n 0)) ≡ premisesOf s (implicationsOf c p)
   unfolding implicationsOf premisesFrom impsFrom impOf
   table-is zero e h = rw e
   table-is (suc zero) e h = rw e
@@ -164,13 +178,25 @@ module _ (s : List ℕ) (b : Bind) (a : Acting) (c : Conclusion) (p : Premises) 
   -- each condition, of the holes that it speaks of
   kept-is : holds r1 ≡ asked s (sideNumber (row r1 .sides)) b a c p
   unfolding asked ofInstruction
-  kept-is = and-one _ ∙ keeps-is (a .operation) (a .whole) (a .word) (a .register) (holesFrom (takenOf s b) .tree 0) (actingAt s a .formula) (actingAt s a .notes) ∙ ap (keeps (a .operation) (a .word) (a .register)) (hole-tree s b 0)
+  kept-is = and-one _ ∙ keeps-is (a .operation) (a .whole) (a .word) (a .register) (holesFrom (takenOf s b) .tree 0)
+      (actingAt s a .formula) (actingAt s a .notes) ∙ ap (keeps (a .operation) (a .word) (a .register)) (hole-tree s b 0)
 
   -- the instruction's notes and what the code puts for registers
   abbrev Notes : ℕ → Type 0
   Notes w =
       replaceT (named (notesBy w (givesT (a .register) (treeAt s (a .formula))) (givesT (a .noted) (treeAt s (a .note)))))
-      ≡ replaceT (substituted s (substitutionOf (record { operation = a .operation; whole = w; word = a .word; register = a .register; formula = a .formula; noted = a .noted; note = a .note })))
+      ≡ replaceT
+      (substituted s
+      (substitutionOf
+      (record {
+        operation = a .operation;
+        whole = w;
+        word = a .word;
+        register = a .register;
+        formula = a .formula;
+        noted = a .noted;
+        note = a .note;
+      })))
 
   assign-notes : Notes Opcode.assign
   unfolding notesBy substitutionOf substituted oneBy nameCode
@@ -184,7 +210,8 @@ module _ (s : List ℕ) (b : Bind) (a : Acting) (c : Conclusion) (p : Premises) 
   unfolding notesBy substitutionOf substituted oneBy nameCode pairOperation
   pair-notes w h = go (eqb w Opcode.pairStore) (eqb w Opcode.pairRelease) (eqb w Opcode.pairSwap) refl refl refl h
     where
-      go : (x y v : Bool) → eqb w Opcode.pairStore ≡ x → eqb w Opcode.pairRelease ≡ y → eqb w Opcode.pairSwap ≡ v → T (x || (y || (v || false))) → Notes w
+      go : (x y v : Bool) → eqb w Opcode.pairStore ≡ x → eqb w Opcode.pairRelease ≡ y → eqb w Opcode.pairSwap ≡ v
+          → T (x || (y || (v || false))) → Notes w
       go true y v e d f h = rw (eqb-true w Opcode.pairStore e)
       go false true v e d f h = rw (eqb-true w Opcode.pairRelease d)
       go false false true e d f h = rw (eqb-true w Opcode.pairSwap f)
@@ -210,7 +237,8 @@ module _ (s : List ℕ) (b : Bind) (a : Acting) (c : Conclusion) (p : Premises) 
           pick false false true q = absurd (n₅ q)
           pick false false false q = sym q
 
-      go : (x y : Bool) → eqb (a .operation) Opcode.assign ≡ x → eqb (a .operation) Opcode.assignTwo ≡ y → (x || (y || false)) ≡ true → Notes (a .whole)
+      go : (x y : Bool) → eqb (a .operation) Opcode.assign ≡ x → eqb (a .operation) Opcode.assignTwo ≡ y → (x || (y || false)) ≡ true
+          → Notes (a .whole)
       go true y e₁ e₂ h =
           let q : a .operation ≡ Opcode.assign = eqb-true (a .operation) Opcode.assign e₁ in
           subst Notes (sym (alone 0 (a .whole) (λ z. omega arith) (λ z. omega arith) (λ z. omega arith) (sym q ∙ whole))) assign-notes
@@ -221,12 +249,14 @@ module _ (s : List ℕ) (b : Bind) (a : Acting) (c : Conclusion) (p : Premises) 
 
   loaded-is : holds r3 ≡ asked s (sideNumber (row r3 .sides)) b a c p
   unfolding asked ofInstruction loadedBy isWith oneBy substituted oneName
-  loaded-is = and-one _ ∙ ap₂ (λ (u v : Tree). sameTree (replaceT (substituted s (oneBy false (a .register) (Word (a .word)))) v) u) (hole-tree s b 3) (hole-tree s b 2)
+  loaded-is = and-one _ ∙ ap₂ (λ (u v : Tree). sameTree (replaceT (substituted s (oneBy false (a .register) (Word (a .word)))) v) u)
+      (hole-tree s b 3) (hole-tree s b 2)
 
   absent-is : holds r8 ≡ asked s (sideNumber (row r8 .sides)) b a c p
   unfolding asked ofInstruction
   absent-is =
-      and-one _ ∙ apart-is (a .operation) (a .whole) (a .word) (a .register) (holesFrom (takenOf s b) .tree 1) (actingAt s a .formula) (actingAt s a .notes)
+      and-one _ ∙ apart-is (a .operation) (a .whole) (a .word) (a .register) (holesFrom (takenOf s b) .tree 1) (actingAt s a .formula)
+      (actingAt s a .notes)
       ∙ ap (apart (a .operation) (a .word) (a .register)) (hole-tree s b 1)
 
   new-is : holds r48 ≡ asked s (sideNumber (row r48 .sides)) b a c p
@@ -235,15 +265,23 @@ module _ (s : List ℕ) (b : Bind) (a : Acting) (c : Conclusion) (p : Premises) 
       and-one _ ∙ ap (λ (u : Tree). sameTree u (freshT (actingAt s a))) (hole-tree s b 0)
       ∙ same-sym (treeOf s (holeOf b 0)) (freshT (actingAt s a)) ∙ go (eqb (a .operation) Opcode.fetchAdd)
     where
-      go : (x : Bool) → sameTree (elim x as (λ y. Tree) [ true ↦ node (byte Code.sum) 0 (node (byte Code.reg) (a .register) Tree.none Tree.none) (parseTree s nesting (a .formula) .tree) | false ↦ parseTree s nesting (a .formula) .tree ]) (treeOf s (holeOf b 0))
-          ≡ cond x (sameTree (node (byte Code.sum) 0 (node (byte Code.reg) (a .register) Tree.none Tree.none) (parseTree s nesting (a .formula) .tree)) (treeOf s (holeOf b 0))) (sameTree (parseTree s nesting (a .formula) .tree) (treeOf s (holeOf b 0)))
+      go : (x : Bool) → sameTree (elim x as (λ y. Tree) [
+        | true ↦ node (byte Code.sum) 0 (node (byte Code.reg) (a .register) Tree.none Tree.none)
+            (parseTree s nesting (a .formula) .tree)
+        | false ↦ parseTree s nesting (a .formula) .tree
+      ]) (treeOf s (holeOf b 0))
+          ≡ cond x
+          (sameTree (node (byte Code.sum) 0 (node (byte Code.reg) (a .register) Tree.none Tree.none)
+          (parseTree s nesting (a .formula) .tree)) (treeOf s (holeOf b 0)))
+          (sameTree (parseTree s nesting (a .formula) .tree) (treeOf s (holeOf b 0)))
       go true = refl
       go false = refl
 
   stored-is : holds r9 ≡ asked s (sideNumber (row r9 .sides)) b a c p
   unfolding asked ofInstruction storedBy isWith oneBy substituted oneName
   stored-is =
-      ap₂ (λ (u v : Tree). sameTree (replaceT (substituted s (oneBy true (a .word) (Formula (a .formula) nesting))) v) u && (not (occurs (flag (a .word)) [] v) && true)) (hole-tree s b 3) (hole-tree s b 2)
+      ap₂ (λ (u v : Tree). sameTree (replaceT (substituted s (oneBy true (a .word) (Formula (a .formula) nesting))) v) u
+      && (not (occurs (flag (a .word)) [] v) && true)) (hole-tree s b 3) (hole-tree s b 2)
       ∙ go (occurs (flag (a .word)) [] (treeOf s (holeOf b 2))) _
     where
       go : (o e : Bool) → e && (not o && true) ≡ cond o false e
@@ -264,7 +302,8 @@ module _ (s : List ℕ) (b : Bind) (a : Acting) (c : Conclusion) (p : Premises) 
   unfolding asked isStart
   start-asked =
       and-one _
-      ∙ ap₂ (λ (u : Tree) (x : ℕ). sameTree u (node (byte Code.const) (setupIn s .init x) Tree.none Tree.none)) (hole-tree s b 0) (hole-number s b 4)
+      ∙ ap₂ (λ (u : Tree) (x : ℕ). sameTree u (node (byte Code.const) (setupIn s .init x) Tree.none Tree.none)) (hole-tree s b 0)
+      (hole-number s b 4)
       ∙ same-sym (treeOf s (holeOf b 0)) (node (byte Code.const) (setupIn s .init (numberIn b 4)) Tree.none Tree.none)
 
   cleared-asked : holds r27 ≡ asked s (sideNumber (row r27 .sides)) b a c p

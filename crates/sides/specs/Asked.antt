@@ -13,7 +13,7 @@ use Rattle.rows.specs.declared.by.Implications.{Implications}
 use Rattle.frames.specs.Records.{bodies}
 use Rattle.header.specs.Header.{valueRange, cleared}
 use Rattle.matcher.specs.declared.bind.Bind.{Bind}
-use Rattle.content.specs.declared.acting.Acting.{Acting}
+use Rattle.lookups.specs.declared.acting.Acting.{Acting}
 use Rattle.rulebook.specs.Rulebook.{nothing, isKept, assigned, loaded, stored, byRows, byTable, startValue, startsAtZero, newValue}
 use Rattle.conclusions.specs.Conclusion.{conclusionAt}
 use Rattle.conditions.specs.Fresh.{freshIs}
@@ -26,7 +26,14 @@ unfoldable pub substitutionOf : Acting → Substitution
 substitutionOf a =
     cond (eqb (a .whole) Opcode.assign) (oneBy false (a .register) (Formula (a .formula) nesting))
     (cond (eqb (a .whole) Opcode.assignTwo)
-    (record { word = false; number = a .register; by = Formula (a .formula) nesting; two = true; second = a .noted; with = Formula (a .note) nesting })
+    (record {
+      word = false;
+      number = a .register;
+      by = Formula (a .formula) nesting;
+      two = true;
+      second = a .noted;
+      with = Formula (a .note) nesting;
+    })
     (oneBy false (a .noted) (Formula (a .note) nesting)))
 
 -- the formula in hole 0 is the one in hole 1 with these registers replaced

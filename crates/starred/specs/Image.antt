@@ -28,13 +28,16 @@ obligation n = framed Kinds.obligations (two n)
 
 -- formula f is asserted, and shown by truth table
 abbrev pub byTable : List ℕ → List ℕ
-byTable f = framed Kinds.header (1 ∷ 1 ∷ 0 ∷ 8 ∷ 0 ∷ []) ++ (formula f ++ (formula (27 ∷ []) ++ (thread ++ (outline 1 ++ (line 20 2 1 (0 ∷ []) ++ obligation 1)))))
+byTable f = framed Kinds.header (1 ∷ 1 ∷ 0 ∷ 8 ∷ 0 ∷ [])
+    ++ (formula f ++ (formula (27 ∷ []) ++ (thread ++ (outline 1 ++ (line 20 2 1 (0 ∷ []) ++ obligation 1)))))
 
--- over so many values, words and registers `1 sees [e]` is asserted; line 1 shows it by rows, from `holds not false`, and line 2 rests on line 1
+-- over so many values, words and registers `1 sees [e]` is asserted; line 1 shows it by rows, from `holds not false`, and line 2 rests on
+-- line 1
 abbrev pub byRows : ℕ → ℕ → ℕ → List ℕ → List ℕ
 byRows range words registers e =
     framed Kinds.header (1 ∷ words ∷ registers ∷ range ∷ replicate words 0 ++ (replicate registers 1 ++ replicate registers 1))
-    ++ (formula (28 ∷ 11 ∷ 8 ∷ []) ++ (formula (27 ∷ []) ++ (formula (24 ∷ 1 ∷ 16 ∷ e) ++ (thread ++ (outline 3 ++ (line 24 1 3 (0 ∷ []) ++ (line 20 2 3 (1 ∷ two 1) ++ obligation 2)))))))
+    ++ (formula (28 ∷ 11 ∷ 8 ∷ []) ++ (formula (27 ∷ [])
+    ++ (formula (24 ∷ 1 ∷ 16 ∷ e) ++ (thread ++ (outline 3 ++ (line 24 1 3 (0 ∷ []) ++ (line 20 2 3 (1 ∷ two 1) ++ obligation 2)))))))
 
 -- of nesting k: `holds`, negations, `false and false`
 abbrev pub nested : ℕ → List ℕ

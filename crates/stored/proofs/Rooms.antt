@@ -41,7 +41,8 @@ module _ (room front : List ℕ) (x i : ℕ) where
   pub Left : Type 0
   Left = holds room front x ≡ holds (drop i room) (drop i front) x
 
-  holds-one : i < length room → holds (drop i room) (drop i front) x ≡ (eqb (getD room i 0) (getD front i x) && holds (drop (suc i) room) (drop (suc i) front) x)
+  holds-one : i < length room → holds (drop i room) (drop i front)
+      x ≡ (eqb (getD room i 0) (getD front i x) && holds (drop (suc i) room) (drop (suc i) front) x)
   unfolding holds
   holds-one h = rw (drop-cons room i 0 h, getD-drop i front 0 x, add-zero i, drop-drop 1 i front, add-one i)
 
@@ -57,7 +58,8 @@ pub holds-start : (room front : List ℕ) (x : ℕ) → Left room front x 0
 unfolding Left
 holds-start room front x = refl
 
-pub holds-next : (room front : List ℕ) (x i : ℕ) (b : Bool) → i < length room → Left room front x i → b ≡ eqb (getD room i 0) (getD front i x) → b ≡ true
+pub holds-next : (room front : List ℕ) (x i : ℕ) (b : Bool) → i < length room → Left room front x i
+    → b ≡ eqb (getD room i 0) (getD front i x) → b ≡ true
     → Left room front x (i + 1)
 unfolding Left
 holds-next room front x i b h l e n = rw (add-one i, l, holds-one room front x i h, ← e, n)

@@ -26,7 +26,12 @@ running-none t e = record { judged = []; tells = e; few = omega arith }
 pub running-more : (t r : Tally) (left k : ℕ) (same : Bool) → 0 < left → Running t left → r ≡ withCase t k same → Running r (left - 1)
 unfolding tallied
 running-more t r left k same h f e =
-    record { judged = record { kind = k; same = same } ∷ f .judged; tells = e ∙ ap (λ x. withCase x k same) (f .tells); few = omega (arith, f .few) }
+    record {
+      judged = record { kind = k; same = same } ∷ f .judged;
+      tells = e
+          ∙ ap (λ x. withCase x k same) (f .tells);
+      few = omega (arith, f .few);
+    }
 
 pub running-over : (t : Tally) (left : ℕ) → Running t left → FromCases t
 running-over t left f = record { judged = f .judged; tells = f .tells; few = omega (arith, f .few) }
@@ -54,10 +59,15 @@ unfolding tallied noCase withCase withKind withDifference differing
 differing-counted [] h = refl
 differing-counted (c ∷ l) h = go (c .same) (differing-counted l (omega arith)) (differing-most l)
   where
-    go : (b : Bool) → tallied l .differ ≡ differing l → differing l ≤ length l → withCase (tallied l) (c .kind) b .differ ≡ differing (record { kind = c .kind; same = b } ∷ l)
+    go : (b : Bool) → tallied l .differ ≡ differing l → differing l ≤ length l
+        → withCase (tallied l) (c .kind) b .differ ≡ differing (record { kind = c .kind; same = b } ∷ l)
     go true e m = e
     go false e m = omega arith
 
 -- how many cases there are and how many of them differ is what the tally says
 pub all-counted : (t : Tally) (f : FromCases t) → (t .cases ≡ length (f .judged)) × (t .differ ≡ differing (f .judged))
-all-counted t f = (ap (λ x. x .cases) (f .tells) ∙ cases-counted (f .judged) (f .few), ap (λ x. x .differ) (f .tells) ∙ differing-counted (f .judged) (f .few))
+all-counted t f = (
+  ap (λ x. x .cases) (f .tells) ∙ cases-counted (f .judged) (f .few),
+  ap (λ x. x .differ) (f .tells)
+      ∙ differing-counted (f .judged) (f .few),
+)

@@ -16,12 +16,14 @@ module _ (t : Tally) (k c : ℕ) (e : c ≡ more (t .cases)) where
   unfolding withKind
   kind-past h = rw (e, le-ltb _ _ h)
 
-  pub kind-in : (n : ℕ) → k < kinds-limit → n ≡ more (getD (t .kinds) k 0) → record { cases = c; kinds = set (t .kinds) k n; differ = t .differ; first = t .first } ≡ withKind t k
+  pub kind-in : (n : ℕ) → k < kinds-limit → n ≡ more (getD (t .kinds) k 0)
+      → record { cases = c; kinds = set (t .kinds) k n; differ = t .differ; first = t .first } ≡ withKind t k
   unfolding withKind
   kind-in n h d = rw (e, d, lt-ltb _ _ h)
 
 module _ (t : Tally) (d : ℕ) (e : d ≡ more (t .differ)) where
-  pub difference-later : (t .differ ≡ 0 → ⊥) → record { cases = t .cases; kinds = t .kinds; differ = d; first = t .first } ≡ withDifference t
+  pub difference-later : (t .differ ≡ 0 → ⊥) → record
+      { cases = t .cases; kinds = t .kinds; differ = d; first = t .first } ≡ withDifference t
   unfolding withDifference
   difference-later z = rw (e, ne-eqb _ _ z)
 

@@ -28,7 +28,12 @@ withKind t k =
 
 -- the case counted last differs
 unfoldable pub withDifference : Tally → Tally
-withDifference t = record { cases = t .cases; kinds = t .kinds; differ = more (t .differ); first = cond (eqb (t .differ) 0) (t .cases) (t .first) }
+withDifference t = record {
+  cases = t .cases;
+  kinds = t .kinds;
+  differ = more (t .differ);
+  first = cond (eqb (t .differ) 0) (t .cases) (t .first);
+}
 
 unfoldable pub withCase : Tally → ℕ → Bool → Tally
 withCase t k same = cond same (withKind t k) (withDifference (withKind t k))

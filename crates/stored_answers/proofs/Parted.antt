@@ -56,4 +56,17 @@ module _ (s body b r : List ℕ) (n : ℕ) where
   unfolding seventhOn
   seventh-from d q e = rw (← d, ← q) e
 
-pub ruleset parts = (first-read, second-from, second-read, third-from, third-read, fourth-from, fourth-read, fifth-from, fifth-read, sixth-from, sixth-read, seventh-from)
+pub ruleset parts = (
+  first-read,
+  second-from,
+  second-read,
+  third-from,
+  third-read,
+  fourth-from,
+  fourth-read,
+  fifth-from,
+  fifth-read,
+  sixth-from,
+  sixth-read,
+  seventh-from,
+)

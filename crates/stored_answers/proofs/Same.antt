@@ -1,4 +1,5 @@
--- Answers that compare as the same have the stored code, the stored entries in front of the table and the stored numbers in front of the others,
+-- Answers that compare as the same have the stored code, the stored entries in front of the table and the stored numbers in front of the
+-- others,
 -- and the rest of both as it was.
 use mathlib.Core.Path.{_≡_}
 use mathlib.Core.List.{List, _++_}

@@ -39,7 +39,8 @@ module _ (code : ℕ) (s : List ℕ) (i : ℕ) where
 
   pub told-past : (code ≡ 1 → ⊥) → 21 ≤ i → empty ≡ getD (toldAt code s) i empty
   told-past h g =
-      let k : length (numbersAt s) ≤ i = rw (numbers-many s) g in sym (ap (λ (l : List ℕ). getD l i empty) (told-of code s h) ∙ List·getD-eq-default (numbersAt s) empty k)
+      let k : length (numbersAt s) ≤ i = rw (numbers-many s) g in
+      sym (ap (λ (l : List ℕ). getD l i empty) (told-of code s h) ∙ List·getD-eq-default (numbersAt s) empty k)
 
   pub told-in : (n : ℕ) → (code ≡ 1 → ⊥) → i < 21 → n ≡ long (drop (2 + 4 * i) s) → n ≡ getD (toldAt code s) i empty
   unfolding numbersAt
@@ -62,7 +63,8 @@ module _ (code stored : ℕ) (after told s entries : List ℕ) (e : stored ≡ w
   unfolding sameAnswer codeAt
   table-other b h q z = rw (← e, eq-eqb _ _ h, ← q, z)
 
-  pub table-same : (b r : Bool) → code ≡ stored → b ≡ holds after entries blank → b ≡ true → r ≡ holds told (toldAt code s) empty → r ≡ sameAnswer code after told s entries
+  pub table-same : (b r : Bool) → code ≡ stored → b ≡ holds after entries blank → b ≡ true → r ≡ holds told (toldAt code s) empty
+      → r ≡ sameAnswer code after told s entries
   unfolding sameAnswer codeAt
   table-same b r h q z p = rw (← e, eq-eqb _ _ h, ← q, z) p
 

@@ -1,7 +1,7 @@
 // Stored answers, code and numbers, and answers compared with them.
 use limits::read::word_at;
-use replaying::answer::Answer;
 use report::output::Output;
+use shown::answer::Answer;
 use stored::number::long_at;
 use stored::room::holds_bytes;
 ghost use mathlib.Core.Path.{_≡_};

@@ -17,7 +17,8 @@ module _ (l s : List ℕ) (at i : ℕ) where
   pub Left : Type 0
   Left = sameLongs l (drop at s) ≡ sameLongs (drop i l) (drop (at + 4 * i) s)
 
-  longs-one : i < length l → sameLongs (drop i l) (drop (at + 4 * i) s) ≡ (eqb (getD l i 0) (long (drop (at + 4 * i) s)) && sameLongs (drop (suc i) l) (drop (at + 4 * suc i) s))
+  longs-one : i < length l → sameLongs (drop i l) (drop (at + 4 * i) s)
+      ≡ (eqb (getD l i 0) (long (drop (at + 4 * i) s)) && sameLongs (drop (suc i) l) (drop (at + 4 * suc i) s))
   unfolding sameLongs
   longs-one h = let e : at + 4 * suc i ≡ at + 4 * i + 4 = omega arith in rw (drop-cons l i 0 h, drop-drop 4 (at + 4 * i) s, e)
 
@@ -33,7 +34,8 @@ pub longs-start : (l s : List ℕ) (at : ℕ) → Left l s at 0
 unfolding Left
 longs-start l s at = let e : at + 4 * 0 ≡ at = omega arith in rw e
 
-pub longs-next : (l s : List ℕ) (at i n : ℕ) → i < length l → Left l s at i → n ≡ long (drop (at + 4 * i) s) → getD l i 0 ≡ n → Left l s at (i + 1)
+pub longs-next : (l s : List ℕ) (at i n : ℕ) → i < length l → Left l s at i → n ≡ long (drop (at + 4 * i) s) → getD l i 0 ≡ n
+    → Left l s at (i + 1)
 unfolding Left
 longs-next l s at i n h g e d = rw (add-one i, g, longs-one l s at i h, ← e, eq-eqb _ _ d)
 

@@ -26,7 +26,8 @@ pub set-read : (s : List ℕ) (n : ℕ) → n ≡ long (drop 30 s) → n ≡ set
 unfolding setAt
 set-read s n e = e
 
-pub tariff-read : (s : List ℕ) (a b c d e : ℕ) → a ≡ word (drop 34 s) → b ≡ word (drop 36 s) → c ≡ word (drop 38 s) → d ≡ word (drop 40 s) → e ≡ word (drop 42 s)
+pub tariff-read : (s : List ℕ) (a b c d e : ℕ) → a ≡ word (drop 34 s) → b ≡ word (drop 36 s) → c ≡ word (drop 38 s) → d ≡ word (drop 40 s)
+    → e ≡ word (drop 42 s)
     → tariffOf a b c d e ≡ tariffAt s
 unfolding tariffAt
 tariff-read s a b c d e ea eb ec ed ee = rw (ea, eb, ec, ed, ee)
@@ -83,9 +84,20 @@ module _ (s : List ℕ) (n : ℕ) (e : n ≡ word (drop 0 s)) where
   unfolding deedOf
   deed-across h = rw (← e, h)
 
-  pub deed-other : (n ≡ 0 → ⊥) → (n ≡ 1 → ⊥) → (n ≡ 2 → ⊥) → (n ≡ 3 → ⊥) → (n ≡ 4 → ⊥) → (n ≡ 5 → ⊥) → (n ≡ 6 → ⊥) → (n ≡ 7 → ⊥) → Other ≡ deedOf s
+  pub deed-other : (n ≡ 0 → ⊥) → (n ≡ 1 → ⊥) → (n ≡ 2 → ⊥) → (n ≡ 3 → ⊥) → (n ≡ 4 → ⊥) → (n ≡ 5 → ⊥) → (n ≡ 6 → ⊥) → (n ≡ 7 → ⊥)
+      → Other ≡ deedOf s
   unfolding deedOf
-  deed-other a b c d f g h k = rw (← e, ne-eqb _ _ a, ne-eqb _ _ b, ne-eqb _ _ c, ne-eqb _ _ d, ne-eqb _ _ f, ne-eqb _ _ g, ne-eqb _ _ h, ne-eqb _ _ k)
+  deed-other a b c d f g h k = rw (
+    ← e,
+    ne-eqb _ _ a,
+    ne-eqb _ _ b,
+    ne-eqb _ _ c,
+    ne-eqb _ _ d,
+    ne-eqb _ _ f,
+    ne-eqb _ _ g,
+    ne-eqb _ _ h,
+    ne-eqb _ _ k,
+  )
 
 pub ruleset deeds = (deed-open, deed-set, deed-check, deed-trim, deed-bill, deed-handover, deed-replay, deed-across, deed-other)
 
@@ -100,7 +112,8 @@ module _ (code n : ℕ) (service s : List ℕ) (e : n ≡ word (drop 44 s)) wher
   unfolding sameService
   code-same r h q = rw (← e, eq-eqb _ _ h) q
 
-pub bytes-same : (r : Bool) (after front s : List ℕ) → front ≡ take mostBytes (drop 210 s) → r ≡ holds after front blank → r ≡ sameBytes after s
+pub bytes-same : (r : Bool) (after front s : List ℕ) → front ≡ take mostBytes (drop 210 s) → r ≡ holds after front blank
+    → r ≡ sameBytes after s
 unfolding sameBytes
 bytes-same r after front s e q = rw (← e) q
 
@@ -159,4 +172,21 @@ module _ (b r : Bool) (after told s : List ℕ) (e : b ≡ sameBytes after s) wh
   unfolding sameNumbers
   table-same h q = rw (← e, h) q
 
-pub ruleset sames = (code-other, code-same, bytes-same, numbers-same, written-other, written-same, verdict-other, verdict-same, bill-other, bill-same, trimmed-other, trimmed-same, replay-other, replay-same, table-other, table-same)
+pub ruleset sames = (
+  code-other,
+  code-same,
+  bytes-same,
+  numbers-same,
+  written-other,
+  written-same,
+  verdict-other,
+  verdict-same,
+  bill-other,
+  bill-same,
+  trimmed-other,
+  trimmed-same,
+  replay-other,
+  replay-same,
+  table-other,
+  table-same,
+)

@@ -27,12 +27,22 @@ use Rattle.bits.proofs.Facts.{flag, bit-ones, bit-none, flag-not, flag-and, fla
 use Rattle.tables.specs.Table.{byLeaves, Later, Shows, LeafBits, TreeBits}
 
 -- slots that come later
-pub shows-later : (f : List ℕ → List ℕ → Bool) (n m : ℕ) (q q₂ a : List ℕ) → n ≤ m → ((j : ℕ) → j < n → numbers q₂ j ≡ numbers q j) → Shows n q f a → Shows m q₂ f a
+pub shows-later : (f : List ℕ → List ℕ → Bool) (n m : ℕ) (q q₂ a : List ℕ) → n ≤ m → ((j : ℕ) → j < n → numbers q₂ j ≡ numbers q j)
+    → Shows n q f a → Shows m q₂ f a
 unfolding Shows
 shows-later f n m q q₂ a l same h x w i hw hi hr = h back w i hw hi hr
   where
     back : Later n q
-    back = record { count = x .count; slots = x .slots; lasts = x .lasts; few = x .few; more = let k = x .more in omega arith; same = λ j b. x .same j (omega arith) ∙ same j b; two = x .two }
+    back = record {
+      count = x .count;
+      slots = x .slots;
+      lasts = x .lasts;
+      few = x .few;
+      more = let k = x .more in
+          omega arith;
+      same = λ j b. x .same j (omega arith) ∙ same j b;
+      two = x .two;
+    }
 
 -- more slots than there may be show anything
 pub shows-over : (f : List ℕ → List ℕ → Bool) (n : ℕ) (q a : List ℕ) → 10 < n → Shows n q f a
@@ -87,11 +97,13 @@ truth-or true y = refl
 truth-or false y = refl
 
 -- one operation for 64 rows
-pub node-bit : (c o i a b x y : ℕ) → i < 64 → member (byLeaves .leaves) c ≡ false → bit a i ≡ flag (eqb x 1) → bit b i ≡ flag (eqb y 1) → bit (wordOf c o a b) i ≡ flag (eqb (combine 2 c o x y) 1)
+pub node-bit : (c o i a b x y : ℕ) → i < 64 → member (byLeaves .leaves) c ≡ false → bit a i ≡ flag (eqb x 1) → bit b i ≡ flag (eqb y 1)
+    → bit (wordOf c o a b) i ≡ flag (eqb (combine 2 c o x y) 1)
 unfolding wordOf combine member
 node-bit c o i a b x y hi h ea eb =
     rw (inner c (byte Code.sum) refl h, inner c (byte Code.equal) refl h, inner c (byte Code.less) refl h)
-    (go (eqb c (byte Code.const)) (eqb c (byte Code.not)) (eqb c (byte Code.and)) (eqb c (byte Code.or)) (eqb c (byte Code.bothA)) (eqb c (byte Code.eitherA)) (eqb c (byte Code.holds)))
+    (go (eqb c (byte Code.const)) (eqb c (byte Code.not)) (eqb c (byte Code.and)) (eqb c (byte Code.or)) (eqb c (byte Code.bothA))
+    (eqb c (byte Code.eitherA)) (eqb c (byte Code.holds)))
   where
     all : (p : Bool) → bit (cond p ones 0) i ≡ flag p
     all true = bit-ones i hi
@@ -104,8 +116,14 @@ node-bit c o i a b x y hi h ea eb =
     either = flag-or i a (eqb x 1) ea b (eqb y 1) eb ∙ ap flag (truth-or (eqb x 1) y)
 
     go : (k n u v d e g : Bool)
-        → bit (cond k (cond (eqb o 1) ones 0) (cond n (bitXor a ones) (cond u (bitAnd a b) (cond v (bitOr a b) (cond d (bitAnd a b) (cond e (bitOr a b) (cond g a 0))))))) i
-        ≡ flag (eqb (cond k o (cond n (cond (eqb x 1) 0 1) (cond u (cond (eqb x 1) y 0) (cond v (cond (eqb x 1) 1 y) (cond d (cond (eqb x 1) y 0) (cond e (cond (eqb x 1) 1 y) (cond g x 0))))))) 1)
+        → bit
+        (cond k (cond (eqb o 1) ones 0) (cond n (bitXor a ones)
+        (cond u (bitAnd a b) (cond v (bitOr a b) (cond d (bitAnd a b) (cond e (bitOr a b) (cond g a 0))))))) i
+        ≡ flag
+        (eqb
+        (cond k o
+        (cond n (cond (eqb x 1) 0 1) (cond u (cond (eqb x 1) y 0)
+        (cond v (cond (eqb x 1) 1 y) (cond d (cond (eqb x 1) y 0) (cond e (cond (eqb x 1) 1 y) (cond g x 0))))))) 1)
     go true n u v d e g = all (eqb o 1)
     go false true u v d e g = flag-not i a (eqb x 1) ea hi ∙ ap flag (truth-not (eqb x 1))
     go false false true v d e g = both
@@ -120,32 +138,38 @@ module _ (s p v : List ℕ) (c o : ℕ) (l r : Tree) where
   value-leaf : member (byLeaves .leaves) c ≡ true → rowValue s byLeaves p v (node c o l r) ≡ valueIn v (slotOf s p (node c o l r))
   value-leaf e = value-node s byLeaves p v c o l r ∙ rw e
 
-  value-inner : member (byLeaves .leaves) c ≡ false → rowValue s byLeaves p v (node c o l r) ≡ combine 2 c o (rowValue s byLeaves p v l) (rowValue s byLeaves p v r)
+  value-inner : member (byLeaves .leaves) c ≡ false
+      → rowValue s byLeaves p v (node c o l r) ≡ combine 2 c o (rowValue s byLeaves p v l) (rowValue s byLeaves p v r)
   value-inner e = value-node s byLeaves p v c o l r ∙ rw e
 
 -- of trees
 module _ (s : List ℕ) (n : ℕ) (q : List ℕ) where
   pub tree-none : TreeBits s n q none (constant 0 16)
   unfolding TreeBits Shows constant
-  tree-none x w i hw hi hr = ap (λ (y : ℕ). bit y i) (column-getD (λ (w : ℕ). 0) 0 16 w hw) ∙ bit-none i ∙ ap (λ (v : ℕ). flag (eqb v 1)) (sym (value-none s byLeaves (x .slots) (rowIn (x .lasts) (64 * w + i))))
+  tree-none x w i hw hi hr = ap (λ (y : ℕ). bit y i) (column-getD (λ (w : ℕ). 0) 0 16 w hw) ∙ bit-none i
+      ∙ ap (λ (v : ℕ). flag (eqb v 1)) (sym (value-none s byLeaves (x .slots) (rowIn (x .lasts) (64 * w + i))))
 
   module _ (c o : ℕ) (l r : Tree) where
     pub tree-leaf : (a : List ℕ) → member (byLeaves .leaves) c ≡ true → LeafBits s n q (node c o l r) a → TreeBits s n q (node c o l r) a
     unfolding TreeBits LeafBits Shows
-    tree-leaf a e h x w i hw hi hr = h x w i hw hi hr ∙ ap (λ (v : ℕ). flag (eqb v 1)) (sym (value-leaf s (x .slots) (rowIn (x .lasts) (64 * w + i)) c o l r e))
+    tree-leaf a e h x w i hw hi hr = h x w i hw hi hr
+        ∙ ap (λ (v : ℕ). flag (eqb v 1)) (sym (value-leaf s (x .slots) (rowIn (x .lasts) (64 * w + i)) c o l r e))
 
-    pub tree-node : (a b : List ℕ) → member (byLeaves .leaves) c ≡ false → TreeBits s n q l a → TreeBits s n q r b → TreeBits s n q (node c o l r) (wordsOf c o 16 a b)
+    pub tree-node : (a b : List ℕ) → member (byLeaves .leaves) c ≡ false → TreeBits s n q l a → TreeBits s n q r b
+        → TreeBits s n q (node c o l r) (wordsOf c o 16 a b)
     unfolding TreeBits Shows wordsOf
     tree-node a b e f g x w i hw hi hr =
         ap (λ (y : ℕ). bit y i) (column-getD (λ (w : ℕ). wordOf c o (getD a w 0) (getD b w 0)) 0 16 w hw)
-        ∙ node-bit c o i (getD a w 0) (getD b w 0) (rowValue s byLeaves (x .slots) v l) (rowValue s byLeaves (x .slots) v r) hi e (f x w i hw hi hr) (g x w i hw hi hr)
+        ∙ node-bit c o i (getD a w 0) (getD b w 0) (rowValue s byLeaves (x .slots) v l) (rowValue s byLeaves (x .slots) v r) hi e
+        (f x w i hw hi hr) (g x w i hw hi hr)
         ∙ ap (λ (v : ℕ). flag (eqb v 1)) (sym (value-inner s (x .slots) v c o l r e))
       where
         v : List ℕ
         v = rowIn (x .lasts) (64 * w + i)
 
 -- a node without parts
-pub tree-plain : (s : List ℕ) (n : ℕ) (q : List ℕ) (c o : ℕ) → member (byLeaves .leaves) c ≡ false → TreeBits s n q (node c o none none) (constant (wordOf c o 0 0) 16)
+pub tree-plain : (s : List ℕ) (n : ℕ) (q : List ℕ) (c o : ℕ) → member (byLeaves .leaves) c ≡ false
+    → TreeBits s n q (node c o none none) (constant (wordOf c o 0 0) 16)
 unfolding TreeBits Shows constant
 tree-plain s n q c o e x w i hw hi hr =
     ap (λ (y : ℕ). bit y i) (column-getD (λ (w : ℕ). wordOf c o 0 0) 0 16 w hw)
@@ -161,7 +185,8 @@ tree-plain s n q c o e x w i hw hi hr =
 -- words that are all 0 show nothing
 pub tree-zeros : (s : List ℕ) (n : ℕ) (q : List ℕ) → TreeBits s n q none (replicate 16 0)
 unfolding TreeBits Shows
-tree-zeros s n q x w i hw hi hr = ap (λ (y : ℕ). bit y i) (zeros 16 w) ∙ bit-none i ∙ ap (λ (v : ℕ). flag (eqb v 1)) (sym (value-none s byLeaves (x .slots) (rowIn (x .lasts) (64 * w + i))))
+tree-zeros s n q x w i hw hi hr = ap (λ (y : ℕ). bit y i) (zeros 16 w) ∙ bit-none i
+    ∙ ap (λ (v : ℕ). flag (eqb v 1)) (sym (value-none s byLeaves (x .slots) (rowIn (x .lasts) (64 * w + i))))
   where
     zeros : (n i : ℕ) → getD (replicate {A = ℕ} n 0) i 0 ≡ 0
     zeros zero i = refl

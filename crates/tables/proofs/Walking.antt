@@ -71,7 +71,12 @@ module _ (s : List ℕ) (at left n : ℕ) (q a : List ℕ) (some : 0 < left) whe
 
       pub new-grown : a ≡ leafWords j 16 → Grown n q m q₂ a
       unfolding countPut
-      new-grown ea = record { more = more (ltb n slots) refl; same = numbers-put n p q q₂ eq; long = put-length n p q q₂ l eq; wide = wide-leaf a j ea }
+      new-grown ea = record {
+        more = more (ltb n slots) refl;
+        same = numbers-put n p q q₂ eq;
+        long = put-length n p q q₂ l eq;
+        wide = wide-leaf a j ea;
+      }
         where
           more : (b : Bool) → ltb n slots ≡ b → n ≤ m
           more true e = let f : m ≡ n + 1 = em ∙ rw e in omega arith
@@ -118,7 +123,14 @@ module _ (n : ℕ) (q a : List ℕ) where
     grown-one g = record { more = g .more; same = g .same; long = g .long; wide = wide-node a c o a₁ b e }
 
     pub grown-two : (m₂ : ℕ) (q₃ : List ℕ) → Grown n q m q₂ b → Grown m q₂ m₂ q₃ a₁ → Grown n q m₂ q₃ a
-    grown-two m₂ q₃ g h = record { more = let k = g .more in let l = h .more in omega arith; same = λ j k. h .same j (let l = g .more in omega arith) ∙ g .same j k; long = h .long; wide = wide-node a c o a₁ b e }
+    grown-two m₂ q₃ g h = record {
+      more = let k = g .more in let l = h .more in
+          omega arith;
+      same = λ j k. h .same j (let l = g .more in omega arith)
+          ∙ g .same j k;
+      long = h .long;
+      wide = wide-node a c o a₁ b e;
+    }
 
 pub ruleset grows = (grown-none, grown-one, grown-two)
 
@@ -130,25 +142,31 @@ module _ (s : List ℕ) (k at n : ℕ) (q a : List ℕ) where
   module _ (x : Node) (b : Bool) (z : k ≡ 0 → ⊥) (e : x ≡ nodeAt s at) (eb : b ≡ member (byLeaves .leaves) (x .code)) where
     pub bits-leaf : b ≡ true → LeafBits s n q (parseTree s k at .tree) a → TreeBits s n q (parseTree s k at .tree) a
     bits-leaf d =
-        subst (λ (u : ParsedTree). LeafBits s n q (u .tree) a → TreeBits s n q (u .tree) a) (sym (parse-step s k at z ∙ ap (grow (λ p. parseTree s (k - 1) p)) (sym e)))
+        subst (λ (u : ParsedTree). LeafBits s n q (u .tree) a → TreeBits s n q (u .tree) a)
+        (sym (parse-step s k at z ∙ ap (grow (λ p. parseTree s (k - 1) p)) (sym e)))
         (tree-leaf s n q (x .code) (x .operand) _ _ a (sym eb ∙ d))
 
     module _ (d : b ≡ false) where
       pub bits-plain : x .parts ≡ 0 → a ≡ constant (wordOf (x .code) (x .operand) 0 0) 16 → TreeBits s n q (parseTree s k at .tree) a
       bits-plain p f = rw (f, parse-step s k at z, ← e, p) (tree-plain s n q (x .code) (x .operand) (sym eb ∙ d))
 
-      pub bits-one : (a₁ : List ℕ) → (x .parts ≡ 0 → ⊥) → x .parts ≡ 1 → TreeBits s n q (parseTree s (k - 1) (x .next) .tree) a₁ → a ≡ wordsOf (x .code) (x .operand) 16 a₁ (replicate 16 0) → TreeBits s n q (parseTree s k at .tree) a
-      bits-one a₁ p o h f = rw (f, parse-step s k at z, ← e, o) (tree-node s n q (x .code) (x .operand) (parseTree s (k - 1) (x .next) .tree) none a₁ (replicate 16 0) (sym eb ∙ d) h (tree-zeros s n q))
+      pub bits-one : (a₁ : List ℕ) → (x .parts ≡ 0 → ⊥) → x .parts ≡ 1 → TreeBits s n q (parseTree s (k - 1) (x .next) .tree) a₁
+          → a ≡ wordsOf (x .code) (x .operand) 16 a₁ (replicate 16 0) → TreeBits s n q (parseTree s k at .tree) a
+      bits-one a₁ p o h f = rw (f, parse-step s k at z, ← e, o)
+          (tree-node s n q (x .code) (x .operand) (parseTree s (k - 1) (x .next) .tree) none a₁ (replicate 16 0) (sym eb ∙ d) h
+          (tree-zeros s n q))
 
       pub bits-two : (y m : ℕ) (q₂ a₁ c : List ℕ) → (x .parts ≡ 0 → ⊥) → (x .parts ≡ 1 → ⊥) → y ≡ parseTree s (k - 1) (x .next) .end
-          → TreeBits s m q₂ (parseTree s (k - 1) y .tree) c → Grown m q₂ n q a₁ → TreeBits s n q (parseTree s (k - 1) (x .next) .tree) a₁ → a ≡ wordsOf (x .code) (x .operand) 16 a₁ c
+          → TreeBits s m q₂ (parseTree s (k - 1) y .tree) c → Grown m q₂ n q a₁ → TreeBits s n q (parseTree s (k - 1) (x .next) .tree) a₁
+          → a ≡ wordsOf (x .code) (x .operand) 16 a₁ c
           → TreeBits s n q (parseTree s k at .tree) a
       unfolding TreeBits
       bits-two y m q₂ a₁ c p o em g r h f =
           let t₀ : 0 < x .parts = omega arith in
           let t₁ : 1 < x .parts = omega arith in
           rw (f, parse-step s k at z, ← e, lt-ltb _ _ t₀, lt-ltb _ _ t₁, ← em)
-          (tree-node s n q (x .code) (x .operand) (parseTree s (k - 1) (x .next) .tree) (parseTree s (k - 1) y .tree) a₁ c (sym eb ∙ d) h (shows-later _ m n q₂ q c (r .more) (r .same) g))
+          (tree-node s n q (x .code) (x .operand) (parseTree s (k - 1) (x .next) .tree) (parseTree s (k - 1) y .tree) a₁ c (sym eb ∙ d) h
+          (shows-later _ m n q₂ q c (r .more) (r .same) g))
 
 pub ruleset bits = (bits-none, bits-leaf, bits-plain, bits-one, bits-two)
 

@@ -33,7 +33,8 @@ pub record Later (n : ℕ) (q : List ℕ) : Type 0 where
 -- the bit at place i of word w tells whether f holds at row 64 * w + i, whatever slots come behind the first n
 unfoldable pub Shows : ℕ → List ℕ → (List ℕ → List ℕ → Bool) → List ℕ → Type 0
 Shows n q f a =
-    (x : Later n q) (w i : ℕ) → w < 16 → i < 64 → 64 * w + i < 2 ^ x .count → bit (getD a w 0) i ≡ cond (f (x .slots) (rowIn (x .lasts) (64 * w + i))) 1 0
+    (x : Later n q) (w i : ℕ) → w < 16 → i < 64 → 64 * w + i < 2 ^ x .count
+    → bit (getD a w 0) i ≡ cond (f (x .slots) (rowIn (x .lasts) (64 * w + i))) 1 0
 
 -- of a leaf, by the value in its slot
 unfoldable pub LeafBits : List ℕ → ℕ → List ℕ → Tree → List ℕ → Type 0

@@ -44,7 +44,8 @@ pub fn leaf_bits(
     out: &mut [u64; Words::COUNT],
 ) -> usize
     requires { ⌜ (0 < left) × ((length (now slots) ≡ 36) × (length (now out) ≡ 16)) ⌝ }
-    ensures { λ r. ⌜ view (now (s .entry)) r (now (slots .exit)) ≡ putT (parseTree (now (s .entry)) left at .tree) (view (now (s .entry)) n (now (slots .entry))) ⌝ }
+    ensures { λ r. ⌜ view (now (s .entry)) r (now (slots .exit)) ≡ putT (parseTree (now (s .entry)) left at .tree)
+        (view (now (s .entry)) n (now (slots .entry))) ⌝ }
     ensures { λ r. ⌜ Grown n (now (slots .entry)) r (now (slots .exit)) (now (out .exit)) ⌝ }
     ensures { λ r. ⌜ LeafBits (now (s .entry)) r (now (slots .exit)) (parseTree (now (s .entry)) left at .tree) (now (out .exit)) ⌝ }
 {
@@ -86,7 +87,8 @@ pub fn table_at(
     out: &mut [u64; Words::COUNT],
 ) -> usize
     requires { ⌜ (length (now slots) ≡ 36) × (length (now out) ≡ 16) ⌝ }
-    ensures { λ r. ⌜ view (now (s .entry)) r (now (slots .exit)) ≡ gatherT (byLeaves .leaves) (parseTree (now (s .entry)) left at .tree) (view (now (s .entry)) n (now (slots .entry))) ⌝ }
+    ensures { λ r. ⌜ view (now (s .entry)) r (now (slots .exit)) ≡ gatherT (byLeaves .leaves) (parseTree (now (s .entry)) left at .tree)
+        (view (now (s .entry)) n (now (slots .entry))) ⌝ }
     ensures { λ r. ⌜ Grown n (now (slots .entry)) r (now (slots .exit)) (now (out .exit)) ⌝ }
     ensures { λ r. ⌜ TreeBits (now (s .entry)) r (now (slots .exit)) (parseTree (now (s .entry)) left at .tree) (now (out .exit)) ⌝ }
 {

@@ -47,7 +47,8 @@ module _ (l : List (List ℕ)) (i : Instruction) where
   unfolding resultAbsent
   absent-past h g = rw (lt-leb _ _ h, lt-ltb _ _ g)
 
-  module _ (b : List ℕ) (u : Bool) (n : 6 < i .operation) (m : i .operation ≤ 8) (eb : b ≡ getD l (i .formula) []) (eu : u ≡ occurs (register (i .b)) [] (treeOf b)) where
+  module _ (b : List ℕ) (u : Bool) (n : 6 < i .operation) (m : i .operation ≤ 8) (eb : b ≡ getD l (i .formula) [])
+      (eu : u ≡ occurs (register (i .b)) [] (treeOf b)) where
     pub absent-not : u ≡ true → false ≡ resultAbsent l i
     unfolding resultAbsent
     absent-not q = rw (lt-leb _ _ n, le-ltb _ _ m, ← eb, ← eu, q)
@@ -74,7 +75,8 @@ module _ (l : List (List ℕ)) (t : ℕ) where
     unfolding formulaOwned
     formula-none h = rw (eq-eqb _ _ h)
 
-    module _ (b h o : List ℕ) (u : Bool) (n : k ≡ 0 → ⊥) (eb : b ≡ getD l k []) (eh : h ≡ getD l 0 []) (eo : o ≡ owners h) (eu : u ≡ occurs (foreign t) o (treeOf b)) where
+    module _ (b h o : List ℕ) (u : Bool) (n : k ≡ 0 → ⊥) (eb : b ≡ getD l k []) (eh : h ≡ getD l 0 []) (eo : o ≡ owners h)
+        (eu : u ≡ occurs (foreign t) o (treeOf b)) where
       pub formula-foreign : u ≡ true → false ≡ formulaOwned l t k
       unfolding formulaOwned
       formula-foreign q = rw (ne-eqb _ _ n, ← eb, ← eh, ← eo, ← eu, q)
@@ -102,4 +104,14 @@ module _ (l : List (List ℕ)) (t : ℕ) where
         unfolding owned
         owned-last x g h = rw (← er, ← eu, q, ← ev, d, ← ew, g) h
 
-pub ruleset owning = (register-none, register-is, formula-none, formula-foreign, formula-own, owned-target, owned-formula, owned-second, owned-last)
+pub ruleset owning = (
+  register-none,
+  register-is,
+  formula-none,
+  formula-foreign,
+  formula-own,
+  owned-target,
+  owned-formula,
+  owned-second,
+  owned-last,
+)

@@ -15,7 +15,7 @@ use Rattle.occurs.specs.Occurs.{occurs, register, foreign}
 use Rattle.program.specs.declared.sizes.Sizes.{Sizes}
 use Rattle.program.specs.declared.instruction.Instruction.{Instruction}
 use Rattle.header.specs.Header.{owners}
-use Rattle.program.specs.Thread.{instructions, threadNumbers}
+use Rattle.threads.specs.Thread.{instructions, threadNumbers}
 use Rattle.thread_bodies.specs.Use.{treeOf, plainOf}
 
 -- instruction formulas are values, for a branch a test

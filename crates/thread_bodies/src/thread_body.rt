@@ -11,15 +11,15 @@ use occurs::has::has_foreign;
 use occurs::has::has_register;
 use program::instruction::Instruction;
 use program::sizes::Sizes;
-use program::thread::begins_behind;
-use program::thread::check_thread_numbers;
-use program::thread::instruction_from;
-use program::thread::last_point;
+use threads::thread::begins_behind;
+use threads::thread::check_thread_numbers;
+use threads::thread::instruction_from;
+use threads::thread::last_point;
 ghost use mathlib.Core.Path.{_≡_};
 ghost use Rattle.limits.specs.Numbers.{every};
 ghost use Rattle.frames.specs.Records.{bodies};
 ghost use Rattle.index.specs.Table.{indexOf};
-ghost use Rattle.program.specs.Thread.{instructions};
+ghost use Rattle.threads.specs.Thread.{instructions};
 ghost use Rattle.thread_bodies.specs.Thread.{wanted, formulaSorted, sorted, target, registerOwned, formulaOwned, owned, resultAbsent, threadRegisters, thread};
 
 // The sort of an instruction's formula.

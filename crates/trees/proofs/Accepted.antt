@@ -17,7 +17,8 @@ use Rattle.trees.proofs.Shapes.{after, ranged, Leaf, One, Two, by-shape
 use Rattle.trees.proofs.Heads.{nodeOf, partsFault, fault-parts}
 use Rattle.trees.proofs.Encoded.{own, size, cons-at, drop-encode, node-back, parse-encode}
 
-module _ (s : List ℕ) (n : Counts) (p at c o : ℕ) (l : List ℕ) (e : drop at s ≡ after c o l) (f : fitsAt c p ≡ true) (r : T (ranged n c o)) where
+module _ (s : List ℕ) (n : Counts) (p at c o : ℕ) (l : List ℕ) (e : drop at s ≡ after c o l) (f : fitsAt c p ≡ true)
+    (r : T (ranged n c o)) where
   head-back : headFault s n p at ≡ 0
   unfolding headFault operandFault
   head-back = go (hasOperand c) refl e r
@@ -35,17 +36,24 @@ module _ (s : List ℕ) (n : Counts) (p at c o : ℕ) (l : List ℕ) (e : drop a
 module _ (n : Counts) where
   abbrev Passes : (s : Sort) → Formula s → Type 0
   Passes q f =
-      (r : Bool) (s : List ℕ) (k at : ℕ) (l : List ℕ) → drop at s ≡ encode f l → nesting f ≤ k → T (inCounts n f) → T (alone r f) → faultAt s n k (place r q) at ≡ 0
+      (r : Bool) (s : List ℕ) (k at : ℕ) (l : List ℕ) → drop at s ≡ encode f l → nesting f ≤ k → T (inCounts n f) → T (alone r f)
+      → faultAt s n k (place r q) at ≡ 0
 
   leaf-passes : (c : ℕ) (p : Sort) (t : Leaf c p) (o : ℕ) → Passes p (t .make o)
   leaf-passes c p t o r s zero at l e h i a = let d = t .deep o in absurd (omega arith)
-  leaf-passes c p t o r s (suc k) at l e h i a = fault-back s n (place r p) at c o l (e ∙ t .bytes o l) (t .fits r o a) (rw (t .counted n o) at i) k ∙ rw (t .parts)
+  leaf-passes c p t o r s (suc k) at l e h i a = fault-back s n (place r p) at c o l (e ∙ t .bytes o l) (t .fits r o a)
+      (rw (t .counted n o) at i) k ∙ rw (t .parts)
 
   one-passes : (c : ℕ) (p q : Sort) (t : One c p q) (o : ℕ) (f : Formula q) → Passes q f → Passes p (t .make o f)
   one-passes c p q t o f ih r s zero at l e h i a = let d = t .deep o f in absurd (omega arith)
   one-passes c p q t o f ih r s (suc k) at l e h i a =
       fault-back s n (place r p) at c o (encode f l) b (t .fits r) (and-left (ranged n c o) (inCounts n f) j) k
-      ∙ rw (t .parts, t .inside r, ih (t .inner r) s k (at + own c) l (node-back s at c o (encode f l) b .1) (omega (arith, t .deep o f)) (and-right (ranged n c o) (inCounts n f) j) (rw (t .lone r o f) at a))
+      ∙ rw (
+        t .parts,
+        t .inside r,
+        ih (t .inner r) s k (at + own c) l (node-back s at c o (encode f l) b .1) (omega (arith, t .deep o f))
+            (and-right (ranged n c o) (inCounts n f) j) (rw (t .lone r o f) at a),
+      )
     where
       b : drop at s ≡ after c o (encode f l)
       b = e ∙ t .bytes o f l
@@ -58,7 +66,8 @@ module _ (n : Counts) where
   two-passes c p q t f g ih jh r s (suc k) at l e h i a =
       fault-back s n (place r p) at c 0 (encode f (encode g l)) b (t .fits r) (rw (t .bare) tt) k
       ∙ rw (t .parts, t .inside r, first-part, parse-encode f s k (at + own c) (encode g l) d (omega (arith, t .deep f g)))
-      (jh r s k (at + own c + size f) l (drop-encode f s (at + own c) (encode g l) d) (omega (arith, t .deep f g)) (and-right (inCounts n f) (inCounts n g) j) (and-right (alone r f) (alone r g) u))
+      (jh r s k (at + own c + size f) l (drop-encode f s (at + own c) (encode g l) d) (omega (arith, t .deep f g))
+      (and-right (inCounts n f) (inCounts n g) j) (and-right (alone r f) (alone r g) u))
     where
       b : drop at s ≡ after c 0 (encode f (encode g l))
       b = e ∙ t .bytes 0 f g l
@@ -73,8 +82,10 @@ module _ (n : Counts) where
       u = rw (t .lone r f g) at a
 
       first-part : faultAt s n k (place r q) (at + own c) ≡ 0
-      first-part = ih r s k (at + own c) (encode g l) d (omega (arith, t .deep f g)) (and-left (inCounts n f) (inCounts n g) j) (and-left (alone r f) (alone r g) u)
+      first-part = ih r s k (at + own c) (encode g l) d (omega (arith, t .deep f g)) (and-left (inCounts n f) (inCounts n g) j)
+          (and-left (alone r f) (alone r g) u)
 
-  pub passes : {q : Sort} (f : Formula q) (r : Bool) (s : List ℕ) (k at : ℕ) (l : List ℕ) → drop at s ≡ encode f l → nesting f ≤ k → T (inCounts n f) → T (alone r f)
+  pub passes : {q : Sort} (f : Formula q) (r : Bool) (s : List ℕ) (k at : ℕ) (l : List ℕ) → drop at s ≡ encode f l → nesting f ≤ k
+      → T (inCounts n f) → T (alone r f)
       → faultAt s n k (place r q) at ≡ 0
   passes = by-shape Passes leaf-passes one-passes two-passes

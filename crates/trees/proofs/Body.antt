@@ -34,7 +34,8 @@ module _ (b : List ℕ) (n : Counts) (p : ℕ) (r : readingOf b n ≡ Read p) wh
       go : (c d : Bool) → eqb (faultAt b n most (sortOf b) 0) 0 ≡ c → eqb (parseTree b most 0 .end) (length b) ≡ d
           → cond c (cond d (Read (sortOf b)) (Fault malformed)) (Fault (faultAt b n most (sortOf b) 0)) ≡ Read p
           → (p ≡ sortOf b) × (faultAt b n most p 0 ≡ 0) × (parseTree b most 0 .end ≡ length b)
-      go true true e f h = let q : sortOf b ≡ p = cc in (sym q, rw (← q) (eqb-true (faultAt b n most (sortOf b) 0) 0 e), eqb-true (parseTree b most 0 .end) (length b) f)
+      go true true e f h = let q : sortOf b ≡ p = cc in
+          (sym q, rw (← q) (eqb-true (faultAt b n most (sortOf b) 0) 0 e), eqb-true (parseTree b most 0 .end) (length b) f)
       go true false e f h = absurd (other malformed p h)
       go false d e f h = absurd (other (faultAt b n most (sortOf b) 0) p h)
 
@@ -46,7 +47,8 @@ module _ (b : List ℕ) (n : Counts) (p : ℕ) (r : readingOf b n ≡ Read p) wh
 
   -- its sort is the first code's eighth: no place over registers alone
   pub reading-place : p < 4
-  reading-place = by-place (λ q c. q ≡ c / 8 → q < 4) p (getD b 0 0) (omega arith) (omega arith) (omega arith) (omega arith) (omega arith) (omega arith) (head b n p 0 (head-fine b n most p 0 reading-fault) .1) (read .0)
+  reading-place = by-place (λ q c. q ≡ c / 8 → q < 4) p (getD b 0 0) (omega arith) (omega arith) (omega arith) (omega arith) (omega arith)
+      (omega arith) (head b n p 0 (head-fine b n most p 0 reading-fault) .1) (read .0)
 
   pub reading-sorted : Sorted (sortAt p) (parseTree b most 0 .tree)
   reading-sorted = reads-sorted b n most p 0 reading-fault
@@ -71,16 +73,30 @@ module _ (b : List ℕ) (n : Counts) (p : ℕ) (r : readingOf b n ≡ Read p) wh
       low = let h = reading-place in rw (ne-eqb p 4 (λ (e : p ≡ 4). omega arith), ne-eqb p 5 (λ (e : p ≡ 5). omega arith))
 
   pub readable : Readable b n p
-  readable = record { sort = reading-place; formula = formulaAt b most p 0; bytes = reading-bytes; counted = reading-counts; lone = reading-alone; deep = reading-nesting }
+  readable = record {
+    sort = reading-place;
+    formula = formulaAt b most p 0;
+    bytes = reading-bytes;
+    counted = reading-counts;
+    lone = reading-alone;
+    deep = reading-nesting;
+  }
 
 -- the first code's eighth is the sort
 sort-first : {s : Sort} (f : Formula s) → sortOf (encode f []) ≡ place false s
-sort-first = by-shape (λ s f. sortOf (encode f []) ≡ place false s) (λ c p t o. rw (t .bytes o []) (t .eighth)) (λ c p q t o f h. rw (t .bytes o f []) (t .eighth))
+sort-first = by-shape (λ s f. sortOf (encode f []) ≡ place false s) (λ c p t o. rw (t .bytes o []) (t .eighth))
+    (λ c p q t o f h. rw (t .bytes o f []) (t .eighth))
     (λ c p q t f g h k. rw (t .bytes 0 f g []) (t .eighth))
 
-pub reading-encode : {s : Sort} (f : Formula s) (n : Counts) → T (inCounts n f) → T (alone false f) → nesting f ≤ most → readingOf (encode f []) n ≡ Read (place false s)
+pub reading-encode : {s : Sort} (f : Formula s) (n : Counts) → T (inCounts n f) → T (alone false f) → nesting f ≤ most
+    → readingOf (encode f []) n ≡ Read (place false s)
 unfolding readingOf
-reading-encode f n i a h = rw (sort-first f, passes n f false (encode f []) most 0 [] refl h i a, parse-encode f (encode f []) most 0 [] refl h, eq-eqb (0 + size f) (size f) (omega arith))
+reading-encode f n i a h = rw (
+  sort-first f,
+  passes n f false (encode f []) most 0 [] refl h i a,
+  parse-encode f (encode f []) most 0 [] refl h,
+  eq-eqb (0 + size f) (size f) (omega arith),
+)
 
 place-sort : (p : ℕ) → p < 4 → place false (sortAt p) ≡ p
 place-sort zero h = refl

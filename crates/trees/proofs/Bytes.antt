@@ -31,9 +31,11 @@ after-operand c o l = go (hasOperand c)
     go false = refl
 
 encode-toTree : {s : Sort} (f : Formula s) (l : List ℕ) → encode f l ≡ bytesOf (toTree f) l
-encode-toTree = by-shape (λ s f. (l : List ℕ) → encode f l ≡ bytesOf (toTree f) l) (λ c p t o l. t .bytes o l ∙ after-operand c o l ∙ rw (t .tree o))
+encode-toTree = by-shape (λ s f. (l : List ℕ) → encode f l ≡ bytesOf (toTree f) l)
+    (λ c p t o l. t .bytes o l ∙ after-operand c o l ∙ rw (t .tree o))
     (λ c p q t o f h l. t .bytes o f l ∙ ap (after c o) (h l) ∙ after-operand c o (bytesOf (toTree f) l) ∙ rw (t .tree o f))
-    (λ c p q t f g h k l. t .bytes 0 f g l ∙ ap (after c 0) (h (encode g l) ∙ ap (bytesOf (toTree f)) (k l)) ∙ after-operand c 0 (bytesOf (toTree f) (bytesOf (toTree g) l)) ∙ rw (t .tree 0 f g))
+    (λ c p q t f g h k l. t .bytes 0 f g l ∙ ap (after c 0) (h (encode g l) ∙ ap (bytesOf (toTree f)) (k l))
+    ∙ after-operand c 0 (bytesOf (toTree f) (bytesOf (toTree g) l)) ∙ rw (t .tree 0 f g))
 
 module _ {r q : Sort} (f : Formula r) (g : Formula q) where
   pub tree-bytes : toTree f ≡ toTree g → encode f [] ≡ encode g []
@@ -42,10 +44,12 @@ module _ {r q : Sort} (f : Formula r) (g : Formula q) where
   pub bytes-tree : encode f [] ≡ encode g [] → toTree f ≡ toTree g
   bytes-tree e =
       let k : ℕ = max (nesting f) (nesting g) in
-      ap (λ (u : ParsedTree). u .tree) (sym (parse-encode f (encode f []) k 0 [] refl (omega arith)) ∙ parse-encode g (encode f []) k 0 [] e (omega arith))
+      ap (λ (u : ParsedTree). u .tree) (sym (parse-encode f (encode f []) k 0 [] refl (omega arith))
+      ∙ parse-encode g (encode f []) k 0 [] e (omega arith))
 
 -- the bytes of what is passed
-pub reads-bytes : (s : List ℕ) (n : Counts) (k p at : ℕ) → faultAt s n k p at ≡ 0 → drop at s ≡ encode (formulaAt s k p at) (drop (parseTree s k at .end) s)
+pub reads-bytes : (s : List ℕ) (n : Counts) (k p at : ℕ) → faultAt s n k p at ≡ 0
+    → drop at s ≡ encode (formulaAt s k p at) (drop (parseTree s k at .end) s)
 reads-bytes s n k p at h = go (passed s n k p at h)
   where
     go : Passed s n k p at → drop at s ≡ encode (formulaAt s k p at) (drop (parseTree s k at .end) s)
@@ -56,9 +60,11 @@ passed-bytes s n k p at q h =
     let f = q .formula in
     let l : List ℕ = drop (parseTree s k at .end) s in
     rw (parse-encode f s k at l (q .bytes) (q .deep), take-add at (size f) s)
-    (drop-at (take at s) (take (size f) (drop at s)) at (length-take-le at s (omega arith)) ∙ ap (take (size f)) (q .bytes ∙ sym (encode-append f [] l)) ∙ take-append-seam (encode f []) l)
+    (drop-at (take at s) (take (size f) (drop at s)) at (length-take-le at s (omega arith))
+    ∙ ap (take (size f)) (q .bytes ∙ sym (encode-append f [] l)) ∙ take-append-seam (encode f []) l)
 
-module _ (s : List ℕ) (n : Counts) (k p at : ℕ) (h : faultAt s n k p at ≡ 0) (t : List ℕ) (m : Counts) (j q to : ℕ) (g : faultAt t m j q to ≡ 0) where
+module _ (s : List ℕ) (n : Counts) (k p at : ℕ) (h : faultAt s n k p at ≡ 0) (t : List ℕ) (m : Counts) (j q to : ℕ)
+    (g : faultAt t m j q to ≡ 0) where
   here : Passed s n k p at
   here = passed s n k p at h
 

@@ -45,12 +45,15 @@ encode-append = by-shape (λ s f. (l m : List ℕ) → encode f l ++ m ≡ encod
     one : (c : ℕ) (p q : Sort) (t : One c p q) (o : ℕ) (f : Formula q) → ((l m : List ℕ) → encode f l ++ m ≡ encode f (l ++ m))
         → (l m : List ℕ) → encode (t .make o f) l ++ m ≡ encode (t .make o f) (l ++ m)
     one c p q t o f h l m =
-        ap (λ (z : List ℕ). z ++ m) (t .bytes o f l) ∙ after-append c o (encode f l) m ∙ ap (after c o) (h l m) ∙ sym (t .bytes o f (l ++ m))
+        ap (λ (z : List ℕ). z ++ m) (t .bytes o f l) ∙ after-append c o (encode f l) m ∙ ap (after c o) (h l m)
+        ∙ sym (t .bytes o f (l ++ m))
 
-    two : (c : ℕ) (p q : Sort) (t : Two c p q) (f g : Formula q) → ((l m : List ℕ) → encode f l ++ m ≡ encode f (l ++ m)) → ((l m : List ℕ) → encode g l ++ m ≡ encode g (l ++ m))
+    two : (c : ℕ) (p q : Sort) (t : Two c p q) (f g : Formula q) → ((l m : List ℕ) → encode f l ++ m ≡ encode f (l ++ m))
+        → ((l m : List ℕ) → encode g l ++ m ≡ encode g (l ++ m))
         → (l m : List ℕ) → encode (t .make f g) l ++ m ≡ encode (t .make f g) (l ++ m)
     two c p q t f g h k l m =
-        ap (λ (z : List ℕ). z ++ m) (t .bytes 0 f g l) ∙ after-append c 0 (encode f (encode g l)) m ∙ ap (after c 0) (h (encode g l) m ∙ ap (encode f) (k l m)) ∙ sym (t .bytes 0 f g (l ++ m))
+        ap (λ (z : List ℕ). z ++ m) (t .bytes 0 f g l) ∙ after-append c 0 (encode f (encode g l)) m
+        ∙ ap (after c 0) (h (encode g l) m ∙ ap (encode f) (k l m)) ∙ sym (t .bytes 0 f g (l ++ m))
 
 pub length-encode : {s : Sort} (f : Formula s) (l : List ℕ) → length (encode f l) ≡ size f + length l
 length-encode f l = ap length (sym (encode-append f [] l)) ∙ length-append (encode f []) l
@@ -63,7 +66,8 @@ cons-at s at c l e = go (omega (arith, length-drop at s, ap length e))
     go h = let d : getD s at 0 ∷ drop (at + 1) s ≡ c ∷ l = sym (drop-next s at h) ∙ e in (h, cc, cc)
 
 pub drop-encode : {r : Sort} (f : Formula r) (s : List ℕ) (at : ℕ) (l : List ℕ) → drop at s ≡ encode f l → drop (at + size f) s ≡ l
-drop-encode f s at l e = sym (drop-drop (size f) at s) ∙ ap (drop (size f)) (e ∙ sym (encode-append f [] l)) ∙ drop-append-seam (encode f []) l
+drop-encode f s at l e = sym (drop-drop (size f) at s) ∙ ap (drop (size f)) (e ∙ sym (encode-append f [] l))
+    ∙ drop-append-seam (encode f []) l
 
 -- the node there
 module _ (s : List ℕ) (at c o : ℕ) (l : List ℕ) (e : drop at s ≡ after c o l) where
@@ -72,7 +76,8 @@ module _ (s : List ℕ) (at c o : ℕ) (l : List ℕ) (e : drop at s ≡ after c
   node-back = go (hasOperand c) refl e
     where
       go : (b : Bool) → hasOperand c ≡ b → drop at s ≡ c ∷ cond b (o ∷ l) l
-          → (nodeAt s at ≡ record { code = c; operand = cond b o 0; parts = partCount c; next = at + cond b 2 1 }) × (drop (at + cond b 2 1) s ≡ l)
+          → (nodeAt s at ≡ record { code = c; operand = cond b o 0; parts = partCount c; next = at + cond b 2 1 })
+          × (drop (at + cond b 2 1) s ≡ l)
       go true d q =
           let h = cons-at s at c (o ∷ l) q in
           let g = cons-at s (at + 1) o l (h .2) in
@@ -83,9 +88,11 @@ module _ (s : List ℕ) (at c o : ℕ) (l : List ℕ) (e : drop at s ≡ after c
 -- a formula's bytes are followed by its end, and its tree stands there
 abbrev Stands : (s : Sort) → Formula s → Type 0
 Stands r f =
-    (s : List ℕ) (k at : ℕ) (l : List ℕ) → drop at s ≡ encode f l → nesting f ≤ k → parseTree s k at ≡ record { tree = toTree f; end = at + size f }
+    (s : List ℕ) (k at : ℕ) (l : List ℕ) → drop at s ≡ encode f l → nesting f ≤ k
+    → parseTree s k at ≡ record { tree = toTree f; end = at + size f }
 
-parse-back : (s : List ℕ) (k at c o : ℕ) (l : List ℕ) → drop at s ≡ after c o l → parseTree s (suc k) at ≡ grow (λ i. parseTree s k i) (nodeOf c o (at + own c))
+parse-back : (s : List ℕ) (k at c o : ℕ) (l : List ℕ) → drop at s ≡ after c o l
+    → parseTree s (suc k) at ≡ grow (λ i. parseTree s k i) (nodeOf c o (at + own c))
 unfolding parseTree
 parse-back s k at c o l e = ap (grow (λ i. parseTree s k i)) (node-back s at c o l e .0)
 
@@ -95,7 +102,8 @@ parse-of t u i j e d = λ x. record { tree = e x; end = d x }
 leaf-stands : (c : ℕ) (p : Sort) (t : Leaf c p) (o : ℕ) → Stands p (t .make o)
 leaf-stands c p t o s zero at l e h = let d = t .deep o in absurd (omega arith)
 leaf-stands c p t o s (suc k) at l e h =
-    parse-back s k at c o l (e ∙ t .bytes o l) ∙ rw (t .parts) (parse-of (node c (operand c o) none none) (toTree (t .make o)) (at + own c) (at + size (t .make o)) (sym (t .tree o)) ends)
+    parse-back s k at c o l (e ∙ t .bytes o l) ∙ rw (t .parts)
+    (parse-of (node c (operand c o) none none) (toTree (t .make o)) (at + own c) (at + size (t .make o)) (sym (t .tree o)) ends)
   where
     ends : at + own c ≡ at + size (t .make o)
     ends = omega (arith, ap length (t .bytes o []), length-after c o [])
@@ -105,7 +113,8 @@ one-stands c p q t o f ih s zero at l e h = let d = t .deep o f in absurd (omega
 one-stands c p q t o f ih s (suc k) at l e h =
     parse-back s k at c o (encode f l) b
     ∙ rw (t .parts, ih s k (at + own c) l (node-back s at c o (encode f l) b .1) (omega (arith, t .deep o f)))
-    (parse-of (node c (operand c o) (toTree f) none) (toTree (t .make o f)) (at + own c + size f) (at + size (t .make o f)) (sym (t .tree o f)) ends)
+    (parse-of (node c (operand c o) (toTree f) none) (toTree (t .make o f)) (at + own c + size f) (at + size (t .make o f))
+    (sym (t .tree o f)) ends)
   where
     b : drop at s ≡ after c o (encode f l)
     b = e ∙ t .bytes o f l
@@ -117,8 +126,13 @@ two-stands : (c : ℕ) (p q : Sort) (t : Two c p q) (f g : Formula q) → Stands
 two-stands c p q t f g ih jh s zero at l e h = let d = t .deep f g in absurd (omega arith)
 two-stands c p q t f g ih jh s (suc k) at l e h =
     parse-back s k at c 0 (encode f (encode g l)) b
-    ∙ rw (t .parts, ih s k (at + own c) (encode g l) d (omega (arith, t .deep f g)), jh s k (at + own c + size f) l (drop-encode f s (at + own c) (encode g l) d) (omega (arith, t .deep f g)))
-    (parse-of (node c (operand c 0) (toTree f) (toTree g)) (toTree (t .make f g)) (at + own c + size f + size g) (at + size (t .make f g)) (sym (t .tree 0 f g)) ends)
+    ∙ rw (
+      t .parts,
+      ih s k (at + own c) (encode g l) d (omega (arith, t .deep f g)),
+      jh s k (at + own c + size f) l (drop-encode f s (at + own c) (encode g l) d) (omega (arith, t .deep f g)),
+    )
+    (parse-of (node c (operand c 0) (toTree f) (toTree g)) (toTree (t .make f g)) (at + own c + size f + size g) (at + size (t .make f g))
+    (sym (t .tree 0 f g)) ends)
   where
     b : drop at s ≡ after c 0 (encode f (encode g l))
     b = e ∙ t .bytes 0 f g l

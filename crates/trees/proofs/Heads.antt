@@ -48,7 +48,9 @@ module _ (Q : ℕ → ℕ → Type 0) where
     pub by-place : Each value → Each test → Each interval → Each assertion → Each regValue → Each regTest → fitsAt c p ≡ true → Q p c
     unfolding fitsAt
     by-place v t i a w u =
-        at-place value _ v (at-place test _ t (at-place interval _ i (at-place assertion _ a (at-place regValue _ w (at-place regTest _ u (λ h. absurd (false≢true h)))))))
+        at-place value _ v
+        (at-place test _ t
+        (at-place interval _ i (at-place assertion _ a (at-place regValue _ w (at-place regTest _ u (λ h. absurd (false≢true h)))))))
 
 -- the first fault
 pub first-left : (a b : ℕ) → first a b ≡ 0 → a ≡ 0
@@ -77,9 +79,11 @@ nodeOf c o m = record { code = c; operand = operand c o; parts = partCount c; ne
 abbrev pub partsFault : List ℕ → Counts → ℕ → ℕ → Node → ℕ
 partsFault s n k p d =
     cond (eqb (d .parts) 0) 0
-    (first (faultAt s n k (partPlace (d .code) p) (d .next)) (cond (eqb (d .parts) 1) 0 (faultAt s n k (partPlace (d .code) p) (parseTree s k (d .next) .end))))
+    (first (faultAt s n k (partPlace (d .code) p) (d .next))
+    (cond (eqb (d .parts) 1) 0 (faultAt s n k (partPlace (d .code) p) (parseTree s k (d .next) .end))))
 
-pub fault-parts : (s : List ℕ) (n : Counts) (k p at : ℕ) → faultAt s n (suc k) p at ≡ first (headFault s n p at) (partsFault s n k p (nodeAt s at))
+pub fault-parts : (s : List ℕ) (n : Counts) (k p at : ℕ)
+    → faultAt s n (suc k) p at ≡ first (headFault s n p at) (partsFault s n k p (nodeAt s at))
 fault-parts s n k p at = let e = fault-step s n (suc k) p at (omega arith) in rw (sub-one (suc k)) at e
 
 -- a node's own bytes
@@ -97,7 +101,8 @@ module _ (s : List ℕ) (n : Counts) (p at : ℕ) (h : headFault s n p at ≡ 0)
   unfolding headFault
   head = go (ltb at (length s)) (fitsAt c p) refl refl h
     where
-      go : (a b : Bool) → ltb at (length s) ≡ a → fitsAt c p ≡ b → cond a (cond b (cond (hasOperand c) (operandFault s n c (at + 1)) 0) malformed) malformed ≡ 0
+      go : (a b : Bool) → ltb at (length s) ≡ a → fitsAt c p ≡ b
+          → cond a (cond b (cond (hasOperand c) (operandFault s n c (at + 1)) 0) malformed) malformed ≡ 0
           → (at < length s) × (fitsAt c p ≡ true) × (cond (hasOperand c) (operandFault s n c (at + 1)) 0 ≡ 0)
       go true true d e h = (ltb-true at (length s) d, e, h)
       go true false d e h = absurd (omega arith)
@@ -107,7 +112,8 @@ module _ (s : List ℕ) (n : Counts) (p at : ℕ) (h : headFault s n p at ≡ 0)
   unfolding operandFault
   operand-fine = go (ltb (at + 1) (length s)) (inRange n c o) refl refl
     where
-      go : (a b : Bool) → ltb (at + 1) (length s) ≡ a → inRange n c o ≡ b → cond a (cond b 0 range) malformed ≡ 0 → (at + 1 < length s) × (inRange n c o ≡ true)
+      go : (a b : Bool) → ltb (at + 1) (length s) ≡ a → inRange n c o ≡ b → cond a (cond b 0 range) malformed ≡ 0
+          → (at + 1 < length s) × (inRange n c o ≡ true)
       go true true d e h = (ltb-true (at + 1) (length s) d, e)
       go true false d e h = absurd (omega arith)
       go false b d e h = absurd (omega arith)
@@ -117,7 +123,8 @@ module _ (s : List ℕ) (n : Counts) (p at : ℕ) (h : headFault s n p at ≡ 0)
   own-node = rw (lt-ltb at (length s) (head .0)) (go (hasOperand c))
     where
       go : (b : Bool)
-          → _≡_ {A = Node} (cond b (record { code = c; operand = o; parts = partCount c; next = at + 2 }) (record { code = c; operand = 0; parts = partCount c; next = at + 1 }))
+          → _≡_ {A = Node} (cond b (record { code = c; operand = o; parts = partCount c; next = at + 2 })
+          (record { code = c; operand = 0; parts = partCount c; next = at + 1 }))
           (record { code = c; operand = cond b o 0; parts = partCount c; next = cond b (at + 2) (at + 1) })
       go true = refl
       go false = refl
@@ -125,10 +132,12 @@ module _ (s : List ℕ) (n : Counts) (p at : ℕ) (h : headFault s n p at ≡ 0)
   pub own-bytes : drop at s ≡ after c o (drop next s)
   own-bytes = go (hasOperand c) (head .2)
     where
-      go : (b : Bool) → cond b (operandFault s n c (at + 1)) 0 ≡ 0 → drop at s ≡ c ∷ cond b (o ∷ drop (cond b (at + 2) (at + 1)) s) (drop (cond b (at + 2) (at + 1)) s)
+      go : (b : Bool) → cond b (operandFault s n c (at + 1)) 0 ≡ 0
+          → drop at s ≡ c ∷ cond b (o ∷ drop (cond b (at + 2) (at + 1)) s) (drop (cond b (at + 2) (at + 1)) s)
       go true e =
           let two : at + 1 + 1 ≡ at + 2 = omega arith in
-          drop-next s at (head .0) ∙ ap (λ (l : List ℕ). c ∷ l) (drop-next s (at + 1) (operand-fine e .0) ∙ ap (λ (i : ℕ). o ∷ drop i s) two)
+          drop-next s at (head .0) ∙ ap (λ (l : List ℕ). c ∷ l)
+          (drop-next s (at + 1) (operand-fine e .0) ∙ ap (λ (i : ℕ). o ∷ drop i s) two)
       go false e = drop-next s at (head .0)
 
   pub own-range : T (ranged n c o)

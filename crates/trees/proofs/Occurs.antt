@@ -65,11 +65,13 @@ two-parts a b c true e p q r = rw (p, q, r)
 two-parts a b c false e p q r = rw (p, q)
 
 module _ (w : Query) (owners : List ℕ) (ok : Name → Bool) (is : Is w owners ok) where
-  part : {r : Sort} (c n : ℕ) (f : Formula r) → isQueried w owners c n ≡ false → occurs w owners (toTree f) ≡ not (only ok f) → occurs w owners (node c n (toTree f) none) ≡ not (only ok f)
+  part : {r : Sort} (c n : ℕ) (f : Formula r) → isQueried w owners c n ≡ false → occurs w owners (toTree f) ≡ not (only ok f)
+      → occurs w owners (node c n (toTree f) none) ≡ not (only ok f)
   unfolding occurs
   part c n f e h = one-part (isQueried w owners c n) (occurs w owners (toTree f)) (only ok f) e h
 
-  parts : {r : Sort} (c : ℕ) (f g : Formula r) → isQueried w owners c 0 ≡ false → occurs w owners (toTree f) ≡ not (only ok f) → occurs w owners (toTree g) ≡ not (only ok g)
+  parts : {r : Sort} (c : ℕ) (f g : Formula r) → isQueried w owners c 0 ≡ false → occurs w owners (toTree f) ≡ not (only ok f)
+      → occurs w owners (toTree g) ≡ not (only ok g)
       → occurs w owners (node c 0 (toTree f) (toTree g)) ≡ not (all ok (names f ++ names g))
   unfolding occurs
   parts c f g e h k =
@@ -108,19 +110,111 @@ not-not false = refl
 -- the register r; the word x in any role; a flag of x; anything but registers
 register-is : (r : ℕ) → Is (register r) [] (notReg r)
 unfolding isQueried member
-register-is r = record { const = λ n. refl; reg = λ n. not-not (eqb n r); word = λ n. refl; sum = refl; falsehood = refl; equal = refl; less = refl; negation = refl; and = refl; or = refl; unsync = λ n. refl; cov = λ n. refl; box = refl; one = λ n. refl; chop = refl; both = refl; either = refl; sees = λ n. refl; bothA = refl; eitherA = refl; start = refl; holds = refl }
+register-is r = record {
+  const = λ n. refl;
+  reg = λ n. not-not (eqb n r);
+  word = λ n. refl;
+  sum = refl;
+  falsehood = refl;
+  equal = refl;
+  less = refl;
+  negation = refl;
+  and = refl;
+  or = refl;
+  unsync = λ n. refl;
+  cov = λ n. refl;
+  box = refl;
+  one = λ n. refl;
+  chop = refl;
+  both = refl;
+  either = refl;
+  sees = λ n. refl;
+  bothA = refl;
+  eitherA = refl;
+  start = refl;
+  holds = refl;
+}
 
 word-is : (x : ℕ) → Is (wordAnyRole x) [] (notWord x)
 unfolding isQueried member
-word-is x = record { const = λ n. refl; reg = λ n. refl; word = λ n. not-not (eqb n x); sum = refl; falsehood = refl; equal = refl; less = refl; negation = refl; and = refl; or = refl; unsync = λ n. not-not (eqb n x); cov = λ n. not-not (eqb n x); box = refl; one = λ n. not-not (eqb n x); chop = refl; both = refl; either = refl; sees = λ n. refl; bothA = refl; eitherA = refl; start = refl; holds = refl }
+word-is x = record {
+  const = λ n. refl;
+  reg = λ n. refl;
+  word = λ n. not-not (eqb n x);
+  sum = refl;
+  falsehood = refl;
+  equal = refl;
+  less = refl;
+  negation = refl;
+  and = refl;
+  or = refl;
+  unsync = λ n. not-not (eqb n x);
+  cov = λ n. not-not (eqb n x);
+  box = refl;
+  one = λ n. not-not (eqb n x);
+  chop = refl;
+  both = refl;
+  either = refl;
+  sees = λ n. refl;
+  bothA = refl;
+  eitherA = refl;
+  start = refl;
+  holds = refl;
+}
 
 flag-is : (x : ℕ) → Is (flag x) [] (notFlag x)
 unfolding isQueried member
-flag-is x = record { const = λ n. refl; reg = λ n. refl; word = λ n. refl; sum = refl; falsehood = refl; equal = refl; less = refl; negation = refl; and = refl; or = refl; unsync = λ n. not-not (eqb n x); cov = λ n. not-not (eqb n x); box = refl; one = λ n. refl; chop = refl; both = refl; either = refl; sees = λ n. refl; bothA = refl; eitherA = refl; start = refl; holds = refl }
+flag-is x = record {
+  const = λ n. refl;
+  reg = λ n. refl;
+  word = λ n. refl;
+  sum = refl;
+  falsehood = refl;
+  equal = refl;
+  less = refl;
+  negation = refl;
+  and = refl;
+  or = refl;
+  unsync = λ n. not-not (eqb n x);
+  cov = λ n. not-not (eqb n x);
+  box = refl;
+  one = λ n. refl;
+  chop = refl;
+  both = refl;
+  either = refl;
+  sees = λ n. refl;
+  bothA = refl;
+  eitherA = refl;
+  start = refl;
+  holds = refl;
+}
 
 shared-is : Is shared [] isReg
 unfolding isQueried member
-shared-is = record { const = λ n. refl; reg = λ n. refl; word = λ n. refl; sum = refl; falsehood = refl; equal = refl; less = refl; negation = refl; and = refl; or = refl; unsync = λ n. refl; cov = λ n. refl; box = refl; one = λ n. refl; chop = refl; both = refl; either = refl; sees = λ n. refl; bothA = refl; eitherA = refl; start = refl; holds = refl }
+shared-is = record {
+  const = λ n. refl;
+  reg = λ n. refl;
+  word = λ n. refl;
+  sum = refl;
+  falsehood = refl;
+  equal = refl;
+  less = refl;
+  negation = refl;
+  and = refl;
+  or = refl;
+  unsync = λ n. refl;
+  cov = λ n. refl;
+  box = refl;
+  one = λ n. refl;
+  chop = refl;
+  both = refl;
+  either = refl;
+  sees = λ n. refl;
+  bothA = refl;
+  eitherA = refl;
+  start = refl;
+  holds = refl;
+}
 
 pub no-register : (r : ℕ) {s : Sort} (f : Formula s) → occurs (register r) [] (toTree f) ≡ not (only (notReg r) f)
 no-register r f = absent (register r) [] (notReg r) (register-is r) f
@@ -143,15 +237,19 @@ unfolding occurs isQueried member
 no-start-value (const n) = refl
 no-start-value (reg n) = refl
 no-start-value (word n) = refl
-no-start-value (sum f g) = neither (occurs Occurs.start [] (toTree f)) (occurs Occurs.start [] (toTree g)) (no-start-value f) (no-start-value g)
+no-start-value (sum f g) = neither (occurs Occurs.start [] (toTree f)) (occurs Occurs.start [] (toTree g)) (no-start-value f)
+    (no-start-value g)
 
 pub no-start-test : (f : Test) → occurs Occurs.start [] (toTree f) ≡ false
 unfolding occurs isQueried member
 no-start-test Formula.false = refl
-no-start-test (equal f g) = neither (occurs Occurs.start [] (toTree f)) (occurs Occurs.start [] (toTree g)) (no-start-value f) (no-start-value g)
-no-start-test (less f g) = neither (occurs Occurs.start [] (toTree f)) (occurs Occurs.start [] (toTree g)) (no-start-value f) (no-start-value g)
+no-start-test (equal f g) = neither (occurs Occurs.start [] (toTree f)) (occurs Occurs.start [] (toTree g)) (no-start-value f)
+    (no-start-value g)
+no-start-test (less f g) = neither (occurs Occurs.start [] (toTree f)) (occurs Occurs.start [] (toTree g)) (no-start-value f)
+    (no-start-value g)
 no-start-test (Formula.not f) = neither (occurs Occurs.start [] (toTree f)) false (no-start-test f) refl
-no-start-test (and f g) = neither (occurs Occurs.start [] (toTree f)) (occurs Occurs.start [] (toTree g)) (no-start-test f) (no-start-test g)
+no-start-test (and f g) = neither (occurs Occurs.start [] (toTree f)) (occurs Occurs.start [] (toTree g)) (no-start-test f)
+    (no-start-test g)
 no-start-test (or f g) = neither (occurs Occurs.start [] (toTree f)) (occurs Occurs.start [] (toTree g)) (no-start-test f) (no-start-test g)
 no-start-test (unsync n) = refl
 no-start-test (cov n) = refl
@@ -160,9 +258,12 @@ pub no-start-interval : (f : Interval) → occurs Occurs.start [] (toTree f) ≡
 unfolding occurs isQueried member
 no-start-interval (box f) = neither (occurs Occurs.start [] (toTree f)) false (no-start-test f) refl
 no-start-interval (one n) = refl
-no-start-interval (chop f g) = neither (occurs Occurs.start [] (toTree f)) (occurs Occurs.start [] (toTree g)) (no-start-interval f) (no-start-interval g)
-no-start-interval (both f g) = neither (occurs Occurs.start [] (toTree f)) (occurs Occurs.start [] (toTree g)) (no-start-interval f) (no-start-interval g)
-no-start-interval (either f g) = neither (occurs Occurs.start [] (toTree f)) (occurs Occurs.start [] (toTree g)) (no-start-interval f) (no-start-interval g)
+no-start-interval (chop f g) = neither (occurs Occurs.start [] (toTree f)) (occurs Occurs.start [] (toTree g)) (no-start-interval f)
+    (no-start-interval g)
+no-start-interval (both f g) = neither (occurs Occurs.start [] (toTree f)) (occurs Occurs.start [] (toTree g)) (no-start-interval f)
+    (no-start-interval g)
+no-start-interval (either f g) = neither (occurs Occurs.start [] (toTree f)) (occurs Occurs.start [] (toTree g)) (no-start-interval f)
+    (no-start-interval g)
 
 either-start : (a b c d : Bool) → a ≡ not c → b ≡ not d → cond a true b ≡ not (c && d)
 either-start a b true d e h = rw e h
@@ -171,7 +272,9 @@ either-start a b false d e h = rw e
 pub no-start : (a : Assertion) → occurs Occurs.start [] (toTree a) ≡ not (startless a)
 unfolding occurs isQueried member
 no-start (sees n f) = neither (occurs Occurs.start [] (toTree f)) false (no-start-interval f) refl
-no-start (bothA f g) = either-start (occurs Occurs.start [] (toTree f)) (occurs Occurs.start [] (toTree g)) (startless f) (startless g) (no-start f) (no-start g)
-no-start (eitherA f g) = either-start (occurs Occurs.start [] (toTree f)) (occurs Occurs.start [] (toTree g)) (startless f) (startless g) (no-start f) (no-start g)
+no-start (bothA f g) = either-start (occurs Occurs.start [] (toTree f)) (occurs Occurs.start [] (toTree g)) (startless f) (startless g)
+    (no-start f) (no-start g)
+no-start (eitherA f g) = either-start (occurs Occurs.start [] (toTree f)) (occurs Occurs.start [] (toTree g)) (startless f) (startless g)
+    (no-start f) (no-start g)
 no-start start = refl
 no-start (holds f) = neither (occurs Occurs.start [] (toTree f)) false (no-start-test f) refl

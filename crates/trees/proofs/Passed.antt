@@ -36,7 +36,8 @@ module _ (s : List ℕ) (n : Counts) (k at : ℕ) (ih : (q m : ℕ) → faultAt 
   tree m = parseTree s k m .tree
 
   leaf : (p c : ℕ) (t : Leaf c (sortAt p)) → ((o : ℕ) → T (alone (overRegs p) (t .make o)))
-      → (o m : ℕ) → drop at s ≡ after c o (drop m s) → T (ranged n c o) → parseTree s (suc k) at ≡ record { tree = node c (operand c o) none none; end = m }
+      → (o m : ℕ) → drop at s ≡ after c o (drop m s) → T (ranged n c o)
+      → parseTree s (suc k) at ≡ record { tree = node c (operand c o) none none; end = m }
       → _≡_ {A = ℕ} 0 0 → Passed s n (suc k) p at
   leaf p c t l o m b r e f = record {
     formula = t .make o;
@@ -48,7 +49,8 @@ module _ (s : List ℕ) (n : Counts) (k at : ℕ) (ih : (q m : ℕ) → faultAt 
   }
 
   one : (p c q : ℕ) (t : One c (sortAt p) (sortAt q)) → t .inner (overRegs p) ≡ overRegs q
-      → (o m : ℕ) → drop at s ≡ after c o (drop m s) → T (ranged n c o) → parseTree s (suc k) at ≡ record { tree = node c (operand c o) (tree m) none; end = end m }
+      → (o m : ℕ) → drop at s ≡ after c o (drop m s) → T (ranged n c o)
+      → parseTree s (suc k) at ≡ record { tree = node c (operand c o) (tree m) none; end = end m }
       → first (faultAt s n k q m) 0 ≡ 0 → Passed s n (suc k) p at
   one p c q t i o m b r e f = go (ih q m (first-left (faultAt s n k q m) 0 f))
     where
@@ -63,25 +65,32 @@ module _ (s : List ℕ) (n : Counts) (k at : ℕ) (ih : (q m : ℕ) → faultAt 
       }
 
   two : (p c q : ℕ) (t : Two c (sortAt p) (sortAt q)) → overRegs p ≡ overRegs q
-      → (o m : ℕ) → drop at s ≡ after c o (drop m s) → T (ranged n c o) → parseTree s (suc k) at ≡ record { tree = node c (operand c o) (tree m) (tree (end m)); end = end (end m) }
+      → (o m : ℕ) → drop at s ≡ after c o (drop m s) → T (ranged n c o)
+      → parseTree s (suc k) at ≡ record { tree = node c (operand c o) (tree m) (tree (end m)); end = end (end m) }
       → first (faultAt s n k q m) (faultAt s n k q (end m)) ≡ 0 → Passed s n (suc k) p at
   two p c q t i o m b r e f =
-      go (ih q m (first-left (faultAt s n k q m) (faultAt s n k q (end m)) f)) (ih q (end m) (first-right (faultAt s n k q m) (faultAt s n k q (end m)) f))
+      go (ih q m (first-left (faultAt s n k q m) (faultAt s n k q (end m)) f))
+      (ih q (end m) (first-right (faultAt s n k q m) (faultAt s n k q (end m)) f))
     where
       go : Passed s n k q m → Passed s n k q (end m) → Passed s n (suc k) p at
       go h g = record {
         formula = t .make (h .formula) (g .formula);
-        tree = ap (λ (u : ParsedTree). u .tree) e ∙ ap₂ (node c (operand c o)) (h .tree) (g .tree) ∙ sym (t .tree o (h .formula) (g .formula));
-        bytes = rw e (b ∙ ap (after c o) (h .bytes ∙ ap (encode (h .formula)) (g .bytes)) ∙ sym (t .bytes o (h .formula) (g .formula) (drop (end (end m)) s)));
+        tree = ap (λ (u : ParsedTree). u .tree) e ∙ ap₂ (node c (operand c o)) (h .tree) (g .tree)
+            ∙ sym (t .tree o (h .formula) (g .formula));
+        bytes = rw e (b ∙ ap (after c o) (h .bytes ∙ ap (encode (h .formula)) (g .bytes))
+            ∙ sym (t .bytes o (h .formula) (g .formula) (drop (end (end m)) s)));
         deep = rw (t .deep (h .formula) (g .formula)) (omega (arith, h .deep, g .deep));
-        counted = rw (t .counted n (h .formula) (g .formula)) (and-both (inCounts n (h .formula)) (inCounts n (g .formula)) (h .counted) (g .counted));
-        lone = rw (t .lone (overRegs p) (h .formula) (g .formula), i) (and-both (alone (overRegs q) (h .formula)) (alone (overRegs q) (g .formula)) (h .lone) (g .lone));
+        counted = rw (t .counted n (h .formula) (g .formula))
+            (and-both (inCounts n (h .formula)) (inCounts n (g .formula)) (h .counted) (g .counted));
+        lone = rw (t .lone (overRegs p) (h .formula) (g .formula), i)
+            (and-both (alone (overRegs q) (h .formula)) (alone (overRegs q) (g .formula)) (h .lone) (g .lone));
       }
 
   -- a node with this code is passed at the place, if its parts are
   abbrev Fine : ℕ → ℕ → Type 0
   Fine p c =
-      (o m : ℕ) → drop at s ≡ after c o (drop m s) → T (ranged n c o) → parseTree s (suc k) at ≡ grow (λ i. parseTree s k i) (nodeOf c o m) → partsFault s n k p (nodeOf c o m) ≡ 0
+      (o m : ℕ) → drop at s ≡ after c o (drop m s) → T (ranged n c o)
+      → parseTree s (suc k) at ≡ grow (λ i. parseTree s k i) (nodeOf c o m) → partsFault s n k p (nodeOf c o m) ≡ 0
       → Passed s n (suc k) p at
 
   fine-value : Each Fine value
@@ -147,7 +156,8 @@ module _ (s : List ℕ) (n : Counts) (k at : ℕ) (ih : (q m : ℕ) → faultAt 
 
   step : (p : ℕ) → faultAt s n (suc k) p at ≡ 0 → Passed s n (suc k) p at
   unfolding parseTree
-  step p h = go (first-left (headFault s n p at) (partsFault s n k p (nodeAt s at)) h′) (first-right (headFault s n p at) (partsFault s n k p (nodeAt s at)) h′)
+  step p h = go (first-left (headFault s n p at) (partsFault s n k p (nodeAt s at)) h′)
+      (first-right (headFault s n p at) (partsFault s n k p (nodeAt s at)) h′)
     where
       h′ : first (headFault s n p at) (partsFault s n k p (nodeAt s at)) ≡ 0
       h′ = sym (fault-parts s n k p at) ∙ h
@@ -155,7 +165,8 @@ module _ (s : List ℕ) (n : Counts) (k at : ℕ) (ih : (q m : ℕ) → faultAt 
       go : headFault s n p at ≡ 0 → partsFault s n k p (nodeAt s at) ≡ 0 → Passed s n (suc k) p at
       go a b =
           by-place Fine p (getD s at 0) fine-value fine-test fine-interval fine-assertion fine-regValue fine-regTest (head s n p at a .1)
-          (getD s (at + 1) 0) (next s n p at a) (own-bytes s n p at a) (own-range s n p at a) (ap (grow (λ i. parseTree s k i)) (own-node s n p at a))
+          (getD s (at + 1) 0) (next s n p at a) (own-bytes s n p at a) (own-range s n p at a)
+          (ap (grow (λ i. parseTree s k i)) (own-node s n p at a))
           (subst (λ (d : Node). partsFault s n k p d ≡ 0) (own-node s n p at a) b)
 
 pub passed : (s : List ℕ) (n : Counts) (k p at : ℕ) → faultAt s n k p at ≡ 0 → Passed s n k p at

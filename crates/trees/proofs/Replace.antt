@@ -14,7 +14,8 @@ use Rattle.compare.specs.Replace.{isName, replaceT, nameCode, oneName, named}
 use Rattle.trees.specs.ToTree.{toTree, noteT}
 
 -- τ stands for the trees of what σ puts for each name
-module _ (τ : ℕ → ℕ → Tree) (σ : Sub) (on-reg : (r : ℕ) → τ (byte Code.reg) r ≡ toTree (σ .reg r)) (on-word : (x : ℕ) → τ (byte Code.word) x ≡ toTree (σ .word x)) where
+module _ (τ : ℕ → ℕ → Tree) (σ : Sub) (on-reg : (r : ℕ) → τ (byte Code.reg) r ≡ toTree (σ .reg r))
+    (on-word : (x : ℕ) → τ (byte Code.word) x ≡ toTree (σ .word x)) where
   pub replaced : {s : Sort} (f : Formula s) → replaceT τ (toTree f) ≡ toTree (replace σ f)
   unfolding replaceT isName
   replaced (const n) = refl
@@ -45,11 +46,13 @@ toTree-if true v w = refl
 toTree-if false v w = refl
 
 -- a register by a value; a word by a value
-pub toTree-reg : (r : ℕ) {s : Sort} (v : Value) (f : Formula s) → replaceT (oneName false r (toTree v)) (toTree f) ≡ toTree (replace (regBy r v) f)
+pub toTree-reg : (r : ℕ) {s : Sort} (v : Value) (f : Formula s)
+    → replaceT (oneName false r (toTree v)) (toTree f) ≡ toTree (replace (regBy r v) f)
 unfolding oneName nameCode upd
 toTree-reg r v f = replaced (oneName false r (toTree v)) (regBy r v) (λ q. toTree-if (eqb q r) v (reg q)) (λ x. refl) f
 
-pub toTree-word : (x : ℕ) {s : Sort} (v : Value) (f : Formula s) → replaceT (oneName true x (toTree v)) (toTree f) ≡ toTree (replace (wordBy x v) f)
+pub toTree-word : (x : ℕ) {s : Sort} (v : Value) (f : Formula s)
+    → replaceT (oneName true x (toTree v)) (toTree f) ≡ toTree (replace (wordBy x v) f)
 unfolding oneName nameCode upd
 toTree-word x v f = replaced (oneName true x (toTree v)) (wordBy x v) (λ r. refl) (λ y. toTree-if (eqb y x) v (word y)) f
 

@@ -69,7 +69,8 @@ pub from-one : (m o : ℕ) → within m o ≡ cond (eqb o 0) false (leb o m)
 from-one m zero = refl
 from-one m (suc o) = rw (eqb·suc-zero o, leb·suc-suc 0 o, leb·zero o)
 
-pub lone-two : {p : Sort} (r : Bool) (f g : Formula p) → cond r (all isReg (names f ++ names g)) true ≡ cond r (all isReg (names f)) true && cond r (all isReg (names g)) true
+pub lone-two : {p : Sort} (r : Bool) (f g : Formula p)
+    → cond r (all isReg (names f ++ names g)) true ≡ cond r (all isReg (names f)) true && cond r (all isReg (names g)) true
 lone-two true f g = all-join isReg (names f) (names g)
 lone-two false f g = refl
 
@@ -80,91 +81,331 @@ unfit c p q e false o h = e
 
 abbrev pub const-leaf : Leaf (byte Code.const) Sort.value
 unfolding hasOperand inRange partCount partPlace fitsAt
-const-leaf = record { make = const; tree = λ o. refl; bytes = λ o l. refl; deep = λ o. refl; counted = λ n o. refl; eighth = refl; parts = refl; fits = λ r o h. elim r [ true ↦ refl | false ↦ refl ] }
+const-leaf = record {
+  make = const;
+  tree = λ o. refl;
+  bytes = λ o l. refl;
+  deep = λ o. refl;
+  counted = λ n o. refl;
+  eighth = refl;
+  parts = refl;
+  fits = λ r o h. elim r [ true ↦ refl | false ↦ refl ];
+}
 
 abbrev pub reg-leaf : Leaf (byte Code.reg) Sort.value
 unfolding hasOperand inRange partCount partPlace fitsAt
-reg-leaf = record { make = reg; tree = λ o. refl; bytes = λ o l. refl; deep = λ o. refl; counted = λ n o. from-one (n .registers) o; eighth = refl; parts = refl; fits = λ r o h. elim r [ true ↦ refl | false ↦ refl ] }
+reg-leaf = record {
+  make = reg;
+  tree = λ o. refl;
+  bytes = λ o l. refl;
+  deep = λ o. refl;
+  counted = λ n o. from-one (n .registers) o;
+  eighth = refl;
+  parts = refl;
+  fits = λ r o h. elim r [ true ↦ refl | false ↦ refl ];
+}
 
 abbrev pub word-leaf : Leaf (byte Code.word) Sort.value
 unfolding hasOperand inRange partCount partPlace fitsAt
-word-leaf = record { make = word; tree = λ o. refl; bytes = λ o l. refl; deep = λ o. refl; counted = λ n o. from-one (n .words) o; eighth = refl; parts = refl; fits = unfit (byte Code.word) regValue value refl }
+word-leaf = record {
+  make = word;
+  tree = λ o. refl;
+  bytes = λ o l. refl;
+  deep = λ o. refl;
+  counted = λ n o. from-one (n .words) o;
+  eighth = refl;
+  parts = refl;
+  fits = unfit (byte Code.word) regValue value refl;
+}
 
 abbrev pub falsehood-leaf : Leaf (byte Code.false) Sort.test
 unfolding hasOperand inRange partCount partPlace fitsAt
-falsehood-leaf = record { make = λ o. Formula.false; tree = λ o. refl; bytes = λ o l. refl; deep = λ o. refl; counted = λ n o. refl; eighth = refl; parts = refl; fits = λ r o h. elim r [ true ↦ refl | false ↦ refl ] }
+falsehood-leaf = record {
+  make = λ o. Formula.false;
+  tree = λ o. refl;
+  bytes = λ o l. refl;
+  deep = λ o. refl;
+  counted = λ n o. refl;
+  eighth = refl;
+  parts = refl;
+  fits = λ r o h. elim r [ true ↦ refl | false ↦ refl ];
+}
 
 abbrev pub unsync-leaf : Leaf (byte Code.unsync) Sort.test
 unfolding hasOperand inRange partCount partPlace fitsAt
-unsync-leaf = record { make = unsync; tree = λ o. refl; bytes = λ o l. refl; deep = λ o. refl; counted = λ n o. from-one (n .words) o; eighth = refl; parts = refl; fits = unfit (byte Code.unsync) regTest test refl }
+unsync-leaf = record {
+  make = unsync;
+  tree = λ o. refl;
+  bytes = λ o l. refl;
+  deep = λ o. refl;
+  counted = λ n o. from-one (n .words) o;
+  eighth = refl;
+  parts = refl;
+  fits = unfit (byte Code.unsync) regTest test refl;
+}
 
 abbrev pub cov-leaf : Leaf (byte Code.cov) Sort.test
 unfolding hasOperand inRange partCount partPlace fitsAt
-cov-leaf = record { make = cov; tree = λ o. refl; bytes = λ o l. refl; deep = λ o. refl; counted = λ n o. from-one (n .words) o; eighth = refl; parts = refl; fits = unfit (byte Code.cov) regTest test refl }
+cov-leaf = record {
+  make = cov;
+  tree = λ o. refl;
+  bytes = λ o l. refl;
+  deep = λ o. refl;
+  counted = λ n o. from-one (n .words) o;
+  eighth = refl;
+  parts = refl;
+  fits = unfit (byte Code.cov) regTest test refl;
+}
 
 abbrev pub one-leaf : Leaf (byte Code.one) Sort.interval
 unfolding hasOperand inRange partCount partPlace fitsAt
-one-leaf = record { make = one; tree = λ o. refl; bytes = λ o l. refl; deep = λ o. refl; counted = λ n o. from-one (n .words) o; eighth = refl; parts = refl; fits = λ r o h. refl }
+one-leaf = record {
+  make = one;
+  tree = λ o. refl;
+  bytes = λ o l. refl;
+  deep = λ o. refl;
+  counted = λ n o. from-one (n .words) o;
+  eighth = refl;
+  parts = refl;
+  fits = λ r o h. refl;
+}
 
 abbrev pub start-leaf : Leaf (byte Code.start) Sort.assertion
 unfolding hasOperand inRange partCount partPlace fitsAt
-start-leaf = record { make = λ o. start; tree = λ o. refl; bytes = λ o l. refl; deep = λ o. refl; counted = λ n o. refl; eighth = refl; parts = refl; fits = λ r o h. refl }
+start-leaf = record {
+  make = λ o. start;
+  tree = λ o. refl;
+  bytes = λ o l. refl;
+  deep = λ o. refl;
+  counted = λ n o. refl;
+  eighth = refl;
+  parts = refl;
+  fits = λ r o h. refl;
+}
 
 abbrev pub negation-one : One (byte Code.not) Sort.test Sort.test
 unfolding hasOperand inRange partCount partPlace fitsAt
-negation-one = record { inner = λ r. r; make = λ o. Formula.not; tree = λ o f. refl; bytes = λ o f l. refl; deep = λ o f. refl; counted = λ n o f. refl; lone = λ r o f. refl; eighth = refl; parts = refl; fits = λ r. elim r [ true ↦ refl | false ↦ refl ]; inside = λ r. elim r [ true ↦ refl | false ↦ refl ] }
+negation-one = record {
+  inner = λ r. r;
+  make = λ o. Formula.not;
+  tree = λ o f. refl;
+  bytes = λ o f l. refl;
+  deep = λ o f. refl;
+  counted = λ n o f. refl;
+  lone = λ r o f. refl;
+  eighth = refl;
+  parts = refl;
+  fits = λ r. elim r [ true ↦ refl | false ↦ refl ];
+  inside = λ r. elim r [ true ↦ refl | false ↦ refl ];
+}
 
 abbrev pub box-one : One (byte Code.box) Sort.interval Sort.test
 unfolding hasOperand inRange partCount partPlace fitsAt
-box-one = record { inner = λ r. false; make = λ o. box; tree = λ o f. refl; bytes = λ o f l. refl; deep = λ o f. refl; counted = λ n o f. refl; lone = λ r o f. refl; eighth = refl; parts = refl; fits = λ r. refl; inside = λ r. refl }
+box-one = record {
+  inner = λ r. false;
+  make = λ o. box;
+  tree = λ o f. refl;
+  bytes = λ o f l. refl;
+  deep = λ o f. refl;
+  counted = λ n o f. refl;
+  lone = λ r o f. refl;
+  eighth = refl;
+  parts = refl;
+  fits = λ r. refl;
+  inside = λ r. refl;
+}
 
 abbrev pub sees-one : One (byte Code.sees) Sort.assertion Sort.interval
 unfolding hasOperand inRange partCount partPlace fitsAt
-sees-one = record { inner = λ r. false; make = sees; tree = λ o f. refl; bytes = λ o f l. refl; deep = λ o f. refl; counted = λ n o f. ap (λ b. b && inCounts n f) (from-one (n .threads) o); lone = λ r o f. refl; eighth = refl; parts = refl; fits = λ r. refl; inside = λ r. refl }
+sees-one = record {
+  inner = λ r. false;
+  make = sees;
+  tree = λ o f. refl;
+  bytes = λ o f l. refl;
+  deep = λ o f. refl;
+  counted = λ n o f. ap (λ b. b && inCounts n f) (from-one (n .threads) o);
+  lone = λ r o f. refl;
+  eighth = refl;
+  parts = refl;
+  fits = λ r. refl;
+  inside = λ r. refl;
+}
 
 abbrev pub holds-one : One (byte Code.holds) Sort.assertion Sort.test
 unfolding hasOperand inRange partCount partPlace fitsAt
-holds-one = record { inner = λ r. true; make = λ o. holds; tree = λ o f. refl; bytes = λ o f l. refl; deep = λ o f. refl; counted = λ n o f. refl; lone = λ r o f. refl; eighth = refl; parts = refl; fits = λ r. refl; inside = λ r. refl }
+holds-one = record {
+  inner = λ r. true;
+  make = λ o. holds;
+  tree = λ o f. refl;
+  bytes = λ o f l. refl;
+  deep = λ o f. refl;
+  counted = λ n o f. refl;
+  lone = λ r o f. refl;
+  eighth = refl;
+  parts = refl;
+  fits = λ r. refl;
+  inside = λ r. refl;
+}
 
 abbrev pub sum-two : Two (byte Code.sum) Sort.value Sort.value
 unfolding hasOperand partCount partPlace fitsAt
-sum-two = record { bare = refl; make = sum; tree = λ o f g. refl; bytes = λ o f g l. refl; deep = λ f g. refl; counted = λ n f g. refl; lone = lone-two; eighth = refl; parts = refl; fits = λ r. elim r [ true ↦ refl | false ↦ refl ]; inside = λ r. elim r [ true ↦ refl | false ↦ refl ] }
+sum-two = record {
+  bare = refl;
+  make = sum;
+  tree = λ o f g. refl;
+  bytes = λ o f g l. refl;
+  deep = λ f g. refl;
+  counted = λ n f g. refl;
+  lone = lone-two;
+  eighth = refl;
+  parts = refl;
+  fits = λ r. elim r [ true ↦ refl | false ↦ refl ];
+  inside = λ r. elim r [ true ↦ refl | false ↦ refl ];
+}
 
 abbrev pub equal-two : Two (byte Code.equal) Sort.test Sort.value
 unfolding hasOperand partCount partPlace fitsAt
-equal-two = record { bare = refl; make = equal; tree = λ o f g. refl; bytes = λ o f g l. refl; deep = λ f g. refl; counted = λ n f g. refl; lone = lone-two; eighth = refl; parts = refl; fits = λ r. elim r [ true ↦ refl | false ↦ refl ]; inside = λ r. elim r [ true ↦ refl | false ↦ refl ] }
+equal-two = record {
+  bare = refl;
+  make = equal;
+  tree = λ o f g. refl;
+  bytes = λ o f g l. refl;
+  deep = λ f g. refl;
+  counted = λ n f g. refl;
+  lone = lone-two;
+  eighth = refl;
+  parts = refl;
+  fits = λ r. elim r [ true ↦ refl | false ↦ refl ];
+  inside = λ r. elim r [ true ↦ refl | false ↦ refl ];
+}
 
 abbrev pub less-two : Two (byte Code.less) Sort.test Sort.value
 unfolding hasOperand partCount partPlace fitsAt
-less-two = record { bare = refl; make = less; tree = λ o f g. refl; bytes = λ o f g l. refl; deep = λ f g. refl; counted = λ n f g. refl; lone = lone-two; eighth = refl; parts = refl; fits = λ r. elim r [ true ↦ refl | false ↦ refl ]; inside = λ r. elim r [ true ↦ refl | false ↦ refl ] }
+less-two = record {
+  bare = refl;
+  make = less;
+  tree = λ o f g. refl;
+  bytes = λ o f g l. refl;
+  deep = λ f g. refl;
+  counted = λ n f g. refl;
+  lone = lone-two;
+  eighth = refl;
+  parts = refl;
+  fits = λ r. elim r [ true ↦ refl | false ↦ refl ];
+  inside = λ r. elim r [ true ↦ refl | false ↦ refl ];
+}
 
 abbrev pub and-two : Two (byte Code.and) Sort.test Sort.test
 unfolding hasOperand partCount partPlace fitsAt
-and-two = record { bare = refl; make = and; tree = λ o f g. refl; bytes = λ o f g l. refl; deep = λ f g. refl; counted = λ n f g. refl; lone = lone-two; eighth = refl; parts = refl; fits = λ r. elim r [ true ↦ refl | false ↦ refl ]; inside = λ r. elim r [ true ↦ refl | false ↦ refl ] }
+and-two = record {
+  bare = refl;
+  make = and;
+  tree = λ o f g. refl;
+  bytes = λ o f g l. refl;
+  deep = λ f g. refl;
+  counted = λ n f g. refl;
+  lone = lone-two;
+  eighth = refl;
+  parts = refl;
+  fits = λ r. elim r [ true ↦ refl | false ↦ refl ];
+  inside = λ r. elim r [ true ↦ refl | false ↦ refl ];
+}
 
 abbrev pub or-two : Two (byte Code.or) Sort.test Sort.test
 unfolding hasOperand partCount partPlace fitsAt
-or-two = record { bare = refl; make = or; tree = λ o f g. refl; bytes = λ o f g l. refl; deep = λ f g. refl; counted = λ n f g. refl; lone = lone-two; eighth = refl; parts = refl; fits = λ r. elim r [ true ↦ refl | false ↦ refl ]; inside = λ r. elim r [ true ↦ refl | false ↦ refl ] }
+or-two = record {
+  bare = refl;
+  make = or;
+  tree = λ o f g. refl;
+  bytes = λ o f g l. refl;
+  deep = λ f g. refl;
+  counted = λ n f g. refl;
+  lone = lone-two;
+  eighth = refl;
+  parts = refl;
+  fits = λ r. elim r [ true ↦ refl | false ↦ refl ];
+  inside = λ r. elim r [ true ↦ refl | false ↦ refl ];
+}
 
 abbrev pub chop-two : Two (byte Code.chop) Sort.interval Sort.interval
 unfolding hasOperand partCount partPlace fitsAt
-chop-two = record { bare = refl; make = chop; tree = λ o f g. refl; bytes = λ o f g l. refl; deep = λ f g. refl; counted = λ n f g. refl; lone = λ r f g. refl; eighth = refl; parts = refl; fits = λ r. refl; inside = λ r. refl }
+chop-two = record {
+  bare = refl;
+  make = chop;
+  tree = λ o f g. refl;
+  bytes = λ o f g l. refl;
+  deep = λ f g. refl;
+  counted = λ n f g. refl;
+  lone = λ r f g. refl;
+  eighth = refl;
+  parts = refl;
+  fits = λ r. refl;
+  inside = λ r. refl;
+}
 
 abbrev pub both-two : Two (byte Code.both) Sort.interval Sort.interval
 unfolding hasOperand partCount partPlace fitsAt
-both-two = record { bare = refl; make = both; tree = λ o f g. refl; bytes = λ o f g l. refl; deep = λ f g. refl; counted = λ n f g. refl; lone = λ r f g. refl; eighth = refl; parts = refl; fits = λ r. refl; inside = λ r. refl }
+both-two = record {
+  bare = refl;
+  make = both;
+  tree = λ o f g. refl;
+  bytes = λ o f g l. refl;
+  deep = λ f g. refl;
+  counted = λ n f g. refl;
+  lone = λ r f g. refl;
+  eighth = refl;
+  parts = refl;
+  fits = λ r. refl;
+  inside = λ r. refl;
+}
 
 abbrev pub either-two : Two (byte Code.either) Sort.interval Sort.interval
 unfolding hasOperand partCount partPlace fitsAt
-either-two = record { bare = refl; make = either; tree = λ o f g. refl; bytes = λ o f g l. refl; deep = λ f g. refl; counted = λ n f g. refl; lone = λ r f g. refl; eighth = refl; parts = refl; fits = λ r. refl; inside = λ r. refl }
+either-two = record {
+  bare = refl;
+  make = either;
+  tree = λ o f g. refl;
+  bytes = λ o f g l. refl;
+  deep = λ f g. refl;
+  counted = λ n f g. refl;
+  lone = λ r f g. refl;
+  eighth = refl;
+  parts = refl;
+  fits = λ r. refl;
+  inside = λ r. refl;
+}
 
 abbrev pub bothA-two : Two (byte Code.bothA) Sort.assertion Sort.assertion
 unfolding hasOperand partCount partPlace fitsAt
-bothA-two = record { bare = refl; make = bothA; tree = λ o f g. refl; bytes = λ o f g l. refl; deep = λ f g. refl; counted = λ n f g. refl; lone = λ r f g. refl; eighth = refl; parts = refl; fits = λ r. refl; inside = λ r. refl }
+bothA-two = record {
+  bare = refl;
+  make = bothA;
+  tree = λ o f g. refl;
+  bytes = λ o f g l. refl;
+  deep = λ f g. refl;
+  counted = λ n f g. refl;
+  lone = λ r f g. refl;
+  eighth = refl;
+  parts = refl;
+  fits = λ r. refl;
+  inside = λ r. refl;
+}
 
 abbrev pub eitherA-two : Two (byte Code.eitherA) Sort.assertion Sort.assertion
 unfolding hasOperand partCount partPlace fitsAt
-eitherA-two = record { bare = refl; make = eitherA; tree = λ o f g. refl; bytes = λ o f g l. refl; deep = λ f g. refl; counted = λ n f g. refl; lone = λ r f g. refl; eighth = refl; parts = refl; fits = λ r. refl; inside = λ r. refl }
+eitherA-two = record {
+  bare = refl;
+  make = eitherA;
+  tree = λ o f g. refl;
+  bytes = λ o f g l. refl;
+  deep = λ f g. refl;
+  counted = λ n f g. refl;
+  lone = λ r f g. refl;
+  eighth = refl;
+  parts = refl;
+  fits = λ r. refl;
+  inside = λ r. refl;
+}
 
 -- to show a thing of every formula, show it of each shape
 pub by-shape : (P : (s : Sort) → Formula s → Type 0) → ((c : ℕ) (p : Sort) (t : Leaf c p) (o : ℕ) → P p (t .make o))

@@ -47,7 +47,8 @@ tree-eq none none h = refl
 tree-eq none (node d p m s) h = absurd h
 tree-eq (node c o l r) none h = absurd h
 tree-eq (node c o l r) (node d p m s) h =
-    go (eqb→eq c d (search and-left)) (eqb→eq o p (search (and-left, and-right))) (tree-eq l m (search (and-left, and-right))) (tree-eq r s (search (and-left, and-right)))
+    go (eqb→eq c d (search and-left)) (eqb→eq o p (search (and-left, and-right))) (tree-eq l m (search (and-left, and-right)))
+    (tree-eq r s (search (and-left, and-right)))
   where
     go : c ≡ d → o ≡ p → l ≡ m → r ≡ s → node c o l r ≡ node d p m s
     go a b c d = cc
@@ -62,5 +63,6 @@ tree-refl (node c o l r) =
 -- comparison
 pub toTree-same : {s : Sort} (f g : Formula s) → sameTree (toTree f) (toTree g) ≡ same f g
 toTree-same f g =
-    bool-ext (sameTree (toTree f) (toTree g)) (same f g) (λ h. subst (λ z. T (same f z)) (toTree-eq f g (tree-eq (toTree f) (toTree g) h)) (same-refl f))
+    bool-ext (sameTree (toTree f) (toTree g)) (same f g)
+    (λ h. subst (λ z. T (same f z)) (toTree-eq f g (tree-eq (toTree f) (toTree g) h)) (same-refl f))
     (λ h. subst (λ z. T (sameTree (toTree f) (toTree z))) (same-eq f g h) (tree-refl (toTree f)))

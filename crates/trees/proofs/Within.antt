@@ -16,9 +16,11 @@ use Rattle.trees.specs.Place.{sortAt, formulaAt, overRegs, alone, inCoun
 use Rattle.trees.proofs.Passed.{Passed, passed, is-formula}
 
 -- a formula within the counts has constants that are values
-both-bounded : {s r : Sort} (n : Counts) (f : Formula s) (g : Formula r) → (T (inCounts n f) → T (bounded (n .values) f)) → (T (inCounts n g) → T (bounded (n .values) g))
+both-bounded : {s r : Sort} (n : Counts) (f : Formula s) (g : Formula r) → (T (inCounts n f) → T (bounded (n .values) f))
+    → (T (inCounts n g) → T (bounded (n .values) g))
     → T (inCounts n f && inCounts n g) → T (bounded (n .values) f && bounded (n .values) g)
-both-bounded n f g a b h = and-both (bounded (n .values) f) (bounded (n .values) g) (a (and-left (inCounts n f) (inCounts n g) h)) (b (and-right (inCounts n f) (inCounts n g) h))
+both-bounded n f g a b h = and-both (bounded (n .values) f) (bounded (n .values) g) (a (and-left (inCounts n f) (inCounts n g) h))
+    (b (and-right (inCounts n f) (inCounts n g) h))
 
 counts-bounded : {s : Sort} (n : Counts) (f : Formula s) → T (inCounts n f) → T (bounded (n .values) f)
 counts-bounded n (const v) = λ h. h
@@ -46,7 +48,8 @@ counts-bounded n (holds f) = counts-bounded n f
 
 module _ (s : List ℕ) (n : Counts) (k at : ℕ) where
   -- what is true of the formula passed is true of the one that stands there
-  there : (p : ℕ) (P : Formula (sortAt p) → Type 0) → faultAt s n k p at ≡ 0 → ((q : Passed s n k p at) → P (q .formula)) → P (formulaAt s k p at)
+  there : (p : ℕ) (P : Formula (sortAt p) → Type 0) → faultAt s n k p at ≡ 0 → ((q : Passed s n k p at) → P (q .formula))
+      → P (formulaAt s k p at)
   there p P h f = subst P (sym (is-formula s n k p at (passed s n k p at h))) (f (passed s n k p at h))
 
   pub reads-counts : (p : ℕ) → faultAt s n k p at ≡ 0 → T (inCounts n (formulaAt s k p at))

@@ -17,7 +17,8 @@ use Rattle.trees.specs.ToTree.{ofTree}
 -- the sort of a place; where no code fits, any will do
 abbrev pub sortAt : ℕ → Sort
 sortAt p =
-    cond (eqb p value) Sort.value (cond (eqb p test) Sort.test (cond (eqb p interval) Sort.interval (cond (eqb p assertion) Sort.assertion (cond (eqb p regValue) Sort.value Sort.test))))
+    cond (eqb p value) Sort.value (cond (eqb p test) Sort.test
+    (cond (eqb p interval) Sort.interval (cond (eqb p assertion) Sort.assertion (cond (eqb p regValue) Sort.value Sort.test))))
 
 -- the place of a sort, over registers alone if r
 abbrev pub place : Bool → Sort → ℕ

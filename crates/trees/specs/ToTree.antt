@@ -1,4 +1,5 @@
--- Formulas as trees, and trees read as formulas of a sort, whatever they are: the link between the logic and what the code's contracts speak of.
+-- Formulas as trees, and trees read as formulas of a sort, whatever they are: the link between the logic and what the code's contracts
+-- speak of.
 use mathlib.Core.Path.{_≡_}
 use mathlib.Core.Bool.{true, false}
 use Prim.Native.Nat.{ℕ}
@@ -46,16 +47,20 @@ ofTree Sort.value (node c o l r) =
     case c (byte Code.reg) (reg o) (case c (byte Code.word) (word o)
     (case c (byte Code.sum) (sum (ofTree Sort.value l) (ofTree Sort.value r)) (const o)))
 ofTree Sort.test (node c o l r) =
-    case c (byte Code.equal) (equal (ofTree Sort.value l) (ofTree Sort.value r)) (case c (byte Code.less) (less (ofTree Sort.value l) (ofTree Sort.value r))
+    case c (byte Code.equal) (equal (ofTree Sort.value l) (ofTree Sort.value r))
+    (case c (byte Code.less) (less (ofTree Sort.value l) (ofTree Sort.value r))
     (case c (byte Code.not) (Formula.not (ofTree Sort.test l)) (case c (byte Code.and) (and (ofTree Sort.test l) (ofTree Sort.test r))
-    (case c (byte Code.or) (or (ofTree Sort.test l) (ofTree Sort.test r)) (case c (byte Code.unsync) (unsync o) (case c (byte Code.cov) (cov o) Formula.false))))))
+    (case c (byte Code.or) (or (ofTree Sort.test l) (ofTree Sort.test r))
+    (case c (byte Code.unsync) (unsync o) (case c (byte Code.cov) (cov o) Formula.false))))))
 ofTree Sort.interval (node c o l r) =
     case c (byte Code.box) (box (ofTree Sort.test l)) (case c (byte Code.chop) (chop (ofTree Sort.interval l) (ofTree Sort.interval r))
     (case c (byte Code.both) (both (ofTree Sort.interval l) (ofTree Sort.interval r))
     (case c (byte Code.either) (either (ofTree Sort.interval l) (ofTree Sort.interval r)) (one o))))
 ofTree Sort.assertion (node c o l r) =
-    case c (byte Code.sees) (sees o (ofTree Sort.interval l)) (case c (byte Code.bothA) (bothA (ofTree Sort.assertion l) (ofTree Sort.assertion r))
-    (case c (byte Code.eitherA) (eitherA (ofTree Sort.assertion l) (ofTree Sort.assertion r)) (case c (byte Code.holds) (holds (ofTree Sort.test l)) start)))
+    case c (byte Code.sees) (sees o (ofTree Sort.interval l))
+    (case c (byte Code.bothA) (bothA (ofTree Sort.assertion l) (ofTree Sort.assertion r))
+    (case c (byte Code.eitherA) (eitherA (ofTree Sort.assertion l) (ofTree Sort.assertion r))
+    (case c (byte Code.holds) (holds (ofTree Sort.test l)) start)))
 
 -- the tree is a formula of the sort
 abbrev pub Sorted : Sort → Tree → Type 0

@@ -5,7 +5,7 @@ use Prim.Native.Nat.{ℕ, _+_, _≤_}
 use borrow.Author.Tests.{eq-eqb, ne-eqb}
 use lib.ListN.{length}
 use Rattle.frames.specs.Kinds as Kinds
-use Rattle.program.specs.Thread.{instructions}
+use Rattle.threads.specs.Thread.{instructions}
 use Rattle.document.specs.Encode.{threadBytes, lineBytes, claimBytes}
 use Rattle.document.specs.Parse.{lineRecord, claimRecord}
 use Rattle.put.specs.Overwritten.{overwritten}

@@ -9,7 +9,7 @@ use lib.ListN.{length, getD, drop}
 use Rattle.logic.specs.Obligations.{flat}
 use Rattle.limits.specs.Numbers.{numbers}
 use Rattle.frames.specs.Kinds as Kinds
-use Rattle.program.specs.Thread.{instructions}
+use Rattle.threads.specs.Thread.{instructions}
 use Rattle.program.specs.declared.sizes.Sizes.{Sizes}
 use Rattle.program.specs.declared.instruction.Instruction.{Instruction}
 use Rattle.image.specs.Decode.{recordCount}

@@ -6,7 +6,7 @@ use lib.Dec.{eqb}
 use lib.ListN.{getD}
 use Rattle.limits.specs.Numbers.{numbers}
 use Rattle.frames.specs.Kinds as Kinds
-use Rattle.program.specs.Thread.{instructions}
+use Rattle.threads.specs.Thread.{instructions}
 use Rattle.document.specs.Encode.{framed, entry, threadBytes, numberBytes, lineBytes, claimBytes}
 use Rattle.document.specs.Parse.{lineRecord, claimRecord}
 use Rattle.put.specs.Renewed.{renewed, renewedInstruction, renewedLine, renewedClaim}

@@ -29,7 +29,8 @@ module _ (code written stored : ℕ) (room s trimmed : List ℕ) (e : stored ≡
   unfolding sameAnswer codeAt
   length-other h z = rw (← e, eq-eqb _ _ h, ne-eqb _ _ z)
 
-  pub room-compared : (r : Bool) → code ≡ stored → written ≡ length trimmed → r ≡ holds room trimmed blank → r ≡ sameAnswer code written room s trimmed
+  pub room-compared : (r : Bool) → code ≡ stored → written ≡ length trimmed → r ≡ holds room trimmed blank
+      → r ≡ sameAnswer code written room s trimmed
   unfolding sameAnswer codeAt
   room-compared r h z q = rw (← e, eq-eqb _ _ h, eq-eqb _ _ z) q
 

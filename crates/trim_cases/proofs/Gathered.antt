@@ -34,12 +34,14 @@ module _ (s r : List ℕ) (n : ℕ) (e : n ≡ lentAt s) (q : r ≡ room) where
       let h = lent-within s n e in
       let z : length r ≡ most = room-length q in rw (length-append after (drop n r), l, length-drop n r, z, ← lent-front) (omega arith)
 
-  pub trimmed-counted : (image after trimmed : List ℕ) (t u : Tally) (code written : ℕ) (same : Bool) → Promise image (take n r) code written after
+  pub trimmed-counted : (image after trimmed : List ℕ) (t u : Tally) (code written : ℕ) (same : Bool)
+      → Promise image (take n r) code written after
       → same ≡ sameAnswer code written (after ++ drop n r) s trimmed → u ≡ withCase t code same → Counted image s trimmed t u
   trimmed-counted image after trimmed t u code written same w d g =
       record { code = code; written = written; after = after; called = rw (← e, ← q) w; counted = rw (← e, ← q, ← d) g }
 
-pub running-trimmed : (t r : Tally) (left : ℕ) (image s trimmed : List ℕ) → 0 < left → Running t left → Counted image s trimmed t r → Running r (left - 1)
+pub running-trimmed : (t r : Tally) (left : ℕ) (image s trimmed : List ℕ) → 0 < left → Running t left → Counted image s trimmed t r
+    → Running r (left - 1)
 running-trimmed t r left image s trimmed h f c =
     running-more t r left (c .code) (sameAnswer (c .code) (c .written) (c .after ++ drop (lentAt s) room) s trimmed) h f (c .counted)
 

@@ -90,7 +90,13 @@ module _ (D : Document) (N : Named D) (F : Written D) (T : Trimming (used D) (ke
 
     -- the new image with the old program and outline
     abbrev same : Image
-    same = record { program = withPoints P p; outline = outlineOf z l; certificate = certificateOf z′ l′; named = namedLine z′ l′; claims = claimsOf z′ l′ }
+    same = record {
+      program = withPoints P p;
+      outline = outlineOf z l;
+      certificate = certificateOf z′ l′;
+      named = namedLine z′ l′;
+      claims = claimsOf z′ l′;
+    }
 
     image-is : new ≡ same
     image-is = λ i. record {
@@ -119,7 +125,9 @@ module _ (D : Document) (N : Named D) (F : Written D) (T : Trimming (used D) (ke
       where
         go : (b : Bool) → ltb k (length (D .obligations)) ≡ b → Rests D (getD (D .obligations) k 0)
         go true e = obligation k (ltb-true k (length (D .obligations)) e)
-        go false e = absurd (h (Content.named-old D N F T O B k ∙ List·getD-eq-default (D .obligations) 0 (ltb-false k (length (D .obligations)) e)))
+        go false e =
+            absurd
+            (h (Content.named-old D N F T O B k ∙ List·getD-eq-default (D .obligations) 0 (ltb-false k (length (D .obligations)) e)))
 
     owed-same : obligations (withPoints P p) ≡ obligations P
     unfolding sizes sizesOf
@@ -131,11 +139,14 @@ module _ (D : Document) (N : Named D) (F : Written D) (T : Trimming (used D) (ke
     met-same : EachMet old → EachMet same
     met-same h k b =
         let o : Obligation = numbered old k in
-        let m : Bears old (asks old o) (namedLine z l k) = h k (let q : length (obligations (withPoints P p)) ≡ length (obligations P) = ap length owed-same in omega arith) in
+        let m : Bears old (asks old o) (namedLine z l k) =
+        h k (let q : length (obligations (withPoints P p)) ≡ length (obligations P) = ap length owed-same in omega arith) in
         let e : numbered same k ≡ o = ap (λ (os : List Obligation). getD os k (start 0)) owed-same in
-        let d : asks same (numbered same k) ≡ asks old o = ap (wants (withPoints P p) (outlineOf z l)) e ∙ wants-same P p (outlineOf z l) o in
+        let d : asks same (numbered same k) ≡ asks old o = ap (wants (withPoints P p) (outlineOf z l)) e
+        ∙ wants-same P p (outlineOf z l) o in
         let r : Bears same (asks old o) (g (namedLine z l k)) = bears-kept (asks old o) (namedLine z l k) (named-rests k (m .there)) m in
-        subst (λ (w : Statement). Bears same w (namedLine z′ l′ k)) (sym d) (subst (Bears same (asks old o)) (sym (Content.named-kept D N F T O B k)) r)
+        subst (λ (w : Statement). Bears same w (namedLine z′ l′ k)) (sym d)
+        (subst (Bears same (asks old o)) (sym (Content.named-kept D N F T O B k)) r)
 
     pub met-kept : EachMet old → EachMet new
     met-kept h = subst EachMet (sym image-is) (met-same h)
@@ -148,7 +159,8 @@ module _ (D : Document) (N : Named D) (F : Written D) (T : Trimming (used D) (ke
         let e : forbids same i ≡ forbids old i = ap (claims (outlineOf z l)) (Content.claim-kept D N F T O B i c) in
         let q : Rests D (word (drop 4 (claimBody z l i))) = subst (Rests D) (sym (Content.claimed-old D N F T O B i c)) (claim i c) in
         subst (λ (w : Statement). Bears same w (word (drop 4 (claimBody z′ l′ i)))) (sym e)
-        (subst (Bears same (forbids old i)) (sym (Content.claimed-kept D N F T O B i c)) (bears-kept (forbids old i) (word (drop 4 (claimBody z l i))) q m))
+        (subst (Bears same (forbids old i)) (sym (Content.claimed-kept D N F T O B i c))
+        (bears-kept (forbids old i) (word (drop 4 (claimBody z l i))) q m))
 
     pub sustained-kept : EachSustained old → EachSustained new
     sustained-kept h = subst EachSustained (sym image-is) (sustained-same h)

@@ -9,7 +9,7 @@ use borrow.Author.Tests.{eq-eqb}
 use Rattle.limits.specs.Numbers.{word, within}
 use Rattle.limits.proofs.Inverse.{and-true, within-true}
 use Rattle.frames.specs.declared.fault.Checked.the-variants.{Passed}
-use Rattle.program.specs.Thread.{lastPoint}
+use Rattle.threads.specs.Thread.{lastPoint}
 use Rattle.records.specs.Places.{threadBody}
 use Rattle.records.specs.Claim.{pointThere, different, claimed, claim}
 use Rattle.image.specs.Decode.{sizesOf}

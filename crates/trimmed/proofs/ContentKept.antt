@@ -15,7 +15,7 @@ use Rattle.limits.specs.Numbers.{nth, word, numbers, within}
 use Rattle.limits.proofs.Inverse.{within-true, every-at}
 use Rattle.content.proofs.Lines.{in-range}
 use Rattle.header.specs.Header.{startValues, cleared, valueRange, threadCount}
-use Rattle.program.specs.Thread.{nothing, instructions, lastPoint}
+use Rattle.threads.specs.Thread.{nothing, instructions, lastPoint}
 use Rattle.program.specs.declared.sizes.Sizes.{Sizes}
 use Rattle.program.specs.declared.instruction.Instruction.{Instruction}
 use Rattle.records.specs.Places.{threadBody, instructionOf}
@@ -95,7 +95,11 @@ module _ (D : Document) (N : Named D) (F : Written D) (T : Trimming (used D) (ke
 
   instr-kept : (i : Instruction) → Formulas.Named T (i .formula) → Formulas.Named T (i .second .formula) → instr l′ (by i) ≡ instr l i
   unfolding instr instructionBy halfBy
-  instr-kept i h w = rw (read-kept Sort.value (i .formula) h, read-kept Sort.test (i .formula) h, read-kept Sort.value (i .second .formula) w)
+  instr-kept i h w = rw (
+    read-kept Sort.value (i .formula) h,
+    read-kept Sort.test (i .formula) h,
+    read-kept Sort.value (i .second .formula) w,
+  )
 
   both-named : (t p : ℕ) → Formulas.Named T (instructionOf z l t p .formula) × Formulas.Named T (instructionOf z l t p .second .formula)
   unfolding instructionOf sizes sizesOf
@@ -104,13 +108,16 @@ module _ (D : Document) (N : Named D) (F : Written D) (T : Trimming (used D) (ke
       Fine : Instruction → Type 0
       Fine i = Formulas.Named T (i .formula) × Formulas.Named T (i .second .formula)
 
-      here : (j : ℕ) → j < length (D .threads) → (b : Bool) → ltb p (length (getD (D .threads) j [])) ≡ b → Fine (getD (getD (D .threads) j []) p nothing)
-      here j a true e = let c = ltb-true p (length (getD (D .threads) j [])) e in (used-named _ (instruction j p a c), used-named _ (second j p a c))
+      here : (j : ℕ) → j < length (D .threads) → (b : Bool) → ltb p (length (getD (D .threads) j [])) ≡ b
+          → Fine (getD (getD (D .threads) j []) p nothing)
+      here j a true e = let c = ltb-true p (length (getD (D .threads) j [])) e in
+          (used-named _ (instruction j p a c), used-named _ (second j p a c))
       here j a false e =
           let c = ltb-false p (length (getD (D .threads) j [])) e in
           subst Fine (sym (List·getD-eq-default (getD (D .threads) j []) nothing c)) (none-named, none-named)
 
-      go : (a b : Bool) → eqb t 0 ≡ a → ltb (z .threads) t ≡ b → Fine (cond a nothing (cond b nothing (getD (instructions (threadBody z l t)) p nothing)))
+      go : (a b : Bool) → eqb t 0 ≡ a → ltb (z .threads) t ≡ b
+          → Fine (cond a nothing (cond b nothing (getD (instructions (threadBody z l t)) p nothing)))
       go true b e d = (none-named, none-named)
       go false true e d = (none-named, none-named)
       go false false e d =
@@ -118,8 +125,10 @@ module _ (D : Document) (N : Named D) (F : Written D) (T : Trimming (used D) (ke
           let h = ltb-false (z .threads) t d in
           let s = T .threads in
           let high : t ≤ length (D .threads) = omega arith in
-          subst (λ (is : List Instruction). Fine (getD is p nothing)) (sym (ap instructions (old-body T t (omega arith) high) ∙ old-instructions T t (omega arith) high))
-          (each-nth (λ is. Fine (getD is p nothing)) [] (D .threads) t (omega arith) high (λ j a. here j a (ltb p (length (getD (D .threads) j []))) refl))
+          subst (λ (is : List Instruction). Fine (getD is p nothing))
+          (sym (ap instructions (old-body T t (omega arith) high) ∙ old-instructions T t (omega arith) high))
+          (each-nth (λ is. Fine (getD is p nothing)) [] (D .threads) t (omega arith) high
+          (λ j a. here j a (ltb p (length (getD (D .threads) j []))) refl))
 
   code-kept : (t p : ℕ) → instr l′ (instructionOf z′ l′ t p) ≡ instr l (instructionOf z l t p)
   code-kept t p = let h = both-named t p in ap (instr l′) (instruction-kept T t p) ∙ instr-kept (instructionOf z l t p) (h .0) (h .1)
@@ -162,7 +171,8 @@ module _ (D : Document) (N : Named D) (F : Written D) (T : Trimming (used D) (ke
     number-kept t k = rw (outline-new, outline-old) (go (eqb t 0) (ltb (z .threads) t) refl)
       where
         go : (a b : Bool) → ltb (z .threads) t ≡ b
-            → cond a 0 (cond b 0 (getD (E .outline) (tallyTo z′ l′ (t - 1) .points + k) 0)) ≡ f (cond a 0 (cond b 0 (getD (D .outline) (tallyTo z l (t - 1) .points + k) 0)))
+            → cond a 0 (cond b 0 (getD (E .outline) (tallyTo z′ l′ (t - 1) .points + k) 0)) ≡ f
+            (cond a 0 (cond b 0 (getD (D .outline) (tallyTo z l (t - 1) .points + k) 0)))
         go true b e = sym (renumbered-0 (used D))
         go false true e = sym (renumbered-0 (used D))
         go false false e =
@@ -187,7 +197,8 @@ module _ (D : Document) (N : Named D) (F : Written D) (T : Trimming (used D) (ke
         go false false = outline-named (tallyTo z l (t - 1) .points + k)
 
     pub outline-kept : (t k : ℕ) → outlineOf z′ l′ t k ≡ outlineOf z l t k
-    outline-kept t k = ap (formula l′ Sort.assertion) (number-kept t k) ∙ read-kept Sort.assertion (outlineNumber z l t k) (number-named t k)
+    outline-kept t k = ap (formula l′ Sort.assertion) (number-kept t k)
+        ∙ read-kept Sort.assertion (outlineNumber z l t k) (number-named t k)
 
     -- the lines that stay
     pub record Line-stays (n : ℕ) : Type 0 where
@@ -204,7 +215,8 @@ module _ (D : Document) (N : Named D) (F : Written D) (T : Trimming (used D) (ke
 
       new-line : lineBody z′ l′ (g n) ≡ lineBytes (lineBy f g v)
       new-line =
-          Places.line-at E same-threads (g n) (renumbered-low (kept D) n (S .low) (S .mark)) (Moved.line-there (used D) (kept D) D n (S .high))
+          Places.line-at E same-threads (g n) (renumbered-low (kept D) n (S .low) (S .mark))
+          (Moved.line-there (used D) (kept D) D n (S .high))
           ∙ ap lineBytes (Moved.line-at (used D) (kept D) D n (S .low) (S .high) (S .mark))
 
       old-fits : LineFits v
@@ -250,7 +262,13 @@ module _ (D : Document) (N : Named D) (F : Written D) (T : Trimming (used D) (ke
       says-kept Triple = rw (left-same Sort.assertion, right-same Sort.assertion, thread-same, point-same)
       says-kept Implication = rw (left-same Sort.assertion, right-same Sort.assertion)
       says-kept Inclusion = rw (left-same Sort.interval, right-same Sort.interval)
-      says-kept Pair = rw (left-same Sort.assertion, right-same Sort.assertion, thread-same, point-same, code-kept (getD b 1 0) (getD b 2 0))
+      says-kept Pair = rw (
+        left-same Sort.assertion,
+        right-same Sort.assertion,
+        thread-same,
+        point-same,
+        code-kept (getD b 1 0) (getD b 2 0),
+      )
       says-kept Unlisted = rw (left-same Sort.interval, right-same Sort.interval)
 
       rule-same : getD b′ 0 0 ≡ getD b 0 0
@@ -275,9 +293,11 @@ module _ (D : Document) (N : Named D) (F : Written D) (T : Trimming (used D) (ke
     unfolding sizes sizesOf
     premise-stays n i S h =
         let ps : List ℕ = premises (lineBody z l n) in
-        let w = within-true 1 (n - 1) (getD ps i 0) (every-at (within 1 (n - 1)) ps i 0 (in-range z l (T .checks) n (S .low) (S .high) .2) h) in
+        let w = within-true 1 (n - 1) (getD ps i 0) (every-at (within 1 (n - 1)) ps i 0 (in-range z l (T .checks) n (S .low) (S .high) .2)
+        h) in
         let e : ps ≡ nth (D .lines) n noLine .premises = old-premises n S in
-        let r : Rests D (getD ps i 0) = subst (λ (q : List ℕ). i < length q → Rests D (getD q i 0)) (sym e) (λ b. premise n i (S .low) (S .high) (kept-rests D N n (S .mark)) b) h in
+        let r : Rests D (getD ps i 0) = subst (λ (q : List ℕ). i < length q → Rests D (getD q i 0)) (sym e)
+        (λ b. premise n i (S .low) (S .high) (kept-rests D N n (S .mark)) b) h in
         let k = rests-kept D N (getD ps i 0) r in
         record { low = w .0; high = k .0; mark = k .1 }
 

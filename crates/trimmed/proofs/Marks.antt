@@ -102,14 +102,17 @@ module _ {A : Type 0} where
   chosen-length (true ∷ m) (x ∷ l) = let h = chosen-length m l in omega arith
   chosen-length (false ∷ m) (x ∷ l) = let h = chosen-length m l in omega arith
 
-  pub chosen-at : (m : List Bool) (l : List A) (d : A) (n : ℕ) → n < length l → getD m n false ≡ true → getD (chosen m l) (setBelow n m) d ≡ getD l n d
+  pub chosen-at : (m : List Bool) (l : List A) (d : A) (n : ℕ) → n < length l → getD m n false ≡ true
+      → getD (chosen m l) (setBelow n m) d ≡ getD l n d
   unfolding chosen setBelow
   chosen-at [] l d n b e = absurd (clash e)
   chosen-at (b ∷ m) [] d n h e = absurd (omega arith)
   chosen-at (true ∷ m) (x ∷ l) d zero h e = refl
   chosen-at (false ∷ m) (x ∷ l) d zero h e = absurd (clash e)
-  chosen-at (true ∷ m) (x ∷ l) d (suc n) h e = let q : 1 + setBelow n m ≡ suc (setBelow n m) = omega arith in rw q (chosen-at m l d n (omega arith) e)
-  chosen-at (false ∷ m) (x ∷ l) d (suc n) h e = let q : 0 + setBelow n m ≡ setBelow n m = omega arith in rw q (chosen-at m l d n (omega arith) e)
+  chosen-at (true ∷ m) (x ∷ l) d (suc n) h e = let q : 1 + setBelow n m ≡ suc (setBelow n m) = omega arith in
+      rw q (chosen-at m l d n (omega arith) e)
+  chosen-at (false ∷ m) (x ∷ l) d (suc n) h e = let q : 0 + setBelow n m ≡ setBelow n m = omega arith in
+      rw q (chosen-at m l d n (omega arith) e)
 
   -- where the chosen member i stood
   pub record Chosen (m : List Bool) (l : List A) (i : ℕ) : Type 0 where

@@ -34,7 +34,8 @@ found-either (x ∷ l) r n f = go (λ (g : Found (l ++ r) n). on (found-either l
     on (inl g) = inl (later x l n g)
     on (inr g) = inr g
 
-    go : (Found (l ++ r) n → Found (x ∷ l) n ⊎ Found r n) → (i : ℕ) → i < length ((x ∷ l) ++ r) → getD ((x ∷ l) ++ r) i 0 ≡ n → Found (x ∷ l) n ⊎ Found r n
+    go : (Found (l ++ r) n → Found (x ∷ l) n ⊎ Found r n) → (i : ℕ) → i < length ((x ∷ l) ++ r) → getD ((x ∷ l) ++ r) i 0 ≡ n
+        → Found (x ∷ l) n ⊎ Found r n
     go more zero b e = inl (record { place = 0; there = omega arith; is = e })
     go more (suc i) b e = more (record { place = i; there = omega arith; is = e })
 

@@ -6,7 +6,7 @@ use Prim.Native.Nat.{ℕ, zero, suc, _+_, _≤_, _<_}
 use native.Mathlib.Omega.{arith}
 use lib.ListN.{length, getD, length-map, List·getD-map}
 use Rattle.limits.specs.Numbers.{nth}
-use Rattle.program.specs.Thread.{nothing}
+use Rattle.threads.specs.Thread.{nothing}
 use Rattle.program.specs.declared.instruction.Instruction.{Instruction}
 use Rattle.document.specs.Document.{Document, LineRecord, ClaimRecord}
 use Rattle.document.specs.Canonical.{noLine, noClaim}
@@ -83,11 +83,14 @@ module _ (u k : List Bool) (D : Document) where
   pub claim-at : (i : ℕ) → getD (E .claims) i noClaim ≡ claimBy f g (getD (D .claims) i noClaim)
   claim-at i = map-at (claimBy f g) (D .claims) noClaim noClaim i no-claim
 
-  pub line-at : (n : ℕ) → 1 ≤ n → n ≤ length (D .lines) → getD k n false ≡ true → nth (E .lines) (g n) noLine ≡ lineBy f g (nth (D .lines) n noLine)
-  line-at n a b e = map-nth (lineBy f g) (selected k (D .lines)) noLine noLine (g n) no-line ∙ ap (lineBy f g) (selected-nth k (D .lines) noLine n a b e)
+  pub line-at : (n : ℕ) → 1 ≤ n → n ≤ length (D .lines) → getD k n false ≡ true
+      → nth (E .lines) (g n) noLine ≡ lineBy f g (nth (D .lines) n noLine)
+  line-at n a b e = map-nth (lineBy f g) (selected k (D .lines)) noLine noLine (g n) no-line
+      ∙ ap (lineBy f g) (selected-nth k (D .lines) noLine n a b e)
 
   -- its premises
-  pub premises-length : (n : ℕ) → 1 ≤ n → n ≤ length (D .lines) → getD k n false ≡ true → length (nth (E .lines) (g n) noLine .premises) ≡ length (nth (D .lines) n noLine .premises)
+  pub premises-length : (n : ℕ) → 1 ≤ n → n ≤ length (D .lines) → getD k n false ≡ true
+      → length (nth (E .lines) (g n) noLine .premises) ≡ length (nth (D .lines) n noLine .premises)
   unfolding lineBy
   premises-length n a b e = rw (line-at n a b e) (length-map (nth (D .lines) n noLine .premises) g)
 

@@ -14,7 +14,15 @@ use Rattle.logic.specs.Obligations.{Obligation, below, upTo, flat, own, acting,
 
 -- the same program, but for points
 abbrev pub withPoints : Program → (ℕ → ℕ) → Program
-withPoints P p = record { threads = P .threads; words = P .words; range = P .range; init = P .init; cleared = P .cleared; points = p; code = P .code }
+withPoints P p = record {
+  threads = P .threads;
+  words = P .words;
+  range = P .range;
+  init = P .init;
+  cleared = P .cleared;
+  points = p;
+  code = P .code;
+}
 
 module _ (P : Program) (p : ℕ → ℕ) where
   pub repointed : {r : Rule} {ps : List Statement} {s : Statement} → Inference P r ps s → Inference (withPoints P p) r ps s
@@ -97,17 +105,22 @@ module _ (P : Program) (p : ℕ → ℕ) (same : (t : ℕ) → Within (P .thread
   assertions-same : (t k u : ℕ) → Within (P .threads) u → assertions Q t k u ≡ assertions P t k u
   assertions-same t k u w =
       ap (λ (l : List Obligation). elim (eqb t u) [ true ↦ [] | false ↦ l ])
-      (rw (same u w) (flat-ext (λ j. acting Q u j t k (P .code t k)) (λ j. acting P u j t k (P .code t k)) (λ j. acting-same u j t k (P .code t k)) (below (P .points u))))
+      (rw (same u w) (flat-ext (λ j. acting Q u j t k (P .code t k)) (λ j. acting P u j t k (P .code t k))
+      (λ j. acting-same u j t k (P .code t k)) (below (P .points u))))
 
   steps-same : steps Q ≡ steps P
   steps-same =
-      flat-same (λ t. flat (λ k. own Q t k (P .code t k)) (instructed Q t)) (λ t. flat (λ k. own P t k (P .code t k)) (instructed P t)) (P .threads)
-      (λ t w. rw (same t w) (flat-ext (λ k. own Q t k (P .code t k)) (λ k. own P t k (P .code t k)) (λ k. own-same t k (P .code t k)) (instructed P t)))
+      flat-same (λ t. flat (λ k. own Q t k (P .code t k)) (instructed Q t)) (λ t. flat (λ k. own P t k (P .code t k)) (instructed P t))
+      (P .threads)
+      (λ t w. rw (same t w) (flat-ext (λ k. own Q t k (P .code t k)) (λ k. own P t k (P .code t k)) (λ k. own-same t k (P .code t k))
+      (instructed P t)))
 
   interferences-same : interferences Q ≡ interferences P
   interferences-same =
-      flat-same (λ t. flat (λ k. flat (λ u. assertions Q t k u) (upTo (P .threads))) (instructed Q t)) (λ t. flat (λ k. flat (λ u. assertions P t k u) (upTo (P .threads))) (instructed P t)) (P .threads)
-      (λ t w. rw (same t w) (flat-ext (λ k. flat (λ u. assertions Q t k u) (upTo (P .threads))) (λ k. flat (λ u. assertions P t k u) (upTo (P .threads)))
+      flat-same (λ t. flat (λ k. flat (λ u. assertions Q t k u) (upTo (P .threads))) (instructed Q t))
+      (λ t. flat (λ k. flat (λ u. assertions P t k u) (upTo (P .threads))) (instructed P t)) (P .threads)
+      (λ t w. rw (same t w) (flat-ext (λ k. flat (λ u. assertions Q t k u) (upTo (P .threads)))
+      (λ k. flat (λ u. assertions P t k u) (upTo (P .threads)))
       (λ k. flat-same (λ u. assertions Q t k u) (λ u. assertions P t k u) (P .threads) (λ u v. assertions-same t k u v)) (instructed P t)))
 
   pub obligations-same : obligations Q ≡ obligations P

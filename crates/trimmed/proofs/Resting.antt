@@ -64,22 +64,26 @@ module _ (l : List LineRecord) where
     keptTo-above : (n : ℕ) (m : List Bool) (j : ℕ) → n ≤ length l → n ≤ j → getD (keptTo l n m) j false ≡ true → getD m j false ≡ true
     unfolding keptTo
     keptTo-above zero m j a b e = e
-    keptTo-above (suc n) m j a b e = go (next-from (getD m (suc n) false) (suc n) m j refl (keptTo-above n (next (suc n) m) j (omega arith) (omega arith) e))
+    keptTo-above (suc n) m j a b e = go (next-from (getD m (suc n) false) (suc n) m j refl
+        (keptTo-above n (next (suc n) m) j (omega arith) (omega arith) e))
       where
         go : (getD m j false ≡ true) ⊎ ((getD m (suc n) false ≡ true) × Found (premises (suc n)) j) → getD m j false ≡ true
         go (inl d) = d
         go (inr p) = absurd (let h = lower-found (suc n) j (omega arith) a (p .1) in omega arith)
 
     -- a line with a mark has its premises marked
-    pub keptTo-closed : (n : ℕ) (m : List Bool) (j i : ℕ) → n ≤ length l → n < length m → 1 ≤ j → j ≤ n → getD (keptTo l n m) j false ≡ true → i < length (premises j)
+    pub keptTo-closed : (n : ℕ) (m : List Bool) (j i : ℕ) → n ≤ length l → n < length m → 1 ≤ j → j ≤ n
+        → getD (keptTo l n m) j false ≡ true → i < length (premises j)
         → getD (keptTo l n m) (getD (premises j) i 0) false ≡ true
     unfolding keptTo
     keptTo-closed zero m j i a w b c e h = absurd (omega arith)
     keptTo-closed (suc n) m j i a w b c e h = go (eqb j (suc n)) refl
-        (λ (q : j ≤ n). keptTo-closed n (next (suc n) m) j i (omega arith) (let r = next-length (getD m (suc n) false) (suc n) m in omega arith) b q e h)
+        (λ (q : j ≤ n). keptTo-closed n (next (suc n) m) j i (omega arith)
+        (let r = next-length (getD m (suc n) false) (suc n) m in omega arith) b q e h)
       where
         -- the line itself
-        here : (x : Bool) → getD m (suc n) false ≡ x → getD (keptTo l n (cond x (noted m (premises (suc n))) m)) (suc n) false ≡ true → (k : ℕ) → k < length (premises (suc n))
+        here : (x : Bool) → getD m (suc n) false ≡ x → getD (keptTo l n (cond x (noted m (premises (suc n))) m)) (suc n) false ≡ true
+            → (k : ℕ) → k < length (premises (suc n))
             → getD (keptTo l n (cond x (noted m (premises (suc n))) m)) (getD (premises (suc n)) k 0) false ≡ true
         here true r d k g =
             keptTo-keeps n (noted m (premises (suc n))) (getD (premises (suc n)) k 0)
@@ -90,16 +94,19 @@ module _ (l : List LineRecord) where
             → getD (keptTo l n (next (suc n) m)) (getD (premises j) i 0) false ≡ true
         go true q more =
             let r : suc n ≡ j = sym (eqb-true j (suc n) q) in
-            subst (λ (x : ℕ). getD (keptTo l n (next (suc n) m)) x false ≡ true → i < length (premises x) → getD (keptTo l n (next (suc n) m)) (getD (premises x) i 0) false ≡ true)
+            subst (λ (x : ℕ). getD (keptTo l n (next (suc n) m)) x false ≡ true → i < length (premises x)
+            → getD (keptTo l n (next (suc n) m)) (getD (premises x) i 0) false ≡ true)
             r (λ d g. here (getD m (suc n) false) refl d i g) e h
         go false q more = more (let r = eqb-false j (suc n) q in omega arith)
 
     -- what has a mark has it from the start, or stands among the premises of a line with one: each fact that premises take over
     pub keptTo-from : (Q : ℕ → Type 0) → ((n i : ℕ) → 1 ≤ n → n ≤ length l → Q n → i < length (premises n) → Q (getD (premises n) i 0))
-        → (n : ℕ) (m : List Bool) → n ≤ length l → ((j : ℕ) → getD m j false ≡ true → Q j) → (j : ℕ) → getD (keptTo l n m) j false ≡ true → Q j
+        → (n : ℕ) (m : List Bool) → n ≤ length l → ((j : ℕ) → getD m j false ≡ true → Q j) → (j : ℕ) → getD (keptTo l n m) j false ≡ true
+        → Q j
     unfolding keptTo
     keptTo-from Q hand zero m a h j e = h j e
-    keptTo-from Q hand (suc n) m a h j e = keptTo-from Q hand n (next (suc n) m) (omega arith) (λ k d. go k (next-from (getD m (suc n) false) (suc n) m k refl d)) j e
+    keptTo-from Q hand (suc n) m a h j e = keptTo-from Q hand n (next (suc n) m) (omega arith)
+        (λ k d. go k (next-from (getD m (suc n) false) (suc n) m k refl d)) j e
       where
         go : (k : ℕ) → (getD m k false ≡ true) ⊎ ((getD m (suc n) false ≡ true) × Found (premises (suc n)) k) → Q k
         go k (inl d) = h k d
@@ -137,7 +144,8 @@ module _ (D : Document) where
       go : Found (D .obligations) j ⊎ Found (map (λ c. c .line) (D .claims)) j → Rests D j
       go (inl g) = subst (Rests D) (g .is) (obligation (g .place) (g .there))
       go (inr g) =
-          let b : g .place < length (D .claims) = let q = length-map (D .claims) (λ (c : ClaimRecord). c .line) in let h = g .there in omega arith in
+          let b : g .place < length (D .claims) = let q = length-map (D .claims) (λ (c : ClaimRecord). c .line) in let h = g .there in
+          omega arith in
           subst (Rests D) (sym (List·getD-map (λ (c : ClaimRecord). c .line) (D .claims) (g .place) noClaim) ∙ g .is) (claim (g .place) b)
 
   -- with w marks; there is one for each line
@@ -159,21 +167,31 @@ module _ (D : Document) where
         go (inr f) = found-rests j f
 
     marks-rest : (n : ℕ) → getD marks n false ≡ true → Rests D n
-    marks-rest n e = keptTo-from (D .lines) (N .lower) (Rests D) (λ k i a b r h. premise k i a b r h) (length (D .lines)) first (omega arith) first-rests n e
+    marks-rest n e = keptTo-from (D .lines) (N .lower) (Rests D) (λ k i a b r h. premise k i a b r h) (length (D .lines)) first
+        (omega arith) first-rests n e
 
     named-marked : (n : ℕ) → n ≤ length (D .lines) → Found (namedLines D) n → getD marks n false ≡ true
     named-marked n b f =
         keptTo-keeps (D .lines) (length (D .lines)) first n
         (subst (λ (x : ℕ). getD first x false ≡ true) (f .is)
-        (noted-sets (replicate w false) (namedLines D) (f .place) (f .there) (let q = replicate-length w false in let e = f .is in omega arith)))
+        (noted-sets (replicate w false) (namedLines D) (f .place) (f .there)
+        (let q = replicate-length w false in let e = f .is in omega arith)))
 
     rests-marked : (n : ℕ) → Rests D n → (n ≤ length (D .lines)) × (getD marks n false ≡ true)
-    rests-marked n (obligation i b) =
-        (N .obligations i b, named-marked _ (N .obligations i b) (found-left (D .obligations) (map (λ c. c .line) (D .claims)) _ (found-at (D .obligations) i b)))
-    rests-marked n (claim i b) = (N .claims i b, named-marked _ (N .claims i b) (found-right (D .obligations) (map (λ c. c .line) (D .claims)) _ (claim-found i b)))
+    rests-marked n (obligation i b) = (
+      N .obligations i b,
+      named-marked _ (N .obligations i b)
+          (found-left (D .obligations) (map (λ c. c .line) (D .claims)) _ (found-at (D .obligations) i b)),
+    )
+    rests-marked n (claim i b) = (
+      N .claims i b,
+      named-marked _ (N .claims i b)
+          (found-right (D .obligations) (map (λ c. c .line) (D .claims)) _ (claim-found i b)),
+    )
     rests-marked n (premise k i a b r h) = (
       let q = N .lower k i a b h in omega arith,
-      keptTo-closed (D .lines) (N .lower) (length (D .lines)) first k i (omega arith) (let q = first-length in omega arith) a b (rests-marked k r .1) h,
+      keptTo-closed (D .lines) (N .lower) (length (D .lines)) first k i (omega arith) (let q = first-length in omega arith) a b
+          (rests-marked k r .1) h,
     )
 
 module _ (D : Document) where

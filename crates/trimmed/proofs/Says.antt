@@ -31,7 +31,8 @@ module _ (D : Document) (C : Canonical D) (same : threadCount (D .header) ≡ le
   pub outline-said : length (D .outline) ≡ tally z l .points → numbers (tally z l .points) (outlineBody z l) ≡ D .outline
   outline-said e = rw (sym e, outline-at D same) (numbers-alone (D .outline) (C .outline))
 
-  pub obligations-said : length (D .obligations) ≡ obligationCount z l → numbers (obligationCount z l) (obligationsBody z l) ≡ D .obligations
+  pub obligations-said : length (D .obligations) ≡ obligationCount z l
+      → numbers (obligationCount z l) (obligationsBody z l) ≡ D .obligations
   obligations-said e = rw (sym e, obligations-at D same) (numbers-alone (D .obligations) (C .obligations))
 
   pub named-said : length (D .obligations) ≡ obligationCount z l → (i : ℕ) → namedLine z l i ≡ getD (D .obligations) i 0

@@ -8,7 +8,7 @@ use lib.Dec.{eqb, ltb}
 use lib.ListN.{length, getD}
 use borrow.Author.Tests.{eqb-false, ltb-false}
 use Rattle.program.specs.declared.instruction.Instruction.{Instruction}
-use Rattle.program.specs.Thread.{instructions, nothing}
+use Rattle.threads.specs.Thread.{instructions, nothing}
 use Rattle.records.specs.Places.{threadBody, instructionOf}
 use Rattle.records.specs.Tally.{isBranch, branches, threadTally, plus, tallyTo, tally, obligationCount}
 use Rattle.image.specs.Decode.{sizesOf}

@@ -12,7 +12,7 @@ use Rattle.limits.specs.Numbers.{nth, word, numbers, within, every}
 use Rattle.limits.proofs.Inverse.{and-true, within-true, every-at}
 use Rattle.header.specs.Header.{threadCount}
 use Rattle.program.specs.Instruction.{twofold, noHalf, range, unused, fields, inside, fieldsOf, fieldsFit, ranged}
-use Rattle.program.specs.Thread.{nothing, lastPoint, instructions}
+use Rattle.threads.specs.Thread.{nothing, lastPoint, instructions}
 use Rattle.program.specs.declared.sizes.Sizes.{Sizes}
 use Rattle.program.specs.declared.instruction.Fields.{Fields}
 use Rattle.program.specs.declared.instruction.Instruction.{Instruction}
@@ -62,7 +62,8 @@ module _ (last : ℕ) (z : Sizes) where
 
   module _ (i : Instruction) (e : ranged last z i ≡ true) where
     first-there : i .formula ≤ z .formulas
-    first-there = let h = fields-in i (fieldsOf (i .operation) last z) (ranged-both last z i e .0) in let r = range-low (i .operation) in omega (arith, h .2 .1)
+    first-there = let h = fields-in i (fieldsOf (i .operation) last z) (ranged-both last z i e .0) in let r = range-low (i .operation) in
+        omega (arith, h .2 .1)
 
     second-there : (twofold (i .operation) ≡ false → i .second ≡ noHalf) → i .second .formula ≤ z .formulas
     second-there single = go (twofold (i .operation)) refl
@@ -90,7 +91,8 @@ module _ (D : Document) (C : Canonical D) (same : threadCount (D .header) ≡ le
     }
 
     -- an instruction, by its thread, counted from 0, and its point
-    instruction-ranged : (t p : ℕ) → t < length (D .threads) → p < length (getD (D .threads) t []) → ranged (length (getD (D .threads) t [])) z (getD (getD (D .threads) t []) p nothing) ≡ true
+    instruction-ranged : (t p : ℕ) → t < length (D .threads) → p < length (getD (D .threads) t [])
+        → ranged (length (getD (D .threads) t [])) z (getD (getD (D .threads) t []) p nothing) ≡ true
     unfolding nth sizes sizesOf
     instruction-ranged t p a b =
         let is : List Instruction = getD (D .threads) t [] in
@@ -103,7 +105,9 @@ module _ (D : Document) (C : Canonical D) (same : threadCount (D .header) ≡ le
     pub outline-ranged : (i : ℕ) → i < length (D .outline) → (1 ≤ getD (D .outline) i 0) × (getD (D .outline) i 0 ≤ z .formulas)
     unfolding Lists.outline exactly
     outline-ranged i b =
-        let r : every (within 1 (z .formulas)) (D .outline) ≡ true = rw (outline-said D C same O) at (unless-passed _ _ _ (unless-passed _ _ _ (also-passed _ _ (outline-passed z l K) .0) .1) .0) in
+        let r : every (within 1 (z .formulas)) (D .outline) ≡ true =
+        rw (outline-said D C same O) at (unless-passed _ _ _ (unless-passed _ _ _ (also-passed _ _ (outline-passed z l K) .0) .1) .0)
+        in
         within-true 1 (z .formulas) (getD (D .outline) i 0) (every-at (within 1 (z .formulas)) (D .outline) i 0 r b)
 
     pub written-formulas : Written D
@@ -111,9 +115,11 @@ module _ (D : Document) (C : Canonical D) (same : threadCount (D .header) ≡ le
     written-formulas = record { few = K .few .formulas; there = there }
       where
         there : (n : ℕ) → Uses D n → n ≤ length (D .formulas)
-        there n (instruction t p a b) = first-there (length (getD (D .threads) t [])) z (getD (getD (D .threads) t []) p nothing) (instruction-ranged t p a b)
+        there n (instruction t p a b) = first-there (length (getD (D .threads) t [])) z (getD (getD (D .threads) t []) p nothing)
+            (instruction-ranged t p a b)
         there n (second t p a b) =
-            second-there (length (getD (D .threads) t [])) z (getD (getD (D .threads) t []) p nothing) (instruction-ranged t p a b) (C .threads t a .each p b .single)
+            second-there (length (getD (D .threads) t [])) z (getD (getD (D .threads) t []) p nothing) (instruction-ranged t p a b)
+            (C .threads t a .each p b .single)
         there n (outline i b) = outline-ranged i b .1
         there n (left-of j a b r) = subst (λ (x : ℕ). x ≤ length (D .formulas)) (left-said D C same j a b) (in-range z l K j a b .0 .1)
         there n (right-of j a b r) = subst (λ (x : ℕ). x ≤ length (D .formulas)) (right-said D C same j a b) (in-range z l K j a b .1 .1)

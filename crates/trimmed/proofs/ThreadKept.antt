@@ -13,7 +13,7 @@ use Rattle.frames.specs.declared.fault.Checked.the-variants.{Passed}
 use Rattle.program.specs.declared.sizes.Sizes.{Sizes}
 use Rattle.program.specs.declared.instruction.Instruction.{Instruction}
 use Rattle.program.specs.Instruction.{ranged}
-use Rattle.program.specs.Thread.{lastPoint, instructions, nothing, numbered, threadNumbers}
+use Rattle.threads.specs.Thread.{lastPoint, instructions, nothing, numbered, threadNumbers}
 use Rattle.records.specs.Places.{threadBody}
 use Rattle.image.specs.Decode.{sizesOf}
 use Rattle.thread_bodies.specs.Thread.{sorted, owned, resultAbsent, threadRegisters, thread}

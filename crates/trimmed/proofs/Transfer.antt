@@ -20,7 +20,8 @@ pub record Carried (C B : Certificate) (Stays : ℕ → Type 0) (g : ℕ → ℕ
   pub premises : (n : ℕ) → Stays n → B .line (g n) .premises ≡ map g (C .line n .premises)
   pub rests : (n i : ℕ) → Stays n → i < length (C .line n .premises) → Stays (getD (C .line n .premises) i 0)
 
-module _ (P : Program) (p : ℕ → ℕ) (C B : Certificate) (Stays : ℕ → Type 0) (g : ℕ → ℕ) (zero-same : g 0 ≡ 0) (K : Carried C B Stays g) where
+module _ (P : Program) (p : ℕ → ℕ) (C B : Certificate) (Stays : ℕ → Type 0) (g : ℕ → ℕ) (zero-same : g 0 ≡ 0)
+    (K : Carried C B Stays g) where
   abbrev Q : Program
   Q = withPoints P p
 
@@ -38,7 +39,9 @@ module _ (P : Program) (p : ℕ → ℕ) (C B : Certificate) (Stays : ℕ → Ty
       justified (K .there n s)
       (rw (K .rule n s, K .says n s, e, said (C .line n .premises) (λ j b. K .rests n j s b)) (repointed P p i))
       (λ j b.
-      let c : j < length (C .line n .premises) = let q = length-map (C .line n .premises) g in let r : length (B .line (g n) .premises) ≡ length (map g (C .line n .premises)) = ap length e in omega arith in
+      let c : j < length (C .line n .premises) = let q = length-map (C .line n .premises) g in
+      let r : length (B .line (g n) .premises) ≡ length (map g (C .line n .premises)) = ap length e in omega arith in
       let d : getD (B .line (g n) .premises) j 0 ≡ g (getD (C .line n .premises) j 0) =
-      ap (λ (l : List ℕ). getD l j 0) e ∙ subst (λ (x : ℕ). getD (map g (C .line n .premises)) j x ≡ g (getD (C .line n .premises) j 0)) zero-same (List·getD-map g (C .line n .premises) j 0) in
+      ap (λ (l : List ℕ). getD l j 0) e ∙ subst (λ (x : ℕ). getD (map g (C .line n .premises)) j x ≡ g (getD (C .line n .premises) j 0))
+      zero-same (List·getD-map g (C .line n .premises) j 0) in
       subst (Justified Q B) (sym d) (carried (ps j c) (K .rests n j s c)))

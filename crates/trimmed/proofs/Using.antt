@@ -9,7 +9,7 @@ use lib.ListN.{length, getD, replicate}
 use Rattle.logic.specs.Obligations.{flat}
 use Rattle.limits.specs.Limits as Limits
 use Rattle.limits.specs.Numbers.{nth}
-use Rattle.program.specs.Thread.{nothing}
+use Rattle.threads.specs.Thread.{nothing}
 use Rattle.program.specs.declared.instruction.Instruction.{Instruction}
 use Rattle.document.specs.Document.{Document, LineRecord}
 use Rattle.document.specs.Canonical.{noLine, noClaim}
@@ -51,15 +51,18 @@ module _ (D : Document) (N : Named D) where
       go w = on (selected-from (kept D) (D .lines) (suc (w .member)) (omega arith) (let h = w .there in omega arith))
         where
           on : Selected (kept D) (D .lines) (suc (w .member)) → Uses D n
-          on s = pick (found-two (getD (selected (kept D) (D .lines)) (w .member) noLine .left) (getD (selected (kept D) (D .lines)) (w .member) noLine .right) n (w .found))
+          on s = pick (found-two (getD (selected (kept D) (D .lines)) (w .member) noLine .left)
+              (getD (selected (kept D) (D .lines)) (w .member) noLine .right) n (w .found))
             where
               same : getD (selected (kept D) (D .lines)) (w .member) noLine ≡ nth (D .lines) (s .old) noLine
-              same = subst (λ (j : ℕ). nth (selected (kept D) (D .lines)) j noLine ≡ nth (D .lines) (s .old) noLine) (s .now) (selected-nth (kept D) (D .lines) noLine (s .old) (s .low) (s .high) (s .mark))
+              same = subst (λ (j : ℕ). nth (selected (kept D) (D .lines)) j noLine ≡ nth (D .lines) (s .old) noLine) (s .now)
+                  (selected-nth (kept D) (D .lines) noLine (s .old) (s .low) (s .high) (s .mark))
 
               rests : Rests D (s .old)
               rests = kept-rests D N (s .old) (s .mark)
 
-              pick : (getD (selected (kept D) (D .lines)) (w .member) noLine .left ≡ n) ⊎ (getD (selected (kept D) (D .lines)) (w .member) noLine .right ≡ n) → Uses D n
+              pick : (getD (selected (kept D) (D .lines)) (w .member) noLine .left ≡ n)
+                  ⊎ (getD (selected (kept D) (D .lines)) (w .member) noLine .right ≡ n) → Uses D n
               pick (inl e) = subst (Uses D) (ap (λ (v : LineRecord). v .left) (sym same) ∙ e) (left (s .old) (s .low) (s .high) rests)
               pick (inr e) = subst (Uses D) (ap (λ (v : LineRecord). v .right) (sym same) ∙ e) (right (s .old) (s .low) (s .high) rests)
 
@@ -103,29 +106,38 @@ module _ (D : Document) (N : Named D) where
       go zero e = absurd (let h = renumbered-low (kept D) n a mark in omega arith)
       go (suc i) e =
           let high = renumbered-high (kept D) (D .lines) n b in
-          let q : nth (selected (kept D) (D .lines)) (suc i) noLine ≡ nth (D .lines) n noLine = subst (λ (x : ℕ). nth (selected (kept D) (D .lines)) x noLine ≡ nth (D .lines) n noLine) e (selected-nth (kept D) (D .lines) noLine n a b mark) in
-          found-flat lineFormulas noLine (selected (kept D) (D .lines)) i k (omega arith) (subst (λ (v : LineRecord). Found (lineFormulas v) k) (sym q) f)
+          let q : nth (selected (kept D) (D .lines)) (suc i) noLine ≡ nth (D .lines) n noLine =
+          subst (λ (x : ℕ). nth (selected (kept D) (D .lines)) x noLine ≡ nth (D .lines) n noLine) e
+          (selected-nth (kept D) (D .lines) noLine n a b mark) in
+          found-flat lineFormulas noLine (selected (kept D) (D .lines)) i k (omega arith)
+          (subst (λ (v : LineRecord). Found (lineFormulas v) k) (sym q) f)
 
-  instruction-found : (t p k : ℕ) → t < length (D .threads) → p < length (getD (D .threads) t []) → Found (instructionFormulas (getD (getD (D .threads) t []) p nothing)) k
+  instruction-found : (t p k : ℕ) → t < length (D .threads) → p < length (getD (D .threads) t [])
+      → Found (instructionFormulas (getD (getD (D .threads) t []) p nothing)) k
       → Found (flat ofThread (D .threads)) k
-  instruction-found t p k a b f = found-flat ofThread [] (D .threads) t k a (found-flat instructionFormulas nothing (getD (D .threads) t []) p k b f)
+  instruction-found t p k a b f = found-flat ofThread [] (D .threads) t k a
+      (found-flat instructionFormulas nothing (getD (D .threads) t []) p k b f)
 
   uses-named : (n : ℕ) → Uses D n → Found (namedFormulas D) n
   unfolding namedFormulas
   uses-named n (instruction t p a b) =
       let i : Instruction = getD (getD (D .threads) t []) p nothing in
-      found-left (flat ofThread (D .threads)) (D .outline ++ ofLines) _ (instruction-found t p (i .formula) a b (found-first (i .formula) (i .second .formula)))
+      found-left (flat ofThread (D .threads)) (D .outline ++ ofLines) _
+      (instruction-found t p (i .formula) a b (found-first (i .formula) (i .second .formula)))
   uses-named n (second t p a b) =
       let i : Instruction = getD (getD (D .threads) t []) p nothing in
-      found-left (flat ofThread (D .threads)) (D .outline ++ ofLines) _ (instruction-found t p (i .second .formula) a b (found-second (i .formula) (i .second .formula)))
+      found-left (flat ofThread (D .threads)) (D .outline ++ ofLines) _
+      (instruction-found t p (i .second .formula) a b (found-second (i .formula) (i .second .formula)))
   uses-named n (outline i b) =
       found-right (flat ofThread (D .threads)) (D .outline ++ ofLines) _ (found-left (D .outline) ofLines _ (found-at (D .outline) i b))
   uses-named n (left k a b r) =
       let v : LineRecord = nth (D .lines) k noLine in
-      found-right (flat ofThread (D .threads)) (D .outline ++ ofLines) _ (found-right (D .outline) ofLines _ (line-found k (v .left) a b r (found-first (v .left) (v .right))))
+      found-right (flat ofThread (D .threads)) (D .outline ++ ofLines) _
+      (found-right (D .outline) ofLines _ (line-found k (v .left) a b r (found-first (v .left) (v .right))))
   uses-named n (right k a b r) =
       let v : LineRecord = nth (D .lines) k noLine in
-      found-right (flat ofThread (D .threads)) (D .outline ++ ofLines) _ (found-right (D .outline) ofLines _ (line-found k (v .right) a b r (found-second (v .left) (v .right))))
+      found-right (flat ofThread (D .threads)) (D .outline ++ ofLines) _
+      (found-right (D .outline) ofLines _ (line-found k (v .right) a b r (found-second (v .left) (v .right))))
 
 -- what the checks leave of the formulas that are named
 pub record Written (D : Document) : Type 0 where

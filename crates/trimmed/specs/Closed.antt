@@ -5,7 +5,7 @@ use mathlib.Core.List.{List, []}
 use Prim.Native.Nat.{ℕ, _≤_, _<_}
 use lib.ListN.{length, getD}
 use Rattle.limits.specs.Numbers.{nth}
-use Rattle.program.specs.Thread.{nothing}
+use Rattle.threads.specs.Thread.{nothing}
 use Rattle.document.specs.Document.{Document}
 use Rattle.document.specs.Canonical.{noLine, noClaim}
 
@@ -17,8 +17,10 @@ pub record Closed (u k : List Bool) (D : Document) : Type 0 where
   -- there is a mark for each
   pub formulas : length (D .formulas) < length u
   pub lines : length (D .lines) < length k
-  pub instruction : (t p : ℕ) → t < length (D .threads) → p < length (getD (D .threads) t []) → Stays u (getD (getD (D .threads) t []) p nothing .formula)
-  pub second : (t p : ℕ) → t < length (D .threads) → p < length (getD (D .threads) t []) → Stays u (getD (getD (D .threads) t []) p nothing .second .formula)
+  pub instruction : (t p : ℕ) → t < length (D .threads) → p < length (getD (D .threads) t [])
+      → Stays u (getD (getD (D .threads) t []) p nothing .formula)
+  pub second : (t p : ℕ) → t < length (D .threads) → p < length (getD (D .threads) t [])
+      → Stays u (getD (getD (D .threads) t []) p nothing .second .formula)
   pub outline : (i : ℕ) → i < length (D .outline) → Stays u (getD (D .outline) i 0)
   pub left : (n : ℕ) → 1 ≤ n → n ≤ length (D .lines) → getD k n false ≡ true → Stays u (nth (D .lines) n noLine .left)
   pub right : (n : ℕ) → 1 ≤ n → n ≤ length (D .lines) → getD k n false ≡ true → Stays u (nth (D .lines) n noLine .right)

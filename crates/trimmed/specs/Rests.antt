@@ -3,7 +3,7 @@ use mathlib.Core.List.{[]}
 use Prim.Native.Nat.{ℕ, _≤_, _<_}
 use lib.ListN.{length, getD}
 use Rattle.limits.specs.Numbers.{nth}
-use Rattle.program.specs.Thread.{nothing}
+use Rattle.threads.specs.Thread.{nothing}
 use Rattle.document.specs.Document.{Document, LineRecord}
 use Rattle.document.specs.Canonical.{noLine, noClaim}
 
@@ -19,8 +19,10 @@ module _ (D : Document) where
 
   -- the formulas of instructions, 0 for none, of the outline, and of the lines on which something rests
   pub data Uses : ℕ → Type 0 where
-    instruction : (t p : ℕ) → t < length (D .threads) → p < length (getD (D .threads) t []) → Uses (getD (getD (D .threads) t []) p nothing .formula)
-    second : (t p : ℕ) → t < length (D .threads) → p < length (getD (D .threads) t []) → Uses (getD (getD (D .threads) t []) p nothing .second .formula)
+    instruction : (t p : ℕ) → t < length (D .threads) → p < length (getD (D .threads) t [])
+        → Uses (getD (getD (D .threads) t []) p nothing .formula)
+    second : (t p : ℕ) → t < length (D .threads) → p < length (getD (D .threads) t [])
+        → Uses (getD (getD (D .threads) t []) p nothing .second .formula)
     outline : (i : ℕ) → i < length (D .outline) → Uses (getD (D .outline) i 0)
     left : (n : ℕ) → 1 ≤ n → n ≤ length (D .lines) → Rests n → Uses (line n .left)
     right : (n : ℕ) → 1 ≤ n → n ≤ length (D .lines) → Rests n → Uses (line n .right)

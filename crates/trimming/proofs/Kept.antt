@@ -141,7 +141,8 @@ module _ (s : List ℕ) (z : Sizes) (b : Bytes s) (H : Holds s z) where
   trimmed-document : documentOf (sizes E) (bodies trimmed) ≡ E
   trimmed-document =
       rw cut
-      (parsed E (canonical-kept (used D) (kept D) D (whole .canonical)) (threads-kept (trimming D whole)) (points-length (trimming D whole)) (obligations-many (trimming D whole)))
+      (parsed E (canonical-kept (used D) (kept D) D (whole .canonical)) (threads-kept (trimming D whole))
+      (points-length (trimming D whole)) (obligations-many (trimming D whole)))
 
   pub trimmed-is : trimmedBytes z s ≡ trimmed
   unfolding trimmedBytes trim

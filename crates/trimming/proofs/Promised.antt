@@ -24,7 +24,8 @@ take-front (x ∷ t) r = ap (λ (l : List ℕ). x ∷ l) (take-front t r)
 
 module _ (s o : List ℕ) (b : Bytes s) where
   -- with code 0 the image is accepted and there was room
-  trimmed-with : (a : Acceptance) → acceptance s ≡ a → answerWith s o a .code ≡ 0 → Trimmed s (take (answerWith s o a .length) (bufferWith s o a))
+  trimmed-with : (a : Acceptance) → acceptance s ≡ a → answerWith s o a .code ≡ 0
+      → Trimmed s (take (answerWith s o a .length) (bufferWith s o a))
   unfolding answeredBy bufferBy
   trimmed-with Declined e h = absurd (omega arith)
   trimmed-with (Granted z) e h = go (ltb (length o) (length t)) h
@@ -32,7 +33,8 @@ module _ (s o : List ℕ) (b : Bytes s) where
       t : List ℕ
       t = trimmedBytes z s
 
-      go : (x : Bool) → cond x (answer 25 0) (answer 0 (length t)) .code ≡ 0 → Trimmed s (take (cond x (answer 25 0) (answer 0 (length t)) .length) (cond x o (t ++ drop (length t) o)))
+      go : (x : Bool) → cond x (answer 25 0) (answer 0 (length t)) .code ≡ 0
+          → Trimmed s (take (cond x (answer 25 0) (answer 0 (length t)) .length) (cond x o (t ++ drop (length t) o)))
       go true q = absurd (omega arith)
       go false q = subst (Trimmed s) (sym (take-front t (drop (length t) o))) (is-trimmed s z b (granted-holds s z e))
 

@@ -133,10 +133,13 @@ module _ (D : Document) (W : Whole D) where
       rw (bodies-are E)
       (each-cons Framable [] (D .header) (E .formulas ++ fromThreads E) header
       (each-append Framable [] (E .formulas) (fromThreads E) (selected-each Framable [] u (D .formulas) formulas)
-      (each-append Framable [] (map threadBytes (E .threads)) (fromOutline E) (each-map Framable [] ThreadFits [] threadBytes (λ l c. thread-short l c) (E .threads) (C .threads))
+      (each-append Framable [] (map threadBytes (E .threads)) (fromOutline E)
+      (each-map Framable [] ThreadFits [] threadBytes (λ l c. thread-short l c) (E .threads) (C .threads))
       (each-cons Framable [] (numberBytes (E .outline)) (fromLines E) (list (E .outline) (D .outline) (Moved.outline-length u k D) outlines)
-      (each-append Framable [] (map lineBytes (E .lines)) (fromObligations E) (each-map Framable [] LineFits noLine lineBytes (λ v c. line-short v c) (E .lines) (C .lines))
-      (each-cons Framable [] (numberBytes (E .obligations)) (fromClaims E) (list (E .obligations) (D .obligations) (Moved.obligations-length u k D) owed)
+      (each-append Framable [] (map lineBytes (E .lines)) (fromObligations E)
+      (each-map Framable [] LineFits noLine lineBytes (λ v c. line-short v c) (E .lines) (C .lines))
+      (each-cons Framable [] (numberBytes (E .obligations)) (fromClaims E)
+      (list (E .obligations) (D .obligations) (Moved.obligations-length u k D) owed)
       (each-map Framable [] ClaimFits noClaim claimBytes (λ c f. claim-short c) (E .claims) (C .claims))))))))
     where
       C : Canonical E
@@ -149,17 +152,20 @@ module _ (D : Document) (W : Whole D) where
       header = subst Framable (header-at D (W .threads)) (W .framable 0 (let q = many in omega arith))
 
       formulas : Each Framable [] (D .formulas)
-      formulas i b = subst Framable (formula-at D (W .threads) (suc i) (omega arith) (omega arith)) (W .framable (suc i) (let q = many in omega arith))
+      formulas i b = subst Framable (formula-at D (W .threads) (suc i) (omega arith) (omega arith))
+          (W .framable (suc i) (let q = many in omega arith))
 
       -- as many numbers
       list : (a d : List ℕ) → length a ≡ length d → Framable (numberBytes d) → Framable (numberBytes a)
       list a d e h = let p = numbers-size a in let q = numbers-size d in omega arith
 
       outlines : Framable (numberBytes (D .outline))
-      outlines = subst Framable (outline-at D (W .threads)) (W .framable (length (D .formulas) + threadCount (D .header) + 1) (let q = many in omega arith))
+      outlines = subst Framable (outline-at D (W .threads))
+          (W .framable (length (D .formulas) + threadCount (D .header) + 1) (let q = many in omega arith))
 
       owed : Framable (numberBytes (D .obligations))
-      owed = subst Framable (obligations-at D (W .threads)) (W .framable (length (D .formulas) + threadCount (D .header) + 1 + length (D .lines) + 1) (let q = many in omega arith))
+      owed = subst Framable (obligations-at D (W .threads))
+          (W .framable (length (D .formulas) + threadCount (D .header) + 1 + length (D .lines) + 1) (let q = many in omega arith))
 
   pub encodable : EachMet (imageOf (sizes D) (bodiesOf D)) → Encodable E (threads-kept trimming)
   encodable met = record {

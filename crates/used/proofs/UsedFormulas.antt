@@ -12,8 +12,8 @@ use Rattle.limits.specs.Limits as Limits
 use Rattle.limits.specs.Numbers.{word, numbers}
 use Rattle.program.specs.declared.sizes.Sizes.{Sizes}
 use Rattle.program.specs.declared.instruction.Instruction.{Instruction}
-use Rattle.program.specs.Thread.{lastPoint, instructions, nothing}
-use Rattle.program.proofs.Laws.Program.{instructions-length}
+use Rattle.threads.specs.Thread.{lastPoint, instructions, nothing}
+use Rattle.threads.proofs.Threads.{instructions-length}
 use Rattle.records.specs.Places.{threadBody}
 use Rattle.records.specs.Tally.{tally}
 use Rattle.records.specs.declared.tally.Tally.{Tally}

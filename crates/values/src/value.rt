@@ -54,7 +54,10 @@ fn plain_column(
     requires { ⌜ partCount code ≡ 0 ⌝ }
     requires { ⌜ (n ≤ 4096) × (n ≤ length (now out)) ⌝ }
     ensures { λ r. ⌜ r ≡ levelOf (now (s .entry)) w (now (slots .entry)) (node code operand none none) ⌝ }
-    ensures { λ _. ⌜ take (spanT (now (s .entry)) w (now (slots .entry)) (now (lasts .entry)) n (node code operand none none)) (now (out .exit)) ≡ columnOf (now (s .entry)) w (now (slots .entry)) (now (lasts .entry)) (spanT (now (s .entry)) w (now (slots .entry)) (now (lasts .entry)) n (node code operand none none)) (node code operand none none) ⌝ }
+    ensures { λ _. ⌜ take (spanT (now (s .entry)) w (now (slots .entry)) (now (lasts .entry)) n (node code operand none none))
+        (now (out .exit)) ≡ columnOf (now (s .entry)) w (now (slots .entry)) (now (lasts .entry))
+        (spanT (now (s .entry)) w (now (slots .entry)) (now (lasts .entry)) n (node code operand none none)) (node code operand none none)
+        ⌝ }
 {
     if contains(w.leaves, code) {
         return take_slot(lasts, plain_slot(s, code, operand, slots), n, out);
@@ -80,7 +83,10 @@ fn leaf_column(
 ) -> Met
     requires { ⌜ (n ≤ 4096) × (n ≤ length (now out)) ⌝ }
     ensures { λ r. ⌜ r ≡ metAt (now (s .entry)) w (now (slots .entry)) left at ⌝ }
-    ensures { λ _. ⌜ take (spanT (now (s .entry)) w (now (slots .entry)) (now (lasts .entry)) n (parseTree (now (s .entry)) left at .tree)) (now (out .exit)) ≡ leafColumn (now (s .entry)) w (now (slots .entry)) (now (lasts .entry)) (spanT (now (s .entry)) w (now (slots .entry)) (now (lasts .entry)) n (parseTree (now (s .entry)) left at .tree)) left at (now (out .entry)) ⌝ }
+    ensures { λ _. ⌜ take (spanT (now (s .entry)) w (now (slots .entry)) (now (lasts .entry)) n (parseTree (now (s .entry)) left at .tree))
+        (now (out .exit)) ≡ leafColumn (now (s .entry)) w (now (slots .entry)) (now (lasts .entry))
+        (spanT (now (s .entry)) w (now (slots .entry)) (now (lasts .entry)) n (parseTree (now (s .entry)) left at .tree)) left
+        at (now (out .entry)) ⌝ }
 {
     if left == 0 {
         fill(0, span_of(lasts, 0, n), out);
@@ -121,7 +127,8 @@ fn greater(i: usize, j: usize) -> usize
 // A column of which i slots decide, as far as the values of so many slots come again.
 fn widen_level(lasts: &[u8; Slots::COUNT], i: usize, level: usize, n: usize, out: &mut [u8])
     requires { ⌜ (i ≤ level) × ((level ≤ 12) × ((n ≤ 4096) × (n ≤ length (now out)))) ⌝ }
-    ensures { λ _. ⌜ Widened (spanOf n (now (lasts .entry)) i) (spanOf n (now (lasts .entry)) level) (now (out .entry)) (spanOf n (now (lasts .entry)) level) (now (out .exit)) ⌝ }
+    ensures { λ _. ⌜ Widened (spanOf n (now (lasts .entry)) i) (spanOf n (now (lasts .entry)) level) (now (out .entry))
+        (spanOf n (now (lasts .entry)) level) (now (out .exit)) ⌝ }
 {
     if i == level {
         return;
@@ -178,7 +185,10 @@ fn column_at(
 ) -> Reached
     requires { ⌜ (n ≤ 4096) × (n ≤ length (now out)) ⌝ }
     ensures { λ r. ⌜ r ≡ reachedAt (now (s .entry)) w (now (slots .entry)) left at ⌝ }
-    ensures { λ _. ⌜ take (spanT (now (s .entry)) w (now (slots .entry)) (now (lasts .entry)) n (parseTree (now (s .entry)) left at .tree)) (now (out .exit)) ≡ columnOf (now (s .entry)) w (now (slots .entry)) (now (lasts .entry)) (spanT (now (s .entry)) w (now (slots .entry)) (now (lasts .entry)) n (parseTree (now (s .entry)) left at .tree)) (parseTree (now (s .entry)) left at .tree) ⌝ }
+    ensures { λ _. ⌜ take (spanT (now (s .entry)) w (now (slots .entry)) (now (lasts .entry)) n (parseTree (now (s .entry)) left at .tree))
+        (now (out .exit)) ≡ columnOf (now (s .entry)) w (now (slots .entry)) (now (lasts .entry))
+        (spanT (now (s .entry)) w (now (slots .entry)) (now (lasts .entry)) n (parseTree (now (s .entry)) left at .tree))
+        (parseTree (now (s .entry)) left at .tree) ⌝ }
 {
     let f = leaf_column(s, at, left, w, slots, lasts, n, out);
     if f.leaf {
@@ -214,7 +224,8 @@ pub fn whole_column(
     out: &mut [u8],
 )
     requires { ⌜ (n ≤ 4096) × (n ≤ length (now out)) ⌝ }
-    ensures { λ _. ⌜ take n (now (out .exit)) ≡ columnOf (now (s .entry)) w (now (slots .entry)) (now (lasts .entry)) n (parseTree (now (s .entry)) left at .tree) ⌝ }
+    ensures { λ _. ⌜ take n (now (out .exit)) ≡ columnOf (now (s .entry)) w (now (slots .entry)) (now (lasts .entry)) n
+        (parseTree (now (s .entry)) left at .tree) ⌝ }
 {
     let p = column_at(s, at, left, w, slots, lasts, n, out);
     widen(span_of(lasts, p.level, n), n, out);

@@ -15,7 +15,8 @@ use Rattle.report.specs.declared.verdict.Verdict.{Verdict}
 use Rattle.checker.specs.Answer.{verdictWithin}
 use Rattle.verdict.specs.Line.{lineOf, lineFor}
 
-pub line-judged : (s x : List ℕ) (v : Verdict) (f : Fields) → v ≡ verdictWithin Limits.programBytes s → f ≡ fieldsOf v → x ≡ textOf f → x ≡ lineOf s
+pub line-judged : (s x : List ℕ) (v : Verdict) (f : Fields) → v ≡ verdictWithin Limits.programBytes s → f ≡ fieldsOf v → x ≡ textOf f
+    → x ≡ lineOf s
 unfolding lineOf
 line-judged s x v f e d q = rw (q, d, e)
 

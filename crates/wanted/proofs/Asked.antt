@@ -35,15 +35,15 @@ use Rattle.certificate.specs.FitT.{concluded, implication, hoare, paired}
 use Rattle.outline.specs.Verdict.{asks, forbids}
 use Rattle.content.specs.Formula.{formula}
 use Rattle.content.specs.Program.{pointCount, programOf, outlineOf}
-use Rattle.content.specs.Places.{formulaAt, claimedIn}
-use Rattle.content.specs.Trees.{treeAt}
+use Rattle.lookups.specs.Places.{formulaAt, claimedIn}
+use Rattle.lookups.specs.Trees.{treeAt}
 use Rattle.content.specs.Certificate.{certificateOf}
 use Rattle.content.specs.Image.{imageOf, claimBody}
 use Rattle.content.proofs.Instr.{branch-is, branch-read, pair-is}
 use Rattle.content.proofs.Checked.{Checks}
 use Rattle.content.proofs.Lines.{Claimed, claim-fine}
 use Rattle.content.proofs.Program.{points-few, well-formed}
-use Rattle.content.proofs.Trees.{outline-is, test-is}
+use Rattle.lookups.proofs.Trees.{outline-is, test-is}
 use Rattle.conclusions.specs.LineConclusion.{conclusionOf}
 use Rattle.conclusions.proofs.Stated.{conclusion-trees}
 use Rattle.wanting.specs.Wanted.{nextPoint, actingForm, assertedAt, wantedStart, wantedAction, wantedNext, wantedStep, wantedTarget, wantedKept, wantedClaim, wantedAt, implied, twoHoles, claimAt}
@@ -82,11 +82,13 @@ module _ (f g : Assertion) (u w : Tree) (p : toTree f ≡ u) (q : toTree g ≡ w
   pair-same t k (pair i j a b) = ap₂ _&&_ (ap₂ _&&_ (eqb-same i t) (eqb-same j k)) (sides-same a b)
 
   -- of an instruction, of a pair its whole
-  taking-same : (t k : ℕ) (c : Instr) (op : ℕ) → isPair c ≡ pairOperation op → (x : Statement) → compared (actingForm op) t k u w (concluded x) ≡ sameStatement (taking t k c f g) x
+  taking-same : (t k : ℕ) (c : Instr) (op : ℕ) → isPair c ≡ pairOperation op → (x : Statement)
+      → compared (actingForm op) t k u w (concluded x) ≡ sameStatement (taking t k c f g) x
   unfolding actingForm
   taking-same t k c op e x = rw (← e) (go (isPair c))
     where
-      go : (b : Bool) → compared (cond b paired hoare) t k u w (concluded x) ≡ sameStatement (elim b [ true ↦ pair t k f g | false ↦ triple t k f g ]) x
+      go : (b : Bool) → compared (cond b paired hoare) t k u w (concluded x) ≡ sameStatement
+          (elim b [ true ↦ pair t k f g | false ↦ triple t k f g ]) x
       go true = pair-same t k x
       go false = kept-same t k x
 
@@ -152,10 +154,12 @@ module _ (s : List ℕ) (z : Sizes) (c : Checks z (bodies s)) where
       action-asked =
           step-compared s (conclusionOf s z n) (assertedAt s z t k) (assertedAt s z t (nextPoint k)) (actingForm (its t k .operation)) t k
           ∙ ap (compared (actingForm (its t k .operation)) t k here following) (conclusion-trees s z c n wn)
-          ∙ taking-same (O t k) (O t (suc k)) here following here-is (behind-is t k w h) t k (P .code t k) (its t k .operation) (pair-is l (its t k)) (says n)
+          ∙ taking-same (O t k) (O t (suc k)) here following here-is (behind-is t k w h) t k (P .code t k) (its t k .operation)
+          (pair-is l (its t k)) (says n)
 
       module _ (e : its t k .operation ≡ Opcode.branch) where
-        next-asked : meets s z (wantedNext s z t k (its t k)) n ≡ sameStatement (implies (bothA (O t k) (holds (Formula.not test))) (O t (suc k))) (says n)
+        next-asked : meets s z (wantedNext s z t k (its t k)) n ≡ sameStatement
+            (implies (bothA (O t k) (holds (Formula.not test))) (O t (suc k))) (says n)
         unfolding meets wantedNext
         next-asked =
             next-compared s (conclusionOf s z n) (assertedAt s z t k) (formulaAt s (its t k .formula)) (assertedAt s z t (nextPoint k))
@@ -165,7 +169,9 @@ module _ (s : List ℕ) (z : Sizes) (c : Checks z (bodies s)) where
 
         target-there : its t k .a < P .points t
         target-there =
-            let p : T (proper P (P .points t) (branch test (its t k .a))) = subst (λ (x : Instr). T (proper P (P .points t) x)) (branch-read l (its t k) e) (well-formed z l c .instructions t k w h) in
+            let p : T (proper P (P .points t) (branch test (its t k .a))) =
+            subst (λ (x : Instr). T (proper P (P .points t) x)) (branch-read l (its t k) e)
+            (well-formed z l c .instructions t k w h) in
             ltb→lt (its t k .a) (P .points t) (and-right (only isReg test) (ltb (its t k .a) (P .points t)) p)
 
         abbrev aim : Tree
@@ -177,7 +183,8 @@ module _ (s : List ℕ) (z : Sizes) (c : Checks z (bodies s)) where
             target-compared s (conclusionOf s z n) (assertedAt s z t k) (formulaAt s (its t k .formula)) (assertedAt s z t (its t k .a))
             ∙ ap (compared implication 0 0 (both here (holding tested)) aim) (conclusion-trees s z c n wn)
             ∙ implied-same (bothA (O t k) (holds test)) (O t (its t k .a)) (both here (holding tested)) aim
-            (ap₂ (λ (x y : Tree). both x (holding y)) here-is (test-is s z c t k w h e)) (asserted-is t (its t k .a) w target-there) (says n)
+            (ap₂ (λ (x y : Tree). both x (holding y)) here-is (test-is s z c t k w h e)) (asserted-is t (its t k .a) w target-there)
+            (says n)
 
       -- an action, or a branch
       act-wants : (x : Instr) → isBranch x ≡ false → wantsNext P O t k x ≡ taking t k x (O t k) (O t (suc k))
@@ -188,11 +195,15 @@ module _ (s : List ℕ) (z : Sizes) (c : Checks z (bodies s)) where
       unfolding wantedStep
       step-asked = go (eqb (its t k .operation) Opcode.branch) refl
         where
-          go : (b : Bool) → eqb (its t k .operation) Opcode.branch ≡ b → meets s z (wantedStep s z t k) n ≡ sameStatement (wantsNext P O t k (P .code t k)) (says n)
-          go true e = let d = eqb-true (its t k .operation) Opcode.branch e in rw e (next-asked d ∙ ap (λ (x : Instr). sameStatement (wantsNext P O t k x) (says n)) (sym (branch-read l (its t k) d)))
-          go false e = rw e (action-asked ∙ ap (λ (x : Statement). sameStatement x (says n)) (sym (act-wants (P .code t k) (branch-is l (its t k) ∙ e))))
+          go : (b : Bool) → eqb (its t k .operation) Opcode.branch ≡ b
+              → meets s z (wantedStep s z t k) n ≡ sameStatement (wantsNext P O t k (P .code t k)) (says n)
+          go true e = let d = eqb-true (its t k .operation) Opcode.branch e in
+              rw e (next-asked d ∙ ap (λ (x : Instr). sameStatement (wantsNext P O t k x) (says n)) (sym (branch-read l (its t k) d)))
+          go false e = rw e (action-asked ∙ ap (λ (x : Statement). sameStatement x (says n))
+              (sym (act-wants (P .code t k) (branch-is l (its t k) ∙ e))))
 
-      taken-asked : isBranch (P .code t k) ≡ true → meets s z (wantedTarget s z t k) n ≡ sameStatement (wantsTarget P O t k (P .code t k)) (says n)
+      taken-asked : isBranch (P .code t k) ≡ true → meets s z (wantedTarget s z t k) n ≡ sameStatement (wantsTarget P O t k (P .code t k))
+          (says n)
       taken-asked b =
           let d = eqb-true (its t k .operation) Opcode.branch (sym (branch-is l (its t k)) ∙ b) in
           target-asked d ∙ ap (λ (x : Instr). sameStatement (wantsTarget P O t k x) (says n)) (sym (branch-read l (its t k) d))
@@ -204,12 +215,15 @@ module _ (s : List ℕ) (z : Sizes) (c : Checks z (bodies s)) where
         let p = asserted-is u j w h in
         let q = asserted-is t k y (omega arith) in
         kept-compared s (conclusionOf s z n) (assertedAt s z u j) (assertedAt s z t k) (actingForm (its t k .operation)) t k
-        ∙ ap (compared (actingForm (its t k .operation)) t k (both (treeAt s (assertedAt s z u j)) (treeAt s (assertedAt s z t k))) (treeAt s (assertedAt s z u j))) (conclusion-trees s z c n wn)
-        ∙ taking-same (bothA (O u j) (O t k)) (O u j) (both (treeAt s (assertedAt s z u j)) (treeAt s (assertedAt s z t k))) (treeAt s (assertedAt s z u j)) (ap₂ both p q) p t k
+        ∙ ap (compared (actingForm (its t k .operation)) t k (both (treeAt s (assertedAt s z u j)) (treeAt s (assertedAt s z t k)))
+        (treeAt s (assertedAt s z u j))) (conclusion-trees s z c n wn)
+        ∙ taking-same (bothA (O u j) (O t k)) (O u j) (both (treeAt s (assertedAt s z u j)) (treeAt s (assertedAt s z t k)))
+        (treeAt s (assertedAt s z u j)) (ap₂ both p q) p t k
         (P .code t k) (its t k .operation) (pair-is l (its t k)) (says n)
 
     -- a line that is there concludes what is wanted exactly if it says what is asked for
-    pub concludes-asked : (o : Logic.Obligation) → InRange P o → concludesAt s z (obligation o) n ≡ sameStatement (asks (imageOf z l) o) (says n)
+    pub concludes-asked : (o : Logic.Obligation) → InRange P o
+        → concludesAt s z (obligation o) n ≡ sameStatement (asks (imageOf z l) o) (says n)
     unfolding concludesAt wantedAt
     concludes-asked (Logic.start t) r = start-asked t r
     concludes-asked (Logic.step t k) r = step-asked t k (r .0) (r .1)
@@ -218,22 +232,34 @@ module _ (s : List ℕ) (z : Sizes) (c : Checks z (bodies s)) where
 
     -- a claim's line, likewise
     both-asked : (t k u j : ℕ) → Within (z .threads) t → k < P .points t → Within (z .threads) u → j < P .points u
-        → meets s z (implied claimAt (twoHoles (assertedAt s z t k) (assertedAt s z u j))) n ≡ sameStatement (implies (bothA (O t k) (O u j)) (holds Formula.false)) (says n)
+        → meets s z (implied claimAt (twoHoles (assertedAt s z t k) (assertedAt s z u j))) n ≡ sameStatement
+        (implies (bothA (O t k) (O u j)) (holds Formula.false)) (says n)
     unfolding meets
     both-asked t k u j w h y g =
         claim-compared s (conclusionOf s z n) (assertedAt s z t k) (assertedAt s z u j)
-        ∙ ap (compared implication 0 0 (both (treeAt s (assertedAt s z t k)) (treeAt s (assertedAt s z u j))) falsity) (conclusion-trees s z c n wn)
-        ∙ implied-same (bothA (O t k) (O u j)) (holds Formula.false) (both (treeAt s (assertedAt s z t k)) (treeAt s (assertedAt s z u j))) falsity
+        ∙ ap (compared implication 0 0 (both (treeAt s (assertedAt s z t k)) (treeAt s (assertedAt s z u j))) falsity)
+        (conclusion-trees s z c n wn)
+        ∙ implied-same (bothA (O t k) (O u j)) (holds Formula.false)
+        (both (treeAt s (assertedAt s z t k)) (treeAt s (assertedAt s z u j))) falsity
         (ap₂ both (asserted-is t k w h) (asserted-is u j y g)) refl (says n)
 
-    pub claim-asked : (i : ℕ) → i < z .claims → meets s z (wantedClaim s z (claimedIn (claimBody z l i))) n ≡ sameStatement (forbids (imageOf z l) i) (says n)
+    pub claim-asked : (i : ℕ) → i < z .claims → meets s z (wantedClaim s z (claimedIn (claimBody z l i))) n ≡ sameStatement
+        (forbids (imageOf z l) i) (says n)
     unfolding wantedClaim claimedIn
     claim-asked i b =
         let f = claim-fine z l c i b in
         go (ltb (getD (claimBody z l i) 0 0) (getD (claimBody z l i) 2 0)) f
       where
         go : (x : Bool) → Claimed z l (claimBody z l i)
-            → meets s z (cond x (implied claimAt (twoHoles (assertedAt s z (getD (claimBody z l i) 0 0) (getD (claimBody z l i) 1 0)) (assertedAt s z (getD (claimBody z l i) 2 0) (getD (claimBody z l i) 3 0)))) (implied claimAt (twoHoles (assertedAt s z (getD (claimBody z l i) 2 0) (getD (claimBody z l i) 3 0)) (assertedAt s z (getD (claimBody z l i) 0 0) (getD (claimBody z l i) 1 0))))) n
-            ≡ sameStatement (impossible x (O (getD (claimBody z l i) 0 0) (getD (claimBody z l i) 1 0)) (O (getD (claimBody z l i) 2 0) (getD (claimBody z l i) 3 0))) (says n)
-        go true f = both-asked (getD (claimBody z l i) 0 0) (getD (claimBody z l i) 1 0) (getD (claimBody z l i) 2 0) (getD (claimBody z l i) 3 0) (f .thread) (f .point) (f .other) (f .beyond)
-        go false f = both-asked (getD (claimBody z l i) 2 0) (getD (claimBody z l i) 3 0) (getD (claimBody z l i) 0 0) (getD (claimBody z l i) 1 0) (f .other) (f .beyond) (f .thread) (f .point)
+            → meets s z
+            (cond x
+            (implied claimAt (twoHoles (assertedAt s z (getD (claimBody z l i) 0 0) (getD (claimBody z l i) 1 0))
+            (assertedAt s z (getD (claimBody z l i) 2 0) (getD (claimBody z l i) 3 0))))
+            (implied claimAt (twoHoles (assertedAt s z (getD (claimBody z l i) 2 0) (getD (claimBody z l i) 3 0))
+            (assertedAt s z (getD (claimBody z l i) 0 0) (getD (claimBody z l i) 1 0))))) n
+            ≡ sameStatement (impossible x (O (getD (claimBody z l i) 0 0) (getD (claimBody z l i) 1 0))
+            (O (getD (claimBody z l i) 2 0) (getD (claimBody z l i) 3 0))) (says n)
+        go true f = both-asked (getD (claimBody z l i) 0 0) (getD (claimBody z l i) 1 0) (getD (claimBody z l i) 2 0)
+            (getD (claimBody z l i) 3 0) (f .thread) (f .point) (f .other) (f .beyond)
+        go false f = both-asked (getD (claimBody z l i) 2 0) (getD (claimBody z l i) 3 0) (getD (claimBody z l i) 0 0)
+            (getD (claimBody z l i) 1 0) (f .other) (f .beyond) (f .thread) (f .point)

@@ -8,8 +8,8 @@ use Rattle.frames.specs.Records.{bodies}
 use Rattle.program.specs.declared.sizes.Sizes.{Sizes}
 use Rattle.matcher.specs.declared.whole.Whole.{Whole}
 use Rattle.content.specs.Image.{claimBody}
-use Rattle.content.specs.Places.{claimedIn}
-use Rattle.content.specs.declared.claim.Claimed.{Claimed}
+use Rattle.lookups.specs.Places.{claimedIn}
+use Rattle.lookups.specs.declared.claim.Claimed.{Claimed}
 use Rattle.conclusions.specs.Conclusion.{matchConclusion}
 use Rattle.conclusions.specs.LineConclusion.{conclusionOf}
 use Rattle.conclusions.specs.declared.conclusion.Conclusion.{Conclusion}
@@ -24,9 +24,11 @@ pub said-is : (s : List ℕ) (z : Sizes) (w : Wanted) (n : ℕ) (c : Conclusion)
     → m ≡ matchConclusion s wantedBytes (w .template) (w .form) (w .thread) (w .point) c (w .bind) → m .ok ≡ meets s z w n
 unfolding meets
 said-is s z w n c m ec em =
-    ap (λ (q : Whole). q .ok) (em ∙ ap (λ (d : Conclusion). matchConclusion s wantedBytes (w .template) (w .form) (w .thread) (w .point) d (w .bind)) ec)
+    ap (λ (q : Whole). q .ok)
+    (em ∙ ap (λ (d : Conclusion). matchConclusion s wantedBytes (w .template) (w .form) (w .thread) (w .point) d (w .bind)) ec)
 
-pub concludes-is : (s : List ℕ) (z : Sizes) (o : Obligation) (n : ℕ) (w : Wanted) (r : Bool) → w ≡ wantedAt s z o → r ≡ meets s z w n → r ≡ concludesAt s z o n
+pub concludes-is : (s : List ℕ) (z : Sizes) (o : Obligation) (n : ℕ) (w : Wanted) (r : Bool) → w ≡ wantedAt s z o → r ≡ meets s z w n
+    → r ≡ concludesAt s z o n
 unfolding concludesAt
 concludes-is s z o n w r ew er = rw (← ew) er
 

@@ -6,7 +6,7 @@ use lib.Dec.{eqb}
 use Rattle.frames.specs.Records.{bodies}
 use Rattle.program.specs.declared.sizes.Sizes.{Sizes}
 use Rattle.content.specs.Image.{claimBody}
-use Rattle.content.specs.Places.{claimedIn}
+use Rattle.lookups.specs.Places.{claimedIn}
 use Rattle.conclusions.specs.Conclusion.{matchConclusion}
 use Rattle.conclusions.specs.LineConclusion.{conclusionOf}
 use Rattle.marks.specs.Marks.{isMarked}
@@ -27,7 +27,8 @@ module _ (s : List ℕ) (z : Sizes) where
   unfoldable pub sustainedAt : Marks → ℕ → Bool
   sustainedAt m i =
       cond (eqb (claimedIn (claimBody z (bodies s) i) .line) 0) false
-      (cond (meets (wantedClaim s z (claimedIn (claimBody z (bodies s) i))) (claimedIn (claimBody z (bodies s) i) .line)) (isMarked m (claimedIn (claimBody z (bodies s) i) .line)) false)
+      (cond (meets (wantedClaim s z (claimedIn (claimBody z (bodies s) i))) (claimedIn (claimBody z (bodies s) i) .line))
+      (isMarked m (claimedIn (claimBody z (bodies s) i) .line)) false)
 
   -- 20 no line; 21 the line concludes something else; 22 it is unjustified
   unfoldable pub codeAt : Marks → Obligation → ℕ → ℕ

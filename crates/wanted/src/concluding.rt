@@ -1,8 +1,8 @@
 // Whether a line concludes what an obligation wants, and the code of what is wrong with it.
 use conclusions::conclusion::match_conclusion;
 use conclusions::line_conclusion::conclusion_of;
-use content::claim::claim_of;
-use content::totals::Totals;
+use lookups::claim::claim_of;
+use lookups::totals::Totals;
 use marks::is_marked;
 use program::sizes::Sizes;
 use report::obligation::Obligation;
@@ -13,7 +13,7 @@ use wanting::wanted::wanted_of;
 ghost use mathlib.Core.Path.{_≡_};
 ghost use Rattle.frames.specs.Records.{bodies};
 ghost use Rattle.index.specs.Table.{indexOf};
-ghost use Rattle.content.specs.Totals.{totalsOf};
+ghost use Rattle.lookups.specs.Totals.{totalsOf};
 ghost use Rattle.marks.specs.Marks.{asMarks};
 ghost use Rattle.wanted.specs.Concluding.{meets, concludesAt, sustainedAt, codeAt};
 ghost use Prim.Native.Nat.{_<_};

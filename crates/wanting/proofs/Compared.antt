@@ -11,7 +11,7 @@ use Rattle.compare.specs.Same.{sameTree}
 use Rattle.matcher.specs.Template.{hole}
 use Rattle.matcher.specs.Places.{proper}
 use Rattle.certificate.specs.FitT.{TreeConclusion, implication, placed}
-use Rattle.content.specs.Trees.{treeAt}
+use Rattle.lookups.specs.Trees.{treeAt}
 use Rattle.conclusions.specs.Conclusion.{concludedAt, matchConclusion}
 use Rattle.conclusions.specs.declared.conclusion.Conclusion.{Conclusion}
 use Rattle.conclusions.proofs.Follow.{StandSides}
@@ -68,40 +68,58 @@ abbrev pub compared : ℕ → ℕ → ℕ → Tree → Tree → TreeConclusion �
 compared form t k u w v = placed form t k v && (sameTree u (v .left) && sameTree w (v .right))
 
 module _ (s : List ℕ) (c : Conclusion) (a : ℕ) where
-  pub start-compared : matchConclusion s wantedBytes startAt implication 0 0 c (oneHole a) .ok ≡ compared implication 0 0 starting (treeAt s a) (concludedAt s c)
+  pub start-compared : matchConclusion s wantedBytes startAt implication 0 0 c (oneHole a) .ok ≡ compared implication 0 0 starting
+      (treeAt s a) (concludedAt s c)
   unfolding oneHole hasOperand
   start-compared =
-      filled-is s wantedBytes startAt 0 0 implication starting (hole 0) (oneHole a) c (record { at = refl; left = refl; num = refl }) start-stands
+      filled-is s wantedBytes startAt 0 0 implication starting (hole 0) (oneHole a) c (record { at = refl; left = refl; num = refl })
+      start-stands
       (λ d h. (refl, h .tree 0 (treeAt s a) refl))
 
   module _ (e : ℕ) where
-    pub step-compared : (form t k : ℕ) → matchConclusion s wantedBytes stepAt form t k c (twoHoles a e) .ok ≡ compared form t k (treeAt s a) (treeAt s e) (concludedAt s c)
+    pub step-compared : (form t k : ℕ) → matchConclusion s wantedBytes stepAt form t k c (twoHoles a e) .ok ≡ compared form t k
+        (treeAt s a) (treeAt s e) (concludedAt s c)
     unfolding twoHoles hasOperand
     step-compared form t k =
-        filled-is s wantedBytes stepAt t k form (hole 0) (hole 1) (twoHoles a e) c (record { at = refl; left = refl; num = refl }) step-stands
+        filled-is s wantedBytes stepAt t k form (hole 0) (hole 1) (twoHoles a e) c (record { at = refl; left = refl; num = refl })
+        step-stands
         (λ d h. (h .tree 0 (treeAt s a) refl, h .tree 1 (treeAt s e) refl))
 
-    pub kept-compared : (form t k : ℕ) → matchConclusion s wantedBytes keptAt form t k c (twoHoles a e) .ok ≡ compared form t k (both (treeAt s a) (treeAt s e)) (treeAt s a) (concludedAt s c)
+    pub kept-compared : (form t k : ℕ) → matchConclusion s wantedBytes keptAt form t k c (twoHoles a e) .ok ≡ compared form t k
+        (both (treeAt s a) (treeAt s e)) (treeAt s a) (concludedAt s c)
     unfolding twoHoles hasOperand
     kept-compared form t k =
-        filled-is s wantedBytes keptAt t k form (both (hole 0) (hole 1)) (hole 0) (twoHoles a e) c (record { at = refl; left = refl; num = refl }) kept-stands
+        filled-is s wantedBytes keptAt t k form (both (hole 0) (hole 1)) (hole 0) (twoHoles a e) c
+        (record { at = refl; left = refl; num = refl }) kept-stands
         (λ d h. (ap₂ both (h .tree 0 (treeAt s a) refl) (h .tree 1 (treeAt s e) refl), h .tree 0 (treeAt s a) refl))
 
-    pub claim-compared : matchConclusion s wantedBytes claimAt implication 0 0 c (twoHoles a e) .ok ≡ compared implication 0 0 (both (treeAt s a) (treeAt s e)) falsity (concludedAt s c)
+    pub claim-compared : matchConclusion s wantedBytes claimAt implication 0 0 c (twoHoles a e) .ok ≡ compared implication 0 0
+        (both (treeAt s a) (treeAt s e)) falsity (concludedAt s c)
     unfolding twoHoles hasOperand
     claim-compared =
-        filled-is s wantedBytes claimAt 0 0 implication (both (hole 0) (hole 1)) falsity (twoHoles a e) c (record { at = refl; left = refl; num = refl }) claim-stands
+        filled-is s wantedBytes claimAt 0 0 implication (both (hole 0) (hole 1)) falsity (twoHoles a e) c
+        (record { at = refl; left = refl; num = refl }) claim-stands
         (λ d h. (ap₂ both (h .tree 0 (treeAt s a) refl) (h .tree 1 (treeAt s e) refl), refl))
 
     module _ (b : ℕ) where
-      pub next-compared : matchConclusion s wantedBytes nextAt implication 0 0 c (threeHoles a e b) .ok ≡ compared implication 0 0 (both (treeAt s a) (holding (negated (treeAt s e)))) (treeAt s b) (concludedAt s c)
+      pub next-compared : matchConclusion s wantedBytes nextAt implication 0 0 c (threeHoles a e b) .ok ≡ compared implication 0 0
+          (both (treeAt s a) (holding (negated (treeAt s e)))) (treeAt s b) (concludedAt s c)
       unfolding threeHoles hasOperand
       next-compared =
-          filled-is s wantedBytes nextAt 0 0 implication (both (hole 0) (holding (negated (hole 1)))) (hole 2) (threeHoles a e b) c (record { at = refl; left = refl; num = refl }) next-stands
-          (λ d h. (ap₂ (λ (x y : Tree). both x (holding (negated y))) (h .tree 0 (treeAt s a) refl) (h .tree 1 (treeAt s e) refl), h .tree 2 (treeAt s b) refl))
+          filled-is s wantedBytes nextAt 0 0 implication (both (hole 0) (holding (negated (hole 1)))) (hole 2) (threeHoles a e b) c
+          (record { at = refl; left = refl; num = refl }) next-stands
+          (λ d h. (
+            ap₂ (λ (x y : Tree). both x (holding (negated y))) (h .tree 0 (treeAt s a) refl) (h .tree 1 (treeAt s e) refl),
+            h .tree 2 (treeAt s b) refl,
+          ))
 
-      pub target-compared : matchConclusion s wantedBytes targetAt implication 0 0 c (threeHoles a e b) .ok ≡ compared implication 0 0 (both (treeAt s a) (holding (treeAt s e))) (treeAt s b) (concludedAt s c)
+      pub target-compared : matchConclusion s wantedBytes targetAt implication 0 0 c (threeHoles a e b) .ok ≡ compared implication 0 0
+          (both (treeAt s a) (holding (treeAt s e))) (treeAt s b) (concludedAt s c)
       unfolding threeHoles hasOperand
       target-compared =
-          filled-is s wantedBytes targetAt 0 0 implication (both (hole 0) (holding (hole 1))) (hole 2) (threeHoles a e b) c (record { at = refl; left = refl; num = refl }) target-stands
-          (λ d h. (ap₂ (λ (x y : Tree). both x (holding y)) (h .tree 0 (treeAt s a) refl) (h .tree 1 (treeAt s e) refl), h .tree 2 (treeAt s b) refl))
+          filled-is s wantedBytes targetAt 0 0 implication (both (hole 0) (holding (hole 1))) (hole 2) (threeHoles a e b) c
+          (record { at = refl; left = refl; num = refl }) target-stands
+          (λ d h. (
+            ap₂ (λ (x y : Tree). both x (holding y)) (h .tree 0 (treeAt s a) refl) (h .tree 1 (treeAt s e) refl),
+            h .tree 2 (treeAt s b) refl,
+          ))

@@ -47,8 +47,10 @@ module _ (s t : List ℕ) (i thread point form : ℕ) (p q : Tree) (b : Bind) (c
   module _ (z : Sized b) (st : StandSides t i p q) (f : Settled) where
     sound : T (result .ok) → FitSides filling thread point form p q v
     sound o =
-        let e = sides-follow s t i thread point form p q c b z st .same ∙ ap (λ (k : Bool). given s k (result .bind)) (holds-true (result .ok) o) in
-        let x = sides-sound (holesFrom (takenOf s (result .bind))) thread point form p q v taken (takenOf s (result .bind)) e (has-from (takenOf s (result .bind))) in
+        let e = sides-follow s t i thread point form p q c b z st .same
+        ∙ ap (λ (k : Bool). given s k (result .bind)) (holds-true (result .ok) o) in
+        let x = sides-sound (holesFrom (takenOf s (result .bind))) thread point form p q v taken (takenOf s (result .bind)) e
+        (has-from (takenOf s (result .bind))) in
         let y = f (holesFrom (takenOf s (result .bind))) (x .0) in
         record { placed = x .1 .placed; left = sym (y .0) ∙ x .1 .left; right = sym (y .1) ∙ x .1 .right }
 
@@ -68,6 +70,12 @@ module _ (s t : List ℕ) (i thread point form : ℕ) (p q : Tree) (b : Bind) (c
         bool-ext (result .ok) (placed form thread point v && (left-same && right-same))
         (λ o. let g = sound o in
         and-both (placed form thread point v) (left-same && right-same) (g .placed)
-        (and-both left-same right-same (subst (λ (u : Tree). T (sameTree (instT filling p) u)) (g .left) (tree-refl (instT filling p))) (subst (λ (u : Tree). T (sameTree (instT filling q) u)) (g .right) (tree-refl (instT filling q)))))
+        (and-both left-same right-same (subst (λ (u : Tree). T (sameTree (instT filling p) u)) (g .left) (tree-refl (instT filling p)))
+        (subst (λ (u : Tree). T (sameTree (instT filling q) u)) (g .right) (tree-refl (instT filling q)))))
         (λ h. let k = and-right (placed form thread point v) (left-same && right-same) h in
-        goes (record { placed = and-left (placed form thread point v) (left-same && right-same) h; left = tree-eq (instT filling p) (v .left) (and-left left-same right-same k); right = tree-eq (instT filling q) (v .right) (and-right left-same right-same k) }))
+        goes
+        (record {
+          placed = and-left (placed form thread point v) (left-same && right-same) h;
+          left = tree-eq (instT filling p) (v .left) (and-left left-same right-same k);
+          right = tree-eq (instT filling q) (v .right) (and-right left-same right-same k);
+        }))

@@ -10,8 +10,8 @@ use Rattle.program.specs.declared.sizes.Sizes.{Sizes}
 use Rattle.program.specs.declared.instruction.Instruction.{Instruction}
 use Rattle.records.specs.Places.{instructionOf}
 use Rattle.matcher.specs.declared.bind.Bind.{Bind}
-use Rattle.content.specs.Places.{formulaAt}
-use Rattle.content.specs.declared.claim.Claimed.{Claimed}
+use Rattle.lookups.specs.Places.{formulaAt}
+use Rattle.lookups.specs.declared.claim.Claimed.{Claimed}
 use Rattle.report.specs.declared.obligation.Obligation.{Obligation}
 use Rattle.report.specs.declared.obligation.Obligation.the-variants.{Start, Step, Taken, Interference}
 use Rattle.program.specs.Instruction.{pairOperation}
@@ -35,12 +35,14 @@ module _ (s : List ℕ) (z : Sizes) (t k : ℕ) where
   unfolding wantedStart
   start-wanted a b ea eb = rw (eb, ea)
 
-  pub action-wanted : (i : Instruction) (f a n d : ℕ) (b : Bind) → f ≡ actingForm (i .operation) → b ≡ twoHoles a d → d ≡ assertedAt s z t n → n ≡ nextPoint k → a ≡ assertedAt s z t k
+  pub action-wanted : (i : Instruction) (f a n d : ℕ) (b : Bind) → f ≡ actingForm (i .operation) → b ≡ twoHoles a d
+      → d ≡ assertedAt s z t n → n ≡ nextPoint k → a ≡ assertedAt s z t k
       → kept f t k stepAt b ≡ wantedAction s z t k i
   unfolding wantedAction
   action-wanted i f a n d b ef eb ed en ea = rw (ef, eb, ea, ed, en)
 
-  pub next-wanted : (i : Instruction) (a e n d : ℕ) (b : Bind) → a ≡ assertedAt s z t k → e ≡ formulaAt s (i .formula) → n ≡ nextPoint k → d ≡ assertedAt s z t n → b ≡ threeHoles a e d
+  pub next-wanted : (i : Instruction) (a e n d : ℕ) (b : Bind) → a ≡ assertedAt s z t k → e ≡ formulaAt s (i .formula) → n ≡ nextPoint k
+      → d ≡ assertedAt s z t n → b ≡ threeHoles a e d
       → implied nextAt b ≡ wantedNext s z t k i
   unfolding wantedNext
   next-wanted i a e n d b ea ee en ed eb = rw (eb, ea, ee, ed, en)
@@ -54,16 +56,19 @@ module _ (s : List ℕ) (z : Sizes) (t k : ℕ) where
     unfolding wantedStep
     act-wanted r e d = rw (← h, ne-eqb _ _ e) d
 
-    pub target-wanted : (a e d : ℕ) (b : Bind) → a ≡ assertedAt s z t k → e ≡ formulaAt s (i .formula) → d ≡ assertedAt s z t (i .a) → b ≡ threeHoles a e d → implied targetAt b ≡ wantedTarget s z t k
+    pub target-wanted : (a e d : ℕ) (b : Bind) → a ≡ assertedAt s z t k → e ≡ formulaAt s (i .formula) → d ≡ assertedAt s z t (i .a)
+        → b ≡ threeHoles a e d → implied targetAt b ≡ wantedTarget s z t k
     unfolding wantedTarget
     target-wanted a e d b ea ee ed eb = rw (eb, ea, ee, ed, h)
 
-pub kept-wanted : (s : List ℕ) (z : Sizes) (u j t k : ℕ) (i : Instruction) (f a d : ℕ) (b : Bind) → i ≡ instructionOf z (bodies s) t k → f ≡ actingForm (i .operation)
+pub kept-wanted : (s : List ℕ) (z : Sizes) (u j t k : ℕ) (i : Instruction) (f a d : ℕ) (b : Bind) → i ≡ instructionOf z (bodies s) t k
+    → f ≡ actingForm (i .operation)
     → a ≡ assertedAt s z u j → d ≡ assertedAt s z t k → b ≡ twoHoles a d → kept f t k keptAt b ≡ wantedKept s z u j t k
 unfolding wantedKept
 kept-wanted s z u j t k i f a d b ei ef ea ed eb = rw (ef, ei, eb, ea, ed)
 
-module _ (s : List ℕ) (z : Sizes) (c : Claimed) (a d : ℕ) (b : Bind) (ea : a ≡ assertedAt s z (c .thread) (c .point)) (ed : d ≡ assertedAt s z (c .other) (c .«other_point»)) where
+module _ (s : List ℕ) (z : Sizes) (c : Claimed) (a d : ℕ) (b : Bind) (ea : a ≡ assertedAt s z (c .thread) (c .point))
+    (ed : d ≡ assertedAt s z (c .other) (c .«other_point»)) where
   pub claim-lower : c .thread < c .other → b ≡ twoHoles a d → implied claimAt b ≡ wantedClaim s z c
   unfolding wantedClaim
   claim-lower h eb = rw (lt-ltb _ _ h, eb, ea, ed)
@@ -72,7 +77,17 @@ module _ (s : List ℕ) (z : Sizes) (c : Claimed) (a d : ℕ) (b : Bind) (ea : a
   unfolding wantedClaim
   claim-higher h eb = rw (le-ltb _ _ h, eb, ea, ed)
 
-pub ruleset wanting = (claim-lower, claim-higher, start-wanted, action-wanted, next-wanted, branch-wanted, act-wanted, target-wanted, kept-wanted)
+pub ruleset wanting = (
+  claim-lower,
+  claim-higher,
+  start-wanted,
+  action-wanted,
+  next-wanted,
+  branch-wanted,
+  act-wanted,
+  target-wanted,
+  kept-wanted,
+)
 
 module _ (s : List ℕ) (z : Sizes) (o : Obligation) (r : Wanted) where
   pub wanted-start : (t : ℕ) → o ≡ Start t → r ≡ wantedStart s z t → r ≡ wantedAt s z o

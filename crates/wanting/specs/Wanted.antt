@@ -16,13 +16,14 @@ use Rattle.matcher.specs.Template.{firstHole}
 use Rattle.matcher.specs.declared.bind.Bind.{Bind}
 use Rattle.certificate.specs.FitT.{implication, hoare, paired}
 use Rattle.content.specs.Program.{outlineNumber}
-use Rattle.content.specs.Places.{formulaAt}
-use Rattle.content.specs.declared.claim.Claimed.{Claimed}
+use Rattle.lookups.specs.Places.{formulaAt}
+use Rattle.lookups.specs.declared.claim.Claimed.{Claimed}
 use Rattle.report.specs.declared.obligation.Obligation.{Obligation}
 use Rattle.report.specs.declared.obligation.Obligation.the-variants.{Start, Step, Taken, Interference}
 use Rattle.wanting.specs.declared.wanted.Wanted.{Wanted}
 
--- left and right side of each: start gives an assertion; one taken to another; an assertion and a negated test give another; with the test as it is; two, of which the first is kept; false from two
+-- left and right side of each: start gives an assertion; one taken to another; an assertion and a negated test give another; with the
+-- test as it is; two, of which the first is kept; false from two
 abbrev pub wantedBytes : List ℕ
 wantedBytes =
     byte Code.start ∷ firstHole
@@ -91,10 +92,12 @@ module _ (s : List ℕ) (z : Sizes) where
   wantedNext t k i = implied nextAt (threeHoles (assertedAt t k) (formulaAt s (i .formula)) (assertedAt t (nextPoint k)))
 
   unfoldable pub wantedStep : ℕ → ℕ → Wanted
-  wantedStep t k = cond (eqb (instructionOf z (bodies s) t k .operation) Opcode.branch) (wantedNext t k (instructionOf z (bodies s) t k)) (wantedAction t k (instructionOf z (bodies s) t k))
+  wantedStep t k = cond (eqb (instructionOf z (bodies s) t k .operation) Opcode.branch) (wantedNext t k (instructionOf z (bodies s) t k))
+      (wantedAction t k (instructionOf z (bodies s) t k))
 
   unfoldable pub wantedTarget : ℕ → ℕ → Wanted
-  wantedTarget t k = implied targetAt (threeHoles (assertedAt t k) (formulaAt s (instructionOf z (bodies s) t k .formula)) (assertedAt t (instructionOf z (bodies s) t k .a)))
+  wantedTarget t k = implied targetAt (threeHoles (assertedAt t k) (formulaAt s (instructionOf z (bodies s) t k .formula))
+      (assertedAt t (instructionOf z (bodies s) t k .a)))
 
   unfoldable pub wantedKept : ℕ → ℕ → ℕ → ℕ → Wanted
   wantedKept u j t k = kept (actingForm (instructionOf z (bodies s) t k .operation)) t k keptAt (twoHoles (assertedAt u j) (assertedAt t k))
@@ -102,7 +105,8 @@ module _ (s : List ℕ) (z : Sizes) where
   -- false from the assertions of a claim's points, the lower thread's first
   unfoldable pub wantedClaim : Claimed → Wanted
   wantedClaim c =
-      cond (ltb (c .thread) (c .other)) (implied claimAt (twoHoles (assertedAt (c .thread) (c .point)) (assertedAt (c .other) (c .«other_point»))))
+      cond (ltb (c .thread) (c .other)) (implied claimAt
+      (twoHoles (assertedAt (c .thread) (c .point)) (assertedAt (c .other) (c .«other_point»))))
       (implied claimAt (twoHoles (assertedAt (c .other) (c .«other_point»)) (assertedAt (c .thread) (c .point))))
 
   unfoldable pub wantedAt : Obligation → Wanted

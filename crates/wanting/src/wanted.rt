@@ -1,10 +1,10 @@
 // What an obligation wants of a line: a template with every hole set.
-use content::claim::Claimed;
-use content::point::outline_at;
-use content::position::formula_at;
-use content::totals::Totals;
 use formula::code::Code;
 use limits::Limits;
+use lookups::claim::Claimed;
+use lookups::point::outline_at;
+use lookups::position::formula_at;
+use lookups::totals::Totals;
 use matcher::bind::Bind;
 use matcher::bind::Hole;
 use program::instruction::Instruction;
@@ -16,7 +16,7 @@ use rulebook::rule::Form;
 ghost use mathlib.Core.Path.{_≡_};
 ghost use Rattle.frames.specs.Records.{bodies};
 ghost use Rattle.index.specs.Table.{indexOf};
-ghost use Rattle.content.specs.Totals.{totalsOf};
+ghost use Rattle.lookups.specs.Totals.{totalsOf};
 ghost use Rattle.wanting.specs.Wanted.{oneHole, twoHoles, threeHoles, nextPoint, actingForm, wantedStart, wantedAction, wantedNext, wantedStep, wantedTarget, wantedKept, wantedClaim, wantedAt};
 
 // The form of the line, the thread and the point of a triple, where the template begins and what its holes stand for.

@@ -21,11 +21,13 @@ pub table-none : (l : List (List ℕ)) → replicate (Limits.formulas + 1) false
 unfolding outlinedTo
 table-none l = refl
 
-pub table-more : (l : List (List ℕ)) (a : List Bool) (k : ℕ) (b : List ℕ) (u : Bool) → a ≡ outlinedTo l k → b ≡ getD l k [] → u ≡ outlined b → set a k u ≡ outlinedTo l (k + 1)
+pub table-more : (l : List (List ℕ)) (a : List Bool) (k : ℕ) (b : List ℕ) (u : Bool) → a ≡ outlinedTo l k → b ≡ getD l k []
+    → u ≡ outlined b → set a k u ≡ outlinedTo l (k + 1)
 unfolding outlinedTo outlinedAt
 table-more l a k b u ea eb eu = rw (add-one k, eu, eb, ea)
 
-pub table-all : (z : Sizes) (l : List (List ℕ)) (a : List Bool) (k n : ℕ) → n ≡ entries z → k ≤ n → n ≤ k → a ≡ outlinedTo l k → a ≡ outlinedOf z l
+pub table-all : (z : Sizes) (l : List (List ℕ)) (a : List Bool) (k n : ℕ) → n ≡ entries z → k ≤ n → n ≤ k → a ≡ outlinedTo l k
+    → a ≡ outlinedOf z l
 unfolding outlinedOf
 table-all z l a k n en h g e = let q : k ≡ entries z = omega arith in rw (← q) e
 
@@ -53,7 +55,8 @@ unfolding outlinedTo
 to-entry l zero k h g = absurd (omega arith)
 to-entry l (suc n) k h g = go (eqb k n) refl (λ a. to-entry l n k a (omega arith))
   where
-    go : (b : Bool) → eqb k n ≡ b → (k < n → getD (outlinedTo l n) k false ≡ outlinedAt l k) → getD (set (outlinedTo l n) n (outlinedAt l n)) k false ≡ outlinedAt l k
+    go : (b : Bool) → eqb k n ≡ b → (k < n → getD (outlinedTo l n) k false ≡ outlinedAt l k)
+        → getD (set (outlinedTo l n) n (outlinedAt l n)) k false ≡ outlinedAt l k
     go true e f =
         let q = eqb-true k n e in
         let z : n < length (outlinedTo l n) = rw (to-length l n) (omega arith) in

@@ -40,11 +40,13 @@ pub ruleset numbered = (at-outlined, at-sort)
 pub points-are : (z : Sizes) (l : List (List ℕ)) (c : Tally) → c ≡ tally z l → c .points ≡ tally z l .points
 points-are z l c e = rw e
 
-pub obligations-are : (z : Sizes) (l : List (List ℕ)) (b : List ℕ) (n : ℕ) (r : Checked) → n ≡ obligationCount z l → r ≡ exactly n 0 (z .lines) b → r ≡ obligations z l b
+pub obligations-are : (z : Sizes) (l : List (List ℕ)) (b : List ℕ) (n : ℕ) (r : Checked) → n ≡ obligationCount z l
+    → r ≡ exactly n 0 (z .lines) b → r ≡ obligations z l b
 unfolding obligations
 obligations-are z l b n r e d = rw (← e) d
 
-module _ (z : Sizes) (l : List (List ℕ)) (b : List ℕ) (n : ℕ) (c : Checked) (en : n ≡ tally z l .points) (ec : c ≡ exactly n 1 (z .formulas) b) where
+module _ (z : Sizes) (l : List (List ℕ)) (b : List ℕ) (n : ℕ) (c : Checked) (en : n ≡ tally z l .points)
+    (ec : c ≡ exactly n 1 (z .formulas) b) where
   pub outline-numbers : (f : Fault) → c ≡ Faulty f → Faulty f ≡ outline z l b
   unfolding outline also
   outline-numbers f q = rw (← en, ← ec, q)
@@ -83,7 +85,8 @@ module _ (l : List (List ℕ)) (f : Form) (k : ℕ) where
   unfolding sortedBy
   by-unlisted q = rw q
 
-module _ (l : List (List ℕ)) (b : List ℕ) (f : Form) (x : ℕ) (u : Bool) (ef : f ≡ formOf (getD b 0 0)) (ex : x ≡ word (drop 3 b)) (eu : u ≡ sortedBy l f x) where
+module _ (l : List (List ℕ)) (b : List ℕ) (f : Form) (x : ℕ) (u : Bool) (ef : f ≡ formOf (getD b 0 0)) (ex : x ≡ word (drop 3 b))
+    (eu : u ≡ sortedBy l f x) where
   pub left-off : u ≡ false → false ≡ lineSorted l b
   unfolding lineSorted
   left-off q = rw (← ef, ← ex, ← eu, q)

@@ -55,7 +55,8 @@ module _ (s : List ℕ) (at : ℕ) (c : Seen) where
         let q : length (drop at s) < 2 + n = rw (length-drop at s) (omega arith) in
         rw (two, ← e, le-ltb _ _ g, has-not (2 + n) (drop at s) q)
 
-    pub frame-kind : (k o : ℕ) (f : Checked) → 2 ≤ n → n ≤ length s - at - 2 → k ≡ word (drop (at + 2) s) → o ≡ order k → f ≡ admit c o → f ≡ frame c (drop at s)
+    pub frame-kind : (k o : ℕ) (f : Checked) → 2 ≤ n → n ≤ length s - at - 2 → k ≡ word (drop (at + 2) s) → o ≡ order k → f ≡ admit c o
+        → f ≡ frame c (drop at s)
     unfolding frame
     frame-kind k o f g p ek eo ef =
         let q : 2 + n ≤ length (drop at s) = rw (length-drop at s) (omega arith) in

@@ -37,7 +37,8 @@ module _ (s : List ℕ) (at : ℕ) (c : Seen) (f : Checked) (e : f ≡ frame c (
 
   module _ (w k : ℕ) (d : w ≡ word (drop (at + 2) s)) (o : k ≡ order w) where
     admits-it : Admitted c k
-    admits-it = subst (Admitted c) (ap (λ (l : List ℕ). order (word l)) (drop-drop 2 at s) ∙ ap order (sym d) ∙ sym o) (framed c (drop at s) (sym e ∙ z) .admits)
+    admits-it = subst (Admitted c) (ap (λ (l : List ℕ). order (word l)) (drop-drop 2 at s) ∙ ap order (sym d) ∙ sym o)
+        (framed c (drop at s) (sym e ∙ z) .admits)
 
     pub kind-known : k < 8
     kind-known = omega (arith, admits-it .known)
@@ -45,8 +46,10 @@ module _ (s : List ℕ) (at : ℕ) (c : Seen) (f : Checked) (e : f ≡ frame c (
     pub kind-room : getD (c .count) k 0 + 1 < 65536
     kind-room = room (c .count) k (admits-it .few)
 
-module _ (s : List ℕ) (at i : ℕ) (c : Seen) (f : Checked) (lt : 0 < length s - at) (low : 1 ≤ i) (le : i ≤ at + 1) (e : f ≡ frame c (drop at s)) where
-  step : walk (length s + 1 - i) i c (drop at s) ≡ unlessFaulty f i (walk (length s + 1 - i - 1) (i + 1) (counted c (order (word (drop 2 (drop at s))))) (drop (2 + word (drop at s)) (drop at s)))
+module _ (s : List ℕ) (at i : ℕ) (c : Seen) (f : Checked) (lt : 0 < length s - at) (low : 1 ≤ i) (le : i ≤ at + 1)
+    (e : f ≡ frame c (drop at s)) where
+  step : walk (length s + 1 - i) i c (drop at s) ≡ unlessFaulty f i
+      (walk (length s + 1 - i - 1) (i + 1) (counted c (order (word (drop 2 (drop at s))))) (drop (2 + word (drop at s)) (drop at s)))
   step =
       let q : 0 < length (drop at s) = rw (length-drop at s) (omega arith) in
       let p : 0 < length s + 1 - i = omega arith in
@@ -55,7 +58,8 @@ module _ (s : List ℕ) (at i : ℕ) (c : Seen) (f : Checked) (lt : 0 < length s
   pub walk-stop : (b : Fault) → frames s ≡ walk (length s + 1 - i) i c (drop at s) → f ≡ Faulty b → Refused b i ≡ frames s
   walk-stop b h z = sym (h ∙ step ∙ (rw z))
 
-  pub walk-more : (w k n : ℕ) → frames s ≡ walk (length s + 1 - i) i c (drop at s) → f ≡ Passed → w ≡ word (drop (at + 2) s) → k ≡ order w → n ≡ word (drop at s)
+  pub walk-more : (w k n : ℕ) → frames s ≡ walk (length s + 1 - i) i c (drop at s) → f ≡ Passed → w ≡ word (drop (at + 2) s) → k ≡ order w
+      → n ≡ word (drop at s)
       → frames s ≡ walk (length s + 1 - (i + 1)) (i + 1) (counted c k) (drop (at + 2 + n) s)
   walk-more w k n h z ew ek en =
       let p : length s + 1 - i - 1 ≡ length s + 1 - (i + 1) = omega arith in
@@ -66,7 +70,8 @@ pub walk-start : (s : List ℕ) → frames s ≡ walk (length s + 1 - 1) 1 none 
 unfolding frames
 walk-start s = let p : length s + 1 - 1 ≡ length s = omega arith in rw p
 
-pub walk-last : (s : List ℕ) (at i : ℕ) (c : Seen) (r : Framing) → length s - at ≤ 0 → frames s ≡ walk (length s + 1 - i) i c (drop at s) → r ≡ ended i c → r ≡ frames s
+pub walk-last : (s : List ℕ) (at i : ℕ) (c : Seen) (r : Framing) → length s - at ≤ 0 → frames s ≡ walk (length s + 1 - i) i c (drop at s)
+    → r ≡ ended i c → r ≡ frames s
 walk-last s at i c r h e d = let q : length s ≤ at = omega arith in rw (e, drop-of-length-le s q, walk-end) d
 
 pub ruleset walking = (frame-fits, kind-known, kind-room, walk-start, walk-stop, walk-more, walk-last)

@@ -39,10 +39,12 @@ unfolding firstFault
 fault-step t z l i zero m h = absurd (omega arith)
 fault-step t z l i (suc n) m h = rw (sub-one (suc n))
 
-pub bodies-start : (t : ℕ) (z : Sizes) (l : List (List ℕ)) (n : ℕ) → n ≡ recordCount z → firstFault t z l 1 (recordCount z) l ≡ firstFault t z l 1 (n + 1 - 1) (drop (1 - 1) l)
+pub bodies-start : (t : ℕ) (z : Sizes) (l : List (List ℕ)) (n : ℕ) → n ≡ recordCount z
+    → firstFault t z l 1 (recordCount z) l ≡ firstFault t z l 1 (n + 1 - 1) (drop (1 - 1) l)
 bodies-start t z l n e = let q : n + 1 - 1 ≡ recordCount z = omega arith in rw q
 
-module _ (t : ℕ) (z : Sizes) (l : List (List ℕ)) (i n : ℕ) (b : List ℕ) (c : Checked) (g : Decoded) (le : i ≤ n) (low : 1 ≤ i) (e : g ≡ firstFault t z l i (n + 1 - i) (drop (i - 1) l))
+module _ (t : ℕ) (z : Sizes) (l : List (List ℕ)) (i n : ℕ) (b : List ℕ) (c : Checked) (g : Decoded) (le : i ≤ n) (low : 1 ≤ i)
+    (e : g ≡ firstFault t z l i (n + 1 - i) (drop (i - 1) l))
     (eb : b ≡ getD l (i - 1) []) (ec : c ≡ check t z l (placeOf z i) b) where
   turn : g ≡ unlessFaulty c i (firstFault t z l (i + 1) (n + 1 - i - 1) (drop 1 (drop (i - 1) l)))
   turn =
@@ -59,7 +61,8 @@ module _ (t : ℕ) (z : Sizes) (l : List (List ℕ)) (i n : ℕ) (b : List ℕ) 
       let d : i - 1 + 1 ≡ i + 1 - 1 = omega arith in
       turn ∙ (rw (q, drop-drop 1 (i - 1) l, a, d))
 
-pub bodies-all : (t : ℕ) (z : Sizes) (l m : List (List ℕ)) (i n : ℕ) (g : Decoded) → n < i → g ≡ firstFault t z l i (n + 1 - i) m → Sound z ≡ g
+pub bodies-all : (t : ℕ) (z : Sizes) (l m : List (List ℕ)) (i n : ℕ) (g : Decoded) → n < i → g ≡ firstFault t z l i (n + 1 - i) m
+    → Sound z ≡ g
 unfolding firstFault
 bodies-all t z l m i n g h e = let q : n + 1 - i ≡ 0 = omega arith in rw (e, q)
 
@@ -104,7 +107,8 @@ pub frames-refused : (s : List ℕ) (g : Framing) (f : Fault) (r : ℕ) → g �
 unfolding decoded
 frames-refused s g f r e q = rw (← e, q)
 
-pub frames-sound : (s : List ℕ) (g : Framing) (nf nt nl nc : ℕ) (h : List ℕ) (z : Sizes) (d : Decoded) → g ≡ wholeImage s → g ≡ Framing.Sound nf nt nl nc → h ≡ getD (bodies s) 0 [] → z ≡ sizesOf h nf nl nc
+pub frames-sound : (s : List ℕ) (g : Framing) (nf nt nl nc : ℕ) (h : List ℕ) (z : Sizes) (d : Decoded) → g ≡ wholeImage s
+    → g ≡ Framing.Sound nf nt nl nc → h ≡ getD (bodies s) 0 [] → z ≡ sizesOf h nf nl nc
     → d ≡ firstFault nt z (bodies s) 1 (recordCount z) (bodies s) → d ≡ decoded s
 unfolding decoded
 frames-sound s g nf nt nl nc h z d e q eh ez ed = rw (← e, q, ← eh, ← ez) ed

@@ -4,4 +4,5 @@ use Rattle.input.proofs.reached_by.Statement.{statement}
 use Rattle.input.proofs.reached_by.Tie as tie
 
 pub reached-by-spec : {M : Type 1} → statement M
-reached-by-spec = tie.close (tie.spec (λ c. search (reaching, needs)) (λ c. search (reaching, needs)) (λ c. search needs) (λ c. search (reaching, needs)))
+reached-by-spec = tie.close (tie.spec (λ c. search (reaching, needs)) (λ c. search (reaching, needs)) (λ c. search needs)
+    (λ c. search (reaching, needs)))

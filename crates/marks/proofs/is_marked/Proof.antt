@@ -6,4 +6,5 @@ use Rattle.marks.proofs.is_marked.Tie as tie
 
 pub is-marked-spec : {M : Type 1} → statement M
 is-marked-spec =
-    tie.close (tie.spec (λ c. search (marking, tests)) (λ c. search (marking, tests)) (λ c. search needs) (λ c. search needs) (λ c. search (marking, tests)))
+    tie.close (tie.spec (λ c. search (marking, tests)) (λ c. search (marking, tests)) (λ c. search needs) (λ c. search needs)
+    (λ c. search (marking, tests)))

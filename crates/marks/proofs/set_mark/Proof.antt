@@ -5,4 +5,5 @@ use Rattle.marks.proofs.set_mark.Statement.{statement}
 use Rattle.marks.proofs.set_mark.Tie as tie
 
 pub set-mark-spec : {M : Type 1} → statement M
-set-mark-spec = tie.close (tie.spec (λ c. search (marking, tests)) (λ c. search (marking, tests)) (λ c. search needs) (λ c. search needs) (λ c. search needs) (λ c. search (marking, tests)))
+set-mark-spec = tie.close (tie.spec (λ c. search (marking, tests)) (λ c. search (marking, tests)) (λ c. search needs) (λ c. search needs)
+    (λ c. search needs) (λ c. search (marking, tests)))

@@ -7,7 +7,7 @@ use lib.Dec.{eqb}
 use lib.ListN.{getD}
 use Rattle.limits.specs.Numbers.{within}
 use Rattle.program.specs.declared.sizes.Sizes.{Sizes}
-use Rattle.program.specs.Thread.{lastPoint}
+use Rattle.threads.specs.Thread.{lastPoint}
 use Rattle.records.specs.Places.{threadBody}
 use Rattle.records.specs.Claim.{pointThere, different}
 
@@ -16,7 +16,8 @@ module _ (z : Sizes) (l : List (List ℕ)) (b : List ℕ) (i t : ℕ) (u : Bool)
   unfolding pointThere
   there-not h = rw (← et, ← eu, h)
 
-  pub there-is : (c : List ℕ) (k p : ℕ) (r : Bool) → u ≡ true → c ≡ getD l (z .formulas + t) [] → k ≡ lastPoint c → p ≡ getD b (i + 1) 0 → r ≡ within 0 k p → r ≡ pointThere z l b i
+  pub there-is : (c : List ℕ) (k p : ℕ) (r : Bool) → u ≡ true → c ≡ getD l (z .formulas + t) [] → k ≡ lastPoint c → p ≡ getD b (i + 1) 0
+      → r ≡ within 0 k p → r ≡ pointThere z l b i
   unfolding pointThere threadBody
   there-is c k p r h ec ek ep d = rw (← et, ← eu, h, ← ec, ← ek, ← ep) d
 

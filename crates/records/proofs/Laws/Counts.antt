@@ -17,8 +17,8 @@ use Rattle.frames.specs.declared.fault.Checked.{Checked}
 use Rattle.frames.specs.declared.fault.Checked.the-variants.{Passed, Faulty}
 use Rattle.program.specs.declared.sizes.Sizes.{Sizes}
 use Rattle.program.specs.declared.instruction.Instruction.{Instruction}
-use Rattle.program.specs.Thread.{lastPoint, instructions, nothing}
-use Rattle.program.proofs.Laws.Program.{instructions-length}
+use Rattle.threads.specs.Thread.{lastPoint, instructions, nothing}
+use Rattle.threads.proofs.Threads.{instructions-length}
 use Rattle.records.specs.Places.{threadBody, instructionOf}
 use Rattle.records.specs.declared.tally.Tally.{Tally}
 use Rattle.records.specs.Tally.{isBranch, branches, tallied, threadTally, plus, tallyTo, tally, Small, obligationsBy, obligationCount}
@@ -35,7 +35,8 @@ module _ (z : Sizes) (l : List (List ℕ)) (t p : ℕ) where
   unfolding instructionOf
   there-past h g = rw (ne-eqb _ _ h, lt-ltb _ _ g)
 
-  pub there-in : (r : Instruction) → (t ≡ 0 → ⊥) → t ≤ z .threads → r ≡ getD (instructions (getD l (z .formulas + t) [])) p nothing → r ≡ instructionOf z l t p
+  pub there-in : (r : Instruction) → (t ≡ 0 → ⊥) → t ≤ z .threads → r ≡ getD (instructions (getD l (z .formulas + t) [])) p nothing
+      → r ≡ instructionOf z l t p
   unfolding instructionOf threadBody
   there-in r h g d = rw (ne-eqb _ _ h, le-ltb _ _ g) d
 
@@ -48,11 +49,13 @@ unfolding branches
 branches-cons i l = refl
 
 module _ (b : List ℕ) (last n p : ℕ) (e : last ≡ lastPoint b) where
-  pub count-more : (i : Instruction) (m : ℕ) → p < last → n + branches (drop p (instructions b)) ≡ branches (instructions b) → i ≡ getD (instructions b) p nothing → m ≡ isBranch i
+  pub count-more : (i : Instruction) (m : ℕ) → p < last → n + branches (drop p (instructions b)) ≡ branches (instructions b)
+      → i ≡ getD (instructions b) p nothing → m ≡ isBranch i
       → n + m + branches (drop (p + 1) (instructions b)) ≡ branches (instructions b)
   count-more i m lt d ei em =
       let q : p < length (instructions b) = rw (instructions-length b, ← e) lt in
-      let w : branches (drop p (instructions b)) ≡ m + branches (drop (suc p) (instructions b)) = rw (drop-cons (instructions b) p nothing q, branches-cons, ← ei, ← em) in
+      let w : branches (drop p (instructions b)) ≡ m + branches (drop (suc p) (instructions b)) =
+      rw (drop-cons (instructions b) p nothing q, branches-cons, ← ei, ← em) in
       rw (add-one p) (omega arith)
 
   pub count-all : last ≤ p → n + branches (drop p (instructions b)) ≡ branches (instructions b) → n ≡ branches (instructions b)
@@ -96,7 +99,8 @@ sum-none z l = refl
 pub small-none : Small 0 (record { points = 0; steps = 0; actions = 0; own = 0 })
 small-none = record { points = omega arith; steps = omega arith; actions = omega arith; own = omega arith }
 
-pub sum-more : (z : Sizes) (l : List (List ℕ)) (t : ℕ) (b : List ℕ) (c d r : Tally) → c ≡ tallyTo z l t → b ≡ getD l (z .formulas + (t + 1)) [] → d ≡ threadTally b → r ≡ plus c d → r ≡ tallyTo z l (t + 1)
+pub sum-more : (z : Sizes) (l : List (List ℕ)) (t : ℕ) (b : List ℕ) (c d r : Tally) → c ≡ tallyTo z l t
+    → b ≡ getD l (z .formulas + (t + 1)) [] → d ≡ threadTally b → r ≡ plus c d → r ≡ tallyTo z l (t + 1)
 unfolding tallyTo threadBody
 sum-more z l t b c d r ec eb ed er = er ∙ (rw (add-one t, ec, ed, eb, add-one t))
 
@@ -117,8 +121,13 @@ unfolding tallyTo threadTally
 own-below z l zero = omega arith
 own-below z l (suc t) = go (tallyTo z l t) (own-below z l t) (threadTally (threadBody z l (suc t))) refl
   where
-    go : (c : Tally) → c .own ≤ c .points * c .actions → (d : Tally) → d .own ≡ d .points * d .actions → plus c d .own ≤ plus c d .points * plus c d .actions
-    go c h d e = rw (add-mul (c .points) (d .points) (c .actions + d .actions), mul-add (c .points) (c .actions) (d .actions), mul-add (d .points) (c .actions) (d .actions)) (omega arith)
+    go : (c : Tally) → c .own ≤ c .points * c .actions → (d : Tally) → d .own ≡ d .points * d .actions
+        → plus c d .own ≤ plus c d .points * plus c d .actions
+    go c h d e = rw (
+      add-mul (c .points) (d .points) (c .actions + d .actions),
+      mul-add (c .points) (c .actions) (d .actions),
+      mul-add (d .points) (c .actions) (d .actions),
+    ) (omega arith)
 
 module _ (z : Sizes) (l : List (List ℕ)) (c : Tally) where
   pub own-least : c ≡ tally z l → c .own ≤ c .points * c .actions

@@ -30,7 +30,8 @@ module _ (b l : List ℕ) (n : ℕ) (el : l ≡ drop 8 b) (en : n ≡ getD b 7 0
   unfolding premises
   premises-are lower u d = rw (← el, ← en) d
 
-pub triple-is : (z : Sizes) (l : List (List ℕ)) (b : List ℕ) (t p : ℕ) (i : Instruction) → t ≡ getD b 1 0 → p ≡ getD b 2 0 → i ≡ instructionOf z l t p
+pub triple-is : (z : Sizes) (l : List (List ℕ)) (b : List ℕ) (t p : ℕ) (i : Instruction) → t ≡ getD b 1 0 → p ≡ getD b 2 0
+    → i ≡ instructionOf z l t p
     → not (eqb (i .operation) Opcode.branch) ≡ tripleAt z l b
 unfolding tripleAt
 triple-is z l b t p i et ep ei = rw (← et, ← ep, ← ei)

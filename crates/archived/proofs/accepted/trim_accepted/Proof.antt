@@ -19,6 +19,12 @@ trim-accepted-spec =
     (λ c. search (trimming-ways, tests))
     (λ c. search needs)
     (λ c. search needs)
-    (λ c κs. ((search tests, search tests), ((search tests, search tests), room _ _ (c .before .before .before .before .trimmed-length .result) _ (search tests) (search tests))))
+    (λ c κs. (
+      (search tests, search tests),
+      (
+        (search tests, search tests),
+        room _ _ (c .before .before .before .before .trimmed-length .result) _ (search tests) (search tests),
+      ),
+    ))
     (λ c. search needs)
     (λ c. search (trimming-ways, tests)))

@@ -5,4 +5,5 @@ use Rattle.bits.proofs.word.leaf_word.Statement.{statement}
 use Rattle.bits.proofs.word.leaf_word.Tie as tie
 
 pub leaf-word-spec : {M : Type 1} → statement M
-leaf-word-spec = tie.close (tie.spec (λ c κs. search needs) (λ c. search (leaf, tests)) (λ c. search needs) (λ c. search (leaf, tests)) (λ c. search (leaf, tests)))
+leaf-word-spec = tie.close (tie.spec (λ c κs. search needs) (λ c. search (leaf, tests)) (λ c. search needs) (λ c. search (leaf, tests))
+    (λ c. search (leaf, tests)))

@@ -7,4 +7,5 @@ use Rattle.bits.proofs.word.mask_of.Tie as tie
 pub mask-of-spec : {M : Type 1} → statement M
 mask-of-spec =
     tie.close
-    (tie.spec (λ c. search needs) (λ c. search needs) (λ c. search (masks, tests)) (λ c. search (masks, tests)) (λ c. search needs) (λ c. search needs) (λ c. search (masks, tests)) (λ c. search (masks, tests)))
+    (tie.spec (λ c. search needs) (λ c. search needs) (λ c. search (masks, tests)) (λ c. search (masks, tests)) (λ c. search needs)
+    (λ c. search needs) (λ c. search (masks, tests)) (λ c. search (masks, tests)))

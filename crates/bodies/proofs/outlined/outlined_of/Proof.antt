@@ -10,7 +10,8 @@ use Rattle.bodies.proofs.outlined.outlined_of.Statement.{statement}
 use Rattle.bodies.proofs.outlined.outlined_of.Tie as tie
 
 abbrev Inv-loop : tie.InvT-loop
-Inv-loop s ix n o₀ k₀ o k = (n ≤ Limits.formulas + 1) × ((k ≤ n) × ((o .on ≡ outlinedTo (bodies s) k) × (length (o .on) ≡ Limits.formulas + 1)))
+Inv-loop s ix n o₀ k₀ o k = (n ≤ Limits.formulas + 1)
+    × ((k ≤ n) × ((o .on ≡ outlinedTo (bodies s) k) × (length (o .on) ≡ Limits.formulas + 1)))
 
 abbrev μ-loop : tie.MeasureT-loop
 μ-loop s ix n o₀ k₀ o k = n - k

@@ -12,17 +12,23 @@ use Rattle.caller_bills.proofs.bills.bill_caller.Tie as tie
 returns-2 : tie.Need-returns-2
 returns-2 c =
     let a = c .before .before .before .before .before .before .before .before .before .before .args in
-    bill-failed _ _ _ _ _ (search tests) (search tests) (getD (a .service .now) (numberPlace (a .caller)) 0) _ _ (search tests) (search tests) (search tests)
+    bill-failed _ _ _ _ _ (search tests) (search tests) (getD (a .service .now) (numberPlace (a .caller)) 0) _ _ (search tests)
+    (search tests) (search tests)
 
 add-service : tie.Need-add-service
 add-service c =
     let a = c .before .before .before .before .before .before .before .before .before .before .args in
-    omega (arith, number-goes-on _ _ _ _ _ _ (c .before .before .before .bill-into .ensures) (search tests), c .before .before .before .before .before .before .before .before .before .slice-known .given (numberPlace (a .caller)))
+    omega (
+      arith,
+      number-goes-on _ _ _ _ _ _ (c .before .before .before .bill-into .ensures) (search tests),
+      c .before .before .before .before .before .before .before .before .before .slice-known .given (numberPlace (a .caller)),
+    )
 
 returns-3 : tie.Need-returns-3
 returns-3 c =
     let a = c .before .before .before .before .before .before .before .before .before .before .args in
-    bill-counted _ _ _ _ _ (search tests) (search tests) (getD (a .service .now) (numberPlace (a .caller)) 0) _ _ (search tests) (c .before .before .before .bill-into .ensures) (search tests)
+    bill-counted _ _ _ _ _ (search tests) (search tests) (getD (a .service .now) (numberPlace (a .caller)) 0) _ _ (search tests)
+    (c .before .before .before .bill-into .ensures) (search tests)
 
 pub bill-caller-spec : {M : Type 1} → statement M
 bill-caller-spec =

@@ -5,4 +5,5 @@ use Rattle.caller_bills.proofs.bills.clear_bill.Statement.{statement}
 use Rattle.caller_bills.proofs.bills.clear_bill.Tie as tie
 
 pub clear-bill-spec : {M : Type 1} → statement M
-clear-bill-spec = tie.close (tie.spec (λ c. search (clearing, tests)) (λ c κs. search needs) (λ c. search needs) (λ c. search (clearing, tests)))
+clear-bill-spec = tie.close (tie.spec (λ c. search (clearing, tests)) (λ c κs. search needs) (λ c. search needs)
+    (λ c. search (clearing, tests)))

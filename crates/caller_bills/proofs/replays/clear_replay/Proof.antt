@@ -5,4 +5,5 @@ use Rattle.caller_bills.proofs.replays.clear_replay.Statement.{statemen
 use Rattle.caller_bills.proofs.replays.clear_replay.Tie as tie
 
 pub clear-replay-spec : {M : Type 1} → statement M
-clear-replay-spec = tie.close (tie.spec (λ c. search (cleared-short, replay-cleared, tests)) (λ c κs. search needs) (λ c. search needs) (λ c. search (replay-cleared, tests)))
+clear-replay-spec = tie.close (tie.spec (λ c. search (cleared-short, replay-cleared, tests)) (λ c κs. search needs) (λ c. search needs)
+    (λ c. search (replay-cleared, tests)))

@@ -7,4 +7,5 @@ use Rattle.cases.proofs.fields.same_fields.Tie as tie
 pub same-fields-spec : {M : Type 1} → statement M
 unfolding sameFields
 same-fields-spec =
-    tie.close (tie.spec (λ c. search tests) (λ c. search tests) (λ c. search tests) (λ c. search tests) (λ c κs. search needs) (λ c. search tests))
+    tie.close (tie.spec (λ c. search tests) (λ c. search tests) (λ c. search tests) (λ c. search tests) (λ c κs. search needs)
+    (λ c. search tests))

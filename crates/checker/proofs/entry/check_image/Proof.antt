@@ -6,4 +6,5 @@ use Rattle.checker.proofs.entry.check_image.Tie as tie
 
 pub check-image-spec : {M : Type 1} → statement M
 check-image-spec =
-    tie.close (tie.spec (λ c. promised-short _ _ (search tests)) (λ c κs. search needs) (λ c κs. search needs) (λ c. search needs) (λ c. search (promised, tests)))
+    tie.close (tie.spec (λ c. promised-short _ _ (search tests)) (λ c κs. search needs) (λ c κs. search needs) (λ c. search needs)
+    (λ c. search (promised, tests)))

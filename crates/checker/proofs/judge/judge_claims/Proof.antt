@@ -6,4 +6,5 @@ use Rattle.checker.proofs.judge.judge_claims.Tie as tie
 
 pub judge-claims-spec : {M : Type 1} → statement M
 judge-claims-spec =
-    tie.close (tie.spec (λ c κs. search needs) (λ c. search needs) (λ c. search (denying, tests)) (λ c κs. search needs) (λ c. search (denying, tests)))
+    tie.close (tie.spec (λ c κs. search needs) (λ c. search needs) (λ c. search (denying, tests)) (λ c κs. search needs)
+    (λ c. search (denying, tests)))

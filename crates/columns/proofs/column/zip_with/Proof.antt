@@ -8,7 +8,8 @@ use Rattle.columns.proofs.column.zip_with.Statement.{statement}
 use Rattle.columns.proofs.column.zip_with.Tie as tie
 
 abbrev Inv-loop : tie.InvT-loop
-Inv-loop range code operand n a₀ b i₀ a i = (i ≤ n) × ((take i a ≡ combined range code operand i a₀ b) × ((drop i a ≡ drop i a₀) × (length a ≡ length a₀)))
+Inv-loop range code operand n a₀ b i₀ a i = (i ≤ n)
+    × ((take i a ≡ combined range code operand i a₀ b) × ((drop i a ≡ drop i a₀) × (length a ≡ length a₀)))
 
 abbrev μ-loop : tie.MeasureT-loop
 μ-loop range code operand n a₀ b i₀ a i = n - i

@@ -24,7 +24,16 @@ replaced-at-below t =
     and 1 replaced-at-kinds.ps (falls 1 replaced-at-kinds.ps _<_ μ-replaced-at t) replaced-at.Pre
 
 abbrev replaced-at-calls : ℕ → replaced-at-lts.Claims
-replaced-at-calls t = (hit-at-reads.Asked, hit-at-reads.Learnt, stands-at-reads.Asked, stands-at-reads.Learnt, pair-at-reads.Asked, pair-at-reads.Learnt, replaced-at-below t, replaced-at.Post)
+replaced-at-calls t = (
+  hit-at-reads.Asked,
+  hit-at-reads.Learnt,
+  stands-at-reads.Asked,
+  stands-at-reads.Learnt,
+  pair-at-reads.Asked,
+  pair-at-reads.Learnt,
+  replaced-at-below t,
+  replaced-at.Post,
+)
 
 pub +replaced-at-spec : {M : Type 1} → statement M
 +replaced-at-spec = close μ-replaced-at λ t. replaced-at-lts.spec (replaced-at-calls t)

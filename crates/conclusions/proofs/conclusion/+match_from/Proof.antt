@@ -22,7 +22,14 @@ match-from-below t =
     and 2 match-from-kinds.ps (falls 2 match-from-kinds.ps _<_ μ-match-from t) match-from.Pre
 
 abbrev match-from-calls : ℕ → match-from-lts.Claims
-match-from-calls t = (conclusion-at-reads.Asked, conclusion-at-reads.Learnt, match-conclusion-reads.Asked, match-conclusion-reads.Learnt, match-from-below t, match-from.Post)
+match-from-calls t = (
+  conclusion-at-reads.Asked,
+  conclusion-at-reads.Learnt,
+  match-conclusion-reads.Asked,
+  match-conclusion-reads.Learnt,
+  match-from-below t,
+  match-from.Post,
+)
 
 pub +match-from-spec : {M : Type 1} → statement M
 +match-from-spec = close μ-match-from λ t. match-from-lts.spec (match-from-calls t)

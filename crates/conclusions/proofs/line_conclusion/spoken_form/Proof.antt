@@ -6,4 +6,5 @@ use Rattle.conclusions.proofs.line_conclusion.spoken_form.Tie as tie
 
 pub spoken-form-spec : {M : Type 1} → statement M
 spoken-form-spec =
-    tie.close (tie.spec (λ c κs. search needs) (λ c κs. search needs) (λ c. search (lining, tests)) (λ c. search (lining, tests)) (λ c. search (lining, tests)))
+    tie.close (tie.spec (λ c κs. search needs) (λ c κs. search needs) (λ c. search (lining, tests)) (λ c. search (lining, tests))
+    (λ c. search (lining, tests)))

@@ -5,4 +5,5 @@ use Rattle.conclusions.proofs.premises.is_implication.Statement.{statem
 use Rattle.conclusions.proofs.premises.is_implication.Tie as tie
 
 pub is-implication-spec : {M : Type 1} → statement M
-is-implication-spec = tie.close (tie.spec (λ c. search needs) (λ c. search (premising, tests)) (λ c κs. search needs) (λ c. search (premising, tests)))
+is-implication-spec = tie.close (tie.spec (λ c. search needs) (λ c. search (premising, tests)) (λ c κs. search needs)
+    (λ c. search (premising, tests)))

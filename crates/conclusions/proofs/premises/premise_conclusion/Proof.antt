@@ -5,4 +5,5 @@ use Rattle.conclusions.proofs.premises.premise_conclusion.Statement.{st
 use Rattle.conclusions.proofs.premises.premise_conclusion.Tie as tie
 
 pub premise-conclusion-spec : {M : Type 1} → statement M
-premise-conclusion-spec = tie.close (tie.spec (λ c. search (premising, tests)) (λ c κs. search needs) (λ c κs. search needs) (λ c. search (premising, tests)))
+premise-conclusion-spec = tie.close (tie.spec (λ c. search (premising, tests)) (λ c κs. search needs) (λ c κs. search needs)
+    (λ c. search (premising, tests)))

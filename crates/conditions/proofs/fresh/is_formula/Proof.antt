@@ -5,4 +5,5 @@ use Rattle.conditions.proofs.fresh.is_formula.Statement.{statement}
 use Rattle.conditions.proofs.fresh.is_formula.Tie as tie
 
 pub is-formula-spec : {M : Type 1} → statement M
-is-formula-spec = tie.close (tie.spec (λ c κs. search needs) (λ c. search needs) (λ c. search needs) (λ c. search (comparing, tests)) (λ c. search (comparing, tests)))
+is-formula-spec = tie.close (tie.spec (λ c κs. search needs) (λ c. search needs) (λ c. search needs) (λ c. search (comparing, tests))
+    (λ c. search (comparing, tests)))

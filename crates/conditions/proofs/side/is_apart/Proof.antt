@@ -7,4 +7,5 @@ use Rattle.conditions.proofs.side.is_apart.Tie as tie
 pub is-apart-spec : {M : Type 1} → statement M
 is-apart-spec =
     tie.close
-    (tie.spec (λ c κs. search needs) (λ c. search (parting, tests)) (λ c. search (parting, tests)) (λ c κs. search needs) (λ c. search (parting, tests)) (λ c. search (parting, tests)))
+    (tie.spec (λ c κs. search needs) (λ c. search (parting, tests)) (λ c. search (parting, tests)) (λ c κs. search needs)
+    (λ c. search (parting, tests)) (λ c. search (parting, tests)))

@@ -6,4 +6,5 @@ use Rattle.conditions.proofs.side.is_stored.Tie as tie
 
 pub is-stored-spec : {M : Type 1} → statement M
 is-stored-spec =
-    tie.close (tie.spec (λ c κs. search needs) (λ c. search (storing, tests)) (λ c κs. search needs) (λ c κs. search needs) (λ c. search (storing, tests)))
+    tie.close (tie.spec (λ c κs. search needs) (λ c. search (storing, tests)) (λ c κs. search needs) (λ c κs. search needs)
+    (λ c. search (storing, tests)))

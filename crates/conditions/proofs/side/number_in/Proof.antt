@@ -5,4 +5,5 @@ use Rattle.conditions.proofs.side.number_in.Statement.{statement}
 use Rattle.conditions.proofs.side.number_in.Tie as tie
 
 pub number-in-spec : {M : Type 1} → statement M
-number-in-spec = tie.close (tie.spec (λ c. search needs) (λ c. search needs) (λ c. search needs) (λ c. search (starting, tests)) (λ c. search needs) (λ c. search (starting, tests)))
+number-in-spec = tie.close (tie.spec (λ c. search needs) (λ c. search needs) (λ c. search needs) (λ c. search (starting, tests))
+    (λ c. search needs) (λ c. search (starting, tests)))

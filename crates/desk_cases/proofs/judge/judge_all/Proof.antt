@@ -8,7 +8,8 @@ use Rattle.desk_cases.proofs.judge.judge_all.Statement.{statement}
 use Rattle.desk_cases.proofs.judge.judge_all.Tie as tie
 
 abbrev Inv-loop : tie.InvT-loop
-Inv-loop fd space₀ stored₀ service₀ tally₀ left₀ space stored service tally left = (262145 ≡ length space) × ((274 ≡ length stored) × ((16 ≡ length service) × Running tally left))
+Inv-loop fd space₀ stored₀ service₀ tally₀ left₀ space stored service tally left =
+    (262145 ≡ length space) × ((274 ≡ length stored) × ((16 ≡ length service) × Running tally left))
 
 abbrev μ-loop : tie.MeasureT-loop
 μ-loop fd space₀ stored₀ service₀ tally₀ left₀ space stored service tally left = left
@@ -34,7 +35,21 @@ judge-all-spec =
     (λ c κs. search (gathered, bodies, needs))
     (λ c. search (gathered, bodies, needs))
     (λ c. search (gathered, bodies, needs))
-    (λ c. (search needs, (search needs, (search needs, running-turn _ _ _ _ _ _ _ (search needs) (search (gathered, c .before .before .before .before .before .before .before .before .before .before .before .before .before .before .loop)) (c .before .with-turn .ensures)))))
+    (λ c. (
+      search needs,
+      (
+        search needs,
+        (
+          search needs,
+          running-turn _ _ _ _ _ _ _ (search needs)
+              (search (
+                gathered,
+                c .before .before .before .before .before .before .before .before .before .before .before .before .before
+                    .before .loop,
+              )) (c .before .with-turn .ensures),
+        ),
+      ),
+    ))
     (λ c. search (gathered, bodies, needs))
     (λ c. search (gathered, bodies, needs))
     (λ c. search (gathered, bodies, needs)))

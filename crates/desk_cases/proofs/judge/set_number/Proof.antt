@@ -8,4 +8,5 @@ pub set-number-spec : {M : Type 1} → statement M
 unfolding numberSet
 set-number-spec =
     tie.close
-    (tie.spec (λ c. search tests) (λ c. search needs) (λ c. search tests) (λ c. search needs) (λ c. search needs) (λ c. search needs) (λ c. search tests))
+    (tie.spec (λ c. search tests) (λ c. search needs) (λ c. search tests) (λ c. search needs) (λ c. search needs) (λ c. search needs)
+    (λ c. search tests))

@@ -7,4 +7,5 @@ use Rattle.desk_cases.proofs.judge.with_opened.Tie as tie
 pub with-opened-spec : {M : Type 1} → statement M
 with-opened-spec =
     tie.close
-    (tie.spec (λ c κs. search needs) (λ c κs. search needs) (λ c κs. search needs) (λ c. search needs) (λ c. search (lending, opened-counted, tests)))
+    (tie.spec (λ c κs. search needs) (λ c κs. search needs) (λ c κs. search needs) (λ c. search needs)
+    (λ c. search (lending, opened-counted, tests)))

@@ -6,4 +6,5 @@ use Rattle.desks.proofs.entry.serve_check.Tie as tie
 
 pub serve-check-spec : {M : Type 1} → statement M
 serve-check-spec =
-    tie.close (tie.spec (λ c κs. search needs) (λ c. search (serving, tests)) (λ c κs. search needs) (λ c. search needs) (λ c. search (serving, tests)))
+    tie.close (tie.spec (λ c κs. search needs) (λ c. search (serving, tests)) (λ c κs. search needs) (λ c. search needs)
+    (λ c. search (serving, tests)))

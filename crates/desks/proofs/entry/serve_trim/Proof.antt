@@ -6,4 +6,5 @@ use Rattle.desks.proofs.entry.serve_trim.Tie as tie
 
 pub serve-trim-spec : {M : Type 1} → statement M
 serve-trim-spec =
-    tie.close (tie.spec (λ c κs. search needs) (λ c. search (serving, tests)) (λ c κs. search needs) (λ c. search needs) (λ c. search (serving, tests)))
+    tie.close (tie.spec (λ c κs. search needs) (λ c. search (serving, tests)) (λ c κs. search needs) (λ c. search needs)
+    (λ c. search (serving, tests)))

@@ -7,4 +7,5 @@ use Rattle.desks.proofs.open.open_service.Tie as tie
 pub open-service-spec : {M : Type 1} → statement M
 open-service-spec =
     tie.close
-    (tie.spec (λ c. (search (openings, tests), search (openings, tests))) (λ c κs. search needs) (λ c κs. search needs) (λ c. search needs) (λ c. (search (openings, tests), search (openings, tests))))
+    (tie.spec (λ c. (search (openings, tests), search (openings, tests))) (λ c κs. search needs) (λ c κs. search needs)
+    (λ c. search needs) (λ c. (search (openings, tests), search (openings, tests))))

@@ -9,7 +9,8 @@ use Rattle.digits.proofs.run.set_run.Statement.{statement}
 use Rattle.digits.proofs.run.set_run.Tie as tie
 
 abbrev Inv-loop : tie.InvT-loop
-Inv-loop value from count out₀ i₀ out i = (i ≤ count) × ((take (from + i) out ≡ take from out₀ ++ constant value i) × (length out ≡ length out₀))
+Inv-loop value from count out₀ i₀ out i = (i ≤ count)
+    × ((take (from + i) out ≡ take from out₀ ++ constant value i) × (length out ≡ length out₀))
 
 abbrev μ-loop : tie.MeasureT-loop
 μ-loop value from count out₀ i₀ out i = count - i

@@ -7,4 +7,5 @@ use Rattle.digits.proofs.slot.longer.Tie as tie
 pub longer-spec : {M : Type 1} → statement M
 longer-spec =
     tie.close
-    (tie.spec (λ c κs. search needs) (λ c. search needs) (λ c. search (lengthening, tests)) (λ c. search (lengthening, tests)) (λ c. search (lengthening, tests)))
+    (tie.spec (λ c κs. search needs) (λ c. search needs) (λ c. search (lengthening, tests)) (λ c. search (lengthening, tests))
+    (λ c. search (lengthening, tests)))

@@ -8,7 +8,9 @@ use Rattle.digits.proofs.slot.set_runs.Statement.{statement}
 use Rattle.digits.proofs.slot.set_runs.Tie as tie
 
 abbrev Inv-loop : tie.InvT-loop
-Inv-loop lasts j run n out₀ last to₀ value₀ out to value = (value ≤ last + 1) × ((to ≡ min (run * value) n) × ((take to out ≡ slotColumn lasts j to) × ((length out ≡ length out₀) × ((last ≡ getD lasts j 0) × (last < 256)))))
+Inv-loop lasts j run n out₀ last to₀ value₀ out to value =
+    (value ≤ last + 1) × ((to ≡ min (run * value) n)
+    × ((take to out ≡ slotColumn lasts j to) × ((length out ≡ length out₀) × ((last ≡ getD lasts j 0) × (last < 256)))))
 
 abbrev μ-loop : tie.MeasureT-loop
 μ-loop lasts j run n out₀ last to₀ value₀ out to value = last + 1 - value

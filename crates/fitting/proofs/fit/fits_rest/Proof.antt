@@ -5,4 +5,5 @@ use Rattle.fitting.proofs.fit.fits_rest.Statement.{statement}
 use Rattle.fitting.proofs.fit.fits_rest.Tie as tie
 
 pub fits-rest-spec : {M : Type 1} → statement M
-fits-rest-spec = tie.close (tie.spec (λ c κs. search needs) (λ c κs. search needs) (λ c. search (allowing, tests)) (λ c. search (allowing, tests)))
+fits-rest-spec = tie.close (tie.spec (λ c κs. search needs) (λ c κs. search needs) (λ c. search (allowing, tests))
+    (λ c. search (allowing, tests)))

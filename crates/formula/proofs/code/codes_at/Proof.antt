@@ -5,4 +5,5 @@ use Rattle.formula.proofs.code.codes_at.Tie as tie
 
 pub codes-at-spec : {M : Type 1} → statement M
 codes-at-spec =
-    tie.close (tie.spec (λ c. search (sets, tests)) (λ c. search (sets, tests)) (λ c. search (sets, tests)) (λ c. search (sets, tests)) (λ c. search (sets, tests)) (λ c. search (sets, tests)) (λ c. search (sets, tests)))
+    tie.close (tie.spec (λ c. search (sets, tests)) (λ c. search (sets, tests)) (λ c. search (sets, tests)) (λ c. search (sets, tests))
+    (λ c. search (sets, tests)) (λ c. search (sets, tests)) (λ c. search (sets, tests)))

@@ -6,4 +6,5 @@ use Rattle.formula.proofs.code.part_place.Tie as tie
 
 pub part-place-spec : {M : Type 1} → statement M
 part-place-spec =
-    tie.close (tie.spec (λ c. search (codes, tests)) (λ c κs. search needs) (λ c. search (codes, tests)) (λ c. search needs) (λ c. search (codes, tests)) (λ c. search (codes, tests)))
+    tie.close (tie.spec (λ c. search (codes, tests)) (λ c κs. search needs) (λ c. search (codes, tests)) (λ c. search needs)
+    (λ c. search (codes, tests)) (λ c. search (codes, tests)))

@@ -5,4 +5,5 @@ use Rattle.formula.proofs.code.parts.Statement.{statement}
 use Rattle.formula.proofs.code.parts.Tie as tie
 
 pub parts-spec : {M : Type 1} → statement M
-parts-spec = tie.close (tie.spec (λ c κs. search needs) (λ c. search (codes, tests)) (λ c κs. search needs) (λ c. search (codes, tests)) (λ c. search (codes, tests)))
+parts-spec = tie.close (tie.spec (λ c κs. search needs) (λ c. search (codes, tests)) (λ c κs. search needs) (λ c. search (codes, tests))
+    (λ c. search (codes, tests)))

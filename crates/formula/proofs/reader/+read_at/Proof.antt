@@ -22,7 +22,16 @@ abbrev read-at-below : ℕ → In 1 read-at-kinds.ps
 read-at-below t = and 1 read-at-kinds.ps (falls 1 read-at-kinds.ps _<_ μ-read-at t) read-at.Pre
 
 abbrev read-at-calls : ℕ → read-at-lts.Claims
-read-at-calls t = (read-head-reads.Asked, read-head-reads.Learnt, parts-reads.Asked, parts-reads.Learnt, part-place-reads.Asked, part-place-reads.Learnt, read-at-below t, read-at.Post)
+read-at-calls t = (
+  read-head-reads.Asked,
+  read-head-reads.Learnt,
+  parts-reads.Asked,
+  parts-reads.Learnt,
+  part-place-reads.Asked,
+  part-place-reads.Learnt,
+  read-at-below t,
+  read-at.Post,
+)
 
 pub +read-at-spec : {M : Type 1} → statement M
 +read-at-spec = close μ-read-at λ t. read-at-lts.spec (read-at-calls t)

@@ -7,4 +7,5 @@ use Rattle.formula.proofs.reader.read_operand.Tie as tie
 pub read-operand-spec : {M : Type 1} → statement M
 read-operand-spec =
     tie.close
-    (tie.spec (λ c. search (heads, tests)) (λ c. search needs) (λ c κs. search needs) (λ c. search needs) (λ c. search (heads, tests)) (λ c. search (heads, tests)))
+    (tie.spec (λ c. search (heads, tests)) (λ c. search needs) (λ c κs. search needs) (λ c. search needs) (λ c. search (heads, tests))
+    (λ c. search (heads, tests)))

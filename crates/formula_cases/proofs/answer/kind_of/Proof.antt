@@ -6,4 +6,5 @@ use Rattle.formula_cases.proofs.answer.kind_of.Tie as tie
 
 pub kind-of-spec : {M : Type 1} → statement M
 kind-of-spec =
-    tie.close (tie.spec (λ c. search needs) (λ c κs. search needs) (λ c. search needs) (λ c. search (answers, tests)) (λ c. search (answers, tests)))
+    tie.close (tie.spec (λ c. search needs) (λ c κs. search needs) (λ c. search needs) (λ c. search (answers, tests))
+    (λ c. search (answers, tests)))

@@ -8,7 +8,8 @@ use Rattle.frames.proofs.walk.walk_frames.Statement.{statement}
 use Rattle.frames.proofs.walk.walk_frames.Tie as tie
 
 abbrev Inv-loop : tie.InvT-loop
-Inv-loop s c₀ at₀ i₀ c at i = (1 ≤ i) × ((i ≤ at + 1) × ((at ≤ length s) × ((frames s ≡ walk (length s + 1 - i) i c (drop at s)) × (length (c .count) ≡ 8))))
+Inv-loop s c₀ at₀ i₀ c at i = (1 ≤ i) × ((i ≤ at + 1)
+    × ((at ≤ length s) × ((frames s ≡ walk (length s + 1 - i) i c (drop at s)) × (length (c .count) ≡ 8))))
 
 abbrev μ-loop : tie.MeasureT-loop
 μ-loop s c₀ at₀ i₀ c at i = length s - at

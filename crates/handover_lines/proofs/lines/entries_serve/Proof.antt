@@ -24,7 +24,10 @@ entries-serve-spec =
     μ-loop
     (λ c. (search tests, search (serve-none, tests)))
     (λ c. search tests)
-    (λ c κs. (((search needs, (search needs, search needs)), (search needs, (search needs, search needs))), ((search needs, search needs), (search needs, (search tests, search tests)))))
+    (λ c κs. (
+      ((search needs, (search needs, search needs)), (search needs, (search needs, search needs))),
+      ((search needs, search needs), (search needs, (search tests, search tests))),
+    ))
     (λ c. search tests)
     (λ c. search tests)
     (λ c. (search tests, search (serve-ways, tests)))

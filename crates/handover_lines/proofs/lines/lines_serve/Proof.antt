@@ -11,7 +11,8 @@ use Rattle.handover_lines.proofs.lines.lines_serve.Statement.{statement
 use Rattle.handover_lines.proofs.lines.lines_serve.Tie as tie
 
 abbrev Inv-loop : tie.InvT-loop
-Inv-loop old ox z c new nx y d m table threads t₀ t = (threads ≡ z .threads) × ((t ≤ threads) × (threadsServe old z new y (asMarks m) table t ≡ true))
+Inv-loop old ox z c new nx y d m table threads t₀ t =
+    (threads ≡ z .threads) × ((t ≤ threads) × (threadsServe old z new y (asMarks m) table t ≡ true))
 
 abbrev μ-loop : tie.MeasureT-loop
 μ-loop old ox z c new nx y d m table threads t₀ t = threads - t
@@ -25,7 +26,10 @@ lines-serve-spec =
     (λ c. search tests)
     (λ c. (search tests, (search tests, search (all-none, tests))))
     (λ c. search tests)
-    (λ c κs. (((search needs, (search needs, search needs)), (search needs, (search needs, search needs))), ((search tests, search tests), search tests)))
+    (λ c κs. (
+      ((search needs, (search needs, search needs)), (search needs, (search needs, search needs))),
+      ((search tests, search tests), search tests),
+    ))
     (λ c. search tests)
     (λ c. search tests)
     (λ c. (search tests, (search tests, search (all-ways, tests))))

@@ -6,4 +6,5 @@ use Rattle.handover_table.proofs.table.table_fits.Tie as tie
 
 pub table-fits-spec : {M : Type 1} → statement M
 table-fits-spec =
-    tie.close (tie.spec (λ c κs. search needs) (λ c. search needs) (λ c. search (table-other, tests)) (λ c κs. search needs) (λ c. search (table-long, tests)))
+    tie.close (tie.spec (λ c κs. search needs) (λ c. search needs) (λ c. search (table-other, tests)) (λ c κs. search needs)
+    (λ c. search (table-long, tests)))

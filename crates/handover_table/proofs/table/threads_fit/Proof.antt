@@ -12,7 +12,8 @@ use Rattle.handover_table.proofs.table.threads_fit.Statement.{statement
 use Rattle.handover_table.proofs.table.threads_fit.Tie as tie
 
 abbrev Inv-loop : tie.InvT-loop
-Inv-loop old ox z c new nx y table threads t₀ t = (threads ≡ z .threads) × ((t ≤ threads) × (threadsFit (imageOf z (bodies old)) (imageOf y (bodies new)) table t ≡ true))
+Inv-loop old ox z c new nx y table threads t₀ t =
+    (threads ≡ z .threads) × ((t ≤ threads) × (threadsFit (imageOf z (bodies old)) (imageOf y (bodies new)) table t ≡ true))
 
 abbrev μ-loop : tie.MeasureT-loop
 μ-loop old ox z c new nx y table threads t₀ t = threads - t

@@ -9,4 +9,5 @@ pub check-header-spec : {M : Type 1} → statement M
 unfolding header
 check-header-spec =
     tie.close
-    (tie.spec (λ c. search (checking, tests)) (λ c κs. search needs) (λ c. search (checking, tests)) (λ c κs. search needs) (λ c. search (checking, tests)) (λ c. search (checking, tests)))
+    (tie.spec (λ c. search (checking, tests)) (λ c κs. search needs) (λ c. search (checking, tests)) (λ c κs. search needs)
+    (λ c. search (checking, tests)) (λ c. search (checking, tests)))

@@ -7,4 +7,5 @@ use Rattle.header.proofs.header.is_cleared.Tie as tie
 pub is-cleared-spec : {M : Type 1} → statement M
 is-cleared-spec =
     tie.close
-    (tie.spec (λ c κs. search needs) (λ c κs. search needs) (λ c κs. search needs) (λ c. search (heading, tests)) (λ c. search (heading, tests)))
+    (tie.spec (λ c κs. search needs) (λ c κs. search needs) (λ c κs. search needs) (λ c. search (heading, tests))
+    (λ c. search (heading, tests)))

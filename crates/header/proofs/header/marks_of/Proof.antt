@@ -6,4 +6,5 @@ use Rattle.header.proofs.header.marks_of.Tie as tie
 
 pub marks-of-spec : {M : Type 1} → statement M
 marks-of-spec =
-    tie.close (tie.spec (λ c κs. search needs) (λ c κs. search needs) (λ c. search needs) (λ c. search needs) (λ c κs. search needs) (λ c. search (heading, tests)))
+    tie.close (tie.spec (λ c κs. search needs) (λ c κs. search needs) (λ c. search needs) (λ c. search needs) (λ c κs. search needs)
+    (λ c. search (heading, tests)))

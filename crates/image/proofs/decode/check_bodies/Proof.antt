@@ -9,7 +9,13 @@ use Rattle.image.proofs.decode.check_bodies.Statement.{statement}
 use Rattle.image.proofs.decode.check_bodies.Tie as tie
 
 abbrev Inv-loop : tie.InvT-loop
-Inv-loop s ix on t z n i₀ i = (n ≡ recordCount z) × ((n < 1000000) × ((1 ≤ i) × ((i ≤ n + 1) × (firstFault t z (bodies s) 1 (recordCount z) (bodies s) ≡ firstFault t z (bodies s) i (n + 1 - i) (drop (i - 1) (bodies s))))))
+Inv-loop s ix on t z n i₀ i = (n ≡ recordCount z)
+    ×
+    ((n < 1000000)
+    ×
+    ((1 ≤ i)
+    × ((i ≤ n + 1) × (firstFault t z (bodies s) 1 (recordCount z) (bodies s) ≡ firstFault t z (bodies s) i (n + 1 - i)
+    (drop (i - 1) (bodies s))))))
 
 abbrev μ-loop : tie.MeasureT-loop
 μ-loop s ix on t z n i₀ i = n + 1 - i

@@ -2,8 +2,8 @@ use Prim.Native.Nat.{_≤_, _-_, _+_, min}
 use mathlib.Core.Path.{_≡_}
 use lib.ListN.{length, drop}
 use Rattle.limits.proofs.Auto.{tests}
-use Rattle.program.specs.Thread.{lastPoint, begins}
-use Rattle.program.proofs.Laws.Program.{from-start}
+use Rattle.threads.specs.Thread.{lastPoint, begins}
+use Rattle.threads.proofs.Threads.{from-start}
 use Rattle.index.specs.Table.{rowTo}
 use Rattle.index.proofs.Laws.{rowing, row-none, row-more, row-all, row-same}
 use Rattle.index.proofs.starts.fill_row.Statement.{statement}

@@ -8,7 +8,8 @@ use Rattle.interferences.proofs.interference.judge_action.Statement.{st
 use Rattle.interferences.proofs.interference.judge_action.Tie as tie
 
 abbrev Inv-loop : tie.InvT-loop
-Inv-loop s ix z y m t k threads q₀ u₀ q u = (threads ≡ z .threads) × ((threads < 256) × ((u ≤ threads) × (q ≡ assertionsTo s z (asMarks m) t k u q₀)))
+Inv-loop s ix z y m t k threads q₀ u₀ q u = (threads ≡ z .threads)
+    × ((threads < 256) × ((u ≤ threads) × (q ≡ assertionsTo s z (asMarks m) t k u q₀)))
 
 abbrev μ-loop : tie.MeasureT-loop
 μ-loop s ix z y m t k threads q₀ u₀ q u = threads - u

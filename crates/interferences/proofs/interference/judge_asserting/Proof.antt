@@ -3,7 +3,7 @@ use Rattle.outcomes.proofs.Groups.{assertions-self, asserted-none, asserted-mor
 use Prim.Native.Nat.{_+_, _-_, _≤_, _<_}
 use mathlib.Core.Path.{_≡_}
 use Rattle.frames.specs.Records.{bodies}
-use Rattle.program.specs.Thread.{lastPoint}
+use Rattle.threads.specs.Thread.{lastPoint}
 use Rattle.records.specs.Places.{threadBody}
 use Rattle.outcomes.specs.Walk.{assertedTo}
 use Rattle.limits.proofs.Auto.{tests}
@@ -11,7 +11,8 @@ use Rattle.interferences.proofs.interference.judge_asserting.Statement.
 use Rattle.interferences.proofs.interference.judge_asserting.Tie as tie
 
 abbrev Inv-loop : tie.InvT-loop
-Inv-loop s ix z y m t k u last q₀ j₀ q j = (last ≡ lastPoint (threadBody z (bodies s) u)) × ((last < 256) × ((j ≤ last + 1) × (q ≡ assertedTo s z (asMarks m) t k u j q₀)))
+Inv-loop s ix z y m t k u last q₀ j₀ q j = (last ≡ lastPoint (threadBody z (bodies s) u))
+    × ((last < 256) × ((j ≤ last + 1) × (q ≡ assertedTo s z (asMarks m) t k u j q₀)))
 
 abbrev μ-loop : tie.MeasureT-loop
 μ-loop s ix z y m t k u last q₀ j₀ q j = last + 1 - j

@@ -6,4 +6,5 @@ use Rattle.interferences.proofs.interference.judge_assertion.Tie as tie
 
 pub judge-assertion-spec : {M : Type 1} → statement M
 judge-assertion-spec =
-    tie.close (tie.spec (λ c κs. search needs) (λ c. search (instructions, tests)) (λ c κs. search needs) (λ c. search (instructions, tests)))
+    tie.close (tie.spec (λ c κs. search needs) (λ c. search (instructions, tests)) (λ c κs. search needs)
+    (λ c. search (instructions, tests)))

@@ -8,7 +8,8 @@ use Rattle.interferences.proofs.interference.judge_interferences.Statem
 use Rattle.interferences.proofs.interference.judge_interferences.Tie as tie
 
 abbrev Inv-loop : tie.InvT-loop
-Inv-loop s ix z y m threads q₀ t₀ q t = (threads ≡ z .threads) × ((threads < 256) × ((t ≤ threads) × (q ≡ interferencesTo s z (asMarks m) t q₀)))
+Inv-loop s ix z y m threads q₀ t₀ q t = (threads ≡ z .threads)
+    × ((threads < 256) × ((t ≤ threads) × (q ≡ interferencesTo s z (asMarks m) t q₀)))
 
 abbrev μ-loop : tie.MeasureT-loop
 μ-loop s ix z y m threads q₀ t₀ q t = threads - t

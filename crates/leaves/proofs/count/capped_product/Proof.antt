@@ -6,4 +6,5 @@ use Rattle.leaves.proofs.count.capped_product.Tie as tie
 
 pub capped-product-spec : {M : Type 1} → statement M
 unfolding capped
-capped-product-spec = tie.close (tie.spec (λ c. search (products, tests)) (λ c. search (products, tests)) (λ c. search (products, tests)) (λ c. search (products, tests)) (λ c. search (products, tests)))
+capped-product-spec = tie.close (tie.spec (λ c. search (products, tests)) (λ c. search (products, tests)) (λ c. search (products, tests))
+    (λ c. search (products, tests)) (λ c. search (products, tests)))

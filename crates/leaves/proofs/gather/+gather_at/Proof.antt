@@ -24,7 +24,18 @@ gather-at-below t =
     and 2 gather-at-kinds.ps (falls 2 gather-at-kinds.ps _<_ μ-gather-at t) gather-at.Pre
 
 abbrev gather-at-calls : ℕ → gather-at-lts.Claims
-gather-at-calls t = (node-at-reads.Asked, node-at-reads.Learnt, contains-reads.Asked, contains-reads.Learnt, add-leaf-reads.Asked, add-leaf-reads.Learnt, gather-at-below t, gather-at.Post, end-at-reads.Asked, end-at-reads.Learnt)
+gather-at-calls t = (
+  node-at-reads.Asked,
+  node-at-reads.Learnt,
+  contains-reads.Asked,
+  contains-reads.Learnt,
+  add-leaf-reads.Asked,
+  add-leaf-reads.Learnt,
+  gather-at-below t,
+  gather-at.Post,
+  end-at-reads.Asked,
+  end-at-reads.Learnt,
+)
 
 gather-at-returns : (t : ℕ) → gather-at-lts.Need-returns (gather-at-calls t) (gather-at-at t) gather-at.Post
 gather-at-returns t c = search (gathers, tests)

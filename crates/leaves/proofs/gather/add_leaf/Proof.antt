@@ -11,7 +11,11 @@ add-leaf-spec =
     (λ c. search (puts, tests))
     (λ c. search (puts, tests))
     (λ c κs. search needs)
-    (λ c. (put-there _ _ _ _ _ (c .before .slot-within .result) (c .before .before .before .before .if1 .left) (c .before .before .before .if2 .left) (c .before .slot-within .ensures) (c .if3 .taken), search tests))
+    (λ c. (
+      put-there _ _ _ _ _ (c .before .slot-within .result) (c .before .before .before .before .if1 .left)
+          (c .before .before .before .if2 .left) (c .before .slot-within .ensures) (c .if3 .taken),
+      search tests,
+    ))
     (λ c κs. search needs)
     (λ c κs. search needs)
     (λ c. search (puts, tests)))

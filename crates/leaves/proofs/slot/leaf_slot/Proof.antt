@@ -5,4 +5,5 @@ use Rattle.leaves.proofs.slot.leaf_slot.Tie as tie
 
 pub leaf-slot-spec : {M : Type 1} → statement M
 leaf-slot-spec =
-    tie.close (tie.spec (λ c κs. search (leafs, tests)) (λ c κs. search (leafs, tests)) (λ c κs. search (leafs, tests)) (λ c. search (leafs, tests)) (λ c. search (leafs, tests)))
+    tie.close (tie.spec (λ c κs. search (leafs, tests)) (λ c κs. search (leafs, tests)) (λ c κs. search (leafs, tests))
+    (λ c. search (leafs, tests)) (λ c. search (leafs, tests)))

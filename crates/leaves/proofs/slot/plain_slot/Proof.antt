@@ -8,7 +8,8 @@ use Rattle.leaves.proofs.slot.plain_slot.Statement.{statement}
 use Rattle.leaves.proofs.slot.plain_slot.Tie as tie
 
 abbrev Inv-loop : tie.InvT-loop
-Inv-loop s code operand slots j₀ j = (j ≤ 12) × (slotOf s slots (node code operand none none) ≡ slotFrom s slots (12 - j) j (node code operand none none))
+Inv-loop s code operand slots j₀ j = (j ≤ 12) × (slotOf s slots (node code operand none none) ≡ slotFrom s slots (12 - j) j
+    (node code operand none none))
 
 abbrev μ-loop : tie.MeasureT-loop
 μ-loop s code operand slots j₀ j = 12 - j

@@ -6,4 +6,5 @@ use Rattle.leaves.proofs.slot.same_plain.Tie as tie
 pub same-plain-spec : {M : Type 1} → statement M
 same-plain-spec =
     tie.close
-    (tie.spec (λ c κs. search (plains, tests)) (λ c κs. search (plains, tests)) (λ c. search (plains, tests)) (λ c. search (plains, tests)) (λ c κs. search (plains, tests)) (λ c. search (plains, tests)) (λ c. search (plains, tests)))
+    (tie.spec (λ c κs. search (plains, tests)) (λ c κs. search (plains, tests)) (λ c. search (plains, tests))
+    (λ c. search (plains, tests)) (λ c κs. search (plains, tests)) (λ c. search (plains, tests)) (λ c. search (plains, tests)))

@@ -8,7 +8,8 @@ use Rattle.leaves.proofs.slot.slot_within.Statement.{statement}
 use Rattle.leaves.proofs.slot.slot_within.Tie as tie
 
 abbrev Inv-loop : tie.InvT-loop
-Inv-loop s at left slots n x j₀ j = (j ≤ n) × (slotOf s slots (parseTree s left at .tree) ≡ slotFrom s slots (12 - j) j (parseTree s left at .tree))
+Inv-loop s at left slots n x j₀ j = (j ≤ n) × (slotOf s slots (parseTree s left at .tree) ≡ slotFrom s slots (12 - j) j
+    (parseTree s left at .tree))
 
 abbrev μ-loop : tie.MeasureT-loop
 μ-loop s at left slots n x j₀ j = n - j

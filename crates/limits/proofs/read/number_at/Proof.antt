@@ -5,4 +5,5 @@ use Rattle.limits.proofs.read.number_at.Statement.{statement}
 use Rattle.limits.proofs.read.number_at.Tie as tie
 
 pub number-at-spec : {M : Type 1} → statement M
-number-at-spec = tie.close (tie.spec (λ c. search (numbering, tests)) (λ c. search (numbering, tests)) (λ c. search needs) (λ c κs. search needs) (λ c. search (numbering, tests)))
+number-at-spec = tie.close (tie.spec (λ c. search (numbering, tests)) (λ c. search (numbering, tests)) (λ c. search needs)
+    (λ c κs. search needs) (λ c. search (numbering, tests)))

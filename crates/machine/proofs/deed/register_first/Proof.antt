@@ -1,4 +1,4 @@
-use Rattle.content.specs.Places.{registerFirst}
+use Rattle.lookups.specs.Places.{registerFirst}
 use Rattle.limits.proofs.Auto.{tests}
 use Rattle.machine.proofs.deed.register_first.Statement.{statement}
 use Rattle.machine.proofs.deed.register_first.Tie as tie

@@ -22,7 +22,14 @@ match-at-below t =
     and 2 match-at-kinds.ps (falls 2 match-at-kinds.ps _<_ μ-match-at t) match-at.Pre
 
 abbrev match-at-calls : ℕ → match-at-lts.Claims
-match-at-calls t = (match-root-reads.Asked, match-root-reads.Learnt, match-at-below t, match-at.Post, end-at-reads.Asked, end-at-reads.Learnt)
+match-at-calls t = (
+  match-root-reads.Asked,
+  match-root-reads.Learnt,
+  match-at-below t,
+  match-at.Post,
+  end-at-reads.Asked,
+  end-at-reads.Learnt,
+)
 
 pub +match-at-spec : {M : Type 1} → statement M
 +match-at-spec = close μ-match-at λ t. match-at-lts.spec (match-at-calls t)

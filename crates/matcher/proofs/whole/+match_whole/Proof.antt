@@ -23,7 +23,14 @@ match-whole-below t =
     and 2 match-whole-kinds.ps (falls 2 match-whole-kinds.ps _<_ μ-match-whole t) match-whole.Pre
 
 abbrev match-whole-calls : ℕ → match-whole-lts.Claims
-match-whole-calls t = (match-root-reads.Asked, match-root-reads.Learnt, match-whole-below t, match-whole.Post, match-at-reads.Asked, match-at-reads.Learnt)
+match-whole-calls t = (
+  match-root-reads.Asked,
+  match-root-reads.Learnt,
+  match-whole-below t,
+  match-whole.Post,
+  match-at-reads.Asked,
+  match-at-reads.Learnt,
+)
 
 pub +match-whole-spec : {M : Type 1} → statement M
 +match-whole-spec = close μ-match-whole λ t. match-whole-lts.spec (match-whole-calls t)

@@ -1,5 +1,5 @@
 use Rattle.memory.proofs.Laid.{lays, length-mapped}
-use Rattle.memory.specs.Table.{writesIn}
+use Rattle.writes.specs.Table.{writesIn}
 use Rattle.limits.proofs.Auto.{tests}
 use Prim.Native.Nat.{_≤_, _-_}
 use mathlib.Core.Path.{_≡_}

@@ -21,7 +21,14 @@ abbrev find-at-below : ℕ → In 2 find-at-kinds.ps
 find-at-below t = and 2 find-at-kinds.ps (falls 2 find-at-kinds.ps _<_ μ-find-at t) find-at.Pre
 
 abbrev find-at-calls : ℕ → find-at-lts.Claims
-find-at-calls t = (node-at-reads.Asked, node-at-reads.Learnt, is-queried-reads.Asked, is-queried-reads.Learnt, find-at-below t, find-at.Post)
+find-at-calls t = (
+  node-at-reads.Asked,
+  node-at-reads.Learnt,
+  is-queried-reads.Asked,
+  is-queried-reads.Learnt,
+  find-at-below t,
+  find-at.Post,
+)
 
 pub +find-at-spec : {M : Type 1} → statement M
 +find-at-spec = close μ-find-at λ t. find-at-lts.spec (find-at-calls t)

@@ -6,4 +6,5 @@ use Rattle.occurs.proofs.find.is_queried.Tie as tie
 
 pub is-queried-spec : {M : Type 1} → statement M
 is-queried-spec =
-    tie.close (tie.spec (λ c κs. search needs) (λ c. search (queries, tests)) (λ c. search (queries, tests)) (λ c κs. search needs) (λ c. search (queries, tests)) (λ c. search (queries, tests)))
+    tie.close (tie.spec (λ c κs. search needs) (λ c. search (queries, tests)) (λ c. search (queries, tests)) (λ c κs. search needs)
+    (λ c. search (queries, tests)) (λ c. search (queries, tests)))

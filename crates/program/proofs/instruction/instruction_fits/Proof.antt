@@ -1,5 +1,5 @@
 use Rattle.limits.proofs.Auto.{tests}
-use Rattle.program.proofs.Laws.Program.{threading}
+use Rattle.program.proofs.Instructed.{ranging}
 use borrow.Author.Needs.{needs}
 use Rattle.program.proofs.instruction.instruction_fits.Statement.{statement}
 use Rattle.program.proofs.instruction.instruction_fits.Tie as tie
@@ -7,4 +7,5 @@ use Rattle.program.proofs.instruction.instruction_fits.Tie as tie
 pub instruction-fits-spec : {M : Type 1} → statement M
 instruction-fits-spec =
     tie.close
-    (tie.spec (λ c κs. search needs) (λ c κs. search needs) (λ c κs. search needs) (λ c. search (threading, tests)) (λ c. search (threading, tests)))
+    (tie.spec (λ c κs. search needs) (λ c κs. search needs) (λ c κs. search needs) (λ c. search (ranging, tests))
+    (λ c. search (ranging, tests)))

@@ -1,5 +1,5 @@
 use Rattle.limits.proofs.Auto.{tests}
-use Rattle.program.proofs.Laws.Program.{halving}
+use Rattle.program.proofs.Instructed.{halving}
 use borrow.Author.Needs.{needs}
 use Rattle.program.proofs.instruction.read_instruction.Statement.{statement}
 use Rattle.program.proofs.instruction.read_instruction.Tie as tie

@@ -1,9 +1,10 @@
 use Rattle.limits.proofs.Auto.{tests}
-use Rattle.program.proofs.Laws.Program.{halving}
+use Rattle.program.proofs.Instructed.{halving}
 use borrow.Author.Needs.{needs}
 use Rattle.program.proofs.instruction.second_half.Statement.{statement}
 use Rattle.program.proofs.instruction.second_half.Tie as tie
 
 pub second-half-spec : {M : Type 1} → statement M
 second-half-spec =
-    tie.close (tie.spec (λ c κs. search needs) (λ c κs. search needs) (λ c κs. search needs) (λ c. search (halving, tests)) (λ c. search (halving, tests)))
+    tie.close (tie.spec (λ c κs. search needs) (λ c κs. search needs) (λ c κs. search needs) (λ c. search (halving, tests))
+    (λ c. search (halving, tests)))

@@ -7,4 +7,5 @@ use Rattle.records.proofs.claim.check_claim.Tie as tie
 
 pub check-claim-spec : {M : Type 1} → statement M
 unfolding claim
-check-claim-spec = tie.close (tie.spec (λ c. search (checking, tests)) (λ c κs. search needs) (λ c. search (checking, tests)) (λ c. search (checking, tests)))
+check-claim-spec = tie.close (tie.spec (λ c. search (checking, tests)) (λ c κs. search needs) (λ c. search (checking, tests))
+    (λ c. search (checking, tests)))

@@ -6,4 +6,5 @@ use Rattle.records.proofs.line.form_of.Tie as tie
 pub form-of-spec : {M : Type 1} → statement M
 unfolding formOf
 form-of-spec =
-    tie.close (tie.spec (λ c. search tests) (λ c. search tests) (λ c. search tests) (λ c. search tests) (λ c. search tests) (λ c. search tests) (λ c. search tests) (λ c. search tests) (λ c. search tests))
+    tie.close (tie.spec (λ c. search tests) (λ c. search tests) (λ c. search tests) (λ c. search tests) (λ c. search tests)
+    (λ c. search tests) (λ c. search tests) (λ c. search tests) (λ c. search tests))

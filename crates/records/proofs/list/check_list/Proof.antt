@@ -6,4 +6,5 @@ use Rattle.records.proofs.list.check_list.Tie as tie
 
 pub check-list-spec : {M : Type 1} → statement M
 check-list-spec =
-    tie.close (tie.spec (λ c. search (listing, tests)) (λ c. search needs) (λ c. search (listing, tests)) (λ c κs. search needs) (λ c. search (listing, tests)) (λ c. search (listing, tests)))
+    tie.close (tie.spec (λ c. search (listing, tests)) (λ c. search needs) (λ c. search (listing, tests)) (λ c κs. search needs)
+    (λ c. search (listing, tests)) (λ c. search (listing, tests)))

@@ -2,8 +2,8 @@ use Rattle.records.proofs.Laws.Counts.{count-start, count-more, count-a
 use Prim.Native.Nat.{_≤_, _<_, _+_, _-_}
 use mathlib.Core.Path.{_≡_}
 use lib.ListN.{drop}
-use Rattle.program.specs.Thread.{lastPoint, begins, instructions}
-use Rattle.program.proofs.Laws.Program.{from-start}
+use Rattle.threads.specs.Thread.{lastPoint, begins, instructions}
+use Rattle.threads.proofs.Threads.{from-start}
 use Rattle.records.specs.Tally.{branches}
 use Rattle.limits.proofs.Auto.{tests}
 use Rattle.records.proofs.tally.branches_of.Statement.{statement}
@@ -11,7 +11,10 @@ use Rattle.records.proofs.tally.branches_of.Tie as tie
 
 abbrev Inv-loop : tie.InvT-loop
 Inv-loop b last n₀ at₀ p₀ n at p =
-    (last ≡ lastPoint b) × ((last < 256) × ((p ≤ last) × ((at ≡ begins (drop 1 b) p) × ((n ≤ p) × (n + branches (drop p (instructions b)) ≡ branches (instructions b))))))
+    (last ≡ lastPoint b)
+    ×
+    ((last < 256)
+    × ((p ≤ last) × ((at ≡ begins (drop 1 b) p) × ((n ≤ p) × (n + branches (drop p (instructions b)) ≡ branches (instructions b))))))
 
 abbrev μ-loop : tie.MeasureT-loop
 μ-loop b last n₀ at₀ p₀ n at p = last - p

@@ -8,7 +8,8 @@ use Rattle.records.proofs.tally.tally_of.Statement.{statement}
 use Rattle.records.proofs.tally.tally_of.Tie as tie
 
 abbrev Inv-loop : tie.InvT-loop
-Inv-loop s ix z c₀ threads t₀ c t = (threads ≡ z .threads) × ((threads < 256) × ((t ≤ threads) × ((c ≡ tallyTo z (bodies s) t) × Small t c)))
+Inv-loop s ix z c₀ threads t₀ c t = (threads ≡ z .threads)
+    × ((threads < 256) × ((t ≤ threads) × ((c ≡ tallyTo z (bodies s) t) × Small t c)))
 
 abbrev μ-loop : tie.MeasureT-loop
 μ-loop s ix z c₀ threads t₀ c t = threads - t

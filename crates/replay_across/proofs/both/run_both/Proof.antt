@@ -13,5 +13,14 @@ run-both-spec =
     (λ c. search needs)
     (λ c. search (both-short, tests))
     (λ c κs. search needs)
-    (λ c κs. ((c .before .before .before .before .before .before .before .before .before .before .before .before .before .pre .0 .0, c .before .before .before .before .before .before .before .before .before .before .before .before .before .pre .0 .1), (c .before .before .before .before .before .before .before .before .before .before .before .before .before .pre .1, c .run-counted .ensures .1)))
+    (λ c κs. (
+      (
+        c .before .before .before .before .before .before .before .before .before .before .before .before .before .pre .0 .0,
+        c .before .before .before .before .before .before .before .before .before .before .before .before .before .pre .0 .1,
+      ),
+      (
+        c .before .before .before .before .before .before .before .before .before .before .before .before .before .pre .1,
+        c .run-counted .ensures .1,
+      ),
+    ))
     (λ c. search (both-run, tests)))

@@ -1,5 +1,5 @@
 use Rattle.limits.proofs.Auto.{tests}
-use Rattle.replaying.proofs.Ways.{shown-same}
+use Rattle.shown.proofs.Ways.{shown-same}
 use borrow.Author.Needs.{needs}
 use Rattle.replay_across.proofs.both.shown_across.Statement.{statement}
 use Rattle.replay_across.proofs.both.shown_across.Tie as tie

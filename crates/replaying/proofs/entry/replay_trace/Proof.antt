@@ -1,5 +1,5 @@
 use Rattle.limits.proofs.Auto.{tests}
-use Rattle.replaying.proofs.Promised.{written-short, written-whole}
+use Rattle.replay_promise.proofs.Promised.{written-short, written-whole}
 use borrow.Author.Needs.{needs}
 use Rattle.replaying.proofs.entry.replay_trace.Statement.{statement}
 use Rattle.replaying.proofs.entry.replay_trace.Tie as tie

@@ -1,4 +1,5 @@
--- `put_shown` meets its contract: a walk of its MIR, by hand. In each turn `write_in` is called, the borrow is opened, one element is stored to, and the borrow is closed at the list with the write in it.
+-- `put_shown` meets its contract: a walk of its MIR, by hand. In each turn `write_in` is called, the borrow is opened, one element is
+-- stored to, and the borrow is closed at the list with the write in it.
 use mathlib.Core.Path.{_≡_, refl, sym, ap, subst}
 use Prim.Native.Nat.{ℕ, zero, suc, _<_, _≤_, _^_, _*_, _+_}
 use native.Mathlib.Omega.{arith}
@@ -46,16 +47,16 @@ use denote.Triple.Table.{entered, cited}
 use denote.Triple.Walked.{says, needs, Stays, stay-slice, stay-none, walkOf, goes-slice, goes-none, Walks, ends-at, walked, walk-meets}
 use denote.Exit.{yes}
 use denote.Signature.{plain}
-use Rattle.replaying.specs.Table.{writeIn, putTo}
-use Rattle.replaying.proofs.Ways.{put-length, put-next, put-none}
-use Rattle.memory.specs.declared.write.Write.{Write}
-use Rattle.replaying.specs.declared.shown.Shown.{Shown}
-use Rattle.memory.proofs.write.Write as S
-use Rattle.memory.proofs.write.Write.Laws as S′
-use Rattle.replaying.proofs.answer.Answer as R
-use Rattle.replaying.proofs.answer.Answer.Laws as R′
-use Rattle.replaying.proofs.shown.Shown as T
-use Rattle.replaying.proofs.shown.Shown.Laws as T′
+use Rattle.shown.specs.Table.{writeIn, putTo}
+use Rattle.shown.proofs.Ways.{put-length, put-next, put-none}
+use Rattle.writes.specs.declared.write.Write.{Write}
+use Rattle.shown.specs.declared.shown.Shown.{Shown}
+use Rattle.writes.proofs.write.Write as S
+use Rattle.writes.proofs.write.Write.Laws as S′
+use Rattle.shown.proofs.answer.Answer as R
+use Rattle.shown.proofs.answer.Answer.Laws as R′
+use Rattle.shown.proofs.shown.Shown as T
+use Rattle.shown.proofs.shown.Shown.Laws as T′
 use Rattle.replaying.proofs.into.write_in as write-in
 use Rattle.replaying.proofs.into.write_in.Symbol as write-in-def
 use Rattle.replaying.proofs.into.write_in.Symbol.{name as #replaying·into·write-in}
@@ -247,7 +248,8 @@ module _ {M : Type 1} (𝓤 : URA M) (H : Heap 𝓤) (A : Atoms 𝓤) (W : Given
         leaves-loop ! (load ! (from ! (stop !)) (look ! 4 refl)) $ exec ! C Λ En mir′.t-4 (atRet En Post) $
         assigns ! (of-opd ! (load ! (from ! (fld ! refl (stop !))) (look-in ! 8 (sub ! 0 refl (whole !))))) (from ! (stop !))
         (init ! 11 refl (LL.lawful R.the-type R′.the-laws 𝓤 H A W .typed (s .answer) _ ga .0)) $
-        returns ! (look ! 11 refl) $ forget ! 3 refl $ forget ! 4 refl $ forget ! 8 refl $ forget ! 9 refl $ forget ! 10 refl $ forget ! 11 refl $
+        returns ! (look ! 11 refl) $ forget ! 3 refl $ forget ! 4 refl $ forget ! 8 refl $ forget ! 9 refl $ forget ! 10 refl $ forget !
+        11 refl $
         move ! (11 ∷ 12 ∷ []) $ free1 ! $ move ! (8 ∷ 11 ∷ []) $ free1 ! $ move ! (8 ∷ 10 ∷ []) $ free1 ! $ move ! (8 ∷ 9 ∷ []) $ free1 ! $
         move ! (3 ∷ 8 ∷ []) $ free1 ! $ move ! (3 ∷ 7 ∷ []) $ free1 ! $ move ! (3 ∷ 6 ∷ []) $ free1 ! $ move !
         (3 ∷ 5 ∷ []) $ free1 ! $ move ! (3 ∷ 4 ∷ []) $ free1 ! $ free0 ! $
@@ -332,4 +334,5 @@ put-shown-spec 𝓤 H 𝓜 𝓖 𝓡 =
     entered 𝓤 H (tripleOf 𝓤 H (𝓖 .A) f.signature (f.spec 𝓤 H (𝓖 .A) (𝓜 .mem) (𝓡 .run)))
     (tables 𝓤 H 𝓜 𝓡 code.env .C) (tables 𝓤 H 𝓜 𝓡 code.env .Λ) #replaying·into·put-shown code.function (code.unfolded 𝓤 H 𝓜 𝓡)
     (put-shown-meets 𝓤 H (𝓖 .A) (givenOf 𝓤 H 𝓜 𝓖) (𝓜 .mem) (𝓡 .run) (tablesOf 𝓤 H 𝓜 (tables 𝓤 H 𝓜 𝓡 code.env))
-    (cited 𝓤 H (WriteIn 𝓤 H (𝓖 .A) (𝓜 .mem) (𝓡 .run)) 𝓜 𝓡 code.env #replaying·into·write-in write-in-def.routine code.calls-replaying·into·write-in (write-in-thm.met 𝓤 H 𝓜 𝓖 𝓡)))
+    (cited 𝓤 H (WriteIn 𝓤 H (𝓖 .A) (𝓜 .mem) (𝓡 .run)) 𝓜 𝓡 code.env #replaying·into·write-in write-in-def.routine
+    code.calls-replaying·into·write-in (write-in-thm.met 𝓤 H 𝓜 𝓖 𝓡)))

@@ -1,4 +1,5 @@
--- `replay_into` meets its contract: a walk of its MIR, by hand. `shown_of` is called with copies of the three slices, and `put_shown` with the table, which is given up for good.
+-- `replay_into` meets its contract: a walk of its MIR, by hand. `shown_of` is called with copies of the three slices, and `put_shown`
+-- with the table, which is given up for good.
 use mathlib.Core.Path.{_≡_, refl}
 use Prim.Native.Nat.{ℕ, _≤_, min}
 use mathlib.Core.List.{[], _∷_, List}
@@ -36,23 +37,23 @@ use denote.Triple.Walked.{says, Stays, stay-none-slice, gave-slice, walkOf, goes
 use denote.Exit.{yes}
 use contract.Lifetimes.{Lfts}
 use denote.Signature.{plain}
-use Rattle.replaying.specs.Table.{putTo, shownBy}
-use Rattle.replaying.specs.Promise.{Into}
-use Rattle.replaying.proofs.Promised.{put-into}
+use Rattle.shown.specs.Table.{putTo, shownBy}
+use Rattle.replay_promise.specs.Promise.{Into}
+use Rattle.replay_promise.proofs.Promised.{put-into}
 use Rattle.replay.specs.Whole.{replayOf}
 use native.Mathlib.Omega.{arith}
-use Rattle.memory.specs.declared.write.Write.{Write}
-use Rattle.replaying.specs.declared.answer.Answer.{Answer}
-use Rattle.replaying.specs.declared.shown.Shown.{Shown}
-use Rattle.memory.proofs.write.Write as S
-use Rattle.replaying.proofs.answer.Answer as R
-use Rattle.replaying.proofs.answer.Answer.Laws as R′
-use Rattle.replaying.proofs.shown.Shown as T
-use Rattle.replaying.proofs.shown.Shown.Laws as T′
-use Rattle.replaying.proofs.shown.shown_of as shown-of
-use Rattle.replaying.proofs.shown.shown_of.Symbol as shown-of-def
-use Rattle.replaying.proofs.shown.shown_of.Symbol.{name as #replaying·shown·shown-of}
-use Rattle.replaying.proofs.shown.shown_of.Met as shown-of-thm
+use Rattle.writes.specs.declared.write.Write.{Write}
+use Rattle.shown.specs.declared.answer.Answer.{Answer}
+use Rattle.shown.specs.declared.shown.Shown.{Shown}
+use Rattle.writes.proofs.write.Write as S
+use Rattle.shown.proofs.answer.Answer as R
+use Rattle.shown.proofs.answer.Answer.Laws as R′
+use Rattle.shown.proofs.shown.Shown as T
+use Rattle.shown.proofs.shown.Shown.Laws as T′
+use Rattle.replaying.proofs.whole.shown_of as shown-of
+use Rattle.replaying.proofs.whole.shown_of.Symbol as shown-of-def
+use Rattle.replaying.proofs.whole.shown_of.Symbol.{name as #replaying·whole·shown-of}
+use Rattle.replaying.proofs.whole.shown_of.Met as shown-of-thm
 use Rattle.replaying.proofs.into.put_shown as put-shown
 use Rattle.replaying.proofs.into.put_shown.Symbol as put-shown-def
 use Rattle.replaying.proofs.into.put_shown.Symbol.{name as #replaying·into·put-shown}
@@ -176,7 +177,7 @@ module _ {M : Type 1} (𝓤 : URA M) (H : Heap 𝓤) (A : Atoms 𝓤) (W : Given
       (1 ∷ 0 ∷ []) $ fjoin ! $ done !
 
   module _ (C : Calls 𝓤 H) (Λ : Loops 𝓤 H) (fm : FmC 𝓤 H (W .laws) C)
-      (known₁ : Triple 𝓤 (C #replaying·shown·shown-of) (ShownOf 𝓤 H A mem run))
+      (known₁ : Triple 𝓤 (C #replaying·whole·shown-of) (ShownOf 𝓤 H A mem run))
       (known₂ : Triple 𝓤 (C #replaying·into·put-shown) (PutShown 𝓤 H A mem run)) where
     walk : Is (ShrSlice (named 0) κ₁ u8) image (slice image ∷ []) → Is (ShrSlice (named 1) κ₂ u8) trace (slice trace ∷ [])
         → Is (ShrSlice (named 2) κ₃ u8) given (slice given ∷ []) → Room S.the-row len
@@ -243,7 +244,8 @@ module _ {M : Type 1} (𝓤 : URA M) (H : Heap 𝓤) (A : Atoms 𝓤) (W : Given
         -- [the last list; true; the token and the result; the tokens; _8; …]
         move ! (2 ∷ []) $ split ! $ move ! (1 ∷ []) $ peeks ! R.the-row (Is R.the-row) (shows 𝓤 H A R.the-row) a (y ∷ []) (λ ga.
         land ! (from ! (stop !)) (init ! 21 refl (LL.lawful R.the-type R′.the-laws 𝓤 H A W .typed a _ ga .0)) $
-        returns ! (look ! 21 refl) $ forget ! 5 refl $ forget ! 7 refl $ forget ! 9 refl $ forget ! 11 refl $ forget ! 13 refl $ forget ! 15 refl $ forget ! 17 refl $ forget ! 19 refl $ forget ! 21 refl $
+        returns ! (look ! 21 refl) $ forget ! 5 refl $ forget ! 7 refl $ forget ! 9 refl $ forget ! 11 refl $ forget ! 13 refl $ forget !
+        15 refl $ forget ! 17 refl $ forget ! 19 refl $ forget ! 21 refl $
         move ! (21 ∷ 22 ∷ []) $ free1 ! $ move ! (19 ∷ 20 ∷ []) $ free1 ! $ move ! (17 ∷ 18 ∷ []) $ free1 ! $ move !
         (15 ∷ 16 ∷ []) $ free1 ! $ move ! (13 ∷ 14 ∷ []) $ free1 ! $
         move ! (11 ∷ 12 ∷ []) $ free1 ! $ move ! (9 ∷ 10 ∷ []) $ free1 ! $ move ! (7 ∷ 8 ∷ []) $ free1 ! $ move !
@@ -254,7 +256,7 @@ module _ {M : Type 1} (𝓤 : URA M) (H : Heap 𝓤) (A : Atoms 𝓤) (W : Given
 
 module _ {M : Type 1} (𝓤 : URA M) (H : Heap 𝓤) (A : Atoms 𝓤) (W : Given 𝓤 H A) (mem : Memory → SProp 𝓤) (run : Routine → Fun 𝓤) where
   replay-into-walks : (C : Calls 𝓤 H) (Λ : Loops 𝓤 H) → FmC 𝓤 H (W .laws) C
-      → Triple 𝓤 (C #replaying·shown·shown-of) (ShownOf 𝓤 H A mem run) → Triple 𝓤 (C #replaying·into·put-shown) (PutShown 𝓤 H A mem run)
+      → Triple 𝓤 (C #replaying·whole·shown-of) (ShownOf 𝓤 H A mem run) → Triple 𝓤 (C #replaying·into·put-shown) (PutShown 𝓤 H A mem run)
       → Walks 𝓤 H A f.ended stayed (WpFn 𝓤 H C Λ code.function) (f.clauses 𝓤 H A mem run)
   replay-into-walks C Λ fm known₁ known₂ = walked 𝓤 H A f.ended stayed (f.clauses 𝓤 H A mem run) (WpFn 𝓤 H C Λ code.function)
       (λ κs. (slice-vals, (slice-vals, (slice-vals, (slice-vals, tt)))))
@@ -271,7 +273,7 @@ module _ {M : Type 1} (𝓤 : URA M) (H : Heap 𝓤) (A : Atoms 𝓤) (W : Given
 
 replay-into-meets : {M : Type 1} (𝓤 : URA M) (H : Heap 𝓤) (A : Atoms 𝓤) → Given 𝓤 H A
     → (mem : Memory → SProp 𝓤) (run : Routine → Fun 𝓤) (𝓣 : Tables 𝓤 H)
-    → Triple 𝓤 (𝓣 .C #replaying·shown·shown-of) (ShownOf 𝓤 H A mem run) → Triple 𝓤 (𝓣 .C #replaying·into·put-shown) (PutShown 𝓤 H A mem run)
+    → Triple 𝓤 (𝓣 .C #replaying·whole·shown-of) (ShownOf 𝓤 H A mem run) → Triple 𝓤 (𝓣 .C #replaying·into·put-shown) (PutShown 𝓤 H A mem run)
     → Meets 𝓤 H A f.signature (WpFn 𝓤 H (𝓣 .C) (𝓣 .Λ) code.function) (f.spec 𝓤 H A mem run)
 replay-into-meets 𝓤 H A W mem run 𝓣 known₁ known₂ =
     walk-meets 𝓤 H A f.ended stayed W (
@@ -290,7 +292,8 @@ replay-into-spec 𝓤 H 𝓜 𝓖 𝓡 =
     entered 𝓤 H (tripleOf 𝓤 H (𝓖 .A) f.signature (f.spec 𝓤 H (𝓖 .A) (𝓜 .mem) (𝓡 .run)))
     (tables 𝓤 H 𝓜 𝓡 code.env .C) (tables 𝓤 H 𝓜 𝓡 code.env .Λ) #replaying·into·replay-into code.function (code.unfolded 𝓤 H 𝓜 𝓡)
     (replay-into-meets 𝓤 H (𝓖 .A) (givenOf 𝓤 H 𝓜 𝓖) (𝓜 .mem) (𝓡 .run) (tablesOf 𝓤 H 𝓜 (tables 𝓤 H 𝓜 𝓡 code.env))
-    (cited 𝓤 H (ShownOf 𝓤 H (𝓖 .A) (𝓜 .mem) (𝓡 .run)) 𝓜 𝓡 code.env #replaying·shown·shown-of shown-of-def.routine code.calls-replaying·shown·shown-of (shown-of-thm.met 𝓤 H 𝓜 𝓖 𝓡))
+    (cited 𝓤 H (ShownOf 𝓤 H (𝓖 .A) (𝓜 .mem) (𝓡 .run)) 𝓜 𝓡 code.env #replaying·whole·shown-of shown-of-def.routine
+    code.calls-replaying·whole·shown-of (shown-of-thm.met 𝓤 H 𝓜 𝓖 𝓡))
     (cited 𝓤 H (PutShown 𝓤 H (𝓖 .A) (𝓜 .mem)
     (𝓡 .run)) 𝓜 𝓡 code.env #replaying·into·put-shown put-shown-def.routine code.calls-replaying·into·put-shown
     (put-shown-thm.met 𝓤 H 𝓜 𝓖 𝓡)))

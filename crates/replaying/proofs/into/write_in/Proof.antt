@@ -1,4 +1,4 @@
-use Rattle.replaying.specs.Table.{writeIn}
+use Rattle.shown.specs.Table.{writeIn}
 use borrow.Author.Needs.{needs}
 use Rattle.replaying.proofs.into.write_in.Statement.{statement}
 use Rattle.replaying.proofs.into.write_in.Tie as tie

@@ -25,6 +25,8 @@ write-record-spec =
     (λ c. search (copying, tests))
     (λ c. search (copying, tests))
     (λ c. search (copying, tests))
-    (λ c. let a = c .before .before .before .args in copy-more size (a .t1 .bytes) (a .out .now) (c .before .before .loop .out) (c .before .before .loop .i) (search tests) (search tests) (search tests) (search tests) (search tests))
+    (λ c. let a = c .before .before .before .args in
+    copy-more size (a .t1 .bytes) (a .out .now) (c .before .before .loop .out) (c .before .before .loop .i) (search tests)
+    (search tests) (search tests) (search tests) (search tests))
     (λ c. search (copying, tests))
     (λ c. search (copying, tests)))

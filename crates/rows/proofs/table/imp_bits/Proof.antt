@@ -1,5 +1,5 @@
 use Rattle.rows.proofs.Tabling.{implied}
-use Rattle.rows.proofs.Entailing.{gather-imp}
+use Rattle.entailment.proofs.Entailing.{gather-imp}
 use Rattle.limits.proofs.Auto.{tests}
 use borrow.Author.Needs.{needs}
 use Rattle.rows.proofs.table.imp_bits.Statement.{statement}

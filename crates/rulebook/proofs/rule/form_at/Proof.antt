@@ -6,4 +6,6 @@ use Rattle.rulebook.proofs.rule.form_at.Tie as tie
 pub form-at-spec : {M : Type 1} → statement M
 unfolding formBy
 form-at-spec =
-    tie.close (tie.spec (λ c. form-known _ _ (search tests)) (λ c. form-known _ _ (search tests)) (λ c. form-known _ _ (search tests)) (λ c. form-known _ _ (search tests)) (λ c. form-known _ _ (search tests)) (λ c. form-known _ _ (search tests)) (λ c. form-known _ _ (search tests)) (λ c. form-known _ _ (search tests)) (λ c. form-known _ _ (search tests)))
+    tie.close (tie.spec (λ c. form-known _ _ (search tests)) (λ c. form-known _ _ (search tests)) (λ c. form-known _ _ (search tests))
+    (λ c. form-known _ _ (search tests)) (λ c. form-known _ _ (search tests)) (λ c. form-known _ _ (search tests))
+    (λ c. form-known _ _ (search tests)) (λ c. form-known _ _ (search tests)) (λ c. form-known _ _ (search tests)))

@@ -4,4 +4,5 @@ use Rattle.service.proofs.rights.has_right.Statement.{statement}
 use Rattle.service.proofs.rights.has_right.Tie as tie
 
 pub has-right-spec : {M : Type 1} → statement M
-has-right-spec = tie.close (tie.spec (λ c. search needs) (λ c. search needs) (λ c. search needs) (λ c. search (rights, needs)) (λ c. search (rights, needs)) (λ c. search (rights, needs)))
+has-right-spec = tie.close (tie.spec (λ c. search needs) (λ c. search needs) (λ c. search needs) (λ c. search (rights, needs))
+    (λ c. search (rights, needs)) (λ c. search (rights, needs)))

@@ -5,4 +5,5 @@ use Rattle.stored.proofs.case.next_by.Statement.{statement}
 use Rattle.stored.proofs.case.next_by.Tie as tie
 
 pub next-by-spec : {M : Type 1} → statement M
-next-by-spec = tie.close (tie.spec (λ c. search needs) (λ c. search needs) (λ c. search needs) (λ c. search (following, tests)) (λ c. search (following, tests)) (λ c. search (following, tests)))
+next-by-spec = tie.close (tie.spec (λ c. search needs) (λ c. search needs) (λ c. search needs) (λ c. search (following, tests))
+    (λ c. search (following, tests)) (λ c. search (following, tests)))

@@ -5,4 +5,5 @@ use Rattle.stored.proofs.tally.with_case.Statement.{statement}
 use Rattle.stored.proofs.tally.with_case.Tie as tie
 
 pub with-case-spec : {M : Type 1} → statement M
-with-case-spec = tie.close (tie.spec (λ c κs. search needs) (λ c. search (tallying, tests)) (λ c κs. search needs) (λ c. search (tallying, tests)))
+with-case-spec = tie.close (tie.spec (λ c κs. search needs) (λ c. search (tallying, tests)) (λ c κs. search needs)
+    (λ c. search (tallying, tests)))

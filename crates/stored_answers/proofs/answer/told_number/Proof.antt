@@ -6,4 +6,5 @@ use Rattle.stored_answers.proofs.answer.told_number.Tie as tie
 
 pub told-number-spec : {M : Type 1} → statement M
 told-number-spec =
-    tie.close (tie.spec (λ c. search (answers, tests)) (λ c. search (answers, tests)) (λ c. search needs) (λ c. search needs) (λ c κs. search needs) (λ c. search (answers, tests)))
+    tie.close (tie.spec (λ c. search (answers, tests)) (λ c. search (answers, tests)) (λ c. search needs) (λ c. search needs)
+    (λ c κs. search needs) (λ c. search (answers, tests)))

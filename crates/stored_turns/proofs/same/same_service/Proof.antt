@@ -5,4 +5,5 @@ use Rattle.stored_turns.proofs.same.same_service.Statement.{statement}
 use Rattle.stored_turns.proofs.same.same_service.Tie as tie
 
 pub same-service-spec : {M : Type 1} → statement M
-same-service-spec = tie.close (tie.spec (λ c κs. search needs) (λ c. search (sames, tests)) (λ c κs. search needs) (λ c. search (sames, tests)))
+same-service-spec = tie.close (tie.spec (λ c κs. search needs) (λ c. search (sames, tests)) (λ c κs. search needs)
+    (λ c. search (sames, tests)))

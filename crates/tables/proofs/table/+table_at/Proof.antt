@@ -28,7 +28,26 @@ table-at-below t =
     and 3 table-at-kinds.ps (falls 3 table-at-kinds.ps _<_ μ-table-at t) table-at.Pre
 
 abbrev table-at-calls : ℕ → table-at-lts.Claims
-table-at-calls t = (fill-words-reads.Asked, fill-words-reads.Learnt, node-at-reads.Asked, node-at-reads.Learnt, contains-reads.Asked, contains-reads.Learnt, leaf-bits-reads.Asked, leaf-bits-reads.Learnt, plain-bits-reads.Asked, plain-bits-reads.Learnt, table-at-below t, table-at.Post, single-bits-reads.Asked, single-bits-reads.Learnt, end-at-reads.Asked, end-at-reads.Learnt, combine-words-reads.Asked, combine-words-reads.Learnt)
+table-at-calls t = (
+  fill-words-reads.Asked,
+  fill-words-reads.Learnt,
+  node-at-reads.Asked,
+  node-at-reads.Learnt,
+  contains-reads.Asked,
+  contains-reads.Learnt,
+  leaf-bits-reads.Asked,
+  leaf-bits-reads.Learnt,
+  plain-bits-reads.Asked,
+  plain-bits-reads.Learnt,
+  table-at-below t,
+  table-at.Post,
+  single-bits-reads.Asked,
+  single-bits-reads.Learnt,
+  end-at-reads.Asked,
+  end-at-reads.Learnt,
+  combine-words-reads.Asked,
+  combine-words-reads.Learnt,
+)
 
 -- src/table.rt:94:9
 table-at-fill-words-requires : (t : ℕ) → table-at-lts.Need-fill-words-requires (table-at-calls t) (table-at-at t) table-at.Post

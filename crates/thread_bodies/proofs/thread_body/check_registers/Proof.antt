@@ -9,4 +9,5 @@ pub check-registers-spec : {M : Type 1} → statement M
 unfolding threadRegisters
 check-registers-spec =
     tie.close
-    (tie.spec (λ c κs. search needs) (λ c κs. search needs) (λ c. search (checking, tests)) (λ c. search (checking, tests)) (λ c. search (checking, tests)))
+    (tie.spec (λ c κs. search needs) (λ c κs. search needs) (λ c. search (checking, tests)) (λ c. search (checking, tests))
+    (λ c. search (checking, tests)))

@@ -5,4 +5,5 @@ use Rattle.thread_bodies.proofs.thread_body.formula_sorted.Statement.{s
 use Rattle.thread_bodies.proofs.thread_body.formula_sorted.Tie as tie
 
 pub formula-sorted-spec : {M : Type 1} → statement M
-formula-sorted-spec = tie.close (tie.spec (λ c. search (instructed, tests)) (λ c κs. search needs) (λ c κs. search needs) (λ c. search (instructed, tests)))
+formula-sorted-spec = tie.close (tie.spec (λ c. search (instructed, tests)) (λ c κs. search needs) (λ c κs. search needs)
+    (λ c. search (instructed, tests)))

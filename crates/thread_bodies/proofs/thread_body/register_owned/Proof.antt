@@ -5,4 +5,5 @@ use Rattle.thread_bodies.proofs.thread_body.register_owned.Statement.{s
 use Rattle.thread_bodies.proofs.thread_body.register_owned.Tie as tie
 
 pub register-owned-spec : {M : Type 1} → statement M
-register-owned-spec = tie.close (tie.spec (λ c. search (owning, tests)) (λ c κs. search needs) (λ c κs. search needs) (λ c. search (owning, tests)))
+register-owned-spec = tie.close (tie.spec (λ c. search (owning, tests)) (λ c κs. search needs) (λ c κs. search needs)
+    (λ c. search (owning, tests)))

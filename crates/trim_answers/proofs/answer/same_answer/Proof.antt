@@ -6,4 +6,5 @@ use Rattle.trim_answers.proofs.answer.same_answer.Tie as tie
 
 pub same-answer-spec : {M : Type 1} → statement M
 same-answer-spec =
-    tie.close (tie.spec (λ c κs. search needs) (λ c. search (answers, tests)) (λ c. search (answers, tests)) (λ c κs. search needs) (λ c. search (answers, tests)))
+    tie.close (tie.spec (λ c κs. search needs) (λ c. search (answers, tests)) (λ c. search (answers, tests)) (λ c κs. search needs)
+    (λ c. search (answers, tests)))

@@ -8,7 +8,8 @@ use Rattle.trim_cases.proofs.judge.judge_all.Statement.{statement}
 use Rattle.trim_cases.proofs.judge.judge_all.Tie as tie
 
 abbrev Inv-loop : tie.InvT-loop
-Inv-loop fd space₀ stored₀ trimmed₀ none₀ tally₀ left₀ space stored trimmed none tally left = (262145 ≡ length space) × ((6 ≡ length stored) × ((262145 ≡ length trimmed) × ((0 ≡ length none) × Running tally left)))
+Inv-loop fd space₀ stored₀ trimmed₀ none₀ tally₀ left₀ space stored trimmed none tally left =
+    (262145 ≡ length space) × ((6 ≡ length stored) × ((262145 ≡ length trimmed) × ((0 ≡ length none) × Running tally left)))
 
 abbrev μ-loop : tie.MeasureT-loop
 μ-loop fd space₀ stored₀ trimmed₀ none₀ tally₀ left₀ space stored trimmed none tally left = left
@@ -40,7 +41,24 @@ judge-all-spec =
     (λ c κs. search (gathered, bodies, needs))
     (λ c. search (gathered, bodies, needs))
     (λ c. search (gathered, bodies, needs))
-    (λ c. (search needs, (search needs, (search needs, (search needs, running-trimmed _ _ _ _ _ _ (search needs) (search (gathered, c .before .before .before .before .before .before .before .before .before .before .before .before .before .before .before .before .before .before .before .before .before .loop)) (c .with-trimmed .ensures))))))
+    (λ c. (
+      search needs,
+      (
+        search needs,
+        (
+          search needs,
+          (
+            search needs,
+            running-trimmed _ _ _ _ _ _ (search needs)
+                (search (
+                  gathered,
+                  c .before .before .before .before .before .before .before .before .before .before .before .before .before
+                      .before .before .before .before .before .before .before .before .loop,
+                )) (c .with-trimmed .ensures),
+          ),
+        ),
+      ),
+    ))
     (λ c. search (gathered, bodies, needs))
     (λ c κs. search (gathered, bodies, needs))
     (λ c. search (gathered, bodies, needs))

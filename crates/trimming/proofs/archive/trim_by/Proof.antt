@@ -9,7 +9,11 @@ trim-accepted-requires : tie.Need-trim-accepted-requires
 trim-accepted-requires c κs = (
   search tests,
   accepted-of _ (c .before .before .before .before .before .before .before .accept-image .result) _
-      (λ i h. omega (arith, c .before .before .before .before .before .before .before .before .before .before .before .shared-slice-known .given i)) (search tests) (search tests),
+      (λ i h. omega (
+        arith,
+        c .before .before .before .before .before .before .before .before .before .before .before .shared-slice-known
+            .given i,
+      )) (search tests) (search tests),
 )
 
 pub trim-by-spec : {M : Type 1} → statement M

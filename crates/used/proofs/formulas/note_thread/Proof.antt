@@ -4,15 +4,18 @@ use Rattle.trimmed.specs.Kept.{noted}
 use Prim.Native.Nat.{_≤_, _<_, _-_}
 use mathlib.Core.Path.{_≡_, refl}
 use lib.ListN.{length, drop}
-use Rattle.program.specs.Thread.{begins}
-use Rattle.program.proofs.Laws.Program.{from-start}
+use Rattle.threads.specs.Thread.{begins}
+use Rattle.threads.proofs.Threads.{from-start}
 use Rattle.limits.proofs.Auto.{tests}
 use Rattle.used.proofs.formulas.note_thread.Statement.{statement}
 use Rattle.used.proofs.formulas.note_thread.Tie as tie
 
 abbrev Inv-loop : tie.InvT-loop
 Inv-loop b m₀ last at₀ p₀ m at p =
-    (last < 256) × ((p ≤ last) × ((at ≡ begins (drop 1 b) p) × ((noted m₀ (bodyFormulas b 0) ≡ noted m (bodyFormulas b p)) × (length m ≡ length m₀))))
+    (last < 256)
+    ×
+    ((p ≤ last)
+    × ((at ≡ begins (drop 1 b) p) × ((noted m₀ (bodyFormulas b 0) ≡ noted m (bodyFormulas b p)) × (length m ≡ length m₀))))
 
 abbrev μ-loop : tie.MeasureT-loop
 μ-loop b m₀ last at₀ p₀ m at p = last - p

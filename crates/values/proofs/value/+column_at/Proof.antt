@@ -27,7 +27,20 @@ column-at-below t =
     and 4 column-at-kinds.ps (falls 4 column-at-kinds.ps _<_ μ-column-at t) column-at.Pre
 
 abbrev column-at-calls : ℕ → column-at-lts.Claims
-column-at-calls t = (leaf-column-reads.Asked, leaf-column-reads.Learnt, end-at-reads.Asked, end-at-reads.Learnt, node-at-reads.Asked, node-at-reads.Learnt, column-at-below t, column-at.Post, second-left-reads.Asked, second-left-reads.Learnt, join-columns-reads.Asked, join-columns-reads.Learnt)
+column-at-calls t = (
+  leaf-column-reads.Asked,
+  leaf-column-reads.Learnt,
+  end-at-reads.Asked,
+  end-at-reads.Learnt,
+  node-at-reads.Asked,
+  node-at-reads.Learnt,
+  column-at-below t,
+  column-at.Post,
+  second-left-reads.Asked,
+  second-left-reads.Learnt,
+  join-columns-reads.Asked,
+  join-columns-reads.Learnt,
+)
 
 -- src/value.rt:185:9
 column-at-leaf-column-requires : (t : ℕ) → column-at-lts.Need-leaf-column-requires (column-at-calls t) (column-at-at t) column-at.Post
@@ -62,7 +75,8 @@ column-at-second-left-requires : (t : ℕ) → column-at-lts.Need-second-left-re
 column-at-second-left-requires t c κs = search (values, tests)
 
 -- src/value.rt:197:63
-column-at-slice-aggregate-column-at : (t : ℕ) → column-at-lts.Need-slice-aggregate-column-at (column-at-calls t) (column-at-at t) column-at.Post
+column-at-slice-aggregate-column-at : (t : ℕ) → column-at-lts.Need-slice-aggregate-column-at (column-at-calls t) (column-at-at t)
+    column-at.Post
 column-at-slice-aggregate-column-at t c = search (values, tests)
 
 -- src/value.rt:197:13
@@ -70,12 +84,37 @@ column-at-column-at-requires-2 : (t : ℕ) → column-at-lts.Need-column-at-requ
 column-at-column-at-requires-2 t c κs = search (values, tests)
 
 -- src/value.rt:198:73
-column-at-slice-aggregate-join-columns : (t : ℕ) → column-at-lts.Need-slice-aggregate-join-columns (column-at-calls t) (column-at-at t) column-at.Post
+column-at-slice-aggregate-join-columns : (t : ℕ) → column-at-lts.Need-slice-aggregate-join-columns (column-at-calls t) (column-at-at t)
+    column-at.Post
 column-at-slice-aggregate-join-columns t c = search (values, tests)
 
 -- src/value.rt:198:13
 column-at-join-columns-requires : (t : ℕ) → column-at-lts.Need-join-columns-requires (column-at-calls t) (column-at-at t) column-at.Post
-column-at-join-columns-requires t c κs = ((level-within _ _ _ _ _ _ (c .before .before .before .before .before .before .before .before .before .column-at .ensures .0), (level-within _ _ _ _ _ _ (c .before .before .before .column-at2 .ensures .0), c .before .before .before .before .before .before .before .before .before .before .before .before .before .before .before .before .before .before .before .pre .1 .0)), (omega (arith, c .before .before .before .before .before .before .before .before .before .before .before .before .before .before .before .before .before .before .before .pre .1, c .before .before .before .before .before .before .before .before .before .before .before .before .before .before .out .given, c .before .before .before .before .before .before .before .before .out2 .given), omega (arith, c .before .before .before .before .before .before .before .before .before .before .before .before .before .before .before .before .before .before .before .pre .1, c .before .before .b2 .given)))
+column-at-join-columns-requires t c κs = (
+  (
+    level-within _ _ _ _ _ _ (c .before .before .before .before .before .before .before .before .before .column-at .ensures .0),
+    (
+      level-within _ _ _ _ _ _ (c .before .before .before .column-at2 .ensures .0),
+      c .before .before .before .before .before .before .before .before .before .before .before .before .before .before .before .before
+          .before .before .before .pre .1 .0,
+    ),
+  ),
+  (
+    omega (
+      arith,
+      c .before .before .before .before .before .before .before .before .before .before .before .before .before .before
+          .before .before .before .before .before .pre .1,
+      c .before .before .before .before .before .before .before .before .before .before .before .before .before .before .out .given,
+      c .before .before .before .before .before .before .before .before .out2 .given,
+    ),
+    omega (
+      arith,
+      c .before .before .before .before .before .before .before .before .before .before .before .before .before .before
+          .before .before .before .before .before .pre .1,
+      c .before .before .b2 .given,
+    ),
+  ),
+)
 
 -- src/value.rt:199:9
 column-at-same-length-2 : (t : ℕ) → column-at-lts.Need-same-length-2 (column-at-calls t) (column-at-at t) column-at.Post
@@ -83,10 +122,31 @@ column-at-same-length-2 t c = search (values, tests)
 
 -- src/value.rt:199:9
 column-at-returns-2 : (t : ℕ) → column-at-lts.Need-returns-2 (column-at-calls t) (column-at-at t) column-at.Post
-column-at-returns-2 t c = (reached-two _ _ _ [] 0 _ _ _ (c .before .before .before .before .before .before .before .before .before .before .before .before .before .before .before .before .before .before .before .leaf-column .ensures .0) (c .before .before .before .before .before .before .before .before .before .before .before .before .before .before .before .before .if1 .left) _ _ _ _ (c .before .before .before .before .before .before .before .before .before .before .before .before .before .before .before .node-at .ensures) (c .before .before .before .before .before .before .before .before .before .before .before .before .before .column-at .ensures .0) (c .before .before .before .before .before .before .before .before .before .before .second-left .ensures) (c .before .before .before .before .before .before .before .column-at2 .ensures .0) _ (c .before .before .before .join-columns .ensures .0), value-two _ _ _ _ _ _ _ _ (c .before .before .before .before .before .before .before .before .before .before .before .before .before .before .before .before .before .before .before .leaf-column .ensures .0) (c .before .before .before .before .before .before .before .before .before .before .before .before .before .before .before .before .if1 .left) _ _ _ _ (c .before .before .before .before .before .before .before .before .before .before .before .before .before .before .before .node-at .ensures) (c .before .before .before .before .before .before .before .before .before .before .before .before .before .column-at .ensures .0) (c .before .before .before .before .before .before .before .before .before .before .second-left .ensures) (c .before .before .before .before .before .before .before .column-at2 .ensures .0) _ _ _ (c .before .before .before .before .before .before .before .before .before .before .before .before .before .column-at .ensures .1) (c .before .before .before .before .before .before .before .column-at2 .ensures .1) (c .before .before .before .join-columns .ensures .1))
+column-at-returns-2 t c = (
+  reached-two _ _ _ [] 0 _ _ _
+      (c .before .before .before .before .before .before .before .before .before .before .before .before .before .before .before .before
+      .before .before .before .leaf-column .ensures .0)
+      (c .before .before .before .before .before .before .before .before .before .before .before .before .before .before .before .before
+      .if1 .left) _ _ _ _ (c .before .before .before .before .before .before .before .before .before .before .before .before .before .before
+      .before .node-at .ensures) (c .before .before .before .before .before .before .before .before .before .before .before .before .before
+      .column-at .ensures .0) (c .before .before .before .before .before .before .before .before .before .before .second-left .ensures)
+      (c .before .before .before .before .before .before .before .column-at2 .ensures .0) _
+      (c .before .before .before .join-columns .ensures .0),
+  value-two _ _ _ _ _ _ _ _ (c .before .before .before .before .before .before .before .before .before .before .before .before .before
+      .before .before .before .before .before .before .leaf-column .ensures .0)
+      (c .before .before .before .before .before .before .before .before .before .before .before .before .before .before .before .before
+      .if1 .left) _ _ _ _ (c .before .before .before .before .before .before .before .before .before .before .before .before .before .before
+      .before .node-at .ensures) (c .before .before .before .before .before .before .before .before .before .before .before .before .before
+      .column-at .ensures .0) (c .before .before .before .before .before .before .before .before .before .before .second-left .ensures)
+      (c .before .before .before .before .before .before .before .column-at2 .ensures .0) _ _ _
+      (c .before .before .before .before .before .before .before .before .before .before .before .before .before .column-at .ensures .1)
+      (c .before .before .before .before .before .before .before .column-at2 .ensures .1)
+      (c .before .before .before .join-columns .ensures .1),
+)
 
 -- src/value.rt:202:59
-column-at-slice-aggregate-column-at-2 : (t : ℕ) → column-at-lts.Need-slice-aggregate-column-at-2 (column-at-calls t) (column-at-at t) column-at.Post
+column-at-slice-aggregate-column-at-2 : (t : ℕ) → column-at-lts.Need-slice-aggregate-column-at-2 (column-at-calls t) (column-at-at t)
+    column-at.Post
 column-at-slice-aggregate-column-at-2 t c = search (values, tests)
 
 -- src/value.rt:202:9
@@ -113,7 +173,31 @@ column-at-slice-aggregate-join-columns-2 t c = search (values, tests)
 
 -- src/value.rt:203:9
 column-at-join-columns-requires-2 : (t : ℕ) → column-at-lts.Need-join-columns-requires-2 (column-at-calls t) (column-at-at t) column-at.Post
-column-at-join-columns-requires-2 t c κs = ((level-within _ _ _ _ _ _ (c .before .before .before .before .before .before .before .before .before .column-at .ensures .0), (level-within _ _ _ _ _ _ (c .before .before .before .column-at3 .ensures .0), c .before .before .before .before .before .before .before .before .before .before .before .before .before .before .before .before .before .before .before .pre .1 .0)), (omega (arith, c .before .before .before .before .before .before .before .before .before .before .before .before .before .before .before .before .before .before .before .pre .1, c .before .before .before .before .before .before .before .before .before .before .before .before .before .before .out .given, c .before .before .before .before .before .before .before .before .out2 .given), omega (arith, c .before .before .before .before .before .before .before .before .before .before .before .before .before .before .before .before .before .before .before .pre .1, c .before .before .b6 .given)))
+column-at-join-columns-requires-2 t c κs = (
+  (
+    level-within _ _ _ _ _ _ (c .before .before .before .before .before .before .before .before .before .column-at .ensures .0),
+    (
+      level-within _ _ _ _ _ _ (c .before .before .before .column-at3 .ensures .0),
+      c .before .before .before .before .before .before .before .before .before .before .before .before .before .before .before .before
+          .before .before .before .pre .1 .0,
+    ),
+  ),
+  (
+    omega (
+      arith,
+      c .before .before .before .before .before .before .before .before .before .before .before .before .before .before
+          .before .before .before .before .before .pre .1,
+      c .before .before .before .before .before .before .before .before .before .before .before .before .before .before .out .given,
+      c .before .before .before .before .before .before .before .before .out2 .given,
+    ),
+    omega (
+      arith,
+      c .before .before .before .before .before .before .before .before .before .before .before .before .before .before
+          .before .before .before .before .before .pre .1,
+      c .before .before .b6 .given,
+    ),
+  ),
+)
 
 -- src/value.rt:171:1
 column-at-same-length-3 : (t : ℕ) → column-at-lts.Need-same-length-3 (column-at-calls t) (column-at-at t) column-at.Post
@@ -121,7 +205,27 @@ column-at-same-length-3 t c = search (values, tests)
 
 -- src/value.rt:171:1
 column-at-returns-3 : (t : ℕ) → column-at-lts.Need-returns-3 (column-at-calls t) (column-at-at t) column-at.Post
-column-at-returns-3 t c = (reached-two _ _ _ [] 0 _ _ _ (c .before .before .before .before .before .before .before .before .before .before .before .before .before .before .before .before .before .before .before .leaf-column .ensures .0) (c .before .before .before .before .before .before .before .before .before .before .before .before .before .before .before .before .if1 .left) _ _ _ _ (c .before .before .before .before .before .before .before .before .before .before .before .before .before .before .before .node-at .ensures) (c .before .before .before .before .before .before .before .before .before .before .before .before .before .column-at .ensures .0) (c .before .before .before .before .before .before .before .before .before .before .second-left .ensures) (c .before .before .before .before .before .before .before .column-at3 .ensures .0) _ (c .before .before .before .join-columns2 .ensures .0), value-two _ _ _ _ _ _ _ _ (c .before .before .before .before .before .before .before .before .before .before .before .before .before .before .before .before .before .before .before .leaf-column .ensures .0) (c .before .before .before .before .before .before .before .before .before .before .before .before .before .before .before .before .if1 .left) _ _ _ _ (c .before .before .before .before .before .before .before .before .before .before .before .before .before .before .before .node-at .ensures) (c .before .before .before .before .before .before .before .before .before .before .before .before .before .column-at .ensures .0) (c .before .before .before .before .before .before .before .before .before .before .second-left .ensures) (c .before .before .before .before .before .before .before .column-at3 .ensures .0) _ _ _ (c .before .before .before .before .before .before .before .before .before .before .before .before .before .column-at .ensures .1) (c .before .before .before .before .before .before .before .column-at3 .ensures .1) (c .before .before .before .join-columns2 .ensures .1))
+column-at-returns-3 t c = (
+  reached-two _ _ _ [] 0 _ _ _
+      (c .before .before .before .before .before .before .before .before .before .before .before .before .before .before .before .before
+      .before .before .before .leaf-column .ensures .0)
+      (c .before .before .before .before .before .before .before .before .before .before .before .before .before .before .before .before
+      .if1 .left) _ _ _ _ (c .before .before .before .before .before .before .before .before .before .before .before .before .before .before
+      .before .node-at .ensures) (c .before .before .before .before .before .before .before .before .before .before .before .before .before
+      .column-at .ensures .0) (c .before .before .before .before .before .before .before .before .before .before .second-left .ensures)
+      (c .before .before .before .before .before .before .before .column-at3 .ensures .0) _
+      (c .before .before .before .join-columns2 .ensures .0),
+  value-two _ _ _ _ _ _ _ _ (c .before .before .before .before .before .before .before .before .before .before .before .before .before
+      .before .before .before .before .before .before .leaf-column .ensures .0)
+      (c .before .before .before .before .before .before .before .before .before .before .before .before .before .before .before .before
+      .if1 .left) _ _ _ _ (c .before .before .before .before .before .before .before .before .before .before .before .before .before .before
+      .before .node-at .ensures) (c .before .before .before .before .before .before .before .before .before .before .before .before .before
+      .column-at .ensures .0) (c .before .before .before .before .before .before .before .before .before .before .second-left .ensures)
+      (c .before .before .before .before .before .before .before .column-at3 .ensures .0) _ _ _
+      (c .before .before .before .before .before .before .before .before .before .before .before .before .before .column-at .ensures .1)
+      (c .before .before .before .before .before .before .before .column-at3 .ensures .1)
+      (c .before .before .before .join-columns2 .ensures .1),
+)
 
 pub +column-at-spec : {M : Type 1} → statement M
 +column-at-spec = close μ-column-at λ t. column-at-lts.spec (column-at-calls t)

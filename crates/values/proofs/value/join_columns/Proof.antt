@@ -13,7 +13,18 @@ join-columns-spec =
     (λ c κs. search needs)
     (λ c κs. search needs)
     (λ c κs. search needs)
-    (λ c κs. (omega (arith, span-low _ _ _ _ (c .before .before .span-of .ensures), c .before .before .before .before .before .before .before .before .before .widen-level .kept .1 .1 .1 .1 .0), omega (arith, span-low _ _ _ _ (c .before .before .span-of .ensures), c .before .before .before .before .before .widen-level2 .kept .1 .1 .1 .1 .0)))
+    (λ c κs. (
+      omega (
+        arith,
+        span-low _ _ _ _ (c .before .before .span-of .ensures),
+        c .before .before .before .before .before .before .before .before .before .widen-level .kept .1 .1 .1 .1 .0,
+      ),
+      omega (
+        arith,
+        span-low _ _ _ _ (c .before .before .span-of .ensures),
+        c .before .before .before .before .before .widen-level2 .kept .1 .1 .1 .1 .0,
+      ),
+    ))
     (λ c. search needs)
     (λ c. search needs)
     (λ c. (search tests, search (join-columns, tests))))

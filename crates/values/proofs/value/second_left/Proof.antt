@@ -5,4 +5,5 @@ use Rattle.values.proofs.value.second_left.Statement.{statement}
 use Rattle.values.proofs.value.second_left.Tie as tie
 
 pub second-left-spec : {M : Type 1} → statement M
-second-left-spec = tie.close (tie.spec (λ c. search (seconds, tests)) (λ c. search (seconds, tests)) (λ c. search needs) (λ c. search (seconds, tests)))
+second-left-spec = tie.close (tie.spec (λ c. search (seconds, tests)) (λ c. search (seconds, tests)) (λ c. search needs)
+    (λ c. search (seconds, tests)))

@@ -7,4 +7,6 @@ use Rattle.values.proofs.value.widen_level.Tie as tie
 pub widen-level-spec : {M : Type 1} → statement M
 widen-level-spec =
     tie.close
-    (tie.spec (λ c. search (widens, tests)) (λ c κs. search needs) (λ c κs. search needs) (λ c κs. (search (widens-asks, tests), (search (widens-asks, tests), search (widens-asks, tests)))) (λ c. search needs) (λ c. search (widens, tests)))
+    (tie.spec (λ c. search (widens, tests)) (λ c κs. search needs) (λ c κs. search needs)
+    (λ c κs. (search (widens-asks, tests), (search (widens-asks, tests), search (widens-asks, tests)))) (λ c. search needs)
+    (λ c. search (widens, tests)))

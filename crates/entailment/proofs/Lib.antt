@@ -1,0 +1,4 @@
+pub mod Entailing
+pub mod Distinct
+pub mod Choices
+pub mod RowsTried

@@ -1,0 +1,2 @@
+pub mod Entailment
+pub mod Every

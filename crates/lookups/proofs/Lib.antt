@@ -1,0 +1,4 @@
+pub mod Laws
+pub mod Positions
+pub mod Rule
+pub mod Trees

@@ -1,9 +1,0 @@
-use Rattle.limits.proofs.Auto.{tests}
-use Rattle.program.proofs.Laws.Program.{threading}
-use borrow.Author.Needs.{needs}
-use Rattle.program.proofs.thread.thread_size.Statement.{statement}
-use Rattle.program.proofs.thread.thread_size.Tie as tie
-
-pub thread-size-spec : {M : Type 1} → statement M
-thread-size-spec =
-    tie.close (tie.spec (λ c κs. search needs) (λ c κs. search needs) (λ c κs. search needs) (λ c. search needs) (λ c. search (threading, tests)))

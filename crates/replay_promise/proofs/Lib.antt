@@ -1,0 +1,4 @@
+pub mod Absent
+pub mod Plain
+pub mod Room
+pub mod Promised

@@ -1,0 +1,1 @@
+// What a replay promises to its callers. No code.

@@ -1,5 +1,0 @@
-pub mod Answer
-pub mod Table
-pub mod Plain
-pub mod Stands
-pub mod Promise

@@ -1,0 +1,4 @@
+pub mod Running
+pub mod Starting
+pub mod Tables
+pub mod Replaying
