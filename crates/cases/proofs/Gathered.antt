@@ -6,7 +6,7 @@ use native.Mathlib.Omega.{arith}
 use lib.ListN.{length, take, drop, length-append, length-drop}
 use lib.Seq.{length-take-le}
 use Rattle.report.specs.Fields.{fieldsOf}
-use Rattle.checker.specs.Answer.{verdict}
+use Rattle.promise.specs.Answer.{verdict}
 use Rattle.stored.specs.declared.tally.Tally.{Tally}
 use Rattle.stored.proofs.Tallies.{Running, running-none, running-more, running-over}
 use Rattle.stored_answers.specs.Answer.{blankTable, blankNumbers, sameAnswer}

@@ -8,7 +8,7 @@ use Rattle.limits.specs.Numbers.{word}
 use Rattle.report.specs.Fields.{fieldsOf}
 use Rattle.report.specs.declared.verdict.Fields.{Fields}
 use Rattle.report.specs.declared.verdict.Verdict.{Verdict}
-use Rattle.checker.specs.Answer.{verdict}
+use Rattle.promise.specs.Answer.{verdict}
 use Rattle.stored.specs.Tally.{withCase}
 use Rattle.stored.specs.declared.tally.Tally.{Tally}
 use Rattle.cases.specs.Fields.{fieldsAt, sameFields}

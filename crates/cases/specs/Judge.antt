@@ -7,7 +7,7 @@ use lib.Dec.{eqb}
 use lib.ListN.{take, drop}
 use Rattle.limits.specs.Numbers.{word}
 use Rattle.report.specs.Fields.{fieldsOf}
-use Rattle.checker.specs.Answer.{verdict}
+use Rattle.promise.specs.Answer.{verdict}
 use Rattle.trimming.specs.Promise as Trimming
 use Rattle.pricing.specs.Promise as Billing
 use Rattle.replay_promise.specs.Promise as Replay

@@ -26,11 +26,11 @@ use Rattle.content.specs.Image.{read, decode, imageOf, resultOf}
 use Rattle.content.proofs.Checked.{sound-checks}
 use Rattle.content.proofs.Admitted.{sound-admitted}
 use Rattle.report.specs.declared.verdict.Verdict.the-variants.{Accepted}
-use Rattle.checker.specs.Answer.{judged, answered, verdict}
-use Rattle.checker.specs.Acceptance.{acceptedAs, acceptance}
-use Rattle.checker.specs.declared.acceptance.Acceptance.{Acceptance}
-use Rattle.checker.specs.declared.acceptance.Acceptance.the-variants.{Granted, Declined}
-use Rattle.checker.proofs.Granted.{granted-holds}
+use Rattle.promise.specs.Answer.{judged, answered, verdict}
+use Rattle.promise.specs.Acceptance.{acceptedAs, acceptance}
+use Rattle.promise.specs.declared.acceptance.Acceptance.{Acceptance}
+use Rattle.promise.specs.declared.acceptance.Acceptance.the-variants.{Granted, Declined}
+use Rattle.promise.proofs.Holds.{granted-holds}
 use Rattle.handover_table.specs.Table.{newPoint}
 use Rattle.handover.specs.Code.{codeBetween, headerOf, codeOf, byAcceptance, handoverCode}
 use Rattle.handover.specs.Promise.{BothAccepted, Fits, Serve, Decided, permitted, out-of-range, unserved, TrueAcross, Promise}

@@ -7,7 +7,7 @@ use Rattle.logic.specs.Base.{Within}
 use Rattle.outline.specs.Verdict.{Image, Bears}
 use Rattle.content.specs.Image.{read, decode}
 use Rattle.across.specs.Handover.{EveryRunAcross}
-use Rattle.checker.specs.Answer.{verdict}
+use Rattle.promise.specs.Answer.{verdict}
 use Rattle.report.specs.declared.verdict.Verdict.the-variants.{Accepted}
 use Rattle.handover_table.specs.Table.{entrySize, pointsTo, newPoint, newLine}
 use Rattle.handover.specs.Code.{asked, headerOf, handoverCode}

@@ -25,10 +25,10 @@ use Rattle.content.specs.Program.{programOf, outlineOf}
 use Rattle.content.specs.Image.{imageOf}
 use Rattle.content.proofs.Checked.{Checks, sound-checks}
 use Rattle.content.proofs.Program.{range-two, well-formed}
-use Rattle.checker.specs.Acceptance.{acceptance}
-use Rattle.checker.specs.declared.acceptance.Acceptance.{Acceptance}
-use Rattle.checker.specs.declared.acceptance.Acceptance.the-variants.{Granted, Declined}
-use Rattle.checker.proofs.Granted.{granted-holds}
+use Rattle.promise.specs.Acceptance.{acceptance}
+use Rattle.promise.specs.declared.acceptance.Acceptance.{Acceptance}
+use Rattle.promise.specs.declared.acceptance.Acceptance.the-variants.{Granted, Declined}
+use Rattle.promise.proofs.Holds.{granted-holds}
 use Rattle.columns.specs.Column.{column}
 use Rattle.writes.specs.declared.write.Write.{Write}
 use Rattle.machine.proofs.Worked.{sizes-few}

@@ -12,9 +12,9 @@ use Rattle.frames.specs.Records.{bodies}
 use Rattle.program.specs.declared.sizes.Sizes.{Sizes}
 use Rattle.records.specs.Tally.{tallyTo}
 use Rattle.content.specs.Program.{programOf}
-use Rattle.checker.specs.Acceptance.{acceptance}
-use Rattle.checker.specs.declared.acceptance.Acceptance.{Acceptance}
-use Rattle.checker.specs.declared.acceptance.Acceptance.the-variants.{Granted, Declined}
+use Rattle.promise.specs.Acceptance.{acceptance}
+use Rattle.promise.specs.declared.acceptance.Acceptance.{Acceptance}
+use Rattle.promise.specs.declared.acceptance.Acceptance.the-variants.{Granted, Declined}
 use Rattle.handover_table.specs.Table.{pointNamed, pointsTo, newPoint}
 use Rattle.handover.specs.Code.{headerOf, codeOf}
 use Rattle.handover_table.proofs.Few.{points-are}

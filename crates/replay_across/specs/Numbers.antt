@@ -5,9 +5,9 @@ use mathlib.Core.Bool.{true, false, cond}
 use mathlib.Core.List.{List}
 use lib.Dec.{eqb, ltb}
 use Rattle.program.specs.declared.sizes.Sizes.{Sizes}
-use Rattle.checker.specs.Acceptance.{acceptance}
-use Rattle.checker.specs.declared.acceptance.Acceptance.{Acceptance}
-use Rattle.checker.specs.declared.acceptance.Acceptance.the-variants.{Granted, Declined}
+use Rattle.promise.specs.Acceptance.{acceptance}
+use Rattle.promise.specs.declared.acceptance.Acceptance.{Acceptance}
+use Rattle.promise.specs.declared.acceptance.Acceptance.the-variants.{Granted, Declined}
 use Rattle.handover.specs.Code.{headerOf, codeOf}
 use Rattle.traces.specs.Start.{started}
 use Rattle.traces.specs.Run.{ran}

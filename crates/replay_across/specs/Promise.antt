@@ -12,8 +12,8 @@ use Rattle.limits.specs.Numbers.{nth}
 use Rattle.frames.specs.Records.{bodies}
 use Rattle.program.specs.declared.sizes.Sizes.{Sizes}
 use Rattle.content.specs.Program.{programOf, outlineOf}
-use Rattle.checker.specs.Acceptance.{acceptance}
-use Rattle.checker.specs.declared.acceptance.Acceptance.the-variants.{Granted}
+use Rattle.promise.specs.Acceptance.{acceptance}
+use Rattle.promise.specs.declared.acceptance.Acceptance.the-variants.{Granted}
 use Rattle.writes.specs.declared.write.Write.{Write}
 use Rattle.handover_table.specs.Table.{newPoint}
 use Rattle.handover.specs.Code.{handoverCode}

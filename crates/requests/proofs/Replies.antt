@@ -8,8 +8,8 @@ use native.Mathlib.Omega.{arith}
 use lib.Dec.{eqb, ltb}
 use lib.ListN.{length, getD, getElem?, set, drop, replicate}
 use borrow.Author.Tests.{eq-eqb, ne-eqb, lt-ltb, le-ltb, eqb-false}
-use Rattle.checker.specs.Answer.{verdict}
-use Rattle.checker.specs.Promise as Checked
+use Rattle.promise.specs.Answer.{verdict}
+use Rattle.promise.specs.Promise as Checked
 use Rattle.trimming.specs.Promise as Trimmed
 use Rattle.pricing.specs.Promise as Billed
 use Rattle.columns.specs.Column.{column}

@@ -4,7 +4,7 @@ use mathlib.Core.List.{List, [], _∷_}
 use mathlib.Core.Option.{some}
 use Prim.Native.Nat.{ℕ}
 use lib.ListN.{getElem?}
-use Rattle.checker.specs.Promise as Checked
+use Rattle.promise.specs.Promise as Checked
 use Rattle.trimming.specs.Promise as Trimmed
 use Rattle.pricing.specs.Promise as Billed
 use Rattle.handover.specs.Promise as HandedOver

@@ -6,7 +6,7 @@ use Prim.Native.Nat.{ℕ}
 use lib.Dec.{eqb, ltb}
 use lib.ListN.{length, drop, replicate}
 use Rattle.report.specs.Output as Verdict
-use Rattle.checker.specs.Answer.{verdict}
+use Rattle.promise.specs.Answer.{verdict}
 use Rattle.archived.specs.Answer.{answerFor, bufferFor}
 use Rattle.charges.specs.declared.tariff.Tariff.{Tariff}
 use Rattle.pricing.specs.Bill.{billOf}

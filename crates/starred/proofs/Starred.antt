@@ -43,7 +43,7 @@ use Rattle.report.specs.Place as Place
 use Rattle.report.specs.Fields.{gathered, fieldsOf}
 use Rattle.report.specs.Record.{recordBytes}
 use Rattle.report.specs.Output.{codeFor, bytesFor}
-use Rattle.checker.specs.Answer.{verdict}
+use Rattle.promise.specs.Answer.{verdict}
 use Rattle.starred.specs.Table.{holds, table}
 
 pub starred : T (all holds table)

@@ -19,10 +19,10 @@ use Rattle.content.proofs.Admitted.{checks-admitted}
 use Rattle.content.proofs.Checked.{Checks}
 use Rattle.report.specs.declared.verdict.Verdict.{Verdict}
 use Rattle.report.specs.declared.verdict.Verdict.the-variants.{Accepted}
-use Rattle.checker.specs.Answer.{judged, answered, verdict}
-use Rattle.checker.specs.Acceptance.{acceptedAs, acceptance}
-use Rattle.checker.specs.declared.acceptance.Acceptance.the-variants.{Granted}
-use Rattle.checker.proofs.Granted.{Holds}
+use Rattle.promise.specs.Answer.{judged, answered, verdict}
+use Rattle.promise.specs.Acceptance.{acceptedAs, acceptance}
+use Rattle.promise.specs.declared.acceptance.Acceptance.the-variants.{Granted}
+use Rattle.promise.proofs.Holds.{Holds}
 use Rattle.document.specs.Document.{Document}
 use Rattle.document.specs.Canonical.{Bytes, Each}
 use Rattle.document.specs.Encode.{bodiesOf, encode}

@@ -7,10 +7,10 @@ use native.Mathlib.Omega.{arith}
 use lib.Dec.{ltb}
 use lib.ListN.{length, take, drop}
 use Rattle.program.specs.declared.sizes.Sizes.{Sizes}
-use Rattle.checker.specs.Acceptance.{acceptance}
-use Rattle.checker.specs.declared.acceptance.Acceptance.{Acceptance}
-use Rattle.checker.specs.declared.acceptance.Acceptance.the-variants.{Granted, Declined}
-use Rattle.checker.proofs.Granted.{granted-holds}
+use Rattle.promise.specs.Acceptance.{acceptance}
+use Rattle.promise.specs.declared.acceptance.Acceptance.{Acceptance}
+use Rattle.promise.specs.declared.acceptance.Acceptance.the-variants.{Granted, Declined}
+use Rattle.promise.proofs.Holds.{granted-holds}
 use Rattle.document.specs.Canonical.{Bytes}
 use Rattle.archived.specs.Trimmed.{trimmedBytes, Trimmed}
 use Rattle.archived.specs.Answer.{answer, answeredBy, bufferBy, answerWith, bufferWith, answerFor, bufferFor}

@@ -33,6 +33,7 @@ use Rattle.trees.specs.ToTree.{toTree}
 use Rattle.trees.proofs.ToTree.{toTree-same}
 use Rattle.certificate.specs.FitT.{concluded, implication, hoare, paired}
 use Rattle.outline.specs.Verdict.{asks, forbids}
+use Rattle.outline.proofs.Ranged.{InRange}
 use Rattle.content.specs.Formula.{formula}
 use Rattle.content.specs.Program.{pointCount, programOf, outlineOf}
 use Rattle.lookups.specs.Places.{formulaAt, claimedIn}
@@ -91,13 +92,6 @@ module _ (f g : Assertion) (u w : Tree) (p : toTree f ≡ u) (q : toTree g ≡ w
           (elim b [ true ↦ pair t k f g | false ↦ triple t k f g ]) x
       go true = pair-same t k x
       go false = kept-same t k x
-
--- an obligation is about threads and points that are there; one for a target is about a branch
-abbrev pub InRange : Program → Logic.Obligation → Type 0
-InRange P (Logic.start t) = Within (P .threads) t
-InRange P (Logic.step t k) = Within (P .threads) t × (suc k < P .points t)
-InRange P (Logic.taken t k) = Within (P .threads) t × ((suc k < P .points t) × (isBranch (P .code t k) ≡ true))
-InRange P (Logic.interference u j t k) = (Within (P .threads) u × (j < P .points u)) × (Within (P .threads) t × (suc k < P .points t))
 
 module _ (s : List ℕ) (z : Sizes) (c : Checks z (bodies s)) where
   abbrev l : List (List ℕ)

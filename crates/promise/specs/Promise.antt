@@ -13,8 +13,8 @@ use Rattle.report.specs.Fields.{fieldsOf}
 use Rattle.report.specs.Output.{codeFor, bytesFor}
 use Rattle.report.specs.Record.{size}
 use Rattle.report.specs.declared.verdict.Verdict.{Verdict}
-use Rattle.checker.specs.Answer.{judged, verdict}
-use Rattle.checker.specs.Uncut.{Uncut}
+use Rattle.promise.specs.Answer.{judged, verdict}
+use Rattle.promise.specs.Uncut.{Uncut}
 
 -- the image says what `content` has, and after every finite list of steps of that program, refused ones among them, each thread's
 -- assertion at its point is true

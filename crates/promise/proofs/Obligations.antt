@@ -12,7 +12,7 @@ use Rattle.logic.proofs.Reordered.{reordered-length}
 use Rattle.logic.proofs.Order.{actions, formerly, reordered}
 use Rattle.limits.specs.Limits as Limits
 use Rattle.content.proofs.Sums.{sum, sum-const, flat-below, flat-upTo, below-length}
-use Rattle.checker.proofs.Sums.{sum-le}
+use Rattle.promise.proofs.Sums.{sum-le}
 
 -- lists that have a part of at most m members for each number
 

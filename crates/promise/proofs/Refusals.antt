@@ -34,7 +34,7 @@ use Rattle.image.specs.Decode.{recordCount, sizesOf, firstFault, behindFrames, 
 use Rattle.image.specs.declared.decode.Decoded.{Decoded}
 use Rattle.image.specs.declared.decode.Decoded.the-variants.{Refused, Sound}
 use Rattle.content.proofs.Sums.{sum}
-use Rattle.checker.proofs.Sums.{sum-falls}
+use Rattle.promise.proofs.Sums.{sum-falls}
 use Rattle.limits.proofs.Inverse.{and-true, within-true}
 use Rattle.content.proofs.Inverse.{unless-passed}
 

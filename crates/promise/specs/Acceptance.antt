@@ -7,9 +7,9 @@ use Rattle.image.specs.declared.decode.Decoded.{Decoded}
 use Rattle.image.specs.declared.decode.Decoded.the-variants as Decoded
 use Rattle.report.specs.declared.verdict.Verdict.{Verdict}
 use Rattle.report.specs.declared.verdict.Verdict.the-variants.{Accepted, Refused, Failed, Denied}
-use Rattle.checker.specs.declared.acceptance.Acceptance.{Acceptance}
-use Rattle.checker.specs.declared.acceptance.Acceptance.the-variants.{Granted, Declined}
-use Rattle.checker.specs.Answer.{verdict}
+use Rattle.promise.specs.declared.acceptance.Acceptance.{Acceptance}
+use Rattle.promise.specs.declared.acceptance.Acceptance.the-variants.{Granted, Declined}
+use Rattle.promise.specs.Answer.{verdict}
 
 abbrev pub grantedBy : Sizes → Verdict → Acceptance
 grantedBy z (Accepted n) = Granted z

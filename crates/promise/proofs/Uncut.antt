@@ -36,15 +36,15 @@ use Rattle.content.proofs.Inverse.{unless-passed}
 use Rattle.content.proofs.Checked.{Checks, sound-checks, header-passed, obligations-passed}
 use Rattle.content.proofs.Lines.{claim-fine}
 use Rattle.content.proofs.Program.{points-few}
-use Rattle.wanted.proofs.Asked.{InRange}
-use Rattle.judging.proofs.Ranged.{obligations-ranged}
+use Rattle.outline.proofs.Ranged.{InRange}
+use Rattle.outline.proofs.Ranged.{obligations-ranged}
 use Rattle.report.specs.Place.{placeOf, obligation}
 use Rattle.report.specs.Fields.{gathered, fieldsOf}
 use Rattle.report.specs.declared.verdict.Verdict.the-variants.{Accepted, Refused, Failed}
-use Rattle.checker.specs.Answer.{judged, answered, verdict}
-use Rattle.checker.specs.Uncut.{beyond, Uncut}
-use Rattle.checker.proofs.Refusals.{header-threads, lastNamed, refused-within}
-use Rattle.checker.proofs.Obligations.{mostObligations, obligations-few}
+use Rattle.promise.specs.Answer.{judged, answered, verdict}
+use Rattle.promise.specs.Uncut.{beyond, Uncut}
+use Rattle.promise.proofs.Refusals.{header-threads, lastNamed, refused-within}
+use Rattle.promise.proofs.Obligations.{mostObligations, obligations-few}
 
 -- codes
 

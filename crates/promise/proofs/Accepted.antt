@@ -22,9 +22,9 @@ use Rattle.report.specs.Output.{codeFor, bytesFor}
 use Rattle.report.specs.Record.{size}
 use Rattle.report.specs.declared.verdict.Verdict.{Verdict}
 use Rattle.report.proofs.Ways.{short-code, short-bytes}
-use Rattle.checker.specs.Answer.{judged, answered, verdict}
-use Rattle.checker.specs.Promise.{TrueInEveryRun, Judged, Promise}
-use Rattle.checker.proofs.Uncut.{verdict-uncut}
+use Rattle.promise.specs.Answer.{judged, answered, verdict}
+use Rattle.promise.specs.Promise.{TrueInEveryRun, Judged, Promise}
+use Rattle.promise.proofs.Uncut.{verdict-uncut}
 
 fault-code : (f : Fault) → codeOf f ≢ 0
 unfolding codeOf

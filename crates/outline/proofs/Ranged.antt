@@ -8,9 +8,15 @@ use lib.Dec.{eqb}
 use Rattle.logic.specs.Base.{All, Within}
 use Rattle.logic.specs.Machine.{Program, Instr, Instr.act, Instr.branch}
 use Rattle.logic.specs.Statement.{isBranch}
-use Rattle.logic.specs.Obligations.{Obligation, Obligation.start, below, upTo, flat, own, acting, instructed, asserted, assertions, starts, steps, interferences, obligations}
+use Rattle.logic.specs.Obligations.{Obligation, Obligation.start, Obligation.step, Obligation.taken, Obligation.interference, below, upTo, flat, own, acting, instructed, asserted, assertions, starts, steps, interferences, obligations}
 use Rattle.logic.proofs.Reordered.{All-join}
-use Rattle.wanted.proofs.Asked.{InRange}
+
+-- an obligation is about threads and points that are there; one for a target is about a branch
+abbrev pub InRange : Program → Obligation → Type 0
+InRange P (start t) = Within (P .threads) t
+InRange P (step t k) = Within (P .threads) t × (suc k < P .points t)
+InRange P (taken t k) = Within (P .threads) t × ((suc k < P .points t) × (isBranch (P .code t k) ≡ true))
+InRange P (interference u j t k) = (Within (P .threads) u × (j < P .points u)) × (Within (P .threads) t × (suc k < P .points t))
 
 all-map : {A B : Type 0} (Q : B → Type 0) (f : A → B) (l : List A) → All (λ a. Q (f a)) l → All Q (map f l)
 all-map Q f [] h = tt

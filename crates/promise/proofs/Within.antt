@@ -7,7 +7,7 @@ use borrow.Author.Tests.{lt-ltb, le-ltb}
 use Rattle.frames.specs.declared.fault.Fault.the-variants.{Size}
 use Rattle.report.specs.declared.verdict.Verdict.{Verdict}
 use Rattle.report.specs.declared.verdict.Verdict.the-variants.{Refused}
-use Rattle.checker.specs.Answer.{verdict, verdictWithin}
+use Rattle.promise.specs.Answer.{verdict, verdictWithin}
 
 module _ (most : ℕ) (s : List ℕ) where
   pub within-long : most < length s → Refused Size 0 ≡ verdictWithin most s
