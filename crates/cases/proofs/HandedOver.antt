@@ -6,7 +6,7 @@ use Prim.Native.Nat.{ℕ}
 use lib.Dec.{eqb}
 use lib.ListN.{drop}
 use Rattle.limits.specs.Numbers.{word}
-use Rattle.handover.specs.Promise.{Promise}
+use Rattle.handover_promise.specs.Promise.{Promise}
 use Rattle.stored.specs.Tally.{withCase}
 use Rattle.stored.specs.declared.tally.Tally.{Tally}
 use Rattle.stored_answers.specs.Parts.{firstIn, secondIn, thirdOn}

@@ -8,11 +8,11 @@ use lib.ListN.{take, drop}
 use Rattle.limits.specs.Numbers.{word}
 use Rattle.report.specs.Fields.{fieldsOf}
 use Rattle.promise.specs.Answer.{verdict}
-use Rattle.trimming.specs.Promise as Trimming
+use Rattle.trim_promise.specs.Promise as Trimming
 use Rattle.pricing.specs.Promise as Billing
 use Rattle.replay_promise.specs.Promise as Replay
-use Rattle.handover.specs.Promise as Handover
-use Rattle.replay_across.specs.Promise as Across
+use Rattle.handover_promise.specs.Promise as Handover
+use Rattle.across_promise.specs.Promise as Across
 use Rattle.stored.specs.Tally.{withCase}
 use Rattle.stored.specs.declared.tally.Tally.{Tally}
 use Rattle.stored_answers.specs.Answer.{mostBytes, mostNumbers, blankTable, blankNumbers, lentAt, sameAnswer}

@@ -16,7 +16,7 @@ use stored_answers::parts::second_in;
 use stored_answers::parts::seventh_on;
 use stored_answers::parts::sixth_in;
 use stored_answers::parts::third_in;
-ghost use Rattle.replay_across.specs.Promise.{Written};
+ghost use Rattle.across_promise.specs.Promise.{Written};
 ghost use Rattle.stored_answers.specs.Parts.{firstIn, secondIn, thirdIn, fourthIn, fifthIn, sixthIn};
 ghost use Rattle.cases.specs.Judge.{ReplayedAcross};
 

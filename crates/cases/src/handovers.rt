@@ -7,7 +7,7 @@ use stored_answers::parts::first_in;
 use stored_answers::parts::second_in;
 use stored_answers::parts::third_on;
 ghost use mathlib.Core.Path.{_≡_};
-ghost use Rattle.handover.specs.Promise.{Promise};
+ghost use Rattle.handover_promise.specs.Promise.{Promise};
 ghost use Rattle.stored_answers.specs.Parts.{firstIn, secondIn, thirdOn};
 ghost use Rattle.cases.specs.Judge.{sameCode, HandedOver};
 

@@ -12,8 +12,8 @@ ghost use Rattle.image.specs.Decode.{decoded};
 ghost use Rattle.image.specs.declared.decode.Decoded.the-variants.{Sound};
 ghost use Rattle.promise.specs.Acceptance.{acceptance};
 ghost use Rattle.promise.specs.declared.acceptance.Acceptance.the-variants.{Granted};
-ghost use Rattle.handover.specs.Code.{byAcceptance};
-ghost use Rattle.handover.specs.Promise.{Promise};
+ghost use Rattle.handover_promise.specs.Code.{byAcceptance};
+ghost use Rattle.handover_promise.specs.Promise.{Promise};
 
 // The old image is accepted. With a table of zeros, as long as the new image asks for.
 fn code_by<'a, 'b, 'c, 'd, 'e>(

@@ -23,7 +23,7 @@ ghost use Rattle.image.specs.declared.decode.Decoded.the-variants.{Sound};
 ghost use Rattle.promise.specs.Acceptance.{acceptance};
 ghost use Rattle.promise.specs.declared.acceptance.Acceptance.the-variants.{Granted};
 ghost use Rattle.shown.specs.Table.{shownBy};
-ghost use Rattle.replay_across.specs.Numbers.{refusedBy, acrossOn, acrossBy, byAcceptance, acrossOf};
+ghost use Rattle.across_promise.specs.Numbers.{refusedBy, acrossOn, acrossBy, byAcceptance, acrossOf};
 
 // Points and registers of 0, and the table stays.
 fn refuse(s: &[u8], code: u8) -> Replayed

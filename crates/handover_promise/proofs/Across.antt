@@ -32,10 +32,10 @@ use Rattle.promise.specs.declared.acceptance.Acceptance.{Acceptance}
 use Rattle.promise.specs.declared.acceptance.Acceptance.the-variants.{Granted, Declined}
 use Rattle.promise.proofs.Holds.{granted-holds}
 use Rattle.handover_table.specs.Table.{newPoint}
-use Rattle.handover.specs.Code.{codeBetween, headerOf, codeOf, byAcceptance, handoverCode}
-use Rattle.handover.specs.Promise.{BothAccepted, Fits, Serve, Decided, permitted, out-of-range, unserved, TrueAcross, Promise}
+use Rattle.handover_promise.specs.Code.{codeBetween, headerOf, codeOf, byAcceptance, handoverCode}
+use Rattle.handover_promise.specs.Promise.{BothAccepted, Fits, Serve, Decided, permitted, out-of-range, unserved, TrueAcross, Promise}
 use Rattle.handover_table.proofs.Agreeing.{bytes-equal, equal-bytes}
-use Rattle.handover.proofs.Decided.{code-decided, same-threads}
+use Rattle.handover_promise.proofs.Decided.{code-decided, same-threads}
 
 -- an accepted image: each obligation is derived
 

@@ -33,10 +33,10 @@ use Rattle.columns.specs.Column.{column}
 use Rattle.writes.specs.declared.write.Write.{Write}
 use Rattle.machine.proofs.Worked.{sizes-few}
 use Rattle.handover_table.specs.Table.{entrySize, pointNamed, pointsTo, newPoint}
-use Rattle.handover.specs.Code as Code
-use Rattle.handover.specs.Code.{headerOf, codeOf, handoverCode}
-use Rattle.handover.specs.Promise.{Fits}
-use Rattle.handover.proofs.Across.{accepted-proved, permitted-so, zero-so, across-holds}
+use Rattle.handover_promise.specs.Code as Code
+use Rattle.handover_promise.specs.Code.{headerOf, codeOf, handoverCode}
+use Rattle.handover_promise.specs.Promise.{Fits}
+use Rattle.handover_promise.proofs.Across.{accepted-proved, permitted-so, zero-so, across-holds}
 use Rattle.traces.specs.Start.{startRegister, startValuesTo, startRegisters, started}
 use Rattle.traces.specs.Run.{ran}
 use Rattle.replay.specs.Outcome.{Outcome, used, replayed, stepsIn}
@@ -64,8 +64,8 @@ use Rattle.shown.proofs.Ways.{room-least, shown-are}
 use Rattle.replay_promise.proofs.Promised as Replay
 use Rattle.replay_promise.proofs.Promised.{table-is}
 use Rattle.joined.specs.Joined.{mappedPoint, handedOver, behind, wentOn}
-use Rattle.replay_across.specs.Numbers.{acrossOn, refusedBy, acrossBy, byAcceptance, acrossOf}
-use Rattle.replay_across.specs.Promise.{unpermitted, Across, Promise, Written}
+use Rattle.across_promise.specs.Numbers.{acrossOn, refusedBy, acrossBy, byAcceptance, acrossOf}
+use Rattle.across_promise.specs.Promise.{unpermitted, Across, Promise, Written}
 use Rattle.joined.proofs.Joining.{on-refused}
 
 -- more threads have more points

@@ -16,7 +16,7 @@ use Rattle.promise.specs.Acceptance.{acceptance}
 use Rattle.promise.specs.declared.acceptance.Acceptance.{Acceptance}
 use Rattle.promise.specs.declared.acceptance.Acceptance.the-variants.{Granted, Declined}
 use Rattle.handover_table.specs.Table.{pointNamed, pointsTo, newPoint}
-use Rattle.handover.specs.Code.{headerOf, codeOf}
+use Rattle.handover_promise.specs.Code.{headerOf, codeOf}
 use Rattle.handover_table.proofs.Few.{points-are}
 use Rattle.steps.specs.Step.{stepped}
 use Rattle.traces.specs.Start.{started}
@@ -26,7 +26,7 @@ use Rattle.steps.specs.declared.states.Machine.{Machine}
 use Rattle.traces.specs.declared.run.Run.{Run}
 use Rattle.traces.specs.declared.replayed.Replayed.{Replayed}
 use Rattle.joined.specs.Joined.{wentOn}
-use Rattle.replay_across.specs.Numbers.{acrossOn, refusedBy, acrossBy, byAcceptance, acrossOf}
+use Rattle.across_promise.specs.Numbers.{acrossOn, refusedBy, acrossBy, byAcceptance, acrossOf}
 
 pub refused-so : (n : Machine) (code : ℕ) → n ≡ started [] 0 []
     → record { code = code; steps = 0; held = false; words = 0; machine = n } ≡ refusedBy code

@@ -26,12 +26,12 @@ use Rattle.marks.specs.declared.Marks.{Marks}
 use Rattle.justify.specs.Pass.{marksTo}
 use Rattle.handover_table.specs.Table.{entrySize, pointNamed, lineNamed, pointsTo, newPoint, newLine, each}
 use Rattle.handover_table.specs.Fits.{inRange, threadFits, threadsFit, tableFits}
-use Rattle.handover.specs.Code.{asked, serves, linesServe, codeBetween, headerOf, codeOf}
+use Rattle.handover_promise.specs.Code.{asked, serves, linesServe, codeBetween, headerOf, codeOf}
 use Rattle.handover_lines.specs.Found.{assertionOf, lineServes, entryServes, entriesServe, threadServes, threadsServe}
-use Rattle.handover.specs.Promise.{Fits, Serve, Decided, permitted, out-of-range, unserved}
+use Rattle.handover_promise.specs.Promise.{Fits, Serve, Decided, permitted, out-of-range, unserved}
 use Rattle.handover_table.proofs.Agreeing.{bytes-equal}
 use Rattle.handover_table.proofs.Each.{each-at, each-all, each-same}
-use Rattle.handover.proofs.Served.{found-served}
+use Rattle.handover_promise.proofs.Served.{found-served}
 
 -- a test of every point, by threads that count from 1
 module _ (n : ℕ) (points : ℕ → ℕ) (f : ℕ → ℕ → Bool) where

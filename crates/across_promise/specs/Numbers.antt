@@ -8,7 +8,7 @@ use Rattle.program.specs.declared.sizes.Sizes.{Sizes}
 use Rattle.promise.specs.Acceptance.{acceptance}
 use Rattle.promise.specs.declared.acceptance.Acceptance.{Acceptance}
 use Rattle.promise.specs.declared.acceptance.Acceptance.the-variants.{Granted, Declined}
-use Rattle.handover.specs.Code.{headerOf, codeOf}
+use Rattle.handover_promise.specs.Code.{headerOf, codeOf}
 use Rattle.traces.specs.Start.{started}
 use Rattle.traces.specs.Run.{ran}
 use Rattle.traces.specs.Replayed.{roomOf, ofRun, blank}

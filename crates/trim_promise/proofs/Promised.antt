@@ -14,9 +14,9 @@ use Rattle.promise.proofs.Holds.{granted-holds}
 use Rattle.document.specs.Canonical.{Bytes}
 use Rattle.archived.specs.Trimmed.{trimmedBytes, Trimmed}
 use Rattle.archived.specs.Answer.{answer, answeredBy, bufferBy, answerWith, bufferWith, answerFor, bufferFor}
-use Rattle.trimming.specs.Promise.{Promise}
+use Rattle.trim_promise.specs.Promise.{Promise}
 use Rattle.archived.specs.declared.answer.Answer.{Answer}
-use Rattle.trimming.proofs.Kept.{is-trimmed}
+use Rattle.trim_promise.proofs.Kept.{is-trimmed}
 
 take-front : (t r : List ℕ) → take (length t) (t ++ r) ≡ t
 take-front [] r = refl

@@ -10,7 +10,7 @@ use Rattle.across.specs.Handover.{EveryRunAcross}
 use Rattle.promise.specs.Answer.{verdict}
 use Rattle.report.specs.declared.verdict.Verdict.the-variants.{Accepted}
 use Rattle.handover_table.specs.Table.{entrySize, pointsTo, newPoint, newLine}
-use Rattle.handover.specs.Code.{asked, headerOf, handoverCode}
+use Rattle.handover_promise.specs.Code.{asked, headerOf, handoverCode}
 
 -- both images are accepted, say what D and E have, and have equal headers
 pub record BothAccepted (old new : List ℕ) (D E : Image) : Type 0 where

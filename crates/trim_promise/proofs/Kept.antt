@@ -43,7 +43,7 @@ use Rattle.trimmed.proofs.Moved.{claims-length}
 use Rattle.trimmed.proofs.Repointed.{withPoints}
 use Rattle.logic.specs.Machine.{Program}
 use Rattle.archived.specs.Trimmed.{trimmedBytes, SameProgram, SameContent, Trimmed}
-use Rattle.trimming.proofs.Whole.{Whole, named, written, trimming, encodable}
+use Rattle.trim_promise.proofs.Whole.{Whole, named, written, trimming, encodable}
 
 -- accepted: each obligation is met and each claim borne out
 accepted-met : (D : Image) (n : ℕ) → Admitted D → judged D (finding D) ≡ Accepted n → EachMet D × EachSustained D

@@ -16,7 +16,7 @@ use Rattle.promise.specs.Acceptance.{acceptance}
 use Rattle.promise.specs.declared.acceptance.Acceptance.the-variants.{Granted}
 use Rattle.writes.specs.declared.write.Write.{Write}
 use Rattle.handover_table.specs.Table.{newPoint}
-use Rattle.handover.specs.Code.{handoverCode}
+use Rattle.handover_promise.specs.Code.{handoverCode}
 use Rattle.replay.specs.Outcome.{Outcome, replayed, stepsIn}
 use Rattle.traces.specs.Replayed.{roomOf}
 use Rattle.shown.specs.declared.answer.Answer.{Answer}
@@ -25,7 +25,7 @@ use Rattle.shown.specs.Table.{shownOf, entriesIn, tableFor}
 use Rattle.replay_promise.specs.Plain.{ofRegs, plainTrue}
 use Rattle.replay_promise.specs.Stands.{AnswerStands, TableStands}
 use Rattle.replay_promise.specs.Promise.{Unfit, Replays}
-use Rattle.replay_across.specs.Numbers.{acrossOf}
+use Rattle.across_promise.specs.Numbers.{acrossOf}
 
 -- a handover that is not permitted
 abbrev pub unpermitted : ℕ → Answer
