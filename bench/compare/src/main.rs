@@ -2,6 +2,7 @@
 
 mod driver;
 mod proved;
+mod stack;
 mod startup;
 mod timing;
 
@@ -11,7 +12,8 @@ use std::process::ExitCode;
 
 const USAGE: &str = "\
 usage: compare compare|trim|bill|replay|handover|desks N [SEED] | files|trim-files|bill-files|replay-files PATH... |
-               bench|trim-bench [IMAGE...] | replay-bench | images FOLDER | startup PROGRAM IMAGE";
+               bench|trim-bench [IMAGE...] | replay-bench | images FOLDER | stack [PATH...] |
+               startup PROGRAM IMAGE";
 
 fn main() -> ExitCode {
     let arguments: Vec<String> = std::env::args().skip(1).collect();
@@ -35,6 +37,7 @@ fn main() -> ExitCode {
         ["bench", ref names @ ..] => Ok(timing::run(&timing::CHECK, names)),
         ["trim-bench", ref names @ ..] => trimming().map(|_| timing::run(&timing::TRIM, names)),
         ["replay-bench"] => replaying().map(timing::replay::run),
+        ["stack", ref paths @ ..] => Ok(stack::run(paths)),
         ["startup", program, image] => Ok(startup::run(program, image)),
         _ => Err(USAGE.into()),
     };

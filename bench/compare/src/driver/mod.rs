@@ -5,7 +5,7 @@ mod check;
 pub mod desks;
 pub mod handover;
 mod replay;
-mod sources;
+pub mod sources;
 mod tally;
 mod trim;
 

@@ -1,6 +1,6 @@
 //! How long both sides take, on images that ask much of one part each and on images that grow.
 
-mod images;
+pub mod images;
 mod measure;
 pub mod replay;
 

@@ -1,5 +1,6 @@
 //! The images that are timed.
 
+mod even;
 mod growing;
 mod matching;
 mod rows;
@@ -19,7 +20,7 @@ const MANY_LINES: usize = 1000;
 type Named = (&'static str, fn() -> Vec<u8>);
 
 /// All of them.
-pub fn all() -> [Named; 20] {
+pub fn all() -> [Named; 25] {
     [
         ("tiny", || SMALL.to_vec()),
         ("message passing", || message_passing().bytes()),
@@ -41,6 +42,11 @@ pub fn all() -> [Named; 20] {
         ("64 KB", || growing::image(64 << 10)),
         ("128 KB", || growing::image(128 << 10)),
         ("144 KB", || growing::image(145 << 10)),
+        ("even 1 KB", || even::image(1)),
+        ("even 4 KB", || even::image(4)),
+        ("even 16 KB", || even::image(16)),
+        ("even 64 KB", || even::image(64)),
+        ("even 214 KB", || even::image(even::LONGEST)),
     ]
 }
 
