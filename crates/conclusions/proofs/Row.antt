@@ -20,7 +20,8 @@ use Rattle.compare.specs.Same.{sameTree}
 use Rattle.trees.proofs.ToTree.{tree-eq}
 use Rattle.matcher.specs.Template.{shapes}
 use Rattle.matcher.specs.Places.{proper}
-use Rattle.certificate.specs.FitT.{formOf, leftOf, rightOf}
+use Rattle.trees.specs.Said.{formOf}
+use Rattle.tree_rules.specs.FitT.{leftOf, rightOf}
 use Rattle.rulebook.specs.Rulebook.{ruleRow, templates}
 use Rattle.rulebook.specs.Listed.{numberOf, trees, standAt, packed, premiseCount, premisesRight, allows, sameBit, operations, sideNumber}
 use Rattle.rulebook.proofs.Table.{listed-right}

@@ -34,7 +34,7 @@ use Rattle.records.specs.Tally.{obligationCount}
 use Rattle.bodies.specs.Lists.{outlinedAt, obligations}
 use Rattle.bodies.specs.Line.{sortAt, sortedBy, lineSorted, line}
 use Rattle.trees.specs.Place as Place
-use Rattle.certificate.proofs.FitT.{boundedSides}
+use Rattle.certificate.proofs.Bounded.{boundedSides}
 use Rattle.content.specs.Formula.{formula}
 use Rattle.content.specs.Program.{pointCount, programOf}
 use Rattle.content.specs.Certificate.{left, right, saying, lineBody}

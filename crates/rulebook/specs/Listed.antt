@@ -15,7 +15,8 @@ use Rattle.formula.specs.Tree.{Tree, parseTree}
 use Rattle.compare.specs.Same.{sameTree}
 use Rattle.matcher.specs.Template.{shapes}
 use Rattle.matcher.specs.Places.{proper}
-use Rattle.certificate.specs.FitT.{formOf, leftOf, rightOf}
+use Rattle.trees.specs.Said.{formOf}
+use Rattle.tree_rules.specs.FitT.{leftOf, rightOf}
 use Rattle.rulebook.specs.Rulebook.{nothing, isKept, assigned, loaded, wordAbsent, stored, byRows, byTable, startValue, startsAtZero, newValue, anyImplications, ruleRow, templates}
 
 abbrev pub numberOf : Rule → ℕ

@@ -33,8 +33,10 @@ use Rattle.header.specs.Header.{startValues, cleared, valueRange}
 use Rattle.program.specs.Instruction.{pairOperation, firstOperation}
 use Rattle.matcher.specs.Places.{takenOf}
 use Rattle.matcher.specs.declared.bind.Bind.{Bind}
-use Rattle.certificate.specs.FitT as FitT
-use Rattle.certificate.specs.FitT.{Setup, TreeConclusion, formOf, holesFrom, orElse, apartT, keepsT, freshT, sideT, operationT}
+use Rattle.trees.specs.Said as Said
+use Rattle.tree_rules.specs.FitT as FitT
+use Rattle.trees.specs.Said.{TreeConclusion, formOf}
+use Rattle.tree_rules.specs.FitT.{Setup, holesFrom, orElse, apartT, keepsT, freshT, sideT, operationT}
 use Rattle.lookups.specs.Trees.{treeAt, givesT, notesBy, actingAt}
 use Rattle.lookups.specs.declared.acting.Acting.{Acting}
 use Rattle.rulebook.specs.Listed.{sideNumber}
@@ -69,7 +71,7 @@ result : (o q : Bool) → not o && not q ≡ cond o false (not q)
 result true q = refl
 result false q = refl
 
-abbrev acts : ℕ → ℕ → ℕ → ℕ → Tree → List NoteT → FitT.Acting
+abbrev acts : ℕ → ℕ → ℕ → ℕ → Tree → List NoteT → Said.Acting
 acts op w x r v ns = record { operation = op; whole = w; word = x; register = r; formula = v; notes = ns }
 
 -- operations that are not there return nothing and are no writes

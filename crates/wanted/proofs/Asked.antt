@@ -31,7 +31,7 @@ use Rattle.records.specs.Places.{instructionOf}
 use Rattle.compare.specs.Same.{sameTree}
 use Rattle.trees.specs.ToTree.{toTree}
 use Rattle.trees.proofs.ToTree.{toTree-same}
-use Rattle.certificate.specs.FitT.{concluded, implication, hoare, paired}
+use Rattle.trees.specs.Said.{concluded, implication, hoare, paired}
 use Rattle.outline.specs.Verdict.{asks, forbids}
 use Rattle.outline.proofs.Ranged.{InRange}
 use Rattle.content.specs.Formula.{formula}

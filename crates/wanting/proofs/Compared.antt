@@ -10,7 +10,7 @@ use Rattle.formula.specs.Tree.{Tree, none, node, nodeAt, parseTree}
 use Rattle.compare.specs.Same.{sameTree}
 use Rattle.matcher.specs.Template.{hole}
 use Rattle.matcher.specs.Places.{proper}
-use Rattle.certificate.specs.FitT.{TreeConclusion, implication, placed}
+use Rattle.trees.specs.Said.{TreeConclusion, implication, placed}
 use Rattle.lookups.specs.Trees.{treeAt}
 use Rattle.conclusions.specs.Conclusion.{concludedAt, matchConclusion}
 use Rattle.conclusions.specs.declared.conclusion.Conclusion.{Conclusion}

@@ -17,8 +17,9 @@ use Rattle.matcher.specs.declared.bind.Bind.{Bind}
 use Rattle.matcher.specs.declared.whole.Whole.{Whole}
 use Rattle.matcher.proofs.Match.{Has}
 use Rattle.matcher.proofs.Follow.{Sized, given}
-use Rattle.certificate.specs.FitT.{TreeConclusion, placed, holesFrom}
-use Rattle.certificate.proofs.FitT.{FitSides, sides-sound, sides-goes, has-from}
+use Rattle.trees.specs.Said.{TreeConclusion, placed}
+use Rattle.tree_rules.specs.FitT.{holesFrom}
+use Rattle.tree_rules.proofs.FitT.{FitSides, sides-sound, sides-goes, has-from}
 use Rattle.conclusions.specs.Conclusion.{concludedAt, matchConclusion}
 use Rattle.conclusions.specs.declared.conclusion.Conclusion.{Conclusion}
 use Rattle.conclusions.proofs.Follow.{StandSides, sides-follow}

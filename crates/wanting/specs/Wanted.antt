@@ -14,7 +14,7 @@ use Rattle.program.specs.Instruction.{pairOperation}
 use Rattle.records.specs.Places.{instructionOf}
 use Rattle.matcher.specs.Template.{firstHole}
 use Rattle.matcher.specs.declared.bind.Bind.{Bind}
-use Rattle.certificate.specs.FitT.{implication, hoare, paired}
+use Rattle.trees.specs.Said.{implication, hoare, paired}
 use Rattle.content.specs.Program.{outlineNumber}
 use Rattle.lookups.specs.Places.{formulaAt}
 use Rattle.lookups.specs.declared.claim.Claimed.{Claimed}

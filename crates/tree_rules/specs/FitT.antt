@@ -10,80 +10,21 @@ use Rattle.logic.specs.Limits
 use Rattle.logic.specs.Code
 use Rattle.logic.specs.Code.{byte}
 use Rattle.logic.specs.Opcode
-use Rattle.logic.specs.Machine.{Program, Instr}
-use Rattle.logic.specs.Statement
-use Rattle.logic.specs.Statement.{Statement, first}
+use Rattle.logic.specs.Machine.{Program}
 use Rattle.patterns.specs.Pattern
 use Rattle.patterns.specs.Rules
 use Rattle.logic.specs.Rule.{Rule}
 use Rattle.patterns.specs.Rules.{Shape, Shape.inside, Shape.implies, Shape.triple, Shape.pair, Premises, these, implications, By, by-notes, r-by-x, x-by-f, Side, _is_with_, start-of, starts-at-0, is-new, kept, lacks-x, no-flag, by-rows, by-table, Row, row}
-use Rattle.patterns.specs.Fits.{isAmong, opcode, wordOf, regOf, formulaOf, notesOf, threadOf, pointOf}
+use Rattle.patterns.specs.Fits.{isAmong}
 use Rattle.formula.specs.Tree.{Tree, Tree.node}
 use Rattle.compare.specs.Same.{sameTree}
-use Rattle.compare.specs.Replace.{NoteT, replaceT, oneName, named}
+use Rattle.compare.specs.Replace.{replaceT, oneName, named}
 use Rattle.occurs.specs.Occurs.{occurs, register, wordAnyRole, flag}
-use Rattle.trees.specs.ToTree.{toTree, noteT}
+use Rattle.trees.specs.Said.{implication, hoare, paired, TreeConclusion, Acting, formOf, placed}
 use Rattle.entailment.specs.Entailment.{ImpT}
 use Rattle.rows.specs.Rows.{rowsT, tableT}
 use Rattle.matcher.specs.Template.{numHole, formulaHole, patternToTree, Holes, instT}
 use Rattle.matcher.specs.Match.{Taken, andThen, when, matchT}
-
--- the form of a line, by number
-abbrev pub inclusion : ℕ
-inclusion = 0
-
-abbrev pub implication : ℕ
-implication = 1
-
-abbrev pub hoare : ℕ
-hoare = 2
-
--- a Hoare triple of a whole pair
-abbrev pub paired : ℕ
-paired = 3
-
--- it is about an instruction
-abbrev pub acted : ℕ → Bool
-acted f = leb hoare f
-
--- what a line says
-pub record TreeConclusion : Type 0 where
-  pub form : ℕ
-  pub thread : ℕ
-  pub point : ℕ
-  pub left : Tree
-  pub right : Tree
-
-abbrev pub concluded : Statement → TreeConclusion
-concluded (Statement.inside i j) = record { form = inclusion; thread = 0; point = 0; left = toTree i; right = toTree j }
-concluded (Statement.implies a b) = record { form = implication; thread = 0; point = 0; left = toTree a; right = toTree b }
-concluded (Statement.triple t k a b) = record { form = hoare; thread = t; point = k; left = toTree a; right = toTree b }
-concluded (Statement.pair t k a b) = record { form = paired; thread = t; point = k; left = toTree a; right = toTree b }
-
--- the instruction of a line: its operation, of a pair the first half's, and that of the whole; notes: what rules 2 and 50 replace
-pub record Acting : Type 0 where
-  pub operation : ℕ
-  pub whole : ℕ
-  pub word : ℕ
-  pub register : ℕ
-  pub formula : Tree
-  pub notes : List NoteT
-
-abbrev pub acting : Instr → Acting
-acting c = record {
-  operation = opcode (first c);
-  whole = opcode c;
-  word = wordOf (first c);
-  register = regOf (first c);
-  formula = toTree (formulaOf (first c));
-  notes = map noteT (notesOf c);
-}
-
-abbrev pub formOf : Shape → ℕ
-formOf (inside p q) = inclusion
-formOf (implies p q) = implication
-formOf (triple p q) = hoare
-formOf (pair p q) = paired
 
 abbrev pub leftOf : Shape → Tree
 leftOf (inside p q) = patternToTree p
@@ -96,10 +37,6 @@ rightOf (inside p q) = patternToTree q
 rightOf (implies p q) = patternToTree q
 rightOf (triple p q) = patternToTree q
 rightOf (pair p q) = patternToTree q
-
--- a triple is for the same thread and point
-abbrev pub placed : ℕ → ℕ → ℕ → TreeConclusion → Bool
-placed f i k v = eqb (v .form) f && (not (acted f) || (eqb (v .thread) i && eqb (v .point) k))
 
 -- a form, and templates for the left side and the right side
 abbrev pub matchSides : ℕ → ℕ → ℕ → Tree → Tree → TreeConclusion → Taken → Option Taken

@@ -1,7 +1,7 @@
 use Rattle.frames.specs.Fault.{codeOf}
 use borrow.Author.Needs.{needs}
-use Rattle.image.proofs.code.code_of.Statement.{statement}
-use Rattle.image.proofs.code.code_of.Tie as tie
+use Rattle.report.proofs.code.code_of.Statement.{statement}
+use Rattle.report.proofs.code.code_of.Tie as tie
 
 pub code-of-spec : {M : Type 1} → statement M
 unfolding codeOf

@@ -45,8 +45,10 @@ use Rattle.trees.proofs.Occurs.{no-register, no-word}
 use Rattle.rows.proofs.Link.{impToTree, toTree-rows, toTree-table}
 use Rattle.matcher.specs.Template.{shapes, firstHole, firstNumber, formulaHole, numHole, patternToTree, Holes, instT, fillOf}
 use Rattle.matcher.specs.Match.{Taken, andThen, when, matchT}
-use Rattle.certificate.specs.FitT
-use Rattle.certificate.specs.FitT.{inclusion, implication, hoare, TreeConclusion, concluded, Acting, acting, formOf, leftOf, rightOf, placed, matchSides, matchLine, matchAll, isImplication, matchPremises, preset, orElse, holesFrom, replacing, apartT, keepsT, freshT, sideT, operationT, setup, restT, answer, fitsAt, fitsT}
+use Rattle.tree_rules.specs.FitT as FitT
+use Rattle.trees.specs.Said.{inclusion, implication, hoare, TreeConclusion, concluded, Acting, acting, placed, formOf}
+use Rattle.tree_rules.specs.FitT.{leftOf, rightOf, matchSides, matchLine, matchAll, isImplication, matchPremises, preset, orElse, holesFrom, replacing, apartT, keepsT, freshT, sideT, operationT, setup, restT, answer, fitsAt, fitsT}
+use Rattle.certificate.proofs.Bounded.{boundedSides}
 use Rattle.matcher.proofs.Match.{Has, match-sound, then-some, when-some, Goes, goes-then, goes-when, match-goes}
 use Rattle.matcher.proofs.Template.{Agrees, from-tree}
 
@@ -159,13 +161,6 @@ imps-concluded (Statement.inside a b ∷ ps) h = absurd h
 imps-concluded (Statement.implies a b ∷ ps) h = ap (λ (l : List ImpT). impToTree (record { left = a; right = b }) ∷ l) (imps-concluded ps h)
 imps-concluded (Statement.triple j m a b ∷ ps) h = absurd h
 imps-concluded (Statement.pair j m a b ∷ ps) h = absurd h
-
--- the constants of its formulas are values
-abbrev pub boundedSides : ℕ → Statement → Bool
-boundedSides R (Statement.inside a b) = bounded R a && bounded R b
-boundedSides R (Statement.implies a b) = bounded R a && bounded R b
-boundedSides R (Statement.triple j m a b) = bounded R a && bounded R b
-boundedSides R (Statement.pair j m a b) = bounded R a && bounded R b
 
 module _ (P : Program) (i k : ℕ) (c : Holes) (ag : Agrees (given P i k) c) where
   -- of an instruction: the same place and the same sides
