@@ -8,11 +8,11 @@ use native.Mathlib.Omega.{arith}
 use lib.Dec.{T, eqb, ltb}
 use lib.ListN.{length, getD, take, drop}
 use borrow.Author.Tests.{eqb-true, eqb-false, eq-eqb, ne-eqb, ltb-true, ltb-false, lt-ltb, le-ltb}
-use Rattle.logic.specs.Base.{Within}
-use Rattle.logic.specs.Machine.{State, Program, Step, Start, begin, run}
-use Rattle.logic.specs.EveryRun.{Outline, Holds}
+use Rattle.semantics.specs.Base.{Within}
+use Rattle.semantics.specs.Machine.{State, Program, Step, Start, begin, run}
+use Rattle.semantics.specs.EveryRun.{Outline, Holds}
 use Rattle.logic.proofs.Runs.{every-run}
-use Rattle.logic.proofs.Starts.{begins}
+use Rattle.semantics.proofs.Starts.{begins}
 use Rattle.across.specs.Handover.{NewPoint, Handover, handed, across}
 use Rattle.across.proofs.Handover.{wf-handed}
 use Rattle.limits.specs.Numbers.{nth}

@@ -3,8 +3,8 @@ use mathlib.Core.Path.{_≡_}
 use mathlib.Core.List.{List}
 use Prim.Native.Nat.{ℕ, _≤_, _<_}
 use lib.ListN.{length}
-use Rattle.logic.specs.Base.{Within}
-use Rattle.logic.specs.Machine.{Program}
+use Rattle.semantics.specs.Base.{Within}
+use Rattle.semantics.specs.Machine.{Program}
 use Rattle.frames.specs.Records.{bodies}
 use Rattle.program.specs.declared.sizes.Sizes.{Sizes}
 use Rattle.outline.specs.Verdict.{Image}

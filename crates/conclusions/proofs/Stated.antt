@@ -7,7 +7,7 @@ use native.Mathlib.Omega.{arith}
 use lib.Dec.{T, eqb, ltb, eqb→eq}
 use lib.ListN.{getD}
 use borrow.Author.Tests.{ltb-true, ltb-false, lt-leb, le-ltb, ne-eqb}
-use Rattle.logic.specs.Base.{Within}
+use Rattle.semantics.specs.Base.{Within}
 use Rattle.logic.specs.Rows.{allBelow}
 use Rattle.logic.proofs.Rows.{allBelow-at}
 use Rattle.frames.specs.Records.{bodies}

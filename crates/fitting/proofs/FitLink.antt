@@ -8,7 +8,7 @@ use native.Mathlib.Omega.{arith}
 use lib.Dec.{eqb, leb}
 use lib.ListN.{length}
 use borrow.Author.Tests.{eqb-true, eqb-false, eq-eqb, ne-eqb, lt-ltb}
-use Rattle.logic.specs.Base.{all}
+use Rattle.semantics.specs.Base.{all}
 use Rattle.logic.specs.Opcode
 use Rattle.logic.specs.Rule.{Rule}
 use Rattle.patterns.specs.Rules.{Shape, Premises, these, implications, row}

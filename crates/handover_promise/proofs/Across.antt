@@ -4,10 +4,10 @@ use mathlib.Core.Bool.{Bool, true, false, cond}
 use mathlib.Core.List.{List, [], _∷_}
 use Prim.Native.Nat.{ℕ, suc}
 use native.Mathlib.Omega.{arith}
-use Rattle.logic.specs.Base.{All}
-use Rattle.logic.specs.Formula.{sameBytes}
+use Rattle.semantics.specs.Base.{All}
+use Rattle.semantics.specs.Formula.{sameBytes}
 use Rattle.logic.specs.Statement.{Statement}
-use Rattle.logic.specs.Machine.{Program}
+use Rattle.semantics.specs.Machine.{Program}
 use Rattle.logic.specs.Obligations.{Obligation, obligations}
 use Rattle.logic.specs.Derivation.{Derived, Proved}
 use Rattle.across.specs.Handover.{Handover, EveryRunAcross}

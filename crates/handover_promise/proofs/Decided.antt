@@ -7,8 +7,8 @@ use native.Mathlib.Omega.{arith}
 use lib.Dec.{eqb, ltb}
 use lib.ListN.{length}
 use borrow.Author.Tests.{eqb-true, eq-eqb, ltb-true, lt-ltb, le-leb}
-use Rattle.logic.specs.Base.{Within}
-use Rattle.logic.specs.Formula.{sameBytes}
+use Rattle.semantics.specs.Base.{Within}
+use Rattle.semantics.specs.Formula.{sameBytes}
 use Rattle.limits.specs.Numbers.{within}
 use Rattle.limits.proofs.Inverse.{and-true, within-true}
 use Rattle.frames.specs.Records.{bodies}

@@ -8,10 +8,10 @@ use native.Mathlib.Omega.{arith}
 use lib.Dec.{eqb}
 use lib.ListN.{getD}
 use borrow.Author.Tests.{eqb-true, eq-eqb}
-use Rattle.logic.specs.Base.{Within}
-use Rattle.logic.specs.Formula.{Sort, Assertion, encode, sameBytes}
+use Rattle.semantics.specs.Base.{Within}
+use Rattle.semantics.specs.Formula.{Sort, Assertion, encode, sameBytes}
 use Rattle.logic.specs.Statement.{Statement, implies, isPair}
-use Rattle.logic.proofs.Base.{bool-ext, is-true, holds-true}
+use Rattle.semantics.proofs.Base.{bool-ext, is-true, holds-true}
 use Rattle.limits.proofs.Inverse.{and-true}
 use Rattle.frames.specs.Records.{bodies}
 use Rattle.formula.specs.Codes as Codes

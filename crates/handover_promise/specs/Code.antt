@@ -5,7 +5,7 @@ use mathlib.Core.List.{List, []}
 use Prim.Native.Nat.{ℕ, suc}
 use lib.Dec.{eqb}
 use lib.ListN.{getD}
-use Rattle.logic.specs.Formula.{sameBytes}
+use Rattle.semantics.specs.Formula.{sameBytes}
 use Rattle.logic.specs.Statement.{Statement, implies}
 use Rattle.frames.specs.Records.{bodies}
 use Rattle.program.specs.declared.sizes.Sizes.{Sizes}

@@ -3,7 +3,7 @@ use mathlib.Core.Path.{_≡_}
 use mathlib.Core.List.{List}
 use Prim.Native.Nat.{ℕ, _*_, _<_}
 use lib.ListN.{length}
-use Rattle.logic.specs.Base.{Within}
+use Rattle.semantics.specs.Base.{Within}
 use Rattle.outline.specs.Verdict.{Image, Bears}
 use Rattle.content.specs.Image.{read, decode}
 use Rattle.across.specs.Handover.{EveryRunAcross}

@@ -7,7 +7,7 @@ use native.Mathlib.Numerals.{add-one}
 use native.Mathlib.Omega.{arith}
 use lib.Dec.{eqb}
 use borrow.Author.Tests.{eqb-false, eq-eqb, ne-eqb}
-use Rattle.logic.specs.Base.{All, Within}
+use Rattle.semantics.specs.Base.{All, Within}
 use Rattle.patterns.specs.Fits.{sameStatement}
 use Rattle.logic.specs.Obligations as Logic
 use Rattle.logic.specs.Obligations.{obligations}

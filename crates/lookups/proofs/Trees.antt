@@ -7,10 +7,10 @@ use native.Mathlib.Omega.{arith}
 use lib.Dec.{eqb, leb}
 use lib.ListN.{length, getD}
 use borrow.Author.Tests.{eqb-true, leb-true, ne-eqb}
-use Rattle.logic.specs.Base.{Within}
-use Rattle.logic.specs.Formula.{Sort, Formula.const}
+use Rattle.semantics.specs.Base.{Within}
+use Rattle.semantics.specs.Formula.{Sort, Formula.const}
 use Rattle.logic.specs.Opcode as Opcode
-use Rattle.logic.specs.Machine.{Program}
+use Rattle.semantics.specs.Machine.{Program}
 use Rattle.logic.specs.Statement.{Statement, triple, pair, isPair}
 use Rattle.limits.specs.Numbers.{within}
 use Rattle.frames.specs.Records.{bodies}

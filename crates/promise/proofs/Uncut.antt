@@ -7,9 +7,9 @@ use native.Mathlib.Omega.{arith}
 use lib.Dec.{eqb}
 use lib.ListN.{length, getD}
 use borrow.Author.Tests.{le-leb}
-use Rattle.logic.specs.Base.{All, Within}
+use Rattle.semantics.specs.Base.{All, Within}
 use Rattle.patterns.specs.Fits.{sameStatement}
-use Rattle.logic.specs.Machine.{Program}
+use Rattle.semantics.specs.Machine.{Program}
 use Rattle.logic.specs.Obligations as Logic
 use Rattle.logic.specs.Obligations.{Obligation.start, Obligation.step, Obligation.taken, Obligation.interference, obligations}
 use Rattle.limits.specs.Limits as Limits

@@ -3,7 +3,7 @@ use mathlib.Core.Path.{_≡_}
 use mathlib.Core.List.{List}
 use Prim.Native.Nat.{ℕ, _≤_, _<_}
 use lib.ListN.{length}
-use Rattle.logic.specs.EveryRun.{EveryRun}
+use Rattle.semantics.specs.EveryRun.{EveryRun}
 use Rattle.logic.specs.Claims.{NeverBoth}
 use Rattle.outline.specs.Verdict.{Image, Finding}
 use Rattle.outline.specs.Judged as Outline

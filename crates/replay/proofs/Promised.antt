@@ -5,9 +5,9 @@ use Prim.Native.Nat.{ℕ, _+_, _≤_, _<_}
 use native.Mathlib.Omega.{arith}
 use lib.ListN.{length, getD, take, replicate}
 use borrow.Author.Tests.{le-ltb}
-use Rattle.logic.specs.Machine.{State, Program, run}
-use Rattle.logic.specs.EveryRun.{Holds, EveryRun}
-use Rattle.logic.proofs.Starts.{begins}
+use Rattle.semantics.specs.Machine.{State, Program, run}
+use Rattle.semantics.specs.EveryRun.{Holds, EveryRun}
+use Rattle.semantics.proofs.Starts.{begins}
 use Rattle.limits.specs.Numbers.{nth}
 use Rattle.frames.specs.Records.{bodies}
 use Rattle.program.specs.declared.sizes.Sizes.{Sizes}

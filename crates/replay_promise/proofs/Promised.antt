@@ -9,11 +9,11 @@ use lib.Dec.{T}
 use lib.ListN.{length, getD, take, drop, replicate}
 use lib.Seq.{take-all}
 use borrow.Author.Tests.{lt-ltb, le-ltb}
-use Rattle.logic.specs.Base.{Within}
-use Rattle.logic.specs.Machine.{State, Program, Step, Start, run}
-use Rattle.logic.specs.EveryRun.{Outline, EveryRun}
-use Rattle.logic.proofs.Invariant.{Wf}
-use Rattle.logic.proofs.Starts.{begins}
+use Rattle.semantics.specs.Base.{Within}
+use Rattle.semantics.specs.Machine.{State, Program, Step, Start, run}
+use Rattle.semantics.specs.EveryRun.{Outline, EveryRun}
+use Rattle.semantics.proofs.Invariant.{Wf}
+use Rattle.semantics.proofs.Starts.{begins}
 use Rattle.limits.specs.Numbers.{nth}
 use Rattle.frames.specs.Records.{bodies}
 use Rattle.program.specs.declared.sizes.Sizes.{Sizes}

@@ -1,8 +1,8 @@
 -- The starred cases hold of the definitions.
 use native.Mathlib.Decide.{ℕ-discrete}
 use lib.Dec.{T}
-use Rattle.logic.specs.Formula.{same}
-use Rattle.logic.specs.Base.{upd, all}
+use Rattle.semantics.specs.Formula.{same}
+use Rattle.semantics.specs.Base.{upd, all}
 use Rattle.logic.specs.Rows.{same-name, choose, isIn, distinct}
 use Rattle.logic.specs.Table.{same-leaf}
 use Rattle.limits.specs.Numbers.{word, has, numbers, within, every}

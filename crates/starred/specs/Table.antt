@@ -4,7 +4,7 @@ use mathlib.Core.List.{List, [], _∷_, _++_}
 use Prim.Native.Nat.{ℕ}
 use lib.Dec.{eqb}
 use lib.ListN.{getD, replicate}
-use Rattle.logic.specs.Formula.{sameBytes}
+use Rattle.semantics.specs.Formula.{sameBytes}
 use Rattle.report.specs.Output.{codeFor, bytesFor}
 use Rattle.report.specs.Record.{two}
 use Rattle.report.specs.declared.verdict.Verdict.{Verdict}

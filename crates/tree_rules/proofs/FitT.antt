@@ -8,15 +8,15 @@ use native.Mathlib.Omega.{arith}
 use lib.Dec.{T, eqb, ltb, leb, eqb→eq, eqb-refl}
 use borrow.Author.Tests.{eqb-true}
 use lib.ListN.{length}
-use Rattle.logic.specs.Base.{upd, all, All}
-use Rattle.logic.specs.Limits
-use Rattle.logic.specs.Formula.{Sort, Formula, Assertion, Test, Formula.const, Formula.word, same}
-use Rattle.logic.specs.Names.{Name, names, only, notReg, notWord, notFlag}
-use Rattle.logic.specs.Eval.{bounded}
-use Rattle.logic.specs.Replace.{Sub, replace, notes, regBy, wordBy}
+use Rattle.semantics.specs.Base.{upd, all, All}
+use Rattle.semantics.specs.Limits
+use Rattle.semantics.specs.Formula.{Sort, Formula, Assertion, Test, Formula.const, Formula.word, same}
+use Rattle.semantics.specs.Names.{Name, names, only, notReg, notWord, notFlag}
+use Rattle.semantics.specs.Eval.{bounded}
+use Rattle.semantics.specs.Replace.{Sub, replace, notes, regBy, wordBy}
 use Rattle.logic.specs.Rows.{byRows}
 use Rattle.logic.specs.Table.{Imp, byTable}
-use Rattle.logic.specs.Machine.{Program, Mode.store, Mode.swap, Mode.exchange, Mode.fetchAdd, Access.none, Access.load, Access.write, Instr, Instr.act, Instr.branch}
+use Rattle.semantics.specs.Machine.{Program, Mode.store, Mode.swap, Mode.exchange, Mode.fetchAdd, Access.none, Access.load, Access.write, Instr, Instr.act, Instr.branch}
 use Rattle.logic.specs.Statement
 use Rattle.logic.specs.Statement.{Statement, half, isImp}
 use Rattle.patterns.specs.Pattern
@@ -26,8 +26,8 @@ use Rattle.logic.specs.Rule.{Rule, r1, r2, r3, r4, r5, r6, r7, r8, r9, r10, r11
 use Rattle.patterns.specs.Rules.{Shape, Shape.inside, Shape.implies, Shape.triple, Shape.pair, Premises, these, implications, By, by-notes, r-by-x, x-by-f, Side, _is_with_, start-of, is-new, kept, lacks-x, no-flag, by-rows, by-table, Row, row}
 use Rattle.logic.specs.Inference.{keeps}
 use Rattle.patterns.specs.Fits.{isAmong, opcode, wordOf, regOf, formulaOf, apartOf, freshOf, notesOf, threadOf, pointOf, given, by, filled, filledAll, sideHolds, operationFits, found, fits}
-use Rattle.logic.proofs.Base.{bool-ext, and-left, and-right, and-both, all-All}
-use Rattle.logic.proofs.Encoding.{same-eq, same-refl}
+use Rattle.semantics.proofs.Base.{bool-ext, and-left, and-right, and-both, all-All}
+use Rattle.semantics.proofs.Encoding.{same-eq, same-refl}
 use Rattle.patterns.proofs.Fit.{All-all, Fit, PremisesFit, fit}
 use Rattle.patterns.proofs.Rules.{rule-of, rule-fits}
 use Rattle.formula.specs.Codes.{hasOperand}

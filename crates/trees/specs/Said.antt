@@ -3,7 +3,7 @@ use mathlib.Core.Bool.{Bool, not, _&&_, _||_}
 use mathlib.Core.List.{List, map}
 use Prim.Native.Nat.{ℕ}
 use lib.Dec.{eqb, leb}
-use Rattle.logic.specs.Machine.{Instr}
+use Rattle.semantics.specs.Machine.{Instr}
 use Rattle.logic.specs.Statement
 use Rattle.logic.specs.Statement.{Statement, first}
 use Rattle.patterns.specs.Rules.{Shape, Shape.inside, Shape.implies, Shape.triple, Shape.pair}

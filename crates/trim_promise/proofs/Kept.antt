@@ -41,7 +41,7 @@ use Rattle.trimmed.proofs.ContentKept as Content
 use Rattle.trimmed.proofs.AcceptedKept.{total-kept, met-kept, sustained-kept}
 use Rattle.trimmed.proofs.Moved.{claims-length}
 use Rattle.trimmed.proofs.Repointed.{withPoints}
-use Rattle.logic.specs.Machine.{Program}
+use Rattle.semantics.specs.Machine.{Program}
 use Rattle.archived.specs.Trimmed.{trimmedBytes, SameProgram, SameContent, Trimmed}
 use Rattle.trim_promise.proofs.Whole.{Whole, named, written, trimming, encodable}
 

@@ -5,7 +5,8 @@ use mathlib.Core.List.{List, [], _∷_, _++_, map}
 use Prim.Native.Nat.{ℕ, zero, suc, _+_, _*_, _≤_, _<_}
 use native.Mathlib.Omega.{arith}
 use lib.ListN.{length, getD, length-map, length-append}
-use Rattle.logic.specs.Obligations.{Obligation, Obligation.start, below, upTo, steps, interferences}
+use Rattle.logic.specs.Obligations.{Obligation, Obligation.start, steps, interferences}
+use Rattle.semantics.specs.Base.{below, upTo}
 use Rattle.limits.specs.Limits as Limits
 use Rattle.limits.specs.Numbers.{nth}
 use Rattle.header.specs.Header.{threadCount}

@@ -8,19 +8,19 @@ use native.Mathlib.Omega.{arith}
 use lib.ListN.{getD}
 use lib.Dec.{T, eqb, ltb, ltb→lt}
 use borrow.Author.Tests.{eqb-true, eqb-false, eq-eqb, ne-eqb, lt-ltb}
-use Rattle.logic.specs.Base.{Within}
-use Rattle.logic.specs.Formula.{Sort, Formula, Assertion, Test, Formula.start, Formula.bothA, Formula.holds, same}
+use Rattle.semantics.specs.Base.{Within}
+use Rattle.semantics.specs.Formula.{Sort, Formula, Assertion, Test, Formula.start, Formula.bothA, Formula.holds, same}
 use Rattle.logic.specs.Opcode as Opcode
-use Rattle.logic.specs.Names.{only, isReg}
-use Rattle.logic.specs.Machine.{Program, Instr, Instr.act, Instr.branch}
+use Rattle.semantics.specs.Names.{only, isReg}
+use Rattle.semantics.specs.Machine.{Program, Instr, Instr.act, Instr.branch}
 use Rattle.logic.specs.Statement.{Statement, inside, implies, triple, pair, isBranch, isPair, taking}
 use Rattle.patterns.specs.Fits.{sameStatement}
 use Rattle.logic.specs.Obligations as Logic
 use Rattle.logic.specs.Claims.{impossible}
-use Rattle.logic.specs.EveryRun.{Outline}
+use Rattle.semantics.specs.EveryRun.{Outline}
 use Rattle.logic.specs.Obligations.{wantsNext, wantsTarget}
 use Rattle.logic.specs.WellFormed.{proper}
-use Rattle.logic.proofs.Base.{and-right}
+use Rattle.semantics.proofs.Base.{and-right}
 use Rattle.limits.specs.Limits as Limits
 use Rattle.frames.specs.Records.{bodies}
 use Rattle.formula.specs.Tree.{Tree}

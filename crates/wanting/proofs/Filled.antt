@@ -6,7 +6,7 @@ use mathlib.Core.List.{List}
 use Prim.Native.Nat.{ℕ}
 use native.Mathlib.Omega.{arith}
 use lib.Dec.{T}
-use Rattle.logic.proofs.Base.{bool-ext, and-left, and-right, and-both, holds-true}
+use Rattle.semantics.proofs.Base.{bool-ext, and-left, and-right, and-both, holds-true}
 use Rattle.formula.specs.Tree.{Tree}
 use Rattle.compare.specs.Same.{sameTree}
 use Rattle.trees.proofs.ToTree.{tree-eq, tree-refl}

@@ -9,17 +9,17 @@ use lib.Dec.{T, eqb, ltb}
 use borrow.Author.Tests.{ltb-true, ltb-false, lt-ltb, ne-eqb}
 use lib.ListN.{length, take, drop}
 use lib.Seq.{take-length, drop-length}
-use Rattle.logic.specs.Base.{upd, All}
-use Rattle.logic.specs.Formula.{Test, Formula, Formula.const, Formula.reg, Formula.word, Formula.equal, Formula.unsync, Formula.cov, Formula.box, Formula.one, Formula.chop, Formula.both, Formula.either, Formula.sees, Formula.start, Formula.holds}
-use Rattle.logic.specs.Eval.{Env, test}
-use Rattle.logic.specs.Machine.{View, State, Program, Mode.store, Access.write, Instr.act, at, begin, run, up, down}
-use Rattle.logic.specs.Truth.{Sat, From, Names, Prospect, True}
-use Rattle.logic.proofs.Base.{upds, by-word}
-use Rattle.logic.proofs.Cuts.{All-map}
-use Rattle.logic.proofs.Prospects.{from-drop, from-all}
-use Rattle.logic.proofs.Starts.{begins}
-use Rattle.logic.proofs.Computed.{begun, by, nothing, at-points, sender, receiver, message-passing, mixed, uncleared}
-use Rattle.logic.proofs.Flags.{naming}
+use Rattle.semantics.specs.Base.{upd, All}
+use Rattle.semantics.specs.Formula.{Test, Formula, Formula.const, Formula.reg, Formula.word, Formula.equal, Formula.unsync, Formula.cov, Formula.box, Formula.one, Formula.chop, Formula.both, Formula.either, Formula.sees, Formula.start, Formula.holds}
+use Rattle.semantics.specs.Eval.{Env, test}
+use Rattle.semantics.specs.Machine.{View, State, Program, Mode.store, Access.write, Instr.act, at, begin, run, up, down}
+use Rattle.semantics.specs.Truth.{Sat, From, Names, Prospect, True}
+use Rattle.semantics.proofs.Base.{upds, by-word}
+use Rattle.semantics.proofs.Cuts.{All-map}
+use Rattle.semantics.proofs.Prospects.{from-drop, from-all}
+use Rattle.semantics.proofs.Starts.{begins}
+use Rattle.semantics.proofs.Computed.{begun, by, nothing, at-points, sender, receiver, message-passing, mixed, uncleared}
+use Rattle.semantics.proofs.Flags.{naming}
 
 -- PROSPECTS CUT IN TWO: from some place on the views are late
 module _ (size : ℕ → ℕ) (late : View → Bool) (stays : (v w : View) → ((x : ℕ) → v x ≤ w x) → late v ≡ true → late w ≡ true) where

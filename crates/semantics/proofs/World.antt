@@ -3,11 +3,11 @@ use mathlib.Core.List.{List}
 use mathlib.Core.Logic.{_⊎_}
 use Prim.Native.Nat.{ℕ}
 use lib.Dec.{T}
-use Rattle.logic.specs.Formula.{Interval, Assertion, Formula.sees, Formula.bothA, Formula.eitherA, Formula.start, Formula.holds}
-use Rattle.logic.specs.Eval.{Env, test, onRegs}
-use Rattle.logic.specs.Machine.{View, State, at, Program, Start}
-use Rattle.logic.specs.Truth.{Sat, Prospect, True}
-use Rattle.logic.proofs.Base.{map-or}
+use Rattle.semantics.specs.Formula.{Interval, Assertion, Formula.sees, Formula.bothA, Formula.eitherA, Formula.start, Formula.holds}
+use Rattle.semantics.specs.Eval.{Env, test, onRegs}
+use Rattle.semantics.specs.Machine.{View, State, at, Program, Start}
+use Rattle.semantics.specs.Truth.{Sat, Prospect, True}
+use Rattle.semantics.proofs.Base.{map-or}
 
 -- a state, what the names stand for at each view, and what they stand for under `holds`
 pub record World : Type 0 where

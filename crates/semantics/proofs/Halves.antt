@@ -6,13 +6,13 @@ use mathlib.Core.Bool.{Bool, true, false, cond, not, _&&_}
 use mathlib.Core.List.{List, [], _∷_}
 use Prim.Native.Nat.{ℕ, suc}
 use lib.Dec.{T, eqb}
-use Rattle.logic.specs.Base.{upd, all, Within}
-use Rattle.logic.specs.Formula.{Value, Formula.word, Formula.sum}
-use Rattle.logic.specs.Names.{Name, regsIn, notWord}
-use Rattle.logic.specs.Replace.{Note, noted}
-use Rattle.logic.specs.Eval.{value, bounded}
-use Rattle.logic.specs.Machine
-use Rattle.logic.specs.Machine.{View, State, Program, Mode, Mode.store, Mode.swap, Mode.exchange, Mode.fetchAdd, covers, at, down, insert, cover, withView, withRegs, readView, reachable}
+use Rattle.semantics.specs.Base.{upd, all, Within}
+use Rattle.semantics.specs.Formula.{Value, Formula.word, Formula.sum}
+use Rattle.semantics.specs.Names.{Name, regsIn, notWord}
+use Rattle.semantics.specs.Replace.{Note, noted}
+use Rattle.semantics.specs.Eval.{value, bounded}
+use Rattle.semantics.specs.Machine
+use Rattle.semantics.specs.Machine.{View, State, Program, Mode, Mode.store, Mode.swap, Mode.exchange, Mode.fetchAdd, covers, at, down, insert, cover, withView, withRegs, readView, reachable}
 
 -- nothing; load acquires x; write releasing swaps x f
 pub data Touch : Type 0 where

@@ -4,10 +4,10 @@ use mathlib.Core.Bool.{Bool, true, false, cond, not, _&&_}
 use mathlib.Core.List.{List, [], _∷_}
 use Prim.Native.Nat.{ℕ, suc, _+_, _-_, _%_, _<_, min, max}
 use lib.Dec.{T, eqb, ltb, leb}
-use Rattle.logic.specs.Base.{upd, some, within}
-use Rattle.logic.specs.Formula.{Value, Test}
-use Rattle.logic.specs.Replace.{Note}
-use Rattle.logic.specs.Eval.{Env, onRegs, value, test}
+use Rattle.semantics.specs.Base.{upd, some, within}
+use Rattle.semantics.specs.Formula.{Value, Test}
+use Rattle.semantics.specs.Replace.{Note}
+use Rattle.semantics.specs.Eval.{Env, onRegs, value, test}
 
 -- STATES
 

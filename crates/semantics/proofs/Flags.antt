@@ -6,10 +6,10 @@ use mathlib.Core.List.{List, [], _∷_, map}
 use Prim.Native.Nat.{ℕ, zero, suc, _<_}
 use native.Mathlib.Omega.{arith}
 use lib.Dec.{T, ltb, ltb→lt, lt→ltb}
-use Rattle.logic.specs.Base.{upd, Within}
-use Rattle.logic.specs.Machine.{View, State, Program, at, later, run, up, down}
-use Rattle.logic.proofs.Base.{by-word, and-left, and-right, and-both, is-true, holds-true}
-use Rattle.logic.proofs.Computed.{begun, yes-no, by, nothing, at-points, handed, dropped}
+use Rattle.semantics.specs.Base.{upd, Within}
+use Rattle.semantics.specs.Machine.{View, State, Program, at, later, run, up, down}
+use Rattle.semantics.proofs.Base.{by-word, and-left, and-right, and-both, is-true, holds-true}
+use Rattle.semantics.proofs.Computed.{begun, yes-no, by, nothing, at-points, handed, dropped}
 
 -- v is before w in some word of the program
 pub record Behind (words : ℕ) (v w : View) : Type 0 where

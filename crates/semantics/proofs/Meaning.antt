@@ -7,11 +7,11 @@ use native.Mathlib.Omega.{arith}
 use lib.Dec.{T}
 use lib.ListN.{length, getD, take, drop, take-append-drop}
 use lib.Seq.{take-append-seam, drop-append-seam}
-use Rattle.logic.specs.Base.{All}
-use Rattle.logic.specs.Formula.{Test, Interval, Formula.box, Formula.one, Formula.chop, Formula.both, Formula.either}
-use Rattle.logic.specs.Eval.{Env, test}
-use Rattle.logic.specs.Machine.{View}
-use Rattle.logic.specs.Truth.{Sat}
+use Rattle.semantics.specs.Base.{All}
+use Rattle.semantics.specs.Formula.{Test, Interval, Formula.box, Formula.one, Formula.chop, Formula.both, Formula.either}
+use Rattle.semantics.specs.Eval.{Env, test}
+use Rattle.semantics.specs.Machine.{View}
+use Rattle.semantics.specs.Truth.{Sat}
 
 -- the view at a place of the list
 abbrev pub nth : List View → ℕ → View

@@ -5,11 +5,11 @@ use mathlib.Core.Logic.{_⊎_, inl, inr}
 use Prim.Native.Nat.{ℕ, zero, suc, _≤_, _<_}
 use native.Mathlib.Omega.{arith}
 use lib.ListN.{take, drop}
-use Rattle.logic.proofs.Base.{is-within}
-use Rattle.logic.proofs.Invariant.{Wf}
-use Rattle.logic.specs.Base.{All, Within}
-use Rattle.logic.specs.Machine.{View, State, Program}
-use Rattle.logic.specs.Truth.{From, Names, Prospect}
+use Rattle.semantics.proofs.Base.{is-within}
+use Rattle.semantics.proofs.Invariant.{Wf}
+use Rattle.semantics.specs.Base.{All, Within}
+use Rattle.semantics.specs.Machine.{View, State, Program}
+use Rattle.semantics.specs.Truth.{From, Names, Prospect}
 
 module _ (size : ℕ → ℕ) where
   pub from-take : (a : View) (k : ℕ) (l : List View) → From size a l → From size a (take k l)

@@ -5,10 +5,10 @@ use mathlib.Core.Logic.{_⊎_}
 use Prim.Native.Nat.{ℕ, _≤_, _<_}
 use lib.Dec.{T}
 use lib.ListN.{take, drop}
-use Rattle.logic.specs.Base.{All}
-use Rattle.logic.specs.Formula.{Interval, Assertion, Formula.box, Formula.one, Formula.chop, Formula.both, Formula.either, Formula.sees, Formula.bothA, Formula.eitherA, Formula.start, Formula.holds}
-use Rattle.logic.specs.Eval.{Env, test, onRegs}
-use Rattle.logic.specs.Machine.{View, State, at, Program, Start}
+use Rattle.semantics.specs.Base.{All}
+use Rattle.semantics.specs.Formula.{Interval, Assertion, Formula.box, Formula.one, Formula.chop, Formula.both, Formula.either, Formula.sees, Formula.bothA, Formula.eitherA, Formula.start, Formula.holds}
+use Rattle.semantics.specs.Eval.{Env, test, onRegs}
+use Rattle.semantics.specs.Machine.{View, State, at, Program, Start}
 
 -- [E]: E is true at each view. one x: all views name the same write of x. Chop: the list is cut in two, either part perhaps empty.
 -- R: how many values there are; ρ: what the names stand for at a view

@@ -3,8 +3,8 @@ use mathlib.Core.Bool.{Bool, _&&_}
 use mathlib.Core.List.{List, [], _∷_}
 use Prim.Native.Nat.{ℕ, suc, max}
 use lib.Dec.{eqb}
-use Rattle.logic.specs.Code
-use Rattle.logic.specs.Code.{byte}
+use Rattle.semantics.specs.Code
+use Rattle.semantics.specs.Code.{byte}
 
 pub data Sort : Type 0 where
   value test interval assertion : Sort

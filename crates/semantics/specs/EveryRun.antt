@@ -2,10 +2,10 @@
 use mathlib.Core.Bool.{true}
 use mathlib.Core.List.{List}
 use Prim.Native.Nat.{ℕ}
-use Rattle.logic.specs.Base.{Within}
-use Rattle.logic.specs.Formula.{Assertion}
-use Rattle.logic.specs.Machine.{State, Program, Start, Step, run}
-use Rattle.logic.specs.Truth.{True}
+use Rattle.semantics.specs.Base.{Within}
+use Rattle.semantics.specs.Formula.{Assertion}
+use Rattle.semantics.specs.Machine.{State, Program, Start, Step, run}
+use Rattle.semantics.specs.Truth.{True}
 
 -- an assertion for each thread and point
 abbrev pub Outline : Type 0

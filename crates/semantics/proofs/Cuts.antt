@@ -7,7 +7,7 @@ use lib.ListN.{take, drop}
 use native.Mathlib.Nat.{zero-min, min-zero, suc-min-suc}
 use native.Mathlib.Omega.{arith}
 use lib.Seq.{take-nil, drop-nil, drop-drop, take-take}
-use Rattle.logic.specs.Base.{All}
+use Rattle.semantics.specs.Base.{All}
 
 module _ {ℓ} {A : Type ℓ} where
   pub take-take-comm : (k m : ℕ) (l : List A) → take k (take m l) ≡ take m (take k l)

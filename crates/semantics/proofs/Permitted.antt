@@ -4,11 +4,11 @@ use mathlib.Core.Bool.{Bool, true, false, not, _&&_}
 use mathlib.Core.List.{List, []}
 use Prim.Native.Nat.{ℕ, suc, _≤_, _<_}
 use lib.Dec.{T, ltb, leb, eqb→eq, ltb→lt, lt→ltb, leb→le, le→leb}
-use Rattle.logic.specs.Base.{Within, within}
-use Rattle.logic.specs.Formula.{Value, Test, Formula.const}
-use Rattle.logic.specs.Replace.{Note}
-use Rattle.logic.specs.Machine.{State, Program, Mode, Mode.store, Mode.swap, Access.none, Access.load, Access.write, Instr, Instr.act, Instr.branch, Step, instrAt, reachable, allowed, permitted, step, exec}
-use Rattle.logic.proofs.Base.{and-left, and-right, and-both, not-true, holds-true}
+use Rattle.semantics.specs.Base.{Within, within}
+use Rattle.semantics.specs.Formula.{Value, Test, Formula.const}
+use Rattle.semantics.specs.Replace.{Note}
+use Rattle.semantics.specs.Machine.{State, Program, Mode, Mode.store, Mode.swap, Access.none, Access.load, Access.write, Instr, Instr.act, Instr.branch, Step, instrAt, reachable, allowed, permitted, step, exec}
+use Rattle.semantics.proofs.Base.{and-left, and-right, and-both, not-true, holds-true}
 
 -- a write of x that the thread t may reach: it is there, and it is at or after the thread's own in that row
 pub record Reached (s : State) (t x p : ℕ) : Type 0 where

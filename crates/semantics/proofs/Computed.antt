@@ -6,10 +6,9 @@ use mathlib.Core.Bool.{Bool, true, false, not, cond}
 use mathlib.Core.List.{List, [], _∷_, map}
 use Prim.Native.Nat.{ℕ, zero, suc}
 use lib.Dec.{eqb}
-use Rattle.logic.specs.Base.{upd}
-use Rattle.logic.specs.Formula.{Formula.const, Formula.reg, Formula.sum, Formula.equal}
-use Rattle.logic.specs.Machine.{View, Write, State, Program, Mode.store, Mode.swap, Mode.exchange, Mode.fetchAdd, Access.none, Access.load, Access.write, Instr, Instr.act, Instr.branch, Step, begin, run, up, down}
-use Rattle.logic.specs.Obligations.{Obligation, Obligation.start, Obligation.step, Obligation.taken, Obligation.interference, below, upTo, interferences}
+use Rattle.semantics.specs.Base.{upd, below, upTo}
+use Rattle.semantics.specs.Formula.{Formula.const, Formula.reg, Formula.sum, Formula.equal}
+use Rattle.semantics.specs.Machine.{View, Write, State, Program, Mode.store, Mode.swap, Mode.exchange, Mode.fetchAdd, Access.none, Access.load, Access.write, Instr, Instr.act, Instr.branch, Step, begin, run, up, down}
 
 -- the start with 0 in every register
 abbrev pub begun : Program → State
@@ -316,25 +315,3 @@ from-5 = refl
 from-13 : stored-from 13 ≡ 0 ∷ 5 ∷ []
 unfolding by nothing at-points uncleared stored-from upd up down
 from-13 = refl
-
--- CLASS 4 of `mixed`: by acting thread, acting point, asserting thread, asserting point
-by-actor : interferences mixed ≡
-    interference 2 0 1 0 ∷ interference 2 1 1 0 ∷ interference 3 0 1 0 ∷ interference 3 1 1 0 ∷ interference 3 2 1 0
-    ∷ interference 1 0 2 0 ∷ interference 1 1 2 0 ∷ interference 3 0 2 0 ∷ interference 3 1 2 0 ∷ interference 3 2 2 0
-    ∷ interference 1 0 3 0 ∷ interference 1 1 3 0 ∷ interference 2 0 3 0 ∷ interference 2 1 3 0
-    ∷ interference 1 0 3 1 ∷ interference 1 1 3 1 ∷ interference 2 0 3 1 ∷ interference 2 1 3 1
-    ∷ []
-unfolding nothing at-points mixed upd
-by-actor = refl
-
--- the acting point
-abbrev pub actor : Obligation → ℕ
-actor (Obligation.start t) = 0
-actor (Obligation.step t k) = 0
-actor (Obligation.taken t k) = 0
-actor (Obligation.interference u j t k) = k
-
--- of message passing: thread 2 branches at its point 1, which is no action
-no-branch : map actor (interferences message-passing) ≡ 0 ∷ 0 ∷ 0 ∷ 0 ∷ 1 ∷ 1 ∷ 1 ∷ 1 ∷ 0 ∷ 0 ∷ 0 ∷ 2 ∷ 2 ∷ 2 ∷ []
-unfolding nothing at-points sender receiver message-passing upd
-no-branch = refl

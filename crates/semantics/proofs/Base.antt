@@ -7,8 +7,8 @@ use native.Mathlib.Omega.{arith}
 use lib.Dec.{T, eqb, ltb, leb}
 use borrow.Author.Tests.{eqb-true, eqb-false, eq-eqb, ne-eqb, le-ltb, ltb-false, leb-true, leb-false}
 use mathlib.Core.List.{List, [], _∷_, _++_}
-use Rattle.logic.specs.Base.{upd, all, All, Within}
-use Rattle.logic.specs.Machine.{View, later, up, down}
+use Rattle.semantics.specs.Base.{upd, all, All, Within}
+use Rattle.semantics.specs.Machine.{View, later, up, down}
 
 module _ {ℓ} {A : Type ℓ} where
   pub upd-same : (f : ℕ → A) (x : ℕ) (a : A) → upd f x a x ≡ a

@@ -1,8 +1,8 @@
 -- Replacement of registers and words by values, of any number of them at once, so that none feeds another.
 use mathlib.Core.List.{List, [], _∷_}
 use Prim.Native.Nat.{ℕ}
-use Rattle.logic.specs.Base.{upd}
-use Rattle.logic.specs.Formula.{Sort, Formula, Value, Formula.const, Formula.reg, Formula.word, Formula.sum, Formula.equal, Formula.less, Formula.and, Formula.or, Formula.unsync, Formula.cov, Formula.box, Formula.one, Formula.chop, Formula.both, Formula.either, Formula.sees, Formula.bothA, Formula.eitherA, Formula.start, Formula.holds}
+use Rattle.semantics.specs.Base.{upd}
+use Rattle.semantics.specs.Formula.{Sort, Formula, Value, Formula.const, Formula.reg, Formula.word, Formula.sum, Formula.equal, Formula.less, Formula.and, Formula.or, Formula.unsync, Formula.cov, Formula.box, Formula.one, Formula.chop, Formula.both, Formula.either, Formula.sees, Formula.bothA, Formula.eitherA, Formula.start, Formula.holds}
 
 -- what stands for each register and for each word's value
 pub record Sub : Type 0 where

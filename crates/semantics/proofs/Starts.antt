@@ -4,8 +4,8 @@ use mathlib.Core.Bool.{Bool, true, false, cond}
 use Prim.Native.Nat.{ℕ, _%_, _<_}
 use native.Mathlib.Nat.{mod-lt, mod-eq-of-lt}
 use lib.Dec.{T}
-use Rattle.logic.specs.Machine.{State, Program, Start, begin}
-use Rattle.logic.proofs.Base.{holds-true}
+use Rattle.semantics.specs.Machine.{State, Program, Start, begin}
+use Rattle.semantics.proofs.Base.{holds-true}
 
 -- every choice of values is a start
 pub begins : (P : Program) → 0 < P .range → (given : ℕ → ℕ) → Start P (begin P given)

@@ -3,10 +3,10 @@ use mathlib.Core.Path.{_≡_}
 use mathlib.Core.Bool.{Bool, true, false}
 use Prim.Native.Nat.{ℕ, _<_}
 use native.Mathlib.Omega.{arith}
-use Rattle.logic.proofs.Base.{by-word, upds}
-use Rattle.logic.proofs.Halves.{coverIf}
-use Rattle.logic.specs.Base.{Within}
-use Rattle.logic.specs.Machine.{State, View, Program, Start, withView}
+use Rattle.semantics.proofs.Base.{by-word, upds}
+use Rattle.semantics.proofs.Halves.{coverIf}
+use Rattle.semantics.specs.Base.{Within}
+use Rattle.semantics.specs.Machine.{State, View, Program, Start, withView}
 
 pub record Wf (P : Program) (s : State) : Type 0 where
   -- a word that is not there has its first write alone
