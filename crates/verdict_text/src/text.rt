@@ -1,10 +1,10 @@
 // The nine numbers of a verdict as a line of text.
-use crate::verdict::Fields;
+use report::verdict::Fields;
 ghost use mathlib.Core.Path.{_≡_};
 ghost use mathlib.Core.List.{[], _∷_};
 ghost use Prim.Native.Nat.{_≤_};
 ghost use lib.ListN.{take};
-ghost use Rattle.report.specs.Text.{room, written, added, digits, numbered, placeText, textOf};
+ghost use Rattle.verdict_text.specs.Text.{room, written, added, digits, numbered, placeText, textOf};
 
 pub struct Line;
 

@@ -1,8 +1,8 @@
 use Rattle.limits.proofs.Auto.{tests}
-use Rattle.report.proofs.Texts.{text-put}
+use Rattle.verdict_text.proofs.Texts.{text-put}
 use borrow.Author.Needs.{needs}
-use Rattle.report.proofs.text.text_of.Statement.{statement}
-use Rattle.report.proofs.text.text_of.Tie as tie
+use Rattle.verdict_text.proofs.text.text_of.Statement.{statement}
+use Rattle.verdict_text.proofs.text.text_of.Tie as tie
 
 pub text-of-spec : {M : Type 1} → statement M
 text-of-spec =

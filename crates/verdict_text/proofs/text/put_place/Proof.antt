@@ -1,8 +1,8 @@
 use Rattle.limits.proofs.Auto.{tests}
-use Rattle.report.proofs.Texts.{place-put}
+use Rattle.verdict_text.proofs.Texts.{place-put}
 use borrow.Author.Needs.{needs}
-use Rattle.report.proofs.text.put_place.Statement.{statement}
-use Rattle.report.proofs.text.put_place.Tie as tie
+use Rattle.verdict_text.proofs.text.put_place.Statement.{statement}
+use Rattle.verdict_text.proofs.text.put_place.Tie as tie
 
 pub put-place-spec : {M : Type 1} → statement M
 put-place-spec =

@@ -4,8 +4,8 @@ use mathlib.Core.List.{List, [], _∷_, _++_}
 use Prim.Native.Nat.{ℕ, zero, suc, _+_, _/_, _%_}
 use lib.Dec.{ltb}
 use lib.ListN.{take}
 use Rattle.report.specs.declared.verdict.Fields.{Fields}
-use Rattle.report.specs.declared.text.Text.{Text}
+use Rattle.verdict_text.specs.declared.text.Text.{Text}
 
 -- how many bytes a text may have
 abbrev pub room : ℕ

@@ -1,14 +1,14 @@
 use Rattle.limits.proofs.Auto.{tests}
-use Rattle.report.proofs.Texts.{spelling}
+use Rattle.verdict_text.proofs.Texts.{spelling}
 use Prim.Native.Nat.{ℕ, _<_}
 use borrow.Fn.Kinds.{In}
 use borrow.Fn.PlainCycle.{Measures, is, falls, and}
-use Rattle.report.proofs.text.put_digits.Reads as put-digits
-use Rattle.report.proofs.text.put_digits.Kinds as put-digits-kinds
-use Rattle.report.proofs.text.+put_digits.Lts-put_digits as put-digits-lts
-use Rattle.report.proofs.text.put_byte.Reads as put-byte-reads
-use Rattle.report.proofs.text.+put_digits.{statement}
-use Rattle.report.proofs.text.+put_digits.Tie.{close}
+use Rattle.verdict_text.proofs.text.put_digits.Reads as put-digits
+use Rattle.verdict_text.proofs.text.put_digits.Kinds as put-digits-kinds
+use Rattle.verdict_text.proofs.text.+put_digits.Lts-put_digits as put-digits-lts
+use Rattle.verdict_text.proofs.text.put_byte.Reads as put-byte-reads
+use Rattle.verdict_text.proofs.text.+put_digits.{statement}
+use Rattle.verdict_text.proofs.text.+put_digits.Tie.{close}
 
 abbrev μ-put-digits : Measures 0 put-digits-kinds.ps ℕ
 μ-put-digits κs a = a .1 .1 .0

@@ -10,9 +10,9 @@ use lib.ListN.{length, set, take, length-take, length-append}
 use lib.Seq.{take-all, take-append-le, take-suc-set}
 use borrow.Author.Tests.{lt-ltb, le-ltb}
 use Rattle.formula.proofs.Auto.{lower}
-use Rattle.report.specs.Text.{room, written, added, digit, digits, decimal, numbered, space, newline, placeText, textOf}
+use Rattle.verdict_text.specs.Text.{room, written, added, digit, digits, decimal, numbered, space, newline, placeText, textOf}
 use Rattle.report.specs.declared.verdict.Fields.{Fields}
-use Rattle.report.specs.declared.text.Text.{Text}
+use Rattle.verdict_text.specs.declared.text.Text.{Text}
 
 take-again : (n : ℕ) (a b : List ℕ) → take n (take n a ++ b) ≡ take n (a ++ b)
 take-again zero a b = refl
