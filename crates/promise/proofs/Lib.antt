@@ -5,3 +5,4 @@ pub mod Obligations
 pub mod Uncut
 pub mod Within
 pub mod Holds
+pub mod Worked
