@@ -4,10 +4,10 @@ use mathlib.Core.Path.{_≡_, refl}
 use mathlib.Core.Bool.{true, false}
 use mathlib.Core.List.{List, [], _∷_}
 use Prim.Native.Nat.{ℕ}
-use Rattle.logic.specs.Base.{upd}
-use Rattle.logic.specs.Formula.{Formula.const}
-use Rattle.logic.specs.Machine.{Program, Access.none, Access.load, Instr, Instr.act, Step, run, up, down}
-use Rattle.logic.proofs.Computed.{begun, picture, draw, yes-no, write-of, by, nothing, at-points, sender, receiver, message-passing}
+use Rattle.semantics.specs.Base.{upd}
+use Rattle.semantics.specs.Formula.{Formula.const}
+use Rattle.semantics.specs.Machine.{Program, Access.none, Access.load, Instr, Instr.act, Step, run, up, down}
+use Rattle.semantics.proofs.Computed.{begun, picture, draw, yes-no, write-of, by, nothing, at-points, sender, receiver, message-passing}
 use Rattle.across.specs.Handover.{NewPoint, handed, across}
 
 -- the new code: thread 1 has nothing left to do; thread 2 clears register 2, loads the flag into register 1, then the message into

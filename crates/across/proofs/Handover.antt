@@ -3,16 +3,16 @@ use mathlib.Core.Path.{_≡_, sym, subst}
 use mathlib.Core.Logic.{inl, inr}
 use Prim.Native.Nat.{ℕ, _<_}
 use lib.Dec.{T}
-use Rattle.logic.specs.Base.{Within}
-use Rattle.logic.specs.Names.{startless}
-use Rattle.logic.specs.Formula.{Assertion, Formula.sees, Formula.bothA, Formula.eitherA, Formula.start, Formula.holds}
-use Rattle.logic.specs.Machine.{State, Program, run}
-use Rattle.logic.specs.Truth.{True}
-use Rattle.logic.specs.EveryRun.{Outline}
+use Rattle.semantics.specs.Base.{Within}
+use Rattle.semantics.specs.Names.{startless}
+use Rattle.semantics.specs.Formula.{Assertion, Formula.sees, Formula.bothA, Formula.eitherA, Formula.start, Formula.holds}
+use Rattle.semantics.specs.Machine.{State, Program, run}
+use Rattle.semantics.specs.Truth.{True}
+use Rattle.semantics.specs.EveryRun.{Outline}
 use Rattle.logic.specs.WellFormed.{WellFormed}
 use Rattle.logic.specs.Derivation.{Proved}
-use Rattle.logic.proofs.Base.{and-left, and-right}
-use Rattle.logic.proofs.Invariant.{Wf}
+use Rattle.semantics.proofs.Base.{and-left, and-right}
+use Rattle.semantics.proofs.Invariant.{Wf}
 use Rattle.logic.proofs.Runs.{Inv, derived-valid, run-keeps, start-inv}
 use Rattle.across.specs.Handover.{NewPoint, Alike, Handover, handed, EveryRunAcross}
 

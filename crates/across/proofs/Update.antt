@@ -7,16 +7,16 @@ use native.Mathlib.Omega.{arith}
 use native.Mathlib.Decide.{ℕ-discrete}
 use lib.Dec.{T, eqb→eq}
 use lib.ListN.{getD}
-use Rattle.logic.specs.Base.{upd}
-use Rattle.logic.specs.Formula.{Formula, Assertion, Formula.const, Formula.reg, Formula.equal, Formula.start, Formula.holds, same}
-use Rattle.logic.specs.Names.{startless}
+use Rattle.semantics.specs.Base.{upd}
+use Rattle.semantics.specs.Formula.{Formula, Assertion, Formula.const, Formula.reg, Formula.equal, Formula.start, Formula.holds, same}
+use Rattle.semantics.specs.Names.{startless}
 use Rattle.logic.specs.Rows.{choose, isIn, distinct, same-name}
 use Rattle.logic.specs.Table.{same-leaf}
-use Rattle.logic.specs.Machine.{State, Program, Access.none, Instr, Instr.act, Step, Start, begin}
-use Rattle.logic.specs.Truth.{True}
+use Rattle.semantics.specs.Machine.{State, Program, Access.none, Instr, Instr.act, Step, Start, begin}
+use Rattle.semantics.specs.Truth.{True}
 use Rattle.logic.specs.Statement.{Statement, implies, triple}
 use Rattle.logic.specs.Inference.{i2, i20, i21}
-use Rattle.logic.specs.EveryRun.{Outline}
+use Rattle.semantics.specs.EveryRun.{Outline}
 use Rattle.logic.specs.WellFormed.{WellFormed}
 use Rattle.logic.specs.Derivation.{Derived, by-rule, Proved}
 use Rattle.across.specs.Handover.{NewPoint, Handover, across, EveryRunAcross}

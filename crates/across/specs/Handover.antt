@@ -2,10 +2,10 @@
 use mathlib.Core.Path.{_≡_}
 use mathlib.Core.List.{List}
 use Prim.Native.Nat.{ℕ, _<_}
-use Rattle.logic.specs.Base.{Within}
-use Rattle.logic.specs.Machine.{State, Program, Start, Step, run}
+use Rattle.semantics.specs.Base.{Within}
+use Rattle.semantics.specs.Machine.{State, Program, Start, Step, run}
 use Rattle.logic.specs.Statement.{implies}
-use Rattle.logic.specs.EveryRun.{Outline, Holds}
+use Rattle.semantics.specs.EveryRun.{Outline, Holds}
 use Rattle.logic.specs.Derivation.{Derived}
 
 -- for each thread and old point, a new point

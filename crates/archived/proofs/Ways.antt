@@ -11,10 +11,10 @@ use Rattle.limits.specs.Limits as Limits
 use Rattle.frames.specs.Records.{bodies}
 use Rattle.program.specs.declared.sizes.Sizes.{Sizes}
 use Rattle.image.specs.Decode.{recordCount}
-use Rattle.checker.specs.Acceptance.{acceptance}
-use Rattle.checker.specs.declared.acceptance.Acceptance.{Acceptance}
-use Rattle.checker.specs.declared.acceptance.Acceptance.the-variants.{Granted, Declined}
-use Rattle.checker.proofs.Granted.{Holds, granted-holds}
+use Rattle.promise.specs.Acceptance.{acceptance}
+use Rattle.promise.specs.declared.acceptance.Acceptance.{Acceptance}
+use Rattle.promise.specs.declared.acceptance.Acceptance.the-variants.{Granted, Declined}
+use Rattle.promise.proofs.Holds.{Holds, granted-holds}
 use Rattle.document.specs.Canonical.{Bytes}
 use Rattle.document.specs.Encode.{encode}
 use Rattle.document.specs.Parse.{documentOf}

@@ -3,8 +3,8 @@ use mathlib.Core.Path.{_≡_}
 use mathlib.Core.List.{List}
 use Prim.Native.Nat.{ℕ}
 use Rattle.program.specs.declared.sizes.Sizes.{Sizes}
-use Rattle.checker.specs.Acceptance.{acceptance}
-use Rattle.checker.specs.declared.acceptance.Acceptance.the-variants.{Granted}
+use Rattle.promise.specs.Acceptance.{acceptance}
+use Rattle.promise.specs.declared.acceptance.Acceptance.the-variants.{Granted}
 use Rattle.document.specs.Canonical.{Bytes}
 
 pub record Accepted (s : List ℕ) (z : Sizes) : Type 0 where

@@ -4,9 +4,9 @@ use mathlib.Core.List.{List, _++_}
 use Prim.Native.Nat.{ℕ}
 use lib.Dec.{ltb}
 use lib.ListN.{length, drop}
-use Rattle.checker.specs.Acceptance.{acceptance}
-use Rattle.checker.specs.declared.acceptance.Acceptance.{Acceptance}
-use Rattle.checker.specs.declared.acceptance.Acceptance.the-variants.{Granted, Declined}
+use Rattle.promise.specs.Acceptance.{acceptance}
+use Rattle.promise.specs.declared.acceptance.Acceptance.{Acceptance}
+use Rattle.promise.specs.declared.acceptance.Acceptance.the-variants.{Granted, Declined}
 use Rattle.archived.specs.declared.answer.Answer.{Answer}
 use Rattle.archived.specs.Trimmed.{trimmedBytes}
 

@@ -3,15 +3,15 @@ use mathlib.Core.Path.{_≡_}
 use mathlib.Core.List.{List}
 use Prim.Native.Nat.{ℕ, _≤_, _<_}
 use lib.ListN.{length}
-use Rattle.logic.specs.Base.{Within}
-use Rattle.logic.specs.Machine.{Program}
+use Rattle.semantics.specs.Base.{Within}
+use Rattle.semantics.specs.Machine.{Program}
 use Rattle.frames.specs.Records.{bodies}
 use Rattle.program.specs.declared.sizes.Sizes.{Sizes}
 use Rattle.outline.specs.Verdict.{Image}
 use Rattle.content.specs.Image.{read, decode}
-use Rattle.checker.specs.Answer.{verdict}
-use Rattle.checker.specs.Acceptance.{acceptance}
-use Rattle.checker.specs.declared.acceptance.Acceptance.the-variants.{Granted}
+use Rattle.promise.specs.Answer.{verdict}
+use Rattle.promise.specs.Acceptance.{acceptance}
+use Rattle.promise.specs.declared.acceptance.Acceptance.the-variants.{Granted}
 use Rattle.document.specs.Document.{Document}
 use Rattle.document.specs.Encode.{encode}
 use Rattle.document.specs.Parse.{documentOf}

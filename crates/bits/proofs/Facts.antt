@@ -12,7 +12,7 @@ use lib.Pow.{pow-pos, mod-pow-add}
 use lib.Dec.{T, eqb, ltb, eqb→eq}
 use borrow.Author.Tests.{eqb-true, eq-eqb, ltb-true, ltb-false}
 use Rattle.logic.specs.Rows.{allBelow}
-use Rattle.logic.proofs.Base.{bool-ext, is-true}
+use Rattle.semantics.proofs.Base.{bool-ext, is-true}
 use Rattle.logic.proofs.Rows.{allBelow-at}
 use Rattle.columns.proofs.Listed.{below-from}
 use Rattle.bits.specs.Words.{bit, ones, leafWord, maskOf, noneSet, denyWord}

@@ -1,7 +1,7 @@
 -- Verdicts that compare as the same have the same nine fields, and no others do.
 use mathlib.Core.Path.{_≡_, subst}
 use lib.Dec.{T, eqb, eqb→eq, eqb-refl}
-use Rattle.logic.proofs.Base.{and-left, and-right, and-both}
+use Rattle.semantics.proofs.Base.{and-left, and-right, and-both}
 use Rattle.report.specs.declared.verdict.Fields.{Fields}
 use Rattle.cases.specs.Fields.{samePlace, sameFields}
 

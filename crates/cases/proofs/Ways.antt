@@ -8,6 +8,7 @@ use Rattle.limits.specs.Numbers.{word}
 use Rattle.report.specs.Fields.{fieldsOf}
 use Rattle.report.specs.declared.verdict.Fields.{Fields}
 use Rattle.report.specs.declared.verdict.Verdict.{Verdict}
+use Rattle.promise.specs.Answer.{verdict}
 use Rattle.stored.specs.Tally.{withCase}
 use Rattle.stored.specs.declared.tally.Tally.{Tally}
 use Rattle.cases.specs.Fields.{fieldsAt, sameFields}
@@ -21,8 +22,8 @@ pub fields-read : (s : List ℕ) (a b c d e f g h i : ℕ) → a ≡ word (drop 
 unfolding fieldsAt
 fields-read s a b c d e f g h i ea eb ec ed ee ef eg eh ei = rw (ea, eb, ec, ed, ee, ef, eg, eh, ei)
 
-pub verdict-counted : (t r : Tally) (v : Verdict) (s : List ℕ) (f g : Fields) (same : Bool) → f ≡ fieldsOf v → g ≡ fieldsAt s
-    → same ≡ sameFields f g → r ≡ withCase t (f .code) same
-    → r ≡ withVerdict t v s
+pub verdict-counted : (t r : Tally) (v : Verdict) (image s : List ℕ) (f g : Fields) (same : Bool) → v ≡ verdict image → f ≡ fieldsOf v
+    → g ≡ fieldsAt s → same ≡ sameFields f g → r ≡ withCase t (f .code) same
+    → r ≡ withVerdict t image s
 unfolding withVerdict
-verdict-counted t r v s f g same ef eg es er = rw (← ef, ← eg, ← es) er
+verdict-counted t r v image s f g same ev ef eg es er = rw (← ev, ← ef, ← eg, ← es) er

@@ -4,13 +4,6 @@ use report::verdict::Fields;
 ghost use mathlib.Core.Path.{_≡_};
 ghost use Rattle.cases.specs.Fields.{fieldsAt, samePlace, sameFields};
 
-pub struct Stored;
-
-impl Stored {
-    // Nine numbers of 16 bits.
-    pub const BYTES: usize = 18;
-}
-
 pub fn fields_at(s: &[u8]) -> Fields
     ensures { λ r. ⌜ r ≡ fieldsAt (now (s .entry)) ⌝ }
 {

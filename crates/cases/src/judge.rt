@@ -1,59 +1,50 @@
-// The cases of a file: an image as the body, the nine fields of its verdict as the tail.
-use crate::fields::Stored;
-use crate::fields::fields_at;
-use crate::fields::same_fields;
-use checker::judge::judge;
-use limits::Limits;
-use report::verdict::Verdict;
-use report::verdict::fields_of;
+// The cases of a file.
+use crate::across::with_across;
+use crate::bills::with_bill;
+use crate::handovers::with_handover;
+use crate::kind::Kind;
+use crate::kind::Tail;
+use crate::kind::tail_of;
+use crate::replays::with_replay;
+use crate::trims::with_trimmed;
+use crate::verdicts::with_verdict;
 use stored::case::Next;
 use stored::case::read_case;
 use stored::end::End;
+use stored::space::space_for_body;
 use stored::tally::Judged;
 use stored::tally::Tally;
 use stored::tally::no_case;
-use stored::tally::with_case;
-ghost use mathlib.Core.Path.{_≡_};
-ghost use Prim.Native.Nat.{_+_};
-ghost use lib.ListN.{length};
-ghost use Rattle.limits.specs.Limits.{imageBytes};
 ghost use Rattle.stored.specs.Tallied.{FromCases};
-ghost use Rattle.cases.specs.Judge.{withVerdict};
+ghost use Rattle.cases.specs.Judge.{Counted};
 
-// The tally with a verdict more, by its code, and whether it is the stored one.
-fn with_verdict(t: Tally, v: Verdict, stored: &[u8]) -> Tally
-    ensures { λ r. ⌜ r ≡ withVerdict t v (now (stored .entry)) ⌝ }
+// The tally with a call more, by the code answered, and whether the answer is the stored one.
+fn with_call<'a, 'b>(kind: Kind, t: Tally, body: &'a [u8], s: &'b [u8]) -> Tally
+    ensures { λ r. ⌜ Counted kind (now (body .entry)) (now (s .entry)) t r ⌝ }
 {
-    let f = fields_of(v);
-    let same = same_fields(f, fields_at(stored));
-    with_case(t, f.code as usize, same)
+    match kind {
+        Kind::Verdicts => with_verdict(t, body, s),
+        Kind::Trims => with_trimmed(t, body, s),
+        Kind::Bills => with_bill(t, body, s),
+        Kind::Replays => with_replay(t, body, s),
+        Kind::Handovers => with_handover(t, body, s),
+        Kind::Across => with_across(t, body, s),
+    }
 }
 
-// A byte more than an image may have.
-struct Room;
-
-impl Room {
-    pub const BYTES: usize = Limits::IMAGE_BYTES + 1;
-}
-
-fn room_for_image() -> [u8; Room::BYTES]
-    ensures { λ r. ⌜ imageBytes + 1 ≡ length r ⌝ }
-{
-    [0; Room::BYTES]
-}
-
-pub fn judge_all(fd: i32) -> Judged
+pub fn judge_all(fd: i32, kind: Kind) -> Judged
     ensures { λ r. ⌜ FromCases (r .tally) ⌝ }
 {
-    let mut space = room_for_image();
-    let mut stored = [0u8; Stored::BYTES];
+    let mut space = space_for_body();
+    let mut stored = [0u8; Tail::MOST];
+    let tail = tail_of(kind);
     let mut tally = no_case();
     // One more shows that there are too many.
     let mut left = Judged::MOST + 1;
     while 0 < left {
-        match read_case(fd, &mut space, &mut stored) {
+        match read_case(fd, &mut space, &mut stored[..tail]) {
             Next::Case(n) => {
-                tally = with_verdict(tally, judge(&space[..n]), &stored);
+                tally = with_call(kind, tally, &space[..n], &stored[..tail]);
                 left -= 1;
             }
             Next::Over(end) => {

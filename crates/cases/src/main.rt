@@ -1,18 +1,24 @@
-// Judges each image of the files that the arguments name, and writes a line for each file: how many verdicts there are of
-// each code, and how many differ from the stored ones. What is wrong with a file goes to standard error, and then
-// there is no line for it.
+// Makes the calls of the files that the arguments name, and writes a line for each file: how many answers there are of each code, and how
+// many differ from the stored ones. What is wrong with a file goes to standard error, and then there is no line for it.
+mod across;
+mod bills;
 mod fields;
+mod handovers;
 mod judge;
-mod line;
+mod kind;
+mod replays;
+mod trims;
+mod verdicts;
 
 use judge::judge_all;
-use line::write_line;
+use kind::kind_of;
 use stored::complaint::passes;
+use stored::counts::write_line;
 use stored::file::File;
 use stored::file::open_argument;
 
 fn judge_file(path: &[u8], fd: i32) {
-    let judged = judge_all(fd);
+    let judged = judge_all(fd, kind_of(path));
     let tally = judged.tally;
     let end = judged.end;
     if passes(path, end, tally.cases) {

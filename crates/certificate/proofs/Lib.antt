@@ -1,2 +1,2 @@
-pub mod FitT
 pub mod Marks
+pub mod Bounded

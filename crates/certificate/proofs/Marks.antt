@@ -7,11 +7,11 @@ use native.Mathlib.Omega.{arith}
 use lib.Dec.{T, eqb}
 use borrow.Author.Tests.{eqb-true, eqb-false, eq-eqb, ne-eqb}
 use lib.ListN.{length, getD}
-use Rattle.logic.specs.Base.{all, Within}
-use Rattle.logic.specs.Machine.{Program}
+use Rattle.semantics.specs.Base.{all, Within}
+use Rattle.semantics.specs.Machine.{Program}
 use Rattle.logic.specs.Statement.{Statement, admitted}
 use Rattle.logic.specs.Derivation.{Derived, by-rule}
-use Rattle.logic.proofs.Base.{and-left, and-right, and-both}
+use Rattle.semantics.proofs.Base.{and-left, and-right, and-both}
 use Rattle.patterns.proofs.Rules.{fits-rule, rule-fits}
 use Rattle.certificate.specs.Lines.{Line, Certificate, saying, lineFits, marked, Justified, justified}
 

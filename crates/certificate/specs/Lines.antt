@@ -4,8 +4,8 @@ use mathlib.Core.List.{List, [], _∷_, map}
 use Prim.Native.Nat.{ℕ, zero, suc, _<_}
 use lib.Dec.{eqb}
 use lib.ListN.{length, getD}
-use Rattle.logic.specs.Base.{all, Within}
-use Rattle.logic.specs.Machine.{Program}
+use Rattle.semantics.specs.Base.{all, Within}
+use Rattle.semantics.specs.Machine.{Program}
 use Rattle.logic.specs.Statement.{Statement}
 use Rattle.logic.specs.Rule.{Rule}
 use Rattle.logic.specs.Inference.{Inference}

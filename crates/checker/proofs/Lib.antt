@@ -1,8 +1,2 @@
 pub mod Verdicts
-pub mod Accepted
-pub mod Sums
-pub mod Refusals
-pub mod Obligations
-pub mod Uncut
-pub mod Within
 pub mod Granted

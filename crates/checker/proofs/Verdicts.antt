@@ -31,7 +31,7 @@ use Rattle.report.specs.declared.obligation.Obligation.{Obligation}
 use Rattle.report.specs.declared.obligation.Place.{Place}
 use Rattle.report.specs.declared.verdict.Verdict.{Verdict}
 use Rattle.report.specs.declared.verdict.Verdict.the-variants as Verdict
-use Rattle.checker.specs.Answer.{judged, answered, verdict}
+use Rattle.promise.specs.Answer.{judged, answered, verdict}
 use Rattle.checker.specs.Found.{pointsOf, deniedAt, claimsVerdict, verdictOf, soundVerdict}
 
 pub denied-placed : (s : List ℕ) (z : Sizes) (i n : ℕ) (c : Claimed) (k : ℕ) (p : Place) → c ≡ claimedIn (claimBody z (bodies s) i)

@@ -1,5 +1,1 @@
-pub mod Answer
-pub mod Promise
 pub mod Found
-pub mod Uncut
-pub mod Acceptance

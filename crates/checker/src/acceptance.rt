@@ -4,16 +4,12 @@ use image::decode::Decoded;
 use image::decode::decode_image;
 use index::table::fill_index;
 use program::sizes::Sizes;
+use promise::acceptance::Acceptance;
 use report::verdict::Verdict;
 ghost use mathlib.Core.Path.{_≡_};
 ghost use lib.ListN.{replicate};
 ghost use Rattle.index.specs.Table.{tableSize, indexOf};
-ghost use Rattle.checker.specs.Acceptance.{grantedBy, acceptance};
-
-pub enum Acceptance {
-    Granted(Sizes),
-    Declined,
-}
+ghost use Rattle.promise.specs.Acceptance.{grantedBy, acceptance};
 
 // By the verdict on sound bytes.
 fn granted_by(v: Verdict, z: Sizes) -> Acceptance

@@ -18,7 +18,7 @@ use report::verdict::Verdict;
 ghost use mathlib.Core.Path.{_≡_};
 ghost use lib.ListN.{replicate};
 ghost use Rattle.index.specs.Table.{tableSize, indexOf};
-ghost use Rattle.checker.specs.Answer.{verdict, verdictWithin};
+ghost use Rattle.promise.specs.Answer.{verdict, verdictWithin};
 ghost use Rattle.checker.specs.Found.{pointsOf, deniedAt, claimsVerdict, soundVerdict};
 ghost use Rattle.marks.specs.Marks.{asMarks};
 ghost use Prim.Native.Nat.{_<_};

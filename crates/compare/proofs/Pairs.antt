@@ -7,8 +7,8 @@ use native.Mathlib.Omega.{arith}
 use lib.ListN.{length, getD}
 use lib.Dec.{ltb, eqb}
 use borrow.Author.Tests.{lt-ltb, eq-eqb, ne-eqb, eqb-true, eqb-false}
-use Rattle.logic.specs.Code
-use Rattle.logic.specs.Code.{byte}
+use Rattle.semantics.specs.Code
+use Rattle.semantics.specs.Code.{byte}
 use Rattle.formula.specs.Codes.{among, partCount}
 use Rattle.formula.specs.Tree.{Tree, none, node, ParsedTree, nodeAt, parseTree, part, grow}
 use Rattle.formula.specs.declared.node.Node.{Node}

@@ -16,7 +16,8 @@ use Rattle.matcher.specs.declared.bind.Bind.{Bind}
 use Rattle.matcher.specs.declared.matching.Match.{Match}
 use Rattle.matcher.specs.declared.whole.Whole.{Whole}
 use Rattle.matcher.proofs.Follow.{Sized, given, Follows, match-follows}
-use Rattle.certificate.specs.FitT.{acted, formOf, leftOf, rightOf, placed, matchSides, matchAll}
+use Rattle.trees.specs.Said.{acted, placed, formOf}
+use Rattle.tree_rules.specs.FitT.{leftOf, rightOf, matchSides, matchAll}
 use Rattle.rulebook.specs.Listed.{packed}
 use Rattle.conclusions.specs.Conclusion.{concludedAt, placedAt, matchConclusion, conclusionAt, conclusionsFrom, matchFrom}
 use Rattle.conclusions.specs.declared.conclusion.Conclusion.{Conclusion}

@@ -12,7 +12,7 @@ use Rattle.formula.proofs.Auto.{lower}
 use Rattle.matcher.specs.Places.{wholeAt, thenWhole}
 use Rattle.matcher.specs.declared.bind.Bind.{Bind}
 use Rattle.matcher.specs.declared.whole.Whole.{Whole}
-use Rattle.certificate.specs.FitT.{hoare}
+use Rattle.trees.specs.Said.{hoare}
 use Rattle.conclusions.specs.Conclusion.{placedAt, matchConclusion, noConclusion, conclusionAt, matchFrom}
 use Rattle.conclusions.specs.declared.conclusion.Conclusion.{Conclusion}
 use Rattle.conclusions.specs.declared.conclusion.Premises.{Premises}

@@ -12,7 +12,7 @@ use Rattle.program.specs.declared.sizes.Sizes.{Sizes}
 use Rattle.records.specs.Line as Lines
 use Rattle.matcher.specs.declared.bind.Bind.{Bind}
 use Rattle.matcher.specs.declared.whole.Whole.{Whole}
-use Rattle.certificate.specs.FitT.{implication}
+use Rattle.trees.specs.Said.{implication}
 use Rattle.content.specs.Certificate.{lineBody}
 use Rattle.rulebook.specs.Rulebook.{anyImplications}
 use Rattle.rulebook.specs.declared.rule.Rule.{Rule}

@@ -7,12 +7,12 @@ use native.Mathlib.Omega.{arith}
 use lib.Dec.{T, eqb, leb, eqb→eq, leb→le}
 use lib.ListN.{length}
 use borrow.Author.Tests.{eqb-true}
-use Rattle.logic.specs.Base.{all}
+use Rattle.semantics.specs.Base.{all}
 use Rattle.logic.specs.Rule.{Rule}
 use Rattle.patterns.specs.Rules.{Shape, row}
 use Rattle.patterns.specs.Fits.{isAmong}
 use Rattle.logic.specs.Opcode
-use Rattle.logic.proofs.Base.{and-left, and-right}
+use Rattle.semantics.proofs.Base.{and-left, and-right}
 use Rattle.limits.specs.Limits as Limits
 use Rattle.limits.specs.Limits.{nesting}
 use Rattle.formula.specs.Tree.{parseTree}
@@ -20,7 +20,8 @@ use Rattle.compare.specs.Same.{sameTree}
 use Rattle.trees.proofs.ToTree.{tree-eq}
 use Rattle.matcher.specs.Template.{shapes}
 use Rattle.matcher.specs.Places.{proper}
-use Rattle.certificate.specs.FitT.{formOf, leftOf, rightOf}
+use Rattle.trees.specs.Said.{formOf}
+use Rattle.tree_rules.specs.FitT.{leftOf, rightOf}
 use Rattle.rulebook.specs.Rulebook.{ruleRow, templates}
 use Rattle.rulebook.specs.Listed.{numberOf, trees, standAt, packed, premiseCount, premisesRight, allows, sameBit, operations, sideNumber}
 use Rattle.rulebook.proofs.Table.{listed-right}

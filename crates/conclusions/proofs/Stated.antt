@@ -7,7 +7,7 @@ use native.Mathlib.Omega.{arith}
 use lib.Dec.{T, eqb, ltb, eqb→eq}
 use lib.ListN.{getD}
 use borrow.Author.Tests.{ltb-true, ltb-false, lt-leb, le-ltb, ne-eqb}
-use Rattle.logic.specs.Base.{Within}
+use Rattle.semantics.specs.Base.{Within}
 use Rattle.logic.specs.Rows.{allBelow}
 use Rattle.logic.proofs.Rows.{allBelow-at}
 use Rattle.frames.specs.Records.{bodies}
@@ -15,8 +15,7 @@ use Rattle.program.specs.declared.sizes.Sizes.{Sizes}
 use Rattle.records.specs.declared.line.Form.{Form}
 use Rattle.records.specs.declared.line.Form.the-variants.{Triple, Implication, Inclusion, Pair, Unlisted}
 use Rattle.records.specs.Line.{formOf, placed}
-use Rattle.certificate.specs.FitT as FitT
-use Rattle.certificate.specs.FitT.{concluded}
+use Rattle.trees.specs.Said.{concluded}
 use Rattle.content.specs.Certificate.{lineBody, certificateOf}
 use Rattle.lookups.specs.Places.{lineIn}
 use Rattle.content.specs.Rule.{ruleOf}

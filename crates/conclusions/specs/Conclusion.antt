@@ -9,7 +9,7 @@ use Rattle.formula.specs.Tree.{parseTree}
 use Rattle.matcher.specs.Places.{wholeAt, thenWhole}
 use Rattle.matcher.specs.declared.bind.Bind.{Bind}
 use Rattle.matcher.specs.declared.whole.Whole.{Whole}
-use Rattle.certificate.specs.FitT.{TreeConclusion, acted}
+use Rattle.trees.specs.Said.{TreeConclusion, acted}
 use Rattle.conclusions.specs.declared.conclusion.Conclusion.{Conclusion}
 use Rattle.conclusions.specs.declared.conclusion.Premises.{Premises}
 

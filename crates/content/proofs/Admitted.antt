@@ -3,7 +3,7 @@ use mathlib.Core.Path.{_≡_, refl, subst}
 use mathlib.Core.List.{List}
 use Prim.Native.Nat.{ℕ, _<_}
 use native.Mathlib.Omega.{arith}
-use Rattle.logic.specs.EveryRun.{EveryRun}
+use Rattle.semantics.specs.EveryRun.{EveryRun}
 use Rattle.logic.specs.Claims.{NeverBoth}
 use Rattle.frames.specs.declared.fault.Fault.{Fault}
 use Rattle.frames.specs.Records.{bodies}

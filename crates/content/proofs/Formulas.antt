@@ -6,11 +6,11 @@ use Prim.Native.Nat.{ℕ, _≤_}
 use lib.Dec.{T, eqb}
 use lib.ListN.{length, getD}
 use borrow.Author.Tests.{not-true, not-false}
-use Rattle.logic.specs.Formula.{Sort, Formula}
-use Rattle.logic.specs.Names as Names
-use Rattle.logic.specs.Names.{only, isReg, notReg}
-use Rattle.logic.specs.Eval.{bounded}
-use Rattle.logic.proofs.Base.{is-true}
+use Rattle.semantics.specs.Formula.{Sort, Formula}
+use Rattle.semantics.specs.Names as Names
+use Rattle.semantics.specs.Names.{only, isReg, notReg}
+use Rattle.semantics.specs.Eval.{bounded}
+use Rattle.semantics.proofs.Base.{is-true}
 use Rattle.formula.specs.Codes as Codes
 use Rattle.limits.specs.Limits.{nesting}
 use Rattle.formula.specs.Tree.{Tree, parseTree}

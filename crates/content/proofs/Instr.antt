@@ -7,10 +7,10 @@ use native.Mathlib.Omega.{arith}
 use lib.Dec.{eqb}
 use lib.ListN.{getD}
 use borrow.Author.Tests.{eqb-true, ne-eqb, le-ltb, lt-leb}
-use Rattle.logic.specs.Formula.{Sort}
+use Rattle.semantics.specs.Formula.{Sort}
 use Rattle.logic.specs.Opcode as Opcode
-use Rattle.logic.specs.Replace.{Note}
-use Rattle.logic.specs.Machine.{Access, Instr, Instr.act, Instr.branch}
+use Rattle.semantics.specs.Replace.{Note}
+use Rattle.semantics.specs.Machine.{Access, Instr, Instr.act, Instr.branch}
 use Rattle.logic.specs.Statement.{isBranch, isPair}
 use Rattle.program.specs.declared.sizes.Sizes.{Sizes}
 use Rattle.program.specs.declared.instruction.Half.{Half}

@@ -7,15 +7,15 @@ use native.Mathlib.Omega.{arith}
 use lib.Dec.{T, eqb, ltb, lt→ltb}
 use lib.ListN.{length, getD, drop, List·getD-eq-default}
 use borrow.Author.Tests.{eqb-true, eqb-false, ltb-true, ltb-false, ne-eqb, le-leb, not-true}
-use Rattle.logic.specs.Base as Base
-use Rattle.logic.specs.Base.{Within}
-use Rattle.logic.specs.Formula.{Sort, Assertion}
+use Rattle.semantics.specs.Base as Base
+use Rattle.semantics.specs.Base.{Within}
+use Rattle.semantics.specs.Formula.{Sort, Assertion}
 use Rattle.logic.specs.Opcode as Opcode
-use Rattle.logic.specs.Names as Names
-use Rattle.logic.specs.Eval.{bounded}
-use Rattle.logic.specs.Machine.{Program}
+use Rattle.semantics.specs.Names as Names
+use Rattle.semantics.specs.Eval.{bounded}
+use Rattle.semantics.specs.Machine.{Program}
 use Rattle.logic.specs.Statement.{triple, pair, isBranch, isPair, admittedAt, admitted}
-use Rattle.logic.proofs.Base.{and-both}
+use Rattle.semantics.proofs.Base.{and-both}
 use Rattle.limits.specs.Limits as Limits
 use Rattle.limits.specs.Numbers.{word, numbers, within, every}
 use Rattle.limits.proofs.Numbers.{numbers-length}
@@ -34,7 +34,7 @@ use Rattle.records.specs.Tally.{obligationCount}
 use Rattle.bodies.specs.Lists.{outlinedAt, obligations}
 use Rattle.bodies.specs.Line.{sortAt, sortedBy, lineSorted, line}
 use Rattle.trees.specs.Place as Place
-use Rattle.certificate.proofs.FitT.{boundedSides}
+use Rattle.certificate.proofs.Bounded.{boundedSides}
 use Rattle.content.specs.Formula.{formula}
 use Rattle.content.specs.Program.{pointCount, programOf}
 use Rattle.content.specs.Certificate.{left, right, saying, lineBody}

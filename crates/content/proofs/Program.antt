@@ -7,16 +7,16 @@ use native.Mathlib.Omega.{arith}
 use lib.Dec.{T, eqb, leb, ltb, le→leb, lt→ltb}
 use lib.ListN.{length, getD}
 use borrow.Author.Tests.{eqb-true, ne-eqb, le-leb, lt-leb, le-ltb, not-true}
-use Rattle.logic.specs.Base as Base
-use Rattle.logic.specs.Base.{Within}
-use Rattle.logic.specs.Formula.{Sort}
-use Rattle.logic.specs.Names as Names
-use Rattle.logic.specs.Names.{only, isReg, notReg}
-use Rattle.logic.specs.Eval.{bounded}
+use Rattle.semantics.specs.Base as Base
+use Rattle.semantics.specs.Base.{Within}
+use Rattle.semantics.specs.Formula.{Sort}
+use Rattle.semantics.specs.Names as Names
+use Rattle.semantics.specs.Names.{only, isReg, notReg}
+use Rattle.semantics.specs.Eval.{bounded}
 use Rattle.logic.specs.Opcode as Opcode
-use Rattle.logic.specs.Machine.{Program}
+use Rattle.semantics.specs.Machine.{Program}
 use Rattle.logic.specs.WellFormed.{proper, WellFormed}
-use Rattle.logic.proofs.Base.{and-both}
+use Rattle.semantics.proofs.Base.{and-both}
 use Rattle.limits.specs.Limits as Limits
 use Rattle.limits.specs.Numbers.{nth, numbers, within, every}
 use Rattle.limits.proofs.Numbers.{numbers-length}

@@ -3,8 +3,8 @@ use mathlib.Core.Path.{_≡_, refl}
 use mathlib.Core.Bool.{true, false}
 use mathlib.Core.List.{List, [], _∷_, map}
 use Prim.Native.Nat.{ℕ}
-use Rattle.logic.specs.Formula.{Sort}
-use Rattle.logic.specs.Machine.{Mode.store, Mode.swap, Mode.exchange, Mode.fetchAdd, Access.none, Access.load, Access.write, Instr, Instr.act, Instr.branch}
+use Rattle.semantics.specs.Formula.{Sort}
+use Rattle.semantics.specs.Machine.{Mode.store, Mode.swap, Mode.exchange, Mode.fetchAdd, Access.none, Access.load, Access.write, Instr, Instr.act, Instr.branch}
 use Rattle.logic.specs.Statement.{Statement, inside, implies, triple, taking}
 use Rattle.limits.specs.Numbers.{word}
 use Rattle.program.specs.declared.sizes.Sizes.{Sizes}

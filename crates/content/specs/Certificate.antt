@@ -2,7 +2,7 @@
 use mathlib.Core.List.{List, []}
 use Prim.Native.Nat.{ℕ, _+_}
 use lib.ListN.{getD, drop}
-use Rattle.logic.specs.Formula.{Sort}
+use Rattle.semantics.specs.Formula.{Sort}
 use Rattle.logic.specs.Statement.{Statement, inside, implies, triple, taking}
 use Rattle.limits.specs.Numbers.{word}
 use Rattle.program.specs.declared.sizes.Sizes.{Sizes}

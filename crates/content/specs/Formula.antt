@@ -2,7 +2,7 @@
 use mathlib.Core.List.{List, []}
 use Prim.Native.Nat.{ℕ}
 use lib.ListN.{getD}
-use Rattle.logic.specs.Formula.{Sort, Formula}
+use Rattle.semantics.specs.Formula.{Sort, Formula}
 use Rattle.thread_bodies.specs.Use.{treeOf}
 use Rattle.trees.specs.ToTree.{ofTree}
 

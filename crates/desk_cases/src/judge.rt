@@ -11,6 +11,7 @@ use service::rights::Service;
 use stored::case::Next;
 use stored::case::read_case;
 use stored::end::End;
+use stored::space::space_for_body;
 use stored::tally::Judged;
 use stored::tally::Tally;
 use stored::tally::no_case;
@@ -31,9 +32,6 @@ use stored_turns::turn::numbers_at;
 use stored_turns::turn::set_at;
 use stored_turns::turn::tariff_at;
 ghost use mathlib.Core.Path.{_≡_};
-ghost use Prim.Native.Nat.{_+_};
-ghost use lib.ListN.{length};
-ghost use Rattle.limits.specs.Limits.{imageBytes};
 ghost use Rattle.requests.specs.Promise.{BillServed};
 ghost use Rattle.stored.specs.Tallied.{FromCases};
 ghost use Rattle.stored_turns.specs.Turn.{callerAt, tariffAt};
@@ -141,19 +139,6 @@ fn with_turn<'a, 'b, 'c>(t: Tally, service: &'a mut [u32], body: &'b [u8], s: &'
         Deed::ReplayAcross => with_across(t, service, body, s),
         Deed::Other => with_case(t, Number::OTHER, false),
     }
-}
-
-// A byte more than an image may have.
-struct Space;
-
-impl Space {
-    pub const BYTES: usize = Limits::IMAGE_BYTES + 1;
-}
-
-fn space_for_body() -> [u8; Space::BYTES]
-    ensures { λ r. ⌜ imageBytes + 1 ≡ length r ⌝ }
-{
-    [0; Space::BYTES]
 }
 
 // Before the first turn nobody has a right.

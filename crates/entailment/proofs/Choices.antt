@@ -9,9 +9,9 @@ use lib.ListN.{length, getD, set, replicate, length-set, List·getD-eq-default}
 use lib.Seq.{getD-set-same, getD-set-other, ext-getD}
 use lib.Dec.{T, eqb, ltb}
 use borrow.Author.Tests.{lt-ltb, le-ltb, eqb-true, eqb-false, ltb-true, ltb-false}
-use Rattle.logic.specs.Base.{all}
+use Rattle.semantics.specs.Base.{all}
 use Rattle.logic.specs.Rows.{choose, allBelow, allRows, rowCount}
-use Rattle.logic.proofs.Base.{bool-ext, and-left, and-right, and-both}
+use Rattle.semantics.proofs.Base.{bool-ext, and-left, and-right, and-both}
 use Rattle.logic.proofs.Rows.{allBelow-at}
 use Rattle.formula.specs.Tree.{Tree}
 use Rattle.compare.specs.Same.{sameTree}

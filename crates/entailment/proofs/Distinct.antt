@@ -8,11 +8,11 @@ use native.Mathlib.Nat.{mul-comm, mul-le-mul, pow-suc}
 use lib.ListN.{length}
 use lib.Dec.{eqb, ltb, leb}
 use borrow.Author.Tests.{lt-ltb, le-ltb, ltb-true, ltb-false, lt-leb}
-use Rattle.logic.specs.Code
-use Rattle.logic.specs.Code.{byte}
+use Rattle.semantics.specs.Code
+use Rattle.semantics.specs.Code.{byte}
 use Rattle.logic.specs.Rows.{isIn, distinct, allRows, rowCount}
 use Rattle.logic.proofs.Rows.{Equality}
-use Rattle.logic.proofs.Base.{is-true}
+use Rattle.semantics.proofs.Base.{is-true}
 use Rattle.formula.specs.Codes.{member}
 use Rattle.formula.specs.Tree.{Tree, none, node}
 use Rattle.compare.specs.Same.{sameTree}

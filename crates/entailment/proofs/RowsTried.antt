@@ -9,7 +9,7 @@ use native.Mathlib.Nat.{one-mul}
 use lib.ListN.{length, getD, set, take, replicate}
 use lib.Dec.{eqb, ltb}
 use borrow.Author.Tests.{le-leb, lt-leb, ltb-true, ltb-false}
-use Rattle.logic.specs.Base.{all}
+use Rattle.semantics.specs.Base.{all}
 use Rattle.logic.specs.Rows.{allRows, rowCount}
 use Rattle.compare.specs.Same.{sameTree}
 use Rattle.leaves.specs.Slots.{slots, slotTree, numbers, slotAt, slotFrom, kept}

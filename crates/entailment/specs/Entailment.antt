@@ -4,7 +4,7 @@ use mathlib.Core.List.{List, [], _∷_, _++_}
 use mathlib.Core.Bool.{Bool, true, false, not, _||_, cond}
 use lib.ListN.{getD}
 use lib.Dec.{eqb}
-use Rattle.logic.specs.Base.{all}
+use Rattle.semantics.specs.Base.{all}
 use Rattle.formula.specs.Tree.{Tree, parseTree}
 use Rattle.leaves.specs.Gather.{Gathered, keys, leavesT, gatherT}
 use Rattle.columns.specs.Column.{column}

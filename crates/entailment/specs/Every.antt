@@ -4,7 +4,7 @@ use mathlib.Core.List.{List, _∷_}
 use mathlib.Core.Bool.{Bool, false, _&&_}
 use lib.ListN.{set, replicate}
 use lib.Dec.{leb}
-use Rattle.logic.specs.Base.{all}
+use Rattle.semantics.specs.Base.{all}
 use Rattle.logic.specs.Rows.{allRows, everyRow, rowCount, distinct}
 use Rattle.compare.specs.Same.{sameTree}
 use Rattle.leaves.specs.Slots.{slots, slotAt}

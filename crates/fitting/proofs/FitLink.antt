@@ -8,7 +8,7 @@ use native.Mathlib.Omega.{arith}
 use lib.Dec.{eqb, leb}
 use lib.ListN.{length}
 use borrow.Author.Tests.{eqb-true, eqb-false, eq-eqb, ne-eqb, lt-ltb}
-use Rattle.logic.specs.Base.{all}
+use Rattle.semantics.specs.Base.{all}
 use Rattle.logic.specs.Opcode
 use Rattle.logic.specs.Rule.{Rule}
 use Rattle.patterns.specs.Rules.{Shape, Premises, these, implications, row}
@@ -21,8 +21,10 @@ use Rattle.matcher.specs.Template.{shapes}
 use Rattle.matcher.specs.declared.bind.Bind.{Bind}
 use Rattle.matcher.specs.declared.whole.Whole.{Whole}
 use Rattle.matcher.proofs.Follow.{Sized, given, when-given}
-use Rattle.certificate.specs.FitT as FitT
-use Rattle.certificate.specs.FitT.{TreeConclusion, hoare, paired, implication, formOf, matchLine, matchAll, isImplication, preset, operationT, restT, answer, fitsT}
+use Rattle.trees.specs.Said as Said
+use Rattle.tree_rules.specs.FitT as FitT
+use Rattle.trees.specs.Said.{TreeConclusion, hoare, paired, implication, formOf}
+use Rattle.tree_rules.specs.FitT.{matchLine, matchAll, isImplication, preset, operationT, restT, answer, fitsT}
 use Rattle.program.specs.Instruction.{firstOperation}
 use Rattle.lookups.specs.Trees.{actingAt}
 use Rattle.lookups.specs.declared.line.Line.{Line}
@@ -136,7 +138,7 @@ module _ (s : List ℕ) (n : Rule) (l : Line) (named : l .rule ≡ numberOf n) (
   abbrev w : Code.Rule
   w = ruleRow (l .rule)
 
-  abbrev A : FitT.Acting
+  abbrev A : Said.Acting
   A = actingAt s a
 
   -- the row of its rule

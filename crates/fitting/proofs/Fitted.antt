@@ -5,9 +5,9 @@ use mathlib.Core.List.{List, [], _∷_, map}
 use Prim.Native.Nat.{ℕ, _-_, _≤_}
 use native.Mathlib.Omega.{arith}
 use lib.ListN.{length}
-use Rattle.logic.specs.Base.{Within}
+use Rattle.semantics.specs.Base.{Within}
 use Rattle.logic.specs.Opcode
-use Rattle.logic.specs.Machine.{Program, Mode.store, Mode.swap, Mode.exchange, Mode.fetchAdd, Access.none, Access.load, Access.write, Instr, Instr.act, Instr.branch}
+use Rattle.semantics.specs.Machine.{Program, Mode.store, Mode.swap, Mode.exchange, Mode.fetchAdd, Access.none, Access.load, Access.write, Instr, Instr.act, Instr.branch}
 use Rattle.logic.specs.Statement.{Statement, first}
 use Rattle.patterns.specs.Fits.{opcode}
 use Rattle.limits.specs.Limits as Limits
@@ -16,10 +16,11 @@ use Rattle.frames.specs.Records.{bodies}
 use Rattle.program.specs.declared.sizes.Sizes.{Sizes}
 use Rattle.records.specs.Line.{premises}
 use Rattle.records.specs.Places.{instructionOf}
-use Rattle.certificate.specs.FitT as FitT
-use Rattle.certificate.specs.FitT.{TreeConclusion, concluded, acting, fitsT}
+use Rattle.trees.specs.Said as Said
+use Rattle.trees.specs.Said.{TreeConclusion, concluded, acting}
+use Rattle.tree_rules.specs.FitT.{fitsT}
 use Rattle.certificate.specs.Lines.{Certificate, lineFits}
-use Rattle.certificate.proofs.FitT.{bridge}
+use Rattle.tree_rules.proofs.FitT.{bridge}
 use Rattle.content.specs.Certificate.{lineBody, certificateOf}
 use Rattle.lookups.specs.Places.{lineIn}
 use Rattle.content.specs.Program.{programOf}
@@ -118,9 +119,9 @@ module _ (s : List ℕ) (z : Sizes) (c : Checks z (bodies s)) where
     acting-known : Known (actingIn s z its)
     unfolding actingIn
     acting-known = record {
-      operation = subst (λ (k : ℕ). k ≤ Opcode.assignTwo) (ap (λ (a : FitT.Acting). a .operation) acting-concluded)
+      operation = subst (λ (k : ℕ). k ≤ Opcode.assignTwo) (ap (λ (a : Said.Acting). a .operation) acting-concluded)
           (opcode-known (first (P .code (its .thread) (its .point))));
-      whole = subst (λ (k : ℕ). k ≤ Opcode.assignTwo) (ap (λ (a : FitT.Acting). a .whole) acting-concluded)
+      whole = subst (λ (k : ℕ). k ≤ Opcode.assignTwo) (ap (λ (a : Said.Acting). a .whole) acting-concluded)
           (opcode-known (P .code (its .thread) (its .point)));
       first = acting-first s (instructionOf z l (its .thread) (its .point));
     }
@@ -138,7 +139,7 @@ module _ (s : List ℕ) (z : Sizes) (c : Checks z (bodies s)) where
         (ap (λ (v : TreeConclusion). v .thread) (conclusion-trees s z c n w))
         (ap (λ (v : TreeConclusion). v .point) (conclusion-trees s z c n w))
 
-    abbrev fitted : FitT.Acting → TreeConclusion → List TreeConclusion → Bool
+    abbrev fitted : Said.Acting → TreeConclusion → List TreeConclusion → Bool
     fitted a v vs = fitsT (setupIn s) a (ruleOf (its .rule)) v vs
 
     whole-is : actingIn s z its .whole ≡ operationAt s z its
@@ -154,5 +155,5 @@ module _ (s : List ℕ) (z : Sizes) (c : Checks z (bodies s)) where
         ∙ ap (λ (op : ℕ). fitted (actingAt s (actingIn s z its)) (concludedAt s (conclusionBy its op)) (says s p)) whole-is
         ∙ ap₂ (λ (v : TreeConclusion) (vs : List TreeConclusion). fitted (actingAt s (actingIn s z its)) v vs)
         (conclusion-trees s z c n w) premises-concluded
-        ∙ ap (λ (a : FitT.Acting). fitted a (concluded S) (map concluded (map (λ m. C .line m .says) ps))) acting-there
+        ∙ ap (λ (a : Said.Acting). fitted a (concluded S) (map concluded (map (λ m. C .line m .says) ps))) acting-there
         ∙ bridge P (range-two z l c) (ruleOf (its .rule)) S (map (λ m. C .line m .says) ps) (line-bounded z l c n (w .0) (w .1))

@@ -13,7 +13,8 @@ use Rattle.formula.specs.Tree.{parseTree}
 use Rattle.compare.specs.Replace.{NoteT}
 use Rattle.matcher.specs.Places.{takenOf}
 use Rattle.matcher.proofs.Follow.{Sized}
-use Rattle.certificate.specs.FitT.{Acting, preset}
+use Rattle.trees.specs.Said.{Acting}
+use Rattle.tree_rules.specs.FitT.{preset}
 use Rattle.fitting.specs.Preset.{presetAt}
 
 pub preset-is : (t x r f : ℕ) → record {

@@ -1,19 +1,19 @@
 // The entry point, for C and Rust.
 use crate::permit::Handover;
 use crate::permit::handover_code;
-use checker::acceptance::Acceptance;
 use checker::acceptance::accept_image;
 use index::table::IndexSize;
 use program::sizes::Sizes;
+use promise::acceptance::Acceptance;
 ghost use mathlib.Core.Path.{_≡_};
 ghost use lib.ListN.{replicate};
 ghost use Rattle.index.specs.Table.{tableSize, indexOf};
 ghost use Rattle.image.specs.Decode.{decoded};
 ghost use Rattle.image.specs.declared.decode.Decoded.the-variants.{Sound};
-ghost use Rattle.checker.specs.Acceptance.{acceptance};
-ghost use Rattle.checker.specs.declared.acceptance.Acceptance.the-variants.{Granted};
-ghost use Rattle.handover.specs.Code.{byAcceptance};
-ghost use Rattle.handover.specs.Promise.{Promise};
+ghost use Rattle.promise.specs.Acceptance.{acceptance};
+ghost use Rattle.promise.specs.declared.acceptance.Acceptance.the-variants.{Granted};
+ghost use Rattle.handover_promise.specs.Code.{byAcceptance};
+ghost use Rattle.handover_promise.specs.Promise.{Promise};
 
 // The old image is accepted. With a table of zeros, as long as the new image asks for.
 fn code_by<'a, 'b, 'c, 'd, 'e>(

@@ -16,7 +16,7 @@ ghost use Rattle.image.specs.declared.decode.Decoded.the-variants.{Sound};
 ghost use Rattle.content.specs.Image.{imageOf};
 ghost use Rattle.lookups.specs.Totals.{totalsOf};
 ghost use Rattle.justify.specs.Pass.{marksTo};
-ghost use Rattle.handover.specs.Code.{codeBetween, codeOf};
+ghost use Rattle.handover_promise.specs.Code.{codeBetween, codeOf};
 ghost use Rattle.handover_lines.specs.Found.{threadsServe};
 
 pub struct Handover;

@@ -7,7 +7,7 @@ use native.Mathlib.Omega.{arith}
 use native.Mathlib.Numerals.{add-one}
 use lib.ListN.{getD, drop}
 use borrow.Author.Tests.{le-ltb, ne-eqb}
-use Rattle.logic.specs.Formula.{sameBytes}
+use Rattle.semantics.specs.Formula.{sameBytes}
 use Rattle.limits.specs.Numbers.{word, numbers}
 use Rattle.frames.specs.Records.{bodies}
 use Rattle.program.specs.declared.sizes.Sizes.{Sizes}

@@ -8,8 +8,8 @@ use lib.Dec.{T, eqb, eqb→eq, eqb-refl}
 use lib.ListN.{length, getD}
 use borrow.Author.Tests.{eqb-true, eqb-false}
 use lib.Seq.{ext-getD}
-use Rattle.logic.specs.Formula.{sameBytes}
-use Rattle.logic.proofs.Base.{and-left, and-right, and-both, holds-true, is-true}
+use Rattle.semantics.specs.Formula.{sameBytes}
+use Rattle.semantics.proofs.Base.{and-left, and-right, and-both, holds-true, is-true}
 
 same-equal : (a b : List ℕ) → T (sameBytes a b) → a ≡ b
 same-equal [] [] h = refl

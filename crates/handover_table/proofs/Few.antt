@@ -16,7 +16,7 @@ use Rattle.lookups.specs.Totals.{totalsOf}
 use Rattle.lookups.specs.declared.totals.Totals.{Totals}
 use Rattle.content.proofs.Checked.{Checks, sound-checks}
 use Rattle.content.proofs.Program.{points-few}
-use Rattle.checker.proofs.Uncut.{few-threads}
+use Rattle.promise.proofs.Uncut.{few-threads}
 use Rattle.handover_table.specs.Table.{pointsTo, mostPoints}
 
 pub points-are : (z : Sizes) (l : List (List ℕ)) (n : ℕ) → tallyTo z l n .points ≡ pointsTo (programOf z l) n

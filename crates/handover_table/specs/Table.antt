@@ -3,7 +3,7 @@ use mathlib.Core.Bool.{Bool, true, _&&_}
 use mathlib.Core.List.{List}
 use Prim.Native.Nat.{ℕ, zero, suc, _+_, _-_, _*_}
 use lib.ListN.{getD, drop}
-use Rattle.logic.specs.Machine.{Program}
+use Rattle.semantics.specs.Machine.{Program}
 use Rattle.limits.specs.Limits as Limits
 use Rattle.limits.specs.Numbers.{word}
 use Rattle.across.specs.Handover.{NewPoint}

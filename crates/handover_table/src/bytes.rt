@@ -1,7 +1,7 @@
 // Two byte strings compared.
 use limits::read::octet_at;
 ghost use mathlib.Core.Path.{_≡_};
-ghost use Rattle.logic.specs.Formula.{sameBytes};
+ghost use Rattle.semantics.specs.Formula.{sameBytes};
 
 pub fn same_bytes<'a, 'b>(a: &'a [u8], b: &'b [u8]) -> bool
     ensures { λ r. ⌜ r ≡ sameBytes (now (a .entry)) (now (b .entry)) ⌝ }

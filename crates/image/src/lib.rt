@@ -1,4 +1,3 @@
 // The whole image: the first fault with its record, or what the image says.
 pub mod body;
-pub mod code;
 pub mod decode;

@@ -7,7 +7,7 @@ use native.Mathlib.Numerals.{add-one}
 use native.Mathlib.Omega.{arith}
 use lib.Dec.{eqb}
 use borrow.Author.Tests.{eqb-false, eq-eqb, ne-eqb}
-use Rattle.logic.specs.Base.{All, Within}
+use Rattle.semantics.specs.Base.{All, Within}
 use Rattle.patterns.specs.Fits.{sameStatement}
 use Rattle.logic.specs.Obligations as Logic
 use Rattle.logic.specs.Obligations.{obligations}
@@ -30,8 +30,8 @@ use Rattle.wanting.specs.Wanted.{wantedClaim}
 use Rattle.wanted.specs.Concluding.{meets, concludesAt, sustainedAt, codeAt}
 use Rattle.outcomes.specs.Claims.{firstDenied}
 use Rattle.outcomes.specs.Judge.{judgeOne, next, judged, judgeAt, toOutcome}
-use Rattle.wanted.proofs.Asked.{InRange, concludes-asked, claim-asked}
-use Rattle.judging.proofs.Ranged.{obligations-ranged}
+use Rattle.wanted.proofs.Asked.{concludes-asked, claim-asked}
+use Rattle.outline.proofs.Ranged.{InRange, obligations-ranged}
 
 borne-same : (a b c : Bool) → cond a false (cond b c false) ≡ eqb (codeOf a b c) 0
 borne-same true b c = refl

@@ -7,9 +7,9 @@ use native.Mathlib.Omega.{arith}
 use lib.Dec.{T, eqb}
 use lib.ListN.{length, getD}
 use borrow.Author.Tests.{eqb-true, eqb-false}
-use Rattle.logic.specs.Base.{all}
-use Rattle.logic.specs.Machine.{Program}
-use Rattle.logic.proofs.Base.{bool-ext}
+use Rattle.semantics.specs.Base.{all}
+use Rattle.semantics.specs.Machine.{Program}
+use Rattle.semantics.proofs.Base.{bool-ext}
 use Rattle.limits.specs.Limits as Limits
 use Rattle.frames.specs.Records.{bodies}
 use Rattle.program.specs.declared.sizes.Sizes.{Sizes}

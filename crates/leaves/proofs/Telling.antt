@@ -5,7 +5,7 @@ use mathlib.Core.List.{List, [], _∷_}
 use mathlib.Core.Bool.{Bool, true, false, cond, true≢false}
 use native.Mathlib.Omega.{arith}
 use lib.ListN.{length}
-use Rattle.logic.specs.Base.{All}
+use Rattle.semantics.specs.Base.{All}
 use Rattle.formula.specs.Tree.{ParsedTree, nodeAt, parseTree}
 use Rattle.formula.specs.declared.node.Node.{Node}
 use Rattle.compare.specs.Same.{sameTree, sameOf, pairOf, pairAt}

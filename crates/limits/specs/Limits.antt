@@ -1,6 +1,6 @@
 -- How much an image may hold. What the logic knows too is taken from there.
 use Prim.Native.Nat.{ℕ, _+_}
-use Rattle.logic.specs.Limits as Logic
+use Rattle.semantics.specs.Limits as Logic
 
 -- values are 0 up to one below the range, which is one of these
 abbrev pub fewestValues : ℕ

@@ -6,15 +6,15 @@ use mathlib.Core.Logic.{inl, inr}
 use Prim.Native.Nat.{ℕ, zero, suc}
 use lib.Dec.{T, eqb, ltb}
 use lib.ListN.{take, drop}
-use Rattle.logic.proofs.Base.{and-left, and-right, all-All, All-left, All-right, all-left, all-right}
-use Rattle.logic.proofs.Cuts.{All-take, All-drop, All-map}
-use Rattle.logic.specs.Base.{All, all}
-use Rattle.logic.specs.Eval.{Env, onRegs, value, test}
-use Rattle.logic.specs.Formula.{Formula, Value, Test, Interval, Assertion, Formula.const, Formula.reg, Formula.word, Formula.sum, Formula.equal, Formula.less, Formula.and, Formula.or, Formula.unsync, Formula.cov, Formula.box, Formula.one, Formula.chop, Formula.both, Formula.either, Formula.sees, Formula.bothA, Formula.eitherA, Formula.start, Formula.holds}
-use Rattle.logic.specs.Machine.{View, State, Program}
-use Rattle.logic.specs.Names.{Name, n-reg, n-word, n-unsync, n-cov, names, only, startless}
-use Rattle.logic.specs.Truth.{Sat, Sees, True}
-use Rattle.logic.proofs.World.{World, world, Seen, Truth, true-world, world-true}
+use Rattle.semantics.proofs.Base.{and-left, and-right, all-All, All-left, All-right, all-left, all-right}
+use Rattle.semantics.proofs.Cuts.{All-take, All-drop, All-map}
+use Rattle.semantics.specs.Base.{All, all}
+use Rattle.semantics.specs.Eval.{Env, onRegs, value, test}
+use Rattle.semantics.specs.Formula.{Formula, Value, Test, Interval, Assertion, Formula.const, Formula.reg, Formula.word, Formula.sum, Formula.equal, Formula.less, Formula.and, Formula.or, Formula.unsync, Formula.cov, Formula.box, Formula.one, Formula.chop, Formula.both, Formula.either, Formula.sees, Formula.bothA, Formula.eitherA, Formula.start, Formula.holds}
+use Rattle.semantics.specs.Machine.{View, State, Program}
+use Rattle.semantics.specs.Names.{Name, n-reg, n-word, n-unsync, n-cov, names, only, startless}
+use Rattle.semantics.specs.Truth.{Sat, Sees, True}
+use Rattle.semantics.proofs.World.{World, world, Seen, Truth, true-world, world-true}
 
 -- the name stands for the same
 abbrev pub Same : Env → Env → Name → Type 0

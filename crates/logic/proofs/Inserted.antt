@@ -7,14 +7,14 @@ use Prim.Native.Nat.{ℕ, zero, suc, _≤_, _<_}
 use native.Mathlib.Omega.{arith}
 use lib.Dec.{T, ltb, lt→ltb, ltb→lt}
 use Rattle.logic.proofs.Agreement.{Same, transport, All-every}
-use Rattle.logic.proofs.Base.{bool-ext, upd-same, upd-other, by-word, upds, not-eqb, up-is, down-is}
-use Rattle.logic.proofs.Halves.{downView, put}
-use Rattle.logic.proofs.Invariant.{Wf}
-use Rattle.logic.specs.Base.{Within}
-use Rattle.logic.specs.Formula.{Interval}
-use Rattle.logic.specs.Machine.{View, State, Write, Program, up, down, upView, upWrite, moveTo, at, later}
-use Rattle.logic.specs.Names.{only, notWord, Name, n-reg, n-word, n-unsync, n-cov}
-use Rattle.logic.specs.Truth.{From, Prospect, Names, Sees}
+use Rattle.semantics.proofs.Base.{bool-ext, upd-same, upd-other, by-word, upds, not-eqb, up-is, down-is}
+use Rattle.semantics.proofs.Halves.{downView, put}
+use Rattle.semantics.proofs.Invariant.{Wf}
+use Rattle.semantics.specs.Base.{Within}
+use Rattle.semantics.specs.Formula.{Interval}
+use Rattle.semantics.specs.Machine.{View, State, Write, Program, up, down, upView, upWrite, moveTo, at, later}
+use Rattle.semantics.specs.Names.{only, notWord, Name, n-reg, n-word, n-unsync, n-cov}
+use Rattle.semantics.specs.Truth.{From, Prospect, Names, Sees}
 
 -- a test is the other where each gives the other
 pub same-test : (a b c d : ℕ) → (b < a → d < c) → (d < c → b < a) → ltb b a ≡ ltb d c

@@ -4,11 +4,11 @@ use mathlib.Core.Logic.{inl, inr}
 use Prim.Native.Nat.{ℕ, _+_, _-_, min}
 use lib.ListN.{take, drop, length}
 use lib.Seq.{drop-length, take-length, drop-drop}
-use Rattle.logic.proofs.Cuts.{take-take-comm, drop-take, drop-drop-sub, take-min, take-drop-min, drop-drop-min, take-take-add, drop-take-add, All-take, All-drop, All-join}
-use Rattle.logic.specs.Eval.{Env}
-use Rattle.logic.specs.Formula.{Test, Interval, Formula.box, Formula.one, Formula.chop, Formula.both, Formula.either}
-use Rattle.logic.specs.Machine.{View}
-use Rattle.logic.specs.Truth.{Sat}
+use Rattle.semantics.proofs.Cuts.{take-take-comm, drop-take, drop-drop-sub, take-min, take-drop-min, drop-drop-min, take-take-add, drop-take-add, All-take, All-drop, All-join}
+use Rattle.semantics.specs.Eval.{Env}
+use Rattle.semantics.specs.Formula.{Test, Interval, Formula.box, Formula.one, Formula.chop, Formula.both, Formula.either}
+use Rattle.semantics.specs.Machine.{View}
+use Rattle.semantics.specs.Truth.{Sat}
 
 module _ (R : ℕ) (ρ : View → Env) where
   pub sat-empty : (i : Interval) → Sat R ρ i []

@@ -9,18 +9,18 @@ use lib.Dec.{T, eqb, leb, eqb-refl}
 use lib.ListN.{take, drop}
 use borrow.Author.Tests.{leb-true, leb-false}
 use Rattle.logic.proofs.Agreement.{transport, only-any}
-use Rattle.logic.proofs.Base.{by-word, upds, later-none, is-within, down-is}
-use Rattle.logic.proofs.Cuts.{All-map}
+use Rattle.semantics.proofs.Base.{by-word, upds, later-none, is-within, down-is}
+use Rattle.semantics.proofs.Cuts.{All-map}
 use Rattle.logic.proofs.Inserted.{Insertion, result, old, row-new, result-same, result-prospect, result-kept, result-wf}
 use Rattle.logic.proofs.Intervals.{sat-empty}
-use Rattle.logic.proofs.Prospects.{from-take, from-drop, from-all}
-use Rattle.logic.specs.Base.{All, Within}
-use Rattle.logic.specs.Eval.{value, test}
-use Rattle.logic.specs.Formula.{Value, Interval, Formula.word, Formula.equal, Formula.unsync, Formula.box, Formula.chop}
+use Rattle.semantics.proofs.Prospects.{from-take, from-drop, from-all}
+use Rattle.semantics.specs.Base.{All, Within}
+use Rattle.semantics.specs.Eval.{value, test}
+use Rattle.semantics.specs.Formula.{Value, Interval, Formula.word, Formula.equal, Formula.unsync, Formula.box, Formula.chop}
 use Rattle.logic.specs.Inference.{newest}
-use Rattle.logic.specs.Machine.{View, State, Write, Program, moveTo, at, later}
-use Rattle.logic.specs.Names.{only, notWord, names}
-use Rattle.logic.specs.Truth.{Sat, From, Sees}
+use Rattle.semantics.specs.Machine.{View, State, Write, Program, moveTo, at, later}
+use Rattle.semantics.specs.Names.{only, notWord, names}
+use Rattle.semantics.specs.Truth.{Sat, From, Sees}
 
 module _ {P : Program} {s : State} (d : Insertion P s) (last : suc (d .p) ≡ s .size (d .x)) where
   -- the list is cut where the new write comes in

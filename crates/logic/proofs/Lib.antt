@@ -1,11 +1,4 @@
-pub mod Base
-pub mod Cuts
-pub mod Encoding
 pub mod Intervals
-pub mod Halves
-pub mod Invariant
-pub mod Prospects
-pub mod World
 pub mod Agreement
 pub mod Replacement
 pub mod Rows
@@ -19,14 +12,8 @@ pub mod Actions
 pub mod Steps
 pub mod Sound
 pub mod Runs
-pub mod Starts
 pub mod Pairs
 pub mod Reordered
 pub mod Order
-pub mod Permitted
-pub mod Computed
+pub mod Acting
 pub mod Paired
-pub mod Flags
-pub mod Meaning
-pub mod Facts
-pub mod Effects

@@ -5,14 +5,15 @@ use mathlib.Core.Bool.{true, false, not}
 use mathlib.Core.List.{List, [], _∷_, map}
 use Prim.Native.Nat.{ℕ}
 use lib.Dec.{eqb}
-use Rattle.logic.specs.Base.{upd}
-use Rattle.logic.specs.Formula.{Value, Formula.const, Formula.reg, Formula.sum, Formula.less, Formula.bothA, Formula.holds}
-use Rattle.logic.specs.Replace.{Note, replace, notes}
-use Rattle.logic.specs.Machine.{Program, Mode.store, Mode.swap, Access.none, Access.write, Instr, Instr.act, Step, begin, run, up, down}
+use Rattle.semantics.specs.Base.{upd}
+use Rattle.semantics.specs.Formula.{Value, Formula.const, Formula.reg, Formula.sum, Formula.less, Formula.bothA, Formula.holds}
+use Rattle.semantics.specs.Replace.{Note, replace, notes}
+use Rattle.semantics.specs.Machine.{Program, Mode.store, Mode.swap, Access.none, Access.write, Instr, Instr.act, Step, begin, run, up, down}
 use Rattle.logic.specs.Statement.{triple, pair}
 use Rattle.logic.specs.Obligations.{step, interference, interferences, wants}
-use Rattle.logic.specs.EveryRun.{Outline}
-use Rattle.logic.proofs.Computed.{yes-no, draw, picture, write-of, by, nothing, at-points, actor}
+use Rattle.semantics.specs.EveryRun.{Outline}
+use Rattle.semantics.proofs.Computed.{yes-no, draw, picture, write-of, by, nothing, at-points}
+use Rattle.logic.proofs.Acting.{actor}
 
 unfoldable pub note : ℕ → Value → Note
 note r f = record { to = r; by = f }

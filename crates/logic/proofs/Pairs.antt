@@ -4,9 +4,9 @@ use mathlib.Core.Bool.{Bool, true, false, not}
 use mathlib.Core.List.{List, [], _∷_}
 use Prim.Native.Nat.{ℕ}
 use lib.Dec.{T}
-use Rattle.logic.specs.Base.{all}
-use Rattle.logic.specs.Formula.{Assertion}
-use Rattle.logic.specs.Machine.{Program}
+use Rattle.semantics.specs.Base.{all}
+use Rattle.semantics.specs.Formula.{Assertion}
+use Rattle.semantics.specs.Machine.{Program}
 use Rattle.logic.specs.Statement.{Statement, inside, implies, triple, pair, isImp}
 use Rattle.logic.specs.Rule.{Rule, r50}
 use Rattle.logic.specs.Inference.{Inference, i1, i2, i3, i4, i5-load, i5-swap, i6, i7, i8, i9, i10, i11, i12, i13, i14, i15, i16, i47, i48, i49, i50, i20, i21, i22, i23, i24, i25, i26, i27, i30, i31, i32, i33, i34, i35, i36, i37, i38, i39, i40, i41, i42, i43, i44, i45, i46}

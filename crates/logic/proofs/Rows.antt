@@ -7,13 +7,13 @@ use native.Mathlib.Omega.{arith}
 use native.Mathlib.Decide.{ℕ-discrete}
 use lib.Dec.{T, T-not, eqb, leb}
 use Rattle.logic.proofs.Agreement.{Same, test-same}
-use Rattle.logic.proofs.Base.{is-true, by-word, and-right, All-left, All-right}
-use Rattle.logic.proofs.Cuts.{All-map}
-use Rattle.logic.specs.Base.{All}
-use Rattle.logic.specs.Eval.{Env, test}
-use Rattle.logic.specs.Formula.{Test}
-use Rattle.logic.specs.Names.{Name, n-reg, n-word, n-unsync, n-cov, Name-discrete, names}
-use Rattle.logic.specs.Limits
+use Rattle.semantics.proofs.Base.{is-true, by-word, and-right, All-left, All-right}
+use Rattle.semantics.proofs.Cuts.{All-map}
+use Rattle.semantics.specs.Base.{All}
+use Rattle.semantics.specs.Eval.{Env, test}
+use Rattle.semantics.specs.Formula.{Test}
+use Rattle.semantics.specs.Names.{Name, n-reg, n-word, n-unsync, n-cov, Name-discrete, names}
+use Rattle.semantics.specs.Limits
 use Rattle.logic.specs.Rows.{same-name, meaning, choices, choose, isIn, distinct, allBelow, allRows, rowCount, everyRow, byRows}
 
 pub allBelow-at : (n : ℕ) (f : ℕ → Bool) → T (allBelow n f) → (k : ℕ) → k < n → T (f k)

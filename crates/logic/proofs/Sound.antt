@@ -8,32 +8,32 @@ use native.Mathlib.Omega.{arith}
 use lib.Dec.{T, eqb, ltb, ltb→lt, leb→le}
 use borrow.Author.Tests.{eq-eqb}
 use lib.ListN.{take, drop}
-use Rattle.logic.specs.Base.{All, all, Within, within}
-use Rattle.logic.specs.Formula.{Value, Test, Interval, Assertion, Formula.const, Formula.reg, Formula.word, Formula.sum, Formula.and, Formula.unsync, Formula.cov, Formula.box, Formula.one, Formula.chop, Formula.sees, Formula.bothA, Formula.eitherA, Formula.holds}
-use Rattle.logic.specs.Names.{Name, n-reg, n-word, n-unsync, n-cov, names, only, isReg, regsIn, notReg, notWord, notFlag, startless, plain}
-use Rattle.logic.specs.Eval.{Env, value, test, onRegs, bounded}
-use Rattle.logic.specs.Replace.{Note, replace, notes, regBy, wordBy}
+use Rattle.semantics.specs.Base.{All, all, Within, within}
+use Rattle.semantics.specs.Formula.{Value, Test, Interval, Assertion, Formula.const, Formula.reg, Formula.word, Formula.sum, Formula.and, Formula.unsync, Formula.cov, Formula.box, Formula.one, Formula.chop, Formula.sees, Formula.bothA, Formula.eitherA, Formula.holds}
+use Rattle.semantics.specs.Names.{Name, n-reg, n-word, n-unsync, n-cov, names, only, isReg, regsIn, notReg, notWord, notFlag, startless, plain}
+use Rattle.semantics.specs.Eval.{Env, value, test, onRegs, bounded}
+use Rattle.semantics.specs.Replace.{Note, replace, notes, regBy, wordBy}
 use Rattle.logic.specs.Table.{Imp}
-use Rattle.logic.specs.Machine
-use Rattle.logic.specs.Machine.{View, State, Program, Mode, Mode.store, Mode.swap, Mode.exchange, Mode.fetchAdd, covers, returns, resultOf, Access, Instr, Instr.act, Instr.branch, Start, at}
-use Rattle.logic.specs.Truth.{Sat, True, Prospect, Sees, Names}
+use Rattle.semantics.specs.Machine
+use Rattle.semantics.specs.Machine.{View, State, Program, Mode, Mode.store, Mode.swap, Mode.exchange, Mode.fetchAdd, covers, returns, resultOf, Access, Instr, Instr.act, Instr.branch, Start, at}
+use Rattle.semantics.specs.Truth.{Sat, True, Prospect, Sees, Names}
 use Rattle.logic.specs.Statement.{Statement, inside, implies, triple, pair, isPair, first, half, admittedAt, admitted, isImp, impOf}
 use Rattle.logic.specs.Rule.{Rule}
 use Rattle.logic.specs.Inference
 use Rattle.logic.specs.Inference.{Inference, newest, freshValue, C, apart, keeps}
 use Rattle.logic.specs.WellFormed.{properValue, lacksResult, properAccess, proper}
-use Rattle.logic.proofs.Base.{upd-same, upd-other, not-eqb, and-left, and-right, and-both, is-true, all-All, map-or}
-use Rattle.logic.proofs.Cuts.{All-take, All-drop, All-map}
+use Rattle.semantics.proofs.Base.{upd-same, upd-other, not-eqb, and-left, and-right, and-both, is-true, all-All, map-or}
+use Rattle.semantics.proofs.Cuts.{All-take, All-drop, All-map}
 use Rattle.logic.proofs.Intervals.{rule-33, rule-34, rule-35, rule-36, rule-37, rule-38}
-use Rattle.logic.proofs.Prospects.{from-all}
+use Rattle.semantics.proofs.Prospects.{from-all}
 use Rattle.logic.proofs.Agreement.{Same, value-agree, test-agree}
 use Rattle.logic.proofs.Rows.{Small, by-rows}
 use Rattle.logic.proofs.Tables.{by-table}
 use Rattle.logic.proofs.Rule20.{rule-20}
 use Rattle.logic.proofs.Registers.{regs-same, given-small}
-use Rattle.logic.proofs.Invariant.{Wf}
-use Rattle.logic.proofs.Halves
-use Rattle.logic.proofs.Halves.{Touch, Touch.none, Touch.load, Touch.write, releases, newValue, touch, into, allNotes, Good, workedAt, memory, finish, untouched}
+use Rattle.semantics.proofs.Invariant.{Wf}
+use Rattle.semantics.proofs.Halves
+use Rattle.semantics.proofs.Halves.{Touch, Touch.none, Touch.load, Touch.write, releases, newValue, touch, into, allNotes, Good, workedAt, memory, finish, untouched}
 use Rattle.logic.proofs.Arrived.{Arrived, Triple}
 use Rattle.logic.proofs.Actions.{write-wf, all-weaken, rule-1, rule-2, rule-3, rule-4, rule-5-load, rule-5-swap, rule-6, rule-7, rule-8, rule-9, rule-10, rule-11, rule-12, rule-13, with-notes, rule-48, rule-49, rule-50}
 

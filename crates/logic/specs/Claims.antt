@@ -4,11 +4,11 @@ use mathlib.Core.Bool.{Bool, true, false}
 use mathlib.Core.List.{List}
 use Prim.Native.Nat.{ℕ}
 use lib.Dec.{ltb}
-use Rattle.logic.specs.Base.{Within}
-use Rattle.logic.specs.Formula.{Formula, Assertion, Formula.bothA, Formula.holds}
-use Rattle.logic.specs.Machine.{State, Program, Start, Step, run}
+use Rattle.semantics.specs.Base.{Within}
+use Rattle.semantics.specs.Formula.{Formula, Assertion, Formula.bothA, Formula.holds}
+use Rattle.semantics.specs.Machine.{State, Program, Start, Step, run}
 use Rattle.logic.specs.Statement.{Statement, implies}
-use Rattle.logic.specs.EveryRun.{Outline}
+use Rattle.semantics.specs.EveryRun.{Outline}
 
 -- two threads, each with a point
 pub record Claim : Type 0 where

@@ -3,12 +3,12 @@ use mathlib.Core.List.{List}
 use Prim.Native.Nat.{ℕ, _<_}
 use lib.Dec.{T}
 use lib.ListN.{length, getD}
-use Rattle.logic.specs.Base.{All}
-use Rattle.logic.specs.Machine.{Program}
+use Rattle.semantics.specs.Base.{All}
+use Rattle.semantics.specs.Machine.{Program}
 use Rattle.logic.specs.Statement.{Statement, admitted}
 use Rattle.logic.specs.Rule.{Rule}
 use Rattle.logic.specs.Inference.{Inference}
-use Rattle.logic.specs.EveryRun.{Outline}
+use Rattle.semantics.specs.EveryRun.{Outline}
 use Rattle.logic.specs.Obligations.{obligations, wants}
 
 -- a statement that some rule gives from premises that are derived

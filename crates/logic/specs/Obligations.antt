@@ -3,10 +3,11 @@ use mathlib.Core.Bool.{true, false}
 use mathlib.Core.List.{List, [], _∷_, _++_, map}
 use Prim.Native.Nat.{ℕ, zero, suc, _-_}
 use lib.Dec.{eqb}
-use Rattle.logic.specs.Formula.{Formula, Formula.bothA, Formula.holds}
-use Rattle.logic.specs.Machine.{Program, Instr, Instr.act, Instr.branch}
+use Rattle.semantics.specs.Formula.{Formula, Formula.bothA, Formula.holds}
+use Rattle.semantics.specs.Base.{below, upTo}
+use Rattle.semantics.specs.Machine.{Program, Instr, Instr.act, Instr.branch}
 use Rattle.logic.specs.Statement.{Statement, implies, taking}
-use Rattle.logic.specs.EveryRun.{Outline}
+use Rattle.semantics.specs.EveryRun.{Outline}
 
 -- class 1: start t. Class 2: step t k, the instruction at point k of t leads to the next point. Class 3: taken t k, a branch leads to its
 -- target.
@@ -16,14 +17,6 @@ pub data Obligation : Type 0 where
   step taken : ℕ → ℕ → Obligation
   interference : ℕ → ℕ → ℕ → ℕ → Obligation
   deriving Discrete as Obligation-discrete
-
--- 0 to n - 1; 1 to n
-abbrev pub below : ℕ → List ℕ
-below zero = []
-below (suc n) = below n ++ (n ∷ [])
-
-abbrev pub upTo : ℕ → List ℕ
-upTo n = map suc (below n)
 
 abbrev pub flat : {A B : Type 0} → (A → List B) → List A → List B
 flat f [] = []

@@ -3,11 +3,11 @@ use mathlib.Core.Bool.{Bool, true, false, not, _&&_}
 use mathlib.Core.List.{[], _∷_}
 use Prim.Native.Nat.{ℕ, suc}
 use lib.Dec.{ltb}
-use Rattle.logic.specs.Base.{within}
-use Rattle.logic.specs.Formula.{Interval, Assertion, Formula.start}
-use Rattle.logic.specs.Names.{startless, plain}
+use Rattle.semantics.specs.Base.{within}
+use Rattle.semantics.specs.Formula.{Interval, Assertion, Formula.start}
+use Rattle.semantics.specs.Names.{startless, plain}
 use Rattle.logic.specs.Table.{Imp}
-use Rattle.logic.specs.Machine.{Program, Access.none, Access.load, Access.write, Instr, Instr.act, Instr.branch}
+use Rattle.semantics.specs.Machine.{Program, Access.none, Access.load, Access.write, Instr, Instr.act, Instr.branch}
 
 -- I in J; P to Q; a Hoare triple of the instruction at a point of a thread, of a pair its first half; a Hoare triple of the whole pair
 pub data Statement : Type 0 where

@@ -4,10 +4,10 @@ use mathlib.Core.List.{List, [], _∷_, _++_}
 use Prim.Native.Nat.{ℕ}
 use lib.Dec.{eqb, leb}
 use lib.ListN.{length}
-use Rattle.logic.specs.Base.{all}
-use Rattle.logic.specs.Limits
+use Rattle.semantics.specs.Base.{all}
+use Rattle.semantics.specs.Limits
 use Rattle.logic.specs.Rows.{distinct, everyRow}
-use Rattle.logic.specs.Formula.{Formula, Test, Assertion, Formula.equal, Formula.less, Formula.and, Formula.or, Formula.unsync, Formula.cov, Formula.sees, Formula.bothA, Formula.eitherA, Formula.start, Formula.holds, same}
+use Rattle.semantics.specs.Formula.{Formula, Test, Assertion, Formula.equal, Formula.less, Formula.and, Formula.or, Formula.unsync, Formula.cov, Formula.sees, Formula.bothA, Formula.eitherA, Formula.start, Formula.holds, same}
 
 -- a test and an assertion, where τ and α say which leaves are true. (Flags do not stand under holds; they would be leaves)
 abbrev pub tableT : (Test → Bool) → Test → Bool

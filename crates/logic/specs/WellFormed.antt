@@ -2,13 +2,13 @@
 use mathlib.Core.Bool.{Bool, true, _&&_}
 use Prim.Native.Nat.{ℕ, suc, _<_}
 use lib.Dec.{T, ltb}
-use Rattle.logic.specs.Base.{all, Within, within}
-use Rattle.logic.specs.Formula.{Value}
-use Rattle.logic.specs.Names.{only, isReg, notReg, startless}
-use Rattle.logic.specs.Replace.{Note}
-use Rattle.logic.specs.Eval.{bounded}
-use Rattle.logic.specs.Machine.{Program, Mode, Mode.store, Mode.swap, Mode.exchange, Mode.fetchAdd, Access, Access.none, Access.load, Access.write, Instr, Instr.act, Instr.branch}
-use Rattle.logic.specs.EveryRun.{Outline}
+use Rattle.semantics.specs.Base.{all, Within, within}
+use Rattle.semantics.specs.Formula.{Value}
+use Rattle.semantics.specs.Names.{only, isReg, notReg, startless}
+use Rattle.semantics.specs.Replace.{Note}
+use Rattle.semantics.specs.Eval.{bounded}
+use Rattle.semantics.specs.Machine.{Program, Mode, Mode.store, Mode.swap, Mode.exchange, Mode.fetchAdd, Access, Access.none, Access.load, Access.write, Instr, Instr.act, Instr.branch}
+use Rattle.semantics.specs.EveryRun.{Outline}
 
 -- an instruction as an image may have it, in a thread of n points: numbers in range (6), formulas over registers (8),
 -- an operand without the result register (23)

@@ -10,12 +10,12 @@ use Rattle.patterns.specs.Rules.{row}
 use Rattle.logic.specs.Rows.{allBelow}
 use Rattle.logic.proofs.Rows.{allBelow-at}
 use Rattle.records.specs.Line.{formOf}
-use Rattle.certificate.specs.FitT as FitT
+use Rattle.trees.specs.Said as Said
 use Rattle.content.specs.Rule.{unlisted, rules, ruleOf}
 use Rattle.lookups.specs.Trees.{formNumber}
 
 abbrev pub rowForm : ℕ → ℕ
-rowForm n = FitT.formOf (row (ruleOf n) .says)
+rowForm n = Said.formOf (row (ruleOf n) .says)
 
 -- the numbers up to the last rule's, one by one
 listed : T (allBelow 51 (λ n. eqb (rowForm n) (formNumber (formOf n))))

@@ -7,10 +7,10 @@ use native.Mathlib.Omega.{arith}
 use lib.Dec.{eqb, leb}
 use lib.ListN.{length, getD}
 use borrow.Author.Tests.{eqb-true, leb-true, ne-eqb}
-use Rattle.logic.specs.Base.{Within}
-use Rattle.logic.specs.Formula.{Sort, Formula.const}
+use Rattle.semantics.specs.Base.{Within}
+use Rattle.semantics.specs.Formula.{Sort, Formula.const}
 use Rattle.logic.specs.Opcode as Opcode
-use Rattle.logic.specs.Machine.{Program}
+use Rattle.semantics.specs.Machine.{Program}
 use Rattle.logic.specs.Statement.{Statement, triple, pair, isPair}
 use Rattle.limits.specs.Numbers.{within}
 use Rattle.frames.specs.Records.{bodies}
@@ -32,8 +32,8 @@ use Rattle.thread_bodies.specs.Thread.{wanted, sorted}
 use Rattle.bodies.specs.Line.{sortAt, sortedBy}
 use Rattle.trees.specs.ToTree.{toTree}
 use Rattle.trees.specs.Place as Place
-use Rattle.certificate.specs.FitT as FitT
-use Rattle.certificate.specs.FitT.{TreeConclusion, concluded, acting}
+use Rattle.trees.specs.Said as Said
+use Rattle.trees.specs.Said.{TreeConclusion, concluded, acting}
 use Rattle.content.specs.Formula.{formula}
 use Rattle.content.specs.Program.{instr, pointCount, programOf, outlineNumber, outlineOf}
 use Rattle.content.specs.Certificate.{left, right, saying, lineBody, certificateOf}
@@ -128,9 +128,9 @@ module _ (s : List ℕ) (z : Sizes) (c : Checks z (bodies s)) where
     ]
 
     taking-is : {u v : Tree} → toTree (formula l Sort.assertion (left b)) ≡ u → toTree (formula l Sort.assertion (right b)) ≡ v → (o : Bool)
-        → concluded (saysTaking o) ≡ says (cond o FitT.paired FitT.hoare) (getD b 1 0) (getD b 2 0) u v
-    taking-is e d true = ap₂ (λ (u v : Tree). says FitT.paired (getD b 1 0) (getD b 2 0) u v) e d
-    taking-is e d false = ap₂ (λ (u v : Tree). says FitT.hoare (getD b 1 0) (getD b 2 0) u v) e d
+        → concluded (saysTaking o) ≡ says (cond o Said.paired Said.hoare) (getD b 1 0) (getD b 2 0) u v
+    taking-is e d true = ap₂ (λ (u v : Tree). says Said.paired (getD b 1 0) (getD b 2 0) u v) e d
+    taking-is e d false = ap₂ (λ (u v : Tree). says Said.hoare (getD b 1 0) (getD b 2 0) u v) e d
 
     by-form : (f : Form) → placed z l f b ≡ true → sortedBy l f (left b) ≡ true → sortedBy l f (right b) ≡ true
         → concluded (saying z l f b) ≡ says (spoken f (instructionOf z l (getD b 1 0) (getD b 2 0) .operation)) (getD b 1 0) (getD b 2 0)
@@ -138,20 +138,20 @@ module _ (s : List ℕ) (z : Sizes) (c : Checks z (bodies s)) where
     unfolding saying placed sortedBy sortAt
     by-form Triple e p q =
         let h = sides-are Codes.assertion (outlined-fine z l c (left b) p .0) (outlined-fine z l c (right b) q .0) in
-        ap₂ (λ (u v : Tree). says FitT.hoare (getD b 1 0) (getD b 2 0) u v) (h .0) (h .1)
+        ap₂ (λ (u v : Tree). says Said.hoare (getD b 1 0) (getD b 2 0) u v) (h .0) (h .1)
     by-form Implication e p q =
         let h = sides-are Codes.assertion (eqb-true (sortOf (getD l (left b) [])) Codes.assertion p)
         (eqb-true (sortOf (getD l (right b) [])) Codes.assertion q) in
         let g = nowhere-is e in
-        ap₂ (λ (u v : Tree). says FitT.implication 0 0 u v) (h .0) (h .1)
-        ∙ ap₂ (λ (t k : ℕ). says FitT.implication t k (treeAt s (formulaAt s (left b))) (treeAt s (formulaAt s (right b))))
+        ap₂ (λ (u v : Tree). says Said.implication 0 0 u v) (h .0) (h .1)
+        ∙ ap₂ (λ (t k : ℕ). says Said.implication t k (treeAt s (formulaAt s (left b))) (treeAt s (formulaAt s (right b))))
         (sym (g .0)) (sym (g .1))
     by-form Inclusion e p q =
         let h = sides-are Codes.interval (eqb-true (sortOf (getD l (left b) [])) Codes.interval p)
         (eqb-true (sortOf (getD l (right b) [])) Codes.interval q) in
         let g = nowhere-is e in
-        ap₂ (λ (u v : Tree). says FitT.inclusion 0 0 u v) (h .0) (h .1)
-        ∙ ap₂ (λ (t k : ℕ). says FitT.inclusion t k (treeAt s (formulaAt s (left b))) (treeAt s (formulaAt s (right b)))) (sym (g .0))
+        ap₂ (λ (u v : Tree). says Said.inclusion 0 0 u v) (h .0) (h .1)
+        ∙ ap₂ (λ (t k : ℕ). says Said.inclusion t k (treeAt s (formulaAt s (left b))) (treeAt s (formulaAt s (right b)))) (sym (g .0))
         (sym (g .1))
     by-form Pair e p q =
         let h = sides-are Codes.assertion (outlined-fine z l c (left b) p .0) (outlined-fine z l c (right b) q .0) in
@@ -166,7 +166,7 @@ module _ (s : List ℕ) (z : Sizes) (c : Checks z (bodies s)) where
 
   -- instructions
 
-  abbrev acts : ℕ → ℕ → ℕ → ℕ → Tree → List NoteT → FitT.Acting
+  abbrev acts : ℕ → ℕ → ℕ → ℕ → Tree → List NoteT → Said.Acting
   acts op whole x r f ns = record { operation = op; whole = whole; word = x; register = r; formula = f; notes = ns }
 
   -- a load and a branch have no formula: it is taken for the constant 0

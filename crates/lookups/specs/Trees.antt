@@ -14,8 +14,8 @@ use Rattle.records.specs.declared.line.Form.{Form}
 use Rattle.records.specs.declared.line.Form.the-variants.{Triple, Implication, Inclusion, Pair, Unlisted}
 use Rattle.records.specs.Line.{formOf}
 use Rattle.records.specs.Places.{instructionOf}
-use Rattle.certificate.specs.FitT as FitT
-use Rattle.certificate.specs.FitT.{TreeConclusion, inclusion, implication, hoare, paired}
+use Rattle.trees.specs.Said as Said
+use Rattle.trees.specs.Said.{TreeConclusion, inclusion, implication, hoare, paired}
 use Rattle.lookups.specs.declared.line.Line.{Line}
 use Rattle.lookups.specs.declared.acting.Acting.{Acting}
 
@@ -57,7 +57,7 @@ notesBy op n m = cond (eqb op Opcode.assign) (n ∷ []) (cond (eqb op Opcode.ass
 abbrev pub notesAt : List ℕ → Acting → List NoteT
 notesAt s a = notesBy (a .whole) (givesT (a .register) (treeAt s (a .formula))) (givesT (a .noted) (treeAt s (a .note)))
 
-abbrev pub actingAt : List ℕ → Acting → FitT.Acting
+abbrev pub actingAt : List ℕ → Acting → Said.Acting
 actingAt s a = record {
   operation = a .operation;
   whole = a .whole;

@@ -10,10 +10,10 @@ use lib.Dec.{T, eqb, ltb, leb}
 use lib.ListN.{length, getD, set, length-set}
 use lib.Seq.{getD-set-same, getD-set-other}
 use borrow.Author.Tests.{lt-ltb, le-ltb, eq-eqb, ne-eqb, eqb-true, eqb-false, ltb-true, ltb-false}
-use Rattle.logic.specs.Base.{upd}
-use Rattle.logic.specs.Machine as Logic
-use Rattle.logic.specs.Machine.{State}
-use Rattle.logic.proofs.Base.{upd-same, upd-other, by-word}
+use Rattle.semantics.specs.Base.{upd}
+use Rattle.semantics.specs.Machine as Logic
+use Rattle.semantics.specs.Machine.{State}
+use Rattle.semantics.proofs.Base.{upd-same, upd-other, by-word}
 use Rattle.limits.specs.Numbers.{nth}
 use Rattle.writes.specs.View.{positionIn}
 use Rattle.memory.specs.Memory.{writeAt, sizeAt, viewOf, seenBy}

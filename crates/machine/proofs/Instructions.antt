@@ -7,14 +7,14 @@ use native.Mathlib.Omega.{arith}
 use native.Mathlib.Numerals.{add-one}
 use lib.Dec.{T, eqb, ltb, leb, ltb→lt}
 use borrow.Author.Tests.{lt-ltb, eqb-true}
-use Rattle.logic.specs.Base.{upd}
-use Rattle.logic.specs.Formula.{Sort, Value}
-use Rattle.logic.specs.Eval.{test, onRegs}
+use Rattle.semantics.specs.Base.{upd}
+use Rattle.semantics.specs.Formula.{Sort, Value}
+use Rattle.semantics.specs.Eval.{test, onRegs}
 use Rattle.logic.specs.Opcode as Opcode
-use Rattle.logic.specs.Machine as Logic
-use Rattle.logic.specs.Machine.{State, Program, Access.none, Access.load, Access.write, Instr, Instr.act, Instr.branch, worked, allowed, exec}
-use Rattle.logic.proofs.Base.{upd-same, and-left, and-right}
-use Rattle.logic.proofs.Invariant.{Wf}
+use Rattle.semantics.specs.Machine as Logic
+use Rattle.semantics.specs.Machine.{State, Program, Access.none, Access.load, Access.write, Instr, Instr.act, Instr.branch, worked, allowed, exec}
+use Rattle.semantics.proofs.Base.{upd-same, and-left, and-right}
+use Rattle.semantics.proofs.Invariant.{Wf}
 use Rattle.limits.specs.Numbers.{within}
 use Rattle.limits.proofs.Inverse.{and-true, within-true}
 use Rattle.formula.specs.Codes as Codes

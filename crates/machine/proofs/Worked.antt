@@ -6,12 +6,12 @@ use mathlib.Core.List.{List, []}
 use native.Mathlib.Omega.{arith}
 use lib.Dec.{T, eqb}
 use lib.ListN.{getD}
-use Rattle.logic.specs.Base.{Within}
-use Rattle.logic.specs.Formula.{Sort, Value, Test}
-use Rattle.logic.specs.Eval.{value, test, bounded, onRegs}
+use Rattle.semantics.specs.Base.{Within}
+use Rattle.semantics.specs.Formula.{Sort, Value, Test}
+use Rattle.semantics.specs.Eval.{value, test, bounded, onRegs}
 use Rattle.logic.specs.Opcode as Opcode
-use Rattle.logic.specs.Machine.{State, Program, worked}
-use Rattle.logic.proofs.Invariant.{Wf}
+use Rattle.semantics.specs.Machine.{State, Program, worked}
+use Rattle.semantics.proofs.Invariant.{Wf}
 use Rattle.limits.specs.Limits as Limits
 use Rattle.limits.specs.Numbers.{nth, within, every}
 use Rattle.limits.proofs.Inverse.{and-true}

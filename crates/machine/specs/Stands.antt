@@ -3,7 +3,7 @@ use mathlib.Core.Path.{_≡_}
 use Prim.Native.Nat.{ℕ}
 use mathlib.Core.Bool.{Bool, true, false}
 use lib.ListN.{length}
-use Rattle.logic.specs.Machine.{Access.none, Access.load, Access.write, Instr, Instr.act, Instr.branch}
+use Rattle.semantics.specs.Machine.{Access.none, Access.load, Access.write, Instr, Instr.act, Instr.branch}
 use Rattle.limits.specs.Numbers.{nth}
 use Rattle.machine.specs.declared.locals.Registers.{Registers}
 

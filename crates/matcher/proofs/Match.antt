@@ -5,8 +5,8 @@ use mathlib.Core.Option.{Option, none, some}
 use Prim.Native.Nat.{ℕ, _-_}
 use native.Mathlib.Omega.{arith}
 use lib.Dec.{T, eqb, ltb, leb, eqb→eq, eqb-refl}
-use Rattle.logic.specs.Base.{upd}
-use Rattle.logic.proofs.Base.{upd-same, upd-other, by-word}
+use Rattle.semantics.specs.Base.{upd}
+use Rattle.semantics.proofs.Base.{upd-same, upd-other, by-word}
 use Rattle.formula.specs.Tree.{Tree, Tree.node}
 use Rattle.compare.specs.Same.{sameTree}
 use Rattle.matcher.specs.Template.{firstHole, firstNumber, Holes, operandT, instT}

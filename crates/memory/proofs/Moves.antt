@@ -4,8 +4,8 @@ use mathlib.Core.Path.{_≡_, ap, sym, _∙_}
 use mathlib.Core.List.{List}
 use native.Mathlib.Omega.{arith}
 use lib.ListN.{length, getD, set, take}
-use Rattle.logic.specs.Machine.{down}
-use Rattle.logic.proofs.Base.{down-is}
+use Rattle.semantics.specs.Machine.{down}
+use Rattle.semantics.proofs.Base.{down-is}
 use Rattle.columns.specs.Column.{column}
 use Rattle.columns.proofs.Listed.{column-none, column-getD, column-same}
 use Rattle.writes.specs.View.{next, upView}

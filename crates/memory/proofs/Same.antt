@@ -11,9 +11,9 @@ use lib.Dec.{eqb, ltb, leb}
 use lib.ListN.{length, getD, set, length-set}
 use lib.Seq.{getD-set-same, getD-set-other}
 use borrow.Author.Tests.{lt-ltb, eqb-true, eqb-false}
-use Rattle.logic.specs.Base.{upd}
-use Rattle.logic.specs.Machine as Logic
-use Rattle.logic.proofs.Base.{upd-same, upd-other}
+use Rattle.semantics.specs.Base.{upd}
+use Rattle.semantics.specs.Machine as Logic
+use Rattle.semantics.proofs.Base.{upd-same, upd-other}
 use Rattle.columns.proofs.Listed.{column-length, column-getD}
 use Rattle.writes.specs.View.{next, up, positionIn, withPosition, upView, joinedTo, joined}
 use Rattle.writes.specs.Write.{upWrite, coveredWrite}

@@ -11,10 +11,10 @@ use lib.Dec.{eqb, ltb, leb}
 use lib.ListN.{length, getD, set, length-set}
 use lib.Seq.{getD-set-same, getD-set-other}
 use borrow.Author.Tests.{lt-ltb, le-ltb, eqb-true, eqb-false, ltb-true, ltb-false, leb-true, leb-false, lt-leb, le-leb}
-use Rattle.logic.specs.Base.{upd}
-use Rattle.logic.specs.Machine as Logic
-use Rattle.logic.specs.Machine.{State}
-use Rattle.logic.proofs.Base.{upds, upd-same, upd-other, upd-case, down-is}
+use Rattle.semantics.specs.Base.{upd}
+use Rattle.semantics.specs.Machine as Logic
+use Rattle.semantics.specs.Machine.{State}
+use Rattle.semantics.proofs.Base.{upds, upd-same, upd-other, upd-case, down-is}
 use Rattle.columns.proofs.Listed.{column-length, column-getD}
 use Rattle.writes.specs.View.{next, upView}
 use Rattle.writes.specs.Write.{noView, noWrite, upWrite, coveredWrite}

@@ -5,10 +5,10 @@ use mathlib.Core.Bool.{Bool, true, false, cond, _&&_}
 use native.Mathlib.Omega.{arith}
 use native.Mathlib.Numerals.{add-one}
 use borrow.Author.Tests.{lt-ltb}
-use Rattle.logic.specs.Base.{upd}
-use Rattle.logic.specs.Machine as Logic
-use Rattle.logic.specs.Machine.{State}
-use Rattle.logic.proofs.Base.{upds, by-word}
+use Rattle.semantics.specs.Base.{upd}
+use Rattle.semantics.specs.Machine as Logic
+use Rattle.semantics.specs.Machine.{State}
+use Rattle.semantics.proofs.Base.{upds, by-word}
 use Rattle.writes.specs.View.{next, withPosition, joined}
 use Rattle.memory.specs.Memory.{first, writeAt, viewOf, covering}
 use Rattle.memory.specs.Access.{readFrom, readView, loaded, put, stored, swapFrom, swapView, swapped}

@@ -2,7 +2,7 @@
 use Prim.Native.Nat.{ℕ, _%_}
 use mathlib.Core.List.{List}
 use lib.ListN.{getD, set}
-use Rattle.logic.specs.Machine.{down}
+use Rattle.semantics.specs.Machine.{down}
 use Rattle.columns.specs.Column.{column}
 use Rattle.writes.specs.View.{next, upView}
 use Rattle.writes.specs.Write.{noView, noWrite, upWrite}

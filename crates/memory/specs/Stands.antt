@@ -2,8 +2,8 @@
 use mathlib.Core.Path.{_≡_}
 use Prim.Native.Nat.{ℕ, suc, _≤_, _<_}
 use lib.ListN.{length, getD}
-use Rattle.logic.specs.Machine as Logic
-use Rattle.logic.specs.Machine.{State}
+use Rattle.semantics.specs.Machine as Logic
+use Rattle.semantics.specs.Machine.{State}
 use Rattle.memory.specs.Memory.{first, writeAt, sizeAt, viewOf}
 use Rattle.writes.specs.declared.view.View.{View}
 use Rattle.writes.specs.declared.write.Write.{Write}

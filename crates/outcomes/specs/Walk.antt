@@ -1,8 +1,9 @@
 -- The outcome after groups of obligations, in the order of the logic.
 use mathlib.Core.List.{List, map}
 use Prim.Native.Nat.{ℕ}
-use Rattle.logic.specs.Machine.{Program}
-use Rattle.logic.specs.Obligations.{Obligation.start, below, upTo, flat, own, acting, instructed, assertions}
+use Rattle.semantics.specs.Machine.{Program}
+use Rattle.logic.specs.Obligations.{Obligation.start, flat, own, acting, instructed, assertions}
+use Rattle.semantics.specs.Base.{below, upTo}
 use Rattle.frames.specs.Records.{bodies}
 use Rattle.program.specs.declared.sizes.Sizes.{Sizes}
 use Rattle.content.specs.Program.{programOf}

@@ -9,13 +9,13 @@ use native.Mathlib.Omega.{arith}
 use lib.Dec.{T, eqb}
 use borrow.Author.Tests.{eqb-true, eqb-false, eq-eqb, ne-eqb}
 use lib.ListN.{length, getD, take}
-use Rattle.logic.specs.Base.{All}
+use Rattle.semantics.specs.Base.{All}
 use Rattle.logic.specs.Statement.{Statement}
 use Rattle.patterns.specs.Fits.{sameStatement}
 use Rattle.logic.specs.Obligations.{Obligation, Obligation.start, obligations}
-use Rattle.logic.specs.EveryRun.{EveryRun}
+use Rattle.semantics.specs.EveryRun.{EveryRun}
 use Rattle.logic.specs.Derivation.{Derived}
-use Rattle.logic.proofs.Base.{is-true, holds-true}
+use Rattle.semantics.proofs.Base.{is-true, holds-true}
 use Rattle.patterns.proofs.Fit.{statement-eq, statement-refl}
 use Rattle.logic.specs.Claims.{NeverBoth}
 use Rattle.logic.proofs.Runs.{every-run, never-both}

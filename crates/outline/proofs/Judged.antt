@@ -12,7 +12,7 @@ use lib.Seq.{take-length}
 use Rattle.logic.specs.Statement.{Statement}
 use Rattle.patterns.specs.Fits.{sameStatement}
 use Rattle.logic.specs.Obligations.{Obligation, Obligation.start, obligations}
-use Rattle.logic.proofs.Base.{is-true, holds-true}
+use Rattle.semantics.proofs.Base.{is-true, holds-true}
 use Rattle.patterns.proofs.Fit.{statement-eq, statement-refl}
 use Rattle.certificate.specs.Lines.{marked}
 use Rattle.certificate.proofs.Marks.{justified-marked}

@@ -1,3 +1,4 @@
 pub mod Accept
 pub mod Judged
 pub mod Moved
+pub mod Ranged

@@ -6,7 +6,7 @@ use Prim.Native.Nat.{ℕ, suc, _+_, _<_}
 use native.Mathlib.Omega.{arith}
 use lib.Dec.{eqb}
 use lib.ListN.{length}
-use Rattle.logic.specs.Machine.{Program}
+use Rattle.semantics.specs.Machine.{Program}
 use Rattle.logic.specs.Obligations.{Obligation, starts, steps, interferences, obligations}
 use Rattle.logic.proofs.Order.{formerly, all-formerly, allMet, moved, moved-alike}
 use Rattle.outline.specs.Verdict.{Image, Outcome, met, failed, lineCode, code, judge, outcome}

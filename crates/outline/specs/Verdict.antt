@@ -7,11 +7,11 @@ use mathlib.Core.Logic.{_≢_}
 use Prim.Native.Nat.{ℕ, zero, suc, _<_}
 use lib.Dec.{T, eqb}
 use lib.ListN.{length, getD}
-use Rattle.logic.specs.Base.{Within}
-use Rattle.logic.specs.Machine.{Program}
+use Rattle.semantics.specs.Base.{Within}
+use Rattle.semantics.specs.Machine.{Program}
 use Rattle.logic.specs.Statement.{Statement, admitted}
 use Rattle.patterns.specs.Fits.{sameStatement}
-use Rattle.logic.specs.EveryRun.{Outline}
+use Rattle.semantics.specs.EveryRun.{Outline}
 use Rattle.logic.specs.Obligations.{Obligation, obligations, wants}
 use Rattle.logic.specs.Claims.{Claim, threadsIn, claims as excludes}
 use Rattle.logic.specs.WellFormed.{WellFormed}

@@ -3,12 +3,12 @@ use mathlib.Core.Path.{_≡_, refl}
 use mathlib.Core.Bool.{false}
 use mathlib.Core.List.{[], _∷_}
 use lib.Dec.{T}
-use Rattle.logic.specs.Base.{upd}
-use Rattle.logic.specs.Formula.{Assertion, Formula.const, Formula.reg, Formula.word, Formula.sum, Formula.equal, Formula.less, Formula.box, Formula.sees, Formula.holds, same}
+use Rattle.semantics.specs.Base.{upd}
+use Rattle.semantics.specs.Formula.{Assertion, Formula.const, Formula.reg, Formula.word, Formula.sum, Formula.equal, Formula.less, Formula.box, Formula.sees, Formula.holds, same}
 use Rattle.logic.specs.Statement.{triple, pair}
 use Rattle.logic.specs.Rule.{r1, r2, r47, r48, r50}
 use Rattle.logic.specs.Inference.{newest, C}
-use Rattle.logic.proofs.Computed.{nothing, at-points, tickets}
+use Rattle.semantics.proofs.Computed.{nothing, at-points, tickets}
 use Rattle.logic.proofs.Paired.{note, trader, swapper, paired}
 use Rattle.patterns.specs.Fits.{fits}
 

@@ -1,6 +1,6 @@
 -- Patterns: formulas with holes, by sort; what stands in the holes; a pattern filled.
 use Prim.Native.Nat.{ℕ}
-use Rattle.logic.specs.Formula.{Sort, Formula, Value, Test, Interval, Assertion}
+use Rattle.semantics.specs.Formula.{Sort, Formula, Value, Test, Interval, Assertion}
 
 -- numbers: the thread, word and register of the instruction; u and y are any
 pub data Num : Type 0 where

@@ -9,10 +9,10 @@ use native.Mathlib.Numerals.{add-one}
 use lib.Dec.{eqb, ltb, leb}
 use lib.ListN.{length, getD, take, drop, replicate, length-take, length-replicate, getD-replicate, List·getD-eq-default}
 use borrow.Author.Tests.{ne-eqb, le-ltb, lt-leb, ltb-true, ltb-false}
-use Rattle.logic.specs.Machine.{State, Program, begin}
+use Rattle.semantics.specs.Machine.{State, Program, begin}
 use Rattle.logic.specs.WellFormed.{WellFormed}
-use Rattle.logic.proofs.Invariant.{start-wf}
-use Rattle.logic.proofs.Starts.{begins}
+use Rattle.semantics.proofs.Invariant.{start-wf}
+use Rattle.semantics.proofs.Starts.{begins}
 use Rattle.limits.specs.Numbers.{nth, within}
 use Rattle.frames.specs.Records.{bodies}
 use Rattle.program.specs.declared.sizes.Sizes.{Sizes}

@@ -7,8 +7,8 @@ use native.Mathlib.Omega.{arith}
 use lib.Dec.{T, eqb, ltb, leb}
 use lib.ListN.{take}
 use borrow.Author.Tests.{lt-ltb, le-ltb, lt-leb, le-leb, ltb-true, ltb-false, eqb-true, ne-eqb}
-use Rattle.logic.specs.Base.{Within, within}
-use Rattle.logic.specs.Machine.{State, Program, Step, allowed, exec, instrAt, permitted, step, run}
+use Rattle.semantics.specs.Base.{Within, within}
+use Rattle.semantics.specs.Machine.{State, Program, Step, allowed, exec, instrAt, permitted, step, run}
 use Rattle.frames.specs.Records.{bodies}
 use Rattle.program.specs.declared.sizes.Sizes.{Sizes}
 use Rattle.content.specs.Program.{programOf}

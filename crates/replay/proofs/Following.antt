@@ -9,15 +9,15 @@ use native.Mathlib.Numerals.{sub-one}
 use lib.Dec.{T, eqb, ltb, leb, ltb→lt}
 use lib.ListN.{length, getD, set, length-set}
 use borrow.Author.Tests.{lt-ltb, le-ltb, le-leb, lt-leb, eq-eqb, ne-eqb, ltb-true, ltb-false, eqb-true, leb-true, leb-false}
-use Rattle.logic.specs.Base.{Within, within, upd}
-use Rattle.logic.specs.Machine as Logic
-use Rattle.logic.specs.Names.{only, isReg}
-use Rattle.logic.specs.Eval.{test, onRegs}
-use Rattle.logic.specs.Machine.{State, Program, Mode.store, Mode.swap, Mode.exchange, Mode.fetchAdd, Access, Access.none, Access.load, Access.write, Instr, Instr.act, Instr.branch, allowed, exec, instrAt, withPoint}
+use Rattle.semantics.specs.Base.{Within, within, upd}
+use Rattle.semantics.specs.Machine as Logic
+use Rattle.semantics.specs.Names.{only, isReg}
+use Rattle.semantics.specs.Eval.{test, onRegs}
+use Rattle.semantics.specs.Machine.{State, Program, Mode.store, Mode.swap, Mode.exchange, Mode.fetchAdd, Access, Access.none, Access.load, Access.write, Instr, Instr.act, Instr.branch, allowed, exec, instrAt, withPoint}
 use Rattle.logic.specs.WellFormed.{proper, WellFormed}
-use Rattle.logic.proofs.Base.{is-true, holds-true, by-word, upd-case, and-left, and-right, upd-same, upd-other}
-use Rattle.logic.proofs.Invariant.{Wf}
-use Rattle.logic.proofs.Halves.{touch, allNotes, pick, finish}
+use Rattle.semantics.proofs.Base.{is-true, holds-true, by-word, upd-case, and-left, and-right, upd-same, upd-other}
+use Rattle.semantics.proofs.Invariant.{Wf}
+use Rattle.semantics.proofs.Halves.{touch, allNotes, pick, finish}
 use Rattle.logic.proofs.Arrived.{pick-moved}
 use Rattle.logic.proofs.Steps.{may-pick, exec-halves}
 use Rattle.logic.proofs.Sound.{good, finish-wf}

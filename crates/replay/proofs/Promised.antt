@@ -5,9 +5,9 @@ use Prim.Native.Nat.{ℕ, _+_, _≤_, _<_}
 use native.Mathlib.Omega.{arith}
 use lib.ListN.{length, getD, take, replicate}
 use borrow.Author.Tests.{le-ltb}
-use Rattle.logic.specs.Machine.{State, Program, run}
-use Rattle.logic.specs.EveryRun.{Holds, EveryRun}
-use Rattle.logic.proofs.Starts.{begins}
+use Rattle.semantics.specs.Machine.{State, Program, run}
+use Rattle.semantics.specs.EveryRun.{Holds, EveryRun}
+use Rattle.semantics.proofs.Starts.{begins}
 use Rattle.limits.specs.Numbers.{nth}
 use Rattle.frames.specs.Records.{bodies}
 use Rattle.program.specs.declared.sizes.Sizes.{Sizes}
@@ -19,11 +19,11 @@ use Rattle.content.proofs.Program.{range-two}
 use Rattle.report.specs.Fields.{gathered, fieldsOf}
 use Rattle.report.specs.Output.{codeFor, bytesFor}
 use Rattle.report.specs.declared.verdict.Verdict.the-variants.{Accepted}
-use Rattle.checker.specs.Acceptance.{acceptance}
-use Rattle.checker.specs.Promise.{TrueInEveryRun}
-use Rattle.checker.specs.declared.acceptance.Acceptance.the-variants.{Granted}
-use Rattle.checker.proofs.Granted.{granted-holds}
-use Rattle.checker.proofs.Accepted.{promised}
+use Rattle.promise.specs.Acceptance.{acceptance}
+use Rattle.promise.specs.Promise.{TrueInEveryRun}
+use Rattle.promise.specs.declared.acceptance.Acceptance.the-variants.{Granted}
+use Rattle.promise.proofs.Holds.{granted-holds}
+use Rattle.promise.proofs.Accepted.{promised}
 use Rattle.traces.specs.Start.{started}
 use Rattle.traces.specs.Run.{ran}
 use Rattle.replay.specs.Outcome.{replayed, stepsIn}

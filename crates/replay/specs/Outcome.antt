@@ -3,8 +3,8 @@ use Prim.Native.Nat.{ℕ, zero, suc, _+_}
 use mathlib.Core.Bool.{Bool, true, false, cond, _&&_}
 use mathlib.Core.List.{List, [], _∷_}
 use lib.Dec.{eqb, ltb, leb}
-use Rattle.logic.specs.Base.{within}
-use Rattle.logic.specs.Machine.{State, Program, Step, allowed, exec, instrAt}
+use Rattle.semantics.specs.Base.{within}
+use Rattle.semantics.specs.Machine.{State, Program, Step, allowed, exec, instrAt}
 use Rattle.machine.specs.Stands.{adds}
 
 -- how many writes the first n words have

@@ -4,8 +4,8 @@ use mathlib.Core.Bool.{true}
 use mathlib.Core.List.{List}
 use Prim.Native.Nat.{ℕ}
 use lib.ListN.{take}
-use Rattle.logic.specs.Machine.{State, Program, begin, run}
-use Rattle.logic.specs.EveryRun.{Holds}
+use Rattle.semantics.specs.Machine.{State, Program, begin, run}
+use Rattle.semantics.specs.EveryRun.{Holds}
 use Rattle.limits.specs.Numbers.{nth}
 use Rattle.frames.specs.Records.{bodies}
 use Rattle.program.specs.declared.sizes.Sizes.{Sizes}

@@ -2,7 +2,7 @@
 use mathlib.Core.Path.{_≡_}
 use Prim.Native.Nat.{ℕ, suc, _<_}
 use lib.ListN.{length, getD}
-use Rattle.logic.specs.Machine.{State}
+use Rattle.semantics.specs.Machine.{State}
 use Rattle.memory.specs.Stands.{Stands}
 use Rattle.machine.specs.Stands.{SameRegs}
 use Rattle.steps.specs.declared.states.Machine.{Machine}

@@ -1,5 +1,4 @@
 // A replay across a handover: whether it is permitted, the start, both runs.
-use checker::acceptance::Acceptance;
 use checker::acceptance::accept_image;
 use handover::permit::Handover;
 use handover::permit::handover_code;
@@ -8,6 +7,7 @@ use index::table::IndexSize;
 use joined::onward::go_on;
 use joined::onward::run_counted;
 use program::sizes::Sizes;
+use promise::acceptance::Acceptance;
 use shown::shown::Shown;
 use shown::shown::shown_by;
 use steps::pick::Refusal;
@@ -20,10 +20,10 @@ ghost use lib.ListN.{length, replicate};
 ghost use Rattle.index.specs.Table.{tableSize, indexOf};
 ghost use Rattle.image.specs.Decode.{decoded};
 ghost use Rattle.image.specs.declared.decode.Decoded.the-variants.{Sound};
-ghost use Rattle.checker.specs.Acceptance.{acceptance};
-ghost use Rattle.checker.specs.declared.acceptance.Acceptance.the-variants.{Granted};
+ghost use Rattle.promise.specs.Acceptance.{acceptance};
+ghost use Rattle.promise.specs.declared.acceptance.Acceptance.the-variants.{Granted};
 ghost use Rattle.shown.specs.Table.{shownBy};
-ghost use Rattle.replay_across.specs.Numbers.{refusedBy, acrossOn, acrossBy, byAcceptance, acrossOf};
+ghost use Rattle.across_promise.specs.Numbers.{refusedBy, acrossOn, acrossBy, byAcceptance, acrossOf};
 
 // Points and registers of 0, and the table stays.
 fn refuse(s: &[u8], code: u8) -> Replayed

@@ -5,7 +5,7 @@ use shown::answer::Answer;
 use shown::answer::write_numbers;
 use shown::bytes::Entry;
 use shown::bytes::write_shown;
-ghost use Rattle.replay_across.specs.Promise.{Written};
+ghost use Rattle.across_promise.specs.Promise.{Written};
 
 // Replays the first trace on the machine of the old image, hands over by the table of points and goes on with the second trace on the
 // machine of the new image, on the same memory. Answer and table are written as by `replay_trace`; 32, 33 and 34 take the place of 24.

@@ -8,9 +8,9 @@ use native.Mathlib.Omega.{arith}
 use lib.Dec.{T, eqb, leb, leb→le, ltb→lt}
 use lib.ListN.{length, getD, drop, length-take}
 use borrow.Author.Tests.{lt-leb}
-use Rattle.logic.specs.Base.{upd, Within}
-use Rattle.logic.specs.Machine.{State, Program, Step, Mode.store, Mode.swap, Mode.exchange, Mode.fetchAdd, Access.none, Access.load, Access.write, Instr, Instr.act, Instr.branch, exec, instrAt, permitted, step, run, begin}
-use Rattle.logic.proofs.Base.{is-true, upd-other, and-left, and-right}
+use Rattle.semantics.specs.Base.{upd, Within}
+use Rattle.semantics.specs.Machine.{State, Program, Step, Mode.store, Mode.swap, Mode.exchange, Mode.fetchAdd, Access.none, Access.load, Access.write, Instr, Instr.act, Instr.branch, exec, instrAt, permitted, step, run, begin}
+use Rattle.semantics.proofs.Base.{is-true, upd-other, and-left, and-right}
 use Rattle.limits.specs.Numbers.{nth, within}
 use Rattle.frames.specs.Records.{bodies}
 use Rattle.program.specs.declared.sizes.Sizes.{Sizes}

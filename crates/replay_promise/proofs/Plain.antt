@@ -3,10 +3,10 @@ use mathlib.Core.Path.{_≡_}
 use mathlib.Core.Bool.{Bool, true, false, _||_}
 use mathlib.Core.Logic.{inl, inr}
 use lib.Dec.{T}
-use Rattle.logic.specs.Formula.{Assertion, Formula.sees, Formula.bothA, Formula.eitherA, Formula.start, Formula.holds}
-use Rattle.logic.specs.Machine.{State, Program}
-use Rattle.logic.specs.Truth.{True}
-use Rattle.logic.proofs.Base.{and-left, and-right, and-both, holds-true}
+use Rattle.semantics.specs.Formula.{Assertion, Formula.sees, Formula.bothA, Formula.eitherA, Formula.start, Formula.holds}
+use Rattle.semantics.specs.Machine.{State, Program}
+use Rattle.semantics.specs.Truth.{True}
+use Rattle.semantics.proofs.Base.{and-left, and-right, and-both, holds-true}
 use Rattle.replay_promise.specs.Plain.{ofRegs, plainTrue}
 
 or-left : (a b : Bool) → T a → T (a || b)

@@ -9,11 +9,11 @@ use lib.Dec.{T}
 use lib.ListN.{length, getD, take, drop, replicate}
 use lib.Seq.{take-all}
 use borrow.Author.Tests.{lt-ltb, le-ltb}
-use Rattle.logic.specs.Base.{Within}
-use Rattle.logic.specs.Machine.{State, Program, Step, Start, run}
-use Rattle.logic.specs.EveryRun.{Outline, EveryRun}
-use Rattle.logic.proofs.Invariant.{Wf}
-use Rattle.logic.proofs.Starts.{begins}
+use Rattle.semantics.specs.Base.{Within}
+use Rattle.semantics.specs.Machine.{State, Program, Step, Start, run}
+use Rattle.semantics.specs.EveryRun.{Outline, EveryRun}
+use Rattle.semantics.proofs.Invariant.{Wf}
+use Rattle.semantics.proofs.Starts.{begins}
 use Rattle.limits.specs.Numbers.{nth}
 use Rattle.frames.specs.Records.{bodies}
 use Rattle.program.specs.declared.sizes.Sizes.{Sizes}
@@ -25,11 +25,11 @@ use Rattle.content.proofs.Program.{range-two}
 use Rattle.report.specs.Fields.{gathered, fieldsOf}
 use Rattle.report.specs.Output.{codeFor, bytesFor}
 use Rattle.report.specs.declared.verdict.Verdict.the-variants.{Accepted}
-use Rattle.checker.specs.Acceptance.{acceptance}
-use Rattle.checker.specs.Promise.{TrueInEveryRun}
-use Rattle.checker.specs.declared.acceptance.Acceptance.the-variants.{Granted, Declined}
-use Rattle.checker.proofs.Granted.{granted-holds}
-use Rattle.checker.proofs.Accepted as Checker
+use Rattle.promise.specs.Acceptance.{acceptance}
+use Rattle.promise.specs.Promise.{TrueInEveryRun}
+use Rattle.promise.specs.declared.acceptance.Acceptance.the-variants.{Granted, Declined}
+use Rattle.promise.proofs.Holds.{granted-holds}
+use Rattle.promise.proofs.Accepted as Checker
 use Rattle.columns.specs.Column.{column}
 use Rattle.writes.specs.Write.{startWrite}
 use Rattle.memory.specs.Stands.{SameWrite, Stands}

@@ -6,9 +6,9 @@ use Prim.Native.Nat.{ℕ, zero, suc, _+_, _-_, _≤_, _<_, min}
 use native.Mathlib.Omega.{arith}
 use lib.Dec.{T, eqb, ltb, leb}
 use borrow.Author.Tests.{eqb-true, leb-false}
-use Rattle.logic.specs.Base.{upd, within}
-use Rattle.logic.specs.Machine.{State, Program, Mode.store, Mode.swap, Mode.exchange, Mode.fetchAdd, Access.none, Access.load, Access.write, Instr, Instr.act, Instr.branch, allowed, exec, instrAt, begin}
-use Rattle.logic.proofs.Base.{upd-case}
+use Rattle.semantics.specs.Base.{upd, within}
+use Rattle.semantics.specs.Machine.{State, Program, Mode.store, Mode.swap, Mode.exchange, Mode.fetchAdd, Access.none, Access.load, Access.write, Instr, Instr.act, Instr.branch, allowed, exec, instrAt, begin}
+use Rattle.semantics.proofs.Base.{upd-case}
 use Rattle.machine.specs.Stands.{adds}
 use Rattle.replay.specs.Outcome.{used, refusal, Outcome, replayed}
 

@@ -1,8 +1,8 @@
 -- What the points and registers of an answer tell: an assertion made of 25, 26 and 28 alone is read from the registers.
 use mathlib.Core.Bool.{Bool, true, false, _&&_, _||_}
 use Prim.Native.Nat.{ℕ}
-use Rattle.logic.specs.Formula.{Assertion, Formula.sees, Formula.bothA, Formula.eitherA, Formula.start, Formula.holds}
-use Rattle.logic.specs.Eval.{test, onRegs}
+use Rattle.semantics.specs.Formula.{Assertion, Formula.sees, Formula.bothA, Formula.eitherA, Formula.start, Formula.holds}
+use Rattle.semantics.specs.Eval.{test, onRegs}
 
 -- made of 25, 26 and 28 alone
 abbrev pub ofRegs : Assertion → Bool

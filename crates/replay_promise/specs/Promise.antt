@@ -5,14 +5,14 @@ use mathlib.Core.List.{List, []}
 use Prim.Native.Nat.{ℕ, suc, _≤_, _<_}
 use lib.Dec.{T}
 use lib.ListN.{length, getD, take, replicate}
-use Rattle.logic.specs.Machine.{State, Program, run}
-use Rattle.logic.specs.EveryRun.{Outline, Holds}
+use Rattle.semantics.specs.Machine.{State, Program, run}
+use Rattle.semantics.specs.EveryRun.{Outline, Holds}
 use Rattle.limits.specs.Numbers.{nth}
 use Rattle.frames.specs.Records.{bodies}
 use Rattle.program.specs.declared.sizes.Sizes.{Sizes}
 use Rattle.content.specs.Program.{programOf, outlineOf}
-use Rattle.checker.specs.Acceptance.{acceptance}
-use Rattle.checker.specs.declared.acceptance.Acceptance.the-variants.{Granted, Declined}
+use Rattle.promise.specs.Acceptance.{acceptance}
+use Rattle.promise.specs.declared.acceptance.Acceptance.the-variants.{Granted, Declined}
 use Rattle.writes.specs.declared.write.Write.{Write}
 use Rattle.replay.specs.Outcome.{Outcome, stepsIn}
 use Rattle.replay.specs.Promise as Replay

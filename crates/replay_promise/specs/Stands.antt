@@ -3,7 +3,7 @@ use mathlib.Core.Path.{_≡_}
 use mathlib.Core.List.{List}
 use Prim.Native.Nat.{ℕ, suc, _+_, _≤_, _<_}
 use lib.ListN.{length, getD}
-use Rattle.logic.specs.Machine.{State}
+use Rattle.semantics.specs.Machine.{State}
 use Rattle.limits.specs.Numbers.{nth}
 use Rattle.writes.specs.Write.{startWrite}
 use Rattle.memory.specs.Stands.{SameWrite}

@@ -4,9 +4,9 @@ use mathlib.Core.Path.{_≡_}
 use mathlib.Core.Bool.{false}
 use mathlib.Core.List.{List, []}
 use Rattle.program.specs.declared.sizes.Sizes.{Sizes}
-use Rattle.checker.specs.Acceptance.{acceptance}
-use Rattle.checker.specs.declared.acceptance.Acceptance.{Acceptance}
-use Rattle.checker.specs.declared.acceptance.Acceptance.the-variants.{Granted, Declined}
+use Rattle.promise.specs.Acceptance.{acceptance}
+use Rattle.promise.specs.declared.acceptance.Acceptance.{Acceptance}
+use Rattle.promise.specs.declared.acceptance.Acceptance.the-variants.{Granted, Declined}
 use Rattle.steps.specs.declared.states.Machine.{Machine}
 use Rattle.traces.specs.Start.{started}
 use Rattle.traces.specs.Replayed.{roomOf, replayOn, blank}

@@ -1,7 +1,7 @@
 // A replay: acceptance, the start, the run; and what it shows.
-use checker::acceptance::Acceptance;
 use checker::acceptance::accept_image;
 use index::table::IndexSize;
+use promise::acceptance::Acceptance;
 use shown::shown::Shown;
 use shown::shown::shown_by;
 use traces::replayed::Replayed;

@@ -2,4 +2,3 @@ pub mod Fields
 pub mod Output
 pub mod Place
 pub mod Record
-pub mod Text

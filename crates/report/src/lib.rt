@@ -1,6 +1,6 @@
-// The verdict of the checker: its nine numbers, its record of 22 bytes and its line of text.
+// The verdict of the checker: its nine numbers and its record of 22 bytes.
+pub mod code;
 pub mod obligation;
 pub mod output;
 pub mod record;
-pub mod text;
 pub mod verdict;

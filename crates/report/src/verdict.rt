@@ -1,10 +1,10 @@
 // The verdict on an image, and the nine numbers that it is published as.
+use crate::code::code_of;
 use crate::obligation::NOWHERE;
 use crate::obligation::Obligation;
 use crate::obligation::Place;
 use crate::obligation::place_of;
 use frames::fault::Fault;
-use image::code::code_of;
 ghost use mathlib.Core.Path.{_≡_};
 ghost use Rattle.report.specs.Fields.{gathered, fieldsOf};
 

@@ -8,19 +8,19 @@ use native.Mathlib.Omega.{arith}
 use lib.Dec.{eqb, ltb}
 use lib.ListN.{length, getD, getElem?, set, drop, replicate}
 use borrow.Author.Tests.{eq-eqb, ne-eqb, lt-ltb, le-ltb, eqb-false}
-use Rattle.checker.specs.Answer.{verdict}
-use Rattle.checker.specs.Promise as Checked
-use Rattle.trimming.specs.Promise as Trimmed
+use Rattle.promise.specs.Answer.{verdict}
+use Rattle.promise.specs.Promise as Checked
+use Rattle.trim_promise.specs.Promise as Trimmed
 use Rattle.pricing.specs.Promise as Billed
 use Rattle.columns.specs.Column.{column}
-use Rattle.handover.specs.Promise as HandedOver
+use Rattle.handover_promise.specs.Promise as HandedOver
 use Rattle.writes.specs.declared.write.Write.{Write}
 use Rattle.replay.specs.Whole.{replayOf}
 use Rattle.traces.specs.declared.replayed.Replayed.{Replayed}
 use Rattle.replay_promise.specs.Promise as Once
 use Rattle.shown.specs.Table.{shownOf, entriesIn, tableFor}
-use Rattle.replay_across.specs.Numbers.{acrossOf}
-use Rattle.replay_across.specs.Promise as Across
+use Rattle.across_promise.specs.Numbers.{acrossOf}
+use Rattle.across_promise.specs.Promise as Across
 use Rattle.shown.specs.Answer as Replay
 use Rattle.shown.specs.Answer.{answerOf, numbersOf}
 use Rattle.shown.specs.declared.answer.Answer.{Answer}

@@ -4,12 +4,12 @@ use mathlib.Core.List.{List, [], _∷_}
 use mathlib.Core.Option.{some}
 use Prim.Native.Nat.{ℕ}
 use lib.ListN.{getElem?}
-use Rattle.checker.specs.Promise as Checked
-use Rattle.trimming.specs.Promise as Trimmed
+use Rattle.promise.specs.Promise as Checked
+use Rattle.trim_promise.specs.Promise as Trimmed
 use Rattle.pricing.specs.Promise as Billed
-use Rattle.handover.specs.Promise as HandedOver
+use Rattle.handover_promise.specs.Promise as HandedOver
 use Rattle.replay_promise.specs.Promise as Replayed
-use Rattle.replay_across.specs.Promise as ReplayedAcross
+use Rattle.across_promise.specs.Promise as ReplayedAcross
 use Rattle.charges.specs.declared.tariff.Tariff.{Tariff}
 use Rattle.service.specs.Desk.{numberPlace, admission}
 use Rattle.service.specs.Serving.{Call}

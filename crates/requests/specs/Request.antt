@@ -6,18 +6,18 @@ use Prim.Native.Nat.{ℕ}
 use lib.Dec.{eqb, ltb}
 use lib.ListN.{length, drop, replicate}
 use Rattle.report.specs.Output as Verdict
-use Rattle.checker.specs.Answer.{verdict}
+use Rattle.promise.specs.Answer.{verdict}
 use Rattle.archived.specs.Answer.{answerFor, bufferFor}
 use Rattle.charges.specs.declared.tariff.Tariff.{Tariff}
 use Rattle.pricing.specs.Bill.{billOf}
 use Rattle.pricing.specs.Output.{size, codeFor, numbersFor}
-use Rattle.handover.specs.Code.{handoverCode}
+use Rattle.handover_promise.specs.Code.{handoverCode}
 use Rattle.replay.specs.Whole.{replayOf}
 use Rattle.traces.specs.declared.replayed.Replayed.{Replayed}
 use Rattle.shown.specs.Answer as Replay
 use Rattle.shown.specs.Answer.{answerOf}
 use Rattle.shown.specs.Table.{shownOf, entriesIn, tableFor}
-use Rattle.replay_across.specs.Numbers.{acrossOf}
+use Rattle.across_promise.specs.Numbers.{acrossOf}
 use Rattle.service.specs.declared.rights.Right.{Right}
 use Rattle.service.specs.declared.rights.Right.the-variants.{Check, Replay, Bill}
 use Rattle.service.specs.Desk.{Desk, holds}

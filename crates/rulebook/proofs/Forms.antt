@@ -7,7 +7,7 @@ use native.Mathlib.Omega.{arith}
 use lib.Dec.{T, eqb, ltb, leb, eqb→eq}
 use lib.ListN.{length, getD}
 use borrow.Author.Tests.{ne-eqb, lt-leb, le-ltb, ltb-true, ltb-false}
-use Rattle.logic.proofs.Base.{and-left, and-right}
+use Rattle.semantics.proofs.Base.{and-left, and-right}
 use Rattle.rulebook.specs.Rulebook.{unlistedForm, rows, unlisted, ruleRow}
 use Rattle.rulebook.specs.declared.rule.Rule.{Rule}
 use Rattle.rulebook.proofs.Rows.{row-past}

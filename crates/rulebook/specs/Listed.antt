@@ -4,7 +4,7 @@ use mathlib.Core.List.{List, [], _∷_}
 use Prim.Native.Nat.{ℕ, _+_, _*_, _^_, _/_, _%_}
 use lib.Dec.{eqb, leb}
 use lib.ListN.{length}
-use Rattle.logic.specs.Base.{all}
+use Rattle.semantics.specs.Base.{all}
 use Rattle.logic.specs.Opcode
 use Rattle.logic.specs.Rule.{Rule, r1, r2, r3, r4, r5, r6, r7, r8, r9, r10, r11, r12, r13, r14, r15, r16, r20, r21, r22, r23, r24, r25, r26, r27, r30, r31, r32, r33, r34, r35, r36, r37, r38, r39, r40, r41, r42, r43, r44, r45, r46, r47, r48, r49, r50}
 use Rattle.patterns.specs.Rules.{Shape, Premises, these, implications, by-notes, r-by-x, x-by-f, Side, _is_with_, start-of, starts-at-0, is-new, kept, lacks-x, no-flag, by-rows, by-table, row}
@@ -15,7 +15,8 @@ use Rattle.formula.specs.Tree.{Tree, parseTree}
 use Rattle.compare.specs.Same.{sameTree}
 use Rattle.matcher.specs.Template.{shapes}
 use Rattle.matcher.specs.Places.{proper}
-use Rattle.certificate.specs.FitT.{formOf, leftOf, rightOf}
+use Rattle.trees.specs.Said.{formOf}
+use Rattle.tree_rules.specs.FitT.{leftOf, rightOf}
 use Rattle.rulebook.specs.Rulebook.{nothing, isKept, assigned, loaded, wordAbsent, stored, byRows, byTable, startValue, startsAtZero, newValue, anyImplications, ruleRow, templates}
 
 abbrev pub numberOf : Rule → ℕ

@@ -8,15 +8,15 @@ use native.Mathlib.Omega.{arith}
 use lib.Dec.{T, eqb}
 use lib.ListN.{getD}
 use borrow.Author.Tests.{eqb-true, ne-eqb, le-ltb, lt-leb}
-use Rattle.logic.specs.Base.{all}
-use Rattle.logic.specs.Code
-use Rattle.logic.specs.Code.{byte}
+use Rattle.semantics.specs.Base.{all}
+use Rattle.semantics.specs.Code
+use Rattle.semantics.specs.Code.{byte}
 use Rattle.logic.specs.Opcode
 use Rattle.logic.specs.Rule.{Rule, r1, r2, r3, r4, r5, r6, r7, r8, r9, r10, r11, r12, r13, r14, r15, r16, r20, r21, r22, r23, r24, r25, r26, r27, r30, r31, r32, r33, r34, r35, r36, r37, r38, r39, r40, r41, r42, r43, r44, r45, r46, r47, r48, r49, r50}
 use Rattle.patterns.specs.Rules
 use Rattle.patterns.specs.Rules.{row}
 use Rattle.patterns.specs.Fits.{isAmong}
-use Rattle.logic.proofs.Base.{bool-ext}
+use Rattle.semantics.proofs.Base.{bool-ext}
 use Rattle.limits.specs.Limits as Limits
 use Rattle.limits.specs.Limits.{nesting}
 use Rattle.limits.specs.Numbers.{nth}
@@ -33,8 +33,10 @@ use Rattle.header.specs.Header.{startValues, cleared, valueRange}
 use Rattle.program.specs.Instruction.{pairOperation, firstOperation}
 use Rattle.matcher.specs.Places.{takenOf}
 use Rattle.matcher.specs.declared.bind.Bind.{Bind}
-use Rattle.certificate.specs.FitT as FitT
-use Rattle.certificate.specs.FitT.{Setup, TreeConclusion, formOf, holesFrom, orElse, apartT, keepsT, freshT, sideT, operationT}
+use Rattle.trees.specs.Said as Said
+use Rattle.tree_rules.specs.FitT as FitT
+use Rattle.trees.specs.Said.{TreeConclusion, formOf}
+use Rattle.tree_rules.specs.FitT.{Setup, holesFrom, orElse, apartT, keepsT, freshT, sideT, operationT}
 use Rattle.lookups.specs.Trees.{treeAt, givesT, notesBy, actingAt}
 use Rattle.lookups.specs.declared.acting.Acting.{Acting}
 use Rattle.rulebook.specs.Listed.{sideNumber}
@@ -69,7 +71,7 @@ result : (o q : Bool) → not o && not q ≡ cond o false (not q)
 result true q = refl
 result false q = refl
 
-abbrev acts : ℕ → ℕ → ℕ → ℕ → Tree → List NoteT → FitT.Acting
+abbrev acts : ℕ → ℕ → ℕ → ℕ → Tree → List NoteT → Said.Acting
 acts op w x r v ns = record { operation = op; whole = w; word = x; register = r; formula = v; notes = ns }
 
 -- operations that are not there return nothing and are no writes

@@ -1,8 +1,8 @@
 -- The starred cases hold of the definitions.
 use native.Mathlib.Decide.{ℕ-discrete}
 use lib.Dec.{T}
-use Rattle.logic.specs.Formula.{same}
-use Rattle.logic.specs.Base.{upd, all}
+use Rattle.semantics.specs.Formula.{same}
+use Rattle.semantics.specs.Base.{upd, all}
 use Rattle.logic.specs.Rows.{same-name, choose, isIn, distinct}
 use Rattle.logic.specs.Table.{same-leaf}
 use Rattle.limits.specs.Numbers.{word, has, numbers, within, every}
@@ -43,7 +43,7 @@ use Rattle.report.specs.Place as Place
 use Rattle.report.specs.Fields.{gathered, fieldsOf}
 use Rattle.report.specs.Record.{recordBytes}
 use Rattle.report.specs.Output.{codeFor, bytesFor}
-use Rattle.checker.specs.Answer.{verdict}
+use Rattle.promise.specs.Answer.{verdict}
 use Rattle.starred.specs.Table.{holds, table}
 
 pub starred : T (all holds table)

@@ -10,7 +10,7 @@ use lib.Dec.{T, eqb, eqb→eq, eqb-refl}
 use lib.Seq.{getD-drop, drop-drop, drop-cons}
 use lib.ListN.{length, getD, drop, replicate, drop-of-length-le, List·getD-eq-default}
 use borrow.Author.Tests.{eq-eqb, ne-eqb}
-use Rattle.logic.proofs.Base.{and-left, and-right, and-both}
+use Rattle.semantics.proofs.Base.{and-left, and-right, and-both}
 use Rattle.stored.specs.Room.{holds}
 
 and-none : (b : Bool) → (b && false) ≡ false

@@ -3,5 +3,6 @@ pub mod File
 pub mod Next
 pub mod Number
 pub mod Room
+pub mod Space
 pub mod Tally
 pub mod Tallied

@@ -7,7 +7,7 @@ use Rattle.stored.specs.declared.tally.Tally.{Tally}
 
 -- kinds from here on are not counted
 abbrev pub kinds-limit : ℕ
-kinds-limit = 32
+kinds-limit = 64
 
 -- the next count, in 64 bits
 abbrev pub more : ℕ → ℕ

@@ -13,4 +13,5 @@ pub mod end;
 pub mod file;
 pub mod number;
 pub mod room;
+pub mod space;
 pub mod tally;

@@ -16,7 +16,7 @@ pub struct Kind;
 
 impl Kind {
     // A kind that is as large or larger is not counted.
-    pub const LIMIT: usize = 32;
+    pub const LIMIT: usize = 64;
 }
 
 // The whole cases before the end. (An enum holds no array, so the tally stands beside it.)

@@ -1,4 +1,3 @@
-pub mod Counting
 pub mod Lent
 pub mod Parted
 pub mod Same

@@ -6,7 +6,7 @@ use mathlib.Core.List.{List, _++_}
 use Prim.Native.Nat.{ℕ}
 use lib.Dec.{T, eqb→eq}
 use lib.ListN.{replicate}
-use Rattle.logic.proofs.Base.{and-left, and-right}
+use Rattle.semantics.proofs.Base.{and-left, and-right}
 use Rattle.stored.proofs.Rooms.{holds-equal}
 use Rattle.stored_answers.specs.Answer.{blank, empty, codeAt, toldAt, sameAnswer}
 

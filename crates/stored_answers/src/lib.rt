@@ -1,5 +1,3 @@
-// What programs over stored replays and handovers share: parts of a case, room lent, answers compared, codes
-// counted.
+// What programs over stored calls share: parts of a case, room lent, answers compared.
 pub mod answer;
-pub mod kind;
 pub mod parts;

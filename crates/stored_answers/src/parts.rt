@@ -13,7 +13,7 @@ pub fn first_in<'a, 'b>(body: &'a [u8], s: &'b [u8]) -> &'a [u8]
 }
 
 // From the second part on; and so on for the others.
-fn second_on<'a, 'b>(body: &'a [u8], s: &'b [u8]) -> &'a [u8]
+pub fn second_on<'a, 'b>(body: &'a [u8], s: &'b [u8]) -> &'a [u8]
     ensures { λ r. ⌜ now r ≡ secondOn (now (s .entry)) (now (body .entry)) ⌝ }
 {
     rest(body, long_at(s, 0))

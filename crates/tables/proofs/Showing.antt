@@ -9,8 +9,8 @@ use lib.Bits.{bitAnd, bitOr, bitXor}
 use lib.ListN.{getD, replicate}
 use lib.Dec.{eqb, ltb}
 use borrow.Author.Tests.{lt-ltb, eqb-true}
-use Rattle.logic.specs.Code
-use Rattle.logic.specs.Code.{byte}
+use Rattle.semantics.specs.Code
+use Rattle.semantics.specs.Code.{byte}
 use Rattle.formula.specs.Codes.{member}
 use Rattle.formula.specs.Tree.{Tree, none, node}
 use Rattle.leaves.specs.Slots.{slots, numbers, slotOf}

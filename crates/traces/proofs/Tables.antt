@@ -11,7 +11,7 @@ use Rattle.columns.specs.Column.{column}
 use Rattle.columns.proofs.Listed.{column-none, column-length, column-getD}
 use Rattle.writes.specs.Write.{noWrite, startWrite}
 use Rattle.memory.specs.Memory.{first, indexOf, writeAt}
-use Rattle.logic.specs.Machine.{State}
+use Rattle.semantics.specs.Machine.{State}
 use Rattle.memory.specs.Stands.{SameWrite, Stands}
 use Rattle.writes.specs.declared.write.Write.{Write}
 use Rattle.memory.specs.declared.memory.Memory.{Memory}

@@ -7,8 +7,8 @@ use native.Mathlib.Omega.{arith}
 use lib.ListN.{length, drop}
 use lib.Dec.{T}
 use borrow.Author.Tests.{lt-ltb}
-use Rattle.logic.specs.Formula.{Sort, Formula, encode, nesting}
-use Rattle.logic.proofs.Base.{holds-true, and-left, and-right}
+use Rattle.semantics.specs.Formula.{Sort, Formula, encode, nesting}
+use Rattle.semantics.proofs.Base.{holds-true, and-left, and-right}
 use Rattle.formula.specs.Codes.{fitsAt, hasOperand}
 use Rattle.formula.specs.Reader.{inRange, operandFault, headFault, faultAt}
 use Rattle.formula.specs.declared.reader.Counts.{Counts}

@@ -1,2 +1,3 @@
 pub mod ToTree
 pub mod Place
+pub mod Said

@@ -8,8 +8,8 @@ use native.Mathlib.Omega.{arith}
 use lib.Dec.{ltb}
 use borrow.Author.Tests.{ltb-true, ltb-false}
 use lib.ListN.{length, getD, drop, List·getD-eq-default}
-use Rattle.logic.specs.Machine.{Program, Instr, Instr.act, Instr.branch}
-use Rattle.logic.specs.EveryRun.{Outline}
+use Rattle.semantics.specs.Machine.{Program, Instr, Instr.act, Instr.branch}
+use Rattle.semantics.specs.EveryRun.{Outline}
 use Rattle.logic.specs.Statement.{Statement}
 use Rattle.logic.specs.Obligations.{Obligation, Obligation.start, Obligation.step, Obligation.taken, Obligation.interference, wantsNext, wantsTarget, wants, obligations}
 use Rattle.logic.specs.Claims.{Claim, claims}

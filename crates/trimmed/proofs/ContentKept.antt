@@ -7,10 +7,10 @@ use native.Mathlib.Omega.{arith}
 use lib.Dec.{eqb, ltb}
 use borrow.Author.Tests.{eqb-false, ltb-false, ltb-true}
 use lib.ListN.{length, getD, drop, length-map, List·getD-eq-default}
-use Rattle.logic.specs.Base.{Within}
-use Rattle.logic.specs.Formula.{Sort}
-use Rattle.logic.specs.Machine.{Program, Instr}
-use Rattle.logic.specs.EveryRun.{Outline}
+use Rattle.semantics.specs.Base.{Within}
+use Rattle.semantics.specs.Formula.{Sort}
+use Rattle.semantics.specs.Machine.{Program, Instr}
+use Rattle.semantics.specs.EveryRun.{Outline}
 use Rattle.limits.specs.Numbers.{nth, word, numbers, within}
 use Rattle.limits.proofs.Inverse.{within-true, every-at}
 use Rattle.content.proofs.Lines.{in-range}

@@ -5,12 +5,12 @@ use mathlib.Core.List.{List, [], _∷_, _++_, map, append-assoc, map-append}
 use Prim.Native.Nat.{ℕ, zero, suc, _+_, _-_, _≤_, _<_}
 use native.Mathlib.Omega.{arith}
 use lib.Dec.{eqb}
-use Rattle.logic.specs.Base.{Within}
-use Rattle.logic.specs.Machine.{Program, Instr, Instr.act, Instr.branch}
+use Rattle.semantics.specs.Base.{Within, below, upTo}
+use Rattle.semantics.specs.Machine.{Program, Instr, Instr.act, Instr.branch}
 use Rattle.logic.specs.Rule.{Rule}
 use Rattle.logic.specs.Statement.{Statement}
 use Rattle.logic.specs.Inference.{Inference, i1, i2, i3, i4, i5-load, i5-swap, i6, i7, i8, i9, i10, i11, i12, i13, i14, i15, i16, i47, i48, i49, i50, i20, i21, i22, i23, i24, i25, i26, i27, i30, i31, i32, i33, i34, i35, i36, i37, i38, i39, i40, i41, i42, i43, i44, i45, i46}
-use Rattle.logic.specs.Obligations.{Obligation, below, upTo, flat, own, acting, instructed, assertions, steps, interferences, obligations}
+use Rattle.logic.specs.Obligations.{Obligation, flat, own, acting, instructed, assertions, steps, interferences, obligations}
 
 -- the same program, but for points
 abbrev pub withPoints : Program → (ℕ → ℕ) → Program

@@ -4,8 +4,8 @@ use mathlib.Core.List.{List, [], _∷_, map}
 use Prim.Native.Nat.{ℕ, zero, suc, _≤_, _<_}
 use native.Mathlib.Omega.{arith}
 use lib.ListN.{length, getD, length-map, List·getD-map}
-use Rattle.logic.specs.Base.{Within}
-use Rattle.logic.specs.Machine.{Program}
+use Rattle.semantics.specs.Base.{Within}
+use Rattle.semantics.specs.Machine.{Program}
 use Rattle.logic.specs.Rule.{Rule}
 use Rattle.logic.specs.Statement.{Statement}
 use Rattle.logic.specs.Inference.{Inference}

@@ -1,9 +1,9 @@
 // An image, trimmed into a buffer.
 use archived::accepted::trim_accepted;
 use archived::answer::Answer;
-use checker::acceptance::Acceptance;
 use checker::acceptance::accept_image;
 use index::table::IndexSize;
+use promise::acceptance::Acceptance;
 ghost use mathlib.Core.Path.{_≡_};
 ghost use lib.ListN.{replicate};
 ghost use Rattle.index.specs.Table.{tableSize};

@@ -1,6 +1,6 @@
 // The entry point, for C and Rust.
 use crate::archive::trim_into;
-ghost use Rattle.trimming.specs.Promise.{Promise};
+ghost use Rattle.trim_promise.specs.Promise.{Promise};
 
 // Trims an accepted image into the buffer, and says in `written` how many bytes that are. Answers 0; 24 for an image that is not
 // accepted; else 25 for a buffer that is shorter than the trimmed image. With an error 0 bytes are written, and the buffer stays.

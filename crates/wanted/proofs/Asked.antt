@@ -8,19 +8,19 @@ use native.Mathlib.Omega.{arith}
 use lib.ListN.{getD}
 use lib.Dec.{T, eqb, ltb, ltb→lt}
 use borrow.Author.Tests.{eqb-true, eqb-false, eq-eqb, ne-eqb, lt-ltb}
-use Rattle.logic.specs.Base.{Within}
-use Rattle.logic.specs.Formula.{Sort, Formula, Assertion, Test, Formula.start, Formula.bothA, Formula.holds, same}
+use Rattle.semantics.specs.Base.{Within}
+use Rattle.semantics.specs.Formula.{Sort, Formula, Assertion, Test, Formula.start, Formula.bothA, Formula.holds, same}
 use Rattle.logic.specs.Opcode as Opcode
-use Rattle.logic.specs.Names.{only, isReg}
-use Rattle.logic.specs.Machine.{Program, Instr, Instr.act, Instr.branch}
+use Rattle.semantics.specs.Names.{only, isReg}
+use Rattle.semantics.specs.Machine.{Program, Instr, Instr.act, Instr.branch}
 use Rattle.logic.specs.Statement.{Statement, inside, implies, triple, pair, isBranch, isPair, taking}
 use Rattle.patterns.specs.Fits.{sameStatement}
 use Rattle.logic.specs.Obligations as Logic
 use Rattle.logic.specs.Claims.{impossible}
-use Rattle.logic.specs.EveryRun.{Outline}
+use Rattle.semantics.specs.EveryRun.{Outline}
 use Rattle.logic.specs.Obligations.{wantsNext, wantsTarget}
 use Rattle.logic.specs.WellFormed.{proper}
-use Rattle.logic.proofs.Base.{and-right}
+use Rattle.semantics.proofs.Base.{and-right}
 use Rattle.limits.specs.Limits as Limits
 use Rattle.frames.specs.Records.{bodies}
 use Rattle.formula.specs.Tree.{Tree}
@@ -31,8 +31,9 @@ use Rattle.records.specs.Places.{instructionOf}
 use Rattle.compare.specs.Same.{sameTree}
 use Rattle.trees.specs.ToTree.{toTree}
 use Rattle.trees.proofs.ToTree.{toTree-same}
-use Rattle.certificate.specs.FitT.{concluded, implication, hoare, paired}
+use Rattle.trees.specs.Said.{concluded, implication, hoare, paired}
 use Rattle.outline.specs.Verdict.{asks, forbids}
+use Rattle.outline.proofs.Ranged.{InRange}
 use Rattle.content.specs.Formula.{formula}
 use Rattle.content.specs.Program.{pointCount, programOf, outlineOf}
 use Rattle.lookups.specs.Places.{formulaAt, claimedIn}
@@ -91,13 +92,6 @@ module _ (f g : Assertion) (u w : Tree) (p : toTree f ≡ u) (q : toTree g ≡ w
           (elim b [ true ↦ pair t k f g | false ↦ triple t k f g ]) x
       go true = pair-same t k x
       go false = kept-same t k x
-
--- an obligation is about threads and points that are there; one for a target is about a branch
-abbrev pub InRange : Program → Logic.Obligation → Type 0
-InRange P (Logic.start t) = Within (P .threads) t
-InRange P (Logic.step t k) = Within (P .threads) t × (suc k < P .points t)
-InRange P (Logic.taken t k) = Within (P .threads) t × ((suc k < P .points t) × (isBranch (P .code t k) ≡ true))
-InRange P (Logic.interference u j t k) = (Within (P .threads) u × (j < P .points u)) × (Within (P .threads) t × (suc k < P .points t))
 
 module _ (s : List ℕ) (z : Sizes) (c : Checks z (bodies s)) where
   abbrev l : List (List ℕ)

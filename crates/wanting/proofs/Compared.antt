@@ -3,14 +3,14 @@ use mathlib.Core.Path.{_≡_, refl, ap₂}
 use mathlib.Core.Bool.{Bool, _&&_}
 use mathlib.Core.List.{List}
 use Prim.Native.Nat.{ℕ}
-use Rattle.logic.specs.Code
-use Rattle.logic.specs.Code.{byte}
+use Rattle.semantics.specs.Code
+use Rattle.semantics.specs.Code.{byte}
 use Rattle.formula.specs.Codes.{hasOperand, partCount}
 use Rattle.formula.specs.Tree.{Tree, none, node, nodeAt, parseTree}
 use Rattle.compare.specs.Same.{sameTree}
 use Rattle.matcher.specs.Template.{hole}
 use Rattle.matcher.specs.Places.{proper}
-use Rattle.certificate.specs.FitT.{TreeConclusion, implication, placed}
+use Rattle.trees.specs.Said.{TreeConclusion, implication, placed}
 use Rattle.lookups.specs.Trees.{treeAt}
 use Rattle.conclusions.specs.Conclusion.{concludedAt, matchConclusion}
 use Rattle.conclusions.specs.declared.conclusion.Conclusion.{Conclusion}

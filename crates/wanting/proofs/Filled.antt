@@ -6,7 +6,7 @@ use mathlib.Core.List.{List}
 use Prim.Native.Nat.{ℕ}
 use native.Mathlib.Omega.{arith}
 use lib.Dec.{T}
-use Rattle.logic.proofs.Base.{bool-ext, and-left, and-right, and-both, holds-true}
+use Rattle.semantics.proofs.Base.{bool-ext, and-left, and-right, and-both, holds-true}
 use Rattle.formula.specs.Tree.{Tree}
 use Rattle.compare.specs.Same.{sameTree}
 use Rattle.trees.proofs.ToTree.{tree-eq, tree-refl}
@@ -17,8 +17,9 @@ use Rattle.matcher.specs.declared.bind.Bind.{Bind}
 use Rattle.matcher.specs.declared.whole.Whole.{Whole}
 use Rattle.matcher.proofs.Match.{Has}
 use Rattle.matcher.proofs.Follow.{Sized, given}
-use Rattle.certificate.specs.FitT.{TreeConclusion, placed, holesFrom}
-use Rattle.certificate.proofs.FitT.{FitSides, sides-sound, sides-goes, has-from}
+use Rattle.trees.specs.Said.{TreeConclusion, placed}
+use Rattle.tree_rules.specs.FitT.{holesFrom}
+use Rattle.tree_rules.proofs.FitT.{FitSides, sides-sound, sides-goes, has-from}
 use Rattle.conclusions.specs.Conclusion.{concludedAt, matchConclusion}
 use Rattle.conclusions.specs.declared.conclusion.Conclusion.{Conclusion}
 use Rattle.conclusions.proofs.Follow.{StandSides, sides-follow}

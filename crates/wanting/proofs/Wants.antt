@@ -15,7 +15,7 @@ use Rattle.lookups.specs.declared.claim.Claimed.{Claimed}
 use Rattle.report.specs.declared.obligation.Obligation.{Obligation}
 use Rattle.report.specs.declared.obligation.Obligation.the-variants.{Start, Step, Taken, Interference}
 use Rattle.program.specs.Instruction.{pairOperation}
-use Rattle.certificate.specs.FitT.{hoare, paired}
+use Rattle.trees.specs.Said.{hoare, paired}
 use Rattle.wanting.specs.declared.wanted.Wanted.{Wanted}
 use Rattle.wanting.specs.Wanted.{startAt, stepAt, nextAt, targetAt, keptAt, claimAt, oneHole, twoHoles, threeHoles, nextPoint, implied, actingForm, kept, assertedAt, wantedStart, wantedAction, wantedNext, wantedStep, wantedTarget, wantedKept, wantedClaim, wantedAt}
 

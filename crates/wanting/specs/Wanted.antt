@@ -3,8 +3,8 @@ use mathlib.Core.Bool.{cond}
 use mathlib.Core.List.{List, [], _∷_}
 use Prim.Native.Nat.{ℕ, _+_}
 use lib.Dec.{eqb, ltb}
-use Rattle.logic.specs.Code
-use Rattle.logic.specs.Code.{byte}
+use Rattle.semantics.specs.Code
+use Rattle.semantics.specs.Code.{byte}
 use Rattle.logic.specs.Opcode as Opcode
 use Rattle.limits.specs.Limits.{nesting, points}
 use Rattle.frames.specs.Records.{bodies}
@@ -14,7 +14,7 @@ use Rattle.program.specs.Instruction.{pairOperation}
 use Rattle.records.specs.Places.{instructionOf}
 use Rattle.matcher.specs.Template.{firstHole}
 use Rattle.matcher.specs.declared.bind.Bind.{Bind}
-use Rattle.certificate.specs.FitT.{implication, hoare, paired}
+use Rattle.trees.specs.Said.{implication, hoare, paired}
 use Rattle.content.specs.Program.{outlineNumber}
 use Rattle.lookups.specs.Places.{formulaAt}
 use Rattle.lookups.specs.declared.claim.Claimed.{Claimed}

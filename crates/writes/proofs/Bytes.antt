@@ -10,8 +10,8 @@ use lib.Dec.{eqb, leb}
 use lib.ListN.{length, getD, set, length-set}
 use lib.Seq.{getD-set-same, getD-set-other, ext-getD}
 use borrow.Author.Tests.{eqb-true, eqb-false, leb-true, leb-false}
-use Rattle.logic.specs.Machine.{down}
-use Rattle.logic.proofs.Base.{down-is}
+use Rattle.semantics.specs.Machine.{down}
+use Rattle.semantics.proofs.Base.{down-is}
 use Rattle.columns.specs.Column.{column}
 use Rattle.columns.proofs.Listed.{column-length, column-getD, column-same}
 use Rattle.writes.specs.View.{up, positionIn, withPosition, upView}

@@ -4,7 +4,7 @@ use mathlib.Core.Bool.{Bool, cond}
 use mathlib.Core.List.{List}
 use lib.Dec.{eqb}
 use lib.ListN.{getD, set}
-use Rattle.logic.specs.Machine.{down}
+use Rattle.semantics.specs.Machine.{down}
 use Rattle.columns.specs.Column.{column}
 use Rattle.writes.specs.Write.{noWrite, upWrite, coveredWrite}
 use Rattle.writes.specs.declared.view.View.{View}

@@ -1,5 +1,5 @@
-//! Stored cases of trimming: the image's length (32 bits) and bytes, how many bytes of output are lent (32 bits), the
-//! code (16 bits), how many bytes are written (32 bits, 0 with an error) and these bytes.
+//! Stored cases of trimming. In front how many bytes follow (32 bits) of the image and what it is trimmed to (nothing with an
+//! error); then how many bytes the image has and how many of output are lent (32 bits each); the code (16 bits).
 
 use super::{length, number, take};
 use crate::trim::{trim_into, Answer};
@@ -19,12 +19,12 @@ const BEFORE: u8 = 0xA5;
 pub fn cases(mut bytes: &[u8]) -> Option<Vec<Case<'_>>> {
     let mut cases = Vec::new();
     while !bytes.is_empty() {
+        let parts = length(&mut bytes)?;
+        let mut parts = take(&mut bytes, parts)?;
         let image = length(&mut bytes)?;
-        let image = take(&mut bytes, image)?;
+        let image = take(&mut parts, image)?;
         let room = length(&mut bytes)?;
-        let code = number(&mut bytes)?;
-        let written = length(&mut bytes)?;
-        cases.push(Case { image, room, code, written: take(&mut bytes, written)? });
+        cases.push(Case { image, room, code: number(&mut bytes)?, written: parts });
     }
     Some(cases)
 }

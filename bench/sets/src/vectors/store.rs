@@ -89,10 +89,10 @@ pub fn trims(cases: &[TrimCase]) -> (Vec<u8>, String) {
     for (number, case) in (1..).zip(cases) {
         let mut out = vec![0; case.room];
         let answer = trim_into(&case.image, &mut out);
-        push_counted(&mut bytes, &case.image);
+        push_counted(&mut bytes, &[&case.image, &out[..answer.length]].concat());
+        push_length(&mut bytes, case.image.len());
         push_length(&mut bytes, case.room);
         bytes.extend(answer.code.to_le_bytes());
-        push_counted(&mut bytes, &out[..answer.length]);
         let TrimCase { label, room, .. } = case;
         let _ = writeln!(text, "{number}\t{label}\t{room} {} {}", answer.code, answer.length);
     }

@@ -1,17 +1,20 @@
 use mathlib.Core.Path.{_≡_}
 use lib.ListN.{length}
-use borrow.Author.Needs.{needs}
+use Rattle.stored.specs.Space.{spaceBytes}
 use Rattle.stored.proofs.Cases.{bodies}
 use Rattle.stored.proofs.Tallies.{Running}
+use Rattle.cases.specs.Kind.{tailOf}
 use Rattle.cases.proofs.Gathered.{gathered}
+use borrow.Author.Needs.{needs}
 use Rattle.cases.proofs.judge.judge_all.Statement.{statement}
 use Rattle.cases.proofs.judge.judge_all.Tie as tie
 
 abbrev Inv-loop : tie.InvT-loop
-Inv-loop fd space₀ stored₀ tally₀ left₀ space stored tally left = (262145 ≡ length space) × ((18 ≡ length stored) × Running tally left)
+Inv-loop fd kind space₀ stored₀ tail tally₀ left₀ space stored tally left =
+    (spaceBytes ≡ length space) × ((118 ≡ length stored) × ((tail ≡ tailOf kind) × Running tally left))
 
 abbrev μ-loop : tie.MeasureT-loop
-μ-loop fd space₀ stored₀ tally₀ left₀ space stored tally left = left
+μ-loop fd kind space₀ stored₀ tail tally₀ left₀ space stored tally left = left
 
 pub judge-all-spec : {M : Type 1} → statement M
 judge-all-spec =
@@ -21,6 +24,8 @@ judge-all-spec =
     μ-loop
     (λ c κs. search (gathered, bodies, needs))
     (λ c κs. search (gathered, bodies, needs))
+    (λ c κs. search (gathered, bodies, needs))
+    (λ c. search (gathered, bodies, needs))
     (λ c. search (gathered, bodies, needs))
     (λ c. search (gathered, bodies, needs))
     (λ c. search (gathered, bodies, needs))
@@ -29,7 +34,7 @@ judge-all-spec =
     (λ c. search (gathered, bodies, needs))
     (λ c. search (gathered, bodies, needs))
     (λ c. search (gathered, bodies, needs))
-    (λ c κs. search (gathered, bodies, needs))
+    (λ c. search (gathered, bodies, needs))
     (λ c. search (gathered, bodies, needs))
     (λ c κs. search (gathered, bodies, needs))
     (λ c. search (gathered, bodies, needs))

@@ -1,4 +1,4 @@
-use Rattle.checker.proofs.Accepted.{promised, promised-short}
+use Rattle.promise.proofs.Accepted.{promised, promised-short}
 use Rattle.limits.proofs.Auto.{tests}
 use borrow.Author.Needs.{needs}
 use Rattle.checker.proofs.entry.check_image.Statement.{statement}

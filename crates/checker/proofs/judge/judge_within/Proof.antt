@@ -1,4 +1,4 @@
-use Rattle.checker.proofs.Within.{within}
+use Rattle.promise.proofs.Within.{within}
 use Rattle.limits.proofs.Auto.{tests}
 use borrow.Author.Needs.{needs}
 use Rattle.checker.proofs.judge.judge_within.Statement.{statement}

@@ -1,6 +1,7 @@
 use borrow.Author.Needs.{needs}
 use mathlib.Core.Path.{_≡_}
 use lib.ListN.{length}
+use Rattle.stored.specs.Space.{spaceBytes}
 use Rattle.stored.proofs.Cases.{bodies}
 use Rattle.stored.proofs.Tallies.{Running}
 use Rattle.desk_cases.proofs.Gathered.{gathered, running-turn}
@@ -9,7 +10,7 @@ use Rattle.desk_cases.proofs.judge.judge_all.Tie as tie
 
 abbrev Inv-loop : tie.InvT-loop
 Inv-loop fd space₀ stored₀ service₀ tally₀ left₀ space stored service tally left =
-    (262145 ≡ length space) × ((274 ≡ length stored) × ((16 ≡ length service) × Running tally left))
+    (spaceBytes ≡ length space) × ((274 ≡ length stored) × ((16 ≡ length service) × Running tally left))
 
 abbrev μ-loop : tie.MeasureT-loop
 μ-loop fd space₀ stored₀ service₀ tally₀ left₀ space stored service tally left = left

@@ -1,4 +1,4 @@
-use Rattle.handover.proofs.Decided.{marks-found}
+use Rattle.handover_promise.proofs.Decided.{marks-found}
 use Rattle.limits.proofs.Auto.{tests}
 use borrow.Author.Needs.{needs}
 use Rattle.handover.proofs.permit.all_serve.Statement.{statement}

@@ -1,4 +1,4 @@
-use Rattle.handover.proofs.Decided.{between-out, between-served, between-unserved}
+use Rattle.handover_promise.proofs.Decided.{between-out, between-served, between-unserved}
 use Rattle.limits.proofs.Auto.{tests}
 use borrow.Author.Needs.{needs}
 use Rattle.handover.proofs.permit.code_between.Statement.{statement}

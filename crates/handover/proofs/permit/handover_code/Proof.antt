@@ -1,4 +1,4 @@
-use Rattle.handover.proofs.Decided.{headers-threads, headers-same, headers-differ}
+use Rattle.handover_promise.proofs.Decided.{headers-threads, headers-same, headers-differ}
 use Rattle.limits.proofs.Auto.{tests}
 use borrow.Author.Needs.{needs}
 use Rattle.handover.proofs.permit.handover_code.Statement.{statement}

@@ -1,4 +1,4 @@
-use Rattle.replay_across.proofs.Ways.{refused-so}
+use Rattle.across_promise.proofs.Ways.{refused-so}
 use Rattle.limits.proofs.Auto.{tests}
 use borrow.Author.Needs.{needs}
 use Rattle.replay_across.proofs.both.refuse.Statement.{statement}

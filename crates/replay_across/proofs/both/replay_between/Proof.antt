@@ -1,4 +1,4 @@
-use Rattle.replay_across.proofs.Ways.{between-permitted, between-refused}
+use Rattle.across_promise.proofs.Ways.{between-permitted, between-refused}
 use Rattle.limits.proofs.Auto.{tests}
 use borrow.Author.Needs.{needs}
 use Rattle.replay_across.proofs.both.replay_between.Statement.{statement}

@@ -1,4 +1,4 @@
-use Rattle.replay_across.proofs.Ways.{both-short, both-run}
+use Rattle.across_promise.proofs.Ways.{both-short, both-run}
 use Rattle.limits.proofs.Auto.{tests}
 use borrow.Author.Needs.{needs}
 use Rattle.replay_across.proofs.both.run_both.Statement.{statement}

@@ -1,5 +1,5 @@
 use Rattle.limits.proofs.Auto.{tests}
-use Rattle.replay_across.proofs.Promised.{written-short, written-whole}
+use Rattle.across_promise.proofs.Promised.{written-short, written-whole}
 use borrow.Author.Needs.{needs}
 use Rattle.replay_across.proofs.entry.replay_handover.Statement.{statement}
 use Rattle.replay_across.proofs.entry.replay_handover.Tie as tie

@@ -1,6 +1,6 @@
 use native.Mathlib.Omega.{arith}
 use Rattle.limits.proofs.Auto.{tests}
-use Rattle.trimming.proofs.Promised.{promised}
+use Rattle.trim_promise.proofs.Promised.{promised}
 use borrow.Author.Needs.{needs}
 use Rattle.trimming.proofs.entry.trim_image.Statement.{statement}
 use Rattle.trimming.proofs.entry.trim_image.Tie as tie

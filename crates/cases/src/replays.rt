@@ -1,0 +1,50 @@
+// Stored replays: image, trace, given registers and entries as the body, lengths and answer as the tail.
+use limits::read::rest;
+use replaying::entry::replay_trace;
+use stored::tally::Tally;
+use stored::tally::with_case;
+use stored_answers::answer::Room;
+use stored_answers::answer::blank_numbers;
+use stored_answers::answer::blank_table;
+use stored_answers::answer::lent_at;
+use stored_answers::answer::same_answer;
+use stored_answers::parts::first_in;
+use stored_answers::parts::fourth_on;
+use stored_answers::parts::second_in;
+use stored_answers::parts::third_in;
+ghost use Rattle.replay_promise.specs.Promise.{Written};
+ghost use Rattle.stored_answers.specs.Parts.{firstIn, secondIn, thirdIn};
+ghost use Rattle.cases.specs.Judge.{Replayed};
+
+// The call that is stored.
+fn replay_stored<'a, 'b, 'c, 'd>(
+    body: &'a [u8],
+    s: &'b [u8],
+    table: &'c mut [u8],
+    answer: &'d mut [usize],
+) -> u16
+    ensures { λ r. ⌜ Written (firstIn (now (s .entry)) (now (body .entry))) (secondIn (now (s .entry)) (now (body .entry)))
+        (thirdIn (now (s .entry)) (now (body .entry))) (now (table .entry)) (now (answer .entry)) r
+        (now (table .exit)) (now (answer .exit)) ⌝ }
+{
+    replay_trace(
+        first_in(body, s),
+        second_in(body, s),
+        third_in(body, s),
+        table,
+        answer,
+    )
+}
+
+// The tally with a replay more, by its code, and whether it is the stored one.
+pub fn with_replay<'a, 'b>(t: Tally, body: &'a [u8], s: &'b [u8]) -> Tally
+    ensures { λ r. ⌜ Replayed (now (body .entry)) (now (s .entry)) t r ⌝ }
+{
+    let mut table = blank_table();
+    let mut numbers = blank_numbers();
+    let n = lent_at(s, 12, Room::BYTES);
+    let m = lent_at(s, 16, Room::NUMBERS);
+    let code = replay_stored(body, s, &mut table[..n], &mut numbers[..m]);
+    let same = same_answer(code, &table, &numbers, rest(s, 20), fourth_on(body, s));
+    with_case(t, code as usize, same)
+}

@@ -1,0 +1,1 @@
+// What a permitted handover promises: definitions, and what follows from them.

@@ -1,0 +1,4 @@
+pub mod Answer
+pub mod Promise
+pub mod Uncut
+pub mod Acceptance

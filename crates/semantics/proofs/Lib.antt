@@ -1,0 +1,15 @@
+pub mod Base
+pub mod Cuts
+pub mod Encoding
+pub mod Halves
+pub mod Invariant
+pub mod Prospects
+pub mod World
+pub mod Starts
+pub mod Permitted
+pub mod Computed
+pub mod Flags
+pub mod Meaning
+pub mod Facts
+pub mod Effects
+pub mod Worked

@@ -1,0 +1,47 @@
+-- Truth of intervals over lists of views, and of assertions in states.
+use mathlib.Core.Path.{_≡_}
+use mathlib.Core.List.{List, [], _∷_}
+use mathlib.Core.Logic.{_⊎_}
+use Prim.Native.Nat.{ℕ, _≤_, _<_}
+use lib.Dec.{T}
+use lib.ListN.{take, drop}
+use Rattle.semantics.specs.Base.{All}
+use Rattle.semantics.specs.Formula.{Interval, Assertion, Formula.box, Formula.one, Formula.chop, Formula.both, Formula.either, Formula.sees, Formula.bothA, Formula.eitherA, Formula.start, Formula.holds}
+use Rattle.semantics.specs.Eval.{Env, test, onRegs}
+use Rattle.semantics.specs.Machine.{View, State, at, Program, Start}
+
+-- [E]: E is true at each view. one x: all views name the same write of x. Chop: the list is cut in two, either part perhaps empty.
+-- R: how many values there are; ρ: what the names stand for at a view
+abbrev pub Sat : ℕ → (View → Env) → Interval → List View → Type 0
+Sat R ρ (box e) l = All (λ v. T (test R (ρ v) e)) l
+Sat R ρ (one x) l = (n : ℕ) × All (λ v. v x ≡ n) l
+Sat R ρ (chop i j) l = (k : ℕ) × Sat R ρ i (take k l) × Sat R ρ j (drop k l)
+Sat R ρ (both i j) l = Sat R ρ i l × Sat R ρ j l
+Sat R ρ (either i j) l = Sat R ρ i l ⊎ Sat R ρ j l
+
+-- the view names writes that are there; size: how many writes each row has
+abbrev pub Names : (ℕ → ℕ) → View → Type 0
+Names size v = (x : ℕ) → v x < size x
+
+-- none before v in any word, and none before its predecessor in any word
+abbrev pub From : (ℕ → ℕ) → View → List View → Type 0
+From size v [] = Unit {0}
+From size v (w ∷ l) = Names size w × ((x : ℕ) → v x ≤ w x) × From size w l
+
+-- the scope page's prospect of a thread whose view is v: a non-empty list of such views.
+-- It speaks of every number as a word: those that are not there have one write for ever
+abbrev pub Prospect : (ℕ → ℕ) → View → List View → Type 0
+Prospect size v [] = ⊥
+Prospect size v (w ∷ l) = From size v (w ∷ l)
+
+-- every prospect of t satisfies the interval
+abbrev pub Sees : Program → State → ℕ → Interval → Type 0
+Sees P s t i = (l : List View) → Prospect (s .size) (s .view t) l → Sat (P .range) (at P s) i l
+
+-- the assertion is true in the state. "holds e": e is true of the registers; start is true of the start states only
+abbrev pub True : Program → State → Assertion → Type 0
+True P s (sees t i) = Sees P s t i
+True P s (bothA a b) = True P s a × True P s b
+True P s (eitherA a b) = True P s a ⊎ True P s b
+True P s start = Start P s
+True P s (holds e) = T (test (P .range) (onRegs (s .reg)) e)

@@ -1,0 +1,1 @@
+// What trimming promises: definitions, and what follows from them.
