@@ -1,6 +1,8 @@
 // Which calls a file holds: by the front of its name.
+use bill_answers::answer::Stored as BillStored;
 use limits::read::part;
 use stored::room::holds_bytes;
+use trim_answers::answer::Stored as TrimStored;
 ghost use mathlib.Core.Path.{_≡_};
 ghost use Rattle.cases.specs.Kind.{begins, kindOf, tailOf};
 
@@ -19,12 +21,10 @@ impl Tail {
     // Nine numbers of 16 bits.
     pub const VERDICT: usize = 18;
 
-    // How many bytes the image has and how many are lent, 32 bits each; the code, 16 bits.
-    pub const TRIM: usize = 10;
+    // How many bytes the image has, 32 bits; then the call and its answer.
+    pub const TRIM: usize = 4 + TrimStored::BYTES;
 
-    // The prices and the least charge, 16 bits each; how many images are billed and how many numbers are lent, 32 bits each; the code, 16
-    // bits; the bill, six numbers of 32 bits.
-    pub const BILL: usize = 44;
+    pub const BILL: usize = BillStored::BYTES;
 
     // The lengths of image, trace and given registers, the bytes of table and the numbers lent, 32 bits each; the code, 16 bits; the
     // answer, 21 numbers of 32 bits.
