@@ -28,6 +28,8 @@ fn what_is_false_is_told_with_a_run() {
     assert_eq!((status, out.as_str()), (1, ""));
     assert!(!Path::new(&image).exists());
     let lines: Vec<&str> = err.lines().collect();
+    let answer = "PROGRAM WRONG: a run of 4 steps breaks reader's last assertion: a != 1 or b = 1";
+    assert_eq!((lines[0], lines[4]), (answer, "  4. reader: b <- data   reads 0 from write 1"));
     let place = "open: class 4, thread 2 (reader) point 0 (line 23): not kept by thread 1 (writer) point 1 (line 17)";
     let run = [
         place,
@@ -35,7 +37,7 @@ fn what_is_false_is_told_with_a_run() {
         "      1. writer: data := 1   writes 1 behind write 1",
         "      2. writer: flag := 1   writes 1 behind write 1",
     ];
-    assert_eq!(lines[..4], run);
+    assert_eq!(lines[8..12], run);
     assert!(err.contains("\n  to           Coming\n"), "names of `let` stay names: {err}");
     assert!(err.ends_with("1 of 18 obligations are open; no image is written\n"), "{err}");
 }
@@ -49,7 +51,7 @@ fn every_wrong_variant_is_told_false() {
         let name = path.file_stem().expect("named").to_string_lossy().into_owned();
         if name.contains("-wrong-") {
             let (status, _, err) = run(&["build", &path.to_string_lossy(), "-o", "-"]);
-            assert!(status == 1 && err.contains("  FALSE        a run of "), "{name}: {err}");
+            assert!(status == 1 && err.contains("\n  FALSE        "), "{name}: {err}");
             wrong += 1;
         }
     }
@@ -61,9 +63,12 @@ fn what_no_rule_reaches_is_not_told_false() {
     let (status, _, err) = run(&["build", &example("ticket-wait"), "-o", "-"]);
     assert_eq!(status, 1);
     assert!(!err.contains("FALSE"), "{err}");
-    let words = "  not false    no run breaks it (all ";
     assert!(
-        err.contains(words) && err.contains("states): no rule leads there, as far as"),
+        err.starts_with("NOT PROVED: no run breaks an assertion or a claim (all 16 states)\n"),
+        "{err}"
+    );
+    assert!(
+        err.contains("  not found    by the search; no run breaks it (all 16 states)\n"),
         "{err}"
     );
 }
@@ -375,7 +380,11 @@ fn claims_that_fail_are_told_with_a_run() {
     let (status, out, err) = run(&["build", &text, "-o", &image]);
     assert_eq!((status, out.as_str()), (1, ""));
     let want = format!(
-        "open: claim, never thread 2 (right) point 0 (line 8) and thread 1 (left) point 1 (line 6)
+        "PROGRAM WRONG: a run of 1 step breaks a claim: never right at point 0 and left at after
+  1. left: x := 1 | a := 1   writes 1 behind write 1, gives 1
+     then a = 1
+     x was written 0, 1
+open: claim, never thread 2 (right) point 0 (line 8) and thread 1 (left) point 1 (line 6)
   FALSE        a run of 1 step breaks it
       1. left: x := 1 | a := 1   writes 1 behind write 1, gives 1
          then a = 1

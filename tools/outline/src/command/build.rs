@@ -59,8 +59,8 @@ pub fn run(args: &[&str]) -> Done {
     let told = Told::of(&options, &source)?;
     let kept = if options.all_lines { Kept::All } else { Kept::Needed };
     let built = watched(&source, kept).map_err(|e| mistake(file, &text, &e))?;
-    let mut said: Vec<String> = built.failed.iter().map(|e| mistake(file, &text, e)).collect();
-    said.extend(open_ones(&source, &built, &told));
+    let mut said = open_ones(&source, &built, &told);
+    said.extend(built.failed.iter().map(|e| mistake(file, &text, e)));
     let stays = built.untried > 0 || !built.open.is_empty() || !built.failed.is_empty();
     if stays && !options.partial {
         said.push(nothing_written(called(file), &built));
@@ -173,19 +173,22 @@ fn written(target: &str, built: &Built, bytes: usize) -> String {
     )
 }
 
-/// What stays open, each with what the machine says of it.
+/// Whether the program is wrong or its proof, then what stays open, each with what the machine says of it: first what
+/// is false, then what is not provable, then what was only not found.
 fn open_ones(source: &Source, built: &Built, told: &Told) -> Vec<String> {
     if built.open.is_empty() {
         return Vec::new();
     }
-    let looked = Looked::at(source, &built.open);
-    let worded = |(n, open): (usize, &Open)| {
+    let looked = Looked::at(source, built);
+    let mut open: Vec<&Open> = built.open.iter().collect();
+    open.sort_by_key(|open| looked.rank(&open.goal));
+    let worded = |(n, open): (usize, &&Open)| {
         let in_full = told.in_full(n, &open.goal);
         let text = report::open(source, open, in_full);
         let (place, rest) = text.split_once('\n').expect("a line is told");
-        // Whether it is false comes first: then nothing else matters.
-        let text = format!("{place}\n{}{rest}", looked.told(source, open, n, in_full));
+        let text = format!("{place}\n{}{rest}", looked.told(open, in_full));
         text.trim_end().to_string()
     };
-    built.open.iter().enumerate().map(worded).collect()
+    let worded = open.iter().enumerate().map(worded);
+    [looked.answer()].into_iter().chain(worded).collect()
 }

@@ -8,7 +8,7 @@ use crate::command::report::{bounds, Loaded};
 use crate::command::{json, print, write, Done, Status};
 use crate::draw::{Ending, Picture};
 use crate::markup::Element;
-use crate::report::{picture, unbroken, Content};
+use crate::report::{picture, Content};
 use crate::text::counted;
 
 pub fn run(args: &[&str]) -> Done {
@@ -43,15 +43,16 @@ enum Drawn {
     Run(String, Element),
 }
 
-/// A run that breaks an obligation.
+/// The run that matters most among those that break something.
 fn breaking(content: &Content) -> Drawn {
-    match &content.sought {
-        None => Drawn::Nothing("accepted: no run breaks it".into()),
-        Some(Err(sought)) => Drawn::Nothing(unbroken(sought)),
-        Some(Ok(broken)) => {
-            let text = format!("a run of {} breaks it", counted(broken.run.steps.len(), "step"));
-            Drawn::Run(text, picture(content, broken).svg())
-        }
+    let Some(diagnosis) = &content.diagnosis else {
+        return Drawn::Nothing("accepted: no run breaks it".into());
+    };
+    let text = content.telling(|told| told.sentence(diagnosis));
+    let text = format!("{}: {text}", diagnosis.answer().head());
+    match diagnosis.worst() {
+        Some(broken) => Drawn::Run(text, picture(content, &broken).svg()),
+        None => Drawn::Nothing(text),
     }
 }
 

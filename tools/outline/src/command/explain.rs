@@ -5,10 +5,11 @@ use crate::command::judge::{judge, JUDGE};
 use crate::command::options::Options;
 use crate::command::{json, print, words, Done, Status};
 use crate::image::{self, Image};
+use crate::judged::{is_accepted, judged, Goal};
 use crate::text::print::Names;
 use crate::text::{report, show};
-use reference::checker::obligations::duties;
 use reference::checker::rules::OF_PAIR;
+use reference::checker::{decode, Verdict};
 use std::collections::BTreeSet;
 use std::fmt::Write;
 
@@ -23,7 +24,7 @@ pub fn run(args: &[&str]) -> Done {
         print(if options.json { json::object(&all) + "\n" } else { said + "\n" })?;
         return Ok(status);
     };
-    let explained = Explained::of(&subject, &image);
+    let explained = Explained::of(&subject, &image, &verdict)?;
     let mut text = format!("{said}   ({JUDGE})\n{}", explained.text);
     if options.json {
         let all = [
@@ -46,39 +47,34 @@ struct Explained {
 }
 
 impl Explained {
-    fn of(subject: &Subject, image: &Image) -> Explained {
+    fn of(subject: &Subject, image: &Image, verdict: &Verdict) -> Result<Explained, String> {
         let (names, source) = (subject.names(&image.program), subject.source());
+        let decoded = decode(&subject.bytes).map_err(|_| "an image that is read is judged")?;
+        let judged = judged(&decoded);
+        let accepted = is_accepted(&judged, verdict)?;
         let mut told = BTreeSet::new();
-        let mut all =
-            Explained { text: String::new(), obligations: Vec::new(), claims: Vec::new() };
-        let numbered = duties(&image.program.threads).into_iter().zip(&image.written.obligations);
-        for (n, (duty, &line)) in (1..).zip(numbered) {
-            let place = report::duty(&names, source, &duty);
-            let tree = tree(image, &names, line, &mut told);
-            all.obligations.push(as_json("obligation", &place, line, &tree));
-            all.text += &as_text(n, &place, line, &tree);
+        let (mut text, mut obligations, mut claims) = (String::new(), Vec::new(), Vec::new());
+        for (n, judged) in (1..).zip(&judged) {
+            let standing = judged.standing(accepted);
+            let tree = tree(image, &names, judged.line, &mut told);
+            let (place, what, list) = match &judged.goal {
+                Goal::Duty(duty) => {
+                    (report::duty(&names, source, duty), "obligation", &mut obligations)
+                }
+                Goal::Claim(meeting) => {
+                    (report::claim(&names, source, meeting), "claim", &mut claims)
+                }
+            };
+            let _ = write!(text, "\n{n}. {place}: {}\n{tree}", standing.told(judged.line));
+            list.push(json::object(&[
+                (what, json::text(&place)),
+                ("standing", json::text(standing.key())),
+                ("line", judged.line.to_string()),
+                ("tree", json::text(&tree)),
+            ]));
         }
-        for (n, claim) in (all.obligations.len() + 1..).zip(&image.written.claims) {
-            let place = report::claim(&names, source, &claim.meeting);
-            let tree = tree(image, &names, claim.line, &mut told);
-            all.claims.push(as_json("claim", &place, claim.line, &tree));
-            all.text += &as_text(n, &place, claim.line, &tree);
-        }
-        all
+        Ok(Explained { text, obligations, claims })
     }
-}
-
-fn as_json(what: &str, place: &str, line: u16, tree: &str) -> String {
-    json::object(&[
-        (what, json::text(place)),
-        ("line", line.to_string()),
-        ("tree", json::text(tree)),
-    ])
-}
-
-fn as_text(number: usize, place: &str, line: u16, tree: &str) -> String {
-    let by = if line > 0 { format!("line {line}") } else { "no line".into() };
-    format!("\n{number}. {place}: {by}\n{tree}")
 }
 
 /// What a line rests on; nothing for line 0.

@@ -4,14 +4,16 @@ use crate::command::input::{called, read, Input, Subject};
 use crate::command::judge::{judge, JUDGE};
 use crate::command::options::Options;
 use crate::command::{json, print, words, write, Done, Status};
+use crate::diagnosis::{Diagnosis, BOUNDS};
 use crate::gallery::Header;
 use crate::image;
-use crate::judged::{broken, judged, Goal, Judged, BOUNDS};
+use crate::judged::{is_accepted, judged, Goal};
 use crate::report::sha256::digest;
 use crate::report::words::Words;
 use crate::report::{self, Content};
 use reference::checker::{decode, Verdict};
 use reference::explore::Bounds;
+use reference::image::Meeting;
 use std::path::Path;
 
 pub fn run(args: &[&str]) -> Done {
@@ -113,28 +115,18 @@ impl Loaded {
             return Ok(None);
         };
         let judged = judged(&decoded);
-        agree(&judged, verdict)?;
+        let accepted = is_accepted(&judged, verdict)?;
         let words = match (&self.input, self.subject.source()) {
             (Input::Text(text), Some(source)) => Words::of_text(text, source),
             _ => Words::of_image(&self.subject.names(&image.program), &image.program),
         };
-        let refused = judged.iter().any(|judged| !judged.is_met());
-        let bounds = bounds.filter(|_| refused);
-        let sought = bounds.map(|bounds| broken(&decoded.program, &judged, bounds));
+        let open = judged.iter().filter(|judged| !judged.has_its_line());
+        let open: Vec<Goal> = open.map(|judged| judged.goal).collect();
+        let claims: Vec<Meeting> = decoded.claims.iter().map(|claim| claim.meeting).collect();
+        let bounds = bounds.filter(|_| !accepted);
+        let diagnosis = bounds.map(|b| Diagnosis::of(&decoded.program, &claims, &open, b));
         let open = self.subject.outline.as_ref().and_then(|(_, built)| built.open.first());
         let tried = open.map(|open| open.tried.clone()).unwrap_or_default();
-        Ok(Some(Content { image, words, judged, sought, tried }))
+        Ok(Some(Content { image, words, judged, accepted, diagnosis, tried }))
     }
-}
-
-/// The tables are the independent checker's. A verdict that says otherwise is not put on a page with them.
-fn agree(judged: &[Judged], verdict: &Verdict) -> Result<(), String> {
-    let first = judged.iter().position(|judged| !judged.is_met());
-    let duties = judged.iter().filter(|judged| matches!(judged.goal, Goal::Duty(_))).count();
-    let code = first.map_or(0, |at| judged[at].code);
-    let count = first.unwrap_or(duties).min(duties);
-    if (code, count) != (verdict.code, usize::from(verdict.count)) {
-        return Err(format!("the checkers disagree: {verdict}, but code {code} after {count}"));
-    }
-    Ok(())
 }

@@ -5,7 +5,7 @@ use super::{claims, Content};
 use crate::judged::Goal;
 use crate::markup::{el, of, Element};
 use reference::checker::obligations::Duty;
-use reference::image::{Instruction, Meeting};
+use reference::image::Instruction;
 
 /// What the obligations of a class ask.
 pub fn class_title(class: u8) -> &'static str {
@@ -37,15 +37,8 @@ fn instruction(content: &Content, thread: u8, point: u8) -> String {
 pub fn goal_words(content: &Content, goal: &Goal) -> String {
     match goal {
         Goal::Duty(duty) => duty_words(content, duty),
-        Goal::Claim(meeting) => format!("{} never meet", met(content, meeting)),
+        Goal::Claim(meeting) => format!("{} never meet", content.words.names.both(meeting)),
     }
-}
-
-/// Two threads at their points.
-pub fn met(content: &Content, meeting: &Meeting) -> String {
-    let name = |thread: u8| content.words.names.thread(thread);
-    let Meeting { thread, point, other_thread, other_point } = *meeting;
-    format!("{} at point {point} and {} at point {other_point}", name(thread), name(other_thread))
 }
 
 fn duty_words(content: &Content, duty: &Duty) -> String {
@@ -154,15 +147,5 @@ fn duty_rows(
             ("by", act(actor, action)),
             ("to", at(thread, point)),
         ],
-    }
-}
-
-/// The thread whose assertion an obligation is about.
-pub fn asserting(duty: &Duty) -> u8 {
-    match *duty {
-        Duty::Start { thread }
-        | Duty::Next { thread, .. }
-        | Duty::Taken { thread, .. }
-        | Duty::Kept { thread, .. } => thread,
     }
 }

@@ -15,12 +15,13 @@ mod trust;
 mod verdict;
 pub mod words;
 
+use crate::diagnosis::Diagnosis;
 use crate::image::Image;
-use crate::judged::{Broken, Judged};
+use crate::judged::Judged;
 use crate::markup::{el, of, Element};
+use crate::text::answer::Telling;
 use reference::checker::Verdict;
-use reference::explore::Sought;
-pub use refusal::{picture, unbroken};
+pub use refusal::picture;
 use words::Words;
 
 const STYLE: &str = include_str!("style.css");
@@ -47,10 +48,21 @@ pub struct Content {
     pub image: Image,
     pub words: Words,
     pub judged: Vec<Judged>,
-    /// For a refusal: a run that breaks an obligation, or how far was looked for one.
-    pub sought: Option<Result<Broken, Sought>>,
+    /// Whether the whole image is accepted. Nothing of it is a result if it is not.
+    pub accepted: bool,
+    /// For a refusal: whether the program is wrong or its proof.
+    pub diagnosis: Option<Diagnosis>,
     /// What the search for a certificate says about the obligation that the verdict names.
     pub tried: Vec<String>,
+}
+
+impl Content {
+    /// Tells with the page's words for assertions.
+    pub fn telling<T>(&self, tell: impl Fn(&Telling) -> T) -> T {
+        let assertion = |t: u8, p: u8| self.words.assertion(t, p).to_string();
+        let (program, names) = (&self.image.program, &self.words.names);
+        tell(&Telling { program, names, assertion: &assertion })
+    }
 }
 
 impl Subject<'_> {
@@ -73,7 +85,7 @@ pub fn page(subject: &Subject) -> String {
             ("obligations", "Obligations"),
         ]);
         sections.push(program::section(content));
-        sections.push(claims::section(content, subject.is_accepted()));
+        sections.push(claims::section(content));
         sections.push(obligations::section(content));
     }
     links.push(("trust", "What is proved"));

@@ -78,7 +78,8 @@ mod tests {
         let bytes = crate::build::build(&source).expect("built").image.bytes();
         let image = crate::image::read(&bytes).expect("an image");
         let words = Words::of_text(text, &source);
-        Content { image, words, judged: Vec::new(), sought: None, tried: Vec::new() }
+        let (judged, tried) = (Vec::new(), Vec::new());
+        Content { image, words, judged, accepted: true, diagnosis: None, tried }
     }
 
     const TEXT: &str = "word x = 0

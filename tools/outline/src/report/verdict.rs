@@ -1,6 +1,5 @@
 //! The verdict in one sentence, and what a contract quotes: the record's bytes and the image's digest.
 
-use super::goals::met;
 use super::parts::{self, code, grouped};
 use super::{refusal, sha256, Content, Subject};
 use crate::command::judge::PROVED;
@@ -78,7 +77,9 @@ fn sentence(subject: &Subject) -> String {
 /// The claims of an accepted image, in the sentence.
 fn claimed(content: &Content) -> String {
     let claim = |judged: &Judged| match &judged.goal {
-        Goal::Claim(meeting) => Some(format!(" In no run do {} meet.", met(content, meeting))),
+        Goal::Claim(meeting) => {
+            Some(format!(" In no run do {} meet.", content.words.names.both(meeting)))
+        }
         Goal::Duty(_) => None,
     };
     content.judged.iter().filter_map(claim).collect()

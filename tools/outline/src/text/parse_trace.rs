@@ -91,7 +91,7 @@ mod tests {
     fn names() -> Names {
         let list = |all: &[&str]| all.iter().map(|name| name.to_string()).collect();
         let (words, registers) = (list(&["data"]), list(&["a", "b"]));
-        Names { words, registers, threads: list(&["writer", "reader"]), shorts: Vec::new() }
+        Names { words, registers, threads: list(&["writer", "reader"]), ..Names::default() }
     }
 
     #[test]

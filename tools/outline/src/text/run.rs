@@ -50,7 +50,8 @@ pub fn table(names: &Names, state: &State, writes: &[Write]) -> Vec<String> {
     places.zip(writes).map(line).collect()
 }
 
-fn registers(names: &Names, state: &State) -> String {
+/// What the registers hold.
+pub fn registers(names: &Names, state: &State) -> String {
     let values = names.registers.iter().zip(&state.registers);
     values.map(|(name, value)| format!("{name} = {value}")).collect::<Vec<String>>().join(", ")
 }

@@ -72,8 +72,12 @@ fn a_claim_that_a_run_breaks_is_drawn() {
     assert_eq!(status, 1);
     let all = tags(&text);
     assert_eq!((count(&all, "run"), count(&all, "open")), (1, 1));
-    assert!(text.contains("It is not shown that t1 at point 0 and t2 at point 1 never meet"));
-    assert!(text.contains(", and a run of 1 step breaks it."));
+    let never = "a run of 1 step breaks a claim: never t1 at point 0 and t2 at point 1.";
+    assert!(
+        text.contains(&format!("</strong> The program is wrong: {never} It is not shown that")),
+        "{text}"
+    );
+    assert!(text.contains("It is not shown that t1 at point 0 and t2 at point 1 never meet."));
     assert!(text.contains(">Claimed never to meet: t1 at point 0 and t2 at point 1</text>"));
     assert!(section(&text).contains("The image is refused: none of these is a result."));
 }
@@ -87,6 +91,6 @@ fn a_claim_by_another_line_is_not_shown() {
     image[end - 3] = 1;
     let (status, text) = page("claim-other", &image);
     assert_eq!(status, 1);
-    assert!(text.contains("is unjustified or concludes something else. (Code 26; "), "{text}");
-    assert!(text.contains("No run breaks it: in all "));
+    assert!(text.contains("is not justified or concludes something else. (Code 26; "), "{text}");
+    assert!(text.contains("It is not proved: no run breaks an assertion or a claim (all "));
 }
