@@ -9,8 +9,7 @@ use reference::image::{Claim, Image, Program};
 use reference::machine::{take, State};
 
 /// How far runs are looked at, if nothing else is asked.
-pub const BOUNDS: Bounds = Bounds { steps: 12, writes: 6, starts: 64 };
-const MOST_STATES: usize = 30_000;
+pub const BOUNDS: Bounds = Bounds { steps: 12, writes: 6, starts: 64, states: 30_000 };
 
 /// The code of a claim that is not shown.
 const NOT_SHOWN: u16 = 26;
@@ -61,13 +60,13 @@ pub fn broken(program: &Program, judged: &[Judged], bounds: Bounds) -> Result<Br
             Goal::Claim(meeting) => claims.push(meeting),
         }
     }
-    let mut sought = seek(program, &unmet, bounds, MOST_STATES);
+    let mut sought = seek(program, &unmet, bounds);
     let found = (0..unmet.len()).find_map(|at| Some((at, sought.runs[at].take()?)));
     if let Some((at, run)) = found {
         return Ok(Broken { goal: Goal::Duty(unmet[at]), run });
     }
     for meeting in claims {
-        sought = find(program, bounds, MOST_STATES, &|state| state.has_meeting(&meeting));
+        sought = find(program, bounds, &|state| state.has_meeting(&meeting));
         if let Some(run) = sought.runs[0].take() {
             return Ok(Broken { goal: Goal::Claim(meeting), run });
         }

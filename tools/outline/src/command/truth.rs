@@ -1,15 +1,12 @@
 //! What runs of the machine say of obligations and claims that stay open.
 
 use crate::build::{Goal, Open};
+use crate::judged::BOUNDS;
 use crate::text::source::Source;
-use crate::text::{counted, run};
+use crate::text::{counted, reach, run};
 use reference::checker::obligations::Duty;
-use reference::explore::{find, seek, Bounds, Sought};
+use reference::explore::{find, seek, Sought};
 use reference::image::Meeting;
-
-/// How far runs are looked at.
-const BOUNDS: Bounds = Bounds { steps: 12, writes: 6, starts: 64 };
-const MOST_STATES: usize = 30_000;
 
 /// The runs looked at, for obligations together and for each claim.
 pub struct Looked {
@@ -28,11 +25,9 @@ impl Looked {
                 Goal::Claim(meeting) => claims.push(meeting),
             }
         }
-        let met = |meeting: &Meeting| {
-            find(&program, BOUNDS, MOST_STATES, &|state| state.has_meeting(meeting))
-        };
+        let met = |meeting: &Meeting| find(&program, BOUNDS, &|state| state.has_meeting(meeting));
         let claims = claims.iter().map(met).collect();
-        Looked { duties: seek(&program, &duties, BOUNDS, MOST_STATES), claims }
+        Looked { duties: seek(&program, &duties, BOUNDS), claims }
     }
 
     /// The search for the one with this number among all that is open, and its number in it.
@@ -61,13 +56,16 @@ impl Looked {
 }
 
 fn not_false(sought: &Sought, open: &Open) -> String {
-    let runs = match sought.all {
-        true => format!("no run breaks it (all {} states)", sought.states),
-        false => format!("no run of up to {} steps breaks it", sought.steps.saturating_sub(1)),
+    let (word, runs) = match sought.all {
+        true => ("not false", format!("no run breaks it ({})", reach::all(sought.states))),
+        false => {
+            let seen = counted(sought.states, "state");
+            ("not found", format!("no {} breaks it ({seen})", reach::runs(sought)))
+        }
     };
     let why = match open.given_up {
         Some(tries) => format!("given up after {tries} tries"),
         None => "no rule leads there, as far as the search sees".into(),
     };
-    format!("  not false    {runs}: {why}\n")
+    format!("  {word}    {runs}: {why}\n")
 }

@@ -6,7 +6,7 @@ use super::{Content, Subject};
 use crate::draw::{Ending, Picture};
 use crate::judged::{Broken, Goal, Judged};
 use crate::markup::{el, of, Element};
-use crate::text::counted;
+use crate::text::{counted, reach};
 use reference::explore::Sought;
 
 /// The first obligation that is not met: the one that the verdict names.
@@ -95,9 +95,9 @@ pub fn unbroken(sought: &Sought) -> String {
             sought.states
         ),
         false => format!(
-            "No run of up to {} steps breaks it, as far as was looked ({} states).",
-            sought.steps.saturating_sub(1),
-            sought.states
+            "No {} breaks it ({}). Other runs were not looked at.",
+            reach::runs(sought),
+            counted(sought.states, "state")
         ),
     }
 }

@@ -40,7 +40,7 @@ fn content() -> (Vec<u8>, Content) {
     bad(&mut source.names.registers);
     let decoded = decode(&bytes).expect("an image");
     let judged = judged(&decoded);
-    let bounds = Bounds { steps: 4, writes: 4, starts: 4 };
+    let bounds = Bounds { steps: 4, writes: 4, starts: 4, states: 1000 };
     let sought = Some(broken(&decoded.program, &judged, bounds));
     let mut words = Words::of_image(&source.names, &decoded.program);
     words.lets = vec![(BAD.into(), BAD.into())];
