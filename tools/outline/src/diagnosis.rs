@@ -3,16 +3,15 @@
 
 use crate::judged::Goal;
 use crate::refuted::{refutation, Refutation};
-use crate::text::counted;
+use crate::text::reach;
 use reference::checker::obligations::Duty;
 use reference::explore::truth::is_true;
-use reference::explore::{find, seek, Bounds, Run, Sought};
+use reference::explore::{find, seek, Bounds, Cut, Run, Sought};
 use reference::image::{Meeting, Program};
 use reference::machine::{take, State};
 
 /// How far runs are looked at, if nothing else is asked.
-pub const BOUNDS: Bounds = Bounds { steps: 24, writes: 6, starts: 64 };
-const MOST_STATES: usize = 30_000;
+pub const BOUNDS: Bounds = Bounds { steps: 24, writes: 6, starts: 64, states: 30_000 };
 
 /// So many states are tried for each goal that no run breaks.
 const REFUTATIONS: usize = 4_000;
@@ -75,33 +74,23 @@ impl Broken {
 pub struct Reach {
     pub states: usize,
     pub bounds: Bounds,
+    pub cut: Cut,
     /// Whether these were all states.
     pub all: bool,
 }
 
 impl Reach {
-    fn of(sought: &Sought, bounds: Bounds) -> Reach {
-        Reach { states: sought.states, bounds, all: sought.all }
+    fn of(sought: &Sought) -> Reach {
+        let Sought { states, bounds, cut, all, .. } = *sought;
+        Reach { states, bounds, cut, all }
     }
 
-    /// `all 13 states`, or how many were seen and which bounds there are.
+    /// `all 13 states`, or how many were seen and which bounds cut the search.
     pub fn words(&self) -> String {
-        let states = counted(self.states, "state");
         match self.all {
-            true if self.states == 1 => "the one state".into(),
-            true => format!("all {states}"),
-            false => format!("{states}, not all; bounds: {}", self.bounds_words()),
+            true => reach::all(self.states),
+            false => reach::not_all(self.states, &self.cut, &self.bounds),
         }
-    }
-
-    fn bounds_words(&self) -> String {
-        let Bounds { steps, writes, starts } = self.bounds;
-        format!(
-            "{}, {} in a row, {}, {MOST_STATES} states",
-            counted(steps, "step"),
-            counted(writes, "write"),
-            counted(starts, "start")
-        )
     }
 }
 
@@ -193,8 +182,8 @@ impl Diagnosis {
             Goal::Claim(_) => None,
         };
         let duties: Vec<Duty> = open.iter().filter_map(duty).collect();
-        let sought = seek(program, &duties, bounds, MOST_STATES);
-        let reach = Reach::of(&sought, bounds);
+        let sought = seek(program, &duties, bounds);
+        let reach = Reach::of(&sought);
         let mut runs = sought.runs.into_iter();
         let check = |goal: &Goal| {
             let (run, reach) = match goal {
@@ -260,12 +249,12 @@ fn breaking_claim(
     bounds: Bounds,
 ) -> (Option<Broken>, Reach) {
     let met = |state: &State| claims.iter().find(|meeting| state.has_meeting(meeting));
-    let sought = find(program, bounds, MOST_STATES, &|state| met(state).is_some());
+    let sought = find(program, bounds, &|state| met(state).is_some());
     let broken = |run: &Run| {
         let meeting = *met(&end_of(program, run)).expect("the run ends where they meet");
         Broken { what: Wrong::Claim(meeting), run: run.clone() }
     };
-    (sought.runs[0].as_ref().map(broken), Reach::of(&sought, bounds))
+    (sought.runs[0].as_ref().map(broken), Reach::of(&sought))
 }
 
 /// A shortest run at whose end a thread is at its last point and its assertion there is false.
@@ -279,12 +268,12 @@ fn breaking_last(program: &Program, bounds: Bounds) -> (Option<Broken>, Reach) {
         };
         places.find(is_false).map(|(thread, _)| thread)
     };
-    let sought = find(program, bounds, MOST_STATES, &|state| wrong(state).is_some());
+    let sought = find(program, bounds, &|state| wrong(state).is_some());
     let broken = |run: &Run| {
         let thread = wrong(&end_of(program, run)).expect("the run ends where it is false");
         Broken { what: Wrong::Last { thread }, run: run.clone() }
     };
-    (sought.runs[0].as_ref().map(broken), Reach::of(&sought, bounds))
+    (sought.runs[0].as_ref().map(broken), Reach::of(&sought))
 }
 
 fn end_of(program: &Program, run: &Run) -> State {

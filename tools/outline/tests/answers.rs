@@ -109,10 +109,14 @@ fn what_was_cut_is_not_called_true() {
         seen.starts_with("NOT PROVED: no run was seen that breaks an assertion or a claim ("),
         "{err}"
     );
-    assert!(seen.contains(" states, not all; bounds: 24 steps, 6 writes in a row, "), "{err}");
+    assert!(seen.ends_with(" states, not all there are: cut by --writes 6)"), "{err}");
     assert!(!err.contains("no run breaks") && !err.contains("(all "), "{err}");
     let folder = Folder::new("cut-page");
-    let (_, page, _) = run(&["report", &folder.with("o.outline", &text), "-o", "-"]);
+    let file = folder.with("o.outline", &text);
+    let (_, _, err) = run(&["build", &file, "-o", "-", "--writes", "7"]);
+    let all = "NOT PROVED: no run breaks an assertion or a claim (all 62 states)";
+    assert_eq!(first_line(&err), all);
+    let (_, page, _) = run(&["report", &file, "-o", "-"]);
     assert!(page.contains("It is not proved: no run was seen that breaks "), "{page}");
     assert!(!page.contains("no run breaks") && !page.contains("(all "), "{page}");
 }

@@ -297,21 +297,24 @@ false: reader at point 0: Coming
 ";
     assert_eq!((status, out.as_str()), (1, want));
     let (status, out, _) = run(&["explore", &example("message-passing")]);
-    assert_eq!((status, out.lines().last()), (0, Some("these are all states")));
-    let (_, out, _) = run(&["explore", &example("message-passing"), "--steps", "2"]);
-    assert_eq!(out.lines().last(), Some("not all states: cut by --steps"));
-    let (_, out, _) = run(&["explore", &example("message-passing"), "--writes", "1"]);
-    assert_eq!(out.lines().last(), Some("not all states: cut by --writes"));
+    assert_eq!((status, out.as_str()), (0, "holds in all 13 states\n"));
+    let (status, out, _) = run(&["explore", &example("message-passing"), "--steps", "2"]);
+    assert!(
+        status == 3 && out.ends_with(" states, not all there are: cut by --steps 2\n"),
+        "{out}"
+    );
+    let (status, out, _) = run(&["explore", &example("message-passing"), "--writes", "1"]);
+    assert!(
+        status == 3 && out.ends_with(" states, not all there are: cut by --writes 1\n"),
+        "{out}"
+    );
 }
 
 #[test]
 fn explore_answers_litmus_questions() {
     let asked = |name: &str, outcome: &str| run(&["explore", &example(name), "--outcome", outcome]);
     let (status, out, _) = asked("message-passing", "a = 1 and b = 0");
-    assert_eq!(
-        (status, out.as_str()),
-        (0, "never: a = 1 and b = 0 (in 13 states)\nthese are all states\n")
-    );
+    assert_eq!((status, out.as_str()), (0, "never: a = 1 and b = 0, in all 13 states\n"));
     let (status, out, _) = asked("message-passing-wrong-1", "a = 1 and b = 0");
     assert!(status == 1 && out.starts_with("happens: a = 1 and b = 0, after 4 steps\n"), "{out}");
     let (status, _, err) = asked("message-passing", "c = 1");
@@ -366,9 +369,8 @@ fn claims_are_told_when_they_are_shown() {
     assert!(out.contains("    w1 := 1 @1 | r1 := 1 @1\n"), "{out}");
     assert!(out.contains("\nnever t2 1 and t1 1\n\ncertificate\n"), "{out}");
     assert!(out.lines().last().is_some_and(|line| line.starts_with("  claims ")), "{out}");
-    let want = "holds in 2 states, up to 24 steps\nnever: right at point 1, left at point 1\nthese are all states\n";
+    let want = "holds in all 2 states\nnever: right at point 1, left at point 1\n";
     assert_eq!(run(&["explore", &text]).1, want);
-    let want = "no claim breaks in 2 states\nnever: right at point 1, left at point 1\nthese are all states\n";
     assert_eq!(run(&["explore", &text, "--claims"]).1, want);
 }
 
@@ -413,7 +415,7 @@ claimed never to happen: right at point 0, left at point 1
     assert_eq!((status, out.as_str()), (1, want));
     assert_eq!(run(&["explore", &text, "--claims"]).1, want);
     let (status, out, _) = run(&["explore", &text, "--json"]);
-    let told = "\"answer\":\"false\",\"told\":[\"FALSE: a run of 1 step breaks a claim\",";
+    let told = "\"answer\":\"false\",\"states\":2,\"cut\":[],\"told\":[\"FALSE: a run of 1 step ";
     assert!(status == 1 && out.contains(told), "{out}");
 }
 
@@ -469,7 +471,7 @@ fn each_command_speaks_json() {
         (&["check", &image], fields),
         (&["show", &image], fields),
         (&["explain", &text], fields),
-        (&["explore", &text, "--steps", "8"], "\"answer\":\"holds\",\"told\":[\"holds in "),
+        (&["explore", &text], "\"cut\":[],\"told\":[\"holds in all "),
     ];
     for (args, words) in cases {
         let (status, out, err) = run(&[args, &["--json"][..]].concat());

@@ -3,10 +3,11 @@
 use crate::build::{build_with, Built, Goal, Open};
 use crate::command::input::{called, mistake, mistakes, read, Input};
 use crate::command::judge::{judge, JUDGE};
-use crate::command::options::Options;
+use crate::command::options::{Options, BOUND_OPTIONS};
 use crate::command::progress::Progress;
 use crate::command::truth::Looked;
 use crate::command::{interrupt, json, print, words, write, Done, Status};
+use crate::diagnosis::BOUNDS;
 use crate::image::to_bytes;
 use crate::search::budget::TRIES;
 use crate::search::kept::Kept;
@@ -15,6 +16,7 @@ use crate::text::parse_source::parse_all;
 use crate::text::source::Source;
 use crate::text::{counted, report};
 use reference::checker::{limits, Verdict};
+use reference::explore::Bounds;
 
 /// Which of those that are open are told with what was tried; the others are named only.
 enum Told {
@@ -45,8 +47,8 @@ impl Told {
 }
 
 pub fn run(args: &[&str]) -> Done {
-    let options =
-        Options::read(args, &["-o", "--partial", "--all", "--all-lines", "--at", "--json"])?;
+    let own = ["-o", "--partial", "--all", "--all-lines", "--at", "--json"];
+    let options = Options::read(args, &[&own[..], &BOUND_OPTIONS].concat())?;
     let file = options.file()?;
     let Some(target) = &options.target else {
         return Err("`-o FILE` is wanted; see outline --help".into());
@@ -59,7 +61,7 @@ pub fn run(args: &[&str]) -> Done {
     let told = Told::of(&options, &source)?;
     let kept = if options.all_lines { Kept::All } else { Kept::Needed };
     let built = watched(&source, kept).map_err(|e| mistake(file, &text, &e))?;
-    let mut said = open_ones(&source, &built, &told);
+    let mut said = open_ones(&source, &built, &told, options.bounds(BOUNDS));
     said.extend(built.failed.iter().map(|e| mistake(file, &text, e)));
     let stays = built.untried > 0 || !built.open.is_empty() || !built.failed.is_empty();
     if stays && !options.partial {
@@ -175,11 +177,11 @@ fn written(target: &str, built: &Built, bytes: usize) -> String {
 
 /// Whether the program is wrong or its proof, then what stays open, each with what the machine says of it: first what
 /// is false, then what is not provable, then what was only not found.
-fn open_ones(source: &Source, built: &Built, told: &Told) -> Vec<String> {
+fn open_ones(source: &Source, built: &Built, told: &Told, bounds: Bounds) -> Vec<String> {
     if built.open.is_empty() {
         return Vec::new();
     }
-    let looked = Looked::at(source, built);
+    let looked = Looked::at(source, built, bounds);
     let mut open: Vec<&Open> = built.open.iter().collect();
     open.sort_by_key(|open| looked.rank(&open.goal));
     let worded = |(n, open): (usize, &&Open)| {

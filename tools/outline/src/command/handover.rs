@@ -5,21 +5,18 @@ use crate::command::judge::{judge, JUDGE};
 use crate::command::options::Options;
 use crate::command::permit::{code, PERMIT};
 use crate::command::{json, print, words, write, Done, Status};
+use crate::diagnosis::BOUNDS;
 use crate::handover::{find, handover, Chosen, Found, Move, Open};
 use crate::image::to_bytes;
 use crate::text::print::Names;
 use crate::text::{counted, run};
 use reference::checker::decode;
 use reference::checker::rules::justified_lines;
-use reference::explore::{across, Bounds, BreakAcross, Run};
+use reference::explore::{across, BreakAcross, Run};
 use reference::handover::{entries, places, Entry, OUT_OF_RANGE, UNLIKE};
 use reference::image::written::Written;
 use reference::image::{Header, Image, Program};
 use reference::machine::{take, State};
-
-/// How far runs across a handover are looked at.
-const BOUNDS: Bounds = Bounds { steps: 12, writes: 6, starts: 64 };
-const MOST_STATES: usize = 30_000;
 
 /// What is told, and what the call comes to.
 struct Answer {
@@ -231,7 +228,7 @@ fn open_ones(old: &Code, new: &Code, found: &Found) -> Vec<String> {
         said.extend(given_up.map(|tries| format!("  given up     after {tries} tries")));
     }
     let tried = handover(old.program(), new.program(), found);
-    let looked = across(&tried, BOUNDS, MOST_STATES);
+    let looked = across(&tried, BOUNDS);
     match &looked.broken {
         Some(broken) => {
             said.extend(false_run(old, new, &tried.mapped(&ended(old, broken)), broken))

@@ -17,14 +17,15 @@ use reference::image::Meeting;
 use std::path::Path;
 
 pub fn run(args: &[&str]) -> Done {
-    let options = Options::read(args, &["-o", "--steps", "--writes", "--starts", "--json"])?;
+    let allowed = ["-o", "--steps", "--writes", "--starts", "--states", "--json"];
+    let options = Options::read(args, &allowed)?;
     let file = options.file()?;
     let Some(target) = &options.target else {
         return Err("`-o FILE` is wanted; see outline --help".into());
     };
     let loaded = Loaded::of(file)?;
     let verdict = judge(loaded.bytes());
-    let content = loaded.content(&verdict, Some(bounds(&options)))?;
+    let content = loaded.content(&verdict, Some(options.bounds(BOUNDS)))?;
     let about = report::Subject {
         file: &base_name(file),
         about: loaded.about(),
@@ -36,15 +37,6 @@ pub fn run(args: &[&str]) -> Done {
     write(target, report::page(&about).as_bytes())?;
     tell(&options, target, &loaded, &verdict)?;
     Ok(if verdict.code == 0 { Status::Accepted } else { Status::Refused })
-}
-
-/// How far runs are looked at: as far as `build` does, unless something else is asked.
-pub fn bounds(options: &Options) -> Bounds {
-    Bounds {
-        steps: options.steps.unwrap_or(BOUNDS.steps),
-        writes: options.writes.unwrap_or(BOUNDS.writes),
-        starts: options.starts.unwrap_or(BOUNDS.starts),
-    }
 }
 
 /// What was written goes to standard output, unless the page goes there.

@@ -1,13 +1,14 @@
 //! What the machine says of an outline that stays open: is the program wrong, or its proof?
 
 use crate::build::{Built, Goal, Open};
-use crate::diagnosis::{Diagnosis, Finding, BOUNDS};
+use crate::diagnosis::{Diagnosis, Finding};
 use crate::image::to_bytes;
 use crate::judged::judged;
 use crate::text::answer::{finding, Telling};
 use crate::text::run;
 use crate::text::source::Source;
 use reference::checker::decode;
+use reference::explore::Bounds;
 use reference::image::Program;
 
 /// An open outline, looked at.
@@ -18,10 +19,10 @@ pub struct Looked<'a> {
 }
 
 impl Looked<'_> {
-    pub fn at<'a>(source: &'a Source, built: &Built) -> Looked<'a> {
+    pub fn at<'a>(source: &'a Source, built: &Built, bounds: Bounds) -> Looked<'a> {
         let program = source.program();
         let open = without_line(source, built);
-        let diagnosis = Diagnosis::of(&program, &source.meetings(), &open, BOUNDS);
+        let diagnosis = Diagnosis::of(&program, &source.meetings(), &open, bounds);
         Looked { source, program, diagnosis }
     }
 

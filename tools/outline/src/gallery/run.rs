@@ -6,7 +6,7 @@ use reference::image::{Access, Meeting};
 use reference::machine::{take, State, Step};
 
 /// Every wrong variant breaks within these.
-const BOUNDS: Bounds = Bounds { steps: 10, writes: 6, starts: 4096 };
+const BOUNDS: Bounds = Bounds { steps: 10, ..Bounds::DEFAULT };
 
 /// All states of an outline that stays open are within these: loops come back to states that were seen.
 const ALL: Bounds = Bounds { steps: 60, ..BOUNDS };

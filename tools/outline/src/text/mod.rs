@@ -13,6 +13,7 @@ pub mod parse_source;
 pub mod parse_tariff;
 pub mod parse_trace;
 pub mod print;
+pub mod reach;
 pub mod refusal;
 pub mod report;
 pub mod run;

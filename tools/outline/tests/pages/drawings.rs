@@ -98,7 +98,7 @@ fn an_outcome_is_drawn_if_it_happens() {
     let (status, svg, err) =
         run(&["draw", &example("message-passing"), "--outcome", "a = 1 and b = 0", "-o", "-"]);
     assert_eq!((status, svg.as_str()), (0, ""));
-    assert!(err.contains("nothing is drawn: never: a = 1 and b = 0 (in "), "{err}");
+    assert!(err.contains("nothing is drawn: never: a = 1 and b = 0, in all 13 states\n"), "{err}");
 }
 
 #[test]

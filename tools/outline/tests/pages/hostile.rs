@@ -41,7 +41,7 @@ fn content() -> (Vec<u8>, Content) {
     bad(&mut source.names.registers);
     let decoded = decode(&bytes).expect("an image");
     let judged = judged(&decoded);
-    let bounds = Bounds { steps: 4, writes: 4, starts: 4 };
+    let bounds = Bounds { steps: 4, writes: 4, starts: 4, states: 1000 };
     let goals: Vec<Goal> = judged.iter().map(|judged| judged.goal).collect();
     let diagnosis = Some(Diagnosis::of(&decoded.program, &[], &goals, bounds));
     let mut words = Words::of_image(&source.names, &decoded.program);
