@@ -1,5 +1,6 @@
 //! The text form: reading sources, writing formulas, images and messages.
 
+pub mod compare;
 pub mod lex;
 pub mod lines;
 pub mod parse_certificate;
