@@ -15,7 +15,8 @@ outline show FILE                                              an image as text,
 outline explain FILE                                           each obligation and claim with its line, rule and premises
 outline explore FILE [BOUNDS] [--claims | --outcome \"a = 1 and b = 0\"]
                                                                every run within the bounds
-outline report FILE -o FILE.html [BOUNDS]                      a page: verdict, program, obligations, a run that breaks it
+outline report FILE -o FILE.html [--image FILE.image] [--date YYYY-MM-DD] [BOUNDS]
+                                                               a page: verdict, program, obligations, a run that breaks it
 outline draw FILE -o FILE.svg [BOUNDS] [--outcome \"a = 1 and b = 0\"]
                                                                a run that breaks it, or that has the outcome, drawn
 outline trim FILE -o FILE.image                                an accepted image without lines and formulas that nothing rests on
@@ -34,6 +35,8 @@ BOUNDS for explore and draw --outcome, with what goes without asking (for a run 
   --starts N  start states, where registers are open: 4096 [64], at most 1048576
   --states N  states that are kept: 2000000 [30000], at most 8000000. A state takes 40 bytes and for each write 1 more than
               there are words; 512 MiB of them are kept, and no more, so that memory stays under 1 GB
+  --image     writes the image that the page is about, too
+  --date      the page's date; else that of SOURCE_DATE_EPOCH, else the clock's, in UTC
   --partial   writes an image with open obligations and claims too
   --all       tells all open obligations and claims in full
   --all-lines writes every line that the search found, dead ones too

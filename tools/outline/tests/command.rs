@@ -357,19 +357,20 @@ fn claims_are_told_when_they_are_shown() {
     let said = "ACCEPTED: 7 obligations met, 1 claim shown";
     assert_eq!((status, out), (0, claimed(&image, said, "0 0 0 0 0 0 0 0 7")));
     let (_, out, _) = run(&["explain", &text]);
-    let place = "8. claim, never thread 2 (right) point 1 (line 10) and thread 1 (left) point 1 (line 6): line ";
+    let place = "8. claim, never thread 2 (right) point 1 (out, line 10) and thread 1 (left) point 1 (after, line 6): line ";
     let claim: Vec<&str> = out.lines().skip_while(|line| !line.starts_with(place)).collect();
     assert!(claim.len() > 1 && claim[1].ends_with("rule 20: a = 1 and false gives false"), "{out}");
     assert!(out.contains("rule 50: a = 0 then a = 1\n"), "{out}");
     assert!(out.contains("rule 16 of the first half: a = 0 then 1 = 1\n"), "{out}");
     let (_, out, _) = run(&["explain", &text, "--json"]);
-    let claims = "\"claims\":[{\"claim\":\"claim, never thread 2 (right) point 1 (line 10) and ";
+    let claims =
+        "\"claims\":[{\"claim\":\"claim, never thread 2 (right) point 1 (out, line 10) and ";
     assert!(out.contains(claims), "{out}");
     let (_, out, _) = run(&["show", &image]);
     assert!(out.contains("    w1 := 1 @1 | r1 := 1 @1\n"), "{out}");
     assert!(out.contains("\nnever t2 1 and t1 1\n\ncertificate\n"), "{out}");
     assert!(out.lines().last().is_some_and(|line| line.starts_with("  claims ")), "{out}");
-    let want = "holds in all 2 states\nnever: right at point 1, left at point 1\n";
+    let want = "holds in all 2 states\nnever: right at out and left at after\n";
     assert_eq!(run(&["explore", &text]).1, want);
     assert_eq!(run(&["explore", &text, "--claims"]).1, want);
 }
@@ -386,7 +387,7 @@ fn claims_that_fail_are_told_with_a_run() {
   1. left: x := 1 | a := 1   writes 1 behind write 1, gives 1
      then a = 1
      x was written 0, 1
-open: claim, never thread 2 (right) point 0 (line 8) and thread 1 (left) point 1 (line 6)
+open: claim, never thread 2 (right) point 0 (line 8) and thread 1 (left) point 1 (after, line 6)
   FALSE        a run of 1 step breaks it
       1. left: x := 1 | a := 1   writes 1 behind write 1, gives 1
          then a = 1
@@ -410,7 +411,7 @@ open: claim, never thread 2 (right) point 0 (line 8) and thread 1 (left) point 1
   1. left: x := 1 | a := 1   writes 1 behind write 1, gives 1
      then a = 1
      x was written 0, 1
-claimed never to happen: right at point 0, left at point 1
+claimed never to happen: right at point 0 and left at after
 ";
     assert_eq!((status, out.as_str()), (1, want));
     assert_eq!(run(&["explore", &text, "--claims"]).1, want);
@@ -437,7 +438,7 @@ fn the_run_that_breaks_peterson_without_its_order_is_shown() {
     let (status, out, _) = run(&["explore", &example("peterson-claim-wrong-1"), "--claims"]);
     let lines: Vec<&str> = out.lines().collect();
     assert_eq!((status, lines[0]), (1, "FALSE: a run of 10 steps breaks a claim"));
-    let both = "claimed never to happen: ann at point 5, bob at point 5";
+    let both = "claimed never to happen: ann at inside and bob at inside";
     assert_eq!(lines.last(), Some(&both));
 }
 

@@ -79,14 +79,14 @@ fn claims_and_assertions_have_the_same_three_answers() {
         let (status, out, _) = claims(args);
         let want =
             "not found: nothing is false in 1000 states, not all there are: cut by --states 1000\n\
-            not met in these: a at point 7, b at point 7\n";
+            not met in these: a at point 7 and b at point 7\n";
         assert_eq!((status, out.as_str()), (NOT_FOUND, want), "{args:?}");
     }
     assert_eq!(asked("four-by-five-claims.outline", &["--claims"]), (HAPPENS, broken));
     let (status, out, _) = run(&["explore", &example("peterson-claim"), "--claims"]);
     let lines: Vec<&str> = out.lines().collect();
     assert!(status == NEVER && lines[0].starts_with("holds in all "), "{out}");
-    assert_eq!(lines[1..], ["never: ann at point 5, bob at point 5"]);
+    assert_eq!(lines[1..], ["never: ann at inside and bob at inside"]);
     let (status, _, err) = run(&["explore", &example("polling"), "--claims"]);
     assert_eq!((status, err), (2, format!("{}: it makes no claim\n", example("polling"))));
 }

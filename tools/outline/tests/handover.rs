@@ -133,8 +133,8 @@ FALSE: a run of 1 step, the handover and 0 steps breaks an assertion
      then a = 0, b = 0
      data was written 0
      flag was written 0
-     handover: writer at point 0, reader at point 3
-false: reader at point 3: reader sees [data != 0]
+     handover: writer at point 0, reader at up
+false: reader at up: reader sees [data != 0]
 1 of 7 old points have no line; nothing is written
 ";
     assert_eq!((status, out.as_str(), err.as_str()), (1, "", want));

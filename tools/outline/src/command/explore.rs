@@ -98,16 +98,9 @@ impl Subject {
         })
     }
 
-    /// Two threads at their points.
-    fn met(&self, meeting: &Meeting) -> String {
-        let Meeting { thread, point, other_thread, other_point } = *meeting;
-        let (one, other) = (self.names.thread(thread), self.names.thread(other_thread));
-        format!("{one} at point {point}, {other} at point {other_point}")
-    }
-
     /// The claims, behind a word.
     fn claimed(&self, word: &str) -> Vec<String> {
-        self.claims.iter().map(|meeting| format!("{word}: {}", self.met(meeting))).collect()
+        self.claims.iter().map(|meeting| format!("{word}: {}", self.names.both(meeting))).collect()
     }
 
     /// What is said of assertions and claims: a run, or else that there is none, as far as was looked.
@@ -167,7 +160,7 @@ fn broken(subject: &Subject, run: &Run, what: &str, end: Vec<String>) -> Vec<Str
 }
 
 fn broken_claim(subject: &Subject, run: &Run, meeting: &Meeting) -> Vec<String> {
-    let end = format!("claimed never to happen: {}", subject.met(meeting));
+    let end = format!("claimed never to happen: {}", subject.names.both(meeting));
     broken(subject, run, "a claim", vec![end])
 }
 
@@ -176,8 +169,8 @@ fn false_there(subject: &Subject, state: &State, thread: u8) -> Vec<String> {
     let names = &subject.names;
     let point = state.points[usize::from(thread) - 1];
     let assertion = subject.program.assertion(thread, point);
-    let name = names.thread(thread);
-    let mut said = vec![format!("false: {name} at point {point}: {}", names.assertion(assertion))];
+    let at = names.at(thread, point);
+    let mut said = vec![format!("false: {at}: {}", names.assertion(assertion))];
     violated(names, state, assertion, &mut said);
     said
 }

@@ -262,8 +262,7 @@ fn false_run(old: &Code, new: &Code, mapped: &State, broken: &BreakAcross) -> Ve
     )];
     let before = Run { start: start.clone(), steps: first.clone() };
     said.extend(run::lines(old.program(), &old.names, &before));
-    let goes_on =
-        |(thread, point): (u8, &u8)| format!("{} at point {point}", new.names.thread(thread));
+    let goes_on = |(thread, point): (u8, &u8)| new.names.at(thread, *point);
     let all: Vec<String> = (1..).zip(&mapped.points).map(goes_on).collect();
     said.push(format!("     handover: {}", all.join(", ")));
     let after = Run { start: mapped.clone(), steps: second.clone() };
@@ -275,8 +274,8 @@ fn false_run(old: &Code, new: &Code, mapped: &State, broken: &BreakAcross) -> Ve
         take(threads, &state, *step).expect("a step of the run")
     });
     let point = end.points[usize::from(*thread) - 1];
-    let name = new.names.thread(*thread);
-    said.push(format!("false: {name} at point {point}: {}", new.assertion(*thread, point)));
+    let at = new.names.at(*thread, point);
+    said.push(format!("false: {at}: {}", new.assertion(*thread, point)));
     said
 }
 

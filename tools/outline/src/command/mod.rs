@@ -3,6 +3,7 @@
 pub mod bill;
 pub mod build;
 pub mod check;
+pub mod date;
 pub mod draw;
 pub mod explain;
 pub mod explore;

@@ -29,6 +29,8 @@ pub struct Options {
     pub given: Option<String>,
     pub entries: Option<usize>,
     pub table: Option<String>,
+    pub image: Option<String>,
+    pub date: Option<String>,
     pub map: Vec<String>,
 }
 
@@ -65,6 +67,8 @@ impl Options {
                 "--entries" => options.entries = Some(number(word, value()?, 64)?),
                 "--tariff" => options.tariff = Some(value()?.into()),
                 "--table" => options.table = Some(value()?.into()),
+                "--image" => options.image = Some(value()?.into()),
+                "--date" => options.date = Some(value()?.into()),
                 "--map" => options.map.push(value()?.into()),
                 "--billed" => {
                     options.billed = Some(number(word, value()?, u32::MAX as usize)? as u32);

@@ -1,8 +1,9 @@
 //! `report`: a page about an outline or an image.
 
+use crate::command::date::date;
 use crate::command::input::{called, read, Input, Subject};
 use crate::command::judge::{judge, JUDGE};
-use crate::command::options::Options;
+use crate::command::options::{Options, BOUND_OPTIONS};
 use crate::command::{json, print, words, write, Done, Status};
 use crate::diagnosis::{Diagnosis, BOUNDS};
 use crate::gallery::Header;
@@ -17,12 +18,16 @@ use reference::image::Meeting;
 use std::path::Path;
 
 pub fn run(args: &[&str]) -> Done {
-    let allowed = ["-o", "--steps", "--writes", "--starts", "--states", "--json"];
-    let options = Options::read(args, &allowed)?;
+    let own = ["-o", "--image", "--date", "--json"];
+    let options = Options::read(args, &[&own[..], &BOUND_OPTIONS].concat())?;
     let file = options.file()?;
     let Some(target) = &options.target else {
         return Err("`-o FILE` is wanted; see outline --help".into());
     };
+    if options.image.as_ref().is_some_and(|image| image == target || image == file) {
+        return Err("`--image` wants a file of its own".into());
+    }
+    let date = date(options.date.as_deref())?;
     let loaded = Loaded::of(file)?;
     let verdict = judge(loaded.bytes());
     let content = loaded.content(&verdict, Some(options.bounds(BOUNDS)))?;
@@ -30,18 +35,35 @@ pub fn run(args: &[&str]) -> Done {
         file: &base_name(file),
         about: loaded.about(),
         bytes: loaded.bytes(),
+        source: loaded.source(),
+        date: &date,
         verdict,
         judge: JUDGE,
         content,
     };
     write(target, report::page(&about).as_bytes())?;
-    tell(&options, target, &loaded, &verdict)?;
+    if let Some(image) = &options.image {
+        write(image, loaded.bytes())?;
+    }
+    tell(&options, target, &loaded, &about)?;
     Ok(if verdict.code == 0 { Status::Accepted } else { Status::Refused })
 }
 
 /// What was written goes to standard output, unless the page goes there.
-fn tell(options: &Options, target: &str, loaded: &Loaded, verdict: &Verdict) -> Result<(), String> {
+fn tell(
+    options: &Options,
+    target: &str,
+    loaded: &Loaded,
+    about: &report::Subject,
+) -> Result<(), String> {
+    let verdict = &about.verdict;
     let said = words::verdict(verdict, loaded.subject.source(), loaded.subject.claims());
+    let content = about.content.as_ref();
+    let answer = content.and_then(|content| Some((content, content.diagnosis.as_ref()?)));
+    let answer = answer.map(|(content, diagnosis)| {
+        let told = content.telling(|told| told.sentence(diagnosis));
+        format!("{}: {told}\n", diagnosis.answer().head())
+    });
     let line = if options.json {
         let all = [
             ("written", json::text(target)),
@@ -53,7 +75,10 @@ fn tell(options: &Options, target: &str, loaded: &Loaded, verdict: &Verdict) -> 
         ];
         json::object(&all) + "\n"
     } else {
-        format!("{target}: {said}   ({JUDGE})\n")
+        let image =
+            options.image.iter().map(|image| format!("{image}: the image that was judged\n"));
+        let image: String = image.collect();
+        format!("{}{target}: {said}   ({JUDGE})\n{image}", answer.unwrap_or_default())
     };
     if target != "-" {
         return print(line);
@@ -83,6 +108,16 @@ impl Loaded {
 
     pub fn bytes(&self) -> &[u8] {
         &self.subject.bytes
+    }
+
+    /// The text of an outline, and its names.
+    fn source(&self) -> Option<report::Source<'_>> {
+        match (&self.input, self.subject.source()) {
+            (Input::Text(text), Some(source)) => {
+                Some(report::Source { text: text.as_bytes(), names: &source.names })
+            }
+            _ => None,
+        }
     }
 
     /// What the comment at the front says.

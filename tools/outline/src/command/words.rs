@@ -3,6 +3,7 @@
 use crate::image::fault;
 use crate::judged::Standing;
 use crate::text::counted;
+use crate::text::report;
 use crate::text::source::Source;
 use reference::checker::Verdict;
 
@@ -45,10 +46,10 @@ fn place(v: &Verdict, source: Option<&Source>) -> String {
     own
 }
 
-/// A point, with its name and source line where there is a source.
+/// A point, with its names and source line where there is a source.
 fn point(thread: u16, point: u16, source: Option<&Source>) -> String {
-    let Some(source) = source else { return format!("thread {thread} point {point}") };
-    let name = source.names.thread(thread as u8);
-    let line = source.points[usize::from(thread) - 1][usize::from(point)].line;
-    format!("thread {thread} ({name}) point {point} (line {line})")
+    match source {
+        Some(source) => report::point(&source.names, Some(source), thread as u8, point as u8),
+        None => format!("thread {thread} point {point}"),
+    }
 }

@@ -1,6 +1,6 @@
 //! The claims of an image, in one sentence each.
 
-use super::parts::{self, answer, note, point, REFUSED};
+use super::parts::{self, answer, note, opened, point, REFUSED};
 use super::trees::Trees;
 use super::Content;
 use crate::judged::{Goal, Judged, Standing, NOTHING_FOLLOWS};
@@ -43,10 +43,7 @@ fn item(content: &Content, trees: &mut Trees, judged: &Judged, meeting: &Meeting
     let words = words.text(" ").add(of("span", class).text(said));
     match judged.line {
         0 => el("li").add(words),
-        line => {
-            let details = el("details").add(el("summary").add(words)).add(trees.tree(line));
-            el("li").add(details)
-        }
+        line => el("li").all(opened(words, trees.tree(line))),
     }
 }
 

@@ -30,7 +30,7 @@ pub fn class_of(duty: &Duty) -> u8 {
 /// The text of the instruction that an obligation is about.
 fn instruction(content: &Content, thread: u8, point: u8) -> String {
     let instruction = content.image.program.instruction(thread, point);
-    content.words.names.instruction(instruction.expect("an obligation's instruction"))
+    content.words.names.instruction(thread, instruction.expect("an obligation's instruction"))
 }
 
 /// What would have to be so.
@@ -46,24 +46,26 @@ fn duty_words(content: &Content, duty: &Duty) -> String {
     let act = |t: u8, p: u8| format!("{}’s “{}”", names.thread(t), instruction(content, t, p));
     match *duty {
         Duty::Start { thread } => {
-            format!("{}’s assertion at point 0 is true at the start", names.thread(thread))
+            format!("the assertion of {} is true at the start", names.at(thread, 0))
         }
         Duty::Next { thread, point } => {
             format!(
-                "{} leads from the assertion at point {point} to that at point {}",
+                "{} leads from the assertion at {} to that at {}",
                 act(thread, point),
-                point + 1
+                names.point(thread, point),
+                names.point(thread, point + 1)
             )
         }
         Duty::Taken { thread, point } => {
             format!(
-                "{}, taken at point {point}, leads to the assertion at its target",
-                act(thread, point)
+                "{}, taken at {}, leads to the assertion at its target",
+                act(thread, point),
+                names.point(thread, point)
             )
         }
         Duty::Kept { thread, point, actor, action } => {
-            let name = names.thread(thread);
-            format!("{name}’s assertion at point {point} survives {}", act(actor, action))
+            let at = names.at(thread, point);
+            format!("the assertion of {at} survives {}", act(actor, action))
         }
     }
 }
@@ -96,7 +98,7 @@ pub fn duty_element(content: &Content, duty: &Duty) -> Element {
             let branch = program.instruction(thread, point).is_some_and(|i| i.is_branch());
             let way = if branch { ", not taken, leads from " } else { " leads from " };
             let out = out.add(act(thread, point)).text(way).add(at(thread, point));
-            out.text(format!(" to point {}", point + 1))
+            out.text(format!(" to {}", names.point(thread, point + 1)))
         }
         Duty::Taken { thread, point } => {
             let out = out.add(act(thread, point)).text(", taken, leads from ");

@@ -5,8 +5,10 @@
 mod claims;
 mod goals;
 mod obligations;
+mod origin;
 mod parts;
 mod program;
+mod quote;
 mod refusal;
 pub mod rules;
 pub mod sha256;
@@ -20,6 +22,7 @@ use crate::image::Image;
 use crate::judged::Judged;
 use crate::markup::{el, of, Element};
 use crate::text::answer::Telling;
+use crate::text::print::Names;
 use reference::checker::Verdict;
 pub use refusal::picture;
 use words::Words;
@@ -36,11 +39,21 @@ pub struct Subject<'a> {
     /// The comment at the front of an outline: its first paragraph, and what it says is shown.
     pub about: Vec<String>,
     pub bytes: &'a [u8],
+    /// What an outline's file holds, and its names; none for an image.
+    pub source: Option<Source<'a>>,
+    /// The day on which the page is made, as 2026-11-17.
+    pub date: &'a str,
     pub verdict: Verdict,
     /// Who judged.
     pub judge: &'a str,
     /// What the image says; none if it is refused for its bytes.
     pub content: Option<Content>,
+}
+
+/// The file of an outline.
+pub struct Source<'a> {
+    pub text: &'a [u8],
+    pub names: &'a Names,
 }
 
 /// What a well-formed image says, and what was found out about it.
@@ -75,6 +88,8 @@ impl Subject<'_> {
 pub fn page(subject: &Subject) -> String {
     let (mut links, mut sections) = (vec![("verdict", "Verdict")], vec![verdict::section(subject)]);
     if let Some(content) = &subject.content {
+        links.push(("quote", "What may be quoted"));
+        sections.push(quote::section(subject, content));
         if !subject.is_accepted() {
             links.push(("refusal", "Why refused"));
             sections.push(refusal::section(subject, content));

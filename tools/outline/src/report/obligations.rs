@@ -1,7 +1,7 @@
 //! The obligations as a table by class. A click on one opens the lines that it rests on, down to the last premise.
 
 use super::goals::{class_of, class_title, duty_element};
-use super::parts::{self, answer, note, REFUSED};
+use super::parts::{self, answer, note, opened, REFUSED};
 use super::trees::Trees;
 use super::{rules, Content};
 use crate::judged::{Goal, Judged, NOTHING_FOLLOWS};
@@ -59,13 +59,13 @@ fn row(trees: &mut Trees, number: usize, judged: &Judged, duty: &Duty) -> Elemen
     let title = line.map_or("", |line| rules::title(line.rule));
     let words = duty_element(content, duty);
     let what = match line {
-        Some(_) => el("details").add(el("summary").add(words)).add(trees.tree(judged.line)),
-        None => of("p", "unnamed").add(words),
+        Some(_) => of("td", "what").all(opened(words, trees.tree(judged.line))),
+        None => of("td", "what").add(of("p", "unnamed").add(words)),
     };
     let (class, said) = answer(judged.standing(content.accepted));
     el("tr")
         .add(of("td", "no").text(number))
-        .add(of("td", "what").add(what))
+        .add(what)
         .add(of("td", "rule").with("title", title).text(rule))
         .add(of("td", class).text(said))
 }

@@ -19,15 +19,21 @@ pub fn note(text: &str) -> Element {
     of("p", "note").text(text)
 }
 
+/// What a click on a summary opens stands beside it and not in it, so that paper shows it, opened or not.
+pub fn opened(summary: Element, inner: Element) -> [Element; 2] {
+    let details = of("details", "opener").add(el("summary").add(summary));
+    [details, of("div", "opened").add(inner)]
+}
+
 /// The name under which a point stands on the page.
 pub fn point_id(thread: u8, point: u8) -> String {
     format!("point-{thread}-{point}")
 }
 
-/// `reader, point 0`, as a link to the point.
+/// `reader at point 0`, as a link to the point.
 pub fn point(names: &Names, thread: u8, point: u8) -> Element {
     let link = el("a").with("href", format!("#{}", point_id(thread, point)));
-    link.text(format!("{}, point {point}", names.thread(thread)))
+    link.text(names.at(thread, point))
 }
 
 /// The name under which a `let` stands on the page.

@@ -69,10 +69,15 @@ fn registers(header: &Header, words: &Words, t: u8) -> Option<String> {
 fn point(program: &Program, words: &Words, t: u8, p: u8) -> Element {
     let number = of("span", "number").text(p);
     let assertion = of("div", "assertion").add(formula(words, words.assertion(t, p)));
-    let out = el("li").with("id", point_id(t, p)).add(number).add(assertion);
+    let out = el("li").with("id", point_id(t, p)).add(number);
+    let out = match words.names.label(t, p) {
+        Some(label) => out.add(of("div", "label").text(format!("{label}:"))),
+        None => out,
+    };
+    let out = out.add(assertion);
     match program.instruction(t, p) {
         Some(instruction) => {
-            let text = words.names.instruction(instruction);
+            let text = words.names.instruction(t, instruction);
             out.add(of("div", "instruction").add(code(&text)))
         }
         None => out,

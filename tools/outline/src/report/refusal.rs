@@ -2,7 +2,7 @@
 //! line.
 
 use super::goals::{goal_element, goal_words, kind, wanted};
-use super::parts::{self, note};
+use super::parts::{self, note, opened};
 use super::{Content, Subject};
 use crate::diagnosis::{Broken, Checked, Diagnosis, Finding, Wrong};
 use crate::draw::{Ending, Picture};
@@ -78,7 +78,8 @@ fn lacks(judged: &Judged) -> String {
 fn figure(content: &Content, broken: &Broken, said: Element) -> Element {
     let drawing = of("div", "drawing").with("tabindex", 0).with("role", "region");
     let drawing = drawing.with("aria-label", "The run, drawn").add(picture(content, broken).svg());
-    of("figure", "run-figure").add(said).add(drawing)
+    let goes_on = of("p", "goes-on").text("The drawing goes on to the right: move it sideways.");
+    of("figure", "run-figure").add(said).add(goes_on).add(drawing)
 }
 
 /// The drawing of a run that breaks something.
@@ -125,6 +126,6 @@ fn found(checked: &Checked) -> (&'static str, String) {
 
 /// What the search for a line says.
 fn tried(content: &Content) -> Element {
-    let title = el("summary").text("What the search for a line says");
-    el("details").add(title).add(of("pre", "tried").text(content.tried.join("\n")))
+    let title = el("span").text("What the search for a line says");
+    el("div").all(opened(title, of("pre", "tried").text(content.tried.join("\n"))))
 }

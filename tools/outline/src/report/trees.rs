@@ -54,7 +54,11 @@ impl<'a> Trees<'a> {
         let names = &self.content.words.names;
         let middle = match self.content.image.program.instruction(line.thread, line.point) {
             Some(instruction) => {
-                format!("{}: {}", names.thread(line.thread), names.instruction(instruction))
+                format!(
+                    "{}: {}",
+                    names.thread(line.thread),
+                    names.instruction(line.thread, instruction)
+                )
             }
             None => arrow(line.rule).to_string(),
         };

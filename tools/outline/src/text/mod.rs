@@ -1,6 +1,8 @@
 //! The text form: reading sources, writing formulas, images and messages.
 
 pub mod answer;
+pub mod compare;
+pub mod contract;
 pub mod lex;
 pub mod lines;
 pub mod parse_certificate;

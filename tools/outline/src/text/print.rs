@@ -99,18 +99,25 @@ impl Names {
         }
     }
 
-    /// One instruction as text.
-    pub fn instruction(&self, instruction: &Instruction) -> String {
-        self.instruction_with(instruction, &[])
+    /// One instruction of a thread as text; a branch goes to a label, if its target has one.
+    pub fn instruction(&self, thread: u8, instruction: &Instruction) -> String {
+        self.instruction_with(thread, instruction, &[])
     }
 
     /// One instruction with a text behind each of its formulas, as far as there are texts.
-    pub fn instruction_with(&self, instruction: &Instruction, behind: &[String]) -> String {
+    pub fn instruction_with(
+        &self,
+        thread: u8,
+        instruction: &Instruction,
+        behind: &[String],
+    ) -> String {
         let mut behind = behind.iter();
         let mut marked = |text: String| text + behind.next().map_or("", |mark| mark.as_str());
         let (access, notes) = match instruction {
             Instruction::Branch { test, target } => {
-                return marked(format!("if {} goto {target}", self.test(test)));
+                let label = self.label(thread, *target);
+                let to = label.map_or_else(|| target.to_string(), String::from);
+                return marked(format!("if {} goto {to}", self.test(test)));
             }
             Instruction::Act { access, notes } => (access, notes),
         };

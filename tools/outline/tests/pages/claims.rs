@@ -58,9 +58,9 @@ fn section(text: &str) -> &str {
 fn a_claim_that_is_shown_is_a_sentence_with_its_lines() {
     let (status, text) = page("claim-shown", &with_claim(meeting(1, 0), true));
     assert_eq!(status, 0);
-    assert!(text.contains(" In no run do t1 at point 1 and t2 at point 0 meet. "));
+    assert!(text.contains(" t1 at point 1 and t2 at point 0 are never together. "));
     let claims = section(&text);
-    let sentence = "<a href=\"#point-1-1\">t1, point 1</a> and <a href=\"#point-2-0\">t2, point 0</a> never meet.";
+    let sentence = "<a href=\"#point-1-1\">t1 at point 1</a> and <a href=\"#point-2-0\">t2 at point 0</a> never meet.";
     assert!(claims.contains(sentence), "{claims}");
     assert!(claims.contains("Shown, and true in every run:") && claims.contains(">met</span>"));
     assert!(claims.contains("rule 20: By truth table"));

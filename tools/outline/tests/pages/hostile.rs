@@ -6,7 +6,7 @@ use outline::diagnosis::Diagnosis;
 use outline::draw::{Ending, Picture};
 use outline::judged::{judged, Goal};
 use outline::report::words::Words;
-use outline::report::{page, Content, Subject};
+use outline::report::{page, Content, Source, Subject};
 use outline::text::parse_source::parse;
 use reference::checker::decode;
 use reference::explore::Bounds;
@@ -56,8 +56,18 @@ fn a_page_escapes_every_name() {
     let (bytes, content) = content();
     let verdict = reference::checker::check(&bytes);
     let about = vec![BAD.to_string()];
-    let subject =
-        Subject { file: BAD, about, bytes: &bytes, verdict, judge: BAD, content: Some(content) };
+    let names = content.words.names.clone();
+    let source = Some(Source { text: BAD.as_bytes(), names: &names });
+    let subject = Subject {
+        file: BAD,
+        about,
+        bytes: &bytes,
+        source,
+        date: BAD,
+        verdict,
+        judge: BAD,
+        content: Some(content),
+    };
     let text = page(&subject);
     is_safe(&text);
     assert!(text.contains("<svg"), "the run is drawn");

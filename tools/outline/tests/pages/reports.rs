@@ -128,7 +128,9 @@ fn what_no_run_breaks_is_not_called_false() {
     assert!(!text.contains("<svg"));
     let answer = "It is not proved: no run breaks an assertion or a claim (all 16 states).";
     assert!(text.contains(answer), "{text}");
-    assert!(text.contains("It is not shown that waiter’s assertion at point 0 survives first’s “"));
+    assert!(
+        text.contains("It is not shown that the assertion of waiter at point 0 survives first’s “")
+    );
 }
 
 /// The claim has its line, but other lines are missing, and a run brings both threads inside.
