@@ -115,6 +115,15 @@ pub enum Finding {
 }
 
 impl Finding {
+    /// The word for it in JSON.
+    pub fn key(&self) -> &'static str {
+        match self {
+            Finding::False(_) => "false",
+            Finding::Unprovable(_) => "not-provable",
+            Finding::Unknown => "not-found",
+        }
+    }
+
     /// The worst has the lowest number.
     pub fn rank(&self) -> u8 {
         match self {

@@ -2,8 +2,8 @@
 //! proof outlines.
 
 use outline::command::{
-    bill, build, check, draw, explain, explore, handover, print, replay, report, serve, show, trim,
-    Done, Status,
+    bill, build, check, draw, explain, explore, handover, json, print, replay, report, serve, show,
+    trim, Done, Status,
 };
 use std::process::ExitCode;
 
@@ -73,7 +73,7 @@ fn main() -> ExitCode {
         ["--version"] => said(concat!("outline ", env!("CARGO_PKG_VERSION"), "\n")),
         _ => Err(format!("usage:\n{HELP}").trim_end().into()),
     };
-    match done {
+    match json::ended(&words, done) {
         Ok(status) => ExitCode::from(status as u8),
         Err(text) => {
             eprintln!("{text}");

@@ -244,8 +244,9 @@ fn standard_input_and_output_are_files_too() {
     assert!(status == 0 && out.starts_with("-: ACCEPTED: 22 obligations met\n"), "{out}");
     let (status, out, _) = told(fed(&["check", "--json", "-"], &image.stdout));
     let want = format!(
-        "{{\"file\":\"-\",\"accepted\":true,\"fields\":[0,0,0,0,0,0,0,0,22],\
-         \"words\":\"ACCEPTED: 22 obligations met\",\"judge\":\"{}\"}}\n",
+        "{{\"version\":1,\"command\":\"check\",\"status\":0,\"file\":\"-\",\"accepted\":true,\
+         \"fields\":[0,0,0,0,0,0,0,0,22],\"words\":\"ACCEPTED: 22 obligations met\",\"judge\":\"{}\",\
+         \"class\":null,\"places\":[]}}\n",
         judge()
     );
     assert_eq!((status, out), (0, want));
@@ -363,9 +364,9 @@ fn claims_are_told_when_they_are_shown() {
     assert!(out.contains("rule 50: a = 0 then a = 1\n"), "{out}");
     assert!(out.contains("rule 16 of the first half: a = 0 then 1 = 1\n"), "{out}");
     let (_, out, _) = run(&["explain", &text, "--json"]);
-    let claims =
-        "\"claims\":[{\"claim\":\"claim, never thread 2 (right) point 1 (out, line 10) and ";
-    assert!(out.contains(claims), "{out}");
+    let claims = "\"claims\":[{\"kind\":\"claim\",\"class\":null,\"places\":[{\"thread\":2,\"name\":\"right\",";
+    let told = "\"told\":\"claim, never thread 2 (right) point 1 (out, line 10) and ";
+    assert!(out.contains(claims) && out.contains(told), "{out}");
     let (_, out, _) = run(&["show", &image]);
     assert!(out.contains("    w1 := 1 @1 | r1 := 1 @1\n"), "{out}");
     assert!(out.contains("\nnever t2 1 and t1 1\n\ncertificate\n"), "{out}");
@@ -468,7 +469,7 @@ fn each_command_speaks_json() {
     let (text, image) = (example("polling"), folder.file("p.image"));
     let fields = "\"fields\":[0,0,0,0,0,0,0,0,22],\"words\":\"ACCEPTED: 22 obligations met\"";
     let cases: [(&[&str], &str); 5] = [
-        (&["build", &text, "-o", &image], "{\"accepted\":true,\"fields\":[0,0,0,0,0,0,0,0,22],"),
+        (&["build", &text, "-o", &image], "\"accepted\":true,\"fields\":[0,0,0,0,0,0,0,0,22],"),
         (&["check", &image], fields),
         (&["show", &image], fields),
         (&["explain", &text], fields),

@@ -154,7 +154,8 @@ false: reader at up: reader sees [data != 0]
     ];
     let (status, out, _) = run(&json);
     assert!(
-        status == 1 && out.starts_with("{\"permitted\":false,\"code\":34,\"told\":[\"open: "),
+        status == 1
+            && out.contains("\"status\":1,\"permitted\":false,\"code\":34,\"told\":[\"open: "),
         "{out}"
     );
 }

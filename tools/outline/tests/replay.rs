@@ -186,7 +186,8 @@ fn as_json() {
     let args = ["replay", &example("polling"), "-", "--json", "--entries", "2"];
     let (status, out, _) = told(fed(&args, b"2 0\n1 0\n"));
     let start = format!(
-        "{{\"file\":\"{}\",\"code\":29,\"steps\":1,\"points\":[0,1],\"registers\":[0,0],\
+        "{{\"version\":1,\"command\":\"replay\",\"status\":1,\
+         \"file\":\"{}\",\"code\":29,\"steps\":1,\"points\":[0,1],\"registers\":[0,0],\
          \"table\":[[0,0,0,0,0,0,0,0,0,0,0],[0,0,0,0,0,0,0,0,0,0,0]],\"told\":[\"  1. reader: ",
         example("polling")
     );

@@ -44,7 +44,8 @@ fn as_json() {
     let (status, out, _, by) = served(&["--json"]);
     assert_eq!((status, out.lines().count()), (1, 9));
     let third = format!(
-        "{{\"caller\":2,\"call\":\"bill\",\"file\":\"polling.outline\",\"code\":36,\
+        "{{\"version\":1,\"command\":\"serve\",\"status\":1,\
+         \"caller\":2,\"call\":\"bill\",\"file\":\"polling.outline\",\"code\":36,\
          \"words\":\"NOT SERVED (code 36): caller 2 has no right to bill\",\"server\":\"{by}\"}}"
     );
     assert_eq!(out.lines().nth(3), Some(third.as_str()));

@@ -31,7 +31,7 @@ pub fn run(args: &[&str]) -> Done {
     if let Some(svg) = &drawn.svg {
         write(target, (svg.written() + "\n").as_bytes())?;
     }
-    tell(&options, target, &drawn.text, drawn.svg.is_some())?;
+    tell(&options, target, &drawn)?;
     Ok(drawn.finding.status())
 }
 
@@ -78,11 +78,13 @@ fn with_outcome(options: &Options, content: &Content, outcome: &str) -> Result<D
 }
 
 /// What was drawn goes to standard output, unless the drawing goes there.
-fn tell(options: &Options, target: &str, text: &str, drawn: bool) -> Result<(), String> {
+fn tell(options: &Options, target: &str, drawn: &Drawn) -> Result<(), String> {
+    let (text, is_drawn) = (&drawn.text, drawn.svg.is_some());
     let line = if options.json {
-        let written = if drawn { json::text(target) } else { "null".into() };
-        json::object(&[("written", written), ("told", json::text(text))]) + "\n"
-    } else if drawn {
+        let written = if is_drawn { json::text(target) } else { "null".into() };
+        let all = [("written", written), ("told", json::text(text))];
+        json::answer("draw", drawn.finding.status(), &all)
+    } else if is_drawn {
         format!("{target}: {text}\n")
     } else {
         format!("nothing is drawn: {text}\n")

@@ -1,6 +1,6 @@
 //! `explain`: each obligation and claim with its line, the line's rule, and its premises as a tree.
 
-use crate::command::input::Subject;
+use crate::command::input::{called, Subject};
 use crate::command::judge::{judge, JUDGE};
 use crate::command::options::Options;
 use crate::command::{json, print, words, Done, Status};
@@ -15,25 +15,23 @@ use std::fmt::Write;
 
 pub fn run(args: &[&str]) -> Done {
     let options = Options::read(args, &["--json"])?;
-    let subject = Subject::of(options.file()?)?;
+    let file = options.file()?;
+    let subject = Subject::of(file)?;
     let verdict = judge(&subject.bytes);
     let said = words::verdict(&verdict, subject.source(), subject.claims());
     let status = if verdict.code == 0 { Status::Accepted } else { Status::Refused };
+    let mut all = vec![("file", json::text(called(file)))];
+    all.extend(json::verdict(&verdict, &said, subject.source()));
     let Ok(image) = image::read(&subject.bytes) else {
-        let all = [("fields", json::fields(&verdict)), ("words", json::text(&said))];
-        print(if options.json { json::object(&all) + "\n" } else { said + "\n" })?;
+        print(if options.json { json::answer("explain", status, &all) } else { said + "\n" })?;
         return Ok(status);
     };
     let explained = Explained::of(&subject, &image, &verdict)?;
     let mut text = format!("{said}   ({JUDGE})\n{}", explained.text);
     if options.json {
-        let all = [
-            ("fields", json::fields(&verdict)),
-            ("words", json::text(&said)),
-            ("obligations", json::list(explained.obligations)),
-            ("claims", json::list(explained.claims)),
-        ];
-        text = json::object(&all) + "\n";
+        all.push(("obligations", json::list(explained.obligations)));
+        all.push(("claims", json::list(explained.claims)));
+        text = json::answer("explain", status, &all);
     }
     print(text)?;
     Ok(status)
@@ -57,21 +55,16 @@ impl Explained {
         for (n, judged) in (1..).zip(&judged) {
             let standing = judged.standing(accepted);
             let tree = tree(image, &names, judged.line, &mut told);
-            let (place, what, list) = match &judged.goal {
-                Goal::Duty(duty) => {
-                    (report::duty(&names, source, duty), "obligation", &mut obligations)
-                }
-                Goal::Claim(meeting) => {
-                    (report::claim(&names, source, meeting), "claim", &mut claims)
-                }
+            let (place, list) = match &judged.goal {
+                Goal::Duty(duty) => (report::duty(&names, source, duty), &mut obligations),
+                Goal::Claim(meeting) => (report::claim(&names, source, meeting), &mut claims),
             };
             let _ = write!(text, "\n{n}. {place}: {}\n{tree}", standing.told(judged.line));
-            list.push(json::object(&[
-                (what, json::text(&place)),
-                ("standing", json::text(standing.key())),
-                ("line", judged.line.to_string()),
-                ("tree", json::text(&tree)),
-            ]));
+            let mut members = json::goal(source, &judged.goal, &place);
+            members.push(("standing", json::text(standing.key())));
+            members.push(("certificate_line", judged.line.to_string()));
+            members.push(("tree", json::text(&tree)));
+            list.push(json::object(&members));
         }
         Ok(Explained { text, obligations, claims })
     }

@@ -34,7 +34,7 @@ pub fn run(args: &[&str]) -> Done {
         None => outline(&subject, bounds),
     };
     if options.json {
-        print(answer.json(file, &bounds) + "\n")?;
+        print(answer.json(file, &bounds))?;
     } else {
         print(answer.said.join("\n") + "\n")?;
     }
@@ -53,13 +53,17 @@ struct Answer {
 impl Answer {
     fn json(&self, file: &str, bounds: &Bounds) -> String {
         let cut = cut_by(&self.cut, bounds).into_iter();
-        json::object(&[
-            ("file", json::text(called(file))),
-            ("answer", json::text(self.word)),
-            ("states", self.states.to_string()),
-            ("cut", json::list(cut.map(|(name, _)| json::text(name)))),
-            ("told", json::texts(&self.said)),
-        ])
+        json::answer(
+            "explore",
+            self.finding.status(),
+            &[
+                ("file", json::text(called(file))),
+                ("answer", json::text(self.word)),
+                ("states", self.states.to_string()),
+                ("cut", json::list(cut.map(|(name, _)| json::text(name)))),
+                ("told", json::texts(&self.said)),
+            ],
+        )
     }
 }
 

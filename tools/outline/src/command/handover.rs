@@ -325,6 +325,7 @@ fn why(old: &Code, new: &Code, table: &[u8], code: u16) -> String {
 fn tell(options: &Options, answer: &Answer) -> Result<(), String> {
     let mut text = answer.said.join("\n") + "\n";
     if options.json {
+        let status = if answer.code == 0 { Status::Accepted } else { Status::Refused };
         let all = [
             ("permitted", (answer.code == 0).to_string()),
             ("code", answer.code.to_string()),
@@ -332,7 +333,7 @@ fn tell(options: &Options, answer: &Answer) -> Result<(), String> {
             ("handover", json::text(PERMIT)),
             ("judge", json::text(JUDGE)),
         ];
-        text = json::object(&all) + "\n";
+        text = json::answer("handover", status, &all);
     }
     let files = [options.target.as_deref(), options.table.as_deref()];
     if files.contains(&Some("-")) || (answer.code != 0 && !options.json) {

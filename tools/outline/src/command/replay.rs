@@ -49,8 +49,8 @@ pub fn run(args: &[&str]) -> Done {
     if let Some(target) = &options.target {
         write(target, (told.drawn()?.written() + "\n").as_bytes())?;
     }
-    let text = if options.json { told.json(file) } else { told.lines().join("\n") };
-    tell(&options, &(text + "\n"))?;
+    let text = if options.json { told.json(file) } else { told.lines().join("\n") + "\n" };
+    tell(&options, &text)?;
     Ok(if replayed.code == 0 { Status::Accepted } else { Status::Refused })
 }
 
@@ -166,16 +166,21 @@ impl<'a> Told<'a> {
     fn json(&self, file: &str) -> String {
         let numbers = |all: &[u8]| json::list(all.iter().map(u8::to_string));
         let entry = |write| numbers(&entry_bytes(write));
-        json::object(&[
-            ("file", json::text(called(file))),
-            ("code", self.replay.code.to_string()),
-            ("steps", self.replay.steps.to_string()),
-            ("points", numbers(&self.replay.points)),
-            ("registers", numbers(&self.replay.registers)),
-            ("table", json::list(self.replay.writes.iter().map(entry))),
-            ("told", json::texts(&self.lines())),
-            ("replayer", json::text(REPLAYER)),
-        ])
+        let status = if self.replay.code == 0 { Status::Accepted } else { Status::Refused };
+        json::answer(
+            "replay",
+            status,
+            &[
+                ("file", json::text(called(file))),
+                ("code", self.replay.code.to_string()),
+                ("steps", self.replay.steps.to_string()),
+                ("points", numbers(&self.replay.points)),
+                ("registers", numbers(&self.replay.registers)),
+                ("table", json::list(self.replay.writes.iter().map(entry))),
+                ("told", json::texts(&self.lines())),
+                ("replayer", json::text(REPLAYER)),
+            ],
+        )
     }
 }
 
@@ -190,11 +195,11 @@ fn refused(options: &Options, file: &str, subject: &Subject) -> Done {
             ("told", json::texts(&[said])),
             ("replayer", json::text(REPLAYER)),
         ];
-        json::object(&all)
+        json::answer("replay", Status::Refused, &all)
     } else {
-        format!("{}: {said}   ({REPLAYER})", called(file))
+        format!("{}: {said}   ({REPLAYER})\n", called(file))
     };
-    print(text + "\n")?;
+    print(text)?;
     Ok(Status::Refused)
 }
 

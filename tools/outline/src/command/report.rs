@@ -46,7 +46,14 @@ pub fn run(args: &[&str]) -> Done {
         write(image, loaded.bytes())?;
     }
     tell(&options, target, &loaded, &about)?;
-    Ok(if verdict.code == 0 { Status::Accepted } else { Status::Refused })
+    Ok(status(&verdict))
+}
+
+fn status(verdict: &Verdict) -> Status {
+    match verdict.code {
+        0 => Status::Accepted,
+        _ => Status::Refused,
+    }
 }
 
 /// What was written goes to standard output, unless the page goes there.
@@ -65,15 +72,14 @@ fn tell(
         format!("{}: {told}\n", diagnosis.answer().head())
     });
     let line = if options.json {
-        let all = [
-            ("written", json::text(target)),
-            ("accepted", (verdict.code == 0).to_string()),
-            ("fields", json::fields(verdict)),
-            ("words", json::text(&said)),
-            ("digest", json::text(&digest(loaded.bytes()))),
-            ("judge", json::text(JUDGE)),
-        ];
-        json::object(&all) + "\n"
+        let key = content.and_then(|content| content.diagnosis.as_ref());
+        let key = key.map_or("null".into(), |diagnosis| json::text(diagnosis.answer().key()));
+        let mut all = vec![("file", json::text(about.file)), ("written", json::text(target))];
+        all.extend(json::verdict(verdict, &said, loaded.subject.source()));
+        all.push(("digest", json::text(&digest(loaded.bytes()))));
+        all.push(("answer", key));
+        all.push(("told", json::texts(answer.map(|line| line.trim_end().to_string()).as_ref())));
+        json::answer("report", status(verdict), &all)
     } else {
         let image =
             options.image.iter().map(|image| format!("{image}: the image that was judged\n"));

@@ -45,8 +45,8 @@ pub fn run(args: &[&str]) -> Done {
         if answered.code != 0 {
             worst = Status::Refused;
         }
-        out += &if options.json { as_json(asked, &answered) } else { as_words(asked, &answered) };
-        out.push('\n');
+        let json = options.json;
+        out += &if json { as_json(asked, &answered) } else { as_words(asked, &answered) + "\n" };
     }
     if !options.json {
         out += &format!("billed images: {}   ({})\n", numbers(&service), servers(&session));
@@ -276,12 +276,17 @@ fn as_words(asked: &Asked, answered: &Answered) -> String {
 }
 
 fn as_json(asked: &Asked, answered: &Answered) -> String {
-    json::object(&[
-        ("caller", asked.caller.to_string()),
-        ("call", json::text(name(&asked.wish))),
-        ("file", json::text(&asked.file)),
-        ("code", answered.code.to_string()),
-        ("words", json::text(&answered.words)),
-        ("server", json::text(server(&asked.wish))),
-    ])
+    let status = if answered.code == 0 { Status::Accepted } else { Status::Refused };
+    json::answer(
+        "serve",
+        status,
+        &[
+            ("caller", asked.caller.to_string()),
+            ("call", json::text(name(&asked.wish))),
+            ("file", json::text(&asked.file)),
+            ("code", answered.code.to_string()),
+            ("words", json::text(&answered.words)),
+            ("server", json::text(server(&asked.wish))),
+        ],
+    )
 }

@@ -48,6 +48,11 @@ impl Looked<'_> {
         self.diagnosis.of_goal(goal).map_or(u8::MAX, |checked| checked.finding.rank())
     }
 
+    /// The word of JSON for what was found out about a goal.
+    pub fn key(&self, goal: &Goal) -> &'static str {
+        self.diagnosis.of_goal(goal).map_or("not-found", |checked| checked.finding.key())
+    }
+
     /// What was found out about a goal, in full with the run or the state.
     pub fn told(&self, open: &Open, in_full: bool) -> String {
         let Some(checked) = self.diagnosis.of_goal(&open.goal) else { return String::new() };
