@@ -96,8 +96,8 @@ fn the_answers_have_three_words_in_json() {
     let json = |more: &[&str]| {
         let (status, out, _) =
             run(&[&["explore", &outline("seven-writes.outline"), "--json"], more].concat());
-        let (_, fields) = out.split_once(',').expect("fields");
-        (status, fields.split_once(",\"told\"").expect("lines").0.to_string())
+        let at = out.find("\"answer\":").expect("an answer");
+        (status, out[at..].split_once(",\"told\"").expect("lines").0.to_string())
     };
     let fields = |word: &str, states: usize, cut: &str| {
         format!("\"answer\":\"{word}\",\"states\":{states},\"cut\":[{cut}]")
