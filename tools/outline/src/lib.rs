@@ -7,6 +7,7 @@
 
 pub mod build;
 pub mod command;
+pub mod diagnosis;
 pub mod draw;
 pub mod explicit;
 pub mod gallery;
@@ -14,6 +15,7 @@ pub mod handover;
 pub mod image;
 pub mod judged;
 pub mod markup;
+pub mod refuted;
 pub mod report;
 pub mod search;
 pub mod terms;

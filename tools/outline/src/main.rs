@@ -2,22 +2,22 @@
 //! proof outlines.
 
 use outline::command::{
-    bill, build, check, draw, explain, explore, handover, print, replay, report, serve, show, trim,
-    Done, Status,
+    bill, build, check, draw, explain, explore, handover, json, print, replay, report, serve, show,
+    trim, Done, Status,
 };
 use std::process::ExitCode;
 
 const HELP: &str = "\
-outline build FILE.outline -o FILE.image [--partial] [--all] [--at THREAD:POINT] [--all-lines]
+outline build FILE.outline -o FILE.image [--partial] [--all] [--at THREAD:POINT] [--all-lines] [BOUNDS]
                                                                finds a certificate, writes the image, says its verdict
 outline check FILE|FOLDER..                                    judges images and outlines
 outline show FILE                                              an image as text, its verdict first
 outline explain FILE                                           each obligation and claim with its line, rule and premises
-outline explore FILE [--steps N] [--writes N] [--starts N] [--claims] [--outcome \"a = 1 and b = 0\"]
-                                                               every run up to a bound
-outline report FILE -o FILE.html [--steps N] [--writes N] [--starts N]
+outline explore FILE [BOUNDS] [--claims | --outcome \"a = 1 and b = 0\"]
+                                                               every run within the bounds
+outline report FILE -o FILE.html [--image FILE.image] [--date YYYY-MM-DD] [BOUNDS]
                                                                a page: verdict, program, obligations, a run that breaks it
-outline draw FILE -o FILE.svg [--steps N] [--writes N] [--starts N] [--outcome \"a = 1 and b = 0\"]
+outline draw FILE -o FILE.svg [BOUNDS] [--outcome \"a = 1 and b = 0\"]
                                                                a run that breaks it, or that has the outcome, drawn
 outline trim FILE -o FILE.image                                an accepted image without lines and formulas that nothing rests on
 outline bill FILE|FOLDER.. --tariff TARIFF [--billed N]        what the checks cost in cents, by thread and together
@@ -29,6 +29,14 @@ outline handover OLD NEW --table TABLE                         judges a table th
 outline serve FILE                                             calls of several desks to one service, in their order
 
 FILE, OLD and NEW are outlines or images; `-` is standard input, behind -o standard output. All take --json.
+BOUNDS for explore and draw --outcome, with what goes without asking (for a run that breaks something in brackets):
+  --steps N   steps of a run: 24 [24], at most 10000
+  --writes N  writes in a word's row, the first among them: 6 [6], at most 200
+  --starts N  start states, where registers are open: 4096 [64], at most 1048576
+  --states N  states that are kept: 2000000 [30000], at most 8000000. A state takes 40 bytes and for each write 1 more than
+              there are words; 512 MiB of them are kept, and no more, so that memory stays under 1 GB
+  --image     writes the image that the page is about, too
+  --date      the page's date; else that of SOURCE_DATE_EPOCH, else the clock's, in UTC
   --partial   writes an image with open obligations and claims too
   --all       tells all open obligations and claims in full
   --all-lines writes every line that the search found, dead ones too
@@ -41,7 +49,8 @@ FILE, OLD and NEW are outlines or images; `-` is standard input, behind -o stand
   --entries   room for so many writes (64)
   --table     for each old point a new point and a line of the new image, three bytes
   --map       where an old point goes on, points by number or label; the others are proposed
-Status: 0 accepted, true or never; 1 refused, open, false or happens; 2 wrong use, or a file that cannot be read or written.
+Status: 0 accepted; true or never in all states. 1 refused, open, false or happens. 2 wrong use, or a file that cannot be
+read or written. 3 no run was found, and a bound kept some state from being looked at.
 ";
 
 fn main() -> ExitCode {
@@ -64,7 +73,7 @@ fn main() -> ExitCode {
         ["--version"] => said(concat!("outline ", env!("CARGO_PKG_VERSION"), "\n")),
         _ => Err(format!("usage:\n{HELP}").trim_end().into()),
     };
-    match done {
+    match json::ended(&words, done) {
         Ok(status) => ExitCode::from(status as u8),
         Err(text) => {
             eprintln!("{text}");

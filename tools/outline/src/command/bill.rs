@@ -33,8 +33,8 @@ pub fn run(args: &[&str]) -> Done {
             sum += u64::from(bill.cents);
         }
         worst = worst.max(status(&billed));
-        out += &if options.json { as_json(file, &billed) } else { as_words(file, &billed) };
-        out.push('\n');
+        let json = options.json;
+        out += &if json { as_json(file, &billed) } else { as_words(file, &billed) + "\n" };
     }
     if !options.json {
         let all = if files.len() > 1 {
@@ -136,7 +136,10 @@ fn as_json(file: &str, billed: &Billed) -> String {
             all.push(("words", json::text(said)));
             all.push(("biller", json::text(BILLER)));
         }
-        Err(text) => all.push(("error", json::text(text))),
+        Err(text) => {
+            all.push(("error", json::text(text)));
+            all.push(("mistakes", json::mistakes(&[file], text)));
+        }
     }
-    json::object(&all)
+    json::answer("bill", status(billed), &all)
 }

@@ -1,16 +1,17 @@
 //! `check`: judges images and outlines, many at once.
 
 use crate::command::input::Subject;
+use crate::command::json::{self, Member};
 use crate::command::judge::{judge, JUDGE};
 use crate::command::options::Options;
 use crate::command::progress::Progress;
 use crate::command::spread::spread;
-use crate::command::{json, print, words, Done, Status};
+use crate::command::{print, words, Done, Status};
 use reference::checker::Verdict;
 use std::path::Path;
 
 /// One file judged: the verdict with its words, or why there is none.
-type Judged = Result<(Verdict, String), String>;
+type Judged = Result<(Verdict, Vec<Member>, String), String>;
 
 pub fn run(words: &[&str]) -> Done {
     let options = Options::read(words, &["--json"])?;
@@ -24,14 +25,8 @@ pub fn run(words: &[&str]) -> Done {
     let judged = judge_all(&files);
     let mut out = String::new();
     for (file, judged) in files.iter().zip(&judged) {
-        out += &if options.json { as_json(file, judged) } else { as_words(file, judged) };
-        out.push('\n');
+        out += &if options.json { as_json(file, judged) } else { as_words(file, judged) + "\n" };
     }
-    let status = |j: &Judged| match j {
-        Ok((verdict, _)) if verdict.code == 0 => Status::Accepted,
-        Ok(_) => Status::Refused,
-        Err(_) => Status::Unusable,
-    };
     let count = |wanted: Status| judged.iter().filter(|j| status(j) == wanted).count();
     if files.len() > 1 && !options.json {
         let (yes, no) = (count(Status::Accepted), count(Status::Refused));
@@ -70,12 +65,21 @@ fn judge_all(files: &[String]) -> Vec<Judged> {
 fn judge_one(file: &str) -> Judged {
     let subject = Subject::of(file)?;
     let verdict = judge(&subject.bytes);
-    Ok((verdict, words::verdict(&verdict, subject.source(), subject.claims())))
+    let words = words::verdict(&verdict, subject.source(), subject.claims());
+    Ok((verdict, json::verdict(&verdict, &words, subject.source()), words))
+}
+
+fn status(judged: &Judged) -> Status {
+    match judged {
+        Ok((verdict, ..)) if verdict.code == 0 => Status::Accepted,
+        Ok(_) => Status::Refused,
+        Err(_) => Status::Unusable,
+    }
 }
 
 fn as_words(file: &str, judged: &Judged) -> String {
     match judged {
-        Ok((verdict, words)) => format!("{file}: {words}\n  {verdict}   ({JUDGE})"),
+        Ok((verdict, _, words)) => format!("{file}: {words}\n  {verdict}   ({JUDGE})"),
         Err(text) => format!("{file}: NOT JUDGED: {text}"),
     }
 }
@@ -83,13 +87,11 @@ fn as_words(file: &str, judged: &Judged) -> String {
 fn as_json(file: &str, judged: &Judged) -> String {
     let mut all = vec![("file", json::text(file))];
     match judged {
-        Ok((verdict, words)) => {
-            all.push(("accepted", (verdict.code == 0).to_string()));
-            all.push(("fields", json::fields(verdict)));
-            all.push(("words", json::text(words)));
-            all.push(("judge", json::text(JUDGE)));
+        Ok((_, members, _)) => all.extend(members.iter().cloned()),
+        Err(text) => {
+            all.push(("error", json::text(text)));
+            all.push(("mistakes", json::mistakes(&[file], text)));
         }
-        Err(text) => all.push(("error", json::text(text))),
     }
-    json::object(&all)
+    json::answer("check", status(judged), &all)
 }

@@ -5,21 +5,18 @@ use crate::command::judge::{judge, JUDGE};
 use crate::command::options::Options;
 use crate::command::permit::{code, PERMIT};
 use crate::command::{json, print, words, write, Done, Status};
+use crate::diagnosis::BOUNDS;
 use crate::handover::{find, handover, Chosen, Found, Move, Open};
 use crate::image::to_bytes;
 use crate::text::print::Names;
 use crate::text::{counted, run};
 use reference::checker::decode;
 use reference::checker::rules::justified_lines;
-use reference::explore::{across, Bounds, BreakAcross, Run};
+use reference::explore::{across, BreakAcross, Run};
 use reference::handover::{entries, places, Entry, OUT_OF_RANGE, UNLIKE};
 use reference::image::written::Written;
 use reference::image::{Header, Image, Program};
 use reference::machine::{take, State};
-
-/// How far runs across a handover are looked at.
-const BOUNDS: Bounds = Bounds { steps: 12, writes: 6, starts: 64 };
-const MOST_STATES: usize = 30_000;
 
 /// What is told, and what the call comes to.
 struct Answer {
@@ -231,7 +228,7 @@ fn open_ones(old: &Code, new: &Code, found: &Found) -> Vec<String> {
         said.extend(given_up.map(|tries| format!("  given up     after {tries} tries")));
     }
     let tried = handover(old.program(), new.program(), found);
-    let looked = across(&tried, BOUNDS, MOST_STATES);
+    let looked = across(&tried, BOUNDS);
     match &looked.broken {
         Some(broken) => {
             said.extend(false_run(old, new, &tried.mapped(&ended(old, broken)), broken))
@@ -265,8 +262,7 @@ fn false_run(old: &Code, new: &Code, mapped: &State, broken: &BreakAcross) -> Ve
     )];
     let before = Run { start: start.clone(), steps: first.clone() };
     said.extend(run::lines(old.program(), &old.names, &before));
-    let goes_on =
-        |(thread, point): (u8, &u8)| format!("{} at point {point}", new.names.thread(thread));
+    let goes_on = |(thread, point): (u8, &u8)| new.names.at(thread, *point);
     let all: Vec<String> = (1..).zip(&mapped.points).map(goes_on).collect();
     said.push(format!("     handover: {}", all.join(", ")));
     let after = Run { start: mapped.clone(), steps: second.clone() };
@@ -278,8 +274,8 @@ fn false_run(old: &Code, new: &Code, mapped: &State, broken: &BreakAcross) -> Ve
         take(threads, &state, *step).expect("a step of the run")
     });
     let point = end.points[usize::from(*thread) - 1];
-    let name = new.names.thread(*thread);
-    said.push(format!("false: {name} at point {point}: {}", new.assertion(*thread, point)));
+    let at = new.names.at(*thread, point);
+    said.push(format!("false: {at}: {}", new.assertion(*thread, point)));
     said
 }
 
@@ -329,6 +325,7 @@ fn why(old: &Code, new: &Code, table: &[u8], code: u16) -> String {
 fn tell(options: &Options, answer: &Answer) -> Result<(), String> {
     let mut text = answer.said.join("\n") + "\n";
     if options.json {
+        let status = if answer.code == 0 { Status::Accepted } else { Status::Refused };
         let all = [
             ("permitted", (answer.code == 0).to_string()),
             ("code", answer.code.to_string()),
@@ -336,7 +333,7 @@ fn tell(options: &Options, answer: &Answer) -> Result<(), String> {
             ("handover", json::text(PERMIT)),
             ("judge", json::text(JUDGE)),
         ];
-        text = json::object(&all) + "\n";
+        text = json::answer("handover", status, &all);
     }
     let files = [options.target.as_deref(), options.table.as_deref()];
     if files.contains(&Some("-")) || (answer.code != 0 && !options.json) {

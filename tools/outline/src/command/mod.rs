@@ -3,9 +3,11 @@
 pub mod bill;
 pub mod build;
 pub mod check;
+pub mod date;
 pub mod draw;
 pub mod explain;
 pub mod explore;
+pub mod finding;
 pub mod handover;
 pub mod input;
 pub mod interrupt;
@@ -31,12 +33,14 @@ use std::io::Write;
 /// How a command ends.
 #[derive(Debug, Clone, Copy, PartialEq, Eq, PartialOrd, Ord)]
 pub enum Status {
-    /// Accepted, or true as far as was asked.
+    /// Accepted; or true, or never, in all states.
     Accepted = 0,
-    /// Refused, open, or false.
+    /// Refused, open, false, or an outcome that happens.
     Refused = 1,
     /// Wrong use, or something that cannot be read or written.
     Unusable = 2,
+    /// No run was found, and a bound kept some state from being looked at.
+    Cut = 3,
 }
 
 /// What a command comes to; a text is a message about wrong use or a file.

@@ -2,6 +2,12 @@
 
 use reference::explore::Bounds;
 
+/// With so many states, and the room that the explorer has for them, memory stays under a gigabyte.
+const MOST_STATES: usize = 8_000_000;
+
+/// How far runs are looked at.
+pub const BOUND_OPTIONS: [&str; 4] = ["--steps", "--writes", "--starts", "--states"];
+
 /// Everything that may be asked for; each command says which it takes.
 #[derive(Debug, Default)]
 pub struct Options {
@@ -17,11 +23,14 @@ pub struct Options {
     pub steps: Option<usize>,
     pub writes: Option<usize>,
     pub starts: Option<usize>,
+    pub states: Option<usize>,
     pub tariff: Option<String>,
     pub billed: Option<u32>,
     pub given: Option<String>,
     pub entries: Option<usize>,
     pub table: Option<String>,
+    pub image: Option<String>,
+    pub date: Option<String>,
     pub map: Vec<String>,
 }
 
@@ -30,9 +39,20 @@ impl Options {
     pub fn read(words: &[&str], allowed: &[&str]) -> Result<Options, String> {
         let mut options = Options::default();
         let mut rest = words.iter();
+        let mut seen: Vec<&str> = Vec::new();
         while let Some(&word) = rest.next() {
-            if word != "-" && word.starts_with('-') && !allowed.contains(&word) {
-                return Err(format!("`{word}` is no option here; see outline --help"));
+            if word == "--" {
+                options.files.extend(rest.map(|file| file.to_string()));
+                break;
+            }
+            if word != "-" && word.starts_with('-') {
+                if !allowed.contains(&word) {
+                    return Err(format!("`{word}` is no option here; see outline --help"));
+                }
+                if seen.contains(&word) && word != "--map" {
+                    return Err(format!("`{word}` is given twice; once is enough"));
+                }
+                seen.push(word);
             }
             let mut value = || rest.next().copied().ok_or(format!("`{word}` wants a value"));
             match word {
@@ -42,10 +62,13 @@ impl Options {
                 "--steps" => options.steps = Some(number(word, value()?, 10_000)?),
                 "--writes" => options.writes = Some(number(word, value()?, 200)?),
                 "--starts" => options.starts = Some(number(word, value()?, 1 << 20)?),
+                "--states" => options.states = Some(number(word, value()?, MOST_STATES)?),
                 "--given" => options.given = Some(value()?.into()),
                 "--entries" => options.entries = Some(number(word, value()?, 64)?),
                 "--tariff" => options.tariff = Some(value()?.into()),
                 "--table" => options.table = Some(value()?.into()),
+                "--image" => options.image = Some(value()?.into()),
+                "--date" => options.date = Some(value()?.into()),
                 "--map" => options.map.push(value()?.into()),
                 "--billed" => {
                     options.billed = Some(number(word, value()?, u32::MAX as usize)? as u32);
@@ -70,11 +93,13 @@ impl Options {
         }
     }
 
-    pub fn bounds(&self) -> Bounds {
+    /// How far runs are looked at: as asked, and where nothing is asked, so far.
+    pub fn bounds(&self, otherwise: Bounds) -> Bounds {
         Bounds {
-            steps: self.steps.unwrap_or(24),
-            writes: self.writes.unwrap_or(6),
-            starts: self.starts.unwrap_or(4096),
+            steps: self.steps.unwrap_or(otherwise.steps),
+            writes: self.writes.unwrap_or(otherwise.writes),
+            starts: self.starts.unwrap_or(otherwise.starts),
+            states: self.states.unwrap_or(otherwise.states),
         }
     }
 }

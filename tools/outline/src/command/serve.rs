@@ -1,13 +1,14 @@
 //! `serve`: calls of several desks to one service, in their order.
 
-use crate::command::input::{called, mistakes, read, Input, Subject};
+use crate::command::input::{called, mistake, mistakes, read, Input, Subject};
 use crate::command::options::Options;
-use crate::command::replay::trace_bytes;
+use crate::command::replay::read_trace;
 use crate::command::service::{
     bill_for, open_service, serve_check, serve_handover, serve_replay, serve_replay_handover,
     serve_trim, INDEPENDENT, SERVER,
 };
 use crate::command::{bill, json, print, words, write, Done, Status};
+use crate::text::compare::compared;
 use crate::text::counted;
 use crate::text::lex::Mistake;
 use crate::text::parse_session::{session, Asked, Session, Wish};
@@ -15,8 +16,8 @@ use crate::text::print::Names;
 use reference::checker::verdict::{Verdict, RECORD_BYTES};
 use reference::checker::{accepted, decode};
 use reference::desks::{Run, CALLERS, NO_RIGHT, NO_SUCH_CALLER, SERVICE};
-use reference::handover::{Across, Traces};
-use reference::replay::{ANSWER, MOST_WRITES, WRITE_BYTES};
+use reference::handover::{permitted, Across, Traces};
+use reference::replay::{start, ANSWER, MOST_WRITES, WRITE_BYTES};
 use std::path::Path;
 
 /// What a call came to.
@@ -44,8 +45,8 @@ pub fn run(args: &[&str]) -> Done {
         if answered.code != 0 {
             worst = Status::Refused;
         }
-        out += &if options.json { as_json(asked, &answered) } else { as_words(asked, &answered) };
-        out.push('\n');
+        let json = options.json;
+        out += &if json { as_json(asked, &answered) } else { as_words(asked, &answered) + "\n" };
     }
     if !options.json {
         out += &format!("billed images: {}   ({})\n", numbers(&service), servers(&session));
@@ -108,11 +109,34 @@ impl Material {
         };
         let new = new.map(|new| Subject::of(&place(new))).transpose()?;
         let table = table.map_or(Ok(Vec::new()), |table| bytes(table))?;
-        let names = names(&subject);
-        let traces = files.iter().map(|file| trace_bytes(&place(file), &names));
-        let traces = traces.collect::<Result<Vec<Vec<u8>>, String>>()?;
+        let files: Vec<String> = files.iter().map(|file| place(file)).collect();
+        let traces = traces(&subject, new.as_ref(), &table, &files)?;
         Ok(Material { subject, new, table, traces })
     }
+}
+
+/// The traces of a call, whose words have to be what the machine does: the first under the old code, the second under the new
+/// one, each in its own code's names. What is not accepted or not permitted is not run, so its words are not looked at.
+fn traces(
+    old: &Subject,
+    new: Option<&Subject>,
+    table: &[u8],
+    files: &[String],
+) -> Result<Vec<Vec<u8>>, String> {
+    let mut state = accepted(&old.bytes).map(|image| start(&image.program.header, &[]));
+    let mut traces = Vec::new();
+    for (file, subject) in files.iter().zip([Some(old), new].into_iter().flatten()) {
+        let names = names(subject);
+        let trace = read_trace(file, &names)?;
+        if let (Some(first), Ok(image)) = (&state, decode(&subject.bytes)) {
+            let end = compared(&image.program, &names, first, &trace);
+            let end = end.map_err(|differs| mistake(file, "", &differs))?;
+            let next = new.and_then(|new| permitted(&old.bytes, &new.bytes, table).ok());
+            state = next.and_then(|handover| Some(handover.mapped(&end?)));
+        }
+        traces.push(trace.bytes);
+    }
+    Ok(traces)
 }
 
 /// The names that a trace may use, none if the image is not in order.
@@ -252,12 +276,17 @@ fn as_words(asked: &Asked, answered: &Answered) -> String {
 }
 
 fn as_json(asked: &Asked, answered: &Answered) -> String {
-    json::object(&[
-        ("caller", asked.caller.to_string()),
-        ("call", json::text(name(&asked.wish))),
-        ("file", json::text(&asked.file)),
-        ("code", answered.code.to_string()),
-        ("words", json::text(&answered.words)),
-        ("server", json::text(server(&asked.wish))),
-    ])
+    let status = if answered.code == 0 { Status::Accepted } else { Status::Refused };
+    json::answer(
+        "serve",
+        status,
+        &[
+            ("caller", asked.caller.to_string()),
+            ("call", json::text(name(&asked.wish))),
+            ("file", json::text(&asked.file)),
+            ("code", answered.code.to_string()),
+            ("words", json::text(&answered.words)),
+            ("server", json::text(server(&asked.wish))),
+        ],
+    )
 }

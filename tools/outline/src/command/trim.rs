@@ -26,7 +26,7 @@ pub fn run(args: &[&str]) -> Done {
     write(target, &bytes)?;
     let [before, after] = [&subject.bytes, &bytes].map(|bytes| Size::of(bytes));
     let text = if options.json {
-        as_json(file, &verdict, &before, &after) + "\n"
+        as_json(file, &subject, &verdict, [&before, &after])
     } else {
         let said = words::verdict(&verdict, None, subject.claims());
         let dropped = before.without(&after);
@@ -87,14 +87,10 @@ fn refused(options: &Options, file: &str, subject: &Subject) -> Done {
     let said = words::verdict(&verdict, subject.source(), subject.claims());
     let file = called(file);
     if options.json {
-        let all = [
-            ("file", json::text(file)),
-            ("accepted", false.to_string()),
-            ("fields", json::fields(&verdict)),
-            ("words", json::text(&said)),
-            ("judge", json::text(JUDGE)),
-        ];
-        tell(options.target.as_deref().unwrap_or_default(), &(json::object(&all) + "\n"))?;
+        let mut all = vec![("file", json::text(file))];
+        all.extend(json::verdict(&verdict, &said, subject.source()));
+        let text = json::answer("trim", Status::Refused, &all);
+        tell(options.target.as_deref().unwrap_or_default(), &text)?;
     } else {
         eprintln!("{file}: {said}   ({JUDGE})");
         eprintln!("{file}: only an accepted image is trimmed (code 24); nothing is written");
@@ -102,16 +98,13 @@ fn refused(options: &Options, file: &str, subject: &Subject) -> Done {
     Ok(Status::Refused)
 }
 
-fn as_json(file: &str, verdict: &Verdict, before: &Size, after: &Size) -> String {
-    json::object(&[
-        ("file", json::text(called(file))),
-        ("accepted", true.to_string()),
-        ("fields", json::fields(verdict)),
-        ("before", before.json()),
-        ("after", after.json()),
-        ("trimmer", json::text(TRIMMER)),
-        ("judge", json::text(JUDGE)),
-    ])
+fn as_json(file: &str, subject: &Subject, verdict: &Verdict, sizes: [&Size; 2]) -> String {
+    let mut all = vec![("file", json::text(called(file)))];
+    all.extend(json::verdict(verdict, &words::verdict(verdict, None, subject.claims()), None));
+    all.push(("before", sizes[0].json()));
+    all.push(("after", sizes[1].json()));
+    all.push(("trimmer", json::text(TRIMMER)));
+    json::answer("trim", Status::Accepted, &all)
 }
 
 /// Words go to standard output, unless the image goes there.

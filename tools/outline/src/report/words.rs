@@ -125,7 +125,7 @@ thread a
     fn an_image_has_the_words_of_show() {
         let source = parse(TEXT).expect("a source");
         let [words, registers, threads] = ["w1", "r1", "t1"].map(|name| vec![name.to_string()]);
-        let names = Names { words, registers, threads, shorts: Vec::new() };
+        let names = Names { words, registers, threads, ..Names::default() };
         let words = Words::of_image(&names, &source.program());
         assert_eq!(words.assertion(1, 1), "r1 != 0 or t1 sees [w1 < 2] ; one w1 and r1 = 1");
     }

@@ -1,5 +1,8 @@
 //! The text form: reading sources, writing formulas, images and messages.
 
+pub mod answer;
+pub mod compare;
+pub mod contract;
 pub mod lex;
 pub mod lines;
 pub mod parse_certificate;
@@ -12,6 +15,7 @@ pub mod parse_source;
 pub mod parse_tariff;
 pub mod parse_trace;
 pub mod print;
+pub mod reach;
 pub mod refusal;
 pub mod report;
 pub mod run;

@@ -341,7 +341,7 @@ mod tests {
             words: vec!["x".into(), "y".into()],
             registers: vec!["r".into(), "q".into()],
             threads: vec!["a".into(), "b".into()],
-            shorts: Vec::new(),
+            ..Default::default()
         };
         let shown = names.assertion(&a);
         assert_eq!(parse(&shown).unwrap(), a, "{shown}");

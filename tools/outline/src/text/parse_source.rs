@@ -78,6 +78,7 @@ impl Draft {
             return Err(self.mistakes.all);
         }
         self.source.names.shorts = scope.shorts();
+        self.source.names.labels = self.source.labels.clone();
         Ok(self.source)
     }
 
