@@ -28,6 +28,7 @@ outline handover OLD NEW --table TABLE                         judges a table th
 outline serve FILE                                             calls of several desks to one service, in their order
 
 FILE, OLD and NEW are outlines or images; `-` is standard input, behind -o standard output. All take --json.
+What is written replaces a file of its own kind, never an input. Behind -- every word is a file.
 BOUNDS for explore and draw --outcome, with what goes without asking (for a run that breaks something in brackets):
   --steps N   steps of a run: 24 [12], at most 10000
   --writes N  writes in a word's row, the first among them: 6 [6], at most 200

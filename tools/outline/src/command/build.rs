@@ -4,9 +4,10 @@ use crate::build::{build_with, Built, Goal, Open};
 use crate::command::input::{called, mistake, mistakes, read, Input};
 use crate::command::judge::{judge, JUDGE};
 use crate::command::options::Options;
+use crate::command::output::Kind;
 use crate::command::progress::Progress;
 use crate::command::truth::Looked;
-use crate::command::{interrupt, json, print, words, write, Done, Status};
+use crate::command::{interrupt, json, print, words, Done, Status};
 use crate::image::to_bytes;
 use crate::search::budget::TRIES;
 use crate::search::kept::Kept;
@@ -48,9 +49,7 @@ pub fn run(args: &[&str]) -> Done {
     let options =
         Options::read(args, &["-o", "--partial", "--all", "--all-lines", "--at", "--json"])?;
     let file = options.file()?;
-    let Some(target) = &options.target else {
-        return Err("`-o FILE` is wanted; see outline --help".into());
-    };
+    let target = options.target(Kind::Image)?;
     interrupt::watch();
     let Input::Text(text) = read(file)? else {
         return Err(format!("{}: this is an image, not an outline", called(file)));
@@ -69,7 +68,8 @@ pub fn run(args: &[&str]) -> Done {
     let bytes = to_bytes(&built.image).map_err(|e| format!("{}: {e}", called(file)))?;
     let verdict = judge(&bytes);
     agrees(&source, &built, &verdict)?;
-    write(target, &bytes)?;
+    target.write(&bytes)?;
+    let target = target.name();
     let mut result = vec![written(target, &built, bytes.len())];
     if bytes.len() > limits::PROGRAM_BYTES {
         let most = limits::PROGRAM_BYTES;

@@ -13,6 +13,7 @@ pub mod interrupt;
 pub mod json;
 pub mod judge;
 pub mod options;
+pub mod output;
 pub mod permit;
 pub mod progress;
 pub mod replay;
@@ -50,12 +51,4 @@ pub fn print(text: impl AsRef<[u8]>) -> Result<(), String> {
     let mut out = std::io::stdout().lock();
     let written = out.write_all(text.as_ref()).and_then(|()| out.flush());
     written.map_err(|e| format!("standard output: {e}"))
-}
-
-/// Writes a file, or standard output for `-`.
-pub fn write(target: &str, bytes: &[u8]) -> Result<(), String> {
-    match target {
-        "-" => print(bytes),
-        _ => std::fs::write(target, bytes).map_err(|e| format!("{target}: {e}")),
-    }
 }

@@ -1,5 +1,6 @@
 //! Words of the command line.
 
+use crate::command::output::{Kind, Target};
 use reference::explore::Bounds;
 
 /// With so many states, and the room that the explorer has for them, memory stays under a gigabyte.
@@ -84,6 +85,15 @@ impl Options {
             [] => Err("a file is wanted; see outline --help".into()),
             _ => Err("one file is wanted, not several; see outline --help".into()),
         }
+    }
+
+    /// The place behind `-o`, which has to be there; none of the files read is written over.
+    pub fn target(&self, kind: Kind) -> Result<Target, String> {
+        let Some(target) = &self.target else {
+            return Err("`-o FILE` is wanted; see outline --help".into());
+        };
+        let inputs: Vec<&str> = self.files.iter().map(String::as_str).collect();
+        Target::of(target, kind, &inputs)
     }
 
     /// How far runs are looked at: as asked, and where nothing is asked, so far.

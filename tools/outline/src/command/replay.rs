@@ -3,8 +3,9 @@
 use crate::command::input::{called, mistake, mistakes, Subject};
 use crate::command::judge::judge;
 use crate::command::options::Options;
+use crate::command::output::Kind;
 use crate::command::replayer::{replay, REPLAYER};
-use crate::command::{json, print, words, write, Done, Status};
+use crate::command::{json, print, words, Done, Status};
 use crate::draw::{Ending, Picture};
 use crate::markup::Element;
 use crate::text::compare::compared;
@@ -32,6 +33,7 @@ pub fn run(args: &[&str]) -> Done {
     if file == "-" && trace_file == "-" {
         return Err("standard input is one file: the image or the trace".into());
     }
+    let target = options.target.is_some().then(|| options.target(Kind::Drawing)).transpose()?;
     let subject = Subject::of(file)?;
     let Some(image) = accepted(&subject.bytes) else {
         return refused(&options, file, &subject);
@@ -46,8 +48,8 @@ pub fn run(args: &[&str]) -> Done {
     let call = Call { trace: trace.bytes, given, entries };
     let replayed = call.replayed(&subject.bytes, &image.program)?;
     let told = Told::of(&image.program, &names, &call, &replayed);
-    if let Some(target) = &options.target {
-        write(target, (told.drawn()?.written() + "\n").as_bytes())?;
+    if let Some(target) = target {
+        target.write((told.drawn()?.written() + "\n").as_bytes())?;
     }
     let text = if options.json { told.json(file) } else { told.lines().join("\n") };
     tell(&options, &(text + "\n"))?;

@@ -3,7 +3,8 @@
 use crate::command::input::{called, read, Input, Subject};
 use crate::command::judge::{judge, JUDGE};
 use crate::command::options::Options;
-use crate::command::{json, print, words, write, Done, Status};
+use crate::command::output::Kind;
+use crate::command::{json, print, words, Done, Status};
 use crate::gallery::Header;
 use crate::image;
 use crate::judged::{broken, judged, Goal, Judged, BOUNDS};
@@ -18,9 +19,7 @@ pub fn run(args: &[&str]) -> Done {
     let allowed = ["-o", "--steps", "--writes", "--starts", "--states", "--json"];
     let options = Options::read(args, &allowed)?;
     let file = options.file()?;
-    let Some(target) = &options.target else {
-        return Err("`-o FILE` is wanted; see outline --help".into());
-    };
+    let target = options.target(Kind::Page)?;
     let loaded = Loaded::of(file)?;
     let verdict = judge(loaded.bytes());
     let content = loaded.content(&verdict, Some(options.bounds(BOUNDS)))?;
@@ -32,8 +31,8 @@ pub fn run(args: &[&str]) -> Done {
         judge: JUDGE,
         content,
     };
-    write(target, report::page(&about).as_bytes())?;
-    tell(&options, target, &loaded, &verdict)?;
+    target.write(report::page(&about).as_bytes())?;
+    tell(&options, target.name(), &loaded, &verdict)?;
     Ok(if verdict.code == 0 { Status::Accepted } else { Status::Refused })
 }
 
