@@ -9,6 +9,7 @@ pub mod build;
 pub mod command;
 pub mod draw;
 pub mod explicit;
+pub mod fuzz;
 pub mod gallery;
 pub mod handover;
 pub mod image;

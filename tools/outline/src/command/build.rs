@@ -7,7 +7,7 @@ use crate::command::options::Options;
 use crate::command::output::Kind;
 use crate::command::progress::Progress;
 use crate::command::truth::Looked;
-use crate::command::{interrupt, json, print, words, Done, Status};
+use crate::command::{complain, interrupt, json, print, words, Done, Status};
 use crate::image::to_bytes;
 use crate::search::budget::TRIES;
 use crate::search::kept::Kept;
@@ -51,8 +51,14 @@ pub fn run(args: &[&str]) -> Done {
     let file = options.file()?;
     let target = options.target(Kind::Image)?;
     interrupt::watch();
-    let Input::Text(text) = read(file)? else {
-        return Err(format!("{}: this is an image, not an outline", called(file)));
+    let text = match read(file)? {
+        Input::Text(text) => text,
+        Input::Image(bytes) if bytes.is_empty() => {
+            return Err(format!("{}: the file is empty", called(file)));
+        }
+        Input::Image(_) => {
+            return Err(format!("{}: this is an image, not an outline", called(file)));
+        }
     };
     let source = parse_all(&text).map_err(|all| mistakes(file, &text, &all))?;
     let told = Told::of(&options, &source)?;
@@ -133,11 +139,11 @@ fn tell(
         all.push(("written", json::texts(written)));
         (out, problems) = (json::object(&all) + "\n", String::new());
     }
-    eprint!("{problems}");
+    complain(problems);
     if to_file {
         return print(out);
     }
-    eprint!("{out}");
+    complain(out);
     Ok(())
 }
 

@@ -7,7 +7,7 @@ use crate::command::judge::judge;
 use crate::command::options::Options;
 use crate::command::output::Kind;
 use crate::command::report::Loaded;
-use crate::command::{json, print, Done};
+use crate::command::{complain, json, print, Done};
 use crate::draw::{Ending, Picture};
 use crate::judged::BOUNDS;
 use crate::markup::Element;
@@ -89,6 +89,6 @@ fn tell(options: &Options, target: &str, text: &str, drawn: bool) -> Result<(), 
     if target != "-" {
         return print(line);
     }
-    eprint!("{line}");
+    complain(line);
     Ok(())
 }

@@ -1,11 +1,11 @@
 //! `handover`: new code for old without a restart. Finds the table that permits it, or judges one that is there.
 
-use crate::command::input::{called, Subject};
+use crate::command::input::{called, read_bytes, Subject};
 use crate::command::judge::{judge, JUDGE};
 use crate::command::options::Options;
 use crate::command::output::{Kind, Prepared, Target};
 use crate::command::permit::{code, PERMIT};
-use crate::command::{json, print, words, Done, Status};
+use crate::command::{complain, json, print, words, Done, Status};
 use crate::handover::{find, handover, Chosen, Found, Move, Open};
 use crate::image::to_bytes;
 use crate::judged::BOUNDS;
@@ -297,7 +297,7 @@ fn judged(old: &Code, new: &Code, table: &str) -> Result<Answer, String> {
     if let Some(answer) = told_unlike(old, new) {
         return Ok(answer);
     }
-    let lines = std::fs::read(table).map_err(|e| format!("{table}: {e}"))?;
+    let lines = read_bytes(table)?;
     let code = code(old.bytes, new.bytes, &lines);
     let points = places(old.program()).count();
     let said = match code {
@@ -349,7 +349,7 @@ fn tell(options: &Options, answer: &Answer) -> Result<(), String> {
     }
     let files = [options.target.as_deref(), options.table.as_deref()];
     if files.contains(&Some("-")) || (answer.code != 0 && !options.json) {
-        eprint!("{text}");
+        complain(text);
         return Ok(());
     }
     print(text)

@@ -1,11 +1,12 @@
 //! A little JSON, written and never read.
 
+use crate::command::names;
 use reference::checker::Verdict;
 
 /// A text as JSON.
 pub fn text(s: &str) -> String {
     let mut out = String::from("\"");
-    for c in s.chars() {
+    for c in names::shown(s).chars() {
         match c {
             '"' => out += "\\\"",
             '\\' => out += "\\\\",

@@ -1,7 +1,8 @@
 //! Files that commands write: never over an input or a file of another kind, and whole or not at all.
 
 use crate::command::input::called;
-use crate::command::print;
+use crate::command::names::path;
+use crate::command::print_bytes;
 use std::fs::{self, File, Metadata, OpenOptions};
 use std::io::{self, Read, Write};
 use std::path::{Path, PathBuf};
@@ -36,7 +37,7 @@ impl Kind {
             Kind::Drawing => text().starts_with("<svg"),
             // Three bytes for each point, of which the first is a point's number.
             Kind::Table => {
-                let is_short = front.len() % 3 == 0 && front.len() <= 3 * MOST_POINTS;
+                let is_short = front.len().is_multiple_of(3) && front.len() <= 3 * MOST_POINTS;
                 is_short && front.chunks(3).all(|entry| entry[0] < 16) && !Kind::Image.fits(front)
             }
         }
@@ -83,7 +84,7 @@ impl Target {
     /// Refuses a folder and a file of another kind.
     fn looked_at(&self) -> Result<(), String> {
         let told = |e: io::Error| format!("{}: {e}", self.name);
-        let Ok(found) = fs::metadata(&self.name) else { return Ok(()) };
+        let Ok(found) = fs::metadata(path(&self.name)) else { return Ok(()) };
         if found.is_dir() {
             return Err(format!("{}: this is a folder", self.name));
         }
@@ -91,7 +92,8 @@ impl Target {
             return Ok(());
         }
         let mut front = Vec::new();
-        File::open(&self.name).map_err(told)?.take(FRONT).read_to_end(&mut front).map_err(told)?;
+        let file = File::open(path(&self.name)).map_err(told)?;
+        file.take(FRONT).read_to_end(&mut front).map_err(told)?;
         let (name, kind) = (&self.name, self.kind.name());
         match self.kind.fits(&front) {
             true => Ok(()),
@@ -112,7 +114,7 @@ impl Target {
             return Ok(Prepared::Printed(bytes));
         }
         self.looked_at()?;
-        prepared(Path::new(&self.name), bytes).map_err(|e| format!("{}: {e}", self.name))
+        prepared(&path(&self.name), bytes).map_err(|e| format!("{}: {e}", self.name))
     }
 }
 
@@ -132,7 +134,7 @@ pub enum Prepared<'a> {
 impl Prepared<'_> {
     pub fn put(self) -> Result<(), String> {
         match self {
-            Prepared::Printed(bytes) => print(bytes),
+            Prepared::Printed(bytes) => print_bytes(bytes),
             Prepared::Direct(place, bytes) => {
                 let written = OpenOptions::new().write(true).truncate(true).open(&place);
                 let written = written.and_then(|mut file| file.write_all(bytes));
@@ -201,8 +203,8 @@ fn followed(name: &Path) -> io::Result<PathBuf> {
 
 /// Whether two names are of one file, by whatever path or link; `-` is what standard input comes from.
 fn is_same(one: &str, other: &str) -> bool {
-    let path = |name: &str| PathBuf::from(if name == "-" { "/dev/stdin" } else { name });
-    let (one, other) = (path(one), path(other));
+    let place = |name: &str| path(if name == "-" { "/dev/stdin" } else { name });
+    let (one, other) = (place(one), place(other));
     match (fs::metadata(&one), fs::metadata(&other)) {
         (Ok(a), Ok(b)) => a.is_file() && b.is_file() && is_one(&a, &b, &one, &other),
         (Err(_), Err(_)) => placed(&one).is_some_and(|a| placed(&other) == Some(a)),

@@ -2,9 +2,10 @@
 
 use crate::command::input::{called, read, Input, Subject};
 use crate::command::judge::{judge, JUDGE};
+use crate::command::names::shown;
 use crate::command::options::Options;
 use crate::command::output::Kind;
-use crate::command::{json, print, words, Done, Status};
+use crate::command::{complain, json, print, words, Done, Status};
 use crate::gallery::Header;
 use crate::image;
 use crate::judged::{broken, judged, Goal, Judged, BOUNDS};
@@ -55,14 +56,14 @@ fn tell(options: &Options, target: &str, loaded: &Loaded, verdict: &Verdict) -> 
     if target != "-" {
         return print(line);
     }
-    eprint!("{line}");
+    complain(line);
     Ok(())
 }
 
 /// The file's name without its folder: a page says nothing of the machine that made it.
 fn base_name(file: &str) -> String {
     let name = Path::new(called(file)).file_name();
-    name.map_or_else(|| called(file).into(), |name| name.to_string_lossy().into_owned())
+    shown(&name.map_or_else(|| called(file).into(), |name| name.to_string_lossy().into_owned()))
 }
 
 /// A file as it was read, and what was made of it.

@@ -1,6 +1,6 @@
 //! `serve`: calls of several desks to one service, in their order.
 
-use crate::command::input::{called, mistake, mistakes, read, Input, Subject};
+use crate::command::input::{called, mistake, mistakes, read, read_bytes, Input, Subject};
 use crate::command::options::Options;
 use crate::command::output::{Kind, Target};
 use crate::command::replay::read_trace;
@@ -99,7 +99,7 @@ struct Material {
 impl Material {
     fn of(asked: &Asked, folder: &Path) -> Result<Material, String> {
         let place = |file: &str| folder.join(file).to_string_lossy().into_owned();
-        let bytes = |file: &str| std::fs::read(place(file)).map_err(|e| format!("{file}: {e}"));
+        let bytes = |file: &str| read_bytes(&place(file));
         let subject = Subject::of(&place(&asked.file))?;
         let (new, table, files) = match &asked.wish {
             Wish::Check | Wish::Trim(_) | Wish::Bill(_) => (None, None, &[][..]),

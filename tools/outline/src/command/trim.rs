@@ -5,7 +5,7 @@ use crate::command::judge::{judge, JUDGE};
 use crate::command::options::Options;
 use crate::command::output::Kind;
 use crate::command::trimmer::{trimmed, TRIMMER};
-use crate::command::{json, print, words, Done, Status};
+use crate::command::{complain, json, print, words, Done, Status};
 use crate::text::counted;
 use reference::checker::Verdict;
 use reference::image::written::Written;
@@ -96,8 +96,10 @@ fn refused(options: &Options, file: &str, subject: &Subject) -> Done {
         ];
         tell(options.target.as_deref().unwrap_or_default(), &(json::object(&all) + "\n"))?;
     } else {
-        eprintln!("{file}: {said}   ({JUDGE})");
-        eprintln!("{file}: only an accepted image is trimmed (code 24); nothing is written");
+        complain(format!("{file}: {said}   ({JUDGE})\n"));
+        complain(format!(
+            "{file}: only an accepted image is trimmed (code 24); nothing is written\n"
+        ));
     }
     Ok(Status::Refused)
 }
@@ -119,6 +121,6 @@ fn tell(target: &str, text: &str) -> Result<(), String> {
     if target != "-" {
         return print(text);
     }
-    eprint!("{text}");
+    complain(text);
     Ok(())
 }

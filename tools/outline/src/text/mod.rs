@@ -3,6 +3,7 @@
 pub mod compare;
 pub mod lex;
 pub mod lines;
+pub mod nearest;
 pub mod parse_certificate;
 pub mod parse_claim;
 pub mod parse_formula;

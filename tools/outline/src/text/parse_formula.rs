@@ -1,8 +1,10 @@
 //! Text to formulas. Right-nested throughout, as `print` writes them.
 
 use crate::terms::*;
-use crate::text::lex::{Mistake, Place, Token};
+use crate::text::lex::{Mistake, Place, Token, KEYWORDS};
+use crate::text::nearest::nearest;
 use crate::text::scope::{describe, Meaning, Scope};
+use reference::formula::nesting::NESTING;
 use reference::formula::{Assertion, Formula, Interval, Sort, Test};
 
 /// A place in the tokens, with the names in force.
@@ -10,11 +12,35 @@ pub struct Cursor<'a> {
     pub tokens: &'a [(Token, Place)],
     pub at: usize,
     pub scope: Scope,
+    /// How many formulas are being read, each inside the one before.
+    depth: usize,
 }
+
+/// So many formulas are read inside each other: far more than an image holds, parentheses included, and far less than the
+/// stack does.
+const MOST_DEPTH: usize = 256;
 
 type Parsed<S> = Result<S, Mistake>;
 
+impl<'a> Cursor<'a> {
+    pub fn of(tokens: &'a [(Token, Place)], scope: Scope) -> Cursor<'a> {
+        Cursor { tokens, at: 0, scope, depth: 0 }
+    }
+}
+
 impl Cursor<'_> {
+    /// Reads a formula inside the one that is being read, unless there are too many already.
+    fn inside<S>(&mut self, read: impl FnOnce(&mut Self) -> Parsed<S>) -> Parsed<S> {
+        if self.depth == MOST_DEPTH {
+            return self
+                .fail(format!("this is nested too deep: {NESTING} is the most for a formula"));
+        }
+        self.depth += 1;
+        let read = read(self);
+        self.depth -= 1;
+        read
+    }
+
     pub fn peek(&self) -> &Token {
         &self.tokens[self.at.min(self.tokens.len() - 1)].0
     }
@@ -25,7 +51,17 @@ impl Cursor<'_> {
         Err(Mistake { line: self.line(), text })
     }
     pub fn wanted<T>(&self, what: &str) -> Result<T, Mistake> {
-        self.fail(format!("{what} is wanted, found {}", self.peek().shown()))
+        let meant = if what == "a name" { String::new() } else { self.meant() };
+        self.fail(format!("{what} is wanted, found {}{meant}", self.peek().shown()))
+    }
+    /// What was probably meant by a name that is no word of the language and is not declared.
+    pub fn meant(&self) -> String {
+        let Token::Name(name) = self.peek() else { return String::new() };
+        if name.len() < 3 || KEYWORDS.contains(&name.as_str()) || self.scope.get(name).is_some() {
+            return String::new();
+        }
+        let known = KEYWORDS.iter().copied().chain(self.scope.declared());
+        nearest(name, known).map(|meant| format!(": is `{meant}` meant?")).unwrap_or_default()
     }
     /// Takes the mark or keyword if it is next.
     pub fn take(&mut self, text: &str) -> bool {
@@ -76,9 +112,9 @@ impl Cursor<'_> {
     /// Nothing fits: say what stands here instead.
     fn unfit<T>(&self, want: &str) -> Result<T, Mistake> {
         if let Token::Name(n) = self.peek() {
-            if !crate::text::lex::KEYWORDS.contains(&n.as_str()) {
-                let is = describe(self.scope.get(n));
-                return self.fail(format!("{want} is wanted, but `{n}` {is}"));
+            if !KEYWORDS.contains(&n.as_str()) {
+                let (is, meant) = (describe(self.scope.get(n)), self.meant());
+                return self.fail(format!("{want} is wanted, but `{n}` {is}{meant}"));
             }
         }
         self.wanted(want)
@@ -86,6 +122,10 @@ impl Cursor<'_> {
 
     /// `e => P` is short for `not e or P`.
     pub fn assertion(&mut self) -> Parsed<A> {
+        self.inside(Self::implied)
+    }
+
+    fn implied(&mut self) -> Parsed<A> {
         let line = self.line();
         let left = self.either()?;
         if !self.take("=>") {
@@ -100,12 +140,12 @@ impl Cursor<'_> {
 
     fn either(&mut self) -> Parsed<A> {
         let a = self.both()?;
-        Ok(if self.take("or") { either(&a, &self.either()?) } else { a })
+        Ok(if self.take("or") { either(&a, &self.inside(Self::either)?) } else { a })
     }
 
     fn both(&mut self) -> Parsed<A> {
         let a = self.assertion_unit()?;
-        Ok(if self.take("and") { both(&a, &self.both()?) } else { a })
+        Ok(if self.take("and") { both(&a, &self.inside(Self::both)?) } else { a })
     }
 
     fn assertion_unit(&mut self) -> Parsed<A> {
@@ -151,18 +191,22 @@ impl Cursor<'_> {
 
     /// Chop binds least, then `|`, then `&`.
     pub fn interval(&mut self) -> Parsed<I> {
+        self.inside(Self::chopped)
+    }
+
+    fn chopped(&mut self) -> Parsed<I> {
         let a = self.either_interval()?;
         Ok(if self.take(";") { chop(&a, &self.interval()?) } else { a })
     }
 
     fn either_interval(&mut self) -> Parsed<I> {
         let a = self.both_interval()?;
-        Ok(if self.take("|") { either(&a, &self.either_interval()?) } else { a })
+        Ok(if self.take("|") { either(&a, &self.inside(Self::either_interval)?) } else { a })
     }
 
     fn both_interval(&mut self) -> Parsed<I> {
         let a = self.interval_unit()?;
-        Ok(if self.take("&") { both(&a, &self.both_interval()?) } else { a })
+        Ok(if self.take("&") { both(&a, &self.inside(Self::both_interval)?) } else { a })
     }
 
     fn interval_unit(&mut self) -> Parsed<I> {
@@ -197,13 +241,17 @@ impl Cursor<'_> {
     }
 
     pub fn test(&mut self) -> Parsed<T> {
+        self.inside(Self::test_or)
+    }
+
+    fn test_or(&mut self) -> Parsed<T> {
         let a = self.test_and()?;
         Ok(if self.take("or") { or(&a, &self.test()?) } else { a })
     }
 
     fn test_and(&mut self) -> Parsed<T> {
         let a = self.test_unit()?;
-        Ok(if self.take("and") { and(&a, &self.test_and()?) } else { a })
+        Ok(if self.take("and") { and(&a, &self.inside(Self::test_and)?) } else { a })
     }
 
     fn test_unit(&mut self) -> Parsed<T> {
@@ -211,7 +259,7 @@ impl Cursor<'_> {
             return Ok(e);
         }
         if self.take("not") {
-            return Ok(not(&self.test_unit()?));
+            return Ok(not(&self.inside(Self::test_unit)?));
         }
         if self.take("true") {
             return Ok(truth());
@@ -225,24 +273,24 @@ impl Cursor<'_> {
         if self.take("cov") {
             return Ok(Test::Covered(self.word()?).into());
         }
-        match self.bracketed_test() {
-            Some(e) => Ok(e),
-            None => self.comparison(),
+        if !self.sees_next("(") {
+            return self.comparison();
         }
+        let start = self.at;
+        let first = match self.bracketed_test() {
+            Ok(e) => return Ok(e),
+            Err(e) => (self.at, e),
+        };
+        // A value in parentheses may stand here instead. Of two mistakes the one further on is told.
+        self.at = start;
+        self.comparison().map_err(|e| if self.at >= first.0 { e } else { first.1 })
     }
 
-    /// A test in parentheses; if a value in parentheses stands here instead, nothing is taken.
-    fn bracketed_test(&mut self) -> Option<T> {
-        let start = self.at;
-        if self.take("(") {
-            if let Ok(e) = self.test() {
-                if self.take(")") {
-                    return Some(e);
-                }
-            }
-        }
-        self.at = start;
-        None
+    fn bracketed_test(&mut self) -> Parsed<T> {
+        self.expect("(")?;
+        let e = self.test()?;
+        self.expect(")")?;
+        Ok(e)
     }
 
     fn comparison(&mut self) -> Parsed<T> {
@@ -265,8 +313,20 @@ impl Cursor<'_> {
 
     /// Sums nest to the left.
     pub fn value(&mut self) -> Parsed<V> {
+        self.inside(Self::summed)
+    }
+
+    fn summed(&mut self) -> Parsed<V> {
         let mut a = self.value_unit()?;
-        while self.take("+") {
+        let mut count = 1;
+        while self.sees_next("+") {
+            count += 1;
+            if count > MOST_DEPTH {
+                return self.fail(format!(
+                    "this sum is nested too deep: {NESTING} is the most for a formula"
+                ));
+            }
+            self.at += 1;
             a = sum(&a, &self.value_unit()?);
         }
         Ok(a)
@@ -325,10 +385,10 @@ mod tests {
 
     fn parse(text: &str) -> Result<A, Mistake> {
         let all = format!("word x = 0 word y = 0 thread a registers r, q thread b {{ {text} }}");
-        let list = tokens(&all).unwrap();
-        let scope = Scope::scan(&list).unwrap();
+        let list = tokens(&all).list;
+        let (scope, _) = Scope::scan(&list);
         let at = list.iter().position(|t| t.0 == Token::Mark("{")).unwrap() + 1;
-        let mut cursor = Cursor { tokens: &list, at, scope };
+        let mut cursor = Cursor { at, ..Cursor::of(&list, scope) };
         let a = cursor.assertion()?;
         cursor.expect("}")?;
         Ok(a)
