@@ -51,15 +51,7 @@ pub fn run(args: &[&str]) -> Done {
     let file = options.file()?;
     let target = options.target(Kind::Image)?;
     interrupt::watch();
-    let text = match read(file)? {
-        Input::Text(text) => text,
-        Input::Image(bytes) if bytes.is_empty() => {
-            return Err(format!("{}: the file is empty", called(file)));
-        }
-        Input::Image(_) => {
-            return Err(format!("{}: this is an image, not an outline", called(file)));
-        }
-    };
+    let text = text_of(file)?;
     let source = parse_all(&text).map_err(|all| mistakes(file, &text, &all))?;
     let told = Told::of(&options, &source)?;
     let kept = if options.all_lines { Kept::All } else { Kept::Needed };
@@ -89,6 +81,17 @@ pub fn run(args: &[&str]) -> Done {
     // Asked for with --partial, an image with open obligations is what was wanted.
     let wanted = verdict.code == 0 || options.partial;
     Ok(if wanted { Status::Accepted } else { Status::Refused })
+}
+
+/// The text of an outline.
+fn text_of(file: &str) -> Result<String, String> {
+    match read(file)? {
+        Input::Text(text) => Ok(text),
+        Input::Image(bytes) if bytes.is_empty() => {
+            Err(format!("{}: the file is empty", called(file)))
+        }
+        Input::Image(_) => Err(format!("{}: this is an image, not an outline", called(file))),
+    }
 }
 
 /// Builds with progress on a terminal; an interrupt leaves the rest untried.

@@ -42,12 +42,7 @@ impl Options {
                 break;
             }
             if word != "-" && word.starts_with('-') {
-                if !allowed.contains(&word) {
-                    return Err(format!("`{word}` is no option here; see outline --help"));
-                }
-                if seen.contains(&word) && word != "--map" {
-                    return Err(format!("`{word}` is given twice; once is enough"));
-                }
+                is_free(word, allowed, &seen)?;
                 seen.push(word);
             }
             let mut value = || rest.next().copied().ok_or(format!("`{word}` wants a value"));
@@ -104,6 +99,17 @@ impl Options {
             starts: self.starts.unwrap_or(otherwise.starts),
             states: self.states.unwrap_or(otherwise.states),
         }
+    }
+}
+
+/// An option that the command takes, and that was not given already.
+fn is_free(word: &str, allowed: &[&str], seen: &[&str]) -> Result<(), String> {
+    if !allowed.contains(&word) {
+        return Err(format!("`{word}` is no option here; see outline --help"));
+    }
+    match seen.contains(&word) && word != "--map" {
+        true => Err(format!("`{word}` is given twice; once is enough")),
+        false => Ok(()),
     }
 }
 

@@ -1,6 +1,7 @@
 //! The text form: reading sources, writing formulas, images and messages.
 
 pub mod compare;
+pub mod cursor;
 pub mod lex;
 pub mod lines;
 pub mod nearest;
