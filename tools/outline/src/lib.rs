@@ -10,6 +10,7 @@ pub mod command;
 pub mod diagnosis;
 pub mod draw;
 pub mod explicit;
+pub mod fuzz;
 pub mod gallery;
 pub mod handover;
 pub mod image;

@@ -5,9 +5,10 @@ use crate::command::input::{called, mistake, mistakes, read, Input};
 use crate::command::json::{self, Member};
 use crate::command::judge::{judge, JUDGE};
 use crate::command::options::{Options, BOUND_OPTIONS};
+use crate::command::output::Kind;
 use crate::command::progress::Progress;
 use crate::command::truth::Looked;
-use crate::command::{interrupt, print, words, write, Done, Status};
+use crate::command::{complain, interrupt, print, words, Done, Status};
 use crate::diagnosis::BOUNDS;
 use crate::image::to_bytes;
 use crate::search::budget::TRIES;
@@ -50,13 +51,9 @@ pub fn run(args: &[&str]) -> Done {
     let own = ["-o", "--partial", "--all", "--all-lines", "--at", "--json"];
     let options = Options::read(args, &[&own[..], &BOUND_OPTIONS].concat())?;
     let file = options.file()?;
-    let Some(target) = &options.target else {
-        return Err("`-o FILE` is wanted; see outline --help".into());
-    };
+    let target = options.target(Kind::Image)?;
     interrupt::watch();
-    let Input::Text(text) = read(file)? else {
-        return Err(format!("{}: this is an image, not an outline", called(file)));
-    };
+    let text = text_of(file)?;
     let source = parse_all(&text).map_err(|all| mistakes(file, &text, &all))?;
     let told = Told::of(&options, &source)?;
     let kept = if options.all_lines { Kept::All } else { Kept::Needed };
@@ -78,7 +75,8 @@ pub fn run(args: &[&str]) -> Done {
     let bytes = to_bytes(&built.image).map_err(|e| format!("{}: {e}", called(file)))?;
     let verdict = judge(&bytes);
     agrees(&source, &built, &verdict)?;
-    write(target, &bytes)?;
+    target.write(&bytes)?;
+    let target = target.name();
     let mut result = vec![written(target, &built, bytes.len())];
     if bytes.len() > limits::PROGRAM_BYTES {
         let most = limits::PROGRAM_BYTES;
@@ -93,6 +91,17 @@ pub fn run(args: &[&str]) -> Done {
     let wanted = verdict.code == 0 || options.partial;
     let status = if wanted { Status::Accepted } else { Status::Refused };
     tell(&options, status, Texts { members, open: &said, written: &result })
+}
+
+/// The text of an outline.
+fn text_of(file: &str) -> Result<String, String> {
+    match read(file)? {
+        Input::Text(text) => Ok(text),
+        Input::Image(bytes) if bytes.is_empty() => {
+            Err(format!("{}: the file is empty", called(file)))
+        }
+        Input::Image(_) => Err(format!("{}: this is an image, not an outline", called(file))),
+    }
 }
 
 /// Builds with progress on a terminal; an interrupt leaves the rest untried.
@@ -142,10 +151,10 @@ fn tell(options: &Options, status: Status, texts: Texts) -> Done {
         all.push(("written", json::texts(texts.written)));
         (out, problems) = (json::answer("build", status, &all), String::new());
     }
-    eprint!("{problems}");
+    complain(problems);
     match to_file {
         true => print(out)?,
-        false => eprint!("{out}"),
+        false => complain(out),
     }
     Ok(status)
 }

@@ -1,5 +1,6 @@
 //! `check`: judges images and outlines, many at once.
 
+use crate::command::gather::{gathered, Gathered};
 use crate::command::input::Subject;
 use crate::command::json::{self, Member};
 use crate::command::judge::{judge, JUDGE};
@@ -8,23 +9,19 @@ use crate::command::progress::Progress;
 use crate::command::spread::spread;
 use crate::command::{print, words, Done, Status};
 use reference::checker::Verdict;
-use std::path::Path;
 
 /// One file judged: the verdict with its words, or why there is none.
 type Judged = Result<(Verdict, Vec<Member>, String), String>;
 
 pub fn run(words: &[&str]) -> Done {
     let options = Options::read(words, &["--json"])?;
-    let mut files = Vec::new();
-    for file in &options.files {
-        gather(Path::new(file), true, &mut files)?;
-    }
+    let files = gathered(&options.files);
     if files.is_empty() {
         return Err("no file to judge; see outline --help".into());
     }
     let judged = judge_all(&files);
     let mut out = String::new();
-    for (file, judged) in files.iter().zip(&judged) {
+    for (Gathered { file, .. }, judged) in files.iter().zip(&judged) {
         out += &if options.json { as_json(file, judged) } else { as_words(file, judged) + "\n" };
     }
     let count = |wanted: Status| judged.iter().filter(|j| status(j) == wanted).count();
@@ -38,35 +35,26 @@ pub fn run(words: &[&str]) -> Done {
     Ok(judged.iter().map(status).max().expect("there is a file"))
 }
 
-/// The files of folders, by name; a file that is named itself is taken as it is.
-pub fn gather(path: &Path, named: bool, files: &mut Vec<String>) -> Result<(), String> {
-    if path.is_dir() {
-        let entries = std::fs::read_dir(path).and_then(|all| all.collect::<Result<Vec<_>, _>>());
-        let entries = entries.map_err(|e| format!("{}: {e}", path.display()))?;
-        let mut inner: Vec<_> = entries.into_iter().map(|e| e.path()).collect();
-        inner.sort();
-        return inner.iter().try_for_each(|p| gather(p, false, files));
-    }
-    let ours = path.extension().is_some_and(|e| e == "image" || e == "outline");
-    if named || ours {
-        files.push(path.to_string_lossy().into_owned());
-    }
-    Ok(())
-}
-
 /// All files, spread over the cores; answers stand in the order of the files.
-fn judge_all(files: &[String]) -> Vec<Judged> {
+fn judge_all(files: &[Gathered]) -> Vec<Judged> {
     let cores = std::thread::available_parallelism().map_or(1, |n| n.get());
     let progress = (files.len() > 1).then(Progress::on_terminal);
     let told = |done: usize| progress.iter().for_each(|line| line.at(done, files.len()));
-    spread(files, cores, |file| judge_one(file), told)
+    spread(files, cores, judge_one, told)
 }
 
-fn judge_one(file: &str) -> Judged {
-    let subject = Subject::of(file)?;
-    let verdict = judge(&subject.bytes);
-    let words = words::verdict(&verdict, subject.source(), subject.claims());
-    Ok((verdict, json::verdict(&verdict, &words, subject.source()), words))
+/// Whatever happens with one file, the others are judged.
+fn judge_one(gathered: &Gathered) -> Judged {
+    if let Some(fault) = &gathered.fault {
+        return Err(fault.clone());
+    }
+    let judged = std::panic::catch_unwind(|| {
+        let subject = Subject::of(&gathered.file)?;
+        let verdict = judge(&subject.bytes);
+        let words = words::verdict(&verdict, subject.source(), subject.claims());
+        Ok((verdict, json::verdict(&verdict, &words, subject.source()), words))
+    });
+    judged.unwrap_or_else(|_| Err("mistake in this tool: it could not go on with this file".into()))
 }
 
 fn status(judged: &Judged) -> Status {

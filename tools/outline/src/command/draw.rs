@@ -5,8 +5,9 @@ use crate::command::finding::Finding;
 use crate::command::input::called;
 use crate::command::judge::judge;
 use crate::command::options::Options;
+use crate::command::output::Kind;
 use crate::command::report::Loaded;
-use crate::command::{json, print, write, Done};
+use crate::command::{complain, json, print, Done};
 use crate::diagnosis::BOUNDS;
 use crate::draw::{Ending, Picture};
 use crate::markup::Element;
@@ -17,9 +18,7 @@ pub fn run(args: &[&str]) -> Done {
     let allowed = ["-o", "--steps", "--writes", "--starts", "--states", "--outcome", "--json"];
     let options = Options::read(args, &allowed)?;
     let file = options.file()?;
-    let Some(target) = &options.target else {
-        return Err("`-o FILE` is wanted; see outline --help".into());
-    };
+    let target = options.target(Kind::Drawing)?;
     let loaded = Loaded::of(file)?;
     let to_break = options.outcome.is_none().then(|| options.bounds(BOUNDS));
     let content = loaded.content(&judge(loaded.bytes()), to_break)?;
@@ -29,9 +28,9 @@ pub fn run(args: &[&str]) -> Done {
         None => breaking(&content),
     };
     if let Some(svg) = &drawn.svg {
-        write(target, (svg.written() + "\n").as_bytes())?;
+        target.write((svg.written() + "\n").as_bytes())?;
     }
-    tell(&options, target, &drawn)?;
+    tell(&options, target.name(), &drawn)?;
     Ok(drawn.finding.status())
 }
 
@@ -92,6 +91,6 @@ fn tell(options: &Options, target: &str, drawn: &Drawn) -> Result<(), String> {
     if target != "-" {
         return print(line);
     }
-    eprint!("{line}");
+    complain(line);
     Ok(())
 }

@@ -1,10 +1,11 @@
 //! `handover`: new code for old without a restart. Finds the table that permits it, or judges one that is there.
 
-use crate::command::input::{called, Subject};
+use crate::command::input::{called, read_bytes, Subject};
 use crate::command::judge::{judge, JUDGE};
 use crate::command::options::Options;
+use crate::command::output::{Kind, Prepared, Target};
 use crate::command::permit::{code, PERMIT};
-use crate::command::{json, print, words, write, Done, Status};
+use crate::command::{complain, json, print, words, Done, Status};
 use crate::diagnosis::BOUNDS;
 use crate::handover::{find, handover, Chosen, Found, Move, Open};
 use crate::image::to_bytes;
@@ -32,12 +33,13 @@ pub fn run(args: &[&str]) -> Done {
     let Some(table) = &options.table else {
         return Err("`--table FILE` is wanted; see outline --help".into());
     };
+    let targets = options.target.is_some().then(|| targets(&options, table)).transpose()?;
     let (old, new) = (Side::of(old)?, Side::of(new)?);
-    let answer = match (refused(&old).or_else(|| refused(&new)), &options.target) {
+    let answer = match (refused(&old).or_else(|| refused(&new)), &targets) {
         (Some(answer), _) => answer,
-        (None, Some(target)) => {
+        (None, Some(targets)) => {
             let [old, new] = [Code::of(&old), Code::of(&new)];
-            sought(&options, &old, &new, target, table)?
+            sought(&options, &old, &new, targets)?
         }
         (None, None) if !options.map.is_empty() => {
             return Err("`--map` is for a table that is sought: `-o FILE` is wanted".into());
@@ -46,6 +48,16 @@ pub fn run(args: &[&str]) -> Done {
     };
     tell(&options, &answer)?;
     Ok(if answer.code == 0 { Status::Accepted } else { Status::Refused })
+}
+
+/// The places for the image and the table, which are two.
+fn targets(options: &Options, table: &str) -> Result<[Target; 2], String> {
+    let inputs: Vec<&str> = options.files.iter().map(String::as_str).collect();
+    let targets = [options.target(Kind::Image)?, Target::of(table, Kind::Table, &inputs)?];
+    match targets[0].is(&targets[1]) {
+        true => Err(format!("{table}: the image and the table are two files")),
+        false => Ok(targets),
+    }
 }
 
 /// A file of the two.
@@ -155,8 +167,7 @@ fn sought(
     options: &Options,
     old: &Code,
     new: &Code,
-    target: &str,
-    table: &str,
+    [target, table]: &[Target; 2],
 ) -> Result<Answer, String> {
     if let Some(answer) = told_unlike(old, new) {
         return Ok(answer);
@@ -170,7 +181,7 @@ fn sought(
             said: open_ones(old, new, &found),
         });
     }
-    let bytes = to_bytes(&found.image).map_err(|e| format!("{target}: {e}"))?;
+    let bytes = to_bytes(&found.image).map_err(|e| format!("{}: {e}", target.name()))?;
     let lines = found.table();
     let (verdict, code) = (judge(&bytes), code(old.bytes, &bytes, &lines));
     if (verdict.code, code) != (0, 0) {
@@ -178,8 +189,9 @@ fn sought(
             "mistake in this tool: the verdict is {verdict}, the handover's code {code}"
         ));
     }
-    write(target, &bytes)?;
-    write(table, &lines)?;
+    let files = [target.prepared(&bytes)?, table.prepared(&lines)?];
+    files.into_iter().try_for_each(Prepared::put)?;
+    let (target, table) = (target.name(), table.name());
     let (formulas, all) = (found.image.formulas.len(), found.image.lines.len());
     let mut said =
         vec![format!("{target}: {} bytes, {formulas} formulas, {all} lines", bytes.len())];
@@ -284,7 +296,7 @@ fn judged(old: &Code, new: &Code, table: &str) -> Result<Answer, String> {
     if let Some(answer) = told_unlike(old, new) {
         return Ok(answer);
     }
-    let lines = std::fs::read(table).map_err(|e| format!("{table}: {e}"))?;
+    let lines = read_bytes(table)?;
     let code = code(old.bytes, new.bytes, &lines);
     let points = places(old.program()).count();
     let said = match code {
@@ -337,7 +349,7 @@ fn tell(options: &Options, answer: &Answer) -> Result<(), String> {
     }
     let files = [options.target.as_deref(), options.table.as_deref()];
     if files.contains(&Some("-")) || (answer.code != 0 && !options.json) {
-        eprint!("{text}");
+        complain(text);
         return Ok(());
     }
     print(text)

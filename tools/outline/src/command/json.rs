@@ -2,7 +2,7 @@
 //! read.
 
 use crate::command::judge::JUDGE;
-use crate::command::{print, Done, Status};
+use crate::command::{names, print, Done, Status};
 use crate::judged::Goal;
 use crate::text::source::Source;
 use reference::checker::obligations::Duty;
@@ -125,7 +125,7 @@ pub fn ended(words: &[&str], done: Done) -> Done {
 /// A text as JSON.
 pub fn text(s: &str) -> String {
     let mut out = String::from("\"");
-    for c in s.chars() {
+    for c in names::shown(s).chars() {
         match c {
             '"' => out += "\\\"",
             '\\' => out += "\\\\",

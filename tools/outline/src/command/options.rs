@@ -1,5 +1,6 @@
 //! Words of the command line.
 
+use crate::command::output::{Kind, Target};
 use reference::explore::Bounds;
 
 /// With so many states, and the room that the explorer has for them, memory stays under a gigabyte.
@@ -46,12 +47,7 @@ impl Options {
                 break;
             }
             if word != "-" && word.starts_with('-') {
-                if !allowed.contains(&word) {
-                    return Err(format!("`{word}` is no option here; see outline --help"));
-                }
-                if seen.contains(&word) && word != "--map" {
-                    return Err(format!("`{word}` is given twice; once is enough"));
-                }
+                is_free(word, allowed, &seen)?;
                 seen.push(word);
             }
             let mut value = || rest.next().copied().ok_or(format!("`{word}` wants a value"));
@@ -93,6 +89,26 @@ impl Options {
         }
     }
 
+    /// The place behind `-o`, which has to be there; none of the files read is written over.
+    pub fn target(&self, kind: Kind) -> Result<Target, String> {
+        let Some(target) = &self.target else {
+            return Err("`-o FILE` is wanted; see outline --help".into());
+        };
+        let inputs: Vec<&str> = self.files.iter().map(String::as_str).collect();
+        Target::of(target, kind, &inputs)
+    }
+
+    /// The place behind `--image`, if it is asked for: a file of its own, no input and not what `-o` names.
+    pub fn image_target(&self, beside: &Target) -> Result<Option<Target>, String> {
+        let Some(image) = &self.image else { return Ok(None) };
+        let inputs: Vec<&str> = self.files.iter().map(String::as_str).collect();
+        let target = Target::of(image, Kind::Image, &inputs)?;
+        match image == beside.name() || target.is(beside) {
+            true => Err("`--image` wants a file of its own".into()),
+            false => Ok(Some(target)),
+        }
+    }
+
     /// How far runs are looked at: as asked, and where nothing is asked, so far.
     pub fn bounds(&self, otherwise: Bounds) -> Bounds {
         Bounds {
@@ -101,6 +117,17 @@ impl Options {
             starts: self.starts.unwrap_or(otherwise.starts),
             states: self.states.unwrap_or(otherwise.states),
         }
+    }
+}
+
+/// An option that the command takes, and that was not given already.
+fn is_free(word: &str, allowed: &[&str], seen: &[&str]) -> Result<(), String> {
+    if !allowed.contains(&word) {
+        return Err(format!("`{word}` is no option here; see outline --help"));
+    }
+    match seen.contains(&word) && word != "--map" {
+        true => Err(format!("`{word}` is given twice; once is enough")),
+        false => Ok(()),
     }
 }
 

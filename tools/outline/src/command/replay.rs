@@ -1,10 +1,11 @@
 //! `replay`: the steps that a pad left, run on the machine of an accepted image.
 
-use crate::command::input::{called, mistake, mistakes, Subject};
+use crate::command::input::{called, mistake, mistakes, read_bytes, text_of, Subject};
 use crate::command::judge::judge;
 use crate::command::options::Options;
+use crate::command::output::Kind;
 use crate::command::replayer::{replay, REPLAYER};
-use crate::command::{json, print, words, write, Done, Status};
+use crate::command::{complain, json, print, words, Done, Status};
 use crate::draw::{Ending, Picture};
 use crate::markup::Element;
 use crate::text::compare::compared;
@@ -19,7 +20,6 @@ use reference::machine::{State, Step};
 use reference::replay::{
     entry_bytes, replayed, start, Replay, ANSWER, MOST_WRITES, NOT_ACCEPTED, WRITE_BYTES,
 };
-use std::io::Read;
 
 /// A drawing has no more steps.
 const MOST_DRAWN: usize = 200;
@@ -32,6 +32,7 @@ pub fn run(args: &[&str]) -> Done {
     if file == "-" && trace_file == "-" {
         return Err("standard input is one file: the image or the trace".into());
     }
+    let target = options.target.is_some().then(|| options.target(Kind::Drawing)).transpose()?;
     let subject = Subject::of(file)?;
     let Some(image) = accepted(&subject.bytes) else {
         return refused(&options, file, &subject);
@@ -46,8 +47,8 @@ pub fn run(args: &[&str]) -> Done {
     let call = Call { trace: trace.bytes, given, entries };
     let replayed = call.replayed(&subject.bytes, &image.program)?;
     let told = Told::of(&image.program, &names, &call, &replayed);
-    if let Some(target) = &options.target {
-        write(target, (told.drawn()?.written() + "\n").as_bytes())?;
+    if let Some(target) = target {
+        target.write((told.drawn()?.written() + "\n").as_bytes())?;
     }
     let text = if options.json { told.json(file) } else { told.lines().join("\n") + "\n" };
     tell(&options, &text)?;
@@ -78,16 +79,11 @@ impl Call {
 
 /// A trace of bytes, or one that a text stands for. Threads are few, so bytes have one that no text has.
 pub fn read_trace(file: &str, names: &Names) -> Result<Trace, String> {
-    let mut bytes = Vec::new();
-    let read = match file {
-        "-" => std::io::stdin().lock().read_to_end(&mut bytes),
-        _ => std::fs::File::open(file).and_then(|mut f| f.read_to_end(&mut bytes)),
-    };
-    read.map_err(|e| format!("{}: {e}", called(file)))?;
-    if bytes.iter().any(|&byte| byte < b'\t') {
+    let bytes = read_bytes(file)?;
+    if bytes.is_empty() || bytes.iter().any(|&byte| byte < b'\t') {
         return Ok(Trace { bytes, ..Trace::default() });
     }
-    let text = String::from_utf8(bytes).map_err(|_| format!("{}: no trace", called(file)))?;
+    let text = text_of(bytes).map_err(|fault| format!("{}{fault}", called(file)))?;
     trace(names, &text).map_err(|all| mistakes(file, &text, &all))
 }
 
@@ -208,6 +204,6 @@ fn tell(options: &Options, text: &str) -> Result<(), String> {
     if options.target.as_deref() != Some("-") {
         return print(text);
     }
-    eprint!("{text}");
+    complain(text);
     Ok(())
 }

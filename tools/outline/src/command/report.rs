@@ -3,8 +3,10 @@
 use crate::command::date::date;
 use crate::command::input::{called, read, Input, Subject};
 use crate::command::judge::{judge, JUDGE};
+use crate::command::names::shown;
 use crate::command::options::{Options, BOUND_OPTIONS};
-use crate::command::{json, print, words, write, Done, Status};
+use crate::command::output::Kind;
+use crate::command::{complain, json, print, words, Done, Status};
 use crate::diagnosis::{Diagnosis, BOUNDS};
 use crate::gallery::Header;
 use crate::image;
@@ -21,12 +23,8 @@ pub fn run(args: &[&str]) -> Done {
     let own = ["-o", "--image", "--date", "--json"];
     let options = Options::read(args, &[&own[..], &BOUND_OPTIONS].concat())?;
     let file = options.file()?;
-    let Some(target) = &options.target else {
-        return Err("`-o FILE` is wanted; see outline --help".into());
-    };
-    if options.image.as_ref().is_some_and(|image| image == target || image == file) {
-        return Err("`--image` wants a file of its own".into());
-    }
+    let target = options.target(Kind::Page)?;
+    let image = options.image_target(&target)?;
     let date = date(options.date.as_deref())?;
     let loaded = Loaded::of(file)?;
     let verdict = judge(loaded.bytes());
@@ -41,11 +39,11 @@ pub fn run(args: &[&str]) -> Done {
         judge: JUDGE,
         content,
     };
-    write(target, report::page(&about).as_bytes())?;
-    if let Some(image) = &options.image {
-        write(image, loaded.bytes())?;
+    target.write(report::page(&about).as_bytes())?;
+    if let Some(image) = &image {
+        image.write(loaded.bytes())?;
     }
-    tell(&options, target, &loaded, &about)?;
+    tell(&options, target.name(), &loaded, &about)?;
     Ok(status(&verdict))
 }
 
@@ -89,14 +87,14 @@ fn tell(
     if target != "-" {
         return print(line);
     }
-    eprint!("{line}");
+    complain(line);
     Ok(())
 }
 
 /// The file's name without its folder: a page says nothing of the machine that made it.
 fn base_name(file: &str) -> String {
     let name = Path::new(called(file)).file_name();
-    name.map_or_else(|| called(file).into(), |name| name.to_string_lossy().into_owned())
+    shown(&name.map_or_else(|| called(file).into(), |name| name.to_string_lossy().into_owned()))
 }
 
 /// A file as it was read, and what was made of it.

@@ -32,7 +32,7 @@ impl Words {
 
     /// The words of a text that was read.
     pub fn of_text(text: &str, source: &Source) -> Words {
-        let list = tokens(text).unwrap_or_default();
+        let list = tokens(text).list;
         let at = |place: Place| braced(text, &list, place);
         let thread = |points: &Vec<crate::text::source::Point>| {
             points

@@ -139,25 +139,48 @@ thread u registers q { true } q <- x { true } q <- fetch-add x + 1 { true }";
 
     #[test]
     fn the_first_difference_is_told() {
-        for (so, said, want) in [
-            ("x := 1 |", "x := 2 |", "line 1: t is at `x := 1 | s := 2` here, the line says: x := 2 | s := 2 writes 1 behind write 1, gives 2"),
-            ("t: x := 1 | s := 2", "t: launch missile", "line 1: t is at `x := 1 | s := 2` here, the line says: launch missile writes 1 behind write 1, gives 2"),
-            ("gives 2", "gives 3", "line 1: `x := 1 | s := 2` writes 1 behind write 1, gives 2 here, the line says: writes 1 behind write 1, gives 3"),
-            ("reads 1 from write 2", "reads 0 from write 2", "line 2: `q <- x` reads 1 from write 2 here, the line says: reads 0 from write 2"),
-            ("reads 1 from write 2", "", "line 2: the line does not say what `q <- x` does"),
-            ("goes to point 3", "goes to point 2", "line 3: `if s = 2 goto 3` goes to point 3 here, the line says: goes to point 2"),
-            ("writes 2 behind write 2", "writes 3 behind write 2", "line 4: `q <- fetch-add x + 1` reads 1, writes 2 behind write 2 here, the line says: reads 1, writes 3 behind write 2"),
-            ("5. t:", "5. u:", ""),
-            ("q = 1", "q = 2", "line 6: `then r = 0, s = 2, q = 1` is so at the end, the line says: then r = 0, s = 2, q = 2"),
-            ("0, 1, 2, 3", "0, 2, 1, 3", "line 7: `x was written 0, 1, 2, 3` is so at the end, the line says: x was written 0, 2, 1, 3"),
-            ("y was", "z was", "line 8: `z` is no word"),
+        let first = "t is at `x := 1 | s := 2` here, the line says:";
+        let added = "`q <- fetch-add x + 1` reads 1, writes 2 behind write 2 here, the line says:";
+        for (so, said, line, want) in [
+            ("x := 1 |", "x := 2 |", 1, format!("{first} x := 2 | s := 2 writes 1 behind write 1, gives 2")),
+            ("x := 1 | s := 2", "launch missile", 1, format!("{first} launch missile writes 1 behind write 1, gives 2")),
+            (
+                "gives 2",
+                "gives 3",
+                1,
+                "`x := 1 | s := 2` writes 1 behind write 1, gives 2 here, the line says: writes 1 behind write 1, gives 3".into(),
+            ),
+            (
+                "reads 1 from write 2",
+                "reads 0 from write 2",
+                2,
+                "`q <- x` reads 1 from write 2 here, the line says: reads 0 from write 2".into(),
+            ),
+            ("reads 1 from write 2", "", 2, "the line does not say what `q <- x` does".into()),
+            (
+                "goes to point 3",
+                "goes to point 2",
+                3,
+                "`if s = 2 goto 3` goes to point 3 here, the line says: goes to point 2".into(),
+            ),
+            ("writes 2 behind write 2", "writes 3 behind write 2", 4, format!("{added} reads 1, writes 3 behind write 2")),
+            (
+                "q = 1",
+                "q = 2",
+                6,
+                "`then r = 0, s = 2, q = 1` is so at the end, the line says: then r = 0, s = 2, q = 2".into(),
+            ),
+            (
+                "0, 1, 2, 3",
+                "0, 2, 1, 3",
+                7,
+                "`x was written 0, 1, 2, 3` is so at the end, the line says: x was written 0, 2, 1, 3".into(),
+            ),
+            ("y was", "z was", 8, "`z` is no word".into()),
         ] {
-            let text = RUN.replace(so, said);
-            match want {
-                // The thread is at its last point: the replay refuses the step.
-                "" => assert_eq!(told(&text), Ok(None)),
-                _ => assert_eq!(told(&text), Err(want.into())),
-            }
+            assert_eq!(told(&RUN.replace(so, said)), Err(format!("line {line}: {want}")));
         }
+        // The thread is at its last point: the replay refuses the step.
+        assert_eq!(told(&RUN.replace("5. t:", "5. u:")), Ok(None));
     }
 }

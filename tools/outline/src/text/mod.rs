@@ -3,8 +3,10 @@
 pub mod answer;
 pub mod compare;
 pub mod contract;
+pub mod cursor;
 pub mod lex;
 pub mod lines;
+pub mod nearest;
 pub mod parse_certificate;
 pub mod parse_claim;
 pub mod parse_formula;
