@@ -200,7 +200,7 @@ fn claims_stand_behind_the_obligations() {
 
 #[test]
 fn a_run_that_breaks_a_claim_is_shown() {
-    let bounds = Bounds { steps: 4, writes: 4, starts: 16 };
+    let bounds = Bounds { steps: 4, writes: 4, starts: 16, states: 100_000 };
     let plan = excluding(vec![]);
     assert_eq!(explore(&plan.program, &[NEVER], bounds).outcome, Outcome::Holds { all: true });
     let step = Instruction::assign(1, Value::Constant(1));

@@ -4,7 +4,7 @@ use reference::checker::{check, decode};
 use reference::explore::{reachable, Bounds};
 use sets::generate::image;
 
-const BOUNDS: Bounds = Bounds { steps: 6, writes: 4, starts: 6 };
+const BOUNDS: Bounds = Bounds { steps: 6, writes: 4, starts: 6, states: usize::MAX };
 
 #[test]
 fn accepted_claims_are_never_broken() {

@@ -5,7 +5,7 @@ use reference::image::{Access, Program};
 use sets::examples::message_passing;
 use std::rc::Rc;
 
-const BOUNDS: Bounds = Bounds { steps: 12, writes: 4, starts: 4096 };
+const BOUNDS: Bounds = Bounds { steps: 12, writes: 4, starts: 4096, states: 2_000_000 };
 
 fn outcome(program: &Program) -> Outcome {
     explore(program, &[], BOUNDS).outcome
@@ -34,10 +34,16 @@ fn message_passing_needs_the_release_and_the_acquire() {
 
 #[test]
 fn a_row_bound_is_reported() {
-    let found =
-        explore(&message_passing().program, &[], Bounds { steps: 12, writes: 1, starts: 4096 });
+    let found = explore(
+        &message_passing().program,
+        &[],
+        Bounds { steps: 12, writes: 1, starts: 4096, states: 2_000_000 },
+    );
     assert_eq!(found.outcome, Outcome::Holds { all: false });
-    let found =
-        explore(&message_passing().program, &[], Bounds { steps: 1, writes: 4, starts: 4096 });
+    let found = explore(
+        &message_passing().program,
+        &[],
+        Bounds { steps: 1, writes: 4, starts: 4096, states: 2_000_000 },
+    );
     assert_eq!(found.outcome, Outcome::Holds { all: false });
 }

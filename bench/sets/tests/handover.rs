@@ -9,8 +9,7 @@ use sets::generate::handovers::pair;
 use sets::generate::random::Random;
 use sets::generate::traces::permitted_from;
 
-const BOUNDS: Bounds = Bounds { steps: 3, writes: 3, starts: 4 };
-const MOST_STATES: usize = 300;
+const BOUNDS: Bounds = Bounds { steps: 3, writes: 3, starts: 4, states: 300 };
 
 fn handovers(seeds: u64) -> impl Iterator<Item = (u64, Handover)> {
     (0..seeds).filter_map(|seed| {
@@ -23,7 +22,7 @@ fn handovers(seeds: u64) -> impl Iterator<Item = (u64, Handover)> {
 fn every_short_run() {
     let (mut count, mut states) = (0, 0);
     for (seed, handover) in handovers(1500) {
-        let found = across(&handover, BOUNDS, MOST_STATES);
+        let found = across(&handover, BOUNDS);
         assert_eq!(found.broken, None, "seed {seed}");
         count += 1;
         states += found.states.1;

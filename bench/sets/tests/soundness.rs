@@ -10,9 +10,8 @@ use reference::image::{Instruction, Line, Program, Statement};
 use reference::machine::{take, State, Step};
 use sets::generate::image;
 use std::collections::BTreeMap;
-use std::rc::Rc;
 
-const BOUNDS: Bounds = Bounds { steps: 4, writes: 3, starts: 6 };
+const BOUNDS: Bounds = Bounds { steps: 4, writes: 3, starts: 6, states: usize::MAX };
 
 /// The states after an instruction of a thread, from a state whatever its point.
 fn after(action: &Instruction, state: &State, thread: u8) -> Vec<State> {
@@ -31,7 +30,7 @@ fn subject(program: &Program, line: &Line) -> Option<Instruction> {
 }
 
 /// How often the left side was true; fails where the right side is not.
-fn live_checks(program: &Program, states: &[Rc<State>], line: &Line) -> usize {
+fn live_checks(program: &Program, states: &[State], line: &Line) -> usize {
     let true_in = |assertion: &Assertion, state: &State| is_true(assertion, state, &program.header);
     let action = subject(program, line);
     let mut live = 0;

@@ -86,7 +86,8 @@ fn message_passing_with_spare_lines() {
     let result = trim_well(&cluttered);
     assert_eq!(result, plan.bytes());
     let program = decode(&result).expect("in order").program;
-    let found = explore(&program, &[], Bounds { steps: 12, writes: 4, starts: 8 });
+    let found =
+        explore(&program, &[], Bounds { steps: 12, writes: 4, starts: 8, states: 2_000_000 });
     assert_eq!(found.outcome, Outcome::Holds { all: true });
 }
 

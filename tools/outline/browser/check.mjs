@@ -17,6 +17,7 @@ const PAGES = [
   { name: "message-passing-wrong-2", accepted: false },
   { name: "three-threads-wrong-1", accepted: false },
   { name: "peterson-claim-wrong-2", accepted: false },
+  { name: "both-inside", accepted: false, folder: "tools/outline/tests/outlines" },
 ];
 const WINDOWS = [
   { width: 1200, scheme: "light" },
@@ -50,6 +51,11 @@ async function contents(tab, where, accepted) {
   expect(where, "record of 22 bytes, digest of 32", found.record === 22 && found.digest === 64);
   expect(where, `drawings: ${found.drawings}`, found.drawings === (accepted ? 0 : 1));
   expect(where, `the verdict says ${found.word}`, found.word === (accepted ? "Accepted" : "Refused"));
+  expect(where, `results: ${found.results}`, accepted ? found.results >= found.rows : found.results === 0);
+  const quoted = accepted ? "as RC11 defines it" : "nothing may be quoted";
+  expect(where, `the quote says ${found.quote.slice(0, 80)}`, found.quote.includes(quoted));
+  expect(where, `digests of image, source and names: ${found.digests}`, found.digests.join() === "64,64,64");
+  expect(where, `the date is ${found.date}`, /^\d{4}-\d\d-\d\d$/.test(found.date));
 }
 
 async function drawing(tab, where) {
@@ -101,10 +107,17 @@ async function tryPage(tab, url, { name, accepted }, { width, scheme }, pictures
   await keyboard(tab, where);
   if (pictures) writeFileSync(join(pictures, `${name}-${width}-${scheme}-open.png`), await tab.picture());
   await links(tab, where);
+  const { says, goesOn } = await tab.ask(inPage.shown);
+  expect(where, `the drawing goes on: ${goesOn}, the page says so: ${says}`, says === goesOn);
+  await tab.media("print", scheme);
+  await overflow(tab, `${where}, printed`);
+  const paper = await tab.ask(inPage.shown);
+  expect(where, `on paper ${paper.hidden} trees are closed`, paper.hidden === 0 && !paper.says);
+  if (pictures) writeFileSync(join(pictures, `${name}-${width}-${scheme}.pdf`), await tab.printed());
+  await tab.media("screen", scheme);
   await tab.ask(inPage.openAll);
   await overflow(tab, `${where}, all open`);
   await tab.media("print", scheme);
-  await overflow(tab, `${where}, printed`);
   expect(where, "it prints, dark on white", (await tab.printed()).length > 10_000 && (await tab.ask(inPage.isOnWhite)));
   expect(where, `asked for ${tab.requests.slice(1)}`, tab.requests.length === 1);
   expect(where, `the browser complains: ${tab.complaints}`, tab.complaints.length === 0);
@@ -118,7 +131,7 @@ async function main() {
   try {
     for (const page of PAGES) {
       const target = join(folder, `${page.name}.html`);
-      expect(page.name, "the status says the verdict", report(outline, page.name, target) === page.accepted);
+      expect(page.name, "the status says the verdict", report(outline, page.name, target, page.folder) === page.accepted);
       for (const window of WINDOWS) {
         const tab = await browser.tab();
         await tryPage(tab, pathToFileURL(target).href, page, window, pictures);

@@ -7,7 +7,11 @@ export function contents() {
   const text = all("#obligations .note")[0]?.textContent ?? "";
   return {
     rows: all(".obligations tbody tr:not(.class)").length,
-    wanted: Number(/of (\d+) are met/.exec(text)?.[1]),
+    wanted: Number(/of (\d+) (are met|have their lines)/.exec(text)?.[1]),
+    results: all(".met").length,
+    quote: document.querySelector("#quote")?.textContent ?? "",
+    digests: all("#digest, #source-digest, #names-digest").map((e) => e.textContent.length),
+    date: document.querySelector("#date")?.textContent ?? "",
     met: count[8],
     trees: all(".tree").length,
     empty: all(".tree").filter((tree) => tree.children.length === 0).length,
@@ -82,6 +86,15 @@ export function placeOfLink(what) {
 export function isAt(id) {
   const { top } = document.getElementById(id).getBoundingClientRect();
   return location.hash === `#${id}` && top >= 0 && top < innerHeight / 2;
+}
+
+/** Trees that are not seen, and whether the page says that the drawing goes on. */
+export function shown() {
+  const isSeen = (e) => e.getClientRects().length > 0;
+  const hidden = [...document.querySelectorAll(".tree")].filter((tree) => !isSeen(tree)).length;
+  const says = [...document.querySelectorAll(".goes-on")].some(isSeen);
+  const frame = document.querySelector(".drawing");
+  return { hidden, says, goesOn: frame !== null && frame.scrollWidth > frame.clientWidth + 1 };
 }
 
 export function openAll() {

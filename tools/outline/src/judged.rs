@@ -1,21 +1,16 @@
-//! Each obligation and each claim judged by itself, and a run that breaks one that is not met.
+//! Each obligation and each claim judged by itself, and what may be said of it.
 
 pub use crate::build::Goal;
 use reference::checker::claims::is_shown;
 use reference::checker::obligations::{duties, judge_one, Duty};
 use reference::checker::rules::justified_lines;
-use reference::explore::{find, seek, Bounds, Run, Sought};
-use reference::image::{Claim, Image, Program};
-use reference::machine::{take, State};
-
-/// How far runs are looked at, if nothing else is asked.
-pub const BOUNDS: Bounds = Bounds { steps: 12, writes: 6, starts: 64 };
-const MOST_STATES: usize = 30_000;
+use reference::checker::Verdict;
+use reference::image::{Claim, Image};
 
 /// The code of a claim that is not shown.
 const NOT_SHOWN: u16 = 26;
 
-/// An obligation or a claim with the line that it names and the code that it gets: 0 if it is met.
+/// An obligation or a claim with the line that it names and the code that it gets: 0 if its line serves it.
 #[derive(Debug, Clone)]
 pub struct Judged {
     pub goal: Goal,
@@ -24,10 +19,74 @@ pub struct Judged {
 }
 
 impl Judged {
-    pub fn is_met(&self) -> bool {
+    /// Whether its line is justified and says what is wanted. That alone is no result: the rules speak of an image
+    /// as a whole.
+    pub fn has_its_line(&self) -> bool {
         self.code == 0
     }
+
+    /// What may be said of it in an image that is accepted as a whole, or is not.
+    pub fn standing(&self, accepted: bool) -> Standing {
+        Standing::of(self.code, self.line, accepted)
+    }
 }
+
+/// What may be said of an obligation or a claim.
+#[derive(Debug, Clone, Copy, PartialEq, Eq)]
+pub enum Standing {
+    /// It has its line, as all others have theirs: it is a result.
+    Met,
+    /// It has its line, but another has none, so that it may be false all the same.
+    LineThere,
+    NoLine,
+    OtherLine,
+    Unjustified,
+    /// A claim whose line is unjustified or concludes something else.
+    NotShown,
+}
+
+impl Standing {
+    /// What a code says of something with this line.
+    pub fn of(code: u16, line: u16, accepted: bool) -> Standing {
+        match code {
+            0 if accepted => Standing::Met,
+            0 => Standing::LineThere,
+            21 => Standing::OtherLine,
+            22 => Standing::Unjustified,
+            _ if line == 0 => Standing::NoLine,
+            _ => Standing::NotShown,
+        }
+    }
+
+    /// The word for it in JSON.
+    pub fn key(self) -> &'static str {
+        match self {
+            Standing::Met => "met",
+            Standing::LineThere => "line-there",
+            Standing::NoLine => "no-line",
+            Standing::OtherLine => "other-line",
+            Standing::Unjustified => "unjustified",
+            Standing::NotShown => "not-shown",
+        }
+    }
+
+    /// What is told of the line with this number.
+    pub fn told(self, line: u16) -> String {
+        match self {
+            Standing::Met => format!("line {line}"),
+            Standing::LineThere => format!("its line {line} is there; {NOTHING_FOLLOWS}"),
+            Standing::NoLine => "it names no line".into(),
+            Standing::OtherLine => format!("its line {line} concludes something else"),
+            Standing::Unjustified => format!("its line {line} is not justified"),
+            Standing::NotShown => {
+                format!("its line {line} is not justified or concludes something else")
+            }
+        }
+    }
+}
+
+/// What must be said of a line that is there in an image that is refused.
+pub const NOTHING_FOLLOWS: &str = "nothing follows while others are open";
 
 /// All obligations of an image in order, then its claims.
 pub fn judged(image: &Image) -> Vec<Judged> {
@@ -44,42 +103,15 @@ pub fn judged(image: &Image) -> Vec<Judged> {
     obligations.map(obligation).chain(image.claims.iter().map(claim)).collect()
 }
 
-/// A run that breaks an obligation or a claim.
-#[derive(Debug, Clone)]
-pub struct Broken {
-    pub goal: Goal,
-    pub run: Run,
-}
-
-/// A shortest run that breaks the first obligation that is not met, or else another of them, or else a claim.
-/// If an assertion is false in a run, some step has broken an obligation, and a met one is never broken.
-pub fn broken(program: &Program, judged: &[Judged], bounds: Bounds) -> Result<Broken, Sought> {
-    let (mut unmet, mut claims) = (Vec::new(), Vec::new());
-    for judged in judged.iter().filter(|judged| !judged.is_met()) {
-        match judged.goal {
-            Goal::Duty(duty) => unmet.push(duty),
-            Goal::Claim(meeting) => claims.push(meeting),
-        }
+/// Whether all have their lines, as the verdict on the whole image says too. The answers are the independent
+/// checker's; with a verdict that says otherwise they are not told.
+pub fn is_accepted(judged: &[Judged], verdict: &Verdict) -> Result<bool, String> {
+    let first = judged.iter().position(|judged| !judged.has_its_line());
+    let duties = judged.iter().filter(|judged| matches!(judged.goal, Goal::Duty(_))).count();
+    let code = first.map_or(0, |at| judged[at].code);
+    let count = first.unwrap_or(duties).min(duties);
+    if (code, count) != (verdict.code, usize::from(verdict.count)) {
+        return Err(format!("the checkers disagree: {verdict}, but code {code} after {count}"));
     }
-    let mut sought = seek(program, &unmet, bounds, MOST_STATES);
-    let found = (0..unmet.len()).find_map(|at| Some((at, sought.runs[at].take()?)));
-    if let Some((at, run)) = found {
-        return Ok(Broken { goal: Goal::Duty(unmet[at]), run });
-    }
-    for meeting in claims {
-        sought = find(program, bounds, MOST_STATES, &|state| state.has_meeting(&meeting));
-        if let Some(run) = sought.runs[0].take() {
-            return Ok(Broken { goal: Goal::Claim(meeting), run });
-        }
-    }
-    Err(sought)
-}
-
-impl Broken {
-    /// The state at the end of the run.
-    pub fn end(&self, program: &Program) -> State {
-        self.run.steps.iter().fold(self.run.start.clone(), |state, step| {
-            take(&program.threads, &state, *step).expect("a step of the run")
-        })
-    }
+    Ok(code == 0)
 }

@@ -7,13 +7,16 @@
 
 pub mod build;
 pub mod command;
+pub mod diagnosis;
 pub mod draw;
 pub mod explicit;
+pub mod fuzz;
 pub mod gallery;
 pub mod handover;
 pub mod image;
 pub mod judged;
 pub mod markup;
+pub mod refuted;
 pub mod report;
 pub mod search;
 pub mod terms;

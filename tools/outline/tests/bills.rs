@@ -95,13 +95,15 @@ fn as_json() {
     let polling = example("polling");
     let (status, out, _) = run(&["bill", &polling, "--tariff", &tariff, "--json"]);
     let want = format!(
-        "{{\"file\":\"{polling}\",\"code\":0,\"cents\":735,\"billed\":1,\"threads\":[{{\"thread\":\"writer\",\
+        "{{\"version\":1,\"command\":\"bill\",\"status\":0,\
+         \"file\":\"{polling}\",\"code\":0,\"cents\":735,\"billed\":1,\"threads\":[{{\"thread\":\"writer\",\
          \"cents\":380}},{{\"thread\":\"reader\",\"cents\":355}}],\"words\":\"735 cents\",\"biller\":\"{}\"}}\n",
         biller()
     );
     assert_eq!((status, out), (0, want));
     let (status, out, _) = told(fed(&["bill", "-", "--tariff", &tariff, "--json"], &[0]));
-    let start = "{\"file\":\"standard input\",\"code\":30,\"cents\":0,\"billed\":0,\"threads\":[],\"words\":\"NOT BILLED (code 30): ";
+    let start = "{\"version\":1,\"command\":\"bill\",\"status\":1,\
+        \"file\":\"standard input\",\"code\":30,\"cents\":0,\"billed\":0,\"threads\":[],\"words\":\"NOT BILLED (code 30): ";
     assert!(status == 1 && out.starts_with(start), "{out}");
 }
 

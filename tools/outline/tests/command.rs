@@ -28,6 +28,8 @@ fn what_is_false_is_told_with_a_run() {
     assert_eq!((status, out.as_str()), (1, ""));
     assert!(!Path::new(&image).exists());
     let lines: Vec<&str> = err.lines().collect();
+    let answer = "PROGRAM WRONG: a run of 4 steps breaks reader's last assertion: a != 1 or b = 1";
+    assert_eq!((lines[0], lines[4]), (answer, "  4. reader: b <- data   reads 0 from write 1"));
     let place = "open: class 4, thread 2 (reader) point 0 (line 23): not kept by thread 1 (writer) point 1 (line 17)";
     let run = [
         place,
@@ -35,7 +37,7 @@ fn what_is_false_is_told_with_a_run() {
         "      1. writer: data := 1   writes 1 behind write 1",
         "      2. writer: flag := 1   writes 1 behind write 1",
     ];
-    assert_eq!(lines[..4], run);
+    assert_eq!(lines[8..12], run);
     assert!(err.contains("\n  to           Coming\n"), "names of `let` stay names: {err}");
     assert!(err.ends_with("1 of 18 obligations are open; no image is written\n"), "{err}");
 }
@@ -49,7 +51,7 @@ fn every_wrong_variant_is_told_false() {
         let name = path.file_stem().expect("named").to_string_lossy().into_owned();
         if name.contains("-wrong-") {
             let (status, _, err) = run(&["build", &path.to_string_lossy(), "-o", "-"]);
-            assert!(status == 1 && err.contains("  FALSE        a run of "), "{name}: {err}");
+            assert!(status == 1 && err.contains("\n  FALSE        "), "{name}: {err}");
             wrong += 1;
         }
     }
@@ -61,9 +63,12 @@ fn what_no_rule_reaches_is_not_told_false() {
     let (status, _, err) = run(&["build", &example("ticket-wait"), "-o", "-"]);
     assert_eq!(status, 1);
     assert!(!err.contains("FALSE"), "{err}");
-    let words = "  not false    no run breaks it (all ";
     assert!(
-        err.contains(words) && err.contains("states): no rule leads there, as far as"),
+        err.starts_with("NOT PROVED: no run breaks an assertion or a claim (all 16 states)\n"),
+        "{err}"
+    );
+    assert!(
+        err.contains("  not found    by the search; no run breaks it (all 16 states)\n"),
         "{err}"
     );
 }
@@ -239,8 +244,9 @@ fn standard_input_and_output_are_files_too() {
     assert!(status == 0 && out.starts_with("-: ACCEPTED: 22 obligations met\n"), "{out}");
     let (status, out, _) = told(fed(&["check", "--json", "-"], &image.stdout));
     let want = format!(
-        "{{\"file\":\"-\",\"accepted\":true,\"fields\":[0,0,0,0,0,0,0,0,22],\
-         \"words\":\"ACCEPTED: 22 obligations met\",\"judge\":\"{}\"}}\n",
+        "{{\"version\":1,\"command\":\"check\",\"status\":0,\"file\":\"-\",\"accepted\":true,\
+         \"fields\":[0,0,0,0,0,0,0,0,22],\"words\":\"ACCEPTED: 22 obligations met\",\"judge\":\"{}\",\
+         \"class\":null,\"places\":[]}}\n",
         judge()
     );
     assert_eq!((status, out), (0, want));
@@ -292,21 +298,24 @@ false: reader at point 0: Coming
 ";
     assert_eq!((status, out.as_str()), (1, want));
     let (status, out, _) = run(&["explore", &example("message-passing")]);
-    assert_eq!((status, out.lines().last()), (0, Some("these are all states")));
-    let (_, out, _) = run(&["explore", &example("message-passing"), "--steps", "2"]);
-    assert_eq!(out.lines().last(), Some("not all states: cut by --steps"));
-    let (_, out, _) = run(&["explore", &example("message-passing"), "--writes", "1"]);
-    assert_eq!(out.lines().last(), Some("not all states: cut by --writes"));
+    assert_eq!((status, out.as_str()), (0, "holds in all 13 states\n"));
+    let (status, out, _) = run(&["explore", &example("message-passing"), "--steps", "2"]);
+    assert!(
+        status == 3 && out.ends_with(" states, not all there are: cut by --steps 2\n"),
+        "{out}"
+    );
+    let (status, out, _) = run(&["explore", &example("message-passing"), "--writes", "1"]);
+    assert!(
+        status == 3 && out.ends_with(" states, not all there are: cut by --writes 1\n"),
+        "{out}"
+    );
 }
 
 #[test]
 fn explore_answers_litmus_questions() {
     let asked = |name: &str, outcome: &str| run(&["explore", &example(name), "--outcome", outcome]);
     let (status, out, _) = asked("message-passing", "a = 1 and b = 0");
-    assert_eq!(
-        (status, out.as_str()),
-        (0, "never: a = 1 and b = 0 (in 13 states)\nthese are all states\n")
-    );
+    assert_eq!((status, out.as_str()), (0, "never: a = 1 and b = 0, in all 13 states\n"));
     let (status, out, _) = asked("message-passing-wrong-1", "a = 1 and b = 0");
     assert!(status == 1 && out.starts_with("happens: a = 1 and b = 0, after 4 steps\n"), "{out}");
     let (status, _, err) = asked("message-passing", "c = 1");
@@ -349,21 +358,21 @@ fn claims_are_told_when_they_are_shown() {
     let said = "ACCEPTED: 7 obligations met, 1 claim shown";
     assert_eq!((status, out), (0, claimed(&image, said, "0 0 0 0 0 0 0 0 7")));
     let (_, out, _) = run(&["explain", &text]);
-    let place = "8. claim, never thread 2 (right) point 1 (line 10) and thread 1 (left) point 1 (line 6): line ";
+    let place = "8. claim, never thread 2 (right) point 1 (out, line 10) and thread 1 (left) point 1 (after, line 6): line ";
     let claim: Vec<&str> = out.lines().skip_while(|line| !line.starts_with(place)).collect();
     assert!(claim.len() > 1 && claim[1].ends_with("rule 20: a = 1 and false gives false"), "{out}");
     assert!(out.contains("rule 50: a = 0 then a = 1\n"), "{out}");
     assert!(out.contains("rule 16 of the first half: a = 0 then 1 = 1\n"), "{out}");
     let (_, out, _) = run(&["explain", &text, "--json"]);
-    let claims = "\"claims\":[{\"claim\":\"claim, never thread 2 (right) point 1 (line 10) and ";
-    assert!(out.contains(claims), "{out}");
+    let claims = "\"claims\":[{\"kind\":\"claim\",\"class\":null,\"places\":[{\"thread\":2,\"name\":\"right\",";
+    let told = "\"told\":\"claim, never thread 2 (right) point 1 (out, line 10) and ";
+    assert!(out.contains(claims) && out.contains(told), "{out}");
     let (_, out, _) = run(&["show", &image]);
     assert!(out.contains("    w1 := 1 @1 | r1 := 1 @1\n"), "{out}");
     assert!(out.contains("\nnever t2 1 and t1 1\n\ncertificate\n"), "{out}");
     assert!(out.lines().last().is_some_and(|line| line.starts_with("  claims ")), "{out}");
-    let want = "holds in 2 states, up to 24 steps\nnever: right at point 1, left at point 1\nthese are all states\n";
+    let want = "holds in all 2 states\nnever: right at out and left at after\n";
     assert_eq!(run(&["explore", &text]).1, want);
-    let want = "no claim breaks in 2 states\nnever: right at point 1, left at point 1\nthese are all states\n";
     assert_eq!(run(&["explore", &text, "--claims"]).1, want);
 }
 
@@ -375,7 +384,11 @@ fn claims_that_fail_are_told_with_a_run() {
     let (status, out, err) = run(&["build", &text, "-o", &image]);
     assert_eq!((status, out.as_str()), (1, ""));
     let want = format!(
-        "open: claim, never thread 2 (right) point 0 (line 8) and thread 1 (left) point 1 (line 6)
+        "PROGRAM WRONG: a run of 1 step breaks a claim: never right at point 0 and left at after
+  1. left: x := 1 | a := 1   writes 1 behind write 1, gives 1
+     then a = 1
+     x was written 0, 1
+open: claim, never thread 2 (right) point 0 (line 8) and thread 1 (left) point 1 (after, line 6)
   FALSE        a run of 1 step breaks it
       1. left: x := 1 | a := 1   writes 1 behind write 1, gives 1
          then a = 1
@@ -399,12 +412,12 @@ fn claims_that_fail_are_told_with_a_run() {
   1. left: x := 1 | a := 1   writes 1 behind write 1, gives 1
      then a = 1
      x was written 0, 1
-claimed never to happen: right at point 0, left at point 1
+claimed never to happen: right at point 0 and left at after
 ";
     assert_eq!((status, out.as_str()), (1, want));
     assert_eq!(run(&["explore", &text, "--claims"]).1, want);
     let (status, out, _) = run(&["explore", &text, "--json"]);
-    let told = "\"answer\":\"false\",\"told\":[\"FALSE: a run of 1 step breaks a claim\",";
+    let told = "\"answer\":\"false\",\"states\":2,\"cut\":[],\"told\":[\"FALSE: a run of 1 step ";
     assert!(status == 1 && out.contains(told), "{out}");
 }
 
@@ -426,7 +439,7 @@ fn the_run_that_breaks_peterson_without_its_order_is_shown() {
     let (status, out, _) = run(&["explore", &example("peterson-claim-wrong-1"), "--claims"]);
     let lines: Vec<&str> = out.lines().collect();
     assert_eq!((status, lines[0]), (1, "FALSE: a run of 10 steps breaks a claim"));
-    let both = "claimed never to happen: ann at point 5, bob at point 5";
+    let both = "claimed never to happen: ann at inside and bob at inside";
     assert_eq!(lines.last(), Some(&both));
 }
 
@@ -456,11 +469,11 @@ fn each_command_speaks_json() {
     let (text, image) = (example("polling"), folder.file("p.image"));
     let fields = "\"fields\":[0,0,0,0,0,0,0,0,22],\"words\":\"ACCEPTED: 22 obligations met\"";
     let cases: [(&[&str], &str); 5] = [
-        (&["build", &text, "-o", &image], "{\"accepted\":true,\"fields\":[0,0,0,0,0,0,0,0,22],"),
+        (&["build", &text, "-o", &image], "\"accepted\":true,\"fields\":[0,0,0,0,0,0,0,0,22],"),
         (&["check", &image], fields),
         (&["show", &image], fields),
         (&["explain", &text], fields),
-        (&["explore", &text, "--steps", "8"], "\"answer\":\"holds\",\"told\":[\"holds in "),
+        (&["explore", &text], "\"cut\":[],\"told\":[\"holds in all "),
     ];
     for (args, words) in cases {
         let (status, out, err) = run(&[args, &["--json"][..]].concat());

@@ -90,7 +90,7 @@ fn the_same_text_gives_the_same_bytes() {
 fn the_machine_agrees() {
     for (name, text) in sources() {
         let source = parse_source::parse(&text).unwrap_or_else(|e| panic!("{name}: {e}"));
-        let bounds = Bounds { steps: 10, writes: 6, starts: 4096 };
+        let bounds = Bounds { steps: 10, ..Bounds::DEFAULT };
         let found = explore(&source.program(), &source.meetings(), bounds);
         let breaks = matches!(found.outcome, Outcome::Breaks(_));
         assert_eq!(breaks, name.contains("-wrong-"), "{name}");

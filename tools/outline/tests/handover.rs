@@ -67,7 +67,7 @@ fn permit(out: &str) -> String {
     name
 }
 
-const BOUNDS: Bounds = Bounds { steps: 20, writes: 6, starts: 64 };
+const BOUNDS: Bounds = Bounds { steps: 20, writes: 6, starts: 64, states: 10_000 };
 /// Where the example's page lets the reader go on.
 const CHOSEN: [&str; 3] = ["reader.looked=looked", "reader.up=up", "reader.done=once"];
 
@@ -108,7 +108,7 @@ fn chosen_points() {
     assert_eq!(check(&new).code, 0);
     let handover = permitted(&old, &new, &table).expect("permitted");
     assert_eq!(handover.points, [vec![0, 1, 2], vec![1, 0, 3, 4]]);
-    let found = across(&handover, BOUNDS, 10_000);
+    let found = across(&handover, BOUNDS);
     assert!(found.all && found.broken.is_none() && found.states.1 > 9, "{found:?}");
     // The table stands for the image that was written, from the old outline or its image.
     let (status, out, _) = files.judge(&update("old"), &files.image);
@@ -133,8 +133,8 @@ FALSE: a run of 1 step, the handover and 0 steps breaks an assertion
      then a = 0, b = 0
      data was written 0
      flag was written 0
-     handover: writer at point 0, reader at point 3
-false: reader at point 3: reader sees [data != 0]
+     handover: writer at point 0, reader at up
+false: reader at up: reader sees [data != 0]
 1 of 7 old points have no line; nothing is written
 ";
     assert_eq!((status, out.as_str(), err.as_str()), (1, "", want));
@@ -154,7 +154,8 @@ false: reader at point 3: reader sees [data != 0]
     ];
     let (status, out, _) = run(&json);
     assert!(
-        status == 1 && out.starts_with("{\"permitted\":false,\"code\":34,\"told\":[\"open: "),
+        status == 1
+            && out.contains("\"status\":1,\"permitted\":false,\"code\":34,\"told\":[\"open: "),
         "{out}"
     );
 }
@@ -164,7 +165,7 @@ false: reader at point 3: reader sees [data != 0]
 fn a_wrong_handover_breaks() {
     let points = vec![vec![0, 1, 2], vec![1, 3, 3, 4]];
     let wrong = Handover { old: source("old"), new: source("new"), points };
-    let broken = across(&wrong, BOUNDS, 10_000).broken.expect("a run breaks it");
+    let broken = across(&wrong, BOUNDS).broken.expect("a run breaks it");
     let [load, read] = [Step { thread: 2, position: 0 }, Step { thread: 2, position: 0 }];
     assert_eq!((broken.first, broken.second, broken.thread), (vec![load], vec![], 2));
     // The same run goes on to the reader's next point and to its last.

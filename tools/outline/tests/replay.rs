@@ -28,11 +28,11 @@ fn a_trace_to_its_end() {
     let (status, out, err) = told(fed(&["replay", &example("polling"), "-"], PASSED.as_bytes()));
     let want = format!(
         "  1. reader: a <-acq flag   reads 0 from write 1
-  2. reader: if a = 0 goto 0   goes to point 0
+  2. reader: if a = 0 goto poll   goes to poll
   3. writer: data := 1   writes 1 behind write 1
   4. writer: flag :=rel 1   writes 1 behind write 1
   5. reader: a <-acq flag   reads 1 from write 2
-  6. reader: if a = 0 goto 0   goes to point 2
+  6. reader: if a = 0 goto poll   goes to point 2
   7. reader: b <- data   reads 1 from write 2
      then a = 1, b = 1
      data write 1: 0, stored view: data 1, flag 1
@@ -58,6 +58,66 @@ fn a_run_of_explore_is_a_trace() {
     let (status, out, _) = told(fed(&["replay", &polling, "-"], found.as_bytes()));
     assert_eq!((status, steps(&out)), (0, steps(&found)));
     assert!(out.contains("\n     then a = 1, b = 1\n"), "{out}");
+}
+
+/// Of every example that is accepted: what `explore` prints of its end replays, and so does what `replay` prints of that.
+#[test]
+fn what_is_printed_as_a_run_replays() {
+    let folder = std::path::Path::new(env!("CARGO_MANIFEST_DIR")).join("../../examples");
+    let mut replayed = 0;
+    for entry in std::fs::read_dir(folder).expect("the examples are there") {
+        let path = entry.expect("readable").path();
+        let file = path.to_string_lossy().into_owned();
+        if !file.ends_with(".outline") || file.contains("-wrong-") {
+            continue;
+        }
+        let (status, found, _) = run(&["explore", &file, "--outcome", "true"]);
+        let (code, out, err) = told(fed(&["replay", &file, "-"], found.as_bytes()));
+        if status != 1 || out.contains("NOT REPLAYED") {
+            continue;
+        }
+        assert_eq!((code, err.as_str()), (0, ""), "{file}: {found}");
+        assert_eq!(told(fed(&["replay", &file, "-"], out.as_bytes())).1, out, "{file}");
+        replayed += 1;
+    }
+    assert!(replayed >= 20, "{replayed}");
+}
+
+#[test]
+fn words_that_are_not_so_are_told_at_their_line() {
+    let polling = example("polling");
+    let (_, found, _) = run(&["explore", &polling, "--outcome", "b = 1"]);
+    let differs = |text: &str| {
+        let (status, out, err) = told(fed(&["replay", &polling, "-"], text.as_bytes()));
+        assert_eq!((status, out.as_str()), (2, ""), "{err}");
+        err
+    };
+    let want = "standard input:2: writer is at `data := 1` here, the line says: data := 2 writes 1 behind write 1\n";
+    assert_eq!(differs(&found.replace("data := 1", "data := 2")), want);
+    let want = "standard input:4: `a <-acq flag` reads 1 from write 2 here, the line says: reads 0 from write 2\n";
+    assert_eq!(differs(&found.replace("reads 1 from write 2", "reads 0 from write 2")), want);
+    let want = "standard input:1: writer is at `data := 1` here, the line says: launch missile\n";
+    assert_eq!(differs("1. writer: launch missile\n"), want);
+    let want = "standard input:1: `pen` is no thread: names, or numbers from 0 to 255\n";
+    assert_eq!(differs("1. pen: launch missile\n"), want);
+    // The run of a neighbour, whose writer writes something else behind the data.
+    let (_, other, _) = run(&["explore", &example("message-passing"), "--outcome", "b = 1"]);
+    let want = "standard input:5: reader is at `if a = 0 goto poll` here, the line says: b <- data reads 1 from write 2\n";
+    assert_eq!(differs(&other), want);
+}
+
+/// A run begins with what its line `start:` says of open registers, unless something else is asked.
+#[test]
+fn a_run_with_open_registers_begins_as_it_says() {
+    let boot = example("boot");
+    let (_, found, _) = run(&["explore", &boot, "--outcome", "got = 5"]);
+    let begin = "     start: v = 6, seen = 0, got = 3\n";
+    let found = found.replace("     start: v = 0, seen = 0, got = 0\n", begin);
+    let (status, out, err) = told(fed(&["replay", &boot, "-"], found.as_bytes()));
+    assert!(status == 0 && out.starts_with(begin), "{out}{err}");
+    let asked = fed(&["replay", &boot, "-", "--given", "got = 5"], found.as_bytes());
+    let want = "standard input:2: `start: v = 0, seen = 0, got = 5` is so at the start, the line says: start: v = 6, seen = 0, got = 3\n";
+    assert_eq!(told(asked), (2, String::new(), want.into()));
 }
 
 #[test]
@@ -88,7 +148,7 @@ fn why_a_step_is_refused() {
         ("0 0", "64", "0 steps (code 27): there is no thread 0"),
         ("1 0\n1 0\n1 0", "64", "2 steps (code 27): writer is at its last point"),
         ("1 1", "64", "0 steps (code 28): writer: data := 1: data has 1 write, and no write 2"),
-        ("2 0\n2 5", "64", "1 step (code 28): reader: if a = 0 goto 0: it picks no write, and its position is 5, not 0"),
+        ("2 0\n2 5", "64", "1 step (code 28): reader: if a = 0 goto poll: it picks no write, and its position is 5, not 0"),
         ("1 0\n1 0\n2 1\n2 0\n2 0", "64", "4 steps (code 28): reader: b <- data: write 1 of data is before its own, write 2"),
         ("1 0", "2", "0 steps (code 29): writer: data := 1: there is room for 2 writes and no more"),
         ("", "1", "0 steps (code 29): 2 writes at the start, and room for 1"),
@@ -126,7 +186,8 @@ fn as_json() {
     let args = ["replay", &example("polling"), "-", "--json", "--entries", "2"];
     let (status, out, _) = told(fed(&args, b"2 0\n1 0\n"));
     let start = format!(
-        "{{\"file\":\"{}\",\"code\":29,\"steps\":1,\"points\":[0,1],\"registers\":[0,0],\
+        "{{\"version\":1,\"command\":\"replay\",\"status\":1,\
+         \"file\":\"{}\",\"code\":29,\"steps\":1,\"points\":[0,1],\"registers\":[0,0],\
          \"table\":[[0,0,0,0,0,0,0,0,0,0,0],[0,0,0,0,0,0,0,0,0,0,0]],\"told\":[\"  1. reader: ",
         example("polling")
     );

@@ -44,7 +44,8 @@ fn as_json() {
     let (status, out, _, by) = served(&["--json"]);
     assert_eq!((status, out.lines().count()), (1, 9));
     let third = format!(
-        "{{\"caller\":2,\"call\":\"bill\",\"file\":\"polling.outline\",\"code\":36,\
+        "{{\"version\":1,\"command\":\"serve\",\"status\":1,\
+         \"caller\":2,\"call\":\"bill\",\"file\":\"polling.outline\",\"code\":36,\
          \"words\":\"NOT SERVED (code 36): caller 2 has no right to bill\",\"server\":\"{by}\"}}"
     );
     assert_eq!(out.lines().nth(3), Some(third.as_str()));
@@ -142,6 +143,35 @@ fn traces_and_handovers() {
     assert!(status == 1 && out.starts_with(want), "{out}");
     let last = "2 across old.image: NOT SERVED (code 36): caller 2 has no right to replay";
     assert_eq!(out.lines().nth(6), Some(last));
+}
+
+/// Words of a run that are not what the machine does, under the old code or behind a handover, are a mistake of the line.
+#[test]
+fn traces_in_words_are_compared() {
+    let text = "caller 1 may replay\n1 replay p.image said\n1 across old.image new.image points said.old said.new\n";
+    let (folder, calls) = with_calls("words", text);
+    let file = |name: &str| folder.file(name);
+    let update = |name: &str| example(&format!("update/{name}"));
+    assert_eq!(run(&["build", &update("old"), "-o", &file("old.image")]).0, 0);
+    let new = update("new");
+    let [old, image, table] = [file("old.image"), file("new.image"), file("points")];
+    assert_eq!(run(&["handover", &old, &new, "-o", &image, "--table", &table]).0, 0);
+    folder.with("said", "  1. t2: r1 <-acq w2   reads 0 from write 1\n");
+    folder.with("said.old", "  1. t1: w1 := 1   writes 1 behind write 1\n");
+    let second = "  1. t1: w2 :=rel 1   writes 1 behind write 1\n";
+    folder.with("said.new", second);
+    let (status, out, err) = run(&["serve", &calls]);
+    assert!(status == 0 && out.contains("1 across old.image: 2 steps (code 0); "), "{out}{err}");
+    folder.with("said.new", &second.replace("writes 1", "writes 2"));
+    folder.with("said", "  1. t2: r1 <- w2   reads 0 from write 1\n");
+    let (status, out, err) = run(&["serve", &calls]);
+    assert_eq!((status, out.as_str()), (2, ""));
+    let [said, after] = [file("said"), file("said.new")];
+    let told = [
+        format!("{calls}:2:10: {said}:1: t2 is at `r1 <-acq w2` here, the line says: r1 <- w2 reads 0 from write 1"),
+        format!("{calls}:3:10: {after}:1: `w2 :=rel 1` writes 1 behind write 1 here, the line says: writes 2 behind write 1"),
+    ];
+    assert!(told.iter().all(|line| err.lines().any(|other| other == line)), "{err}");
 }
 
 #[test]

@@ -114,10 +114,11 @@ fn through_pipes_and_as_json() {
     let (status, out, _) = told(fed(&["trim", "-", "-o", "/dev/null", "--json"], &SMALL));
     let size = "{\"bytes\":50,\"formulas\":2,\"lines\":1}";
     let want = format!(
-        "{{\"file\":\"standard input\",\"accepted\":true,\"fields\":[0,0,0,0,0,0,0,0,1],\"before\":{size},\
-         \"after\":{size},\"trimmer\":\"{}\",\"judge\":\"{}\"}}\n",
-        trimmer(),
-        judge()
+        "{{\"version\":1,\"command\":\"trim\",\"status\":0,\"file\":\"standard input\",\"accepted\":true,\
+         \"fields\":[0,0,0,0,0,0,0,0,1],\"words\":\"ACCEPTED: 1 obligation met\",\"judge\":\"{}\",\"class\":null,\
+         \"places\":[],\"before\":{size},\"after\":{size},\"trimmer\":\"{}\"}}\n",
+        judge(),
+        trimmer()
     );
     assert_eq!((status, out), (0, want));
 }

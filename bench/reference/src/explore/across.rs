@@ -1,6 +1,6 @@
 //! Runs across a handover: under the old code from every start state, then on under the new code.
 
-use super::search::{Bounds, Fault, Search};
+use super::search::{false_at, Bounds, Fault, Search};
 use crate::handover::Handover;
 use crate::machine::{State, Step};
 
@@ -25,24 +25,20 @@ pub struct BreakAcross {
 }
 
 /// Hands over in every state that the old code reaches, and evaluates the new assertions from there on. The bounds go
-/// for each code by itself, as does that of states.
-pub fn across(handover: &Handover, bounds: Bounds, most_states: usize) -> FoundAcross {
+/// for each code by itself; under the new code that of states counts those behind the ones handed over.
+pub fn across(handover: &Handover, bounds: Bounds) -> FoundAcross {
     let mut old = Search::new(&handover.old, bounds);
-    let mut all = old.exhaust(most_states);
-    let mapped: Vec<State> = old.nodes.iter().map(|node| handover.mapped(&node.state)).collect();
-    let mut new = Search::from(&handover.new, bounds, mapped.iter().cloned(), old.cut);
-    let (mut index, mut broken) = (0, None);
-    while index < new.nodes.len() && new.nodes.len() <= mapped.len() + most_states {
-        if let Some(Fault::Assertion { thread }) = new.false_at(index, &[]) {
-            let (start, second) = new.run_to(index);
-            let origin = mapped.iter().position(|state| *state == start).expect("handed over");
-            let (start, first) = old.run_to(origin);
-            broken = Some(BreakAcross { start, first, second, thread });
-            break;
-        }
-        new.expand(index);
-        index += 1;
-    }
-    all &= index == new.nodes.len() && !new.cut.any();
-    FoundAcross { states: (old.nodes.len(), index), all, broken }
+    old.exhaust();
+    let mapped: Vec<State> = (0..old.len()).map(|at| handover.mapped(&old.state(at))).collect();
+    let behind = Bounds { states: bounds.states.saturating_add(mapped.len()), ..bounds };
+    let mut new = Search::from(&handover.new, behind, mapped.iter().cloned(), old.cut);
+    let found = new.first(&|state| false_at(&handover.new, &[], state));
+    let broken = found.and_then(|(index, fault)| {
+        let Fault::Assertion { thread } = fault else { return None };
+        let (start, second) = new.run_to(index);
+        let origin = mapped.iter().position(|state| *state == start).expect("handed over");
+        let (start, first) = old.run_to(origin);
+        Some(BreakAcross { start, first, second, thread })
+    });
+    FoundAcross { states: (old.len(), new.len()), all: !new.cut.any(), broken }
 }

@@ -4,12 +4,14 @@ mod across;
 mod duties;
 mod search;
 mod show;
+mod store;
 pub mod truth;
 
 pub use across::{across, BreakAcross, FoundAcross};
 pub use duties::{find, seek, Run, Sought};
 pub use search::{explore, reachable, Bounds, Break, Cut, Fault, Found, Outcome};
 pub use show::describe;
+pub use store::ROOM;
 
 #[cfg(test)]
 mod tests;

@@ -1,10 +1,9 @@
 //! Breadth-first search over all runs, so that a breaking run found is a shortest one.
 
+use super::store::{Added, Store, ROOM};
 use super::truth::is_true;
 use crate::image::{Meeting, Program};
 use crate::machine::{take, State, Step};
-use std::collections::HashSet;
-use std::rc::Rc;
 
 /// How far to search.
 #[derive(Clone, Copy, Debug, PartialEq, Eq)]
@@ -15,6 +14,13 @@ pub struct Bounds {
     pub writes: usize,
     /// The most start states.
     pub starts: usize,
+    /// The most states.
+    pub states: usize,
+}
+
+impl Bounds {
+    /// How far to search if nothing else is asked.
+    pub const DEFAULT: Bounds = Bounds { steps: 24, writes: 6, starts: 4096, states: 2_000_000 };
 }
 
 /// What a search has found.
@@ -31,11 +37,28 @@ pub struct Cut {
     pub steps: bool,
     pub writes: bool,
     pub starts: bool,
+    pub states: bool,
+    /// No bound that was asked for: the room for states is used up.
+    pub room: bool,
 }
 
 impl Cut {
     pub fn any(&self) -> bool {
-        self.steps || self.writes || self.starts
+        self.steps || self.writes || self.starts || self.states || self.room
+    }
+}
+
+impl std::fmt::Display for Cut {
+    fn fmt(&self, out: &mut std::fmt::Formatter) -> std::fmt::Result {
+        let bounds = [
+            (self.steps, "--steps"),
+            (self.writes, "--writes"),
+            (self.starts, "--starts"),
+            (self.states, "--states"),
+            (self.room, "the room for states"),
+        ];
+        let names = bounds.iter().filter(|(cut, _)| *cut).map(|(_, name)| *name);
+        write!(out, "cut by {}", names.collect::<Vec<&str>>().join(", "))
     }
 }
 
@@ -65,39 +88,58 @@ pub enum Fault {
     Claim(Meeting),
 }
 
-/// A state that was reached, and how.
-pub(super) struct Node {
-    pub(super) state: Rc<State>,
-    pub(super) depth: usize,
-    /// The node before and the step from it; none for a start state.
-    origin: Option<(usize, Step)>,
+/// How a state was reached.
+struct Node {
+    depth: u32,
+    /// The state before, itself for a start state, and the step from it.
+    before: u32,
+    thread: u8,
+    position: u8,
 }
 
 pub(super) struct Search<'a> {
     program: &'a Program,
     pub(super) bounds: Bounds,
     /// All states reached, in the order of the steps that lead to them.
-    pub(super) nodes: Vec<Node>,
-    known: HashSet<Rc<State>>,
-    /// Whether a bound kept some step from being tried.
+    states: Store,
+    nodes: Vec<Node>,
+    /// Which bounds kept some state from being reached.
     pub(super) cut: Cut,
+    /// Every run of up to so many steps is there, as far as the other bounds let it.
+    pub(super) steps: usize,
+    /// Whether a state was left out for want of room.
+    is_full: bool,
 }
 
 /// Evaluates each thread's assertion at its point, and each claim, in every state reached.
 pub fn explore(program: &Program, claims: &[Meeting], bounds: Bounds) -> Found {
     let mut search = Search::new(program, bounds);
-    let outcome = match search.run(claims) {
-        Some(broken) => Outcome::Breaks(broken),
+    let outcome = match search.first(&|state| false_at(program, claims, state)) {
+        Some((index, fault)) => {
+            let (start, run) = search.run_to(index);
+            Outcome::Breaks(Break { start, run, fault })
+        }
         None => Outcome::Holds { all: !search.cut.any() },
     };
-    Found { states: search.nodes.len(), cut: search.cut, outcome }
+    Found { states: search.len(), cut: search.cut, outcome }
 }
 
 /// Every state reached, whatever the outline says.
-pub fn reachable(program: &Program, bounds: Bounds) -> Vec<Rc<State>> {
+pub fn reachable(program: &Program, bounds: Bounds) -> Vec<State> {
     let mut search = Search::new(program, bounds);
-    search.exhaust(usize::MAX);
-    search.nodes.into_iter().map(|node| node.state).collect()
+    search.exhaust();
+    (0..search.len()).map(|index| search.state(index)).collect()
+}
+
+/// The first thread whose assertion at its point is false in a state, else the first claim that is.
+pub(super) fn false_at(program: &Program, claims: &[Meeting], state: &State) -> Option<Fault> {
+    let mut places = (1..).zip(state.points.iter().copied());
+    let broken = |&(thread, point): &(u8, u8)| {
+        !is_true(program.assertion(thread, point), state, &program.header)
+    };
+    let assertion = places.find(broken).map(|(thread, _)| Fault::Assertion { thread });
+    let met = || claims.iter().find(|meeting| state.has_meeting(meeting));
+    assertion.or_else(|| met().copied().map(Fault::Claim))
 }
 
 impl<'a> Search<'a> {
@@ -115,79 +157,78 @@ impl<'a> Search<'a> {
         reached: impl IntoIterator<Item = State>,
         cut: Cut,
     ) -> Search<'a> {
-        let (nodes, known) = (Vec::new(), HashSet::new());
-        let mut search = Search { program, bounds, nodes, known, cut };
+        let (states, nodes, steps) = (Store::new(ROOM), Vec::new(), bounds.steps);
+        let mut search = Search { program, bounds, states, nodes, cut, steps, is_full: false };
         for state in reached {
-            search.add(state, 0, None);
+            let before = search.len() as u32;
+            search.add(&state, Node { depth: 0, before, thread: 0, position: 0 });
         }
         search
     }
 
-    /// Visits states in the order of their distance from a start state.
-    fn run(&mut self, claims: &[Meeting]) -> Option<Break> {
+    /// How many states were reached.
+    pub(super) fn len(&self) -> usize {
+        self.nodes.len()
+    }
+
+    pub(super) fn state(&self, index: usize) -> State {
+        self.states.state(index)
+    }
+
+    /// Visits states in the order of their distance from a start state, up to the first of which `sought` says something.
+    pub(super) fn first<T>(&mut self, sought: &dyn Fn(&State) -> Option<T>) -> Option<(usize, T)> {
         let mut index = 0;
-        while index < self.nodes.len() {
-            if let Some(fault) = self.false_at(index, claims) {
-                let (start, run) = self.run_to(index);
-                return Some(Break { start, run, fault });
+        while index < self.len() {
+            let state = self.state(index);
+            if let Some(found) = sought(&state) {
+                return Some((index, found));
             }
-            self.expand(index);
+            self.expand(index, &state);
             index += 1;
         }
         None
     }
 
-    /// Visits states, whatever the outline says, while they are not more than `most`; says whether all were visited.
-    pub(super) fn exhaust(&mut self, most: usize) -> bool {
-        let mut index = 0;
-        while index < self.nodes.len() && self.nodes.len() <= most {
-            self.expand(index);
-            index += 1;
-        }
-        index == self.nodes.len()
+    /// Visits all states, whatever the outline says.
+    pub(super) fn exhaust(&mut self) {
+        self.first::<()>(&|_| None);
     }
 
-    /// Adds a state unless a bound forbids it, which is noted.
-    pub(super) fn add_within(&mut self, next: State, depth: usize, origin: (usize, Step)) {
-        let steps = depth > self.bounds.steps;
-        let writes = longest_row(&next) > self.bounds.writes;
-        self.cut.steps |= steps;
-        self.cut.writes |= writes;
-        if !steps && !writes {
-            self.add(next, depth, Some(origin));
+    /// Adds the states that one step more leads to, within the bounds. Once no further state is kept there is no use in it.
+    fn expand(&mut self, index: usize, state: &State) {
+        if self.is_full {
+            return;
+        }
+        for (step, next) in steps_from(self.program, state) {
+            self.add_within(&next, index, step);
         }
     }
 
-    fn add(&mut self, state: State, depth: usize, origin: Option<(usize, Step)>) {
-        let state = Rc::new(state);
-        if self.known.insert(state.clone()) {
-            self.nodes.push(Node { state, depth, origin });
+    /// Adds a state to which a step leads, unless it is known or a bound forbids it, which is noted.
+    pub(super) fn add_within(&mut self, next: &State, before: usize, step: Step) {
+        let depth = self.nodes[before].depth + 1;
+        let steps = depth as usize > self.bounds.steps;
+        let writes = longest_row(next) > self.bounds.writes;
+        if writes || steps {
+            self.cut.writes |= writes;
+            // A state that is known already is not left out by the bound of steps.
+            self.cut.steps |= !writes && !self.states.knows(next);
+            return;
         }
+        let (thread, position) = (step.thread, step.position as u8);
+        self.add(next, Node { depth, before: before as u32, thread, position });
     }
 
-    /// The first thread whose assertion at its point is false in a state, else the first claim that is.
-    pub(super) fn false_at(&self, index: usize, claims: &[Meeting]) -> Option<Fault> {
-        let state = &self.nodes[index].state;
-        let mut places = (1..).zip(state.points.iter().copied());
-        let broken = |&(thread, point): &(u8, u8)| {
-            !is_true(self.program.assertion(thread, point), state, &self.program.header)
-        };
-        let assertion = places.find(broken).map(|(thread, _)| Fault::Assertion { thread });
-        let met = || claims.iter().find(|meeting| state.has_meeting(meeting));
-        assertion.or_else(|| met().copied().map(Fault::Claim))
-    }
-
-    /// Adds the states that one step more leads to, within the bounds.
-    pub(super) fn expand(&mut self, index: usize) {
-        let (state, depth) = (self.nodes[index].state.clone(), self.nodes[index].depth);
-        let positions = state.rows.iter().map(Vec::len).max().unwrap_or(1);
-        for thread in 1..=state.points.len() as u8 {
-            for position in 0..positions {
-                let step = Step { thread, position };
-                let Some(next) = take(&self.program.threads, &state, step) else {
-                    continue;
-                };
-                self.add_within(next, depth + 1, (index, step));
+    fn add(&mut self, state: &State, node: Node) {
+        match self.states.add(state, self.bounds.states) {
+            Added::New => self.nodes.push(node),
+            Added::Known => {}
+            Added::NoRoom => {
+                let most = self.len() >= self.bounds.states;
+                self.cut.states |= most;
+                self.cut.room |= !most;
+                self.is_full = true;
+                self.steps = self.steps.min((node.depth as usize).saturating_sub(1));
             }
         }
     }
@@ -195,14 +236,25 @@ impl<'a> Search<'a> {
     /// The start state and the steps that lead from it to a node.
     pub(super) fn run_to(&self, index: usize) -> (State, Vec<Step>) {
         let mut run = Vec::new();
-        let mut node = &self.nodes[index];
-        while let Some((before, step)) = node.origin {
-            run.push(step);
-            node = &self.nodes[before];
+        let mut at = index;
+        while self.nodes[at].depth > 0 {
+            let node = &self.nodes[at];
+            run.push(Step { thread: node.thread, position: node.position.into() });
+            at = node.before as usize;
         }
         run.reverse();
-        (State::clone(&node.state), run)
+        (self.state(at), run)
     }
+}
+
+/// Every step that the machine allows, with the state it leads to.
+pub(super) fn steps_from(program: &Program, state: &State) -> Vec<(Step, State)> {
+    let positions = state.rows.iter().map(Vec::len).max().unwrap_or(1);
+    let threads = 1..=state.points.len() as u8;
+    let steps = threads
+        .flat_map(|thread| (0..positions).map(move |position| Step { thread, position }))
+        .filter_map(|step| Some((step, take(&program.threads, state, step)?)));
+    steps.collect()
 }
 
 fn longest_row(state: &State) -> usize {

@@ -241,15 +241,15 @@ fn points_are_mapped_and_all_else_stays() {
 
 #[test]
 fn runs_across() {
-    let bounds = Bounds { steps: 8, writes: 4, starts: 100 };
+    let bounds = Bounds { steps: 8, writes: 4, starts: 100, states: 1000 };
     let permitted = permitted(&old(), &new(), &TABLE).expect("permitted");
-    let found = across(&permitted, bounds, 1000);
+    let found = across(&permitted, bounds);
     assert_eq!((found.states, found.all, found.broken), ((24, 32), true, None));
-    let few = across(&permitted, bounds, 10);
+    let few = across(&permitted, Bounds { states: 10, ..bounds });
     assert!(!few.all && few.broken.is_none());
     // From old point 1 to the new last point: there register 1 should be 7.
     let wrong = Handover { points: vec![vec![0, 1, 0], vec![0]], ..permitted };
-    let broken = across(&wrong, bounds, 1000).broken.expect("false");
+    let broken = across(&wrong, bounds).broken.expect("false");
     assert_eq!(broken.first, [Step { thread: 1, position: 0 }]);
     assert_eq!((broken.second, broken.thread), (vec![], 1));
 }

@@ -245,7 +245,7 @@ fn the_program_runs_as_before() {
     let [before, after] = [image.clone(), trim_twice(&image)]
         .map(|bytes| decode(&bytes).expect("an image in order").program);
     assert_eq!(before, after);
-    let found = explore(&after, &[], Bounds { steps: 6, writes: 3, starts: 8 });
+    let found = explore(&after, &[], Bounds { steps: 6, writes: 3, starts: 8, states: 100_000 });
     assert_eq!(found.outcome, Outcome::Holds { all: true });
 }
 

@@ -12,7 +12,7 @@ use reference::image::{Access, Header, Instruction, Note, Program, Thread};
 use reference::machine::{take, State, Step};
 use std::rc::Rc;
 
-const BOUNDS: Bounds = Bounds { steps: 3, writes: 4, starts: 4096 };
+const BOUNDS: Bounds = Bounds { steps: 3, writes: 4, starts: 4096, states: usize::MAX };
 
 /// Word 1 starts at 1, word 2 at 0. Thread 1 owns both registers.
 fn program(action: Instruction) -> Program {

@@ -39,7 +39,11 @@ mod tests {
     #[test]
     fn outlines_hold_in_all_states() {
         for plan in [message_passing(), two_writes()] {
-            let found = explore(&plan.program, &[], Bounds { steps: 20, writes: 5, starts: 4096 });
+            let found = explore(
+                &plan.program,
+                &[],
+                Bounds { steps: 20, writes: 5, starts: 4096, states: 2_000_000 },
+            );
             assert_eq!(found.outcome, Outcome::Holds { all: true });
         }
     }

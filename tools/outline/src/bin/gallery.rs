@@ -1,5 +1,6 @@
 //! The program `gallery`: prints the tables of `examples/README.md`, or writes them into it.
 
+use outline::command::output::replaced;
 use outline::gallery::times::{self, measured};
 use outline::gallery::{page, tables};
 use std::path::Path;
@@ -32,5 +33,5 @@ fn write(folder: &Path) -> Result<(), String> {
     let told = |e: std::io::Error| format!("{}: {e}", path.display());
     let text = std::fs::read_to_string(&path).map_err(told)?;
     let text = times::page(&page(&text, folder)?, folder)?;
-    std::fs::write(&path, text).map_err(told)
+    replaced(&path, text.as_bytes())
 }

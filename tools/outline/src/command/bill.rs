@@ -1,6 +1,6 @@
 //! `bill`: what checks cost by a tariff, by thread and together.
 
-use crate::command::check::gather;
+use crate::command::gather::{gathered, Gathered};
 use crate::command::input::{called, mistakes, read, Input, Subject};
 use crate::command::judge::judge;
 use crate::command::options::Options;
@@ -10,7 +10,6 @@ use crate::text::parse_tariff::tariff;
 use reference::bill::{Bill, Tariff, NOT_ACCEPTED};
 use reference::checker::accepted;
 use reference::desks::CALLERS;
-use std::path::Path;
 
 /// One file: its bill with the names of its threads and a word about it, or why there is none.
 type Billed = Result<(Bill, Vec<String>, String), String>;
@@ -18,23 +17,23 @@ type Billed = Result<(Bill, Vec<String>, String), String>;
 pub fn run(args: &[&str]) -> Done {
     let options = Options::read(args, &["--tariff", "--billed", "--json"])?;
     let prices = prices(&options)?;
-    let mut files = Vec::new();
-    for file in &options.files {
-        gather(Path::new(file), true, &mut files)?;
-    }
+    let files = gathered(&options.files);
     if files.is_empty() {
         return Err("no file to bill; see outline --help".into());
     }
     let mut service = one_biller(options.billed.unwrap_or(0));
     let (mut out, mut worst, mut sum) = (String::new(), Status::Accepted, 0);
-    for file in &files {
-        let billed = bill_one(file, &prices, &mut service);
+    for Gathered { file, fault } in &files {
+        let billed = match fault {
+            Some(fault) => Err(fault.clone()),
+            None => bill_one(file, &prices, &mut service),
+        };
         if let Ok((bill, ..)) = &billed {
             sum += u64::from(bill.cents);
         }
         worst = worst.max(status(&billed));
-        out += &if options.json { as_json(file, &billed) } else { as_words(file, &billed) };
-        out.push('\n');
+        let json = options.json;
+        out += &if json { as_json(file, &billed) } else { as_words(file, &billed) + "\n" };
     }
     if !options.json {
         let all = if files.len() > 1 {
@@ -136,7 +135,10 @@ fn as_json(file: &str, billed: &Billed) -> String {
             all.push(("words", json::text(said)));
             all.push(("biller", json::text(BILLER)));
         }
-        Err(text) => all.push(("error", json::text(text))),
+        Err(text) => {
+            all.push(("error", json::text(text)));
+            all.push(("mistakes", json::mistakes(&[file], text)));
+        }
     }
-    json::object(&all)
+    json::answer("bill", status(billed), &all)
 }

@@ -2,11 +2,14 @@
 
 use crate::build::{build_with, Built, Goal, Open};
 use crate::command::input::{called, mistake, mistakes, read, Input};
+use crate::command::json::{self, Member};
 use crate::command::judge::{judge, JUDGE};
-use crate::command::options::Options;
+use crate::command::options::{Options, BOUND_OPTIONS};
+use crate::command::output::Kind;
 use crate::command::progress::Progress;
 use crate::command::truth::Looked;
-use crate::command::{interrupt, json, print, words, write, Done, Status};
+use crate::command::{complain, interrupt, print, words, Done, Status};
+use crate::diagnosis::BOUNDS;
 use crate::image::to_bytes;
 use crate::search::budget::TRIES;
 use crate::search::kept::Kept;
@@ -45,31 +48,35 @@ impl Told {
 }
 
 pub fn run(args: &[&str]) -> Done {
-    let options =
-        Options::read(args, &["-o", "--partial", "--all", "--all-lines", "--at", "--json"])?;
+    let own = ["-o", "--partial", "--all", "--all-lines", "--at", "--json"];
+    let options = Options::read(args, &[&own[..], &BOUND_OPTIONS].concat())?;
     let file = options.file()?;
-    let Some(target) = &options.target else {
-        return Err("`-o FILE` is wanted; see outline --help".into());
-    };
+    let target = options.target(Kind::Image)?;
     interrupt::watch();
-    let Input::Text(text) = read(file)? else {
-        return Err(format!("{}: this is an image, not an outline", called(file)));
-    };
+    let text = text_of(file)?;
     let source = parse_all(&text).map_err(|all| mistakes(file, &text, &all))?;
     let told = Told::of(&options, &source)?;
     let kept = if options.all_lines { Kept::All } else { Kept::Needed };
     let built = watched(&source, kept).map_err(|e| mistake(file, &text, &e))?;
-    let mut said: Vec<String> = built.failed.iter().map(|e| mistake(file, &text, e)).collect();
-    said.extend(open_ones(&source, &built, &told));
+    let looked =
+        (!built.open.is_empty()).then(|| Looked::at(&source, &built, options.bounds(BOUNDS)));
+    let mut said =
+        looked.as_ref().map_or(Vec::new(), |looked| open_ones(&source, looked, &built, &told));
+    let failed: Vec<String> = built.failed.iter().map(|e| mistake(file, &text, e)).collect();
+    said.extend(failed.iter().cloned());
+    let mut members = members(file, &source, &built, looked.as_ref(), &failed);
     let stays = built.untried > 0 || !built.open.is_empty() || !built.failed.is_empty();
     if stays && !options.partial {
         said.push(nothing_written(called(file), &built));
-        return tell(&options, &said, &[], None).map(|()| Status::Refused);
+        members.push(("accepted", false.to_string()));
+        let text = Texts { members, open: &said, written: &[] };
+        return tell(&options, Status::Refused, text);
     }
     let bytes = to_bytes(&built.image).map_err(|e| format!("{}: {e}", called(file)))?;
     let verdict = judge(&bytes);
     agrees(&source, &built, &verdict)?;
-    write(target, &bytes)?;
+    target.write(&bytes)?;
+    let target = target.name();
     let mut result = vec![written(target, &built, bytes.len())];
     if bytes.len() > limits::PROGRAM_BYTES {
         let most = limits::PROGRAM_BYTES;
@@ -77,12 +84,24 @@ pub fn run(args: &[&str]) -> Done {
             "{target}: the library judges it; the program `verdict` reads at most {most} bytes"
         ));
     }
-    let claims = built.image.claims.len();
-    result.push(format!("{}   ({JUDGE})", words::verdict(&verdict, Some(&source), claims)));
-    tell(&options, &said, &result, Some(&verdict))?;
+    let words = words::verdict(&verdict, Some(&source), built.image.claims.len());
+    result.push(format!("{words}   ({JUDGE})"));
+    members.extend(json::verdict(&verdict, &words, Some(&source)));
     // Asked for with --partial, an image with open obligations is what was wanted.
     let wanted = verdict.code == 0 || options.partial;
-    Ok(if wanted { Status::Accepted } else { Status::Refused })
+    let status = if wanted { Status::Accepted } else { Status::Refused };
+    tell(&options, status, Texts { members, open: &said, written: &result })
+}
+
+/// The text of an outline.
+fn text_of(file: &str) -> Result<String, String> {
+    match read(file)? {
+        Input::Text(text) => Ok(text),
+        Input::Image(bytes) if bytes.is_empty() => {
+            Err(format!("{}: the file is empty", called(file)))
+        }
+        Input::Image(_) => Err(format!("{}: this is an image, not an outline", called(file))),
+    }
 }
 
 /// Builds with progress on a terminal; an interrupt leaves the rest untried.
@@ -114,31 +133,55 @@ fn nothing_written(file: &str, built: &Built) -> String {
     format!("{file}: {untried}{failed}{all}; no image is written")
 }
 
+/// What is told: members of JSON, what stays open, and what was written.
+struct Texts<'a> {
+    members: Vec<Member>,
+    open: &'a [String],
+    written: &'a [String],
+}
+
 /// What stays open goes to standard error, what was written to standard output, unless the image goes there.
-fn tell(
-    options: &Options,
-    open: &[String],
-    written: &[String],
-    verdict: Option<&Verdict>,
-) -> Result<(), String> {
+fn tell(options: &Options, status: Status, texts: Texts) -> Done {
     let to_file = options.target.as_deref() != Some("-");
     let lines = |said: &[String]| said.iter().map(|s| format!("{s}\n")).collect::<String>();
-    let (mut out, mut problems) = (lines(written), lines(open));
+    let (mut out, mut problems) = (lines(texts.written), lines(texts.open));
     if options.json {
-        let accepted = verdict.is_some_and(|v| v.code == 0);
-        let mut all = vec![("accepted", accepted.to_string())];
-        all.extend(verdict.map(|v| ("fields", json::fields(v))));
-        all.push(("judge", json::text(JUDGE)));
-        all.push(("open", json::texts(open)));
-        all.push(("written", json::texts(written)));
-        (out, problems) = (json::object(&all) + "\n", String::new());
+        let mut all = texts.members;
+        all.push(("open", json::texts(texts.open)));
+        all.push(("written", json::texts(texts.written)));
+        (out, problems) = (json::answer("build", status, &all), String::new());
     }
-    eprint!("{problems}");
-    if to_file {
-        return print(out);
+    complain(problems);
+    match to_file {
+        true => print(out)?,
+        false => complain(out),
     }
-    eprint!("{out}");
-    Ok(())
+    Ok(status)
+}
+
+/// What JSON has of an outline: the answer, what stays open, and named steps that were not found.
+fn members(
+    file: &str,
+    source: &Source,
+    built: &Built,
+    looked: Option<&Looked>,
+    failed: &[String],
+) -> Vec<Member> {
+    let answer = looked.map_or("null".into(), |l| json::text(l.diagnosis.answer().key()));
+    let goal = |open: &Open| {
+        let text = report::open(source, open, false);
+        let told = text.trim_end().trim_start_matches("open: ");
+        let mut all = json::goal(Some(source), &open.goal, told);
+        let finding = looked.map_or("null".into(), |looked| json::text(looked.key(&open.goal)));
+        all.push(("finding", finding));
+        json::object(&all)
+    };
+    vec![
+        ("file", json::text(called(file))),
+        ("answer", answer),
+        ("goals", json::list(built.open.iter().map(goal))),
+        ("mistakes", json::mistakes(&[file], &failed.join("\n"))),
+    ]
 }
 
 /// A certificate made by search serves all but what is open, or this tool has a mistake.
@@ -173,19 +216,18 @@ fn written(target: &str, built: &Built, bytes: usize) -> String {
     )
 }
 
-/// What stays open, each with what the machine says of it.
-fn open_ones(source: &Source, built: &Built, told: &Told) -> Vec<String> {
-    if built.open.is_empty() {
-        return Vec::new();
-    }
-    let looked = Looked::at(source, &built.open);
-    let worded = |(n, open): (usize, &Open)| {
+/// Whether the program is wrong or its proof, then what stays open, each with what the machine says of it: first what
+/// is false, then what is not provable, then what was only not found.
+fn open_ones(source: &Source, looked: &Looked, built: &Built, told: &Told) -> Vec<String> {
+    let mut open: Vec<&Open> = built.open.iter().collect();
+    open.sort_by_key(|open| looked.rank(&open.goal));
+    let worded = |(n, open): (usize, &&Open)| {
         let in_full = told.in_full(n, &open.goal);
         let text = report::open(source, open, in_full);
         let (place, rest) = text.split_once('\n').expect("a line is told");
-        // Whether it is false comes first: then nothing else matters.
-        let text = format!("{place}\n{}{rest}", looked.told(source, open, n, in_full));
+        let text = format!("{place}\n{}{rest}", looked.told(open, in_full));
         text.trim_end().to_string()
     };
-    built.open.iter().enumerate().map(worded).collect()
+    let worded = open.iter().enumerate().map(worded);
+    [looked.answer()].into_iter().chain(worded).collect()
 }

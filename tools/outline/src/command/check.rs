@@ -1,37 +1,29 @@
 //! `check`: judges images and outlines, many at once.
 
+use crate::command::gather::{gathered, Gathered};
 use crate::command::input::Subject;
+use crate::command::json::{self, Member};
 use crate::command::judge::{judge, JUDGE};
 use crate::command::options::Options;
 use crate::command::progress::Progress;
 use crate::command::spread::spread;
-use crate::command::{json, print, words, Done, Status};
+use crate::command::{print, words, Done, Status};
 use reference::checker::Verdict;
-use std::path::Path;
 
 /// One file judged: the verdict with its words, or why there is none.
-type Judged = Result<(Verdict, String), String>;
+type Judged = Result<(Verdict, Vec<Member>, String), String>;
 
 pub fn run(words: &[&str]) -> Done {
     let options = Options::read(words, &["--json"])?;
-    let mut files = Vec::new();
-    for file in &options.files {
-        gather(Path::new(file), true, &mut files)?;
-    }
+    let files = gathered(&options.files);
     if files.is_empty() {
         return Err("no file to judge; see outline --help".into());
     }
     let judged = judge_all(&files);
     let mut out = String::new();
-    for (file, judged) in files.iter().zip(&judged) {
-        out += &if options.json { as_json(file, judged) } else { as_words(file, judged) };
-        out.push('\n');
+    for (Gathered { file, .. }, judged) in files.iter().zip(&judged) {
+        out += &if options.json { as_json(file, judged) } else { as_words(file, judged) + "\n" };
     }
-    let status = |j: &Judged| match j {
-        Ok((verdict, _)) if verdict.code == 0 => Status::Accepted,
-        Ok(_) => Status::Refused,
-        Err(_) => Status::Unusable,
-    };
     let count = |wanted: Status| judged.iter().filter(|j| status(j) == wanted).count();
     if files.len() > 1 && !options.json {
         let (yes, no) = (count(Status::Accepted), count(Status::Refused));
@@ -43,39 +35,39 @@ pub fn run(words: &[&str]) -> Done {
     Ok(judged.iter().map(status).max().expect("there is a file"))
 }
 
-/// The files of folders, by name; a file that is named itself is taken as it is.
-pub fn gather(path: &Path, named: bool, files: &mut Vec<String>) -> Result<(), String> {
-    if path.is_dir() {
-        let entries = std::fs::read_dir(path).and_then(|all| all.collect::<Result<Vec<_>, _>>());
-        let entries = entries.map_err(|e| format!("{}: {e}", path.display()))?;
-        let mut inner: Vec<_> = entries.into_iter().map(|e| e.path()).collect();
-        inner.sort();
-        return inner.iter().try_for_each(|p| gather(p, false, files));
-    }
-    let ours = path.extension().is_some_and(|e| e == "image" || e == "outline");
-    if named || ours {
-        files.push(path.to_string_lossy().into_owned());
-    }
-    Ok(())
-}
-
 /// All files, spread over the cores; answers stand in the order of the files.
-fn judge_all(files: &[String]) -> Vec<Judged> {
+fn judge_all(files: &[Gathered]) -> Vec<Judged> {
     let cores = std::thread::available_parallelism().map_or(1, |n| n.get());
     let progress = (files.len() > 1).then(Progress::on_terminal);
     let told = |done: usize| progress.iter().for_each(|line| line.at(done, files.len()));
-    spread(files, cores, |file| judge_one(file), told)
+    spread(files, cores, judge_one, told)
 }
 
-fn judge_one(file: &str) -> Judged {
-    let subject = Subject::of(file)?;
-    let verdict = judge(&subject.bytes);
-    Ok((verdict, words::verdict(&verdict, subject.source(), subject.claims())))
+/// Whatever happens with one file, the others are judged.
+fn judge_one(gathered: &Gathered) -> Judged {
+    if let Some(fault) = &gathered.fault {
+        return Err(fault.clone());
+    }
+    let judged = std::panic::catch_unwind(|| {
+        let subject = Subject::of(&gathered.file)?;
+        let verdict = judge(&subject.bytes);
+        let words = words::verdict(&verdict, subject.source(), subject.claims());
+        Ok((verdict, json::verdict(&verdict, &words, subject.source()), words))
+    });
+    judged.unwrap_or_else(|_| Err("mistake in this tool: it could not go on with this file".into()))
+}
+
+fn status(judged: &Judged) -> Status {
+    match judged {
+        Ok((verdict, ..)) if verdict.code == 0 => Status::Accepted,
+        Ok(_) => Status::Refused,
+        Err(_) => Status::Unusable,
+    }
 }
 
 fn as_words(file: &str, judged: &Judged) -> String {
     match judged {
-        Ok((verdict, words)) => format!("{file}: {words}\n  {verdict}   ({JUDGE})"),
+        Ok((verdict, _, words)) => format!("{file}: {words}\n  {verdict}   ({JUDGE})"),
         Err(text) => format!("{file}: NOT JUDGED: {text}"),
     }
 }
@@ -83,13 +75,11 @@ fn as_words(file: &str, judged: &Judged) -> String {
 fn as_json(file: &str, judged: &Judged) -> String {
     let mut all = vec![("file", json::text(file))];
     match judged {
-        Ok((verdict, words)) => {
-            all.push(("accepted", (verdict.code == 0).to_string()));
-            all.push(("fields", json::fields(verdict)));
-            all.push(("words", json::text(words)));
-            all.push(("judge", json::text(JUDGE)));
+        Ok((_, members, _)) => all.extend(members.iter().cloned()),
+        Err(text) => {
+            all.push(("error", json::text(text)));
+            all.push(("mistakes", json::mistakes(&[file], text)));
         }
-        Err(text) => all.push(("error", json::text(text))),
     }
-    json::object(&all)
+    json::answer("check", status(judged), &all)
 }

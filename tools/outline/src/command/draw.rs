@@ -1,82 +1,89 @@
 //! `draw`: a run as SVG, one that breaks the outline or one that has an outcome.
 
-use crate::command::explore::outcome_run;
+use crate::command::explore::{outcome_run, outcome_told};
+use crate::command::finding::Finding;
 use crate::command::input::called;
 use crate::command::judge::judge;
 use crate::command::options::Options;
-use crate::command::report::{bounds, Loaded};
-use crate::command::{json, print, write, Done, Status};
+use crate::command::output::Kind;
+use crate::command::report::Loaded;
+use crate::command::{complain, json, print, Done};
+use crate::diagnosis::BOUNDS;
 use crate::draw::{Ending, Picture};
 use crate::markup::Element;
-use crate::report::{picture, unbroken, Content};
-use crate::text::counted;
+use crate::report::{picture, Content};
+use reference::explore::Bounds;
 
 pub fn run(args: &[&str]) -> Done {
-    let allowed = ["-o", "--steps", "--writes", "--starts", "--outcome", "--json"];
+    let allowed = ["-o", "--steps", "--writes", "--starts", "--states", "--outcome", "--json"];
     let options = Options::read(args, &allowed)?;
     let file = options.file()?;
-    let Some(target) = &options.target else {
-        return Err("`-o FILE` is wanted; see outline --help".into());
-    };
+    let target = options.target(Kind::Drawing)?;
     let loaded = Loaded::of(file)?;
-    let to_break = options.outcome.is_none().then(|| bounds(&options));
+    let to_break = options.outcome.is_none().then(|| options.bounds(BOUNDS));
     let content = loaded.content(&judge(loaded.bytes()), to_break)?;
     let content = content.ok_or_else(|| format!("{}: no program to run", called(file)))?;
     let drawn = match &options.outcome {
         Some(outcome) => with_outcome(&options, &content, outcome)?,
         None => breaking(&content),
     };
-    let (text, svg) = match drawn {
-        Drawn::Nothing(text) => (text, None),
-        Drawn::Run(text, svg) => (text, Some(svg)),
-    };
-    if let Some(svg) = &svg {
-        write(target, (svg.written() + "\n").as_bytes())?;
+    if let Some(svg) = &drawn.svg {
+        target.write((svg.written() + "\n").as_bytes())?;
     }
-    tell(&options, target, &text, svg.is_some())?;
-    Ok(if svg.is_some() { Status::Refused } else { Status::Accepted })
+    tell(&options, target.name(), &drawn)?;
+    Ok(drawn.finding.status())
 }
 
-/// What there is to draw, with a word about it.
-enum Drawn {
-    Nothing(String),
-    Run(String, Element),
+/// What was found, in a line, and the drawing of a run.
+struct Drawn {
+    finding: Finding,
+    text: String,
+    svg: Option<Element>,
 }
 
-/// A run that breaks an obligation.
+impl Drawn {
+    fn nothing(finding: Finding, text: String) -> Drawn {
+        Drawn { finding, text, svg: None }
+    }
+
+    fn run(text: String, svg: Element) -> Drawn {
+        Drawn { finding: Finding::Happens, text, svg: Some(svg) }
+    }
+}
+
+/// The run that matters most among those that break something.
 fn breaking(content: &Content) -> Drawn {
-    match &content.sought {
-        None => Drawn::Nothing("accepted: no run breaks it".into()),
-        Some(Err(sought)) => Drawn::Nothing(unbroken(sought)),
-        Some(Ok(broken)) => {
-            let text = format!("a run of {} breaks it", counted(broken.run.steps.len(), "step"));
-            Drawn::Run(text, picture(content, broken).svg())
-        }
+    let Some(diagnosis) = &content.diagnosis else {
+        return Drawn::nothing(Finding::Never, "accepted: no run breaks it".into());
+    };
+    let text = content.telling(|told| told.sentence(diagnosis));
+    let text = format!("{}: {text}", diagnosis.answer().head());
+    match diagnosis.worst() {
+        Some(broken) => Drawn::run(text, picture(content, &broken).svg()),
+        None => Drawn::nothing(Finding::of(false, &diagnosis.reach().cut), text),
     }
 }
 
 /// A run at whose end the registers are as asked.
 fn with_outcome(options: &Options, content: &Content, outcome: &str) -> Result<Drawn, String> {
     let (program, names) = (&content.image.program, &content.words.names);
-    let sought = outcome_run(program, names, options.bounds(), outcome)?;
+    let sought = outcome_run(program, names, options.bounds(Bounds::DEFAULT), outcome)?;
+    let text = outcome_told(&sought, outcome);
     let Some(run) = &sought.runs[0] else {
-        let all = if sought.all { "these are all states" } else { "not all states" };
-        return Ok(Drawn::Nothing(format!(
-            "never: {outcome} (in {} states; {all})",
-            sought.states
-        )));
+        return Ok(Drawn::nothing(Finding::of_one(&sought), text));
     };
     let ending = Ending::Outcome(outcome.into());
-    let text = format!("happens: {outcome}, after {}", counted(run.steps.len(), "step"));
-    Ok(Drawn::Run(text, Picture { program, names, run, ending }.svg()))
+    Ok(Drawn::run(text, Picture { program, names, run, ending }.svg()))
 }
 
 /// What was drawn goes to standard output, unless the drawing goes there.
-fn tell(options: &Options, target: &str, text: &str, drawn: bool) -> Result<(), String> {
+fn tell(options: &Options, target: &str, drawn: &Drawn) -> Result<(), String> {
+    let (text, is_drawn) = (&drawn.text, drawn.svg.is_some());
     let line = if options.json {
-        let written = if drawn { json::text(target) } else { "null".into() };
-        json::object(&[("written", written), ("told", json::text(text))]) + "\n"
-    } else if drawn {
+        let written = if is_drawn { json::text(target) } else { "null".into() };
+        let all = [("written", written), ("told", json::text(text))];
+        json::answer("draw", drawn.finding.status(), &all)
+    } else if is_drawn {
         format!("{target}: {text}\n")
     } else {
         format!("nothing is drawn: {text}\n")
@@ -84,6 +91,6 @@ fn tell(options: &Options, target: &str, text: &str, drawn: bool) -> Result<(), 
     if target != "-" {
         return print(line);
     }
-    eprint!("{line}");
+    complain(line);
     Ok(())
 }

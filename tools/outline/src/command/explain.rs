@@ -1,38 +1,37 @@
 //! `explain`: each obligation and claim with its line, the line's rule, and its premises as a tree.
 
-use crate::command::input::Subject;
+use crate::command::input::{called, Subject};
 use crate::command::judge::{judge, JUDGE};
 use crate::command::options::Options;
 use crate::command::{json, print, words, Done, Status};
 use crate::image::{self, Image};
+use crate::judged::{is_accepted, judged, Goal};
 use crate::text::print::Names;
 use crate::text::{report, show};
-use reference::checker::obligations::duties;
 use reference::checker::rules::OF_PAIR;
+use reference::checker::{decode, Verdict};
 use std::collections::BTreeSet;
 use std::fmt::Write;
 
 pub fn run(args: &[&str]) -> Done {
     let options = Options::read(args, &["--json"])?;
-    let subject = Subject::of(options.file()?)?;
+    let file = options.file()?;
+    let subject = Subject::of(file)?;
     let verdict = judge(&subject.bytes);
     let said = words::verdict(&verdict, subject.source(), subject.claims());
     let status = if verdict.code == 0 { Status::Accepted } else { Status::Refused };
+    let mut all = vec![("file", json::text(called(file)))];
+    all.extend(json::verdict(&verdict, &said, subject.source()));
     let Ok(image) = image::read(&subject.bytes) else {
-        let all = [("fields", json::fields(&verdict)), ("words", json::text(&said))];
-        print(if options.json { json::object(&all) + "\n" } else { said + "\n" })?;
+        print(if options.json { json::answer("explain", status, &all) } else { said + "\n" })?;
         return Ok(status);
     };
-    let explained = Explained::of(&subject, &image);
+    let explained = Explained::of(&subject, &image, &verdict)?;
     let mut text = format!("{said}   ({JUDGE})\n{}", explained.text);
     if options.json {
-        let all = [
-            ("fields", json::fields(&verdict)),
-            ("words", json::text(&said)),
-            ("obligations", json::list(explained.obligations)),
-            ("claims", json::list(explained.claims)),
-        ];
-        text = json::object(&all) + "\n";
+        all.push(("obligations", json::list(explained.obligations)));
+        all.push(("claims", json::list(explained.claims)));
+        text = json::answer("explain", status, &all);
     }
     print(text)?;
     Ok(status)
@@ -46,39 +45,29 @@ struct Explained {
 }
 
 impl Explained {
-    fn of(subject: &Subject, image: &Image) -> Explained {
+    fn of(subject: &Subject, image: &Image, verdict: &Verdict) -> Result<Explained, String> {
         let (names, source) = (subject.names(&image.program), subject.source());
+        let decoded = decode(&subject.bytes).map_err(|_| "an image that is read is judged")?;
+        let judged = judged(&decoded);
+        let accepted = is_accepted(&judged, verdict)?;
         let mut told = BTreeSet::new();
-        let mut all =
-            Explained { text: String::new(), obligations: Vec::new(), claims: Vec::new() };
-        let numbered = duties(&image.program.threads).into_iter().zip(&image.written.obligations);
-        for (n, (duty, &line)) in (1..).zip(numbered) {
-            let place = report::duty(&names, source, &duty);
-            let tree = tree(image, &names, line, &mut told);
-            all.obligations.push(as_json("obligation", &place, line, &tree));
-            all.text += &as_text(n, &place, line, &tree);
+        let (mut text, mut obligations, mut claims) = (String::new(), Vec::new(), Vec::new());
+        for (n, judged) in (1..).zip(&judged) {
+            let standing = judged.standing(accepted);
+            let tree = tree(image, &names, judged.line, &mut told);
+            let (place, list) = match &judged.goal {
+                Goal::Duty(duty) => (report::duty(&names, source, duty), &mut obligations),
+                Goal::Claim(meeting) => (report::claim(&names, source, meeting), &mut claims),
+            };
+            let _ = write!(text, "\n{n}. {place}: {}\n{tree}", standing.told(judged.line));
+            let mut members = json::goal(source, &judged.goal, &place);
+            members.push(("standing", json::text(standing.key())));
+            members.push(("certificate_line", judged.line.to_string()));
+            members.push(("tree", json::text(&tree)));
+            list.push(json::object(&members));
         }
-        for (n, claim) in (all.obligations.len() + 1..).zip(&image.written.claims) {
-            let place = report::claim(&names, source, &claim.meeting);
-            let tree = tree(image, &names, claim.line, &mut told);
-            all.claims.push(as_json("claim", &place, claim.line, &tree));
-            all.text += &as_text(n, &place, claim.line, &tree);
-        }
-        all
+        Ok(Explained { text, obligations, claims })
     }
-}
-
-fn as_json(what: &str, place: &str, line: u16, tree: &str) -> String {
-    json::object(&[
-        (what, json::text(place)),
-        ("line", line.to_string()),
-        ("tree", json::text(tree)),
-    ])
-}
-
-fn as_text(number: usize, place: &str, line: u16, tree: &str) -> String {
-    let by = if line > 0 { format!("line {line}") } else { "no line".into() };
-    format!("\n{number}. {place}: {by}\n{tree}")
 }
 
 /// What a line rests on; nothing for line 0.

@@ -1,48 +1,70 @@
 //! `explore`: every run up to a bound; is an assertion or a claim false in one, can an outcome happen?
 
+use crate::command::finding::Finding;
 use crate::command::input::{called, mistakes, read, Input};
 use crate::command::options::Options;
-use crate::command::{json, print, Done, Status};
+use crate::command::{json, print, Done};
 use crate::text::parse_source::{parse_all, parse_test};
 use crate::text::print::Names;
+use crate::text::reach::{all, cut_by, not_all};
 use crate::text::{counted, run};
 use reference::checker::decode;
 use reference::explore::truth::violation;
-use reference::explore::{explore, find, Bounds, Break, Cut, Fault, Outcome, Run, Sought};
+use reference::explore::{explore, find, Bounds, Break, Cut, Fault, Found, Outcome, Run, Sought};
 use reference::formula::Assertion;
 use reference::image::{Meeting, Program};
 use reference::machine::{take, State, View};
 
-/// So many states are looked at for an outcome.
-const MOST_STATES: usize = 2_000_000;
-
 pub fn run(args: &[&str]) -> Done {
-    let allowed = ["--steps", "--writes", "--starts", "--claims", "--outcome", "--json"];
+    let allowed =
+        ["--steps", "--writes", "--starts", "--states", "--claims", "--outcome", "--json"];
     let options = Options::read(args, &allowed)?;
     let file = options.file()?;
+    if options.claims && options.outcome.is_some() {
+        return Err("`--claims` and `--outcome` are two questions: ask one".into());
+    }
     let subject = Subject::of(file)?;
-    let (said, status) = match &options.outcome {
-        Some(outcome) => can_happen(&options, &subject, outcome)?,
-        None if options.claims => claims_alone(&options, &subject),
-        None => outline(&options, &subject),
+    let bounds = options.bounds(Bounds::DEFAULT);
+    let answer = match &options.outcome {
+        Some(outcome) => can_happen(&subject, bounds, outcome)?,
+        None if options.claims && subject.claims.is_empty() => {
+            return Err(format!("{}: it makes no claim", called(file)));
+        }
+        None if options.claims => claims_alone(&subject, bounds),
+        None => outline(&subject, bounds),
     };
     if options.json {
-        let word = if status == Status::Accepted { "holds" } else { "false" };
-        let answer = if options.outcome.is_some() {
-            ["never", "happens"][usize::from(status == Status::Refused)]
-        } else {
-            word
-        };
-        let all = [
-            ("file", json::text(called(file))),
-            ("answer", json::text(answer)),
-            ("told", json::texts(&said)),
-        ];
-        print(json::object(&all) + "\n")?;
+        print(answer.json(file, &bounds))?;
     } else {
-        print(said.join("\n") + "\n")?;
+        print(answer.said.join("\n") + "\n")?;
     }
-    Ok(status)
+    Ok(answer.finding.status())
+}
+
+/// What is answered, in a word and in lines, and how many states were looked at.
+struct Answer {
+    finding: Finding,
+    word: &'static str,
+    said: Vec<String>,
+    states: usize,
+    cut: Cut,
+}
+
+impl Answer {
+    fn json(&self, file: &str, bounds: &Bounds) -> String {
+        let cut = cut_by(&self.cut, bounds).into_iter();
+        json::answer(
+            "explore",
+            self.finding.status(),
+            &[
+                ("file", json::text(called(file))),
+                ("answer", json::text(self.word)),
+                ("states", self.states.to_string()),
+                ("cut", json::list(cut.map(|(name, _)| json::text(name)))),
+                ("told", json::texts(&self.said)),
+            ],
+        )
+    }
 }
 
 /// What is run: a program with its outline and claims. No certificate is needed for it.
@@ -80,55 +102,59 @@ impl Subject {
         })
     }
 
-    /// Two threads at their points.
-    fn met(&self, meeting: &Meeting) -> String {
-        let Meeting { thread, point, other_thread, other_point } = *meeting;
-        let (one, other) = (self.names.thread(thread), self.names.thread(other_thread));
-        format!("{one} at point {point}, {other} at point {other_point}")
+    /// The claims, behind a word.
+    fn claimed(&self, word: &str) -> Vec<String> {
+        self.claims.iter().map(|meeting| format!("{word}: {}", self.names.both(meeting))).collect()
     }
 
-    /// The claims as they hold.
-    fn never(&self) -> impl Iterator<Item = String> + '_ {
-        self.claims.iter().map(|meeting| format!("never: {}", self.met(meeting)))
+    /// What is said of assertions and claims: a run, or else that there is none, as far as was looked.
+    fn truth(&self, run: Option<Vec<String>>, states: usize, cut: Cut, bounds: &Bounds) -> Answer {
+        let finding = Finding::of(run.is_some(), &cut);
+        let said = run.unwrap_or_else(|| match finding {
+            Finding::NotFound => {
+                let first =
+                    format!("not found: nothing is false in {}", not_all(states, &cut, bounds));
+                [vec![first], self.claimed("not met in these")].concat()
+            }
+            _ => [vec![format!("holds in {}", all(states))], self.claimed("never")].concat(),
+        });
+        Answer { finding, word: finding.of_truth(), said, states, cut }
     }
 }
 
 /// Is an assertion or a claim false in a run?
-fn outline(options: &Options, subject: &Subject) -> (Vec<String>, Status) {
-    let bounds = options.bounds();
-    let found = explore(&subject.program, &subject.claims, bounds);
-    let Break { start, run, fault } = match found.outcome {
-        Outcome::Holds { .. } => {
-            let seen = format!("holds in {} states, up to {} steps", found.states, bounds.steps);
-            let said = [seen].into_iter().chain(subject.never()).chain([reach(&found.cut)]);
-            return (said.collect(), Status::Accepted);
+fn outline(subject: &Subject, bounds: Bounds) -> Answer {
+    let Found { states, cut, outcome } = explore(&subject.program, &subject.claims, bounds);
+    let run = match outcome {
+        Outcome::Holds { .. } => None,
+        Outcome::Breaks(Break { start, run, fault }) => {
+            Some(breaking(subject, &Run { start, steps: run }, fault))
         }
-        Outcome::Breaks(broken) => broken,
     };
-    let run = Run { start, steps: run };
-    let said = match fault {
+    subject.truth(run, states, cut, &bounds)
+}
+
+/// A run that breaks the outline.
+fn breaking(subject: &Subject, run: &Run, fault: Fault) -> Vec<String> {
+    match fault {
         Fault::Assertion { thread } => {
-            let end = false_there(subject, &subject.end_of(&run), thread);
-            broken(subject, &run, "an assertion", end)
+            let end = false_there(subject, &subject.end_of(run), thread);
+            broken(subject, run, "an assertion", end)
         }
-        Fault::Claim(meeting) => broken_claim(subject, &run, &meeting),
-    };
-    (said, Status::Refused)
+        Fault::Claim(meeting) => broken_claim(subject, run, &meeting),
+    }
 }
 
 /// Is a claim false in a run, whatever the assertions say?
-fn claims_alone(options: &Options, subject: &Subject) -> (Vec<String>, Status) {
+fn claims_alone(subject: &Subject, bounds: Bounds) -> Answer {
     let in_one = |state: &State| subject.claims.iter().find(|meeting| state.has_meeting(meeting));
-    let wanted = |state: &State| in_one(state).is_some();
-    let sought = find(&subject.program, options.bounds(), MOST_STATES, &wanted);
-    let Some(run) = &sought.runs[0] else {
-        let seen = format!("no claim breaks in {}", counted(sought.states, "state"));
-        let said = [seen].into_iter().chain(subject.never()).chain([far(&sought)]);
-        return (said.collect(), Status::Accepted);
-    };
-    let state = subject.end_of(run);
-    let meeting = in_one(&state).expect("the run ends in a meeting");
-    (broken_claim(subject, run, meeting), Status::Refused)
+    let sought = find(&subject.program, bounds, &|state| in_one(state).is_some());
+    let run = sought.runs[0].as_ref().map(|run| {
+        let state = subject.end_of(run);
+        let meeting = in_one(&state).expect("the run ends in a meeting");
+        broken_claim(subject, run, meeting)
+    });
+    subject.truth(run, sought.states, sought.cut, &bounds)
 }
 
 /// A run that breaks something, and what is wrong at its end.
@@ -138,26 +164,8 @@ fn broken(subject: &Subject, run: &Run, what: &str, end: Vec<String>) -> Vec<Str
 }
 
 fn broken_claim(subject: &Subject, run: &Run, meeting: &Meeting) -> Vec<String> {
-    let end = format!("claimed never to happen: {}", subject.met(meeting));
+    let end = format!("claimed never to happen: {}", subject.names.both(meeting));
     broken(subject, run, "a claim", vec![end])
-}
-
-/// Which bound kept some run from being looked at.
-fn reach(cut: &Cut) -> String {
-    let bounds = [(cut.steps, "--steps"), (cut.writes, "--writes"), (cut.starts, "--starts")];
-    let cut: Vec<&str> = bounds.iter().filter(|(cut, _)| *cut).map(|(_, name)| *name).collect();
-    if cut.is_empty() {
-        return "these are all states".into();
-    }
-    format!("not all states: cut by {}", cut.join(", "))
-}
-
-/// How far a search has come.
-fn far(sought: &Sought) -> String {
-    match sought.all {
-        true => "these are all states".into(),
-        false => reach(&sought.cut),
-    }
 }
 
 /// The assertion that is false, and for what a thread should see the prospect that violates it.
@@ -165,8 +173,8 @@ fn false_there(subject: &Subject, state: &State, thread: u8) -> Vec<String> {
     let names = &subject.names;
     let point = state.points[usize::from(thread) - 1];
     let assertion = subject.program.assertion(thread, point);
-    let name = names.thread(thread);
-    let mut said = vec![format!("false: {name} at point {point}: {}", names.assertion(assertion))];
+    let at = names.at(thread, point);
+    let mut said = vec![format!("false: {at}: {}", names.assertion(assertion))];
     violated(names, state, assertion, &mut said);
     said
 }
@@ -196,20 +204,24 @@ fn view(names: &Names, state: &State, view: &View) -> String {
 }
 
 /// Can the test of registers be true when all threads are at their last points?
-fn can_happen(
-    options: &Options,
-    subject: &Subject,
-    outcome: &str,
-) -> Result<(Vec<String>, Status), String> {
-    let sought = outcome_run(&subject.program, &subject.names, options.bounds(), outcome)?;
-    let Some(run) = &sought.runs[0] else {
-        let seen = format!("never: {outcome} (in {} states)", sought.states);
-        return Ok((vec![seen, far(&sought)], Status::Accepted));
+fn can_happen(subject: &Subject, bounds: Bounds, outcome: &str) -> Result<Answer, String> {
+    let sought = outcome_run(&subject.program, &subject.names, bounds, outcome)?;
+    let finding = Finding::of_one(&sought);
+    let run = sought.runs[0].iter().flat_map(|run| subject.run(run));
+    let said = [outcome_told(&sought, outcome)].into_iter().chain(run).collect();
+    let Sought { states, cut, .. } = sought;
+    Ok(Answer { finding, word: finding.of_outcome(), said, states, cut })
+}
+
+/// What a search for an outcome comes to, in a line.
+pub fn outcome_told(sought: &Sought, outcome: &str) -> String {
+    let Sought { states, cut, bounds, .. } = sought;
+    let far = match &sought.runs[0] {
+        Some(run) => format!("after {}", counted(run.steps.len(), "step")),
+        None if cut.any() => format!("in {}", not_all(*states, cut, bounds)),
+        None => format!("in {}", all(*states)),
     };
-    let steps = counted(run.steps.len(), "step");
-    let mut said = vec![format!("happens: {outcome}, after {steps}")];
-    said.extend(subject.run(run));
-    Ok((said, Status::Refused))
+    format!("{}: {outcome}, {far}", Finding::of_one(sought).of_outcome())
 }
 
 /// Looks for a shortest run at whose end all threads are at their last points and the registers pass the test.
@@ -225,5 +237,5 @@ pub fn outcome_run(
         state.points.iter().zip(&program.threads).all(|(p, code)| usize::from(*p) == code.len())
     };
     let wanted = |state: &State| ended(state) && test.evaluate(&state.seen_at(View::default()));
-    Ok(find(program, bounds, MOST_STATES, &wanted))
+    Ok(find(program, bounds, &wanted))
 }

@@ -1,25 +1,23 @@
 //! `handover`: new code for old without a restart. Finds the table that permits it, or judges one that is there.
 
-use crate::command::input::{called, Subject};
+use crate::command::input::{called, read_bytes, Subject};
 use crate::command::judge::{judge, JUDGE};
 use crate::command::options::Options;
+use crate::command::output::{Kind, Prepared, Target};
 use crate::command::permit::{code, PERMIT};
-use crate::command::{json, print, words, write, Done, Status};
+use crate::command::{complain, json, print, words, Done, Status};
+use crate::diagnosis::BOUNDS;
 use crate::handover::{find, handover, Chosen, Found, Move, Open};
 use crate::image::to_bytes;
 use crate::text::print::Names;
 use crate::text::{counted, run};
 use reference::checker::decode;
 use reference::checker::rules::justified_lines;
-use reference::explore::{across, Bounds, BreakAcross, Run};
+use reference::explore::{across, BreakAcross, Run};
 use reference::handover::{entries, places, Entry, OUT_OF_RANGE, UNLIKE};
 use reference::image::written::Written;
 use reference::image::{Header, Image, Program};
 use reference::machine::{take, State};
-
-/// How far runs across a handover are looked at.
-const BOUNDS: Bounds = Bounds { steps: 12, writes: 6, starts: 64 };
-const MOST_STATES: usize = 30_000;
 
 /// What is told, and what the call comes to.
 struct Answer {
@@ -35,12 +33,13 @@ pub fn run(args: &[&str]) -> Done {
     let Some(table) = &options.table else {
         return Err("`--table FILE` is wanted; see outline --help".into());
     };
+    let targets = options.target.is_some().then(|| targets(&options, table)).transpose()?;
     let (old, new) = (Side::of(old)?, Side::of(new)?);
-    let answer = match (refused(&old).or_else(|| refused(&new)), &options.target) {
+    let answer = match (refused(&old).or_else(|| refused(&new)), &targets) {
         (Some(answer), _) => answer,
-        (None, Some(target)) => {
+        (None, Some(targets)) => {
             let [old, new] = [Code::of(&old), Code::of(&new)];
-            sought(&options, &old, &new, target, table)?
+            sought(&options, &old, &new, targets)?
         }
         (None, None) if !options.map.is_empty() => {
             return Err("`--map` is for a table that is sought: `-o FILE` is wanted".into());
@@ -49,6 +48,16 @@ pub fn run(args: &[&str]) -> Done {
     };
     tell(&options, &answer)?;
     Ok(if answer.code == 0 { Status::Accepted } else { Status::Refused })
+}
+
+/// The places for the image and the table, which are two.
+fn targets(options: &Options, table: &str) -> Result<[Target; 2], String> {
+    let inputs: Vec<&str> = options.files.iter().map(String::as_str).collect();
+    let targets = [options.target(Kind::Image)?, Target::of(table, Kind::Table, &inputs)?];
+    match targets[0].is(&targets[1]) {
+        true => Err(format!("{table}: the image and the table are two files")),
+        false => Ok(targets),
+    }
 }
 
 /// A file of the two.
@@ -158,8 +167,7 @@ fn sought(
     options: &Options,
     old: &Code,
     new: &Code,
-    target: &str,
-    table: &str,
+    [target, table]: &[Target; 2],
 ) -> Result<Answer, String> {
     if let Some(answer) = told_unlike(old, new) {
         return Ok(answer);
@@ -173,7 +181,7 @@ fn sought(
             said: open_ones(old, new, &found),
         });
     }
-    let bytes = to_bytes(&found.image).map_err(|e| format!("{target}: {e}"))?;
+    let bytes = to_bytes(&found.image).map_err(|e| format!("{}: {e}", target.name()))?;
     let lines = found.table();
     let (verdict, code) = (judge(&bytes), code(old.bytes, &bytes, &lines));
     if (verdict.code, code) != (0, 0) {
@@ -181,8 +189,9 @@ fn sought(
             "mistake in this tool: the verdict is {verdict}, the handover's code {code}"
         ));
     }
-    write(target, &bytes)?;
-    write(table, &lines)?;
+    let files = [target.prepared(&bytes)?, table.prepared(&lines)?];
+    files.into_iter().try_for_each(Prepared::put)?;
+    let (target, table) = (target.name(), table.name());
     let (formulas, all) = (found.image.formulas.len(), found.image.lines.len());
     let mut said =
         vec![format!("{target}: {} bytes, {formulas} formulas, {all} lines", bytes.len())];
@@ -231,7 +240,7 @@ fn open_ones(old: &Code, new: &Code, found: &Found) -> Vec<String> {
         said.extend(given_up.map(|tries| format!("  given up     after {tries} tries")));
     }
     let tried = handover(old.program(), new.program(), found);
-    let looked = across(&tried, BOUNDS, MOST_STATES);
+    let looked = across(&tried, BOUNDS);
     match &looked.broken {
         Some(broken) => {
             said.extend(false_run(old, new, &tried.mapped(&ended(old, broken)), broken))
@@ -265,8 +274,7 @@ fn false_run(old: &Code, new: &Code, mapped: &State, broken: &BreakAcross) -> Ve
     )];
     let before = Run { start: start.clone(), steps: first.clone() };
     said.extend(run::lines(old.program(), &old.names, &before));
-    let goes_on =
-        |(thread, point): (u8, &u8)| format!("{} at point {point}", new.names.thread(thread));
+    let goes_on = |(thread, point): (u8, &u8)| new.names.at(thread, *point);
     let all: Vec<String> = (1..).zip(&mapped.points).map(goes_on).collect();
     said.push(format!("     handover: {}", all.join(", ")));
     let after = Run { start: mapped.clone(), steps: second.clone() };
@@ -278,8 +286,8 @@ fn false_run(old: &Code, new: &Code, mapped: &State, broken: &BreakAcross) -> Ve
         take(threads, &state, *step).expect("a step of the run")
     });
     let point = end.points[usize::from(*thread) - 1];
-    let name = new.names.thread(*thread);
-    said.push(format!("false: {name} at point {point}: {}", new.assertion(*thread, point)));
+    let at = new.names.at(*thread, point);
+    said.push(format!("false: {at}: {}", new.assertion(*thread, point)));
     said
 }
 
@@ -288,7 +296,7 @@ fn judged(old: &Code, new: &Code, table: &str) -> Result<Answer, String> {
     if let Some(answer) = told_unlike(old, new) {
         return Ok(answer);
     }
-    let lines = std::fs::read(table).map_err(|e| format!("{table}: {e}"))?;
+    let lines = read_bytes(table)?;
     let code = code(old.bytes, new.bytes, &lines);
     let points = places(old.program()).count();
     let said = match code {
@@ -329,6 +337,7 @@ fn why(old: &Code, new: &Code, table: &[u8], code: u16) -> String {
 fn tell(options: &Options, answer: &Answer) -> Result<(), String> {
     let mut text = answer.said.join("\n") + "\n";
     if options.json {
+        let status = if answer.code == 0 { Status::Accepted } else { Status::Refused };
         let all = [
             ("permitted", (answer.code == 0).to_string()),
             ("code", answer.code.to_string()),
@@ -336,11 +345,11 @@ fn tell(options: &Options, answer: &Answer) -> Result<(), String> {
             ("handover", json::text(PERMIT)),
             ("judge", json::text(JUDGE)),
         ];
-        text = json::object(&all) + "\n";
+        text = json::answer("handover", status, &all);
     }
     let files = [options.target.as_deref(), options.table.as_deref()];
     if files.contains(&Some("-")) || (answer.code != 0 && !options.json) {
-        eprint!("{text}");
+        complain(text);
         return Ok(());
     }
     print(text)

@@ -37,6 +37,10 @@ mod linked {
 
 pub use linked::JUDGE;
 
+/// What `rt version` said when the archives of the proved checker were linked; none where the independent one judges.
+pub const KIT: Option<&str> =
+    if cfg!(feature = "proved") { option_env!("HIDOKPALU_KIT") } else { None };
+
 /// The verdict on an image.
 pub fn judge(image: &[u8]) -> Verdict {
     linked::verdict(image)

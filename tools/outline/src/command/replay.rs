@@ -1,13 +1,15 @@
 //! `replay`: the steps that a pad left, run on the machine of an accepted image.
 
-use crate::command::input::{called, mistakes, Subject};
+use crate::command::input::{called, mistake, mistakes, read_bytes, text_of, Subject};
 use crate::command::judge::judge;
 use crate::command::options::Options;
+use crate::command::output::Kind;
 use crate::command::replayer::{replay, REPLAYER};
-use crate::command::{json, print, words, write, Done, Status};
+use crate::command::{complain, json, print, words, Done, Status};
 use crate::draw::{Ending, Picture};
 use crate::markup::Element;
-use crate::text::parse_trace::{given, trace};
+use crate::text::compare::compared;
+use crate::text::parse_trace::{given, trace, Trace};
 use crate::text::print::Names;
 use crate::text::refusal::refusal;
 use crate::text::{counted, run};
@@ -18,7 +20,6 @@ use reference::machine::{State, Step};
 use reference::replay::{
     entry_bytes, replayed, start, Replay, ANSWER, MOST_WRITES, NOT_ACCEPTED, WRITE_BYTES,
 };
-use std::io::Read;
 
 /// A drawing has no more steps.
 const MOST_DRAWN: usize = 200;
@@ -31,23 +32,26 @@ pub fn run(args: &[&str]) -> Done {
     if file == "-" && trace_file == "-" {
         return Err("standard input is one file: the image or the trace".into());
     }
+    let target = options.target.is_some().then(|| options.target(Kind::Drawing)).transpose()?;
     let subject = Subject::of(file)?;
     let Some(image) = accepted(&subject.bytes) else {
         return refused(&options, file, &subject);
     };
     let names = subject.names(&image.program);
-    let call = Call {
-        trace: trace_bytes(trace_file, &names)?,
-        given: given_bytes(&options, &image.program, &names)?,
-        entries: options.entries.unwrap_or(MOST_WRITES),
-    };
+    let trace = read_trace(trace_file, &names)?;
+    let given = given_bytes(&options, &trace, &image.program, &names)?;
+    let first = start(&image.program.header, &given);
+    compared(&image.program, &names, &first, &trace)
+        .map_err(|differs| mistake(trace_file, "", &differs))?;
+    let entries = options.entries.unwrap_or(MOST_WRITES);
+    let call = Call { trace: trace.bytes, given, entries };
     let replayed = call.replayed(&subject.bytes, &image.program)?;
     let told = Told::of(&image.program, &names, &call, &replayed);
-    if let Some(target) = &options.target {
-        write(target, (told.drawn()?.written() + "\n").as_bytes())?;
+    if let Some(target) = target {
+        target.write((told.drawn()?.written() + "\n").as_bytes())?;
     }
-    let text = if options.json { told.json(file) } else { told.lines().join("\n") };
-    tell(&options, &(text + "\n"))?;
+    let text = if options.json { told.json(file) } else { told.lines().join("\n") + "\n" };
+    tell(&options, &text)?;
     Ok(if replayed.code == 0 { Status::Accepted } else { Status::Refused })
 }
 
@@ -73,28 +77,32 @@ impl Call {
     }
 }
 
-/// The bytes of a trace, or those that its text stands for. Threads are few, so bytes have one that no text has.
-pub fn trace_bytes(file: &str, names: &Names) -> Result<Vec<u8>, String> {
-    let mut bytes = Vec::new();
-    let read = match file {
-        "-" => std::io::stdin().lock().read_to_end(&mut bytes),
-        _ => std::fs::File::open(file).and_then(|mut f| f.read_to_end(&mut bytes)),
-    };
-    read.map_err(|e| format!("{}: {e}", called(file)))?;
-    if bytes.iter().any(|&byte| byte < b'\t') {
-        return Ok(bytes);
+/// A trace of bytes, or one that a text stands for. Threads are few, so bytes have one that no text has.
+pub fn read_trace(file: &str, names: &Names) -> Result<Trace, String> {
+    let bytes = read_bytes(file)?;
+    if bytes.is_empty() || bytes.iter().any(|&byte| byte < b'\t') {
+        return Ok(Trace { bytes, ..Trace::default() });
     }
-    let text = String::from_utf8(bytes).map_err(|_| format!("{}: no trace", called(file)))?;
+    let text = text_of(bytes).map_err(|fault| format!("{}{fault}", called(file)))?;
     trace(names, &text).map_err(|all| mistakes(file, &text, &all))
 }
 
-/// The bytes of registers, which have to be open.
-fn given_bytes(options: &Options, program: &Program, names: &Names) -> Result<Vec<u8>, String> {
-    let text = options.given.as_deref().unwrap_or_default();
-    let bytes = given(names, text).map_err(|text| format!("--given: {text}"))?;
+/// The bytes of registers, which have to be open: as asked, else as a run in words begins.
+fn given_bytes(
+    options: &Options,
+    trace: &Trace,
+    program: &Program,
+    names: &Names,
+) -> Result<Vec<u8>, String> {
+    let said = trace.start.as_ref().and_then(|said| said.text.strip_prefix("start: "));
+    let (from, text) = match (&options.given, said) {
+        (Some(given), _) => ("--given", given.as_str()),
+        (None, said) => ("start", said.unwrap_or_default()),
+    };
+    let bytes = given(names, text).map_err(|text| format!("{from}: {text}"))?;
     let closed = (1..).zip(&bytes).find(|(r, &byte)| byte != 0 && program.header.is_cleared(*r));
     match closed {
-        Some((r, _)) => Err(format!("--given: `{}` starts at 0", names.register(r))),
+        Some((r, _)) => Err(format!("{from}: `{}` starts at 0", names.register(r))),
         None => Ok(bytes),
     }
 }
@@ -127,9 +135,8 @@ impl<'a> Told<'a> {
     }
 
     fn points(&self) -> String {
-        let points = self.names.threads.iter().zip(&self.end.points);
-        let all: Vec<String> =
-            points.map(|(name, point)| format!("{name} at point {point}")).collect();
+        let points = (1..).zip(&self.end.points);
+        let all: Vec<String> = points.map(|(t, point)| self.names.at(t, *point)).collect();
         format!("     {}", all.join(", "))
     }
 
@@ -155,16 +162,21 @@ impl<'a> Told<'a> {
     fn json(&self, file: &str) -> String {
         let numbers = |all: &[u8]| json::list(all.iter().map(u8::to_string));
         let entry = |write| numbers(&entry_bytes(write));
-        json::object(&[
-            ("file", json::text(called(file))),
-            ("code", self.replay.code.to_string()),
-            ("steps", self.replay.steps.to_string()),
-            ("points", numbers(&self.replay.points)),
-            ("registers", numbers(&self.replay.registers)),
-            ("table", json::list(self.replay.writes.iter().map(entry))),
-            ("told", json::texts(&self.lines())),
-            ("replayer", json::text(REPLAYER)),
-        ])
+        let status = if self.replay.code == 0 { Status::Accepted } else { Status::Refused };
+        json::answer(
+            "replay",
+            status,
+            &[
+                ("file", json::text(called(file))),
+                ("code", self.replay.code.to_string()),
+                ("steps", self.replay.steps.to_string()),
+                ("points", numbers(&self.replay.points)),
+                ("registers", numbers(&self.replay.registers)),
+                ("table", json::list(self.replay.writes.iter().map(entry))),
+                ("told", json::texts(&self.lines())),
+                ("replayer", json::text(REPLAYER)),
+            ],
+        )
     }
 }
 
@@ -179,11 +191,11 @@ fn refused(options: &Options, file: &str, subject: &Subject) -> Done {
             ("told", json::texts(&[said])),
             ("replayer", json::text(REPLAYER)),
         ];
-        json::object(&all)
+        json::answer("replay", Status::Refused, &all)
     } else {
-        format!("{}: {said}   ({REPLAYER})", called(file))
+        format!("{}: {said}   ({REPLAYER})\n", called(file))
     };
-    print(text + "\n")?;
+    print(text)?;
     Ok(Status::Refused)
 }
 
@@ -192,6 +204,6 @@ fn tell(options: &Options, text: &str) -> Result<(), String> {
     if options.target.as_deref() != Some("-") {
         return print(text);
     }
-    eprint!("{text}");
+    complain(text);
     Ok(())
 }

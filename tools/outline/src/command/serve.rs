@@ -1,13 +1,15 @@
 //! `serve`: calls of several desks to one service, in their order.
 
-use crate::command::input::{called, mistakes, read, Input, Subject};
+use crate::command::input::{called, mistake, mistakes, read, read_bytes, Input, Subject};
 use crate::command::options::Options;
-use crate::command::replay::trace_bytes;
+use crate::command::output::{Kind, Target};
+use crate::command::replay::read_trace;
 use crate::command::service::{
     bill_for, open_service, serve_check, serve_handover, serve_replay, serve_replay_handover,
     serve_trim, INDEPENDENT, SERVER,
 };
-use crate::command::{bill, json, print, words, write, Done, Status};
+use crate::command::{bill, json, print, words, Done, Status};
+use crate::text::compare::compared;
 use crate::text::counted;
 use crate::text::lex::Mistake;
 use crate::text::parse_session::{session, Asked, Session, Wish};
@@ -15,8 +17,8 @@ use crate::text::print::Names;
 use reference::checker::verdict::{Verdict, RECORD_BYTES};
 use reference::checker::{accepted, decode};
 use reference::desks::{Run, CALLERS, NO_RIGHT, NO_SUCH_CALLER, SERVICE};
-use reference::handover::{Across, Traces};
-use reference::replay::{ANSWER, MOST_WRITES, WRITE_BYTES};
+use reference::handover::{permitted, Across, Traces};
+use reference::replay::{start, ANSWER, MOST_WRITES, WRITE_BYTES};
 use std::path::Path;
 
 /// What a call came to.
@@ -34,18 +36,16 @@ pub fn run(args: &[&str]) -> Done {
         Input::Image(_) => return Err(format!("{}: these are no calls", called(file))),
     };
     let session = session(&text).map_err(|all| mistakes(file, &text, &all))?;
-    // Files are named as seen from the folder of the text.
-    let folder = Path::new(file).parent().unwrap_or(Path::new(""));
-    let materials = materials(&session, folder).map_err(|all| mistakes(file, &text, &all))?;
+    let materials = materials(&session, file).map_err(|all| mistakes(file, &text, &all))?;
     let mut service = opened(&session);
     let (mut out, mut worst) = (String::new(), Status::Accepted);
     for (asked, material) in session.calls.iter().zip(&materials) {
-        let answered = answered(&mut service, asked, material, folder)?;
+        let answered = answered(&mut service, asked, material)?;
         if answered.code != 0 {
             worst = Status::Refused;
         }
-        out += &if options.json { as_json(asked, &answered) } else { as_words(asked, &answered) };
-        out.push('\n');
+        let json = options.json;
+        out += &if json { as_json(asked, &answered) } else { as_words(asked, &answered) + "\n" };
     }
     if !options.json {
         out += &format!("billed images: {}   ({})\n", numbers(&service), servers(&session));
@@ -87,8 +87,9 @@ fn opened(session: &Session) -> [u32; SERVICE] {
     service
 }
 
-/// What a call is about: an image, and for a handover the new one, the table, and traces.
+/// What a call is about: an image, and for a handover the new one, the table, and traces; and where it writes.
 struct Material {
+    target: Option<Target>,
     subject: Subject,
     new: Option<Subject>,
     table: Vec<u8>,
@@ -98,7 +99,7 @@ struct Material {
 impl Material {
     fn of(asked: &Asked, folder: &Path) -> Result<Material, String> {
         let place = |file: &str| folder.join(file).to_string_lossy().into_owned();
-        let bytes = |file: &str| std::fs::read(place(file)).map_err(|e| format!("{file}: {e}"));
+        let bytes = |file: &str| read_bytes(&place(file));
         let subject = Subject::of(&place(&asked.file))?;
         let (new, table, files) = match &asked.wish {
             Wish::Check | Wish::Trim(_) | Wish::Bill(_) => (None, None, &[][..]),
@@ -108,11 +109,34 @@ impl Material {
         };
         let new = new.map(|new| Subject::of(&place(new))).transpose()?;
         let table = table.map_or(Ok(Vec::new()), |table| bytes(table))?;
-        let names = names(&subject);
-        let traces = files.iter().map(|file| trace_bytes(&place(file), &names));
-        let traces = traces.collect::<Result<Vec<Vec<u8>>, String>>()?;
-        Ok(Material { subject, new, table, traces })
+        let files: Vec<String> = files.iter().map(|file| place(file)).collect();
+        let traces = traces(&subject, new.as_ref(), &table, &files)?;
+        Ok(Material { target: None, subject, new, table, traces })
     }
+}
+
+/// The traces of a call, whose words have to be what the machine does: the first under the old code, the second under the new
+/// one, each in its own code's names. What is not accepted or not permitted is not run, so its words are not looked at.
+fn traces(
+    old: &Subject,
+    new: Option<&Subject>,
+    table: &[u8],
+    files: &[String],
+) -> Result<Vec<Vec<u8>>, String> {
+    let mut state = accepted(&old.bytes).map(|image| start(&image.program.header, &[]));
+    let mut traces = Vec::new();
+    for (file, subject) in files.iter().zip([Some(old), new].into_iter().flatten()) {
+        let names = names(subject);
+        let trace = read_trace(file, &names)?;
+        if let (Some(first), Ok(image)) = (&state, decode(&subject.bytes)) {
+            let end = compared(&image.program, &names, first, &trace);
+            let end = end.map_err(|differs| mistake(file, "", &differs))?;
+            let next = new.and_then(|new| permitted(&old.bytes, &new.bytes, table).ok());
+            state = next.and_then(|handover| Some(handover.mapped(&end?)));
+        }
+        traces.push(trace.bytes);
+    }
+    Ok(traces)
 }
 
 /// The names that a trace may use, none if the image is not in order.
@@ -124,10 +148,19 @@ fn names(subject: &Subject) -> Names {
 }
 
 /// What the calls are about; each file that cannot be used is a mistake of its line, and then nothing is served.
-fn materials(session: &Session, folder: &Path) -> Result<Vec<Material>, Vec<Mistake>> {
-    let (mut materials, mut mistakes) = (Vec::new(), Vec::new());
+fn materials(session: &Session, file: &str) -> Result<Vec<Material>, Vec<Mistake>> {
+    // Files are named as seen from the folder of the text.
+    let folder = Path::new(file).parent().unwrap_or(Path::new(""));
+    let place = |file: &str| folder.join(file).to_string_lossy().into_owned();
+    let named = session.calls.iter().flat_map(Asked::files).map(place);
+    let inputs: Vec<String> = named.chain([file.to_string()]).collect();
+    let (mut materials, mut mistakes) = (Vec::<Material>::new(), Vec::new());
     for asked in &session.calls {
-        match Material::of(asked, folder) {
+        let made = Material::of(asked, folder).and_then(|material| {
+            let target = asked.target().map(|target| free(&place(target), &inputs, &materials));
+            Ok(Material { target: target.transpose()?, ..material })
+        });
+        match made {
             Ok(material) => materials.push(material),
             Err(text) => mistakes.push(Mistake { line: asked.place, text }),
         }
@@ -138,23 +171,28 @@ fn materials(session: &Session, folder: &Path) -> Result<Vec<Material>, Vec<Mist
     }
 }
 
-fn answered(
-    service: &mut [u32],
-    asked: &Asked,
-    material: &Material,
-    folder: &Path,
-) -> Result<Answered, String> {
+/// A place for a trimmed image that is no file of any call, and at which no call before it writes.
+fn free(name: &str, inputs: &[String], before: &[Material]) -> Result<Target, String> {
+    let inputs: Vec<&str> = inputs.iter().map(String::as_str).collect();
+    let target = Target::of(name, Kind::Image, &inputs)?;
+    let mut others = before.iter().filter_map(|material| material.target.as_ref());
+    match others.any(|other| other.is(&target)) {
+        true => Err(format!("{name}: a call before this one writes it")),
+        false => Ok(target),
+    }
+}
+
+fn answered(service: &mut [u32], asked: &Asked, material: &Material) -> Result<Answered, String> {
     let (caller, subject) = (asked.caller, &material.subject);
     let image = &subject.bytes[..];
     let new = material.new.as_ref().map_or(&[][..], |new| &new.bytes);
     let (code, words) = match &asked.wish {
         Wish::Check => checked(service, caller, subject),
-        Wish::Trim(target) => {
+        Wish::Trim(_) => {
             let mut out = vec![0; image.len()];
             let answer = serve_trim(service, caller, image, &mut out);
-            let target = target.as_ref().filter(|_| answer.code == 0);
-            if let Some(target) = target {
-                write(&folder.join(target).to_string_lossy(), &out[..answer.length])?;
+            if let Some(target) = material.target.as_ref().filter(|_| answer.code == 0) {
+                target.write(&out[..answer.length])?;
             }
             (answer.code, format!("{} bytes of {}", answer.length, image.len()))
         }
@@ -252,12 +290,17 @@ fn as_words(asked: &Asked, answered: &Answered) -> String {
 }
 
 fn as_json(asked: &Asked, answered: &Answered) -> String {
-    json::object(&[
-        ("caller", asked.caller.to_string()),
-        ("call", json::text(name(&asked.wish))),
-        ("file", json::text(&asked.file)),
-        ("code", answered.code.to_string()),
-        ("words", json::text(&answered.words)),
-        ("server", json::text(server(&asked.wish))),
-    ])
+    let status = if answered.code == 0 { Status::Accepted } else { Status::Refused };
+    json::answer(
+        "serve",
+        status,
+        &[
+            ("caller", asked.caller.to_string()),
+            ("call", json::text(name(&asked.wish))),
+            ("file", json::text(&asked.file)),
+            ("code", answered.code.to_string()),
+            ("words", json::text(&answered.words)),
+            ("server", json::text(server(&asked.wish))),
+        ],
+    )
 }

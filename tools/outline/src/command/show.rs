@@ -19,14 +19,10 @@ pub fn run(words: &[&str]) -> Done {
     };
     let status = if verdict.code == 0 { Status::Accepted } else { Status::Refused };
     if options.json {
-        let all = [
-            ("file", json::text(called(file))),
-            ("fields", json::fields(&verdict)),
-            ("words", json::text(&said)),
-            ("judge", json::text(JUDGE)),
-            ("text", json::text(&text)),
-        ];
-        print(json::object(&all) + "\n")?;
+        let mut all = vec![("file", json::text(called(file)))];
+        all.extend(json::verdict(&verdict, &said, subject.source()));
+        all.push(("text", json::text(&text)));
+        print(json::answer("show", status, &all))?;
         return Ok(status);
     }
     print(format!("# {said}\n# {verdict}   ({JUDGE})\n{text}"))?;

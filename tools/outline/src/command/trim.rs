@@ -3,8 +3,9 @@
 use crate::command::input::{called, Subject};
 use crate::command::judge::{judge, JUDGE};
 use crate::command::options::Options;
+use crate::command::output::Kind;
 use crate::command::trimmer::{trimmed, TRIMMER};
-use crate::command::{json, print, words, write, Done, Status};
+use crate::command::{complain, json, print, words, Done, Status};
 use crate::text::counted;
 use reference::checker::Verdict;
 use reference::image::written::Written;
@@ -12,9 +13,7 @@ use reference::image::written::Written;
 pub fn run(args: &[&str]) -> Done {
     let options = Options::read(args, &["-o", "--json"])?;
     let file = options.file()?;
-    let Some(target) = &options.target else {
-        return Err("`-o FILE` is wanted; see outline --help".into());
-    };
+    let target = options.target(Kind::Image)?;
     let subject = Subject::of(file)?;
     let Some(bytes) = trimmed(&subject.bytes) else {
         return refused(&options, file, &subject);
@@ -23,10 +22,11 @@ pub fn run(args: &[&str]) -> Done {
     if verdict.code != 0 {
         return Err(format!("mistake in this tool: the verdict is {verdict}"));
     }
-    write(target, &bytes)?;
+    target.write(&bytes)?;
+    let target = target.name();
     let [before, after] = [&subject.bytes, &bytes].map(|bytes| Size::of(bytes));
     let text = if options.json {
-        as_json(file, &verdict, &before, &after) + "\n"
+        as_json(file, &subject, &verdict, [&before, &after])
     } else {
         let said = words::verdict(&verdict, None, subject.claims());
         let dropped = before.without(&after);
@@ -87,31 +87,26 @@ fn refused(options: &Options, file: &str, subject: &Subject) -> Done {
     let said = words::verdict(&verdict, subject.source(), subject.claims());
     let file = called(file);
     if options.json {
-        let all = [
-            ("file", json::text(file)),
-            ("accepted", false.to_string()),
-            ("fields", json::fields(&verdict)),
-            ("words", json::text(&said)),
-            ("judge", json::text(JUDGE)),
-        ];
-        tell(options.target.as_deref().unwrap_or_default(), &(json::object(&all) + "\n"))?;
+        let mut all = vec![("file", json::text(file))];
+        all.extend(json::verdict(&verdict, &said, subject.source()));
+        let text = json::answer("trim", Status::Refused, &all);
+        tell(options.target.as_deref().unwrap_or_default(), &text)?;
     } else {
-        eprintln!("{file}: {said}   ({JUDGE})");
-        eprintln!("{file}: only an accepted image is trimmed (code 24); nothing is written");
+        complain(format!("{file}: {said}   ({JUDGE})\n"));
+        complain(format!(
+            "{file}: only an accepted image is trimmed (code 24); nothing is written\n"
+        ));
     }
     Ok(Status::Refused)
 }
 
-fn as_json(file: &str, verdict: &Verdict, before: &Size, after: &Size) -> String {
-    json::object(&[
-        ("file", json::text(called(file))),
-        ("accepted", true.to_string()),
-        ("fields", json::fields(verdict)),
-        ("before", before.json()),
-        ("after", after.json()),
-        ("trimmer", json::text(TRIMMER)),
-        ("judge", json::text(JUDGE)),
-    ])
+fn as_json(file: &str, subject: &Subject, verdict: &Verdict, sizes: [&Size; 2]) -> String {
+    let mut all = vec![("file", json::text(called(file)))];
+    all.extend(json::verdict(verdict, &words::verdict(verdict, None, subject.claims()), None));
+    all.push(("before", sizes[0].json()));
+    all.push(("after", sizes[1].json()));
+    all.push(("trimmer", json::text(TRIMMER)));
+    json::answer("trim", Status::Accepted, &all)
 }
 
 /// Words go to standard output, unless the image goes there.
@@ -119,6 +114,6 @@ fn tell(target: &str, text: &str) -> Result<(), String> {
     if target != "-" {
         return print(text);
     }
-    eprint!("{text}");
+    complain(text);
     Ok(())
 }

@@ -1,73 +1,83 @@
-//! What runs of the machine say of obligations and claims that stay open.
+//! What the machine says of an outline that stays open: is the program wrong, or its proof?
 
-use crate::build::{Goal, Open};
+use crate::build::{Built, Goal, Open};
+use crate::diagnosis::{Diagnosis, Finding};
+use crate::image::to_bytes;
+use crate::judged::judged;
+use crate::text::answer::{finding, Telling};
+use crate::text::run;
 use crate::text::source::Source;
-use crate::text::{counted, run};
-use reference::checker::obligations::Duty;
-use reference::explore::{find, seek, Bounds, Sought};
-use reference::image::Meeting;
+use reference::checker::decode;
+use reference::explore::Bounds;
+use reference::image::Program;
 
-/// How far runs are looked at.
-const BOUNDS: Bounds = Bounds { steps: 12, writes: 6, starts: 64 };
-const MOST_STATES: usize = 30_000;
-
-/// The runs looked at, for obligations together and for each claim.
-pub struct Looked {
-    duties: Sought,
-    claims: Vec<Sought>,
+/// An open outline, looked at.
+pub struct Looked<'a> {
+    source: &'a Source,
+    program: Program,
+    pub diagnosis: Diagnosis,
 }
 
-impl Looked {
-    /// Looks for runs that break what is open: obligations, then claims.
-    pub fn at(source: &Source, open: &[Open]) -> Looked {
+impl Looked<'_> {
+    pub fn at<'a>(source: &'a Source, built: &Built, bounds: Bounds) -> Looked<'a> {
         let program = source.program();
-        let (mut duties, mut claims): (Vec<Duty>, Vec<Meeting>) = (Vec::new(), Vec::new());
-        for open in open {
-            match open.goal {
-                Goal::Duty(duty) => duties.push(duty),
-                Goal::Claim(meeting) => claims.push(meeting),
-            }
-        }
-        let met = |meeting: &Meeting| {
-            find(&program, BOUNDS, MOST_STATES, &|state| state.has_meeting(meeting))
-        };
-        let claims = claims.iter().map(met).collect();
-        Looked { duties: seek(&program, &duties, BOUNDS, MOST_STATES), claims }
+        let open = without_line(source, built);
+        let diagnosis = Diagnosis::of(&program, &source.meetings(), &open, bounds);
+        Looked { source, program, diagnosis }
     }
 
-    /// The search for the one with this number among all that is open, and its number in it.
-    fn search_for(&self, n: usize) -> (&Sought, usize) {
-        match n.checked_sub(self.duties.runs.len()) {
-            Some(claim) => (&self.claims[claim], 0),
-            None => (&self.duties, n),
-        }
+    fn telling<T>(&self, tell: impl Fn(&Telling) -> T) -> T {
+        let (program, names) = (&self.program, &self.source.names);
+        let assertion = |t: u8, p: u8| names.assertion(program.assertion(t, p));
+        tell(&Telling { program, names, assertion: &assertion })
     }
 
-    /// False with a run, or not false as far as was looked.
-    pub fn told(&self, source: &Source, open: &Open, n: usize, in_full: bool) -> String {
-        let (sought, n) = self.search_for(n);
-        let Some(found) = &sought.runs[n] else {
-            return not_false(sought, open);
+    /// The answer in its first line, then the run that matters most.
+    pub fn answer(&self) -> String {
+        let head = self.diagnosis.answer().head();
+        let mut lines =
+            vec![self.telling(|told| format!("{head}: {}", told.sentence(&self.diagnosis)))];
+        if let Some(broken) = self.diagnosis.worst() {
+            lines.extend(run::lines(&self.program, &self.source.names, &broken.run));
+        }
+        lines.join("\n")
+    }
+
+    /// False with a run, not provable, or only not found; the worst has the lowest number.
+    pub fn rank(&self, goal: &Goal) -> u8 {
+        self.diagnosis.of_goal(goal).map_or(u8::MAX, |checked| checked.finding.rank())
+    }
+
+    /// The word of JSON for what was found out about a goal.
+    pub fn key(&self, goal: &Goal) -> &'static str {
+        self.diagnosis.of_goal(goal).map_or("not-found", |checked| checked.finding.key())
+    }
+
+    /// What was found out about a goal, in full with the run or the state.
+    pub fn told(&self, open: &Open, in_full: bool) -> String {
+        let Some(checked) = self.diagnosis.of_goal(&open.goal) else { return String::new() };
+        let mut text = format!("  {}\n", finding(checked, open.given_up));
+        let lines = match &checked.finding {
+            Finding::False(run) => run::lines(&self.program, &self.source.names, run),
+            Finding::Unprovable(state) => self.telling(|told| told.refutation(state)),
+            Finding::Unknown => Vec::new(),
         };
-        let steps = counted(found.steps.len(), "step");
-        let mut text = format!("  FALSE        a run of {steps} breaks it\n");
         if in_full {
-            for line in run::lines(&source.program(), &source.names, found) {
-                text += &format!("    {line}\n");
-            }
+            lines.iter().for_each(|line| text += &format!("    {line}\n"));
         }
         text
     }
 }
 
-fn not_false(sought: &Sought, open: &Open) -> String {
-    let runs = match sought.all {
-        true => format!("no run breaks it (all {} states)", sought.states),
-        false => format!("no run of up to {} steps breaks it", sought.steps.saturating_sub(1)),
-    };
-    let why = match open.given_up {
-        Some(tries) => format!("given up after {tries} tries"),
-        None => "no rule leads there, as far as the search sees".into(),
-    };
-    format!("  not false    {runs}: {why}\n")
+/// The goals that have no line, or one that does not serve. Lines that the search found do serve.
+fn without_line(source: &Source, built: &Built) -> Vec<Goal> {
+    let image = to_bytes(&built.image).ok().and_then(|bytes| decode(&bytes).ok());
+    if let Some(image) = image {
+        let open = judged(&image).into_iter().filter(|judged| !judged.has_its_line());
+        return open.map(|judged| judged.goal).collect();
+    }
+    let claims = built.image.claims.iter().map(|claim| &claim.line);
+    let lines = built.image.obligations.iter().chain(claims);
+    let open = Goal::all(source).into_iter().zip(lines).filter(|(_, line)| **line == 0);
+    open.map(|(goal, _)| goal).collect()
 }

@@ -1,7 +1,9 @@
 //! Verdicts in words.
 
 use crate::image::fault;
+use crate::judged::Standing;
 use crate::text::counted;
+use crate::text::report;
 use crate::text::source::Source;
 use reference::checker::Verdict;
 
@@ -10,24 +12,22 @@ pub fn verdict(v: &Verdict, source: Option<&Source>, claims: usize) -> String {
     match v.code {
         0 => accepted(v.count.into(), claims),
         20..=22 => {
-            let lacks = match v.code {
-                20 => "it names no line".to_string(),
-                21 => format!("its line {} concludes something else", v.line),
-                _ => format!("its line {} is not justified", v.line),
-            };
+            let lacks = lacks(v);
             format!("REFUSED: class {}, {}: {lacks} (code {})", v.class, place(v, source), v.code)
         }
         26 => {
-            let lacks = match v.line {
-                0 => "it names no line".to_string(),
-                line => format!("its line {line} is not justified or concludes something else"),
-            };
+            let lacks = lacks(v);
             let one = point(v.thread, v.point, source);
             let other = point(v.other_thread, v.other_point, source);
             format!("REFUSED: claim, never {one} and {other}: {lacks} (code 26)")
         }
         code => format!("REFUSED: record {}: {} (code {code})", v.record, fault(code)),
     }
+}
+
+/// What the obligation or claim lacks that the verdict names.
+fn lacks(v: &Verdict) -> String {
+    Standing::of(v.code, v.line, false).told(v.line)
 }
 
 fn accepted(obligations: usize, claims: usize) -> String {
@@ -46,10 +46,10 @@ fn place(v: &Verdict, source: Option<&Source>) -> String {
     own
 }
 
-/// A point, with its name and source line where there is a source.
+/// A point, with its names and source line where there is a source.
 fn point(thread: u16, point: u16, source: Option<&Source>) -> String {
-    let Some(source) = source else { return format!("thread {thread} point {point}") };
-    let name = source.names.thread(thread as u8);
-    let line = source.points[usize::from(thread) - 1][usize::from(point)].line;
-    format!("thread {thread} ({name}) point {point} (line {line})")
+    match source {
+        Some(source) => report::point(&source.names, Some(source), thread as u8, point as u8),
+        None => format!("thread {thread} point {point}"),
+    }
 }

@@ -118,7 +118,8 @@ impl Picture<'_> {
         let point = end.state.points[usize::from(thread) - 1];
         let name = self.names.thread(thread);
         let when = if steps > 0 { format!("After step {steps}") } else { "At the start".into() };
-        heading(canvas, &format!("{when}: {name}'s assertion at point {point} is false"));
+        let at = self.names.point(thread, point);
+        heading(canvas, &format!("{when}: {name}'s assertion at {at} is false"));
         line(canvas, "run-text run-strong", words, right);
         self.registers(canvas, &end.state, right);
         let assertion = self.program.assertion(thread, point);

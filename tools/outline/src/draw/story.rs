@@ -116,7 +116,7 @@ impl Telling<'_> {
             number: self.number,
             thread: self.step.thread,
             point: self.point(),
-            instruction: self.names.instruction(self.instruction()),
+            instruction: self.names.instruction(self.step.thread, self.instruction()),
             effect: self.effect(),
             reads,
             acquires,
@@ -138,7 +138,7 @@ impl Telling<'_> {
         }
         if self.instruction().is_branch() {
             let point = self.after.points[usize::from(self.step.thread) - 1];
-            parts.push(format!("goes to point {point}"));
+            parts.push(format!("goes to {}", self.names.point(self.step.thread, point)));
         }
         parts.extend(self.assigned());
         parts.join(", ")

@@ -6,7 +6,7 @@ use reference::image::{Access, Meeting};
 use reference::machine::{take, State, Step};
 
 /// Every wrong variant breaks within these.
-const BOUNDS: Bounds = Bounds { steps: 10, writes: 6, starts: 4096 };
+const BOUNDS: Bounds = Bounds { steps: 10, ..Bounds::DEFAULT };
 
 /// All states of an outline that stays open are within these: loops come back to states that were seen.
 const ALL: Bounds = Bounds { steps: 60, ..BOUNDS };
@@ -61,7 +61,7 @@ fn step_words(source: &Source, before: &State, after: &State, step: Step) -> Str
     let thread = source.names.thread(step.thread);
     let point = before.points[usize::from(step.thread) - 1];
     let instruction = &source.threads[usize::from(step.thread) - 1][usize::from(point)];
-    let text = format!("{thread} `{}`", source.names.instruction(instruction));
+    let text = format!("{thread} `{}`", source.names.instruction(step.thread, instruction));
     let Some(access) = instruction.access() else {
         return match instruction.is_branch() {
             true => format!("{text} goes to {}", after.points[usize::from(step.thread) - 1]),

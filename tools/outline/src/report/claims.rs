@@ -1,9 +1,9 @@
 //! The claims of an image, in one sentence each.
 
-use super::parts::{self, answer, note, point};
+use super::parts::{self, answer, note, opened, point, REFUSED};
 use super::trees::Trees;
 use super::Content;
-use crate::judged::{Goal, Judged};
+use crate::judged::{Goal, Judged, Standing, NOTHING_FOLLOWS};
 use crate::markup::{el, of, Element};
 use reference::image::Meeting;
 
@@ -16,30 +16,34 @@ fn claims(content: &Content) -> Vec<(&Judged, Meeting)> {
     content.judged.iter().filter_map(|judged| Some((judged, claim(judged)?))).collect()
 }
 
-pub fn section(content: &Content, accepted: bool) -> Element {
+pub fn section(content: &Content) -> Element {
     let out = parts::section("claims", "Claims");
     let all = claims(content);
     if all.is_empty() {
         return out.add(note("The image makes no claim besides its assertions."));
     }
-    let shown = match accepted {
-        true => "Shown, and true in every run:",
-        false => "The image is refused: none of these is a result.",
+    let shown = match content.accepted {
+        true => "Shown, and true in every run:".to_string(),
+        false => format!("{REFUSED} none of these is a result."),
     };
     let mut trees = Trees::of(content);
     let list = all.iter().map(|(judged, meeting)| item(content, &mut trees, judged, meeting));
-    out.add(note(shown)).add(of("ul", "claims").all(list.collect::<Vec<_>>()))
+    out.add(note(&shown)).add(of("ul", "claims").all(list.collect::<Vec<_>>()))
 }
 
 fn item(content: &Content, trees: &mut Trees, judged: &Judged, meeting: &Meeting) -> Element {
-    let (class, said) = answer(judged.code);
-    let words = sentence(content, meeting).text(" ").add(of("span", class).text(said));
+    let standing = judged.standing(content.accepted);
+    let (class, said) = answer(standing);
+    let said = match standing {
+        Standing::LineThere => format!("{said}; {NOTHING_FOLLOWS}"),
+        _ => said.to_string(),
+    };
+    let claimed = if content.accepted { "" } else { "Claimed: " };
+    let words = el("span").text(claimed).add(sentence(content, meeting));
+    let words = words.text(" ").add(of("span", class).text(said));
     match judged.line {
         0 => el("li").add(words),
-        line => {
-            let details = el("details").add(el("summary").add(words)).add(trees.tree(line));
-            el("li").add(details)
-        }
+        line => el("li").all(opened(words, trees.tree(line))),
     }
 }
 

@@ -5,7 +5,7 @@ use super::{claims, Content};
 use crate::judged::Goal;
 use crate::markup::{el, of, Element};
 use reference::checker::obligations::Duty;
-use reference::image::{Instruction, Meeting};
+use reference::image::Instruction;
 
 /// What the obligations of a class ask.
 pub fn class_title(class: u8) -> &'static str {
@@ -30,22 +30,15 @@ pub fn class_of(duty: &Duty) -> u8 {
 /// The text of the instruction that an obligation is about.
 fn instruction(content: &Content, thread: u8, point: u8) -> String {
     let instruction = content.image.program.instruction(thread, point);
-    content.words.names.instruction(instruction.expect("an obligation's instruction"))
+    content.words.names.instruction(thread, instruction.expect("an obligation's instruction"))
 }
 
 /// What would have to be so.
 pub fn goal_words(content: &Content, goal: &Goal) -> String {
     match goal {
         Goal::Duty(duty) => duty_words(content, duty),
-        Goal::Claim(meeting) => format!("{} never meet", met(content, meeting)),
+        Goal::Claim(meeting) => format!("{} never meet", content.words.names.both(meeting)),
     }
-}
-
-/// Two threads at their points.
-pub fn met(content: &Content, meeting: &Meeting) -> String {
-    let name = |thread: u8| content.words.names.thread(thread);
-    let Meeting { thread, point, other_thread, other_point } = *meeting;
-    format!("{} at point {point} and {} at point {other_point}", name(thread), name(other_thread))
 }
 
 fn duty_words(content: &Content, duty: &Duty) -> String {
@@ -53,24 +46,26 @@ fn duty_words(content: &Content, duty: &Duty) -> String {
     let act = |t: u8, p: u8| format!("{}’s “{}”", names.thread(t), instruction(content, t, p));
     match *duty {
         Duty::Start { thread } => {
-            format!("{}’s assertion at point 0 is true at the start", names.thread(thread))
+            format!("the assertion of {} is true at the start", names.at(thread, 0))
         }
         Duty::Next { thread, point } => {
             format!(
-                "{} leads from the assertion at point {point} to that at point {}",
+                "{} leads from the assertion at {} to that at {}",
                 act(thread, point),
-                point + 1
+                names.point(thread, point),
+                names.point(thread, point + 1)
             )
         }
         Duty::Taken { thread, point } => {
             format!(
-                "{}, taken at point {point}, leads to the assertion at its target",
-                act(thread, point)
+                "{}, taken at {}, leads to the assertion at its target",
+                act(thread, point),
+                names.point(thread, point)
             )
         }
         Duty::Kept { thread, point, actor, action } => {
-            let name = names.thread(thread);
-            format!("{name}’s assertion at point {point} survives {}", act(actor, action))
+            let at = names.at(thread, point);
+            format!("the assertion of {at} survives {}", act(actor, action))
         }
     }
 }
@@ -103,7 +98,7 @@ pub fn duty_element(content: &Content, duty: &Duty) -> Element {
             let branch = program.instruction(thread, point).is_some_and(|i| i.is_branch());
             let way = if branch { ", not taken, leads from " } else { " leads from " };
             let out = out.add(act(thread, point)).text(way).add(at(thread, point));
-            out.text(format!(" to point {}", point + 1))
+            out.text(format!(" to {}", names.point(thread, point + 1)))
         }
         Duty::Taken { thread, point } => {
             let out = out.add(act(thread, point)).text(", taken, leads from ");
@@ -154,15 +149,5 @@ fn duty_rows(
             ("by", act(actor, action)),
             ("to", at(thread, point)),
         ],
-    }
-}
-
-/// The thread whose assertion an obligation is about.
-pub fn asserting(duty: &Duty) -> u8 {
-    match *duty {
-        Duty::Start { thread }
-        | Duty::Next { thread, .. }
-        | Duty::Taken { thread, .. }
-        | Duty::Kept { thread, .. } => thread,
     }
 }

@@ -5,8 +5,10 @@
 mod claims;
 mod goals;
 mod obligations;
+mod origin;
 mod parts;
 mod program;
+mod quote;
 mod refusal;
 pub mod rules;
 pub mod sha256;
@@ -15,12 +17,14 @@ mod trust;
 mod verdict;
 pub mod words;
 
+use crate::diagnosis::Diagnosis;
 use crate::image::Image;
-use crate::judged::{Broken, Judged};
+use crate::judged::Judged;
 use crate::markup::{el, of, Element};
+use crate::text::answer::Telling;
+use crate::text::print::Names;
 use reference::checker::Verdict;
-use reference::explore::Sought;
-pub use refusal::{picture, unbroken};
+pub use refusal::picture;
 use words::Words;
 
 const STYLE: &str = include_str!("style.css");
@@ -35,6 +39,10 @@ pub struct Subject<'a> {
     /// The comment at the front of an outline: its first paragraph, and what it says is shown.
     pub about: Vec<String>,
     pub bytes: &'a [u8],
+    /// What an outline's file holds, and its names; none for an image.
+    pub source: Option<Source<'a>>,
+    /// The day on which the page is made, as 2026-11-17.
+    pub date: &'a str,
     pub verdict: Verdict,
     /// Who judged.
     pub judge: &'a str,
@@ -42,15 +50,32 @@ pub struct Subject<'a> {
     pub content: Option<Content>,
 }
 
+/// The file of an outline.
+pub struct Source<'a> {
+    pub text: &'a [u8],
+    pub names: &'a Names,
+}
+
 /// What a well-formed image says, and what was found out about it.
 pub struct Content {
     pub image: Image,
     pub words: Words,
     pub judged: Vec<Judged>,
-    /// For a refusal: a run that breaks an obligation, or how far was looked for one.
-    pub sought: Option<Result<Broken, Sought>>,
+    /// Whether the whole image is accepted. Nothing of it is a result if it is not.
+    pub accepted: bool,
+    /// For a refusal: whether the program is wrong or its proof.
+    pub diagnosis: Option<Diagnosis>,
     /// What the search for a certificate says about the obligation that the verdict names.
     pub tried: Vec<String>,
+}
+
+impl Content {
+    /// Tells with the page's words for assertions.
+    pub fn telling<T>(&self, tell: impl Fn(&Telling) -> T) -> T {
+        let assertion = |t: u8, p: u8| self.words.assertion(t, p).to_string();
+        let (program, names) = (&self.image.program, &self.words.names);
+        tell(&Telling { program, names, assertion: &assertion })
+    }
 }
 
 impl Subject<'_> {
@@ -63,6 +88,8 @@ impl Subject<'_> {
 pub fn page(subject: &Subject) -> String {
     let (mut links, mut sections) = (vec![("verdict", "Verdict")], vec![verdict::section(subject)]);
     if let Some(content) = &subject.content {
+        links.push(("quote", "What may be quoted"));
+        sections.push(quote::section(subject, content));
         if !subject.is_accepted() {
             links.push(("refusal", "Why refused"));
             sections.push(refusal::section(subject, content));
@@ -73,7 +100,7 @@ pub fn page(subject: &Subject) -> String {
             ("obligations", "Obligations"),
         ]);
         sections.push(program::section(content));
-        sections.push(claims::section(content, subject.is_accepted()));
+        sections.push(claims::section(content));
         sections.push(obligations::section(content));
     }
     links.push(("trust", "What is proved"));

@@ -1,18 +1,25 @@
 //! The obligations as a table by class. A click on one opens the lines that it rests on, down to the last premise.
 
 use super::goals::{class_of, class_title, duty_element};
-use super::parts::{self, answer, note};
+use super::parts::{self, answer, note, opened, REFUSED};
 use super::trees::Trees;
 use super::{rules, Content};
-use crate::judged::{Goal, Judged};
+use crate::judged::{Goal, Judged, NOTHING_FOLLOWS};
 use crate::markup::{el, of, Element};
 use reference::checker::obligations::Duty;
 
 pub fn section(content: &Content) -> Element {
     let all = duties(content);
-    let met = all.iter().filter(|(judged, _)| judged.is_met()).count();
+    let there = all.iter().filter(|(judged, _)| judged.has_its_line()).count();
     let lines = content.image.written.lines.len();
-    let said = format!("{met} of {} are met, by a certificate of {lines} lines. Open one to see the lines that it rests on.", all.len());
+    let share = format!("{there} of {}", all.len());
+    let said = match content.accepted {
+        true => format!("{share} are met, by a certificate of {lines} lines."),
+        false => {
+            format!("{REFUSED} {share} have their lines in a certificate of {lines} lines; {NOTHING_FOLLOWS}.")
+        }
+    };
+    let said = format!("{said} Open one to see the lines that it rests on.");
     let heads = ["No.", "Obligation", "Rule", "Answer"];
     let heads = el("tr").all(heads.map(|text| el("th").with("scope", "col").text(text)));
     let mut trees = Trees::of(content);
@@ -34,9 +41,10 @@ fn duties(content: &Content) -> Vec<(&Judged, Duty)> {
 fn body(trees: &mut Trees, all: &[(&Judged, Duty)], class: u8) -> Option<Element> {
     let own = (1..).zip(all).filter(|(_, (_, duty))| class_of(duty) == class);
     let own: Vec<(usize, &(&Judged, Duty))> = own.collect();
-    let met = own.iter().filter(|(_, (judged, _))| judged.is_met()).count();
+    let there = own.iter().filter(|(_, (judged, _))| judged.has_its_line()).count();
     let title = format!("Class {class}: {}", class_title(class));
-    let count = of("span", "count").text(format!("{met} of {} met", own.len()));
+    let have = if trees.content.accepted { "met" } else { "have their lines" };
+    let count = of("span", "count").text(format!("{there} of {} {have}", own.len()));
     let title = el("th").with("colspan", 4).with("scope", "rowgroup").text(title);
     let title = of("tr", "class").add(title.text(" ").add(count));
     let rows: Vec<Element> =
@@ -51,13 +59,13 @@ fn row(trees: &mut Trees, number: usize, judged: &Judged, duty: &Duty) -> Elemen
     let title = line.map_or("", |line| rules::title(line.rule));
     let words = duty_element(content, duty);
     let what = match line {
-        Some(_) => el("details").add(el("summary").add(words)).add(trees.tree(judged.line)),
-        None => of("p", "unnamed").add(words),
+        Some(_) => of("td", "what").all(opened(words, trees.tree(judged.line))),
+        None => of("td", "what").add(of("p", "unnamed").add(words)),
     };
-    let (class, said) = answer(judged.code);
+    let (class, said) = answer(judged.standing(content.accepted));
     el("tr")
         .add(of("td", "no").text(number))
-        .add(of("td", "what").add(what))
+        .add(what)
         .add(of("td", "rule").with("title", title).text(rule))
         .add(of("td", class).text(said))
 }

@@ -1,6 +1,7 @@
 //! Pieces that several sections are made of.
 
 use super::words::Words;
+use crate::judged::Standing;
 use crate::markup::{el, of, Element};
 use crate::text::print::Names;
 
@@ -18,15 +19,21 @@ pub fn note(text: &str) -> Element {
     of("p", "note").text(text)
 }
 
+/// What a click on a summary opens stands beside it and not in it, so that paper shows it, opened or not.
+pub fn opened(summary: Element, inner: Element) -> [Element; 2] {
+    let details = of("details", "opener").add(el("summary").add(summary));
+    [details, of("div", "opened").add(inner)]
+}
+
 /// The name under which a point stands on the page.
 pub fn point_id(thread: u8, point: u8) -> String {
     format!("point-{thread}-{point}")
 }
 
-/// `reader, point 0`, as a link to the point.
+/// `reader at point 0`, as a link to the point.
 pub fn point(names: &Names, thread: u8, point: u8) -> Element {
     let link = el("a").with("href", format!("#{}", point_id(thread, point)));
-    link.text(format!("{}, point {point}", names.thread(thread)))
+    link.text(names.at(thread, point))
 }
 
 /// The name under which a `let` stands on the page.
@@ -58,14 +65,18 @@ fn let_link(words: &Words, number: usize) -> Element {
     link.with("title", formula).text(name)
 }
 
-/// What a code says of an obligation or a claim, and its class on the page.
-pub fn answer(code: u16) -> (&'static str, &'static str) {
-    match code {
-        0 => ("answer met", "met"),
-        20 => ("answer open", "no line"),
-        21 => ("answer open", "other line"),
-        22 => ("answer open", "unjustified"),
-        _ => ("answer open", "not shown"),
+/// What stands in front of whatever is no result, since the whole image is refused.
+pub const REFUSED: &str = "The image is refused:";
+
+/// What is said of an obligation or a claim, and its class on the page.
+pub fn answer(standing: Standing) -> (&'static str, &'static str) {
+    match standing {
+        Standing::Met => ("answer met", "met"),
+        Standing::LineThere => ("answer there", "its line is there"),
+        Standing::NoLine => ("answer open", "no line"),
+        Standing::OtherLine => ("answer open", "other line"),
+        Standing::Unjustified => ("answer open", "unjustified"),
+        Standing::NotShown => ("answer open", "not shown"),
     }
 }
 

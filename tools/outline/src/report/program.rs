@@ -1,6 +1,6 @@
 //! The program: words, names of `let`, and the threads side by side with an assertion at each point.
 
-use super::parts::{self, code, formula, let_id, point_id};
+use super::parts::{self, code, formula, let_id, note, point_id, REFUSED};
 use super::words::Words;
 use super::Content;
 use crate::markup::{el, of, Element};
@@ -14,8 +14,14 @@ pub fn section(content: &Content) -> Element {
         true => out,
         false => out.add(lets(words)),
     };
+    let said = match content.accepted {
+        true => {
+            "In every run each assertion is true whenever its thread is at its point.".to_string()
+        }
+        false => format!("{REFUSED} none of these assertions is a result."),
+    };
     let threads = program.thread_numbers().map(|t| thread(program, words, t));
-    out.add(of("div", "threads").all(threads))
+    out.add(note(&said)).add(of("div", "threads").all(threads))
 }
 
 /// The words with their start values, and the range.
@@ -63,10 +69,15 @@ fn registers(header: &Header, words: &Words, t: u8) -> Option<String> {
 fn point(program: &Program, words: &Words, t: u8, p: u8) -> Element {
     let number = of("span", "number").text(p);
     let assertion = of("div", "assertion").add(formula(words, words.assertion(t, p)));
-    let out = el("li").with("id", point_id(t, p)).add(number).add(assertion);
+    let out = el("li").with("id", point_id(t, p)).add(number);
+    let out = match words.names.label(t, p) {
+        Some(label) => out.add(of("div", "label").text(format!("{label}:"))),
+        None => out,
+    };
+    let out = out.add(assertion);
     match program.instruction(t, p) {
         Some(instruction) => {
-            let text = words.names.instruction(instruction);
+            let text = words.names.instruction(t, instruction);
             out.add(of("div", "instruction").add(code(&text)))
         }
         None => out,

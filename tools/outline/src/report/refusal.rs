@@ -1,109 +1,131 @@
-//! Why an image is refused: the obligation in words, and a run that breaks it, drawn.
+//! Why an image is refused: whether the program is wrong or its proof, the run that matters most, drawn, and what has no
+//! line.
 
-use super::goals::{asserting, goal_element, goal_words, kind, met, wanted};
-use super::parts::{self, note};
+use super::goals::{goal_element, goal_words, kind, wanted};
+use super::parts::{self, note, opened};
 use super::{Content, Subject};
+use crate::diagnosis::{Broken, Checked, Diagnosis, Finding, Wrong};
 use crate::draw::{Ending, Picture};
-use crate::judged::{Broken, Goal, Judged};
+use crate::judged::Judged;
 use crate::markup::{el, of, Element};
+use crate::text::answer::{opening, unbroken};
 use crate::text::counted;
-use reference::explore::Sought;
 
-/// The first obligation that is not met: the one that the verdict names.
+/// The first that has no line: the one that the verdict names.
 fn named(content: &Content) -> Option<&Judged> {
-    content.judged.iter().find(|judged| !judged.is_met())
+    content.judged.iter().find(|judged| !judged.has_its_line())
 }
 
-/// The verdict's sentence.
+/// The verdict's sentence: first whether the program is wrong or its proof.
 pub fn sentence(content: &Content) -> String {
     let Some(judged) = named(content) else { return String::new() };
-    let run = match &content.sought {
-        Some(Ok(broken)) => {
-            let steps = counted(broken.run.steps.len(), "step");
-            let what = if broken.goal == judged.goal { "it" } else { "the outline" };
-            format!(", and a run of {steps} breaks {what}")
-        }
-        _ => String::new(),
-    };
-    format!("It is not shown that {}{run}.", goal_words(content, &judged.goal))
+    let answer = content.diagnosis.as_ref().map(|diagnosis| answer(content, diagnosis) + " ");
+    let goal = goal_words(content, &judged.goal);
+    format!("{}It is not shown that {goal}.", answer.unwrap_or_default())
+}
+
+/// Whether the program is wrong or its proof, in a sentence.
+fn answer(content: &Content, diagnosis: &Diagnosis) -> String {
+    let told = content.telling(|told| told.sentence(diagnosis));
+    format!("{} {told}.", opening(diagnosis.answer()))
 }
 
 pub fn section(subject: &Subject, content: &Content) -> Element {
     let out = parts::section("refusal", "Why it is refused");
     let Some(judged) = named(content) else { return out };
-    let before = counted(subject.verdict.count.into(), "obligation");
-    let code = format!(" {} (Code {}; {before} met before it.)", lacks(judged), judged.code);
-    let first = el("p").text("Not met: ").add(goal_element(content, &judged.goal)).text(code);
-    let out = out.add(first).add(note(&kind(&judged.goal))).add(wanted(content, &judged.goal));
-    let out = match &content.sought {
-        Some(Ok(broken)) => out.add(figure(content, judged, broken)),
-        Some(Err(sought)) => out.add(el("p").text(unbroken(sought))),
+    let out = match &content.diagnosis {
+        Some(diagnosis) => diagnosed(content, diagnosis, out),
         None => out,
     };
-    match content.tried.is_empty() {
+    let before = counted(subject.verdict.count.into(), "obligation");
+    let code =
+        format!(" {} (Code {}; {before} before it have their lines.)", lacks(judged), judged.code);
+    let title = el("h3").text("What the verdict names");
+    let first = el("p").text("Not met: ").add(goal_element(content, &judged.goal)).text(code);
+    let out = out.add(title).add(first).add(note(&kind(&judged.goal)));
+    let out = out.add(wanted(content, &judged.goal));
+    let out = match content.tried.is_empty() {
         true => out,
         false => out.add(tried(content)),
+    };
+    match &content.diagnosis {
+        Some(diagnosis) => {
+            out.add(el("h3").text("All that has no line")).add(open(content, diagnosis))
+        }
+        None => out,
+    }
+}
+
+/// The answer, and the run that matters most.
+fn diagnosed(content: &Content, diagnosis: &Diagnosis, out: Element) -> Element {
+    let (front, rest) =
+        (opening(diagnosis.answer()), content.telling(|told| told.sentence(diagnosis)));
+    let said = el("p").add(of("strong", "false").text(front)).text(format!(" {rest}."));
+    match diagnosis.worst() {
+        Some(broken) => out.add(figure(content, &broken, said)),
+        None => out.add(said),
     }
 }
 
 /// What the obligation or claim lacks.
 fn lacks(judged: &Judged) -> String {
-    match judged.code {
-        21 => format!("Its line, {}, concludes something else.", judged.line),
-        22 => format!("Its line, {}, is not justified.", judged.line),
-        _ if judged.line == 0 => "The certificate names no line for it.".into(),
-        _ => format!("Its line, {}, is unjustified or concludes something else.", judged.line),
-    }
+    let told = judged.standing(false).told(judged.line);
+    let (first, rest) = told.split_at(1);
+    format!("{}{rest}.", first.to_uppercase())
 }
 
 /// The run, drawn.
-fn figure(content: &Content, judged: &Judged, broken: &Broken) -> Element {
-    let steps = counted(broken.run.steps.len(), "step");
-    let said = |word: &str| el("p").add(of("strong", "false").text(word)).text(" ");
-    let said = if broken.goal == judged.goal {
-        said("It is false.").text(format!("A run of {steps} breaks it; this is a shortest one."))
-    } else {
-        let other = said("The outline is false.").text("No run was found that breaks this, but a ");
-        let other = other.text(format!("run of {steps} breaks what is not met either: "));
-        other.add(goal_element(content, &broken.goal))
-    };
+fn figure(content: &Content, broken: &Broken, said: Element) -> Element {
     let drawing = of("div", "drawing").with("tabindex", 0).with("role", "region");
     let drawing = drawing.with("aria-label", "The run, drawn").add(picture(content, broken).svg());
-    of("figure", "run-figure").add(said).add(drawing)
+    let goes_on = of("p", "goes-on").text("The drawing goes on to the right: move it sideways.");
+    of("figure", "run-figure").add(said).add(goes_on).add(drawing)
 }
 
-/// The drawing of a run that breaks an obligation or a claim.
+/// The drawing of a run that breaks something.
 pub fn picture<'a>(content: &'a Content, broken: &'a Broken) -> Picture<'a> {
-    let program = &content.image.program;
-    let ending = match broken.goal {
-        Goal::Claim(meeting) => Ending::Met(met(content, &meeting)),
-        Goal::Duty(duty) => {
-            let thread = asserting(&duty);
+    let (program, names) = (&content.image.program, &content.words.names);
+    let ending = match (broken.what, broken.asserting()) {
+        (Wrong::Claim(meeting), _) => Ending::Met(names.both(&meeting)),
+        (_, thread) => {
+            let thread = thread.expect("an assertion is false");
             let point = broken.end(program).points[usize::from(thread) - 1];
             let words = content.words.assertion(thread, point).to_string();
             Ending::False { thread, words }
         }
     };
-    Picture { program, names: &content.words.names, run: &broken.run, ending }
+    Picture { program, names, run: &broken.run, ending }
 }
 
-/// How far was looked for a run that breaks it.
-pub fn unbroken(sought: &Sought) -> String {
-    match sought.all {
-        true => format!(
-            "No run breaks it: in all {} states that the program reaches, the assertions are true. Only a line that shows it is missing.",
-            sought.states
+/// What has no line, the worst first, each with what was found out about it.
+fn open(content: &Content, diagnosis: &Diagnosis) -> Element {
+    let mut goals: Vec<&Checked> = diagnosis.goals.iter().collect();
+    goals.sort_by_key(|checked| checked.finding.rank());
+    let item = |checked: &&Checked| {
+        let (word, said) = found(checked);
+        let mark = of("strong", if checked.finding.rank() == 0 { "false" } else { "unproved" });
+        el("li").add(goal_element(content, &checked.goal)).text(" ").add(mark.text(word)).text(said)
+    };
+    of("ul", "open-goals").all(goals.iter().map(item))
+}
+
+/// A word, and what stands behind it.
+fn found(checked: &Checked) -> (&'static str, String) {
+    let unbroken = unbroken(&checked.reach, "it");
+    match &checked.finding {
+        Finding::False(run) => {
+            ("False:", format!(" a run of {} breaks it.", counted(run.steps.len(), "step")))
+        }
+        Finding::Unprovable(_) => (
+            "Not provable as it stands:",
+            format!(" a state that the assertions allow breaks it, though {unbroken}."),
         ),
-        false => format!(
-            "No run of up to {} steps breaks it, as far as was looked ({} states).",
-            sought.steps.saturating_sub(1),
-            sought.states
-        ),
+        Finding::Unknown => ("Not found:", format!(" the search has no line for it; {unbroken}.")),
     }
 }
 
 /// What the search for a line says.
 fn tried(content: &Content) -> Element {
-    let title = el("summary").text("What the search for a line says");
-    el("details").add(title).add(of("pre", "tried").text(content.tried.join("\n")))
+    let title = el("span").text("What the search for a line says");
+    el("div").all(opened(title, of("pre", "tried").text(content.tried.join("\n"))))
 }

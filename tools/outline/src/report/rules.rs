@@ -1,5 +1,7 @@
 //! A few words for each rule: the headings of docs/MANUAL.md.
 
+use super::sha256::digest;
+use reference::checker::rules::rules;
 use std::collections::BTreeMap;
 use std::sync::OnceLock;
 
@@ -18,9 +20,33 @@ fn titles() -> BTreeMap<u8, &'static str> {
     parts.filter_map(|(number, words)| Some((number.parse().ok()?, words))).collect()
 }
 
+/// Which rules there are, and the digest of the manual's chapter that states them.
+pub fn version() -> String {
+    let mut ranges: Vec<(u8, u8)> = Vec::new();
+    for rule in rules() {
+        match ranges.last_mut() {
+            Some((_, last)) if *last + 1 == rule => *last = rule,
+            _ => ranges.push((rule, rule)),
+        }
+    }
+    let ranges: Vec<String> = ranges.iter().map(|(a, b)| format!("{a} to {b}")).collect();
+    let (_, chapter) = MANUAL.split_once("\n## 4. The rules\n").expect("a chapter of rules");
+    let chapter = chapter.split("\n## ").next().unwrap_or_default();
+    format!(
+        "{} (SHA-256 {} of their chapter)",
+        ranges.join(", "),
+        &digest(chapter.as_bytes())[..16]
+    )
+}
+
 #[cfg(test)]
 mod tests {
-    use super::title;
+    use super::{title, version};
+
+    #[test]
+    fn the_version_has_every_rule() {
+        assert!(version().starts_with("1 to 16, 20 to 27, 30 to 50 (SHA-256 "), "{}", version());
+    }
 
     #[test]
     fn rules_have_the_titles_of_the_manual() {

@@ -54,7 +54,11 @@ impl<'a> Trees<'a> {
         let names = &self.content.words.names;
         let middle = match self.content.image.program.instruction(line.thread, line.point) {
             Some(instruction) => {
-                format!("{}: {}", names.thread(line.thread), names.instruction(instruction))
+                format!(
+                    "{}: {}",
+                    names.thread(line.thread),
+                    names.instruction(line.thread, instruction)
+                )
             }
             None => arrow(line.rule).to_string(),
         };
@@ -78,7 +82,8 @@ mod tests {
         let bytes = crate::build::build(&source).expect("built").image.bytes();
         let image = crate::image::read(&bytes).expect("an image");
         let words = Words::of_text(text, &source);
-        Content { image, words, judged: Vec::new(), sought: None, tried: Vec::new() }
+        let (judged, tried) = (Vec::new(), Vec::new());
+        Content { image, words, judged, accepted: true, diagnosis: None, tried }
     }
 
     const TEXT: &str = "word x = 0

@@ -1,21 +1,15 @@
 //! The verdict in one sentence, and what a contract quotes: the record's bytes and the image's digest.
 
-use super::goals::met;
-use super::parts::{self, code, grouped};
-use super::{refusal, sha256, Content, Subject};
-use crate::command::judge::PROVED;
+use super::parts::{self, code};
+use super::{origin, refusal, Content, Subject};
 use crate::image::fault;
 use crate::judged::{Goal, Judged};
 use crate::markup::{el, of, Element};
+use crate::text::contract::{assertions, claim};
 
 /// The fields of the record, in order.
 const FIELDS: [&str; 9] =
     ["code", "record", "class", "thread", "point", "other thread", "other point", "line", "count"];
-
-/// What an accepted image says.
-const ACCEPTED: &str =
-    "In every run of this program, whatever the order of steps and whichever writes the loads \
-                        pick, each assertion is true whenever its thread is at its point.";
 
 pub fn section(subject: &Subject) -> Element {
     parts::section("verdict", "Verdict")
@@ -36,19 +30,9 @@ fn banner(subject: &Subject) -> Element {
 /// What a contract quotes.
 fn facts(subject: &Subject) -> Element {
     let record: Vec<String> = subject.verdict.record().iter().map(|b| format!("{b:02x}")).collect();
-    let size = format!("{} bytes", grouped(subject.bytes.len()));
-    let judge = match subject.judge == PROVED {
-        true => format!("the {PROVED}"),
-        false => format!("the {}, not the {PROVED}", subject.judge),
-    };
-    let fact = |name: &str, value: Element| [el("dt").text(name), el("dd").add(value)];
-    let facts = [
-        fact("Record", code(&record.join(" ")).with("id", "record")),
-        fact("Image", el("span").text(size)),
-        fact("SHA-256", code(&sha256::digest(subject.bytes)).with("id", "digest")),
-        fact("Judged by", el("span").text(judge)),
-    ];
-    of("dl", "facts").all(facts.into_iter().flatten())
+    let record = code(&record.join(" ")).with("id", "record");
+    let record = [el("dt").text("Record"), el("dd").add(record)];
+    of("dl", "facts").all([record].into_iter().chain(origin::facts(subject)).flatten())
 }
 
 /// The nine numbers with their names.
@@ -66,7 +50,7 @@ fn sentence(subject: &Subject) -> String {
     match (&subject.content, verdict.code) {
         (content, 0) => {
             let claims = content.as_ref().map_or(String::new(), claimed);
-            format!("{ACCEPTED}{claims} {0} of {0} obligations are met.", verdict.count)
+            format!("{}{claims} {1} of {1} obligations are met.", assertions(), verdict.count)
         }
         (Some(content), _) => refusal::sentence(content),
         (None, code) => {
@@ -78,7 +62,7 @@ fn sentence(subject: &Subject) -> String {
 /// The claims of an accepted image, in the sentence.
 fn claimed(content: &Content) -> String {
     let claim = |judged: &Judged| match &judged.goal {
-        Goal::Claim(meeting) => Some(format!(" In no run do {} meet.", met(content, meeting))),
+        Goal::Claim(meeting) => Some(format!(" {}", claim(&content.words.names, meeting))),
         Goal::Duty(_) => None,
     };
     content.judged.iter().filter_map(claim).collect()

@@ -32,7 +32,7 @@ impl Words {
 
     /// The words of a text that was read.
     pub fn of_text(text: &str, source: &Source) -> Words {
-        let list = tokens(text).unwrap_or_default();
+        let list = tokens(text).list;
         let at = |place: Place| braced(text, &list, place);
         let thread = |points: &Vec<crate::text::source::Point>| {
             points
@@ -125,7 +125,7 @@ thread a
     fn an_image_has_the_words_of_show() {
         let source = parse(TEXT).expect("a source");
         let [words, registers, threads] = ["w1", "r1", "t1"].map(|name| vec![name.to_string()]);
-        let names = Names { words, registers, threads, shorts: Vec::new() };
+        let names = Names { words, registers, threads, ..Names::default() };
         let words = Words::of_image(&names, &source.program());
         assert_eq!(words.assertion(1, 1), "r1 != 0 or t1 sees [w1 < 2] ; one w1 and r1 = 1");
     }

@@ -106,36 +106,68 @@ pub const KEYWORDS: [&str; 35] = [
     "assertion",
 ];
 
-/// All tokens with their lines; the last one is `End`.
-pub fn tokens(text: &str) -> Result<Vec<(Token, Place)>, Mistake> {
-    let mut out = Vec::new();
-    let mut last = Place { line: 1, column: 1 };
-    for (i, line) in text.lines().enumerate() {
-        let code = line.split('#').next().unwrap_or("");
-        last = Place { line: i + 1, column: code.trim_end().chars().count() + 1 };
-        line_tokens(code, i + 1, &mut out)?;
-    }
-    out.push((Token::End, last));
-    Ok(out)
+/// The tokens of a text.
+pub struct Tokens {
+    /// With their places; the last one is `End`.
+    pub list: Vec<(Token, Place)>,
+    /// What is no token, and was passed over.
+    pub mistakes: Vec<Mistake>,
 }
 
-fn line_tokens(code: &str, line: usize, out: &mut Vec<(Token, Place)>) -> Result<(), Mistake> {
-    let mut rest = code.trim_start();
-    while let Some(first) = rest.chars().next() {
-        let column = code[..code.len() - rest.len()].chars().count() + 1;
-        let line = Place { line, column };
-        let (token, length) = if first.is_ascii_alphabetic() || first == '_' {
-            let n = name_length(rest);
-            (Token::Name(rest[..n].to_string()), n)
-        } else if first.is_ascii_digit() {
-            number(rest, line)?
-        } else {
-            mark(rest).ok_or(Mistake { line, text: format!("`{first}` means nothing here") })?
-        };
-        out.push((token, line));
-        rest = rest[length..].trim_start();
+/// All tokens of a text.
+pub fn tokens(text: &str) -> Tokens {
+    let mut all = Tokens { list: Vec::new(), mistakes: Vec::new() };
+    let mut last = Place { line: 1, column: 1 };
+    for (i, line) in text.lines().enumerate() {
+        // A comment would run on past it, to the end of the text in the worst case.
+        if let Some((before, _)) = line.split_once('\r') {
+            let line = Place { line: i + 1, column: before.chars().count() + 1 };
+            let text = "a carriage return stands alone here; lines end with a line feed";
+            all.mistakes.push(Mistake { line, text: text.into() });
+        }
+        let code = line.split('#').next().unwrap_or("");
+        last = Place { line: i + 1, column: code.trim_end().chars().count() + 1 };
+        all.read_line(code, i + 1);
     }
-    Ok(())
+    all.list.push((Token::End, last));
+    all
+}
+
+impl Tokens {
+    fn read_line(&mut self, code: &str, line: usize) {
+        let (mut rest, mut column) = (code, 1);
+        while let Some(first) = rest.chars().next() {
+            let place = Place { line, column };
+            let (token, length) = match first.is_whitespace() {
+                true => (None, first.len_utf8()),
+                false => self.read_token(rest, first, place),
+            };
+            self.list.extend(token.map(|token| (token, place)));
+            column += rest[..length].chars().count();
+            rest = &rest[length..];
+        }
+    }
+
+    /// The token at the front and its length; what is none is noted.
+    fn read_token(&mut self, rest: &str, first: char, line: Place) -> (Option<Token>, usize) {
+        let length = name_length(rest);
+        if first.is_ascii_alphabetic() || first == '_' {
+            return (Some(Token::Name(rest[..length].to_string())), length);
+        }
+        if first.is_ascii_digit() {
+            let value = rest[..length].parse().ok().map(Token::Number);
+            if value.is_none() {
+                let text = format!("`{}` is neither a number nor a name", &rest[..length]);
+                self.mistakes.push(Mistake { line, text });
+            }
+            return (value, length);
+        }
+        if let Some((token, length)) = mark(rest) {
+            return (Some(token), length);
+        }
+        self.mistakes.push(Mistake { line, text: format!("`{first}` means nothing here") });
+        (None, first.len_utf8())
+    }
 }
 
 fn name_length(s: &str) -> usize {
@@ -149,16 +181,6 @@ fn name_length(s: &str) -> usize {
 
 fn plain_length(s: &str) -> usize {
     s.find(|c: char| !(c.is_ascii_alphanumeric() || c == '_' || c == '\'')).unwrap_or(s.len())
-}
-
-fn number(s: &str, line: Place) -> Result<(Token, usize), Mistake> {
-    let n = name_length(s);
-    match s[..n].parse() {
-        Ok(value) => Ok((Token::Number(value), n)),
-        Err(_) => {
-            Err(Mistake { line, text: format!("`{}` is neither a number nor a name", &s[..n]) })
-        }
-    }
 }
 
 fn mark(s: &str) -> Option<(Token, usize)> {
@@ -176,7 +198,9 @@ mod tests {
     use super::*;
 
     fn plain(text: &str) -> Vec<Token> {
-        tokens(text).unwrap().into_iter().map(|t| t.0).collect()
+        let all = tokens(text);
+        assert!(all.mistakes.is_empty(), "{:?}", all.mistakes);
+        all.list.into_iter().map(|t| t.0).collect()
     }
 
     #[test]
@@ -186,12 +210,20 @@ mod tests {
         assert_eq!(plain("x :=rel 1 # comment"), want);
         assert_eq!(plain("x:=relaxed")[1], Token::Mark(":="));
         assert_eq!(plain("fetch-add x"), [name("fetch-add"), name("x"), Token::End]);
-        assert!(tokens("fetch-adds x").is_err());
+        assert_eq!(tokens("fetch-adds x").mistakes.len(), 1);
     }
 
     #[test]
     fn lines_are_counted() {
-        assert_eq!(tokens("a\n\nb ?").unwrap_err().line, 3);
-        assert_eq!(tokens("a\nb").unwrap()[1].1, 2);
+        let told = |text: &str| {
+            let all = tokens(text).mistakes;
+            all.iter().map(|e| (e.line.line, e.line.column)).collect::<Vec<(usize, usize)>>()
+        };
+        assert_eq!(
+            told("a\n\nb ? é ~ 9x\r\nc # é ?\n $"),
+            [(3, 3), (3, 5), (3, 7), (3, 9), (5, 2)]
+        );
+        assert_eq!(told("a\rb"), [(1, 2)]);
+        assert_eq!(tokens("a\nb").list[1].1, 2);
     }
 }

@@ -1,7 +1,12 @@
 //! The text form: reading sources, writing formulas, images and messages.
 
+pub mod answer;
+pub mod compare;
+pub mod contract;
+pub mod cursor;
 pub mod lex;
 pub mod lines;
+pub mod nearest;
 pub mod parse_certificate;
 pub mod parse_claim;
 pub mod parse_formula;
@@ -12,6 +17,7 @@ pub mod parse_source;
 pub mod parse_tariff;
 pub mod parse_trace;
 pub mod print;
+pub mod reach;
 pub mod refusal;
 pub mod report;
 pub mod run;

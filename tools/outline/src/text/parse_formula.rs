@@ -1,70 +1,15 @@
 //! Text to formulas. Right-nested throughout, as `print` writes them.
 
 use crate::terms::*;
-use crate::text::lex::{Mistake, Place, Token};
-use crate::text::scope::{describe, Meaning, Scope};
+use crate::text::cursor::{Parsed, MOST_DEPTH};
+use crate::text::lex::{Mistake, Token, KEYWORDS};
+use crate::text::scope::{describe, Meaning};
+use reference::formula::nesting::NESTING;
 use reference::formula::{Assertion, Formula, Interval, Sort, Test};
 
-/// A place in the tokens, with the names in force.
-pub struct Cursor<'a> {
-    pub tokens: &'a [(Token, Place)],
-    pub at: usize,
-    pub scope: Scope,
-}
-
-type Parsed<S> = Result<S, Mistake>;
+pub use super::cursor::Cursor;
 
 impl Cursor<'_> {
-    pub fn peek(&self) -> &Token {
-        &self.tokens[self.at.min(self.tokens.len() - 1)].0
-    }
-    pub fn line(&self) -> Place {
-        self.tokens[self.at.min(self.tokens.len() - 1)].1
-    }
-    pub fn fail<T>(&self, text: String) -> Result<T, Mistake> {
-        Err(Mistake { line: self.line(), text })
-    }
-    pub fn wanted<T>(&self, what: &str) -> Result<T, Mistake> {
-        self.fail(format!("{what} is wanted, found {}", self.peek().shown()))
-    }
-    /// Takes the mark or keyword if it is next.
-    pub fn take(&mut self, text: &str) -> bool {
-        let found = self.sees_next(text);
-        self.at += found as usize;
-        found
-    }
-    pub fn sees_next(&self, text: &str) -> bool {
-        match self.peek() {
-            Token::Mark(m) => *m == text,
-            Token::Name(n) => n == text,
-            _ => false,
-        }
-    }
-    pub fn expect(&mut self, text: &str) -> Result<(), Mistake> {
-        if self.take(text) {
-            return Ok(());
-        }
-        self.wanted(&format!("`{text}`"))
-    }
-    pub fn name(&mut self) -> Result<String, Mistake> {
-        let Token::Name(n) = self.peek().clone() else { return self.wanted("a name") };
-        self.at += 1;
-        Ok(n)
-    }
-    pub fn number(&mut self) -> Result<usize, Mistake> {
-        let Token::Number(n) = *self.peek() else { return self.wanted("a number") };
-        self.at += 1;
-        Ok(n)
-    }
-
-    /// The meaning of the name that is next, if a name is next.
-    pub fn meaning(&self) -> Option<&Meaning> {
-        match self.peek() {
-            Token::Name(n) => self.scope.get(n),
-            _ => None,
-        }
-    }
-
     /// A `let` name of the wanted sort, taken if it is next.
     fn short<S>(&mut self, of_sort: fn(&Formula) -> Option<S>) -> Option<S> {
         let Some(Meaning::Short(formula)) = self.meaning() else { return None };
@@ -76,9 +21,9 @@ impl Cursor<'_> {
     /// Nothing fits: say what stands here instead.
     fn unfit<T>(&self, want: &str) -> Result<T, Mistake> {
         if let Token::Name(n) = self.peek() {
-            if !crate::text::lex::KEYWORDS.contains(&n.as_str()) {
-                let is = describe(self.scope.get(n));
-                return self.fail(format!("{want} is wanted, but `{n}` {is}"));
+            if !KEYWORDS.contains(&n.as_str()) {
+                let (is, meant) = (describe(self.scope.get(n)), self.meant());
+                return self.fail(format!("{want} is wanted, but `{n}` {is}{meant}"));
             }
         }
         self.wanted(want)
@@ -86,6 +31,10 @@ impl Cursor<'_> {
 
     /// `e => P` is short for `not e or P`.
     pub fn assertion(&mut self) -> Parsed<A> {
+        self.inside(Self::implied)
+    }
+
+    fn implied(&mut self) -> Parsed<A> {
         let line = self.line();
         let left = self.either()?;
         if !self.take("=>") {
@@ -100,12 +49,12 @@ impl Cursor<'_> {
 
     fn either(&mut self) -> Parsed<A> {
         let a = self.both()?;
-        Ok(if self.take("or") { either(&a, &self.either()?) } else { a })
+        Ok(if self.take("or") { either(&a, &self.inside(Self::either)?) } else { a })
     }
 
     fn both(&mut self) -> Parsed<A> {
         let a = self.assertion_unit()?;
-        Ok(if self.take("and") { both(&a, &self.both()?) } else { a })
+        Ok(if self.take("and") { both(&a, &self.inside(Self::both)?) } else { a })
     }
 
     fn assertion_unit(&mut self) -> Parsed<A> {
@@ -151,18 +100,22 @@ impl Cursor<'_> {
 
     /// Chop binds least, then `|`, then `&`.
     pub fn interval(&mut self) -> Parsed<I> {
+        self.inside(Self::chopped)
+    }
+
+    fn chopped(&mut self) -> Parsed<I> {
         let a = self.either_interval()?;
         Ok(if self.take(";") { chop(&a, &self.interval()?) } else { a })
     }
 
     fn either_interval(&mut self) -> Parsed<I> {
         let a = self.both_interval()?;
-        Ok(if self.take("|") { either(&a, &self.either_interval()?) } else { a })
+        Ok(if self.take("|") { either(&a, &self.inside(Self::either_interval)?) } else { a })
     }
 
     fn both_interval(&mut self) -> Parsed<I> {
         let a = self.interval_unit()?;
-        Ok(if self.take("&") { both(&a, &self.both_interval()?) } else { a })
+        Ok(if self.take("&") { both(&a, &self.inside(Self::both_interval)?) } else { a })
     }
 
     fn interval_unit(&mut self) -> Parsed<I> {
@@ -197,13 +150,17 @@ impl Cursor<'_> {
     }
 
     pub fn test(&mut self) -> Parsed<T> {
+        self.inside(Self::test_or)
+    }
+
+    fn test_or(&mut self) -> Parsed<T> {
         let a = self.test_and()?;
         Ok(if self.take("or") { or(&a, &self.test()?) } else { a })
     }
 
     fn test_and(&mut self) -> Parsed<T> {
         let a = self.test_unit()?;
-        Ok(if self.take("and") { and(&a, &self.test_and()?) } else { a })
+        Ok(if self.take("and") { and(&a, &self.inside(Self::test_and)?) } else { a })
     }
 
     fn test_unit(&mut self) -> Parsed<T> {
@@ -211,7 +168,7 @@ impl Cursor<'_> {
             return Ok(e);
         }
         if self.take("not") {
-            return Ok(not(&self.test_unit()?));
+            return Ok(not(&self.inside(Self::test_unit)?));
         }
         if self.take("true") {
             return Ok(truth());
@@ -225,24 +182,24 @@ impl Cursor<'_> {
         if self.take("cov") {
             return Ok(Test::Covered(self.word()?).into());
         }
-        match self.bracketed_test() {
-            Some(e) => Ok(e),
-            None => self.comparison(),
+        if !self.sees_next("(") {
+            return self.comparison();
         }
+        let start = self.at;
+        let first = match self.bracketed_test() {
+            Ok(e) => return Ok(e),
+            Err(e) => (self.at, e),
+        };
+        // A value in parentheses may stand here instead. Of two mistakes the one further on is told.
+        self.at = start;
+        self.comparison().map_err(|e| if self.at >= first.0 { e } else { first.1 })
     }
 
-    /// A test in parentheses; if a value in parentheses stands here instead, nothing is taken.
-    fn bracketed_test(&mut self) -> Option<T> {
-        let start = self.at;
-        if self.take("(") {
-            if let Ok(e) = self.test() {
-                if self.take(")") {
-                    return Some(e);
-                }
-            }
-        }
-        self.at = start;
-        None
+    fn bracketed_test(&mut self) -> Parsed<T> {
+        self.expect("(")?;
+        let e = self.test()?;
+        self.expect(")")?;
+        Ok(e)
     }
 
     fn comparison(&mut self) -> Parsed<T> {
@@ -265,8 +222,20 @@ impl Cursor<'_> {
 
     /// Sums nest to the left.
     pub fn value(&mut self) -> Parsed<V> {
+        self.inside(Self::summed)
+    }
+
+    fn summed(&mut self) -> Parsed<V> {
         let mut a = self.value_unit()?;
-        while self.take("+") {
+        let mut count = 1;
+        while self.sees_next("+") {
+            count += 1;
+            if count > MOST_DEPTH {
+                return self.fail(format!(
+                    "this sum is nested too deep: {NESTING} is the most for a formula"
+                ));
+            }
+            self.at += 1;
             a = sum(&a, &self.value_unit()?);
         }
         Ok(a)
@@ -322,13 +291,15 @@ fn as_test(a: &A) -> Option<T> {
 mod tests {
     use super::*;
     use crate::text::lex::tokens;
+    use crate::text::scope::Scope;
 
     fn parse(text: &str) -> Result<A, Mistake> {
         let all = format!("word x = 0 word y = 0 thread a registers r, q thread b {{ {text} }}");
-        let list = tokens(&all).unwrap();
-        let scope = Scope::scan(&list).unwrap();
+        let list = tokens(&all).list;
+        let (scope, _) = Scope::scan(&list);
         let at = list.iter().position(|t| t.0 == Token::Mark("{")).unwrap() + 1;
-        let mut cursor = Cursor { tokens: &list, at, scope };
+        let mut cursor = Cursor::of(&list, scope);
+        cursor.at = at;
         let a = cursor.assertion()?;
         cursor.expect("}")?;
         Ok(a)
@@ -341,7 +312,7 @@ mod tests {
             words: vec!["x".into(), "y".into()],
             registers: vec!["r".into(), "q".into()],
             threads: vec!["a".into(), "b".into()],
-            shorts: Vec::new(),
+            ..Default::default()
         };
         let shown = names.assertion(&a);
         assert_eq!(parse(&shown).unwrap(), a, "{shown}");

@@ -62,7 +62,7 @@ impl Reader<'_, '_> {
                 self.move_to_word(word)
             }
             None if moves_next(self.c) => {
-                self.c.fail(format!("{} is not declared", self.c.peek().shown()))
+                self.c.fail(format!("{} is not declared{}", self.c.peek().shown(), self.c.meant()))
             }
             _ => self.c.wanted("an instruction (or the thread's end)"),
         }

@@ -2,7 +2,7 @@
 
 use crate::search::prover::{implication, inclusion, At};
 use crate::terms::*;
-use crate::text::lex::Mistake;
+use crate::text::lex::{Mistake, Place};
 use crate::text::parse_formula::Cursor;
 use crate::text::parse_source::{braced, check_size};
 use crate::text::source::{Hint, Middle, Source};
@@ -13,7 +13,8 @@ pub fn proof(c: &mut Cursor, source: &mut Source) -> Result<(), Mistake> {
         let line = c.line();
         let statement = if c.take("step") {
             let name = c.name()?;
-            let at = At { thread: c.scope.thread(&name, line)?, point: c.number()? as u8 };
+            let thread = c.scope.thread(&name, line)?;
+            let at = At { thread, point: byte(c, "point")? };
             c.expect(":")?;
             let (left, right) = from_to(c)?;
             at.triple(&left, &right)
@@ -27,12 +28,33 @@ pub fn proof(c: &mut Cursor, source: &mut Source) -> Result<(), Mistake> {
         } else {
             return Ok(());
         };
-        let rule = if c.take("by") { Some(c.number()? as u8) } else { None };
+        let rule = if c.take("by") { Some(byte(c, "rule")?) } else { None };
         let middle = middle(c, rule)?;
         let (left, right) = statement.sides();
         check_size(&left, line)?;
         check_size(&right, line)?;
+        check_middle(&middle, line)?;
         source.hints.push(Hint { statement, rule, middle, line });
+    }
+}
+
+/// A number of a point or a rule. Which there are is found out later; here it must be a byte, and not be taken for another.
+fn byte(c: &mut Cursor, what: &str) -> Result<u8, Mistake> {
+    let line = c.line();
+    let number = c.number()?;
+    let text = || format!("there is no {what} {number}");
+    u8::try_from(number).map_err(|_| Mistake { line, text: text() })
+}
+
+/// The formulas in the middle must fit into records too.
+fn check_middle(middle: &Option<Middle>, line: Place) -> Result<(), Mistake> {
+    match middle {
+        None => Ok(()),
+        Some(Middle::Interval(interval)) => check_size(interval, line),
+        Some(Middle::Triple(left, right)) => {
+            check_size(left, line)?;
+            check_size(right, line)
+        }
     }
 }
 

@@ -49,6 +49,27 @@ pub enum Wish {
     },
 }
 
+impl Asked {
+    /// The files that the call reads.
+    pub fn files(&self) -> Vec<&str> {
+        let more: Vec<&String> = match &self.wish {
+            Wish::Check | Wish::Trim(_) | Wish::Bill(_) => Vec::new(),
+            Wish::Handover { new, table } => vec![new, table],
+            Wish::Replay { trace } => vec![trace],
+            Wish::Across { new, table, traces: [first, second] } => vec![new, table, first, second],
+        };
+        [&self.file].into_iter().chain(more).map(String::as_str).collect()
+    }
+
+    /// The file that it writes.
+    pub fn target(&self) -> Option<&str> {
+        match &self.wish {
+            Wish::Trim(target) => target.as_deref(),
+            _ => None,
+        }
+    }
+}
+
 const RIGHTS: [(&str, Right); 3] =
     [("check", Right::Check), ("replay", Right::Replay), ("bill", Right::Bill)];
 

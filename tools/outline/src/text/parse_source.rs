@@ -1,7 +1,7 @@
 //! Text to a source: declarations, threads, the parts `proof` and `certificate`.
 
 use crate::terms::*;
-use crate::text::lex::{tokens, Mistake, Place, Token};
+use crate::text::lex::{tokens, Mistake, Place, Token, Tokens, KEYWORDS};
 use crate::text::parse_claim::{claim, point_of, Unplaced};
 use crate::text::parse_formula::Cursor;
 use crate::text::parse_instruction::instruction;
@@ -23,22 +23,23 @@ pub fn parse(text: &str) -> Result<Source, Mistake> {
 
 /// Reads a whole source text, or finds its mistakes: at most one in each point, instruction and other part.
 pub fn parse_all(text: &str) -> Result<Source, Vec<Mistake>> {
-    let list = tokens(text).map_err(|e| vec![e])?;
-    let scope = Scope::scan(&list).map_err(|e| vec![e])?;
+    let Tokens { list, mistakes } = tokens(text);
+    let (scope, scanned) = Scope::scan(&list);
     let mut draft = Draft::of(&scope);
-    let mut cursor = Cursor { tokens: &list, at: 0, scope };
+    draft.mistakes.first = [mistakes, scanned].concat();
+    let mut cursor = Cursor::of(&list, scope);
     while *cursor.peek() != Token::End {
         let start = cursor.at;
         if let Err(mistake) = item(&mut cursor, &mut draft) {
             draft.mistakes.add(mistake);
-            draft.mistakes.missing.extend(name_of_let(&list, start));
+            draft.mistakes.missing.extend(name_behind(&list, start));
             cursor.at = cursor.at.max(start + 1);
             while !at_end_of_thread(&cursor) {
                 cursor.at += 1;
             }
         }
     }
-    draft.finish(&cursor.scope)
+    draft.finish(&cursor.scope, list[list.len() - 1].1)
 }
 
 /// A source in reading.
@@ -65,8 +66,11 @@ impl Draft {
     }
 
     /// The source, once all threads are there; a thread with a mistake has no points for a claim to name.
-    fn finish(mut self, scope: &Scope) -> Result<Source, Vec<Mistake>> {
-        if self.mistakes.all.is_empty() {
+    fn finish(mut self, scope: &Scope, end: Place) -> Result<Source, Vec<Mistake>> {
+        if self.mistakes.is_empty() {
+            self.mistakes.all.extend(scope.missing(end));
+        }
+        if self.mistakes.is_empty() {
             for claim in &self.claims {
                 match claim.placed(&self.source.labels) {
                     Ok(claim) => self.source.claims.push(claim),
@@ -74,10 +78,11 @@ impl Draft {
                 }
             }
         }
-        if !self.mistakes.all.is_empty() {
-            return Err(self.mistakes.all);
+        if !self.mistakes.is_empty() {
+            return Err(self.mistakes.in_order());
         }
         self.source.names.shorts = scope.shorts();
+        self.source.names.labels = self.source.labels.clone();
         Ok(self.source)
     }
 
@@ -95,26 +100,49 @@ impl Draft {
     }
 }
 
-/// The mistakes of a text, without those that only follow from a `let` that failed.
+/// The mistakes of a text, without those that only follow from others: about a name that was not declared since its
+/// declaration failed, or in a line that has one already.
 #[derive(Default)]
 struct Mistakes {
+    /// Those of tokens and declarations, which are read first.
+    first: Vec<Mistake>,
     all: Vec<Mistake>,
     missing: Vec<String>,
 }
 
 impl Mistakes {
     fn add(&mut self, mistake: Mistake) {
-        let follows = |name: &String| mistake.text.contains(&format!("`{name}` is not declared"));
-        if !self.missing.iter().any(follows) {
+        let said = |text: String| mistake.text.contains(&text);
+        let follows = |name: &String| {
+            said(format!("`{name}` is not declared")) || said(format!("`{name}` is no thread"))
+        };
+        let is_told = self.first.iter().any(|told| told.line.line == mistake.line.line);
+        if !is_told && !self.missing.iter().any(follows) {
             self.all.push(mistake);
         }
     }
+
+    fn is_empty(&self) -> bool {
+        self.first.is_empty() && self.all.is_empty()
+    }
+
+    /// All of them in the order of the text.
+    fn in_order(self) -> Vec<Mistake> {
+        let mut all = [self.first, self.all].concat();
+        all.sort_by_key(|mistake| mistake.line);
+        all.dedup_by_key(|mistake| mistake.line);
+        all
+    }
 }
 
-/// The name that the `let` at a place would have declared.
-fn name_of_let(list: &[(Token, Place)], at: usize) -> Option<String> {
+/// The name that the part at a place would have declared: behind `let`, or behind a word that is none of the language.
+fn name_behind(list: &[(Token, Place)], at: usize) -> Option<String> {
     match (&list[at].0, list.get(at + 1).map(|t| &t.0)) {
-        (Token::Name(word), Some(Token::Name(name))) if word == "let" => Some(name.clone()),
+        (Token::Name(word), Some(Token::Name(name)))
+            if word == "let" || !KEYWORDS.contains(&word.as_str()) =>
+        {
+            Some(name.clone())
+        }
         _ => None,
     }
 }
@@ -127,10 +155,12 @@ pub fn parse_test(names: &Names, header: &Header, text: &str) -> Result<T, Mista
         declared += &format!("register {name} of {}\n", names.thread(*owner));
     }
     names.threads.iter().for_each(|name| declared += &format!("thread {name}\n"));
-    let list = tokens(&declared)?;
-    let scope = Scope::scan(&list)?;
-    let tokens = tokens(text)?;
-    let mut cursor = Cursor { tokens: &tokens, at: 0, scope };
+    let (scope, _) = Scope::scan(&tokens(&declared).list);
+    let Tokens { list, mistakes } = tokens(text);
+    if let Some(mistake) = mistakes.into_iter().next() {
+        return Err(mistake);
+    }
+    let mut cursor = Cursor::of(&list, scope);
     let test = cursor.test()?;
     if *cursor.peek() != Token::End {
         return cursor.wanted("the end of the test");
@@ -171,7 +201,11 @@ fn item(c: &mut Cursor, draft: &mut Draft) -> Result<(), Mistake> {
     if c.take("proof") {
         return proof(c, &mut draft.source);
     }
-    if c.take("certificate") {
+    if c.sees_next("certificate") {
+        if draft.source.certificate.is_some() {
+            return c.fail("there is a part `certificate` already".into());
+        }
+        c.at += 1;
         draft.source.certificate = Some(crate::text::parse_certificate::certificate(c)?);
         return Ok(());
     }
@@ -208,6 +242,8 @@ fn short(c: &mut Cursor) -> Result<(), Mistake> {
         Some(sort) => c.of_sort(sort)?,
         None => assertion_or_interval(c)?,
     };
+    // What does not fit into a record fits nowhere, and names of names of it would grow without end.
+    check_size(&formula, line)?;
     c.scope.short(&name, formula, line)
 }
 

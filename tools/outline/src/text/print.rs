@@ -1,7 +1,8 @@
 //! Formulas as text, in the syntax that `parse` reads back to the same formula.
 
+use crate::text::source::Labels;
 use reference::formula::{Assertion, Formula, Interval, Test, Value};
-use reference::image::{Access, Instruction, Program};
+use reference::image::{Access, Instruction, Meeting, Program};
 
 /// Names of words, registers and threads; number 1 is first.
 #[derive(Debug, Clone, Default)]
@@ -11,6 +12,8 @@ pub struct Names {
     pub threads: Vec<String>,
     /// What `let` names, for messages: a formula that has a name is told by it.
     pub shorts: Vec<(Formula, String)>,
+    /// The labels of points, by thread; an image has none.
+    pub labels: Vec<Labels>,
 }
 
 /// A text and how tightly it binds.
@@ -46,7 +49,7 @@ impl Names {
             words: list('w', program.header.start.len()),
             registers: list('r', program.header.owners.len()),
             threads: list('t', program.threads.len()),
-            shorts: Vec::new(),
+            ..Names::default()
         }
     }
 
@@ -58,6 +61,23 @@ impl Names {
     }
     pub fn thread(&self, number: u8) -> &str {
         &self.threads[usize::from(number) - 1]
+    }
+    /// The label of a thread's point, if it has one.
+    pub fn label(&self, thread: u8, point: u8) -> Option<&str> {
+        self.labels.get(usize::from(thread) - 1)?.get(usize::from(point))?.as_deref()
+    }
+    /// A thread's point by its label, or else by its number.
+    pub fn point(&self, thread: u8, point: u8) -> String {
+        self.label(thread, point).map_or_else(|| format!("point {point}"), String::from)
+    }
+    /// A thread at one of its points: `ann at inside`, `ann at point 5`.
+    pub fn at(&self, thread: u8, point: u8) -> String {
+        format!("{} at {}", self.thread(thread), self.point(thread, point))
+    }
+    /// What a claim says: `ann at inside and bob at inside`.
+    pub fn both(&self, meeting: &Meeting) -> String {
+        let Meeting { thread, point, other_thread, other_point } = *meeting;
+        format!("{} and {}", self.at(thread, point), self.at(other_thread, other_point))
     }
 
     pub fn value(&self, tree: &Value) -> String {
@@ -79,18 +99,25 @@ impl Names {
         }
     }
 
-    /// One instruction as text.
-    pub fn instruction(&self, instruction: &Instruction) -> String {
-        self.instruction_with(instruction, &[])
+    /// One instruction of a thread as text; a branch goes to a label, if its target has one.
+    pub fn instruction(&self, thread: u8, instruction: &Instruction) -> String {
+        self.instruction_with(thread, instruction, &[])
     }
 
     /// One instruction with a text behind each of its formulas, as far as there are texts.
-    pub fn instruction_with(&self, instruction: &Instruction, behind: &[String]) -> String {
+    pub fn instruction_with(
+        &self,
+        thread: u8,
+        instruction: &Instruction,
+        behind: &[String],
+    ) -> String {
         let mut behind = behind.iter();
         let mut marked = |text: String| text + behind.next().map_or("", |mark| mark.as_str());
         let (access, notes) = match instruction {
             Instruction::Branch { test, target } => {
-                return marked(format!("if {} goto {target}", self.test(test)));
+                let label = self.label(thread, *target);
+                let to = label.map_or_else(|| target.to_string(), String::from);
+                return marked(format!("if {} goto {to}", self.test(test)));
             }
             Instruction::Act { access, notes } => (access, notes),
         };

@@ -27,7 +27,7 @@ pub fn refusal(
     let Some(instruction) = program.instruction(thread, point) else {
         return format!("{name} is at its last point");
     };
-    let step = format!("{name}: {}", names.instruction(instruction));
+    let step = format!("{name}: {}", names.instruction(thread, instruction));
     let why = match instruction.access() {
         None => format!("it picks no write, and its position is {position}, not 0"),
         Some(access) => not_picked(names, state, (thread, usize::from(position)), access)

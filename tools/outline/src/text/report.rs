@@ -5,15 +5,17 @@ use crate::text::print::Names;
 use crate::text::source::Source;
 use reference::checker::obligations::Duty;
 use reference::checker::rules::before_notes;
-use reference::image::{Instruction, Meeting, Statement};
+use reference::image::{Meeting, Statement};
 use std::fmt::Write;
 use std::slice;
 
-/// A thread's point with its name, and its line where there is a source.
-fn point(names: &Names, source: Option<&Source>, t: u8, p: u8) -> String {
+/// A thread's point with its name, and where there is a source its label and its line.
+pub fn point(names: &Names, source: Option<&Source>, t: u8, p: u8) -> String {
     let line = source.map(|s| s.points[usize::from(t) - 1][usize::from(p)].line);
-    let line = line.map(|line| format!(" (line {line})")).unwrap_or_default();
-    format!("thread {t} ({}) point {p}{line}", names.thread(t))
+    let line = line.map(|line| format!("line {line}"));
+    let known: Vec<String> = names.label(t, p).map(String::from).into_iter().chain(line).collect();
+    let known = if known.is_empty() { String::new() } else { format!(" ({})", known.join(", ")) };
+    format!("thread {t} ({}) point {p}{known}", names.thread(t))
 }
 
 /// An open obligation or claim, in words.
@@ -63,17 +65,18 @@ pub fn open(source: &Source, open: &Open, in_full: bool) -> String {
     }
     let instruction = match open.wanted {
         Statement::Triple { thread, point, .. } => {
-            source.threads[usize::from(thread) - 1].get(usize::from(point))
+            let code = &source.threads[usize::from(thread) - 1];
+            code.get(usize::from(point)).map(|instruction| (thread, instruction))
         }
         _ => None,
     };
-    if let Some(instruction) = instruction {
-        let _ = writeln!(text, "  instruction  {}", source.names.instruction(instruction));
+    if let Some((thread, instruction)) = instruction {
+        let _ = writeln!(text, "  instruction  {}", source.names.instruction(thread, instruction));
     }
     let (left, right) = open.wanted.assertions();
     let _ = writeln!(text, "  from         {}", source.names.assertion(left));
     let _ = writeln!(text, "  to           {}", source.names.assertion(right));
-    if let Some(note) = instruction.and_then(Instruction::pair_note) {
+    if let Some(note) = instruction.and_then(|(_, instruction)| instruction.pair_note()) {
         // Rule 50 asks this of the first half, and of it speaks what follows.
         let half = before_notes(right, slice::from_ref(note));
         let _ = writeln!(text, "  first half   to {}", source.names.assertion(&half));

@@ -8,11 +8,15 @@ use reference::machine::{take, State, Step, Write};
 /// A run as lines: each step with what it reads or writes, the registers reached, and the values in each row.
 pub fn lines(program: &Program, names: &Names, run: &Run) -> Vec<String> {
     let (mut lines, end) = steps(program, names, run);
-    for (x, row) in (1..).zip(&end.rows) {
-        let values: Vec<String> = row.iter().map(|write| write.value.to_string()).collect();
-        lines.push(format!("     {} was written {}", names.word(x), values.join(", ")));
-    }
+    let words = 1..=end.rows.len() as u8;
+    lines.extend(words.map(|x| format!("     {}", written(names, &end, x))));
     lines
+}
+
+/// The values in a word's row.
+pub fn written(names: &Names, state: &State, x: u8) -> String {
+    let values: Vec<String> = state.row(x).iter().map(|write| write.value.to_string()).collect();
+    format!("{} was written {}", names.word(x), values.join(", "))
 }
 
 /// Each step of a run with what it reads or writes, and the registers reached; and the state at its end.
@@ -50,18 +54,33 @@ pub fn table(names: &Names, state: &State, writes: &[Write]) -> Vec<String> {
     places.zip(writes).map(line).collect()
 }
 
-fn registers(names: &Names, state: &State) -> String {
+/// The registers with their values.
+pub fn registers(names: &Names, state: &State) -> String {
     let values = names.registers.iter().zip(&state.registers);
     values.map(|(name, value)| format!("{name} = {value}")).collect::<Vec<String>>().join(", ")
 }
 
 fn one_step(program: &Program, names: &Names, state: &State, step: Step, after: &State) -> String {
-    let thread = usize::from(step.thread) - 1;
-    let instruction =
-        program.instruction(step.thread, state.points[thread]).expect("an instruction");
+    let point = state.points[usize::from(step.thread) - 1];
+    let instruction = program.instruction(step.thread, point).expect("an instruction");
     let who = names.thread(step.thread);
-    let done = match instruction {
-        Instruction::Branch { .. } => format!("goes to point {}", after.points[thread]),
+    let done = effect(names, instruction, state, step, after);
+    format!("{who}: {}   {done}", names.instruction(step.thread, instruction))
+}
+
+/// What a step does: what it reads and writes, what it gives, where it goes.
+pub fn effect(
+    names: &Names,
+    instruction: &Instruction,
+    state: &State,
+    step: Step,
+    after: &State,
+) -> String {
+    match instruction {
+        Instruction::Branch { .. } => {
+            let point = after.points[usize::from(step.thread) - 1];
+            format!("goes to {}", names.point(step.thread, point))
+        }
         Instruction::Act { access, notes } => {
             let moved = access.iter().map(|access| accessed(access, state, step, after));
             let value = |note: &Note| after.registers[usize::from(note.register) - 1].to_string();
@@ -69,8 +88,7 @@ fn one_step(program: &Program, names: &Names, state: &State, step: Step, after: 
             let given = (!notes.is_empty()).then(|| format!("gives {}", given.join(", ")));
             moved.chain(given).collect::<Vec<String>>().join(", ")
         }
-    };
-    format!("{who}: {}   {done}", names.instruction(instruction))
+    }
 }
 
 /// What an access reads or writes. Writes in a row count from 1 here.

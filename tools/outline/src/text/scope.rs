@@ -39,6 +39,11 @@ impl Scope {
         self.meanings.get(name)
     }
 
+    /// The names that are declared so far.
+    pub fn declared(&self) -> impl Iterator<Item = &str> {
+        self.meanings.keys().map(String::as_str)
+    }
+
     /// What `let` has named so far.
     pub fn shorts(&self) -> Vec<(Formula, String)> {
         let short = |(name, meaning): (&String, &Meaning)| match meaning {
@@ -58,38 +63,55 @@ impl Scope {
         if KEYWORDS.contains(&name) {
             return fault(format!("`{name}` is a word of the language and cannot be a name"));
         }
-        if self.meanings.insert(name.to_string(), meaning).is_some() {
+        if self.meanings.contains_key(name) {
             return fault(format!("the name `{name}` is given twice"));
         }
+        self.meanings.insert(name.to_string(), meaning);
         Ok(())
     }
 
-    /// Declares words, registers and threads ahead of reading, since assertions look ahead.
-    pub fn scan(tokens: &[(Token, Place)]) -> Result<Scope, Mistake> {
-        let mut scope = Scope { range: scan_range(tokens)?, ..Scope::default() };
+    /// Declares words, registers and threads ahead of reading, since assertions look ahead. Goes on past mistakes, of which there
+    /// is at most one for each declaration.
+    pub fn scan(tokens: &[(Token, Place)]) -> (Scope, Vec<Mistake>) {
+        let (range, mut mistakes) = scan_range(tokens);
+        let mut scope = Scope { range, ..Scope::default() };
         let mut owners_by_name = Vec::new();
         for i in 0..tokens.len() {
-            match &tokens[i].0 {
-                Token::Name(n) if n == "word" => scope.scan_word(tokens, i)?,
-                Token::Name(n) if n == "thread" => {
-                    let (name, line) = name_at(tokens, i + 1)?;
-                    scope.names.threads.push(name.clone());
-                    scope.add(&name, Meaning::Thread(scope.names.threads.len() as u8), line)?;
-                }
-                Token::Name(n) if n == "registers" => scope.scan_registers(tokens, i)?,
-                Token::Name(n) if n == "register" => {
-                    let (name, line) = name_at(tokens, i + 1)?;
-                    scope.add_register(&name, 0, mark(tokens, i), line)?;
-                    owners_by_name.push((scope.owners.len() - 1, name_at(tokens, i + 3)?));
-                }
-                _ => {}
-            }
+            let Token::Name(name) = &tokens[i].0 else { continue };
+            let scanned = match name.as_str() {
+                "word" => scope.scan_word(tokens, i),
+                "thread" => scope.scan_thread(tokens, i),
+                "registers" => scope.scan_registers(tokens, i),
+                "register" => scope.scan_register(tokens, i, &mut owners_by_name),
+                _ => Ok(()),
+            };
+            mistakes.extend(scanned.err());
         }
         for (r, (owner, line)) in owners_by_name {
-            scope.owners[r] = scope.thread(&owner, line)?;
+            match scope.thread(&owner, line) {
+                Ok(number) => scope.owners[r] = number,
+                Err(mistake) => mistakes.push(mistake),
+            }
         }
-        scope.limits(tokens[tokens.len() - 1].1)?;
-        Ok(scope)
+        (scope, mistakes)
+    }
+
+    fn scan_thread(&mut self, tokens: &[(Token, Place)], i: usize) -> Result<(), Mistake> {
+        let (name, line) = name_at(tokens, i + 1)?;
+        let number = numbered("threads", &mut self.names.threads, &name, limits::THREADS, line)?;
+        self.add(&name, Meaning::Thread(number), line)
+    }
+
+    fn scan_register(
+        &mut self,
+        tokens: &[(Token, Place)],
+        i: usize,
+        owners: &mut Vec<(usize, (String, Place))>,
+    ) -> Result<(), Mistake> {
+        let (name, line) = name_at(tokens, i + 1)?;
+        self.add_register(&name, 0, mark(tokens, i), line)?;
+        owners.push((self.owners.len() - 1, name_at(tokens, i + 3)?));
+        Ok(())
     }
 
     /// The number of a thread by its name.
@@ -102,15 +124,18 @@ impl Scope {
 
     fn scan_word(&mut self, tokens: &[(Token, Place)], i: usize) -> Result<(), Mistake> {
         let (name, line) = name_at(tokens, i + 1)?;
-        self.names.words.push(name.clone());
-        self.add(&name, Meaning::Word(self.names.words.len() as u8), line)?;
-        match &tokens[(i + 3).min(tokens.len() - 1)].0 {
-            Token::Number(v) if *v < usize::from(self.range) => self.starts.push(*v as u8),
-            t => {
-                let (values, found) = (self.values(), t.shown());
-                let text = format!("word {name} needs a start value {values}, found {found}");
-                return Err(Mistake { line, text });
-            }
+        let number = numbered("words", &mut self.names.words, &name, limits::WORDS, line)?;
+        self.add(&name, Meaning::Word(number), line)?;
+        let (found, place) = &tokens[(i + 3).min(tokens.len() - 1)];
+        let value = match found {
+            Token::Number(v) if *v < usize::from(self.range) => Some(*v as u8),
+            _ => None,
+        };
+        self.starts.push(value.unwrap_or(0));
+        if value.is_none() {
+            let (values, found) = (self.values(), found.shown());
+            let text = format!("word {name} needs a start value {values}, found {found}");
+            return Err(Mistake { line: *place, text });
         }
         Ok(())
     }
@@ -135,10 +160,11 @@ impl Scope {
         mark: u8,
         line: Place,
     ) -> Result<(), Mistake> {
-        self.names.registers.push(name.to_string());
+        let most = limits::REGISTERS;
+        let number = numbered("registers", &mut self.names.registers, name, most, line)?;
         self.owners.push(owner);
         self.marks.push(mark);
-        self.add(name, Meaning::Register(self.names.registers.len() as u8), line)
+        self.add(name, Meaning::Register(number), line)
     }
 
     /// The values there are, for messages.
@@ -158,20 +184,34 @@ impl Scope {
         Header { counts, start, owners, marks }
     }
 
-    fn limits(&self, line: Place) -> Result<(), Mistake> {
-        let checks = [
-            ("threads", self.names.threads.len(), 1, limits::THREADS.into()),
-            ("words", self.names.words.len(), 1, limits::WORDS.into()),
-            ("registers", self.names.registers.len(), 0, limits::REGISTERS.into()),
-        ];
-        for (what, n, least, most) in checks {
-            if n < least || n > most {
-                let text = format!("{n} {what}; an image has {least} to {most}");
-                return Err(Mistake { line, text });
-            }
+    /// What an image needs and nothing has declared.
+    pub fn missing(&self, end: Place) -> Option<Mistake> {
+        let none = |what: &str, most: u8| {
+            Some(Mistake { line: end, text: format!("0 {what}; an image has 1 to {most}") })
+        };
+        match (self.names.threads.is_empty(), self.names.words.is_empty()) {
+            (true, _) => none("threads", limits::THREADS),
+            (_, true) => none("words", limits::WORDS),
+            _ => None,
         }
-        Ok(())
     }
+}
+
+/// One more name in a list that an image has room for. The first that has none is told; those behind it are left out too.
+fn numbered(
+    what: &str,
+    names: &mut Vec<String>,
+    name: &str,
+    most: u8,
+    line: Place,
+) -> Result<u8, Mistake> {
+    let count = names.len() + 1;
+    if count > usize::from(most) {
+        let text = format!("{count} {what}; an image has at most {most}");
+        return Err(Mistake { line, text });
+    }
+    names.push(name.to_string());
+    Ok(count as u8)
 }
 
 /// The start mark of the registers declared at a place: 0 behind `open`, else 1.
@@ -180,19 +220,20 @@ fn mark(tokens: &[(Token, Place)], i: usize) -> u8 {
     u8::from(before != Some(&Token::Name("open".into())))
 }
 
-/// The number behind `range`, which may be left out.
-fn scan_range(tokens: &[(Token, Place)]) -> Result<u8, Mistake> {
+/// The number behind `range`, which may be left out; a wrong one is told, and the usual one taken.
+fn scan_range(tokens: &[(Token, Place)]) -> (u8, Vec<Mistake>) {
     let is_range = |(token, _): &(Token, Place)| *token == Token::Name("range".into());
     let mut places = (0..tokens.len()).filter(|&at| is_range(&tokens[at]));
-    let Some(at) = places.next() else { return Ok(USUAL_RANGE) };
-    if let Some(again) = places.next() {
-        return Err(Mistake { line: tokens[again].1, text: "the range is given twice".into() });
-    }
-    match tokens[(at + 1).min(tokens.len() - 1)] {
-        (Token::Number(range @ 2..=16), _) => Ok(range as u8),
-        (ref other, line) => {
+    let Some(at) = places.next() else { return (USUAL_RANGE, Vec::new()) };
+    let twice =
+        |again: usize| Mistake { line: tokens[again].1, text: "the range is given twice".into() };
+    let mut mistakes: Vec<Mistake> = places.map(twice).collect();
+    match &tokens[(at + 1).min(tokens.len() - 1)] {
+        (Token::Number(range @ 2..=16), _) => (*range as u8, mistakes),
+        (other, line) => {
             let text = format!("the range is 2 to 16 values, found {}", other.shown());
-            Err(Mistake { line, text })
+            mistakes.insert(0, Mistake { line: *line, text });
+            (USUAL_RANGE, mistakes)
         }
     }
 }

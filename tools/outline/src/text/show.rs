@@ -53,7 +53,7 @@ fn thread<'a>(
             let written = image.written.threads[index][point];
             let halves = [written.first].into_iter().chain(written.second);
             let marks: Vec<String> = halves.map(|half| format!(" @{}", half.formula)).collect();
-            let _ = writeln!(out, "    {}", names.instruction_with(instruction, &marks));
+            let _ = writeln!(out, "    {}", names.instruction_with(t, instruction, &marks));
         }
     }
 }

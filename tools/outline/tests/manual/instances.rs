@@ -1,17 +1,25 @@
 //! Each rule has an instance that fits and one that nearly does, judged by the independent checker.
 
 use crate::blocks::{manual, of_kind, Block};
-use crate::states::is_refuted;
 use outline::build::build;
+use outline::refuted::refutation;
 use outline::text::parse_source::parse;
 use outline::text::source::{Hint, Source};
 use reference::assemble::Plan;
 use reference::checker::obligations::duties;
 use reference::checker::rules::{justified_lines, rules};
 use reference::checker::{check, decode};
-use reference::image::Program;
+use reference::image::{Program, Statement};
 use reference::proof::Proof;
 use std::rc::Rc;
+
+/// So many states are tried for each statement.
+const TRIES: usize = 40_000;
+
+/// Whether a state is found in which the statement is false.
+fn is_refuted(program: &Program, statement: &Statement) -> bool {
+    refutation(program, statement, TRIES).is_some()
+}
 
 /// The program for whose instructions the triples are.
 fn program_text() -> String {

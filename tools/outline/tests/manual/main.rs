@@ -7,4 +7,3 @@ mod instances;
 mod pages;
 mod pictures;
 mod served;
-mod states;

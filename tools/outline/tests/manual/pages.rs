@@ -77,7 +77,7 @@ fn what_is_beyond_the_rules_is_true() {
         let source = source(&block);
         let found = build(&source).is_ok_and(|built| built.open.is_empty());
         assert!(!found, "block at line {}", block.line);
-        let bounds = Bounds { steps: 12, writes: 8, starts: 4096 };
+        let bounds = Bounds { steps: 12, writes: 8, ..Bounds::DEFAULT };
         let outcome = explore(&source.program(), &[], bounds).outcome;
         assert_eq!(outcome, Outcome::Holds { all: true }, "block at line {}", block.line);
         assert!(facts_are_true(&source, bounds), "block at line {}", block.line);

@@ -58,9 +58,9 @@ fn section(text: &str) -> &str {
 fn a_claim_that_is_shown_is_a_sentence_with_its_lines() {
     let (status, text) = page("claim-shown", &with_claim(meeting(1, 0), true));
     assert_eq!(status, 0);
-    assert!(text.contains(" In no run do t1 at point 1 and t2 at point 0 meet. "));
+    assert!(text.contains(" t1 at point 1 and t2 at point 0 are never together. "));
     let claims = section(&text);
-    let sentence = "<a href=\"#point-1-1\">t1, point 1</a> and <a href=\"#point-2-0\">t2, point 0</a> never meet.";
+    let sentence = "<a href=\"#point-1-1\">t1 at point 1</a> and <a href=\"#point-2-0\">t2 at point 0</a> never meet.";
     assert!(claims.contains(sentence), "{claims}");
     assert!(claims.contains("Shown, and true in every run:") && claims.contains(">met</span>"));
     assert!(claims.contains("rule 20: By truth table"));
@@ -72,8 +72,12 @@ fn a_claim_that_a_run_breaks_is_drawn() {
     assert_eq!(status, 1);
     let all = tags(&text);
     assert_eq!((count(&all, "run"), count(&all, "open")), (1, 1));
-    assert!(text.contains("It is not shown that t1 at point 0 and t2 at point 1 never meet"));
-    assert!(text.contains(", and a run of 1 step breaks it."));
+    let never = "a run of 1 step breaks a claim: never t1 at point 0 and t2 at point 1.";
+    assert!(
+        text.contains(&format!("</strong> The program is wrong: {never} It is not shown that")),
+        "{text}"
+    );
+    assert!(text.contains("It is not shown that t1 at point 0 and t2 at point 1 never meet."));
     assert!(text.contains(">Claimed never to meet: t1 at point 0 and t2 at point 1</text>"));
     assert!(section(&text).contains("The image is refused: none of these is a result."));
 }
@@ -87,6 +91,6 @@ fn a_claim_by_another_line_is_not_shown() {
     image[end - 3] = 1;
     let (status, text) = page("claim-other", &image);
     assert_eq!(status, 1);
-    assert!(text.contains("is unjustified or concludes something else. (Code 26; "), "{text}");
-    assert!(text.contains("No run breaks it: in all "));
+    assert!(text.contains("is not justified or concludes something else. (Code 26; "), "{text}");
+    assert!(text.contains("It is not proved: no run breaks an assertion or a claim (all "));
 }

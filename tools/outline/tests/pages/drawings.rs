@@ -8,10 +8,29 @@ fn drawn(name: &str) -> (i32, String) {
     (status, out)
 }
 
-/// A hand-over with the last release dropped: five steps, one read, one acquire.
+/// A hand-over with the last release dropped: seven steps until the last assertion is false, three reads, one acquire.
+#[test]
+fn the_run_to_a_false_last_assertion_is_drawn() {
+    let (status, svg) = drawn("three-threads-wrong-1");
+    let all = tags(&svg);
+    assert_eq!((status, count(&all, "run-number"), count(&all, "run-broken")), (1, 7, 1));
+    // One arrow for each, and one each in the legend.
+    assert_eq!((count(&all, "run-reads"), count(&all, "run-syncs")), (4, 2));
+    assert!(
+        svg.contains(">Not so: c != 1</text>") && svg.contains(">Not so: d = 1</text>"),
+        "{svg}"
+    );
+}
+
+/// The same with nothing said at the last point: five steps until an assertion on the way is false, one read, one acquire.
 #[test]
 fn steps_reads_and_acquires_are_drawn() {
-    let (status, svg) = drawn("three-threads-wrong-1");
+    let folder = folder("three");
+    let text = std::fs::read_to_string(example("three-threads-wrong-1")).expect("readable");
+    let file = folder.join("three.outline");
+    std::fs::write(&file, text.replace("{ c = 1 => d = 1 }", "{ true }")).expect("written");
+    let (status, svg, _) = run(&["draw", file.to_str().expect("a name"), "-o", "-"]);
+    let _ = std::fs::remove_dir_all(folder);
     let all = tags(&svg);
     assert_eq!(status, 1);
     assert_eq!(count(&all, "run-number"), 5);
@@ -79,7 +98,7 @@ fn an_outcome_is_drawn_if_it_happens() {
     let (status, svg, err) =
         run(&["draw", &example("message-passing"), "--outcome", "a = 1 and b = 0", "-o", "-"]);
     assert_eq!((status, svg.as_str()), (0, ""));
-    assert!(err.contains("nothing is drawn: never: a = 1 and b = 0 (in "), "{err}");
+    assert!(err.contains("nothing is drawn: never: a = 1 and b = 0, in all 13 states\n"), "{err}");
 }
 
 #[test]
@@ -91,7 +110,9 @@ fn use_of_draw() {
     assert_eq!((status, out.as_str()), (0, "nothing is drawn: accepted: no run breaks it\n"));
     assert!(!std::path::Path::new(target).exists());
     let (status, out, _) = run(&["draw", &example("rrc2-wrong-1"), "-o", target]);
-    assert_eq!((status, out), (1, format!("{target}: a run of 3 steps breaks it\n")));
+    let told =
+        "PROGRAM WRONG: a run of 4 steps breaks reader's last assertion: a = 1 =&gt; b = 1\n";
+    assert_eq!((status, out), (1, format!("{target}: {}", told.replace("&gt;", ">"))));
     let svg = std::fs::read_to_string(target).expect("written");
     assert!(svg.starts_with("<svg xmlns=\"http://www.w3.org/2000/svg\""));
     assert_eq!(run(&["draw", &example("rrc2-wrong-1")]).0, 2);

@@ -2,10 +2,11 @@
 
 use crate::reader::tags;
 use crate::{folder, run};
+use outline::diagnosis::Diagnosis;
 use outline::draw::{Ending, Picture};
-use outline::judged::{broken, judged};
+use outline::judged::{judged, Goal};
 use outline::report::words::Words;
-use outline::report::{page, Content, Subject};
+use outline::report::{page, Content, Source, Subject};
 use outline::text::parse_source::parse;
 use reference::checker::decode;
 use reference::explore::Bounds;
@@ -40,12 +41,14 @@ fn content() -> (Vec<u8>, Content) {
     bad(&mut source.names.registers);
     let decoded = decode(&bytes).expect("an image");
     let judged = judged(&decoded);
-    let bounds = Bounds { steps: 4, writes: 4, starts: 4 };
-    let sought = Some(broken(&decoded.program, &judged, bounds));
+    let bounds = Bounds { steps: 4, writes: 4, starts: 4, states: 1000 };
+    let goals: Vec<Goal> = judged.iter().map(|judged| judged.goal).collect();
+    let diagnosis = Some(Diagnosis::of(&decoded.program, &[], &goals, bounds));
     let mut words = Words::of_image(&source.names, &decoded.program);
     words.lets = vec![(BAD.into(), BAD.into())];
     let image = outline::image::read(&bytes).expect("an image");
-    (bytes, Content { image, words, judged, sought, tried: vec![BAD.into()] })
+    let tried = vec![BAD.into()];
+    (bytes, Content { image, words, judged, accepted: false, diagnosis, tried })
 }
 
 #[test]
@@ -53,8 +56,18 @@ fn a_page_escapes_every_name() {
     let (bytes, content) = content();
     let verdict = reference::checker::check(&bytes);
     let about = vec![BAD.to_string()];
-    let subject =
-        Subject { file: BAD, about, bytes: &bytes, verdict, judge: BAD, content: Some(content) };
+    let names = content.words.names.clone();
+    let source = Some(Source { text: BAD.as_bytes(), names: &names });
+    let subject = Subject {
+        file: BAD,
+        about,
+        bytes: &bytes,
+        source,
+        date: BAD,
+        verdict,
+        judge: BAD,
+        content: Some(content),
+    };
     let text = page(&subject);
     is_safe(&text);
     assert!(text.contains("<svg"), "the run is drawn");
@@ -63,7 +76,7 @@ fn a_page_escapes_every_name() {
 #[test]
 fn a_drawing_escapes_every_name() {
     let (_, content) = content();
-    let Some(Ok(broken)) = &content.sought else { panic!("a run breaks it") };
+    let broken = content.diagnosis.as_ref().and_then(Diagnosis::worst).expect("a run breaks it");
     let (program, names) = (&content.image.program, &content.words.names);
     for ending in [Ending::False { thread: 1, words: BAD.into() }, Ending::Outcome(BAD.into())] {
         is_safe(&Picture { program, names, run: &broken.run, ending }.svg().written());

@@ -3,6 +3,7 @@
 mod claims;
 mod drawings;
 mod hostile;
+mod quotes;
 mod reader;
 mod reports;
 

@@ -94,11 +94,15 @@ fn every_example_has_its_page() {
         let wrong = name.contains("-wrong-");
         assert_eq!(count(&all, "run") == 1, wrong, "{name}");
         assert_eq!(status == 0, count(&all, "accepted") == 1, "{name}");
+        let is_false = |answer: &str| text.contains(&format!("</strong> {answer}"));
         assert_eq!(
-            text.contains("It is false.") || text.contains("The outline is false."),
+            is_false("The program is wrong: ") || is_false("The outline is false: "),
             wrong,
             "{name}"
         );
+        // Nothing on a refused page is called met.
+        assert_eq!(status == 0, count(&all, "met") > 0, "{name}");
+        assert!(status == 1 || count(&all, "there") == 0, "{name}");
         let ids: BTreeSet<&str> = all.iter().filter_map(|tag| tag.get("id")).collect();
         assert_eq!(ids.len(), all.iter().filter(|tag| tag.get("id").is_some()).count(), "{name}");
         for tag in &all {
@@ -121,8 +125,48 @@ fn every_example_has_its_page() {
 fn what_no_run_breaks_is_not_called_false() {
     let (status, text) = page("ticket-wait");
     assert_eq!(status, 1);
-    assert!(text.contains("No run breaks it: in all ") && !text.contains("<svg"));
-    assert!(text.contains("It is not shown that waiter’s assertion at point 0 survives first’s “"));
+    assert!(!text.contains("<svg"));
+    let answer = "It is not proved: no run breaks an assertion or a claim (all 16 states).";
+    assert!(text.contains(answer), "{text}");
+    assert!(
+        text.contains("It is not shown that the assertion of waiter at point 0 survives first’s “")
+    );
+}
+
+/// The claim has its line, but other lines are missing, and a run brings both threads inside.
+#[test]
+fn nothing_on_a_refused_page_is_a_result() {
+    let file = concat!(env!("CARGO_MANIFEST_DIR"), "/tests/outlines/both-inside.outline");
+    let (status, text, _) = run(&["report", file, "-o", "-"]);
+    let all = tags(&text);
+    assert_eq!((status, count(&all, "met"), count(&all, "open")), (1, 0, 3));
+    assert!(!text.contains(">met<") && !text.contains(" are met"), "{text}");
+    let claim = " never meet.</span> <span class=\"answer there\">its line is there; nothing follows while others are open</span>";
+    assert!(text.contains(claim), "{text}");
+    assert!(
+        text.contains("none of these is a result.")
+            && text.contains("none of these assertions is a result.")
+    );
+    assert!(text.contains("25 of 28 have their lines in a certificate of "), "{text}");
+    assert_eq!(count(&all, "there"), 26, "25 obligations and the claim");
+}
+
+/// The run that is drawn is the claim's, though obligations without a line are broken in fewer steps.
+#[test]
+fn the_run_that_matters_most_is_drawn() {
+    let file = concat!(env!("CARGO_MANIFEST_DIR"), "/tests/outlines/both-inside.outline");
+    let (_, text, _) = run(&["report", file, "-o", "-"]);
+    let answer = "The program is wrong: a run of 5 steps breaks a claim: never north at inside and south at inside.";
+    let first = text.find("<strong class=\"word\">Refused</strong>").expect("a verdict");
+    assert!(text[first..].contains(&format!("Refused</strong> {answer}")), "{text}");
+    let title = "<title>A run of 5 steps after which these meet: north at inside and south at inside</title>";
+    assert!(text.contains(title), "{text}");
+    assert_eq!(text.matches("<svg").count(), 1);
+    let falsehoods = text.matches(">False:</strong> a run of ").count();
+    assert_eq!(
+        (falsehoods, text.contains(">False:</strong> a run of 2 steps breaks it.")),
+        (3, true)
+    );
 }
 
 #[test]
