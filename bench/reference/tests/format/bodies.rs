@@ -36,8 +36,10 @@ fn bytes(image: &Written, record: &Record, field: &str, size: &str) -> Option<us
     let names = field.split(", ").count();
     let premises = |body: &[u8]| usize::from(body[7]);
     Some(match size {
-        "byte" | "bytes" => names,
-        "number" | "numbers" => 2 * names,
+        "byte" => 1,
+        "bytes" => names,
+        "number" => 2,
+        "numbers" => 2 * names,
         "W bytes" => image.header.counts.words.into(),
         "R bytes" => image.header.counts.registers.into(),
         "k numbers" => 2 * premises(&record.body),
