@@ -27,7 +27,7 @@ pub fn rows() -> Vec<Row> {
 
 fn row([rule, form, count, operations, from, to, premises, asks]: [String; 8]) -> Row {
     let shape = |cell: &str| spans(cell).0.concat();
-    Row {
+    let row = Row {
         rule: number(&rule) as u8,
         form: form_named(&form),
         premise_counts: numbers(&count).into_iter().map(|count| count as usize).collect(),
@@ -36,7 +36,12 @@ fn row([rule, form, count, operations, from, to, premises, asks]: [String; 8]) -
         to: shape(&to),
         premises: premises_of(&premises),
         asks: asks.split("; ").filter(|asked| !asked.is_empty()).map(String::from).collect(),
+    };
+    if let [count] = row.premise_counts[..] {
+        assert_eq!(row.premises.len(), count, "premises of rule {rule}");
     }
+    assert_eq!(row.form == Form::Triple, !row.operations.is_empty(), "operations of rule {rule}");
+    row
 }
 
 fn form_named(name: &str) -> Form {
@@ -132,7 +137,7 @@ impl Row {
 const BINDING: [&str; 5] = [
     "by truth table",
     "n is f, for 8 it is r + f",
-    "q and g are those of the second half",
+    "q and h are those of the second half",
     "v is the start value of x",
     "the mark of r is 1",
 ];

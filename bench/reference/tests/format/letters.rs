@@ -15,7 +15,7 @@ const S: u8 = 3;
 
 /// One instruction for each operation, each at the point of its number. Register 2 may start with any value.
 pub fn every_operation() -> Program {
-    let (f, g) = (5, 6);
+    let (f, h) = (5, 6);
     let code = vec![
         single(0, R, 0, f),
         single(1, R, X, 0),
@@ -26,15 +26,15 @@ pub fn every_operation() -> Program {
         single(6, 0, 0, FALSE),
         single(7, X, R, f),
         single(8, X, R, f),
-        double(9, X, 0, f, Q, g),
-        double(10, X, 0, f, Q, g),
-        double(11, X, 0, f, Q, g),
-        double(12, R, 0, f, Q, g),
+        double(9, X, 0, f, Q, h),
+        double(10, X, 0, f, Q, h),
+        double(11, X, 0, f, Q, h),
+        double(12, R, 0, f, Q, h),
     ];
     let mut image = with_code(2, code);
     image.header.marks[usize::from(Q) - 1] = 0;
     image.header.start[usize::from(X) - 1] = 4;
-    // f is s + 1, g is r + s: with both replaced at once r does not become f in g.
+    // f is s + 1, h is r + s: with both replaced at once r does not become f in h.
     image.formulas.push(vec![3, 1, S, 0, 1]);
     image.formulas.push(vec![3, 1, R, 1, S]);
     assert_eq!(image.formulas[usize::from(ZERO) - 1], [0, 0]);
@@ -227,7 +227,7 @@ impl Choice<'_> {
         }
     }
 
-    /// The registers and formulas that `{r := f}` or `{q := g}` replaces.
+    /// The registers and formulas that `{r := f}` or `{q := h}` replaces.
     pub fn notes(&self, letter: char) -> Vec<Note> {
         let notes = self.instruction().notes();
         match letter {

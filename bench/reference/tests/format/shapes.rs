@@ -194,7 +194,7 @@ impl<'a> Shape<'a> {
     }
 
     fn replacements(&self, old: char, new: char) -> Vec<Replacement> {
-        if let ('r', 'f') | ('q', 'g') = (old, new) {
+        if let ('r', 'f') | ('q', 'h') = (old, new) {
             let notes = self.choice.notes(old).into_iter();
             let by_note = notes.map(|note| (Value::Register(note.register), note.value));
             return by_note.map(|(leaf, by)| Replacement { leaf, by }).collect();
