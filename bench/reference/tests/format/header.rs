@@ -9,21 +9,28 @@ pub fn header() -> String {
 
 /// Every constant of the header that has a number, with it.
 fn constants() -> Vec<(String, u32)> {
-    let text = header();
-    let mut found: Vec<(String, u32)> = text.lines().filter_map(constant).collect();
+    let text = uncommented(&header()).replace([',', '{', '}'], " ");
+    let words: Vec<&str> = text.split_whitespace().collect();
+    let mut found: Vec<(String, u32)> = words.windows(3).filter_map(constant).collect();
     found.sort();
     found
 }
 
-/// `#define NAME 7` or `NAME = 7,`.
-fn constant(line: &str) -> Option<(String, u32)> {
-    let words: Vec<&str> = line.split_whitespace().collect();
-    let (name, value) = match words[..] {
-        ["#define", name, value] => (name, value),
-        [name, "=", value, ..] => (name, value.trim_end_matches(',')),
+fn uncommented(text: &str) -> String {
+    let mut parts = text.split("/*");
+    let first = parts.next().unwrap_or_default().to_string();
+    let behind = parts.map(|part| part.split_once("*/").expect("a comment ends").1);
+    behind.fold(first, |text, part| text + part)
+}
+
+/// `#define NAME 7` or `NAME = 7`.
+fn constant(words: &[&str]) -> Option<(String, u32)> {
+    let (name, value) = match *words {
+        ["#define", name, value] | [name, "=", value] => (name, value),
         _ => return None,
     };
-    name.starts_with("HIDOKPALU_").then(|| (name.to_string(), number(value)))
+    assert!(name.starts_with("HIDOKPALU_"), "{name}");
+    Some((name.to_string(), value.parse().ok()?))
 }
 
 /// The columns whose number a name of the header stands for.
