@@ -37,8 +37,9 @@ fn row([rule, form, count, operations, from, to, premises, asks]: [String; 8]) -
         premises: premises_of(&premises),
         asks: asks.split("; ").filter(|asked| !asked.is_empty()).map(String::from).collect(),
     };
-    if let [count] = row.premise_counts[..] {
-        assert_eq!(row.premises.len(), count, "premises of rule {rule}");
+    match row.premise_counts[..] {
+        [count] => assert_eq!(row.premises.len(), count, "premises of rule {rule}"),
+        _ => assert_eq!(premises, ANY, "premises of rule {rule}"),
     }
     assert_eq!(row.form == Form::Triple, !row.operations.is_empty(), "operations of rule {rule}");
     row
@@ -53,9 +54,12 @@ fn form_named(name: &str) -> Form {
     }
 }
 
-/// Two shapes with a word between them for each premise; `any implications` is the line itself.
+/// What a rule says that takes several numbers of premises.
+const ANY: &str = "any implications";
+
+/// Two shapes with a word between them for each premise; any implications are the line itself.
 fn premises_of(cell: &str) -> Vec<(String, String, String)> {
-    if cell == "any implications" {
+    if cell == ANY {
         return vec![("P".into(), "gives".into(), "Q".into())];
     }
     let (codes, words) = spans(cell);
