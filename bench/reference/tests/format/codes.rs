@@ -3,9 +3,9 @@
 use crate::images::{line, single, small, with_code, START, TRUTH, ZERO};
 use crate::page::{number, numbers, spans, table};
 use reference::bill::{self, Tariff};
-use reference::checker::verdict::{Verdict, RECORD_BYTES};
+use reference::checker::verdict::{Verdict, OUTPUT_TOO_SHORT, RECORD_BYTES};
 use reference::checker::{check, check_into};
-use reference::desks::{admitted, Right, SERVICE};
+use reference::desks::{admitted, Right, NO_RIGHT, NO_SUCH_CALLER, SERVICE};
 use reference::image::written::{image_bytes, Written};
 use reference::image::{Claim, Meeting};
 use reference::{handover, replay, trim};
@@ -119,11 +119,24 @@ pub fn image_codes() -> Vec<Vec<u16>> {
 fn places_of_codes_are_those_of_the_verdict() {
     let rows = table(["Code", "Name in the header", "Place", "Means"]);
     let places = ["whole image", "frame", "body", "obligation", "claim"];
-    let told = places.map(|place| {
+    let of_place = |place: &str| {
         let found = rows.iter().filter(|row| row[2] == place);
         found.map(|[code, ..]| number(code) as u16).collect::<Vec<u16>>()
-    });
+    };
+    let told = places.map(of_place);
     assert_eq!(told.to_vec(), image_codes());
+    let calls: [(&str, &[u16]); 7] = [
+        ("", &[0]),
+        ("output", &[OUTPUT_TOO_SHORT, trim::OUTPUT_TOO_SHORT]),
+        ("image", &[trim::NOT_ACCEPTED, bill::NOT_ACCEPTED]),
+        ("step", &[replay::NO_STEP, replay::NOT_PERMITTED, replay::NO_ENTRY]),
+        ("caller", &[bill::NUMBER_AT_END, NO_SUCH_CALLER, NO_RIGHT]),
+        ("images", &[handover::UNLIKE]),
+        ("handover table", &[handover::OUT_OF_RANGE, handover::DOES_NOT_SERVE]),
+    ];
+    for (place, codes) in calls {
+        assert_eq!(of_place(place), codes, "{place}");
+    }
 }
 
 #[test]
