@@ -12,6 +12,7 @@ pub mod explicit;
 pub mod gallery;
 pub mod handover;
 pub mod image;
+pub mod infer;
 pub mod judged;
 pub mod markup;
 pub mod report;

@@ -2,14 +2,16 @@
 //! proof outlines.
 
 use outline::command::{
-    bill, build, check, draw, explain, explore, handover, print, replay, report, serve, show, trim,
-    Done, Status,
+    bill, build, check, draw, explain, explore, handover, infer, print, replay, report, serve,
+    show, trim, Done, Status,
 };
 use std::process::ExitCode;
 
 const HELP: &str = "\
 outline build FILE.outline -o FILE.image [--partial] [--all] [--at THREAD:POINT] [--all-lines]
                                                                finds a certificate, writes the image, says its verdict
+outline infer FILE.outline -o OUTLINE [--image FILE.image] [--tries N]
+                                                               finds the assertions where points have none or `{ ? }`
 outline check FILE|FOLDER..                                    judges images and outlines
 outline show FILE                                              an image as text, its verdict first
 outline explain FILE                                           each obligation and claim with its line, rule and premises
@@ -33,6 +35,8 @@ FILE, OLD and NEW are outlines or images; `-` is standard input, behind -o stand
   --all       tells all open obligations and claims in full
   --all-lines writes every line that the search found, dead ones too
   --at        tells in full what is open at this point, by its number or its label
+  --image     writes the image of what was inferred, too
+  --tries     ends the inference after so many tries (20000000)
   --claims    looks at the claims alone, whatever the assertions say
   --outcome   can the registers be so when all threads have ended?
   --tariff    lines `start 10`, `step 25`, `taken 25`, `interference 40`, `least 500`, in cents; # begins a comment
@@ -41,7 +45,8 @@ FILE, OLD and NEW are outlines or images; `-` is standard input, behind -o stand
   --entries   room for so many writes (64)
   --table     for each old point a new point and a line of the new image, three bytes
   --map       where an old point goes on, points by number or label; the others are proposed
-Status: 0 accepted, true or never; 1 refused, open, false or happens; 2 wrong use, or a file that cannot be read or written.
+Status: 0 accepted, true or never; 1 refused, open, false or happens; 2 wrong use, or a file that cannot be read or written;
+3 neither found nor false (infer).
 ";
 
 fn main() -> ExitCode {
@@ -49,6 +54,7 @@ fn main() -> ExitCode {
     let words: Vec<&str> = args.iter().map(|s| s.as_str()).collect();
     let done = match &words[..] {
         ["build", rest @ ..] => build::run(rest),
+        ["infer", rest @ ..] => infer::run(rest),
         ["check", rest @ ..] => check::run(rest),
         ["show", rest @ ..] => show::run(rest),
         ["explain", rest @ ..] => explain::run(rest),

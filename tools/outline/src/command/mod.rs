@@ -7,6 +7,7 @@ pub mod draw;
 pub mod explain;
 pub mod explore;
 pub mod handover;
+pub mod infer;
 pub mod input;
 pub mod interrupt;
 pub mod json;
@@ -37,6 +38,8 @@ pub enum Status {
     Refused = 1,
     /// Wrong use, or something that cannot be read or written.
     Unusable = 2,
+    /// Neither shown nor broken, as far as was looked.
+    NotFound = 3,
 }
 
 /// What a command comes to; a text is a message about wrong use or a file.

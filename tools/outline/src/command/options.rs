@@ -23,6 +23,8 @@ pub struct Options {
     pub entries: Option<usize>,
     pub table: Option<String>,
     pub map: Vec<String>,
+    pub image: Option<String>,
+    pub tries: Option<u64>,
 }
 
 impl Options {
@@ -46,6 +48,8 @@ impl Options {
                 "--entries" => options.entries = Some(number(word, value()?, 64)?),
                 "--tariff" => options.tariff = Some(value()?.into()),
                 "--table" => options.table = Some(value()?.into()),
+                "--image" => options.image = Some(value()?.into()),
+                "--tries" => options.tries = Some(number(word, value()?, 1 << 40)? as u64),
                 "--map" => options.map.push(value()?.into()),
                 "--billed" => {
                     options.billed = Some(number(word, value()?, u32::MAX as usize)? as u32);

@@ -59,9 +59,9 @@ impl Token {
 }
 
 /// Longest first, so that `:=rel` is not read as `:=`.
-const MARKS: [&str; 24] = [
+const MARKS: [&str; 25] = [
     ":=rel", "<-acq", ":=", "<-", "=>", "!=", "<=", ">=", "=", "<", ">", "+", "(", ")", "[", "]",
-    "{", "}", ";", "&", "|", ",", ":", "@",
+    "{", "}", ";", "&", "|", ",", ":", "@", "?",
 ];
 
 /// The one word with a hyphen.
@@ -191,7 +191,7 @@ mod tests {
 
     #[test]
     fn lines_are_counted() {
-        assert_eq!(tokens("a\n\nb ?").unwrap_err().line, 3);
+        assert_eq!(tokens("a\n\nb $").unwrap_err().line, 3);
         assert_eq!(tokens("a\nb").unwrap()[1].1, 2);
     }
 }
