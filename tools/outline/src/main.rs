@@ -36,7 +36,7 @@ FILE, OLD and NEW are outlines or images; `-` is standard input, behind -o stand
   --all-lines writes every line that the search found, dead ones too
   --at        tells in full what is open at this point, by its number or its label
   --image     writes the image of what was inferred, too
-  --tries     ends the inference after so many tries (20000000)
+  --tries     ends the inference after so many tries (2000000)
   --claims    looks at the claims alone, whatever the assertions say
   --outcome   can the registers be so when all threads have ended?
   --tariff    lines `start 10`, `step 25`, `taken 25`, `interference 40`, `least 500`, in cents; # begins a comment

@@ -1,6 +1,7 @@
 //! `build`: an outline to an image, with the checker's own verdict on what was made.
 
 use crate::build::{build_with, Built, Goal, Open};
+use crate::command::infer::filled;
 use crate::command::input::{called, mistake, mistakes, read, Input};
 use crate::command::judge::{judge, JUDGE};
 use crate::command::options::Options;
@@ -56,6 +57,10 @@ pub fn run(args: &[&str]) -> Done {
         return Err(format!("{}: this is an image, not an outline", called(file)));
     };
     let source = parse_all(&text).map_err(|all| mistakes(file, &text, &all))?;
+    let source = match filled(source) {
+        Ok(source) => source,
+        Err((said, status)) => return tell(&options, &said, &[], None).map(|()| status),
+    };
     let told = Told::of(&options, &source)?;
     let kept = if options.all_lines { Kept::All } else { Kept::Needed };
     let built = watched(&source, kept).map_err(|e| mistake(file, &text, &e))?;

@@ -43,13 +43,7 @@ pub fn run(args: &[&str]) -> Done {
         return Err(format!("{}: nothing is wished: {wanted} is wanted", called(file)));
     }
     let most = options.tries.unwrap_or(TRIES);
-    let progress = Progress::on_terminal();
-    let answer = infer(&source, &wish, most, &|done, all| {
-        progress.at(done as usize, all as usize);
-        !interrupt::is_noted()
-    });
-    drop(progress);
-    let told = match answer {
+    let told = match watched(&source, &wish, most) {
         Answer::Found(found) => {
             let outline = written(&text, &source, &found.source)?;
             write(target, outline.as_bytes())?;
@@ -58,11 +52,41 @@ pub fn run(args: &[&str]) -> Done {
             }
             accepted(&options, target, &found)
         }
-        Answer::False(run, breach) => broken(&source, &run, &breach),
-        Answer::NotFound(end) => not_found(&end, most),
+        other => not_accepted(&source, &other, most),
     };
     tell(&options, &told)?;
     Ok(told.status)
+}
+
+/// Infers with progress on a terminal; an interrupt ends it, and what was found until then is told.
+fn watched(source: &Source, wish: &Wish, most: u64) -> Answer {
+    let progress = Progress::on_terminal();
+    infer(source, wish, most, &|done, all| {
+        progress.at(done as usize, all as usize);
+        !interrupt::is_noted()
+    })
+}
+
+/// The source with its holes filled, what is given as it is; else what is told, and the status.
+pub fn filled(source: Source) -> Result<Source, (Vec<String>, Status)> {
+    if !source.has_holes() {
+        return Ok(source);
+    }
+    match watched(&source, &Wish::of(&source, true), TRIES) {
+        Answer::Found(found) => Ok(found.source),
+        other => {
+            let told = not_accepted(&source, &other, TRIES);
+            Err((told.lines, told.status))
+        }
+    }
+}
+
+fn not_accepted(source: &Source, answer: &Answer, most: u64) -> Told {
+    match answer {
+        Answer::False(run, breach) => broken(source, run, breach),
+        Answer::NotFound(end) => not_found(end, most),
+        Answer::Found(_) => unreachable!("what was found is accepted"),
+    }
 }
 
 fn accepted(options: &Options, target: &str, found: &Found) -> Told {
@@ -126,7 +150,7 @@ fn not_found(end: &NotFound, most: u64) -> Told {
     lines.extend(end.stuck.iter().cloned());
     if let Some((best, open)) = &end.best {
         let all = counted(open.len(), "obligation");
-        lines.push(format!("the best outline leaves {all} or claims open, the first of them:"));
+        lines.push(format!("the best outline leaves at least {all} or claims open, first:"));
         lines.extend(open.first().map(|goal| report::goal(best, goal)));
     }
     Told { answer: "not found", lines, status: Status::NotFound, tried: Some(end.tried.clone()) }

@@ -4,7 +4,7 @@ use crate::build::{prove, Goal};
 use crate::infer::clauses::{clauses, Clause};
 use crate::infer::ground::Ground;
 use crate::infer::have::Key;
-use crate::infer::packed::{packed, Level};
+use crate::infer::packed::{merged, packed, Level};
 use crate::infer::sample::Place;
 use crate::search::budget::Budget;
 use crate::search::prover::Prover;
@@ -25,16 +25,22 @@ pub enum Form {
     Clauses,
     Packed(Level),
     Modes(Option<Level>),
+    /// What is so in all modes apart from them.
+    Factored(Level),
+    /// Views with the tests that go with them, but for views that others stand beside.
+    Merged,
 }
 
-pub const FORMS: [Form; 7] = [
+pub const FORMS: [Form; 9] = [
     Form::Clauses,
     Form::Packed(Level::Views),
+    Form::Merged,
     Form::Packed(Level::Tests),
     Form::Packed(Level::Guarded),
     Form::Modes(None),
     Form::Modes(Some(Level::Views)),
     Form::Modes(Some(Level::Tests)),
+    Form::Factored(Level::Tests),
 ];
 
 /// What is asked for at points, and stays as it is written.
@@ -70,6 +76,14 @@ impl Ground<'_> {
         match form {
             Form::Clauses => list,
             Form::Packed(level) => packed(place.0, &list, level),
+            Form::Merged => packed(place.0, &merged(place.0, &list), Level::Views),
+            Form::Factored(level) => {
+                let (units, rest): (Vec<Clause>, Vec<Clause>) =
+                    clauses.iter().cloned().partition(|clause| clause.len() == 1);
+                let mut out = self.in_form(place, &units, Form::Packed(Level::Views));
+                out.extend(self.in_form(place, &rest, Form::Modes(Some(level))));
+                out
+            }
             Form::Modes(level) => {
                 let modes = self.modes(place, clauses);
                 let written = |mode: &Vec<A>| match level {

@@ -4,14 +4,15 @@
 //! become nodes in turn. A clause with an obligation that has no option left is dead for good, and whoever rests on it
 //! chooses again. When nothing is left to do, what the goals rest on is inductive.
 
-use crate::infer::clauses::size;
+use crate::infer::clauses::{size, Clause, Literal};
 use crate::infer::ground::Ground;
 use crate::infer::have::{Had, Key, Keys, Width};
 use crate::infer::options::{place_of, Kind};
+use crate::infer::sample::Place;
 use crate::terms::*;
 use reference::formula::Assertion;
 use reference::image::Instruction;
-use std::collections::{BTreeMap, BTreeSet, HashMap};
+use std::collections::{BTreeMap, BTreeSet, HashMap, HashSet};
 
 /// The most options of one obligation that are handed to the search.
 const MOST_TRIED: usize = 60;
@@ -68,6 +69,21 @@ pub struct Fixpoint<'g, 'a> {
     pub until: u64,
     /// The obligation on which each dead clause died.
     pub died: BTreeMap<usize, Kind>,
+    pub taste: Taste,
+    /// The leaves in use at each point, and everywhere.
+    leaves: HashMap<Place, HashSet<Literal>>,
+    everywhere: HashSet<Literal>,
+    /// The clauses in use at some point.
+    texts: HashSet<Clause>,
+}
+
+/// What makes one option better than another.
+#[derive(Debug, Clone, Copy, PartialEq, Eq)]
+pub enum Taste {
+    /// Weak clauses of leaves that are in use there already, so that several have the same guards.
+    Weak,
+    /// Clauses of leaves that are in use there already, so that points that meet stay within ten.
+    Leaves,
 }
 
 /// What the search has said before.
@@ -88,6 +104,10 @@ impl<'g, 'a> Fixpoint<'g, 'a> {
             most_nodes: usize::MAX,
             until: u64::MAX,
             died: BTreeMap::new(),
+            taste: Taste::Leaves,
+            leaves: HashMap::new(),
+            everywhere: HashSet::new(),
+            texts: HashSet::new(),
         }
     }
 
@@ -108,12 +128,28 @@ impl<'g, 'a> Fixpoint<'g, 'a> {
             return *known;
         }
         let open = |kind| Obligation { kind, options: None, chosen: None };
-        let fixed = self.ground.fixed.contains_key(&key.0) && !self.roots.contains(key);
-        let kinds = if fixed { vec![] } else { self.kinds(key) };
+        let fixed = self.ground.fixed.contains_key(&key.0);
+        let mut kinds = self.kinds(key);
+        let is_goal = self.roots.contains(key);
+        kinds.retain(|kind| !fixed || is_goal && !self.is_given(*kind));
         let obligations = kinds.into_iter().map(open).collect();
         self.nodes.push(Node { key: key.clone(), dead: false, obligations });
+        let leaves: Vec<Literal> = key.1.iter().map(|n| self.leaf(*n)).collect();
+        self.leaves.entry(key.0).or_default().extend(&leaves);
+        self.everywhere.extend(&leaves);
+        self.texts.insert(key.1.clone());
         self.index.insert(key.clone(), self.nodes.len() - 1);
         self.nodes.len() - 1
+    }
+
+    /// Do only given assertions speak of it? Then the search for the whole outline says whether it is so.
+    fn is_given(&self, kind: Kind) -> bool {
+        match kind {
+            Kind::Start => true,
+            Kind::Step(from) | Kind::Branch(from, _) | Kind::Kept(from) => {
+                self.ground.fixed.contains_key(&from)
+            }
+        }
     }
 
     fn kinds(&self, ((t, p), _): &Key) -> Vec<Kind> {
@@ -144,8 +180,23 @@ impl<'g, 'a> Fixpoint<'g, 'a> {
         if self.index.get(key).is_some_and(|n| !self.nodes[*n].dead) {
             return 0;
         }
-        let size: usize = key.1.iter().map(|n| size(self.ground.formula(*n))).sum();
-        10 + 12 * (key.1.len().max(1) - 1).min(9) + size
+        let (place, clause) = key;
+        let here = self.leaves.get(place);
+        let cost = |n: &Literal| {
+            let leaf = self.leaf(*n);
+            match (here.is_some_and(|here| here.contains(&leaf)), self.everywhere.contains(&leaf)) {
+                (true, _) => 1,
+                (_, true) => 6,
+                _ => 10 + 2 * size(self.ground.formula(*n)),
+            }
+        };
+        let more = clause.len().max(1) - 1;
+        let again = match self.taste {
+            _ if self.texts.contains(clause) => 2,
+            Taste::Leaves => 4 + 6 * more,
+            Taste::Weak => 16 - 2 * more.min(6),
+        };
+        again + clause.iter().map(cost).sum::<usize>()
     }
 
     /// Chooses an option for each obligation of a node; what it was if one has none.

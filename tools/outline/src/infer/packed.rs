@@ -14,6 +14,9 @@ pub enum Level {
     Guarded,
 }
 
+/// So many names of a test can be told by rows.
+const MOST_NAMES: usize = 4;
+
 #[derive(Default)]
 struct Pack {
     views: BTreeMap<u8, Vec<I>>,
@@ -71,12 +74,27 @@ impl Pack {
         for (u, list) in self.views {
             // Tests first, as one.
             let tests: Vec<T> = list.iter().filter_map(|i| i.as_all().cloned()).collect();
-            let mut parts: Vec<I> = fold_right(&tests, and).map(|e| all(&e)).into_iter().collect();
+            let mut parts: Vec<I> = in_rows(&tests).iter().map(all).collect();
             parts.extend(list.into_iter().filter(|i| i.as_all().is_none()));
             out.push(sees(u, &fold_right(&parts, both).expect("a view")));
         }
         out
     }
+}
+
+/// Tests joined, as far as rows can tell what they give: of few names each.
+fn in_rows(tests: &[T]) -> Vec<T> {
+    let names = |e: &T| registers_of(e.as_ref()).len() + words_of(e.as_ref()).len();
+    let mut joined: Vec<Vec<T>> = Vec::new();
+    for e in tests {
+        let with = |list: &Vec<T>| fold_right(&[&list[..], &[e.clone()]].concat(), and);
+        let room = |list: &&mut Vec<T>| with(list).is_some_and(|e| names(&e) <= MOST_NAMES);
+        match joined.iter_mut().find(room) {
+            Some(list) => list.push(e.clone()),
+            None => joined.push(vec![e.clone()]),
+        }
+    }
+    joined.iter().filter_map(|list| fold_right(list, and)).collect()
 }
 
 fn disjuncts(a: &A, out: &mut Vec<A>) {
@@ -87,6 +105,49 @@ fn disjuncts(a: &A, out: &mut Vec<A>) {
         }
         None => out.push(a.clone()),
     }
+}
+
+/// Clauses that differ in tests and in what one thread sees throughout: one view has the tests of them all.
+pub fn merged(own: u8, list: &[A]) -> Vec<A> {
+    let mut groups: Vec<(Vec<A>, u8, Vec<T>)> = Vec::new();
+    let mut out = Vec::new();
+    for a in list {
+        match apart(own, a) {
+            Some((rest, u, e)) => {
+                match groups.iter_mut().find(|(other, v, _)| *other == rest && *v == u) {
+                    Some((_, _, tests)) => tests.push(e),
+                    None => groups.push((rest, u, vec![e])),
+                }
+            }
+            None => out.push(a.clone()),
+        }
+    }
+    for (rest, u, tests) in groups {
+        let seen = sees(u, &all(&fold_right(&tests, and).expect("a test")));
+        out.push(fold_right(&[rest, vec![seen]].concat(), either).expect("a view"));
+    }
+    out
+}
+
+/// The clause as other views, and a test that one thread sees throughout; a clause of tests alone is the own thread's.
+fn apart(own: u8, a: &A) -> Option<(Vec<A>, u8, T)> {
+    let mut literals = Vec::new();
+    disjuncts(a, &mut literals);
+    let mut tests: Vec<T> = literals.iter().filter_map(|l| l.as_holds().cloned()).collect();
+    let views: Vec<A> = literals.iter().filter(|l| l.as_sees().is_some()).cloned().collect();
+    if tests.len() + views.len() < literals.len() {
+        return None;
+    }
+    let whole = |a: &A| a.as_sees().and_then(|(u, i)| i.as_all().map(|e| (u, e.clone())));
+    let own_view = views.iter().filter_map(whole).find(|(u, _)| *u == own);
+    let chosen = own_view.or_else(|| views.iter().find_map(whole));
+    let Some((u, e)) = chosen else {
+        let e = fold_right(&tests, or)?;
+        return Some((views, own, e));
+    };
+    tests.push(e.clone());
+    let rest = views.into_iter().filter(|a| whole(a) != Some((u, e.clone()))).collect();
+    Some((rest, u, fold_right(&tests, or)?))
 }
 
 #[cfg(test)]

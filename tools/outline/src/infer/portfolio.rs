@@ -3,45 +3,76 @@
 use crate::build::{build_with, Built, Goal};
 use crate::command::judge::judge;
 use crate::image::to_bytes;
-use crate::infer::assemble::{with_parts, Assembled, Form, Parts, FORMS};
+use crate::infer::assemble::{with_parts, Assembled, Parts, FORMS};
 use crate::infer::claims::Claims;
 use crate::infer::clauses::clauses;
-use crate::infer::fixpoint::{Certified, Fixpoint, Stuck};
+use crate::infer::fixpoint::{Certified, Fixpoint, Stuck, Taste};
 use crate::infer::ground::Ground;
 use crate::infer::have::{Key, Keys, Width};
 use crate::infer::minimise::minimised;
+use crate::infer::options::Kind;
 use crate::infer::wish::{Breach, Wish};
 use crate::search::kept::Kept;
 use crate::terms::*;
+use crate::text::report;
 use crate::text::source::Source;
-use reference::explore::Run;
+use reference::explore;
 use std::collections::BTreeSet;
 
 /// The tries of one inference, if nothing else is asked.
-pub const TRIES: u64 = 20_000_000;
+pub const TRIES: u64 = 2_000_000;
+/// A form in which so many obligations are open is not looked at further.
+const MOST_OPEN: usize = 3;
 /// The tries of the final build for one obligation.
 const BUILD_TRIES: u64 = 50_000;
-/// The most clauses of a run, few first.
-const NODES: [usize; 3] = [120, 400, 1500];
-/// The tries of one run, for each number of clauses.
-const SLICES: [u64; 3] = [400_000, 1_500_000, 6_000_000];
-/// In how many orders clauses are chosen for claims.
-const ORDERS: u64 = 3;
+/// One run of the portfolio: the clauses that it may demand, its taste, and the order in which clauses for claims are
+/// left out.
+#[derive(Debug, Clone, Copy, PartialEq, Eq)]
+struct Run {
+    width: Width,
+    taste: Taste,
+    /// The most clauses.
+    nodes: usize,
+    order: u64,
+}
 
-const WIDTHS: [Width; 7] = [
-    Width { views: 2, tests: 2, apart: false },
-    Width { views: 1, tests: 2, apart: false },
-    Width { views: 1, tests: 2, apart: true },
-    Width { views: 2, tests: 2, apart: true },
-    Width { views: 3, tests: 3, apart: false },
-    Width { views: 2, tests: 3, apart: true },
-    Width { views: 1, tests: 3, apart: true },
+const NARROW: Width = Width { views: 1, tests: 2, apart: false };
+const NARROW_APART: Width = Width { views: 1, tests: 2, apart: true };
+const MIDDLE: Width = Width { views: 2, tests: 2, apart: false };
+const MORE_TESTS: Width = Width { views: 2, tests: 3, apart: false };
+const MORE_TESTS_APART: Width = Width { views: 2, tests: 3, apart: true };
+const WIDE: Width = Width { views: 3, tests: 3, apart: false };
+
+const FEW: usize = 150;
+const SOME: usize = 400;
+const MANY: usize = 1500;
+
+/// The runs in their order: what finds most, and fast, comes first. Other orders are for claims alone.
+const RUNS: [(Width, Taste, usize, u64); 18] = [
+    (MIDDLE, Taste::Leaves, FEW, 0),
+    (MIDDLE, Taste::Weak, FEW, 0),
+    (MORE_TESTS, Taste::Leaves, SOME, 0),
+    (MORE_TESTS, Taste::Weak, SOME, 0),
+    (NARROW_APART, Taste::Leaves, SOME, 0),
+    (NARROW, Taste::Leaves, SOME, 0),
+    (MORE_TESTS, Taste::Weak, SOME, 1),
+    (MORE_TESTS, Taste::Leaves, SOME, 1),
+    (WIDE, Taste::Leaves, SOME, 0),
+    (WIDE, Taste::Weak, SOME, 0),
+    (MORE_TESTS_APART, Taste::Leaves, SOME, 0),
+    (MORE_TESTS_APART, Taste::Weak, SOME, 0),
+    (MORE_TESTS, Taste::Weak, MANY, 0),
+    (WIDE, Taste::Weak, MANY, 0),
+    (MORE_TESTS, Taste::Leaves, MANY, 0),
+    (MORE_TESTS, Taste::Weak, MANY, 2),
+    (WIDE, Taste::Leaves, MANY, 1),
+    (WIDE, Taste::Weak, MANY, 2),
 ];
 
 /// What came of it.
 pub enum Answer {
     Found(Box<Found>),
-    False(Run, Breach),
+    False(explore::Run, Breach),
     NotFound(NotFound),
 }
 
@@ -98,6 +129,7 @@ pub fn infer(source: &Source, wish: &Wish, most: u64, watch: Watch) -> Answer {
         runs: 0,
         best: None,
         stuck: vec![],
+        assembled_before: BTreeSet::new(),
     };
     let found = search.run();
     let tried = search.tried();
@@ -122,6 +154,8 @@ struct Inference<'i> {
     runs: usize,
     best: Option<(Source, Vec<Goal>)>,
     stuck: Vec<String>,
+    /// The sets of clauses that were assembled already.
+    assembled_before: BTreeSet<BTreeSet<Key>>,
 }
 
 type Accepted = (Source, Built, Vec<u8>);
@@ -147,19 +181,29 @@ impl Inference<'_> {
     fn run(&mut self) -> Option<Accepted> {
         let goals = self.goals();
         let mut certified = Certified::default();
-        let orders = if self.wish.claims.is_empty() { 1 } else { ORDERS };
-        for (nodes, slice) in NODES.into_iter().zip(SLICES) {
-            for order in 0..orders {
-                for width in WIDTHS {
-                    if !self.goes_on() {
-                        return None;
-                    }
-                    self.runs += 1;
-                    let run = Run1 { width, nodes, slice, order };
-                    let Some(keys) = self.inductive(&goals, &run, &mut certified) else { continue };
-                    if let Some(found) = self.assemble(&keys) {
-                        return Some(found);
-                    }
+        let mut ended: Vec<(Width, Taste, u64)> = Vec::new();
+        for (width, taste, nodes, order) in RUNS {
+            let run = Run { width, taste, nodes, order };
+            let known = ended.contains(&(width, taste, order));
+            if known || order > 0 && self.wish.claims.is_empty() {
+                continue;
+            }
+            if !self.goes_on() {
+                return None;
+            }
+            self.runs += 1;
+            let keys = match self.inductive(&goals, &run, &mut certified) {
+                Ok(keys) => keys,
+                Err(limited) => {
+                    // Without a limit the same comes of it again.
+                    ended.extend((!limited).then_some((width, taste, order)));
+                    continue;
+                }
+            };
+            ended.push((width, taste, order));
+            if self.assembled_before.insert(keys.clone()) {
+                if let Some(found) = self.assemble(&keys) {
+                    return Some(found);
                 }
             }
         }
@@ -179,28 +223,29 @@ impl Inference<'_> {
         goals
     }
 
-    /// Clauses that are inductive and give the wish.
+    /// Clauses that are inductive and give the wish; else whether a limit ended it.
     fn inductive(
         &mut self,
         goals: &Keys,
-        run: &Run1,
+        run: &Run,
         certified: &mut Certified,
-    ) -> Option<BTreeSet<Key>> {
-        let spent = self.effort();
-        let (watch, most) = (self.watch, self.most);
+    ) -> Result<BTreeSet<Key>, bool> {
+        let (spent, watch, most) = (self.effort(), self.watch, self.most);
         let mut fixpoint = Fixpoint::new(&mut self.ground, certified, run.width);
-        fixpoint.most_nodes = run.nodes;
-        fixpoint.until = fixpoint.ground.effort() + run.slice;
+        (fixpoint.most_nodes, fixpoint.taste) = (run.nodes, run.taste);
+        fixpoint.until = fixpoint.ground.effort() + most.saturating_sub(spent);
         let mut claims = Claims::of(&self.wish.claims, run.order);
         let goes_on = || watch(spent, most);
         let done = fixpoint.run(goals, &goes_on, &mut |fixpoint| claims.demand(fixpoint));
         if let Err(stuck) = done {
-            self.stuck = fixpoint.told(&stuck);
-            return None;
+            if stuck != Stuck::Stopped {
+                self.stuck = fixpoint.told(&stuck, self.source);
+            }
+            return Err(matches!(stuck, Stuck::Nodes | Stuck::Stopped));
         }
         fixpoint.roots.extend(claims.chosen());
         fixpoint.prune();
-        Some(fixpoint.reached())
+        Ok(fixpoint.reached())
     }
 
     /// The first form that is certified, minimised, built and judged.
@@ -210,7 +255,7 @@ impl Inference<'_> {
                 return None;
             }
             let parts = self.ground.parts(keys, &self.wish.given, form);
-            if self.is_certified(&parts, form) {
+            if self.is_certified(&parts) {
                 let parts = minimised(&mut self.assembled, self.source, parts, &self.wish.given);
                 if let Some(found) = self.accepted(&parts) {
                     return Some(found);
@@ -221,12 +266,11 @@ impl Inference<'_> {
     }
 
     /// Is nothing open in this outline? The one with the least open is kept, for the message.
-    fn is_certified(&mut self, parts: &Parts, _form: Form) -> bool {
+    fn is_certified(&mut self, parts: &Parts) -> bool {
         let source = with_parts(self.source, parts);
-        let most = self.best.as_ref().map_or(usize::MAX, |(_, open)| open.len());
-        let open = self.assembled.open(&source, most);
+        let open = self.assembled.open(&source, MOST_OPEN);
         let certified = open.is_empty();
-        if open.len() < most {
+        if self.best.as_ref().is_none_or(|(_, best)| open.len() < best.len()) {
             self.best = Some((source, open));
         }
         certified
@@ -241,17 +285,36 @@ impl Inference<'_> {
     }
 }
 
-/// One run of the portfolio.
-struct Run1 {
-    width: Width,
-    nodes: usize,
-    slice: u64,
-    order: u64,
-}
-
 impl Fixpoint<'_, '_> {
     /// Why there is no inductive set, in words.
-    fn told(&self, stuck: &Stuck) -> Vec<String> {
-        vec![format!("{stuck:?}")]
+    fn told(&self, stuck: &Stuck, source: &Source) -> Vec<String> {
+        match stuck {
+            Stuck::Dead(key, kind) => {
+                let goal = &self.ground.prover.names.assertion(&self.ground.assertion(&key.1));
+                let at = report::point(&source.names, Some(source), key.0 .0, key.0 .1);
+                let on = self.kind_told(source, *kind);
+                vec![format!("the goal {goal}"), format!("  at {at}"), format!("  ended on {on}")]
+            }
+            Stuck::Claim(k) => {
+                let claim = report::claim(&source.names, Some(source), &source.meetings()[*k]);
+                vec![format!("{claim}: no clauses at the two points that exclude each other last")]
+            }
+            Stuck::Nodes => {
+                let (all, dead) = (self.nodes.len(), self.died.len());
+                vec![format!("more than {all} clauses were asked for, {dead} of them not kept")]
+            }
+            Stuck::Stopped => vec![],
+        }
+    }
+
+    fn kind_told(&self, source: &Source, kind: Kind) -> String {
+        let at = |(t, p)| report::point(&source.names, Some(source), t, p);
+        match kind {
+            Kind::Start => "the start".into(),
+            Kind::Step(from) => format!("the step from {}", at(from)),
+            Kind::Branch(from, true) => format!("the branch taken at {}", at(from)),
+            Kind::Branch(from, false) => format!("the branch not taken at {}", at(from)),
+            Kind::Kept(actor) => format!("what {} does", at(actor)),
+        }
     }
 }

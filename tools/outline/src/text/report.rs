@@ -10,7 +10,7 @@ use std::fmt::Write;
 use std::slice;
 
 /// A thread's point with its name, and its line where there is a source.
-fn point(names: &Names, source: Option<&Source>, t: u8, p: u8) -> String {
+pub fn point(names: &Names, source: Option<&Source>, t: u8, p: u8) -> String {
     let line = source.map(|s| s.points[usize::from(t) - 1][usize::from(p)].line);
     let line = line.map(|line| format!(" (line {line})")).unwrap_or_default();
     format!("thread {t} ({}) point {p}{line}", names.thread(t))
