@@ -10,7 +10,7 @@ use reference::checker::check;
 use std::path::PathBuf;
 
 /// Programs of the gallery whose outlines are found.
-const FOUND: [&str; 18] = [
+const FOUND: [&str; 20] = [
     "boot",
     "coherence",
     "exchange-lock",
@@ -20,6 +20,8 @@ const FOUND: [&str; 18] = [
     "pad-state",
     "parallel-increment",
     "parity",
+    "peterson",
+    "peterson-claim",
     "polling",
     "rrc",
     "rrc2",
@@ -156,4 +158,56 @@ fn wrong_use_is_told() {
     assert!(status == 2 && err.contains("`-o OUTLINE` is wanted"), "{err}");
     let (status, _, err) = run(&["infer", &nothing, "-o", "-", "--tries", "many"]);
     assert!(status == 2 && err.contains("wants a number"), "{err}");
+}
+
+/// An outline of message passing with some points left open.
+const HOLES: &str = "\
+word data = 0
+word flag = 0
+
+thread writer
+  { writer sees one data and writer sees one flag and reader sees one flag = 0 }
+    data := 1
+  { ? }
+    flag :=rel 1
+  { true }
+
+thread reader
+  registers a, b
+  { ? }
+    a <-acq flag
+  { a = 1 => reader sees [data = 1] }
+    b <- data
+  { a = 1 => b = 1 }
+";
+
+#[test]
+fn build_fills_holes_and_leaves_what_is_given() {
+    let folder = Folder::new("holes");
+    let (file, image) = (folder.with("h.outline", HOLES), folder.file("h.image"));
+    let (status, out, err) = run(&["build", &file, "-o", &image]);
+    assert_eq!((status, err.as_str()), (0, ""), "{out}");
+    assert!(out.contains("ACCEPTED: 18 obligations met"), "{out}");
+    let source = asked(HOLES);
+    let Answer::Found(found) = infer(&source, &Wish::of(&source, true), TRIES, &|_, _| true) else {
+        panic!("not found")
+    };
+    for (old, new) in source.points.iter().flatten().zip(found.source.points.iter().flatten()) {
+        assert!(old.hole || old.assertion == new.assertion, "what is given stays");
+    }
+    let (status, out, _) = run(&["check", &file]);
+    assert!(status == 0 && out.contains("ACCEPTED"), "{out}");
+}
+
+#[test]
+fn holes_that_cannot_be_filled_are_told() {
+    let weak = HOLES.replace("{ a = 1 => reader sees [data = 1] }", "{ true }");
+    let output = fed(&["build", "-", "-o", "-"], weak.as_bytes());
+    assert_eq!(output.status.code(), Some(3));
+    let told = String::from_utf8_lossy(&output.stderr).into_owned();
+    assert!(told.starts_with("NOT FOUND: "), "{told}");
+    assert!(
+        told.contains("\nclass 2, thread 2 (reader) point 1 (line 15): the step to the next"),
+        "{told}"
+    );
 }

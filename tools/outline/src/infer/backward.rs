@@ -114,7 +114,7 @@ fn before_test(at: At, c: &Instruction, e: &T) -> Vec<Vec<A>> {
     out
 }
 
-/// Rules 5, 13 and 49 with 10: what comes with a write that is read.
+/// Rules 5 and 10: what comes with a write that is read, and what comes behind covered ones.
 fn joined_views(c: &Instruction, x: u8, j: &I) -> Vec<I> {
     let again = j.has_atom(|a| matches!(a, Atom::Unsync(y) | Atom::Covered(y) if y == x));
     let named = j.has_word(x);
@@ -127,4 +127,100 @@ fn joined_views(c: &Instruction, x: u8, j: &I) -> Vec<I> {
         out.push(chop(&cov(x), &chop(&unsync(x), j)));
     }
     out
+}
+
+#[cfg(test)]
+mod tests {
+    use super::*;
+    use crate::infer::clauses::clauses;
+    use crate::text::parse_source::parse;
+    use std::collections::BTreeSet;
+
+    /// A rule, what must be so before, the instruction, and what is so behind it.
+    const CASES: &[(u8, &str, &str, &str)] = &[
+        (1, "a sees [y = 0]", "x := 1", "a sees [y = 0]"),
+        (2, "q = 0", "r := q", "r = 0"),
+        (3, "a sees [x = 1]", "r <- x", "r = 1"),
+        (4, "a sees [x = 0] ; [x = 1]", "r <- x", "r != 1 or a sees [x = 1]"),
+        (5, "a sees [x != 1] ; [unsync x] ; [y = 1]", "r <-acq x", "r != 1 or a sees [y = 1]"),
+        (6, "a sees one x", "x := 1", "a sees [x = 1]"),
+        (7, "a sees one x and b sees [x = 0]", "x := 1", "b sees [x = 0] ; [x = 1]"),
+        (
+            8,
+            "a sees one x and b sees [x = 0] and a sees [y = 1]",
+            "x :=rel 1",
+            "b sees [x = 0] ; [unsync x] ; [y = 1]",
+        ),
+        (9, "b sees [x != 2] and holds (1 != 2)", "x := 1", "b sees [x != 2]"),
+        (10, "a sees [cov x] ; [x = 1]", "r <- exchange x := 2", "r = 1"),
+        (11, "a sees [cov x] ; one x", "swap x := 1", "a sees one x = 1"),
+        (
+            12,
+            "a sees [cov x] ; one x and b sees [cov x] ; one x",
+            "swap x := 1",
+            "b sees [cov x] ; one x = 1",
+        ),
+        (
+            13,
+            "a sees [cov x] ; one x and b sees [cov x] ; one x and a sees [y = 1]",
+            "swap x := 1",
+            "b sees [cov x] ; [unsync x] ; [y = 1]",
+        ),
+        (10, "a sees [cov x] ; [unsync x] ; [y = 1]", "swap x := 1", "a sees [y = 1]"),
+        (47, "a sees [x = 1]", "r <- exchange x := 2", "r = 1"),
+        (48, "a sees [cov x] ; one x = 0", "r <- fetch-add x + 1", "a sees one x = 1"),
+        (5, "a sees [unsync x] ; [y = 1]", "r <- exchange x := 2", "a sees [y = 1]"),
+        (
+            49,
+            "a sees [cov x] ; one x and b sees [cov x] ; one x",
+            "r <- exchange x := 1",
+            "b sees [cov x] ; one x = 1",
+        ),
+        (50, "a sees one x", "x := 1 | r := 2", "a sees [x = 1]"),
+    ];
+
+    /// What is proposed before the instruction, each way as a set of clauses.
+    fn proposed(ground: &mut Ground, at: At, wanted: &A) -> Vec<BTreeSet<BTreeSet<String>>> {
+        let names = ground.prover.names.clone();
+        let told = |clause: &Vec<A>| clause.iter().map(|a| names.assertion(a)).collect();
+        let goal = clauses(wanted).remove(0);
+        let mut ways: Vec<Way> = goal.iter().flat_map(|a| ground.before(at, a)).collect();
+        ways.extend(ground.chains(at, &goal).into_iter().map(|clause| vec![clause]));
+        ways.iter().map(|way| way.iter().map(told).collect()).collect()
+    }
+
+    #[test]
+    fn what_a_rule_proposes_is_certified_by_it() {
+        for (rule, before, instruction, after) in CASES {
+            let text = format!(
+                "word x = 0 word y = 0\nthread a registers r, q {{ {before} }} {instruction} {{ {after} }}\n\
+                 thread b {{ true }} y := 1 {{ true }} x := 2 {{ true }}"
+            );
+            let source = parse(&text).unwrap_or_else(|e| panic!("{e}: {text}"));
+            let program = source.program();
+            let mut ground = Ground::of(&program, source.names.clone());
+            let at = At { thread: 1, point: 0 };
+            let (p, q) = (program.assertion(1, 0), program.assertion(1, 1));
+            let names = &source.names;
+            let wanted: BTreeSet<BTreeSet<String>> = clauses(p)
+                .iter()
+                .map(|clause| clause.iter().map(|a| names.assertion(a)).collect())
+                .collect();
+            let ways = proposed(&mut ground, at, q);
+            let plain = |way: &BTreeSet<BTreeSet<String>>| {
+                let text = |s: &BTreeSet<String>| {
+                    s.iter().map(|t| t.replace("b sees [1 != 2]", "1 != 2")).collect()
+                };
+                way.iter().map(text).collect::<BTreeSet<BTreeSet<String>>>()
+            };
+            assert!(ways.iter().any(|way| plain(way) == wanted), "{rule}: {wanted:?} in {ways:?}");
+            let line = ground.prover.whole(at, p, q);
+            let line =
+                line.unwrap_or_else(|| panic!("{rule}: {before} to {after} is not certified"));
+            let used = ground.prover.lines.needed(&[line]);
+            let rules: BTreeSet<u8> =
+                used.iter().map(|n| ground.prover.lines.entries[*n].rule).collect();
+            assert!(rules.contains(rule), "{rule}: by {rules:?}");
+        }
+    }
 }

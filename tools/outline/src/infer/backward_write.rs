@@ -110,7 +110,7 @@ impl Ground<'_> {
         }
     }
 
-    /// Rules 11, 12 and 48: the new write comes behind all others.
+    /// Rules 11 to 13, 48 and 49: the new write comes behind all others.
     fn by_swap(&mut self, w: &Written, news: &[New], out: &mut Vec<Vec<A>>) {
         let (t, x, u) = (w.at.thread, w.x, w.u);
         let till: I = covered_till_last(x).into();

@@ -3,7 +3,6 @@
 use crate::terms::*;
 use crate::text::lex::KEYWORDS;
 use crate::text::source::Source;
-use reference::formula::atoms::Atoms;
 use reference::formula::Assertion;
 
 /// What is said less often, or in fewer characters, gets no name.
@@ -58,7 +57,6 @@ fn fresh(source: &Source, a: &A, taken: &[String]) -> String {
     let mut letters = base.chars();
     let first = letters.next().map(|c| c.to_ascii_uppercase());
     let base: String = first.into_iter().chain(letters).collect();
-    debug_assert!(!a.has_atom(|atom| atom == reference::formula::atoms::Atom::Start));
     (1..)
         .map(|n| format!("{base}_{n}"))
         .find(|name| !taken.contains(name))
