@@ -159,8 +159,9 @@ fn an_option_is_given_once() {
     let (status, out, err) = run(&["explore", &text, "--outcome", "true", "--outcome", "false"]);
     let want = "`--outcome` is given twice; once is enough\n";
     assert_eq!((status, out.as_str(), err.as_str()), (2, "", want));
-    let (status, _, err) = run(&["check", &text, "--json", "--json"]);
-    assert_eq!((status, err.as_str()), (2, "`--json` is given twice; once is enough\n"));
+    let (status, out, err) = run(&["check", &text, "--json", "--json"]);
+    assert_eq!((status, err.as_str()), (2, ""));
+    assert!(out.contains("\"error\":\"`--json` is given twice; once is enough\""), "{out}");
     let (status, _, err) = run(&["explore", &text, "--claims", "--outcome", "true"]);
     assert_eq!(
         (status, err.as_str()),
