@@ -160,7 +160,7 @@ fn left_open(prover: &mut Prover, goal: Goal, wanted: Statement) -> Open {
 }
 
 /// A line for one obligation or claim.
-fn prove(prover: &mut Prover, wanted: &Statement) -> Option<usize> {
+pub fn prove(prover: &mut Prover, wanted: &Statement) -> Option<usize> {
     if !wanted.sides().0.fits_record() {
         prover.tried.push(
             "tried        nothing: the assertions together pass 255 bytes or nesting 16".into(),

@@ -14,6 +14,7 @@ pub mod fuzz;
 pub mod gallery;
 pub mod handover;
 pub mod image;
+pub mod infer;
 pub mod judged;
 pub mod markup;
 pub mod refuted;

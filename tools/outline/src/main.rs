@@ -1,5 +1,5 @@
-//! The program `outline`: builds, judges, shows, explains, explores, draws, trims, bills, replays, hands over and serves
-//! proof outlines.
+//! The program `outline`: builds, infers, judges, shows, explains, explores, draws, trims, bills, replays, hands over
+//! and serves proof outlines.
 
 use outline::command::{complain, help, json, names, Status};
 use std::process::ExitCode;

@@ -112,7 +112,7 @@ fn nothing_is_taken_for_something_else() {
 #[test]
 fn many_mistakes_are_told_in_part() {
     let (status, _, err) = {
-        let text = format!("word x = 0\nthread a {{ true }}\n{}", "?\n".repeat(100));
+        let text = format!("word x = 0\nthread a {{ true }}\n{}", "%\n".repeat(100));
         let folder = std::env::temp_dir().join(format!("outline-many-{}", std::process::id()));
         std::fs::create_dir_all(&folder).expect("a place for files");
         let file = folder.join("m.outline");

@@ -2,11 +2,12 @@
 
 use outline::command::output::replaced;
 use outline::gallery::times::{self, measured};
-use outline::gallery::{page, tables};
+use outline::gallery::{inferred, page, tables};
 use std::path::Path;
 use std::process::ExitCode;
 
 const USAGE: &str = "usage: gallery FOLDER           prints the tables about the outlines of FOLDER
+       gallery FOLDER --inferred   infers outlines from FOLDER/infer, and prints the table
        gallery FOLDER --times   measures how long search and check take, and prints it
        gallery FOLDER --write   puts both into FOLDER/README.md";
 
@@ -15,6 +16,7 @@ fn main() -> ExitCode {
     let words: Vec<&str> = args.iter().map(String::as_str).collect();
     let done = match &words[..] {
         [folder] => tables(Path::new(folder)).map(|text| print!("{text}")),
+        [folder, "--inferred"] => inferred(Path::new(folder)).map(|text| print!("{text}")),
         [folder, "--times"] => measured(Path::new(folder)).map(|text| print!("{text}")),
         [folder, "--write"] => write(Path::new(folder)),
         _ => Err(USAGE.into()),

@@ -1,6 +1,7 @@
 //! `build`: an outline to an image, with the checker's own verdict on what was made.
 
 use crate::build::{build_with, Built, Goal, Open};
+use crate::command::infer::filled;
 use crate::command::input::{called, mistake, mistakes, read, Input};
 use crate::command::json::{self, Member};
 use crate::command::judge::{judge, JUDGE};
@@ -55,6 +56,20 @@ pub fn run(args: &[&str]) -> Done {
     interrupt::watch();
     let text = text_of(file)?;
     let source = parse_all(&text).map_err(|all| mistakes(file, &text, &all))?;
+    let source = match filled(source) {
+        Ok(source) => source,
+        Err((said, status)) => {
+            let none = || "[]".to_string();
+            let members = vec![
+                ("file", json::text(called(file))),
+                ("answer", "null".into()),
+                ("goals", none()),
+                ("mistakes", none()),
+                ("accepted", "false".into()),
+            ];
+            return tell(&options, status, Texts { members, open: &said, written: &[] });
+        }
+    };
     let told = Told::of(&options, &source)?;
     let kept = if options.all_lines { Kept::All } else { Kept::Needed };
     let built = watched(&source, kept).map_err(|e| mistake(file, &text, &e))?;

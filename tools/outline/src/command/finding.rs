@@ -31,7 +31,7 @@ impl Finding {
         match self {
             Finding::Happens => Status::Refused,
             Finding::Never => Status::Accepted,
-            Finding::NotFound => Status::Cut,
+            Finding::NotFound => Status::NotFound,
         }
     }
 

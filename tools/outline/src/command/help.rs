@@ -1,8 +1,8 @@
 //! The commands by their names, and what is said of them.
 
 use crate::command::{
-    bill, build, check, draw, explain, explore, handover, print, replay, report, serve, show, trim,
-    Done, Status,
+    bill, build, check, draw, explain, explore, handover, infer, print, replay, report, serve,
+    show, trim, Done, Status,
 };
 use crate::text::nearest::nearest;
 
@@ -17,13 +17,20 @@ struct Command {
 
 const BOUNDS: [&str; 4] = ["--steps", "--writes", "--starts", "--states"];
 
-const COMMANDS: [Command; 12] = [
+const COMMANDS: [Command; 13] = [
     Command {
         name: "build",
         usage: &["build FILE.outline -o FILE.image [--partial] [--all] [--at THREAD:POINT] [--all-lines] [BOUNDS]"],
         about: "finds a certificate, writes the image, says its verdict",
         options: &["--partial", "--all", "--all-lines", "--at", BOUNDS[0], BOUNDS[1], BOUNDS[2], BOUNDS[3]],
         run: build::run,
+    },
+    Command {
+        name: "infer",
+        usage: &["infer FILE -o OUTLINE [--image FILE.image] [--tries N]"],
+        about: "finds the assertions where points have none or `{ ? }`, so that claims and given assertions are shown",
+        options: &["--image", "--tries"],
+        run: infer::run,
     },
     Command {
         name: "check",
@@ -107,8 +114,9 @@ const COMMANDS: [Command; 12] = [
     },
 ];
 
-const OPTIONS: [(&str, &str); 18] = [
-    ("--image", "writes the image that the page is about, too"),
+const OPTIONS: [(&str, &str); 19] = [
+    ("--image", "writes the image that the page is about, or of what was inferred, too"),
+    ("--tries", "N, a bound: ends the inference after so many tries; 2000000"),
     ("--date", "the page's date; else that of SOURCE_DATE_EPOCH, else the clock's, in UTC"),
     ("--partial", "writes an image with open obligations and claims too"),
     ("--all", "tells all open obligations and claims in full"),
@@ -137,7 +145,7 @@ const NOTES: &str = "\
 FILE, OLD and NEW are outlines or images; `-` is standard input, behind -o standard output. All take --json.
 What is written replaces a file of its own kind, never an input. Behind -- every word is a file.
 Status: 0 accepted; true or never in all states. 1 refused, open, false or happens. 2 wrong use, or a file that cannot be
-read or written. 3 no run was found, and a bound kept some state from being looked at.
+read or written. 3 no run was found, and a bound kept some state from being looked at; or nothing was inferred.
 `outline COMMAND --help` tells of one command.
 ";
 

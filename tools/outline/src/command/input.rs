@@ -1,6 +1,7 @@
 //! Files: outlines or images, told apart by what is in them.
 
 use crate::build::{build, Built};
+use crate::command::infer::filled;
 use crate::command::names::path;
 use crate::image::to_bytes;
 use crate::text::counted;
@@ -125,6 +126,8 @@ impl Subject {
             Input::Image(bytes) => Ok(Subject { bytes: bytes.clone(), outline: None }),
             Input::Text(text) => {
                 let source = parse_all(text).map_err(|all| mistakes(file, text, &all))?;
+                let source = filled(source)
+                    .map_err(|(said, _)| format!("{}: {}", called(file), said.join("\n")))?;
                 let built = build(&source).map_err(|e| mistake(file, text, &e))?;
                 let bytes = to_bytes(&built.image).map_err(|e| format!("{}: {e}", called(file)))?;
                 Ok(Subject { bytes, outline: Some((source, built)) })

@@ -11,6 +11,7 @@ pub mod finding;
 pub mod gather;
 pub mod handover;
 pub mod help;
+pub mod infer;
 pub mod input;
 pub mod interrupt;
 pub mod json;
@@ -43,8 +44,8 @@ pub enum Status {
     Refused = 1,
     /// Wrong use, or something that cannot be read or written.
     Unusable = 2,
-    /// No run was found, and a bound kept some state from being looked at.
-    Cut = 3,
+    /// Neither shown nor broken, as far as was looked: a bound kept some state from being looked at, or nothing was found.
+    NotFound = 3,
 }
 
 /// What a command comes to; a text is a message about wrong use or a file.

@@ -33,6 +33,7 @@ pub struct Options {
     pub image: Option<String>,
     pub date: Option<String>,
     pub map: Vec<String>,
+    pub tries: Option<u64>,
 }
 
 impl Options {
@@ -65,6 +66,7 @@ impl Options {
                 "--table" => options.table = Some(value()?.into()),
                 "--image" => options.image = Some(value()?.into()),
                 "--date" => options.date = Some(value()?.into()),
+                "--tries" => options.tries = Some(number(word, value()?, 1 << 40)? as u64),
                 "--map" => options.map.push(value()?.into()),
                 "--billed" => {
                     options.billed = Some(number(word, value()?, u32::MAX as usize)? as u32);

@@ -14,6 +14,7 @@ pub enum Kind {
     Page,
     Drawing,
     Table,
+    Outline,
 }
 
 impl Kind {
@@ -23,6 +24,7 @@ impl Kind {
             Kind::Page => "page",
             Kind::Drawing => "drawing",
             Kind::Table => "table",
+            Kind::Outline => "outline",
         }
     }
 
@@ -35,6 +37,11 @@ impl Kind {
             Kind::Image => front.get(2..4) == Some(&[1, 0]),
             Kind::Page => text().starts_with("<!doctype html") || text().starts_with("<html"),
             Kind::Drawing => text().starts_with("<svg"),
+            // A text that is neither a page nor a drawing.
+            Kind::Outline => {
+                let is_text = !front.contains(&0) && !Kind::Page.fits(front);
+                is_text && !Kind::Drawing.fits(front)
+            }
             // Three bytes for each point, of which the first is a point's number.
             Kind::Table => {
                 let is_short = front.len().is_multiple_of(3) && front.len() <= 3 * MOST_POINTS;

@@ -1,6 +1,7 @@
 //! The tables of `examples/README.md`: every figure and every run in them is worked out here.
 
 mod header;
+mod inferred;
 mod run;
 pub mod times;
 mod trimmed;
@@ -177,6 +178,14 @@ fn wrong_table(wrong: &[&Example]) -> Result<String, String> {
         let _ = writeln!(text, "| {} | {what} | {} | {run} |", e.link(), e.first_open());
     }
     Ok(text)
+}
+
+/// The table of what is inferred from the programs in the folder's own folder `infer`.
+pub fn inferred(folder: &Path) -> Result<String, String> {
+    let all = read_all(folder)?;
+    let proved: Vec<&Example> =
+        all.iter().filter(|e| variant_of(&e.name).is_none() && e.built.open.is_empty()).collect();
+    inferred::table(folder, &proved)
 }
 
 /// The page with its tables made afresh.

@@ -10,7 +10,7 @@ use reference::formula::{Interval, Test, Value};
 use reference::image::Instruction;
 
 /// Every way to cut an interval in two at a chop: front and back.
-fn cuts(j: &I) -> Vec<(I, I)> {
+pub fn cuts(j: &I) -> Vec<(I, I)> {
     let Some((a, b)) = j.as_chop() else { return Vec::new() };
     let mut all = vec![(a.clone(), b.clone())];
     all.extend(cuts(b).into_iter().map(|(x, y)| (chop(a, &x), y)));

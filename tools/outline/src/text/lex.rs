@@ -59,9 +59,9 @@ impl Token {
 }
 
 /// Longest first, so that `:=rel` is not read as `:=`.
-const MARKS: [&str; 24] = [
+const MARKS: [&str; 25] = [
     ":=rel", "<-acq", ":=", "<-", "=>", "!=", "<=", ">=", "=", "<", ">", "+", "(", ")", "[", "]",
-    "{", "}", ";", "&", "|", ",", ":", "@",
+    "{", "}", ";", "&", "|", ",", ":", "@", "?",
 ];
 
 /// The one word with a hyphen.
@@ -220,7 +220,7 @@ mod tests {
             all.iter().map(|e| (e.line.line, e.line.column)).collect::<Vec<(usize, usize)>>()
         };
         assert_eq!(
-            told("a\n\nb ? é ~ 9x\r\nc # é ?\n $"),
+            told("a\n\nb % é ~ 9x\r\nc # é ?\n $"),
             [(3, 3), (3, 5), (3, 7), (3, 9), (5, 2)]
         );
         assert_eq!(told("a\rb"), [(1, 2)]);

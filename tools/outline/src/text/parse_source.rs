@@ -272,7 +272,12 @@ fn thread(c: &mut Cursor, draft: &mut Draft) -> Result<(), Mistake> {
     let number = c.scope.thread(&name, line)?;
     registers(c)?;
     let mut labels = Vec::new();
-    let mut points = vec![point_or_past(c, &mut labels, &mut draft.mistakes)?];
+    let bare = is_bare(c);
+    let next = |c: &mut Cursor, labels: &mut Labels, mistakes: &mut Mistakes| match bare {
+        true => Ok(bare_point(c, labels)),
+        false => point_or_past(c, labels, mistakes),
+    };
+    let mut points = vec![next(c, &mut labels, &mut draft.mistakes)?];
     let (mut code, mut numbers, mut jumps) = (Vec::new(), Vec::new(), Vec::new());
     while !at_end_of_thread(c) {
         let at = c.line();
@@ -288,7 +293,7 @@ fn thread(c: &mut Cursor, draft: &mut Draft) -> Result<(), Mistake> {
             }
         }
         labels.truncate(points.len());
-        points.push(point_or_past(c, &mut labels, &mut draft.mistakes)?);
+        points.push(next(c, &mut labels, &mut draft.mistakes)?);
     }
     let (count, most) = (points.len(), usize::from(limits::POINTS));
     if count > most {
@@ -323,7 +328,35 @@ fn point_or_past(
     while !closed && !at_end_of_thread(c) && !c.take("}") {
         c.at += 1;
     }
-    Ok(Point { assertion: holds(&truth()), number: at_number(c)?, line })
+    Ok(Point { assertion: holds(&truth()), number: at_number(c)?, line, hole: false })
+}
+
+/// Has the thread that begins here instructions and no assertion at all?
+fn is_bare(c: &Cursor) -> bool {
+    let mut ahead = Cursor::of(c.tokens, Default::default());
+    ahead.at = c.at;
+    while !at_end_of_thread(&ahead) && !ahead.sees_next("{") {
+        ahead.at += 1;
+    }
+    ahead.at > c.at && !ahead.sees_next("{")
+}
+
+/// `[LABEL :]` in a thread without assertions: each point is a hole.
+fn bare_point(c: &mut Cursor, labels: &mut Labels) -> Point {
+    let line = c.line();
+    labels.push(label(c));
+    Point { assertion: holds(&truth()), number: None, line, hole: true }
+}
+
+/// `LABEL :`, where it stands.
+fn label(c: &mut Cursor) -> Option<String> {
+    let Token::Name(name) = c.peek().clone() else { return None };
+    c.at += 1;
+    if c.take(":") {
+        return Some(name);
+    }
+    c.at -= 1;
+    None
 }
 
 /// Past an instruction that could not be read.
@@ -344,28 +377,30 @@ fn at_end_of_thread(c: &Cursor) -> bool {
             .any(|k| c.sees_next(k))
 }
 
-/// `[LABEL :] { ASSERTION } [@ NUMBER]`
+/// `[LABEL :] { ASSERTION } [@ NUMBER]`, or `[LABEL :] { ? }`
 fn point(c: &mut Cursor, labels: &mut Labels) -> Result<Point, Mistake> {
-    let label = match c.peek().clone() {
-        Token::Name(n) => Some(n),
-        _ if c.sees_next("{") => None,
-        _ => return c.wanted("a point, `{ ASSERTION }`,"),
-    };
-    if label.is_some() {
-        c.at += 1;
-        if !c.take(":") {
-            c.at -= 1;
-            return c.wanted("a point, `{ ASSERTION }`,");
-        }
+    let label = label(c);
+    if label.is_none() && !c.sees_next("{") {
+        return c.wanted("a point, `{ ASSERTION }`,");
     }
     labels.push(label);
     let line = c.line();
+    if let [Token::Mark("{"), Token::Mark("?"), Token::Mark("}")] = next_three(c) {
+        c.at += 3;
+        return Ok(Point { assertion: holds(&truth()), number: None, line, hole: true });
+    }
     let assertion = braced(c)?;
     check_size(&assertion, line)?;
     if assertion.has_atom(|atom| atom == Atom::Start) {
         return Err(Mistake { line, text: "`start` may not stand in an outline".into() });
     }
-    Ok(Point { assertion, number: at_number(c)?, line })
+    Ok(Point { assertion, number: at_number(c)?, line, hole: false })
+}
+
+/// The next three tokens; the end of the text stands for those behind it.
+fn next_three(c: &Cursor) -> [Token; 3] {
+    let last = c.tokens.len() - 1;
+    [0, 1, 2].map(|n| c.tokens[(c.at + n).min(last)].0.clone())
 }
 
 /// A formula must fit into its record.

@@ -19,6 +19,11 @@ pub fn point(names: &Names, source: Option<&Source>, t: u8, p: u8) -> String {
 }
 
 /// An open obligation or claim, in words.
+pub fn goal(source: &Source, goal: &Goal) -> String {
+    place(source, goal)
+}
+
+/// An open obligation or claim, in words.
 fn place(source: &Source, goal: &Goal) -> String {
     match goal {
         Goal::Duty(duty) => {

@@ -12,6 +12,8 @@ pub struct Point {
     pub assertion: A,
     pub number: Option<usize>,
     pub line: Place,
+    /// Is it `{ ? }`, or a point of a thread without assertions? Its assertion is to be found; until then it is `true`.
+    pub hole: bool,
 }
 
 /// The label of each point of a thread.
@@ -75,6 +77,11 @@ impl Source {
         let labelled = labels.iter().position(|label| label.as_deref() == Some(point));
         let found = labelled.or_else(|| point.parse().ok())?;
         (found < labels.len()).then_some((index as u8 + 1, found as u8))
+    }
+
+    /// Is there a point whose assertion is to be found?
+    pub fn has_holes(&self) -> bool {
+        self.points.iter().flatten().any(|point| point.hole)
     }
 
     /// What is claimed never to happen.

@@ -53,6 +53,10 @@ thread right
 never right 0 and left after
 ";
 
+/// Message passing without assertions but the one that is wished.
+const ASKED: &str = "word data = 0\nword flag = 0\nthread writer\n data := 1\n flag :=rel 1\n\
+                     thread reader\n registers a, b\n {?} a <-acq flag {?} b <- data { a = 1 => b = 1 }\n";
+
 #[test]
 fn commands_that_accept_fit_the_schema() {
     let folder = Folder::new("json-accept");
@@ -62,8 +66,10 @@ fn commands_that_accept_fit_the_schema() {
     let trace = folder.with("trace", "reader 0\nreader 0\n");
     let (old, new) = (example("update/old"), example("update/new"));
     let (handed, table) = (folder.file("new.image"), folder.file("new.table"));
-    let commands: [&[&str]; 12] = [
+    let asked = folder.with("asked.program", ASKED);
+    let commands: [&[&str]; 13] = [
         &["build", &text, "-o", &image],
+        &["infer", &asked, "-o", &folder.file("found.outline")],
         &["check", &text, &image],
         &["show", &image],
         &["explain", &text],
@@ -92,7 +98,10 @@ fn commands_that_refuse_fit_the_schema() {
     let (wrong, image) = (example("message-passing-wrong-1"), folder.file("w.image"));
     let tariff = folder.with("tariff", "start 1\nstep 2\ntaken 3\ninterference 4\nleast 5\n");
     let cut = folder.with("cut.image", "\0");
-    let commands: [&[&str]; 12] = [
+    let broken = folder.with("broken.program", &ASKED.replace("flag :=rel 1", "flag := 1"));
+    let commands: [&[&str]; 14] = [
+        &["infer", &broken, "-o", &folder.file("none.outline")],
+        &["build", &broken, "-o", &folder.file("none.image")],
         &["build", &wrong, "-o", &image],
         &["build", &wrong, "-o", &image, "--partial"],
         &["check", &wrong, &cut],

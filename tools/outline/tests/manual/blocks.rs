@@ -21,8 +21,10 @@ impl Block {
 }
 
 /// Every mark that a block may have.
-const KINDS: [&str; 9] =
-    ["text", "sh", "program", "fits", "nearly", "picture", "page", "says", "beyond"];
+const KINDS: [&str; 12] = [
+    "text", "sh", "program", "fits", "nearly", "picture", "page", "says", "beyond", "wish",
+    "inferred", "tells",
+];
 
 pub fn manual() -> String {
     let path = PathBuf::from(env!("CARGO_MANIFEST_DIR")).join("../../docs/MANUAL.md");

@@ -3,6 +3,7 @@
 //! The manual's fenced blocks are marked; the manual's last section says how.
 
 mod blocks;
+mod inferred;
 mod instances;
 mod pages;
 mod pictures;

@@ -54,7 +54,10 @@ pub fn fed(args: &[&str], input: &[u8]) -> Output {
         .stderr(Stdio::piped())
         .spawn()
         .expect("run");
-    child.stdin.take().expect("a pipe").write_all(input).expect("fed");
+    let written = child.stdin.take().expect("a pipe").write_all(input);
+    // A program that needs no input may end before it is fed.
+    let is_closed = |e: &std::io::Error| e.kind() == std::io::ErrorKind::BrokenPipe;
+    assert!(written.is_ok() || written.as_ref().is_err_and(is_closed), "{written:?}");
     child.wait_with_output().expect("run")
 }
 
