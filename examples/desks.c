@@ -2,8 +2,8 @@
  * Two till makers at one proved service: maker 1 may check and bill, maker 2 may check and replay. The rights are given
  * here, before the first call; no call changes them. Each maker has a number of billed images of its own.
  *
- *     rt staticlib desks
- *     cc -std=c11 -Wall -Wextra -Iinclude examples/desks.c target/staticlib/libdesks.a -o target/desks
+ *     rt staticlib service
+ *     cc -std=c11 -Wall -Wextra -Iinclude examples/desks.c target/staticlib/libservice.a -o target/desks
  *     target/desks FILE [TRACE]
  *
  * TRACE has two bytes for each step that a pad took, thread and position. Each call is printed with its code. The status

@@ -1,15 +1,15 @@
 // What an accepted image holds, for calls that go on from there: trimming, bills.
 use crate::judge::judge_sound;
+use checker_spec::acceptance::Acceptance;
 use image::decode::Decoded;
 use image::decode::decode_image;
-use index::table::fill_index;
-use program::sizes::Sizes;
-use promise::acceptance::Acceptance;
-use report::verdict::Verdict;
+use image_header::sizes::Sizes;
+use image_index::table::fill_index;
+use verdict_record::verdict::Verdict;
 ghost use mathlib.Core.Path.{_≡_};
 ghost use lib.ListN.{replicate};
-ghost use Rattle.index.specs.Table.{tableSize, indexOf};
-ghost use Rattle.promise.specs.Acceptance.{grantedBy, acceptance};
+ghost use Rattle.image_index.specs.IndexTable.{tableSize, indexOf};
+ghost use Rattle.checker_spec.specs.Acceptance.{grantedBy, acceptance};
 
 // By the verdict on sound bytes.
 fn granted_by(v: Verdict, z: Sizes) -> Acceptance

@@ -1,9 +1,9 @@
 // The entry point, for C and Rust.
 use crate::judge::judge;
-use report::output::Output;
-use report::output::report;
-use report::record::VerdictRecord;
-ghost use Rattle.promise.specs.Promise.{Promise};
+use verdict_record::output::Output;
+use verdict_record::output::report;
+use verdict_record::record::VerdictRecord;
+ghost use Rattle.checker_spec.specs.Promise.{Promise};
 
 // Judges the image and writes the verdict's record to the buffer. For every byte string and every buffer: a buffer of
 // fewer than 22 bytes is left as it is, and the answer is 1; else the answer is the verdict's code, and the bytes behind

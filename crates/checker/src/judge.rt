@@ -1,26 +1,26 @@
 // The verdict on an image: the first fault of its bytes, or the first obligation that is not met, or the first claim that fails, or
 // accepted.
-use frames::fault::Fault;
 use image::decode::Decoded;
 use image::decode::decode_image;
-use index::table::IndexSize;
-use index::table::fill_index;
-use judging::judge::judge_obligations;
-use justify::pass::judge_lines;
-use lookups::claim::Claimed;
-use lookups::claim::claim_of;
-use lookups::claim::claim_place;
-use outcomes::claims::first_denied;
-use outcomes::outcome::Outcome;
-use program::sizes::Sizes;
-use report::obligation::Place;
-use report::verdict::Verdict;
+use image_access::claim::Claimed;
+use image_access::claim::claim_of;
+use image_access::claim::claim_place;
+use image_frames::fault::Fault;
+use image_header::sizes::Sizes;
+use image_index::table::IndexSize;
+use image_index::table::fill_index;
+use obligations::all_obligations::judge_obligations;
+use obligations::claims::first_denied;
+use obligations::judgement::Outcome;
+use rules_justified::justify::judge_lines;
+use verdict_record::obligation::Place;
+use verdict_record::verdict::Verdict;
 ghost use mathlib.Core.Path.{_≡_};
 ghost use lib.ListN.{replicate};
-ghost use Rattle.index.specs.Table.{tableSize, indexOf};
-ghost use Rattle.promise.specs.Answer.{verdict, verdictWithin};
-ghost use Rattle.checker.specs.Found.{pointsOf, deniedAt, claimsVerdict, soundVerdict};
-ghost use Rattle.marks.specs.Marks.{asMarks};
+ghost use Rattle.image_index.specs.IndexTable.{tableSize, indexOf};
+ghost use Rattle.checker_spec.specs.ImageVerdict.{verdict, verdictWithin};
+ghost use Rattle.checker.specs.VerdictFound.{pointsOf, deniedAt, claimsVerdict, soundVerdict};
+ghost use Rattle.rules_justified.specs.Marks.{asMarks};
 ghost use Prim.Native.Nat.{_<_};
 
 // A claim is of no class of obligations.

@@ -4,7 +4,7 @@ use mathlib.Core.Bool.{Bool, cond}
 use Rattle.formula.specs.Reader.{limit}
 use Rattle.formula.specs.declared.reader.Reading.{Reading}
 use Rattle.formula.specs.declared.reader.Reading.the-variants.{Formula, Fault}
-use Rattle.frames.specs.Fault.{codeOf}
+use Rattle.image_frames.specs.Fault.{codeOf}
 use Rattle.image.specs.declared.decode.Decoded.{Decoded}
 use Rattle.image.specs.declared.decode.Decoded.the-variants.{Refused, Sound}
 

@@ -6,7 +6,7 @@ use mathlib.Core.Bool.{cond}
 use lib.ListN.{length, drop}
 use lib.Dec.{ltb}
 use Rattle.limits.specs.Numbers.{word}
-use Rattle.rows.specs.declared.by.Implications.{Implications}
+use Rattle.tables_rows.specs.declared.by_rows.Implications.{Implications}
 
 -- a pair has four bytes; what is left over of one does not count, nor does a sixth pair
 unfoldable pub pairsIn : ℕ → ℕ

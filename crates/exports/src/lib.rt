@@ -1,5 +1,5 @@
 // Functions for Rust to call, in benchmarks.
-pub mod trying;
+pub mod rows;
 
 use formula::reader::Counts;
 use formula::reader::Fault;
@@ -7,14 +7,14 @@ use formula::reader::Reading;
 use formula::reader::read_formula;
 use image::decode::Decoded;
 use image::decode::decode_image;
-use index::table::IndexSize;
-use index::table::fill_index;
-use report::code::code_of;
+use image_index::table::IndexSize;
+use image_index::table::fill_index;
+use verdict_record::fault_code::code_of;
 ghost use mathlib.Core.Path.{_≡_};
 ghost use Prim.Native.Nat.{_+_};
 ghost use lib.ListN.{replicate};
 ghost use Rattle.formula.specs.Reader.{limit, readingOf};
-ghost use Rattle.index.specs.Table.{tableSize};
+ghost use Rattle.image_index.specs.IndexTable.{tableSize};
 ghost use Rattle.image.specs.Decode.{decoded};
 ghost use Rattle.exports.specs.Answers.{ofReading, ofDecoded};
 

@@ -2,18 +2,18 @@
 use crate::permit::Handover;
 use crate::permit::handover_code;
 use checker::acceptance::accept_image;
-use index::table::IndexSize;
-use program::sizes::Sizes;
-use promise::acceptance::Acceptance;
+use checker_spec::acceptance::Acceptance;
+use image_header::sizes::Sizes;
+use image_index::table::IndexSize;
 ghost use mathlib.Core.Path.{_≡_};
 ghost use lib.ListN.{replicate};
-ghost use Rattle.index.specs.Table.{tableSize, indexOf};
+ghost use Rattle.image_index.specs.IndexTable.{tableSize, indexOf};
 ghost use Rattle.image.specs.Decode.{decoded};
 ghost use Rattle.image.specs.declared.decode.Decoded.the-variants.{Sound};
-ghost use Rattle.promise.specs.Acceptance.{acceptance};
-ghost use Rattle.promise.specs.declared.acceptance.Acceptance.the-variants.{Granted};
-ghost use Rattle.handover_promise.specs.Code.{byAcceptance};
-ghost use Rattle.handover_promise.specs.Promise.{Promise};
+ghost use Rattle.checker_spec.specs.Acceptance.{acceptance};
+ghost use Rattle.checker_spec.specs.declared.acceptance.Acceptance.the-variants.{Granted};
+ghost use Rattle.handover_spec.specs.Code.{byAcceptance};
+ghost use Rattle.handover_spec.specs.Promise.{Promise};
 
 // The old image is accepted. With a table of zeros, as long as the new image asks for.
 fn code_by<'a, 'b, 'c, 'd, 'e>(

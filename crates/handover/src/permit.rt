@@ -1,23 +1,23 @@
 // The code of a handover between accepted images.
-use handover_lines::lines::lines_serve;
-use handover_table::bytes::same_bytes;
-use handover_table::table::table_fits;
-use index::look::body_of;
-use justify::pass::judge_lines;
-use lookups::totals::Totals;
-use lookups::totals::totals_of;
-use program::sizes::Sizes;
+use handover_spec::lines::lines_serve;
+use handover_spec::same_bytes::same_bytes;
+use handover_spec::table::table_fits;
+use image_access::totals::Totals;
+use image_access::totals::totals_of;
+use image_header::sizes::Sizes;
+use image_index::look_up::body_of;
+use rules_justified::justify::judge_lines;
 ghost use mathlib.Core.Path.{_≡_};
 ghost use Prim.Native.Nat.{_≤_};
-ghost use Rattle.frames.specs.Records.{bodies};
-ghost use Rattle.index.specs.Table.{indexOf};
+ghost use Rattle.image_frames.specs.Records.{bodies};
+ghost use Rattle.image_index.specs.IndexTable.{indexOf};
 ghost use Rattle.image.specs.Decode.{decoded};
 ghost use Rattle.image.specs.declared.decode.Decoded.the-variants.{Sound};
-ghost use Rattle.content.specs.Image.{imageOf};
-ghost use Rattle.lookups.specs.Totals.{totalsOf};
-ghost use Rattle.justify.specs.Pass.{marksTo};
-ghost use Rattle.handover_promise.specs.Code.{codeBetween, codeOf};
-ghost use Rattle.handover_lines.specs.Found.{threadsServe};
+ghost use Rattle.image_meaning.specs.Image.{imageOf};
+ghost use Rattle.image_access.specs.Totals.{totalsOf};
+ghost use Rattle.rules_justified.specs.Justify.{marksTo};
+ghost use Rattle.handover_spec.specs.Code.{codeBetween, codeOf};
+ghost use Rattle.handover_spec.specs.LinesFound.{threadsServe};
 
 pub struct Handover;
 

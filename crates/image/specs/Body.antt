@@ -3,14 +3,14 @@ use mathlib.Core.Bool.{cond}
 use mathlib.Core.List.{List}
 use Prim.Native.Nat.{ℕ, _+_, _-_}
 use lib.Dec.{eqb, leb}
-use Rattle.frames.specs.declared.fault.Checked.{Checked}
-use Rattle.program.specs.declared.sizes.Sizes.{Sizes}
-use Rattle.header.specs.Header.{header}
-use Rattle.records.specs.Claim as Claims
-use Rattle.bodies.specs.Formula as Formulas
-use Rattle.thread_bodies.specs.Thread as Threads
-use Rattle.bodies.specs.Lists as Lists
-use Rattle.bodies.specs.Line as Lines
+use Rattle.image_frames.specs.declared.fault.Checked.{Checked}
+use Rattle.image_header.specs.declared.sizes.Sizes.{Sizes}
+use Rattle.image_header.specs.Header.{header}
+use Rattle.image_bodies.specs.Claim as Claims
+use Rattle.image_bodies.specs.FormulaBody as Formulas
+use Rattle.image_bodies.specs.ThreadBody as Threads
+use Rattle.image_bodies.specs.ListBody as Lists
+use Rattle.image_bodies.specs.LineBody as Lines
 use Rattle.image.specs.declared.body.Place.{Place}
 use Rattle.image.specs.declared.body.Place.the-variants.{Header, Formula, Thread, Outline, Line, Obligations, Claim}
 

@@ -2,14 +2,14 @@
 use mathlib.Core.List.{List, []}
 use Prim.Native.Nat.{ℕ, zero, suc, _+_}
 use lib.ListN.{getD, drop}
-use Rattle.frames.specs.Frames.{wholeImage}
-use Rattle.frames.specs.Records.{bodies}
-use Rattle.frames.specs.declared.fault.Checked.{Checked}
-use Rattle.frames.specs.declared.fault.Checked.the-variants.{Passed, Faulty}
-use Rattle.frames.specs.declared.walk.Framing.{Framing}
-use Rattle.frames.specs.declared.walk.Framing.the-variants as Framing
-use Rattle.program.specs.declared.sizes.Sizes.{Sizes}
-use Rattle.header.specs.Header.{threadCount, wordCount, registerCount, valueRange}
+use Rattle.image_frames.specs.Frames.{wholeImage}
+use Rattle.image_frames.specs.Records.{bodies}
+use Rattle.image_frames.specs.declared.fault.Checked.{Checked}
+use Rattle.image_frames.specs.declared.fault.Checked.the-variants.{Passed, Faulty}
+use Rattle.image_frames.specs.declared.walk.Framing.{Framing}
+use Rattle.image_frames.specs.declared.walk.Framing.the-variants as Framing
+use Rattle.image_header.specs.declared.sizes.Sizes.{Sizes}
+use Rattle.image_header.specs.Header.{threadCount, wordCount, registerCount, valueRange}
 use Rattle.image.specs.Body.{placeOf, check}
 use Rattle.image.specs.declared.decode.Decoded.{Decoded}
 use Rattle.image.specs.declared.decode.Decoded.the-variants.{Refused, Sound}

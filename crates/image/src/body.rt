@@ -1,17 +1,17 @@
 // The body of one record, by its place among the records.
-use bodies::formula_body::check_formula;
-use bodies::line_body::check_line;
-use bodies::list_body::check_obligations;
-use bodies::list_body::check_outline;
-use frames::fault::Checked;
-use header::header::check_header;
-use program::sizes::Sizes;
-use records::claim::check_claim;
-use thread_bodies::thread_body::check_thread;
+use image_bodies::claim::check_claim;
+use image_bodies::formula_body::check_formula;
+use image_bodies::line_body::check_line;
+use image_bodies::list_body::check_obligations;
+use image_bodies::list_body::check_outline;
+use image_bodies::thread_body::check_thread;
+use image_frames::fault::Checked;
+use image_header::header::check_header;
+use image_header::sizes::Sizes;
 ghost use mathlib.Core.Path.{_≡_};
-ghost use Rattle.frames.specs.Records.{bodies};
-ghost use Rattle.index.specs.Table.{indexOf};
-ghost use Rattle.bodies.specs.Outlined.{outlinedOf};
+ghost use Rattle.image_frames.specs.Records.{bodies};
+ghost use Rattle.image_index.specs.IndexTable.{indexOf};
+ghost use Rattle.image_bodies.specs.OutlineFormulas.{outlinedOf};
 ghost use Rattle.image.specs.Body.{placeOf, check};
 
 // What a record is: thread t; the line that has so many lines before it.

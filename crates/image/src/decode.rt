@@ -1,20 +1,20 @@
 // All bodies, first to last, behind the frames.
 use crate::body::check_body;
-use bodies::outlined::outlined_of;
-use frames::fault::Checked;
-use frames::fault::Fault;
-use frames::walk::Framing;
-use frames::walk::read_frames;
-use header::header::Header;
-use header::header::range_of;
-use index::look::body_of;
+use image_bodies::outline_formulas::outlined_of;
+use image_frames::fault::Checked;
+use image_frames::fault::Fault;
+use image_frames::walk::Framing;
+use image_frames::walk::read_frames;
+use image_header::header::Header;
+use image_header::header::range_of;
+use image_header::sizes::Sizes;
+use image_index::look_up::body_of;
 use limits::read::byte_at;
-use program::sizes::Sizes;
 ghost use mathlib.Core.Path.{_≡_};
 ghost use Prim.Native.Nat.{_<_};
-ghost use Rattle.frames.specs.Records.{bodies};
-ghost use Rattle.index.specs.Table.{indexOf};
-ghost use Rattle.bodies.specs.Outlined.{outlinedOf};
+ghost use Rattle.image_frames.specs.Records.{bodies};
+ghost use Rattle.image_index.specs.IndexTable.{indexOf};
+ghost use Rattle.image_bodies.specs.OutlineFormulas.{outlinedOf};
 ghost use Rattle.image.specs.Decode.{recordCount, sizesOf, firstFault, decoded};
 
 // The first fault with its record, or how much there is.

@@ -1,5 +1,5 @@
-// The trimmed image, written to a buffer that the caller lends.
-pub mod kept;
-pub mod parts;
-pub mod record;
-pub mod whole;
+// What trimming promises: definitions, and what follows from them.
+
+// Trimming for the archive: `trim_image` is the entry point.
+pub mod entry;
+pub mod trimming;

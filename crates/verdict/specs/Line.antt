@@ -7,9 +7,9 @@ use Rattle.limits.specs.Limits as Limits
 use Rattle.input.specs.Filled.{Fits}
 use Rattle.input.specs.declared.Filled.{Filled}
 use Rattle.input.specs.declared.Filled.the-variants.{Full, Ended, Failed}
-use Rattle.report.specs.Fields.{fieldsOf}
-use Rattle.verdict_text.specs.Text.{textOf}
-use Rattle.promise.specs.Answer.{verdictWithin}
+use Rattle.verdict_record.specs.Fields.{fieldsOf}
+use Rattle.verdict_record.specs.Text.{textOf}
+use Rattle.checker_spec.specs.ImageVerdict.{verdictWithin}
 
 -- the nine fields of the verdict on an image, which for the program is shorter than for the library
 unfoldable pub lineOf : List ℕ → List ℕ

@@ -4,14 +4,14 @@ use input::Filled;
 use input::fill;
 use limits::Limits;
 use limits::read::part;
-use report::verdict::fields_of;
-use verdict_text::text::Line;
-use verdict_text::text::Text;
-use verdict_text::text::text_of;
+use verdict_record::text::Line;
+use verdict_record::text::Text;
+use verdict_record::text::text_of;
+use verdict_record::verdict::fields_of;
 ghost use mathlib.Core.Path.{_≡_};
 ghost use Prim.Native.Nat.{_≤_};
 ghost use lib.ListN.{take};
-ghost use Rattle.verdict_text.specs.Text.{room};
+ghost use Rattle.verdict_record.specs.Text.{room};
 ghost use Rattle.verdict.specs.Line.{lineOf, lineFor, Answers};
 
 // The nine fields of the verdict on an image, which for the program is shorter than for the library.

@@ -221,7 +221,7 @@ fn the_first_record_and_in_it_the_lowest_code_is_named() {
 /// The set `images` of `cases`.
 #[test]
 fn stored_verdicts_are_met() {
-    let path = concat!(env!("CARGO_MANIFEST_DIR"), "/../../crates/cases/data/images.bin");
+    let path = concat!(env!("CARGO_MANIFEST_DIR"), "/../../crates/vectors_calls/data/images.bin");
     let stored = std::fs::read(path).expect("the stored set is there");
     let cases = stored_images(&stored).expect("the set is whole");
     for case in &cases {

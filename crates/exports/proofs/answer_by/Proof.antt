@@ -1,4 +1,4 @@
-use Rattle.exports.proofs.Numbers.{answers}
+use Rattle.exports.proofs.ExportBranches.{answers}
 use borrow.Author.Needs.{needs}
 use Rattle.exports.proofs.answer_by.Statement.{statement}
 use Rattle.exports.proofs.answer_by.Tie as tie

@@ -3,7 +3,7 @@ use Prim.Native.Nat.{_≤_, _-_}
 use lib.ListN.{length}
 use borrow.Author.Needs.{needs}
 use Rattle.input.specs.Filled.{Fits}
-use Rattle.input.proofs.Reaching.{filling}
+use Rattle.input.proofs.ReadBranches.{filling}
 use Rattle.input.proofs.fill.Statement.{statement}
 use Rattle.input.proofs.fill.Tie as tie
 

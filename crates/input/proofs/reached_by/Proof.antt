@@ -1,4 +1,4 @@
-use Rattle.input.proofs.Reaching.{reaching}
+use Rattle.input.proofs.ReadBranches.{reaching}
 use borrow.Author.Needs.{needs}
 use Rattle.input.proofs.reached_by.Statement.{statement}
 use Rattle.input.proofs.reached_by.Tie as tie

@@ -1,5 +1,5 @@
-use Rattle.limits.proofs.Auto.{tests}
-use Rattle.checker.proofs.Granted.{accepting}
+use Rattle.limits.proofs.BranchTests.{tests}
+use Rattle.checker.proofs.AcceptanceBranches.{accepting}
 use borrow.Author.Needs.{needs}
 use Rattle.checker.proofs.acceptance.accept_image.Statement.{statement}
 use Rattle.checker.proofs.acceptance.accept_image.Tie as tie

@@ -1,5 +1,5 @@
-use Rattle.limits.proofs.Auto.{tests}
-use Rattle.checker.proofs.Granted.{granting}
+use Rattle.limits.proofs.BranchTests.{tests}
+use Rattle.checker.proofs.AcceptanceBranches.{granting}
 use borrow.Author.Needs.{needs}
 use Rattle.checker.proofs.acceptance.granted_by.Statement.{statement}
 use Rattle.checker.proofs.acceptance.granted_by.Tie as tie

@@ -1,5 +1,5 @@
-use Rattle.limits.proofs.Auto.{tests}
-use Rattle.checker.proofs.Verdicts.{judging}
+use Rattle.limits.proofs.BranchTests.{tests}
+use Rattle.checker.proofs.JudgeBranches.{judging}
 use borrow.Author.Needs.{needs}
 use Rattle.checker.proofs.judge.judge_by.Statement.{statement}
 use Rattle.checker.proofs.judge.judge_by.Tie as tie

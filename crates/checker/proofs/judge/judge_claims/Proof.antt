@@ -1,5 +1,5 @@
-use Rattle.limits.proofs.Auto.{tests}
-use Rattle.checker.proofs.Verdicts.{denying}
+use Rattle.limits.proofs.BranchTests.{tests}
+use Rattle.checker.proofs.JudgeBranches.{denying}
 use borrow.Author.Needs.{needs}
 use Rattle.checker.proofs.judge.judge_claims.Statement.{statement}
 use Rattle.checker.proofs.judge.judge_claims.Tie as tie

@@ -1,5 +1,5 @@
-use Rattle.limits.proofs.Auto.{tests}
-use Rattle.checker.proofs.Verdicts.{sound}
+use Rattle.limits.proofs.BranchTests.{tests}
+use Rattle.checker.proofs.JudgeBranches.{sound}
 use borrow.Author.Needs.{needs}
 use Rattle.checker.proofs.judge.judge_sound.Statement.{statement}
 use Rattle.checker.proofs.judge.judge_sound.Tie as tie

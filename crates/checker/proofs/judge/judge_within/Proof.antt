@@ -1,5 +1,5 @@
-use Rattle.promise.proofs.Within.{within}
-use Rattle.limits.proofs.Auto.{tests}
+use Rattle.checker_spec.proofs.ShorterLimit.{within}
+use Rattle.limits.proofs.BranchTests.{tests}
 use borrow.Author.Needs.{needs}
 use Rattle.checker.proofs.judge.judge_within.Statement.{statement}
 use Rattle.checker.proofs.judge.judge_within.Tie as tie

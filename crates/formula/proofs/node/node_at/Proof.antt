@@ -1,5 +1,5 @@
-use Rattle.formula.proofs.Auto.{tests}
-use Rattle.formula.proofs.Nodes.{nodes}
+use Rattle.formula.proofs.BranchTests.{tests}
+use Rattle.formula.proofs.NodeBranches.{nodes}
 use borrow.Author.Needs.{needs}
 use Rattle.formula.proofs.node.node_at.Statement.{statement}
 use Rattle.formula.proofs.node.node_at.Tie as tie

@@ -1,5 +1,5 @@
-use Rattle.limits.proofs.Auto.{tests}
-use Rattle.image.proofs.Laws.Whole.{placed}
+use Rattle.limits.proofs.BranchTests.{tests}
+use Rattle.image.proofs.DecodeBranches.Whole.{placed}
 use borrow.Author.Needs.{needs}
 use Rattle.image.proofs.body.check_body.Statement.{statement}
 use Rattle.image.proofs.body.check_body.Tie as tie

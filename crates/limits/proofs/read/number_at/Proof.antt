@@ -1,5 +1,5 @@
 use Rattle.limits.proofs.Numbers.{numbering}
-use Rattle.limits.proofs.Auto.{tests}
+use Rattle.limits.proofs.BranchTests.{tests}
 use borrow.Author.Needs.{needs}
 use Rattle.limits.proofs.read.number_at.Statement.{statement}
 use Rattle.limits.proofs.read.number_at.Tie as tie

@@ -1,0 +1,89 @@
+// Tests by rows, and truth tables.
+use limits::Limits;
+use limits::read::rest;
+use limits::read::word_at;
+use tables_rows::by_rows::Implications;
+use tables_rows::by_rows::by_rows;
+use tables_rows::by_rows::by_table;
+use tables_rows::entailment::Sizes;
+ghost use mathlib.Core.Path.{_≡_};
+ghost use Rattle.limits.specs.Limits.{nesting};
+ghost use Rattle.formula.specs.Tree.{parseTree};
+ghost use Rattle.tables_rows.specs.ByRows.{rowsT, tableT, lineOf, premisesOf};
+ghost use Rattle.exports.specs.Answers.{ofTruth};
+ghost use Rattle.exports.specs.Places.{pairsIn, sideIn, implicationsIn};
+
+fn truth(yes: bool) -> usize
+    ensures { λ r. ⌜ r ≡ ofTruth yes ⌝ }
+{
+    if yes {
+        return 1;
+    }
+    0
+}
+
+// The answer of `by_rows` on the tests at two positions, over so many values: 1 for true, 0 for false.
+#[no_mangle]
+pub extern "C" fn rows_answer(body: &[u8], left: usize, right: usize, range: u8) -> usize
+    ensures { λ r.
+        ⌜ r ≡ ofTruth (rowsT range (parseTree (now (body .entry)) nesting left .tree) (parseTree (now (body .entry)) nesting right .tree))
+        ⌝ }
+{
+    let k = Limits::NESTING;
+    truth(by_rows(body, left, k, right, k, range))
+}
+
+// Positions, one for each implication.
+pub struct Side {
+    pub at: [usize; Sizes::IMPLICATIONS],
+}
+
+// A position is a number of 16 bits, and one of the other side stands between two of a side.
+fn side_in(places: &[u8]) -> Side
+    ensures { λ r. ⌜ r .at ≡ sideIn (now (places .entry)) ⌝ }
+{
+    let a = word_at(places, 0);
+    let b = word_at(places, 4);
+    let c = word_at(places, 8);
+    let d = word_at(places, 12);
+    let e = word_at(places, 16);
+    Side {
+        at: [a, b, c, d, e],
+    }
+}
+
+// How many whole pairs so many bytes hold; no more than the line and its premises count.
+fn pairs_in(length: usize) -> usize
+    ensures { λ r. ⌜ r ≡ pairsIn length ⌝ }
+{
+    let pairs = length / 4;
+    if pairs < Sizes::IMPLICATIONS {
+        return pairs;
+    }
+    Sizes::IMPLICATIONS
+}
+
+// Left and right of the line, then of each premise. What is not there is 0.
+fn implications_in(places: &[u8]) -> Implications
+    ensures { λ r. ⌜ r ≡ implicationsIn (now (places .entry)) ⌝ }
+{
+    let lefts = side_in(places);
+    let rights = side_in(rest(places, 2));
+    let left = lefts.at;
+    let right = rights.at;
+    Implications {
+        count: pairs_in(places.len()),
+        left,
+        right,
+    }
+}
+
+// The answer of `by_table` on the implications whose positions are given: 1 for true, 0 for false.
+#[no_mangle]
+pub extern "C" fn table_answer(body: &[u8], places: &[u8]) -> usize
+    ensures { λ r.
+        ⌜ r ≡ ofTruth (tableT (premisesOf (now (body .entry)) (implicationsIn (now (places .entry))))
+        (lineOf (now (body .entry)) (implicationsIn (now (places .entry))))) ⌝ }
+{
+    truth(by_table(body, implications_in(places)))
+}

@@ -1,0 +1,89 @@
+// Whether something occurs in a formula.
+use formula::code::contains;
+use formula::node::node_at;
+use limits::read::octet_at;
+ghost use mathlib.Core.Path.{_≡_};
+ghost use Rattle.formula.specs.Tree.{parseTree};
+ghost use Rattle.formula_compare.specs.Occurs.{ownerOf, isQueried, foundIn, occurs};
+
+// What is looked for: nodes of some codes, whose operand is anything, is a number, or is a register that a thread of
+// that number does not own.
+pub struct Query {
+    pub codes: u32,
+    pub operand: u8,
+    pub number: u8,
+}
+
+pub struct Operand {}
+
+impl Operand {
+    pub const ANY: u8 = 0;
+
+    pub const EQUAL: u8 = 1;
+
+    pub const FOREIGN: u8 = 2;
+}
+
+// Whether it occurs; if not, the position past the formula.
+pub enum Found {
+    Yes,
+    No(usize),
+}
+
+// The thread that owns a register; 0 where there is no such register.
+pub fn owner(owners: &[u8], register: u8) -> u8
+    ensures { λ r. ⌜ r ≡ ownerOf (now (owners .entry)) register ⌝ }
+{
+    if register == 0 {
+        return 0;
+    }
+    octet_at(owners, (register - 1) as usize)
+}
+
+pub fn is_queried(w: Query, owners: &[u8], code: u8, operand: u8) -> bool
+    ensures { λ r. ⌜ r ≡ isQueried w (now (owners .entry)) code operand ⌝ }
+{
+    if contains(w.codes, code) {
+        if w.operand == Operand::ANY {
+            return true;
+        }
+        if w.operand == Operand::EQUAL {
+            return operand == w.number;
+        }
+        return owner(owners, operand) != w.number;
+    }
+    false
+}
+
+pub fn find_at(s: &[u8], at: usize, left: usize, w: Query, owners: &[u8]) -> Found
+    ensures { λ r. ⌜ r ≡ foundIn w (now (owners .entry)) (parseTree (now (s .entry)) left at) ⌝ }
+{
+    if left == 0 {
+        return Found::No(at);
+    }
+    let x = node_at(s, at);
+    if is_queried(w, owners, x.code, x.operand) {
+        return Found::Yes;
+    }
+    if x.parts == 0 {
+        return Found::No(x.next);
+    }
+    match find_at(s, x.next, left - 1, w, owners) {
+        Found::Yes => Found::Yes,
+        Found::No(m) => {
+            if x.parts == 1 {
+                return Found::No(m);
+            }
+            find_at(s, m, left - 1, w, owners)
+        }
+    }
+}
+
+pub fn occurs_at(s: &[u8], at: usize, left: usize, w: Query, owners: &[u8]) -> bool
+    ensures { λ r. ⌜ r ≡ occurs w (now (owners .entry)) (parseTree (now (s .entry)) left at .tree) ⌝ }
+{
+    match find_at(s, at, left, w, owners) {
+        Found::Yes => true,
+        Found::No(_) => false,
+    }
+}

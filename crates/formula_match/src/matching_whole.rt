@@ -1,0 +1,41 @@
+// The matcher where nobody asks for the formula's end, which is then not looked for.
+use crate::bind::Bind;
+use crate::matching::match_at;
+use crate::matching::match_root;
+ghost use mathlib.Core.Path.{_≡_};
+ghost use Rattle.formula_match.specs.MatchPlaces.{wholeAt};
+
+// Whether a template fits, the position past it, and what the holes then stand for.
+pub struct Whole {
+    pub ok: bool,
+    pub tpl: usize,
+    pub bind: Bind,
+}
+
+// The formula at a position against the template at i.
+pub fn match_whole(s: &[u8], t: &[u8], i: usize, at: usize, left: u8, b: Bind) -> Whole
+    ensures { λ r. ⌜ r ≡ wholeAt (now (s .entry)) (now (t .entry)) left i at b ⌝ }
+{
+    let r = match_root(s, t, i, at, left, b);
+    let n = r.bind;
+    if r.kind == 2 {
+        return match_whole(s, t, r.tpl, r.next, left - 1, n);
+    }
+    if r.kind == 3 {
+        let m = match_at(s, t, r.tpl, r.next, left - 1, n);
+        let o = m.bind;
+        if m.ok {
+            return match_whole(s, t, m.tpl, m.next, left - 1, o);
+        }
+        return Whole {
+            ok: false,
+            tpl: m.tpl,
+            bind: o,
+        };
+    }
+    Whole {
+        ok: 0 < r.kind,
+        tpl: r.tpl,
+        bind: n,
+    }
+}

@@ -1,0 +1,215 @@
+// A replay across a handover: whether it is permitted, the start, both runs.
+use crate::onward::go_on;
+use crate::onward::run_counted;
+use checker::acceptance::accept_image;
+use checker_spec::acceptance::Acceptance;
+use handover::permit::Handover;
+use handover::permit::handover_code;
+use image_header::sizes::Sizes;
+use image_index::look_up::body_of;
+use image_index::table::IndexSize;
+use replay_machine::output::Shown;
+use replay_machine::output::shown_by;
+use replay_machine::pick::Refusal;
+use replay_machine::replayed::Replayed;
+use replay_machine::replayed::room_of;
+use replay_machine::start::start_machine;
+ghost use mathlib.Core.Path.{_≡_};
+ghost use Prim.Native.Nat.{_≤_, min};
+ghost use lib.ListN.{length, replicate};
+ghost use Rattle.image_index.specs.IndexTable.{tableSize, indexOf};
+ghost use Rattle.image.specs.Decode.{decoded};
+ghost use Rattle.image.specs.declared.decode.Decoded.the-variants.{Sound};
+ghost use Rattle.checker_spec.specs.Acceptance.{acceptance};
+ghost use Rattle.checker_spec.specs.declared.acceptance.Acceptance.the-variants.{Granted};
+ghost use Rattle.replay_machine.specs.OutputTable.{shownBy};
+ghost use Rattle.handover_replay.specs.ReplayAcross.{refusedBy, acrossOn, acrossBy, byAcceptance, acrossOf};
+
+// Points and registers of 0, and the table stays.
+fn refuse(s: &[u8], code: u8) -> Replayed
+    ensures { λ r. ⌜ r ≡ refusedBy code ⌝ }
+{
+    Replayed {
+        code,
+        steps: 0,
+        held: false,
+        words: 0,
+        machine: start_machine(&s[0..0], 0, &s[0..0]),
+    }
+}
+
+// The handover is permitted.
+fn run_both<'a, 'b, 'c, 'd, 'e, 'f, 'g, 'h>(
+    old: &'a [u8],
+    ox: &'b [usize],
+    z: Sizes,
+    new: &'c [u8],
+    nx: &'d [usize],
+    y: Sizes,
+    points: &'e [u8],
+    first: &'f [u8],
+    second: &'g [u8],
+    given: &'h [u8],
+    room: usize,
+) -> Replayed
+    requires { ⌜ ((now ox ≡ indexOf (now old)) × (decoded (now old) ≡ Sound z)) × (now nx ≡ indexOf (now new)) ⌝ }
+    ensures { λ r. ⌜ r ≡ acrossOn (now (old .entry)) z (now (new .entry)) y (now (points .entry)) (now (first .entry)) (now (second .entry))
+        (now (given .entry)) room ⌝ }
+{
+    let n = start_machine(body_of(old, ox, 0), z.range, given);
+    if room < (z.words as usize) {
+        return Replayed {
+            code: Refusal::ROOM,
+            steps: 0,
+            held: false,
+            words: z.words,
+            machine: n,
+        };
+    }
+    let r = run_counted(old, ox, z, room, n, first);
+    let q = go_on(old, ox, z, new, nx, y, points, room, r, second);
+    let machine = q.machine;
+    Replayed {
+        code: q.code,
+        steps: q.steps,
+        held: true,
+        words: z.words,
+        machine,
+    }
+}
+
+// Both images are accepted.
+fn replay_between<'a, 'b, 'c, 'd, 'e, 'f, 'g, 'h>(
+    old: &'a [u8],
+    ox: &'b [usize],
+    z: Sizes,
+    new: &'c [u8],
+    nx: &'d [usize],
+    y: Sizes,
+    points: &'e [u8],
+    first: &'f [u8],
+    second: &'g [u8],
+    given: &'h [u8],
+    room: usize,
+) -> Replayed
+    requires { ⌜ ((now ox ≡ indexOf (now old)) × (decoded (now old) ≡ Sound z))
+        × ((now nx ≡ indexOf (now new)) × (decoded (now new) ≡ Sound y)) ⌝ }
+    ensures { λ r. ⌜ r ≡ acrossBy (now (old .entry)) z (now (new .entry)) y (now (points .entry)) (now (first .entry)) (now (second .entry))
+        (now (given .entry)) room ⌝ }
+{
+    let code = handover_code(old, ox, z, new, nx, y, points);
+    if code == Handover::PERMITTED {
+        return run_both(old, ox, z, new, nx, y, points, first, second, given, room);
+    }
+    refuse(old, code as u8)
+}
+
+// The old image is accepted. With a table of zeros, as long as the new image asks for.
+fn replay_from_by<'a, 'b, 'c, 'd, 'e, 'f, 'g, 'h>(
+    old: &'a [u8],
+    ox: &'b [usize],
+    z: Sizes,
+    new: &'c [u8],
+    nx: &'h mut [usize],
+    points: &'d [u8],
+    first: &'e [u8],
+    second: &'f [u8],
+    given: &'g [u8],
+    room: usize,
+) -> Replayed
+    requires { ⌜ ((now ox ≡ indexOf (now old)) × (decoded (now old) ≡ Sound z)) × (now nx ≡ replicate (tableSize (now new)) 0) ⌝ }
+    ensures { λ r. ⌜ r ≡ byAcceptance (now (old .entry)) (now (new .entry)) (now (points .entry)) (now (first .entry)) (now (second .entry))
+        (now (given .entry)) room (Granted z) (acceptance (now (new .entry))) ⌝ }
+{
+    match accept_image(new, nx) {
+        Acceptance::Declined => refuse(new, Handover::UNLIKE as u8),
+        Acceptance::Granted(y) => {
+            replay_between(old, ox, z, new, nx, y, points, first, second, given, room)
+        }
+    }
+}
+
+fn replay_from<'a, 'b, 'c, 'd, 'e, 'f, 'g>(
+    old: &'a [u8],
+    ox: &'b [usize],
+    z: Sizes,
+    new: &'c [u8],
+    points: &'d [u8],
+    first: &'e [u8],
+    second: &'f [u8],
+    given: &'g [u8],
+    room: usize,
+) -> Replayed
+    requires { ⌜ (now ox ≡ indexOf (now old)) × (decoded (now old) ≡ Sound z) ⌝ }
+    ensures { λ r. ⌜ r ≡ byAcceptance (now (old .entry)) (now (new .entry)) (now (points .entry)) (now (first .entry)) (now (second .entry))
+        (now (given .entry)) room (Granted z) (acceptance (now (new .entry))) ⌝ }
+{
+    if new.len() <= IndexSize::SHORT_IMAGE {
+        let mut nx = [0usize; IndexSize::SHORT];
+        return replay_from_by(old, ox, z, new, &mut nx, points, first, second, given, room);
+    }
+    let mut nx = [0usize; IndexSize::LONG];
+    replay_from_by(old, ox, z, new, &mut nx, points, first, second, given, room)
+}
+
+// With a table of zeros, as long as the old image asks for.
+fn replay_across_by<'a, 'b, 'c, 'd, 'e, 'f, 'g>(
+    old: &'a [u8],
+    ox: &'g mut [usize],
+    new: &'b [u8],
+    points: &'c [u8],
+    first: &'d [u8],
+    second: &'e [u8],
+    given: &'f [u8],
+    lent: usize,
+) -> Replayed
+    requires { ⌜ now ox ≡ replicate (tableSize (now old)) 0 ⌝ }
+    ensures { λ r. ⌜ r ≡ acrossOf (now (old .entry)) (now (new .entry)) (now (points .entry)) (now (first .entry)) (now (second .entry))
+        (now (given .entry)) lent ⌝ }
+{
+    match accept_image(old, ox) {
+        Acceptance::Declined => refuse(old, Handover::UNLIKE as u8),
+        Acceptance::Granted(z) => {
+            replay_from(old, ox, z, new, points, first, second, given, room_of(lent))
+        }
+    }
+}
+
+// A replay with so many entries lent.
+pub fn replay_across<'a, 'b, 'c, 'd, 'e, 'f>(
+    old: &'a [u8],
+    new: &'b [u8],
+    points: &'c [u8],
+    first: &'d [u8],
+    second: &'e [u8],
+    given: &'f [u8],
+    lent: usize,
+) -> Replayed
+    ensures { λ r. ⌜ r ≡ acrossOf (now (old .entry)) (now (new .entry)) (now (points .entry)) (now (first .entry)) (now (second .entry))
+        (now (given .entry)) lent ⌝ }
+{
+    if old.len() <= IndexSize::SHORT_IMAGE {
+        let mut ox = [0usize; IndexSize::SHORT];
+        return replay_across_by(old, &mut ox, new, points, first, second, given, lent);
+    }
+    let mut ox = [0usize; IndexSize::LONG];
+    replay_across_by(old, &mut ox, new, points, first, second, given, lent)
+}
+
+pub fn shown_across<'a, 'b, 'c, 'd, 'e, 'f>(
+    old: &'a [u8],
+    new: &'b [u8],
+    points: &'c [u8],
+    first: &'d [u8],
+    second: &'e [u8],
+    given: &'f [u8],
+    lent: usize,
+) -> Shown
+    ensures { λ s. ⌜ (s ≡ shownBy (acrossOf (now (old .entry)) (now (new .entry)) (now (points .entry)) (now (first .entry))
+        (now (second .entry)) (now (given .entry)) lent) lent) × ((s .count ≤ min lent 64) × (length (s .writes) ≡ 64)) ⌝ }
+{
+    shown_by(
+        replay_across(old, new, points, first, second, given, lent),
+        lent,
+    )
+}

@@ -1,0 +1,52 @@
+-- The codes of a handover: 32 an image is not accepted or the two are unlike; 33 the table is too short, too long or anywhere out of
+-- range; 34 a named line does not serve; 0 permitted.
+use mathlib.Core.Bool.{Bool, cond}
+use mathlib.Core.List.{List, []}
+use Prim.Native.Nat.{ℕ, suc}
+use lib.Dec.{eqb}
+use lib.ListN.{getD}
+use Rattle.semantics.specs.Formula.{sameBytes}
+use Rattle.logic.specs.Statement.{Statement, implies}
+use Rattle.image_frames.specs.Records.{bodies}
+use Rattle.image_header.specs.declared.sizes.Sizes.{Sizes}
+use Rattle.logic_outline.specs.Verdict.{Image, lineCode}
+use Rattle.image_meaning.specs.Image.{imageOf}
+use Rattle.checker_spec.specs.Acceptance.{acceptance}
+use Rattle.checker_spec.specs.declared.acceptance.Acceptance.{Acceptance}
+use Rattle.checker_spec.specs.declared.acceptance.Acceptance.the-variants.{Granted, Declined}
+use Rattle.handover_spec.specs.Table.{newPoint, newLine, each}
+use Rattle.handover_spec.specs.Fits.{tableFits}
+
+-- of what two images say
+module _ (D E : Image) (table : List ℕ) where
+  -- what the line for a point has to say: the new point's assertion follows from the old one
+  abbrev pub asked : ℕ → ℕ → Statement
+  asked t k = implies (D .outline t k) (E .outline t (newPoint (D .program) table t k))
+
+  -- the line of the new image says that and is justified
+  abbrev pub serves : ℕ → ℕ → Bool
+  serves t k = eqb (lineCode E (asked t k) (newLine (D .program) table t k)) 0
+
+  unfoldable pub linesServe : Bool
+  linesServe = each (D .program .threads) (λ t. each (D .program .points (suc t)) (λ k. serves (suc t) k))
+
+  -- every 33 before any 34
+  unfoldable pub codeBetween : ℕ
+  codeBetween = cond (tableFits D E table) (cond linesServe 0 34) 33
+
+-- the header's body: threads, words, registers, range, start values, owners, start marks, and nothing else
+abbrev pub headerOf : List ℕ → List ℕ
+headerOf s = getD (bodies s) 0 []
+
+-- of accepted images
+unfoldable pub codeOf : List ℕ → Sizes → List ℕ → Sizes → List ℕ → ℕ
+codeOf old z new y table = cond (sameBytes (headerOf old) (headerOf new))
+    (codeBetween (imageOf z (bodies old)) (imageOf y (bodies new)) table) 32
+
+abbrev pub byAcceptance : List ℕ → List ℕ → List ℕ → Acceptance → Acceptance → ℕ
+byAcceptance old new table Declined b = 32
+byAcceptance old new table (Granted z) Declined = 32
+byAcceptance old new table (Granted z) (Granted y) = codeOf old z new y table
+
+unfoldable pub handoverCode : List ℕ → List ℕ → List ℕ → ℕ
+handoverCode old new table = byAcceptance old new table (acceptance old) (acceptance new)

@@ -1,0 +1,35 @@
+-- Which tables fit two images: one by one, as the code tests them, and of what the images say.
+use mathlib.Core.Bool.{Bool, _&&_}
+use mathlib.Core.List.{List}
+use Prim.Native.Nat.{ℕ, suc, _+_, _*_}
+use lib.Dec.{eqb, leb, ltb}
+use lib.ListN.{length}
+use Rattle.limits.specs.Numbers.{within}
+use Rattle.logic_outline.specs.Verdict.{Image}
+use Rattle.handover_spec.specs.Table.{entrySize, pointNamed, lineNamed, pointsTo, newPoint, newLine, each}
+
+-- the point in entry i is none behind the last one, and its line is there
+unfoldable pub entryFits : List ℕ → ℕ → ℕ → ℕ → Bool
+entryFits table last lines i = leb (pointNamed table i) last && within 1 lines (lineNamed table i)
+
+-- so are those of n entries
+unfoldable pub entriesFit : List ℕ → ℕ → ℕ → ℕ → ℕ → Bool
+entriesFit table last lines from n = each n (λ k. entryFits table last lines (from + k))
+
+-- of what two images say
+module _ (D E : Image) (table : List ℕ) where
+  -- the new point is one of the same thread, and the line is there; line 0 is not
+  abbrev pub inRange : ℕ → ℕ → Bool
+  inRange t k = ltb (newPoint (D .program) table t k) (E .program .points t) && within 1 (E .certificate .count)
+      (newLine (D .program) table t k)
+
+  unfoldable pub threadFits : ℕ → Bool
+  threadFits t = each (D .program .points t) (λ k. inRange t k)
+
+  -- of the threads 1 to n
+  unfoldable pub threadsFit : ℕ → Bool
+  threadsFit n = each n (λ t. threadFits (suc t))
+
+  -- an entry for each old point and nothing else, each in range
+  unfoldable pub tableFits : Bool
+  tableFits = eqb (length table) (entrySize * pointsTo (D .program) (D .program .threads)) && threadsFit (D .program .threads)

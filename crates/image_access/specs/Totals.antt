@@ -1,0 +1,19 @@
+-- Totals over the threads of an image: how many points there are, how many before a thread, how many obligations.
+use mathlib.Core.List.{List}
+use Prim.Native.Nat.{ℕ, zero, suc}
+use lib.ListN.{set, replicate}
+use Rattle.limits.specs.Limits as Limits
+use Rattle.image_header.specs.declared.sizes.Sizes.{Sizes}
+use Rattle.image_bodies.specs.PointCounts.{tallyTo, tally, obligationCount}
+use Rattle.image_access.specs.declared.totals.Totals.{Totals}
+
+-- at t the points of the threads 1 to t, for t below n
+unfoldable pub pointsBelow : Sizes → List (List ℕ) → ℕ → List ℕ
+pointsBelow z l zero = replicate Limits.threads 0
+pointsBelow z l (suc t) = set (pointsBelow z l t) t (tallyTo z l t .points)
+
+unfoldable pub pointsBefore : Sizes → List (List ℕ) → List ℕ
+pointsBefore z l = pointsBelow z l Limits.threads
+
+unfoldable pub totalsOf : Sizes → List (List ℕ) → Totals
+totalsOf z l = record { points = tally z l .points; before = pointsBefore z l; obligations = obligationCount z l }

@@ -1,0 +1,51 @@
+-- How many points and how many obligations there are.
+use mathlib.Core.Bool.{cond}
+use mathlib.Core.List.{List, [], _∷_}
+use Prim.Native.Nat.{ℕ, zero, suc, _+_, _-_, _*_, _≤_}
+use lib.Dec.{eqb}
+use Rattle.logic.specs.Opcode as Opcode
+use Rattle.image_header.specs.declared.sizes.Sizes.{Sizes}
+use Rattle.image_header.specs.declared.instruction.Instruction.{Instruction}
+use Rattle.image_header.specs.Thread.{lastPoint, instructions}
+use Rattle.image_bodies.specs.RecordPlaces.{threadBody}
+use Rattle.image_bodies.specs.declared.point_counts.Tally.{Tally}
+
+unfoldable pub isBranch : Instruction → ℕ
+isBranch i = cond (eqb (i .operation) Opcode.branch) 1 0
+
+unfoldable pub branches : List Instruction → ℕ
+branches [] = 0
+branches (i ∷ l) = isBranch i + branches l
+
+-- of a thread with this last point and so many branches: its points; two obligations for each branch, one for each other instruction;
+-- its actions, which are no branches; its points times these
+abbrev pub tallied : ℕ → ℕ → Tally
+tallied last n = record { points = last + 1; steps = last + n; actions = last - n; own = (last + 1) * (last - n) }
+
+unfoldable pub threadTally : List ℕ → Tally
+threadTally b = tallied (lastPoint b) (branches (instructions b))
+
+abbrev pub plus : Tally → Tally → Tally
+plus c d = record { points = c .points + d .points; steps = c .steps + d .steps; actions = c .actions + d .actions; own = c .own + d .own }
+
+-- of the threads 1 to t
+unfoldable pub tallyTo : Sizes → List (List ℕ) → ℕ → Tally
+tallyTo z l zero = record { points = 0; steps = 0; actions = 0; own = 0 }
+tallyTo z l (suc t) = plus (tallyTo z l t) (threadTally (threadBody z l (suc t)))
+
+unfoldable pub tally : Sizes → List (List ℕ) → Tally
+tally z l = tallyTo z l (z .threads)
+
+-- class 1: each thread's start; classes 2 and 3: the steps; class 4: every point with every action, but for a thread's own
+abbrev pub obligationsBy : ℕ → Tally → ℕ
+obligationsBy threads c = threads + c .steps + (c .points * c .actions - c .own)
+
+unfoldable pub obligationCount : Sizes → List (List ℕ) → ℕ
+obligationCount z l = obligationsBy (z .threads) (tally z l)
+
+-- sums over k threads, each with less than 256 points
+pub record Small (k : ℕ) (c : Tally) : Type 0 where
+  pub points : c .points ≤ 256 * k
+  pub steps : c .steps ≤ 512 * k
+  pub actions : c .actions ≤ 256 * k
+  pub own : c .own ≤ 65536 * k

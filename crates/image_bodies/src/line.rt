@@ -1,0 +1,182 @@
+// A line: rule, thread, point, left and right formula, premise count, premises.
+use crate::instruction_at::instruction_of;
+use image_frames::fault::Checked;
+use image_frames::fault::Fault;
+use image_header::instruction::Instruction;
+use image_header::sizes::Sizes;
+use limits::Limits;
+use limits::range::byte_within;
+use limits::range::numbers_within;
+use limits::range::word_within;
+use limits::read::byte_at;
+use limits::read::number_at;
+use limits::read::rest;
+ghost use mathlib.Core.Path.{_≡_};
+ghost use Prim.Native.Nat.{_<_};
+ghost use lib.ListN.{getD};
+ghost use Rattle.image_frames.specs.Records.{bodies};
+ghost use Rattle.image_index.specs.IndexTable.{indexOf};
+ghost use Rattle.limits.specs.Numbers.{within, every};
+ghost use Rattle.image_bodies.specs.Line.{formOf, premises, lineSize, tripleAt, nowhere, placed, numbered, lineNumbers};
+
+// What a line is: a triple, an implication, an inclusion of intervals, or a triple for a whole pair.
+pub enum Form {
+    Triple,
+    Implication,
+    Inclusion,
+    Pair,
+    Unlisted,
+}
+
+impl Form {
+    // The rules of each form.
+    pub const FIRST_TRIPLE: usize = 1;
+
+    pub const LAST_TRIPLE: usize = 16;
+
+    pub const FIRST_IMPLICATION: usize = 20;
+
+    pub const LAST_IMPLICATION: usize = 27;
+
+    pub const FIRST_INCLUSION: usize = 30;
+
+    pub const LAST_INCLUSION: usize = 46;
+
+    // Triples of exchange and fetch-add, directly behind.
+    pub const LAST_RESULT: usize = 49;
+
+    // The triple for a whole pair.
+    pub const PAIR: usize = 50;
+}
+
+fn form_of(rule: usize) -> Form
+    ensures { λ r. ⌜ r ≡ formOf rule ⌝ }
+{
+    if rule < Form::FIRST_TRIPLE {
+        return Form::Unlisted;
+    }
+    if rule <= Form::LAST_TRIPLE {
+        return Form::Triple;
+    }
+    if rule < Form::FIRST_IMPLICATION {
+        return Form::Unlisted;
+    }
+    if rule <= Form::LAST_IMPLICATION {
+        return Form::Implication;
+    }
+    if rule < Form::FIRST_INCLUSION {
+        return Form::Unlisted;
+    }
+    if rule <= Form::LAST_INCLUSION {
+        return Form::Inclusion;
+    }
+    if rule <= Form::LAST_RESULT {
+        return Form::Triple;
+    }
+    if rule == Form::PAIR {
+        return Form::Pair;
+    }
+    Form::Unlisted
+}
+
+// The form of the line in a body.
+pub fn line_form(b: &[u8]) -> Form
+    ensures { λ r. ⌜ r ≡ formOf (getD (now (b .entry)) 0 0) ⌝ }
+{
+    form_of(byte_at(b, 0))
+}
+
+// The premise at an index, from 0; 0 where there is none.
+pub fn premise(b: &[u8], j: usize) -> usize
+    ensures { λ r. ⌜ (r ≡ getD (premises (now (b .entry))) j 0) × (r < 65536) ⌝ }
+{
+    let l = rest(b, 8);
+    number_at(l, byte_at(b, 7), j)
+}
+
+fn line_size(b: &[u8]) -> usize
+    ensures { λ r. ⌜ r ≡ lineSize (now (b .entry)) ⌝ }
+{
+    8 + 2 * byte_at(b, 7)
+}
+
+// Thread and point of the line have an instruction that is no branch.
+fn triple_placed<'a, 'b>(s: &'a [u8], ix: &'b [usize], z: Sizes, b: &'a [u8]) -> bool
+    requires { ⌜ now ix ≡ indexOf (now s) ⌝ }
+    ensures { λ r. ⌜ r ≡ tripleAt z (bodies (now (s .entry))) (now (b .entry)) ⌝ }
+{
+    let i = instruction_of(s, ix, z, byte_at(b, 1), byte_at(b, 2));
+    i.operation != Instruction::BRANCH
+}
+
+// Thread and point of the line are 0.
+fn nowhere_placed(b: &[u8]) -> bool
+    ensures { λ r. ⌜ r ≡ nowhere (now (b .entry)) ⌝ }
+{
+    if byte_within(b, 1, 0, 0) {
+        return byte_within(b, 2, 0, 0);
+    }
+    false
+}
+
+// Thread and point fit the line's form.
+fn line_placed<'a, 'b>(s: &'a [u8], ix: &'b [usize], z: Sizes, b: &'a [u8]) -> bool
+    requires { ⌜ now ix ≡ indexOf (now s) ⌝ }
+    ensures { λ r. ⌜ r ≡ placed z (bodies (now (s .entry))) (formOf (getD (now (b .entry)) 0 0)) (now (b .entry)) ⌝ }
+{
+    match line_form(b) {
+        Form::Triple => triple_placed(s, ix, z, b),
+        Form::Implication => nowhere_placed(b),
+        Form::Inclusion => nowhere_placed(b),
+        Form::Pair => triple_placed(s, ix, z, b),
+        Form::Unlisted => false,
+    }
+}
+
+// The premises have numbers from 1 to a greatest one.
+fn premises_fit(b: &[u8], lower: usize) -> bool
+    ensures { λ r. ⌜ r ≡ every (within 1 lower) (premises (now (b .entry))) ⌝ }
+{
+    let l = rest(b, 8);
+    numbers_within(l, byte_at(b, 7), 1, lower)
+}
+
+// The formulas are there, and the premises are among the lines before this one.
+fn line_numbered(b: &[u8], z: Sizes, lower: usize) -> bool
+    ensures { λ r. ⌜ r ≡ numbered z lower (now (b .entry)) ⌝ }
+{
+    if word_within(b, 3, 1, z.formulas as usize) {
+        if word_within(b, 5, 1, z.formulas as usize) {
+            if byte_within(b, 7, 0, Limits::PREMISES) {
+                return premises_fit(b, lower);
+            }
+        }
+    }
+    false
+}
+
+// The line that has so many lines before it.
+pub fn check_line_numbers<'a, 'b>(
+    s: &'a [u8],
+    ix: &'b [usize],
+    z: Sizes,
+    lower: usize,
+    b: &'a [u8],
+) -> Checked
+    requires { ⌜ now ix ≡ indexOf (now s) ⌝ }
+    ensures { λ r. ⌜ r ≡ lineNumbers z (bodies (now (s .entry))) lower (now (b .entry)) ⌝ }
+{
+    if b.len() < 8 {
+        return Checked::Faulty(Fault::Body);
+    }
+    if b.len() != line_size(b) {
+        return Checked::Faulty(Fault::Body);
+    }
+    if line_placed(s, ix, z, b) {
+        if line_numbered(b, z, lower) {
+            return Checked::Passed;
+        }
+        return Checked::Faulty(Fault::Number);
+    }
+    Checked::Faulty(Fault::Number)
+}

@@ -1,0 +1,22 @@
+// A record that is a list of numbers: the outline, with a formula per point, and the obligations, with a line per obligation.
+use image_frames::fault::Checked;
+use image_frames::fault::Fault;
+use limits::range::numbers_within;
+ghost use mathlib.Core.Path.{_≡_};
+ghost use Rattle.image_bodies.specs.NumberList.{exactly};
+
+// There are n numbers in the range, and nothing else.
+pub fn check_list(b: &[u8], n: usize, low: usize, high: usize) -> Checked
+    ensures { λ r. ⌜ r ≡ exactly n low high (now (b .entry)) ⌝ }
+{
+    if b.len() < n {
+        return Checked::Faulty(Fault::Body);
+    }
+    if b.len() != 2 * n {
+        return Checked::Faulty(Fault::Body);
+    }
+    if numbers_within(b, n, low, high) {
+        return Checked::Passed;
+    }
+    Checked::Faulty(Fault::Number)
+}

@@ -1,0 +1,57 @@
+// The frame of one record: its length and its kind.
+use crate::fault::Checked;
+use crate::fault::Fault;
+use crate::kind::Kind;
+use crate::kind::order_of;
+use limits::read::word_at;
+ghost use mathlib.Core.Path.{_≡_};
+ghost use lib.ListN.{length, drop};
+ghost use Rattle.image_frames.specs.Frames.{admit, frame};
+
+// The kind of the last record, by its place in the order, and how many there are of each.
+pub struct Seen {
+    pub last: usize,
+    pub count: [u16; 8],
+}
+
+// A record of this place in the order comes: the last one once more or the next one, and not too often.
+pub fn admit_kind(last: usize, count: &[u16], k: usize) -> Checked
+    requires { ⌜ length (now count) ≡ 8 ⌝ }
+    ensures { λ r. ⌜ r ≡ admit (record { last = last; count = now (count .entry) }) k ⌝ }
+{
+    if Kind::LAST < k {
+        return Checked::Faulty(Fault::Kind);
+    }
+    if k < last {
+        return Checked::Faulty(Fault::Kind);
+    }
+    if 1 < k - last {
+        return Checked::Faulty(Fault::Kind);
+    }
+    if count[k] < Kind::MOST[k] {
+        return Checked::Passed;
+    }
+    Checked::Faulty(Fault::Kind)
+}
+
+// The frame of the record at a position.
+pub fn frame_at<'a, 'b>(s: &'a [u8], at: usize, last: usize, count: &'b [u16]) -> Checked
+    requires { ⌜ length (now count) ≡ 8 ⌝ }
+    ensures { λ r. ⌜ r ≡ frame (record { last = last; count = now (count .entry) }) (drop at (now (s .entry))) ⌝ }
+{
+    if s.len() <= at {
+        return Checked::Faulty(Fault::Length);
+    }
+    if s.len() - at < 2 {
+        return Checked::Faulty(Fault::Length);
+    }
+    let n = word_at(s, at);
+    if n < 2 {
+        return Checked::Faulty(Fault::Length);
+    }
+    if s.len() - at - 2 < n {
+        return Checked::Faulty(Fault::Length);
+    }
+    let k = order_of(word_at(s, at + 2));
+    admit_kind(last, count, k)
+}

@@ -1,0 +1,88 @@
+// All frames of an image, first to last.
+use crate::fault::Checked;
+use crate::fault::Fault;
+use crate::frame::Seen;
+use crate::frame::frame_at;
+use crate::kind::Kind;
+use crate::kind::order_of;
+use limits::Limits;
+use limits::read::word_at;
+ghost use mathlib.Core.Path.{_≡_};
+ghost use Rattle.image_frames.specs.Frames.{ended, frames, wholeImage};
+
+// The first fault of the frames with its record, or how many records there are of the kinds that may repeat.
+pub enum Framing {
+    Refused {
+        fault: Fault,
+        record: usize,
+    },
+    Sound {
+        formulas: u16,
+        threads: u16,
+        lines: u16,
+        claims: u16,
+    },
+}
+
+// The image ends where record i would come.
+fn end_of(i: usize, c: Seen) -> Framing
+    ensures { λ r. ⌜ r ≡ ended i c ⌝ }
+{
+    if c.last < Kind::OBLIGATIONS {
+        return Framing::Refused {
+            fault: Fault::Kind,
+            record: i,
+        };
+    }
+    Framing::Sound {
+        formulas: c.count[Kind::FORMULA],
+        threads: c.count[Kind::THREAD],
+        lines: c.count[Kind::LINE],
+        claims: c.count[Kind::LAST],
+    }
+}
+
+fn walk_frames(s: &[u8]) -> Framing
+    ensures { λ r. ⌜ r ≡ frames (now (s .entry)) ⌝ }
+{
+    let mut c = Seen {
+        last: 0,
+        count: [0; 8],
+    };
+    let mut at: usize = 0;
+    let mut i: usize = 1;
+    while 0 < s.len() - at {
+        match frame_at(s, at, c.last, &c.count) {
+            Checked::Faulty(fault) => {
+                return Framing::Refused { fault, record: i };
+            }
+            Checked::Passed => {
+                let k = order_of(word_at(s, at + 2));
+                c.count[k] = c.count[k] + 1;
+                c.last = k;
+                at = at + 2 + word_at(s, at);
+                i += 1;
+            }
+        }
+    }
+    end_of(i, c)
+}
+
+// The whole image's size, then its frames.
+pub fn read_frames(s: &[u8]) -> Framing
+    ensures { λ r. ⌜ r ≡ wholeImage (now (s .entry)) ⌝ }
+{
+    if s.len() == 0 {
+        return Framing::Refused {
+            fault: Fault::Size,
+            record: 0,
+        };
+    }
+    if Limits::IMAGE_BYTES < s.len() {
+        return Framing::Refused {
+            fault: Fault::Size,
+            record: 0,
+        };
+    }
+    walk_frames(s)
+}

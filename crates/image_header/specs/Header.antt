@@ -1,0 +1,62 @@
+-- Record 1: threads, words, registers, range; a start value per word; an owning thread and a start mark per register.
+use mathlib.Core.Bool.{Bool, true, cond, _&&_}
+use mathlib.Core.List.{List}
+use Prim.Native.Nat.{ℕ, _+_, _-_}
+use lib.Dec.{eqb}
+use lib.ListN.{length, getD, take, drop}
+use Rattle.limits.specs.Limits as Limits
+use Rattle.limits.specs.Numbers.{has, nth, within, every}
+use Rattle.image_frames.specs.Fault.{unless}
+use Rattle.image_frames.specs.declared.fault.Fault.the-variants.{Body, Number}
+use Rattle.image_frames.specs.declared.fault.Checked.{Checked}
+use Rattle.image_frames.specs.declared.fault.Checked.the-variants.{Passed}
+
+-- its numbers, a byte each
+abbrev pub threadCount : List ℕ → ℕ
+threadCount b = getD b 0 0
+
+abbrev pub wordCount : List ℕ → ℕ
+wordCount b = getD b 1 0
+
+abbrev pub registerCount : List ℕ → ℕ
+registerCount b = getD b 2 0
+
+-- how many values there are: 0 up to one below it
+abbrev pub valueRange : List ℕ → ℕ
+valueRange b = getD b 3 0
+
+-- each within its limits; t thread records follow
+unfoldable pub counted : ℕ → List ℕ → Bool
+counted t b =
+    within t t (threadCount b)
+    && (within 1 Limits.threads (threadCount b)
+    && (within 1 Limits.words (wordCount b)
+    && (within 0 Limits.registers (registerCount b) && within Limits.fewestValues Limits.mostValues (valueRange b))))
+
+unfoldable pub startValues : List ℕ → List ℕ
+startValues b = take (wordCount b) (drop 4 b)
+
+unfoldable pub owners : List ℕ → List ℕ
+owners b = take (registerCount b) (drop (4 + wordCount b) b)
+
+-- 1: the register starts at 0; 0: it starts anywhere
+unfoldable pub marks : List ℕ → List ℕ
+marks b = take (registerCount b) (drop (4 + wordCount b + registerCount b) b)
+
+-- what is not there starts at 0
+unfoldable pub cleared : List ℕ → ℕ → Bool
+cleared b r = cond (within 1 (length (marks b)) r) (eqb (nth (marks b) r 0) 1) true
+
+-- every number in its range
+unfoldable pub headed : ℕ → List ℕ → Bool
+headed t b =
+    counted t b
+    && (every (within 0 (valueRange b - 1)) (startValues b)
+    && (every (within 1 (threadCount b)) (owners b) && every (within 0 1) (marks b)))
+
+-- the length by the counts as written
+unfoldable pub headerSize : List ℕ → ℕ
+headerSize b = 4 + wordCount b + registerCount b + registerCount b
+
+unfoldable pub header : ℕ → List ℕ → Checked
+header t b = unless (has 4 b) Body (unless (eqb (length b) (headerSize b)) Body (unless (headed t b) Number Passed))

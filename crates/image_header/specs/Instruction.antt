@@ -1,0 +1,94 @@
+-- One instruction: operation, a, b, formula; operations 9 to 12 are followed by a second half of the same form.
+use mathlib.Core.Bool.{Bool, true, false, not, _&&_, cond}
+use mathlib.Core.List.{List}
+use Prim.Native.Nat.{ℕ}
+use lib.Dec.{eqb, ltb, leb}
+use lib.ListN.{getD, drop}
+use Rattle.logic.specs.Opcode as Opcode
+use Rattle.limits.specs.Numbers.{word, within}
+use Rattle.image_header.specs.declared.sizes.Sizes.{Sizes}
+use Rattle.image_header.specs.declared.instruction.Half.{Half}
+use Rattle.image_header.specs.declared.instruction.Instruction.{Instruction}
+use Rattle.image_header.specs.declared.instruction.Range.{Range}
+use Rattle.image_header.specs.declared.instruction.Fields.{Fields}
+
+-- the operations with a second half: 9 to 12
+unfoldable pub twofold : ℕ → Bool
+twofold op = cond (ltb op Opcode.pairStore) false (leb op Opcode.assignTwo)
+
+-- a pair: an access with a note, 9 to 11
+unfoldable pub pairOperation : ℕ → Bool
+pairOperation op = cond (ltb op Opcode.pairStore) false (leb op Opcode.pairSwap)
+
+-- the operation of its first half
+unfoldable pub firstOperation : ℕ → ℕ
+firstOperation op =
+    cond (eqb op Opcode.pairStore) Opcode.store (cond (eqb op Opcode.pairRelease) Opcode.release
+    (cond (eqb op Opcode.pairSwap) Opcode.swap op))
+
+-- how many bytes an instruction has, by its operation as written
+unfoldable pub instructionSize : ℕ → ℕ
+instructionSize op = cond (twofold op) 10 5
+
+unfoldable pub half : List ℕ → Half
+half l = record { operation = getD l 0 0; a = getD l 1 0; b = getD l 2 0; formula = word (drop 3 l) }
+
+-- for an instruction without a second half
+abbrev pub noHalf : Half
+noHalf = record { operation = 0; a = 0; b = 0; formula = 0 }
+
+unfoldable pub secondHalf : ℕ → List ℕ → Half
+secondHalf op l = cond (twofold op) (half (drop 5 l)) noHalf
+
+unfoldable pub instruction : List ℕ → Instruction
+instruction l = record {
+  operation = getD l 0 0;
+  a = getD l 1 0;
+  b = getD l 2 0;
+  formula = word (drop 3 l);
+  second = secondHalf (getD l 0 0) l;
+}
+
+abbrev pub range : ℕ → ℕ → Range
+range low high = record { low = low; high = high }
+
+abbrev pub unused : Range
+unused = range 0 0
+
+-- the ranges of a, b and the formula
+abbrev pub fields : Range → Range → Range → Fields
+fields a b f = record { a = a; b = b; formula = f }
+
+-- which fields an operation has, in a thread whose last point is given; for an unknown one, no number is from 1 to 0
+unfoldable pub fieldsOf : ℕ → ℕ → Sizes → Fields
+fieldsOf op last z =
+    cond (eqb op Opcode.assign) (fields (range 1 (z .registers)) unused (range 1 (z .formulas)))
+    (cond (leb op Opcode.acquire) (fields (range 1 (z .registers)) (range 1 (z .words)) unused)
+    (cond (leb op Opcode.swap) (fields (range 1 (z .words)) unused (range 1 (z .formulas)))
+    (cond (eqb op Opcode.branch) (fields (range 0 last) unused (range 1 (z .formulas)))
+    (cond (leb op Opcode.fetchAdd) (fields (range 1 (z .words)) (range 1 (z .registers)) (range 1 (z .formulas)))
+    (cond (leb op Opcode.pairSwap) (fields (range 1 (z .words)) unused (range 1 (z .formulas)))
+    (cond (eqb op Opcode.assignTwo) (fields (range 1 (z .registers)) unused (range 1 (z .formulas)))
+    (fields (range 1 0) unused (range 1 (z .formulas)))))))))
+
+abbrev pub inside : Range → ℕ → Bool
+inside r x = within (r .low) (r .high) x
+
+unfoldable pub fieldsFit : Instruction → Fields → Bool
+fieldsFit i f = inside (f .a) (i .a) && (inside (f .b) (i .b) && inside (f .formula) (i .formula))
+
+-- a second half is an assignment
+unfoldable pub halfFits : Sizes → Half → Bool
+halfFits z h =
+    within Opcode.assign Opcode.assign (h .operation)
+    && (within 1 (z .registers) (h .a) && (within 0 0 (h .b) && within 1 (z .formulas) (h .formula)))
+
+-- two assignments are to different registers
+abbrev pub differ : Instruction → Bool
+differ i = cond (eqb (i .operation) Opcode.assignTwo) (not (eqb (i .a) (i .second .a))) true
+
+unfoldable pub secondFits : Sizes → Instruction → Bool
+secondFits z i = cond (twofold (i .operation)) (halfFits z (i .second) && differ i) true
+
+unfoldable pub ranged : ℕ → Sizes → Instruction → Bool
+ranged last z i = fieldsFit i (fieldsOf (i .operation) last z) && secondFits z i

@@ -1,0 +1,279 @@
+// One instruction: operation, a, b, formula; operations 9 to 12 are followed by a second half of the same form. Unused fields are 0.
+use crate::sizes::Sizes;
+use limits::range::in_range;
+use limits::read::octet_at;
+use limits::read::rest;
+use limits::read::word_at;
+ghost use mathlib.Core.Path.{_≡_};
+ghost use Prim.Native.Nat.{_≤_};
+ghost use Rattle.image_header.specs.Instruction.{twofold, pairOperation, firstOperation, instructionSize, half, noHalf, secondHalf, instruction, fieldsOf, fieldsFit, halfFits, secondFits, ranged};
+
+// Five bytes: the assignment that goes with an instruction.
+pub struct Half {
+    pub operation: u8,
+    pub a: u8,
+    pub b: u8,
+    pub formula: usize,
+}
+
+// For an instruction without one.
+pub const NO_HALF: Half = Half {
+    operation: 0,
+    a: 0,
+    b: 0,
+    formula: 0,
+};
+
+pub struct Instruction {
+    pub operation: u8,
+    pub a: u8,
+    pub b: u8,
+    pub formula: usize,
+    pub second: Half,
+}
+
+impl Instruction {
+    // register a := formula
+    pub const ASSIGN: u8 = 0;
+
+    // load into register a of word b, the second one acquiring
+    pub const LOAD: u8 = 1;
+
+    pub const ACQUIRE: u8 = 2;
+
+    // store of the formula to word a, the second one releasing
+    pub const STORE: u8 = 3;
+
+    pub const RELEASE: u8 = 4;
+
+    // swap of the formula into word a
+    pub const SWAP: u8 = 5;
+
+    // branch on the formula to point a
+    pub const BRANCH: u8 = 6;
+
+    // swap of the formula into word a, the old value into register b
+    pub const EXCHANGE: u8 = 7;
+
+    // store of the old value of word a plus the formula, the old value into register b
+    pub const FETCH_ADD: u8 = 8;
+
+    // store, releasing store, swap, each with an assignment in one step
+    pub const PAIR_STORE: u8 = 9;
+
+    pub const PAIR_RELEASE: u8 = 10;
+
+    pub const PAIR_SWAP: u8 = 11;
+
+    // two assignments in one step
+    pub const ASSIGN_TWO: u8 = 12;
+
+    // the bytes of a half
+    pub const HALF: usize = 5;
+}
+
+// What stands at a point without an instruction: a branch to point 0.
+pub const NOTHING: Instruction = Instruction {
+    operation: Instruction::BRANCH,
+    a: 0,
+    b: 0,
+    formula: 0,
+    second: NO_HALF,
+};
+
+pub struct Range {
+    pub low: usize,
+    pub high: usize,
+}
+
+// The range of each field.
+pub struct Fields {
+    pub a: Range,
+    pub b: Range,
+    pub formula: Range,
+}
+
+// The operation has a second half.
+pub fn is_twofold(operation: u8) -> bool
+    ensures { λ r. ⌜ r ≡ twofold operation ⌝ }
+{
+    if operation < Instruction::PAIR_STORE {
+        return false;
+    }
+    operation <= Instruction::ASSIGN_TWO
+}
+
+// A store, a releasing store or a swap with an assignment.
+pub fn is_pair(operation: u8) -> bool
+    ensures { λ r. ⌜ r ≡ pairOperation operation ⌝ }
+{
+    if operation < Instruction::PAIR_STORE {
+        return false;
+    }
+    operation <= Instruction::PAIR_SWAP
+}
+
+// The operation of a pair's first half; of any other instruction its own.
+pub fn first_operation(operation: u8) -> u8
+    ensures { λ r. ⌜ r ≡ firstOperation operation ⌝ }
+{
+    if operation == Instruction::PAIR_STORE {
+        return Instruction::STORE;
+    }
+    if operation == Instruction::PAIR_RELEASE {
+        return Instruction::RELEASE;
+    }
+    if operation == Instruction::PAIR_SWAP {
+        return Instruction::SWAP;
+    }
+    operation
+}
+
+// How many bytes an instruction has, by its operation; an unknown one is taken for one half.
+pub fn instruction_size(operation: u8) -> usize
+    ensures { λ r. ⌜ (r ≡ instructionSize operation) × (r ≤ 10) ⌝ }
+{
+    if is_twofold(operation) {
+        return Instruction::HALF + Instruction::HALF;
+    }
+    Instruction::HALF
+}
+
+fn read_half(b: &[u8]) -> Half
+    ensures { λ r. ⌜ r ≡ half (now (b .entry)) ⌝ }
+{
+    Half {
+        operation: octet_at(b, 0),
+        a: octet_at(b, 1),
+        b: octet_at(b, 2),
+        formula: word_at(b, 3),
+    }
+}
+
+// What goes with the instruction in front of the bytes.
+fn second_half(operation: u8, b: &[u8]) -> Half
+    ensures { λ r. ⌜ r ≡ secondHalf operation (now (b .entry)) ⌝ }
+{
+    if is_twofold(operation) {
+        let l = rest(b, Instruction::HALF);
+        return read_half(l);
+    }
+    NO_HALF
+}
+
+// The instruction in front of the bytes.
+pub fn read_instruction(b: &[u8]) -> Instruction
+    ensures { λ r. ⌜ r ≡ instruction (now (b .entry)) ⌝ }
+{
+    let operation = octet_at(b, 0);
+    Instruction {
+        operation,
+        a: octet_at(b, 1),
+        b: octet_at(b, 2),
+        formula: word_at(b, 3),
+        second: second_half(operation, b),
+    }
+}
+
+fn three(a: Range, b: Range, formula: Range) -> Fields
+    ensures { λ r. ⌜ r ≡ record { a = a; b = b; formula = formula } ⌝ }
+{
+    Fields { a, b, formula }
+}
+
+// The fields of an operation in a thread with this last point. An unknown operation has no field a that fits.
+pub fn fields_of(operation: u8, last: usize, z: Sizes) -> Fields
+    ensures { λ r. ⌜ r ≡ fieldsOf operation last z ⌝ }
+{
+    let unused = Range { low: 0, high: 0 };
+    let register = Range {
+        low: 1,
+        high: z.registers as usize,
+    };
+    let word = Range {
+        low: 1,
+        high: z.words as usize,
+    };
+    let formula = Range {
+        low: 1,
+        high: z.formulas as usize,
+    };
+    if operation == Instruction::ASSIGN {
+        return three(register, unused, formula);
+    }
+    if operation <= Instruction::ACQUIRE {
+        return three(register, word, unused);
+    }
+    if operation <= Instruction::SWAP {
+        return three(word, unused, formula);
+    }
+    if operation == Instruction::BRANCH {
+        let point = Range { low: 0, high: last };
+        return three(point, unused, formula);
+    }
+    if operation <= Instruction::FETCH_ADD {
+        return three(word, register, formula);
+    }
+    if operation <= Instruction::PAIR_SWAP {
+        return three(word, unused, formula);
+    }
+    if operation == Instruction::ASSIGN_TWO {
+        return three(register, unused, formula);
+    }
+    let nowhere = Range { low: 1, high: 0 };
+    three(nowhere, unused, formula)
+}
+
+fn fields_fit(i: Instruction, f: Fields) -> bool
+    ensures { λ r. ⌜ r ≡ fieldsFit i f ⌝ }
+{
+    if in_range(i.a as usize, f.a.low, f.a.high) {
+        if in_range(i.b as usize, f.b.low, f.b.high) {
+            return in_range(i.formula, f.formula.low, f.formula.high);
+        }
+    }
+    false
+}
+
+// A second half is an assignment.
+fn half_fits(h: Half, z: Sizes) -> bool
+    ensures { λ r. ⌜ r ≡ halfFits z h ⌝ }
+{
+    let assign = Instruction::ASSIGN as usize;
+    if in_range(h.operation as usize, assign, assign) {
+        if in_range(h.a as usize, 1, z.registers as usize) {
+            if in_range(h.b as usize, 0, 0) {
+                return in_range(h.formula, 1, z.formulas as usize);
+            }
+        }
+    }
+    false
+}
+
+// The second half, if there is one. Two assignments are to different registers.
+fn second_fits(i: Instruction, z: Sizes) -> bool
+    ensures { λ r. ⌜ r ≡ secondFits z i ⌝ }
+{
+    let h = i.second;
+    if is_twofold(i.operation) {
+        if half_fits(h, z) {
+            if i.operation == Instruction::ASSIGN_TWO {
+                return i.a != h.a;
+            }
+            return true;
+        }
+        return false;
+    }
+    true
+}
+
+// Every field is in its range.
+pub fn instruction_fits(i: Instruction, last: usize, z: Sizes) -> bool
+    ensures { λ r. ⌜ r ≡ ranged last z i ⌝ }
+{
+    let f = fields_of(i.operation, last, z);
+    if fields_fit(i, f) {
+        return second_fits(i, z);
+    }
+    false
+}

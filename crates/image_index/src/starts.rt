@@ -1,0 +1,96 @@
+// Where the instructions of each thread begin: an instruction has five bytes or ten, so each place rests on those before it.
+use crate::walk::body_at;
+use crate::walk::next_start;
+use image_frames::kind::Kind;
+use image_header::thread::begins_behind;
+use image_header::thread::last_point;
+use limits::Limits;
+use limits::read::word_at;
+ghost use mathlib.Core.Path.{_≡_};
+ghost use Prim.Native.Nat.{_+_, _≤_, _<_, min};
+ghost use lib.ListN.{length};
+ghost use Rattle.image_header.specs.Thread.{lastPoint};
+ghost use Rattle.image_index.specs.IndexTable.{isThread, firstFrom, rowOf, rowsTo};
+
+// The first record of a thread: how many records there are before it, and where it starts.
+pub struct FirstThread {
+    pub number: usize,
+    pub position: usize,
+}
+
+// The record at a position is a thread's.
+fn is_thread(s: &[u8], p: usize) -> bool
+    requires { ⌜ p < length (now s) ⌝ }
+    ensures { λ r. ⌜ r ≡ isThread (now (s .entry)) p ⌝ }
+{
+    word_at(s, p + 2) == Kind::THREAD
+}
+
+// Of the first n records.
+pub fn first_thread(s: &[u8], n: usize) -> FirstThread
+    ensures { λ r. ⌜ r ≡ firstFrom (now (s .entry)) 0 0 n ⌝ }
+{
+    let mut p: usize = 0;
+    let mut i: usize = 0;
+    while i < n {
+        if s.len() <= p {
+            return FirstThread {
+                number: i,
+                position: p,
+            };
+        }
+        if is_thread(s, p) {
+            return FirstThread {
+                number: i,
+                position: p,
+            };
+        }
+        p = next_start(s, p);
+        i += 1;
+    }
+    FirstThread {
+        number: i,
+        position: p,
+    }
+}
+
+// How many instructions of a thread's body have a place.
+fn row_length(b: &[u8]) -> usize
+    ensures { λ r. ⌜ (r ≡ min 16 (lastPoint (now (b .entry)))) × (r ≤ 16) ⌝ }
+{
+    let last = last_point(b);
+    if last < Limits::POINTS {
+        return last;
+    }
+    Limits::POINTS
+}
+
+// The places of one thread.
+fn fill_row<'a, 'b>(b: &'a [u8], ix: &'b mut [usize], from: usize)
+    requires { ⌜ from + 16 ≤ length (now ix) ⌝ }
+    ensures { λ _. ⌜ now (ix .exit) ≡ rowOf (now (ix .entry)) from (now (b .entry)) ⌝ }
+{
+    let n = row_length(b);
+    let mut at: usize = 0;
+    let mut p: usize = 0;
+    while p < n {
+        ix[from + p] = at;
+        at = begins_behind(b, p, at);
+        p += 1;
+    }
+}
+
+// The places of four threads, whose records follow one another from a position on.
+pub fn fill_rows<'a, 'b>(s: &'a [u8], ix: &'b mut [usize], from: usize, position: usize)
+    requires { ⌜ from + 64 ≤ length (now ix) ⌝ }
+    ensures { λ _. ⌜ now (ix .exit) ≡ rowsTo (now (s .entry)) (now (ix .entry)) from position 4 ⌝ }
+{
+    let mut q = position;
+    let mut j: usize = 0;
+    while j < Limits::THREADS {
+        let b = body_at(s, q);
+        fill_row(b, ix, from + 16 * j);
+        q = next_start(s, q);
+        j += 1;
+    }
+}

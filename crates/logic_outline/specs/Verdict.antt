@@ -1,0 +1,116 @@
+-- The verdict on a well-formed image: its obligations in order, each met by the line that it names, or the first that is not; then its
+-- claims.
+use mathlib.Core.Path.{_≡_}
+use mathlib.Core.Bool.{Bool, true, false}
+use mathlib.Core.List.{List, [], _∷_}
+use mathlib.Core.Logic.{_≢_}
+use Prim.Native.Nat.{ℕ, zero, suc, _<_}
+use lib.Dec.{T, eqb}
+use lib.ListN.{length, getD}
+use Rattle.semantics.specs.Base.{Within}
+use Rattle.semantics.specs.Machine.{Program}
+use Rattle.logic.specs.Statement.{Statement, admitted}
+use Rattle.logic_schemas.specs.Fits.{sameStatement}
+use Rattle.semantics.specs.EveryRun.{Outline}
+use Rattle.logic.specs.Obligations.{Obligation, obligations, wants}
+use Rattle.logic.specs.Claims.{Claim, threadsIn, claims as excludes}
+use Rattle.logic.specs.WellFormed.{WellFormed}
+use Rattle.logic_outline.specs.Lines.{Line, Certificate, marked, Justified}
+
+-- so many claims, counted from 0: what each says, the line that it names (0 for none), the number of its record
+pub record Claims : Type 0 where
+  pub count : ℕ
+  pub claim : ℕ → Claim
+  pub line : ℕ → ℕ
+  pub place : ℕ → ℕ
+
+pub record Image : Type 0 where
+  pub program : Program
+  pub outline : Outline
+  pub certificate : Certificate
+  -- the line that each obligation names, counted from 0; 0 for none
+  pub named : ℕ → ℕ
+  pub claims : Claims
+
+-- met with so many before it; or, of the first that is not met: the code, the obligation, its line, how many are met before it
+pub data Outcome : Type 0 where
+  met : ℕ → Outcome
+  failed : ℕ → Obligation → ℕ → ℕ → Outcome
+
+-- 20 no line; 21 the line concludes something else; 22 it is unjustified
+abbrev pub codeOf : Bool → Bool → Bool → ℕ
+codeOf true says just = 20
+codeOf false false just = 21
+codeOf false true false = 22
+codeOf false true true = 0
+
+module _ (D : Image) where
+  abbrev pub asks : Obligation → Statement
+  asks o = wants (D .program) (D .outline) o
+
+  -- of the line n, where the statement w is wanted
+  unfoldable pub lineCode : Statement → ℕ → ℕ
+  lineCode w n = codeOf (eqb n 0) (sameStatement w (D .certificate .line n .says))
+      (marked (D .program) (D .certificate) (D .certificate .count) n)
+
+  abbrev pub code : Obligation → ℕ → ℕ
+  code o n = lineCode (asks o) n
+
+  -- the obligations from number m on
+  unfoldable pub judge : List Obligation → ℕ → Outcome
+  judge [] m = met m
+  judge (o ∷ os) m = elim (eqb (code o (D .named m)) 0) [ true ↦ judge os (suc m) | false ↦ failed (code o (D .named m)) o (D .named m) m ]
+
+  abbrev pub outcome : Outcome
+  outcome = judge (obligations (D .program)) 0
+
+  -- the line n bears the statement out: it is there, says it and is justified
+  pub record Bears (w : Statement) (n : ℕ) : Type 0 where
+    pub there : n ≢ 0
+    pub says : w ≡ D .certificate .line n .says
+    pub just : Justified (D .program) (D .certificate) n
+
+  -- it meets the obligation
+  abbrev pub Met : Obligation → ℕ → Type 0
+  Met o n = Bears (asks o) n
+
+  abbrev pub AllMet : List Obligation → ℕ → Type 0
+  AllMet [] m = Unit {0}
+  AllMet (o ∷ os) m = Met o (D .named m) × AllMet os (suc m)
+
+-- what comes of obligations and claims: accepted, with so many obligations; of the first obligation that is not met: the code, the
+-- obligation, its line, how many are met before it; of the first claim that fails: its number, from 0, and how many obligations there are
+pub data Finding : Type 0 where
+  accepted : ℕ → Finding
+  unmet : ℕ → Obligation → ℕ → ℕ → Finding
+  denied : ℕ → ℕ → Finding
+
+module _ (D : Image) where
+  -- false from both assertions of a claim, the lower thread's first
+  abbrev pub forbids : ℕ → Statement
+  forbids i = excludes (D .outline) (D .claims .claim i)
+
+  -- its line bears that out
+  abbrev pub sustained : ℕ → Bool
+  sustained i = eqb (lineCode D (forbids i) (D .claims .line i)) 0
+
+  -- so many claims from number i on, behind m obligations
+  unfoldable pub judgeClaims : ℕ → ℕ → ℕ → Finding
+  judgeClaims zero i m = accepted m
+  judgeClaims (suc n) i m = elim (sustained i) [ true ↦ judgeClaims n (suc i) m | false ↦ denied i m ]
+
+  -- all obligations before any claim
+  abbrev pub behindObligations : Outcome → Finding
+  behindObligations (met m) = judgeClaims (D .claims .count) 0 m
+  behindObligations (failed c o l m) = unmet c o l m
+
+  abbrev pub finding : Finding
+  finding = behindObligations (outcome D)
+
+-- what codes 5 to 9 leave of images
+pub record Admitted (D : Image) : Type 0 where
+  pub program : WellFormed (D .program) (D .outline)
+  pub lines : (n : ℕ) → Within (D .certificate .count) n → T (admitted (D .program) (D .certificate .line n .says))
+  pub lower : (n : ℕ) → Within (D .certificate .count) n → (i : ℕ) → i < length (D .certificate .line n .premises)
+      → getD (D .certificate .line n .premises) i 0 < n
+  pub claims : (i : ℕ) → i < D .claims .count → threadsIn (D .program) (D .claims .claim i)

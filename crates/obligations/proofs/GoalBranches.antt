@@ -1,0 +1,109 @@
+-- The ways through the functions that say what an obligation wants, one law for each.
+use mathlib.Core.Path.{_≡_}
+use mathlib.Core.Bool.{Bool, true, false}
+use mathlib.Core.List.{List}
+use Prim.Native.Nat.{ℕ, _≤_, _<_}
+use borrow.Author.Tests.{eq-eqb, ne-eqb, lt-ltb, le-ltb}
+use Rattle.logic.specs.Opcode as Opcode
+use Rattle.image_frames.specs.Records.{bodies}
+use Rattle.image_header.specs.declared.sizes.Sizes.{Sizes}
+use Rattle.image_header.specs.declared.instruction.Instruction.{Instruction}
+use Rattle.image_bodies.specs.RecordPlaces.{instructionOf}
+use Rattle.formula_match.specs.declared.bind.Bind.{Bind}
+use Rattle.image_access.specs.AccessPlaces.{formulaAt}
+use Rattle.image_access.specs.declared.claim.Claimed.{Claimed}
+use Rattle.verdict_record.specs.declared.obligation.Obligation.{Obligation}
+use Rattle.verdict_record.specs.declared.obligation.Obligation.the-variants.{Start, Step, Taken, Interference}
+use Rattle.image_header.specs.Instruction.{pairOperation}
+use Rattle.formula_trees.specs.StatementTree.{hoare, paired}
+use Rattle.obligations.specs.declared.goal.Wanted.{Wanted}
+use Rattle.obligations.specs.Goal.{startAt, stepAt, nextAt, targetAt, keptAt, claimAt, oneHole, twoHoles, threeHoles, nextPoint, implied, actingForm, kept, assertedAt, wantedStart, wantedAction, wantedNext, wantedStep, wantedTarget, wantedKept, wantedClaim, wantedAt}
+
+module _ (op : ℕ) (p : Bool) (e : p ≡ pairOperation op) where
+  pub form-pair : p ≡ true → paired ≡ actingForm op
+  unfolding actingForm
+  form-pair h = rw (← e, h)
+
+  pub form-alone : p ≡ false → hoare ≡ actingForm op
+  unfolding actingForm
+  form-alone h = rw (← e, h)
+
+pub ruleset forming = (form-pair, form-alone)
+
+module _ (s : List ℕ) (z : Sizes) (t k : ℕ) where
+  pub start-wanted : (a : ℕ) (b : Bind) → a ≡ assertedAt s z t 0 → b ≡ oneHole a → implied startAt b ≡ wantedStart s z t
+  unfolding wantedStart
+  start-wanted a b ea eb = rw (eb, ea)
+
+  pub action-wanted : (i : Instruction) (f a n d : ℕ) (b : Bind) → f ≡ actingForm (i .operation) → b ≡ twoHoles a d
+      → d ≡ assertedAt s z t n → n ≡ nextPoint k → a ≡ assertedAt s z t k
+      → kept f t k stepAt b ≡ wantedAction s z t k i
+  unfolding wantedAction
+  action-wanted i f a n d b ef eb ed en ea = rw (ef, eb, ea, ed, en)
+
+  pub next-wanted : (i : Instruction) (a e n d : ℕ) (b : Bind) → a ≡ assertedAt s z t k → e ≡ formulaAt s (i .formula) → n ≡ nextPoint k
+      → d ≡ assertedAt s z t n → b ≡ threeHoles a e d
+      → implied nextAt b ≡ wantedNext s z t k i
+  unfolding wantedNext
+  next-wanted i a e n d b ea ee en ed eb = rw (eb, ea, ee, ed, en)
+
+  module _ (i : Instruction) (h : i ≡ instructionOf z (bodies s) t k) where
+    pub branch-wanted : (r : Wanted) → i .operation ≡ Opcode.branch → r ≡ wantedNext s z t k i → r ≡ wantedStep s z t k
+    unfolding wantedStep
+    branch-wanted r e d = rw (← h, eq-eqb _ _ e) d
+
+    pub act-wanted : (r : Wanted) → (i .operation ≡ Opcode.branch → ⊥) → r ≡ wantedAction s z t k i → r ≡ wantedStep s z t k
+    unfolding wantedStep
+    act-wanted r e d = rw (← h, ne-eqb _ _ e) d
+
+    pub target-wanted : (a e d : ℕ) (b : Bind) → a ≡ assertedAt s z t k → e ≡ formulaAt s (i .formula) → d ≡ assertedAt s z t (i .a)
+        → b ≡ threeHoles a e d → implied targetAt b ≡ wantedTarget s z t k
+    unfolding wantedTarget
+    target-wanted a e d b ea ee ed eb = rw (eb, ea, ee, ed, h)
+
+pub kept-wanted : (s : List ℕ) (z : Sizes) (u j t k : ℕ) (i : Instruction) (f a d : ℕ) (b : Bind) → i ≡ instructionOf z (bodies s) t k
+    → f ≡ actingForm (i .operation)
+    → a ≡ assertedAt s z u j → d ≡ assertedAt s z t k → b ≡ twoHoles a d → kept f t k keptAt b ≡ wantedKept s z u j t k
+unfolding wantedKept
+kept-wanted s z u j t k i f a d b ei ef ea ed eb = rw (ef, ei, eb, ea, ed)
+
+module _ (s : List ℕ) (z : Sizes) (c : Claimed) (a d : ℕ) (b : Bind) (ea : a ≡ assertedAt s z (c .thread) (c .point))
+    (ed : d ≡ assertedAt s z (c .other) (c .«other_point»)) where
+  pub claim-lower : c .thread < c .other → b ≡ twoHoles a d → implied claimAt b ≡ wantedClaim s z c
+  unfolding wantedClaim
+  claim-lower h eb = rw (lt-ltb _ _ h, eb, ea, ed)
+
+  pub claim-higher : c .other ≤ c .thread → b ≡ twoHoles d a → implied claimAt b ≡ wantedClaim s z c
+  unfolding wantedClaim
+  claim-higher h eb = rw (le-ltb _ _ h, eb, ea, ed)
+
+pub ruleset wanting = (
+  claim-lower,
+  claim-higher,
+  start-wanted,
+  action-wanted,
+  next-wanted,
+  branch-wanted,
+  act-wanted,
+  target-wanted,
+  kept-wanted,
+)
+
+module _ (s : List ℕ) (z : Sizes) (o : Obligation) (r : Wanted) where
+  pub wanted-start : (t : ℕ) → o ≡ Start t → r ≡ wantedStart s z t → r ≡ wantedAt s z o
+  unfolding wantedAt
+  wanted-start t e d = rw e d
+
+  pub wanted-step : (t k : ℕ) → o ≡ Step t k → r ≡ wantedStep s z t k → r ≡ wantedAt s z o
+  unfolding wantedAt
+  wanted-step t k e d = rw e d
+
+  pub wanted-taken : (t k : ℕ) → o ≡ Taken t k → r ≡ wantedTarget s z t k → r ≡ wantedAt s z o
+  unfolding wantedAt
+  wanted-taken t k e d = rw e d
+
+  pub wanted-kept : (u j t k : ℕ) → o ≡ Interference u j t k → r ≡ wantedKept s z u j t k → r ≡ wantedAt s z o
+  unfolding wantedAt
+  wanted-kept u j t k e d = rw e d
+
+pub ruleset choosing = (wanted-start, wanted-step, wanted-taken, wanted-kept)

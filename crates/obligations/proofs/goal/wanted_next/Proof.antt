@@ -1,0 +1,16 @@
+use Rattle.obligations.proofs.GoalBranches.{wanting}
+use Rattle.limits.proofs.BranchTests.{tests}
+use borrow.Author.Needs.{needs}
+use Rattle.obligations.proofs.goal.wanted_next.Statement.{statement}
+use Rattle.obligations.proofs.goal.wanted_next.Tie as tie
+
+pub wanted-next-spec : {M : Type 1} → statement M
+wanted-next-spec =
+    tie.close
+    (tie.spec
+    (λ c κs. search needs)
+    (λ c κs. search needs)
+    (λ c κs. search needs)
+    (λ c κs. search needs)
+    (λ c κs. search needs)
+    (λ c. search (wanting, tests)))

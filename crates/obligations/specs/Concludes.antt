@@ -1,0 +1,35 @@
+-- Whether a line concludes what an obligation wants, and the code of what is wrong with it.
+use mathlib.Core.Bool.{Bool, false, cond}
+use mathlib.Core.List.{List}
+use Prim.Native.Nat.{ℕ}
+use lib.Dec.{eqb}
+use Rattle.image_frames.specs.Records.{bodies}
+use Rattle.image_header.specs.declared.sizes.Sizes.{Sizes}
+use Rattle.image_meaning.specs.Image.{claimBody}
+use Rattle.image_access.specs.AccessPlaces.{claimedIn}
+use Rattle.rules_line.specs.Conclusion.{matchConclusion}
+use Rattle.rules_line.specs.LineConclusion.{conclusionOf}
+use Rattle.rules_justified.specs.Marks.{isMarked}
+use Rattle.rules_justified.specs.declared.marks.Marks.{Marks}
+use Rattle.verdict_record.specs.declared.obligation.Obligation.{Obligation}
+use Rattle.obligations.specs.declared.goal.Wanted.{Wanted}
+use Rattle.obligations.specs.Goal.{wantedBytes, wantedClaim, wantedAt}
+
+module _ (s : List ℕ) (z : Sizes) where
+  -- a line with this number meets what is wanted
+  unfoldable pub meets : Wanted → ℕ → Bool
+  meets w n = matchConclusion s wantedBytes (w .template) (w .form) (w .thread) (w .point) (conclusionOf s z n) (w .bind) .ok
+
+  unfoldable pub concludesAt : Obligation → ℕ → Bool
+  concludesAt o n = meets (wantedAt s z o) n
+
+  -- claim i is borne out by its line
+  unfoldable pub sustainedAt : Marks → ℕ → Bool
+  sustainedAt m i =
+      cond (eqb (claimedIn (claimBody z (bodies s) i) .line) 0) false
+      (cond (meets (wantedClaim s z (claimedIn (claimBody z (bodies s) i))) (claimedIn (claimBody z (bodies s) i) .line))
+      (isMarked m (claimedIn (claimBody z (bodies s) i) .line)) false)
+
+  -- 20 no line; 21 the line concludes something else; 22 it is unjustified
+  unfoldable pub codeAt : Marks → Obligation → ℕ → ℕ
+  codeAt m o n = cond (eqb n 0) 20 (cond (concludesAt o n) (cond (isMarked m n) 0 22) 21)

@@ -1,0 +1,47 @@
+// The table as a slice of write structs, the form that the page names. A function over such a slice is proved by a walk of its code,
+// by hand, so there are two, and they are thin: what is shown is worked out by functions on values and bytes.
+use crate::whole::shown_of;
+use replay_machine::answer::Answer;
+use replay_machine::output::Shown;
+use replay_memory::write::Write;
+ghost use mathlib.Core.Path.{_≡_};
+ghost use Prim.Native.Nat.{_≤_};
+ghost use lib.ListN.{length};
+ghost use Rattle.replay_machine.specs.OutputTable.{writeIn, putTo};
+ghost use Rattle.replay_spec.specs.Promise.{Into};
+
+// The write for an entry.
+fn write_in(s: Shown, e: usize) -> Write
+    ensures { λ r. ⌜ r ≡ writeIn s e ⌝ }
+{
+    let i = e % 64;
+    s.writes[i]
+}
+
+// The entries that are not used stay.
+fn put_shown(s: Shown, table: &mut [Write]) -> Answer
+    requires { ⌜ s .count ≤ length (now table) ⌝ }
+    ensures { λ r. ⌜ (r ≡ s .answer) × (now (table .exit) ≡ putTo s (s .count) (now (table .entry))) ⌝ }
+{
+    let n = s.count;
+    let mut e: usize = 0;
+    while e < n {
+        table[e] = write_in(s, e);
+        e += 1;
+    }
+    s.answer
+}
+
+// Replays a trace on the machine of an accepted image. The answer has the code, the steps, points and registers; the table ends
+// holding the writes of the state reached.
+pub fn replay_into<'a, 'b, 'c, 'd>(
+    image: &'a [u8],
+    trace: &'b [u8],
+    given: &'c [u8],
+    table: &'d mut [Write],
+) -> Answer
+    ensures { λ r. ⌜ Into (now (image .entry)) (now (trace .entry)) (now (given .entry)) (now (table .entry)) r (now (table .exit)) ⌝ }
+{
+    let s = shown_of(image, trace, given, table.len());
+    put_shown(s, table)
+}

@@ -1,0 +1,20 @@
+-- Why a step is refused: 27 thread absent or at its last point, 28 position not permitted, 29 no entry left for a write; 0 if it is taken.
+use Prim.Native.Nat.{ℕ}
+use mathlib.Core.Bool.{Bool, false, not, cond}
+use lib.Dec.{eqb, ltb, leb}
+use Rattle.logic.specs.Opcode as Opcode
+use Rattle.replay_memory.specs.Memory.{first}
+use Rattle.replay_memory.specs.declared.memory.Memory.{Memory}
+use Rattle.replay_machine.specs.Shared.{mayPick}
+use Rattle.replay_machine.specs.declared.effect.Deed.{Deed}
+
+-- how many writes the first n rows have
+abbrev pub total : Memory → ℕ → ℕ
+total m n = first (m .sizes) n
+
+-- the operation adds a write
+unfoldable pub adding : ℕ → Bool
+adding op = cond (leb op Opcode.acquire) false (cond (eqb op Opcode.branch) false (not (eqb op Opcode.assignTwo)))
+
+unfoldable pub pickRefusal : Memory → ℕ → ℕ → Deed → ℕ → ℕ → ℕ
+pickRefusal m words room d t p = cond (mayPick m d t p) (cond (adding (d .operation)) (cond (ltb (total m words) room) 0 29) 0) 28

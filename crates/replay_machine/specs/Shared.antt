@@ -1,0 +1,49 @@
+-- Which positions may be picked, and what a step does to shared words and views.
+use mathlib.Core.Bool.{Bool, true, false, not, cond}
+use Prim.Native.Nat.{ℕ, _%_}
+use lib.Dec.{eqb, ltb, leb}
+use lib.ListN.{getD}
+use Rattle.logic.specs.Opcode as Opcode
+use Rattle.tables_columns.specs.Combine.{sumOf}
+use Rattle.replay_memory.specs.View.{positionIn}
+use Rattle.replay_memory.specs.Memory.{writeAt, seenBy}
+use Rattle.replay_memory.specs.Access.{loaded, stored, swapped}
+use Rattle.replay_memory.specs.declared.memory.Memory.{Memory}
+use Rattle.replay_memory.specs.declared.memory.Sight.{Sight}
+use Rattle.replay_machine.specs.declared.effect.Deed.{Deed}
+
+-- the position is there, at or after the thread's own
+unfoldable pub reachableBy : Sight → ℕ → ℕ → ℕ → Bool
+reachableBy g t k p = cond (ltb p (getD (g .sizes) (k % 8) 0)) (leb (positionIn (seenBy g t) k) p) false
+
+unfoldable pub reachable : Memory → ℕ → ℕ → ℕ → Bool
+reachable m t k p = reachableBy (record { sizes = m .sizes; views = m .views }) t k p
+
+unfoldable pub uncovered : Memory → ℕ → ℕ → ℕ → Bool
+uncovered m t k p = cond (reachable m t k p) (not (writeAt m k p .covered)) false
+
+-- a load reads any such write, covered or not; a write is put behind an uncovered one; for assignment and branch the position is 0
+unfoldable pub mayPick : Memory → Deed → ℕ → ℕ → Bool
+mayPick m d t p =
+    cond (eqb (d .operation) Opcode.assign) (eqb p 0)
+    (cond (eqb (d .operation) Opcode.branch) (eqb p 0)
+    (cond (eqb (d .operation) Opcode.assignTwo) (eqb p 0)
+    (cond (eqb (d .operation) Opcode.load) (reachable m t (d .word) p)
+    (cond (eqb (d .operation) Opcode.acquire) (reachable m t (d .word) p) (uncovered m t (d .word) p)))))
+
+-- a swap that stores the old value plus the formula's
+unfoldable pub fetchAdded : Memory → ℕ → Deed → ℕ → ℕ → Memory
+fetchAdded m R d t p = swapped m (d .word) (sumOf R (writeAt m (d .word) p .value) (d .value)) t p
+
+unfoldable pub memoryAfter : Memory → ℕ → Deed → ℕ → ℕ → Memory
+memoryAfter m R d t p =
+    cond (eqb (d .operation) Opcode.load) (loaded m false t (d .word) p)
+    (cond (eqb (d .operation) Opcode.acquire) (loaded m true t (d .word) p)
+    (cond (eqb (d .operation) Opcode.store) (stored m false (d .word) (d .value) t p)
+    (cond (eqb (d .operation) Opcode.release) (stored m true (d .word) (d .value) t p)
+    (cond (eqb (d .operation) Opcode.swap) (swapped m (d .word) (d .value) t p)
+    (cond (eqb (d .operation) Opcode.exchange) (swapped m (d .word) (d .value) t p)
+    (cond (eqb (d .operation) Opcode.fetchAdd) (fetchAdded m R d t p)
+    (cond (eqb (d .operation) Opcode.pairStore) (stored m false (d .word) (d .value) t p)
+    (cond (eqb (d .operation) Opcode.pairRelease) (stored m true (d .word) (d .value) t p)
+    (cond (eqb (d .operation) Opcode.pairSwap) (swapped m (d .word) (d .value) t p) m)))))))))

@@ -1,0 +1,29 @@
+-- A state of the machine, as the code has it, and a step on it. Threads count from 0 here.
+use Prim.Native.Nat.{ℕ, _%_}
+use lib.ListN.{getD, set}
+use mathlib.Core.List.{List}
+use Rattle.replay_memory.specs.Memory.{writeAt, memoryOf}
+use Rattle.replay_machine.specs.Shared.{memoryAfter}
+use Rattle.replay_machine.specs.Locals.{registersAfter, pointAfter}
+use Rattle.replay_machine.specs.declared.effect.Deed.{Deed}
+use Rattle.replay_machine.specs.declared.state.Machine.{Machine}
+use Rattle.replay_machine.specs.declared.state.Threads.{Threads}
+
+unfoldable pub pointOf : Machine → ℕ → ℕ
+pointOf n t = getD (n .points) (t % 4) 0
+
+-- thread t does the deed at position p
+unfoldable pub performed : Machine → ℕ → Deed → ℕ → ℕ → Machine
+performed n R d t p = record {
+  memory = memoryAfter (n .memory) R d t p;
+  registers = registersAfter (n .registers) (writeAt (n .memory) (d .word) p .value) d;
+  points = set (n .points) (t % 4) (pointAfter (pointOf n t) d);
+}
+
+-- APART FROM A TABLE OF BYTES
+
+unfoldable pub machineOf : Threads → List ℕ → Machine
+machineOf h b = record { memory = memoryOf (h .sight) b; registers = h .registers; points = h .points }
+
+unfoldable pub threadsOf : Machine → Threads
+threadsOf n = record { sight = record { sizes = n .memory .sizes; views = n .memory .views }; registers = n .registers; points = n .points }

@@ -1,0 +1,63 @@
+// What a replay answers, and the same as numbers.
+use crate::replayed::Replayed;
+ghost use mathlib.Core.Path.{_≡_};
+ghost use mathlib.Core.List.{_++_};
+ghost use Prim.Native.Nat.{_≤_};
+ghost use lib.ListN.{length, getD, drop};
+ghost use Rattle.replay_machine.specs.Answer.{size, answerOf, numbersOf};
+
+// The code, the steps taken, the points of threads 1 to 4, registers 1 to 16; 0 for those that are not there.
+pub struct Answer {
+    pub code: u16,
+    pub steps: usize,
+    pub points: [u8; 4],
+    pub registers: [u8; 16],
+}
+
+impl Answer {
+    // How many numbers it has, besides the code.
+    pub const SIZE: usize = 21;
+}
+
+pub fn answer_of(r: Replayed) -> Answer
+    ensures { λ a. ⌜ a ≡ answerOf r ⌝ }
+{
+    let n = r.machine;
+    let h = n.registers;
+    let points = n.points;
+    let registers = h.at;
+    Answer {
+        code: r.code as u16,
+        steps: r.steps,
+        points,
+        registers,
+    }
+}
+
+// The steps, then the points, then the registers.
+fn number_at(a: Answer, i: usize) -> usize
+    ensures { λ r. ⌜ r ≡ getD (numbersOf a) i 0 ⌝ }
+{
+    if i == 0 {
+        return a.steps;
+    }
+    if i < 5 {
+        return a.points[i - 1] as usize;
+    }
+    if i < Answer::SIZE {
+        return a.registers[i - 5] as usize;
+    }
+    0
+}
+
+// The numbers behind stay.
+pub fn write_numbers(a: Answer, room: &mut [usize])
+    requires { ⌜ size ≤ length (now room) ⌝ }
+    ensures { λ _. ⌜ now (room .exit) ≡ numbersOf a ++ drop size (now (room .entry)) ⌝ }
+{
+    let mut i: usize = 0;
+    while i < Answer::SIZE {
+        room[i] = number_at(a, i);
+        i += 1;
+    }
+}

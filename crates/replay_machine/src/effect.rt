@@ -1,0 +1,65 @@
+// An instruction whose formulas are worked out.
+use image_header::instruction::Instruction;
+ghost use mathlib.Core.Path.{_≡_};
+ghost use Prim.Native.Nat.{_-_};
+ghost use Rattle.image_access.specs.AccessPlaces.{registerFirst};
+ghost use Rattle.replay_machine.specs.Effect.{deedOf};
+
+// The word counts from 0, registers from 1. What an operation has not is not looked at.
+pub struct Deed {
+    pub operation: u8,
+    pub word: u8,
+    pub register: u8,
+    pub value: u8,
+    // The register that is set besides, and its value.
+    pub noted: u8,
+    pub note: u8,
+    // Where a branch goes.
+    pub target: u8,
+}
+
+// A number that counts from 1, counted from 0.
+pub fn before(x: u8) -> u8
+    ensures { λ r. ⌜ r ≡ x - 1 ⌝ }
+{
+    if x == 0 {
+        return 0;
+    }
+    x - 1
+}
+
+// Assignments and loads have their register first.
+fn register_first(operation: u8) -> bool
+    ensures { λ r. ⌜ r ≡ registerFirst operation ⌝ }
+{
+    if operation <= Instruction::ACQUIRE {
+        return true;
+    }
+    operation == Instruction::ASSIGN_TWO
+}
+
+pub fn deed_of(i: Instruction, value: u8, note: u8) -> Deed
+    ensures { λ r. ⌜ r ≡ deedOf i value note ⌝ }
+{
+    let h = i.second;
+    if register_first(i.operation) {
+        return Deed {
+            operation: i.operation,
+            word: before(i.b),
+            register: i.a,
+            value,
+            noted: h.a,
+            note,
+            target: i.a,
+        };
+    }
+    Deed {
+        operation: i.operation,
+        word: before(i.a),
+        register: i.b,
+        value,
+        noted: h.a,
+        note,
+        target: i.a,
+    }
+}

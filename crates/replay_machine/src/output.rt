@@ -1,0 +1,62 @@
+// What a replay shows: the answer, and the writes for the table.
+use crate::answer::Answer;
+use crate::answer::answer_of;
+use crate::pick::total_of;
+use crate::replayed::Replayed;
+use crate::replayed::Table;
+use crate::shown_table::pack;
+use replay_memory::write::Write;
+ghost use mathlib.Core.Path.{_≡_};
+ghost use Prim.Native.Nat.{_≤_, min};
+ghost use lib.ListN.{length};
+ghost use Rattle.replay_machine.specs.OutputTable.{shownOf, shownBy};
+
+// So many writes are for the table, the first ones; those behind them are not.
+pub struct Shown {
+    pub answer: Answer,
+    pub count: usize,
+    pub writes: [Write; Table::MOST],
+}
+
+// How many entries are used, of so many writes and entries lent.
+fn least(writes: usize, lent: usize) -> usize
+    ensures { λ r. ⌜ r ≡ min writes (min lent 64) ⌝ }
+{
+    if writes <= lent {
+        if writes <= Table::MOST {
+            return writes;
+        }
+        return Table::MOST;
+    }
+    if lent <= Table::MOST {
+        return lent;
+    }
+    Table::MOST
+}
+
+// None where the table stays as it is.
+fn count_of(r: Replayed, lent: usize) -> usize
+    ensures { λ n. ⌜ (n ≡ length (shownOf r lent)) × (n ≤ min lent 64) ⌝ }
+{
+    if r.held {
+        let n = r.machine;
+        let m = n.memory;
+        return least(total_of(m, r.words), lent);
+    }
+    0
+}
+
+// What is shown of a replay with so many entries lent.
+pub fn shown_by(r: Replayed, lent: usize) -> Shown
+    ensures { λ s. ⌜ (s ≡ shownBy r lent) × ((s .count ≤ min lent 64) × (length (s .writes) ≡ 64)) ⌝ }
+{
+    let n = r.machine;
+    let m = n.memory;
+    let p = pack(m, r.words);
+    let writes = p.writes;
+    Shown {
+        answer: answer_of(r),
+        count: count_of(r, lent),
+        writes,
+    }
+}

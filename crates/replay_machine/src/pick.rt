@@ -1,0 +1,73 @@
+// Whether a step may be taken: its position, and room for a write.
+use crate::effect::Deed;
+use crate::shared::may_pick;
+use image_header::instruction::Instruction;
+use replay_memory::memory::Memory;
+use replay_memory::memory::Sight;
+use replay_memory::memory::first_of;
+use replay_memory::write_table::Places;
+ghost use mathlib.Core.Path.{_≡_};
+ghost use Prim.Native.Nat.{_≤_, _*_};
+ghost use Rattle.replay_memory.specs.Memory.{memoryOf};
+ghost use Rattle.replay_machine.specs.Refusal.{total, adding, pickRefusal};
+
+pub struct Refusal {}
+
+impl Refusal {
+    pub const ACCEPTED: u8 = 0;
+
+    // Thread absent or at its last point, or half a step.
+    pub const THREAD: u8 = 27;
+
+    // Position not permitted.
+    pub const PICK: u8 = 28;
+
+    // No entry left for a write.
+    pub const ROOM: u8 = 29;
+}
+
+// How many writes the first n rows have.
+pub fn total_of(m: Memory, n: u8) -> usize
+    ensures { λ r. ⌜ (r ≡ total m n) × (r ≤ n * 255) ⌝ }
+{
+    let sizes = m.sizes;
+    first_of(&sizes, n)
+}
+
+// The operation adds a write.
+fn is_adding(operation: u8) -> bool
+    ensures { λ r. ⌜ r ≡ adding operation ⌝ }
+{
+    if operation <= Instruction::ACQUIRE {
+        return false;
+    }
+    if operation == Instruction::BRANCH {
+        return false;
+    }
+    operation != Instruction::ASSIGN_TWO
+}
+
+// Why thread t may not do the deed at position p; 0 if it may.
+pub fn pick_refusal(
+    table: &[u8; Places::BYTES],
+    g: Sight,
+    words: u8,
+    room: usize,
+    d: Deed,
+    t: u8,
+    p: u8,
+) -> u8
+    ensures { λ r. ⌜ r ≡ pickRefusal (memoryOf g (now (table .entry))) words room d t p ⌝ }
+{
+    if may_pick(table, g, d, t, p) {
+        if is_adding(d.operation) {
+            let sizes = g.sizes;
+            if first_of(&sizes, words) < room {
+                return Refusal::ACCEPTED;
+            }
+            return Refusal::ROOM;
+        }
+        return Refusal::ACCEPTED;
+    }
+    Refusal::PICK
+}

@@ -1,0 +1,74 @@
+// A replay on an accepted image: the start, the run.
+use crate::pick::Refusal;
+use crate::run::run_trace;
+use crate::start::start_machine;
+use crate::state::Machine;
+use image_header::sizes::Sizes;
+use image_index::look_up::body_of;
+ghost use mathlib.Core.Path.{_≡_};
+ghost use Rattle.image_index.specs.IndexTable.{indexOf};
+ghost use Rattle.replay_machine.specs.Replayed.{roomOf, replayOn};
+
+pub struct Table {}
+
+impl Table {
+    // Entries past these are never used.
+    pub const MOST: usize = 64;
+
+    // The image is not accepted.
+    pub const DECLINED: u8 = 24;
+}
+
+// Why it ended, the steps taken and the state reached; whether the table is to hold its writes, and of how many words.
+pub struct Replayed {
+    pub code: u8,
+    pub steps: usize,
+    pub held: bool,
+    pub words: u8,
+    pub machine: Machine,
+}
+
+// How many entries are used at most, of so many lent.
+pub fn room_of(lent: usize) -> usize
+    ensures { λ r. ⌜ r ≡ roomOf lent ⌝ }
+{
+    if lent < Table::MOST {
+        lent
+    } else {
+        Table::MOST
+    }
+}
+
+// The index is that of the image, and so are the sizes.
+pub fn replay_on<'a, 'b, 'c, 'd>(
+    s: &'a [u8],
+    ix: &'b [usize],
+    z: Sizes,
+    trace: &'c [u8],
+    given: &'d [u8],
+    room: usize,
+) -> Replayed
+    requires { ⌜ now ix ≡ indexOf (now s) ⌝ }
+    ensures { λ r. ⌜ r ≡ replayOn (now (s .entry)) z (now (trace .entry)) (now (given .entry)) room ⌝ }
+{
+    let b = body_of(s, ix, 0);
+    let n = start_machine(b, z.range, given);
+    if room < (z.words as usize) {
+        return Replayed {
+            code: Refusal::ROOM,
+            steps: 0,
+            held: false,
+            words: z.words,
+            machine: n,
+        };
+    }
+    let r = run_trace(s, ix, z, room, n, trace);
+    let machine = r.machine;
+    Replayed {
+        code: r.code,
+        steps: r.steps,
+        held: true,
+        words: z.words,
+        machine,
+    }
+}

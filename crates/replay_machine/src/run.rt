@@ -1,0 +1,90 @@
+// The steps of a trace, two bytes each, until one is refused.
+use crate::pick::Refusal;
+use crate::state::Machine;
+use crate::state::Threads;
+use crate::state::machine_of;
+use crate::state::threads_of;
+use crate::step::step;
+use image_header::sizes::Sizes;
+use replay_memory::layout::lay_out;
+use replay_memory::write_table::Places;
+ghost use mathlib.Core.Path.{_≡_};
+ghost use lib.ListN.{length};
+ghost use Rattle.image_index.specs.IndexTable.{indexOf};
+ghost use Rattle.replay_machine.specs.State.{machineOf};
+ghost use Rattle.replay_machine.specs.Run.{ran, runOf};
+
+// Why the run ended, 0 if the trace did; the steps taken; the state reached.
+pub struct Run {
+    pub code: u8,
+    pub steps: usize,
+    pub machine: Machine,
+}
+
+// The same without the writes.
+pub struct Reached {
+    pub code: u8,
+    pub steps: usize,
+    pub threads: Threads,
+}
+
+// On a table that is lent.
+fn run_on<'a, 'b, 'c, 'd>(
+    s: &'a [u8],
+    ix: &'b [usize],
+    z: Sizes,
+    room: usize,
+    from: Threads,
+    trace: &'c [u8],
+    table: &'d mut [u8; Places::BYTES],
+) -> Reached
+    requires { ⌜ (now ix ≡ indexOf (now s)) × (length (now table) ≡ 792) ⌝ }
+    ensures { λ r. ⌜ runOf r (now (table .exit))
+        ≡ ran (now (s .entry)) z room (machineOf from (now (table .entry))) 0 (now (trace .entry)) ⌝ }
+{
+    let mut n = from;
+    let mut steps: usize = 0;
+    let mut i: usize = 0;
+    while i < trace.len() {
+        if trace.len() - i < 2 {
+            return Reached {
+                code: Refusal::THREAD,
+                steps,
+                threads: n,
+            };
+        }
+        let after = i + 2;
+        let more = steps + 1;
+        let r = step(s, ix, z, room, n, trace[i], trace[i + 1], table);
+        let threads = r.threads;
+        if r.code != Refusal::ACCEPTED {
+            return Reached {
+                code: r.code,
+                steps,
+                threads,
+            };
+        }
+        n = threads;
+        steps = more;
+        i = after;
+    }
+    Reached {
+        code: Refusal::ACCEPTED,
+        steps,
+        threads: n,
+    }
+}
+
+pub fn run_trace(s: &[u8], ix: &[usize], z: Sizes, room: usize, from: Machine, trace: &[u8]) -> Run
+    requires { ⌜ now ix ≡ indexOf (now s) ⌝ }
+    ensures { λ r. ⌜ r ≡ ran (now (s .entry)) z room from 0 (now (trace .entry)) ⌝ }
+{
+    let mut table = [0u8; Places::BYTES];
+    lay_out(from.memory, &mut table);
+    let r = run_on(s, ix, z, room, threads_of(from), trace, &mut table);
+    Run {
+        code: r.code,
+        steps: r.steps,
+        machine: machine_of(r.threads, &table),
+    }
+}

@@ -1,0 +1,40 @@
+// The table that the caller sees: the writes word by word, in row order.
+use crate::pick::total_of;
+use replay_memory::memory::Memory;
+use replay_memory::write::Write;
+use replay_memory::write::start_write;
+ghost use mathlib.Core.Path.{_≡_};
+ghost use mathlib.Core.Bool.{cond};
+ghost use lib.Dec.{ltb};
+ghost use Rattle.replay_memory.specs.Write.{startWrite};
+ghost use Rattle.replay_machine.specs.ShownTable.{packed};
+
+// The first 64 entries; behind the last write, writes of 0.
+pub struct Packed {
+    pub writes: [Write; 64],
+}
+
+// The write at entry e, of so many.
+fn shown(w: Write, e: usize, n: usize) -> Write
+    ensures { λ r. ⌜ r ≡ cond (ltb e n) w (startWrite 0) ⌝ }
+{
+    if e < n {
+        return w;
+    }
+    start_write(0)
+}
+
+// The writes of the first words.
+pub fn pack(m: Memory, words: u8) -> Packed
+    ensures { λ r. ⌜ r ≡ packed m words ⌝ }
+{
+    let n = total_of(m, words);
+    let none = start_write(0);
+    let mut writes = [none; 64];
+    let mut e: usize = 0;
+    while e < 64 {
+        writes[e] = shown(m.writes[e], e, n);
+        e += 1;
+    }
+    Packed { writes }
+}

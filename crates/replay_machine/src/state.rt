@@ -1,0 +1,88 @@
+// A state of the machine: shared words and views, registers, points. Threads count from 0 here.
+use crate::effect::Deed;
+use crate::locals::Registers;
+use crate::locals::point_after;
+use crate::locals::registers_after;
+use crate::shared::memory_after;
+use replay_memory::layout::memory_of;
+use replay_memory::memory::Memory;
+use replay_memory::memory::Sight;
+use replay_memory::memory::write_at;
+use replay_memory::write_table::Places;
+ghost use mathlib.Core.Path.{_≡_};
+ghost use Prim.Native.Nat.{_%_};
+ghost use lib.ListN.{length, getD};
+ghost use Rattle.replay_machine.specs.State.{performed, machineOf, threadsOf};
+
+pub struct Machine {
+    pub memory: Memory,
+    pub registers: Registers,
+    pub points: [u8; 4],
+}
+
+// The same without the writes: what a step hands on by value.
+pub struct Threads {
+    pub sight: Sight,
+    pub registers: Registers,
+    pub points: [u8; 4],
+}
+
+pub fn threads_of(n: Machine) -> Threads
+    ensures { λ r. ⌜ r ≡ threadsOf n ⌝ }
+{
+    let m = n.memory;
+    let sizes = m.sizes;
+    let views = m.views;
+    let registers = n.registers;
+    let points = n.points;
+    Threads {
+        sight: Sight { sizes, views },
+        registers,
+        points,
+    }
+}
+
+pub fn machine_of(h: Threads, table: &[u8; Places::BYTES]) -> Machine
+    ensures { λ r. ⌜ r ≡ machineOf h (now (table .entry)) ⌝ }
+{
+    let registers = h.registers;
+    let points = h.points;
+    Machine {
+        memory: memory_of(h.sight, table),
+        registers,
+        points,
+    }
+}
+
+pub fn point_of(n: Threads, t: u8) -> u8
+    ensures { λ r. ⌜ r ≡ getD (n .points) (t % 4) 0 ⌝ }
+{
+    let i = (t % 4) as usize;
+    n.points[i]
+}
+
+// The state after a step of thread t at position p.
+pub fn perform(
+    n: Threads,
+    range: u8,
+    d: Deed,
+    t: u8,
+    p: u8,
+    table: &mut [u8; Places::BYTES],
+) -> Threads
+    requires { ⌜ length (now table) ≡ 792 ⌝ }
+    ensures { λ r. ⌜ machineOf r (now (table .exit)) ≡ performed (machineOf n (now (table .entry))) range d t p ⌝ }
+    ensures { λ _. ⌜ length (now (table .exit)) ≡ 792 ⌝ }
+{
+    let g = n.sight;
+    let h = n.registers;
+    let mut points = n.points;
+    let i = (t % 4) as usize;
+    let old = write_at(table, g, d.word, p);
+    points[i] = point_after(points[i], d);
+    Threads {
+        sight: memory_after(g, range, d, t, p, table),
+        registers: registers_after(h, old.value, d),
+        points,
+    }
+}

@@ -1,0 +1,47 @@
+-- Rows of writes in one list, word by word in row order; the sizes of the rows of eight words; the views of four threads.
+use Prim.Native.Nat.{ℕ, zero, suc, _+_, _%_}
+use mathlib.Core.List.{List}
+use lib.ListN.{getD, set}
+use Rattle.replay_memory.specs.Write.{noView, noWrite, coveredWrite}
+use Rattle.replay_memory.specs.declared.view.View.{View}
+use Rattle.replay_memory.specs.declared.write.Write.{Write}
+use Rattle.replay_memory.specs.WriteTable.{writesIn}
+use Rattle.replay_memory.specs.declared.memory.Memory.{Memory}
+use Rattle.replay_memory.specs.declared.memory.Sight.{Sight}
+
+-- where the row of word k begins: the sum of the sizes before
+unfoldable pub first : List ℕ → ℕ → ℕ
+first sizes zero = 0
+first sizes (suc k) = first sizes k + getD sizes k 0
+
+-- the place of position p of word k, of 72
+unfoldable pub indexOf : List ℕ → ℕ → ℕ → ℕ
+indexOf sizes k p = (first sizes (k % 8) + p) % 72
+
+unfoldable pub writeAt : Memory → ℕ → ℕ → Write
+writeAt m k p = getD (m .writes) (indexOf (m .sizes) k p) noWrite
+
+unfoldable pub sizeAt : Memory → ℕ → ℕ
+sizeAt m k = getD (m .sizes) (k % 8) 0
+
+unfoldable pub viewOf : Memory → ℕ → View
+viewOf m t = getD (m .views) (t % 4) noView
+
+unfoldable pub withView : Memory → ℕ → View → Memory
+withView m t v = record { sizes = m .sizes; writes = m .writes; views = set (m .views) (t % 4) v }
+
+-- the write at position p of word k, covered
+unfoldable pub covering : Memory → ℕ → ℕ → Memory
+covering m k p =
+    record { sizes = m .sizes; writes = set (m .writes) (indexOf (m .sizes) k p) (coveredWrite (writeAt m k p)); views = m .views }
+
+-- SIZES AND VIEWS APART FROM A TABLE OF BYTES
+
+unfoldable pub memoryOf : Sight → List ℕ → Memory
+memoryOf g b = record { sizes = g .sizes; writes = writesIn b; views = g .views }
+
+unfoldable pub seenBy : Sight → ℕ → View
+seenBy g t = getD (g .views) (t % 4) noView
+
+unfoldable pub withSeen : Sight → ℕ → View → Sight
+withSeen g t v = record { sizes = g .sizes; views = set (g .views) (t % 4) v }

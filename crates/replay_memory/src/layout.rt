@@ -1,0 +1,42 @@
+// A memory's writes laid out as bytes, and taken from there.
+use crate::memory::Memory;
+use crate::memory::Sight;
+use crate::write::start_write;
+use crate::write_table::Places;
+use crate::write_table::put_at;
+use crate::write_table::read_at;
+ghost use mathlib.Core.Path.{_≡_};
+ghost use lib.ListN.{length};
+ghost use Rattle.replay_memory.specs.WriteTable.{writesIn};
+ghost use Rattle.replay_memory.specs.Memory.{memoryOf};
+
+pub fn lay_out(m: Memory, table: &mut [u8; Places::BYTES])
+    requires { ⌜ length (now table) ≡ 792 ⌝ }
+    ensures { λ _. ⌜ writesIn (now (table .exit)) ≡ m .writes ⌝ }
+    ensures { λ _. ⌜ length (now (table .exit)) ≡ 792 ⌝ }
+{
+    let mut j: usize = 0;
+    while j < Places::COUNT {
+        put_at(m.writes[j], j, table);
+        j += 1;
+    }
+}
+
+pub fn memory_of(g: Sight, table: &[u8; Places::BYTES]) -> Memory
+    ensures { λ r. ⌜ r ≡ memoryOf g (now (table .entry)) ⌝ }
+{
+    let none = start_write(0);
+    let mut writes = [none; 72];
+    let mut j: usize = 0;
+    while j < Places::COUNT {
+        writes[j] = read_at(table, j);
+        j += 1;
+    }
+    let sizes = g.sizes;
+    let views = g.views;
+    Memory {
+        sizes,
+        writes,
+        views,
+    }
+}

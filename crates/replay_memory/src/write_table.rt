@@ -1,0 +1,122 @@
+// The table of writes as bytes, eleven for each of 72 places. It is lent and changed where it stands.
+use crate::view::View;
+use crate::view::up;
+use crate::write::Write;
+ghost use mathlib.Core.Path.{_≡_};
+ghost use Prim.Native.Nat.{_<_};
+ghost use lib.ListN.{length, set};
+ghost use Rattle.replay_memory.specs.WriteTable.{bit, viewAt, readAt, writesIn, putView, coveredAt, raisedAll, movedUp};
+
+pub struct Places {}
+
+impl Places {
+    pub const COUNT: usize = 72;
+
+    // Value, releasing, covered, and a position for each of eight words.
+    pub const WIDTH: usize = 11;
+
+    pub const BYTES: usize = 792;
+}
+
+fn view_at(table: &[u8; Places::BYTES], i: usize) -> View
+    requires { ⌜ i < 72 ⌝ }
+    ensures { λ r. ⌜ r ≡ viewAt (now (table .entry)) i ⌝ }
+{
+    let b = i * Places::WIDTH + 3;
+    View {
+        at: [
+            table[b],
+            table[b + 1],
+            table[b + 2],
+            table[b + 3],
+            table[b + 4],
+            table[b + 5],
+            table[b + 6],
+            table[b + 7],
+        ],
+    }
+}
+
+// The write at a place.
+pub fn read_at(table: &[u8; Places::BYTES], i: usize) -> Write
+    requires { ⌜ i < 72 ⌝ }
+    ensures { λ r. ⌜ r ≡ readAt (now (table .entry)) i ⌝ }
+{
+    let b = i * Places::WIDTH;
+    Write {
+        value: table[b],
+        releasing: table[b + 1] == 1,
+        covered: table[b + 2] == 1,
+        stored: view_at(table, i),
+    }
+}
+
+pub fn bit(b: bool) -> u8
+    ensures { λ r. ⌜ r ≡ bit b ⌝ }
+{
+    if b { 1 } else { 0 }
+}
+
+fn put_view(v: View, i: usize, table: &mut [u8; Places::BYTES])
+    requires { ⌜ (i < 72) × (length (now table) ≡ 792) ⌝ }
+    ensures { λ _. ⌜ (now (table .exit) ≡ putView (now (table .entry)) i v 8) × (length (v .at) ≡ 8) ⌝ }
+    ensures { λ _. ⌜ length (now (table .exit)) ≡ 792 ⌝ }
+{
+    let b = i * Places::WIDTH + 3;
+    let mut k: usize = 0;
+    while k < 8 {
+        table[b + k] = v.at[k];
+        k += 1;
+    }
+}
+
+// A write put at a place.
+pub fn put_at(w: Write, i: usize, table: &mut [u8; Places::BYTES])
+    requires { ⌜ (i < 72) × (length (now table) ≡ 792) ⌝ }
+    ensures { λ _. ⌜ writesIn (now (table .exit)) ≡ set (writesIn (now (table .entry))) i w ⌝ }
+    ensures { λ _. ⌜ length (now (table .exit)) ≡ 792 ⌝ }
+{
+    let b = i * Places::WIDTH;
+    table[b] = w.value;
+    table[b + 1] = bit(w.releasing);
+    table[b + 2] = bit(w.covered);
+    put_view(w.stored, i, table);
+}
+
+// The write at a place covered.
+pub fn cover_at(i: usize, table: &mut [u8; Places::BYTES])
+    requires { ⌜ (i < 72) × (length (now table) ≡ 792) ⌝ }
+    ensures { λ _. ⌜ writesIn (now (table .exit)) ≡ coveredAt (writesIn (now (table .entry))) i ⌝ }
+    ensures { λ _. ⌜ length (now (table .exit)) ≡ 792 ⌝ }
+{
+    table[i * Places::WIDTH + 2] = 1;
+}
+
+// Stored views keep their writes when another is inserted behind position p of word k.
+pub fn raise_all(k: u8, p: u8, table: &mut [u8; Places::BYTES])
+    requires { ⌜ length (now table) ≡ 792 ⌝ }
+    ensures { λ _. ⌜ writesIn (now (table .exit)) ≡ raisedAll (writesIn (now (table .entry))) k p ⌝ }
+    ensures { λ _. ⌜ length (now (table .exit)) ≡ 792 ⌝ }
+{
+    let c = 3 + ((k % 8) as usize);
+    let mut j: usize = 0;
+    while j < Places::COUNT {
+        let b = j * Places::WIDTH + c;
+        table[b] = up(p, table[b]);
+        j += 1;
+    }
+}
+
+// The writes behind a place, up by one: byte by byte, from byte 791, the last of place 71, down.
+pub fn move_up(picked: usize, table: &mut [u8; Places::BYTES])
+    requires { ⌜ (picked < 72) × (length (now table) ≡ 792) ⌝ }
+    ensures { λ _. ⌜ writesIn (now (table .exit)) ≡ movedUp (writesIn (now (table .entry))) picked ⌝ }
+    ensures { λ _. ⌜ length (now (table .exit)) ≡ 792 ⌝ }
+{
+    let n = (71 - picked) * Places::WIDTH;
+    let mut i: usize = 0;
+    while i < n {
+        table[791 - i] = table[780 - i];
+        i += 1;
+    }
+}

@@ -1,0 +1,157 @@
+// A table of writes, lent by the caller as a slice of structs: an entry read, an entry put, and a write inserted.
+use replay_memory::view::up_view;
+use replay_memory::write::Write;
+ghost use mathlib.Core.Path.{_≡_};
+ghost use lib.ListN.{getD, set};
+ghost use Rattle.replay_memory.specs.Write.{upWrite};
+ghost use Rattle.replay_table.specs.Sweep.{turnOf, sweptOf, stepOf, stepsTo};
+
+// The write of an entry; past the end another.
+pub fn read(table: &[Write], i: usize, none: Write) -> Write
+    ensures { λ r. ⌜ r ≡ getD (now (table .entry)) i none ⌝ }
+{
+    if i < table.len() {
+        return table[i];
+    }
+    none
+}
+
+// Past the end nothing is stored.
+pub fn put(table: &mut [Write], i: usize, w: Write)
+    ensures { λ r. ⌜ now (table .exit) ≡ set (now (table .entry)) i w ⌝ }
+{
+    if i < table.len() {
+        table[i] = w;
+    }
+}
+
+// What a sweep is to do: with so many entries the write is inserted at one of them, behind a position of a word.
+pub struct Order {
+    pub count: usize,
+    pub at: usize,
+    pub word: u8,
+    pub behind: u8,
+    pub write: Write,
+}
+
+// What an entry is given, and the write that goes on to the next entry.
+pub struct Turn {
+    pub put: Write,
+    pub next: Write,
+}
+
+fn raised(w: Write, k: u8, p: u8) -> Write
+    ensures { λ r. ⌜ r ≡ upWrite k p w ⌝ }
+{
+    let v = w.stored;
+    let stored = up_view(v, k, p);
+    Write {
+        value: w.value,
+        releasing: w.releasing,
+        covered: w.covered,
+        stored,
+    }
+}
+
+pub fn turn_at(o: Order, e: usize, carried: Write, old: Write) -> Turn
+    ensures { λ r. ⌜ r ≡ turnOf o e carried old ⌝ }
+{
+    if o.count <= e {
+        return Turn {
+            put: old,
+            next: carried,
+        };
+    }
+    let w = raised(old, o.word, o.behind);
+    if e < o.at {
+        return Turn {
+            put: w,
+            next: carried,
+        };
+    }
+    Turn {
+        put: carried,
+        next: w,
+    }
+}
+
+// The entries from the write's place move up by one, and every stored view keeps its write.
+pub fn insert(o: Order, table: &mut [Write])
+    ensures { λ r. ⌜ now (table .exit) ≡ sweptOf o (now (table .entry)) ⌝ }
+{
+    let n = table.len();
+    let mut carried = o.write;
+    let mut e: usize = 0;
+    while e < n {
+        let t = turn_at(o, e, carried, table[e]);
+        table[e] = t.put;
+        carried = t.next;
+        e += 1;
+    }
+}
+
+// A machine by value: where it reads, and what it inserts then.
+pub struct Run {
+    pub at: usize,
+    pub order: Order,
+}
+
+// A step on values alone: here the write that was read is inserted in front of its entry.
+pub fn step(r: Run, w: Write) -> Run
+    ensures { λ q. ⌜ q ≡ stepOf r w ⌝ }
+{
+    let p = r.order;
+    Run {
+        at: p.at,
+        order: Order {
+            count: p.count,
+            at: r.at,
+            word: p.word,
+            behind: w.value,
+            write: w,
+        },
+    }
+}
+
+// So many steps: each reads one entry and inserts one write.
+pub fn steps(turns: usize, start: Run, none: Write, table: &mut [Write]) -> Run
+    ensures { λ q. ⌜ (now (table .exit), q) ≡ stepsTo none turns (now (table .entry), start) ⌝ }
+{
+    let mut r = start;
+    let mut k: usize = 0;
+    while k < turns {
+        let w = read(table, r.at, none);
+        r = step(r, w);
+        insert(r.order, table);
+        k += 1;
+    }
+    r
+}
+
+// A table of numbers, changed where it stands, and read.
+fn mark(index: &mut [usize])
+    ensures { λ _. ⌜ now (index .exit) ≡ set (now (index .entry)) 0 1 ⌝ }
+{
+    if 0 < index.len() {
+        index[0] = 1;
+    }
+}
+
+fn marked(index: &[usize]) -> usize
+    ensures { λ r. ⌜ r ≡ getD (now (index .entry)) 0 0 ⌝ }
+{
+    if 0 < index.len() {
+        return index[0];
+    }
+    0
+}
+
+// A local array is lent, and the caller's table is passed on.
+pub fn whole(start: Run, none: Write, table: &mut [Write]) -> Run
+    ensures { λ q. ⌜ (now (table .exit), q) ≡ stepsTo none 1 (now (table .entry), start) ⌝ }
+{
+    let mut index = [0usize; 4588];
+    mark(&mut index);
+    let n = marked(&index);
+    steps(n, start, none, table)
+}

@@ -1,0 +1,23 @@
+-- Rules 48 and 49: a value is that of the new write, read after the step.
+use mathlib.Core.Bool.{Bool, cond}
+use mathlib.Core.List.{List}
+use Prim.Native.Nat.{ℕ}
+use lib.Dec.{eqb}
+use Rattle.semantics.specs.Code
+use Rattle.semantics.specs.Code.{byte}
+use Rattle.logic.specs.Opcode
+use Rattle.limits.specs.Limits.{nesting}
+use Rattle.formula.specs.Tree.{Tree, none, node, parseTree}
+use Rattle.formula_compare.specs.Same.{sameTree}
+
+-- the formula at f is u
+unfoldable pub formulaIs : List ℕ → ℕ → Tree → Bool
+formulaIs s f u = sameTree (parseTree s nesting f .tree) u
+
+-- u is register r plus the formula at f
+unfoldable pub sumIs : List ℕ → ℕ → ℕ → Tree → Bool
+sumIs s r f u = sameTree (node (byte Code.sum) 0 (node (byte Code.reg) r none none) (parseTree s nesting f .tree)) u
+
+-- fetch-add: the result register plus the formula; else the formula
+unfoldable pub freshIs : List ℕ → ℕ → ℕ → ℕ → Tree → Bool
+freshIs s op r f u = cond (eqb op Opcode.fetchAdd) (sumIs s r f u) (formulaIs s f u)

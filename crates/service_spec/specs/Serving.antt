@@ -1,0 +1,63 @@
+-- Calls to one service, whatever is asked and answered, where a reply goes by what the service holds of its caller.
+use mathlib.Core.Bool.{Bool, true, false, cond}
+use mathlib.Core.List.{List, [], _∷_}
+use mathlib.Core.Option.{Option, none, some}
+use Prim.Native.Nat.{ℕ, suc, _+_}
+use lib.Dec.{eqb}
+use lib.ListN.{getD, set}
+use Rattle.service_spec.specs.Account.{Desk, deskOf, numberPlace}
+
+pub record Call (Q : Type 0) : Type 0 where
+  pub caller : ℕ
+  pub request : Q
+
+-- what a call leaves
+pub record Served (R : Type 0) : Type 0 where
+  pub service : List ℕ
+  pub reply : R
+
+-- a call that was served
+pub record Turn (R : Type 0) : Type 0 where
+  pub caller : ℕ
+  pub served : Served R
+
+-- how requests are answered
+pub record Conduct (Q R : Type 0) : Type 0 where
+  -- to one who is no caller
+  pub unknown : Q → R
+  pub reply : Desk → Q → R
+  -- whether the caller's number is one higher afterwards
+  pub counted : Desk → Q → Bool
+
+unfoldable pub raised : List ℕ → ℕ → List ℕ
+raised s c = set s (numberPlace c) (getD s (numberPlace c) 0 + 1)
+
+module _ {Q R : Type 0} (v : Conduct Q R) where
+  abbrev pub replyFrom : Option Desk → Q → R
+  replyFrom none q = v .unknown q
+  replyFrom (some d) q = v .reply d q
+
+  abbrev pub countedFrom : Option Desk → Q → Bool
+  countedFrom none q = false
+  countedFrom (some d) q = v .counted d q
+
+  unfoldable pub serveBy : List ℕ → Call Q → Served R
+  serveBy s k = record {
+    service = cond (countedFrom (deskOf s (k .caller)) (k .request)) (raised s (k .caller)) s;
+    reply = replyFrom (deskOf s (k .caller)) (k .request);
+  }
+
+  -- one call after the other
+  abbrev pub serveAllBy : List ℕ → List (Call Q) → List (Turn R)
+  serveAllBy s [] = []
+  serveAllBy s (k ∷ l) = record { caller = k .caller; served = serveBy s k } ∷ serveAllBy (serveBy s k .service) l
+
+-- the requests of a caller, in order
+abbrev pub requestsOf : {Q : Type 0} → ℕ → List (Call Q) → List Q
+requestsOf c [] = []
+requestsOf c (k ∷ l) = cond (eqb (k .caller) c) (k .request ∷ requestsOf c l) (requestsOf c l)
+
+-- what a caller sees: the reply to each of its calls, and what the service then holds of it
+abbrev pub seenBy : {R : Type 0} → ℕ → List (Turn R) → List (R × Option Desk)
+seenBy c [] = []
+seenBy c (t ∷ l) = cond (eqb (t .caller) c) ((t .served .reply, deskOf (t .served .service) c) ∷ seenBy c l) (seenBy c l)

@@ -1,0 +1,51 @@
+// The numbers of a service that is opened.
+use crate::rights::Service;
+use limits::read::octet_at;
+ghost use mathlib.Core.Path.{_≡_};
+ghost use mathlib.Core.List.{_++_};
+ghost use Prim.Native.Nat.{_≤_, _%_};
+ghost use lib.ListN.{length, getD, drop};
+ghost use Rattle.service_spec.specs.Opening.{places, opened};
+
+// The rights that are given to the caller at a place, from 0; missing ones are none.
+fn given_at(rights: &[u8], at: usize) -> u32
+    ensures { λ r. ⌜ r ≡ getD (now (rights .entry)) at 0 % 8 ⌝ }
+{
+    (octet_at(rights, at) % Service::RIGHTS) as u32
+}
+
+// The rights of all callers, and their numbers, all 0.
+pub fn opened_numbers(rights: &[u8]) -> [u32; Service::NUMBERS]
+    ensures { λ r. ⌜ r ≡ opened (now (rights .entry)) ⌝ }
+{
+    [
+        given_at(rights, 0),
+        given_at(rights, 1),
+        given_at(rights, 2),
+        given_at(rights, 3),
+        given_at(rights, 4),
+        given_at(rights, 5),
+        given_at(rights, 6),
+        given_at(rights, 7),
+        0,
+        0,
+        0,
+        0,
+        0,
+        0,
+        0,
+        0,
+    ]
+}
+
+// The numbers behind stay.
+pub fn write_service(v: [u32; Service::NUMBERS], service: &mut [u32])
+    requires { ⌜ places ≤ length (now service) ⌝ }
+    ensures { λ _. ⌜ now (service .exit) ≡ v ++ drop places (now (service .entry)) ⌝ }
+{
+    let mut i: usize = 0;
+    while i < Service::NUMBERS {
+        service[i] = v[i];
+        i += 1;
+    }
+}

@@ -1,0 +1,169 @@
+// Words of a truth table. The bit at place i of word w is row 64 * w + i.
+use formula::code::Code;
+ghost use mathlib.Core.Path.{_≡_};
+ghost use Prim.Native.Nat.{_^_, _≤_, _<_};
+ghost use lib.ListN.{getD, length};
+ghost use Rattle.tables_bits.specs.Bits.{patterns, wordOf, wordsOf, denyWord, denyWords, leafWord, leafWords, maskOf, noneSet};
+ghost use Rattle.tables_columns.specs.Column.{constant};
+
+pub struct Words {}
+
+impl Words {
+    // 1,024 rows: ten leaves.
+    pub const COUNT: usize = 16;
+
+    pub const ROWS: usize = 64;
+
+    pub const ALL: u64 = 0xFFFF_FFFF_FFFF_FFFF;
+}
+
+// A node's word from the words of its parts: one operation for 64 rows.
+pub fn combine_word(code: u8, operand: u8, a: u64, b: u64) -> u64
+    ensures { λ r. ⌜ r ≡ wordOf code operand a b ⌝ }
+{
+    match code {
+        Code::CONST => if operand == 1 { Words::ALL } else { 0 },
+        Code::NOT => a ^ Words::ALL,
+        Code::AND => a & b,
+        Code::OR => a | b,
+        Code::BOTH_A => a & b,
+        Code::EITHER_A => a | b,
+        Code::HOLDS => a,
+        _ => 0,
+    }
+}
+
+fn zip_words(code: u8, operand: u8, a: &mut [u64; Words::COUNT], b: &[u64; Words::COUNT])
+    requires { ⌜ length (now a) ≡ 16 ⌝ }
+    ensures { λ _. ⌜ now (a .exit) ≡ wordsOf code operand 16 (now (a .entry)) (now (b .entry)) ⌝ }
+{
+    let mut w: usize = 0;
+    while w < Words::COUNT {
+        a[w] = combine_word(code, operand, a[w], b[w]);
+        w += 1;
+    }
+}
+
+// A node's words from the words of its parts, in the place of the first's. (Each code is named in its call: the loop is made for it alone.)
+pub fn combine_words(code: u8, operand: u8, a: &mut [u64; Words::COUNT], b: &[u64; Words::COUNT])
+    requires { ⌜ length (now a) ≡ 16 ⌝ }
+    ensures { λ _. ⌜ now (a .exit) ≡ wordsOf code operand 16 (now (a .entry)) (now (b .entry)) ⌝ }
+{
+    match code {
+        Code::NOT => zip_words(Code::NOT, operand, a, b),
+        Code::AND => zip_words(Code::AND, operand, a, b),
+        Code::OR => zip_words(Code::OR, operand, a, b),
+        Code::BOTH_A => zip_words(Code::BOTH_A, operand, a, b),
+        Code::EITHER_A => zip_words(Code::EITHER_A, operand, a, b),
+        _ => zip_words(code, operand, a, b),
+    }
+}
+
+fn deny_word(a: u64, b: u64) -> u64
+    ensures { λ r. ⌜ r ≡ denyWord a b ⌝ }
+{
+    a & (b ^ Words::ALL)
+}
+
+// The rows that are in a and not in b.
+pub fn deny_words(a: &mut [u64; Words::COUNT], b: &[u64; Words::COUNT])
+    requires { ⌜ length (now a) ≡ 16 ⌝ }
+    ensures { λ _. ⌜ now (a .exit) ≡ denyWords 16 (now (a .entry)) (now (b .entry)) ⌝ }
+{
+    let mut w: usize = 0;
+    while w < Words::COUNT {
+        a[w] = deny_word(a[w], b[w]);
+        w += 1;
+    }
+}
+
+// The same word for all rows.
+pub fn fill_words(x: u64, out: &mut [u64; Words::COUNT])
+    requires { ⌜ length (now out) ≡ 16 ⌝ }
+    ensures { λ _. ⌜ now (out .exit) ≡ constant x 16 ⌝ }
+{
+    let mut w: usize = 0;
+    while w < Words::COUNT {
+        out[w] = x;
+        w += 1;
+    }
+}
+
+// The digits of the first six leaves in the rows of a word.
+fn first_word(j: usize) -> u64
+    requires { ⌜ j < 6 ⌝ }
+    ensures { λ r. ⌜ r ≡ getD patterns j 0 ⌝ }
+{
+    match j {
+        0 => 0xAAAA_AAAA_AAAA_AAAA,
+        1 => 0xCCCC_CCCC_CCCC_CCCC,
+        2 => 0xF0F0_F0F0_F0F0_F0F0,
+        3 => 0xFF00_FF00_FF00_FF00,
+        4 => 0xFFFF_0000_FFFF_0000,
+        _ => 0xFFFF_FFFF_0000_0000,
+    }
+}
+
+// A leaf's word: its digit in each of 64 rows. The first six leaves go through their values in each word, the others from word to word.
+fn leaf_word(j: usize, w: usize) -> u64
+    requires { ⌜ j < 64 ⌝ }
+    ensures { λ r. ⌜ r ≡ leafWord j w ⌝ }
+{
+    if j < 6 {
+        return first_word(j);
+    }
+    if (w >> (j - 6)) & 1 == 1 {
+        return Words::ALL;
+    }
+    0
+}
+
+pub fn leaf_words(j: usize, out: &mut [u64; Words::COUNT])
+    requires { ⌜ (j < 64) × (length (now out) ≡ 16) ⌝ }
+    ensures { λ _. ⌜ now (out .exit) ≡ leafWords j 16 ⌝ }
+{
+    let mut w: usize = 0;
+    while w < Words::COUNT {
+        out[w] = leaf_word(j, w);
+        w += 1;
+    }
+}
+
+// So many rows have k leaves.
+pub fn rows_of(k: usize) -> usize
+    requires { ⌜ k ≤ 10 ⌝ }
+    ensures { λ r. ⌜ (r ≡ 2 ^ k) × (r ≤ 1024) ⌝ }
+{
+    1 << k
+}
+
+// The rows of word w that are among the first n.
+pub fn mask_of(n: usize, w: usize) -> u64
+    requires { ⌜ (w < 16) × (n ≤ 1024) ⌝ }
+    ensures { λ r. ⌜ r ≡ maskOf n w ⌝ }
+{
+    let first = Words::ROWS * w;
+    if first + Words::ROWS <= n {
+        return Words::ALL;
+    }
+    if n <= first {
+        return 0;
+    }
+    (1 << (n - first)) - 1
+}
+
+// Whether none of the first n rows is set.
+pub fn none_set(a: &[u64; Words::COUNT], n: usize) -> bool
+    requires { ⌜ n ≤ 1024 ⌝ }
+    ensures { λ r. ⌜ r ≡ noneSet (now (a .entry)) n 16 ⌝ }
+{
+    let mut w: usize = 0;
+    while w < Words::COUNT {
+        if a[w] & mask_of(n, w) == 0 {
+            w += 1;
+        } else {
+            return false;
+        }
+    }
+    true
+}

@@ -1,0 +1,64 @@
+// How many rows there are: every choice for each leaf.
+use crate::slot::Slot;
+use crate::slot::Slots;
+use crate::slot::slot_at;
+use formula::code::Code;
+use formula::node::node_at;
+ghost use mathlib.Core.Path.{_≡_};
+ghost use Prim.Native.Nat.{_≤_};
+ghost use Rattle.tables_columns.specs.Slots.{slotTree};
+ghost use Rattle.tables_columns.specs.Count.{choicesBy, choicesT, capped, rowsUpTo};
+
+pub struct Flag {}
+
+impl Flag {
+    // True and false.
+    pub const CHOICES: u8 = 2;
+}
+
+pub fn choices_by(range: u8, code: usize) -> u8
+    ensures { λ r. ⌜ r ≡ choicesBy range code ⌝ }
+{
+    if code == Code::REG as usize {
+        return range;
+    }
+    if code == Code::WORD as usize {
+        return range;
+    }
+    Flag::CHOICES
+}
+
+// So many choices for a register or a word as there are values; two for any other leaf.
+pub fn choices(s: &[u8], range: u8, p: Slot) -> u8
+    ensures { λ r. ⌜ r ≡ choicesT range (slotTree (now (s .entry)) p) ⌝ }
+{
+    if p.left == 0 {
+        return choices_by(range, p.place);
+    }
+    choices_by(range, node_at(s, p.place).code as usize)
+}
+
+// The product, or the limit and 1 if it is above the limit.
+pub fn capped_product(n: u8, rows: u32, limit: u16) -> u32
+    ensures { λ r. ⌜ r ≡ capped limit n rows ⌝ }
+{
+    let product = (n as u64) * (rows as u64);
+    if (limit as u64) < product {
+        return (limit as u32) + 1;
+    }
+    product as u32
+}
+
+// The number of rows of the first n slots; the limit and 1 if it is above the limit.
+pub fn count_rows(s: &[u8], slots: &[usize; Slots::NUMBERS], n: usize, range: u8, limit: u16) -> u32
+    requires { ⌜ n ≤ 12 ⌝ }
+    ensures { λ r. ⌜ r ≡ rowsUpTo (now (s .entry)) (now (slots .entry)) range limit n ⌝ }
+{
+    let mut rows: u32 = 1;
+    let mut j: usize = 0;
+    while j < n {
+        rows = capped_product(choices(s, range, slot_at(slots, j)), rows, limit);
+        j += 1;
+    }
+    rows
+}

@@ -1,0 +1,56 @@
+// Runs of a value, and rows repeated.
+ghost use mathlib.Core.Path.{_≡_};
+ghost use mathlib.Core.List.{_++_};
+ghost use Prim.Native.Nat.{_+_, _≤_, _<_, min};
+ghost use lib.ListN.{length, take};
+ghost use Rattle.tables_columns.specs.Column.{constant};
+ghost use Rattle.tables_digits.specs.SlotColumn.{Widened};
+
+pub fn wide(x: u8) -> usize
+    ensures { λ r. ⌜ (r ≡ x) × (r < 256) ⌝ }
+{
+    x as usize
+}
+
+pub fn lesser(a: usize, b: usize) -> usize
+    ensures { λ r. ⌜ r ≡ min a b ⌝ }
+{
+    if a < b { a } else { b }
+}
+
+// A value behind the first rows, so many times.
+pub fn set_run(value: u8, from: usize, count: usize, out: &mut [u8])
+    requires { ⌜ from + count ≤ length (now out) ⌝ }
+    ensures { λ _. ⌜ take (from + count) (now (out .exit)) ≡ take from (now (out .entry)) ++ constant value count ⌝ }
+{
+    let mut i: usize = 0;
+    while i < count {
+        out[from + i] = value;
+        i += 1;
+    }
+}
+
+// The first rows once more, behind the first `from`.
+pub fn repeat_front(from: usize, count: usize, out: &mut [u8])
+    requires { ⌜ (count ≤ from) × (from + count ≤ length (now out)) ⌝ }
+    ensures { λ _. ⌜ take (from + count) (now (out .exit)) ≡ take from (now (out .entry)) ++ take count (now (out .entry)) ⌝ }
+{
+    let mut i: usize = 0;
+    while i < count {
+        out[from + i] = out[i];
+        i += 1;
+    }
+}
+
+// The first rows again and again, as far as n.
+pub fn widen(from: usize, n: usize, out: &mut [u8])
+    requires { ⌜ (from ≤ n) × ((min 1 n ≤ from) × (n ≤ length (now out))) ⌝ }
+    ensures { λ _. ⌜ Widened from n (now (out .entry)) n (now (out .exit)) ⌝ }
+{
+    let mut to = from;
+    while to < n {
+        let count = lesser(to, n - to);
+        repeat_front(to, count, out);
+        to += count;
+    }
+}

@@ -1,0 +1,40 @@
+-- By rows, and by truth table.
+use Prim.Native.Nat.{ℕ, _-_, _^_}
+use mathlib.Core.List.{List, [], _∷_}
+use mathlib.Core.Bool.{Bool, true, false, cond}
+use lib.Dec.{ltb}
+use Rattle.semantics.specs.Code
+use Rattle.semantics.specs.Code.{Code}
+use Rattle.semantics.specs.Limits
+use Rattle.limits.specs.Limits.{nesting}
+use Rattle.formula.specs.Codes.{setOf}
+use Rattle.formula.specs.Tree.{Tree}
+use Rattle.tables_bits.specs.TruthTable.{byLeaves}
+use Rattle.tables_rows.specs.Entailment.{ImpT, impOf, premisesFrom}
+use Rattle.tables_rows.specs.EveryRow.{everyT}
+use Rattle.tables_digits.specs.declared.value_column.Reading.{Reading}
+use Rattle.tables_rows.specs.declared.entailment.Task.{Task}
+use Rattle.tables_rows.specs.declared.by_rows.Implications.{Implications}
+
+-- by rows the leaves are names
+abbrev pub byNames : ℕ → Reading
+byNames R = record { leaves = setOf (Code.reg ∷ Code.word ∷ Code.unsync ∷ Code.cov ∷ []); range = R }
+
+-- wherever the left test is true the right one is, at every row, of which there are at most 4,096. (A range of one value or none has no
+-- rows to try)
+unfoldable pub rowsT : ℕ → Tree → Tree → Bool
+rowsT R u v = cond (ltb R 2) false (everyT (byNames R) Limits.rows [] (record { left = u; right = v }))
+
+-- the line is true in each row in which every premise is; ten leaves at most, so many rows
+unfoldable pub tableT : List ImpT → ImpT → Bool
+tableT ps c = everyT byLeaves (2 ^ Limits.leaves) ps c
+
+-- the line, and its premises
+abbrev pub taskOf : Implications → Task
+taskOf p = record { premises = p .count - 1; left = nesting; right = nesting }
+
+abbrev pub lineOf : List ℕ → Implications → ImpT
+lineOf s p = impOf s (p .left) (p .right) (taskOf p) 0
+
+abbrev pub premisesOf : List ℕ → Implications → List ImpT
+premisesOf s p = premisesFrom s (p .left) (p .right) (taskOf p) 0

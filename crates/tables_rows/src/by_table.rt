@@ -1,0 +1,106 @@
+// By truth table: the line and its premises as bits, their leaves gathered on the same walk.
+use crate::entailment::Task;
+use crate::entailment::number_at;
+use formula::code::Code;
+use limits::Limits;
+use tables_bits::bits::Words;
+use tables_bits::bits::combine_words;
+use tables_bits::bits::deny_words;
+use tables_bits::bits::none_set;
+use tables_bits::bits::rows_of;
+use tables_bits::truth_table::table_at;
+use tables_columns::slot::Slots;
+ghost use mathlib.Core.Path.{_≡_};
+ghost use Prim.Native.Nat.{_^_, _≤_};
+ghost use lib.ListN.{length};
+ghost use Rattle.tables_columns.specs.Gather.{view};
+ghost use Rattle.tables_digits.specs.Advance.{EveryOnce};
+ghost use Rattle.tables_bits.specs.TruthTable.{byLeaves, Grown};
+ghost use Rattle.tables_rows.specs.Entailment.{impOf, gatherImp, gatherAll};
+ghost use Rattle.tables_rows.specs.EveryRow.{lastsOf, triedRows, rowsHold, everyOf};
+ghost use Rattle.tables_rows.specs.ByTable.{ImpBits, FailBits};
+
+// The rows at which an implication fails, with its leaves; answers how many leaves there are.
+fn imp_bits(
+    s: &[u8],
+    lefts: &[usize],
+    rights: &[usize],
+    t: Task,
+    i: usize,
+    n: usize,
+    slots: &mut [usize; Slots::NUMBERS],
+    out: &mut [u64; Words::COUNT],
+) -> usize
+    requires { ⌜ (length (now slots) ≡ 36) × (length (now out) ≡ 16) ⌝ }
+    ensures { λ r. ⌜ view (now (s .entry)) r (now (slots .exit)) ≡ gatherImp (byLeaves .leaves)
+        (impOf (now (s .entry)) (now (lefts .entry)) (now (rights .entry)) t i) (view (now (s .entry)) n (now (slots .entry))) ⌝ }
+    ensures { λ r. ⌜ Grown n (now (slots .entry)) r (now (slots .exit)) (now (out .exit)) ⌝ }
+    ensures { λ r. ⌜ ImpBits (now (s .entry)) r (now (slots .exit)) (impOf (now (s .entry)) (now (lefts .entry)) (now (rights .entry)) t i)
+        (now (out .exit)) ⌝ }
+{
+    let mut b: [u64; Words::COUNT] = [0; Words::COUNT];
+    let m = table_at(s, number_at(rights, i), t.right, n, slots, &mut b);
+    let k = table_at(s, number_at(lefts, i), t.left, m, slots, out);
+    deny_words(out, &b);
+    k
+}
+
+// The rows at which the entailment fails, with its leaves: the line does, and every premise is true.
+fn all_bits(
+    s: &[u8],
+    lefts: &[usize],
+    rights: &[usize],
+    t: Task,
+    slots: &mut [usize; Slots::NUMBERS],
+    out: &mut [u64; Words::COUNT],
+) -> usize
+    requires { ⌜ (length (now slots) ≡ 36) × (length (now out) ≡ 16) ⌝ }
+    ensures { λ r. ⌜ view (now (s .entry)) r (now (slots .exit)) ≡ gatherAll (now (s .entry)) (now (lefts .entry)) (now (rights .entry)) t
+        (byLeaves .leaves) ⌝ }
+    ensures { λ r. ⌜ FailBits (now (s .entry)) (now (lefts .entry)) (now (rights .entry)) t r (now (slots .exit)) (now (out .exit)) ⌝ }
+{
+    let mut holds: [u64; Words::COUNT] = [Words::ALL; Words::COUNT];
+    let mut n: usize = 0;
+    let mut i = t.premises;
+    while 0 < i {
+        let mut fails: [u64; Words::COUNT] = [0; Words::COUNT];
+        n = imp_bits(s, lefts, rights, t, i, n, slots, &mut fails);
+        deny_words(&mut holds, &fails);
+        i -= 1;
+    }
+    let k = imp_bits(s, lefts, rights, t, 0, n, slots, out);
+    combine_words(Code::AND, 0, out, &holds);
+    k
+}
+
+// Whether the entailment fails at no row: every choice for the first k slots is tried exactly once, and no other row.
+fn bits_hold(
+    s: &[u8],
+    lefts: &[usize],
+    rights: &[usize],
+    t: Task,
+    slots: &[usize; Slots::NUMBERS],
+    k: usize,
+    fails: &[u64; Words::COUNT],
+) -> bool
+    requires { ⌜ k ≤ 10 ⌝ }
+    requires { ⌜ FailBits (now s) (now lefts) (now rights) t k (now slots) (now fails) ⌝ }
+    ensures { λ r. ⌜ r ≡ rowsHold (now (s .entry)) (now (lefts .entry)) (now (rights .entry)) t byLeaves (now (slots .entry)) k (2 ^ k) ⌝ }
+    ensures once { λ _. ⌜ EveryOnce (lastsOf (now (s .entry)) (now (slots .entry)) 2 k)
+        (triedRows (now (s .entry)) (now (slots .entry)) 2 k (2 ^ k)) ⌝ }
+{
+    none_set(fails, rows_of(k))
+}
+
+// Whether there are ten leaves at most, and the line is true in each row in which every premise is.
+pub fn by_bits(s: &[u8], lefts: &[usize], rights: &[usize], t: Task) -> bool
+    ensures { λ r. ⌜ r ≡ everyOf (now (s .entry)) (now (lefts .entry)) (now (rights .entry)) t byLeaves 1024 ⌝ }
+{
+    let mut slots: [usize; Slots::NUMBERS] = [0; Slots::NUMBERS];
+    let mut fails: [u64; Words::COUNT] = [0; Words::COUNT];
+    let k = all_bits(s, lefts, rights, t, &mut slots, &mut fails);
+    if Limits::LEAVES < k {
+        return false;
+    }
+    bits_hold(s, lefts, rights, t, &slots, k, &fails)
+}

@@ -1,0 +1,92 @@
+// Implications at each row, by the values of their sides.
+use tables_columns::column::and_not;
+use tables_columns::gather::gather_at;
+use tables_columns::slot::Slots;
+use tables_digits::value_column::Reading;
+use tables_digits::value_column::whole_column;
+ghost use mathlib.Core.Path.{_≡_};
+ghost use Prim.Native.Nat.{_≤_};
+ghost use lib.ListN.{getD, length, take};
+ghost use Rattle.tables_columns.specs.Gather.{view};
+ghost use Rattle.tables_rows.specs.Entailment.{impOf, impFails, gatherImp, gatherAll};
+
+pub struct Sizes {}
+
+impl Sizes {
+    // A line and its premises.
+    pub const IMPLICATIONS: usize = 5;
+}
+
+// How many premises stand behind the line, and how deep the left and the right sides are nested at most.
+pub struct Task {
+    pub premises: usize,
+    pub left: usize,
+    pub right: usize,
+}
+
+// 0 past the end.
+pub fn number_at(l: &[usize], i: usize) -> usize
+    ensures { λ r. ⌜ r ≡ getD (now (l .entry)) i 0 ⌝ }
+{
+    if i < l.len() { l[i] } else { 0 }
+}
+
+// The rows at which an implication fails: 1 there, 0 elsewhere. (Room for one more column is lent.)
+pub fn imp_fails(
+    s: &[u8],
+    lefts: &[usize],
+    rights: &[usize],
+    t: Task,
+    i: usize,
+    w: Reading,
+    slots: &[usize; Slots::NUMBERS],
+    lasts: &[u8; Slots::COUNT],
+    n: usize,
+    out: &mut [u8],
+    room: &mut [u8],
+)
+    requires { ⌜ (n ≤ 4096) × ((n ≤ length (now out)) × (n ≤ length (now room))) ⌝ }
+    ensures { λ _. ⌜ take n (now (out .exit)) ≡ impFails (now (s .entry)) w (now (slots .entry)) (now (lasts .entry)) n
+        (impOf (now (s .entry)) (now (lefts .entry)) (now (rights .entry)) t i) ⌝ }
+{
+    whole_column(s, number_at(lefts, i), t.left, w, slots, lasts, n, out);
+    whole_column(s, number_at(rights, i), t.right, w, slots, lasts, n, room);
+    and_not(n, out, room);
+}
+
+// With the leaves of an implication.
+pub fn gather_imp(
+    s: &[u8],
+    lefts: &[usize],
+    rights: &[usize],
+    t: Task,
+    i: usize,
+    set: u32,
+    n: usize,
+    slots: &mut [usize; Slots::NUMBERS],
+) -> usize
+    requires { ⌜ length (now slots) ≡ 36 ⌝ }
+    ensures { λ r. ⌜ view (now (s .entry)) r (now (slots .exit)) ≡ gatherImp set
+        (impOf (now (s .entry)) (now (lefts .entry)) (now (rights .entry)) t i) (view (now (s .entry)) n (now (slots .entry))) ⌝ }
+    ensures { λ _. ⌜ length (now (slots .exit)) ≡ 36 ⌝ }
+{
+    let m = gather_at(s, number_at(rights, i), t.right, set, n, slots);
+    gather_at(s, number_at(lefts, i), t.left, set, m, slots)
+}
+
+// The leaves of a line without premises.
+pub fn gather_line(
+    s: &[u8],
+    lefts: &[usize],
+    rights: &[usize],
+    t: Task,
+    set: u32,
+    slots: &mut [usize; Slots::NUMBERS],
+) -> usize
+    requires { ⌜ (length (now slots) ≡ 36) × (t .premises ≡ 0) ⌝ }
+    ensures { λ r. ⌜ view (now (s .entry)) r (now (slots .exit))
+        ≡ gatherAll (now (s .entry)) (now (lefts .entry)) (now (rights .entry)) t set
+        ⌝ }
+{
+    gather_imp(s, lefts, rights, t, 0, set, 0, slots)
+}

@@ -1,0 +1,160 @@
+// Every row tried, from all zeros on: of an implication without premises.
+use crate::entailment::Task;
+use crate::entailment::gather_line;
+use crate::entailment::imp_fails;
+use tables_columns::block::Block;
+use tables_columns::column::none_below;
+use tables_columns::count::choices;
+use tables_columns::count::count_rows;
+use tables_columns::slot::Slots;
+use tables_columns::slot::slot_at;
+use tables_digits::value_column::Reading;
+ghost use mathlib.Core.Path.{_≡_};
+ghost use Prim.Native.Nat.{_-_, _≤_};
+ghost use lib.ListN.{length, replicate};
+ghost use Rattle.tables_digits.specs.Advance.{rowsOf, EveryOnce};
+ghost use Rattle.tables_rows.specs.EveryRow.{lastsOf, triedRows, holdFrom, rowsHold, everyOf};
+
+fn last_of(choices: u8) -> u8
+    ensures { λ r. ⌜ r ≡ choices - 1 ⌝ }
+{
+    if choices == 0 {
+        return 0;
+    }
+    choices - 1
+}
+
+// The last values of the first k slots; the others are 0.
+pub fn fill_lasts(
+    s: &[u8],
+    range: u8,
+    slots: &[usize; Slots::NUMBERS],
+    k: usize,
+    lasts: &mut [u8; Slots::COUNT],
+)
+    requires { ⌜ (k ≤ 12) × (now lasts ≡ replicate 12 0) ⌝ }
+    ensures { λ _. ⌜ now (lasts .exit) ≡ lastsOf (now (s .entry)) (now (slots .entry)) range k ⌝ }
+{
+    let mut j: usize = 0;
+    while j < k {
+        lasts[j] = last_of(choices(s, range, slot_at(slots, j)));
+        j += 1;
+    }
+}
+
+// Whether the implication fails at none of the rows from all zeros on.
+fn none_fails(
+    s: &[u8],
+    lefts: &[usize],
+    rights: &[usize],
+    t: Task,
+    w: Reading,
+    slots: &[usize; Slots::NUMBERS],
+    lasts: &[u8; Slots::COUNT],
+    n: usize,
+    fails: &mut [u8],
+    room: &mut [u8],
+) -> bool
+    requires { ⌜ (n ≤ 4096) × ((n ≤ length (now fails)) × (n ≤ length (now room))) ⌝ }
+    requires { ⌜ t .premises ≡ 0 ⌝ }
+    ensures { λ r. ⌜ r
+        ≡ holdFrom (now (s .entry)) (now (lefts .entry)) (now (rights .entry)) t w (now (slots .entry)) (now (lasts .entry)) n
+        ⌝ }
+{
+    imp_fails(s, lefts, rights, t, 0, w, slots, lasts, n, fails, room);
+    none_below(fails, n)
+}
+
+// The same, with room for as many rows as there are.
+fn try_rows(
+    s: &[u8],
+    lefts: &[usize],
+    rights: &[usize],
+    t: Task,
+    w: Reading,
+    slots: &[usize; Slots::NUMBERS],
+    lasts: &[u8; Slots::COUNT],
+    n: usize,
+) -> bool
+    requires { ⌜ (n ≤ 4096) × (t .premises ≡ 0) ⌝ }
+    ensures { λ r. ⌜ r
+        ≡ holdFrom (now (s .entry)) (now (lefts .entry)) (now (rights .entry)) t w (now (slots .entry)) (now (lasts .entry)) n
+        ⌝ }
+{
+    if n <= Block::FEW {
+        let mut fails: [u8; Block::FEW] = [0; Block::FEW];
+        let mut room: [u8; Block::FEW] = [0; Block::FEW];
+        return none_fails(
+            s,
+            lefts,
+            rights,
+            t,
+            w,
+            slots,
+            lasts,
+            n,
+            &mut fails,
+            &mut room,
+        );
+    }
+    let mut fails: [u8; Block::ROWS] = [0; Block::ROWS];
+    let mut room: [u8; Block::ROWS] = [0; Block::ROWS];
+    none_fails(
+        s,
+        lefts,
+        rights,
+        t,
+        w,
+        slots,
+        lasts,
+        n,
+        &mut fails,
+        &mut room,
+    )
+}
+
+// Whether the implication holds at each row: every choice for the first k slots is tried exactly once, and no other row.
+pub fn rows_hold(
+    s: &[u8],
+    lefts: &[usize],
+    rights: &[usize],
+    t: Task,
+    w: Reading,
+    slots: &[usize; Slots::NUMBERS],
+    k: usize,
+    rows: usize,
+) -> bool
+    requires { ⌜ (k ≤ 12) × ((rows ≤ 4096) × (t .premises ≡ 0)) ⌝ }
+    requires { ⌜ rows ≡ rowsOf (lastsOf (now s) (now slots) (w .range) k) ⌝ }
+    ensures { λ r. ⌜ r ≡ rowsHold (now (s .entry)) (now (lefts .entry)) (now (rights .entry)) t w (now (slots .entry)) k rows ⌝ }
+    ensures once { λ _. ⌜ EveryOnce (lastsOf (now (s .entry)) (now (slots .entry)) (w .range) k)
+        (triedRows (now (s .entry)) (now (slots .entry)) (w .range) k rows) ⌝ }
+{
+    let mut lasts: [u8; Slots::COUNT] = [0; Slots::COUNT];
+    fill_lasts(s, w.range, slots, k, &mut lasts);
+    try_rows(s, lefts, rights, t, w, slots, &lasts, rows)
+}
+
+// Whether there are at most so many rows, and the implication holds at each.
+pub fn every_row(
+    s: &[u8],
+    lefts: &[usize],
+    rights: &[usize],
+    t: Task,
+    w: Reading,
+    limit: u16,
+) -> bool
+    requires { ⌜ (2 ≤ w .range) × ((limit ≤ 4096) × (t .premises ≡ 0)) ⌝ }
+    ensures { λ r. ⌜ r ≡ everyOf (now (s .entry)) (now (lefts .entry)) (now (rights .entry)) t w limit ⌝ }
+{
+    let mut slots: [usize; Slots::NUMBERS] = [0; Slots::NUMBERS];
+    let k = gather_line(s, lefts, rights, t, w.leaves, &mut slots);
+    if Slots::COUNT < k {
+        return false;
+    }
+    let rows = count_rows(s, &slots, k, w.range, limit);
+    if (limit as u32) < rows {
+        return false;
+    }
+    rows_hold(s, lefts, rights, t, w, &slots, k, rows as usize)
+}

@@ -1,0 +1,16 @@
+use Rattle.trim_encode.proofs.ByteBranches.{putting}
+use Rattle.limits.proofs.BranchTests.{tests}
+use borrow.Author.Needs.{needs}
+use Rattle.trim_encode.proofs.bytes.put_word.Statement.{statement}
+use Rattle.trim_encode.proofs.bytes.put_word.Tie as tie
+
+pub put-word-spec : {M : Type 1} → statement M
+put-word-spec =
+    tie.close
+    (tie.spec
+    (λ c. search needs)
+    (λ c κs. search needs)
+    (λ c. search needs)
+    (λ c κs. search needs)
+    (λ c. search needs)
+    (λ c. search (putting, tests)))

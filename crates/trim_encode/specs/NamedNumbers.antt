@@ -1,0 +1,41 @@
+-- What the loops over an image's records note, by its sizes and the bodies of its records.
+use mathlib.Core.Bool.{Bool, false, cond}
+use mathlib.Core.List.{List, [], _∷_, map}
+use Prim.Native.Nat.{ℕ, suc}
+use lib.ListN.{getD, drop}
+use Rattle.logic.specs.Obligations.{flat}
+use Rattle.image_header.specs.declared.sizes.Sizes.{Sizes}
+use Rattle.image_header.specs.Thread.{instructions}
+use Rattle.image_bodies.specs.Line.{premises}
+use Rattle.image_meaning.specs.Certificate.{left, right, lineBody}
+use Rattle.trim_spec.specs.Parse.{documentOf}
+use Rattle.trim_spec.specs.Live.{noted, chosen, instructionFormulas, lineFormulas}
+
+-- the formulas that the instructions of a thread's body name, from point p on
+unfoldable pub bodyFormulas : List ℕ → ℕ → List ℕ
+bodyFormulas b p = flat instructionFormulas (drop p (instructions b))
+
+-- the formulas that a line's body names
+unfoldable pub sidesOf : List ℕ → List ℕ
+sidesOf b = left b ∷ right b ∷ []
+
+module _ (z : Sizes) (l : List (List ℕ)) where
+  -- the lines that claims name
+  unfoldable pub claimLines : List ℕ
+  claimLines = map (λ c. c .line) (documentOf z l .claims)
+
+  -- the premises of line n have marks too, if it has one
+  unfoldable pub withPremises : ℕ → List Bool → List Bool
+  withPremises n m = cond (getD m n false) (noted m (premises (lineBody z l n))) m
+
+  -- the formulas that the threads behind thread t name
+  unfoldable pub threadFormulas : ℕ → List ℕ
+  threadFormulas t = flat (λ i. flat instructionFormulas i) (drop t (documentOf z l .threads))
+
+  -- the formulas that line n names, if it has one of the marks k
+  unfoldable pub markedSides : List Bool → ℕ → List ℕ
+  markedSides k n = cond (getD k n false) (sidesOf (lineBody z l n)) []
+
+  -- the formulas that the lines behind line n name, of those with one of the marks k
+  unfoldable pub markedFormulas : List Bool → ℕ → List ℕ
+  markedFormulas k n = flat lineFormulas (chosen (drop (suc n) k) (drop n (documentOf z l .lines)))

@@ -1,0 +1,57 @@
+// Bytes written to a buffer, from a position on; what stands before and behind them stays. Each function answers the position behind.
+ghost use mathlib.Core.Path.{_≡_};
+ghost use mathlib.Core.List.{[], _∷_, _++_};
+ghost use Prim.Native.Nat.{_+_, _-_, _≤_};
+ghost use lib.ListN.{length};
+ghost use Rattle.verdict_record.specs.Record.{two};
+ghost use Rattle.trim_encode.specs.Overwritten.{overwritten};
+
+pub fn put_byte(x: u8, out: &mut [u8], at: usize) -> usize
+    requires { ⌜ at + 1 ≤ length (now out) ⌝ }
+    ensures { λ r. ⌜ (now (out .exit) ≡ overwritten (now (out .entry)) at (x ∷ [])) × (r ≡ at + 1) ⌝ }
+{
+    out[at] = x;
+    at + 1
+}
+
+// A 16-bit number.
+pub fn put_word(n: usize, out: &mut [u8], at: usize) -> usize
+    requires { ⌜ at + 2 ≤ length (now out) ⌝ }
+    ensures { λ r. ⌜ (now (out .exit) ≡ overwritten (now (out .entry)) at (two n)) × (r ≡ at + 2) ⌝ }
+{
+    let next = put_byte((n % 256) as u8, out, at);
+    put_byte((n / 256 % 256) as u8, out, next)
+}
+
+// Three bytes and a 16-bit number.
+pub fn put_five(x: u8, y: u8, z: u8, n: usize, out: &mut [u8], at: usize) -> usize
+    requires { ⌜ at + 5 ≤ length (now out) ⌝ }
+    ensures { λ r. ⌜ (now (out .exit) ≡ overwritten (now (out .entry)) at (x ∷ y ∷ z ∷ two n)) × (r ≡ at + 5) ⌝ }
+{
+    let second = put_byte(x, out, at);
+    let third = put_byte(y, out, second);
+    let fourth = put_byte(z, out, third);
+    put_word(n, out, fourth)
+}
+
+pub fn put_bytes<'a, 'b>(b: &'a [u8], out: &'b mut [u8], at: usize) -> usize
+    requires { ⌜ at + length (now b) ≤ length (now out) ⌝ }
+    ensures { λ r. ⌜ (now (out .exit) ≡ overwritten (now (out .entry)) at (now (b .entry))) × (r ≡ at + length (now (b .entry))) ⌝ }
+{
+    let mut i: usize = 0;
+    while i < b.len() {
+        out[at + i] = b[i];
+        i += 1;
+    }
+    at + i
+}
+
+// In front of a body that stands behind it already: its length, which counts the kind too, and its kind. Answers where the body ends.
+pub fn put_frame(kind: usize, out: &mut [u8], at: usize, end: usize) -> usize
+    requires { ⌜ (at + 4 ≤ end) × (end ≤ length (now out)) ⌝ }
+    ensures { λ r. ⌜ (now (out .exit) ≡ overwritten (now (out .entry)) at (two (end - at - 2) ++ two kind)) × (r ≡ end) ⌝ }
+{
+    let next = put_word(end - at - 2, out, at);
+    put_word(kind, out, next);
+    end
+}

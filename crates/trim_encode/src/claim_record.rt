@@ -1,0 +1,32 @@
+// A claim, with its line renewed.
+use crate::bytes::put_byte;
+use crate::bytes::put_five;
+use crate::renumbered::new_number;
+use limits::read::octet_at;
+use limits::read::word_at;
+ghost use mathlib.Core.Path.{_≡_};
+ghost use Prim.Native.Nat.{_+_, _≤_};
+ghost use lib.ListN.{length};
+ghost use Rattle.trim_spec.specs.Encode.{claimBytes};
+ghost use Rattle.trim_spec.specs.Parse.{claimRecord};
+ghost use Rattle.trim_encode.specs.Overwritten.{overwritten};
+ghost use Rattle.trim_encode.specs.Renumbered.{renewedClaim};
+
+pub fn put_claim<'a, 'b, 'c>(g: &'a [usize], b: &'b [u8], out: &'c mut [u8], at: usize) -> usize
+    requires { ⌜ at + length (claimBytes (renewedClaim (now g) (claimRecord (now b)))) ≤ length (now out) ⌝ }
+    ensures { λ r. ⌜ now (out .exit)
+        ≡ overwritten (now (out .entry)) at (claimBytes (renewedClaim (now (g .entry)) (claimRecord (now (b .entry))))) ⌝ }
+    ensures { λ r. ⌜ r ≡ at + length (claimBytes (renewedClaim (now (g .entry)) (claimRecord (now (b .entry))))) ⌝ }
+{
+    let old = word_at(b, 4);
+    let line = new_number(g, old);
+    let next = put_byte(octet_at(b, 0), out, at);
+    put_five(
+        octet_at(b, 1),
+        octet_at(b, 2),
+        octet_at(b, 3),
+        line,
+        out,
+        next,
+    )
+}

@@ -1,0 +1,79 @@
+-- A document whose numbers fit the bytes that it has for them.
+use mathlib.Core.Path.{_≡_}
+use mathlib.Core.Bool.{false}
+use mathlib.Core.List.{List, []}
+use Prim.Native.Nat.{ℕ, _+_, _<_}
+use lib.ListN.{length, getD}
+use Rattle.image_header.specs.Instruction.{twofold, noHalf}
+use Rattle.image_header.specs.Thread.{nothing}
+use Rattle.image_header.specs.declared.instruction.Half.{Half}
+use Rattle.image_header.specs.declared.instruction.Instruction.{Instruction}
+use Rattle.trim_spec.specs.Document.{Document, LineRecord, ClaimRecord}
+
+-- one byte; two bytes
+abbrev pub Byte : ℕ → Type 0
+Byte n = n < 256
+
+abbrev pub Short : ℕ → Type 0
+Short n = n < 65536
+
+-- each member, by its place
+abbrev pub Each : {A : Type 0} → (A → Type 0) → A → List A → Type 0
+Each F d l = (i : ℕ) → i < length l → F (getD l i d)
+
+abbrev pub Bytes : List ℕ → Type 0
+Bytes l = Each Byte 0 l
+
+abbrev pub Shorts : List ℕ → Type 0
+Shorts l = Each Short 0 l
+
+pub record HalfFits (h : Half) : Type 0 where
+  pub operation : Byte (h .operation)
+  pub a : Byte (h .a)
+  pub b : Byte (h .b)
+  pub formula : Short (h .formula)
+
+-- without a second half, that is all 0
+pub record InstructionFits (i : Instruction) : Type 0 where
+  pub operation : Byte (i .operation)
+  pub a : Byte (i .a)
+  pub b : Byte (i .b)
+  pub formula : Short (i .formula)
+  pub second : HalfFits (i .second)
+  pub single : twofold (i .operation) ≡ false → i .second ≡ noHalf
+
+pub record ThreadFits (l : List Instruction) : Type 0 where
+  pub points : Byte (length l + 1)
+  pub each : Each InstructionFits nothing l
+
+pub record LineFits (v : LineRecord) : Type 0 where
+  pub rule : Byte (v .rule)
+  pub thread : Byte (v .thread)
+  pub point : Byte (v .point)
+  pub left : Short (v .left)
+  pub right : Short (v .right)
+  pub count : Byte (length (v .premises))
+  pub premises : Shorts (v .premises)
+
+pub record ClaimFits (c : ClaimRecord) : Type 0 where
+  pub thread : Byte (c .thread)
+  pub point : Byte (c .point)
+  pub other : Byte (c .other)
+  pub otherPoint : Byte (c .otherPoint)
+  pub line : Short (c .line)
+
+-- for a place that a list has not
+abbrev pub noLine : LineRecord
+noLine = record { rule = 0; thread = 0; point = 0; left = 0; right = 0; premises = [] }
+
+abbrev pub noClaim : ClaimRecord
+noClaim = record { thread = 0; point = 0; other = 0; otherPoint = 0; line = 0 }
+
+pub record Canonical (D : Document) : Type 0 where
+  pub header : Bytes (D .header)
+  pub formulas : Each Bytes [] (D .formulas)
+  pub threads : Each ThreadFits [] (D .threads)
+  pub outline : Shorts (D .outline)
+  pub lines : Each LineFits noLine (D .lines)
+  pub obligations : Shorts (D .obligations)
+  pub claims : Each ClaimFits noClaim (D .claims)

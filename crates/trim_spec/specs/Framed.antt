@@ -1,0 +1,46 @@
+-- The kinds of an image's records in their order, and records made of kinds and bodies.
+use mathlib.Core.List.{List, [], _∷_, _++_}
+use Prim.Native.Nat.{ℕ, _+_, _≤_}
+use lib.ListN.{length, replicate}
+use Rattle.limits.specs.Limits as Limits
+use Rattle.image_frames.specs.Kinds as Kinds
+use Rattle.trim_spec.specs.Document.{Document}
+use Rattle.trim_spec.specs.Encode.{Entry, entry}
+use Rattle.trim_spec.specs.Canonical.{Short}
+
+-- of an image with a formulas, b threads, n lines and m claims
+unfoldable pub kindsOf : ℕ → ℕ → ℕ → ℕ → List ℕ
+kindsOf a b n m =
+    Kinds.header
+    ∷ (replicate a Kinds.formula
+    ++ (replicate b Kinds.thread ++ (Kinds.outline ∷ (replicate n Kinds.line ++ (Kinds.obligations ∷ replicate m Kinds.claim)))))
+
+-- of a document
+abbrev pub kindsIn : Document → List ℕ
+kindsIn D = kindsOf (length (D .formulas)) (length (D .threads)) (length (D .lines)) (length (D .claims))
+
+-- of each as many as an image may have
+pub record Numbered (a b n m : ℕ) : Type 0 where
+  pub formula : 1 ≤ a
+  pub formulas : a ≤ Limits.formulas
+  pub thread : 1 ≤ b
+  pub threads : b ≤ Limits.threads
+  pub line : 1 ≤ n
+  pub lines : n ≤ Limits.lines
+  pub claims : m ≤ Limits.claims
+
+-- kinds and bodies put together, member by member
+unfoldable pub entered : List ℕ → List (List ℕ) → List Entry
+entered [] bs = []
+entered (k ∷ ks) [] = []
+entered (k ∷ ks) (b ∷ bs) = entry k b ∷ entered ks bs
+
+-- a body whose length, with that of its kind, is a number of two bytes
+abbrev pub Framable : List ℕ → Type 0
+Framable b = Short (length b + 2)
+
+abbrev pub kindOf : Entry → ℕ
+kindOf e = e .kind
+
+abbrev pub bodyOf : Entry → List ℕ
+bodyOf e = e .body

@@ -1,0 +1,48 @@
+-- Stored bills, and answers compared with them.
+use mathlib.Core.Bool.{Bool, _&&_, cond}
+use mathlib.Core.List.{List, [], _∷_}
+use Prim.Native.Nat.{ℕ, min}
+use lib.Dec.{eqb}
+use lib.ListN.{drop, replicate}
+use Rattle.limits.specs.Numbers.{word}
+use Rattle.bill_spec.specs.Output.{tariffOf}
+use Rattle.bill_spec.specs.declared.tariff.Tariff.{Tariff}
+use Rattle.vectors.specs.Number.{long}
+use Rattle.vectors.specs.Room.{holds}
+
+-- five prices of 16 bits
+unfoldable pub tariffAt : List ℕ → Tariff
+tariffAt s = tariffOf (word (drop 0 s)) (word (drop 2 s)) (word (drop 4 s)) (word (drop 6 s)) (word (drop 8 s))
+
+-- the number of images billed before
+unfoldable pub billedAt : List ℕ → ℕ
+billedAt s = long (drop 10 s)
+
+-- how many numbers there are to lend, and what stands in them
+abbrev pub most : ℕ
+most = 24
+
+abbrev pub blank : ℕ
+blank = 2863311530
+
+unfoldable pub room : List ℕ
+room = replicate most blank
+
+-- how many are lent
+unfoldable pub lentAt : List ℕ → ℕ
+lentAt s = min (long (drop 14 s)) most
+
+unfoldable pub codeAt : List ℕ → ℕ
+codeAt s = word (drop 18 s)
+
+-- cents, the number afterwards, the sums of threads
+unfoldable pub numbersAt : List ℕ → List ℕ
+numbersAt s = long (drop 20 s) ∷ long (drop 24 s) ∷ long (drop 28 s) ∷ long (drop 32 s) ∷ long (drop 36 s) ∷ long (drop 40 s) ∷ []
+
+-- with code 1 nothing is written
+unfoldable pub writtenAt : ℕ → List ℕ → List ℕ
+writtenAt code s = cond (eqb code 1) [] (numbersAt s)
+
+-- in the code, and in all of the room afterwards
+unfoldable pub sameAnswer : ℕ → List ℕ → List ℕ → Bool
+sameAnswer code after s = eqb code (codeAt s) && holds after (writtenAt code s) blank

@@ -1,0 +1,29 @@
+-- The tally of cases, judged one after the other.
+use mathlib.Core.Path.{_≡_}
+use mathlib.Core.Bool.{Bool, cond}
+use mathlib.Core.List.{List, [], _∷_}
+use Prim.Native.Nat.{ℕ, suc, _<_, _^_}
+use lib.ListN.{length}
+use Rattle.vectors.specs.Counters.{noCase, withCase}
+use Rattle.vectors.specs.declared.counters.Tally.{Tally}
+
+-- the kind of an answer, and whether it is the stored one
+pub record Case : Type 0 where
+  pub kind : ℕ
+  pub same : Bool
+
+-- of cases with the last first
+unfoldable pub tallied : List Case → Tally
+tallied [] = noCase
+tallied (c ∷ l) = withCase (tallied l) (c .kind) (c .same)
+
+-- how many of them differ
+unfoldable pub differing : List Case → ℕ
+differing [] = 0
+differing (c ∷ l) = cond (c .same) (differing l) (suc (differing l))
+
+-- a tally that comes from cases alone, so few that no count has wrapped
+pub record FromCases (t : Tally) : Type 0 where
+  pub judged : List Case
+  pub tells : t ≡ tallied judged
+  pub few : length judged < 2 ^ 64

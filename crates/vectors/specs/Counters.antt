@@ -1,0 +1,39 @@
+-- Answers counted.
+use mathlib.Core.Bool.{Bool, cond}
+use Prim.Native.Nat.{ℕ, _+_, _%_, _^_}
+use lib.Dec.{eqb, ltb}
+use lib.ListN.{getD, set, replicate}
+use Rattle.vectors.specs.declared.counters.Tally.{Tally}
+
+-- kinds from here on are not counted
+abbrev pub kinds-limit : ℕ
+kinds-limit = 64
+
+-- the next count, in 64 bits
+abbrev pub more : ℕ → ℕ
+more n = (n + 1) % 2 ^ 64
+
+unfoldable pub noCase : Tally
+noCase = record { cases = 0; kinds = replicate kinds-limit 0; differ = 0; first = 0 }
+
+-- one case more, with an answer of this kind
+unfoldable pub withKind : Tally → ℕ → Tally
+withKind t k =
+    record {
+      cases = more (t .cases);
+      kinds = cond (ltb k kinds-limit) (set (t .kinds) k (more (getD (t .kinds) k 0))) (t .kinds);
+      differ = t .differ;
+      first = t .first;
+    }
+
+-- the case counted last differs
+unfoldable pub withDifference : Tally → Tally
+withDifference t = record {
+  cases = t .cases;
+  kinds = t .kinds;
+  differ = more (t .differ);
+  first = cond (eqb (t .differ) 0) (t .cases) (t .first);
+}
+
+unfoldable pub withCase : Tally → ℕ → Bool → Tally
+withCase t k same = cond same (withKind t k) (withDifference (withKind t k))

@@ -1,0 +1,43 @@
+-- The parts of a case, in a row.
+use mathlib.Core.List.{List}
+use Prim.Native.Nat.{ℕ}
+use lib.ListN.{take, drop}
+use Rattle.vectors.specs.Number.{long}
+
+-- s: in front how many bytes each part has
+unfoldable pub firstIn : List ℕ → List ℕ → List ℕ
+firstIn s body = take (long (drop 0 s)) (drop 0 body)
+
+-- from the second part on; and so on for the others
+unfoldable pub secondOn : List ℕ → List ℕ → List ℕ
+secondOn s body = drop (long (drop 0 s)) body
+
+unfoldable pub secondIn : List ℕ → List ℕ → List ℕ
+secondIn s body = take (long (drop 4 s)) (drop 0 (secondOn s body))
+
+unfoldable pub thirdOn : List ℕ → List ℕ → List ℕ
+thirdOn s body = drop (long (drop 4 s)) (secondOn s body)
+
+unfoldable pub thirdIn : List ℕ → List ℕ → List ℕ
+thirdIn s body = take (long (drop 8 s)) (drop 0 (thirdOn s body))
+
+unfoldable pub fourthOn : List ℕ → List ℕ → List ℕ
+fourthOn s body = drop (long (drop 8 s)) (thirdOn s body)
+
+unfoldable pub fourthIn : List ℕ → List ℕ → List ℕ
+fourthIn s body = take (long (drop 12 s)) (drop 0 (fourthOn s body))
+
+unfoldable pub fifthOn : List ℕ → List ℕ → List ℕ
+fifthOn s body = drop (long (drop 12 s)) (fourthOn s body)
+
+unfoldable pub fifthIn : List ℕ → List ℕ → List ℕ
+fifthIn s body = take (long (drop 16 s)) (drop 0 (fifthOn s body))
+
+unfoldable pub sixthOn : List ℕ → List ℕ → List ℕ
+sixthOn s body = drop (long (drop 16 s)) (fifthOn s body)
+
+unfoldable pub sixthIn : List ℕ → List ℕ → List ℕ
+sixthIn s body = take (long (drop 20 s)) (drop 0 (sixthOn s body))
+
+unfoldable pub seventhOn : List ℕ → List ℕ → List ℕ
+seventhOn s body = drop (long (drop 20 s)) (sixthOn s body)

@@ -1,0 +1,61 @@
+-- What is stored of a turn at a service.
+use mathlib.Core.Bool.{cond}
+use mathlib.Core.List.{List}
+use Prim.Native.Nat.{ℕ, min}
+use lib.Dec.{eqb}
+use lib.ListN.{drop, replicate}
+use Rattle.limits.specs.Numbers.{word}
+use Rattle.bill_spec.specs.Output.{tariffOf}
+use Rattle.bill_spec.specs.declared.tariff.Tariff.{Tariff}
+use Rattle.vectors.specs.Number.{long}
+use Rattle.vectors.specs.declared.turn.Deed.{Deed}
+use Rattle.vectors.specs.declared.turn.Deed.the-variants.{Open, Set, Check, Trim, Bill, Handover, Replay, ReplayAcross, Other}
+
+-- what is done, by its number
+abbrev pub deedBy : ℕ → Deed
+deedBy n =
+    cond (eqb n 0) Open
+    (cond (eqb n 1) Set
+    (cond (eqb n 2) Check
+    (cond (eqb n 3) Trim (cond (eqb n 4) Bill (cond (eqb n 5) Handover (cond (eqb n 6) Replay (cond (eqb n 7) ReplayAcross Other)))))))
+
+unfoldable pub deedOf : List ℕ → Deed
+deedOf s = deedBy (word (drop 0 s))
+
+unfoldable pub callerAt : List ℕ → ℕ
+callerAt s = long (drop 2 s)
+
+-- from the lengths of the parts on that are read
+unfoldable pub lengthsAt : List ℕ → List ℕ
+lengthsAt s = drop 6 s
+
+-- the number that the host sets
+unfoldable pub setAt : List ℕ → ℕ
+setAt s = long (drop 30 s)
+
+-- how many bytes and numbers there are to lend, and what stands in them
+abbrev pub mostBytes : ℕ
+mostBytes = 64
+
+abbrev pub mostNumbers : ℕ
+mostNumbers = 24
+
+abbrev pub blank : ℕ
+blank = 170
+
+unfoldable pub bytes : List ℕ
+bytes = replicate mostBytes blank
+
+unfoldable pub numbers : List ℕ
+numbers = replicate mostNumbers 2863311530
+
+-- how many of them are lent
+unfoldable pub bytesAt : List ℕ → ℕ
+bytesAt s = min (long (drop 26 s)) mostBytes
+
+unfoldable pub numbersAt : List ℕ → ℕ
+numbersAt s = min (long (drop 30 s)) mostNumbers
+
+-- five prices of 16 bits
+unfoldable pub tariffAt : List ℕ → Tariff
+tariffAt s = tariffOf (word (drop 34 s)) (word (drop 36 s)) (word (drop 38 s)) (word (drop 40 s)) (word (drop 42 s))

@@ -1,0 +1,43 @@
+-- What a turn left, compared with what is stored of it.
+use mathlib.Core.Bool.{Bool, true, _&&_}
+use mathlib.Core.List.{List, [], _∷_}
+use Prim.Native.Nat.{ℕ}
+use lib.Dec.{eqb}
+use lib.ListN.{take, drop}
+use Rattle.limits.specs.Numbers.{word}
+use Rattle.vectors.specs.Number.{long}
+use Rattle.vectors.specs.Room.{holds}
+use Rattle.vectors.specs.Turn.{blank, mostBytes}
+
+-- numbers of 32 bits in a row
+unfoldable pub sameLongs : List ℕ → List ℕ → Bool
+sameLongs [] s = true
+sameLongs (n ∷ l) s = eqb n (long s) && sameLongs l (drop 4 s)
+
+-- the code, and the service afterwards
+unfoldable pub sameService : ℕ → List ℕ → List ℕ → Bool
+sameService code service s = eqb code (word (drop 44 s)) && sameLongs service (drop 50 s)
+
+-- all of the bytes, all of the numbers of which the front was lent
+unfoldable pub sameBytes : List ℕ → List ℕ → Bool
+sameBytes after s = holds after (take mostBytes (drop 210 s)) blank
+
+unfoldable pub sameNumbers : List ℕ → List ℕ → Bool
+sameNumbers after s = sameLongs after (drop 114 s)
+
+-- how many bytes were written, and all of them
+unfoldable pub sameWritten : ℕ → List ℕ → List ℕ → Bool
+sameWritten written after s = eqb written (long (drop 46 s)) && sameBytes after s
+
+-- what a check, trimming, a bill and a replay left
+unfoldable pub sameVerdict : ℕ → List ℕ → List ℕ → List ℕ → Bool
+sameVerdict code service after s = sameService code service s && sameBytes after s
+
+unfoldable pub sameTrimmed : ℕ → List ℕ → ℕ → List ℕ → List ℕ → Bool
+sameTrimmed code service written after s = sameService code service s && sameWritten written after s
+
+unfoldable pub sameBill : ℕ → List ℕ → List ℕ → List ℕ → Bool
+sameBill code service after s = sameService code service s && sameNumbers after s
+
+unfoldable pub sameReplay : ℕ → List ℕ → List ℕ → List ℕ → List ℕ → Bool
+sameReplay code service after told s = sameService code service s && (sameBytes after s && sameNumbers told s)

@@ -1,0 +1,85 @@
+// Stored bills, and answers compared with them.
+use crate::number::long_at;
+use crate::room::holds_numbers;
+use bill_spec::numbers::Numbers;
+use bill_spec::tariff::Tariff;
+use limits::read::word_at;
+use verdict_record::output::Output;
+ghost use mathlib.Core.Path.{_≡_};
+ghost use Rattle.vectors.specs.BillAnswer.{tariffAt, billedAt, lentAt, codeAt, numbersAt, sameAnswer};
+
+pub struct Stored;
+
+impl Stored {
+    // Five prices of 16 bits; the number billed before and the numbers lent, 32 bits each; the code, 16 bits; the answer, six numbers
+    // of 32 bits.
+    pub const BYTES: usize = 44;
+}
+
+pub struct Room;
+
+impl Room {
+    // No case lends more.
+    pub const NUMBERS: usize = 24;
+
+    // What stands in the room before it is lent.
+    pub const BLANK: u32 = 2863311530;
+}
+
+pub fn tariff_at(s: &[u8]) -> Tariff
+    ensures { λ r. ⌜ r ≡ tariffAt (now (s .entry)) ⌝ }
+{
+    Tariff {
+        start: word_at(s, 0) as u16,
+        step: word_at(s, 2) as u16,
+        taken: word_at(s, 4) as u16,
+        interference: word_at(s, 6) as u16,
+        least: word_at(s, 8) as u16,
+    }
+}
+
+pub fn billed_at(s: &[u8]) -> u32
+    ensures { λ r. ⌜ r ≡ billedAt (now (s .entry)) ⌝ }
+{
+    long_at(s, 10) as u32
+}
+
+pub fn lent_at(s: &[u8]) -> usize
+    ensures { λ r. ⌜ r ≡ lentAt (now (s .entry)) ⌝ }
+{
+    let n = long_at(s, 14);
+    if Room::NUMBERS < n {
+        return Room::NUMBERS;
+    }
+    n
+}
+
+fn numbers_at(s: &[u8]) -> Numbers
+    ensures { λ r. ⌜ r .at ≡ numbersAt (now (s .entry)) ⌝ }
+{
+    Numbers {
+        at: [
+            long_at(s, 20) as u32,
+            long_at(s, 24) as u32,
+            long_at(s, 28) as u32,
+            long_at(s, 32) as u32,
+            long_at(s, 36) as u32,
+            long_at(s, 40) as u32,
+        ],
+    }
+}
+
+// The code, and all of the room.
+pub fn same_answer<'a, 'b>(code: u16, room: &'a [u32], s: &'b [u8]) -> bool
+    ensures { λ r. ⌜ r ≡ sameAnswer code (now (room .entry)) (now (s .entry)) ⌝ }
+{
+    if code as usize != word_at(s, 18) {
+        return false;
+    }
+    let n = numbers_at(s);
+    let at = n.at;
+    if code == Output::SHORT {
+        return holds_numbers(room, &at[..0], Room::BLANK);
+    }
+    holds_numbers(room, &at, Room::BLANK)
+}

@@ -1,0 +1,104 @@
+// Stored answers, code and numbers, and answers compared with them.
+use crate::number::long_at;
+use crate::room::holds_bytes;
+use limits::read::word_at;
+use replay_machine::answer::Answer;
+use verdict_record::output::Output;
+ghost use mathlib.Core.Path.{_≡_};
+ghost use Prim.Native.Nat.{_≤_, _<_};
+ghost use lib.Dec.{eqb};
+ghost use lib.ListN.{length, getD};
+ghost use Rattle.vectors.specs.Room.{holds};
+ghost use Rattle.vectors.specs.CallAnswer.{blankTable, blankNumbers, empty, lentAt, toldAt, sameAnswer};
+
+pub struct Room;
+
+impl Room {
+    // No case lends more.
+    pub const BYTES: usize = 736;
+
+    pub const NUMBERS: usize = 32;
+
+    // What stands in a table and in the place of numbers before they are lent.
+    pub const BLANK: u8 = 170;
+
+    pub const EMPTY: usize = 2863311530;
+}
+
+pub fn blank_table() -> [u8; Room::BYTES]
+    ensures { λ r. ⌜ r ≡ blankTable ⌝ }
+{
+    [Room::BLANK; Room::BYTES]
+}
+
+pub fn blank_numbers() -> [usize; Room::NUMBERS]
+    ensures { λ r. ⌜ r ≡ blankNumbers ⌝ }
+{
+    [Room::EMPTY; Room::NUMBERS]
+}
+
+// How many bytes or numbers are lent.
+pub fn lent_at(s: &[u8], at: usize, most: usize) -> usize
+    ensures { λ r. ⌜ r ≡ lentAt (now (s .entry)) at most ⌝ }
+{
+    let n = long_at(s, at);
+    if most < n {
+        return most;
+    }
+    n
+}
+
+// What belongs at a place of the numbers.
+fn told_number(code: u16, s: &[u8], i: usize) -> usize
+    ensures { λ r. ⌜ r ≡ getD (toldAt code (now (s .entry))) i empty ⌝ }
+{
+    if code == Output::SHORT {
+        return Room::EMPTY;
+    }
+    if Answer::SIZE <= i {
+        return Room::EMPTY;
+    }
+    long_at(s, 2 + 4 * i)
+}
+
+fn same_number<'a, 'b>(code: u16, room: &'a [usize], s: &'b [u8], i: usize) -> bool
+    requires { ⌜ i < length (now room) ⌝ }
+    ensures { λ r. ⌜ r ≡ eqb (getD (now (room .entry)) i 0) (getD (toldAt code (now (s .entry))) i empty) ⌝ }
+{
+    room[i] == told_number(code, s, i)
+}
+
+fn same_numbers<'a, 'b>(code: u16, room: &'a [usize], s: &'b [u8]) -> bool
+    requires { ⌜ 21 ≤ length (now room) ⌝ }
+    ensures { λ r. ⌜ r ≡ holds (now (room .entry)) (toldAt code (now (s .entry))) empty ⌝ }
+{
+    let mut i: usize = 0;
+    while i < room.len() {
+        if same_number(code, room, s, i) {
+            i += 1;
+        } else {
+            return false;
+        }
+    }
+    true
+}
+
+// The code, all of the table and all of the numbers.
+pub fn same_answer<'a, 'b, 'c, 'd>(
+    code: u16,
+    table: &'a [u8],
+    numbers: &'b [usize],
+    s: &'c [u8],
+    entries: &'d [u8],
+) -> bool
+    requires { ⌜ 21 ≤ length (now numbers) ⌝ }
+    ensures { λ r. ⌜ r ≡ sameAnswer code (now (table .entry)) (now (numbers .entry)) (now (s .entry)) (now (entries .entry)) ⌝ }
+{
+    if code as usize != word_at(s, 0) {
+        return false;
+    }
+    if holds_bytes(table, entries, Room::BLANK) {
+        return same_numbers(code, numbers, s);
+    }
+    false
+}

@@ -1,0 +1,85 @@
+// Answers counted by their kind, and those that differ from the stored ones.
+use crate::end::End;
+ghost use mathlib.Core.Path.{_≡_};
+ghost use Rattle.vectors.specs.Counters.{more, noCase, withKind, withDifference, withCase};
+
+pub struct Tally {
+    pub cases: u64,
+    // How many answers there are of each kind.
+    pub kinds: [u64; Kind::LIMIT],
+    pub differ: u64,
+    // The number of the first case that differs, from 1; 0 where none does.
+    pub first: u64,
+}
+
+pub struct Kind;
+
+impl Kind {
+    // A kind that is as large or larger is not counted.
+    pub const LIMIT: usize = 64;
+}
+
+// The whole cases before the end. (An enum holds no array, so the tally stands beside it.)
+pub struct Judged {
+    pub end: End,
+    pub tally: Tally,
+}
+
+impl Judged {
+    // A proved loop has to end, and nothing says that a file does.
+    pub const MOST: u64 = 100000;
+}
+
+// One more. No file has so many cases that this wraps; a plain sum would want a proof of that.
+pub fn more_than(n: u64) -> u64
+    ensures { λ r. ⌜ r ≡ more n ⌝ }
+{
+    std::num::wrapping_add_u64(n, 1)
+}
+
+pub fn no_case() -> Tally
+    ensures { λ r. ⌜ r ≡ noCase ⌝ }
+{
+    Tally {
+        cases: 0,
+        kinds: [0; Kind::LIMIT],
+        differ: 0,
+        first: 0,
+    }
+}
+
+fn with_kind(t: Tally, kind: usize) -> Tally
+    ensures { λ r. ⌜ r ≡ withKind t kind ⌝ }
+{
+    let mut next = t;
+    next.cases = more_than(t.cases);
+    if Kind::LIMIT <= kind {
+        return next;
+    }
+    next.kinds[kind] = more_than(t.kinds[kind]);
+    next
+}
+
+// The case counted last differs.
+fn with_difference(t: Tally) -> Tally
+    ensures { λ r. ⌜ r ≡ withDifference t ⌝ }
+{
+    let mut next = t;
+    next.differ = more_than(t.differ);
+    if t.differ != 0 {
+        return next;
+    }
+    next.first = t.cases;
+    next
+}
+
+// The tally with one case more: the kind of its answer, and whether that is the stored answer.
+pub fn with_case(t: Tally, kind: usize, same: bool) -> Tally
+    ensures { λ r. ⌜ r ≡ withCase t kind same ⌝ }
+{
+    let counted = with_kind(t, kind);
+    if same {
+        return counted;
+    }
+    with_difference(counted)
+}

@@ -1,0 +1,23 @@
+// Numbers of 32 bits.
+use limits::read::word_at;
+ghost use mathlib.Core.Path.{_≡_};
+ghost use Prim.Native.Nat.{_<_, _^_};
+ghost use lib.ListN.{drop};
+ghost use Rattle.vectors.specs.Number.{long};
+
+struct Half;
+
+impl Half {
+    // How many numbers a half has.
+    pub const NUMBERS: usize = 65536;
+}
+
+// The 32-bit number at a position: its low half, then its high half.
+pub fn long_at(s: &[u8], at: usize) -> usize
+    ensures { λ r. ⌜ (r ≡ long (drop at (now (s .entry)))) × (r < 2 ^ 32) ⌝ }
+{
+    if s.len() <= at {
+        return 0;
+    }
+    word_at(s, at) + Half::NUMBERS * word_at(s, at + 2)
+}

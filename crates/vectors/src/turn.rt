@@ -1,0 +1,136 @@
+// What is stored of a turn at a service: what is done and by whom, what is lent, and what is left.
+use crate::number::long_at;
+use bill_spec::tariff::Tariff;
+use limits::read::rest;
+use limits::read::word_at;
+ghost use mathlib.Core.Path.{_≡_};
+ghost use Rattle.vectors.specs.Turn.{deedOf, callerAt, lengthsAt, setAt, bytesAt, numbersAt, tariffAt};
+
+pub struct Stored;
+
+impl Stored {
+    // `bench/README.md` says what stands where.
+    pub const BYTES: usize = 274;
+}
+
+pub struct Room;
+
+impl Room {
+    // No turn lends more, and so much is compared.
+    pub const BYTES: usize = 64;
+
+    pub const NUMBERS: usize = 24;
+
+    // What stands in the room before it is lent.
+    pub const BLANK: u8 = 170;
+
+    pub const BLANK_NUMBER: u32 = 2863311530;
+
+    pub const BLANK_WIDE: usize = 2863311530;
+}
+
+// What is done: the service is opened, a number is set by the host, or a call is made.
+pub enum Deed {
+    Open,
+    Set,
+    Check,
+    Trim,
+    Bill,
+    Handover,
+    Replay,
+    ReplayAcross,
+    Other,
+}
+
+// What turns are counted by.
+pub struct Number;
+
+impl Number {
+    pub const OPEN: usize = 0;
+
+    pub const SET: usize = 1;
+
+    pub const CHECK: usize = 2;
+
+    pub const TRIM: usize = 3;
+
+    pub const BILL: usize = 4;
+
+    pub const HANDOVER: usize = 5;
+
+    pub const REPLAY: usize = 6;
+
+    pub const REPLAY_ACROSS: usize = 7;
+
+    pub const OTHER: usize = 8;
+}
+
+pub fn deed_at(s: &[u8]) -> Deed
+    ensures { λ r. ⌜ r ≡ deedOf (now (s .entry)) ⌝ }
+{
+    match word_at(s, 0) {
+        0 => Deed::Open,
+        1 => Deed::Set,
+        2 => Deed::Check,
+        3 => Deed::Trim,
+        4 => Deed::Bill,
+        5 => Deed::Handover,
+        6 => Deed::Replay,
+        7 => Deed::ReplayAcross,
+        _ => Deed::Other,
+    }
+}
+
+pub fn caller_at(s: &[u8]) -> usize
+    ensures { λ r. ⌜ r ≡ callerAt (now (s .entry)) ⌝ }
+{
+    long_at(s, 2)
+}
+
+// From the lengths of the parts on that are read.
+pub fn lengths_at(s: &[u8]) -> &[u8]
+    ensures { λ r. ⌜ now r ≡ lengthsAt (now (s .entry)) ⌝ }
+{
+    rest(s, 6)
+}
+
+// The number that the host sets.
+pub fn set_at(s: &[u8]) -> u32
+    ensures { λ r. ⌜ r ≡ setAt (now (s .entry)) ⌝ }
+{
+    long_at(s, 30) as u32
+}
+
+// How many bytes are lent.
+pub fn bytes_at(s: &[u8]) -> usize
+    ensures { λ r. ⌜ r ≡ bytesAt (now (s .entry)) ⌝ }
+{
+    let n = long_at(s, 26);
+    if Room::BYTES < n {
+        return Room::BYTES;
+    }
+    n
+}
+
+// How many numbers are lent.
+pub fn numbers_at(s: &[u8]) -> usize
+    ensures { λ r. ⌜ r ≡ numbersAt (now (s .entry)) ⌝ }
+{
+    let n = long_at(s, 30);
+    if Room::NUMBERS < n {
+        return Room::NUMBERS;
+    }
+    n
+}
+
+pub fn tariff_at(s: &[u8]) -> Tariff
+    ensures { λ r. ⌜ r ≡ tariffAt (now (s .entry)) ⌝ }
+{
+    Tariff {
+        start: word_at(s, 34) as u16,
+        step: word_at(s, 36) as u16,
+        taken: word_at(s, 38) as u16,
+        interference: word_at(s, 40) as u16,
+        least: word_at(s, 42) as u16,
+    }
+}

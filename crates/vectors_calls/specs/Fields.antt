@@ -1,0 +1,34 @@
+-- Stored verdicts, and verdicts compared.
+use mathlib.Core.Bool.{Bool, _&&_}
+use mathlib.Core.List.{List}
+use Prim.Native.Nat.{ℕ}
+use lib.Dec.{eqb}
+use lib.ListN.{drop}
+use Rattle.limits.specs.Numbers.{word}
+use Rattle.verdict_record.specs.declared.verdict.Fields.{Fields}
+
+-- nine numbers of 16 bits
+unfoldable pub fieldsAt : List ℕ → Fields
+fieldsAt s =
+    record {
+      code = word (drop 0 s);
+      «record» = word (drop 2 s);
+      class = word (drop 4 s);
+      thread = word (drop 6 s);
+      point = word (drop 8 s);
+      «other_thread» = word (drop 10 s);
+      «other_point» = word (drop 12 s);
+      line = word (drop 14 s);
+      count = word (drop 16 s);
+    }
+
+-- from the class to the other point
+unfoldable pub samePlace : Fields → Fields → Bool
+samePlace a b =
+    eqb (a .class) (b .class) && (eqb (a .thread) (b .thread)
+    && (eqb (a .point) (b .point) && (eqb (a .«other_thread») (b .«other_thread») && eqb (a .«other_point») (b .«other_point»))))
+
+-- in all nine
+unfoldable pub sameFields : Fields → Fields → Bool
+sameFields a b = eqb (a .code) (b .code) && (eqb (a .«record») (b .«record»)
+    && (eqb (a .line) (b .line) && (eqb (a .count) (b .count) && samePlace a b)))

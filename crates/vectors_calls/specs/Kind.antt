@@ -1,0 +1,43 @@
+-- Which calls a file holds.
+use mathlib.Core.Bool.{Bool, cond}
+use mathlib.Core.List.{List, [], _∷_}
+use Prim.Native.Nat.{ℕ}
+use lib.ListN.{length, take}
+use Rattle.vectors.specs.Room.{holds}
+use Rattle.vectors_calls.specs.declared.kind.Kind.{Kind}
+use Rattle.vectors_calls.specs.declared.kind.Kind.the-variants.{Verdicts, Trims, Bills, Replays, Handovers, Across}
+
+unfoldable pub begins : List ℕ → List ℕ → Bool
+begins name word = holds (take (length word) name) word 0
+
+-- trim, bills, replay, handover, across
+abbrev pub trimWord : List ℕ
+trimWord = 116 ∷ 114 ∷ 105 ∷ 109 ∷ []
+
+abbrev pub billsWord : List ℕ
+billsWord = 98 ∷ 105 ∷ 108 ∷ 108 ∷ 115 ∷ []
+
+abbrev pub replayWord : List ℕ
+replayWord = 114 ∷ 101 ∷ 112 ∷ 108 ∷ 97 ∷ 121 ∷ []
+
+abbrev pub handoverWord : List ℕ
+handoverWord = 104 ∷ 97 ∷ 110 ∷ 100 ∷ 111 ∷ 118 ∷ 101 ∷ 114 ∷ []
+
+abbrev pub acrossWord : List ℕ
+acrossWord = 97 ∷ 99 ∷ 114 ∷ 111 ∷ 115 ∷ 115 ∷ []
+
+-- by the front of the file's name
+unfoldable pub kindOf : List ℕ → Kind
+kindOf name =
+    cond (begins name trimWord) Trims
+    (cond (begins name billsWord) Bills
+    (cond (begins name replayWord) Replays (cond (begins name handoverWord) Handovers (cond (begins name acrossWord) Across Verdicts))))
+
+-- how many bytes the tail of each case has
+unfoldable pub tailOf : Kind → ℕ
+tailOf Verdicts = 18
+tailOf Trims = 10
+tailOf Bills = 44
+tailOf Replays = 106
+tailOf Handovers = 10
+tailOf Across = 118

@@ -1,0 +1,38 @@
+// Stored bills: an image as the body, what it is billed by and its bill as the tail.
+use bill::into::bill_into;
+use vectors::bill_answer::Room;
+use vectors::bill_answer::billed_at;
+use vectors::bill_answer::lent_at;
+use vectors::bill_answer::same_answer;
+use vectors::bill_answer::tariff_at;
+use vectors::counters::Tally;
+use vectors::counters::with_case;
+ghost use mathlib.Core.Path.{_≡_};
+ghost use Rattle.bill_spec.specs.Promise.{Written};
+ghost use Rattle.vectors.specs.BillAnswer.{tariffAt, billedAt, room};
+ghost use Rattle.vectors_calls.specs.Judge.{Billed};
+
+// The call that is stored.
+fn bill_stored<'a, 'b, 'c>(image: &'a [u8], s: &'b [u8], answer: &'c mut [u32]) -> u16
+    ensures { λ r. ⌜ Written (now (image .entry)) (tariffAt (now (s .entry))) (billedAt (now (s .entry))) (now (answer .entry)) r
+        (now (answer .exit)) ⌝ }
+{
+    bill_into(image, tariff_at(s), billed_at(s), answer)
+}
+
+fn blank_room() -> [u32; Room::NUMBERS]
+    ensures { λ r. ⌜ r ≡ room ⌝ }
+{
+    [Room::BLANK; Room::NUMBERS]
+}
+
+// The tally with a bill more, by its code, and whether it is the stored one.
+pub fn with_bill<'a, 'b>(t: Tally, image: &'a [u8], s: &'b [u8]) -> Tally
+    ensures { λ r. ⌜ Billed (now (image .entry)) (now (s .entry)) t r ⌝ }
+{
+    let mut lent = blank_room();
+    let n = lent_at(s);
+    let code = bill_stored(image, s, &mut lent[..n]);
+    let same = same_answer(code, &lent, s);
+    with_case(t, code as usize, same)
+}

@@ -1,0 +1,58 @@
+// Stored replays across a handover: images, table of points, traces, given registers and entries as the body, lengths and answer as the
+// tail.
+use handover_replay::entry::replay_handover;
+use limits::read::rest;
+use vectors::call_answer::Room;
+use vectors::call_answer::blank_numbers;
+use vectors::call_answer::blank_table;
+use vectors::call_answer::lent_at;
+use vectors::call_answer::same_answer;
+use vectors::counters::Tally;
+use vectors::counters::with_case;
+use vectors::parts::fifth_in;
+use vectors::parts::first_in;
+use vectors::parts::fourth_in;
+use vectors::parts::second_in;
+use vectors::parts::seventh_on;
+use vectors::parts::sixth_in;
+use vectors::parts::third_in;
+ghost use Rattle.handover_replay.specs.Promise.{Written};
+ghost use Rattle.vectors.specs.Parts.{firstIn, secondIn, thirdIn, fourthIn, fifthIn, sixthIn};
+ghost use Rattle.vectors_calls.specs.Judge.{ReplayedAcross};
+
+// The call that is stored.
+fn across_stored<'a, 'b, 'c, 'd>(
+    body: &'a [u8],
+    s: &'b [u8],
+    table: &'c mut [u8],
+    answer: &'d mut [usize],
+) -> u16
+    ensures { λ r. ⌜ Written (firstIn (now (s .entry)) (now (body .entry))) (secondIn (now (s .entry)) (now (body .entry)))
+        (thirdIn (now (s .entry)) (now (body .entry))) (fourthIn (now (s .entry)) (now (body .entry)))
+        (fifthIn (now (s .entry)) (now (body .entry))) (sixthIn (now (s .entry)) (now (body .entry)))
+        (now (table .entry)) (now (answer .entry)) r (now (table .exit)) (now (answer .exit)) ⌝ }
+{
+    replay_handover(
+        first_in(body, s),
+        second_in(body, s),
+        third_in(body, s),
+        fourth_in(body, s),
+        fifth_in(body, s),
+        sixth_in(body, s),
+        table,
+        answer,
+    )
+}
+
+// The tally with a replay more, by its code, and whether it is the stored one.
+pub fn with_across<'a, 'b>(t: Tally, body: &'a [u8], s: &'b [u8]) -> Tally
+    ensures { λ r. ⌜ ReplayedAcross (now (body .entry)) (now (s .entry)) t r ⌝ }
+{
+    let mut table = blank_table();
+    let mut numbers = blank_numbers();
+    let n = lent_at(s, 24, Room::BYTES);
+    let m = lent_at(s, 28, Room::NUMBERS);
+    let code = across_stored(body, s, &mut table[..n], &mut numbers[..m]);
+    let same = same_answer(code, &table, &numbers, rest(s, 32), seventh_on(body, s));
+    with_case(t, code as usize, same)
+}

@@ -1,0 +1,34 @@
+// Stored handovers: both images and the table as the body, lengths and code as the tail.
+use handover::entry::check_handover;
+use limits::read::word_at;
+use vectors::counters::Tally;
+use vectors::counters::with_case;
+use vectors::parts::first_in;
+use vectors::parts::second_in;
+use vectors::parts::third_on;
+ghost use mathlib.Core.Path.{_≡_};
+ghost use Rattle.handover_spec.specs.Promise.{Promise};
+ghost use Rattle.vectors.specs.Parts.{firstIn, secondIn, thirdOn};
+ghost use Rattle.vectors_calls.specs.Judge.{sameCode, HandedOver};
+
+// The call that is stored.
+fn code_of_stored<'a, 'b>(body: &'a [u8], s: &'b [u8]) -> u16
+    ensures { λ r. ⌜ Promise (firstIn (now (s .entry)) (now (body .entry))) (secondIn (now (s .entry)) (now (body .entry)))
+        (thirdOn (now (s .entry)) (now (body .entry))) r ⌝ }
+{
+    check_handover(first_in(body, s), second_in(body, s), third_on(body, s))
+}
+
+fn same_code(code: u16, s: &[u8]) -> bool
+    ensures { λ r. ⌜ r ≡ sameCode code (now (s .entry)) ⌝ }
+{
+    code as usize == word_at(s, 8)
+}
+
+// The tally with a handover more, by its code, and whether that is the stored one.
+pub fn with_handover<'a, 'b>(t: Tally, body: &'a [u8], s: &'b [u8]) -> Tally
+    ensures { λ r. ⌜ HandedOver (now (body .entry)) (now (s .entry)) t r ⌝ }
+{
+    let code = code_of_stored(body, s);
+    with_case(t, code as usize, same_code(code, s))
+}

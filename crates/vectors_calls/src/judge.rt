@@ -1,0 +1,59 @@
+// The cases of a file.
+use crate::bills::with_bill;
+use crate::handover_replays::with_across;
+use crate::handovers::with_handover;
+use crate::kind::Kind;
+use crate::kind::Tail;
+use crate::kind::tail_of;
+use crate::replays::with_replay;
+use crate::trims::with_trimmed;
+use crate::verdicts::with_verdict;
+use vectors::case::Next;
+use vectors::case::read_case;
+use vectors::counters::Judged;
+use vectors::counters::Tally;
+use vectors::counters::no_case;
+use vectors::end::End;
+use vectors::space::space_for_body;
+ghost use Rattle.vectors.specs.CasesCounted.{FromCases};
+ghost use Rattle.vectors_calls.specs.Judge.{Counted};
+
+// The tally with a call more, by the code answered, and whether the answer is the stored one.
+fn with_call<'a, 'b>(kind: Kind, t: Tally, body: &'a [u8], s: &'b [u8]) -> Tally
+    ensures { λ r. ⌜ Counted kind (now (body .entry)) (now (s .entry)) t r ⌝ }
+{
+    match kind {
+        Kind::Verdicts => with_verdict(t, body, s),
+        Kind::Trims => with_trimmed(t, body, s),
+        Kind::Bills => with_bill(t, body, s),
+        Kind::Replays => with_replay(t, body, s),
+        Kind::Handovers => with_handover(t, body, s),
+        Kind::Across => with_across(t, body, s),
+    }
+}
+
+pub fn judge_all(fd: i32, kind: Kind) -> Judged
+    ensures { λ r. ⌜ FromCases (r .tally) ⌝ }
+{
+    let mut space = space_for_body();
+    let mut stored = [0u8; Tail::MOST];
+    let tail = tail_of(kind);
+    let mut tally = no_case();
+    // One more shows that there are too many.
+    let mut left = Judged::MOST + 1;
+    while 0 < left {
+        match read_case(fd, &mut space, &mut stored[..tail]) {
+            Next::Case(n) => {
+                tally = with_call(kind, tally, &space[..n], &stored[..tail]);
+                left -= 1;
+            }
+            Next::Over(end) => {
+                return Judged { end, tally };
+            }
+        }
+    }
+    Judged {
+        end: End::Many,
+        tally,
+    }
+}

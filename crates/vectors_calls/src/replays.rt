@@ -1,0 +1,50 @@
+// Stored replays: image, trace, given registers and entries as the body, lengths and answer as the tail.
+use limits::read::rest;
+use replay::entry::replay_trace;
+use vectors::call_answer::Room;
+use vectors::call_answer::blank_numbers;
+use vectors::call_answer::blank_table;
+use vectors::call_answer::lent_at;
+use vectors::call_answer::same_answer;
+use vectors::counters::Tally;
+use vectors::counters::with_case;
+use vectors::parts::first_in;
+use vectors::parts::fourth_on;
+use vectors::parts::second_in;
+use vectors::parts::third_in;
+ghost use Rattle.replay_spec.specs.Promise.{Written};
+ghost use Rattle.vectors.specs.Parts.{firstIn, secondIn, thirdIn};
+ghost use Rattle.vectors_calls.specs.Judge.{Replayed};
+
+// The call that is stored.
+fn replay_stored<'a, 'b, 'c, 'd>(
+    body: &'a [u8],
+    s: &'b [u8],
+    table: &'c mut [u8],
+    answer: &'d mut [usize],
+) -> u16
+    ensures { λ r. ⌜ Written (firstIn (now (s .entry)) (now (body .entry))) (secondIn (now (s .entry)) (now (body .entry)))
+        (thirdIn (now (s .entry)) (now (body .entry))) (now (table .entry)) (now (answer .entry)) r
+        (now (table .exit)) (now (answer .exit)) ⌝ }
+{
+    replay_trace(
+        first_in(body, s),
+        second_in(body, s),
+        third_in(body, s),
+        table,
+        answer,
+    )
+}
+
+// The tally with a replay more, by its code, and whether it is the stored one.
+pub fn with_replay<'a, 'b>(t: Tally, body: &'a [u8], s: &'b [u8]) -> Tally
+    ensures { λ r. ⌜ Replayed (now (body .entry)) (now (s .entry)) t r ⌝ }
+{
+    let mut table = blank_table();
+    let mut numbers = blank_numbers();
+    let n = lent_at(s, 12, Room::BYTES);
+    let m = lent_at(s, 16, Room::NUMBERS);
+    let code = replay_stored(body, s, &mut table[..n], &mut numbers[..m]);
+    let same = same_answer(code, &table, &numbers, rest(s, 20), fourth_on(body, s));
+    with_case(t, code as usize, same)
+}

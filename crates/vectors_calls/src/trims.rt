@@ -1,0 +1,33 @@
+// Stored trimmed images: an image and what it is trimmed to as the body, lengths and code as the tail.
+use limits::read::rest;
+use trim::entry::trim_image;
+use vectors::counters::Tally;
+use vectors::counters::with_case;
+use vectors::parts::first_in;
+use vectors::parts::second_on;
+use vectors::trim_answer::Room;
+use vectors::trim_answer::lent_at;
+use vectors::trim_answer::same_answer;
+ghost use mathlib.Core.Path.{_≡_};
+ghost use Rattle.vectors.specs.TrimAnswer.{room};
+ghost use Rattle.vectors_calls.specs.Judge.{Trimmed};
+
+fn blank_room() -> [u8; Room::BYTES]
+    ensures { λ r. ⌜ r ≡ room ⌝ }
+{
+    [Room::BLANK; Room::BYTES]
+}
+
+// The tally with a trimmed image more, by its code, and whether it is the stored one.
+pub fn with_trimmed<'a, 'b>(t: Tally, body: &'a [u8], s: &'b [u8]) -> Tally
+    ensures { λ r. ⌜ Trimmed (now (body .entry)) (now (s .entry)) t r ⌝ }
+{
+    let mut lent = blank_room();
+    let stored = rest(s, 4);
+    let n = lent_at(stored);
+    // No image is so long.
+    let mut written = Room::BYTES;
+    let code = trim_image(first_in(body, s), &mut lent[..n], &mut written);
+    let same = same_answer(code, written, &lent, stored, second_on(body, s));
+    with_case(t, code as usize, same)
+}

@@ -1,0 +1,18 @@
+// Stored verdicts: an image as the body, the nine fields of its verdict as the tail.
+use crate::fields::fields_at;
+use crate::fields::same_fields;
+use checker::judge::judge;
+use vectors::counters::Tally;
+use vectors::counters::with_case;
+use verdict_record::verdict::fields_of;
+ghost use mathlib.Core.Path.{_≡_};
+ghost use Rattle.vectors_calls.specs.Judge.{withVerdict};
+
+// The tally with a verdict more, by its code, and whether it is the stored one.
+pub fn with_verdict<'a, 'b>(t: Tally, image: &'a [u8], s: &'b [u8]) -> Tally
+    ensures { λ r. ⌜ r ≡ withVerdict t (now (image .entry)) (now (s .entry)) ⌝ }
+{
+    let f = fields_of(judge(image));
+    let same = same_fields(f, fields_at(s));
+    with_case(t, f.code as usize, same)
+}

@@ -1,0 +1,169 @@
+// The turns of a file, each on the service that the one before has left: what is read as the body, all else as the tail.
+use crate::replays::with_across;
+use crate::replays::with_handover;
+use crate::replays::with_replay;
+use limits::Limits;
+use service::entry::serve_bill;
+use service::entry::serve_check;
+use service::entry::serve_trim;
+use service::open::open_service;
+use service_spec::rights::Service;
+use vectors::case::Next;
+use vectors::case::read_case;
+use vectors::counters::Judged;
+use vectors::counters::Tally;
+use vectors::counters::no_case;
+use vectors::counters::with_case;
+use vectors::end::End;
+use vectors::space::space_for_body;
+use vectors::turn::Deed;
+use vectors::turn::Number;
+use vectors::turn::Stored;
+use vectors::turn::bytes_at;
+use vectors::turn::caller_at;
+use vectors::turn::deed_at;
+use vectors::turn::numbers_at;
+use vectors::turn::set_at;
+use vectors::turn::tariff_at;
+use vectors::turn_room::blank_bytes;
+use vectors::turn_room::blank_numbers;
+use vectors::turn_same::same_bill;
+use vectors::turn_same::same_service;
+use vectors::turn_same::same_trimmed;
+use vectors::turn_same::same_verdict;
+ghost use mathlib.Core.Path.{_≡_};
+ghost use Rattle.service_spec.specs.Promise.{BillServed};
+ghost use Rattle.vectors.specs.CasesCounted.{FromCases};
+ghost use Rattle.vectors.specs.Turn.{callerAt, tariffAt};
+ghost use Rattle.vectors_service.specs.Judge.{numberSet, Opened, Changed, Checked, Trimmed, Billed, Counted};
+
+// The host sets the number of a caller.
+fn set_number(service: &mut [u32], caller: usize, number: u32)
+    ensures { λ _. ⌜ now (service .exit) ≡ numberSet (now (service .entry)) caller number ⌝ }
+{
+    if Service::CALLERS < caller {
+        return;
+    }
+    let at = 7 + caller;
+    if service.len() <= at {
+        return;
+    }
+    service[at] = number;
+}
+
+fn with_opened<'a, 'b, 'c>(t: Tally, service: &'a mut [u32], rights: &'b [u8], s: &'c [u8]) -> Tally
+    ensures { λ r. ⌜ Opened (now (service .entry)) (now (rights .entry)) (now (s .entry)) t (now (service .exit)) r ⌝ }
+{
+    let code = open_service(rights, service);
+    let same = same_service(code, service, s);
+    with_case(t, Number::OPEN, same)
+}
+
+fn with_set<'a, 'b>(t: Tally, service: &'a mut [u32], s: &'b [u8]) -> Tally
+    ensures { λ r. ⌜ Changed (now (service .entry)) (now (s .entry)) t (now (service .exit)) r ⌝ }
+{
+    set_number(service, caller_at(s), set_at(s));
+    let same = same_service(0, service, s);
+    with_case(t, Number::SET, same)
+}
+
+fn with_checked<'a, 'b, 'c>(t: Tally, service: &'a [u32], image: &'b [u8], s: &'c [u8]) -> Tally
+    ensures { λ r. ⌜ Checked (now (service .entry)) (now (image .entry)) (now (s .entry)) t r ⌝ }
+{
+    let mut room = blank_bytes();
+    let n = bytes_at(s);
+    let code = serve_check(service, caller_at(s), image, &mut room[..n]);
+    let same = same_verdict(code, service, &room, s);
+    with_case(t, Number::CHECK, same)
+}
+
+fn with_trimmed<'a, 'b, 'c>(t: Tally, service: &'a [u32], image: &'b [u8], s: &'c [u8]) -> Tally
+    ensures { λ r. ⌜ Trimmed (now (service .entry)) (now (image .entry)) (now (s .entry)) t r ⌝ }
+{
+    let mut room = blank_bytes();
+    let n = bytes_at(s);
+    // No image is so long.
+    let mut written = Limits::IMAGE_BYTES + 1;
+    let code = serve_trim(service, caller_at(s), image, &mut room[..n], &mut written);
+    let same = same_trimmed(code, service, written, &room, s);
+    with_case(t, Number::TRIM, same)
+}
+
+// The bill that is stored.
+fn bill_stored<'a, 'b, 'c, 'd>(
+    service: &'a mut [u32],
+    image: &'b [u8],
+    s: &'c [u8],
+    answer: &'d mut [u32],
+) -> u16
+    ensures { λ r. ⌜ BillServed (now (service .entry)) (callerAt (now (s .entry))) (now (image .entry)) (tariffAt (now (s .entry)))
+        (now (answer .entry)) (now (service .exit)) r (now (answer .exit)) ⌝ }
+{
+    let f = tariff_at(s);
+    let caller = caller_at(s);
+    serve_bill(
+        service,
+        caller,
+        image,
+        f.start,
+        f.step,
+        f.taken,
+        f.interference,
+        f.least,
+        answer,
+    )
+}
+
+fn with_billed<'a, 'b, 'c>(t: Tally, service: &'a mut [u32], image: &'b [u8], s: &'c [u8]) -> Tally
+    ensures { λ r. ⌜ Billed (now (service .entry)) (now (image .entry)) (now (s .entry)) t (now (service .exit)) r ⌝ }
+{
+    let mut room = blank_numbers();
+    let n = numbers_at(s);
+    let code = bill_stored(service, image, s, &mut room[..n]);
+    let same = same_bill(code, service, &room, s);
+    with_case(t, Number::BILL, same)
+}
+
+// The tally with a turn more, by what is done, and whether it leaves what is stored.
+fn with_turn<'a, 'b, 'c>(t: Tally, service: &'a mut [u32], body: &'b [u8], s: &'c [u8]) -> Tally
+    ensures { λ r. ⌜ Counted (now (service .entry)) (now (body .entry)) (now (s .entry)) t (now (service .exit)) r ⌝ }
+{
+    match deed_at(s) {
+        Deed::Open => with_opened(t, service, body, s),
+        Deed::Set => with_set(t, service, s),
+        Deed::Check => with_checked(t, service, body, s),
+        Deed::Trim => with_trimmed(t, service, body, s),
+        Deed::Bill => with_billed(t, service, body, s),
+        Deed::Handover => with_handover(t, service, body, s),
+        Deed::Replay => with_replay(t, service, body, s),
+        Deed::ReplayAcross => with_across(t, service, body, s),
+        Deed::Other => with_case(t, Number::OTHER, false),
+    }
+}
+
+// Before the first turn nobody has a right.
+pub fn judge_all(fd: i32) -> Judged
+    ensures { λ r. ⌜ FromCases (r .tally) ⌝ }
+{
+    let mut space = space_for_body();
+    let mut stored = [0u8; Stored::BYTES];
+    let mut service = [0u32; Service::NUMBERS];
+    let mut tally = no_case();
+    // One more shows that there are too many.
+    let mut left = Judged::MOST + 1;
+    while 0 < left {
+        match read_case(fd, &mut space, &mut stored) {
+            Next::Case(n) => {
+                tally = with_turn(tally, &mut service, &space[..n], &stored);
+                left -= 1;
+            }
+            Next::Over(end) => {
+                return Judged { end, tally };
+            }
+        }
+    }
+    Judged {
+        end: End::Many,
+        tally,
+    }
+}

@@ -1,0 +1,128 @@
+// Turns that take several parts: a handover, a replay, a replay across a handover.
+use service::entry::serve_handover;
+use service::entry::serve_replay;
+use service::entry::serve_replay_handover;
+use vectors::counters::Tally;
+use vectors::counters::with_case;
+use vectors::parts::fifth_in;
+use vectors::parts::first_in;
+use vectors::parts::fourth_in;
+use vectors::parts::second_in;
+use vectors::parts::sixth_on;
+use vectors::parts::third_in;
+use vectors::turn::Number;
+use vectors::turn::bytes_at;
+use vectors::turn::caller_at;
+use vectors::turn::lengths_at;
+use vectors::turn::numbers_at;
+use vectors::turn_room::blank_bytes;
+use vectors::turn_room::blank_wide;
+use vectors::turn_same::same_replay;
+use vectors::turn_same::same_service;
+ghost use Rattle.service_spec.specs.Promise.{HandoverServed, ReplayServed, AcrossServed};
+ghost use Rattle.vectors.specs.Parts.{firstIn, secondIn, thirdIn, fourthIn, fifthIn, sixthOn};
+ghost use Rattle.vectors.specs.Turn.{callerAt, lengthsAt};
+ghost use Rattle.vectors_service.specs.Judge.{HandedOver, Replayed, ReplayedAcross};
+
+// The handover that is stored.
+fn handover_stored<'a, 'b, 'c>(service: &'a [u32], body: &'b [u8], s: &'c [u8]) -> u16
+    ensures { λ r. ⌜ HandoverServed (now (service .entry)) (callerAt (now (s .entry)))
+        (firstIn (lengthsAt (now (s .entry))) (now (body .entry)))
+        (secondIn (lengthsAt (now (s .entry))) (now (body .entry))) (thirdIn (lengthsAt (now (s .entry))) (now (body .entry))) r ⌝ }
+{
+    let n = lengths_at(s);
+    serve_handover(
+        service,
+        caller_at(s),
+        first_in(body, n),
+        second_in(body, n),
+        third_in(body, n),
+    )
+}
+
+pub fn with_handover<'a, 'b, 'c>(t: Tally, service: &'a [u32], body: &'b [u8], s: &'c [u8]) -> Tally
+    ensures { λ r. ⌜ HandedOver (now (service .entry)) (now (body .entry)) (now (s .entry)) t r ⌝ }
+{
+    let code = handover_stored(service, body, s);
+    let same = same_service(code, service, s);
+    with_case(t, Number::HANDOVER, same)
+}
+
+// The replay that is stored.
+fn replay_stored<'a, 'b, 'c, 'd, 'e>(
+    service: &'a [u32],
+    body: &'b [u8],
+    s: &'c [u8],
+    table: &'d mut [u8],
+    answer: &'e mut [usize],
+) -> u16
+    ensures { λ r. ⌜ ReplayServed (now (service .entry)) (callerAt (now (s .entry)))
+        (firstIn (lengthsAt (now (s .entry))) (now (body .entry)))
+        (secondIn (lengthsAt (now (s .entry))) (now (body .entry))) (thirdIn (lengthsAt (now (s .entry))) (now (body .entry)))
+        (now (table .entry)) (now (answer .entry)) r (now (table .exit)) (now (answer .exit)) ⌝ }
+{
+    let n = lengths_at(s);
+    serve_replay(
+        service,
+        caller_at(s),
+        first_in(body, n),
+        second_in(body, n),
+        third_in(body, n),
+        table,
+        answer,
+    )
+}
+
+pub fn with_replay<'a, 'b, 'c>(t: Tally, service: &'a [u32], body: &'b [u8], s: &'c [u8]) -> Tally
+    ensures { λ r. ⌜ Replayed (now (service .entry)) (now (body .entry)) (now (s .entry)) t r ⌝ }
+{
+    let mut table = blank_bytes();
+    let mut room = blank_wide();
+    let n = bytes_at(s);
+    let m = numbers_at(s);
+    let code = replay_stored(service, body, s, &mut table[..n], &mut room[..m]);
+    let same = same_replay(code, service, &table, &room, s);
+    with_case(t, Number::REPLAY, same)
+}
+
+// The replay across a handover that is stored.
+fn across_stored<'a, 'b, 'c, 'd, 'e>(
+    service: &'a [u32],
+    body: &'b [u8],
+    s: &'c [u8],
+    table: &'d mut [u8],
+    answer: &'e mut [usize],
+) -> u16
+    ensures { λ r. ⌜ AcrossServed (now (service .entry)) (callerAt (now (s .entry)))
+        (firstIn (lengthsAt (now (s .entry))) (now (body .entry)))
+        (secondIn (lengthsAt (now (s .entry))) (now (body .entry))) (thirdIn (lengthsAt (now (s .entry))) (now (body .entry)))
+        (fourthIn (lengthsAt (now (s .entry))) (now (body .entry))) (fifthIn (lengthsAt (now (s .entry))) (now (body .entry)))
+        (sixthOn (lengthsAt (now (s .entry))) (now (body .entry)))
+        (now (table .entry)) (now (answer .entry)) r (now (table .exit)) (now (answer .exit)) ⌝ }
+{
+    let n = lengths_at(s);
+    serve_replay_handover(
+        service,
+        caller_at(s),
+        first_in(body, n),
+        second_in(body, n),
+        third_in(body, n),
+        fourth_in(body, n),
+        fifth_in(body, n),
+        sixth_on(body, n),
+        table,
+        answer,
+    )
+}
+
+pub fn with_across<'a, 'b, 'c>(t: Tally, service: &'a [u32], body: &'b [u8], s: &'c [u8]) -> Tally
+    ensures { λ r. ⌜ ReplayedAcross (now (service .entry)) (now (body .entry)) (now (s .entry)) t r ⌝ }
+{
+    let mut table = blank_bytes();
+    let mut room = blank_wide();
+    let n = bytes_at(s);
+    let m = numbers_at(s);
+    let code = across_stored(service, body, s, &mut table[..n], &mut room[..m]);
+    let same = same_replay(code, service, &table, &room, s);
+    with_case(t, Number::REPLAY_ACROSS, same)
+}

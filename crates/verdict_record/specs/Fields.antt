@@ -1,0 +1,32 @@
+-- The nine numbers of a verdict.
+use Prim.Native.Nat.{ℕ}
+use Rattle.image_frames.specs.Fault.{codeOf}
+use Rattle.verdict_record.specs.ObligationPlace.{placeOf}
+use Rattle.verdict_record.specs.declared.obligation.Place.{Place}
+use Rattle.verdict_record.specs.declared.verdict.Verdict.{Verdict}
+use Rattle.verdict_record.specs.declared.verdict.Verdict.the-variants.{Accepted, Refused, Failed, Denied}
+use Rattle.verdict_record.specs.declared.verdict.Fields.{Fields}
+
+-- of a verdict that names no obligation
+abbrev pub nowhere : Place
+nowhere = record { class = 0; thread = 0; point = 0; «other_thread» = 0; «other_point» = 0 }
+
+unfoldable pub gathered : ℕ → ℕ → Place → ℕ → ℕ → Fields
+gathered c i p l n =
+    record {
+      code = c;
+      «record» = i;
+      class = p .class;
+      thread = p .thread;
+      point = p .point;
+      «other_thread» = p .«other_thread»;
+      «other_point» = p .«other_point»;
+      line = l;
+      count = n;
+    }
+
+unfoldable pub fieldsOf : Verdict → Fields
+fieldsOf (Accepted n) = gathered 0 0 nowhere 0 n
+fieldsOf (Refused f i) = gathered (codeOf f) i nowhere 0 0
+fieldsOf (Failed o c l n) = gathered c 0 (placeOf o) l n
+fieldsOf (Denied i p l n) = gathered 26 i p l n

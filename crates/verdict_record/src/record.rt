@@ -1,0 +1,50 @@
+// The record of a verdict.
+use crate::verdict::Fields;
+ghost use mathlib.Core.Path.{_≡_};
+ghost use Rattle.verdict_record.specs.Record.{recordBytes};
+
+pub struct VerdictRecord;
+
+impl VerdictRecord {
+    pub const SIZE: usize = 22;
+
+    // What the length field counts: all that follows it.
+    pub const LENGTH: u8 = 20;
+
+    pub const KIND: u8 = 7;
+}
+
+pub struct Record {
+    pub bytes: [u8; VerdictRecord::SIZE],
+}
+
+pub fn record_of(f: Fields) -> Record
+    ensures { λ r. ⌜ r .bytes ≡ recordBytes f ⌝ }
+{
+    Record {
+        bytes: [
+            VerdictRecord::LENGTH,
+            0,
+            VerdictRecord::KIND,
+            0,
+            (f.code % 256) as u8,
+            (f.code / 256 % 256) as u8,
+            (f.record % 256) as u8,
+            (f.record / 256 % 256) as u8,
+            (f.class % 256) as u8,
+            (f.class / 256 % 256) as u8,
+            (f.thread % 256) as u8,
+            (f.thread / 256 % 256) as u8,
+            (f.point % 256) as u8,
+            (f.point / 256 % 256) as u8,
+            (f.other_thread % 256) as u8,
+            (f.other_thread / 256 % 256) as u8,
+            (f.other_point % 256) as u8,
+            (f.other_point / 256 % 256) as u8,
+            (f.line % 256) as u8,
+            (f.line / 256 % 256) as u8,
+            (f.count % 256) as u8,
+            (f.count / 256 % 256) as u8,
+        ],
+    }
+}
