@@ -12,11 +12,11 @@ ghost use Rattle.image_index.specs.IndexTable.{tableSize, indexOf};
 ghost use Rattle.checker_spec.specs.Acceptance.{grantedBy, acceptance};
 
 // By the verdict on sound bytes.
-fn granted_by(v: Verdict, z: Sizes) -> Acceptance
-    ensures { λ r. ⌜ r ≡ grantedBy z v ⌝ }
+fn granted_by(verdict: Verdict, sizes: Sizes) -> Acceptance
+    ensures { λ r. ⌜ r ≡ grantedBy sizes verdict ⌝ }
 {
-    match v {
-        Verdict::Accepted { count } => Acceptance::Granted(z),
+    match verdict {
+        Verdict::Accepted { count } => Acceptance::Granted(sizes),
         Verdict::Refused { fault, record } => Acceptance::Declined,
         Verdict::Failed {
             what,

@@ -24,58 +24,64 @@ ghost use Rattle.rules_justified.specs.Marks.{asMarks};
 ghost use Prim.Native.Nat.{_<_};
 
 // A claim is of no class of obligations.
-fn points_of(c: Claimed) -> Place
-    ensures { λ r. ⌜ r ≡ pointsOf c ⌝ }
+fn points_of(claim: Claimed) -> Place
+    ensures { λ r. ⌜ r ≡ pointsOf claim ⌝ }
 {
     Place {
         class: 0,
-        thread: c.thread as usize,
-        point: c.point as usize,
-        other_thread: c.other as usize,
-        other_point: c.other_point as usize,
+        thread: claim.thread as usize,
+        point: claim.point as usize,
+        other_thread: claim.other as usize,
+        other_point: claim.other_point as usize,
     }
 }
 
 // Claim i fails, behind so many obligations.
-fn deny<'a, 'b>(s: &'a [u8], ix: &'b [usize], z: Sizes, i: usize, count: usize) -> Verdict
-    requires { ⌜ (now ix ≡ indexOf (now s)) × (i < 65536) ⌝ }
-    ensures { λ r. ⌜ r ≡ deniedAt (now (s .entry)) z i count ⌝ }
+fn deny<'a, 'b>(
+    image: &'a [u8],
+    index: &'b [usize],
+    sizes: Sizes,
+    i: usize,
+    count: usize,
+) -> Verdict
+    requires { ⌜ (now index ≡ indexOf (now image)) × (i < 65536) ⌝ }
+    ensures { λ r. ⌜ r ≡ deniedAt (now (image .entry)) sizes i count ⌝ }
 {
-    let c = claim_of(s, ix, z, i);
+    let claim = claim_of(image, index, sizes, i);
     Verdict::Denied {
-        record: claim_place(z, i),
-        place: points_of(c),
-        line: c.line,
+        record: claim_place(sizes, i),
+        place: points_of(claim),
+        line: claim.line,
         count,
     }
 }
 
 // The claims, behind so many obligations, all met.
 fn judge_claims<'a, 'b, 'c>(
-    s: &'a [u8],
-    ix: &'b [usize],
-    z: Sizes,
-    m: &'c [bool],
+    image: &'a [u8],
+    index: &'b [usize],
+    sizes: Sizes,
+    marks: &'c [bool],
     count: usize,
 ) -> Verdict
-    requires { ⌜ now ix ≡ indexOf (now s) ⌝ }
-    ensures { λ r. ⌜ r ≡ claimsVerdict (now (s .entry)) z (asMarks (now (m .entry))) count ⌝ }
+    requires { ⌜ now index ≡ indexOf (now image) ⌝ }
+    ensures { λ r. ⌜ r ≡ claimsVerdict (now (image .entry)) sizes (asMarks (now (marks .entry))) count ⌝ }
 {
-    let i = first_denied(s, ix, z, m);
-    if i == z.claims as usize {
+    let i = first_denied(image, index, sizes, marks);
+    if i == sizes.claims as usize {
         return Verdict::Accepted { count };
     }
-    deny(s, ix, z, i, count)
+    deny(image, index, sizes, i, count)
 }
 
 // On an image whose bytes are sound.
-pub fn judge_sound<'a, 'b>(s: &'a [u8], ix: &'b [usize], z: Sizes) -> Verdict
-    requires { ⌜ now ix ≡ indexOf (now s) ⌝ }
-    ensures { λ r. ⌜ r ≡ soundVerdict (now (s .entry)) z ⌝ }
+pub fn judge_sound<'a, 'b>(image: &'a [u8], index: &'b [usize], sizes: Sizes) -> Verdict
+    requires { ⌜ now index ≡ indexOf (now image) ⌝ }
+    ensures { λ r. ⌜ r ≡ soundVerdict (now (image .entry)) sizes ⌝ }
 {
-    let m = judge_lines(s, ix, z);
-    match judge_obligations(s, ix, z, &m.on) {
-        Outcome::Met(count) => judge_claims(s, ix, z, &m.on, count),
+    let marks = judge_lines(image, index, sizes);
+    match judge_obligations(image, index, sizes, &marks.on) {
+        Outcome::Met(count) => judge_claims(image, index, sizes, &marks.on, count),
         Outcome::Failed {
             what,
             code,

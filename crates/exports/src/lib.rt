@@ -38,13 +38,13 @@ pub extern "C" fn formula_answer(
         ⌜ r ≡ ofReading (readingOf (now (body .entry))
         (record { threads = threads; words = words; registers = registers; values = values })) ⌝ }
 {
-    let n = Counts {
+    let counts = Counts {
         threads,
         words,
         registers,
         values,
     };
-    match read_formula(body, n) {
+    match read_formula(body, counts) {
         Reading::Formula(sort) => past_faults(sort),
         Reading::Fault(fault) => fault,
     }

@@ -18,9 +18,9 @@ impl<'a> Cursor<'a> {
     }
 
     // The formula that the rest of the record is.
-    pub fn formula(self, n: Counts) -> Reading
-        ensures { λ r. ⌜ r ≡ readingFrom (now (self .entry .src)) n (self .entry .at) ⌝ }
+    pub fn formula(self, counts: Counts) -> Reading
+        ensures { λ r. ⌜ r ≡ readingFrom (now (self .entry .src)) counts (self .entry .at) ⌝ }
     {
-        read_record(self.src, self.at, n)
+        read_record(self.src, self.at, counts)
     }
 }

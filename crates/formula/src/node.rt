@@ -14,10 +14,10 @@ pub struct Node {
 }
 
 // Past the end, a leaf of no bytes.
-pub fn node_at(s: &[u8], at: usize) -> Node
-    ensures { λ r. ⌜ r ≡ nodeAt (now (s .entry)) at ⌝ }
+pub fn node_at(image: &[u8], at: usize) -> Node
+    ensures { λ r. ⌜ r ≡ nodeAt (now (image .entry)) at ⌝ }
 {
-    if s.len() <= at {
+    if image.len() <= at {
         return Node {
             code: 0,
             operand: 0,
@@ -25,11 +25,11 @@ pub fn node_at(s: &[u8], at: usize) -> Node
             next: at,
         };
     }
-    let code = s[at];
+    let code = image[at];
     if has_operand(code) {
         return Node {
             code,
-            operand: octet_at(s, at + 1),
+            operand: octet_at(image, at + 1),
             parts: parts(code),
             next: at + 2,
         };

@@ -33,48 +33,48 @@ impl Fault {
 }
 
 // Whether the operand of a code is in its range.
-pub fn in_range(n: Counts, code: u8, operand: u8) -> bool
-    ensures { λ r. ⌜ r ≡ inRange n code operand ⌝ }
+pub fn in_range(counts: Counts, code: u8, operand: u8) -> bool
+    ensures { λ r. ⌜ r ≡ inRange counts code operand ⌝ }
 {
     if code == Code::CONST {
-        return operand < n.values;
+        return operand < counts.values;
     }
     if operand == 0 {
         return false;
     }
     if code == Code::REG {
-        return operand <= n.registers;
+        return operand <= counts.registers;
     }
     if code == Code::SEES {
-        return operand <= n.threads;
+        return operand <= counts.threads;
     }
-    operand <= n.words
+    operand <= counts.words
 }
 
 // The position past the operand of a code, or its fault.
-pub fn read_operand(s: &[u8], at: usize, code: u8, n: Counts) -> usize
-    ensures { λ r. ⌜ r ≡ operandAnswer (now (s .entry)) n code at ⌝ }
+pub fn read_operand(image: &[u8], at: usize, code: u8, counts: Counts) -> usize
+    ensures { λ r. ⌜ r ≡ operandAnswer (now (image .entry)) counts code at ⌝ }
 {
-    if s.len() <= at {
+    if image.len() <= at {
         return Fault::MALFORMED;
     }
-    if in_range(n, code, s[at]) {
+    if in_range(counts, code, image[at]) {
         return at + Fault::PAST_BYTE;
     }
     Fault::RANGE
 }
 
 // The position past a node's own bytes, or their fault.
-pub fn read_head(s: &[u8], at: usize, place: u8, n: Counts) -> usize
-    ensures { λ r. ⌜ r ≡ headAnswer (now (s .entry)) n place at ⌝ }
+pub fn read_head(image: &[u8], at: usize, place: u8, counts: Counts) -> usize
+    ensures { λ r. ⌜ r ≡ headAnswer (now (image .entry)) counts place at ⌝ }
 {
-    if s.len() <= at {
+    if image.len() <= at {
         return Fault::MALFORMED;
     }
-    let code = s[at];
+    let code = image[at];
     if fits(code, place) {
         if has_operand(code) {
-            return read_operand(s, at + 1, code, n);
+            return read_operand(image, at + 1, code, counts);
         }
         return at + Fault::PAST_BYTE;
     }
@@ -82,30 +82,30 @@ pub fn read_head(s: &[u8], at: usize, place: u8, n: Counts) -> usize
 }
 
 // The position past the formula at a position, nested at most `left` deep, or its first fault.
-pub fn read_at(s: &[u8], at: usize, left: usize, place: u8, n: Counts) -> usize
-    ensures { λ r. ⌜ r ≡ readAnswer (now (s .entry)) n left place at ⌝ }
+pub fn read_at(image: &[u8], at: usize, left: usize, place: u8, counts: Counts) -> usize
+    ensures { λ r. ⌜ r ≡ readAnswer (now (image .entry)) counts left place at ⌝ }
 {
     if left == 0 {
         return Fault::MALFORMED;
     }
-    let head = read_head(s, at, place, n);
+    let head = read_head(image, at, place, counts);
     if head < Fault::LIMIT {
         return head;
     }
-    let code = s[at];
+    let code = image[at];
     let count = parts(code);
     if count == 0 {
         return head;
     }
     let inner = part_place(code, place);
     if count == 1 {
-        return read_at(s, head - Fault::LIMIT, left - 1, inner, n);
+        return read_at(image, head - Fault::LIMIT, left - 1, inner, counts);
     }
-    let first = read_at(s, head - Fault::LIMIT, left - 1, inner, n);
+    let first = read_at(image, head - Fault::LIMIT, left - 1, inner, counts);
     if first < Fault::LIMIT {
         return first;
     }
-    read_at(s, first - Fault::LIMIT, left - 1, inner, n)
+    read_at(image, first - Fault::LIMIT, left - 1, inner, counts)
 }
 
 // What a record's body is: a formula, with its sort (a place), or a fault.
@@ -115,14 +115,14 @@ pub enum Reading {
 }
 
 // From a position on.
-pub fn read_record(body: &[u8], at: usize, n: Counts) -> Reading
-    ensures { λ r. ⌜ r ≡ readingFrom (now (body .entry)) n at ⌝ }
+pub fn read_record(body: &[u8], at: usize, counts: Counts) -> Reading
+    ensures { λ r. ⌜ r ≡ readingFrom (now (body .entry)) counts at ⌝ }
 {
     if body.len() <= at {
         return Reading::Fault(Fault::MALFORMED);
     }
     let sort = body[at] / Code::PER_SORT;
-    let end = read_at(body, at, Limits::NESTING, sort, n);
+    let end = read_at(body, at, Limits::NESTING, sort, counts);
     if end < Fault::LIMIT {
         return Reading::Fault(end);
     }
@@ -133,8 +133,8 @@ pub fn read_record(body: &[u8], at: usize, n: Counts) -> Reading
 }
 
 // The whole body.
-pub fn read_formula(body: &[u8], n: Counts) -> Reading
-    ensures { λ r. ⌜ r ≡ readingOf (now (body .entry)) n ⌝ }
+pub fn read_formula(body: &[u8], counts: Counts) -> Reading
+    ensures { λ r. ⌜ r ≡ readingOf (now (body .entry)) counts ⌝ }
 {
-    Cursor::new(body, 0).formula(n)
+    Cursor::new(body, 0).formula(counts)
 }

@@ -18,72 +18,72 @@ impl Roles {
         + (1 << Code::ONE);
 }
 
-pub fn has_register(s: &[u8], at: usize, left: usize, number: u8) -> bool
-    ensures { λ r. ⌜ r ≡ occurs (register number) [] (parseTree (now (s .entry)) left at .tree) ⌝ }
+pub fn has_register(image: &[u8], at: usize, left: usize, number: u8) -> bool
+    ensures { λ r. ⌜ r ≡ occurs (register number) [] (parseTree (now (image .entry)) left at .tree) ⌝ }
 {
-    let w = Query {
+    let query = Query {
         codes: 1 << Code::REG,
         operand: Operand::EQUAL,
         number,
     };
-    occurs_at(s, at, left, w, &s[0..0])
+    occurs_at(image, at, left, query, &image[0..0])
 }
 
 // A word in any role.
-pub fn has_word(s: &[u8], at: usize, left: usize, number: u8) -> bool
-    ensures { λ r. ⌜ r ≡ occurs (wordAnyRole number) [] (parseTree (now (s .entry)) left at .tree) ⌝ }
+pub fn has_word(image: &[u8], at: usize, left: usize, number: u8) -> bool
+    ensures { λ r. ⌜ r ≡ occurs (wordAnyRole number) [] (parseTree (now (image .entry)) left at .tree) ⌝ }
 {
-    let w = Query {
+    let query = Query {
         codes: Roles::WORD,
         operand: Operand::EQUAL,
         number,
     };
-    occurs_at(s, at, left, w, &s[0..0])
+    occurs_at(image, at, left, query, &image[0..0])
 }
 
 // A flag of a word.
-pub fn has_flag(s: &[u8], at: usize, left: usize, number: u8) -> bool
-    ensures { λ r. ⌜ r ≡ occurs (flag number) [] (parseTree (now (s .entry)) left at .tree) ⌝ }
+pub fn has_flag(image: &[u8], at: usize, left: usize, number: u8) -> bool
+    ensures { λ r. ⌜ r ≡ occurs (flag number) [] (parseTree (now (image .entry)) left at .tree) ⌝ }
 {
-    let w = Query {
+    let query = Query {
         codes: (1 << Code::UNSYNC) + (1 << Code::COV),
         operand: Operand::EQUAL,
         number,
     };
-    occurs_at(s, at, left, w, &s[0..0])
+    occurs_at(image, at, left, query, &image[0..0])
 }
 
-pub fn has_start(s: &[u8], at: usize, left: usize) -> bool
-    ensures { λ r. ⌜ r ≡ occurs start [] (parseTree (now (s .entry)) left at .tree) ⌝ }
+pub fn has_start(image: &[u8], at: usize, left: usize) -> bool
+    ensures { λ r. ⌜ r ≡ occurs start [] (parseTree (now (image .entry)) left at .tree) ⌝ }
 {
-    let w = Query {
+    let query = Query {
         codes: 1 << Code::START,
         operand: Operand::ANY,
         number: 0,
     };
-    occurs_at(s, at, left, w, &s[0..0])
+    occurs_at(image, at, left, query, &image[0..0])
 }
 
 // Any word in any role.
-pub fn has_shared(s: &[u8], at: usize, left: usize) -> bool
-    ensures { λ r. ⌜ r ≡ occurs shared [] (parseTree (now (s .entry)) left at .tree) ⌝ }
+pub fn has_shared(image: &[u8], at: usize, left: usize) -> bool
+    ensures { λ r. ⌜ r ≡ occurs shared [] (parseTree (now (image .entry)) left at .tree) ⌝ }
 {
-    let w = Query {
+    let query = Query {
         codes: Roles::WORD,
         operand: Operand::ANY,
         number: 0,
     };
-    occurs_at(s, at, left, w, &s[0..0])
+    occurs_at(image, at, left, query, &image[0..0])
 }
 
 // A register that the thread does not own.
-pub fn has_foreign(s: &[u8], at: usize, left: usize, thread: u8, owners: &[u8]) -> bool
-    ensures { λ r. ⌜ r ≡ occurs (foreign thread) (now (owners .entry)) (parseTree (now (s .entry)) left at .tree) ⌝ }
+pub fn has_foreign(image: &[u8], at: usize, left: usize, thread: u8, owners: &[u8]) -> bool
+    ensures { λ r. ⌜ r ≡ occurs (foreign thread) (now (owners .entry)) (parseTree (now (image .entry)) left at .tree) ⌝ }
 {
-    let w = Query {
+    let query = Query {
         codes: 1 << Code::REG,
         operand: Operand::FOREIGN,
         number: thread,
     };
-    occurs_at(s, at, left, w, owners)
+    occurs_at(image, at, left, query, owners)
 }

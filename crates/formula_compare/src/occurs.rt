@@ -40,49 +40,49 @@ pub fn owner(owners: &[u8], register: u8) -> u8
     octet_at(owners, (register - 1) as usize)
 }
 
-pub fn is_queried(w: Query, owners: &[u8], code: u8, operand: u8) -> bool
-    ensures { λ r. ⌜ r ≡ isQueried w (now (owners .entry)) code operand ⌝ }
+pub fn is_queried(query: Query, owners: &[u8], code: u8, operand: u8) -> bool
+    ensures { λ r. ⌜ r ≡ isQueried query (now (owners .entry)) code operand ⌝ }
 {
-    if contains(w.codes, code) {
-        if w.operand == Operand::ANY {
+    if contains(query.codes, code) {
+        if query.operand == Operand::ANY {
             return true;
         }
-        if w.operand == Operand::EQUAL {
-            return operand == w.number;
+        if query.operand == Operand::EQUAL {
+            return operand == query.number;
         }
-        return owner(owners, operand) != w.number;
+        return owner(owners, operand) != query.number;
     }
     false
 }
 
-pub fn find_at(s: &[u8], at: usize, left: usize, w: Query, owners: &[u8]) -> Found
-    ensures { λ r. ⌜ r ≡ foundIn w (now (owners .entry)) (parseTree (now (s .entry)) left at) ⌝ }
+pub fn find_at(image: &[u8], at: usize, left: usize, query: Query, owners: &[u8]) -> Found
+    ensures { λ r. ⌜ r ≡ foundIn query (now (owners .entry)) (parseTree (now (image .entry)) left at) ⌝ }
 {
     if left == 0 {
         return Found::No(at);
     }
-    let x = node_at(s, at);
-    if is_queried(w, owners, x.code, x.operand) {
+    let node = node_at(image, at);
+    if is_queried(query, owners, node.code, node.operand) {
         return Found::Yes;
     }
-    if x.parts == 0 {
-        return Found::No(x.next);
+    if node.parts == 0 {
+        return Found::No(node.next);
     }
-    match find_at(s, x.next, left - 1, w, owners) {
+    match find_at(image, node.next, left - 1, query, owners) {
         Found::Yes => Found::Yes,
         Found::No(m) => {
-            if x.parts == 1 {
+            if node.parts == 1 {
                 return Found::No(m);
             }
-            find_at(s, m, left - 1, w, owners)
+            find_at(image, m, left - 1, query, owners)
         }
     }
 }
 
-pub fn occurs_at(s: &[u8], at: usize, left: usize, w: Query, owners: &[u8]) -> bool
-    ensures { λ r. ⌜ r ≡ occurs w (now (owners .entry)) (parseTree (now (s .entry)) left at .tree) ⌝ }
+pub fn occurs_at(image: &[u8], at: usize, left: usize, query: Query, owners: &[u8]) -> bool
+    ensures { λ r. ⌜ r ≡ occurs query (now (owners .entry)) (parseTree (now (image .entry)) left at .tree) ⌝ }
 {
-    match find_at(s, at, left, w, owners) {
+    match find_at(image, at, left, query, owners) {
         Found::Yes => true,
         Found::No(_) => false,
     }

@@ -41,80 +41,102 @@ pub fn name_code(word: bool) -> u8
 }
 
 // A node that is not the first name.
-fn second_hit(x: Node, w: Substitution) -> Hit
-    ensures { λ r. ⌜ r ≡ secondAt x w ⌝ }
+fn second_hit(node: Node, substitution: Substitution) -> Hit
+    ensures { λ r. ⌜ r ≡ secondAt node substitution ⌝ }
 {
-    if w.two {
-        if x.code == Code::REG {
-            if x.operand == w.second {
-                let by = w.with;
-                return Hit::Name(x.next, by);
+    if substitution.two {
+        if node.code == Code::REG {
+            if node.operand == substitution.second {
+                let by = substitution.with;
+                return Hit::Name(node.next, by);
             }
         }
     }
     Hit::Other
 }
 
-pub fn hit_at(s: &[u8], a: usize, m: usize, w: Substitution) -> Hit
-    ensures { λ r. ⌜ r ≡ hitAt (now (s .entry)) a m w ⌝ }
+pub fn hit_at(image: &[u8], at: usize, left: usize, substitution: Substitution) -> Hit
+    ensures { λ r. ⌜ r ≡ hitAt (now (image .entry)) at left substitution ⌝ }
 {
-    if m == 0 {
+    if left == 0 {
         return Hit::Other;
     }
-    let x = node_at(s, a);
-    if x.code == name_code(w.word) {
-        if x.operand == w.number {
-            let by = w.by;
-            return Hit::Name(x.next, by);
+    let node = node_at(image, at);
+    if node.code == name_code(substitution.word) {
+        if node.operand == substitution.number {
+            let by = substitution.by;
+            return Hit::Name(node.next, by);
         }
-        return second_hit(x, w);
+        return second_hit(node, substitution);
     }
-    second_hit(x, w)
+    second_hit(node, substitution)
 }
 
 // Whether the code stands at b with this operand. It is a code without parts.
-pub fn leaf_stands(s: &[u8], code: u8, number: u8, b: usize, k: usize) -> Same
+pub fn leaf_stands(image: &[u8], code: u8, number: u8, other_at: usize, other_left: usize) -> Same
     requires { ⌜ partCount code ≡ 0 ⌝ }
-    ensures { λ r. ⌜ r ≡ sameOf (leafOnly code number) (parseTree (now (s .entry)) k b) ⌝ }
+    ensures { λ r. ⌜ r ≡ sameOf (leafOnly code number) (parseTree (now (image .entry)) other_left other_at) ⌝ }
 {
-    if k == 0 {
+    if other_left == 0 {
         return Same::No;
     }
-    let x = node_at(s, b);
-    if x.code == code {
-        if x.operand == number {
-            return Same::Yes(0, x.next);
+    let node = node_at(image, other_at);
+    if node.code == code {
+        if node.operand == number {
+            return Same::Yes(0, node.next);
         }
     }
     Same::No
 }
 
 // Whether what replaces the name stands at b.
-pub fn stands_at(s: &[u8], by: Replacing, b: usize, k: usize) -> Same
-    ensures { λ r. ⌜ r ≡ sameOf (standsFor (now (s .entry)) by) (parseTree (now (s .entry)) k b) ⌝ }
+pub fn stands_at(image: &[u8], replacing: Replacing, other_at: usize, other_left: usize) -> Same
+    ensures { λ r. ⌜ r ≡ sameOf (standsFor (now (image .entry)) replacing) (parseTree (now (image .entry)) other_left other_at) ⌝ }
 {
-    match by {
-        Replacing::Formula(at, left) => same_at(s, at, left, b, k),
-        Replacing::Word(number) => leaf_stands(s, Code::WORD, number, b, k),
+    match replacing {
+        Replacing::Formula(at, left) => same_at(image, at, left, other_at, other_left),
+        Replacing::Word(number) => leaf_stands(image, Code::WORD, number, other_at, other_left),
     }
 }
 
 // Whether the formula at b is the one at a with the names replaced.
-pub fn replaced_at(s: &[u8], a: usize, m: usize, b: usize, k: usize, w: Substitution) -> Same
-    ensures { λ r. ⌜ r ≡ replacedOf (now (s .entry)) w (parseTree (now (s .entry)) m a) (parseTree (now (s .entry)) k b) ⌝ }
+pub fn replaced_at(
+    image: &[u8],
+    at: usize,
+    left: usize,
+    other_at: usize,
+    other_left: usize,
+    substitution: Substitution,
+) -> Same
+    ensures { λ r. ⌜ r ≡ replacedOf (now (image .entry)) substitution (parseTree (now (image .entry)) left at)
+        (parseTree (now (image .entry)) other_left other_at) ⌝ }
 {
-    match hit_at(s, a, m, w) {
-        Hit::Name(next, by) => match stands_at(s, by, b, k) {
+    match hit_at(image, at, left, substitution) {
+        Hit::Name(next, by) => match stands_at(image, by, other_at, other_left) {
             Same::No => Same::No,
             Same::Yes(_, q) => Same::Yes(next, q),
         },
-        Hit::Other => match pair_at(s, a, m, b, k) {
+        Hit::Other => match pair_at(image, at, left, other_at, other_left) {
             Pair::Differ => Same::No,
             Pair::Ended(p, q) => Same::Yes(p, q),
-            Pair::One(p, q) => replaced_at(s, p, m - 1, q, k - 1, w),
-            Pair::Two(p, q) => match replaced_at(s, p, m - 1, q, k - 1, w) {
+            Pair::One(p, q) => replaced_at(image, p, left - 1, q, other_left - 1, substitution),
+            Pair::Two(p, q) => match replaced_at(
+                image,
+                p,
+                left - 1,
+                q,
+                other_left - 1,
+                substitution,
+            ) {
                 Same::No => Same::No,
-                Same::Yes(p2, q2) => replaced_at(s, p2, m - 1, q2, k - 1, w),
+                Same::Yes(p2, q2) => replaced_at(
+                    image,
+                    p2,
+                    left - 1,
+                    q2,
+                    other_left - 1,
+                    substitution,
+                ),
             },
         },
     }

@@ -19,51 +19,51 @@ pub enum Same {
     No,
 }
 
-pub fn pair_nodes(x: Node, y: Node) -> Pair
-    ensures { λ r. ⌜ r ≡ pairOf x y ⌝ }
+pub fn pair_nodes(node: Node, other: Node) -> Pair
+    ensures { λ r. ⌜ r ≡ pairOf node other ⌝ }
 {
-    if x.code != y.code {
+    if node.code != other.code {
         return Pair::Differ;
     }
-    if x.operand != y.operand {
+    if node.operand != other.operand {
         return Pair::Differ;
     }
-    if x.parts == 0 {
-        return Pair::Ended(x.next, y.next);
+    if node.parts == 0 {
+        return Pair::Ended(node.next, other.next);
     }
-    if x.parts == 1 {
-        return Pair::One(x.next, y.next);
+    if node.parts == 1 {
+        return Pair::One(node.next, other.next);
     }
-    Pair::Two(x.next, y.next)
+    Pair::Two(node.next, other.next)
 }
 
 // The nodes at a and at b, where m and k levels of nesting are left.
-pub fn pair_at(s: &[u8], a: usize, m: usize, b: usize, k: usize) -> Pair
-    ensures { λ r. ⌜ r ≡ pairAt (now (s .entry)) a m b k ⌝ }
+pub fn pair_at(image: &[u8], at: usize, left: usize, other_at: usize, other_left: usize) -> Pair
+    ensures { λ r. ⌜ r ≡ pairAt (now (image .entry)) at left other_at other_left ⌝ }
 {
-    if m == 0 {
-        if k == 0 {
-            return Pair::Ended(a, b);
+    if left == 0 {
+        if other_left == 0 {
+            return Pair::Ended(at, other_at);
         }
         return Pair::Differ;
     }
-    if k == 0 {
+    if other_left == 0 {
         return Pair::Differ;
     }
-    pair_nodes(node_at(s, a), node_at(s, b))
+    pair_nodes(node_at(image, at), node_at(image, other_at))
 }
 
 // Whether the formulas at a, nested at most m deep, and at b, nested at most k deep, are the same.
-pub fn same_at(s: &[u8], a: usize, m: usize, b: usize, k: usize) -> Same
-    ensures { λ r. ⌜ r ≡ sameOf (parseTree (now (s .entry)) m a) (parseTree (now (s .entry)) k b) ⌝ }
+pub fn same_at(image: &[u8], at: usize, left: usize, other_at: usize, other_left: usize) -> Same
+    ensures { λ r. ⌜ r ≡ sameOf (parseTree (now (image .entry)) left at) (parseTree (now (image .entry)) other_left other_at) ⌝ }
 {
-    match pair_at(s, a, m, b, k) {
+    match pair_at(image, at, left, other_at, other_left) {
         Pair::Differ => Same::No,
         Pair::Ended(p, q) => Same::Yes(p, q),
-        Pair::One(p, q) => same_at(s, p, m - 1, q, k - 1),
-        Pair::Two(p, q) => match same_at(s, p, m - 1, q, k - 1) {
+        Pair::One(p, q) => same_at(image, p, left - 1, q, other_left - 1),
+        Pair::Two(p, q) => match same_at(image, p, left - 1, q, other_left - 1) {
             Same::No => Same::No,
-            Same::Yes(p2, q2) => same_at(s, p2, m - 1, q2, k - 1),
+            Same::Yes(p2, q2) => same_at(image, p2, left - 1, q2, other_left - 1),
         },
     }
 }

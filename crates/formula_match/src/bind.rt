@@ -51,13 +51,13 @@ fn is_there(place: usize, held: u8, at: usize, left: u8) -> bool
 }
 
 // A hole takes the formula that comes first, and is compared with those that come later.
-pub fn match_hole(s: &[u8], tpl: usize, j: usize, at: usize, left: u8, b: Bind) -> Root
+pub fn match_hole(image: &[u8], tpl: usize, j: usize, at: usize, left: u8, bind: Bind) -> Root
     requires { ⌜ j < 5 ⌝ }
-    ensures { λ r. ⌜ r ≡ holeAt (now (s .entry)) tpl j at left b ⌝ }
+    ensures { λ r. ⌜ r ≡ holeAt (now (image .entry)) tpl j at left bind ⌝ }
 {
-    let held = b.left[j];
+    let held = bind.left[j];
     if held == 0 {
-        let mut n = b;
+        let mut n = bind;
         n.at[j] = at;
         n.left[j] = left;
         return Root {
@@ -67,27 +67,27 @@ pub fn match_hole(s: &[u8], tpl: usize, j: usize, at: usize, left: u8, b: Bind) 
             bind: n,
         };
     }
-    let place = b.at[j];
+    let place = bind.at[j];
     if is_there(place, held, at, left) {
         return Root {
             kind: 4,
             tpl,
             next: 0,
-            bind: b,
+            bind: bind,
         };
     }
-    match same_at(s, place, held as usize, at, left as usize) {
+    match same_at(image, place, held as usize, at, left as usize) {
         Same::No => Root {
             kind: 0,
             tpl: 0,
             next: 0,
-            bind: b,
+            bind: bind,
         },
         Same::Yes(_, end) => Root {
             kind: 1,
             tpl,
             next: end,
-            bind: b,
+            bind: bind,
         },
     }
 }
@@ -98,28 +98,31 @@ pub struct Taken {
 }
 
 // An operand of a template against one of a formula.
-pub fn match_operand(want: u8, has: u8, b: Bind) -> Taken
-    ensures { λ r. ⌜ r ≡ operandOf want has b ⌝ }
+pub fn match_operand(want: u8, has: u8, bind: Bind) -> Taken
+    ensures { λ r. ⌜ r ≡ operandOf want has bind ⌝ }
 {
     if Hole::NUMBERS <= want {
         return Taken {
             ok: want - Hole::NUMBERS == has,
-            bind: b,
+            bind: bind,
         };
     }
     if Hole::COUNT <= want {
-        return Taken { ok: false, bind: b };
+        return Taken {
+            ok: false,
+            bind: bind,
+        };
     }
     let j = want as usize;
-    let held = b.num[j];
+    let held = bind.num[j];
     let number = has as u16 + 1;
     if held == 0 {
-        let mut n = b;
+        let mut n = bind;
         n.num[j] = number;
         return Taken { ok: true, bind: n };
     }
     Taken {
         ok: held == number,
-        bind: b,
+        bind: bind,
     }
 }

@@ -21,26 +21,26 @@ pub struct Match {
 }
 
 // A node of a template against one of a formula.
-pub fn match_node(h: Node, x: Node, b: Bind) -> Root
-    requires { ⌜ x .parts < 3 ⌝ }
-    ensures { λ r. ⌜ r ≡ nodeOf h x b ⌝ }
+pub fn match_node(node: Node, node: Node, bind: Bind) -> Root
+    requires { ⌜ node .parts < 3 ⌝ }
+    ensures { λ r. ⌜ r ≡ nodeOf node node bind ⌝ }
 {
-    if h.code != x.code {
+    if node.code != node.code {
         return Root {
             kind: 0,
             tpl: 0,
             next: 0,
-            bind: b,
+            bind: bind,
         };
     }
-    if has_operand(h.code) {
-        let t = match_operand(h.operand, x.operand, b);
+    if has_operand(node.code) {
+        let t = match_operand(node.operand, node.operand, bind);
         let n = t.bind;
         if t.ok {
             return Root {
-                kind: x.parts + 1,
-                tpl: h.next,
-                next: x.next,
+                kind: node.parts + 1,
+                tpl: node.next,
+                next: node.next,
                 bind: n,
             };
         }
@@ -48,58 +48,58 @@ pub fn match_node(h: Node, x: Node, b: Bind) -> Root
             kind: 0,
             tpl: 0,
             next: 0,
-            bind: b,
+            bind: bind,
         };
     }
     Root {
-        kind: x.parts + 1,
-        tpl: h.next,
-        next: x.next,
-        bind: b,
+        kind: node.parts + 1,
+        tpl: node.next,
+        next: node.next,
+        bind: bind,
     }
 }
 
-pub fn match_root(s: &[u8], t: &[u8], i: usize, at: usize, left: u8, b: Bind) -> Root
-    ensures { λ r. ⌜ r ≡ rootAt (now (s .entry)) (now (t .entry)) i at left b ⌝ }
+pub fn match_root(image: &[u8], templates: &[u8], i: usize, at: usize, left: u8, bind: Bind) -> Root
+    ensures { λ r. ⌜ r ≡ rootAt (now (image .entry)) (now (templates .entry)) i at left bind ⌝ }
 {
     if left == 0 {
         return Root {
             kind: 1,
             tpl: i,
             next: at,
-            bind: b,
+            bind: bind,
         };
     }
-    let h = node_at(t, i);
+    let h = node_at(templates, i);
     if h.code < Hole::FORMULAS {
-        return match_node(h, node_at(s, at), b);
+        return match_node(h, node_at(image, at), bind);
     }
     let j = h.code - Hole::FORMULAS;
     if j < Hole::COUNT {
-        return match_hole(s, h.next, j as usize, at, left, b);
+        return match_hole(image, h.next, j as usize, at, left, bind);
     }
     Root {
         kind: 0,
         tpl: 0,
         next: 0,
-        bind: b,
+        bind: bind,
     }
 }
 
 // The formula at a position against the template at i.
-pub fn match_at(s: &[u8], t: &[u8], i: usize, at: usize, left: u8, b: Bind) -> Match
-    ensures { λ r. ⌜ r ≡ matchAt (now (s .entry)) (now (t .entry)) left i at b ⌝ }
+pub fn match_at(image: &[u8], templates: &[u8], i: usize, at: usize, left: u8, bind: Bind) -> Match
+    ensures { λ r. ⌜ r ≡ matchAt (now (image .entry)) (now (templates .entry)) left i at bind ⌝ }
 {
-    let r = match_root(s, t, i, at, left, b);
+    let r = match_root(image, templates, i, at, left, bind);
     let n = r.bind;
     if r.kind == 2 {
-        return match_at(s, t, r.tpl, r.next, left - 1, n);
+        return match_at(image, templates, r.tpl, r.next, left - 1, n);
     }
     if r.kind == 3 {
-        let m = match_at(s, t, r.tpl, r.next, left - 1, n);
+        let m = match_at(image, templates, r.tpl, r.next, left - 1, n);
         if m.ok {
             let o = m.bind;
-            return match_at(s, t, m.tpl, m.next, left - 1, o);
+            return match_at(image, templates, m.tpl, m.next, left - 1, o);
         }
         return m;
     }
@@ -107,7 +107,7 @@ pub fn match_at(s: &[u8], t: &[u8], i: usize, at: usize, left: u8, b: Bind) -> M
         return Match {
             ok: true,
             tpl: r.tpl,
-            next: end_at(s, at, left as usize),
+            next: end_at(image, at, left as usize),
             bind: n,
         };
     }

@@ -13,19 +13,26 @@ pub struct Whole {
 }
 
 // The formula at a position against the template at i.
-pub fn match_whole(s: &[u8], t: &[u8], i: usize, at: usize, left: u8, b: Bind) -> Whole
-    ensures { λ r. ⌜ r ≡ wholeAt (now (s .entry)) (now (t .entry)) left i at b ⌝ }
+pub fn match_whole(
+    image: &[u8],
+    templates: &[u8],
+    i: usize,
+    at: usize,
+    left: u8,
+    bind: Bind,
+) -> Whole
+    ensures { λ r. ⌜ r ≡ wholeAt (now (image .entry)) (now (templates .entry)) left i at bind ⌝ }
 {
-    let r = match_root(s, t, i, at, left, b);
+    let r = match_root(image, templates, i, at, left, bind);
     let n = r.bind;
     if r.kind == 2 {
-        return match_whole(s, t, r.tpl, r.next, left - 1, n);
+        return match_whole(image, templates, r.tpl, r.next, left - 1, n);
     }
     if r.kind == 3 {
-        let m = match_at(s, t, r.tpl, r.next, left - 1, n);
+        let m = match_at(image, templates, r.tpl, r.next, left - 1, n);
         let o = m.bind;
         if m.ok {
-            return match_whole(s, t, m.tpl, m.next, left - 1, o);
+            return match_whole(image, templates, m.tpl, m.next, left - 1, o);
         }
         return Whole {
             ok: false,

@@ -18,54 +18,55 @@ ghost use Rattle.handover_spec.specs.Promise.{Promise};
 // The old image is accepted. With a table of zeros, as long as the new image asks for.
 fn code_by<'a, 'b, 'c, 'd, 'e>(
     old: &'a [u8],
-    ox: &'b [usize],
-    z: Sizes,
+    old_index: &'b [usize],
+    sizes: Sizes,
     new: &'c [u8],
-    nx: &'d mut [usize],
+    new_index: &'d mut [usize],
     table: &'e [u8],
 ) -> u16
-    requires { ⌜ ((now ox ≡ indexOf (now old)) × (decoded (now old) ≡ Sound z)) × (now nx ≡ replicate (tableSize (now new)) 0) ⌝ }
-    ensures { λ r. ⌜ r ≡ byAcceptance (now (old .entry)) (now (new .entry)) (now (table .entry)) (Granted z)
+    requires { ⌜ ((now old_index ≡ indexOf (now old)) × (decoded (now old) ≡ Sound sizes))
+        × (now new_index ≡ replicate (tableSize (now new)) 0) ⌝ }
+    ensures { λ r. ⌜ r ≡ byAcceptance (now (old .entry)) (now (new .entry)) (now (table .entry)) (Granted sizes)
         (acceptance (now (new .entry))) ⌝ }
 {
-    match accept_image(new, nx) {
+    match accept_image(new, new_index) {
         Acceptance::Declined => Handover::UNLIKE,
-        Acceptance::Granted(y) => handover_code(old, ox, z, new, nx, y, table),
+        Acceptance::Granted(y) => handover_code(old, old_index, sizes, new, new_index, y, table),
     }
 }
 
 fn code_from<'a, 'b, 'c, 'd>(
     old: &'a [u8],
-    ox: &'b [usize],
-    z: Sizes,
+    old_index: &'b [usize],
+    sizes: Sizes,
     new: &'c [u8],
     table: &'d [u8],
 ) -> u16
-    requires { ⌜ (now ox ≡ indexOf (now old)) × (decoded (now old) ≡ Sound z) ⌝ }
-    ensures { λ r. ⌜ r ≡ byAcceptance (now (old .entry)) (now (new .entry)) (now (table .entry)) (Granted z)
+    requires { ⌜ (now old_index ≡ indexOf (now old)) × (decoded (now old) ≡ Sound sizes) ⌝ }
+    ensures { λ r. ⌜ r ≡ byAcceptance (now (old .entry)) (now (new .entry)) (now (table .entry)) (Granted sizes)
         (acceptance (now (new .entry))) ⌝ }
 {
     if new.len() <= IndexSize::SHORT_IMAGE {
         let mut nx = [0usize; IndexSize::SHORT];
-        return code_by(old, ox, z, new, &mut nx, table);
+        return code_by(old, old_index, sizes, new, &mut nx, table);
     }
     let mut nx = [0usize; IndexSize::LONG];
-    code_by(old, ox, z, new, &mut nx, table)
+    code_by(old, old_index, sizes, new, &mut nx, table)
 }
 
 // With a table of zeros, as long as the old image asks for.
 fn permit_by<'a, 'b, 'c, 'd>(
     old: &'a [u8],
-    ox: &'b mut [usize],
+    old_index: &'b mut [usize],
     new: &'c [u8],
     table: &'d [u8],
 ) -> u16
-    requires { ⌜ now ox ≡ replicate (tableSize (now old)) 0 ⌝ }
+    requires { ⌜ now old_index ≡ replicate (tableSize (now old)) 0 ⌝ }
     ensures { λ r. ⌜ Promise (now (old .entry)) (now (new .entry)) (now (table .entry)) r ⌝ }
 {
-    match accept_image(old, ox) {
+    match accept_image(old, old_index) {
         Acceptance::Declined => Handover::UNLIKE,
-        Acceptance::Granted(z) => code_from(old, ox, z, new, table),
+        Acceptance::Granted(z) => code_from(old, old_index, z, new, table),
     }
 }
 

@@ -26,7 +26,7 @@ ghost use Rattle.replay_machine.specs.OutputTable.{shownBy};
 ghost use Rattle.handover_replay.specs.ReplayAcross.{refusedBy, acrossOn, acrossBy, byAcceptance, acrossOf};
 
 // Points and registers of 0, and the table stays.
-fn refuse(s: &[u8], code: u8) -> Replayed
+fn refuse(image: &[u8], code: u8) -> Replayed
     ensures { λ r. ⌜ r ≡ refusedBy code ⌝ }
 {
     Replayed {
@@ -34,46 +34,58 @@ fn refuse(s: &[u8], code: u8) -> Replayed
         steps: 0,
         held: false,
         words: 0,
-        machine: start_machine(&s[0..0], 0, &s[0..0]),
+        machine: start_machine(&image[0..0], 0, &image[0..0]),
     }
 }
 
 // The handover is permitted.
 fn run_both<'a, 'b, 'c, 'd, 'e, 'f, 'g, 'h>(
     old: &'a [u8],
-    ox: &'b [usize],
-    z: Sizes,
+    old_index: &'b [usize],
+    old_sizes: Sizes,
     new: &'c [u8],
-    nx: &'d [usize],
-    y: Sizes,
+    new_index: &'d [usize],
+    new_sizes: Sizes,
     points: &'e [u8],
     first: &'f [u8],
     second: &'g [u8],
     given: &'h [u8],
     room: usize,
 ) -> Replayed
-    requires { ⌜ ((now ox ≡ indexOf (now old)) × (decoded (now old) ≡ Sound z)) × (now nx ≡ indexOf (now new)) ⌝ }
-    ensures { λ r. ⌜ r ≡ acrossOn (now (old .entry)) z (now (new .entry)) y (now (points .entry)) (now (first .entry)) (now (second .entry))
+    requires { ⌜ ((now old_index ≡ indexOf (now old)) × (decoded (now old) ≡ Sound old_sizes)) × (now new_index ≡ indexOf (now new)) ⌝ }
+    ensures { λ run. ⌜ run ≡ acrossOn (now (old .entry)) old_sizes (now (new .entry)) new_sizes (now (points .entry)) (now (first .entry))
+        (now (second .entry))
         (now (given .entry)) room ⌝ }
 {
-    let n = start_machine(body_of(old, ox, 0), z.range, given);
-    if room < (z.words as usize) {
+    let n = start_machine(body_of(old, old_index, 0), old_sizes.range, given);
+    if room < (old_sizes.words as usize) {
         return Replayed {
             code: Refusal::ROOM,
             steps: 0,
             held: false,
-            words: z.words,
+            words: old_sizes.words,
             machine: n,
         };
     }
-    let r = run_counted(old, ox, z, room, n, first);
-    let q = go_on(old, ox, z, new, nx, y, points, room, r, second);
+    let run = run_counted(old, old_index, old_sizes, room, n, first);
+    let q = go_on(
+        old,
+        old_index,
+        old_sizes,
+        new,
+        new_index,
+        new_sizes,
+        points,
+        room,
+        run,
+        second,
+    );
     let machine = q.machine;
     Replayed {
         code: q.code,
         steps: q.steps,
         held: true,
-        words: z.words,
+        words: old_sizes.words,
         machine,
     }
 }
@@ -81,25 +93,38 @@ fn run_both<'a, 'b, 'c, 'd, 'e, 'f, 'g, 'h>(
 // Both images are accepted.
 fn replay_between<'a, 'b, 'c, 'd, 'e, 'f, 'g, 'h>(
     old: &'a [u8],
-    ox: &'b [usize],
-    z: Sizes,
+    old_index: &'b [usize],
+    old_sizes: Sizes,
     new: &'c [u8],
-    nx: &'d [usize],
-    y: Sizes,
+    new_index: &'d [usize],
+    new_sizes: Sizes,
     points: &'e [u8],
     first: &'f [u8],
     second: &'g [u8],
     given: &'h [u8],
     room: usize,
 ) -> Replayed
-    requires { ⌜ ((now ox ≡ indexOf (now old)) × (decoded (now old) ≡ Sound z))
-        × ((now nx ≡ indexOf (now new)) × (decoded (now new) ≡ Sound y)) ⌝ }
-    ensures { λ r. ⌜ r ≡ acrossBy (now (old .entry)) z (now (new .entry)) y (now (points .entry)) (now (first .entry)) (now (second .entry))
+    requires { ⌜ ((now old_index ≡ indexOf (now old)) × (decoded (now old) ≡ Sound old_sizes))
+        × ((now new_index ≡ indexOf (now new)) × (decoded (now new) ≡ Sound new_sizes)) ⌝ }
+    ensures { λ r. ⌜ r ≡ acrossBy (now (old .entry)) old_sizes (now (new .entry)) new_sizes (now (points .entry)) (now (first .entry))
+        (now (second .entry))
         (now (given .entry)) room ⌝ }
 {
-    let code = handover_code(old, ox, z, new, nx, y, points);
+    let code = handover_code(old, old_index, old_sizes, new, new_index, new_sizes, points);
     if code == Handover::PERMITTED {
-        return run_both(old, ox, z, new, nx, y, points, first, second, given, room);
+        return run_both(
+            old,
+            old_index,
+            old_sizes,
+            new,
+            new_index,
+            new_sizes,
+            points,
+            first,
+            second,
+            given,
+            room,
+        );
     }
     refuse(old, code as u8)
 }
@@ -107,32 +132,45 @@ fn replay_between<'a, 'b, 'c, 'd, 'e, 'f, 'g, 'h>(
 // The old image is accepted. With a table of zeros, as long as the new image asks for.
 fn replay_from_by<'a, 'b, 'c, 'd, 'e, 'f, 'g, 'h>(
     old: &'a [u8],
-    ox: &'b [usize],
-    z: Sizes,
+    old_index: &'b [usize],
+    sizes: Sizes,
     new: &'c [u8],
-    nx: &'h mut [usize],
+    new_index: &'h mut [usize],
     points: &'d [u8],
     first: &'e [u8],
     second: &'f [u8],
     given: &'g [u8],
     room: usize,
 ) -> Replayed
-    requires { ⌜ ((now ox ≡ indexOf (now old)) × (decoded (now old) ≡ Sound z)) × (now nx ≡ replicate (tableSize (now new)) 0) ⌝ }
+    requires { ⌜ ((now old_index ≡ indexOf (now old)) × (decoded (now old) ≡ Sound sizes))
+        × (now new_index ≡ replicate (tableSize (now new)) 0) ⌝ }
     ensures { λ r. ⌜ r ≡ byAcceptance (now (old .entry)) (now (new .entry)) (now (points .entry)) (now (first .entry)) (now (second .entry))
-        (now (given .entry)) room (Granted z) (acceptance (now (new .entry))) ⌝ }
+        (now (given .entry)) room (Granted sizes) (acceptance (now (new .entry))) ⌝ }
 {
-    match accept_image(new, nx) {
+    match accept_image(new, new_index) {
         Acceptance::Declined => refuse(new, Handover::UNLIKE as u8),
         Acceptance::Granted(y) => {
-            replay_between(old, ox, z, new, nx, y, points, first, second, given, room)
+            replay_between(
+                old,
+                old_index,
+                sizes,
+                new,
+                new_index,
+                y,
+                points,
+                first,
+                second,
+                given,
+                room,
+            )
         }
     }
 }
 
 fn replay_from<'a, 'b, 'c, 'd, 'e, 'f, 'g>(
     old: &'a [u8],
-    ox: &'b [usize],
-    z: Sizes,
+    old_index: &'b [usize],
+    sizes: Sizes,
     new: &'c [u8],
     points: &'d [u8],
     first: &'e [u8],
@@ -140,22 +178,44 @@ fn replay_from<'a, 'b, 'c, 'd, 'e, 'f, 'g>(
     given: &'g [u8],
     room: usize,
 ) -> Replayed
-    requires { ⌜ (now ox ≡ indexOf (now old)) × (decoded (now old) ≡ Sound z) ⌝ }
+    requires { ⌜ (now old_index ≡ indexOf (now old)) × (decoded (now old) ≡ Sound sizes) ⌝ }
     ensures { λ r. ⌜ r ≡ byAcceptance (now (old .entry)) (now (new .entry)) (now (points .entry)) (now (first .entry)) (now (second .entry))
-        (now (given .entry)) room (Granted z) (acceptance (now (new .entry))) ⌝ }
+        (now (given .entry)) room (Granted sizes) (acceptance (now (new .entry))) ⌝ }
 {
     if new.len() <= IndexSize::SHORT_IMAGE {
         let mut nx = [0usize; IndexSize::SHORT];
-        return replay_from_by(old, ox, z, new, &mut nx, points, first, second, given, room);
+        return replay_from_by(
+            old,
+            old_index,
+            sizes,
+            new,
+            &mut nx,
+            points,
+            first,
+            second,
+            given,
+            room,
+        );
     }
     let mut nx = [0usize; IndexSize::LONG];
-    replay_from_by(old, ox, z, new, &mut nx, points, first, second, given, room)
+    replay_from_by(
+        old,
+        old_index,
+        sizes,
+        new,
+        &mut nx,
+        points,
+        first,
+        second,
+        given,
+        room,
+    )
 }
 
 // With a table of zeros, as long as the old image asks for.
 fn replay_across_by<'a, 'b, 'c, 'd, 'e, 'f, 'g>(
     old: &'a [u8],
-    ox: &'g mut [usize],
+    old_index: &'g mut [usize],
     new: &'b [u8],
     points: &'c [u8],
     first: &'d [u8],
@@ -163,14 +223,24 @@ fn replay_across_by<'a, 'b, 'c, 'd, 'e, 'f, 'g>(
     given: &'f [u8],
     lent: usize,
 ) -> Replayed
-    requires { ⌜ now ox ≡ replicate (tableSize (now old)) 0 ⌝ }
+    requires { ⌜ now old_index ≡ replicate (tableSize (now old)) 0 ⌝ }
     ensures { λ r. ⌜ r ≡ acrossOf (now (old .entry)) (now (new .entry)) (now (points .entry)) (now (first .entry)) (now (second .entry))
         (now (given .entry)) lent ⌝ }
 {
-    match accept_image(old, ox) {
+    match accept_image(old, old_index) {
         Acceptance::Declined => refuse(old, Handover::UNLIKE as u8),
         Acceptance::Granted(z) => {
-            replay_from(old, ox, z, new, points, first, second, given, room_of(lent))
+            replay_from(
+                old,
+                old_index,
+                z,
+                new,
+                points,
+                first,
+                second,
+                given,
+                room_of(lent),
+            )
         }
     }
 }

@@ -27,7 +27,7 @@ pub extern "C" fn replay_handover<'a, 'b, 'c, 'd, 'e, 'f, 'g, 'h>(
     if answer.len() < Answer::SIZE {
         return Output::SHORT;
     }
-    let s = shown_across(
+    let shown = shown_across(
         old,
         new,
         points,
@@ -36,8 +36,8 @@ pub extern "C" fn replay_handover<'a, 'b, 'c, 'd, 'e, 'f, 'g, 'h>(
         given,
         table.len() / Entry::SIZE,
     );
-    let a = s.answer;
+    let a = shown.answer;
     write_numbers(a, answer);
-    write_shown(s, table);
+    write_shown(shown, table);
     a.code
 }

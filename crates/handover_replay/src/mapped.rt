@@ -17,45 +17,46 @@ ghost use Rattle.handover_replay.specs.JoinedRun.{mappedPoint, handedOve
 // Where the table leads thread t, counted from 0, from point k. A thread that is not there has point 0.
 fn mapped_point<'a, 'b, 'c>(
     old: &'a [u8],
-    ox: &'b [usize],
-    z: Sizes,
-    c: Totals,
+    old_index: &'b [usize],
+    sizes: Sizes,
+    totals: Totals,
     table: &'c [u8],
     t: u8,
-    k: u8,
+    point: u8,
 ) -> u8
-    requires { ⌜ (now ox ≡ indexOf (now old)) × ((decoded (now old) ≡ Sound z) × (c ≡ totalsOf z (bodies (now old)))) ⌝ }
-    ensures { λ r. ⌜ r ≡ mappedPoint (now (old .entry)) z (now (table .entry)) t k ⌝ }
+    requires { ⌜ (now old_index ≡ indexOf (now old)) × ((decoded (now old) ≡ Sound sizes) × (totals ≡ totalsOf sizes (bodies (now old))))
+        ⌝ }
+    ensures { λ r. ⌜ r ≡ mappedPoint (now (old .entry)) sizes (now (table .entry)) t point ⌝ }
 {
-    if z.threads <= t {
+    if sizes.threads <= t {
         return 0;
     }
-    let n = points_before(old, ox, z, c, (t as usize) + 1);
-    point_named(table, n + (k as usize)) as u8
+    let n = points_before(old, old_index, sizes, totals, (t as usize) + 1);
+    point_named(table, n + (point as usize)) as u8
 }
 
 pub fn hand_over<'a, 'b, 'c>(
     old: &'a [u8],
-    ox: &'b [usize],
-    z: Sizes,
+    old_index: &'b [usize],
+    sizes: Sizes,
     table: &'c [u8],
-    n: Machine,
+    machine: Machine,
 ) -> Machine
-    requires { ⌜ (now ox ≡ indexOf (now old)) × (decoded (now old) ≡ Sound z) ⌝ }
-    ensures { λ r. ⌜ r ≡ handedOver (now (old .entry)) z (now (table .entry)) n ⌝ }
+    requires { ⌜ (now old_index ≡ indexOf (now old)) × (decoded (now old) ≡ Sound sizes) ⌝ }
+    ensures { λ r. ⌜ r ≡ handedOver (now (old .entry)) sizes (now (table .entry)) machine ⌝ }
 {
-    let c = totals_of(old, ox, z);
-    let p = n.points;
-    let memory = n.memory;
-    let registers = n.registers;
+    let totals = totals_of(old, old_index, sizes);
+    let p = machine.points;
+    let memory = machine.memory;
+    let registers = machine.registers;
     Machine {
         memory,
         registers,
         points: [
-            mapped_point(old, ox, z, c, table, 0, p[0]),
-            mapped_point(old, ox, z, c, table, 1, p[1]),
-            mapped_point(old, ox, z, c, table, 2, p[2]),
-            mapped_point(old, ox, z, c, table, 3, p[3]),
+            mapped_point(old, old_index, sizes, totals, table, 0, p[0]),
+            mapped_point(old, old_index, sizes, totals, table, 1, p[1]),
+            mapped_point(old, old_index, sizes, totals, table, 2, p[2]),
+            mapped_point(old, old_index, sizes, totals, table, 3, p[3]),
         ],
     }
 }

@@ -15,45 +15,46 @@ ghost use Rattle.handover_replay.specs.JoinedRun.{mostSteps, wentOn};
 
 // A trace has two bytes for a step, so that the steps of two traces can be added.
 pub fn run_counted<'a, 'b, 'c>(
-    s: &'a [u8],
-    ix: &'b [usize],
-    z: Sizes,
+    image: &'a [u8],
+    index: &'b [usize],
+    sizes: Sizes,
     room: usize,
-    n: Machine,
+    machine: Machine,
     trace: &'c [u8],
 ) -> Run
-    requires { ⌜ now ix ≡ indexOf (now s) ⌝ }
-    ensures { λ r. ⌜ (r ≡ ran (now (s .entry)) z room n 0 (now (trace .entry))) × (r .steps < mostSteps) ⌝ }
+    requires { ⌜ now index ≡ indexOf (now image) ⌝ }
+    ensures { λ r. ⌜ (r ≡ ran (now (image .entry)) sizes room machine 0 (now (trace .entry))) × (r .steps < mostSteps) ⌝ }
 {
-    run_trace(s, ix, z, room, n, trace)
+    run_trace(image, index, sizes, room, machine, trace)
 }
 
 // A step refused in the first trace ends the run under the old code: r is that run.
 pub fn go_on<'a, 'b, 'c, 'd, 'e, 'f>(
     old: &'a [u8],
-    ox: &'b [usize],
-    z: Sizes,
+    old_index: &'b [usize],
+    old_sizes: Sizes,
     new: &'c [u8],
-    nx: &'d [usize],
-    y: Sizes,
+    new_index: &'d [usize],
+    new_sizes: Sizes,
     points: &'e [u8],
     room: usize,
-    r: Run,
+    run: Run,
     second: &'f [u8],
 ) -> Run
-    requires { ⌜ ((now ox ≡ indexOf (now old)) × (decoded (now old) ≡ Sound z))
-        × ((now nx ≡ indexOf (now new)) × (r .steps < mostSteps)) ⌝ }
-    ensures { λ q. ⌜ q ≡ wentOn (now (old .entry)) z (now (new .entry)) y (now (points .entry)) room r (now (second .entry)) ⌝ }
+    requires { ⌜ ((now old_index ≡ indexOf (now old)) × (decoded (now old) ≡ Sound old_sizes))
+        × ((now new_index ≡ indexOf (now new)) × (run .steps < mostSteps)) ⌝ }
+    ensures { λ q. ⌜ q ≡ wentOn (now (old .entry)) old_sizes (now (new .entry)) new_sizes (now (points .entry)) room run
+        (now (second .entry)) ⌝ }
 {
-    if r.code == Refusal::ACCEPTED {
-        let n = hand_over(old, ox, z, points, r.machine);
-        let q = run_counted(new, nx, y, room, n, second);
+    if run.code == Refusal::ACCEPTED {
+        let n = hand_over(old, old_index, old_sizes, points, run.machine);
+        let q = run_counted(new, new_index, new_sizes, room, n, second);
         let machine = q.machine;
         return Run {
             code: q.code,
-            steps: r.steps + q.steps,
+            steps: run.steps + q.steps,
             machine,
         };
     }
-    r
+    run
 }

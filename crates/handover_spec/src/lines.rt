@@ -26,27 +26,32 @@ ghost use Rattle.handover_spec.specs.LinesFound.{assertionOf, isImplicat
 
 // The bytes of the assertion at point k of thread t.
 fn assertion_of<'a, 'b>(
-    s: &'a [u8],
-    ix: &'b [usize],
-    z: Sizes,
-    c: Totals,
+    image: &'a [u8],
+    index: &'b [usize],
+    sizes: Sizes,
+    totals: Totals,
     t: usize,
-    k: usize,
+    point: usize,
 ) -> &'a [u8]
-    requires { ⌜ ((now ix ≡ indexOf (now s)) × ((decoded (now s) ≡ Sound z) × (c ≡ totalsOf z (bodies (now s)))))
-        × (((1 ≤ t) × (t ≤ z .threads)) × (k < 256)) ⌝ }
-    ensures { λ r. ⌜ now r ≡ assertionOf (now (s .entry)) z t k ⌝ }
+    requires { ⌜ ((now index ≡ indexOf (now image)) × ((decoded (now image) ≡ Sound sizes)
+        × (totals ≡ totalsOf sizes (bodies (now image)))))
+        × (((1 ≤ t) × (t ≤ sizes .threads)) × (point < 256)) ⌝ }
+    ensures { λ r. ⌜ now r ≡ assertionOf (now (image .entry)) sizes t point ⌝ }
 {
-    let b = body_of(s, ix, (z.formulas as usize) + (z.threads as usize) + 1);
-    let n = points_before(s, ix, z, c, t);
-    body_of(s, ix, number_at(b, c.points, n + k))
+    let body = body_of(
+        image,
+        index,
+        (sizes.formulas as usize) + (sizes.threads as usize) + 1,
+    );
+    let n = points_before(image, index, sizes, totals, t);
+    body_of(image, index, number_at(body, totals.points, n + point))
 }
 
 // The line in a body is an implication.
-fn is_implication(b: &[u8]) -> bool
-    ensures { λ r. ⌜ r ≡ isImplication (formOf (getD (now (b .entry)) 0 0)) ⌝ }
+fn is_implication(body: &[u8]) -> bool
+    ensures { λ r. ⌜ r ≡ isImplication (formOf (getD (now (body .entry)) 0 0)) ⌝ }
 {
-    match line_form(b) {
+    match line_form(body) {
         Form::Triple => false,
         Form::Implication => true,
         Form::Inclusion => false,
@@ -57,38 +62,43 @@ fn is_implication(b: &[u8]) -> bool
 
 // Its formulas have these bytes, by bytes alone.
 fn sides_match<'a, 'b, 'c, 'd>(
-    s: &'a [u8],
-    ix: &'b [usize],
-    b: &'a [u8],
+    image: &'a [u8],
+    index: &'b [usize],
+    body: &'a [u8],
     left: &'c [u8],
     right: &'d [u8],
 ) -> bool
-    requires { ⌜ now ix ≡ indexOf (now s) ⌝ }
-    ensures { λ r. ⌜ r ≡ sidesMatch (now (s .entry)) (now (b .entry)) (now (left .entry)) (now (right .entry)) ⌝ }
+    requires { ⌜ now index ≡ indexOf (now image) ⌝ }
+    ensures { λ r. ⌜ r ≡ sidesMatch (now (image .entry)) (now (body .entry)) (now (left .entry)) (now (right .entry)) ⌝ }
 {
-    if same_bytes(left, body_of(s, ix, word_at(b, 3))) {
-        return same_bytes(right, body_of(s, ix, word_at(b, 5)));
+    if same_bytes(left, body_of(image, index, word_at(body, 3))) {
+        return same_bytes(right, body_of(image, index, word_at(body, 5)));
     }
     false
 }
 
 // Line n is a justified implication between formulas of these bytes.
 fn line_serves<'a, 'b, 'c, 'd, 'e>(
-    s: &'a [u8],
-    ix: &'b [usize],
-    z: Sizes,
-    m: &'c [bool],
-    n: usize,
+    image: &'a [u8],
+    index: &'b [usize],
+    sizes: Sizes,
+    marks: &'c [bool],
+    number: usize,
     left: &'d [u8],
     right: &'e [u8],
 ) -> bool
-    requires { ⌜ (now ix ≡ indexOf (now s)) × (n < 65536) ⌝ }
-    ensures { λ r. ⌜ r ≡ lineServes (now (s .entry)) z (asMarks (now (m .entry))) n (now (left .entry)) (now (right .entry)) ⌝ }
+    requires { ⌜ (now index ≡ indexOf (now image)) × (number < 65536) ⌝ }
+    ensures { λ r. ⌜ r ≡ lineServes (now (image .entry)) sizes (asMarks (now (marks .entry))) number (now (left .entry))
+        (now (right .entry)) ⌝ }
 {
-    if is_marked(m, n) {
-        let b = body_of(s, ix, (z.formulas as usize) + (z.threads as usize) + 1 + n);
-        if is_implication(b) {
-            return sides_match(s, ix, b, left, right);
+    if is_marked(marks, number) {
+        let body = body_of(
+            image,
+            index,
+            (sizes.formulas as usize) + (sizes.threads as usize) + 1 + number,
+        );
+        if is_implication(body) {
+            return sides_match(image, index, body, left, right);
         }
     }
     false
@@ -97,53 +107,88 @@ fn line_serves<'a, 'b, 'c, 'd, 'e>(
 // Entry i, which is that of point k of thread t.
 fn entry_serves<'a, 'b, 'c, 'd, 'e, 'f>(
     old: &'a [u8],
-    ox: &'b [usize],
-    z: Sizes,
-    c: Totals,
+    old_index: &'b [usize],
+    old_sizes: Sizes,
+    old_totals: Totals,
     new: &'c [u8],
-    nx: &'d [usize],
-    y: Sizes,
-    d: Totals,
-    m: &'e [bool],
+    new_index: &'d [usize],
+    new_sizes: Sizes,
+    new_totals: Totals,
+    marks: &'e [bool],
     table: &'f [u8],
     t: usize,
-    k: usize,
+    point: usize,
     i: usize,
 ) -> bool
-    requires { ⌜ (((now ox ≡ indexOf (now old)) × ((decoded (now old) ≡ Sound z) × (c ≡ totalsOf z (bodies (now old)))))
-        × ((now nx ≡ indexOf (now new)) × ((decoded (now new) ≡ Sound y) × (d ≡ totalsOf y (bodies (now new))))))
-        × (((1 ≤ t) × (t ≤ z .threads)) × ((t ≤ y .threads) × ((k < 256) × (i < 65536)))) ⌝ }
-    ensures { λ r. ⌜ r ≡ entryServes (now (old .entry)) z (now (new .entry)) y (asMarks (now (m .entry))) (now (table .entry)) t k i ⌝ }
+    requires { ⌜ (((now old_index ≡ indexOf (now old)) × ((decoded (now old) ≡ Sound old_sizes)
+        × (old_totals ≡ totalsOf old_sizes (bodies (now old)))))
+        × ((now new_index ≡ indexOf (now new)) × ((decoded (now new) ≡ Sound new_sizes)
+        × (new_totals ≡ totalsOf new_sizes (bodies (now new))))))
+        × (((1 ≤ t) × (t ≤ old_sizes .threads)) × ((t ≤ new_sizes .threads) × ((point < 256) × (i < 65536)))) ⌝ }
+    ensures { λ r. ⌜ r ≡ entryServes (now (old .entry)) old_sizes (now (new .entry)) new_sizes (asMarks (now (marks .entry)))
+        (now (table .entry)) t point i ⌝ }
 {
-    let left = assertion_of(old, ox, z, c, t, k);
-    let right = assertion_of(new, nx, y, d, t, point_named(table, i));
-    line_serves(new, nx, y, m, line_named(table, i), left, right)
+    let left = assertion_of(old, old_index, old_sizes, old_totals, t, point);
+    let right = assertion_of(
+        new,
+        new_index,
+        new_sizes,
+        new_totals,
+        t,
+        point_named(table, i),
+    );
+    line_serves(
+        new,
+        new_index,
+        new_sizes,
+        marks,
+        line_named(table, i),
+        left,
+        right,
+    )
 }
 
 // The first n entries of thread t.
 fn entries_serve<'a, 'b, 'c, 'd, 'e, 'f>(
     old: &'a [u8],
-    ox: &'b [usize],
-    z: Sizes,
-    c: Totals,
+    old_index: &'b [usize],
+    old_sizes: Sizes,
+    old_totals: Totals,
     new: &'c [u8],
-    nx: &'d [usize],
-    y: Sizes,
-    d: Totals,
-    m: &'e [bool],
+    new_index: &'d [usize],
+    new_sizes: Sizes,
+    new_totals: Totals,
+    marks: &'e [bool],
     table: &'f [u8],
     t: usize,
     from: usize,
     n: usize,
 ) -> bool
-    requires { ⌜ (((now ox ≡ indexOf (now old)) × ((decoded (now old) ≡ Sound z) × (c ≡ totalsOf z (bodies (now old)))))
-        × ((now nx ≡ indexOf (now new)) × ((decoded (now new) ≡ Sound y) × (d ≡ totalsOf y (bodies (now new))))))
-        × (((1 ≤ t) × (t ≤ z .threads)) × ((t ≤ y .threads) × ((n ≤ 256) × (from + n < 65536)))) ⌝ }
-    ensures { λ r. ⌜ r ≡ entriesServe (now (old .entry)) z (now (new .entry)) y (asMarks (now (m .entry))) (now (table .entry)) t from n ⌝ }
+    requires { ⌜ (((now old_index ≡ indexOf (now old)) × ((decoded (now old) ≡ Sound old_sizes)
+        × (old_totals ≡ totalsOf old_sizes (bodies (now old)))))
+        × ((now new_index ≡ indexOf (now new)) × ((decoded (now new) ≡ Sound new_sizes)
+        × (new_totals ≡ totalsOf new_sizes (bodies (now new))))))
+        × (((1 ≤ t) × (t ≤ old_sizes .threads)) × ((t ≤ new_sizes .threads) × ((n ≤ 256) × (from + n < 65536)))) ⌝ }
+    ensures { λ r. ⌜ r ≡ entriesServe (now (old .entry)) old_sizes (now (new .entry)) new_sizes (asMarks (now (marks .entry)))
+        (now (table .entry)) t from n ⌝ }
 {
     let mut k: usize = 0;
     while k < n {
-        if entry_serves(old, ox, z, c, new, nx, y, d, m, table, t, k, from + k) {
+        if entry_serves(
+            old,
+            old_index,
+            old_sizes,
+            old_totals,
+            new,
+            new_index,
+            new_sizes,
+            new_totals,
+            marks,
+            table,
+            t,
+            k,
+            from + k,
+        ) {
             k += 1;
         } else {
             return false;
@@ -155,50 +200,82 @@ fn entries_serve<'a, 'b, 'c, 'd, 'e, 'f>(
 // The entries of thread t.
 fn thread_serves<'a, 'b, 'c, 'd, 'e, 'f>(
     old: &'a [u8],
-    ox: &'b [usize],
-    z: Sizes,
-    c: Totals,
+    old_index: &'b [usize],
+    old_sizes: Sizes,
+    old_totals: Totals,
     new: &'c [u8],
-    nx: &'d [usize],
-    y: Sizes,
-    d: Totals,
-    m: &'e [bool],
+    new_index: &'d [usize],
+    new_sizes: Sizes,
+    new_totals: Totals,
+    marks: &'e [bool],
     table: &'f [u8],
     t: usize,
 ) -> bool
-    requires { ⌜ (((now ox ≡ indexOf (now old)) × ((decoded (now old) ≡ Sound z) × (c ≡ totalsOf z (bodies (now old)))))
-        × ((now nx ≡ indexOf (now new)) × ((decoded (now new) ≡ Sound y) × (d ≡ totalsOf y (bodies (now new))))))
-        × (((1 ≤ t) × (t ≤ z .threads)) × (t ≤ y .threads)) ⌝ }
-    ensures { λ r. ⌜ r ≡ threadServes (now (old .entry)) z (now (new .entry)) y (asMarks (now (m .entry))) (now (table .entry)) t ⌝ }
+    requires { ⌜ (((now old_index ≡ indexOf (now old)) × ((decoded (now old) ≡ Sound old_sizes)
+        × (old_totals ≡ totalsOf old_sizes (bodies (now old)))))
+        × ((now new_index ≡ indexOf (now new)) × ((decoded (now new) ≡ Sound new_sizes)
+        × (new_totals ≡ totalsOf new_sizes (bodies (now new))))))
+        × (((1 ≤ t) × (t ≤ old_sizes .threads)) × (t ≤ new_sizes .threads)) ⌝ }
+    ensures { λ r. ⌜ r ≡ threadServes (now (old .entry)) old_sizes (now (new .entry)) new_sizes (asMarks (now (marks .entry)))
+        (now (table .entry)) t ⌝ }
 {
-    let from = points_before(old, ox, z, c, t);
-    let last = last_point_of(old, ox, z, t);
-    entries_serve(old, ox, z, c, new, nx, y, d, m, table, t, from, last + 1)
+    let from = points_before(old, old_index, old_sizes, old_totals, t);
+    let last = last_point_of(old, old_index, old_sizes, t);
+    entries_serve(
+        old,
+        old_index,
+        old_sizes,
+        old_totals,
+        new,
+        new_index,
+        new_sizes,
+        new_totals,
+        marks,
+        table,
+        t,
+        from,
+        last + 1,
+    )
 }
 
 // All entries.
 pub fn lines_serve<'a, 'b, 'c, 'd, 'e, 'f>(
     old: &'a [u8],
-    ox: &'b [usize],
-    z: Sizes,
-    c: Totals,
+    old_index: &'b [usize],
+    old_sizes: Sizes,
+    old_totals: Totals,
     new: &'c [u8],
-    nx: &'d [usize],
-    y: Sizes,
-    d: Totals,
-    m: &'e [bool],
+    new_index: &'d [usize],
+    new_sizes: Sizes,
+    new_totals: Totals,
+    marks: &'e [bool],
     table: &'f [u8],
 ) -> bool
-    requires { ⌜ (((now ox ≡ indexOf (now old)) × ((decoded (now old) ≡ Sound z) × (c ≡ totalsOf z (bodies (now old)))))
-        × ((now nx ≡ indexOf (now new)) × ((decoded (now new) ≡ Sound y) × (d ≡ totalsOf y (bodies (now new))))))
-        × (z .threads ≡ y .threads) ⌝ }
-    ensures { λ r. ⌜ r ≡ threadsServe (now (old .entry)) z (now (new .entry)) y (asMarks (now (m .entry))) (now (table .entry))
-        (z .threads) ⌝ }
+    requires { ⌜ (((now old_index ≡ indexOf (now old)) × ((decoded (now old) ≡ Sound old_sizes)
+        × (old_totals ≡ totalsOf old_sizes (bodies (now old)))))
+        × ((now new_index ≡ indexOf (now new)) × ((decoded (now new) ≡ Sound new_sizes)
+        × (new_totals ≡ totalsOf new_sizes (bodies (now new))))))
+        × (old_sizes .threads ≡ new_sizes .threads) ⌝ }
+    ensures { λ r. ⌜ r ≡ threadsServe (now (old .entry)) old_sizes (now (new .entry)) new_sizes (asMarks (now (marks .entry)))
+        (now (table .entry))
+        (old_sizes .threads) ⌝ }
 {
-    let threads = z.threads as usize;
+    let threads = old_sizes.threads as usize;
     let mut t: usize = 0;
     while t < threads {
-        if thread_serves(old, ox, z, c, new, nx, y, d, m, table, t + 1) {
+        if thread_serves(
+            old,
+            old_index,
+            old_sizes,
+            old_totals,
+            new,
+            new_index,
+            new_sizes,
+            new_totals,
+            marks,
+            table,
+            t + 1,
+        ) {
             t += 1;
         } else {
             return false;

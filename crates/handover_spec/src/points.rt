@@ -12,18 +12,25 @@ ghost use Rattle.image.specs.declared.decode.Decoded.the-variants.{Sound};
 ghost use Rattle.image_access.specs.Totals.{totalsOf};
 ghost use Rattle.handover_spec.specs.Table.{mostPoints};
 
-pub fn points_in(s: &[u8], z: Sizes, c: Totals) -> usize
-    requires { ⌜ (decoded (now s) ≡ Sound z) × (c ≡ totalsOf z (bodies (now s))) ⌝ }
-    ensures { λ r. ⌜ (r ≡ c .points) × (r ≤ mostPoints) ⌝ }
+pub fn points_in(image: &[u8], sizes: Sizes, totals: Totals) -> usize
+    requires { ⌜ (decoded (now image) ≡ Sound sizes) × (totals ≡ totalsOf sizes (bodies (now image))) ⌝ }
+    ensures { λ r. ⌜ (r ≡ totals .points) × (r ≤ mostPoints) ⌝ }
 {
-    c.points
+    totals.points
 }
 
 // Before thread t.
-pub fn points_before<'a, 'b>(s: &'a [u8], ix: &'b [usize], z: Sizes, c: Totals, t: usize) -> usize
-    requires { ⌜ ((now ix ≡ indexOf (now s)) × ((decoded (now s) ≡ Sound z) × (c ≡ totalsOf z (bodies (now s)))))
-        × ((1 ≤ t) × (t ≤ z .threads)) ⌝ }
-    ensures { λ r. ⌜ (r ≡ tallyTo z (bodies (now (s .entry))) (t - 1) .points) × (r ≤ mostPoints) ⌝ }
+pub fn points_before<'a, 'b>(
+    image: &'a [u8],
+    index: &'b [usize],
+    sizes: Sizes,
+    totals: Totals,
+    t: usize,
+) -> usize
+    requires { ⌜ ((now index ≡ indexOf (now image)) × ((decoded (now image) ≡ Sound sizes)
+        × (totals ≡ totalsOf sizes (bodies (now image)))))
+        × ((1 ≤ t) × (t ≤ sizes .threads)) ⌝ }
+    ensures { λ r. ⌜ (r ≡ tallyTo sizes (bodies (now (image .entry))) (t - 1) .points) × (r ≤ mostPoints) ⌝ }
 {
-    before_thread(s, ix, z, c, t)
+    before_thread(image, index, sizes, totals, t)
 }

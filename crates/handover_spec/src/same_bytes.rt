@@ -3,15 +3,15 @@ use limits::read::octet_at;
 ghost use mathlib.Core.Path.{_≡_};
 ghost use Rattle.semantics.specs.Formula.{sameBytes};
 
-pub fn same_bytes<'a, 'b>(a: &'a [u8], b: &'b [u8]) -> bool
-    ensures { λ r. ⌜ r ≡ sameBytes (now (a .entry)) (now (b .entry)) ⌝ }
+pub fn same_bytes<'a, 'b>(first: &'a [u8], second: &'b [u8]) -> bool
+    ensures { λ r. ⌜ r ≡ sameBytes (now (first .entry)) (now (second .entry)) ⌝ }
 {
-    if a.len() != b.len() {
+    if first.len() != second.len() {
         return false;
     }
     let mut i: usize = 0;
-    while i < a.len() {
-        if octet_at(a, i) != octet_at(b, i) {
+    while i < first.len() {
+        if octet_at(first, i) != octet_at(second, i) {
             return false;
         }
         i += 1;

@@ -19,45 +19,58 @@ ghost use Rattle.handover_spec.specs.Fits.{threadFits, threadsFit, table
 // The entries of thread t.
 fn thread_fits<'a, 'b, 'c, 'd, 'e>(
     old: &'a [u8],
-    ox: &'b [usize],
-    z: Sizes,
-    c: Totals,
+    old_index: &'b [usize],
+    old_sizes: Sizes,
+    old_totals: Totals,
     new: &'c [u8],
-    nx: &'d [usize],
-    y: Sizes,
+    new_index: &'d [usize],
+    new_sizes: Sizes,
     table: &'e [u8],
     t: usize,
 ) -> bool
-    requires { ⌜ ((now ox ≡ indexOf (now old)) × (now nx ≡ indexOf (now new)))
-        × (((decoded (now old) ≡ Sound z) × (c ≡ totalsOf z (bodies (now old)))) × ((1 ≤ t) × (t ≤ z .threads))) ⌝ }
-    ensures { λ r. ⌜ r ≡ threadFits (imageOf z (bodies (now (old .entry)))) (imageOf y (bodies (now (new .entry)))) (now (table .entry))
+    requires { ⌜ ((now old_index ≡ indexOf (now old)) × (now new_index ≡ indexOf (now new)))
+        × (((decoded (now old) ≡ Sound old_sizes) × (old_totals ≡ totalsOf old_sizes (bodies (now old))))
+        × ((1 ≤ t) × (t ≤ old_sizes .threads))) ⌝ }
+    ensures { λ r. ⌜ r ≡ threadFits (imageOf old_sizes (bodies (now (old .entry)))) (imageOf new_sizes (bodies (now (new .entry))))
+        (now (table .entry))
         t ⌝ }
 {
-    let from = points_before(old, ox, z, c, t);
-    let last = last_point_of(old, ox, z, t);
-    let new_last = last_point_of(new, nx, y, t);
-    entries_fit(table, new_last, y.lines as usize, from, last + 1)
+    let from = points_before(old, old_index, old_sizes, old_totals, t);
+    let last = last_point_of(old, old_index, old_sizes, t);
+    let new_last = last_point_of(new, new_index, new_sizes, t);
+    entries_fit(table, new_last, new_sizes.lines as usize, from, last + 1)
 }
 
 fn threads_fit<'a, 'b, 'c, 'd, 'e>(
     old: &'a [u8],
-    ox: &'b [usize],
-    z: Sizes,
-    c: Totals,
+    old_index: &'b [usize],
+    old_sizes: Sizes,
+    old_totals: Totals,
     new: &'c [u8],
-    nx: &'d [usize],
-    y: Sizes,
+    new_index: &'d [usize],
+    new_sizes: Sizes,
     table: &'e [u8],
 ) -> bool
-    requires { ⌜ ((now ox ≡ indexOf (now old)) × (now nx ≡ indexOf (now new)))
-        × ((decoded (now old) ≡ Sound z) × (c ≡ totalsOf z (bodies (now old)))) ⌝ }
-    ensures { λ r. ⌜ r ≡ threadsFit (imageOf z (bodies (now (old .entry)))) (imageOf y (bodies (now (new .entry)))) (now (table .entry))
-        (z .threads) ⌝ }
+    requires { ⌜ ((now old_index ≡ indexOf (now old)) × (now new_index ≡ indexOf (now new)))
+        × ((decoded (now old) ≡ Sound old_sizes) × (old_totals ≡ totalsOf old_sizes (bodies (now old)))) ⌝ }
+    ensures { λ r. ⌜ r ≡ threadsFit (imageOf old_sizes (bodies (now (old .entry)))) (imageOf new_sizes (bodies (now (new .entry))))
+        (now (table .entry))
+        (old_sizes .threads) ⌝ }
 {
-    let threads = z.threads as usize;
+    let threads = old_sizes.threads as usize;
     let mut t: usize = 0;
     while t < threads {
-        if thread_fits(old, ox, z, c, new, nx, y, table, t + 1) {
+        if thread_fits(
+            old,
+            old_index,
+            old_sizes,
+            old_totals,
+            new,
+            new_index,
+            new_sizes,
+            table,
+            t + 1,
+        ) {
             t += 1;
         } else {
             return false;
@@ -68,20 +81,30 @@ fn threads_fit<'a, 'b, 'c, 'd, 'e>(
 
 pub fn table_fits<'a, 'b, 'c, 'd, 'e>(
     old: &'a [u8],
-    ox: &'b [usize],
-    z: Sizes,
-    c: Totals,
+    old_index: &'b [usize],
+    old_sizes: Sizes,
+    old_totals: Totals,
     new: &'c [u8],
-    nx: &'d [usize],
-    y: Sizes,
+    new_index: &'d [usize],
+    new_sizes: Sizes,
     table: &'e [u8],
 ) -> bool
-    requires { ⌜ ((now ox ≡ indexOf (now old)) × (now nx ≡ indexOf (now new)))
-        × ((decoded (now old) ≡ Sound z) × (c ≡ totalsOf z (bodies (now old)))) ⌝ }
-    ensures { λ r. ⌜ r ≡ tableFits (imageOf z (bodies (now (old .entry)))) (imageOf y (bodies (now (new .entry)))) (now (table .entry)) ⌝ }
+    requires { ⌜ ((now old_index ≡ indexOf (now old)) × (now new_index ≡ indexOf (now new)))
+        × ((decoded (now old) ≡ Sound old_sizes) × (old_totals ≡ totalsOf old_sizes (bodies (now old)))) ⌝ }
+    ensures { λ r. ⌜ r ≡ tableFits (imageOf old_sizes (bodies (now (old .entry)))) (imageOf new_sizes (bodies (now (new .entry))))
+        (now (table .entry)) ⌝ }
 {
-    if table.len() != Entry::SIZE * points_in(old, z, c) {
+    if table.len() != Entry::SIZE * points_in(old, old_sizes, old_totals) {
         return false;
     }
-    threads_fit(old, ox, z, c, new, nx, y, table)
+    threads_fit(
+        old,
+        old_index,
+        old_sizes,
+        old_totals,
+        new,
+        new_index,
+        new_sizes,
+        table,
+    )
 }

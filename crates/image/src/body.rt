@@ -26,17 +26,17 @@ pub enum Place {
 }
 
 // Record i, counted from 1.
-fn place_of(z: Sizes, i: usize) -> Place
-    ensures { λ r. ⌜ r ≡ placeOf z i ⌝ }
+fn place_of(sizes: Sizes, i: usize) -> Place
+    ensures { λ r. ⌜ r ≡ placeOf sizes i ⌝ }
 {
     if i == 1 {
         return Place::Header;
     }
-    let formulas = 1 + (z.formulas as usize);
+    let formulas = 1 + (sizes.formulas as usize);
     if i <= formulas {
         return Place::Formula;
     }
-    let threads = formulas + (z.threads as usize);
+    let threads = formulas + (sizes.threads as usize);
     if i <= threads {
         return Place::Thread((i - formulas) as u8);
     }
@@ -44,10 +44,10 @@ fn place_of(z: Sizes, i: usize) -> Place
     if i <= outline {
         return Place::Outline;
     }
-    if i <= outline + (z.lines as usize) {
+    if i <= outline + (sizes.lines as usize) {
         return Place::Line(i - outline - 1);
     }
-    if i <= outline + (z.lines as usize) + 1 {
+    if i <= outline + (sizes.lines as usize) + 1 {
         return Place::Obligations;
     }
     Place::Claim
@@ -55,24 +55,24 @@ fn place_of(z: Sizes, i: usize) -> Place
 
 // Where t thread records were counted.
 pub fn check_body<'a, 'b, 'c>(
-    s: &'a [u8],
-    ix: &'b [usize],
-    on: &'c [bool],
-    t: usize,
-    z: Sizes,
+    image: &'a [u8],
+    index: &'b [usize],
+    outlined: &'c [bool],
+    threads: usize,
+    sizes: Sizes,
     i: usize,
-    b: &'a [u8],
+    body: &'a [u8],
 ) -> Checked
-    requires { ⌜ (now ix ≡ indexOf (now s)) × (now on ≡ outlinedOf z (bodies (now s))) ⌝ }
-    ensures { λ r. ⌜ r ≡ check t z (bodies (now (s .entry))) (placeOf z i) (now (b .entry)) ⌝ }
+    requires { ⌜ (now index ≡ indexOf (now image)) × (now outlined ≡ outlinedOf sizes (bodies (now image))) ⌝ }
+    ensures { λ r. ⌜ r ≡ check threads sizes (bodies (now (image .entry))) (placeOf sizes i) (now (body .entry)) ⌝ }
 {
-    match place_of(z, i) {
-        Place::Header => check_header(b, t),
-        Place::Formula => check_formula(b, z),
-        Place::Thread(u) => check_thread(s, ix, z, u, b),
-        Place::Outline => check_outline(s, ix, on, z, b),
-        Place::Line(lower) => check_line(s, ix, on, z, lower, b),
-        Place::Obligations => check_obligations(s, ix, z, b),
-        Place::Claim => check_claim(s, ix, z, b),
+    match place_of(sizes, i) {
+        Place::Header => check_header(body, threads),
+        Place::Formula => check_formula(body, sizes),
+        Place::Thread(u) => check_thread(image, index, sizes, u, body),
+        Place::Outline => check_outline(image, index, outlined, sizes, body),
+        Place::Line(lower) => check_line(image, index, outlined, sizes, lower, body),
+        Place::Obligations => check_obligations(image, index, sizes, body),
+        Place::Claim => check_claim(image, index, sizes, body),
     }
 }

@@ -23,21 +23,25 @@ pub enum Decoded {
     Sound(Sizes),
 }
 
-fn record_count(z: Sizes) -> usize
-    ensures { λ r. ⌜ (r ≡ recordCount z) × (r < 1000000) ⌝ }
+fn record_count(sizes: Sizes) -> usize
+    ensures { λ r. ⌜ (r ≡ recordCount sizes) × (r < 1000000) ⌝ }
 {
-    3 + (z.formulas as usize) + (z.threads as usize) + (z.lines as usize) + (z.claims as usize)
+    3
+        + (sizes.formulas as usize)
+        + (sizes.threads as usize)
+        + (sizes.lines as usize)
+        + (sizes.claims as usize)
 }
 
 // By the header's bytes and what the frames counted.
-fn sizes_of(h: &[u8], formulas: u16, lines: u16, claims: u16) -> Sizes
-    ensures { λ r. ⌜ r ≡ sizesOf (now (h .entry)) formulas lines claims ⌝ }
+fn sizes_of(header: &[u8], formulas: u16, lines: u16, claims: u16) -> Sizes
+    ensures { λ r. ⌜ r ≡ sizesOf (now (header .entry)) formulas lines claims ⌝ }
 {
     Sizes {
-        threads: byte_at(h, Header::THREADS) as u8,
-        words: byte_at(h, Header::WORDS) as u8,
-        registers: byte_at(h, Header::REGISTERS) as u8,
-        range: range_of(h),
+        threads: byte_at(header, Header::THREADS) as u8,
+        words: byte_at(header, Header::WORDS) as u8,
+        registers: byte_at(header, Header::REGISTERS) as u8,
+        range: range_of(header),
         formulas,
         lines,
         claims,
@@ -46,20 +50,20 @@ fn sizes_of(h: &[u8], formulas: u16, lines: u16, claims: u16) -> Sizes
 
 // With the table of formulas that may stand in an outline or a triple.
 fn check_bodies<'a, 'b, 'c>(
-    s: &'a [u8],
-    ix: &'b [usize],
-    on: &'c [bool],
-    t: usize,
-    z: Sizes,
+    image: &'a [u8],
+    index: &'b [usize],
+    outlined: &'c [bool],
+    threads: usize,
+    sizes: Sizes,
 ) -> Decoded
-    requires { ⌜ (now ix ≡ indexOf (now s)) × (now on ≡ outlinedOf z (bodies (now s))) ⌝ }
-    ensures { λ r. ⌜ r ≡ firstFault t z (bodies (now (s .entry))) 1 (recordCount z) (bodies (now (s .entry))) ⌝ }
+    requires { ⌜ (now index ≡ indexOf (now image)) × (now outlined ≡ outlinedOf sizes (bodies (now image))) ⌝ }
+    ensures { λ r. ⌜ r ≡ firstFault threads sizes (bodies (now (image .entry))) 1 (recordCount sizes) (bodies (now (image .entry))) ⌝ }
 {
-    let n = record_count(z);
+    let n = record_count(sizes);
     let mut i: usize = 1;
     while i <= n {
-        let b = body_of(s, ix, i - 1);
-        match check_body(s, ix, on, t, z, i, b) {
+        let body = body_of(image, index, i - 1);
+        match check_body(image, index, outlined, threads, sizes, i, body) {
             Checked::Faulty(fault) => {
                 return Decoded::Refused { fault, record: i };
             }
@@ -68,15 +72,15 @@ fn check_bodies<'a, 'b, 'c>(
             }
         }
     }
-    Decoded::Sound(z)
+    Decoded::Sound(sizes)
 }
 
 // With the index of the records.
-pub fn decode_image<'a, 'b>(s: &'a [u8], ix: &'b [usize]) -> Decoded
-    requires { ⌜ now ix ≡ indexOf (now s) ⌝ }
-    ensures { λ r. ⌜ r ≡ decoded (now (s .entry)) ⌝ }
+pub fn decode_image<'a, 'b>(image: &'a [u8], index: &'b [usize]) -> Decoded
+    requires { ⌜ now index ≡ indexOf (now image) ⌝ }
+    ensures { λ r. ⌜ r ≡ decoded (now (image .entry)) ⌝ }
 {
-    match read_frames(s) {
+    match read_frames(image) {
         Framing::Refused { fault, record } => Decoded::Refused { fault, record },
         Framing::Sound {
             formulas,
@@ -84,10 +88,10 @@ pub fn decode_image<'a, 'b>(s: &'a [u8], ix: &'b [usize]) -> Decoded
             lines,
             claims,
         } => {
-            let h = body_of(s, ix, 0);
-            let z = sizes_of(h, formulas, lines, claims);
-            let outlined = outlined_of(s, ix, z);
-            check_bodies(s, ix, &outlined.on, threads as usize, z)
+            let header = body_of(image, index, 0);
+            let sizes = sizes_of(header, formulas, lines, claims);
+            let outlined = outlined_of(image, index, sizes);
+            check_bodies(image, index, &outlined.on, threads as usize, sizes)
         }
     }
 }

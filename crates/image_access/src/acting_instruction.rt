@@ -32,50 +32,56 @@ fn register_first(operation: u8) -> bool
     operation == Instruction::ASSIGN_TWO
 }
 
-fn read_acting<'a, 'b>(s: &'a [u8], ix: &'b [usize], i: Instruction) -> Acting
-    requires { ⌜ now ix ≡ indexOf (now s) ⌝ }
-    ensures { λ r. ⌜ r ≡ actingOf (now (s .entry)) i ⌝ }
+fn read_acting<'a, 'b>(image: &'a [u8], index: &'b [usize], instruction: Instruction) -> Acting
+    requires { ⌜ now index ≡ indexOf (now image) ⌝ }
+    ensures { λ r. ⌜ r ≡ actingOf (now (image .entry)) instruction ⌝ }
 {
-    if i.operation == Instruction::BRANCH {
+    if instruction.operation == Instruction::BRANCH {
         return Acting {
-            operation: i.operation,
-            whole: i.operation,
+            operation: instruction.operation,
+            whole: instruction.operation,
             word: 0,
             register: 0,
-            formula: s.len(),
+            formula: image.len(),
             noted: 0,
-            note: s.len(),
+            note: image.len(),
         };
     }
-    let formula = formula_at(s, ix, i.formula);
-    let note = formula_at(s, ix, i.second.formula);
-    if register_first(i.operation) {
+    let formula = formula_at(image, index, instruction.formula);
+    let note = formula_at(image, index, instruction.second.formula);
+    if register_first(instruction.operation) {
         return Acting {
-            operation: i.operation,
-            whole: i.operation,
-            word: i.b,
-            register: i.a,
+            operation: instruction.operation,
+            whole: instruction.operation,
+            word: instruction.b,
+            register: instruction.a,
             formula,
-            noted: i.second.a,
+            noted: instruction.second.a,
             note,
         };
     }
     Acting {
-        operation: first_operation(i.operation),
-        whole: i.operation,
-        word: i.a,
-        register: i.b,
+        operation: first_operation(instruction.operation),
+        whole: instruction.operation,
+        word: instruction.a,
+        register: instruction.b,
         formula,
-        noted: i.second.a,
+        noted: instruction.second.a,
         note,
     }
 }
 
 // Of the instruction at point p of thread t.
-pub fn acting_of<'a, 'b>(s: &'a [u8], ix: &'b [usize], z: Sizes, t: usize, p: usize) -> Acting
-    requires { ⌜ now ix ≡ indexOf (now s) ⌝ }
-    ensures { λ r. ⌜ r ≡ actingOf (now (s .entry)) (instructionOf z (bodies (now (s .entry))) t p) ⌝ }
+pub fn acting_of<'a, 'b>(
+    image: &'a [u8],
+    index: &'b [usize],
+    sizes: Sizes,
+    t: usize,
+    point: usize,
+) -> Acting
+    requires { ⌜ now index ≡ indexOf (now image) ⌝ }
+    ensures { λ r. ⌜ r ≡ actingOf (now (image .entry)) (instructionOf sizes (bodies (now (image .entry))) t point) ⌝ }
 {
-    let i = instruction_of(s, ix, z, t, p);
-    read_acting(s, ix, i)
+    let instruction = instruction_of(image, index, sizes, t, point);
+    read_acting(image, index, instruction)
 }

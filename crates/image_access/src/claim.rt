@@ -19,41 +19,41 @@ pub struct Claimed {
     pub line: usize,
 }
 
-fn claim_body<'a, 'b>(s: &'a [u8], ix: &'b [usize], z: Sizes, i: usize) -> &'a [u8]
-    requires { ⌜ (now ix ≡ indexOf (now s)) × (i < 65536) ⌝ }
-    ensures { λ r. ⌜ now r ≡ claimBody z (bodies (now (s .entry))) i ⌝ }
+fn claim_body<'a, 'b>(image: &'a [u8], index: &'b [usize], sizes: Sizes, i: usize) -> &'a [u8]
+    requires { ⌜ (now index ≡ indexOf (now image)) × (i < 65536) ⌝ }
+    ensures { λ r. ⌜ now r ≡ claimBody sizes (bodies (now (image .entry))) i ⌝ }
 {
     body_of(
-        s,
-        ix,
-        (z.formulas as usize) + (z.threads as usize) + 1 + (z.lines as usize) + 2 + i,
+        image,
+        index,
+        (sizes.formulas as usize) + (sizes.threads as usize) + 1 + (sizes.lines as usize) + 2 + i,
     )
 }
 
-fn read_claim(b: &[u8]) -> Claimed
-    ensures { λ r. ⌜ (r ≡ claimedIn (now (b .entry))) × (r .line < 65536) ⌝ }
+fn read_claim(body: &[u8]) -> Claimed
+    ensures { λ r. ⌜ (r ≡ claimedIn (now (body .entry))) × (r .line < 65536) ⌝ }
 {
     Claimed {
-        thread: octet_at(b, 0),
-        point: octet_at(b, 1),
-        other: octet_at(b, 2),
-        other_point: octet_at(b, 3),
-        line: word_at(b, 4),
+        thread: octet_at(body, 0),
+        point: octet_at(body, 1),
+        other: octet_at(body, 2),
+        other_point: octet_at(body, 3),
+        line: word_at(body, 4),
     }
 }
 
-pub fn claim_of<'a, 'b>(s: &'a [u8], ix: &'b [usize], z: Sizes, i: usize) -> Claimed
-    requires { ⌜ (now ix ≡ indexOf (now s)) × (i < 65536) ⌝ }
-    ensures { λ r. ⌜ (r ≡ claimedIn (claimBody z (bodies (now (s .entry))) i)) × (r .line < 65536) ⌝ }
+pub fn claim_of<'a, 'b>(image: &'a [u8], index: &'b [usize], sizes: Sizes, i: usize) -> Claimed
+    requires { ⌜ (now index ≡ indexOf (now image)) × (i < 65536) ⌝ }
+    ensures { λ r. ⌜ (r ≡ claimedIn (claimBody sizes (bodies (now (image .entry))) i)) × (r .line < 65536) ⌝ }
 {
-    let b = claim_body(s, ix, z, i);
+    let b = claim_body(image, index, sizes, i);
     read_claim(b)
 }
 
 // The number of its record, counted from 1.
-pub fn claim_place(z: Sizes, i: usize) -> usize
+pub fn claim_place(sizes: Sizes, i: usize) -> usize
     requires { ⌜ i < 65536 ⌝ }
-    ensures { λ r. ⌜ r ≡ claimPlace z i ⌝ }
+    ensures { λ r. ⌜ r ≡ claimPlace sizes i ⌝ }
 {
-    (z.formulas as usize) + (z.threads as usize) + (z.lines as usize) + 4 + i
+    (sizes.formulas as usize) + (sizes.threads as usize) + (sizes.lines as usize) + 4 + i
 }

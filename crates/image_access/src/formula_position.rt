@@ -5,22 +5,22 @@ ghost use Rattle.image_index.specs.IndexTable.{indexOf};
 ghost use Rattle.image_access.specs.AccessPlaces.{bodyStart, formulaAt};
 
 // The body of the record at a position stands behind its length and its kind.
-fn body_start(s: &[u8], p: usize) -> usize
-    ensures { λ r. ⌜ r ≡ bodyStart (now (s .entry)) p ⌝ }
+fn body_start(image: &[u8], at: usize) -> usize
+    ensures { λ r. ⌜ r ≡ bodyStart (now (image .entry)) at ⌝ }
 {
-    if s.len() <= p {
-        return s.len();
+    if image.len() <= at {
+        return image.len();
     }
-    p + 4
+    at + 4
 }
 
 // The position of formula k; where there is none, the end of the image.
-pub fn formula_at<'a, 'b>(s: &'a [u8], ix: &'b [usize], k: usize) -> usize
-    requires { ⌜ now ix ≡ indexOf (now s) ⌝ }
-    ensures { λ r. ⌜ r ≡ formulaAt (now (s .entry)) k ⌝ }
+pub fn formula_at<'a, 'b>(image: &'a [u8], index: &'b [usize], number: usize) -> usize
+    requires { ⌜ now index ≡ indexOf (now image) ⌝ }
+    ensures { λ r. ⌜ r ≡ formulaAt (now (image .entry)) number ⌝ }
 {
-    if k == 0 {
-        return s.len();
+    if number == 0 {
+        return image.len();
     }
-    body_start(s, place_of(s, ix, k))
+    body_start(image, place_of(image, index, number))
 }

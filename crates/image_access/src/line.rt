@@ -26,46 +26,56 @@ pub struct Line {
 }
 
 // The body of line n. An image has no record with such a number as is tested for.
-fn line_body<'a, 'b>(s: &'a [u8], ix: &'b [usize], z: Sizes, n: usize) -> &'a [u8]
-    requires { ⌜ now ix ≡ indexOf (now s) ⌝ }
-    ensures { λ r. ⌜ now r ≡ lineBody z (bodies (now (s .entry))) n ⌝ }
+fn line_body<'a, 'b>(image: &'a [u8], index: &'b [usize], sizes: Sizes, number: usize) -> &'a [u8]
+    requires { ⌜ now index ≡ indexOf (now image) ⌝ }
+    ensures { λ r. ⌜ now r ≡ lineBody sizes (bodies (now (image .entry))) number ⌝ }
 {
-    if Limits::RECORDS <= n {
-        return body_of(s, ix, n);
+    if Limits::RECORDS <= number {
+        return body_of(image, index, number);
     }
-    body_of(s, ix, (z.formulas as usize) + (z.threads as usize) + 1 + n)
+    body_of(
+        image,
+        index,
+        (sizes.formulas as usize) + (sizes.threads as usize) + 1 + number,
+    )
 }
 
 // The line in a body.
-fn read_line<'a, 'b>(s: &'a [u8], ix: &'b [usize], b: &'a [u8]) -> Line
-    requires { ⌜ now ix ≡ indexOf (now s) ⌝ }
-    ensures { λ r. ⌜ r ≡ lineIn (now (s .entry)) (now (b .entry)) ⌝ }
+fn read_line<'a, 'b>(image: &'a [u8], index: &'b [usize], body: &'a [u8]) -> Line
+    requires { ⌜ now index ≡ indexOf (now image) ⌝ }
+    ensures { λ r. ⌜ r ≡ lineIn (now (image .entry)) (now (body .entry)) ⌝ }
 {
-    let left = formula_at(s, ix, word_at(b, 3));
-    let right = formula_at(s, ix, word_at(b, 5));
+    let left = formula_at(image, index, word_at(body, 3));
+    let right = formula_at(image, index, word_at(body, 5));
     Line {
-        rule: byte_at(b, 0) as u8,
-        thread: byte_at(b, 1) as u8,
-        point: byte_at(b, 2) as u8,
+        rule: byte_at(body, 0) as u8,
+        thread: byte_at(body, 1) as u8,
+        point: byte_at(body, 2) as u8,
         left,
         right,
-        count: byte_at(b, 7) as u8,
+        count: byte_at(body, 7) as u8,
     }
 }
 
-pub fn line_of<'a, 'b>(s: &'a [u8], ix: &'b [usize], z: Sizes, n: usize) -> Line
-    requires { ⌜ now ix ≡ indexOf (now s) ⌝ }
-    ensures { λ r. ⌜ r ≡ lineIn (now (s .entry)) (lineBody z (bodies (now (s .entry))) n) ⌝ }
+pub fn line_of<'a, 'b>(image: &'a [u8], index: &'b [usize], sizes: Sizes, number: usize) -> Line
+    requires { ⌜ now index ≡ indexOf (now image) ⌝ }
+    ensures { λ r. ⌜ r ≡ lineIn (now (image .entry)) (lineBody sizes (bodies (now (image .entry))) number) ⌝ }
 {
-    let b = line_body(s, ix, z, n);
-    read_line(s, ix, b)
+    let body = line_body(image, index, sizes, number);
+    read_line(image, index, body)
 }
 
 // The premise of line n at an index, from 0; 0 where there is none.
-pub fn premise_of<'a, 'b>(s: &'a [u8], ix: &'b [usize], z: Sizes, n: usize, j: usize) -> usize
-    requires { ⌜ now ix ≡ indexOf (now s) ⌝ }
-    ensures { λ r. ⌜ (r ≡ getD (premises (lineBody z (bodies (now (s .entry))) n)) j 0) × (r < 65536) ⌝ }
+pub fn premise_of<'a, 'b>(
+    image: &'a [u8],
+    index: &'b [usize],
+    sizes: Sizes,
+    number: usize,
+    j: usize,
+) -> usize
+    requires { ⌜ now index ≡ indexOf (now image) ⌝ }
+    ensures { λ r. ⌜ (r ≡ getD (premises (lineBody sizes (bodies (now (image .entry))) number)) j 0) × (r < 65536) ⌝ }
 {
-    let b = line_body(s, ix, z, n);
-    premise(b, j)
+    let body = line_body(image, index, sizes, number);
+    premise(body, j)
 }

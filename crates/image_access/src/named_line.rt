@@ -11,14 +11,20 @@ ghost use Rattle.image_access.specs.Totals.{totalsOf};
 ghost use Rattle.image_meaning.specs.Image.{namedLine};
 
 // Obligations count from 0 here; 0 for no line.
-pub fn named_line<'a, 'b>(s: &'a [u8], ix: &'b [usize], z: Sizes, y: Totals, i: usize) -> usize
-    requires { ⌜ (now ix ≡ indexOf (now s)) × (y ≡ totalsOf z (bodies (now s))) ⌝ }
-    ensures { λ r. ⌜ (r ≡ namedLine z (bodies (now (s .entry))) i) × (r < 65536) ⌝ }
+pub fn named_line<'a, 'b>(
+    image: &'a [u8],
+    index: &'b [usize],
+    sizes: Sizes,
+    totals: Totals,
+    i: usize,
+) -> usize
+    requires { ⌜ (now index ≡ indexOf (now image)) × (totals ≡ totalsOf sizes (bodies (now image))) ⌝ }
+    ensures { λ r. ⌜ (r ≡ namedLine sizes (bodies (now (image .entry))) i) × (r < 65536) ⌝ }
 {
-    let b = body_of(
-        s,
-        ix,
-        (z.formulas as usize) + (z.threads as usize) + 1 + (z.lines as usize) + 1,
+    let body = body_of(
+        image,
+        index,
+        (sizes.formulas as usize) + (sizes.threads as usize) + 1 + (sizes.lines as usize) + 1,
     );
-    number_at(b, y.obligations, i)
+    number_at(body, totals.obligations, i)
 }

@@ -18,58 +18,66 @@ ghost use Rattle.image_meaning.specs.Program.{outlineNumber};
 ghost use Rattle.image_access.specs.AccessPlaces.{formulaAt};
 
 // The last point of thread t. An image has no record with such a number as is tested for.
-pub fn last_point_of<'a, 'b>(s: &'a [u8], ix: &'b [usize], z: Sizes, t: usize) -> usize
-    requires { ⌜ now ix ≡ indexOf (now s) ⌝ }
-    ensures { λ r. ⌜ (r ≡ lastPoint (threadBody z (bodies (now (s .entry))) t)) × (r < 256) ⌝ }
+pub fn last_point_of<'a, 'b>(image: &'a [u8], index: &'b [usize], sizes: Sizes, t: usize) -> usize
+    requires { ⌜ now index ≡ indexOf (now image) ⌝ }
+    ensures { λ r. ⌜ (r ≡ lastPoint (threadBody sizes (bodies (now (image .entry))) t)) × (r < 256) ⌝ }
 {
     if Limits::RECORDS <= t {
-        return last_point(body_of(s, ix, t));
+        return last_point(body_of(image, index, t));
     }
-    last_point(body_of(s, ix, (z.formulas as usize) + t))
+    last_point(body_of(image, index, (sizes.formulas as usize) + t))
 }
 
 // The number of the formula at point p of thread t; 0 where there is none.
 fn outline_number<'a, 'b>(
-    s: &'a [u8],
-    ix: &'b [usize],
-    z: Sizes,
-    y: Totals,
+    image: &'a [u8],
+    index: &'b [usize],
+    sizes: Sizes,
+    totals: Totals,
     t: usize,
-    p: usize,
+    point: usize,
 ) -> usize
-    requires { ⌜ (now ix ≡ indexOf (now s)) × (y ≡ totalsOf z (bodies (now s))) ⌝ }
-    ensures { λ r. ⌜ r ≡ outlineNumber z (bodies (now (s .entry))) t p ⌝ }
+    requires { ⌜ (now index ≡ indexOf (now image)) × (totals ≡ totalsOf sizes (bodies (now image))) ⌝ }
+    ensures { λ r. ⌜ r ≡ outlineNumber sizes (bodies (now (image .entry))) t point ⌝ }
 {
     if t == 0 {
         return 0;
     }
-    if (z.threads as usize) < t {
+    if (sizes.threads as usize) < t {
         return 0;
     }
-    let points = y.points;
-    if points <= p {
+    let points = totals.points;
+    if points <= point {
         return 0;
     }
-    let n = before_thread(s, ix, z, y, t);
-    if points - p <= n {
+    let n = before_thread(image, index, sizes, totals, t);
+    if points - point <= n {
         return 0;
     }
-    let k = n + p;
-    let b = body_of(s, ix, (z.formulas as usize) + (z.threads as usize) + 1);
-    number_at(b, points, k)
+    let k = n + point;
+    let body = body_of(
+        image,
+        index,
+        (sizes.formulas as usize) + (sizes.threads as usize) + 1,
+    );
+    number_at(body, points, k)
 }
 
 // Where that formula stands.
 pub fn outline_at<'a, 'b>(
-    s: &'a [u8],
-    ix: &'b [usize],
-    z: Sizes,
-    y: Totals,
+    image: &'a [u8],
+    index: &'b [usize],
+    sizes: Sizes,
+    totals: Totals,
     t: usize,
-    p: usize,
+    point: usize,
 ) -> usize
-    requires { ⌜ (now ix ≡ indexOf (now s)) × (y ≡ totalsOf z (bodies (now s))) ⌝ }
-    ensures { λ r. ⌜ r ≡ formulaAt (now (s .entry)) (outlineNumber z (bodies (now (s .entry))) t p) ⌝ }
+    requires { ⌜ (now index ≡ indexOf (now image)) × (totals ≡ totalsOf sizes (bodies (now image))) ⌝ }
+    ensures { λ r. ⌜ r ≡ formulaAt (now (image .entry)) (outlineNumber sizes (bodies (now (image .entry))) t point) ⌝ }
 {
-    formula_at(s, ix, outline_number(s, ix, z, y, t, p))
+    formula_at(
+        image,
+        index,
+        outline_number(image, index, sizes, totals, t, point),
+    )
 }

@@ -22,59 +22,70 @@ pub struct Totals {
 }
 
 // The points of the threads before thread t: a tally with fewer threads.
-fn points_before<'a, 'b>(s: &'a [u8], ix: &'b [usize], z: Sizes, t: usize) -> usize
-    requires { ⌜ (now ix ≡ indexOf (now s)) × ((1 ≤ t) × (t ≤ 256)) ⌝ }
-    ensures { λ r. ⌜ r ≡ tallyTo z (bodies (now (s .entry))) (t - 1) .points ⌝ }
+fn points_before<'a, 'b>(image: &'a [u8], index: &'b [usize], sizes: Sizes, t: usize) -> usize
+    requires { ⌜ (now index ≡ indexOf (now image)) × ((1 ≤ t) × (t ≤ 256)) ⌝ }
+    ensures { λ r. ⌜ r ≡ tallyTo sizes (bodies (now (image .entry))) (t - 1) .points ⌝ }
 {
     let before = Sizes {
         threads: (t - 1) as u8,
-        words: z.words,
-        registers: z.registers,
-        range: z.range,
-        formulas: z.formulas,
-        lines: z.lines,
-        claims: z.claims,
+        words: sizes.words,
+        registers: sizes.registers,
+        range: sizes.range,
+        formulas: sizes.formulas,
+        lines: sizes.lines,
+        claims: sizes.claims,
     };
-    let c = tally_of(s, ix, before);
-    c.points
+    let counts = tally_of(image, index, before);
+    counts.points
 }
 
 // For each thread that an image may have.
-fn fill_before<'a, 'b, 'c>(s: &'a [u8], ix: &'b [usize], z: Sizes, before: &'c mut [usize])
-    requires { ⌜ (now ix ≡ indexOf (now s)) × (now before ≡ replicate threads 0) ⌝ }
-    ensures { λ _. ⌜ now (before .exit) ≡ pointsBefore z (bodies (now (s .entry))) ⌝ }
+fn fill_before<'a, 'b, 'c>(
+    image: &'a [u8],
+    index: &'b [usize],
+    sizes: Sizes,
+    before: &'c mut [usize],
+)
+    requires { ⌜ (now index ≡ indexOf (now image)) × (now before ≡ replicate threads 0) ⌝ }
+    ensures { λ _. ⌜ now (before .exit) ≡ pointsBefore sizes (bodies (now (image .entry))) ⌝ }
 {
     let mut sum: usize = 0;
     let mut t: usize = 0;
     while t < Limits::THREADS {
         before[t] = sum;
         t += 1;
-        let b = body_of(s, ix, (z.formulas as usize) + t);
-        sum += last_point(b) + 1;
+        let body = body_of(image, index, (sizes.formulas as usize) + t);
+        sum += last_point(body) + 1;
     }
 }
 
-pub fn totals_of<'a, 'b>(s: &'a [u8], ix: &'b [usize], z: Sizes) -> Totals
-    requires { ⌜ now ix ≡ indexOf (now s) ⌝ }
-    ensures { λ r. ⌜ r ≡ totalsOf z (bodies (now (s .entry))) ⌝ }
+pub fn totals_of<'a, 'b>(image: &'a [u8], index: &'b [usize], sizes: Sizes) -> Totals
+    requires { ⌜ now index ≡ indexOf (now image) ⌝ }
+    ensures { λ r. ⌜ r ≡ totalsOf sizes (bodies (now (image .entry))) ⌝ }
 {
-    let c = tally_of(s, ix, z);
+    let counts = tally_of(image, index, sizes);
     let mut before = [0usize; Limits::THREADS];
-    fill_before(s, ix, z, &mut before);
+    fill_before(image, index, sizes, &mut before);
     Totals {
-        points: c.points,
+        points: counts.points,
         before,
-        obligations: obligations_by(z.threads, c),
+        obligations: obligations_by(sizes.threads, counts),
     }
 }
 
 // The same as points_before, read from the totals. An image has no more threads than they know.
-pub fn before_thread<'a, 'b>(s: &'a [u8], ix: &'b [usize], z: Sizes, y: Totals, t: usize) -> usize
-    requires { ⌜ ((now ix ≡ indexOf (now s)) × (y ≡ totalsOf z (bodies (now s)))) × ((1 ≤ t) × (t ≤ z .threads)) ⌝ }
-    ensures { λ r. ⌜ r ≡ tallyTo z (bodies (now (s .entry))) (t - 1) .points ⌝ }
+pub fn before_thread<'a, 'b>(
+    image: &'a [u8],
+    index: &'b [usize],
+    sizes: Sizes,
+    totals: Totals,
+    t: usize,
+) -> usize
+    requires { ⌜ ((now index ≡ indexOf (now image)) × (totals ≡ totalsOf sizes (bodies (now image)))) × ((1 ≤ t) × (t ≤ sizes .threads)) ⌝ }
+    ensures { λ r. ⌜ r ≡ tallyTo sizes (bodies (now (image .entry))) (t - 1) .points ⌝ }
 {
     if t <= Limits::THREADS {
-        return y.before[t - 1];
+        return totals.before[t - 1];
     }
-    points_before(s, ix, z, t)
+    points_before(image, index, sizes, t)
 }

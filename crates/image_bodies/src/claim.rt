@@ -27,47 +27,58 @@ impl Claim {
 }
 
 // The thread at an offset is there, and has the point behind it; the last one too.
-fn point_there<'a, 'b>(s: &'a [u8], ix: &'b [usize], z: Sizes, b: &'a [u8], i: usize) -> bool
-    requires { ⌜ (now ix ≡ indexOf (now s)) × (i ≤ 2) ⌝ }
-    ensures { λ r. ⌜ r ≡ pointThere z (bodies (now (s .entry))) (now (b .entry)) i ⌝ }
+fn point_there<'a, 'b>(
+    image: &'a [u8],
+    index: &'b [usize],
+    sizes: Sizes,
+    body: &'a [u8],
+    i: usize,
+) -> bool
+    requires { ⌜ (now index ≡ indexOf (now image)) × (i ≤ 2) ⌝ }
+    ensures { λ r. ⌜ r ≡ pointThere sizes (bodies (now (image .entry))) (now (body .entry)) i ⌝ }
 {
-    let t = byte_at(b, i);
-    if in_range(t, 1, z.threads as usize) {
-        let c = body_of(s, ix, (z.formulas as usize) + t);
-        return in_range(byte_at(b, i + 1), 0, last_point(c));
+    let t = byte_at(body, i);
+    if in_range(t, 1, sizes.threads as usize) {
+        let c = body_of(image, index, (sizes.formulas as usize) + t);
+        return in_range(byte_at(body, i + 1), 0, last_point(c));
     }
     false
 }
 
-fn are_different(b: &[u8]) -> bool
-    ensures { λ r. ⌜ r ≡ different (now (b .entry)) ⌝ }
+fn are_different(body: &[u8]) -> bool
+    ensures { λ r. ⌜ r ≡ different (now (body .entry)) ⌝ }
 {
-    byte_at(b, Claim::FIRST) != byte_at(b, Claim::SECOND)
+    byte_at(body, Claim::FIRST) != byte_at(body, Claim::SECOND)
 }
 
 // Every number is in its range.
-fn claim_fits<'a, 'b>(s: &'a [u8], ix: &'b [usize], z: Sizes, b: &'a [u8]) -> bool
-    requires { ⌜ now ix ≡ indexOf (now s) ⌝ }
-    ensures { λ r. ⌜ r ≡ claimed z (bodies (now (s .entry))) (now (b .entry)) ⌝ }
+fn claim_fits<'a, 'b>(image: &'a [u8], index: &'b [usize], sizes: Sizes, body: &'a [u8]) -> bool
+    requires { ⌜ now index ≡ indexOf (now image) ⌝ }
+    ensures { λ r. ⌜ r ≡ claimed sizes (bodies (now (image .entry))) (now (body .entry)) ⌝ }
 {
-    if point_there(s, ix, z, b, Claim::FIRST) {
-        if point_there(s, ix, z, b, Claim::SECOND) {
-            if are_different(b) {
-                return word_within(b, Claim::LINE, 0, z.lines as usize);
+    if point_there(image, index, sizes, body, Claim::FIRST) {
+        if point_there(image, index, sizes, body, Claim::SECOND) {
+            if are_different(body) {
+                return word_within(body, Claim::LINE, 0, sizes.lines as usize);
             }
         }
     }
     false
 }
 
-pub fn check_claim<'a, 'b>(s: &'a [u8], ix: &'b [usize], z: Sizes, b: &'a [u8]) -> Checked
-    requires { ⌜ now ix ≡ indexOf (now s) ⌝ }
-    ensures { λ r. ⌜ r ≡ claim z (bodies (now (s .entry))) (now (b .entry)) ⌝ }
+pub fn check_claim<'a, 'b>(
+    image: &'a [u8],
+    index: &'b [usize],
+    sizes: Sizes,
+    body: &'a [u8],
+) -> Checked
+    requires { ⌜ now index ≡ indexOf (now image) ⌝ }
+    ensures { λ r. ⌜ r ≡ claim sizes (bodies (now (image .entry))) (now (body .entry)) ⌝ }
 {
-    if b.len() != Claim::SIZE {
+    if body.len() != Claim::SIZE {
         return Checked::Faulty(Fault::Body);
     }
-    if claim_fits(s, ix, z, b) {
+    if claim_fits(image, index, sizes, body) {
         return Checked::Passed;
     }
     Checked::Faulty(Fault::Number)

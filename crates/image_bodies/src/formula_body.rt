@@ -20,22 +20,22 @@ fn fault_of(code: usize) -> Fault
     Fault::Formula
 }
 
-fn counts_of(z: Sizes) -> Counts
-    ensures { λ r. ⌜ r ≡ countsOf z ⌝ }
+fn counts_of(sizes: Sizes) -> Counts
+    ensures { λ r. ⌜ r ≡ countsOf sizes ⌝ }
 {
     Counts {
-        threads: z.threads,
-        words: z.words,
-        registers: z.registers,
-        values: z.range,
+        threads: sizes.threads,
+        words: sizes.words,
+        registers: sizes.registers,
+        values: sizes.range,
     }
 }
 
-pub fn check_formula(b: &[u8], z: Sizes) -> Checked
-    ensures { λ r. ⌜ r ≡ formula z (now (b .entry)) ⌝ }
+pub fn check_formula(body: &[u8], sizes: Sizes) -> Checked
+    ensures { λ r. ⌜ r ≡ formula sizes (now (body .entry)) ⌝ }
 {
-    if in_range(b.len(), 1, Limits::FORMULA_BYTES) {
-        match read_formula(b, counts_of(z)) {
+    if in_range(body.len(), 1, Limits::FORMULA_BYTES) {
+        match read_formula(body, counts_of(sizes)) {
             Reading::Formula(_) => Checked::Passed,
             Reading::Fault(code) => Checked::Faulty(fault_of(code)),
         }

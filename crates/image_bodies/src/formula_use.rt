@@ -10,48 +10,48 @@ ghost use lib.Dec.{eqb};
 ghost use Rattle.formula.specs.Reader.{sortOf};
 ghost use Rattle.image_bodies.specs.FormulaUse.{startless, plain, outlined, plainOf};
 
-pub fn is_sort(b: &[u8], sort: u8) -> bool
-    ensures { λ r. ⌜ r ≡ eqb (sortOf (now (b .entry))) sort ⌝ }
+pub fn is_sort(body: &[u8], sort: u8) -> bool
+    ensures { λ r. ⌜ r ≡ eqb (sortOf (now (body .entry))) sort ⌝ }
 {
-    octet_at(b, 0) / Code::PER_SORT == sort
+    octet_at(body, 0) / Code::PER_SORT == sort
 }
 
 // Start does not occur in it.
-fn is_startless(b: &[u8]) -> bool
-    ensures { λ r. ⌜ r ≡ startless (now (b .entry)) ⌝ }
+fn is_startless(body: &[u8]) -> bool
+    ensures { λ r. ⌜ r ≡ startless (now (body .entry)) ⌝ }
 {
-    if has_start(b, 0, Limits::NESTING) {
+    if has_start(body, 0, Limits::NESTING) {
         return false;
     }
     true
 }
 
 // No word's value and no flag occurs in it.
-fn is_plain(b: &[u8]) -> bool
-    ensures { λ r. ⌜ r ≡ plain (now (b .entry)) ⌝ }
+fn is_plain(body: &[u8]) -> bool
+    ensures { λ r. ⌜ r ≡ plain (now (body .entry)) ⌝ }
 {
-    if has_shared(b, 0, Limits::NESTING) {
+    if has_shared(body, 0, Limits::NESTING) {
         return false;
     }
     true
 }
 
 // An assertion without start.
-pub fn is_outlined(b: &[u8]) -> bool
-    ensures { λ r. ⌜ r ≡ outlined (now (b .entry)) ⌝ }
+pub fn is_outlined(body: &[u8]) -> bool
+    ensures { λ r. ⌜ r ≡ outlined (now (body .entry)) ⌝ }
 {
-    if is_sort(b, Place::ASSERTION) {
-        return is_startless(b);
+    if is_sort(body, Place::ASSERTION) {
+        return is_startless(body);
     }
     false
 }
 
 // A formula of the sort over registers alone.
-pub fn is_plain_of(b: &[u8], sort: u8) -> bool
-    ensures { λ r. ⌜ r ≡ plainOf sort (now (b .entry)) ⌝ }
+pub fn is_plain_of(body: &[u8], sort: u8) -> bool
+    ensures { λ r. ⌜ r ≡ plainOf sort (now (body .entry)) ⌝ }
 {
-    if is_sort(b, sort) {
-        return is_plain(b);
+    if is_sort(body, sort) {
+        return is_plain(body);
     }
     false
 }

@@ -10,20 +10,20 @@ ghost use Rattle.image_bodies.specs.RecordPlaces.{instructionOf};
 
 // Where there is none, a branch to point 0.
 pub fn instruction_of<'a, 'b>(
-    s: &'a [u8],
-    ix: &'b [usize],
-    z: Sizes,
+    image: &'a [u8],
+    index: &'b [usize],
+    sizes: Sizes,
     t: usize,
-    p: usize,
+    point: usize,
 ) -> Instruction
-    requires { ⌜ now ix ≡ indexOf (now s) ⌝ }
-    ensures { λ r. ⌜ r ≡ instructionOf z (bodies (now (s .entry))) t p ⌝ }
+    requires { ⌜ now index ≡ indexOf (now image) ⌝ }
+    ensures { λ r. ⌜ r ≡ instructionOf sizes (bodies (now (image .entry))) t point ⌝ }
 {
     if t == 0 {
         return NOTHING;
     }
-    if (z.threads as usize) < t {
+    if (sizes.threads as usize) < t {
         return NOTHING;
     }
-    instruction_in(s, ix, (z.formulas as usize) + t, p)
+    instruction_in(image, index, (sizes.formulas as usize) + t, point)
 }

@@ -80,75 +80,75 @@ fn form_of(rule: usize) -> Form
 }
 
 // The form of the line in a body.
-pub fn line_form(b: &[u8]) -> Form
-    ensures { λ r. ⌜ r ≡ formOf (getD (now (b .entry)) 0 0) ⌝ }
+pub fn line_form(body: &[u8]) -> Form
+    ensures { λ r. ⌜ r ≡ formOf (getD (now (body .entry)) 0 0) ⌝ }
 {
-    form_of(byte_at(b, 0))
+    form_of(byte_at(body, 0))
 }
 
 // The premise at an index, from 0; 0 where there is none.
-pub fn premise(b: &[u8], j: usize) -> usize
-    ensures { λ r. ⌜ (r ≡ getD (premises (now (b .entry))) j 0) × (r < 65536) ⌝ }
+pub fn premise(body: &[u8], j: usize) -> usize
+    ensures { λ r. ⌜ (r ≡ getD (premises (now (body .entry))) j 0) × (r < 65536) ⌝ }
 {
-    let l = rest(b, 8);
-    number_at(l, byte_at(b, 7), j)
+    let l = rest(body, 8);
+    number_at(l, byte_at(body, 7), j)
 }
 
-fn line_size(b: &[u8]) -> usize
-    ensures { λ r. ⌜ r ≡ lineSize (now (b .entry)) ⌝ }
+fn line_size(body: &[u8]) -> usize
+    ensures { λ r. ⌜ r ≡ lineSize (now (body .entry)) ⌝ }
 {
-    8 + 2 * byte_at(b, 7)
+    8 + 2 * byte_at(body, 7)
 }
 
 // Thread and point of the line have an instruction that is no branch.
-fn triple_placed<'a, 'b>(s: &'a [u8], ix: &'b [usize], z: Sizes, b: &'a [u8]) -> bool
-    requires { ⌜ now ix ≡ indexOf (now s) ⌝ }
-    ensures { λ r. ⌜ r ≡ tripleAt z (bodies (now (s .entry))) (now (b .entry)) ⌝ }
+fn triple_placed<'a, 'b>(image: &'a [u8], index: &'b [usize], sizes: Sizes, body: &'a [u8]) -> bool
+    requires { ⌜ now index ≡ indexOf (now image) ⌝ }
+    ensures { λ r. ⌜ r ≡ tripleAt sizes (bodies (now (image .entry))) (now (body .entry)) ⌝ }
 {
-    let i = instruction_of(s, ix, z, byte_at(b, 1), byte_at(b, 2));
-    i.operation != Instruction::BRANCH
+    let instruction = instruction_of(image, index, sizes, byte_at(body, 1), byte_at(body, 2));
+    instruction.operation != Instruction::BRANCH
 }
 
 // Thread and point of the line are 0.
-fn nowhere_placed(b: &[u8]) -> bool
-    ensures { λ r. ⌜ r ≡ nowhere (now (b .entry)) ⌝ }
+fn nowhere_placed(body: &[u8]) -> bool
+    ensures { λ r. ⌜ r ≡ nowhere (now (body .entry)) ⌝ }
 {
-    if byte_within(b, 1, 0, 0) {
-        return byte_within(b, 2, 0, 0);
+    if byte_within(body, 1, 0, 0) {
+        return byte_within(body, 2, 0, 0);
     }
     false
 }
 
 // Thread and point fit the line's form.
-fn line_placed<'a, 'b>(s: &'a [u8], ix: &'b [usize], z: Sizes, b: &'a [u8]) -> bool
-    requires { ⌜ now ix ≡ indexOf (now s) ⌝ }
-    ensures { λ r. ⌜ r ≡ placed z (bodies (now (s .entry))) (formOf (getD (now (b .entry)) 0 0)) (now (b .entry)) ⌝ }
+fn line_placed<'a, 'b>(image: &'a [u8], index: &'b [usize], sizes: Sizes, body: &'a [u8]) -> bool
+    requires { ⌜ now index ≡ indexOf (now image) ⌝ }
+    ensures { λ r. ⌜ r ≡ placed sizes (bodies (now (image .entry))) (formOf (getD (now (body .entry)) 0 0)) (now (body .entry)) ⌝ }
 {
-    match line_form(b) {
-        Form::Triple => triple_placed(s, ix, z, b),
-        Form::Implication => nowhere_placed(b),
-        Form::Inclusion => nowhere_placed(b),
-        Form::Pair => triple_placed(s, ix, z, b),
+    match line_form(body) {
+        Form::Triple => triple_placed(image, index, sizes, body),
+        Form::Implication => nowhere_placed(body),
+        Form::Inclusion => nowhere_placed(body),
+        Form::Pair => triple_placed(image, index, sizes, body),
         Form::Unlisted => false,
     }
 }
 
 // The premises have numbers from 1 to a greatest one.
-fn premises_fit(b: &[u8], lower: usize) -> bool
-    ensures { λ r. ⌜ r ≡ every (within 1 lower) (premises (now (b .entry))) ⌝ }
+fn premises_fit(body: &[u8], lower: usize) -> bool
+    ensures { λ r. ⌜ r ≡ every (within 1 lower) (premises (now (body .entry))) ⌝ }
 {
-    let l = rest(b, 8);
-    numbers_within(l, byte_at(b, 7), 1, lower)
+    let l = rest(body, 8);
+    numbers_within(l, byte_at(body, 7), 1, lower)
 }
 
 // The formulas are there, and the premises are among the lines before this one.
-fn line_numbered(b: &[u8], z: Sizes, lower: usize) -> bool
-    ensures { λ r. ⌜ r ≡ numbered z lower (now (b .entry)) ⌝ }
+fn line_numbered(body: &[u8], sizes: Sizes, lower: usize) -> bool
+    ensures { λ r. ⌜ r ≡ numbered sizes lower (now (body .entry)) ⌝ }
 {
-    if word_within(b, 3, 1, z.formulas as usize) {
-        if word_within(b, 5, 1, z.formulas as usize) {
-            if byte_within(b, 7, 0, Limits::PREMISES) {
-                return premises_fit(b, lower);
+    if word_within(body, 3, 1, sizes.formulas as usize) {
+        if word_within(body, 5, 1, sizes.formulas as usize) {
+            if byte_within(body, 7, 0, Limits::PREMISES) {
+                return premises_fit(body, lower);
             }
         }
     }
@@ -157,23 +157,23 @@ fn line_numbered(b: &[u8], z: Sizes, lower: usize) -> bool
 
 // The line that has so many lines before it.
 pub fn check_line_numbers<'a, 'b>(
-    s: &'a [u8],
-    ix: &'b [usize],
-    z: Sizes,
+    image: &'a [u8],
+    index: &'b [usize],
+    sizes: Sizes,
     lower: usize,
-    b: &'a [u8],
+    body: &'a [u8],
 ) -> Checked
-    requires { ⌜ now ix ≡ indexOf (now s) ⌝ }
-    ensures { λ r. ⌜ r ≡ lineNumbers z (bodies (now (s .entry))) lower (now (b .entry)) ⌝ }
+    requires { ⌜ now index ≡ indexOf (now image) ⌝ }
+    ensures { λ r. ⌜ r ≡ lineNumbers sizes (bodies (now (image .entry))) lower (now (body .entry)) ⌝ }
 {
-    if b.len() < 8 {
+    if body.len() < 8 {
         return Checked::Faulty(Fault::Body);
     }
-    if b.len() != line_size(b) {
+    if body.len() != line_size(body) {
         return Checked::Faulty(Fault::Body);
     }
-    if line_placed(s, ix, z, b) {
-        if line_numbered(b, z, lower) {
+    if line_placed(image, index, sizes, body) {
+        if line_numbered(body, sizes, lower) {
             return Checked::Passed;
         }
         return Checked::Faulty(Fault::Number);

@@ -16,70 +16,70 @@ ghost use Rattle.image_index.specs.IndexTable.{indexOf};
 ghost use Rattle.image_bodies.specs.OutlineFormulas.{outlinedOf};
 ghost use Rattle.image_bodies.specs.LineBody.{sortAt, sortedBy, lineSorted, line};
 
-fn formula_of_sort<'a, 'b>(s: &'a [u8], ix: &'b [usize], sort: u8, k: usize) -> bool
-    requires { ⌜ now ix ≡ indexOf (now s) ⌝ }
-    ensures { λ r. ⌜ r ≡ sortAt (bodies (now (s .entry))) sort k ⌝ }
+fn formula_of_sort<'a, 'b>(image: &'a [u8], index: &'b [usize], sort: u8, number: usize) -> bool
+    requires { ⌜ now index ≡ indexOf (now image) ⌝ }
+    ensures { λ r. ⌜ r ≡ sortAt (bodies (now (image .entry))) sort number ⌝ }
 {
-    let b = body_of(s, ix, k);
-    is_sort(b, sort)
+    let body = body_of(image, index, number);
+    is_sort(body, sort)
 }
 
 // Formula k may be a side of a line of this form.
 fn formula_fits<'a, 'b, 'c>(
-    s: &'a [u8],
-    ix: &'b [usize],
-    on: &'c [bool],
-    z: Sizes,
-    f: Form,
-    k: usize,
+    image: &'a [u8],
+    index: &'b [usize],
+    outlined: &'c [bool],
+    sizes: Sizes,
+    form: Form,
+    number: usize,
 ) -> bool
-    requires { ⌜ (now ix ≡ indexOf (now s)) × (now on ≡ outlinedOf z (bodies (now s))) ⌝ }
-    ensures { λ r. ⌜ r ≡ sortedBy (bodies (now (s .entry))) f k ⌝ }
+    requires { ⌜ (now index ≡ indexOf (now image)) × (now outlined ≡ outlinedOf sizes (bodies (now image))) ⌝ }
+    ensures { λ r. ⌜ r ≡ sortedBy (bodies (now (image .entry))) form number ⌝ }
 {
-    match f {
-        Form::Triple => formula_outlined(s, ix, on, z, k),
-        Form::Implication => formula_of_sort(s, ix, Place::ASSERTION, k),
-        Form::Inclusion => formula_of_sort(s, ix, Place::INTERVAL, k),
-        Form::Pair => formula_outlined(s, ix, on, z, k),
+    match form {
+        Form::Triple => formula_outlined(image, index, outlined, sizes, number),
+        Form::Implication => formula_of_sort(image, index, Place::ASSERTION, number),
+        Form::Inclusion => formula_of_sort(image, index, Place::INTERVAL, number),
+        Form::Pair => formula_outlined(image, index, outlined, sizes, number),
         Form::Unlisted => true,
     }
 }
 
 fn line_sorted<'a, 'b, 'c>(
-    s: &'a [u8],
-    ix: &'b [usize],
-    on: &'c [bool],
-    z: Sizes,
-    b: &'a [u8],
+    image: &'a [u8],
+    index: &'b [usize],
+    outlined: &'c [bool],
+    sizes: Sizes,
+    body: &'a [u8],
 ) -> bool
-    requires { ⌜ (now ix ≡ indexOf (now s)) × (now on ≡ outlinedOf z (bodies (now s))) ⌝ }
-    ensures { λ r. ⌜ r ≡ lineSorted (bodies (now (s .entry))) (now (b .entry)) ⌝ }
+    requires { ⌜ (now index ≡ indexOf (now image)) × (now outlined ≡ outlinedOf sizes (bodies (now image))) ⌝ }
+    ensures { λ r. ⌜ r ≡ lineSorted (bodies (now (image .entry))) (now (body .entry)) ⌝ }
 {
-    let f = line_form(b);
-    let left = word_at(b, 3);
-    if formula_fits(s, ix, on, z, f, left) {
-        let right = word_at(b, 5);
-        return formula_fits(s, ix, on, z, f, right);
+    let f = line_form(body);
+    let left = word_at(body, 3);
+    if formula_fits(image, index, outlined, sizes, f, left) {
+        let right = word_at(body, 5);
+        return formula_fits(image, index, outlined, sizes, f, right);
     }
     false
 }
 
 // The line that has so many lines before it.
 pub fn check_line<'a, 'b, 'c>(
-    s: &'a [u8],
-    ix: &'b [usize],
-    on: &'c [bool],
-    z: Sizes,
+    image: &'a [u8],
+    index: &'b [usize],
+    outlined: &'c [bool],
+    sizes: Sizes,
     lower: usize,
-    b: &'a [u8],
+    body: &'a [u8],
 ) -> Checked
-    requires { ⌜ (now ix ≡ indexOf (now s)) × (now on ≡ outlinedOf z (bodies (now s))) ⌝ }
-    ensures { λ r. ⌜ r ≡ line z (bodies (now (s .entry))) lower (now (b .entry)) ⌝ }
+    requires { ⌜ (now index ≡ indexOf (now image)) × (now outlined ≡ outlinedOf sizes (bodies (now image))) ⌝ }
+    ensures { λ r. ⌜ r ≡ line sizes (bodies (now (image .entry))) lower (now (body .entry)) ⌝ }
 {
-    match check_line_numbers(s, ix, z, lower, b) {
+    match check_line_numbers(image, index, sizes, lower, body) {
         Checked::Faulty(fault) => Checked::Faulty(fault),
         Checked::Passed => {
-            if line_sorted(s, ix, on, z, b) {
+            if line_sorted(image, index, outlined, sizes, body) {
                 return Checked::Passed;
             }
             Checked::Faulty(Fault::Sort)

@@ -17,20 +17,20 @@ ghost use Rattle.image_bodies.specs.OutlineFormulas.{outlinedOf};
 
 // Each of n formulas is an assertion without start.
 fn all_outlined<'a, 'b, 'c>(
-    s: &'a [u8],
-    ix: &'b [usize],
-    on: &'c [bool],
-    z: Sizes,
-    b: &'a [u8],
+    image: &'a [u8],
+    index: &'b [usize],
+    outlined: &'c [bool],
+    sizes: Sizes,
+    body: &'a [u8],
     n: usize,
 ) -> bool
-    requires { ⌜ (now ix ≡ indexOf (now s)) × (now on ≡ outlinedOf z (bodies (now s))) ⌝ }
-    ensures { λ r. ⌜ r ≡ every (outlinedAt (bodies (now (s .entry)))) (numbers n (now (b .entry))) ⌝ }
+    requires { ⌜ (now index ≡ indexOf (now image)) × (now outlined ≡ outlinedOf sizes (bodies (now image))) ⌝ }
+    ensures { λ r. ⌜ r ≡ every (outlinedAt (bodies (now (image .entry)))) (numbers n (now (body .entry))) ⌝ }
 {
     let mut i: usize = 0;
     while i < n {
-        let k = number_at(b, n, i);
-        if formula_outlined(s, ix, on, z, k) {
+        let k = number_at(body, n, i);
+        if formula_outlined(image, index, outlined, sizes, k) {
             i += 1;
         } else {
             return false;
@@ -40,20 +40,20 @@ fn all_outlined<'a, 'b, 'c>(
 }
 
 pub fn check_outline<'a, 'b, 'c>(
-    s: &'a [u8],
-    ix: &'b [usize],
-    on: &'c [bool],
-    z: Sizes,
-    b: &'a [u8],
+    image: &'a [u8],
+    index: &'b [usize],
+    outlined: &'c [bool],
+    sizes: Sizes,
+    body: &'a [u8],
 ) -> Checked
-    requires { ⌜ (now ix ≡ indexOf (now s)) × (now on ≡ outlinedOf z (bodies (now s))) ⌝ }
-    ensures { λ r. ⌜ r ≡ outline z (bodies (now (s .entry))) (now (b .entry)) ⌝ }
+    requires { ⌜ (now index ≡ indexOf (now image)) × (now outlined ≡ outlinedOf sizes (bodies (now image))) ⌝ }
+    ensures { λ r. ⌜ r ≡ outline sizes (bodies (now (image .entry))) (now (body .entry)) ⌝ }
 {
-    let n = count_points(s, ix, z);
-    match check_list(b, n, 1, z.formulas as usize) {
+    let n = count_points(image, index, sizes);
+    match check_list(body, n, 1, sizes.formulas as usize) {
         Checked::Faulty(fault) => Checked::Faulty(fault),
         Checked::Passed => {
-            if all_outlined(s, ix, on, z, b, n) {
+            if all_outlined(image, index, outlined, sizes, body, n) {
                 return Checked::Passed;
             }
             Checked::Faulty(Fault::Sort)
@@ -62,18 +62,23 @@ pub fn check_outline<'a, 'b, 'c>(
 }
 
 // The points of all threads.
-pub fn count_points<'a, 'b>(s: &'a [u8], ix: &'b [usize], z: Sizes) -> usize
-    requires { ⌜ now ix ≡ indexOf (now s) ⌝ }
-    ensures { λ r. ⌜ r ≡ tally z (bodies (now (s .entry))) .points ⌝ }
+pub fn count_points<'a, 'b>(image: &'a [u8], index: &'b [usize], sizes: Sizes) -> usize
+    requires { ⌜ now index ≡ indexOf (now image) ⌝ }
+    ensures { λ r. ⌜ r ≡ tally sizes (bodies (now (image .entry))) .points ⌝ }
 {
-    let c = tally_of(s, ix, z);
-    c.points
+    let counts = tally_of(image, index, sizes);
+    counts.points
 }
 
-pub fn check_obligations<'a, 'b>(s: &'a [u8], ix: &'b [usize], z: Sizes, b: &'a [u8]) -> Checked
-    requires { ⌜ now ix ≡ indexOf (now s) ⌝ }
-    ensures { λ r. ⌜ r ≡ obligations z (bodies (now (s .entry))) (now (b .entry)) ⌝ }
+pub fn check_obligations<'a, 'b>(
+    image: &'a [u8],
+    index: &'b [usize],
+    sizes: Sizes,
+    body: &'a [u8],
+) -> Checked
+    requires { ⌜ now index ≡ indexOf (now image) ⌝ }
+    ensures { λ r. ⌜ r ≡ obligations sizes (bodies (now (image .entry))) (now (body .entry)) ⌝ }
 {
-    let n = count_obligations(s, ix, z);
-    check_list(b, n, 0, z.lines as usize)
+    let n = count_obligations(image, index, sizes);
+    check_list(body, n, 0, sizes.lines as usize)
 }

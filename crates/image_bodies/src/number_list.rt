@@ -6,16 +6,16 @@ ghost use mathlib.Core.Path.{_≡_};
 ghost use Rattle.image_bodies.specs.NumberList.{exactly};
 
 // There are n numbers in the range, and nothing else.
-pub fn check_list(b: &[u8], n: usize, low: usize, high: usize) -> Checked
-    ensures { λ r. ⌜ r ≡ exactly n low high (now (b .entry)) ⌝ }
+pub fn check_list(body: &[u8], n: usize, low: usize, high: usize) -> Checked
+    ensures { λ r. ⌜ r ≡ exactly n low high (now (body .entry)) ⌝ }
 {
-    if b.len() < n {
+    if body.len() < n {
         return Checked::Faulty(Fault::Body);
     }
-    if b.len() != 2 * n {
+    if body.len() != 2 * n {
         return Checked::Faulty(Fault::Body);
     }
-    if numbers_within(b, n, low, high) {
+    if numbers_within(body, n, low, high) {
         return Checked::Passed;
     }
     Checked::Faulty(Fault::Number)

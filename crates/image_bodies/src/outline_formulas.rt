@@ -16,46 +16,46 @@ pub struct Outlined {
 }
 
 // How many entries are filled.
-fn entry_count(z: Sizes) -> usize
-    ensures { λ r. ⌜ r ≡ entries z ⌝ }
+fn entry_count(sizes: Sizes) -> usize
+    ensures { λ r. ⌜ r ≡ entries sizes ⌝ }
 {
-    if Limits::FORMULAS <= (z.formulas as usize) {
+    if Limits::FORMULAS <= (sizes.formulas as usize) {
         return Limits::FORMULAS + 1;
     }
-    (z.formulas as usize) + 1
+    (sizes.formulas as usize) + 1
 }
 
-pub fn outlined_of<'a, 'b>(s: &'a [u8], ix: &'b [usize], z: Sizes) -> Outlined
-    requires { ⌜ now ix ≡ indexOf (now s) ⌝ }
-    ensures { λ r. ⌜ r .on ≡ outlinedOf z (bodies (now (s .entry))) ⌝ }
+pub fn outlined_of<'a, 'b>(image: &'a [u8], index: &'b [usize], sizes: Sizes) -> Outlined
+    requires { ⌜ now index ≡ indexOf (now image) ⌝ }
+    ensures { λ r. ⌜ r .on ≡ outlinedOf sizes (bodies (now (image .entry))) ⌝ }
 {
-    let n = entry_count(z);
-    let mut o = Outlined {
+    let n = entry_count(sizes);
+    let mut use_of = Outlined {
         on: [false; Limits::FORMULAS + 1],
     };
     let mut k: usize = 0;
     while k < n {
-        let b = body_of(s, ix, k);
-        o.on[k] = is_outlined(b);
+        let body = body_of(image, index, k);
+        use_of.on[k] = is_outlined(body);
         k += 1;
     }
-    o
+    use_of
 }
 
 // Formula k. With a number that no formula has, the body is looked at.
 pub fn formula_outlined<'a, 'b, 'c>(
-    s: &'a [u8],
-    ix: &'b [usize],
-    on: &'c [bool],
-    z: Sizes,
-    k: usize,
+    image: &'a [u8],
+    index: &'b [usize],
+    outlined: &'c [bool],
+    sizes: Sizes,
+    number: usize,
 ) -> bool
-    requires { ⌜ (now ix ≡ indexOf (now s)) × (now on ≡ outlinedOf z (bodies (now s))) ⌝ }
-    ensures { λ r. ⌜ r ≡ outlinedAt (bodies (now (s .entry))) k ⌝ }
+    requires { ⌜ (now index ≡ indexOf (now image)) × (now outlined ≡ outlinedOf sizes (bodies (now image))) ⌝ }
+    ensures { λ r. ⌜ r ≡ outlinedAt (bodies (now (image .entry))) number ⌝ }
 {
-    if k < entry_count(z) {
-        return on[k];
+    if number < entry_count(sizes) {
+        return outlined[number];
     }
-    let b = body_of(s, ix, k);
-    is_outlined(b)
+    let body = body_of(image, index, number);
+    is_outlined(body)
 }

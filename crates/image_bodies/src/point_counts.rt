@@ -20,37 +20,37 @@ pub struct Tally {
     pub own: usize,
 }
 
-fn is_branch(i: Instruction) -> usize
-    ensures { λ r. ⌜ (r ≡ isBranch i) × (r ≤ 1) ⌝ }
+fn is_branch(instruction: Instruction) -> usize
+    ensures { λ r. ⌜ (r ≡ isBranch instruction) × (r ≤ 1) ⌝ }
 {
-    if i.operation == Instruction::BRANCH {
+    if instruction.operation == Instruction::BRANCH {
         return 1;
     }
     0
 }
 
-fn branches_of(b: &[u8]) -> usize
-    ensures { λ r. ⌜ (r ≡ branches (instructions (now (b .entry)))) × (r ≤ lastPoint (now (b .entry))) ⌝ }
+fn branches_of(body: &[u8]) -> usize
+    ensures { λ r. ⌜ (r ≡ branches (instructions (now (body .entry)))) × (r ≤ lastPoint (now (body .entry))) ⌝ }
 {
-    let last = last_point(b);
+    let last = last_point(body);
     let mut n: usize = 0;
     let mut at: usize = 0;
     let mut p: usize = 0;
     while p < last {
-        let i = instruction_from(b, p, at);
-        n += is_branch(i);
-        at = begins_behind(b, p, at);
+        let instruction = instruction_from(body, p, at);
+        n += is_branch(instruction);
+        at = begins_behind(body, p, at);
         p += 1;
     }
     n
 }
 
 // Of one thread.
-pub fn thread_tally(b: &[u8]) -> Tally
-    ensures { λ r. ⌜ (r ≡ threadTally (now (b .entry))) × Small 1 r ⌝ }
+pub fn thread_tally(body: &[u8]) -> Tally
+    ensures { λ r. ⌜ (r ≡ threadTally (now (body .entry))) × Small 1 r ⌝ }
 {
-    let last = last_point(b);
-    let n = branches_of(b);
+    let last = last_point(body);
+    let n = branches_of(body);
     Tally {
         points: last + 1,
         steps: last + n,
@@ -59,22 +59,22 @@ pub fn thread_tally(b: &[u8]) -> Tally
     }
 }
 
-fn both(c: Tally, d: Tally) -> Tally
-    requires { ⌜ Small 256 c × Small 1 d ⌝ }
-    ensures { λ r. ⌜ r ≡ plus c d ⌝ }
+fn both(counts: Tally, other: Tally) -> Tally
+    requires { ⌜ Small 256 counts × Small 1 other ⌝ }
+    ensures { λ r. ⌜ r ≡ plus counts other ⌝ }
 {
     Tally {
-        points: c.points + d.points,
-        steps: c.steps + d.steps,
-        actions: c.actions + d.actions,
-        own: c.own + d.own,
+        points: counts.points + other.points,
+        steps: counts.steps + other.steps,
+        actions: counts.actions + other.actions,
+        own: counts.own + other.own,
     }
 }
 
 // Of all threads.
-pub fn tally_of<'a, 'b>(s: &'a [u8], ix: &'b [usize], z: Sizes) -> Tally
-    requires { ⌜ now ix ≡ indexOf (now s) ⌝ }
-    ensures { λ r. ⌜ (r ≡ tally z (bodies (now (s .entry)))) × Small 256 r ⌝ }
+pub fn tally_of<'a, 'b>(image: &'a [u8], index: &'b [usize], sizes: Sizes) -> Tally
+    requires { ⌜ now index ≡ indexOf (now image) ⌝ }
+    ensures { λ r. ⌜ (r ≡ tally sizes (bodies (now (image .entry)))) × Small 256 r ⌝ }
 {
     let mut c = Tally {
         points: 0,
@@ -82,12 +82,12 @@ pub fn tally_of<'a, 'b>(s: &'a [u8], ix: &'b [usize], z: Sizes) -> Tally
         actions: 0,
         own: 0,
     };
-    let threads = z.threads as usize;
+    let threads = sizes.threads as usize;
     let mut t: usize = 0;
     while t < threads {
         t += 1;
-        let b = body_of(s, ix, (z.formulas as usize) + t);
-        let d = thread_tally(b);
+        let body = body_of(image, index, (sizes.formulas as usize) + t);
+        let d = thread_tally(body);
         c = both(c, d);
     }
     c
@@ -95,18 +95,18 @@ pub fn tally_of<'a, 'b>(s: &'a [u8], ix: &'b [usize], z: Sizes) -> Tally
 
 // How many obligations so many threads with these sums have: for each thread its start; the steps; each point with each action of
 // another thread.
-pub fn obligations_by(threads: u8, c: Tally) -> usize
-    requires { ⌜ Small 256 c × (c .own ≤ c .points * c .actions) ⌝ }
-    ensures { λ r. ⌜ r ≡ obligationsBy threads c ⌝ }
+pub fn obligations_by(threads: u8, counts: Tally) -> usize
+    requires { ⌜ Small 256 counts × (counts .own ≤ counts .points * counts .actions) ⌝ }
+    ensures { λ r. ⌜ r ≡ obligationsBy threads counts ⌝ }
 {
-    (threads as usize) + c.steps + (c.points * c.actions - c.own)
+    (threads as usize) + counts.steps + (counts.points * counts.actions - counts.own)
 }
 
 // Of an image.
-pub fn count_obligations<'a, 'b>(s: &'a [u8], ix: &'b [usize], z: Sizes) -> usize
-    requires { ⌜ now ix ≡ indexOf (now s) ⌝ }
-    ensures { λ r. ⌜ r ≡ obligationCount z (bodies (now (s .entry))) ⌝ }
+pub fn count_obligations<'a, 'b>(image: &'a [u8], index: &'b [usize], sizes: Sizes) -> usize
+    requires { ⌜ now index ≡ indexOf (now image) ⌝ }
+    ensures { λ r. ⌜ r ≡ obligationCount sizes (bodies (now (image .entry))) ⌝ }
 {
-    let c = tally_of(s, ix, z);
-    obligations_by(z.threads, c)
+    let counts = tally_of(image, index, sizes);
+    obligations_by(sizes.threads, counts)
 }

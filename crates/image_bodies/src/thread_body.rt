@@ -33,85 +33,95 @@ fn wanted_sort(operation: u8) -> u8
 }
 
 // Formula k, if there is one, is of the sort over registers alone.
-fn formula_sorted<'a, 'b>(s: &'a [u8], ix: &'b [usize], sort: u8, k: usize) -> bool
-    requires { ⌜ now ix ≡ indexOf (now s) ⌝ }
-    ensures { λ r. ⌜ r ≡ formulaSorted (bodies (now (s .entry))) sort k ⌝ }
+fn formula_sorted<'a, 'b>(image: &'a [u8], index: &'b [usize], sort: u8, number: usize) -> bool
+    requires { ⌜ now index ≡ indexOf (now image) ⌝ }
+    ensures { λ r. ⌜ r ≡ formulaSorted (bodies (now (image .entry))) sort number ⌝ }
 {
-    if k == 0 {
+    if number == 0 {
         return true;
     }
-    let b = body_of(s, ix, k);
-    is_plain_of(b, sort)
+    let body = body_of(image, index, number);
+    is_plain_of(body, sort)
 }
 
 // The formulas of both halves.
-fn instruction_sorted<'a, 'b>(s: &'a [u8], ix: &'b [usize], i: Instruction) -> bool
-    requires { ⌜ now ix ≡ indexOf (now s) ⌝ }
-    ensures { λ r. ⌜ r ≡ sorted (bodies (now (s .entry))) i ⌝ }
+fn instruction_sorted<'a, 'b>(image: &'a [u8], index: &'b [usize], instruction: Instruction) -> bool
+    requires { ⌜ now index ≡ indexOf (now image) ⌝ }
+    ensures { λ r. ⌜ r ≡ sorted (bodies (now (image .entry))) instruction ⌝ }
 {
-    if formula_sorted(s, ix, wanted_sort(i.operation), i.formula) {
-        return formula_sorted(s, ix, Place::VALUE, i.second.formula);
+    if formula_sorted(
+        image,
+        index,
+        wanted_sort(instruction.operation),
+        instruction.formula,
+    ) {
+        return formula_sorted(image, index, Place::VALUE, instruction.second.formula);
     }
     false
 }
 
 // The register that an instruction sets by itself; 0 for none.
-fn target_of(i: Instruction) -> u8
-    ensures { λ r. ⌜ r ≡ target i ⌝ }
+fn target_of(instruction: Instruction) -> u8
+    ensures { λ r. ⌜ r ≡ target instruction ⌝ }
 {
-    if i.operation <= Instruction::ACQUIRE {
-        return i.a;
+    if instruction.operation <= Instruction::ACQUIRE {
+        return instruction.a;
     }
-    if i.operation <= Instruction::BRANCH {
+    if instruction.operation <= Instruction::BRANCH {
         return 0;
     }
-    if i.operation <= Instruction::FETCH_ADD {
-        return i.b;
+    if instruction.operation <= Instruction::FETCH_ADD {
+        return instruction.b;
     }
-    if i.operation <= Instruction::PAIR_SWAP {
+    if instruction.operation <= Instruction::PAIR_SWAP {
         return 0;
     }
-    i.a
+    instruction.a
 }
 
 // Register r, if there is one, is the thread's.
-fn register_owned<'a, 'b>(s: &'a [u8], ix: &'b [usize], t: u8, r: u8) -> bool
-    requires { ⌜ now ix ≡ indexOf (now s) ⌝ }
-    ensures { λ q. ⌜ q ≡ registerOwned (bodies (now (s .entry))) t r ⌝ }
+fn register_owned<'a, 'b>(image: &'a [u8], index: &'b [usize], t: u8, r: u8) -> bool
+    requires { ⌜ now index ≡ indexOf (now image) ⌝ }
+    ensures { λ q. ⌜ q ≡ registerOwned (bodies (now (image .entry))) t r ⌝ }
 {
     if r == 0 {
         return true;
     }
-    let h = body_of(s, ix, 0);
-    owner_of(h, r as usize) == (t as usize)
+    let header = body_of(image, index, 0);
+    owner_of(header, r as usize) == (t as usize)
 }
 
 // The registers of formula k, if there is one, are the thread's.
-fn formula_owned<'a, 'b>(s: &'a [u8], ix: &'b [usize], t: u8, k: usize) -> bool
-    requires { ⌜ now ix ≡ indexOf (now s) ⌝ }
-    ensures { λ r. ⌜ r ≡ formulaOwned (bodies (now (s .entry))) t k ⌝ }
+fn formula_owned<'a, 'b>(image: &'a [u8], index: &'b [usize], t: u8, number: usize) -> bool
+    requires { ⌜ now index ≡ indexOf (now image) ⌝ }
+    ensures { λ r. ⌜ r ≡ formulaOwned (bodies (now (image .entry))) t number ⌝ }
 {
-    if k == 0 {
+    if number == 0 {
         return true;
     }
-    let b = body_of(s, ix, k);
-    let h = body_of(s, ix, 0);
-    let owners = owners_of(h);
-    if has_foreign(b, 0, Limits::NESTING, t, owners) {
+    let body = body_of(image, index, number);
+    let header = body_of(image, index, 0);
+    let owners = owners_of(header);
+    if has_foreign(body, 0, Limits::NESTING, t, owners) {
         return false;
     }
     true
 }
 
 // The registers of both halves.
-fn instruction_owned<'a, 'b>(s: &'a [u8], ix: &'b [usize], t: u8, i: Instruction) -> bool
-    requires { ⌜ now ix ≡ indexOf (now s) ⌝ }
-    ensures { λ r. ⌜ r ≡ owned (bodies (now (s .entry))) t i ⌝ }
+fn instruction_owned<'a, 'b>(
+    image: &'a [u8],
+    index: &'b [usize],
+    t: u8,
+    instruction: Instruction,
+) -> bool
+    requires { ⌜ now index ≡ indexOf (now image) ⌝ }
+    ensures { λ r. ⌜ r ≡ owned (bodies (now (image .entry))) t instruction ⌝ }
 {
-    if register_owned(s, ix, t, target_of(i)) {
-        if formula_owned(s, ix, t, i.formula) {
-            if register_owned(s, ix, t, i.second.a) {
-                return formula_owned(s, ix, t, i.second.formula);
+    if register_owned(image, index, t, target_of(instruction)) {
+        if formula_owned(image, index, t, instruction.formula) {
+            if register_owned(image, index, t, instruction.second.a) {
+                return formula_owned(image, index, t, instruction.second.formula);
             }
         }
     }
@@ -119,34 +129,34 @@ fn instruction_owned<'a, 'b>(s: &'a [u8], ix: &'b [usize], t: u8, i: Instruction
 }
 
 // The operand of an exchange or a fetch-add lacks its result register.
-fn result_absent<'a, 'b>(s: &'a [u8], ix: &'b [usize], i: Instruction) -> bool
-    requires { ⌜ now ix ≡ indexOf (now s) ⌝ }
-    ensures { λ r. ⌜ r ≡ resultAbsent (bodies (now (s .entry))) i ⌝ }
+fn result_absent<'a, 'b>(image: &'a [u8], index: &'b [usize], instruction: Instruction) -> bool
+    requires { ⌜ now index ≡ indexOf (now image) ⌝ }
+    ensures { λ r. ⌜ r ≡ resultAbsent (bodies (now (image .entry))) instruction ⌝ }
 {
-    if i.operation <= Instruction::BRANCH {
+    if instruction.operation <= Instruction::BRANCH {
         return true;
     }
-    if Instruction::FETCH_ADD < i.operation {
+    if Instruction::FETCH_ADD < instruction.operation {
         return true;
     }
-    let b = body_of(s, ix, i.formula);
-    if has_register(b, 0, Limits::NESTING, i.b) {
+    let body = body_of(image, index, instruction.formula);
+    if has_register(body, 0, Limits::NESTING, instruction.b) {
         return false;
     }
     true
 }
 
-fn instructions_sorted<'a, 'b>(s: &'a [u8], ix: &'b [usize], b: &'a [u8]) -> bool
-    requires { ⌜ now ix ≡ indexOf (now s) ⌝ }
-    ensures { λ r. ⌜ r ≡ every (sorted (bodies (now (s .entry)))) (instructions (now (b .entry))) ⌝ }
+fn instructions_sorted<'a, 'b>(image: &'a [u8], index: &'b [usize], body: &'a [u8]) -> bool
+    requires { ⌜ now index ≡ indexOf (now image) ⌝ }
+    ensures { λ r. ⌜ r ≡ every (sorted (bodies (now (image .entry)))) (instructions (now (body .entry))) ⌝ }
 {
-    let last = last_point(b);
+    let last = last_point(body);
     let mut at: usize = 0;
     let mut p: usize = 0;
     while p < last {
-        let i = instruction_from(b, p, at);
-        if instruction_sorted(s, ix, i) {
-            at = begins_behind(b, p, at);
+        let instruction = instruction_from(body, p, at);
+        if instruction_sorted(image, index, instruction) {
+            at = begins_behind(body, p, at);
             p += 1;
         } else {
             return false;
@@ -155,17 +165,17 @@ fn instructions_sorted<'a, 'b>(s: &'a [u8], ix: &'b [usize], b: &'a [u8]) -> boo
     true
 }
 
-fn instructions_owned<'a, 'b>(s: &'a [u8], ix: &'b [usize], t: u8, b: &'a [u8]) -> bool
-    requires { ⌜ now ix ≡ indexOf (now s) ⌝ }
-    ensures { λ r. ⌜ r ≡ every (owned (bodies (now (s .entry))) t) (instructions (now (b .entry))) ⌝ }
+fn instructions_owned<'a, 'b>(image: &'a [u8], index: &'b [usize], t: u8, body: &'a [u8]) -> bool
+    requires { ⌜ now index ≡ indexOf (now image) ⌝ }
+    ensures { λ r. ⌜ r ≡ every (owned (bodies (now (image .entry))) t) (instructions (now (body .entry))) ⌝ }
 {
-    let last = last_point(b);
+    let last = last_point(body);
     let mut at: usize = 0;
     let mut p: usize = 0;
     while p < last {
-        let i = instruction_from(b, p, at);
-        if instruction_owned(s, ix, t, i) {
-            at = begins_behind(b, p, at);
+        let instruction = instruction_from(body, p, at);
+        if instruction_owned(image, index, t, instruction) {
+            at = begins_behind(body, p, at);
             p += 1;
         } else {
             return false;
@@ -174,17 +184,17 @@ fn instructions_owned<'a, 'b>(s: &'a [u8], ix: &'b [usize], t: u8, b: &'a [u8]) 
     true
 }
 
-fn results_absent<'a, 'b>(s: &'a [u8], ix: &'b [usize], b: &'a [u8]) -> bool
-    requires { ⌜ now ix ≡ indexOf (now s) ⌝ }
-    ensures { λ r. ⌜ r ≡ every (resultAbsent (bodies (now (s .entry)))) (instructions (now (b .entry))) ⌝ }
+fn results_absent<'a, 'b>(image: &'a [u8], index: &'b [usize], body: &'a [u8]) -> bool
+    requires { ⌜ now index ≡ indexOf (now image) ⌝ }
+    ensures { λ r. ⌜ r ≡ every (resultAbsent (bodies (now (image .entry)))) (instructions (now (body .entry))) ⌝ }
 {
-    let last = last_point(b);
+    let last = last_point(body);
     let mut at: usize = 0;
     let mut p: usize = 0;
     while p < last {
-        let i = instruction_from(b, p, at);
-        if result_absent(s, ix, i) {
-            at = begins_behind(b, p, at);
+        let instruction = instruction_from(body, p, at);
+        if result_absent(image, index, instruction) {
+            at = begins_behind(body, p, at);
             p += 1;
         } else {
             return false;
@@ -194,12 +204,12 @@ fn results_absent<'a, 'b>(s: &'a [u8], ix: &'b [usize], b: &'a [u8]) -> bool
 }
 
 // The registers that the instructions name.
-fn check_registers<'a, 'b>(s: &'a [u8], ix: &'b [usize], t: u8, b: &'a [u8]) -> Checked
-    requires { ⌜ now ix ≡ indexOf (now s) ⌝ }
-    ensures { λ r. ⌜ r ≡ threadRegisters (bodies (now (s .entry))) t (now (b .entry)) ⌝ }
+fn check_registers<'a, 'b>(image: &'a [u8], index: &'b [usize], t: u8, body: &'a [u8]) -> Checked
+    requires { ⌜ now index ≡ indexOf (now image) ⌝ }
+    ensures { λ r. ⌜ r ≡ threadRegisters (bodies (now (image .entry))) t (now (body .entry)) ⌝ }
 {
-    if instructions_owned(s, ix, t, b) {
-        if results_absent(s, ix, b) {
+    if instructions_owned(image, index, t, body) {
+        if results_absent(image, index, body) {
             return Checked::Passed;
         }
         return Checked::Faulty(Fault::Operand);
@@ -208,15 +218,21 @@ fn check_registers<'a, 'b>(s: &'a [u8], ix: &'b [usize], t: u8, b: &'a [u8]) -> 
 }
 
 // Thread t.
-pub fn check_thread<'a, 'b>(s: &'a [u8], ix: &'b [usize], z: Sizes, t: u8, b: &'a [u8]) -> Checked
-    requires { ⌜ now ix ≡ indexOf (now s) ⌝ }
-    ensures { λ r. ⌜ r ≡ thread z (bodies (now (s .entry))) t (now (b .entry)) ⌝ }
+pub fn check_thread<'a, 'b>(
+    image: &'a [u8],
+    index: &'b [usize],
+    sizes: Sizes,
+    t: u8,
+    body: &'a [u8],
+) -> Checked
+    requires { ⌜ now index ≡ indexOf (now image) ⌝ }
+    ensures { λ r. ⌜ r ≡ thread sizes (bodies (now (image .entry))) t (now (body .entry)) ⌝ }
 {
-    match check_thread_numbers(b, z) {
+    match check_thread_numbers(body, sizes) {
         Checked::Faulty(fault) => Checked::Faulty(fault),
         Checked::Passed => {
-            if instructions_sorted(s, ix, b) {
-                return check_registers(s, ix, t, b);
+            if instructions_sorted(image, index, body) {
+                return check_registers(image, index, t, body);
             }
             Checked::Faulty(Fault::Sort)
         }

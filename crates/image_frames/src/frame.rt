@@ -15,43 +15,43 @@ pub struct Seen {
 }
 
 // A record of this place in the order comes: the last one once more or the next one, and not too often.
-pub fn admit_kind(last: usize, count: &[u16], k: usize) -> Checked
+pub fn admit_kind(last: usize, count: &[u16], kind: usize) -> Checked
     requires { ⌜ length (now count) ≡ 8 ⌝ }
-    ensures { λ r. ⌜ r ≡ admit (record { last = last; count = now (count .entry) }) k ⌝ }
+    ensures { λ r. ⌜ r ≡ admit (record { last = last; count = now (count .entry) }) kind ⌝ }
 {
-    if Kind::LAST < k {
+    if Kind::LAST < kind {
         return Checked::Faulty(Fault::Kind);
     }
-    if k < last {
+    if kind < last {
         return Checked::Faulty(Fault::Kind);
     }
-    if 1 < k - last {
+    if 1 < kind - last {
         return Checked::Faulty(Fault::Kind);
     }
-    if count[k] < Kind::MOST[k] {
+    if count[kind] < Kind::MOST[kind] {
         return Checked::Passed;
     }
     Checked::Faulty(Fault::Kind)
 }
 
 // The frame of the record at a position.
-pub fn frame_at<'a, 'b>(s: &'a [u8], at: usize, last: usize, count: &'b [u16]) -> Checked
+pub fn frame_at<'a, 'b>(image: &'a [u8], at: usize, last: usize, count: &'b [u16]) -> Checked
     requires { ⌜ length (now count) ≡ 8 ⌝ }
-    ensures { λ r. ⌜ r ≡ frame (record { last = last; count = now (count .entry) }) (drop at (now (s .entry))) ⌝ }
+    ensures { λ r. ⌜ r ≡ frame (record { last = last; count = now (count .entry) }) (drop at (now (image .entry))) ⌝ }
 {
-    if s.len() <= at {
+    if image.len() <= at {
         return Checked::Faulty(Fault::Length);
     }
-    if s.len() - at < 2 {
+    if image.len() - at < 2 {
         return Checked::Faulty(Fault::Length);
     }
-    let n = word_at(s, at);
+    let n = word_at(image, at);
     if n < 2 {
         return Checked::Faulty(Fault::Length);
     }
-    if s.len() - at - 2 < n {
+    if image.len() - at - 2 < n {
         return Checked::Faulty(Fault::Length);
     }
-    let k = order_of(word_at(s, at + 2));
+    let k = order_of(word_at(image, at + 2));
     admit_kind(last, count, k)
 }

@@ -25,25 +25,25 @@ pub enum Framing {
 }
 
 // The image ends where record i would come.
-fn end_of(i: usize, c: Seen) -> Framing
-    ensures { λ r. ⌜ r ≡ ended i c ⌝ }
+fn end_of(i: usize, seen: Seen) -> Framing
+    ensures { λ r. ⌜ r ≡ ended i seen ⌝ }
 {
-    if c.last < Kind::OBLIGATIONS {
+    if seen.last < Kind::OBLIGATIONS {
         return Framing::Refused {
             fault: Fault::Kind,
             record: i,
         };
     }
     Framing::Sound {
-        formulas: c.count[Kind::FORMULA],
-        threads: c.count[Kind::THREAD],
-        lines: c.count[Kind::LINE],
-        claims: c.count[Kind::LAST],
+        formulas: seen.count[Kind::FORMULA],
+        threads: seen.count[Kind::THREAD],
+        lines: seen.count[Kind::LINE],
+        claims: seen.count[Kind::LAST],
     }
 }
 
-fn walk_frames(s: &[u8]) -> Framing
-    ensures { λ r. ⌜ r ≡ frames (now (s .entry)) ⌝ }
+fn walk_frames(image: &[u8]) -> Framing
+    ensures { λ r. ⌜ r ≡ frames (now (image .entry)) ⌝ }
 {
     let mut c = Seen {
         last: 0,
@@ -51,16 +51,16 @@ fn walk_frames(s: &[u8]) -> Framing
     };
     let mut at: usize = 0;
     let mut i: usize = 1;
-    while 0 < s.len() - at {
-        match frame_at(s, at, c.last, &c.count) {
+    while 0 < image.len() - at {
+        match frame_at(image, at, c.last, &c.count) {
             Checked::Faulty(fault) => {
                 return Framing::Refused { fault, record: i };
             }
             Checked::Passed => {
-                let k = order_of(word_at(s, at + 2));
+                let k = order_of(word_at(image, at + 2));
                 c.count[k] = c.count[k] + 1;
                 c.last = k;
-                at = at + 2 + word_at(s, at);
+                at = at + 2 + word_at(image, at);
                 i += 1;
             }
         }
@@ -69,20 +69,20 @@ fn walk_frames(s: &[u8]) -> Framing
 }
 
 // The whole image's size, then its frames.
-pub fn read_frames(s: &[u8]) -> Framing
-    ensures { λ r. ⌜ r ≡ wholeImage (now (s .entry)) ⌝ }
+pub fn read_frames(image: &[u8]) -> Framing
+    ensures { λ r. ⌜ r ≡ wholeImage (now (image .entry)) ⌝ }
 {
-    if s.len() == 0 {
+    if image.len() == 0 {
         return Framing::Refused {
             fault: Fault::Size,
             record: 0,
         };
     }
-    if Limits::IMAGE_BYTES < s.len() {
+    if Limits::IMAGE_BYTES < image.len() {
         return Framing::Refused {
             fault: Fault::Size,
             record: 0,
         };
     }
-    walk_frames(s)
+    walk_frames(image)
 }

@@ -29,68 +29,68 @@ impl Header {
     pub const LISTS: usize = 4;
 }
 
-fn header_size(b: &[u8]) -> usize
-    ensures { λ r. ⌜ r ≡ headerSize (now (b .entry)) ⌝ }
+fn header_size(body: &[u8]) -> usize
+    ensures { λ r. ⌜ r ≡ headerSize (now (body .entry)) ⌝ }
 {
-    let registers = byte_at(b, Header::REGISTERS);
-    Header::LISTS + byte_at(b, Header::WORDS) + registers + registers
+    let registers = byte_at(body, Header::REGISTERS);
+    Header::LISTS + byte_at(body, Header::WORDS) + registers + registers
 }
 
-fn start_values(b: &[u8]) -> &[u8]
-    ensures { λ r. ⌜ now r ≡ startValues (now (b .entry)) ⌝ }
+fn start_values(body: &[u8]) -> &[u8]
+    ensures { λ r. ⌜ now r ≡ startValues (now (body .entry)) ⌝ }
 {
-    part(b, Header::LISTS, byte_at(b, Header::WORDS))
+    part(body, Header::LISTS, byte_at(body, Header::WORDS))
 }
 
-pub fn owners_of(b: &[u8]) -> &[u8]
-    ensures { λ r. ⌜ now r ≡ owners (now (b .entry)) ⌝ }
+pub fn owners_of(body: &[u8]) -> &[u8]
+    ensures { λ r. ⌜ now r ≡ owners (now (body .entry)) ⌝ }
 {
     part(
-        b,
-        Header::LISTS + byte_at(b, Header::WORDS),
-        byte_at(b, Header::REGISTERS),
+        body,
+        Header::LISTS + byte_at(body, Header::WORDS),
+        byte_at(body, Header::REGISTERS),
     )
 }
 
-fn marks_of(b: &[u8]) -> &[u8]
-    ensures { λ r. ⌜ now r ≡ marks (now (b .entry)) ⌝ }
+fn marks_of(body: &[u8]) -> &[u8]
+    ensures { λ r. ⌜ now r ≡ marks (now (body .entry)) ⌝ }
 {
-    let registers = byte_at(b, Header::REGISTERS);
+    let registers = byte_at(body, Header::REGISTERS);
     part(
-        b,
-        Header::LISTS + byte_at(b, Header::WORDS) + registers,
+        body,
+        Header::LISTS + byte_at(body, Header::WORDS) + registers,
         registers,
     )
 }
 
 // How many values there are.
-pub fn range_of(b: &[u8]) -> u8
-    ensures { λ r. ⌜ r ≡ valueRange (now (b .entry)) ⌝ }
+pub fn range_of(body: &[u8]) -> u8
+    ensures { λ r. ⌜ r ≡ valueRange (now (body .entry)) ⌝ }
 {
-    octet_at(b, Header::RANGE)
+    octet_at(body, Header::RANGE)
 }
 
 // The start value of a word.
-pub fn start_value(b: &[u8], x: usize) -> u8
-    ensures { λ r. ⌜ r ≡ nth (startValues (now (b .entry))) x 0 ⌝ }
+pub fn start_value(body: &[u8], x: usize) -> u8
+    ensures { λ r. ⌜ r ≡ nth (startValues (now (body .entry))) x 0 ⌝ }
 {
-    let l = start_values(b);
-    nth_byte(l, x) as u8
+    let values = start_values(body);
+    nth_byte(values, x) as u8
 }
 
 // The thread that owns a register.
-pub fn owner_of(b: &[u8], r: usize) -> usize
-    ensures { λ t. ⌜ t ≡ nth (owners (now (b .entry))) r 0 ⌝ }
+pub fn owner_of(body: &[u8], r: usize) -> usize
+    ensures { λ t. ⌜ t ≡ nth (owners (now (body .entry))) r 0 ⌝ }
 {
-    let l = owners_of(b);
+    let l = owners_of(body);
     nth_byte(l, r)
 }
 
 // A register starts at 0: its mark says so, or it is not there.
-pub fn is_cleared(b: &[u8], r: usize) -> bool
-    ensures { λ c. ⌜ c ≡ cleared (now (b .entry)) r ⌝ }
+pub fn is_cleared(body: &[u8], r: usize) -> bool
+    ensures { λ c. ⌜ c ≡ cleared (now (body .entry)) r ⌝ }
 {
-    let l = marks_of(b);
+    let l = marks_of(body);
     if in_range(r, 1, l.len()) {
         return nth_byte(l, r) == 1;
     }
@@ -98,15 +98,15 @@ pub fn is_cleared(b: &[u8], r: usize) -> bool
 }
 
 // The counts and the range; t thread records follow.
-fn counts_fit(b: &[u8], t: usize) -> bool
-    ensures { λ r. ⌜ r ≡ counted t (now (b .entry)) ⌝ }
+fn counts_fit(body: &[u8], threads: usize) -> bool
+    ensures { λ r. ⌜ r ≡ counted threads (now (body .entry)) ⌝ }
 {
-    if byte_within(b, Header::THREADS, t, t) {
-        if byte_within(b, Header::THREADS, 1, Limits::THREADS) {
-            if byte_within(b, Header::WORDS, 1, Limits::WORDS) {
-                if byte_within(b, Header::REGISTERS, 0, Limits::REGISTERS) {
+    if byte_within(body, Header::THREADS, threads, threads) {
+        if byte_within(body, Header::THREADS, 1, Limits::THREADS) {
+            if byte_within(body, Header::WORDS, 1, Limits::WORDS) {
+                if byte_within(body, Header::REGISTERS, 0, Limits::REGISTERS) {
                     return byte_within(
-                        b,
+                        body,
                         Header::RANGE,
                         Limits::FEWEST_VALUES,
                         Limits::MOST_VALUES,
@@ -119,15 +119,15 @@ fn counts_fit(b: &[u8], t: usize) -> bool
 }
 
 // Every number of the header is in its range.
-fn header_fits(b: &[u8], t: usize) -> bool
-    ensures { λ r. ⌜ r ≡ headed t (now (b .entry)) ⌝ }
+fn header_fits(body: &[u8], threads: usize) -> bool
+    ensures { λ r. ⌜ r ≡ headed threads (now (body .entry)) ⌝ }
 {
-    if counts_fit(b, t) {
-        let l = start_values(b);
-        if bytes_within(l, 0, byte_at(b, Header::RANGE) - 1) {
-            let m = owners_of(b);
-            if bytes_within(m, 1, byte_at(b, Header::THREADS)) {
-                let k = marks_of(b);
+    if counts_fit(body, threads) {
+        let values = start_values(body);
+        if bytes_within(values, 0, byte_at(body, Header::RANGE) - 1) {
+            let m = owners_of(body);
+            if bytes_within(m, 1, byte_at(body, Header::THREADS)) {
+                let k = marks_of(body);
                 return bytes_within(k, 0, 1);
             }
         }
@@ -135,16 +135,16 @@ fn header_fits(b: &[u8], t: usize) -> bool
     false
 }
 
-pub fn check_header(b: &[u8], t: usize) -> Checked
-    ensures { λ r. ⌜ r ≡ header t (now (b .entry)) ⌝ }
+pub fn check_header(body: &[u8], threads: usize) -> Checked
+    ensures { λ r. ⌜ r ≡ header threads (now (body .entry)) ⌝ }
 {
-    if b.len() < Header::LISTS {
+    if body.len() < Header::LISTS {
         return Checked::Faulty(Fault::Body);
     }
-    if b.len() != header_size(b) {
+    if body.len() != header_size(body) {
         return Checked::Faulty(Fault::Body);
     }
-    if header_fits(b, t) {
+    if header_fits(body, threads) {
         return Checked::Passed;
     }
     Checked::Faulty(Fault::Number)

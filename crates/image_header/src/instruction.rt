@@ -139,64 +139,68 @@ pub fn instruction_size(operation: u8) -> usize
     Instruction::HALF
 }
 
-fn read_half(b: &[u8]) -> Half
-    ensures { λ r. ⌜ r ≡ half (now (b .entry)) ⌝ }
+fn read_half(body: &[u8]) -> Half
+    ensures { λ r. ⌜ r ≡ half (now (body .entry)) ⌝ }
 {
     Half {
-        operation: octet_at(b, 0),
-        a: octet_at(b, 1),
-        b: octet_at(b, 2),
-        formula: word_at(b, 3),
+        operation: octet_at(body, 0),
+        a: octet_at(body, 1),
+        b: octet_at(body, 2),
+        formula: word_at(body, 3),
     }
 }
 
 // What goes with the instruction in front of the bytes.
-fn second_half(operation: u8, b: &[u8]) -> Half
-    ensures { λ r. ⌜ r ≡ secondHalf operation (now (b .entry)) ⌝ }
+fn second_half(operation: u8, body: &[u8]) -> Half
+    ensures { λ r. ⌜ r ≡ secondHalf operation (now (body .entry)) ⌝ }
 {
     if is_twofold(operation) {
-        let l = rest(b, Instruction::HALF);
+        let l = rest(body, Instruction::HALF);
         return read_half(l);
     }
     NO_HALF
 }
 
 // The instruction in front of the bytes.
-pub fn read_instruction(b: &[u8]) -> Instruction
-    ensures { λ r. ⌜ r ≡ instruction (now (b .entry)) ⌝ }
+pub fn read_instruction(body: &[u8]) -> Instruction
+    ensures { λ r. ⌜ r ≡ instruction (now (body .entry)) ⌝ }
 {
-    let operation = octet_at(b, 0);
+    let operation = octet_at(body, 0);
     Instruction {
         operation,
-        a: octet_at(b, 1),
-        b: octet_at(b, 2),
-        formula: word_at(b, 3),
-        second: second_half(operation, b),
+        a: octet_at(body, 1),
+        body: octet_at(body, 2),
+        formula: word_at(body, 3),
+        second: second_half(operation, body),
     }
 }
 
-fn three(a: Range, b: Range, formula: Range) -> Fields
-    ensures { λ r. ⌜ r ≡ record { a = a; b = b; formula = formula } ⌝ }
+fn three(first: Range, second: Range, formula: Range) -> Fields
+    ensures { λ r. ⌜ r ≡ record { first = first; second = second; formula = formula } ⌝ }
 {
-    Fields { a, b, formula }
+    Fields {
+        a: first,
+        b: second,
+        formula,
+    }
 }
 
 // The fields of an operation in a thread with this last point. An unknown operation has no field a that fits.
-pub fn fields_of(operation: u8, last: usize, z: Sizes) -> Fields
-    ensures { λ r. ⌜ r ≡ fieldsOf operation last z ⌝ }
+pub fn fields_of(operation: u8, last: usize, sizes: Sizes) -> Fields
+    ensures { λ r. ⌜ r ≡ fieldsOf operation last sizes ⌝ }
 {
     let unused = Range { low: 0, high: 0 };
     let register = Range {
         low: 1,
-        high: z.registers as usize,
+        high: sizes.registers as usize,
     };
     let word = Range {
         low: 1,
-        high: z.words as usize,
+        high: sizes.words as usize,
     };
     let formula = Range {
         low: 1,
-        high: z.formulas as usize,
+        high: sizes.formulas as usize,
     };
     if operation == Instruction::ASSIGN {
         return three(register, unused, formula);
@@ -224,26 +228,26 @@ pub fn fields_of(operation: u8, last: usize, z: Sizes) -> Fields
     three(nowhere, unused, formula)
 }
 
-fn fields_fit(i: Instruction, f: Fields) -> bool
-    ensures { λ r. ⌜ r ≡ fieldsFit i f ⌝ }
+fn fields_fit(instruction: Instruction, fields: Fields) -> bool
+    ensures { λ r. ⌜ r ≡ fieldsFit instruction fields ⌝ }
 {
-    if in_range(i.a as usize, f.a.low, f.a.high) {
-        if in_range(i.b as usize, f.b.low, f.b.high) {
-            return in_range(i.formula, f.formula.low, f.formula.high);
+    if in_range(instruction.a as usize, fields.a.low, fields.a.high) {
+        if in_range(instruction.b as usize, fields.b.low, fields.b.high) {
+            return in_range(instruction.formula, fields.formula.low, fields.formula.high);
         }
     }
     false
 }
 
 // A second half is an assignment.
-fn half_fits(h: Half, z: Sizes) -> bool
-    ensures { λ r. ⌜ r ≡ halfFits z h ⌝ }
+fn half_fits(half: Half, sizes: Sizes) -> bool
+    ensures { λ r. ⌜ r ≡ halfFits sizes half ⌝ }
 {
     let assign = Instruction::ASSIGN as usize;
-    if in_range(h.operation as usize, assign, assign) {
-        if in_range(h.a as usize, 1, z.registers as usize) {
-            if in_range(h.b as usize, 0, 0) {
-                return in_range(h.formula, 1, z.formulas as usize);
+    if in_range(half.operation as usize, assign, assign) {
+        if in_range(half.a as usize, 1, sizes.registers as usize) {
+            if in_range(half.b as usize, 0, 0) {
+                return in_range(half.formula, 1, sizes.formulas as usize);
             }
         }
     }
@@ -251,14 +255,14 @@ fn half_fits(h: Half, z: Sizes) -> bool
 }
 
 // The second half, if there is one. Two assignments are to different registers.
-fn second_fits(i: Instruction, z: Sizes) -> bool
-    ensures { λ r. ⌜ r ≡ secondFits z i ⌝ }
+fn second_fits(instruction: Instruction, sizes: Sizes) -> bool
+    ensures { λ r. ⌜ r ≡ secondFits sizes instruction ⌝ }
 {
-    let h = i.second;
-    if is_twofold(i.operation) {
-        if half_fits(h, z) {
-            if i.operation == Instruction::ASSIGN_TWO {
-                return i.a != h.a;
+    let h = instruction.second;
+    if is_twofold(instruction.operation) {
+        if half_fits(h, sizes) {
+            if instruction.operation == Instruction::ASSIGN_TWO {
+                return instruction.a != h.a;
             }
             return true;
         }
@@ -268,12 +272,12 @@ fn second_fits(i: Instruction, z: Sizes) -> bool
 }
 
 // Every field is in its range.
-pub fn instruction_fits(i: Instruction, last: usize, z: Sizes) -> bool
-    ensures { λ r. ⌜ r ≡ ranged last z i ⌝ }
+pub fn instruction_fits(instruction: Instruction, last: usize, sizes: Sizes) -> bool
+    ensures { λ r. ⌜ r ≡ ranged last sizes instruction ⌝ }
 {
-    let f = fields_of(i.operation, last, z);
-    if fields_fit(i, f) {
-        return second_fits(i, z);
+    let fields = fields_of(instruction.operation, last, sizes);
+    if fields_fit(instruction, fields) {
+        return second_fits(instruction, sizes);
     }
     false
 }

@@ -20,10 +20,10 @@ ghost use Rattle.image_header.specs.Instruction.{ranged};
 ghost use Rattle.image_header.specs.Thread.{lastPoint, begins, instructions, nothing, threadSize, numbered, threadNumbers};
 
 // The last point, which is also the number of instructions.
-pub fn last_point(b: &[u8]) -> usize
-    ensures { λ r. ⌜ (r ≡ lastPoint (now (b .entry))) × (r < 256) ⌝ }
+pub fn last_point(body: &[u8]) -> usize
+    ensures { λ r. ⌜ (r ≡ lastPoint (now (body .entry))) × (r < 256) ⌝ }
 {
-    let n = byte_at(b, 0);
+    let n = byte_at(body, 0);
     if n == 0 {
         return 0;
     }
@@ -31,63 +31,63 @@ pub fn last_point(b: &[u8]) -> usize
 }
 
 // Where instruction p begins, walked from the first one on.
-pub fn begins_at(l: &[u8], p: usize) -> usize
-    requires { ⌜ p < 256 ⌝ }
-    ensures { λ r. ⌜ (r ≡ begins (now (l .entry)) p) × (r ≤ 2560) ⌝ }
+pub fn begins_at(body: &[u8], point: usize) -> usize
+    requires { ⌜ point < 256 ⌝ }
+    ensures { λ r. ⌜ (r ≡ begins (now (body .entry)) point) × (r ≤ 2560) ⌝ }
 {
     let mut at: usize = 0;
     let mut i: usize = 0;
-    while i < p {
-        at += instruction_size(octet_at(l, at));
+    while i < point {
+        at += instruction_size(octet_at(body, at));
         i += 1;
     }
     at
 }
 
 // Where the instruction behind instruction p begins, for a loop that goes along.
-pub fn begins_behind(b: &[u8], p: usize, at: usize) -> usize
-    requires { ⌜ (p < 256) × (at ≡ begins (drop 1 (now b)) p) ⌝ }
-    ensures { λ r. ⌜ r ≡ begins (drop 1 (now (b .entry))) (p + 1) ⌝ }
+pub fn begins_behind(body: &[u8], point: usize, at: usize) -> usize
+    requires { ⌜ (point < 256) × (at ≡ begins (drop 1 (now body)) point) ⌝ }
+    ensures { λ r. ⌜ r ≡ begins (drop 1 (now (body .entry))) (point + 1) ⌝ }
 {
-    let l = rest(b, 1);
+    let l = rest(body, 1);
     at + instruction_size(octet_at(l, at))
 }
 
 // The instruction at a point that begins there; where there is none, a branch to point 0.
-pub fn instruction_from(b: &[u8], p: usize, at: usize) -> Instruction
-    requires { ⌜ at ≡ begins (drop 1 (now b)) p ⌝ }
-    ensures { λ r. ⌜ r ≡ getD (instructions (now (b .entry))) p nothing ⌝ }
+pub fn instruction_from(body: &[u8], point: usize, at: usize) -> Instruction
+    requires { ⌜ at ≡ begins (drop 1 (now body)) point ⌝ }
+    ensures { λ r. ⌜ r ≡ getD (instructions (now (body .entry))) point nothing ⌝ }
 {
-    if last_point(b) <= p {
+    if last_point(body) <= point {
         return NOTHING;
     }
-    let l = rest(b, 1);
+    let l = rest(body, 1);
     let m = rest(l, at);
     read_instruction(m)
 }
 
 // The instruction at a point, walked to.
-pub fn instruction_at(b: &[u8], p: usize) -> Instruction
-    ensures { λ r. ⌜ r ≡ getD (instructions (now (b .entry))) p nothing ⌝ }
+pub fn instruction_at(body: &[u8], point: usize) -> Instruction
+    ensures { λ r. ⌜ r ≡ getD (instructions (now (body .entry))) point nothing ⌝ }
 {
-    if last_point(b) <= p {
+    if last_point(body) <= point {
         return NOTHING;
     }
-    let l = rest(b, 1);
-    instruction_from(b, p, begins_at(l, p))
+    let l = rest(body, 1);
+    instruction_from(body, point, begins_at(l, point))
 }
 
 // Every instruction has its fields in range.
-fn instructions_fit(b: &[u8], z: Sizes) -> bool
-    ensures { λ r. ⌜ r ≡ every (ranged (lastPoint (now (b .entry))) z) (instructions (now (b .entry))) ⌝ }
+fn instructions_fit(body: &[u8], sizes: Sizes) -> bool
+    ensures { λ r. ⌜ r ≡ every (ranged (lastPoint (now (body .entry))) sizes) (instructions (now (body .entry))) ⌝ }
 {
-    let last = last_point(b);
+    let last = last_point(body);
     let mut at: usize = 0;
     let mut p: usize = 0;
     while p < last {
-        let i = instruction_from(b, p, at);
-        if instruction_fits(i, last, z) {
-            at = begins_behind(b, p, at);
+        let instruction = instruction_from(body, p, at);
+        if instruction_fits(instruction, last, sizes) {
+            at = begins_behind(body, p, at);
             p += 1;
         } else {
             return false;
@@ -96,32 +96,32 @@ fn instructions_fit(b: &[u8], z: Sizes) -> bool
     true
 }
 
-fn thread_size(b: &[u8]) -> usize
-    ensures { λ r. ⌜ r ≡ threadSize (now (b .entry)) ⌝ }
+fn thread_size(body: &[u8]) -> usize
+    ensures { λ r. ⌜ r ≡ threadSize (now (body .entry)) ⌝ }
 {
-    let l = rest(b, 1);
-    1 + begins_at(l, last_point(b))
+    let l = rest(body, 1);
+    1 + begins_at(l, last_point(body))
 }
 
-fn thread_fits(b: &[u8], z: Sizes) -> bool
-    ensures { λ r. ⌜ r ≡ numbered z (now (b .entry)) ⌝ }
+fn thread_fits(body: &[u8], sizes: Sizes) -> bool
+    ensures { λ r. ⌜ r ≡ numbered sizes (now (body .entry)) ⌝ }
 {
-    if byte_within(b, 0, 1, Limits::POINTS) {
-        return instructions_fit(b, z);
+    if byte_within(body, 0, 1, Limits::POINTS) {
+        return instructions_fit(body, sizes);
     }
     false
 }
 
-pub fn check_thread_numbers(b: &[u8], z: Sizes) -> Checked
-    ensures { λ r. ⌜ r ≡ threadNumbers z (now (b .entry)) ⌝ }
+pub fn check_thread_numbers(body: &[u8], sizes: Sizes) -> Checked
+    ensures { λ r. ⌜ r ≡ threadNumbers sizes (now (body .entry)) ⌝ }
 {
-    if b.len() < 1 {
+    if body.len() < 1 {
         return Checked::Faulty(Fault::Body);
     }
-    if b.len() != thread_size(b) {
+    if body.len() != thread_size(body) {
         return Checked::Faulty(Fault::Body);
     }
-    if thread_fits(b, z) {
+    if thread_fits(body, sizes) {
         return Checked::Passed;
     }
     Checked::Faulty(Fault::Number)

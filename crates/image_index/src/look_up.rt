@@ -17,50 +17,62 @@ ghost use Rattle.image_header.specs.Thread.{lastPoint, begins, instructions, no
 ghost use Rattle.image_index.specs.IndexTable.{indexOf, placeOf};
 
 // Where the record starts that has i records before it; the image's end, if there is none.
-pub fn place_of<'a, 'b>(s: &'a [u8], ix: &'b [usize], i: usize) -> usize
-    requires { ⌜ now ix ≡ indexOf (now s) ⌝ }
-    ensures { λ r. ⌜ r ≡ placeOf (now (s .entry)) i ⌝ }
+pub fn place_of<'a, 'b>(image: &'a [u8], index: &'b [usize], i: usize) -> usize
+    requires { ⌜ now index ≡ indexOf (now image) ⌝ }
+    ensures { λ r. ⌜ r ≡ placeOf (now (image .entry)) i ⌝ }
 {
-    if i < ix.len() - IndexSize::STARTS {
-        return s.len() - ix[i];
+    if i < index.len() - IndexSize::STARTS {
+        return image.len() - index[i];
     }
-    s.len()
+    image.len()
 }
 
 // The body of the record that has i records before it.
-pub fn body_of<'a, 'b>(s: &'a [u8], ix: &'b [usize], i: usize) -> &'a [u8]
-    requires { ⌜ now ix ≡ indexOf (now s) ⌝ }
-    ensures { λ r. ⌜ now r ≡ getD (bodies (now (s .entry))) i [] ⌝ }
+pub fn body_of<'a, 'b>(image: &'a [u8], index: &'b [usize], i: usize) -> &'a [u8]
+    requires { ⌜ now index ≡ indexOf (now image) ⌝ }
+    ensures { λ r. ⌜ now r ≡ getD (bodies (now (image .entry))) i [] ⌝ }
 {
-    body_at(s, place_of(s, ix, i))
+    body_at(image, place_of(image, index, i))
 }
 
 // Where instruction p of record i begins: from the table, if the record is a thread's.
-fn begins_in<'a, 'b, 'c>(s: &'a [u8], ix: &'b [usize], b: &'c [u8], i: usize, p: usize) -> usize
-    requires { ⌜ (now ix ≡ indexOf (now s)) × ((now b ≡ getD (bodies (now s)) i []) × ((p < lastPoint (now b)) × (p < 256))) ⌝ }
-    ensures { λ r. ⌜ r ≡ begins (drop 1 (now (b .entry))) p ⌝ }
+fn begins_in<'a, 'b, 'c>(
+    image: &'a [u8],
+    index: &'b [usize],
+    body: &'c [u8],
+    i: usize,
+    point: usize,
+) -> usize
+    requires { ⌜ (now index ≡ indexOf (now image)) × ((now body ≡ getD (bodies (now image)) i [])
+        × ((point < lastPoint (now body)) × (point < 256))) ⌝ }
+    ensures { λ r. ⌜ r ≡ begins (drop 1 (now (body .entry))) point ⌝ }
 {
-    let n = ix.len() - IndexSize::STARTS;
-    let first = ix[n];
+    let n = index.len() - IndexSize::STARTS;
+    let first = index[n];
     if first <= i {
         if i - first < Limits::THREADS {
-            if p < Limits::POINTS {
-                return ix[n + 1 + 16 * (i - first) + p];
+            if point < Limits::POINTS {
+                return index[n + 1 + 16 * (i - first) + point];
             }
         }
     }
-    let l = rest(b, 1);
-    begins_at(l, p)
+    let l = rest(body, 1);
+    begins_at(l, point)
 }
 
 // The instruction at point p of record i; where there is none, a branch to point 0.
-pub fn instruction_in<'a, 'b>(s: &'a [u8], ix: &'b [usize], i: usize, p: usize) -> Instruction
-    requires { ⌜ now ix ≡ indexOf (now s) ⌝ }
-    ensures { λ r. ⌜ r ≡ getD (instructions (getD (bodies (now (s .entry))) i [])) p nothing ⌝ }
+pub fn instruction_in<'a, 'b>(
+    image: &'a [u8],
+    index: &'b [usize],
+    i: usize,
+    point: usize,
+) -> Instruction
+    requires { ⌜ now index ≡ indexOf (now image) ⌝ }
+    ensures { λ r. ⌜ r ≡ getD (instructions (getD (bodies (now (image .entry))) i [])) point nothing ⌝ }
 {
-    let b = body_of(s, ix, i);
-    if last_point(b) <= p {
+    let body = body_of(image, index, i);
+    if last_point(body) <= point {
         return NOTHING;
     }
-    instruction_from(b, p, begins_in(s, ix, b, i, p))
+    instruction_from(body, point, begins_in(image, index, body, i, point))
 }

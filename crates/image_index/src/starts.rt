@@ -19,33 +19,33 @@ pub struct FirstThread {
 }
 
 // The record at a position is a thread's.
-fn is_thread(s: &[u8], p: usize) -> bool
-    requires { ⌜ p < length (now s) ⌝ }
-    ensures { λ r. ⌜ r ≡ isThread (now (s .entry)) p ⌝ }
+fn is_thread(image: &[u8], at: usize) -> bool
+    requires { ⌜ at < length (now image) ⌝ }
+    ensures { λ r. ⌜ r ≡ isThread (now (image .entry)) at ⌝ }
 {
-    word_at(s, p + 2) == Kind::THREAD
+    word_at(image, at + 2) == Kind::THREAD
 }
 
 // Of the first n records.
-pub fn first_thread(s: &[u8], n: usize) -> FirstThread
-    ensures { λ r. ⌜ r ≡ firstFrom (now (s .entry)) 0 0 n ⌝ }
+pub fn first_thread(image: &[u8], n: usize) -> FirstThread
+    ensures { λ r. ⌜ r ≡ firstFrom (now (image .entry)) 0 0 n ⌝ }
 {
     let mut p: usize = 0;
     let mut i: usize = 0;
     while i < n {
-        if s.len() <= p {
+        if image.len() <= p {
             return FirstThread {
                 number: i,
                 position: p,
             };
         }
-        if is_thread(s, p) {
+        if is_thread(image, p) {
             return FirstThread {
                 number: i,
                 position: p,
             };
         }
-        p = next_start(s, p);
+        p = next_start(image, p);
         i += 1;
     }
     FirstThread {
@@ -55,10 +55,10 @@ pub fn first_thread(s: &[u8], n: usize) -> FirstThread
 }
 
 // How many instructions of a thread's body have a place.
-fn row_length(b: &[u8]) -> usize
-    ensures { λ r. ⌜ (r ≡ min 16 (lastPoint (now (b .entry)))) × (r ≤ 16) ⌝ }
+fn row_length(body: &[u8]) -> usize
+    ensures { λ r. ⌜ (r ≡ min 16 (lastPoint (now (body .entry)))) × (r ≤ 16) ⌝ }
 {
-    let last = last_point(b);
+    let last = last_point(body);
     if last < Limits::POINTS {
         return last;
     }
@@ -66,31 +66,31 @@ fn row_length(b: &[u8]) -> usize
 }
 
 // The places of one thread.
-fn fill_row<'a, 'b>(b: &'a [u8], ix: &'b mut [usize], from: usize)
-    requires { ⌜ from + 16 ≤ length (now ix) ⌝ }
-    ensures { λ _. ⌜ now (ix .exit) ≡ rowOf (now (ix .entry)) from (now (b .entry)) ⌝ }
+fn fill_row<'a, 'b>(body: &'a [u8], index: &'b mut [usize], from: usize)
+    requires { ⌜ from + 16 ≤ length (now index) ⌝ }
+    ensures { λ _. ⌜ now (index .exit) ≡ rowOf (now (index .entry)) from (now (body .entry)) ⌝ }
 {
-    let n = row_length(b);
+    let n = row_length(body);
     let mut at: usize = 0;
     let mut p: usize = 0;
     while p < n {
-        ix[from + p] = at;
-        at = begins_behind(b, p, at);
+        index[from + p] = at;
+        at = begins_behind(body, p, at);
         p += 1;
     }
 }
 
 // The places of four threads, whose records follow one another from a position on.
-pub fn fill_rows<'a, 'b>(s: &'a [u8], ix: &'b mut [usize], from: usize, position: usize)
-    requires { ⌜ from + 64 ≤ length (now ix) ⌝ }
-    ensures { λ _. ⌜ now (ix .exit) ≡ rowsTo (now (s .entry)) (now (ix .entry)) from position 4 ⌝ }
+pub fn fill_rows<'a, 'b>(image: &'a [u8], index: &'b mut [usize], from: usize, position: usize)
+    requires { ⌜ from + 64 ≤ length (now index) ⌝ }
+    ensures { λ _. ⌜ now (index .exit) ≡ rowsTo (now (image .entry)) (now (index .entry)) from position 4 ⌝ }
 {
-    let mut q = position;
+    let mut other = position;
     let mut j: usize = 0;
     while j < Limits::THREADS {
-        let b = body_at(s, q);
-        fill_row(b, ix, from + 16 * j);
-        q = next_start(s, q);
+        let b = body_at(image, other);
+        fill_row(b, index, from + 16 * j);
+        other = next_start(image, other);
         j += 1;
     }
 }

@@ -25,40 +25,40 @@ impl IndexSize {
 }
 
 // How many records the table of an image has places for.
-pub fn room_for(s: &[u8]) -> usize
-    ensures { λ r. ⌜ (r ≡ room (now (s .entry))) × (r ≤ 4523) ⌝ }
+pub fn room_for(image: &[u8]) -> usize
+    ensures { λ r. ⌜ (r ≡ room (now (image .entry))) × (r ≤ 4523) ⌝ }
 {
-    if s.len() <= IndexSize::SHORT_IMAGE {
+    if image.len() <= IndexSize::SHORT_IMAGE {
         return IndexSize::SHORT_RECORDS;
     }
     Limits::RECORDS
 }
 
 // The places of the records, in a table of zeros.
-fn fill_records<'a, 'b>(s: &'a [u8], ix: &'b mut [usize], n: usize)
-    requires { ⌜ (now ix ≡ replicate (tableSize (now s)) 0) × (n ≡ room (now s)) ⌝ }
-    ensures { λ _. ⌜ now (ix .exit) ≡ recordsTo (now (s .entry)) n ⌝ }
+fn fill_records<'a, 'b>(image: &'a [u8], index: &'b mut [usize], n: usize)
+    requires { ⌜ (now index ≡ replicate (tableSize (now image)) 0) × (n ≡ room (now image)) ⌝ }
+    ensures { λ _. ⌜ now (index .exit) ≡ recordsTo (now (image .entry)) n ⌝ }
 {
     let mut p: usize = 0;
     let mut i: usize = 0;
     while i < n {
-        if s.len() <= p {
+        if image.len() <= p {
             return;
         }
-        ix[i] = s.len() - p;
-        p = next_start(s, p);
+        index[i] = image.len() - p;
+        p = next_start(image, p);
         i += 1;
     }
 }
 
 // Fills a table of zeros.
-pub fn fill_index<'a, 'b>(s: &'a [u8], ix: &'b mut [usize])
-    requires { ⌜ now ix ≡ replicate (tableSize (now s)) 0 ⌝ }
-    ensures { λ _. ⌜ now (ix .exit) ≡ indexOf (now (s .entry)) ⌝ }
+pub fn fill_index<'a, 'b>(image: &'a [u8], index: &'b mut [usize])
+    requires { ⌜ now index ≡ replicate (tableSize (now image)) 0 ⌝ }
+    ensures { λ _. ⌜ now (index .exit) ≡ indexOf (now (image .entry)) ⌝ }
 {
-    let n = room_for(s);
-    fill_records(s, ix, n);
-    let f = first_thread(s, n);
-    ix[n] = f.number;
-    fill_rows(s, ix, n + 1, f.position);
+    let n = room_for(image);
+    fill_records(image, index, n);
+    let f = first_thread(image, n);
+    index[n] = f.number;
+    fill_rows(image, index, n + 1, f.position);
 }

@@ -7,32 +7,32 @@ ghost use Rattle.image_frames.specs.Records.{body};
 ghost use Rattle.image_index.specs.IndexTable.{nextStart};
 
 // The start of the record behind the one at a position.
-pub fn next_start(s: &[u8], at: usize) -> usize
-    ensures { λ r. ⌜ r ≡ nextStart (now (s .entry)) at ⌝ }
+pub fn next_start(image: &[u8], at: usize) -> usize
+    ensures { λ r. ⌜ r ≡ nextStart (now (image .entry)) at ⌝ }
 {
-    if s.len() <= at {
-        return s.len();
+    if image.len() <= at {
+        return image.len();
     }
-    let n = word_at(s, at);
-    if s.len() - at < 2 {
-        return s.len();
+    let n = word_at(image, at);
+    if image.len() - at < 2 {
+        return image.len();
     }
-    if s.len() - at - 2 < n {
-        return s.len();
+    if image.len() - at - 2 < n {
+        return image.len();
     }
     at + 2 + n
 }
 
 // The body of the record at a position.
-pub fn body_at(s: &[u8], p: usize) -> &[u8]
-    ensures { λ r. ⌜ now r ≡ body (drop p (now (s .entry))) ⌝ }
+pub fn body_at(image: &[u8], at: usize) -> &[u8]
+    ensures { λ r. ⌜ now r ≡ body (drop at (now (image .entry))) ⌝ }
 {
-    if s.len() <= p {
-        return part(s, p, 0);
+    if image.len() <= at {
+        return part(image, at, 0);
     }
-    let n = word_at(s, p);
+    let n = word_at(image, at);
     if n < 2 {
-        return part(s, p, 0);
+        return part(image, at, 0);
     }
-    part(s, p + 4, n - 2)
+    part(image, at + 4, n - 2)
 }

@@ -14,16 +14,17 @@ ghost use Rattle.rules_justified.specs.Marks.{asMarks};
 ghost use Rattle.obligations.specs.Judgement.{judgeAt};
 
 pub fn judge_obligations<'a, 'b, 'c>(
-    s: &'a [u8],
-    ix: &'b [usize],
-    z: Sizes,
-    m: &'c [bool],
+    image: &'a [u8],
+    index: &'b [usize],
+    sizes: Sizes,
+    marks: &'c [bool],
 ) -> Outcome
-    requires { ⌜ now ix ≡ indexOf (now s) ⌝ }
-    ensures { λ r. ⌜ r ≡ judgeAt (now (s .entry)) z (asMarks (now (m .entry))) (obligations (programOf z (bodies (now (s .entry))))) 0 ⌝ }
+    requires { ⌜ now index ≡ indexOf (now image) ⌝ }
+    ensures { λ r. ⌜ r ≡ judgeAt (now (image .entry)) sizes (asMarks (now (marks .entry)))
+        (obligations (programOf sizes (bodies (now (image .entry))))) 0 ⌝ }
 {
-    let y = totals_of(s, ix, z);
-    let a = judge_starts(s, ix, z, y, m, Outcome::Met(0));
-    let b = judge_steps(s, ix, z, y, m, a);
-    judge_interferences(s, ix, z, y, m, b)
+    let totals = totals_of(image, index, sizes);
+    let a = judge_starts(image, index, sizes, totals, marks, Outcome::Met(0));
+    let b = judge_steps(image, index, sizes, totals, marks, a);
+    judge_interferences(image, index, sizes, totals, marks, b)
 }

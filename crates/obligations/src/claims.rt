@@ -11,14 +11,20 @@ ghost use Rattle.image_access.specs.Totals.{totalsOf};
 ghost use Rattle.rules_justified.specs.Marks.{asMarks};
 ghost use Rattle.obligations.specs.Claims.{firstDenied};
 
-fn denied_of<'a, 'b, 'c>(s: &'a [u8], ix: &'b [usize], z: Sizes, y: Totals, m: &'c [bool]) -> usize
-    requires { ⌜ (now ix ≡ indexOf (now s)) × (y ≡ totalsOf z (bodies (now s))) ⌝ }
-    ensures { λ r. ⌜ (r ≡ firstDenied (now (s .entry)) z (asMarks (now (m .entry))) (z .claims) 0) × (r ≤ z .claims) ⌝ }
+fn denied_of<'a, 'b, 'c>(
+    image: &'a [u8],
+    index: &'b [usize],
+    sizes: Sizes,
+    totals: Totals,
+    marks: &'c [bool],
+) -> usize
+    requires { ⌜ (now index ≡ indexOf (now image)) × (totals ≡ totalsOf sizes (bodies (now image))) ⌝ }
+    ensures { λ r. ⌜ (r ≡ firstDenied (now (image .entry)) sizes (asMarks (now (marks .entry))) (sizes .claims) 0) × (r ≤ sizes .claims) ⌝ }
 {
-    let claims = z.claims as usize;
+    let claims = sizes.claims as usize;
     let mut i: usize = 0;
     while i < claims {
-        if is_sustained(s, ix, z, y, m, i) {
+        if is_sustained(image, index, sizes, totals, marks, i) {
             i += 1;
         } else {
             return i;
@@ -28,13 +34,18 @@ fn denied_of<'a, 'b, 'c>(s: &'a [u8], ix: &'b [usize], z: Sizes, y: Totals, m: &
 }
 
 // The number of the first claim that its line does not bear out, from 0; if there is none, how many there are.
-pub fn first_denied<'a, 'b, 'c>(s: &'a [u8], ix: &'b [usize], z: Sizes, m: &'c [bool]) -> usize
-    requires { ⌜ now ix ≡ indexOf (now s) ⌝ }
-    ensures { λ r. ⌜ (r ≡ firstDenied (now (s .entry)) z (asMarks (now (m .entry))) (z .claims) 0) × (r ≤ z .claims) ⌝ }
+pub fn first_denied<'a, 'b, 'c>(
+    image: &'a [u8],
+    index: &'b [usize],
+    sizes: Sizes,
+    marks: &'c [bool],
+) -> usize
+    requires { ⌜ now index ≡ indexOf (now image) ⌝ }
+    ensures { λ r. ⌜ (r ≡ firstDenied (now (image .entry)) sizes (asMarks (now (marks .entry))) (sizes .claims) 0) × (r ≤ sizes .claims) ⌝ }
 {
-    if z.claims == 0 {
+    if sizes.claims == 0 {
         return 0;
     }
-    let y = totals_of(s, ix, z);
-    denied_of(s, ix, z, y, m)
+    let totals = totals_of(image, index, sizes);
+    denied_of(image, index, sizes, totals, marks)
 }

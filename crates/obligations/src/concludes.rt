@@ -31,74 +31,89 @@ impl Unmet {
 }
 
 // Line n says what is wanted.
-fn is_said<'a, 'b>(s: &'a [u8], ix: &'b [usize], z: Sizes, w: Wanted, n: usize) -> bool
-    requires { ⌜ now ix ≡ indexOf (now s) ⌝ }
-    ensures { λ r. ⌜ r ≡ meets (now (s .entry)) z w n ⌝ }
+fn is_said<'a, 'b>(
+    image: &'a [u8],
+    index: &'b [usize],
+    sizes: Sizes,
+    goal: Wanted,
+    number: usize,
+) -> bool
+    requires { ⌜ now index ≡ indexOf (now image) ⌝ }
+    ensures { λ r. ⌜ r ≡ meets (now (image .entry)) sizes goal number ⌝ }
 {
-    let c = conclusion_of(s, ix, z, n);
-    let t = WANTED;
-    let b = w.bind;
-    let m = match_conclusion(s, &t, w.template, w.form, w.thread, w.point, c, b);
+    let c = conclusion_of(image, index, sizes, number);
+    let wanted = WANTED;
+    let b = goal.bind;
+    let m = match_conclusion(
+        image,
+        &wanted,
+        goal.template,
+        goal.form,
+        goal.thread,
+        goal.point,
+        c,
+        b,
+    );
     m.ok
 }
 
 // Line n says what the obligation wants.
 pub fn concludes<'a, 'b>(
-    s: &'a [u8],
-    ix: &'b [usize],
-    z: Sizes,
-    y: Totals,
-    o: Obligation,
-    n: usize,
+    image: &'a [u8],
+    index: &'b [usize],
+    sizes: Sizes,
+    totals: Totals,
+    obligation: Obligation,
+    number: usize,
 ) -> bool
-    requires { ⌜ (now ix ≡ indexOf (now s)) × (y ≡ totalsOf z (bodies (now s))) ⌝ }
-    ensures { λ r. ⌜ r ≡ concludesAt (now (s .entry)) z o n ⌝ }
+    requires { ⌜ (now index ≡ indexOf (now image)) × (totals ≡ totalsOf sizes (bodies (now image))) ⌝ }
+    ensures { λ r. ⌜ r ≡ concludesAt (now (image .entry)) sizes obligation number ⌝ }
 {
-    let w = wanted_of(s, ix, z, y, o);
-    is_said(s, ix, z, w, n)
+    let goal = wanted_of(image, index, sizes, totals, obligation);
+    is_said(image, index, sizes, goal, number)
 }
 
 // Claim i is borne out by its line: that is there, says that false follows from both assertions, and is justified.
 pub fn is_sustained<'a, 'b, 'c>(
-    s: &'a [u8],
-    ix: &'b [usize],
-    z: Sizes,
-    y: Totals,
-    m: &'c [bool],
+    image: &'a [u8],
+    index: &'b [usize],
+    sizes: Sizes,
+    totals: Totals,
+    marks: &'c [bool],
     i: usize,
 ) -> bool
-    requires { ⌜ ((now ix ≡ indexOf (now s)) × (y ≡ totalsOf z (bodies (now s)))) × (i < 65536) ⌝ }
-    ensures { λ r. ⌜ r ≡ sustainedAt (now (s .entry)) z (asMarks (now (m .entry))) i ⌝ }
+    requires { ⌜ ((now index ≡ indexOf (now image)) × (totals ≡ totalsOf sizes (bodies (now image)))) × (i < 65536) ⌝ }
+    ensures { λ r. ⌜ r ≡ sustainedAt (now (image .entry)) sizes (asMarks (now (marks .entry))) i ⌝ }
 {
-    let c = claim_of(s, ix, z, i);
-    if c.line == 0 {
+    let claim = claim_of(image, index, sizes, i);
+    if claim.line == 0 {
         return false;
     }
-    let w = wanted_claim(s, ix, z, y, c);
-    if is_said(s, ix, z, w, c.line) {
-        return is_marked(m, c.line);
+    let goal = wanted_claim(image, index, sizes, totals, claim);
+    if is_said(image, index, sizes, goal, claim.line) {
+        return is_marked(marks, claim.line);
     }
     false
 }
 
 // What is wrong with line n, first of all; 0 for nothing.
 pub fn code_at<'a, 'b, 'c>(
-    s: &'a [u8],
-    ix: &'b [usize],
-    z: Sizes,
-    y: Totals,
-    m: &'c [bool],
-    o: Obligation,
-    n: usize,
+    image: &'a [u8],
+    index: &'b [usize],
+    sizes: Sizes,
+    totals: Totals,
+    marks: &'c [bool],
+    obligation: Obligation,
+    number: usize,
 ) -> u8
-    requires { ⌜ (now ix ≡ indexOf (now s)) × (y ≡ totalsOf z (bodies (now s))) ⌝ }
-    ensures { λ r. ⌜ r ≡ codeAt (now (s .entry)) z (asMarks (now (m .entry))) o n ⌝ }
+    requires { ⌜ (now index ≡ indexOf (now image)) × (totals ≡ totalsOf sizes (bodies (now image))) ⌝ }
+    ensures { λ r. ⌜ r ≡ codeAt (now (image .entry)) sizes (asMarks (now (marks .entry))) obligation number ⌝ }
 {
-    if n == 0 {
+    if number == 0 {
         return Unmet::NO_LINE;
     }
-    if concludes(s, ix, z, y, o, n) {
-        if is_marked(m, n) {
+    if concludes(image, index, sizes, totals, obligation, number) {
+        if is_marked(marks, number) {
             return Unmet::NONE;
         }
         return Unmet::UNJUSTIFIED;

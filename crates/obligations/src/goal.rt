@@ -71,51 +71,57 @@ pub const WANTED: [u8; 24] = [
     Code::FALSE,
 ];
 
-fn one_hole(a: usize) -> Bind
-    ensures { λ r. ⌜ r ≡ oneHole a ⌝ }
+fn one_hole(first: usize) -> Bind
+    ensures { λ r. ⌜ r ≡ oneHole first ⌝ }
 {
     Bind {
-        at: [a, 0, 0, 0, 0],
+        at: [first, 0, 0, 0, 0],
         left: [Bind::WHOLE, 0, 0, 0, 0],
         num: [0, 0, 0, 0, 0],
     }
 }
 
-fn two_holes(a: usize, b: usize) -> Bind
-    ensures { λ r. ⌜ r ≡ twoHoles a b ⌝ }
+fn two_holes(first: usize, second: usize) -> Bind
+    ensures { λ r. ⌜ r ≡ twoHoles first second ⌝ }
 {
     Bind {
-        at: [a, b, 0, 0, 0],
+        at: [first, second, 0, 0, 0],
         left: [Bind::WHOLE, Bind::WHOLE, 0, 0, 0],
         num: [0, 0, 0, 0, 0],
     }
 }
 
-fn three_holes(a: usize, b: usize, c: usize) -> Bind
-    ensures { λ r. ⌜ r ≡ threeHoles a b c ⌝ }
+fn three_holes(first: usize, second: usize, third: usize) -> Bind
+    ensures { λ r. ⌜ r ≡ threeHoles first second third ⌝ }
 {
     Bind {
-        at: [a, b, c, 0, 0],
+        at: [first, second, third, 0, 0],
         left: [Bind::WHOLE, Bind::WHOLE, Bind::WHOLE, 0, 0],
         num: [0, 0, 0, 0, 0],
     }
 }
 
 // A thread has no point behind the limit.
-fn next_point(k: usize) -> usize
-    ensures { λ r. ⌜ r ≡ nextPoint k ⌝ }
+fn next_point(point: usize) -> usize
+    ensures { λ r. ⌜ r ≡ nextPoint point ⌝ }
 {
-    if k < Limits::POINTS {
-        return k + 1;
+    if point < Limits::POINTS {
+        return point + 1;
     }
-    k
+    point
 }
 
-fn wanted_start<'a, 'b>(s: &'a [u8], ix: &'b [usize], z: Sizes, y: Totals, t: usize) -> Wanted
-    requires { ⌜ (now ix ≡ indexOf (now s)) × (y ≡ totalsOf z (bodies (now s))) ⌝ }
-    ensures { λ r. ⌜ r ≡ wantedStart (now (s .entry)) z t ⌝ }
+fn wanted_start<'a, 'b>(
+    image: &'a [u8],
+    index: &'b [usize],
+    sizes: Sizes,
+    totals: Totals,
+    t: usize,
+) -> Wanted
+    requires { ⌜ (now index ≡ indexOf (now image)) × (totals ≡ totalsOf sizes (bodies (now image))) ⌝ }
+    ensures { λ r. ⌜ r ≡ wantedStart (now (image .entry)) sizes t ⌝ }
 {
-    let a = outline_at(s, ix, z, y, t, 0);
+    let a = outline_at(image, index, sizes, totals, t, 0);
     Wanted {
         form: Form::IMPLICATION,
         thread: 0,
@@ -136,43 +142,43 @@ fn acting_form(operation: u8) -> u8
 }
 
 fn wanted_action<'a, 'b>(
-    s: &'a [u8],
-    ix: &'b [usize],
-    z: Sizes,
-    y: Totals,
+    image: &'a [u8],
+    index: &'b [usize],
+    sizes: Sizes,
+    totals: Totals,
     t: usize,
-    k: usize,
-    i: Instruction,
+    point: usize,
+    instruction: Instruction,
 ) -> Wanted
-    requires { ⌜ (now ix ≡ indexOf (now s)) × (y ≡ totalsOf z (bodies (now s))) ⌝ }
-    ensures { λ r. ⌜ r ≡ wantedAction (now (s .entry)) z t k i ⌝ }
+    requires { ⌜ (now index ≡ indexOf (now image)) × (totals ≡ totalsOf sizes (bodies (now image))) ⌝ }
+    ensures { λ r. ⌜ r ≡ wantedAction (now (image .entry)) sizes t point instruction ⌝ }
 {
-    let a = outline_at(s, ix, z, y, t, k);
-    let b = outline_at(s, ix, z, y, t, next_point(k));
+    let a = outline_at(image, index, sizes, totals, t, point);
+    let b = outline_at(image, index, sizes, totals, t, next_point(point));
     Wanted {
-        form: acting_form(i.operation),
+        form: acting_form(instruction.operation),
         thread: t,
-        point: k,
+        point: point,
         template: Wanted::STEP,
         bind: two_holes(a, b),
     }
 }
 
 fn wanted_next<'a, 'b>(
-    s: &'a [u8],
-    ix: &'b [usize],
-    z: Sizes,
-    y: Totals,
+    image: &'a [u8],
+    index: &'b [usize],
+    sizes: Sizes,
+    totals: Totals,
     t: usize,
-    k: usize,
-    i: Instruction,
+    point: usize,
+    instruction: Instruction,
 ) -> Wanted
-    requires { ⌜ (now ix ≡ indexOf (now s)) × (y ≡ totalsOf z (bodies (now s))) ⌝ }
-    ensures { λ r. ⌜ r ≡ wantedNext (now (s .entry)) z t k i ⌝ }
+    requires { ⌜ (now index ≡ indexOf (now image)) × (totals ≡ totalsOf sizes (bodies (now image))) ⌝ }
+    ensures { λ r. ⌜ r ≡ wantedNext (now (image .entry)) sizes t point instruction ⌝ }
 {
-    let a = outline_at(s, ix, z, y, t, k);
-    let e = formula_at(s, ix, i.formula);
-    let b = outline_at(s, ix, z, y, t, next_point(k));
+    let a = outline_at(image, index, sizes, totals, t, point);
+    let e = formula_at(image, index, instruction.formula);
+    let b = outline_at(image, index, sizes, totals, t, next_point(point));
     Wanted {
         form: Form::IMPLICATION,
         thread: 0,
@@ -183,38 +189,38 @@ fn wanted_next<'a, 'b>(
 }
 
 fn wanted_step<'a, 'b>(
-    s: &'a [u8],
-    ix: &'b [usize],
-    z: Sizes,
-    y: Totals,
+    image: &'a [u8],
+    index: &'b [usize],
+    sizes: Sizes,
+    totals: Totals,
     t: usize,
-    k: usize,
+    point: usize,
 ) -> Wanted
-    requires { ⌜ (now ix ≡ indexOf (now s)) × (y ≡ totalsOf z (bodies (now s))) ⌝ }
-    ensures { λ r. ⌜ r ≡ wantedStep (now (s .entry)) z t k ⌝ }
+    requires { ⌜ (now index ≡ indexOf (now image)) × (totals ≡ totalsOf sizes (bodies (now image))) ⌝ }
+    ensures { λ r. ⌜ r ≡ wantedStep (now (image .entry)) sizes t point ⌝ }
 {
-    let i = instruction_of(s, ix, z, t, k);
-    if i.operation == Instruction::BRANCH {
-        return wanted_next(s, ix, z, y, t, k, i);
+    let instruction = instruction_of(image, index, sizes, t, point);
+    if instruction.operation == Instruction::BRANCH {
+        return wanted_next(image, index, sizes, totals, t, point, instruction);
     }
-    wanted_action(s, ix, z, y, t, k, i)
+    wanted_action(image, index, sizes, totals, t, point, instruction)
 }
 
 fn wanted_target<'a, 'b>(
-    s: &'a [u8],
-    ix: &'b [usize],
-    z: Sizes,
-    y: Totals,
+    image: &'a [u8],
+    index: &'b [usize],
+    sizes: Sizes,
+    totals: Totals,
     t: usize,
-    k: usize,
+    point: usize,
 ) -> Wanted
-    requires { ⌜ (now ix ≡ indexOf (now s)) × (y ≡ totalsOf z (bodies (now s))) ⌝ }
-    ensures { λ r. ⌜ r ≡ wantedTarget (now (s .entry)) z t k ⌝ }
+    requires { ⌜ (now index ≡ indexOf (now image)) × (totals ≡ totalsOf sizes (bodies (now image))) ⌝ }
+    ensures { λ r. ⌜ r ≡ wantedTarget (now (image .entry)) sizes t point ⌝ }
 {
-    let i = instruction_of(s, ix, z, t, k);
-    let a = outline_at(s, ix, z, y, t, k);
-    let e = formula_at(s, ix, i.formula);
-    let b = outline_at(s, ix, z, y, t, i.a as usize);
+    let instruction = instruction_of(image, index, sizes, t, point);
+    let a = outline_at(image, index, sizes, totals, t, point);
+    let e = formula_at(image, index, instruction.formula);
+    let b = outline_at(image, index, sizes, totals, t, instruction.a as usize);
     Wanted {
         form: Form::IMPLICATION,
         thread: 0,
@@ -226,38 +232,58 @@ fn wanted_target<'a, 'b>(
 
 // The asserting side first.
 fn wanted_kept<'a, 'b>(
-    s: &'a [u8],
-    ix: &'b [usize],
-    z: Sizes,
-    y: Totals,
+    image: &'a [u8],
+    index: &'b [usize],
+    sizes: Sizes,
+    totals: Totals,
     u: usize,
-    j: usize,
+    asserting_point: usize,
     t: usize,
-    k: usize,
+    acting_point: usize,
 ) -> Wanted
-    requires { ⌜ (now ix ≡ indexOf (now s)) × (y ≡ totalsOf z (bodies (now s))) ⌝ }
-    ensures { λ r. ⌜ r ≡ wantedKept (now (s .entry)) z u j t k ⌝ }
+    requires { ⌜ (now index ≡ indexOf (now image)) × (totals ≡ totalsOf sizes (bodies (now image))) ⌝ }
+    ensures { λ r. ⌜ r ≡ wantedKept (now (image .entry)) sizes u asserting_point t acting_point ⌝ }
 {
-    let i = instruction_of(s, ix, z, t, k);
-    let a = outline_at(s, ix, z, y, u, j);
-    let b = outline_at(s, ix, z, y, t, k);
+    let instruction = instruction_of(image, index, sizes, t, acting_point);
+    let a = outline_at(image, index, sizes, totals, u, asserting_point);
+    let b = outline_at(image, index, sizes, totals, t, acting_point);
     Wanted {
-        form: acting_form(i.operation),
+        form: acting_form(instruction.operation),
         thread: t,
-        point: k,
+        point: acting_point,
         template: Wanted::KEPT,
         bind: two_holes(a, b),
     }
 }
 
 // False from the assertions of a claim's points, the lower thread's first.
-pub fn wanted_claim<'a, 'b>(s: &'a [u8], ix: &'b [usize], z: Sizes, y: Totals, c: Claimed) -> Wanted
-    requires { ⌜ (now ix ≡ indexOf (now s)) × (y ≡ totalsOf z (bodies (now s))) ⌝ }
-    ensures { λ r. ⌜ r ≡ wantedClaim (now (s .entry)) z c ⌝ }
+pub fn wanted_claim<'a, 'b>(
+    image: &'a [u8],
+    index: &'b [usize],
+    sizes: Sizes,
+    totals: Totals,
+    claim: Claimed,
+) -> Wanted
+    requires { ⌜ (now index ≡ indexOf (now image)) × (totals ≡ totalsOf sizes (bodies (now image))) ⌝ }
+    ensures { λ r. ⌜ r ≡ wantedClaim (now (image .entry)) sizes claim ⌝ }
 {
-    let a = outline_at(s, ix, z, y, c.thread as usize, c.point as usize);
-    let b = outline_at(s, ix, z, y, c.other as usize, c.other_point as usize);
-    if c.thread < c.other {
+    let a = outline_at(
+        image,
+        index,
+        sizes,
+        totals,
+        claim.thread as usize,
+        claim.point as usize,
+    );
+    let b = outline_at(
+        image,
+        index,
+        sizes,
+        totals,
+        claim.other as usize,
+        claim.other_point as usize,
+    );
+    if claim.thread < claim.other {
         return Wanted {
             form: Form::IMPLICATION,
             thread: 0,
@@ -275,19 +301,48 @@ pub fn wanted_claim<'a, 'b>(s: &'a [u8], ix: &'b [usize], z: Sizes, y: Totals, c
     }
 }
 
-pub fn wanted_of<'a, 'b>(s: &'a [u8], ix: &'b [usize], z: Sizes, y: Totals, o: Obligation) -> Wanted
-    requires { ⌜ (now ix ≡ indexOf (now s)) × (y ≡ totalsOf z (bodies (now s))) ⌝ }
-    ensures { λ r. ⌜ r ≡ wantedAt (now (s .entry)) z o ⌝ }
+pub fn wanted_of<'a, 'b>(
+    image: &'a [u8],
+    index: &'b [usize],
+    sizes: Sizes,
+    totals: Totals,
+    obligation: Obligation,
+) -> Wanted
+    requires { ⌜ (now index ≡ indexOf (now image)) × (totals ≡ totalsOf sizes (bodies (now image))) ⌝ }
+    ensures { λ r. ⌜ r ≡ wantedAt (now (image .entry)) sizes obligation ⌝ }
 {
-    match o {
-        Obligation::Start { thread } => wanted_start(s, ix, z, y, thread),
-        Obligation::Step { thread, point } => wanted_step(s, ix, z, y, thread, point),
-        Obligation::Taken { thread, point } => wanted_target(s, ix, z, y, thread, point),
+    match obligation {
+        Obligation::Start { thread } => wanted_start(image, index, sizes, totals, thread),
+        Obligation::Step { thread, point } => wanted_step(
+            image,
+            index,
+            sizes,
+            totals,
+            thread,
+            point,
+        ),
+        Obligation::Taken { thread, point } => wanted_target(
+            image,
+            index,
+            sizes,
+            totals,
+            thread,
+            point,
+        ),
         Obligation::Interference {
             thread,
             point,
             other,
             other_point,
-        } => wanted_kept(s, ix, z, y, thread, point, other, other_point),
+        } => wanted_kept(
+            image,
+            index,
+            sizes,
+            totals,
+            thread,
+            point,
+            other,
+            other_point,
+        ),
     }
 }

@@ -18,64 +18,64 @@ ghost use Rattle.obligations.specs.JudgementOrder.{actingAt, assertionsA
 
 // One assertion under one instruction. A branch is no action.
 fn judge_assertion<'a, 'b, 'c>(
-    s: &'a [u8],
-    ix: &'b [usize],
-    z: Sizes,
-    y: Totals,
-    m: &'c [bool],
+    image: &'a [u8],
+    index: &'b [usize],
+    sizes: Sizes,
+    totals: Totals,
+    marks: &'c [bool],
     u: usize,
-    j: usize,
+    asserting_point: usize,
     t: usize,
-    k: usize,
-    r: Outcome,
+    acting_point: usize,
+    judgement: Outcome,
 ) -> Outcome
-    requires { ⌜ (now ix ≡ indexOf (now s)) × (y ≡ totalsOf z (bodies (now s))) ⌝ }
-    ensures { λ q. ⌜ q ≡ actingAt (now (s .entry)) z (asMarks (now (m .entry))) u j t k r ⌝ }
+    requires { ⌜ (now index ≡ indexOf (now image)) × (totals ≡ totalsOf sizes (bodies (now image))) ⌝ }
+    ensures { λ q. ⌜ q ≡ actingAt (now (image .entry)) sizes (asMarks (now (marks .entry))) u asserting_point t acting_point judgement ⌝ }
 {
-    let i = instruction_of(s, ix, z, t, k);
-    if i.operation == Instruction::BRANCH {
-        return r;
+    let instruction = instruction_of(image, index, sizes, t, acting_point);
+    if instruction.operation == Instruction::BRANCH {
+        return judgement;
     }
     judge_next(
-        s,
-        ix,
-        z,
-        y,
-        m,
+        image,
+        index,
+        sizes,
+        totals,
+        marks,
         Obligation::Interference {
             thread: u,
-            point: j,
+            point: asserting_point,
             other: t,
-            other_point: k,
+            other_point: acting_point,
         },
-        r,
+        judgement,
     )
 }
 
 // The assertions of thread u, the last one too, under the instruction at point k of thread t. A thread does not interfere with
 // itself.
 fn judge_asserting<'a, 'b, 'c>(
-    s: &'a [u8],
-    ix: &'b [usize],
-    z: Sizes,
-    y: Totals,
-    m: &'c [bool],
+    image: &'a [u8],
+    index: &'b [usize],
+    sizes: Sizes,
+    totals: Totals,
+    marks: &'c [bool],
     t: usize,
-    k: usize,
+    acting_point: usize,
     u: usize,
-    r: Outcome,
+    judgement: Outcome,
 ) -> Outcome
-    requires { ⌜ (now ix ≡ indexOf (now s)) × (y ≡ totalsOf z (bodies (now s))) ⌝ }
-    ensures { λ q. ⌜ q ≡ assertionsAt (now (s .entry)) z (asMarks (now (m .entry))) t k u r ⌝ }
+    requires { ⌜ (now index ≡ indexOf (now image)) × (totals ≡ totalsOf sizes (bodies (now image))) ⌝ }
+    ensures { λ q. ⌜ q ≡ assertionsAt (now (image .entry)) sizes (asMarks (now (marks .entry))) t acting_point u judgement ⌝ }
 {
     if t == u {
-        return r;
+        return judgement;
     }
-    let last = last_point_of(s, ix, z, u);
-    let mut q = r;
+    let last = last_point_of(image, index, sizes, u);
+    let mut q = judgement;
     let mut j: usize = 0;
     while j <= last {
-        q = judge_assertion(s, ix, z, y, m, u, j, t, k, q);
+        q = judge_assertion(image, index, sizes, totals, marks, u, j, t, acting_point, q);
         j += 1;
     }
     q
@@ -83,47 +83,49 @@ fn judge_asserting<'a, 'b, 'c>(
 
 // Those of all threads under one instruction.
 fn judge_action<'a, 'b, 'c>(
-    s: &'a [u8],
-    ix: &'b [usize],
-    z: Sizes,
-    y: Totals,
-    m: &'c [bool],
+    image: &'a [u8],
+    index: &'b [usize],
+    sizes: Sizes,
+    totals: Totals,
+    marks: &'c [bool],
     t: usize,
-    k: usize,
-    r: Outcome,
+    acting_point: usize,
+    judgement: Outcome,
 ) -> Outcome
-    requires { ⌜ (now ix ≡ indexOf (now s)) × (y ≡ totalsOf z (bodies (now s))) ⌝ }
-    ensures { λ q. ⌜ q ≡ assertionsTo (now (s .entry)) z (asMarks (now (m .entry))) t k (z .threads) r ⌝ }
+    requires { ⌜ (now index ≡ indexOf (now image)) × (totals ≡ totalsOf sizes (bodies (now image))) ⌝ }
+    ensures { λ q. ⌜ q ≡ assertionsTo (now (image .entry)) sizes (asMarks (now (marks .entry))) t acting_point (sizes .threads) judgement
+        ⌝ }
 {
-    let threads = z.threads as usize;
-    let mut q = r;
+    let threads = sizes.threads as usize;
+    let mut q = judgement;
     let mut u: usize = 0;
     while u < threads {
         u += 1;
-        q = judge_asserting(s, ix, z, y, m, t, k, u, q);
+        q = judge_asserting(image, index, sizes, totals, marks, t, acting_point, u, q);
     }
     q
 }
 
 // Under the instructions of thread t.
 fn judge_actor<'a, 'b, 'c>(
-    s: &'a [u8],
-    ix: &'b [usize],
-    z: Sizes,
-    y: Totals,
-    m: &'c [bool],
+    image: &'a [u8],
+    index: &'b [usize],
+    sizes: Sizes,
+    totals: Totals,
+    marks: &'c [bool],
     t: usize,
-    r: Outcome,
+    judgement: Outcome,
 ) -> Outcome
-    requires { ⌜ (now ix ≡ indexOf (now s)) × (y ≡ totalsOf z (bodies (now s))) ⌝ }
+    requires { ⌜ (now index ≡ indexOf (now image)) × (totals ≡ totalsOf sizes (bodies (now image))) ⌝ }
     ensures { λ q. ⌜ q
-        ≡ actionsTo (now (s .entry)) z (asMarks (now (m .entry))) t (lastPoint (threadBody z (bodies (now (s .entry))) t)) r ⌝ }
+        ≡ actionsTo (now (image .entry)) sizes (asMarks (now (marks .entry))) t
+        (lastPoint (threadBody sizes (bodies (now (image .entry))) t)) judgement ⌝ }
 {
-    let last = last_point_of(s, ix, z, t);
-    let mut q = r;
+    let last = last_point_of(image, index, sizes, t);
+    let mut q = judgement;
     let mut k: usize = 0;
     while k < last {
-        q = judge_action(s, ix, z, y, m, t, k, q);
+        q = judge_action(image, index, sizes, totals, marks, t, k, q);
         k += 1;
     }
     q
@@ -131,22 +133,22 @@ fn judge_actor<'a, 'b, 'c>(
 
 // Under those of all threads.
 pub fn judge_interferences<'a, 'b, 'c>(
-    s: &'a [u8],
-    ix: &'b [usize],
-    z: Sizes,
-    y: Totals,
-    m: &'c [bool],
-    r: Outcome,
+    image: &'a [u8],
+    index: &'b [usize],
+    sizes: Sizes,
+    totals: Totals,
+    marks: &'c [bool],
+    judgement: Outcome,
 ) -> Outcome
-    requires { ⌜ (now ix ≡ indexOf (now s)) × (y ≡ totalsOf z (bodies (now s))) ⌝ }
-    ensures { λ q. ⌜ q ≡ interferencesTo (now (s .entry)) z (asMarks (now (m .entry))) (z .threads) r ⌝ }
+    requires { ⌜ (now index ≡ indexOf (now image)) × (totals ≡ totalsOf sizes (bodies (now image))) ⌝ }
+    ensures { λ q. ⌜ q ≡ interferencesTo (now (image .entry)) sizes (asMarks (now (marks .entry))) (sizes .threads) judgement ⌝ }
 {
-    let threads = z.threads as usize;
-    let mut q = r;
+    let threads = sizes.threads as usize;
+    let mut q = judgement;
     let mut t: usize = 0;
     while t < threads {
         t += 1;
-        q = judge_actor(s, ix, z, y, m, t, q);
+        q = judge_actor(image, index, sizes, totals, marks, t, q);
     }
     q
 }

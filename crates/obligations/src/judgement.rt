@@ -25,53 +25,53 @@ pub enum Outcome {
 
 // The obligation with number c, from 0. Past the last there is no line, so that the count stays in its bounds.
 fn judge_one<'a, 'b, 'c>(
-    s: &'a [u8],
-    ix: &'b [usize],
-    z: Sizes,
-    y: Totals,
-    m: &'c [bool],
-    o: Obligation,
-    c: usize,
+    image: &'a [u8],
+    index: &'b [usize],
+    sizes: Sizes,
+    totals: Totals,
+    marks: &'c [bool],
+    obligation: Obligation,
+    count: usize,
 ) -> Outcome
-    requires { ⌜ (now ix ≡ indexOf (now s)) × (y ≡ totalsOf z (bodies (now s))) ⌝ }
-    ensures { λ r. ⌜ r ≡ judgeOne (now (s .entry)) z (asMarks (now (m .entry))) o c ⌝ }
+    requires { ⌜ (now index ≡ indexOf (now image)) × (totals ≡ totalsOf sizes (bodies (now image))) ⌝ }
+    ensures { λ r. ⌜ r ≡ judgeOne (now (image .entry)) sizes (asMarks (now (marks .entry))) obligation count ⌝ }
 {
-    if y.obligations <= c {
+    if totals.obligations <= count {
         return Outcome::Failed {
-            what: o,
+            what: obligation,
             code: Unmet::NO_LINE,
             line: 0,
-            count: c,
+            count: count,
         };
     }
-    let n = named_line(s, ix, z, y, c);
-    let e = code_at(s, ix, z, y, m, o, n);
+    let number = named_line(image, index, sizes, totals, count);
+    let e = code_at(image, index, sizes, totals, marks, obligation, number);
     if e == Unmet::NONE {
-        return Outcome::Met(c + 1);
+        return Outcome::Met(count + 1);
     }
     Outcome::Failed {
-        what: o,
+        what: obligation,
         code: e,
-        line: n,
-        count: c,
+        line: number,
+        count: count,
     }
 }
 
 // Once an obligation is not met, the outcome stays.
 pub fn judge_next<'a, 'b, 'c>(
-    s: &'a [u8],
-    ix: &'b [usize],
-    z: Sizes,
-    y: Totals,
-    m: &'c [bool],
-    o: Obligation,
-    r: Outcome,
+    image: &'a [u8],
+    index: &'b [usize],
+    sizes: Sizes,
+    totals: Totals,
+    marks: &'c [bool],
+    obligation: Obligation,
+    judgement: Outcome,
 ) -> Outcome
-    requires { ⌜ (now ix ≡ indexOf (now s)) × (y ≡ totalsOf z (bodies (now s))) ⌝ }
-    ensures { λ q. ⌜ q ≡ next (now (s .entry)) z (asMarks (now (m .entry))) o r ⌝ }
+    requires { ⌜ (now index ≡ indexOf (now image)) × (totals ≡ totalsOf sizes (bodies (now image))) ⌝ }
+    ensures { λ q. ⌜ q ≡ next (now (image .entry)) sizes (asMarks (now (marks .entry))) obligation judgement ⌝ }
 {
-    match r {
-        Outcome::Met(c) => judge_one(s, ix, z, y, m, o, c),
+    match judgement {
+        Outcome::Met(c) => judge_one(image, index, sizes, totals, marks, obligation, c),
         Outcome::Failed {
             what,
             code,

@@ -18,74 +18,83 @@ ghost use Rattle.obligations.specs.JudgementOrder.{startsTo, ownAt, ownT
 
 // Each thread's start.
 pub fn judge_starts<'a, 'b, 'c>(
-    s: &'a [u8],
-    ix: &'b [usize],
-    z: Sizes,
-    y: Totals,
-    m: &'c [bool],
-    r: Outcome,
+    image: &'a [u8],
+    index: &'b [usize],
+    sizes: Sizes,
+    totals: Totals,
+    marks: &'c [bool],
+    judgement: Outcome,
 ) -> Outcome
-    requires { ⌜ (now ix ≡ indexOf (now s)) × (y ≡ totalsOf z (bodies (now s))) ⌝ }
-    ensures { λ q. ⌜ q ≡ startsTo (now (s .entry)) z (asMarks (now (m .entry))) (z .threads) r ⌝ }
+    requires { ⌜ (now index ≡ indexOf (now image)) × (totals ≡ totalsOf sizes (bodies (now image))) ⌝ }
+    ensures { λ q. ⌜ q ≡ startsTo (now (image .entry)) sizes (asMarks (now (marks .entry))) (sizes .threads) judgement ⌝ }
 {
-    let threads = z.threads as usize;
-    let mut q = r;
+    let threads = sizes.threads as usize;
+    let mut q = judgement;
     let mut t: usize = 0;
     while t < threads {
         t += 1;
-        q = judge_next(s, ix, z, y, m, Obligation::Start { thread: t }, q);
+        q = judge_next(
+            image,
+            index,
+            sizes,
+            totals,
+            marks,
+            Obligation::Start { thread: t },
+            q,
+        );
     }
     q
 }
 
 // An instruction leads to the next point; a branch first to its target.
 fn judge_own<'a, 'b, 'c>(
-    s: &'a [u8],
-    ix: &'b [usize],
-    z: Sizes,
-    y: Totals,
-    m: &'c [bool],
+    image: &'a [u8],
+    index: &'b [usize],
+    sizes: Sizes,
+    totals: Totals,
+    marks: &'c [bool],
     t: usize,
-    k: usize,
-    r: Outcome,
+    point: usize,
+    judgement: Outcome,
 ) -> Outcome
-    requires { ⌜ (now ix ≡ indexOf (now s)) × (y ≡ totalsOf z (bodies (now s))) ⌝ }
-    ensures { λ q. ⌜ q ≡ ownAt (now (s .entry)) z (asMarks (now (m .entry))) t k r ⌝ }
+    requires { ⌜ (now index ≡ indexOf (now image)) × (totals ≡ totalsOf sizes (bodies (now image))) ⌝ }
+    ensures { λ q. ⌜ q ≡ ownAt (now (image .entry)) sizes (asMarks (now (marks .entry))) t point judgement ⌝ }
 {
     let step = Obligation::Step {
         thread: t,
-        point: k,
+        point: point,
     };
-    let i = instruction_of(s, ix, z, t, k);
-    if i.operation == Instruction::BRANCH {
+    let instruction = instruction_of(image, index, sizes, t, point);
+    if instruction.operation == Instruction::BRANCH {
         let taken = Obligation::Taken {
             thread: t,
-            point: k,
+            point: point,
         };
-        let q = judge_next(s, ix, z, y, m, taken, r);
-        return judge_next(s, ix, z, y, m, step, q);
+        let q = judge_next(image, index, sizes, totals, marks, taken, judgement);
+        return judge_next(image, index, sizes, totals, marks, step, q);
     }
-    judge_next(s, ix, z, y, m, step, r)
+    judge_next(image, index, sizes, totals, marks, step, judgement)
 }
 
 // The instructions of thread t.
 fn judge_thread<'a, 'b, 'c>(
-    s: &'a [u8],
-    ix: &'b [usize],
-    z: Sizes,
-    y: Totals,
-    m: &'c [bool],
+    image: &'a [u8],
+    index: &'b [usize],
+    sizes: Sizes,
+    totals: Totals,
+    marks: &'c [bool],
     t: usize,
-    r: Outcome,
+    judgement: Outcome,
 ) -> Outcome
-    requires { ⌜ (now ix ≡ indexOf (now s)) × (y ≡ totalsOf z (bodies (now s))) ⌝ }
-    ensures { λ q. ⌜ q ≡ ownTo (now (s .entry)) z (asMarks (now (m .entry))) t (lastPoint (threadBody z (bodies (now (s .entry))) t)) r ⌝ }
+    requires { ⌜ (now index ≡ indexOf (now image)) × (totals ≡ totalsOf sizes (bodies (now image))) ⌝ }
+    ensures { λ q. ⌜ q ≡ ownTo (now (image .entry)) sizes (asMarks (now (marks .entry))) t
+        (lastPoint (threadBody sizes (bodies (now (image .entry))) t)) judgement ⌝ }
 {
-    let last = last_point_of(s, ix, z, t);
-    let mut q = r;
+    let last = last_point_of(image, index, sizes, t);
+    let mut q = judgement;
     let mut k: usize = 0;
     while k < last {
-        q = judge_own(s, ix, z, y, m, t, k, q);
+        q = judge_own(image, index, sizes, totals, marks, t, k, q);
         k += 1;
     }
     q
@@ -93,22 +102,22 @@ fn judge_thread<'a, 'b, 'c>(
 
 // Those of all threads.
 pub fn judge_steps<'a, 'b, 'c>(
-    s: &'a [u8],
-    ix: &'b [usize],
-    z: Sizes,
-    y: Totals,
-    m: &'c [bool],
-    r: Outcome,
+    image: &'a [u8],
+    index: &'b [usize],
+    sizes: Sizes,
+    totals: Totals,
+    marks: &'c [bool],
+    judgement: Outcome,
 ) -> Outcome
-    requires { ⌜ (now ix ≡ indexOf (now s)) × (y ≡ totalsOf z (bodies (now s))) ⌝ }
-    ensures { λ q. ⌜ q ≡ stepsTo (now (s .entry)) z (asMarks (now (m .entry))) (z .threads) r ⌝ }
+    requires { ⌜ (now index ≡ indexOf (now image)) × (totals ≡ totalsOf sizes (bodies (now image))) ⌝ }
+    ensures { λ q. ⌜ q ≡ stepsTo (now (image .entry)) sizes (asMarks (now (marks .entry))) (sizes .threads) judgement ⌝ }
 {
-    let threads = z.threads as usize;
-    let mut q = r;
+    let threads = sizes.threads as usize;
+    let mut q = judgement;
     let mut t: usize = 0;
     while t < threads {
         t += 1;
-        q = judge_thread(s, ix, z, y, m, t, q);
+        q = judge_thread(image, index, sizes, totals, marks, t, q);
     }
     q
 }

@@ -23,9 +23,9 @@ pub extern "C" fn replay_trace<'a, 'b, 'c, 'd, 'e>(
     if answer.len() < Answer::SIZE {
         return Output::SHORT;
     }
-    let s = shown_of(image, trace, given, table.len() / Entry::SIZE);
-    let a = s.answer;
+    let shown = shown_of(image, trace, given, table.len() / Entry::SIZE);
+    let a = shown.answer;
     write_numbers(a, answer);
-    write_shown(s, table);
+    write_shown(shown, table);
     a.code
 }

@@ -11,25 +11,25 @@ ghost use Rattle.replay_machine.specs.OutputTable.{writeIn, putTo};
 ghost use Rattle.replay_spec.specs.Promise.{Into};
 
 // The write for an entry.
-fn write_in(s: Shown, e: usize) -> Write
-    ensures { λ r. ⌜ r ≡ writeIn s e ⌝ }
+fn write_in(shown: Shown, place: usize) -> Write
+    ensures { λ r. ⌜ r ≡ writeIn shown place ⌝ }
 {
-    let i = e % 64;
-    s.writes[i]
+    let i = place % 64;
+    shown.writes[i]
 }
 
 // The entries that are not used stay.
-fn put_shown(s: Shown, table: &mut [Write]) -> Answer
-    requires { ⌜ s .count ≤ length (now table) ⌝ }
-    ensures { λ r. ⌜ (r ≡ s .answer) × (now (table .exit) ≡ putTo s (s .count) (now (table .entry))) ⌝ }
+fn put_shown(shown: Shown, table: &mut [Write]) -> Answer
+    requires { ⌜ shown .count ≤ length (now table) ⌝ }
+    ensures { λ r. ⌜ (r ≡ shown .answer) × (now (table .exit) ≡ putTo shown (shown .count) (now (table .entry))) ⌝ }
 {
-    let n = s.count;
+    let n = shown.count;
     let mut e: usize = 0;
     while e < n {
-        table[e] = write_in(s, e);
+        table[e] = write_in(shown, e);
         e += 1;
     }
-    s.answer
+    shown.answer
 }
 
 // Replays a trace on the machine of an accepted image. The answer has the code, the steps, points and registers; the table ends
@@ -42,6 +42,6 @@ pub fn replay_into<'a, 'b, 'c, 'd>(
 ) -> Answer
     ensures { λ r. ⌜ Into (now (image .entry)) (now (trace .entry)) (now (given .entry)) (now (table .entry)) r (now (table .exit)) ⌝ }
 {
-    let s = shown_of(image, trace, given, table.len());
-    put_shown(s, table)
+    let shown = shown_of(image, trace, given, table.len());
+    put_shown(shown, table)
 }

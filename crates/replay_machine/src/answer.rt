@@ -19,45 +19,45 @@ impl Answer {
     pub const SIZE: usize = 21;
 }
 
-pub fn answer_of(r: Replayed) -> Answer
-    ensures { λ a. ⌜ a ≡ answerOf r ⌝ }
+pub fn answer_of(replayed: Replayed) -> Answer
+    ensures { λ a. ⌜ a ≡ answerOf replayed ⌝ }
 {
-    let n = r.machine;
+    let n = replayed.machine;
     let h = n.registers;
     let points = n.points;
     let registers = h.at;
     Answer {
-        code: r.code as u16,
-        steps: r.steps,
+        code: replayed.code as u16,
+        steps: replayed.steps,
         points,
         registers,
     }
 }
 
 // The steps, then the points, then the registers.
-fn number_at(a: Answer, i: usize) -> usize
-    ensures { λ r. ⌜ r ≡ getD (numbersOf a) i 0 ⌝ }
+fn number_at(answer: Answer, i: usize) -> usize
+    ensures { λ r. ⌜ r ≡ getD (numbersOf answer) i 0 ⌝ }
 {
     if i == 0 {
-        return a.steps;
+        return answer.steps;
     }
     if i < 5 {
-        return a.points[i - 1] as usize;
+        return answer.points[i - 1] as usize;
     }
     if i < Answer::SIZE {
-        return a.registers[i - 5] as usize;
+        return answer.registers[i - 5] as usize;
     }
     0
 }
 
 // The numbers behind stay.
-pub fn write_numbers(a: Answer, room: &mut [usize])
+pub fn write_numbers(answer: Answer, room: &mut [usize])
     requires { ⌜ size ≤ length (now room) ⌝ }
-    ensures { λ _. ⌜ now (room .exit) ≡ numbersOf a ++ drop size (now (room .entry)) ⌝ }
+    ensures { λ _. ⌜ now (room .exit) ≡ numbersOf answer ++ drop size (now (room .entry)) ⌝ }
 {
     let mut i: usize = 0;
     while i < Answer::SIZE {
-        room[i] = number_at(a, i);
+        room[i] = number_at(answer, i);
         i += 1;
     }
 }

@@ -19,13 +19,13 @@ pub struct Deed {
 }
 
 // A number that counts from 1, counted from 0.
-pub fn before(x: u8) -> u8
-    ensures { λ r. ⌜ r ≡ x - 1 ⌝ }
+pub fn before(number: u8) -> u8
+    ensures { λ r. ⌜ r ≡ number - 1 ⌝ }
 {
-    if x == 0 {
+    if number == 0 {
         return 0;
     }
-    x - 1
+    number - 1
 }
 
 // Assignments and loads have their register first.
@@ -38,28 +38,28 @@ fn register_first(operation: u8) -> bool
     operation == Instruction::ASSIGN_TWO
 }
 
-pub fn deed_of(i: Instruction, value: u8, note: u8) -> Deed
-    ensures { λ r. ⌜ r ≡ deedOf i value note ⌝ }
+pub fn deed_of(instruction: Instruction, value: u8, note: u8) -> Deed
+    ensures { λ r. ⌜ r ≡ deedOf instruction value note ⌝ }
 {
-    let h = i.second;
-    if register_first(i.operation) {
+    let h = instruction.second;
+    if register_first(instruction.operation) {
         return Deed {
-            operation: i.operation,
-            word: before(i.b),
-            register: i.a,
+            operation: instruction.operation,
+            word: before(instruction.b),
+            register: instruction.a,
             value,
             noted: h.a,
             note,
-            target: i.a,
+            target: instruction.a,
         };
     }
     Deed {
-        operation: i.operation,
-        word: before(i.a),
-        register: i.b,
+        operation: instruction.operation,
+        word: before(instruction.a),
+        register: instruction.b,
         value,
         noted: h.a,
         note,
-        target: i.a,
+        target: instruction.a,
     }
 }

@@ -16,40 +16,43 @@ pub struct Worked {
 }
 
 // A node's value from the values of its parts. A register has the value given; a word and a flag have none and count as 0.
-fn work_here(range: u8, code: u8, operand: u8, registers: &[u8], a: u8, b: u8) -> u8
-    ensures { λ r. ⌜ r ≡ workedHere range (now (registers .entry)) code operand a b ⌝ }
+fn work_here(range: u8, code: u8, operand: u8, registers: &[u8], first: u8, second: u8) -> u8
+    ensures { λ r. ⌜ r ≡ workedHere range (now (registers .entry)) code operand first second ⌝ }
 {
     if code == Code::REG {
         return nth_byte(registers, operand as usize) as u8;
     }
-    combine_parts(range, code, operand, a, b)
+    combine_parts(range, code, operand, first, second)
 }
 
 // The value of what stands at a position, nested at most `left` deep.
-pub fn work_at(s: &[u8], at: usize, left: usize, range: u8, registers: &[u8]) -> Worked
-    ensures { λ r. ⌜ r ≡ workedAt range (now (registers .entry)) (parseTree (now (s .entry)) left at) ⌝ }
+pub fn work_at(image: &[u8], at: usize, left: usize, range: u8, registers: &[u8]) -> Worked
+    ensures { λ r. ⌜ r ≡ workedAt range (now (registers .entry)) (parseTree (now (image .entry)) left at) ⌝ }
 {
     if left == 0 {
         return Worked { value: 0, end: at };
     }
-    let x = node_at(s, at);
-    if x.parts == 0 {
-        let value = work_here(range, x.code, x.operand, registers, 0, 0);
-        return Worked { value, end: x.next };
+    let node = node_at(image, at);
+    if node.parts == 0 {
+        let value = work_here(range, node.code, node.operand, registers, 0, 0);
+        return Worked {
+            value,
+            end: node.next,
+        };
     }
-    let a = work_at(s, x.next, left - 1, range, registers);
-    if x.parts == 1 {
-        let value = work_here(range, x.code, x.operand, registers, a.value, 0);
+    let a = work_at(image, node.next, left - 1, range, registers);
+    if node.parts == 1 {
+        let value = work_here(range, node.code, node.operand, registers, a.value, 0);
         return Worked { value, end: a.end };
     }
-    let b = work_at(s, a.end, left - 1, range, registers);
-    let value = work_here(range, x.code, x.operand, registers, a.value, b.value);
+    let b = work_at(image, a.end, left - 1, range, registers);
+    let value = work_here(range, node.code, node.operand, registers, a.value, b.value);
     Worked { value, end: b.end }
 }
 
 // The value of the formula at a position.
-pub fn work(s: &[u8], at: usize, range: u8, registers: &[u8]) -> u8
-    ensures { λ r. ⌜ r ≡ workedT range (now (registers .entry)) (parseTree (now (s .entry)) nesting at .tree) ⌝ }
+pub fn work(image: &[u8], at: usize, range: u8, registers: &[u8]) -> u8
+    ensures { λ r. ⌜ r ≡ workedT range (now (registers .entry)) (parseTree (now (image .entry)) nesting at .tree) ⌝ }
 {
-    work_at(s, at, Limits::NESTING, range, registers).value
+    work_at(image, at, Limits::NESTING, range, registers).value
 }

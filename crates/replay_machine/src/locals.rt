@@ -11,73 +11,73 @@ pub struct Registers {
 }
 
 // A register that is not there is not set.
-fn with_register(g: Registers, r: u8, v: u8) -> Registers
-    ensures { λ q. ⌜ q ≡ withRegister g r v ⌝ }
+fn with_register(registers: Registers, r: u8, value: u8) -> Registers
+    ensures { λ q. ⌜ q ≡ withRegister registers r value ⌝ }
 {
     if r == 0 {
-        return g;
+        return registers;
     }
     if 16 < r {
-        return g;
+        return registers;
     }
     let i = (r - 1) as usize;
-    let mut n = g;
-    n.at[i] = v;
+    let mut n = registers;
+    n.at[i] = value;
     n
 }
 
 // Both registers of two assignments.
-fn with_both(g: Registers, d: Deed) -> Registers
-    ensures { λ r. ⌜ r ≡ withBoth g d ⌝ }
+fn with_both(registers: Registers, effect: Deed) -> Registers
+    ensures { λ r. ⌜ r ≡ withBoth registers effect ⌝ }
 {
-    let n = with_register(g, d.noted, d.note);
-    with_register(n, d.register, d.value)
+    let n = with_register(registers, effect.noted, effect.note);
+    with_register(n, effect.register, effect.value)
 }
 
 // The registers after a step; old is the value of the write that it picks.
-pub fn registers_after(g: Registers, old: u8, d: Deed) -> Registers
-    ensures { λ r. ⌜ r ≡ registersAfter g old d ⌝ }
+pub fn registers_after(registers: Registers, old: u8, effect: Deed) -> Registers
+    ensures { λ r. ⌜ r ≡ registersAfter registers old effect ⌝ }
 {
-    let op = d.operation;
+    let op = effect.operation;
     if op == Instruction::ASSIGN {
-        return with_register(g, d.register, d.value);
+        return with_register(registers, effect.register, effect.value);
     }
     if op == Instruction::LOAD {
-        return with_register(g, d.register, old);
+        return with_register(registers, effect.register, old);
     }
     if op == Instruction::ACQUIRE {
-        return with_register(g, d.register, old);
+        return with_register(registers, effect.register, old);
     }
     if op == Instruction::EXCHANGE {
-        return with_register(g, d.register, old);
+        return with_register(registers, effect.register, old);
     }
     if op == Instruction::FETCH_ADD {
-        return with_register(g, d.register, old);
+        return with_register(registers, effect.register, old);
     }
     if op == Instruction::PAIR_STORE {
-        return with_register(g, d.noted, d.note);
+        return with_register(registers, effect.noted, effect.note);
     }
     if op == Instruction::PAIR_RELEASE {
-        return with_register(g, d.noted, d.note);
+        return with_register(registers, effect.noted, effect.note);
     }
     if op == Instruction::PAIR_SWAP {
-        return with_register(g, d.noted, d.note);
+        return with_register(registers, effect.noted, effect.note);
     }
     if op == Instruction::ASSIGN_TWO {
-        return with_both(g, d);
+        return with_both(registers, effect);
     }
-    g
+    registers
 }
 
 // The point after a step: the next one, or where a branch goes whose test is true.
-pub fn point_after(k: u8, d: Deed) -> u8
-    ensures { λ r. ⌜ r ≡ pointAfter k d ⌝ }
+pub fn point_after(point: u8, effect: Deed) -> u8
+    ensures { λ r. ⌜ r ≡ pointAfter point effect ⌝ }
 {
-    if d.operation == Instruction::BRANCH {
-        if d.value == 1 {
-            return d.target;
+    if effect.operation == Instruction::BRANCH {
+        if effect.value == 1 {
+            return effect.target;
         }
-        return next(k);
+        return next(point);
     }
-    next(k)
+    next(point)
 }

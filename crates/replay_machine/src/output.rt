@@ -35,28 +35,28 @@ fn least(writes: usize, lent: usize) -> usize
 }
 
 // None where the table stays as it is.
-fn count_of(r: Replayed, lent: usize) -> usize
-    ensures { λ n. ⌜ (n ≡ length (shownOf r lent)) × (n ≤ min lent 64) ⌝ }
+fn count_of(replayed: Replayed, lent: usize) -> usize
+    ensures { λ n. ⌜ (n ≡ length (shownOf replayed lent)) × (n ≤ min lent 64) ⌝ }
 {
-    if r.held {
-        let n = r.machine;
+    if replayed.held {
+        let n = replayed.machine;
         let m = n.memory;
-        return least(total_of(m, r.words), lent);
+        return least(total_of(m, replayed.words), lent);
     }
     0
 }
 
 // What is shown of a replay with so many entries lent.
-pub fn shown_by(r: Replayed, lent: usize) -> Shown
-    ensures { λ s. ⌜ (s ≡ shownBy r lent) × ((s .count ≤ min lent 64) × (length (s .writes) ≡ 64)) ⌝ }
+pub fn shown_by(replayed: Replayed, lent: usize) -> Shown
+    ensures { λ s. ⌜ (s ≡ shownBy replayed lent) × ((s .count ≤ min lent 64) × (length (s .writes) ≡ 64)) ⌝ }
 {
-    let n = r.machine;
+    let n = replayed.machine;
     let m = n.memory;
-    let p = pack(m, r.words);
-    let writes = p.writes;
+    let packed = pack(m, replayed.words);
+    let writes = packed.writes;
     Shown {
-        answer: answer_of(r),
-        count: count_of(r, lent),
+        answer: answer_of(replayed),
+        count: count_of(replayed, lent),
         writes,
     }
 }

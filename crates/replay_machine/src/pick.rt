@@ -27,11 +27,11 @@ impl Refusal {
 }
 
 // How many writes the first n rows have.
-pub fn total_of(m: Memory, n: u8) -> usize
-    ensures { λ r. ⌜ (r ≡ total m n) × (r ≤ n * 255) ⌝ }
+pub fn total_of(memory: Memory, words: u8) -> usize
+    ensures { λ r. ⌜ (r ≡ total memory words) × (r ≤ words * 255) ⌝ }
 {
-    let sizes = m.sizes;
-    first_of(&sizes, n)
+    let sizes = memory.sizes;
+    first_of(&sizes, words)
 }
 
 // The operation adds a write.
@@ -50,18 +50,18 @@ fn is_adding(operation: u8) -> bool
 // Why thread t may not do the deed at position p; 0 if it may.
 pub fn pick_refusal(
     table: &[u8; Places::BYTES],
-    g: Sight,
+    shape: Sight,
     words: u8,
     room: usize,
-    d: Deed,
+    effect: Deed,
     t: u8,
-    p: u8,
+    position: u8,
 ) -> u8
-    ensures { λ r. ⌜ r ≡ pickRefusal (memoryOf g (now (table .entry))) words room d t p ⌝ }
+    ensures { λ r. ⌜ r ≡ pickRefusal (memoryOf shape (now (table .entry))) words room effect t position ⌝ }
 {
-    if may_pick(table, g, d, t, p) {
-        if is_adding(d.operation) {
-            let sizes = g.sizes;
+    if may_pick(table, shape, effect, t, position) {
+        if is_adding(effect.operation) {
+            let sizes = shape.sizes;
             if first_of(&sizes, words) < room {
                 return Refusal::ACCEPTED;
             }

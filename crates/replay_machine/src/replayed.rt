@@ -41,34 +41,34 @@ pub fn room_of(lent: usize) -> usize
 
 // The index is that of the image, and so are the sizes.
 pub fn replay_on<'a, 'b, 'c, 'd>(
-    s: &'a [u8],
-    ix: &'b [usize],
-    z: Sizes,
+    image: &'a [u8],
+    index: &'b [usize],
+    sizes: Sizes,
     trace: &'c [u8],
     given: &'d [u8],
     room: usize,
 ) -> Replayed
-    requires { ⌜ now ix ≡ indexOf (now s) ⌝ }
-    ensures { λ r. ⌜ r ≡ replayOn (now (s .entry)) z (now (trace .entry)) (now (given .entry)) room ⌝ }
+    requires { ⌜ now index ≡ indexOf (now image) ⌝ }
+    ensures { λ run. ⌜ run ≡ replayOn (now (image .entry)) sizes (now (trace .entry)) (now (given .entry)) room ⌝ }
 {
-    let b = body_of(s, ix, 0);
-    let n = start_machine(b, z.range, given);
-    if room < (z.words as usize) {
+    let body = body_of(image, index, 0);
+    let n = start_machine(body, sizes.range, given);
+    if room < (sizes.words as usize) {
         return Replayed {
             code: Refusal::ROOM,
             steps: 0,
             held: false,
-            words: z.words,
+            words: sizes.words,
             machine: n,
         };
     }
-    let r = run_trace(s, ix, z, room, n, trace);
-    let machine = r.machine;
+    let run = run_trace(image, index, sizes, room, n, trace);
+    let machine = run.machine;
     Replayed {
-        code: r.code,
-        steps: r.steps,
+        code: run.code,
+        steps: run.steps,
         held: true,
-        words: z.words,
+        words: sizes.words,
         machine,
     }
 }

@@ -30,17 +30,17 @@ pub struct Reached {
 
 // On a table that is lent.
 fn run_on<'a, 'b, 'c, 'd>(
-    s: &'a [u8],
-    ix: &'b [usize],
-    z: Sizes,
+    image: &'a [u8],
+    index: &'b [usize],
+    sizes: Sizes,
     room: usize,
     from: Threads,
     trace: &'c [u8],
     table: &'d mut [u8; Places::BYTES],
 ) -> Reached
-    requires { ⌜ (now ix ≡ indexOf (now s)) × (length (now table) ≡ 792) ⌝ }
+    requires { ⌜ (now index ≡ indexOf (now image)) × (length (now table) ≡ 792) ⌝ }
     ensures { λ r. ⌜ runOf r (now (table .exit))
-        ≡ ran (now (s .entry)) z room (machineOf from (now (table .entry))) 0 (now (trace .entry)) ⌝ }
+        ≡ ran (now (image .entry)) sizes room (machineOf from (now (table .entry))) 0 (now (trace .entry)) ⌝ }
 {
     let mut n = from;
     let mut steps: usize = 0;
@@ -55,7 +55,7 @@ fn run_on<'a, 'b, 'c, 'd>(
         }
         let after = i + 2;
         let more = steps + 1;
-        let r = step(s, ix, z, room, n, trace[i], trace[i + 1], table);
+        let r = step(image, index, sizes, room, n, trace[i], trace[i + 1], table);
         let threads = r.threads;
         if r.code != Refusal::ACCEPTED {
             return Reached {
@@ -75,16 +75,31 @@ fn run_on<'a, 'b, 'c, 'd>(
     }
 }
 
-pub fn run_trace(s: &[u8], ix: &[usize], z: Sizes, room: usize, from: Machine, trace: &[u8]) -> Run
-    requires { ⌜ now ix ≡ indexOf (now s) ⌝ }
-    ensures { λ r. ⌜ r ≡ ran (now (s .entry)) z room from 0 (now (trace .entry)) ⌝ }
+pub fn run_trace(
+    image: &[u8],
+    index: &[usize],
+    sizes: Sizes,
+    room: usize,
+    from: Machine,
+    trace: &[u8],
+) -> Run
+    requires { ⌜ now index ≡ indexOf (now image) ⌝ }
+    ensures { λ run. ⌜ run ≡ ran (now (image .entry)) sizes room from 0 (now (trace .entry)) ⌝ }
 {
     let mut table = [0u8; Places::BYTES];
     lay_out(from.memory, &mut table);
-    let r = run_on(s, ix, z, room, threads_of(from), trace, &mut table);
+    let run = run_on(
+        image,
+        index,
+        sizes,
+        room,
+        threads_of(from),
+        trace,
+        &mut table,
+    );
     Run {
-        code: r.code,
-        steps: r.steps,
-        machine: machine_of(r.threads, &table),
+        code: run.code,
+        steps: run.steps,
+        machine: machine_of(run.threads, &table),
     }
 }

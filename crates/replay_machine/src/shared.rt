@@ -17,102 +17,119 @@ ghost use Rattle.replay_memory.specs.Memory.{memoryOf};
 ghost use Rattle.replay_machine.specs.Shared.{reachableBy, uncovered, mayPick, fetchAdded, memoryAfter};
 
 // The position is there, at or after the thread's own.
-fn is_reachable(g: Sight, t: u8, k: u8, p: u8) -> bool
-    ensures { λ r. ⌜ r ≡ reachableBy g t k p ⌝ }
+fn is_reachable(shape: Sight, t: u8, x: u8, position: u8) -> bool
+    ensures { λ r. ⌜ r ≡ reachableBy shape t x position ⌝ }
 {
-    let sizes = g.sizes;
-    if p < size_in(&sizes, k) {
-        return position_in(view_of(g, t), k) <= p;
+    let sizes = shape.sizes;
+    if position < size_in(&sizes, x) {
+        return position_in(view_of(shape, t), x) <= position;
     }
     false
 }
 
 // A write is put behind an uncovered one.
-fn is_uncovered(table: &[u8; Places::BYTES], g: Sight, t: u8, k: u8, p: u8) -> bool
-    ensures { λ r. ⌜ r ≡ uncovered (memoryOf g (now (table .entry))) t k p ⌝ }
+fn is_uncovered(table: &[u8; Places::BYTES], shape: Sight, t: u8, x: u8, position: u8) -> bool
+    ensures { λ r. ⌜ r ≡ uncovered (memoryOf shape (now (table .entry))) t x position ⌝ }
 {
-    if is_reachable(g, t, k, p) {
-        return !write_at(table, g, k, p).covered;
+    if is_reachable(shape, t, x, position) {
+        return !write_at(table, shape, x, position).covered;
     }
     false
 }
 
 // An instruction that picks no write has position 0.
-pub fn may_pick(table: &[u8; Places::BYTES], g: Sight, d: Deed, t: u8, p: u8) -> bool
-    ensures { λ r. ⌜ r ≡ mayPick (memoryOf g (now (table .entry))) d t p ⌝ }
+pub fn may_pick(
+    table: &[u8; Places::BYTES],
+    shape: Sight,
+    effect: Deed,
+    t: u8,
+    position: u8,
+) -> bool
+    ensures { λ r. ⌜ r ≡ mayPick (memoryOf shape (now (table .entry))) effect t position ⌝ }
 {
-    let op = d.operation;
+    let op = effect.operation;
     if op == Instruction::ASSIGN {
-        return p == 0;
+        return position == 0;
     }
     if op == Instruction::BRANCH {
-        return p == 0;
+        return position == 0;
     }
     if op == Instruction::ASSIGN_TWO {
-        return p == 0;
+        return position == 0;
     }
     if op == Instruction::LOAD {
-        return is_reachable(g, t, d.word, p);
+        return is_reachable(shape, t, effect.word, position);
     }
     if op == Instruction::ACQUIRE {
-        return is_reachable(g, t, d.word, p);
+        return is_reachable(shape, t, effect.word, position);
     }
-    is_uncovered(table, g, t, d.word, p)
+    is_uncovered(table, shape, t, effect.word, position)
 }
 
 // A swap that stores the old value plus the formula's.
-fn fetch_add(g: Sight, range: u8, d: Deed, t: u8, p: u8, table: &mut [u8; Places::BYTES]) -> Sight
+fn fetch_add(
+    shape: Sight,
+    range: u8,
+    effect: Deed,
+    t: u8,
+    position: u8,
+    table: &mut [u8; Places::BYTES],
+) -> Sight
     requires { ⌜ length (now table) ≡ 792 ⌝ }
-    ensures { λ r. ⌜ memoryOf r (now (table .exit)) ≡ fetchAdded (memoryOf g (now (table .entry))) range d t p ⌝ }
+    ensures { λ r. ⌜ memoryOf r (now (table .exit)) ≡ fetchAdded (memoryOf shape (now (table .entry))) range effect t position ⌝ }
     ensures { λ _. ⌜ length (now (table .exit)) ≡ 792 ⌝ }
 {
-    let sum = sum_of(range, write_at(table, g, d.word, p).value, d.value);
-    swap(g, d.word, sum, t, p, table)
+    let sum = sum_of(
+        range,
+        write_at(table, shape, effect.word, position).value,
+        effect.value,
+    );
+    swap(shape, effect.word, sum, t, position, table)
 }
 
 // What thread t does to shared words and views at position p.
 pub fn memory_after(
-    g: Sight,
+    shape: Sight,
     range: u8,
-    d: Deed,
+    effect: Deed,
     t: u8,
-    p: u8,
+    position: u8,
     table: &mut [u8; Places::BYTES],
 ) -> Sight
     requires { ⌜ length (now table) ≡ 792 ⌝ }
-    ensures { λ r. ⌜ memoryOf r (now (table .exit)) ≡ memoryAfter (memoryOf g (now (table .entry))) range d t p ⌝ }
+    ensures { λ r. ⌜ memoryOf r (now (table .exit)) ≡ memoryAfter (memoryOf shape (now (table .entry))) range effect t position ⌝ }
     ensures { λ _. ⌜ length (now (table .exit)) ≡ 792 ⌝ }
 {
-    let op = d.operation;
+    let op = effect.operation;
     if op == Instruction::LOAD {
-        return load(table, g, false, t, d.word, p);
+        return load(table, shape, false, t, effect.word, position);
     }
     if op == Instruction::ACQUIRE {
-        return load(table, g, true, t, d.word, p);
+        return load(table, shape, true, t, effect.word, position);
     }
     if op == Instruction::STORE {
-        return store(g, false, d.word, d.value, t, p, table);
+        return store(shape, false, effect.word, effect.value, t, position, table);
     }
     if op == Instruction::RELEASE {
-        return store(g, true, d.word, d.value, t, p, table);
+        return store(shape, true, effect.word, effect.value, t, position, table);
     }
     if op == Instruction::SWAP {
-        return swap(g, d.word, d.value, t, p, table);
+        return swap(shape, effect.word, effect.value, t, position, table);
     }
     if op == Instruction::EXCHANGE {
-        return swap(g, d.word, d.value, t, p, table);
+        return swap(shape, effect.word, effect.value, t, position, table);
     }
     if op == Instruction::FETCH_ADD {
-        return fetch_add(g, range, d, t, p, table);
+        return fetch_add(shape, range, effect, t, position, table);
     }
     if op == Instruction::PAIR_STORE {
-        return store(g, false, d.word, d.value, t, p, table);
+        return store(shape, false, effect.word, effect.value, t, position, table);
     }
     if op == Instruction::PAIR_RELEASE {
-        return store(g, true, d.word, d.value, t, p, table);
+        return store(shape, true, effect.word, effect.value, t, position, table);
     }
     if op == Instruction::PAIR_SWAP {
-        return swap(g, d.word, d.value, t, p, table);
+        return swap(shape, effect.word, effect.value, t, position, table);
     }
-    g
+    shape
 }

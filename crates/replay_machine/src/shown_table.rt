@@ -15,25 +15,25 @@ pub struct Packed {
 }
 
 // The write at entry e, of so many.
-fn shown(w: Write, e: usize, n: usize) -> Write
-    ensures { λ r. ⌜ r ≡ cond (ltb e n) w (startWrite 0) ⌝ }
+fn shown(write: Write, i: usize, n: usize) -> Write
+    ensures { λ r. ⌜ r ≡ cond (ltb i n) write (startWrite 0) ⌝ }
 {
-    if e < n {
-        return w;
+    if i < n {
+        return write;
     }
     start_write(0)
 }
 
 // The writes of the first words.
-pub fn pack(m: Memory, words: u8) -> Packed
-    ensures { λ r. ⌜ r ≡ packed m words ⌝ }
+pub fn pack(memory: Memory, words: u8) -> Packed
+    ensures { λ r. ⌜ r ≡ packed memory words ⌝ }
 {
-    let n = total_of(m, words);
+    let total = total_of(memory, words);
     let none = start_write(0);
     let mut writes = [none; 64];
     let mut e: usize = 0;
     while e < 64 {
-        writes[e] = shown(m.writes[e], e, n);
+        writes[e] = shown(memory.writes[e], e, total);
         e += 1;
     }
     Packed { writes }

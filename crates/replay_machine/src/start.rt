@@ -11,15 +11,15 @@ ghost use mathlib.Core.Path.{_≡_};
 ghost use Rattle.replay_machine.specs.Start.{startMemory, startRegister, startRegisters, started};
 
 // b is the header. Each row has one write; behind the last row nothing is looked at.
-fn start_memory(b: &[u8]) -> Memory
-    ensures { λ r. ⌜ r ≡ startMemory (now (b .entry)) ⌝ }
+fn start_memory(body: &[u8]) -> Memory
+    ensures { λ r. ⌜ r ≡ startMemory (now (body .entry)) ⌝ }
 {
     let none = start_write(0);
     let view = start_view();
     let mut writes = [none; 72];
     let mut j: usize = 0;
     while j < 72 {
-        writes[j] = start_write(start_value(b, j + 1));
+        writes[j] = start_write(start_value(body, j + 1));
         j += 1;
     }
     Memory {
@@ -30,8 +30,8 @@ fn start_memory(b: &[u8]) -> Memory
 }
 
 // The register at index i: 0, or what is given, modulo the range.
-fn start_register(b: &[u8], range: u8, given: &[u8], i: usize) -> u8
-    ensures { λ r. ⌜ r ≡ startRegister (now (b .entry)) range (now (given .entry)) i ⌝ }
+fn start_register(body: &[u8], range: u8, given: &[u8], i: usize) -> u8
+    ensures { λ r. ⌜ r ≡ startRegister (now (body .entry)) range (now (given .entry)) i ⌝ }
 {
     if range == 0 {
         return 0;
@@ -39,30 +39,30 @@ fn start_register(b: &[u8], range: u8, given: &[u8], i: usize) -> u8
     if 255 < i {
         return 0;
     }
-    if is_cleared(b, i + 1) {
+    if is_cleared(body, i + 1) {
         return 0;
     }
     octet_at(given, i) % range
 }
 
-fn start_registers(b: &[u8], range: u8, given: &[u8]) -> Registers
-    ensures { λ r. ⌜ r ≡ startRegisters (now (b .entry)) range (now (given .entry)) ⌝ }
+fn start_registers(body: &[u8], range: u8, given: &[u8]) -> Registers
+    ensures { λ r. ⌜ r ≡ startRegisters (now (body .entry)) range (now (given .entry)) ⌝ }
 {
     let mut at = [0u8; 16];
     let mut i: usize = 0;
     while i < 16 {
-        at[i] = start_register(b, range, given, i);
+        at[i] = start_register(body, range, given, i);
         i += 1;
     }
     Registers { at }
 }
 
-pub fn start_machine(b: &[u8], range: u8, given: &[u8]) -> Machine
-    ensures { λ r. ⌜ r ≡ started (now (b .entry)) range (now (given .entry)) ⌝ }
+pub fn start_machine(body: &[u8], range: u8, given: &[u8]) -> Machine
+    ensures { λ r. ⌜ r ≡ started (now (body .entry)) range (now (given .entry)) ⌝ }
 {
     Machine {
-        memory: start_memory(b),
-        registers: start_registers(b, range, given),
+        memory: start_memory(body),
+        registers: start_registers(body, range, given),
         points: [0; 4],
     }
 }

@@ -27,14 +27,14 @@ pub struct Threads {
     pub points: [u8; 4],
 }
 
-pub fn threads_of(n: Machine) -> Threads
-    ensures { λ r. ⌜ r ≡ threadsOf n ⌝ }
+pub fn threads_of(machine: Machine) -> Threads
+    ensures { λ r. ⌜ r ≡ threadsOf machine ⌝ }
 {
-    let m = n.memory;
+    let m = machine.memory;
     let sizes = m.sizes;
     let views = m.views;
-    let registers = n.registers;
-    let points = n.points;
+    let registers = machine.registers;
+    let points = machine.points;
     Threads {
         sight: Sight { sizes, views },
         registers,
@@ -42,47 +42,47 @@ pub fn threads_of(n: Machine) -> Threads
     }
 }
 
-pub fn machine_of(h: Threads, table: &[u8; Places::BYTES]) -> Machine
-    ensures { λ r. ⌜ r ≡ machineOf h (now (table .entry)) ⌝ }
+pub fn machine_of(threads: Threads, table: &[u8; Places::BYTES]) -> Machine
+    ensures { λ r. ⌜ r ≡ machineOf threads (now (table .entry)) ⌝ }
 {
-    let registers = h.registers;
-    let points = h.points;
+    let registers = threads.registers;
+    let points = threads.points;
     Machine {
-        memory: memory_of(h.sight, table),
+        memory: memory_of(threads.sight, table),
         registers,
         points,
     }
 }
 
-pub fn point_of(n: Threads, t: u8) -> u8
-    ensures { λ r. ⌜ r ≡ getD (n .points) (t % 4) 0 ⌝ }
+pub fn point_of(threads: Threads, t: u8) -> u8
+    ensures { λ r. ⌜ r ≡ getD (threads .points) (t % 4) 0 ⌝ }
 {
     let i = (t % 4) as usize;
-    n.points[i]
+    threads.points[i]
 }
 
 // The state after a step of thread t at position p.
 pub fn perform(
-    n: Threads,
+    threads: Threads,
     range: u8,
-    d: Deed,
+    effect: Deed,
     t: u8,
-    p: u8,
+    position: u8,
     table: &mut [u8; Places::BYTES],
 ) -> Threads
     requires { ⌜ length (now table) ≡ 792 ⌝ }
-    ensures { λ r. ⌜ machineOf r (now (table .exit)) ≡ performed (machineOf n (now (table .entry))) range d t p ⌝ }
+    ensures { λ r. ⌜ machineOf r (now (table .exit)) ≡ performed (machineOf threads (now (table .entry))) range effect t position ⌝ }
     ensures { λ _. ⌜ length (now (table .exit)) ≡ 792 ⌝ }
 {
-    let g = n.sight;
-    let h = n.registers;
-    let mut points = n.points;
+    let g = threads.sight;
+    let h = threads.registers;
+    let mut points = threads.points;
     let i = (t % 4) as usize;
-    let old = write_at(table, g, d.word, p);
-    points[i] = point_after(points[i], d);
+    let old = write_at(table, g, effect.word, position);
+    points[i] = point_after(points[i], effect);
     Threads {
-        sight: memory_after(g, range, d, t, p, table),
-        registers: registers_after(h, old.value, d),
+        sight: memory_after(g, range, effect, t, position, table),
+        registers: registers_after(h, old.value, effect),
         points,
     }
 }

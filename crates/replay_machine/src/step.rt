@@ -28,95 +28,112 @@ pub struct Taken {
 }
 
 // The value of formula k at the registers.
-fn value_at<'a, 'b>(s: &'a [u8], ix: &'b [usize], z: Sizes, h: Registers, k: usize) -> u8
-    requires { ⌜ now ix ≡ indexOf (now s) ⌝ }
-    ensures { λ r. ⌜ r ≡ valueAt (now (s .entry)) z h k ⌝ }
+fn value_at<'a, 'b>(
+    image: &'a [u8],
+    index: &'b [usize],
+    sizes: Sizes,
+    registers: Registers,
+    number: usize,
+) -> u8
+    requires { ⌜ now index ≡ indexOf (now image) ⌝ }
+    ensures { λ r. ⌜ r ≡ valueAt (now (image .entry)) sizes registers number ⌝ }
 {
-    let g = h.at;
-    let at = formula_at(s, ix, k);
-    work(s, at, z.range, &g)
+    let g = registers.at;
+    let at = formula_at(image, index, number);
+    work(image, at, sizes.range, &g)
 }
 
 // The instruction at point k of thread t, its formulas worked out at the registers.
-fn deed_at<'a, 'b>(s: &'a [u8], ix: &'b [usize], z: Sizes, h: Registers, t: u8, k: u8) -> Deed
-    requires { ⌜ now ix ≡ indexOf (now s) ⌝ }
-    ensures { λ r. ⌜ r ≡ deedAt (now (s .entry)) z h t k ⌝ }
+fn deed_at<'a, 'b>(
+    image: &'a [u8],
+    index: &'b [usize],
+    sizes: Sizes,
+    registers: Registers,
+    t: u8,
+    point: u8,
+) -> Deed
+    requires { ⌜ now index ≡ indexOf (now image) ⌝ }
+    ensures { λ r. ⌜ r ≡ deedAt (now (image .entry)) sizes registers t point ⌝ }
 {
-    let i = instruction_of(s, ix, z, t as usize, k as usize);
-    let half = i.second;
-    let value = value_at(s, ix, z, h, i.formula);
-    let note = value_at(s, ix, z, h, half.formula);
-    deed_of(i, value, note)
+    let instruction = instruction_of(image, index, sizes, t as usize, point as usize);
+    let half = instruction.second;
+    let value = value_at(image, index, sizes, registers, instruction.formula);
+    let note = value_at(image, index, sizes, registers, half.formula);
+    deed_of(instruction, value, note)
 }
 
 // The last point of thread t.
-fn last_of<'a, 'b>(s: &'a [u8], ix: &'b [usize], z: Sizes, t: u8) -> usize
-    requires { ⌜ now ix ≡ indexOf (now s) ⌝ }
-    ensures { λ r. ⌜ r ≡ lastOf (now (s .entry)) z t ⌝ }
+fn last_of<'a, 'b>(image: &'a [u8], index: &'b [usize], sizes: Sizes, t: u8) -> usize
+    requires { ⌜ now index ≡ indexOf (now image) ⌝ }
+    ensures { λ r. ⌜ r ≡ lastOf (now (image .entry)) sizes t ⌝ }
 {
-    let b = body_of(s, ix, (z.formulas as usize) + (t as usize));
-    last_point(b)
+    let body = body_of(image, index, (sizes.formulas as usize) + (t as usize));
+    last_point(body)
 }
 
 // A deed of thread t, counted from 0, at position p.
 fn attempt(
-    z: Sizes,
+    sizes: Sizes,
     room: usize,
-    n: Threads,
-    d: Deed,
+    threads: Threads,
+    effect: Deed,
     t: u8,
-    p: u8,
+    position: u8,
     table: &mut [u8; Places::BYTES],
 ) -> Taken
     requires { ⌜ length (now table) ≡ 792 ⌝ }
-    ensures { λ r. ⌜ takenOf r (now (table .exit)) ≡ attempted z room (machineOf n (now (table .entry))) d t p ⌝ }
+    ensures { λ r. ⌜ takenOf r (now (table .exit)) ≡ attempted sizes room (machineOf threads (now (table .entry))) effect t position ⌝ }
     ensures { λ _. ⌜ length (now (table .exit)) ≡ 792 ⌝ }
 {
-    let code = pick_refusal(table, n.sight, z.words, room, d, t, p);
+    let code = pick_refusal(table, threads.sight, sizes.words, room, effect, t, position);
     if code == Refusal::ACCEPTED {
         return Taken {
             code,
-            threads: perform(n, z.range, d, t, p, table),
+            threads: perform(threads, sizes.range, effect, t, position, table),
         };
     }
-    Taken { code, threads: n }
+    Taken {
+        code,
+        threads: threads,
+    }
 }
 
 // A step of thread t at position p, with so many places for writes.
 pub fn step<'a, 'b, 'c>(
-    s: &'a [u8],
-    ix: &'b [usize],
-    z: Sizes,
+    image: &'a [u8],
+    index: &'b [usize],
+    sizes: Sizes,
     room: usize,
-    n: Threads,
+    threads: Threads,
     t: u8,
-    p: u8,
+    position: u8,
     table: &'c mut [u8; Places::BYTES],
 ) -> Taken
-    requires { ⌜ (now ix ≡ indexOf (now s)) × (length (now table) ≡ 792) ⌝ }
-    ensures { λ r. ⌜ takenOf r (now (table .exit)) ≡ stepped (now (s .entry)) z room (machineOf n (now (table .entry))) t p ⌝ }
+    requires { ⌜ (now index ≡ indexOf (now image)) × (length (now table) ≡ 792) ⌝ }
+    ensures { λ r. ⌜ takenOf r (now (table .exit)) ≡ stepped (now (image .entry)) sizes room (machineOf threads (now (table .entry))) t
+        position ⌝ }
     ensures { λ _. ⌜ length (now (table .exit)) ≡ 792 ⌝ }
 {
     if t == 0 {
         return Taken {
             code: Refusal::THREAD,
-            threads: n,
+            threads: threads,
         };
     }
-    if z.threads < t {
+    if sizes.threads < t {
         return Taken {
             code: Refusal::THREAD,
-            threads: n,
+            threads: threads,
         };
     }
     let u = before(t);
-    let k = point_of(n, u);
-    if last_of(s, ix, z, t) <= (k as usize) {
+    let point = point_of(threads, u);
+    if last_of(image, index, sizes, t) <= (point as usize) {
         return Taken {
             code: Refusal::THREAD,
-            threads: n,
+            threads: threads,
         };
     }
-    let d = deed_at(s, ix, z, n.registers, t, k);
-    attempt(z, room, n, d, u, p, table)
+    let d = deed_at(image, index, sizes, threads.registers, t, point);
+    attempt(sizes, room, threads, d, u, position, table)
 }

@@ -16,46 +16,46 @@ impl Entry {
 }
 
 // A byte of an entry.
-fn entry_byte(w: Write, j: usize) -> u8
-    ensures { λ r. ⌜ r ≡ getD (entryBytes w) j 0 ⌝ }
+fn entry_byte(write: Write, j: usize) -> u8
+    ensures { λ r. ⌜ r ≡ getD (entryBytes write) j 0 ⌝ }
 {
     if j == 0 {
-        return w.value;
+        return write.value;
     }
     if j == 1 {
-        return bit(w.releasing);
+        return bit(write.releasing);
     }
     if j == 2 {
-        return bit(w.covered);
+        return bit(write.covered);
     }
     if j < Entry::SIZE {
-        let v = w.stored;
+        let v = write.stored;
         return v.at[j - 3];
     }
     0
 }
 
 // The bytes behind stay.
-fn write_entry(w: Write, out: &mut [u8])
+fn write_entry(write: Write, out: &mut [u8])
     requires { ⌜ 11 ≤ length (now out) ⌝ }
-    ensures { λ _. ⌜ now (out .exit) ≡ entryBytes w ++ drop 11 (now (out .entry)) ⌝ }
+    ensures { λ _. ⌜ now (out .exit) ≡ entryBytes write ++ drop 11 (now (out .entry)) ⌝ }
 {
     let mut j: usize = 0;
     while j < Entry::SIZE {
-        out[j] = entry_byte(w, j);
+        out[j] = entry_byte(write, j);
         j += 1;
     }
 }
 
 // The entries that are not used stay, and so do bytes behind the last whole one.
-pub fn write_shown(s: Shown, table: &mut [u8])
-    requires { ⌜ (s .count * 11 ≤ length (now table)) × ((s .count ≤ 64) × (length (s .writes) ≡ 64)) ⌝ }
-    ensures { λ _. ⌜ now (table .exit) ≡ laid (take (s .count) (s .writes)) (now (table .entry)) ⌝ }
+pub fn write_shown(shown: Shown, table: &mut [u8])
+    requires { ⌜ (shown .count * 11 ≤ length (now table)) × ((shown .count ≤ 64) × (length (shown .writes) ≡ 64)) ⌝ }
+    ensures { λ _. ⌜ now (table .exit) ≡ laid (take (shown .count) (shown .writes)) (now (table .entry)) ⌝ }
 {
-    let n = s.count;
+    let n = shown.count;
     let mut e: usize = 0;
     while e < n {
-        let w = s.writes[e];
+        let w = shown.writes[e];
         write_entry(w, &mut table[e * Entry::SIZE..]);
         e += 1;
     }

@@ -19,86 +19,113 @@ ghost use Rattle.replay_memory.specs.Access.{readFrom, loaded, put, stor
 
 // The view after a load of w from the view v: if it acquires and the write is releasing, word by word the later of v and the stored one.
 // Otherwise only that word moves.
-fn read_view(w: Write, v: View, acquires: bool, k: u8, p: u8) -> View
-    ensures { λ r. ⌜ r ≡ readFrom w v acquires k p ⌝ }
+fn read_view(write: Write, view: View, acquires: bool, x: u8, position: u8) -> View
+    ensures { λ r. ⌜ r ≡ readFrom write view acquires x position ⌝ }
 {
     if acquires {
-        if w.releasing {
-            let u = w.stored;
-            return join(v, u);
+        if write.releasing {
+            let u = write.stored;
+            return join(view, u);
         }
-        return with_position(v, k, p);
+        return with_position(view, x, position);
     }
-    with_position(v, k, p)
+    with_position(view, x, position)
 }
 
-pub fn load(table: &[u8; Places::BYTES], g: Sight, acquires: bool, t: u8, k: u8, p: u8) -> Sight
-    ensures { λ r. ⌜ memoryOf r (now (table .entry)) ≡ loaded (memoryOf g (now (table .entry))) acquires t k p ⌝ }
+pub fn load(
+    table: &[u8; Places::BYTES],
+    shape: Sight,
+    acquires: bool,
+    t: u8,
+    x: u8,
+    position: u8,
+) -> Sight
+    ensures { λ r. ⌜ memoryOf r (now (table .entry)) ≡ loaded (memoryOf shape (now (table .entry))) acquires t x position ⌝ }
 {
-    let w = write_at(table, g, k, p);
-    with_view(g, t, read_view(w, view_of(g, t), acquires, k, p))
+    let write = write_at(table, shape, x, position);
+    with_view(
+        shape,
+        t,
+        read_view(write, view_of(shape, t), acquires, x, position),
+    )
 }
 
 // A new write of value n from the view v: the view moves to it, and that view is stored with it.
 fn put(
-    g: Sight,
+    shape: Sight,
     releasing: bool,
-    k: u8,
-    n: u8,
+    x: u8,
+    value: u8,
     t: u8,
-    p: u8,
-    v: View,
+    position: u8,
+    view: View,
     table: &mut [u8; Places::BYTES],
 ) -> Sight
     requires { ⌜ length (now table) ≡ 792 ⌝ }
-    ensures { λ r. ⌜ memoryOf r (now (table .exit)) ≡ put (memoryOf g (now (table .entry))) releasing k n t p v ⌝ }
+    ensures { λ r. ⌜ memoryOf r (now (table .exit)) ≡ put (memoryOf shape (now (table .entry))) releasing x value t position view ⌝ }
     ensures { λ _. ⌜ length (now (table .exit)) ≡ 792 ⌝ }
 {
-    let u = with_position(v, k, next(p));
-    let w = Write {
-        value: n,
+    let u = with_position(view, x, next(position));
+    let write = Write {
+        value: value,
         releasing,
         covered: false,
         stored: u,
     };
-    with_view(insert(g, k, p, w, table), t, u)
+    with_view(insert(shape, x, position, write, table), t, u)
 }
 
 pub fn store(
-    g: Sight,
+    shape: Sight,
     releasing: bool,
-    k: u8,
-    n: u8,
+    x: u8,
+    value: u8,
     t: u8,
-    p: u8,
+    position: u8,
     table: &mut [u8; Places::BYTES],
 ) -> Sight
     requires { ⌜ length (now table) ≡ 792 ⌝ }
-    ensures { λ r. ⌜ memoryOf r (now (table .exit)) ≡ stored (memoryOf g (now (table .entry))) releasing k n t p ⌝ }
+    ensures { λ r. ⌜ memoryOf r (now (table .exit)) ≡ stored (memoryOf shape (now (table .entry))) releasing x value t position ⌝ }
     ensures { λ _. ⌜ length (now (table .exit)) ≡ 792 ⌝ }
 {
-    put(g, releasing, k, n, t, p, view_of(g, t), table)
+    put(
+        shape,
+        releasing,
+        x,
+        value,
+        t,
+        position,
+        view_of(shape, t),
+        table,
+    )
 }
 
 // The view from which a swap of w writes: if w is releasing, its stored view is joined in.
-fn swap_view(w: Write, v: View) -> View
-    ensures { λ r. ⌜ r ≡ swapFrom w v ⌝ }
+fn swap_view(write: Write, view: View) -> View
+    ensures { λ r. ⌜ r ≡ swapFrom write view ⌝ }
 {
-    if w.releasing {
-        let u = w.stored;
-        return join(v, u);
+    if write.releasing {
+        let u = write.stored;
+        return join(view, u);
     }
-    v
+    view
 }
 
 // A releasing store that also covers the picked write.
-pub fn swap(g: Sight, k: u8, n: u8, t: u8, p: u8, table: &mut [u8; Places::BYTES]) -> Sight
+pub fn swap(
+    shape: Sight,
+    x: u8,
+    value: u8,
+    t: u8,
+    position: u8,
+    table: &mut [u8; Places::BYTES],
+) -> Sight
     requires { ⌜ length (now table) ≡ 792 ⌝ }
-    ensures { λ r. ⌜ memoryOf r (now (table .exit)) ≡ swapped (memoryOf g (now (table .entry))) k n t p ⌝ }
+    ensures { λ r. ⌜ memoryOf r (now (table .exit)) ≡ swapped (memoryOf shape (now (table .entry))) x value t position ⌝ }
     ensures { λ _. ⌜ length (now (table .exit)) ≡ 792 ⌝ }
 {
-    let w = write_at(table, g, k, p);
-    let v = swap_view(w, view_of(g, t));
-    cover(g, k, p, table);
-    put(g, true, k, n, t, p, v, table)
+    let write = write_at(table, shape, x, position);
+    let view = swap_view(write, view_of(shape, t));
+    cover(shape, x, position, table);
+    put(shape, true, x, value, t, position, view, table)
 }

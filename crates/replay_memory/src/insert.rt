@@ -15,31 +15,37 @@ ghost use Rattle.replay_memory.specs.Memory.{memoryOf};
 ghost use Rattle.replay_memory.specs.Insert.{grown, inserted};
 
 // One more write of word k, behind position p: the threads' views keep their writes.
-fn grow(g: Sight, k: u8, p: u8) -> Sight
-    ensures { λ r. ⌜ r ≡ grown g k p ⌝ }
+fn grow(shape: Sight, x: u8, position: u8) -> Sight
+    ensures { λ r. ⌜ r ≡ grown shape x position ⌝ }
 {
     let none = start_view();
     let mut views = [none; 4];
     let mut j: usize = 0;
     while j < 4 {
-        views[j] = up_view(g.views[j], k, p);
+        views[j] = up_view(shape.views[j], x, position);
         j += 1;
     }
-    let i = (k % 8) as usize;
-    let mut sizes = g.sizes;
+    let i = (x % 8) as usize;
+    let mut sizes = shape.sizes;
     sizes[i] = next(sizes[i]);
     Sight { sizes, views }
 }
 
 // The write w directly behind position p of word k.
-pub fn insert(g: Sight, k: u8, p: u8, w: Write, table: &mut [u8; Places::BYTES]) -> Sight
+pub fn insert(
+    shape: Sight,
+    x: u8,
+    position: u8,
+    write: Write,
+    table: &mut [u8; Places::BYTES],
+) -> Sight
     requires { ⌜ length (now table) ≡ 792 ⌝ }
-    ensures { λ r. ⌜ memoryOf r (now (table .exit)) ≡ inserted (memoryOf g (now (table .entry))) k p w ⌝ }
+    ensures { λ r. ⌜ memoryOf r (now (table .exit)) ≡ inserted (memoryOf shape (now (table .entry))) x position write ⌝ }
     ensures { λ _. ⌜ length (now (table .exit)) ≡ 792 ⌝ }
 {
-    let sizes = g.sizes;
-    raise_all(k, p, table);
-    move_up(index_of(&sizes, k, p), table);
-    put_at(w, index_of(&sizes, k, next(p)), table);
-    grow(g, k, p)
+    let sizes = shape.sizes;
+    raise_all(x, position, table);
+    move_up(index_of(&sizes, x, position), table);
+    put_at(write, index_of(&sizes, x, next(position)), table);
+    grow(shape, x, position)
 }

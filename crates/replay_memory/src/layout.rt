@@ -10,20 +10,20 @@ ghost use lib.ListN.{length};
 ghost use Rattle.replay_memory.specs.WriteTable.{writesIn};
 ghost use Rattle.replay_memory.specs.Memory.{memoryOf};
 
-pub fn lay_out(m: Memory, table: &mut [u8; Places::BYTES])
+pub fn lay_out(memory: Memory, table: &mut [u8; Places::BYTES])
     requires { ⌜ length (now table) ≡ 792 ⌝ }
-    ensures { λ _. ⌜ writesIn (now (table .exit)) ≡ m .writes ⌝ }
+    ensures { λ _. ⌜ writesIn (now (table .exit)) ≡ memory .writes ⌝ }
     ensures { λ _. ⌜ length (now (table .exit)) ≡ 792 ⌝ }
 {
     let mut j: usize = 0;
     while j < Places::COUNT {
-        put_at(m.writes[j], j, table);
+        put_at(memory.writes[j], j, table);
         j += 1;
     }
 }
 
-pub fn memory_of(g: Sight, table: &[u8; Places::BYTES]) -> Memory
-    ensures { λ r. ⌜ r ≡ memoryOf g (now (table .entry)) ⌝ }
+pub fn memory_of(shape: Sight, table: &[u8; Places::BYTES]) -> Memory
+    ensures { λ r. ⌜ r ≡ memoryOf shape (now (table .entry)) ⌝ }
 {
     let none = start_write(0);
     let mut writes = [none; 72];
@@ -32,8 +32,8 @@ pub fn memory_of(g: Sight, table: &[u8; Places::BYTES]) -> Memory
         writes[j] = read_at(table, j);
         j += 1;
     }
-    let sizes = g.sizes;
-    let views = g.views;
+    let sizes = shape.sizes;
+    let views = shape.views;
     Memory {
         sizes,
         writes,

@@ -26,12 +26,12 @@ pub struct Sight {
 }
 
 // Where the row of word k begins: behind the writes of the words before.
-pub fn first_of(sizes: &[u8], k: u8) -> usize
-    ensures { λ r. ⌜ (r ≡ first (now (sizes .entry)) k) × (r ≤ k * 255) ⌝ }
+pub fn first_of(sizes: &[u8], x: u8) -> usize
+    ensures { λ r. ⌜ (r ≡ first (now (sizes .entry)) x) × (r ≤ x * 255) ⌝ }
 {
     let mut sum: usize = 0;
     let mut j: u8 = 0;
-    while j < k {
+    while j < x {
         sum += byte_at(sizes, j as usize);
         j += 1;
     }
@@ -39,48 +39,48 @@ pub fn first_of(sizes: &[u8], k: u8) -> usize
 }
 
 // Where the write at position p of word k stands.
-pub fn index_of(sizes: &[u8], k: u8, p: u8) -> usize
-    ensures { λ r. ⌜ (r ≡ indexOf (now (sizes .entry)) k p) × (r < 72) ⌝ }
+pub fn index_of(sizes: &[u8], x: u8, position: u8) -> usize
+    ensures { λ r. ⌜ (r ≡ indexOf (now (sizes .entry)) x position) × (r < 72) ⌝ }
 {
-    (first_of(sizes, k % 8) + (p as usize)) % 72
+    (first_of(sizes, x % 8) + (position as usize)) % 72
 }
 
 // How many writes a row has.
-pub fn size_in(sizes: &[u8], k: u8) -> u8
-    ensures { λ r. ⌜ r ≡ getD (now (sizes .entry)) (k % 8) 0 ⌝ }
+pub fn size_in(sizes: &[u8], x: u8) -> u8
+    ensures { λ r. ⌜ r ≡ getD (now (sizes .entry)) (x % 8) 0 ⌝ }
 {
-    octet_at(sizes, (k % 8) as usize)
+    octet_at(sizes, (x % 8) as usize)
 }
 
-pub fn write_at(table: &[u8; Places::BYTES], g: Sight, k: u8, p: u8) -> Write
-    ensures { λ r. ⌜ r ≡ writeAt (memoryOf g (now (table .entry))) k p ⌝ }
+pub fn write_at(table: &[u8; Places::BYTES], shape: Sight, x: u8, position: u8) -> Write
+    ensures { λ r. ⌜ r ≡ writeAt (memoryOf shape (now (table .entry))) x position ⌝ }
 {
-    let sizes = g.sizes;
-    read_at(table, index_of(&sizes, k, p))
+    let sizes = shape.sizes;
+    read_at(table, index_of(&sizes, x, position))
 }
 
-pub fn view_of(g: Sight, t: u8) -> View
-    ensures { λ r. ⌜ r ≡ seenBy g t ⌝ }
+pub fn view_of(shape: Sight, t: u8) -> View
+    ensures { λ r. ⌜ r ≡ seenBy shape t ⌝ }
 {
     let i = (t % 4) as usize;
-    g.views[i]
+    shape.views[i]
 }
 
-pub fn with_view(g: Sight, t: u8, v: View) -> Sight
-    ensures { λ r. ⌜ r ≡ withSeen g t v ⌝ }
+pub fn with_view(shape: Sight, t: u8, view: View) -> Sight
+    ensures { λ r. ⌜ r ≡ withSeen shape t view ⌝ }
 {
     let i = (t % 4) as usize;
-    let mut n = g;
-    n.views[i] = v;
+    let mut n = shape;
+    n.views[i] = view;
     n
 }
 
 // The write at position p of word k, covered.
-pub fn cover(g: Sight, k: u8, p: u8, table: &mut [u8; Places::BYTES])
+pub fn cover(shape: Sight, x: u8, position: u8, table: &mut [u8; Places::BYTES])
     requires { ⌜ length (now table) ≡ 792 ⌝ }
-    ensures { λ _. ⌜ memoryOf g (now (table .exit)) ≡ covering (memoryOf g (now (table .entry))) k p ⌝ }
+    ensures { λ _. ⌜ memoryOf shape (now (table .exit)) ≡ covering (memoryOf shape (now (table .entry))) x position ⌝ }
     ensures { λ _. ⌜ length (now (table .exit)) ≡ 792 ⌝ }
 {
-    let sizes = g.sizes;
-    cover_at(index_of(&sizes, k, p), table);
+    let sizes = shape.sizes;
+    cover_at(index_of(&sizes, x, position), table);
 }

@@ -15,62 +15,62 @@ pub fn start_view() -> View
 }
 
 // The number after another; the last one of a byte stays.
-pub fn next(n: u8) -> u8
-    ensures { λ r. ⌜ r ≡ next n ⌝ }
+pub fn next(position: u8) -> u8
+    ensures { λ r. ⌜ r ≡ next position ⌝ }
 {
-    if n < 255 {
-        return n + 1;
+    if position < 255 {
+        return position + 1;
     }
-    n
+    position
 }
 
 // Where a position goes when a write is inserted behind position p.
-pub fn up(p: u8, i: u8) -> u8
-    ensures { λ r. ⌜ r ≡ up p i ⌝ }
+pub fn up(behind: u8, position: u8) -> u8
+    ensures { λ r. ⌜ r ≡ up behind position ⌝ }
 {
-    if i <= p {
-        return i;
+    if position <= behind {
+        return position;
     }
-    next(i)
+    next(position)
 }
 
-pub fn position_in(v: View, k: u8) -> u8
-    ensures { λ r. ⌜ r ≡ positionIn v k ⌝ }
+pub fn position_in(view: View, x: u8) -> u8
+    ensures { λ r. ⌜ r ≡ positionIn view x ⌝ }
 {
-    let i = (k % 8) as usize;
-    v.at[i]
+    let i = (x % 8) as usize;
+    view.at[i]
 }
 
-pub fn with_position(v: View, k: u8, p: u8) -> View
-    ensures { λ r. ⌜ r ≡ withPosition v k p ⌝ }
+pub fn with_position(view: View, x: u8, position: u8) -> View
+    ensures { λ r. ⌜ r ≡ withPosition view x position ⌝ }
 {
-    let i = (k % 8) as usize;
-    let mut w = v;
-    w.at[i] = p;
+    let i = (x % 8) as usize;
+    let mut w = view;
+    w.at[i] = position;
     w
 }
 
 // A view keeps its write when another is inserted behind position p of word k.
-pub fn up_view(v: View, k: u8, p: u8) -> View
-    ensures { λ r. ⌜ r ≡ upView k p v ⌝ }
+pub fn up_view(view: View, x: u8, position: u8) -> View
+    ensures { λ r. ⌜ r ≡ upView x position view ⌝ }
 {
-    with_position(v, k, up(p, position_in(v, k)))
+    with_position(view, x, up(position, position_in(view, x)))
 }
 
-fn later(a: u8, b: u8) -> u8
-    ensures { λ r. ⌜ r ≡ max a b ⌝ }
+fn later(first: u8, second: u8) -> u8
+    ensures { λ r. ⌜ r ≡ max first second ⌝ }
 {
-    if a < b { b } else { a }
+    if first < second { second } else { first }
 }
 
 // Word by word the later.
-pub fn join(v: View, w: View) -> View
-    ensures { λ r. ⌜ r ≡ joined v w ⌝ }
+pub fn join(view: View, other: View) -> View
+    ensures { λ r. ⌜ r ≡ joined view other ⌝ }
 {
-    let mut u = v;
+    let mut u = view;
     let mut i: usize = 0;
     while i < 8 {
-        u.at[i] = later(v.at[i], w.at[i]);
+        u.at[i] = later(view.at[i], other.at[i]);
         i += 1;
     }
     u

@@ -51,36 +51,36 @@ pub fn read_at(table: &[u8; Places::BYTES], i: usize) -> Write
     }
 }
 
-pub fn bit(b: bool) -> u8
-    ensures { λ r. ⌜ r ≡ bit b ⌝ }
+pub fn bit(mark: bool) -> u8
+    ensures { λ r. ⌜ r ≡ bit mark ⌝ }
 {
-    if b { 1 } else { 0 }
+    if mark { 1 } else { 0 }
 }
 
-fn put_view(v: View, i: usize, table: &mut [u8; Places::BYTES])
+fn put_view(view: View, i: usize, table: &mut [u8; Places::BYTES])
     requires { ⌜ (i < 72) × (length (now table) ≡ 792) ⌝ }
-    ensures { λ _. ⌜ (now (table .exit) ≡ putView (now (table .entry)) i v 8) × (length (v .at) ≡ 8) ⌝ }
+    ensures { λ _. ⌜ (now (table .exit) ≡ putView (now (table .entry)) i view 8) × (length (view .at) ≡ 8) ⌝ }
     ensures { λ _. ⌜ length (now (table .exit)) ≡ 792 ⌝ }
 {
     let b = i * Places::WIDTH + 3;
     let mut k: usize = 0;
     while k < 8 {
-        table[b + k] = v.at[k];
+        table[b + k] = view.at[k];
         k += 1;
     }
 }
 
 // A write put at a place.
-pub fn put_at(w: Write, i: usize, table: &mut [u8; Places::BYTES])
+pub fn put_at(write: Write, i: usize, table: &mut [u8; Places::BYTES])
     requires { ⌜ (i < 72) × (length (now table) ≡ 792) ⌝ }
-    ensures { λ _. ⌜ writesIn (now (table .exit)) ≡ set (writesIn (now (table .entry))) i w ⌝ }
+    ensures { λ _. ⌜ writesIn (now (table .exit)) ≡ set (writesIn (now (table .entry))) i write ⌝ }
     ensures { λ _. ⌜ length (now (table .exit)) ≡ 792 ⌝ }
 {
     let b = i * Places::WIDTH;
-    table[b] = w.value;
-    table[b + 1] = bit(w.releasing);
-    table[b + 2] = bit(w.covered);
-    put_view(w.stored, i, table);
+    table[b] = write.value;
+    table[b + 1] = bit(write.releasing);
+    table[b + 2] = bit(write.covered);
+    put_view(write.stored, i, table);
 }
 
 // The write at a place covered.
@@ -93,16 +93,16 @@ pub fn cover_at(i: usize, table: &mut [u8; Places::BYTES])
 }
 
 // Stored views keep their writes when another is inserted behind position p of word k.
-pub fn raise_all(k: u8, p: u8, table: &mut [u8; Places::BYTES])
+pub fn raise_all(x: u8, position: u8, table: &mut [u8; Places::BYTES])
     requires { ⌜ length (now table) ≡ 792 ⌝ }
-    ensures { λ _. ⌜ writesIn (now (table .exit)) ≡ raisedAll (writesIn (now (table .entry))) k p ⌝ }
+    ensures { λ _. ⌜ writesIn (now (table .exit)) ≡ raisedAll (writesIn (now (table .entry))) x position ⌝ }
     ensures { λ _. ⌜ length (now (table .exit)) ≡ 792 ⌝ }
 {
-    let c = 3 + ((k % 8) as usize);
+    let c = 3 + ((x % 8) as usize);
     let mut j: usize = 0;
     while j < Places::COUNT {
         let b = j * Places::WIDTH + c;
-        table[b] = up(p, table[b]);
+        table[b] = up(position, table[b]);
         j += 1;
     }
 }

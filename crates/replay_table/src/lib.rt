@@ -17,11 +17,11 @@ pub fn read(table: &[Write], i: usize, none: Write) -> Write
 }
 
 // Past the end nothing is stored.
-pub fn put(table: &mut [Write], i: usize, w: Write)
-    ensures { λ r. ⌜ now (table .exit) ≡ set (now (table .entry)) i w ⌝ }
+pub fn put(table: &mut [Write], i: usize, write: Write)
+    ensures { λ r. ⌜ now (table .exit) ≡ set (now (table .entry)) i write ⌝ }
 {
     if i < table.len() {
-        table[i] = w;
+        table[i] = write;
     }
 }
 
@@ -40,50 +40,50 @@ pub struct Turn {
     pub next: Write,
 }
 
-fn raised(w: Write, k: u8, p: u8) -> Write
-    ensures { λ r. ⌜ r ≡ upWrite k p w ⌝ }
+fn raised(write: Write, x: u8, position: u8) -> Write
+    ensures { λ r. ⌜ r ≡ upWrite x position write ⌝ }
 {
-    let v = w.stored;
-    let stored = up_view(v, k, p);
+    let v = write.stored;
+    let stored = up_view(v, x, position);
     Write {
-        value: w.value,
-        releasing: w.releasing,
-        covered: w.covered,
+        value: write.value,
+        releasing: write.releasing,
+        covered: write.covered,
         stored,
     }
 }
 
-pub fn turn_at(o: Order, e: usize, carried: Write, old: Write) -> Turn
-    ensures { λ r. ⌜ r ≡ turnOf o e carried old ⌝ }
+pub fn turn_at(order: Order, i: usize, carried: Write, old: Write) -> Turn
+    ensures { λ r. ⌜ r ≡ turnOf order i carried old ⌝ }
 {
-    if o.count <= e {
+    if order.count <= i {
         return Turn {
             put: old,
             next: carried,
         };
     }
-    let w = raised(old, o.word, o.behind);
-    if e < o.at {
+    let write = raised(old, order.word, order.behind);
+    if i < order.at {
         return Turn {
-            put: w,
+            put: write,
             next: carried,
         };
     }
     Turn {
         put: carried,
-        next: w,
+        next: write,
     }
 }
 
 // The entries from the write's place move up by one, and every stored view keeps its write.
-pub fn insert(o: Order, table: &mut [Write])
-    ensures { λ r. ⌜ now (table .exit) ≡ sweptOf o (now (table .entry)) ⌝ }
+pub fn insert(order: Order, table: &mut [Write])
+    ensures { λ r. ⌜ now (table .exit) ≡ sweptOf order (now (table .entry)) ⌝ }
 {
     let n = table.len();
-    let mut carried = o.write;
+    let mut carried = order.write;
     let mut e: usize = 0;
     while e < n {
-        let t = turn_at(o, e, carried, table[e]);
+        let t = turn_at(order, e, carried, table[e]);
         table[e] = t.put;
         carried = t.next;
         e += 1;
@@ -97,18 +97,18 @@ pub struct Run {
 }
 
 // A step on values alone: here the write that was read is inserted in front of its entry.
-pub fn step(r: Run, w: Write) -> Run
-    ensures { λ q. ⌜ q ≡ stepOf r w ⌝ }
+pub fn step(run: Run, write: Write) -> Run
+    ensures { λ q. ⌜ q ≡ stepOf run write ⌝ }
 {
-    let p = r.order;
+    let p = run.order;
     Run {
         at: p.at,
         order: Order {
             count: p.count,
-            at: r.at,
+            at: run.at,
             word: p.word,
-            behind: w.value,
-            write: w,
+            behind: write.value,
+            write: write,
         },
     }
 }
@@ -120,8 +120,8 @@ pub fn steps(turns: usize, start: Run, none: Write, table: &mut [Write]) -> Run
     let mut r = start;
     let mut k: usize = 0;
     while k < turns {
-        let w = read(table, r.at, none);
-        r = step(r, w);
+        let write = read(table, r.at, none);
+        r = step(r, write);
         insert(r.order, table);
         k += 1;
     }

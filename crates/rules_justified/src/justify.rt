@@ -15,19 +15,19 @@ ghost use Rattle.rules_justified.specs.Justify.{premisesMarked, isJustif
 
 // The first so many premises of line n have marks.
 fn premises_marked<'a, 'b, 'c>(
-    s: &'a [u8],
-    ix: &'b [usize],
-    z: Sizes,
-    n: usize,
+    image: &'a [u8],
+    index: &'b [usize],
+    sizes: Sizes,
+    number: usize,
     count: usize,
-    m: &'c [bool],
+    marks: &'c [bool],
 ) -> bool
-    requires { ⌜ now ix ≡ indexOf (now s) ⌝ }
-    ensures { λ r. ⌜ r ≡ premisesMarked (now (s .entry)) z n (asMarks (now (m .entry))) count ⌝ }
+    requires { ⌜ now index ≡ indexOf (now image) ⌝ }
+    ensures { λ r. ⌜ r ≡ premisesMarked (now (image .entry)) sizes number (asMarks (now (marks .entry))) count ⌝ }
 {
     let mut j: usize = 0;
     while j < count {
-        if is_marked(m, premise_of(s, ix, z, n, j)) {
+        if is_marked(marks, premise_of(image, index, sizes, number, j)) {
             j += 1;
         } else {
             return false;
@@ -38,36 +38,36 @@ fn premises_marked<'a, 'b, 'c>(
 
 // Line n fits its rule, and all its premises have marks. (These are asked first: it is quicker.)
 fn is_justified<'a, 'b, 'c, 'd>(
-    s: &'a [u8],
-    ix: &'b [usize],
-    t: &'c [u8],
-    z: Sizes,
-    n: usize,
-    m: &'d [bool],
+    image: &'a [u8],
+    index: &'b [usize],
+    templates: &'c [u8],
+    sizes: Sizes,
+    number: usize,
+    marks: &'d [bool],
 ) -> bool
-    requires { ⌜ now ix ≡ indexOf (now s) ⌝ }
-    ensures { λ r. ⌜ r ≡ isJustified (now (s .entry)) (now (t .entry)) z n (asMarks (now (m .entry))) ⌝ }
+    requires { ⌜ now index ≡ indexOf (now image) ⌝ }
+    ensures { λ r. ⌜ r ≡ isJustified (now (image .entry)) (now (templates .entry)) sizes number (asMarks (now (marks .entry))) ⌝ }
 {
-    let l = line_of(s, ix, z, n);
-    if premises_marked(s, ix, z, n, l.count as usize, m) {
-        return fits_line(s, ix, t, z, n);
+    let line = line_of(image, index, sizes, number);
+    if premises_marked(image, index, sizes, number, line.count as usize, marks) {
+        return fits_line(image, index, templates, sizes, number);
     }
     false
 }
 
 // The marks of all lines, which are set where they stand.
-pub fn judge_lines<'a, 'b>(s: &'a [u8], ix: &'b [usize], z: Sizes) -> Marks
-    requires { ⌜ now ix ≡ indexOf (now s) ⌝ }
-    ensures { λ r. ⌜ r ≡ marksTo (now (s .entry)) z (z .lines) ⌝ }
+pub fn judge_lines<'a, 'b>(image: &'a [u8], index: &'b [usize], sizes: Sizes) -> Marks
+    requires { ⌜ now index ≡ indexOf (now image) ⌝ }
+    ensures { λ r. ⌜ r ≡ marksTo (now (image .entry)) sizes (sizes .lines) ⌝ }
 {
-    let t = all_templates();
-    let bytes = t.bytes;
-    let last = z.lines as usize;
+    let templates = all_templates();
+    let bytes = templates.bytes;
+    let last = sizes.lines as usize;
     let mut on = [false; Limits::LINES];
     let mut n: usize = 0;
     while n < last {
         n += 1;
-        let b = is_justified(s, ix, &bytes, z, n, &on);
+        let b = is_justified(image, index, &bytes, sizes, n, &on);
         set_mark(&mut on, n, b);
     }
     Marks { on }

@@ -9,27 +9,27 @@ pub struct Marks {
 }
 
 // A line that there cannot be is not marked.
-pub fn is_marked(on: &[bool], n: usize) -> bool
-    ensures { λ r. ⌜ r ≡ isMarked (asMarks (now (on .entry))) n ⌝ }
+pub fn is_marked(marks: &[bool], number: usize) -> bool
+    ensures { λ r. ⌜ r ≡ isMarked (asMarks (now (marks .entry))) number ⌝ }
 {
-    if n == 0 {
+    if number == 0 {
         return false;
     }
-    if on.len() < n {
+    if marks.len() < number {
         return false;
     }
-    on[n - 1]
+    marks[number - 1]
 }
 
 // For a line that there cannot be, the marks stay.
-pub fn set_mark(on: &mut [bool], n: usize, b: bool)
-    ensures { λ r. ⌜ now (on .exit) ≡ withMark (asMarks (now (on .entry))) n b .on ⌝ }
+pub fn set_mark(marks: &mut [bool], number: usize, mark: bool)
+    ensures { λ r. ⌜ now (marks .exit) ≡ withMark (asMarks (now (marks .entry))) number mark .on ⌝ }
 {
-    if n == 0 {
+    if number == 0 {
         return;
     }
-    if on.len() < n {
+    if marks.len() < number {
         return;
     }
-    on[n - 1] = b;
+    marks[number - 1] = mark;
 }

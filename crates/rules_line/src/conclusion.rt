@@ -17,13 +17,13 @@ pub struct Conclusion {
 }
 
 // Of the form that is wanted; a Hoare triple, of a pair too, is for the same thread and point.
-pub fn is_placed(form: u8, thread: usize, point: usize, c: Conclusion) -> bool
-    ensures { λ r. ⌜ r ≡ placedAt form thread point c ⌝ }
+pub fn is_placed(form: u8, thread: usize, point: usize, conclusion: Conclusion) -> bool
+    ensures { λ r. ⌜ r ≡ placedAt form thread point conclusion ⌝ }
 {
-    if c.form == form {
+    if conclusion.form == form {
         if Form::TRIPLE <= form {
-            if c.thread == thread {
-                return c.point == point;
+            if conclusion.thread == thread {
+                return conclusion.point == point;
             }
             return false;
         }
@@ -34,31 +34,31 @@ pub fn is_placed(form: u8, thread: usize, point: usize, c: Conclusion) -> bool
 
 // The left side against the template at i, then the right side against the one behind it.
 pub fn match_conclusion(
-    s: &[u8],
-    t: &[u8],
+    image: &[u8],
+    templates: &[u8],
     i: usize,
     form: u8,
     thread: usize,
     point: usize,
-    c: Conclusion,
-    b: Bind,
+    conclusion: Conclusion,
+    bind: Bind,
 ) -> Whole
-    ensures { λ r. ⌜ r ≡ matchConclusion (now (s .entry)) (now (t .entry)) i form thread point c b ⌝ }
+    ensures { λ r. ⌜ r ≡ matchConclusion (now (image .entry)) (now (templates .entry)) i form thread point conclusion bind ⌝ }
 {
-    let left = c.left;
-    let right = c.right;
-    if is_placed(form, thread, point, c) {
-        let m = match_whole(s, t, i, left, Bind::WHOLE, b);
+    let left = conclusion.left;
+    let right = conclusion.right;
+    if is_placed(form, thread, point, conclusion) {
+        let m = match_whole(image, templates, i, left, Bind::WHOLE, bind);
         if m.ok {
             let n = m.bind;
-            return match_whole(s, t, m.tpl, right, Bind::WHOLE, n);
+            return match_whole(image, templates, m.tpl, right, Bind::WHOLE, n);
         }
         return m;
     }
     Whole {
         ok: false,
         tpl: i,
-        bind: b,
+        bind: bind,
     }
 }
 
@@ -77,11 +77,11 @@ pub const NO_CONCLUSION: Conclusion = Conclusion {
     right: 0,
 };
 
-pub fn conclusion_at(p: Premises, j: usize) -> Conclusion
-    ensures { λ r. ⌜ r ≡ conclusionAt p j ⌝ }
+pub fn conclusion_at(premises: Premises, j: usize) -> Conclusion
+    ensures { λ r. ⌜ r ≡ conclusionAt premises j ⌝ }
 {
     if j < Limits::PREMISES {
-        return p.conclusions[j];
+        return premises.conclusions[j];
     }
     NO_CONCLUSION
 }
@@ -89,31 +89,51 @@ pub fn conclusion_at(p: Premises, j: usize) -> Conclusion
 // Premises from number j on, so many as are left, each against the templates behind those of the one before; their forms,
 // two bits each from the lowest.
 pub fn match_from(
-    s: &[u8],
-    t: &[u8],
+    image: &[u8],
+    templates: &[u8],
     i: usize,
     forms: u8,
     thread: usize,
     point: usize,
-    p: Premises,
+    premises: Premises,
     j: usize,
     left: usize,
-    b: Bind,
+    bind: Bind,
 ) -> Whole
     requires { ⌜ j + left < 1000 ⌝ }
-    ensures { λ r. ⌜ r ≡ matchFrom (now (s .entry)) (now (t .entry)) thread point p left i forms j b ⌝ }
+    ensures { λ r. ⌜ r ≡ matchFrom (now (image .entry)) (now (templates .entry)) thread point premises left i forms j bind ⌝ }
 {
     if left == 0 {
         return Whole {
             ok: true,
             tpl: i,
-            bind: b,
+            bind: bind,
         };
     }
-    let m = match_conclusion(s, t, i, forms % 4, thread, point, conclusion_at(p, j), b);
+    let m = match_conclusion(
+        image,
+        templates,
+        i,
+        forms % 4,
+        thread,
+        point,
+        conclusion_at(premises, j),
+        bind,
+    );
     if m.ok {
         let n = m.bind;
-        return match_from(s, t, m.tpl, forms / 4, thread, point, p, j + 1, left - 1, n);
+        return match_from(
+            image,
+            templates,
+            m.tpl,
+            forms / 4,
+            thread,
+            point,
+            premises,
+            j + 1,
+            left - 1,
+            n,
+        );
     }
     m
 }

@@ -27,27 +27,38 @@ fn spoken_form(rule: u8, operation: u8) -> u8
 }
 
 // With the operation at its thread and point.
-pub fn conclusion_by(l: Line, operation: u8) -> Conclusion
-    ensures { λ r. ⌜ r ≡ conclusionBy l operation ⌝ }
+pub fn conclusion_by(line: Line, operation: u8) -> Conclusion
+    ensures { λ r. ⌜ r ≡ conclusionBy line operation ⌝ }
 {
     Conclusion {
-        form: spoken_form(l.rule, operation),
-        thread: l.thread as usize,
-        point: l.point as usize,
-        left: l.left,
-        right: l.right,
+        form: spoken_form(line.rule, operation),
+        thread: line.thread as usize,
+        point: line.point as usize,
+        left: line.left,
+        right: line.right,
     }
 }
 
 // What line n concludes. Only a line for a whole pair asks for the instruction.
-pub fn conclusion_of<'a, 'b>(s: &'a [u8], ix: &'b [usize], z: Sizes, n: usize) -> Conclusion
-    requires { ⌜ now ix ≡ indexOf (now s) ⌝ }
-    ensures { λ r. ⌜ r ≡ conclusionOf (now (s .entry)) z n ⌝ }
+pub fn conclusion_of<'a, 'b>(
+    image: &'a [u8],
+    index: &'b [usize],
+    sizes: Sizes,
+    number: usize,
+) -> Conclusion
+    requires { ⌜ now index ≡ indexOf (now image) ⌝ }
+    ensures { λ r. ⌜ r ≡ conclusionOf (now (image .entry)) sizes number ⌝ }
 {
-    let l = line_of(s, ix, z, n);
-    if form_at(l.rule) == Form::PAIR {
-        let i = instruction_of(s, ix, z, l.thread as usize, l.point as usize);
-        return conclusion_by(l, i.operation);
+    let line = line_of(image, index, sizes, number);
+    if form_at(line.rule) == Form::PAIR {
+        let instruction = instruction_of(
+            image,
+            index,
+            sizes,
+            line.thread as usize,
+            line.point as usize,
+        );
+        return conclusion_by(line, instruction.operation);
     }
-    conclusion_by(l, 0)
+    conclusion_by(line, 0)
 }

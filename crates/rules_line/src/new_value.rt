@@ -12,40 +12,46 @@ ghost use Rattle.formula.specs.Tree.{parseTree};
 ghost use Rattle.rules_line.specs.NewValue.{formulaIs, sumIs, freshIs};
 ghost use Rattle.rules_line.specs.SideTests.{treeOf};
 
-fn is_formula(s: &[u8], formula: usize, at: usize, left: usize) -> bool
-    ensures { λ r. ⌜ r ≡ formulaIs (now (s .entry)) formula (parseTree (now (s .entry)) left at .tree) ⌝ }
+fn is_formula(image: &[u8], formula: usize, at: usize, left: usize) -> bool
+    ensures { λ r. ⌜ r ≡ formulaIs (now (image .entry)) formula (parseTree (now (image .entry)) left at .tree) ⌝ }
 {
-    match same_at(s, formula, Limits::NESTING, at, left) {
+    match same_at(image, formula, Limits::NESTING, at, left) {
         Same::No => false,
         Same::Yes(_, _) => true,
     }
 }
 
 // Register plus formula.
-fn is_sum(s: &[u8], register: u8, formula: usize, at: usize, left: usize) -> bool
-    ensures { λ r. ⌜ r ≡ sumIs (now (s .entry)) register formula (parseTree (now (s .entry)) left at .tree) ⌝ }
+fn is_sum(image: &[u8], register: u8, formula: usize, at: usize, left: usize) -> bool
+    ensures { λ r. ⌜ r ≡ sumIs (now (image .entry)) register formula (parseTree (now (image .entry)) left at .tree) ⌝ }
 {
     if left == 0 {
         return false;
     }
-    let x = node_at(s, at);
-    if x.code != Code::SUM {
+    let node = node_at(image, at);
+    if node.code != Code::SUM {
         return false;
     }
-    if x.operand != 0 {
+    if node.operand != 0 {
         return false;
     }
-    match leaf_stands(s, Code::REG, register, x.next, left - 1) {
+    match leaf_stands(image, Code::REG, register, node.next, left - 1) {
         Same::No => false,
-        Same::Yes(_, q) => is_formula(s, formula, q, left - 1),
+        Same::Yes(_, q) => is_formula(image, formula, q, left - 1),
     }
 }
 
-pub fn is_fresh(s: &[u8], operation: u8, register: u8, formula: usize, p: Position) -> bool
-    ensures { λ r. ⌜ r ≡ freshIs (now (s .entry)) operation register formula (treeOf (now (s .entry)) p) ⌝ }
+pub fn is_fresh(
+    image: &[u8],
+    operation: u8,
+    register: u8,
+    formula: usize,
+    position: Position,
+) -> bool
+    ensures { λ r. ⌜ r ≡ freshIs (now (image .entry)) operation register formula (treeOf (now (image .entry)) position) ⌝ }
 {
     if operation == Instruction::FETCH_ADD {
-        return is_sum(s, register, formula, p.at, p.left);
+        return is_sum(image, register, formula, position.at, position.left);
     }
-    is_formula(s, formula, p.at, p.left)
+    is_formula(image, formula, position.at, position.left)
 }

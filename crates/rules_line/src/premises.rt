@@ -19,31 +19,42 @@ ghost use Rattle.rules_line.specs.Premises.{premiseConclusion, premisesO
 
 // What premise j of line n concludes, of so many.
 fn premise_conclusion<'a, 'b>(
-    s: &'a [u8],
-    ix: &'b [usize],
-    z: Sizes,
-    n: usize,
+    image: &'a [u8],
+    index: &'b [usize],
+    sizes: Sizes,
+    number: usize,
     count: u8,
     j: usize,
 ) -> Conclusion
-    requires { ⌜ now ix ≡ indexOf (now s) ⌝ }
-    ensures { λ r. ⌜ r ≡ premiseConclusion (now (s .entry)) z n count j ⌝ }
+    requires { ⌜ now index ≡ indexOf (now image) ⌝ }
+    ensures { λ r. ⌜ r ≡ premiseConclusion (now (image .entry)) sizes number count j ⌝ }
 {
     if (count as usize) <= j {
         return NO_CONCLUSION;
     }
-    conclusion_of(s, ix, z, premise_of(s, ix, z, n, j))
+    conclusion_of(
+        image,
+        index,
+        sizes,
+        premise_of(image, index, sizes, number, j),
+    )
 }
 
 // The premises of line n, of which there are so many.
-pub fn premises_of<'a, 'b>(s: &'a [u8], ix: &'b [usize], z: Sizes, n: usize, count: u8) -> Premises
-    requires { ⌜ now ix ≡ indexOf (now s) ⌝ }
-    ensures { λ r. ⌜ r ≡ premisesOf (now (s .entry)) z n count ⌝ }
+pub fn premises_of<'a, 'b>(
+    image: &'a [u8],
+    index: &'b [usize],
+    sizes: Sizes,
+    number: usize,
+    count: u8,
+) -> Premises
+    requires { ⌜ now index ≡ indexOf (now image) ⌝ }
+    ensures { λ r. ⌜ r ≡ premisesOf (now (image .entry)) sizes number count ⌝ }
 {
-    let a = premise_conclusion(s, ix, z, n, count, 0);
-    let b = premise_conclusion(s, ix, z, n, count, 1);
-    let c = premise_conclusion(s, ix, z, n, count, 2);
-    let d = premise_conclusion(s, ix, z, n, count, 3);
+    let a = premise_conclusion(image, index, sizes, number, count, 0);
+    let b = premise_conclusion(image, index, sizes, number, count, 1);
+    let c = premise_conclusion(image, index, sizes, number, count, 2);
+    let d = premise_conclusion(image, index, sizes, number, count, 3);
     Premises {
         count,
         conclusions: [a, b, c, d],
@@ -51,27 +62,27 @@ pub fn premises_of<'a, 'b>(s: &'a [u8], ix: &'b [usize], z: Sizes, n: usize, cou
 }
 
 // Premise j is an implication, or there is no such premise.
-fn is_implication(p: Premises, j: usize) -> bool
-    ensures { λ r. ⌜ r ≡ isImplicationAt p j ⌝ }
+fn is_implication(premises: Premises, j: usize) -> bool
+    ensures { λ r. ⌜ r ≡ isImplicationAt premises j ⌝ }
 {
-    if (p.count as usize) <= j {
+    if (premises.count as usize) <= j {
         return true;
     }
-    let c = conclusion_at(p, j);
+    let c = conclusion_at(premises, j);
     c.form == Form::IMPLICATION
 }
 
 // At most four premises, implications all of them.
-fn all_implications(p: Premises) -> bool
-    ensures { λ r. ⌜ r ≡ allImplications p ⌝ }
+fn all_implications(premises: Premises) -> bool
+    ensures { λ r. ⌜ r ≡ allImplications premises ⌝ }
 {
-    if Limits::PREMISES < (p.count as usize) {
+    if Limits::PREMISES < (premises.count as usize) {
         return false;
     }
-    if is_implication(p, 0) {
-        if is_implication(p, 1) {
-            if is_implication(p, 2) {
-                return is_implication(p, 3);
+    if is_implication(premises, 0) {
+        if is_implication(premises, 1) {
+            if is_implication(premises, 2) {
+                return is_implication(premises, 3);
             }
         }
     }
@@ -80,31 +91,42 @@ fn all_implications(p: Premises) -> bool
 
 // Against the templates from i on: as many as the rule has, each of its form; or any implications.
 pub fn match_premises(
-    s: &[u8],
-    t: &[u8],
+    image: &[u8],
+    templates: &[u8],
     i: usize,
-    w: Rule,
+    rule: Rule,
     thread: usize,
     point: usize,
-    p: Premises,
-    b: Bind,
+    premises: Premises,
+    bind: Bind,
 ) -> Whole
-    ensures { λ r. ⌜ r ≡ matchPremises (now (s .entry)) (now (t .entry)) i w thread point p b ⌝ }
+    ensures { λ r. ⌜ r ≡ matchPremises (now (image .entry)) (now (templates .entry)) i rule thread point premises bind ⌝ }
 {
-    if w.premises == Rules::IMPLICATIONS {
+    if rule.premises == Rules::IMPLICATIONS {
         return Whole {
-            ok: all_implications(p),
+            ok: all_implications(premises),
             tpl: i,
-            bind: b,
+            bind: bind,
         };
     }
-    let count = p.count;
-    if w.premises == count {
-        return match_from(s, t, i, w.forms, thread, point, p, 0, count as usize, b);
+    let count = premises.count;
+    if rule.premises == count {
+        return match_from(
+            image,
+            templates,
+            i,
+            rule.forms,
+            thread,
+            point,
+            premises,
+            0,
+            count as usize,
+            bind,
+        );
     }
     Whole {
         ok: false,
         tpl: i,
-        bind: b,
+        bind: bind,
     }
 }

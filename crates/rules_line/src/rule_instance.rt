@@ -23,78 +23,115 @@ ghost use Rattle.image_index.specs.IndexTable.{indexOf};
 ghost use Rattle.rules_line.specs.RuleInstance.{isAllowed, restAt, lineMatch, fitsRow, fitsLine};
 
 // A triple's rule has the operation among its own; a rule for pairs, that of the whole.
-fn is_allowed(w: Rule, a: Acting) -> bool
-    ensures { λ r. ⌜ r ≡ isAllowed w a ⌝ }
+fn is_allowed(rule: Rule, acting: Acting) -> bool
+    ensures { λ r. ⌜ r ≡ isAllowed rule acting ⌝ }
 {
-    if w.form == Form::TRIPLE {
-        return contains(w.operations as u32, a.operation);
+    if rule.form == Form::TRIPLE {
+        return contains(rule.operations as u32, acting.operation);
     }
-    if w.form == Form::PAIR {
-        return contains(w.operations as u32, a.whole);
+    if rule.form == Form::PAIR {
+        return contains(rule.operations as u32, acting.whole);
     }
     true
 }
 
 // What is left to ask once the templates are matched.
 fn fits_rest<'a, 'b>(
-    s: &'a [u8],
-    ix: &'b [usize],
-    w: Rule,
-    a: Acting,
-    c: Conclusion,
-    p: Premises,
-    b: Bind,
+    image: &'a [u8],
+    index: &'b [usize],
+    rule: Rule,
+    acting: Acting,
+    conclusion: Conclusion,
+    premises: Premises,
+    bind: Bind,
 ) -> bool
-    requires { ⌜ now ix ≡ indexOf (now s) ⌝ }
-    ensures { λ r. ⌜ r ≡ restAt (now (s .entry)) w a c p b ⌝ }
+    requires { ⌜ now index ≡ indexOf (now image) ⌝ }
+    ensures { λ r. ⌜ r ≡ restAt (now (image .entry)) rule acting conclusion premises bind ⌝ }
 {
-    if is_allowed(w, a) {
-        return is_asked(s, ix, w.side, b, a, c, p);
+    if is_allowed(rule, acting) {
+        return is_asked(image, index, rule.side, bind, acting, conclusion, premises);
     }
     false
 }
 
 // The line's own conclusion against its rule's templates, with what is known of their holes.
-fn match_line(s: &[u8], t: &[u8], w: Rule, l: Line, a: Acting, c: Conclusion) -> Whole
-    ensures { λ r. ⌜ r ≡ lineMatch (now (s .entry)) (now (t .entry)) w l a c ⌝ }
+fn match_line(
+    image: &[u8],
+    templates: &[u8],
+    rule: Rule,
+    line: Line,
+    acting: Acting,
+    conclusion: Conclusion,
+) -> Whole
+    ensures { λ r. ⌜ r ≡ lineMatch (now (image .entry)) (now (templates .entry)) rule line acting conclusion ⌝ }
 {
-    let b = preset_at(l.thread, a.word, a.register, a.formula);
-    match_conclusion(s, t, w.template as usize, w.form, c.thread, c.point, c, b)
+    let b = preset_at(line.thread, acting.word, acting.register, acting.formula);
+    match_conclusion(
+        image,
+        templates,
+        rule.template as usize,
+        rule.form,
+        conclusion.thread,
+        conclusion.point,
+        conclusion,
+        b,
+    )
 }
 
 // Line, premises, then the rest, with the templates t.
 fn fits_row<'a, 'b, 'c>(
-    s: &'a [u8],
-    ix: &'b [usize],
-    t: &'c [u8],
-    l: Line,
-    a: Acting,
-    p: Premises,
+    image: &'a [u8],
+    index: &'b [usize],
+    templates: &'c [u8],
+    line: Line,
+    acting: Acting,
+    premises: Premises,
 ) -> bool
-    requires { ⌜ now ix ≡ indexOf (now s) ⌝ }
-    ensures { λ r. ⌜ r ≡ fitsRow (now (s .entry)) (now (t .entry)) l a p ⌝ }
+    requires { ⌜ now index ≡ indexOf (now image) ⌝ }
+    ensures { λ r. ⌜ r ≡ fitsRow (now (image .entry)) (now (templates .entry)) line acting premises ⌝ }
 {
-    let w = rule_at(l.rule);
-    let c = conclusion_by(l, a.whole);
-    let m = match_line(s, t, w, l, a, c);
+    let rule = rule_at(line.rule);
+    let c = conclusion_by(line, acting.whole);
+    let m = match_line(image, templates, rule, line, acting, c);
     if m.ok {
         let n = m.bind;
-        let q = match_premises(s, t, m.tpl, w, c.thread, c.point, p, n);
+        let q = match_premises(
+            image,
+            templates,
+            m.tpl,
+            rule,
+            c.thread,
+            c.point,
+            premises,
+            n,
+        );
         if q.ok {
             let d = q.bind;
-            return fits_rest(s, ix, w, a, c, p, d);
+            return fits_rest(image, index, rule, acting, c, premises, d);
         }
     }
     false
 }
 
 // Whether line n fits its rule.
-pub fn fits_line<'a, 'b, 'c>(s: &'a [u8], ix: &'b [usize], t: &'c [u8], z: Sizes, n: usize) -> bool
-    requires { ⌜ now ix ≡ indexOf (now s) ⌝ }
-    ensures { λ r. ⌜ r ≡ fitsLine (now (s .entry)) (now (t .entry)) z n ⌝ }
+pub fn fits_line<'a, 'b, 'c>(
+    image: &'a [u8],
+    index: &'b [usize],
+    templates: &'c [u8],
+    sizes: Sizes,
+    number: usize,
+) -> bool
+    requires { ⌜ now index ≡ indexOf (now image) ⌝ }
+    ensures { λ r. ⌜ r ≡ fitsLine (now (image .entry)) (now (templates .entry)) sizes number ⌝ }
 {
-    let l = line_of(s, ix, z, n);
-    let a = acting_of(s, ix, z, l.thread as usize, l.point as usize);
-    let p = premises_of(s, ix, z, n, l.count);
-    fits_row(s, ix, t, l, a, p)
+    let line = line_of(image, index, sizes, number);
+    let a = acting_of(
+        image,
+        index,
+        sizes,
+        line.thread as usize,
+        line.point as usize,
+    );
+    let premises = premises_of(image, index, sizes, number, line.count);
+    fits_row(image, index, templates, line, a, premises)
 }

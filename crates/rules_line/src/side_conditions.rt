@@ -29,120 +29,144 @@ ghost use Rattle.image_index.specs.IndexTable.{indexOf};
 ghost use Rattle.rules_line.specs.SideConditions.{substitutionOf, assignedBy, loadedBy, ofInstruction, implicationsOf, ofNames, asked};
 
 // The registers that an instruction sets to formulas, by these: of an assignment, of two at once, of a pair.
-fn substitution_of(a: Acting) -> Substitution
-    ensures { λ r. ⌜ r ≡ substitutionOf a ⌝ }
+fn substitution_of(acting: Acting) -> Substitution
+    ensures { λ r. ⌜ r ≡ substitutionOf acting ⌝ }
 {
-    let by = Replacing::Formula(a.formula, Limits::NESTING);
-    if a.whole == Instruction::ASSIGN {
-        return one_name(false, a.register, by);
+    let by = Replacing::Formula(acting.formula, Limits::NESTING);
+    if acting.whole == Instruction::ASSIGN {
+        return one_name(false, acting.register, by);
     }
-    let note = Replacing::Formula(a.note, Limits::NESTING);
-    if a.whole == Instruction::ASSIGN_TWO {
+    let note = Replacing::Formula(acting.note, Limits::NESTING);
+    if acting.whole == Instruction::ASSIGN_TWO {
         return Substitution {
             word: false,
-            number: a.register,
+            number: acting.register,
             by,
             two: true,
-            second: a.noted,
+            second: acting.noted,
             with: note,
         };
     }
-    one_name(false, a.noted, note)
+    one_name(false, acting.noted, note)
 }
 
 // The formula in hole 0 is the one in hole 1 with these registers replaced.
-fn is_assigned(s: &[u8], b: Bind, a: Acting) -> bool
-    ensures { λ r. ⌜ r ≡ assignedBy (now (s .entry)) b a ⌝ }
+fn is_assigned(image: &[u8], bind: Bind, acting: Acting) -> bool
+    ensures { λ r. ⌜ r ≡ assignedBy (now (image .entry)) bind acting ⌝ }
 {
-    let w = substitution_of(a);
-    is_with(s, hole_of(b, 0), hole_of(b, 1), w)
+    let substitution = substitution_of(acting);
+    is_with(image, hole_of(bind, 0), hole_of(bind, 1), substitution)
 }
 
 // The left test is the right one with the instruction's register replaced by its word.
-fn is_loaded(s: &[u8], b: Bind, a: Acting) -> bool
-    ensures { λ r. ⌜ r ≡ loadedBy (now (s .entry)) b a ⌝ }
+fn is_loaded(image: &[u8], bind: Bind, acting: Acting) -> bool
+    ensures { λ r. ⌜ r ≡ loadedBy (now (image .entry)) bind acting ⌝ }
 {
-    let w = one_name(false, a.register, Replacing::Word(a.word));
-    is_with(s, hole_of(b, 3), hole_of(b, 2), w)
+    let substitution = one_name(false, acting.register, Replacing::Word(acting.word));
+    is_with(image, hole_of(bind, 3), hole_of(bind, 2), substitution)
 }
 
 // Of the instruction; the last one left is that its word is absent, and its result register.
-fn of_instruction(s: &[u8], side: u8, b: Bind, a: Acting) -> bool
-    ensures { λ r. ⌜ r ≡ ofInstruction (now (s .entry)) side b a ⌝ }
+fn of_instruction(image: &[u8], side: u8, bind: Bind, acting: Acting) -> bool
+    ensures { λ r. ⌜ r ≡ ofInstruction (now (image .entry)) side bind acting ⌝ }
 {
     if side == Side::KEPT {
-        return is_kept(s, a.operation, a.word, a.register, hole_of(b, 0));
+        return is_kept(
+            image,
+            acting.operation,
+            acting.word,
+            acting.register,
+            hole_of(bind, 0),
+        );
     }
     if side == Side::ASSIGNED {
-        return is_assigned(s, b, a);
+        return is_assigned(image, bind, acting);
     }
     if side == Side::LOADED {
-        return is_loaded(s, b, a);
+        return is_loaded(image, bind, acting);
     }
     if side == Side::STORED {
-        return is_stored(s, hole_of(b, 3), hole_of(b, 2), a.word, a.formula);
+        return is_stored(
+            image,
+            hole_of(bind, 3),
+            hole_of(bind, 2),
+            acting.word,
+            acting.formula,
+        );
     }
     if side == Side::NEW_VALUE {
-        return is_fresh(s, a.operation, a.register, a.formula, hole_of(b, 0));
+        return is_fresh(
+            image,
+            acting.operation,
+            acting.register,
+            acting.formula,
+            hole_of(bind, 0),
+        );
     }
-    is_apart(s, a.operation, a.word, a.register, hole_of(b, 1))
+    is_apart(
+        image,
+        acting.operation,
+        acting.word,
+        acting.register,
+        hole_of(bind, 1),
+    )
 }
 
 // A line and its premises, as implications.
-fn implications_of(c: Conclusion, p: Premises) -> Implications
-    ensures { λ r. ⌜ r ≡ implicationsOf c p ⌝ }
+fn implications_of(conclusion: Conclusion, premises: Premises) -> Implications
+    ensures { λ r. ⌜ r ≡ implicationsOf conclusion premises ⌝ }
 {
-    let d = conclusion_at(p, 0);
-    let e = conclusion_at(p, 1);
-    let f = conclusion_at(p, 2);
-    let g = conclusion_at(p, 3);
+    let d = conclusion_at(premises, 0);
+    let e = conclusion_at(premises, 1);
+    let f = conclusion_at(premises, 2);
+    let g = conclusion_at(premises, 3);
     Implications {
-        count: (p.count as usize) + 1,
-        left: [c.left, d.left, e.left, f.left, g.left],
-        right: [c.right, d.right, e.right, f.right, g.right],
+        count: (premises.count as usize) + 1,
+        left: [conclusion.left, d.left, e.left, f.left, g.left],
+        right: [conclusion.right, d.right, e.right, f.right, g.right],
     }
 }
 
 // By rows, of the tests in holes 2 and 3, over the values that the header gives.
-fn by_names<'a, 'b>(s: &'a [u8], ix: &'b [usize], b: Bind) -> bool
-    requires { ⌜ now ix ≡ indexOf (now s) ⌝ }
-    ensures { λ r. ⌜ r ≡ ofNames (now (s .entry)) b ⌝ }
+fn by_names<'a, 'b>(image: &'a [u8], index: &'b [usize], bind: Bind) -> bool
+    requires { ⌜ now index ≡ indexOf (now image) ⌝ }
+    ensures { λ r. ⌜ r ≡ ofNames (now (image .entry)) bind ⌝ }
 {
-    let p = hole_of(b, 2);
-    let q = hole_of(b, 3);
-    let h = body_of(s, ix, 0);
-    by_rows(s, p.at, p.left, q.at, q.left, range_of(h))
+    let p = hole_of(bind, 2);
+    let q = hole_of(bind, 3);
+    let header = body_of(image, index, 0);
+    by_rows(image, p.at, p.left, q.at, q.left, range_of(header))
 }
 
 // By rows, by truth table, by the start values and marks; else of the instruction.
 pub fn is_asked<'a, 'b>(
-    s: &'a [u8],
-    ix: &'b [usize],
+    image: &'a [u8],
+    index: &'b [usize],
     side: u8,
-    b: Bind,
-    a: Acting,
-    c: Conclusion,
-    p: Premises,
+    bind: Bind,
+    acting: Acting,
+    conclusion: Conclusion,
+    premises: Premises,
 ) -> bool
-    requires { ⌜ now ix ≡ indexOf (now s) ⌝ }
-    ensures { λ r. ⌜ r ≡ asked (now (s .entry)) side b a c p ⌝ }
+    requires { ⌜ now index ≡ indexOf (now image) ⌝ }
+    ensures { λ r. ⌜ r ≡ asked (now (image .entry)) side bind acting conclusion premises ⌝ }
 {
     if side == Side::NONE {
         return true;
     }
     if side == Side::BY_ROWS {
-        return by_names(s, ix, b);
+        return by_names(image, index, bind);
     }
     if side == Side::BY_TABLE {
-        return by_table(s, implications_of(c, p));
+        return by_table(image, implications_of(conclusion, premises));
     }
     if side == Side::START_VALUE {
-        let h = body_of(s, ix, 0);
-        return is_start(s, h, hole_of(b, 0), number_in(b, 4));
+        let header = body_of(image, index, 0);
+        return is_start(image, header, hole_of(bind, 0), number_in(bind, 4));
     }
     if side == Side::STARTS_AT_ZERO {
-        let h = body_of(s, ix, 0);
-        return is_cleared(h, number_in(b, 4));
+        let header = body_of(image, index, 0);
+        return is_cleared(header, number_in(bind, 4));
     }
-    of_instruction(s, side, b, a)
+    of_instruction(image, side, bind, acting)
 }

@@ -22,59 +22,59 @@ pub struct Position {
     pub left: usize,
 }
 
-pub fn hole_of(b: Bind, j: usize) -> Position
+pub fn hole_of(bind: Bind, j: usize) -> Position
     requires { ⌜ j < 5 ⌝ }
-    ensures { λ r. ⌜ r ≡ holeOf b j ⌝ }
+    ensures { λ r. ⌜ r ≡ holeOf bind j ⌝ }
 {
     Position {
-        at: b.at[j],
-        left: b.left[j] as usize,
+        at: bind.at[j],
+        left: bind.left[j] as usize,
     }
 }
 
 // The word is in no role in it, nor the result register of an exchange or a fetch-add.
-pub fn is_apart(s: &[u8], operation: u8, word: u8, register: u8, p: Position) -> bool
-    ensures { λ r. ⌜ r ≡ apart operation word register (treeOf (now (s .entry)) p) ⌝ }
+pub fn is_apart(image: &[u8], operation: u8, word: u8, register: u8, position: Position) -> bool
+    ensures { λ r. ⌜ r ≡ apart operation word register (treeOf (now (image .entry)) position) ⌝ }
 {
-    if has_word(s, p.at, p.left, word) {
+    if has_word(image, position.at, position.left, word) {
         return false;
     }
     if operation <= Instruction::BRANCH {
         return true;
     }
     if operation <= Instruction::FETCH_ADD {
-        return !has_register(s, p.at, p.left, register);
+        return !has_register(image, position.at, position.left, register);
     }
     true
 }
 
 // A load keeps what has not its register; a write what is apart from it.
-pub fn is_kept(s: &[u8], operation: u8, word: u8, register: u8, p: Position) -> bool
-    ensures { λ r. ⌜ r ≡ keeps operation word register (treeOf (now (s .entry)) p) ⌝ }
+pub fn is_kept(image: &[u8], operation: u8, word: u8, register: u8, position: Position) -> bool
+    ensures { λ r. ⌜ r ≡ keeps operation word register (treeOf (now (image .entry)) position) ⌝ }
 {
     if operation < Instruction::LOAD {
         return false;
     }
     if operation <= Instruction::ACQUIRE {
-        return !has_register(s, p.at, p.left, register);
+        return !has_register(image, position.at, position.left, register);
     }
     if operation == Instruction::BRANCH {
         return false;
     }
     if operation <= Instruction::FETCH_ADD {
-        return is_apart(s, operation, word, register, p);
+        return is_apart(image, operation, word, register, position);
     }
     false
 }
 
 // One name alone, by what replaces it.
-pub fn one_name(word: bool, number: u8, by: Replacing) -> Substitution
-    ensures { λ r. ⌜ r ≡ oneBy word number by ⌝ }
+pub fn one_name(word: bool, number: u8, replacing: Replacing) -> Substitution
+    ensures { λ r. ⌜ r ≡ oneBy word number replacing ⌝ }
 {
     Substitution {
         word,
         number,
-        by,
+        by: replacing,
         two: false,
         second: 0,
         with: Replacing::Word(0),
@@ -82,32 +82,52 @@ pub fn one_name(word: bool, number: u8, by: Replacing) -> Substitution
 }
 
 // The first formula is the second with names replaced.
-pub fn is_with(s: &[u8], p: Position, q: Position, w: Substitution) -> bool
-    ensures { λ r. ⌜ r ≡ isWith (now (s .entry)) w (treeOf (now (s .entry)) p) (treeOf (now (s .entry)) q) ⌝ }
+pub fn is_with(
+    image: &[u8],
+    position: Position,
+    other: Position,
+    substitution: Substitution,
+) -> bool
+    ensures { λ r. ⌜ r ≡ isWith (now (image .entry)) substitution (treeOf (now (image .entry)) position)
+        (treeOf (now (image .entry)) other) ⌝ }
 {
-    match replaced_at(s, q.at, q.left, p.at, p.left, w) {
+    match replaced_at(
+        image,
+        other.at,
+        other.left,
+        position.at,
+        position.left,
+        substitution,
+    ) {
         Same::No => false,
         Same::Yes(_, _) => true,
     }
 }
 
 // The first test is the second with the word replaced by the formula, and no flag of the word is in the second.
-pub fn is_stored(s: &[u8], p: Position, q: Position, word: u8, formula: usize) -> bool
-    ensures { λ r. ⌜ r ≡ storedBy (now (s .entry)) word formula (treeOf (now (s .entry)) p) (treeOf (now (s .entry)) q) ⌝ }
+pub fn is_stored(
+    image: &[u8],
+    position: Position,
+    other: Position,
+    word: u8,
+    formula: usize,
+) -> bool
+    ensures { λ r. ⌜ r ≡ storedBy (now (image .entry)) word formula (treeOf (now (image .entry)) position)
+        (treeOf (now (image .entry)) other) ⌝ }
 {
-    if has_flag(s, q.at, q.left, word) {
+    if has_flag(image, other.at, other.left, word) {
         return false;
     }
-    let w = one_name(true, word, Replacing::Formula(formula, Limits::NESTING));
-    is_with(s, p, q, w)
+    let substitution = one_name(true, word, Replacing::Formula(formula, Limits::NESTING));
+    is_with(image, position, other, substitution)
 }
 
 // The number in a hole; 0 where it has taken none.
-pub fn number_in(b: Bind, j: usize) -> usize
+pub fn number_in(bind: Bind, j: usize) -> usize
     requires { ⌜ j < 5 ⌝ }
-    ensures { λ r. ⌜ r ≡ numberIn b j ⌝ }
+    ensures { λ r. ⌜ r ≡ numberIn bind j ⌝ }
 {
-    let n = b.num[j] as usize;
+    let n = bind.num[j] as usize;
     if n == 0 {
         return 0;
     }
@@ -115,10 +135,16 @@ pub fn number_in(b: Bind, j: usize) -> usize
 }
 
 // The formula is the constant with which the word starts, by the header's body.
-pub fn is_start(s: &[u8], h: &[u8], p: Position, word: usize) -> bool
-    ensures { λ r. ⌜ r ≡ isStart (now (h .entry)) word (treeOf (now (s .entry)) p) ⌝ }
+pub fn is_start(image: &[u8], header: &[u8], position: Position, word: usize) -> bool
+    ensures { λ r. ⌜ r ≡ isStart (now (header .entry)) word (treeOf (now (image .entry)) position) ⌝ }
 {
-    match leaf_stands(s, Code::CONST, start_value(h, word), p.at, p.left) {
+    match leaf_stands(
+        image,
+        Code::CONST,
+        start_value(header, word),
+        position.at,
+        position.left,
+    ) {
         Same::No => false,
         Same::Yes(_, _) => true,
     }

@@ -39,13 +39,13 @@ pub fn opened_numbers(rights: &[u8]) -> [u32; Service::NUMBERS]
 }
 
 // The numbers behind stay.
-pub fn write_service(v: [u32; Service::NUMBERS], service: &mut [u32])
+pub fn write_service(numbers: [u32; Service::NUMBERS], service: &mut [u32])
     requires { ⌜ places ≤ length (now service) ⌝ }
-    ensures { λ _. ⌜ now (service .exit) ≡ v ++ drop places (now (service .entry)) ⌝ }
+    ensures { λ _. ⌜ now (service .exit) ≡ numbers ++ drop places (now (service .entry)) ⌝ }
 {
     let mut i: usize = 0;
     while i < Service::NUMBERS {
-        service[i] = v[i];
+        service[i] = numbers[i];
         i += 1;
     }
 }

@@ -18,73 +18,78 @@ impl Words {
 }
 
 // A node's word from the words of its parts: one operation for 64 rows.
-pub fn combine_word(code: u8, operand: u8, a: u64, b: u64) -> u64
-    ensures { λ r. ⌜ r ≡ wordOf code operand a b ⌝ }
+pub fn combine_word(code: u8, operand: u8, first: u64, second: u64) -> u64
+    ensures { λ r. ⌜ r ≡ wordOf code operand first second ⌝ }
 {
     match code {
         Code::CONST => if operand == 1 { Words::ALL } else { 0 },
-        Code::NOT => a ^ Words::ALL,
-        Code::AND => a & b,
-        Code::OR => a | b,
-        Code::BOTH_A => a & b,
-        Code::EITHER_A => a | b,
-        Code::HOLDS => a,
+        Code::NOT => first ^ Words::ALL,
+        Code::AND => first & second,
+        Code::OR => first | second,
+        Code::BOTH_A => first & second,
+        Code::EITHER_A => first | second,
+        Code::HOLDS => first,
         _ => 0,
     }
 }
 
-fn zip_words(code: u8, operand: u8, a: &mut [u64; Words::COUNT], b: &[u64; Words::COUNT])
-    requires { ⌜ length (now a) ≡ 16 ⌝ }
-    ensures { λ _. ⌜ now (a .exit) ≡ wordsOf code operand 16 (now (a .entry)) (now (b .entry)) ⌝ }
+fn zip_words(code: u8, operand: u8, bits: &mut [u64; Words::COUNT], other: &[u64; Words::COUNT])
+    requires { ⌜ length (now bits) ≡ 16 ⌝ }
+    ensures { λ _. ⌜ now (bits .exit) ≡ wordsOf code operand 16 (now (bits .entry)) (now (other .entry)) ⌝ }
 {
     let mut w: usize = 0;
     while w < Words::COUNT {
-        a[w] = combine_word(code, operand, a[w], b[w]);
+        bits[w] = combine_word(code, operand, bits[w], other[w]);
         w += 1;
     }
 }
 
 // A node's words from the words of its parts, in the place of the first's. (Each code is named in its call: the loop is made for it alone.)
-pub fn combine_words(code: u8, operand: u8, a: &mut [u64; Words::COUNT], b: &[u64; Words::COUNT])
-    requires { ⌜ length (now a) ≡ 16 ⌝ }
-    ensures { λ _. ⌜ now (a .exit) ≡ wordsOf code operand 16 (now (a .entry)) (now (b .entry)) ⌝ }
+pub fn combine_words(
+    code: u8,
+    operand: u8,
+    bits: &mut [u64; Words::COUNT],
+    other: &[u64; Words::COUNT],
+)
+    requires { ⌜ length (now bits) ≡ 16 ⌝ }
+    ensures { λ _. ⌜ now (bits .exit) ≡ wordsOf code operand 16 (now (bits .entry)) (now (other .entry)) ⌝ }
 {
     match code {
-        Code::NOT => zip_words(Code::NOT, operand, a, b),
-        Code::AND => zip_words(Code::AND, operand, a, b),
-        Code::OR => zip_words(Code::OR, operand, a, b),
-        Code::BOTH_A => zip_words(Code::BOTH_A, operand, a, b),
-        Code::EITHER_A => zip_words(Code::EITHER_A, operand, a, b),
-        _ => zip_words(code, operand, a, b),
+        Code::NOT => zip_words(Code::NOT, operand, bits, other),
+        Code::AND => zip_words(Code::AND, operand, bits, other),
+        Code::OR => zip_words(Code::OR, operand, bits, other),
+        Code::BOTH_A => zip_words(Code::BOTH_A, operand, bits, other),
+        Code::EITHER_A => zip_words(Code::EITHER_A, operand, bits, other),
+        _ => zip_words(code, operand, bits, other),
     }
 }
 
-fn deny_word(a: u64, b: u64) -> u64
-    ensures { λ r. ⌜ r ≡ denyWord a b ⌝ }
+fn deny_word(first: u64, second: u64) -> u64
+    ensures { λ r. ⌜ r ≡ denyWord first second ⌝ }
 {
-    a & (b ^ Words::ALL)
+    first & (second ^ Words::ALL)
 }
 
 // The rows that are in a and not in b.
-pub fn deny_words(a: &mut [u64; Words::COUNT], b: &[u64; Words::COUNT])
-    requires { ⌜ length (now a) ≡ 16 ⌝ }
-    ensures { λ _. ⌜ now (a .exit) ≡ denyWords 16 (now (a .entry)) (now (b .entry)) ⌝ }
+pub fn deny_words(bits: &mut [u64; Words::COUNT], other: &[u64; Words::COUNT])
+    requires { ⌜ length (now bits) ≡ 16 ⌝ }
+    ensures { λ _. ⌜ now (bits .exit) ≡ denyWords 16 (now (bits .entry)) (now (other .entry)) ⌝ }
 {
     let mut w: usize = 0;
     while w < Words::COUNT {
-        a[w] = deny_word(a[w], b[w]);
+        bits[w] = deny_word(bits[w], other[w]);
         w += 1;
     }
 }
 
 // The same word for all rows.
-pub fn fill_words(x: u64, out: &mut [u64; Words::COUNT])
+pub fn fill_words(word: u64, out: &mut [u64; Words::COUNT])
     requires { ⌜ length (now out) ≡ 16 ⌝ }
-    ensures { λ _. ⌜ now (out .exit) ≡ constant x 16 ⌝ }
+    ensures { λ _. ⌜ now (out .exit) ≡ constant word 16 ⌝ }
 {
     let mut w: usize = 0;
     while w < Words::COUNT {
-        out[w] = x;
+        out[w] = word;
         w += 1;
     }
 }
@@ -105,14 +110,14 @@ fn first_word(j: usize) -> u64
 }
 
 // A leaf's word: its digit in each of 64 rows. The first six leaves go through their values in each word, the others from word to word.
-fn leaf_word(j: usize, w: usize) -> u64
+fn leaf_word(j: usize, word: usize) -> u64
     requires { ⌜ j < 64 ⌝ }
-    ensures { λ r. ⌜ r ≡ leafWord j w ⌝ }
+    ensures { λ r. ⌜ r ≡ leafWord j word ⌝ }
 {
     if j < 6 {
         return first_word(j);
     }
-    if (w >> (j - 6)) & 1 == 1 {
+    if (word >> (j - 6)) & 1 == 1 {
         return Words::ALL;
     }
     0
@@ -130,19 +135,19 @@ pub fn leaf_words(j: usize, out: &mut [u64; Words::COUNT])
 }
 
 // So many rows have k leaves.
-pub fn rows_of(k: usize) -> usize
-    requires { ⌜ k ≤ 10 ⌝ }
-    ensures { λ r. ⌜ (r ≡ 2 ^ k) × (r ≤ 1024) ⌝ }
+pub fn rows_of(n: usize) -> usize
+    requires { ⌜ n ≤ 10 ⌝ }
+    ensures { λ r. ⌜ (r ≡ 2 ^ n) × (r ≤ 1024) ⌝ }
 {
-    1 << k
+    1 << n
 }
 
 // The rows of word w that are among the first n.
-pub fn mask_of(n: usize, w: usize) -> u64
-    requires { ⌜ (w < 16) × (n ≤ 1024) ⌝ }
-    ensures { λ r. ⌜ r ≡ maskOf n w ⌝ }
+pub fn mask_of(n: usize, word: usize) -> u64
+    requires { ⌜ (word < 16) × (n ≤ 1024) ⌝ }
+    ensures { λ r. ⌜ r ≡ maskOf n word ⌝ }
 {
-    let first = Words::ROWS * w;
+    let first = Words::ROWS * word;
     if first + Words::ROWS <= n {
         return Words::ALL;
     }
@@ -153,13 +158,13 @@ pub fn mask_of(n: usize, w: usize) -> u64
 }
 
 // Whether none of the first n rows is set.
-pub fn none_set(a: &[u64; Words::COUNT], n: usize) -> bool
+pub fn none_set(bits: &[u64; Words::COUNT], n: usize) -> bool
     requires { ⌜ n ≤ 1024 ⌝ }
-    ensures { λ r. ⌜ r ≡ noneSet (now (a .entry)) n 16 ⌝ }
+    ensures { λ r. ⌜ r ≡ noneSet (now (bits .entry)) n 16 ⌝ }
 {
     let mut w: usize = 0;
     while w < Words::COUNT {
-        if a[w] & mask_of(n, w) == 0 {
+        if bits[w] & mask_of(n, w) == 0 {
             w += 1;
         } else {
             return false;

@@ -36,7 +36,7 @@ impl TableCodes {
 
 // With the leaf at a position, if it is not there yet; and its bits.
 pub fn leaf_bits(
-    s: &[u8],
+    image: &[u8],
     at: usize,
     left: usize,
     n: usize,
@@ -44,20 +44,21 @@ pub fn leaf_bits(
     out: &mut [u64; Words::COUNT],
 ) -> usize
     requires { ⌜ (0 < left) × ((length (now slots) ≡ 36) × (length (now out) ≡ 16)) ⌝ }
-    ensures { λ r. ⌜ view (now (s .entry)) r (now (slots .exit)) ≡ putT (parseTree (now (s .entry)) left at .tree)
-        (view (now (s .entry)) n (now (slots .entry))) ⌝ }
+    ensures { λ r. ⌜ view (now (image .entry)) r (now (slots .exit)) ≡ putT (parseTree (now (image .entry)) left at .tree)
+        (view (now (image .entry)) n (now (slots .entry))) ⌝ }
     ensures { λ r. ⌜ Grown n (now (slots .entry)) r (now (slots .exit)) (now (out .exit)) ⌝ }
-    ensures { λ r. ⌜ LeafBits (now (s .entry)) r (now (slots .exit)) (parseTree (now (s .entry)) left at .tree) (now (out .exit)) ⌝ }
+    ensures { λ r. ⌜ LeafBits (now (image .entry)) r (now (slots .exit)) (parseTree (now (image .entry)) left at .tree) (now (out .exit))
+        ⌝ }
 {
     if Slots::COUNT < n {
         return n;
     }
-    let j = slot_within(s, at, left, slots, n);
+    let j = slot_within(image, at, left, slots, n);
     leaf_words(j, out);
     if j < n {
         return n;
     }
-    put_slot(n, leaf_slot(s, at, left), slots)
+    put_slot(n, leaf_slot(image, at, left), slots)
 }
 
 // The bits of a node without parts.
@@ -79,7 +80,7 @@ fn single_bits(code: u8, operand: u8, out: &mut [u64; Words::COUNT])
 
 // The bits of the formula at a position, nested at most `left` deep, with its leaves; answers how many leaves there are.
 pub fn table_at(
-    s: &[u8],
+    image: &[u8],
     at: usize,
     left: usize,
     n: usize,
@@ -87,32 +88,34 @@ pub fn table_at(
     out: &mut [u64; Words::COUNT],
 ) -> usize
     requires { ⌜ (length (now slots) ≡ 36) × (length (now out) ≡ 16) ⌝ }
-    ensures { λ r. ⌜ view (now (s .entry)) r (now (slots .exit)) ≡ gatherT (byLeaves .leaves) (parseTree (now (s .entry)) left at .tree)
-        (view (now (s .entry)) n (now (slots .entry))) ⌝ }
+    ensures { λ r. ⌜ view (now (image .entry)) r (now (slots .exit)) ≡ gatherT (byLeaves .leaves)
+        (parseTree (now (image .entry)) left at .tree)
+        (view (now (image .entry)) n (now (slots .entry))) ⌝ }
     ensures { λ r. ⌜ Grown n (now (slots .entry)) r (now (slots .exit)) (now (out .exit)) ⌝ }
-    ensures { λ r. ⌜ TreeBits (now (s .entry)) r (now (slots .exit)) (parseTree (now (s .entry)) left at .tree) (now (out .exit)) ⌝ }
+    ensures { λ r. ⌜ TreeBits (now (image .entry)) r (now (slots .exit)) (parseTree (now (image .entry)) left at .tree) (now (out .exit))
+        ⌝ }
 {
     if left == 0 {
         fill_words(0, out);
         return n;
     }
-    let x = node_at(s, at);
-    if contains(TableCodes::LEAVES, x.code) {
-        return leaf_bits(s, at, left, n, slots, out);
+    let node = node_at(image, at);
+    if contains(TableCodes::LEAVES, node.code) {
+        return leaf_bits(image, at, left, n, slots, out);
     }
-    if x.parts == 0 {
-        plain_bits(x.code, x.operand, out);
+    if node.parts == 0 {
+        plain_bits(node.code, node.operand, out);
         return n;
     }
-    if x.parts == 1 {
-        let k = table_at(s, x.next, left - 1, n, slots, out);
-        single_bits(x.code, x.operand, out);
+    if node.parts == 1 {
+        let k = table_at(image, node.next, left - 1, n, slots, out);
+        single_bits(node.code, node.operand, out);
         return k;
     }
-    let m = end_at(s, x.next, left - 1);
+    let m = end_at(image, node.next, left - 1);
     let mut b: [u64; Words::COUNT] = [0; Words::COUNT];
-    let k = table_at(s, m, left - 1, n, slots, &mut b);
-    let e = table_at(s, x.next, left - 1, k, slots, out);
-    combine_words(x.code, x.operand, out, &b);
+    let k = table_at(image, m, left - 1, n, slots, &mut b);
+    let e = table_at(image, node.next, left - 1, k, slots, out);
+    combine_words(node.code, node.operand, out, &b);
     e
 }

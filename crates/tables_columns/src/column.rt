@@ -7,42 +7,42 @@ ghost use lib.ListN.{length, take};
 ghost use Rattle.tables_columns.specs.Column.{combined, denyOf, denied, seenOf, noneBelow};
 
 // A loop with nothing in it but the one operation: the compiler makes it work on many rows at a time.
-fn zip_with(range: u8, code: u8, operand: u8, n: usize, a: &mut [u8], b: &[u8])
-    requires { ⌜ (n ≤ length (now a)) × (n ≤ length (now b)) ⌝ }
-    ensures { λ _. ⌜ take n (now (a .exit)) ≡ combined range code operand n (now (a .entry)) (now (b .entry)) ⌝ }
+fn zip_with(range: u8, code: u8, operand: u8, n: usize, column: &mut [u8], other: &[u8])
+    requires { ⌜ (n ≤ length (now column)) × (n ≤ length (now other)) ⌝ }
+    ensures { λ _. ⌜ take n (now (column .exit)) ≡ combined range code operand n (now (column .entry)) (now (other .entry)) ⌝ }
 {
     let mut i: usize = 0;
     while i < n {
-        a[i] = combine_parts(range, code, operand, a[i], b[i]);
+        column[i] = combine_parts(range, code, operand, column[i], other[i]);
         i += 1;
     }
 }
 
 // A node's column from the columns of its parts. (Each code is named in its call, so that the loop is made for it alone.)
-pub fn combine_columns(range: u8, code: u8, operand: u8, n: usize, a: &mut [u8], b: &[u8])
-    requires { ⌜ (n ≤ length (now a)) × (n ≤ length (now b)) ⌝ }
-    ensures { λ _. ⌜ take n (now (a .exit)) ≡ combined range code operand n (now (a .entry)) (now (b .entry)) ⌝ }
+pub fn combine_columns(range: u8, code: u8, operand: u8, n: usize, column: &mut [u8], other: &[u8])
+    requires { ⌜ (n ≤ length (now column)) × (n ≤ length (now other)) ⌝ }
+    ensures { λ _. ⌜ take n (now (column .exit)) ≡ combined range code operand n (now (column .entry)) (now (other .entry)) ⌝ }
 {
     match code {
-        Code::SUM => zip_with(range, Code::SUM, operand, n, a, b),
-        Code::EQUAL => zip_with(range, Code::EQUAL, operand, n, a, b),
-        Code::LESS => zip_with(range, Code::LESS, operand, n, a, b),
-        Code::NOT => zip_with(range, Code::NOT, operand, n, a, b),
-        Code::AND => zip_with(range, Code::AND, operand, n, a, b),
-        Code::OR => zip_with(range, Code::OR, operand, n, a, b),
-        Code::BOTH_A => zip_with(range, Code::BOTH_A, operand, n, a, b),
-        Code::EITHER_A => zip_with(range, Code::EITHER_A, operand, n, a, b),
-        Code::HOLDS => zip_with(range, Code::HOLDS, operand, n, a, b),
-        _ => zip_with(range, code, operand, n, a, b),
+        Code::SUM => zip_with(range, Code::SUM, operand, n, column, other),
+        Code::EQUAL => zip_with(range, Code::EQUAL, operand, n, column, other),
+        Code::LESS => zip_with(range, Code::LESS, operand, n, column, other),
+        Code::NOT => zip_with(range, Code::NOT, operand, n, column, other),
+        Code::AND => zip_with(range, Code::AND, operand, n, column, other),
+        Code::OR => zip_with(range, Code::OR, operand, n, column, other),
+        Code::BOTH_A => zip_with(range, Code::BOTH_A, operand, n, column, other),
+        Code::EITHER_A => zip_with(range, Code::EITHER_A, operand, n, column, other),
+        Code::HOLDS => zip_with(range, Code::HOLDS, operand, n, column, other),
+        _ => zip_with(range, code, operand, n, column, other),
     }
 }
 
 // 1 if a is 1 and b is not.
-fn deny(a: u8, b: u8) -> u8
-    ensures { λ r. ⌜ r ≡ denyOf a b ⌝ }
+fn deny(first: u8, second: u8) -> u8
+    ensures { λ r. ⌜ r ≡ denyOf first second ⌝ }
 {
-    if a == 1 {
-        if b == 1 {
+    if first == 1 {
+        if second == 1 {
             return 0;
         }
         return 1;
@@ -51,13 +51,13 @@ fn deny(a: u8, b: u8) -> u8
 }
 
 // The rows that are 1 in a and not in b.
-pub fn and_not(n: usize, a: &mut [u8], b: &[u8])
-    requires { ⌜ (n ≤ length (now a)) × (n ≤ length (now b)) ⌝ }
-    ensures { λ _. ⌜ take n (now (a .exit)) ≡ denied n (now (a .entry)) (now (b .entry)) ⌝ }
+pub fn and_not(n: usize, column: &mut [u8], other: &[u8])
+    requires { ⌜ (n ≤ length (now column)) × (n ≤ length (now other)) ⌝ }
+    ensures { λ _. ⌜ take n (now (column .exit)) ≡ denied n (now (column .entry)) (now (other .entry)) ⌝ }
 {
     let mut i: usize = 0;
     while i < n {
-        a[i] = deny(a[i], b[i]);
+        column[i] = deny(column[i], other[i]);
         i += 1;
     }
 }
@@ -70,14 +70,14 @@ fn seen(found: u8, value: u8) -> u8
 }
 
 // Whether none of the first n rows is 1. (All are looked at: the compiler takes many at a time, which is quicker than to stop.)
-pub fn none_below(a: &[u8], n: usize) -> bool
-    requires { ⌜ n ≤ length (now a) ⌝ }
-    ensures { λ r. ⌜ r ≡ noneBelow (now (a .entry)) n ⌝ }
+pub fn none_below(column: &[u8], n: usize) -> bool
+    requires { ⌜ n ≤ length (now column) ⌝ }
+    ensures { λ r. ⌜ r ≡ noneBelow (now (column .entry)) n ⌝ }
 {
     let mut found: u8 = 0;
     let mut i: usize = 0;
     while i < n {
-        found = seen(found, a[i]);
+        found = seen(found, column[i]);
         i += 1;
     }
     found == 0

@@ -5,35 +5,39 @@ ghost use Prim.Native.Nat.{_-_};
 ghost use Rattle.tables_columns.specs.Combine.{sumOf, combine};
 
 // What may be added without reaching the range.
-fn room_for(range: u8, b: u8) -> u8
-    ensures { λ r. ⌜ r ≡ range - b ⌝ }
+fn room_for(range: u8, number: u8) -> u8
+    ensures { λ r. ⌜ r ≡ range - number ⌝ }
 {
-    if b < range { range - b } else { 0 }
+    if number < range { range - number } else { 0 }
 }
 
 // The sum modulo the range, of values below it. (Without a division, and in bytes: the compiler works on many rows at a time.)
-pub fn sum_of(range: u8, a: u8, b: u8) -> u8
-    ensures { λ r. ⌜ r ≡ sumOf range a b ⌝ }
+pub fn sum_of(range: u8, first: u8, second: u8) -> u8
+    ensures { λ r. ⌜ r ≡ sumOf range first second ⌝ }
 {
-    let room = room_for(range, b);
-    if a < room { a + b } else { a - room }
+    let room = room_for(range, second);
+    if first < room {
+        first + second
+    } else {
+        first - room
+    }
 }
 
 // A node's value from the values of its parts.
-pub fn combine_parts(range: u8, code: u8, operand: u8, a: u8, b: u8) -> u8
-    ensures { λ r. ⌜ r ≡ combine range code operand a b ⌝ }
+pub fn combine_parts(range: u8, code: u8, operand: u8, first: u8, second: u8) -> u8
+    ensures { λ r. ⌜ r ≡ combine range code operand first second ⌝ }
 {
     match code {
         Code::CONST => operand,
-        Code::SUM => sum_of(range, a, b),
-        Code::EQUAL => if a == b { 1 } else { 0 },
-        Code::LESS => if a < b { 1 } else { 0 },
-        Code::NOT => if a == 1 { 0 } else { 1 },
-        Code::AND => if a == 1 { b } else { 0 },
-        Code::OR => if a == 1 { 1 } else { b },
-        Code::BOTH_A => if a == 1 { b } else { 0 },
-        Code::EITHER_A => if a == 1 { 1 } else { b },
-        Code::HOLDS => a,
+        Code::SUM => sum_of(range, first, second),
+        Code::EQUAL => if first == second { 1 } else { 0 },
+        Code::LESS => if first < second { 1 } else { 0 },
+        Code::NOT => if first == 1 { 0 } else { 1 },
+        Code::AND => if first == 1 { second } else { 0 },
+        Code::OR => if first == 1 { 1 } else { second },
+        Code::BOTH_A => if first == 1 { second } else { 0 },
+        Code::EITHER_A => if first == 1 { 1 } else { second },
+        Code::HOLDS => first,
         _ => 0,
     }
 }

@@ -29,13 +29,13 @@ pub fn choices_by(range: u8, code: usize) -> u8
 }
 
 // So many choices for a register or a word as there are values; two for any other leaf.
-pub fn choices(s: &[u8], range: u8, p: Slot) -> u8
-    ensures { λ r. ⌜ r ≡ choicesT range (slotTree (now (s .entry)) p) ⌝ }
+pub fn choices(image: &[u8], range: u8, slot: Slot) -> u8
+    ensures { λ r. ⌜ r ≡ choicesT range (slotTree (now (image .entry)) slot) ⌝ }
 {
-    if p.left == 0 {
-        return choices_by(range, p.place);
+    if slot.left == 0 {
+        return choices_by(range, slot.place);
     }
-    choices_by(range, node_at(s, p.place).code as usize)
+    choices_by(range, node_at(image, slot.place).code as usize)
 }
 
 // The product, or the limit and 1 if it is above the limit.
@@ -50,14 +50,20 @@ pub fn capped_product(n: u8, rows: u32, limit: u16) -> u32
 }
 
 // The number of rows of the first n slots; the limit and 1 if it is above the limit.
-pub fn count_rows(s: &[u8], slots: &[usize; Slots::NUMBERS], n: usize, range: u8, limit: u16) -> u32
+pub fn count_rows(
+    image: &[u8],
+    slots: &[usize; Slots::NUMBERS],
+    n: usize,
+    range: u8,
+    limit: u16,
+) -> u32
     requires { ⌜ n ≤ 12 ⌝ }
-    ensures { λ r. ⌜ r ≡ rowsUpTo (now (s .entry)) (now (slots .entry)) range limit n ⌝ }
+    ensures { λ r. ⌜ r ≡ rowsUpTo (now (image .entry)) (now (slots .entry)) range limit n ⌝ }
 {
     let mut rows: u32 = 1;
     let mut j: usize = 0;
     while j < n {
-        rows = capped_product(choices(s, range, slot_at(slots, j)), rows, limit);
+        rows = capped_product(choices(image, range, slot_at(slots, j)), rows, limit);
         j += 1;
     }
     rows

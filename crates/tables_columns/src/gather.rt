@@ -13,14 +13,14 @@ ghost use lib.ListN.{length};
 ghost use Rattle.tables_columns.specs.Gather.{countPut, slotPut, view, putT, gatherT};
 
 // With a leaf in the next slot, if there is one.
-pub fn put_slot(n: usize, p: Slot, slots: &mut [usize; Slots::NUMBERS]) -> usize
+pub fn put_slot(n: usize, slot: Slot, slots: &mut [usize; Slots::NUMBERS]) -> usize
     ensures { λ r. ⌜ r ≡ countPut n ⌝ }
-    ensures { λ _. ⌜ now (slots .exit) ≡ slotPut n p (now (slots .entry)) ⌝ }
+    ensures { λ _. ⌜ now (slots .exit) ≡ slotPut n slot (now (slots .entry)) ⌝ }
 {
     if n < Slots::COUNT {
-        slots[3 * n] = p.place;
-        slots[3 * n + 1] = p.operand;
-        slots[3 * n + 2] = p.left;
+        slots[3 * n] = slot.place;
+        slots[3 * n + 1] = slot.operand;
+        slots[3 * n + 2] = slot.left;
         return n + 1;
     }
     Slots::COUNT + 1
@@ -28,15 +28,15 @@ pub fn put_slot(n: usize, p: Slot, slots: &mut [usize; Slots::NUMBERS]) -> usize
 
 // With the leaf at a position, if it is not there yet.
 pub fn add_leaf(
-    s: &[u8],
+    image: &[u8],
     at: usize,
     left: usize,
     n: usize,
     slots: &mut [usize; Slots::NUMBERS],
 ) -> usize
     requires { ⌜ length (now slots) ≡ 36 ⌝ }
-    ensures { λ r. ⌜ view (now (s .entry)) r (now (slots .exit)) ≡ putT (parseTree (now (s .entry)) left at .tree)
-        (view (now (s .entry)) n (now (slots .entry))) ⌝ }
+    ensures { λ r. ⌜ view (now (image .entry)) r (now (slots .exit)) ≡ putT (parseTree (now (image .entry)) left at .tree)
+        (view (now (image .entry)) n (now (slots .entry))) ⌝ }
     ensures { λ _. ⌜ length (now (slots .exit)) ≡ 36 ⌝ }
 {
     if left == 0 {
@@ -45,15 +45,15 @@ pub fn add_leaf(
     if Slots::COUNT < n {
         return n;
     }
-    if slot_within(s, at, left, slots, n) < n {
+    if slot_within(image, at, left, slots, n) < n {
         return n;
     }
-    put_slot(n, leaf_slot(s, at, left), slots)
+    put_slot(n, leaf_slot(image, at, left), slots)
 }
 
 // With the leaves of the formula at a position: the nodes whose code is in the set.
 pub fn gather_at(
-    s: &[u8],
+    image: &[u8],
     at: usize,
     left: usize,
     set: u32,
@@ -61,24 +61,24 @@ pub fn gather_at(
     slots: &mut [usize; Slots::NUMBERS],
 ) -> usize
     requires { ⌜ length (now slots) ≡ 36 ⌝ }
-    ensures { λ r. ⌜ view (now (s .entry)) r (now (slots .exit)) ≡ gatherT set (parseTree (now (s .entry)) left at .tree)
-        (view (now (s .entry)) n (now (slots .entry))) ⌝ }
+    ensures { λ r. ⌜ view (now (image .entry)) r (now (slots .exit)) ≡ gatherT set (parseTree (now (image .entry)) left at .tree)
+        (view (now (image .entry)) n (now (slots .entry))) ⌝ }
     ensures { λ _. ⌜ length (now (slots .exit)) ≡ 36 ⌝ }
 {
     if left == 0 {
         return n;
     }
-    let x = node_at(s, at);
-    if contains(set, x.code) {
-        return add_leaf(s, at, left, n, slots);
+    let node = node_at(image, at);
+    if contains(set, node.code) {
+        return add_leaf(image, at, left, n, slots);
     }
-    if x.parts == 0 {
+    if node.parts == 0 {
         return n;
     }
-    if x.parts == 1 {
-        return gather_at(s, x.next, left - 1, set, n, slots);
+    if node.parts == 1 {
+        return gather_at(image, node.next, left - 1, set, n, slots);
     }
-    let m = end_at(s, x.next, left - 1);
-    let k = gather_at(s, m, left - 1, set, n, slots);
-    gather_at(s, x.next, left - 1, set, k, slots)
+    let m = end_at(image, node.next, left - 1);
+    let k = gather_at(image, m, left - 1, set, n, slots);
+    gather_at(image, node.next, left - 1, set, k, slots)
 }

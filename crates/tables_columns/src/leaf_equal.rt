@@ -34,11 +34,11 @@ fn one_fewer(n: usize) -> usize
     n - 1
 }
 
-fn step_by(t: Pair, due: usize) -> Step
+fn step_by(pair: Pair, due: usize) -> Step
     requires { ⌜ due ≤ 17 ⌝ }
-    ensures { λ r. ⌜ r ≡ stepOf t due ⌝ }
+    ensures { λ r. ⌜ r ≡ stepOf pair due ⌝ }
 {
-    match t {
+    match pair {
         Pair::Differ => Step {
             differ: true,
             first: 0,
@@ -66,58 +66,69 @@ fn step_by(t: Pair, due: usize) -> Step
     }
 }
 
-fn step_at(s: &[u8], p: usize, q: usize, due: usize) -> Step
+fn step_at(image: &[u8], at: usize, other_at: usize, due: usize) -> Step
     requires { ⌜ due ≤ 17 ⌝ }
-    ensures { λ r. ⌜ r ≡ stepOf (pairOf (nodeAt (now (s .entry)) p) (nodeAt (now (s .entry)) q)) due ⌝ }
+    ensures { λ r. ⌜ r ≡ stepOf (pairOf (nodeAt (now (image .entry)) at) (nodeAt (now (image .entry)) other_at)) due ⌝ }
 {
-    step_by(pair_nodes(node_at(s, p), node_at(s, q)), due)
+    step_by(
+        pair_nodes(node_at(image, at), node_at(image, other_at)),
+        due,
+    )
 }
 
 // As many nodes as neither formula can use up its nesting with.
-fn nodes_within(m: usize, k: usize) -> usize
-    ensures { λ r. ⌜ (r ≤ m) × ((r ≤ k) × (r ≤ 16)) ⌝ }
+fn nodes_within(left: usize, other_left: usize) -> usize
+    ensures { λ r. ⌜ (r ≤ left) × ((r ≤ other_left) × (r ≤ 16)) ⌝ }
 {
-    if m < Walk::NODES {
-        if m < k {
-            return m;
+    if left < Walk::NODES {
+        if left < other_left {
+            return left;
         }
-        return k;
+        return other_left;
     }
-    if k < Walk::NODES {
-        return k;
+    if other_left < Walk::NODES {
+        return other_left;
     }
     Walk::NODES
 }
 
 // The same by their parts, however many nodes there are.
-fn same_parts(s: &[u8], a: usize, m: usize, b: usize, k: usize) -> bool
-    ensures { λ r. ⌜ r ≡ sameTree (parseTree (now (s .entry)) m a .tree) (parseTree (now (s .entry)) k b .tree) ⌝ }
+fn same_parts(image: &[u8], at: usize, left: usize, other_at: usize, other_left: usize) -> bool
+    ensures { λ r. ⌜ r ≡ sameTree (parseTree (now (image .entry)) left at .tree)
+        (parseTree (now (image .entry)) other_left other_at .tree) ⌝ }
 {
-    match same_at(s, a, m, b, k) {
+    match same_at(image, at, left, other_at, other_left) {
         Same::Yes(_, _) => true,
         Same::No => false,
     }
 }
 
 // Whether the formulas at a, nested at most m deep, and at b, nested at most k deep, are the same.
-pub fn same_leaf(s: &[u8], a: usize, m: usize, b: usize, k: usize) -> bool
-    ensures { λ r. ⌜ r ≡ sameTree (parseTree (now (s .entry)) m a .tree) (parseTree (now (s .entry)) k b .tree) ⌝ }
+pub fn same_leaf(
+    image: &[u8],
+    at: usize,
+    at_left: usize,
+    other_at: usize,
+    other_left: usize,
+) -> bool
+    ensures { λ r. ⌜ r ≡ sameTree (parseTree (now (image .entry)) at_left at .tree)
+        (parseTree (now (image .entry)) other_left other_at .tree) ⌝ }
 {
-    let mut p = a;
-    let mut q = b;
+    let mut p = at;
+    let mut q = other_at;
     let mut due: usize = 1;
-    let mut left = nodes_within(m, k);
+    let mut left = nodes_within(at_left, other_left);
     while 0 < due {
         if left == 0 {
-            return same_parts(s, a, m, b, k);
+            return same_parts(image, at, at_left, other_at, other_left);
         }
-        let x = step_at(s, p, q, due);
-        if x.differ {
+        let step = step_at(image, p, q, due);
+        if step.differ {
             return false;
         }
-        p = x.first;
-        q = x.second;
-        due = x.due;
+        p = step.first;
+        q = step.second;
+        due = step.due;
         left -= 1;
     }
     true

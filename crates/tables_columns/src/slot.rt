@@ -25,21 +25,21 @@ pub struct Slot {
     pub left: usize,
 }
 
-fn wide(x: u8) -> usize
-    ensures { λ r. ⌜ r ≡ x ⌝ }
+fn wide(byte: u8) -> usize
+    ensures { λ r. ⌜ r ≡ byte ⌝ }
 {
-    x as usize
+    byte as usize
 }
 
 // The slot for the formula at a position.
-pub fn leaf_slot(s: &[u8], at: usize, left: usize) -> Slot
-    ensures { λ r. ⌜ r ≡ leafSlot (now (s .entry)) at left ⌝ }
+pub fn leaf_slot(image: &[u8], at: usize, left: usize) -> Slot
+    ensures { λ r. ⌜ r ≡ leafSlot (now (image .entry)) at left ⌝ }
 {
-    let x = node_at(s, at);
-    if x.parts == 0 {
+    let node = node_at(image, at);
+    if node.parts == 0 {
         return Slot {
-            place: wide(x.code),
-            operand: wide(x.operand),
+            place: wide(node.code),
+            operand: wide(node.operand),
             left: 0,
         };
     }
@@ -62,13 +62,13 @@ pub fn slot_at(slots: &[usize; Slots::NUMBERS], j: usize) -> Slot
 }
 
 // Whether the formula at a position, whose root is x, is the one in the slot.
-pub fn same_slot(s: &[u8], at: usize, left: usize, x: Node, p: Slot) -> bool
-    ensures { λ r. ⌜ r ≡ sameSlot (now (s .entry)) at left x p ⌝ }
+pub fn same_slot(image: &[u8], at: usize, left: usize, node: Node, slot: Slot) -> bool
+    ensures { λ r. ⌜ r ≡ sameSlot (now (image .entry)) at left node slot ⌝ }
 {
-    if p.left == 0 {
-        if wide(x.code) == p.place {
-            if wide(x.operand) == p.operand {
-                if x.parts == 0 {
+    if slot.left == 0 {
+        if wide(node.code) == slot.place {
+            if wide(node.operand) == slot.operand {
+                if node.parts == 0 {
                     return true;
                 }
                 return left == 1;
@@ -76,39 +76,39 @@ pub fn same_slot(s: &[u8], at: usize, left: usize, x: Node, p: Slot) -> bool
         }
         return false;
     }
-    if p.place == at {
-        if p.left == left {
+    if slot.place == at {
+        if slot.left == left {
             return true;
         }
     }
-    same_leaf(s, at, left, p.place, p.left)
+    same_leaf(image, at, left, slot.place, slot.left)
 }
 
 // Whether a leaf without parts is the one in the slot.
-pub fn same_plain(s: &[u8], code: u8, operand: u8, p: Slot) -> bool
-    ensures { λ r. ⌜ r ≡ samePlain (now (s .entry)) code operand p ⌝ }
+pub fn same_plain(image: &[u8], code: u8, operand: u8, slot: Slot) -> bool
+    ensures { λ r. ⌜ r ≡ samePlain (now (image .entry)) code operand slot ⌝ }
 {
-    if p.left == 0 {
-        if wide(code) == p.place {
-            return wide(operand) == p.operand;
+    if slot.left == 0 {
+        if wide(code) == slot.place {
+            return wide(operand) == slot.operand;
         }
         return false;
     }
-    let y = node_at(s, p.place);
-    if code == y.code {
-        return operand == y.operand;
+    let other = node_at(image, slot.place);
+    if code == other.code {
+        return operand == other.operand;
     }
     false
 }
 
 // The first slot with a leaf without parts; Slots::COUNT if there is none.
-pub fn plain_slot(s: &[u8], code: u8, operand: u8, slots: &[usize; Slots::NUMBERS]) -> usize
+pub fn plain_slot(image: &[u8], code: u8, operand: u8, slots: &[usize; Slots::NUMBERS]) -> usize
     requires { ⌜ partCount code ≡ 0 ⌝ }
-    ensures { λ r. ⌜ r ≡ slotOf (now (s .entry)) (now (slots .entry)) (node code operand none none) ⌝ }
+    ensures { λ r. ⌜ r ≡ slotOf (now (image .entry)) (now (slots .entry)) (node code operand none none) ⌝ }
 {
     let mut j: usize = 0;
     while j < Slots::COUNT {
-        if same_plain(s, code, operand, slot_at(slots, j)) {
+        if same_plain(image, code, operand, slot_at(slots, j)) {
             return j;
         } else {
             j += 1;
@@ -119,19 +119,19 @@ pub fn plain_slot(s: &[u8], code: u8, operand: u8, slots: &[usize; Slots::NUMBER
 
 // The first of n slots with the formula at a position; n if there is none.
 pub fn slot_within(
-    s: &[u8],
+    image: &[u8],
     at: usize,
     left: usize,
     slots: &[usize; Slots::NUMBERS],
     n: usize,
 ) -> usize
     requires { ⌜ (n ≤ 12) × (0 < left) ⌝ }
-    ensures { λ r. ⌜ r ≡ slotWithin (now (s .entry)) (now (slots .entry)) n (parseTree (now (s .entry)) left at .tree) ⌝ }
+    ensures { λ r. ⌜ r ≡ slotWithin (now (image .entry)) (now (slots .entry)) n (parseTree (now (image .entry)) left at .tree) ⌝ }
 {
-    let x = node_at(s, at);
+    let node = node_at(image, at);
     let mut j: usize = 0;
     while j < n {
-        if same_slot(s, at, left, x, slot_at(slots, j)) {
+        if same_slot(image, at, left, node, slot_at(slots, j)) {
             return j;
         } else {
             j += 1;
@@ -141,11 +141,11 @@ pub fn slot_within(
 }
 
 // The first slot with the formula at a position; Slots::COUNT if there is none.
-pub fn slot_of(s: &[u8], at: usize, left: usize, slots: &[usize; Slots::NUMBERS]) -> usize
-    ensures { λ r. ⌜ r ≡ slotOf (now (s .entry)) (now (slots .entry)) (parseTree (now (s .entry)) left at .tree) ⌝ }
+pub fn slot_of(image: &[u8], at: usize, left: usize, slots: &[usize; Slots::NUMBERS]) -> usize
+    ensures { λ r. ⌜ r ≡ slotOf (now (image .entry)) (now (slots .entry)) (parseTree (now (image .entry)) left at .tree) ⌝ }
 {
     if left == 0 {
         return Slots::COUNT;
     }
-    slot_within(s, at, left, slots, Slots::COUNT)
+    slot_within(image, at, left, slots, Slots::COUNT)
 }

@@ -6,16 +6,16 @@ ghost use lib.ListN.{length, take};
 ghost use Rattle.tables_columns.specs.Column.{constant};
 ghost use Rattle.tables_digits.specs.SlotColumn.{Widened};
 
-pub fn wide(x: u8) -> usize
-    ensures { λ r. ⌜ (r ≡ x) × (r < 256) ⌝ }
+pub fn wide(byte: u8) -> usize
+    ensures { λ r. ⌜ (r ≡ byte) × (r < 256) ⌝ }
 {
-    x as usize
+    byte as usize
 }
 
-pub fn lesser(a: usize, b: usize) -> usize
-    ensures { λ r. ⌜ r ≡ min a b ⌝ }
+pub fn lesser(first: usize, second: usize) -> usize
+    ensures { λ r. ⌜ r ≡ min first second ⌝ }
 {
-    if a < b { a } else { b }
+    if first < second { first } else { second }
 }
 
 // A value behind the first rows, so many times.

@@ -42,10 +42,10 @@ pub struct Reached {
 
 // The column of a formula without parts, as far as its values come again; answers how many slots they go by.
 fn plain_column(
-    s: &[u8],
+    image: &[u8],
     code: u8,
     operand: u8,
-    w: Reading,
+    reading: Reading,
     slots: &[usize; Slots::NUMBERS],
     lasts: &[u8; Slots::COUNT],
     n: usize,
@@ -53,17 +53,18 @@ fn plain_column(
 ) -> usize
     requires { ⌜ partCount code ≡ 0 ⌝ }
     requires { ⌜ (n ≤ 4096) × (n ≤ length (now out)) ⌝ }
-    ensures { λ r. ⌜ r ≡ levelOf (now (s .entry)) w (now (slots .entry)) (node code operand none none) ⌝ }
-    ensures { λ _. ⌜ take (spanT (now (s .entry)) w (now (slots .entry)) (now (lasts .entry)) n (node code operand none none))
-        (now (out .exit)) ≡ columnOf (now (s .entry)) w (now (slots .entry)) (now (lasts .entry))
-        (spanT (now (s .entry)) w (now (slots .entry)) (now (lasts .entry)) n (node code operand none none)) (node code operand none none)
+    ensures { λ r. ⌜ r ≡ levelOf (now (image .entry)) reading (now (slots .entry)) (node code operand none none) ⌝ }
+    ensures { λ _. ⌜ take (spanT (now (image .entry)) reading (now (slots .entry)) (now (lasts .entry)) n (node code operand none none))
+        (now (out .exit)) ≡ columnOf (now (image .entry)) reading (now (slots .entry)) (now (lasts .entry))
+        (spanT (now (image .entry)) reading (now (slots .entry)) (now (lasts .entry)) n (node code operand none none))
+        (node code operand none none)
         ⌝ }
 {
-    if contains(w.leaves, code) {
-        return take_slot(lasts, plain_slot(s, code, operand, slots), n, out);
+    if contains(reading.leaves, code) {
+        return take_slot(lasts, plain_slot(image, code, operand, slots), n, out);
     }
     fill(
-        combine_parts(w.range, code, operand, 0, 0),
+        combine_parts(reading.range, code, operand, 0, 0),
         span_of(lasts, 0, n),
         out,
     );
@@ -72,20 +73,21 @@ fn plain_column(
 
 // Whether there is nothing to combine at a position: no nesting is left, a formula without parts, or a leaf. If so, its column.
 fn leaf_column(
-    s: &[u8],
+    image: &[u8],
     at: usize,
     left: usize,
-    w: Reading,
+    reading: Reading,
     slots: &[usize; Slots::NUMBERS],
     lasts: &[u8; Slots::COUNT],
     n: usize,
     out: &mut [u8],
 ) -> Met
     requires { ⌜ (n ≤ 4096) × (n ≤ length (now out)) ⌝ }
-    ensures { λ r. ⌜ r ≡ metAt (now (s .entry)) w (now (slots .entry)) left at ⌝ }
-    ensures { λ _. ⌜ take (spanT (now (s .entry)) w (now (slots .entry)) (now (lasts .entry)) n (parseTree (now (s .entry)) left at .tree))
-        (now (out .exit)) ≡ leafColumn (now (s .entry)) w (now (slots .entry)) (now (lasts .entry))
-        (spanT (now (s .entry)) w (now (slots .entry)) (now (lasts .entry)) n (parseTree (now (s .entry)) left at .tree)) left
+    ensures { λ r. ⌜ r ≡ metAt (now (image .entry)) reading (now (slots .entry)) left at ⌝ }
+    ensures { λ _. ⌜ take (spanT (now (image .entry)) reading (now (slots .entry)) (now (lasts .entry)) n
+        (parseTree (now (image .entry)) left at .tree))
+        (now (out .exit)) ≡ leafColumn (now (image .entry)) reading (now (slots .entry)) (now (lasts .entry))
+        (spanT (now (image .entry)) reading (now (slots .entry)) (now (lasts .entry)) n (parseTree (now (image .entry)) left at .tree)) left
         at (now (out .entry)) ⌝ }
 {
     if left == 0 {
@@ -95,13 +97,22 @@ fn leaf_column(
             level: 0,
         };
     }
-    let x = node_at(s, at);
-    if x.parts == 0 {
-        let level = plain_column(s, x.code, x.operand, w, slots, lasts, n, out);
+    let node = node_at(image, at);
+    if node.parts == 0 {
+        let level = plain_column(
+            image,
+            node.code,
+            node.operand,
+            reading,
+            slots,
+            lasts,
+            n,
+            out,
+        );
         return Met { leaf: true, level };
     }
-    if contains(w.leaves, x.code) {
-        let level = take_slot(lasts, slot_of(s, at, left, slots), n, out);
+    if contains(reading.leaves, node.code) {
+        let level = take_slot(lasts, slot_of(image, at, left, slots), n, out);
         return Met { leaf: true, level };
     }
     Met {
@@ -111,11 +122,12 @@ fn leaf_column(
 }
 
 // A node's column, in the place of its first part's.
-fn combine_node(w: Reading, x: Node, n: usize, a: &mut [u8], b: &[u8])
-    requires { ⌜ (n ≤ length (now a)) × (n ≤ length (now b)) ⌝ }
-    ensures { λ _. ⌜ take n (now (a .exit)) ≡ combined (w .range) (x .code) (x .operand) n (now (a .entry)) (now (b .entry)) ⌝ }
+fn combine_node(reading: Reading, node: Node, n: usize, column: &mut [u8], other: &[u8])
+    requires { ⌜ (n ≤ length (now column)) × (n ≤ length (now other)) ⌝ }
+    ensures { λ _. ⌜ take n (now (column .exit)) ≡ combined (reading .range) (node .code) (node .operand) n (now (column .entry))
+        (now (other .entry)) ⌝ }
 {
-    combine_columns(w.range, x.code, x.operand, n, a, b);
+    combine_columns(reading.range, node.code, node.operand, n, column, other);
 }
 
 fn greater(i: usize, j: usize) -> usize
@@ -138,24 +150,25 @@ fn widen_level(lasts: &[u8; Slots::COUNT], i: usize, level: usize, n: usize, out
 
 // A node's column from those of its parts, of which i and j slots decide: as far as the values of both come again.
 fn join_columns(
-    w: Reading,
-    x: Node,
+    reading: Reading,
+    node: Node,
     lasts: &[u8; Slots::COUNT],
     n: usize,
     i: usize,
     j: usize,
-    a: &mut [u8],
-    b: &mut [u8],
+    column: &mut [u8],
+    other: &mut [u8],
 ) -> usize
     requires { ⌜ (i ≤ 12) × ((j ≤ 12) × (n ≤ 4096)) ⌝ }
-    requires { ⌜ (n ≤ length (now a)) × (n ≤ length (now b)) ⌝ }
+    requires { ⌜ (n ≤ length (now column)) × (n ≤ length (now other)) ⌝ }
     ensures { λ r. ⌜ r ≡ max i j ⌝ }
-    ensures { λ _. ⌜ Joined (w .range) x n (now (lasts .entry)) i j (now (a .entry)) (now (b .entry)) (now (a .exit)) ⌝ }
+    ensures { λ _. ⌜ Joined (reading .range) node n (now (lasts .entry)) i j (now (column .entry)) (now (other .entry))
+        (now (column .exit)) ⌝ }
 {
     let level = greater(i, j);
-    widen_level(lasts, i, level, n, a);
-    widen_level(lasts, j, level, n, b);
-    combine_node(w, x, span_of(lasts, level, n), a, b);
+    widen_level(lasts, i, level, n, column);
+    widen_level(lasts, j, level, n, other);
+    combine_node(reading, node, span_of(lasts, level, n), column, other);
     level
 }
 
@@ -174,59 +187,60 @@ fn second_left(parts: u8, left: usize) -> usize
 
 // The column of the formula at a position, nested at most `left` deep, as far as its values come again.
 fn column_at(
-    s: &[u8],
+    image: &[u8],
     at: usize,
     left: usize,
-    w: Reading,
+    reading: Reading,
     slots: &[usize; Slots::NUMBERS],
     lasts: &[u8; Slots::COUNT],
     n: usize,
     out: &mut [u8],
 ) -> Reached
     requires { ⌜ (n ≤ 4096) × (n ≤ length (now out)) ⌝ }
-    ensures { λ r. ⌜ r ≡ reachedAt (now (s .entry)) w (now (slots .entry)) left at ⌝ }
-    ensures { λ _. ⌜ take (spanT (now (s .entry)) w (now (slots .entry)) (now (lasts .entry)) n (parseTree (now (s .entry)) left at .tree))
-        (now (out .exit)) ≡ columnOf (now (s .entry)) w (now (slots .entry)) (now (lasts .entry))
-        (spanT (now (s .entry)) w (now (slots .entry)) (now (lasts .entry)) n (parseTree (now (s .entry)) left at .tree))
-        (parseTree (now (s .entry)) left at .tree) ⌝ }
+    ensures { λ r. ⌜ r ≡ reachedAt (now (image .entry)) reading (now (slots .entry)) left at ⌝ }
+    ensures { λ _. ⌜ take (spanT (now (image .entry)) reading (now (slots .entry)) (now (lasts .entry)) n
+        (parseTree (now (image .entry)) left at .tree))
+        (now (out .exit)) ≡ columnOf (now (image .entry)) reading (now (slots .entry)) (now (lasts .entry))
+        (spanT (now (image .entry)) reading (now (slots .entry)) (now (lasts .entry)) n (parseTree (now (image .entry)) left at .tree))
+        (parseTree (now (image .entry)) left at .tree) ⌝ }
 {
-    let f = leaf_column(s, at, left, w, slots, lasts, n, out);
+    let f = leaf_column(image, at, left, reading, slots, lasts, n, out);
     if f.leaf {
         return Reached {
-            end: end_at(s, at, left),
+            end: end_at(image, at, left),
             level: f.level,
         };
     }
-    let x = node_at(s, at);
-    let p = column_at(s, x.next, left - 1, w, slots, lasts, n, out);
-    let rest = second_left(x.parts, left);
+    let node = node_at(image, at);
+    let p = column_at(image, node.next, left - 1, reading, slots, lasts, n, out);
+    let rest = second_left(node.parts, left);
     if n <= Block::FEW {
         let mut b: [u8; Block::FEW] = [0; Block::FEW];
-        let e = column_at(s, p.end, rest, w, slots, lasts, n, &mut b);
-        let level = join_columns(w, x, lasts, n, p.level, e.level, out, &mut b);
+        let e = column_at(image, p.end, rest, reading, slots, lasts, n, &mut b);
+        let level = join_columns(reading, node, lasts, n, p.level, e.level, out, &mut b);
         return Reached { end: e.end, level };
     }
     let mut b: [u8; Block::ROWS] = [0; Block::ROWS];
-    let e = column_at(s, p.end, rest, w, slots, lasts, n, &mut b);
-    let level = join_columns(w, x, lasts, n, p.level, e.level, out, &mut b);
+    let e = column_at(image, p.end, rest, reading, slots, lasts, n, &mut b);
+    let level = join_columns(reading, node, lasts, n, p.level, e.level, out, &mut b);
     Reached { end: e.end, level }
 }
 
 // The column of the formula at a position, for all rows.
 pub fn whole_column(
-    s: &[u8],
+    image: &[u8],
     at: usize,
     left: usize,
-    w: Reading,
+    reading: Reading,
     slots: &[usize; Slots::NUMBERS],
     lasts: &[u8; Slots::COUNT],
     n: usize,
     out: &mut [u8],
 )
     requires { ⌜ (n ≤ 4096) × (n ≤ length (now out)) ⌝ }
-    ensures { λ _. ⌜ take n (now (out .exit)) ≡ columnOf (now (s .entry)) w (now (slots .entry)) (now (lasts .entry)) n
-        (parseTree (now (s .entry)) left at .tree) ⌝ }
+    ensures { λ _. ⌜ take n (now (out .exit)) ≡ columnOf (now (image .entry)) reading (now (slots .entry)) (now (lasts .entry)) n
+        (parseTree (now (image .entry)) left at .tree) ⌝ }
 {
-    let p = column_at(s, at, left, w, slots, lasts, n, out);
+    let p = column_at(image, at, left, reading, slots, lasts, n, out);
     widen(span_of(lasts, p.level, n), n, out);
 }

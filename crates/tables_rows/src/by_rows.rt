@@ -29,24 +29,32 @@ impl LeafCodes {
 }
 
 // Whether the test at b is true wherever the one at a is.
-pub fn by_rows(s: &[u8], a: usize, m: usize, b: usize, k: usize, range: u8) -> bool
-    ensures { λ r. ⌜ r ≡ rowsT range (parseTree (now (s .entry)) m a .tree) (parseTree (now (s .entry)) k b .tree) ⌝ }
+pub fn by_rows(
+    image: &[u8],
+    at: usize,
+    left: usize,
+    other_at: usize,
+    other_left: usize,
+    range: u8,
+) -> bool
+    ensures { λ r. ⌜ r ≡ rowsT range (parseTree (now (image .entry)) left at .tree)
+        (parseTree (now (image .entry)) other_left other_at .tree) ⌝ }
 {
     if range < 2 {
         return false;
     }
-    let lefts = [a, 0, 0, 0, 0];
-    let rights = [b, 0, 0, 0, 0];
-    let t = Task {
+    let lefts = [at, 0, 0, 0, 0];
+    let rights = [other_at, 0, 0, 0, 0];
+    let task = Task {
         premises: 0,
-        left: m,
-        right: k,
+        left: left,
+        right: other_left,
     };
-    let w = Reading {
+    let reading = Reading {
         leaves: LeafCodes::NAMES,
         range,
     };
-    every_row(s, &lefts, &rights, t, w, Limits::ROWS as u16)
+    every_row(image, &lefts, &rights, task, reading, Limits::ROWS as u16)
 }
 
 fn one_less(n: usize) -> usize
@@ -59,15 +67,15 @@ fn one_less(n: usize) -> usize
 }
 
 // Whether the line is true in each row of the truth table in which every premise is.
-pub fn by_table(s: &[u8], imps: Implications) -> bool
-    ensures { λ r. ⌜ r ≡ tableT (premisesOf (now (s .entry)) imps) (lineOf (now (s .entry)) imps) ⌝ }
+pub fn by_table(image: &[u8], imps: Implications) -> bool
+    ensures { λ r. ⌜ r ≡ tableT (premisesOf (now (image .entry)) imps) (lineOf (now (image .entry)) imps) ⌝ }
 {
     let lefts = imps.left;
     let rights = imps.right;
-    let t = Task {
+    let task = Task {
         premises: one_less(imps.count),
         left: Limits::NESTING,
         right: Limits::NESTING,
     };
-    by_bits(s, &lefts, &rights, t)
+    by_bits(image, &lefts, &rights, task)
 }

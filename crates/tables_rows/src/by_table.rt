@@ -22,85 +22,90 @@ ghost use Rattle.tables_rows.specs.ByTable.{ImpBits, FailBits};
 
 // The rows at which an implication fails, with its leaves; answers how many leaves there are.
 fn imp_bits(
-    s: &[u8],
+    image: &[u8],
     lefts: &[usize],
     rights: &[usize],
-    t: Task,
+    task: Task,
     i: usize,
     n: usize,
     slots: &mut [usize; Slots::NUMBERS],
     out: &mut [u64; Words::COUNT],
 ) -> usize
     requires { ⌜ (length (now slots) ≡ 36) × (length (now out) ≡ 16) ⌝ }
-    ensures { λ r. ⌜ view (now (s .entry)) r (now (slots .exit)) ≡ gatherImp (byLeaves .leaves)
-        (impOf (now (s .entry)) (now (lefts .entry)) (now (rights .entry)) t i) (view (now (s .entry)) n (now (slots .entry))) ⌝ }
+    ensures { λ r. ⌜ view (now (image .entry)) r (now (slots .exit)) ≡ gatherImp (byLeaves .leaves)
+        (impOf (now (image .entry)) (now (lefts .entry)) (now (rights .entry)) task i) (view (now (image .entry)) n (now (slots .entry)))
+        ⌝ }
     ensures { λ r. ⌜ Grown n (now (slots .entry)) r (now (slots .exit)) (now (out .exit)) ⌝ }
-    ensures { λ r. ⌜ ImpBits (now (s .entry)) r (now (slots .exit)) (impOf (now (s .entry)) (now (lefts .entry)) (now (rights .entry)) t i)
+    ensures { λ r. ⌜ ImpBits (now (image .entry)) r (now (slots .exit))
+        (impOf (now (image .entry)) (now (lefts .entry)) (now (rights .entry)) task i)
         (now (out .exit)) ⌝ }
 {
     let mut b: [u64; Words::COUNT] = [0; Words::COUNT];
-    let m = table_at(s, number_at(rights, i), t.right, n, slots, &mut b);
-    let k = table_at(s, number_at(lefts, i), t.left, m, slots, out);
+    let m = table_at(image, number_at(rights, i), task.right, n, slots, &mut b);
+    let k = table_at(image, number_at(lefts, i), task.left, m, slots, out);
     deny_words(out, &b);
     k
 }
 
 // The rows at which the entailment fails, with its leaves: the line does, and every premise is true.
 fn all_bits(
-    s: &[u8],
+    image: &[u8],
     lefts: &[usize],
     rights: &[usize],
-    t: Task,
+    task: Task,
     slots: &mut [usize; Slots::NUMBERS],
     out: &mut [u64; Words::COUNT],
 ) -> usize
     requires { ⌜ (length (now slots) ≡ 36) × (length (now out) ≡ 16) ⌝ }
-    ensures { λ r. ⌜ view (now (s .entry)) r (now (slots .exit)) ≡ gatherAll (now (s .entry)) (now (lefts .entry)) (now (rights .entry)) t
+    ensures { λ r. ⌜ view (now (image .entry)) r (now (slots .exit)) ≡ gatherAll (now (image .entry)) (now (lefts .entry))
+        (now (rights .entry)) task
         (byLeaves .leaves) ⌝ }
-    ensures { λ r. ⌜ FailBits (now (s .entry)) (now (lefts .entry)) (now (rights .entry)) t r (now (slots .exit)) (now (out .exit)) ⌝ }
+    ensures { λ r. ⌜ FailBits (now (image .entry)) (now (lefts .entry)) (now (rights .entry)) task r (now (slots .exit)) (now (out .exit))
+        ⌝ }
 {
     let mut holds: [u64; Words::COUNT] = [Words::ALL; Words::COUNT];
     let mut n: usize = 0;
-    let mut i = t.premises;
+    let mut i = task.premises;
     while 0 < i {
         let mut fails: [u64; Words::COUNT] = [0; Words::COUNT];
-        n = imp_bits(s, lefts, rights, t, i, n, slots, &mut fails);
+        n = imp_bits(image, lefts, rights, task, i, n, slots, &mut fails);
         deny_words(&mut holds, &fails);
         i -= 1;
     }
-    let k = imp_bits(s, lefts, rights, t, 0, n, slots, out);
+    let k = imp_bits(image, lefts, rights, task, 0, n, slots, out);
     combine_words(Code::AND, 0, out, &holds);
     k
 }
 
 // Whether the entailment fails at no row: every choice for the first k slots is tried exactly once, and no other row.
 fn bits_hold(
-    s: &[u8],
+    image: &[u8],
     lefts: &[usize],
     rights: &[usize],
-    t: Task,
+    task: Task,
     slots: &[usize; Slots::NUMBERS],
-    k: usize,
+    n: usize,
     fails: &[u64; Words::COUNT],
 ) -> bool
-    requires { ⌜ k ≤ 10 ⌝ }
-    requires { ⌜ FailBits (now s) (now lefts) (now rights) t k (now slots) (now fails) ⌝ }
-    ensures { λ r. ⌜ r ≡ rowsHold (now (s .entry)) (now (lefts .entry)) (now (rights .entry)) t byLeaves (now (slots .entry)) k (2 ^ k) ⌝ }
-    ensures once { λ _. ⌜ EveryOnce (lastsOf (now (s .entry)) (now (slots .entry)) 2 k)
-        (triedRows (now (s .entry)) (now (slots .entry)) 2 k (2 ^ k)) ⌝ }
+    requires { ⌜ n ≤ 10 ⌝ }
+    requires { ⌜ FailBits (now image) (now lefts) (now rights) task n (now slots) (now fails) ⌝ }
+    ensures { λ r. ⌜ r ≡ rowsHold (now (image .entry)) (now (lefts .entry)) (now (rights .entry)) task byLeaves (now (slots .entry)) n
+        (2 ^ n) ⌝ }
+    ensures once { λ _. ⌜ EveryOnce (lastsOf (now (image .entry)) (now (slots .entry)) 2 n)
+        (triedRows (now (image .entry)) (now (slots .entry)) 2 n (2 ^ n)) ⌝ }
 {
-    none_set(fails, rows_of(k))
+    none_set(fails, rows_of(n))
 }
 
 // Whether there are ten leaves at most, and the line is true in each row in which every premise is.
-pub fn by_bits(s: &[u8], lefts: &[usize], rights: &[usize], t: Task) -> bool
-    ensures { λ r. ⌜ r ≡ everyOf (now (s .entry)) (now (lefts .entry)) (now (rights .entry)) t byLeaves 1024 ⌝ }
+pub fn by_bits(image: &[u8], lefts: &[usize], rights: &[usize], task: Task) -> bool
+    ensures { λ r. ⌜ r ≡ everyOf (now (image .entry)) (now (lefts .entry)) (now (rights .entry)) task byLeaves 1024 ⌝ }
 {
     let mut slots: [usize; Slots::NUMBERS] = [0; Slots::NUMBERS];
     let mut fails: [u64; Words::COUNT] = [0; Words::COUNT];
-    let k = all_bits(s, lefts, rights, t, &mut slots, &mut fails);
+    let k = all_bits(image, lefts, rights, task, &mut slots, &mut fails);
     if Limits::LEAVES < k {
         return false;
     }
-    bits_hold(s, lefts, rights, t, &slots, k, &fails)
+    bits_hold(image, lefts, rights, task, &slots, k, &fails)
 }

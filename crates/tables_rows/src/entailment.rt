@@ -25,20 +25,20 @@ pub struct Task {
 }
 
 // 0 past the end.
-pub fn number_at(l: &[usize], i: usize) -> usize
-    ensures { λ r. ⌜ r ≡ getD (now (l .entry)) i 0 ⌝ }
+pub fn number_at(numbers: &[usize], i: usize) -> usize
+    ensures { λ r. ⌜ r ≡ getD (now (numbers .entry)) i 0 ⌝ }
 {
-    if i < l.len() { l[i] } else { 0 }
+    if i < numbers.len() { numbers[i] } else { 0 }
 }
 
 // The rows at which an implication fails: 1 there, 0 elsewhere. (Room for one more column is lent.)
 pub fn imp_fails(
-    s: &[u8],
+    image: &[u8],
     lefts: &[usize],
     rights: &[usize],
-    t: Task,
+    task: Task,
     i: usize,
-    w: Reading,
+    reading: Reading,
     slots: &[usize; Slots::NUMBERS],
     lasts: &[u8; Slots::COUNT],
     n: usize,
@@ -46,47 +46,66 @@ pub fn imp_fails(
     room: &mut [u8],
 )
     requires { ⌜ (n ≤ 4096) × ((n ≤ length (now out)) × (n ≤ length (now room))) ⌝ }
-    ensures { λ _. ⌜ take n (now (out .exit)) ≡ impFails (now (s .entry)) w (now (slots .entry)) (now (lasts .entry)) n
-        (impOf (now (s .entry)) (now (lefts .entry)) (now (rights .entry)) t i) ⌝ }
+    ensures { λ _. ⌜ take n (now (out .exit)) ≡ impFails (now (image .entry)) reading (now (slots .entry)) (now (lasts .entry)) n
+        (impOf (now (image .entry)) (now (lefts .entry)) (now (rights .entry)) task i) ⌝ }
 {
-    whole_column(s, number_at(lefts, i), t.left, w, slots, lasts, n, out);
-    whole_column(s, number_at(rights, i), t.right, w, slots, lasts, n, room);
+    whole_column(
+        image,
+        number_at(lefts, i),
+        task.left,
+        reading,
+        slots,
+        lasts,
+        n,
+        out,
+    );
+    whole_column(
+        image,
+        number_at(rights, i),
+        task.right,
+        reading,
+        slots,
+        lasts,
+        n,
+        room,
+    );
     and_not(n, out, room);
 }
 
 // With the leaves of an implication.
 pub fn gather_imp(
-    s: &[u8],
+    image: &[u8],
     lefts: &[usize],
     rights: &[usize],
-    t: Task,
+    task: Task,
     i: usize,
     set: u32,
     n: usize,
     slots: &mut [usize; Slots::NUMBERS],
 ) -> usize
     requires { ⌜ length (now slots) ≡ 36 ⌝ }
-    ensures { λ r. ⌜ view (now (s .entry)) r (now (slots .exit)) ≡ gatherImp set
-        (impOf (now (s .entry)) (now (lefts .entry)) (now (rights .entry)) t i) (view (now (s .entry)) n (now (slots .entry))) ⌝ }
+    ensures { λ r. ⌜ view (now (image .entry)) r (now (slots .exit)) ≡ gatherImp set
+        (impOf (now (image .entry)) (now (lefts .entry)) (now (rights .entry)) task i) (view (now (image .entry)) n (now (slots .entry)))
+        ⌝ }
     ensures { λ _. ⌜ length (now (slots .exit)) ≡ 36 ⌝ }
 {
-    let m = gather_at(s, number_at(rights, i), t.right, set, n, slots);
-    gather_at(s, number_at(lefts, i), t.left, set, m, slots)
+    let m = gather_at(image, number_at(rights, i), task.right, set, n, slots);
+    gather_at(image, number_at(lefts, i), task.left, set, m, slots)
 }
 
 // The leaves of a line without premises.
 pub fn gather_line(
-    s: &[u8],
+    image: &[u8],
     lefts: &[usize],
     rights: &[usize],
-    t: Task,
+    task: Task,
     set: u32,
     slots: &mut [usize; Slots::NUMBERS],
 ) -> usize
-    requires { ⌜ (length (now slots) ≡ 36) × (t .premises ≡ 0) ⌝ }
-    ensures { λ r. ⌜ view (now (s .entry)) r (now (slots .exit))
-        ≡ gatherAll (now (s .entry)) (now (lefts .entry)) (now (rights .entry)) t set
+    requires { ⌜ (length (now slots) ≡ 36) × (task .premises ≡ 0) ⌝ }
+    ensures { λ r. ⌜ view (now (image .entry)) r (now (slots .exit))
+        ≡ gatherAll (now (image .entry)) (now (lefts .entry)) (now (rights .entry)) task set
         ⌝ }
 {
-    gather_imp(s, lefts, rights, t, 0, set, 0, slots)
+    gather_imp(image, lefts, rights, task, 0, set, 0, slots)
 }

@@ -26,29 +26,29 @@ fn last_of(choices: u8) -> u8
 
 // The last values of the first k slots; the others are 0.
 pub fn fill_lasts(
-    s: &[u8],
+    image: &[u8],
     range: u8,
     slots: &[usize; Slots::NUMBERS],
-    k: usize,
+    n: usize,
     lasts: &mut [u8; Slots::COUNT],
 )
-    requires { ⌜ (k ≤ 12) × (now lasts ≡ replicate 12 0) ⌝ }
-    ensures { λ _. ⌜ now (lasts .exit) ≡ lastsOf (now (s .entry)) (now (slots .entry)) range k ⌝ }
+    requires { ⌜ (n ≤ 12) × (now lasts ≡ replicate 12 0) ⌝ }
+    ensures { λ _. ⌜ now (lasts .exit) ≡ lastsOf (now (image .entry)) (now (slots .entry)) range n ⌝ }
 {
     let mut j: usize = 0;
-    while j < k {
-        lasts[j] = last_of(choices(s, range, slot_at(slots, j)));
+    while j < n {
+        lasts[j] = last_of(choices(image, range, slot_at(slots, j)));
         j += 1;
     }
 }
 
 // Whether the implication fails at none of the rows from all zeros on.
 fn none_fails(
-    s: &[u8],
+    image: &[u8],
     lefts: &[usize],
     rights: &[usize],
-    t: Task,
-    w: Reading,
+    task: Task,
+    reading: Reading,
     slots: &[usize; Slots::NUMBERS],
     lasts: &[u8; Slots::COUNT],
     n: usize,
@@ -56,40 +56,52 @@ fn none_fails(
     room: &mut [u8],
 ) -> bool
     requires { ⌜ (n ≤ 4096) × ((n ≤ length (now fails)) × (n ≤ length (now room))) ⌝ }
-    requires { ⌜ t .premises ≡ 0 ⌝ }
+    requires { ⌜ task .premises ≡ 0 ⌝ }
     ensures { λ r. ⌜ r
-        ≡ holdFrom (now (s .entry)) (now (lefts .entry)) (now (rights .entry)) t w (now (slots .entry)) (now (lasts .entry)) n
+        ≡ holdFrom (now (image .entry)) (now (lefts .entry)) (now (rights .entry)) task reading (now (slots .entry)) (now (lasts .entry)) n
         ⌝ }
 {
-    imp_fails(s, lefts, rights, t, 0, w, slots, lasts, n, fails, room);
+    imp_fails(
+        image,
+        lefts,
+        rights,
+        task,
+        0,
+        reading,
+        slots,
+        lasts,
+        n,
+        fails,
+        room,
+    );
     none_below(fails, n)
 }
 
 // The same, with room for as many rows as there are.
 fn try_rows(
-    s: &[u8],
+    image: &[u8],
     lefts: &[usize],
     rights: &[usize],
-    t: Task,
-    w: Reading,
+    task: Task,
+    reading: Reading,
     slots: &[usize; Slots::NUMBERS],
     lasts: &[u8; Slots::COUNT],
     n: usize,
 ) -> bool
-    requires { ⌜ (n ≤ 4096) × (t .premises ≡ 0) ⌝ }
+    requires { ⌜ (n ≤ 4096) × (task .premises ≡ 0) ⌝ }
     ensures { λ r. ⌜ r
-        ≡ holdFrom (now (s .entry)) (now (lefts .entry)) (now (rights .entry)) t w (now (slots .entry)) (now (lasts .entry)) n
+        ≡ holdFrom (now (image .entry)) (now (lefts .entry)) (now (rights .entry)) task reading (now (slots .entry)) (now (lasts .entry)) n
         ⌝ }
 {
     if n <= Block::FEW {
         let mut fails: [u8; Block::FEW] = [0; Block::FEW];
         let mut room: [u8; Block::FEW] = [0; Block::FEW];
         return none_fails(
-            s,
+            image,
             lefts,
             rights,
-            t,
-            w,
+            task,
+            reading,
             slots,
             lasts,
             n,
@@ -100,11 +112,11 @@ fn try_rows(
     let mut fails: [u8; Block::ROWS] = [0; Block::ROWS];
     let mut room: [u8; Block::ROWS] = [0; Block::ROWS];
     none_fails(
-        s,
+        image,
         lefts,
         rights,
-        t,
-        w,
+        task,
+        reading,
         slots,
         lasts,
         n,
@@ -115,46 +127,56 @@ fn try_rows(
 
 // Whether the implication holds at each row: every choice for the first k slots is tried exactly once, and no other row.
 pub fn rows_hold(
-    s: &[u8],
+    image: &[u8],
     lefts: &[usize],
     rights: &[usize],
-    t: Task,
-    w: Reading,
+    task: Task,
+    reading: Reading,
     slots: &[usize; Slots::NUMBERS],
-    k: usize,
+    n: usize,
     rows: usize,
 ) -> bool
-    requires { ⌜ (k ≤ 12) × ((rows ≤ 4096) × (t .premises ≡ 0)) ⌝ }
-    requires { ⌜ rows ≡ rowsOf (lastsOf (now s) (now slots) (w .range) k) ⌝ }
-    ensures { λ r. ⌜ r ≡ rowsHold (now (s .entry)) (now (lefts .entry)) (now (rights .entry)) t w (now (slots .entry)) k rows ⌝ }
-    ensures once { λ _. ⌜ EveryOnce (lastsOf (now (s .entry)) (now (slots .entry)) (w .range) k)
-        (triedRows (now (s .entry)) (now (slots .entry)) (w .range) k rows) ⌝ }
+    requires { ⌜ (n ≤ 12) × ((rows ≤ 4096) × (task .premises ≡ 0)) ⌝ }
+    requires { ⌜ rows ≡ rowsOf (lastsOf (now image) (now slots) (reading .range) n) ⌝ }
+    ensures { λ r. ⌜ r ≡ rowsHold (now (image .entry)) (now (lefts .entry)) (now (rights .entry)) task reading (now (slots .entry)) n rows
+        ⌝ }
+    ensures once { λ _. ⌜ EveryOnce (lastsOf (now (image .entry)) (now (slots .entry)) (reading .range) n)
+        (triedRows (now (image .entry)) (now (slots .entry)) (reading .range) n rows) ⌝ }
 {
     let mut lasts: [u8; Slots::COUNT] = [0; Slots::COUNT];
-    fill_lasts(s, w.range, slots, k, &mut lasts);
-    try_rows(s, lefts, rights, t, w, slots, &lasts, rows)
+    fill_lasts(image, reading.range, slots, n, &mut lasts);
+    try_rows(image, lefts, rights, task, reading, slots, &lasts, rows)
 }
 
 // Whether there are at most so many rows, and the implication holds at each.
 pub fn every_row(
-    s: &[u8],
+    image: &[u8],
     lefts: &[usize],
     rights: &[usize],
-    t: Task,
-    w: Reading,
+    task: Task,
+    reading: Reading,
     limit: u16,
 ) -> bool
-    requires { ⌜ (2 ≤ w .range) × ((limit ≤ 4096) × (t .premises ≡ 0)) ⌝ }
-    ensures { λ r. ⌜ r ≡ everyOf (now (s .entry)) (now (lefts .entry)) (now (rights .entry)) t w limit ⌝ }
+    requires { ⌜ (2 ≤ reading .range) × ((limit ≤ 4096) × (task .premises ≡ 0)) ⌝ }
+    ensures { λ r. ⌜ r ≡ everyOf (now (image .entry)) (now (lefts .entry)) (now (rights .entry)) task reading limit ⌝ }
 {
     let mut slots: [usize; Slots::NUMBERS] = [0; Slots::NUMBERS];
-    let k = gather_line(s, lefts, rights, t, w.leaves, &mut slots);
+    let k = gather_line(image, lefts, rights, task, reading.leaves, &mut slots);
     if Slots::COUNT < k {
         return false;
     }
-    let rows = count_rows(s, &slots, k, w.range, limit);
+    let rows = count_rows(image, &slots, k, reading.range, limit);
     if (limit as u32) < rows {
         return false;
     }
-    rows_hold(s, lefts, rights, t, w, &slots, k, rows as usize)
+    rows_hold(
+        image,
+        lefts,
+        rights,
+        task,
+        reading,
+        &slots,
+        k,
+        rows as usize,
+    )
 }

@@ -6,41 +6,48 @@ ghost use lib.ListN.{length};
 ghost use Rattle.verdict_record.specs.Record.{two};
 ghost use Rattle.trim_encode.specs.Overwritten.{overwritten};
 
-pub fn put_byte(x: u8, out: &mut [u8], at: usize) -> usize
+pub fn put_byte(byte: u8, out: &mut [u8], at: usize) -> usize
     requires { ⌜ at + 1 ≤ length (now out) ⌝ }
-    ensures { λ r. ⌜ (now (out .exit) ≡ overwritten (now (out .entry)) at (x ∷ [])) × (r ≡ at + 1) ⌝ }
+    ensures { λ r. ⌜ (now (out .exit) ≡ overwritten (now (out .entry)) at (byte ∷ [])) × (r ≡ at + 1) ⌝ }
 {
-    out[at] = x;
+    out[at] = byte;
     at + 1
 }
 
 // A 16-bit number.
-pub fn put_word(n: usize, out: &mut [u8], at: usize) -> usize
+pub fn put_word(number: usize, out: &mut [u8], at: usize) -> usize
     requires { ⌜ at + 2 ≤ length (now out) ⌝ }
-    ensures { λ r. ⌜ (now (out .exit) ≡ overwritten (now (out .entry)) at (two n)) × (r ≡ at + 2) ⌝ }
+    ensures { λ r. ⌜ (now (out .exit) ≡ overwritten (now (out .entry)) at (two number)) × (r ≡ at + 2) ⌝ }
 {
-    let next = put_byte((n % 256) as u8, out, at);
-    put_byte((n / 256 % 256) as u8, out, next)
+    let next = put_byte((number % 256) as u8, out, at);
+    put_byte((number / 256 % 256) as u8, out, next)
 }
 
 // Three bytes and a 16-bit number.
-pub fn put_five(x: u8, y: u8, z: u8, n: usize, out: &mut [u8], at: usize) -> usize
+pub fn put_five(
+    byte: u8,
+    next_byte: u8,
+    last_byte: u8,
+    number: usize,
+    out: &mut [u8],
+    at: usize,
+) -> usize
     requires { ⌜ at + 5 ≤ length (now out) ⌝ }
-    ensures { λ r. ⌜ (now (out .exit) ≡ overwritten (now (out .entry)) at (x ∷ y ∷ z ∷ two n)) × (r ≡ at + 5) ⌝ }
+    ensures { λ r. ⌜ (now (out .exit) ≡ overwritten (now (out .entry)) at (byte ∷ next_byte ∷ last_byte ∷ two number)) × (r ≡ at + 5) ⌝ }
 {
-    let second = put_byte(x, out, at);
-    let third = put_byte(y, out, second);
-    let fourth = put_byte(z, out, third);
-    put_word(n, out, fourth)
+    let second = put_byte(byte, out, at);
+    let third = put_byte(next_byte, out, second);
+    let fourth = put_byte(last_byte, out, third);
+    put_word(number, out, fourth)
 }
 
-pub fn put_bytes<'a, 'b>(b: &'a [u8], out: &'b mut [u8], at: usize) -> usize
-    requires { ⌜ at + length (now b) ≤ length (now out) ⌝ }
-    ensures { λ r. ⌜ (now (out .exit) ≡ overwritten (now (out .entry)) at (now (b .entry))) × (r ≡ at + length (now (b .entry))) ⌝ }
+pub fn put_bytes<'a, 'b>(body: &'a [u8], out: &'b mut [u8], at: usize) -> usize
+    requires { ⌜ at + length (now body) ≤ length (now out) ⌝ }
+    ensures { λ r. ⌜ (now (out .exit) ≡ overwritten (now (out .entry)) at (now (body .entry))) × (r ≡ at + length (now (body .entry))) ⌝ }
 {
     let mut i: usize = 0;
-    while i < b.len() {
-        out[at + i] = b[i];
+    while i < body.len() {
+        out[at + i] = body[i];
         i += 1;
     }
     at + i

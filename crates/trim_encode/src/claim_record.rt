@@ -12,19 +12,24 @@ ghost use Rattle.trim_spec.specs.Parse.{claimRecord};
 ghost use Rattle.trim_encode.specs.Overwritten.{overwritten};
 ghost use Rattle.trim_encode.specs.Renumbered.{renewedClaim};
 
-pub fn put_claim<'a, 'b, 'c>(g: &'a [usize], b: &'b [u8], out: &'c mut [u8], at: usize) -> usize
-    requires { ⌜ at + length (claimBytes (renewedClaim (now g) (claimRecord (now b)))) ≤ length (now out) ⌝ }
+pub fn put_claim<'a, 'b, 'c>(
+    line_numbers: &'a [usize],
+    body: &'b [u8],
+    out: &'c mut [u8],
+    at: usize,
+) -> usize
+    requires { ⌜ at + length (claimBytes (renewedClaim (now line_numbers) (claimRecord (now body)))) ≤ length (now out) ⌝ }
     ensures { λ r. ⌜ now (out .exit)
-        ≡ overwritten (now (out .entry)) at (claimBytes (renewedClaim (now (g .entry)) (claimRecord (now (b .entry))))) ⌝ }
-    ensures { λ r. ⌜ r ≡ at + length (claimBytes (renewedClaim (now (g .entry)) (claimRecord (now (b .entry))))) ⌝ }
+        ≡ overwritten (now (out .entry)) at (claimBytes (renewedClaim (now (line_numbers .entry)) (claimRecord (now (body .entry))))) ⌝ }
+    ensures { λ r. ⌜ r ≡ at + length (claimBytes (renewedClaim (now (line_numbers .entry)) (claimRecord (now (body .entry))))) ⌝ }
 {
-    let old = word_at(b, 4);
-    let line = new_number(g, old);
-    let next = put_byte(octet_at(b, 0), out, at);
+    let old = word_at(body, 4);
+    let line = new_number(line_numbers, old);
+    let next = put_byte(octet_at(body, 0), out, at);
     put_five(
-        octet_at(b, 1),
-        octet_at(b, 2),
-        octet_at(b, 3),
+        octet_at(body, 1),
+        octet_at(body, 2),
+        octet_at(body, 3),
         line,
         out,
         next,

@@ -15,126 +15,178 @@ ghost use Rattle.trim_encode.specs.Overwritten.{overwritten};
 ghost use Rattle.trim_encode.specs.WholeImage.{formulasBytes, threadsBytes, outlineBytes, linesBytes, obligationsBytes, claimsBytes};
 
 pub fn put_formulas<'a, 'b, 'c, 'd, 'e, 'f>(
-    s: &'a [u8],
-    ix: &'b [usize],
-    z: Sizes,
-    f: &'c [usize],
-    g: &'d [usize],
-    u: &'e [bool],
+    image: &'a [u8],
+    index: &'b [usize],
+    sizes: Sizes,
+    formula_numbers: &'c [usize],
+    line_numbers: &'d [usize],
+    live_formulas: &'e [bool],
     out: &'f mut [u8],
     at: usize,
 ) -> usize
-    requires { ⌜ now ix ≡ indexOf (now s) ⌝ }
-    requires { ⌜ at + length (formulasBytes z (now f) (now g) (bodies (now s)) (now u)) ≤ length (now out) ⌝ }
+    requires { ⌜ now index ≡ indexOf (now image) ⌝ }
+    requires { ⌜ at + length (formulasBytes sizes (now formula_numbers) (now line_numbers) (bodies (now image)) (now live_formulas)) ≤
+        length (now out) ⌝ }
     ensures { λ r. ⌜ now (out .exit)
         ≡ overwritten (now (out .entry)) at
-        (formulasBytes z (now (f .entry)) (now (g .entry)) (bodies (now (s .entry))) (now (u .entry))) ⌝ }
-    ensures { λ r. ⌜ r ≡ at + length (formulasBytes z (now (f .entry)) (now (g .entry)) (bodies (now (s .entry))) (now (u .entry))) ⌝ }
+        (formulasBytes sizes (now (formula_numbers .entry)) (now (line_numbers .entry)) (bodies (now (image .entry)))
+        (now (live_formulas .entry))) ⌝ }
+    ensures { λ r. ⌜ r ≡ at + length (formulasBytes sizes (now (formula_numbers .entry)) (now (line_numbers .entry))
+        (bodies (now (image .entry))) (now (live_formulas .entry))) ⌝ }
 {
     put_kept(
-        s,
-        ix,
-        f,
-        g,
-        u,
+        image,
+        index,
+        formula_numbers,
+        line_numbers,
+        live_formulas,
         Kind::FORMULA,
         1,
-        z.formulas as usize,
+        sizes.formulas as usize,
         out,
         at,
     )
 }
 
 pub fn put_threads<'a, 'b, 'c, 'd, 'e>(
-    s: &'a [u8],
-    ix: &'b [usize],
-    z: Sizes,
-    f: &'c [usize],
-    g: &'d [usize],
+    image: &'a [u8],
+    index: &'b [usize],
+    sizes: Sizes,
+    formula_numbers: &'c [usize],
+    line_numbers: &'d [usize],
     out: &'e mut [u8],
     at: usize,
 ) -> usize
-    requires { ⌜ now ix ≡ indexOf (now s) ⌝ }
-    requires { ⌜ at + length (threadsBytes z (now f) (now g) (bodies (now s))) ≤ length (now out) ⌝ }
+    requires { ⌜ now index ≡ indexOf (now image) ⌝ }
+    requires { ⌜ at + length (threadsBytes sizes (now formula_numbers) (now line_numbers) (bodies (now image))) ≤ length (now out) ⌝ }
     ensures { λ r. ⌜ now (out .exit)
-        ≡ overwritten (now (out .entry)) at (threadsBytes z (now (f .entry)) (now (g .entry)) (bodies (now (s .entry)))) ⌝ }
-    ensures { λ r. ⌜ r ≡ at + length (threadsBytes z (now (f .entry)) (now (g .entry)) (bodies (now (s .entry)))) ⌝ }
+        ≡ overwritten (now (out .entry)) at (threadsBytes sizes (now (formula_numbers .entry)) (now (line_numbers .entry))
+        (bodies (now (image .entry)))) ⌝ }
+    ensures { λ r. ⌜ r ≡ at + length (threadsBytes sizes (now (formula_numbers .entry)) (now (line_numbers .entry))
+        (bodies (now (image .entry)))) ⌝ }
 {
-    let n = (z.formulas as usize) + 1;
-    put_records(s, ix, f, g, Kind::THREAD, n, z.threads as usize, out, at)
+    let n = (sizes.formulas as usize) + 1;
+    put_records(
+        image,
+        index,
+        formula_numbers,
+        line_numbers,
+        Kind::THREAD,
+        n,
+        sizes.threads as usize,
+        out,
+        at,
+    )
 }
 
 pub fn put_outline<'a, 'b, 'c, 'd>(
-    s: &'a [u8],
-    ix: &'b [usize],
-    z: Sizes,
-    f: &'c [usize],
+    image: &'a [u8],
+    index: &'b [usize],
+    sizes: Sizes,
+    formula_numbers: &'c [usize],
     out: &'d mut [u8],
     at: usize,
 ) -> usize
-    requires { ⌜ now ix ≡ indexOf (now s) ⌝ }
-    requires { ⌜ at + length (outlineBytes z (now f) (bodies (now s))) ≤ length (now out) ⌝ }
-    ensures { λ r. ⌜ now (out .exit) ≡ overwritten (now (out .entry)) at (outlineBytes z (now (f .entry)) (bodies (now (s .entry)))) ⌝ }
-    ensures { λ r. ⌜ r ≡ at + length (outlineBytes z (now (f .entry)) (bodies (now (s .entry)))) ⌝ }
+    requires { ⌜ now index ≡ indexOf (now image) ⌝ }
+    requires { ⌜ at + length (outlineBytes sizes (now formula_numbers) (bodies (now image))) ≤ length (now out) ⌝ }
+    ensures { λ r. ⌜ now (out .exit) ≡ overwritten (now (out .entry)) at
+        (outlineBytes sizes (now (formula_numbers .entry)) (bodies (now (image .entry)))) ⌝ }
+    ensures { λ r. ⌜ r ≡ at + length (outlineBytes sizes (now (formula_numbers .entry)) (bodies (now (image .entry)))) ⌝ }
 {
-    let c = tally_of(s, ix, z);
-    let n = (z.formulas as usize) + (z.threads as usize) + 1;
-    put_list(s, ix, f, Kind::OUTLINE, n, c.points, out, at)
+    let counts = tally_of(image, index, sizes);
+    let n = (sizes.formulas as usize) + (sizes.threads as usize) + 1;
+    put_list(
+        image,
+        index,
+        formula_numbers,
+        Kind::OUTLINE,
+        n,
+        counts.points,
+        out,
+        at,
+    )
 }
 
 pub fn put_lines<'a, 'b, 'c, 'd, 'e, 'f>(
-    s: &'a [u8],
-    ix: &'b [usize],
-    z: Sizes,
-    f: &'c [usize],
-    g: &'d [usize],
-    k: &'e [bool],
+    image: &'a [u8],
+    index: &'b [usize],
+    sizes: Sizes,
+    formula_numbers: &'c [usize],
+    line_numbers: &'d [usize],
+    live_lines: &'e [bool],
     out: &'f mut [u8],
     at: usize,
 ) -> usize
-    requires { ⌜ now ix ≡ indexOf (now s) ⌝ }
-    requires { ⌜ at + length (linesBytes z (now f) (now g) (bodies (now s)) (now k)) ≤ length (now out) ⌝ }
+    requires { ⌜ now index ≡ indexOf (now image) ⌝ }
+    requires { ⌜ at + length (linesBytes sizes (now formula_numbers) (now line_numbers) (bodies (now image)) (now live_lines)) ≤ length
+        (now out) ⌝ }
     ensures { λ r. ⌜ now (out .exit)
-        ≡ overwritten (now (out .entry)) at (linesBytes z (now (f .entry)) (now (g .entry)) (bodies (now (s .entry))) (now (k .entry))) ⌝ }
-    ensures { λ r. ⌜ r ≡ at + length (linesBytes z (now (f .entry)) (now (g .entry)) (bodies (now (s .entry))) (now (k .entry))) ⌝ }
+        ≡ overwritten (now (out .entry)) at (linesBytes sizes (now (formula_numbers .entry)) (now (line_numbers .entry))
+        (bodies (now (image .entry))) (now (live_lines .entry))) ⌝ }
+    ensures { λ r. ⌜ r ≡ at + length (linesBytes sizes (now (formula_numbers .entry)) (now (line_numbers .entry))
+        (bodies (now (image .entry))) (now (live_lines .entry))) ⌝ }
 {
-    let n = (z.formulas as usize) + (z.threads as usize) + 2;
-    put_kept(s, ix, f, g, k, Kind::LINE, n, z.lines as usize, out, at)
+    let n = (sizes.formulas as usize) + (sizes.threads as usize) + 2;
+    put_kept(
+        image,
+        index,
+        formula_numbers,
+        line_numbers,
+        live_lines,
+        Kind::LINE,
+        n,
+        sizes.lines as usize,
+        out,
+        at,
+    )
 }
 
 pub fn put_obligations<'a, 'b, 'c, 'd>(
-    s: &'a [u8],
-    ix: &'b [usize],
-    z: Sizes,
-    g: &'c [usize],
+    image: &'a [u8],
+    index: &'b [usize],
+    sizes: Sizes,
+    line_numbers: &'c [usize],
     out: &'d mut [u8],
     at: usize,
 ) -> usize
-    requires { ⌜ now ix ≡ indexOf (now s) ⌝ }
-    requires { ⌜ at + length (obligationsBytes z (now g) (bodies (now s))) ≤ length (now out) ⌝ }
-    ensures { λ r. ⌜ now (out .exit) ≡ overwritten (now (out .entry)) at (obligationsBytes z (now (g .entry)) (bodies (now (s .entry)))) ⌝ }
-    ensures { λ r. ⌜ r ≡ at + length (obligationsBytes z (now (g .entry)) (bodies (now (s .entry)))) ⌝ }
+    requires { ⌜ now index ≡ indexOf (now image) ⌝ }
+    requires { ⌜ at + length (obligationsBytes sizes (now line_numbers) (bodies (now image))) ≤ length (now out) ⌝ }
+    ensures { λ r. ⌜ now (out .exit) ≡ overwritten (now (out .entry)) at
+        (obligationsBytes sizes (now (line_numbers .entry)) (bodies (now (image .entry)))) ⌝ }
+    ensures { λ r. ⌜ r ≡ at + length (obligationsBytes sizes (now (line_numbers .entry)) (bodies (now (image .entry)))) ⌝ }
 {
-    let c = count_obligations(s, ix, z);
-    let n = (z.formulas as usize) + (z.threads as usize) + 1 + (z.lines as usize) + 1;
-    put_list(s, ix, g, Kind::OBLIGATIONS, n, c, out, at)
+    let c = count_obligations(image, index, sizes);
+    let n = (sizes.formulas as usize) + (sizes.threads as usize) + 1 + (sizes.lines as usize) + 1;
+    put_list(image, index, line_numbers, Kind::OBLIGATIONS, n, c, out, at)
 }
 
 pub fn put_claims<'a, 'b, 'c, 'd, 'e>(
-    s: &'a [u8],
-    ix: &'b [usize],
-    z: Sizes,
-    f: &'c [usize],
-    g: &'d [usize],
+    image: &'a [u8],
+    index: &'b [usize],
+    sizes: Sizes,
+    formula_numbers: &'c [usize],
+    line_numbers: &'d [usize],
     out: &'e mut [u8],
     at: usize,
 ) -> usize
-    requires { ⌜ now ix ≡ indexOf (now s) ⌝ }
-    requires { ⌜ at + length (claimsBytes z (now f) (now g) (bodies (now s))) ≤ length (now out) ⌝ }
+    requires { ⌜ now index ≡ indexOf (now image) ⌝ }
+    requires { ⌜ at + length (claimsBytes sizes (now formula_numbers) (now line_numbers) (bodies (now image))) ≤ length (now out) ⌝ }
     ensures { λ r. ⌜ now (out .exit)
-        ≡ overwritten (now (out .entry)) at (claimsBytes z (now (f .entry)) (now (g .entry)) (bodies (now (s .entry)))) ⌝ }
-    ensures { λ r. ⌜ r ≡ at + length (claimsBytes z (now (f .entry)) (now (g .entry)) (bodies (now (s .entry)))) ⌝ }
+        ≡ overwritten (now (out .entry)) at (claimsBytes sizes (now (formula_numbers .entry)) (now (line_numbers .entry))
+        (bodies (now (image .entry)))) ⌝ }
+    ensures { λ r. ⌜ r ≡ at + length (claimsBytes sizes (now (formula_numbers .entry)) (now (line_numbers .entry))
+        (bodies (now (image .entry)))) ⌝ }
 {
-    let n = (z.formulas as usize) + (z.threads as usize) + 1 + (z.lines as usize) + 2;
-    put_records(s, ix, f, g, Kind::CLAIM, n, z.claims as usize, out, at)
+    let n = (sizes.formulas as usize) + (sizes.threads as usize) + 1 + (sizes.lines as usize) + 2;
+    put_records(
+        image,
+        index,
+        formula_numbers,
+        line_numbers,
+        Kind::CLAIM,
+        n,
+        sizes.claims as usize,
+        out,
+        at,
+    )
 }

@@ -20,17 +20,22 @@ ghost use Rattle.trim_encode.specs.RecordParts.{leftBytes, rightBytes};
 ghost use Rattle.trim_encode.specs.Renumbered.{renewed, renewedLine};
 
 // Rule, thread, point and left formula.
-fn put_left<'a, 'b, 'c>(f: &'a [usize], b: &'b [u8], out: &'c mut [u8], at: usize) -> usize
-    requires { ⌜ at + length (leftBytes (now f) (now b)) ≤ length (now out) ⌝ }
-    ensures { λ r. ⌜ now (out .exit) ≡ overwritten (now (out .entry)) at (leftBytes (now (f .entry)) (now (b .entry))) ⌝ }
-    ensures { λ r. ⌜ r ≡ at + length (leftBytes (now (f .entry)) (now (b .entry))) ⌝ }
+fn put_left<'a, 'b, 'c>(
+    formula_numbers: &'a [usize],
+    body: &'b [u8],
+    out: &'c mut [u8],
+    at: usize,
+) -> usize
+    requires { ⌜ at + length (leftBytes (now formula_numbers) (now body)) ≤ length (now out) ⌝ }
+    ensures { λ r. ⌜ now (out .exit) ≡ overwritten (now (out .entry)) at (leftBytes (now (formula_numbers .entry)) (now (body .entry))) ⌝ }
+    ensures { λ r. ⌜ r ≡ at + length (leftBytes (now (formula_numbers .entry)) (now (body .entry))) ⌝ }
 {
-    let old = word_at(b, 3);
-    let left = new_number(f, old);
+    let old = word_at(body, 3);
+    let left = new_number(formula_numbers, old);
     put_five(
-        octet_at(b, 0),
-        octet_at(b, 1),
-        octet_at(b, 2),
+        octet_at(body, 0),
+        octet_at(body, 1),
+        octet_at(body, 2),
         left,
         out,
         at,
@@ -38,39 +43,52 @@ fn put_left<'a, 'b, 'c>(f: &'a [usize], b: &'b [u8], out: &'c mut [u8], at: usiz
 }
 
 // The right formula and the premise count.
-fn put_right<'a, 'b, 'c>(f: &'a [usize], b: &'b [u8], out: &'c mut [u8], at: usize) -> usize
-    requires { ⌜ at + length (rightBytes (now f) (now b)) ≤ length (now out) ⌝ }
-    ensures { λ r. ⌜ now (out .exit) ≡ overwritten (now (out .entry)) at (rightBytes (now (f .entry)) (now (b .entry))) ⌝ }
-    ensures { λ r. ⌜ r ≡ at + length (rightBytes (now (f .entry)) (now (b .entry))) ⌝ }
+fn put_right<'a, 'b, 'c>(
+    formula_numbers: &'a [usize],
+    body: &'b [u8],
+    out: &'c mut [u8],
+    at: usize,
+) -> usize
+    requires { ⌜ at + length (rightBytes (now formula_numbers) (now body)) ≤ length (now out) ⌝ }
+    ensures { λ r. ⌜ now (out .exit) ≡ overwritten (now (out .entry)) at (rightBytes (now (formula_numbers .entry)) (now (body .entry))) ⌝ }
+    ensures { λ r. ⌜ r ≡ at + length (rightBytes (now (formula_numbers .entry)) (now (body .entry))) ⌝ }
 {
-    let old = word_at(b, 5);
-    let next = put_word(new_number(f, old), out, at);
-    put_byte(octet_at(b, 7), out, next)
+    let old = word_at(body, 5);
+    let next = put_word(new_number(formula_numbers, old), out, at);
+    put_byte(octet_at(body, 7), out, next)
 }
 
-fn put_premises<'a, 'b, 'c>(g: &'a [usize], b: &'b [u8], out: &'c mut [u8], at: usize) -> usize
-    requires { ⌜ at + length (numberBytes (map (renewed (now g)) (premises (now b)))) ≤ length (now out) ⌝ }
+fn put_premises<'a, 'b, 'c>(
+    line_numbers: &'a [usize],
+    body: &'b [u8],
+    out: &'c mut [u8],
+    at: usize,
+) -> usize
+    requires { ⌜ at + length (numberBytes (map (renewed (now line_numbers)) (premises (now body)))) ≤ length (now out) ⌝ }
     ensures { λ r. ⌜ now (out .exit)
-        ≡ overwritten (now (out .entry)) at (numberBytes (map (renewed (now (g .entry))) (premises (now (b .entry))))) ⌝ }
-    ensures { λ r. ⌜ r ≡ at + length (numberBytes (map (renewed (now (g .entry))) (premises (now (b .entry))))) ⌝ }
+        ≡ overwritten (now (out .entry)) at (numberBytes (map (renewed (now (line_numbers .entry))) (premises (now (body .entry))))) ⌝ }
+    ensures { λ r. ⌜ r ≡ at + length (numberBytes (map (renewed (now (line_numbers .entry))) (premises (now (body .entry))))) ⌝ }
 {
-    let l = rest(b, 8);
-    put_numbers(g, l, byte_at(b, 7), out, at)
+    let l = rest(body, 8);
+    put_numbers(line_numbers, l, byte_at(body, 7), out, at)
 }
 
 pub fn put_line<'a, 'b, 'c, 'd>(
-    f: &'a [usize],
-    g: &'b [usize],
-    b: &'c [u8],
+    formula_numbers: &'a [usize],
+    line_numbers: &'b [usize],
+    body: &'c [u8],
     out: &'d mut [u8],
     at: usize,
 ) -> usize
-    requires { ⌜ at + length (lineBytes (renewedLine (now f) (now g) (lineRecord (now b)))) ≤ length (now out) ⌝ }
+    requires { ⌜ at + length (lineBytes (renewedLine (now formula_numbers) (now line_numbers) (lineRecord (now body)))) ≤ length (now out)
+        ⌝ }
     ensures { λ r. ⌜ now (out .exit)
-        ≡ overwritten (now (out .entry)) at (lineBytes (renewedLine (now (f .entry)) (now (g .entry)) (lineRecord (now (b .entry))))) ⌝ }
-    ensures { λ r. ⌜ r ≡ at + length (lineBytes (renewedLine (now (f .entry)) (now (g .entry)) (lineRecord (now (b .entry))))) ⌝ }
+        ≡ overwritten (now (out .entry)) at (lineBytes (renewedLine (now (formula_numbers .entry)) (now (line_numbers .entry))
+        (lineRecord (now (body .entry))))) ⌝ }
+    ensures { λ r. ⌜ r ≡ at + length (lineBytes (renewedLine (now (formula_numbers .entry)) (now (line_numbers .entry))
+        (lineRecord (now (body .entry))))) ⌝ }
 {
-    let right = put_left(f, b, out, at);
-    let behind = put_right(f, b, out, right);
-    put_premises(g, b, out, behind)
+    let right = put_left(formula_numbers, body, out, at);
+    let behind = put_right(formula_numbers, body, out, right);
+    put_premises(line_numbers, body, out, behind)
 }

@@ -23,110 +23,130 @@ ghost use Rattle.trim_spec.specs.Live.{noted, instructionFormulas, kept, used};
 ghost use Rattle.trim_encode.specs.NamedNumbers.{bodyFormulas, threadFormulas, sidesOf, markedSides, markedFormulas};
 
 // An instruction has 0 for a formula that it does not have.
-fn note_instruction(i: Instruction, m: &mut [bool])
-    ensures { λ _. ⌜ now (m .exit) ≡ noted (now (m .entry)) (instructionFormulas i) ⌝ }
+fn note_instruction(instruction: Instruction, marks: &mut [bool])
+    ensures { λ _. ⌜ now (marks .exit) ≡ noted (now (marks .entry)) (instructionFormulas instruction) ⌝ }
 {
-    note_number(m, i.formula);
-    note_number(m, i.second.formula);
+    note_number(marks, instruction.formula);
+    note_number(marks, instruction.second.formula);
 }
 
 // The instructions of a thread's body.
-fn note_thread<'a, 'b>(b: &'a [u8], m: &'b mut [bool])
-    ensures { λ _. ⌜ now (m .exit) ≡ noted (now (m .entry)) (bodyFormulas (now (b .entry)) 0) ⌝ }
+fn note_thread<'a, 'b>(body: &'a [u8], marks: &'b mut [bool])
+    ensures { λ _. ⌜ now (marks .exit) ≡ noted (now (marks .entry)) (bodyFormulas (now (body .entry)) 0) ⌝ }
 {
-    let last = last_point(b);
+    let last = last_point(body);
     let mut at: usize = 0;
     let mut p: usize = 0;
     while p < last {
-        let i = instruction_from(b, p, at);
-        note_instruction(i, m);
-        at = begins_behind(b, p, at);
+        let instruction = instruction_from(body, p, at);
+        note_instruction(instruction, marks);
+        at = begins_behind(body, p, at);
         p += 1;
     }
 }
 
 // Those of all threads.
-fn note_threads<'a, 'b, 'c>(s: &'a [u8], ix: &'b [usize], z: Sizes, m: &'c mut [bool])
-    requires { ⌜ (now ix ≡ indexOf (now s)) × (length (bodies (now s)) ≡ recordCount z) ⌝ }
-    ensures { λ _. ⌜ now (m .exit) ≡ noted (now (m .entry)) (threadFormulas z (bodies (now (s .entry))) 0) ⌝ }
+fn note_threads<'a, 'b, 'c>(
+    image: &'a [u8],
+    index: &'b [usize],
+    sizes: Sizes,
+    marks: &'c mut [bool],
+)
+    requires { ⌜ (now index ≡ indexOf (now image)) × (length (bodies (now image)) ≡ recordCount sizes) ⌝ }
+    ensures { λ _. ⌜ now (marks .exit) ≡ noted (now (marks .entry)) (threadFormulas sizes (bodies (now (image .entry))) 0) ⌝ }
 {
-    let threads = z.threads as usize;
+    let threads = sizes.threads as usize;
     let mut t: usize = 0;
     while t < threads {
         t += 1;
-        let b = body_of(s, ix, (z.formulas as usize) + t);
-        note_thread(b, m);
+        let body = body_of(image, index, (sizes.formulas as usize) + t);
+        note_thread(body, marks);
     }
 }
 
-fn note_outline<'a, 'b, 'c>(s: &'a [u8], ix: &'b [usize], z: Sizes, m: &'c mut [bool])
-    requires { ⌜ now ix ≡ indexOf (now s) ⌝ }
-    ensures { λ _. ⌜ now (m .exit) ≡ noted (now (m .entry)) (documentOf z (bodies (now (s .entry))) .outline) ⌝ }
+fn note_outline<'a, 'b, 'c>(
+    image: &'a [u8],
+    index: &'b [usize],
+    sizes: Sizes,
+    marks: &'c mut [bool],
+)
+    requires { ⌜ now index ≡ indexOf (now image) ⌝ }
+    ensures { λ _. ⌜ now (marks .exit) ≡ noted (now (marks .entry)) (documentOf sizes (bodies (now (image .entry))) .outline) ⌝ }
 {
-    let b = body_of(s, ix, (z.formulas as usize) + (z.threads as usize) + 1);
-    let c = tally_of(s, ix, z);
-    note_numbers(b, c.points, m);
+    let body = body_of(
+        image,
+        index,
+        (sizes.formulas as usize) + (sizes.threads as usize) + 1,
+    );
+    let counts = tally_of(image, index, sizes);
+    note_numbers(body, counts.points, marks);
 }
 
 // Left and right formula of the line in a body.
-fn note_sides<'a, 'b>(b: &'a [u8], m: &'b mut [bool])
-    ensures { λ _. ⌜ now (m .exit) ≡ noted (now (m .entry)) (sidesOf (now (b .entry))) ⌝ }
+fn note_sides<'a, 'b>(body: &'a [u8], marks: &'b mut [bool])
+    ensures { λ _. ⌜ now (marks .exit) ≡ noted (now (marks .entry)) (sidesOf (now (body .entry))) ⌝ }
 {
-    note_number(m, word_at(b, 3));
-    note_number(m, word_at(b, 5));
+    note_number(marks, word_at(body, 3));
+    note_number(marks, word_at(body, 5));
 }
 
 // Those of line n, if it stays.
 fn note_line<'a, 'b, 'c, 'd>(
-    s: &'a [u8],
-    ix: &'b [usize],
-    z: Sizes,
-    k: &'c [bool],
-    n: usize,
-    m: &'d mut [bool],
+    image: &'a [u8],
+    index: &'b [usize],
+    sizes: Sizes,
+    live_lines: &'c [bool],
+    number: usize,
+    marks: &'d mut [bool],
 )
-    requires { ⌜ (now ix ≡ indexOf (now s)) × (n < 65536) ⌝ }
-    ensures { λ _. ⌜ now (m .exit) ≡ noted (now (m .entry)) (markedSides z (bodies (now (s .entry))) (now (k .entry)) n) ⌝ }
+    requires { ⌜ (now index ≡ indexOf (now image)) × (number < 65536) ⌝ }
+    ensures { λ _. ⌜ now (marks .exit) ≡ noted (now (marks .entry)) (markedSides sizes (bodies (now (image .entry)))
+        (now (live_lines .entry)) number) ⌝ }
 {
-    if is_noted(k, n) {
-        let b = body_of(s, ix, (z.formulas as usize) + (z.threads as usize) + 1 + n);
-        note_sides(b, m);
+    if is_noted(live_lines, number) {
+        let body = body_of(
+            image,
+            index,
+            (sizes.formulas as usize) + (sizes.threads as usize) + 1 + number,
+        );
+        note_sides(body, marks);
         return;
     }
 }
 
 // Those of all lines that stay.
 fn note_lines<'a, 'b, 'c, 'd>(
-    s: &'a [u8],
-    ix: &'b [usize],
-    z: Sizes,
-    k: &'c [bool],
-    m: &'d mut [bool],
+    image: &'a [u8],
+    index: &'b [usize],
+    sizes: Sizes,
+    live_lines: &'c [bool],
+    marks: &'d mut [bool],
 )
-    requires { ⌜ (now ix ≡ indexOf (now s)) × (length (bodies (now s)) ≡ recordCount z) ⌝ }
-    ensures { λ _. ⌜ now (m .exit) ≡ noted (now (m .entry)) (markedFormulas z (bodies (now (s .entry))) (now (k .entry)) 0) ⌝ }
+    requires { ⌜ (now index ≡ indexOf (now image)) × (length (bodies (now image)) ≡ recordCount sizes) ⌝ }
+    ensures { λ _. ⌜ now (marks .exit) ≡ noted (now (marks .entry)) (markedFormulas sizes (bodies (now (image .entry)))
+        (now (live_lines .entry)) 0) ⌝ }
 {
-    let lines = z.lines as usize;
+    let lines = sizes.lines as usize;
     let mut n: usize = 0;
     while n < lines {
         n += 1;
-        note_line(s, ix, z, k, n, m);
+        note_line(image, index, sizes, live_lines, n, marks);
     }
 }
 
 // With the marks k of the lines that stay.
 pub fn fill_used<'a, 'b, 'c, 'd>(
-    s: &'a [u8],
-    ix: &'b [usize],
-    z: Sizes,
-    k: &'c [bool],
-    m: &'d mut [bool],
+    image: &'a [u8],
+    index: &'b [usize],
+    sizes: Sizes,
+    live_lines: &'c [bool],
+    marks: &'d mut [bool],
 )
-    requires { ⌜ ((now ix ≡ indexOf (now s)) × (length (bodies (now s)) ≡ recordCount z))
-        × ((now k ≡ kept (documentOf z (bodies (now s)))) × (now m ≡ replicate (suc formulas) false)) ⌝ }
-    ensures { λ _. ⌜ now (m .exit) ≡ used (documentOf z (bodies (now (s .entry)))) ⌝ }
+    requires { ⌜ ((now index ≡ indexOf (now image)) × (length (bodies (now image)) ≡ recordCount sizes))
+        × ((now live_lines ≡ kept (documentOf sizes (bodies (now image)))) × (now marks ≡ replicate (suc formulas) false)) ⌝ }
+    ensures { λ _. ⌜ now (marks .exit) ≡ used (documentOf sizes (bodies (now (image .entry)))) ⌝ }
 {
-    note_threads(s, ix, z, m);
-    note_outline(s, ix, z, m);
-    note_lines(s, ix, z, k, m);
+    note_threads(image, index, sizes, marks);
+    note_outline(image, index, sizes, marks);
+    note_lines(image, index, sizes, live_lines, marks);
 }

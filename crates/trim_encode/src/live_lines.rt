@@ -22,70 +22,92 @@ ghost use Rattle.trim_spec.specs.Live.{noted, keptTo, kept};
 ghost use Rattle.trim_encode.specs.NamedNumbers.{claimLines, withPremises};
 
 // The lines that obligations name.
-fn note_obligations<'a, 'b, 'c>(s: &'a [u8], ix: &'b [usize], z: Sizes, m: &'c mut [bool])
-    requires { ⌜ now ix ≡ indexOf (now s) ⌝ }
-    ensures { λ _. ⌜ now (m .exit) ≡ noted (now (m .entry)) (documentOf z (bodies (now (s .entry))) .obligations) ⌝ }
+fn note_obligations<'a, 'b, 'c>(
+    image: &'a [u8],
+    index: &'b [usize],
+    sizes: Sizes,
+    marks: &'c mut [bool],
+)
+    requires { ⌜ now index ≡ indexOf (now image) ⌝ }
+    ensures { λ _. ⌜ now (marks .exit) ≡ noted (now (marks .entry)) (documentOf sizes (bodies (now (image .entry))) .obligations) ⌝ }
 {
-    let b = body_of(
-        s,
-        ix,
-        (z.formulas as usize) + (z.threads as usize) + 1 + (z.lines as usize) + 1,
+    let body = body_of(
+        image,
+        index,
+        (sizes.formulas as usize) + (sizes.threads as usize) + 1 + (sizes.lines as usize) + 1,
     );
-    let n = count_obligations(s, ix, z);
-    note_numbers(b, n, m);
+    let n = count_obligations(image, index, sizes);
+    note_numbers(body, n, marks);
 }
 
 // The lines that claims name.
-fn note_claims<'a, 'b, 'c>(s: &'a [u8], ix: &'b [usize], z: Sizes, m: &'c mut [bool])
-    requires { ⌜ (now ix ≡ indexOf (now s)) × (length (bodies (now s)) ≡ recordCount z) ⌝ }
-    ensures { λ _. ⌜ now (m .exit) ≡ noted (now (m .entry)) (claimLines z (bodies (now (s .entry)))) ⌝ }
+fn note_claims<'a, 'b, 'c>(image: &'a [u8], index: &'b [usize], sizes: Sizes, marks: &'c mut [bool])
+    requires { ⌜ (now index ≡ indexOf (now image)) × (length (bodies (now image)) ≡ recordCount sizes) ⌝ }
+    ensures { λ _. ⌜ now (marks .exit) ≡ noted (now (marks .entry)) (claimLines sizes (bodies (now (image .entry)))) ⌝ }
 {
-    let claims = z.claims as usize;
+    let claims = sizes.claims as usize;
     let mut i: usize = 0;
     while i < claims {
-        let c = claim_of(s, ix, z, i);
-        note_number(m, c.line);
+        let claim = claim_of(image, index, sizes, i);
+        note_number(marks, claim.line);
         i += 1;
     }
 }
 
 // The premises that a line's body lists.
-fn note_premises<'a, 'b>(b: &'a [u8], m: &'b mut [bool])
-    ensures { λ _. ⌜ now (m .exit) ≡ noted (now (m .entry)) (premises (now (b .entry))) ⌝ }
+fn note_premises<'a, 'b>(body: &'a [u8], marks: &'b mut [bool])
+    ensures { λ _. ⌜ now (marks .exit) ≡ noted (now (marks .entry)) (premises (now (body .entry))) ⌝ }
 {
-    let l = rest(b, 8);
-    note_numbers(l, byte_at(b, 7), m);
+    let l = rest(body, 8);
+    note_numbers(l, byte_at(body, 7), marks);
 }
 
 // Those of line n, if it has a mark.
-fn note_line<'a, 'b, 'c>(s: &'a [u8], ix: &'b [usize], z: Sizes, n: usize, m: &'c mut [bool])
-    requires { ⌜ (now ix ≡ indexOf (now s)) × (n < 65536) ⌝ }
-    ensures { λ _. ⌜ now (m .exit) ≡ withPremises z (bodies (now (s .entry))) n (now (m .entry)) ⌝ }
+fn note_line<'a, 'b, 'c>(
+    image: &'a [u8],
+    index: &'b [usize],
+    sizes: Sizes,
+    number: usize,
+    marks: &'c mut [bool],
+)
+    requires { ⌜ (now index ≡ indexOf (now image)) × (number < 65536) ⌝ }
+    ensures { λ _. ⌜ now (marks .exit) ≡ withPremises sizes (bodies (now (image .entry))) number (now (marks .entry)) ⌝ }
 {
-    if is_noted(m, n) {
-        let b = body_of(s, ix, (z.formulas as usize) + (z.threads as usize) + 1 + n);
-        note_premises(b, m);
+    if is_noted(marks, number) {
+        let body = body_of(
+            image,
+            index,
+            (sizes.formulas as usize) + (sizes.threads as usize) + 1 + number,
+        );
+        note_premises(body, marks);
         return;
     }
 }
 
 // From the last line down: a premise stands before the lines that list it.
-fn note_lines<'a, 'b, 'c>(s: &'a [u8], ix: &'b [usize], z: Sizes, m: &'c mut [bool])
-    requires { ⌜ now ix ≡ indexOf (now s) ⌝ }
-    ensures { λ _. ⌜ now (m .exit) ≡ keptTo (documentOf z (bodies (now (s .entry))) .lines) (z .lines) (now (m .entry)) ⌝ }
+fn note_lines<'a, 'b, 'c>(image: &'a [u8], index: &'b [usize], sizes: Sizes, marks: &'c mut [bool])
+    requires { ⌜ now index ≡ indexOf (now image) ⌝ }
+    ensures { λ _. ⌜ now (marks .exit) ≡ keptTo (documentOf sizes (bodies (now (image .entry))) .lines) (sizes .lines)
+        (now (marks .entry)) ⌝ }
 {
-    let mut n = z.lines as usize;
+    let mut n = sizes.lines as usize;
     while 0 < n {
-        note_line(s, ix, z, n, m);
+        note_line(image, index, sizes, n, marks);
         n -= 1;
     }
 }
 
-pub fn fill_kept<'a, 'b, 'c>(s: &'a [u8], ix: &'b [usize], z: Sizes, m: &'c mut [bool])
-    requires { ⌜ ((now ix ≡ indexOf (now s)) × (length (bodies (now s)) ≡ recordCount z)) × (now m ≡ replicate (suc lines) false) ⌝ }
-    ensures { λ _. ⌜ now (m .exit) ≡ kept (documentOf z (bodies (now (s .entry)))) ⌝ }
+pub fn fill_kept<'a, 'b, 'c>(
+    image: &'a [u8],
+    index: &'b [usize],
+    sizes: Sizes,
+    marks: &'c mut [bool],
+)
+    requires { ⌜ ((now index ≡ indexOf (now image)) × (length (bodies (now image)) ≡ recordCount sizes))
+        × (now marks ≡ replicate (suc lines) false) ⌝ }
+    ensures { λ _. ⌜ now (marks .exit) ≡ kept (documentOf sizes (bodies (now (image .entry)))) ⌝ }
 {
-    note_obligations(s, ix, z, m);
-    note_claims(s, ix, z, m);
-    note_lines(s, ix, z, m);
+    note_obligations(image, index, sizes, marks);
+    note_claims(image, index, sizes, marks);
+    note_lines(image, index, sizes, marks);
 }

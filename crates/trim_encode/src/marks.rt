@@ -7,33 +7,33 @@ ghost use Rattle.limits.specs.Numbers.{numbers};
 ghost use Rattle.trim_spec.specs.Live.{noted};
 
 // A number past the marks is left out.
-pub fn note_number(m: &mut [bool], n: usize)
-    ensures { λ _. ⌜ now (m .exit) ≡ set (now (m .entry)) n true ⌝ }
+pub fn note_number(marks: &mut [bool], number: usize)
+    ensures { λ _. ⌜ now (marks .exit) ≡ set (now (marks .entry)) number true ⌝ }
 {
-    if m.len() <= n {
+    if marks.len() <= number {
         return;
     }
-    m[n] = true;
+    marks[number] = true;
 }
 
 // Of n 16-bit numbers.
-pub fn note_numbers<'a, 'b>(b: &'a [u8], n: usize, m: &'b mut [bool])
-    ensures { λ _. ⌜ now (m .exit) ≡ noted (now (m .entry)) (numbers n (now (b .entry))) ⌝ }
+pub fn note_numbers<'a, 'b>(body: &'a [u8], number: usize, marks: &'b mut [bool])
+    ensures { λ _. ⌜ now (marks .exit) ≡ noted (now (marks .entry)) (numbers number (now (body .entry))) ⌝ }
 {
     let mut i: usize = 0;
-    while i < n {
-        let x = number_at(b, n, i);
-        note_number(m, x);
+    while i < number {
+        let x = number_at(body, number, i);
+        note_number(marks, x);
         i += 1;
     }
 }
 
 // A number past the marks has none.
-pub fn is_noted(m: &[bool], n: usize) -> bool
-    ensures { λ r. ⌜ r ≡ getD (now (m .entry)) n false ⌝ }
+pub fn is_noted(marks: &[bool], number: usize) -> bool
+    ensures { λ r. ⌜ r ≡ getD (now (marks .entry)) number false ⌝ }
 {
-    if m.len() <= n {
+    if marks.len() <= number {
         return false;
     }
-    m[n]
+    marks[number]
 }

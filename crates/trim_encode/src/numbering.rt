@@ -7,26 +7,26 @@ ghost use lib.ListN.{length, getD, replicate};
 ghost use Rattle.trim_spec.specs.Live.{newNumbers};
 
 // The number behind n, if i has a mark; else n.
-fn count_mark(m: &[bool], i: usize, n: usize) -> usize
-    requires { ⌜ (i ≤ length (now m)) × (n < i) ⌝ }
-    ensures { λ r. ⌜ (r ≡ n + cond (getD (now (m .entry)) i false) 1 0) × (r ≤ i) ⌝ }
+fn count_mark(marks: &[bool], i: usize, n: usize) -> usize
+    requires { ⌜ (i ≤ length (now marks)) × (n < i) ⌝ }
+    ensures { λ r. ⌜ (r ≡ n + cond (getD (now (marks .entry)) i false) 1 0) × (r ≤ i) ⌝ }
 {
-    if is_noted(m, i) {
+    if is_noted(marks, i) {
         return n + 1;
     }
     n
 }
 
 // A table of zeros is filled on one pass, with a running count.
-pub fn fill_numbers<'a, 'b>(m: &'a [bool], table: &'b mut [usize])
-    requires { ⌜ now table ≡ replicate (length (now m)) 0 ⌝ }
-    ensures { λ _. ⌜ now (table .exit) ≡ newNumbers (now (m .entry)) ⌝ }
+pub fn fill_numbers<'a, 'b>(marks: &'a [bool], table: &'b mut [usize])
+    requires { ⌜ now table ≡ replicate (length (now marks)) 0 ⌝ }
+    ensures { λ _. ⌜ now (table .exit) ≡ newNumbers (now (marks .entry)) ⌝ }
 {
     let mut n: usize = 0;
     let mut i: usize = 0;
-    while i < m.len() {
+    while i < marks.len() {
         table[i] = n;
         i += 1;
-        n = count_mark(m, i, n);
+        n = count_mark(marks, i, n);
     }
 }

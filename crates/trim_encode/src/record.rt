@@ -17,69 +17,73 @@ ghost use Rattle.trim_encode.specs.Records.{renewedBody, recordBytes, li
 
 // The body of a record of a kind that there may be many of, or of the header.
 fn put_body<'a, 'b, 'c, 'd>(
-    f: &'a [usize],
-    g: &'b [usize],
+    formula_numbers: &'a [usize],
+    line_numbers: &'b [usize],
     kind: usize,
-    b: &'c [u8],
+    body: &'c [u8],
     out: &'d mut [u8],
     at: usize,
 ) -> usize
-    requires { ⌜ at + length (renewedBody (now f) (now g) kind (now b)) ≤ length (now out) ⌝ }
+    requires { ⌜ at + length (renewedBody (now formula_numbers) (now line_numbers) kind (now body)) ≤ length (now out) ⌝ }
     ensures { λ r. ⌜ now (out .exit)
-        ≡ overwritten (now (out .entry)) at (renewedBody (now (f .entry)) (now (g .entry)) kind (now (b .entry))) ⌝ }
-    ensures { λ r. ⌜ r ≡ at + length (renewedBody (now (f .entry)) (now (g .entry)) kind (now (b .entry))) ⌝ }
+        ≡ overwritten (now (out .entry)) at (renewedBody (now (formula_numbers .entry)) (now (line_numbers .entry)) kind
+        (now (body .entry))) ⌝ }
+    ensures { λ r. ⌜ r ≡ at + length (renewedBody (now (formula_numbers .entry)) (now (line_numbers .entry)) kind (now (body .entry))) ⌝ }
 {
     if kind == Kind::THREAD {
-        return put_thread(f, b, out, at);
+        return put_thread(formula_numbers, body, out, at);
     }
     if kind == Kind::LINE {
-        return put_line(f, g, b, out, at);
+        return put_line(formula_numbers, line_numbers, body, out, at);
     }
     if kind == Kind::CLAIM {
-        return put_claim(g, b, out, at);
+        return put_claim(line_numbers, body, out, at);
     }
-    put_bytes(b, out, at)
+    put_bytes(body, out, at)
 }
 
 // The record that has n records before it.
 pub fn put_record<'a, 'b, 'c, 'd, 'e>(
-    s: &'a [u8],
-    ix: &'b [usize],
-    f: &'c [usize],
-    g: &'d [usize],
+    image: &'a [u8],
+    index: &'b [usize],
+    formula_numbers: &'c [usize],
+    line_numbers: &'d [usize],
     kind: usize,
-    n: usize,
+    number: usize,
     out: &'e mut [u8],
     at: usize,
 ) -> usize
-    requires { ⌜ now ix ≡ indexOf (now s) ⌝ }
-    requires { ⌜ at + length (recordBytes (now f) (now g) (bodies (now s)) kind n) ≤ length (now out) ⌝ }
+    requires { ⌜ now index ≡ indexOf (now image) ⌝ }
+    requires { ⌜ at + length (recordBytes (now formula_numbers) (now line_numbers) (bodies (now image)) kind number) ≤ length (now out) ⌝ }
     ensures { λ r. ⌜ now (out .exit)
-        ≡ overwritten (now (out .entry)) at (recordBytes (now (f .entry)) (now (g .entry)) (bodies (now (s .entry))) kind n) ⌝ }
-    ensures { λ r. ⌜ r ≡ at + length (recordBytes (now (f .entry)) (now (g .entry)) (bodies (now (s .entry))) kind n) ⌝ }
+        ≡ overwritten (now (out .entry)) at (recordBytes (now (formula_numbers .entry)) (now (line_numbers .entry))
+        (bodies (now (image .entry))) kind number) ⌝ }
+    ensures { λ r. ⌜ r ≡ at + length (recordBytes (now (formula_numbers .entry)) (now (line_numbers .entry)) (bodies (now (image .entry)))
+        kind number) ⌝ }
 {
-    let b = body_of(s, ix, n);
-    let end = put_body(f, g, kind, b, out, at + 4);
+    let body = body_of(image, index, number);
+    let end = put_body(formula_numbers, line_numbers, kind, body, out, at + 4);
     put_frame(kind, out, at, end)
 }
 
 // A record that is a list of c numbers, renewed by one table.
 pub fn put_list<'a, 'b, 'c, 'd>(
-    s: &'a [u8],
-    ix: &'b [usize],
-    t: &'c [usize],
+    image: &'a [u8],
+    index: &'b [usize],
+    new_numbers: &'c [usize],
     kind: usize,
-    n: usize,
-    c: usize,
+    number: usize,
+    count: usize,
     out: &'d mut [u8],
     at: usize,
 ) -> usize
-    requires { ⌜ now ix ≡ indexOf (now s) ⌝ }
-    requires { ⌜ at + length (listBytes (now t) (bodies (now s)) kind n c) ≤ length (now out) ⌝ }
-    ensures { λ r. ⌜ now (out .exit) ≡ overwritten (now (out .entry)) at (listBytes (now (t .entry)) (bodies (now (s .entry))) kind n c) ⌝ }
-    ensures { λ r. ⌜ r ≡ at + length (listBytes (now (t .entry)) (bodies (now (s .entry))) kind n c) ⌝ }
+    requires { ⌜ now index ≡ indexOf (now image) ⌝ }
+    requires { ⌜ at + length (listBytes (now new_numbers) (bodies (now image)) kind number count) ≤ length (now out) ⌝ }
+    ensures { λ r. ⌜ now (out .exit) ≡ overwritten (now (out .entry)) at
+        (listBytes (now (new_numbers .entry)) (bodies (now (image .entry))) kind number count) ⌝ }
+    ensures { λ r. ⌜ r ≡ at + length (listBytes (now (new_numbers .entry)) (bodies (now (image .entry))) kind number count) ⌝ }
 {
-    let b = body_of(s, ix, n);
-    let end = put_numbers(t, b, c, out, at + 4);
+    let body = body_of(image, index, number);
+    let end = put_numbers(new_numbers, body, count, out, at + 4);
     put_frame(kind, out, at, end)
 }

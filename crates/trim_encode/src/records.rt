@@ -12,117 +12,167 @@ ghost use Rattle.trim_encode.specs.Records.{recordPiece, keptPiece};
 
 // The record at i, from 0.
 fn put_next<'a, 'b, 'c, 'd, 'e>(
-    s: &'a [u8],
-    ix: &'b [usize],
-    f: &'c [usize],
-    g: &'d [usize],
+    image: &'a [u8],
+    index: &'b [usize],
+    formula_numbers: &'c [usize],
+    line_numbers: &'d [usize],
     kind: usize,
-    n: usize,
+    first: usize,
     i: usize,
     out: &'e mut [u8],
     at: usize,
 ) -> usize
-    requires { ⌜ now ix ≡ indexOf (now s) ⌝ }
-    requires { ⌜ n + i < 1000000 ⌝ }
-    requires { ⌜ at + length (recordPiece (now f) (now g) (bodies (now s)) kind n i) ≤ length (now out) ⌝ }
+    requires { ⌜ now index ≡ indexOf (now image) ⌝ }
+    requires { ⌜ first + i < 1000000 ⌝ }
+    requires { ⌜ at + length (recordPiece (now formula_numbers) (now line_numbers) (bodies (now image)) kind first i) ≤ length (now out) ⌝ }
     ensures { λ r. ⌜ now (out .exit)
-        ≡ overwritten (now (out .entry)) at (recordPiece (now (f .entry)) (now (g .entry)) (bodies (now (s .entry))) kind n i) ⌝ }
-    ensures { λ r. ⌜ r ≡ at + length (recordPiece (now (f .entry)) (now (g .entry)) (bodies (now (s .entry))) kind n i) ⌝ }
+        ≡ overwritten (now (out .entry)) at (recordPiece (now (formula_numbers .entry)) (now (line_numbers .entry))
+        (bodies (now (image .entry))) kind first i) ⌝ }
+    ensures { λ r. ⌜ r ≡ at + length (recordPiece (now (formula_numbers .entry)) (now (line_numbers .entry)) (bodies (now (image .entry)))
+        kind first i) ⌝ }
 {
-    put_record(s, ix, f, g, kind, n + i, out, at)
+    put_record(
+        image,
+        index,
+        formula_numbers,
+        line_numbers,
+        kind,
+        first + i,
+        out,
+        at,
+    )
 }
 
 // All of them.
 pub fn put_records<'a, 'b, 'c, 'd, 'e>(
-    s: &'a [u8],
-    ix: &'b [usize],
-    f: &'c [usize],
-    g: &'d [usize],
+    image: &'a [u8],
+    index: &'b [usize],
+    formula_numbers: &'c [usize],
+    line_numbers: &'d [usize],
     kind: usize,
-    n: usize,
-    c: usize,
+    number: usize,
+    count: usize,
     out: &'e mut [u8],
     at: usize,
 ) -> usize
-    requires { ⌜ now ix ≡ indexOf (now s) ⌝ }
-    requires { ⌜ n + c < 1000000 ⌝ }
-    requires { ⌜ at + length (joined (recordPiece (now f) (now g) (bodies (now s)) kind n) c) ≤ length (now out) ⌝ }
+    requires { ⌜ now index ≡ indexOf (now image) ⌝ }
+    requires { ⌜ number + count < 1000000 ⌝ }
+    requires { ⌜ at + length (joined (recordPiece (now formula_numbers) (now line_numbers) (bodies (now image)) kind number) count) ≤
+        length (now out) ⌝ }
     ensures { λ r. ⌜ now (out .exit)
-        ≡ overwritten (now (out .entry)) at (joined (recordPiece (now (f .entry)) (now (g .entry)) (bodies (now (s .entry))) kind n) c) ⌝ }
-    ensures { λ r. ⌜ r ≡ at + length (joined (recordPiece (now (f .entry)) (now (g .entry)) (bodies (now (s .entry))) kind n) c) ⌝ }
+        ≡ overwritten (now (out .entry)) at (joined (recordPiece (now (formula_numbers .entry)) (now (line_numbers .entry))
+        (bodies (now (image .entry))) kind number) count) ⌝ }
+    ensures { λ r. ⌜ r ≡ at + length (joined (recordPiece (now (formula_numbers .entry)) (now (line_numbers .entry))
+        (bodies (now (image .entry))) kind number) count) ⌝ }
 {
     let mut next = at;
     let mut i: usize = 0;
-    while i < c {
-        next = put_next(s, ix, f, g, kind, n, i, out, next);
+    while i < count {
+        next = put_next(
+            image,
+            index,
+            formula_numbers,
+            line_numbers,
+            kind,
+            number,
+            i,
+            out,
+            next,
+        );
         i += 1;
     }
     next
 }
 
 // A number that has no mark is not kept.
-fn is_kept(m: &[bool], n: usize) -> bool
-    ensures { λ r. ⌜ r ≡ getD (now (m .entry)) n false ⌝ }
+fn is_kept(marks: &[bool], number: usize) -> bool
+    ensures { λ r. ⌜ r ≡ getD (now (marks .entry)) number false ⌝ }
 {
-    if m.len() <= n {
+    if marks.len() <= number {
         return false;
     }
-    m[n]
+    marks[number]
 }
 
 // The record at i, if the mark of its number is set.
 fn put_if_kept<'a, 'b, 'c, 'd, 'e, 'f>(
-    s: &'a [u8],
-    ix: &'b [usize],
-    f: &'c [usize],
-    g: &'d [usize],
-    m: &'e [bool],
+    image: &'a [u8],
+    index: &'b [usize],
+    formula_numbers: &'c [usize],
+    line_numbers: &'d [usize],
+    marks: &'e [bool],
     kind: usize,
-    n: usize,
+    first: usize,
     i: usize,
     out: &'f mut [u8],
     at: usize,
 ) -> usize
-    requires { ⌜ now ix ≡ indexOf (now s) ⌝ }
-    requires { ⌜ n + i < 1000000 ⌝ }
-    requires { ⌜ at + length (keptPiece (now f) (now g) (bodies (now s)) (now m) kind n i) ≤ length (now out) ⌝ }
+    requires { ⌜ now index ≡ indexOf (now image) ⌝ }
+    requires { ⌜ first + i < 1000000 ⌝ }
+    requires { ⌜ at + length (keptPiece (now formula_numbers) (now line_numbers) (bodies (now image)) (now marks) kind first i) ≤ length
+        (now out) ⌝ }
     ensures { λ r. ⌜ now (out .exit)
         ≡ overwritten (now (out .entry)) at
-        (keptPiece (now (f .entry)) (now (g .entry)) (bodies (now (s .entry))) (now (m .entry)) kind n i) ⌝ }
-    ensures { λ r. ⌜ r ≡ at + length (keptPiece (now (f .entry)) (now (g .entry)) (bodies (now (s .entry))) (now (m .entry)) kind n i) ⌝ }
+        (keptPiece (now (formula_numbers .entry)) (now (line_numbers .entry)) (bodies (now (image .entry))) (now (marks .entry)) kind
+        first i) ⌝ }
+    ensures { λ r. ⌜ r ≡ at + length (keptPiece (now (formula_numbers .entry)) (now (line_numbers .entry)) (bodies (now (image .entry)))
+        (now (marks .entry)) kind first i) ⌝ }
 {
-    if is_kept(m, i + 1) {
-        return put_record(s, ix, f, g, kind, n + i, out, at);
+    if is_kept(marks, i + 1) {
+        return put_record(
+            image,
+            index,
+            formula_numbers,
+            line_numbers,
+            kind,
+            first + i,
+            out,
+            at,
+        );
     }
     at
 }
 
 // Those that are kept.
 pub fn put_kept<'a, 'b, 'c, 'd, 'e, 'f>(
-    s: &'a [u8],
-    ix: &'b [usize],
-    f: &'c [usize],
-    g: &'d [usize],
-    m: &'e [bool],
+    image: &'a [u8],
+    index: &'b [usize],
+    formula_numbers: &'c [usize],
+    line_numbers: &'d [usize],
+    marks: &'e [bool],
     kind: usize,
-    n: usize,
-    c: usize,
+    first: usize,
+    count: usize,
     out: &'f mut [u8],
     at: usize,
 ) -> usize
-    requires { ⌜ now ix ≡ indexOf (now s) ⌝ }
-    requires { ⌜ n + c < 1000000 ⌝ }
-    requires { ⌜ at + length (joined (keptPiece (now f) (now g) (bodies (now s)) (now m) kind n) c) ≤ length (now out) ⌝ }
+    requires { ⌜ now index ≡ indexOf (now image) ⌝ }
+    requires { ⌜ first + count < 1000000 ⌝ }
+    requires { ⌜ at + length (joined (keptPiece (now formula_numbers) (now line_numbers) (bodies (now image)) (now marks) kind first)
+        count) ≤ length (now out) ⌝ }
     ensures { λ r. ⌜ now (out .exit)
         ≡ overwritten (now (out .entry)) at
-        (joined (keptPiece (now (f .entry)) (now (g .entry)) (bodies (now (s .entry))) (now (m .entry)) kind n) c) ⌝ }
+        (joined (keptPiece (now (formula_numbers .entry)) (now (line_numbers .entry)) (bodies (now (image .entry))) (now (marks .entry))
+        kind first) count) ⌝ }
     ensures { λ r. ⌜ r
-        ≡ at + length (joined (keptPiece (now (f .entry)) (now (g .entry)) (bodies (now (s .entry))) (now (m .entry)) kind n) c) ⌝ }
+        ≡ at + length (joined (keptPiece (now (formula_numbers .entry)) (now (line_numbers .entry)) (bodies (now (image .entry)))
+        (now (marks .entry)) kind first) count) ⌝ }
 {
     let mut next = at;
     let mut i: usize = 0;
-    while i < c {
-        next = put_if_kept(s, ix, f, g, m, kind, n, i, out, next);
+    while i < count {
+        next = put_if_kept(
+            image,
+            index,
+            formula_numbers,
+            line_numbers,
+            marks,
+            kind,
+            first,
+            i,
+            out,
+            next,
+        );
         i += 1;
     }
     next

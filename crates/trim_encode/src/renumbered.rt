@@ -12,51 +12,52 @@ ghost use Rattle.trim_encode.specs.Pieces.{numberPiece};
 ghost use Rattle.trim_encode.specs.Renumbered.{renewed};
 
 // Every number has an answer, so that no caller need know that it is in the table.
-pub fn new_number(t: &[usize], n: usize) -> usize
-    ensures { λ r. ⌜ r ≡ renewed (now (t .entry)) n ⌝ }
+pub fn new_number(new_numbers: &[usize], number: usize) -> usize
+    ensures { λ r. ⌜ r ≡ renewed (now (new_numbers .entry)) number ⌝ }
 {
-    if n < t.len() {
-        return t[n];
+    if number < new_numbers.len() {
+        return new_numbers[number];
     }
-    if t.len() == 0 {
+    if new_numbers.len() == 0 {
         return 0;
     }
-    t[t.len() - 1]
+    new_numbers[new_numbers.len() - 1]
 }
 
 // The number at an index, from 0, of n.
 fn put_number<'a, 'b, 'c>(
-    t: &'a [usize],
-    b: &'b [u8],
+    new_numbers: &'a [usize],
+    body: &'b [u8],
     n: usize,
     i: usize,
     out: &'c mut [u8],
     at: usize,
 ) -> usize
-    requires { ⌜ at + length (numberPiece (now t) (now b) n i) ≤ length (now out) ⌝ }
-    ensures { λ r. ⌜ now (out .exit) ≡ overwritten (now (out .entry)) at (numberPiece (now (t .entry)) (now (b .entry)) n i) ⌝ }
-    ensures { λ r. ⌜ r ≡ at + length (numberPiece (now (t .entry)) (now (b .entry)) n i) ⌝ }
+    requires { ⌜ at + length (numberPiece (now new_numbers) (now body) n i) ≤ length (now out) ⌝ }
+    ensures { λ r. ⌜ now (out .exit) ≡ overwritten (now (out .entry)) at (numberPiece (now (new_numbers .entry)) (now (body .entry)) n i)
+        ⌝ }
+    ensures { λ r. ⌜ r ≡ at + length (numberPiece (now (new_numbers .entry)) (now (body .entry)) n i) ⌝ }
 {
-    put_word(new_number(t, number_at(b, n, i)), out, at)
+    put_word(new_number(new_numbers, number_at(body, n, i)), out, at)
 }
 
 // The n numbers in front of the bytes.
 pub fn put_numbers<'a, 'b, 'c>(
-    t: &'a [usize],
-    b: &'b [u8],
+    new_numbers: &'a [usize],
+    body: &'b [u8],
     n: usize,
     out: &'c mut [u8],
     at: usize,
 ) -> usize
-    requires { ⌜ at + length (numberBytes (map (renewed (now t)) (numbers n (now b)))) ≤ length (now out) ⌝ }
+    requires { ⌜ at + length (numberBytes (map (renewed (now new_numbers)) (numbers n (now body)))) ≤ length (now out) ⌝ }
     ensures { λ r. ⌜ now (out .exit)
-        ≡ overwritten (now (out .entry)) at (numberBytes (map (renewed (now (t .entry))) (numbers n (now (b .entry))))) ⌝ }
-    ensures { λ r. ⌜ r ≡ at + length (numberBytes (map (renewed (now (t .entry))) (numbers n (now (b .entry))))) ⌝ }
+        ≡ overwritten (now (out .entry)) at (numberBytes (map (renewed (now (new_numbers .entry))) (numbers n (now (body .entry))))) ⌝ }
+    ensures { λ r. ⌜ r ≡ at + length (numberBytes (map (renewed (now (new_numbers .entry))) (numbers n (now (body .entry))))) ⌝ }
 {
     let mut next = at;
     let mut i: usize = 0;
     while i < n {
-        next = put_number(t, b, n, i, out, next);
+        next = put_number(new_numbers, body, n, i, out, next);
         i += 1;
     }
     next

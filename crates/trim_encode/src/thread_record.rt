@@ -20,80 +20,116 @@ ghost use Rattle.trim_encode.specs.RecordParts.{secondBytes};
 ghost use Rattle.trim_encode.specs.Renumbered.{renewedHalf, renewedInstruction};
 
 // The second half of an instruction, where its operation has one.
-fn put_second<'a, 'b>(f: &'a [usize], operation: u8, h: Half, out: &'b mut [u8], at: usize) -> usize
-    requires { ⌜ at + length (secondBytes operation (renewedHalf (now f) h)) ≤ length (now out) ⌝ }
-    ensures { λ r. ⌜ now (out .exit) ≡ overwritten (now (out .entry)) at (secondBytes operation (renewedHalf (now (f .entry)) h)) ⌝ }
-    ensures { λ r. ⌜ r ≡ at + length (secondBytes operation (renewedHalf (now (f .entry)) h)) ⌝ }
+fn put_second<'a, 'b>(
+    formula_numbers: &'a [usize],
+    operation: u8,
+    half: Half,
+    out: &'b mut [u8],
+    at: usize,
+) -> usize
+    requires { ⌜ at + length (secondBytes operation (renewedHalf (now formula_numbers) half)) ≤ length (now out) ⌝ }
+    ensures { λ r. ⌜ now (out .exit) ≡ overwritten (now (out .entry)) at
+        (secondBytes operation (renewedHalf (now (formula_numbers .entry)) half)) ⌝ }
+    ensures { λ r. ⌜ r ≡ at + length (secondBytes operation (renewedHalf (now (formula_numbers .entry)) half)) ⌝ }
 {
     if is_twofold(operation) {
-        return put_five(h.operation, h.a, h.b, new_number(f, h.formula), out, at);
+        return put_five(
+            half.operation,
+            half.a,
+            half.b,
+            new_number(formula_numbers, half.formula),
+            out,
+            at,
+        );
     }
     at
 }
 
-fn put_instruction<'a, 'b>(f: &'a [usize], i: Instruction, out: &'b mut [u8], at: usize) -> usize
-    requires { ⌜ at + length (instructionBytes (renewedInstruction (now f) i)) ≤ length (now out) ⌝ }
-    ensures { λ r. ⌜ now (out .exit) ≡ overwritten (now (out .entry)) at (instructionBytes (renewedInstruction (now (f .entry)) i)) ⌝ }
-    ensures { λ r. ⌜ r ≡ at + length (instructionBytes (renewedInstruction (now (f .entry)) i)) ⌝ }
+fn put_instruction<'a, 'b>(
+    formula_numbers: &'a [usize],
+    instruction: Instruction,
+    out: &'b mut [u8],
+    at: usize,
+) -> usize
+    requires { ⌜ at + length (instructionBytes (renewedInstruction (now formula_numbers) instruction)) ≤ length (now out) ⌝ }
+    ensures { λ r. ⌜ now (out .exit) ≡ overwritten (now (out .entry)) at
+        (instructionBytes (renewedInstruction (now (formula_numbers .entry)) instruction)) ⌝ }
+    ensures { λ r. ⌜ r ≡ at + length (instructionBytes (renewedInstruction (now (formula_numbers .entry)) instruction)) ⌝ }
 {
-    let next = put_five(i.operation, i.a, i.b, new_number(f, i.formula), out, at);
-    let h = i.second;
-    put_second(f, i.operation, h, out, next)
+    let next = put_five(
+        instruction.operation,
+        instruction.a,
+        instruction.b,
+        new_number(formula_numbers, instruction.formula),
+        out,
+        at,
+    );
+    let h = instruction.second;
+    put_second(formula_numbers, instruction.operation, h, out, next)
 }
 
 // The instruction at point p.
 fn put_step<'a, 'b, 'c>(
-    f: &'a [usize],
-    b: &'b [u8],
-    p: usize,
+    formula_numbers: &'a [usize],
+    body: &'b [u8],
+    point: usize,
     out: &'c mut [u8],
     at: usize,
 ) -> usize
-    requires { ⌜ at + length (instructionPiece (now f) (now b) p) ≤ length (now out) ⌝ }
-    ensures { λ r. ⌜ now (out .exit) ≡ overwritten (now (out .entry)) at (instructionPiece (now (f .entry)) (now (b .entry)) p) ⌝ }
-    ensures { λ r. ⌜ r ≡ at + length (instructionPiece (now (f .entry)) (now (b .entry)) p) ⌝ }
+    requires { ⌜ at + length (instructionPiece (now formula_numbers) (now body) point) ≤ length (now out) ⌝ }
+    ensures { λ r. ⌜ now (out .exit) ≡ overwritten (now (out .entry)) at
+        (instructionPiece (now (formula_numbers .entry)) (now (body .entry)) point) ⌝ }
+    ensures { λ r. ⌜ r ≡ at + length (instructionPiece (now (formula_numbers .entry)) (now (body .entry)) point) ⌝ }
 {
-    let i = instruction_at(b, p);
-    put_instruction(f, i, out, at)
+    let i = instruction_at(body, point);
+    put_instruction(formula_numbers, i, out, at)
 }
 
 fn put_steps<'a, 'b, 'c>(
-    f: &'a [usize],
-    b: &'b [u8],
+    formula_numbers: &'a [usize],
+    body: &'b [u8],
     n: usize,
     out: &'c mut [u8],
     at: usize,
 ) -> usize
-    requires { ⌜ at + length (joined (instructionPiece (now f) (now b)) n) ≤ length (now out) ⌝ }
-    ensures { λ r. ⌜ now (out .exit) ≡ overwritten (now (out .entry)) at (joined (instructionPiece (now (f .entry)) (now (b .entry))) n) ⌝ }
-    ensures { λ r. ⌜ r ≡ at + length (joined (instructionPiece (now (f .entry)) (now (b .entry))) n) ⌝ }
+    requires { ⌜ at + length (joined (instructionPiece (now formula_numbers) (now body)) n) ≤ length (now out) ⌝ }
+    ensures { λ r. ⌜ now (out .exit) ≡ overwritten (now (out .entry)) at
+        (joined (instructionPiece (now (formula_numbers .entry)) (now (body .entry))) n) ⌝ }
+    ensures { λ r. ⌜ r ≡ at + length (joined (instructionPiece (now (formula_numbers .entry)) (now (body .entry))) n) ⌝ }
 {
     let mut next = at;
     let mut i: usize = 0;
     while i < n {
-        next = put_step(f, b, i, out, next);
+        next = put_step(formula_numbers, body, i, out, next);
         i += 1;
     }
     next
 }
 
 // No points are counted as 1.
-fn points_of(b: &[u8]) -> u8
-    ensures { λ r. ⌜ r ≡ lastPoint (now (b .entry)) + 1 ⌝ }
+fn points_of(body: &[u8]) -> u8
+    ensures { λ r. ⌜ r ≡ lastPoint (now (body .entry)) + 1 ⌝ }
 {
-    let n = octet_at(b, 0);
+    let n = octet_at(body, 0);
     if n == 0 {
         return 1;
     }
     n
 }
 
-pub fn put_thread<'a, 'b, 'c>(f: &'a [usize], b: &'b [u8], out: &'c mut [u8], at: usize) -> usize
-    requires { ⌜ at + length (threadBytes (map (renewedInstruction (now f)) (instructions (now b)))) ≤ length (now out) ⌝ }
+pub fn put_thread<'a, 'b, 'c>(
+    formula_numbers: &'a [usize],
+    body: &'b [u8],
+    out: &'c mut [u8],
+    at: usize,
+) -> usize
+    requires { ⌜ at + length (threadBytes (map (renewedInstruction (now formula_numbers)) (instructions (now body)))) ≤ length (now out) ⌝ }
     ensures { λ r. ⌜ now (out .exit)
-        ≡ overwritten (now (out .entry)) at (threadBytes (map (renewedInstruction (now (f .entry))) (instructions (now (b .entry))))) ⌝ }
-    ensures { λ r. ⌜ r ≡ at + length (threadBytes (map (renewedInstruction (now (f .entry))) (instructions (now (b .entry))))) ⌝ }
+        ≡ overwritten (now (out .entry)) at (threadBytes (map (renewedInstruction (now (formula_numbers .entry)))
+        (instructions (now (body .entry))))) ⌝ }
+    ensures { λ r. ⌜ r ≡ at + length (threadBytes (map (renewedInstruction (now (formula_numbers .entry)))
+        (instructions (now (body .entry))))) ⌝ }
 {
-    let next = put_byte(points_of(b), out, at);
-    put_steps(f, b, last_point(b), out, next)
+    let next = put_byte(points_of(body), out, at);
+    put_steps(formula_numbers, body, last_point(body), out, next)
 }

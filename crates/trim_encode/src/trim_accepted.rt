@@ -20,49 +20,50 @@ ghost use Rattle.trim_encode.specs.Answer.{answeredBy, bufferBy};
 
 // With the marks u of the formulas and k of the lines that stay, where there is room.
 fn write_numbered<'a, 'b, 'c, 'd, 'e>(
-    s: &'a [u8],
-    ix: &'b [usize],
-    z: Sizes,
-    u: &'c [bool],
-    k: &'d [bool],
+    image: &'a [u8],
+    index: &'b [usize],
+    sizes: Sizes,
+    live_formulas: &'c [bool],
+    live_lines: &'d [bool],
     out: &'e mut [u8],
 )
-    requires { ⌜ (now ix ≡ indexOf (now s)) × Accepted (now s) z ⌝ }
-    requires { ⌜ (now u ≡ used (documentOf z (bodies (now s)))) × (now k ≡ kept (documentOf z (bodies (now s)))) ⌝ }
-    requires { ⌜ length (trimmedBytes z (now s)) ≤ length (now out) ⌝ }
-    ensures { λ _. ⌜ now (out .exit) ≡ bufferBy (trimmedBytes z (now (s .entry))) (now (out .entry)) ⌝ }
+    requires { ⌜ (now index ≡ indexOf (now image)) × Accepted (now image) sizes ⌝ }
+    requires { ⌜ (now live_formulas ≡ used (documentOf sizes (bodies (now image))))
+        × (now live_lines ≡ kept (documentOf sizes (bodies (now image)))) ⌝ }
+    requires { ⌜ length (trimmedBytes sizes (now image)) ≤ length (now out) ⌝ }
+    ensures { λ _. ⌜ now (out .exit) ≡ bufferBy (trimmedBytes sizes (now (image .entry))) (now (out .entry)) ⌝ }
 {
     let mut f = [0usize; Limits::FORMULAS + 1];
-    fill_numbers(u, &mut f);
+    fill_numbers(live_formulas, &mut f);
     let mut g = [0usize; Limits::LINES + 1];
-    fill_numbers(k, &mut g);
-    write_trimmed(s, ix, z, &f, &g, u, k, out);
+    fill_numbers(live_lines, &mut g);
+    write_trimmed(image, index, sizes, &f, &g, live_formulas, live_lines, out);
 }
 
 pub fn trim_accepted<'a, 'b, 'c>(
-    s: &'a [u8],
-    ix: &'b [usize],
-    z: Sizes,
+    image: &'a [u8],
+    index: &'b [usize],
+    sizes: Sizes,
     out: &'c mut [u8],
 ) -> Answer
-    requires { ⌜ (now ix ≡ indexOf (now s)) × Accepted (now s) z ⌝ }
-    ensures { λ r. ⌜ (r ≡ answeredBy (trimmedBytes z (now (s .entry))) (now (out .entry)))
-        × (now (out .exit) ≡ bufferBy (trimmedBytes z (now (s .entry))) (now (out .entry))) ⌝ }
+    requires { ⌜ (now index ≡ indexOf (now image)) × Accepted (now image) sizes ⌝ }
+    ensures { λ r. ⌜ (r ≡ answeredBy (trimmedBytes sizes (now (image .entry))) (now (out .entry)))
+        × (now (out .exit) ≡ bufferBy (trimmedBytes sizes (now (image .entry))) (now (out .entry))) ⌝ }
 {
     let mut k = [false; Limits::LINES + 1];
-    fill_kept(s, ix, z, &mut k);
+    fill_kept(image, index, sizes, &mut k);
     let mut u = [false; Limits::FORMULAS + 1];
-    fill_used(s, ix, z, &k, &mut u);
-    let n = trimmed_length(s, ix, z, &k, &u);
-    if out.len() < n {
+    fill_used(image, index, sizes, &k, &mut u);
+    let length = trimmed_length(image, index, sizes, &k, &u);
+    if out.len() < length {
         return Answer {
             code: Answer::SHORT,
             length: Answer::NOTHING,
         };
     }
-    write_numbered(s, ix, z, &u, &k, out);
+    write_numbered(image, index, sizes, &u, &k, out);
     Answer {
         code: Answer::DONE,
-        length: n,
+        length: length,
     }
 }

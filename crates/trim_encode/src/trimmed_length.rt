@@ -16,74 +16,92 @@ ghost use Rattle.trim_spec.specs.Trim.{trim};
 ghost use Rattle.trim_encode.specs.LeftOutBytes.{leftOne, leftBehind, most, Lengths};
 
 // The bytes of the record that has i records before it, if number n has no mark. Length and kind are 4 bytes.
-fn left_one<'a, 'b, 'c>(s: &'a [u8], ix: &'b [usize], i: usize, m: &'c [bool], n: usize) -> usize
-    requires { ⌜ (now ix ≡ indexOf (now s)) × (length (now s) ≤ imageBytes) ⌝ }
-    ensures { λ r. ⌜ (r ≡ leftOne (now (m .entry)) n (length (getD (bodies (now (s .entry))) i []))) × (r ≤ imageBytes + 4) ⌝ }
+fn left_one<'a, 'b, 'c>(
+    image: &'a [u8],
+    index: &'b [usize],
+    i: usize,
+    marks: &'c [bool],
+    number: usize,
+) -> usize
+    requires { ⌜ (now index ≡ indexOf (now image)) × (length (now image) ≤ imageBytes) ⌝ }
+    ensures { λ r. ⌜ (r ≡ leftOne (now (marks .entry)) number (length (getD (bodies (now (image .entry))) i []))) × (r ≤ imageBytes + 4) ⌝ }
 {
-    if is_noted(m, n) {
+    if is_noted(marks, number) {
         return 0;
     }
-    let b = body_of(s, ix, i);
-    b.len() + 4
+    let body = body_of(image, index, i);
+    body.len() + 4
 }
 
 // Of so many records behind one, numbered from 1.
 fn left_out<'a, 'b, 'c>(
-    s: &'a [u8],
-    ix: &'b [usize],
+    image: &'a [u8],
+    index: &'b [usize],
     from: usize,
     count: usize,
-    m: &'c [bool],
+    marks: &'c [bool],
 ) -> usize
-    requires { ⌜ ((now ix ≡ indexOf (now s)) × (length (now s) ≤ imageBytes))
-        × ((from + 1 + count ≤ length (bodies (now s))) × ((from < 131072) × (count < 65536))) ⌝ }
-    ensures { λ r. ⌜ (r ≡ leftBehind (bodies (now (s .entry))) from count (now (m .entry)) 0) × (r ≤ (imageBytes + 4) * count) ⌝ }
+    requires { ⌜ ((now index ≡ indexOf (now image)) × (length (now image) ≤ imageBytes))
+        × ((from + 1 + count ≤ length (bodies (now image))) × ((from < 131072) × (count < 65536))) ⌝ }
+    ensures { λ r. ⌜ (r ≡ leftBehind (bodies (now (image .entry))) from count (now (marks .entry)) 0) × (r ≤ (imageBytes + 4) * count) ⌝ }
 {
     let mut r: usize = 0;
     let mut i: usize = 0;
     while i < count {
         i += 1;
-        r += left_one(s, ix, from + i, m, i);
+        r += left_one(image, index, from + i, marks, i);
     }
     r
 }
 
 // Of the formulas without one of the marks u.
-fn left_formulas<'a, 'b, 'c>(s: &'a [u8], ix: &'b [usize], z: Sizes, u: &'c [bool]) -> usize
-    requires { ⌜ (now ix ≡ indexOf (now s)) × Lengths z (now s) ⌝ }
-    ensures { λ r. ⌜ (r ≡ leftBehind (bodies (now (s .entry))) 0 (z .formulas) (now (u .entry)) 0) × (r < most) ⌝ }
+fn left_formulas<'a, 'b, 'c>(
+    image: &'a [u8],
+    index: &'b [usize],
+    sizes: Sizes,
+    live_formulas: &'c [bool],
+) -> usize
+    requires { ⌜ (now index ≡ indexOf (now image)) × Lengths sizes (now image) ⌝ }
+    ensures { λ r. ⌜ (r ≡ leftBehind (bodies (now (image .entry))) 0 (sizes .formulas) (now (live_formulas .entry)) 0) × (r < most) ⌝ }
 {
-    left_out(s, ix, 0, z.formulas as usize, u)
+    left_out(image, index, 0, sizes.formulas as usize, live_formulas)
 }
 
 // Of the lines without one of the marks k.
-fn left_lines<'a, 'b, 'c>(s: &'a [u8], ix: &'b [usize], z: Sizes, k: &'c [bool]) -> usize
-    requires { ⌜ (now ix ≡ indexOf (now s)) × Lengths z (now s) ⌝ }
-    ensures { λ r. ⌜ (r ≡ leftBehind (bodies (now (s .entry))) (z .formulas + z .threads + 1) (z .lines) (now (k .entry)) 0)
+fn left_lines<'a, 'b, 'c>(
+    image: &'a [u8],
+    index: &'b [usize],
+    sizes: Sizes,
+    live_lines: &'c [bool],
+) -> usize
+    requires { ⌜ (now index ≡ indexOf (now image)) × Lengths sizes (now image) ⌝ }
+    ensures { λ r. ⌜ (r ≡ leftBehind (bodies (now (image .entry))) (sizes .formulas + sizes .threads + 1) (sizes .lines)
+        (now (live_lines .entry)) 0)
         × (r < most) ⌝ }
 {
     left_out(
-        s,
-        ix,
-        (z.formulas as usize) + (z.threads as usize) + 1,
-        z.lines as usize,
-        k,
+        image,
+        index,
+        (sizes.formulas as usize) + (sizes.threads as usize) + 1,
+        sizes.lines as usize,
+        live_lines,
     )
 }
 
 // With the marks k of the lines and u of the formulas that stay.
 pub fn trimmed_length<'a, 'b, 'c, 'd>(
-    s: &'a [u8],
-    ix: &'b [usize],
-    z: Sizes,
-    k: &'c [bool],
-    u: &'d [bool],
+    image: &'a [u8],
+    index: &'b [usize],
+    sizes: Sizes,
+    live_lines: &'c [bool],
+    live_formulas: &'d [bool],
 ) -> usize
-    requires { ⌜ ((now ix ≡ indexOf (now s)) × Lengths z (now s))
-        × ((now k ≡ kept (documentOf z (bodies (now s)))) × (now u ≡ used (documentOf z (bodies (now s))))) ⌝ }
-    ensures { λ r. ⌜ r ≡ length (encode (trim (documentOf z (bodies (now (s .entry)))))) ⌝ }
+    requires { ⌜ ((now index ≡ indexOf (now image)) × Lengths sizes (now image))
+        × ((now live_lines ≡ kept (documentOf sizes (bodies (now image))))
+        × (now live_formulas ≡ used (documentOf sizes (bodies (now image))))) ⌝ }
+    ensures { λ r. ⌜ r ≡ length (encode (trim (documentOf sizes (bodies (now (image .entry)))))) ⌝ }
 {
-    let a = left_formulas(s, ix, z, u);
-    let b = left_lines(s, ix, z, k);
-    s.len() - (a + b)
+    let a = left_formulas(image, index, sizes, live_formulas);
+    let b = left_lines(image, index, sizes, live_lines);
+    image.len() - (a + b)
 }

@@ -24,114 +24,209 @@ ghost use Rattle.trim_encode.specs.WholeImage.{programBytes, certificate
 
 // Header, formulas and threads.
 fn put_program<'a, 'b, 'c, 'd, 'e, 'f>(
-    s: &'a [u8],
-    ix: &'b [usize],
-    z: Sizes,
-    f: &'c [usize],
-    g: &'d [usize],
-    u: &'e [bool],
+    image: &'a [u8],
+    index: &'b [usize],
+    sizes: Sizes,
+    formula_numbers: &'c [usize],
+    line_numbers: &'d [usize],
+    live_formulas: &'e [bool],
     out: &'f mut [u8],
     at: usize,
 ) -> usize
-    requires { ⌜ now ix ≡ indexOf (now s) ⌝ }
-    requires { ⌜ at + length (programBytes z (now f) (now g) (bodies (now s)) (now u)) ≤ length (now out) ⌝ }
+    requires { ⌜ now index ≡ indexOf (now image) ⌝ }
+    requires { ⌜ at + length (programBytes sizes (now formula_numbers) (now line_numbers) (bodies (now image)) (now live_formulas)) ≤
+        length (now out) ⌝ }
     ensures { λ r. ⌜ now (out .exit)
         ≡ overwritten (now (out .entry)) at
-        (programBytes z (now (f .entry)) (now (g .entry)) (bodies (now (s .entry))) (now (u .entry))) ⌝ }
-    ensures { λ r. ⌜ r ≡ at + length (programBytes z (now (f .entry)) (now (g .entry)) (bodies (now (s .entry))) (now (u .entry))) ⌝ }
+        (programBytes sizes (now (formula_numbers .entry)) (now (line_numbers .entry)) (bodies (now (image .entry)))
+        (now (live_formulas .entry))) ⌝ }
+    ensures { λ r. ⌜ r ≡ at + length (programBytes sizes (now (formula_numbers .entry)) (now (line_numbers .entry))
+        (bodies (now (image .entry))) (now (live_formulas .entry))) ⌝ }
 {
-    let formulas = put_record(s, ix, f, g, Kind::HEADER, 0, out, at);
-    let threads = put_formulas(s, ix, z, f, g, u, out, formulas);
-    put_threads(s, ix, z, f, g, out, threads)
+    let formulas = put_record(
+        image,
+        index,
+        formula_numbers,
+        line_numbers,
+        Kind::HEADER,
+        0,
+        out,
+        at,
+    );
+    let threads = put_formulas(
+        image,
+        index,
+        sizes,
+        formula_numbers,
+        line_numbers,
+        live_formulas,
+        out,
+        formulas,
+    );
+    put_threads(
+        image,
+        index,
+        sizes,
+        formula_numbers,
+        line_numbers,
+        out,
+        threads,
+    )
 }
 
 // Outline, lines and obligations.
 fn put_certificate<'a, 'b, 'c, 'd, 'e, 'f>(
-    s: &'a [u8],
-    ix: &'b [usize],
-    z: Sizes,
-    f: &'c [usize],
-    g: &'d [usize],
-    k: &'e [bool],
+    image: &'a [u8],
+    index: &'b [usize],
+    sizes: Sizes,
+    formula_numbers: &'c [usize],
+    line_numbers: &'d [usize],
+    live_lines: &'e [bool],
     out: &'f mut [u8],
     at: usize,
 ) -> usize
-    requires { ⌜ now ix ≡ indexOf (now s) ⌝ }
-    requires { ⌜ at + length (certificateBytes z (now f) (now g) (bodies (now s)) (now k)) ≤ length (now out) ⌝ }
+    requires { ⌜ now index ≡ indexOf (now image) ⌝ }
+    requires { ⌜ at + length (certificateBytes sizes (now formula_numbers) (now line_numbers) (bodies (now image)) (now live_lines)) ≤
+        length (now out) ⌝ }
     ensures { λ r. ⌜ now (out .exit)
         ≡ overwritten (now (out .entry)) at
-        (certificateBytes z (now (f .entry)) (now (g .entry)) (bodies (now (s .entry))) (now (k .entry))) ⌝ }
-    ensures { λ r. ⌜ r ≡ at + length (certificateBytes z (now (f .entry)) (now (g .entry)) (bodies (now (s .entry))) (now (k .entry))) ⌝ }
+        (certificateBytes sizes (now (formula_numbers .entry)) (now (line_numbers .entry)) (bodies (now (image .entry)))
+        (now (live_lines .entry))) ⌝ }
+    ensures { λ r. ⌜ r ≡ at + length (certificateBytes sizes (now (formula_numbers .entry)) (now (line_numbers .entry))
+        (bodies (now (image .entry))) (now (live_lines .entry))) ⌝ }
 {
-    let lines = put_outline(s, ix, z, f, out, at);
-    let obligations = put_lines(s, ix, z, f, g, k, out, lines);
-    put_obligations(s, ix, z, g, out, obligations)
+    let lines = put_outline(image, index, sizes, formula_numbers, out, at);
+    let obligations = put_lines(
+        image,
+        index,
+        sizes,
+        formula_numbers,
+        line_numbers,
+        live_lines,
+        out,
+        lines,
+    );
+    put_obligations(image, index, sizes, line_numbers, out, obligations)
 }
 
 // What comes behind the program.
 fn put_behind<'a, 'b, 'c, 'd, 'e, 'f>(
-    s: &'a [u8],
-    ix: &'b [usize],
-    z: Sizes,
-    f: &'c [usize],
-    g: &'d [usize],
-    k: &'e [bool],
+    image: &'a [u8],
+    index: &'b [usize],
+    sizes: Sizes,
+    formula_numbers: &'c [usize],
+    line_numbers: &'d [usize],
+    live_lines: &'e [bool],
     out: &'f mut [u8],
     at: usize,
 ) -> usize
-    requires { ⌜ now ix ≡ indexOf (now s) ⌝ }
-    requires { ⌜ at + length (behindBytes z (now f) (now g) (bodies (now s)) (now k)) ≤ length (now out) ⌝ }
+    requires { ⌜ now index ≡ indexOf (now image) ⌝ }
+    requires { ⌜ at + length (behindBytes sizes (now formula_numbers) (now line_numbers) (bodies (now image)) (now live_lines)) ≤ length
+        (now out) ⌝ }
     ensures { λ r. ⌜ now (out .exit)
-        ≡ overwritten (now (out .entry)) at (behindBytes z (now (f .entry)) (now (g .entry)) (bodies (now (s .entry))) (now (k .entry))) ⌝ }
-    ensures { λ r. ⌜ r ≡ at + length (behindBytes z (now (f .entry)) (now (g .entry)) (bodies (now (s .entry))) (now (k .entry))) ⌝ }
+        ≡ overwritten (now (out .entry)) at (behindBytes sizes (now (formula_numbers .entry)) (now (line_numbers .entry))
+        (bodies (now (image .entry))) (now (live_lines .entry))) ⌝ }
+    ensures { λ r. ⌜ r ≡ at + length (behindBytes sizes (now (formula_numbers .entry)) (now (line_numbers .entry))
+        (bodies (now (image .entry))) (now (live_lines .entry))) ⌝ }
 {
-    let claims = put_certificate(s, ix, z, f, g, k, out, at);
-    put_claims(s, ix, z, f, g, out, claims)
+    let claims = put_certificate(
+        image,
+        index,
+        sizes,
+        formula_numbers,
+        line_numbers,
+        live_lines,
+        out,
+        at,
+    );
+    put_claims(
+        image,
+        index,
+        sizes,
+        formula_numbers,
+        line_numbers,
+        out,
+        claims,
+    )
 }
 
 fn put_whole<'a, 'b, 'c, 'd, 'e, 'f, 'g>(
-    s: &'a [u8],
-    ix: &'b [usize],
-    z: Sizes,
-    f: &'c [usize],
-    g: &'d [usize],
-    u: &'e [bool],
-    k: &'f [bool],
+    image: &'a [u8],
+    index: &'b [usize],
+    sizes: Sizes,
+    formula_numbers: &'c [usize],
+    line_numbers: &'d [usize],
+    live_formulas: &'e [bool],
+    live_lines: &'f [bool],
     out: &'g mut [u8],
     at: usize,
 ) -> usize
-    requires { ⌜ now ix ≡ indexOf (now s) ⌝ }
-    requires { ⌜ at + length (wholeBytes z (now f) (now g) (bodies (now s)) (now u) (now k)) ≤ length (now out) ⌝ }
+    requires { ⌜ now index ≡ indexOf (now image) ⌝ }
+    requires { ⌜ at + length (wholeBytes sizes (now formula_numbers) (now line_numbers) (bodies (now image)) (now live_formulas)
+        (now live_lines)) ≤ length (now out) ⌝ }
     ensures { λ r. ⌜ now (out .exit)
         ≡ overwritten (now (out .entry)) at
-        (wholeBytes z (now (f .entry)) (now (g .entry)) (bodies (now (s .entry))) (now (u .entry)) (now (k .entry))) ⌝ }
+        (wholeBytes sizes (now (formula_numbers .entry)) (now (line_numbers .entry)) (bodies (now (image .entry)))
+        (now (live_formulas .entry)) (now (live_lines .entry))) ⌝ }
     ensures { λ r. ⌜ r
-        ≡ at + length (wholeBytes z (now (f .entry)) (now (g .entry)) (bodies (now (s .entry))) (now (u .entry)) (now (k .entry))) ⌝ }
+        ≡ at + length (wholeBytes sizes (now (formula_numbers .entry)) (now (line_numbers .entry)) (bodies (now (image .entry)))
+        (now (live_formulas .entry)) (now (live_lines .entry))) ⌝ }
 {
-    let outline = put_program(s, ix, z, f, g, u, out, at);
-    put_behind(s, ix, z, f, g, k, out, outline)
+    let outline = put_program(
+        image,
+        index,
+        sizes,
+        formula_numbers,
+        line_numbers,
+        live_formulas,
+        out,
+        at,
+    );
+    put_behind(
+        image,
+        index,
+        sizes,
+        formula_numbers,
+        line_numbers,
+        live_lines,
+        out,
+        outline,
+    )
 }
 
 // u and k are the marks of the formulas and lines that stay, f and g the tables of their new numbers. Answers the image's length; the
 // bytes behind it stay.
 pub fn write_trimmed<'a, 'b, 'c, 'd, 'e, 'f, 'g>(
-    s: &'a [u8],
-    ix: &'b [usize],
-    z: Sizes,
-    f: &'c [usize],
-    g: &'d [usize],
-    u: &'e [bool],
-    k: &'f [bool],
+    image: &'a [u8],
+    index: &'b [usize],
+    sizes: Sizes,
+    formula_numbers: &'c [usize],
+    line_numbers: &'d [usize],
+    live_formulas: &'e [bool],
+    live_lines: &'f [bool],
     out: &'g mut [u8],
 ) -> usize
-    requires { ⌜ (now ix ≡ indexOf (now s)) × (length (bodies (now s)) ≡ recordCount z) ⌝ }
-    requires { ⌜ (now f ≡ newNumbers (now u)) × (now g ≡ newNumbers (now k)) ⌝ }
-    requires { ⌜ length (encode (trimmedBy (now u) (now k) (documentOf z (bodies (now s))))) ≤ length (now out) ⌝ }
+    requires { ⌜ (now index ≡ indexOf (now image)) × (length (bodies (now image)) ≡ recordCount sizes) ⌝ }
+    requires { ⌜ (now formula_numbers ≡ newNumbers (now live_formulas)) × (now line_numbers ≡ newNumbers (now live_lines)) ⌝ }
+    requires { ⌜ length (encode (trimmedBy (now live_formulas) (now live_lines) (documentOf sizes (bodies (now image))))) ≤ length
+        (now out) ⌝ }
     ensures { λ r. ⌜ now (out .exit)
-        ≡ encode (trimmedBy (now (u .entry)) (now (k .entry)) (documentOf z (bodies (now (s .entry)))))
-        ++ drop (length (encode (trimmedBy (now (u .entry)) (now (k .entry)) (documentOf z (bodies (now (s .entry)))))))
+        ≡ encode (trimmedBy (now (live_formulas .entry)) (now (live_lines .entry)) (documentOf sizes (bodies (now (image .entry)))))
+        ++ drop (length (encode (trimmedBy (now (live_formulas .entry)) (now (live_lines .entry))
+        (documentOf sizes (bodies (now (image .entry)))))))
         (now (out .entry)) ⌝ }
-    ensures { λ r. ⌜ r ≡ length (encode (trimmedBy (now (u .entry)) (now (k .entry)) (documentOf z (bodies (now (s .entry)))))) ⌝ }
+    ensures { λ r. ⌜ r ≡ length (encode (trimmedBy (now (live_formulas .entry)) (now (live_lines .entry))
+        (documentOf sizes (bodies (now (image .entry)))))) ⌝ }
 {
-    put_whole(s, ix, z, f, g, u, k, out, 0)
+    put_whole(
+        image,
+        index,
+        sizes,
+        formula_numbers,
+        line_numbers,
+        live_formulas,
+        live_lines,
+        out,
+        0,
+    )
 }

@@ -26,57 +26,57 @@ impl Room {
     pub const BLANK: u32 = 2863311530;
 }
 
-pub fn tariff_at(s: &[u8]) -> Tariff
-    ensures { λ r. ⌜ r ≡ tariffAt (now (s .entry)) ⌝ }
+pub fn tariff_at(bytes: &[u8]) -> Tariff
+    ensures { λ r. ⌜ r ≡ tariffAt (now (bytes .entry)) ⌝ }
 {
     Tariff {
-        start: word_at(s, 0) as u16,
-        step: word_at(s, 2) as u16,
-        taken: word_at(s, 4) as u16,
-        interference: word_at(s, 6) as u16,
-        least: word_at(s, 8) as u16,
+        start: word_at(bytes, 0) as u16,
+        step: word_at(bytes, 2) as u16,
+        taken: word_at(bytes, 4) as u16,
+        interference: word_at(bytes, 6) as u16,
+        least: word_at(bytes, 8) as u16,
     }
 }
 
-pub fn billed_at(s: &[u8]) -> u32
-    ensures { λ r. ⌜ r ≡ billedAt (now (s .entry)) ⌝ }
+pub fn billed_at(bytes: &[u8]) -> u32
+    ensures { λ r. ⌜ r ≡ billedAt (now (bytes .entry)) ⌝ }
 {
-    long_at(s, 10) as u32
+    long_at(bytes, 10) as u32
 }
 
-pub fn lent_at(s: &[u8]) -> usize
-    ensures { λ r. ⌜ r ≡ lentAt (now (s .entry)) ⌝ }
+pub fn lent_at(bytes: &[u8]) -> usize
+    ensures { λ r. ⌜ r ≡ lentAt (now (bytes .entry)) ⌝ }
 {
-    let n = long_at(s, 14);
+    let n = long_at(bytes, 14);
     if Room::NUMBERS < n {
         return Room::NUMBERS;
     }
     n
 }
 
-fn numbers_at(s: &[u8]) -> Numbers
-    ensures { λ r. ⌜ r .at ≡ numbersAt (now (s .entry)) ⌝ }
+fn numbers_at(bytes: &[u8]) -> Numbers
+    ensures { λ r. ⌜ r .at ≡ numbersAt (now (bytes .entry)) ⌝ }
 {
     Numbers {
         at: [
-            long_at(s, 20) as u32,
-            long_at(s, 24) as u32,
-            long_at(s, 28) as u32,
-            long_at(s, 32) as u32,
-            long_at(s, 36) as u32,
-            long_at(s, 40) as u32,
+            long_at(bytes, 20) as u32,
+            long_at(bytes, 24) as u32,
+            long_at(bytes, 28) as u32,
+            long_at(bytes, 32) as u32,
+            long_at(bytes, 36) as u32,
+            long_at(bytes, 40) as u32,
         ],
     }
 }
 
 // The code, and all of the room.
-pub fn same_answer<'a, 'b>(code: u16, room: &'a [u32], s: &'b [u8]) -> bool
-    ensures { λ r. ⌜ r ≡ sameAnswer code (now (room .entry)) (now (s .entry)) ⌝ }
+pub fn same_answer<'a, 'b>(code: u16, room: &'a [u32], bytes: &'b [u8]) -> bool
+    ensures { λ r. ⌜ r ≡ sameAnswer code (now (room .entry)) (now (bytes .entry)) ⌝ }
 {
-    if code as usize != word_at(s, 18) {
+    if code as usize != word_at(bytes, 18) {
         return false;
     }
-    let n = numbers_at(s);
+    let n = numbers_at(bytes);
     let at = n.at;
     if code == Output::SHORT {
         return holds_numbers(room, &at[..0], Room::BLANK);

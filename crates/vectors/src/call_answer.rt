@@ -38,10 +38,10 @@ pub fn blank_numbers() -> [usize; Room::NUMBERS]
 }
 
 // How many bytes or numbers are lent.
-pub fn lent_at(s: &[u8], at: usize, most: usize) -> usize
-    ensures { λ r. ⌜ r ≡ lentAt (now (s .entry)) at most ⌝ }
+pub fn lent_at(bytes: &[u8], at: usize, most: usize) -> usize
+    ensures { λ r. ⌜ r ≡ lentAt (now (bytes .entry)) at most ⌝ }
 {
-    let n = long_at(s, at);
+    let n = long_at(bytes, at);
     if most < n {
         return most;
     }
@@ -49,8 +49,8 @@ pub fn lent_at(s: &[u8], at: usize, most: usize) -> usize
 }
 
 // What belongs at a place of the numbers.
-fn told_number(code: u16, s: &[u8], i: usize) -> usize
-    ensures { λ r. ⌜ r ≡ getD (toldAt code (now (s .entry))) i empty ⌝ }
+fn told_number(code: u16, bytes: &[u8], i: usize) -> usize
+    ensures { λ r. ⌜ r ≡ getD (toldAt code (now (bytes .entry))) i empty ⌝ }
 {
     if code == Output::SHORT {
         return Room::EMPTY;
@@ -58,23 +58,23 @@ fn told_number(code: u16, s: &[u8], i: usize) -> usize
     if Answer::SIZE <= i {
         return Room::EMPTY;
     }
-    long_at(s, 2 + 4 * i)
+    long_at(bytes, 2 + 4 * i)
 }
 
-fn same_number<'a, 'b>(code: u16, room: &'a [usize], s: &'b [u8], i: usize) -> bool
+fn same_number<'a, 'b>(code: u16, room: &'a [usize], bytes: &'b [u8], i: usize) -> bool
     requires { ⌜ i < length (now room) ⌝ }
-    ensures { λ r. ⌜ r ≡ eqb (getD (now (room .entry)) i 0) (getD (toldAt code (now (s .entry))) i empty) ⌝ }
+    ensures { λ r. ⌜ r ≡ eqb (getD (now (room .entry)) i 0) (getD (toldAt code (now (bytes .entry))) i empty) ⌝ }
 {
-    room[i] == told_number(code, s, i)
+    room[i] == told_number(code, bytes, i)
 }
 
-fn same_numbers<'a, 'b>(code: u16, room: &'a [usize], s: &'b [u8]) -> bool
+fn same_numbers<'a, 'b>(code: u16, room: &'a [usize], bytes: &'b [u8]) -> bool
     requires { ⌜ 21 ≤ length (now room) ⌝ }
-    ensures { λ r. ⌜ r ≡ holds (now (room .entry)) (toldAt code (now (s .entry))) empty ⌝ }
+    ensures { λ r. ⌜ r ≡ holds (now (room .entry)) (toldAt code (now (bytes .entry))) empty ⌝ }
 {
     let mut i: usize = 0;
     while i < room.len() {
-        if same_number(code, room, s, i) {
+        if same_number(code, room, bytes, i) {
             i += 1;
         } else {
             return false;
@@ -88,17 +88,17 @@ pub fn same_answer<'a, 'b, 'c, 'd>(
     code: u16,
     table: &'a [u8],
     numbers: &'b [usize],
-    s: &'c [u8],
+    bytes: &'c [u8],
     entries: &'d [u8],
 ) -> bool
     requires { ⌜ 21 ≤ length (now numbers) ⌝ }
-    ensures { λ r. ⌜ r ≡ sameAnswer code (now (table .entry)) (now (numbers .entry)) (now (s .entry)) (now (entries .entry)) ⌝ }
+    ensures { λ r. ⌜ r ≡ sameAnswer code (now (table .entry)) (now (numbers .entry)) (now (bytes .entry)) (now (entries .entry)) ⌝ }
 {
-    if code as usize != word_at(s, 0) {
+    if code as usize != word_at(bytes, 0) {
         return false;
     }
     if holds_bytes(table, entries, Room::BLANK) {
-        return same_numbers(code, numbers, s);
+        return same_numbers(code, numbers, bytes);
     }
     false
 }

@@ -48,36 +48,36 @@ pub fn no_case() -> Tally
     }
 }
 
-fn with_kind(t: Tally, kind: usize) -> Tally
-    ensures { λ r. ⌜ r ≡ withKind t kind ⌝ }
+fn with_kind(counters: Tally, kind: usize) -> Tally
+    ensures { λ r. ⌜ r ≡ withKind counters kind ⌝ }
 {
-    let mut next = t;
-    next.cases = more_than(t.cases);
+    let mut next = counters;
+    next.cases = more_than(counters.cases);
     if Kind::LIMIT <= kind {
         return next;
     }
-    next.kinds[kind] = more_than(t.kinds[kind]);
+    next.kinds[kind] = more_than(counters.kinds[kind]);
     next
 }
 
 // The case counted last differs.
-fn with_difference(t: Tally) -> Tally
-    ensures { λ r. ⌜ r ≡ withDifference t ⌝ }
+fn with_difference(counters: Tally) -> Tally
+    ensures { λ r. ⌜ r ≡ withDifference counters ⌝ }
 {
-    let mut next = t;
-    next.differ = more_than(t.differ);
-    if t.differ != 0 {
+    let mut next = counters;
+    next.differ = more_than(counters.differ);
+    if counters.differ != 0 {
         return next;
     }
-    next.first = t.cases;
+    next.first = counters.cases;
     next
 }
 
 // The tally with one case more: the kind of its answer, and whether that is the stored answer.
-pub fn with_case(t: Tally, kind: usize, same: bool) -> Tally
-    ensures { λ r. ⌜ r ≡ withCase t kind same ⌝ }
+pub fn with_case(counters: Tally, kind: usize, same: bool) -> Tally
+    ensures { λ r. ⌜ r ≡ withCase counters kind same ⌝ }
 {
-    let counted = with_kind(t, kind);
+    let counted = with_kind(counters, kind);
     if same {
         return counted;
     }

@@ -10,10 +10,10 @@ pub fn write_count(n: u64, what: &[u8]) {
 }
 
 // How many cases differ, which is the first, and a newline.
-pub fn write_differences(t: Tally) {
-    write_count(t.differ, b" differ");
-    if t.differ != 0 {
-        write_first(t.first);
+pub fn write_differences(counters: Tally) {
+    write_count(counters.differ, b" differ");
+    if counters.differ != 0 {
+        write_first(counters.first);
     }
     io::write_all(STDOUT_FILENO, b"\n");
 }
@@ -33,18 +33,18 @@ fn write_code(n: u64, code: usize) {
     io::print_decimal(STDOUT_FILENO, code as u64);
 }
 
-fn write_codes(t: Tally) {
+fn write_codes(counters: Tally) {
     for code in 0..Kind::LIMIT {
-        write_code(t.kinds[code], code);
+        write_code(counters.kinds[code], code);
     }
 }
 
 // The line for a file whose answers are counted by their codes.
-pub fn write_line(path: &[u8], t: Tally) {
+pub fn write_line(path: &[u8], counters: Tally) {
     io::write_all(STDOUT_FILENO, path);
     io::write_all(STDOUT_FILENO, b": ");
-    write_count(t.cases, b" cases");
-    write_codes(t);
+    write_count(counters.cases, b" cases");
+    write_codes(counters);
     io::write_all(STDOUT_FILENO, b"; ");
-    write_differences(t);
+    write_differences(counters);
 }

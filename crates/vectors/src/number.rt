@@ -13,11 +13,11 @@ impl Half {
 }
 
 // The 32-bit number at a position: its low half, then its high half.
-pub fn long_at(s: &[u8], at: usize) -> usize
-    ensures { λ r. ⌜ (r ≡ long (drop at (now (s .entry)))) × (r < 2 ^ 32) ⌝ }
+pub fn long_at(bytes: &[u8], at: usize) -> usize
+    ensures { λ r. ⌜ (r ≡ long (drop at (now (bytes .entry)))) × (r < 2 ^ 32) ⌝ }
 {
-    if s.len() <= at {
+    if bytes.len() <= at {
         return 0;
     }
-    word_at(s, at) + Half::NUMBERS * word_at(s, at + 2)
+    word_at(bytes, at) + Half::NUMBERS * word_at(bytes, at + 2)
 }

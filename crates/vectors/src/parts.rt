@@ -6,75 +6,75 @@ use limits::read::rest;
 ghost use mathlib.Core.Path.{_≡_};
 ghost use Rattle.vectors.specs.Parts.{firstIn, secondOn, secondIn, thirdOn, thirdIn, fourthOn, fourthIn, fifthOn, fifthIn, sixthOn, sixthIn, seventhOn};
 
-pub fn first_in<'a, 'b>(body: &'a [u8], s: &'b [u8]) -> &'a [u8]
-    ensures { λ r. ⌜ now r ≡ firstIn (now (s .entry)) (now (body .entry)) ⌝ }
+pub fn first_in<'a, 'b>(body: &'a [u8], bytes: &'b [u8]) -> &'a [u8]
+    ensures { λ r. ⌜ now r ≡ firstIn (now (bytes .entry)) (now (body .entry)) ⌝ }
 {
-    part(body, 0, long_at(s, 0))
+    part(body, 0, long_at(bytes, 0))
 }
 
 // From the second part on; and so on for the others.
-pub fn second_on<'a, 'b>(body: &'a [u8], s: &'b [u8]) -> &'a [u8]
-    ensures { λ r. ⌜ now r ≡ secondOn (now (s .entry)) (now (body .entry)) ⌝ }
+pub fn second_on<'a, 'b>(body: &'a [u8], bytes: &'b [u8]) -> &'a [u8]
+    ensures { λ r. ⌜ now r ≡ secondOn (now (bytes .entry)) (now (body .entry)) ⌝ }
 {
-    rest(body, long_at(s, 0))
+    rest(body, long_at(bytes, 0))
 }
 
-pub fn third_on<'a, 'b>(body: &'a [u8], s: &'b [u8]) -> &'a [u8]
-    ensures { λ r. ⌜ now r ≡ thirdOn (now (s .entry)) (now (body .entry)) ⌝ }
+pub fn third_on<'a, 'b>(body: &'a [u8], bytes: &'b [u8]) -> &'a [u8]
+    ensures { λ r. ⌜ now r ≡ thirdOn (now (bytes .entry)) (now (body .entry)) ⌝ }
 {
-    rest(second_on(body, s), long_at(s, 4))
+    rest(second_on(body, bytes), long_at(bytes, 4))
 }
 
-pub fn fourth_on<'a, 'b>(body: &'a [u8], s: &'b [u8]) -> &'a [u8]
-    ensures { λ r. ⌜ now r ≡ fourthOn (now (s .entry)) (now (body .entry)) ⌝ }
+pub fn fourth_on<'a, 'b>(body: &'a [u8], bytes: &'b [u8]) -> &'a [u8]
+    ensures { λ r. ⌜ now r ≡ fourthOn (now (bytes .entry)) (now (body .entry)) ⌝ }
 {
-    rest(third_on(body, s), long_at(s, 8))
+    rest(third_on(body, bytes), long_at(bytes, 8))
 }
 
-fn fifth_on<'a, 'b>(body: &'a [u8], s: &'b [u8]) -> &'a [u8]
-    ensures { λ r. ⌜ now r ≡ fifthOn (now (s .entry)) (now (body .entry)) ⌝ }
+fn fifth_on<'a, 'b>(body: &'a [u8], bytes: &'b [u8]) -> &'a [u8]
+    ensures { λ r. ⌜ now r ≡ fifthOn (now (bytes .entry)) (now (body .entry)) ⌝ }
 {
-    rest(fourth_on(body, s), long_at(s, 12))
+    rest(fourth_on(body, bytes), long_at(bytes, 12))
 }
 
-pub fn sixth_on<'a, 'b>(body: &'a [u8], s: &'b [u8]) -> &'a [u8]
-    ensures { λ r. ⌜ now r ≡ sixthOn (now (s .entry)) (now (body .entry)) ⌝ }
+pub fn sixth_on<'a, 'b>(body: &'a [u8], bytes: &'b [u8]) -> &'a [u8]
+    ensures { λ r. ⌜ now r ≡ sixthOn (now (bytes .entry)) (now (body .entry)) ⌝ }
 {
-    rest(fifth_on(body, s), long_at(s, 16))
+    rest(fifth_on(body, bytes), long_at(bytes, 16))
 }
 
-pub fn second_in<'a, 'b>(body: &'a [u8], s: &'b [u8]) -> &'a [u8]
-    ensures { λ r. ⌜ now r ≡ secondIn (now (s .entry)) (now (body .entry)) ⌝ }
+pub fn second_in<'a, 'b>(body: &'a [u8], bytes: &'b [u8]) -> &'a [u8]
+    ensures { λ r. ⌜ now r ≡ secondIn (now (bytes .entry)) (now (body .entry)) ⌝ }
 {
-    part(second_on(body, s), 0, long_at(s, 4))
+    part(second_on(body, bytes), 0, long_at(bytes, 4))
 }
 
-pub fn third_in<'a, 'b>(body: &'a [u8], s: &'b [u8]) -> &'a [u8]
-    ensures { λ r. ⌜ now r ≡ thirdIn (now (s .entry)) (now (body .entry)) ⌝ }
+pub fn third_in<'a, 'b>(body: &'a [u8], bytes: &'b [u8]) -> &'a [u8]
+    ensures { λ r. ⌜ now r ≡ thirdIn (now (bytes .entry)) (now (body .entry)) ⌝ }
 {
-    part(third_on(body, s), 0, long_at(s, 8))
+    part(third_on(body, bytes), 0, long_at(bytes, 8))
 }
 
-pub fn fourth_in<'a, 'b>(body: &'a [u8], s: &'b [u8]) -> &'a [u8]
-    ensures { λ r. ⌜ now r ≡ fourthIn (now (s .entry)) (now (body .entry)) ⌝ }
+pub fn fourth_in<'a, 'b>(body: &'a [u8], bytes: &'b [u8]) -> &'a [u8]
+    ensures { λ r. ⌜ now r ≡ fourthIn (now (bytes .entry)) (now (body .entry)) ⌝ }
 {
-    part(fourth_on(body, s), 0, long_at(s, 12))
+    part(fourth_on(body, bytes), 0, long_at(bytes, 12))
 }
 
-pub fn fifth_in<'a, 'b>(body: &'a [u8], s: &'b [u8]) -> &'a [u8]
-    ensures { λ r. ⌜ now r ≡ fifthIn (now (s .entry)) (now (body .entry)) ⌝ }
+pub fn fifth_in<'a, 'b>(body: &'a [u8], bytes: &'b [u8]) -> &'a [u8]
+    ensures { λ r. ⌜ now r ≡ fifthIn (now (bytes .entry)) (now (body .entry)) ⌝ }
 {
-    part(fifth_on(body, s), 0, long_at(s, 16))
+    part(fifth_on(body, bytes), 0, long_at(bytes, 16))
 }
 
-pub fn sixth_in<'a, 'b>(body: &'a [u8], s: &'b [u8]) -> &'a [u8]
-    ensures { λ r. ⌜ now r ≡ sixthIn (now (s .entry)) (now (body .entry)) ⌝ }
+pub fn sixth_in<'a, 'b>(body: &'a [u8], bytes: &'b [u8]) -> &'a [u8]
+    ensures { λ r. ⌜ now r ≡ sixthIn (now (bytes .entry)) (now (body .entry)) ⌝ }
 {
-    part(sixth_on(body, s), 0, long_at(s, 20))
+    part(sixth_on(body, bytes), 0, long_at(bytes, 20))
 }
 
-pub fn seventh_on<'a, 'b>(body: &'a [u8], s: &'b [u8]) -> &'a [u8]
-    ensures { λ r. ⌜ now r ≡ seventhOn (now (s .entry)) (now (body .entry)) ⌝ }
+pub fn seventh_on<'a, 'b>(body: &'a [u8], bytes: &'b [u8]) -> &'a [u8]
+    ensures { λ r. ⌜ now r ≡ seventhOn (now (bytes .entry)) (now (body .entry)) ⌝ }
 {
-    rest(sixth_on(body, s), long_at(s, 20))
+    rest(sixth_on(body, bytes), long_at(bytes, 20))
 }

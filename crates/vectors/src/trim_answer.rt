@@ -23,10 +23,10 @@ impl Room {
     pub const BLANK: u8 = 170;
 }
 
-pub fn lent_at(s: &[u8]) -> usize
-    ensures { λ r. ⌜ r ≡ lentAt (now (s .entry)) ⌝ }
+pub fn lent_at(bytes: &[u8]) -> usize
+    ensures { λ r. ⌜ r ≡ lentAt (now (bytes .entry)) ⌝ }
 {
-    let n = long_at(s, 0);
+    let n = long_at(bytes, 0);
     if Room::BYTES < n {
         return Room::BYTES;
     }
@@ -38,12 +38,12 @@ pub fn same_answer<'a, 'b, 'c>(
     code: u16,
     written: usize,
     room: &'a [u8],
-    s: &'b [u8],
+    bytes: &'b [u8],
     trimmed: &'c [u8],
 ) -> bool
-    ensures { λ r. ⌜ r ≡ sameAnswer code written (now (room .entry)) (now (s .entry)) (now (trimmed .entry)) ⌝ }
+    ensures { λ r. ⌜ r ≡ sameAnswer code written (now (room .entry)) (now (bytes .entry)) (now (trimmed .entry)) ⌝ }
 {
-    if code as usize != word_at(s, 4) {
+    if code as usize != word_at(bytes, 4) {
         return false;
     }
     if written != trimmed.len() {

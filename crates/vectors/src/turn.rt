@@ -65,10 +65,10 @@ impl Number {
     pub const OTHER: usize = 8;
 }
 
-pub fn deed_at(s: &[u8]) -> Deed
-    ensures { λ r. ⌜ r ≡ deedOf (now (s .entry)) ⌝ }
+pub fn deed_at(bytes: &[u8]) -> Deed
+    ensures { λ r. ⌜ r ≡ deedOf (now (bytes .entry)) ⌝ }
 {
-    match word_at(s, 0) {
+    match word_at(bytes, 0) {
         0 => Deed::Open,
         1 => Deed::Set,
         2 => Deed::Check,
@@ -81,31 +81,31 @@ pub fn deed_at(s: &[u8]) -> Deed
     }
 }
 
-pub fn caller_at(s: &[u8]) -> usize
-    ensures { λ r. ⌜ r ≡ callerAt (now (s .entry)) ⌝ }
+pub fn caller_at(bytes: &[u8]) -> usize
+    ensures { λ r. ⌜ r ≡ callerAt (now (bytes .entry)) ⌝ }
 {
-    long_at(s, 2)
+    long_at(bytes, 2)
 }
 
 // From the lengths of the parts on that are read.
-pub fn lengths_at(s: &[u8]) -> &[u8]
-    ensures { λ r. ⌜ now r ≡ lengthsAt (now (s .entry)) ⌝ }
+pub fn lengths_at(bytes: &[u8]) -> &[u8]
+    ensures { λ r. ⌜ now r ≡ lengthsAt (now (bytes .entry)) ⌝ }
 {
-    rest(s, 6)
+    rest(bytes, 6)
 }
 
 // The number that the host sets.
-pub fn set_at(s: &[u8]) -> u32
-    ensures { λ r. ⌜ r ≡ setAt (now (s .entry)) ⌝ }
+pub fn set_at(bytes: &[u8]) -> u32
+    ensures { λ r. ⌜ r ≡ setAt (now (bytes .entry)) ⌝ }
 {
-    long_at(s, 30) as u32
+    long_at(bytes, 30) as u32
 }
 
 // How many bytes are lent.
-pub fn bytes_at(s: &[u8]) -> usize
-    ensures { λ r. ⌜ r ≡ bytesAt (now (s .entry)) ⌝ }
+pub fn bytes_at(bytes: &[u8]) -> usize
+    ensures { λ r. ⌜ r ≡ bytesAt (now (bytes .entry)) ⌝ }
 {
-    let n = long_at(s, 26);
+    let n = long_at(bytes, 26);
     if Room::BYTES < n {
         return Room::BYTES;
     }
@@ -113,24 +113,24 @@ pub fn bytes_at(s: &[u8]) -> usize
 }
 
 // How many numbers are lent.
-pub fn numbers_at(s: &[u8]) -> usize
-    ensures { λ r. ⌜ r ≡ numbersAt (now (s .entry)) ⌝ }
+pub fn numbers_at(bytes: &[u8]) -> usize
+    ensures { λ r. ⌜ r ≡ numbersAt (now (bytes .entry)) ⌝ }
 {
-    let n = long_at(s, 30);
+    let n = long_at(bytes, 30);
     if Room::NUMBERS < n {
         return Room::NUMBERS;
     }
     n
 }
 
-pub fn tariff_at(s: &[u8]) -> Tariff
-    ensures { λ r. ⌜ r ≡ tariffAt (now (s .entry)) ⌝ }
+pub fn tariff_at(bytes: &[u8]) -> Tariff
+    ensures { λ r. ⌜ r ≡ tariffAt (now (bytes .entry)) ⌝ }
 {
     Tariff {
-        start: word_at(s, 34) as u16,
-        step: word_at(s, 36) as u16,
-        taken: word_at(s, 38) as u16,
-        interference: word_at(s, 40) as u16,
-        least: word_at(s, 42) as u16,
+        start: word_at(bytes, 34) as u16,
+        step: word_at(bytes, 36) as u16,
+        taken: word_at(bytes, 38) as u16,
+        interference: word_at(bytes, 40) as u16,
+        least: word_at(bytes, 42) as u16,
     }
 }

@@ -11,13 +11,13 @@ ghost use lib.ListN.{drop};
 ghost use Rattle.vectors.specs.TurnSame.{sameLongs, sameService, sameBytes, sameNumbers, sameWritten, sameVerdict, sameTrimmed, sameBill, sameReplay};
 
 // Numbers of 32 bits that are stored from a position on.
-fn same_longs<'a, 'b>(l: &'a [u32], s: &'b [u8], at: usize) -> bool
+fn same_longs<'a, 'b>(numbers: &'a [u32], bytes: &'b [u8], at: usize) -> bool
     requires { ⌜ at < 2 ^ 16 ⌝ }
-    ensures { λ r. ⌜ r ≡ sameLongs (now (l .entry)) (drop at (now (s .entry))) ⌝ }
+    ensures { λ r. ⌜ r ≡ sameLongs (now (numbers .entry)) (drop at (now (bytes .entry))) ⌝ }
 {
     let mut i: usize = 0;
-    while i < l.len() {
-        if l[i] != long_at(s, at + 4 * i) as u32 {
+    while i < numbers.len() {
+        if numbers[i] != long_at(bytes, at + 4 * i) as u32 {
             return false;
         }
         i += 1;
@@ -26,13 +26,13 @@ fn same_longs<'a, 'b>(l: &'a [u32], s: &'b [u8], at: usize) -> bool
 }
 
 // The same for numbers of 64 bits.
-fn same_wide<'a, 'b>(l: &'a [usize], s: &'b [u8], at: usize) -> bool
+fn same_wide<'a, 'b>(numbers: &'a [usize], bytes: &'b [u8], at: usize) -> bool
     requires { ⌜ at < 2 ^ 16 ⌝ }
-    ensures { λ r. ⌜ r ≡ sameLongs (now (l .entry)) (drop at (now (s .entry))) ⌝ }
+    ensures { λ r. ⌜ r ≡ sameLongs (now (numbers .entry)) (drop at (now (bytes .entry))) ⌝ }
 {
     let mut i: usize = 0;
-    while i < l.len() {
-        if l[i] != long_at(s, at + 4 * i) {
+    while i < numbers.len() {
+        if numbers[i] != long_at(bytes, at + 4 * i) {
             return false;
         }
         i += 1;
@@ -41,45 +41,50 @@ fn same_wide<'a, 'b>(l: &'a [usize], s: &'b [u8], at: usize) -> bool
 }
 
 // The code, and the whole service.
-pub fn same_service<'a, 'b>(code: u16, service: &'a [u32], s: &'b [u8]) -> bool
-    ensures { λ r. ⌜ r ≡ sameService code (now (service .entry)) (now (s .entry)) ⌝ }
+pub fn same_service<'a, 'b>(code: u16, service: &'a [u32], bytes: &'b [u8]) -> bool
+    ensures { λ r. ⌜ r ≡ sameService code (now (service .entry)) (now (bytes .entry)) ⌝ }
 {
-    if code as usize != word_at(s, 44) {
+    if code as usize != word_at(bytes, 44) {
         return false;
     }
-    same_longs(service, s, 50)
+    same_longs(service, bytes, 50)
 }
 
 // All of the bytes of which the front was lent.
-fn same_bytes<'a, 'b>(room: &'a [u8], s: &'b [u8]) -> bool
-    ensures { λ r. ⌜ r ≡ sameBytes (now (room .entry)) (now (s .entry)) ⌝ }
+fn same_bytes<'a, 'b>(room: &'a [u8], bytes: &'b [u8]) -> bool
+    ensures { λ r. ⌜ r ≡ sameBytes (now (room .entry)) (now (bytes .entry)) ⌝ }
 {
-    holds_bytes(room, part(s, 210, Room::BYTES), Room::BLANK)
+    holds_bytes(room, part(bytes, 210, Room::BYTES), Room::BLANK)
 }
 
 // How many of them were written, and all of them.
-fn same_written<'a, 'b>(written: usize, room: &'a [u8], s: &'b [u8]) -> bool
-    ensures { λ r. ⌜ r ≡ sameWritten written (now (room .entry)) (now (s .entry)) ⌝ }
+fn same_written<'a, 'b>(written: usize, room: &'a [u8], bytes: &'b [u8]) -> bool
+    ensures { λ r. ⌜ r ≡ sameWritten written (now (room .entry)) (now (bytes .entry)) ⌝ }
 {
-    if written != long_at(s, 46) {
+    if written != long_at(bytes, 46) {
         return false;
     }
-    same_bytes(room, s)
+    same_bytes(room, bytes)
 }
 
 // All of the numbers of which the front was lent.
-fn same_numbers<'a, 'b>(room: &'a [u32], s: &'b [u8]) -> bool
-    ensures { λ r. ⌜ r ≡ sameNumbers (now (room .entry)) (now (s .entry)) ⌝ }
+fn same_numbers<'a, 'b>(room: &'a [u32], bytes: &'b [u8]) -> bool
+    ensures { λ r. ⌜ r ≡ sameNumbers (now (room .entry)) (now (bytes .entry)) ⌝ }
 {
-    same_longs(room, s, 114)
+    same_longs(room, bytes, 114)
 }
 
 // What a check left.
-pub fn same_verdict<'a, 'b, 'c>(code: u16, service: &'a [u32], room: &'b [u8], s: &'c [u8]) -> bool
-    ensures { λ r. ⌜ r ≡ sameVerdict code (now (service .entry)) (now (room .entry)) (now (s .entry)) ⌝ }
+pub fn same_verdict<'a, 'b, 'c>(
+    code: u16,
+    service: &'a [u32],
+    room: &'b [u8],
+    bytes: &'c [u8],
+) -> bool
+    ensures { λ r. ⌜ r ≡ sameVerdict code (now (service .entry)) (now (room .entry)) (now (bytes .entry)) ⌝ }
 {
-    if same_service(code, service, s) {
-        return same_bytes(room, s);
+    if same_service(code, service, bytes) {
+        return same_bytes(room, bytes);
     }
     false
 }
@@ -90,32 +95,37 @@ pub fn same_trimmed<'a, 'b, 'c>(
     service: &'a [u32],
     written: usize,
     room: &'b [u8],
-    s: &'c [u8],
+    bytes: &'c [u8],
 ) -> bool
-    ensures { λ r. ⌜ r ≡ sameTrimmed code (now (service .entry)) written (now (room .entry)) (now (s .entry)) ⌝ }
+    ensures { λ r. ⌜ r ≡ sameTrimmed code (now (service .entry)) written (now (room .entry)) (now (bytes .entry)) ⌝ }
 {
-    if same_service(code, service, s) {
-        return same_written(written, room, s);
+    if same_service(code, service, bytes) {
+        return same_written(written, room, bytes);
     }
     false
 }
 
 // What a bill left.
-pub fn same_bill<'a, 'b, 'c>(code: u16, service: &'a [u32], room: &'b [u32], s: &'c [u8]) -> bool
-    ensures { λ r. ⌜ r ≡ sameBill code (now (service .entry)) (now (room .entry)) (now (s .entry)) ⌝ }
+pub fn same_bill<'a, 'b, 'c>(
+    code: u16,
+    service: &'a [u32],
+    room: &'b [u32],
+    bytes: &'c [u8],
+) -> bool
+    ensures { λ r. ⌜ r ≡ sameBill code (now (service .entry)) (now (room .entry)) (now (bytes .entry)) ⌝ }
 {
-    if same_service(code, service, s) {
-        return same_numbers(room, s);
+    if same_service(code, service, bytes) {
+        return same_numbers(room, bytes);
     }
     false
 }
 
 // The table and the numbers of a replay.
-fn same_told<'a, 'b, 'c>(table: &'a [u8], room: &'b [usize], s: &'c [u8]) -> bool
-    ensures { λ r. ⌜ r ≡ (sameBytes (now (table .entry)) (now (s .entry)) && sameNumbers (now (room .entry)) (now (s .entry))) ⌝ }
+fn same_told<'a, 'b, 'c>(table: &'a [u8], room: &'b [usize], bytes: &'c [u8]) -> bool
+    ensures { λ r. ⌜ r ≡ (sameBytes (now (table .entry)) (now (bytes .entry)) && sameNumbers (now (room .entry)) (now (bytes .entry))) ⌝ }
 {
-    if same_bytes(table, s) {
-        return same_wide(room, s, 114);
+    if same_bytes(table, bytes) {
+        return same_wide(room, bytes, 114);
     }
     false
 }
@@ -126,12 +136,12 @@ pub fn same_replay<'a, 'b, 'c, 'd>(
     service: &'a [u32],
     table: &'b [u8],
     room: &'c [usize],
-    s: &'d [u8],
+    bytes: &'d [u8],
 ) -> bool
-    ensures { λ r. ⌜ r ≡ sameReplay code (now (service .entry)) (now (table .entry)) (now (room .entry)) (now (s .entry)) ⌝ }
+    ensures { λ r. ⌜ r ≡ sameReplay code (now (service .entry)) (now (table .entry)) (now (room .entry)) (now (bytes .entry)) ⌝ }
 {
-    if same_service(code, service, s) {
-        return same_told(table, room, s);
+    if same_service(code, service, bytes) {
+        return same_told(table, room, bytes);
     }
     false
 }

@@ -13,11 +13,11 @@ ghost use Rattle.vectors.specs.BillAnswer.{tariffAt, billedAt, room};
 ghost use Rattle.vectors_calls.specs.Judge.{Billed};
 
 // The call that is stored.
-fn bill_stored<'a, 'b, 'c>(image: &'a [u8], s: &'b [u8], answer: &'c mut [u32]) -> u16
-    ensures { λ r. ⌜ Written (now (image .entry)) (tariffAt (now (s .entry))) (billedAt (now (s .entry))) (now (answer .entry)) r
+fn bill_stored<'a, 'b, 'c>(image: &'a [u8], bytes: &'b [u8], answer: &'c mut [u32]) -> u16
+    ensures { λ r. ⌜ Written (now (image .entry)) (tariffAt (now (bytes .entry))) (billedAt (now (bytes .entry))) (now (answer .entry)) r
         (now (answer .exit)) ⌝ }
 {
-    bill_into(image, tariff_at(s), billed_at(s), answer)
+    bill_into(image, tariff_at(bytes), billed_at(bytes), answer)
 }
 
 fn blank_room() -> [u32; Room::NUMBERS]
@@ -27,12 +27,12 @@ fn blank_room() -> [u32; Room::NUMBERS]
 }
 
 // The tally with a bill more, by its code, and whether it is the stored one.
-pub fn with_bill<'a, 'b>(t: Tally, image: &'a [u8], s: &'b [u8]) -> Tally
-    ensures { λ r. ⌜ Billed (now (image .entry)) (now (s .entry)) t r ⌝ }
+pub fn with_bill<'a, 'b>(counters: Tally, image: &'a [u8], bytes: &'b [u8]) -> Tally
+    ensures { λ r. ⌜ Billed (now (image .entry)) (now (bytes .entry)) counters r ⌝ }
 {
     let mut lent = blank_room();
-    let n = lent_at(s);
-    let code = bill_stored(image, s, &mut lent[..n]);
-    let same = same_answer(code, &lent, s);
-    with_case(t, code as usize, same)
+    let n = lent_at(bytes);
+    let code = bill_stored(image, bytes, &mut lent[..n]);
+    let same = same_answer(code, &lent, bytes);
+    with_case(counters, code as usize, same)
 }

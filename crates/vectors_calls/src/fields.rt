@@ -4,55 +4,55 @@ use verdict_record::verdict::Fields;
 ghost use mathlib.Core.Path.{_≡_};
 ghost use Rattle.vectors_calls.specs.Fields.{fieldsAt, samePlace, sameFields};
 
-pub fn fields_at(s: &[u8]) -> Fields
-    ensures { λ r. ⌜ r ≡ fieldsAt (now (s .entry)) ⌝ }
+pub fn fields_at(bytes: &[u8]) -> Fields
+    ensures { λ r. ⌜ r ≡ fieldsAt (now (bytes .entry)) ⌝ }
 {
     Fields {
-        code: word_at(s, 0) as u16,
-        record: word_at(s, 2),
-        class: word_at(s, 4),
-        thread: word_at(s, 6),
-        point: word_at(s, 8),
-        other_thread: word_at(s, 10),
-        other_point: word_at(s, 12),
-        line: word_at(s, 14),
-        count: word_at(s, 16),
+        code: word_at(bytes, 0) as u16,
+        record: word_at(bytes, 2),
+        class: word_at(bytes, 4),
+        thread: word_at(bytes, 6),
+        point: word_at(bytes, 8),
+        other_thread: word_at(bytes, 10),
+        other_point: word_at(bytes, 12),
+        line: word_at(bytes, 14),
+        count: word_at(bytes, 16),
     }
 }
 
 // From the class to the other point.
-fn same_place(a: Fields, b: Fields) -> bool
-    ensures { λ r. ⌜ r ≡ samePlace a b ⌝ }
+fn same_place(fields: Fields, other: Fields) -> bool
+    ensures { λ r. ⌜ r ≡ samePlace fields other ⌝ }
 {
-    if a.class != b.class {
+    if fields.class != other.class {
         return false;
     }
-    if a.thread != b.thread {
+    if fields.thread != other.thread {
         return false;
     }
-    if a.point != b.point {
+    if fields.point != other.point {
         return false;
     }
-    if a.other_thread != b.other_thread {
+    if fields.other_thread != other.other_thread {
         return false;
     }
-    a.other_point == b.other_point
+    fields.other_point == other.other_point
 }
 
-pub fn same_fields(a: Fields, b: Fields) -> bool
-    ensures { λ r. ⌜ r ≡ sameFields a b ⌝ }
+pub fn same_fields(fields: Fields, other: Fields) -> bool
+    ensures { λ r. ⌜ r ≡ sameFields fields other ⌝ }
 {
-    if a.code != b.code {
+    if fields.code != other.code {
         return false;
     }
-    if a.record != b.record {
+    if fields.record != other.record {
         return false;
     }
-    if a.line != b.line {
+    if fields.line != other.line {
         return false;
     }
-    if a.count != b.count {
+    if fields.count != other.count {
         return false;
     }
-    same_place(a, b)
+    same_place(fields, other)
 }

@@ -23,36 +23,42 @@ ghost use Rattle.vectors_calls.specs.Judge.{ReplayedAcross};
 // The call that is stored.
 fn across_stored<'a, 'b, 'c, 'd>(
     body: &'a [u8],
-    s: &'b [u8],
+    bytes: &'b [u8],
     table: &'c mut [u8],
     answer: &'d mut [usize],
 ) -> u16
-    ensures { λ r. ⌜ Written (firstIn (now (s .entry)) (now (body .entry))) (secondIn (now (s .entry)) (now (body .entry)))
-        (thirdIn (now (s .entry)) (now (body .entry))) (fourthIn (now (s .entry)) (now (body .entry)))
-        (fifthIn (now (s .entry)) (now (body .entry))) (sixthIn (now (s .entry)) (now (body .entry)))
+    ensures { λ r. ⌜ Written (firstIn (now (bytes .entry)) (now (body .entry))) (secondIn (now (bytes .entry)) (now (body .entry)))
+        (thirdIn (now (bytes .entry)) (now (body .entry))) (fourthIn (now (bytes .entry)) (now (body .entry)))
+        (fifthIn (now (bytes .entry)) (now (body .entry))) (sixthIn (now (bytes .entry)) (now (body .entry)))
         (now (table .entry)) (now (answer .entry)) r (now (table .exit)) (now (answer .exit)) ⌝ }
 {
     replay_handover(
-        first_in(body, s),
-        second_in(body, s),
-        third_in(body, s),
-        fourth_in(body, s),
-        fifth_in(body, s),
-        sixth_in(body, s),
+        first_in(body, bytes),
+        second_in(body, bytes),
+        third_in(body, bytes),
+        fourth_in(body, bytes),
+        fifth_in(body, bytes),
+        sixth_in(body, bytes),
         table,
         answer,
     )
 }
 
 // The tally with a replay more, by its code, and whether it is the stored one.
-pub fn with_across<'a, 'b>(t: Tally, body: &'a [u8], s: &'b [u8]) -> Tally
-    ensures { λ r. ⌜ ReplayedAcross (now (body .entry)) (now (s .entry)) t r ⌝ }
+pub fn with_across<'a, 'b>(counters: Tally, body: &'a [u8], bytes: &'b [u8]) -> Tally
+    ensures { λ r. ⌜ ReplayedAcross (now (body .entry)) (now (bytes .entry)) counters r ⌝ }
 {
     let mut table = blank_table();
     let mut numbers = blank_numbers();
-    let n = lent_at(s, 24, Room::BYTES);
-    let m = lent_at(s, 28, Room::NUMBERS);
-    let code = across_stored(body, s, &mut table[..n], &mut numbers[..m]);
-    let same = same_answer(code, &table, &numbers, rest(s, 32), seventh_on(body, s));
-    with_case(t, code as usize, same)
+    let n = lent_at(bytes, 24, Room::BYTES);
+    let m = lent_at(bytes, 28, Room::NUMBERS);
+    let code = across_stored(body, bytes, &mut table[..n], &mut numbers[..m]);
+    let same = same_answer(
+        code,
+        &table,
+        &numbers,
+        rest(bytes, 32),
+        seventh_on(body, bytes),
+    );
+    with_case(counters, code as usize, same)
 }

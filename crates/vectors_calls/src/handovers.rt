@@ -12,23 +12,27 @@ ghost use Rattle.vectors.specs.Parts.{firstIn, secondIn, thirdOn};
 ghost use Rattle.vectors_calls.specs.Judge.{sameCode, HandedOver};
 
 // The call that is stored.
-fn code_of_stored<'a, 'b>(body: &'a [u8], s: &'b [u8]) -> u16
-    ensures { λ r. ⌜ Promise (firstIn (now (s .entry)) (now (body .entry))) (secondIn (now (s .entry)) (now (body .entry)))
-        (thirdOn (now (s .entry)) (now (body .entry))) r ⌝ }
+fn code_of_stored<'a, 'b>(body: &'a [u8], bytes: &'b [u8]) -> u16
+    ensures { λ r. ⌜ Promise (firstIn (now (bytes .entry)) (now (body .entry))) (secondIn (now (bytes .entry)) (now (body .entry)))
+        (thirdOn (now (bytes .entry)) (now (body .entry))) r ⌝ }
 {
-    check_handover(first_in(body, s), second_in(body, s), third_on(body, s))
+    check_handover(
+        first_in(body, bytes),
+        second_in(body, bytes),
+        third_on(body, bytes),
+    )
 }
 
-fn same_code(code: u16, s: &[u8]) -> bool
-    ensures { λ r. ⌜ r ≡ sameCode code (now (s .entry)) ⌝ }
+fn same_code(code: u16, bytes: &[u8]) -> bool
+    ensures { λ r. ⌜ r ≡ sameCode code (now (bytes .entry)) ⌝ }
 {
-    code as usize == word_at(s, 8)
+    code as usize == word_at(bytes, 8)
 }
 
 // The tally with a handover more, by its code, and whether that is the stored one.
-pub fn with_handover<'a, 'b>(t: Tally, body: &'a [u8], s: &'b [u8]) -> Tally
-    ensures { λ r. ⌜ HandedOver (now (body .entry)) (now (s .entry)) t r ⌝ }
+pub fn with_handover<'a, 'b>(counters: Tally, body: &'a [u8], bytes: &'b [u8]) -> Tally
+    ensures { λ r. ⌜ HandedOver (now (body .entry)) (now (bytes .entry)) counters r ⌝ }
 {
-    let code = code_of_stored(body, s);
-    with_case(t, code as usize, same_code(code, s))
+    let code = code_of_stored(body, bytes);
+    with_case(counters, code as usize, same_code(code, bytes))
 }

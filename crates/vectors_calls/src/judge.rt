@@ -19,16 +19,16 @@ ghost use Rattle.vectors.specs.CasesCounted.{FromCases};
 ghost use Rattle.vectors_calls.specs.Judge.{Counted};
 
 // The tally with a call more, by the code answered, and whether the answer is the stored one.
-fn with_call<'a, 'b>(kind: Kind, t: Tally, body: &'a [u8], s: &'b [u8]) -> Tally
-    ensures { λ r. ⌜ Counted kind (now (body .entry)) (now (s .entry)) t r ⌝ }
+fn with_call<'a, 'b>(kind: Kind, counters: Tally, body: &'a [u8], bytes: &'b [u8]) -> Tally
+    ensures { λ r. ⌜ Counted kind (now (body .entry)) (now (bytes .entry)) counters r ⌝ }
 {
     match kind {
-        Kind::Verdicts => with_verdict(t, body, s),
-        Kind::Trims => with_trimmed(t, body, s),
-        Kind::Bills => with_bill(t, body, s),
-        Kind::Replays => with_replay(t, body, s),
-        Kind::Handovers => with_handover(t, body, s),
-        Kind::Across => with_across(t, body, s),
+        Kind::Verdicts => with_verdict(counters, body, bytes),
+        Kind::Trims => with_trimmed(counters, body, bytes),
+        Kind::Bills => with_bill(counters, body, bytes),
+        Kind::Replays => with_replay(counters, body, bytes),
+        Kind::Handovers => with_handover(counters, body, bytes),
+        Kind::Across => with_across(counters, body, bytes),
     }
 }
 

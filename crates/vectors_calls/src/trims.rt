@@ -19,15 +19,15 @@ fn blank_room() -> [u8; Room::BYTES]
 }
 
 // The tally with a trimmed image more, by its code, and whether it is the stored one.
-pub fn with_trimmed<'a, 'b>(t: Tally, body: &'a [u8], s: &'b [u8]) -> Tally
-    ensures { λ r. ⌜ Trimmed (now (body .entry)) (now (s .entry)) t r ⌝ }
+pub fn with_trimmed<'a, 'b>(counters: Tally, body: &'a [u8], bytes: &'b [u8]) -> Tally
+    ensures { λ r. ⌜ Trimmed (now (body .entry)) (now (bytes .entry)) counters r ⌝ }
 {
     let mut lent = blank_room();
-    let stored = rest(s, 4);
+    let stored = rest(bytes, 4);
     let n = lent_at(stored);
     // No image is so long.
     let mut written = Room::BYTES;
-    let code = trim_image(first_in(body, s), &mut lent[..n], &mut written);
-    let same = same_answer(code, written, &lent, stored, second_on(body, s));
-    with_case(t, code as usize, same)
+    let code = trim_image(first_in(body, bytes), &mut lent[..n], &mut written);
+    let same = same_answer(code, written, &lent, stored, second_on(body, bytes));
+    with_case(counters, code as usize, same)
 }

@@ -9,10 +9,10 @@ ghost use mathlib.Core.Path.{_≡_};
 ghost use Rattle.vectors_calls.specs.Judge.{withVerdict};
 
 // The tally with a verdict more, by its code, and whether it is the stored one.
-pub fn with_verdict<'a, 'b>(t: Tally, image: &'a [u8], s: &'b [u8]) -> Tally
-    ensures { λ r. ⌜ r ≡ withVerdict t (now (image .entry)) (now (s .entry)) ⌝ }
+pub fn with_verdict<'a, 'b>(counters: Tally, image: &'a [u8], bytes: &'b [u8]) -> Tally
+    ensures { λ r. ⌜ r ≡ withVerdict counters (now (image .entry)) (now (bytes .entry)) ⌝ }
 {
-    let f = fields_of(judge(image));
-    let same = same_fields(f, fields_at(s));
-    with_case(t, f.code as usize, same)
+    let fields = fields_of(judge(image));
+    let same = same_fields(fields, fields_at(bytes));
+    with_case(counters, fields.code as usize, same)
 }

@@ -23,24 +23,24 @@ impl Stored {
     pub const BYTES: usize = 8;
 }
 
-fn counts_at(s: &[u8]) -> Counts
-    ensures { λ r. ⌜ r ≡ countsAt (now (s .entry)) ⌝ }
+fn counts_at(bytes: &[u8]) -> Counts
+    ensures { λ r. ⌜ r ≡ countsAt (now (bytes .entry)) ⌝ }
 {
     Counts {
-        threads: byte_at(s, 0) as u8,
-        words: byte_at(s, 1) as u8,
-        registers: byte_at(s, 2) as u8,
-        values: byte_at(s, 3) as u8,
+        threads: byte_at(bytes, 0) as u8,
+        words: byte_at(bytes, 1) as u8,
+        registers: byte_at(bytes, 2) as u8,
+        values: byte_at(bytes, 3) as u8,
     }
 }
 
 // The tally with a formula more, and whether its reading is the stored one.
-fn with_formula<'a, 'b>(t: Tally, body: &'a [u8], stored: &'b [u8]) -> Tally
-    ensures { λ r. ⌜ r ≡ withFormula t (now (body .entry)) (now (stored .entry)) ⌝ }
+fn with_formula<'a, 'b>(counters: Tally, body: &'a [u8], stored: &'b [u8]) -> Tally
+    ensures { λ r. ⌜ r ≡ withFormula counters (now (body .entry)) (now (stored .entry)) ⌝ }
 {
     let reading = read_formula(body, counts_at(stored));
     let same = is_answer(reading, word_at(stored, 4), word_at(stored, 6));
-    with_case(t, kind_of(reading), same)
+    with_case(counters, kind_of(reading), same)
 }
 
 pub fn judge_all(fd: i32) -> Judged

@@ -5,13 +5,13 @@ use vectors::counters::Tally;
 use vectors::counters_line::write_count;
 use vectors::counters_line::write_differences;
 
-pub fn write_line(t: Tally) {
-    write_count(t.cases, b" cases: ");
-    write_count(t.kinds[Place::VALUE as usize], b" values, ");
-    write_count(t.kinds[Place::TEST as usize], b" tests, ");
-    write_count(t.kinds[Place::INTERVAL as usize], b" intervals, ");
-    write_count(t.kinds[Place::ASSERTION as usize], b" assertions, ");
-    write_count(t.kinds[Fault::RANGE], b" of fault 6, ");
-    write_count(t.kinds[Fault::MALFORMED], b" of fault 7; ");
-    write_differences(t);
+pub fn write_line(counters: Tally) {
+    write_count(counters.cases, b" cases: ");
+    write_count(counters.kinds[Place::VALUE as usize], b" values, ");
+    write_count(counters.kinds[Place::TEST as usize], b" tests, ");
+    write_count(counters.kinds[Place::INTERVAL as usize], b" intervals, ");
+    write_count(counters.kinds[Place::ASSERTION as usize], b" assertions, ");
+    write_count(counters.kinds[Fault::RANGE], b" of fault 6, ");
+    write_count(counters.kinds[Fault::MALFORMED], b" of fault 7; ");
+    write_differences(counters);
 }

@@ -51,56 +51,77 @@ fn set_number(service: &mut [u32], caller: usize, number: u32)
     service[at] = number;
 }
 
-fn with_opened<'a, 'b, 'c>(t: Tally, service: &'a mut [u32], rights: &'b [u8], s: &'c [u8]) -> Tally
-    ensures { λ r. ⌜ Opened (now (service .entry)) (now (rights .entry)) (now (s .entry)) t (now (service .exit)) r ⌝ }
+fn with_opened<'a, 'b, 'c>(
+    counters: Tally,
+    service: &'a mut [u32],
+    rights: &'b [u8],
+    bytes: &'c [u8],
+) -> Tally
+    ensures { λ r. ⌜ Opened (now (service .entry)) (now (rights .entry)) (now (bytes .entry)) counters (now (service .exit)) r ⌝ }
 {
     let code = open_service(rights, service);
-    let same = same_service(code, service, s);
-    with_case(t, Number::OPEN, same)
+    let same = same_service(code, service, bytes);
+    with_case(counters, Number::OPEN, same)
 }
 
-fn with_set<'a, 'b>(t: Tally, service: &'a mut [u32], s: &'b [u8]) -> Tally
-    ensures { λ r. ⌜ Changed (now (service .entry)) (now (s .entry)) t (now (service .exit)) r ⌝ }
+fn with_set<'a, 'b>(counters: Tally, service: &'a mut [u32], bytes: &'b [u8]) -> Tally
+    ensures { λ r. ⌜ Changed (now (service .entry)) (now (bytes .entry)) counters (now (service .exit)) r ⌝ }
 {
-    set_number(service, caller_at(s), set_at(s));
-    let same = same_service(0, service, s);
-    with_case(t, Number::SET, same)
+    set_number(service, caller_at(bytes), set_at(bytes));
+    let same = same_service(0, service, bytes);
+    with_case(counters, Number::SET, same)
 }
 
-fn with_checked<'a, 'b, 'c>(t: Tally, service: &'a [u32], image: &'b [u8], s: &'c [u8]) -> Tally
-    ensures { λ r. ⌜ Checked (now (service .entry)) (now (image .entry)) (now (s .entry)) t r ⌝ }
-{
-    let mut room = blank_bytes();
-    let n = bytes_at(s);
-    let code = serve_check(service, caller_at(s), image, &mut room[..n]);
-    let same = same_verdict(code, service, &room, s);
-    with_case(t, Number::CHECK, same)
-}
-
-fn with_trimmed<'a, 'b, 'c>(t: Tally, service: &'a [u32], image: &'b [u8], s: &'c [u8]) -> Tally
-    ensures { λ r. ⌜ Trimmed (now (service .entry)) (now (image .entry)) (now (s .entry)) t r ⌝ }
+fn with_checked<'a, 'b, 'c>(
+    counters: Tally,
+    service: &'a [u32],
+    image: &'b [u8],
+    bytes: &'c [u8],
+) -> Tally
+    ensures { λ r. ⌜ Checked (now (service .entry)) (now (image .entry)) (now (bytes .entry)) counters r ⌝ }
 {
     let mut room = blank_bytes();
-    let n = bytes_at(s);
+    let n = bytes_at(bytes);
+    let code = serve_check(service, caller_at(bytes), image, &mut room[..n]);
+    let same = same_verdict(code, service, &room, bytes);
+    with_case(counters, Number::CHECK, same)
+}
+
+fn with_trimmed<'a, 'b, 'c>(
+    counters: Tally,
+    service: &'a [u32],
+    image: &'b [u8],
+    bytes: &'c [u8],
+) -> Tally
+    ensures { λ r. ⌜ Trimmed (now (service .entry)) (now (image .entry)) (now (bytes .entry)) counters r ⌝ }
+{
+    let mut room = blank_bytes();
+    let n = bytes_at(bytes);
     // No image is so long.
     let mut written = Limits::IMAGE_BYTES + 1;
-    let code = serve_trim(service, caller_at(s), image, &mut room[..n], &mut written);
-    let same = same_trimmed(code, service, written, &room, s);
-    with_case(t, Number::TRIM, same)
+    let code = serve_trim(
+        service,
+        caller_at(bytes),
+        image,
+        &mut room[..n],
+        &mut written,
+    );
+    let same = same_trimmed(code, service, written, &room, bytes);
+    with_case(counters, Number::TRIM, same)
 }
 
 // The bill that is stored.
 fn bill_stored<'a, 'b, 'c, 'd>(
     service: &'a mut [u32],
     image: &'b [u8],
-    s: &'c [u8],
+    bytes: &'c [u8],
     answer: &'d mut [u32],
 ) -> u16
-    ensures { λ r. ⌜ BillServed (now (service .entry)) (callerAt (now (s .entry))) (now (image .entry)) (tariffAt (now (s .entry)))
+    ensures { λ r. ⌜ BillServed (now (service .entry)) (callerAt (now (bytes .entry))) (now (image .entry)) (tariffAt (now (bytes .entry)))
         (now (answer .entry)) (now (service .exit)) r (now (answer .exit)) ⌝ }
 {
-    let f = tariff_at(s);
-    let caller = caller_at(s);
+    let f = tariff_at(bytes);
+    let caller = caller_at(bytes);
     serve_bill(
         service,
         caller,
@@ -114,30 +135,40 @@ fn bill_stored<'a, 'b, 'c, 'd>(
     )
 }
 
-fn with_billed<'a, 'b, 'c>(t: Tally, service: &'a mut [u32], image: &'b [u8], s: &'c [u8]) -> Tally
-    ensures { λ r. ⌜ Billed (now (service .entry)) (now (image .entry)) (now (s .entry)) t (now (service .exit)) r ⌝ }
+fn with_billed<'a, 'b, 'c>(
+    counters: Tally,
+    service: &'a mut [u32],
+    image: &'b [u8],
+    bytes: &'c [u8],
+) -> Tally
+    ensures { λ r. ⌜ Billed (now (service .entry)) (now (image .entry)) (now (bytes .entry)) counters (now (service .exit)) r ⌝ }
 {
     let mut room = blank_numbers();
-    let n = numbers_at(s);
-    let code = bill_stored(service, image, s, &mut room[..n]);
-    let same = same_bill(code, service, &room, s);
-    with_case(t, Number::BILL, same)
+    let n = numbers_at(bytes);
+    let code = bill_stored(service, image, bytes, &mut room[..n]);
+    let same = same_bill(code, service, &room, bytes);
+    with_case(counters, Number::BILL, same)
 }
 
 // The tally with a turn more, by what is done, and whether it leaves what is stored.
-fn with_turn<'a, 'b, 'c>(t: Tally, service: &'a mut [u32], body: &'b [u8], s: &'c [u8]) -> Tally
-    ensures { λ r. ⌜ Counted (now (service .entry)) (now (body .entry)) (now (s .entry)) t (now (service .exit)) r ⌝ }
+fn with_turn<'a, 'b, 'c>(
+    counters: Tally,
+    service: &'a mut [u32],
+    body: &'b [u8],
+    bytes: &'c [u8],
+) -> Tally
+    ensures { λ r. ⌜ Counted (now (service .entry)) (now (body .entry)) (now (bytes .entry)) counters (now (service .exit)) r ⌝ }
 {
-    match deed_at(s) {
-        Deed::Open => with_opened(t, service, body, s),
-        Deed::Set => with_set(t, service, s),
-        Deed::Check => with_checked(t, service, body, s),
-        Deed::Trim => with_trimmed(t, service, body, s),
-        Deed::Bill => with_billed(t, service, body, s),
-        Deed::Handover => with_handover(t, service, body, s),
-        Deed::Replay => with_replay(t, service, body, s),
-        Deed::ReplayAcross => with_across(t, service, body, s),
-        Deed::Other => with_case(t, Number::OTHER, false),
+    match deed_at(bytes) {
+        Deed::Open => with_opened(counters, service, body, bytes),
+        Deed::Set => with_set(counters, service, bytes),
+        Deed::Check => with_checked(counters, service, body, bytes),
+        Deed::Trim => with_trimmed(counters, service, body, bytes),
+        Deed::Bill => with_billed(counters, service, body, bytes),
+        Deed::Handover => with_handover(counters, service, body, bytes),
+        Deed::Replay => with_replay(counters, service, body, bytes),
+        Deed::ReplayAcross => with_across(counters, service, body, bytes),
+        Deed::Other => with_case(counters, Number::OTHER, false),
     }
 }
 

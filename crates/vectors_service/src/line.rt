@@ -4,17 +4,17 @@ use vectors::counters::Tally;
 use vectors::counters_line::write_count;
 use vectors::counters_line::write_differences;
 
-pub fn write_line(path: &[u8], t: Tally) {
+pub fn write_line(path: &[u8], counters: Tally) {
     io::write_all(STDOUT_FILENO, path);
     io::write_all(STDOUT_FILENO, b": ");
-    write_count(t.cases, b" cases: ");
-    write_count(t.kinds[0], b" opened, ");
-    write_count(t.kinds[1], b" set, ");
-    write_count(t.kinds[2], b" checked, ");
-    write_count(t.kinds[3], b" trimmed, ");
-    write_count(t.kinds[4], b" billed, ");
-    write_count(t.kinds[5], b" handed over, ");
-    write_count(t.kinds[6], b" replayed, ");
-    write_count(t.kinds[7], b" replayed across; ");
-    write_differences(t);
+    write_count(counters.cases, b" cases: ");
+    write_count(counters.kinds[0], b" opened, ");
+    write_count(counters.kinds[1], b" set, ");
+    write_count(counters.kinds[2], b" checked, ");
+    write_count(counters.kinds[3], b" trimmed, ");
+    write_count(counters.kinds[4], b" billed, ");
+    write_count(counters.kinds[5], b" handed over, ");
+    write_count(counters.kinds[6], b" replayed, ");
+    write_count(counters.kinds[7], b" replayed across; ");
+    write_differences(counters);
 }

@@ -25,46 +25,51 @@ ghost use Rattle.vectors.specs.Turn.{callerAt, lengthsAt};
 ghost use Rattle.vectors_service.specs.Judge.{HandedOver, Replayed, ReplayedAcross};
 
 // The handover that is stored.
-fn handover_stored<'a, 'b, 'c>(service: &'a [u32], body: &'b [u8], s: &'c [u8]) -> u16
-    ensures { λ r. ⌜ HandoverServed (now (service .entry)) (callerAt (now (s .entry)))
-        (firstIn (lengthsAt (now (s .entry))) (now (body .entry)))
-        (secondIn (lengthsAt (now (s .entry))) (now (body .entry))) (thirdIn (lengthsAt (now (s .entry))) (now (body .entry))) r ⌝ }
+fn handover_stored<'a, 'b, 'c>(service: &'a [u32], body: &'b [u8], bytes: &'c [u8]) -> u16
+    ensures { λ r. ⌜ HandoverServed (now (service .entry)) (callerAt (now (bytes .entry)))
+        (firstIn (lengthsAt (now (bytes .entry))) (now (body .entry)))
+        (secondIn (lengthsAt (now (bytes .entry))) (now (body .entry))) (thirdIn (lengthsAt (now (bytes .entry))) (now (body .entry))) r ⌝ }
 {
-    let n = lengths_at(s);
+    let n = lengths_at(bytes);
     serve_handover(
         service,
-        caller_at(s),
+        caller_at(bytes),
         first_in(body, n),
         second_in(body, n),
         third_in(body, n),
     )
 }
 
-pub fn with_handover<'a, 'b, 'c>(t: Tally, service: &'a [u32], body: &'b [u8], s: &'c [u8]) -> Tally
-    ensures { λ r. ⌜ HandedOver (now (service .entry)) (now (body .entry)) (now (s .entry)) t r ⌝ }
+pub fn with_handover<'a, 'b, 'c>(
+    counters: Tally,
+    service: &'a [u32],
+    body: &'b [u8],
+    bytes: &'c [u8],
+) -> Tally
+    ensures { λ r. ⌜ HandedOver (now (service .entry)) (now (body .entry)) (now (bytes .entry)) counters r ⌝ }
 {
-    let code = handover_stored(service, body, s);
-    let same = same_service(code, service, s);
-    with_case(t, Number::HANDOVER, same)
+    let code = handover_stored(service, body, bytes);
+    let same = same_service(code, service, bytes);
+    with_case(counters, Number::HANDOVER, same)
 }
 
 // The replay that is stored.
 fn replay_stored<'a, 'b, 'c, 'd, 'e>(
     service: &'a [u32],
     body: &'b [u8],
-    s: &'c [u8],
+    bytes: &'c [u8],
     table: &'d mut [u8],
     answer: &'e mut [usize],
 ) -> u16
-    ensures { λ r. ⌜ ReplayServed (now (service .entry)) (callerAt (now (s .entry)))
-        (firstIn (lengthsAt (now (s .entry))) (now (body .entry)))
-        (secondIn (lengthsAt (now (s .entry))) (now (body .entry))) (thirdIn (lengthsAt (now (s .entry))) (now (body .entry)))
+    ensures { λ r. ⌜ ReplayServed (now (service .entry)) (callerAt (now (bytes .entry)))
+        (firstIn (lengthsAt (now (bytes .entry))) (now (body .entry)))
+        (secondIn (lengthsAt (now (bytes .entry))) (now (body .entry))) (thirdIn (lengthsAt (now (bytes .entry))) (now (body .entry)))
         (now (table .entry)) (now (answer .entry)) r (now (table .exit)) (now (answer .exit)) ⌝ }
 {
-    let n = lengths_at(s);
+    let n = lengths_at(bytes);
     serve_replay(
         service,
-        caller_at(s),
+        caller_at(bytes),
         first_in(body, n),
         second_in(body, n),
         third_in(body, n),
@@ -73,37 +78,42 @@ fn replay_stored<'a, 'b, 'c, 'd, 'e>(
     )
 }
 
-pub fn with_replay<'a, 'b, 'c>(t: Tally, service: &'a [u32], body: &'b [u8], s: &'c [u8]) -> Tally
-    ensures { λ r. ⌜ Replayed (now (service .entry)) (now (body .entry)) (now (s .entry)) t r ⌝ }
+pub fn with_replay<'a, 'b, 'c>(
+    counters: Tally,
+    service: &'a [u32],
+    body: &'b [u8],
+    bytes: &'c [u8],
+) -> Tally
+    ensures { λ r. ⌜ Replayed (now (service .entry)) (now (body .entry)) (now (bytes .entry)) counters r ⌝ }
 {
     let mut table = blank_bytes();
     let mut room = blank_wide();
-    let n = bytes_at(s);
-    let m = numbers_at(s);
-    let code = replay_stored(service, body, s, &mut table[..n], &mut room[..m]);
-    let same = same_replay(code, service, &table, &room, s);
-    with_case(t, Number::REPLAY, same)
+    let n = bytes_at(bytes);
+    let m = numbers_at(bytes);
+    let code = replay_stored(service, body, bytes, &mut table[..n], &mut room[..m]);
+    let same = same_replay(code, service, &table, &room, bytes);
+    with_case(counters, Number::REPLAY, same)
 }
 
 // The replay across a handover that is stored.
 fn across_stored<'a, 'b, 'c, 'd, 'e>(
     service: &'a [u32],
     body: &'b [u8],
-    s: &'c [u8],
+    bytes: &'c [u8],
     table: &'d mut [u8],
     answer: &'e mut [usize],
 ) -> u16
-    ensures { λ r. ⌜ AcrossServed (now (service .entry)) (callerAt (now (s .entry)))
-        (firstIn (lengthsAt (now (s .entry))) (now (body .entry)))
-        (secondIn (lengthsAt (now (s .entry))) (now (body .entry))) (thirdIn (lengthsAt (now (s .entry))) (now (body .entry)))
-        (fourthIn (lengthsAt (now (s .entry))) (now (body .entry))) (fifthIn (lengthsAt (now (s .entry))) (now (body .entry)))
-        (sixthOn (lengthsAt (now (s .entry))) (now (body .entry)))
+    ensures { λ r. ⌜ AcrossServed (now (service .entry)) (callerAt (now (bytes .entry)))
+        (firstIn (lengthsAt (now (bytes .entry))) (now (body .entry)))
+        (secondIn (lengthsAt (now (bytes .entry))) (now (body .entry))) (thirdIn (lengthsAt (now (bytes .entry))) (now (body .entry)))
+        (fourthIn (lengthsAt (now (bytes .entry))) (now (body .entry))) (fifthIn (lengthsAt (now (bytes .entry))) (now (body .entry)))
+        (sixthOn (lengthsAt (now (bytes .entry))) (now (body .entry)))
         (now (table .entry)) (now (answer .entry)) r (now (table .exit)) (now (answer .exit)) ⌝ }
 {
-    let n = lengths_at(s);
+    let n = lengths_at(bytes);
     serve_replay_handover(
         service,
-        caller_at(s),
+        caller_at(bytes),
         first_in(body, n),
         second_in(body, n),
         third_in(body, n),
@@ -115,14 +125,19 @@ fn across_stored<'a, 'b, 'c, 'd, 'e>(
     )
 }
 
-pub fn with_across<'a, 'b, 'c>(t: Tally, service: &'a [u32], body: &'b [u8], s: &'c [u8]) -> Tally
-    ensures { λ r. ⌜ ReplayedAcross (now (service .entry)) (now (body .entry)) (now (s .entry)) t r ⌝ }
+pub fn with_across<'a, 'b, 'c>(
+    counters: Tally,
+    service: &'a [u32],
+    body: &'b [u8],
+    bytes: &'c [u8],
+) -> Tally
+    ensures { λ r. ⌜ ReplayedAcross (now (service .entry)) (now (body .entry)) (now (bytes .entry)) counters r ⌝ }
 {
     let mut table = blank_bytes();
     let mut room = blank_wide();
-    let n = bytes_at(s);
-    let m = numbers_at(s);
-    let code = across_stored(service, body, s, &mut table[..n], &mut room[..m]);
-    let same = same_replay(code, service, &table, &room, s);
-    with_case(t, Number::REPLAY_ACROSS, same)
+    let n = bytes_at(bytes);
+    let m = numbers_at(bytes);
+    let code = across_stored(service, body, bytes, &mut table[..n], &mut room[..m]);
+    let same = same_replay(code, service, &table, &room, bytes);
+    with_case(counters, Number::REPLAY_ACROSS, same)
 }

@@ -19,24 +19,24 @@ impl Output {
 }
 
 // The bytes behind the record stay.
-fn write_record(v: Record, out: &mut [u8])
+fn write_record(bytes: Record, out: &mut [u8])
     requires { ⌜ size ≤ length (now out) ⌝ }
-    ensures { λ _. ⌜ now (out .exit) ≡ v .bytes ++ drop size (now (out .entry)) ⌝ }
+    ensures { λ _. ⌜ now (out .exit) ≡ bytes .bytes ++ drop size (now (out .entry)) ⌝ }
 {
     let mut i: usize = 0;
     while i < VerdictRecord::SIZE {
-        out[i] = v.bytes[i];
+        out[i] = bytes.bytes[i];
         i += 1;
     }
 }
 
 // Answers the code of the verdict, with a buffer that has room for the record.
-pub fn report(v: Verdict, out: &mut [u8]) -> u16
+pub fn report(verdict: Verdict, out: &mut [u8]) -> u16
     requires { ⌜ size ≤ length (now out) ⌝ }
-    ensures { λ r. ⌜ (r ≡ codeFor v (now (out .entry))) × (now (out .exit) ≡ bytesFor v (now (out .entry))) ⌝ }
+    ensures { λ r. ⌜ (r ≡ codeFor verdict (now (out .entry))) × (now (out .exit) ≡ bytesFor verdict (now (out .entry))) ⌝ }
 {
-    let f = fields_of(v);
-    let code = f.code;
-    write_record(record_of(f), out);
+    let fields = fields_of(verdict);
+    let code = fields.code;
+    write_record(record_of(fields), out);
     code
 }

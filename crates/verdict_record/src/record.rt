@@ -18,8 +18,8 @@ pub struct Record {
     pub bytes: [u8; VerdictRecord::SIZE],
 }
 
-pub fn record_of(f: Fields) -> Record
-    ensures { λ r. ⌜ r .bytes ≡ recordBytes f ⌝ }
+pub fn record_of(fields: Fields) -> Record
+    ensures { λ r. ⌜ r .bytes ≡ recordBytes fields ⌝ }
 {
     Record {
         bytes: [
@@ -27,24 +27,24 @@ pub fn record_of(f: Fields) -> Record
             0,
             VerdictRecord::KIND,
             0,
-            (f.code % 256) as u8,
-            (f.code / 256 % 256) as u8,
-            (f.record % 256) as u8,
-            (f.record / 256 % 256) as u8,
-            (f.class % 256) as u8,
-            (f.class / 256 % 256) as u8,
-            (f.thread % 256) as u8,
-            (f.thread / 256 % 256) as u8,
-            (f.point % 256) as u8,
-            (f.point / 256 % 256) as u8,
-            (f.other_thread % 256) as u8,
-            (f.other_thread / 256 % 256) as u8,
-            (f.other_point % 256) as u8,
-            (f.other_point / 256 % 256) as u8,
-            (f.line % 256) as u8,
-            (f.line / 256 % 256) as u8,
-            (f.count % 256) as u8,
-            (f.count / 256 % 256) as u8,
+            (fields.code % 256) as u8,
+            (fields.code / 256 % 256) as u8,
+            (fields.record % 256) as u8,
+            (fields.record / 256 % 256) as u8,
+            (fields.class % 256) as u8,
+            (fields.class / 256 % 256) as u8,
+            (fields.thread % 256) as u8,
+            (fields.thread / 256 % 256) as u8,
+            (fields.point % 256) as u8,
+            (fields.point / 256 % 256) as u8,
+            (fields.other_thread % 256) as u8,
+            (fields.other_thread / 256 % 256) as u8,
+            (fields.other_point % 256) as u8,
+            (fields.other_point / 256 % 256) as u8,
+            (fields.line % 256) as u8,
+            (fields.line / 256 % 256) as u8,
+            (fields.count % 256) as u8,
+            (fields.count / 256 % 256) as u8,
         ],
     }
 }

@@ -30,66 +30,66 @@ pub struct Text {
 }
 
 // A full text takes no more.
-fn put_byte(t: Text, b: u8) -> Text
-    ensures { λ r. ⌜ (written r ≡ added (written t) (b ∷ [])) × (r .len ≤ room) ⌝ }
+fn put_byte(text: Text, byte: u8) -> Text
+    ensures { λ r. ⌜ (written r ≡ added (written text) (byte ∷ [])) × (r .len ≤ room) ⌝ }
 {
-    let at = t.len;
+    let at = text.len;
     if Line::ROOM <= at {
-        let bytes = t.bytes;
+        let bytes = text.bytes;
         return Text {
             bytes,
             len: Line::ROOM,
         };
     }
-    let mut next = t;
-    next.bytes[at] = b;
+    let mut next = text;
+    next.bytes[at] = byte;
     next.len = at + 1;
     next
 }
 
 // A number with so many digits at most.
-fn put_digits(t: Text, n: usize, left: usize) -> Text
-    ensures { λ r. ⌜ written r ≡ added (written t) (digits left n) ⌝ }
+fn put_digits(text: Text, number: usize, left: usize) -> Text
+    ensures { λ r. ⌜ written r ≡ added (written text) (digits left number) ⌝ }
 {
     if left == 0 {
-        return t;
+        return text;
     }
-    if n < 10 {
-        return put_byte(t, Line::ZERO + n as u8);
+    if number < 10 {
+        return put_byte(text, Line::ZERO + number as u8);
     }
-    let front = put_digits(t, n / 10, left - 1);
-    put_byte(front, Line::ZERO + (n % 10) as u8)
+    let front = put_digits(text, number / 10, left - 1);
+    put_byte(front, Line::ZERO + (number % 10) as u8)
 }
 
 // A number and the byte behind it.
-fn put_number(t: Text, n: usize, behind: u8) -> Text
-    ensures { λ r. ⌜ (written r ≡ added (written t) (numbered n behind)) × (r .len ≤ room) ⌝ }
+fn put_number(text: Text, value: usize, behind: u8) -> Text
+    ensures { λ r. ⌜ (written r ≡ added (written text) (numbered value behind)) × (r .len ≤ room) ⌝ }
 {
-    let number = put_digits(t, n % Line::NUMBERS, Line::DIGITS);
+    let number = put_digits(text, value % Line::NUMBERS, Line::DIGITS);
     put_byte(number, behind)
 }
 
 // From the class to the other point.
-fn put_place(t: Text, f: Fields) -> Text
-    ensures { λ r. ⌜ written r ≡ added (written t) (placeText f) ⌝ }
+fn put_place(text: Text, fields: Fields) -> Text
+    ensures { λ r. ⌜ written r ≡ added (written text) (placeText fields) ⌝ }
 {
-    let class = put_number(t, f.class, Line::SPACE);
-    let thread = put_number(class, f.thread, Line::SPACE);
-    let point = put_number(thread, f.point, Line::SPACE);
-    let other = put_number(point, f.other_thread, Line::SPACE);
-    put_number(other, f.other_point, Line::SPACE)
+    let class = put_number(text, fields.class, Line::SPACE);
+    let thread = put_number(class, fields.thread, Line::SPACE);
+    let point = put_number(thread, fields.point, Line::SPACE);
+    let other = put_number(point, fields.other_thread, Line::SPACE);
+    put_number(other, fields.other_point, Line::SPACE)
 }
 
-pub fn text_of(f: Fields) -> Text
-    ensures { λ r. ⌜ (take (r .len) (r .bytes) ≡ textOf f) × (r .len ≤ room) ⌝ }
+pub fn text_of(fields: Fields) -> Text
+    ensures { λ r. ⌜ (take (r .len) (r .bytes) ≡ textOf fields) × (r .len ≤ room) ⌝ }
 {
     let empty = Text {
         bytes: [0; Line::ROOM],
         len: 0,
     };
-    let code = put_number(empty, f.code as usize, Line::SPACE);
-    let record = put_number(code, f.record, Line::SPACE);
-    let place = put_place(record, f);
-    let line = put_number(place, f.line, Line::SPACE);
-    put_number(line, f.count, Line::NEWLINE)
+    let code = put_number(empty, fields.code as usize, Line::SPACE);
+    let record = put_number(code, fields.record, Line::SPACE);
+    let place = put_place(record, fields);
+    let line = put_number(place, fields.line, Line::SPACE);
+    put_number(line, fields.count, Line::NEWLINE)
 }

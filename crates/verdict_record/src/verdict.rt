@@ -50,26 +50,26 @@ pub struct Fields {
     pub count: usize,
 }
 
-fn gather(code: u16, record: usize, p: Place, line: usize, count: usize) -> Fields
-    ensures { λ r. ⌜ r ≡ gathered code «record» p line count ⌝ }
+fn gather(code: u16, record: usize, place: Place, line: usize, count: usize) -> Fields
+    ensures { λ r. ⌜ r ≡ gathered code «record» place line count ⌝ }
 {
     Fields {
         code,
         record,
-        class: p.class,
-        thread: p.thread,
-        point: p.point,
-        other_thread: p.other_thread,
-        other_point: p.other_point,
+        class: place.class,
+        thread: place.thread,
+        point: place.point,
+        other_thread: place.other_thread,
+        other_point: place.other_point,
         line,
         count,
     }
 }
 
-pub fn fields_of(v: Verdict) -> Fields
-    ensures { λ r. ⌜ r ≡ fieldsOf v ⌝ }
+pub fn fields_of(verdict: Verdict) -> Fields
+    ensures { λ r. ⌜ r ≡ fieldsOf verdict ⌝ }
 {
-    match v {
+    match verdict {
         Verdict::Accepted { count } => gather(0, 0, NOWHERE, 0, count),
         Verdict::Refused { fault, record } => {
             gather(code_of(fault) as u16, record, NOWHERE, 0, 0)

@@ -17,15 +17,15 @@ abbrev μ-loop : tie.MeasureT-loop
 
 loop-again : tie.Need-loop-again Inv-loop μ-loop
 loop-again c =
-    copied size (numbersOf (c .before .before .before .before .args .a)) (c .before .before .before .before .args .room .now)
+    copied size (numbersOf (c .before .before .before .before .args .answer)) (c .before .before .before .before .args .room .now)
     (c .before .before .loop .room) (c .before .before .loop .i) (c .number-at .result)
-    (numbers-length (c .before .before .before .before .args .a)) (search tests) (search tests) (search tests) (search tests) (search tests)
+    (numbers-length (c .before .before .before .before .args .answer)) (search tests) (search tests) (search tests) (search tests) (search tests)
 
 returns : tie.Need-returns Inv-loop μ-loop
 returns c =
-    copy-all size (numbersOf (c .before .before .before .args .a)) (c .before .before .before .args .room .now) (c .before .loop .room)
+    copy-all size (numbersOf (c .before .before .before .args .answer)) (c .before .before .before .args .room .now) (c .before .loop .room)
     (c .before .loop .i)
-    (numbers-length (c .before .before .before .args .a)) (search tests) (search tests) (search tests)
+    (numbers-length (c .before .before .before .args .answer)) (search tests) (search tests) (search tests)
 
 pub write-numbers-spec : {M : Type 1} → statement M
 write-numbers-spec =

@@ -17,15 +17,15 @@ abbrev μ-loop : tie.MeasureT-loop
 
 loop-again : tie.Need-loop-again Inv-loop μ-loop
 loop-again c =
-    copied 11 (entryBytes (c .before .before .before .before .args .w)) (c .before .before .before .before .args .out .now)
+    copied 11 (entryBytes (c .before .before .before .before .args .write)) (c .before .before .before .before .args .out .now)
     (c .before .before .loop .out) (c .before .before .loop .j) (c .entry-byte .result)
-    (entry-length (c .before .before .before .before .args .w)) (search tests) (search tests) (search tests) (search tests) (search tests)
+    (entry-length (c .before .before .before .before .args .write)) (search tests) (search tests) (search tests) (search tests) (search tests)
 
 returns : tie.Need-returns Inv-loop μ-loop
 returns c =
-    copy-all 11 (entryBytes (c .before .before .before .args .w)) (c .before .before .before .args .out .now) (c .before .loop .out)
+    copy-all 11 (entryBytes (c .before .before .before .args .write)) (c .before .before .before .args .out .now) (c .before .loop .out)
     (c .before .loop .j)
-    (entry-length (c .before .before .before .args .w)) (search tests) (search tests) (search tests)
+    (entry-length (c .before .before .before .args .write)) (search tests) (search tests) (search tests)
 
 pub write-entry-spec : {M : Type 1} → statement M
 write-entry-spec =
