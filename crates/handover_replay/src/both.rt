@@ -53,7 +53,7 @@ fn run_both<'a, 'b, 'c, 'd, 'e, 'f, 'g, 'h>(
     room: usize,
 ) -> Replayed
     requires { ⌜ ((now old_index ≡ indexOf (now old)) × (decoded (now old) ≡ Sound old_sizes)) × (now new_index ≡ indexOf (now new)) ⌝ }
-    ensures { λ run. ⌜ run ≡ acrossOn (now (old .entry)) old_sizes (now (new .entry)) new_sizes (now (points .entry)) (now (first .entry))
+    ensures { λ r. ⌜ r ≡ acrossOn (now (old .entry)) old_sizes (now (new .entry)) new_sizes (now (points .entry)) (now (first .entry))
         (now (second .entry))
         (now (given .entry)) room ⌝ }
 {
