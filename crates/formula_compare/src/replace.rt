@@ -75,7 +75,7 @@ pub fn hit_at(image: &[u8], at: usize, left: usize, substitution: Substitution) 
 // Whether the code stands at b with this operand. It is a code without parts.
 pub fn leaf_stands(image: &[u8], code: u8, number: u8, other_at: usize, other_left: usize) -> Same
     requires { ⌜ partCount code ≡ 0 ⌝ }
-    ensures { λ r. ⌜ r ≡ sameOf (leafOnly code number) (parseTree (now (image .entry)) other_left other_at) ⌝ }
+    ensures { λ r. ⌜ r ≡ sameOf (leafOnly code number) (parseTree (now (image .entry)) «other_left» «other_at») ⌝ }
 {
     if other_left == 0 {
         return Same::No;
@@ -91,7 +91,7 @@ pub fn leaf_stands(image: &[u8], code: u8, number: u8, other_at: usize, other_le
 
 // Whether what replaces the name stands at b.
 pub fn stands_at(image: &[u8], replacing: Replacing, other_at: usize, other_left: usize) -> Same
-    ensures { λ r. ⌜ r ≡ sameOf (standsFor (now (image .entry)) replacing) (parseTree (now (image .entry)) other_left other_at) ⌝ }
+    ensures { λ r. ⌜ r ≡ sameOf (standsFor (now (image .entry)) replacing) (parseTree (now (image .entry)) «other_left» «other_at») ⌝ }
 {
     match replacing {
         Replacing::Formula(at, left) => same_at(image, at, left, other_at, other_left),
@@ -109,7 +109,7 @@ pub fn replaced_at(
     substitution: Substitution,
 ) -> Same
     ensures { λ r. ⌜ r ≡ replacedOf (now (image .entry)) substitution (parseTree (now (image .entry)) left at)
-        (parseTree (now (image .entry)) other_left other_at) ⌝ }
+        (parseTree (now (image .entry)) «other_left» «other_at») ⌝ }
 {
     match hit_at(image, at, left, substitution) {
         Hit::Name(next, by) => match stands_at(image, by, other_at, other_left) {

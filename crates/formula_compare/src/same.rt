@@ -39,7 +39,7 @@ pub fn pair_nodes(node: Node, other: Node) -> Pair
 
 // The nodes at a and at b, where m and k levels of nesting are left.
 pub fn pair_at(image: &[u8], at: usize, left: usize, other_at: usize, other_left: usize) -> Pair
-    ensures { λ r. ⌜ r ≡ pairAt (now (image .entry)) at left other_at other_left ⌝ }
+    ensures { λ r. ⌜ r ≡ pairAt (now (image .entry)) at left «other_at» «other_left» ⌝ }
 {
     if left == 0 {
         if other_left == 0 {
@@ -55,7 +55,7 @@ pub fn pair_at(image: &[u8], at: usize, left: usize, other_at: usize, other_left
 
 // Whether the formulas at a, nested at most m deep, and at b, nested at most k deep, are the same.
 pub fn same_at(image: &[u8], at: usize, left: usize, other_at: usize, other_left: usize) -> Same
-    ensures { λ r. ⌜ r ≡ sameOf (parseTree (now (image .entry)) left at) (parseTree (now (image .entry)) other_left other_at) ⌝ }
+    ensures { λ r. ⌜ r ≡ sameOf (parseTree (now (image .entry)) left at) (parseTree (now (image .entry)) «other_left» «other_at») ⌝ }
 {
     match pair_at(image, at, left, other_at, other_left) {
         Pair::Differ => Same::No,

@@ -24,8 +24,8 @@ fn code_by<'a, 'b, 'c, 'd, 'e>(
     new_index: &'d mut [usize],
     table: &'e [u8],
 ) -> u16
-    requires { ⌜ ((now old_index ≡ indexOf (now old)) × (decoded (now old) ≡ Sound sizes))
-        × (now new_index ≡ replicate (tableSize (now new)) 0) ⌝ }
+    requires { ⌜ ((now «old_index» ≡ indexOf (now old)) × (decoded (now old) ≡ Sound sizes))
+        × (now «new_index» ≡ replicate (tableSize (now new)) 0) ⌝ }
     ensures { λ r. ⌜ r ≡ byAcceptance (now (old .entry)) (now (new .entry)) (now (table .entry)) (Granted sizes)
         (acceptance (now (new .entry))) ⌝ }
 {
@@ -42,7 +42,7 @@ fn code_from<'a, 'b, 'c, 'd>(
     new: &'c [u8],
     table: &'d [u8],
 ) -> u16
-    requires { ⌜ (now old_index ≡ indexOf (now old)) × (decoded (now old) ≡ Sound sizes) ⌝ }
+    requires { ⌜ (now «old_index» ≡ indexOf (now old)) × (decoded (now old) ≡ Sound sizes) ⌝ }
     ensures { λ r. ⌜ r ≡ byAcceptance (now (old .entry)) (now (new .entry)) (now (table .entry)) (Granted sizes)
         (acceptance (now (new .entry))) ⌝ }
 {
@@ -61,7 +61,7 @@ fn permit_by<'a, 'b, 'c, 'd>(
     new: &'c [u8],
     table: &'d [u8],
 ) -> u16
-    requires { ⌜ now old_index ≡ replicate (tableSize (now old)) 0 ⌝ }
+    requires { ⌜ now «old_index» ≡ replicate (tableSize (now old)) 0 ⌝ }
     ensures { λ r. ⌜ Promise (now (old .entry)) (now (new .entry)) (now (table .entry)) r ⌝ }
 {
     match accept_image(old, old_index) {

@@ -45,12 +45,13 @@ fn all_serve<'a, 'b, 'c, 'd, 'e>(
     new_sizes: Sizes,
     table: &'e [u8],
 ) -> bool
-    requires { ⌜ (((now old_index ≡ indexOf (now old)) × ((decoded (now old) ≡ Sound old_sizes)
-        × (old_totals ≡ totalsOf old_sizes (bodies (now old)))))
-        × ((now new_index ≡ indexOf (now new)) × (decoded (now new) ≡ Sound new_sizes))) × (old_sizes .threads ≡ new_sizes .threads) ⌝ }
-    ensures { λ r. ⌜ r ≡ threadsServe (now (old .entry)) old_sizes (now (new .entry)) new_sizes
-        (marksTo (now (new .entry)) new_sizes (new_sizes .lines))
-        (now (table .entry)) (old_sizes .threads) ⌝ }
+    requires { ⌜ (((now «old_index» ≡ indexOf (now old)) × ((decoded (now old) ≡ Sound «old_sizes»)
+        × («old_totals» ≡ totalsOf «old_sizes» (bodies (now old)))))
+        × ((now «new_index» ≡ indexOf (now new)) × (decoded (now new) ≡ Sound «new_sizes»)))
+        × («old_sizes» .threads ≡ «new_sizes» .threads) ⌝ }
+    ensures { λ r. ⌜ r ≡ threadsServe (now (old .entry)) «old_sizes» (now (new .entry)) «new_sizes»
+        (marksTo (now (new .entry)) «new_sizes» («new_sizes» .lines))
+        (now (table .entry)) («old_sizes» .threads) ⌝ }
 {
     let d = totals_of(new, new_index, new_sizes);
     let marks = judge_lines(new, new_index, new_sizes);
@@ -77,9 +78,10 @@ fn code_between<'a, 'b, 'c, 'd, 'e>(
     new_sizes: Sizes,
     table: &'e [u8],
 ) -> u16
-    requires { ⌜ (((now old_index ≡ indexOf (now old)) × (decoded (now old) ≡ Sound old_sizes))
-        × ((now new_index ≡ indexOf (now new)) × (decoded (now new) ≡ Sound new_sizes))) × (old_sizes .threads ≡ new_sizes .threads) ⌝ }
-    ensures { λ r. ⌜ (r ≡ codeBetween (imageOf old_sizes (bodies (now (old .entry)))) (imageOf new_sizes (bodies (now (new .entry))))
+    requires { ⌜ (((now «old_index» ≡ indexOf (now old)) × (decoded (now old) ≡ Sound «old_sizes»))
+        × ((now «new_index» ≡ indexOf (now new)) × (decoded (now new) ≡ Sound «new_sizes»)))
+        × («old_sizes» .threads ≡ «new_sizes» .threads) ⌝ }
+    ensures { λ r. ⌜ (r ≡ codeBetween (imageOf «old_sizes» (bodies (now (old .entry)))) (imageOf «new_sizes» (bodies (now (new .entry))))
         (now (table .entry))) × (r ≤ 34) ⌝ }
 {
     let totals = totals_of(old, old_index, old_sizes);
@@ -120,9 +122,9 @@ pub fn handover_code<'a, 'b, 'c, 'd, 'e>(
     new_sizes: Sizes,
     table: &'e [u8],
 ) -> u16
-    requires { ⌜ ((now old_index ≡ indexOf (now old)) × (decoded (now old) ≡ Sound old_sizes))
-        × ((now new_index ≡ indexOf (now new)) × (decoded (now new) ≡ Sound new_sizes)) ⌝ }
-    ensures { λ r. ⌜ (r ≡ codeOf (now (old .entry)) old_sizes (now (new .entry)) new_sizes (now (table .entry))) × (r ≤ 34) ⌝ }
+    requires { ⌜ ((now «old_index» ≡ indexOf (now old)) × (decoded (now old) ≡ Sound «old_sizes»))
+        × ((now «new_index» ≡ indexOf (now new)) × (decoded (now new) ≡ Sound «new_sizes»)) ⌝ }
+    ensures { λ r. ⌜ (r ≡ codeOf (now (old .entry)) «old_sizes» (now (new .entry)) «new_sizes» (now (table .entry))) × (r ≤ 34) ⌝ }
 {
     let a = body_of(old, old_index, 0);
     let body = body_of(new, new_index, 0);

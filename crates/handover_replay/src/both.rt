@@ -52,8 +52,9 @@ fn run_both<'a, 'b, 'c, 'd, 'e, 'f, 'g, 'h>(
     given: &'h [u8],
     room: usize,
 ) -> Replayed
-    requires { ⌜ ((now old_index ≡ indexOf (now old)) × (decoded (now old) ≡ Sound old_sizes)) × (now new_index ≡ indexOf (now new)) ⌝ }
-    ensures { λ r. ⌜ r ≡ acrossOn (now (old .entry)) old_sizes (now (new .entry)) new_sizes (now (points .entry)) (now (first .entry))
+    requires { ⌜ ((now «old_index» ≡ indexOf (now old)) × (decoded (now old) ≡ Sound «old_sizes»))
+        × (now «new_index» ≡ indexOf (now new)) ⌝ }
+    ensures { λ r. ⌜ r ≡ acrossOn (now (old .entry)) «old_sizes» (now (new .entry)) «new_sizes» (now (points .entry)) (now (first .entry))
         (now (second .entry))
         (now (given .entry)) room ⌝ }
 {
@@ -104,9 +105,9 @@ fn replay_between<'a, 'b, 'c, 'd, 'e, 'f, 'g, 'h>(
     given: &'h [u8],
     room: usize,
 ) -> Replayed
-    requires { ⌜ ((now old_index ≡ indexOf (now old)) × (decoded (now old) ≡ Sound old_sizes))
-        × ((now new_index ≡ indexOf (now new)) × (decoded (now new) ≡ Sound new_sizes)) ⌝ }
-    ensures { λ r. ⌜ r ≡ acrossBy (now (old .entry)) old_sizes (now (new .entry)) new_sizes (now (points .entry)) (now (first .entry))
+    requires { ⌜ ((now «old_index» ≡ indexOf (now old)) × (decoded (now old) ≡ Sound «old_sizes»))
+        × ((now «new_index» ≡ indexOf (now new)) × (decoded (now new) ≡ Sound «new_sizes»)) ⌝ }
+    ensures { λ r. ⌜ r ≡ acrossBy (now (old .entry)) «old_sizes» (now (new .entry)) «new_sizes» (now (points .entry)) (now (first .entry))
         (now (second .entry))
         (now (given .entry)) room ⌝ }
 {
@@ -142,8 +143,8 @@ fn replay_from_by<'a, 'b, 'c, 'd, 'e, 'f, 'g, 'h>(
     given: &'g [u8],
     room: usize,
 ) -> Replayed
-    requires { ⌜ ((now old_index ≡ indexOf (now old)) × (decoded (now old) ≡ Sound sizes))
-        × (now new_index ≡ replicate (tableSize (now new)) 0) ⌝ }
+    requires { ⌜ ((now «old_index» ≡ indexOf (now old)) × (decoded (now old) ≡ Sound sizes))
+        × (now «new_index» ≡ replicate (tableSize (now new)) 0) ⌝ }
     ensures { λ r. ⌜ r ≡ byAcceptance (now (old .entry)) (now (new .entry)) (now (points .entry)) (now (first .entry)) (now (second .entry))
         (now (given .entry)) room (Granted sizes) (acceptance (now (new .entry))) ⌝ }
 {
@@ -178,7 +179,7 @@ fn replay_from<'a, 'b, 'c, 'd, 'e, 'f, 'g>(
     given: &'g [u8],
     room: usize,
 ) -> Replayed
-    requires { ⌜ (now old_index ≡ indexOf (now old)) × (decoded (now old) ≡ Sound sizes) ⌝ }
+    requires { ⌜ (now «old_index» ≡ indexOf (now old)) × (decoded (now old) ≡ Sound sizes) ⌝ }
     ensures { λ r. ⌜ r ≡ byAcceptance (now (old .entry)) (now (new .entry)) (now (points .entry)) (now (first .entry)) (now (second .entry))
         (now (given .entry)) room (Granted sizes) (acceptance (now (new .entry))) ⌝ }
 {
@@ -223,7 +224,7 @@ fn replay_across_by<'a, 'b, 'c, 'd, 'e, 'f, 'g>(
     given: &'f [u8],
     lent: usize,
 ) -> Replayed
-    requires { ⌜ now old_index ≡ replicate (tableSize (now old)) 0 ⌝ }
+    requires { ⌜ now «old_index» ≡ replicate (tableSize (now old)) 0 ⌝ }
     ensures { λ r. ⌜ r ≡ acrossOf (now (old .entry)) (now (new .entry)) (now (points .entry)) (now (first .entry)) (now (second .entry))
         (now (given .entry)) lent ⌝ }
 {

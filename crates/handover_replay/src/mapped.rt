@@ -24,7 +24,7 @@ fn mapped_point<'a, 'b, 'c>(
     t: u8,
     point: u8,
 ) -> u8
-    requires { ⌜ (now old_index ≡ indexOf (now old)) × ((decoded (now old) ≡ Sound sizes) × (totals ≡ totalsOf sizes (bodies (now old))))
+    requires { ⌜ (now «old_index» ≡ indexOf (now old)) × ((decoded (now old) ≡ Sound sizes) × (totals ≡ totalsOf sizes (bodies (now old))))
         ⌝ }
     ensures { λ r. ⌜ r ≡ mappedPoint (now (old .entry)) sizes (now (table .entry)) t point ⌝ }
 {
@@ -42,7 +42,7 @@ pub fn hand_over<'a, 'b, 'c>(
     table: &'c [u8],
     machine: Machine,
 ) -> Machine
-    requires { ⌜ (now old_index ≡ indexOf (now old)) × (decoded (now old) ≡ Sound sizes) ⌝ }
+    requires { ⌜ (now «old_index» ≡ indexOf (now old)) × (decoded (now old) ≡ Sound sizes) ⌝ }
     ensures { λ r. ⌜ r ≡ handedOver (now (old .entry)) sizes (now (table .entry)) machine ⌝ }
 {
     let totals = totals_of(old, old_index, sizes);

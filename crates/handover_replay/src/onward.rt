@@ -41,9 +41,9 @@ pub fn go_on<'a, 'b, 'c, 'd, 'e, 'f>(
     run: Run,
     second: &'f [u8],
 ) -> Run
-    requires { ⌜ ((now old_index ≡ indexOf (now old)) × (decoded (now old) ≡ Sound old_sizes))
-        × ((now new_index ≡ indexOf (now new)) × (run .steps < mostSteps)) ⌝ }
-    ensures { λ q. ⌜ q ≡ wentOn (now (old .entry)) old_sizes (now (new .entry)) new_sizes (now (points .entry)) room run
+    requires { ⌜ ((now «old_index» ≡ indexOf (now old)) × (decoded (now old) ≡ Sound «old_sizes»))
+        × ((now «new_index» ≡ indexOf (now new)) × (run .steps < mostSteps)) ⌝ }
+    ensures { λ q. ⌜ q ≡ wentOn (now (old .entry)) «old_sizes» (now (new .entry)) «new_sizes» (now (points .entry)) room run
         (now (second .entry)) ⌝ }
 {
     if run.code == Refusal::ACCEPTED {

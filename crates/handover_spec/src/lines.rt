@@ -120,12 +120,12 @@ fn entry_serves<'a, 'b, 'c, 'd, 'e, 'f>(
     point: usize,
     i: usize,
 ) -> bool
-    requires { ⌜ (((now old_index ≡ indexOf (now old)) × ((decoded (now old) ≡ Sound old_sizes)
-        × (old_totals ≡ totalsOf old_sizes (bodies (now old)))))
-        × ((now new_index ≡ indexOf (now new)) × ((decoded (now new) ≡ Sound new_sizes)
-        × (new_totals ≡ totalsOf new_sizes (bodies (now new))))))
-        × (((1 ≤ t) × (t ≤ old_sizes .threads)) × ((t ≤ new_sizes .threads) × ((point < 256) × (i < 65536)))) ⌝ }
-    ensures { λ r. ⌜ r ≡ entryServes (now (old .entry)) old_sizes (now (new .entry)) new_sizes (asMarks (now (marks .entry)))
+    requires { ⌜ (((now «old_index» ≡ indexOf (now old)) × ((decoded (now old) ≡ Sound «old_sizes»)
+        × («old_totals» ≡ totalsOf «old_sizes» (bodies (now old)))))
+        × ((now «new_index» ≡ indexOf (now new)) × ((decoded (now new) ≡ Sound «new_sizes»)
+        × («new_totals» ≡ totalsOf «new_sizes» (bodies (now new))))))
+        × (((1 ≤ t) × (t ≤ «old_sizes» .threads)) × ((t ≤ «new_sizes» .threads) × ((point < 256) × (i < 65536)))) ⌝ }
+    ensures { λ r. ⌜ r ≡ entryServes (now (old .entry)) «old_sizes» (now (new .entry)) «new_sizes» (asMarks (now (marks .entry)))
         (now (table .entry)) t point i ⌝ }
 {
     let left = assertion_of(old, old_index, old_sizes, old_totals, t, point);
@@ -164,12 +164,12 @@ fn entries_serve<'a, 'b, 'c, 'd, 'e, 'f>(
     from: usize,
     n: usize,
 ) -> bool
-    requires { ⌜ (((now old_index ≡ indexOf (now old)) × ((decoded (now old) ≡ Sound old_sizes)
-        × (old_totals ≡ totalsOf old_sizes (bodies (now old)))))
-        × ((now new_index ≡ indexOf (now new)) × ((decoded (now new) ≡ Sound new_sizes)
-        × (new_totals ≡ totalsOf new_sizes (bodies (now new))))))
-        × (((1 ≤ t) × (t ≤ old_sizes .threads)) × ((t ≤ new_sizes .threads) × ((n ≤ 256) × (from + n < 65536)))) ⌝ }
-    ensures { λ r. ⌜ r ≡ entriesServe (now (old .entry)) old_sizes (now (new .entry)) new_sizes (asMarks (now (marks .entry)))
+    requires { ⌜ (((now «old_index» ≡ indexOf (now old)) × ((decoded (now old) ≡ Sound «old_sizes»)
+        × («old_totals» ≡ totalsOf «old_sizes» (bodies (now old)))))
+        × ((now «new_index» ≡ indexOf (now new)) × ((decoded (now new) ≡ Sound «new_sizes»)
+        × («new_totals» ≡ totalsOf «new_sizes» (bodies (now new))))))
+        × (((1 ≤ t) × (t ≤ «old_sizes» .threads)) × ((t ≤ «new_sizes» .threads) × ((n ≤ 256) × (from + n < 65536)))) ⌝ }
+    ensures { λ r. ⌜ r ≡ entriesServe (now (old .entry)) «old_sizes» (now (new .entry)) «new_sizes» (asMarks (now (marks .entry)))
         (now (table .entry)) t from n ⌝ }
 {
     let mut k: usize = 0;
@@ -211,12 +211,12 @@ fn thread_serves<'a, 'b, 'c, 'd, 'e, 'f>(
     table: &'f [u8],
     t: usize,
 ) -> bool
-    requires { ⌜ (((now old_index ≡ indexOf (now old)) × ((decoded (now old) ≡ Sound old_sizes)
-        × (old_totals ≡ totalsOf old_sizes (bodies (now old)))))
-        × ((now new_index ≡ indexOf (now new)) × ((decoded (now new) ≡ Sound new_sizes)
-        × (new_totals ≡ totalsOf new_sizes (bodies (now new))))))
-        × (((1 ≤ t) × (t ≤ old_sizes .threads)) × (t ≤ new_sizes .threads)) ⌝ }
-    ensures { λ r. ⌜ r ≡ threadServes (now (old .entry)) old_sizes (now (new .entry)) new_sizes (asMarks (now (marks .entry)))
+    requires { ⌜ (((now «old_index» ≡ indexOf (now old)) × ((decoded (now old) ≡ Sound «old_sizes»)
+        × («old_totals» ≡ totalsOf «old_sizes» (bodies (now old)))))
+        × ((now «new_index» ≡ indexOf (now new)) × ((decoded (now new) ≡ Sound «new_sizes»)
+        × («new_totals» ≡ totalsOf «new_sizes» (bodies (now new))))))
+        × (((1 ≤ t) × (t ≤ «old_sizes» .threads)) × (t ≤ «new_sizes» .threads)) ⌝ }
+    ensures { λ r. ⌜ r ≡ threadServes (now (old .entry)) «old_sizes» (now (new .entry)) «new_sizes» (asMarks (now (marks .entry)))
         (now (table .entry)) t ⌝ }
 {
     let from = points_before(old, old_index, old_sizes, old_totals, t);
@@ -251,14 +251,14 @@ pub fn lines_serve<'a, 'b, 'c, 'd, 'e, 'f>(
     marks: &'e [bool],
     table: &'f [u8],
 ) -> bool
-    requires { ⌜ (((now old_index ≡ indexOf (now old)) × ((decoded (now old) ≡ Sound old_sizes)
-        × (old_totals ≡ totalsOf old_sizes (bodies (now old)))))
-        × ((now new_index ≡ indexOf (now new)) × ((decoded (now new) ≡ Sound new_sizes)
-        × (new_totals ≡ totalsOf new_sizes (bodies (now new))))))
-        × (old_sizes .threads ≡ new_sizes .threads) ⌝ }
-    ensures { λ r. ⌜ r ≡ threadsServe (now (old .entry)) old_sizes (now (new .entry)) new_sizes (asMarks (now (marks .entry)))
+    requires { ⌜ (((now «old_index» ≡ indexOf (now old)) × ((decoded (now old) ≡ Sound «old_sizes»)
+        × («old_totals» ≡ totalsOf «old_sizes» (bodies (now old)))))
+        × ((now «new_index» ≡ indexOf (now new)) × ((decoded (now new) ≡ Sound «new_sizes»)
+        × («new_totals» ≡ totalsOf «new_sizes» (bodies (now new))))))
+        × («old_sizes» .threads ≡ «new_sizes» .threads) ⌝ }
+    ensures { λ r. ⌜ r ≡ threadsServe (now (old .entry)) «old_sizes» (now (new .entry)) «new_sizes» (asMarks (now (marks .entry)))
         (now (table .entry))
-        (old_sizes .threads) ⌝ }
+        («old_sizes» .threads) ⌝ }
 {
     let threads = old_sizes.threads as usize;
     let mut t: usize = 0;

@@ -28,10 +28,10 @@ fn thread_fits<'a, 'b, 'c, 'd, 'e>(
     table: &'e [u8],
     t: usize,
 ) -> bool
-    requires { ⌜ ((now old_index ≡ indexOf (now old)) × (now new_index ≡ indexOf (now new)))
-        × (((decoded (now old) ≡ Sound old_sizes) × (old_totals ≡ totalsOf old_sizes (bodies (now old))))
-        × ((1 ≤ t) × (t ≤ old_sizes .threads))) ⌝ }
-    ensures { λ r. ⌜ r ≡ threadFits (imageOf old_sizes (bodies (now (old .entry)))) (imageOf new_sizes (bodies (now (new .entry))))
+    requires { ⌜ ((now «old_index» ≡ indexOf (now old)) × (now «new_index» ≡ indexOf (now new)))
+        × (((decoded (now old) ≡ Sound «old_sizes») × («old_totals» ≡ totalsOf «old_sizes» (bodies (now old))))
+        × ((1 ≤ t) × (t ≤ «old_sizes» .threads))) ⌝ }
+    ensures { λ r. ⌜ r ≡ threadFits (imageOf «old_sizes» (bodies (now (old .entry)))) (imageOf «new_sizes» (bodies (now (new .entry))))
         (now (table .entry))
         t ⌝ }
 {
@@ -51,11 +51,11 @@ fn threads_fit<'a, 'b, 'c, 'd, 'e>(
     new_sizes: Sizes,
     table: &'e [u8],
 ) -> bool
-    requires { ⌜ ((now old_index ≡ indexOf (now old)) × (now new_index ≡ indexOf (now new)))
-        × ((decoded (now old) ≡ Sound old_sizes) × (old_totals ≡ totalsOf old_sizes (bodies (now old)))) ⌝ }
-    ensures { λ r. ⌜ r ≡ threadsFit (imageOf old_sizes (bodies (now (old .entry)))) (imageOf new_sizes (bodies (now (new .entry))))
+    requires { ⌜ ((now «old_index» ≡ indexOf (now old)) × (now «new_index» ≡ indexOf (now new)))
+        × ((decoded (now old) ≡ Sound «old_sizes») × («old_totals» ≡ totalsOf «old_sizes» (bodies (now old)))) ⌝ }
+    ensures { λ r. ⌜ r ≡ threadsFit (imageOf «old_sizes» (bodies (now (old .entry)))) (imageOf «new_sizes» (bodies (now (new .entry))))
         (now (table .entry))
-        (old_sizes .threads) ⌝ }
+        («old_sizes» .threads) ⌝ }
 {
     let threads = old_sizes.threads as usize;
     let mut t: usize = 0;
@@ -89,9 +89,9 @@ pub fn table_fits<'a, 'b, 'c, 'd, 'e>(
     new_sizes: Sizes,
     table: &'e [u8],
 ) -> bool
-    requires { ⌜ ((now old_index ≡ indexOf (now old)) × (now new_index ≡ indexOf (now new)))
-        × ((decoded (now old) ≡ Sound old_sizes) × (old_totals ≡ totalsOf old_sizes (bodies (now old)))) ⌝ }
-    ensures { λ r. ⌜ r ≡ tableFits (imageOf old_sizes (bodies (now (old .entry)))) (imageOf new_sizes (bodies (now (new .entry))))
+    requires { ⌜ ((now «old_index» ≡ indexOf (now old)) × (now «new_index» ≡ indexOf (now new)))
+        × ((decoded (now old) ≡ Sound «old_sizes») × («old_totals» ≡ totalsOf «old_sizes» (bodies (now old)))) ⌝ }
+    ensures { λ r. ⌜ r ≡ tableFits (imageOf «old_sizes» (bodies (now (old .entry)))) (imageOf «new_sizes» (bodies (now (new .entry))))
         (now (table .entry)) ⌝ }
 {
     if table.len() != Entry::SIZE * points_in(old, old_sizes, old_totals) {

@@ -242,7 +242,7 @@ fn wanted_kept<'a, 'b>(
     acting_point: usize,
 ) -> Wanted
     requires { ⌜ (now index ≡ indexOf (now image)) × (totals ≡ totalsOf sizes (bodies (now image))) ⌝ }
-    ensures { λ r. ⌜ r ≡ wantedKept (now (image .entry)) sizes u asserting_point t acting_point ⌝ }
+    ensures { λ r. ⌜ r ≡ wantedKept (now (image .entry)) sizes u «asserting_point» t «acting_point» ⌝ }
 {
     let instruction = instruction_of(image, index, sizes, t, acting_point);
     let a = outline_at(image, index, sizes, totals, u, asserting_point);

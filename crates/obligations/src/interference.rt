@@ -30,7 +30,8 @@ fn judge_assertion<'a, 'b, 'c>(
     judgement: Outcome,
 ) -> Outcome
     requires { ⌜ (now index ≡ indexOf (now image)) × (totals ≡ totalsOf sizes (bodies (now image))) ⌝ }
-    ensures { λ q. ⌜ q ≡ actingAt (now (image .entry)) sizes (asMarks (now (marks .entry))) u asserting_point t acting_point judgement ⌝ }
+    ensures { λ q. ⌜ q ≡ actingAt (now (image .entry)) sizes (asMarks (now (marks .entry))) u «asserting_point» t «acting_point» judgement
+        ⌝ }
 {
     let instruction = instruction_of(image, index, sizes, t, acting_point);
     if instruction.operation == Instruction::BRANCH {
@@ -66,7 +67,7 @@ fn judge_asserting<'a, 'b, 'c>(
     judgement: Outcome,
 ) -> Outcome
     requires { ⌜ (now index ≡ indexOf (now image)) × (totals ≡ totalsOf sizes (bodies (now image))) ⌝ }
-    ensures { λ q. ⌜ q ≡ assertionsAt (now (image .entry)) sizes (asMarks (now (marks .entry))) t acting_point u judgement ⌝ }
+    ensures { λ q. ⌜ q ≡ assertionsAt (now (image .entry)) sizes (asMarks (now (marks .entry))) t «acting_point» u judgement ⌝ }
 {
     if t == u {
         return judgement;
@@ -93,7 +94,7 @@ fn judge_action<'a, 'b, 'c>(
     judgement: Outcome,
 ) -> Outcome
     requires { ⌜ (now index ≡ indexOf (now image)) × (totals ≡ totalsOf sizes (bodies (now image))) ⌝ }
-    ensures { λ q. ⌜ q ≡ assertionsTo (now (image .entry)) sizes (asMarks (now (marks .entry))) t acting_point (sizes .threads) judgement
+    ensures { λ q. ⌜ q ≡ assertionsTo (now (image .entry)) sizes (asMarks (now (marks .entry))) t «acting_point» (sizes .threads) judgement
         ⌝ }
 {
     let threads = sizes.threads as usize;

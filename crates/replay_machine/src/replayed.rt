@@ -49,7 +49,7 @@ pub fn replay_on<'a, 'b, 'c, 'd>(
     room: usize,
 ) -> Replayed
     requires { ⌜ now index ≡ indexOf (now image) ⌝ }
-    ensures { λ run. ⌜ run ≡ replayOn (now (image .entry)) sizes (now (trace .entry)) (now (given .entry)) room ⌝ }
+    ensures { λ r. ⌜ r ≡ replayOn (now (image .entry)) sizes (now (trace .entry)) (now (given .entry)) room ⌝ }
 {
     let body = body_of(image, index, 0);
     let n = start_machine(body, sizes.range, given);

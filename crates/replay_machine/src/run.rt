@@ -84,7 +84,7 @@ pub fn run_trace(
     trace: &[u8],
 ) -> Run
     requires { ⌜ now index ≡ indexOf (now image) ⌝ }
-    ensures { λ run. ⌜ run ≡ ran (now (image .entry)) sizes room from 0 (now (trace .entry)) ⌝ }
+    ensures { λ r. ⌜ r ≡ ran (now (image .entry)) sizes room from 0 (now (trace .entry)) ⌝ }
 {
     let mut table = [0u8; Places::BYTES];
     lay_out(from.memory, &mut table);

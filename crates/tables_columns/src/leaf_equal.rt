@@ -68,7 +68,7 @@ fn step_by(pair: Pair, due: usize) -> Step
 
 fn step_at(image: &[u8], at: usize, other_at: usize, due: usize) -> Step
     requires { ⌜ due ≤ 17 ⌝ }
-    ensures { λ r. ⌜ r ≡ stepOf (pairOf (nodeAt (now (image .entry)) at) (nodeAt (now (image .entry)) other_at)) due ⌝ }
+    ensures { λ r. ⌜ r ≡ stepOf (pairOf (nodeAt (now (image .entry)) at) (nodeAt (now (image .entry)) «other_at»)) due ⌝ }
 {
     step_by(
         pair_nodes(node_at(image, at), node_at(image, other_at)),
@@ -78,7 +78,7 @@ fn step_at(image: &[u8], at: usize, other_at: usize, due: usize) -> Step
 
 // As many nodes as neither formula can use up its nesting with.
 fn nodes_within(left: usize, other_left: usize) -> usize
-    ensures { λ r. ⌜ (r ≤ left) × ((r ≤ other_left) × (r ≤ 16)) ⌝ }
+    ensures { λ r. ⌜ (r ≤ left) × ((r ≤ «other_left») × (r ≤ 16)) ⌝ }
 {
     if left < Walk::NODES {
         if left < other_left {
@@ -95,7 +95,7 @@ fn nodes_within(left: usize, other_left: usize) -> usize
 // The same by their parts, however many nodes there are.
 fn same_parts(image: &[u8], at: usize, left: usize, other_at: usize, other_left: usize) -> bool
     ensures { λ r. ⌜ r ≡ sameTree (parseTree (now (image .entry)) left at .tree)
-        (parseTree (now (image .entry)) other_left other_at .tree) ⌝ }
+        (parseTree (now (image .entry)) «other_left» «other_at» .tree) ⌝ }
 {
     match same_at(image, at, left, other_at, other_left) {
         Same::Yes(_, _) => true,
@@ -111,8 +111,8 @@ pub fn same_leaf(
     other_at: usize,
     other_left: usize,
 ) -> bool
-    ensures { λ r. ⌜ r ≡ sameTree (parseTree (now (image .entry)) at_left at .tree)
-        (parseTree (now (image .entry)) other_left other_at .tree) ⌝ }
+    ensures { λ r. ⌜ r ≡ sameTree (parseTree (now (image .entry)) «at_left» at .tree)
+        (parseTree (now (image .entry)) «other_left» «other_at» .tree) ⌝ }
 {
     let mut p = at;
     let mut q = other_at;

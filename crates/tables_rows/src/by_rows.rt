@@ -38,7 +38,7 @@ pub fn by_rows(
     range: u8,
 ) -> bool
     ensures { λ r. ⌜ r ≡ rowsT range (parseTree (now (image .entry)) left at .tree)
-        (parseTree (now (image .entry)) other_left other_at .tree) ⌝ }
+        (parseTree (now (image .entry)) «other_left» «other_at» .tree) ⌝ }
 {
     if range < 2 {
         return false;

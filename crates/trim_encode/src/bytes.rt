@@ -33,7 +33,8 @@ pub fn put_five(
     at: usize,
 ) -> usize
     requires { ⌜ at + 5 ≤ length (now out) ⌝ }
-    ensures { λ r. ⌜ (now (out .exit) ≡ overwritten (now (out .entry)) at (byte ∷ next_byte ∷ last_byte ∷ two number)) × (r ≡ at + 5) ⌝ }
+    ensures { λ r. ⌜ (now (out .exit) ≡ overwritten (now (out .entry)) at (byte ∷ «next_byte» ∷ «last_byte» ∷ two number))
+        × (r ≡ at + 5) ⌝ }
 {
     let second = put_byte(byte, out, at);
     let third = put_byte(next_byte, out, second);

@@ -18,10 +18,10 @@ pub fn put_claim<'a, 'b, 'c>(
     out: &'c mut [u8],
     at: usize,
 ) -> usize
-    requires { ⌜ at + length (claimBytes (renewedClaim (now line_numbers) (claimRecord (now body)))) ≤ length (now out) ⌝ }
+    requires { ⌜ at + length (claimBytes (renewedClaim (now «line_numbers») (claimRecord (now body)))) ≤ length (now out) ⌝ }
     ensures { λ r. ⌜ now (out .exit)
-        ≡ overwritten (now (out .entry)) at (claimBytes (renewedClaim (now (line_numbers .entry)) (claimRecord (now (body .entry))))) ⌝ }
-    ensures { λ r. ⌜ r ≡ at + length (claimBytes (renewedClaim (now (line_numbers .entry)) (claimRecord (now (body .entry))))) ⌝ }
+        ≡ overwritten (now (out .entry)) at (claimBytes (renewedClaim (now («line_numbers» .entry)) (claimRecord (now (body .entry))))) ⌝ }
+    ensures { λ r. ⌜ r ≡ at + length (claimBytes (renewedClaim (now («line_numbers» .entry)) (claimRecord (now (body .entry))))) ⌝ }
 {
     let old = word_at(body, 4);
     let line = new_number(line_numbers, old);

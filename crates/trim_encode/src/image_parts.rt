@@ -25,14 +25,14 @@ pub fn put_formulas<'a, 'b, 'c, 'd, 'e, 'f>(
     at: usize,
 ) -> usize
     requires { ⌜ now index ≡ indexOf (now image) ⌝ }
-    requires { ⌜ at + length (formulasBytes sizes (now formula_numbers) (now line_numbers) (bodies (now image)) (now live_formulas)) ≤
+    requires { ⌜ at + length (formulasBytes sizes (now «formula_numbers») (now «line_numbers») (bodies (now image)) (now «live_formulas»)) ≤
         length (now out) ⌝ }
     ensures { λ r. ⌜ now (out .exit)
         ≡ overwritten (now (out .entry)) at
-        (formulasBytes sizes (now (formula_numbers .entry)) (now (line_numbers .entry)) (bodies (now (image .entry)))
-        (now (live_formulas .entry))) ⌝ }
-    ensures { λ r. ⌜ r ≡ at + length (formulasBytes sizes (now (formula_numbers .entry)) (now (line_numbers .entry))
-        (bodies (now (image .entry))) (now (live_formulas .entry))) ⌝ }
+        (formulasBytes sizes (now («formula_numbers» .entry)) (now («line_numbers» .entry)) (bodies (now (image .entry)))
+        (now («live_formulas» .entry))) ⌝ }
+    ensures { λ r. ⌜ r ≡ at + length (formulasBytes sizes (now («formula_numbers» .entry)) (now («line_numbers» .entry))
+        (bodies (now (image .entry))) (now («live_formulas» .entry))) ⌝ }
 {
     put_kept(
         image,
@@ -58,11 +58,11 @@ pub fn put_threads<'a, 'b, 'c, 'd, 'e>(
     at: usize,
 ) -> usize
     requires { ⌜ now index ≡ indexOf (now image) ⌝ }
-    requires { ⌜ at + length (threadsBytes sizes (now formula_numbers) (now line_numbers) (bodies (now image))) ≤ length (now out) ⌝ }
+    requires { ⌜ at + length (threadsBytes sizes (now «formula_numbers») (now «line_numbers») (bodies (now image))) ≤ length (now out) ⌝ }
     ensures { λ r. ⌜ now (out .exit)
-        ≡ overwritten (now (out .entry)) at (threadsBytes sizes (now (formula_numbers .entry)) (now (line_numbers .entry))
+        ≡ overwritten (now (out .entry)) at (threadsBytes sizes (now («formula_numbers» .entry)) (now («line_numbers» .entry))
         (bodies (now (image .entry)))) ⌝ }
-    ensures { λ r. ⌜ r ≡ at + length (threadsBytes sizes (now (formula_numbers .entry)) (now (line_numbers .entry))
+    ensures { λ r. ⌜ r ≡ at + length (threadsBytes sizes (now («formula_numbers» .entry)) (now («line_numbers» .entry))
         (bodies (now (image .entry)))) ⌝ }
 {
     let n = (sizes.formulas as usize) + 1;
@@ -88,10 +88,10 @@ pub fn put_outline<'a, 'b, 'c, 'd>(
     at: usize,
 ) -> usize
     requires { ⌜ now index ≡ indexOf (now image) ⌝ }
-    requires { ⌜ at + length (outlineBytes sizes (now formula_numbers) (bodies (now image))) ≤ length (now out) ⌝ }
+    requires { ⌜ at + length (outlineBytes sizes (now «formula_numbers») (bodies (now image))) ≤ length (now out) ⌝ }
     ensures { λ r. ⌜ now (out .exit) ≡ overwritten (now (out .entry)) at
-        (outlineBytes sizes (now (formula_numbers .entry)) (bodies (now (image .entry)))) ⌝ }
-    ensures { λ r. ⌜ r ≡ at + length (outlineBytes sizes (now (formula_numbers .entry)) (bodies (now (image .entry)))) ⌝ }
+        (outlineBytes sizes (now («formula_numbers» .entry)) (bodies (now (image .entry)))) ⌝ }
+    ensures { λ r. ⌜ r ≡ at + length (outlineBytes sizes (now («formula_numbers» .entry)) (bodies (now (image .entry)))) ⌝ }
 {
     let counts = tally_of(image, index, sizes);
     let n = (sizes.formulas as usize) + (sizes.threads as usize) + 1;
@@ -118,13 +118,14 @@ pub fn put_lines<'a, 'b, 'c, 'd, 'e, 'f>(
     at: usize,
 ) -> usize
     requires { ⌜ now index ≡ indexOf (now image) ⌝ }
-    requires { ⌜ at + length (linesBytes sizes (now formula_numbers) (now line_numbers) (bodies (now image)) (now live_lines)) ≤ length
+    requires { ⌜ at + length (linesBytes sizes (now «formula_numbers») (now «line_numbers») (bodies (now image)) (now «live_lines»)) ≤
+        length
         (now out) ⌝ }
     ensures { λ r. ⌜ now (out .exit)
-        ≡ overwritten (now (out .entry)) at (linesBytes sizes (now (formula_numbers .entry)) (now (line_numbers .entry))
-        (bodies (now (image .entry))) (now (live_lines .entry))) ⌝ }
-    ensures { λ r. ⌜ r ≡ at + length (linesBytes sizes (now (formula_numbers .entry)) (now (line_numbers .entry))
-        (bodies (now (image .entry))) (now (live_lines .entry))) ⌝ }
+        ≡ overwritten (now (out .entry)) at (linesBytes sizes (now («formula_numbers» .entry)) (now («line_numbers» .entry))
+        (bodies (now (image .entry))) (now («live_lines» .entry))) ⌝ }
+    ensures { λ r. ⌜ r ≡ at + length (linesBytes sizes (now («formula_numbers» .entry)) (now («line_numbers» .entry))
+        (bodies (now (image .entry))) (now («live_lines» .entry))) ⌝ }
 {
     let n = (sizes.formulas as usize) + (sizes.threads as usize) + 2;
     put_kept(
@@ -150,10 +151,10 @@ pub fn put_obligations<'a, 'b, 'c, 'd>(
     at: usize,
 ) -> usize
     requires { ⌜ now index ≡ indexOf (now image) ⌝ }
-    requires { ⌜ at + length (obligationsBytes sizes (now line_numbers) (bodies (now image))) ≤ length (now out) ⌝ }
+    requires { ⌜ at + length (obligationsBytes sizes (now «line_numbers») (bodies (now image))) ≤ length (now out) ⌝ }
     ensures { λ r. ⌜ now (out .exit) ≡ overwritten (now (out .entry)) at
-        (obligationsBytes sizes (now (line_numbers .entry)) (bodies (now (image .entry)))) ⌝ }
-    ensures { λ r. ⌜ r ≡ at + length (obligationsBytes sizes (now (line_numbers .entry)) (bodies (now (image .entry)))) ⌝ }
+        (obligationsBytes sizes (now («line_numbers» .entry)) (bodies (now (image .entry)))) ⌝ }
+    ensures { λ r. ⌜ r ≡ at + length (obligationsBytes sizes (now («line_numbers» .entry)) (bodies (now (image .entry)))) ⌝ }
 {
     let c = count_obligations(image, index, sizes);
     let n = (sizes.formulas as usize) + (sizes.threads as usize) + 1 + (sizes.lines as usize) + 1;
@@ -170,11 +171,11 @@ pub fn put_claims<'a, 'b, 'c, 'd, 'e>(
     at: usize,
 ) -> usize
     requires { ⌜ now index ≡ indexOf (now image) ⌝ }
-    requires { ⌜ at + length (claimsBytes sizes (now formula_numbers) (now line_numbers) (bodies (now image))) ≤ length (now out) ⌝ }
+    requires { ⌜ at + length (claimsBytes sizes (now «formula_numbers») (now «line_numbers») (bodies (now image))) ≤ length (now out) ⌝ }
     ensures { λ r. ⌜ now (out .exit)
-        ≡ overwritten (now (out .entry)) at (claimsBytes sizes (now (formula_numbers .entry)) (now (line_numbers .entry))
+        ≡ overwritten (now (out .entry)) at (claimsBytes sizes (now («formula_numbers» .entry)) (now («line_numbers» .entry))
         (bodies (now (image .entry)))) ⌝ }
-    ensures { λ r. ⌜ r ≡ at + length (claimsBytes sizes (now (formula_numbers .entry)) (now (line_numbers .entry))
+    ensures { λ r. ⌜ r ≡ at + length (claimsBytes sizes (now («formula_numbers» .entry)) (now («line_numbers» .entry))
         (bodies (now (image .entry)))) ⌝ }
 {
     let n = (sizes.formulas as usize) + (sizes.threads as usize) + 1 + (sizes.lines as usize) + 2;

@@ -26,9 +26,10 @@ fn put_left<'a, 'b, 'c>(
     out: &'c mut [u8],
     at: usize,
 ) -> usize
-    requires { ⌜ at + length (leftBytes (now formula_numbers) (now body)) ≤ length (now out) ⌝ }
-    ensures { λ r. ⌜ now (out .exit) ≡ overwritten (now (out .entry)) at (leftBytes (now (formula_numbers .entry)) (now (body .entry))) ⌝ }
-    ensures { λ r. ⌜ r ≡ at + length (leftBytes (now (formula_numbers .entry)) (now (body .entry))) ⌝ }
+    requires { ⌜ at + length (leftBytes (now «formula_numbers») (now body)) ≤ length (now out) ⌝ }
+    ensures { λ r. ⌜ now (out .exit) ≡ overwritten (now (out .entry)) at (leftBytes (now («formula_numbers» .entry)) (now (body .entry)))
+        ⌝ }
+    ensures { λ r. ⌜ r ≡ at + length (leftBytes (now («formula_numbers» .entry)) (now (body .entry))) ⌝ }
 {
     let old = word_at(body, 3);
     let left = new_number(formula_numbers, old);
@@ -49,9 +50,10 @@ fn put_right<'a, 'b, 'c>(
     out: &'c mut [u8],
     at: usize,
 ) -> usize
-    requires { ⌜ at + length (rightBytes (now formula_numbers) (now body)) ≤ length (now out) ⌝ }
-    ensures { λ r. ⌜ now (out .exit) ≡ overwritten (now (out .entry)) at (rightBytes (now (formula_numbers .entry)) (now (body .entry))) ⌝ }
-    ensures { λ r. ⌜ r ≡ at + length (rightBytes (now (formula_numbers .entry)) (now (body .entry))) ⌝ }
+    requires { ⌜ at + length (rightBytes (now «formula_numbers») (now body)) ≤ length (now out) ⌝ }
+    ensures { λ r. ⌜ now (out .exit) ≡ overwritten (now (out .entry)) at (rightBytes (now («formula_numbers» .entry)) (now (body .entry)))
+        ⌝ }
+    ensures { λ r. ⌜ r ≡ at + length (rightBytes (now («formula_numbers» .entry)) (now (body .entry))) ⌝ }
 {
     let old = word_at(body, 5);
     let next = put_word(new_number(formula_numbers, old), out, at);
@@ -64,10 +66,10 @@ fn put_premises<'a, 'b, 'c>(
     out: &'c mut [u8],
     at: usize,
 ) -> usize
-    requires { ⌜ at + length (numberBytes (map (renewed (now line_numbers)) (premises (now body)))) ≤ length (now out) ⌝ }
+    requires { ⌜ at + length (numberBytes (map (renewed (now «line_numbers»)) (premises (now body)))) ≤ length (now out) ⌝ }
     ensures { λ r. ⌜ now (out .exit)
-        ≡ overwritten (now (out .entry)) at (numberBytes (map (renewed (now (line_numbers .entry))) (premises (now (body .entry))))) ⌝ }
-    ensures { λ r. ⌜ r ≡ at + length (numberBytes (map (renewed (now (line_numbers .entry))) (premises (now (body .entry))))) ⌝ }
+        ≡ overwritten (now (out .entry)) at (numberBytes (map (renewed (now («line_numbers» .entry))) (premises (now (body .entry))))) ⌝ }
+    ensures { λ r. ⌜ r ≡ at + length (numberBytes (map (renewed (now («line_numbers» .entry))) (premises (now (body .entry))))) ⌝ }
 {
     let l = rest(body, 8);
     put_numbers(line_numbers, l, byte_at(body, 7), out, at)
@@ -80,12 +82,13 @@ pub fn put_line<'a, 'b, 'c, 'd>(
     out: &'d mut [u8],
     at: usize,
 ) -> usize
-    requires { ⌜ at + length (lineBytes (renewedLine (now formula_numbers) (now line_numbers) (lineRecord (now body)))) ≤ length (now out)
+    requires { ⌜ at + length (lineBytes (renewedLine (now «formula_numbers») (now «line_numbers») (lineRecord (now body)))) ≤ length
+        (now out)
         ⌝ }
     ensures { λ r. ⌜ now (out .exit)
-        ≡ overwritten (now (out .entry)) at (lineBytes (renewedLine (now (formula_numbers .entry)) (now (line_numbers .entry))
+        ≡ overwritten (now (out .entry)) at (lineBytes (renewedLine (now («formula_numbers» .entry)) (now («line_numbers» .entry))
         (lineRecord (now (body .entry))))) ⌝ }
-    ensures { λ r. ⌜ r ≡ at + length (lineBytes (renewedLine (now (formula_numbers .entry)) (now (line_numbers .entry))
+    ensures { λ r. ⌜ r ≡ at + length (lineBytes (renewedLine (now («formula_numbers» .entry)) (now («line_numbers» .entry))
         (lineRecord (now (body .entry))))) ⌝ }
 {
     let right = put_left(formula_numbers, body, out, at);

@@ -101,7 +101,7 @@ fn note_line<'a, 'b, 'c, 'd>(
 )
     requires { ⌜ (now index ≡ indexOf (now image)) × (number < 65536) ⌝ }
     ensures { λ _. ⌜ now (marks .exit) ≡ noted (now (marks .entry)) (markedSides sizes (bodies (now (image .entry)))
-        (now (live_lines .entry)) number) ⌝ }
+        (now («live_lines» .entry)) number) ⌝ }
 {
     if is_noted(live_lines, number) {
         let body = body_of(
@@ -124,7 +124,7 @@ fn note_lines<'a, 'b, 'c, 'd>(
 )
     requires { ⌜ (now index ≡ indexOf (now image)) × (length (bodies (now image)) ≡ recordCount sizes) ⌝ }
     ensures { λ _. ⌜ now (marks .exit) ≡ noted (now (marks .entry)) (markedFormulas sizes (bodies (now (image .entry)))
-        (now (live_lines .entry)) 0) ⌝ }
+        (now («live_lines» .entry)) 0) ⌝ }
 {
     let lines = sizes.lines as usize;
     let mut n: usize = 0;
@@ -143,7 +143,7 @@ pub fn fill_used<'a, 'b, 'c, 'd>(
     marks: &'d mut [bool],
 )
     requires { ⌜ ((now index ≡ indexOf (now image)) × (length (bodies (now image)) ≡ recordCount sizes))
-        × ((now live_lines ≡ kept (documentOf sizes (bodies (now image)))) × (now marks ≡ replicate (suc formulas) false)) ⌝ }
+        × ((now «live_lines» ≡ kept (documentOf sizes (bodies (now image)))) × (now marks ≡ replicate (suc formulas) false)) ⌝ }
     ensures { λ _. ⌜ now (marks .exit) ≡ used (documentOf sizes (bodies (now (image .entry)))) ⌝ }
 {
     note_threads(image, index, sizes, marks);

@@ -24,11 +24,12 @@ fn put_body<'a, 'b, 'c, 'd>(
     out: &'d mut [u8],
     at: usize,
 ) -> usize
-    requires { ⌜ at + length (renewedBody (now formula_numbers) (now line_numbers) kind (now body)) ≤ length (now out) ⌝ }
+    requires { ⌜ at + length (renewedBody (now «formula_numbers») (now «line_numbers») kind (now body)) ≤ length (now out) ⌝ }
     ensures { λ r. ⌜ now (out .exit)
-        ≡ overwritten (now (out .entry)) at (renewedBody (now (formula_numbers .entry)) (now (line_numbers .entry)) kind
+        ≡ overwritten (now (out .entry)) at (renewedBody (now («formula_numbers» .entry)) (now («line_numbers» .entry)) kind
         (now (body .entry))) ⌝ }
-    ensures { λ r. ⌜ r ≡ at + length (renewedBody (now (formula_numbers .entry)) (now (line_numbers .entry)) kind (now (body .entry))) ⌝ }
+    ensures { λ r. ⌜ r ≡ at + length (renewedBody (now («formula_numbers» .entry)) (now («line_numbers» .entry)) kind (now (body .entry)))
+        ⌝ }
 {
     if kind == Kind::THREAD {
         return put_thread(formula_numbers, body, out, at);
@@ -54,11 +55,13 @@ pub fn put_record<'a, 'b, 'c, 'd, 'e>(
     at: usize,
 ) -> usize
     requires { ⌜ now index ≡ indexOf (now image) ⌝ }
-    requires { ⌜ at + length (recordBytes (now formula_numbers) (now line_numbers) (bodies (now image)) kind number) ≤ length (now out) ⌝ }
+    requires { ⌜ at + length (recordBytes (now «formula_numbers») (now «line_numbers») (bodies (now image)) kind number) ≤ length
+        (now out) ⌝ }
     ensures { λ r. ⌜ now (out .exit)
-        ≡ overwritten (now (out .entry)) at (recordBytes (now (formula_numbers .entry)) (now (line_numbers .entry))
+        ≡ overwritten (now (out .entry)) at (recordBytes (now («formula_numbers» .entry)) (now («line_numbers» .entry))
         (bodies (now (image .entry))) kind number) ⌝ }
-    ensures { λ r. ⌜ r ≡ at + length (recordBytes (now (formula_numbers .entry)) (now (line_numbers .entry)) (bodies (now (image .entry)))
+    ensures { λ r. ⌜ r ≡ at + length (recordBytes (now («formula_numbers» .entry)) (now («line_numbers» .entry))
+        (bodies (now (image .entry)))
         kind number) ⌝ }
 {
     let body = body_of(image, index, number);
@@ -78,10 +81,10 @@ pub fn put_list<'a, 'b, 'c, 'd>(
     at: usize,
 ) -> usize
     requires { ⌜ now index ≡ indexOf (now image) ⌝ }
-    requires { ⌜ at + length (listBytes (now new_numbers) (bodies (now image)) kind number count) ≤ length (now out) ⌝ }
+    requires { ⌜ at + length (listBytes (now «new_numbers») (bodies (now image)) kind number count) ≤ length (now out) ⌝ }
     ensures { λ r. ⌜ now (out .exit) ≡ overwritten (now (out .entry)) at
-        (listBytes (now (new_numbers .entry)) (bodies (now (image .entry))) kind number count) ⌝ }
-    ensures { λ r. ⌜ r ≡ at + length (listBytes (now (new_numbers .entry)) (bodies (now (image .entry))) kind number count) ⌝ }
+        (listBytes (now («new_numbers» .entry)) (bodies (now (image .entry))) kind number count) ⌝ }
+    ensures { λ r. ⌜ r ≡ at + length (listBytes (now («new_numbers» .entry)) (bodies (now (image .entry))) kind number count) ⌝ }
 {
     let body = body_of(image, index, number);
     let end = put_numbers(new_numbers, body, count, out, at + 4);

@@ -24,11 +24,13 @@ fn put_next<'a, 'b, 'c, 'd, 'e>(
 ) -> usize
     requires { ⌜ now index ≡ indexOf (now image) ⌝ }
     requires { ⌜ first + i < 1000000 ⌝ }
-    requires { ⌜ at + length (recordPiece (now formula_numbers) (now line_numbers) (bodies (now image)) kind first i) ≤ length (now out) ⌝ }
+    requires { ⌜ at + length (recordPiece (now «formula_numbers») (now «line_numbers») (bodies (now image)) kind first i) ≤ length
+        (now out) ⌝ }
     ensures { λ r. ⌜ now (out .exit)
-        ≡ overwritten (now (out .entry)) at (recordPiece (now (formula_numbers .entry)) (now (line_numbers .entry))
+        ≡ overwritten (now (out .entry)) at (recordPiece (now («formula_numbers» .entry)) (now («line_numbers» .entry))
         (bodies (now (image .entry))) kind first i) ⌝ }
-    ensures { λ r. ⌜ r ≡ at + length (recordPiece (now (formula_numbers .entry)) (now (line_numbers .entry)) (bodies (now (image .entry)))
+    ensures { λ r. ⌜ r ≡ at + length (recordPiece (now («formula_numbers» .entry)) (now («line_numbers» .entry))
+        (bodies (now (image .entry)))
         kind first i) ⌝ }
 {
     put_record(
@@ -57,12 +59,12 @@ pub fn put_records<'a, 'b, 'c, 'd, 'e>(
 ) -> usize
     requires { ⌜ now index ≡ indexOf (now image) ⌝ }
     requires { ⌜ number + count < 1000000 ⌝ }
-    requires { ⌜ at + length (joined (recordPiece (now formula_numbers) (now line_numbers) (bodies (now image)) kind number) count) ≤
+    requires { ⌜ at + length (joined (recordPiece (now «formula_numbers») (now «line_numbers») (bodies (now image)) kind number) count) ≤
         length (now out) ⌝ }
     ensures { λ r. ⌜ now (out .exit)
-        ≡ overwritten (now (out .entry)) at (joined (recordPiece (now (formula_numbers .entry)) (now (line_numbers .entry))
+        ≡ overwritten (now (out .entry)) at (joined (recordPiece (now («formula_numbers» .entry)) (now («line_numbers» .entry))
         (bodies (now (image .entry))) kind number) count) ⌝ }
-    ensures { λ r. ⌜ r ≡ at + length (joined (recordPiece (now (formula_numbers .entry)) (now (line_numbers .entry))
+    ensures { λ r. ⌜ r ≡ at + length (joined (recordPiece (now («formula_numbers» .entry)) (now («line_numbers» .entry))
         (bodies (now (image .entry))) kind number) count) ⌝ }
 {
     let mut next = at;
@@ -109,13 +111,13 @@ fn put_if_kept<'a, 'b, 'c, 'd, 'e, 'f>(
 ) -> usize
     requires { ⌜ now index ≡ indexOf (now image) ⌝ }
     requires { ⌜ first + i < 1000000 ⌝ }
-    requires { ⌜ at + length (keptPiece (now formula_numbers) (now line_numbers) (bodies (now image)) (now marks) kind first i) ≤ length
+    requires { ⌜ at + length (keptPiece (now «formula_numbers») (now «line_numbers») (bodies (now image)) (now marks) kind first i) ≤ length
         (now out) ⌝ }
     ensures { λ r. ⌜ now (out .exit)
         ≡ overwritten (now (out .entry)) at
-        (keptPiece (now (formula_numbers .entry)) (now (line_numbers .entry)) (bodies (now (image .entry))) (now (marks .entry)) kind
+        (keptPiece (now («formula_numbers» .entry)) (now («line_numbers» .entry)) (bodies (now (image .entry))) (now (marks .entry)) kind
         first i) ⌝ }
-    ensures { λ r. ⌜ r ≡ at + length (keptPiece (now (formula_numbers .entry)) (now (line_numbers .entry)) (bodies (now (image .entry)))
+    ensures { λ r. ⌜ r ≡ at + length (keptPiece (now («formula_numbers» .entry)) (now («line_numbers» .entry)) (bodies (now (image .entry)))
         (now (marks .entry)) kind first i) ⌝ }
 {
     if is_kept(marks, i + 1) {
@@ -148,14 +150,14 @@ pub fn put_kept<'a, 'b, 'c, 'd, 'e, 'f>(
 ) -> usize
     requires { ⌜ now index ≡ indexOf (now image) ⌝ }
     requires { ⌜ first + count < 1000000 ⌝ }
-    requires { ⌜ at + length (joined (keptPiece (now formula_numbers) (now line_numbers) (bodies (now image)) (now marks) kind first)
+    requires { ⌜ at + length (joined (keptPiece (now «formula_numbers») (now «line_numbers») (bodies (now image)) (now marks) kind first)
         count) ≤ length (now out) ⌝ }
     ensures { λ r. ⌜ now (out .exit)
         ≡ overwritten (now (out .entry)) at
-        (joined (keptPiece (now (formula_numbers .entry)) (now (line_numbers .entry)) (bodies (now (image .entry))) (now (marks .entry))
+        (joined (keptPiece (now («formula_numbers» .entry)) (now («line_numbers» .entry)) (bodies (now (image .entry))) (now (marks .entry))
         kind first) count) ⌝ }
     ensures { λ r. ⌜ r
-        ≡ at + length (joined (keptPiece (now (formula_numbers .entry)) (now (line_numbers .entry)) (bodies (now (image .entry)))
+        ≡ at + length (joined (keptPiece (now («formula_numbers» .entry)) (now («line_numbers» .entry)) (bodies (now (image .entry)))
         (now (marks .entry)) kind first) count) ⌝ }
 {
     let mut next = at;

@@ -13,7 +13,7 @@ ghost use Rattle.trim_encode.specs.Renumbered.{renewed};
 
 // Every number has an answer, so that no caller need know that it is in the table.
 pub fn new_number(new_numbers: &[usize], number: usize) -> usize
-    ensures { λ r. ⌜ r ≡ renewed (now (new_numbers .entry)) number ⌝ }
+    ensures { λ r. ⌜ r ≡ renewed (now («new_numbers» .entry)) number ⌝ }
 {
     if number < new_numbers.len() {
         return new_numbers[number];
@@ -33,10 +33,10 @@ fn put_number<'a, 'b, 'c>(
     out: &'c mut [u8],
     at: usize,
 ) -> usize
-    requires { ⌜ at + length (numberPiece (now new_numbers) (now body) n i) ≤ length (now out) ⌝ }
-    ensures { λ r. ⌜ now (out .exit) ≡ overwritten (now (out .entry)) at (numberPiece (now (new_numbers .entry)) (now (body .entry)) n i)
+    requires { ⌜ at + length (numberPiece (now «new_numbers») (now body) n i) ≤ length (now out) ⌝ }
+    ensures { λ r. ⌜ now (out .exit) ≡ overwritten (now (out .entry)) at (numberPiece (now («new_numbers» .entry)) (now (body .entry)) n i)
         ⌝ }
-    ensures { λ r. ⌜ r ≡ at + length (numberPiece (now (new_numbers .entry)) (now (body .entry)) n i) ⌝ }
+    ensures { λ r. ⌜ r ≡ at + length (numberPiece (now («new_numbers» .entry)) (now (body .entry)) n i) ⌝ }
 {
     put_word(new_number(new_numbers, number_at(body, n, i)), out, at)
 }
@@ -49,10 +49,10 @@ pub fn put_numbers<'a, 'b, 'c>(
     out: &'c mut [u8],
     at: usize,
 ) -> usize
-    requires { ⌜ at + length (numberBytes (map (renewed (now new_numbers)) (numbers n (now body)))) ≤ length (now out) ⌝ }
+    requires { ⌜ at + length (numberBytes (map (renewed (now «new_numbers»)) (numbers n (now body)))) ≤ length (now out) ⌝ }
     ensures { λ r. ⌜ now (out .exit)
-        ≡ overwritten (now (out .entry)) at (numberBytes (map (renewed (now (new_numbers .entry))) (numbers n (now (body .entry))))) ⌝ }
-    ensures { λ r. ⌜ r ≡ at + length (numberBytes (map (renewed (now (new_numbers .entry))) (numbers n (now (body .entry))))) ⌝ }
+        ≡ overwritten (now (out .entry)) at (numberBytes (map (renewed (now («new_numbers» .entry))) (numbers n (now (body .entry))))) ⌝ }
+    ensures { λ r. ⌜ r ≡ at + length (numberBytes (map (renewed (now («new_numbers» .entry))) (numbers n (now (body .entry))))) ⌝ }
 {
     let mut next = at;
     let mut i: usize = 0;

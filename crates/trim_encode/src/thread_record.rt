@@ -27,10 +27,10 @@ fn put_second<'a, 'b>(
     out: &'b mut [u8],
     at: usize,
 ) -> usize
-    requires { ⌜ at + length (secondBytes operation (renewedHalf (now formula_numbers) half)) ≤ length (now out) ⌝ }
+    requires { ⌜ at + length (secondBytes operation (renewedHalf (now «formula_numbers») half)) ≤ length (now out) ⌝ }
     ensures { λ r. ⌜ now (out .exit) ≡ overwritten (now (out .entry)) at
-        (secondBytes operation (renewedHalf (now (formula_numbers .entry)) half)) ⌝ }
-    ensures { λ r. ⌜ r ≡ at + length (secondBytes operation (renewedHalf (now (formula_numbers .entry)) half)) ⌝ }
+        (secondBytes operation (renewedHalf (now («formula_numbers» .entry)) half)) ⌝ }
+    ensures { λ r. ⌜ r ≡ at + length (secondBytes operation (renewedHalf (now («formula_numbers» .entry)) half)) ⌝ }
 {
     if is_twofold(operation) {
         return put_five(
@@ -51,10 +51,10 @@ fn put_instruction<'a, 'b>(
     out: &'b mut [u8],
     at: usize,
 ) -> usize
-    requires { ⌜ at + length (instructionBytes (renewedInstruction (now formula_numbers) instruction)) ≤ length (now out) ⌝ }
+    requires { ⌜ at + length (instructionBytes (renewedInstruction (now «formula_numbers») instruction)) ≤ length (now out) ⌝ }
     ensures { λ r. ⌜ now (out .exit) ≡ overwritten (now (out .entry)) at
-        (instructionBytes (renewedInstruction (now (formula_numbers .entry)) instruction)) ⌝ }
-    ensures { λ r. ⌜ r ≡ at + length (instructionBytes (renewedInstruction (now (formula_numbers .entry)) instruction)) ⌝ }
+        (instructionBytes (renewedInstruction (now («formula_numbers» .entry)) instruction)) ⌝ }
+    ensures { λ r. ⌜ r ≡ at + length (instructionBytes (renewedInstruction (now («formula_numbers» .entry)) instruction)) ⌝ }
 {
     let next = put_five(
         instruction.operation,
@@ -76,10 +76,10 @@ fn put_step<'a, 'b, 'c>(
     out: &'c mut [u8],
     at: usize,
 ) -> usize
-    requires { ⌜ at + length (instructionPiece (now formula_numbers) (now body) point) ≤ length (now out) ⌝ }
+    requires { ⌜ at + length (instructionPiece (now «formula_numbers») (now body) point) ≤ length (now out) ⌝ }
     ensures { λ r. ⌜ now (out .exit) ≡ overwritten (now (out .entry)) at
-        (instructionPiece (now (formula_numbers .entry)) (now (body .entry)) point) ⌝ }
-    ensures { λ r. ⌜ r ≡ at + length (instructionPiece (now (formula_numbers .entry)) (now (body .entry)) point) ⌝ }
+        (instructionPiece (now («formula_numbers» .entry)) (now (body .entry)) point) ⌝ }
+    ensures { λ r. ⌜ r ≡ at + length (instructionPiece (now («formula_numbers» .entry)) (now (body .entry)) point) ⌝ }
 {
     let i = instruction_at(body, point);
     put_instruction(formula_numbers, i, out, at)
@@ -92,10 +92,10 @@ fn put_steps<'a, 'b, 'c>(
     out: &'c mut [u8],
     at: usize,
 ) -> usize
-    requires { ⌜ at + length (joined (instructionPiece (now formula_numbers) (now body)) n) ≤ length (now out) ⌝ }
+    requires { ⌜ at + length (joined (instructionPiece (now «formula_numbers») (now body)) n) ≤ length (now out) ⌝ }
     ensures { λ r. ⌜ now (out .exit) ≡ overwritten (now (out .entry)) at
-        (joined (instructionPiece (now (formula_numbers .entry)) (now (body .entry))) n) ⌝ }
-    ensures { λ r. ⌜ r ≡ at + length (joined (instructionPiece (now (formula_numbers .entry)) (now (body .entry))) n) ⌝ }
+        (joined (instructionPiece (now («formula_numbers» .entry)) (now (body .entry))) n) ⌝ }
+    ensures { λ r. ⌜ r ≡ at + length (joined (instructionPiece (now («formula_numbers» .entry)) (now (body .entry))) n) ⌝ }
 {
     let mut next = at;
     let mut i: usize = 0;
@@ -123,11 +123,12 @@ pub fn put_thread<'a, 'b, 'c>(
     out: &'c mut [u8],
     at: usize,
 ) -> usize
-    requires { ⌜ at + length (threadBytes (map (renewedInstruction (now formula_numbers)) (instructions (now body)))) ≤ length (now out) ⌝ }
+    requires { ⌜ at + length (threadBytes (map (renewedInstruction (now «formula_numbers»)) (instructions (now body)))) ≤ length (now out)
+        ⌝ }
     ensures { λ r. ⌜ now (out .exit)
-        ≡ overwritten (now (out .entry)) at (threadBytes (map (renewedInstruction (now (formula_numbers .entry)))
+        ≡ overwritten (now (out .entry)) at (threadBytes (map (renewedInstruction (now («formula_numbers» .entry)))
         (instructions (now (body .entry))))) ⌝ }
-    ensures { λ r. ⌜ r ≡ at + length (threadBytes (map (renewedInstruction (now (formula_numbers .entry)))
+    ensures { λ r. ⌜ r ≡ at + length (threadBytes (map (renewedInstruction (now («formula_numbers» .entry)))
         (instructions (now (body .entry))))) ⌝ }
 {
     let next = put_byte(points_of(body), out, at);

@@ -28,8 +28,8 @@ fn write_numbered<'a, 'b, 'c, 'd, 'e>(
     out: &'e mut [u8],
 )
     requires { ⌜ (now index ≡ indexOf (now image)) × Accepted (now image) sizes ⌝ }
-    requires { ⌜ (now live_formulas ≡ used (documentOf sizes (bodies (now image))))
-        × (now live_lines ≡ kept (documentOf sizes (bodies (now image)))) ⌝ }
+    requires { ⌜ (now «live_formulas» ≡ used (documentOf sizes (bodies (now image))))
+        × (now «live_lines» ≡ kept (documentOf sizes (bodies (now image)))) ⌝ }
     requires { ⌜ length (trimmedBytes sizes (now image)) ≤ length (now out) ⌝ }
     ensures { λ _. ⌜ now (out .exit) ≡ bufferBy (trimmedBytes sizes (now (image .entry))) (now (out .entry)) ⌝ }
 {

@@ -62,7 +62,7 @@ fn left_formulas<'a, 'b, 'c>(
     live_formulas: &'c [bool],
 ) -> usize
     requires { ⌜ (now index ≡ indexOf (now image)) × Lengths sizes (now image) ⌝ }
-    ensures { λ r. ⌜ (r ≡ leftBehind (bodies (now (image .entry))) 0 (sizes .formulas) (now (live_formulas .entry)) 0) × (r < most) ⌝ }
+    ensures { λ r. ⌜ (r ≡ leftBehind (bodies (now (image .entry))) 0 (sizes .formulas) (now («live_formulas» .entry)) 0) × (r < most) ⌝ }
 {
     left_out(image, index, 0, sizes.formulas as usize, live_formulas)
 }
@@ -76,7 +76,7 @@ fn left_lines<'a, 'b, 'c>(
 ) -> usize
     requires { ⌜ (now index ≡ indexOf (now image)) × Lengths sizes (now image) ⌝ }
     ensures { λ r. ⌜ (r ≡ leftBehind (bodies (now (image .entry))) (sizes .formulas + sizes .threads + 1) (sizes .lines)
-        (now (live_lines .entry)) 0)
+        (now («live_lines» .entry)) 0)
         × (r < most) ⌝ }
 {
     left_out(
@@ -97,8 +97,8 @@ pub fn trimmed_length<'a, 'b, 'c, 'd>(
     live_formulas: &'d [bool],
 ) -> usize
     requires { ⌜ ((now index ≡ indexOf (now image)) × Lengths sizes (now image))
-        × ((now live_lines ≡ kept (documentOf sizes (bodies (now image))))
-        × (now live_formulas ≡ used (documentOf sizes (bodies (now image))))) ⌝ }
+        × ((now «live_lines» ≡ kept (documentOf sizes (bodies (now image))))
+        × (now «live_formulas» ≡ used (documentOf sizes (bodies (now image))))) ⌝ }
     ensures { λ r. ⌜ r ≡ length (encode (trim (documentOf sizes (bodies (now (image .entry)))))) ⌝ }
 {
     let a = left_formulas(image, index, sizes, live_formulas);

@@ -34,14 +34,14 @@ fn put_program<'a, 'b, 'c, 'd, 'e, 'f>(
     at: usize,
 ) -> usize
     requires { ⌜ now index ≡ indexOf (now image) ⌝ }
-    requires { ⌜ at + length (programBytes sizes (now formula_numbers) (now line_numbers) (bodies (now image)) (now live_formulas)) ≤
+    requires { ⌜ at + length (programBytes sizes (now «formula_numbers») (now «line_numbers») (bodies (now image)) (now «live_formulas»)) ≤
         length (now out) ⌝ }
     ensures { λ r. ⌜ now (out .exit)
         ≡ overwritten (now (out .entry)) at
-        (programBytes sizes (now (formula_numbers .entry)) (now (line_numbers .entry)) (bodies (now (image .entry)))
-        (now (live_formulas .entry))) ⌝ }
-    ensures { λ r. ⌜ r ≡ at + length (programBytes sizes (now (formula_numbers .entry)) (now (line_numbers .entry))
-        (bodies (now (image .entry))) (now (live_formulas .entry))) ⌝ }
+        (programBytes sizes (now («formula_numbers» .entry)) (now («line_numbers» .entry)) (bodies (now (image .entry)))
+        (now («live_formulas» .entry))) ⌝ }
+    ensures { λ r. ⌜ r ≡ at + length (programBytes sizes (now («formula_numbers» .entry)) (now («line_numbers» .entry))
+        (bodies (now (image .entry))) (now («live_formulas» .entry))) ⌝ }
 {
     let formulas = put_record(
         image,
@@ -86,14 +86,14 @@ fn put_certificate<'a, 'b, 'c, 'd, 'e, 'f>(
     at: usize,
 ) -> usize
     requires { ⌜ now index ≡ indexOf (now image) ⌝ }
-    requires { ⌜ at + length (certificateBytes sizes (now formula_numbers) (now line_numbers) (bodies (now image)) (now live_lines)) ≤
+    requires { ⌜ at + length (certificateBytes sizes (now «formula_numbers») (now «line_numbers») (bodies (now image)) (now «live_lines»)) ≤
         length (now out) ⌝ }
     ensures { λ r. ⌜ now (out .exit)
         ≡ overwritten (now (out .entry)) at
-        (certificateBytes sizes (now (formula_numbers .entry)) (now (line_numbers .entry)) (bodies (now (image .entry)))
-        (now (live_lines .entry))) ⌝ }
-    ensures { λ r. ⌜ r ≡ at + length (certificateBytes sizes (now (formula_numbers .entry)) (now (line_numbers .entry))
-        (bodies (now (image .entry))) (now (live_lines .entry))) ⌝ }
+        (certificateBytes sizes (now («formula_numbers» .entry)) (now («line_numbers» .entry)) (bodies (now (image .entry)))
+        (now («live_lines» .entry))) ⌝ }
+    ensures { λ r. ⌜ r ≡ at + length (certificateBytes sizes (now («formula_numbers» .entry)) (now («line_numbers» .entry))
+        (bodies (now (image .entry))) (now («live_lines» .entry))) ⌝ }
 {
     let lines = put_outline(image, index, sizes, formula_numbers, out, at);
     let obligations = put_lines(
@@ -121,13 +121,14 @@ fn put_behind<'a, 'b, 'c, 'd, 'e, 'f>(
     at: usize,
 ) -> usize
     requires { ⌜ now index ≡ indexOf (now image) ⌝ }
-    requires { ⌜ at + length (behindBytes sizes (now formula_numbers) (now line_numbers) (bodies (now image)) (now live_lines)) ≤ length
+    requires { ⌜ at + length (behindBytes sizes (now «formula_numbers») (now «line_numbers») (bodies (now image)) (now «live_lines»)) ≤
+        length
         (now out) ⌝ }
     ensures { λ r. ⌜ now (out .exit)
-        ≡ overwritten (now (out .entry)) at (behindBytes sizes (now (formula_numbers .entry)) (now (line_numbers .entry))
-        (bodies (now (image .entry))) (now (live_lines .entry))) ⌝ }
-    ensures { λ r. ⌜ r ≡ at + length (behindBytes sizes (now (formula_numbers .entry)) (now (line_numbers .entry))
-        (bodies (now (image .entry))) (now (live_lines .entry))) ⌝ }
+        ≡ overwritten (now (out .entry)) at (behindBytes sizes (now («formula_numbers» .entry)) (now («line_numbers» .entry))
+        (bodies (now (image .entry))) (now («live_lines» .entry))) ⌝ }
+    ensures { λ r. ⌜ r ≡ at + length (behindBytes sizes (now («formula_numbers» .entry)) (now («line_numbers» .entry))
+        (bodies (now (image .entry))) (now («live_lines» .entry))) ⌝ }
 {
     let claims = put_certificate(
         image,
@@ -162,15 +163,15 @@ fn put_whole<'a, 'b, 'c, 'd, 'e, 'f, 'g>(
     at: usize,
 ) -> usize
     requires { ⌜ now index ≡ indexOf (now image) ⌝ }
-    requires { ⌜ at + length (wholeBytes sizes (now formula_numbers) (now line_numbers) (bodies (now image)) (now live_formulas)
-        (now live_lines)) ≤ length (now out) ⌝ }
+    requires { ⌜ at + length (wholeBytes sizes (now «formula_numbers») (now «line_numbers») (bodies (now image)) (now «live_formulas»)
+        (now «live_lines»)) ≤ length (now out) ⌝ }
     ensures { λ r. ⌜ now (out .exit)
         ≡ overwritten (now (out .entry)) at
-        (wholeBytes sizes (now (formula_numbers .entry)) (now (line_numbers .entry)) (bodies (now (image .entry)))
-        (now (live_formulas .entry)) (now (live_lines .entry))) ⌝ }
+        (wholeBytes sizes (now («formula_numbers» .entry)) (now («line_numbers» .entry)) (bodies (now (image .entry)))
+        (now («live_formulas» .entry)) (now («live_lines» .entry))) ⌝ }
     ensures { λ r. ⌜ r
-        ≡ at + length (wholeBytes sizes (now (formula_numbers .entry)) (now (line_numbers .entry)) (bodies (now (image .entry)))
-        (now (live_formulas .entry)) (now (live_lines .entry))) ⌝ }
+        ≡ at + length (wholeBytes sizes (now («formula_numbers» .entry)) (now («line_numbers» .entry)) (bodies (now (image .entry)))
+        (now («live_formulas» .entry)) (now («live_lines» .entry))) ⌝ }
 {
     let outline = put_program(
         image,
@@ -207,15 +208,15 @@ pub fn write_trimmed<'a, 'b, 'c, 'd, 'e, 'f, 'g>(
     out: &'g mut [u8],
 ) -> usize
     requires { ⌜ (now index ≡ indexOf (now image)) × (length (bodies (now image)) ≡ recordCount sizes) ⌝ }
-    requires { ⌜ (now formula_numbers ≡ newNumbers (now live_formulas)) × (now line_numbers ≡ newNumbers (now live_lines)) ⌝ }
-    requires { ⌜ length (encode (trimmedBy (now live_formulas) (now live_lines) (documentOf sizes (bodies (now image))))) ≤ length
+    requires { ⌜ (now «formula_numbers» ≡ newNumbers (now «live_formulas»)) × (now «line_numbers» ≡ newNumbers (now «live_lines»)) ⌝ }
+    requires { ⌜ length (encode (trimmedBy (now «live_formulas») (now «live_lines») (documentOf sizes (bodies (now image))))) ≤ length
         (now out) ⌝ }
     ensures { λ r. ⌜ now (out .exit)
-        ≡ encode (trimmedBy (now (live_formulas .entry)) (now (live_lines .entry)) (documentOf sizes (bodies (now (image .entry)))))
-        ++ drop (length (encode (trimmedBy (now (live_formulas .entry)) (now (live_lines .entry))
+        ≡ encode (trimmedBy (now («live_formulas» .entry)) (now («live_lines» .entry)) (documentOf sizes (bodies (now (image .entry)))))
+        ++ drop (length (encode (trimmedBy (now («live_formulas» .entry)) (now («live_lines» .entry))
         (documentOf sizes (bodies (now (image .entry)))))))
         (now (out .entry)) ⌝ }
-    ensures { λ r. ⌜ r ≡ length (encode (trimmedBy (now (live_formulas .entry)) (now (live_lines .entry))
+    ensures { λ r. ⌜ r ≡ length (encode (trimmedBy (now («live_formulas» .entry)) (now («live_lines» .entry))
         (documentOf sizes (bodies (now (image .entry)))))) ⌝ }
 {
     put_whole(
