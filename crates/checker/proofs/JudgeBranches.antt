@@ -13,7 +13,7 @@ use Rattle.image.specs.Decode.{decoded}
 use Rattle.image.specs.declared.decode.Decoded.{Decoded}
 use Rattle.image.specs.declared.decode.Decoded.the-variants as Decoded
 use Rattle.logic_outline.specs.Verdict as Outline
-use Rattle.logic_outline.specs.Verdict.{Finding, accepted, denied, outcome, judgeClaims, behindObligations}
+use Rattle.logic_outline.specs.Verdict.{Finding, accepted, denied, judgement, judgeClaims, behindObligations}
 use Rattle.image_meaning.specs.Program.{programOf}
 use Rattle.image_meaning.specs.Image.{claimBody, claimPlace, imageOf, resultOf, decode}
 use Rattle.image_access.specs.AccessPlaces.{claimedIn}
@@ -23,9 +23,9 @@ use Rattle.rules_justified.specs.declared.marks.Marks.{Marks}
 use Rattle.rules_justified.specs.Justify.{marksTo}
 use Rattle.rules_justified.proofs.JustifiedAgree.{marks-are}
 use Rattle.obligations.specs.Claims.{firstDenied}
-use Rattle.obligations.specs.Judgement.{judgeAt, toOutcome}
-use Rattle.obligations.specs.declared.judgement.Outcome.{Outcome}
-use Rattle.obligations.specs.declared.judgement.Outcome.the-variants.{Met, Failed}
+use Rattle.obligations.specs.Judgement.{judgeAt, toJudgement}
+use Rattle.obligations.specs.declared.judgement.Judgement.{Judgement}
+use Rattle.obligations.specs.declared.judgement.Judgement.the-variants.{Met, Failed}
 use Rattle.obligations.proofs.JudgementAgrees.{judged-is, claims-are}
 use Rattle.verdict_record.specs.declared.obligation.Obligation.{Obligation}
 use Rattle.verdict_record.specs.declared.obligation.Place.{Place}
@@ -51,7 +51,7 @@ module _ (s : List ℕ) (z : Sizes) (m : Marks) (n k : ℕ) (e : k ≡ firstDeni
 
 pub ruleset denying = (denied-placed, claims-borne, claims-denied)
 
-module _ (s : List ℕ) (z : Sizes) (m : Marks) (r : Outcome) (e : m ≡ marksTo s z (z .lines))
+module _ (s : List ℕ) (z : Sizes) (m : Marks) (r : Judgement) (e : m ≡ marksTo s z (z .lines))
     (d : r ≡ judgeAt s z m (obligations (programOf z (bodies s))) 0) where
   sound-is : verdictOf s z m r ≡ soundVerdict s z
   unfolding soundVerdict
@@ -76,7 +76,7 @@ module _ (s : List ℕ) (d : Decoded) (e : d ≡ decoded s) where
 
     agree : ((n : ℕ) → judgeClaims D (z .claims) 0 n ≡ cond (eqb (firstDenied s z m (z .claims) 0) (z .claims)) (accepted n)
         (denied (firstDenied s z m (z .claims) 0) n))
-        → (x : Outline.Outcome) → verdictOf s z m (toOutcome x) ≡ judged D (behindObligations D x)
+        → (x : Outline.Judgement) → verdictOf s z m (toJudgement x) ≡ judged D (behindObligations D x)
     unfolding claimsVerdict deniedAt claimedIn pointsOf
     agree h (Outline.met n) = rw (h n) (go (eqb (firstDenied s z m (z .claims) 0) (z .claims)))
       where
@@ -95,7 +95,7 @@ module _ (s : List ℕ) (d : Decoded) (e : d ≡ decoded s) where
       let c = sound-checks s z q in
       let m = marksTo s z (z .lines) in
       g ∙ ap (verdictOf s z m) (judged-is s z c m (λ k w. marks-are s z c k))
-      ∙ agree z m (claims-are s z c m (λ k w. marks-are s z c k)) (outcome (imageOf z (bodies s)))
+      ∙ agree z m (claims-are s z c m (λ k w. marks-are s z c k)) (judgement (imageOf z (bodies s)))
       ∙ ap (λ (x : Decoded). answered (resultOf (bodies s) x)) (sym q)
 
 pub ruleset judging = (judge-refused, judge-found)

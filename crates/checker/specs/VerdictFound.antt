@@ -14,8 +14,8 @@ use Rattle.rules_justified.specs.declared.marks.Marks.{Marks}
 use Rattle.rules_justified.specs.Justify.{marksTo}
 use Rattle.obligations.specs.Claims.{firstDenied}
 use Rattle.obligations.specs.Judgement.{judgeAt}
-use Rattle.obligations.specs.declared.judgement.Outcome.{Outcome}
-use Rattle.obligations.specs.declared.judgement.Outcome.the-variants.{Met, Failed}
+use Rattle.obligations.specs.declared.judgement.Judgement.{Judgement}
+use Rattle.obligations.specs.declared.judgement.Judgement.the-variants.{Met, Failed}
 use Rattle.verdict_record.specs.declared.obligation.Place.{Place}
 use Rattle.verdict_record.specs.declared.verdict.Verdict.{Verdict}
 use Rattle.verdict_record.specs.declared.verdict.Verdict.the-variants as Verdict
@@ -34,7 +34,7 @@ module _ (s : List ℕ) (z : Sizes) where
   claimsVerdict m n = cond (eqb (firstDenied s z m (z .claims) 0) (z .claims)) (Verdict.Accepted n)
       (deniedAt (firstDenied s z m (z .claims) 0) n)
 
-  abbrev pub verdictOf : Marks → Outcome → Verdict
+  abbrev pub verdictOf : Marks → Judgement → Verdict
   verdictOf m (Met n) = claimsVerdict m n
   verdictOf m (Failed o c l n) = Verdict.Failed o c l n
 

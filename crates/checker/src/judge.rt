@@ -11,7 +11,7 @@ use image_index::table::IndexSize;
 use image_index::table::fill_index;
 use obligations::all_obligations::judge_obligations;
 use obligations::claims::first_denied;
-use obligations::judgement::Outcome;
+use obligations::judgement::Judgement;
 use rules_justified::justify::judge_lines;
 use verdict_record::obligation::Place;
 use verdict_record::verdict::Verdict;
@@ -81,8 +81,8 @@ pub fn judge_sound<'a, 'b>(image: &'a [u8], index: &'b [usize], sizes: Sizes) ->
 {
     let marks = judge_lines(image, index, sizes);
     match judge_obligations(image, index, sizes, &marks.on) {
-        Outcome::Met(count) => judge_claims(image, index, sizes, &marks.on, count),
-        Outcome::Failed {
+        Judgement::Met(count) => judge_claims(image, index, sizes, &marks.on, count),
+        Judgement::Failed {
             what,
             code,
             line,

@@ -27,7 +27,7 @@ use Rattle.image.specs.declared.decode.Decoded.{Decoded}
 use Rattle.image.specs.declared.decode.Decoded.the-variants as Decoded
 use Rattle.logic_outline.specs.Lines.{marked}
 use Rattle.logic_outline.specs.Verdict as Outline
-use Rattle.logic_outline.specs.Verdict.{Image, Outcome, met, failed, outcome, Finding, denied, judgeClaims, behindObligations}
+use Rattle.logic_outline.specs.Verdict.{Image, Judgement, met, failed, judgement, Finding, denied, judgeClaims, behindObligations}
 use Rattle.logic_outline.proofs.Accept.{accepted-met, failed-first}
 use Rattle.image_meaning.specs.Program.{programOf}
 use Rattle.image_meaning.specs.Image.{claimPlace, namedLine, obligationsBody, imageOf, resultOf, decode}
@@ -217,9 +217,9 @@ module _ (s : List ℕ) (z : Sizes) (c : Checks z (bodies s)) where
       go true q = q
       go false q = denied-uncut i n (omega arith) h
 
-  outcome-uncut : (o : Outcome) → outcome D ≡ o → Uncut (fieldsOf (judged D (behindObligations D o)))
-  outcome-uncut (met n) e = let h = accepted-met D n e .1 in let f = few in claims-uncut (z .claims) 0 n (omega arith) (omega arith)
-  outcome-uncut (failed x o l n) e =
+  judgement-uncut : (o : Judgement) → judgement D ≡ o → Uncut (fieldsOf (judged D (behindObligations D o)))
+  judgement-uncut (met n) e = let h = accepted-met D n e .1 in let f = few in claims-uncut (z .claims) 0 n (omega arith) (omega arith)
+  judgement-uncut (failed x o l n) e =
       let h = failed-first D x o l n e in
       let f = few in
       let r = all-at (InRange P) (obligations P) (n - 0) (start 0) (obligations-ranged P) (h .inside) in
@@ -235,4 +235,4 @@ verdict-uncut s = go (decoded s) refl
   where
     go : (d : Decoded) → decoded s ≡ d → Uncut (fieldsOf (answered (resultOf (bodies s) d)))
     go (Decoded.Refused f i) e = refused-uncut f i (refused-within s f i e)
-    go (Decoded.Sound z) e = outcome-uncut s z (sound-checks s z e) (outcome (imageOf z (bodies s))) refl
+    go (Decoded.Sound z) e = judgement-uncut s z (sound-checks s z e) (judgement (imageOf z (bodies s))) refl

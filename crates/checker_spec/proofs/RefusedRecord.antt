@@ -10,7 +10,7 @@ use lib.ListN.{length, getD, drop, length-set}
 use lib.Seq.{getD-set-same, getD-set-other}
 use borrow.Author.Tests.{eqb-true, eqb-false}
 use Rattle.limits.specs.Limits as Limits
-use Rattle.limits.specs.Numbers.{word, within, every}
+use Rattle.limits.specs.Numbers.{le16, within, every}
 use Rattle.image_frames.specs.Kinds as Kinds
 use Rattle.image_frames.specs.Kinds.{order, most}
 use Rattle.image_frames.specs.Frames.{counted, frame, ended, unlessFaulty, walk, none, frames, wholeImage}
@@ -110,13 +110,13 @@ unfolding walk
 walk-within zero i c l b = ended-within i c b
 walk-within (suc k) i c [] b = ended-within i c b
 walk-within (suc k) i c (x ∷ l) b =
-    go (frame c (x ∷ l)) refl (λ d. walk-within k (i + 1) (counted c kind) (drop (2 + word (x ∷ l)) (x ∷ l)) d)
+    go (frame c (x ∷ l)) refl (λ d. walk-within k (i + 1) (counted c kind) (drop (2 + le16 (x ∷ l)) (x ∷ l)) d)
   where
     kind : ℕ
-    kind = order (word (drop 2 (x ∷ l)))
+    kind = order (le16 (drop 2 (x ∷ l)))
 
     rest : Framing
-    rest = walk k (i + 1) (counted c kind) (drop (2 + word (x ∷ l)) (x ∷ l))
+    rest = walk k (i + 1) (counted c kind) (drop (2 + le16 (x ∷ l)) (x ∷ l))
 
     go : (f : Checked) → frame c (x ∷ l) ≡ f → (Before (i + 1) (counted c kind) → Within rest) → Within (unlessFaulty f i rest)
     go Passed e h = let a = framed c (x ∷ l) e .admits in h (behind i c kind b (a .known) (a .few))

@@ -5,7 +5,7 @@ use Rattle.semantics.specs.Formula.{same}
 use Rattle.semantics.specs.Base.{upd, all}
 use Rattle.logic.specs.Rows.{same-name, choose, isIn, distinct}
 use Rattle.logic.specs.Table.{same-leaf}
-use Rattle.limits.specs.Numbers.{word, has, numbers, within, every}
+use Rattle.limits.specs.Numbers.{le16, has, numbers, within, every}
 use Rattle.image_frames.specs.Records.{body, cut, bodies}
 use Rattle.image_frames.specs.Frames.{admit, frame, ended, walk, frames, wholeImage}
 use Rattle.image_frames.specs.Kinds.{order, most}
@@ -28,7 +28,7 @@ use Rattle.image_bodies.specs.Line as Line
 use Rattle.image_header.specs.Thread as Thread
 use Rattle.image_header.specs.Thread.{lastPoint, begins, instructions, threadSize, threadNumbers}
 use Rattle.image_bodies.specs.RecordPlaces.{threadBody}
-use Rattle.image_bodies.specs.PointCounts.{branches, threadTally, tallyTo, tally, obligationCount}
+use Rattle.image_bodies.specs.PointCounts.{branches, threadCounts, pointCountsTo, pointCounts, obligationCount}
 use Rattle.image_bodies.specs.Line.{formOf, premises, lineSize, nowhere, placed, lineNumbers}
 use Rattle.formula.specs.Codes.{hasOperand, partCount, partPlace, fitsAt, member}
 use Rattle.formula.specs.Tree.{nodeAt, parseTree}
@@ -53,6 +53,6 @@ unfolding verdict codeFor bytesFor begins fieldsOf gathered Place.placeOf record
     header headerSize inRange instructions isIn isQueried judge lastPoint line lineBody lineCode judgeClaims lineNumbers lineSize
     lineSorted marked member most namedLine nodeAt nowhere numbers obligationCount obligations occurs order operandFault outline
     outlineNumber outlinedAt owners marks partCount partPlace placeOf placed pointCount premises read readingOf recordCount ruleOf same
-    same-leaf saying sizesOf parseTree sortAt sortedBy startValues startless tally tallyTo thread threadBody threadNumbers threadRegisters
-    threadSize threadTally unless upd walk wholeImage within word same-name ℕ-discrete
+    same-leaf saying sizesOf parseTree sortAt sortedBy startValues startless pointCounts pointCountsTo thread threadBody threadNumbers threadRegisters
+    threadSize threadCounts unless upd walk wholeImage within le16 same-name ℕ-discrete
 starred = tt

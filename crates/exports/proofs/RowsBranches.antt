@@ -5,7 +5,7 @@ use mathlib.Core.Bool.{Bool}
 use Prim.Native.Nat.{ℕ}
 use lib.ListN.{length, drop}
 use Rattle.limits.specs.Limits.{nesting}
-use Rattle.limits.specs.Numbers.{word}
+use Rattle.limits.specs.Numbers.{le16}
 use Rattle.formula.specs.Tree.{parseTree}
 use Rattle.tables_rows.specs.ByRows.{rowsT, tableT, lineOf, premisesOf}
 use Rattle.tables_rows.specs.declared.by_rows.Implications.{Implications}
@@ -17,8 +17,8 @@ pub rows-is : (s : List ℕ) (a b v r : ℕ) (t : Bool) → t ≡ rowsT v (parse
     → r ≡ ofTruth (rowsT v (parseTree s nesting a .tree) (parseTree s nesting b .tree))
 rows-is s a b v r t e h = h ∙ ap ofTruth e
 
-pub side-is : (p : List ℕ) (a b c d e : ℕ) → a ≡ word (drop 0 p) → b ≡ word (drop 4 p) → c ≡ word (drop 8 p) → d ≡ word (drop 12 p)
-    → e ≡ word (drop 16 p)
+pub side-is : (p : List ℕ) (a b c d e : ℕ) → a ≡ le16 (drop 0 p) → b ≡ le16 (drop 4 p) → c ≡ le16 (drop 8 p) → d ≡ le16 (drop 12 p)
+    → e ≡ le16 (drop 16 p)
     → a ∷ b ∷ c ∷ d ∷ e ∷ [] ≡ sideIn p
 unfolding sideIn
 side-is p a b c d e x y z v w = rw (x, y, z, v, w)

@@ -5,7 +5,7 @@ use mathlib.Core.List.{List, [], _∷_}
 use mathlib.Core.Bool.{cond}
 use lib.ListN.{length, drop}
 use lib.Dec.{ltb}
-use Rattle.limits.specs.Numbers.{word}
+use Rattle.limits.specs.Numbers.{le16}
 use Rattle.tables_rows.specs.declared.by_rows.Implications.{Implications}
 
 -- a pair has four bytes; what is left over of one does not count, nor does a sixth pair
@@ -14,7 +14,7 @@ pairsIn n = cond (ltb (n / 4) 5) (n / 4) 5
 
 -- those of one side: every other number
 unfoldable pub sideIn : List ℕ → List ℕ
-sideIn p = word (drop 0 p) ∷ word (drop 4 p) ∷ word (drop 8 p) ∷ word (drop 12 p) ∷ word (drop 16 p) ∷ []
+sideIn p = le16 (drop 0 p) ∷ le16 (drop 4 p) ∷ le16 (drop 8 p) ∷ le16 (drop 12 p) ∷ le16 (drop 16 p) ∷ []
 
 unfoldable pub implicationsIn : List ℕ → Implications
 implicationsIn p = record { count = pairsIn (length p); left = sideIn p; right = sideIn (drop 2 p) }

@@ -1,7 +1,7 @@
 // Tests by rows, and truth tables.
 use limits::Limits;
 use limits::read::rest;
-use limits::read::word_at;
+use limits::read::u16_at;
 use tables_rows::by_rows::Implications;
 use tables_rows::by_rows::by_rows;
 use tables_rows::by_rows::by_table;
@@ -42,11 +42,11 @@ pub struct Side {
 fn side_in(places: &[u8]) -> Side
     ensures { λ r. ⌜ r .at ≡ sideIn (now (places .entry)) ⌝ }
 {
-    let a = word_at(places, 0);
-    let b = word_at(places, 4);
-    let c = word_at(places, 8);
-    let d = word_at(places, 12);
-    let e = word_at(places, 16);
+    let a = u16_at(places, 0);
+    let b = u16_at(places, 4);
+    let c = u16_at(places, 8);
+    let d = u16_at(places, 12);
+    let e = u16_at(places, 16);
     Side {
         at: [a, b, c, d, e],
     }

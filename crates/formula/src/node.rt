@@ -1,7 +1,7 @@
 // The nodes of formulas, by their positions.
 use crate::code::has_operand;
 use crate::code::parts;
-use limits::read::octet_at;
+use limits::read::u8_at;
 ghost use mathlib.Core.Path.{_≡_};
 ghost use Rattle.formula.specs.Tree.{nodeAt};
 
@@ -29,7 +29,7 @@ pub fn node_at(image: &[u8], at: usize) -> Node
     if has_operand(code) {
         return Node {
             code,
-            operand: octet_at(image, at + 1),
+            operand: u8_at(image, at + 1),
             parts: parts(code),
             next: at + 2,
         };

@@ -1,7 +1,7 @@
 // Whether something occurs in a formula.
 use formula::code::contains;
 use formula::node::node_at;
-use limits::read::octet_at;
+use limits::read::u8_at;
 ghost use mathlib.Core.Path.{_≡_};
 ghost use Rattle.formula.specs.Tree.{parseTree};
 ghost use Rattle.formula_compare.specs.Occurs.{ownerOf, isQueried, foundIn, occurs};
@@ -37,7 +37,7 @@ pub fn owner(owners: &[u8], register: u8) -> u8
     if register == 0 {
         return 0;
     }
-    octet_at(owners, (register - 1) as usize)
+    u8_at(owners, (register - 1) as usize)
 }
 
 pub fn is_queried(query: Query, owners: &[u8], code: u8, operand: u8) -> bool

@@ -10,7 +10,7 @@ use lib.ListN.{length, getD}
 use borrow.Author.Tests.{eq-eqb, ne-eqb, lt-ltb, le-ltb}
 use Rattle.image_frames.specs.Records.{bodies}
 use Rattle.image_header.specs.declared.sizes.Sizes.{Sizes}
-use Rattle.image_bodies.specs.PointCounts.{tallyTo}
+use Rattle.image_bodies.specs.PointCounts.{pointCountsTo}
 use Rattle.image_meaning.specs.Program.{programOf}
 use Rattle.checker_spec.specs.Acceptance.{acceptance}
 use Rattle.checker_spec.specs.declared.acceptance.Acceptance.{Acceptance}

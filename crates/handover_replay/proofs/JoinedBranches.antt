@@ -9,7 +9,7 @@ use lib.ListN.{length, getD}
 use borrow.Author.Tests.{eq-eqb, ne-eqb, lt-ltb, le-ltb}
 use Rattle.image_frames.specs.Records.{bodies}
 use Rattle.image_header.specs.declared.sizes.Sizes.{Sizes}
-use Rattle.image_bodies.specs.PointCounts.{tallyTo}
+use Rattle.image_bodies.specs.PointCounts.{pointCountsTo}
 use Rattle.image_meaning.specs.Program.{programOf}
 use Rattle.handover_spec.specs.Table.{pointNamed, pointsTo, newPoint}
 use Rattle.handover_spec.proofs.FewPoints.{points-are}
@@ -26,7 +26,7 @@ module _ (old : List ℕ) (z : Sizes) (points : List ℕ) (t k : ℕ) where
   unfolding mappedPoint
   mapped-none h = rw (le-ltb t (z .threads) h)
 
-  pub mapped-there : (n r : ℕ) → t < z .threads → n ≡ tallyTo z (bodies old) (t + 1 - 1) .points → r ≡ pointNamed points (n + k)
+  pub mapped-there : (n r : ℕ) → t < z .threads → n ≡ pointCountsTo z (bodies old) (t + 1 - 1) .points → r ≡ pointNamed points (n + k)
       → r ≡ mappedPoint old z points t k
   unfolding mappedPoint
   mapped-there n r h en er =

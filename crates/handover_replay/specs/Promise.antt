@@ -17,7 +17,7 @@ use Rattle.checker_spec.specs.declared.acceptance.Acceptance.the-variants.{Gran
 use Rattle.replay_memory.specs.declared.write.Write.{Write}
 use Rattle.handover_spec.specs.Table.{newPoint}
 use Rattle.handover_spec.specs.Code.{handoverCode}
-use Rattle.replay_spec.specs.MachineReplay.{Outcome, replayed, stepsIn}
+use Rattle.replay_spec.specs.MachineReplay.{Judgement, replayed, stepsIn}
 use Rattle.replay_machine.specs.Replayed.{roomOf}
 use Rattle.replay_machine.specs.declared.answer.Answer.{Answer}
 use Rattle.replay_machine.specs.Answer.{answerOf, codeFor, numbersFor}
@@ -50,10 +50,10 @@ module _ (old : List ℕ) (z : Sizes) (new : List ℕ) (y : Sizes) (points first
   begun = begin P (λ r. nth given r 0)
 
   -- what the logic's machine comes to under the old code; then, with mapped points, under the new code
-  abbrev pub before : Outcome
+  abbrev pub before : Judgement
   before = replayed P room begun 0 first
 
-  abbrev pub after : Outcome
+  abbrev pub after : Judgement
   after = replayed Q room (handed to (before .state)) 0 second
 
   -- no step of the first trace is refused

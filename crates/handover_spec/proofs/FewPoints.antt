@@ -8,7 +8,7 @@ use Rattle.image_frames.specs.Records.{bodies}
 use Rattle.image_header.specs.declared.sizes.Sizes.{Sizes}
 use Rattle.image_header.specs.Thread.{lastPoint}
 use Rattle.image_bodies.specs.RecordPlaces.{threadBody}
-use Rattle.image_bodies.specs.PointCounts.{threadTally, tallyTo, tally}
+use Rattle.image_bodies.specs.PointCounts.{threadCounts, pointCountsTo, pointCounts}
 use Rattle.image.specs.Decode.{decoded}
 use Rattle.image.specs.declared.decode.Decoded.the-variants.{Sound}
 use Rattle.image_meaning.specs.Program.{pointCount, programOf}
@@ -19,13 +19,13 @@ use Rattle.image_meaning.proofs.WellFormedProgram.{points-few}
 use Rattle.checker_spec.proofs.NumbersUncut.{few-threads}
 use Rattle.handover_spec.specs.Table.{pointsTo, mostPoints}
 
-pub points-are : (z : Sizes) (l : List (List ℕ)) (n : ℕ) → tallyTo z l n .points ≡ pointsTo (programOf z l) n
-unfolding tallyTo threadTally pointsTo pointCount
+pub points-are : (z : Sizes) (l : List (List ℕ)) (n : ℕ) → pointCountsTo z l n .points ≡ pointsTo (programOf z l) n
+unfolding pointCountsTo threadCounts pointsTo pointCount
 points-are z l zero = refl
 points-are z l (suc n) = ap (λ (k : ℕ). k + (lastPoint (threadBody z l (suc n)) + 1)) (points-are z l n)
 
-points-below : (z : Sizes) (l : List (List ℕ)) → Checks z l → (n : ℕ) → n ≤ z .threads → tallyTo z l n .points ≤ Limits.points * n
-unfolding tallyTo threadTally pointCount
+points-below : (z : Sizes) (l : List (List ℕ)) → Checks z l → (n : ℕ) → n ≤ z .threads → pointCountsTo z l n .points ≤ Limits.points * n
+unfolding pointCountsTo threadCounts pointCount
 points-below z l c zero h = omega arith
 points-below z l c (suc n) h =
     let p = points-below z l c n (omega arith) in
@@ -34,15 +34,15 @@ points-below z l c (suc n) h =
 
 module _ (s : List ℕ) (z : Sizes) (e : decoded s ≡ Sound z) where
   pub few-in-all : (c : Totals) → c ≡ totalsOf z (bodies s) → c .points ≤ mostPoints
-  unfolding totalsOf tally
+  unfolding totalsOf pointCounts
   few-in-all c q =
       let k = sound-checks s z e in
       let p = points-below z (bodies s) k (z .threads) (omega arith) in
       let f = few-threads s z k in
-      let r : c .points ≡ tallyTo z (bodies s) (z .threads) .points = ap (λ (y : Totals). y .points) q in
+      let r : c .points ≡ pointCountsTo z (bodies s) (z .threads) .points = ap (λ (y : Totals). y .points) q in
       omega arith
 
-  module _ (t from : ℕ) (low : 1 ≤ t) (high : t ≤ z .threads) (q : from ≡ tallyTo z (bodies s) (t - 1) .points) where
+  module _ (t from : ℕ) (low : 1 ≤ t) (high : t ≤ z .threads) (q : from ≡ pointCountsTo z (bodies s) (t - 1) .points) where
     pub few-before : from ≤ mostPoints
     few-before =
         let k = sound-checks s z e in

@@ -8,12 +8,12 @@ use native.Mathlib.Numerals.{add-one}
 use lib.ListN.{getD, drop}
 use borrow.Author.Tests.{le-ltb, ne-eqb}
 use Rattle.semantics.specs.Formula.{sameBytes}
-use Rattle.limits.specs.Numbers.{word, numbers}
+use Rattle.limits.specs.Numbers.{le16, numbers}
 use Rattle.image_frames.specs.Records.{bodies}
 use Rattle.image_header.specs.declared.sizes.Sizes.{Sizes}
 use Rattle.image_header.specs.Thread.{lastPoint}
 use Rattle.image_bodies.specs.RecordPlaces.{threadBody}
-use Rattle.image_bodies.specs.PointCounts.{tallyTo}
+use Rattle.image_bodies.specs.PointCounts.{pointCountsTo}
 use Rattle.image_bodies.specs.declared.line.Form.{Form}
 use Rattle.image_bodies.specs.declared.line.Form.the-variants.{Triple, Implication, Inclusion, Pair, Unlisted}
 use Rattle.image_bodies.specs.Line.{formOf}
@@ -29,7 +29,7 @@ use Rattle.handover_spec.proofs.EachBelow.{each-none, each-more, each-s
 use Rattle.handover_spec.proofs.FewPoints.{points-are}
 
 pub assertion-read : (s : List ℕ) (z : Sizes) (c : Totals) (t k n i : ℕ) (b r : List ℕ) → c ≡ totalsOf z (bodies s) → 1 ≤ t → t ≤ z .threads
-    → b ≡ getD (bodies s) (z .formulas + z .threads + 1) [] → n ≡ tallyTo z (bodies s) (t - 1) .points
+    → b ≡ getD (bodies s) (z .formulas + z .threads + 1) [] → n ≡ pointCountsTo z (bodies s) (t - 1) .points
     → i ≡ getD (numbers (c .points) b) (n + k) 0
     → r ≡ getD (bodies s) i [] → r ≡ assertionOf s z t k
 unfolding assertionOf outlineNumber totalsOf
@@ -56,21 +56,21 @@ module _ (f g : Form) (e : f ≡ g) where
 
 pub ruleset forms = (form-triple, form-implication, form-inclusion, form-pair, form-unlisted)
 
-module _ (s b p q : List ℕ) (i : ℕ) (x : List ℕ) (u : Bool) (ei : i ≡ word (drop 3 b)) (ex : x ≡ getD (bodies s) i [])
+module _ (s b p q : List ℕ) (i : ℕ) (x : List ℕ) (u : Bool) (ei : i ≡ le16 (drop 3 b)) (ex : x ≡ getD (bodies s) i [])
     (eu : u ≡ sameBytes p x) where
-  first-is : u ≡ sameBytes p (getD (bodies s) (word (drop 3 b)) [])
+  first-is : u ≡ sameBytes p (getD (bodies s) (le16 (drop 3 b)) [])
   first-is = eu ∙ ap (λ (l : List ℕ). sameBytes p l) (ex ∙ ap (λ (k : ℕ). getD (bodies s) k []) ei)
 
   pub left-other : u ≡ false → false ≡ sidesMatch s b p q
   unfolding sidesMatch
-  left-other h = ap (λ (v : Bool). v && sameBytes q (getD (bodies s) (word (drop 5 b)) [])) (sym h ∙ first-is)
+  left-other h = ap (λ (v : Bool). v && sameBytes q (getD (bodies s) (le16 (drop 5 b)) [])) (sym h ∙ first-is)
 
-  pub left-same : (j : ℕ) (w : List ℕ) (v : Bool) → u ≡ true → j ≡ word (drop 5 b) → w ≡ getD (bodies s) j [] → v ≡ sameBytes q w
+  pub left-same : (j : ℕ) (w : List ℕ) (v : Bool) → u ≡ true → j ≡ le16 (drop 5 b) → w ≡ getD (bodies s) j [] → v ≡ sameBytes q w
       → v ≡ sidesMatch s b p q
   unfolding sidesMatch
   left-same j w v h ej ew ev =
       ev ∙ ap (λ (l : List ℕ). sameBytes q l) (ew ∙ ap (λ (k : ℕ). getD (bodies s) k []) ej)
-      ∙ ap (λ (v : Bool). v && sameBytes q (getD (bodies s) (word (drop 5 b)) [])) (sym h ∙ first-is)
+      ∙ ap (λ (v : Bool). v && sameBytes q (getD (bodies s) (le16 (drop 5 b)) [])) (sym h ∙ first-is)
 
 pub ruleset side-ways = (left-other, left-same)
 
@@ -124,7 +124,7 @@ module _ (old : List ℕ) (z : Sizes) (new : List ℕ) (y : Sizes) (m : Marks) (
     unfolding entriesServe
     serve-done k n h a b = each-done entry k n h a b
 
-  pub thread-served : (t from last : ℕ) (r : Bool) → from ≡ tallyTo z (bodies old) (t - 1) .points
+  pub thread-served : (t from last : ℕ) (r : Bool) → from ≡ pointCountsTo z (bodies old) (t - 1) .points
       → last ≡ lastPoint (threadBody z (bodies old) t)
       → r ≡ entriesServe old z new y m table t from (last + 1) → r ≡ threadServes old z new y m table t
   unfolding threadServes pointCount

@@ -8,12 +8,12 @@ use native.Mathlib.Numerals.{add-one}
 use lib.Dec.{leb, ltb}
 use lib.ListN.{length, getD, drop}
 use borrow.Author.Tests.{leb-true, leb-false, lt-ltb, le-ltb, le-leb, lt-leb, eq-eqb, ne-eqb}
-use Rattle.limits.specs.Numbers.{word, within}
+use Rattle.limits.specs.Numbers.{le16, within}
 use Rattle.image_frames.specs.Records.{bodies}
 use Rattle.image_header.specs.declared.sizes.Sizes.{Sizes}
 use Rattle.image_header.specs.Thread.{lastPoint}
 use Rattle.image_bodies.specs.RecordPlaces.{threadBody}
-use Rattle.image_bodies.specs.PointCounts.{tallyTo, tally}
+use Rattle.image_bodies.specs.PointCounts.{pointCountsTo, pointCounts}
 use Rattle.logic_outline.specs.Verdict.{Image}
 use Rattle.image_meaning.specs.Program.{pointCount, programOf}
 use Rattle.image_meaning.specs.Image.{imageOf}
@@ -31,7 +31,7 @@ module _ (table : List ℕ) (i : ℕ) where
   unfolding pointNamed
   point-read r e = e
 
-  pub line-read : (r : ℕ) → r ≡ word (drop (entrySize * i + 1) table) → r ≡ lineNamed table i
+  pub line-read : (r : ℕ) → r ≡ le16 (drop (entrySize * i + 1) table) → r ≡ lineNamed table i
   unfolding lineNamed
   line-read r e = e
 
@@ -86,7 +86,7 @@ module _ (old : List ℕ) (z : Sizes) (new : List ℕ) (y : Sizes) (table : List
   abbrev E : Image
   E = imageOf y (bodies new)
 
-  pub thread-fit : (t from last next : ℕ) (r : Bool) → from ≡ tallyTo z (bodies old) (t - 1) .points
+  pub thread-fit : (t from last next : ℕ) (r : Bool) → from ≡ pointCountsTo z (bodies old) (t - 1) .points
       → last ≡ lastPoint (threadBody z (bodies old) t)
       → next ≡ lastPoint (threadBody y (bodies new) t) → r ≡ entriesFit table next (y .lines) from (last + 1) → r ≡ threadFits D E table t
   unfolding entriesFit entryFits threadFits pointCount
@@ -127,7 +127,7 @@ module _ (old : List ℕ) (z : Sizes) (new : List ℕ) (y : Sizes) (table : List
 
   module _ (c : Totals) (n : ℕ) (e : c ≡ totalsOf z (bodies old)) (en : n ≡ c .points) where
     size-is : n ≡ pointsTo (programOf z (bodies old)) (z .threads)
-    unfolding totalsOf tally
+    unfolding totalsOf pointCounts
     size-is = en ∙ ap (λ (k : Totals). k .points) e ∙ points-are z (bodies old) (z .threads)
 
     pub table-other : (length table ≡ entrySize * n → ⊥) → false ≡ tableFits D E table

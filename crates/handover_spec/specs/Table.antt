@@ -5,7 +5,7 @@ use Prim.Native.Nat.{ℕ, zero, suc, _+_, _-_, _*_}
 use lib.ListN.{getD, drop}
 use Rattle.semantics.specs.Machine.{Program}
 use Rattle.limits.specs.Limits as Limits
-use Rattle.limits.specs.Numbers.{word}
+use Rattle.limits.specs.Numbers.{le16}
 use Rattle.handover_spec.specs.Handover.{NewPoint}
 
 -- the bytes of an entry
@@ -17,7 +17,7 @@ unfoldable pub pointNamed : List ℕ → ℕ → ℕ
 pointNamed table i = getD table (entrySize * i) 0
 
 unfoldable pub lineNamed : List ℕ → ℕ → ℕ
-lineNamed table i = word (drop (entrySize * i + 1) table)
+lineNamed table i = le16 (drop (entrySize * i + 1) table)
 
 module _ (P : Program) where
   -- how many points the threads 1 to t have

@@ -1,7 +1,7 @@
 // The entries of a handover table, three bytes each: a new point, and a line of the new image (16 bits).
 use limits::range::in_range;
 use limits::read::byte_at;
-use limits::read::word_at;
+use limits::read::u16_at;
 ghost use mathlib.Core.Path.{_≡_};
 ghost use Prim.Native.Nat.{_+_, _<_};
 ghost use Rattle.handover_spec.specs.Table.{pointNamed, lineNamed};
@@ -26,7 +26,7 @@ pub fn line_named(table: &[u8], i: usize) -> usize
     requires { ⌜ i < 65536 ⌝ }
     ensures { λ r. ⌜ (r ≡ lineNamed (now (table .entry)) i) × (r < 65536) ⌝ }
 {
-    word_at(table, Entry::SIZE * i + 1)
+    u16_at(table, Entry::SIZE * i + 1)
 }
 
 // Its point is none behind the last one, and its line is there.

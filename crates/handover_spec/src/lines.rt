@@ -10,7 +10,7 @@ use image_bodies::line::line_form;
 use image_header::sizes::Sizes;
 use image_index::look_up::body_of;
 use limits::read::number_at;
-use limits::read::word_at;
+use limits::read::u16_at;
 use rules_justified::marks::is_marked;
 ghost use mathlib.Core.Path.{_≡_};
 ghost use Prim.Native.Nat.{_+_, _≤_, _<_};
@@ -71,8 +71,8 @@ fn sides_match<'a, 'b, 'c, 'd>(
     requires { ⌜ now index ≡ indexOf (now image) ⌝ }
     ensures { λ r. ⌜ r ≡ sidesMatch (now (image .entry)) (now (body .entry)) (now (left .entry)) (now (right .entry)) ⌝ }
 {
-    if same_bytes(left, body_of(image, index, word_at(body, 3))) {
-        return same_bytes(right, body_of(image, index, word_at(body, 5)));
+    if same_bytes(left, body_of(image, index, u16_at(body, 3))) {
+        return same_bytes(right, body_of(image, index, u16_at(body, 5)));
     }
     false
 }

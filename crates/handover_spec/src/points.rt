@@ -6,7 +6,7 @@ ghost use mathlib.Core.Path.{_≡_};
 ghost use Prim.Native.Nat.{_-_, _≤_};
 ghost use Rattle.image_frames.specs.Records.{bodies};
 ghost use Rattle.image_index.specs.IndexTable.{indexOf};
-ghost use Rattle.image_bodies.specs.PointCounts.{tallyTo};
+ghost use Rattle.image_bodies.specs.PointCounts.{pointCountsTo};
 ghost use Rattle.image.specs.Decode.{decoded};
 ghost use Rattle.image.specs.declared.decode.Decoded.the-variants.{Sound};
 ghost use Rattle.image_access.specs.Totals.{totalsOf};
@@ -30,7 +30,7 @@ pub fn points_before<'a, 'b>(
     requires { ⌜ ((now index ≡ indexOf (now image)) × ((decoded (now image) ≡ Sound sizes)
         × (totals ≡ totalsOf sizes (bodies (now image)))))
         × ((1 ≤ t) × (t ≤ sizes .threads)) ⌝ }
-    ensures { λ r. ⌜ (r ≡ tallyTo sizes (bodies (now (image .entry))) (t - 1) .points) × (r ≤ mostPoints) ⌝ }
+    ensures { λ r. ⌜ (r ≡ pointCountsTo sizes (bodies (now (image .entry))) (t - 1) .points) × (r ≤ mostPoints) ⌝ }
 {
     before_thread(image, index, sizes, totals, t)
 }

@@ -1,5 +1,5 @@
 // Two byte strings compared.
-use limits::read::octet_at;
+use limits::read::u8_at;
 ghost use mathlib.Core.Path.{_≡_};
 ghost use Rattle.semantics.specs.Formula.{sameBytes};
 
@@ -11,7 +11,7 @@ pub fn same_bytes<'a, 'b>(first: &'a [u8], second: &'b [u8]) -> bool
     }
     let mut i: usize = 0;
     while i < first.len() {
-        if octet_at(first, i) != octet_at(second, i) {
+        if u8_at(first, i) != u8_at(second, i) {
             return false;
         }
         i += 1;

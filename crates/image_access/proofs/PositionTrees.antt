@@ -10,7 +10,7 @@ use lib.Seq.{drop-drop, drop-length}
 use borrow.Author.Tests.{ltb-true, ltb-false, ne-eqb, lt-ltb, le-ltb}
 use Rattle.semantics.specs.Formula.{Formula.const}
 use Rattle.limits.specs.Limits as Limits
-use Rattle.limits.specs.Numbers.{word}
+use Rattle.limits.specs.Numbers.{le16}
 use Rattle.image_frames.specs.Records.{body, bodies, startOf}
 use Rattle.image_index.specs.IndexTable.{placeOf}
 use Rattle.image_index.proofs.LookUps.{body-is, body-past}
@@ -30,7 +30,7 @@ use Rattle.image_meaning.proofs.RecordsChecked.{Checks, formula-passed}
 use Rattle.image_meaning.proofs.FormulaSorts.{formula-read}
 
 empty-body : length (body []) ≡ 0
-unfolding body word
+unfolding body le16
 empty-body = refl
 
 -- a record whose body is not empty is there: it starts before the end of the image, and its body stands behind its frame
@@ -57,9 +57,9 @@ module _ (s : List ℕ) (k : ℕ) (full : 1 ≤ length (getD (bodies s) k [])) w
   unfolding formulaAt bodyStart placeOf
   position-is h = rw (ne-eqb k 0 h, lt-ltb k Limits.records number-there, lt-ltb (startOf s k) (length s) start-there)
 
-  body-part : getD (bodies s) k [] ≡ take (word (drop (startOf s k) s) - 2) (drop (startOf s k + 4) s)
+  body-part : getD (bodies s) k [] ≡ take (le16 (drop (startOf s k) s) - 2) (drop (startOf s k + 4) s)
   unfolding body
-  body-part = its-body ∙ ap (take (word (drop (startOf s k) s) - 2)) (drop-drop 4 (startOf s k) s)
+  body-part = its-body ∙ ap (take (le16 (drop (startOf s k) s) - 2)) (drop-drop 4 (startOf s k) s)
 
 module _ (s : List ℕ) (z : Sizes) (c : Checks z (bodies s)) (k : ℕ) (low : 1 ≤ k) (high : k ≤ z .formulas) where
   abbrev its : List ℕ
@@ -71,7 +71,7 @@ module _ (s : List ℕ) (z : Sizes) (c : Checks z (bodies s)) (k : ℕ) (low : 1
       let full : 1 ≤ length its = within-true 1 Limits.formulaBytes (length its)
       (unless-passed _ _ _ (formula-passed z (bodies s) c k low high) .0) .0 in
       let q : k ≡ 0 → ⊥ = omega arith in
-      let e = part-reading s its (countsOf z) (word (drop (startOf s k) s) - 2) (startOf s k + 4) (body-part s k full) (sortOf its)
+      let e = part-reading s its (countsOf z) (le16 (drop (startOf s k) s) - 2) (startOf s k + 4) (body-part s k full) (sortOf its)
       (formula-read z (bodies s) c k low high (sortOf its) refl) in
       rw (position-is s k full q) e
 

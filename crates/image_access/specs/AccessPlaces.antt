@@ -5,7 +5,7 @@ use mathlib.Core.List.{List}
 use Prim.Native.Nat.{ℕ, _+_}
 use lib.Dec.{eqb, leb, ltb}
 use lib.ListN.{length, getD, drop}
-use Rattle.limits.specs.Numbers.{word}
+use Rattle.limits.specs.Numbers.{le16}
 use Rattle.logic.specs.Opcode as Opcode
 use Rattle.image_header.specs.declared.instruction.Instruction.{Instruction}
 use Rattle.image_header.specs.Instruction.{firstOperation}
@@ -36,7 +36,7 @@ lineIn s b = record {
 
 -- the claim in a body
 unfoldable pub claimedIn : List ℕ → Claimed
-claimedIn b = record { thread = getD b 0 0; point = getD b 1 0; other = getD b 2 0; «other_point» = getD b 3 0; line = word (drop 4 b) }
+claimedIn b = record { thread = getD b 0 0; point = getD b 1 0; other = getD b 2 0; «other_point» = getD b 3 0; line = le16 (drop 4 b) }
 
 abbrev pub acts : ℕ → ℕ → ℕ → ℕ → ℕ → ℕ → ℕ → Acting
 acts op whole x r f q g = record { operation = op; whole = whole; word = x; register = r; formula = f; noted = q; note = g }

@@ -4,16 +4,16 @@ use Prim.Native.Nat.{ℕ, zero, suc}
 use lib.ListN.{set, replicate}
 use Rattle.limits.specs.Limits as Limits
 use Rattle.image_header.specs.declared.sizes.Sizes.{Sizes}
-use Rattle.image_bodies.specs.PointCounts.{tallyTo, tally, obligationCount}
+use Rattle.image_bodies.specs.PointCounts.{pointCountsTo, pointCounts, obligationCount}
 use Rattle.image_access.specs.declared.totals.Totals.{Totals}
 
 -- at t the points of the threads 1 to t, for t below n
 unfoldable pub pointsBelow : Sizes → List (List ℕ) → ℕ → List ℕ
 pointsBelow z l zero = replicate Limits.threads 0
-pointsBelow z l (suc t) = set (pointsBelow z l t) t (tallyTo z l t .points)
+pointsBelow z l (suc t) = set (pointsBelow z l t) t (pointCountsTo z l t .points)
 
 unfoldable pub pointsBefore : Sizes → List (List ℕ) → List ℕ
 pointsBefore z l = pointsBelow z l Limits.threads
 
 unfoldable pub totalsOf : Sizes → List (List ℕ) → Totals
-totalsOf z l = record { points = tally z l .points; before = pointsBefore z l; obligations = obligationCount z l }
+totalsOf z l = record { points = pointCounts z l .points; before = pointsBefore z l; obligations = obligationCount z l }

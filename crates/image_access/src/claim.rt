@@ -1,8 +1,8 @@
 // The claims, by their numbers, from 0.
 use image_header::sizes::Sizes;
 use image_index::look_up::body_of;
-use limits::read::octet_at;
-use limits::read::word_at;
+use limits::read::u8_at;
+use limits::read::u16_at;
 ghost use mathlib.Core.Path.{_≡_};
 ghost use Prim.Native.Nat.{_<_};
 ghost use Rattle.image_frames.specs.Records.{bodies};
@@ -34,11 +34,11 @@ fn read_claim(body: &[u8]) -> Claimed
     ensures { λ r. ⌜ (r ≡ claimedIn (now (body .entry))) × (r .line < 65536) ⌝ }
 {
     Claimed {
-        thread: octet_at(body, 0),
-        point: octet_at(body, 1),
-        other: octet_at(body, 2),
-        other_point: octet_at(body, 3),
-        line: word_at(body, 4),
+        thread: u8_at(body, 0),
+        point: u8_at(body, 1),
+        other: u8_at(body, 2),
+        other_point: u8_at(body, 3),
+        line: u16_at(body, 4),
     }
 }
 

@@ -5,7 +5,7 @@ use image_header::sizes::Sizes;
 use image_index::look_up::body_of;
 use limits::Limits;
 use limits::read::byte_at;
-use limits::read::word_at;
+use limits::read::u16_at;
 ghost use mathlib.Core.Path.{_≡_};
 ghost use Prim.Native.Nat.{_<_};
 ghost use lib.ListN.{getD};
@@ -45,8 +45,8 @@ fn read_line<'a, 'b>(image: &'a [u8], index: &'b [usize], body: &'a [u8]) -> Lin
     requires { ⌜ now index ≡ indexOf (now image) ⌝ }
     ensures { λ r. ⌜ r ≡ lineIn (now (image .entry)) (now (body .entry)) ⌝ }
 {
-    let left = formula_at(image, index, word_at(body, 3));
-    let right = formula_at(image, index, word_at(body, 5));
+    let left = formula_at(image, index, u16_at(body, 3));
+    let right = formula_at(image, index, u16_at(body, 5));
     Line {
         rule: byte_at(body, 0) as u8,
         thread: byte_at(body, 1) as u8,

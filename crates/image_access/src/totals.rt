@@ -1,6 +1,6 @@
 // Totals over the threads: worked out once, for all look-ups.
 use image_bodies::point_counts::obligations_by;
-use image_bodies::point_counts::tally_of;
+use image_bodies::point_counts::point_counts_of;
 use image_header::sizes::Sizes;
 use image_header::thread::last_point;
 use image_index::look_up::body_of;
@@ -11,7 +11,7 @@ ghost use lib.ListN.{replicate};
 ghost use Rattle.limits.specs.Limits.{threads};
 ghost use Rattle.image_frames.specs.Records.{bodies};
 ghost use Rattle.image_index.specs.IndexTable.{indexOf};
-ghost use Rattle.image_bodies.specs.PointCounts.{tallyTo};
+ghost use Rattle.image_bodies.specs.PointCounts.{pointCountsTo};
 ghost use Rattle.image_access.specs.Totals.{pointsBefore, totalsOf};
 
 pub struct Totals {
@@ -21,10 +21,10 @@ pub struct Totals {
     pub obligations: usize,
 }
 
-// The points of the threads before thread t: a tally with fewer threads.
+// The points of the threads before thread t: a pointCounts with fewer threads.
 fn points_before<'a, 'b>(image: &'a [u8], index: &'b [usize], sizes: Sizes, t: usize) -> usize
     requires { ⌜ (now index ≡ indexOf (now image)) × ((1 ≤ t) × (t ≤ 256)) ⌝ }
-    ensures { λ r. ⌜ r ≡ tallyTo sizes (bodies (now (image .entry))) (t - 1) .points ⌝ }
+    ensures { λ r. ⌜ r ≡ pointCountsTo sizes (bodies (now (image .entry))) (t - 1) .points ⌝ }
 {
     let before = Sizes {
         threads: (t - 1) as u8,
@@ -35,7 +35,7 @@ fn points_before<'a, 'b>(image: &'a [u8], index: &'b [usize], sizes: Sizes, t: u
         lines: sizes.lines,
         claims: sizes.claims,
     };
-    let counts = tally_of(image, index, before);
+    let counts = point_counts_of(image, index, before);
     counts.points
 }
 
@@ -63,7 +63,7 @@ pub fn totals_of<'a, 'b>(image: &'a [u8], index: &'b [usize], sizes: Sizes) -> T
     requires { ⌜ now index ≡ indexOf (now image) ⌝ }
     ensures { λ r. ⌜ r ≡ totalsOf sizes (bodies (now (image .entry))) ⌝ }
 {
-    let counts = tally_of(image, index, sizes);
+    let counts = point_counts_of(image, index, sizes);
     let mut before = [0usize; Limits::THREADS];
     fill_before(image, index, sizes, &mut before);
     Totals {
@@ -82,7 +82,7 @@ pub fn before_thread<'a, 'b>(
     t: usize,
 ) -> usize
     requires { ⌜ ((now index ≡ indexOf (now image)) × (totals ≡ totalsOf sizes (bodies (now image)))) × ((1 ≤ t) × (t ≤ sizes .threads)) ⌝ }
-    ensures { λ r. ⌜ r ≡ tallyTo sizes (bodies (now (image .entry))) (t - 1) .points ⌝ }
+    ensures { λ r. ⌜ r ≡ pointCountsTo sizes (bodies (now (image .entry))) (t - 1) .points ⌝ }
 {
     if t <= Limits::THREADS {
         return totals.before[t - 1];

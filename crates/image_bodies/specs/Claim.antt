@@ -4,7 +4,7 @@ use mathlib.Core.List.{List}
 use Prim.Native.Nat.{ℕ, _+_}
 use lib.Dec.{eqb}
 use lib.ListN.{length, getD, drop}
-use Rattle.limits.specs.Numbers.{word, within}
+use Rattle.limits.specs.Numbers.{le16, within}
 use Rattle.image_frames.specs.Fault.{unless}
 use Rattle.image_frames.specs.declared.fault.Fault.the-variants.{Body, Number}
 use Rattle.image_frames.specs.declared.fault.Checked.{Checked}
@@ -22,7 +22,7 @@ different b = not (eqb (getD b 0 0) (getD b 2 0))
 
 -- two different threads with points of theirs; a line, or 0 for none
 unfoldable pub claimed : Sizes → List (List ℕ) → List ℕ → Bool
-claimed z l b = pointThere z l b 0 && (pointThere z l b 2 && (different b && within 0 (z .lines) (word (drop 4 b))))
+claimed z l b = pointThere z l b 0 && (pointThere z l b 2 && (different b && within 0 (z .lines) (le16 (drop 4 b))))
 
 -- 5, then 6
 unfoldable pub claim : Sizes → List (List ℕ) → List ℕ → Checked

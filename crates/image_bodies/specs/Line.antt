@@ -6,7 +6,7 @@ use lib.Dec.{eqb, leb, ltb}
 use lib.ListN.{length, getD, drop}
 use Rattle.logic.specs.Opcode as Opcode
 use Rattle.limits.specs.Limits as Limits
-use Rattle.limits.specs.Numbers.{word, has, numbers, within, every}
+use Rattle.limits.specs.Numbers.{le16, has, numbers, within, every}
 use Rattle.image_frames.specs.Fault.{unless}
 use Rattle.image_frames.specs.declared.fault.Fault.the-variants.{Body, Number}
 use Rattle.image_frames.specs.declared.fault.Checked.{Checked}
@@ -54,8 +54,8 @@ placed z l Unlisted b = false
 -- both formulas are there; at most 4 premises, each of them one of the lines before this one
 unfoldable pub numbered : Sizes → ℕ → List ℕ → Bool
 numbered z lower b =
-    within 1 (z .formulas) (word (drop 3 b))
-    && (within 1 (z .formulas) (word (drop 5 b)) && (within 0 Limits.premises (getD b 7 0) && every (within 1 lower) (premises b)))
+    within 1 (z .formulas) (le16 (drop 3 b))
+    && (within 1 (z .formulas) (le16 (drop 5 b)) && (within 0 Limits.premises (getD b 7 0) && every (within 1 lower) (premises b)))
 
 -- 5, then 6
 unfoldable pub lineNumbers : Sizes → List (List ℕ) → ℕ → List ℕ → Checked

@@ -4,7 +4,7 @@ use mathlib.Core.List.{List, []}
 use Prim.Native.Nat.{ℕ}
 use lib.Dec.{eqb}
 use lib.ListN.{getD, drop}
-use Rattle.limits.specs.Numbers.{word}
+use Rattle.limits.specs.Numbers.{le16}
 use Rattle.image_frames.specs.Fault.{unless, also}
 use Rattle.image_frames.specs.declared.fault.Fault.the-variants.{Sort}
 use Rattle.image_frames.specs.declared.fault.Checked.{Checked}
@@ -29,7 +29,7 @@ sortedBy l Pair k = outlinedAt l k
 sortedBy l Unlisted k = true
 
 unfoldable pub lineSorted : List (List ℕ) → List ℕ → Bool
-lineSorted l b = sortedBy l (formOf (getD b 0 0)) (word (drop 3 b)) && sortedBy l (formOf (getD b 0 0)) (word (drop 5 b))
+lineSorted l b = sortedBy l (formOf (getD b 0 0)) (le16 (drop 3 b)) && sortedBy l (formOf (getD b 0 0)) (le16 (drop 5 b))
 
 -- the line that has so many lines before it
 unfoldable pub line : Sizes → List (List ℕ) → ℕ → List ℕ → Checked

@@ -10,7 +10,7 @@ use Rattle.image_frames.specs.declared.fault.Checked.{Checked}
 use Rattle.image_frames.specs.declared.fault.Checked.the-variants.{Passed}
 use Rattle.image_header.specs.declared.sizes.Sizes.{Sizes}
 use Rattle.image_bodies.specs.NumberList.{exactly}
-use Rattle.image_bodies.specs.PointCounts.{tally, obligationCount}
+use Rattle.image_bodies.specs.PointCounts.{pointCounts, obligationCount}
 use Rattle.image_bodies.specs.FormulaUse.{outlined}
 
 -- formula k is body k of the image
@@ -19,8 +19,8 @@ outlinedAt l k = outlined (getD l k [])
 
 -- a formula per point, threads in order
 unfoldable pub outline : Sizes → List (List ℕ) → List ℕ → Checked
-outline z l b = also (exactly (tally z l .points) 1 (z .formulas) b)
-    (unless (every (outlinedAt l) (numbers (tally z l .points) b)) Sort Passed)
+outline z l b = also (exactly (pointCounts z l .points) 1 (z .formulas) b)
+    (unless (every (outlinedAt l) (numbers (pointCounts z l .points) b)) Sort Passed)
 
 -- a line number per obligation, 0 for none
 unfoldable pub obligations : Sizes → List (List ℕ) → List ℕ → Checked

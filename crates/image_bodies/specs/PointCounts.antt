@@ -8,7 +8,7 @@ use Rattle.image_header.specs.declared.sizes.Sizes.{Sizes}
 use Rattle.image_header.specs.declared.instruction.Instruction.{Instruction}
 use Rattle.image_header.specs.Thread.{lastPoint, instructions}
 use Rattle.image_bodies.specs.RecordPlaces.{threadBody}
-use Rattle.image_bodies.specs.declared.point_counts.Tally.{Tally}
+use Rattle.image_bodies.specs.declared.point_counts.PointCounts.{PointCounts}
 
 unfoldable pub isBranch : Instruction → ℕ
 isBranch i = cond (eqb (i .operation) Opcode.branch) 1 0
@@ -19,32 +19,32 @@ branches (i ∷ l) = isBranch i + branches l
 
 -- of a thread with this last point and so many branches: its points; two obligations for each branch, one for each other instruction;
 -- its actions, which are no branches; its points times these
-abbrev pub tallied : ℕ → ℕ → Tally
+abbrev pub tallied : ℕ → ℕ → PointCounts
 tallied last n = record { points = last + 1; steps = last + n; actions = last - n; own = (last + 1) * (last - n) }
 
-unfoldable pub threadTally : List ℕ → Tally
-threadTally b = tallied (lastPoint b) (branches (instructions b))
+unfoldable pub threadCounts : List ℕ → PointCounts
+threadCounts b = tallied (lastPoint b) (branches (instructions b))
 
-abbrev pub plus : Tally → Tally → Tally
+abbrev pub plus : PointCounts → PointCounts → PointCounts
 plus c d = record { points = c .points + d .points; steps = c .steps + d .steps; actions = c .actions + d .actions; own = c .own + d .own }
 
 -- of the threads 1 to t
-unfoldable pub tallyTo : Sizes → List (List ℕ) → ℕ → Tally
-tallyTo z l zero = record { points = 0; steps = 0; actions = 0; own = 0 }
-tallyTo z l (suc t) = plus (tallyTo z l t) (threadTally (threadBody z l (suc t)))
+unfoldable pub pointCountsTo : Sizes → List (List ℕ) → ℕ → PointCounts
+pointCountsTo z l zero = record { points = 0; steps = 0; actions = 0; own = 0 }
+pointCountsTo z l (suc t) = plus (pointCountsTo z l t) (threadCounts (threadBody z l (suc t)))
 
-unfoldable pub tally : Sizes → List (List ℕ) → Tally
-tally z l = tallyTo z l (z .threads)
+unfoldable pub pointCounts : Sizes → List (List ℕ) → PointCounts
+pointCounts z l = pointCountsTo z l (z .threads)
 
 -- class 1: each thread's start; classes 2 and 3: the steps; class 4: every point with every action, but for a thread's own
-abbrev pub obligationsBy : ℕ → Tally → ℕ
+abbrev pub obligationsBy : ℕ → PointCounts → ℕ
 obligationsBy threads c = threads + c .steps + (c .points * c .actions - c .own)
 
 unfoldable pub obligationCount : Sizes → List (List ℕ) → ℕ
-obligationCount z l = obligationsBy (z .threads) (tally z l)
+obligationCount z l = obligationsBy (z .threads) (pointCounts z l)
 
 -- sums over k threads, each with less than 256 points
-pub record Small (k : ℕ) (c : Tally) : Type 0 where
+pub record Small (k : ℕ) (c : PointCounts) : Type 0 where
   pub points : c .points ≤ 256 * k
   pub steps : c .steps ≤ 512 * k
   pub actions : c .actions ≤ 256 * k

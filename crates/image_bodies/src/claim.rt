@@ -5,7 +5,7 @@ use image_header::sizes::Sizes;
 use image_header::thread::last_point;
 use image_index::look_up::body_of;
 use limits::range::in_range;
-use limits::range::word_within;
+use limits::range::u16_within;
 use limits::read::byte_at;
 ghost use mathlib.Core.Path.{_≡_};
 ghost use Prim.Native.Nat.{_≤_};
@@ -59,7 +59,7 @@ fn claim_fits<'a, 'b>(image: &'a [u8], index: &'b [usize], sizes: Sizes, body: &
     if point_there(image, index, sizes, body, Claim::FIRST) {
         if point_there(image, index, sizes, body, Claim::SECOND) {
             if are_different(body) {
-                return word_within(body, Claim::LINE, 0, sizes.lines as usize);
+                return u16_within(body, Claim::LINE, 0, sizes.lines as usize);
             }
         }
     }

@@ -4,7 +4,7 @@ use formula::code::Place;
 use formula_compare::has::has_shared;
 use formula_compare::has::has_start;
 use limits::Limits;
-use limits::read::octet_at;
+use limits::read::u8_at;
 ghost use mathlib.Core.Path.{_≡_};
 ghost use lib.Dec.{eqb};
 ghost use Rattle.formula.specs.Reader.{sortOf};
@@ -13,7 +13,7 @@ ghost use Rattle.image_bodies.specs.FormulaUse.{startless, plain, outlin
 pub fn is_sort(body: &[u8], sort: u8) -> bool
     ensures { λ r. ⌜ r ≡ eqb (sortOf (now (body .entry))) sort ⌝ }
 {
-    octet_at(body, 0) / Code::PER_SORT == sort
+    u8_at(body, 0) / Code::PER_SORT == sort
 }
 
 // Start does not occur in it.

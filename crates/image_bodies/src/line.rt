@@ -7,7 +7,7 @@ use image_header::sizes::Sizes;
 use limits::Limits;
 use limits::range::byte_within;
 use limits::range::numbers_within;
-use limits::range::word_within;
+use limits::range::u16_within;
 use limits::read::byte_at;
 use limits::read::number_at;
 use limits::read::rest;
@@ -145,8 +145,8 @@ fn premises_fit(body: &[u8], lower: usize) -> bool
 fn line_numbered(body: &[u8], sizes: Sizes, lower: usize) -> bool
     ensures { λ r. ⌜ r ≡ numbered sizes lower (now (body .entry)) ⌝ }
 {
-    if word_within(body, 3, 1, sizes.formulas as usize) {
-        if word_within(body, 5, 1, sizes.formulas as usize) {
+    if u16_within(body, 3, 1, sizes.formulas as usize) {
+        if u16_within(body, 5, 1, sizes.formulas as usize) {
             if byte_within(body, 7, 0, Limits::PREMISES) {
                 return premises_fit(body, lower);
             }

@@ -9,7 +9,7 @@ use image_frames::fault::Checked;
 use image_frames::fault::Fault;
 use image_header::sizes::Sizes;
 use image_index::look_up::body_of;
-use limits::read::word_at;
+use limits::read::u16_at;
 ghost use mathlib.Core.Path.{_≡_};
 ghost use Rattle.image_frames.specs.Records.{bodies};
 ghost use Rattle.image_index.specs.IndexTable.{indexOf};
@@ -56,9 +56,9 @@ fn line_sorted<'a, 'b, 'c>(
     ensures { λ r. ⌜ r ≡ lineSorted (bodies (now (image .entry))) (now (body .entry)) ⌝ }
 {
     let f = line_form(body);
-    let left = word_at(body, 3);
+    let left = u16_at(body, 3);
     if formula_fits(image, index, outlined, sizes, f, left) {
-        let right = word_at(body, 5);
+        let right = u16_at(body, 5);
         return formula_fits(image, index, outlined, sizes, f, right);
     }
     false

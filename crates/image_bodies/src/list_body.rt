@@ -2,7 +2,7 @@
 use crate::number_list::check_list;
 use crate::outline_formulas::formula_outlined;
 use crate::point_counts::count_obligations;
-use crate::point_counts::tally_of;
+use crate::point_counts::point_counts_of;
 use image_frames::fault::Checked;
 use image_frames::fault::Fault;
 use image_header::sizes::Sizes;
@@ -11,7 +11,7 @@ ghost use mathlib.Core.Path.{_≡_};
 ghost use Rattle.limits.specs.Numbers.{numbers, every};
 ghost use Rattle.image_frames.specs.Records.{bodies};
 ghost use Rattle.image_index.specs.IndexTable.{indexOf};
-ghost use Rattle.image_bodies.specs.PointCounts.{tally};
+ghost use Rattle.image_bodies.specs.PointCounts.{pointCounts};
 ghost use Rattle.image_bodies.specs.ListBody.{outlinedAt, outline, obligations};
 ghost use Rattle.image_bodies.specs.OutlineFormulas.{outlinedOf};
 
@@ -64,9 +64,9 @@ pub fn check_outline<'a, 'b, 'c>(
 // The points of all threads.
 pub fn count_points<'a, 'b>(image: &'a [u8], index: &'b [usize], sizes: Sizes) -> usize
     requires { ⌜ now index ≡ indexOf (now image) ⌝ }
-    ensures { λ r. ⌜ r ≡ tally sizes (bodies (now (image .entry))) .points ⌝ }
+    ensures { λ r. ⌜ r ≡ pointCounts sizes (bodies (now (image .entry))) .points ⌝ }
 {
-    let counts = tally_of(image, index, sizes);
+    let counts = point_counts_of(image, index, sizes);
     counts.points
 }
 

@@ -10,10 +10,10 @@ ghost use Prim.Native.Nat.{_≤_, _+_, _*_};
 ghost use Rattle.image_frames.specs.Records.{bodies};
 ghost use Rattle.image_index.specs.IndexTable.{indexOf};
 ghost use Rattle.image_header.specs.Thread.{lastPoint, instructions};
-ghost use Rattle.image_bodies.specs.PointCounts.{isBranch, branches, threadTally, plus, tally, Small, obligationsBy, obligationCount};
+ghost use Rattle.image_bodies.specs.PointCounts.{isBranch, branches, threadCounts, plus, pointCounts, Small, obligationsBy, obligationCount};
 
 // Sums over threads: of points, of obligations by steps, of actions, and of a thread's points times its own actions.
-pub struct Tally {
+pub struct PointCounts {
     pub points: usize,
     pub steps: usize,
     pub actions: usize,
@@ -46,12 +46,12 @@ fn branches_of(body: &[u8]) -> usize
 }
 
 // Of one thread.
-pub fn thread_tally(body: &[u8]) -> Tally
-    ensures { λ r. ⌜ (r ≡ threadTally (now (body .entry))) × Small 1 r ⌝ }
+pub fn thread_counts(body: &[u8]) -> PointCounts
+    ensures { λ r. ⌜ (r ≡ threadCounts (now (body .entry))) × Small 1 r ⌝ }
 {
     let last = last_point(body);
     let n = branches_of(body);
-    Tally {
+    PointCounts {
         points: last + 1,
         steps: last + n,
         actions: last - n,
@@ -59,11 +59,11 @@ pub fn thread_tally(body: &[u8]) -> Tally
     }
 }
 
-fn both(counts: Tally, other: Tally) -> Tally
+fn both(counts: PointCounts, other: PointCounts) -> PointCounts
     requires { ⌜ Small 256 counts × Small 1 other ⌝ }
     ensures { λ r. ⌜ r ≡ plus counts other ⌝ }
 {
-    Tally {
+    PointCounts {
         points: counts.points + other.points,
         steps: counts.steps + other.steps,
         actions: counts.actions + other.actions,
@@ -72,11 +72,11 @@ fn both(counts: Tally, other: Tally) -> Tally
 }
 
 // Of all threads.
-pub fn tally_of<'a, 'b>(image: &'a [u8], index: &'b [usize], sizes: Sizes) -> Tally
+pub fn point_counts_of<'a, 'b>(image: &'a [u8], index: &'b [usize], sizes: Sizes) -> PointCounts
     requires { ⌜ now index ≡ indexOf (now image) ⌝ }
-    ensures { λ r. ⌜ (r ≡ tally sizes (bodies (now (image .entry)))) × Small 256 r ⌝ }
+    ensures { λ r. ⌜ (r ≡ pointCounts sizes (bodies (now (image .entry)))) × Small 256 r ⌝ }
 {
-    let mut c = Tally {
+    let mut c = PointCounts {
         points: 0,
         steps: 0,
         actions: 0,
@@ -87,7 +87,7 @@ pub fn tally_of<'a, 'b>(image: &'a [u8], index: &'b [usize], sizes: Sizes) -> Ta
     while t < threads {
         t += 1;
         let body = body_of(image, index, (sizes.formulas as usize) + t);
-        let d = thread_tally(body);
+        let d = thread_counts(body);
         c = both(c, d);
     }
     c
@@ -95,7 +95,7 @@ pub fn tally_of<'a, 'b>(image: &'a [u8], index: &'b [usize], sizes: Sizes) -> Ta
 
 // How many obligations so many threads with these sums have: for each thread its start; the steps; each point with each action of
 // another thread.
-pub fn obligations_by(threads: u8, counts: Tally) -> usize
+pub fn obligations_by(threads: u8, counts: PointCounts) -> usize
     requires { ⌜ Small 256 counts × (counts .own ≤ counts .points * counts .actions) ⌝ }
     ensures { λ r. ⌜ r ≡ obligationsBy threads counts ⌝ }
 {
@@ -107,6 +107,6 @@ pub fn count_obligations<'a, 'b>(image: &'a [u8], index: &'b [usize], sizes: Siz
     requires { ⌜ now index ≡ indexOf (now image) ⌝ }
     ensures { λ r. ⌜ r ≡ obligationCount sizes (bodies (now (image .entry))) ⌝ }
 {
-    let counts = tally_of(image, index, sizes);
+    let counts = point_counts_of(image, index, sizes);
     obligations_by(sizes.threads, counts)
 }

@@ -23,7 +23,7 @@ ghost use Rattle.image_header.specs.Thread.{instructions};
 ghost use Rattle.image_bodies.specs.ThreadBody.{wanted, formulaSorted, sorted, target, registerOwned, formulaOwned, owned, resultAbsent, threadRegisters, thread};
 
 // The sort of an instruction's formula.
-fn wanted_sort(operation: u8) -> u8
+fn expected_sort(operation: u8) -> u8
     ensures { λ r. ⌜ r ≡ wanted operation ⌝ }
 {
     if operation == Instruction::BRANCH {
@@ -52,7 +52,7 @@ fn instruction_sorted<'a, 'b>(image: &'a [u8], index: &'b [usize], instruction: 
     if formula_sorted(
         image,
         index,
-        wanted_sort(instruction.operation),
+        expected_sort(instruction.operation),
         instruction.formula,
     ) {
         return formula_sorted(image, index, Place::VALUE, instruction.second.formula);

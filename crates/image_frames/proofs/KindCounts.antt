@@ -9,7 +9,7 @@ use lib.ListN.{length, getD, drop, set}
 use lib.Seq.{getD-set-other}
 use borrow.Author.Tests.{eqb-true, eqb-false, ltb-false}
 use Rattle.limits.specs.Limits as Limits
-use Rattle.limits.specs.Numbers.{word}
+use Rattle.limits.specs.Numbers.{le16}
 use Rattle.image_frames.specs.Kinds as Kinds
 use Rattle.image_frames.specs.Kinds.{order, most}
 use Rattle.image_frames.specs.declared.fault.Fault.{Fault}
@@ -43,8 +43,8 @@ one-more c k h b j = at (eqb j k) refl
         subst (λ (i : ℕ). getD (counted c k .count) i 0 ≤ most i) (sym q) m
     at false e = subst (λ (n : ℕ). n ≤ most j) (sym (getD-set-other (c .count) k j (getD (c .count) k 0 + 1) 0 (eqb-false j k e))) (h j)
 
-frame-keeps : (c : Seen) (l : List ℕ) → Few c → frame c l ≡ Passed → Few (counted c (order (word (drop 2 l))))
-frame-keeps c l h e = one-more c (order (word (drop 2 l))) h (framed c l e .admits .few)
+frame-keeps : (c : Seen) (l : List ℕ) → Few c → frame c l ≡ Passed → Few (counted c (order (le16 (drop 2 l))))
+frame-keeps c l h e = one-more c (order (le16 (drop 2 l))) h (framed c l e .admits .few)
 
 pub refused-sound : {Z : Type 0} (f : Fault) (i a b n m : ℕ) → Refused f i ≡ Sound a b n m → Z
 refused-sound f i a b n m e = let q : _≡_ {A = ℕ} 0 1 = cc in absurd (omega arith)
@@ -78,9 +78,9 @@ unfolding walk
 walk-few zero i c l h a b n m e = ended-few i c h a b n m e
 walk-few (suc k) i c [] h a b n m e = ended-few i c h a b n m e
 walk-few (suc k) i c (x ∷ l) h a b n m e =
-    let p = passed-sound (frame c (x ∷ l)) (walk k (i + 1) (counted c (order (word (drop 2 (x ∷ l))))) (drop (2 + word (x ∷ l)) (x ∷ l)))
+    let p = passed-sound (frame c (x ∷ l)) (walk k (i + 1) (counted c (order (le16 (drop 2 (x ∷ l))))) (drop (2 + le16 (x ∷ l)) (x ∷ l)))
     i a b n m e in
-    walk-few k (i + 1) (counted c (order (word (drop 2 (x ∷ l))))) (drop (2 + word (x ∷ l)) (x ∷ l)) (frame-keeps c (x ∷ l) h (p .0)) a b
+    walk-few k (i + 1) (counted c (order (le16 (drop 2 (x ∷ l))))) (drop (2 + le16 (x ∷ l)) (x ∷ l)) (frame-keeps c (x ∷ l) h (p .0)) a b
     n m (p .1)
 
 none-few : Few none

@@ -7,7 +7,7 @@ use native.Mathlib.Omega.{arith}
 use lib.Dec.{ltb}
 use lib.ListN.{length, getD, drop}
 use borrow.Author.Tests.{ltb-true, ltb-false}
-use Rattle.limits.specs.Numbers.{word, has}
+use Rattle.limits.specs.Numbers.{le16, has}
 use Rattle.limits.proofs.Numbers.{has-true}
 use Rattle.image_frames.specs.Kinds as Kinds
 use Rattle.image_frames.specs.Kinds.{order, most}
@@ -45,20 +45,20 @@ admitted c k = go (ltb Kinds.last k) (ltb k (c .last)) (ltb 1 (k - c .last)) (lt
 
 -- and its length counts its kind and ends inside of the bytes
 pub record Framed (c : Seen) (l : List ℕ) : Type 0 where
-  pub kinded : 2 ≤ word l
-  pub inside : 2 + word l ≤ length l
-  pub admits : Admitted c (order (word (drop 2 l)))
+  pub kinded : 2 ≤ le16 l
+  pub inside : 2 + le16 l ≤ length l
+  pub admits : Admitted c (order (le16 (drop 2 l)))
 
 pub framed : (c : Seen) (l : List ℕ) → frame c l ≡ Passed → Framed c l
 unfolding frame
-framed c l = go (has 2 l) (ltb (word l) 2) (has (2 + word l) l) refl refl
+framed c l = go (has 2 l) (ltb (le16 l) 2) (has (2 + le16 l) l) refl refl
   where
-    go : (i j m : Bool) → ltb (word l) 2 ≡ j → has (2 + word l) l ≡ m
-        → cond i (cond j (Faulty Length) (cond m (admit c (order (word (drop 2 l)))) (Faulty Length))) (Faulty Length) ≡ Passed
+    go : (i j m : Bool) → ltb (le16 l) 2 ≡ j → has (2 + le16 l) l ≡ m
+        → cond i (cond j (Faulty Length) (cond m (admit c (order (le16 (drop 2 l)))) (Faulty Length))) (Faulty Length) ≡ Passed
         → Framed c l
     go true true m e d h = never Length h
     go true false true e d h =
-        let a = admitted c (order (word (drop 2 l))) h in
-        record { kinded = ltb-false (word l) 2 e; inside = has-true (2 + word l) l d; admits = a }
+        let a = admitted c (order (le16 (drop 2 l))) h in
+        record { kinded = ltb-false (le16 l) 2 e; inside = has-true (2 + le16 l) l d; admits = a }
     go true false false e d h = never Length h
     go false j m e d h = never Length h

@@ -5,7 +5,7 @@ use Prim.Native.Nat.{ℕ, zero, suc, _+_, _-_}
 use lib.Dec.{eqb, ltb}
 use lib.ListN.{length, getD, drop, set}
 use Rattle.limits.specs.Limits as Limits
-use Rattle.limits.specs.Numbers.{word, has}
+use Rattle.limits.specs.Numbers.{le16, has}
 use Rattle.image_frames.specs.Kinds as Kinds
 use Rattle.image_frames.specs.Kinds.{order, most}
 use Rattle.image_frames.specs.declared.fault.Fault.the-variants.{Size, Length, Kind}
@@ -32,8 +32,8 @@ admit c k =
 unfoldable pub frame : Seen → List ℕ → Checked
 frame c l =
     cond (has 2 l)
-    (cond (ltb (word l) 2) (Faulty Length)
-    (cond (has (2 + word l) l) (admit c (order (word (drop 2 l))))
+    (cond (ltb (le16 l) 2) (Faulty Length)
+    (cond (has (2 + le16 l) l) (admit c (order (le16 (drop 2 l))))
     (Faulty Length)))
     (Faulty Length)
 
@@ -53,7 +53,7 @@ unfoldable pub walk : ℕ → ℕ → Seen → List ℕ → Framing
 walk zero i c l = ended i c
 walk (suc k) i c [] = ended i c
 walk (suc k) i c (x ∷ l) =
-    unlessFaulty (frame c (x ∷ l)) i (walk k (i + 1) (counted c (order (word (drop 2 (x ∷ l))))) (drop (2 + word (x ∷ l)) (x ∷ l)))
+    unlessFaulty (frame c (x ∷ l)) i (walk k (i + 1) (counted c (order (le16 (drop 2 (x ∷ l))))) (drop (2 + le16 (x ∷ l)) (x ∷ l)))
 
 abbrev pub none : Seen
 none = record { last = 0; count = 0 ∷ 0 ∷ 0 ∷ 0 ∷ 0 ∷ 0 ∷ 0 ∷ 0 ∷ [] }

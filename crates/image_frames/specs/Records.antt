@@ -3,17 +3,17 @@ use mathlib.Core.List.{List, [], _∷_}
 use Prim.Native.Nat.{ℕ, zero, suc, _+_, _-_, min}
 use lib.ListN.{length, take, drop}
 use Rattle.limits.specs.Limits as Limits
-use Rattle.limits.specs.Numbers.{word}
+use Rattle.limits.specs.Numbers.{le16}
 
 -- the body of the record in front: what follows its length and its kind
 unfoldable pub body : List ℕ → List ℕ
-body l = take (word l - 2) (drop 4 l)
+body l = take (le16 l - 2) (drop 4 l)
 
 -- the bodies of at most k records, cut off one after the other
 unfoldable pub cut : ℕ → List ℕ → List (List ℕ)
 cut zero l = []
 cut (suc k) [] = []
-cut (suc k) (x ∷ l) = body (x ∷ l) ∷ cut k (drop (2 + word (x ∷ l)) (x ∷ l))
+cut (suc k) (x ∷ l) = body (x ∷ l) ∷ cut k (drop (2 + le16 (x ∷ l)) (x ∷ l))
 
 unfoldable pub bodies : List ℕ → List (List ℕ)
 bodies s = cut Limits.records s
@@ -21,4 +21,4 @@ bodies s = cut Limits.records s
 -- where the record starts that has i records before it; past the last record, the image's end
 unfoldable pub startOf : List ℕ → ℕ → ℕ
 startOf s zero = 0
-startOf s (suc i) = min (length s) (startOf s i + 2 + word (drop (startOf s i) s))
+startOf s (suc i) = min (length s) (startOf s i + 2 + le16 (drop (startOf s i) s))

@@ -3,7 +3,7 @@ use crate::fault::Checked;
 use crate::fault::Fault;
 use crate::kind::Kind;
 use crate::kind::order_of;
-use limits::read::word_at;
+use limits::read::u16_at;
 ghost use mathlib.Core.Path.{_≡_};
 ghost use lib.ListN.{length, drop};
 ghost use Rattle.image_frames.specs.Frames.{admit, frame};
@@ -45,13 +45,13 @@ pub fn frame_at<'a, 'b>(image: &'a [u8], at: usize, last: usize, count: &'b [u16
     if image.len() - at < 2 {
         return Checked::Faulty(Fault::Length);
     }
-    let n = word_at(image, at);
+    let n = u16_at(image, at);
     if n < 2 {
         return Checked::Faulty(Fault::Length);
     }
     if image.len() - at - 2 < n {
         return Checked::Faulty(Fault::Length);
     }
-    let k = order_of(word_at(image, at + 2));
+    let k = order_of(u16_at(image, at + 2));
     admit_kind(last, count, k)
 }

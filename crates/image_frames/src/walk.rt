@@ -6,7 +6,7 @@ use crate::frame::frame_at;
 use crate::kind::Kind;
 use crate::kind::order_of;
 use limits::Limits;
-use limits::read::word_at;
+use limits::read::u16_at;
 ghost use mathlib.Core.Path.{_≡_};
 ghost use Rattle.image_frames.specs.Frames.{ended, frames, wholeImage};
 
@@ -57,10 +57,10 @@ fn walk_frames(image: &[u8]) -> Framing
                 return Framing::Refused { fault, record: i };
             }
             Checked::Passed => {
-                let k = order_of(word_at(image, at + 2));
+                let k = order_of(u16_at(image, at + 2));
                 c.count[k] = c.count[k] + 1;
                 c.last = k;
-                at = at + 2 + word_at(image, at);
+                at = at + 2 + u16_at(image, at);
                 i += 1;
             }
         }

@@ -7,14 +7,14 @@ use lib.Dec.{eqb}
 use borrow.Author.Tests.{eq-eqb, ne-eqb}
 use Rattle.logic.specs.Opcode as Opcode
 use lib.ListN.{getD, drop}
-use Rattle.limits.specs.Numbers.{word}
+use Rattle.limits.specs.Numbers.{le16}
 use Rattle.image_header.specs.declared.sizes.Sizes.{Sizes}
 use Rattle.image_header.specs.declared.instruction.Half.{Half}
 use Rattle.image_header.specs.declared.instruction.Instruction.{Instruction}
 use Rattle.image_header.specs.declared.instruction.Fields.{Fields}
 use Rattle.image_header.specs.Instruction.{twofold, instructionSize, half, noHalf, secondHalf, instruction, fieldsOf, fieldsFit, halfFits, secondFits, ranged}
 
-module _ (b : List ℕ) (o x y f : ℕ) (eo : o ≡ getD b 0 0) (ex : x ≡ getD b 1 0) (ey : y ≡ getD b 2 0) (ef : f ≡ word (drop 3 b)) where
+module _ (b : List ℕ) (o x y f : ℕ) (eo : o ≡ getD b 0 0) (ex : x ≡ getD b 1 0) (ey : y ≡ getD b 2 0) (ef : f ≡ le16 (drop 3 b)) where
   pub half-is : record { operation = o; a = x; b = y; formula = f } ≡ half b
   unfolding half
   half-is = rw (eo, ex, ey, ef)

@@ -5,7 +5,7 @@ use Prim.Native.Nat.{ℕ}
 use lib.Dec.{eqb, ltb, leb}
 use lib.ListN.{getD, drop}
 use Rattle.logic.specs.Opcode as Opcode
-use Rattle.limits.specs.Numbers.{word, within}
+use Rattle.limits.specs.Numbers.{le16, within}
 use Rattle.image_header.specs.declared.sizes.Sizes.{Sizes}
 use Rattle.image_header.specs.declared.instruction.Half.{Half}
 use Rattle.image_header.specs.declared.instruction.Instruction.{Instruction}
@@ -31,7 +31,7 @@ unfoldable pub instructionSize : ℕ → ℕ
 instructionSize op = cond (twofold op) 10 5
 
 unfoldable pub half : List ℕ → Half
-half l = record { operation = getD l 0 0; a = getD l 1 0; b = getD l 2 0; formula = word (drop 3 l) }
+half l = record { operation = getD l 0 0; a = getD l 1 0; b = getD l 2 0; formula = le16 (drop 3 l) }
 
 -- for an instruction without a second half
 abbrev pub noHalf : Half
@@ -45,7 +45,7 @@ instruction l = record {
   operation = getD l 0 0;
   a = getD l 1 0;
   b = getD l 2 0;
-  formula = word (drop 3 l);
+  formula = le16 (drop 3 l);
   second = secondHalf (getD l 0 0) l;
 }
 

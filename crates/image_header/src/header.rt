@@ -8,8 +8,8 @@ use limits::range::bytes_within;
 use limits::range::in_range;
 use limits::read::byte_at;
 use limits::read::nth_byte;
-use limits::read::octet_at;
 use limits::read::part;
+use limits::read::u8_at;
 ghost use mathlib.Core.Path.{_≡_};
 ghost use Rattle.limits.specs.Numbers.{nth};
 ghost use Rattle.image_header.specs.Header.{valueRange, headerSize, counted, startValues, owners, marks, cleared, headed, header};
@@ -67,7 +67,7 @@ fn marks_of(body: &[u8]) -> &[u8]
 pub fn range_of(body: &[u8]) -> u8
     ensures { λ r. ⌜ r ≡ valueRange (now (body .entry)) ⌝ }
 {
-    octet_at(body, Header::RANGE)
+    u8_at(body, Header::RANGE)
 }
 
 // The start value of a word.

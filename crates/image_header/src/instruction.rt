@@ -1,9 +1,9 @@
 // One instruction: operation, a, b, formula; operations 9 to 12 are followed by a second half of the same form. Unused fields are 0.
 use crate::sizes::Sizes;
 use limits::range::in_range;
-use limits::read::octet_at;
 use limits::read::rest;
-use limits::read::word_at;
+use limits::read::u8_at;
+use limits::read::u16_at;
 ghost use mathlib.Core.Path.{_≡_};
 ghost use Prim.Native.Nat.{_≤_};
 ghost use Rattle.image_header.specs.Instruction.{twofold, pairOperation, firstOperation, instructionSize, half, noHalf, secondHalf, instruction, fieldsOf, fieldsFit, halfFits, secondFits, ranged};
@@ -143,10 +143,10 @@ fn read_half(body: &[u8]) -> Half
     ensures { λ r. ⌜ r ≡ half (now (body .entry)) ⌝ }
 {
     Half {
-        operation: octet_at(body, 0),
-        a: octet_at(body, 1),
-        b: octet_at(body, 2),
-        formula: word_at(body, 3),
+        operation: u8_at(body, 0),
+        a: u8_at(body, 1),
+        b: u8_at(body, 2),
+        formula: u16_at(body, 3),
     }
 }
 
@@ -165,12 +165,12 @@ fn second_half(operation: u8, body: &[u8]) -> Half
 pub fn read_instruction(body: &[u8]) -> Instruction
     ensures { λ r. ⌜ r ≡ instruction (now (body .entry)) ⌝ }
 {
-    let operation = octet_at(body, 0);
+    let operation = u8_at(body, 0);
     Instruction {
         operation,
-        a: octet_at(body, 1),
-        body: octet_at(body, 2),
-        formula: word_at(body, 3),
+        a: u8_at(body, 1),
+        body: u8_at(body, 2),
+        formula: u16_at(body, 3),
         second: second_half(operation, body),
     }
 }

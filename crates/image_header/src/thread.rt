@@ -10,8 +10,8 @@ use image_frames::fault::Fault;
 use limits::Limits;
 use limits::range::byte_within;
 use limits::read::byte_at;
-use limits::read::octet_at;
 use limits::read::rest;
+use limits::read::u8_at;
 ghost use mathlib.Core.Path.{_≡_};
 ghost use Prim.Native.Nat.{_<_, _≤_, _-_, _+_};
 ghost use lib.ListN.{getD, drop};
@@ -38,7 +38,7 @@ pub fn begins_at(body: &[u8], point: usize) -> usize
     let mut at: usize = 0;
     let mut i: usize = 0;
     while i < point {
-        at += instruction_size(octet_at(body, at));
+        at += instruction_size(u8_at(body, at));
         i += 1;
     }
     at
@@ -50,7 +50,7 @@ pub fn begins_behind(body: &[u8], point: usize, at: usize) -> usize
     ensures { λ r. ⌜ r ≡ begins (drop 1 (now (body .entry))) (point + 1) ⌝ }
 {
     let l = rest(body, 1);
-    at + instruction_size(octet_at(l, at))
+    at + instruction_size(u8_at(l, at))
 }
 
 // The instruction at a point that begins there; where there is none, a branch to point 0.

@@ -11,7 +11,7 @@ use lib.Seq.{drop-drop, drop-length, getD-set-same, getD-set-other, set-getD}
 use lib.Dec.{leb, ltb, eqb}
 use borrow.Author.Tests.{leb-true, leb-false, ltb-true, ltb-false, eqb-true, eqb-false, lt-ltb, le-ltb, le-leb, lt-leb, eq-eqb, ne-eqb}
 use Rattle.limits.specs.Limits as Limits
-use Rattle.limits.specs.Numbers.{word}
+use Rattle.limits.specs.Numbers.{le16}
 use Rattle.image_frames.proofs.Branches.Walk.{long}
 use Rattle.image_frames.specs.Records.{body, cut, bodies, startOf}
 use Rattle.image_header.specs.Thread.{lastPoint, begins}
@@ -25,15 +25,15 @@ module _ (s : List ℕ) (p : ℕ) where
   unfolding nextStart
   next-past h = omega arith
 
-  pub next-over : (n : ℕ) → n ≡ word (drop p s) → length s - p < 2 → length s ≡ nextStart s p
+  pub next-over : (n : ℕ) → n ≡ le16 (drop p s) → length s - p < 2 → length s ≡ nextStart s p
   unfolding nextStart
   next-over n e h = omega arith
 
-  pub next-cut : (n : ℕ) → n ≡ word (drop p s) → length s - p - 2 < n → length s ≡ nextStart s p
+  pub next-cut : (n : ℕ) → n ≡ le16 (drop p s) → length s - p - 2 < n → length s ≡ nextStart s p
   unfolding nextStart
   next-cut n e h = omega arith
 
-  pub next-in : (n : ℕ) → n ≡ word (drop p s) → 2 ≤ length s - p → n ≤ length s - p - 2 → p + 2 + n ≡ nextStart s p
+  pub next-in : (n : ℕ) → n ≡ le16 (drop p s) → 2 ≤ length s - p → n ≤ length s - p - 2 → p + 2 + n ≡ nextStart s p
   unfolding nextStart
   next-in n e h g = omega arith
 
@@ -43,10 +43,10 @@ pub ruleset stepping = (next-past, next-over, next-cut, next-in)
 
 module _ (s : List ℕ) (p : ℕ) (r : List ℕ) where
   pub body-past : length s ≤ p → r ≡ take 0 (drop p s) → r ≡ body (drop p s)
-  unfolding body word
+  unfolding body le16
   body-past h e = rw (drop-of-length-le s h) e
 
-  module _ (n : ℕ) (e : n ≡ word (drop p s)) where
+  module _ (n : ℕ) (e : n ≡ le16 (drop p s)) where
     pub body-under : n < 2 → r ≡ take 0 (drop p s) → r ≡ body (drop p s)
     unfolding body
     body-under h d = let z : n - 2 ≡ 0 = omega arith in rw (← e, z) d
@@ -148,7 +148,7 @@ pub ruleset filling = (records-none, start-none, records-more, start-more, recor
 
 -- the first thread
 
-pub thread-is : (s : List ℕ) (p k : ℕ) → k ≡ word (drop (p + 2) s) → eqb k 3 ≡ isThread s p
+pub thread-is : (s : List ℕ) (p k : ℕ) → k ≡ le16 (drop (p + 2) s) → eqb k 3 ≡ isThread s p
 unfolding isThread
 thread-is s p k e = rw e
 

@@ -10,7 +10,7 @@ use lib.Seq.{drop-drop, drop-length, getD-set-same, getD-set-other}
 use lib.Dec.{leb, ltb, eqb}
 use borrow.Author.Tests.{leb-true, leb-false, ltb-true, ltb-false, eqb-true, eqb-false, lt-ltb, le-ltb}
 use Rattle.limits.specs.Limits as Limits
-use Rattle.limits.specs.Numbers.{word}
+use Rattle.limits.specs.Numbers.{le16}
 use Rattle.image_frames.specs.Records.{body, cut, bodies, startOf}
 use Rattle.image_header.specs.Thread.{lastPoint, begins, instructions, nothing}
 use Rattle.image_header.specs.declared.instruction.Instruction.{Instruction}
@@ -23,10 +23,10 @@ use Rattle.image_index.proofs.IndexBranches.{room-few, size-is, records
 
 skip : ℕ → List ℕ → List ℕ
 skip zero l = l
-skip (suc i) l = skip i (drop (2 + word l) l)
+skip (suc i) l = skip i (drop (2 + le16 l) l)
 
-word-nil : word [] ≡ 0
-unfolding word
+word-nil : le16 [] ≡ 0
+unfolding le16
 word-nil = refl
 
 skip-nil : (i : ℕ) → skip i [] ≡ []
@@ -34,10 +34,10 @@ unfolding skip
 skip-nil zero = refl
 skip-nil (suc i) = rw word-nil (skip-nil i)
 
-skip-suc : (i : ℕ) (l : List ℕ) → skip (suc i) l ≡ drop (2 + word (skip i l)) (skip i l)
+skip-suc : (i : ℕ) (l : List ℕ) → skip (suc i) l ≡ drop (2 + le16 (skip i l)) (skip i l)
 unfolding skip
 skip-suc zero l = refl
-skip-suc (suc i) l = skip-suc i (drop (2 + word l) l)
+skip-suc (suc i) l = skip-suc i (drop (2 + le16 l) l)
 
 drop-min : (s : List ℕ) (n : ℕ) → drop (min (length s) n) s ≡ drop n s
 drop-min s n = go (leb (length s) n) refl
@@ -56,11 +56,11 @@ start-skip : (s : List ℕ) (i : ℕ) → drop (startOf s i) s ≡ skip i s
 unfolding startOf skip
 start-skip s zero = refl
 start-skip s (suc i) =
-    let q : startOf s i + 2 + word (drop (startOf s i) s) ≡ startOf s i + (2 + word (drop (startOf s i) s)) = omega arith in
-    drop-min s _ ∙ (rw (q, ← drop-drop (2 + word (drop (startOf s i) s)) (startOf s i) s, start-skip s i) (sym (skip-suc i s)))
+    let q : startOf s i + 2 + le16 (drop (startOf s i) s) ≡ startOf s i + (2 + le16 (drop (startOf s i) s)) = omega arith in
+    drop-min s _ ∙ (rw (q, ← drop-drop (2 + le16 (drop (startOf s i) s)) (startOf s i) s, start-skip s i) (sym (skip-suc i s)))
 
 body-nil : body [] ≡ []
-unfolding body word
+unfolding body le16
 body-nil = refl
 
 cut-in : (k i : ℕ) (l : List ℕ) → i < k → getD (cut k l) i [] ≡ body (skip i l)
@@ -68,14 +68,14 @@ unfolding cut skip
 cut-in zero i l h = absurd (omega arith)
 cut-in (suc k) i [] h = sym (ap body (skip-nil i) ∙ body-nil)
 cut-in (suc k) zero (x ∷ l) h = refl
-cut-in (suc k) (suc i) (x ∷ l) h = cut-in k i (drop (2 + word (x ∷ l)) (x ∷ l)) (omega arith)
+cut-in (suc k) (suc i) (x ∷ l) h = cut-in k i (drop (2 + le16 (x ∷ l)) (x ∷ l)) (omega arith)
 
 cut-past : (k i : ℕ) (l : List ℕ) → k ≤ i → getD (cut k l) i [] ≡ []
 unfolding cut
 cut-past zero i l h = refl
 cut-past (suc k) i [] h = refl
 cut-past (suc k) zero (x ∷ l) h = absurd (omega arith)
-cut-past (suc k) (suc i) (x ∷ l) h = cut-past k i (drop (2 + word (x ∷ l)) (x ∷ l)) (omega arith)
+cut-past (suc k) (suc i) (x ∷ l) h = cut-past k i (drop (2 + le16 (x ∷ l)) (x ∷ l)) (omega arith)
 
 pub body-is : (s : List ℕ) (i : ℕ) → i < Limits.records → getD (bodies s) i [] ≡ body (drop (startOf s i) s)
 unfolding bodies

@@ -5,7 +5,7 @@ use Prim.Native.Nat.{ℕ, zero, suc, _+_, _-_, _*_, min}
 use lib.Dec.{eqb, ltb, leb}
 use lib.ListN.{length, drop, set, replicate}
 use Rattle.limits.specs.Limits as Limits
-use Rattle.limits.specs.Numbers.{word}
+use Rattle.limits.specs.Numbers.{le16}
 use Rattle.image_frames.specs.Records.{body, startOf}
 use Rattle.image_header.specs.Thread.{lastPoint, begins}
 use Rattle.image_index.specs.declared.starts.FirstThread.{FirstThread}
@@ -25,11 +25,11 @@ recordsTo s (suc i) = set (recordsTo s i) i (length s - startOf s i)
 
 -- the record behind the one at a position
 unfoldable pub nextStart : List ℕ → ℕ → ℕ
-nextStart s p = min (length s) (p + 2 + word (drop p s))
+nextStart s p = min (length s) (p + 2 + le16 (drop p s))
 
 -- the record at a position is a thread's
 unfoldable pub isThread : List ℕ → ℕ → Bool
-isThread s p = eqb (word (drop (p + 2) s)) 3
+isThread s p = eqb (le16 (drop (p + 2) s)) 3
 
 -- from record i on, at position p, the first of n records that is a thread's; where there is none, the one behind them or the image's end
 unfoldable pub firstFrom : List ℕ → ℕ → ℕ → ℕ → FirstThread

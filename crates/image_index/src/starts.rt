@@ -5,7 +5,7 @@ use image_frames::kind::Kind;
 use image_header::thread::begins_behind;
 use image_header::thread::last_point;
 use limits::Limits;
-use limits::read::word_at;
+use limits::read::u16_at;
 ghost use mathlib.Core.Path.{_≡_};
 ghost use Prim.Native.Nat.{_+_, _≤_, _<_, min};
 ghost use lib.ListN.{length};
@@ -23,7 +23,7 @@ fn is_thread(image: &[u8], at: usize) -> bool
     requires { ⌜ at < length (now image) ⌝ }
     ensures { λ r. ⌜ r ≡ isThread (now (image .entry)) at ⌝ }
 {
-    word_at(image, at + 2) == Kind::THREAD
+    u16_at(image, at + 2) == Kind::THREAD
 }
 
 // Of the first n records.

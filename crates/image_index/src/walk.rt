@@ -1,6 +1,6 @@
 // From record to record.
 use limits::read::part;
-use limits::read::word_at;
+use limits::read::u16_at;
 ghost use mathlib.Core.Path.{_≡_};
 ghost use lib.ListN.{drop};
 ghost use Rattle.image_frames.specs.Records.{body};
@@ -13,7 +13,7 @@ pub fn next_start(image: &[u8], at: usize) -> usize
     if image.len() <= at {
         return image.len();
     }
-    let n = word_at(image, at);
+    let n = u16_at(image, at);
     if image.len() - at < 2 {
         return image.len();
     }
@@ -30,7 +30,7 @@ pub fn body_at(image: &[u8], at: usize) -> &[u8]
     if image.len() <= at {
         return part(image, at, 0);
     }
-    let n = word_at(image, at);
+    let n = u16_at(image, at);
     if n < 2 {
         return part(image, at, 0);
     }

@@ -17,7 +17,7 @@ use Rattle.semantics.specs.Machine.{Program}
 use Rattle.logic.specs.Statement.{triple, pair, isBranch, isPair, admittedAt, admitted}
 use Rattle.semantics.proofs.Base.{and-both}
 use Rattle.limits.specs.Limits as Limits
-use Rattle.limits.specs.Numbers.{word, numbers, within, every}
+use Rattle.limits.specs.Numbers.{le16, numbers, within, every}
 use Rattle.limits.proofs.Numbers.{numbers-length}
 use Rattle.formula.specs.Codes as Codes
 use Rattle.formula.specs.Reader.{sortOf}
@@ -94,7 +94,7 @@ pub record Claimed (z : Sizes) (l : List (List ℕ)) (b : List ℕ) : Type 0 whe
   pub point : getD b 1 0 < pointCount z l (getD b 0 0)
   pub other : Within (z .threads) (getD b 2 0)
   pub beyond : getD b 3 0 < pointCount z l (getD b 2 0)
-  pub line : word (drop 4 b) ≤ z .lines
+  pub line : le16 (drop 4 b) ≤ z .lines
 
 point-in : (z : Sizes) (l : List (List ℕ)) (b : List ℕ) (i : ℕ) → pointThere z l b i ≡ true
     → Within (z .threads) (getD b i 0) × (getD b (i + 1) 0 < pointCount z l (getD b i 0))
@@ -108,14 +108,14 @@ pub claim-fine : (z : Sizes) (l : List (List ℕ)) → Checks z l → (i : ℕ) 
 unfolding claim claimed
 claim-fine z l c i m =
     let b : List ℕ = claimBody z l i in
-    let rest : Bool = different b && within 0 (z .lines) (word (drop 4 b)) in
+    let rest : Bool = different b && within 0 (z .lines) (le16 (drop 4 b)) in
     let e = unless-passed _ _ _ (unless-passed _ _ _ (claim-passed z l c i m) .1) .0 in
     let h = and-true (pointThere z l b 0) (pointThere z l b 2 && rest) e in
     let g = and-true (pointThere z l b 2) rest (h .1) in
-    let f = and-true (different b) (within 0 (z .lines) (word (drop 4 b))) (g .1) in
+    let f = and-true (different b) (within 0 (z .lines) (le16 (drop 4 b))) (g .1) in
     let p = point-in z l b 0 (h .0) in
     let q = point-in z l b 2 (g .0) in
-    record { thread = p .0; point = p .1; other = q .0; beyond = q .1; line = within-true 0 (z .lines) (word (drop 4 b)) (f .1) .1 }
+    record { thread = p .0; point = p .1; other = q .0; beyond = q .1; line = within-true 0 (z .lines) (le16 (drop 4 b)) (f .1) .1 }
 
 module _ (z : Sizes) (l : List (List ℕ)) (c : Checks z l) (n : ℕ) (low : 1 ≤ n) (high : n ≤ z .lines) where
   abbrev P : Program

@@ -18,7 +18,7 @@ use Rattle.image_header.specs.declared.instruction.Instruction.{Instruction}
 use Rattle.image_header.specs.Thread.{lastPoint, instructions, nothing}
 use Rattle.image_header.proofs.ThreadBranches.{instructions-length}
 use Rattle.image_bodies.specs.RecordPlaces.{threadBody, instructionOf}
-use Rattle.image_bodies.specs.PointCounts.{isBranch, branches, threadTally, tallyTo, tally, obligationCount}
+use Rattle.image_bodies.specs.PointCounts.{isBranch, branches, threadCounts, pointCountsTo, pointCounts, obligationCount}
 use Rattle.image_meaning.specs.Program.{instr, pointCount, programOf}
 use Rattle.image_meaning.specs.Image.{imageOf}
 use Rattle.image_meaning.proofs.Sums.{sum, sum-same, sum-front, sum-const, but, sum-cross, Additive, lengths, parts-below, flat-below, flat-upTo, below-length}
@@ -61,7 +61,7 @@ action-sum (i ∷ is) =
     let c = branches-small is in
     omega arith
 
--- over the threads: what each adds to the tally
+-- over the threads: what each adds to the pointCounts
 
 module _ (z : Sizes) (l : List (List ℕ)) where
   abbrev pub body : ℕ → List ℕ
@@ -76,23 +76,23 @@ module _ (z : Sizes) (l : List (List ℕ)) where
   abbrev actionsOf : ℕ → ℕ
   actionsOf u = lastPoint (body u) - branches (instructions (body u))
 
-  pub tally-points : (n : ℕ) → tallyTo z l n .points ≡ sum pointsOf n
-  unfolding tallyTo threadTally sum pointCount
+  pub tally-points : (n : ℕ) → pointCountsTo z l n .points ≡ sum pointsOf n
+  unfolding pointCountsTo threadCounts sum pointCount
   tally-points zero = refl
   tally-points (suc n) = ap (λ (k : ℕ). k + pointsOf n) (tally-points n)
 
-  tally-steps : (n : ℕ) → tallyTo z l n .steps ≡ sum stepsOf n
-  unfolding tallyTo threadTally sum
+  tally-steps : (n : ℕ) → pointCountsTo z l n .steps ≡ sum stepsOf n
+  unfolding pointCountsTo threadCounts sum
   tally-steps zero = refl
   tally-steps (suc n) = ap (λ (k : ℕ). k + stepsOf n) (tally-steps n)
 
-  tally-actions : (n : ℕ) → tallyTo z l n .actions ≡ sum actionsOf n
-  unfolding tallyTo threadTally sum
+  tally-actions : (n : ℕ) → pointCountsTo z l n .actions ≡ sum actionsOf n
+  unfolding pointCountsTo threadCounts sum
   tally-actions zero = refl
   tally-actions (suc n) = ap (λ (k : ℕ). k + actionsOf n) (tally-actions n)
 
-  tally-own : (n : ℕ) → tallyTo z l n .own ≡ sum (λ u. pointsOf u * actionsOf u) n
-  unfolding tallyTo threadTally sum pointCount
+  tally-own : (n : ℕ) → pointCountsTo z l n .own ≡ sum (λ u. pointsOf u * actionsOf u) n
+  unfolding pointCountsTo threadCounts sum pointCount
   tally-own zero = refl
   tally-own (suc n) = ap (λ (k : ℕ). k + pointsOf n * actionsOf n) (tally-own n)
 
@@ -162,8 +162,8 @@ module _ (z : Sizes) (l : List (List ℕ)) where
       let c = below-length (z .threads) in
       omega arith
 
-  steps-length : length (steps P) ≡ tally z l .steps
-  unfolding tally
+  steps-length : length (steps P) ≡ pointCounts z l .steps
+  unfolding pointCounts
   steps-length =
       flat-upTo (λ t. flat (λ k. own P t k (P .code t k)) (instructed P t)) (z .threads)
       ∙ sum-same (λ u. length (flat (λ k. own P (suc u) k (P .code (suc u) k)) (instructed P (suc u)))) (stepsOf z l) (z .threads)
@@ -185,15 +185,15 @@ module _ (z : Sizes) (l : List (List ℕ)) where
       ∙ sum-const (sum (but u (actionsOf z l)) (z .threads)) (pointsOf z l u)
 
   -- class 4 is counted by the asserting side, as many in the one order as in the other
-  former-length : length (formerly P) ≡ tally z l .points * tally z l .actions - tally z l .own
-  unfolding tally
+  former-length : length (formerly P) ≡ pointCounts z l .points * pointCounts z l .actions - pointCounts z l .own
+  unfolding pointCounts
   former-length =
       flat-upTo (λ u. flat (λ j. flat (λ t. actions P u j t) (upTo (z .threads))) (below (P .points u))) (z .threads)
       ∙ sum-same _ (λ u. pointsOf z l u * sum (but u (actionsOf z l)) (z .threads)) (z .threads) (λ u b. thread-length u)
       ∙ sum-cross (pointsOf z l) (actionsOf z l) (z .threads)
       ∙ rw (tally-points z l (z .threads), tally-actions z l (z .threads), tally-own z l (z .threads))
 
-  interferences-length : length (interferences P) ≡ tally z l .points * tally z l .actions - tally z l .own
+  interferences-length : length (interferences P) ≡ pointCounts z l .points * pointCounts z l .actions - pointCounts z l .own
   interferences-length = sym (reordered-length (formerly P) (interferences P) (reordered P)) ∙ former-length
 
   pub count-is : obligationCount z l ≡ length (obligations (imageOf z l .program))

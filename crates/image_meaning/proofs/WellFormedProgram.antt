@@ -33,7 +33,7 @@ use Rattle.image_header.proofs.HeaderBranches.{counted-in}
 use Rattle.image_header.proofs.ThreadBranches.{instructions-length}
 use Rattle.image_bodies.specs.RecordPlaces.{threadBody}
 use Rattle.image_bodies.specs.NumberList.{exactly}
-use Rattle.image_bodies.specs.PointCounts.{tallyTo, tally}
+use Rattle.image_bodies.specs.PointCounts.{pointCountsTo, pointCounts}
 use Rattle.formula_compare.specs.Occurs.{occurs, register}
 use Rattle.image_bodies.specs.FormulaUse.{treeOf, startless, plain, outlined, plainOf}
 use Rattle.image_bodies.specs.ThreadBody.{wanted, formulaSorted, sorted, resultAbsent, threadRegisters, thread}
@@ -300,7 +300,7 @@ module _ (z : Sizes) (l : List (List ℕ)) (c : Checks z l) where
   -- the outline
 
   abbrev outlineNumbers : List ℕ
-  outlineNumbers = numbers (tally z l .points) (outlineBody z l)
+  outlineNumbers = numbers (pointCounts z l .points) (outlineBody z l)
 
   outline-numbered : every (within 1 (z .formulas)) outlineNumbers ≡ true
   unfolding outline exactly
@@ -311,13 +311,13 @@ module _ (z : Sizes) (l : List (List ℕ)) (c : Checks z l) where
   outline-sorted = unless-passed _ _ _ (also-passed _ _ (outline-passed z l c) .1) .0
 
   -- each point has a number of its own thread's
-  outline-there : (t k : ℕ) → Within (z .threads) t → k < P .points t → tallyTo z l (t - 1) .points + k < length outlineNumbers
-  unfolding tally
+  outline-there : (t k : ℕ) → Within (z .threads) t → k < P .points t → pointCountsTo z l (t - 1) .points + k < length outlineNumbers
+  unfolding pointCounts
   outline-there zero k w b = absurd (omega (arith, w .0))
   outline-there (suc u) k w b =
       let q : suc u - 1 ≡ u = omega arith in
       let h = sum-part (pointsOf z l) (z .threads) u (omega (arith, w .1)) in
-      let n = numbers-length (tally z l .points) (outlineBody z l) in
+      let n = numbers-length (pointCounts z l .points) (outlineBody z l) in
       let e = tally-points z l u in
       let d = tally-points z l (z .threads) in
       rw q (omega arith)
@@ -330,20 +330,20 @@ module _ (z : Sizes) (l : List (List ℕ)) (c : Checks z l) where
 
   -- the formula of a point: it is there, and is an assertion without start
   module _ (t k : ℕ) (w : Within (z .threads) t) (b : k < P .points t) where
-    number-is : outlineNumber z l t k ≡ getD outlineNumbers (tallyTo z l (t - 1) .points + k) 0
+    number-is : outlineNumber z l t k ≡ getD outlineNumbers (pointCountsTo z l (t - 1) .points + k) 0
     unfolding outlineNumber
     number-is = let q : t ≡ 0 → ⊥ = omega (arith, w .0) in rw (ne-eqb t 0 q, le-ltb (z .threads) t (w .1))
 
     pub outline-range : (1 ≤ outlineNumber z l t k) × (outlineNumber z l t k ≤ z .formulas)
     outline-range =
         within-true 1 (z .formulas) (outlineNumber z l t k)
-        (rw number-is (every-at (within 1 (z .formulas)) outlineNumbers (tallyTo z l (t - 1) .points + k) 0 outline-numbered
+        (rw number-is (every-at (within 1 (z .formulas)) outlineNumbers (pointCountsTo z l (t - 1) .points + k) 0 outline-numbered
         (outline-there t k w b)))
 
     pub outline-fine : (sortOf (getD l (outlineNumber z l t k) []) ≡ Codes.assertion)
         × (startless (getD l (outlineNumber z l t k) []) ≡ true)
     outline-fine = outlined-fine (outlineNumber z l t k)
-        (rw number-is (every-at (outlinedAt l) outlineNumbers (tallyTo z l (t - 1) .points + k) 0 outline-sorted (outline-there t k w b)))
+        (rw number-is (every-at (outlinedAt l) outlineNumbers (pointCountsTo z l (t - 1) .points + k) 0 outline-sorted (outline-there t k w b)))
 
     outline-startless : T (Names.startless (outlineOf z l t k))
     outline-startless = assertion-startless z l c (outlineNumber z l t k) (outline-range .0) (outline-range .1) (outline-fine .0)

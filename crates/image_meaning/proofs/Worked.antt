@@ -6,7 +6,7 @@ use Prim.Native.Nat.{ℕ}
 use Rattle.semantics.specs.Formula.{Sort}
 use Rattle.semantics.specs.Machine.{Mode.store, Mode.swap, Mode.exchange, Mode.fetchAdd, Access.none, Access.load, Access.write, Instr, Instr.act, Instr.branch}
 use Rattle.logic.specs.Statement.{Statement, inside, implies, triple, taking}
-use Rattle.limits.specs.Numbers.{word}
+use Rattle.limits.specs.Numbers.{le16}
 use Rattle.image_header.specs.declared.sizes.Sizes.{Sizes}
 use Rattle.image_header.specs.declared.instruction.Half.{Half}
 use Rattle.image_bodies.specs.declared.line.Form.the-variants.{Triple, Implication, Inclusion, Pair}
@@ -42,18 +42,18 @@ module _ (z : Sizes) (l : List (List ℕ)) (rule : ℕ) where
   body = rule ∷ 2 ∷ 7 ∷ 1 ∷ 3 ∷ 4 ∷ 5 ∷ 0 ∷ []
 
   said-triple : saying z l Triple body ≡ triple 2 7 (formula l Sort.assertion 769) (formula l Sort.assertion 1284)
-  unfolding saying word
+  unfolding saying le16
   said-triple = refl
 
   said-pair : saying z l Pair body
       ≡ taking 2 7 (programOf z l .code 2 7) (formula l Sort.assertion 769) (formula l Sort.assertion 1284)
-  unfolding saying word
+  unfolding saying le16
   said-pair = refl
 
   said-implication : saying z l Implication body ≡ implies (formula l Sort.assertion 769) (formula l Sort.assertion 1284)
-  unfolding saying word
+  unfolding saying le16
   said-implication = refl
 
   said-inclusion : saying z l Inclusion body ≡ inside (formula l Sort.interval 769) (formula l Sort.interval 1284)
-  unfolding saying word
+  unfolding saying le16
   said-inclusion = refl

@@ -4,7 +4,7 @@ use Prim.Native.Nat.{ℕ, _+_}
 use lib.ListN.{getD, drop}
 use Rattle.semantics.specs.Formula.{Sort}
 use Rattle.logic.specs.Statement.{Statement, inside, implies, triple, taking}
-use Rattle.limits.specs.Numbers.{word}
+use Rattle.limits.specs.Numbers.{le16}
 use Rattle.image_header.specs.declared.sizes.Sizes.{Sizes}
 use Rattle.image_bodies.specs.declared.line.Form.{Form}
 use Rattle.image_bodies.specs.declared.line.Form.the-variants.{Triple, Implication, Inclusion, Pair, Unlisted}
@@ -16,10 +16,10 @@ use Rattle.image_meaning.specs.Program.{programOf}
 
 -- the numbers of a line's left and right formula
 abbrev pub left : List ℕ → ℕ
-left b = word (drop 3 b)
+left b = le16 (drop 3 b)
 
 abbrev pub right : List ℕ → ℕ
-right b = word (drop 5 b)
+right b = le16 (drop 5 b)
 
 module _ (z : Sizes) (l : List (List ℕ)) where
   -- what a line of a form says: a triple is about the first half of a pair, a line of rule 50 about the whole, where there is one;

@@ -2,7 +2,7 @@
 use mathlib.Core.List.{List, []}
 use Prim.Native.Nat.{ℕ, _+_}
 use lib.ListN.{getD, drop}
-use Rattle.limits.specs.Numbers.{word, numbers}
+use Rattle.limits.specs.Numbers.{le16, numbers}
 use Rattle.image_frames.specs.declared.fault.Fault.{Fault}
 use Rattle.image_frames.specs.Records.{bodies}
 use Rattle.image_header.specs.declared.sizes.Sizes.{Sizes}
@@ -37,7 +37,7 @@ module _ (z : Sizes) (l : List (List ℕ)) where
   claimBody i = getD l (z .formulas + z .threads + 1 + z .lines + 2 + i) []
 
   abbrev pub claimsOf : Claims
-  claimsOf = record { count = z .claims; claim = λ i. claimIn (claimBody i); line = λ i. word (drop 4 (claimBody i)); place = claimPlace z }
+  claimsOf = record { count = z .claims; claim = λ i. claimIn (claimBody i); line = λ i. le16 (drop 4 (claimBody i)); place = claimPlace z }
 
   abbrev pub imageOf : Image
   imageOf = record {

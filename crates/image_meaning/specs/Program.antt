@@ -16,7 +16,7 @@ use Rattle.image_header.specs.declared.instruction.Instruction.{Instruction}
 use Rattle.image_header.specs.Header.{startValues, cleared, valueRange}
 use Rattle.image_header.specs.Thread.{lastPoint}
 use Rattle.image_bodies.specs.RecordPlaces.{threadBody, instructionOf}
-use Rattle.image_bodies.specs.PointCounts.{tallyTo, tally}
+use Rattle.image_bodies.specs.PointCounts.{pointCountsTo, pointCounts}
 use Rattle.image_meaning.specs.Formulas.{formula}
 
 -- a register and what it is given
@@ -77,7 +77,7 @@ module _ (z : Sizes) (l : List (List ℕ)) where
   outlineNumber t k =
       cond (eqb t 0) 0
       (cond (ltb (z .threads) t) 0
-      (getD (numbers (tally z l .points) outlineBody) (tallyTo z l (t - 1) .points + k) 0))
+      (getD (numbers (pointCounts z l .points) outlineBody) (pointCountsTo z l (t - 1) .points + k) 0))
 
   abbrev pub outlineOf : Outline
   outlineOf t k = formula l Sort.assertion (outlineNumber t k)

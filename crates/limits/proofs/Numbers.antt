@@ -8,17 +8,17 @@ use native.Mathlib.Numerals.{add-one, sub-one}
 use native.Mathlib.Omega.{arith}
 use lib.ListN.{length, getD, drop, take, drop-of-length-le, length-drop, List·getD-eq-default}
 use lib.Seq.{getD-drop, drop-drop, drop-cons, take-nil, take-all}
-use Rattle.limits.specs.Numbers.{word, has, numbers, within, every, nth}
+use Rattle.limits.specs.Numbers.{le16, has, numbers, within, every, nth}
 
 pub byte-past : (s : List ℕ) (at : ℕ) → length s ≤ at → 0 ≡ getD s at 0
 byte-past s at h = sym (List·getD-eq-default s 0 h)
 
-pub word-past : (s : List ℕ) (at : ℕ) → length s ≤ at → 0 ≡ word (drop at s)
-unfolding word
+pub word-past : (s : List ℕ) (at : ℕ) → length s ≤ at → 0 ≡ le16 (drop at s)
+unfolding le16
 word-past s at h = rw (drop-of-length-le s h)
 
-pub word-in : (s : List ℕ) (at a b : ℕ) → a ≡ getD s at 0 → b ≡ getD s (at + 1) 0 → a + 256 * b ≡ word (drop at s)
-unfolding word
+pub word-in : (s : List ℕ) (at a b : ℕ) → a ≡ getD s at 0 → b ≡ getD s (at + 1) 0 → a + 256 * b ≡ le16 (drop at s)
+unfolding le16
 word-in s at a b ea eb = rw (ea, eb, getD-drop at s 0 0, getD-drop at s 1 0, add-zero at)
 
 module _ (s : List ℕ) (from n : ℕ) where
@@ -76,7 +76,7 @@ unfolding numbers
 numbers-length zero l = refl
 numbers-length (suc n) l = ap suc (numbers-length n (drop 2 l))
 
-numbers-at : (n : ℕ) (l : List ℕ) (j : ℕ) → j < n → getD (numbers n l) j 0 ≡ word (drop (2 * j) l)
+numbers-at : (n : ℕ) (l : List ℕ) (j : ℕ) → j < n → getD (numbers n l) j 0 ≡ le16 (drop (2 * j) l)
 unfolding numbers
 numbers-at zero l j h = absurd (omega arith)
 numbers-at (suc n) l zero h = refl
@@ -88,10 +88,10 @@ pub number-past : (n : ℕ) (l : List ℕ) (j : ℕ) → n ≤ j → 0 ≡ getD 
 number-past n l j h = sym (List·getD-eq-default (numbers n l) 0 (rw (numbers-length n l) h))
 
 pub number-none : (n : ℕ) (l : List ℕ) (j : ℕ) → j < n → length l ≤ j → 0 ≡ getD (numbers n l) j 0
-unfolding word
+unfolding le16
 number-none n l j h g = let q : length l ≤ 2 * j = omega arith in rw (numbers-at n l j h, drop-of-length-le l q)
 
-pub number-in : (n : ℕ) (l : List ℕ) (j r : ℕ) → j < n → r ≡ word (drop (2 * j) l) → r ≡ getD (numbers n l) j 0
+pub number-in : (n : ℕ) (l : List ℕ) (j r : ℕ) → j < n → r ≡ le16 (drop (2 * j) l) → r ≡ getD (numbers n l) j 0
 number-in n l j r h e = e ∙ sym (numbers-at n l j h)
 
 pub ruleset numbering = (number-past, number-none, number-in)

@@ -5,9 +5,9 @@ use Prim.Native.Nat.{ℕ, zero, suc, _+_, _*_}
 use lib.Dec.{leb}
 use lib.ListN.{getD, drop}
 
--- the 16-bit number in front, little-endian
-unfoldable pub word : List ℕ → ℕ
-word l = getD l 0 0 + 256 * getD l 1 0
+-- the 16-bit number in front, little-endian (le16)
+unfoldable pub le16 : List ℕ → ℕ
+le16 l = getD l 0 0 + 256 * getD l 1 0
 
 -- there are n bytes
 unfoldable pub has : ℕ → List ℕ → Bool
@@ -18,7 +18,7 @@ has (suc n) (x ∷ l) = has n l
 -- 16-bit numbers, n of them
 unfoldable pub numbers : ℕ → List ℕ → List ℕ
 numbers zero l = []
-numbers (suc n) l = word l ∷ numbers n (drop 2 l)
+numbers (suc n) l = le16 l ∷ numbers n (drop 2 l)
 
 -- from lo to hi
 unfoldable pub within : ℕ → ℕ → ℕ → Bool

@@ -1,10 +1,10 @@
 // Numbers from a least to a greatest one.
 use crate::read::byte_at;
 use crate::read::number_at;
-use crate::read::word_at;
+use crate::read::u16_at;
 ghost use mathlib.Core.Path.{_≡_};
 ghost use lib.ListN.{getD, drop};
-ghost use Rattle.limits.specs.Numbers.{word, numbers, within, every};
+ghost use Rattle.limits.specs.Numbers.{le16, numbers, within, every};
 
 pub fn in_range(number: usize, low: usize, high: usize) -> bool
     ensures { λ r. ⌜ r ≡ within low high number ⌝ }
@@ -27,10 +27,10 @@ pub fn byte_within(bytes: &[u8], at: usize, low: usize, high: usize) -> bool
 }
 
 // The 16-bit number at a position is in the range.
-pub fn word_within(bytes: &[u8], at: usize, low: usize, high: usize) -> bool
-    ensures { λ r. ⌜ r ≡ within low high (word (drop at (now (bytes .entry)))) ⌝ }
+pub fn u16_within(bytes: &[u8], at: usize, low: usize, high: usize) -> bool
+    ensures { λ r. ⌜ r ≡ within low high (le16 (drop at (now (bytes .entry)))) ⌝ }
 {
-    let x = word_at(bytes, at);
+    let x = u16_at(bytes, at);
     in_range(x, low, high)
 }
 

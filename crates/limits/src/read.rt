@@ -5,7 +5,7 @@
 ghost use mathlib.Core.Path.{_≡_};
 ghost use Prim.Native.Nat.{_<_};
 ghost use lib.ListN.{getD, take, drop};
-ghost use Rattle.limits.specs.Numbers.{word, numbers, nth};
+ghost use Rattle.limits.specs.Numbers.{le16, numbers, nth};
 
 // A byte as a number that sums may take further.
 fn wide(byte: u8) -> usize
@@ -15,7 +15,7 @@ fn wide(byte: u8) -> usize
 }
 
 // The byte at a position.
-pub fn octet_at(bytes: &[u8], at: usize) -> u8
+pub fn u8_at(bytes: &[u8], at: usize) -> u8
     ensures { λ r. ⌜ r ≡ getD (now (bytes .entry)) at 0 ⌝ }
 {
     if bytes.len() <= at {
@@ -28,12 +28,12 @@ pub fn octet_at(bytes: &[u8], at: usize) -> u8
 pub fn byte_at(bytes: &[u8], at: usize) -> usize
     ensures { λ r. ⌜ (r ≡ getD (now (bytes .entry)) at 0) × (r < 256) ⌝ }
 {
-    wide(octet_at(bytes, at))
+    wide(u8_at(bytes, at))
 }
 
 // The 16-bit number at a position.
-pub fn word_at(bytes: &[u8], at: usize) -> usize
-    ensures { λ r. ⌜ (r ≡ word (drop at (now (bytes .entry)))) × (r < 65536) ⌝ }
+pub fn u16_at(bytes: &[u8], at: usize) -> usize
+    ensures { λ r. ⌜ (r ≡ le16 (drop at (now (bytes .entry)))) × (r < 65536) ⌝ }
 {
     if bytes.len() <= at {
         return 0;
@@ -82,5 +82,5 @@ pub fn number_at(bytes: &[u8], n: usize, i: usize) -> usize
     if bytes.len() <= i {
         return 0;
     }
-    word_at(bytes, 2 * i)
+    u16_at(bytes, 2 * i)
 }

@@ -21,7 +21,7 @@ use Rattle.logic.specs.Claims.{NeverBoth}
 use Rattle.logic.proofs.Runs.{every-run, never-both}
 use Rattle.logic_outline.specs.Lines.{marked, Justified}
 use Rattle.logic_outline.proofs.Marks.{marked-justified, justified-marked, justified-derived}
-use Rattle.logic_outline.specs.Verdict.{Image, Outcome, met, failed, codeOf, asks, lineCode, code, judge, outcome, Bears, Met, AllMet, Finding, accepted, unmet, denied, forbids, sustained, judgeClaims, behindObligations, finding, Admitted}
+use Rattle.logic_outline.specs.Verdict.{Image, Judgement, met, failed, codeOf, asks, lineCode, code, judge, judgement, Bears, Met, AllMet, Finding, accepted, unmet, denied, forbids, sustained, judgeClaims, behindObligations, finding, Admitted}
 use Rattle.logic_outline.specs.Judged.{Sustains, EachSustained}
 
 module _ (D : Image) where
@@ -54,7 +54,7 @@ module _ (D : Image) where
             (justified-marked (D .program) (D .certificate) (record { lower = A .lower }) n (m .just)),
       )
 
-  abbrev Step : ℕ → Obligation → List Obligation → ℕ → Bool → Outcome
+  abbrev Step : ℕ → Obligation → List Obligation → ℕ → Bool → Judgement
   Step c o os m b = elim b [ true ↦ judge D os (suc m) | false ↦ failed c o (D .named m) m ]
 
   pub judge-met : (os : List Obligation) (m d : ℕ) → judge D os m ≡ met d → AllMet D os m × (d ≡ m + length os)
@@ -140,20 +140,20 @@ module _ (D : Image) where
       (bears-derived A (asks D o) (D .named m) (h .0), all-derived A os (suc m) (h .1))
 
 -- DEMAND 3: if every obligation is met, the outline is true in every run
-pub accepted-sound : (D : Image) → Admitted D → (d : ℕ) → outcome D ≡ met d → EveryRun (D .program) (D .outline)
+pub accepted-sound : (D : Image) → Admitted D → (d : ℕ) → judgement D ≡ met d → EveryRun (D .program) (D .outline)
 accepted-sound D A d e = every-run (D .program) (D .outline) (A .program)
     (all-derived D A (obligations (D .program)) 0 (judge-met D (obligations (D .program)) 0 d e .0))
 
 -- DEMAND 2: accepted exactly if each obligation is met by its line, and then all are counted
-pub accepted-met : (D : Image) (d : ℕ) → outcome D ≡ met d → AllMet D (obligations (D .program)) 0 × (d ≡ length (obligations (D .program)))
+pub accepted-met : (D : Image) (d : ℕ) → judgement D ≡ met d → AllMet D (obligations (D .program)) 0 × (d ≡ length (obligations (D .program)))
 accepted-met D d e = let r = judge-met D (obligations (D .program)) 0 d e in (r .0, omega (arith, r .1))
 
-pub met-accepted : (D : Image) → Admitted D → AllMet D (obligations (D .program)) 0 → outcome D ≡ met (length (obligations (D .program)))
+pub met-accepted : (D : Image) → Admitted D → AllMet D (obligations (D .program)) 0 → judgement D ≡ met (length (obligations (D .program)))
 met-accepted D A h = met-judge D A (obligations (D .program)) 0 h
     ∙ ap met (let q : 0 + length (obligations (D .program)) ≡ length (obligations (D .program)) = omega arith in q)
 
 -- else the first that is not met
-pub failed-first : (D : Image) (c : ℕ) (o : Obligation) (n k : ℕ) → outcome D ≡ failed c o n k
+pub failed-first : (D : Image) (c : ℕ) (o : Obligation) (n k : ℕ) → judgement D ≡ failed c o n k
     → First D (obligations (D .program)) 0 c o n k
 failed-first D = judge-failed D (obligations (D .program)) 0
 
@@ -228,19 +228,19 @@ module _ (D : Image) where
           }
 
   -- what an accepted image has: every obligation met and counted, every claim sustained
-  pub accepted-all : (d : ℕ) → finding D ≡ accepted d → (outcome D ≡ met d) × EachSustained D
-  accepted-all d e = go (outcome D) refl e
+  pub accepted-all : (d : ℕ) → finding D ≡ accepted d → (judgement D ≡ met d) × EachSustained D
+  accepted-all d e = go (judgement D) refl e
     where
-      go : (o : Outcome) → outcome D ≡ o → behindObligations D o ≡ accepted d → (outcome D ≡ met d) × EachSustained D
+      go : (o : Judgement) → judgement D ≡ o → behindObligations D o ≡ accepted d → (judgement D ≡ met d) × EachSustained D
       go (met m) p e =
           let r = claims-accepted (D .claims .count) 0 m d e in
           (p ∙ ap met (r .0), λ i b. r .1 i (omega arith) (omega arith))
       go (failed c o l m) p e = let z : _≡_ {A = ℕ} 0 1 = cc in absurd (omega arith)
 
-  pub all-accepted : Admitted D → (d : ℕ) → outcome D ≡ met d → EachSustained D → finding D ≡ accepted d
+  pub all-accepted : Admitted D → (d : ℕ) → judgement D ≡ met d → EachSustained D → finding D ≡ accepted d
   all-accepted A d e h = ap (behindObligations D) e ∙ sustained-accepted A (D .claims .count) 0 d (λ j a b. h j (omega arith))
 
-  pub denied-first : Admitted D → (m k d : ℕ) → outcome D ≡ met m → finding D ≡ denied k d → FirstDenied (D .claims .count) 0 m k d
+  pub denied-first : Admitted D → (m k d : ℕ) → judgement D ≡ met m → finding D ≡ denied k d → FirstDenied (D .claims .count) 0 m k d
   denied-first A m k d p e = claims-denied A (D .claims .count) 0 m k d (sym (ap (behindObligations D) p) ∙ e)
 
   -- THE CLAIMS of an accepted image: in no run are both threads at their points

@@ -1,4 +1,4 @@
--- Demand 2: the outcome of an image whose bytes are sound is the one that the mission describes, and no other.
+-- Demand 2: the judgement of an image whose bytes are sound is the one that the mission describes, and no other.
 use mathlib.Core.Path.{_≡_, refl, ap, sym, _∙_, subst}
 use mathlib.Core.Bool.{Bool, true, false, true≢false}
 use mathlib.Core.List.{List, [], _∷_}
@@ -16,7 +16,7 @@ use Rattle.semantics.proofs.Base.{is-true, holds-true}
 use Rattle.logic_schemas.proofs.Fit.{statement-eq, statement-refl}
 use Rattle.logic_outline.specs.Lines.{marked}
 use Rattle.logic_outline.proofs.Marks.{justified-marked}
-use Rattle.logic_outline.specs.Verdict.{Image, Outcome, met, failed, codeOf, asks, lineCode, code, outcome, Met, AllMet, Finding, accepted, unmet, denied, sustained, judgeClaims, behindObligations, finding, Admitted}
+use Rattle.logic_outline.specs.Verdict.{Image, Judgement, met, failed, codeOf, asks, lineCode, code, judgement, Met, AllMet, Finding, accepted, unmet, denied, sustained, judgeClaims, behindObligations, finding, Admitted}
 use Rattle.logic_outline.specs.Judged.{total, numbered, Meets, EachMet, Lacks, no-line, other-statement, not-justified, EachSustained, Judged, each-met, first-unmet, first-denied}
 use Rattle.logic_outline.proofs.Accept.{First, accepted-met, met-accepted, failed-first, accepted-all, all-accepted, denied-first}
 
@@ -94,12 +94,12 @@ module _ (D : Image) where
 
   -- DEMAND 2
   pub finding-judged : Admitted D → Judged D (finding D)
-  finding-judged A = go (outcome D) refl (finding D) refl
+  finding-judged A = go (judgement D) refl (finding D) refl
     where
-      met-each : (d : ℕ) → outcome D ≡ met d → (d ≡ total D) × EachMet D
+      met-each : (d : ℕ) → judgement D ≡ met d → (d ≡ total D) × EachMet D
       met-each d e = let r = accepted-met D d e in (r .1, all-each (obligations (D .program)) (r .0))
 
-      go : (o : Outcome) → outcome D ≡ o → (f : Finding) → finding D ≡ f → Judged D f
+      go : (o : Judgement) → judgement D ≡ o → (f : Finding) → finding D ≡ f → Judged D f
       go (met d) e (accepted n) q =
           let r = accepted-all D n q in
           let h = met-each n (r .0) in

@@ -9,9 +9,9 @@ use lib.ListN.{length}
 use Rattle.semantics.specs.Machine.{Program}
 use Rattle.logic.specs.Obligations.{Obligation, starts, steps, interferences, obligations}
 use Rattle.logic.proofs.Order.{formerly, all-formerly, allMet, moved, moved-alike}
-use Rattle.logic_outline.specs.Verdict.{Image, Outcome, met, failed, lineCode, code, judge, outcome}
+use Rattle.logic_outline.specs.Verdict.{Image, Judgement, met, failed, lineCode, code, judge, judgement}
 
-abbrev pub isMet : Outcome → Bool
+abbrev pub isMet : Judgement → Bool
 isMet (met n) = true
 isMet (failed c o n k) = false
 
@@ -53,7 +53,7 @@ module _ (D : Image) where
   judged-met (o ∷ os) m = go (eqb (code D o (D .named m)) 0) (judged-met os (suc m))
     where
       go : (b : Bool) → isMet (judge D os (suc m)) ≡ allMet meets os (lines os (suc m))
-          → isMet (elim b as (λ x. Outcome) [ true ↦ judge D os (suc m) | false ↦ failed (code D o (D .named m)) o (D .named m) m ])
+          → isMet (elim b as (λ x. Judgement) [ true ↦ judge D os (suc m) | false ↦ failed (code D o (D .named m)) o (D .named m) m ])
           ≡ b && allMet meets os (lines os (suc m))
       go true h = h
       go false h = refl
@@ -86,7 +86,7 @@ module _ (D : Image) (named : ℕ → ℕ) where
   whole = lines-length D (formerly P) (length first)
 
   module _ (stay : lines E first 0 ≡ lines D first 0) (move : lines E (interferences P) (length first) ≡ moved P former whole) where
-    pub moved-accepted : isMet (judge D (all-formerly P) 0) ≡ isMet (outcome E)
+    pub moved-accepted : isMet (judge D (all-formerly P) 0) ≡ isMet (judgement E)
     unfolding lineCode all-formerly
     moved-accepted =
         ap (λ (os : List Obligation). isMet (judge D os 0)) (sym (append-assoc (starts P) (steps P) (formerly P)))

@@ -33,9 +33,9 @@ pub record Image : Type 0 where
   pub claims : Claims
 
 -- met with so many before it; or, of the first that is not met: the code, the obligation, its line, how many are met before it
-pub data Outcome : Type 0 where
-  met : ℕ → Outcome
-  failed : ℕ → Obligation → ℕ → ℕ → Outcome
+pub data Judgement : Type 0 where
+  met : ℕ → Judgement
+  failed : ℕ → Obligation → ℕ → ℕ → Judgement
 
 -- 20 no line; 21 the line concludes something else; 22 it is unjustified
 abbrev pub codeOf : Bool → Bool → Bool → ℕ
@@ -57,12 +57,12 @@ module _ (D : Image) where
   code o n = lineCode (asks o) n
 
   -- the obligations from number m on
-  unfoldable pub judge : List Obligation → ℕ → Outcome
+  unfoldable pub judge : List Obligation → ℕ → Judgement
   judge [] m = met m
   judge (o ∷ os) m = elim (eqb (code o (D .named m)) 0) [ true ↦ judge os (suc m) | false ↦ failed (code o (D .named m)) o (D .named m) m ]
 
-  abbrev pub outcome : Outcome
-  outcome = judge (obligations (D .program)) 0
+  abbrev pub judgement : Judgement
+  judgement = judge (obligations (D .program)) 0
 
   -- the line n bears the statement out: it is there, says it and is justified
   pub record Bears (w : Statement) (n : ℕ) : Type 0 where
@@ -100,12 +100,12 @@ module _ (D : Image) where
   judgeClaims (suc n) i m = elim (sustained i) [ true ↦ judgeClaims n (suc i) m | false ↦ denied i m ]
 
   -- all obligations before any claim
-  abbrev pub behindObligations : Outcome → Finding
+  abbrev pub behindObligations : Judgement → Finding
   behindObligations (met m) = judgeClaims (D .claims .count) 0 m
   behindObligations (failed c o l m) = unmet c o l m
 
   abbrev pub finding : Finding
-  finding = behindObligations (outcome D)
+  finding = behindObligations (judgement D)
 
 -- what codes 5 to 9 leave of images
 pub record Admitted (D : Image) : Type 0 where

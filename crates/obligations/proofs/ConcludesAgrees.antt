@@ -47,7 +47,7 @@ use Rattle.image_meaning.proofs.WellFormedProgram.{points-few, well-formed}
 use Rattle.image_access.proofs.AccessAgree.{outline-is, test-is}
 use Rattle.rules_line.specs.LineConclusion.{conclusionOf}
 use Rattle.rules_line.proofs.LineStatements.{conclusion-trees}
-use Rattle.obligations.specs.Goal.{nextPoint, actingForm, assertedAt, wantedStart, wantedAction, wantedNext, wantedStep, wantedTarget, wantedKept, wantedClaim, wantedAt, implied, twoHoles, claimAt}
+use Rattle.obligations.specs.Goal.{nextPoint, actingForm, assertedAt, goalStart, goalAction, goalNext, goalStep, goalTarget, goalStable, goalClaim, goalAt, implied, twoHoles, claimAt}
 use Rattle.verdict_record.specs.ObligationPlace.{obligation}
 use Rattle.obligations.specs.Concludes.{meets, concludesAt}
 use Rattle.obligations.proofs.GoalCompared.{starting, falsity, claim-compared, both, holding, negated, compared, start-compared, step-compared, kept-compared, next-compared, target-compared}
@@ -120,8 +120,8 @@ module _ (s : List ℕ) (z : Sizes) (c : Checks z (bodies s)) where
   behind-is t k w h = rw (next-is t k w h) (asserted-is t (suc k) w h)
 
   module _ (n : ℕ) (wn : Within (z .lines) n) where
-    start-asked : (t : ℕ) → Within (z .threads) t → meets s z (wantedStart s z t) n ≡ sameStatement (implies start (O t 0)) (says n)
-    unfolding meets wantedStart pointCount
+    start-asked : (t : ℕ) → Within (z .threads) t → meets s z (goalStart s z t) n ≡ sameStatement (implies start (O t 0)) (says n)
+    unfolding meets goalStart pointCount
     start-asked t w =
         start-compared s (conclusionOf s z n) (assertedAt s z t 0)
         ∙ ap (compared implication 0 0 starting (treeAt s (assertedAt s z t 0))) (conclusion-trees s z c n wn)
@@ -143,8 +143,8 @@ module _ (s : List ℕ) (z : Sizes) (c : Checks z (bodies s)) where
       here-is : toTree (O t k) ≡ here
       here-is = asserted-is t k w (omega arith)
 
-      action-asked : meets s z (wantedAction s z t k (its t k)) n ≡ sameStatement (taking t k (P .code t k) (O t k) (O t (suc k))) (says n)
-      unfolding meets wantedAction
+      action-asked : meets s z (goalAction s z t k (its t k)) n ≡ sameStatement (taking t k (P .code t k) (O t k) (O t (suc k))) (says n)
+      unfolding meets goalAction
       action-asked =
           step-compared s (conclusionOf s z n) (assertedAt s z t k) (assertedAt s z t (nextPoint k)) (actingForm (its t k .operation)) t k
           ∙ ap (compared (actingForm (its t k .operation)) t k here following) (conclusion-trees s z c n wn)
@@ -152,9 +152,9 @@ module _ (s : List ℕ) (z : Sizes) (c : Checks z (bodies s)) where
           (pair-is l (its t k)) (says n)
 
       module _ (e : its t k .operation ≡ Opcode.branch) where
-        next-asked : meets s z (wantedNext s z t k (its t k)) n ≡ sameStatement
+        next-asked : meets s z (goalNext s z t k (its t k)) n ≡ sameStatement
             (implies (bothA (O t k) (holds (Formula.not test))) (O t (suc k))) (says n)
-        unfolding meets wantedNext
+        unfolding meets goalNext
         next-asked =
             next-compared s (conclusionOf s z n) (assertedAt s z t k) (formulaAt s (its t k .formula)) (assertedAt s z t (nextPoint k))
             ∙ ap (compared implication 0 0 (both here (holding (negated tested))) following) (conclusion-trees s z c n wn)
@@ -171,8 +171,8 @@ module _ (s : List ℕ) (z : Sizes) (c : Checks z (bodies s)) where
         abbrev aim : Tree
         aim = treeAt s (assertedAt s z t (its t k .a))
 
-        target-asked : meets s z (wantedTarget s z t k) n ≡ sameStatement (implies (bothA (O t k) (holds test)) (O t (its t k .a))) (says n)
-        unfolding meets wantedTarget
+        target-asked : meets s z (goalTarget s z t k) n ≡ sameStatement (implies (bothA (O t k) (holds test)) (O t (its t k .a))) (says n)
+        unfolding meets goalTarget
         target-asked =
             target-compared s (conclusionOf s z n) (assertedAt s z t k) (formulaAt s (its t k .formula)) (assertedAt s z t (its t k .a))
             ∙ ap (compared implication 0 0 (both here (holding tested)) aim) (conclusion-trees s z c n wn)
@@ -185,26 +185,26 @@ module _ (s : List ℕ) (z : Sizes) (c : Checks z (bodies s)) where
       act-wants (act A ns) e = refl
       act-wants (branch a b) e = absurd (true≢false e)
 
-      step-asked : meets s z (wantedStep s z t k) n ≡ sameStatement (wantsNext P O t k (P .code t k)) (says n)
-      unfolding wantedStep
+      step-asked : meets s z (goalStep s z t k) n ≡ sameStatement (wantsNext P O t k (P .code t k)) (says n)
+      unfolding goalStep
       step-asked = go (eqb (its t k .operation) Opcode.branch) refl
         where
           go : (b : Bool) → eqb (its t k .operation) Opcode.branch ≡ b
-              → meets s z (wantedStep s z t k) n ≡ sameStatement (wantsNext P O t k (P .code t k)) (says n)
+              → meets s z (goalStep s z t k) n ≡ sameStatement (wantsNext P O t k (P .code t k)) (says n)
           go true e = let d = eqb-true (its t k .operation) Opcode.branch e in
               rw e (next-asked d ∙ ap (λ (x : Instr). sameStatement (wantsNext P O t k x) (says n)) (sym (branch-read l (its t k) d)))
           go false e = rw e (action-asked ∙ ap (λ (x : Statement). sameStatement x (says n))
               (sym (act-wants (P .code t k) (branch-is l (its t k) ∙ e))))
 
-      taken-asked : isBranch (P .code t k) ≡ true → meets s z (wantedTarget s z t k) n ≡ sameStatement (wantsTarget P O t k (P .code t k))
+      taken-asked : isBranch (P .code t k) ≡ true → meets s z (goalTarget s z t k) n ≡ sameStatement (wantsTarget P O t k (P .code t k))
           (says n)
       taken-asked b =
           let d = eqb-true (its t k .operation) Opcode.branch (sym (branch-is l (its t k)) ∙ b) in
           target-asked d ∙ ap (λ (x : Instr). sameStatement (wantsTarget P O t k x) (says n)) (sym (branch-read l (its t k) d))
 
     kept-asked : (u j t k : ℕ) → Within (z .threads) u → j < P .points u → Within (z .threads) t → suc k < P .points t
-        → meets s z (wantedKept s z u j t k) n ≡ sameStatement (taking t k (P .code t k) (bothA (O u j) (O t k)) (O u j)) (says n)
-    unfolding meets wantedKept
+        → meets s z (goalStable s z u j t k) n ≡ sameStatement (taking t k (P .code t k) (bothA (O u j) (O t k)) (O u j)) (says n)
+    unfolding meets goalStable
     kept-asked u j t k w h y g =
         let p = asserted-is u j w h in
         let q = asserted-is t k y (omega arith) in
@@ -218,7 +218,7 @@ module _ (s : List ℕ) (z : Sizes) (c : Checks z (bodies s)) where
     -- a line that is there concludes what is wanted exactly if it says what is asked for
     pub concludes-asked : (o : Logic.Obligation) → InRange P o
         → concludesAt s z (obligation o) n ≡ sameStatement (asks (imageOf z l) o) (says n)
-    unfolding concludesAt wantedAt
+    unfolding concludesAt goalAt
     concludes-asked (Logic.start t) r = start-asked t r
     concludes-asked (Logic.step t k) r = step-asked t k (r .0) (r .1)
     concludes-asked (Logic.taken t k) r = taken-asked t k (r .0) (r .1 .0) (r .1 .1)
@@ -237,9 +237,9 @@ module _ (s : List ℕ) (z : Sizes) (c : Checks z (bodies s)) where
         (both (treeAt s (assertedAt s z t k)) (treeAt s (assertedAt s z u j))) falsity
         (ap₂ both (asserted-is t k w h) (asserted-is u j y g)) refl (says n)
 
-    pub claim-asked : (i : ℕ) → i < z .claims → meets s z (wantedClaim s z (claimedIn (claimBody z l i))) n ≡ sameStatement
+    pub claim-asked : (i : ℕ) → i < z .claims → meets s z (goalClaim s z (claimedIn (claimBody z l i))) n ≡ sameStatement
         (forbids (imageOf z l) i) (says n)
-    unfolding wantedClaim claimedIn
+    unfolding goalClaim claimedIn
     claim-asked i b =
         let f = claim-fine z l c i b in
         go (ltb (getD (claimBody z l i) 0 0) (getD (claimBody z l i) 2 0)) f

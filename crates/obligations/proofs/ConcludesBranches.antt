@@ -16,18 +16,18 @@ use Rattle.rules_line.specs.declared.conclusion.Conclusion.{Conclusion}
 use Rattle.rules_justified.specs.Marks.{isMarked}
 use Rattle.rules_justified.specs.declared.marks.Marks.{Marks}
 use Rattle.verdict_record.specs.declared.obligation.Obligation.{Obligation}
-use Rattle.obligations.specs.declared.goal.Wanted.{Wanted}
-use Rattle.obligations.specs.Goal.{wantedBytes, wantedClaim, wantedAt}
+use Rattle.obligations.specs.declared.goal.Goal.{Goal}
+use Rattle.obligations.specs.Goal.{goalBytes, goalClaim, goalAt}
 use Rattle.obligations.specs.Concludes.{meets, concludesAt, sustainedAt, codeAt}
 
-pub said-is : (s : List ℕ) (z : Sizes) (w : Wanted) (n : ℕ) (c : Conclusion) (m : Whole) → c ≡ conclusionOf s z n
-    → m ≡ matchConclusion s wantedBytes (w .template) (w .form) (w .thread) (w .point) c (w .bind) → m .ok ≡ meets s z w n
+pub said-is : (s : List ℕ) (z : Sizes) (w : Goal) (n : ℕ) (c : Conclusion) (m : Whole) → c ≡ conclusionOf s z n
+    → m ≡ matchConclusion s goalBytes (w .template) (w .form) (w .thread) (w .point) c (w .bind) → m .ok ≡ meets s z w n
 unfolding meets
 said-is s z w n c m ec em =
     ap (λ (q : Whole). q .ok)
-    (em ∙ ap (λ (d : Conclusion). matchConclusion s wantedBytes (w .template) (w .form) (w .thread) (w .point) d (w .bind)) ec)
+    (em ∙ ap (λ (d : Conclusion). matchConclusion s goalBytes (w .template) (w .form) (w .thread) (w .point) d (w .bind)) ec)
 
-pub concludes-is : (s : List ℕ) (z : Sizes) (o : Obligation) (n : ℕ) (w : Wanted) (r : Bool) → w ≡ wantedAt s z o → r ≡ meets s z w n
+pub concludes-is : (s : List ℕ) (z : Sizes) (o : Obligation) (n : ℕ) (w : Goal) (r : Bool) → w ≡ goalAt s z o → r ≡ meets s z w n
     → r ≡ concludesAt s z o n
 unfolding concludesAt
 concludes-is s z o n w r ew er = rw (← ew) er
@@ -39,7 +39,7 @@ module _ (s : List ℕ) (z : Sizes) (m : Marks) (i : ℕ) (c : Claimed) (e : c �
   unfolding sustainedAt
   sustained-none h = rw (← e, eq-eqb _ _ h)
 
-  module _ (n : c .line ≡ 0 → ⊥) (w : Wanted) (b : Bool) (ew : w ≡ wantedClaim s z c) (eb : b ≡ meets s z w (c .line)) where
+  module _ (n : c .line ≡ 0 → ⊥) (w : Goal) (b : Bool) (ew : w ≡ goalClaim s z c) (eb : b ≡ meets s z w (c .line)) where
     pub sustained-else : b ≡ false → false ≡ sustainedAt s z m i
     unfolding sustainedAt
     sustained-else h = rw (← e, ne-eqb _ _ n, ← ew, ← eb, h)

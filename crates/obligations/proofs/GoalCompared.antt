@@ -15,7 +15,7 @@ use Rattle.image_access.specs.AccessTrees.{treeAt}
 use Rattle.rules_line.specs.Conclusion.{concludedAt, matchConclusion}
 use Rattle.rules_line.specs.declared.conclusion.Conclusion.{Conclusion}
 use Rattle.rules_line.proofs.ConclusionAgrees.{StandSides}
-use Rattle.obligations.specs.Goal.{wantedBytes, startAt, stepAt, nextAt, targetAt, keptAt, claimAt, oneHole, twoHoles, threeHoles}
+use Rattle.obligations.specs.Goal.{goalBytes, startAt, stepAt, nextAt, targetAt, keptAt, claimAt, oneHole, twoHoles, threeHoles}
 use Rattle.obligations.proofs.GoalFilled.{filled-is}
 
 -- trees of assertions
@@ -34,23 +34,23 @@ negated p = node (byte Code.not) 0 p none
 
 -- where the templates stand
 
-start-stands : StandSides wantedBytes startAt starting (hole 0)
+start-stands : StandSides goalBytes startAt starting (hole 0)
 unfolding parseTree nodeAt hasOperand partCount proper
 start-stands = record { left = refl; right = refl; holes-left = tt; holes-right = tt }
 
-step-stands : StandSides wantedBytes stepAt (hole 0) (hole 1)
+step-stands : StandSides goalBytes stepAt (hole 0) (hole 1)
 unfolding parseTree nodeAt hasOperand partCount proper
 step-stands = record { left = refl; right = refl; holes-left = tt; holes-right = tt }
 
-next-stands : StandSides wantedBytes nextAt (both (hole 0) (holding (negated (hole 1)))) (hole 2)
+next-stands : StandSides goalBytes nextAt (both (hole 0) (holding (negated (hole 1)))) (hole 2)
 unfolding parseTree nodeAt hasOperand partCount proper
 next-stands = record { left = refl; right = refl; holes-left = tt; holes-right = tt }
 
-target-stands : StandSides wantedBytes targetAt (both (hole 0) (holding (hole 1))) (hole 2)
+target-stands : StandSides goalBytes targetAt (both (hole 0) (holding (hole 1))) (hole 2)
 unfolding parseTree nodeAt hasOperand partCount proper
 target-stands = record { left = refl; right = refl; holes-left = tt; holes-right = tt }
 
-kept-stands : StandSides wantedBytes keptAt (both (hole 0) (hole 1)) (hole 0)
+kept-stands : StandSides goalBytes keptAt (both (hole 0) (hole 1)) (hole 0)
 unfolding parseTree nodeAt hasOperand partCount proper
 kept-stands = record { left = refl; right = refl; holes-left = tt; holes-right = tt }
 
@@ -58,7 +58,7 @@ kept-stands = record { left = refl; right = refl; holes-left = tt; holes-right =
 abbrev pub falsity : Tree
 falsity = holding (node (byte Code.false) 0 none none)
 
-claim-stands : StandSides wantedBytes claimAt (both (hole 0) (hole 1)) falsity
+claim-stands : StandSides goalBytes claimAt (both (hole 0) (hole 1)) falsity
 unfolding parseTree nodeAt hasOperand partCount proper
 claim-stands = record { left = refl; right = refl; holes-left = tt; holes-right = tt }
 
@@ -68,56 +68,56 @@ abbrev pub compared : ℕ → ℕ → ℕ → Tree → Tree → TreeConclusion �
 compared form t k u w v = placed form t k v && (sameTree u (v .left) && sameTree w (v .right))
 
 module _ (s : List ℕ) (c : Conclusion) (a : ℕ) where
-  pub start-compared : matchConclusion s wantedBytes startAt implication 0 0 c (oneHole a) .ok ≡ compared implication 0 0 starting
+  pub start-compared : matchConclusion s goalBytes startAt implication 0 0 c (oneHole a) .ok ≡ compared implication 0 0 starting
       (treeAt s a) (concludedAt s c)
   unfolding oneHole hasOperand
   start-compared =
-      filled-is s wantedBytes startAt 0 0 implication starting (hole 0) (oneHole a) c (record { at = refl; left = refl; num = refl })
+      filled-is s goalBytes startAt 0 0 implication starting (hole 0) (oneHole a) c (record { at = refl; left = refl; num = refl })
       start-stands
       (λ d h. (refl, h .tree 0 (treeAt s a) refl))
 
   module _ (e : ℕ) where
-    pub step-compared : (form t k : ℕ) → matchConclusion s wantedBytes stepAt form t k c (twoHoles a e) .ok ≡ compared form t k
+    pub step-compared : (form t k : ℕ) → matchConclusion s goalBytes stepAt form t k c (twoHoles a e) .ok ≡ compared form t k
         (treeAt s a) (treeAt s e) (concludedAt s c)
     unfolding twoHoles hasOperand
     step-compared form t k =
-        filled-is s wantedBytes stepAt t k form (hole 0) (hole 1) (twoHoles a e) c (record { at = refl; left = refl; num = refl })
+        filled-is s goalBytes stepAt t k form (hole 0) (hole 1) (twoHoles a e) c (record { at = refl; left = refl; num = refl })
         step-stands
         (λ d h. (h .tree 0 (treeAt s a) refl, h .tree 1 (treeAt s e) refl))
 
-    pub kept-compared : (form t k : ℕ) → matchConclusion s wantedBytes keptAt form t k c (twoHoles a e) .ok ≡ compared form t k
+    pub kept-compared : (form t k : ℕ) → matchConclusion s goalBytes keptAt form t k c (twoHoles a e) .ok ≡ compared form t k
         (both (treeAt s a) (treeAt s e)) (treeAt s a) (concludedAt s c)
     unfolding twoHoles hasOperand
     kept-compared form t k =
-        filled-is s wantedBytes keptAt t k form (both (hole 0) (hole 1)) (hole 0) (twoHoles a e) c
+        filled-is s goalBytes keptAt t k form (both (hole 0) (hole 1)) (hole 0) (twoHoles a e) c
         (record { at = refl; left = refl; num = refl }) kept-stands
         (λ d h. (ap₂ both (h .tree 0 (treeAt s a) refl) (h .tree 1 (treeAt s e) refl), h .tree 0 (treeAt s a) refl))
 
-    pub claim-compared : matchConclusion s wantedBytes claimAt implication 0 0 c (twoHoles a e) .ok ≡ compared implication 0 0
+    pub claim-compared : matchConclusion s goalBytes claimAt implication 0 0 c (twoHoles a e) .ok ≡ compared implication 0 0
         (both (treeAt s a) (treeAt s e)) falsity (concludedAt s c)
     unfolding twoHoles hasOperand
     claim-compared =
-        filled-is s wantedBytes claimAt 0 0 implication (both (hole 0) (hole 1)) falsity (twoHoles a e) c
+        filled-is s goalBytes claimAt 0 0 implication (both (hole 0) (hole 1)) falsity (twoHoles a e) c
         (record { at = refl; left = refl; num = refl }) claim-stands
         (λ d h. (ap₂ both (h .tree 0 (treeAt s a) refl) (h .tree 1 (treeAt s e) refl), refl))
 
     module _ (b : ℕ) where
-      pub next-compared : matchConclusion s wantedBytes nextAt implication 0 0 c (threeHoles a e b) .ok ≡ compared implication 0 0
+      pub next-compared : matchConclusion s goalBytes nextAt implication 0 0 c (threeHoles a e b) .ok ≡ compared implication 0 0
           (both (treeAt s a) (holding (negated (treeAt s e)))) (treeAt s b) (concludedAt s c)
       unfolding threeHoles hasOperand
       next-compared =
-          filled-is s wantedBytes nextAt 0 0 implication (both (hole 0) (holding (negated (hole 1)))) (hole 2) (threeHoles a e b) c
+          filled-is s goalBytes nextAt 0 0 implication (both (hole 0) (holding (negated (hole 1)))) (hole 2) (threeHoles a e b) c
           (record { at = refl; left = refl; num = refl }) next-stands
           (λ d h. (
             ap₂ (λ (x y : Tree). both x (holding (negated y))) (h .tree 0 (treeAt s a) refl) (h .tree 1 (treeAt s e) refl),
             h .tree 2 (treeAt s b) refl,
           ))
 
-      pub target-compared : matchConclusion s wantedBytes targetAt implication 0 0 c (threeHoles a e b) .ok ≡ compared implication 0 0
+      pub target-compared : matchConclusion s goalBytes targetAt implication 0 0 c (threeHoles a e b) .ok ≡ compared implication 0 0
           (both (treeAt s a) (holding (treeAt s e))) (treeAt s b) (concludedAt s c)
       unfolding threeHoles hasOperand
       target-compared =
-          filled-is s wantedBytes targetAt 0 0 implication (both (hole 0) (holding (hole 1))) (hole 2) (threeHoles a e b) c
+          filled-is s goalBytes targetAt 0 0 implication (both (hole 0) (holding (hole 1))) (hole 2) (threeHoles a e b) c
           (record { at = refl; left = refl; num = refl }) target-stands
           (λ d h. (
             ap₂ (λ (x y : Tree). both x (holding y)) (h .tree 0 (treeAt s a) refl) (h .tree 1 (treeAt s e) refl),

@@ -1,4 +1,4 @@
--- The outcome of the code's walk is the outcome of the image.
+-- The judgement of the code's walk is the judgement of the image.
 use mathlib.Core.Path.{_≡_, refl, ap₂, _∙_}
 use mathlib.Core.Bool.{Bool, true, false, cond}
 use mathlib.Core.List.{List, [], _∷_}
@@ -14,7 +14,7 @@ use Rattle.logic.specs.Obligations.{obligations}
 use Rattle.image_frames.specs.Records.{bodies}
 use Rattle.image_header.specs.declared.sizes.Sizes.{Sizes}
 use Rattle.logic_outline.specs.Lines.{marked}
-use Rattle.logic_outline.specs.Verdict.{Image, codeOf, lineCode, asks, code, judge, outcome, Finding, accepted, denied, forbids, sustained, judgeClaims}
+use Rattle.logic_outline.specs.Verdict.{Image, codeOf, lineCode, asks, code, judge, judgement, Finding, accepted, denied, forbids, sustained, judgeClaims}
 use Rattle.logic_outline.specs.Verdict as Verdict
 use Rattle.image_meaning.specs.Image.{claimBody, imageOf}
 use Rattle.image_access.specs.AccessPlaces.{claimedIn}
@@ -23,13 +23,13 @@ use Rattle.image_meaning.proofs.LinesAdmitted.{named-there, claim-fine}
 use Rattle.rules_justified.specs.Marks.{isMarked}
 use Rattle.rules_justified.specs.declared.marks.Marks.{Marks}
 use Rattle.verdict_record.specs.declared.obligation.Obligation.{Obligation}
-use Rattle.obligations.specs.declared.judgement.Outcome.{Outcome}
-use Rattle.obligations.specs.declared.judgement.Outcome.the-variants.{Met, Failed}
+use Rattle.obligations.specs.declared.judgement.Judgement.{Judgement}
+use Rattle.obligations.specs.declared.judgement.Judgement.the-variants.{Met, Failed}
 use Rattle.verdict_record.specs.ObligationPlace.{obligation}
-use Rattle.obligations.specs.Goal.{wantedClaim}
+use Rattle.obligations.specs.Goal.{goalClaim}
 use Rattle.obligations.specs.Concludes.{meets, concludesAt, sustainedAt, codeAt}
 use Rattle.obligations.specs.Claims.{firstDenied}
-use Rattle.obligations.specs.Judgement.{judgeOne, next, judged, judgeAt, toOutcome}
+use Rattle.obligations.specs.Judgement.{judgeOne, next, judged, judgeAt, toJudgement}
 use Rattle.obligations.proofs.ConcludesAgrees.{concludes-asked, claim-asked}
 use Rattle.logic_outline.proofs.Ranged.{InRange, obligations-ranged}
 
@@ -74,21 +74,21 @@ module _ (s : List ℕ) (z : Sizes) (c : Checks z (bodies s)) where
             codes-same (eqb (D .named i) 0) (concludesAt s z (obligation o) (D .named i)) (isMarked m (D .named i))
             ∙ ap₂ (λ (x y : Bool). codeOf (eqb (D .named i) 0) x y) (concludes-asked s z c (D .named i) w o r) (marking (D .named i) w)
 
-    abbrev Step : Logic.Obligation → List Logic.Obligation → ℕ → Bool → Verdict.Outcome
+    abbrev Step : Logic.Obligation → List Logic.Obligation → ℕ → Bool → Verdict.Judgement
     Step o os i b = elim b [ true ↦ judge D os (suc i) | false ↦ Verdict.failed (code D o (D .named i)) o (D .named i) i ]
 
-    judge-same : (os : List Logic.Obligation) → All (InRange (D .program)) os → (i : ℕ) → judgeAt s z m os i ≡ toOutcome (judge D os i)
+    judge-same : (os : List Logic.Obligation) → All (InRange (D .program)) os → (i : ℕ) → judgeAt s z m os i ≡ toJudgement (judge D os i)
     unfolding judged next judgeOne judge
     judge-same [] r i = refl
     judge-same (o ∷ os) r i = rw (code-same o (r .0) i) (go (eqb (code D o (D .named i)) 0) (λ k. judge-same os (r .1) k))
       where
-        go : (b : Bool) → ((k : ℕ) → judgeAt s z m os k ≡ toOutcome (judge D os k))
-            → judged s z m os (cond b (Met (i + 1)) (Failed (obligation o) (code D o (D .named i)) (D .named i) i)) ≡ toOutcome
+        go : (b : Bool) → ((k : ℕ) → judgeAt s z m os k ≡ toJudgement (judge D os k))
+            → judged s z m os (cond b (Met (i + 1)) (Failed (obligation o) (code D o (D .named i)) (D .named i) i)) ≡ toJudgement
             (Step o os i b)
         go true ih = rw (add-one i) (ih (suc i))
         go false ih = failed-stays s z m os (obligation o) (code D o (D .named i)) (D .named i) i
 
-    pub judged-is : judgeAt s z m (obligations (D .program)) 0 ≡ toOutcome (outcome D)
+    pub judged-is : judgeAt s z m (obligations (D .program)) 0 ≡ toJudgement (judgement D)
     judged-is = judge-same (obligations (D .program)) (obligations-ranged (D .program)) 0
 
     -- claims, likewise
@@ -100,7 +100,7 @@ module _ (s : List ℕ) (z : Sizes) (c : Checks z (bodies s)) where
     sustained-same i h = go (eqb (D .claims .line i) 0) refl
       where
         go : (b : Bool) → eqb (D .claims .line i) 0 ≡ b
-            → cond (eqb (D .claims .line i) 0) false (cond (meets s z (wantedClaim s z (claimedIn (body i))) (D .claims .line i))
+            → cond (eqb (D .claims .line i) 0) false (cond (meets s z (goalClaim s z (claimedIn (body i))) (D .claims .line i))
             (isMarked m (D .claims .line i)) false)
             ≡ eqb (codeOf (eqb (D .claims .line i) 0) (sameStatement (forbids D i) (D .certificate .line (D .claims .line i) .says))
             (marked (D .program) (D .certificate) (D .certificate .count) (D .claims .line i))) 0
@@ -109,7 +109,7 @@ module _ (s : List ℕ) (z : Sizes) (c : Checks z (bodies s)) where
             let q = eqb-false (D .claims .line i) 0 e in
             let f = claim-fine z (bodies s) c i h in
             let w : Within (z .lines) (D .claims .line i) = (omega arith, f .line) in
-            borne-same (eqb (D .claims .line i) 0) (meets s z (wantedClaim s z (claimedIn (body i))) (D .claims .line i))
+            borne-same (eqb (D .claims .line i) 0) (meets s z (goalClaim s z (claimedIn (body i))) (D .claims .line i))
             (isMarked m (D .claims .line i))
             ∙ ap₂ (λ (x y : Bool). eqb (codeOf (eqb (D .claims .line i) 0) x y) 0) (claim-asked s z c (D .claims .line i) w i h)
             (marking (D .claims .line i) w)

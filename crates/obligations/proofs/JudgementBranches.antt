@@ -12,8 +12,8 @@ use Rattle.image_access.specs.Totals.{totalsOf}
 use Rattle.image_access.specs.declared.totals.Totals.{Totals}
 use Rattle.rules_justified.specs.declared.marks.Marks.{Marks}
 use Rattle.verdict_record.specs.declared.obligation.Obligation.{Obligation}
-use Rattle.obligations.specs.declared.judgement.Outcome.{Outcome}
-use Rattle.obligations.specs.declared.judgement.Outcome.the-variants.{Met, Failed}
+use Rattle.obligations.specs.declared.judgement.Judgement.{Judgement}
+use Rattle.obligations.specs.declared.judgement.Judgement.the-variants.{Met, Failed}
 use Rattle.obligations.specs.Concludes.{codeAt}
 use Rattle.obligations.proofs.ConcludesBranches.{code-none}
 use Rattle.obligations.specs.Judgement.{judgeOne, next}
@@ -36,8 +36,8 @@ module _ (s : List ℕ) (z : Sizes) (m : Marks) (o : Obligation) (c : ℕ) where
     unfolding judgeOne
     one-failed h = rw (← e, ← f, ne-eqb _ _ h)
 
-  module _ (r : Outcome) where
-    pub next-met : (q : Outcome) → r ≡ Met c → q ≡ judgeOne s z m o c → q ≡ next s z m o r
+  module _ (r : Judgement) where
+    pub next-met : (q : Judgement) → r ≡ Met c → q ≡ judgeOne s z m o c → q ≡ next s z m o r
     unfolding next
     next-met q e d = rw e d
 

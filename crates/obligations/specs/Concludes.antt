@@ -12,22 +12,22 @@ use Rattle.rules_line.specs.LineConclusion.{conclusionOf}
 use Rattle.rules_justified.specs.Marks.{isMarked}
 use Rattle.rules_justified.specs.declared.marks.Marks.{Marks}
 use Rattle.verdict_record.specs.declared.obligation.Obligation.{Obligation}
-use Rattle.obligations.specs.declared.goal.Wanted.{Wanted}
-use Rattle.obligations.specs.Goal.{wantedBytes, wantedClaim, wantedAt}
+use Rattle.obligations.specs.declared.goal.Goal.{Goal}
+use Rattle.obligations.specs.Goal.{goalBytes, goalClaim, goalAt}
 
 module _ (s : List ℕ) (z : Sizes) where
   -- a line with this number meets what is wanted
-  unfoldable pub meets : Wanted → ℕ → Bool
-  meets w n = matchConclusion s wantedBytes (w .template) (w .form) (w .thread) (w .point) (conclusionOf s z n) (w .bind) .ok
+  unfoldable pub meets : Goal → ℕ → Bool
+  meets w n = matchConclusion s goalBytes (w .template) (w .form) (w .thread) (w .point) (conclusionOf s z n) (w .bind) .ok
 
   unfoldable pub concludesAt : Obligation → ℕ → Bool
-  concludesAt o n = meets (wantedAt s z o) n
+  concludesAt o n = meets (goalAt s z o) n
 
   -- claim i is borne out by its line
   unfoldable pub sustainedAt : Marks → ℕ → Bool
   sustainedAt m i =
       cond (eqb (claimedIn (claimBody z (bodies s) i) .line) 0) false
-      (cond (meets (wantedClaim s z (claimedIn (claimBody z (bodies s) i))) (claimedIn (claimBody z (bodies s) i) .line))
+      (cond (meets (goalClaim s z (claimedIn (claimBody z (bodies s) i))) (claimedIn (claimBody z (bodies s) i) .line))
       (isMarked m (claimedIn (claimBody z (bodies s) i) .line)) false)
 
   -- 20 no line; 21 the line concludes something else; 22 it is unjustified

@@ -20,12 +20,12 @@ use Rattle.image_access.specs.AccessPlaces.{formulaAt}
 use Rattle.image_access.specs.declared.claim.Claimed.{Claimed}
 use Rattle.verdict_record.specs.declared.obligation.Obligation.{Obligation}
 use Rattle.verdict_record.specs.declared.obligation.Obligation.the-variants.{Start, Step, Taken, Interference}
-use Rattle.obligations.specs.declared.goal.Wanted.{Wanted}
+use Rattle.obligations.specs.declared.goal.Goal.{Goal}
 
 -- left and right side of each: start gives an assertion; one taken to another; an assertion and a negated test give another; with the
 -- test as it is; two, of which the first is kept; false from two
-abbrev pub wantedBytes : List ℕ
-wantedBytes =
+abbrev pub goalBytes : List ℕ
+goalBytes =
     byte Code.start ∷ firstHole
     ∷ firstHole ∷ (firstHole + 1)
     ∷ byte Code.bothA ∷ firstHole ∷ byte Code.holds ∷ byte Code.not ∷ (firstHole + 1) ∷ (firstHole + 2)
@@ -67,14 +67,14 @@ threeHoles a b c = record { at = a ∷ b ∷ c ∷ 0 ∷ 0 ∷ []; left = nestin
 unfoldable pub nextPoint : ℕ → ℕ
 nextPoint k = cond (ltb k points) (k + 1) k
 
-abbrev pub implied : ℕ → Bind → Wanted
+abbrev pub implied : ℕ → Bind → Goal
 implied i b = record { form = implication; thread = 0; point = 0; template = i; bind = b }
 
 -- a triple; for a pair, one of the whole
 unfoldable pub actingForm : ℕ → ℕ
 actingForm op = cond (pairOperation op) paired hoare
 
-abbrev pub kept : ℕ → ℕ → ℕ → ℕ → Bind → Wanted
+abbrev pub kept : ℕ → ℕ → ℕ → ℕ → Bind → Goal
 kept f t k i b = record { form = f; thread = t; point = k; template = i; bind = b }
 
 module _ (s : List ℕ) (z : Sizes) where
@@ -82,35 +82,35 @@ module _ (s : List ℕ) (z : Sizes) where
   abbrev pub assertedAt : ℕ → ℕ → ℕ
   assertedAt t k = formulaAt s (outlineNumber z (bodies s) t k)
 
-  unfoldable pub wantedStart : ℕ → Wanted
-  wantedStart t = implied startAt (oneHole (assertedAt t 0))
+  unfoldable pub goalStart : ℕ → Goal
+  goalStart t = implied startAt (oneHole (assertedAt t 0))
 
-  unfoldable pub wantedAction : ℕ → ℕ → Instruction → Wanted
-  wantedAction t k i = kept (actingForm (i .operation)) t k stepAt (twoHoles (assertedAt t k) (assertedAt t (nextPoint k)))
+  unfoldable pub goalAction : ℕ → ℕ → Instruction → Goal
+  goalAction t k i = kept (actingForm (i .operation)) t k stepAt (twoHoles (assertedAt t k) (assertedAt t (nextPoint k)))
 
-  unfoldable pub wantedNext : ℕ → ℕ → Instruction → Wanted
-  wantedNext t k i = implied nextAt (threeHoles (assertedAt t k) (formulaAt s (i .formula)) (assertedAt t (nextPoint k)))
+  unfoldable pub goalNext : ℕ → ℕ → Instruction → Goal
+  goalNext t k i = implied nextAt (threeHoles (assertedAt t k) (formulaAt s (i .formula)) (assertedAt t (nextPoint k)))
 
-  unfoldable pub wantedStep : ℕ → ℕ → Wanted
-  wantedStep t k = cond (eqb (instructionOf z (bodies s) t k .operation) Opcode.branch) (wantedNext t k (instructionOf z (bodies s) t k))
-      (wantedAction t k (instructionOf z (bodies s) t k))
+  unfoldable pub goalStep : ℕ → ℕ → Goal
+  goalStep t k = cond (eqb (instructionOf z (bodies s) t k .operation) Opcode.branch) (goalNext t k (instructionOf z (bodies s) t k))
+      (goalAction t k (instructionOf z (bodies s) t k))
 
-  unfoldable pub wantedTarget : ℕ → ℕ → Wanted
-  wantedTarget t k = implied targetAt (threeHoles (assertedAt t k) (formulaAt s (instructionOf z (bodies s) t k .formula))
+  unfoldable pub goalTarget : ℕ → ℕ → Goal
+  goalTarget t k = implied targetAt (threeHoles (assertedAt t k) (formulaAt s (instructionOf z (bodies s) t k .formula))
       (assertedAt t (instructionOf z (bodies s) t k .a)))
 
-  unfoldable pub wantedKept : ℕ → ℕ → ℕ → ℕ → Wanted
-  wantedKept u j t k = kept (actingForm (instructionOf z (bodies s) t k .operation)) t k keptAt (twoHoles (assertedAt u j) (assertedAt t k))
+  unfoldable pub goalStable : ℕ → ℕ → ℕ → ℕ → Goal
+  goalStable u j t k = kept (actingForm (instructionOf z (bodies s) t k .operation)) t k keptAt (twoHoles (assertedAt u j) (assertedAt t k))
 
   -- false from the assertions of a claim's points, the lower thread's first
-  unfoldable pub wantedClaim : Claimed → Wanted
-  wantedClaim c =
+  unfoldable pub goalClaim : Claimed → Goal
+  goalClaim c =
       cond (ltb (c .thread) (c .other)) (implied claimAt
       (twoHoles (assertedAt (c .thread) (c .point)) (assertedAt (c .other) (c .«other_point»))))
       (implied claimAt (twoHoles (assertedAt (c .other) (c .«other_point»)) (assertedAt (c .thread) (c .point))))
 
-  unfoldable pub wantedAt : Obligation → Wanted
-  wantedAt (Start t) = wantedStart t
-  wantedAt (Step t k) = wantedStep t k
-  wantedAt (Taken t k) = wantedTarget t k
-  wantedAt (Interference u j t k) = wantedKept u j t k
+  unfoldable pub goalAt : Obligation → Goal
+  goalAt (Start t) = goalStart t
+  goalAt (Step t k) = goalStep t k
+  goalAt (Taken t k) = goalTarget t k
+  goalAt (Interference u j t k) = goalStable u j t k

@@ -5,37 +5,37 @@ use Prim.Native.Nat.{ℕ, _+_}
 use lib.Dec.{eqb}
 use Rattle.logic.specs.Obligations as Logic
 use Rattle.logic_outline.specs.Verdict as Verdict
-use Rattle.logic_outline.specs.Verdict.{Outcome.met, Outcome.failed}
+use Rattle.logic_outline.specs.Verdict.{Judgement.met, Judgement.failed}
 use Rattle.image_frames.specs.Records.{bodies}
 use Rattle.image_header.specs.declared.sizes.Sizes.{Sizes}
 use Rattle.image_meaning.specs.Image.{namedLine}
 use Rattle.rules_justified.specs.declared.marks.Marks.{Marks}
 use Rattle.verdict_record.specs.declared.obligation.Obligation.{Obligation}
 use Rattle.verdict_record.specs.ObligationPlace.{obligation}
-use Rattle.obligations.specs.declared.judgement.Outcome.{Outcome}
-use Rattle.obligations.specs.declared.judgement.Outcome.the-variants.{Met, Failed}
+use Rattle.obligations.specs.declared.judgement.Judgement.{Judgement}
+use Rattle.obligations.specs.declared.judgement.Judgement.the-variants.{Met, Failed}
 use Rattle.obligations.specs.Concludes.{codeAt}
 
 module _ (s : List ℕ) (z : Sizes) (m : Marks) where
   -- the obligation with number c
-  unfoldable pub judgeOne : Obligation → ℕ → Outcome
+  unfoldable pub judgeOne : Obligation → ℕ → Judgement
   judgeOne o c = cond (eqb (codeAt s z m o (namedLine z (bodies s) c)) 0) (Met (c + 1))
       (Failed o (codeAt s z m o (namedLine z (bodies s) c)) (namedLine z (bodies s) c) c)
 
-  -- the outcome so far, and one obligation more; the first that is not met stays
-  unfoldable pub next : Obligation → Outcome → Outcome
+  -- the judgement so far, and one obligation more; the first that is not met stays
+  unfoldable pub next : Obligation → Judgement → Judgement
   next o (Met c) = judgeOne o c
   next o (Failed p e n c) = Failed p e n c
 
-  unfoldable pub judged : List Logic.Obligation → Outcome → Outcome
+  unfoldable pub judged : List Logic.Obligation → Judgement → Judgement
   judged [] r = r
   judged (o ∷ os) r = judged os (next (obligation o) r)
 
   -- from number c on
-  abbrev pub judgeAt : List Logic.Obligation → ℕ → Outcome
+  abbrev pub judgeAt : List Logic.Obligation → ℕ → Judgement
   judgeAt os c = judged os (Met c)
 
--- the logic's outcome as the code has it
-abbrev pub toOutcome : Verdict.Outcome → Outcome
-toOutcome (met n) = Met n
-toOutcome (failed e o n c) = Failed (obligation o) e n c
+-- the logic's judgement as the code has it
+abbrev pub toJudgement : Verdict.Judgement → Judgement
+toJudgement (met n) = Met n
+toJudgement (failed e o n c) = Failed (obligation o) e n c

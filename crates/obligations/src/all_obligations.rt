@@ -1,6 +1,6 @@
 // All obligations of an image, in order.
 use crate::interference::judge_interferences;
-use crate::judgement::Outcome;
+use crate::judgement::Judgement;
 use crate::own_steps::judge_starts;
 use crate::own_steps::judge_steps;
 use image_access::totals::totals_of;
@@ -18,13 +18,13 @@ pub fn judge_obligations<'a, 'b, 'c>(
     index: &'b [usize],
     sizes: Sizes,
     marks: &'c [bool],
-) -> Outcome
+) -> Judgement
     requires { ⌜ now index ≡ indexOf (now image) ⌝ }
     ensures { λ r. ⌜ r ≡ judgeAt (now (image .entry)) sizes (asMarks (now (marks .entry)))
         (obligations (programOf sizes (bodies (now (image .entry))))) 0 ⌝ }
 {
     let totals = totals_of(image, index, sizes);
-    let a = judge_starts(image, index, sizes, totals, marks, Outcome::Met(0));
+    let a = judge_starts(image, index, sizes, totals, marks, Judgement::Met(0));
     let b = judge_steps(image, index, sizes, totals, marks, a);
     judge_interferences(image, index, sizes, totals, marks, b)
 }

@@ -1,8 +1,8 @@
 // Whether a line concludes what an obligation wants, and the code of what is wrong with it.
-use crate::goal::WANTED;
-use crate::goal::Wanted;
-use crate::goal::wanted_claim;
-use crate::goal::wanted_of;
+use crate::goal::GOALS;
+use crate::goal::Goal;
+use crate::goal::goal_claim;
+use crate::goal::goal_of;
 use image_access::claim::claim_of;
 use image_access::totals::Totals;
 use image_header::sizes::Sizes;
@@ -35,14 +35,14 @@ fn is_said<'a, 'b>(
     image: &'a [u8],
     index: &'b [usize],
     sizes: Sizes,
-    goal: Wanted,
+    goal: Goal,
     number: usize,
 ) -> bool
     requires { ⌜ now index ≡ indexOf (now image) ⌝ }
     ensures { λ r. ⌜ r ≡ meets (now (image .entry)) sizes goal number ⌝ }
 {
     let c = conclusion_of(image, index, sizes, number);
-    let wanted = WANTED;
+    let wanted = GOALS;
     let b = goal.bind;
     let m = match_conclusion(
         image,
@@ -69,7 +69,7 @@ pub fn concludes<'a, 'b>(
     requires { ⌜ (now index ≡ indexOf (now image)) × (totals ≡ totalsOf sizes (bodies (now image))) ⌝ }
     ensures { λ r. ⌜ r ≡ concludesAt (now (image .entry)) sizes obligation number ⌝ }
 {
-    let goal = wanted_of(image, index, sizes, totals, obligation);
+    let goal = goal_of(image, index, sizes, totals, obligation);
     is_said(image, index, sizes, goal, number)
 }
 
@@ -89,7 +89,7 @@ pub fn is_sustained<'a, 'b, 'c>(
     if claim.line == 0 {
         return false;
     }
-    let goal = wanted_claim(image, index, sizes, totals, claim);
+    let goal = goal_claim(image, index, sizes, totals, claim);
     if is_said(image, index, sizes, goal, claim.line) {
         return is_marked(marks, claim.line);
     }

@@ -17,10 +17,10 @@ ghost use mathlib.Core.Path.{_≡_};
 ghost use Rattle.image_frames.specs.Records.{bodies};
 ghost use Rattle.image_index.specs.IndexTable.{indexOf};
 ghost use Rattle.image_access.specs.Totals.{totalsOf};
-ghost use Rattle.obligations.specs.Goal.{oneHole, twoHoles, threeHoles, nextPoint, actingForm, wantedStart, wantedAction, wantedNext, wantedStep, wantedTarget, wantedKept, wantedClaim, wantedAt};
+ghost use Rattle.obligations.specs.Goal.{oneHole, twoHoles, threeHoles, nextPoint, actingForm, goalStart, goalAction, goalNext, goalStep, goalTarget, goalStable, goalClaim, goalAt};
 
 // The form of the line, the thread and the point of a triple, where the template begins and what its holes stand for.
-pub struct Wanted {
+pub struct Goal {
     pub form: u8,
     pub thread: usize,
     pub point: usize,
@@ -28,7 +28,7 @@ pub struct Wanted {
     pub bind: Bind,
 }
 
-impl Wanted {
+impl Goal {
     // Start gives an assertion.
     pub const START: usize = 0;
     // An instruction takes one assertion to another.
@@ -44,7 +44,7 @@ impl Wanted {
 }
 
 // Left and right side of each, with holes for the formulas that are wanted there.
-pub const WANTED: [u8; 24] = [
+pub const GOALS: [u8; 24] = [
     Code::START,
     Hole::FORMULAS,
     Hole::FORMULAS,
@@ -111,22 +111,22 @@ fn next_point(point: usize) -> usize
     point
 }
 
-fn wanted_start<'a, 'b>(
+fn goal_start<'a, 'b>(
     image: &'a [u8],
     index: &'b [usize],
     sizes: Sizes,
     totals: Totals,
     t: usize,
-) -> Wanted
+) -> Goal
     requires { ⌜ (now index ≡ indexOf (now image)) × (totals ≡ totalsOf sizes (bodies (now image))) ⌝ }
-    ensures { λ r. ⌜ r ≡ wantedStart (now (image .entry)) sizes t ⌝ }
+    ensures { λ r. ⌜ r ≡ goalStart (now (image .entry)) sizes t ⌝ }
 {
     let a = outline_at(image, index, sizes, totals, t, 0);
-    Wanted {
+    Goal {
         form: Form::IMPLICATION,
         thread: 0,
         point: 0,
-        template: Wanted::START,
+        template: Goal::START,
         bind: one_hole(a),
     }
 }
@@ -141,7 +141,7 @@ fn acting_form(operation: u8) -> u8
     Form::TRIPLE
 }
 
-fn wanted_action<'a, 'b>(
+fn goal_action<'a, 'b>(
     image: &'a [u8],
     index: &'b [usize],
     sizes: Sizes,
@@ -149,22 +149,22 @@ fn wanted_action<'a, 'b>(
     t: usize,
     point: usize,
     instruction: Instruction,
-) -> Wanted
+) -> Goal
     requires { ⌜ (now index ≡ indexOf (now image)) × (totals ≡ totalsOf sizes (bodies (now image))) ⌝ }
-    ensures { λ r. ⌜ r ≡ wantedAction (now (image .entry)) sizes t point instruction ⌝ }
+    ensures { λ r. ⌜ r ≡ goalAction (now (image .entry)) sizes t point instruction ⌝ }
 {
     let a = outline_at(image, index, sizes, totals, t, point);
     let b = outline_at(image, index, sizes, totals, t, next_point(point));
-    Wanted {
+    Goal {
         form: acting_form(instruction.operation),
         thread: t,
         point: point,
-        template: Wanted::STEP,
+        template: Goal::STEP,
         bind: two_holes(a, b),
     }
 }
 
-fn wanted_next<'a, 'b>(
+fn goal_next<'a, 'b>(
     image: &'a [u8],
     index: &'b [usize],
     sizes: Sizes,
@@ -172,66 +172,66 @@ fn wanted_next<'a, 'b>(
     t: usize,
     point: usize,
     instruction: Instruction,
-) -> Wanted
+) -> Goal
     requires { ⌜ (now index ≡ indexOf (now image)) × (totals ≡ totalsOf sizes (bodies (now image))) ⌝ }
-    ensures { λ r. ⌜ r ≡ wantedNext (now (image .entry)) sizes t point instruction ⌝ }
+    ensures { λ r. ⌜ r ≡ goalNext (now (image .entry)) sizes t point instruction ⌝ }
 {
     let a = outline_at(image, index, sizes, totals, t, point);
     let e = formula_at(image, index, instruction.formula);
     let b = outline_at(image, index, sizes, totals, t, next_point(point));
-    Wanted {
+    Goal {
         form: Form::IMPLICATION,
         thread: 0,
         point: 0,
-        template: Wanted::NEXT,
+        template: Goal::NEXT,
         bind: three_holes(a, e, b),
     }
 }
 
-fn wanted_step<'a, 'b>(
+fn goal_step<'a, 'b>(
     image: &'a [u8],
     index: &'b [usize],
     sizes: Sizes,
     totals: Totals,
     t: usize,
     point: usize,
-) -> Wanted
+) -> Goal
     requires { ⌜ (now index ≡ indexOf (now image)) × (totals ≡ totalsOf sizes (bodies (now image))) ⌝ }
-    ensures { λ r. ⌜ r ≡ wantedStep (now (image .entry)) sizes t point ⌝ }
+    ensures { λ r. ⌜ r ≡ goalStep (now (image .entry)) sizes t point ⌝ }
 {
     let instruction = instruction_of(image, index, sizes, t, point);
     if instruction.operation == Instruction::BRANCH {
-        return wanted_next(image, index, sizes, totals, t, point, instruction);
+        return goal_next(image, index, sizes, totals, t, point, instruction);
     }
-    wanted_action(image, index, sizes, totals, t, point, instruction)
+    goal_action(image, index, sizes, totals, t, point, instruction)
 }
 
-fn wanted_target<'a, 'b>(
+fn goal_target<'a, 'b>(
     image: &'a [u8],
     index: &'b [usize],
     sizes: Sizes,
     totals: Totals,
     t: usize,
     point: usize,
-) -> Wanted
+) -> Goal
     requires { ⌜ (now index ≡ indexOf (now image)) × (totals ≡ totalsOf sizes (bodies (now image))) ⌝ }
-    ensures { λ r. ⌜ r ≡ wantedTarget (now (image .entry)) sizes t point ⌝ }
+    ensures { λ r. ⌜ r ≡ goalTarget (now (image .entry)) sizes t point ⌝ }
 {
     let instruction = instruction_of(image, index, sizes, t, point);
     let a = outline_at(image, index, sizes, totals, t, point);
     let e = formula_at(image, index, instruction.formula);
     let b = outline_at(image, index, sizes, totals, t, instruction.a as usize);
-    Wanted {
+    Goal {
         form: Form::IMPLICATION,
         thread: 0,
         point: 0,
-        template: Wanted::TARGET,
+        template: Goal::TARGET,
         bind: three_holes(a, e, b),
     }
 }
 
 // The asserting side first.
-fn wanted_kept<'a, 'b>(
+fn goal_stable<'a, 'b>(
     image: &'a [u8],
     index: &'b [usize],
     sizes: Sizes,
@@ -240,32 +240,32 @@ fn wanted_kept<'a, 'b>(
     asserting_point: usize,
     t: usize,
     acting_point: usize,
-) -> Wanted
+) -> Goal
     requires { ⌜ (now index ≡ indexOf (now image)) × (totals ≡ totalsOf sizes (bodies (now image))) ⌝ }
-    ensures { λ r. ⌜ r ≡ wantedKept (now (image .entry)) sizes u «asserting_point» t «acting_point» ⌝ }
+    ensures { λ r. ⌜ r ≡ goalStable (now (image .entry)) sizes u «asserting_point» t «acting_point» ⌝ }
 {
     let instruction = instruction_of(image, index, sizes, t, acting_point);
     let a = outline_at(image, index, sizes, totals, u, asserting_point);
     let b = outline_at(image, index, sizes, totals, t, acting_point);
-    Wanted {
+    Goal {
         form: acting_form(instruction.operation),
         thread: t,
         point: acting_point,
-        template: Wanted::KEPT,
+        template: Goal::KEPT,
         bind: two_holes(a, b),
     }
 }
 
 // False from the assertions of a claim's points, the lower thread's first.
-pub fn wanted_claim<'a, 'b>(
+pub fn goal_claim<'a, 'b>(
     image: &'a [u8],
     index: &'b [usize],
     sizes: Sizes,
     totals: Totals,
     claim: Claimed,
-) -> Wanted
+) -> Goal
     requires { ⌜ (now index ≡ indexOf (now image)) × (totals ≡ totalsOf sizes (bodies (now image))) ⌝ }
-    ensures { λ r. ⌜ r ≡ wantedClaim (now (image .entry)) sizes claim ⌝ }
+    ensures { λ r. ⌜ r ≡ goalClaim (now (image .entry)) sizes claim ⌝ }
 {
     let a = outline_at(
         image,
@@ -284,44 +284,37 @@ pub fn wanted_claim<'a, 'b>(
         claim.other_point as usize,
     );
     if claim.thread < claim.other {
-        return Wanted {
+        return Goal {
             form: Form::IMPLICATION,
             thread: 0,
             point: 0,
-            template: Wanted::CLAIM,
+            template: Goal::CLAIM,
             bind: two_holes(a, b),
         };
     }
-    Wanted {
+    Goal {
         form: Form::IMPLICATION,
         thread: 0,
         point: 0,
-        template: Wanted::CLAIM,
+        template: Goal::CLAIM,
         bind: two_holes(b, a),
     }
 }
 
-pub fn wanted_of<'a, 'b>(
+pub fn goal_of<'a, 'b>(
     image: &'a [u8],
     index: &'b [usize],
     sizes: Sizes,
     totals: Totals,
     obligation: Obligation,
-) -> Wanted
+) -> Goal
     requires { ⌜ (now index ≡ indexOf (now image)) × (totals ≡ totalsOf sizes (bodies (now image))) ⌝ }
-    ensures { λ r. ⌜ r ≡ wantedAt (now (image .entry)) sizes obligation ⌝ }
+    ensures { λ r. ⌜ r ≡ goalAt (now (image .entry)) sizes obligation ⌝ }
 {
     match obligation {
-        Obligation::Start { thread } => wanted_start(image, index, sizes, totals, thread),
-        Obligation::Step { thread, point } => wanted_step(
-            image,
-            index,
-            sizes,
-            totals,
-            thread,
-            point,
-        ),
-        Obligation::Taken { thread, point } => wanted_target(
+        Obligation::Start { thread } => goal_start(image, index, sizes, totals, thread),
+        Obligation::Step { thread, point } => goal_step(image, index, sizes, totals, thread, point),
+        Obligation::Taken { thread, point } => goal_target(
             image,
             index,
             sizes,
@@ -334,7 +327,7 @@ pub fn wanted_of<'a, 'b>(
             point,
             other,
             other_point,
-        } => wanted_kept(
+        } => goal_stable(
             image,
             index,
             sizes,

@@ -1,5 +1,5 @@
 // Each assertion under the actions of the other threads: by acting thread, acting point, asserting thread, asserting point.
-use crate::judgement::Outcome;
+use crate::judgement::Judgement;
 use crate::judgement::judge_next;
 use image_access::outline_point::last_point_of;
 use image_access::totals::Totals;
@@ -27,8 +27,8 @@ fn judge_assertion<'a, 'b, 'c>(
     asserting_point: usize,
     t: usize,
     acting_point: usize,
-    judgement: Outcome,
-) -> Outcome
+    judgement: Judgement,
+) -> Judgement
     requires { ⌜ (now index ≡ indexOf (now image)) × (totals ≡ totalsOf sizes (bodies (now image))) ⌝ }
     ensures { λ q. ⌜ q ≡ actingAt (now (image .entry)) sizes (asMarks (now (marks .entry))) u «asserting_point» t «acting_point» judgement
         ⌝ }
@@ -64,8 +64,8 @@ fn judge_asserting<'a, 'b, 'c>(
     t: usize,
     acting_point: usize,
     u: usize,
-    judgement: Outcome,
-) -> Outcome
+    judgement: Judgement,
+) -> Judgement
     requires { ⌜ (now index ≡ indexOf (now image)) × (totals ≡ totalsOf sizes (bodies (now image))) ⌝ }
     ensures { λ q. ⌜ q ≡ assertionsAt (now (image .entry)) sizes (asMarks (now (marks .entry))) t «acting_point» u judgement ⌝ }
 {
@@ -91,8 +91,8 @@ fn judge_action<'a, 'b, 'c>(
     marks: &'c [bool],
     t: usize,
     acting_point: usize,
-    judgement: Outcome,
-) -> Outcome
+    judgement: Judgement,
+) -> Judgement
     requires { ⌜ (now index ≡ indexOf (now image)) × (totals ≡ totalsOf sizes (bodies (now image))) ⌝ }
     ensures { λ q. ⌜ q ≡ assertionsTo (now (image .entry)) sizes (asMarks (now (marks .entry))) t «acting_point» (sizes .threads) judgement
         ⌝ }
@@ -115,8 +115,8 @@ fn judge_actor<'a, 'b, 'c>(
     totals: Totals,
     marks: &'c [bool],
     t: usize,
-    judgement: Outcome,
-) -> Outcome
+    judgement: Judgement,
+) -> Judgement
     requires { ⌜ (now index ≡ indexOf (now image)) × (totals ≡ totalsOf sizes (bodies (now image))) ⌝ }
     ensures { λ q. ⌜ q
         ≡ actionsTo (now (image .entry)) sizes (asMarks (now (marks .entry))) t
@@ -139,8 +139,8 @@ pub fn judge_interferences<'a, 'b, 'c>(
     sizes: Sizes,
     totals: Totals,
     marks: &'c [bool],
-    judgement: Outcome,
-) -> Outcome
+    judgement: Judgement,
+) -> Judgement
     requires { ⌜ (now index ≡ indexOf (now image)) × (totals ≡ totalsOf sizes (bodies (now image))) ⌝ }
     ensures { λ q. ⌜ q ≡ interferencesTo (now (image .entry)) sizes (asMarks (now (marks .entry))) (sizes .threads) judgement ⌝ }
 {

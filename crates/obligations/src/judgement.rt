@@ -1,4 +1,4 @@
-// The outcome so far, and one obligation more.
+// The judgement so far, and one obligation more.
 use crate::concludes::Unmet;
 use crate::concludes::code_at;
 use image_access::named_line::named_line;
@@ -13,7 +13,7 @@ ghost use Rattle.rules_justified.specs.Marks.{asMarks};
 ghost use Rattle.obligations.specs.Judgement.{judgeOne, next};
 
 // How many are met; or the first that is not, its code and line, and how many are met before it.
-pub enum Outcome {
+pub enum Judgement {
     Met(usize),
     Failed {
         what: Obligation,
@@ -32,12 +32,12 @@ fn judge_one<'a, 'b, 'c>(
     marks: &'c [bool],
     obligation: Obligation,
     count: usize,
-) -> Outcome
+) -> Judgement
     requires { ⌜ (now index ≡ indexOf (now image)) × (totals ≡ totalsOf sizes (bodies (now image))) ⌝ }
     ensures { λ r. ⌜ r ≡ judgeOne (now (image .entry)) sizes (asMarks (now (marks .entry))) obligation count ⌝ }
 {
     if totals.obligations <= count {
-        return Outcome::Failed {
+        return Judgement::Failed {
             what: obligation,
             code: Unmet::NO_LINE,
             line: 0,
@@ -47,9 +47,9 @@ fn judge_one<'a, 'b, 'c>(
     let number = named_line(image, index, sizes, totals, count);
     let e = code_at(image, index, sizes, totals, marks, obligation, number);
     if e == Unmet::NONE {
-        return Outcome::Met(count + 1);
+        return Judgement::Met(count + 1);
     }
-    Outcome::Failed {
+    Judgement::Failed {
         what: obligation,
         code: e,
         line: number,
@@ -57,7 +57,7 @@ fn judge_one<'a, 'b, 'c>(
     }
 }
 
-// Once an obligation is not met, the outcome stays.
+// Once an obligation is not met, the judgement stays.
 pub fn judge_next<'a, 'b, 'c>(
     image: &'a [u8],
     index: &'b [usize],
@@ -65,19 +65,19 @@ pub fn judge_next<'a, 'b, 'c>(
     totals: Totals,
     marks: &'c [bool],
     obligation: Obligation,
-    judgement: Outcome,
-) -> Outcome
+    judgement: Judgement,
+) -> Judgement
     requires { ⌜ (now index ≡ indexOf (now image)) × (totals ≡ totalsOf sizes (bodies (now image))) ⌝ }
     ensures { λ q. ⌜ q ≡ next (now (image .entry)) sizes (asMarks (now (marks .entry))) obligation judgement ⌝ }
 {
     match judgement {
-        Outcome::Met(c) => judge_one(image, index, sizes, totals, marks, obligation, c),
-        Outcome::Failed {
+        Judgement::Met(c) => judge_one(image, index, sizes, totals, marks, obligation, c),
+        Judgement::Failed {
             what,
             code,
             line,
             count,
-        } => Outcome::Failed {
+        } => Judgement::Failed {
             what,
             code,
             line,

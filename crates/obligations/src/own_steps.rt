@@ -1,5 +1,5 @@
 // Starts, steps and branches taken, thread by thread.
-use crate::judgement::Outcome;
+use crate::judgement::Judgement;
 use crate::judgement::judge_next;
 use image_access::outline_point::last_point_of;
 use image_access::totals::Totals;
@@ -23,8 +23,8 @@ pub fn judge_starts<'a, 'b, 'c>(
     sizes: Sizes,
     totals: Totals,
     marks: &'c [bool],
-    judgement: Outcome,
-) -> Outcome
+    judgement: Judgement,
+) -> Judgement
     requires { ⌜ (now index ≡ indexOf (now image)) × (totals ≡ totalsOf sizes (bodies (now image))) ⌝ }
     ensures { λ q. ⌜ q ≡ startsTo (now (image .entry)) sizes (asMarks (now (marks .entry))) (sizes .threads) judgement ⌝ }
 {
@@ -55,8 +55,8 @@ fn judge_own<'a, 'b, 'c>(
     marks: &'c [bool],
     t: usize,
     point: usize,
-    judgement: Outcome,
-) -> Outcome
+    judgement: Judgement,
+) -> Judgement
     requires { ⌜ (now index ≡ indexOf (now image)) × (totals ≡ totalsOf sizes (bodies (now image))) ⌝ }
     ensures { λ q. ⌜ q ≡ ownAt (now (image .entry)) sizes (asMarks (now (marks .entry))) t point judgement ⌝ }
 {
@@ -84,8 +84,8 @@ fn judge_thread<'a, 'b, 'c>(
     totals: Totals,
     marks: &'c [bool],
     t: usize,
-    judgement: Outcome,
-) -> Outcome
+    judgement: Judgement,
+) -> Judgement
     requires { ⌜ (now index ≡ indexOf (now image)) × (totals ≡ totalsOf sizes (bodies (now image))) ⌝ }
     ensures { λ q. ⌜ q ≡ ownTo (now (image .entry)) sizes (asMarks (now (marks .entry))) t
         (lastPoint (threadBody sizes (bodies (now (image .entry))) t)) judgement ⌝ }
@@ -107,8 +107,8 @@ pub fn judge_steps<'a, 'b, 'c>(
     sizes: Sizes,
     totals: Totals,
     marks: &'c [bool],
-    judgement: Outcome,
-) -> Outcome
+    judgement: Judgement,
+) -> Judgement
     requires { ⌜ (now index ≡ indexOf (now image)) × (totals ≡ totalsOf sizes (bodies (now image))) ⌝ }
     ensures { λ q. ⌜ q ≡ stepsTo (now (image .entry)) sizes (asMarks (now (marks .entry))) (sizes .threads) judgement ⌝ }
 {

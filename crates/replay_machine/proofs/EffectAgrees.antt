@@ -36,11 +36,11 @@ use Rattle.replay_memory.specs.Access.{loaded, stored, swapped}
 use Rattle.replay_memory.specs.MemoryStands.{Stands, Named}
 use Rattle.replay_memory.specs.declared.memory.Memory.{Memory}
 use Rattle.replay_memory.proofs.StandsAfterAccess.{stands-load, stands-store, stands-swap}
-use Rattle.replay_machine.specs.Effect.{deedOf}
+use Rattle.replay_machine.specs.Effect.{effectOf}
 use Rattle.replay_machine.specs.Shared.{reachable, uncovered, mayPick, fetchAdded, memoryAfter}
 use Rattle.replay_machine.specs.Locals.{withRegister, withBoth, registersAfter, pointAfter}
 use Rattle.replay_machine.specs.RegistersStand.{SameRegs, adds}
-use Rattle.replay_machine.specs.declared.effect.Deed.{Deed}
+use Rattle.replay_machine.specs.declared.effect.Effect.{Effect}
 use Rattle.replay_machine.specs.declared.locals.Registers.{Registers}
 use Rattle.replay_machine.proofs.StateAgrees.{from-zero, regs-set, reach-same, uncovered-same, value-same}
 
@@ -79,8 +79,8 @@ module _ (z : Sizes) (l : List (List ℕ)) (checks : Checks z l) (few-words : z 
     abbrev Room : Type 0
     Room = first (m .sizes) 8 < 72
 
-    -- the deed does what the instruction does
-    pub record Made (d : Deed) (c : Instr) : Type 0 where
+    -- the effect does what the instruction does
+    pub record Made (d : Effect) (c : Instr) : Type 0 where
       pub picks : mayPick m d t p ≡ allowed c (suc t) p s
       pub memory : T (allowed c (suc t) p s) → (T (adds c) → Room) → Stands (memoryAfter m (P .range) d t p) (exec P c (suc t) p s)
       pub registers : T (allowed c (suc t) p s) → SameRegs (registersAfter h (writeAt m (d .word) p .value) d) (exec P c (suc t) p s .reg)
@@ -165,7 +165,7 @@ module _ (z : Sizes) (l : List (List ℕ)) (checks : Checks z l) (few-words : z 
       abbrev Does : ℕ → ℕ → ℕ → Type 0
       Does op a b =
           ranged last z (made op a b f n) ≡ true → first-is op → second-is op → test-is op
-          → Made (deedOf (made op a b f n) v u) (instr l (made op a b f n))
+          → Made (effectOf (made op a b f n) v u) (instr l (made op a b f n))
 
       module _ (op a b : ℕ) (e : ranged last z (made op a b f n) ≡ true) where
         abbrev fields : Type 0
@@ -193,7 +193,7 @@ module _ (z : Sizes) (l : List (List ℕ)) (checks : Checks z l) (few-words : z 
           (subst (λ (k : ℕ). k < P .range) (e .0) (e .1))
 
       pub does : (op a b : ℕ) → Does op a b
-      unfolding fieldsOf instr deedOf registerFirst mayPick memoryAfter fetchAdded registersAfter withBoth pointAfter twofold wanted
+      unfolding fieldsOf instr effectOf registerFirst mayPick memoryAfter fetchAdded registersAfter withBoth pointAfter twofold wanted
       does zero a b e hv hu hb = let g = in-fields 0 a b e in record {
         picks = refl;
         memory = λ ok room. stands-locals m s st _ _;

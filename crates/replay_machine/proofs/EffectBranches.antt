@@ -12,30 +12,30 @@ use Rattle.replay_memory.specs.View.{positionIn}
 use Rattle.replay_memory.specs.Memory.{writeAt, memoryOf, seenBy}
 use Rattle.replay_memory.specs.declared.view.View.{View}
 use Rattle.replay_memory.specs.declared.write.Write.{Write}
-use Rattle.replay_memory.specs.declared.memory.Sight.{Sight}
+use Rattle.replay_memory.specs.declared.memory.MemoryShape.{MemoryShape}
 use Rattle.image_header.specs.declared.instruction.Instruction.{Instruction}
 use Rattle.image_access.specs.AccessPlaces.{registerFirst}
-use Rattle.replay_machine.specs.Effect.{deedOf}
+use Rattle.replay_machine.specs.Effect.{effectOf}
 use Rattle.replay_machine.specs.Shared.{reachableBy, reachable, uncovered, mayPick, fetchAdded}
 use Rattle.replay_machine.specs.Locals.{withRegister, withBoth}
 use Rattle.replay_machine.specs.declared.locals.Registers.{Registers}
 use Rattle.replay_memory.specs.Access.{swapped}
-use Rattle.replay_machine.specs.declared.effect.Deed.{Deed}
+use Rattle.replay_machine.specs.declared.effect.Effect.{Effect}
 
 module _ (i : Instruction) (v g w : ℕ) (b : Bool) (e : b ≡ registerFirst (i .operation)) where
-  pub deed-register : b ≡ true → w ≡ i .b - 1
-      → record { operation = i .operation; word = w; register = i .a; value = v; noted = i .second .a; note = g; target = i .a } ≡ deedOf
+  pub effect-register : b ≡ true → w ≡ i .b - 1
+      → record { operation = i .operation; word = w; register = i .a; value = v; noted = i .second .a; note = g; target = i .a } ≡ effectOf
       i v g
-  unfolding deedOf
-  deed-register d q = rw (← e, d, q)
+  unfolding effectOf
+  effect-register d q = rw (← e, d, q)
 
-  pub deed-word : b ≡ false → w ≡ i .a - 1
-      → record { operation = i .operation; word = w; register = i .b; value = v; noted = i .second .a; note = g; target = i .a } ≡ deedOf
+  pub effect-word : b ≡ false → w ≡ i .a - 1
+      → record { operation = i .operation; word = w; register = i .b; value = v; noted = i .second .a; note = g; target = i .a } ≡ effectOf
       i v g
-  unfolding deedOf
-  deed-word d q = rw (← e, d, q)
+  unfolding effectOf
+  effect-word d q = rw (← e, d, q)
 
-module _ (g : Sight) (t k p : ℕ) where
+module _ (g : MemoryShape) (t k p : ℕ) where
   pub reach-there : (n q : ℕ) (v : View) → n ≡ getD (g .sizes) (k % 8) 0 → v ≡ seenBy g t → q ≡ positionIn v k → p < n
       → leb q p ≡ reachableBy g t k p
   unfolding reachableBy
@@ -61,7 +61,7 @@ module _ (g : Sight) (t k p : ℕ) where
       uncovered-not h = rw (← reach-is, ← e, h)
 
 -- what a load picks
-module _ (g : Sight) (l : List ℕ) (t p : ℕ) (d : Deed) (b : Bool) (e : b ≡ reachableBy g t (d .word) p) where
+module _ (g : MemoryShape) (l : List ℕ) (t p : ℕ) (d : Effect) (b : Bool) (e : b ≡ reachableBy g t (d .word) p) where
   pub picks-load : d .operation ≡ Opcode.load → b ≡ mayPick (memoryOf g l) d t p
   unfolding mayPick
   picks-load h = rw (h, ← reach-is g t (d .word) p l) e
@@ -72,13 +72,13 @@ module _ (g : Sight) (l : List ℕ) (t p : ℕ) (d : Deed) (b : Bool) (e : b ≡
 
 pub ruleset picks = (picks-load, picks-acquire)
 
-pub add-made : (g r : Sight) (l n : List ℕ) (R t p c : ℕ) (d : Deed) (w : Write) → w ≡ writeAt (memoryOf g l) (d .word) p
+pub add-made : (g r : MemoryShape) (l n : List ℕ) (R t p c : ℕ) (d : Effect) (w : Write) → w ≡ writeAt (memoryOf g l) (d .word) p
     → c ≡ sumOf R (w .value) (d .value) → memoryOf r n ≡ swapped (memoryOf g l) (d .word) c t p
     → memoryOf r n ≡ fetchAdded (memoryOf g l) R d t p
 unfolding fetchAdded
 add-made g r l n R t p c d w e q h = rw (← e, ← q) h
 
-pub both-made : (g h r : Registers) (d : Deed) → h ≡ withRegister g (d .noted) (d .note) → r ≡ withRegister h (d .register) (d .value)
+pub both-made : (g h r : Registers) (d : Effect) → h ≡ withRegister g (d .noted) (d .note) → r ≡ withRegister h (d .register) (d .value)
     → r ≡ withBoth g d
 unfolding withBoth
 both-made g h r d e q = rw (← e) q
@@ -87,4 +87,4 @@ pub ruleset reaches = (reach-there, reach-past)
 
 pub ruleset uncovers = (uncovered-there, uncovered-not)
 
-pub ruleset deeds = (deed-register, deed-word)
+pub ruleset effects = (effect-register, effect-word)

@@ -41,7 +41,7 @@ use Rattle.replay_machine.specs.Evaluate.{workedT}
 use Rattle.replay_machine.proofs.EvaluateAgrees.{registers, worked-below, worked-value, worked-test}
 use Rattle.replay_memory.specs.MemoryStands.{Stands}
 use Rattle.replay_memory.specs.declared.memory.Memory.{Memory}
-use Rattle.replay_machine.specs.Effect.{deedOf}
+use Rattle.replay_machine.specs.Effect.{effectOf}
 use Rattle.replay_machine.specs.RegistersStand.{SameRegs}
 use Rattle.replay_machine.specs.declared.locals.Registers.{Registers}
 use Rattle.replay_machine.proofs.EffectAgrees.{Made, does}
@@ -128,7 +128,7 @@ module _ (b : List ℕ) (z : Sizes) (c : Checks z (bodies b)) where
           (formula-sorted z l c (wanted (i .operation)) (i .formula) (r .0) (sorted-both z l c i (facts .1) .0) .0 ∙ ap wanted d))
 
       pub does-there : Made z l c (sizes-few z l c .1) (sizes-few z l c .2) s wf m st h same t p ht
-          (deedOf i (valueOf h (i .formula)) (valueOf h (i .second .formula))) (P .code (suc t) (s .point (suc t)))
+          (effectOf i (valueOf h (i .formula)) (valueOf h (i .second .formula))) (P .code (suc t) (s .point (suc t)))
       does-there =
           does z l c (sizes-few z l c .1) (sizes-few z l c .2) s wf m st h same t p ht last (i .formula) (i .second)
           (valueOf h (i .formula)) (valueOf h (i .second .formula)) (i .operation) (i .a) (i .b)

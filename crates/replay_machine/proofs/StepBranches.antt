@@ -17,21 +17,21 @@ use Rattle.image_access.specs.AccessPlaces.{formulaAt}
 use Rattle.replay_machine.specs.Evaluate.{workedT}
 use Rattle.replay_memory.specs.Memory.{first, writeAt, memoryOf}
 use Rattle.replay_memory.specs.declared.memory.Memory.{Memory}
-use Rattle.replay_memory.specs.declared.memory.Sight.{Sight}
+use Rattle.replay_memory.specs.declared.memory.MemoryShape.{MemoryShape}
 use Rattle.replay_memory.specs.declared.write.Write.{Write}
-use Rattle.replay_machine.specs.Effect.{deedOf}
+use Rattle.replay_machine.specs.Effect.{effectOf}
 use Rattle.replay_machine.specs.Shared.{mayPick, memoryAfter}
 use Rattle.replay_machine.specs.Locals.{registersAfter, pointAfter}
-use Rattle.replay_machine.specs.declared.effect.Deed.{Deed}
+use Rattle.replay_machine.specs.declared.effect.Effect.{Effect}
 use Rattle.replay_machine.specs.declared.locals.Registers.{Registers}
 use Rattle.replay_machine.specs.State.{pointOf, performed, machineOf}
 use Rattle.replay_machine.specs.Refusal.{total, adding, pickRefusal}
-use Rattle.replay_machine.specs.Step.{Stepped, valueAt, deedAt, lastOf, refused, attempted, stepped, takenOf}
+use Rattle.replay_machine.specs.Step.{Stepped, valueAt, effectAt, lastOf, refused, attempted, stepped, takenOf}
 use Rattle.replay_machine.specs.declared.state.Machine.{Machine}
 use Rattle.replay_machine.specs.declared.state.Threads.{Threads}
 use Rattle.replay_machine.specs.declared.step.Taken.{Taken}
 
-module _ (g : Sight) (l : List ℕ) (words room t p : ℕ) (d : Deed) (b : Bool) (e : b ≡ mayPick (memoryOf g l) d t p) where
+module _ (g : MemoryShape) (l : List ℕ) (words room t p : ℕ) (d : Effect) (b : Bool) (e : b ≡ mayPick (memoryOf g l) d t p) where
   pub pick-not : b ≡ false → 28 ≡ pickRefusal (memoryOf g l) words room d t p
   unfolding pickRefusal
   pick-not h = rw (← e, h)
@@ -56,7 +56,7 @@ module _ (g : Sight) (l : List ℕ) (words room t p : ℕ) (d : Deed) (b : Bool)
 
 pub ruleset picks = (pick-not, pick-plain, pick-room, pick-full)
 
-pub perform-made : (n : Threads) (b c : List ℕ) (R t p k : ℕ) (d : Deed) (old : Write) (g : Sight) (h : Registers)
+pub perform-made : (n : Threads) (b c : List ℕ) (R t p k : ℕ) (d : Effect) (old : Write) (g : MemoryShape) (h : Registers)
     → old ≡ writeAt (memoryOf (n .sight) b) (d .word) p → k ≡ pointAfter (getD (n .points) (t % 4) 0) d
     → memoryOf g c ≡ memoryAfter (memoryOf (n .sight) b) R d t p → h ≡ registersAfter (n .registers) (old .value) d
     → machineOf (record { sight = g; registers = h; points = set (n .points) (t % 4) k }) c ≡ performed (machineOf n b) R d t p
@@ -72,11 +72,11 @@ module _ (s : List ℕ) (z : Sizes) (h : Registers) where
   pub value-made : (k a v : ℕ) → a ≡ formulaAt s k → v ≡ workedT (z .range) (h .at) (parseTree s nesting a .tree) → v ≡ valueAt s z h k
   value-made k a v e d = rw (← e) d
 
-  pub deed-made : (t k v g : ℕ) (i : Instruction) (d : Deed) → i ≡ instructionOf z (bodies s) t k → v ≡ valueAt s z h (i .formula)
+  pub effect-made : (t k v g : ℕ) (i : Instruction) (d : Effect) → i ≡ instructionOf z (bodies s) t k → v ≡ valueAt s z h (i .formula)
       → g ≡ valueAt s z h (i .second .formula)
-      → d ≡ deedOf i v g → d ≡ deedAt s z h t k
-  unfolding deedAt
-  deed-made t k v g i d ei ev eg ed = rw (← ei, ← ev, ← eg) ed
+      → d ≡ effectOf i v g → d ≡ effectAt s z h t k
+  unfolding effectAt
+  effect-made t k v g i d ei ev eg ed = rw (← ei, ← ev, ← eg) ed
 
 pub last-made : (s : List ℕ) (z : Sizes) (t r : ℕ) (b : List ℕ) → b ≡ getD (bodies s) (z .formulas + t) [] → r ≡ lastPoint b
     → r ≡ lastOf s z t
@@ -107,14 +107,14 @@ module _ (s : List ℕ) (z : Sizes) (room : ℕ) (n : Threads) (b : List ℕ) (t
       unfolding stepped takenOf
       step-last h = rw (ne-eqb _ _ a, le-ltb _ _ c, ← eu, ← point-is n b u, ← ek, ← el, le-ltb _ _ h)
 
-      pub step-tried : (d : Deed) (r : Taken) (f : List ℕ) → k < last → d ≡ deedAt s z (n .registers) t k
+      pub step-tried : (d : Effect) (r : Taken) (f : List ℕ) → k < last → d ≡ effectAt s z (n .registers) t k
           → takenOf r f ≡ attempted z room (machineOf n b) d u p → takenOf r f ≡ stepped s z room (machineOf n b) t p
       unfolding stepped
       step-tried d r f h ed er =
-          let q : d ≡ deedAt s z (machineOf n b .registers) t k = ed ∙ ap (λ (x : Registers). deedAt s z x t k) (registers-are n b) in
+          let q : d ≡ effectAt s z (machineOf n b .registers) t k = ed ∙ ap (λ (x : Registers). effectAt s z x t k) (registers-are n b) in
           rw (ne-eqb _ _ a, le-ltb _ _ c, ← eu, ← point-is n b u, ← ek, ← el, lt-ltb _ _ h, ← q) er
 
-module _ (z : Sizes) (room : ℕ) (n : Threads) (b : List ℕ) (d : Deed) (t p c : ℕ)
+module _ (z : Sizes) (room : ℕ) (n : Threads) (b : List ℕ) (d : Effect) (t p c : ℕ)
     (e : c ≡ pickRefusal (memoryOf (n .sight) b) (z .words) room d t p) where
   refusal-is : c ≡ pickRefusal (machineOf n b .memory) (z .words) room d t p
   unfolding machineOf
@@ -136,7 +136,7 @@ pub ruleset steps = (step-none, step-absent, step-last, step-tried)
 -- A STEP THAT IS REFUSED CHANGES NOTHING
 
 module _ (s : List ℕ) (z : Sizes) (room : ℕ) (n : Machine) where
-  attempt-stays : (d : Deed) (t p : ℕ) → (attempted z room n d t p .code ≡ 0 → ⊥) → attempted z room n d t p .machine ≡ n
+  attempt-stays : (d : Effect) (t p : ℕ) → (attempted z room n d t p .code ≡ 0 → ⊥) → attempted z room n d t p .machine ≡ n
   unfolding attempted
   attempt-stays d t p = go (eqb code 0)
     where
@@ -155,7 +155,7 @@ module _ (s : List ℕ) (z : Sizes) (room : ℕ) (n : Machine) where
   step-stays t p = go (eqb t 0) (ltb (z .threads) t) (ltb (pointOf n (t - 1)) (lastOf s z t))
     where
       tried : Stepped
-      tried = attempted z room n (deedAt s z (n .registers) t (pointOf n (t - 1))) (t - 1) p
+      tried = attempted z room n (effectAt s z (n .registers) t (pointOf n (t - 1))) (t - 1) p
 
       out : Bool → Bool → Bool → Stepped
       out a b c = cond a (refused 27 n) (cond b (refused 27 n) (cond c tried (refused 27 n)))
@@ -163,5 +163,5 @@ module _ (s : List ℕ) (z : Sizes) (room : ℕ) (n : Machine) where
       go : (a b c : Bool) → (out a b c .code ≡ 0 → ⊥) → out a b c .machine ≡ n
       go true b c h = refl
       go false true c h = refl
-      go false false true h = attempt-stays (deedAt s z (n .registers) t (pointOf n (t - 1))) (t - 1) p h
+      go false false true h = attempt-stays (effectAt s z (n .registers) t (pointOf n (t - 1))) (t - 1) p h
       go false false false h = refl

@@ -5,7 +5,7 @@ use lib.Dec.{eqb, ltb}
 use lib.ListN.{set}
 use Rattle.logic.specs.Opcode as Opcode
 use Rattle.replay_memory.specs.View.{next}
-use Rattle.replay_machine.specs.declared.effect.Deed.{Deed}
+use Rattle.replay_machine.specs.declared.effect.Effect.{Effect}
 use Rattle.replay_machine.specs.declared.locals.Registers.{Registers}
 
 -- a register that is not there is not set
@@ -13,11 +13,11 @@ unfoldable pub withRegister : Registers → ℕ → ℕ → Registers
 withRegister g r v = cond (eqb r 0) g (cond (ltb 16 r) g (record { at = set (g .at) (r - 1) v }))
 
 -- of two assignments to one register the first would count
-unfoldable pub withBoth : Registers → Deed → Registers
+unfoldable pub withBoth : Registers → Effect → Registers
 withBoth g d = withRegister (withRegister g (d .noted) (d .note)) (d .register) (d .value)
 
 -- old: the value of the write that is picked
-unfoldable pub registersAfter : Registers → ℕ → Deed → Registers
+unfoldable pub registersAfter : Registers → ℕ → Effect → Registers
 registersAfter g old d =
     cond (eqb (d .operation) Opcode.assign) (withRegister g (d .register) (d .value))
     (cond (eqb (d .operation) Opcode.load) (withRegister g (d .register) old)
@@ -30,5 +30,5 @@ registersAfter g old d =
     (cond (eqb (d .operation) Opcode.assignTwo) (withBoth g d) g))))))))
 
 -- a branch goes to its target if its test is true, 1; else, and for any other instruction, the next point
-unfoldable pub pointAfter : ℕ → Deed → ℕ
+unfoldable pub pointAfter : ℕ → Effect → ℕ
 pointAfter k d = cond (eqb (d .operation) Opcode.branch) (cond (eqb (d .value) 1) (d .target) (next k)) (next k)

@@ -6,7 +6,7 @@ use Rattle.logic.specs.Opcode as Opcode
 use Rattle.replay_memory.specs.Memory.{first}
 use Rattle.replay_memory.specs.declared.memory.Memory.{Memory}
 use Rattle.replay_machine.specs.Shared.{mayPick}
-use Rattle.replay_machine.specs.declared.effect.Deed.{Deed}
+use Rattle.replay_machine.specs.declared.effect.Effect.{Effect}
 
 -- how many writes the first n rows have
 abbrev pub total : Memory → ℕ → ℕ
@@ -16,5 +16,5 @@ total m n = first (m .sizes) n
 unfoldable pub adding : ℕ → Bool
 adding op = cond (leb op Opcode.acquire) false (cond (eqb op Opcode.branch) false (not (eqb op Opcode.assignTwo)))
 
-unfoldable pub pickRefusal : Memory → ℕ → ℕ → Deed → ℕ → ℕ → ℕ
+unfoldable pub pickRefusal : Memory → ℕ → ℕ → Effect → ℕ → ℕ → ℕ
 pickRefusal m words room d t p = cond (mayPick m d t p) (cond (adding (d .operation)) (cond (ltb (total m words) room) 0 29) 0) 28

@@ -9,11 +9,11 @@ use Rattle.replay_memory.specs.View.{positionIn}
 use Rattle.replay_memory.specs.Memory.{writeAt, seenBy}
 use Rattle.replay_memory.specs.Access.{loaded, stored, swapped}
 use Rattle.replay_memory.specs.declared.memory.Memory.{Memory}
-use Rattle.replay_memory.specs.declared.memory.Sight.{Sight}
-use Rattle.replay_machine.specs.declared.effect.Deed.{Deed}
+use Rattle.replay_memory.specs.declared.memory.MemoryShape.{MemoryShape}
+use Rattle.replay_machine.specs.declared.effect.Effect.{Effect}
 
 -- the position is there, at or after the thread's own
-unfoldable pub reachableBy : Sight → ℕ → ℕ → ℕ → Bool
+unfoldable pub reachableBy : MemoryShape → ℕ → ℕ → ℕ → Bool
 reachableBy g t k p = cond (ltb p (getD (g .sizes) (k % 8) 0)) (leb (positionIn (seenBy g t) k) p) false
 
 unfoldable pub reachable : Memory → ℕ → ℕ → ℕ → Bool
@@ -23,7 +23,7 @@ unfoldable pub uncovered : Memory → ℕ → ℕ → ℕ → Bool
 uncovered m t k p = cond (reachable m t k p) (not (writeAt m k p .covered)) false
 
 -- a load reads any such write, covered or not; a write is put behind an uncovered one; for assignment and branch the position is 0
-unfoldable pub mayPick : Memory → Deed → ℕ → ℕ → Bool
+unfoldable pub mayPick : Memory → Effect → ℕ → ℕ → Bool
 mayPick m d t p =
     cond (eqb (d .operation) Opcode.assign) (eqb p 0)
     (cond (eqb (d .operation) Opcode.branch) (eqb p 0)
@@ -32,10 +32,10 @@ mayPick m d t p =
     (cond (eqb (d .operation) Opcode.acquire) (reachable m t (d .word) p) (uncovered m t (d .word) p)))))
 
 -- a swap that stores the old value plus the formula's
-unfoldable pub fetchAdded : Memory → ℕ → Deed → ℕ → ℕ → Memory
+unfoldable pub fetchAdded : Memory → ℕ → Effect → ℕ → ℕ → Memory
 fetchAdded m R d t p = swapped m (d .word) (sumOf R (writeAt m (d .word) p .value) (d .value)) t p
 
-unfoldable pub memoryAfter : Memory → ℕ → Deed → ℕ → ℕ → Memory
+unfoldable pub memoryAfter : Memory → ℕ → Effect → ℕ → ℕ → Memory
 memoryAfter m R d t p =
     cond (eqb (d .operation) Opcode.load) (loaded m false t (d .word) p)
     (cond (eqb (d .operation) Opcode.acquire) (loaded m true t (d .word) p)

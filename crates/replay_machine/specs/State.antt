@@ -5,15 +5,15 @@ use mathlib.Core.List.{List}
 use Rattle.replay_memory.specs.Memory.{writeAt, memoryOf}
 use Rattle.replay_machine.specs.Shared.{memoryAfter}
 use Rattle.replay_machine.specs.Locals.{registersAfter, pointAfter}
-use Rattle.replay_machine.specs.declared.effect.Deed.{Deed}
+use Rattle.replay_machine.specs.declared.effect.Effect.{Effect}
 use Rattle.replay_machine.specs.declared.state.Machine.{Machine}
 use Rattle.replay_machine.specs.declared.state.Threads.{Threads}
 
 unfoldable pub pointOf : Machine → ℕ → ℕ
 pointOf n t = getD (n .points) (t % 4) 0
 
--- thread t does the deed at position p
-unfoldable pub performed : Machine → ℕ → Deed → ℕ → ℕ → Machine
+-- thread t does the effect at position p
+unfoldable pub performed : Machine → ℕ → Effect → ℕ → ℕ → Machine
 performed n R d t p = record {
   memory = memoryAfter (n .memory) R d t p;
   registers = registersAfter (n .registers) (writeAt (n .memory) (d .word) p .value) d;

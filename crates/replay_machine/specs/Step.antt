@@ -12,8 +12,8 @@ use Rattle.image_header.specs.Thread.{lastPoint}
 use Rattle.image_bodies.specs.RecordPlaces.{threadBody, instructionOf}
 use Rattle.image_access.specs.AccessPlaces.{formulaAt}
 use Rattle.replay_machine.specs.Evaluate.{workedT}
-use Rattle.replay_machine.specs.Effect.{deedOf}
-use Rattle.replay_machine.specs.declared.effect.Deed.{Deed}
+use Rattle.replay_machine.specs.Effect.{effectOf}
+use Rattle.replay_machine.specs.declared.effect.Effect.{Effect}
 use Rattle.replay_machine.specs.declared.locals.Registers.{Registers}
 use Rattle.replay_machine.specs.State.{pointOf, performed, machineOf}
 use Rattle.replay_machine.specs.Refusal.{pickRefusal}
@@ -32,8 +32,8 @@ takenOf r b = record { code = r .code; machine = machineOf (r .threads) b }
 abbrev pub refused : ℕ → Machine → Stepped
 refused code n = record { code = code; machine = n }
 
--- a deed of thread t, counted from 0
-unfoldable pub attempted : Sizes → ℕ → Machine → Deed → ℕ → ℕ → Stepped
+-- a effect of thread t, counted from 0
+unfoldable pub attempted : Sizes → ℕ → Machine → Effect → ℕ → ℕ → Stepped
 attempted z room n d t p =
     cond (eqb (pickRefusal (n .memory) (z .words) room d t p) 0) (record { code = 0; machine = performed n (z .range) d t p })
     (refused (pickRefusal (n .memory) (z .words) room d t p) n)
@@ -44,11 +44,11 @@ module _ (s : List ℕ) (z : Sizes) where
   valueAt h k = workedT (z .range) (h .at) (parseTree s nesting (formulaAt s k) .tree)
 
   -- an instruction with its formulas worked out
-  abbrev pub workedOut : Registers → Instruction → Deed
-  workedOut h i = deedOf i (valueAt h (i .formula)) (valueAt h (i .second .formula))
+  abbrev pub workedOut : Registers → Instruction → Effect
+  workedOut h i = effectOf i (valueAt h (i .formula)) (valueAt h (i .second .formula))
 
-  unfoldable pub deedAt : Registers → ℕ → ℕ → Deed
-  deedAt h t k = workedOut h (instructionOf z (bodies s) t k)
+  unfoldable pub effectAt : Registers → ℕ → ℕ → Effect
+  effectAt h t k = workedOut h (instructionOf z (bodies s) t k)
 
   unfoldable pub lastOf : ℕ → ℕ
   lastOf t = lastPoint (threadBody z (bodies s) t)
@@ -58,5 +58,5 @@ module _ (s : List ℕ) (z : Sizes) where
   stepped room n t p =
       cond (eqb t 0) (refused 27 n)
       (cond (ltb (z .threads) t) (refused 27 n)
-      (cond (ltb (pointOf n (t - 1)) (lastOf t)) (attempted z room n (deedAt (n .registers) t (pointOf n (t - 1))) (t - 1) p)
+      (cond (ltb (pointOf n (t - 1)) (lastOf t)) (attempted z room n (effectAt (n .registers) t (pointOf n (t - 1))) (t - 1) p)
       (refused 27 n)))

@@ -3,10 +3,10 @@ use image_header::instruction::Instruction;
 ghost use mathlib.Core.Path.{_≡_};
 ghost use Prim.Native.Nat.{_-_};
 ghost use Rattle.image_access.specs.AccessPlaces.{registerFirst};
-ghost use Rattle.replay_machine.specs.Effect.{deedOf};
+ghost use Rattle.replay_machine.specs.Effect.{effectOf};
 
 // The word counts from 0, registers from 1. What an operation has not is not looked at.
-pub struct Deed {
+pub struct Effect {
     pub operation: u8,
     pub word: u8,
     pub register: u8,
@@ -38,12 +38,12 @@ fn register_first(operation: u8) -> bool
     operation == Instruction::ASSIGN_TWO
 }
 
-pub fn deed_of(instruction: Instruction, value: u8, note: u8) -> Deed
-    ensures { λ r. ⌜ r ≡ deedOf instruction value note ⌝ }
+pub fn effect_of(instruction: Instruction, value: u8, note: u8) -> Effect
+    ensures { λ r. ⌜ r ≡ effectOf instruction value note ⌝ }
 {
     let h = instruction.second;
     if register_first(instruction.operation) {
-        return Deed {
+        return Effect {
             operation: instruction.operation,
             word: before(instruction.b),
             register: instruction.a,
@@ -53,7 +53,7 @@ pub fn deed_of(instruction: Instruction, value: u8, note: u8) -> Deed
             target: instruction.a,
         };
     }
-    Deed {
+    Effect {
         operation: instruction.operation,
         word: before(instruction.a),
         register: instruction.b,

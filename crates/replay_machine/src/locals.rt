@@ -1,5 +1,5 @@
 // Registers and points.
-use crate::effect::Deed;
+use crate::effect::Effect;
 use image_header::instruction::Instruction;
 use replay_memory::view::next;
 ghost use mathlib.Core.Path.{_≡_};
@@ -27,7 +27,7 @@ fn with_register(registers: Registers, r: u8, value: u8) -> Registers
 }
 
 // Both registers of two assignments.
-fn with_both(registers: Registers, effect: Deed) -> Registers
+fn with_both(registers: Registers, effect: Effect) -> Registers
     ensures { λ r. ⌜ r ≡ withBoth registers effect ⌝ }
 {
     let n = with_register(registers, effect.noted, effect.note);
@@ -35,7 +35,7 @@ fn with_both(registers: Registers, effect: Deed) -> Registers
 }
 
 // The registers after a step; old is the value of the write that it picks.
-pub fn registers_after(registers: Registers, old: u8, effect: Deed) -> Registers
+pub fn registers_after(registers: Registers, old: u8, effect: Effect) -> Registers
     ensures { λ r. ⌜ r ≡ registersAfter registers old effect ⌝ }
 {
     let op = effect.operation;
@@ -70,7 +70,7 @@ pub fn registers_after(registers: Registers, old: u8, effect: Deed) -> Registers
 }
 
 // The point after a step: the next one, or where a branch goes whose test is true.
-pub fn point_after(point: u8, effect: Deed) -> u8
+pub fn point_after(point: u8, effect: Effect) -> u8
     ensures { λ r. ⌜ r ≡ pointAfter point effect ⌝ }
 {
     if effect.operation == Instruction::BRANCH {

@@ -1,9 +1,9 @@
 // Whether a step may be taken: its position, and room for a write.
-use crate::effect::Deed;
+use crate::effect::Effect;
 use crate::shared::may_pick;
 use image_header::instruction::Instruction;
 use replay_memory::memory::Memory;
-use replay_memory::memory::Sight;
+use replay_memory::memory::MemoryShape;
 use replay_memory::memory::first_of;
 use replay_memory::write_table::Places;
 ghost use mathlib.Core.Path.{_≡_};
@@ -47,13 +47,13 @@ fn is_adding(operation: u8) -> bool
     operation != Instruction::ASSIGN_TWO
 }
 
-// Why thread t may not do the deed at position p; 0 if it may.
+// Why thread t may not do the effect at position p; 0 if it may.
 pub fn pick_refusal(
     table: &[u8; Places::BYTES],
-    shape: Sight,
+    shape: MemoryShape,
     words: u8,
     room: usize,
-    effect: Deed,
+    effect: Effect,
     t: u8,
     position: u8,
 ) -> u8

@@ -1,10 +1,10 @@
 // What a step does to shared words and views, and whether it may pick a position.
-use crate::effect::Deed;
+use crate::effect::Effect;
 use image_header::instruction::Instruction;
 use replay_memory::access::load;
 use replay_memory::access::store;
 use replay_memory::access::swap;
-use replay_memory::memory::Sight;
+use replay_memory::memory::MemoryShape;
 use replay_memory::memory::size_in;
 use replay_memory::memory::view_of;
 use replay_memory::memory::write_at;
@@ -17,7 +17,7 @@ ghost use Rattle.replay_memory.specs.Memory.{memoryOf};
 ghost use Rattle.replay_machine.specs.Shared.{reachableBy, uncovered, mayPick, fetchAdded, memoryAfter};
 
 // The position is there, at or after the thread's own.
-fn is_reachable(shape: Sight, t: u8, x: u8, position: u8) -> bool
+fn is_reachable(shape: MemoryShape, t: u8, x: u8, position: u8) -> bool
     ensures { λ r. ⌜ r ≡ reachableBy shape t x position ⌝ }
 {
     let sizes = shape.sizes;
@@ -28,7 +28,7 @@ fn is_reachable(shape: Sight, t: u8, x: u8, position: u8) -> bool
 }
 
 // A write is put behind an uncovered one.
-fn is_uncovered(table: &[u8; Places::BYTES], shape: Sight, t: u8, x: u8, position: u8) -> bool
+fn is_uncovered(table: &[u8; Places::BYTES], shape: MemoryShape, t: u8, x: u8, position: u8) -> bool
     ensures { λ r. ⌜ r ≡ uncovered (memoryOf shape (now (table .entry))) t x position ⌝ }
 {
     if is_reachable(shape, t, x, position) {
@@ -40,8 +40,8 @@ fn is_uncovered(table: &[u8; Places::BYTES], shape: Sight, t: u8, x: u8, positio
 // An instruction that picks no write has position 0.
 pub fn may_pick(
     table: &[u8; Places::BYTES],
-    shape: Sight,
-    effect: Deed,
+    shape: MemoryShape,
+    effect: Effect,
     t: u8,
     position: u8,
 ) -> bool
@@ -68,13 +68,13 @@ pub fn may_pick(
 
 // A swap that stores the old value plus the formula's.
 fn fetch_add(
-    shape: Sight,
+    shape: MemoryShape,
     range: u8,
-    effect: Deed,
+    effect: Effect,
     t: u8,
     position: u8,
     table: &mut [u8; Places::BYTES],
-) -> Sight
+) -> MemoryShape
     requires { ⌜ length (now table) ≡ 792 ⌝ }
     ensures { λ r. ⌜ memoryOf r (now (table .exit)) ≡ fetchAdded (memoryOf shape (now (table .entry))) range effect t position ⌝ }
     ensures { λ _. ⌜ length (now (table .exit)) ≡ 792 ⌝ }
@@ -89,13 +89,13 @@ fn fetch_add(
 
 // What thread t does to shared words and views at position p.
 pub fn memory_after(
-    shape: Sight,
+    shape: MemoryShape,
     range: u8,
-    effect: Deed,
+    effect: Effect,
     t: u8,
     position: u8,
     table: &mut [u8; Places::BYTES],
-) -> Sight
+) -> MemoryShape
     requires { ⌜ length (now table) ≡ 792 ⌝ }
     ensures { λ r. ⌜ memoryOf r (now (table .exit)) ≡ memoryAfter (memoryOf shape (now (table .entry))) range effect t position ⌝ }
     ensures { λ _. ⌜ length (now (table .exit)) ≡ 792 ⌝ }

@@ -3,7 +3,7 @@ use crate::locals::Registers;
 use crate::state::Machine;
 use image_header::header::is_cleared;
 use image_header::header::start_value;
-use limits::read::octet_at;
+use limits::read::u8_at;
 use replay_memory::memory::Memory;
 use replay_memory::view::start_view;
 use replay_memory::write::start_write;
@@ -42,7 +42,7 @@ fn start_register(body: &[u8], range: u8, given: &[u8], i: usize) -> u8
     if is_cleared(body, i + 1) {
         return 0;
     }
-    octet_at(given, i) % range
+    u8_at(given, i) % range
 }
 
 fn start_registers(body: &[u8], range: u8, given: &[u8]) -> Registers

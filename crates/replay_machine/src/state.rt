@@ -1,12 +1,12 @@
 // A state of the machine: shared words and views, registers, points. Threads count from 0 here.
-use crate::effect::Deed;
+use crate::effect::Effect;
 use crate::locals::Registers;
 use crate::locals::point_after;
 use crate::locals::registers_after;
 use crate::shared::memory_after;
 use replay_memory::layout::memory_of;
 use replay_memory::memory::Memory;
-use replay_memory::memory::Sight;
+use replay_memory::memory::MemoryShape;
 use replay_memory::memory::write_at;
 use replay_memory::write_table::Places;
 ghost use mathlib.Core.Path.{_≡_};
@@ -22,7 +22,7 @@ pub struct Machine {
 
 // The same without the writes: what a step hands on by value.
 pub struct Threads {
-    pub sight: Sight,
+    pub sight: MemoryShape,
     pub registers: Registers,
     pub points: [u8; 4],
 }
@@ -36,7 +36,7 @@ pub fn threads_of(machine: Machine) -> Threads
     let registers = machine.registers;
     let points = machine.points;
     Threads {
-        sight: Sight { sizes, views },
+        sight: MemoryShape { sizes, views },
         registers,
         points,
     }
@@ -65,7 +65,7 @@ pub fn point_of(threads: Threads, t: u8) -> u8
 pub fn perform(
     threads: Threads,
     range: u8,
-    effect: Deed,
+    effect: Effect,
     t: u8,
     position: u8,
     table: &mut [u8; Places::BYTES],

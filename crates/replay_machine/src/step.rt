@@ -1,7 +1,7 @@
 // One step of a trace: refused, or taken.
-use crate::effect::Deed;
+use crate::effect::Effect;
 use crate::effect::before;
-use crate::effect::deed_of;
+use crate::effect::effect_of;
 use crate::evaluate::work;
 use crate::locals::Registers;
 use crate::pick::Refusal;
@@ -19,7 +19,7 @@ ghost use mathlib.Core.Path.{_≡_};
 ghost use lib.ListN.{length};
 ghost use Rattle.image_index.specs.IndexTable.{indexOf};
 ghost use Rattle.replay_machine.specs.State.{machineOf};
-ghost use Rattle.replay_machine.specs.Step.{valueAt, deedAt, lastOf, attempted, stepped, takenOf};
+ghost use Rattle.replay_machine.specs.Step.{valueAt, effectAt, lastOf, attempted, stepped, takenOf};
 
 // The state after a step, and why it was refused: then the state stays.
 pub struct Taken {
@@ -44,22 +44,22 @@ fn value_at<'a, 'b>(
 }
 
 // The instruction at point k of thread t, its formulas worked out at the registers.
-fn deed_at<'a, 'b>(
+fn effect_at<'a, 'b>(
     image: &'a [u8],
     index: &'b [usize],
     sizes: Sizes,
     registers: Registers,
     t: u8,
     point: u8,
-) -> Deed
+) -> Effect
     requires { ⌜ now index ≡ indexOf (now image) ⌝ }
-    ensures { λ r. ⌜ r ≡ deedAt (now (image .entry)) sizes registers t point ⌝ }
+    ensures { λ r. ⌜ r ≡ effectAt (now (image .entry)) sizes registers t point ⌝ }
 {
     let instruction = instruction_of(image, index, sizes, t as usize, point as usize);
     let half = instruction.second;
     let value = value_at(image, index, sizes, registers, instruction.formula);
     let note = value_at(image, index, sizes, registers, half.formula);
-    deed_of(instruction, value, note)
+    effect_of(instruction, value, note)
 }
 
 // The last point of thread t.
@@ -71,12 +71,12 @@ fn last_of<'a, 'b>(image: &'a [u8], index: &'b [usize], sizes: Sizes, t: u8) -> 
     last_point(body)
 }
 
-// A deed of thread t, counted from 0, at position p.
+// A effect of thread t, counted from 0, at position p.
 fn attempt(
     sizes: Sizes,
     room: usize,
     threads: Threads,
-    effect: Deed,
+    effect: Effect,
     t: u8,
     position: u8,
     table: &mut [u8; Places::BYTES],
@@ -134,6 +134,6 @@ pub fn step<'a, 'b, 'c>(
             threads: threads,
         };
     }
-    let d = deed_at(image, index, sizes, threads.registers, t, point);
+    let d = effect_at(image, index, sizes, threads.registers, t, point);
     attempt(sizes, room, threads, d, u, position, table)
 }

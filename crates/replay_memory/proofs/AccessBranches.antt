@@ -9,7 +9,7 @@ use Rattle.replay_memory.specs.Insert.{inserted}
 use Rattle.replay_memory.specs.Access.{readFrom, readView, loaded, put, stored, swapFrom, swapView, swapped}
 use Rattle.replay_memory.specs.declared.view.View.{View}
 use Rattle.replay_memory.specs.declared.write.Write.{Write}
-use Rattle.replay_memory.specs.declared.memory.Sight.{Sight}
+use Rattle.replay_memory.specs.declared.memory.MemoryShape.{MemoryShape}
 
 module _ (w : Write) (v r : View) where
   module _ (k p : ℕ) (a : Bool) where
@@ -34,7 +34,7 @@ unfolding swapFrom
 swap-plain w v g = rw g
 
 -- sizes and views beside a table of bytes
-module _ (g : Sight) (b : List ℕ) (t : ℕ) where
+module _ (g : MemoryShape) (b : List ℕ) (t : ℕ) where
   pub seen-is : seenBy g t ≡ viewOf (memoryOf g b) t
   unfolding seenBy viewOf memoryOf
   seen-is = refl
@@ -43,14 +43,14 @@ module _ (g : Sight) (b : List ℕ) (t : ℕ) where
   unfolding withSeen withView memoryOf
   with-is v = refl
 
-module _ (g r : Sight) (b : List ℕ) (k t p : ℕ) where
+module _ (g r : MemoryShape) (b : List ℕ) (k t p : ℕ) where
   pub load-made : (a : Bool) (w : Write) (v u : View) → w ≡ writeAt (memoryOf g b) k p → v ≡ seenBy g t → u ≡ readFrom w v a k p
       → r ≡ withSeen g t u → memoryOf r b ≡ loaded (memoryOf g b) a t k p
   unfolding loaded readView
   load-made a w v u ew ev eu er = rw (er, with-is g b t u, eu, ew, ev, seen-is g b t)
 
   module _ (c : List ℕ) where
-    pub put-made : (x : Bool) (n q : ℕ) (u v : View) (i : Sight) → q ≡ next p → u ≡ withPosition v k q
+    pub put-made : (x : Bool) (n q : ℕ) (u v : View) (i : MemoryShape) → q ≡ next p → u ≡ withPosition v k q
         → memoryOf i c ≡ inserted (memoryOf g b) k p (record { value = n; releasing = x; covered = false; stored = u })
         → r ≡ withSeen i t u → memoryOf r c ≡ put (memoryOf g b) x k n t p v
     unfolding put

@@ -16,7 +16,7 @@ use Rattle.replay_memory.specs.Insert.{movedTo, viewsTo, grown, inserted
 use Rattle.replay_memory.specs.declared.view.View.{View}
 use Rattle.replay_memory.specs.declared.write.Write.{Write}
 use Rattle.replay_memory.specs.declared.memory.Memory.{Memory}
-use Rattle.replay_memory.specs.declared.memory.Sight.{Sight}
+use Rattle.replay_memory.specs.declared.memory.MemoryShape.{MemoryShape}
 use Rattle.replay_memory.proofs.ViewBranches.{column-set, column-whole, repeated}
 
 module _ (l : List View) (k p : ℕ) where
@@ -36,7 +36,7 @@ module _ (l : List View) (k p : ℕ) where
   unfolding viewsTo
   views-whole a j h g n t = column-whole sees a j 4 h g n t
 
-pub views-end : (g : Sight) (k p s : ℕ) (a : List View) (j : ℕ) → j ≤ 4 → 4 ≤ j → length a ≡ 4 → take j a ≡ viewsTo (g .views) k p j
+pub views-end : (g : MemoryShape) (k p s : ℕ) (a : List View) (j : ℕ) → j ≤ 4 → 4 ≤ j → length a ≡ 4 → take j a ≡ viewsTo (g .views) k p j
     → s ≡ next (getD (g .sizes) (k % 8) 0) → record { sizes = set (g .sizes) (k % 8) s; views = a } ≡ grown g k p
 unfolding grown
 views-end g k p s a j h i n t e = rw (e, ← views-whole (g .views) k p a j h i n t)
@@ -54,7 +54,7 @@ moved-raised m k p q e h =
     raise i = upWrite k p (getD (m .writes) i noWrite)
 
 -- from the bytes b on: views raised, writes moved up, the new one put
-module _ (g r : Sight) (b : List ℕ) (k p : ℕ) (w : Write) where
+module _ (g r : MemoryShape) (b : List ℕ) (k p : ℕ) (w : Write) where
   pub insert-made : (c d f : List ℕ) (q n at : ℕ) → writesIn c ≡ raisedAll (writesIn b) k p → q ≡ indexOf (g .sizes) k p → q < 72
       → writesIn d ≡ movedUp (writesIn c) q → n ≡ next p → at ≡ indexOf (g .sizes) k n → writesIn f ≡ set (writesIn d) at w
       → r ≡ grown g k p → memoryOf r f ≡ inserted (memoryOf g b) k p w

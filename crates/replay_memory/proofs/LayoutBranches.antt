@@ -12,7 +12,7 @@ use Rattle.replay_memory.specs.Write.{noWrite}
 use Rattle.replay_memory.specs.WriteTable.{readAt, writesIn}
 use Rattle.replay_memory.specs.Memory.{memoryOf}
 use Rattle.replay_memory.specs.declared.write.Write.{Write}
-use Rattle.replay_memory.specs.declared.memory.Sight.{Sight}
+use Rattle.replay_memory.specs.declared.memory.MemoryShape.{MemoryShape}
 use Rattle.replay_memory.proofs.ViewBranches.{column-set, column-whole, repeated}
 
 writes-length : (b : List ℕ) → length (writesIn b) ≡ 72
@@ -52,7 +52,7 @@ module _ (b : List ℕ) (a : List Write) where
   unfolding readTo
   read-more j w e h n t = column-set (readAt b) a j 72 w h n t e
 
-  pub read-end : (g : Sight) (j : ℕ) → j ≤ 72 → 72 ≤ j → length a ≡ 72 → take j a ≡ readTo b j
+  pub read-end : (g : MemoryShape) (j : ℕ) → j ≤ 72 → 72 ≤ j → length a ≡ 72 → take j a ≡ readTo b j
       → record { sizes = g .sizes; writes = a; views = g .views } ≡ memoryOf g b
   unfolding readTo memoryOf writesIn
   read-end g j h i n t = rw (← column-whole (readAt b) a j 72 h i n t)

@@ -5,10 +5,10 @@ use mathlib.Core.List.{List}
 use Rattle.replay_memory.specs.WriteTable.{readAt, writesIn, coveredAt}
 use Rattle.replay_memory.specs.Memory.{indexOf, writeAt, covering, memoryOf}
 use Rattle.replay_memory.specs.declared.write.Write.{Write}
-use Rattle.replay_memory.specs.declared.memory.Sight.{Sight}
+use Rattle.replay_memory.specs.declared.memory.MemoryShape.{MemoryShape}
 use Rattle.replay_memory.proofs.TableBytes.{write-in}
 
-module _ (g : Sight) (b : List ℕ) (k p i : ℕ) (e : i ≡ indexOf (g .sizes) k p) where
+module _ (g : MemoryShape) (b : List ℕ) (k p i : ℕ) (e : i ≡ indexOf (g .sizes) k p) where
   pub write-there : (w : Write) → i < 72 → w ≡ readAt b i → w ≡ writeAt (memoryOf g b) k p
   unfolding writeAt memoryOf
   write-there w h d = rw (← e) (d ∙ sym (write-in b i h))

@@ -10,7 +10,7 @@ use Rattle.replay_memory.specs.Memory.{indexOf, sizeAt}
 use Rattle.replay_memory.specs.declared.view.View.{View}
 use Rattle.replay_memory.specs.declared.write.Write.{Write}
 use Rattle.replay_memory.specs.declared.memory.Memory.{Memory}
-use Rattle.replay_memory.specs.declared.memory.Sight.{Sight}
+use Rattle.replay_memory.specs.declared.memory.MemoryShape.{MemoryShape}
 
 -- the first n places
 unfoldable pub movedTo : Memory → ℕ → ℕ → ℕ → List Write
@@ -20,7 +20,7 @@ movedTo m k p n = column (λ j. upWrite k p (getD (m .writes) (down (indexOf (m 
 unfoldable pub viewsTo : List View → ℕ → ℕ → ℕ → List View
 viewsTo l k p n = column (λ j. upView k p (getD l j noView)) n
 
-unfoldable pub grown : Sight → ℕ → ℕ → Sight
+unfoldable pub grown : MemoryShape → ℕ → ℕ → MemoryShape
 grown g k p = record { sizes = set (g .sizes) (k % 8) (next (getD (g .sizes) (k % 8) 0)); views = viewsTo (g .views) k p 4 }
 
 unfoldable pub inserted : Memory → ℕ → ℕ → Write → Memory

@@ -7,7 +7,7 @@ use Rattle.replay_memory.specs.declared.view.View.{View}
 use Rattle.replay_memory.specs.declared.write.Write.{Write}
 use Rattle.replay_memory.specs.WriteTable.{writesIn}
 use Rattle.replay_memory.specs.declared.memory.Memory.{Memory}
-use Rattle.replay_memory.specs.declared.memory.Sight.{Sight}
+use Rattle.replay_memory.specs.declared.memory.MemoryShape.{MemoryShape}
 
 -- where the row of word k begins: the sum of the sizes before
 unfoldable pub first : List ℕ → ℕ → ℕ
@@ -37,11 +37,11 @@ covering m k p =
 
 -- SIZES AND VIEWS APART FROM A TABLE OF BYTES
 
-unfoldable pub memoryOf : Sight → List ℕ → Memory
+unfoldable pub memoryOf : MemoryShape → List ℕ → Memory
 memoryOf g b = record { sizes = g .sizes; writes = writesIn b; views = g .views }
 
-unfoldable pub seenBy : Sight → ℕ → View
+unfoldable pub seenBy : MemoryShape → ℕ → View
 seenBy g t = getD (g .views) (t % 4) noView
 
-unfoldable pub withSeen : Sight → ℕ → View → Sight
+unfoldable pub withSeen : MemoryShape → ℕ → View → MemoryShape
 withSeen g t v = record { sizes = g .sizes; views = set (g .views) (t % 4) v }

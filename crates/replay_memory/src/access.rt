@@ -1,6 +1,6 @@
 // What loads, stores and swaps do to rows and views: thread t, at position p of word k, all counted from 0.
 use crate::insert::insert;
-use crate::memory::Sight;
+use crate::memory::MemoryShape;
 use crate::memory::cover;
 use crate::memory::view_of;
 use crate::memory::with_view;
@@ -34,12 +34,12 @@ fn read_view(write: Write, view: View, acquires: bool, x: u8, position: u8) -> V
 
 pub fn load(
     table: &[u8; Places::BYTES],
-    shape: Sight,
+    shape: MemoryShape,
     acquires: bool,
     t: u8,
     x: u8,
     position: u8,
-) -> Sight
+) -> MemoryShape
     ensures { λ r. ⌜ memoryOf r (now (table .entry)) ≡ loaded (memoryOf shape (now (table .entry))) acquires t x position ⌝ }
 {
     let write = write_at(table, shape, x, position);
@@ -52,7 +52,7 @@ pub fn load(
 
 // A new write of value n from the view v: the view moves to it, and that view is stored with it.
 fn put(
-    shape: Sight,
+    shape: MemoryShape,
     releasing: bool,
     x: u8,
     value: u8,
@@ -60,7 +60,7 @@ fn put(
     position: u8,
     view: View,
     table: &mut [u8; Places::BYTES],
-) -> Sight
+) -> MemoryShape
     requires { ⌜ length (now table) ≡ 792 ⌝ }
     ensures { λ r. ⌜ memoryOf r (now (table .exit)) ≡ put (memoryOf shape (now (table .entry))) releasing x value t position view ⌝ }
     ensures { λ _. ⌜ length (now (table .exit)) ≡ 792 ⌝ }
@@ -76,14 +76,14 @@ fn put(
 }
 
 pub fn store(
-    shape: Sight,
+    shape: MemoryShape,
     releasing: bool,
     x: u8,
     value: u8,
     t: u8,
     position: u8,
     table: &mut [u8; Places::BYTES],
-) -> Sight
+) -> MemoryShape
     requires { ⌜ length (now table) ≡ 792 ⌝ }
     ensures { λ r. ⌜ memoryOf r (now (table .exit)) ≡ stored (memoryOf shape (now (table .entry))) releasing x value t position ⌝ }
     ensures { λ _. ⌜ length (now (table .exit)) ≡ 792 ⌝ }
@@ -113,13 +113,13 @@ fn swap_view(write: Write, view: View) -> View
 
 // A releasing store that also covers the picked write.
 pub fn swap(
-    shape: Sight,
+    shape: MemoryShape,
     x: u8,
     value: u8,
     t: u8,
     position: u8,
     table: &mut [u8; Places::BYTES],
-) -> Sight
+) -> MemoryShape
     requires { ⌜ length (now table) ≡ 792 ⌝ }
     ensures { λ r. ⌜ memoryOf r (now (table .exit)) ≡ swapped (memoryOf shape (now (table .entry))) x value t position ⌝ }
     ensures { λ _. ⌜ length (now (table .exit)) ≡ 792 ⌝ }

@@ -1,5 +1,5 @@
 // A write inserted behind another: those behind it in the table move up by one, and every view keeps its writes.
-use crate::memory::Sight;
+use crate::memory::MemoryShape;
 use crate::memory::index_of;
 use crate::view::next;
 use crate::view::start_view;
@@ -15,7 +15,7 @@ ghost use Rattle.replay_memory.specs.Memory.{memoryOf};
 ghost use Rattle.replay_memory.specs.Insert.{grown, inserted};
 
 // One more write of word k, behind position p: the threads' views keep their writes.
-fn grow(shape: Sight, x: u8, position: u8) -> Sight
+fn grow(shape: MemoryShape, x: u8, position: u8) -> MemoryShape
     ensures { λ r. ⌜ r ≡ grown shape x position ⌝ }
 {
     let none = start_view();
@@ -28,17 +28,17 @@ fn grow(shape: Sight, x: u8, position: u8) -> Sight
     let i = (x % 8) as usize;
     let mut sizes = shape.sizes;
     sizes[i] = next(sizes[i]);
-    Sight { sizes, views }
+    MemoryShape { sizes, views }
 }
 
 // The write w directly behind position p of word k.
 pub fn insert(
-    shape: Sight,
+    shape: MemoryShape,
     x: u8,
     position: u8,
     write: Write,
     table: &mut [u8; Places::BYTES],
-) -> Sight
+) -> MemoryShape
     requires { ⌜ length (now table) ≡ 792 ⌝ }
     ensures { λ r. ⌜ memoryOf r (now (table .exit)) ≡ inserted (memoryOf shape (now (table .entry))) x position write ⌝ }
     ensures { λ _. ⌜ length (now (table .exit)) ≡ 792 ⌝ }

@@ -1,6 +1,6 @@
 // A memory's writes laid out as bytes, and taken from there.
 use crate::memory::Memory;
-use crate::memory::Sight;
+use crate::memory::MemoryShape;
 use crate::write::start_write;
 use crate::write_table::Places;
 use crate::write_table::put_at;
@@ -22,7 +22,7 @@ pub fn lay_out(memory: Memory, table: &mut [u8; Places::BYTES])
     }
 }
 
-pub fn memory_of(shape: Sight, table: &[u8; Places::BYTES]) -> Memory
+pub fn memory_of(shape: MemoryShape, table: &[u8; Places::BYTES]) -> Memory
     ensures { λ r. ⌜ r ≡ memoryOf shape (now (table .entry)) ⌝ }
 {
     let none = start_write(0);

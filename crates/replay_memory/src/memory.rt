@@ -6,7 +6,7 @@ use crate::write_table::Places;
 use crate::write_table::cover_at;
 use crate::write_table::read_at;
 use limits::read::byte_at;
-use limits::read::octet_at;
+use limits::read::u8_at;
 ghost use mathlib.Core.Path.{_≡_};
 ghost use Prim.Native.Nat.{_≤_, _<_, _*_, _%_};
 ghost use lib.ListN.{length, getD};
@@ -20,7 +20,7 @@ pub struct Memory {
 }
 
 // The same without the writes: these stand in a table of bytes that is lent, so that a step copies none of them.
-pub struct Sight {
+pub struct MemoryShape {
     pub sizes: [u8; 8],
     pub views: [View; 4],
 }
@@ -49,24 +49,24 @@ pub fn index_of(sizes: &[u8], x: u8, position: u8) -> usize
 pub fn size_in(sizes: &[u8], x: u8) -> u8
     ensures { λ r. ⌜ r ≡ getD (now (sizes .entry)) (x % 8) 0 ⌝ }
 {
-    octet_at(sizes, (x % 8) as usize)
+    u8_at(sizes, (x % 8) as usize)
 }
 
-pub fn write_at(table: &[u8; Places::BYTES], shape: Sight, x: u8, position: u8) -> Write
+pub fn write_at(table: &[u8; Places::BYTES], shape: MemoryShape, x: u8, position: u8) -> Write
     ensures { λ r. ⌜ r ≡ writeAt (memoryOf shape (now (table .entry))) x position ⌝ }
 {
     let sizes = shape.sizes;
     read_at(table, index_of(&sizes, x, position))
 }
 
-pub fn view_of(shape: Sight, t: u8) -> View
+pub fn view_of(shape: MemoryShape, t: u8) -> View
     ensures { λ r. ⌜ r ≡ seenBy shape t ⌝ }
 {
     let i = (t % 4) as usize;
     shape.views[i]
 }
 
-pub fn with_view(shape: Sight, t: u8, view: View) -> Sight
+pub fn with_view(shape: MemoryShape, t: u8, view: View) -> MemoryShape
     ensures { λ r. ⌜ r ≡ withSeen shape t view ⌝ }
 {
     let i = (t % 4) as usize;
@@ -76,7 +76,7 @@ pub fn with_view(shape: Sight, t: u8, view: View) -> Sight
 }
 
 // The write at position p of word k, covered.
-pub fn cover(shape: Sight, x: u8, position: u8, table: &mut [u8; Places::BYTES])
+pub fn cover(shape: MemoryShape, x: u8, position: u8, table: &mut [u8; Places::BYTES])
     requires { ⌜ length (now table) ≡ 792 ⌝ }
     ensures { λ _. ⌜ memoryOf shape (now (table .exit)) ≡ covering (memoryOf shape (now (table .entry))) x position ⌝ }
     ensures { λ _. ⌜ length (now (table .exit)) ≡ 792 ⌝ }

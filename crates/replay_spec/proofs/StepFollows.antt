@@ -40,28 +40,28 @@ use Rattle.replay_memory.specs.declared.memory.Memory.{Memory}
 use Rattle.replay_memory.proofs.SameAsLogic.{set-upd}
 use Rattle.replay_memory.proofs.OrderPlaces.{first-none, first-next}
 use Rattle.replay_memory.proofs.StandsAfterInsert.{size-is}
-use Rattle.replay_machine.specs.Effect.{deedOf}
+use Rattle.replay_machine.specs.Effect.{effectOf}
 use Rattle.replay_machine.specs.Shared.{mayPick, memoryAfter}
 use Rattle.replay_machine.specs.Locals.{pointAfter}
 use Rattle.replay_machine.specs.RegistersStand.{SameRegs, adds}
-use Rattle.replay_machine.specs.declared.effect.Deed.{Deed}
+use Rattle.replay_machine.specs.declared.effect.Effect.{Effect}
 use Rattle.replay_machine.specs.declared.locals.Registers.{Registers}
 use Rattle.replay_machine.proofs.EffectAgrees.{Made}
 use Rattle.replay_machine.proofs.InstructionEffect.{sizes-few, valueOf, does-there}
 use Rattle.replay_machine.specs.State.{pointOf, performed}
 use Rattle.replay_machine.specs.Refusal.{total, adding, pickRefusal}
-use Rattle.replay_machine.specs.Step.{valueAt, workedOut, deedAt, lastOf, refused, attempted, stepped}
+use Rattle.replay_machine.specs.Step.{valueAt, workedOut, effectAt, lastOf, refused, attempted, stepped}
 use Rattle.replay_spec.specs.MachineReplay.{used, refusal}
 use Rattle.replay_spec.specs.StateStands.{StandsFor}
 use Rattle.replay_machine.specs.declared.state.Machine.{Machine}
 
 -- the deed's operation is the instruction's
-deed-operation : (i : Instruction) (v g : ℕ) → deedOf i v g .operation ≡ i .operation
-unfolding deedOf
-deed-operation i v g = go (registerFirst (i .operation))
+effect-operation : (i : Instruction) (v g : ℕ) → effectOf i v g .operation ≡ i .operation
+unfolding effectOf
+effect-operation i v g = go (registerFirst (i .operation))
   where
     go : (b : Bool)
-        → (cond {A = Deed} b
+        → (cond {A = Effect} b
         (record { operation = i .operation; word = i .b - 1; register = i .a; value = v; noted = i .second .a; note = g; target = i .a })
         (record { operation = i .operation; word = i .a - 1; register = i .b; value = v; noted = i .second .a; note = g; target = i .a }))
         .operation ≡ i .operation
@@ -192,8 +192,8 @@ module _ (b : List ℕ) (z : Sizes) (c : Checks z (bodies b)) where
     abbrev i : Instruction
     i = instructionOf z l (suc u) k
 
-    abbrev deed : Deed
-    deed = deedOf i (valueOf b z c h (i .formula)) (valueOf b z c h (i .second .formula))
+    abbrev effect : Effect
+    effect = effectOf i (valueOf b z c h (i .formula)) (valueOf b z c h (i .second .formula))
 
     u-small : u < 4
     u-small = omega (arith, w .1, sizes-few z l c .0)
@@ -202,9 +202,9 @@ module _ (b : List ℕ) (z : Sizes) (c : Checks z (bodies b)) where
     unfolding pointOf
     point-is = rw (mod-eq-of-lt u-small) (r .stands .points u u-small)
 
-    deed-is : deedAt b z h (suc u) (pointOf n u) ≡ deed
-    unfolding deedAt
-    deed-is = rw (point-is, range-is)
+    effect-is : effectAt b z h (suc u) (pointOf n u) ≡ effect
+    unfolding effectAt
+    effect-is = rw (point-is, range-is)
 
     -- the thread is not at its last point
     last-is : ltb (pointOf n u) (lastOf b z (suc u)) ≡ ltb (suc k) (P .points (suc u))
@@ -220,17 +220,17 @@ module _ (b : List ℕ) (z : Sizes) (c : Checks z (bodies b)) where
             let g : lastPoint (threadBody z l (suc u)) + 1 ≤ suc k = omega arith in sym (le-ltb _ _ g)
 
     module _ (more : suc k < P .points (suc u)) where
-      does : Made z l c (sizes-few z l c .1) (sizes-few z l c .2) s (r .wf) m (r .stands .memory) h (r .stands .registers) u p u-small deed
+      does : Made z l c (sizes-few z l c .1) (sizes-few z l c .2) s (r .wf) m (r .stands .memory) h (r .stands .registers) u p u-small effect
           (P .code (suc u) k)
       does = does-there b z c s (r .wf) h (r .stands .registers) m (r .stands .memory) u p u-small w more
 
-      adding-there : adding (deed .operation) ≡ adds (P .code (suc u) k)
+      adding-there : adding (effect .operation) ≡ adds (P .code (suc u) k)
       adding-there =
-          ap adding (deed-operation i (valueOf b z c h (i .formula)) (valueOf b z c h (i .second .formula)))
+          ap adding (effect-operation i (valueOf b z c h (i .formula)) (valueOf b z c h (i .second .formula)))
           ∙ adding-is (lastPoint (body z l c (suc u) (w .0) (w .1))) (i .operation) (i .a) (i .b) (i .formula) (i .second)
           (fields-there b z c (suc u) k w more .0)
 
-      pick-is : pickRefusal m (z .words) room deed u p
+      pick-is : pickRefusal m (z .words) room effect u p
           ≡ cond (allowed (P .code (suc u) k) (suc u) p s) (cond (adds (P .code (suc u) k) && leb room (used s (P .words))) 29 0) 28
       unfolding pickRefusal
       pick-is =
@@ -254,20 +254,20 @@ module _ (b : List ℕ) (z : Sizes) (c : Checks z (bodies b)) where
         k-small : k < 255
         k-small = omega (arith, points-few z l c (suc u) (w .0) (w .1))
 
-        performs : StandsFor (performed n (z .range) deed u p) next
+        performs : StandsFor (performed n (z .range) effect u p) next
         unfolding performed
         performs = record {
-          memory = subst (λ (R : ℕ). Stands (memoryAfter m R deed u p) next) (sym range-is) (does .memory may roomy);
+          memory = subst (λ (R : ℕ). Stands (memoryAfter m R effect u p) next) (sym range-is) (does .memory may roomy);
           registers = does .registers may;
-          four = length-set (n .points) (u % 4) (pointAfter (pointOf n u) deed) ∙ r .stands .four;
+          four = length-set (n .points) (u % 4) (pointAfter (pointOf n u) effect) ∙ r .stands .four;
           points = λ t x. rw (mod-eq-of-lt u-small)
-              (set-upd (λ (a d : ℕ). a ≡ d) (n .points) 0 (s .point) 4 u (pointAfter (pointOf n u) deed) (next .point (suc u))
+              (set-upd (λ (a d : ℕ). a ≡ d) (n .points) 0 (s .point) 4 u (pointAfter (pointOf n u) effect) (next .point (suc u))
               (omega (arith, r .stands .four, u-small))
-              (ap (λ (j : ℕ). pointAfter j deed) point-is ∙ does .point k-small) (r .stands .points) t x
+              (ap (λ (j : ℕ). pointAfter j effect) point-is ∙ does .point k-small) (r .stands .points) t x
               ∙ sym (exec-point P s (suc u) p (P .code (suc u) k) (suc t)));
         }
 
-        pub taken : Ready next (performed n (z .range) deed u p)
+        pub taken : Ready next (performed n (z .range) effect u p)
         taken = record {
           wf = exec-wf s (r .wf) (suc u) p (P .code (suc u) k) its-proper may;
           points = λ t x. subst (λ (j : ℕ). j < P .points t) (sym (exec-point P s (suc u) p (P .code (suc u) k) t)) (there t x);
@@ -285,23 +285,23 @@ module _ (b : List ℕ) (z : Sizes) (c : Checks z (bodies b)) where
     unfolding refusal
     refusal-in = rw (le-leb 1 (suc u) (w .0), le-leb (suc u) (P .threads) (w .1))
 
-    stepped-in : stepped b z room n (suc u) p ≡ cond (ltb (suc k) (P .points (suc u))) (attempted z room n deed u p) (refused 27 n)
+    stepped-in : stepped b z room n (suc u) p ≡ cond (ltb (suc k) (P .points (suc u))) (attempted z room n effect u p) (refused 27 n)
     unfolding stepped
     stepped-in =
         let q : suc u ≡ 0 → ⊥ = omega arith in
-        rw (ne-eqb (suc u) 0 q, sub-one (suc u), le-ltb (z .threads) (suc u) (w .1), last-is, deed-is)
+        rw (ne-eqb (suc u) 0 q, sub-one (suc u), le-ltb (z .threads) (suc u) (w .1), last-is, effect-is)
 
-    attempted-code : attempted z room n deed u p .code ≡ pickRefusal m (z .words) room deed u p
+    attempted-code : attempted z room n effect u p .code ≡ pickRefusal m (z .words) room effect u p
     unfolding attempted
-    attempted-code = go (eqb (pickRefusal m (z .words) room deed u p) 0) refl
+    attempted-code = go (eqb (pickRefusal m (z .words) room effect u p) 0) refl
       where
-        go : (d : Bool) → eqb (pickRefusal m (z .words) room deed u p) 0 ≡ d
-            → (cond d (record { code = 0; machine = performed n (z .range) deed u p })
-            (refused (pickRefusal m (z .words) room deed u p) n)) .code ≡ pickRefusal m (z .words) room deed u p
-        go true e = sym (eqb-true (pickRefusal m (z .words) room deed u p) 0 e)
+        go : (d : Bool) → eqb (pickRefusal m (z .words) room effect u p) 0 ≡ d
+            → (cond d (record { code = 0; machine = performed n (z .range) effect u p })
+            (refused (pickRefusal m (z .words) room effect u p) n)) .code ≡ pickRefusal m (z .words) room effect u p
+        go true e = sym (eqb-true (pickRefusal m (z .words) room effect u p) 0 e)
         go false e = refl
 
-    attempted-machine : pickRefusal m (z .words) room deed u p ≡ 0 → attempted z room n deed u p .machine ≡ performed n (z .range) deed u p
+    attempted-machine : pickRefusal m (z .words) room effect u p ≡ 0 → attempted z room n effect u p .machine ≡ performed n (z .range) effect u p
     unfolding attempted
     attempted-machine e = rw (eq-eqb _ _ e)
 
@@ -323,10 +323,10 @@ module _ (b : List ℕ) (z : Sizes) (c : Checks z (bodies b)) where
         g = adds (P .code (suc u) k)
 
         go : (d : Bool) → ltb (suc k) (P .points (suc u)) ≡ d
-            → (_≡_ {A = ℕ} ((cond d (attempted z room n deed u p) (refused 27 n)) .code)
+            → (_≡_ {A = ℕ} ((cond d (attempted z room n effect u p) (refused 27 n)) .code)
             (cond d (cond a (cond (g && leb room (used s (P .words))) 29 0) 28) 27))
             × (_≡_ {A = ℕ} (cond d (cond a (cond (g && leb room (used s (P .words))) 29 0) 28) 27) 0
-            → Ready (exec P (P .code (suc u) k) (suc u) p s) ((cond d (attempted z room n deed u p) (refused 27 n)) .machine))
+            → Ready (exec P (P .code (suc u) k) (suc u) p s) ((cond d (attempted z room n effect u p) (refused 27 n)) .machine))
         go false e = (refl, λ x. absurd (omega arith))
         go true e =
             let more = ltb-true (suc k) (P .points (suc u)) e in (

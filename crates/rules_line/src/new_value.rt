@@ -41,7 +41,7 @@ fn is_sum(image: &[u8], register: u8, formula: usize, at: usize, left: usize) ->
     }
 }
 
-pub fn is_fresh(
+pub fn is_new_value(
     image: &[u8],
     operation: u8,
     register: u8,

@@ -2,12 +2,12 @@
 use crate::conclusion::Conclusion;
 use crate::conclusion::Premises;
 use crate::conclusion::conclusion_at;
-use crate::new_value::is_fresh;
+use crate::new_value::is_new_value;
 use crate::side_tests::hole_of;
-use crate::side_tests::is_apart;
-use crate::side_tests::is_kept;
+use crate::side_tests::is_absent;
+use crate::side_tests::is_preserved;
 use crate::side_tests::is_start;
-use crate::side_tests::is_stored;
+use crate::side_tests::is_substituted;
 use crate::side_tests::is_with;
 use crate::side_tests::number_in;
 use crate::side_tests::one_name;
@@ -71,7 +71,7 @@ fn of_instruction(image: &[u8], side: u8, bind: Bind, acting: Acting) -> bool
     ensures { λ r. ⌜ r ≡ ofInstruction (now (image .entry)) side bind acting ⌝ }
 {
     if side == Side::KEPT {
-        return is_kept(
+        return is_preserved(
             image,
             acting.operation,
             acting.word,
@@ -86,7 +86,7 @@ fn of_instruction(image: &[u8], side: u8, bind: Bind, acting: Acting) -> bool
         return is_loaded(image, bind, acting);
     }
     if side == Side::STORED {
-        return is_stored(
+        return is_substituted(
             image,
             hole_of(bind, 3),
             hole_of(bind, 2),
@@ -95,7 +95,7 @@ fn of_instruction(image: &[u8], side: u8, bind: Bind, acting: Acting) -> bool
         );
     }
     if side == Side::NEW_VALUE {
-        return is_fresh(
+        return is_new_value(
             image,
             acting.operation,
             acting.register,
@@ -103,7 +103,7 @@ fn of_instruction(image: &[u8], side: u8, bind: Bind, acting: Acting) -> bool
             hole_of(bind, 0),
         );
     }
-    is_apart(
+    is_absent(
         image,
         acting.operation,
         acting.word,

@@ -33,7 +33,7 @@ pub fn hole_of(bind: Bind, j: usize) -> Position
 }
 
 // The word is in no role in it, nor the result register of an exchange or a fetch-add.
-pub fn is_apart(image: &[u8], operation: u8, word: u8, register: u8, position: Position) -> bool
+pub fn is_absent(image: &[u8], operation: u8, word: u8, register: u8, position: Position) -> bool
     ensures { λ r. ⌜ r ≡ apart operation word register (treeOf (now (image .entry)) position) ⌝ }
 {
     if has_word(image, position.at, position.left, word) {
@@ -49,7 +49,7 @@ pub fn is_apart(image: &[u8], operation: u8, word: u8, register: u8, position: P
 }
 
 // A load keeps what has not its register; a write what is apart from it.
-pub fn is_kept(image: &[u8], operation: u8, word: u8, register: u8, position: Position) -> bool
+pub fn is_preserved(image: &[u8], operation: u8, word: u8, register: u8, position: Position) -> bool
     ensures { λ r. ⌜ r ≡ keeps operation word register (treeOf (now (image .entry)) position) ⌝ }
 {
     if operation < Instruction::LOAD {
@@ -62,7 +62,7 @@ pub fn is_kept(image: &[u8], operation: u8, word: u8, register: u8, position: Po
         return false;
     }
     if operation <= Instruction::FETCH_ADD {
-        return is_apart(image, operation, word, register, position);
+        return is_absent(image, operation, word, register, position);
     }
     false
 }
@@ -105,7 +105,7 @@ pub fn is_with(
 }
 
 // The first test is the second with the word replaced by the formula, and no flag of the word is in the second.
-pub fn is_stored(
+pub fn is_substituted(
     image: &[u8],
     position: Position,
     other: Position,

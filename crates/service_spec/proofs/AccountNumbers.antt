@@ -1,4 +1,4 @@
--- Callers from 1 to 8 have a desk, and no other number has.
+-- Callers from 1 to 8 have a account, and no other number has.
 use mathlib.Core.Path.{_≡_, refl}
 use mathlib.Core.Bool.{Bool, true, false, not, _&&_}
 use mathlib.Core.List.{List, [], _∷_}
@@ -8,7 +8,7 @@ use native.Mathlib.Omega.{arith}
 use lib.Dec.{eqb, leb}
 use lib.ListN.{length, getD, getElem?}
 use borrow.Author.Tests.{leb-true}
-use Rattle.service_spec.specs.Account.{Desk, callers, isCaller, deskAt, deskOf}
+use Rattle.service_spec.specs.Account.{Account, callers, isCaller, accountAt, accountOf}
 
 pub caller-first : (c : ℕ) → isCaller c ≡ true → 1 ≤ c
 caller-first zero h = let x : _≡_ {A = ℕ} 0 1 = cc in absurd (omega arith)
@@ -21,13 +21,13 @@ second false b h = let x : _≡_ {A = ℕ} 0 1 = cc in absurd (omega arith)
 pub caller-last : (c : ℕ) → isCaller c ≡ true → c ≤ callers
 caller-last c h = leb-true c callers (second (not (eqb c 0)) (leb c callers) h)
 
-pub has-desk : (s : List ℕ) (c : ℕ) → isCaller c ≡ true → deskOf s c ≡ some (deskAt s c)
-unfolding deskOf
-has-desk s c h = rw h
+pub has-account : (s : List ℕ) (c : ℕ) → isCaller c ≡ true → accountOf s c ≡ some (accountAt s c)
+unfolding accountOf
+has-account s c h = rw h
 
-pub no-desk : (s : List ℕ) (c : ℕ) → isCaller c ≡ false → deskOf s c ≡ none
-unfolding deskOf
-no-desk s c h = rw h
+pub no-account : (s : List ℕ) (c : ℕ) → isCaller c ≡ false → accountOf s c ≡ none
+unfolding accountOf
+no-account s c h = rw h
 
 -- a number that is there, and one that is not
 pub read-there : (s : List ℕ) (i : ℕ) → i < length s → getElem? s i ≡ some (getD s i 0)

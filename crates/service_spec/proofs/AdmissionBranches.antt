@@ -10,8 +10,8 @@ use lib.ListN.{length, getD, List·getD-eq-default}
 use borrow.Author.Tests.{eq-eqb, ne-eqb, le-leb, lt-leb}
 use Rattle.service_spec.specs.declared.rights.Right.{Right}
 use Rattle.service_spec.specs.declared.rights.Right.the-variants.{Check, Replay, Bill}
-use Rattle.service_spec.specs.Account.{callers, holds, isCaller, deskAt, deskOf, admissionAt, admission}
-use Rattle.service_spec.proofs.AccountNumbers.{caller-last, no-desk}
+use Rattle.service_spec.specs.Account.{callers, holds, isCaller, accountAt, accountOf, admissionAt, admission}
+use Rattle.service_spec.proofs.AccountNumbers.{caller-last, no-account}
 
 module _ (r : Right) (n : ℕ) where
   pub check-bit : r ≡ Check → eqb (n % 2) 1 ≡ holds r n
@@ -37,17 +37,17 @@ none-held Bill = refl
 
 module _ (r : Right) (s : List ℕ) (c : ℕ) where
   pub zero-unknown : c ≡ 0 → 35 ≡ admission r s c
-  unfolding admission deskOf
+  unfolding admission accountOf
   zero-unknown e = rw (eq-eqb c 0 e)
 
   module _ (h : c ≡ 0 → ⊥) where
     pub past-unknown : callers < c → 35 ≡ admission r s c
-    unfolding admission deskOf
+    unfolding admission accountOf
     past-unknown g = rw (ne-eqb c 0 h, lt-leb c callers g)
 
     module _ (g : c ≤ callers) where
       by-right : (b : Bool) → b ≡ holds r (getD s (c - 1) 0) → cond b 0 36 ≡ admission r s c
-      unfolding admission deskOf
+      unfolding admission accountOf
       by-right b e = rw (ne-eqb c 0 h, le-leb c callers g, ← e)
 
       pub short-refused : length s < c → 36 ≡ admission r s c
@@ -68,6 +68,6 @@ admitted-caller r s c e = go (isCaller c) refl
   where
     go : (b : Bool) → isCaller c ≡ b → c ≤ callers
     go true h = caller-last c h
-    go false h = let x : admissionAt r (deskOf s c) ≡ 35 = rw (no-desk s c h) in absurd (omega arith)
+    go false h = let x : admissionAt r (accountOf s c) ≡ 35 = rw (no-account s c h) in absurd (omega arith)
 
 pub ruleset admitting = (zero-unknown, past-unknown, short-refused, holder-admitted, other-refused)

@@ -3,5 +3,5 @@ use Rattle.service_spec.specs.Isolation.{Isolated}
 use Rattle.service_spec.specs.Request.{conduct}
 use Rattle.service_spec.proofs.Isolation.{isolated}
 
-pub desks-isolated : Isolated conduct
-desks-isolated = isolated conduct
+pub accounts-isolated : Isolated conduct
+accounts-isolated = isolated conduct

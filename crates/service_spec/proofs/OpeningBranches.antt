@@ -8,8 +8,8 @@ use native.Mathlib.Omega.{arith}
 use lib.ListN.{length, getD, getElem?, drop, replicate, List·getD-append, getD-replicate}
 use lib.Seq.{getD-append-add}
 use borrow.Author.Tests.{lt-ltb, le-ltb}
-use Rattle.service_spec.specs.Account.{Desk, callers, isCaller, numberPlace, deskAt, deskOf}
-use Rattle.service_spec.proofs.AccountNumbers.{caller-first, caller-last, has-desk, no-desk, read-there}
+use Rattle.service_spec.specs.Account.{Account, callers, isCaller, numberPlace, accountAt, accountOf}
+use Rattle.service_spec.proofs.AccountNumbers.{caller-first, caller-last, has-account, no-account, read-there}
 use Rattle.service_spec.specs.Opening.{places, given, givenFrom, opened, openingCode, serviceFor}
 
 pub sixteen : (r : List ℕ) (a b c d e f g h : ℕ) → a ≡ given r 0 → b ≡ given r 1 → c ≡ given r 2 → d ≡ given r 3 → e ≡ given r 4
@@ -44,9 +44,9 @@ given-at r i zero k h = absurd (omega arith)
 given-at r i (suc n) zero h = let e : i + 0 ≡ i = omega arith in rw e
 given-at r i (suc n) (suc k) h = let e : suc i + k ≡ i + suc k = omega arith in given-at r (suc i) n k (omega arith) ∙ ap (given r) e
 
-opened-desk : (r x : List ℕ) (c : ℕ) → isCaller c ≡ true → deskAt (opened r ++ x) c ≡ record { rights = given r (c - 1); number = some 0 }
+opened-account : (r x : List ℕ) (c : ℕ) → isCaller c ≡ true → accountAt (opened r ++ x) c ≡ record { rights = given r (c - 1); number = some 0 }
 unfolding opened
-opened-desk r x c h =
+opened-account r x c h =
     let first = caller-first c h in
     let last = caller-last c h in
     let v = givenFrom r 0 callers in
@@ -61,15 +61,15 @@ opened-desk r x c h =
     ∙ List·getD-append (replicate callers 0) x 0 (c - 1) k ∙ getD-replicate callers (c - 1) 0 0 k))
 
 -- two openings that give a caller the same rights hold the same of it
-pub opened-alike : (r q x y : List ℕ) (c : ℕ) → given r (c - 1) ≡ given q (c - 1) → deskOf (opened r ++ x) c ≡ deskOf (opened q ++ y) c
+pub opened-alike : (r q x y : List ℕ) (c : ℕ) → given r (c - 1) ≡ given q (c - 1) → accountOf (opened r ++ x) c ≡ accountOf (opened q ++ y) c
 opened-alike r q x y c e = go (isCaller c) refl
   where
-    desk : ℕ → Option Desk
-    desk a = some (record { rights = a; number = some 0 })
+    account : ℕ → Option Account
+    account a = some (record { rights = a; number = some 0 })
 
-    held : (p z : List ℕ) → isCaller c ≡ true → deskOf (opened p ++ z) c ≡ desk (given p (c - 1))
-    held p z h = has-desk (opened p ++ z) c h ∙ ap (λ (d : Desk). some d) (opened-desk p z c h)
+    held : (p z : List ℕ) → isCaller c ≡ true → accountOf (opened p ++ z) c ≡ account (given p (c - 1))
+    held p z h = has-account (opened p ++ z) c h ∙ ap (λ (d : Account). some d) (opened-account p z c h)
 
-    go : (b : Bool) → isCaller c ≡ b → deskOf (opened r ++ x) c ≡ deskOf (opened q ++ y) c
-    go true h = held r x h ∙ ap desk e ∙ sym (held q y h)
-    go false h = no-desk (opened r ++ x) c h ∙ sym (no-desk (opened q ++ y) c h)
+    go : (b : Bool) → isCaller c ≡ b → accountOf (opened r ++ x) c ≡ accountOf (opened q ++ y) c
+    go true h = held r x h ∙ ap account e ∙ sym (held q y h)
+    go false h = no-account (opened r ++ x) c h ∙ sym (no-account (opened q ++ y) c h)

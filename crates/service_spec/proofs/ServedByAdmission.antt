@@ -7,11 +7,11 @@ use Prim.Native.Nat.{ℕ, _-_}
 use native.Mathlib.Omega.{arith}
 use lib.Dec.{eqb}
 use lib.ListN.{getD, getElem?}
-use Rattle.service_spec.specs.Account.{holds, isCaller, numberPlace, deskOf, admission}
+use Rattle.service_spec.specs.Account.{holds, isCaller, numberPlace, accountOf, admission}
 use Rattle.service_spec.specs.Serving.{Call, Served, raised, serveBy}
 use Rattle.service_spec.specs.Request.{Request, toCheck, toTrim, toBill, toHandOver, toReplay, toReplayAcross, Reply, rightFor, isBill, refused, answered, replyTo, conduct, serve}
 use Rattle.service_spec.specs.Promise.{Promise}
-use Rattle.service_spec.proofs.AccountNumbers.{has-desk, no-desk}
+use Rattle.service_spec.proofs.AccountNumbers.{has-account, no-account}
 
 refused-code : (a : ℕ) (q : Request) → refused a q .code ≡ a
 refused-code a (toCheck image buffer) = refl
@@ -37,14 +37,14 @@ module _ (s : List ℕ) (c : ℕ) (q : Request) where
   -- one who is no caller; a caller without the right; one with it
   served-unknown : isCaller c ≡ false → (admission (rightFor q) s c ≡ 35) × (serve s asked ≡ turnedAway 35)
   unfolding admission serveBy
-  served-unknown h = (rw (no-desk s c h), rw (no-desk s c h))
+  served-unknown h = (rw (no-account s c h), rw (no-account s c h))
 
   served-refused : isCaller c ≡ true → holds (rightFor q) (getD s (c - 1) 0) ≡ false
       → (admission (rightFor q) s c ≡ 36) × (serve s asked ≡ turnedAway 36)
   unfolding admission serveBy
   served-refused h e = (
-    rw (has-desk s c h, e),
-    rw (has-desk s c h, e)
+    rw (has-account s c h, e),
+    rw (has-account s c h, e)
         (ap (λ (b : Bool). record { service = cond b (raised s c) s; reply = refused 36 q }) none-counted),
   )
     where
@@ -54,7 +54,7 @@ module _ (s : List ℕ) (c : ℕ) (q : Request) where
   served-admitted : isCaller c ≡ true → holds (rightFor q) (getD s (c - 1) 0) ≡ true
       → (admission (rightFor q) s c ≡ 0) × (serve s asked ≡ letIn)
   unfolding admission serveBy
-  served-admitted h e = (rw (has-desk s c h, e), rw (has-desk s c h, e))
+  served-admitted h e = (rw (has-account s c h, e), rw (has-account s c h, e))
 
   refused-so : (a : ℕ) → a ≡ admission (rightFor q) s c → (a ≡ 0 → ⊥) → serve s asked ≡ turnedAway a
   refused-so a e z = go (isCaller c) refl

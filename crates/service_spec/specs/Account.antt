@@ -18,7 +18,7 @@ holds Replay n = eqb (n / 2 % 2) 1
 holds Bill n = eqb (n / 4 % 2) 1
 
 -- rights that are not there are none; a number may be missing, in a service that is too short
-pub record Desk : Type 0 where
+pub record Account : Type 0 where
   pub rights : ℕ
   pub number : Option ℕ
 
@@ -30,16 +30,16 @@ isCaller c = not (eqb c 0) && leb c callers
 abbrev pub numberPlace : ℕ → ℕ
 numberPlace c = 7 + c
 
-abbrev pub deskAt : List ℕ → ℕ → Desk
-deskAt s c = record { rights = getD s (c - 1) 0; number = getElem? s (numberPlace c) }
+abbrev pub accountAt : List ℕ → ℕ → Account
+accountAt s c = record { rights = getD s (c - 1) 0; number = getElem? s (numberPlace c) }
 
-unfoldable pub deskOf : List ℕ → ℕ → Option Desk
-deskOf s c = cond (isCaller c) (some (deskAt s c)) none
+unfoldable pub accountOf : List ℕ → ℕ → Option Account
+accountOf s c = cond (isCaller c) (some (accountAt s c)) none
 
 -- 35: no caller; 36: the right is missing
-abbrev pub admissionAt : Right → Option Desk → ℕ
+abbrev pub admissionAt : Right → Option Account → ℕ
 admissionAt r none = 35
 admissionAt r (some d) = cond (holds r (d .rights)) 0 36
 
 unfoldable pub admission : Right → List ℕ → ℕ → ℕ
-admission r s c = admissionAt r (deskOf s c)
+admission r s c = admissionAt r (accountOf s c)

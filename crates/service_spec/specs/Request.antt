@@ -20,7 +20,7 @@ use Rattle.replay_machine.specs.OutputTable.{shownOf, entriesIn, tableFor}
 use Rattle.handover_replay.specs.ReplayAcross.{acrossOf}
 use Rattle.service_spec.specs.declared.rights.Right.{Right}
 use Rattle.service_spec.specs.declared.rights.Right.the-variants.{Check, Replay, Bill}
-use Rattle.service_spec.specs.Account.{Desk, holds}
+use Rattle.service_spec.specs.Account.{Account, holds}
 use Rattle.service_spec.specs.Serving.{Call, Served, Turn, Conduct, serveBy, serveAllBy}
 
 -- a call with all that it is lent: an image and the buffer for its verdict; an image and the buffer for the trimmed one; an image, a
@@ -93,7 +93,7 @@ answered n (toReplay image trace given table room) = replayReply (replayOf image
 answered n (toReplayAcross old new points first second given table room) = replayReply
     (acrossOf old new points first second given (entriesIn table)) table room
 
-abbrev pub replyTo : Desk → Request → Reply
+abbrev pub replyTo : Account → Request → Reply
 replyTo d q = cond (holds (rightFor q) (d .rights)) (answered (d .number) q) (refused 36 q)
 
 -- each bill without an error adds one to the number

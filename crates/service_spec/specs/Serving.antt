@@ -5,7 +5,7 @@ use mathlib.Core.Option.{Option, none, some}
 use Prim.Native.Nat.{ℕ, suc, _+_}
 use lib.Dec.{eqb}
 use lib.ListN.{getD, set}
-use Rattle.service_spec.specs.Account.{Desk, deskOf, numberPlace}
+use Rattle.service_spec.specs.Account.{Account, accountOf, numberPlace}
 
 pub record Call (Q : Type 0) : Type 0 where
   pub caller : ℕ
@@ -25,26 +25,26 @@ pub record Turn (R : Type 0) : Type 0 where
 pub record Conduct (Q R : Type 0) : Type 0 where
   -- to one who is no caller
   pub unknown : Q → R
-  pub reply : Desk → Q → R
+  pub reply : Account → Q → R
   -- whether the caller's number is one higher afterwards
-  pub counted : Desk → Q → Bool
+  pub counted : Account → Q → Bool
 
 unfoldable pub raised : List ℕ → ℕ → List ℕ
 raised s c = set s (numberPlace c) (getD s (numberPlace c) 0 + 1)
 
 module _ {Q R : Type 0} (v : Conduct Q R) where
-  abbrev pub replyFrom : Option Desk → Q → R
+  abbrev pub replyFrom : Option Account → Q → R
   replyFrom none q = v .unknown q
   replyFrom (some d) q = v .reply d q
 
-  abbrev pub countedFrom : Option Desk → Q → Bool
+  abbrev pub countedFrom : Option Account → Q → Bool
   countedFrom none q = false
   countedFrom (some d) q = v .counted d q
 
   unfoldable pub serveBy : List ℕ → Call Q → Served R
   serveBy s k = record {
-    service = cond (countedFrom (deskOf s (k .caller)) (k .request)) (raised s (k .caller)) s;
-    reply = replyFrom (deskOf s (k .caller)) (k .request);
+    service = cond (countedFrom (accountOf s (k .caller)) (k .request)) (raised s (k .caller)) s;
+    reply = replyFrom (accountOf s (k .caller)) (k .request);
   }
 
   -- one call after the other
@@ -58,6 +58,6 @@ requestsOf c [] = []
 requestsOf c (k ∷ l) = cond (eqb (k .caller) c) (k .request ∷ requestsOf c l) (requestsOf c l)
 
 -- what a caller sees: the reply to each of its calls, and what the service then holds of it
-abbrev pub seenBy : {R : Type 0} → ℕ → List (Turn R) → List (R × Option Desk)
+abbrev pub seenBy : {R : Type 0} → ℕ → List (Turn R) → List (R × Option Account)
 seenBy c [] = []
-seenBy c (t ∷ l) = cond (eqb (t .caller) c) ((t .served .reply, deskOf (t .served .service) c) ∷ seenBy c l) (seenBy c l)
+seenBy c (t ∷ l) = cond (eqb (t .caller) c) ((t .served .reply, accountOf (t .served .service) c) ∷ seenBy c l) (seenBy c l)

@@ -1,6 +1,6 @@
 // The numbers of a service that is opened.
 use crate::rights::Service;
-use limits::read::octet_at;
+use limits::read::u8_at;
 ghost use mathlib.Core.Path.{_≡_};
 ghost use mathlib.Core.List.{_++_};
 ghost use Prim.Native.Nat.{_≤_, _%_};
@@ -11,7 +11,7 @@ ghost use Rattle.service_spec.specs.Opening.{places, opened};
 fn given_at(rights: &[u8], at: usize) -> u32
     ensures { λ r. ⌜ r ≡ getD (now (rights .entry)) at 0 % 8 ⌝ }
 {
-    (octet_at(rights, at) % Service::RIGHTS) as u32
+    (u8_at(rights, at) % Service::RIGHTS) as u32
 }
 
 // The rights of all callers, and their numbers, all 0.

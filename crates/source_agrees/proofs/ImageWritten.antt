@@ -24,7 +24,7 @@ use Rattle.image_header.specs.declared.instruction.Instruction.{Instruction as 
 use Rattle.image_header.specs.Thread.{nothing, lastPoint, instructions, threadNumbers, numbered}
 use Rattle.image_header.proofs.ThreadBranches.{instructions-length}
 use Rattle.image_bodies.specs.RecordPlaces.{threadBody}
-use Rattle.image_bodies.specs.PointCounts.{tallyTo, tally, threadTally}
+use Rattle.image_bodies.specs.PointCounts.{pointCountsTo, pointCounts, threadCounts}
 use Rattle.image_bodies.specs.ThreadBody as Threads
 use Rattle.image.specs.Decode.{sizesOf, decoded}
 use Rattle.image.specs.declared.decode.Decoded.the-variants.{Sound}
@@ -147,8 +147,8 @@ module _ (s : List ℕ) (z : Sizes) (bs : Bytes s) (ok : decoded s ≡ Sound z) 
       let e = length-take (z .threads) from in
       omega (arith, a, b, d, e)
 
-  pub tallied : (n : ℕ) → n ≤ z .threads → tallyTo z l n .points ≡ total (map instructions (take n from))
-  unfolding tallyTo threadTally threadBody total
+  pub tallied : (n : ℕ) → n ≤ z .threads → pointCountsTo z l n .points ≡ total (map instructions (take n from))
+  unfolding pointCountsTo threadCounts threadBody total
   tallied zero h = refl
   tallied (suc n) h =
       let x : List ℕ = getD from n [] in
@@ -162,7 +162,7 @@ module _ (s : List ℕ) (z : Sizes) (bs : Bytes s) (ok : decoded s ≡ Sound z) 
       omega (arith, e, i, tallied n (omega arith))
 
   pub points-total : length (D .outline) ≡ total (D .threads)
-  unfolding documentOf tally
+  unfolding documentOf pointCounts
   points-total = doc .describes .outline ∙ tallied (z .threads) (omega arith)
 
   pub header-written : W.header (sourceOf D) ≡ D .header

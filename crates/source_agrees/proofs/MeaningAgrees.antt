@@ -21,7 +21,7 @@ use Rattle.image_header.specs.declared.instruction.Instruction.{Instruction as 
 use Rattle.image_header.specs.Thread.{nothing, instructions}
 use Rattle.image_header.proofs.ThreadBranches.{instructions-length}
 use Rattle.image_bodies.specs.RecordPlaces.{threadBody}
-use Rattle.image_bodies.specs.PointCounts.{tallyTo}
+use Rattle.image_bodies.specs.PointCounts.{pointCountsTo}
 use Rattle.image_bodies.specs.ThreadBody as Threads
 use Rattle.image_bodies.specs.ThreadBody.{sorted}
 use Rattle.image.specs.Decode.{sizesOf, decoded}
@@ -178,7 +178,7 @@ module _ (s : List ℕ) (z : Sizes) (bs : Bytes s) (ok : decoded s ≡ Sound z) 
   before-is [] (suc u) = refl
   before-is (b ∷ r) (suc u) = ap (λ (n : ℕ). length (instructions b) + 1 + n) (before-is r u)
 
-  before-tally : (u : ℕ) → u ≤ z .threads → before (D .threads) u ≡ tallyTo z l u .points
+  before-tally : (u : ℕ) → u ≤ z .threads → before (D .threads) u ≡ pointCountsTo z l u .points
   unfolding documentOf
   before-tally u h =
       before-is (part (z .formulas + 1) (z .threads) l) u

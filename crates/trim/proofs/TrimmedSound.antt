@@ -11,7 +11,7 @@ use Rattle.limits.specs.Limits as Limits
 use Rattle.limits.specs.Numbers.{nth}
 use Rattle.image_header.specs.Header.{threadCount}
 use Rattle.image_header.specs.declared.sizes.Sizes.{Sizes}
-use Rattle.image_bodies.specs.PointCounts.{tallyTo, tally, threadTally, obligationCount}
+use Rattle.image_bodies.specs.PointCounts.{pointCountsTo, pointCounts, threadCounts, obligationCount}
 use Rattle.image.specs.Decode.{sizesOf, recordCount}
 use Rattle.logic_outline.specs.Judged.{EachMet, EachSustained, total}
 use Rattle.image_meaning.specs.Program.{programOf}
@@ -48,7 +48,7 @@ pub record Whole (D : Document) : Type 0 where
   pub canonical : Canonical D
   pub threads : threadCount (D .header) ≡ length (D .threads)
   pub checks : Checks (sizes D) (bodiesOf D)
-  pub outline : length (D .outline) ≡ tally (sizes D) (bodiesOf D) .points
+  pub outline : length (D .outline) ≡ pointCounts (sizes D) (bodiesOf D) .points
   pub obligations : length (D .obligations) ≡ obligationCount (sizes D) (bodiesOf D)
   pub framable : Each Framable [] (bodiesOf D)
   pub few : length (encode D) ≤ Limits.imageBytes
@@ -85,13 +85,13 @@ module _ (D : Document) (W : Whole D) where
 
   -- some formula and some line stay: the outline names one, and the first obligation
 
-  points-some : (t : ℕ) → 1 ≤ t → 1 ≤ tallyTo (sizes D) (bodiesOf D) t .points
-  unfolding tallyTo threadTally
+  points-some : (t : ℕ) → 1 ≤ t → 1 ≤ pointCountsTo (sizes D) (bodiesOf D) t .points
+  unfolding pointCountsTo threadCounts
   points-some zero h = absurd (omega arith)
   points-some (suc t) h = omega arith
 
   formula-some : 1 ≤ length (E .formulas)
-  unfolding tally sizes sizesOf
+  unfolding pointCounts sizes sizesOf
   formula-some =
       let p = points-some (threadCount (D .header)) (let n = W .numbered .thread in let e = W .threads in omega arith) in
       let b : 0 < length (D .outline) = let e = W .outline in omega arith in

@@ -5,7 +5,7 @@ use Prim.Native.Nat.{ℕ, suc, _+_, _≤_, _<_}
 use native.Mathlib.Omega.{arith}
 use lib.ListN.{length, getD, drop, take, length-drop, length-map, List·getD-map}
 use lib.Seq.{getD-take, getD-drop, length-take-le}
-use Rattle.limits.specs.Numbers.{word, numbers}
+use Rattle.limits.specs.Numbers.{le16, numbers}
 use Rattle.image_header.specs.declared.sizes.Sizes.{Sizes}
 use Rattle.image_header.specs.Thread.{lastPoint, cut, instructions}
 use Rattle.image_bodies.specs.Line.{premises}
@@ -25,7 +25,7 @@ module _ {A : Type 0} (from n : ℕ) (l : List A) where
 
 module _ (z : Sizes) (l : List (List ℕ)) where
   pub line-at : (i : ℕ) → i < z .lines → getD (documentOf z l .lines) i noLine ≡ lineRecord (lineBody z l (suc i))
-  unfolding documentOf lineRecord lineBody premises numbers word
+  unfolding documentOf lineRecord lineBody premises numbers le16
   line-at i h =
       let q : z .formulas + z .threads + 2 + i ≡ z .formulas + z .threads + 1 + suc i = omega arith in
       List·getD-map lineRecord (part (z .formulas + z .threads + 2) (z .lines) l) i []
@@ -39,7 +39,7 @@ module _ (z : Sizes) (l : List (List ℕ)) where
       ∙ ap instructions (part-at (z .formulas + 1) (z .threads) l t [] h ∙ ap (λ (k : ℕ). getD l k []) q)
 
   pub claim-at : (i : ℕ) → i < z .claims → getD (documentOf z l .claims) i noClaim ≡ claimRecord (claimBody z l i)
-  unfolding documentOf claimRecord claimBody word
+  unfolding documentOf claimRecord claimBody le16
   claim-at i h =
       List·getD-map claimRecord (part (z .formulas + z .threads + 1 + z .lines + 2) (z .claims) l) i []
       ∙ ap claimRecord (part-at (z .formulas + z .threads + 1 + z .lines + 2) (z .claims) l i [] h)

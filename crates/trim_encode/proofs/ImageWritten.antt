@@ -21,7 +21,7 @@ use Rattle.trim_spec.specs.Live.{chosen, selected, renumbered, newNumbers}
 use Rattle.trim_spec.specs.Trim.{halfBy, instructionBy, lineBy, claimBy, trimmedBy}
 use Rattle.trim_encode.specs.Overwritten.{overwritten}
 use Rattle.trim_encode.specs.Pieces.{joined}
-use Rattle.trim_encode.specs.Records.{renewedBody, recordBytes, recordPiece, keptPiece, listBytes}
+use Rattle.trim_encode.specs.Records.{renewedBody, recordBytes, recordPiece, livePiece, listBytes}
 use Rattle.trim_encode.specs.Renumbered.{renewed, renewedInstruction, renewedLine, renewedClaim}
 use Rattle.trim_encode.specs.WholeImage.{formulasBytes, threadsBytes, outlineBytes, linesBytes, obligationsBytes, claimsBytes}
 use Rattle.trim_encode.specs.WholeImage.{programBytes, certificateBytes, behindBytes, wholeBytes}
@@ -64,10 +64,10 @@ module _ (f g : List ℕ) (a c : ℕ → ℕ) (ef : renewed f ≡ a) (eg : renew
 
   module _ (n m : ℕ) (there : n + m ≤ length l) where
     formulas-are : (u : List Bool)
-        → joined (keptPiece f g l u Kinds.formula n) m ≡ flat framed (entries Kinds.formula itself (selected u (part n m l)))
-    unfolding keptPiece recordBytes renewedBody selected
+        → joined (livePiece f g l u Kinds.formula n) m ≡ flat framed (entries Kinds.formula itself (selected u (part n m l)))
+    unfolding livePiece recordBytes renewedBody selected
     formulas-are u =
-        joined-kept (λ b. framed (entry Kinds.formula b)) [] l n m (keptPiece f g l u Kinds.formula n) there u (λ i. refl)
+        joined-kept (λ b. framed (entry Kinds.formula b)) [] l n m (livePiece f g l u Kinds.formula n) there u (λ i. refl)
         ∙ sym (flat-map (λ b. entry Kinds.formula b) framed (chosen (drop 1 u) (part n m l)))
 
     threads-are : joined (recordPiece f g l Kinds.thread n) m
@@ -82,12 +82,12 @@ module _ (f g : List ℕ) (a c : ℕ → ℕ) (ef : renewed f ≡ a) (eg : renew
         ∙ (flat-map (λ b. map (instructionBy a c) b) (λ x. framed (entry Kinds.thread (threadBytes x))) (map instructions (part n m l))
         ∙ flat-map instructions (λ b. framed (entry Kinds.thread (threadBytes (map (instructionBy a c) b)))) (part n m l)))
 
-    lines-are : (k : List Bool) → joined (keptPiece f g l k Kinds.line n) m
+    lines-are : (k : List Bool) → joined (livePiece f g l k Kinds.line n) m
         ≡ flat framed (entries Kinds.line lineBytes (map (lineBy a c) (selected k (map lineRecord (part n m l)))))
-    unfolding keptPiece recordBytes selected
+    unfolding livePiece recordBytes selected
     lines-are k =
         joined-kept (λ b. framed (entry Kinds.line (lineBytes (lineBy a c (lineRecord b))))) [] l n m
-        (keptPiece f g l k Kinds.line n) there k
+        (livePiece f g l k Kinds.line n) there k
         (λ i. ap (λ b. cond (getD k (i + 1) false) (framed (entry Kinds.line b)) []) (line-body (getD l (n + i) [])))
         ∙ sym (flat-map (λ x. entry Kinds.line (lineBytes x)) framed (map (lineBy a c) (chosen (drop 1 k) (map lineRecord (part n m l))))
         ∙ (flat-map (lineBy a c) (λ x. framed (entry Kinds.line (lineBytes x))) (chosen (drop 1 k) (map lineRecord (part n m l)))

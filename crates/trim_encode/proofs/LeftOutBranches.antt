@@ -8,7 +8,7 @@ use native.Mathlib.Omega.{arith}
 use lib.ListN.{length, getD, drop, length-take, length-drop, drop-of-length-le}
 use lib.Seq.{drop-cons, drop-drop, getD-drop}
 use Rattle.limits.specs.Limits as Limits
-use Rattle.limits.specs.Numbers.{word}
+use Rattle.limits.specs.Numbers.{le16}
 use Rattle.image_frames.specs.Records.{body, cut, bodies}
 use Rattle.trim_spec.specs.Parse.{part}
 use Rattle.trim_encode.specs.LeftOutBytes.{leftOne, leftOut, leftBehind}
@@ -18,7 +18,7 @@ use Rattle.trim_encode.proofs.DocumentBodies.{part-at, part-length}
 
 body-short : (l : List ℕ) → length (body l) ≤ length l
 unfolding body
-body-short l = let a = length-take (word l - 2) (drop 4 l) in let b = length-drop 4 l in omega arith
+body-short l = let a = length-take (le16 l - 2) (drop 4 l) in let b = length-drop 4 l in omega arith
 
 cut-short : (k : ℕ) (l : List ℕ) (i : ℕ) → length (getD (cut k l) i []) ≤ length l
 unfolding cut
@@ -26,8 +26,8 @@ cut-short zero l i = omega arith
 cut-short (suc k) [] i = omega arith
 cut-short (suc k) (x ∷ l) zero = body-short (x ∷ l)
 cut-short (suc k) (x ∷ l) (suc i) =
-    let h = cut-short k (drop (2 + word (x ∷ l)) (x ∷ l)) i in
-    let b = length-drop (2 + word (x ∷ l)) (x ∷ l) in
+    let h = cut-short k (drop (2 + le16 (x ∷ l)) (x ∷ l)) i in
+    let b = length-drop (2 + le16 (x ∷ l)) (x ∷ l) in
     omega arith
 
 -- one record

@@ -4,7 +4,7 @@ use mathlib.Core.List.{List, [], _∷_, _++_, map}
 use Prim.Native.Nat.{ℕ, _+_, _-_, _≤_}
 use native.Mathlib.Omega.{arith}
 use lib.ListN.{length, getD, drop, length-map}
-use Rattle.limits.specs.Numbers.{word, numbers}
+use Rattle.limits.specs.Numbers.{le16, numbers}
 use Rattle.limits.proofs.Numbers.{numbers-length}
 use Rattle.image_bodies.specs.Line.{premises}
 use Rattle.verdict_record.specs.Record.{two}
@@ -21,7 +21,7 @@ module _ (f b o : List ℕ) (p : ℕ) where
   unfolding leftBytes
   left-room h = h
 
-  pub left-put : (v : List ℕ) (x y z m n : ℕ) → x ≡ getD b 0 0 → y ≡ getD b 1 0 → z ≡ getD b 2 0 → m ≡ word (drop 3 b) → n ≡ renewed f m
+  pub left-put : (v : List ℕ) (x y z m n : ℕ) → x ≡ getD b 0 0 → y ≡ getD b 1 0 → z ≡ getD b 2 0 → m ≡ le16 (drop 3 b) → n ≡ renewed f m
       → v ≡ overwritten o p (x ∷ y ∷ z ∷ two n) → v ≡ overwritten o p (leftBytes f b)
   unfolding leftBytes
   left-put v x y z m n ex ey ez em en d = d ∙ (rw (ex, ey, ez, en, em))
@@ -39,7 +39,7 @@ module _ (f b o : List ℕ) (p : ℕ) where
   unfolding rightBytes
   right-next w q n h d e = then-room o p (two n) (0 ∷ []) w q h d e
 
-  pub right-put : (w v : List ℕ) (q m n x : ℕ) → p + length (rightBytes f b) ≤ length o → m ≡ word (drop 5 b) → n ≡ renewed f m
+  pub right-put : (w v : List ℕ) (q m n x : ℕ) → p + length (rightBytes f b) ≤ length o → m ≡ le16 (drop 5 b) → n ≡ renewed f m
       → x ≡ getD b 7 0
       → w ≡ overwritten o p (two n) → q ≡ p + 2 → v ≡ overwritten w q (x ∷ []) → v ≡ overwritten o p (rightBytes f b)
   unfolding rightBytes
@@ -110,7 +110,7 @@ module _ (g b o : List ℕ) (p : ℕ) where
   claim-next w q x h d e = then-room o p (x ∷ []) (0 ∷ 0 ∷ 0 ∷ 0 ∷ 0 ∷ []) w q h d e
 
   pub claim-put : (w v : List ℕ) (q t x y z m n : ℕ) → p + length (claimBytes (renewedClaim g (claimRecord b))) ≤ length o
-      → t ≡ getD b 0 0 → x ≡ getD b 1 0 → y ≡ getD b 2 0 → z ≡ getD b 3 0 → m ≡ word (drop 4 b) → n ≡ renewed g m
+      → t ≡ getD b 0 0 → x ≡ getD b 1 0 → y ≡ getD b 2 0 → z ≡ getD b 3 0 → m ≡ le16 (drop 4 b) → n ≡ renewed g m
       → w ≡ overwritten o p (t ∷ []) → q ≡ p + 1 → v ≡ overwritten w q (x ∷ y ∷ z ∷ two n)
       → v ≡ overwritten o p (claimBytes (renewedClaim g (claimRecord b)))
   unfolding claimBytes renewedClaim claimBy claimRecord

@@ -9,20 +9,20 @@ use lib.ListN.{length, getD, set, drop, replicate, drop-of-length-le}
 use lib.Seq.{drop-cons}
 use Rattle.logic.specs.Obligations.{flat}
 use Rattle.limits.specs.Limits as Limits
-use Rattle.limits.specs.Numbers.{word, numbers}
+use Rattle.limits.specs.Numbers.{le16, numbers}
 use Rattle.image_header.specs.declared.sizes.Sizes.{Sizes}
 use Rattle.image_header.specs.declared.instruction.Instruction.{Instruction}
 use Rattle.image_header.specs.Thread.{lastPoint, instructions, nothing}
 use Rattle.image_header.proofs.ThreadBranches.{instructions-length}
 use Rattle.image_bodies.specs.RecordPlaces.{threadBody}
-use Rattle.image_bodies.specs.PointCounts.{tally}
-use Rattle.image_bodies.specs.declared.point_counts.Tally.{Tally}
+use Rattle.image_bodies.specs.PointCounts.{pointCounts}
+use Rattle.image_bodies.specs.declared.point_counts.PointCounts.{PointCounts}
 use Rattle.image.specs.Decode.{recordCount}
 use Rattle.image_meaning.specs.Certificate.{lineBody}
 use Rattle.trim_spec.specs.Document.{LineRecord}
 use Rattle.trim_spec.specs.Canonical.{noLine}
 use Rattle.trim_spec.specs.Parse.{lineRecord, documentOf}
-use Rattle.trim_spec.specs.Live.{noted, chosen, selected, instructionFormulas, lineFormulas, namedFormulas, kept, used}
+use Rattle.trim_spec.specs.Live.{markedBy, chosen, selected, instructionFormulas, lineFormulas, namedFormulas, kept, used}
 use Rattle.trim_encode.specs.NamedNumbers.{bodyFormulas, threadFormulas, sidesOf, markedSides, markedFormulas}
 use Rattle.trim_encode.proofs.MarkBranches.{noted-nil, noting, note-two, note-three, flat-more, flat-all}
 use Rattle.trim_encode.proofs.DocumentBodies.{thread-at, line-at, threads-length, lines-length}
@@ -30,38 +30,38 @@ use Rattle.trim_encode.proofs.DocumentBodies.{thread-at, line-at, threa
 -- a thread's instructions, one after the other
 module _ (b : List ℕ) (m₀ m : List Bool) where
   pub body-more : (p n : ℕ) (i : Instruction) (after : List Bool) → p < n → n ≡ lastPoint b
-      → noted m₀ (bodyFormulas b 0) ≡ noted m (bodyFormulas b p)
-      → i ≡ getD (instructions b) p nothing → after ≡ noted m (instructionFormulas i)
-      → noted m₀ (bodyFormulas b 0) ≡ noted after (bodyFormulas b (p + 1))
+      → markedBy m₀ (bodyFormulas b 0) ≡ markedBy m (bodyFormulas b p)
+      → i ≡ getD (instructions b) p nothing → after ≡ markedBy m (instructionFormulas i)
+      → markedBy m₀ (bodyFormulas b 0) ≡ markedBy after (bodyFormulas b (p + 1))
   unfolding bodyFormulas
   body-more p n i after h en e d u =
       let len = instructions-length b in
-      flat-more instructionFormulas (instructions b) nothing p m after (noted m₀ (bodyFormulas b 0)) (omega arith) e (rw d at u)
+      flat-more instructionFormulas (instructions b) nothing p m after (markedBy m₀ (bodyFormulas b 0)) (omega arith) e (rw d at u)
 
-  pub body-all : (p n : ℕ) → n ≤ p → n ≡ lastPoint b → noted m₀ (bodyFormulas b 0) ≡ noted m (bodyFormulas b p)
-      → m ≡ noted m₀ (bodyFormulas b 0)
+  pub body-all : (p n : ℕ) → n ≤ p → n ≡ lastPoint b → markedBy m₀ (bodyFormulas b 0) ≡ markedBy m (bodyFormulas b p)
+      → m ≡ markedBy m₀ (bodyFormulas b 0)
   unfolding bodyFormulas
   body-all p n h en e =
       let len = instructions-length b in
-      flat-all instructionFormulas (instructions b) p m (noted m₀ (bodyFormulas b 0)) (omega arith) e
+      flat-all instructionFormulas (instructions b) p m (markedBy m₀ (bodyFormulas b 0)) (omega arith) e
 
 -- the threads, one after the other
 module _ (z : Sizes) (l : List (List ℕ)) (m₀ m : List Bool) (whole : length l ≡ recordCount z) where
   abbrev given : List Bool
-  given = noted m₀ (threadFormulas z l 0)
+  given = markedBy m₀ (threadFormulas z l 0)
 
-  pub threads-more : (t : ℕ) (b : List ℕ) (after : List Bool) → t < z .threads → given ≡ noted m (threadFormulas z l t)
+  pub threads-more : (t : ℕ) (b : List ℕ) (after : List Bool) → t < z .threads → given ≡ markedBy m (threadFormulas z l t)
       → b ≡ getD l (z .formulas + (t + 1)) []
-      → after ≡ noted m (bodyFormulas b 0) → given ≡ noted after (threadFormulas z l (t + 1))
+      → after ≡ markedBy m (bodyFormulas b 0) → given ≡ markedBy after (threadFormulas z l (t + 1))
   unfolding threadFormulas bodyFormulas threadBody
   threads-more t b after h e d u =
       let len = threads-length z l whole in
       let q : b ≡ threadBody z l (suc t) = rw (← add-one t) d in
       flat-more (λ i. flat instructionFormulas i) (documentOf z l .threads) [] t m after given (omega arith) e
-      (u ∙ ap (λ (x : List ℕ). noted m (flat instructionFormulas (instructions x))) q
-      ∙ ap (λ (x : List Instruction). noted m (flat instructionFormulas x)) (sym (thread-at z l t h)))
+      (u ∙ ap (λ (x : List ℕ). markedBy m (flat instructionFormulas (instructions x))) q
+      ∙ ap (λ (x : List Instruction). markedBy m (flat instructionFormulas x)) (sym (thread-at z l t h)))
 
-  pub threads-all : (t : ℕ) → z .threads ≤ t → given ≡ noted m (threadFormulas z l t) → m ≡ given
+  pub threads-all : (t : ℕ) → z .threads ≤ t → given ≡ markedBy m (threadFormulas z l t) → m ≡ given
   unfolding threadFormulas
   threads-all t h e =
       let len = threads-length z l whole in
@@ -69,28 +69,28 @@ module _ (z : Sizes) (l : List (List ℕ)) (m₀ m : List Bool) (whole : length 
 
 pub ruleset threading = (body-more, body-all, threads-more, threads-all)
 
-pub outline-is : (z : Sizes) (l : List (List ℕ)) (b : List ℕ) (c : Tally) (m after : List Bool)
-    → b ≡ getD l (z .formulas + z .threads + 1) [] → c ≡ tally z l
-    → after ≡ noted m (numbers (c .points) b) → after ≡ noted m (documentOf z l .outline)
+pub outline-is : (z : Sizes) (l : List (List ℕ)) (b : List ℕ) (c : PointCounts) (m after : List Bool)
+    → b ≡ getD l (z .formulas + z .threads + 1) [] → c ≡ pointCounts z l
+    → after ≡ markedBy m (numbers (c .points) b) → after ≡ markedBy m (documentOf z l .outline)
 unfolding documentOf
 outline-is z l b c m after eb ec e = rw (← eb, ← ec) e
 
 -- one line
 
-pub sides-are : (b : List ℕ) (x y : ℕ) (m between after : List Bool) → x ≡ word (drop 3 b) → between ≡ set m x true → y ≡ word (drop 5 b)
+pub sides-are : (b : List ℕ) (x y : ℕ) (m between after : List Bool) → x ≡ le16 (drop 3 b) → between ≡ set m x true → y ≡ le16 (drop 5 b)
     → after ≡ set between y true
-    → after ≡ noted m (sidesOf b)
+    → after ≡ markedBy m (sidesOf b)
 unfolding sidesOf
 sides-are b x y m between after ex e ey d = rw (← ex, ← ey) (note-two m between after x y e d)
 
 module _ (z : Sizes) (l : List (List ℕ)) (k : List Bool) (n : ℕ) (m : List Bool) (b : Bool) (e : b ≡ getD k n false) where
   pub sides-noted : (c : List ℕ) (after : List Bool) → b ≡ true → c ≡ getD l (z .formulas + z .threads + 1 + n) []
-      → after ≡ noted m (sidesOf c)
-      → after ≡ noted m (markedSides z l k n)
+      → after ≡ markedBy m (sidesOf c)
+      → after ≡ markedBy m (markedSides z l k n)
   unfolding markedSides lineBody
   sides-noted c after h d u = rw (← e, h, ← d) u
 
-  pub sides-passed : b ≡ false → m ≡ noted m (markedSides z l k n)
+  pub sides-passed : b ≡ false → m ≡ markedBy m (markedSides z l k n)
   unfolding markedSides
   sides-passed h = rw (← e, h, noted-nil)
 
@@ -118,7 +118,7 @@ flat-cond false v l = refl
 
 module _ (z : Sizes) (l : List (List ℕ)) (k m₀ m : List Bool) (whole : length l ≡ recordCount z) where
   abbrev wanted : List Bool
-  wanted = noted m₀ (markedFormulas z l k 0)
+  wanted = markedBy m₀ (markedFormulas z l k 0)
 
   marked-step : (n : ℕ) → n < z .lines → markedFormulas z l k n ≡ markedSides z l k (suc n) ++ markedFormulas z l k (suc n)
   unfolding markedFormulas markedSides sidesOf lineRecord
@@ -136,30 +136,30 @@ module _ (z : Sizes) (l : List (List ℕ)) (k m₀ m : List Bool) (whole : lengt
       behind : List LineRecord
       behind = drop (suc n) (documentOf z l .lines)
 
-  pub marked-more : (n : ℕ) (after : List Bool) → n < z .lines → wanted ≡ noted m (markedFormulas z l k n)
-      → after ≡ noted m (markedSides z l k (n + 1))
-      → wanted ≡ noted after (markedFormulas z l k (n + 1))
+  pub marked-more : (n : ℕ) (after : List Bool) → n < z .lines → wanted ≡ markedBy m (markedFormulas z l k n)
+      → after ≡ markedBy m (markedSides z l k (n + 1))
+      → wanted ≡ markedBy after (markedFormulas z l k (n + 1))
   marked-more n after h e u =
       rw (add-one n)
       (noting m after wanted (markedFormulas z l k n) (markedSides z l k (suc n)) (markedFormulas z l k (suc n)) e (marked-step n h)
       (rw (add-one n) at u))
 
-  pub marked-all : (n : ℕ) → z .lines ≤ n → wanted ≡ noted m (markedFormulas z l k n) → m ≡ wanted
-  unfolding markedFormulas noted
+  pub marked-all : (n : ℕ) → z .lines ≤ n → wanted ≡ markedBy m (markedFormulas z l k n) → m ≡ wanted
+  unfolding markedFormulas markedBy
   marked-all n h e =
       let len = lines-length z l whole in
       let i : length (documentOf z l .lines) ≤ n = omega arith in
       sym (e
-      ∙ ap (λ (x : List LineRecord). noted m (flat lineFormulas (chosen (drop (suc n) k) x))) (drop-of-length-le (documentOf z l .lines) i)
-      ∙ ap (λ (x : List LineRecord). noted m (flat lineFormulas x)) (chosen-nil (drop (suc n) k)))
+      ∙ ap (λ (x : List LineRecord). markedBy m (flat lineFormulas (chosen (drop (suc n) k) x))) (drop-of-length-le (documentOf z l .lines) i)
+      ∙ ap (λ (x : List LineRecord). markedBy m (flat lineFormulas x)) (chosen-nil (drop (suc n) k)))
 
 pub ruleset choosing = (marked-more, marked-all)
 
 pub used-is : (z : Sizes) (l : List (List ℕ)) (k m₀ m₁ m₂ m₃ : List Bool) → k ≡ kept (documentOf z l)
     → m₀ ≡ replicate (suc Limits.formulas) false
-    → m₁ ≡ noted m₀ (threadFormulas z l 0) → m₂ ≡ noted m₁ (documentOf z l .outline) → m₃ ≡ noted m₂ (markedFormulas z l k 0)
+    → m₁ ≡ markedBy m₀ (threadFormulas z l 0) → m₂ ≡ markedBy m₁ (documentOf z l .outline) → m₃ ≡ markedBy m₂ (markedFormulas z l k 0)
     → m₃ ≡ used (documentOf z l)
 unfolding used namedFormulas selected threadFormulas markedFormulas
 used-is z l k m₀ m₁ m₂ m₃ ek e₀ e₁ e₂ e₃ =
     note-three m₀ m₁ m₂ m₃ (threadFormulas z l 0) (documentOf z l .outline) (markedFormulas z l k 0) e₁ e₂ e₃
-    ∙ ap₂ (λ (m x : List Bool). noted m (threadFormulas z l 0 ++ (documentOf z l .outline ++ markedFormulas z l x 0))) e₀ ek
+    ∙ ap₂ (λ (m x : List Bool). markedBy m (threadFormulas z l 0 ++ (documentOf z l .outline ++ markedFormulas z l x 0))) e₀ ek

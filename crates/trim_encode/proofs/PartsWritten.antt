@@ -6,8 +6,8 @@ use Prim.Native.Nat.{ℕ, _+_, _≤_}
 use lib.ListN.{length}
 use Rattle.image_frames.specs.Kinds as Kinds
 use Rattle.image_header.specs.declared.sizes.Sizes.{Sizes}
-use Rattle.image_bodies.specs.PointCounts.{tally, obligationCount}
-use Rattle.image_bodies.specs.declared.point_counts.Tally.{Tally}
+use Rattle.image_bodies.specs.PointCounts.{pointCounts, obligationCount}
+use Rattle.image_bodies.specs.declared.point_counts.PointCounts.{PointCounts}
 use Rattle.trim_encode.specs.Overwritten.{overwritten}
 use Rattle.trim_encode.specs.Records.{recordBytes, listBytes}
 use Rattle.trim_encode.specs.WholeImage.{formulasBytes, threadsBytes, outlineBytes, linesBytes, obligationsBytes, claimsBytes}
@@ -90,14 +90,14 @@ module _ (z : Sizes) (f g : List ℕ) (l : List (List ℕ)) where
 
 -- the counts that were worked out
 module _ (t : List ℕ) (z : Sizes) (l : List (List ℕ)) (k n p : ℕ) (o v : List ℕ) (r : ℕ) where
-  module _ (c : Tally) (e : c ≡ tally z l) where
-    pub points-room : p + length (listBytes t l k n (tally z l .points)) ≤ length o → p + length (listBytes t l k n (c .points)) ≤ length o
+  module _ (c : PointCounts) (e : c ≡ pointCounts z l) where
+    pub points-room : p + length (listBytes t l k n (pointCounts z l .points)) ≤ length o → p + length (listBytes t l k n (c .points)) ≤ length o
     points-room h = rw e h
 
-    pub points-put : v ≡ overwritten o p (listBytes t l k n (c .points)) → v ≡ overwritten o p (listBytes t l k n (tally z l .points))
+    pub points-put : v ≡ overwritten o p (listBytes t l k n (c .points)) → v ≡ overwritten o p (listBytes t l k n (pointCounts z l .points))
     points-put d = rw e at d
 
-    pub points-end : r ≡ p + length (listBytes t l k n (c .points)) → r ≡ p + length (listBytes t l k n (tally z l .points))
+    pub points-end : r ≡ p + length (listBytes t l k n (c .points)) → r ≡ p + length (listBytes t l k n (pointCounts z l .points))
     points-end d = rw e at d
 
   module _ (c : ℕ) (e : c ≡ obligationCount z l) where

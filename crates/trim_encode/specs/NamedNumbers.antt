@@ -9,7 +9,7 @@ use Rattle.image_header.specs.Thread.{instructions}
 use Rattle.image_bodies.specs.Line.{premises}
 use Rattle.image_meaning.specs.Certificate.{left, right, lineBody}
 use Rattle.trim_spec.specs.Parse.{documentOf}
-use Rattle.trim_spec.specs.Live.{noted, chosen, instructionFormulas, lineFormulas}
+use Rattle.trim_spec.specs.Live.{markedBy, chosen, instructionFormulas, lineFormulas}
 
 -- the formulas that the instructions of a thread's body name, from point p on
 unfoldable pub bodyFormulas : List ℕ → ℕ → List ℕ
@@ -26,7 +26,7 @@ module _ (z : Sizes) (l : List (List ℕ)) where
 
   -- the premises of line n have marks too, if it has one
   unfoldable pub withPremises : ℕ → List Bool → List Bool
-  withPremises n m = cond (getD m n false) (noted m (premises (lineBody z l n))) m
+  withPremises n m = cond (getD m n false) (markedBy m (premises (lineBody z l n))) m
 
   -- the formulas that the threads behind thread t name
   unfoldable pub threadFormulas : ℕ → List ℕ

@@ -32,8 +32,8 @@ module _ (f g : List ℕ) where
     recordPiece k n i = recordBytes k (n + i)
 
     -- if it has a mark; numbers count from 1
-    unfoldable pub keptPiece : List Bool → ℕ → ℕ → ℕ → List ℕ
-    keptPiece m k n i = cond (getD m (i + 1) false) (recordBytes k (n + i)) []
+    unfoldable pub livePiece : List Bool → ℕ → ℕ → ℕ → List ℕ
+    livePiece m k n i = cond (getD m (i + 1) false) (recordBytes k (n + i)) []
 
 -- a record that is a list of c numbers, each renewed by the table t
 unfoldable pub listBytes : List ℕ → List (List ℕ) → ℕ → ℕ → ℕ → List ℕ

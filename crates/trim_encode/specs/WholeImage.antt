@@ -4,26 +4,26 @@ use mathlib.Core.List.{List, _++_}
 use Prim.Native.Nat.{ℕ, _+_}
 use Rattle.image_frames.specs.Kinds as Kinds
 use Rattle.image_header.specs.declared.sizes.Sizes.{Sizes}
-use Rattle.image_bodies.specs.PointCounts.{tally, obligationCount}
+use Rattle.image_bodies.specs.PointCounts.{pointCounts, obligationCount}
 use Rattle.trim_encode.specs.Pieces.{joined}
-use Rattle.trim_encode.specs.Records.{recordBytes, recordPiece, keptPiece, listBytes}
+use Rattle.trim_encode.specs.Records.{recordBytes, recordPiece, livePiece, listBytes}
 
 -- formulas are named by the outline, lines by the obligations
 unfoldable pub outlineBytes : Sizes → List ℕ → List (List ℕ) → List ℕ
-outlineBytes z f l = listBytes f l Kinds.outline (z .formulas + z .threads + 1) (tally z l .points)
+outlineBytes z f l = listBytes f l Kinds.outline (z .formulas + z .threads + 1) (pointCounts z l .points)
 
 unfoldable pub obligationsBytes : Sizes → List ℕ → List (List ℕ) → List ℕ
 obligationsBytes z g l = listBytes g l Kinds.obligations (z .formulas + z .threads + 1 + z .lines + 1) (obligationCount z l)
 
 module _ (z : Sizes) (f g : List ℕ) (l : List (List ℕ)) where
   unfoldable pub formulasBytes : List Bool → List ℕ
-  formulasBytes u = joined (keptPiece f g l u Kinds.formula 1) (z .formulas)
+  formulasBytes u = joined (livePiece f g l u Kinds.formula 1) (z .formulas)
 
   unfoldable pub threadsBytes : List ℕ
   threadsBytes = joined (recordPiece f g l Kinds.thread (z .formulas + 1)) (z .threads)
 
   unfoldable pub linesBytes : List Bool → List ℕ
-  linesBytes k = joined (keptPiece f g l k Kinds.line (z .formulas + z .threads + 2)) (z .lines)
+  linesBytes k = joined (livePiece f g l k Kinds.line (z .formulas + z .threads + 2)) (z .lines)
 
   unfoldable pub claimsBytes : List ℕ
   claimsBytes = joined (recordPiece f g l Kinds.claim (z .formulas + z .threads + 1 + z .lines + 2)) (z .claims)

@@ -15,7 +15,7 @@ pub fn put_byte(byte: u8, out: &mut [u8], at: usize) -> usize
 }
 
 // A 16-bit number.
-pub fn put_word(number: usize, out: &mut [u8], at: usize) -> usize
+pub fn put_u16(number: usize, out: &mut [u8], at: usize) -> usize
     requires { ⌜ at + 2 ≤ length (now out) ⌝ }
     ensures { λ r. ⌜ (now (out .exit) ≡ overwritten (now (out .entry)) at (two number)) × (r ≡ at + 2) ⌝ }
 {
@@ -39,7 +39,7 @@ pub fn put_five(
     let second = put_byte(byte, out, at);
     let third = put_byte(next_byte, out, second);
     let fourth = put_byte(last_byte, out, third);
-    put_word(number, out, fourth)
+    put_u16(number, out, fourth)
 }
 
 pub fn put_bytes<'a, 'b>(body: &'a [u8], out: &'b mut [u8], at: usize) -> usize
@@ -59,7 +59,7 @@ pub fn put_frame(kind: usize, out: &mut [u8], at: usize, end: usize) -> usize
     requires { ⌜ (at + 4 ≤ end) × (end ≤ length (now out)) ⌝ }
     ensures { λ r. ⌜ (now (out .exit) ≡ overwritten (now (out .entry)) at (two (end - at - 2) ++ two kind)) × (r ≡ end) ⌝ }
 {
-    let next = put_word(end - at - 2, out, at);
-    put_word(kind, out, next);
+    let next = put_u16(end - at - 2, out, at);
+    put_u16(kind, out, next);
     end
 }

@@ -2,8 +2,8 @@
 use crate::bytes::put_byte;
 use crate::bytes::put_five;
 use crate::renumbered::new_number;
-use limits::read::octet_at;
-use limits::read::word_at;
+use limits::read::u8_at;
+use limits::read::u16_at;
 ghost use mathlib.Core.Path.{_≡_};
 ghost use Prim.Native.Nat.{_+_, _≤_};
 ghost use lib.ListN.{length};
@@ -23,13 +23,13 @@ pub fn put_claim<'a, 'b, 'c>(
         ≡ overwritten (now (out .entry)) at (claimBytes (renewedClaim (now («line_numbers» .entry)) (claimRecord (now (body .entry))))) ⌝ }
     ensures { λ r. ⌜ r ≡ at + length (claimBytes (renewedClaim (now («line_numbers» .entry)) (claimRecord (now (body .entry))))) ⌝ }
 {
-    let old = word_at(body, 4);
+    let old = u16_at(body, 4);
     let line = new_number(line_numbers, old);
-    let next = put_byte(octet_at(body, 0), out, at);
+    let next = put_byte(u8_at(body, 0), out, at);
     put_five(
-        octet_at(body, 1),
-        octet_at(body, 2),
-        octet_at(body, 3),
+        u8_at(body, 1),
+        u8_at(body, 2),
+        u8_at(body, 3),
         line,
         out,
         next,

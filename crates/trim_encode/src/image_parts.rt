@@ -1,9 +1,9 @@
 // The parts of the trimmed image, each behind the one before it.
 use crate::record::put_list;
-use crate::records::put_kept;
+use crate::records::put_live;
 use crate::records::put_records;
 use image_bodies::point_counts::count_obligations;
-use image_bodies::point_counts::tally_of;
+use image_bodies::point_counts::point_counts_of;
 use image_frames::kind::Kind;
 use image_header::sizes::Sizes;
 ghost use mathlib.Core.Path.{_≡_};
@@ -34,7 +34,7 @@ pub fn put_formulas<'a, 'b, 'c, 'd, 'e, 'f>(
     ensures { λ r. ⌜ r ≡ at + length (formulasBytes sizes (now («formula_numbers» .entry)) (now («line_numbers» .entry))
         (bodies (now (image .entry))) (now («live_formulas» .entry))) ⌝ }
 {
-    put_kept(
+    put_live(
         image,
         index,
         formula_numbers,
@@ -93,7 +93,7 @@ pub fn put_outline<'a, 'b, 'c, 'd>(
         (outlineBytes sizes (now («formula_numbers» .entry)) (bodies (now (image .entry)))) ⌝ }
     ensures { λ r. ⌜ r ≡ at + length (outlineBytes sizes (now («formula_numbers» .entry)) (bodies (now (image .entry)))) ⌝ }
 {
-    let counts = tally_of(image, index, sizes);
+    let counts = point_counts_of(image, index, sizes);
     let n = (sizes.formulas as usize) + (sizes.threads as usize) + 1;
     put_list(
         image,
@@ -128,7 +128,7 @@ pub fn put_lines<'a, 'b, 'c, 'd, 'e, 'f>(
         (bodies (now (image .entry))) (now («live_lines» .entry))) ⌝ }
 {
     let n = (sizes.formulas as usize) + (sizes.threads as usize) + 2;
-    put_kept(
+    put_live(
         image,
         index,
         formula_numbers,

@@ -1,4 +1,4 @@
-// Which numbers are noted, the new numbers of those that are, and how long what is left of an image is.
+// Which numbers are markedBy, the new numbers of those that are, and how long what is left of an image is.
 pub mod marks;
 pub mod numbering;
 pub mod trimmed_length;

@@ -1,13 +1,13 @@
 // A line of the certificate, with its formulas and its premises renewed: formulas by f, lines by g.
 use crate::bytes::put_byte;
 use crate::bytes::put_five;
-use crate::bytes::put_word;
+use crate::bytes::put_u16;
 use crate::renumbered::new_number;
 use crate::renumbered::put_numbers;
 use limits::read::byte_at;
-use limits::read::octet_at;
 use limits::read::rest;
-use limits::read::word_at;
+use limits::read::u8_at;
+use limits::read::u16_at;
 ghost use mathlib.Core.Path.{_≡_};
 ghost use mathlib.Core.List.{map};
 ghost use Prim.Native.Nat.{_+_, _≤_};
@@ -31,12 +31,12 @@ fn put_left<'a, 'b, 'c>(
         ⌝ }
     ensures { λ r. ⌜ r ≡ at + length (leftBytes (now («formula_numbers» .entry)) (now (body .entry))) ⌝ }
 {
-    let old = word_at(body, 3);
+    let old = u16_at(body, 3);
     let left = new_number(formula_numbers, old);
     put_five(
-        octet_at(body, 0),
-        octet_at(body, 1),
-        octet_at(body, 2),
+        u8_at(body, 0),
+        u8_at(body, 1),
+        u8_at(body, 2),
         left,
         out,
         at,
@@ -55,9 +55,9 @@ fn put_right<'a, 'b, 'c>(
         ⌝ }
     ensures { λ r. ⌜ r ≡ at + length (rightBytes (now («formula_numbers» .entry)) (now (body .entry))) ⌝ }
 {
-    let old = word_at(body, 5);
-    let next = put_word(new_number(formula_numbers, old), out, at);
-    put_byte(octet_at(body, 7), out, next)
+    let old = u16_at(body, 5);
+    let next = put_u16(new_number(formula_numbers, old), out, at);
+    put_byte(u8_at(body, 7), out, next)
 }
 
 fn put_premises<'a, 'b, 'c>(

@@ -1,15 +1,15 @@
 // Which formulas stay: those that instructions, the outline and the lines that stay name.
-use crate::marks::is_noted;
-use crate::marks::note_number;
-use crate::marks::note_numbers;
-use image_bodies::point_counts::tally_of;
+use crate::marks::is_marked;
+use crate::marks::mark_number;
+use crate::marks::mark_numbers;
+use image_bodies::point_counts::point_counts_of;
 use image_header::instruction::Instruction;
 use image_header::sizes::Sizes;
 use image_header::thread::begins_behind;
 use image_header::thread::instruction_from;
 use image_header::thread::last_point;
 use image_index::look_up::body_of;
-use limits::read::word_at;
+use limits::read::u16_at;
 ghost use mathlib.Core.Path.{_≡_};
 ghost use mathlib.Core.Bool.{false};
 ghost use Prim.Native.Nat.{suc, _<_};
@@ -19,79 +19,79 @@ ghost use Rattle.image_frames.specs.Records.{bodies};
 ghost use Rattle.image_index.specs.IndexTable.{indexOf};
 ghost use Rattle.image.specs.Decode.{recordCount};
 ghost use Rattle.trim_spec.specs.Parse.{documentOf};
-ghost use Rattle.trim_spec.specs.Live.{noted, instructionFormulas, kept, used};
+ghost use Rattle.trim_spec.specs.Live.{markedBy, instructionFormulas, kept, used};
 ghost use Rattle.trim_encode.specs.NamedNumbers.{bodyFormulas, threadFormulas, sidesOf, markedSides, markedFormulas};
 
 // An instruction has 0 for a formula that it does not have.
-fn note_instruction(instruction: Instruction, marks: &mut [bool])
-    ensures { λ _. ⌜ now (marks .exit) ≡ noted (now (marks .entry)) (instructionFormulas instruction) ⌝ }
+fn mark_instruction(instruction: Instruction, marks: &mut [bool])
+    ensures { λ _. ⌜ now (marks .exit) ≡ markedBy (now (marks .entry)) (instructionFormulas instruction) ⌝ }
 {
-    note_number(marks, instruction.formula);
-    note_number(marks, instruction.second.formula);
+    mark_number(marks, instruction.formula);
+    mark_number(marks, instruction.second.formula);
 }
 
 // The instructions of a thread's body.
-fn note_thread<'a, 'b>(body: &'a [u8], marks: &'b mut [bool])
-    ensures { λ _. ⌜ now (marks .exit) ≡ noted (now (marks .entry)) (bodyFormulas (now (body .entry)) 0) ⌝ }
+fn mark_thread<'a, 'b>(body: &'a [u8], marks: &'b mut [bool])
+    ensures { λ _. ⌜ now (marks .exit) ≡ markedBy (now (marks .entry)) (bodyFormulas (now (body .entry)) 0) ⌝ }
 {
     let last = last_point(body);
     let mut at: usize = 0;
     let mut p: usize = 0;
     while p < last {
         let instruction = instruction_from(body, p, at);
-        note_instruction(instruction, marks);
+        mark_instruction(instruction, marks);
         at = begins_behind(body, p, at);
         p += 1;
     }
 }
 
 // Those of all threads.
-fn note_threads<'a, 'b, 'c>(
+fn mark_threads<'a, 'b, 'c>(
     image: &'a [u8],
     index: &'b [usize],
     sizes: Sizes,
     marks: &'c mut [bool],
 )
     requires { ⌜ (now index ≡ indexOf (now image)) × (length (bodies (now image)) ≡ recordCount sizes) ⌝ }
-    ensures { λ _. ⌜ now (marks .exit) ≡ noted (now (marks .entry)) (threadFormulas sizes (bodies (now (image .entry))) 0) ⌝ }
+    ensures { λ _. ⌜ now (marks .exit) ≡ markedBy (now (marks .entry)) (threadFormulas sizes (bodies (now (image .entry))) 0) ⌝ }
 {
     let threads = sizes.threads as usize;
     let mut t: usize = 0;
     while t < threads {
         t += 1;
         let body = body_of(image, index, (sizes.formulas as usize) + t);
-        note_thread(body, marks);
+        mark_thread(body, marks);
     }
 }
 
-fn note_outline<'a, 'b, 'c>(
+fn mark_outline<'a, 'b, 'c>(
     image: &'a [u8],
     index: &'b [usize],
     sizes: Sizes,
     marks: &'c mut [bool],
 )
     requires { ⌜ now index ≡ indexOf (now image) ⌝ }
-    ensures { λ _. ⌜ now (marks .exit) ≡ noted (now (marks .entry)) (documentOf sizes (bodies (now (image .entry))) .outline) ⌝ }
+    ensures { λ _. ⌜ now (marks .exit) ≡ markedBy (now (marks .entry)) (documentOf sizes (bodies (now (image .entry))) .outline) ⌝ }
 {
     let body = body_of(
         image,
         index,
         (sizes.formulas as usize) + (sizes.threads as usize) + 1,
     );
-    let counts = tally_of(image, index, sizes);
-    note_numbers(body, counts.points, marks);
+    let counts = point_counts_of(image, index, sizes);
+    mark_numbers(body, counts.points, marks);
 }
 
 // Left and right formula of the line in a body.
-fn note_sides<'a, 'b>(body: &'a [u8], marks: &'b mut [bool])
-    ensures { λ _. ⌜ now (marks .exit) ≡ noted (now (marks .entry)) (sidesOf (now (body .entry))) ⌝ }
+fn mark_sides<'a, 'b>(body: &'a [u8], marks: &'b mut [bool])
+    ensures { λ _. ⌜ now (marks .exit) ≡ markedBy (now (marks .entry)) (sidesOf (now (body .entry))) ⌝ }
 {
-    note_number(marks, word_at(body, 3));
-    note_number(marks, word_at(body, 5));
+    mark_number(marks, u16_at(body, 3));
+    mark_number(marks, u16_at(body, 5));
 }
 
 // Those of line n, if it stays.
-fn note_line<'a, 'b, 'c, 'd>(
+fn mark_line<'a, 'b, 'c, 'd>(
     image: &'a [u8],
     index: &'b [usize],
     sizes: Sizes,
@@ -100,22 +100,22 @@ fn note_line<'a, 'b, 'c, 'd>(
     marks: &'d mut [bool],
 )
     requires { ⌜ (now index ≡ indexOf (now image)) × (number < 65536) ⌝ }
-    ensures { λ _. ⌜ now (marks .exit) ≡ noted (now (marks .entry)) (markedSides sizes (bodies (now (image .entry)))
+    ensures { λ _. ⌜ now (marks .exit) ≡ markedBy (now (marks .entry)) (markedSides sizes (bodies (now (image .entry)))
         (now («live_lines» .entry)) number) ⌝ }
 {
-    if is_noted(live_lines, number) {
+    if is_marked(live_lines, number) {
         let body = body_of(
             image,
             index,
             (sizes.formulas as usize) + (sizes.threads as usize) + 1 + number,
         );
-        note_sides(body, marks);
+        mark_sides(body, marks);
         return;
     }
 }
 
 // Those of all lines that stay.
-fn note_lines<'a, 'b, 'c, 'd>(
+fn mark_lines<'a, 'b, 'c, 'd>(
     image: &'a [u8],
     index: &'b [usize],
     sizes: Sizes,
@@ -123,19 +123,19 @@ fn note_lines<'a, 'b, 'c, 'd>(
     marks: &'d mut [bool],
 )
     requires { ⌜ (now index ≡ indexOf (now image)) × (length (bodies (now image)) ≡ recordCount sizes) ⌝ }
-    ensures { λ _. ⌜ now (marks .exit) ≡ noted (now (marks .entry)) (markedFormulas sizes (bodies (now (image .entry)))
+    ensures { λ _. ⌜ now (marks .exit) ≡ markedBy (now (marks .entry)) (markedFormulas sizes (bodies (now (image .entry)))
         (now («live_lines» .entry)) 0) ⌝ }
 {
     let lines = sizes.lines as usize;
     let mut n: usize = 0;
     while n < lines {
         n += 1;
-        note_line(image, index, sizes, live_lines, n, marks);
+        mark_line(image, index, sizes, live_lines, n, marks);
     }
 }
 
 // With the marks k of the lines that stay.
-pub fn fill_used<'a, 'b, 'c, 'd>(
+pub fn mark_live_formulas<'a, 'b, 'c, 'd>(
     image: &'a [u8],
     index: &'b [usize],
     sizes: Sizes,
@@ -146,7 +146,7 @@ pub fn fill_used<'a, 'b, 'c, 'd>(
         × ((now «live_lines» ≡ kept (documentOf sizes (bodies (now image)))) × (now marks ≡ replicate (suc formulas) false)) ⌝ }
     ensures { λ _. ⌜ now (marks .exit) ≡ used (documentOf sizes (bodies (now (image .entry)))) ⌝ }
 {
-    note_threads(image, index, sizes, marks);
-    note_outline(image, index, sizes, marks);
-    note_lines(image, index, sizes, live_lines, marks);
+    mark_threads(image, index, sizes, marks);
+    mark_outline(image, index, sizes, marks);
+    mark_lines(image, index, sizes, live_lines, marks);
 }

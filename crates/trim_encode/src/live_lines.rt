@@ -1,7 +1,7 @@
 // Which lines stay: those that obligations and claims name, and down from these all premises.
-use crate::marks::is_noted;
-use crate::marks::note_number;
-use crate::marks::note_numbers;
+use crate::marks::is_marked;
+use crate::marks::mark_number;
+use crate::marks::mark_numbers;
 use image_access::claim::claim_of;
 use image_bodies::point_counts::count_obligations;
 use image_header::sizes::Sizes;
@@ -18,18 +18,18 @@ ghost use Rattle.image_index.specs.IndexTable.{indexOf};
 ghost use Rattle.image_bodies.specs.Line.{premises};
 ghost use Rattle.image.specs.Decode.{recordCount};
 ghost use Rattle.trim_spec.specs.Parse.{documentOf};
-ghost use Rattle.trim_spec.specs.Live.{noted, keptTo, kept};
+ghost use Rattle.trim_spec.specs.Live.{markedBy, keptTo, kept};
 ghost use Rattle.trim_encode.specs.NamedNumbers.{claimLines, withPremises};
 
 // The lines that obligations name.
-fn note_obligations<'a, 'b, 'c>(
+fn mark_obligations<'a, 'b, 'c>(
     image: &'a [u8],
     index: &'b [usize],
     sizes: Sizes,
     marks: &'c mut [bool],
 )
     requires { ⌜ now index ≡ indexOf (now image) ⌝ }
-    ensures { λ _. ⌜ now (marks .exit) ≡ noted (now (marks .entry)) (documentOf sizes (bodies (now (image .entry))) .obligations) ⌝ }
+    ensures { λ _. ⌜ now (marks .exit) ≡ markedBy (now (marks .entry)) (documentOf sizes (bodies (now (image .entry))) .obligations) ⌝ }
 {
     let body = body_of(
         image,
@@ -37,33 +37,33 @@ fn note_obligations<'a, 'b, 'c>(
         (sizes.formulas as usize) + (sizes.threads as usize) + 1 + (sizes.lines as usize) + 1,
     );
     let n = count_obligations(image, index, sizes);
-    note_numbers(body, n, marks);
+    mark_numbers(body, n, marks);
 }
 
 // The lines that claims name.
-fn note_claims<'a, 'b, 'c>(image: &'a [u8], index: &'b [usize], sizes: Sizes, marks: &'c mut [bool])
+fn mark_claims<'a, 'b, 'c>(image: &'a [u8], index: &'b [usize], sizes: Sizes, marks: &'c mut [bool])
     requires { ⌜ (now index ≡ indexOf (now image)) × (length (bodies (now image)) ≡ recordCount sizes) ⌝ }
-    ensures { λ _. ⌜ now (marks .exit) ≡ noted (now (marks .entry)) (claimLines sizes (bodies (now (image .entry)))) ⌝ }
+    ensures { λ _. ⌜ now (marks .exit) ≡ markedBy (now (marks .entry)) (claimLines sizes (bodies (now (image .entry)))) ⌝ }
 {
     let claims = sizes.claims as usize;
     let mut i: usize = 0;
     while i < claims {
         let claim = claim_of(image, index, sizes, i);
-        note_number(marks, claim.line);
+        mark_number(marks, claim.line);
         i += 1;
     }
 }
 
 // The premises that a line's body lists.
-fn note_premises<'a, 'b>(body: &'a [u8], marks: &'b mut [bool])
-    ensures { λ _. ⌜ now (marks .exit) ≡ noted (now (marks .entry)) (premises (now (body .entry))) ⌝ }
+fn mark_premises<'a, 'b>(body: &'a [u8], marks: &'b mut [bool])
+    ensures { λ _. ⌜ now (marks .exit) ≡ markedBy (now (marks .entry)) (premises (now (body .entry))) ⌝ }
 {
     let l = rest(body, 8);
-    note_numbers(l, byte_at(body, 7), marks);
+    mark_numbers(l, byte_at(body, 7), marks);
 }
 
 // Those of line n, if it has a mark.
-fn note_line<'a, 'b, 'c>(
+fn mark_line<'a, 'b, 'c>(
     image: &'a [u8],
     index: &'b [usize],
     sizes: Sizes,
@@ -73,31 +73,31 @@ fn note_line<'a, 'b, 'c>(
     requires { ⌜ (now index ≡ indexOf (now image)) × (number < 65536) ⌝ }
     ensures { λ _. ⌜ now (marks .exit) ≡ withPremises sizes (bodies (now (image .entry))) number (now (marks .entry)) ⌝ }
 {
-    if is_noted(marks, number) {
+    if is_marked(marks, number) {
         let body = body_of(
             image,
             index,
             (sizes.formulas as usize) + (sizes.threads as usize) + 1 + number,
         );
-        note_premises(body, marks);
+        mark_premises(body, marks);
         return;
     }
 }
 
 // From the last line down: a premise stands before the lines that list it.
-fn note_lines<'a, 'b, 'c>(image: &'a [u8], index: &'b [usize], sizes: Sizes, marks: &'c mut [bool])
+fn mark_lines<'a, 'b, 'c>(image: &'a [u8], index: &'b [usize], sizes: Sizes, marks: &'c mut [bool])
     requires { ⌜ now index ≡ indexOf (now image) ⌝ }
     ensures { λ _. ⌜ now (marks .exit) ≡ keptTo (documentOf sizes (bodies (now (image .entry))) .lines) (sizes .lines)
         (now (marks .entry)) ⌝ }
 {
     let mut n = sizes.lines as usize;
     while 0 < n {
-        note_line(image, index, sizes, n, marks);
+        mark_line(image, index, sizes, n, marks);
         n -= 1;
     }
 }
 
-pub fn fill_kept<'a, 'b, 'c>(
+pub fn mark_live_lines<'a, 'b, 'c>(
     image: &'a [u8],
     index: &'b [usize],
     sizes: Sizes,
@@ -107,7 +107,7 @@ pub fn fill_kept<'a, 'b, 'c>(
         × (now marks ≡ replicate (suc lines) false) ⌝ }
     ensures { λ _. ⌜ now (marks .exit) ≡ kept (documentOf sizes (bodies (now (image .entry)))) ⌝ }
 {
-    note_obligations(image, index, sizes, marks);
-    note_claims(image, index, sizes, marks);
-    note_lines(image, index, sizes, marks);
+    mark_obligations(image, index, sizes, marks);
+    mark_claims(image, index, sizes, marks);
+    mark_lines(image, index, sizes, marks);
 }

@@ -4,10 +4,10 @@ ghost use mathlib.Core.Path.{_≡_};
 ghost use mathlib.Core.Bool.{true, false};
 ghost use lib.ListN.{getD, set};
 ghost use Rattle.limits.specs.Numbers.{numbers};
-ghost use Rattle.trim_spec.specs.Live.{noted};
+ghost use Rattle.trim_spec.specs.Live.{markedBy};
 
 // A number past the marks is left out.
-pub fn note_number(marks: &mut [bool], number: usize)
+pub fn mark_number(marks: &mut [bool], number: usize)
     ensures { λ _. ⌜ now (marks .exit) ≡ set (now (marks .entry)) number true ⌝ }
 {
     if marks.len() <= number {
@@ -17,19 +17,19 @@ pub fn note_number(marks: &mut [bool], number: usize)
 }
 
 // Of n 16-bit numbers.
-pub fn note_numbers<'a, 'b>(body: &'a [u8], number: usize, marks: &'b mut [bool])
-    ensures { λ _. ⌜ now (marks .exit) ≡ noted (now (marks .entry)) (numbers number (now (body .entry))) ⌝ }
+pub fn mark_numbers<'a, 'b>(body: &'a [u8], number: usize, marks: &'b mut [bool])
+    ensures { λ _. ⌜ now (marks .exit) ≡ markedBy (now (marks .entry)) (numbers number (now (body .entry))) ⌝ }
 {
     let mut i: usize = 0;
     while i < number {
         let x = number_at(body, number, i);
-        note_number(marks, x);
+        mark_number(marks, x);
         i += 1;
     }
 }
 
 // A number past the marks has none.
-pub fn is_noted(marks: &[bool], number: usize) -> bool
+pub fn is_marked(marks: &[bool], number: usize) -> bool
     ensures { λ r. ⌜ r ≡ getD (now (marks .entry)) number false ⌝ }
 {
     if marks.len() <= number {

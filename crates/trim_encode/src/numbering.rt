@@ -1,5 +1,5 @@
 // New numbers: what stays is counted from 1, in its old order.
-use crate::marks::is_noted;
+use crate::marks::is_marked;
 ghost use mathlib.Core.Path.{_≡_};
 ghost use mathlib.Core.Bool.{false, cond};
 ghost use Prim.Native.Nat.{_+_, _≤_, _<_};
@@ -11,7 +11,7 @@ fn count_mark(marks: &[bool], i: usize, n: usize) -> usize
     requires { ⌜ (i ≤ length (now marks)) × (n < i) ⌝ }
     ensures { λ r. ⌜ (r ≡ n + cond (getD (now (marks .entry)) i false) 1 0) × (r ≤ i) ⌝ }
 {
-    if is_noted(marks, i) {
+    if is_marked(marks, i) {
         return n + 1;
     }
     n

@@ -8,7 +8,7 @@ ghost use Rattle.image_frames.specs.Records.{bodies};
 ghost use Rattle.image_index.specs.IndexTable.{indexOf};
 ghost use Rattle.trim_encode.specs.Overwritten.{overwritten};
 ghost use Rattle.trim_encode.specs.Pieces.{joined};
-ghost use Rattle.trim_encode.specs.Records.{recordPiece, keptPiece};
+ghost use Rattle.trim_encode.specs.Records.{recordPiece, livePiece};
 
 // The record at i, from 0.
 fn put_next<'a, 'b, 'c, 'd, 'e>(
@@ -87,7 +87,7 @@ pub fn put_records<'a, 'b, 'c, 'd, 'e>(
 }
 
 // A number that has no mark is not kept.
-fn is_kept(marks: &[bool], number: usize) -> bool
+fn is_live(marks: &[bool], number: usize) -> bool
     ensures { λ r. ⌜ r ≡ getD (now (marks .entry)) number false ⌝ }
 {
     if marks.len() <= number {
@@ -97,7 +97,7 @@ fn is_kept(marks: &[bool], number: usize) -> bool
 }
 
 // The record at i, if the mark of its number is set.
-fn put_if_kept<'a, 'b, 'c, 'd, 'e, 'f>(
+fn put_if_live<'a, 'b, 'c, 'd, 'e, 'f>(
     image: &'a [u8],
     index: &'b [usize],
     formula_numbers: &'c [usize],
@@ -111,16 +111,16 @@ fn put_if_kept<'a, 'b, 'c, 'd, 'e, 'f>(
 ) -> usize
     requires { ⌜ now index ≡ indexOf (now image) ⌝ }
     requires { ⌜ first + i < 1000000 ⌝ }
-    requires { ⌜ at + length (keptPiece (now «formula_numbers») (now «line_numbers») (bodies (now image)) (now marks) kind first i) ≤ length
+    requires { ⌜ at + length (livePiece (now «formula_numbers») (now «line_numbers») (bodies (now image)) (now marks) kind first i) ≤ length
         (now out) ⌝ }
     ensures { λ r. ⌜ now (out .exit)
         ≡ overwritten (now (out .entry)) at
-        (keptPiece (now («formula_numbers» .entry)) (now («line_numbers» .entry)) (bodies (now (image .entry))) (now (marks .entry)) kind
+        (livePiece (now («formula_numbers» .entry)) (now («line_numbers» .entry)) (bodies (now (image .entry))) (now (marks .entry)) kind
         first i) ⌝ }
-    ensures { λ r. ⌜ r ≡ at + length (keptPiece (now («formula_numbers» .entry)) (now («line_numbers» .entry)) (bodies (now (image .entry)))
+    ensures { λ r. ⌜ r ≡ at + length (livePiece (now («formula_numbers» .entry)) (now («line_numbers» .entry)) (bodies (now (image .entry)))
         (now (marks .entry)) kind first i) ⌝ }
 {
-    if is_kept(marks, i + 1) {
+    if is_live(marks, i + 1) {
         return put_record(
             image,
             index,
@@ -136,7 +136,7 @@ fn put_if_kept<'a, 'b, 'c, 'd, 'e, 'f>(
 }
 
 // Those that are kept.
-pub fn put_kept<'a, 'b, 'c, 'd, 'e, 'f>(
+pub fn put_live<'a, 'b, 'c, 'd, 'e, 'f>(
     image: &'a [u8],
     index: &'b [usize],
     formula_numbers: &'c [usize],
@@ -150,20 +150,20 @@ pub fn put_kept<'a, 'b, 'c, 'd, 'e, 'f>(
 ) -> usize
     requires { ⌜ now index ≡ indexOf (now image) ⌝ }
     requires { ⌜ first + count < 1000000 ⌝ }
-    requires { ⌜ at + length (joined (keptPiece (now «formula_numbers») (now «line_numbers») (bodies (now image)) (now marks) kind first)
+    requires { ⌜ at + length (joined (livePiece (now «formula_numbers») (now «line_numbers») (bodies (now image)) (now marks) kind first)
         count) ≤ length (now out) ⌝ }
     ensures { λ r. ⌜ now (out .exit)
         ≡ overwritten (now (out .entry)) at
-        (joined (keptPiece (now («formula_numbers» .entry)) (now («line_numbers» .entry)) (bodies (now (image .entry))) (now (marks .entry))
+        (joined (livePiece (now («formula_numbers» .entry)) (now («line_numbers» .entry)) (bodies (now (image .entry))) (now (marks .entry))
         kind first) count) ⌝ }
     ensures { λ r. ⌜ r
-        ≡ at + length (joined (keptPiece (now («formula_numbers» .entry)) (now («line_numbers» .entry)) (bodies (now (image .entry)))
+        ≡ at + length (joined (livePiece (now («formula_numbers» .entry)) (now («line_numbers» .entry)) (bodies (now (image .entry)))
         (now (marks .entry)) kind first) count) ⌝ }
 {
     let mut next = at;
     let mut i: usize = 0;
     while i < count {
-        next = put_if_kept(
+        next = put_if_live(
             image,
             index,
             formula_numbers,

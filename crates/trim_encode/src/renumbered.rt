@@ -1,5 +1,5 @@
 // Numbers of formulas or lines, each renewed by a table.
-use crate::bytes::put_word;
+use crate::bytes::put_u16;
 use limits::read::number_at;
 ghost use mathlib.Core.Path.{_≡_};
 ghost use mathlib.Core.List.{map};
@@ -38,7 +38,7 @@ fn put_number<'a, 'b, 'c>(
         ⌝ }
     ensures { λ r. ⌜ r ≡ at + length (numberPiece (now («new_numbers» .entry)) (now (body .entry)) n i) ⌝ }
 {
-    put_word(new_number(new_numbers, number_at(body, n, i)), out, at)
+    put_u16(new_number(new_numbers, number_at(body, n, i)), out, at)
 }
 
 // The n numbers in front of the bytes.

@@ -7,7 +7,7 @@ use image_header::instruction::Instruction;
 use image_header::instruction::is_twofold;
 use image_header::thread::instruction_at;
 use image_header::thread::last_point;
-use limits::read::octet_at;
+use limits::read::u8_at;
 ghost use mathlib.Core.Path.{_≡_};
 ghost use mathlib.Core.List.{map};
 ghost use Prim.Native.Nat.{_+_, _≤_};
@@ -110,7 +110,7 @@ fn put_steps<'a, 'b, 'c>(
 fn points_of(body: &[u8]) -> u8
     ensures { λ r. ⌜ r ≡ lastPoint (now (body .entry)) + 1 ⌝ }
 {
-    let n = octet_at(body, 0);
+    let n = u8_at(body, 0);
     if n == 0 {
         return 1;
     }

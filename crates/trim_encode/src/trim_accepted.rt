@@ -1,7 +1,7 @@
 // An accepted image, trimmed into a buffer.
 use crate::answer::Answer;
-use crate::live_formulas::fill_used;
-use crate::live_lines::fill_kept;
+use crate::live_formulas::mark_live_formulas;
+use crate::live_lines::mark_live_lines;
 use crate::numbering::fill_numbers;
 use crate::trimmed_length::trimmed_length;
 use crate::whole_image::write_trimmed;
@@ -51,9 +51,9 @@ pub fn trim_accepted<'a, 'b, 'c>(
         × (now (out .exit) ≡ bufferBy (trimmedBytes sizes (now (image .entry))) (now (out .entry))) ⌝ }
 {
     let mut k = [false; Limits::LINES + 1];
-    fill_kept(image, index, sizes, &mut k);
+    mark_live_lines(image, index, sizes, &mut k);
     let mut u = [false; Limits::FORMULAS + 1];
-    fill_used(image, index, sizes, &k, &mut u);
+    mark_live_formulas(image, index, sizes, &k, &mut u);
     let length = trimmed_length(image, index, sizes, &k, &u);
     if out.len() < length {
         return Answer {

@@ -1,5 +1,5 @@
 // How long the trimmed image is: what stays keeps its length, so it is shorter by the formulas and the lines that are left out.
-use crate::marks::is_noted;
+use crate::marks::is_marked;
 use image_header::sizes::Sizes;
 use image_index::look_up::body_of;
 ghost use mathlib.Core.Path.{_≡_};
@@ -26,7 +26,7 @@ fn left_one<'a, 'b, 'c>(
     requires { ⌜ (now index ≡ indexOf (now image)) × (length (now image) ≤ imageBytes) ⌝ }
     ensures { λ r. ⌜ (r ≡ leftOne (now (marks .entry)) number (length (getD (bodies (now (image .entry))) i []))) × (r ≤ imageBytes + 4) ⌝ }
 {
-    if is_noted(marks, number) {
+    if is_marked(marks, number) {
         return 0;
     }
     let body = body_of(image, index, i);

@@ -13,9 +13,9 @@ use Rattle.semantics.specs.EveryRun.{Outline}
 use Rattle.logic.specs.Statement.{Statement}
 use Rattle.logic.specs.Obligations.{Obligation, Obligation.start, Obligation.step, Obligation.taken, Obligation.interference, wantsNext, wantsTarget, wants, obligations}
 use Rattle.logic.specs.Claims.{Claim, claims}
-use Rattle.limits.specs.Numbers.{word}
+use Rattle.limits.specs.Numbers.{le16}
 use Rattle.image_header.specs.declared.sizes.Sizes.{Sizes}
-use Rattle.image_bodies.specs.PointCounts.{tally, obligationCount}
+use Rattle.image_bodies.specs.PointCounts.{pointCounts, obligationCount}
 use Rattle.image.specs.Decode.{sizesOf}
 use Rattle.logic_outline.specs.Lines.{Certificate, Justified}
 use Rattle.logic_outline.specs.Verdict.{Image, Bears, Met, asks, forbids}
@@ -81,7 +81,7 @@ module _ (D : Document) (N : Named D) (F : Written D) (T : Trimming (used D) (ke
   abbrev p : ℕ → ℕ
   p = pointCount z′ l′
 
-  module _ (O : length (D .outline) ≡ tally z l .points) (B : length (D .obligations) ≡ obligationCount z l) where
+  module _ (O : length (D .outline) ≡ pointCounts z l .points) (B : length (D .obligations) ≡ obligationCount z l) where
     abbrev old : Image
     old = imageOf z l
 
@@ -155,12 +155,12 @@ module _ (D : Document) (N : Named D) (F : Written D) (T : Trimming (used D) (ke
     unfolding sizes sizesOf
     sustained-same h i b =
         let c : i < length (D .claims) = let q = claims-length (used D) (kept D) D in omega arith in
-        let m : Bears old (forbids old i) (word (drop 4 (claimBody z l i))) = h i c in
+        let m : Bears old (forbids old i) (le16 (drop 4 (claimBody z l i))) = h i c in
         let e : forbids same i ≡ forbids old i = ap (claims (outlineOf z l)) (Content.claim-kept D N F T O B i c) in
-        let q : Rests D (word (drop 4 (claimBody z l i))) = subst (Rests D) (sym (Content.claimed-old D N F T O B i c)) (claim i c) in
-        subst (λ (w : Statement). Bears same w (word (drop 4 (claimBody z′ l′ i)))) (sym e)
+        let q : Rests D (le16 (drop 4 (claimBody z l i))) = subst (Rests D) (sym (Content.claimed-old D N F T O B i c)) (claim i c) in
+        subst (λ (w : Statement). Bears same w (le16 (drop 4 (claimBody z′ l′ i)))) (sym e)
         (subst (Bears same (forbids old i)) (sym (Content.claimed-kept D N F T O B i c))
-        (bears-kept (forbids old i) (word (drop 4 (claimBody z l i))) q m))
+        (bears-kept (forbids old i) (le16 (drop 4 (claimBody z l i))) q m))
 
     pub sustained-kept : EachSustained old → EachSustained new
     sustained-kept h = subst EachSustained (sym image-is) (sustained-same h)

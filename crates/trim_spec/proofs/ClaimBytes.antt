@@ -4,7 +4,7 @@ use mathlib.Core.List.{List, [], _∷_}
 use Prim.Native.Nat.{ℕ, _+_}
 use native.Mathlib.Omega.{arith}
 use lib.ListN.{length, getD, drop, drop-of-length-le}
-use Rattle.limits.specs.Numbers.{word}
+use Rattle.limits.specs.Numbers.{le16}
 use Rattle.verdict_record.specs.Record.{two}
 use Rattle.trim_spec.specs.Document.{ClaimRecord}
 use Rattle.trim_spec.specs.Canonical.{Byte, Short, Bytes, ClaimFits}
@@ -40,7 +40,7 @@ module _ (c : ClaimRecord) where
   claim-short = omega (arith, claim-size)
 
   module _ (f : ClaimFits c) where
-    pub claim-line : word (drop 4 (claimBytes c)) ≡ c .line
+    pub claim-line : le16 (drop 4 (claimBytes c)) ≡ c .line
     unfolding claimBytes
     claim-line = word-two (c .line) [] (f .line)
 

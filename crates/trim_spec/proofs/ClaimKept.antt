@@ -6,7 +6,7 @@ use Prim.Native.Nat.{ℕ, _+_, _<_}
 use native.Mathlib.Omega.{arith}
 use lib.ListN.{length, getD, drop}
 use borrow.Author.Tests.{eq-eqb}
-use Rattle.limits.specs.Numbers.{word, within}
+use Rattle.limits.specs.Numbers.{le16, within}
 use Rattle.limits.proofs.PassedTests.{and-true, within-true}
 use Rattle.image_frames.specs.declared.fault.Checked.the-variants.{Passed}
 use Rattle.image_header.specs.Thread.{lastPoint}
@@ -77,8 +77,8 @@ module _ {u k : List Bool} {D : Document} (T : Trimming u k D) where
     unfolding different claimBytes claimBy
     different-same = refl
 
-    line-kept : within 0 (sizes D .lines) (word (drop 4 (claimBytes c))) ≡ true
-        → within 0 (sizes E .lines) (word (drop 4 (claimBytes c′))) ≡ true
+    line-kept : within 0 (sizes D .lines) (le16 (drop 4 (claimBytes c))) ≡ true
+        → within 0 (sizes E .lines) (le16 (drop 4 (claimBytes c′))) ≡ true
     unfolding claimBy sizes sizesOf
     line-kept e =
         let h = within-true 0 (sizes D .lines) (c .line) (rw (claim-line c old-fits) at e) in
@@ -89,7 +89,7 @@ module _ {u k : List Bool} {D : Document} (T : Trimming u k D) where
     unfolding claimed
     found-kept =
         let b : List ℕ = claimBytes c in
-        let line : Bool = within 0 (sizes D .lines) (word (drop 4 b)) in
+        let line : Bool = within 0 (sizes D .lines) (le16 (drop 4 b)) in
         let h = and-true (pointThere (sizes D) (bodiesOf D) b 0) (pointThere (sizes D) (bodiesOf D) b 2 && (different b && line)) found in
         let m = and-true (pointThere (sizes D) (bodiesOf D) b 2) (different b && line) (h .1) in
         let n = and-true (different b) line (m .1) in

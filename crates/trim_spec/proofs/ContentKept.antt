@@ -11,7 +11,7 @@ use Rattle.semantics.specs.Base.{Within}
 use Rattle.semantics.specs.Formula.{Sort}
 use Rattle.semantics.specs.Machine.{Program, Instr}
 use Rattle.semantics.specs.EveryRun.{Outline}
-use Rattle.limits.specs.Numbers.{nth, word, numbers, within}
+use Rattle.limits.specs.Numbers.{nth, le16, numbers, within}
 use Rattle.limits.proofs.PassedTests.{within-true, every-at}
 use Rattle.image_meaning.proofs.LinesAdmitted.{in-range}
 use Rattle.image_header.specs.Header.{startValues, cleared, valueRange, threadCount}
@@ -19,8 +19,8 @@ use Rattle.image_header.specs.Thread.{nothing, instructions, lastPoint}
 use Rattle.image_header.specs.declared.sizes.Sizes.{Sizes}
 use Rattle.image_header.specs.declared.instruction.Instruction.{Instruction}
 use Rattle.image_bodies.specs.RecordPlaces.{threadBody, instructionOf}
-use Rattle.image_bodies.specs.PointCounts.{tallyTo, tally, obligationCount}
-use Rattle.image_bodies.specs.declared.point_counts.Tally.{Tally}
+use Rattle.image_bodies.specs.PointCounts.{pointCountsTo, pointCounts, obligationCount}
+use Rattle.image_bodies.specs.declared.point_counts.PointCounts.{PointCounts}
 use Rattle.image_bodies.specs.Line.{formOf, premises}
 use Rattle.image_bodies.specs.declared.line.Form.{Form}
 use Rattle.image_bodies.specs.declared.line.Form.the-variants.{Triple, Implication, Inclusion, Pair, Unlisted}
@@ -153,17 +153,17 @@ module _ (D : Document) (N : Named D) (F : Written D) (T : Trimming (used D) (ke
 
   -- the outline
 
-  module _ (O : length (D .outline) ≡ tally z l .points) (B : length (D .obligations) ≡ obligationCount z l) where
+  module _ (O : length (D .outline) ≡ pointCounts z l .points) (B : length (D .obligations) ≡ obligationCount z l) where
     same-threads : threadCount (E .header) ≡ length (E .threads)
     same-threads = threads-kept T
 
     canonical : Canonical E
     canonical = canonical-kept (used D) (kept D) D (T .canonical)
 
-    outline-old : numbers (tally z l .points) (outlineBody z l) ≡ D .outline
+    outline-old : numbers (pointCounts z l .points) (outlineBody z l) ≡ D .outline
     outline-old = outline-said D (T .canonical) (T .threads) O
 
-    outline-new : numbers (tally z′ l′ .points) (outlineBody z′ l′) ≡ E .outline
+    outline-new : numbers (pointCounts z′ l′ .points) (outlineBody z′ l′) ≡ E .outline
     outline-new = outline-said E canonical same-threads (points-length T)
 
     number-kept : (t k : ℕ) → outlineNumber z′ l′ t k ≡ f (outlineNumber z l t k)
@@ -171,14 +171,14 @@ module _ (D : Document) (N : Named D) (F : Written D) (T : Trimming (used D) (ke
     number-kept t k = rw (outline-new, outline-old) (go (eqb t 0) (ltb (z .threads) t) refl)
       where
         go : (a b : Bool) → ltb (z .threads) t ≡ b
-            → cond a 0 (cond b 0 (getD (E .outline) (tallyTo z′ l′ (t - 1) .points + k) 0)) ≡ f
-            (cond a 0 (cond b 0 (getD (D .outline) (tallyTo z l (t - 1) .points + k) 0)))
+            → cond a 0 (cond b 0 (getD (E .outline) (pointCountsTo z′ l′ (t - 1) .points + k) 0)) ≡ f
+            (cond a 0 (cond b 0 (getD (D .outline) (pointCountsTo z l (t - 1) .points + k) 0)))
         go true b e = sym (renumbered-0 (used D))
         go false true e = sym (renumbered-0 (used D))
         go false false e =
             let h = ltb-false (z .threads) t e in
             let s = T .threads in
-            rw (tallyTo-kept T (t - 1) (omega arith)) (Moved.outline-at (used D) (kept D) D (tallyTo z l (t - 1) .points + k))
+            rw (tallyTo-kept T (t - 1) (omega arith)) (Moved.outline-at (used D) (kept D) D (pointCountsTo z l (t - 1) .points + k))
 
     outline-named : (i : ℕ) → Formulas.Named T (getD (D .outline) i 0)
     outline-named i = go (ltb i (length (D .outline))) refl
@@ -191,10 +191,10 @@ module _ (D : Document) (N : Named D) (F : Written D) (T : Trimming (used D) (ke
     unfolding outlineNumber
     number-named t k = rw outline-old (go (eqb t 0) (ltb (z .threads) t))
       where
-        go : (a b : Bool) → Formulas.Named T (cond a 0 (cond b 0 (getD (D .outline) (tallyTo z l (t - 1) .points + k) 0)))
+        go : (a b : Bool) → Formulas.Named T (cond a 0 (cond b 0 (getD (D .outline) (pointCountsTo z l (t - 1) .points + k) 0)))
         go true b = none-named
         go false true = none-named
-        go false false = outline-named (tallyTo z l (t - 1) .points + k)
+        go false false = outline-named (pointCountsTo z l (t - 1) .points + k)
 
     pub outline-kept : (t k : ℕ) → outlineOf z′ l′ t k ≡ outlineOf z l t k
     outline-kept t k = ap (formula l′ Sort.assertion) (number-kept t k)
@@ -249,11 +249,11 @@ module _ (D : Document) (N : Named D) (F : Written D) (T : Trimming (used D) (ke
       unfolding lineBy
       point-same = line-point (lineBy f g v) ∙ sym (line-point v)
 
-      left-same : (s : Sort) → formula l′ s (word (drop 3 b′)) ≡ formula l s (word (drop 3 b))
+      left-same : (s : Sort) → formula l′ s (le16 (drop 3 b′)) ≡ formula l s (le16 (drop 3 b))
       unfolding lineBy
       left-same s = ap (formula l′ s) (line-left (lineBy f g v) new-fits) ∙ left-kept s ∙ ap (formula l s) (sym (line-left v old-fits))
 
-      right-same : (s : Sort) → formula l′ s (word (drop 5 b′)) ≡ formula l s (word (drop 5 b))
+      right-same : (s : Sort) → formula l′ s (le16 (drop 5 b′)) ≡ formula l s (le16 (drop 5 b))
       unfolding lineBy
       right-same s = ap (formula l′ s) (line-right (lineBy f g v) new-fits) ∙ right-kept s ∙ ap (formula l s) (sym (line-right v old-fits))
 
@@ -354,9 +354,9 @@ module _ (D : Document) (N : Named D) (F : Written D) (T : Trimming (used D) (ke
       claim-fit : ClaimFits c
       claim-fit = T .canonical .claims i h
 
-      pub claimed-old : word (drop 4 (claimBody z l i)) ≡ c .line
+      pub claimed-old : le16 (drop 4 (claimBody z l i)) ≡ c .line
       claimed-old = claim-said D (T .canonical) (T .threads) i h
 
-      pub claimed-kept : word (drop 4 (claimBody z′ l′ i)) ≡ g (word (drop 4 (claimBody z l i)))
+      pub claimed-kept : le16 (drop 4 (claimBody z′ l′ i)) ≡ g (le16 (drop 4 (claimBody z l i)))
       unfolding claimBy
       claimed-kept = rw new-claim (claim-line (claimBy f g c) (claim-fits (used D) (kept D) c claim-fit)) ∙ ap g (sym claimed-old)

@@ -3,10 +3,10 @@ use mathlib.Core.Path.{_≡_, ap, sym, _∙_}
 use mathlib.Core.List.{List}
 use Prim.Native.Nat.{ℕ, _≤_, _<_}
 use lib.ListN.{length, getD, drop}
-use Rattle.limits.specs.Numbers.{nth, word, numbers}
+use Rattle.limits.specs.Numbers.{nth, le16, numbers}
 use Rattle.image_header.specs.Header.{threadCount}
 use Rattle.image_header.specs.declared.sizes.Sizes.{Sizes}
-use Rattle.image_bodies.specs.PointCounts.{tally, obligationCount}
+use Rattle.image_bodies.specs.PointCounts.{pointCounts, obligationCount}
 use Rattle.image_bodies.specs.Line.{premises}
 use Rattle.image_meaning.specs.Program.{outlineBody}
 use Rattle.image_meaning.specs.Certificate.{left, right, lineBody}
@@ -28,7 +28,7 @@ module _ (D : Document) (C : Canonical D) (same : threadCount (D .header) ≡ le
   abbrev l : List (List ℕ)
   l = bodiesOf D
 
-  pub outline-said : length (D .outline) ≡ tally z l .points → numbers (tally z l .points) (outlineBody z l) ≡ D .outline
+  pub outline-said : length (D .outline) ≡ pointCounts z l .points → numbers (pointCounts z l .points) (outlineBody z l) ≡ D .outline
   outline-said e = rw (sym e, outline-at D same) (numbers-alone (D .outline) (C .outline))
 
   pub obligations-said : length (D .obligations) ≡ obligationCount z l
@@ -52,5 +52,5 @@ module _ (D : Document) (C : Canonical D) (same : threadCount (D .header) ≡ le
     pub premises-said : premises (lineBody z l n) ≡ nth (D .lines) n noLine .premises
     premises-said = rw (line-at D same n low high) (line-premises (nth (D .lines) n noLine) line-fit)
 
-  pub claim-said : (i : ℕ) → i < length (D .claims) → word (drop 4 (claimBody z l i)) ≡ getD (D .claims) i noClaim .line
+  pub claim-said : (i : ℕ) → i < length (D .claims) → le16 (drop 4 (claimBody z l i)) ≡ getD (D .claims) i noClaim .line
   claim-said i h = rw (claim-at D same i h) (claim-line (getD (D .claims) i noClaim) (C .claims i h))

@@ -15,7 +15,7 @@ use Rattle.image_header.specs.declared.sizes.Sizes.{Sizes}
 use Rattle.image_header.specs.Header.{threadCount}
 use Rattle.image_header.specs.Thread.{instructions, threadSize, numbered, threadNumbers}
 use Rattle.image_bodies.specs.RecordPlaces.{threadBody}
-use Rattle.image_bodies.specs.PointCounts.{tally, obligationCount}
+use Rattle.image_bodies.specs.PointCounts.{pointCounts, obligationCount}
 use Rattle.image_bodies.specs.NumberList.{exactly}
 use Rattle.image_bodies.specs.Line.{lineSize, lineNumbers}
 use Rattle.image_bodies.specs.Claim.{claim}
@@ -100,10 +100,10 @@ module _ (z : Sizes) (l : List (List ℕ)) (c : Checks z l) (count : length l �
       let p = also-passed _ _ (thread-passed z l c (k + 1) (omega arith) (omega arith)) .0 in
       rw q (thread-read z (threadBody z l (k + 1)) (body-bytes (z .formulas + (k + 1))) p))
 
-  outline-read : numberBytes (numbers (tally z l .points) (outlineBody z l)) ≡ outlineBody z l
+  outline-read : numberBytes (numbers (pointCounts z l .points) (outlineBody z l)) ≡ outlineBody z l
   unfolding outline
   outline-read =
-      list-read (tally z l .points) 1 (z .formulas) (outlineBody z l) (body-bytes (outlineStart z))
+      list-read (pointCounts z l .points) 1 (z .formulas) (outlineBody z l) (body-bytes (outlineStart z))
       (also-passed _ _ (outline-passed z l c) .0)
 
   lines-read : map lineBytes (map lineRecord (part (linesStart z) (z .lines) l)) ≡ part (linesStart z) (z .lines) l
@@ -141,7 +141,7 @@ module _ (z : Sizes) (l : List (List ℕ)) (c : Checks z l) (count : length l �
     header = body-bytes 0;
     formulas = part-bytes 1 (z .formulas);
     threads = part-fits ThreadFits [] instructions thread-fits (threadsStart z) (z .threads);
-    outline = numbers-short (tally z l .points) (outlineBody z l) (body-bytes (outlineStart z));
+    outline = numbers-short (pointCounts z l .points) (outlineBody z l) (body-bytes (outlineStart z));
     lines = part-fits LineFits noLine lineRecord line-fits (linesStart z) (z .lines);
     obligations = numbers-short (obligationCount z l) (obligationsBody z l) (body-bytes (obligationsStart z));
     claims = part-fits ClaimFits noClaim claimRecord claim-fits (claimsStart z) (z .claims);
@@ -167,7 +167,7 @@ pub record Describes (D : Document) (z : Sizes) (l : List (List ℕ)) : Type 0 w
   pub size : sizes D ≡ z
   pub body : bodiesOf D ≡ l
   pub threads : threadCount (D .header) ≡ length (D .threads)
-  pub outline : length (D .outline) ≡ tally z l .points
+  pub outline : length (D .outline) ≡ pointCounts z l .points
   pub obligations : length (D .obligations) ≡ obligationCount z l
 
 pub checks-describe : (z : Sizes) (l : List (List ℕ)) → Checks z l → length l ≡ recordCount z → Each Bytes [] l
@@ -178,7 +178,7 @@ checks-describe z l c count bytes = record {
   size = sizes-read z l c count bytes;
   body = bodies-read z l c count bytes;
   threads = threads-same z l c count bytes;
-  outline = numbers-length (tally z l .points) (outlineBody z l);
+  outline = numbers-length (pointCounts z l .points) (outlineBody z l);
   obligations = numbers-length (obligationCount z l) (obligationsBody z l);
 }
 

@@ -6,7 +6,7 @@ use native.Mathlib.Omega.{arith}
 use lib.ListN.{length, drop, length-append}
 use lib.Seq.{take-at, drop-at}
 use borrow.Author.Tests.{le-ltb}
-use Rattle.limits.specs.Numbers.{word}
+use Rattle.limits.specs.Numbers.{le16}
 use Rattle.limits.proofs.Numbers.{has-all}
 use Rattle.image_frames.specs.Kinds.{order}
 use Rattle.image_frames.specs.Frames.{counted, admit, frame, unlessFaulty, walk}
@@ -22,18 +22,18 @@ unfolding framed
 framed-length e = omega arith
 
 module _ (e : Entry) (r : List ℕ) (short : Framable (e .body)) where
-  pub front-length : word (framed e ++ r) ≡ 2 + length (e .body)
+  pub front-length : le16 (framed e ++ r) ≡ 2 + length (e .body)
   unfolding framed
   front-length = word-two (2 + length (e .body)) _ (omega arith)
 
-  pub front-rest : drop (2 + word (framed e ++ r)) (framed e ++ r) ≡ r
-  front-rest = drop-at (framed e) r (2 + word (framed e ++ r)) (framed-length e ∙ (let h = front-length in omega arith))
+  pub front-rest : drop (2 + le16 (framed e ++ r)) (framed e ++ r) ≡ r
+  front-rest = drop-at (framed e) r (2 + le16 (framed e ++ r)) (framed-length e ∙ (let h = front-length in omega arith))
 
   pub front-body : body (framed e ++ r) ≡ e .body
   unfolding body framed
-  front-body = take-at (e .body) r (word (framed e ++ r) - 2) (let h = front-length in omega arith)
+  front-body = take-at (e .body) r (le16 (framed e ++ r) - 2) (let h = front-length in omega arith)
 
-  pub front-kind : Short (e .kind) → word (drop 2 (framed e ++ r)) ≡ e .kind
+  pub front-kind : Short (e .kind) → le16 (drop 2 (framed e ++ r)) ≡ e .kind
   unfolding framed
   front-kind h = word-two (e .kind) (e .body ++ r) h
 
@@ -45,8 +45,8 @@ module _ (e : Entry) (r : List ℕ) (short : Framable (e .body)) where
       let q = framed-length e in
       let w = front-length in
       let t : 2 ≤ length (framed e ++ r) = omega arith in
-      let l : 2 + word (framed e ++ r) ≤ length (framed e ++ r) = omega arith in
-      rw (has-all 2 _ t, le-ltb (word (framed e ++ r)) 2 (omega arith), has-all (2 + word (framed e ++ r)) (framed e ++ r) l, front-kind h)
+      let l : 2 + le16 (framed e ++ r) ≤ length (framed e ++ r) = omega arith in
+      rw (has-all 2 _ t, le-ltb (le16 (framed e ++ r)) 2 (omega arith), has-all (2 + le16 (framed e ++ r)) (framed e ++ r) l, front-kind h)
 
   pub cut-front : (k : ℕ) → cut (suc k) (framed e ++ r) ≡ e .body ∷ cut k r
   unfolding cut framed

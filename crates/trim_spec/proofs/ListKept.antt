@@ -10,7 +10,7 @@ use Rattle.limits.specs.Numbers.{numbers, within, every}
 use Rattle.limits.proofs.PassedTests.{within-true, every-at}
 use Rattle.image_frames.specs.declared.fault.Checked.the-variants.{Passed}
 use Rattle.image_bodies.specs.NumberList.{exactly}
-use Rattle.image_bodies.specs.PointCounts.{tally, obligationCount}
+use Rattle.image_bodies.specs.PointCounts.{pointCounts, obligationCount}
 use Rattle.image.specs.Decode.{sizesOf}
 use Rattle.image_bodies.specs.ListBody.{outlinedAt, outline, obligations}
 use Rattle.image_meaning.specs.Program.{outlineBody}
@@ -59,7 +59,7 @@ module _ {u k : List Bool} {D : Document} (T : Trimming u k D) where
   -- the outline
 
   abbrev points : ℕ
-  points = tally (sizes D) (bodiesOf D) .points
+  points = pointCounts (sizes D) (bodiesOf D) .points
 
   abbrev Outlined : Document → Type 0
   Outlined F = outline (sizes F) (bodiesOf F) (numberBytes (F .outline)) ≡ Passed
@@ -96,14 +96,14 @@ module _ {u k : List Bool} {D : Document} (T : Trimming u k D) where
       (λ i b e. outlined-kept T (getD (D .outline) i 0) (T .closed .outline i b, outline-in i b .1) ∙ e)
       outline-sorted
 
-  pub points-length : length (E .outline) ≡ tally (sizes E) (bodiesOf E) .points
+  pub points-length : length (E .outline) ≡ pointCounts (sizes E) (bodiesOf E) .points
   points-length = rw (tally-kept T) (outline-length u k D ∙ outline-found .0)
 
   pub outline-kept : outline (sizes E) (bodiesOf E) (outlineBody (sizes E) (bodiesOf E)) ≡ Passed
   unfolding outline
   outline-kept =
       let s = canonical-kept u k D (T .canonical) .outline in
-      let n : ℕ = tally (sizes E) (bodiesOf E) .points in
+      let n : ℕ = pointCounts (sizes E) (bodiesOf E) .points in
       rw (outline-at E (threads-kept T))
       (also-in _ _ (exactly-in (E .outline) s n 1 (sizes E .formulas) points-length numbered-kept)
       (unless-in _ _ _ (rw (numbers-whole (E .outline) s n points-length) sorted-kept) refl))

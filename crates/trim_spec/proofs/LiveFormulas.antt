@@ -13,7 +13,7 @@ use Rattle.image_header.specs.Thread.{nothing}
 use Rattle.image_header.specs.declared.instruction.Instruction.{Instruction}
 use Rattle.trim_spec.specs.Document.{Document, LineRecord}
 use Rattle.trim_spec.specs.Canonical.{noLine, noClaim}
-use Rattle.trim_spec.specs.Live.{noted, selected, renumbered, kept, namedFormulas, used, instructionFormulas, lineFormulas}
+use Rattle.trim_spec.specs.Live.{markedBy, selected, renumbered, kept, namedFormulas, used, instructionFormulas, lineFormulas}
 use Rattle.trim_spec.specs.Rests.{Rests, obligation, claim, premise, Uses, instruction, second, outline, left, right}
 use Rattle.trim_spec.specs.Closed.{Stays, Closed}
 use Rattle.trim_spec.proofs.MarkCounts.{noted-length, noted-sets, noted-from, renumbered-low, renumbered-high, selected-nth, Selected, selected-from, Found}
@@ -164,7 +164,7 @@ module _ (D : Document) where
     unfolding used
     uses-used n u =
         let f = uses-named D N n u in
-        subst (λ (x : ℕ). getD (noted (replicate (suc Limits.formulas) false) (namedFormulas D)) x false ≡ true) (f .is)
+        subst (λ (x : ℕ). getD (markedBy (replicate (suc Limits.formulas) false) (namedFormulas D)) x false ≡ true) (f .is)
         (noted-sets (replicate (suc Limits.formulas) false) (namedFormulas D) (f .place) (f .there)
         (let q = replicate-length (suc Limits.formulas) false in let e = f .is in let h = F .there n u in let w = F .few in omega arith))
 

@@ -12,7 +12,7 @@ use Rattle.limits.specs.Limits as Limits
 use Rattle.limits.specs.Numbers.{nth}
 use Rattle.trim_spec.specs.Document.{Document, LineRecord, ClaimRecord}
 use Rattle.trim_spec.specs.Canonical.{noLine, noClaim}
-use Rattle.trim_spec.specs.Live.{noted, keptTo, kept, namedLines}
+use Rattle.trim_spec.specs.Live.{markedBy, keptTo, kept, namedLines}
 use Rattle.trim_spec.specs.Rests.{Rests, obligation, claim, premise}
 use Rattle.trim_spec.proofs.MarkCounts.{clash, mark-in, noted-length, noted-keeps, noted-sets, noted-from, Found}
 use Rattle.trim_spec.proofs.ListMembers.{found-at, found-left, found-right, found-either}
@@ -23,17 +23,17 @@ module _ (l : List LineRecord) where
 
   -- the marks behind line n
   abbrev next : ℕ → List Bool → List Bool
-  next n m = cond (getD m n false) (noted m (premises n)) m
+  next n m = cond (getD m n false) (markedBy m (premises n)) m
 
-  next-length : (b : Bool) (n : ℕ) (m : List Bool) → length (cond b (noted m (premises n)) m) ≡ length m
+  next-length : (b : Bool) (n : ℕ) (m : List Bool) → length (cond b (markedBy m (premises n)) m) ≡ length m
   next-length true n m = noted-length m (premises n)
   next-length false n m = refl
 
-  next-keeps : (b : Bool) (n : ℕ) (m : List Bool) (i : ℕ) → getD m i false ≡ true → getD (cond b (noted m (premises n)) m) i false ≡ true
+  next-keeps : (b : Bool) (n : ℕ) (m : List Bool) (i : ℕ) → getD m i false ≡ true → getD (cond b (markedBy m (premises n)) m) i false ≡ true
   next-keeps true n m i e = noted-keeps m (premises n) i e
   next-keeps false n m i e = e
 
-  next-from : (b : Bool) (n : ℕ) (m : List Bool) (i : ℕ) → getD m n false ≡ b → getD (cond b (noted m (premises n)) m) i false ≡ true
+  next-from : (b : Bool) (n : ℕ) (m : List Bool) (i : ℕ) → getD m n false ≡ b → getD (cond b (markedBy m (premises n)) m) i false ≡ true
       → (getD m i false ≡ true) ⊎ ((getD m n false ≡ true) × Found (premises n) i)
   next-from true n m i h e = go (noted-from m (premises n) i e)
     where
@@ -82,11 +82,11 @@ module _ (l : List LineRecord) where
         (let r = next-length (getD m (suc n) false) (suc n) m in omega arith) b q e h)
       where
         -- the line itself
-        here : (x : Bool) → getD m (suc n) false ≡ x → getD (keptTo l n (cond x (noted m (premises (suc n))) m)) (suc n) false ≡ true
+        here : (x : Bool) → getD m (suc n) false ≡ x → getD (keptTo l n (cond x (markedBy m (premises (suc n))) m)) (suc n) false ≡ true
             → (k : ℕ) → k < length (premises (suc n))
-            → getD (keptTo l n (cond x (noted m (premises (suc n))) m)) (getD (premises (suc n)) k 0) false ≡ true
+            → getD (keptTo l n (cond x (markedBy m (premises (suc n))) m)) (getD (premises (suc n)) k 0) false ≡ true
         here true r d k g =
-            keptTo-keeps n (noted m (premises (suc n))) (getD (premises (suc n)) k 0)
+            keptTo-keeps n (markedBy m (premises (suc n))) (getD (premises (suc n)) k 0)
             (noted-sets m (premises (suc n)) k g (let q = lower (suc n) k (omega arith) a g in omega arith))
         here false r d k g = absurd (clash (sym r ∙ keptTo-above n m (suc n) (omega arith) (omega arith) d))
 
@@ -151,7 +151,7 @@ module _ (D : Document) where
   -- with w marks; there is one for each line
   module _ (N : Named D) (w : ℕ) (wide : length (D .lines) < w) where
     abbrev first : List Bool
-    first = noted (replicate w false) (namedLines D)
+    first = markedBy (replicate w false) (namedLines D)
 
     abbrev marks : List Bool
     marks = keptTo (D .lines) (length (D .lines)) first
@@ -198,7 +198,7 @@ module _ (D : Document) where
   pub kept-length : length (kept D) ≡ suc Limits.lines
   unfolding kept
   kept-length =
-      keptTo-length (D .lines) (length (D .lines)) (noted (replicate (suc Limits.lines) false) (namedLines D))
+      keptTo-length (D .lines) (length (D .lines)) (markedBy (replicate (suc Limits.lines) false) (namedLines D))
       ∙ noted-length (replicate (suc Limits.lines) false) (namedLines D) ∙ replicate-length (suc Limits.lines) false
 
   module _ (N : Named D) where

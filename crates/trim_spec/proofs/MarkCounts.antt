@@ -10,7 +10,7 @@ use borrow.Author.Tests.{eqb-true, eqb-false}
 use lib.ListN.{length, getD, set, drop, length-set}
 use lib.Seq.{getD-set-same, getD-set-other, getD-drop}
 use Rattle.limits.specs.Numbers.{nth}
-use Rattle.trim_spec.specs.Live.{noted, setBelow, chosen, selected, renumbered}
+use Rattle.trim_spec.specs.Live.{markedBy, setBelow, chosen, selected, renumbered}
 
 pub clash : false ≡ true → ⊥
 clash e = let q : _≡_ {A = ℕ} 0 1 = ap (λ (b : Bool). cond b 1 0) e in omega arith
@@ -23,8 +23,8 @@ mark-in (b ∷ m) (suc n) e = let h = mark-in m n e in omega arith
 
 -- setting
 
-pub noted-length : (m : List Bool) (l : List ℕ) → length (noted m l) ≡ length m
-unfolding noted
+pub noted-length : (m : List Bool) (l : List ℕ) → length (markedBy m l) ≡ length m
+unfolding markedBy
 noted-length m [] = refl
 noted-length m (n ∷ l) = noted-length (set m n true) l ∙ length-set m n true
 
@@ -36,14 +36,14 @@ set-keeps m i n e = go (eqb n i) refl
     go false h = getD-set-other m i n true false (eqb-false n i h) ∙ e
 
 -- a mark that is set stays
-pub noted-keeps : (m : List Bool) (l : List ℕ) (n : ℕ) → getD m n false ≡ true → getD (noted m l) n false ≡ true
-unfolding noted
+pub noted-keeps : (m : List Bool) (l : List ℕ) (n : ℕ) → getD m n false ≡ true → getD (markedBy m l) n false ≡ true
+unfolding markedBy
 noted-keeps m [] n e = e
 noted-keeps m (i ∷ l) n e = noted-keeps (set m i true) l n (set-keeps m i n e)
 
 -- each number of the list gets its mark
-pub noted-sets : (m : List Bool) (l : List ℕ) (i : ℕ) → i < length l → getD l i 0 < length m → getD (noted m l) (getD l i 0) false ≡ true
-unfolding noted
+pub noted-sets : (m : List Bool) (l : List ℕ) (i : ℕ) → i < length l → getD l i 0 < length m → getD (markedBy m l) (getD l i 0) false ≡ true
+unfolding markedBy
 noted-sets m [] i b h = absurd (omega arith)
 noted-sets m (n ∷ l) zero b h = noted-keeps (set m n true) l n (getD-set-same m n true false h)
 noted-sets m (n ∷ l) (suc i) b h = noted-sets (set m n true) l i (omega arith) (let q = length-set m n true in omega arith)
@@ -55,8 +55,8 @@ pub record Found (l : List ℕ) (n : ℕ) : Type 0 where
   pub is : getD l place 0 ≡ n
 
 -- and no other
-pub noted-from : (m : List Bool) (l : List ℕ) (n : ℕ) → getD (noted m l) n false ≡ true → (getD m n false ≡ true) ⊎ Found l n
-unfolding noted
+pub noted-from : (m : List Bool) (l : List ℕ) (n : ℕ) → getD (markedBy m l) n false ≡ true → (getD m n false ≡ true) ⊎ Found l n
+unfolding markedBy
 noted-from m [] n e = inl e
 noted-from m (i ∷ l) n e = go (noted-from (set m i true) l n e)
   where

@@ -8,7 +8,7 @@ use lib.Dec.{eqb, leb}
 use lib.ListN.{length, getD, drop}
 use Rattle.logic.specs.Opcode as Opcode
 use Rattle.limits.specs.Limits as Limits
-use Rattle.limits.specs.Numbers.{nth, word, numbers, within, every}
+use Rattle.limits.specs.Numbers.{nth, le16, numbers, within, every}
 use Rattle.limits.proofs.PassedTests.{and-true, within-true, every-at}
 use Rattle.image_header.specs.Header.{threadCount}
 use Rattle.image_header.specs.Instruction.{twofold, noHalf, range, unused, fields, inside, fieldsOf, fieldsFit, ranged}
@@ -18,7 +18,7 @@ use Rattle.image_header.specs.declared.instruction.Fields.{Fields}
 use Rattle.image_header.specs.declared.instruction.Instruction.{Instruction}
 use Rattle.image_header.specs.declared.instruction.Range.{Range}
 use Rattle.image_bodies.specs.NumberList.{exactly}
-use Rattle.image_bodies.specs.PointCounts.{tally, obligationCount}
+use Rattle.image_bodies.specs.PointCounts.{pointCounts, obligationCount}
 use Rattle.image_bodies.specs.Line.{premises}
 use Rattle.image_bodies.specs.ListBody as Lists
 use Rattle.image.specs.Decode.{sizesOf}
@@ -79,7 +79,7 @@ module _ (D : Document) (C : Canonical D) (same : threadCount (D .header) ≡ le
   abbrev l : List (List ℕ)
   l = bodiesOf D
 
-  module _ (O : length (D .outline) ≡ tally z l .points) (B : length (D .obligations) ≡ obligationCount z l) where
+  module _ (O : length (D .outline) ≡ pointCounts z l .points) (B : length (D .obligations) ≡ obligationCount z l) where
     pub named-lines : Named D
     unfolding sizes sizesOf
     named-lines = record {

@@ -5,7 +5,7 @@ use Prim.Native.Nat.{ℕ, zero, suc, _+_, _-_, _≤_}
 use native.Mathlib.Omega.{arith}
 use lib.ListN.{length, drop, length-take, length-drop, take-append-drop}
 use lib.Seq.{drop-drop}
-use Rattle.limits.specs.Numbers.{word}
+use Rattle.limits.specs.Numbers.{le16}
 use Rattle.logic.specs.Obligations.{flat}
 use Rattle.image_frames.specs.Kinds.{order}
 use Rattle.image_frames.specs.Frames.{counted, frame, ended, walk}
@@ -25,32 +25,32 @@ use Rattle.trim_spec.proofs.KindRuns.{admit-passes}
 
 -- the record in front
 abbrev front : List ℕ → Entry
-front l = entry (word (drop 2 l)) (body l)
+front l = entry (le16 (drop 2 l)) (body l)
 
-module _ (l : List ℕ) (kinded : 2 ≤ word l) (inside : 2 + word l ≤ length l) (bytes : Bytes l) where
-  front-length : length (body l) ≡ word l - 2
+module _ (l : List ℕ) (kinded : 2 ≤ le16 l) (inside : 2 + le16 l ≤ length l) (bytes : Bytes l) where
+  front-length : length (body l) ≡ le16 l - 2
   unfolding body
-  front-length = omega (arith, length-take (word l - 2) (drop 4 l), length-drop 4 l)
+  front-length = omega (arith, length-take (le16 l - 2) (drop 4 l), length-drop 4 l)
 
   front-short : Framable (body l)
   front-short = let p = front-length in let q = word-front l bytes in omega arith
 
   front-bytes : Bytes (body l)
   unfolding body
-  front-bytes = each-take Byte 0 (word l - 2) (drop 4 l) (each-drop Byte 0 4 l bytes)
+  front-bytes = each-take Byte 0 (le16 l - 2) (drop 4 l) (each-drop Byte 0 4 l bytes)
 
-  front-whole : framed (front l) ++ drop (2 + word l) l ≡ l
+  front-whole : framed (front l) ++ drop (2 + le16 l) l ≡ l
   unfolding framed body
   front-whole =
       let p = front-length in
-      let w : 2 + length (body l) ≡ word l = omega arith in
-      let t : 4 + (word l - 2) ≡ 2 + word l = omega arith in
-      let d : drop (word l - 2) (drop 4 l) ≡ drop (2 + word l) l = drop-drop (word l - 2) 4 l ∙ ap (λ (n : ℕ). drop n l) t in
-      let r : body l ++ drop (2 + word l) l ≡ drop 2 (drop 2 l) = rw (← d, take-append-drop, drop-drop 2 2 l) in
+      let w : 2 + length (body l) ≡ le16 l = omega arith in
+      let t : 4 + (le16 l - 2) ≡ 2 + le16 l = omega arith in
+      let d : drop (le16 l - 2) (drop 4 l) ≡ drop (2 + le16 l) l = drop-drop (le16 l - 2) 4 l ∙ ap (λ (n : ℕ). drop n l) t in
+      let r : body l ++ drop (2 + le16 l) l ≡ drop 2 (drop 2 l) = rw (← d, take-append-drop, drop-drop 2 2 l) in
       let q : 2 ≤ length (drop 2 l) = rw (length-drop 2 l) (omega arith) in
-      ap (λ (n : ℕ). two n ++ (two (word (drop 2 l)) ++ (body l ++ drop (2 + word l) l))) w
-      ∙ ap (λ (z : List ℕ). two (word l) ++ (two (word (drop 2 l)) ++ z)) r
-      ∙ ap (λ (z : List ℕ). two (word l) ++ z) (two-word (drop 2 l) q (each-drop Byte 0 2 l bytes))
+      ap (λ (n : ℕ). two n ++ (two (le16 (drop 2 l)) ++ (body l ++ drop (2 + le16 l) l))) w
+      ∙ ap (λ (z : List ℕ). two (le16 l) ++ (two (le16 (drop 2 l)) ++ z)) r
+      ∙ ap (λ (z : List ℕ). two (le16 l) ++ z) (two-word (drop 2 l) q (each-drop Byte 0 2 l bytes))
       ∙ two-word l (omega arith) bytes
 
 -- records whose bytes these are, and whose kinds have the same sound walk
@@ -63,11 +63,11 @@ pub record Taken (i : ℕ) (c : Seen) (l : List ℕ) (a b n m : ℕ) : Type 0 wh
 
 -- one record more in front
 taken-front : (i : ℕ) (c : Seen) (l : List ℕ) (a b n m : ℕ) → Bytes l → Passed.Framed c l
-    → Taken (i + 1) (counted c (order (word (drop 2 l)))) (drop (2 + word l) l) a b n m → Taken i c l a b n m
+    → Taken (i + 1) (counted c (order (le16 (drop 2 l)))) (drop (2 + le16 l) l) a b n m → Taken i c l a b n m
 unfolding walkKinds
 taken-front i c l a b n m h f t =
     let o = f .admits in
-    let p = admit-passes c (order (word (drop 2 l))) (o .known) (o .same) (o .next) (o .few) in
+    let p = admit-passes c (order (le16 (drop 2 l))) (o .known) (o .same) (o .next) (o .few) in
     record {
       records = front l ∷ t .records;
       whole = ap (λ (z : List ℕ). framed (front l) ++ z) (t .whole) ∙ front-whole l (f .kinded) (f .inside) h;
@@ -86,8 +86,8 @@ taken zero i c [] a b n m g h e = taken-none i c a b n m e
 taken zero i c (x ∷ l) a b n m g h e = absurd (omega arith)
 taken (suc k) i c [] a b n m g h e = taken-none i c a b n m e
 taken (suc k) i c (x ∷ l) a b n m g h e =
-    let d = drop (2 + word (x ∷ l)) (x ∷ l) in
-    let p = passed-sound (frame c (x ∷ l)) (walk k (i + 1) (counted c (order (word (drop 2 (x ∷ l))))) d) i a b n m e in
-    let q : length d ≤ k = rw (length-drop (2 + word (x ∷ l)) (x ∷ l)) (omega arith) in
+    let d = drop (2 + le16 (x ∷ l)) (x ∷ l) in
+    let p = passed-sound (frame c (x ∷ l)) (walk k (i + 1) (counted c (order (le16 (drop 2 (x ∷ l))))) d) i a b n m e in
+    let q : length d ≤ k = rw (length-drop (2 + le16 (x ∷ l)) (x ∷ l)) (omega arith) in
     taken-front i c (x ∷ l) a b n m h (Passed.framed c (x ∷ l) (p .0))
-    (taken k (i + 1) (counted c (order (word (drop 2 (x ∷ l))))) d a b n m q (each-drop Byte 0 (2 + word (x ∷ l)) (x ∷ l) h) (p .1))
+    (taken k (i + 1) (counted c (order (le16 (drop 2 (x ∷ l))))) d a b n m q (each-drop Byte 0 (2 + le16 (x ∷ l)) (x ∷ l) h) (p .1))

@@ -4,7 +4,7 @@ use mathlib.Core.List.{[]}
 use lib.ListN.{length}
 use Rattle.image_header.specs.Header.{threadCount}
 use Rattle.image_header.specs.Thread.{instructions}
-use Rattle.image_bodies.specs.PointCounts.{tally, obligationCount}
+use Rattle.image_bodies.specs.PointCounts.{pointCounts, obligationCount}
 use Rattle.trim_spec.specs.Document.{Document}
 use Rattle.trim_spec.specs.Canonical.{Canonical, ThreadFits, LineFits, ClaimFits, noLine, noClaim}
 use Rattle.trim_spec.specs.Encode.{threadBytes, lineBytes, claimBytes, bodiesOf}
@@ -17,7 +17,7 @@ use Rattle.trim_spec.proofs.ClaimBytes.{claim-back}
 use Rattle.trim_spec.proofs.BodyPlaces.{header-at, formulas-part, threads-part, outline-at, lines-part, obligations-at, claims-part}
 
 pub parsed : (D : Document) → Canonical D → threadCount (D .header) ≡ length (D .threads)
-    → length (D .outline) ≡ tally (sizes D) (bodiesOf D) .points
+    → length (D .outline) ≡ pointCounts (sizes D) (bodiesOf D) .points
     → length (D .obligations) ≡ obligationCount (sizes D) (bodiesOf D) → documentOf (sizes D) (bodiesOf D) ≡ D
 unfolding documentOf
 parsed D c same points count =

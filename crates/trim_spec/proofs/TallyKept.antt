@@ -10,7 +10,7 @@ use borrow.Author.Tests.{eqb-false, ltb-false}
 use Rattle.image_header.specs.declared.instruction.Instruction.{Instruction}
 use Rattle.image_header.specs.Thread.{instructions, nothing}
 use Rattle.image_bodies.specs.RecordPlaces.{threadBody, instructionOf}
-use Rattle.image_bodies.specs.PointCounts.{isBranch, branches, threadTally, plus, tallyTo, tally, obligationCount}
+use Rattle.image_bodies.specs.PointCounts.{isBranch, branches, threadCounts, plus, pointCountsTo, pointCounts, obligationCount}
 use Rattle.image.specs.Decode.{sizesOf}
 use Rattle.trim_spec.specs.Document.{Document}
 use Rattle.trim_spec.specs.Encode.{bodiesOf}
@@ -57,20 +57,20 @@ module _ {u k : List Bool} {D : Document} (T : Trimming u k D) where
   unfolding instructionBy
   operation-kept t p = ap (λ (i : Instruction). i .operation) (instruction-kept t p)
 
-  thread-tally : (t : ℕ) → 1 ≤ t → t ≤ length (D .threads)
-      → threadTally (threadBody (sizes E) (bodiesOf E) t) ≡ threadTally (threadBody (sizes D) (bodiesOf D) t)
-  unfolding threadTally
-  thread-tally t a b =
+  thread-counts : (t : ℕ) → 1 ≤ t → t ≤ length (D .threads)
+      → threadCounts (threadBody (sizes E) (bodiesOf E) t) ≡ threadCounts (threadBody (sizes D) (bodiesOf D) t)
+  unfolding threadCounts
+  thread-counts t a b =
       let is : List Instruction = instructions (threadBody (sizes D) (bodiesOf D) t) in
       rw (last-kept T t a b, instructions-kept T t a b, branches-kept (renumbered u) (renumbered k) is)
 
-  pub tallyTo-kept : (t : ℕ) → t ≤ length (D .threads) → tallyTo (sizes E) (bodiesOf E) t ≡ tallyTo (sizes D) (bodiesOf D) t
-  unfolding tallyTo
+  pub tallyTo-kept : (t : ℕ) → t ≤ length (D .threads) → pointCountsTo (sizes E) (bodiesOf E) t ≡ pointCountsTo (sizes D) (bodiesOf D) t
+  unfolding pointCountsTo
   tallyTo-kept zero h = refl
-  tallyTo-kept (suc t) h = ap₂ plus (tallyTo-kept t (omega arith)) (thread-tally (suc t) (omega arith) h)
+  tallyTo-kept (suc t) h = ap₂ plus (tallyTo-kept t (omega arith)) (thread-counts (suc t) (omega arith) h)
 
-  pub tally-kept : tally (sizes E) (bodiesOf E) ≡ tally (sizes D) (bodiesOf D)
-  unfolding tally sizes sizesOf
+  pub tally-kept : pointCounts (sizes E) (bodiesOf E) ≡ pointCounts (sizes D) (bodiesOf D)
+  unfolding pointCounts sizes sizesOf
   tally-kept = tallyTo-kept (sizes D .threads) (omega (arith, T .threads))
 
   pub obligationCount-kept : obligationCount (sizes E) (bodiesOf E) ≡ obligationCount (sizes D) (bodiesOf D)

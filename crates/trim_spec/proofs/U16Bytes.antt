@@ -6,7 +6,7 @@ use native.Mathlib.Omega.{arith}
 use native.Mathlib.Nat.{add-zero, mod-eq-of-lt}
 use lib.ListN.{length, getD, drop, length-drop, drop-of-length-le}
 use lib.Seq.{getD-drop, drop-cons}
-use Rattle.limits.specs.Numbers.{word, numbers}
+use Rattle.limits.specs.Numbers.{le16, numbers}
 use Rattle.verdict_record.specs.Record.{two}
 use Rattle.trim_spec.specs.Canonical.{Byte, Short, Bytes, Shorts}
 use Rattle.trim_spec.specs.Encode.{numberBytes}
@@ -14,8 +14,8 @@ use Rattle.trim_spec.proofs.EachMember.{each-nil, each-cons, each-tail,
 
 -- from a number
 
-pub word-two : (n : ℕ) (r : List ℕ) → Short n → word (two n ++ r) ≡ n
-unfolding word
+pub word-two : (n : ℕ) (r : List ℕ) → Short n → le16 (two n ++ r) ≡ n
+unfolding le16
 word-two n r h = omega arith
 
 pub drop-two : (n : ℕ) (r : List ℕ) → drop 2 (two n ++ r) ≡ r
@@ -49,25 +49,25 @@ module _ (b : List ℕ) (h : Bytes b) where
   pub byte-at : (i : ℕ) → Byte (getD b i 0)
   byte-at = each-any Byte 0 b (omega arith) h
 
-  word-is : (i : ℕ) → word (drop i b) ≡ getD b i 0 + 256 * getD b (i + 1) 0
-  unfolding word
+  word-is : (i : ℕ) → le16 (drop i b) ≡ getD b i 0 + 256 * getD b (i + 1) 0
+  unfolding le16
   word-is i = rw (getD-drop i b 0 0, getD-drop i b 1 0, add-zero i)
 
-  pub word-short : (i : ℕ) → Short (word (drop i b))
+  pub word-short : (i : ℕ) → Short (le16 (drop i b))
   word-short i = omega (arith, word-is i, byte-at i, byte-at (i + 1))
 
   -- its two bytes
-  pub word-low : (i : ℕ) → word (drop i b) % 256 ≡ getD b i 0
+  pub word-low : (i : ℕ) → le16 (drop i b) % 256 ≡ getD b i 0
   word-low i = omega (arith, word-is i, byte-at i, byte-at (i + 1))
 
-  pub word-high : (i : ℕ) → (word (drop i b) / 256) % 256 ≡ getD b (i + 1) 0
+  pub word-high : (i : ℕ) → (le16 (drop i b) / 256) % 256 ≡ getD b (i + 1) 0
   word-high i = omega (arith, word-is i, byte-at i, byte-at (i + 1))
 
 pub numbers-short : (n : ℕ) (b : List ℕ) → Bytes b → Shorts (numbers n b)
 unfolding numbers
 numbers-short zero b h = each-nil Short 0
 numbers-short (suc n) b h =
-    each-cons Short 0 (word b) (numbers n (drop 2 b)) (word-short b h 0) (numbers-short n (drop 2 b) (each-drop Byte 0 2 b h))
+    each-cons Short 0 (le16 b) (numbers n (drop 2 b)) (word-short b h 0) (numbers-short n (drop 2 b) (each-drop Byte 0 2 b h))
 
 -- n of them, from byte i on
 abbrev pub reads : List ℕ → ℕ → ℕ → List ℕ
@@ -89,11 +89,11 @@ number-bytes (suc n) b e h =
     rw (word-low b h 0, word-high b h 0, r) (reads-all b 0 2 (omega arith))
 
 -- the two bytes in front
-pub word-front : (l : List ℕ) → Bytes l → Short (word l)
+pub word-front : (l : List ℕ) → Bytes l → Short (le16 l)
 word-front l h = word-short l h 0
 
-pub two-word : (l : List ℕ) → 2 ≤ length l → Bytes l → two (word l) ++ drop 2 l ≡ l
-unfolding word
+pub two-word : (l : List ℕ) → 2 ≤ length l → Bytes l → two (le16 l) ++ drop 2 l ≡ l
+unfolding le16
 two-word [] g h = absurd (omega arith)
 two-word (x ∷ []) g h = absurd (omega arith)
 two-word (x ∷ y ∷ l) g h =

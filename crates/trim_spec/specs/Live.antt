@@ -11,9 +11,9 @@ use Rattle.trim_spec.specs.Document.{Document, LineRecord}
 use Rattle.trim_spec.specs.Canonical.{noLine}
 
 -- marks by numbers, with those of the list set
-unfoldable pub noted : List Bool → List ℕ → List Bool
-noted m [] = m
-noted m (n ∷ l) = noted (set m n true) l
+unfoldable pub markedBy : List Bool → List ℕ → List Bool
+markedBy m [] = m
+markedBy m (n ∷ l) = markedBy (set m n true) l
 
 -- how many of the first n marks are set
 unfoldable pub setBelow : ℕ → List Bool → ℕ
@@ -50,10 +50,10 @@ namedLines D = D .obligations ++ map (λ c. c .line) (D .claims)
 -- from line n down to line 1: the premises that a line with a mark lists get marks
 unfoldable pub keptTo : List LineRecord → ℕ → List Bool → List Bool
 keptTo l zero m = m
-keptTo l (suc n) m = keptTo l n (cond (getD m (suc n) false) (noted m (nth l (suc n) noLine .premises)) m)
+keptTo l (suc n) m = keptTo l n (cond (getD m (suc n) false) (markedBy m (nth l (suc n) noLine .premises)) m)
 
 unfoldable pub kept : Document → List Bool
-kept D = keptTo (D .lines) (length (D .lines)) (noted (replicate (suc Limits.lines) false) (namedLines D))
+kept D = keptTo (D .lines) (length (D .lines)) (markedBy (replicate (suc Limits.lines) false) (namedLines D))
 
 -- the formulas that an instruction names, 0 for none; those of a line
 abbrev pub instructionFormulas : Instruction → List ℕ
@@ -68,4 +68,4 @@ namedFormulas D =
     flat (λ l. flat instructionFormulas l) (D .threads) ++ (D .outline ++ flat lineFormulas (selected (kept D) (D .lines)))
 
 unfoldable pub used : Document → List Bool
-used D = noted (replicate (suc Limits.formulas) false) (namedFormulas D)
+used D = markedBy (replicate (suc Limits.formulas) false) (namedFormulas D)

@@ -6,14 +6,14 @@ use Prim.Native.Nat.{ℕ, _≤_, _<_}
 use native.Mathlib.Omega.{arith}
 use lib.ListN.{drop}
 use borrow.Author.Tests.{eq-eqb, ne-eqb}
-use Rattle.limits.specs.Numbers.{word}
+use Rattle.limits.specs.Numbers.{le16}
 use Rattle.bill_spec.specs.Output.{tariffOf}
 use Rattle.vectors.specs.Number.{long}
 use Rattle.vectors.specs.Room.{holds}
 use Rattle.vectors.specs.BillAnswer.{blank, most, tariffAt, billedAt, lentAt, codeAt, numbersAt, writtenAt, sameAnswer}
 
-pub tariff-read : (s : List ℕ) (a b c d e : ℕ) → a ≡ word (drop 0 s) → b ≡ word (drop 2 s) → c ≡ word (drop 4 s) → d ≡ word (drop 6 s)
-    → e ≡ word (drop 8 s)
+pub tariff-read : (s : List ℕ) (a b c d e : ℕ) → a ≡ le16 (drop 0 s) → b ≡ le16 (drop 2 s) → c ≡ le16 (drop 4 s) → d ≡ le16 (drop 6 s)
+    → e ≡ le16 (drop 8 s)
     → tariffOf a b c d e ≡ tariffAt s
 unfolding tariffAt
 tariff-read s a b c d e ea eb ec ed ee = rw (ea, eb, ec, ed, ee)
@@ -37,7 +37,7 @@ module _ (s : List ℕ) (n : ℕ) (e : n ≡ long (drop 14 s)) where
   unfolding lentAt
   lent-read h = omega arith
 
-module _ (code stored : ℕ) (room s : List ℕ) (e : stored ≡ word (drop 18 s)) where
+module _ (code stored : ℕ) (room s : List ℕ) (e : stored ≡ le16 (drop 18 s)) where
   pub code-other : (code ≡ stored → ⊥) → false ≡ sameAnswer code room s
   unfolding sameAnswer codeAt
   code-other h = rw (← e, ne-eqb _ _ h)

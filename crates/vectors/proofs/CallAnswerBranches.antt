@@ -7,7 +7,7 @@ use native.Mathlib.Omega.{arith}
 use lib.ListN.{length, getD, drop, List·getD-eq-default}
 use lib.Dec.{eqb}
 use borrow.Author.Tests.{eq-eqb, ne-eqb}
-use Rattle.limits.specs.Numbers.{word}
+use Rattle.limits.specs.Numbers.{le16}
 use Rattle.tables_columns.proofs.ColumnLists.{column-length, column-getD}
 use Rattle.vectors.specs.Number.{long}
 use Rattle.vectors.specs.Room.{holds}
@@ -54,7 +54,7 @@ told-few code s n h = go (eqb code 1)
     go true = omega arith
     go false = rw (numbers-many s) h
 
-module _ (code stored : ℕ) (after told s entries : List ℕ) (e : stored ≡ word (drop 0 s)) where
+module _ (code stored : ℕ) (after told s entries : List ℕ) (e : stored ≡ le16 (drop 0 s)) where
   pub code-other : (code ≡ stored → ⊥) → false ≡ sameAnswer code after told s entries
   unfolding sameAnswer codeAt
   code-other h = rw (← e, ne-eqb _ _ h)

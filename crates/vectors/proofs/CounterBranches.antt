@@ -9,9 +9,9 @@ use Rattle.vectors.specs.End.{isWhole}
 use Rattle.vectors.specs.Counters.{kinds-limit, more, withKind, withDifference, withCase}
 use Rattle.vectors.specs.declared.end.End.{End}
 use Rattle.vectors.specs.declared.end.End.the-variants.{Whole, Cut, Unread, Large, Many}
-use Rattle.vectors.specs.declared.counters.Tally.{Tally}
+use Rattle.vectors.specs.declared.counters.Counters.{Counters}
 
-module _ (t : Tally) (k c : ℕ) (e : c ≡ more (t .cases)) where
+module _ (t : Counters) (k c : ℕ) (e : c ≡ more (t .cases)) where
   pub kind-past : kinds-limit ≤ k → record { cases = c; kinds = t .kinds; differ = t .differ; first = t .first } ≡ withKind t k
   unfolding withKind
   kind-past h = rw (e, le-ltb _ _ h)
@@ -21,7 +21,7 @@ module _ (t : Tally) (k c : ℕ) (e : c ≡ more (t .cases)) where
   unfolding withKind
   kind-in n h d = rw (e, d, lt-ltb _ _ h)
 
-module _ (t : Tally) (d : ℕ) (e : d ≡ more (t .differ)) where
+module _ (t : Counters) (d : ℕ) (e : d ≡ more (t .differ)) where
   pub difference-later : (t .differ ≡ 0 → ⊥) → record
       { cases = t .cases; kinds = t .kinds; differ = d; first = t .first } ≡ withDifference t
   unfolding withDifference
@@ -31,12 +31,12 @@ module _ (t : Tally) (d : ℕ) (e : d ≡ more (t .differ)) where
   unfolding withDifference
   difference-first z = rw (e, eq-eqb _ _ z)
 
-module _ (t q : Tally) (k : ℕ) (same : Bool) (e : q ≡ withKind t k) where
+module _ (t q : Counters) (k : ℕ) (same : Bool) (e : q ≡ withKind t k) where
   pub case-same : same ≡ true → q ≡ withCase t k same
   unfolding withCase
   case-same s = rw s e
 
-  pub case-other : (r : Tally) → same ≡ false → r ≡ withDifference q → r ≡ withCase t k same
+  pub case-other : (r : Counters) → same ≡ false → r ≡ withDifference q → r ≡ withCase t k same
   unfolding withCase
   case-other r s d = rw (s, ← e) d
 

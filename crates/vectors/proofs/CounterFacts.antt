@@ -7,23 +7,23 @@ use native.Mathlib.Omega.{arith}
 use lib.ListN.{length}
 use Rattle.vectors.specs.Counters.{noCase, withKind, withDifference, withCase}
 use Rattle.vectors.specs.CasesCounted.{Case, tallied, differing, FromCases}
-use Rattle.vectors.specs.declared.counters.Tally.{Tally}
+use Rattle.vectors.specs.declared.counters.Counters.{Counters}
 
 -- one more than the cases that a file may have
 abbrev turns : ℕ
 turns = 100001
 
 -- within a loop that judges at most so many further cases
-pub record Running (t : Tally) (left : ℕ) : Type 0 where
+pub record Running (t : Counters) (left : ℕ) : Type 0 where
   judged : List Case
   tells : t ≡ tallied judged
   few : length judged + left ≤ turns
 
-pub running-none : (t : Tally) → t ≡ noCase → Running t turns
+pub running-none : (t : Counters) → t ≡ noCase → Running t turns
 unfolding tallied
 running-none t e = record { judged = []; tells = e; few = omega arith }
 
-pub running-more : (t r : Tally) (left k : ℕ) (same : Bool) → 0 < left → Running t left → r ≡ withCase t k same → Running r (left - 1)
+pub running-more : (t r : Counters) (left k : ℕ) (same : Bool) → 0 < left → Running t left → r ≡ withCase t k same → Running r (left - 1)
 unfolding tallied
 running-more t r left k same h f e =
     record {
@@ -33,7 +33,7 @@ running-more t r left k same h f e =
       few = omega (arith, f .few);
     }
 
-pub running-over : (t : Tally) (left : ℕ) → Running t left → FromCases t
+pub running-over : (t : Counters) (left : ℕ) → Running t left → FromCases t
 running-over t left f = record { judged = f .judged; tells = f .tells; few = omega (arith, f .few) }
 
 cases-counted : (l : List Case) → length l < 2 ^ 64 → tallied l .cases ≡ length l
@@ -65,7 +65,7 @@ differing-counted (c ∷ l) h = go (c .same) (differing-counted l (omega arith))
     go false e m = omega arith
 
 -- how many cases there are and how many of them differ is what the tally says
-pub all-counted : (t : Tally) (f : FromCases t) → (t .cases ≡ length (f .judged)) × (t .differ ≡ differing (f .judged))
+pub all-counted : (t : Counters) (f : FromCases t) → (t .cases ≡ length (f .judged)) × (t .differ ≡ differing (f .judged))
 all-counted t f = (
   ap (λ x. x .cases) (f .tells) ∙ cases-counted (f .judged) (f .few),
   ap (λ x. x .differ) (f .tells)

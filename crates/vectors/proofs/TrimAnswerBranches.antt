@@ -6,7 +6,7 @@ use Prim.Native.Nat.{ℕ, _≤_, _<_}
 use native.Mathlib.Omega.{arith}
 use lib.ListN.{length, drop}
 use borrow.Author.Tests.{eq-eqb, ne-eqb}
-use Rattle.limits.specs.Numbers.{word}
+use Rattle.limits.specs.Numbers.{le16}
 use Rattle.vectors.specs.Number.{long}
 use Rattle.vectors.specs.Room.{holds}
 use Rattle.vectors.specs.TrimAnswer.{blank, most, lentAt, codeAt, sameAnswer}
@@ -20,7 +20,7 @@ module _ (s : List ℕ) (n : ℕ) (e : n ≡ long (drop 0 s)) where
   unfolding lentAt
   lent-read h = omega arith
 
-module _ (code written stored : ℕ) (room s trimmed : List ℕ) (e : stored ≡ word (drop 4 s)) where
+module _ (code written stored : ℕ) (room s trimmed : List ℕ) (e : stored ≡ le16 (drop 4 s)) where
   pub code-other : (code ≡ stored → ⊥) → false ≡ sameAnswer code written room s trimmed
   unfolding sameAnswer codeAt
   code-other h = rw (← e, ne-eqb _ _ h)

@@ -6,12 +6,12 @@ use Prim.Native.Nat.{ℕ, _≤_, _<_}
 use native.Mathlib.Omega.{arith}
 use lib.ListN.{take, drop}
 use borrow.Author.Tests.{eq-eqb, ne-eqb}
-use Rattle.limits.specs.Numbers.{word}
+use Rattle.limits.specs.Numbers.{le16}
 use Rattle.bill_spec.specs.Output.{tariffOf}
 use Rattle.vectors.specs.Number.{long}
 use Rattle.vectors.specs.Room.{holds}
-use Rattle.vectors.specs.declared.turn.Deed.the-variants.{Open, Set, Check, Trim, Bill, Handover, Replay, ReplayAcross, Other}
-use Rattle.vectors.specs.Turn.{deedOf, blank, mostBytes, mostNumbers, callerAt, lengthsAt, setAt, bytesAt, numbersAt, tariffAt}
+use Rattle.vectors.specs.declared.turn.TurnKind.the-variants.{Open, Set, Check, Trim, Bill, Handover, Replay, ReplayAcross, Other}
+use Rattle.vectors.specs.Turn.{turnKindOf, blank, mostBytes, mostNumbers, callerAt, lengthsAt, setAt, bytesAt, numbersAt, tariffAt}
 use Rattle.vectors.specs.TurnSame.{sameLongs, sameService, sameBytes, sameNumbers, sameWritten, sameVerdict, sameTrimmed, sameBill, sameReplay}
 
 pub caller-read : (s : List ℕ) (n : ℕ) → n ≡ long (drop 2 s) → n ≡ callerAt s
@@ -26,8 +26,8 @@ pub set-read : (s : List ℕ) (n : ℕ) → n ≡ long (drop 30 s) → n ≡ set
 unfolding setAt
 set-read s n e = e
 
-pub tariff-read : (s : List ℕ) (a b c d e : ℕ) → a ≡ word (drop 34 s) → b ≡ word (drop 36 s) → c ≡ word (drop 38 s) → d ≡ word (drop 40 s)
-    → e ≡ word (drop 42 s)
+pub tariff-read : (s : List ℕ) (a b c d e : ℕ) → a ≡ le16 (drop 34 s) → b ≡ le16 (drop 36 s) → c ≡ le16 (drop 38 s) → d ≡ le16 (drop 40 s)
+    → e ≡ le16 (drop 42 s)
     → tariffOf a b c d e ≡ tariffAt s
 unfolding tariffAt
 tariff-read s a b c d e ea eb ec ed ee = rw (ea, eb, ec, ed, ee)
@@ -51,43 +51,43 @@ module _ (s : List ℕ) (n : ℕ) (e : n ≡ long (drop 30 s)) where
   numbers-read h = omega arith
 
 -- what is done, by its number
-module _ (s : List ℕ) (n : ℕ) (e : n ≡ word (drop 0 s)) where
-  pub deed-open : n ≡ 0 → Open ≡ deedOf s
-  unfolding deedOf
-  deed-open h = rw (← e, h)
+module _ (s : List ℕ) (n : ℕ) (e : n ≡ le16 (drop 0 s)) where
+  pub kind-open : n ≡ 0 → Open ≡ turnKindOf s
+  unfolding turnKindOf
+  kind-open h = rw (← e, h)
 
-  pub deed-set : n ≡ 1 → Set ≡ deedOf s
-  unfolding deedOf
+  pub deed-set : n ≡ 1 → Set ≡ turnKindOf s
+  unfolding turnKindOf
   deed-set h = rw (← e, h)
 
-  pub deed-check : n ≡ 2 → Check ≡ deedOf s
-  unfolding deedOf
-  deed-check h = rw (← e, h)
+  pub kind-check : n ≡ 2 → Check ≡ turnKindOf s
+  unfolding turnKindOf
+  kind-check h = rw (← e, h)
 
-  pub deed-trim : n ≡ 3 → Trim ≡ deedOf s
-  unfolding deedOf
-  deed-trim h = rw (← e, h)
+  pub kind-trim : n ≡ 3 → Trim ≡ turnKindOf s
+  unfolding turnKindOf
+  kind-trim h = rw (← e, h)
 
-  pub deed-bill : n ≡ 4 → Bill ≡ deedOf s
-  unfolding deedOf
-  deed-bill h = rw (← e, h)
+  pub kind-bill : n ≡ 4 → Bill ≡ turnKindOf s
+  unfolding turnKindOf
+  kind-bill h = rw (← e, h)
 
-  pub deed-handover : n ≡ 5 → Handover ≡ deedOf s
-  unfolding deedOf
-  deed-handover h = rw (← e, h)
+  pub kind-handover : n ≡ 5 → Handover ≡ turnKindOf s
+  unfolding turnKindOf
+  kind-handover h = rw (← e, h)
 
-  pub deed-replay : n ≡ 6 → Replay ≡ deedOf s
-  unfolding deedOf
-  deed-replay h = rw (← e, h)
+  pub kind-replay : n ≡ 6 → Replay ≡ turnKindOf s
+  unfolding turnKindOf
+  kind-replay h = rw (← e, h)
 
-  pub deed-across : n ≡ 7 → ReplayAcross ≡ deedOf s
-  unfolding deedOf
-  deed-across h = rw (← e, h)
+  pub kind-across : n ≡ 7 → ReplayAcross ≡ turnKindOf s
+  unfolding turnKindOf
+  kind-across h = rw (← e, h)
 
-  pub deed-other : (n ≡ 0 → ⊥) → (n ≡ 1 → ⊥) → (n ≡ 2 → ⊥) → (n ≡ 3 → ⊥) → (n ≡ 4 → ⊥) → (n ≡ 5 → ⊥) → (n ≡ 6 → ⊥) → (n ≡ 7 → ⊥)
-      → Other ≡ deedOf s
-  unfolding deedOf
-  deed-other a b c d f g h k = rw (
+  pub kind-other : (n ≡ 0 → ⊥) → (n ≡ 1 → ⊥) → (n ≡ 2 → ⊥) → (n ≡ 3 → ⊥) → (n ≡ 4 → ⊥) → (n ≡ 5 → ⊥) → (n ≡ 6 → ⊥) → (n ≡ 7 → ⊥)
+      → Other ≡ turnKindOf s
+  unfolding turnKindOf
+  kind-other a b c d f g h k = rw (
     ← e,
     ne-eqb _ _ a,
     ne-eqb _ _ b,
@@ -99,11 +99,11 @@ module _ (s : List ℕ) (n : ℕ) (e : n ≡ word (drop 0 s)) where
     ne-eqb _ _ k,
   )
 
-pub ruleset deeds = (deed-open, deed-set, deed-check, deed-trim, deed-bill, deed-handover, deed-replay, deed-across, deed-other)
+pub ruleset turn-kinds = (kind-open, deed-set, kind-check, kind-trim, kind-bill, kind-handover, kind-replay, kind-across, kind-other)
 
 pub ruleset reads = (caller-read, lengths-read, set-read, tariff-read, bytes-most, bytes-read, numbers-most, numbers-read)
 
-module _ (code n : ℕ) (service s : List ℕ) (e : n ≡ word (drop 44 s)) where
+module _ (code n : ℕ) (service s : List ℕ) (e : n ≡ le16 (drop 44 s)) where
   pub code-other : (code ≡ n → ⊥) → false ≡ sameService code service s
   unfolding sameService
   code-other h = rw (← e, ne-eqb _ _ h)

@@ -4,7 +4,7 @@ use mathlib.Core.List.{List, [], _∷_}
 use Prim.Native.Nat.{ℕ, min}
 use lib.Dec.{eqb}
 use lib.ListN.{drop, replicate}
-use Rattle.limits.specs.Numbers.{word}
+use Rattle.limits.specs.Numbers.{le16}
 use Rattle.bill_spec.specs.Output.{tariffOf}
 use Rattle.bill_spec.specs.declared.tariff.Tariff.{Tariff}
 use Rattle.vectors.specs.Number.{long}
@@ -12,7 +12,7 @@ use Rattle.vectors.specs.Room.{holds}
 
 -- five prices of 16 bits
 unfoldable pub tariffAt : List ℕ → Tariff
-tariffAt s = tariffOf (word (drop 0 s)) (word (drop 2 s)) (word (drop 4 s)) (word (drop 6 s)) (word (drop 8 s))
+tariffAt s = tariffOf (le16 (drop 0 s)) (le16 (drop 2 s)) (le16 (drop 4 s)) (le16 (drop 6 s)) (le16 (drop 8 s))
 
 -- the number of images billed before
 unfoldable pub billedAt : List ℕ → ℕ
@@ -33,7 +33,7 @@ unfoldable pub lentAt : List ℕ → ℕ
 lentAt s = min (long (drop 14 s)) most
 
 unfoldable pub codeAt : List ℕ → ℕ
-codeAt s = word (drop 18 s)
+codeAt s = le16 (drop 18 s)
 
 -- cents, the number afterwards, the sums of threads
 unfoldable pub numbersAt : List ℕ → List ℕ

@@ -4,7 +4,7 @@ use mathlib.Core.List.{List, []}
 use Prim.Native.Nat.{ℕ, _+_, _*_, min}
 use lib.Dec.{eqb}
 use lib.ListN.{drop, replicate}
-use Rattle.limits.specs.Numbers.{word}
+use Rattle.limits.specs.Numbers.{le16}
 use Rattle.tables_columns.specs.Column.{column}
 use Rattle.vectors.specs.Number.{long}
 use Rattle.vectors.specs.Room.{holds}
@@ -34,7 +34,7 @@ lentAt s at most = min (long (drop at s)) most
 
 -- s: a stored answer, the code in front
 unfoldable pub codeAt : List ℕ → ℕ
-codeAt s = word (drop 0 s)
+codeAt s = le16 (drop 0 s)
 
 -- steps, points, registers
 unfoldable pub numbersAt : List ℕ → List ℕ

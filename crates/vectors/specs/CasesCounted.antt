@@ -5,7 +5,7 @@ use mathlib.Core.List.{List, [], _∷_}
 use Prim.Native.Nat.{ℕ, suc, _<_, _^_}
 use lib.ListN.{length}
 use Rattle.vectors.specs.Counters.{noCase, withCase}
-use Rattle.vectors.specs.declared.counters.Tally.{Tally}
+use Rattle.vectors.specs.declared.counters.Counters.{Counters}
 
 -- the kind of an answer, and whether it is the stored one
 pub record Case : Type 0 where
@@ -13,7 +13,7 @@ pub record Case : Type 0 where
   pub same : Bool
 
 -- of cases with the last first
-unfoldable pub tallied : List Case → Tally
+unfoldable pub tallied : List Case → Counters
 tallied [] = noCase
 tallied (c ∷ l) = withCase (tallied l) (c .kind) (c .same)
 
@@ -23,7 +23,7 @@ differing [] = 0
 differing (c ∷ l) = cond (c .same) (differing l) (suc (differing l))
 
 -- a tally that comes from cases alone, so few that no count has wrapped
-pub record FromCases (t : Tally) : Type 0 where
+pub record FromCases (t : Counters) : Type 0 where
   pub judged : List Case
   pub tells : t ≡ tallied judged
   pub few : length judged < 2 ^ 64

@@ -3,7 +3,7 @@ use mathlib.Core.Bool.{Bool, cond}
 use Prim.Native.Nat.{ℕ, _+_, _%_, _^_}
 use lib.Dec.{eqb, ltb}
 use lib.ListN.{getD, set, replicate}
-use Rattle.vectors.specs.declared.counters.Tally.{Tally}
+use Rattle.vectors.specs.declared.counters.Counters.{Counters}
 
 -- kinds from here on are not counted
 abbrev pub kinds-limit : ℕ
@@ -13,11 +13,11 @@ kinds-limit = 64
 abbrev pub more : ℕ → ℕ
 more n = (n + 1) % 2 ^ 64
 
-unfoldable pub noCase : Tally
+unfoldable pub noCase : Counters
 noCase = record { cases = 0; kinds = replicate kinds-limit 0; differ = 0; first = 0 }
 
 -- one case more, with an answer of this kind
-unfoldable pub withKind : Tally → ℕ → Tally
+unfoldable pub withKind : Counters → ℕ → Counters
 withKind t k =
     record {
       cases = more (t .cases);
@@ -27,7 +27,7 @@ withKind t k =
     }
 
 -- the case counted last differs
-unfoldable pub withDifference : Tally → Tally
+unfoldable pub withDifference : Counters → Counters
 withDifference t = record {
   cases = t .cases;
   kinds = t .kinds;
@@ -35,5 +35,5 @@ withDifference t = record {
   first = cond (eqb (t .differ) 0) (t .cases) (t .first);
 }
 
-unfoldable pub withCase : Tally → ℕ → Bool → Tally
+unfoldable pub withCase : Counters → ℕ → Bool → Counters
 withCase t k same = cond same (withKind t k) (withDifference (withKind t k))

@@ -2,8 +2,8 @@
 use mathlib.Core.List.{List}
 use Prim.Native.Nat.{ℕ, _+_, _*_}
 use lib.ListN.{drop}
-use Rattle.limits.specs.Numbers.{word}
+use Rattle.limits.specs.Numbers.{le16}
 
 -- the one in front, the low half first
 unfoldable pub long : List ℕ → ℕ
-long l = word l + 65536 * word (drop 2 l)
+long l = le16 l + 65536 * le16 (drop 2 l)

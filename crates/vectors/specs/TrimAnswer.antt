@@ -5,7 +5,7 @@ use Prim.Native.Nat.{ℕ, _+_, min}
 use lib.Dec.{eqb}
 use lib.ListN.{length, drop, replicate}
 use Rattle.limits.specs.Limits.{imageBytes}
-use Rattle.limits.specs.Numbers.{word}
+use Rattle.limits.specs.Numbers.{le16}
 use Rattle.vectors.specs.Number.{long}
 use Rattle.vectors.specs.Room.{holds}
 
@@ -24,7 +24,7 @@ unfoldable pub lentAt : List ℕ → ℕ
 lentAt s = min (long (drop 0 s)) most
 
 unfoldable pub codeAt : List ℕ → ℕ
-codeAt s = word (drop 4 s)
+codeAt s = le16 (drop 4 s)
 
 -- in the code, in how many bytes are written, and in all of the room afterwards; with an error no byte is stored
 unfoldable pub sameAnswer : ℕ → ℕ → List ℕ → List ℕ → List ℕ → Bool

@@ -4,23 +4,23 @@ use mathlib.Core.List.{List}
 use Prim.Native.Nat.{ℕ, min}
 use lib.Dec.{eqb}
 use lib.ListN.{drop, replicate}
-use Rattle.limits.specs.Numbers.{word}
+use Rattle.limits.specs.Numbers.{le16}
 use Rattle.bill_spec.specs.Output.{tariffOf}
 use Rattle.bill_spec.specs.declared.tariff.Tariff.{Tariff}
 use Rattle.vectors.specs.Number.{long}
-use Rattle.vectors.specs.declared.turn.Deed.{Deed}
-use Rattle.vectors.specs.declared.turn.Deed.the-variants.{Open, Set, Check, Trim, Bill, Handover, Replay, ReplayAcross, Other}
+use Rattle.vectors.specs.declared.turn.TurnKind.{TurnKind}
+use Rattle.vectors.specs.declared.turn.TurnKind.the-variants.{Open, Set, Check, Trim, Bill, Handover, Replay, ReplayAcross, Other}
 
 -- what is done, by its number
-abbrev pub deedBy : ℕ → Deed
-deedBy n =
+abbrev pub turnKindBy : ℕ → TurnKind
+turnKindBy n =
     cond (eqb n 0) Open
     (cond (eqb n 1) Set
     (cond (eqb n 2) Check
     (cond (eqb n 3) Trim (cond (eqb n 4) Bill (cond (eqb n 5) Handover (cond (eqb n 6) Replay (cond (eqb n 7) ReplayAcross Other)))))))
 
-unfoldable pub deedOf : List ℕ → Deed
-deedOf s = deedBy (word (drop 0 s))
+unfoldable pub turnKindOf : List ℕ → TurnKind
+turnKindOf s = turnKindBy (le16 (drop 0 s))
 
 unfoldable pub callerAt : List ℕ → ℕ
 callerAt s = long (drop 2 s)
@@ -58,4 +58,4 @@ numbersAt s = min (long (drop 30 s)) mostNumbers
 
 -- five prices of 16 bits
 unfoldable pub tariffAt : List ℕ → Tariff
-tariffAt s = tariffOf (word (drop 34 s)) (word (drop 36 s)) (word (drop 38 s)) (word (drop 40 s)) (word (drop 42 s))
+tariffAt s = tariffOf (le16 (drop 34 s)) (le16 (drop 36 s)) (le16 (drop 38 s)) (le16 (drop 40 s)) (le16 (drop 42 s))

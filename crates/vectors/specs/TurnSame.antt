@@ -4,7 +4,7 @@ use mathlib.Core.List.{List, [], _∷_}
 use Prim.Native.Nat.{ℕ}
 use lib.Dec.{eqb}
 use lib.ListN.{take, drop}
-use Rattle.limits.specs.Numbers.{word}
+use Rattle.limits.specs.Numbers.{le16}
 use Rattle.vectors.specs.Number.{long}
 use Rattle.vectors.specs.Room.{holds}
 use Rattle.vectors.specs.Turn.{blank, mostBytes}
@@ -16,7 +16,7 @@ sameLongs (n ∷ l) s = eqb n (long s) && sameLongs l (drop 4 s)
 
 -- the code, and the service afterwards
 unfoldable pub sameService : ℕ → List ℕ → List ℕ → Bool
-sameService code service s = eqb code (word (drop 44 s)) && sameLongs service (drop 50 s)
+sameService code service s = eqb code (le16 (drop 44 s)) && sameLongs service (drop 50 s)
 
 -- all of the bytes, all of the numbers of which the front was lent
 unfoldable pub sameBytes : List ℕ → List ℕ → Bool

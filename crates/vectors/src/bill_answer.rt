@@ -1,9 +1,9 @@
 // Stored bills, and answers compared with them.
-use crate::number::long_at;
+use crate::number::u32_at;
 use crate::room::holds_numbers;
 use bill_spec::numbers::Numbers;
 use bill_spec::tariff::Tariff;
-use limits::read::word_at;
+use limits::read::u16_at;
 use verdict_record::output::Output;
 ghost use mathlib.Core.Path.{_≡_};
 ghost use Rattle.vectors.specs.BillAnswer.{tariffAt, billedAt, lentAt, codeAt, numbersAt, sameAnswer};
@@ -30,24 +30,24 @@ pub fn tariff_at(bytes: &[u8]) -> Tariff
     ensures { λ r. ⌜ r ≡ tariffAt (now (bytes .entry)) ⌝ }
 {
     Tariff {
-        start: word_at(bytes, 0) as u16,
-        step: word_at(bytes, 2) as u16,
-        taken: word_at(bytes, 4) as u16,
-        interference: word_at(bytes, 6) as u16,
-        least: word_at(bytes, 8) as u16,
+        start: u16_at(bytes, 0) as u16,
+        step: u16_at(bytes, 2) as u16,
+        taken: u16_at(bytes, 4) as u16,
+        interference: u16_at(bytes, 6) as u16,
+        least: u16_at(bytes, 8) as u16,
     }
 }
 
 pub fn billed_at(bytes: &[u8]) -> u32
     ensures { λ r. ⌜ r ≡ billedAt (now (bytes .entry)) ⌝ }
 {
-    long_at(bytes, 10) as u32
+    u32_at(bytes, 10) as u32
 }
 
 pub fn lent_at(bytes: &[u8]) -> usize
     ensures { λ r. ⌜ r ≡ lentAt (now (bytes .entry)) ⌝ }
 {
-    let n = long_at(bytes, 14);
+    let n = u32_at(bytes, 14);
     if Room::NUMBERS < n {
         return Room::NUMBERS;
     }
@@ -59,12 +59,12 @@ fn numbers_at(bytes: &[u8]) -> Numbers
 {
     Numbers {
         at: [
-            long_at(bytes, 20) as u32,
-            long_at(bytes, 24) as u32,
-            long_at(bytes, 28) as u32,
-            long_at(bytes, 32) as u32,
-            long_at(bytes, 36) as u32,
-            long_at(bytes, 40) as u32,
+            u32_at(bytes, 20) as u32,
+            u32_at(bytes, 24) as u32,
+            u32_at(bytes, 28) as u32,
+            u32_at(bytes, 32) as u32,
+            u32_at(bytes, 36) as u32,
+            u32_at(bytes, 40) as u32,
         ],
     }
 }
@@ -73,7 +73,7 @@ fn numbers_at(bytes: &[u8]) -> Numbers
 pub fn same_answer<'a, 'b>(code: u16, room: &'a [u32], bytes: &'b [u8]) -> bool
     ensures { λ r. ⌜ r ≡ sameAnswer code (now (room .entry)) (now (bytes .entry)) ⌝ }
 {
-    if code as usize != word_at(bytes, 18) {
+    if code as usize != u16_at(bytes, 18) {
         return false;
     }
     let n = numbers_at(bytes);

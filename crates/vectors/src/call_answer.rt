@@ -1,7 +1,7 @@
 // Stored answers, code and numbers, and answers compared with them.
-use crate::number::long_at;
+use crate::number::u32_at;
 use crate::room::holds_bytes;
-use limits::read::word_at;
+use limits::read::u16_at;
 use replay_machine::answer::Answer;
 use verdict_record::output::Output;
 ghost use mathlib.Core.Path.{_≡_};
@@ -41,7 +41,7 @@ pub fn blank_numbers() -> [usize; Room::NUMBERS]
 pub fn lent_at(bytes: &[u8], at: usize, most: usize) -> usize
     ensures { λ r. ⌜ r ≡ lentAt (now (bytes .entry)) at most ⌝ }
 {
-    let n = long_at(bytes, at);
+    let n = u32_at(bytes, at);
     if most < n {
         return most;
     }
@@ -58,7 +58,7 @@ fn told_number(code: u16, bytes: &[u8], i: usize) -> usize
     if Answer::SIZE <= i {
         return Room::EMPTY;
     }
-    long_at(bytes, 2 + 4 * i)
+    u32_at(bytes, 2 + 4 * i)
 }
 
 fn same_number<'a, 'b>(code: u16, room: &'a [usize], bytes: &'b [u8], i: usize) -> bool
@@ -94,7 +94,7 @@ pub fn same_answer<'a, 'b, 'c, 'd>(
     requires { ⌜ 21 ≤ length (now numbers) ⌝ }
     ensures { λ r. ⌜ r ≡ sameAnswer code (now (table .entry)) (now (numbers .entry)) (now (bytes .entry)) (now (entries .entry)) ⌝ }
 {
-    if code as usize != word_at(bytes, 0) {
+    if code as usize != u16_at(bytes, 0) {
         return false;
     }
     if holds_bytes(table, entries, Room::BLANK) {

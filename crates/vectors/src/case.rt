@@ -1,7 +1,7 @@
 // Cases read in order.
 use crate::end::End;
 use crate::end::end_after;
-use crate::number::long_at;
+use crate::number::u32_at;
 use input::Filled;
 use input::fill;
 ghost use mathlib.Core.Path.{_≡_};
@@ -50,7 +50,7 @@ pub fn read_case<'a, 'b>(fd: i32, space: &'a mut [u8], tail: &'b mut [u8]) -> Ne
 {
     let mut size = [0u8; Size::BYTES];
     match fill(fd, &mut size) {
-        Filled::Full => read_body(fd, long_at(&size, 0), space, tail),
+        Filled::Full => read_body(fd, u32_at(&size, 0), space, tail),
         Filled::Ended(n) => Next::Over(end_after(n)),
         Filled::Failed => Next::Over(End::Unread),
     }

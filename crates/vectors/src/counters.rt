@@ -3,7 +3,7 @@ use crate::end::End;
 ghost use mathlib.Core.Path.{_≡_};
 ghost use Rattle.vectors.specs.Counters.{more, noCase, withKind, withDifference, withCase};
 
-pub struct Tally {
+pub struct Counters {
     pub cases: u64,
     // How many answers there are of each kind.
     pub kinds: [u64; Kind::LIMIT],
@@ -22,7 +22,7 @@ impl Kind {
 // The whole cases before the end. (An enum holds no array, so the tally stands beside it.)
 pub struct Judged {
     pub end: End,
-    pub tally: Tally,
+    pub tally: Counters,
 }
 
 impl Judged {
@@ -37,10 +37,10 @@ pub fn more_than(n: u64) -> u64
     std::num::wrapping_add_u64(n, 1)
 }
 
-pub fn no_case() -> Tally
+pub fn no_case() -> Counters
     ensures { λ r. ⌜ r ≡ noCase ⌝ }
 {
-    Tally {
+    Counters {
         cases: 0,
         kinds: [0; Kind::LIMIT],
         differ: 0,
@@ -48,7 +48,7 @@ pub fn no_case() -> Tally
     }
 }
 
-fn with_kind(counters: Tally, kind: usize) -> Tally
+fn with_kind(counters: Counters, kind: usize) -> Counters
     ensures { λ r. ⌜ r ≡ withKind counters kind ⌝ }
 {
     let mut next = counters;
@@ -61,7 +61,7 @@ fn with_kind(counters: Tally, kind: usize) -> Tally
 }
 
 // The case counted last differs.
-fn with_difference(counters: Tally) -> Tally
+fn with_difference(counters: Counters) -> Counters
     ensures { λ r. ⌜ r ≡ withDifference counters ⌝ }
 {
     let mut next = counters;
@@ -74,7 +74,7 @@ fn with_difference(counters: Tally) -> Tally
 }
 
 // The tally with one case more: the kind of its answer, and whether that is the stored answer.
-pub fn with_case(counters: Tally, kind: usize, same: bool) -> Tally
+pub fn with_case(counters: Counters, kind: usize, same: bool) -> Counters
     ensures { λ r. ⌜ r ≡ withCase counters kind same ⌝ }
 {
     let counted = with_kind(counters, kind);

@@ -1,6 +1,6 @@
 // A tally to standard output.
+use crate::counters::Counters;
 use crate::counters::Kind;
-use crate::counters::Tally;
 use libc::STDOUT_FILENO;
 
 // A number and what it counts.
@@ -10,7 +10,7 @@ pub fn write_count(n: u64, what: &[u8]) {
 }
 
 // How many cases differ, which is the first, and a newline.
-pub fn write_differences(counters: Tally) {
+pub fn write_differences(counters: Counters) {
     write_count(counters.differ, b" differ");
     if counters.differ != 0 {
         write_first(counters.first);
@@ -33,14 +33,14 @@ fn write_code(n: u64, code: usize) {
     io::print_decimal(STDOUT_FILENO, code as u64);
 }
 
-fn write_codes(counters: Tally) {
+fn write_codes(counters: Counters) {
     for code in 0..Kind::LIMIT {
         write_code(counters.kinds[code], code);
     }
 }
 
 // The line for a file whose answers are counted by their codes.
-pub fn write_line(path: &[u8], counters: Tally) {
+pub fn write_line(path: &[u8], counters: Counters) {
     io::write_all(STDOUT_FILENO, path);
     io::write_all(STDOUT_FILENO, b": ");
     write_count(counters.cases, b" cases");

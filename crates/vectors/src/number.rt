@@ -1,5 +1,5 @@
 // Numbers of 32 bits.
-use limits::read::word_at;
+use limits::read::u16_at;
 ghost use mathlib.Core.Path.{_≡_};
 ghost use Prim.Native.Nat.{_<_, _^_};
 ghost use lib.ListN.{drop};
@@ -13,11 +13,11 @@ impl Half {
 }
 
 // The 32-bit number at a position: its low half, then its high half.
-pub fn long_at(bytes: &[u8], at: usize) -> usize
+pub fn u32_at(bytes: &[u8], at: usize) -> usize
     ensures { λ r. ⌜ (r ≡ long (drop at (now (bytes .entry)))) × (r < 2 ^ 32) ⌝ }
 {
     if bytes.len() <= at {
         return 0;
     }
-    word_at(bytes, at) + Half::NUMBERS * word_at(bytes, at + 2)
+    u16_at(bytes, at) + Half::NUMBERS * u16_at(bytes, at + 2)
 }

@@ -1,6 +1,6 @@
 // The parts of a case, in a row; how many bytes each has is stored from the front of `s` on, 32 bits each. The last part may have the
 // rest.
-use crate::number::long_at;
+use crate::number::u32_at;
 use limits::read::part;
 use limits::read::rest;
 ghost use mathlib.Core.Path.{_≡_};
@@ -9,72 +9,72 @@ ghost use Rattle.vectors.specs.Parts.{firstIn, secondOn, secondIn, third
 pub fn first_in<'a, 'b>(body: &'a [u8], bytes: &'b [u8]) -> &'a [u8]
     ensures { λ r. ⌜ now r ≡ firstIn (now (bytes .entry)) (now (body .entry)) ⌝ }
 {
-    part(body, 0, long_at(bytes, 0))
+    part(body, 0, u32_at(bytes, 0))
 }
 
 // From the second part on; and so on for the others.
 pub fn second_on<'a, 'b>(body: &'a [u8], bytes: &'b [u8]) -> &'a [u8]
     ensures { λ r. ⌜ now r ≡ secondOn (now (bytes .entry)) (now (body .entry)) ⌝ }
 {
-    rest(body, long_at(bytes, 0))
+    rest(body, u32_at(bytes, 0))
 }
 
 pub fn third_on<'a, 'b>(body: &'a [u8], bytes: &'b [u8]) -> &'a [u8]
     ensures { λ r. ⌜ now r ≡ thirdOn (now (bytes .entry)) (now (body .entry)) ⌝ }
 {
-    rest(second_on(body, bytes), long_at(bytes, 4))
+    rest(second_on(body, bytes), u32_at(bytes, 4))
 }
 
 pub fn fourth_on<'a, 'b>(body: &'a [u8], bytes: &'b [u8]) -> &'a [u8]
     ensures { λ r. ⌜ now r ≡ fourthOn (now (bytes .entry)) (now (body .entry)) ⌝ }
 {
-    rest(third_on(body, bytes), long_at(bytes, 8))
+    rest(third_on(body, bytes), u32_at(bytes, 8))
 }
 
 fn fifth_on<'a, 'b>(body: &'a [u8], bytes: &'b [u8]) -> &'a [u8]
     ensures { λ r. ⌜ now r ≡ fifthOn (now (bytes .entry)) (now (body .entry)) ⌝ }
 {
-    rest(fourth_on(body, bytes), long_at(bytes, 12))
+    rest(fourth_on(body, bytes), u32_at(bytes, 12))
 }
 
 pub fn sixth_on<'a, 'b>(body: &'a [u8], bytes: &'b [u8]) -> &'a [u8]
     ensures { λ r. ⌜ now r ≡ sixthOn (now (bytes .entry)) (now (body .entry)) ⌝ }
 {
-    rest(fifth_on(body, bytes), long_at(bytes, 16))
+    rest(fifth_on(body, bytes), u32_at(bytes, 16))
 }
 
 pub fn second_in<'a, 'b>(body: &'a [u8], bytes: &'b [u8]) -> &'a [u8]
     ensures { λ r. ⌜ now r ≡ secondIn (now (bytes .entry)) (now (body .entry)) ⌝ }
 {
-    part(second_on(body, bytes), 0, long_at(bytes, 4))
+    part(second_on(body, bytes), 0, u32_at(bytes, 4))
 }
 
 pub fn third_in<'a, 'b>(body: &'a [u8], bytes: &'b [u8]) -> &'a [u8]
     ensures { λ r. ⌜ now r ≡ thirdIn (now (bytes .entry)) (now (body .entry)) ⌝ }
 {
-    part(third_on(body, bytes), 0, long_at(bytes, 8))
+    part(third_on(body, bytes), 0, u32_at(bytes, 8))
 }
 
 pub fn fourth_in<'a, 'b>(body: &'a [u8], bytes: &'b [u8]) -> &'a [u8]
     ensures { λ r. ⌜ now r ≡ fourthIn (now (bytes .entry)) (now (body .entry)) ⌝ }
 {
-    part(fourth_on(body, bytes), 0, long_at(bytes, 12))
+    part(fourth_on(body, bytes), 0, u32_at(bytes, 12))
 }
 
 pub fn fifth_in<'a, 'b>(body: &'a [u8], bytes: &'b [u8]) -> &'a [u8]
     ensures { λ r. ⌜ now r ≡ fifthIn (now (bytes .entry)) (now (body .entry)) ⌝ }
 {
-    part(fifth_on(body, bytes), 0, long_at(bytes, 16))
+    part(fifth_on(body, bytes), 0, u32_at(bytes, 16))
 }
 
 pub fn sixth_in<'a, 'b>(body: &'a [u8], bytes: &'b [u8]) -> &'a [u8]
     ensures { λ r. ⌜ now r ≡ sixthIn (now (bytes .entry)) (now (body .entry)) ⌝ }
 {
-    part(sixth_on(body, bytes), 0, long_at(bytes, 20))
+    part(sixth_on(body, bytes), 0, u32_at(bytes, 20))
 }
 
 pub fn seventh_on<'a, 'b>(body: &'a [u8], bytes: &'b [u8]) -> &'a [u8]
     ensures { λ r. ⌜ now r ≡ seventhOn (now (bytes .entry)) (now (body .entry)) ⌝ }
 {
-    rest(sixth_on(body, bytes), long_at(bytes, 20))
+    rest(sixth_on(body, bytes), u32_at(bytes, 20))
 }

@@ -1,8 +1,8 @@
 // Images trimmed before, and answers compared with them.
-use crate::number::long_at;
+use crate::number::u32_at;
 use crate::room::holds_bytes;
 use limits::Limits;
-use limits::read::word_at;
+use limits::read::u16_at;
 ghost use mathlib.Core.Path.{_≡_};
 ghost use Rattle.vectors.specs.TrimAnswer.{lentAt, sameAnswer};
 
@@ -26,7 +26,7 @@ impl Room {
 pub fn lent_at(bytes: &[u8]) -> usize
     ensures { λ r. ⌜ r ≡ lentAt (now (bytes .entry)) ⌝ }
 {
-    let n = long_at(bytes, 0);
+    let n = u32_at(bytes, 0);
     if Room::BYTES < n {
         return Room::BYTES;
     }
@@ -43,7 +43,7 @@ pub fn same_answer<'a, 'b, 'c>(
 ) -> bool
     ensures { λ r. ⌜ r ≡ sameAnswer code written (now (room .entry)) (now (bytes .entry)) (now (trimmed .entry)) ⌝ }
 {
-    if code as usize != word_at(bytes, 4) {
+    if code as usize != u16_at(bytes, 4) {
         return false;
     }
     if written != trimmed.len() {

@@ -1,10 +1,10 @@
 // What is stored of a turn at a service: what is done and by whom, what is lent, and what is left.
-use crate::number::long_at;
+use crate::number::u32_at;
 use bill_spec::tariff::Tariff;
 use limits::read::rest;
-use limits::read::word_at;
+use limits::read::u16_at;
 ghost use mathlib.Core.Path.{_≡_};
-ghost use Rattle.vectors.specs.Turn.{deedOf, callerAt, lengthsAt, setAt, bytesAt, numbersAt, tariffAt};
+ghost use Rattle.vectors.specs.Turn.{turnKindOf, callerAt, lengthsAt, setAt, bytesAt, numbersAt, tariffAt};
 
 pub struct Stored;
 
@@ -30,7 +30,7 @@ impl Room {
 }
 
 // What is done: the service is opened, a number is set by the host, or a call is made.
-pub enum Deed {
+pub enum TurnKind {
     Open,
     Set,
     Check,
@@ -65,26 +65,26 @@ impl Number {
     pub const OTHER: usize = 8;
 }
 
-pub fn deed_at(bytes: &[u8]) -> Deed
-    ensures { λ r. ⌜ r ≡ deedOf (now (bytes .entry)) ⌝ }
+pub fn turn_kind_at(bytes: &[u8]) -> TurnKind
+    ensures { λ r. ⌜ r ≡ turnKindOf (now (bytes .entry)) ⌝ }
 {
-    match word_at(bytes, 0) {
-        0 => Deed::Open,
-        1 => Deed::Set,
-        2 => Deed::Check,
-        3 => Deed::Trim,
-        4 => Deed::Bill,
-        5 => Deed::Handover,
-        6 => Deed::Replay,
-        7 => Deed::ReplayAcross,
-        _ => Deed::Other,
+    match u16_at(bytes, 0) {
+        0 => TurnKind::Open,
+        1 => TurnKind::Set,
+        2 => TurnKind::Check,
+        3 => TurnKind::Trim,
+        4 => TurnKind::Bill,
+        5 => TurnKind::Handover,
+        6 => TurnKind::Replay,
+        7 => TurnKind::ReplayAcross,
+        _ => TurnKind::Other,
     }
 }
 
 pub fn caller_at(bytes: &[u8]) -> usize
     ensures { λ r. ⌜ r ≡ callerAt (now (bytes .entry)) ⌝ }
 {
-    long_at(bytes, 2)
+    u32_at(bytes, 2)
 }
 
 // From the lengths of the parts on that are read.
@@ -98,14 +98,14 @@ pub fn lengths_at(bytes: &[u8]) -> &[u8]
 pub fn set_at(bytes: &[u8]) -> u32
     ensures { λ r. ⌜ r ≡ setAt (now (bytes .entry)) ⌝ }
 {
-    long_at(bytes, 30) as u32
+    u32_at(bytes, 30) as u32
 }
 
 // How many bytes are lent.
 pub fn bytes_at(bytes: &[u8]) -> usize
     ensures { λ r. ⌜ r ≡ bytesAt (now (bytes .entry)) ⌝ }
 {
-    let n = long_at(bytes, 26);
+    let n = u32_at(bytes, 26);
     if Room::BYTES < n {
         return Room::BYTES;
     }
@@ -116,7 +116,7 @@ pub fn bytes_at(bytes: &[u8]) -> usize
 pub fn numbers_at(bytes: &[u8]) -> usize
     ensures { λ r. ⌜ r ≡ numbersAt (now (bytes .entry)) ⌝ }
 {
-    let n = long_at(bytes, 30);
+    let n = u32_at(bytes, 30);
     if Room::NUMBERS < n {
         return Room::NUMBERS;
     }
@@ -127,10 +127,10 @@ pub fn tariff_at(bytes: &[u8]) -> Tariff
     ensures { λ r. ⌜ r ≡ tariffAt (now (bytes .entry)) ⌝ }
 {
     Tariff {
-        start: word_at(bytes, 34) as u16,
-        step: word_at(bytes, 36) as u16,
-        taken: word_at(bytes, 38) as u16,
-        interference: word_at(bytes, 40) as u16,
-        least: word_at(bytes, 42) as u16,
+        start: u16_at(bytes, 34) as u16,
+        step: u16_at(bytes, 36) as u16,
+        taken: u16_at(bytes, 38) as u16,
+        interference: u16_at(bytes, 40) as u16,
+        least: u16_at(bytes, 42) as u16,
     }
 }

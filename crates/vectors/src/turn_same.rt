@@ -1,9 +1,9 @@
 // What a turn left, compared with what is stored of it.
-use crate::number::long_at;
+use crate::number::u32_at;
 use crate::room::holds_bytes;
 use crate::turn::Room;
 use limits::read::part;
-use limits::read::word_at;
+use limits::read::u16_at;
 ghost use mathlib.Core.Path.{_≡_};
 ghost use mathlib.Core.Bool.{_&&_};
 ghost use Prim.Native.Nat.{_<_, _+_, _^_};
@@ -17,7 +17,7 @@ fn same_longs<'a, 'b>(numbers: &'a [u32], bytes: &'b [u8], at: usize) -> bool
 {
     let mut i: usize = 0;
     while i < numbers.len() {
-        if numbers[i] != long_at(bytes, at + 4 * i) as u32 {
+        if numbers[i] != u32_at(bytes, at + 4 * i) as u32 {
             return false;
         }
         i += 1;
@@ -32,7 +32,7 @@ fn same_wide<'a, 'b>(numbers: &'a [usize], bytes: &'b [u8], at: usize) -> bool
 {
     let mut i: usize = 0;
     while i < numbers.len() {
-        if numbers[i] != long_at(bytes, at + 4 * i) {
+        if numbers[i] != u32_at(bytes, at + 4 * i) {
             return false;
         }
         i += 1;
@@ -44,7 +44,7 @@ fn same_wide<'a, 'b>(numbers: &'a [usize], bytes: &'b [u8], at: usize) -> bool
 pub fn same_service<'a, 'b>(code: u16, service: &'a [u32], bytes: &'b [u8]) -> bool
     ensures { λ r. ⌜ r ≡ sameService code (now (service .entry)) (now (bytes .entry)) ⌝ }
 {
-    if code as usize != word_at(bytes, 44) {
+    if code as usize != u16_at(bytes, 44) {
         return false;
     }
     same_longs(service, bytes, 50)
@@ -61,7 +61,7 @@ fn same_bytes<'a, 'b>(room: &'a [u8], bytes: &'b [u8]) -> bool
 fn same_written<'a, 'b>(written: usize, room: &'a [u8], bytes: &'b [u8]) -> bool
     ensures { λ r. ⌜ r ≡ sameWritten written (now (room .entry)) (now (bytes .entry)) ⌝ }
 {
-    if written != long_at(bytes, 46) {
+    if written != u32_at(bytes, 46) {
         return false;
     }
     same_bytes(room, bytes)

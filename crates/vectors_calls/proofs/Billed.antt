@@ -9,7 +9,7 @@ use lib.Seq.{length-take-le}
 use Rattle.bill_spec.specs.Promise.{Written}
 use Rattle.bill_spec.specs.declared.tariff.Tariff.{Tariff}
 use Rattle.vectors.specs.Counters.{withCase}
-use Rattle.vectors.specs.declared.counters.Tally.{Tally}
+use Rattle.vectors.specs.declared.counters.Counters.{Counters}
 use Rattle.vectors.specs.BillAnswer.{most, room, tariffAt, billedAt, lentAt, sameAnswer}
 use Rattle.vectors_calls.specs.Judge.{Billed}
 
@@ -38,7 +38,7 @@ module _ (s r : List ℕ) (n : ℕ) (e : n ≡ lentAt s) (q : r ≡ room) where
   lent-back after l = let h = lent-within s n e in let z : length r ≡ most = room-length q in
       rw (length-append after (drop n r), l, length-drop n r, z, ← lent-front) (omega arith)
 
-  pub bill-counted : (image after : List ℕ) (t u : Tally) (code : ℕ) (same : Bool)
+  pub bill-counted : (image after : List ℕ) (t u : Counters) (code : ℕ) (same : Bool)
       → Written image (tariffAt s) (billedAt s) (take n r) code after
       → same ≡ sameAnswer code (after ++ drop n r) s → u ≡ withCase t code same → Billed image s t u
   bill-counted image after t u code same w d g =

@@ -5,7 +5,7 @@ use mathlib.Core.List.{List}
 use Prim.Native.Nat.{ℕ}
 use lib.ListN.{length, take, drop}
 use Rattle.vectors.specs.Room.{holds}
-use Rattle.vectors.specs.declared.counters.Tally.{Tally}
+use Rattle.vectors.specs.declared.counters.Counters.{Counters}
 use Rattle.vectors_calls.specs.Judge.{withVerdict, Trimmed, Billed, Replayed, HandedOver, ReplayedAcross, Counted}
 use Rattle.vectors_calls.specs.Kind.{begins, trimWord, billsWord, replayWord, handoverWord, acrossWord, kindOf, tailOf}
 use Rattle.vectors_calls.specs.declared.kind.Kind.{Kind}
@@ -75,7 +75,7 @@ module _ (kind : Kind) where
 
 pub ruleset tails = (tail-verdicts, tail-trims, tail-bills, tail-replays, tail-handovers, tail-across)
 
-module _ (kind : Kind) (body s : List ℕ) (t r : Tally) where
+module _ (kind : Kind) (body s : List ℕ) (t r : Counters) where
   pub counts-verdict : kind ≡ Verdicts → r ≡ withVerdict t body s → Counted kind body s t r
   unfolding Counted
   counts-verdict e c = subst (λ k. Counted k body s t r) (sym e) c

@@ -7,7 +7,7 @@ use lib.ListN.{length, take, drop, length-append, length-drop}
 use lib.Seq.{length-take-le}
 use Rattle.verdict_record.specs.Fields.{fieldsOf}
 use Rattle.checker_spec.specs.ImageVerdict.{verdict}
-use Rattle.vectors.specs.declared.counters.Tally.{Tally}
+use Rattle.vectors.specs.declared.counters.Counters.{Counters}
 use Rattle.vectors.proofs.CounterFacts.{Running, running-none, running-more, running-over}
 use Rattle.vectors.specs.CallAnswer.{blankTable, blankNumbers, sameAnswer}
 use Rattle.vectors.specs.Parts.{secondOn, fourthOn, seventhOn}
@@ -20,7 +20,7 @@ use Rattle.vectors_calls.specs.declared.kind.Kind.{Kind}
 use Rattle.vectors_calls.specs.declared.kind.Kind.the-variants.{Verdicts, Trims, Bills, Replays, Handovers, Across}
 
 -- a call more, of whatever kind
-pub running-call : (kind : Kind) (t r : Tally) (left : ℕ) (body s : List ℕ) → 0 < left → Running t left → Counted kind body s t r
+pub running-call : (kind : Kind) (t r : Counters) (left : ℕ) (body s : List ℕ) → 0 < left → Running t left → Counted kind body s t r
     → Running r (left - 1)
 unfolding Counted withVerdict
 running-call Verdicts t r left body s h f c =

@@ -6,7 +6,7 @@ use Prim.Native.Nat.{ℕ}
 use lib.ListN.{take, drop}
 use Rattle.replay_spec.specs.Promise.{Written}
 use Rattle.vectors.specs.Counters.{withCase}
-use Rattle.vectors.specs.declared.counters.Tally.{Tally}
+use Rattle.vectors.specs.declared.counters.Counters.{Counters}
 use Rattle.vectors.specs.Parts.{firstIn, secondIn, thirdIn, fourthOn}
 use Rattle.vectors.specs.CallAnswer.{blankTable, blankNumbers, sameAnswer}
 use Rattle.vectors_calls.specs.Judge.{replayTable, replayNumbers, Replayed}
@@ -19,7 +19,7 @@ call-stored s body image trace given table answer after told code i t g w = rw (
 
 module _ (s body table numbers : List ℕ) (n m : ℕ) (d : n ≡ replayTable s) (e : m ≡ replayNumbers s) (p : table ≡ blankTable)
     (q : numbers ≡ blankNumbers) where
-  pub replay-counted : (after told stored entries : List ℕ) (t u : Tally) (code : ℕ) (same : Bool)
+  pub replay-counted : (after told stored entries : List ℕ) (t u : Counters) (code : ℕ) (same : Bool)
       → Written (firstIn s body) (secondIn s body) (thirdIn s body) (take n table) (take m numbers) code after told → stored ≡ drop 20 s
       → entries ≡ fourthOn s body
       → same ≡ sameAnswer code (after ++ drop n table) (told ++ drop m numbers) stored entries → u ≡ withCase t code same

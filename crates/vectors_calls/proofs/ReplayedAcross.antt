@@ -6,7 +6,7 @@ use Prim.Native.Nat.{ℕ}
 use lib.ListN.{take, drop}
 use Rattle.handover_replay.specs.Promise.{Written}
 use Rattle.vectors.specs.Counters.{withCase}
-use Rattle.vectors.specs.declared.counters.Tally.{Tally}
+use Rattle.vectors.specs.declared.counters.Counters.{Counters}
 use Rattle.vectors.specs.Parts.{firstIn, secondIn, thirdIn, fourthIn, fifthIn, sixthIn, seventhOn}
 use Rattle.vectors.specs.CallAnswer.{blankTable, blankNumbers, sameAnswer}
 use Rattle.vectors_calls.specs.Judge.{acrossTable, acrossNumbers, ReplayedAcross}
@@ -21,7 +21,7 @@ call-stored s body old new points first second given table answer after told cod
 
 module _ (s body table numbers : List ℕ) (n m : ℕ) (d : n ≡ acrossTable s) (e : m ≡ acrossNumbers s) (p : table ≡ blankTable)
     (q : numbers ≡ blankNumbers) where
-  pub across-counted : (after told stored entries : List ℕ) (t u : Tally) (code : ℕ) (same : Bool)
+  pub across-counted : (after told stored entries : List ℕ) (t u : Counters) (code : ℕ) (same : Bool)
       → Written (firstIn s body) (secondIn s body) (thirdIn s body) (fourthIn s body) (fifthIn s body) (sixthIn s body) (take n table)
       (take m numbers) code after told → stored ≡ drop 32 s → entries ≡ seventhOn s body
       → same ≡ sameAnswer code (after ++ drop n table) (told ++ drop m numbers) stored entries → u ≡ withCase t code same

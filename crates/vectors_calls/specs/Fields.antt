@@ -4,22 +4,22 @@ use mathlib.Core.List.{List}
 use Prim.Native.Nat.{ℕ}
 use lib.Dec.{eqb}
 use lib.ListN.{drop}
-use Rattle.limits.specs.Numbers.{word}
+use Rattle.limits.specs.Numbers.{le16}
 use Rattle.verdict_record.specs.declared.verdict.Fields.{Fields}
 
 -- nine numbers of 16 bits
 unfoldable pub fieldsAt : List ℕ → Fields
 fieldsAt s =
     record {
-      code = word (drop 0 s);
-      «record» = word (drop 2 s);
-      class = word (drop 4 s);
-      thread = word (drop 6 s);
-      point = word (drop 8 s);
-      «other_thread» = word (drop 10 s);
-      «other_point» = word (drop 12 s);
-      line = word (drop 14 s);
-      count = word (drop 16 s);
+      code = le16 (drop 0 s);
+      «record» = le16 (drop 2 s);
+      class = le16 (drop 4 s);
+      thread = le16 (drop 6 s);
+      point = le16 (drop 8 s);
+      «other_thread» = le16 (drop 10 s);
+      «other_point» = le16 (drop 12 s);
+      line = le16 (drop 14 s);
+      count = le16 (drop 16 s);
     }
 
 -- from the class to the other point

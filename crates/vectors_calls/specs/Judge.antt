@@ -5,7 +5,7 @@ use mathlib.Core.List.{List, _++_}
 use Prim.Native.Nat.{ℕ}
 use lib.Dec.{eqb}
 use lib.ListN.{take, drop}
-use Rattle.limits.specs.Numbers.{word}
+use Rattle.limits.specs.Numbers.{le16}
 use Rattle.verdict_record.specs.Fields.{fieldsOf}
 use Rattle.checker_spec.specs.ImageVerdict.{verdict}
 use Rattle.trim.specs.Promise as Trimming
@@ -14,7 +14,7 @@ use Rattle.replay_spec.specs.Promise as Replay
 use Rattle.handover_spec.specs.Promise as Handover
 use Rattle.handover_replay.specs.Promise as Across
 use Rattle.vectors.specs.Counters.{withCase}
-use Rattle.vectors.specs.declared.counters.Tally.{Tally}
+use Rattle.vectors.specs.declared.counters.Counters.{Counters}
 use Rattle.vectors.specs.CallAnswer.{mostBytes, mostNumbers, blankTable, blankNumbers, lentAt, sameAnswer}
 use Rattle.vectors.specs.Parts.{firstIn, secondOn, secondIn, thirdOn, thirdIn, fourthOn, fourthIn, fifthIn, sixthIn, seventhOn}
 use Rattle.vectors.specs.TrimAnswer as Trims
@@ -24,7 +24,7 @@ use Rattle.vectors_calls.specs.declared.kind.Kind.{Kind}
 use Rattle.vectors_calls.specs.declared.kind.Kind.the-variants as Kinds
 
 -- of an image: all nine fields of its verdict are compared
-unfoldable pub withVerdict : Tally → List ℕ → List ℕ → Tally
+unfoldable pub withVerdict : Counters → List ℕ → List ℕ → Counters
 withVerdict t image s = withCase t (fieldsOf (verdict image) .code) (sameFields (fieldsOf (verdict image)) (fieldsAt s))
 
 -- how many bytes of table and how many numbers are lent for a replay, and for one across a handover
@@ -42,12 +42,12 @@ acrossNumbers s = lentAt s 28 mostNumbers
 
 -- the code of a handover, and the stored one
 unfoldable pub sameCode : ℕ → List ℕ → Bool
-sameCode code s = eqb code (word (drop 8 s))
+sameCode code s = eqb code (le16 (drop 8 s))
 
 -- of the body of a case and what is stored behind it
-module _ (body s : List ℕ) (t : Tally) where
+module _ (body s : List ℕ) (t : Counters) where
   -- code, length and room
-  pub record Trimmed (r : Tally) : Type 0 where
+  pub record Trimmed (r : Counters) : Type 0 where
     pub code : ℕ
     pub written : ℕ
     pub after : List ℕ
@@ -56,14 +56,14 @@ module _ (body s : List ℕ) (t : Tally) where
         (secondOn s body))
 
   -- code and room
-  pub record Billed (r : Tally) : Type 0 where
+  pub record Billed (r : Counters) : Type 0 where
     pub code : ℕ
     pub after : List ℕ
     pub called : Billing.Written body (Bills.tariffAt s) (Bills.billedAt s) (take (Bills.lentAt s) Bills.room) code after
     pub counted : r ≡ withCase t code (Bills.sameAnswer code (after ++ drop (Bills.lentAt s) Bills.room) s)
 
   -- code, table and numbers
-  pub record Replayed (r : Tally) : Type 0 where
+  pub record Replayed (r : Counters) : Type 0 where
     pub code : ℕ
     pub after : List ℕ
     pub told : List ℕ
@@ -72,12 +72,12 @@ module _ (body s : List ℕ) (t : Tally) where
     pub counted : r ≡ withCase t code (sameAnswer code (after ++ drop (replayTable s) blankTable)
         (told ++ drop (replayNumbers s) blankNumbers) (drop 20 s) (fourthOn s body))
 
-  pub record HandedOver (r : Tally) : Type 0 where
+  pub record HandedOver (r : Counters) : Type 0 where
     pub code : ℕ
     pub called : Handover.Promise (firstIn s body) (secondIn s body) (thirdOn s body) code
     pub counted : r ≡ withCase t code (sameCode code s)
 
-  pub record ReplayedAcross (r : Tally) : Type 0 where
+  pub record ReplayedAcross (r : Counters) : Type 0 where
     pub code : ℕ
     pub after : List ℕ
     pub told : List ℕ
@@ -87,7 +87,7 @@ module _ (body s : List ℕ) (t : Tally) where
         (told ++ drop (acrossNumbers s) blankNumbers) (drop 32 s) (seventhOn s body))
 
 -- by the kind of call
-unfoldable pub Counted : Kind → List ℕ → List ℕ → Tally → Tally → Type 0
+unfoldable pub Counted : Kind → List ℕ → List ℕ → Counters → Counters → Type 0
 Counted Kinds.Verdicts image s t r = r ≡ withVerdict t image s
 Counted Kinds.Trims body s t r = Trimmed body s t r
 Counted Kinds.Bills image s t r = Billed image s t r

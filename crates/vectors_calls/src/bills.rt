@@ -5,7 +5,7 @@ use vectors::bill_answer::billed_at;
 use vectors::bill_answer::lent_at;
 use vectors::bill_answer::same_answer;
 use vectors::bill_answer::tariff_at;
-use vectors::counters::Tally;
+use vectors::counters::Counters;
 use vectors::counters::with_case;
 ghost use mathlib.Core.Path.{_≡_};
 ghost use Rattle.bill_spec.specs.Promise.{Written};
@@ -27,7 +27,7 @@ fn blank_room() -> [u32; Room::NUMBERS]
 }
 
 // The tally with a bill more, by its code, and whether it is the stored one.
-pub fn with_bill<'a, 'b>(counters: Tally, image: &'a [u8], bytes: &'b [u8]) -> Tally
+pub fn with_bill<'a, 'b>(counters: Counters, image: &'a [u8], bytes: &'b [u8]) -> Counters
     ensures { λ r. ⌜ Billed (now (image .entry)) (now (bytes .entry)) counters r ⌝ }
 {
     let mut lent = blank_room();

@@ -1,5 +1,5 @@
 // Stored verdicts, and verdicts compared.
-use limits::read::word_at;
+use limits::read::u16_at;
 use verdict_record::verdict::Fields;
 ghost use mathlib.Core.Path.{_≡_};
 ghost use Rattle.vectors_calls.specs.Fields.{fieldsAt, samePlace, sameFields};
@@ -8,15 +8,15 @@ pub fn fields_at(bytes: &[u8]) -> Fields
     ensures { λ r. ⌜ r ≡ fieldsAt (now (bytes .entry)) ⌝ }
 {
     Fields {
-        code: word_at(bytes, 0) as u16,
-        record: word_at(bytes, 2),
-        class: word_at(bytes, 4),
-        thread: word_at(bytes, 6),
-        point: word_at(bytes, 8),
-        other_thread: word_at(bytes, 10),
-        other_point: word_at(bytes, 12),
-        line: word_at(bytes, 14),
-        count: word_at(bytes, 16),
+        code: u16_at(bytes, 0) as u16,
+        record: u16_at(bytes, 2),
+        class: u16_at(bytes, 4),
+        thread: u16_at(bytes, 6),
+        point: u16_at(bytes, 8),
+        other_thread: u16_at(bytes, 10),
+        other_point: u16_at(bytes, 12),
+        line: u16_at(bytes, 14),
+        count: u16_at(bytes, 16),
     }
 }
 

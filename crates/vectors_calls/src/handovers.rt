@@ -1,7 +1,7 @@
 // Stored handovers: both images and the table as the body, lengths and code as the tail.
 use handover::entry::check_handover;
-use limits::read::word_at;
-use vectors::counters::Tally;
+use limits::read::u16_at;
+use vectors::counters::Counters;
 use vectors::counters::with_case;
 use vectors::parts::first_in;
 use vectors::parts::second_in;
@@ -26,11 +26,11 @@ fn code_of_stored<'a, 'b>(body: &'a [u8], bytes: &'b [u8]) -> u16
 fn same_code(code: u16, bytes: &[u8]) -> bool
     ensures { λ r. ⌜ r ≡ sameCode code (now (bytes .entry)) ⌝ }
 {
-    code as usize == word_at(bytes, 8)
+    code as usize == u16_at(bytes, 8)
 }
 
 // The tally with a handover more, by its code, and whether that is the stored one.
-pub fn with_handover<'a, 'b>(counters: Tally, body: &'a [u8], bytes: &'b [u8]) -> Tally
+pub fn with_handover<'a, 'b>(counters: Counters, body: &'a [u8], bytes: &'b [u8]) -> Counters
     ensures { λ r. ⌜ HandedOver (now (body .entry)) (now (bytes .entry)) counters r ⌝ }
 {
     let code = code_of_stored(body, bytes);

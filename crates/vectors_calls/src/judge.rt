@@ -10,8 +10,8 @@ use crate::trims::with_trimmed;
 use crate::verdicts::with_verdict;
 use vectors::case::Next;
 use vectors::case::read_case;
+use vectors::counters::Counters;
 use vectors::counters::Judged;
-use vectors::counters::Tally;
 use vectors::counters::no_case;
 use vectors::end::End;
 use vectors::space::space_for_body;
@@ -19,7 +19,7 @@ ghost use Rattle.vectors.specs.CasesCounted.{FromCases};
 ghost use Rattle.vectors_calls.specs.Judge.{Counted};
 
 // The tally with a call more, by the code answered, and whether the answer is the stored one.
-fn with_call<'a, 'b>(kind: Kind, counters: Tally, body: &'a [u8], bytes: &'b [u8]) -> Tally
+fn with_call<'a, 'b>(kind: Kind, counters: Counters, body: &'a [u8], bytes: &'b [u8]) -> Counters
     ensures { λ r. ⌜ Counted kind (now (body .entry)) (now (bytes .entry)) counters r ⌝ }
 {
     match kind {

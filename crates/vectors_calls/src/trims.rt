@@ -1,7 +1,7 @@
 // Stored trimmed images: an image and what it is trimmed to as the body, lengths and code as the tail.
 use limits::read::rest;
 use trim::entry::trim_image;
-use vectors::counters::Tally;
+use vectors::counters::Counters;
 use vectors::counters::with_case;
 use vectors::parts::first_in;
 use vectors::parts::second_on;
@@ -19,7 +19,7 @@ fn blank_room() -> [u8; Room::BYTES]
 }
 
 // The tally with a trimmed image more, by its code, and whether it is the stored one.
-pub fn with_trimmed<'a, 'b>(counters: Tally, body: &'a [u8], bytes: &'b [u8]) -> Tally
+pub fn with_trimmed<'a, 'b>(counters: Counters, body: &'a [u8], bytes: &'b [u8]) -> Counters
     ensures { λ r. ⌜ Trimmed (now (body .entry)) (now (bytes .entry)) counters r ⌝ }
 {
     let mut lent = blank_room();

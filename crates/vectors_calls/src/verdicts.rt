@@ -2,14 +2,14 @@
 use crate::fields::fields_at;
 use crate::fields::same_fields;
 use checker::judge::judge;
-use vectors::counters::Tally;
+use vectors::counters::Counters;
 use vectors::counters::with_case;
 use verdict_record::verdict::fields_of;
 ghost use mathlib.Core.Path.{_≡_};
 ghost use Rattle.vectors_calls.specs.Judge.{withVerdict};
 
 // The tally with a verdict more, by its code, and whether it is the stored one.
-pub fn with_verdict<'a, 'b>(counters: Tally, image: &'a [u8], bytes: &'b [u8]) -> Tally
+pub fn with_verdict<'a, 'b>(counters: Counters, image: &'a [u8], bytes: &'b [u8]) -> Counters
     ensures { λ r. ⌜ r ≡ withVerdict counters (now (image .entry)) (now (bytes .entry)) ⌝ }
 {
     let fields = fields_of(judge(image));

@@ -6,13 +6,13 @@ use Prim.Native.Nat.{ℕ}
 use lib.Dec.{eqb}
 use lib.ListN.{getD, drop}
 use borrow.Author.Tests.{eq-eqb, ne-eqb}
-use Rattle.limits.specs.Numbers.{word}
+use Rattle.limits.specs.Numbers.{le16}
 use Rattle.formula.specs.Reader.{readingOf}
 use Rattle.formula.specs.declared.reader.Counts.{Counts}
 use Rattle.formula.specs.declared.reader.Reading.{Reading}
 use Rattle.formula.specs.declared.reader.Reading.the-variants.{Formula, Fault}
 use Rattle.vectors.specs.Counters.{withCase}
-use Rattle.vectors.specs.declared.counters.Tally.{Tally}
+use Rattle.vectors.specs.declared.counters.Counters.{Counters}
 use Rattle.vectors_formulas.specs.Answer.{kindOf, isAnswer}
 use Rattle.vectors_formulas.specs.Judge.{countsAt, withFormula}
 
@@ -49,8 +49,8 @@ pub counts-read : (s : List ℕ) (a b c d : ℕ) → a ≡ getD s 0 0 → b ≡ 
 unfolding countsAt
 counts-read s a b c d ea eb ec ed = rw (ea, eb, ec, ed)
 
-pub formula-counted : (t q : Tally) (body s : List ℕ) (n : Counts) (r : Reading) (a b k : ℕ) (same : Bool) → n ≡ countsAt s
-    → r ≡ readingOf body n → a ≡ word (drop 4 s)
-    → b ≡ word (drop 6 s) → same ≡ isAnswer r a b → k ≡ kindOf r → q ≡ withCase t k same → q ≡ withFormula t body s
+pub formula-counted : (t q : Counters) (body s : List ℕ) (n : Counts) (r : Reading) (a b k : ℕ) (same : Bool) → n ≡ countsAt s
+    → r ≡ readingOf body n → a ≡ le16 (drop 4 s)
+    → b ≡ le16 (drop 6 s) → same ≡ isAnswer r a b → k ≡ kindOf r → q ≡ withCase t k same → q ≡ withFormula t body s
 unfolding withFormula
 formula-counted t q body s n r a b k same en er ea eb es ek eq = rw (← en, ← er, ← ea, ← eb, ← es, ← ek) eq

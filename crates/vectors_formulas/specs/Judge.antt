@@ -2,11 +2,11 @@
 use mathlib.Core.List.{List}
 use Prim.Native.Nat.{ℕ}
 use lib.ListN.{getD, drop}
-use Rattle.limits.specs.Numbers.{word}
+use Rattle.limits.specs.Numbers.{le16}
 use Rattle.formula.specs.Reader.{readingOf}
 use Rattle.formula.specs.declared.reader.Counts.{Counts}
 use Rattle.vectors.specs.Counters.{withCase}
-use Rattle.vectors.specs.declared.counters.Tally.{Tally}
+use Rattle.vectors.specs.declared.counters.Counters.{Counters}
 use Rattle.vectors_formulas.specs.Answer.{kindOf, isAnswer}
 
 -- threads, words, registers and the range, a byte each
@@ -14,6 +14,6 @@ unfoldable pub countsAt : List ℕ → Counts
 countsAt s = record { threads = getD s 0 0; words = getD s 1 0; registers = getD s 2 0; values = getD s 3 0 }
 
 -- by the reading's kind, and by whether it is the stored one
-unfoldable pub withFormula : Tally → List ℕ → List ℕ → Tally
+unfoldable pub withFormula : Counters → List ℕ → List ℕ → Counters
 withFormula t body s = withCase t (kindOf (readingOf body (countsAt s)))
-    (isAnswer (readingOf body (countsAt s)) (word (drop 4 s)) (word (drop 6 s)))
+    (isAnswer (readingOf body (countsAt s)) (le16 (drop 4 s)) (le16 (drop 6 s)))

@@ -5,11 +5,11 @@ use crate::answer::kind_of;
 use formula::reader::Counts;
 use formula::reader::read_formula;
 use limits::read::byte_at;
-use limits::read::word_at;
+use limits::read::u16_at;
 use vectors::case::Next;
 use vectors::case::read_case;
+use vectors::counters::Counters;
 use vectors::counters::Judged;
-use vectors::counters::Tally;
 use vectors::counters::no_case;
 use vectors::counters::with_case;
 use vectors::end::End;
@@ -35,11 +35,11 @@ fn counts_at(bytes: &[u8]) -> Counts
 }
 
 // The tally with a formula more, and whether its reading is the stored one.
-fn with_formula<'a, 'b>(counters: Tally, body: &'a [u8], stored: &'b [u8]) -> Tally
+fn with_formula<'a, 'b>(counters: Counters, body: &'a [u8], stored: &'b [u8]) -> Counters
     ensures { λ r. ⌜ r ≡ withFormula counters (now (body .entry)) (now (stored .entry)) ⌝ }
 {
     let reading = read_formula(body, counts_at(stored));
-    let same = is_answer(reading, word_at(stored, 4), word_at(stored, 6));
+    let same = is_answer(reading, u16_at(stored, 4), u16_at(stored, 6));
     with_case(counters, kind_of(reading), same)
 }
 

@@ -1,11 +1,11 @@
 // What the program writes.
 use formula::code::Place;
 use formula::reader::Fault;
-use vectors::counters::Tally;
+use vectors::counters::Counters;
 use vectors::counters_line::write_count;
 use vectors::counters_line::write_differences;
 
-pub fn write_line(counters: Tally) {
+pub fn write_line(counters: Counters) {
     write_count(counters.cases, b" cases: ");
     write_count(counters.kinds[Place::VALUE as usize], b" values, ");
     write_count(counters.kinds[Place::TEST as usize], b" tests, ");

@@ -11,12 +11,12 @@ use Rattle.bill_spec.specs.declared.tariff.Tariff.{Tariff}
 use Rattle.service_spec.specs.Opening.{openingCode, serviceFor}
 use Rattle.service_spec.specs.Promise.{CheckServed, TrimServed, BillServed, HandoverServed, ReplayServed, AcrossServed}
 use Rattle.vectors.specs.Counters.{withCase}
-use Rattle.vectors.specs.declared.counters.Tally.{Tally}
+use Rattle.vectors.specs.declared.counters.Counters.{Counters}
 use Rattle.vectors.proofs.CounterFacts.{Running, running-none, running-more, running-over}
 use Rattle.vectors.specs.Parts.{firstIn, secondIn, thirdIn, fourthIn, fifthIn, sixthOn}
-use Rattle.vectors.specs.declared.turn.Deed.{Deed}
-use Rattle.vectors.specs.declared.turn.Deed.the-variants.{Open, Set, Check, Trim, Bill, Handover, Replay, ReplayAcross, Other}
-use Rattle.vectors.specs.Turn.{mostBytes, mostNumbers, bytes, numbers, deedOf, callerAt, lengthsAt, setAt, bytesAt, numbersAt, tariffAt}
+use Rattle.vectors.specs.declared.turn.TurnKind.{TurnKind}
+use Rattle.vectors.specs.declared.turn.TurnKind.the-variants.{Open, Set, Check, Trim, Bill, Handover, Replay, ReplayAcross, Other}
+use Rattle.vectors.specs.Turn.{mostBytes, mostNumbers, bytes, numbers, turnKindOf, callerAt, lengthsAt, setAt, bytesAt, numbersAt, tariffAt}
 use Rattle.vectors.specs.TurnSame.{sameService, sameVerdict, sameTrimmed, sameBill, sameReplay}
 use Rattle.vectors_service.specs.Judge.{numberSet, Opened, Changed, Checked, Trimmed, Billed, HandedOver, Replayed, ReplayedAcross, Counted, opened, changed, checked, trimmed, billed, handed, replayed, across, other}
 
@@ -57,13 +57,13 @@ module _ (s r : List ℕ) (n : ℕ) (e : n ≡ bytesAt s) (q : r ≡ bytes) wher
   pub bytes-back : (after : List ℕ) → length after ≡ length (take n r) → mostBytes ≡ length (after ++ drop n r)
   bytes-back = whole-length r n mostBytes (bytes-length q) (bytes-within s n e)
 
-  pub checked-counted : (service image after : List ℕ) (t u : Tally) (c code : ℕ) (same : Bool) → c ≡ callerAt s
+  pub checked-counted : (service image after : List ℕ) (t u : Counters) (c code : ℕ) (same : Bool) → c ≡ callerAt s
       → CheckServed service c image (take n r) code after
       → same ≡ sameVerdict code service (after ++ drop n r) s → u ≡ withCase t 2 same → Checked service image s t u
   checked-counted service image after t u c code same d w y g =
       record { code = code; after = after; served = rw (← d, ← e, ← q) w; counted = rw (← e, ← q, ← y) g }
 
-  pub trimmed-counted : (service image after : List ℕ) (t u : Tally) (c code written : ℕ) (same : Bool) → c ≡ callerAt s
+  pub trimmed-counted : (service image after : List ℕ) (t u : Counters) (c code written : ℕ) (same : Bool) → c ≡ callerAt s
       → TrimServed service c image (take n r) code written after → same ≡ sameTrimmed code service written (after ++ drop n r) s
       → u ≡ withCase t 3 same
       → Trimmed service image s t u
@@ -80,7 +80,7 @@ module _ (s r : List ℕ) (n : ℕ) (e : n ≡ numbersAt s) (q : r ≡ numbers) 
   pub numbers-back : (after : List ℕ) → length after ≡ length (take n r) → mostNumbers ≡ length (after ++ drop n r)
   numbers-back = whole-length r n mostNumbers (numbers-length q) (numbers-within s n e)
 
-  pub billed-counted : (service image left after : List ℕ) (t u : Tally) (code : ℕ) (same : Bool)
+  pub billed-counted : (service image left after : List ℕ) (t u : Counters) (code : ℕ) (same : Bool)
       → BillServed service (callerAt s) image (tariffAt s) (take n r) left code after → same ≡ sameBill code left (after ++ drop n r) s
       → u ≡ withCase t 4 same
       → Billed service image s t left u
@@ -110,13 +110,13 @@ module _ (service body s n : List ℕ) (c : ℕ) (k : n ≡ lengthsAt s) (d : c 
       (fourthIn (lengthsAt s) body) (fifthIn (lengthsAt s) body) (sixthOn (lengthsAt s) body) table answer code after told
   across-called u v g table answer after told code eu ev eg w = rw (← d, ← k, ← ex, ← ey, ← ez, ← eu, ← ev, ← eg) w
 
-pub handover-counted : (service body s : List ℕ) (t u : Tally) (code : ℕ) (same : Bool)
+pub handover-counted : (service body s : List ℕ) (t u : Counters) (code : ℕ) (same : Bool)
     → HandoverServed service (callerAt s) (firstIn (lengthsAt s) body) (secondIn (lengthsAt s) body) (thirdIn (lengthsAt s) body) code
     → same ≡ sameService code service s → u ≡ withCase t 5 same → HandedOver service body s t u
 handover-counted service body s t u code same w y g = record { code = code; served = w; counted = rw (← y) g }
 
 module _ (s table numbers′ : List ℕ) (n m : ℕ) (d : n ≡ bytesAt s) (e : m ≡ numbersAt s) (p : table ≡ bytes) (q : numbers′ ≡ numbers) where
-  pub replay-counted : (service body after told : List ℕ) (t u : Tally) (code : ℕ) (same : Bool)
+  pub replay-counted : (service body after told : List ℕ) (t u : Counters) (code : ℕ) (same : Bool)
       → ReplayServed service (callerAt s) (firstIn (lengthsAt s) body) (secondIn (lengthsAt s) body) (thirdIn (lengthsAt s) body)
       (take n table) (take m numbers′) code after told
       → same ≡ sameReplay code service (after ++ drop n table) (told ++ drop m numbers′) s → u ≡ withCase t 6 same
@@ -124,7 +124,7 @@ module _ (s table numbers′ : List ℕ) (n m : ℕ) (d : n ≡ bytesAt s) (e : 
   replay-counted service body after told t u code same w y g =
       record { code = code; after = after; told = told; served = rw (← d, ← e, ← p, ← q) w; counted = rw (← d, ← e, ← p, ← q, ← y) g }
 
-  pub across-counted : (service body after told : List ℕ) (t u : Tally) (code : ℕ) (same : Bool)
+  pub across-counted : (service body after told : List ℕ) (t u : Counters) (code : ℕ) (same : Bool)
       → AcrossServed service (callerAt s) (firstIn (lengthsAt s) body) (secondIn (lengthsAt s) body) (thirdIn (lengthsAt s) body)
       (fourthIn (lengthsAt s) body) (fifthIn (lengthsAt s) body) (sixthOn (lengthsAt s) body) (take n table) (take m numbers′) code
       after told
@@ -133,12 +133,12 @@ module _ (s table numbers′ : List ℕ) (n m : ℕ) (d : n ≡ bytesAt s) (e : 
   across-counted service body after told t u code same w y g =
       record { code = code; after = after; told = told; served = rw (← d, ← e, ← p, ← q) w; counted = rw (← d, ← e, ← p, ← q, ← y) g }
 
-pub opened-counted : (service rights s left : List ℕ) (t u : Tally) (code : ℕ) (same : Bool) → code ≡ openingCode service
+pub opened-counted : (service rights s left : List ℕ) (t u : Counters) (code : ℕ) (same : Bool) → code ≡ openingCode service
     → left ≡ serviceFor rights service
     → same ≡ sameService code left s → u ≡ withCase t 0 same → Opened service rights s t left u
 opened-counted service rights s left t u code same d l y g = record { opened = l; counted = rw (← d, ← y) g }
 
-pub changed-counted : (service s left : List ℕ) (t u : Tally) (c n : ℕ) (same : Bool) → c ≡ callerAt s → n ≡ setAt s
+pub changed-counted : (service s left : List ℕ) (t u : Counters) (c n : ℕ) (same : Bool) → c ≡ callerAt s → n ≡ setAt s
     → left ≡ numberSet service c n
     → same ≡ sameService 0 left s → u ≡ withCase t 1 same → Changed service s t left u
 changed-counted service s left t u c n same d m l y g = record { changed = rw (← d, ← m) l; counted = rw (← y) g }
@@ -146,7 +146,7 @@ changed-counted service s left t u c n same d m l y g = record { changed = rw (�
 pub ruleset lending = (bytes-fit, bytes-front, bytes-back, numbers-fit, numbers-front, numbers-back)
 
 -- by what is done
-module _ (service body s left : List ℕ) (t u : Tally) (d : Deed) (e : d ≡ deedOf s) where
+module _ (service body s left : List ℕ) (t u : Counters) (d : TurnKind) (e : d ≡ turnKindOf s) where
   pub turn-opened : d ≡ Open → Opened service body s t left u → Counted service body s t left u
   turn-opened h c = opened (rw (← e) h) c
 
@@ -186,7 +186,7 @@ pub ruleset turns = (
   turn-other,
 )
 
-pub running-turn : (t r : Tally) (more : ℕ) (service body s left : List ℕ) → 0 < more → Running t more → Counted service body s t left r
+pub running-turn : (t r : Counters) (more : ℕ) (service body s left : List ℕ) → 0 < more → Running t more → Counted service body s t left r
     → Running r (more - 1)
 running-turn t r more service body s left h f (opened d c) =
     running-more t r more 0 (sameService (openingCode service) left s) h f (c .counted)

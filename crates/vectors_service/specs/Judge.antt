@@ -8,10 +8,10 @@ use lib.ListN.{length, take, drop, set}
 use Rattle.service_spec.specs.Opening.{openingCode, serviceFor}
 use Rattle.service_spec.specs.Promise.{CheckServed, TrimServed, BillServed, HandoverServed, ReplayServed, AcrossServed}
 use Rattle.vectors.specs.Counters.{withCase}
-use Rattle.vectors.specs.declared.counters.Tally.{Tally}
+use Rattle.vectors.specs.declared.counters.Counters.{Counters}
 use Rattle.vectors.specs.Parts.{firstIn, secondIn, thirdIn, fourthIn, fifthIn, sixthOn}
-use Rattle.vectors.specs.declared.turn.Deed.the-variants.{Open, Set, Check, Trim, Bill, Handover, Replay, ReplayAcross, Other}
-use Rattle.vectors.specs.Turn.{deedOf, callerAt, lengthsAt, setAt, bytes, numbers, bytesAt, numbersAt, tariffAt}
+use Rattle.vectors.specs.declared.turn.TurnKind.the-variants.{Open, Set, Check, Trim, Bill, Handover, Replay, ReplayAcross, Other}
+use Rattle.vectors.specs.Turn.{turnKindOf, callerAt, lengthsAt, setAt, bytes, numbers, bytesAt, numbersAt, tariffAt}
 use Rattle.vectors.specs.TurnSame.{sameService, sameVerdict, sameTrimmed, sameBill, sameReplay}
 
 -- the number of a caller set by the host
@@ -19,38 +19,38 @@ unfoldable pub numberSet : List ℕ → ℕ → ℕ → List ℕ
 numberSet service caller n = cond (ltb 8 caller) service (cond (leb (length service) (7 + caller)) service (set service (7 + caller) n))
 
 -- of a service, what is read, what is stored, and the tally before: what is left of the service, and the tally
-module _ (service body s : List ℕ) (t : Tally) where
-  pub record Opened (left : List ℕ) (r : Tally) : Type 0 where
+module _ (service body s : List ℕ) (t : Counters) where
+  pub record Opened (left : List ℕ) (r : Counters) : Type 0 where
     pub opened : left ≡ serviceFor body service
     pub counted : r ≡ withCase t 0 (sameService (openingCode service) left s)
 
-  pub record Checked (r : Tally) : Type 0 where
+  pub record Checked (r : Counters) : Type 0 where
     pub code : ℕ
     pub after : List ℕ
     pub served : CheckServed service (callerAt s) body (take (bytesAt s) bytes) code after
     pub counted : r ≡ withCase t 2 (sameVerdict code service (after ++ drop (bytesAt s) bytes) s)
 
-  pub record Trimmed (r : Tally) : Type 0 where
+  pub record Trimmed (r : Counters) : Type 0 where
     pub code : ℕ
     pub written : ℕ
     pub after : List ℕ
     pub served : TrimServed service (callerAt s) body (take (bytesAt s) bytes) code written after
     pub counted : r ≡ withCase t 3 (sameTrimmed code service written (after ++ drop (bytesAt s) bytes) s)
 
-  pub record Billed (left : List ℕ) (r : Tally) : Type 0 where
+  pub record Billed (left : List ℕ) (r : Counters) : Type 0 where
     pub code : ℕ
     pub after : List ℕ
     pub served : BillServed service (callerAt s) body (tariffAt s) (take (numbersAt s) numbers) left code after
     pub counted : r ≡ withCase t 4 (sameBill code left (after ++ drop (numbersAt s) numbers) s)
 
   -- the parts that are read, by their lengths
-  pub record HandedOver (r : Tally) : Type 0 where
+  pub record HandedOver (r : Counters) : Type 0 where
     pub code : ℕ
     pub served : HandoverServed service (callerAt s) (firstIn (lengthsAt s) body) (secondIn (lengthsAt s) body)
         (thirdIn (lengthsAt s) body) code
     pub counted : r ≡ withCase t 5 (sameService code service s)
 
-  pub record Replayed (r : Tally) : Type 0 where
+  pub record Replayed (r : Counters) : Type 0 where
     pub code : ℕ
     pub after : List ℕ
     pub told : List ℕ
@@ -58,7 +58,7 @@ module _ (service body s : List ℕ) (t : Tally) where
         (take (bytesAt s) bytes) (take (numbersAt s) numbers) code after told
     pub counted : r ≡ withCase t 6 (sameReplay code service (after ++ drop (bytesAt s) bytes) (told ++ drop (numbersAt s) numbers) s)
 
-  pub record ReplayedAcross (r : Tally) : Type 0 where
+  pub record ReplayedAcross (r : Counters) : Type 0 where
     pub code : ℕ
     pub after : List ℕ
     pub told : List ℕ
@@ -67,18 +67,18 @@ module _ (service body s : List ℕ) (t : Tally) where
         (take (bytesAt s) bytes) (take (numbersAt s) numbers) code after told
     pub counted : r ≡ withCase t 7 (sameReplay code service (after ++ drop (bytesAt s) bytes) (told ++ drop (numbersAt s) numbers) s)
 
-pub record Changed (service s : List ℕ) (t : Tally) (left : List ℕ) (r : Tally) : Type 0 where
+pub record Changed (service s : List ℕ) (t : Counters) (left : List ℕ) (r : Counters) : Type 0 where
   pub changed : left ≡ numberSet service (callerAt s) (setAt s)
   pub counted : r ≡ withCase t 1 (sameService 0 left s)
 
 -- by the number of what is done; another number differs from all that is stored
-pub data Counted (service body s : List ℕ) (t : Tally) (left : List ℕ) (r : Tally) : Type 0 where
-  opened : deedOf s ≡ Open → Opened service body s t left r → Counted service body s t left r
-  changed : deedOf s ≡ Set → Changed service s t left r → Counted service body s t left r
-  checked : deedOf s ≡ Check → left ≡ service → Checked service body s t r → Counted service body s t left r
-  trimmed : deedOf s ≡ Trim → left ≡ service → Trimmed service body s t r → Counted service body s t left r
-  billed : deedOf s ≡ Bill → Billed service body s t left r → Counted service body s t left r
-  handed : deedOf s ≡ Handover → left ≡ service → HandedOver service body s t r → Counted service body s t left r
-  replayed : deedOf s ≡ Replay → left ≡ service → Replayed service body s t r → Counted service body s t left r
-  across : deedOf s ≡ ReplayAcross → left ≡ service → ReplayedAcross service body s t r → Counted service body s t left r
-  other : deedOf s ≡ Other → left ≡ service → r ≡ withCase t 8 false → Counted service body s t left r
+pub data Counted (service body s : List ℕ) (t : Counters) (left : List ℕ) (r : Counters) : Type 0 where
+  opened : turnKindOf s ≡ Open → Opened service body s t left r → Counted service body s t left r
+  changed : turnKindOf s ≡ Set → Changed service s t left r → Counted service body s t left r
+  checked : turnKindOf s ≡ Check → left ≡ service → Checked service body s t r → Counted service body s t left r
+  trimmed : turnKindOf s ≡ Trim → left ≡ service → Trimmed service body s t r → Counted service body s t left r
+  billed : turnKindOf s ≡ Bill → Billed service body s t left r → Counted service body s t left r
+  handed : turnKindOf s ≡ Handover → left ≡ service → HandedOver service body s t r → Counted service body s t left r
+  replayed : turnKindOf s ≡ Replay → left ≡ service → Replayed service body s t r → Counted service body s t left r
+  across : turnKindOf s ≡ ReplayAcross → left ≡ service → ReplayedAcross service body s t r → Counted service body s t left r
+  other : turnKindOf s ≡ Other → left ≡ service → r ≡ withCase t 8 false → Counted service body s t left r

@@ -10,21 +10,21 @@ use service::open::open_service;
 use service_spec::rights::Service;
 use vectors::case::Next;
 use vectors::case::read_case;
+use vectors::counters::Counters;
 use vectors::counters::Judged;
-use vectors::counters::Tally;
 use vectors::counters::no_case;
 use vectors::counters::with_case;
 use vectors::end::End;
 use vectors::space::space_for_body;
-use vectors::turn::Deed;
 use vectors::turn::Number;
 use vectors::turn::Stored;
+use vectors::turn::TurnKind;
 use vectors::turn::bytes_at;
 use vectors::turn::caller_at;
-use vectors::turn::deed_at;
 use vectors::turn::numbers_at;
 use vectors::turn::set_at;
 use vectors::turn::tariff_at;
+use vectors::turn::turn_kind_at;
 use vectors::turn_room::blank_bytes;
 use vectors::turn_room::blank_numbers;
 use vectors::turn_same::same_bill;
@@ -52,11 +52,11 @@ fn set_number(service: &mut [u32], caller: usize, number: u32)
 }
 
 fn with_opened<'a, 'b, 'c>(
-    counters: Tally,
+    counters: Counters,
     service: &'a mut [u32],
     rights: &'b [u8],
     bytes: &'c [u8],
-) -> Tally
+) -> Counters
     ensures { λ r. ⌜ Opened (now (service .entry)) (now (rights .entry)) (now (bytes .entry)) counters (now (service .exit)) r ⌝ }
 {
     let code = open_service(rights, service);
@@ -64,7 +64,7 @@ fn with_opened<'a, 'b, 'c>(
     with_case(counters, Number::OPEN, same)
 }
 
-fn with_set<'a, 'b>(counters: Tally, service: &'a mut [u32], bytes: &'b [u8]) -> Tally
+fn with_set<'a, 'b>(counters: Counters, service: &'a mut [u32], bytes: &'b [u8]) -> Counters
     ensures { λ r. ⌜ Changed (now (service .entry)) (now (bytes .entry)) counters (now (service .exit)) r ⌝ }
 {
     set_number(service, caller_at(bytes), set_at(bytes));
@@ -73,11 +73,11 @@ fn with_set<'a, 'b>(counters: Tally, service: &'a mut [u32], bytes: &'b [u8]) ->
 }
 
 fn with_checked<'a, 'b, 'c>(
-    counters: Tally,
+    counters: Counters,
     service: &'a [u32],
     image: &'b [u8],
     bytes: &'c [u8],
-) -> Tally
+) -> Counters
     ensures { λ r. ⌜ Checked (now (service .entry)) (now (image .entry)) (now (bytes .entry)) counters r ⌝ }
 {
     let mut room = blank_bytes();
@@ -88,11 +88,11 @@ fn with_checked<'a, 'b, 'c>(
 }
 
 fn with_trimmed<'a, 'b, 'c>(
-    counters: Tally,
+    counters: Counters,
     service: &'a [u32],
     image: &'b [u8],
     bytes: &'c [u8],
-) -> Tally
+) -> Counters
     ensures { λ r. ⌜ Trimmed (now (service .entry)) (now (image .entry)) (now (bytes .entry)) counters r ⌝ }
 {
     let mut room = blank_bytes();
@@ -136,11 +136,11 @@ fn bill_stored<'a, 'b, 'c, 'd>(
 }
 
 fn with_billed<'a, 'b, 'c>(
-    counters: Tally,
+    counters: Counters,
     service: &'a mut [u32],
     image: &'b [u8],
     bytes: &'c [u8],
-) -> Tally
+) -> Counters
     ensures { λ r. ⌜ Billed (now (service .entry)) (now (image .entry)) (now (bytes .entry)) counters (now (service .exit)) r ⌝ }
 {
     let mut room = blank_numbers();
@@ -152,23 +152,23 @@ fn with_billed<'a, 'b, 'c>(
 
 // The tally with a turn more, by what is done, and whether it leaves what is stored.
 fn with_turn<'a, 'b, 'c>(
-    counters: Tally,
+    counters: Counters,
     service: &'a mut [u32],
     body: &'b [u8],
     bytes: &'c [u8],
-) -> Tally
+) -> Counters
     ensures { λ r. ⌜ Counted (now (service .entry)) (now (body .entry)) (now (bytes .entry)) counters (now (service .exit)) r ⌝ }
 {
-    match deed_at(bytes) {
-        Deed::Open => with_opened(counters, service, body, bytes),
-        Deed::Set => with_set(counters, service, bytes),
-        Deed::Check => with_checked(counters, service, body, bytes),
-        Deed::Trim => with_trimmed(counters, service, body, bytes),
-        Deed::Bill => with_billed(counters, service, body, bytes),
-        Deed::Handover => with_handover(counters, service, body, bytes),
-        Deed::Replay => with_replay(counters, service, body, bytes),
-        Deed::ReplayAcross => with_across(counters, service, body, bytes),
-        Deed::Other => with_case(counters, Number::OTHER, false),
+    match turn_kind_at(bytes) {
+        TurnKind::Open => with_opened(counters, service, body, bytes),
+        TurnKind::Set => with_set(counters, service, bytes),
+        TurnKind::Check => with_checked(counters, service, body, bytes),
+        TurnKind::Trim => with_trimmed(counters, service, body, bytes),
+        TurnKind::Bill => with_billed(counters, service, body, bytes),
+        TurnKind::Handover => with_handover(counters, service, body, bytes),
+        TurnKind::Replay => with_replay(counters, service, body, bytes),
+        TurnKind::ReplayAcross => with_across(counters, service, body, bytes),
+        TurnKind::Other => with_case(counters, Number::OTHER, false),
     }
 }
 

@@ -1,10 +1,10 @@
 // What the program writes of a file.
 use libc::STDOUT_FILENO;
-use vectors::counters::Tally;
+use vectors::counters::Counters;
 use vectors::counters_line::write_count;
 use vectors::counters_line::write_differences;
 
-pub fn write_line(path: &[u8], counters: Tally) {
+pub fn write_line(path: &[u8], counters: Counters) {
     io::write_all(STDOUT_FILENO, path);
     io::write_all(STDOUT_FILENO, b": ");
     write_count(counters.cases, b" cases: ");

@@ -2,7 +2,7 @@
 use service::entry::serve_handover;
 use service::entry::serve_replay;
 use service::entry::serve_replay_handover;
-use vectors::counters::Tally;
+use vectors::counters::Counters;
 use vectors::counters::with_case;
 use vectors::parts::fifth_in;
 use vectors::parts::first_in;
@@ -41,11 +41,11 @@ fn handover_stored<'a, 'b, 'c>(service: &'a [u32], body: &'b [u8], bytes: &'c [u
 }
 
 pub fn with_handover<'a, 'b, 'c>(
-    counters: Tally,
+    counters: Counters,
     service: &'a [u32],
     body: &'b [u8],
     bytes: &'c [u8],
-) -> Tally
+) -> Counters
     ensures { λ r. ⌜ HandedOver (now (service .entry)) (now (body .entry)) (now (bytes .entry)) counters r ⌝ }
 {
     let code = handover_stored(service, body, bytes);
@@ -79,11 +79,11 @@ fn replay_stored<'a, 'b, 'c, 'd, 'e>(
 }
 
 pub fn with_replay<'a, 'b, 'c>(
-    counters: Tally,
+    counters: Counters,
     service: &'a [u32],
     body: &'b [u8],
     bytes: &'c [u8],
-) -> Tally
+) -> Counters
     ensures { λ r. ⌜ Replayed (now (service .entry)) (now (body .entry)) (now (bytes .entry)) counters r ⌝ }
 {
     let mut table = blank_bytes();
@@ -126,11 +126,11 @@ fn across_stored<'a, 'b, 'c, 'd, 'e>(
 }
 
 pub fn with_across<'a, 'b, 'c>(
-    counters: Tally,
+    counters: Counters,
     service: &'a [u32],
     body: &'b [u8],
     bytes: &'c [u8],
-) -> Tally
+) -> Counters
     ensures { λ r. ⌜ ReplayedAcross (now (service .entry)) (now (body .entry)) (now (bytes .entry)) counters r ⌝ }
 {
     let mut table = blank_bytes();

@@ -11,7 +11,7 @@ use lib.ListN.{length, getD, set, drop, replicate, length-set, length-replicate}
 use lib.Seq.{getD-set-same, getD-set-other}
 use borrow.Author.Tests.{eqb-true, eqb-false, eq-eqb, ne-eqb, lt-ltb, le-ltb, le-leb, lt-leb}
 use Rattle.limits.specs.Limits as Limits
-use Rattle.limits.specs.Numbers.{word, numbers}
+use Rattle.limits.specs.Numbers.{le16, numbers}
 use Rattle.limits.proofs.Numbers.{number-past}
 use Rattle.image_frames.specs.Records.{body, bodies}
 use Rattle.image_index.specs.IndexTable.{placeOf}
@@ -21,9 +21,9 @@ use Rattle.image_header.specs.declared.instruction.Instruction.{Instruction}
 use Rattle.image_header.specs.Instruction.{firstOperation}
 use Rattle.image_bodies.specs.Line.{premises}
 use Rattle.image_bodies.specs.RecordPlaces.{threadBody}
-use Rattle.image_bodies.specs.declared.point_counts.Tally.{Tally}
+use Rattle.image_bodies.specs.declared.point_counts.PointCounts.{PointCounts}
 use Rattle.image_bodies.proofs.RecordBranches.Counts.{own-least, count-is}
-use Rattle.image_bodies.specs.PointCounts.{threadTally, tallyTo, tally, obligationsBy, obligationCount}
+use Rattle.image_bodies.specs.PointCounts.{threadCounts, pointCountsTo, pointCounts, obligationsBy, obligationCount}
 use Rattle.image_header.specs.Thread.{lastPoint}
 use Rattle.image_access.specs.Totals.{pointsBelow, pointsBefore, totalsOf}
 use Rattle.image_access.specs.declared.totals.Totals.{Totals}
@@ -78,8 +78,8 @@ module _ (s : List ℕ) (z : Sizes) (n : ℕ) where
     pub premise-read : (j r : ℕ) → r ≡ getD (premises b) j 0 → r ≡ getD (premises (lineBody z (bodies s) n)) j 0
     premise-read j r d = rw (← e) d
 
-pub line-is : (s b : List ℕ) (rule t p x y l r c : ℕ) → rule ≡ getD b 0 0 → t ≡ getD b 1 0 → p ≡ getD b 2 0 → x ≡ word (drop 3 b)
-    → l ≡ formulaAt s x → y ≡ word (drop 5 b) → r ≡ formulaAt s y → c ≡ getD b 7 0
+pub line-is : (s b : List ℕ) (rule t p x y l r c : ℕ) → rule ≡ getD b 0 0 → t ≡ getD b 1 0 → p ≡ getD b 2 0 → x ≡ le16 (drop 3 b)
+    → l ≡ formulaAt s x → y ≡ le16 (drop 5 b) → r ≡ formulaAt s y → c ≡ getD b 7 0
     → record { rule = rule; thread = t; point = p; left = l; right = r; count = c } ≡ lineIn s b
 unfolding lineIn
 line-is s b rule t p x y l r c e₀ e₁ e₂ ex el ey er ec = rw (e₀, e₁, e₂, el, er, ec, ex, ey)
@@ -111,14 +111,14 @@ pub ruleset acting = (acts-early, acts-writing, acts-not, acts-at)
 
 -- sums over the threads
 
--- the tally goes by the thread records alone
-tally-same : (y z : Sizes) (l : List (List ℕ)) (n : ℕ) → y .formulas ≡ z .formulas → tallyTo y l n ≡ tallyTo z l n
-unfolding tallyTo threadBody
+-- the pointCounts goes by the thread records alone
+tally-same : (y z : Sizes) (l : List (List ℕ)) (n : ℕ) → y .formulas ≡ z .formulas → pointCountsTo y l n ≡ pointCountsTo z l n
+unfolding pointCountsTo threadBody
 tally-same y z l zero e = refl
 tally-same y z l (suc n) e = rw (tally-same y z l n e, e)
 
-pub before-is : (z : Sizes) (l : List (List ℕ)) (t : ℕ) (c : Tally)
-    → c ≡ tally
+pub before-is : (z : Sizes) (l : List (List ℕ)) (t : ℕ) (c : PointCounts)
+    → c ≡ pointCounts
     (record {
       threads = t - 1;
       words = z .words;
@@ -127,9 +127,9 @@ pub before-is : (z : Sizes) (l : List (List ℕ)) (t : ℕ) (c : Tally)
       formulas = z .formulas;
       lines = z .lines;
       claims = z .claims;
-    }) l → c .points ≡ tallyTo z l (t - 1) .points
-unfolding tally
-before-is z l t c e = ap (λ (d : Tally). d .points)
+    }) l → c .points ≡ pointCountsTo z l (t - 1) .points
+unfolding pointCounts
+before-is z l t c e = ap (λ (d : PointCounts). d .points)
     (e
     ∙ tally-same
     (record {
@@ -146,19 +146,19 @@ pub below-none : (z : Sizes) (l : List (List ℕ)) (m : List ℕ) → m ≡ repl
 unfolding pointsBelow
 below-none z l m e = e
 
-pub below-more : (z : Sizes) (l : List (List ℕ)) (m : List ℕ) (t v : ℕ) → m ≡ pointsBelow z l t → v ≡ tallyTo z l t .points
+pub below-more : (z : Sizes) (l : List (List ℕ)) (m : List ℕ) (t v : ℕ) → m ≡ pointsBelow z l t → v ≡ pointCountsTo z l t .points
     → set m t v ≡ pointsBelow z l (t + 1)
 unfolding pointsBelow
 below-more z l m t v e d = rw (add-one t, ← e) (ap (set m t) d)
 
-pub points-none : (z : Sizes) (l : List (List ℕ)) → 0 ≡ tallyTo z l 0 .points
-unfolding tallyTo
+pub points-none : (z : Sizes) (l : List (List ℕ)) → 0 ≡ pointCountsTo z l 0 .points
+unfolding pointCountsTo
 points-none z l = refl
 
-pub points-more : (z : Sizes) (l : List (List ℕ)) (t v n : ℕ) (b : List ℕ) → v ≡ tallyTo z l t .points
+pub points-more : (z : Sizes) (l : List (List ℕ)) (t v n : ℕ) (b : List ℕ) → v ≡ pointCountsTo z l t .points
     → b ≡ getD l (z .formulas + (t + 1)) []
-    → n ≡ lastPoint b → v + (n + 1) ≡ tallyTo z l (t + 1) .points
-unfolding tallyTo threadTally threadBody
+    → n ≡ lastPoint b → v + (n + 1) ≡ pointCountsTo z l (t + 1) .points
+unfolding pointCountsTo threadCounts threadBody
 points-more z l t v n b e d f = rw (add-one t, e, f, d, add-one t)
 
 pub below-all : (z : Sizes) (l : List (List ℕ)) (m : List ℕ) (t : ℕ) → t ≤ Limits.threads → Limits.threads ≤ t → m ≡ pointsBelow z l t
@@ -169,31 +169,31 @@ below-all z l m t h g e = let q : t ≡ Limits.threads = omega arith in rw q at 
 below-length : (z : Sizes) (l : List (List ℕ)) (n : ℕ) → length (pointsBelow z l n) ≡ Limits.threads
 unfolding pointsBelow
 below-length z l zero = length-replicate {A = ℕ} Limits.threads 0
-below-length z l (suc n) = length-set (pointsBelow z l n) n (tallyTo z l n .points) ∙ below-length z l n
+below-length z l (suc n) = length-set (pointsBelow z l n) n (pointCountsTo z l n .points) ∙ below-length z l n
 
-below-at : (z : Sizes) (l : List (List ℕ)) (n t : ℕ) → t < n → n ≤ Limits.threads → getD (pointsBelow z l n) t 0 ≡ tallyTo z l t .points
+below-at : (z : Sizes) (l : List (List ℕ)) (n t : ℕ) → t < n → n ≤ Limits.threads → getD (pointsBelow z l n) t 0 ≡ pointCountsTo z l t .points
 unfolding pointsBelow
 below-at z l zero t h g = absurd (omega arith)
 below-at z l (suc n) t h g = go (eqb t n) refl (λ b. below-at z l n t b (omega arith))
   where
-    go : (b : Bool) → eqb t n ≡ b → (t < n → getD (pointsBelow z l n) t 0 ≡ tallyTo z l t .points)
-        → getD (set (pointsBelow z l n) n (tallyTo z l n .points)) t 0 ≡ tallyTo z l t .points
+    go : (b : Bool) → eqb t n ≡ b → (t < n → getD (pointsBelow z l n) t 0 ≡ pointCountsTo z l t .points)
+        → getD (set (pointsBelow z l n) n (pointCountsTo z l n .points)) t 0 ≡ pointCountsTo z l t .points
     go true e f =
         let q = eqb-true t n e in
         let i : n < length (pointsBelow z l n) = let a = below-length z l n in omega arith in
-        rw q (getD-set-same (pointsBelow z l n) n (tallyTo z l n .points) 0 i)
+        rw q (getD-set-same (pointsBelow z l n) n (pointCountsTo z l n .points) 0 i)
     go false e f =
         let q : t ≢ n = eqb-false t n e in
-        getD-set-other (pointsBelow z l n) n t (tallyTo z l n .points) 0 q ∙ f (omega arith)
+        getD-set-other (pointsBelow z l n) n t (pointCountsTo z l n .points) 0 q ∙ f (omega arith)
 
-pub totals-are : (z : Sizes) (l : List (List ℕ)) (c : Tally) (b : List ℕ) (n : ℕ) → c ≡ tally z l → b ≡ pointsBefore z l
+pub totals-are : (z : Sizes) (l : List (List ℕ)) (c : PointCounts) (b : List ℕ) (n : ℕ) → c ≡ pointCounts z l → b ≡ pointsBefore z l
     → n ≡ obligationsBy (z .threads) c
     → record { points = c .points; before = b; obligations = n } ≡ totalsOf z l
 unfolding totalsOf
 totals-are z l c b n ec eb en = rw (eb, count-is z l c n ec en, ec)
 
 pub before-known : (z : Sizes) (l : List (List ℕ)) (y : Totals) (t : ℕ) → y ≡ totalsOf z l → 1 ≤ t → t ≤ Limits.threads
-    → getD (y .before) (t - 1) 0 ≡ tallyTo z l (t - 1) .points
+    → getD (y .before) (t - 1) 0 ≡ pointCountsTo z l (t - 1) .points
 unfolding totalsOf pointsBefore
 before-known z l y t e a b = rw e (below-at z l Limits.threads (t - 1) (omega arith) (omega arith))
 
@@ -247,22 +247,22 @@ module _ (z : Sizes) (l : List (List ℕ)) (t : ℕ) where
     number-absent g = rw (ne-eqb t 0 h, lt-ltb (z .threads) t g)
 
     module _ (g : t ≤ z .threads) (y : Totals) (e : y ≡ totalsOf z l) where
-      points-are : y .points ≡ tally z l .points
+      points-are : y .points ≡ pointCounts z l .points
       unfolding totalsOf
       points-are = rw e
 
-      past-number : tally z l .points ≤ tallyTo z l (t - 1) .points + p → 0 ≡ outlineNumber z l t p
+      past-number : pointCounts z l .points ≤ pointCountsTo z l (t - 1) .points + p → 0 ≡ outlineNumber z l t p
       unfolding outlineNumber
       past-number q = rw (ne-eqb t 0 h, le-ltb (z .threads) t g)
-          (number-past (tally z l .points) (getD l (z .formulas + z .threads + 1) []) (tallyTo z l (t - 1) .points + p) q)
+          (number-past (pointCounts z l .points) (getD l (z .formulas + z .threads + 1) []) (pointCountsTo z l (t - 1) .points + p) q)
 
       pub number-over : y .points ≤ p → 0 ≡ outlineNumber z l t p
       number-over b = past-number (let d = points-are in omega arith)
 
-      pub number-late : (n : ℕ) → n ≡ tallyTo z l (t - 1) .points → y .points - p ≤ n → 0 ≡ outlineNumber z l t p
+      pub number-late : (n : ℕ) → n ≡ pointCountsTo z l (t - 1) .points → y .points - p ≤ n → 0 ≡ outlineNumber z l t p
       number-late n en b = past-number (let d = points-are in omega arith)
 
-      pub number-there : (n r : ℕ) (b : List ℕ) → n ≡ tallyTo z l (t - 1) .points → b ≡ getD l (z .formulas + z .threads + 1) []
+      pub number-there : (n r : ℕ) (b : List ℕ) → n ≡ pointCountsTo z l (t - 1) .points → b ≡ getD l (z .formulas + z .threads + 1) []
           → r ≡ getD (numbers (y .points) b) (n + p) 0 → r ≡ outlineNumber z l t p
       unfolding outlineNumber
       number-there n r b en eb d = rw (ne-eqb t 0 h, le-ltb (z .threads) t g, ← en, ← eb, ← points-are) d
@@ -274,7 +274,7 @@ pub ruleset outlining = (number-none, number-absent, number-over, number-late, n
 
 -- claims
 
-pub claimed-is : (b : List ℕ) (t k u j n : ℕ) → t ≡ getD b 0 0 → k ≡ getD b 1 0 → u ≡ getD b 2 0 → j ≡ getD b 3 0 → n ≡ word (drop 4 b)
+pub claimed-is : (b : List ℕ) (t k u j n : ℕ) → t ≡ getD b 0 0 → k ≡ getD b 1 0 → u ≡ getD b 2 0 → j ≡ getD b 3 0 → n ≡ le16 (drop 4 b)
     → record { thread = t; point = k; other = u; «other_point» = j; line = n } ≡ claimedIn b
 unfolding claimedIn
 claimed-is b t k u j n et ek eu ej en = rw (et, ek, eu, ej, en)

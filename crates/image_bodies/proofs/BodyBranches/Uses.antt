@@ -5,7 +5,7 @@ use mathlib.Core.List.{List, []}
 use mathlib.Core.Bool.{Bool, true, false}
 use lib.ListN.{getD, drop}
 use lib.Dec.{eqb}
-use Rattle.limits.specs.Numbers.{word, numbers, every}
+use Rattle.limits.specs.Numbers.{le16, numbers, every}
 use Rattle.image_frames.specs.Fault.{unless, also}
 use Rattle.image_frames.specs.declared.fault.Fault.{Fault}
 use Rattle.image_frames.specs.declared.fault.Fault.the-variants.{Sort}
@@ -16,10 +16,10 @@ use Rattle.formula.specs.Reader.{sortOf}
 use Rattle.image_header.specs.declared.sizes.Sizes.{Sizes}
 use Rattle.image_bodies.specs.declared.line.Form.{Form}
 use Rattle.image_bodies.specs.declared.line.Form.the-variants.{Triple, Implication, Inclusion, Pair, Unlisted}
-use Rattle.image_bodies.specs.declared.point_counts.Tally.{Tally}
+use Rattle.image_bodies.specs.declared.point_counts.PointCounts.{PointCounts}
 use Rattle.image_bodies.specs.Line.{formOf}
 use Rattle.image_bodies.specs.NumberList.{exactly}
-use Rattle.image_bodies.specs.PointCounts.{tally, obligationCount}
+use Rattle.image_bodies.specs.PointCounts.{pointCounts, obligationCount}
 use Rattle.image_bodies.specs.FormulaUse.{outlined}
 use Rattle.image_bodies.specs.ListBody.{outlinedAt, outline, obligations}
 use Rattle.image_bodies.specs.LineBody.{sortAt, sortedBy, lineSorted}
@@ -37,7 +37,7 @@ pub ruleset numbered = (at-outlined, at-sort)
 
 -- outline and obligations
 
-pub points-are : (z : Sizes) (l : List (List ℕ)) (c : Tally) → c ≡ tally z l → c .points ≡ tally z l .points
+pub points-are : (z : Sizes) (l : List (List ℕ)) (c : PointCounts) → c ≡ pointCounts z l → c .points ≡ pointCounts z l .points
 points-are z l c e = rw e
 
 pub obligations-are : (z : Sizes) (l : List (List ℕ)) (b : List ℕ) (n : ℕ) (r : Checked) → n ≡ obligationCount z l
@@ -45,7 +45,7 @@ pub obligations-are : (z : Sizes) (l : List (List ℕ)) (b : List ℕ) (n : ℕ)
 unfolding obligations
 obligations-are z l b n r e d = rw (← e) d
 
-module _ (z : Sizes) (l : List (List ℕ)) (b : List ℕ) (n : ℕ) (c : Checked) (en : n ≡ tally z l .points)
+module _ (z : Sizes) (l : List (List ℕ)) (b : List ℕ) (n : ℕ) (c : Checked) (en : n ≡ pointCounts z l .points)
     (ec : c ≡ exactly n 1 (z .formulas) b) where
   pub outline-numbers : (f : Fault) → c ≡ Faulty f → Faulty f ≡ outline z l b
   unfolding outline also
@@ -85,13 +85,13 @@ module _ (l : List (List ℕ)) (f : Form) (k : ℕ) where
   unfolding sortedBy
   by-unlisted q = rw q
 
-module _ (l : List (List ℕ)) (b : List ℕ) (f : Form) (x : ℕ) (u : Bool) (ef : f ≡ formOf (getD b 0 0)) (ex : x ≡ word (drop 3 b))
+module _ (l : List (List ℕ)) (b : List ℕ) (f : Form) (x : ℕ) (u : Bool) (ef : f ≡ formOf (getD b 0 0)) (ex : x ≡ le16 (drop 3 b))
     (eu : u ≡ sortedBy l f x) where
   pub left-off : u ≡ false → false ≡ lineSorted l b
   unfolding lineSorted
   left-off q = rw (← ef, ← ex, ← eu, q)
 
-  pub left-on : (y : ℕ) (r : Bool) → u ≡ true → y ≡ word (drop 5 b) → r ≡ sortedBy l f y → r ≡ lineSorted l b
+  pub left-on : (y : ℕ) (r : Bool) → u ≡ true → y ≡ le16 (drop 5 b) → r ≡ sortedBy l f y → r ≡ lineSorted l b
   unfolding lineSorted
   left-on y r q ey d = rw (← ef, ← ex, ← eu, q, ← ey) d
 

@@ -20,8 +20,8 @@ use Rattle.image_header.specs.declared.instruction.Instruction.{Instruction}
 use Rattle.image_header.specs.Thread.{lastPoint, instructions, nothing}
 use Rattle.image_header.proofs.ThreadBranches.{instructions-length}
 use Rattle.image_bodies.specs.RecordPlaces.{threadBody, instructionOf}
-use Rattle.image_bodies.specs.declared.point_counts.Tally.{Tally}
-use Rattle.image_bodies.specs.PointCounts.{isBranch, branches, tallied, threadTally, plus, tallyTo, tally, Small, obligationsBy, obligationCount}
+use Rattle.image_bodies.specs.declared.point_counts.PointCounts.{PointCounts}
+use Rattle.image_bodies.specs.PointCounts.{isBranch, branches, tallied, threadCounts, plus, pointCountsTo, pointCounts, Small, obligationsBy, obligationCount}
 use Rattle.image_bodies.specs.NumberList.{exactly}
 
 -- the instruction at a point
@@ -68,7 +68,7 @@ module _ (b : List ℕ) (last n p : ℕ) (e : last ≡ lastPoint b) where
 pub count-start : (l : List Instruction) → 0 + branches (drop 0 l) ≡ branches l
 count-start l = omega arith
 
--- the tally of a thread
+-- the pointCounts of a thread
 
 small-product : (a b m : ℕ) → a ≤ m → b ≤ m → a * b ≤ m * m
 small-product a b m h g = mul-le-mul h g
@@ -76,8 +76,8 @@ small-product a b m h g = mul-le-mul h g
 pub own-fits : (m n : ℕ) → m < 256 → (m + 1) * (m - n) < 2 ^ 64
 own-fits m n h = omega (arith, small-product (m + 1) (m - n) 256 (omega arith) (omega arith))
 
-pub thread-is : (b : List ℕ) (m n : ℕ) → m ≡ lastPoint b → n ≡ branches (instructions b) → tallied m n ≡ threadTally b
-unfolding threadTally
+pub thread-is : (b : List ℕ) (m n : ℕ) → m ≡ lastPoint b → n ≡ branches (instructions b) → tallied m n ≡ threadCounts b
+unfolding threadCounts
 thread-is b m n e d = rw (e, d)
 
 pub thread-small : (b : List ℕ) (m n : ℕ) → m ≡ lastPoint b → m < 256 → n ≤ lastPoint b → Small 1 (tallied m n)
@@ -90,38 +90,38 @@ thread-small b m n e h g = record {
 
 pub ruleset tallying = (own-fits, thread-is, thread-small)
 
--- the tally of all threads
+-- the pointCounts of all threads
 
-pub sum-none : (z : Sizes) (l : List (List ℕ)) → record { points = 0; steps = 0; actions = 0; own = 0 } ≡ tallyTo z l 0
-unfolding tallyTo
+pub sum-none : (z : Sizes) (l : List (List ℕ)) → record { points = 0; steps = 0; actions = 0; own = 0 } ≡ pointCountsTo z l 0
+unfolding pointCountsTo
 sum-none z l = refl
 
 pub small-none : Small 0 (record { points = 0; steps = 0; actions = 0; own = 0 })
 small-none = record { points = omega arith; steps = omega arith; actions = omega arith; own = omega arith }
 
-pub sum-more : (z : Sizes) (l : List (List ℕ)) (t : ℕ) (b : List ℕ) (c d r : Tally) → c ≡ tallyTo z l t
-    → b ≡ getD l (z .formulas + (t + 1)) [] → d ≡ threadTally b → r ≡ plus c d → r ≡ tallyTo z l (t + 1)
-unfolding tallyTo threadBody
+pub sum-more : (z : Sizes) (l : List (List ℕ)) (t : ℕ) (b : List ℕ) (c d r : PointCounts) → c ≡ pointCountsTo z l t
+    → b ≡ getD l (z .formulas + (t + 1)) [] → d ≡ threadCounts b → r ≡ plus c d → r ≡ pointCountsTo z l (t + 1)
+unfolding pointCountsTo threadBody
 sum-more z l t b c d r ec eb ed er = er ∙ (rw (add-one t, ec, ed, eb, add-one t))
 
-pub small-more : (t : ℕ) (c d r : Tally) → Small t c → Small 1 d → r ≡ plus c d → Small (t + 1) r
+pub small-more : (t : ℕ) (c d r : PointCounts) → Small t c → Small 1 d → r ≡ plus c d → Small (t + 1) r
 small-more t c d r h g e = rw e (record { points = omega arith; steps = omega arith; actions = omega arith; own = omega arith })
 
-pub sum-all : (z : Sizes) (l : List (List ℕ)) (t n : ℕ) (c : Tally) → n ≡ z .threads → t ≤ n → n ≤ t → c ≡ tallyTo z l t → c ≡ tally z l
-unfolding tally
+pub sum-all : (z : Sizes) (l : List (List ℕ)) (t n : ℕ) (c : PointCounts) → n ≡ z .threads → t ≤ n → n ≤ t → c ≡ pointCountsTo z l t → c ≡ pointCounts z l
+unfolding pointCounts
 sum-all z l t n c e h g d = let q : t ≡ z .threads = omega arith in rw q at d
 
-pub small-all : (t n : ℕ) (c : Tally) → n < 256 → t ≤ n → Small t c → Small 256 c
+pub small-all : (t n : ℕ) (c : PointCounts) → n < 256 → t ≤ n → Small t c → Small 256 c
 small-all t n c e h g = record { points = omega arith; steps = omega arith; actions = omega arith; own = omega arith }
 
 -- the number of obligations
 
-own-below : (z : Sizes) (l : List (List ℕ)) (t : ℕ) → tallyTo z l t .own ≤ tallyTo z l t .points * tallyTo z l t .actions
-unfolding tallyTo threadTally
+own-below : (z : Sizes) (l : List (List ℕ)) (t : ℕ) → pointCountsTo z l t .own ≤ pointCountsTo z l t .points * pointCountsTo z l t .actions
+unfolding pointCountsTo threadCounts
 own-below z l zero = omega arith
-own-below z l (suc t) = go (tallyTo z l t) (own-below z l t) (threadTally (threadBody z l (suc t))) refl
+own-below z l (suc t) = go (pointCountsTo z l t) (own-below z l t) (threadCounts (threadBody z l (suc t))) refl
   where
-    go : (c : Tally) → c .own ≤ c .points * c .actions → (d : Tally) → d .own ≡ d .points * d .actions
+    go : (c : PointCounts) → c .own ≤ c .points * c .actions → (d : PointCounts) → d .own ≡ d .points * d .actions
         → plus c d .own ≤ plus c d .points * plus c d .actions
     go c h d e = rw (
       add-mul (c .points) (d .points) (c .actions + d .actions),
@@ -129,19 +129,19 @@ own-below z l (suc t) = go (tallyTo z l t) (own-below z l t) (threadTally (threa
       mul-add (d .points) (c .actions) (d .actions),
     ) (omega arith)
 
-module _ (z : Sizes) (l : List (List ℕ)) (c : Tally) where
-  pub own-least : c ≡ tally z l → c .own ≤ c .points * c .actions
-  unfolding tally
+module _ (z : Sizes) (l : List (List ℕ)) (c : PointCounts) where
+  pub own-least : c ≡ pointCounts z l → c .own ≤ c .points * c .actions
+  unfolding pointCounts
   own-least e = rw e (own-below z l (z .threads))
 
-  pub count-is : (r : ℕ) → c ≡ tally z l → r ≡ obligationsBy (z .threads) c → r ≡ obligationCount z l
+  pub count-is : (r : ℕ) → c ≡ pointCounts z l → r ≡ obligationsBy (z .threads) c → r ≡ obligationCount z l
   unfolding obligationCount
   count-is r e d = d ∙ (rw e)
 
-pub product-fits : (c : Tally) → Small 256 c → c .points * c .actions < 2 ^ 64
+pub product-fits : (c : PointCounts) → Small 256 c → c .points * c .actions < 2 ^ 64
 product-fits c h = omega (arith, small-product (c .points) (c .actions) 65536 (omega arith) (omega arith))
 
-pub count-fits : (c : Tally) (n : ℕ) → n < 256 → Small 256 c → n + c .steps + (c .points * c .actions - c .own) < 2 ^ 64
+pub count-fits : (c : PointCounts) (n : ℕ) → n < 256 → Small 256 c → n + c .steps + (c .points * c .actions - c .own) < 2 ^ 64
 count-fits c n e h = omega (arith, small-product (c .points) (c .actions) 65536 (omega arith) (omega arith))
 
 pub ruleset numbering = (own-least, product-fits, count-fits, count-is)

@@ -7,7 +7,7 @@ use native.Mathlib.Omega.{arith}
 use lib.ListN.{length, getD, drop, length-drop, drop-of-length-le}
 use lib.Seq.{drop-drop}
 use borrow.Author.Tests.{lt-ltb, le-ltb}
-use Rattle.limits.specs.Numbers.{word, has}
+use Rattle.limits.specs.Numbers.{le16, has}
 use Rattle.limits.proofs.Numbers.{has-all, has-not}
 use Rattle.image_frames.specs.Kinds.{order, most}
 use Rattle.image_frames.specs.Frames.{admit, frame}
@@ -41,7 +41,7 @@ module _ (s : List ℕ) (at : ℕ) (c : Seen) where
   unfolding frame
   frame-short h = let q : length (drop at s) < 2 = rw (length-drop at s) h in rw (has-not 2 (drop at s) q)
 
-  module _ (n : ℕ) (h : 2 ≤ length s - at) (e : n ≡ word (drop at s)) where
+  module _ (n : ℕ) (h : 2 ≤ length s - at) (e : n ≡ le16 (drop at s)) where
     two : has 2 (drop at s) ≡ true
     two = has-all 2 (drop at s) (rw (length-drop at s) h)
 
@@ -55,7 +55,7 @@ module _ (s : List ℕ) (at : ℕ) (c : Seen) where
         let q : length (drop at s) < 2 + n = rw (length-drop at s) (omega arith) in
         rw (two, ← e, le-ltb _ _ g, has-not (2 + n) (drop at s) q)
 
-    pub frame-kind : (k o : ℕ) (f : Checked) → 2 ≤ n → n ≤ length s - at - 2 → k ≡ word (drop (at + 2) s) → o ≡ order k → f ≡ admit c o
+    pub frame-kind : (k o : ℕ) (f : Checked) → 2 ≤ n → n ≤ length s - at - 2 → k ≡ le16 (drop (at + 2) s) → o ≡ order k → f ≡ admit c o
         → f ≡ frame c (drop at s)
     unfolding frame
     frame-kind k o f g p ek eo ef =

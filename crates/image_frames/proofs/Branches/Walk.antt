@@ -6,7 +6,7 @@ use native.Mathlib.Numerals.{sub-one}
 use native.Mathlib.Omega.{arith}
 use lib.ListN.{length, getD, drop, set, drop-of-length-le, length-drop, length-set}
 use lib.Seq.{drop-drop}
-use Rattle.limits.specs.Numbers.{word}
+use Rattle.limits.specs.Numbers.{le16}
 use Rattle.image_frames.proofs.PassedFrame.{Admitted, framed}
 use Rattle.image_frames.proofs.Branches.Frame.{room}
 use Rattle.image_frames.specs.Kinds.{order}
@@ -24,7 +24,7 @@ walk-end zero i c = refl
 walk-end (suc k) i c = refl
 
 walk-cons : (k i : ℕ) (c : Seen) (l : List ℕ) → 0 < k → 0 < length l
-    → walk k i c l ≡ unlessFaulty (frame c l) i (walk (k - 1) (i + 1) (counted c (order (word (drop 2 l)))) (drop (2 + word l) l))
+    → walk k i c l ≡ unlessFaulty (frame c l) i (walk (k - 1) (i + 1) (counted c (order (le16 (drop 2 l)))) (drop (2 + le16 l) l))
 unfolding walk
 walk-cons zero i c l h g = absurd (omega arith)
 walk-cons (suc k) i c [] h g = absurd (omega arith)
@@ -32,12 +32,12 @@ walk-cons (suc k) i c (x ∷ l) h g = rw (sub-one (suc k))
 
 -- the frame passed: the record ends inside, its kind has a place among the counts, and one more is a number that fits
 module _ (s : List ℕ) (at : ℕ) (c : Seen) (f : Checked) (e : f ≡ frame c (drop at s)) (z : f ≡ Passed) where
-  pub frame-fits : (n : ℕ) → 0 < length s - at → n ≡ word (drop at s) → at + 2 + n ≤ length s
+  pub frame-fits : (n : ℕ) → 0 < length s - at → n ≡ le16 (drop at s) → at + 2 + n ≤ length s
   frame-fits n lt d = omega (arith, framed c (drop at s) (sym e ∙ z) .inside, length-drop at s)
 
-  module _ (w k : ℕ) (d : w ≡ word (drop (at + 2) s)) (o : k ≡ order w) where
+  module _ (w k : ℕ) (d : w ≡ le16 (drop (at + 2) s)) (o : k ≡ order w) where
     admits-it : Admitted c k
-    admits-it = subst (Admitted c) (ap (λ (l : List ℕ). order (word l)) (drop-drop 2 at s) ∙ ap order (sym d) ∙ sym o)
+    admits-it = subst (Admitted c) (ap (λ (l : List ℕ). order (le16 l)) (drop-drop 2 at s) ∙ ap order (sym d) ∙ sym o)
         (framed c (drop at s) (sym e ∙ z) .admits)
 
     pub kind-known : k < 8
@@ -49,7 +49,7 @@ module _ (s : List ℕ) (at : ℕ) (c : Seen) (f : Checked) (e : f ≡ frame c (
 module _ (s : List ℕ) (at i : ℕ) (c : Seen) (f : Checked) (lt : 0 < length s - at) (low : 1 ≤ i) (le : i ≤ at + 1)
     (e : f ≡ frame c (drop at s)) where
   step : walk (length s + 1 - i) i c (drop at s) ≡ unlessFaulty f i
-      (walk (length s + 1 - i - 1) (i + 1) (counted c (order (word (drop 2 (drop at s))))) (drop (2 + word (drop at s)) (drop at s)))
+      (walk (length s + 1 - i - 1) (i + 1) (counted c (order (le16 (drop 2 (drop at s))))) (drop (2 + le16 (drop at s)) (drop at s)))
   step =
       let q : 0 < length (drop at s) = rw (length-drop at s) (omega arith) in
       let p : 0 < length s + 1 - i = omega arith in
@@ -58,8 +58,8 @@ module _ (s : List ℕ) (at i : ℕ) (c : Seen) (f : Checked) (lt : 0 < length s
   pub walk-stop : (b : Fault) → frames s ≡ walk (length s + 1 - i) i c (drop at s) → f ≡ Faulty b → Refused b i ≡ frames s
   walk-stop b h z = sym (h ∙ step ∙ (rw z))
 
-  pub walk-more : (w k n : ℕ) → frames s ≡ walk (length s + 1 - i) i c (drop at s) → f ≡ Passed → w ≡ word (drop (at + 2) s) → k ≡ order w
-      → n ≡ word (drop at s)
+  pub walk-more : (w k n : ℕ) → frames s ≡ walk (length s + 1 - i) i c (drop at s) → f ≡ Passed → w ≡ le16 (drop (at + 2) s) → k ≡ order w
+      → n ≡ le16 (drop at s)
       → frames s ≡ walk (length s + 1 - (i + 1)) (i + 1) (counted c k) (drop (at + 2 + n) s)
   walk-more w k n h z ew ek en =
       let p : length s + 1 - i - 1 ≡ length s + 1 - (i + 1) = omega arith in

@@ -4,7 +4,7 @@ use mathlib.Core.Path.{_≡_}
 use lib.ListN.{length}
 use Rattle.limits.specs.Limits as Limits
 use Rattle.image_frames.specs.Records.{bodies}
-use Rattle.image_bodies.specs.PointCounts.{tallyTo}
+use Rattle.image_bodies.specs.PointCounts.{pointCountsTo}
 use Rattle.image_access.specs.Totals.{pointsBelow}
 use Rattle.limits.proofs.BranchTests.{tests}
 use Rattle.image_access.proofs.totals.fill_before.Statement.{statement}
@@ -13,7 +13,7 @@ use Rattle.image_access.proofs.totals.fill_before.Tie as tie
 abbrev Inv-loop : tie.InvT-loop
 Inv-loop s ix z before₀ sum₀ t₀ before sum t =
     (t ≤ Limits.threads) × ((before ≡ pointsBelow z (bodies s) t)
-    × ((length before ≡ Limits.threads) × ((sum ≡ tallyTo z (bodies s) t .points) × (sum ≤ 256 * t))))
+    × ((length before ≡ Limits.threads) × ((sum ≡ pointCountsTo z (bodies s) t .points) × (sum ≤ 256 * t))))
 
 abbrev μ-loop : tie.MeasureT-loop
 μ-loop s ix z before₀ sum₀ t₀ before sum t = Limits.threads - t

@@ -1,8 +1,0 @@
-use Rattle.obligations.proofs.GoalBranches.{wanting}
-use Rattle.limits.proofs.BranchTests.{tests}
-use borrow.Author.Needs.{needs}
-use Rattle.obligations.proofs.goal.wanted_start.Statement.{statement}
-use Rattle.obligations.proofs.goal.wanted_start.Tie as tie
-
-pub wanted-start-spec : {M : Type 1} → statement M
-wanted-start-spec = tie.close (tie.spec (λ c κs. search needs) (λ c κs. search needs) (λ c. search (wanting, tests)))

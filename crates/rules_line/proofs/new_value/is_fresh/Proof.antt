@@ -1,9 +1,0 @@
-use Rattle.rules_line.proofs.NewValueBranches.{comparing}
-use Rattle.formula.proofs.BranchTests.{tests}
-use borrow.Author.Needs.{needs}
-use Rattle.rules_line.proofs.new_value.is_fresh.Statement.{statement}
-use Rattle.rules_line.proofs.new_value.is_fresh.Tie as tie
-
-pub is-fresh-spec : {M : Type 1} → statement M
-is-fresh-spec = tie.close (tie.spec (λ c κs. search needs) (λ c. search (comparing, tests)) (λ c κs. search needs)
-    (λ c. search (comparing, tests)))

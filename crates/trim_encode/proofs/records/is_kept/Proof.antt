@@ -1,8 +1,0 @@
-use Rattle.trim_encode.proofs.RecordsWritten.{mark-past}
-use Rattle.limits.proofs.BranchTests.{tests}
-use borrow.Author.Needs.{needs}
-use Rattle.trim_encode.proofs.records.is_kept.Statement.{statement}
-use Rattle.trim_encode.proofs.records.is_kept.Tie as tie
-
-pub is-kept-spec : {M : Type 1} → statement M
-is-kept-spec = tie.close (tie.spec (λ c. search (mark-past, tests)) (λ c. search needs) (λ c. search needs))
