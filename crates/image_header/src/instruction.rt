@@ -169,14 +169,14 @@ pub fn read_instruction(body: &[u8]) -> Instruction
     Instruction {
         operation,
         a: u8_at(body, 1),
-        body: u8_at(body, 2),
+        b: u8_at(body, 2),
         formula: u16_at(body, 3),
         second: second_half(operation, body),
     }
 }
 
 fn three(first: Range, second: Range, formula: Range) -> Fields
-    ensures { λ r. ⌜ r ≡ record { first = first; second = second; formula = formula } ⌝ }
+    ensures { λ r. ⌜ r ≡ record { a = first; b = second; formula = formula } ⌝ }
 {
     Fields {
         a: first,
