@@ -21,11 +21,11 @@ pub struct Match {
 }
 
 // A node of a template against one of a formula.
-pub fn match_node(node: Node, node: Node, bind: Bind) -> Root
+pub fn match_node(pattern: Node, node: Node, bind: Bind) -> Root
     requires { ⌜ node .parts < 3 ⌝ }
-    ensures { λ r. ⌜ r ≡ nodeOf node node bind ⌝ }
+    ensures { λ r. ⌜ r ≡ nodeOf pattern node bind ⌝ }
 {
-    if node.code != node.code {
+    if pattern.code != node.code {
         return Root {
             kind: 0,
             tpl: 0,
@@ -33,13 +33,13 @@ pub fn match_node(node: Node, node: Node, bind: Bind) -> Root
             bind: bind,
         };
     }
-    if has_operand(node.code) {
-        let t = match_operand(node.operand, node.operand, bind);
+    if has_operand(pattern.code) {
+        let t = match_operand(pattern.operand, node.operand, bind);
         let n = t.bind;
         if t.ok {
             return Root {
                 kind: node.parts + 1,
-                tpl: node.next,
+                tpl: pattern.next,
                 next: node.next,
                 bind: n,
             };
@@ -53,7 +53,7 @@ pub fn match_node(node: Node, node: Node, bind: Bind) -> Root
     }
     Root {
         kind: node.parts + 1,
-        tpl: node.next,
+        tpl: pattern.next,
         next: node.next,
         bind: bind,
     }
