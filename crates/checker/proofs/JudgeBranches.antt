@@ -13,7 +13,7 @@ use Rattle.image.specs.Decode.{decoded}
 use Rattle.image.specs.declared.decode.Decoded.{Decoded}
 use Rattle.image.specs.declared.decode.Decoded.the-variants as Decoded
 use Rattle.logic_outline.specs.Verdict as Outline
-use Rattle.logic_outline.specs.Verdict.{Finding, accepted, denied, judgement, judgeClaims, behindObligations}
+use Rattle.logic_outline.specs.Verdict.{accepted, denied, judgement, judgeClaims, behindObligations}
 use Rattle.image_meaning.specs.Program.{programOf}
 use Rattle.image_meaning.specs.Image.{claimBody, claimPlace, imageOf, resultOf, decode}
 use Rattle.image_access.specs.AccessPlaces.{claimedIn}

@@ -35,7 +35,7 @@ use Rattle.image.specs.declared.decode.Decoded.{Decoded}
 use Rattle.image.specs.declared.decode.Decoded.the-variants.{Refused, Sound}
 use Rattle.image_meaning.proofs.Sums.{sum}
 use Rattle.checker_spec.proofs.BoundedSums.{sum-falls}
-use Rattle.limits.proofs.PassedTests.{and-true, within-true}
+use Rattle.limits.proofs.PassedTests.{and-true}
 use Rattle.image_meaning.proofs.PassedChecks.{unless-passed}
 
 -- of all kinds together, how many records may still come

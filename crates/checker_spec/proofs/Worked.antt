@@ -2,7 +2,6 @@
 use mathlib.Core.Path.{_≡_, refl}
 use mathlib.Core.List.{List, [], _∷_}
 use Prim.Native.Nat.{ℕ}
-use Rattle.logic.specs.Claims.{Claim}
 use Rattle.logic.specs.Obligations.{Obligation.start, Obligation.step, Obligation.taken, Obligation.interference}
 use Rattle.image_frames.specs.Fault.{codeOf}
 use Rattle.image_frames.specs.declared.fault.Fault.the-variants.{Owner}

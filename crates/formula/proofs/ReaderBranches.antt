@@ -14,7 +14,6 @@ use Rattle.formula.specs.Tree.{nodeAt, parseTree}
 use Rattle.formula.specs.Reader.{range, malformed, limit, answer, inRange, operandFault, operandAnswer, headFault, headAnswer, first, partFault, faultAt, readAnswer, sortFrom, readingFrom}
 use Rattle.formula.specs.declared.node.Node.{Node}
 use Rattle.formula.specs.declared.reader.Counts.{Counts}
-use Rattle.formula.specs.declared.reader.Reading.{Reading}
 use Rattle.formula.specs.declared.reader.Reading.the-variants.{Formula, Fault}
 use Rattle.formula.proofs.NodeBranches.{parse-step}
 use Rattle.formula.proofs.BranchTests.{lower}

@@ -1,16 +1,15 @@
 -- Comparison and replacement, side by side: one fact serves both, `by-pair`. Then the ways through the functions, one law for each.
-use Prim.Native.Nat.{ℕ, zero, suc, _+_, _-_, _≤_, _<_}
+use Prim.Native.Nat.{ℕ, _-_, _≤_, _<_}
 use mathlib.Core.Path.{_≡_, refl, ap, sym, _∙_}
-use mathlib.Core.List.{List, [], _∷_}
+use mathlib.Core.List.{List}
 use mathlib.Core.Bool.{Bool, true, false, cond, _&&_}
 use native.Mathlib.Omega.{arith}
-use lib.ListN.{length, getD}
 use lib.Dec.{ltb, eqb}
 use borrow.Author.Tests.{lt-ltb, eq-eqb, ne-eqb, eqb-true, eqb-false}
 use Rattle.semantics.specs.Code
 use Rattle.semantics.specs.Code.{byte}
-use Rattle.formula.specs.Codes.{among, partCount}
-use Rattle.formula.specs.Tree.{Tree, none, node, ParsedTree, nodeAt, parseTree, part, grow}
+use Rattle.formula.specs.Codes.{partCount}
+use Rattle.formula.specs.Tree.{Tree, none, node, ParsedTree, nodeAt, parseTree, part}
 use Rattle.formula.specs.declared.node.Node.{Node}
 use Rattle.formula.proofs.NodeBranches.{parse-zero, parse-step, parts-of}
 use Rattle.formula_compare.specs.Same.{sameTree, sameOf, pairOf, pairAt}

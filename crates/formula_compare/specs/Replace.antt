@@ -1,7 +1,7 @@
 -- Replacement of names by trees.
 use Prim.Native.Nat.{ℕ}
 use mathlib.Core.List.{List, [], _∷_}
-use mathlib.Core.Bool.{Bool, true, false, cond, _&&_}
+use mathlib.Core.Bool.{Bool, false, cond, _&&_}
 use lib.Dec.{eqb}
 use Rattle.semantics.specs.Code
 use Rattle.semantics.specs.Code.{byte}

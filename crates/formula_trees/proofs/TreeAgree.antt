@@ -1,7 +1,6 @@
 -- Trees and formulas: reading a formula's tree gives the formula; comparison agrees.
 use mathlib.Core.Path.{_≡_, refl, ap, ap₂, sym, _∙_, subst}
-use mathlib.Core.Bool.{true, _&&_}
-use Prim.Native.Nat.{ℕ}
+use mathlib.Core.Bool.{_&&_}
 use lib.Dec.{T, eqb, eqb→eq, eqb-refl}
 use Rattle.semantics.specs.Formula.{Sort, Formula, same, Formula.const, Formula.reg, Formula.word, Formula.sum, Formula.equal, Formula.less, Formula.and, Formula.or, Formula.unsync, Formula.cov, Formula.box, Formula.one, Formula.chop, Formula.both, Formula.either, Formula.sees, Formula.bothA, Formula.eitherA, Formula.start, Formula.holds}
 use Rattle.semantics.proofs.Base.{bool-ext, and-left, and-right, and-both}

@@ -1,27 +1,17 @@
 -- The ways through the functions, one law for each.
-use mathlib.Core.Path.{_≡_, refl, ap, ap₂, sym, _∙_, subst}
-use mathlib.Core.Bool.{Bool, true, false, cond}
-use mathlib.Core.List.{List, [], _∷_}
-use Prim.Native.Nat.{ℕ, suc, _+_, _-_, _*_, _≤_, _<_}
-use native.Mathlib.Omega.{arith}
-use native.Mathlib.Numerals.{add-one, sub-one}
-use lib.Dec.{eqb, ltb}
-use lib.ListN.{length, getD}
+use mathlib.Core.Path.{_≡_, ap, sym, _∙_}
+use mathlib.Core.Bool.{true, false}
+use mathlib.Core.List.{List, []}
+use Prim.Native.Nat.{ℕ, _-_, _≤_, _<_}
 use borrow.Author.Tests.{eq-eqb, ne-eqb, lt-ltb, le-ltb}
-use Rattle.image_frames.specs.Records.{bodies}
 use Rattle.image_header.specs.declared.sizes.Sizes.{Sizes}
-use Rattle.image_bodies.specs.PointCounts.{pointCountsTo}
-use Rattle.image_meaning.specs.Program.{programOf}
 use Rattle.checker_spec.specs.Acceptance.{acceptance}
 use Rattle.checker_spec.specs.declared.acceptance.Acceptance.{Acceptance}
 use Rattle.checker_spec.specs.declared.acceptance.Acceptance.the-variants.{Granted, Declined}
-use Rattle.handover_spec.specs.Table.{pointNamed, pointsTo, newPoint}
 use Rattle.handover_spec.specs.Code.{headerOf, codeOf}
-use Rattle.handover_spec.proofs.FewPoints.{points-are}
-use Rattle.replay_machine.specs.Step.{stepped}
 use Rattle.replay_machine.specs.Start.{started}
 use Rattle.replay_machine.specs.Run.{ran}
-use Rattle.replay_machine.specs.Replayed.{roomOf, ofRun, blank}
+use Rattle.replay_machine.specs.Replayed.{roomOf}
 use Rattle.replay_machine.specs.declared.state.Machine.{Machine}
 use Rattle.replay_machine.specs.declared.run.Run.{Run}
 use Rattle.replay_machine.specs.declared.replayed.Replayed.{Replayed}

@@ -7,13 +7,13 @@ use Prim.Native.Nat.{ℕ, zero, suc, _+_, _-_, _*_, _≤_, _<_}
 use native.Mathlib.Omega.{arith}
 use lib.Dec.{T, eqb, ltb}
 use lib.ListN.{length, getD, take, drop}
-use borrow.Author.Tests.{eqb-true, eqb-false, eq-eqb, ne-eqb, ltb-true, ltb-false, lt-ltb, le-ltb}
+use borrow.Author.Tests.{eqb-true, eqb-false, eq-eqb, ne-eqb, ltb-false, lt-ltb, le-ltb}
 use Rattle.semantics.specs.Base.{Within}
 use Rattle.semantics.specs.Machine.{State, Program, Step, Start, begin, run}
 use Rattle.semantics.specs.EveryRun.{Outline, Holds}
 use Rattle.logic.proofs.Runs.{every-run}
 use Rattle.semantics.proofs.Starts.{begins}
-use Rattle.handover_spec.specs.Handover.{NewPoint, Handover, handed, across}
+use Rattle.handover_spec.specs.Handover.{NewPoint, Handover, handed}
 use Rattle.handover_spec.proofs.RunsAcross.{wf-handed}
 use Rattle.limits.specs.Numbers.{nth}
 use Rattle.limits.proofs.Numbers.{byte-past}
@@ -47,7 +47,7 @@ use Rattle.replay_machine.specs.declared.state.Machine.{Machine}
 use Rattle.replay_machine.specs.declared.run.Run.{Run}
 use Rattle.replay_machine.specs.declared.replayed.Replayed.{Replayed}
 use Rattle.replay_spec.proofs.StepFollows.{Ready, range-is}
-use Rattle.replay_spec.proofs.RunFollows.{Reached, reached, Matches, follows}
+use Rattle.replay_spec.proofs.RunFollows.{reached, Matches, follows}
 use Rattle.replay_spec.proofs.StartStands.{begun}
 use Rattle.replay_machine.specs.declared.answer.Answer.{Answer}
 use Rattle.replay_machine.specs.Answer as Answered

@@ -1,23 +1,23 @@
 -- Runs across a handover: the ways through the functions, one law for each.
-use mathlib.Core.Path.{_≡_, refl, ap, sym, _∙_}
-use mathlib.Core.Bool.{Bool, true, false, cond}
+use mathlib.Core.Path.{_≡_, ap, _∙_}
+use mathlib.Core.Bool.{Bool, true, false}
 use mathlib.Core.List.{List, [], _∷_}
 use Prim.Native.Nat.{ℕ, suc, _+_, _-_, _*_, _≤_, _<_}
 use native.Mathlib.Omega.{arith}
-use lib.Dec.{eqb, ltb}
+use lib.Dec.{eqb}
 use lib.ListN.{length, getD}
 use borrow.Author.Tests.{eq-eqb, ne-eqb, lt-ltb, le-ltb}
 use Rattle.image_frames.specs.Records.{bodies}
 use Rattle.image_header.specs.declared.sizes.Sizes.{Sizes}
 use Rattle.image_bodies.specs.PointCounts.{pointCountsTo}
 use Rattle.image_meaning.specs.Program.{programOf}
-use Rattle.handover_spec.specs.Table.{pointNamed, pointsTo, newPoint}
+use Rattle.handover_spec.specs.Table.{pointNamed, pointsTo}
 use Rattle.handover_spec.proofs.FewPoints.{points-are}
 use Rattle.replay_machine.specs.Step.{stepped}
 use Rattle.replay_machine.specs.Run.{ran}
 use Rattle.replay_machine.specs.declared.state.Machine.{Machine}
 use Rattle.replay_machine.specs.declared.run.Run.{Run}
-use Rattle.handover_replay.specs.JoinedRun.{mostSteps, mappedPoint, handedOver, behind, wentOn}
+use Rattle.handover_replay.specs.JoinedRun.{mappedPoint, handedOver, wentOn}
 
 -- points
 

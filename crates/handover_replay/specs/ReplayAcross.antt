@@ -1,7 +1,7 @@
 -- A replay across a handover, on numbers: 32, 33 or 34 where it is not permitted; 29 where the start writes do not fit; else the run over
 -- the first trace under the old code, and, if no step of it is refused, the run over the second under the new code.
 use Prim.Native.Nat.{ℕ}
-use mathlib.Core.Bool.{true, false, cond}
+use mathlib.Core.Bool.{false, cond}
 use mathlib.Core.List.{List}
 use lib.Dec.{eqb, ltb}
 use Rattle.image_header.specs.declared.sizes.Sizes.{Sizes}

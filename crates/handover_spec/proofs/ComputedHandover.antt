@@ -3,7 +3,6 @@
 use mathlib.Core.Path.{_≡_, refl}
 use mathlib.Core.Bool.{true, false}
 use mathlib.Core.List.{List, [], _∷_}
-use Prim.Native.Nat.{ℕ}
 use Rattle.semantics.specs.Base.{upd}
 use Rattle.semantics.specs.Formula.{Formula.const}
 use Rattle.semantics.specs.Machine.{Program, Access.none, Access.load, Instr, Instr.act, Step, run, up, down}

@@ -2,14 +2,12 @@
 use Prim.Native.Nat.{ℕ, zero, suc, _+_, _-_, _*_, _≤_, _<_}
 use mathlib.Core.Path.{_≡_, refl, ap, sym, _∙_}
 use mathlib.Core.List.{List}
-use mathlib.Core.Bool.{Bool, true, false, not, cond}
+use mathlib.Core.Bool.{Bool, true, false, cond}
 use native.Mathlib.Omega.{arith}
-use lib.Dec.{eqb}
-use borrow.Author.Tests.{eq-eqb, ne-eqb}
 use Rattle.logic.specs.Opcode as Opcode
 use lib.ListN.{length, getD, drop, List·getD-eq-default}
 use lib.Seq.{drop-drop, getD-drop}
-use Rattle.limits.specs.Numbers.{le16, every}
+use Rattle.limits.specs.Numbers.{every}
 use Rattle.image_header.specs.declared.sizes.Sizes.{Sizes}
 use Rattle.image_header.specs.declared.instruction.Instruction.{Instruction}
 use Rattle.image_header.specs.Instruction.{twofold, instructionSize, instruction, ranged}

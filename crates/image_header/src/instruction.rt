@@ -6,7 +6,7 @@ use limits::read::u8_at;
 use limits::read::u16_at;
 ghost use mathlib.Core.Path.{_≡_};
 ghost use Prim.Native.Nat.{_≤_};
-ghost use Rattle.image_header.specs.Instruction.{twofold, pairOperation, firstOperation, instructionSize, half, noHalf, secondHalf, instruction, fieldsOf, fieldsFit, halfFits, secondFits, ranged};
+ghost use Rattle.image_header.specs.Instruction.{twofold, pairOperation, firstOperation, instructionSize, half, secondHalf, instruction, fieldsOf, fieldsFit, halfFits, secondFits, ranged};
 
 // Five bytes: the assignment that goes with an instruction.
 pub struct Half {

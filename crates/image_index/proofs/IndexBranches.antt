@@ -1,21 +1,21 @@
 -- The table, and what the look-ups take from it.
 use Prim.Native.Nat.{ℕ, zero, suc, _+_, _-_, _*_, _≤_, _<_, min}
 use mathlib.Core.Path.{_≡_, refl, ap, sym, _∙_, subst}
-use mathlib.Core.List.{List, [], _∷_}
+use mathlib.Core.List.{List}
 use mathlib.Core.Bool.{Bool, true, false, cond}
 use native.Mathlib.Numerals.{add-one, sub-one}
 use native.Mathlib.Omega.{arith}
 use mathlib.Core.Logic.{_≢_}
 use lib.ListN.{length, getD, set, drop, take, replicate, drop-of-length-le, length-set, length-replicate, getD-replicate}
-use lib.Seq.{drop-drop, drop-length, getD-set-same, getD-set-other, set-getD}
+use lib.Seq.{drop-drop, getD-set-same, getD-set-other, set-getD}
 use lib.Dec.{leb, ltb, eqb}
-use borrow.Author.Tests.{leb-true, leb-false, ltb-true, ltb-false, eqb-true, eqb-false, lt-ltb, le-ltb, le-leb, lt-leb, eq-eqb, ne-eqb}
+use borrow.Author.Tests.{eqb-true, eqb-false, lt-ltb, le-ltb, le-leb, lt-leb}
 use Rattle.limits.specs.Limits as Limits
 use Rattle.limits.specs.Numbers.{le16}
 use Rattle.image_frames.proofs.Branches.Walk.{long}
-use Rattle.image_frames.specs.Records.{body, cut, bodies, startOf}
+use Rattle.image_frames.specs.Records.{body, startOf}
 use Rattle.image_header.specs.Thread.{lastPoint, begins}
-use Rattle.image_index.specs.IndexTable.{room, tableSize, recordsTo, nextStart, isThread, firstFrom, firstThread, rowTo, rowOf, behind, rowsTo, indexOf, placeOf}
+use Rattle.image_index.specs.IndexTable.{room, tableSize, recordsTo, nextStart, isThread, firstFrom, firstThread, rowTo, rowOf, behind, rowsTo, indexOf}
 use Rattle.image_index.specs.declared.starts.FirstThread.{FirstThread}
 
 -- from record to record

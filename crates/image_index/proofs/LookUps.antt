@@ -5,10 +5,10 @@ use mathlib.Core.List.{List, [], _∷_}
 use mathlib.Core.Bool.{Bool, true, false, cond}
 use native.Mathlib.Omega.{arith}
 use mathlib.Core.Logic.{_≢_}
-use lib.ListN.{length, getD, set, drop, drop-of-length-le, length-set, length-replicate}
+use lib.ListN.{length, getD, set, drop, drop-of-length-le, length-set}
 use lib.Seq.{drop-drop, drop-length, getD-set-same, getD-set-other}
 use lib.Dec.{leb, ltb, eqb}
-use borrow.Author.Tests.{leb-true, leb-false, ltb-true, ltb-false, eqb-true, eqb-false, lt-ltb, le-ltb}
+use borrow.Author.Tests.{leb-true, leb-false, ltb-true, ltb-false, eqb-true, eqb-false, lt-ltb}
 use Rattle.limits.specs.Limits as Limits
 use Rattle.limits.specs.Numbers.{le16}
 use Rattle.image_frames.specs.Records.{body, cut, bodies, startOf}
@@ -16,7 +16,6 @@ use Rattle.image_header.specs.Thread.{lastPoint, begins, instructions, nothing}
 use Rattle.image_header.specs.declared.instruction.Instruction.{Instruction}
 use Rattle.image_header.proofs.ThreadBranches.{at-past}
 use Rattle.image_index.specs.IndexTable.{room, tableSize, recordsTo, nextStart, isThread, firstFrom, firstThread, behind, rowsTo, indexOf, placeOf}
-use Rattle.image_index.specs.declared.starts.FirstThread.{FirstThread}
 use Rattle.image_index.proofs.IndexBranches.{room-few, size-is, records-length, rows-length, rows-out, rows-in}
 
 -- a body is the one that is cut off

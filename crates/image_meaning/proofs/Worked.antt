@@ -4,8 +4,8 @@ use mathlib.Core.Bool.{true, false}
 use mathlib.Core.List.{List, [], _∷_, map}
 use Prim.Native.Nat.{ℕ}
 use Rattle.semantics.specs.Formula.{Sort}
-use Rattle.semantics.specs.Machine.{Mode.store, Mode.swap, Mode.exchange, Mode.fetchAdd, Access.none, Access.load, Access.write, Instr, Instr.act, Instr.branch}
-use Rattle.logic.specs.Statement.{Statement, inside, implies, triple, taking}
+use Rattle.semantics.specs.Machine.{Mode.store, Mode.swap, Mode.exchange, Mode.fetchAdd, Access.none, Access.load, Access.write, Instr.act, Instr.branch}
+use Rattle.logic.specs.Statement.{inside, implies, triple, taking}
 use Rattle.limits.specs.Numbers.{le16}
 use Rattle.image_header.specs.declared.sizes.Sizes.{Sizes}
 use Rattle.image_header.specs.declared.instruction.Half.{Half}

@@ -1,7 +1,7 @@
 -- The obligations of a program and its outline, in order, and what each asks for.
 use mathlib.Core.Bool.{true, false}
 use mathlib.Core.List.{List, [], _∷_, _++_, map}
-use Prim.Native.Nat.{ℕ, zero, suc, _-_}
+use Prim.Native.Nat.{ℕ, suc, _-_}
 use lib.Dec.{eqb}
 use Rattle.semantics.specs.Formula.{Formula, Formula.bothA, Formula.holds}
 use Rattle.semantics.specs.Base.{below, upTo}

@@ -19,9 +19,9 @@ use Rattle.semantics.proofs.Base.{is-true, holds-true}
 use Rattle.logic_schemas.proofs.Fit.{statement-eq, statement-refl}
 use Rattle.logic.specs.Claims.{NeverBoth}
 use Rattle.logic.proofs.Runs.{every-run, never-both}
-use Rattle.logic_outline.specs.Lines.{marked, Justified}
+use Rattle.logic_outline.specs.Lines.{marked}
 use Rattle.logic_outline.proofs.Marks.{marked-justified, justified-marked, justified-derived}
-use Rattle.logic_outline.specs.Verdict.{Image, Judgement, met, failed, codeOf, asks, lineCode, code, judge, judgement, Bears, Met, AllMet, Finding, accepted, unmet, denied, forbids, sustained, judgeClaims, behindObligations, finding, Admitted}
+use Rattle.logic_outline.specs.Verdict.{Image, Judgement, met, failed, codeOf, asks, lineCode, code, judge, judgement, Bears, Met, AllMet, Finding, accepted, denied, forbids, sustained, judgeClaims, behindObligations, finding, Admitted}
 use Rattle.logic_outline.specs.Judged.{Sustains, EachSustained}
 
 module _ (D : Image) where

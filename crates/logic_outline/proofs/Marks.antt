@@ -13,7 +13,7 @@ use Rattle.logic.specs.Statement.{Statement, admitted}
 use Rattle.logic.specs.Derivation.{Derived, by-rule}
 use Rattle.semantics.proofs.Base.{and-left, and-right, and-both}
 use Rattle.logic_schemas.proofs.Rules.{fits-rule, rule-fits}
-use Rattle.logic_outline.specs.Lines.{Line, Certificate, saying, lineFits, marked, Justified, justified}
+use Rattle.logic_outline.specs.Lines.{Certificate, saying, lineFits, marked, Justified, justified}
 
 -- each member of a list, by its place
 pub each-at : (f : ℕ → Bool) (l : List ℕ) → T (all f l) → (i : ℕ) → i < length l → T (f (getD l i 0))

@@ -1,13 +1,13 @@
 -- Class 4 in another order: an image whose lines are moved with their obligations is accepted exactly if it was before.
-use mathlib.Core.Path.{_≡_, refl, ap, ap₂, sym, _∙_, subst}
+use mathlib.Core.Path.{_≡_, refl, ap, ap₂, sym, _∙_}
 use mathlib.Core.Bool.{Bool, true, false, _&&_}
 use mathlib.Core.List.{List, [], _∷_, _++_, append-assoc}
-use Prim.Native.Nat.{ℕ, suc, _+_, _<_}
+use Prim.Native.Nat.{ℕ, suc, _+_}
 use native.Mathlib.Omega.{arith}
 use lib.Dec.{eqb}
 use lib.ListN.{length}
 use Rattle.semantics.specs.Machine.{Program}
-use Rattle.logic.specs.Obligations.{Obligation, starts, steps, interferences, obligations}
+use Rattle.logic.specs.Obligations.{Obligation, starts, steps, interferences}
 use Rattle.logic.proofs.Order.{formerly, all-formerly, allMet, moved, moved-alike}
 use Rattle.logic_outline.specs.Verdict.{Image, Judgement, met, failed, lineCode, code, judge, judgement}
 

@@ -15,7 +15,7 @@ use Rattle.semantics.specs.EveryRun.{Outline}
 use Rattle.logic.specs.Obligations.{Obligation, obligations, wants}
 use Rattle.logic.specs.Claims.{Claim, threadsIn, claims as excludes}
 use Rattle.logic.specs.WellFormed.{WellFormed}
-use Rattle.logic_outline.specs.Lines.{Line, Certificate, marked, Justified}
+use Rattle.logic_outline.specs.Lines.{Certificate, marked, Justified}
 
 -- so many claims, counted from 0: what each says, the line that it names (0 for none), the number of its record
 pub record Claims : Type 0 where

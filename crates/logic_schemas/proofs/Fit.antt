@@ -1,14 +1,13 @@
 -- What a fitting line tells, and what makes a line fit, whatever the rule.
-use mathlib.Core.Path.{_≡_, refl, ap, ap₂, sym, subst, subst₂}
-use mathlib.Core.Bool.{Bool, true, false, not, _&&_, _||_}
+use mathlib.Core.Path.{_≡_, refl, ap₂, subst}
+use mathlib.Core.Bool.{Bool, true, false, not, _&&_}
 use mathlib.Core.List.{List, [], _∷_}
 use Prim.Native.Nat.{ℕ}
-use native.Mathlib.Omega.{arith}
 use lib.Dec.{T, leb, eqb, eqb→eq, eqb-refl}
 use lib.ListN.{length}
 use Rattle.semantics.specs.Base.{all, All}
 use Rattle.semantics.specs.Limits
-use Rattle.semantics.specs.Formula.{Value, Interval, Assertion, same}
+use Rattle.semantics.specs.Formula.{Value, Assertion, same}
 use Rattle.semantics.specs.Replace.{Note}
 use Rattle.semantics.specs.Machine.{Program, Mode, Mode.store, Mode.swap, Mode.exchange, Mode.fetchAdd, covers, returns, Access.none, Access.load, Access.write, Instr, Instr.act, Instr.branch}
 use Rattle.logic.specs.Statement.{Statement, inside, implies, triple, pair, first, isImp}
@@ -16,7 +15,7 @@ use Rattle.logic.specs.Opcode
 use Rattle.logic_schemas.specs.Pattern.{Fill}
 use Rattle.logic_schemas.specs.Rules
 use Rattle.logic.specs.Rule.{Rule}
-use Rattle.logic_schemas.specs.Rules.{Shape, Side, Row, row, Premises, these, implications}
+use Rattle.logic_schemas.specs.Rules.{Row, row, Premises, these, implications}
 use Rattle.logic_schemas.specs.Fits.{sameStatement, sameAll, isAmong, opcode, filled, filledAll, premisesFit, operationFits, sideHolds, fitsBy, threadOf, pointOf, found, fits}
 use Rattle.semantics.proofs.Base.{and-left, and-right, and-both, all-All}
 use Rattle.semantics.proofs.Encoding.{same-eq, same-refl}

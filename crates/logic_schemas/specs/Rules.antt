@@ -4,7 +4,7 @@ use Prim.Native.Nat.{ℕ}
 use Rattle.semantics.specs.Formula.{Sort}
 use Rattle.logic.specs.Opcode
 use Rattle.logic.specs.Rule.{Rule, r1, r2, r3, r4, r5, r6, r7, r8, r9, r10, r11, r12, r13, r14, r15, r16, r20, r21, r22, r23, r24, r25, r26, r27, r30, r31, r32, r33, r34, r35, r36, r37, r38, r39, r40, r41, r42, r43, r44, r45, r46, r47, r48, r49, r50}
-use Rattle.logic_schemas.specs.Pattern.{Num, Pattern, t, x, r, u, y, anyA, anyI, anyE, anyV, f, const, reg, word, equal, and, unsync, cov, box, one, chop, both, either, sees, bothA, eitherA, start, holds}
+use Rattle.logic_schemas.specs.Pattern.{Num, Pattern, t, x, u, y, anyA, anyI, anyE, anyV, f, const, reg, word, equal, and, unsync, cov, box, one, chop, both, either, sees, bothA, eitherA, start, holds}
 
 -- a line's form, its left and its right side
 pub data Shape : Type 0 where

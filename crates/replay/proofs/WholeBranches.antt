@@ -9,8 +9,8 @@ use Rattle.checker_spec.specs.declared.acceptance.Acceptance.{Acceptance}
 use Rattle.checker_spec.specs.declared.acceptance.Acceptance.the-variants.{Granted, Declined}
 use Rattle.replay_machine.specs.declared.state.Machine.{Machine}
 use Rattle.replay_machine.specs.Start.{started}
-use Rattle.replay_machine.specs.Replayed.{roomOf, replayOn, blank}
-use Rattle.replay_spec.specs.ReplayNumbers.{byAcceptance, replayOf}
+use Rattle.replay_machine.specs.Replayed.{roomOf, replayOn}
+use Rattle.replay_spec.specs.ReplayNumbers.{replayOf}
 use Rattle.replay_machine.specs.declared.replayed.Replayed.{Replayed}
 
 module _ (s trace given : List ℕ) (lent : ℕ) (a : Acceptance) (e : a ≡ acceptance s) where

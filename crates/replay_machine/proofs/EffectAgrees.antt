@@ -1,19 +1,19 @@
 -- An instruction whose formulas are worked out does what the logic's instruction does: operation by operation.
 use Prim.Native.Nat.{ℕ, zero, suc, _+_, _-_, _%_, _≤_, _<_}
-use mathlib.Core.Path.{_≡_, refl, ap, ap₂, sym, _∙_, subst}
+use mathlib.Core.Path.{_≡_, refl, ap₂, sym, _∙_, subst}
 use mathlib.Core.Bool.{Bool, true, false, cond, not, _&&_}
-use mathlib.Core.List.{List, [], _∷_}
+use mathlib.Core.List.{List}
 use native.Mathlib.Omega.{arith}
 use native.Mathlib.Numerals.{add-one}
 use lib.Dec.{T, eqb, ltb, leb, ltb→lt}
-use borrow.Author.Tests.{lt-ltb, eqb-true}
+use borrow.Author.Tests.{lt-ltb}
 use Rattle.semantics.specs.Base.{upd}
-use Rattle.semantics.specs.Formula.{Sort, Value}
+use Rattle.semantics.specs.Formula.{Sort}
 use Rattle.semantics.specs.Eval.{test, onRegs}
 use Rattle.logic.specs.Opcode as Opcode
 use Rattle.semantics.specs.Machine as Logic
-use Rattle.semantics.specs.Machine.{State, Program, Access.none, Access.load, Access.write, Instr, Instr.act, Instr.branch, worked, allowed, exec}
-use Rattle.semantics.proofs.Base.{upd-same, and-left, and-right}
+use Rattle.semantics.specs.Machine.{State, Program, Instr, Instr.branch, worked, allowed, exec}
+use Rattle.semantics.proofs.Base.{upd-same, and-left}
 use Rattle.semantics.proofs.Invariant.{Wf}
 use Rattle.limits.specs.Numbers.{within}
 use Rattle.limits.proofs.PassedTests.{and-true, within-true}

@@ -1,7 +1,7 @@
 -- The instruction at a thread's point, its formulas worked out from their positions in the image, does what the program's does.
-use Prim.Native.Nat.{ℕ, zero, suc, _+_, _≤_, _<_}
-use mathlib.Core.Path.{_≡_, refl, ap, sym, _∙_, subst, fun-ext}
-use mathlib.Core.Bool.{Bool, true, false, _&&_}
+use Prim.Native.Nat.{ℕ, suc, _≤_, _<_}
+use mathlib.Core.Path.{_≡_, ap, sym, _∙_, subst, fun-ext}
+use mathlib.Core.Bool.{true}
 use mathlib.Core.List.{List, []}
 use native.Mathlib.Omega.{arith}
 use lib.Dec.{T, eqb}
@@ -13,15 +13,14 @@ use Rattle.logic.specs.Opcode as Opcode
 use Rattle.semantics.specs.Machine.{State, Program, worked}
 use Rattle.semantics.proofs.Invariant.{Wf}
 use Rattle.limits.specs.Limits as Limits
-use Rattle.limits.specs.Numbers.{nth, within, every}
+use Rattle.limits.specs.Numbers.{nth}
 use Rattle.limits.proofs.PassedTests.{and-true}
 use Rattle.image_frames.specs.Records.{bodies}
 use Rattle.formula.specs.Codes as Codes
-use Rattle.formula.specs.Reader.{sortOf}
 use Rattle.formula_trees.specs.ToTree.{toTree}
 use Rattle.image_header.specs.declared.sizes.Sizes.{Sizes}
 use Rattle.image_header.specs.declared.instruction.Instruction.{Instruction}
-use Rattle.image_header.specs.Header.{counted, startValues, owners, marks, headed, header}
+use Rattle.image_header.specs.Header.{counted, headed, header}
 use Rattle.image_header.specs.Instruction.{twofold, fieldsOf, ranged}
 use Rattle.image_header.specs.Thread.{lastPoint}
 use Rattle.image_header.proofs.HeaderBranches.{Counted, counted-in}
@@ -31,7 +30,7 @@ use Rattle.image_bodies.specs.ThreadBody.{wanted, sorted}
 use Rattle.image_meaning.specs.Formulas.{formula}
 use Rattle.image_access.specs.AccessPlaces.{formulaAt}
 use Rattle.image_access.specs.AccessTrees.{treeAt}
-use Rattle.image_meaning.specs.Program.{instr, programOf}
+use Rattle.image_meaning.specs.Program.{programOf}
 use Rattle.image_meaning.proofs.PassedChecks.{unless-passed}
 use Rattle.image_meaning.proofs.RecordsChecked.{Checks, header-passed}
 use Rattle.image_meaning.proofs.FormulaSorts.{formula-bounded}

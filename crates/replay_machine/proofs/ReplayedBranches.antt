@@ -10,9 +10,8 @@ use Rattle.image_header.specs.declared.sizes.Sizes.{Sizes}
 use Rattle.replay_machine.specs.declared.state.Machine.{Machine}
 use Rattle.replay_machine.specs.Start.{started}
 use Rattle.replay_machine.specs.Run.{ran}
-use Rattle.replay_machine.specs.Replayed.{ofRun, replayOn}
+use Rattle.replay_machine.specs.Replayed.{replayOn}
 use Rattle.replay_machine.specs.declared.run.Run.{Run}
-use Rattle.replay_machine.specs.declared.replayed.Replayed.{Replayed}
 
 module _ (s : List ℕ) (z : Sizes) (trace given : List ℕ) (room : ℕ) (b : List ℕ) (n : Machine) (eb : b ≡ getD (bodies s) 0 [])
     (en : n ≡ started b (z .range) given) where

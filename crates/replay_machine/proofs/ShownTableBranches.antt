@@ -2,7 +2,7 @@
 use Prim.Native.Nat.{ℕ, suc, _+_, _≤_, _<_}
 use mathlib.Core.Path.{_≡_, refl, ap, sym, _∙_}
 use mathlib.Core.Bool.{Bool, true, false, cond}
-use mathlib.Core.List.{List, []}
+use mathlib.Core.List.{List}
 use native.Mathlib.Omega.{arith}
 use lib.Dec.{ltb}
 use lib.ListN.{length, getD, set, take, List·getD-eq-default}
@@ -10,7 +10,7 @@ use borrow.Author.Tests.{ltb-true, ltb-false}
 use Rattle.tables_columns.specs.Column.{column}
 use Rattle.tables_columns.proofs.ColumnLists.{column-none, column-length, column-getD}
 use Rattle.replay_memory.specs.Write.{noWrite, startWrite}
-use Rattle.replay_memory.specs.Memory.{first, indexOf, writeAt}
+use Rattle.replay_memory.specs.Memory.{writeAt}
 use Rattle.semantics.specs.Machine.{State}
 use Rattle.replay_memory.specs.MemoryStands.{SameWrite, Stands}
 use Rattle.replay_memory.specs.declared.write.Write.{Write}
@@ -20,7 +20,6 @@ use Rattle.replay_memory.proofs.OrderPlaces.{row-ends, place}
 use Rattle.replay_memory.proofs.StandsAfterInsert.{size-is}
 use Rattle.replay_machine.specs.Refusal.{total}
 use Rattle.replay_machine.specs.ShownTable.{entries, packedTo, packed}
-use Rattle.replay_machine.specs.declared.shown_table.Packed.{Packed}
 
 pub entries-length : (m : Memory) (n : ℕ) → length (entries m n) ≡ total m n
 unfolding entries

@@ -1,6 +1,6 @@
 -- The start: the ways through the functions, one law for each.
 use Prim.Native.Nat.{ℕ, _+_, _%_, _≤_, _<_}
-use mathlib.Core.Path.{_≡_, refl, ap, sym, _∙_}
+use mathlib.Core.Path.{_≡_, ap, sym, _∙_}
 use mathlib.Core.Bool.{Bool, true, false}
 use mathlib.Core.List.{List}
 use lib.ListN.{length, getD, set, take, replicate}
@@ -16,7 +16,6 @@ use Rattle.replay_memory.specs.declared.memory.Memory.{Memory}
 use Rattle.replay_memory.proofs.ViewBranches.{column-set, column-whole, repeated}
 use Rattle.replay_machine.specs.declared.locals.Registers.{Registers}
 use Rattle.replay_machine.specs.Start.{startWrites, startMemory, startRegister, startValuesTo, startRegisters, started}
-use Rattle.replay_machine.specs.declared.state.Machine.{Machine}
 
 module _ (b : List ℕ) where
   abbrev begins : ℕ → Write

@@ -1,21 +1,19 @@
 -- What the code finds of a state is what the logic finds: positions that may be picked, values read, registers set.
-use Prim.Native.Nat.{ℕ, zero, suc, _+_, _-_, _%_, _≤_, _<_}
-use mathlib.Core.Path.{_≡_, refl, ap, ap₂, sym, _∙_, subst}
+use Prim.Native.Nat.{ℕ, zero, suc, _-_, _≤_, _<_}
+use mathlib.Core.Path.{_≡_, refl, ap, sym, _∙_}
 use mathlib.Core.Bool.{Bool, true, false, cond, not, _&&_}
-use mathlib.Core.List.{List}
 use mathlib.Core.Logic.{_≢_}
 use native.Mathlib.Omega.{arith}
-use native.Mathlib.Numerals.{sub-one, add-one}
-use lib.Dec.{T, eqb, ltb, leb}
-use lib.ListN.{length, getD, set, length-set}
+use native.Mathlib.Numerals.{sub-one}
+use lib.Dec.{ltb, leb}
+use lib.ListN.{set, length-set}
 use lib.Seq.{getD-set-same, getD-set-other}
-use borrow.Author.Tests.{lt-ltb, le-ltb, eq-eqb, ne-eqb, eqb-true, eqb-false, ltb-true, ltb-false}
+use borrow.Author.Tests.{le-ltb, ne-eqb, ltb-true}
 use Rattle.semantics.specs.Base.{upd}
 use Rattle.semantics.specs.Machine as Logic
 use Rattle.semantics.specs.Machine.{State}
 use Rattle.semantics.proofs.Base.{upd-same, upd-other, by-word}
 use Rattle.limits.specs.Numbers.{nth}
-use Rattle.replay_memory.specs.View.{positionIn}
 use Rattle.replay_memory.specs.Memory.{writeAt, sizeAt, viewOf, seenBy}
 use Rattle.replay_memory.specs.MemoryStands.{Stands}
 use Rattle.replay_memory.specs.declared.memory.Memory.{Memory}

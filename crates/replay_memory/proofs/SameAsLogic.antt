@@ -1,13 +1,13 @@
 -- Views and writes that say the same as the logic's: moved up, joined, set.
-use Prim.Native.Nat.{ℕ, zero, suc, _+_, _-_, _*_, _%_, _≤_, _<_, max}
-use mathlib.Core.Path.{_≡_, refl, ap, ap₂, sym, _∙_, subst, subst₂}
-use mathlib.Core.Bool.{Bool, true, false, cond}
+use Prim.Native.Nat.{ℕ, suc, _-_, _%_, _<_, max}
+use mathlib.Core.Path.{_≡_, refl, ap₂, _∙_}
+use mathlib.Core.Bool.{Bool, true, false}
 use mathlib.Core.List.{List}
 use mathlib.Core.Logic.{_≢_}
 use native.Mathlib.Omega.{arith}
 use native.Mathlib.Nat.{mod-eq-of-lt}
 use native.Mathlib.Numerals.{add-one}
-use lib.Dec.{eqb, ltb, leb}
+use lib.Dec.{eqb}
 use lib.ListN.{length, getD, set, length-set}
 use lib.Seq.{getD-set-same, getD-set-other}
 use borrow.Author.Tests.{lt-ltb, eqb-true, eqb-false}
@@ -16,7 +16,7 @@ use Rattle.semantics.specs.Machine as Logic
 use Rattle.semantics.proofs.Base.{upd-same, upd-other}
 use Rattle.tables_columns.proofs.ColumnLists.{column-length, column-getD}
 use Rattle.replay_memory.specs.View.{next, up, positionIn, withPosition, upView, joinedTo, joined}
-use Rattle.replay_memory.specs.Write.{upWrite, coveredWrite}
+use Rattle.replay_memory.specs.Write.{upWrite}
 use Rattle.replay_memory.specs.MemoryStands.{SameView, SameWrite}
 use Rattle.replay_memory.specs.declared.view.View.{View}
 use Rattle.replay_memory.specs.declared.write.Write.{Write}

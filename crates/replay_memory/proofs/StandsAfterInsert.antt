@@ -1,20 +1,20 @@
 -- Views set, a write covered, a write inserted: what stands for a state of the logic stands for its next one.
-use Prim.Native.Nat.{ℕ, zero, suc, _+_, _-_, _*_, _%_, _≤_, _<_}
+use Prim.Native.Nat.{ℕ, suc, _+_, _-_, _%_, _≤_, _<_}
 use mathlib.Core.Path.{_≡_, refl, ap, sym, _∙_, subst}
-use mathlib.Core.Bool.{Bool, true, false, cond}
+use mathlib.Core.Bool.{Bool, true, false}
 use mathlib.Core.List.{List}
 use mathlib.Core.Logic.{_≢_}
 use native.Mathlib.Omega.{arith}
 use native.Mathlib.Nat.{mod-eq-of-lt}
 use native.Mathlib.Numerals.{add-one}
-use lib.Dec.{eqb, ltb, leb}
+use lib.Dec.{eqb, ltb}
 use lib.ListN.{length, getD, set, length-set}
 use lib.Seq.{getD-set-same, getD-set-other}
-use borrow.Author.Tests.{lt-ltb, le-ltb, eqb-true, eqb-false, ltb-true, ltb-false, leb-true, leb-false, lt-leb, le-leb}
+use borrow.Author.Tests.{lt-ltb, eqb-true, eqb-false, ltb-true, ltb-false}
 use Rattle.semantics.specs.Base.{upd}
 use Rattle.semantics.specs.Machine as Logic
 use Rattle.semantics.specs.Machine.{State}
-use Rattle.semantics.proofs.Base.{upds, upd-same, upd-other, upd-case, down-is}
+use Rattle.semantics.proofs.Base.{upds, down-is}
 use Rattle.tables_columns.proofs.ColumnLists.{column-length, column-getD}
 use Rattle.replay_memory.specs.View.{next, upView}
 use Rattle.replay_memory.specs.Write.{noView, noWrite, upWrite, coveredWrite}

@@ -1,18 +1,18 @@
 -- A replay of an accepted image, whose start writes fit, is the logic's; and what its outline says is true in the state reached.
 use mathlib.Core.Path.{_≡_, refl, ap, sym, _∙_, subst}
 use mathlib.Core.List.{List, []}
-use Prim.Native.Nat.{ℕ, _+_, _≤_, _<_}
+use Prim.Native.Nat.{ℕ, _≤_}
 use native.Mathlib.Omega.{arith}
-use lib.ListN.{length, getD, take, replicate}
+use lib.ListN.{getD, take, replicate}
 use borrow.Author.Tests.{le-ltb}
-use Rattle.semantics.specs.Machine.{State, Program, run}
+use Rattle.semantics.specs.Machine.{State, run}
 use Rattle.semantics.specs.EveryRun.{Holds, EveryRun}
 use Rattle.semantics.proofs.Starts.{begins}
 use Rattle.limits.specs.Numbers.{nth}
 use Rattle.image_frames.specs.Records.{bodies}
 use Rattle.image_header.specs.declared.sizes.Sizes.{Sizes}
 use Rattle.logic_outline.specs.Verdict.{Image}
-use Rattle.image_meaning.specs.Image.{Result, read, decode, imageOf}
+use Rattle.image_meaning.specs.Image.{read, imageOf}
 use Rattle.image_meaning.specs.Program.{programOf, outlineOf}
 use Rattle.image_meaning.proofs.RecordsChecked.{Checks, sound-checks}
 use Rattle.image_meaning.proofs.WellFormedProgram.{range-two}
@@ -26,14 +26,11 @@ use Rattle.checker_spec.proofs.AcceptedHolds.{granted-holds}
 use Rattle.checker_spec.proofs.AcceptedRuns.{promised}
 use Rattle.replay_machine.specs.Start.{started}
 use Rattle.replay_machine.specs.Run.{ran}
-use Rattle.replay_spec.specs.MachineReplay.{replayed, stepsIn}
-use Rattle.replay_machine.specs.Replayed.{roomOf, ofRun, replayOn}
-use Rattle.replay_spec.specs.ReplayNumbers.{byAcceptance, replayOf}
+use Rattle.replay_spec.specs.MachineReplay.{stepsIn}
+use Rattle.replay_machine.specs.Replayed.{replayOn}
 use Rattle.replay_spec.specs.Follows.{outcome, first, Follows}
-use Rattle.replay_machine.specs.declared.run.Run.{Run}
-use Rattle.replay_machine.specs.declared.replayed.Replayed.{Replayed}
 use Rattle.replay_spec.proofs.StepFollows.{Ready, range-is}
-use Rattle.replay_spec.proofs.RunFollows.{Reached, reached, Matches, follows}
+use Rattle.replay_spec.proofs.RunFollows.{Reached, reached, follows}
 use Rattle.replay_spec.proofs.StartStands.{begun}
 
 same-content : (D E : Image) → read D ≡ read E → D ≡ E

@@ -1,32 +1,27 @@
 -- What a replay promises: the answer and the table stand for the state that the logic's machine reaches, and its outline is true on the
 -- way and there.
-use mathlib.Core.Path.{_≡_, refl, ap, ap₂, sym, _∙_, subst, fun-ext}
+use mathlib.Core.Path.{_≡_, refl, ap, sym, _∙_, subst, fun-ext}
 use mathlib.Core.Bool.{true, false}
 use mathlib.Core.List.{List, [], _++_}
-use Prim.Native.Nat.{ℕ, zero, suc, _+_, _≤_, _<_, min}
+use Prim.Native.Nat.{ℕ, suc, _+_, _≤_, _<_, min}
 use native.Mathlib.Omega.{arith}
 use lib.Dec.{T}
-use lib.ListN.{length, getD, take, drop, replicate}
+use lib.ListN.{length, getD, take, drop}
 use lib.Seq.{take-all}
 use borrow.Author.Tests.{lt-ltb, le-ltb}
 use Rattle.semantics.specs.Base.{Within}
 use Rattle.semantics.specs.Machine.{State, Program, Step, Start, run}
-use Rattle.semantics.specs.EveryRun.{Outline, EveryRun}
+use Rattle.semantics.specs.EveryRun.{Outline}
 use Rattle.semantics.proofs.Invariant.{Wf}
 use Rattle.semantics.proofs.Starts.{begins}
 use Rattle.limits.specs.Numbers.{nth}
 use Rattle.image_frames.specs.Records.{bodies}
 use Rattle.image_header.specs.declared.sizes.Sizes.{Sizes}
-use Rattle.logic_outline.specs.Verdict.{Image}
-use Rattle.image_meaning.specs.Image.{read, imageOf}
 use Rattle.image_meaning.specs.Program.{programOf, outlineOf}
 use Rattle.image_meaning.proofs.RecordsChecked.{Checks, sound-checks}
 use Rattle.image_meaning.proofs.WellFormedProgram.{range-two}
-use Rattle.verdict_record.specs.Fields.{gathered, fieldsOf}
-use Rattle.verdict_record.specs.Output.{codeFor, bytesFor}
-use Rattle.verdict_record.specs.declared.verdict.Verdict.the-variants.{Accepted}
+use Rattle.verdict_record.specs.Output.{codeFor}
 use Rattle.checker_spec.specs.Acceptance.{acceptance}
-use Rattle.checker_spec.specs.Promise.{TrueInEveryRun}
 use Rattle.checker_spec.specs.declared.acceptance.Acceptance.the-variants.{Granted, Declined}
 use Rattle.checker_spec.proofs.AcceptedHolds.{granted-holds}
 use Rattle.checker_spec.proofs.AcceptedRuns as Checker

@@ -1,14 +1,14 @@
 -- The run over a trace on numbers is the logic's, and the state that it comes to is one of the machine's runs.
 use Prim.Native.Nat.{ℕ, zero, suc, _+_, _-_, _≤_, _<_}
-use mathlib.Core.Path.{_≡_, refl, ap, sym, _∙_, subst}
+use mathlib.Core.Path.{_≡_, refl, ap, sym, _∙_}
 use mathlib.Core.Bool.{Bool, true, false, cond, _&&_}
 use mathlib.Core.List.{List, [], _∷_}
 use native.Mathlib.Omega.{arith}
-use lib.Dec.{T, eqb, ltb, leb}
+use lib.Dec.{eqb, ltb, leb}
 use lib.ListN.{take}
-use borrow.Author.Tests.{lt-ltb, le-ltb, lt-leb, le-leb, ltb-true, ltb-false, eqb-true, ne-eqb}
-use Rattle.semantics.specs.Base.{Within, within}
-use Rattle.semantics.specs.Machine.{State, Program, Step, allowed, exec, instrAt, permitted, step, run}
+use borrow.Author.Tests.{lt-ltb, lt-leb, le-leb, ltb-true, ltb-false, eqb-true, ne-eqb}
+use Rattle.semantics.specs.Base.{within}
+use Rattle.semantics.specs.Machine.{State, Program, allowed, exec, instrAt, step, run}
 use Rattle.image_frames.specs.Records.{bodies}
 use Rattle.image_header.specs.declared.sizes.Sizes.{Sizes}
 use Rattle.image_meaning.specs.Program.{programOf}

@@ -1,5 +1,5 @@
 -- The start on numbers stands for the logic's start with the given registers.
-use Prim.Native.Nat.{ℕ, zero, suc, _+_, _*_, _-_, _%_, _≤_, _<_}
+use Prim.Native.Nat.{ℕ, zero, suc, _+_, _-_, _%_, _≤_, _<_}
 use mathlib.Core.Path.{_≡_, refl, ap, sym, _∙_, subst}
 use mathlib.Core.Bool.{Bool, true, false, cond, _&&_}
 use mathlib.Core.List.{List, []}
@@ -7,10 +7,9 @@ use native.Mathlib.Omega.{arith}
 use native.Mathlib.Nat.{mod-eq-of-lt}
 use native.Mathlib.Numerals.{add-one}
 use lib.Dec.{eqb, ltb, leb}
-use lib.ListN.{length, getD, take, drop, replicate, length-take, length-replicate, getD-replicate, List·getD-eq-default}
+use lib.ListN.{length, getD, drop, replicate, length-take, length-replicate, getD-replicate, List·getD-eq-default}
 use borrow.Author.Tests.{ne-eqb, le-ltb, lt-leb, ltb-true, ltb-false}
 use Rattle.semantics.specs.Machine.{State, Program, begin}
-use Rattle.logic.specs.WellFormed.{WellFormed}
 use Rattle.semantics.proofs.Invariant.{start-wf}
 use Rattle.semantics.proofs.Starts.{begins}
 use Rattle.limits.specs.Numbers.{nth, within}
@@ -18,7 +17,7 @@ use Rattle.image_frames.specs.Records.{bodies}
 use Rattle.image_header.specs.declared.sizes.Sizes.{Sizes}
 use Rattle.image_header.specs.Header.{wordCount, registerCount, startValues, marks, cleared}
 use Rattle.image.specs.Decode.{sizesOf}
-use Rattle.image_meaning.specs.Program.{programOf, outlineOf}
+use Rattle.image_meaning.specs.Program.{programOf}
 use Rattle.image_meaning.proofs.RecordsChecked.{Checks}
 use Rattle.image_meaning.proofs.WellFormedProgram.{range-two, well-formed}
 use Rattle.tables_columns.proofs.ColumnLists.{column-length, column-getD}
@@ -29,9 +28,7 @@ use Rattle.replay_memory.specs.MemoryStands.{SameView, SameWrite, Stands}
 use Rattle.replay_memory.specs.declared.view.View.{View}
 use Rattle.replay_memory.specs.declared.write.Write.{Write}
 use Rattle.replay_memory.proofs.OrderPlaces.{first-none, first-next, place}
-use Rattle.replay_machine.specs.RegistersStand.{SameRegs}
 use Rattle.replay_machine.specs.Start.{startWrites, startMemory, startRegister, startValuesTo, startRegisters, started}
-use Rattle.replay_spec.specs.StateStands.{StandsFor}
 use Rattle.replay_machine.proofs.InstructionEffect.{sizes-few}
 use Rattle.replay_spec.proofs.StepFollows.{Ready}
 

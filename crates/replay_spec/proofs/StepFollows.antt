@@ -1,23 +1,23 @@
 -- A step on numbers is refused as the logic refuses it, and what stands for a state stands for the next one.
 use Prim.Native.Nat.{ℕ, zero, suc, _+_, _-_, _%_, _≤_, _<_}
 use mathlib.Core.Path.{_≡_, refl, ap, ap₂, sym, _∙_, subst}
-use mathlib.Core.Bool.{Bool, true, false, cond, not, _&&_}
-use mathlib.Core.List.{List, []}
+use mathlib.Core.Bool.{Bool, true, false, cond, _&&_}
+use mathlib.Core.List.{List}
 use native.Mathlib.Omega.{arith}
 use native.Mathlib.Nat.{mod-eq-of-lt}
 use native.Mathlib.Numerals.{sub-one}
 use lib.Dec.{T, eqb, ltb, leb, ltb→lt}
-use lib.ListN.{length, getD, set, length-set}
-use borrow.Author.Tests.{lt-ltb, le-ltb, le-leb, lt-leb, eq-eqb, ne-eqb, ltb-true, ltb-false, eqb-true, leb-true, leb-false}
-use Rattle.semantics.specs.Base.{Within, within, upd}
+use lib.ListN.{length-set}
+use borrow.Author.Tests.{lt-ltb, le-ltb, le-leb, eq-eqb, ne-eqb, ltb-true, ltb-false, eqb-true, leb-true, leb-false}
+use Rattle.semantics.specs.Base.{Within, upd}
 use Rattle.semantics.specs.Machine as Logic
 use Rattle.semantics.specs.Names.{only, isReg}
 use Rattle.semantics.specs.Eval.{test, onRegs}
-use Rattle.semantics.specs.Machine.{State, Program, Mode.store, Mode.swap, Mode.exchange, Mode.fetchAdd, Access, Access.none, Access.load, Access.write, Instr, Instr.act, Instr.branch, allowed, exec, instrAt, withPoint}
-use Rattle.logic.specs.WellFormed.{proper, WellFormed}
-use Rattle.semantics.proofs.Base.{is-true, holds-true, by-word, upd-case, and-left, and-right, upd-same, upd-other}
+use Rattle.semantics.specs.Machine.{State, Program, Mode.store, Mode.swap, Mode.exchange, Mode.fetchAdd, Access.none, Access.load, Access.write, Instr, Instr.act, Instr.branch, allowed, exec}
+use Rattle.logic.specs.WellFormed.{proper}
+use Rattle.semantics.proofs.Base.{is-true, upd-case, and-right, upd-same}
 use Rattle.semantics.proofs.Invariant.{Wf}
-use Rattle.semantics.proofs.Halves.{touch, allNotes, pick, finish}
+use Rattle.semantics.proofs.Halves.{touch, allNotes, pick}
 use Rattle.logic.proofs.Arrived.{pick-moved}
 use Rattle.logic.proofs.Steps.{may-pick, exec-halves}
 use Rattle.logic.proofs.Sound.{good, finish-wf}
@@ -30,7 +30,7 @@ use Rattle.image_header.specs.Thread.{lastPoint}
 use Rattle.image.specs.Decode.{sizesOf}
 use Rattle.image_bodies.specs.RecordPlaces.{threadBody, instructionOf}
 use Rattle.image_access.specs.AccessPlaces.{registerFirst}
-use Rattle.image_meaning.specs.Program.{instr, pointCount, programOf, outlineOf}
+use Rattle.image_meaning.specs.Program.{instr, pointCount, programOf}
 use Rattle.image_meaning.proofs.RecordsChecked.{Checks}
 use Rattle.image_meaning.proofs.WellFormedProgram.{made, none-above, body, points-few, well-formed}
 use Rattle.image_access.proofs.AccessAgree.{fields-there}
@@ -41,16 +41,16 @@ use Rattle.replay_memory.proofs.SameAsLogic.{set-upd}
 use Rattle.replay_memory.proofs.OrderPlaces.{first-none, first-next}
 use Rattle.replay_memory.proofs.StandsAfterInsert.{size-is}
 use Rattle.replay_machine.specs.Effect.{effectOf}
-use Rattle.replay_machine.specs.Shared.{mayPick, memoryAfter}
+use Rattle.replay_machine.specs.Shared.{memoryAfter}
 use Rattle.replay_machine.specs.Locals.{pointAfter}
-use Rattle.replay_machine.specs.RegistersStand.{SameRegs, adds}
+use Rattle.replay_machine.specs.RegistersStand.{adds}
 use Rattle.replay_machine.specs.declared.effect.Effect.{Effect}
 use Rattle.replay_machine.specs.declared.locals.Registers.{Registers}
 use Rattle.replay_machine.proofs.EffectAgrees.{Made}
 use Rattle.replay_machine.proofs.InstructionEffect.{sizes-few, valueOf, does-there}
 use Rattle.replay_machine.specs.State.{pointOf, performed}
 use Rattle.replay_machine.specs.Refusal.{total, adding, pickRefusal}
-use Rattle.replay_machine.specs.Step.{valueAt, workedOut, effectAt, lastOf, refused, attempted, stepped}
+use Rattle.replay_machine.specs.Step.{effectAt, lastOf, refused, attempted, stepped}
 use Rattle.replay_spec.specs.MachineReplay.{used, refusal}
 use Rattle.replay_spec.specs.StateStands.{StandsFor}
 use Rattle.replay_machine.specs.declared.state.Machine.{Machine}

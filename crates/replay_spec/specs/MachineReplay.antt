@@ -1,6 +1,6 @@
 -- What a replay comes to, by the logic's machine: each step of the trace, until one is refused.
 use Prim.Native.Nat.{ℕ, zero, suc, _+_}
-use mathlib.Core.Bool.{Bool, true, false, cond, _&&_}
+use mathlib.Core.Bool.{true, false, cond, _&&_}
 use mathlib.Core.List.{List, [], _∷_}
 use lib.Dec.{eqb, ltb, leb}
 use Rattle.semantics.specs.Base.{within}

@@ -3,14 +3,13 @@ use mathlib.Core.Path.{_≡_, refl, sym, _∙_, ap}
 use mathlib.Core.Bool.{Bool, true, false, cond, _&&_}
 use mathlib.Core.List.{List}
 use Prim.Native.Nat.{ℕ, _-_}
-use lib.Dec.{eqb, ltb}
 use borrow.Author.Tests.{eq-eqb, ne-eqb}
 use Rattle.semantics.specs.Code
 use Rattle.semantics.specs.Code.{byte}
 use Rattle.logic.specs.Opcode
 use Rattle.limits.specs.Limits.{nesting}
 use Rattle.formula.specs.Codes.{partCount}
-use Rattle.formula.specs.Tree.{Tree, none, node, ParsedTree, nodeAt, part, grow, parseTree}
+use Rattle.formula.specs.Tree.{Tree, none, node, ParsedTree, nodeAt, grow, parseTree}
 use Rattle.formula.specs.declared.node.Node.{Node}
 use Rattle.formula.proofs.NodeBranches.{parse-zero, parse-step, parts-of}
 use Rattle.formula_compare.specs.Same.{sameTree, sameOf}

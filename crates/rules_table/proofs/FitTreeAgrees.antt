@@ -1,6 +1,6 @@
 -- What the code works out on trees is whether the line fits its rule.
 use mathlib.Core.Path.{_≡_, refl, ap, ap₂, sym, _∙_, subst, subst₂}
-use mathlib.Core.Bool.{Bool, true, false, not, _&&_, _||_}
+use mathlib.Core.Bool.{Bool, true, false, not, _&&_}
 use mathlib.Core.List.{List, [], _∷_, map}
 use mathlib.Core.Option.{Option, none, some}
 use Prim.Native.Nat.{ℕ, suc, _-_, _≤_}
@@ -10,22 +10,20 @@ use borrow.Author.Tests.{eqb-true}
 use lib.ListN.{length}
 use Rattle.semantics.specs.Base.{upd, all, All}
 use Rattle.semantics.specs.Limits
-use Rattle.semantics.specs.Formula.{Sort, Formula, Assertion, Test, Formula.const, Formula.word, same}
+use Rattle.semantics.specs.Formula.{Sort, Formula, Assertion, Formula.const, Formula.word, same}
 use Rattle.semantics.specs.Names.{Name, names, only, notReg, notWord, notFlag}
 use Rattle.semantics.specs.Eval.{bounded}
 use Rattle.semantics.specs.Replace.{Sub, replace, notes, regBy, wordBy}
-use Rattle.logic.specs.Rows.{byRows}
-use Rattle.logic.specs.Table.{Imp, byTable}
 use Rattle.semantics.specs.Machine.{Program, Mode.store, Mode.swap, Mode.exchange, Mode.fetchAdd, Access.none, Access.load, Access.write, Instr, Instr.act, Instr.branch}
 use Rattle.logic.specs.Statement
 use Rattle.logic.specs.Statement.{Statement, half, isImp}
 use Rattle.logic_schemas.specs.Pattern
-use Rattle.logic_schemas.specs.Pattern.{Num, Pattern, Given, Fill, number, inst}
+use Rattle.logic_schemas.specs.Pattern.{Pattern, Given, Fill, inst}
 use Rattle.logic_schemas.specs.Rules
 use Rattle.logic.specs.Rule.{Rule, r1, r2, r3, r4, r5, r6, r7, r8, r9, r10, r11, r12, r13, r14, r15, r16, r20, r21, r22, r23, r24, r25, r26, r27, r30, r31, r32, r33, r34, r35, r36, r37, r38, r39, r40, r41, r42, r43, r44, r45, r46, r47, r48, r49, r50}
-use Rattle.logic_schemas.specs.Rules.{Shape, Shape.inside, Shape.implies, Shape.triple, Shape.pair, Premises, these, implications, By, by-notes, r-by-x, x-by-f, Side, _is_with_, start-of, is-new, kept, lacks-x, no-flag, by-rows, by-table, Row, row}
+use Rattle.logic_schemas.specs.Rules.{Shape, Shape.inside, Shape.implies, Shape.triple, Shape.pair, Premises, these, implications, By, by-notes, r-by-x, x-by-f, Side, _is_with_, is-new, kept, lacks-x, no-flag, by-rows, row}
 use Rattle.logic.specs.Inference.{keeps}
-use Rattle.logic_schemas.specs.Fits.{isAmong, opcode, wordOf, regOf, formulaOf, apartOf, freshOf, notesOf, threadOf, pointOf, given, by, filled, filledAll, sideHolds, operationFits, found, fits}
+use Rattle.logic_schemas.specs.Fits.{wordOf, regOf, formulaOf, apartOf, freshOf, notesOf, threadOf, pointOf, given, by, filled, filledAll, sideHolds, operationFits, found, fits}
 use Rattle.semantics.proofs.Base.{bool-ext, and-left, and-right, and-both, all-All}
 use Rattle.semantics.proofs.Encoding.{same-eq, same-refl}
 use Rattle.logic_schemas.proofs.Fit.{All-all, Fit, PremisesFit, fit}
@@ -46,7 +44,7 @@ use Rattle.tables_rows.proofs.LogicAgrees.{impToTree, toTree-rows, toTree-table
 use Rattle.formula_match.specs.Template.{shapes, firstHole, firstNumber, formulaHole, numHole, patternToTree, Holes, instT, fillOf}
 use Rattle.formula_match.specs.Match.{Taken, andThen, when, matchT}
 use Rattle.rules_table.specs.FitTree as FitT
-use Rattle.formula_trees.specs.StatementTree.{inclusion, implication, hoare, TreeConclusion, concluded, Acting, acting, placed, formOf}
+use Rattle.formula_trees.specs.StatementTree.{TreeConclusion, concluded, Acting, acting, placed, formOf}
 use Rattle.rules_table.specs.FitTree.{leftOf, rightOf, matchSides, matchLine, matchAll, isImplication, matchPremises, preset, orElse, holesFrom, replacing, apartT, keepsT, freshT, sideT, operationT, setup, restT, answer, fitsAt, fitsT}
 use Rattle.logic_outline.proofs.Bounded.{boundedSides}
 use Rattle.formula_match.proofs.MatchFills.{Has, match-sound, then-some, when-some, Goes, goes-then, goes-when, match-goes}

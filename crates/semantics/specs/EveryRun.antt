@@ -1,5 +1,4 @@
 -- DEMAND 3: the claim about every run of a program and its outline.
-use mathlib.Core.Bool.{true}
 use mathlib.Core.List.{List}
 use Prim.Native.Nat.{ℕ}
 use Rattle.semantics.specs.Base.{Within}

@@ -2,7 +2,7 @@
 use mathlib.Core.Path.{_≡_}
 use mathlib.Core.Bool.{Bool, true, false, cond, not, _&&_}
 use mathlib.Core.List.{List, [], _∷_}
-use Prim.Native.Nat.{ℕ, suc, _+_, _-_, _%_, _<_, min, max}
+use Prim.Native.Nat.{ℕ, suc, _+_, _-_, _%_, _<_, max}
 use lib.Dec.{T, eqb, ltb, leb}
 use Rattle.semantics.specs.Base.{upd, some, within}
 use Rattle.semantics.specs.Formula.{Value, Test}

@@ -2,13 +2,13 @@
 use mathlib.Core.Path.{_≡_, refl}
 use mathlib.Core.Bool.{Bool, true, false, not, _&&_}
 use mathlib.Core.List.{List, [], _∷_}
-use mathlib.Core.Option.{Option, none, some}
+use mathlib.Core.Option.{none, some}
 use Prim.Native.Nat.{ℕ, zero, suc, _≤_, _<_}
 use native.Mathlib.Omega.{arith}
 use lib.Dec.{eqb, leb}
 use lib.ListN.{length, getD, getElem?}
 use borrow.Author.Tests.{leb-true}
-use Rattle.service_spec.specs.Account.{Account, callers, isCaller, accountAt, accountOf}
+use Rattle.service_spec.specs.Account.{callers, isCaller, accountAt, accountOf}
 
 pub caller-first : (c : ℕ) → isCaller c ≡ true → 1 ≤ c
 caller-first zero h = let x : _≡_ {A = ℕ} 0 1 = cc in absurd (omega arith)

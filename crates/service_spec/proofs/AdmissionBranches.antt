@@ -1,16 +1,15 @@
 -- The ways to an admission, one law for each.
-use mathlib.Core.Path.{_≡_, refl, ap, sym, _∙_}
-use mathlib.Core.Bool.{Bool, true, false, cond, not, _&&_}
+use mathlib.Core.Path.{_≡_, refl, sym, _∙_}
+use mathlib.Core.Bool.{Bool, true, false, cond}
 use mathlib.Core.List.{List}
-use mathlib.Core.Option.{none, some}
-use Prim.Native.Nat.{ℕ, _+_, _-_, _/_, _%_, _≤_, _<_}
+use Prim.Native.Nat.{ℕ, _-_, _/_, _%_, _≤_, _<_}
 use native.Mathlib.Omega.{arith}
-use lib.Dec.{eqb, leb}
+use lib.Dec.{eqb}
 use lib.ListN.{length, getD, List·getD-eq-default}
 use borrow.Author.Tests.{eq-eqb, ne-eqb, le-leb, lt-leb}
 use Rattle.service_spec.specs.declared.rights.Right.{Right}
 use Rattle.service_spec.specs.declared.rights.Right.the-variants.{Check, Replay, Bill}
-use Rattle.service_spec.specs.Account.{callers, holds, isCaller, accountAt, accountOf, admissionAt, admission}
+use Rattle.service_spec.specs.Account.{callers, holds, isCaller, accountOf, admissionAt, admission}
 use Rattle.service_spec.proofs.AccountNumbers.{caller-last, no-account}
 
 module _ (r : Right) (n : ℕ) where

@@ -7,7 +7,7 @@ use Prim.Native.Nat.{ℕ, _+_, _≤_, _<_}
 use native.Mathlib.Omega.{arith}
 use lib.Dec.{eqb, ltb}
 use lib.ListN.{length, getD, getElem?, set, drop, replicate}
-use borrow.Author.Tests.{eq-eqb, ne-eqb, lt-ltb, le-ltb, eqb-false}
+use borrow.Author.Tests.{eq-eqb, ne-eqb, lt-ltb, le-ltb}
 use Rattle.checker_spec.specs.ImageVerdict.{verdict}
 use Rattle.checker_spec.specs.Promise as Checked
 use Rattle.trim.specs.Promise as Trimmed
@@ -29,7 +29,7 @@ use Rattle.bill_spec.specs.declared.answer.Bill.{Bill}
 use Rattle.bill_spec.specs.Bill.{notAccepted, numberAtEnd, lastNumber, unpriced, isAccepted, billOf}
 use Rattle.bill_spec.specs.Output.{size, codeFor, numbersFor}
 use Rattle.service_spec.specs.declared.rights.Right.the-variants as Right
-use Rattle.service_spec.specs.Account.{callers, numberPlace, admission}
+use Rattle.service_spec.specs.Account.{numberPlace, admission}
 use Rattle.service_spec.specs.Serving.{raised}
 use Rattle.service_spec.specs.Request.{toCheck, toTrim, toBill, toHandOver, toReplay, toReplayAcross, Reply, replied, cleared, billReply, replayReply}
 use Rattle.service_spec.specs.Promise.{CheckServed, TrimServed, BillServed, HandoverServed, ReplayServed, AcrossServed}

@@ -1,15 +1,14 @@
 -- A call is served by its admission.
 use mathlib.Core.Path.{_≡_, refl, ap, sym, _∙_}
 use mathlib.Core.Bool.{Bool, true, false, cond, _&&_, and-false}
-use mathlib.Core.List.{List, [], _∷_}
-use mathlib.Core.Option.{Option, none, some}
+use mathlib.Core.List.{List}
 use Prim.Native.Nat.{ℕ, _-_}
 use native.Mathlib.Omega.{arith}
 use lib.Dec.{eqb}
 use lib.ListN.{getD, getElem?}
-use Rattle.service_spec.specs.Account.{holds, isCaller, numberPlace, accountOf, admission}
+use Rattle.service_spec.specs.Account.{holds, isCaller, numberPlace, admission}
 use Rattle.service_spec.specs.Serving.{Call, Served, raised, serveBy}
-use Rattle.service_spec.specs.Request.{Request, toCheck, toTrim, toBill, toHandOver, toReplay, toReplayAcross, Reply, rightFor, isBill, refused, answered, replyTo, conduct, serve}
+use Rattle.service_spec.specs.Request.{Request, toCheck, toTrim, toBill, toHandOver, toReplay, toReplayAcross, Reply, rightFor, isBill, refused, answered, serve}
 use Rattle.service_spec.specs.Promise.{Promise}
 use Rattle.service_spec.proofs.AccountNumbers.{has-account, no-account}
 

@@ -12,7 +12,6 @@ use Rattle.replay_spec.specs.Promise as Replayed
 use Rattle.handover_replay.specs.Promise as ReplayedAcross
 use Rattle.bill_spec.specs.declared.tariff.Tariff.{Tariff}
 use Rattle.service_spec.specs.Account.{numberPlace, admission}
-use Rattle.service_spec.specs.Serving.{Call}
 use Rattle.service_spec.specs.Request.{Request, toCheck, toTrim, toBill, toHandOver, toReplay, toReplayAcross, Reply, replied, rightFor, serve}
 
 -- of a service, a caller and a request: the service afterwards, the reply, and what holds besides where the caller has the right

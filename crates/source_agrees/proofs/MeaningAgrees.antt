@@ -11,7 +11,7 @@ use Rattle.semantics.specs.Base.{Within}
 use Rattle.semantics.specs.Machine.{State, Start, Step, run}
 use Rattle.semantics.specs.EveryRun.{EveryRun}
 use Rattle.logic.specs.Claims.{Claim, NeverBoth}
-use Rattle.limits.specs.Numbers.{nth, every}
+use Rattle.limits.specs.Numbers.{nth}
 use Rattle.limits.proofs.PassedTests.{every-at}
 use Rattle.image_frames.specs.Records.{bodies}
 use Rattle.image_header.specs.Header.{startValues, owners, marks, cleared, headerSize, header}

@@ -2,7 +2,7 @@
 use Prim.Native.Nat.{ℕ, suc, _+_, _-_, _*_, _/_, _%_, _^_, _≤_, _<_, min}
 use mathlib.Core.Path.{_≡_, refl, ap, sym, _∙_, subst}
 use mathlib.Core.List.{List}
-use mathlib.Core.Bool.{Bool, true, false, cond, true≢false}
+use mathlib.Core.Bool.{Bool, true, false}
 use native.Mathlib.Omega.{arith}
 use native.Mathlib.Numerals.{add-one}
 use native.Mathlib.Nat.{one-mul, mod-eq-of-lt}
@@ -17,9 +17,8 @@ use Rattle.semantics.specs.Code.{byte}
 use Rattle.logic.specs.Rows.{allBelow}
 use Rattle.logic.proofs.Rows.{allBelow-at}
 use Rattle.tables_columns.specs.Column.{column, constant}
-use Rattle.tables_columns.proofs.ColumnLists.{column-length}
 use Rattle.tables_columns.proofs.ColumnBranches.{column-begin, column-more, column-end, rest-more, rest-at}
-use Rattle.tables_bits.specs.Bits.{bit, ones, patterns, wordOf, wordsOf, denyWord, denyWords, leafWord, leafWords, maskOf, noneSet}
+use Rattle.tables_bits.specs.Bits.{ones, patterns, wordOf, wordsOf, denyWord, denyWords, leafWord, leafWords, maskOf, noneSet}
 
 -- a node's word
 module _ (c o a b : ℕ) where

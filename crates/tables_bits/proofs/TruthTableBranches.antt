@@ -2,24 +2,24 @@
 use Prim.Native.Nat.{ℕ, _+_, _-_, _≤_, _<_}
 use mathlib.Core.Path.{_≡_, refl, ap, sym, _∙_, subst}
 use mathlib.Core.List.{List}
-use mathlib.Core.Bool.{Bool, true, false, cond}
+use mathlib.Core.Bool.{Bool, true, false}
 use native.Mathlib.Omega.{arith}
 use lib.ListN.{length, replicate}
 use lib.Dec.{ltb}
-use borrow.Author.Tests.{lt-ltb, ltb-true, ltb-false}
+use borrow.Author.Tests.{lt-ltb, ltb-true}
 use Rattle.formula.specs.Codes.{member}
-use Rattle.formula.specs.Tree.{Tree, none, node, nodeAt, parseTree, ParsedTree, grow}
+use Rattle.formula.specs.Tree.{Tree, none, nodeAt, parseTree, ParsedTree, grow}
 use Rattle.formula.specs.declared.node.Node.{Node}
 use Rattle.formula.proofs.NodeBranches.{parse-zero, parse-step}
 use Rattle.formula.proofs.BranchTests.{lower}
-use Rattle.tables_columns.specs.Slots.{slots, leafSlot, numbers, slotOf, slotWithin}
+use Rattle.tables_columns.specs.Slots.{slots, leafSlot, slotOf, slotWithin}
 use Rattle.tables_columns.specs.Gather.{putT, view, countPut, slotPut}
 use Rattle.tables_columns.specs.declared.slot.Slot.{Slot}
 use Rattle.tables_columns.proofs.GatherBranches.{put-over, put-there, put-new, put-length, numbers-put, slot-put, gathers}
 use Rattle.tables_columns.specs.Column.{constant}
 use Rattle.tables_columns.proofs.ColumnLists.{column-length}
 use Rattle.tables_bits.specs.Bits.{wordOf, wordsOf, leafWord, leafWords}
-use Rattle.tables_bits.specs.TruthTable.{byLeaves, Shows, LeafBits, TreeBits, Grown}
+use Rattle.tables_bits.specs.TruthTable.{byLeaves, LeafBits, TreeBits, Grown}
 use Rattle.tables_bits.proofs.BitsShow.{shows-later, shows-over, leaf-shows, tree-none, tree-leaf, tree-node, tree-plain, tree-zeros}
 
 -- as many words as ever

@@ -1,7 +1,7 @@
 -- Rows counted.
 use Prim.Native.Nat.{ℕ, _+_, _*_}
 use mathlib.Core.List.{List}
-use mathlib.Core.Bool.{true, false, cond}
+use mathlib.Core.Bool.{cond}
 use lib.Dec.{eqb, ltb}
 use Rattle.semantics.specs.Code
 use Rattle.semantics.specs.Code.{byte}

@@ -5,8 +5,8 @@ use mathlib.Core.List.{List, [], _∷_, _++_, append-assoc, append-nil}
 use mathlib.Core.Bool.{Bool, true, false, cond}
 use native.Mathlib.Omega.{arith}
 use native.Mathlib.Numerals.{add-one}
-use native.Mathlib.Nat.{mul-suc, mul-one, mul-zero, mul-le-mul, le-trans}
-use lib.ListN.{length, getD, set, take, replicate, List·getD-append}
+use native.Mathlib.Nat.{mul-suc, mul-one, mul-zero, mul-le-mul}
+use lib.ListN.{length, getD, set, take, List·getD-append}
 use lib.Seq.{take-suc, take-suc-set, getD-take, take-take, take-at, length-take-le}
 use lib.Dec.{ltb}
 use mir.Val.{Fits}
@@ -15,7 +15,7 @@ use borrow.Author.Needs.{fits-under}
 use borrow.Author.Tests.{lt-ltb, le-ltb, ltb-true, ltb-false}
 use Rattle.tables_columns.specs.Slots.{slots}
 use Rattle.tables_columns.specs.Column.{column, constant}
-use Rattle.tables_columns.proofs.ColumnLists.{column-none, column-step, column-length, column-getD, column-same}
+use Rattle.tables_columns.proofs.ColumnLists.{column-none, column-step, column-length, column-same}
 use Rattle.tables_digits.specs.SlotColumn.{valueIn, rowIn, slotColumn, longerRun, runOf, spanOf, levelIn, Cycles, Widened}
 use Rattle.tables_digits.proofs.EachRowOnce.{run, digit-run, run-first, run-next}
 

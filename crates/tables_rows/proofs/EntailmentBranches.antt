@@ -1,8 +1,8 @@
 -- Entailment at a row: the ways through the functions, one law for each.
 use Prim.Native.Nat.{ℕ, suc, _+_, _-_, _≤_, _<_}
-use mathlib.Core.Path.{_≡_, refl, ap, ap₂, sym, _∙_}
+use mathlib.Core.Path.{_≡_, refl, ap, ap₂, _∙_}
 use mathlib.Core.List.{List, [], _∷_}
-use mathlib.Core.Bool.{Bool, true, false, not, cond}
+use mathlib.Core.Bool.{Bool, true, false, cond}
 use native.Mathlib.Omega.{arith}
 use lib.ListN.{getD, take}
 use lib.Dec.{eqb}
@@ -12,7 +12,7 @@ use Rattle.tables_columns.specs.Gather.{Gathered, keys, view, gatherT}
 use Rattle.tables_columns.proofs.GatherBranches.{kept-none}
 use Rattle.tables_columns.specs.Column.{denyOf, denied}
 use Rattle.tables_digits.specs.SlotColumn.{rowIn}
-use Rattle.tables_columns.proofs.ColumnLists.{column-same, column-at}
+use Rattle.tables_columns.proofs.ColumnLists.{column-same}
 use Rattle.tables_digits.specs.ValueColumn.{rowValue, columnOf}
 use Rattle.tables_rows.specs.Entailment.{ImpT, impOf, impsFrom, premisesFrom, impAt, impFails, gatherImp, gatherImps, gatherAll}
 use Rattle.tables_digits.specs.declared.value_column.Reading.{Reading}

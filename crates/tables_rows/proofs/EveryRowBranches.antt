@@ -6,14 +6,14 @@ use mathlib.Core.Bool.{Bool, true, false, cond, not}
 use native.Mathlib.Omega.{arith}
 use native.Mathlib.Numerals.{add-one}
 use native.Mathlib.Nat.{one-mul}
-use lib.ListN.{length, getD, set, take, replicate}
+use lib.ListN.{getD, set, take, replicate}
 use lib.Dec.{eqb, ltb}
 use borrow.Author.Tests.{le-leb, lt-leb, ltb-true, ltb-false}
 use Rattle.semantics.specs.Base.{all}
 use Rattle.logic.specs.Rows.{allRows, rowCount}
 use Rattle.formula_compare.specs.Same.{sameTree}
 use Rattle.tables_columns.specs.Slots.{slots, slotTree, numbers, slotAt, slotFrom, kept}
-use Rattle.tables_columns.specs.Gather.{many, view}
+use Rattle.tables_columns.specs.Gather.{view}
 use Rattle.tables_columns.specs.Count.{choicesT, capped, rowsUpTo}
 use Rattle.tables_columns.specs.declared.slot.Slot.{Slot}
 use Rattle.tables_columns.proofs.GatherBranches.{view-keys, view-many}

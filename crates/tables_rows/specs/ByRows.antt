@@ -1,7 +1,7 @@
 -- By rows, and by truth table.
 use Prim.Native.Nat.{ℕ, _-_, _^_}
 use mathlib.Core.List.{List, [], _∷_}
-use mathlib.Core.Bool.{Bool, true, false, cond}
+use mathlib.Core.Bool.{Bool, false, cond}
 use lib.Dec.{ltb}
 use Rattle.semantics.specs.Code
 use Rattle.semantics.specs.Code.{Code}

@@ -2,11 +2,10 @@
 use mathlib.Core.Path.{_≡_, refl, ap, sym, _∙_, subst}
 use mathlib.Core.Bool.{Bool, true, false, cond}
 use mathlib.Core.List.{List, [], _∷_, _++_}
-use Prim.Native.Nat.{ℕ, _≤_, _<_}
+use Prim.Native.Nat.{ℕ}
 use native.Mathlib.Omega.{arith}
 use lib.Dec.{ltb}
 use lib.ListN.{length, take, drop}
-use Rattle.image_header.specs.declared.sizes.Sizes.{Sizes}
 use Rattle.checker_spec.specs.Acceptance.{acceptance}
 use Rattle.checker_spec.specs.declared.acceptance.Acceptance.{Acceptance}
 use Rattle.checker_spec.specs.declared.acceptance.Acceptance.the-variants.{Granted, Declined}

@@ -1,33 +1,29 @@
 -- An accepted image and the image that it is trimmed to: what trimming promises.
 use mathlib.Core.Path.{_≡_, refl, ap, ap₂, sym, _∙_, subst}
-use mathlib.Core.List.{List, []}
-use Prim.Native.Nat.{ℕ, _≤_, _<_}
+use mathlib.Core.List.{List}
+use Prim.Native.Nat.{ℕ}
 use native.Mathlib.Omega.{arith}
-use lib.ListN.{length, getD}
+use lib.ListN.{length}
 use Rattle.image_frames.specs.Records.{bodies}
 use Rattle.image_header.specs.declared.sizes.Sizes.{Sizes}
 use Rattle.image.specs.Decode.{sizesOf, decoded}
-use Rattle.image.specs.declared.decode.Decoded.{Decoded}
 use Rattle.image.specs.declared.decode.Decoded.the-variants.{Sound}
 use Rattle.logic_outline.specs.Verdict.{Image, Finding, accepted, unmet, denied, finding, Admitted}
 use Rattle.logic_outline.specs.Judged as Outline
 use Rattle.logic_outline.specs.Judged.{EachMet, EachSustained, total, each-met, first-unmet, first-denied}
 use Rattle.logic_outline.proofs.Judged.{finding-judged, each-accepted}
-use Rattle.image_meaning.specs.Image.{imageOf, resultOf, read, decode}
+use Rattle.image_meaning.specs.Image.{imageOf, read, decode}
 use Rattle.image_meaning.specs.Program.{pointCount}
 use Rattle.image_meaning.proofs.Admitted.{checks-admitted}
-use Rattle.image_meaning.proofs.RecordsChecked.{Checks}
-use Rattle.verdict_record.specs.declared.verdict.Verdict.{Verdict}
 use Rattle.verdict_record.specs.declared.verdict.Verdict.the-variants.{Accepted}
 use Rattle.checker_spec.specs.ImageVerdict.{judged, answered, verdict}
-use Rattle.checker_spec.specs.Acceptance.{acceptedAs, acceptance}
+use Rattle.checker_spec.specs.Acceptance.{acceptance}
 use Rattle.checker_spec.specs.declared.acceptance.Acceptance.the-variants.{Granted}
 use Rattle.checker_spec.proofs.AcceptedHolds.{Holds}
 use Rattle.trim_spec.specs.Document.{Document}
-use Rattle.trim_spec.specs.Canonical.{Bytes, Each}
+use Rattle.trim_spec.specs.Canonical.{Bytes}
 use Rattle.trim_spec.specs.Encode.{bodiesOf, encode}
 use Rattle.trim_spec.specs.Parse.{documentOf, sizes}
-use Rattle.trim_spec.specs.Framed.{Numbered}
 use Rattle.trim_spec.proofs.DocumentInverse.{Documented, documented, bodies-encode, decoded-encode}
 use Rattle.trim_spec.proofs.RoundTrip.{parsed}
 use Rattle.trim_spec.specs.Live.{kept, used}
@@ -42,7 +38,7 @@ use Rattle.trim_spec.proofs.AcceptedKept.{total-kept, met-kept, sustained-kept}
 use Rattle.trim_spec.proofs.Renumbered.{claims-length}
 use Rattle.trim_spec.proofs.AbsentPoints.{withPoints}
 use Rattle.semantics.specs.Machine.{Program}
-use Rattle.trim_encode.specs.Trimmed.{trimmedBytes, SameProgram, SameContent, Trimmed}
+use Rattle.trim_encode.specs.Trimmed.{trimmedBytes, SameContent, Trimmed}
 use Rattle.trim.proofs.TrimmedSound.{Whole, named, written, trimming, encodable}
 
 -- accepted: each obligation is met and each claim borne out

@@ -1,8 +1,8 @@
 -- The trimmed document of an accepted image has bytes that are a sound image.
-use mathlib.Core.Path.{_≡_, refl, ap, sym, _∙_, subst}
-use mathlib.Core.Bool.{Bool, true, false}
+use mathlib.Core.Path.{_≡_, refl, _∙_, subst}
+use mathlib.Core.Bool.{Bool}
 use mathlib.Core.List.{List, [], _∷_, _++_, map}
-use Prim.Native.Nat.{ℕ, zero, suc, _+_, _*_, _≤_, _<_}
+use Prim.Native.Nat.{ℕ, zero, suc, _+_, _≤_, _<_}
 use native.Mathlib.Omega.{arith}
 use lib.ListN.{length, getD, length-map, length-append}
 use Rattle.logic.specs.Obligations.{Obligation, Obligation.start, steps, interferences}
@@ -10,14 +10,13 @@ use Rattle.semantics.specs.Base.{below, upTo}
 use Rattle.limits.specs.Limits as Limits
 use Rattle.limits.specs.Numbers.{nth}
 use Rattle.image_header.specs.Header.{threadCount}
-use Rattle.image_header.specs.declared.sizes.Sizes.{Sizes}
 use Rattle.image_bodies.specs.PointCounts.{pointCountsTo, pointCounts, threadCounts, obligationCount}
 use Rattle.image.specs.Decode.{sizesOf, recordCount}
-use Rattle.logic_outline.specs.Judged.{EachMet, EachSustained, total}
+use Rattle.logic_outline.specs.Judged.{EachMet, total}
 use Rattle.image_meaning.specs.Program.{programOf}
-use Rattle.image_meaning.specs.Image.{namedLine, imageOf, obligationsBody}
+use Rattle.image_meaning.specs.Image.{namedLine, imageOf}
 use Rattle.image_meaning.proofs.RecordsChecked.{Checks}
-use Rattle.trim_spec.specs.Document.{Document, LineRecord, ClaimRecord}
+use Rattle.trim_spec.specs.Document.{Document}
 use Rattle.trim_spec.specs.Canonical.{Canonical, Each, noLine, noClaim, LineFits, ClaimFits, ThreadFits}
 use Rattle.trim_spec.specs.Encode.{numberBytes, lineBytes, claimBytes, threadBytes, bodiesOf, encode}
 use Rattle.trim_spec.specs.Parse.{sizes}
@@ -29,10 +28,10 @@ use Rattle.trim_spec.proofs.LineBytes.{line-short}
 use Rattle.trim_spec.proofs.ClaimBytes.{claim-short}
 use Rattle.trim_spec.proofs.BodyPlaces.{fromThreads, fromOutline, fromLines, fromObligations, fromClaims, bodies-are, header-at, formula-at, outline-at, obligations-at, bodies-length}
 use Rattle.trim_spec.proofs.DocumentInverse.{Encodable}
-use Rattle.trim_spec.specs.Live.{renumbered, kept, used}
+use Rattle.trim_spec.specs.Live.{kept, used}
 use Rattle.trim_spec.specs.Trim.{trimmedBy}
-use Rattle.trim_spec.specs.Rests.{Rests, Uses, outline, obligation}
-use Rattle.trim_spec.proofs.MarkCounts.{renumbered-low, renumbered-high, selected-few}
+use Rattle.trim_spec.specs.Rests.{Uses, outline, obligation}
+use Rattle.trim_spec.proofs.MarkCounts.{renumbered-low, selected-few}
 use Rattle.trim_spec.proofs.LiveLines.{Named, rests-kept}
 use Rattle.trim_spec.proofs.LiveFormulas.{Written, uses-used, nothing-left-out}
 use Rattle.trim_spec.proofs.Renumbered as Moved

@@ -1,10 +1,8 @@
 -- The ways through trimming, one law for each.
-use mathlib.Core.Path.{_≡_, refl, ap, sym, _∙_, subst}
-use mathlib.Core.Bool.{Bool, true, false}
+use mathlib.Core.Path.{_≡_, ap, sym, _∙_}
+use mathlib.Core.Bool.{Bool}
 use mathlib.Core.List.{List, _++_}
 use Prim.Native.Nat.{ℕ, suc, _≤_, _<_}
-use native.Mathlib.Omega.{arith}
-use lib.Dec.{ltb}
 use borrow.Author.Tests.{lt-ltb, le-ltb}
 use lib.ListN.{length, drop, replicate}
 use Rattle.limits.specs.Limits as Limits
@@ -20,7 +18,7 @@ use Rattle.trim_spec.specs.Encode.{encode}
 use Rattle.trim_spec.specs.Parse.{documentOf}
 use Rattle.trim_spec.proofs.DocumentInverse.{Documented, documented}
 use Rattle.trim_spec.proofs.BodyPlaces.{bodies-length}
-use Rattle.trim_spec.specs.Live.{kept, used, newNumbers}
+use Rattle.trim_spec.specs.Live.{kept, used}
 use Rattle.trim_spec.specs.Trim.{trimmedBy, trim}
 use Rattle.trim_spec.proofs.LiveLines.{kept-length}
 use Rattle.trim_spec.proofs.LiveFormulas.{used-length}

@@ -1,9 +1,9 @@
 -- An accepted image, trimmed: each obligation is met and each claim borne out, by the same lines under their new numbers.
 use mathlib.Core.Path.{_≡_, refl, ap, sym, _∙_, subst}
 use mathlib.Core.Bool.{Bool, true, false}
-use mathlib.Core.List.{List, []}
+use mathlib.Core.List.{List}
 use mathlib.Core.Logic.{_≢_}
-use Prim.Native.Nat.{ℕ, zero, suc, _≤_, _<_}
+use Prim.Native.Nat.{ℕ, _≤_, _<_}
 use native.Mathlib.Omega.{arith}
 use lib.Dec.{ltb}
 use borrow.Author.Tests.{ltb-true, ltb-false}
@@ -12,19 +12,17 @@ use Rattle.semantics.specs.Machine.{Program, Instr, Instr.act, Instr.branch}
 use Rattle.semantics.specs.EveryRun.{Outline}
 use Rattle.logic.specs.Statement.{Statement}
 use Rattle.logic.specs.Obligations.{Obligation, Obligation.start, Obligation.step, Obligation.taken, Obligation.interference, wantsNext, wantsTarget, wants, obligations}
-use Rattle.logic.specs.Claims.{Claim, claims}
+use Rattle.logic.specs.Claims.{claims}
 use Rattle.limits.specs.Numbers.{le16}
 use Rattle.image_header.specs.declared.sizes.Sizes.{Sizes}
 use Rattle.image_bodies.specs.PointCounts.{pointCounts, obligationCount}
 use Rattle.image.specs.Decode.{sizesOf}
-use Rattle.logic_outline.specs.Lines.{Certificate, Justified}
-use Rattle.logic_outline.specs.Verdict.{Image, Bears, Met, asks, forbids}
-use Rattle.logic_outline.specs.Judged.{total, numbered, Meets, EachMet, Sustains, EachSustained}
+use Rattle.logic_outline.specs.Verdict.{Image, Bears, asks, forbids}
+use Rattle.logic_outline.specs.Judged.{total, numbered, EachMet, EachSustained}
 use Rattle.image_meaning.specs.Program.{pointCount, programOf, outlineOf}
 use Rattle.image_meaning.specs.Certificate.{certificateOf}
-use Rattle.image_meaning.specs.Image.{namedLine, claimIn, claimBody, claimsOf, imageOf}
+use Rattle.image_meaning.specs.Image.{namedLine, claimBody, claimsOf, imageOf}
 use Rattle.trim_spec.specs.Document.{Document}
-use Rattle.trim_spec.specs.Canonical.{noClaim}
 use Rattle.trim_spec.specs.Encode.{bodiesOf}
 use Rattle.trim_spec.specs.Parse.{sizes}
 use Rattle.trim_spec.specs.Live.{renumbered, kept, used}
@@ -36,7 +34,7 @@ use Rattle.trim_spec.proofs.LiveLines.{Named, rests-kept}
 use Rattle.trim_spec.proofs.LiveFormulas.{Written}
 use Rattle.trim_spec.proofs.TrimPremises.{Trimming}
 use Rattle.trim_spec.proofs.AbsentPoints.{withPoints, obligations-same}
-use Rattle.trim_spec.proofs.JustifiedTransfer.{Carried, carried}
+use Rattle.trim_spec.proofs.JustifiedTransfer.{carried}
 use Rattle.trim_spec.proofs.ContentKept as Content
 use Rattle.trim_spec.proofs.ContentKept.{Line-stays}
 

@@ -5,16 +5,13 @@ use mathlib.Core.List.{List, []}
 use Prim.Native.Nat.{ℕ, _≤_}
 use native.Mathlib.Omega.{arith}
 use lib.ListN.{length, getD}
-use Rattle.limits.specs.Numbers.{within}
-use Rattle.limits.proofs.PassedTests.{and-true, within-true}
 use Rattle.image_frames.specs.declared.fault.Checked.the-variants.{Passed}
 use Rattle.image_frames.proofs.KindCounts.{Counts}
 use Rattle.image_header.specs.Header as Header
-use Rattle.image_header.specs.Header.{threadCount, headed, header}
+use Rattle.image_header.specs.Header.{threadCount, header}
 use Rattle.image_bodies.specs.FormulaBody.{countsOf, formula}
 use Rattle.image.specs.Decode.{sizesOf, recordCount, firstFault}
 use Rattle.image.specs.declared.decode.Decoded.the-variants.{Sound}
-use Rattle.image_meaning.proofs.PassedChecks.{unless-passed}
 use Rattle.image_meaning.proofs.RecordsChecked.{Checks, header-passed, formula-passed}
 use Rattle.trim_spec.specs.Document.{Document}
 use Rattle.trim_spec.specs.Encode.{bodiesOf}

@@ -1,40 +1,36 @@
 -- The trimmed image says what the whole one says: the same program and outline, and each line that stays under its new number.
 use mathlib.Core.Path.{_≡_, refl, ap, sym, _∙_, subst}
 use mathlib.Core.Bool.{Bool, true, false, cond}
-use mathlib.Core.List.{List, [], _∷_, map}
-use Prim.Native.Nat.{ℕ, zero, suc, _+_, _-_, _≤_, _<_}
+use mathlib.Core.List.{List, [], map}
+use Prim.Native.Nat.{ℕ, _+_, _-_, _≤_, _<_}
 use native.Mathlib.Omega.{arith}
 use lib.Dec.{eqb, ltb}
 use borrow.Author.Tests.{eqb-false, ltb-false, ltb-true}
-use lib.ListN.{length, getD, drop, length-map, List·getD-eq-default}
+use lib.ListN.{length, getD, drop, List·getD-eq-default}
 use Rattle.semantics.specs.Base.{Within}
 use Rattle.semantics.specs.Formula.{Sort}
-use Rattle.semantics.specs.Machine.{Program, Instr}
-use Rattle.semantics.specs.EveryRun.{Outline}
 use Rattle.limits.specs.Numbers.{nth, le16, numbers, within}
 use Rattle.limits.proofs.PassedTests.{within-true, every-at}
 use Rattle.image_meaning.proofs.LinesAdmitted.{in-range}
 use Rattle.image_header.specs.Header.{startValues, cleared, valueRange, threadCount}
-use Rattle.image_header.specs.Thread.{nothing, instructions, lastPoint}
+use Rattle.image_header.specs.Thread.{nothing, instructions}
 use Rattle.image_header.specs.declared.sizes.Sizes.{Sizes}
 use Rattle.image_header.specs.declared.instruction.Instruction.{Instruction}
 use Rattle.image_bodies.specs.RecordPlaces.{threadBody, instructionOf}
 use Rattle.image_bodies.specs.PointCounts.{pointCountsTo, pointCounts, obligationCount}
-use Rattle.image_bodies.specs.declared.point_counts.PointCounts.{PointCounts}
 use Rattle.image_bodies.specs.Line.{formOf, premises}
 use Rattle.image_bodies.specs.declared.line.Form.{Form}
 use Rattle.image_bodies.specs.declared.line.Form.the-variants.{Triple, Implication, Inclusion, Pair, Unlisted}
 use Rattle.image.specs.Decode.{sizesOf}
-use Rattle.logic_outline.specs.Lines.{Line, Certificate}
+use Rattle.logic_outline.specs.Lines.{Certificate}
 use Rattle.image_meaning.specs.Formulas.{formula}
 use Rattle.image_meaning.specs.Program.{instr, pointCount, programOf, outlineBody, outlineNumber, outlineOf}
-use Rattle.image_meaning.specs.Certificate.{saying, lineOf, lineBody, certificateOf}
-use Rattle.image_meaning.specs.Image.{obligationsBody, namedLine, claimIn, claimBody, claimsOf, imageOf}
+use Rattle.image_meaning.specs.Certificate.{saying, lineBody, certificateOf}
+use Rattle.image_meaning.specs.Image.{namedLine, claimIn, claimBody}
 use Rattle.trim_spec.specs.Document.{Document, LineRecord, ClaimRecord}
 use Rattle.trim_spec.specs.Canonical.{Canonical, noLine, noClaim, LineFits, ClaimFits}
-use Rattle.trim_spec.specs.Encode.{numberBytes, lineBytes, claimBytes, bodiesOf}
+use Rattle.trim_spec.specs.Encode.{lineBytes, claimBytes, bodiesOf}
 use Rattle.trim_spec.specs.Parse.{sizes}
-use Rattle.trim_spec.proofs.U16Bytes.{numbers-alone}
 use Rattle.trim_spec.proofs.LineBytes.{line-rule, line-thread, line-point, line-left, line-right, line-premises}
 use Rattle.trim_spec.proofs.ClaimBytes.{claim-thread, claim-point, claim-other, claim-otherPoint, claim-line}
 use Rattle.trim_spec.proofs.BodyPlaces as Places
@@ -52,7 +48,7 @@ use Rattle.trim_spec.proofs.FormulaKept.{header-kept, formula-kept}
 use Rattle.trim_spec.proofs.ThreadKept.{each-nth, old-body, old-instructions, last-kept}
 use Rattle.trim_spec.proofs.DocumentSays.{outline-said, named-said, premises-said, claim-said}
 use Rattle.trim_spec.proofs.ListKept.{points-length, obligations-many}
-use Rattle.trim_spec.proofs.TallyKept.{instruction-kept, tallyTo-kept, tally-kept, obligationCount-kept}
+use Rattle.trim_spec.proofs.TallyKept.{instruction-kept, tallyTo-kept}
 use Rattle.trim_spec.proofs.AbsentPoints.{withPoints}
 use Rattle.trim_spec.proofs.JustifiedTransfer.{Carried}
 

@@ -1,21 +1,18 @@
 -- Bytes and documents are each other's inverse: a sound image is the bytes of its document, and the bytes of a document whose records
 -- pass their checks are a sound image with that document.
-use mathlib.Core.Path.{_≡_, refl, ap, sym, _∙_, subst}
-use mathlib.Core.List.{List, [], map}
+use mathlib.Core.Path.{_≡_, refl, ap, sym, _∙_}
+use mathlib.Core.List.{List, []}
 use Prim.Native.Nat.{ℕ, _+_, _≤_, _<_}
 use native.Mathlib.Omega.{arith}
 use lib.ListN.{length, getD, length-map}
-use Rattle.logic.specs.Obligations.{flat}
 use Rattle.limits.specs.Limits as Limits
 use Rattle.image_frames.specs.Frames.{wholeImage}
 use Rattle.image_frames.specs.Records.{bodies}
-use Rattle.image_frames.specs.declared.fault.Fault.{Fault}
 use Rattle.image_frames.specs.declared.walk.Framing.{Framing}
 use Rattle.image_frames.specs.declared.walk.Framing.the-variants as Framing
 use Rattle.image_header.specs.Header.{threadCount, headed, header}
 use Rattle.image_header.specs.declared.sizes.Sizes.{Sizes}
 use Rattle.image.specs.Decode.{recordCount, sizesOf, firstFault, behindFrames, decoded}
-use Rattle.image.specs.declared.decode.Decoded.{Decoded}
 use Rattle.image.specs.declared.decode.Decoded.the-variants.{Refused, Sound}
 use Rattle.image.specs.Body.{placeOf, check}
 use Rattle.image_frames.specs.declared.fault.Checked.the-variants.{Passed}
@@ -25,13 +22,13 @@ use Rattle.image_header.specs.Header as Header
 use Rattle.image_meaning.proofs.PassedChecks.{unless-passed}
 use Rattle.image_meaning.proofs.RecordsChecked.{Checks, refused-sound, fault-sizes, fault-passed, sound-checks}
 use Rattle.trim_spec.specs.Document.{Document}
-use Rattle.trim_spec.specs.Encode.{Entry, framed, entriesOf, bodiesOf, encode}
+use Rattle.trim_spec.specs.Encode.{entriesOf, bodiesOf, encode}
 use Rattle.trim_spec.specs.Parse.{documentOf, sizes}
-use Rattle.trim_spec.specs.Framed.{kindsOf, entered, Framable, kindOf, bodyOf, Numbered, kindsIn}
+use Rattle.trim_spec.specs.Framed.{kindsOf, Framable, bodyOf, Numbered, kindsIn}
 use Rattle.trim_spec.specs.Canonical.{Bytes, Each}
 use Rattle.trim_spec.proofs.FramedBodies.{bodies-framed}
 use Rattle.trim_spec.proofs.FramedWalk.{frames-framed}
-use Rattle.trim_spec.proofs.FramesOfKinds.{kinds-length, FramedImage, framed-image}
+use Rattle.trim_spec.proofs.FramesOfKinds.{framed-image}
 use Rattle.trim_spec.proofs.RecordKinds.{entries-kinds, encode-entered}
 use Rattle.trim_spec.proofs.EncodedBodies.{Describes, encoded}
 use Rattle.trim_spec.proofs.BodyPlaces.{header-at, bodies-length}

@@ -1,5 +1,5 @@
 -- What a document's bytes say: the numbers of its outline, its obligations, its lines and its claims.
-use mathlib.Core.Path.{_≡_, ap, sym, _∙_}
+use mathlib.Core.Path.{_≡_, sym}
 use mathlib.Core.List.{List}
 use Prim.Native.Nat.{ℕ, _≤_, _<_}
 use lib.ListN.{length, getD, drop}
@@ -11,9 +11,9 @@ use Rattle.image_bodies.specs.Line.{premises}
 use Rattle.image_meaning.specs.Program.{outlineBody}
 use Rattle.image_meaning.specs.Certificate.{left, right, lineBody}
 use Rattle.image_meaning.specs.Image.{obligationsBody, namedLine, claimBody}
-use Rattle.trim_spec.specs.Document.{Document, LineRecord, ClaimRecord}
+use Rattle.trim_spec.specs.Document.{Document}
 use Rattle.trim_spec.specs.Canonical.{Canonical, noLine, noClaim, LineFits}
-use Rattle.trim_spec.specs.Encode.{lineBytes, bodiesOf}
+use Rattle.trim_spec.specs.Encode.{bodiesOf}
 use Rattle.trim_spec.specs.Parse.{sizes}
 use Rattle.trim_spec.proofs.U16Bytes.{numbers-alone}
 use Rattle.trim_spec.proofs.LineBytes.{line-left, line-right, line-premises}

@@ -1,15 +1,12 @@
 -- A justified line is justified in every certificate that has it, and what it rests on, under other numbers.
 use mathlib.Core.Path.{_≡_, refl, ap, sym, _∙_, subst}
 use mathlib.Core.List.{List, [], _∷_, map}
-use Prim.Native.Nat.{ℕ, zero, suc, _≤_, _<_}
+use Prim.Native.Nat.{ℕ, suc, _<_}
 use native.Mathlib.Omega.{arith}
 use lib.ListN.{length, getD, length-map, List·getD-map}
 use Rattle.semantics.specs.Base.{Within}
 use Rattle.semantics.specs.Machine.{Program}
-use Rattle.logic.specs.Rule.{Rule}
-use Rattle.logic.specs.Statement.{Statement}
-use Rattle.logic.specs.Inference.{Inference}
-use Rattle.logic_outline.specs.Lines.{Line, Certificate, saying, Justified, justified}
+use Rattle.logic_outline.specs.Lines.{Certificate, saying, Justified, justified}
 use Rattle.trim_spec.proofs.AbsentPoints.{withPoints, repointed}
 
 -- of C in B: the lines that stay, by their new numbers

@@ -1,8 +1,8 @@
 -- The formulas that stay are those that are used; and nothing that is named is left out.
 use mathlib.Core.Path.{_≡_, refl, ap, sym, _∙_, subst}
-use mathlib.Core.Bool.{Bool, true, false, cond}
-use mathlib.Core.List.{List, [], _∷_, _++_, map}
-use mathlib.Core.Logic.{_≢_, _⊎_, inl, inr}
+use mathlib.Core.Bool.{true, false}
+use mathlib.Core.List.{List, [], _∷_, _++_}
+use mathlib.Core.Logic.{_⊎_, inl, inr}
 use Prim.Native.Nat.{ℕ, zero, suc, _+_, _-_, _≤_, _<_}
 use native.Mathlib.Omega.{arith}
 use lib.ListN.{length, getD, replicate}
@@ -12,10 +12,10 @@ use Rattle.limits.specs.Numbers.{nth}
 use Rattle.image_header.specs.Thread.{nothing}
 use Rattle.image_header.specs.declared.instruction.Instruction.{Instruction}
 use Rattle.trim_spec.specs.Document.{Document, LineRecord}
-use Rattle.trim_spec.specs.Canonical.{noLine, noClaim}
+use Rattle.trim_spec.specs.Canonical.{noLine}
 use Rattle.trim_spec.specs.Live.{markedBy, selected, renumbered, kept, namedFormulas, used, instructionFormulas, lineFormulas}
 use Rattle.trim_spec.specs.Rests.{Rests, obligation, claim, premise, Uses, instruction, second, outline, left, right}
-use Rattle.trim_spec.specs.Closed.{Stays, Closed}
+use Rattle.trim_spec.specs.Closed.{Closed}
 use Rattle.trim_spec.proofs.MarkCounts.{noted-length, noted-sets, noted-from, renumbered-low, renumbered-high, selected-nth, Selected, selected-from, Found}
 use Rattle.trim_spec.proofs.ListMembers.{Within, found-at, found-left, found-right, found-either, found-flat, flat-found}
 use Rattle.trim_spec.proofs.LiveLines.{none-set, replicate-length, Named, kept-length, kept-rests, rests-kept}

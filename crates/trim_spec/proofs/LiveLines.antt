@@ -1,9 +1,9 @@
 -- The lines that stay are those on which an obligation or a claim rests.
 use mathlib.Core.Path.{_≡_, refl, ap, sym, _∙_, subst}
 use mathlib.Core.Bool.{Bool, true, false, cond}
-use mathlib.Core.List.{List, [], _∷_, _++_, map}
-use mathlib.Core.Logic.{_≢_, _⊎_, inl, inr}
-use Prim.Native.Nat.{ℕ, zero, suc, _+_, _≤_, _<_}
+use mathlib.Core.List.{List, map}
+use mathlib.Core.Logic.{_⊎_, inl, inr}
+use Prim.Native.Nat.{ℕ, zero, suc, _≤_, _<_}
 use native.Mathlib.Omega.{arith}
 use lib.Dec.{eqb}
 use borrow.Author.Tests.{eqb-true, eqb-false}
@@ -14,7 +14,7 @@ use Rattle.trim_spec.specs.Document.{Document, LineRecord, ClaimRecord}
 use Rattle.trim_spec.specs.Canonical.{noLine, noClaim}
 use Rattle.trim_spec.specs.Live.{markedBy, keptTo, kept, namedLines}
 use Rattle.trim_spec.specs.Rests.{Rests, obligation, claim, premise}
-use Rattle.trim_spec.proofs.MarkCounts.{clash, mark-in, noted-length, noted-keeps, noted-sets, noted-from, Found}
+use Rattle.trim_spec.proofs.MarkCounts.{clash, noted-length, noted-keeps, noted-sets, noted-from, Found}
 use Rattle.trim_spec.proofs.ListMembers.{found-at, found-left, found-right, found-either}
 
 module _ (l : List LineRecord) where

@@ -1,41 +1,37 @@
 -- What the checks of an image leave of its numbers: the lines and formulas that are named are there.
-use mathlib.Core.Path.{_≡_, refl, ap, sym, _∙_, subst}
-use mathlib.Core.Bool.{Bool, true, false, cond, _&&_}
+use mathlib.Core.Path.{_≡_, refl, subst}
+use mathlib.Core.Bool.{Bool, true, false, cond}
 use mathlib.Core.List.{List, []}
-use Prim.Native.Nat.{ℕ, zero, suc, _-_, _≤_, _<_}
+use Prim.Native.Nat.{ℕ, suc, _-_, _≤_, _<_}
 use native.Mathlib.Omega.{arith}
 use lib.Dec.{eqb, leb}
-use lib.ListN.{length, getD, drop}
+use lib.ListN.{length, getD}
 use Rattle.logic.specs.Opcode as Opcode
 use Rattle.limits.specs.Limits as Limits
-use Rattle.limits.specs.Numbers.{nth, le16, numbers, within, every}
-use Rattle.limits.proofs.PassedTests.{and-true, within-true, every-at}
+use Rattle.limits.specs.Numbers.{nth, within, every}
+use Rattle.limits.proofs.PassedTests.{within-true, every-at}
 use Rattle.image_header.specs.Header.{threadCount}
-use Rattle.image_header.specs.Instruction.{twofold, noHalf, range, unused, fields, inside, fieldsOf, fieldsFit, ranged}
-use Rattle.image_header.specs.Thread.{nothing, lastPoint, instructions}
+use Rattle.image_header.specs.Instruction.{twofold, noHalf, fieldsOf, ranged}
+use Rattle.image_header.specs.Thread.{nothing}
 use Rattle.image_header.specs.declared.sizes.Sizes.{Sizes}
 use Rattle.image_header.specs.declared.instruction.Fields.{Fields}
 use Rattle.image_header.specs.declared.instruction.Instruction.{Instruction}
-use Rattle.image_header.specs.declared.instruction.Range.{Range}
 use Rattle.image_bodies.specs.NumberList.{exactly}
 use Rattle.image_bodies.specs.PointCounts.{pointCounts, obligationCount}
-use Rattle.image_bodies.specs.Line.{premises}
 use Rattle.image_bodies.specs.ListBody as Lists
 use Rattle.image.specs.Decode.{sizesOf}
-use Rattle.image_meaning.specs.Program.{outlineBody}
-use Rattle.image_meaning.specs.Certificate.{left, right, lineBody}
 use Rattle.image_meaning.proofs.RecordsChecked.{Checks, outline-passed}
 use Rattle.image_meaning.proofs.PassedChecks.{unless-passed, also-passed}
 use Rattle.image_meaning.proofs.LinesAdmitted.{named-there, claim-fine, in-range, line-lower}
 use Rattle.image_meaning.proofs.WellFormedProgram.{thread-ranged, fields-in, ranged-both, second-in}
 use Rattle.image_bodies.specs.RecordPlaces.{threadBody}
-use Rattle.trim_spec.specs.Document.{Document, LineRecord}
-use Rattle.trim_spec.specs.Canonical.{Canonical, noLine, noClaim, ThreadFits}
+use Rattle.trim_spec.specs.Document.{Document}
+use Rattle.trim_spec.specs.Canonical.{Canonical}
 use Rattle.trim_spec.specs.Encode.{threadBytes, bodiesOf}
 use Rattle.trim_spec.specs.Parse.{sizes}
 use Rattle.trim_spec.proofs.ThreadBytes.{thread-last, thread-instructions}
 use Rattle.trim_spec.proofs.BodyPlaces.{thread-at}
-use Rattle.trim_spec.specs.Rests.{Rests, Uses, instruction, second, outline, left as left-of, right as right-of}
+use Rattle.trim_spec.specs.Rests.{Uses, instruction, second, outline, left as left-of, right as right-of}
 use Rattle.trim_spec.proofs.LiveLines.{Named}
 use Rattle.trim_spec.proofs.LiveFormulas.{Written}
 use Rattle.trim_spec.proofs.DocumentSays.{outline-said, named-said, left-said, right-said, premises-said, claim-said}

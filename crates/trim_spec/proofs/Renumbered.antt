@@ -1,18 +1,18 @@
 -- Where everything of a document stands in the trimmed one.
 use mathlib.Core.Path.{_≡_, refl, ap, sym, _∙_, subst}
 use mathlib.Core.Bool.{Bool, true, false}
-use mathlib.Core.List.{List, [], _∷_, map}
-use Prim.Native.Nat.{ℕ, zero, suc, _+_, _≤_, _<_}
+use mathlib.Core.List.{List, [], map}
+use Prim.Native.Nat.{ℕ, zero, suc, _≤_}
 use native.Mathlib.Omega.{arith}
 use lib.ListN.{length, getD, length-map, List·getD-map}
 use Rattle.limits.specs.Numbers.{nth}
 use Rattle.image_header.specs.Thread.{nothing}
 use Rattle.image_header.specs.declared.instruction.Instruction.{Instruction}
-use Rattle.trim_spec.specs.Document.{Document, LineRecord, ClaimRecord}
+use Rattle.trim_spec.specs.Document.{Document}
 use Rattle.trim_spec.specs.Canonical.{noLine, noClaim}
 use Rattle.trim_spec.specs.Live.{selected, renumbered}
 use Rattle.trim_spec.specs.Trim.{halfBy, instructionBy, lineBy, claimBy, trimmedBy}
-use Rattle.trim_spec.proofs.MarkCounts.{renumbered-0, renumbered-few, renumbered-low, renumbered-high, renumbered-mono, selected-nth, selected-few, Selected, selected-from}
+use Rattle.trim_spec.proofs.MarkCounts.{renumbered-0, renumbered-high, selected-nth, Selected, selected-from}
 
 module _ {A B : Type 0} (h : A → B) (l : List A) where
   -- a default that is taken to the default

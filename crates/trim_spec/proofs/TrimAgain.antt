@@ -1,6 +1,6 @@
 -- Trimming again changes nothing: of what is left every line is rested on and every formula used.
-use mathlib.Core.Path.{_≡_, refl, ap, sym, _∙_, subst}
-use mathlib.Core.Bool.{Bool, true, false, cond}
+use mathlib.Core.Path.{_≡_, refl, ap, _∙_, subst}
+use mathlib.Core.Bool.{Bool, true, false}
 use mathlib.Core.List.{List, [], _∷_, map}
 use Prim.Native.Nat.{ℕ, zero, suc, _+_, _≤_, _<_}
 use native.Mathlib.Omega.{arith}
@@ -8,7 +8,6 @@ use lib.ListN.{length, getD, drop}
 use lib.Seq.{getD-drop}
 use Rattle.limits.specs.Numbers.{nth}
 use Rattle.image_header.specs.Thread.{nothing}
-use Rattle.image_header.specs.declared.instruction.Half.{Half}
 use Rattle.image_header.specs.declared.instruction.Instruction.{Instruction}
 use Rattle.trim_spec.specs.Document.{Document, LineRecord, ClaimRecord}
 use Rattle.trim_spec.specs.Canonical.{noLine, noClaim}

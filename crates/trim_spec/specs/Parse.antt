@@ -4,7 +4,6 @@ use Prim.Native.Nat.{ℕ, _+_}
 use lib.ListN.{length, getD, take, drop}
 use Rattle.limits.specs.Numbers.{le16, numbers}
 use Rattle.image_header.specs.Thread.{instructions}
-use Rattle.image_header.specs.Header.{threadCount, wordCount, registerCount, valueRange}
 use Rattle.image_header.specs.declared.sizes.Sizes.{Sizes}
 use Rattle.image_bodies.specs.Line.{premises}
 use Rattle.image_bodies.specs.PointCounts.{pointCounts, obligationCount}

@@ -9,7 +9,6 @@ use native.Mathlib.Omega.{arith}
 use lib.Dec.{T, eqb, eqb→eq, eqb-refl}
 use lib.Seq.{getD-drop, drop-drop, drop-cons}
 use lib.ListN.{length, getD, drop, replicate, drop-of-length-le, List·getD-eq-default}
-use borrow.Author.Tests.{eq-eqb, ne-eqb}
 use Rattle.semantics.proofs.Base.{and-left, and-right, and-both}
 use Rattle.vectors.specs.Room.{holds}
 

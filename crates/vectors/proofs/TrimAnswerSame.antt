@@ -5,7 +5,6 @@ use Prim.Native.Nat.{ℕ}
 use lib.Dec.{T, eqb, eqb→eq}
 use lib.ListN.{length, replicate}
 use Rattle.semantics.proofs.Base.{and-left, and-right}
-use Rattle.vectors.specs.Room.{holds}
 use Rattle.vectors.proofs.RoomBranches.{holds-equal}
 use Rattle.vectors.specs.TrimAnswer.{blank, codeAt, sameAnswer}
 

@@ -6,7 +6,7 @@ use bill_spec::tariff::Tariff;
 use limits::read::u16_at;
 use verdict_record::output::Output;
 ghost use mathlib.Core.Path.{_≡_};
-ghost use Rattle.vectors.specs.BillAnswer.{tariffAt, billedAt, lentAt, codeAt, numbersAt, sameAnswer};
+ghost use Rattle.vectors.specs.BillAnswer.{tariffAt, billedAt, lentAt, numbersAt, sameAnswer};
 
 pub struct Stored;
 

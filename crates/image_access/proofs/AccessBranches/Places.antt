@@ -1,6 +1,6 @@
 -- The laws of the look-ups.
 use mathlib.Core.Path.{_≡_, refl, ap, sym, _∙_}
-use mathlib.Core.List.{List, [], _∷_}
+use mathlib.Core.List.{List, []}
 use mathlib.Core.Bool.{Bool, true, false}
 use mathlib.Core.Logic.{_≢_}
 use Prim.Native.Nat.{ℕ, zero, suc, _+_, _-_, _≤_, _<_}
@@ -9,11 +9,11 @@ use native.Mathlib.Omega.{arith}
 use lib.Dec.{eqb}
 use lib.ListN.{length, getD, set, drop, replicate, length-set, length-replicate}
 use lib.Seq.{getD-set-same, getD-set-other}
-use borrow.Author.Tests.{eqb-true, eqb-false, eq-eqb, ne-eqb, lt-ltb, le-ltb, le-leb, lt-leb}
+use borrow.Author.Tests.{eqb-true, eqb-false, eq-eqb, ne-eqb, lt-ltb, le-ltb}
 use Rattle.limits.specs.Limits as Limits
 use Rattle.limits.specs.Numbers.{le16, numbers}
 use Rattle.limits.proofs.Numbers.{number-past}
-use Rattle.image_frames.specs.Records.{body, bodies}
+use Rattle.image_frames.specs.Records.{bodies}
 use Rattle.image_index.specs.IndexTable.{placeOf}
 use Rattle.image_index.proofs.LookUps.{body-past}
 use Rattle.image_header.specs.declared.sizes.Sizes.{Sizes}
@@ -23,7 +23,7 @@ use Rattle.image_bodies.specs.Line.{premises}
 use Rattle.image_bodies.specs.RecordPlaces.{threadBody}
 use Rattle.image_bodies.specs.declared.point_counts.PointCounts.{PointCounts}
 use Rattle.image_bodies.proofs.RecordBranches.Counts.{own-least, count-is}
-use Rattle.image_bodies.specs.PointCounts.{threadCounts, pointCountsTo, pointCounts, obligationsBy, obligationCount}
+use Rattle.image_bodies.specs.PointCounts.{threadCounts, pointCountsTo, pointCounts, obligationsBy}
 use Rattle.image_header.specs.Thread.{lastPoint}
 use Rattle.image_access.specs.Totals.{pointsBelow, pointsBefore, totalsOf}
 use Rattle.image_access.specs.declared.totals.Totals.{Totals}

@@ -1,6 +1,6 @@
 -- Places, sums over threads, lists of numbers.
 use Prim.Native.Nat.{ℕ, zero, suc, _+_, _-_, _*_, _^_, _≤_, _<_}
-use mathlib.Core.Path.{_≡_, refl, ap, sym, _∙_}
+use mathlib.Core.Path.{_≡_, refl, _∙_}
 use mathlib.Core.List.{List, [], _∷_}
 use mathlib.Core.Bool.{Bool, true, false}
 use native.Mathlib.Numerals.{add-one}
@@ -8,12 +8,10 @@ use native.Mathlib.Nat.{mul-le-mul, mul-add, add-mul}
 use native.Mathlib.Omega.{arith}
 use lib.ListN.{length, getD, drop, drop-of-length-le}
 use lib.Seq.{drop-cons}
-use lib.Dec.{eqb}
 use borrow.Author.Tests.{eq-eqb, ne-eqb, lt-ltb, le-ltb}
 use Rattle.limits.specs.Numbers.{numbers, within, every}
 use Rattle.image_frames.specs.Fault.{unless}
 use Rattle.image_frames.specs.declared.fault.Fault.the-variants.{Body, Number}
-use Rattle.image_frames.specs.declared.fault.Checked.{Checked}
 use Rattle.image_frames.specs.declared.fault.Checked.the-variants.{Passed, Faulty}
 use Rattle.image_header.specs.declared.sizes.Sizes.{Sizes}
 use Rattle.image_header.specs.declared.instruction.Instruction.{Instruction}

@@ -1,6 +1,4 @@
 use borrow.Author.Needs.{needs}
-use mathlib.Core.Path.{sym}
-use lib.Seq.{set-out}
 use Rattle.replay_table.proofs.SweepBranches.{set-none}
 use Rattle.replay_table.proofs.mark.Statement.{statement}
 use Rattle.replay_table.proofs.mark.Tie as tie

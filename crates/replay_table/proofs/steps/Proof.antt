@@ -1,7 +1,7 @@
 -- `steps` meets its contract: a walk of its MIR, by hand. In each turn the table is lent as `&` to `read`, `step` is called with values
 -- alone, and the table is lent as `&mut` to `insert`.
 use mathlib.Core.Path.{_≡_, refl, sym, ap, subst, _∙_}
-use Prim.Native.Nat.{ℕ, zero, suc, _<_, _≤_, _^_, _*_, _+_}
+use Prim.Native.Nat.{ℕ, zero, suc, _<_, _≤_, _^_, _+_}
 use native.Mathlib.Omega.{arith}
 use native.Mathlib.Numerals.{add-one}
 use mathlib.Core.Bool.{Bool}
@@ -33,7 +33,7 @@ use denote.Laws.{Is, shows}
 use denote.Plain.{Nothing, nothing-lawful, uint-vals, uint-tells, uint-makes}
 use denote.Builtin.{usize}
 use denote.Ref.{RefT}
-use denote.Slice.{sliceVal, MutSlice, ShrSlice, Room, finally, slice-vals, mut-slice-tells}
+use denote.Slice.{sliceVal, MutSlice, ShrSlice, Room, slice-vals, mut-slice-tells}
 use denote.Steps.{only, owned, peeks, heard, nothing}
 use denote.Struct.Laws as LL
 use denote.Triple.Entry.{onEntry}

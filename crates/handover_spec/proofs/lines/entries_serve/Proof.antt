@@ -1,4 +1,4 @@
-use Prim.Native.Nat.{ℕ, _≤_, _<_, _-_}
+use Prim.Native.Nat.{_≤_, _-_}
 use borrow.Author.Needs.{needs}
 use Rattle.handover_spec.specs.LinesFound.{entriesServe}
 use Rattle.rules_justified.specs.Marks.{asMarks}

@@ -1,4 +1,4 @@
-use Prim.Native.Nat.{ℕ, _≤_, _<_, _-_}
+use Prim.Native.Nat.{_≤_, _-_}
 use Rattle.handover_spec.specs.LinesFound.{threadsServe}
 use Rattle.rules_justified.specs.Marks.{asMarks}
 use mathlib.Core.Bool.{true}
