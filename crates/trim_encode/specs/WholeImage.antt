@@ -1,4 +1,5 @@
--- The bytes of a trimmed image, in the order in which they are written: f and g are the tables of formulas and lines, u and k their marks.
+-- The bytes of a trimmed image in the order in which they are written: f and g are the tables of new formula and line numbers, u and k the
+-- marks of live formulas and lines.
 use mathlib.Core.Bool.{Bool}
 use mathlib.Core.List.{List, _++_}
 use Prim.Native.Nat.{ℕ, _+_}
@@ -8,10 +9,11 @@ use Rattle.image_bodies.specs.PointCounts.{pointCounts, obligationCount}
 use Rattle.trim_encode.specs.Pieces.{joined}
 use Rattle.trim_encode.specs.Records.{recordBytes, recordPiece, livePiece, listBytes}
 
--- formulas are named by the outline, lines by the obligations
+-- the outline is a list of formulas
 unfoldable pub outlineBytes : Sizes → List ℕ → List (List ℕ) → List ℕ
 outlineBytes z f l = listBytes f l Kinds.outline (z .formulas + z .threads + 1) (pointCounts z l .points)
 
+-- the obligations are a list of lines
 unfoldable pub obligationsBytes : Sizes → List ℕ → List (List ℕ) → List ℕ
 obligationsBytes z g l = listBytes g l Kinds.obligations (z .formulas + z .threads + 1 + z .lines + 1) (obligationCount z l)
 
@@ -28,15 +30,18 @@ module _ (z : Sizes) (f g : List ℕ) (l : List (List ℕ)) where
   unfoldable pub claimsBytes : List ℕ
   claimsBytes = joined (recordPiece f g l Kinds.claim (z .formulas + z .threads + 1 + z .lines + 2)) (z .claims)
 
+  -- header, formulas and threads
   unfoldable pub programBytes : List Bool → List ℕ
   programBytes u = recordBytes f g l Kinds.header 0 ++ (formulasBytes u ++ threadsBytes)
 
+  -- outline, lines and obligations
   unfoldable pub certificateBytes : List Bool → List ℕ
   certificateBytes k = outlineBytes z f l ++ (linesBytes k ++ obligationsBytes z g l)
 
-  -- behind the program
+  -- all that follows the threads
   unfoldable pub behindBytes : List Bool → List ℕ
   behindBytes k = certificateBytes k ++ claimsBytes
 
+  -- the whole image
   unfoldable pub wholeBytes : List Bool → List Bool → List ℕ
   wholeBytes u k = programBytes u ++ behindBytes k
