@@ -1,17 +1,18 @@
--- The parts of a case, in a row.
+-- The parts of a case's body, one after the other; their lengths are at the front of s, 32 bits each.
 use mathlib.Core.List.{List}
 use Prim.Native.Nat.{ℕ}
 use lib.ListN.{take, drop}
 use Rattle.vectors.specs.Number.{long}
 
--- s: in front how many bytes each part has
+-- the first part
 unfoldable pub firstIn : List ℕ → List ℕ → List ℕ
 firstIn s body = take (long (drop 0 s)) (drop 0 body)
 
--- from the second part on; and so on for the others
+-- the body from the second part on; `thirdOn` to `seventhOn` go on so
 unfoldable pub secondOn : List ℕ → List ℕ → List ℕ
 secondOn s body = drop (long (drop 0 s)) body
 
+-- the second part; `thirdIn` to `sixthIn` go on so
 unfoldable pub secondIn : List ℕ → List ℕ → List ℕ
 secondIn s body = take (long (drop 4 s)) (drop 0 (secondOn s body))
 
