@@ -71,7 +71,7 @@ fn all_serve<'a, 'b, 'c, 'd, 'e>(
     )
 }
 
-// The code for two images that are alike.
+// The code for two images that are alike: 33 comes before any 34.
 fn code_between<'a, 'b, 'c, 'd, 'e>(
     old: &'a [u8],
     old_index: &'b [usize],

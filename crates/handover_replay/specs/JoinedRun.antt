@@ -38,6 +38,6 @@ abbrev pub behind : Run → Run → Run
 behind r q = record { code = q .code; steps = r .steps + q .steps; machine = q .machine }
 
 module _ (old : List ℕ) (z : Sizes) (new : List ℕ) (y : Sizes) (points : List ℕ) where
-  -- on from the run r under the old code: "a step refused in the first ends the run under the old code"
+  -- the run r under the old code and what follows it: "a step refused in the first ends the run under the old code"
   unfoldable pub wentOn : ℕ → Run → List ℕ → Run
   wentOn room r second = cond (eqb (r .code) 0) (behind r (ran new y room (handedOver old z points (r .machine)) 0 second)) r

@@ -31,7 +31,7 @@ use Rattle.handover_replay.specs.ReplayAcross.{acrossOf}
 abbrev pub unpermitted : ℕ → Answer
 unpermitted code = record { code = code; steps = 0; points = replicate 4 0; registers = replicate 16 0 }
 
--- of two accepted images with sizes z and y and a handover that is permitted
+-- both images are accepted, with sizes z and y, and the handover is permitted
 module _ (old : List ℕ) (z : Sizes) (new : List ℕ) (y : Sizes) (points first second given : List ℕ) (room : ℕ) where
   -- the old program
   abbrev pub P : Program
@@ -45,7 +45,7 @@ module _ (old : List ℕ) (z : Sizes) (new : List ℕ) (y : Sizes) (points first
   abbrev pub N : Outline
   N = outlineOf y (bodies new)
 
-  -- where the table leads
+  -- the new points that the handover table gives
   abbrev pub to : NewPoint
   to = newPoint P points
 
@@ -53,11 +53,11 @@ module _ (old : List ℕ) (z : Sizes) (new : List ℕ) (y : Sizes) (points first
   abbrev pub begun : State
   begun = begin P (λ r. nth given r 0)
 
-  -- the first trace on the machine of the old program
+  -- the replay of the first trace under the old code
   abbrev pub before : Judgement
   before = replayed P room begun 0 first
 
-  -- the second trace on the machine of the new program, from the state with mapped points
+  -- the replay of the second trace under the new code, from the mapped points
   abbrev pub after : Judgement
   after = replayed Q room (handed to (before .state)) 0 second
 
@@ -75,11 +75,12 @@ module _ (old : List ℕ) (z : Sizes) (new : List ℕ) (y : Sizes) (points first
     pub old-way : (k : ℕ) → k ≤ before .steps → Holds P (outlineOf z (bodies old)) (run P begun (take k (stepsIn first)))
     pub new-way : (k : ℕ) → k ≤ after .steps → Holds Q N (run Q (handed to (before .state)) (take k (stepsIn second)))
     pub holds : Holds Q N (after .state)
-    -- at a point of the answer, an assertion "made of 25, 26 and 28 alone" is true of the answer's registers
+    -- an assertion "made of 25, 26 and 28 alone" at a point of the answer is true of the answer's registers
     pub plain : (t : ℕ) → t < y .threads → T (ofRegs (N (suc t) (getD (a .points) t 0)))
         → plainTrue (Q .range) (λ r. nth (a .registers) r 0) (N (suc t) (getD (a .points) t 0)) ≡ true
 
--- of every two images, table of points, traces, given registers and number of entries in the caller's table of writes
+-- what answer a and table `shown` are, for every two images, handover table, traces, given registers and length of the caller's table of
+-- writes
 pub record Promise (old new points first second given : List ℕ) (lent : ℕ) (a : Answer) (shown : List Write) : Type 0 where
   pub answer : a ≡ answerOf (acrossOf old new points first second given lent)
   pub table : shown ≡ shownOf (acrossOf old new points first second given lent) lent
@@ -99,7 +100,7 @@ pub record Promise (old new points first second given : List ℕ) (lent : ℕ) (
       → before old z new y points first second given (roomOf lent) .code ≡ 0
       → Across old z new y points first second given (roomOf lent) a shown
 
--- and of the caller's table and buffer for the numbers: the code returned, and what both hold afterwards
+-- what is returned and written, for the caller's table of writes and buffer `room`: the code, and both afterwards
 pub record Written (old new points first second given table room : List ℕ) (code : ℕ) (after told : List ℕ) : Type 0 where
   pub answer : Answer
   pub shown : List Write

@@ -25,7 +25,7 @@ ghost use Rattle.checker_spec.specs.declared.acceptance.Acceptance.the-variants
 ghost use Rattle.replay_machine.specs.OutputTable.{shownBy};
 ghost use Rattle.handover_replay.specs.ReplayAcross.{refusedBy, acrossOn, acrossBy, byAcceptance, acrossOf};
 
-// A replay that is refused with `code`: points and registers of 0, and the table stays. `image` is there to take empty slices from.
+// A replay that is refused with `code`: points and registers are 0, and the table stays. `image` is there to take empty slices from.
 fn refuse(image: &[u8], code: u8) -> Replayed
     ensures { λ r. ⌜ r ≡ refusedBy code ⌝ }
 {

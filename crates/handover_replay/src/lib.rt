@@ -1,5 +1,4 @@
-// Replay across a handover: a trace under the old code, then one under the new code on the same memory. `replay_handover` is the entry
-// point, specs/Promise.antt what it promises.
+// Replay across a handover (Change 12): `replay_handover` is the entry point, specs/Promise.antt what it promises.
 
 // Runs across a handover: the state at the handover, and the run after it.
 pub mod mapped;

@@ -12,7 +12,7 @@ use Rattle.handover_spec.specs.Table.{entrySize, pointNamed, lineNamed, 
 unfoldable pub entryFits : List ℕ → ℕ → ℕ → ℕ → Bool
 entryFits table last lines i = leb (pointNamed table i) last && within 1 lines (lineNamed table i)
 
--- entries from .. from + n - 1 all do
+-- entries from .. from + n - 1 all name a point up to `last` and a line from 1 to `lines`
 unfoldable pub entriesFit : List ℕ → ℕ → ℕ → ℕ → ℕ → Bool
 entriesFit table last lines from n = each n (λ k. entryFits table last lines (from + k))
 

@@ -8,7 +8,7 @@ use Rattle.logic.specs.Statement.{implies}
 use Rattle.semantics.specs.EveryRun.{Outline, Holds}
 use Rattle.logic.specs.Derivation.{Derived}
 
--- for each thread and old point, a new point
+-- a new point for each thread and old point
 abbrev pub NewPoint : Type 0
 NewPoint = ℕ → ℕ → ℕ
 
@@ -19,7 +19,7 @@ pub record Alike (P Q : Program) : Type 0 where
   pub words : P .words ≡ Q .words
   pub range : P .range ≡ Q .range
 
--- from program P with outline O to program Q with outline N: each old point has a new point that exists (33), and the new point's
+-- a permitted handover from program P with outline O to Q with N: each old point has a new point that exists (33), and the new point's
 -- assertion is derived from the old one, in the new image (34)
 pub record Handover (P Q : Program) (O N : Outline) (to : NewPoint) : Type 0 where
   pub alike : Alike P Q

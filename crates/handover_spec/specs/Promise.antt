@@ -51,10 +51,10 @@ pub record TrueAcross (old new table : List ℕ) : Type 0 where
   pub follows : decode new ≡ read following
   pub holds : EveryRunAcross (content .program) (following .program) (following .outline) (newPoint (content .program) table)
 
--- of two images, a table and the code returned
+-- what the code returned says of two images and a table
 pub record Promise (old new table : List ℕ) (code : ℕ) : Type 0 where
   pub returned : code ≡ handoverCode old new table
-  -- of two accepted images with equal headers: 0, 33 or 34, and what each means; else 32
+  -- the code is 0, 33 or 34 for two accepted images with equal headers, and this is what each means; else it is 32
   pub decided : (D E : Image) → BothAccepted old new D E → Decided D E table code
   pub otherwise : ((D E : Image) → BothAccepted old new D E → ⊥) → code ≡ 32
   -- what a permitted handover means for every run

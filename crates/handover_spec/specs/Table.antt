@@ -34,7 +34,7 @@ module _ (P : Program) where
   abbrev pub newPoint : List ℕ → NewPoint
   newPoint table t k = pointNamed table (entryOf t k)
 
-  -- the line of the new image that it gives
+  -- the line of the new image that the table gives for point k of thread t
   abbrev pub newLine : List ℕ → ℕ → ℕ → ℕ
   newLine table t k = lineNamed table (entryOf t k)
 

@@ -11,7 +11,7 @@ use Rattle.input.specs.declared.Reached.the-variants.{More, Over}
 unfoldable pub reachedBy : Bool → ℕ → ℕ → Reached
 reachedBy failed more done = cond failed (Over Failed) (cond (eqb more 0) (Over (Ended done)) (More (done + more)))
 
--- from `done` bytes in a buffer of `room` bytes: more than before and within it, or the same at the input's end
+-- `done` bytes in a buffer of `room` bytes become more within it, or stay the same at the input's end
 unfoldable pub Goes : Reached → ℕ → ℕ → Type 0
 Goes (More end) done room = (done < end) × (end ≤ room)
 Goes (Over Full) done room = ⊥

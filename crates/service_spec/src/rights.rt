@@ -19,7 +19,7 @@ impl Service {
     // The rights of each caller, a bit for each right, then the number of billed images of each.
     pub const NUMBERS: usize = 2 * Service::CALLERS;
 
-    // The number of billed images of caller c is at index BILLED + c.
+    // The number of billed images of a caller is at index `BILLED + caller`.
     pub const BILLED: usize = Service::CALLERS - 1;
 
     // A byte of rights is taken modulo this.

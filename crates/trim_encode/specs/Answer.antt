@@ -14,7 +14,7 @@ use Rattle.trim_encode.specs.Trimmed.{trimmedBytes}
 abbrev pub answer : ℕ → ℕ → Answer
 answer c n = record { code = c; length = n }
 
--- t is the trimmed image: its length, or "25 output too short"
+-- the answer for the trimmed image t: its length, or "25 output too short"
 unfoldable pub answeredBy : List ℕ → List ℕ → Answer
 answeredBy t buffer = cond (ltb (length buffer) (length t)) (answer 25 0) (answer 0 (length t))
 
@@ -22,7 +22,7 @@ answeredBy t buffer = cond (ltb (length buffer) (length t)) (answer 25 0) (answe
 unfoldable pub bufferBy : List ℕ → List ℕ → List ℕ
 bufferBy t buffer = cond (ltb (length buffer) (length t)) buffer (t ++ drop (length t) buffer)
 
--- by the acceptance of s: "24 image not accepted, first"
+-- the answer by the acceptance of s: "24 image not accepted, first"
 abbrev pub answerWith : List ℕ → List ℕ → Acceptance → Answer
 answerWith s buffer (Granted z) = answeredBy (trimmedBytes z s) buffer
 answerWith s buffer Declined = answer 24 0
@@ -36,6 +36,6 @@ bufferWith s buffer Declined = buffer
 unfoldable pub answerFor : List ℕ → List ℕ → Answer
 answerFor s buffer = answerWith s buffer (acceptance s)
 
--- the buffer afterwards
+-- the buffer afterwards, for every byte string s
 unfoldable pub bufferFor : List ℕ → List ℕ → List ℕ
 bufferFor s buffer = bufferWith s buffer (acceptance s)

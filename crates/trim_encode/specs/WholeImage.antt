@@ -9,24 +9,28 @@ use Rattle.image_bodies.specs.PointCounts.{pointCounts, obligationCount}
 use Rattle.trim_encode.specs.Pieces.{joined}
 use Rattle.trim_encode.specs.Records.{recordBytes, recordPiece, livePiece, listBytes}
 
--- the outline is a list of formulas
+-- the outline, which is a list of formulas
 unfoldable pub outlineBytes : Sizes → List ℕ → List (List ℕ) → List ℕ
 outlineBytes z f l = listBytes f l Kinds.outline (z .formulas + z .threads + 1) (pointCounts z l .points)
 
--- the obligations are a list of lines
+-- the obligations, which are a list of lines
 unfoldable pub obligationsBytes : Sizes → List ℕ → List (List ℕ) → List ℕ
 obligationsBytes z g l = listBytes g l Kinds.obligations (z .formulas + z .threads + 1 + z .lines + 1) (obligationCount z l)
 
 module _ (z : Sizes) (f g : List ℕ) (l : List (List ℕ)) where
+  -- the formulas that u marks
   unfoldable pub formulasBytes : List Bool → List ℕ
   formulasBytes u = joined (livePiece f g l u Kinds.formula 1) (z .formulas)
 
+  -- the threads
   unfoldable pub threadsBytes : List ℕ
   threadsBytes = joined (recordPiece f g l Kinds.thread (z .formulas + 1)) (z .threads)
 
+  -- the lines that k marks
   unfoldable pub linesBytes : List Bool → List ℕ
   linesBytes k = joined (livePiece f g l k Kinds.line (z .formulas + z .threads + 2)) (z .lines)
 
+  -- the claims
   unfoldable pub claimsBytes : List ℕ
   claimsBytes = joined (recordPiece f g l Kinds.claim (z .formulas + z .threads + 1 + z .lines + 2)) (z .claims)
 
@@ -38,7 +42,7 @@ module _ (z : Sizes) (f g : List ℕ) (l : List (List ℕ)) where
   unfoldable pub certificateBytes : List Bool → List ℕ
   certificateBytes k = outlineBytes z f l ++ (linesBytes k ++ obligationsBytes z g l)
 
-  -- all that follows the threads
+  -- everything behind the threads
   unfoldable pub behindBytes : List Bool → List ℕ
   behindBytes k = certificateBytes k ++ claimsBytes
 

@@ -109,7 +109,7 @@ fn put_certificate<'a, 'b, 'c, 'd, 'e, 'f>(
     put_obligations(image, index, sizes, line_numbers, out, obligations)
 }
 
-// Writes all that follows the threads.
+// Writes everything behind the threads: outline, lines, obligations and claims.
 fn put_behind<'a, 'b, 'c, 'd, 'e, 'f>(
     image: &'a [u8],
     index: &'b [usize],

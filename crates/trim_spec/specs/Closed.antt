@@ -1,4 +1,4 @@
--- Marks closed under reference: what the program, the outline, obligations, claims and marked lines name is marked.
+-- Marks closed under reference: what is named by something that stays is marked.
 use mathlib.Core.Path.{_≡_}
 use mathlib.Core.Bool.{Bool, true, false}
 use mathlib.Core.List.{List, []}
@@ -13,7 +13,7 @@ use Rattle.trim_spec.specs.Canonical.{noLine, noClaim}
 abbrev pub Stays : List Bool → ℕ → Type 0
 Stays m n = (n ≡ 0 → ⊥) → getD m n false ≡ true
 
--- u marks formulas, k marks lines
+-- u marks formulas and k lines: all that the program, the outline, obligations, claims and marked lines name is marked
 pub record Closed (u k : List Bool) (D : Document) : Type 0 where
   -- there is a mark for every formula, and one for 0
   pub formulas : length (D .formulas) < length u

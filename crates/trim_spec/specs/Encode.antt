@@ -36,11 +36,11 @@ threadBytes l = (length l + 1) ∷ flat instructionBytes l
 unfoldable pub numberBytes : List ℕ → List ℕ
 numberBytes l = flat two l
 
--- "rule, thread, point (bytes), left and right formula (16 bits), premise count (byte), premises (16 bits)"
+-- rule, thread, point (bytes), left and right formula (16 bits), premise count (byte), premises (16 bits)
 unfoldable pub lineBytes : LineRecord → List ℕ
 lineBytes v = v .rule ∷ v .thread ∷ v .point ∷ two (v .left) ++ (two (v .right) ++ (length (v .premises) ∷ numberBytes (v .premises)))
 
--- "thread, point, other thread, other point (bytes), line (16 bits)"
+-- thread, point, other thread, other point (bytes), line (16 bits)
 unfoldable pub claimBytes : ClaimRecord → List ℕ
 claimBytes c = c .thread ∷ c .point ∷ c .other ∷ c .otherPoint ∷ two (c .line)
 

@@ -39,8 +39,10 @@ entered (k ∷ ks) (b ∷ bs) = entry k b ∷ entered ks bs
 abbrev pub Framable : List ℕ → Type 0
 Framable b = Short (length b + 2)
 
+-- the kind of a record
 abbrev pub kindOf : Entry → ℕ
 kindOf e = e .kind
 
+-- the body of a record
 abbrev pub bodyOf : Entry → List ℕ
 bodyOf e = e .body

@@ -1,4 +1,4 @@
--- Live lines and formulas: those that are reachable from obligations and claims, and so stay when an image is trimmed.
+-- Live lines are reachable from obligations and claims; live formulas are named by the program, the outline or a live line. They stay.
 use mathlib.Core.Bool.{Bool, true, false, cond}
 use mathlib.Core.List.{List, [], _∷_, _++_, map}
 use Prim.Native.Nat.{ℕ, zero, suc, _+_}
@@ -48,7 +48,7 @@ newNumbers m = numbersTo m (length m)
 abbrev pub namedLines : Document → List ℕ
 namedLines D = D .obligations ++ map (λ c. c .line) (D .claims)
 
--- from line n down to line 1, the premises of a marked line are marked; premises have lower numbers, so one pass does
+-- the marks after a pass from line n down to line 1 that marks the premises of marked lines; premises have lower numbers, so one pass does
 unfoldable pub keptTo : List LineRecord → ℕ → List Bool → List Bool
 keptTo l zero m = m
 keptTo l (suc n) m = keptTo l n (cond (getD m (suc n) false) (markedBy m (nth l (suc n) noLine .premises)) m)

@@ -1,4 +1,4 @@
--- On which lines an obligation or a claim rests, and which formulas are used: liveness in the papers' words (Changes 2 and 5).
+-- Liveness in the papers' words (Changes 2 and 5): on which lines an obligation or a claim rests, and which formulas are used.
 use mathlib.Core.List.{[]}
 use Prim.Native.Nat.{ℕ, _≤_, _<_}
 use lib.ListN.{length, getD}

@@ -9,12 +9,15 @@ use Rattle.trim_spec.specs.Live.{selected, renumbered, kept, used}
 
 -- renumbering, of formulas by f and of lines by g
 module _ (f g : ℕ → ℕ) where
+  -- a second half, renumbered
   unfoldable pub halfBy : Half → Half
   halfBy h = record { operation = h .operation; a = h .a; b = h .b; formula = f (h .formula) }
 
+  -- an instruction, renumbered
   unfoldable pub instructionBy : Instruction → Instruction
   instructionBy i = record { operation = i .operation; a = i .a; b = i .b; formula = f (i .formula); second = halfBy (i .second) }
 
+  -- a certificate line, renumbered
   unfoldable pub lineBy : LineRecord → LineRecord
   lineBy v = record {
     rule = v .rule;
@@ -25,6 +28,7 @@ module _ (f g : ℕ → ℕ) where
     premises = map g (v .premises);
   }
 
+  -- a claim, renumbered
   unfoldable pub claimBy : ClaimRecord → ClaimRecord
   claimBy c = record { thread = c .thread; point = c .point; other = c .other; otherPoint = c .otherPoint; line = g (c .line) }
 

@@ -28,7 +28,7 @@ pub struct Judged {
 }
 
 impl Judged {
-    // At most this many cases are judged: a proved loop has to end, and nothing says that a file does.
+    // No more cases are judged: a proved loop has to end, and nothing says that a file does.
     pub const MOST: u64 = 100000;
 }
 

@@ -47,7 +47,7 @@ acrossNumbers s = lentAt s 28 mostNumbers
 unfoldable pub sameCode : ℕ → List ℕ → Bool
 sameCode code s = eqb code (le16 (drop 8 s))
 
--- of the body of a case, its tail s and the counters t before: r is the counters afterwards
+-- body and s are the body and the tail of a case, t the counters before, r the counters afterwards
 module _ (body s : List ℕ) (t : Counters) where
   -- trimming: code, length and buffer are compared
   pub record Trimmed (r : Counters) : Type 0 where

@@ -18,7 +18,8 @@ use Rattle.vectors.specs.TurnSame.{sameService, sameVerdict, sameTrimmed, sameB
 unfoldable pub numberSet : List ℕ → ℕ → ℕ → List ℕ
 numberSet service caller n = cond (ltb 8 caller) service (cond (leb (length service) (7 + caller)) service (set service (7 + caller) n))
 
--- of the service before, the body of a case, its tail s and the counters t before: `left` is the service afterwards, r the counters
+-- service is the one before, body and s are the body and the tail of a case, t the counters before; left and r are service and counters
+-- afterwards
 module _ (service body s : List ℕ) (t : Counters) where
   -- the service is opened, with the rights in the body
   pub record Opened (left : List ℕ) (r : Counters) : Type 0 where
