@@ -13,6 +13,7 @@ ghost use Rattle.tables_rows.specs.ByRows.{rowsT, tableT, lineOf, premisesOf};
 ghost use Rattle.exports.specs.Answers.{ofTruth};
 ghost use Rattle.exports.specs.Places.{pairsIn, sideIn, implicationsIn};
 
+// 1 for true, 0 for false.
 fn truth(yes: bool) -> usize
     ensures { λ r. ⌜ r ≡ ofTruth yes ⌝ }
 {

@@ -14,7 +14,7 @@ use trim::entry::trim_image;
 ghost use Rattle.bill_spec.specs.Output.{tariffOf};
 ghost use Rattle.service_spec.specs.Promise.{CheckServed, TrimServed, BillServed, HandoverServed, ReplayServed, AcrossServed};
 
-// Does `check_image` for a caller with the right to check.
+// Calls `check_image` for a caller with the right to check.
 #[no_mangle]
 pub extern "C" fn serve_check<'a, 'b, 'c>(
     service: &'a [u32],
@@ -31,7 +31,7 @@ pub extern "C" fn serve_check<'a, 'b, 'c>(
     check_image(image, out)
 }
 
-// Does `trim_image` for a caller with the right to check.
+// Calls `trim_image` for a caller with the right to check; `written` is 0 if the caller is refused.
 #[no_mangle]
 pub extern "C" fn serve_trim<'a, 'b, 'c, 'd>(
     service: &'a [u32],
@@ -51,7 +51,7 @@ pub extern "C" fn serve_trim<'a, 'b, 'c, 'd>(
     trim_image(image, out, written)
 }
 
-// Does `check_handover` for a caller with the right to check.
+// Calls `check_handover` for a caller with the right to check.
 #[no_mangle]
 pub extern "C" fn serve_handover<'a, 'b, 'c, 'd>(
     service: &'a [u32],
@@ -101,7 +101,7 @@ pub extern "C" fn serve_bill<'a, 'b, 'c>(
     bill_caller(service, caller, image, tariff, answer)
 }
 
-// Does `replay_trace` for a caller with the right to replay.
+// Calls `replay_trace` for a caller with the right to replay; the numbers in `answer` are 0 if the caller is refused.
 #[no_mangle]
 pub extern "C" fn serve_replay<'a, 'b, 'c, 'd, 'e, 'f>(
     service: &'a [u32],
@@ -123,7 +123,7 @@ pub extern "C" fn serve_replay<'a, 'b, 'c, 'd, 'e, 'f>(
     replay_trace(image, trace, given, table, answer)
 }
 
-// Does `replay_handover` for a caller with the right to replay.
+// Calls `replay_handover` for a caller with the right to replay; the numbers in `answer` are 0 if the caller is refused.
 #[no_mangle]
 pub extern "C" fn serve_replay_handover<'a, 'b, 'c, 'd, 'e, 'f, 'g, 'h, 'i>(
     service: &'a [u32],

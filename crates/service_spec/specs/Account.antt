@@ -13,7 +13,7 @@ use Rattle.service_spec.specs.declared.rights.Right.the-variants.{Check,
 abbrev pub callers : ℕ
 callers = 8
 
--- the right r is among those of n, which has a bit for each right
+-- whether the rights n, a bit for each, include this right
 unfoldable pub holds : Right → ℕ → Bool
 holds Check n = eqb (n % 2) 1
 holds Replay n = eqb (n / 2 % 2) 1

@@ -8,7 +8,7 @@ use Rattle.service_spec.specs.Account.{callers, accountOf}
 use Rattle.service_spec.specs.Opening.{given, opened}
 use Rattle.service_spec.specs.Serving.{Call, Conduct, serveBy, serveAllBy, requestsOf, seenBy}
 
--- what a caller c sees depends on its own account and its own calls
+-- what a caller c sees depends on its own account and its own calls alone
 pub record Isolated {Q R : Type 0} (v : Conduct Q R) : Type 0 where
   -- "its bills and numbers are the same, whoever else calls between them": of two services with the same account of c, and two lists of
   -- calls with the same calls of c in the same order, whatever is refused

@@ -101,7 +101,7 @@ answered n (toReplayAcross old new points first second given table room) = repla
 abbrev pub replyTo : Account → Request → Reply
 replyTo d q = cond (holds (rightFor q) (d .rights)) (answered (d .number) q) (refused 36 q)
 
--- "each bill without an error adds one"
+-- how the service answers: "each bill without an error adds one" to the caller's number
 abbrev pub conduct : Conduct Request Reply
 conduct = record {
   unknown = refused 35;
@@ -113,6 +113,6 @@ conduct = record {
 abbrev pub serve : List ℕ → Call Request → Served Reply
 serve = serveBy conduct
 
--- one call after the other
+-- the turns of a list of calls, one after the other
 abbrev pub serveAll : List ℕ → List (Call Request) → List (Turn Reply)
 serveAll = serveAllBy conduct

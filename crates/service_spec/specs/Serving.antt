@@ -53,7 +53,7 @@ module _ {Q R : Type 0} (v : Conduct Q R) where
     reply = replyFrom (accountOf s (k .caller)) (k .request);
   }
 
-  -- one call after the other
+  -- the turns of a list of calls, one after the other
   abbrev pub serveAllBy : List ℕ → List (Call Q) → List (Turn R)
   serveAllBy s [] = []
   serveAllBy s (k ∷ l) = record { caller = k .caller; served = serveBy s k } ∷ serveAllBy (serveBy s k .service) l

@@ -24,7 +24,8 @@ assigned r f = record { to = r; by = f }
 abbrev pub secondOf : Half → Assignment
 secondOf h = assigned (h .a) (h .formula)
 
--- the instruction with this operation, fields a and b, formula f and second half h
+-- the instruction with this operation, fields a and b, formula f and second half h; an operation above 12, which no record has, is read as
+-- 12
 unfoldable pub typed : ℕ → ℕ → ℕ → ℕ → Half → Instruction
 typed zero a b f h = assign (assigned a f)
 typed (suc zero) a b f h = load a b

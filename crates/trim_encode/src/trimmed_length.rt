@@ -15,7 +15,7 @@ ghost use Rattle.trim_spec.specs.Live.{kept, used};
 ghost use Rattle.trim_spec.specs.Trim.{trim};
 ghost use Rattle.trim_encode.specs.LeftOutBytes.{leftOne, leftBehind, most, Lengths};
 
-// The bytes of the record with index `i`, if `number` has no mark; length and kind are 4 of them.
+// The bytes of the record with index `i` (length and kind are 4 of them) if `number` has no mark, else 0.
 fn left_one<'a, 'b, 'c>(
     image: &'a [u8],
     index: &'b [usize],

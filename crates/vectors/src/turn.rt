@@ -34,7 +34,7 @@ impl Room {
     pub const BLANK_WIDE: usize = 2863311530;
 }
 
-// What is done: the service is opened, the host sets a caller's number, or a call is made.
+// What is done: the service is opened, the host sets a caller's number, or a call is made; Other is none of these.
 pub enum TurnKind {
     Open,
     Set,
