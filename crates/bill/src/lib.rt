@@ -1,4 +1,3 @@
-// The price of a check: an accepted image is billed by its obligations, in all and by thread. `bill` answers the bill, `bill_into`
-// writes its numbers.
+// The price of a check (Changes 8 and 11), in total and by thread: `bill` returns the bill for an image, `bill_into` writes its numbers.
 pub mod bill;
 pub mod into;

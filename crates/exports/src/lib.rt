@@ -1,4 +1,4 @@
-// Functions for Rust to call, in benchmarks.
+// Functions for the benchmarks, which call them from Rust: each result is one number.
 pub mod rows;
 
 use formula::reader::Counts;
@@ -18,14 +18,14 @@ ghost use Rattle.image_index.specs.IndexTable.{tableSize};
 ghost use Rattle.image.specs.Decode.{decoded};
 ghost use Rattle.exports.specs.Answers.{ofReading, ofDecoded};
 
-// The number of a sort, past those of the faults.
+// The number of a sort, behind the numbers of the faults.
 fn past_faults(sort: u8) -> usize
     ensures { λ r. ⌜ r ≡ limit + sort ⌝ }
 {
     Fault::LIMIT + sort as usize
 }
 
-// The answer of `read_formula` as one number: a fault, or a sort and `Fault::LIMIT`.
+// The result of `read_formula` as one number: a fault, or the sort plus `Fault::LIMIT`.
 #[no_mangle]
 pub extern "C" fn formula_answer(
     body: &[u8],
@@ -50,7 +50,7 @@ pub extern "C" fn formula_answer(
     }
 }
 
-// With a table of zeros, as long as the image asks for. (No image has 65,536 records; the remainder spares a proof of that.)
+// Decodes with `index` as scratch memory: zeros, tableSize(image) of them. No image has 65,536 records; `%` spares a proof of that.
 fn answer_by<'a, 'b>(image: &'a [u8], index: &'b mut [usize]) -> usize
     requires { ⌜ now index ≡ replicate (tableSize (now image)) 0 ⌝ }
     ensures { λ r. ⌜ r ≡ ofDecoded (decoded (now (image .entry))) ⌝ }
@@ -62,7 +62,7 @@ fn answer_by<'a, 'b>(image: &'a [u8], index: &'b mut [usize]) -> usize
     }
 }
 
-// The answer of `decode_image` as one number: 0 for a sound image, else the code times 65,536 and the record.
+// The result of `decode_image` as one number: 0 for a well-formed image, else the code times 65,536, plus the record.
 #[no_mangle]
 pub extern "C" fn image_answer(image: &[u8]) -> usize
     ensures { λ r. ⌜ r ≡ ofDecoded (decoded (now (image .entry))) ⌝ }

@@ -1,4 +1,4 @@
-// Tests by rows, and truth tables.
+// Tests by rows and truth tables, with 1 for true and 0 for false.
 use limits::Limits;
 use limits::read::rest;
 use limits::read::u16_at;
@@ -13,6 +13,7 @@ ghost use Rattle.tables_rows.specs.ByRows.{rowsT, tableT, lineOf, premisesOf};
 ghost use Rattle.exports.specs.Answers.{ofTruth};
 ghost use Rattle.exports.specs.Places.{pairsIn, sideIn, implicationsIn};
 
+// 1 for true, 0 for false.
 fn truth(yes: bool) -> usize
     ensures { λ r. ⌜ r ≡ ofTruth yes ⌝ }
 {
@@ -22,7 +23,7 @@ fn truth(yes: bool) -> usize
     0
 }
 
-// The answer of `by_rows` on the tests at two positions, over so many values: 1 for true, 0 for false.
+// The result of `by_rows` for the tests at positions `left` and `right` of `body`, over `range` values.
 #[no_mangle]
 pub extern "C" fn rows_answer(body: &[u8], left: usize, right: usize, range: u8) -> usize
     ensures { λ r.
@@ -33,12 +34,12 @@ pub extern "C" fn rows_answer(body: &[u8], left: usize, right: usize, range: u8)
     truth(by_rows(body, left, k, right, k, range))
 }
 
-// Positions, one for each implication.
+// The positions of the left or of the right formulas, one for each implication.
 pub struct Side {
     pub at: [usize; Sizes::IMPLICATIONS],
 }
 
-// A position is a number of 16 bits, and one of the other side stands between two of a side.
+// The positions of one side, 16 bits each; one of the other side is between two of them.
 fn side_in(places: &[u8]) -> Side
     ensures { λ r. ⌜ r .at ≡ sideIn (now (places .entry)) ⌝ }
 {
@@ -52,7 +53,7 @@ fn side_in(places: &[u8]) -> Side
     }
 }
 
-// How many whole pairs so many bytes hold; no more than the line and its premises count.
+// The number of whole pairs in `length` bytes, at most those of a line and its premises.
 fn pairs_in(length: usize) -> usize
     ensures { λ r. ⌜ r ≡ pairsIn length ⌝ }
 {
@@ -63,7 +64,7 @@ fn pairs_in(length: usize) -> usize
     Sizes::IMPLICATIONS
 }
 
-// Left and right of the line, then of each premise. What is not there is 0.
+// The positions of the left and right formula of the line, then of each premise; those past the end are 0.
 fn implications_in(places: &[u8]) -> Implications
     ensures { λ r. ⌜ r ≡ implicationsIn (now (places .entry)) ⌝ }
 {
@@ -78,7 +79,7 @@ fn implications_in(places: &[u8]) -> Implications
     }
 }
 
-// The answer of `by_table` on the implications whose positions are given: 1 for true, 0 for false.
+// The result of `by_table` for the implications at these positions of `body`.
 #[no_mangle]
 pub extern "C" fn table_answer(body: &[u8], places: &[u8]) -> usize
     ensures { λ r.

@@ -1,4 +1,4 @@
-// The entry point, for C and Rust.
+// The entry point `check_handover`, for C and Rust.
 use crate::permit::Handover;
 use crate::permit::handover_code;
 use checker::acceptance::accept_image;
@@ -15,7 +15,7 @@ ghost use Rattle.checker_spec.specs.declared.acceptance.Acceptance.the-variants
 ghost use Rattle.handover_spec.specs.Code.{byAcceptance};
 ghost use Rattle.handover_spec.specs.Promise.{Promise};
 
-// The old image is accepted. With a table of zeros, as long as the new image asks for.
+// The code of a handover from an accepted image, with `new_index` as scratch memory: zeros, tableSize(new) of them.
 fn code_by<'a, 'b, 'c, 'd, 'e>(
     old: &'a [u8],
     old_index: &'b [usize],
@@ -35,6 +35,7 @@ fn code_by<'a, 'b, 'c, 'd, 'e>(
     }
 }
 
+// The code of a handover from an accepted image, whose index and sizes are known.
 fn code_from<'a, 'b, 'c, 'd>(
     old: &'a [u8],
     old_index: &'b [usize],
@@ -54,7 +55,7 @@ fn code_from<'a, 'b, 'c, 'd>(
     code_by(old, old_index, sizes, new, &mut nx, table)
 }
 
-// With a table of zeros, as long as the old image asks for.
+// The code of a handover, with `old_index` as scratch memory: zeros, tableSize(old) of them.
 fn permit_by<'a, 'b, 'c, 'd>(
     old: &'a [u8],
     old_index: &'b mut [usize],
@@ -70,11 +71,10 @@ fn permit_by<'a, 'b, 'c, 'd>(
     }
 }
 
-// Permits or refuses the handover from the old image to the new one by a table: for each old point, threads in order, a new point
-// (byte) and a line of the new image (16 bits). For every three byte strings: 32 if an image is not accepted or their headers differ;
-// 33 if the table is too short, too long or anywhere out of range; 34 if a named line is no justified implication from the old point's
-// assertion to the new one's. Code 0 means that after every run of the old code, the handover and every run of the new code each
-// thread's new assertion at its point is true.
+// Permits or refuses the handover from the old image to the new one by a table: for each old point, threads in order, a new point (byte)
+// and a line of the new image (16 bits). Returns 32 if an image is not accepted or their headers differ; 33 if the table is too short, too
+// long or anywhere out of range; 34 if a named line is no justified implication from the old point's assertion to the new one's. Code 0
+// means that after every run of the old code, the handover and every run of the new code each thread's new assertion at its point is true.
 #[no_mangle]
 pub extern "C" fn check_handover(old: &[u8], new: &[u8], table: &[u8]) -> u16
     ensures { λ r. ⌜ Promise (now (old .entry)) (now (new .entry)) (now (table .entry)) r ⌝ }

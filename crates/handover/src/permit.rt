@@ -19,9 +19,11 @@ ghost use Rattle.rules_justified.specs.Justify.{marksTo};
 ghost use Rattle.handover_spec.specs.Code.{codeBetween, codeOf};
 ghost use Rattle.handover_spec.specs.LinesFound.{threadsServe};
 
+// The codes of a handover.
 pub struct Handover;
 
 impl Handover {
+    // The handover is permitted.
     pub const PERMITTED: u16 = 0;
 
     // An image is not accepted, or the two are unlike.
@@ -34,7 +36,7 @@ impl Handover {
     pub const UNSERVED: u16 = 34;
 }
 
-// Every line that the table names serves, in images with as many threads.
+// Whether every line that the table names serves, in images with equally many threads.
 fn all_serve<'a, 'b, 'c, 'd, 'e>(
     old: &'a [u8],
     old_index: &'b [usize],
@@ -69,6 +71,7 @@ fn all_serve<'a, 'b, 'c, 'd, 'e>(
     )
 }
 
+// The code for two images that are alike: 33 comes before any 34.
 fn code_between<'a, 'b, 'c, 'd, 'e>(
     old: &'a [u8],
     old_index: &'b [usize],
@@ -112,7 +115,8 @@ fn code_between<'a, 'b, 'c, 'd, 'e>(
     Handover::OUT_OF_RANGE
 }
 
-// The bodies of the header records have threads, words, registers, range, start values, owners and start marks, and nothing else.
+// The code for two accepted images. They are alike if the bodies of their headers are equal: these have threads, words, registers, range,
+// start values, owners and start marks, and nothing else.
 pub fn handover_code<'a, 'b, 'c, 'd, 'e>(
     old: &'a [u8],
     old_index: &'b [usize],

@@ -12,15 +12,15 @@ use Rattle.replay_machine.specs.Run.{ran}
 use Rattle.replay_machine.specs.declared.state.Machine.{Machine}
 use Rattle.replay_machine.specs.declared.run.Run.{Run}
 
--- 2 ^ 62: no trace has so many steps
+-- 2 ^ 62: more steps than any trace has
 abbrev pub mostSteps : ℕ
 mostSteps = 4611686018427387904
 
--- where the table leads thread t, counted from 0; a thread that is not there has point 0
+-- the new point of thread t, counted from 0, for the old point k; a thread that does not exist has point 0
 unfoldable pub mappedPoint : List ℕ → Sizes → List ℕ → ℕ → ℕ → ℕ
 mappedPoint old z points t k = cond (ltb t (z .threads)) (newPoint (programOf z (bodies old)) points (suc t) k) 0
 
--- the same memory, views and registers, and mapped points
+-- "the same memory, views, registers and mapped points"
 unfoldable pub handedOver : List ℕ → Sizes → List ℕ → Machine → Machine
 handedOver old z points n = record {
   memory = n .memory;
@@ -33,11 +33,11 @@ handedOver old z points n = record {
       ∷ [];
 }
 
--- steps of both traces
+-- the run r and then q: "Its steps are those of both traces"
 abbrev pub behind : Run → Run → Run
 behind r q = record { code = q .code; steps = r .steps + q .steps; machine = q .machine }
 
 module _ (old : List ℕ) (z : Sizes) (new : List ℕ) (y : Sizes) (points : List ℕ) where
-  -- after the run r under the old code; a refused step ends it there
+  -- the run r under the old code and what follows it: "a step refused in the first ends the run under the old code"
   unfoldable pub wentOn : ℕ → Run → List ℕ → Run
   wentOn room r second = cond (eqb (r .code) 0) (behind r (ran new y room (handedOver old z points (r .machine)) 0 second)) r

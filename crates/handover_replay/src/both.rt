@@ -1,4 +1,4 @@
-// A replay across a handover: whether it is permitted, the start, both runs.
+// A replay across a handover: whether it is permitted, the start, and both runs.
 use crate::onward::go_on;
 use crate::onward::run_counted;
 use checker::acceptance::accept_image;
@@ -25,7 +25,7 @@ ghost use Rattle.checker_spec.specs.declared.acceptance.Acceptance.the-variants
 ghost use Rattle.replay_machine.specs.OutputTable.{shownBy};
 ghost use Rattle.handover_replay.specs.ReplayAcross.{refusedBy, acrossOn, acrossBy, byAcceptance, acrossOf};
 
-// Points and registers of 0, and the table stays.
+// A replay that is refused with `code`: points and registers are 0, and the table stays. `image` is there to take empty slices from.
 fn refuse(image: &[u8], code: u8) -> Replayed
     ensures { λ r. ⌜ r ≡ refusedBy code ⌝ }
 {
@@ -38,7 +38,7 @@ fn refuse(image: &[u8], code: u8) -> Replayed
     }
 }
 
-// The handover is permitted.
+// Runs both traces across a permitted handover; 29 if the start writes do not fit.
 fn run_both<'a, 'b, 'c, 'd, 'e, 'f, 'g, 'h>(
     old: &'a [u8],
     old_index: &'b [usize],
@@ -91,7 +91,7 @@ fn run_both<'a, 'b, 'c, 'd, 'e, 'f, 'g, 'h>(
     }
 }
 
-// Both images are accepted.
+// Replays across a handover between two accepted images, if it is permitted.
 fn replay_between<'a, 'b, 'c, 'd, 'e, 'f, 'g, 'h>(
     old: &'a [u8],
     old_index: &'b [usize],
@@ -130,7 +130,7 @@ fn replay_between<'a, 'b, 'c, 'd, 'e, 'f, 'g, 'h>(
     refuse(old, code as u8)
 }
 
-// The old image is accepted. With a table of zeros, as long as the new image asks for.
+// Replays from an accepted image, with `new_index` as scratch memory: zeros, tableSize(new) of them.
 fn replay_from_by<'a, 'b, 'c, 'd, 'e, 'f, 'g, 'h>(
     old: &'a [u8],
     old_index: &'b [usize],
@@ -168,6 +168,7 @@ fn replay_from_by<'a, 'b, 'c, 'd, 'e, 'f, 'g, 'h>(
     }
 }
 
+// Replays from an accepted image, whose index and sizes are known.
 fn replay_from<'a, 'b, 'c, 'd, 'e, 'f, 'g>(
     old: &'a [u8],
     old_index: &'b [usize],
@@ -213,7 +214,7 @@ fn replay_from<'a, 'b, 'c, 'd, 'e, 'f, 'g>(
     )
 }
 
-// With a table of zeros, as long as the old image asks for.
+// Replays with `old_index` as scratch memory: zeros, tableSize(old) of them.
 fn replay_across_by<'a, 'b, 'c, 'd, 'e, 'f, 'g>(
     old: &'a [u8],
     old_index: &'g mut [usize],
@@ -246,7 +247,7 @@ fn replay_across_by<'a, 'b, 'c, 'd, 'e, 'f, 'g>(
     }
 }
 
-// A replay with so many entries lent.
+// Replays both traces; `lent` is the number of entries in the caller's table of writes.
 pub fn replay_across<'a, 'b, 'c, 'd, 'e, 'f>(
     old: &'a [u8],
     new: &'b [u8],
@@ -267,6 +268,7 @@ pub fn replay_across<'a, 'b, 'c, 'd, 'e, 'f>(
     replay_across_by(old, &mut ox, new, points, first, second, given, lent)
 }
 
+// The answer of the replay, and the writes for the caller's table of `lent` entries.
 pub fn shown_across<'a, 'b, 'c, 'd, 'e, 'f>(
     old: &'a [u8],
     new: &'b [u8],

@@ -1,4 +1,4 @@
-// The entry point, for C and Rust.
+// The entry point `replay_handover`, for C and Rust.
 use crate::both::shown_across;
 use replay_machine::answer::Answer;
 use replay_machine::answer::write_numbers;
@@ -7,9 +7,9 @@ use replay_machine::table_bytes::write_shown;
 use verdict_record::output::Output;
 ghost use Rattle.handover_replay.specs.Promise.{Written};
 
-// Replays the first trace on the machine of the old image, hands over by the table of points and goes on with the second trace on the
-// machine of the new image, on the same memory. Answer and table are written as by `replay_trace`; 32, 33 and 34 take the place of 24.
-// A step refused in the first trace ends the run under the old code.
+// Replays the trace `first` on the machine of the old image, hands over by the table `points` and goes on with the trace `second` on the
+// machine of the new image, with the same memory. `answer` and `table` are written as by `replay_trace`; 32, 33 and 34 take the place of
+// 24. A step refused in the first trace ends the run under the old code.
 #[no_mangle]
 pub extern "C" fn replay_handover<'a, 'b, 'c, 'd, 'e, 'f, 'g, 'h>(
     old: &'a [u8],

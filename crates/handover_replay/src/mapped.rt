@@ -14,7 +14,7 @@ ghost use Rattle.image.specs.declared.decode.Decoded.the-variants.{Sound};
 ghost use Rattle.image_access.specs.Totals.{totalsOf};
 ghost use Rattle.handover_replay.specs.JoinedRun.{mappedPoint, handedOver};
 
-// Where the table leads thread t, counted from 0, from point k. A thread that is not there has point 0.
+// The new point of thread `t`, counted from 0, for the old `point`; a thread that does not exist has point 0.
 fn mapped_point<'a, 'b, 'c>(
     old: &'a [u8],
     old_index: &'b [usize],
@@ -35,6 +35,7 @@ fn mapped_point<'a, 'b, 'c>(
     point_named(table, n + (point as usize)) as u8
 }
 
+// The machine after the handover: the table maps the points, and everything else stays.
 pub fn hand_over<'a, 'b, 'c>(
     old: &'a [u8],
     old_index: &'b [usize],

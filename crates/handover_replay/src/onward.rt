@@ -13,7 +13,7 @@ ghost use Rattle.image.specs.declared.decode.Decoded.the-variants.{Sound};
 ghost use Rattle.replay_machine.specs.Run.{ran};
 ghost use Rattle.handover_replay.specs.JoinedRun.{mostSteps, wentOn};
 
-// A trace has two bytes for a step, so that the steps of two traces can be added.
+// Runs a trace; a trace has two bytes for a step, which bounds its steps so that those of two traces can be added.
 pub fn run_counted<'a, 'b, 'c>(
     image: &'a [u8],
     index: &'b [usize],
@@ -28,7 +28,7 @@ pub fn run_counted<'a, 'b, 'c>(
     run_trace(image, index, sizes, room, machine, trace)
 }
 
-// A step refused in the first trace ends the run under the old code: r is that run.
+// Hands over after `run`, the run under the old code, and runs the second trace; a step refused in the first ends the run there.
 pub fn go_on<'a, 'b, 'c, 'd, 'e, 'f>(
     old: &'a [u8],
     old_index: &'b [usize],

@@ -1,4 +1,4 @@
--- What the code finds of lines, by bytes and positions.
+-- What the code finds out about the lines that a table names, by bytes and positions.
 use mathlib.Core.Bool.{Bool, true, false, _&&_}
 use mathlib.Core.List.{List, []}
 use Prim.Native.Nat.{ℕ, suc, _+_, _-_}
@@ -19,6 +19,7 @@ use Rattle.handover_spec.specs.Table.{pointNamed, lineNamed, pointsTo, e
 unfoldable pub assertionOf : List ℕ → Sizes → ℕ → ℕ → List ℕ
 assertionOf s z t k = getD (bodies s) (outlineNumber z (bodies s) t k) []
 
+-- whether lines of this form are implications
 abbrev pub isImplication : Form → Bool
 isImplication Triple = false
 isImplication Implication = true
@@ -26,27 +27,28 @@ isImplication Inclusion = false
 isImplication Pair = false
 isImplication Unlisted = false
 
--- the formulas of the line in a body have these bytes
+-- the formulas of the line with body b have the bytes p and q
 unfoldable pub sidesMatch : List ℕ → List ℕ → List ℕ → List ℕ → Bool
 sidesMatch s b p q = sameBytes p (getD (bodies s) (left b) []) && sameBytes q (getD (bodies s) (right b) [])
 
--- line n has a mark and is an implication between formulas of these bytes
+-- line n has a mark and is an implication between formulas with the bytes p and q
 unfoldable pub lineServes : List ℕ → Sizes → Marks → ℕ → List ℕ → List ℕ → Bool
 lineServes s z m n p q =
     isMarked m n && (isImplication (formOf (getD (lineBody z (bodies s) n) 0 0)) && sidesMatch s (lineBody z (bodies s) n) p q)
 
 module _ (old : List ℕ) (z : Sizes) (new : List ℕ) (y : Sizes) (m : Marks) (table : List ℕ) where
-  -- entry i, for point k of thread t
+  -- the line in entry i, that of point k of thread t, serves
   unfoldable pub entryServes : ℕ → ℕ → ℕ → Bool
   entryServes t k i = lineServes new y m (lineNamed table i) (assertionOf old z t k) (assertionOf new y t (pointNamed table i))
 
-  -- the first n entries of thread t, which begin behind so many
+  -- the lines in entries from .. from + n - 1, those of points 0 to n - 1 of thread t, serve
   unfoldable pub entriesServe : ℕ → ℕ → ℕ → Bool
   entriesServe t from n = each n (λ k. entryServes t k (from + k))
 
+  -- the lines in the entries of thread t serve
   unfoldable pub threadServes : ℕ → Bool
   threadServes t = entriesServe t (pointsTo (programOf z (bodies old)) (t - 1)) (pointCount z (bodies old) t)
 
-  -- the entries of the threads 1 to n
+  -- the lines in the entries of threads 1 to n serve
   unfoldable pub threadsServe : ℕ → Bool
   threadsServe n = each n (λ t. threadServes (suc t))

@@ -1,4 +1,4 @@
--- THE PROMISE of the entry point, whole.
+-- THE PROMISE of `check_handover`, whole.
 use mathlib.Core.Path.{_≡_}
 use mathlib.Core.List.{List}
 use Prim.Native.Nat.{ℕ, _*_, _<_}
@@ -23,7 +23,7 @@ pub record BothAccepted (old new : List ℕ) (D E : Image) : Type 0 where
   pub headers : headerOf old ≡ headerOf new
 
 module _ (D E : Image) (table : List ℕ) where
-  -- an entry for each old point and nothing else; each new point is one of the same thread, each line is there
+  -- an entry for each old point and nothing else; each new point is one of the same thread, and each line exists
   pub record Fits : Type 0 where
     pub size : length table ≡ entrySize * pointsTo (D .program) (D .program .threads)
     pub points : (t k : ℕ) → Within (D .program .threads) t → k < D .program .points t
@@ -31,19 +31,19 @@ module _ (D E : Image) (table : List ℕ) where
     pub lines : (t k : ℕ) → Within (D .program .threads) t → k < D .program .points t
         → Within (E .certificate .count) (newLine (D .program) table t k)
 
-  -- each line says that the new point's assertion follows from the old one, and is justified, by a rule from premises that are, to the last
+  -- each line concludes the new point's assertion from the old one and is justified: by a rule, from justified premises, down to the last
   abbrev pub Serve : Type 0
   Serve = (t k : ℕ) → Within (D .program .threads) t → k < D .program .points t
       → Bears E (asked D E table t k) (newLine (D .program) table t k)
 
-  -- what a code says of them
+  -- what a code says of the table
   pub data Decided : ℕ → Type 0 where
     permitted : Fits → Serve → Decided 0
     out-of-range : (Fits → ⊥) → Decided 33
     unserved : Fits → (Serve → ⊥) → Decided 34
 
--- what both images say, and after every list of steps of the old program, the handover and every list of steps of the new one, refused
--- ones among them, each thread's new assertion at its point is true
+-- after every list of steps of the old program, the handover and every list of steps of the new one, refused ones among them, each
+-- thread's new assertion at its point is true
 pub record TrueAcross (old new table : List ℕ) : Type 0 where
   pub content : Image
   pub following : Image
@@ -51,11 +51,11 @@ pub record TrueAcross (old new table : List ℕ) : Type 0 where
   pub follows : decode new ≡ read following
   pub holds : EveryRunAcross (content .program) (following .program) (following .outline) (newPoint (content .program) table)
 
--- of two images, a table and the code that is answered
+-- what the code returned says of two images and a table
 pub record Promise (old new table : List ℕ) (code : ℕ) : Type 0 where
   pub returned : code ≡ handoverCode old new table
-  -- of two accepted images with equal headers: 0, 33 or 34, and what each means; else 32
+  -- the code is 0, 33 or 34 for two accepted images with equal headers, and this is what each means; else it is 32
   pub decided : (D E : Image) → BothAccepted old new D E → Decided D E table code
   pub otherwise : ((D E : Image) → BothAccepted old new D E → ⊥) → code ≡ 32
-  -- permitted
+  -- what a permitted handover means for every run
   pub across : code ≡ 0 → TrueAcross old new table

@@ -12,10 +12,11 @@ use Rattle.handover_spec.specs.Handover.{NewPoint}
 abbrev pub entrySize : ℕ
 entrySize = 3
 
--- the new point in entry i, from 0, and its line
+-- the new point in entry i, counted from 0
 unfoldable pub pointNamed : List ℕ → ℕ → ℕ
 pointNamed table i = getD table (entrySize * i) 0
 
+-- the line of the new image in entry i
 unfoldable pub lineNamed : List ℕ → ℕ → ℕ
 lineNamed table i = le16 (drop (entrySize * i + 1) table)
 
@@ -29,18 +30,19 @@ module _ (P : Program) where
   abbrev pub entryOf : ℕ → ℕ → ℕ
   entryOf t k = pointsTo (t - 1) + k
 
-  -- where the table leads from there, and the line that it names
+  -- the new point that the table gives for point k of thread t
   abbrev pub newPoint : List ℕ → NewPoint
   newPoint table t k = pointNamed table (entryOf t k)
 
+  -- the line of the new image that the table gives for point k of thread t
   abbrev pub newLine : List ℕ → ℕ → ℕ → ℕ
   newLine table t k = lineNamed table (entryOf t k)
 
--- an image has no more points
+-- a bound for the points of an image
 abbrev pub mostPoints : ℕ
 mostPoints = Limits.threads * Limits.points
 
--- 0 to n - 1 pass the test
+-- 0 to n - 1 pass the test f
 unfoldable pub each : ℕ → (ℕ → Bool) → Bool
 each zero f = true
 each (suc n) f = each n f && f n

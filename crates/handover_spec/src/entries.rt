@@ -7,13 +7,14 @@ ghost use Prim.Native.Nat.{_+_, _<_};
 ghost use Rattle.handover_spec.specs.Table.{pointNamed, lineNamed};
 ghost use Rattle.handover_spec.specs.Fits.{entryFits, entriesFit};
 
+// The size of an entry in bytes.
 pub struct Entry;
 
 impl Entry {
     pub const SIZE: usize = 3;
 }
 
-// The new point in entry i.
+// The new point in entry `i`.
 pub fn point_named(table: &[u8], i: usize) -> usize
     requires { ⌜ i < 65536 ⌝ }
     ensures { λ r. ⌜ (r ≡ pointNamed (now (table .entry)) i) × (r < 256) ⌝ }
@@ -21,7 +22,7 @@ pub fn point_named(table: &[u8], i: usize) -> usize
     byte_at(table, Entry::SIZE * i)
 }
 
-// Its line.
+// The line of the new image in entry `i`.
 pub fn line_named(table: &[u8], i: usize) -> usize
     requires { ⌜ i < 65536 ⌝ }
     ensures { λ r. ⌜ (r ≡ lineNamed (now (table .entry)) i) × (r < 65536) ⌝ }
@@ -29,7 +30,7 @@ pub fn line_named(table: &[u8], i: usize) -> usize
     u16_at(table, Entry::SIZE * i + 1)
 }
 
-// Its point is none behind the last one, and its line is there.
+// Entry `i` names a point up to `last` and a line from 1 to `lines`.
 fn entry_fits(table: &[u8], last: usize, lines: usize, i: usize) -> bool
     requires { ⌜ i < 65536 ⌝ }
     ensures { λ r. ⌜ r ≡ entryFits (now (table .entry)) last lines i ⌝ }
@@ -40,7 +41,7 @@ fn entry_fits(table: &[u8], last: usize, lines: usize, i: usize) -> bool
     in_range(line_named(table, i), 1, lines)
 }
 
-// So are those of n entries.
+// Entries `from` to `from + n - 1` all name a point up to `last` and a line from 1 to `lines`.
 pub fn entries_fit(table: &[u8], last: usize, lines: usize, from: usize, n: usize) -> bool
     requires { ⌜ from + n < 65536 ⌝ }
     ensures { λ r. ⌜ r ≡ entriesFit (now (table .entry)) last lines from n ⌝ }

@@ -1,4 +1,4 @@
-// New code without a restart has no code here: its definitions are under specs/, its theorem under proofs/.
+// What a handover to new code is (Change 12), and the tests of its table for two accepted images.
 
 // The table of a handover: an entry for each old point, and whether each is in range.
 pub mod entries;
@@ -6,7 +6,5 @@ pub mod points;
 pub mod same_bytes;
 pub mod table;
 
-// The lines that the table of a handover names: whether each is a marked implication from the old assertion to the new one.
+// The lines that the table of a handover names: whether each is a justified implication from the old point's assertion to the new one's.
 pub mod lines;
-
-// What a permitted handover promises: definitions, and what follows from them.

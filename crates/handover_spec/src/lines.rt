@@ -1,4 +1,4 @@
-// Whether the lines that a table names serve.
+// Whether the lines that a handover table names serve; code 34 if one does not.
 use crate::entries::line_named;
 use crate::entries::point_named;
 use crate::points::points_before;
@@ -24,7 +24,7 @@ ghost use Rattle.image_access.specs.Totals.{totalsOf};
 ghost use Rattle.rules_justified.specs.Marks.{asMarks};
 ghost use Rattle.handover_spec.specs.LinesFound.{assertionOf, isImplication, sidesMatch, lineServes, entryServes, entriesServe, threadServes, threadsServe};
 
-// The bytes of the assertion at point k of thread t.
+// The bytes of the assertion at `point` of thread `t`.
 fn assertion_of<'a, 'b>(
     image: &'a [u8],
     index: &'b [usize],
@@ -47,7 +47,7 @@ fn assertion_of<'a, 'b>(
     body_of(image, index, number_at(body, totals.points, n + point))
 }
 
-// The line in a body is an implication.
+// Whether the line with this body is an implication.
 fn is_implication(body: &[u8]) -> bool
     ensures { λ r. ⌜ r ≡ isImplication (formOf (getD (now (body .entry)) 0 0)) ⌝ }
 {
@@ -60,7 +60,7 @@ fn is_implication(body: &[u8]) -> bool
     }
 }
 
-// Its formulas have these bytes, by bytes alone.
+// Whether the formulas of the line with this body are `left` and `right`, byte by byte.
 fn sides_match<'a, 'b, 'c, 'd>(
     image: &'a [u8],
     index: &'b [usize],
@@ -77,7 +77,7 @@ fn sides_match<'a, 'b, 'c, 'd>(
     false
 }
 
-// Line n is a justified implication between formulas of these bytes.
+// Whether line `number` is justified, by its mark, and an implication from `left` to `right`.
 fn line_serves<'a, 'b, 'c, 'd, 'e>(
     image: &'a [u8],
     index: &'b [usize],
@@ -104,7 +104,7 @@ fn line_serves<'a, 'b, 'c, 'd, 'e>(
     false
 }
 
-// Entry i, which is that of point k of thread t.
+// Whether entry `i`, that of `point` of thread `t`, names a line that takes the old point's assertion to the new point's.
 fn entry_serves<'a, 'b, 'c, 'd, 'e, 'f>(
     old: &'a [u8],
     old_index: &'b [usize],
@@ -148,7 +148,7 @@ fn entry_serves<'a, 'b, 'c, 'd, 'e, 'f>(
     )
 }
 
-// The first n entries of thread t.
+// Whether the lines in entries `from` to `from + n - 1`, those of points 0 to `n - 1` of thread `t`, serve.
 fn entries_serve<'a, 'b, 'c, 'd, 'e, 'f>(
     old: &'a [u8],
     old_index: &'b [usize],
@@ -197,7 +197,7 @@ fn entries_serve<'a, 'b, 'c, 'd, 'e, 'f>(
     true
 }
 
-// The entries of thread t.
+// Whether the lines in the entries of thread `t` serve.
 fn thread_serves<'a, 'b, 'c, 'd, 'e, 'f>(
     old: &'a [u8],
     old_index: &'b [usize],
@@ -238,7 +238,8 @@ fn thread_serves<'a, 'b, 'c, 'd, 'e, 'f>(
     )
 }
 
-// All entries.
+// Whether every line that the table names is a justified implication from the old point's assertion to the new point's; `marks` are the
+// marks of the new image's justified lines.
 pub fn lines_serve<'a, 'b, 'c, 'd, 'e, 'f>(
     old: &'a [u8],
     old_index: &'b [usize],

@@ -1,4 +1,4 @@
-// How many points there are, in all and before a thread; an accepted image has few.
+// Numbers of points, in total and before a thread, with a bound that every well-formed image keeps.
 use image_access::totals::Totals;
 use image_access::totals::before_thread;
 use image_header::sizes::Sizes;
@@ -12,6 +12,7 @@ ghost use Rattle.image.specs.declared.decode.Decoded.the-variants.{Sound};
 ghost use Rattle.image_access.specs.Totals.{totalsOf};
 ghost use Rattle.handover_spec.specs.Table.{mostPoints};
 
+// The number of points of all threads. The function adds the bound, which `totals` alone does not have.
 pub fn points_in(image: &[u8], sizes: Sizes, totals: Totals) -> usize
     requires { ⌜ (decoded (now image) ≡ Sound sizes) × (totals ≡ totalsOf sizes (bodies (now image))) ⌝ }
     ensures { λ r. ⌜ (r ≡ totals .points) × (r ≤ mostPoints) ⌝ }
@@ -19,7 +20,7 @@ pub fn points_in(image: &[u8], sizes: Sizes, totals: Totals) -> usize
     totals.points
 }
 
-// Before thread t.
+// The number of points of the threads before thread `t`, with the bound.
 pub fn points_before<'a, 'b>(
     image: &'a [u8],
     index: &'b [usize],

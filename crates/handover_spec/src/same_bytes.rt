@@ -1,8 +1,9 @@
-// Two byte strings compared.
+// Comparison of byte strings.
 use limits::read::u8_at;
 ghost use mathlib.Core.Path.{_≡_};
 ghost use Rattle.semantics.specs.Formula.{sameBytes};
 
+// Whether two byte strings are equal.
 pub fn same_bytes<'a, 'b>(first: &'a [u8], second: &'b [u8]) -> bool
     ensures { λ r. ⌜ r ≡ sameBytes (now (first .entry)) (now (second .entry)) ⌝ }
 {

@@ -1,4 +1,4 @@
-// Whether a table has an entry for each old point, and each in its range.
+// Whether a handover table has an entry for each old point, each in range; code 33 if not.
 use crate::entries::Entry;
 use crate::entries::entries_fit;
 use crate::points::points_before;
@@ -16,7 +16,7 @@ ghost use Rattle.image_meaning.specs.Image.{imageOf};
 ghost use Rattle.image_access.specs.Totals.{totalsOf};
 ghost use Rattle.handover_spec.specs.Fits.{threadFits, threadsFit, tableFits};
 
-// The entries of thread t.
+// Whether the entries of thread `t` are in range.
 fn thread_fits<'a, 'b, 'c, 'd, 'e>(
     old: &'a [u8],
     old_index: &'b [usize],
@@ -41,6 +41,7 @@ fn thread_fits<'a, 'b, 'c, 'd, 'e>(
     entries_fit(table, new_last, new_sizes.lines as usize, from, last + 1)
 }
 
+// Whether the entries of all threads are in range.
 fn threads_fit<'a, 'b, 'c, 'd, 'e>(
     old: &'a [u8],
     old_index: &'b [usize],
@@ -79,6 +80,7 @@ fn threads_fit<'a, 'b, 'c, 'd, 'e>(
     true
 }
 
+// Whether the table has an entry for each old point and nothing else, each in range.
 pub fn table_fits<'a, 'b, 'c, 'd, 'e>(
     old: &'a [u8],
     old_index: &'b [usize],

@@ -1,4 +1,4 @@
-// A caller's bill.
+// The bill for a caller of the service.
 use bill::into::bill_into;
 use bill_spec::numbers::Numbers;
 use bill_spec::numbers::write_numbers;
@@ -12,7 +12,7 @@ ghost use Rattle.service_spec.specs.Account.{admission};
 ghost use Rattle.service_spec.specs.Request.{cleared};
 ghost use Rattle.service_spec.specs.Promise.{BillServed};
 
-// No bill: all its numbers are 0, if there is room for them.
+// Sets the numbers of a refused bill to 0; an `answer` that is too short for them stays.
 pub fn clear_bill(answer: &mut [u32])
     ensures { λ _. ⌜ now (answer .exit) ≡ cleared size (now (answer .entry)) ⌝ }
 {
@@ -25,7 +25,7 @@ pub fn clear_bill(answer: &mut [u32])
     write_numbers(none, answer);
 }
 
-// By the caller's own number, which a bill without an error raises.
+// Bills by the caller's own number, which a bill without an error raises by one; 1 if the service is too short to have that number.
 pub fn bill_caller<'a, 'b, 'c>(
     service: &'a mut [u32],
     caller: usize,

@@ -1,5 +1,5 @@
-// The entry points, for C and Rust. Each refuses with 35 what is no caller from 1 to 8, and with 36 a caller without the right, before
-// every other check; then the service and every buffer stay, and the rest of the answer is 0.
+// The entry points, for C and Rust. Each returns 35 for a caller that is not 1 to 8 and 36 for one without the right, before every other
+// check; then the service and every buffer stay, and the rest of the answer is 0.
 use crate::caller_bill::bill_caller;
 use crate::caller_bill::clear_bill;
 use crate::refused_replay::clear_replay;
@@ -14,6 +14,7 @@ use trim::entry::trim_image;
 ghost use Rattle.bill_spec.specs.Output.{tariffOf};
 ghost use Rattle.service_spec.specs.Promise.{CheckServed, TrimServed, BillServed, HandoverServed, ReplayServed, AcrossServed};
 
+// Calls `check_image` for a caller with the right to check.
 #[no_mangle]
 pub extern "C" fn serve_check<'a, 'b, 'c>(
     service: &'a [u32],
@@ -30,6 +31,7 @@ pub extern "C" fn serve_check<'a, 'b, 'c>(
     check_image(image, out)
 }
 
+// Calls `trim_image` for a caller with the right to check; `written` is 0 if the caller is refused.
 #[no_mangle]
 pub extern "C" fn serve_trim<'a, 'b, 'c, 'd>(
     service: &'a [u32],
@@ -49,6 +51,7 @@ pub extern "C" fn serve_trim<'a, 'b, 'c, 'd>(
     trim_image(image, out, written)
 }
 
+// Calls `check_handover` for a caller with the right to check.
 #[no_mangle]
 pub extern "C" fn serve_handover<'a, 'b, 'c, 'd>(
     service: &'a [u32],
@@ -66,8 +69,8 @@ pub extern "C" fn serve_handover<'a, 'b, 'c, 'd>(
     check_handover(old, new, table)
 }
 
-// Bills by the caller's own number: 31 where that is at its end. A bill without an error raises it, and nothing else in the service
-// changes.
+// Bills an image for a caller with the right to bill, by the caller's own number: 31 if that is at its end. A bill without an error raises
+// it by one, and nothing else in the service changes.
 #[no_mangle]
 pub extern "C" fn serve_bill<'a, 'b, 'c>(
     service: &'a mut [u32],
@@ -98,6 +101,7 @@ pub extern "C" fn serve_bill<'a, 'b, 'c>(
     bill_caller(service, caller, image, tariff, answer)
 }
 
+// Calls `replay_trace` for a caller with the right to replay; the numbers in `answer` are 0 if the caller is refused.
 #[no_mangle]
 pub extern "C" fn serve_replay<'a, 'b, 'c, 'd, 'e, 'f>(
     service: &'a [u32],
@@ -119,6 +123,7 @@ pub extern "C" fn serve_replay<'a, 'b, 'c, 'd, 'e, 'f>(
     replay_trace(image, trace, given, table, answer)
 }
 
+// Calls `replay_handover` for a caller with the right to replay; the numbers in `answer` are 0 if the caller is refused.
 #[no_mangle]
 pub extern "C" fn serve_replay_handover<'a, 'b, 'c, 'd, 'e, 'f, 'g, 'h, 'i>(
     service: &'a [u32],

@@ -1,7 +1,9 @@
-// A caller's bill by its own number; no bill and no replay for a caller that is refused.
+// A service for up to eight callers (Change 13), each with an account: its rights and its own number of billed images.
+
+// A bill by the caller's own number, and the numbers of a bill or a replay that is refused.
 pub mod caller_bill;
 pub mod refused_replay;
 
-// The entry points of a service of up to eight callers, each with its rights and its own number of billed images.
+// The entry points: the opening, and a call for each request.
 pub mod entry;
 pub mod open;

@@ -1,11 +1,11 @@
-// A caller's replay that is refused.
+// The numbers of a replay that is refused to a caller.
 use replay_machine::answer::Answer;
 use replay_machine::answer::write_numbers;
 ghost use mathlib.Core.Path.{_≡_};
 ghost use Rattle.replay_machine.specs.Answer.{size};
 ghost use Rattle.service_spec.specs.Request.{cleared};
 
-// No replay: all its numbers are 0, if there is room for them.
+// Sets the numbers of a refused replay to 0; an `answer` that is too short for them stays.
 pub fn clear_replay(answer: &mut [usize])
     ensures { λ _. ⌜ now (answer .exit) ≡ cleared size (now (answer .entry)) ⌝ }
 {

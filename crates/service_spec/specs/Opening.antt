@@ -10,22 +10,23 @@ use Rattle.service_spec.specs.Account.{callers}
 abbrev pub places : ℕ
 places = 2 * callers
 
--- three bits; missing ones are no right
+-- the rights of the caller at index i: three bits of its byte, none if the byte is missing
 abbrev pub given : List ℕ → ℕ → ℕ
 given r i = getD r i 0 % 8
 
--- to so many callers, from the one at place i on
+-- the rights of n callers, from the one at index i on
 abbrev pub givenFrom : List ℕ → ℕ → ℕ → List ℕ
 givenFrom r i zero = []
 givenFrom r i (suc n) = given r i ∷ givenFrom r (suc i) n
 
--- their rights, then their numbers
+-- the rights of all callers, then their numbers, "starting at 0"
 unfoldable pub opened : List ℕ → List ℕ
 opened r = givenFrom r 0 callers ++ replicate callers 0
 
--- 1 where there is too little room, and it stays as it is; so do the numbers behind
+-- 1 if the buffer is too short for the numbers, else 0
 unfoldable pub openingCode : List ℕ → ℕ
 openingCode room = cond (ltb (length room) places) 1 0
 
+-- the buffer afterwards: one that is too short stays, and so do the numbers behind
 unfoldable pub serviceFor : List ℕ → List ℕ → List ℕ
 serviceFor r room = cond (ltb (length room) places) room (opened r ++ drop places room)

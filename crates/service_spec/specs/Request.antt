@@ -1,4 +1,4 @@
--- What callers ask, and what is answered: by the calls without a service, and by the service.
+-- What callers ask for, and the replies: of the calls without a service, and of the service.
 use mathlib.Core.Bool.{Bool, true, false, cond, _&&_}
 use mathlib.Core.List.{List, [], _∷_, _++_}
 use mathlib.Core.Option.{Option, none, some}
@@ -23,27 +23,30 @@ use Rattle.service_spec.specs.declared.rights.Right.the-variants.{Check,
 use Rattle.service_spec.specs.Account.{Account, holds}
 use Rattle.service_spec.specs.Serving.{Call, Served, Turn, Conduct, serveBy, serveAllBy}
 
--- a call with all that it is lent: an image and the buffer for its verdict; an image and the buffer for the trimmed one; an image, a
--- tariff and
--- the room for the bill's numbers; two images and the table of a handover; an image, a trace, given registers, the table of writes and
--- the room for the numbers of the answer; two images,
--- the table of a handover, two traces, and the rest as in a replay
+-- a call with all that the caller passes
 pub data Request : Type 0 where
+  -- an image, and the buffer for its verdict or for the trimmed image
   toCheck toTrim : List ℕ → List ℕ → Request
+  -- an image, a tariff, and the buffer for the bill's numbers
   toBill : List ℕ → Tariff → List ℕ → Request
+  -- two images and the handover table
   toHandOver : List ℕ → List ℕ → List ℕ → Request
+  -- an image, a trace, given registers, the table of writes, and the buffer for the answer's numbers
   toReplay : List ℕ → List ℕ → List ℕ → List ℕ → List ℕ → Request
+  -- two images, the handover table, two traces, and the rest as in a replay
   toReplayAcross : List ℕ → List ℕ → List ℕ → List ℕ → List ℕ → List ℕ → List ℕ → List ℕ → Request
 
--- the code, and what the buffer and the numbers of the answer hold afterwards; [] where the call is lent none
+-- the code, and what the buffer and the numbers of the answer hold afterwards; [] where the call has none
 pub record Reply : Type 0 where
   pub code : ℕ
   pub buffer : List ℕ
   pub numbers : List ℕ
 
+-- the reply with these three
 abbrev pub replied : ℕ → List ℕ → List ℕ → Reply
 replied code buffer numbers = record { code = code; buffer = buffer; numbers = numbers }
 
+-- "check (also trimming and permitting a handover), replay (also across one), bill"
 abbrev pub rightFor : Request → Right
 rightFor (toCheck image buffer) = Check
 rightFor (toTrim image buffer) = Check
@@ -52,7 +55,7 @@ rightFor (toHandOver old new table) = Check
 rightFor (toReplay image trace given table room) = Replay
 rightFor (toReplayAcross old new points first second given table room) = Replay
 
--- whether the number of billed images goes by it
+-- whether the request is for a bill, which may raise the caller's number
 abbrev pub isBill : Request → Bool
 isBill (toCheck image buffer) = false
 isBill (toTrim image buffer) = false
@@ -61,11 +64,11 @@ isBill (toHandOver old new table) = false
 isBill (toReplay image trace given table room) = false
 isBill (toReplayAcross old new points first second given table room) = false
 
--- an answer that has room for n numbers becomes zeros; too little room stays, and so do the numbers behind
+-- a buffer with n zeros in front; one that is too short for them stays, and so do the numbers behind
 unfoldable pub cleared : ℕ → List ℕ → List ℕ
 cleared n room = cond (ltb (length room) n) room (replicate n 0 ++ drop n room)
 
--- 35 and 36: no buffer changes, and the rest of the answer is 0
+-- 35 and 36: "neither changes a number or a buffer; the rest of the answer is 0"
 abbrev pub refused : ℕ → Request → Reply
 refused code (toCheck image buffer) = replied code buffer []
 refused code (toTrim image buffer) = replied code buffer (0 ∷ [])
@@ -74,16 +77,17 @@ refused code (toHandOver old new table) = replied code [] []
 refused code (toReplay image trace given table room) = replied code table (cleared Replay.size room)
 refused code (toReplayAcross old new points first second given table room) = replied code table (cleared Replay.size room)
 
--- by the caller's own number; 1 where it is not there
+-- the bill by the caller's own number; 1 if the service is too short to have it
 abbrev pub billReply : List ℕ → Tariff → List ℕ → Option ℕ → Reply
 billReply image f room none = replied 1 [] room
 billReply image f room (some n) = replied (codeFor (billOf image f n) room) [] (numbersFor (billOf image f n) room)
 
+-- the code, the table and the numbers of a replay
 abbrev pub replayReply : Replayed → List ℕ → List ℕ → Reply
 replayReply r table room =
     replied (Replay.codeFor (answerOf r) room) (tableFor (shownOf r (entriesIn table)) room table) (Replay.numbersFor (answerOf r) room)
 
--- the call without a service, by the number of billed images
+-- the call without a service, n images being billed before
 abbrev pub answered : Option ℕ → Request → Reply
 answered n (toCheck image buffer) = replied (Verdict.codeFor (verdict image) buffer) (Verdict.bytesFor (verdict image) buffer) []
 answered n (toTrim image buffer) = replied (answerFor image buffer .code) (bufferFor image buffer) (answerFor image buffer .length ∷ [])
@@ -93,10 +97,11 @@ answered n (toReplay image trace given table room) = replayReply (replayOf image
 answered n (toReplayAcross old new points first second given table room) = replayReply
     (acrossOf old new points first second given (entriesIn table)) table room
 
+-- 36 "before any other check of the call"; d is the caller's account
 abbrev pub replyTo : Account → Request → Reply
 replyTo d q = cond (holds (rightFor q) (d .rights)) (answered (d .number) q) (refused 36 q)
 
--- each bill without an error adds one to the number
+-- how the service answers: "each bill without an error adds one" to the caller's number
 abbrev pub conduct : Conduct Request Reply
 conduct = record {
   unknown = refused 35;
@@ -108,6 +113,6 @@ conduct = record {
 abbrev pub serve : List ℕ → Call Request → Served Reply
 serve = serveBy conduct
 
--- one call after the other
+-- the turns of a list of calls, one after the other
 abbrev pub serveAll : List ℕ → List (Call Request) → List (Turn Reply)
 serveAll = serveAllBy conduct

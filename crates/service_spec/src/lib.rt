@@ -1,5 +1,3 @@
-// What a service holds of up to eight callers: the rights of each and its own number of billed images.
+// What a service for up to eight callers is (Change 13): each has an account with its rights and its own number of billed images.
 pub mod opened;
 pub mod rights;
-
-// What is asked of a service has no code here: the definitions are under specs/, the theorems under proofs/.

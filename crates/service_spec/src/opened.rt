@@ -1,4 +1,4 @@
-// The numbers of a service that is opened.
+// The numbers of a service when it is opened.
 use crate::rights::Service;
 use limits::read::u8_at;
 ghost use mathlib.Core.Path.{_≡_};
@@ -7,14 +7,14 @@ ghost use Prim.Native.Nat.{_≤_, _%_};
 ghost use lib.ListN.{length, getD, drop};
 ghost use Rattle.service_spec.specs.Opening.{places, opened};
 
-// The rights that are given to the caller at a place, from 0; missing ones are none.
+// The rights of the caller at index `at`, from 0, modulo 8; a byte that is missing gives no right.
 fn given_at(rights: &[u8], at: usize) -> u32
     ensures { λ r. ⌜ r ≡ getD (now (rights .entry)) at 0 % 8 ⌝ }
 {
     (u8_at(rights, at) % Service::RIGHTS) as u32
 }
 
-// The rights of all callers, and their numbers, all 0.
+// The rights of callers 1 to 8, then the number of billed images of each, which is 0.
 pub fn opened_numbers(rights: &[u8]) -> [u32; Service::NUMBERS]
     ensures { λ r. ⌜ r ≡ opened (now (rights .entry)) ⌝ }
 {
@@ -38,7 +38,7 @@ pub fn opened_numbers(rights: &[u8]) -> [u32; Service::NUMBERS]
     ]
 }
 
-// The numbers behind stay.
+// Writes the sixteen numbers to the front of `service`; the numbers behind stay.
 pub fn write_service(numbers: [u32; Service::NUMBERS], service: &mut [u32])
     requires { ⌜ places ≤ length (now service) ⌝ }
     ensures { λ _. ⌜ now (service .exit) ≡ numbers ++ drop places (now (service .entry)) ⌝ }

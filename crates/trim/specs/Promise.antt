@@ -6,10 +6,10 @@ use lib.ListN.{take}
 use Rattle.trim_encode.specs.Trimmed.{Trimmed}
 use Rattle.trim_encode.specs.Answer.{answerFor, bufferFor}
 
--- of an image and a buffer: the code, the length that is told, and the buffer afterwards
+-- what is returned and written, for an image and a buffer: the code, the length in `written`, and the buffer afterwards
 pub record Promise (image buffer : List ℕ) (code written : ℕ) (after : List ℕ) : Type 0 where
   pub returned : code ≡ answerFor image buffer .code
   pub told : written ≡ answerFor image buffer .length
   pub bytes : after ≡ bufferFor image buffer
-  -- success: what is written is the image, trimmed
+  -- the bytes written on success are the trimmed image
   pub trimmed : code ≡ 0 → Trimmed image (take written after)

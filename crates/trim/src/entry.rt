@@ -1,9 +1,9 @@
-// The entry point, for C and Rust.
+// The entry point `trim_image`, for C and Rust.
 use crate::trimming::trim_into;
 ghost use Rattle.trim.specs.Promise.{Promise};
 
-// Trims an accepted image into the buffer, and says in `written` how many bytes that are. Answers 0; 24 for an image that is not
-// accepted; else 25 for a buffer that is shorter than the trimmed image. With an error 0 bytes are written, and the buffer stays.
+// Trims an accepted image into `out` and stores its length in `written`. Returns 0; 24 if the image is not accepted; else 25 if `out` is
+// shorter than the trimmed image. With an error `written` is 0 and `out` stays as it was.
 #[no_mangle]
 pub extern "C" fn trim_image<'a, 'b, 'c>(
     image: &'a [u8],

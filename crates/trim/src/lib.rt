@@ -1,5 +1,3 @@
-// What trimming promises: definitions, and what follows from them.
-
-// Trimming for the archive: `trim_image` is the entry point.
+// Trimming for the archive (Change 2): `trim_image` is the entry point, specs/Promise.antt what it promises.
 pub mod entry;
 pub mod trimming;

@@ -1,4 +1,4 @@
-// An image, trimmed into a buffer.
+// Trimming of any byte string into a buffer.
 use checker::acceptance::accept_image;
 use checker_spec::acceptance::Acceptance;
 use image_index::table::IndexSize;
@@ -9,7 +9,7 @@ ghost use lib.ListN.{replicate};
 ghost use Rattle.image_index.specs.IndexTable.{tableSize};
 ghost use Rattle.trim_encode.specs.Answer.{answerFor, bufferFor};
 
-// With a table of zeros, as long as the image asks for.
+// Trims with `index` as scratch memory: zeros, tableSize(image) of them.
 fn trim_by<'a, 'b, 'c>(image: &'a [u8], index: &'b mut [usize], out: &'c mut [u8]) -> Answer
     requires { ⌜ now index ≡ replicate (tableSize (now image)) 0 ⌝ }
     ensures { λ r. ⌜ (r ≡ answerFor (now (image .entry)) (now (out .entry)))
@@ -24,7 +24,7 @@ fn trim_by<'a, 'b, 'c>(image: &'a [u8], index: &'b mut [usize], out: &'c mut [u8
     }
 }
 
-// Of every byte string: an image that is not accepted leaves the buffer as it is.
+// Trims `image` into `out`; an image that is not accepted leaves `out` as it was.
 pub fn trim_into<'a, 'b>(image: &'a [u8], out: &'b mut [u8]) -> Answer
     ensures { λ r. ⌜ (r ≡ answerFor (now (image .entry)) (now (out .entry)))
         × (now (out .exit) ≡ bufferFor (now (image .entry)) (now (out .entry))) ⌝ }

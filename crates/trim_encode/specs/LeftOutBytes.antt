@@ -13,27 +13,27 @@ use Rattle.image_meaning.specs.Certificate.{lineBody}
 use Rattle.trim_spec.specs.Encode.{encode}
 use Rattle.trim_spec.specs.Parse.{part, documentOf}
 
--- of the record with number i, whose body has n bytes: length and kind are 4 more
+-- the bytes of a record with a body of n bytes, if number i has no mark; length and kind are 4 of them
 unfoldable pub leftOne : List Bool → ℕ → ℕ → ℕ
 leftOne m i n = cond (getD m i false) 0 (n + 4)
 
--- of records with such bodies, whose marks are the first ones
+-- the bytes left out of records with bodies of these lengths, whose marks begin with the first
 unfoldable pub leftOut : List Bool → List ℕ → ℕ
 leftOut m [] = 0
 leftOut m (n ∷ l) = leftOne m 0 n + leftOut (drop 1 m) l
 
--- of n records behind the one with `from` records before it: they are numbered from 1, and the first i are passed
+-- the bytes left out of the n records after the one with index `from`, without the first i of them; they are numbered from 1
 unfoldable pub leftBehind : List (List ℕ) → ℕ → ℕ → List Bool → ℕ → ℕ
 leftBehind l from n m i = leftOut (drop (suc i) m) (map length (drop i (part (from + 1) n l)))
 
--- more than all records of one kind can have
+-- a bound for the bytes of all records of one kind
 abbrev pub most : ℕ
 most = 65536 * (Limits.imageBytes + 4)
 
--- the lengths that a sound image has
+-- the lengths in a well-formed image s with sizes z
 pub record Lengths (z : Sizes) (s : List ℕ) : Type 0 where
   pub short : length s ≤ Limits.imageBytes
   pub records : length (bodies s) ≡ recordCount z
-  -- a line's body, by its number of premises
+  -- a line's body is as long as its premise count says
   pub lines : (n : ℕ) → 1 ≤ n → n ≤ z .lines → length (lineBody z (bodies s) n) ≡ lineSize (lineBody z (bodies s) n)
   pub document : length (encode (documentOf z (bodies s))) ≡ length s

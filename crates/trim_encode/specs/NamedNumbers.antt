@@ -1,4 +1,4 @@
--- What the loops over an image's records note, by its sizes and the bodies of its records.
+-- The numbers that the loops over an image's records mark, by its sizes z and the bodies l of its records.
 use mathlib.Core.Bool.{Bool, false, cond}
 use mathlib.Core.List.{List, [], _∷_, map}
 use Prim.Native.Nat.{ℕ, suc}
@@ -24,18 +24,18 @@ module _ (z : Sizes) (l : List (List ℕ)) where
   unfoldable pub claimLines : List ℕ
   claimLines = map (λ c. c .line) (documentOf z l .claims)
 
-  -- the premises of line n have marks too, if it has one
+  -- the marks m, with those of line n's premises if line n is marked
   unfoldable pub withPremises : ℕ → List Bool → List Bool
   withPremises n m = cond (getD m n false) (markedBy m (premises (lineBody z l n))) m
 
-  -- the formulas that the threads behind thread t name
+  -- the formulas that the threads after thread t name
   unfoldable pub threadFormulas : ℕ → List ℕ
   threadFormulas t = flat (λ i. flat instructionFormulas i) (drop t (documentOf z l .threads))
 
-  -- the formulas that line n names, if it has one of the marks k
+  -- the formulas that line n names, if k marks it
   unfoldable pub markedSides : List Bool → ℕ → List ℕ
   markedSides k n = cond (getD k n false) (sidesOf (lineBody z l n)) []
 
-  -- the formulas that the lines behind line n name, of those with one of the marks k
+  -- the formulas that the lines after line n name, of those that k marks
   unfoldable pub markedFormulas : List Bool → ℕ → List ℕ
   markedFormulas k n = flat lineFormulas (chosen (drop (suc n) k) (drop n (documentOf z l .lines)))

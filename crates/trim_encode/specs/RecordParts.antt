@@ -10,14 +10,14 @@ use Rattle.verdict_record.specs.Record.{two}
 use Rattle.trim_spec.specs.Encode.{halfBytes}
 use Rattle.trim_encode.specs.Renumbered.{renewed}
 
--- behind the first half of an instruction with this operation
+-- the second half of an instruction, where its operation has one
 unfoldable pub secondBytes : ℕ → Half → List ℕ
 secondBytes op h = cond (twofold op) (halfBytes h) []
 
--- of a line: rule, thread, point and left formula
+-- the front of a line's body: rule, thread, point and left formula
 unfoldable pub leftBytes : List ℕ → List ℕ → List ℕ
 leftBytes f b = getD b 0 0 ∷ getD b 1 0 ∷ getD b 2 0 ∷ two (renewed f (left b))
 
--- the right formula and how many premises follow
+-- the middle of a line's body: right formula and premise count
 unfoldable pub rightBytes : List ℕ → List ℕ → List ℕ
 rightBytes f b = two (renewed f (right b)) ++ (getD b 7 0 ∷ [])

@@ -1,4 +1,4 @@
--- What trimming promises of an accepted image and the image that it is trimmed to.
+-- What trimming promises of an accepted image and its trimmed image.
 use mathlib.Core.Path.{_≡_}
 use mathlib.Core.List.{List}
 use Prim.Native.Nat.{ℕ, _≤_, _<_}
@@ -18,11 +18,11 @@ use Rattle.trim_spec.specs.Parse.{documentOf}
 use Rattle.trim_spec.specs.Trim.{trim}
 use Rattle.trim_spec.specs.Rests.{Rests, Uses}
 
--- the bytes of the trimmed image, of an image that holds so much
+-- the trimmed image of an image s with sizes z
 unfoldable pub trimmedBytes : Sizes → List ℕ → List ℕ
 trimmedBytes z s = encode (trim (documentOf z (bodies s)))
 
--- the same threads, words, registers, values and instructions; the same points of each thread that is there
+-- equal threads, words, range, start values, start marks and instructions; equal points for each thread that exists
 pub record SameProgram (P Q : Program) : Type 0 where
   pub threads : P .threads ≡ Q .threads
   pub words : P .words ≡ Q .words
@@ -32,25 +32,25 @@ pub record SameProgram (P Q : Program) : Type 0 where
   pub points : (t : ℕ) → Within (P .threads) t → P .points t ≡ Q .points t
   pub code : P .code ≡ Q .code
 
--- the same program, outline and claims
+-- "the same program and outline" (Change 2), and the same claims (Change 5)
 pub record SameContent (before after : Image) : Type 0 where
   pub program : SameProgram (before .program) (after .program)
   pub outline : (t k : ℕ) → after .outline t k ≡ before .outline t k
   pub claims : after .claims .count ≡ before .claims .count
   pub claim : (i : ℕ) → i < before .claims .count → after .claims .claim i ≡ before .claims .claim i
 
--- of an image and the image that it is trimmed to
+-- how an accepted image and its trimmed image are related
 pub record Trimmed (image trimmed : List ℕ) : Type 0 where
   pub before : Image
   pub says : decode image ≡ read before
   pub after : Image
   pub trimmed-says : decode trimmed ≡ read after
   pub same : SameContent before after
-  -- accepted with the same count
+  -- "It is accepted with the same count"
   pub accepted : verdict trimmed ≡ verdict image
-  -- trimming it again gives the same bytes
+  -- "trimming it again gives the same bytes"
   pub again : (z : Sizes) → acceptance trimmed ≡ Granted z → trimmedBytes z trimmed ≡ trimmed
-  -- what is left, as records: every line is one on which an obligation or a claim rests, every formula is used
+  -- "only the lines on which some obligation rests, and only the formulas that are still used"; claims count as obligations do (Change 5)
   pub document : Document
   pub bytes : encode document ≡ trimmed
   pub rests : (n : ℕ) → 1 ≤ n → n ≤ length (document .lines) → Rests document n

@@ -1,12 +1,13 @@
-// What a call for trimming answers.
+// The answer of a call for trimming.
 
-// The code, and how many bytes were written: 0 with an error.
+// The code, and the number of bytes written, which is 0 with an error.
 pub struct Answer {
     pub code: u16,
     pub length: usize,
 }
 
 impl Answer {
+    // The trimmed image is written.
     pub const DONE: u16 = 0;
     // The image is not accepted.
     pub const NOT_ACCEPTED: u16 = 24;

@@ -1,4 +1,4 @@
-// Bytes written to a buffer, from a position on; what stands before and behind them stays. Each function answers the position behind.
+// Bytes written to a buffer at a position; those before and after them stay. Each function returns the position after what it writes.
 ghost use mathlib.Core.Path.{_≡_};
 ghost use mathlib.Core.List.{[], _∷_, _++_};
 ghost use Prim.Native.Nat.{_+_, _-_, _≤_};
@@ -6,6 +6,7 @@ ghost use lib.ListN.{length};
 ghost use Rattle.verdict_record.specs.Record.{two};
 ghost use Rattle.trim_encode.specs.Overwritten.{overwritten};
 
+// Writes one byte.
 pub fn put_byte(byte: u8, out: &mut [u8], at: usize) -> usize
     requires { ⌜ at + 1 ≤ length (now out) ⌝ }
     ensures { λ r. ⌜ (now (out .exit) ≡ overwritten (now (out .entry)) at (byte ∷ [])) × (r ≡ at + 1) ⌝ }
@@ -14,7 +15,7 @@ pub fn put_byte(byte: u8, out: &mut [u8], at: usize) -> usize
     at + 1
 }
 
-// A 16-bit number.
+// Writes a 16-bit number, low byte first.
 pub fn put_u16(number: usize, out: &mut [u8], at: usize) -> usize
     requires { ⌜ at + 2 ≤ length (now out) ⌝ }
     ensures { λ r. ⌜ (now (out .exit) ≡ overwritten (now (out .entry)) at (two number)) × (r ≡ at + 2) ⌝ }
@@ -23,7 +24,7 @@ pub fn put_u16(number: usize, out: &mut [u8], at: usize) -> usize
     put_byte((number / 256 % 256) as u8, out, next)
 }
 
-// Three bytes and a 16-bit number.
+// Writes three bytes and a 16-bit number: an instruction, the front of a line or the end of a claim.
 pub fn put_five(
     byte: u8,
     next_byte: u8,
@@ -42,6 +43,7 @@ pub fn put_five(
     put_u16(number, out, fourth)
 }
 
+// Copies `body` into the buffer.
 pub fn put_bytes<'a, 'b>(body: &'a [u8], out: &'b mut [u8], at: usize) -> usize
     requires { ⌜ at + length (now body) ≤ length (now out) ⌝ }
     ensures { λ r. ⌜ (now (out .exit) ≡ overwritten (now (out .entry)) at (now (body .entry))) × (r ≡ at + length (now (body .entry))) ⌝ }
@@ -54,7 +56,7 @@ pub fn put_bytes<'a, 'b>(body: &'a [u8], out: &'b mut [u8], at: usize) -> usize
     at + i
 }
 
-// In front of a body that stands behind it already: its length, which counts the kind too, and its kind. Answers where the body ends.
+// Writes length and kind of the record that begins at `at`, whose body is already in place; returns `end`, where the body ends.
 pub fn put_frame(kind: usize, out: &mut [u8], at: usize, end: usize) -> usize
     requires { ⌜ (at + 4 ≤ end) × (end ≤ length (now out)) ⌝ }
     ensures { λ r. ⌜ (now (out .exit) ≡ overwritten (now (out .entry)) at (two (end - at - 2) ++ two kind)) × (r ≡ end) ⌝ }

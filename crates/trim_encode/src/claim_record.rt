@@ -1,4 +1,4 @@
-// A claim, with its line renewed.
+// The body of a claim, with its line renumbered.
 use crate::bytes::put_byte;
 use crate::bytes::put_five;
 use crate::renumbered::new_number;
@@ -12,6 +12,7 @@ ghost use Rattle.trim_spec.specs.Parse.{claimRecord};
 ghost use Rattle.trim_encode.specs.Overwritten.{overwritten};
 ghost use Rattle.trim_encode.specs.Renumbered.{renewedClaim};
 
+// Writes a claim's body: its threads and points as they are, its line by the new number.
 pub fn put_claim<'a, 'b, 'c>(
     line_numbers: &'a [usize],
     body: &'b [u8],

@@ -1,4 +1,4 @@
-// The parts of the trimmed image, each behind the one before it.
+// The parts of the trimmed image. Each function writes one part at `at` and returns the position after it.
 use crate::record::put_list;
 use crate::records::put_live;
 use crate::records::put_records;
@@ -14,6 +14,7 @@ ghost use Rattle.image_index.specs.IndexTable.{indexOf};
 ghost use Rattle.trim_encode.specs.Overwritten.{overwritten};
 ghost use Rattle.trim_encode.specs.WholeImage.{formulasBytes, threadsBytes, outlineBytes, linesBytes, obligationsBytes, claimsBytes};
 
+// Writes the live formulas.
 pub fn put_formulas<'a, 'b, 'c, 'd, 'e, 'f>(
     image: &'a [u8],
     index: &'b [usize],
@@ -48,6 +49,7 @@ pub fn put_formulas<'a, 'b, 'c, 'd, 'e, 'f>(
     )
 }
 
+// Writes all threads, with the formulas of their instructions renumbered.
 pub fn put_threads<'a, 'b, 'c, 'd, 'e>(
     image: &'a [u8],
     index: &'b [usize],
@@ -79,6 +81,7 @@ pub fn put_threads<'a, 'b, 'c, 'd, 'e>(
     )
 }
 
+// Writes the outline, with its formulas renumbered.
 pub fn put_outline<'a, 'b, 'c, 'd>(
     image: &'a [u8],
     index: &'b [usize],
@@ -107,6 +110,7 @@ pub fn put_outline<'a, 'b, 'c, 'd>(
     )
 }
 
+// Writes the live lines, with their formulas and premises renumbered.
 pub fn put_lines<'a, 'b, 'c, 'd, 'e, 'f>(
     image: &'a [u8],
     index: &'b [usize],
@@ -142,6 +146,7 @@ pub fn put_lines<'a, 'b, 'c, 'd, 'e, 'f>(
     )
 }
 
+// Writes the obligations, with their lines renumbered.
 pub fn put_obligations<'a, 'b, 'c, 'd>(
     image: &'a [u8],
     index: &'b [usize],
@@ -161,6 +166,7 @@ pub fn put_obligations<'a, 'b, 'c, 'd>(
     put_list(image, index, line_numbers, Kind::OBLIGATIONS, n, c, out, at)
 }
 
+// Writes all claims, with their lines renumbered.
 pub fn put_claims<'a, 'b, 'c, 'd, 'e>(
     image: &'a [u8],
     index: &'b [usize],

@@ -1,29 +1,31 @@
-// Which numbers are markedBy, the new numbers of those that are, and how long what is left of an image is.
+// Trims an accepted image into a buffer: marks its live lines and formulas, renumbers them and encodes what is left.
+
+// Marks by number, the new numbers that they give, and the length of the trimmed image.
 pub mod marks;
 pub mod numbering;
 pub mod trimmed_length;
 
-// Which formulas are still used: by an instruction, by the outline, by a line that stays.
+// Live formulas: those that an instruction, the outline or a live line names.
 pub mod live_formulas;
 
-// Which lines of an accepted image stay when it is trimmed: those on which an obligation or a claim rests.
+// Live lines: those that an obligation or a claim names, and the premises of live lines.
 pub mod live_lines;
 
-// Bytes, words and renewed numbers, written to a buffer from a place on.
+// Bytes, 16-bit numbers and renumbered references, written to a buffer at a position.
 pub mod bytes;
 pub mod renumbered;
 
-// Threads, lines and claims, written with the new numbers of formulas and lines.
+// The bodies of claims, lines and threads, written with the new numbers of formulas and lines.
 pub mod claim_record;
 pub mod line_record;
 pub mod thread_record;
 
-// The trimmed image, written to a buffer that the caller lends.
+// The trimmed image, written record by record to the caller's buffer.
 pub mod image_parts;
 pub mod record;
 pub mod records;
 pub mod whole_image;
 
-// An accepted image, trimmed into a buffer; what is answered for every image stands under specs/.
+// The call for an accepted image; specs/Answer.antt has the answer for every byte string.
 pub mod answer;
 pub mod trim_accepted;

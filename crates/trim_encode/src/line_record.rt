@@ -1,4 +1,4 @@
-// A line of the certificate, with its formulas and its premises renewed: formulas by f, lines by g.
+// The body of a certificate line, with its formulas and premises renumbered.
 use crate::bytes::put_byte;
 use crate::bytes::put_five;
 use crate::bytes::put_u16;
@@ -19,7 +19,7 @@ ghost use Rattle.trim_encode.specs.Overwritten.{overwritten};
 ghost use Rattle.trim_encode.specs.RecordParts.{leftBytes, rightBytes};
 ghost use Rattle.trim_encode.specs.Renumbered.{renewed, renewedLine};
 
-// Rule, thread, point and left formula.
+// Writes rule, thread, point and left formula.
 fn put_left<'a, 'b, 'c>(
     formula_numbers: &'a [usize],
     body: &'b [u8],
@@ -43,7 +43,7 @@ fn put_left<'a, 'b, 'c>(
     )
 }
 
-// The right formula and the premise count.
+// Writes the right formula and the premise count.
 fn put_right<'a, 'b, 'c>(
     formula_numbers: &'a [usize],
     body: &'b [u8],
@@ -75,6 +75,7 @@ fn put_premises<'a, 'b, 'c>(
     put_numbers(line_numbers, l, byte_at(body, 7), out, at)
 }
 
+// Writes a line's body, its formulas by `formula_numbers` and its premises by `line_numbers`.
 pub fn put_line<'a, 'b, 'c, 'd>(
     formula_numbers: &'a [usize],
     line_numbers: &'b [usize],

@@ -1,4 +1,4 @@
-// Which formulas stay: those that instructions, the outline and the lines that stay name.
+// Live formulas: those that an instruction, the outline or a live line names.
 use crate::marks::is_marked;
 use crate::marks::mark_number;
 use crate::marks::mark_numbers;
@@ -22,7 +22,7 @@ ghost use Rattle.trim_spec.specs.Parse.{documentOf};
 ghost use Rattle.trim_spec.specs.Live.{markedBy, instructionFormulas, kept, used};
 ghost use Rattle.trim_encode.specs.NamedNumbers.{bodyFormulas, threadFormulas, sidesOf, markedSides, markedFormulas};
 
-// An instruction has 0 for a formula that it does not have.
+// Marks the formulas of an instruction. A formula that it does not have is 0, and mark 0 belongs to no formula.
 fn mark_instruction(instruction: Instruction, marks: &mut [bool])
     ensures { λ _. ⌜ now (marks .exit) ≡ markedBy (now (marks .entry)) (instructionFormulas instruction) ⌝ }
 {
@@ -30,7 +30,7 @@ fn mark_instruction(instruction: Instruction, marks: &mut [bool])
     mark_number(marks, instruction.second.formula);
 }
 
-// The instructions of a thread's body.
+// Marks the formulas of the instructions in a thread's body.
 fn mark_thread<'a, 'b>(body: &'a [u8], marks: &'b mut [bool])
     ensures { λ _. ⌜ now (marks .exit) ≡ markedBy (now (marks .entry)) (bodyFormulas (now (body .entry)) 0) ⌝ }
 {
@@ -45,7 +45,7 @@ fn mark_thread<'a, 'b>(body: &'a [u8], marks: &'b mut [bool])
     }
 }
 
-// Those of all threads.
+// Marks the formulas of the instructions of all threads.
 fn mark_threads<'a, 'b, 'c>(
     image: &'a [u8],
     index: &'b [usize],
@@ -82,7 +82,7 @@ fn mark_outline<'a, 'b, 'c>(
     mark_numbers(body, counts.points, marks);
 }
 
-// Left and right formula of the line in a body.
+// Marks the left and the right formula of the line with this body.
 fn mark_sides<'a, 'b>(body: &'a [u8], marks: &'b mut [bool])
     ensures { λ _. ⌜ now (marks .exit) ≡ markedBy (now (marks .entry)) (sidesOf (now (body .entry))) ⌝ }
 {
@@ -90,7 +90,7 @@ fn mark_sides<'a, 'b>(body: &'a [u8], marks: &'b mut [bool])
     mark_number(marks, u16_at(body, 5));
 }
 
-// Those of line n, if it stays.
+// Marks the formulas of line `number`, if it is live.
 fn mark_line<'a, 'b, 'c, 'd>(
     image: &'a [u8],
     index: &'b [usize],
@@ -114,7 +114,7 @@ fn mark_line<'a, 'b, 'c, 'd>(
     }
 }
 
-// Those of all lines that stay.
+// Marks the formulas of all live lines.
 fn mark_lines<'a, 'b, 'c, 'd>(
     image: &'a [u8],
     index: &'b [usize],
@@ -134,7 +134,7 @@ fn mark_lines<'a, 'b, 'c, 'd>(
     }
 }
 
-// With the marks k of the lines that stay.
+// Marks the live formulas; no mark is set before, and `live_lines` marks the live lines.
 pub fn mark_live_formulas<'a, 'b, 'c, 'd>(
     image: &'a [u8],
     index: &'b [usize],

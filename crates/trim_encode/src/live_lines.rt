@@ -1,4 +1,4 @@
-// Which lines stay: those that obligations and claims name, and down from these all premises.
+// Live lines: those that an obligation or a claim names, and the premises of live lines.
 use crate::marks::is_marked;
 use crate::marks::mark_number;
 use crate::marks::mark_numbers;
@@ -21,7 +21,7 @@ ghost use Rattle.trim_spec.specs.Parse.{documentOf};
 ghost use Rattle.trim_spec.specs.Live.{markedBy, keptTo, kept};
 ghost use Rattle.trim_encode.specs.NamedNumbers.{claimLines, withPremises};
 
-// The lines that obligations name.
+// Marks the lines that obligations name.
 fn mark_obligations<'a, 'b, 'c>(
     image: &'a [u8],
     index: &'b [usize],
@@ -40,7 +40,7 @@ fn mark_obligations<'a, 'b, 'c>(
     mark_numbers(body, n, marks);
 }
 
-// The lines that claims name.
+// Marks the lines that claims name.
 fn mark_claims<'a, 'b, 'c>(image: &'a [u8], index: &'b [usize], sizes: Sizes, marks: &'c mut [bool])
     requires { ⌜ (now index ≡ indexOf (now image)) × (length (bodies (now image)) ≡ recordCount sizes) ⌝ }
     ensures { λ _. ⌜ now (marks .exit) ≡ markedBy (now (marks .entry)) (claimLines sizes (bodies (now (image .entry)))) ⌝ }
@@ -54,7 +54,7 @@ fn mark_claims<'a, 'b, 'c>(image: &'a [u8], index: &'b [usize], sizes: Sizes, ma
     }
 }
 
-// The premises that a line's body lists.
+// Marks the premises of the line with this body.
 fn mark_premises<'a, 'b>(body: &'a [u8], marks: &'b mut [bool])
     ensures { λ _. ⌜ now (marks .exit) ≡ markedBy (now (marks .entry)) (premises (now (body .entry))) ⌝ }
 {
@@ -62,7 +62,7 @@ fn mark_premises<'a, 'b>(body: &'a [u8], marks: &'b mut [bool])
     mark_numbers(l, byte_at(body, 7), marks);
 }
 
-// Those of line n, if it has a mark.
+// Marks the premises of line `number`, if it is marked itself.
 fn mark_line<'a, 'b, 'c>(
     image: &'a [u8],
     index: &'b [usize],
@@ -84,7 +84,7 @@ fn mark_line<'a, 'b, 'c>(
     }
 }
 
-// From the last line down: a premise stands before the lines that list it.
+// Marks the premises of marked lines, from the last line down: premises have lower numbers, so one pass reaches them all.
 fn mark_lines<'a, 'b, 'c>(image: &'a [u8], index: &'b [usize], sizes: Sizes, marks: &'c mut [bool])
     requires { ⌜ now index ≡ indexOf (now image) ⌝ }
     ensures { λ _. ⌜ now (marks .exit) ≡ keptTo (documentOf sizes (bodies (now (image .entry))) .lines) (sizes .lines)
@@ -97,6 +97,7 @@ fn mark_lines<'a, 'b, 'c>(image: &'a [u8], index: &'b [usize], sizes: Sizes, mar
     }
 }
 
+// Marks the live lines; no mark is set before.
 pub fn mark_live_lines<'a, 'b, 'c>(
     image: &'a [u8],
     index: &'b [usize],

@@ -1,4 +1,4 @@
-// Marks by numbers: those of a list are set.
+// Marks by number: a flag for each number from 0 on.
 use limits::read::number_at;
 ghost use mathlib.Core.Path.{_≡_};
 ghost use mathlib.Core.Bool.{true, false};
@@ -6,7 +6,7 @@ ghost use lib.ListN.{getD, set};
 ghost use Rattle.limits.specs.Numbers.{numbers};
 ghost use Rattle.trim_spec.specs.Live.{markedBy};
 
-// A number past the marks is left out.
+// Sets the mark of `number`; a number past the last mark is ignored.
 pub fn mark_number(marks: &mut [bool], number: usize)
     ensures { λ _. ⌜ now (marks .exit) ≡ set (now (marks .entry)) number true ⌝ }
 {
@@ -16,7 +16,7 @@ pub fn mark_number(marks: &mut [bool], number: usize)
     marks[number] = true;
 }
 
-// Of n 16-bit numbers.
+// Sets the marks of the first `number` 16-bit numbers in `body`.
 pub fn mark_numbers<'a, 'b>(body: &'a [u8], number: usize, marks: &'b mut [bool])
     ensures { λ _. ⌜ now (marks .exit) ≡ markedBy (now (marks .entry)) (numbers number (now (body .entry))) ⌝ }
 {
@@ -28,7 +28,7 @@ pub fn mark_numbers<'a, 'b>(body: &'a [u8], number: usize, marks: &'b mut [bool]
     }
 }
 
-// A number past the marks has none.
+// Whether `number` is marked; a number past the last mark is not.
 pub fn is_marked(marks: &[bool], number: usize) -> bool
     ensures { λ r. ⌜ r ≡ getD (now (marks .entry)) number false ⌝ }
 {

@@ -1,4 +1,4 @@
-// New numbers: what stays is counted from 1, in its old order.
+// Renumbering: what is marked gets the numbers from 1 on, in its old order.
 use crate::marks::is_marked;
 ghost use mathlib.Core.Path.{_≡_};
 ghost use mathlib.Core.Bool.{false, cond};
@@ -6,7 +6,7 @@ ghost use Prim.Native.Nat.{_+_, _≤_, _<_};
 ghost use lib.ListN.{length, getD, replicate};
 ghost use Rattle.trim_spec.specs.Live.{newNumbers};
 
-// The number behind n, if i has a mark; else n.
+// The running count `n`, one more if `i` is marked.
 fn count_mark(marks: &[bool], i: usize, n: usize) -> usize
     requires { ⌜ (i ≤ length (now marks)) × (n < i) ⌝ }
     ensures { λ r. ⌜ (r ≡ n + cond (getD (now (marks .entry)) i false) 1 0) × (r ≤ i) ⌝ }
@@ -17,7 +17,7 @@ fn count_mark(marks: &[bool], i: usize, n: usize) -> usize
     n
 }
 
-// A table of zeros is filled on one pass, with a running count.
+// Fills `table`, all zeros before, with the new number of each old one, in one pass with a running count.
 pub fn fill_numbers<'a, 'b>(marks: &'a [bool], table: &'b mut [usize])
     requires { ⌜ now table ≡ replicate (length (now marks)) 0 ⌝ }
     ensures { λ _. ⌜ now (table .exit) ≡ newNumbers (now (marks .entry)) ⌝ }

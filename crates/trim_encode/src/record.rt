@@ -1,4 +1,4 @@
-// Records by kind and place: length, kind, and the body with its formulas renewed by f and its lines by g.
+// Records by kind and index: length, kind, and the body with its formulas and lines renumbered.
 use crate::bytes::put_bytes;
 use crate::bytes::put_frame;
 use crate::claim_record::put_claim;
@@ -15,7 +15,7 @@ ghost use Rattle.image_index.specs.IndexTable.{indexOf};
 ghost use Rattle.trim_encode.specs.Overwritten.{overwritten};
 ghost use Rattle.trim_encode.specs.Records.{renewedBody, recordBytes, listBytes};
 
-// The body of a record of a kind that there may be many of, or of the header.
+// Writes a renumbered body. A header or a formula names nothing and is copied; `put_list` is for outline and obligations.
 fn put_body<'a, 'b, 'c, 'd>(
     formula_numbers: &'a [usize],
     line_numbers: &'b [usize],
@@ -43,7 +43,7 @@ fn put_body<'a, 'b, 'c, 'd>(
     put_bytes(body, out, at)
 }
 
-// The record that has n records before it.
+// Writes the record with index `number`, counted from 0, as one of kind `kind`.
 pub fn put_record<'a, 'b, 'c, 'd, 'e>(
     image: &'a [u8],
     index: &'b [usize],
@@ -69,7 +69,7 @@ pub fn put_record<'a, 'b, 'c, 'd, 'e>(
     put_frame(kind, out, at, end)
 }
 
-// A record that is a list of c numbers, renewed by one table.
+// Writes the record with index `number`, counted from 0, whose body is a list of `count` numbers, renumbered by one table.
 pub fn put_list<'a, 'b, 'c, 'd>(
     image: &'a [u8],
     index: &'b [usize],

@@ -1,4 +1,4 @@
-// The records of one kind, one behind the other: c of them, from the one on that has n records before it.
+// Records of one kind, written one after the other; indices count all records of the image from 0.
 use crate::record::put_record;
 ghost use mathlib.Core.Path.{_≡_};
 ghost use mathlib.Core.Bool.{false};
@@ -10,7 +10,7 @@ ghost use Rattle.trim_encode.specs.Overwritten.{overwritten};
 ghost use Rattle.trim_encode.specs.Pieces.{joined};
 ghost use Rattle.trim_encode.specs.Records.{recordPiece, livePiece};
 
-// The record at i, from 0.
+// Writes the record with index `first + i`.
 fn put_next<'a, 'b, 'c, 'd, 'e>(
     image: &'a [u8],
     index: &'b [usize],
@@ -45,7 +45,7 @@ fn put_next<'a, 'b, 'c, 'd, 'e>(
     )
 }
 
-// All of them.
+// Writes the records with indices `number` to `number + count - 1`.
 pub fn put_records<'a, 'b, 'c, 'd, 'e>(
     image: &'a [u8],
     index: &'b [usize],
@@ -86,7 +86,7 @@ pub fn put_records<'a, 'b, 'c, 'd, 'e>(
     next
 }
 
-// A number that has no mark is not kept.
+// Whether `number` is marked; a number past the last mark is not.
 fn is_live(marks: &[bool], number: usize) -> bool
     ensures { λ r. ⌜ r ≡ getD (now (marks .entry)) number false ⌝ }
 {
@@ -96,7 +96,7 @@ fn is_live(marks: &[bool], number: usize) -> bool
     marks[number]
 }
 
-// The record at i, if the mark of its number is set.
+// Writes the record with index `first + i`, if number `i + 1` is marked: formulas and lines count from 1.
 fn put_if_live<'a, 'b, 'c, 'd, 'e, 'f>(
     image: &'a [u8],
     index: &'b [usize],
@@ -135,7 +135,7 @@ fn put_if_live<'a, 'b, 'c, 'd, 'e, 'f>(
     at
 }
 
-// Those that are kept.
+// Writes those of the records with indices `first` to `first + count - 1` that are marked, by their numbers 1 to `count`.
 pub fn put_live<'a, 'b, 'c, 'd, 'e, 'f>(
     image: &'a [u8],
     index: &'b [usize],

@@ -1,4 +1,4 @@
-// Numbers of formulas or lines, each renewed by a table.
+// References to formulas or lines, renumbered by a table.
 use crate::bytes::put_u16;
 use limits::read::number_at;
 ghost use mathlib.Core.Path.{_≡_};
@@ -11,7 +11,7 @@ ghost use Rattle.trim_encode.specs.Overwritten.{overwritten};
 ghost use Rattle.trim_encode.specs.Pieces.{numberPiece};
 ghost use Rattle.trim_encode.specs.Renumbered.{renewed};
 
-// Every number has an answer, so that no caller need know that it is in the table.
+// The new number of `number`. A number past the table gets its last entry, so that no caller has to show that it is in the table.
 pub fn new_number(new_numbers: &[usize], number: usize) -> usize
     ensures { λ r. ⌜ r ≡ renewed (now («new_numbers» .entry)) number ⌝ }
 {
@@ -24,7 +24,7 @@ pub fn new_number(new_numbers: &[usize], number: usize) -> usize
     new_numbers[new_numbers.len() - 1]
 }
 
-// The number at an index, from 0, of n.
+// Writes the new number of the one at index `i` of the `n` numbers in `body`.
 fn put_number<'a, 'b, 'c>(
     new_numbers: &'a [usize],
     body: &'b [u8],
@@ -41,7 +41,7 @@ fn put_number<'a, 'b, 'c>(
     put_u16(new_number(new_numbers, number_at(body, n, i)), out, at)
 }
 
-// The n numbers in front of the bytes.
+// Writes the new numbers of the first `n` 16-bit numbers in `body`.
 pub fn put_numbers<'a, 'b, 'c>(
     new_numbers: &'a [usize],
     body: &'b [u8],

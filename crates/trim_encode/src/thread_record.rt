@@ -1,4 +1,4 @@
-// A thread's record, with its formulas renewed.
+// The body of a thread, with its formulas renumbered.
 use crate::bytes::put_byte;
 use crate::bytes::put_five;
 use crate::renumbered::new_number;
@@ -19,7 +19,7 @@ ghost use Rattle.trim_encode.specs.Pieces.{joined, instructionPiece};
 ghost use Rattle.trim_encode.specs.RecordParts.{secondBytes};
 ghost use Rattle.trim_encode.specs.Renumbered.{renewedHalf, renewedInstruction};
 
-// The second half of an instruction, where its operation has one.
+// Writes the second half of an instruction, where its operation has one.
 fn put_second<'a, 'b>(
     formula_numbers: &'a [usize],
     operation: u8,
@@ -68,7 +68,7 @@ fn put_instruction<'a, 'b>(
     put_second(formula_numbers, instruction.operation, h, out, next)
 }
 
-// The instruction at point p.
+// Writes the instruction at `point`.
 fn put_step<'a, 'b, 'c>(
     formula_numbers: &'a [usize],
     body: &'b [u8],
@@ -85,6 +85,7 @@ fn put_step<'a, 'b, 'c>(
     put_instruction(formula_numbers, i, out, at)
 }
 
+// Writes the instructions at points 0 to `n - 1`.
 fn put_steps<'a, 'b, 'c>(
     formula_numbers: &'a [usize],
     body: &'b [u8],
@@ -106,7 +107,7 @@ fn put_steps<'a, 'b, 'c>(
     next
 }
 
-// No points are counted as 1.
+// The number of points in a thread's body; 0 is read as 1.
 fn points_of(body: &[u8]) -> u8
     ensures { λ r. ⌜ r ≡ lastPoint (now (body .entry)) + 1 ⌝ }
 {
@@ -117,6 +118,7 @@ fn points_of(body: &[u8]) -> u8
     n
 }
 
+// Writes a thread's body: its number of points and its instructions.
 pub fn put_thread<'a, 'b, 'c>(
     formula_numbers: &'a [usize],
     body: &'b [u8],

@@ -1,4 +1,4 @@
-// An accepted image, trimmed into a buffer.
+// Trimming of an accepted image into a buffer.
 use crate::answer::Answer;
 use crate::live_formulas::mark_live_formulas;
 use crate::live_lines::mark_live_lines;
@@ -18,7 +18,7 @@ ghost use Rattle.trim_encode.specs.TrimAccepted.{Accepted};
 ghost use Rattle.trim_encode.specs.Trimmed.{trimmedBytes};
 ghost use Rattle.trim_encode.specs.Answer.{answeredBy, bufferBy};
 
-// With the marks u of the formulas and k of the lines that stay, where there is room.
+// Fills the tables of new numbers from the marks and writes the trimmed image; the buffer is long enough for it.
 fn write_numbered<'a, 'b, 'c, 'd, 'e>(
     image: &'a [u8],
     index: &'b [usize],
@@ -40,6 +40,7 @@ fn write_numbered<'a, 'b, 'c, 'd, 'e>(
     write_trimmed(image, index, sizes, &f, &g, live_formulas, live_lines, out);
 }
 
+// Writes the trimmed image and returns its length; if the buffer is too short, it stays and the code is 25.
 pub fn trim_accepted<'a, 'b, 'c>(
     image: &'a [u8],
     index: &'b [usize],

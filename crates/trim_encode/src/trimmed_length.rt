@@ -1,4 +1,4 @@
-// How long the trimmed image is: what stays keeps its length, so it is shorter by the formulas and the lines that are left out.
+// The length of the trimmed image: each record that stays keeps its length, so it is shorter by the formulas and lines that are left out.
 use crate::marks::is_marked;
 use image_header::sizes::Sizes;
 use image_index::look_up::body_of;
@@ -15,7 +15,7 @@ ghost use Rattle.trim_spec.specs.Live.{kept, used};
 ghost use Rattle.trim_spec.specs.Trim.{trim};
 ghost use Rattle.trim_encode.specs.LeftOutBytes.{leftOne, leftBehind, most, Lengths};
 
-// The bytes of the record that has i records before it, if number n has no mark. Length and kind are 4 bytes.
+// The bytes of the record with index `i` (length and kind are 4 of them) if `number` has no mark, else 0.
 fn left_one<'a, 'b, 'c>(
     image: &'a [u8],
     index: &'b [usize],
@@ -33,7 +33,7 @@ fn left_one<'a, 'b, 'c>(
     body.len() + 4
 }
 
-// Of so many records behind one, numbered from 1.
+// The bytes left out of the `count` records after the one with index `from`, which are numbered from 1.
 fn left_out<'a, 'b, 'c>(
     image: &'a [u8],
     index: &'b [usize],
@@ -54,7 +54,7 @@ fn left_out<'a, 'b, 'c>(
     r
 }
 
-// Of the formulas without one of the marks u.
+// The bytes of the formulas that are not live.
 fn left_formulas<'a, 'b, 'c>(
     image: &'a [u8],
     index: &'b [usize],
@@ -67,7 +67,7 @@ fn left_formulas<'a, 'b, 'c>(
     left_out(image, index, 0, sizes.formulas as usize, live_formulas)
 }
 
-// Of the lines without one of the marks k.
+// The bytes of the lines that are not live.
 fn left_lines<'a, 'b, 'c>(
     image: &'a [u8],
     index: &'b [usize],
@@ -88,7 +88,7 @@ fn left_lines<'a, 'b, 'c>(
     )
 }
 
-// With the marks k of the lines and u of the formulas that stay.
+// The length of the trimmed image, by the marks of live lines and formulas.
 pub fn trimmed_length<'a, 'b, 'c, 'd>(
     image: &'a [u8],
     index: &'b [usize],

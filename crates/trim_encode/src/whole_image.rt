@@ -1,4 +1,4 @@
-// The whole trimmed image: the formulas and the lines whose marks are set, everything renumbered.
+// The whole trimmed image: its live formulas and lines, everything renumbered.
 use crate::image_parts::put_claims;
 use crate::image_parts::put_formulas;
 use crate::image_parts::put_lines;
@@ -22,7 +22,7 @@ ghost use Rattle.trim_spec.specs.Trim.{trimmedBy};
 ghost use Rattle.trim_encode.specs.Overwritten.{overwritten};
 ghost use Rattle.trim_encode.specs.WholeImage.{programBytes, certificateBytes, behindBytes, wholeBytes};
 
-// Header, formulas and threads.
+// Writes header, formulas and threads.
 fn put_program<'a, 'b, 'c, 'd, 'e, 'f>(
     image: &'a [u8],
     index: &'b [usize],
@@ -74,7 +74,7 @@ fn put_program<'a, 'b, 'c, 'd, 'e, 'f>(
     )
 }
 
-// Outline, lines and obligations.
+// Writes outline, lines and obligations.
 fn put_certificate<'a, 'b, 'c, 'd, 'e, 'f>(
     image: &'a [u8],
     index: &'b [usize],
@@ -109,7 +109,7 @@ fn put_certificate<'a, 'b, 'c, 'd, 'e, 'f>(
     put_obligations(image, index, sizes, line_numbers, out, obligations)
 }
 
-// What comes behind the program.
+// Writes everything behind the threads: outline, lines, obligations and claims.
 fn put_behind<'a, 'b, 'c, 'd, 'e, 'f>(
     image: &'a [u8],
     index: &'b [usize],
@@ -151,6 +151,7 @@ fn put_behind<'a, 'b, 'c, 'd, 'e, 'f>(
     )
 }
 
+// Writes the whole image at `at`.
 fn put_whole<'a, 'b, 'c, 'd, 'e, 'f, 'g>(
     image: &'a [u8],
     index: &'b [usize],
@@ -195,8 +196,8 @@ fn put_whole<'a, 'b, 'c, 'd, 'e, 'f, 'g>(
     )
 }
 
-// u and k are the marks of the formulas and lines that stay, f and g the tables of their new numbers. Answers the image's length; the
-// bytes behind it stay.
+// Writes the trimmed image to the front of `out` and returns its length; the bytes behind it stay. `formula_numbers` and `line_numbers`
+// are the new numbers that the marks `live_formulas` and `live_lines` give.
 pub fn write_trimmed<'a, 'b, 'c, 'd, 'e, 'f, 'g>(
     image: &'a [u8],
     index: &'b [usize],

@@ -1,4 +1,4 @@
--- Marks that leave out nothing that is named: of formulas, of lines.
+-- Marks closed under reference: what is named by something that stays is marked.
 use mathlib.Core.Path.{_≡_}
 use mathlib.Core.Bool.{Bool, true, false}
 use mathlib.Core.List.{List, []}
@@ -9,13 +9,15 @@ use Rattle.image_header.specs.Thread.{nothing}
 use Rattle.trim_spec.specs.Document.{Document}
 use Rattle.trim_spec.specs.Canonical.{noLine, noClaim}
 
--- a number has a mark, or is 0 and names nothing
+-- number n has a mark, or is 0 and names nothing
 abbrev pub Stays : List Bool → ℕ → Type 0
 Stays m n = (n ≡ 0 → ⊥) → getD m n false ≡ true
 
+-- u marks formulas and k lines: all that the program, the outline, obligations, claims and marked lines name is marked
 pub record Closed (u k : List Bool) (D : Document) : Type 0 where
-  -- there is a mark for each
+  -- there is a mark for every formula, and one for 0
   pub formulas : length (D .formulas) < length u
+  -- there is a mark for every line, and one for 0
   pub lines : length (D .lines) < length k
   pub instruction : (t p : ℕ) → t < length (D .threads) → p < length (getD (D .threads) t [])
       → Stays u (getD (getD (D .threads) t []) p nothing .formula)

@@ -3,7 +3,7 @@ use mathlib.Core.List.{List}
 use Prim.Native.Nat.{ℕ}
 use Rattle.image_header.specs.declared.instruction.Instruction.{Instruction}
 
--- a line of the certificate
+-- a line of the certificate; left and right are numbers of formulas, premises numbers of lines
 pub record LineRecord : Type 0 where
   pub rule : ℕ
   pub thread : ℕ
@@ -12,6 +12,7 @@ pub record LineRecord : Type 0 where
   pub right : ℕ
   pub premises : List ℕ
 
+-- a claim, "two threads are never at named points together", and the line that it rests on
 pub record ClaimRecord : Type 0 where
   pub thread : ℕ
   pub point : ℕ
@@ -19,16 +20,17 @@ pub record ClaimRecord : Type 0 where
   pub otherPoint : ℕ
   pub line : ℕ
 
+-- the records of an image in the order of their kinds
 pub record Document : Type 0 where
-  -- the header's body
+  -- the body of the header record
   pub header : List ℕ
-  -- the formulas' bodies
+  -- the bodies of the formula records
   pub formulas : List (List ℕ)
-  -- each thread's instructions; it has one point more
+  -- the instructions of each thread; a thread has one point more than instructions
   pub threads : List (List Instruction)
-  -- a formula per point, threads in order
+  -- "a formula per point, threads in order"
   pub outline : List ℕ
   pub lines : List LineRecord
-  -- a line per obligation, 0 for none
+  -- "a line number per obligation, 0 for none"
   pub obligations : List ℕ
   pub claims : List ClaimRecord

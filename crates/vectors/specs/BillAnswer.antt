@@ -1,4 +1,4 @@
--- Stored bills, and answers compared with them.
+-- Stored bills, and answers compared with them; s is what is stored.
 use mathlib.Core.Bool.{Bool, _&&_, cond}
 use mathlib.Core.List.{List, [], _∷_}
 use Prim.Native.Nat.{ℕ, min}
@@ -18,20 +18,23 @@ tariffAt s = tariffOf (le16 (drop 0 s)) (le16 (drop 2 s)) (le16 (drop 4 s)) (le1
 unfoldable pub billedAt : List ℕ → ℕ
 billedAt s = long (drop 10 s)
 
--- how many numbers there are to lend, and what stands in them
+-- how many numbers the buffer has
 abbrev pub most : ℕ
 most = 24
 
+-- every number of the buffer before the call
 abbrev pub blank : ℕ
 blank = 2863311530
 
+-- the buffer before the call
 unfoldable pub room : List ℕ
 room = replicate most blank
 
--- how many are lent
+-- how many numbers of the buffer are passed
 unfoldable pub lentAt : List ℕ → ℕ
 lentAt s = min (long (drop 14 s)) most
 
+-- the code
 unfoldable pub codeAt : List ℕ → ℕ
 codeAt s = le16 (drop 18 s)
 
@@ -39,10 +42,10 @@ codeAt s = le16 (drop 18 s)
 unfoldable pub numbersAt : List ℕ → List ℕ
 numbersAt s = long (drop 20 s) ∷ long (drop 24 s) ∷ long (drop 28 s) ∷ long (drop 32 s) ∷ long (drop 36 s) ∷ long (drop 40 s) ∷ []
 
--- with code 1 nothing is written
+-- the numbers written; with code 1 there are none
 unfoldable pub writtenAt : ℕ → List ℕ → List ℕ
 writtenAt code s = cond (eqb code 1) [] (numbersAt s)
 
--- in the code, and in all of the room afterwards
+-- the code and the whole buffer afterwards are as stored
 unfoldable pub sameAnswer : ℕ → List ℕ → List ℕ → Bool
 sameAnswer code after s = eqb code (codeAt s) && holds after (writtenAt code s) blank

@@ -1,4 +1,4 @@
--- The tally of cases, judged one after the other.
+-- The counters of cases that are judged one after the other.
 use mathlib.Core.Path.{_≡_}
 use mathlib.Core.Bool.{Bool, cond}
 use mathlib.Core.List.{List, [], _∷_}
@@ -12,17 +12,17 @@ pub record Case : Type 0 where
   pub kind : ℕ
   pub same : Bool
 
--- of cases with the last first
+-- the counters of these cases, the last of which is first in the list
 unfoldable pub tallied : List Case → Counters
 tallied [] = noCase
 tallied (c ∷ l) = withCase (tallied l) (c .kind) (c .same)
 
--- how many of them differ
+-- how many of the cases differ
 unfoldable pub differing : List Case → ℕ
 differing [] = 0
 differing (c ∷ l) = cond (c .same) (differing l) (suc (differing l))
 
--- a tally that comes from cases alone, so few that no count has wrapped
+-- counters that come from cases alone, too few for a count to wrap
 pub record FromCases (t : Counters) : Type 0 where
   pub judged : List Case
   pub tells : t ≡ tallied judged

@@ -13,6 +13,7 @@ kinds-limit = 64
 abbrev pub more : ℕ → ℕ
 more n = (n + 1) % 2 ^ 64
 
+-- the counters before the first case
 unfoldable pub noCase : Counters
 noCase = record { cases = 0; kinds = replicate kinds-limit 0; differ = 0; first = 0 }
 
@@ -35,5 +36,6 @@ withDifference t = record {
   first = cond (eqb (t .differ) 0) (t .cases) (t .first);
 }
 
+-- one case more: the kind of its answer, and whether that is the stored one
 unfoldable pub withCase : Counters → ℕ → Bool → Counters
 withCase t k same = cond same (withKind t k) (withDifference (withKind t k))

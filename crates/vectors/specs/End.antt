@@ -9,7 +9,7 @@ use Rattle.vectors.specs.declared.end.End.the-variants.{Whole, Cut, Unre
 unfoldable pub endAfter : ℕ → End
 endAfter n = cond (eqb n 0) Whole Cut
 
--- a file with so many cases before this end has cases, and all of them are judged
+-- a file with n cases before this end has cases, and all of them are judged
 unfoldable pub isWhole : End → ℕ → Bool
 isWhole Whole n = not (eqb n 0)
 isWhole Cut n = false

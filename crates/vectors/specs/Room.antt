@@ -1,11 +1,11 @@
--- Room that was lent, compared with what it should hold.
+-- A buffer compared with what it should hold after a call.
 use mathlib.Core.Bool.{Bool, true, false, _&&_}
 use mathlib.Core.List.{List, [], _∷_}
 use Prim.Native.Nat.{ℕ}
 use lib.Dec.{eqb}
 use lib.ListN.{getD, drop}
 
--- these in front, and behind them x everywhere
+-- the buffer holds `front`, and behind it x everywhere
 unfoldable pub holds : List ℕ → List ℕ → ℕ → Bool
 holds [] [] x = true
 holds [] (f ∷ front) x = false

@@ -1,4 +1,4 @@
--- Images trimmed before, and answers compared with them.
+-- Stored trimmed images, and answers compared with them; s is what is stored.
 use mathlib.Core.Bool.{Bool, _&&_}
 use mathlib.Core.List.{List}
 use Prim.Native.Nat.{ℕ, _+_, min}
@@ -9,23 +9,26 @@ use Rattle.limits.specs.Numbers.{le16}
 use Rattle.vectors.specs.Number.{long}
 use Rattle.vectors.specs.Room.{holds}
 
--- how many bytes there are to lend, and what stands in them
+-- how many bytes the buffer has
 abbrev pub most : ℕ
 most = imageBytes + 1
 
+-- every byte of the buffer before the call
 abbrev pub blank : ℕ
 blank = 170
 
+-- the buffer before the call
 unfoldable pub room : List ℕ
 room = replicate most blank
 
--- how many are lent
+-- how many bytes of the buffer are passed
 unfoldable pub lentAt : List ℕ → ℕ
 lentAt s = min (long (drop 0 s)) most
 
+-- the code
 unfoldable pub codeAt : List ℕ → ℕ
 codeAt s = le16 (drop 4 s)
 
--- in the code, in how many bytes are written, and in all of the room afterwards; with an error no byte is stored
+-- the code, the length written and the whole buffer afterwards are as stored; with an error `trimmed` is empty
 unfoldable pub sameAnswer : ℕ → ℕ → List ℕ → List ℕ → List ℕ → Bool
 sameAnswer code written after s trimmed = eqb code (codeAt s) && (eqb written (length trimmed) && holds after trimmed blank)

@@ -1,4 +1,4 @@
--- What is stored of a turn at a service.
+-- A stored turn at a service; s is what is stored.
 use mathlib.Core.Bool.{cond}
 use mathlib.Core.List.{List}
 use Prim.Native.Nat.{ℕ, min}
@@ -19,13 +19,15 @@ turnKindBy n =
     (cond (eqb n 2) Check
     (cond (eqb n 3) Trim (cond (eqb n 4) Bill (cond (eqb n 5) Handover (cond (eqb n 6) Replay (cond (eqb n 7) ReplayAcross Other)))))))
 
+-- what the turn does
 unfoldable pub turnKindOf : List ℕ → TurnKind
 turnKindOf s = turnKindBy (le16 (drop 0 s))
 
+-- the caller of the turn
 unfoldable pub callerAt : List ℕ → ℕ
 callerAt s = long (drop 2 s)
 
--- from the lengths of the parts on that are read
+-- what is stored from the lengths of the body's parts on
 unfoldable pub lengthsAt : List ℕ → List ℕ
 lengthsAt s = drop 6 s
 
@@ -33,26 +35,31 @@ lengthsAt s = drop 6 s
 unfoldable pub setAt : List ℕ → ℕ
 setAt s = long (drop 30 s)
 
--- how many bytes and numbers there are to lend, and what stands in them
+-- how many bytes the buffer of bytes has
 abbrev pub mostBytes : ℕ
 mostBytes = 64
 
+-- how many numbers the buffer of numbers has
 abbrev pub mostNumbers : ℕ
 mostNumbers = 24
 
+-- every byte of the buffer before the call
 abbrev pub blank : ℕ
 blank = 170
 
+-- the buffer of bytes before the call
 unfoldable pub bytes : List ℕ
 bytes = replicate mostBytes blank
 
+-- the buffer of numbers before the call
 unfoldable pub numbers : List ℕ
 numbers = replicate mostNumbers 2863311530
 
--- how many of them are lent
+-- how many bytes are passed
 unfoldable pub bytesAt : List ℕ → ℕ
 bytesAt s = min (long (drop 26 s)) mostBytes
 
+-- how many numbers are passed
 unfoldable pub numbersAt : List ℕ → ℕ
 numbersAt s = min (long (drop 30 s)) mostNumbers
 

@@ -8,24 +8,27 @@ use verdict_record::output::Output;
 ghost use mathlib.Core.Path.{_≡_};
 ghost use Rattle.vectors.specs.BillAnswer.{tariffAt, billedAt, lentAt, numbersAt, sameAnswer};
 
+// The layout of a stored bill.
 pub struct Stored;
 
 impl Stored {
-    // Five prices of 16 bits; the number billed before and the numbers lent, 32 bits each; the code, 16 bits; the answer, six numbers
-    // of 32 bits.
+    // Five prices of 16 bits; the number billed before and how many numbers of the buffer are passed, 32 bits each; the code, 16 bits; the
+    // answer, six numbers of 32 bits.
     pub const BYTES: usize = 44;
 }
 
+// The buffer for a bill's numbers, of which a case passes the front.
 pub struct Room;
 
 impl Room {
-    // No case lends more.
+    // No case passes more.
     pub const NUMBERS: usize = 24;
 
-    // What stands in the room before it is lent.
+    // Every number of the buffer before the call.
     pub const BLANK: u32 = 2863311530;
 }
 
+// The stored tariff.
 pub fn tariff_at(bytes: &[u8]) -> Tariff
     ensures { λ r. ⌜ r ≡ tariffAt (now (bytes .entry)) ⌝ }
 {
@@ -38,12 +41,14 @@ pub fn tariff_at(bytes: &[u8]) -> Tariff
     }
 }
 
+// The stored number of images billed before.
 pub fn billed_at(bytes: &[u8]) -> u32
     ensures { λ r. ⌜ r ≡ billedAt (now (bytes .entry)) ⌝ }
 {
     u32_at(bytes, 10) as u32
 }
 
+// How many numbers of the buffer the case passes.
 pub fn lent_at(bytes: &[u8]) -> usize
     ensures { λ r. ⌜ r ≡ lentAt (now (bytes .entry)) ⌝ }
 {
@@ -54,6 +59,7 @@ pub fn lent_at(bytes: &[u8]) -> usize
     n
 }
 
+// The stored answer.
 fn numbers_at(bytes: &[u8]) -> Numbers
     ensures { λ r. ⌜ r .at ≡ numbersAt (now (bytes .entry)) ⌝ }
 {
@@ -69,7 +75,7 @@ fn numbers_at(bytes: &[u8]) -> Numbers
     }
 }
 
-// The code, and all of the room.
+// Whether the code and the whole buffer are as stored; with code 1 nothing is written.
 pub fn same_answer<'a, 'b>(code: u16, room: &'a [u32], bytes: &'b [u8]) -> bool
     ensures { λ r. ⌜ r ≡ sameAnswer code (now (room .entry)) (now (bytes .entry)) ⌝ }
 {

@@ -1,4 +1,4 @@
-// Stored answers, code and numbers, and answers compared with them.
+// Stored answers of replays, code and numbers, and answers compared with them.
 use crate::number::u32_at;
 use crate::room::holds_bytes;
 use limits::read::u16_at;
@@ -11,33 +11,38 @@ ghost use lib.ListN.{length, getD};
 ghost use Rattle.vectors.specs.Room.{holds};
 ghost use Rattle.vectors.specs.CallAnswer.{blankTable, blankNumbers, empty, lentAt, toldAt, sameAnswer};
 
+// The table of writes and the buffer for the numbers, of which a case passes the front.
 pub struct Room;
 
 impl Room {
-    // No case lends more.
+    // No case passes more bytes of table.
     pub const BYTES: usize = 736;
 
+    // No case passes more numbers.
     pub const NUMBERS: usize = 32;
 
-    // What stands in a table and in the place of numbers before they are lent.
+    // Every byte of the table before the call.
     pub const BLANK: u8 = 170;
 
+    // Every number of the buffer before the call.
     pub const EMPTY: usize = 2863311530;
 }
 
+// The table before the call.
 pub fn blank_table() -> [u8; Room::BYTES]
     ensures { λ r. ⌜ r ≡ blankTable ⌝ }
 {
     [Room::BLANK; Room::BYTES]
 }
 
+// The buffer for the numbers before the call.
 pub fn blank_numbers() -> [usize; Room::NUMBERS]
     ensures { λ r. ⌜ r ≡ blankNumbers ⌝ }
 {
     [Room::EMPTY; Room::NUMBERS]
 }
 
-// How many bytes or numbers are lent.
+// The number stored at `at`, at most `most`: how many bytes or numbers the case passes.
 pub fn lent_at(bytes: &[u8], at: usize, most: usize) -> usize
     ensures { λ r. ⌜ r ≡ lentAt (now (bytes .entry)) at most ⌝ }
 {
@@ -48,7 +53,7 @@ pub fn lent_at(bytes: &[u8], at: usize, most: usize) -> usize
     n
 }
 
-// What belongs at a place of the numbers.
+// The number that belongs at index `i` of the buffer; with code 1 nothing is written.
 fn told_number(code: u16, bytes: &[u8], i: usize) -> usize
     ensures { λ r. ⌜ r ≡ getD (toldAt code (now (bytes .entry))) i empty ⌝ }
 {
@@ -83,7 +88,7 @@ fn same_numbers<'a, 'b>(code: u16, room: &'a [usize], bytes: &'b [u8]) -> bool
     true
 }
 
-// The code, all of the table and all of the numbers.
+// Whether the code, the whole table and all of the numbers are as stored; `entries` is the front of the table.
 pub fn same_answer<'a, 'b, 'c, 'd>(
     code: u16,
     table: &'a [u8],

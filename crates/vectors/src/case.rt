@@ -13,13 +13,14 @@ pub enum Next {
     Over(End),
 }
 
+// The length of a body, in front of it.
 struct Size;
 
 impl Size {
     pub const BYTES: usize = 4;
 }
 
-// What the part that was read last says of a case whose body has n bytes.
+// The next case, whose body has `n` bytes, by how the part that was read last was filled.
 fn next_by(part: Filled, n: usize) -> Next
     ensures { λ r. ⌜ r ≡ nextBy part n ⌝ }
 {
@@ -30,7 +31,7 @@ fn next_by(part: Filled, n: usize) -> Next
     }
 }
 
-// A body of n bytes to the start of `space`, and its tail.
+// Reads a body of `n` bytes to the start of `space`, and its tail.
 fn read_body<'a, 'b>(fd: i32, n: usize, space: &'a mut [u8], tail: &'b mut [u8]) -> Next
     ensures { λ r. ⌜ Fits r (now (space .exit)) ⌝ }
 {
@@ -44,7 +45,7 @@ fn read_body<'a, 'b>(fd: i32, n: usize, space: &'a mut [u8], tail: &'b mut [u8])
     next_by(fill(fd, tail), n)
 }
 
-// The next case: its body to the start of `space`, its tail to all of `tail`.
+// Reads the next case: its body to the start of `space`, its tail to all of `tail`.
 pub fn read_case<'a, 'b>(fd: i32, space: &'a mut [u8], tail: &'b mut [u8]) -> Next
     ensures { λ r. ⌜ Fits r (now (space .exit)) ⌝ }
 {

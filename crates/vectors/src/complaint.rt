@@ -1,4 +1,4 @@
-// What is wrong with a file of cases, to standard error.
+// Messages about a file of cases, to standard error.
 use crate::counters::Judged;
 use crate::counters::more_than;
 use crate::end::End;
@@ -33,7 +33,7 @@ fn complain_of_end(path: &[u8], end: End, cases: u64) {
     }
 }
 
-// Whether a file is judged whole. If not, that is said on standard error.
+// Whether a file is judged whole; if not, standard error says why.
 pub fn passes(path: &[u8], end: End, cases: u64) -> bool
     ensures { λ r. ⌜ r ≡ isWhole end cases ⌝ }
 {

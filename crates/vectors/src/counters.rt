@@ -3,6 +3,7 @@ use crate::end::End;
 ghost use mathlib.Core.Path.{_≡_};
 ghost use Rattle.vectors.specs.Counters.{more, noCase, withKind, withDifference, withCase};
 
+// What is counted over the cases of a file.
 pub struct Counters {
     pub cases: u64,
     // How many answers there are of each kind.
@@ -12,6 +13,7 @@ pub struct Counters {
     pub first: u64,
 }
 
+// The kind of an answer is a number, such as its code.
 pub struct Kind;
 
 impl Kind {
@@ -19,24 +21,25 @@ impl Kind {
     pub const LIMIT: usize = 64;
 }
 
-// The whole cases before the end. (An enum holds no array, so the tally stands beside it.)
+// The counters of the whole cases before the end. An enum holds no array, so the counters are beside it.
 pub struct Judged {
     pub end: End,
     pub tally: Counters,
 }
 
 impl Judged {
-    // A proved loop has to end, and nothing says that a file does.
+    // No more cases are judged: a proved loop has to end, and nothing says that a file does.
     pub const MOST: u64 = 100000;
 }
 
-// One more. No file has so many cases that this wraps; a plain sum would want a proof of that.
+// One more than `n`. No file has enough cases for this to wrap; a plain sum would need a proof of that.
 pub fn more_than(n: u64) -> u64
     ensures { λ r. ⌜ r ≡ more n ⌝ }
 {
     std::num::wrapping_add_u64(n, 1)
 }
 
+// The counters before the first case.
 pub fn no_case() -> Counters
     ensures { λ r. ⌜ r ≡ noCase ⌝ }
 {
@@ -48,6 +51,7 @@ pub fn no_case() -> Counters
     }
 }
 
+// The counters with one case more, whose answer is of this kind.
 fn with_kind(counters: Counters, kind: usize) -> Counters
     ensures { λ r. ⌜ r ≡ withKind counters kind ⌝ }
 {
@@ -60,7 +64,7 @@ fn with_kind(counters: Counters, kind: usize) -> Counters
     next
 }
 
-// The case counted last differs.
+// The counters, if the case counted last differs.
 fn with_difference(counters: Counters) -> Counters
     ensures { λ r. ⌜ r ≡ withDifference counters ⌝ }
 {
@@ -73,7 +77,7 @@ fn with_difference(counters: Counters) -> Counters
     next
 }
 
-// The tally with one case more: the kind of its answer, and whether that is the stored answer.
+// The counters with one case more: the kind of its answer, and whether that is the stored answer.
 pub fn with_case(counters: Counters, kind: usize, same: bool) -> Counters
     ensures { λ r. ⌜ r ≡ withCase counters kind same ⌝ }
 {

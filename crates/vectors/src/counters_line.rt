@@ -1,15 +1,15 @@
-// A tally to standard output.
+// Counters, written to standard output.
 use crate::counters::Counters;
 use crate::counters::Kind;
 use libc::STDOUT_FILENO;
 
-// A number and what it counts.
+// Writes a number and what it counts.
 pub fn write_count(n: u64, what: &[u8]) {
     io::print_decimal(STDOUT_FILENO, n);
     io::write_all(STDOUT_FILENO, what);
 }
 
-// How many cases differ, which is the first, and a newline.
+// Writes how many cases differ, which is the first, and a newline.
 pub fn write_differences(counters: Counters) {
     write_count(counters.differ, b" differ");
     if counters.differ != 0 {
@@ -23,7 +23,7 @@ fn write_first(number: u64) {
     io::print_decimal(STDOUT_FILENO, number);
 }
 
-// How many answers have a code, if any has.
+// Writes how many answers have a code, if any has.
 fn write_code(n: u64, code: usize) {
     if n == 0 {
         return;
@@ -39,7 +39,7 @@ fn write_codes(counters: Counters) {
     }
 }
 
-// The line for a file whose answers are counted by their codes.
+// Writes the line for a file whose answers are counted by their codes.
 pub fn write_line(path: &[u8], counters: Counters) {
     io::write_all(STDOUT_FILENO, path);
     io::write_all(STDOUT_FILENO, b": ");

@@ -2,20 +2,21 @@
 ghost use mathlib.Core.Path.{_≡_};
 ghost use Rattle.vectors.specs.End.{endAfter, isWhole};
 
+// How the reading of cases ended.
 pub enum End {
-    // Behind the last case.
+    // The file ends behind its last case.
     Whole,
-    // Within a case.
+    // The file ends within a case.
     Cut,
-    // At a read that failed.
+    // A read failed.
     Unread,
-    // At a case that is longer than the space for it.
+    // A case is longer than the space for it.
     Large,
-    // At the most cases that are judged, and there are more.
+    // There are more cases than are judged.
     Many,
 }
 
-// The end of a file, so many bytes into a case.
+// The end of a file, `n` bytes into a case.
 pub fn end_after(n: usize) -> End
     ensures { λ r. ⌜ r ≡ endAfter n ⌝ }
 {
@@ -25,7 +26,7 @@ pub fn end_after(n: usize) -> End
     End::Cut
 }
 
-// Whether a file has cases, so many before this end, and all of them are judged.
+// Whether a file has cases, `cases` of them before this end, and all are judged.
 pub fn is_whole(end: End, cases: u64) -> bool
     ensures { λ r. ⌜ r ≡ isWhole end cases ⌝ }
 {

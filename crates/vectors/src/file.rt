@@ -1,13 +1,13 @@
 // Files of cases, named by the arguments.
 ghost use Rattle.vectors.specs.File.{Named};
 
-// A file that is open for reading, with its name at the start of a buffer; or none, which standard error says.
+// A file that is open for reading, with its name at the start of a buffer; or none, and standard error says why.
 pub enum File {
     Open { fd: i32, name: usize },
     Missing,
 }
 
-// The file that an argument names. Its name goes to the start of `path`.
+// Opens the file that the argument `number` names. Its name goes to the start of `path`.
 pub fn open_argument(number: usize, path: &mut [u8]) -> File
     ensures { λ r. ⌜ Named r (now (path .exit)) ⌝ }
 {

@@ -5,14 +5,15 @@ ghost use Prim.Native.Nat.{_<_, _^_};
 ghost use lib.ListN.{drop};
 ghost use Rattle.vectors.specs.Number.{long};
 
+// Half of a 32-bit number.
 struct Half;
 
 impl Half {
-    // How many numbers a half has.
+    // How many values a half has.
     pub const NUMBERS: usize = 65536;
 }
 
-// The 32-bit number at a position: its low half, then its high half.
+// The 32-bit number at a position, its low half first.
 pub fn u32_at(bytes: &[u8], at: usize) -> usize
     ensures { λ r. ⌜ (r ≡ long (drop at (now (bytes .entry)))) × (r < 2 ^ 32) ⌝ }
 {

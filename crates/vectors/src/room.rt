@@ -1,11 +1,11 @@
-// Room that was lent, compared with what it should hold: something written in front, and behind it what was there, which is
-// the same everywhere.
+// A buffer compared with what it should hold after a call: `front`, and behind it `rest` everywhere, as before the call.
 ghost use mathlib.Core.Path.{_≡_};
 ghost use Prim.Native.Nat.{_<_};
 ghost use lib.Dec.{eqb};
 ghost use lib.ListN.{getD, length};
 ghost use Rattle.vectors.specs.Room.{holds};
 
+// Byte `i` of `front`, or `rest` behind its end.
 fn byte_or(front: &[u8], i: usize, rest: u8) -> u8
     ensures { λ r. ⌜ r ≡ getD (now (front .entry)) i rest ⌝ }
 {
@@ -22,6 +22,7 @@ fn same_byte<'a, 'b>(room: &'a [u8], front: &'b [u8], i: usize, rest: u8) -> boo
     room[i] == byte_or(front, i, rest)
 }
 
+// Whether a buffer of bytes holds `front`, and behind it `rest` everywhere.
 pub fn holds_bytes<'a, 'b>(room: &'a [u8], front: &'b [u8], rest: u8) -> bool
     ensures { λ r. ⌜ r ≡ holds (now (room .entry)) (now (front .entry)) rest ⌝ }
 {
@@ -39,6 +40,7 @@ pub fn holds_bytes<'a, 'b>(room: &'a [u8], front: &'b [u8], rest: u8) -> bool
     true
 }
 
+// Number `i` of `front`, or `rest` behind its end.
 fn number_or(front: &[u32], i: usize, rest: u32) -> u32
     ensures { λ r. ⌜ r ≡ getD (now (front .entry)) i rest ⌝ }
 {
@@ -55,6 +57,7 @@ fn same_number<'a, 'b>(room: &'a [u32], front: &'b [u32], i: usize, rest: u32) -
     room[i] == number_or(front, i, rest)
 }
 
+// Whether a buffer of numbers holds `front`, and behind it `rest` everywhere.
 pub fn holds_numbers<'a, 'b>(room: &'a [u32], front: &'b [u32], rest: u32) -> bool
     ensures { λ r. ⌜ r ≡ holds (now (room .entry)) (now (front .entry)) rest ⌝ }
 {

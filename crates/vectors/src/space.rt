@@ -4,6 +4,7 @@ ghost use mathlib.Core.Path.{_≡_};
 ghost use lib.ListN.{length};
 ghost use Rattle.vectors.specs.Space.{spaceBytes};
 
+// The size of the space.
 pub struct Space;
 
 impl Space {
@@ -11,6 +12,7 @@ impl Space {
     pub const BYTES: usize = 2 * (Limits::IMAGE_BYTES + 1);
 }
 
+// The space, filled with zeros.
 pub fn space_for_body() -> [u8; Space::BYTES]
     ensures { λ r. ⌜ spaceBytes ≡ length r ⌝ }
 {

@@ -1,4 +1,4 @@
-// Images trimmed before, and answers compared with them.
+// Stored trimmed images, and answers compared with them.
 use crate::number::u32_at;
 use crate::room::holds_bytes;
 use limits::Limits;
@@ -6,23 +6,26 @@ use limits::read::u16_at;
 ghost use mathlib.Core.Path.{_≡_};
 ghost use Rattle.vectors.specs.TrimAnswer.{lentAt, sameAnswer};
 
+// The layout of a stored answer.
 pub struct Stored;
 
 impl Stored {
-    // How many bytes are lent, 32 bits; the code, 16 bits.
+    // How many bytes of the buffer are passed, 32 bits; the code, 16 bits.
     pub const BYTES: usize = 6;
 }
 
+// The buffer for the trimmed image, of which a case passes the front.
 pub struct Room;
 
 impl Room {
-    // No case lends more: a byte more than an image may have.
+    // No case passes more: a byte more than an image may have.
     pub const BYTES: usize = Limits::IMAGE_BYTES + 1;
 
-    // What stands in the room before it is lent.
+    // Every byte of the buffer before the call.
     pub const BLANK: u8 = 170;
 }
 
+// How many bytes of the buffer the case passes.
 pub fn lent_at(bytes: &[u8]) -> usize
     ensures { λ r. ⌜ r ≡ lentAt (now (bytes .entry)) ⌝ }
 {
@@ -33,7 +36,7 @@ pub fn lent_at(bytes: &[u8]) -> usize
     n
 }
 
-// The code, how many bytes are written, and all of the room.
+// Whether the code, the length written and the whole buffer are as stored; with an error `trimmed` is empty.
 pub fn same_answer<'a, 'b, 'c>(
     code: u16,
     written: usize,

@@ -1,4 +1,4 @@
-// What is stored of a turn at a service: what is done and by whom, what is lent, and what is left.
+// A stored turn at a service: what is done and by whom, what is passed, and what is left.
 use crate::number::u32_at;
 use bill_spec::tariff::Tariff;
 use limits::read::rest;
@@ -6,30 +6,35 @@ use limits::read::u16_at;
 ghost use mathlib.Core.Path.{_≡_};
 ghost use Rattle.vectors.specs.Turn.{turnKindOf, callerAt, lengthsAt, setAt, bytesAt, numbersAt, tariffAt};
 
+// The layout of a stored turn.
 pub struct Stored;
 
 impl Stored {
-    // `bench/README.md` says what stands where.
+    // `bench/README.md` has the layout.
     pub const BYTES: usize = 274;
 }
 
+// The buffers of a call, of which a turn passes the front.
 pub struct Room;
 
 impl Room {
-    // No turn lends more, and so much is compared.
+    // No turn passes more bytes, and all of them are compared.
     pub const BYTES: usize = 64;
 
+    // No turn passes more numbers, and all of them are compared.
     pub const NUMBERS: usize = 24;
 
-    // What stands in the room before it is lent.
+    // Every byte of the buffer before the call.
     pub const BLANK: u8 = 170;
 
+    // Every 32-bit number of the buffer before the call.
     pub const BLANK_NUMBER: u32 = 2863311530;
 
+    // Every 64-bit number of the buffer before the call.
     pub const BLANK_WIDE: usize = 2863311530;
 }
 
-// What is done: the service is opened, a number is set by the host, or a call is made.
+// What is done: the service is opened, the host sets a caller's number, or a call is made; Other is none of these.
 pub enum TurnKind {
     Open,
     Set,
@@ -42,7 +47,7 @@ pub enum TurnKind {
     Other,
 }
 
-// What turns are counted by.
+// What turns are counted by: the number of each kind.
 pub struct Number;
 
 impl Number {
@@ -65,6 +70,7 @@ impl Number {
     pub const OTHER: usize = 8;
 }
 
+// What the turn does.
 pub fn turn_kind_at(bytes: &[u8]) -> TurnKind
     ensures { λ r. ⌜ r ≡ turnKindOf (now (bytes .entry)) ⌝ }
 {
@@ -81,13 +87,14 @@ pub fn turn_kind_at(bytes: &[u8]) -> TurnKind
     }
 }
 
+// The caller of the turn.
 pub fn caller_at(bytes: &[u8]) -> usize
     ensures { λ r. ⌜ r ≡ callerAt (now (bytes .entry)) ⌝ }
 {
     u32_at(bytes, 2)
 }
 
-// From the lengths of the parts on that are read.
+// The stored bytes from the lengths of the body's parts on.
 pub fn lengths_at(bytes: &[u8]) -> &[u8]
     ensures { λ r. ⌜ now r ≡ lengthsAt (now (bytes .entry)) ⌝ }
 {
@@ -101,7 +108,7 @@ pub fn set_at(bytes: &[u8]) -> u32
     u32_at(bytes, 30) as u32
 }
 
-// How many bytes are lent.
+// How many bytes of the buffer the turn passes.
 pub fn bytes_at(bytes: &[u8]) -> usize
     ensures { λ r. ⌜ r ≡ bytesAt (now (bytes .entry)) ⌝ }
 {
@@ -112,7 +119,7 @@ pub fn bytes_at(bytes: &[u8]) -> usize
     n
 }
 
-// How many numbers are lent.
+// How many numbers of the buffer the turn passes.
 pub fn numbers_at(bytes: &[u8]) -> usize
     ensures { λ r. ⌜ r ≡ numbersAt (now (bytes .entry)) ⌝ }
 {
@@ -123,6 +130,7 @@ pub fn numbers_at(bytes: &[u8]) -> usize
     n
 }
 
+// The tariff of the turn.
 pub fn tariff_at(bytes: &[u8]) -> Tariff
     ensures { λ r. ⌜ r ≡ tariffAt (now (bytes .entry)) ⌝ }
 {

@@ -10,7 +10,7 @@ ghost use Prim.Native.Nat.{_<_, _+_, _^_};
 ghost use lib.ListN.{drop};
 ghost use Rattle.vectors.specs.TurnSame.{sameLongs, sameService, sameBytes, sameNumbers, sameWritten, sameVerdict, sameTrimmed, sameBill, sameReplay};
 
-// Numbers of 32 bits that are stored from a position on.
+// Whether these numbers are stored from `at` on, 32 bits each.
 fn same_longs<'a, 'b>(numbers: &'a [u32], bytes: &'b [u8], at: usize) -> bool
     requires { ⌜ at < 2 ^ 16 ⌝ }
     ensures { λ r. ⌜ r ≡ sameLongs (now (numbers .entry)) (drop at (now (bytes .entry))) ⌝ }
@@ -25,7 +25,7 @@ fn same_longs<'a, 'b>(numbers: &'a [u32], bytes: &'b [u8], at: usize) -> bool
     true
 }
 
-// The same for numbers of 64 bits.
+// Whether these 64-bit numbers are stored from `at` on, 32 bits each.
 fn same_wide<'a, 'b>(numbers: &'a [usize], bytes: &'b [u8], at: usize) -> bool
     requires { ⌜ at < 2 ^ 16 ⌝ }
     ensures { λ r. ⌜ r ≡ sameLongs (now (numbers .entry)) (drop at (now (bytes .entry))) ⌝ }
@@ -40,7 +40,7 @@ fn same_wide<'a, 'b>(numbers: &'a [usize], bytes: &'b [u8], at: usize) -> bool
     true
 }
 
-// The code, and the whole service.
+// Whether the code and the whole service are as stored.
 pub fn same_service<'a, 'b>(code: u16, service: &'a [u32], bytes: &'b [u8]) -> bool
     ensures { λ r. ⌜ r ≡ sameService code (now (service .entry)) (now (bytes .entry)) ⌝ }
 {
@@ -50,14 +50,14 @@ pub fn same_service<'a, 'b>(code: u16, service: &'a [u32], bytes: &'b [u8]) -> b
     same_longs(service, bytes, 50)
 }
 
-// All of the bytes of which the front was lent.
+// Whether the whole buffer of bytes, of which the front was passed, is as stored.
 fn same_bytes<'a, 'b>(room: &'a [u8], bytes: &'b [u8]) -> bool
     ensures { λ r. ⌜ r ≡ sameBytes (now (room .entry)) (now (bytes .entry)) ⌝ }
 {
     holds_bytes(room, part(bytes, 210, Room::BYTES), Room::BLANK)
 }
 
-// How many of them were written, and all of them.
+// Whether the length written and the whole buffer of bytes are as stored.
 fn same_written<'a, 'b>(written: usize, room: &'a [u8], bytes: &'b [u8]) -> bool
     ensures { λ r. ⌜ r ≡ sameWritten written (now (room .entry)) (now (bytes .entry)) ⌝ }
 {
@@ -67,14 +67,14 @@ fn same_written<'a, 'b>(written: usize, room: &'a [u8], bytes: &'b [u8]) -> bool
     same_bytes(room, bytes)
 }
 
-// All of the numbers of which the front was lent.
+// Whether the whole buffer of numbers, of which the front was passed, is as stored.
 fn same_numbers<'a, 'b>(room: &'a [u32], bytes: &'b [u8]) -> bool
     ensures { λ r. ⌜ r ≡ sameNumbers (now (room .entry)) (now (bytes .entry)) ⌝ }
 {
     same_longs(room, bytes, 114)
 }
 
-// What a check left.
+// Whether a check left what is stored.
 pub fn same_verdict<'a, 'b, 'c>(
     code: u16,
     service: &'a [u32],
@@ -89,7 +89,7 @@ pub fn same_verdict<'a, 'b, 'c>(
     false
 }
 
-// What trimming left.
+// Whether trimming left what is stored.
 pub fn same_trimmed<'a, 'b, 'c>(
     code: u16,
     service: &'a [u32],
@@ -105,7 +105,7 @@ pub fn same_trimmed<'a, 'b, 'c>(
     false
 }
 
-// What a bill left.
+// Whether a bill left what is stored.
 pub fn same_bill<'a, 'b, 'c>(
     code: u16,
     service: &'a [u32],
@@ -120,7 +120,7 @@ pub fn same_bill<'a, 'b, 'c>(
     false
 }
 
-// The table and the numbers of a replay.
+// Whether the table and the numbers of a replay are as stored.
 fn same_told<'a, 'b, 'c>(table: &'a [u8], room: &'b [usize], bytes: &'c [u8]) -> bool
     ensures { λ r. ⌜ r ≡ (sameBytes (now (table .entry)) (now (bytes .entry)) && sameNumbers (now (room .entry)) (now (bytes .entry))) ⌝ }
 {
@@ -130,7 +130,7 @@ fn same_told<'a, 'b, 'c>(table: &'a [u8], room: &'b [usize], bytes: &'c [u8]) ->
     false
 }
 
-// What a replay left.
+// Whether a replay left what is stored.
 pub fn same_replay<'a, 'b, 'c, 'd>(
     code: u16,
     service: &'a [u32],

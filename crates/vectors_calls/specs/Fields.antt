@@ -1,4 +1,4 @@
--- Stored verdicts, and verdicts compared.
+-- Stored verdicts, and verdicts compared with them.
 use mathlib.Core.Bool.{Bool, _&&_}
 use mathlib.Core.List.{List}
 use Prim.Native.Nat.{ℕ}
@@ -22,13 +22,13 @@ fieldsAt s =
       count = le16 (drop 16 s);
     }
 
--- from the class to the other point
+-- two verdicts agree from the class to the other point
 unfoldable pub samePlace : Fields → Fields → Bool
 samePlace a b =
     eqb (a .class) (b .class) && (eqb (a .thread) (b .thread)
     && (eqb (a .point) (b .point) && (eqb (a .«other_thread») (b .«other_thread») && eqb (a .«other_point») (b .«other_point»))))
 
--- in all nine
+-- two verdicts agree in all nine fields
 unfoldable pub sameFields : Fields → Fields → Bool
 sameFields a b = eqb (a .code) (b .code) && (eqb (a .«record») (b .«record»)
     && (eqb (a .line) (b .line) && (eqb (a .count) (b .count) && samePlace a b)))

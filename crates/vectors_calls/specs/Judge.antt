@@ -1,4 +1,4 @@
--- Calls counted: by the code answered, and by whether the answer is the stored one.
+-- Calls counted: by the code returned, and by whether the answer is the stored one.
 use mathlib.Core.Path.{_≡_}
 use mathlib.Core.Bool.{Bool}
 use mathlib.Core.List.{List, _++_}
@@ -23,30 +23,33 @@ use Rattle.vectors_calls.specs.Fields.{fieldsAt, sameFields}
 use Rattle.vectors_calls.specs.declared.kind.Kind.{Kind}
 use Rattle.vectors_calls.specs.declared.kind.Kind.the-variants as Kinds
 
--- of an image: all nine fields of its verdict are compared
+-- one verdict more: all nine of its fields are compared
 unfoldable pub withVerdict : Counters → List ℕ → List ℕ → Counters
 withVerdict t image s = withCase t (fieldsOf (verdict image) .code) (sameFields (fieldsOf (verdict image)) (fieldsAt s))
 
--- how many bytes of table and how many numbers are lent for a replay, and for one across a handover
+-- how many bytes of table are passed for a replay
 abbrev pub replayTable : List ℕ → ℕ
 replayTable s = lentAt s 12 mostBytes
 
+-- how many numbers are passed for a replay
 abbrev pub replayNumbers : List ℕ → ℕ
 replayNumbers s = lentAt s 16 mostNumbers
 
+-- how many bytes of table are passed for a replay across a handover
 abbrev pub acrossTable : List ℕ → ℕ
 acrossTable s = lentAt s 24 mostBytes
 
+-- how many numbers are passed for a replay across a handover
 abbrev pub acrossNumbers : List ℕ → ℕ
 acrossNumbers s = lentAt s 28 mostNumbers
 
--- the code of a handover, and the stored one
+-- the code of a handover is the stored one
 unfoldable pub sameCode : ℕ → List ℕ → Bool
 sameCode code s = eqb code (le16 (drop 8 s))
 
--- of the body of a case and what is stored behind it
+-- body and s are the body and the tail of a case, t the counters before, r the counters afterwards
 module _ (body s : List ℕ) (t : Counters) where
-  -- code, length and room
+  -- trimming: code, length and buffer are compared
   pub record Trimmed (r : Counters) : Type 0 where
     pub code : ℕ
     pub written : ℕ
@@ -55,14 +58,14 @@ module _ (body s : List ℕ) (t : Counters) where
     pub counted : r ≡ withCase t code (Trims.sameAnswer code written (after ++ drop (Trims.lentAt (drop 4 s)) Trims.room) (drop 4 s)
         (secondOn s body))
 
-  -- code and room
+  -- a bill: code and buffer are compared
   pub record Billed (r : Counters) : Type 0 where
     pub code : ℕ
     pub after : List ℕ
     pub called : Billing.Written body (Bills.tariffAt s) (Bills.billedAt s) (take (Bills.lentAt s) Bills.room) code after
     pub counted : r ≡ withCase t code (Bills.sameAnswer code (after ++ drop (Bills.lentAt s) Bills.room) s)
 
-  -- code, table and numbers
+  -- a replay: code, table and numbers are compared
   pub record Replayed (r : Counters) : Type 0 where
     pub code : ℕ
     pub after : List ℕ
@@ -72,11 +75,13 @@ module _ (body s : List ℕ) (t : Counters) where
     pub counted : r ≡ withCase t code (sameAnswer code (after ++ drop (replayTable s) blankTable)
         (told ++ drop (replayNumbers s) blankNumbers) (drop 20 s) (fourthOn s body))
 
+  -- a handover: the code is compared
   pub record HandedOver (r : Counters) : Type 0 where
     pub code : ℕ
     pub called : Handover.Promise (firstIn s body) (secondIn s body) (thirdOn s body) code
     pub counted : r ≡ withCase t code (sameCode code s)
 
+  -- a replay across a handover: code, table and numbers are compared
   pub record ReplayedAcross (r : Counters) : Type 0 where
     pub code : ℕ
     pub after : List ℕ
@@ -86,7 +91,7 @@ module _ (body s : List ℕ) (t : Counters) where
     pub counted : r ≡ withCase t code (sameAnswer code (after ++ drop (acrossTable s) blankTable)
         (told ++ drop (acrossNumbers s) blankNumbers) (drop 32 s) (seventhOn s body))
 
--- by the kind of call
+-- one call more, by the kind of call
 unfoldable pub Counted : Kind → List ℕ → List ℕ → Counters → Counters → Type 0
 Counted Kinds.Verdicts image s t r = r ≡ withVerdict t image s
 Counted Kinds.Trims body s t r = Trimmed body s t r

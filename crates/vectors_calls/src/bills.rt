@@ -12,7 +12,7 @@ ghost use Rattle.bill_spec.specs.Promise.{Written};
 ghost use Rattle.vectors.specs.BillAnswer.{tariffAt, billedAt, room};
 ghost use Rattle.vectors_calls.specs.Judge.{Billed};
 
-// The call that is stored.
+// Makes the stored call.
 fn bill_stored<'a, 'b, 'c>(image: &'a [u8], bytes: &'b [u8], answer: &'c mut [u32]) -> u16
     ensures { λ r. ⌜ Written (now (image .entry)) (tariffAt (now (bytes .entry))) (billedAt (now (bytes .entry))) (now (answer .entry)) r
         (now (answer .exit)) ⌝ }
@@ -20,13 +20,14 @@ fn bill_stored<'a, 'b, 'c>(image: &'a [u8], bytes: &'b [u8], answer: &'c mut [u3
     bill_into(image, tariff_at(bytes), billed_at(bytes), answer)
 }
 
+// The buffer for the bill's numbers before the call.
 fn blank_room() -> [u32; Room::NUMBERS]
     ensures { λ r. ⌜ r ≡ room ⌝ }
 {
     [Room::BLANK; Room::NUMBERS]
 }
 
-// The tally with a bill more, by its code, and whether it is the stored one.
+// The counters with one bill more, by its code, and whether it is the stored one.
 pub fn with_bill<'a, 'b>(counters: Counters, image: &'a [u8], bytes: &'b [u8]) -> Counters
     ensures { λ r. ⌜ Billed (now (image .entry)) (now (bytes .entry)) counters r ⌝ }
 {

@@ -1,9 +1,10 @@
-// Stored verdicts, and verdicts compared.
+// Stored verdicts, and verdicts compared with them.
 use limits::read::u16_at;
 use verdict_record::verdict::Fields;
 ghost use mathlib.Core.Path.{_≡_};
 ghost use Rattle.vectors_calls.specs.Fields.{fieldsAt, samePlace, sameFields};
 
+// The stored verdict.
 pub fn fields_at(bytes: &[u8]) -> Fields
     ensures { λ r. ⌜ r ≡ fieldsAt (now (bytes .entry)) ⌝ }
 {
@@ -20,7 +21,7 @@ pub fn fields_at(bytes: &[u8]) -> Fields
     }
 }
 
-// From the class to the other point.
+// Whether two verdicts agree from the class to the other point.
 fn same_place(fields: Fields, other: Fields) -> bool
     ensures { λ r. ⌜ r ≡ samePlace fields other ⌝ }
 {
@@ -39,6 +40,7 @@ fn same_place(fields: Fields, other: Fields) -> bool
     fields.other_point == other.other_point
 }
 
+// Whether two verdicts agree in all nine fields.
 pub fn same_fields(fields: Fields, other: Fields) -> bool
     ensures { λ r. ⌜ r ≡ sameFields fields other ⌝ }
 {

@@ -1,4 +1,4 @@
-// Stored replays across a handover: images, table of points, traces, given registers and entries as the body, lengths and answer as the
+// Stored replays across a handover: images, handover table, traces, given registers and entries as the body, lengths and answer as the
 // tail.
 use handover_replay::entry::replay_handover;
 use limits::read::rest;
@@ -20,7 +20,7 @@ ghost use Rattle.handover_replay.specs.Promise.{Written};
 ghost use Rattle.vectors.specs.Parts.{firstIn, secondIn, thirdIn, fourthIn, fifthIn, sixthIn};
 ghost use Rattle.vectors_calls.specs.Judge.{ReplayedAcross};
 
-// The call that is stored.
+// Makes the stored call.
 fn across_stored<'a, 'b, 'c, 'd>(
     body: &'a [u8],
     bytes: &'b [u8],
@@ -44,7 +44,7 @@ fn across_stored<'a, 'b, 'c, 'd>(
     )
 }
 
-// The tally with a replay more, by its code, and whether it is the stored one.
+// The counters with one replay more, by its code, and whether it is the stored one.
 pub fn with_across<'a, 'b>(counters: Counters, body: &'a [u8], bytes: &'b [u8]) -> Counters
     ensures { λ r. ⌜ ReplayedAcross (now (body .entry)) (now (bytes .entry)) counters r ⌝ }
 {

@@ -1,4 +1,4 @@
-// Stored handovers: both images and the table as the body, lengths and code as the tail.
+// Stored handovers: both images and the handover table as the body, lengths and code as the tail.
 use handover::entry::check_handover;
 use limits::read::u16_at;
 use vectors::counters::Counters;
@@ -11,7 +11,7 @@ ghost use Rattle.handover_spec.specs.Promise.{Promise};
 ghost use Rattle.vectors.specs.Parts.{firstIn, secondIn, thirdOn};
 ghost use Rattle.vectors_calls.specs.Judge.{sameCode, HandedOver};
 
-// The call that is stored.
+// Makes the stored call.
 fn code_of_stored<'a, 'b>(body: &'a [u8], bytes: &'b [u8]) -> u16
     ensures { λ r. ⌜ Promise (firstIn (now (bytes .entry)) (now (body .entry))) (secondIn (now (bytes .entry)) (now (body .entry)))
         (thirdOn (now (bytes .entry)) (now (body .entry))) r ⌝ }
@@ -29,7 +29,7 @@ fn same_code(code: u16, bytes: &[u8]) -> bool
     code as usize == u16_at(bytes, 8)
 }
 
-// The tally with a handover more, by its code, and whether that is the stored one.
+// The counters with one handover more, by its code, and whether that is the stored one.
 pub fn with_handover<'a, 'b>(counters: Counters, body: &'a [u8], bytes: &'b [u8]) -> Counters
     ensures { λ r. ⌜ HandedOver (now (body .entry)) (now (bytes .entry)) counters r ⌝ }
 {

@@ -18,7 +18,7 @@ use vectors::space::space_for_body;
 ghost use Rattle.vectors.specs.CasesCounted.{FromCases};
 ghost use Rattle.vectors_calls.specs.Judge.{Counted};
 
-// The tally with a call more, by the code answered, and whether the answer is the stored one.
+// The counters with one call more, by the code returned, and whether the answer is the stored one.
 fn with_call<'a, 'b>(kind: Kind, counters: Counters, body: &'a [u8], bytes: &'b [u8]) -> Counters
     ensures { λ r. ⌜ Counted kind (now (body .entry)) (now (bytes .entry)) counters r ⌝ }
 {
@@ -32,6 +32,7 @@ fn with_call<'a, 'b>(kind: Kind, counters: Counters, body: &'a [u8], bytes: &'b 
     }
 }
 
+// Judges the cases of a file of this kind.
 pub fn judge_all(fd: i32, kind: Kind) -> Judged
     ensures { λ r. ⌜ FromCases (r .tally) ⌝ }
 {
@@ -39,7 +40,7 @@ pub fn judge_all(fd: i32, kind: Kind) -> Judged
     let mut stored = [0u8; Tail::MOST];
     let tail = tail_of(kind);
     let mut tally = no_case();
-    // One more shows that there are too many.
+    // One case more than is judged shows that there are too many.
     let mut left = Judged::MOST + 1;
     while 0 < left {
         match read_case(fd, &mut space, &mut stored[..tail]) {

@@ -1,4 +1,4 @@
-// Which calls a file holds: by the front of its name.
+// Which calls a file holds, by the front of its name.
 use limits::read::part;
 use vectors::bill_answer::Stored as BillStored;
 use vectors::room::holds_bytes;
@@ -6,6 +6,7 @@ use vectors::trim_answer::Stored as TrimStored;
 ghost use mathlib.Core.Path.{_≡_};
 ghost use Rattle.vectors_calls.specs.Kind.{begins, kindOf, tailOf};
 
+// The calls of a file.
 pub enum Kind {
     Verdicts,
     Trims,
@@ -15,28 +16,31 @@ pub enum Kind {
     Across,
 }
 
+// The length of a tail, for each kind of call.
 pub struct Tail;
 
 impl Tail {
     // Nine numbers of 16 bits.
     pub const VERDICT: usize = 18;
 
-    // How many bytes the image has, 32 bits; then the call and its answer.
+    // The length of the image, 32 bits; then how many bytes of the buffer are passed, and the code.
     pub const TRIM: usize = 4 + TrimStored::BYTES;
 
+    // The stored bill.
     pub const BILL: usize = BillStored::BYTES;
 
-    // The lengths of image, trace and given registers, the bytes of table and the numbers lent, 32 bits each; the code, 16 bits; the
+    // The lengths of image, trace and given registers, the bytes of table and the numbers passed, 32 bits each; the code, 16 bits; the
     // answer, 21 numbers of 32 bits.
     pub const REPLAY: usize = 106;
 
     // The lengths of both images, 32 bits each; the code, 16 bits.
     pub const HANDOVER: usize = 10;
 
-    // The lengths of six parts, the bytes of table and the numbers lent, 32 bits each; the code, 16 bits; the answer, 21 numbers of 32
+    // The lengths of six parts, the bytes of table and the numbers passed, 32 bits each; the code, 16 bits; the answer, 21 numbers of 32
     // bits.
     pub const ACROSS: usize = 118;
 
+    // The longest tail.
     pub const MOST: usize = Self::ACROSS;
 }
 
@@ -46,6 +50,7 @@ fn begins_with<'a, 'b>(name: &'a [u8], word: &'b [u8]) -> bool
     holds_bytes(part(name, 0, word.len()), word, 0)
 }
 
+// The calls of a file with this name.
 pub fn kind_of(name: &[u8]) -> Kind
     ensures { λ r. ⌜ r ≡ kindOf (now (name .entry)) ⌝ }
 {
@@ -67,7 +72,7 @@ pub fn kind_of(name: &[u8]) -> Kind
     Kind::Verdicts
 }
 
-// How many bytes the tail of each case has.
+// The length of each case's tail.
 pub fn tail_of(kind: Kind) -> usize
     ensures { λ r. ⌜ r ≡ tailOf kind ⌝ }
 {

@@ -1,5 +1,5 @@
 // Makes the calls of the files that the arguments name, and writes a line for each file: how many answers there are of each code, and how
-// many differ from the stored ones. What is wrong with a file goes to standard error, and then there is no line for it.
+// many differ from the stored ones. A fault of a file is reported on standard error, and then there is no line for it.
 mod bills;
 mod fields;
 mod handover_replays;
@@ -38,7 +38,7 @@ fn judge_argument(number: usize) {
 }
 
 fn main() {
-    // The first is asked for even where there is none, so that this is said.
+    // The first argument is asked for even where there is none, so that this is reported.
     judge_argument(1);
     for number in 2..os::arg_count() {
         judge_argument(number);

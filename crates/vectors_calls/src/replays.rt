@@ -16,7 +16,7 @@ ghost use Rattle.replay_spec.specs.Promise.{Written};
 ghost use Rattle.vectors.specs.Parts.{firstIn, secondIn, thirdIn};
 ghost use Rattle.vectors_calls.specs.Judge.{Replayed};
 
-// The call that is stored.
+// Makes the stored call.
 fn replay_stored<'a, 'b, 'c, 'd>(
     body: &'a [u8],
     bytes: &'b [u8],
@@ -36,7 +36,7 @@ fn replay_stored<'a, 'b, 'c, 'd>(
     )
 }
 
-// The tally with a replay more, by its code, and whether it is the stored one.
+// The counters with one replay more, by its code, and whether it is the stored one.
 pub fn with_replay<'a, 'b>(counters: Counters, body: &'a [u8], bytes: &'b [u8]) -> Counters
     ensures { λ r. ⌜ Replayed (now (body .entry)) (now (bytes .entry)) counters r ⌝ }
 {

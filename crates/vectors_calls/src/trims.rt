@@ -1,4 +1,4 @@
-// Stored trimmed images: an image and what it is trimmed to as the body, lengths and code as the tail.
+// Stored trimmed images: an image and its trimmed image as the body, lengths and code as the tail.
 use limits::read::rest;
 use trim::entry::trim_image;
 use vectors::counters::Counters;
@@ -12,20 +12,21 @@ ghost use mathlib.Core.Path.{_≡_};
 ghost use Rattle.vectors.specs.TrimAnswer.{room};
 ghost use Rattle.vectors_calls.specs.Judge.{Trimmed};
 
+// The buffer for the trimmed image before the call.
 fn blank_room() -> [u8; Room::BYTES]
     ensures { λ r. ⌜ r ≡ room ⌝ }
 {
     [Room::BLANK; Room::BYTES]
 }
 
-// The tally with a trimmed image more, by its code, and whether it is the stored one.
+// The counters with one trimmed image more, by its code, and whether it is the stored one.
 pub fn with_trimmed<'a, 'b>(counters: Counters, body: &'a [u8], bytes: &'b [u8]) -> Counters
     ensures { λ r. ⌜ Trimmed (now (body .entry)) (now (bytes .entry)) counters r ⌝ }
 {
     let mut lent = blank_room();
     let stored = rest(bytes, 4);
     let n = lent_at(stored);
-    // No image is so long.
+    // No image has this length, so that a `written` which the call leaves as it was differs.
     let mut written = Room::BYTES;
     let code = trim_image(first_in(body, bytes), &mut lent[..n], &mut written);
     let same = same_answer(code, written, &lent, stored, second_on(body, bytes));

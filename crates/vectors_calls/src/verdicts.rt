@@ -8,7 +8,7 @@ use verdict_record::verdict::fields_of;
 ghost use mathlib.Core.Path.{_≡_};
 ghost use Rattle.vectors_calls.specs.Judge.{withVerdict};
 
-// The tally with a verdict more, by its code, and whether it is the stored one.
+// The counters with one verdict more, by its code, and whether it is the stored one.
 pub fn with_verdict<'a, 'b>(counters: Counters, image: &'a [u8], bytes: &'b [u8]) -> Counters
     ensures { λ r. ⌜ r ≡ withVerdict counters (now (image .entry)) (now (bytes .entry)) ⌝ }
 {

@@ -1,5 +1,5 @@
-// The cases of the file: a formula as the body; as the tail threads, words, registers and the range (a byte each), the
-// result and the sort (16 bits each).
+// The cases of the file: a formula as the body; as the tail threads, words, registers and the range (a byte each), the result and the sort
+// (16 bits each).
 use crate::answer::is_answer;
 use crate::answer::kind_of;
 use formula::reader::Counts;
@@ -17,12 +17,14 @@ ghost use mathlib.Core.Path.{_≡_};
 ghost use Rattle.vectors.specs.CasesCounted.{FromCases};
 ghost use Rattle.vectors_formulas.specs.Judge.{countsAt, withFormula};
 
+// The length of a tail.
 struct Stored;
 
 impl Stored {
     pub const BYTES: usize = 8;
 }
 
+// The numbers of threads, words, registers and values in a tail.
 fn counts_at(bytes: &[u8]) -> Counts
     ensures { λ r. ⌜ r ≡ countsAt (now (bytes .entry)) ⌝ }
 {
@@ -34,7 +36,7 @@ fn counts_at(bytes: &[u8]) -> Counts
     }
 }
 
-// The tally with a formula more, and whether its reading is the stored one.
+// The counters with one formula more, by its reading, and whether that is the stored one.
 fn with_formula<'a, 'b>(counters: Counters, body: &'a [u8], stored: &'b [u8]) -> Counters
     ensures { λ r. ⌜ r ≡ withFormula counters (now (body .entry)) (now (stored .entry)) ⌝ }
 {
@@ -43,14 +45,15 @@ fn with_formula<'a, 'b>(counters: Counters, body: &'a [u8], stored: &'b [u8]) ->
     with_case(counters, kind_of(reading), same)
 }
 
+// Judges the cases of a file.
 pub fn judge_all(fd: i32) -> Judged
     ensures { λ r. ⌜ FromCases (r .tally) ⌝ }
 {
-    // Far more than a formula has.
+    // A formula is far shorter than this buffer.
     let mut space = io::buffer();
     let mut stored = [0u8; Stored::BYTES];
     let mut tally = no_case();
-    // One more shows that there are too many.
+    // One case more than is judged shows that there are too many.
     let mut left = Judged::MOST + 1;
     while 0 < left {
         match read_case(fd, &mut space, &mut stored) {

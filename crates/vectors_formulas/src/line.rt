@@ -1,10 +1,11 @@
-// What the program writes.
+// The line that the program writes.
 use formula::code::Place;
 use formula::reader::Fault;
 use vectors::counters::Counters;
 use vectors::counters_line::write_count;
 use vectors::counters_line::write_differences;
 
+// Writes how many formulas have each sort or fault, and how many readings differ.
 pub fn write_line(counters: Counters) {
     write_count(counters.cases, b" cases: ");
     write_count(counters.kinds[Place::VALUE as usize], b" values, ");

@@ -1,6 +1,5 @@
-// Runs the formula reader over the cases of the file that the first argument names, and writes one line: how many
-// answers there are of each kind, and how many differ from the stored ones. What is wrong with the file goes to
-// standard error, and then nothing is written.
+// Runs the formula reader over the cases of the file that the first argument names, and writes one line: how many readings there are of
+// each kind, and how many differ from the stored ones. A fault of the file is reported on standard error, and then no line is written.
 mod answer;
 mod judge;
 mod line;

@@ -14,22 +14,26 @@ use Rattle.vectors.specs.declared.turn.TurnKind.the-variants.{Open, Set, Check,
 use Rattle.vectors.specs.Turn.{turnKindOf, callerAt, lengthsAt, setAt, bytes, numbers, bytesAt, numbersAt, tariffAt}
 use Rattle.vectors.specs.TurnSame.{sameService, sameVerdict, sameTrimmed, sameBill, sameReplay}
 
--- the number of a caller set by the host
+-- the service after the host has set the number of a caller to n
 unfoldable pub numberSet : List ℕ → ℕ → ℕ → List ℕ
 numberSet service caller n = cond (ltb 8 caller) service (cond (leb (length service) (7 + caller)) service (set service (7 + caller) n))
 
--- of a service, what is read, what is stored, and the tally before: what is left of the service, and the tally
+-- service is the one before, body and s are the body and the tail of a case, t the counters before; left and r are service and counters
+-- afterwards
 module _ (service body s : List ℕ) (t : Counters) where
+  -- the service is opened, with the rights in the body
   pub record Opened (left : List ℕ) (r : Counters) : Type 0 where
     pub opened : left ≡ serviceFor body service
     pub counted : r ≡ withCase t 0 (sameService (openingCode service) left s)
 
+  -- an image is checked
   pub record Checked (r : Counters) : Type 0 where
     pub code : ℕ
     pub after : List ℕ
     pub served : CheckServed service (callerAt s) body (take (bytesAt s) bytes) code after
     pub counted : r ≡ withCase t 2 (sameVerdict code service (after ++ drop (bytesAt s) bytes) s)
 
+  -- an image is trimmed
   pub record Trimmed (r : Counters) : Type 0 where
     pub code : ℕ
     pub written : ℕ
@@ -37,19 +41,21 @@ module _ (service body s : List ℕ) (t : Counters) where
     pub served : TrimServed service (callerAt s) body (take (bytesAt s) bytes) code written after
     pub counted : r ≡ withCase t 3 (sameTrimmed code service written (after ++ drop (bytesAt s) bytes) s)
 
+  -- an image is billed
   pub record Billed (left : List ℕ) (r : Counters) : Type 0 where
     pub code : ℕ
     pub after : List ℕ
     pub served : BillServed service (callerAt s) body (tariffAt s) (take (numbersAt s) numbers) left code after
     pub counted : r ≡ withCase t 4 (sameBill code left (after ++ drop (numbersAt s) numbers) s)
 
-  -- the parts that are read, by their lengths
+  -- a handover is asked for; the lengths of the body's parts are stored
   pub record HandedOver (r : Counters) : Type 0 where
     pub code : ℕ
     pub served : HandoverServed service (callerAt s) (firstIn (lengthsAt s) body) (secondIn (lengthsAt s) body)
         (thirdIn (lengthsAt s) body) code
     pub counted : r ≡ withCase t 5 (sameService code service s)
 
+  -- a trace is replayed
   pub record Replayed (r : Counters) : Type 0 where
     pub code : ℕ
     pub after : List ℕ
@@ -58,6 +64,7 @@ module _ (service body s : List ℕ) (t : Counters) where
         (take (bytesAt s) bytes) (take (numbersAt s) numbers) code after told
     pub counted : r ≡ withCase t 6 (sameReplay code service (after ++ drop (bytesAt s) bytes) (told ++ drop (numbersAt s) numbers) s)
 
+  -- two traces are replayed across a handover
   pub record ReplayedAcross (r : Counters) : Type 0 where
     pub code : ℕ
     pub after : List ℕ
@@ -67,11 +74,12 @@ module _ (service body s : List ℕ) (t : Counters) where
         (take (bytesAt s) bytes) (take (numbersAt s) numbers) code after told
     pub counted : r ≡ withCase t 7 (sameReplay code service (after ++ drop (bytesAt s) bytes) (told ++ drop (numbersAt s) numbers) s)
 
+-- the host sets the number of a caller
 pub record Changed (service s : List ℕ) (t : Counters) (left : List ℕ) (r : Counters) : Type 0 where
   pub changed : left ≡ numberSet service (callerAt s) (setAt s)
   pub counted : r ≡ withCase t 1 (sameService 0 left s)
 
--- by the number of what is done; another number differs from all that is stored
+-- what a turn counts as, by what is done; an unknown number counts as a difference
 pub data Counted (service body s : List ℕ) (t : Counters) (left : List ℕ) (r : Counters) : Type 0 where
   opened : turnKindOf s ≡ Open → Opened service body s t left r → Counted service body s t left r
   changed : turnKindOf s ≡ Set → Changed service s t left r → Counted service body s t left r

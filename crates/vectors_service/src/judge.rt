@@ -1,4 +1,4 @@
-// The turns of a file, each on the service that the one before has left: what is read as the body, all else as the tail.
+// The turns of a file, each on the service that the one before has left. The body of a case has what the call reads, the tail all else.
 use crate::replays::with_across;
 use crate::replays::with_handover;
 use crate::replays::with_replay;
@@ -37,7 +37,7 @@ ghost use Rattle.vectors.specs.CasesCounted.{FromCases};
 ghost use Rattle.vectors.specs.Turn.{callerAt, tariffAt};
 ghost use Rattle.vectors_service.specs.Judge.{numberSet, Opened, Changed, Checked, Trimmed, Billed, Counted};
 
-// The host sets the number of a caller.
+// Sets the number of a caller, as the host of a service may.
 fn set_number(service: &mut [u32], caller: usize, number: u32)
     ensures { λ _. ⌜ now (service .exit) ≡ numberSet (now (service .entry)) caller number ⌝ }
 {
@@ -51,6 +51,7 @@ fn set_number(service: &mut [u32], caller: usize, number: u32)
     service[at] = number;
 }
 
+// The counters with one opening more, and whether it leaves what is stored.
 fn with_opened<'a, 'b, 'c>(
     counters: Counters,
     service: &'a mut [u32],
@@ -64,6 +65,7 @@ fn with_opened<'a, 'b, 'c>(
     with_case(counters, Number::OPEN, same)
 }
 
+// The counters with one number set by the host more, and whether that leaves what is stored.
 fn with_set<'a, 'b>(counters: Counters, service: &'a mut [u32], bytes: &'b [u8]) -> Counters
     ensures { λ r. ⌜ Changed (now (service .entry)) (now (bytes .entry)) counters (now (service .exit)) r ⌝ }
 {
@@ -72,6 +74,7 @@ fn with_set<'a, 'b>(counters: Counters, service: &'a mut [u32], bytes: &'b [u8])
     with_case(counters, Number::SET, same)
 }
 
+// The counters with one check more, and whether it leaves what is stored.
 fn with_checked<'a, 'b, 'c>(
     counters: Counters,
     service: &'a [u32],
@@ -87,6 +90,7 @@ fn with_checked<'a, 'b, 'c>(
     with_case(counters, Number::CHECK, same)
 }
 
+// The counters with one trimming more, and whether it leaves what is stored.
 fn with_trimmed<'a, 'b, 'c>(
     counters: Counters,
     service: &'a [u32],
@@ -97,7 +101,7 @@ fn with_trimmed<'a, 'b, 'c>(
 {
     let mut room = blank_bytes();
     let n = bytes_at(bytes);
-    // No image is so long.
+    // No image has this length, so that a `written` which the call leaves as it was differs.
     let mut written = Limits::IMAGE_BYTES + 1;
     let code = serve_trim(
         service,
@@ -110,7 +114,7 @@ fn with_trimmed<'a, 'b, 'c>(
     with_case(counters, Number::TRIM, same)
 }
 
-// The bill that is stored.
+// Makes the stored call for a bill.
 fn bill_stored<'a, 'b, 'c, 'd>(
     service: &'a mut [u32],
     image: &'b [u8],
@@ -135,6 +139,7 @@ fn bill_stored<'a, 'b, 'c, 'd>(
     )
 }
 
+// The counters with one bill more, and whether it leaves what is stored.
 fn with_billed<'a, 'b, 'c>(
     counters: Counters,
     service: &'a mut [u32],
@@ -150,7 +155,7 @@ fn with_billed<'a, 'b, 'c>(
     with_case(counters, Number::BILL, same)
 }
 
-// The tally with a turn more, by what is done, and whether it leaves what is stored.
+// The counters with one turn more, by what is done, and whether it leaves what is stored.
 fn with_turn<'a, 'b, 'c>(
     counters: Counters,
     service: &'a mut [u32],
@@ -172,7 +177,7 @@ fn with_turn<'a, 'b, 'c>(
     }
 }
 
-// Before the first turn nobody has a right.
+// Judges the turns of a file; before the first one no caller has a right.
 pub fn judge_all(fd: i32) -> Judged
     ensures { λ r. ⌜ FromCases (r .tally) ⌝ }
 {
@@ -180,7 +185,7 @@ pub fn judge_all(fd: i32) -> Judged
     let mut stored = [0u8; Stored::BYTES];
     let mut service = [0u32; Service::NUMBERS];
     let mut tally = no_case();
-    // One more shows that there are too many.
+    // One case more than is judged shows that there are too many.
     let mut left = Judged::MOST + 1;
     while 0 < left {
         match read_case(fd, &mut space, &mut stored) {

@@ -1,9 +1,10 @@
-// What the program writes of a file.
+// The line that the program writes for a file.
 use libc::STDOUT_FILENO;
 use vectors::counters::Counters;
 use vectors::counters_line::write_count;
 use vectors::counters_line::write_differences;
 
+// Writes how many turns there are of each kind, and how many differ.
 pub fn write_line(path: &[u8], counters: Counters) {
     io::write_all(STDOUT_FILENO, path);
     io::write_all(STDOUT_FILENO, b": ");

@@ -1,6 +1,6 @@
-// Takes the turns at a service that the files named by the arguments hold, one after the other, and writes a line for each file: how
-// many there are of each kind, and how many leave something else than what is stored. What is wrong with a file goes to standard error,
-// and then there is no line for it.
+// Makes the turns at a service that the files named by the arguments hold, one after the other, and writes a line for each file: how many
+// there are of each kind, and how many leave something else than what is stored. A fault of a file is reported on standard error, and then
+// there is no line for it.
 mod judge;
 mod line;
 mod replays;
@@ -32,7 +32,7 @@ fn judge_argument(number: usize) {
 }
 
 fn main() {
-    // The first is asked for even where there is none, so that this is said.
+    // The first argument is asked for even where there is none, so that this is reported.
     judge_argument(1);
     for number in 2..os::arg_count() {
         judge_argument(number);

@@ -1,4 +1,4 @@
-// Turns that take several parts: a handover, a replay, a replay across a handover.
+// Turns whose body has several parts: a handover, a replay, a replay across a handover.
 use service::entry::serve_handover;
 use service::entry::serve_replay;
 use service::entry::serve_replay_handover;
@@ -24,7 +24,7 @@ ghost use Rattle.vectors.specs.Parts.{firstIn, secondIn, thirdIn, fourthIn, fif
 ghost use Rattle.vectors.specs.Turn.{callerAt, lengthsAt};
 ghost use Rattle.vectors_service.specs.Judge.{HandedOver, Replayed, ReplayedAcross};
 
-// The handover that is stored.
+// Makes the stored call for a handover.
 fn handover_stored<'a, 'b, 'c>(service: &'a [u32], body: &'b [u8], bytes: &'c [u8]) -> u16
     ensures { λ r. ⌜ HandoverServed (now (service .entry)) (callerAt (now (bytes .entry)))
         (firstIn (lengthsAt (now (bytes .entry))) (now (body .entry)))
@@ -40,6 +40,7 @@ fn handover_stored<'a, 'b, 'c>(service: &'a [u32], body: &'b [u8], bytes: &'c [u
     )
 }
 
+// The counters with one handover more, and whether it leaves what is stored.
 pub fn with_handover<'a, 'b, 'c>(
     counters: Counters,
     service: &'a [u32],
@@ -53,7 +54,7 @@ pub fn with_handover<'a, 'b, 'c>(
     with_case(counters, Number::HANDOVER, same)
 }
 
-// The replay that is stored.
+// Makes the stored call for a replay.
 fn replay_stored<'a, 'b, 'c, 'd, 'e>(
     service: &'a [u32],
     body: &'b [u8],
@@ -78,6 +79,7 @@ fn replay_stored<'a, 'b, 'c, 'd, 'e>(
     )
 }
 
+// The counters with one replay more, and whether it leaves what is stored.
 pub fn with_replay<'a, 'b, 'c>(
     counters: Counters,
     service: &'a [u32],
@@ -95,7 +97,7 @@ pub fn with_replay<'a, 'b, 'c>(
     with_case(counters, Number::REPLAY, same)
 }
 
-// The replay across a handover that is stored.
+// Makes the stored call for a replay across a handover.
 fn across_stored<'a, 'b, 'c, 'd, 'e>(
     service: &'a [u32],
     body: &'b [u8],
@@ -125,6 +127,7 @@ fn across_stored<'a, 'b, 'c, 'd, 'e>(
     )
 }
 
+// The counters with one replay across a handover more, and whether it leaves what is stored.
 pub fn with_across<'a, 'b, 'c>(
     counters: Counters,
     service: &'a [u32],
