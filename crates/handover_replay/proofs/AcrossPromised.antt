@@ -39,7 +39,7 @@ use Rattle.handover_spec.specs.Promise.{Fits}
 use Rattle.handover_spec.proofs.PermittedRuns.{accepted-proved, permitted-so, zero-so, across-holds}
 use Rattle.replay_machine.specs.Start.{startRegister, startValuesTo, startRegisters, started}
 use Rattle.replay_machine.specs.Run.{ran}
-use Rattle.replay_spec.specs.MachineReplay.{Judgement, used, replayed, stepsIn}
+use Rattle.replay_spec.specs.MachineReplay.{ReplayResult, used, replayed, stepsIn}
 use Rattle.replay_spec.specs.StateStands.{StandsFor}
 use Rattle.replay_machine.specs.Replayed.{roomOf, ofRun, replayOn}
 use Rattle.replay_spec.specs.ReplayNumbers.{replayOf}
@@ -119,10 +119,10 @@ module _ (old : List ℕ) (z : Sizes) (new : List ℕ) (y : Sizes) (points : Lis
   abbrev machine : Machine
   machine = started (headerOf old) (z .range) given
 
-  abbrev before : Judgement
+  abbrev before : ReplayResult
   before = replayed P room start 0 first
 
-  abbrev after : Judgement
+  abbrev after : ReplayResult
   after = replayed Q room (handed to (before .state)) 0 second
 
   c : Checks z (bodies old)

@@ -17,7 +17,7 @@ use Rattle.checker_spec.specs.declared.acceptance.Acceptance.the-variants.{Gran
 use Rattle.replay_memory.specs.declared.write.Write.{Write}
 use Rattle.handover_spec.specs.Table.{newPoint}
 use Rattle.handover_spec.specs.Code.{handoverCode}
-use Rattle.replay_spec.specs.MachineReplay.{Judgement, replayed, stepsIn}
+use Rattle.replay_spec.specs.MachineReplay.{ReplayResult, replayed, stepsIn}
 use Rattle.replay_machine.specs.Replayed.{roomOf}
 use Rattle.replay_machine.specs.declared.answer.Answer.{Answer}
 use Rattle.replay_machine.specs.Answer.{answerOf, codeFor, numbersFor}
@@ -54,11 +54,11 @@ module _ (old : List ℕ) (z : Sizes) (new : List ℕ) (y : Sizes) (points first
   begun = begin P (λ r. nth given r 0)
 
   -- the replay of the first trace under the old code
-  abbrev pub before : Judgement
+  abbrev pub before : ReplayResult
   before = replayed P room begun 0 first
 
   -- the replay of the second trace under the new code, from the mapped points
-  abbrev pub after : Judgement
+  abbrev pub after : ReplayResult
   after = replayed Q room (handed to (before .state)) 0 second
 
   -- what holds if no step of the first trace is refused

@@ -33,7 +33,7 @@ use Rattle.replay_memory.specs.declared.memory.Memory.{Memory}
 use Rattle.replay_machine.proofs.InstructionEffect.{sizes-few}
 use Rattle.replay_machine.specs.Refusal.{total}
 use Rattle.replay_machine.specs.Start.{startRegister, startValuesTo, startRegisters, started}
-use Rattle.replay_spec.specs.MachineReplay.{Outcome, used, stepsIn}
+use Rattle.replay_spec.specs.MachineReplay.{ReplayResult, used, stepsIn}
 use Rattle.replay_machine.specs.ShownTable.{entries}
 use Rattle.replay_spec.specs.StateStands.{StandsFor}
 use Rattle.replay_machine.specs.Replayed.{roomOf, replayOn}
@@ -94,7 +94,7 @@ module _ (s : List ℕ) (z : Sizes) (e : acceptance s ≡ Granted z) (trace give
   abbrev first : State
   first = Replay.first s z trace given room
 
-  abbrev outcome : Outcome
+  abbrev outcome : ReplayResult
   outcome = Replay.outcome s z trace given room
 
   c : Checks z (bodies s)

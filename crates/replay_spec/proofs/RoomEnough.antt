@@ -10,7 +10,7 @@ use Rattle.semantics.specs.Base.{upd, within}
 use Rattle.semantics.specs.Machine.{State, Program, Mode.store, Mode.swap, Mode.exchange, Mode.fetchAdd, Access.none, Access.load, Access.write, Instr, Instr.act, Instr.branch, allowed, exec, instrAt, begin}
 use Rattle.semantics.proofs.Base.{upd-case}
 use Rattle.replay_machine.specs.RegistersStand.{adds}
-use Rattle.replay_spec.specs.MachineReplay.{used, refusal, Outcome, replayed}
+use Rattle.replay_spec.specs.MachineReplay.{used, refusal, ReplayResult, replayed}
 
 -- rows of the same sizes
 used-same : (s q : State) (n : ℕ) → ((y : ℕ) → q .size y ≡ s .size y) → used q n ≡ used s n
@@ -66,7 +66,7 @@ fits P room s k (t ∷ p ∷ l) h = go (eqb (refusal P room s t p) 0) refl (fits
         → (used (exec P (instrAt P s t) t p s) (P .words) ≤ room
         → used (replayed P room (exec P (instrAt P s t) t p s) (k + 1) l .state) (P .words) ≤ room)
         → used
-        ((elim b as (λ x. Outcome) [
+        ((elim b as (λ x. ReplayResult) [
           | true ↦ replayed P room (exec P (instrAt P s t) t p s)
               (k + 1) l
           | false ↦ record { code = refusal P room s t p; steps = k; state = s }

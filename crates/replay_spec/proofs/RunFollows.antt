@@ -16,7 +16,7 @@ use Rattle.image_meaning.proofs.RecordsChecked.{Checks}
 use Rattle.replay_machine.specs.RegistersStand.{adds}
 use Rattle.replay_machine.specs.Step.{Stepped, refused, stepped}
 use Rattle.replay_machine.specs.Run.{ran}
-use Rattle.replay_spec.specs.MachineReplay.{used, refusal, Outcome, replayed, stepsIn}
+use Rattle.replay_spec.specs.MachineReplay.{used, refusal, ReplayResult, replayed, stepsIn}
 use Rattle.replay_machine.specs.declared.state.Machine.{Machine}
 use Rattle.replay_machine.specs.declared.run.Run.{Run}
 use Rattle.replay_spec.proofs.StepFollows.{Ready, step-is}
@@ -37,7 +37,7 @@ taken-step P room s t p e = go (within (P .threads) t && ltb (suc (s .point t)) 
     go false d x = absurd (omega arith)
 
 -- the state is what the first steps of the trace come to
-pub record Reached (P : Program) (s : State) (k : ℕ) (l : List ℕ) (o : Outcome) : Type 0 where
+pub record Reached (P : Program) (s : State) (k : ℕ) (l : List ℕ) (o : ReplayResult) : Type 0 where
   pub taken : ℕ
   pub counted : o .steps ≡ k + taken
   pub state : o .state ≡ run P s (take taken (stepsIn l))
@@ -51,7 +51,7 @@ reached P room s k (t ∷ p ∷ l) = go (eqb (refusal P room s t p) 0) refl (rea
     go : (b : Bool) → eqb (refusal P room s t p) 0 ≡ b
         → Reached P (exec P (instrAt P s t) t p s) (k + 1) l (replayed P room (exec P (instrAt P s t) t p s) (k + 1) l)
         → Reached P s k (t ∷ p ∷ l)
-        (elim b as (λ x. Outcome) [
+        (elim b as (λ x. ReplayResult) [
           | true ↦ replayed P room (exec P (instrAt P s t) t p s) (k + 1) l
           | false ↦ record { code = refusal P room s t p; steps = k; state = s }
         ])
@@ -93,7 +93,7 @@ module _ (b : List ℕ) (z : Sizes) (c : Checks z (bodies b)) (room : ℕ) (few 
           )
       go false e = step-is b z c room s n r u p (omega arith, ltb-false (z .threads) (suc u) e) few
 
-  pub record Matches (r : Run) (o : Outcome) : Type 0 where
+  pub record Matches (r : Run) (o : ReplayResult) : Type 0 where
     pub code : r .code ≡ o .code
     pub steps : r .steps ≡ o .steps
     pub ready : Ready b z c (o .state) (r .machine)
@@ -117,7 +117,7 @@ module _ (b : List ℕ) (z : Sizes) (c : Checks z (bodies b)) (room : ℕ) (few 
             | true ↦ ran b z room (stepped b z room n t p .machine) (k + 1) l
             | false ↦ record { code = stepped b z room n t p .code; steps = k; machine = n }
           ])
-          (elim d as (λ x. Outcome) [
+          (elim d as (λ x. ReplayResult) [
             | true ↦ replayed P room (exec P (instrAt P s t) t p s) (k + 1) l
             | false ↦ record { code = refusal P room s t p; steps = k; state = s }
           ])

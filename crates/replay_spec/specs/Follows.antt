@@ -10,7 +10,7 @@ use Rattle.limits.specs.Numbers.{nth}
 use Rattle.image_frames.specs.Records.{bodies}
 use Rattle.image_header.specs.declared.sizes.Sizes.{Sizes}
 use Rattle.image_meaning.specs.Program.{programOf, outlineOf}
-use Rattle.replay_spec.specs.MachineReplay.{Outcome, replayed, stepsIn}
+use Rattle.replay_spec.specs.MachineReplay.{ReplayResult, replayed, stepsIn}
 use Rattle.replay_spec.specs.StateStands.{StandsFor}
 use Rattle.replay_machine.specs.declared.replayed.Replayed.{Replayed}
 
@@ -23,7 +23,7 @@ module _ (s : List ℕ) (z : Sizes) (trace given : List ℕ) (room : ℕ) where
   first = begin P (λ r. nth given r 0)
 
   -- what the logic's machine comes to
-  abbrev pub outcome : Outcome
+  abbrev pub outcome : ReplayResult
   outcome = replayed P room first 0 trace
 
   pub record Follows (r : Replayed) : Type 0 where

@@ -19,13 +19,13 @@ refusal P room s t p =
     (cond (allowed (instrAt P s t) t p s) (cond (adds (instrAt P s t) && leb room (used s (P .words))) 29 0) 28)
     27
 
-pub record Outcome : Type 0 where
+pub record ReplayResult : Type 0 where
   pub code : ℕ
   pub steps : ℕ
   pub state : State
 
 -- the bytes of a trace in pairs, thread and position; from the state s on, k steps having been taken. Half a step is 27
-unfoldable pub replayed : Program → ℕ → State → ℕ → List ℕ → Outcome
+unfoldable pub replayed : Program → ℕ → State → ℕ → List ℕ → ReplayResult
 replayed P room s k [] = record { code = 0; steps = k; state = s }
 replayed P room s k (t ∷ []) = record { code = 27; steps = k; state = s }
 replayed P room s k (t ∷ p ∷ l) =

@@ -14,7 +14,7 @@ use Rattle.image_meaning.specs.Program.{programOf, outlineOf}
 use Rattle.checker_spec.specs.Acceptance.{acceptance}
 use Rattle.checker_spec.specs.declared.acceptance.Acceptance.the-variants.{Granted, Declined}
 use Rattle.replay_memory.specs.declared.write.Write.{Write}
-use Rattle.replay_spec.specs.MachineReplay.{Outcome, stepsIn}
+use Rattle.replay_spec.specs.MachineReplay.{ReplayResult, stepsIn}
 use Rattle.replay_spec.specs.Follows as Replay
 use Rattle.replay_machine.specs.Replayed.{roomOf}
 use Rattle.replay_spec.specs.ReplayNumbers.{replayOf}
@@ -40,7 +40,7 @@ module _ (s : List ℕ) (z : Sizes) (trace given : List ℕ) (room : ℕ) (a : A
   abbrev first : State
   first = Replay.first s z trace given room
 
-  abbrev outcome : Outcome
+  abbrev outcome : ReplayResult
   outcome = Replay.outcome s z trace given room
 
   -- the start writes do not fit
