@@ -31,7 +31,7 @@ module _ (v : Verdict) (z : Sizes) where
   pub by-denied : (i : ℕ) (p : Place) (l n : ℕ) → v ≡ Denied i p l n → Declined ≡ grantedBy z v
   by-denied i p l n h = ap (grantedBy z) (sym h)
 
-pub ruleset granting = (by-accepted, by-refused, by-failed, by-denied)
+pub ruleset granted-by-branches = (by-accepted, by-refused, by-failed, by-denied)
 
 module _ (s : List ℕ) (d : Decoded) (e : d ≡ decoded s) where
   pub declined-bytes : (f : Fault) (i : ℕ) → d ≡ Decoded.Refused f i → Declined ≡ acceptance s
@@ -43,4 +43,4 @@ module _ (s : List ℕ) (d : Decoded) (e : d ≡ decoded s) where
   unfolding acceptance
   granted-found z v r h g q = q ∙ ap (grantedBy z) (judge-found s d e z v h g) ∙ ap (λ (x : Decoded). acceptedAs x (verdict s)) (sym h ∙ e)
 
-pub ruleset accepting = (declined-bytes, granted-found)
+pub ruleset accept-image-branches = (declined-bytes, granted-found)

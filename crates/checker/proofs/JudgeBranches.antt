@@ -49,7 +49,7 @@ module _ (s : List ℕ) (z : Sizes) (m : Marks) (n k : ℕ) (e : k ≡ firstDeni
   unfolding claimsVerdict
   claims-denied r h d = rw (← e, ne-eqb _ _ h) d
 
-pub ruleset denying = (denied-placed, claims-borne, claims-denied)
+pub ruleset judge-branches = (denied-placed, claims-borne, claims-denied)
 
 module _ (s : List ℕ) (z : Sizes) (m : Marks) (r : Judgement) (e : m ≡ marksTo s z (z .lines))
     (d : r ≡ judgeAt s z m (obligations (programOf z (bodies s))) 0) where
@@ -63,7 +63,7 @@ module _ (s : List ℕ) (z : Sizes) (m : Marks) (r : Judgement) (e : m ≡ marks
   pub sound-failed : (o : Obligation) (c l n : ℕ) → r ≡ Failed o c l n → Verdict.Failed o c l n ≡ soundVerdict s z
   sound-failed o c l n h = ap (verdictOf s z m) (sym h) ∙ sound-is
 
-pub ruleset sound = (sound-met, sound-failed)
+pub ruleset judge-sound-branches = (sound-met, sound-failed)
 
 module _ (s : List ℕ) (d : Decoded) (e : d ≡ decoded s) where
   pub judge-refused : (f : Fault) (i : ℕ) → d ≡ Decoded.Refused f i → Verdict.Refused f i ≡ verdict s
@@ -98,4 +98,4 @@ module _ (s : List ℕ) (d : Decoded) (e : d ≡ decoded s) where
       ∙ agree z m (claims-are s z c m (λ k w. marks-are s z c k)) (judgement (imageOf z (bodies s)))
       ∙ ap (λ (x : Decoded). answered (resultOf (bodies s) x)) (sym q)
 
-pub ruleset judging = (judge-refused, judge-found)
+pub ruleset judge-by-branches = (judge-refused, judge-found)

@@ -18,4 +18,4 @@ module _ (most : ℕ) (s : List ℕ) where
   unfolding verdictWithin
   within-short v h e = rw (le-ltb most (length s) h) e
 
-pub ruleset within = (within-long, within-short)
+pub ruleset judge-within-branches = (within-long, within-short)

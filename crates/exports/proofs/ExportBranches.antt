@@ -27,4 +27,4 @@ module _ (s : List ℕ) (d : Decoded) (e : d ≡ decoded s) where
   pub is-refused : (f : Frame.Fault) (n x : ℕ) → d ≡ Refused f n → x ≡ Faults.codeOf f → x * 65536 + n % 65536 ≡ ofDecoded (decoded s)
   is-refused f n x h g = ap (λ (c : ℕ). c * 65536 + n % 65536) g ∙ ap ofDecoded (sym h ∙ e)
 
-pub ruleset answers = (is-sort, is-fault, is-sound, is-refused)
+pub ruleset main-branches = (is-sort, is-fault, is-sound, is-refused)

@@ -33,4 +33,4 @@ pub table-is : (s p : List ℕ) (i : Implications) (r : ℕ) (t : Bool) → i �
     → r ≡ ofTruth (tableT (premisesOf s (implicationsIn p)) (lineOf s (implicationsIn p)))
 table-is s p i r t e h g = g ∙ ap ofTruth (h ∙ ap (λ (i : Implications). tableT (premisesOf s i) (lineOf s i)) e)
 
-pub ruleset truths = (rows-is, side-is, implications-is, table-is)
+pub ruleset rows-branches = (rows-is, side-is, implications-is, table-is)

@@ -149,6 +149,6 @@ module _ (p : ℕ) where
   unfolding setAt
   set-none a b c d e f = rw (ne-eqb _ _ a, ne-eqb _ _ b, ne-eqb _ _ c, ne-eqb _ _ d, ne-eqb _ _ e, ne-eqb _ _ f)
 
-pub ruleset sets = (set-value, set-test, set-interval, set-assertion, set-regValue, set-regTest, set-none)
+pub ruleset codes-at-branches = (set-value, set-test, set-interval, set-assertion, set-regValue, set-regTest, set-none)
 
-pub ruleset codes = (operand-codes, parts-two, parts-one, parts-none, fits-code, place-bottom, place-lower, place-own, place-holds)
+pub ruleset code-branches = (operand-codes, parts-two, parts-one, parts-none, fits-code, place-bottom, place-lower, place-own, place-holds)

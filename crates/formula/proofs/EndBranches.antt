@@ -26,4 +26,4 @@ module _ (s : List ℕ) (at k : ℕ) (x : Node) (z : k ≡ 0 → ⊥) (e : x ≡
         let t₁ : 1 < x .parts = omega arith in
         rw (parse-step s k at z, ← e, lt-ltb _ _ t₀, lt-ltb _ _ t₁, ← f) g
 
-pub ruleset ends = (end-zero, end-leaf, end-one, end-two, lower)
+pub ruleset end-at-branches = (end-zero, end-leaf, end-one, end-two, lower)

@@ -25,7 +25,7 @@ module _ (s : List ℕ) (at p : ℕ) (o : Bool) (h : at < length s) (e : o ≡ h
   unfolding nodeAt
   node-operand b z d = rw (lt-ltb _ _ h, ← e, z, ← q, d)
 
-pub ruleset nodes = (node-past, node-plain, node-operand)
+pub ruleset node-at-branches = (node-past, node-plain, node-operand)
 
 pub parse-zero : (s : List ℕ) (k at : ℕ) → k ≡ 0 → parseTree s k at ≡ record { tree = Tree.none; end = at }
 unfolding parseTree

@@ -52,7 +52,7 @@ module _ (s : List ℕ) (n : Counts) (p at : ℕ) where
       head-operand r z e = rw (lt-ltb _ _ h, ← ef, d, ← eo, z)
           (e ∙ ap (λ (i : ℕ). answer (operandFault s n (getD s at 0) (at + 1)) i) (omega arith))
 
-pub ruleset heads = (operand-past, operand-range, operand-fine, head-past, head-unfit, head-plain, head-operand)
+pub ruleset reader-branches = (operand-past, operand-range, operand-fine, head-past, head-unfit, head-plain, head-operand)
 
 -- what an answer says
 module _ (r f e : ℕ) (small : f < limit) (a : r ≡ answer f e) where
@@ -238,7 +238,7 @@ module _ (s : List ℕ) (n : Counts) (k p at : ℕ) where
               q .0,
             ) (er ∙ rw (q .1) refl)
 
-pub ruleset reads = (read-zero, read-head, read-inside, read-leaf, read-part, read-one, read-two, lower)
+pub ruleset read-at-branches = (read-zero, read-head, read-inside, read-leaf, read-part, read-one, read-two, lower)
 
 -- a body from a position on
 pub body-past : (s : List ℕ) (n : Counts) (at : ℕ) → length s ≤ at → Fault malformed ≡ readingFrom s n at
@@ -267,4 +267,4 @@ module _ (s : List ℕ) (n : Counts) (at e : ℕ) (is : e ≡ readAnswer s n nes
     pub body-over : (e - limit ≡ length s → ⊥) → Fault malformed ≡ readingFrom s n at
     body-over d = rw (ended .0, ne-eqb _ _ (λ (z : end ≡ length s). d (ended .1 ∙ z)))
 
-pub ruleset body-reads = (body-past, body-fault, body-formula, body-over)
+pub ruleset read-record-branches = (body-past, body-fault, body-formula, body-over)

@@ -295,7 +295,7 @@ module _ (s : List ℕ) (a m b k : ℕ) (t : Pair) (et : t ≡ pairAt s a m b k)
       → r₂ ≡ sameOf (parseTree s (m - 1) p₂) (parseTree s (k - 1) q₂) → r₂ ≡ sameOf (parseTree s m a) (parseTree s k b)
   same-two p q p₂ q₂ r r₂ d e f g = rw (same-by, d, ← e, f) g
 
-pub ruleset sames = (same-differ, same-ended, same-one, same-two-no, same-two, one-left, one-right, two-left, two-right, lower)
+pub ruleset same-at-branches = (same-differ, same-ended, same-one, same-two-no, same-two, one-left, one-right, two-left, two-right, lower)
 
 -- whether the node there is the name that is replaced
 pub hit-zero : (s : List ℕ) (a k : ℕ) (w : Substitution) → k ≡ 0 → Other ≡ hitAt s a k w
@@ -315,7 +315,7 @@ module _ (s : List ℕ) (a k c : ℕ) (w : Substitution) (x : Node) (z : k ≡ 0
   unfolding hitAt
   hit-code h d i = rw (← e, ← ec, ne-eqb _ _ z, ne-eqb _ _ d) i
 
-pub ruleset hits = (hit-zero, hit-name, hit-operand, hit-code)
+pub ruleset hit-at-branches = (hit-zero, hit-name, hit-operand, hit-code)
 
 module _ (x : Node) (w : Substitution) where
   pub second-name : w .two ≡ true → x .code ≡ byte Code.reg → x .operand ≡ w .second → Name (x .next) (w .with) ≡ secondAt x w
@@ -334,9 +334,9 @@ module _ (x : Node) (w : Substitution) where
   unfolding secondAt
   second-none t = rw t
 
-pub ruleset seconds = (second-name, second-operand, second-code, second-none)
+pub ruleset second-hit-branches = (second-name, second-operand, second-code, second-none)
 
-pub ruleset pairs = (pair-ended, pair-left, pair-right, pair-deep)
+pub ruleset pair-at-branches = (pair-ended, pair-left, pair-right, pair-deep)
 
 replace-node : (σ : ℕ → ℕ → Tree) (c o : ℕ) (l r : Tree)
     → replaceT σ (node c o l r) ≡ cond (isName c) (σ c o) (node c o (replaceT σ l) (replaceT σ r))
@@ -446,7 +446,7 @@ module _ (s : List ℕ) (c o b k : ℕ) (n : Node) (z : k ≡ 0 → ⊥) (e : n 
   pub leaf-code : (n .code ≡ c → ⊥) → No ≡ sameOf (leafOnly c o) (parseTree s k b)
   leaf-code d = rw (parse-step s k b z, ← e, same-nodes, ne-eqb _ _ (λ (q : c ≡ n .code). d (sym q)))
 
-pub ruleset leaves = (leaf-zero, leaf-there, leaf-operand, leaf-code)
+pub ruleset leaf-stands-branches = (leaf-zero, leaf-there, leaf-operand, leaf-code)
 
 pub word-parts : partCount (byte Code.word) ≡ 0
 word-parts = name-parts (byte Code.word) is-word
@@ -460,7 +460,7 @@ module _ (s : List ℕ) (by : Replacing) (b k : ℕ) (r : Same) where
       → r ≡ sameOf (standsFor s by) (parseTree s k b)
   stands-word x e d = rw e d
 
-pub ruleset stands = (stands-formula, stands-word, word-parts)
+pub ruleset stands-at-branches = (stands-formula, stands-word, word-parts)
 
 said-yes : (u v : ParsedTree) (p q : ℕ) → sameOf u v ≡ Yes p q → (sameTree (u .tree) (v .tree) ≡ true) × (u .end ≡ p) × (v .end ≡ q)
 said-yes u v p q = go (sameTree (u .tree) (v .tree))
@@ -535,7 +535,7 @@ module _ (s : List ℕ) (a m b k : ℕ) (w : Substitution) (h : Hit) (eh : h ≡
         → r ≡ Yes p₂ q₂ → r₂ ≡ replacedOf s w (parseTree s (m - 1) p₂) (parseTree s (k - 1) q₂) → r₂ ≡ want
     replaced-two p q p₂ q₂ r r₂ d e f g = rw (replaced-by, d, ← e, f) g
 
-pub ruleset replaces = (
+pub ruleset replaced-at-branches = (
   replaced-hit-no,
   replaced-hit,
   replaced-differ,

@@ -34,7 +34,7 @@ module _ (w : Query) (owners : List ℕ) (c o : ℕ) (t : Bool) (e : t ≡ membe
   unfolding isQueried
   query-foreign n d z q f = rw (← e, d, ne-eqb _ _ z, ne-eqb _ _ q, f)
 
-pub ruleset queries = (query-no, query-any, query-equal, query-foreign)
+pub ruleset is-queried-branches = (query-no, query-any, query-equal, query-foreign)
 
 occurs-node : (w : Query) (owners : List ℕ) (c o : ℕ) (l r : Tree)
     → occurs w owners (node c o l r) ≡ cond (isQueried w owners c o) true (cond (occurs w owners l) true (occurs w owners r))
@@ -92,6 +92,6 @@ module _ (w : Query) (owners : List ℕ) (s : List ℕ) (k at : ℕ) where
   pub found-no : (f : Found) (m : ℕ) → f ≡ foundIn w owners (parseTree s k at) → f ≡ No m → false ≡ occurs w owners (parseTree s k at .tree)
   found-no f m e d = sym (said-no (occurs w owners (parseTree s k at .tree)) (parseTree s k at .end) m f e d .0)
 
-pub ruleset finds = (find-zero, find-here, find-leaf, find-part, find-one, find-two, lower)
+pub ruleset find-at-branches = (find-zero, find-here, find-leaf, find-part, find-one, find-two, lower)
 
-pub ruleset founds = (found-yes, found-no)
+pub ruleset occurs-at-branches = (found-yes, found-no)

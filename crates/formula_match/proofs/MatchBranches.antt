@@ -50,7 +50,7 @@ module _ (s : List ℕ) (tpl j at k : ℕ) (b : Bind) where
       unfolding holeAt
       hole-held p q c = rw (ne-eqb _ _ z, ← d, h, ← e, c)
 
-pub ruleset holes = (there-not, there-left, hole-new, hole-same, hole-no, hole-held)
+pub ruleset bind-branches = (there-not, there-left, hole-new, hole-same, hole-no, hole-held)
 
 module _ (h x : Node) (b : Bind) where
   pub node-code : (h .code ≡ x .code → ⊥) → refused b ≡ nodeOf h x b
@@ -71,7 +71,7 @@ module _ (h x : Node) (b : Bind) where
       unfolding nodeOf
       node-refused k = rw (eq-eqb _ _ c, ← eo, z, ← e, k)
 
-pub ruleset nodes = (node-code, node-plain, node-taken, node-refused)
+pub ruleset match-node-branches = (node-code, node-plain, node-taken, node-refused)
 
 -- a node has at most two parts
 pub few-parts : (c : ℕ) → partCount c < 3
@@ -105,7 +105,7 @@ module _ (s t : List ℕ) (i at k : ℕ) (b : Bind) where
     unfolding rootAt
     root-bad l u = rw (ne-eqb _ _ z, ← eh, le-ltb _ _ l, le-ltb _ _ u)
 
-pub ruleset roots = (root-zero, root-node, root-hole, root-bad, part-small)
+pub ruleset match-root-branches = (root-zero, root-node, root-hole, root-bad, part-small)
 
 pub match-step : (s t : List ℕ) (k i at : ℕ) (b : Bind)
     → matchAt s t k i at b ≡ grown (λ i' at' b'. matchAt s t (k - 1) i' at' b') (parseTree s k at .end) (rootAt s t i at k b)
@@ -156,4 +156,4 @@ module _ (s t : List ℕ) (i at k : ℕ) (b : Bind) (r : Root) (e : r ≡ rootAt
 
 pub ruleset parting = (left-one, left-two, falls-one, falls-two)
 
-pub ruleset matches = (match-one, match-first-no, match-two, match-open, match-root, parting)
+pub ruleset match-at-branches = (match-one, match-first-no, match-two, match-open, match-root, parting)

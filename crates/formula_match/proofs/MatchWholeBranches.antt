@@ -38,4 +38,4 @@ module _ (s t : List ℕ) (i at k : ℕ) (b : Bind) (r : Root) (e : r ≡ rootAt
             (rw q) ∙ ap wholeOf (match-open s t i at k b r e n₂ n₃ (parseTree s k at .end) q refl)
         go false d = ap wholeOf (match-root s t i at k b r e n₂ n₃ (eqb-false (r .kind) 4 d))
 
-pub ruleset wholes = (whole-one, whole-first-no, whole-two, whole-root, parting)
+pub ruleset match-whole-branches = (whole-one, whole-first-no, whole-two, whole-root, parting)

@@ -72,5 +72,3 @@ module _ (old : List ℕ) (z : Sizes) (new : List ℕ) (y : Sizes) (points : Lis
       → record { code = q .code; steps = r .steps + q .steps; machine = q .machine } ≡ wentOn old z new y points room r second
   unfolding wentOn
   on-taken n q h en eq = rw (eq-eqb (r .code) 0 h, ← en, ← eq)
-
-pub ruleset going = (on-refused, on-taken)

@@ -54,7 +54,7 @@ module _ (f g : Form) (e : f ≡ g) where
   pub form-unlisted : f ≡ Unlisted → false ≡ isImplication g
   form-unlisted h = ap isImplication (sym h ∙ e)
 
-pub ruleset forms = (form-triple, form-implication, form-inclusion, form-pair, form-unlisted)
+pub ruleset is-implication-branches = (form-triple, form-implication, form-inclusion, form-pair, form-unlisted)
 
 module _ (s b p q : List ℕ) (i : ℕ) (x : List ℕ) (u : Bool) (ei : i ≡ le16 (drop 3 b)) (ex : x ≡ getD (bodies s) i [])
     (eu : u ≡ sameBytes p x) where
@@ -72,7 +72,7 @@ module _ (s b p q : List ℕ) (i : ℕ) (x : List ℕ) (u : Bool) (ei : i ≡ le
       ev ∙ ap (λ (l : List ℕ). sameBytes q l) (ew ∙ ap (λ (k : ℕ). getD (bodies s) k []) ej)
       ∙ ap (λ (v : Bool). v && sameBytes q (getD (bodies s) (le16 (drop 5 b)) [])) (sym h ∙ first-is)
 
-pub ruleset side-ways = (left-other, left-same)
+pub ruleset sides-match-branches = (left-other, left-same)
 
 module _ (s : List ℕ) (z : Sizes) (m : Marks) (n : ℕ) (p q : List ℕ) (u : Bool) (e : u ≡ isMarked m n) where
   pub line-unmarked : u ≡ false → false ≡ lineServes s z m n p q
@@ -91,7 +91,7 @@ module _ (s : List ℕ) (z : Sizes) (m : Marks) (n : ℕ) (p q : List ℕ) (u : 
     pub line-sides : (w : Bool) → v ≡ true → w ≡ sidesMatch s b p q → w ≡ lineServes s z m n p q
     line-sides w g d = d ∙ ap (λ (w : Bool). w && sidesMatch s b p q) (sym g) ∙ served
 
-pub ruleset line-ways = (line-unmarked, line-other, line-sides)
+pub ruleset line-serves-branches = (line-unmarked, line-other, line-sides)
 
 module _ (old : List ℕ) (z : Sizes) (new : List ℕ) (y : Sizes) (m : Marks) (table : List ℕ) where
   pub entry-served : (t k i p n : ℕ) (a b : List ℕ) (r : Bool) → a ≡ assertionOf old z t k → p ≡ pointNamed table i
@@ -152,6 +152,6 @@ module _ (old : List ℕ) (z : Sizes) (new : List ℕ) (y : Sizes) (m : Marks) (
   unfolding threadsServe
   all-done t n h q a b = each-done each-thread t (z .threads) h (omega arith) (omega arith)
 
-pub ruleset serve-ways = (serve-more, serve-stops, serve-done)
+pub ruleset entries-serve-branches = (serve-more, serve-stops, serve-done)
 
-pub ruleset all-ways = (all-more, all-stop, all-done)
+pub ruleset lines-serve-branches = (all-more, all-stop, all-done)

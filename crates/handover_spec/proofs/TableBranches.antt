@@ -44,7 +44,7 @@ module _ (table : List ℕ) (i : ℕ) where
     unfolding entryFits
     entry-in n u h d g = rw (← e, le-leb p last h, ← d) g
 
-pub ruleset entry-ways = (point-read, line-read, entry-behind, entry-in)
+pub ruleset entries-branches = (point-read, line-read, entry-behind, entry-in)
 
 module _ (table : List ℕ) (last lines from : ℕ) where
   abbrev fit : ℕ → Bool
@@ -68,7 +68,7 @@ module _ (table : List ℕ) (last lines from : ℕ) where
   unfolding entriesFit
   fit-done k n h a b = each-done fit k n h a b
 
-pub ruleset fits = (fit-more, fit-stops, fit-done)
+pub ruleset entries-fit-branches = (fit-more, fit-stops, fit-done)
 
 -- the table
 
@@ -141,4 +141,4 @@ module _ (old : List ℕ) (z : Sizes) (new : List ℕ) (y : Sizes) (table : List
     table-long r h g = rw (eq-eqb (length table) (entrySize * pointsTo (programOf z (bodies old)) (z .threads))
         (h ∙ ap (λ (k : ℕ). entrySize * k) size-is)) g
 
-pub ruleset table-ways = (threads-more, threads-stop, threads-done)
+pub ruleset threads-fit-branches = (threads-more, threads-stop, threads-done)

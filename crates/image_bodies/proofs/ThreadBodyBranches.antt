@@ -57,7 +57,7 @@ module _ (l : List (List ℕ)) (i : Instruction) where
     unfolding resultAbsent
     absent-is q = rw (lt-leb _ _ n, le-ltb _ _ m, ← eb, ← eu, q)
 
-pub ruleset instructed = (sorted-none, sorted-is, first-unsorted, second-sorted, absent-none, absent-past, absent-not, absent-is)
+pub ruleset thread-body-instructed = (sorted-none, sorted-is, first-unsorted, second-sorted, absent-none, absent-past, absent-not, absent-is)
 
 -- who owns its registers
 
@@ -104,7 +104,7 @@ module _ (l : List (List ℕ)) (t : ℕ) where
         unfolding owned
         owned-last x g h = rw (← er, ← eu, q, ← ev, d, ← ew, g) h
 
-pub ruleset owning = (
+pub ruleset thread-body-owning = (
   register-none,
   register-is,
   formula-none,

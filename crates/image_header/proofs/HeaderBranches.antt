@@ -71,4 +71,4 @@ pub values-within : (b l : List ℕ) (r : ℕ) (u : Bool) → r ≡ getD b 3 0 �
     → u ≡ every (within 0 (getD b 3 0 - 1)) (startValues b)
 values-within b l r u e d h = rw (← e, ← d) h
 
-pub ruleset heading = (size-is, values-are, owners-are, marks-are, cleared-there, cleared-absent, owned-of, range-some, values-within)
+pub ruleset header-branches = (size-is, values-are, owners-are, marks-are, cleared-there, cleared-absent, owned-of, range-some, values-within)

@@ -40,7 +40,7 @@ module _ (op : ℕ) (t : Bool) (e : t ≡ twofold op) where
   unfolding secondHalf
   second-none b d = rw (← e, d)
 
-pub ruleset halving = (half-is, read-is, size-two, size-one, second-there, second-none)
+pub ruleset instruction-branches = (half-is, read-is, size-two, size-one, second-there, second-none)
 
 module _ (i : Instruction) (z : Sizes) (t : Bool) (e : t ≡ twofold (i .operation)) where
   pub second-alone : t ≡ false → true ≡ secondFits z i
@@ -60,7 +60,7 @@ module _ (i : Instruction) (z : Sizes) (t : Bool) (e : t ≡ twofold (i .operati
     unfolding secondFits
     second-noted h o = rw (← e, w, ← ef, h, ne-eqb _ _ o)
 
-pub ruleset seconds = (second-alone, second-faulty, second-differs, second-noted)
+pub ruleset second-fits-branches = (second-alone, second-faulty, second-differs, second-noted)
 
 module _ (i : Instruction) (last : ℕ) (z : Sizes) (f : Fields) (g : Bool) (e : f ≡ fieldsOf (i .operation) last z)
     (d : g ≡ fieldsFit i f) where
@@ -72,4 +72,4 @@ module _ (i : Instruction) (last : ℕ) (z : Sizes) (f : Fields) (g : Bool) (e :
   unfolding ranged
   fits-second r h k = rw (← e, ← d, h) k
 
-pub ruleset ranging = (fits-none, fits-second)
+pub ruleset instruction-fits-branches = (fits-none, fits-second)

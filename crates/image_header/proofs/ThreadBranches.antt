@@ -75,7 +75,7 @@ pub size-of : (b l : List ℕ) (last n : ℕ) → last ≡ lastPoint b → l ≡
 unfolding threadSize
 size-of b l last n e d f = rw (f, d, e)
 
-pub ruleset threading = (last-none, last-is, at-past, at-in, at-known, size-of)
+pub ruleset thread-threading = (last-none, last-is, at-past, at-in, at-known, size-of)
 
 -- the walk over the instructions
 
@@ -92,7 +92,7 @@ walk-more l i at o n e d f = go (i + 1) (omega arith)
 pub walk-all : (l : List ℕ) (i p at : ℕ) → p ≤ i → i ≤ p → at ≡ begins l i → at ≡ begins l p
 walk-all l i p at h g e = let q : i ≡ p = omega arith in rw (← q) e
 
-pub ruleset walking = (walk-start, walk-more, walk-all)
+pub ruleset begins-at-branches = (walk-start, walk-more, walk-all)
 
 -- sizes are at most ten bytes
 begins-low : (l : List ℕ) (p : ℕ) → begins l p ≤ 10 * p
@@ -122,7 +122,7 @@ from-walked b l p at d e = rw (← d) e
 pub from-start : (b : List ℕ) → 0 ≡ begins (drop 1 b) 0
 from-start b = walk-start (drop 1 b)
 
-pub ruleset going = (begins-few, from-behind, from-in, from-walked, from-start)
+pub ruleset thread-going = (begins-few, from-behind, from-in, from-walked, from-start)
 
 -- the loop over a thread's instructions
 

@@ -37,7 +37,7 @@ module _ (s : List ℕ) (p : ℕ) where
   unfolding nextStart
   next-in n e h g = omega arith
 
-pub ruleset stepping = (next-past, next-over, next-cut, next-in)
+pub ruleset next-start-branches = (next-past, next-over, next-cut, next-in)
 
 -- a record's body
 
@@ -55,7 +55,7 @@ module _ (s : List ℕ) (p : ℕ) (r : List ℕ) where
     unfolding body
     body-in d = rw (← e, drop-drop 4 p s) d
 
-pub ruleset bodied = (body-past, body-under, body-in)
+pub ruleset body-at-branches = (body-past, body-under, body-in)
 
 -- room
 
@@ -82,7 +82,7 @@ size-is s = refl
 pub room-most : (s : List ℕ) (n : ℕ) → n ≡ room s → n ≤ 4523
 room-most s n e = omega (arith, room-few s)
 
-pub ruleset rooms = (room-short, room-long)
+pub ruleset room-for-branches = (room-short, room-long)
 
 -- the records
 
@@ -144,7 +144,7 @@ stays s i (suc n) h a g = go (eqb i (suc n)) refl (λ b. stays s i n h b (omega 
 pub records-ended : (s l : List ℕ) (i p n : ℕ) → n ≡ room s → i ≤ n → l ≡ recordsTo s i → p ≡ startOf s i → length s ≤ p → l ≡ recordsTo s n
 records-ended s l i p n r h e d g = e ∙ sym (stays s i n (rw d at g) h (omega (arith, size-is s)) .1)
 
-pub ruleset filling = (records-none, start-none, records-more, start-more, records-all, records-ended, zeros-long, place-there, long)
+pub ruleset fill-records-branches = (records-none, start-none, records-more, start-more, records-all, records-ended, zeros-long, place-there, long)
 
 -- the first thread
 
@@ -237,7 +237,7 @@ row-place l m b from p q n e h k g = omega (arith, ap length e ∙ row-length l 
 pub row-same : (l m b : List ℕ) (from q : ℕ) → m ≡ rowTo l from b q → length m ≡ length l
 row-same l m b from q e = ap length e ∙ row-length l from b q
 
-pub ruleset rowing = (row-none, row-more, row-all, row-place)
+pub ruleset fill-row-branches = (row-none, row-more, row-all, row-place)
 
 -- the places of four threads
 
@@ -333,7 +333,7 @@ pub index-long : (s i l m : List ℕ) (n v from p : ℕ) → i ≡ replicate (ta
 index-long s i l m n v from p e d c =
     ap length c ∙ rows-length s (set l n v) from p 4 ∙ length-set l n v ∙ ap length d ∙ records-length s n ∙ sym (zeros-long s i e)
 
-pub ruleset indexing = (noted-there, rows-fit, index-filled)
+pub ruleset fill-index-branches = (noted-there, rows-fit, index-filled)
 
 -- an array of zeros, as long as the image asks for
 

@@ -247,7 +247,7 @@ body-placed s i p r e d = d ∙ (rw e) ∙ go (ltb i Limits.records) refl
     go true c = sym (body-is s i (ltb-true i Limits.records c))
     go false c = rw (drop-length s) (body-nil ∙ sym (body-past s i (ltb-false i Limits.records c)))
 
-pub ruleset looking = (starts-there, entry-fits, place-in, place-past, body-placed)
+pub ruleset look-up-branches = (starts-there, entry-fits, place-in, place-past, body-placed)
 
 -- where an instruction begins
 
@@ -281,7 +281,7 @@ module _ (s ix b : List ℕ) (i p : ℕ) (e : ix ≡ indexOf s) (d : b ≡ getD 
 pub begins-known : (b l : List ℕ) (p r : ℕ) → l ≡ drop 1 b → r ≡ begins l p → r ≡ begins (drop 1 b) p
 begins-known b l p r e d = rw (← e) d
 
-pub ruleset starting = (starts-there, first-there, start-there, start-known, begins-known)
+pub ruleset begins-in-branches = (starts-there, first-there, start-there, start-known, begins-known)
 
 module _ (s b : List ℕ) (i p : ℕ) (d : b ≡ getD (bodies s) i []) where
   pub instruction-none : (last : ℕ) → last ≡ lastPoint b → last ≤ p → nothing ≡ getD (instructions (getD (bodies s) i [])) p nothing
@@ -290,4 +290,4 @@ module _ (s b : List ℕ) (i p : ℕ) (d : b ≡ getD (bodies s) i []) where
   pub instruction-there : (r : Instruction) → r ≡ getD (instructions b) p nothing → r ≡ getD (instructions (getD (bodies s) i [])) p nothing
   instruction-there r e = rw (← d) e
 
-pub ruleset instructed = (instruction-none, instruction-there)
+pub ruleset instruction-in-branches = (instruction-none, instruction-there)

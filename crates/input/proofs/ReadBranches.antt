@@ -47,7 +47,7 @@ module _ (failed : Bool) (more done : ℕ) where
 pub front-kept : (n : ℕ) (l rest : List ℕ) → n ≤ length l → take n (take n l ++ rest) ≡ take n l
 front-kept n l rest h = take-at (take n l) rest n (length-take-le n l h)
 
-pub ruleset reaching = (reached-failed, reached-end, reached-more)
+pub ruleset reached-by-branches = (reached-failed, reached-end, reached-more)
 
 module _ (r : Reached) (done room : ℕ) (g : Goes r done room) where
   more-within : (end : ℕ) → r ≡ More end → (done < end) × (end ≤ room)
@@ -74,4 +74,4 @@ over-by Failed l done h g = tt
 pub over-fits : (r : Reached) (how : Filled) (l : List ℕ) (done : ℕ) → done < length l → Goes r done (length l) → r ≡ Over how → Fits how l
 over-fits r how l done h g e = over-by how l done h (subst (λ x. Goes x done (length l)) e g)
 
-pub ruleset filling = (less-left, more-fits, over-fits)
+pub ruleset fill-branches = (less-left, more-fits, over-fits)

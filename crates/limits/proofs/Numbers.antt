@@ -47,7 +47,7 @@ unfolding nth
 nth-in l zero d r h e = absurd (h refl)
 nth-in l (suc k) d r h e = rw (sub-one (suc k)) at e
 
-pub ruleset reads = (rest-all, nth-none, nth-in, byte-past, word-past, word-in, part-past, part-rest, part-in)
+pub ruleset read-branches = (rest-all, nth-none, nth-in, byte-past, word-past, word-in, part-past, part-rest, part-in)
 
 -- there are n bytes, or not
 
@@ -94,7 +94,7 @@ number-none n l j h g = let q : length l ≤ 2 * j = omega arith in rw (numbers-
 pub number-in : (n : ℕ) (l : List ℕ) (j r : ℕ) → j < n → r ≡ le16 (drop (2 * j) l) → r ≡ getD (numbers n l) j 0
 number-in n l j r h e = e ∙ sym (numbers-at n l j h)
 
-pub ruleset numbering = (number-past, number-none, number-in)
+pub ruleset number-at-branches = (number-past, number-none, number-in)
 
 -- a test of a number, or of numbers, that a call gave
 
@@ -133,4 +133,4 @@ pub each-all : {A : Type 0} (f : A → Bool) (i n : ℕ) (l : List A) (g : Bool)
 unfolding every
 each-all f i n l g h len e = let q : length l ≤ i = rw len h in rw (e, drop-of-length-le l q)
 
-pub ruleset ranging = (each-start, each-off, each-more, each-all, numbers-length)
+pub ruleset range-branches = (each-start, each-off, each-more, each-all, numbers-length)

@@ -39,5 +39,3 @@ module _ (s : List ℕ) (z : Sizes) (m : Marks) where
     pub first-past : i ≤ n → n ≤ i → i ≡ firstDenied s z m (z .claims) 0
     unfolding Borne firstDenied
     first-past h q = let f : z .claims - i ≡ 0 = omega arith in rw f at d
-
-pub ruleset claiming = (none-first, borne-none, borne-more, first-here, first-past)

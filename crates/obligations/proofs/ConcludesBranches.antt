@@ -32,7 +32,7 @@ pub concludes-is : (s : List ℕ) (z : Sizes) (o : Obligation) (n : ℕ) (w : Go
 unfolding concludesAt
 concludes-is s z o n w r ew er = rw (← ew) er
 
-pub ruleset concluding = (said-is, concludes-is)
+pub ruleset concludes-branches = (said-is, concludes-is)
 
 module _ (s : List ℕ) (z : Sizes) (m : Marks) (i : ℕ) (c : Claimed) (e : c ≡ claimedIn (claimBody z (bodies s) i)) where
   pub sustained-none : c .line ≡ 0 → false ≡ sustainedAt s z m i
@@ -48,7 +48,7 @@ module _ (s : List ℕ) (z : Sizes) (m : Marks) (i : ℕ) (c : Claimed) (e : c �
     unfolding sustainedAt
     sustained-marked r h d = rw (← e, ne-eqb _ _ n, ← ew, ← eb, h) d
 
-pub ruleset sustaining = (sustained-none, sustained-else, sustained-marked)
+pub ruleset is-sustained-branches = (sustained-none, sustained-else, sustained-marked)
 
 module _ (s : List ℕ) (z : Sizes) (m : Marks) (o : Obligation) (n : ℕ) where
   pub code-none : n ≡ 0 → 20 ≡ codeAt s z m o n
@@ -69,4 +69,4 @@ module _ (s : List ℕ) (z : Sizes) (m : Marks) (o : Obligation) (n : ℕ) where
       unfolding codeAt
       code-met g = rw (ne-eqb _ _ h, ← e, f, ← d, g)
 
-pub ruleset coding = (code-none, code-else, code-unmarked, code-met)
+pub ruleset code-at-branches = (code-none, code-else, code-unmarked, code-met)

@@ -28,7 +28,7 @@ module _ (op : ℕ) (p : Bool) (e : p ≡ pairOperation op) where
   unfolding actingForm
   form-alone h = rw (← e, h)
 
-pub ruleset forming = (form-pair, form-alone)
+pub ruleset acting-form-branches = (form-pair, form-alone)
 
 module _ (s : List ℕ) (z : Sizes) (t k : ℕ) where
   pub start-wanted : (a : ℕ) (b : Bind) → a ≡ assertedAt s z t 0 → b ≡ oneHole a → implied startAt b ≡ goalStart s z t
@@ -77,7 +77,7 @@ module _ (s : List ℕ) (z : Sizes) (c : Claimed) (a d : ℕ) (b : Bind) (ea : a
   unfolding goalClaim
   claim-higher h eb = rw (le-ltb _ _ h, eb, ea, ed)
 
-pub ruleset wanting = (
+pub ruleset goal-branches = (
   claim-lower,
   claim-higher,
   start-wanted,
@@ -106,4 +106,4 @@ module _ (s : List ℕ) (z : Sizes) (o : Obligation) (r : Goal) where
   unfolding goalAt
   goal-stable u j t k e d = rw e d
 
-pub ruleset choosing = (goal-start, goal-step, wanted-taken, goal-stable)
+pub ruleset goal-of-branches = (goal-start, goal-step, wanted-taken, goal-stable)

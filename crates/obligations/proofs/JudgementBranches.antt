@@ -45,4 +45,4 @@ module _ (s : List ℕ) (z : Sizes) (m : Marks) (o : Obligation) (c : ℕ) where
     unfolding next
     next-failed p e n d h = rw h
 
-pub ruleset nexting = (one-past, one-met, one-failed, next-met, next-failed)
+pub ruleset judgement-branches = (one-past, one-met, one-failed, next-met, next-failed)

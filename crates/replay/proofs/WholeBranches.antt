@@ -24,4 +24,4 @@ module _ (s trace given : List ℕ) (lent : ℕ) (a : Acceptance) (e : a ≡ acc
   unfolding replayOf
   whole-granted z room r d q h = rw (← e, d, ← q) h
 
-pub ruleset wholes = (whole-declined, whole-granted)
+pub ruleset replay-by-branches = (whole-declined, whole-granted)

@@ -70,7 +70,7 @@ module _ (g : MemoryShape) (l : List ℕ) (t p : ℕ) (d : Effect) (b : Bool) (e
   unfolding mayPick
   picks-acquire h = rw (h, ← reach-is g t (d .word) p l) e
 
-pub ruleset picks = (picks-load, picks-acquire)
+pub ruleset may-pick-branches = (picks-load, picks-acquire)
 
 pub add-made : (g r : MemoryShape) (l n : List ℕ) (R t p c : ℕ) (d : Effect) (w : Write) → w ≡ writeAt (memoryOf g l) (d .word) p
     → c ≡ sumOf R (w .value) (d .value) → memoryOf r n ≡ swapped (memoryOf g l) (d .word) c t p
@@ -83,8 +83,8 @@ pub both-made : (g h r : Registers) (d : Effect) → h ≡ withRegister g (d .no
 unfolding withBoth
 both-made g h r d e q = rw (← e) q
 
-pub ruleset reaches = (reach-there, reach-past)
+pub ruleset is-reachable-branches = (reach-there, reach-past)
 
-pub ruleset uncovers = (uncovered-there, uncovered-not)
+pub ruleset is-uncovered-branches = (uncovered-there, uncovered-not)
 
-pub ruleset effects = (effect-register, effect-word)
+pub ruleset effect-of-branches = (effect-register, effect-word)

@@ -45,4 +45,4 @@ module _ (R : ℕ) (g : List ℕ) where
             let t₁ : 1 < x .parts = omega arith in
             rw (parse-step s k at z, ← e, lt-ltb _ _ t₀, lt-ltb _ _ t₁, worked-node, q, h, f)
 
-pub ruleset works = (work-zero, work-leaf, work-one, work-two, lower)
+pub ruleset work-at-branches = (work-zero, work-leaf, work-one, work-two, lower)

@@ -72,7 +72,7 @@ pub number-steps : (a : Answer) (i : ℕ) → i ≡ 0 → a .steps ≡ getD (num
 unfolding numbersOf
 number-steps a i e = rw e
 
-pub ruleset numbering = (number-steps, number-point, number-register, number-past)
+pub ruleset number-at-branches = (number-steps, number-point, number-register, number-past)
 
 -- THE BYTES OF AN ENTRY
 
@@ -104,7 +104,7 @@ module _ (w : Write) where
   pub byte-past : (j : ℕ) → 11 ≤ j → 0 ≡ getD (entryBytes w) j 0
   byte-past j h = sym (List·getD-eq-default (entryBytes w) 0 (omega (arith, entry-length)))
 
-pub ruleset byting = (byte-value, byte-releasing, byte-covered, byte-position, byte-past)
+pub ruleset entry-byte-branches = (byte-value, byte-releasing, byte-covered, byte-position, byte-past)
 
 -- ENTRIES IN FRONT OF A TABLE
 
@@ -277,9 +277,7 @@ module _ (r : Replayed) (lent : ℕ) where
           (packed (r .machine .memory) (r .words)) refl ∙ sym (held-is e)
       go false e = rw (stays-is e)
 
-pub ruleset counting = (count-held, count-none)
-
-pub ruleset showing = (shown-made, shown-whole)
+pub ruleset count-of-branches = (count-held, count-none)
 
 -- A TABLE OF STRUCTS
 

@@ -25,4 +25,4 @@ module _ (s : List ℕ) (z : Sizes) (trace given : List ℕ) (room : ℕ) (b : L
   unfolding replayOn
   on-run r h e = rw (le-ltb _ _ h, ← eb, ← en, ← e)
 
-pub ruleset ons = (on-short, on-run)
+pub ruleset replay-on-branches = (on-short, on-run)

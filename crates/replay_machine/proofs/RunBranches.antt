@@ -92,7 +92,7 @@ module _ (s : List ℕ) (z : Sizes) (room : ℕ) (l : List ℕ) where
 pub run-begin : (s : List ℕ) (z : Sizes) (room : ℕ) (l : List ℕ) (n : Machine) → ran s z room n 0 l ≡ ran s z room n 0 (drop 0 l)
 run-begin s z room l n = refl
 
-pub ruleset runs = (run-begin, run-ended, run-half, run-on, run-refused)
+pub ruleset run-on-branches = (run-begin, run-ended, run-half, run-on, run-refused)
 
 -- a machine laid out, run, and taken from there
 pub run-made : (s : List ℕ) (z : Sizes) (room : ℕ) (l : List ℕ) (n q : Machine) (h : Threads) (r : Reached) (b c : List ℕ)

@@ -60,7 +60,7 @@ module _ (m : Memory) (words : ℕ) where
   unfolding packed packedTo
   pack-end a e h g l t = rw (← column-whole entry a e 64 h g l t)
 
-pub ruleset packs = (pack-begin, pack-more, pack-end, repeated)
+pub ruleset pack-branches = (pack-begin, pack-more, pack-end, repeated)
 
 -- the table stands for the state's rows: position i of word k + 1 behind the rows before it
 pub table-stands : (m : Memory) (s : State) → Stands m s → (n k i : ℕ) → k < n → k < 8 → i < s .size (suc k)

@@ -65,8 +65,8 @@ module _ (b : List ℕ) where
     unfolding started
     machine-made m h e d = rw (e, d)
 
-pub ruleset writings = (writes-begin, writes-more, writes-end, repeated)
+pub ruleset start-memory-branches = (writes-begin, writes-more, writes-end, repeated)
 
-pub ruleset register-ways = (register-given, register-cleared)
+pub ruleset start-register-branches = (register-given, register-cleared)
 
-pub ruleset valuings = (values-begin, values-more, values-end, repeated)
+pub ruleset start-registers-branches = (values-begin, values-more, values-end, repeated)

@@ -54,7 +54,7 @@ module _ (g : MemoryShape) (l : List ℕ) (words room t p : ℕ) (d : Effect) (b
       unfolding pickRefusal
       pick-full j = rw (← e, h, ← q, i, ← total-is, le-ltb _ _ j)
 
-pub ruleset picks = (pick-not, pick-plain, pick-room, pick-full)
+pub ruleset pick-refusal-branches = (pick-not, pick-plain, pick-room, pick-full)
 
 pub perform-made : (n : Threads) (b c : List ℕ) (R t p k : ℕ) (d : Effect) (old : Write) (g : MemoryShape) (h : Registers)
     → old ≡ writeAt (memoryOf (n .sight) b) (d .word) p → k ≡ pointAfter (getD (n .points) (t % 4) 0) d
@@ -129,9 +129,9 @@ module _ (z : Sizes) (room : ℕ) (n : Threads) (b : List ℕ) (d : Effect) (t p
   unfolding attempted takenOf
   attempt-refused g = rw (← refusal-is, ne-eqb _ _ g)
 
-pub ruleset attempts = (attempt-taken, attempt-refused)
+pub ruleset attempt-branches = (attempt-taken, attempt-refused)
 
-pub ruleset steps = (step-none, step-absent, step-last, step-tried)
+pub ruleset step-branches = (step-none, step-absent, step-last, step-tried)
 
 -- A STEP THAT IS REFUSED CHANGES NOTHING
 

@@ -67,6 +67,6 @@ module _ (g r : MemoryShape) (b : List ℕ) (k t p : ℕ) where
     unfolding swapped swapView
     swap-made n d w u v ew eu ev ec er = rw (er, ec, ev, ew, eu, seen-is g b t)
 
-pub ruleset reads = (read-joined, read-plain, read-relaxed)
+pub ruleset read-view-branches = (read-joined, read-plain, read-relaxed)
 
-pub ruleset swaps = (swap-joined, swap-plain)
+pub ruleset swap-view-branches = (swap-joined, swap-plain)

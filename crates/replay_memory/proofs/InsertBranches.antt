@@ -41,7 +41,7 @@ pub views-end : (g : MemoryShape) (k p s : ℕ) (a : List View) (j : ℕ) → j 
 unfolding grown
 views-end g k p s a j h i n t e = rw (e, ← views-whole (g .views) k p a j h i n t)
 
-pub ruleset view-moves = (views-begin, views-more, views-end, repeated)
+pub ruleset grow-branches = (views-begin, views-more, views-end, repeated)
 
 -- moved up after every stored view was raised
 moved-raised : (m : Memory) (k p q : ℕ) → q ≡ indexOf (m .sizes) k p → q < 72 → movedUp (raisedAll (m .writes) k p) q ≡ movedTo m k p 72

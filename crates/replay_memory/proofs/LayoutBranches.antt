@@ -36,7 +36,7 @@ module _ (l : List Write) (b : List ℕ) (j : ℕ) where
       let p : j ≡ length (writesIn b) = omega (arith, writes-length b) in
       sym (take-length (writesIn b)) ∙ ap (λ (i : ℕ). take i (writesIn b)) (sym p) ∙ e ∙ ap (λ (i : ℕ). take i l) q ∙ take-length l
 
-pub ruleset lays = (lay-begin, lay-more, lay-end)
+pub ruleset lay-out-branches = (lay-begin, lay-more, lay-end)
 
 -- the first n places
 unfoldable pub readTo : List ℕ → ℕ → List Write
@@ -57,7 +57,7 @@ module _ (b : List ℕ) (a : List Write) where
   unfolding readTo memoryOf writesIn
   read-end g j h i n t = rw (← column-whole (readAt b) a j 72 h i n t)
 
-pub ruleset readings = (read-begin, read-more, read-end, repeated)
+pub ruleset memory-of-branches = (read-begin, read-more, read-end, repeated)
 
 -- an array of structs has as many as its type says
 pub length-mapped : (X Y : Type 0) (f : X → Y) (l : List X) (n : ℕ) → length (map f l) ≡ n → length l ≡ n

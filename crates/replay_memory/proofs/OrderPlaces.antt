@@ -29,7 +29,7 @@ module _ (l : List ℕ) where
   pub first-all : (k n a : ℕ) → k ≤ n → n ≤ k → a ≡ first l k → a ≡ first l n
   first-all k n a h g e = let q : k ≡ n = omega arith in rw q at e
 
-pub ruleset firsts = (first-none, first-more, first-all)
+pub ruleset first-of-branches = (first-none, first-more, first-all)
 
 pub index-made : (l : List ℕ) (k p a : ℕ) → a ≡ first l (k % 8) → (a + p) % 72 ≡ indexOf l k p
 unfolding indexOf

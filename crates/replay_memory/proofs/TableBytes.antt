@@ -220,7 +220,7 @@ module _ (b : List ℕ) (k p : ℕ) where
         all = writes-are lifted (λ i. upWrite k p (getD (writesIn b) i noWrite))
             (λ i x. raised-read i x ∙ ap (upWrite k p) (sym (write-in b i x)))
 
-pub ruleset raises = (raise-begin, raise-more, raise-end)
+pub ruleset raise-all-branches = (raise-begin, raise-more, raise-end)
 
 -- WRITES MOVED UP
 
@@ -280,7 +280,7 @@ module _ (b : List ℕ) where
         all = writes-are moved (λ j. getD (writesIn b) (down q j) noWrite)
             (λ j x. moved-read j x ∙ sym (write-in b (down q j) (omega (arith, down-is q j))))
 
-pub ruleset slides = (slide-begin, slide-more, slide-end)
+pub ruleset move-up-branches = (slide-begin, slide-more, slide-end)
 
 -- A WRITE PUT AT A PLACE
 
@@ -310,7 +310,7 @@ module _ (b : List ℕ) (i : ℕ) (v : View) where
   put-is zero = sym (changed-none b spot position)
   put-is (suc n) = rw (changed-next b spot position n, put-is n)
 
-pub ruleset puts = (put-begin, put-more, put-end)
+pub ruleset put-view-branches = (put-begin, put-more, put-end)
 
 bit-is : (x : Bool) → eqb (bit x) 1 ≡ x
 bit-is true = refl

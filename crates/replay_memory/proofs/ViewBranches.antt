@@ -46,7 +46,7 @@ unfolding joined joinedTo
 join-end v w u i h k l e =
     ap (λ (b : List ℕ). record { at = b }) (column-whole (λ i. max (getD (v .at) i 0) (getD (w .at) i 0)) (u .at) i 8 h k l e)
 
-pub ruleset joins = (join-begin, join-more, join-end)
+pub ruleset join-branches = (join-begin, join-more, join-end)
 
 -- the write with which a row starts
 pub write-start : (n : ℕ) (v : View) → v ≡ startView → record { value = n; releasing = false; covered = false; stored = v } ≡ startWrite n

@@ -32,7 +32,7 @@ module _ (o : Order) (e : ℕ) (carried old w : Write) where
   unfolding turnOf
   turn-from d g h = rw (d, lt-ltb e (o .count) g, le-ltb e (o .at) h)
 
-pub ruleset turning = (turn-past, turn-before, turn-from)
+pub ruleset turn-at-branches = (turn-past, turn-before, turn-from)
 
 -- the sweep: nothing swept, one entry more, and the length
 pub sweep-none : (o : Order) (l : List Write) → sweepTo o 0 l ≡ (l, o .write)

@@ -52,7 +52,7 @@ module _ (s : List ℕ) (z : Sizes) (n : ℕ) (m : Marks) where
   pub premises-all : (j count : ℕ) → true ≡ premisesMarked s z n m j → j ≤ count → count ≤ j → true ≡ premisesMarked s z n m count
   premises-all j count so a b = let q : j ≡ count = omega arith in rw (← q) so
 
-pub ruleset premising = (premises-none, premises-more, premises-miss, premises-all)
+pub ruleset premises-marked-branches = (premises-none, premises-more, premises-miss, premises-all)
 
 module _ (s t : List ℕ) (z : Sizes) (n : ℕ) (m : Marks) (l : Line) (a : Bool) (e : l ≡ lineIn s (lineBody z (bodies s) n))
     (d : a ≡ premisesMarked s z n m (l .count)) where
@@ -64,7 +64,7 @@ module _ (s t : List ℕ) (z : Sizes) (n : ℕ) (m : Marks) (l : Line) (a : Bool
   unfolding isJustified lineAt
   justified-not h = rw (← e, ← d, h)
 
-pub ruleset justifying = (justified-fits, justified-not)
+pub ruleset is-justified-branches = (justified-fits, justified-not)
 
 module _ (s : List ℕ) (z : Sizes) where
   abbrev These : List Bool → ℕ → Type 0
@@ -86,4 +86,4 @@ module _ (s : List ℕ) (z : Sizes) where
   pub marks-all : (n last : ℕ) (on : List Bool) → These on n → n ≤ last → last ≤ n → These on last
   marks-all n last on e a b = let q : n ≡ last = omega arith in rw (← q) e
 
-pub ruleset passing = (marks-none, marks-more, marks-all)
+pub ruleset judge-lines-branches = (marks-none, marks-more, marks-all)

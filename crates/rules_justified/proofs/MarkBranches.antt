@@ -40,7 +40,7 @@ module _ (l : List Bool) (n : ℕ) where
     unfolding withMark
     stays-past b h = rw (ne-eqb n 0 z) (sym (set-out l (n - 1) b (omega arith)))
 
-pub ruleset marking = (mark-none, mark-there, mark-past, stays-none, set-there, stays-past)
+pub ruleset marks-branches = (mark-none, mark-there, mark-past, stays-none, set-there, stays-past)
 
 -- WHAT IS READ BEHIND WHAT WAS WRITTEN
 pub none-length : length (noMarks .on) ≡ lines

@@ -36,7 +36,7 @@ module _ (form t k : ℕ) (c : Conclusion) where
       unfolding placedAt
       placed-point b q d = rw (eq-eqb _ _ e, le-leb _ _ h, eq-eqb _ _ q) d
 
-pub ruleset placing = (placed-other, placed-form, placed-thread, placed-point)
+pub ruleset is-placed-branches = (placed-other, placed-form, placed-thread, placed-point)
 
 module _ (s t : List ℕ) (i form thread point : ℕ) (c : Conclusion) (b : Bind) (p : Bool) (e : p ≡ placedAt form thread point c) where
   pub conclusion-elsewhere : p ≡ false → record { ok = false; tpl = i; bind = b } ≡ matchConclusion s t i form thread point c b
@@ -53,7 +53,7 @@ module _ (s t : List ℕ) (i form thread point : ℕ) (c : Conclusion) (b : Bind
     unfolding matchConclusion
     conclusion-both r o g = rw (← e, h, ← d, o) g
 
-pub ruleset placing-sides = (conclusion-elsewhere, conclusion-left, conclusion-both)
+pub ruleset match-conclusion-branches = (conclusion-elsewhere, conclusion-left, conclusion-both)
 
 pub conclusion-there : (p : Premises) (j : ℕ) → j < premises → getD (p .conclusions) j noConclusion ≡ conclusionAt p j
 unfolding conclusionAt
@@ -63,7 +63,7 @@ pub conclusion-missing : (p : Premises) (j : ℕ) → premises ≤ j → noConcl
 unfolding conclusionAt
 conclusion-missing p j h = rw (le-ltb _ _ h)
 
-pub ruleset conclusions = (conclusion-there, conclusion-missing)
+pub ruleset conclusion-at-branches = (conclusion-there, conclusion-missing)
 
 module _ (s t : List ℕ) (thread point : ℕ) (p : Premises) where
   from-step : (n i forms j : ℕ) (b : Bind) → (n ≡ 0 → ⊥)
@@ -88,4 +88,4 @@ module _ (s t : List ℕ) (thread point : ℕ) (p : Premises) where
           → r ≡ matchFrom s t thread point p n i forms j b
       from-more r o g = rw (from-step n i forms j b z, ← e, ← d, o) g
 
-pub ruleset following = (from-none, from-no, from-more, lower)
+pub ruleset match-from-branches = (from-none, from-no, from-more, lower)

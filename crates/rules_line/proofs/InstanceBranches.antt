@@ -49,7 +49,7 @@ module _ (s : List ℕ) (w : Rule) (a : Acting) (c : Conclusion) (p : Premises) 
   unfolding restAt
   rest-refused h = rw (← e, h)
 
-pub ruleset allowing = (allowed-triple, allowed-pair, allowed-other, rest-asked, rest-refused)
+pub ruleset rule-instance-allowing = (allowed-triple, allowed-pair, allowed-other, rest-asked, rest-refused)
 
 pub line-matched : (s t : List ℕ) (w : Rule) (l : Line) (a : Acting) (c : Conclusion) (b : Bind) (r : Whole)
     → b ≡ presetAt (l .thread) (a .word) (a .register) (a .formula)
@@ -78,4 +78,4 @@ pub line-fits : (s t : List ℕ) (z : Sizes) (n : ℕ) (l : Line) (a : Acting) (
 unfolding fitsLine actingIn lineAt
 line-fits s t z n l a p r e d f g = rw (← e, ← d, ← f) g
 
-pub ruleset fitting = (line-matched, row-conclusion, row-premises, row-rest, line-fits)
+pub ruleset rule-instance-fitting = (line-matched, row-conclusion, row-premises, row-rest, line-fits)

@@ -46,4 +46,4 @@ module _ (s : List ℕ) (z : Sizes) (n : ℕ) (l : Line) (e : l ≡ lineIn s (li
   unfolding conclusionOf conclusionBy lineAt spokenForm
   conclusion-other c h q = rw (← e, ← g, ne-eqb _ _ h) (q ∙ rw (← g, ne-eqb _ _ h))
 
-pub ruleset lining = (spoken-pair, spoken-alone, spoken-other, conclusion-by, conclusion-pair, conclusion-other)
+pub ruleset line-conclusion-branches = (spoken-pair, spoken-alone, spoken-other, conclusion-by, conclusion-pair, conclusion-other)

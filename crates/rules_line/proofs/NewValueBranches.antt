@@ -97,7 +97,7 @@ module _ (s : List ℕ) (op r f : ℕ) (t : Tree) (u : Bool) where
   unfolding freshIs
   fresh-formula h d = rw (ne-eqb _ _ h) d
 
-pub ruleset comparing = (
+pub ruleset new-value-branches = (
   formula-no,
   formula-yes,
   sum-zero,

@@ -71,7 +71,7 @@ module _ (p : Premises) where
     unfolding allImplications
     by-fourth a b c d e h f g i k l = rw (le-ltb _ _ few, ← e, h, ← f, g, ← i, k) l
 
-pub ruleset premising = (
+pub ruleset premises-branches = (
   premise-past,
   premise-there,
   premises-is,
@@ -100,4 +100,4 @@ module _ (s t : List ℕ) (i : ℕ) (w : Rule) (thread point : ℕ) (p : Premise
   unfolding matchPremises
   premises-other n m = rw (ne-eqb _ _ n, ne-eqb _ _ m)
 
-pub ruleset matching = (premises-any, premises-counted, premises-other)
+pub ruleset match-premises-branches = (premises-any, premises-counted, premises-other)

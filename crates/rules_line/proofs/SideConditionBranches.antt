@@ -48,7 +48,7 @@ module _ (a : Acting) where
     unfolding substitutionOf
     substitutes-note w h e = rw (ne-eqb _ _ n, ne-eqb _ _ h) e
 
-pub ruleset substituting = (substitutes-one, substitutes-two, substitutes-note)
+pub ruleset substitution-of-branches = (substitutes-one, substitutes-two, substitutes-note)
 
 module _ (s : List ℕ) (b : Bind) (a : Acting) (w : Substitution) (p q : Position) (r : Bool) where
   pub assigned-is : w ≡ substitutionOf a → p ≡ holeOf b 0 → q ≡ holeOf b 1 → r ≡ isWith s w (treeOf s p) (treeOf s q) → r ≡ assignedBy s b a
@@ -60,7 +60,7 @@ module _ (s : List ℕ) (b : Bind) (a : Acting) (w : Substitution) (p q : Positi
   unfolding loadedBy
   loaded-is h e d g = rw (← h, ← e, ← d) g
 
-pub ruleset replacing = (assigned-is, loaded-is)
+pub ruleset side-conditions-replacing = (assigned-is, loaded-is)
 
 module _ (s : List ℕ) (side : ℕ) (b : Bind) (a : Acting) (r : Bool) where
   pub asks-kept : (p : Position) → side ≡ isKept → p ≡ holeOf b 0 → r ≡ keeps (a .operation) (a .word) (a .register) (treeOf s p)
@@ -95,7 +95,7 @@ module _ (s : List ℕ) (side : ℕ) (b : Bind) (a : Acting) (r : Bool) where
           unfolding ofInstruction
           asks-apart nn e d = rw (ne-eqb _ _ nk, ne-eqb _ _ na, ne-eqb _ _ nl, ne-eqb _ _ ns, ne-eqb _ _ nn, ← e) d
 
-pub ruleset instructing = (asks-kept, asks-assigned, asks-loaded, asks-stored, asks-new, asks-apart)
+pub ruleset of-instruction-branches = (asks-kept, asks-assigned, asks-loaded, asks-stored, asks-new, asks-apart)
 
 pub implications-is : (c d e f g : Conclusion) (p : Premises) → d ≡ conclusionAt p 0 → e ≡ conclusionAt p 1 → f ≡ conclusionAt p 2
     → g ≡ conclusionAt p 3
@@ -113,7 +113,7 @@ pub names-is : (s h : List ℕ) (b : Bind) (p q : Position) (n : ℕ) (r : Bool)
 unfolding ofNames
 names-is s h b p q n r e d f i g = rw (← e, ← d, ← f, ← i) g
 
-pub ruleset implying = (implications-is, names-is)
+pub ruleset side-conditions-implying = (implications-is, names-is)
 
 module _ (s : List ℕ) (side : ℕ) (b : Bind) (a : Acting) (c : Conclusion) (p : Premises) where
   pub asks-nothing : side ≡ nothing → true ≡ asked s side b a c p
@@ -147,4 +147,4 @@ module _ (s : List ℕ) (side : ℕ) (b : Bind) (a : Acting) (c : Conclusion) (p
           unfolding asked
           asks-instruction nm d = rw (ne-eqb _ _ nn, ne-eqb _ _ nr, ne-eqb _ _ nt, ne-eqb _ _ ns, ne-eqb _ _ nm) d
 
-pub ruleset asking = (asks-nothing, asks-rows, asks-table, asks-start, asks-mark, asks-instruction)
+pub ruleset is-asked-branches = (asks-nothing, asks-rows, asks-table, asks-start, asks-mark, asks-instruction)

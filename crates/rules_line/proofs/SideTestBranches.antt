@@ -47,7 +47,7 @@ module _ (op x r : ℕ) (u : Tree) where
       unfolding apart
       apart-rest m = rw (← e, h, lt-leb _ _ l, lt-leb _ _ m)
 
-pub ruleset parting = (apart-word, apart-plain, apart-result, apart-rest)
+pub ruleset is-absent-branches = (apart-word, apart-plain, apart-result, apart-rest)
 
 module _ (op x r : ℕ) (u : Tree) where
   pub keeps-first : op < Opcode.load → false ≡ keeps op x r u
@@ -73,7 +73,7 @@ module _ (op x r : ℕ) (u : Tree) where
         unfolding keeps
         keeps-rest h = rw (le-ltb _ _ l, lt-leb _ _ m, ne-eqb _ _ n, lt-leb _ _ h)
 
-pub ruleset keeping = (hole-is, keeps-first, keeps-load, keeps-branch, keeps-write, keeps-rest)
+pub ruleset side-tests-keeping = (hole-is, keeps-first, keeps-load, keeps-branch, keeps-write, keeps-rest)
 
 pub no-yes : {i j : ℕ} → No ≡ Yes i j → ⊥
 no-yes h = subst isNo h tt
@@ -101,7 +101,7 @@ module _ (s : List ℕ) (w : Substitution) (p q : Position) (r : Same)
   unfolding isWith
   with-yes i j n = answer-yes _ (parseTree s (q .left) (q .at) .end) (parseTree s (p .left) (p .at) .end) i j (sym n ∙ e)
 
-pub ruleset withs = (with-no, with-yes)
+pub ruleset is-with-branches = (with-no, with-yes)
 
 module _ (s : List ℕ) (x f : ℕ) (p q : Position) (o : Bool) (e : o ≡ occurs (flag x) [] (treeOf s q)) where
   pub stored-flag : o ≡ true → false ≡ storedBy s x f (treeOf s p) (treeOf s q)
@@ -113,7 +113,7 @@ module _ (s : List ℕ) (x f : ℕ) (p q : Position) (o : Bool) (e : o ≡ occur
   unfolding storedBy
   stored-with b w h g d = rw (← e, h, ← g) d
 
-pub ruleset storing = (stored-flag, stored-with)
+pub ruleset is-substituted-branches = (stored-flag, stored-with)
 
 pub number-none : (b : Bind) (j n : ℕ) → n ≡ getD (b .num) j 0 → n ≡ 0 → 0 ≡ numberIn b j
 unfolding numberIn
@@ -139,4 +139,4 @@ pub const-parts : partCount (byte Code.const) ≡ 0
 unfolding partCount
 const-parts = refl
 
-pub ruleset starting = (number-none, number-taken, start-no, start-yes, const-parts)
+pub ruleset side-tests-starting = (number-none, number-taken, start-no, start-yes, const-parts)

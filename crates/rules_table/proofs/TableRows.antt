@@ -21,4 +21,4 @@ pub row-past : (n : ℕ) → 51 ≤ n → unlisted ≡ ruleRow n
 unfolding ruleRow
 row-past n h = sym (List·getD-eq-default rows unlisted h)
 
-pub ruleset listed = (row-listed, row-past)
+pub ruleset rule-at-branches = (row-listed, row-past)

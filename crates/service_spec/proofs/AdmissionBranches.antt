@@ -25,7 +25,7 @@ module _ (r : Right) (n : ℕ) where
   unfolding holds
   bill-bit e = rw e
 
-pub ruleset rights = (check-bit, replay-bit, bill-bit)
+pub ruleset has-right-branches = (check-bit, replay-bit, bill-bit)
 
 -- no right in a number that is not there
 none-held : (r : Right) → holds r 0 ≡ false
@@ -69,4 +69,4 @@ admitted-caller r s c e = go (isCaller c) refl
     go true h = caller-last c h
     go false h = let x : admissionAt r (accountOf s c) ≡ 35 = rw (no-account s c h) in absurd (omega arith)
 
-pub ruleset admitting = (zero-unknown, past-unknown, short-refused, holder-admitted, other-refused)
+pub ruleset admitted-branches = (zero-unknown, past-unknown, short-refused, holder-admitted, other-refused)

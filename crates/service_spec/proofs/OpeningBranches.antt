@@ -35,7 +35,7 @@ module _ (r room : List ℕ) where
   unfolding serviceFor
   whole-opened v after h e d = rw (le-ltb _ _ h, ← e) d
 
-pub ruleset openings = (short-code, short-stays, whole-code, whole-opened)
+pub ruleset open-service-branches = (short-code, short-stays, whole-code, whole-opened)
 
 -- what an opened service holds of a caller: the rights given to it, and a number of 0
 

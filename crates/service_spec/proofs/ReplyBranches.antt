@@ -62,7 +62,7 @@ module _ (s : List ℕ) (c : ℕ) (old new table : List ℕ) (a : ℕ) (e : a �
       (sym e ∙ z) refl
       (ap (λ (x : ℕ). replied x [] []) (p .returned)) p
 
-pub ruleset serving = (check-refused, check-served, trim-refused, trim-served, handover-refused, handover-served)
+pub ruleset entry-serving = (check-refused, check-served, trim-refused, trim-served, handover-refused, handover-served)
 
 -- an answer's numbers, all 0
 
@@ -75,7 +75,7 @@ module _ (n : ℕ) (room : List ℕ) where
   unfolding cleared
   cleared-whole v after h e d = rw (le-ltb _ _ h) (d ∙ ap (λ (x : List ℕ). x ++ drop n room) e)
 
-pub ruleset clearing = (cleared-short, cleared-whole)
+pub ruleset clear-bill-branches = (cleared-short, cleared-whole)
 
 -- a replay that has not taken place
 abbrev pub noReplay : Answer
@@ -195,4 +195,4 @@ module _ (s : List ℕ) (c : ℕ) (a : ℕ) (e : a ≡ admission Right.Replay s 
         (w .right .answer) (w .right .table) (w .returned) (w .bytes)
         (w .numbers)) w
 
-pub ruleset replaying-ways = (replay-refused, replay-served, across-refused, across-served)
+pub ruleset entry-replaying = (replay-refused, replay-served, across-refused, across-served)

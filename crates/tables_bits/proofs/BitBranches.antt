@@ -60,7 +60,7 @@ module _ (c o a b : ℕ) where
   unfolding wordOf
   word-other d e f g h i j = rw (ne-eqb _ _ d, ne-eqb _ _ e, ne-eqb _ _ f, ne-eqb _ _ g, ne-eqb _ _ h, ne-eqb _ _ i, ne-eqb _ _ j)
 
-pub ruleset words = (word-true, word-else, word-not, word-and, word-or, word-both, word-either, word-holds, word-other)
+pub ruleset combine-word-branches = (word-true, word-else, word-not, word-and, word-or, word-both, word-either, word-holds, word-other)
 
 -- all of them
 whole : (f : ℕ → ℕ) (a : List ℕ) (i : ℕ) → i ≤ 16 → 16 ≤ i → length a ≡ 16 → take i a ≡ column f i → a ≡ column f 16
@@ -84,7 +84,7 @@ module _ (c o : ℕ) (a₀ b a : List ℕ) where
     unfolding wordsOf
     zip-end h k = whole made a i h k l e
 
-pub ruleset zips = (zip-begin, zip-more, zip-end, rest-more)
+pub ruleset zip-words-branches = (zip-begin, zip-more, zip-end, rest-more)
 
 -- a code that was named in the call
 pub named : (c k o : ℕ) (a₀ b a : List ℕ) → c ≡ k → a ≡ wordsOf k o 16 a₀ b → a ≡ wordsOf c o 16 a₀ b
@@ -108,7 +108,7 @@ module _ (a₀ b a : List ℕ) where
     unfolding denyWords
     deny-end h k = whole kept a i h k l e
 
-pub ruleset denies = (deny-begin, deny-more, deny-end, rest-more)
+pub ruleset deny-words-branches = (deny-begin, deny-more, deny-end, rest-more)
 
 module _ (x : ℕ) (a : List ℕ) where
   pub fill-begin : take 0 a ≡ constant x 0
@@ -124,7 +124,7 @@ module _ (x : ℕ) (a : List ℕ) where
     unfolding constant
     fill-end h k = whole (λ (w : ℕ). x) a i h k l e
 
-pub ruleset fills = (fill-begin, fill-more, fill-end)
+pub ruleset fill-words-branches = (fill-begin, fill-more, fill-end)
 
 -- a leaf's words
 module _ (j : ℕ) where
@@ -159,9 +159,9 @@ module _ (j : ℕ) where
     unfolding leafWord
     leaf-clear h e = rw (le-ltb _ _ h, ne-eqb _ _ (λ (d : w / 2 ^ (j - 6) % 2 ≡ 1). e (and-mask (w / 2 ^ (j - 6)) 1 ∙ d)))
 
-pub ruleset firsts = (first-0, first-1, first-2, first-3, first-4, first-5)
+pub ruleset first-word-branches = (first-0, first-1, first-2, first-3, first-4, first-5)
 
-pub ruleset leaf = (leaf-low, leaf-set, leaf-clear)
+pub ruleset leaf-word-branches = (leaf-low, leaf-set, leaf-clear)
 
 module _ (j : ℕ) (a : List ℕ) where
   pub leaf-begin : take 0 a ≡ leafWords j 0
@@ -177,7 +177,7 @@ module _ (j : ℕ) (a : List ℕ) where
     unfolding leafWords
     leaf-end h k = whole (leafWord j) a i h k l e
 
-pub ruleset leafs = (leaf-begin, leaf-more, leaf-end)
+pub ruleset leaf-words-branches = (leaf-begin, leaf-more, leaf-end)
 
 -- two values for each leaf
 module _ (k : ℕ) (h : k ≤ 10) where
@@ -187,7 +187,7 @@ module _ (k : ℕ) (h : k ≤ 10) where
   pub shift-low : 1 * 2 ^ k % 18446744073709551616 ≤ 1024
   shift-low = subst (λ (x : ℕ). x ≤ 1024) (sym shift-is) (pow-mono {i = k} {j = 10} h)
 
-pub ruleset shifts = (shift-is, shift-low)
+pub ruleset rows-of-branches = (shift-is, shift-low)
 
 -- the rows of a word
 module _ (n w : ℕ) where
@@ -211,7 +211,7 @@ module _ (n w : ℕ) where
     unfolding maskOf
     mask-some = let e : min 64 (n - 64 * w) ≡ n - 64 * w = omega arith in ap (λ (x : ℕ). x - 1) shifted ∙ rw e
 
-pub ruleset masks = (mask-all, mask-none, mask-shifts, mask-some)
+pub ruleset mask-of-branches = (mask-all, mask-none, mask-shifts, mask-some)
 
 -- no row is set
 module _ (a : List ℕ) (n : ℕ) where
@@ -243,4 +243,4 @@ module _ (a : List ℕ) (n : ℕ) where
   pub none-end : (w : ℕ) → w ≤ 16 → 16 ≤ w → noneSet a n w ≡ true → true ≡ noneSet a n 16
   none-end w h k e = let q : w ≡ 16 = omega arith in sym e ∙ ap (noneSet a n) q
 
-pub ruleset nones = (none-begin, none-more, none-miss, none-end)
+pub ruleset none-set-branches = (none-begin, none-more, none-miss, none-end)

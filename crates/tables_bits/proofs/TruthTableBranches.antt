@@ -107,11 +107,11 @@ pub within-slots : (s q : List ℕ) (n j : ℕ) (t : Tree) → j ≡ slotWithin 
 unfolding slotWithin
 within-slots s q n j t e h = omega arith
 
-pub ruleset viewing = (over-view, found-view, new-view)
+pub ruleset leaf-bits-viewing = (over-view, found-view, new-view)
 
-pub ruleset growing = (over-grown, found-grown, new-grown)
+pub ruleset leaf-bits-growing = (over-grown, found-grown, new-grown)
 
-pub ruleset showing = (over-bits, found-bits, new-bits)
+pub ruleset leaf-bits-showing = (over-bits, found-bits, new-bits)
 
 -- what is not changed, and what grows
 module _ (n : ℕ) (q a : List ℕ) where
@@ -132,7 +132,7 @@ module _ (n : ℕ) (q a : List ℕ) where
       wide = wide-node a c o a₁ b e;
     }
 
-pub ruleset grows = (grown-none, grown-one, grown-two)
+pub ruleset table-at-grows = (grown-none, grown-one, grown-two)
 
 -- the bits of a formula
 module _ (s : List ℕ) (k at n : ℕ) (q a : List ℕ) where
@@ -168,6 +168,6 @@ module _ (s : List ℕ) (k at n : ℕ) (q a : List ℕ) where
           (tree-node s n q (x .code) (x .operand) (parseTree s (k - 1) (x .next) .tree) (parseTree s (k - 1) y .tree) a₁ c (sym eb ∙ d) h
           (shows-later _ m n q₂ q c (r .more) (r .same) g))
 
-pub ruleset bits = (bits-none, bits-leaf, bits-plain, bits-one, bits-two)
+pub ruleset table-at-bits = (bits-none, bits-leaf, bits-plain, bits-one, bits-two)
 
-pub ruleset walks = (gathers, lower)
+pub ruleset table-at-walks = (gathers, lower)

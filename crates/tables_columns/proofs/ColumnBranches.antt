@@ -46,7 +46,7 @@ module _ (v : ℕ) (a : List ℕ) where
   unfolding constant
   fill-end i n h k e = column-end (λ (i : ℕ). v) a i n h k e
 
-pub ruleset fills = (fill-begin, fill-more, fill-end)
+pub ruleset fill-branches = (fill-begin, fill-more, fill-end)
 
 -- columns combined, in the place of the first
 module _ (R c o : ℕ) (a₀ b a : List ℕ) where
@@ -67,7 +67,7 @@ module _ (R c o : ℕ) (a₀ b a : List ℕ) where
     unfolding combined
     zip-end n h k = column-end made a i n h k e
 
-pub ruleset zips = (zip-begin, zip-more, zip-end, rest-more)
+pub ruleset zip-with-branches = (zip-begin, zip-more, zip-end, rest-more)
 
 -- a code that was named in the call
 pub named : (R c k o n : ℕ) (a₀ b a : List ℕ) → c ≡ k → take n a ≡ combined R k o n a₀ b → take n a ≡ combined R c o n a₀ b
@@ -92,7 +92,7 @@ module _ (a₀ b a : List ℕ) where
     unfolding denied
     deny-end n h k = column-end kept a i n h k e
 
-pub ruleset denies = (deny-begin, deny-more, deny-end, rest-more)
+pub ruleset and-not-branches = (deny-begin, deny-more, deny-end, rest-more)
 
 -- no row is 1
 module _ (a : List ℕ) where
@@ -117,4 +117,4 @@ module _ (a : List ℕ) where
       go true = refl
       go false = refl
 
-pub ruleset nones = (none-begin, none-next, none-end)
+pub ruleset none-below-branches = (none-begin, none-next, none-end)

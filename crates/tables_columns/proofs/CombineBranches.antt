@@ -33,7 +33,7 @@ module _ (R a b : ℕ) where
             let s : a - (R - b) < R = omega arith in
             sym (ap (λ (n : ℕ). n % R) h ∙ add-mod-left R (a - (R - b)) ∙ mod-eq-of-lt s)
 
-pub ruleset sums = (sum-within, sum-past)
+pub ruleset sum-of-branches = (sum-within, sum-past)
 
 module _ (R c o a b : ℕ) where
   pub combine-const : c ≡ byte Code.const → combine R c o a b ≡ o
@@ -93,7 +93,7 @@ module _ (R c o a b : ℕ) where
     ne-eqb _ _ j,
   )
 
-pub ruleset combines = (
+pub ruleset combine-parts-branches = (
   combine-const,
   combine-sum,
   combine-equal,

@@ -29,12 +29,12 @@ module _ (s : List ℕ) (R r : ℕ) (p : Slot) where
   unfolding slotTree
   choices-whole x z ex e = rw (ne-eqb _ _ z, parse-step s (p .left) (p .place) z, choices-node, ← ex) e
 
-pub ruleset choice = (choices-plain, choices-whole)
+pub ruleset choices-branches = (choices-plain, choices-whole)
 
 pub small-product : (n r : ℕ) → n < 256 → r < 4294967296 → n * r < 2 ^ 64
 small-product n r h g = let k : n ≤ 255 = omega arith in let l : r ≤ 4294967295 = omega arith in let e = mul-le-mul k l in omega arith
 
-pub ruleset products = (small-product, lt-ltb, le-ltb)
+pub ruleset capped-product-branches = (small-product, lt-ltb, le-ltb)
 
 module _ (L : ℕ) where
   capped-low : (n r : ℕ) → n * r ≤ L → capped L n r ≡ n * r
@@ -107,4 +107,4 @@ module _ (s q : List ℕ) (R limit : ℕ) where
   pub rows-end : (j n r : ℕ) → r ≡ rowsUpTo s q R limit j → j ≤ n → n ≤ j → r ≡ rowsUpTo s q R limit n
   rows-end j n r e h g = let d : j ≡ n = omega arith in e ∙ ap (rowsUpTo s q R limit) d
 
-pub ruleset counts = (rows-begin, rows-next, rows-end)
+pub ruleset count-rows-branches = (rows-begin, rows-next, rows-end)

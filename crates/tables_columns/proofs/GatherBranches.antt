@@ -208,7 +208,7 @@ put-length n p q q₂ l e = ap length e ∙ go (ltb n slots)
         ∙ l
     go false = l
 
-pub ruleset puts = (put-zero, put-over, put-there, put-new, put-length)
+pub ruleset add-leaf-branches = (put-zero, put-over, put-there, put-new, put-length)
 
 -- the leaves of a tree
 gather-none : (w : ℕ) (m : Gathered) → gatherT w none m ≡ m

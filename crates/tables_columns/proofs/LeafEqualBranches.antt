@@ -200,7 +200,7 @@ pub step-there : (s : List ℕ) (p q due : ℕ) (x y : Node) (t : Pair) (n : Ste
     → n ≡ stepOf t due → n ≡ stepOf (pairOf (nodeAt s p) (nodeAt s q)) due
 step-there s p q due x y t n ex ey et en = en ∙ ap (λ (t : Pair). stepOf t due) (et ∙ ap₂ pairOf ex ey)
 
-pub ruleset stepping = (step-differ, step-ended, step-one, step-two)
+pub ruleset step-by-branches = (step-differ, step-ended, step-one, step-two)
 
 -- by their parts
 module _ (s : List ℕ) (a m b k : ℕ) (g : Same) (e : g ≡ sameOf (parseTree s m a) (parseTree s k b)) where
@@ -215,6 +215,6 @@ module _ (s : List ℕ) (a m b k : ℕ) (g : Same) (e : g ≡ sameOf (parseTree 
   pub parts-differ : g ≡ No → false ≡ sameTree (parseTree s m a .tree) (parseTree s k b .tree)
   parts-differ d = told (sameTree (parseTree s m a .tree) (parseTree s k b .tree)) (parseTree s m a .end) (parseTree s k b .end) e .1 d
 
-pub ruleset parting = (parts-same, parts-differ)
+pub ruleset same-parts-branches = (parts-same, parts-differ)
 
-pub ruleset opening = (due-begin, due-end, due-differ, due-next, due-bound)
+pub ruleset same-leaf-branches = (due-begin, due-end, due-differ, due-next, due-bound)

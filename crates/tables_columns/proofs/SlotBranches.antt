@@ -26,7 +26,7 @@ module _ (s : List ℕ) (at left : ℕ) (x : Node) (e : x ≡ nodeAt s at) where
   unfolding leafSlot
   slot-whole p = rw (← e, ne-eqb _ _ p)
 
-pub ruleset leafs = (slot-plain, slot-whole)
+pub ruleset leaf-slot-branches = (slot-plain, slot-whole)
 
 pub same-self : (t : Tree) → sameTree t t ≡ true
 unfolding sameTree
@@ -62,7 +62,7 @@ module _ (s : List ℕ) (at left : ℕ) (x : Node) (p : Slot) where
   unfolding sameSlot
   slot-self z d l = rw (ne-eqb _ _ z, d, l) (sym (same-self (parseTree s left at .tree)))
 
-pub ruleset sames = (slot-code, slot-operand, slot-leaf, slot-cut, slot-told, slot-self)
+pub ruleset same-slot-branches = (slot-code, slot-operand, slot-leaf, slot-cut, slot-told, slot-self)
 
 -- a leaf without parts
 module _ (s : List ℕ) (c o : ℕ) (p : Slot) where
@@ -84,7 +84,7 @@ module _ (s : List ℕ) (c o : ℕ) (p : Slot) where
     unfolding samePlain
     plain-there n = rw (ne-eqb _ _ z, ← ey, eq-eqb _ _ n)
 
-pub ruleset plains = (plain-code, plain-operand, plain-other, plain-there)
+pub ruleset same-plain-branches = (plain-code, plain-operand, plain-other, plain-there)
 
 -- comparison with a slot is comparison with its tree
 module _ (s : List ℕ) (at left : ℕ) (z : left ≡ 0 → ⊥) (p : Slot) where
@@ -315,8 +315,8 @@ module _ (s q : List ℕ) (c o : ℕ) where
     pub plain-next : b ≡ false → slotOf s q (node c o none none) ≡ slotFrom s q (slots - (j + 1)) (j + 1) (node c o none none)
     plain-next d = e ∙ from-next s q j leaf h ∙ rw (← plain-here, d)
 
-pub ruleset plainly = (plain-begin, plain-end, plain-found, plain-next)
+pub ruleset plain-slot-branches = (plain-begin, plain-end, plain-found, plain-next)
 
-pub ruleset finds = (of-begin, of-end, of-found, of-next)
+pub ruleset slot-within-branches = (of-begin, of-end, of-found, of-next)
 
-pub ruleset finds-all = (of-zero, of-all)
+pub ruleset slot-of-branches = (of-zero, of-all)

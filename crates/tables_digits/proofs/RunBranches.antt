@@ -42,7 +42,7 @@ module _ (v from : ℕ) (o a : List ℕ) where
     pub run-end : i ≤ count → count ≤ i → take (from + count) a ≡ take from o ++ constant v count
     run-end h k = let q : i ≡ count = omega arith in rw q at e
 
-pub ruleset settings = (run-begin, run-more, run-end)
+pub ruleset set-run-branches = (run-begin, run-more, run-end)
 
 -- the first rows once more
 module _ (from : ℕ) (o a : List ℕ) where
@@ -68,7 +68,7 @@ module _ (from : ℕ) (o a : List ℕ) where
     pub front-end : i ≤ count → count ≤ i → take (from + count) a ≡ take from o ++ take count o
     front-end h k = let q : i ≡ count = omega arith in rw q at e
 
-pub ruleset fronts = (front-begin, front-more, front-end)
+pub ruleset repeat-front-branches = (front-begin, front-more, front-end)
 
 -- how long a run is
 module _ (n m r : ℕ) where
@@ -85,7 +85,7 @@ module _ (n m r : ℕ) where
       (let p : r * (l + 1) ≤ 1048576 = mul-le-mul {n₁ = r} {m₁ = l + 1} {n₂ = 4096} {m₂ = 256} (omega arith) (omega arith) in omega arith)
       tt
 
-pub ruleset lengthening = (longer-more, longer-whole, longer-fits)
+pub ruleset longer-branches = (longer-more, longer-whole, longer-fits)
 
 module _ (n : ℕ) (ms : List ℕ) where
   pub of-begin : 1 ≡ runOf n ms 0
@@ -99,7 +99,7 @@ module _ (n : ℕ) (ms : List ℕ) where
   pub of-end : (i j r : ℕ) → i ≤ j → j ≤ i → r ≡ runOf n ms i → r ≡ runOf n ms j
   of-end i j r h k e = let q : i ≡ j = omega arith in e ∙ ap (runOf n ms) q
 
-pub ruleset lengths = (of-begin, of-more, of-end)
+pub ruleset run-of-branches = (of-begin, of-more, of-end)
 
 -- a run that has fewer than n rows is exact
 module _ (n : ℕ) (ms : List ℕ) where
@@ -243,7 +243,7 @@ module _ (ms : List ℕ) (j r n : ℕ) (a : List ℕ) where
           let l = ltb-false r n e in
           omega arith
 
-pub ruleset running = (runs-begin, runs-zero, runs-next, runs-within, runs-more, runs-end)
+pub ruleset set-runs-branches = (runs-begin, runs-zero, runs-next, runs-within, runs-more, runs-end)
 
 -- the first rows again and again
 module _ (p n : ℕ) (a₀ : List ℕ) where
@@ -286,7 +286,7 @@ module _ (p n : ℕ) (a₀ : List ℕ) where
     pub widen-within : (a : List ℕ) → n ≤ length a → to + c ≤ length a
     widen-within a h = omega arith
 
-pub ruleset widening = (widen-begin, widen-more, widen-end, widen-some, widen-front, widen-within)
+pub ruleset widen-branches = (widen-begin, widen-more, widen-end, widen-some, widen-front, widen-within)
 
 -- past the last slot
 pub slot-past : (ms : List ℕ) (j m n : ℕ) (a : List ℕ) → 12 ≤ j → m ≡ spanOf n ms 0 → take m a ≡ constant 0 m
@@ -348,4 +348,4 @@ module _ (n : ℕ) (ms : List ℕ) where
 pub span-fits : (n : ℕ) (ms : List ℕ) (j m : ℕ) (a : List ℕ) → m ≡ spanOf n ms j → n ≤ length a → m ≤ length a
 span-fits n ms j m a e h = let k = span-within n ms j in omega arith
 
-pub ruleset taking = (slot-past, level-slot, level-past, span-fits)
+pub ruleset take-slot-branches = (slot-past, level-slot, level-past, span-fits)

@@ -399,9 +399,9 @@ module _ (n : ℕ) (ms : List ℕ) (i l : ℕ) (a : List ℕ) where
     pub widens-some : min 1 rows ≤ m
     widens-some = let e = span-some n ms i in let h = span-within n ms l in omega arith
 
-pub ruleset widens = (widen-none, widen-all)
+pub ruleset widen-level-widens = (widen-none, widen-all)
 
-pub ruleset widens-asks = (widens-within, widens-some, span-fits)
+pub ruleset widen-level-widens-asks = (widens-within, widens-some, span-fits)
 
 pub span-low : (n : ℕ) (ms : List ℕ) (j m : ℕ) → m ≡ spanOf n ms j → m ≤ n
 span-low n ms j m e = let h = span-within n ms j in omega arith
@@ -459,11 +459,11 @@ module _ (s : List ℕ) (w : Reading) (q ms : List ℕ) (n c o : ℕ) (a : List 
         (λ i h. e ∙ sym (value-inner s w q (rowIn ms i) c o none none (sym eb ∙ d)
         ∙ ap₂ (combine (w .range) c o) (value-none s w q (rowIn ms i)) (value-none s w q (rowIn ms i)))))
 
-pub ruleset plains = (plain-level, plain-leaf, plain-no-level, plain-other)
+pub ruleset plain-column-branches = (plain-level, plain-leaf, plain-no-level, plain-other)
 
-pub ruleset mets = (no-parts, met-zero, met-plain, met-inner, met-other)
+pub ruleset leaf-column-mets = (no-parts, met-zero, met-plain, met-inner, met-other)
 
-pub ruleset leafs = (no-parts, zero-column, plain-column, inner-column, other-column)
+pub ruleset leaf-column-leafs = (no-parts, zero-column, plain-column, inner-column, other-column)
 
 pub second-none : (p k : ℕ) → p < 2 → 0 ≡ secondLeft p k
 unfolding secondLeft
@@ -477,8 +477,8 @@ pub second-some : (p k : ℕ) → 2 ≤ p → k - 1 ≡ secondLeft p k
 unfolding secondLeft
 second-some p k h = rw (le-ltb _ _ h)
 
-pub ruleset seconds = (second-none, second-cut, second-some)
+pub ruleset second-left-branches = (second-none, second-cut, second-some)
 
-pub ruleset values = (value-leaf, some-left, first-less, second-less, value-two)
+pub ruleset column-at-values = (value-leaf, some-left, first-less, second-less, value-two)
 
-pub ruleset reaches = (reached-leaf, reached-two)
+pub ruleset column-at-reaches = (reached-leaf, reached-two)

@@ -68,4 +68,4 @@ by-leaves s p n r en e =
     ∙ every-is s (p .left) (p .right) (record { premises = p .count - 1; left = nesting; right = nesting }) byLeaves 1024 (omega arith)
     (omega arith)
 
-pub ruleset entries = (by-few, by-names, by-leaves)
+pub ruleset by-rows-branches = (by-few, by-names, by-leaves)

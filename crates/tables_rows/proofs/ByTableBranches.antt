@@ -152,13 +152,13 @@ module _ (n m : ℕ) (q q₂ a b o : List ℕ) (g : Grown n q m q₂ b) where
     wide = wide-deny o a b e;
   }
 
-pub ruleset implied = (imp-bits, grown-deny)
+pub ruleset imp-bits-branches = (imp-bits, grown-deny)
 
 -- a loop's words
 pub kept-wide : (o a b : List ℕ) → o ≡ denyWords 16 a b → length o ≡ 16
 kept-wide = wide-deny
 
-pub ruleset rowsets = (rows-begin, rows-next, rows-end, kept-wide)
+pub ruleset all-bits-rowsets = (rows-begin, rows-next, rows-end, kept-wide)
 
 -- so many rows have k leaves
 two-tried : (s q : List ℕ) (k : ℕ) → k ≤ slots → 2 ^ k ≡ rowsOf (lastsOf s q 2 k)
@@ -203,7 +203,7 @@ module _ (s lefts rights : List ℕ) (t : Task) (q : List ℕ) (k : ℕ) (few : 
       go true = refl
       go false = refl
 
-pub ruleset holds = (bits-once, bits-hold)
+pub ruleset bits-hold-branches = (bits-once, bits-hold)
 
 module _ (s lefts rights : List ℕ) (t : Task) (k : ℕ) (q : List ℕ) (eg : view s k q ≡ gatherAll s lefts rights t (byLeaves .leaves)) where
   pub bits-many : 10 < k → false ≡ everyOf s lefts rights t byLeaves 1024
@@ -232,4 +232,4 @@ module _ (s lefts rights : List ℕ) (t : Task) (k : ℕ) (q : List ℕ) (eg : v
           omega (arith, one-mul (rowCount sameTree (choicesT 2) (kept s q k)), count, low) in
           rw (le-ltb _ _ l) (sym (one-mul (rowCount sameTree (choicesT 2) (kept s q k)) ∙ count))
 
-pub ruleset tabled = (bits-many, bits-try)
+pub ruleset by-bits-branches = (bits-many, bits-try)

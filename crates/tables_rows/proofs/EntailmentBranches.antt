@@ -19,7 +19,7 @@ use Rattle.tables_digits.specs.declared.value_column.Reading.{Reading}
 use Rattle.tables_rows.specs.declared.entailment.Task.{Task}
 use Rattle.tables_digits.proofs.ValueBranches.{column-value}
 
-pub ruleset numbers = (byte-past)
+pub ruleset number-at-branches = (byte-past)
 
 -- the premises one after the other
 module _ (s lefts rights : List ℕ) (t : Task) where
@@ -66,7 +66,7 @@ module _ (s lefts rights : List ℕ) (t : Task) where
         go true y = refl
         go false y = refl
 
-pub ruleset implications = (imp-fails)
+pub ruleset imp-fails-branches = (imp-fails)
 
 -- the leaves of implications
 pub gather-imp : (s lefts rights : List ℕ) (t : Task) (i w l r n m k : ℕ) (q q₂ q₃ : List ℕ) → r ≡ getD rights i 0
@@ -108,4 +108,4 @@ module _ (s lefts rights : List ℕ) (t : Task) (w : ℕ) where
   all-alone m q q₂ z f = all-end 0 0 m q q₂ (omega arith)
       (all-begin q ∙ ap (λ (i : ℕ). gatherImps w (premisesFrom s lefts rights t i) (keys [])) z) f
 
-pub ruleset gathered = (all-begin, all-next, all-end)
+pub ruleset all-bits-gathered = (all-begin, all-next, all-end)

@@ -48,7 +48,7 @@ module _ (s q : List ℕ) (R : ℕ) (a : List ℕ) where
   pub lasts-end : (j k : ℕ) → j ≤ k → k ≤ j → a ≡ lastsOf s q R j → a ≡ lastsOf s q R k
   lasts-end j k h l e = let z : j ≡ k = omega arith in e ∙ ap (lastsOf s q R) z
 
-pub ruleset lasting = (last-none, lasts-begin, lasts-more, lasts-end)
+pub ruleset fill-lasts-branches = (last-none, lasts-begin, lasts-more, lasts-end)
 
 -- where all values are 0 the row is 0 everywhere
 zeros : (n i : ℕ) → getD (replicate {A = ℕ} n 0) i 0 ≡ 0
@@ -97,7 +97,7 @@ pub rows-once : (s q : List ℕ) (w : Reading) (k n : ℕ) → n ≡ rowsOf (las
     → EveryOnce (lastsOf s q (w .range) k) (triedRows s q (w .range) k n)
 rows-once s q w k n e = tried-once s q (w .range) k n e
 
-pub ruleset holding = (none-fail, rows-hold, rows-once)
+pub ruleset every-row-holding = (none-fail, rows-hold, rows-once)
 
 module _ (s lefts rights : List ℕ) (t : Task) (w : Reading) (limit n : ℕ) (q : List ℕ)
     (eg : view s n q ≡ gatherAll s lefts rights t (w .leaves)) where
@@ -147,4 +147,4 @@ module _ (s lefts rights : List ℕ) (t : Task) (w : Reading) (limit n : ℕ) (q
         (entailsT w (premisesFrom s lefts rights t 0) (impOf s lefts rights t 0)))
         (fun-ext (λ u. zero-in (slotFrom s q (slots - n) n u))))
 
-pub ruleset everys = (every-many, every-over, every-rows, every-try)
+pub ruleset every-row-everys = (every-many, every-over, every-rows, every-try)

@@ -54,4 +54,4 @@ same-put x y o v p e d = rw e d
 pub same-end : (x y : List ℕ) (p r : ℕ) → y ≡ x → r ≡ p + length x → r ≡ p + length y
 same-end x y p r e d = rw e d
 
-pub ruleset embodying = (of-thread, thread-fits, of-line, line-fits, of-claim, claim-fits, of-other, other-fits, same-put, same-end)
+pub ruleset put-body-branches = (of-thread, thread-fits, of-line, line-fits, of-claim, claim-fits, of-other, other-fits, same-put, same-end)

@@ -43,7 +43,7 @@ module _ (o : List ℕ) (p : ℕ) where
       → v ≡ overwritten o p (two (e - p - 2) ++ two k)
   frame-put e q k w v g h = then-put (two (e - p - 2)) (two k) w v q (omega arith)
 
-pub ruleset putting = (one-put, two-put, five-put, frame-put)
+pub ruleset bytes-branches = (one-put, two-put, five-put, frame-put)
 
 module _ (b o : List ℕ) (p : ℕ) where
   pub copy-none : o ≡ overwritten o p (take 0 b)
@@ -65,7 +65,7 @@ module _ (b o : List ℕ) (p : ℕ) where
     pub copy-all : length b ≤ i → w ≡ overwritten o p b
     copy-all h = e ∙ ap (overwritten o p) (take-all i b h)
 
-pub ruleset copying = (copy-none, copy-more, copy-all)
+pub ruleset put-bytes-branches = (copy-none, copy-more, copy-all)
 
 -- X is written in two parts
 module _ (x y X : List ℕ) where
@@ -124,4 +124,4 @@ module _ (x y z X : List ℕ) where
         pub three-put : (v : List ℕ) → v ≡ overwritten u r z → v ≡ overwritten o p X
         three-put v dv = rw (e, ← append-assoc x y z) (then-put o p (x ++ y) z u v r two-room two-parts two-end dv)
 
-pub ruleset threefold = (three-end, three-put)
+pub ruleset put-line-threefold = (three-end, three-put)

@@ -188,5 +188,3 @@ module _ (z : Sizes) (l : List (List ℕ)) (u k : List Bool) (f g : List ℕ) (e
 
   pub write-end : (r : ℕ) → r ≡ 0 + length (wholeBytes z f g l u k) → r ≡ length (encode (trimmedBy u k (documentOf z l)))
   write-end r d = d ∙ (rw (whole-encodes, zero-add (length (encode (trimmedBy u k (documentOf z l))))))
-
-pub ruleset writing = (write-room, write-put, write-end)

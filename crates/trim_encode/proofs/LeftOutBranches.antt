@@ -89,4 +89,4 @@ module _ (l : List (List ℕ)) (from n : ℕ) (m : List Bool) where
       ap (λ (x : List (List ℕ)). leftOut (drop (suc i) m) (map length x)) (drop-of-length-le those b) in
       omega (arith, e, q)
 
-pub ruleset leaving = (behind-start, behind-more, behind-all)
+pub ruleset left-out-branches = (behind-start, behind-more, behind-all)

@@ -246,4 +246,4 @@ module _ (z : Sizes) (s : List ℕ) (y : Lengths z s) where
     pub trimmed-is : length s - (a + b) ≡ length (encode (trim D))
     trimmed-is = let q = all-bytes in omega arith
 
-pub ruleset trimming = (left-within, trimmed-is)
+pub ruleset trimmed-length-branches = (left-within, trimmed-is)

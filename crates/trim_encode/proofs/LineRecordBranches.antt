@@ -49,7 +49,7 @@ module _ (f b o : List ℕ) (p : ℕ) where
   unfolding rightBytes
   right-end q r e d = omega arith
 
-pub ruleset siding = (left-room, left-put, left-end, right-room, right-next, right-put, right-end)
+pub ruleset line-record-branches = (left-room, left-put, left-end, right-room, right-next, right-put, right-end)
 
 -- the premises that were read
 module _ (g b l : List ℕ) (n : ℕ) (el : l ≡ drop 8 b) (en : n ≡ getD b 7 0) where
@@ -69,7 +69,7 @@ module _ (g b l : List ℕ) (n : ℕ) (el : l ≡ drop 8 b) (en : n ≡ getD b 7
       → r ≡ p + length (numberBytes (map (renewed g) (premises b)))
   premises-end p r d = rw premises-are at d
 
-pub ruleset listing = (premises-room, premises-put, premises-end)
+pub ruleset put-premises-branches = (premises-room, premises-put, premises-end)
 
 module _ (f g b : List ℕ) where
   abbrev listed : List ℕ
@@ -96,7 +96,7 @@ module _ (f g b : List ℕ) where
       line-third =
           three-third (leftBytes f b) (rightBytes f b) listed (lineBytes (renewedLine f g (lineRecord b))) o p room line-is w q dw eq
 
-pub ruleset lining = (line-is, line-first, line-second, line-third)
+pub ruleset put-line-lining = (line-is, line-first, line-second, line-third)
 
 module _ (g b o : List ℕ) (p : ℕ) where
   pub claim-room : p + length (claimBytes (renewedClaim g (claimRecord b))) ≤ length o → p + 1 ≤ length o
@@ -121,4 +121,4 @@ module _ (g b o : List ℕ) (p : ℕ) where
   unfolding claimBytes renewedClaim claimBy
   claim-end q r e d = omega arith
 
-pub ruleset claiming = (claim-room, claim-next, claim-put, claim-end)
+pub ruleset put-claim-branches = (claim-room, claim-next, claim-put, claim-end)

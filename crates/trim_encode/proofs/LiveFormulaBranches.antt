@@ -67,7 +67,7 @@ module _ (z : Sizes) (l : List (List ℕ)) (m₀ m : List Bool) (whole : length 
       let len = threads-length z l whole in
       flat-all (λ i. flat instructionFormulas i) (documentOf z l .threads) t m given (omega arith) e
 
-pub ruleset threading = (body-more, body-all, threads-more, threads-all)
+pub ruleset live-formulas-branches = (body-more, body-all, threads-more, threads-all)
 
 pub outline-is : (z : Sizes) (l : List (List ℕ)) (b : List ℕ) (c : PointCounts) (m after : List Bool)
     → b ≡ getD l (z .formulas + z .threads + 1) [] → c ≡ pointCounts z l
@@ -94,7 +94,7 @@ module _ (z : Sizes) (l : List (List ℕ)) (k : List Bool) (n : ℕ) (m : List B
   unfolding markedSides
   sides-passed h = rw (← e, h, noted-nil)
 
-pub ruleset siding = (sides-noted, sides-passed)
+pub ruleset mark-line-branches = (sides-noted, sides-passed)
 
 -- the lines that stay, one after the other
 
@@ -153,7 +153,7 @@ module _ (z : Sizes) (l : List (List ℕ)) (k m₀ m : List Bool) (whole : lengt
       ∙ ap (λ (x : List LineRecord). markedBy m (flat lineFormulas (chosen (drop (suc n) k) x))) (drop-of-length-le (documentOf z l .lines) i)
       ∙ ap (λ (x : List LineRecord). markedBy m (flat lineFormulas x)) (chosen-nil (drop (suc n) k)))
 
-pub ruleset choosing = (marked-more, marked-all)
+pub ruleset mark-lines-branches = (marked-more, marked-all)
 
 pub used-is : (z : Sizes) (l : List (List ℕ)) (k m₀ m₁ m₂ m₃ : List Bool) → k ≡ kept (documentOf z l)
     → m₀ ≡ replicate (suc Limits.formulas) false

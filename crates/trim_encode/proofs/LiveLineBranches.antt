@@ -61,7 +61,7 @@ module _ (z : Sizes) (l : List (List ℕ)) where
         → m ≡ markedBy m₀ (claimLines z l)
     claims-all i m₀ m h e = note-all (claimLines z l) (z .claims) i m (markedBy m₀ (claimLines z l)) h claimed-length e
 
-pub ruleset claiming = (claims-start, claims-more, claims-all)
+pub ruleset mark-claims-branches = (claims-start, claims-more, claims-all)
 
 -- one line
 module _ (z : Sizes) (l : List (List ℕ)) (n : ℕ) (m : List Bool) (b : Bool) (e : b ≡ getD m n false) where
@@ -74,7 +74,7 @@ module _ (z : Sizes) (l : List (List ℕ)) (n : ℕ) (m : List Bool) (b : Bool) 
   unfolding withPremises
   line-passed h = rw (← e, h)
 
-pub ruleset lining = (line-noted, line-passed)
+pub ruleset mark-line-branches = (line-noted, line-passed)
 
 -- from the last line down
 module _ (z : Sizes) (l : List (List ℕ)) where
@@ -97,7 +97,7 @@ module _ (z : Sizes) (l : List (List ℕ)) where
   down-all zero g m h e = sym e
   down-all (suc n) g m h e = absurd (omega arith)
 
-pub ruleset passing = (down-more, down-all)
+pub ruleset mark-lines-branches = (down-more, down-all)
 
 pub kept-is : (z : Sizes) (l : List (List ℕ)) (m₀ m₁ m₂ m₃ : List Bool) → length l ≡ recordCount z
     → m₀ ≡ replicate (suc Limits.lines) false → m₁ ≡ markedBy m₀ (documentOf z l .obligations)

@@ -66,7 +66,7 @@ pub numbers-more : (b : List ℕ) (n i x : ℕ) (m₀ m after : List Bool) → i
     → after ≡ set m x true → markedBy m₀ (numbers n b) ≡ markedBy after (drop (i + 1) (numbers n b))
 numbers-more b n i x m₀ m after h e d u = note-more (numbers n b) n i x m after (markedBy m₀ (numbers n b)) h (numbers-length n b) e d u
 
-pub ruleset numbering = (note-start, note-all, numbers-length)
+pub ruleset mark-numbers-branches = (note-start, note-all, numbers-length)
 
 -- a loop over a list whose members name some numbers each
 

@@ -17,7 +17,7 @@ module _ (m : List Bool) (i n : ℕ) (b : Bool) (e : b ≡ getD m i false) where
   pub count-same : b ≡ false → n ≡ n + cond (getD m i false) 1 0
   count-same h = rw (← e, h) (sym (add-zero n))
 
-pub ruleset counting = (count-more, count-same)
+pub ruleset count-mark-branches = (count-more, count-same)
 
 below-step : (n : ℕ) (l : List Bool) → setBelow (suc n) l ≡ setBelow n l + cond (getD l n false) 1 0
 unfolding setBelow
@@ -69,4 +69,4 @@ filled-all m t i n a b f = let q : i ≡ length m = omega arith in rw q at (f .t
 pub zeros-long : (m : List Bool) (t : List ℕ) → t ≡ replicate (length m) 0 → length t ≡ length m
 zeros-long m t e = ap length e ∙ length-replicate {A = ℕ} (length m) 0
 
-pub ruleset filling = (filled-none, filled-more, filled-all, zeros-long)
+pub ruleset fill-numbers-branches = (filled-none, filled-more, filled-all, zeros-long)

@@ -109,7 +109,3 @@ module _ (t : List ℕ) (z : Sizes) (l : List (List ℕ)) (k n p : ℕ) (o v : L
 
     pub count-end : r ≡ p + length (listBytes t l k n c) → r ≡ p + length (listBytes t l k n (obligationCount z l))
     count-end d = rw e at d
-
-pub ruleset pointing = (points-room, points-put, points-end)
-
-pub ruleset counting = (count-room, count-put, count-end)

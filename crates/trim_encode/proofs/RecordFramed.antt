@@ -88,6 +88,6 @@ module _ (l : List (List ℕ)) (n k : ℕ) (b o : List ℕ) (p : ℕ) (eb : b �
         → r ≡ p + length (listBytes t l k n c)
     list-end q r e d = rw list-is (frame-end k listed o p q r e d)
 
-pub ruleset recording = (record-room, record-behind, record-put, record-end)
+pub ruleset put-record-branches = (record-room, record-behind, record-put, record-end)
 
-pub ruleset tabling = (list-room, list-behind, list-put, list-end)
+pub ruleset put-list-branches = (list-room, list-behind, list-put, list-end)

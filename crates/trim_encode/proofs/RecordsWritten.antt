@@ -49,7 +49,7 @@ module _ (f g : List ℕ) (l : List (List ℕ)) (k n : ℕ) where
         pub dropped-end : p ≡ p + length (livePiece f g l m k n i)
         dropped-end = rw (goes, add-zero p)
 
-pub ruleset keeping = (kept-room, kept-put, kept-end, dropped-put, dropped-end)
+pub ruleset put-if-live-branches = (kept-room, kept-put, kept-end, dropped-put, dropped-end)
 
 pub mark-past : (m : List Bool) (n : ℕ) → length m ≤ n → false ≡ getD m n false
 mark-past m n h = sym (List·getD-eq-default m false h)

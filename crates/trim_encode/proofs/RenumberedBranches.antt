@@ -28,7 +28,7 @@ module _ (t : List ℕ) (n : ℕ) where
   unfolding renewed
   new-past h = rw (le-ltb _ _ h)
 
-pub ruleset renewing = (new-in, new-none, new-past)
+pub ruleset new-number-branches = (new-in, new-none, new-past)
 
 module _ (t b : List ℕ) (n : ℕ) where
   pub number-put : (o v : List ℕ) (p i x y : ℕ) → x ≡ getD (numbers n b) i 0 → y ≡ renewed t x → v ≡ overwritten o p (two y)
@@ -64,4 +64,4 @@ module _ (t b : List ℕ) (n : ℕ) where
       pub numbers-end : q ≡ p + length (joined (numberPiece t b n) i) → q ≡ p + length (numberBytes (map (renewed t) (numbers n b)))
       numbers-end e = let k : i ≡ n = omega arith in rw (k, numbers-joined) at e
 
-pub ruleset numbering = (number-put, numbers-room, numbers-next, numbers-all, numbers-end)
+pub ruleset renumbered-branches = (number-put, numbers-room, numbers-next, numbers-all, numbers-end)

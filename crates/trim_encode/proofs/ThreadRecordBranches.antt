@@ -50,7 +50,7 @@ module _ (f : List ℕ) (op : ℕ) (h : Half) (o v : List ℕ) (p x r : ℕ) (b 
     pub second-stays : p ≡ p + length (secondBytes op (renewedHalf f h))
     second-stays = rw (no-half, add-zero p)
 
-pub ruleset seconds = (second-room, second-put, second-end, second-none, second-stays)
+pub ruleset put-second-branches = (second-room, second-put, second-end, second-none, second-stays)
 
 module _ (f : List ℕ) (i : Instruction) (o : List ℕ) (p : ℕ) where
   abbrev firstBytes : ℕ → List ℕ
@@ -86,7 +86,7 @@ module _ (f : List ℕ) (i : Instruction) (o : List ℕ) (p : ℕ) where
       → r ≡ p + length (instructionBytes (renewedInstruction f i))
   instruction-end q r e d = rw instruction-size (omega arith)
 
-pub ruleset instructing = (instruction-room, instruction-next, instruction-put, instruction-end)
+pub ruleset put-instruction-branches = (instruction-room, instruction-next, instruction-put, instruction-end)
 
 module _ (f b : List ℕ) where
   -- the instruction that was read
@@ -141,9 +141,9 @@ module _ (f b : List ℕ) where
       → r ≡ p + length (threadBytes (map (renewedInstruction f) (instructions b)))
   thread-end p q r n e en d = rw thread-size (let k = rw en at d in omega arith)
 
-pub ruleset stepping = (step-room, step-put, step-end, steps-next)
+pub ruleset thread-record-branches = (step-room, step-put, step-end, steps-next)
 
-pub ruleset threading = (thread-room, thread-next, thread-put, thread-end)
+pub ruleset put-thread-branches = (thread-room, thread-next, thread-put, thread-end)
 
 pub points-none : (b : List ℕ) (n : ℕ) → n ≡ getD b 0 0 → n ≡ 0 → 1 ≡ lastPoint b + 1
 unfolding lastPoint

@@ -86,7 +86,7 @@ pub room : (s : List ℕ) (z : Sizes) (n m : ℕ) → n ≡ length (encode (trim
 unfolding trimmedBytes
 room s z n m e h = rw (← e) h
 
-pub ruleset trimming-ways = (
+pub ruleset trim-accepted-branches = (
   records-all,
   lengths,
   formulas-table,
@@ -118,4 +118,4 @@ module _ (s o : List ℕ) (a : Acceptance) (e : a ≡ acceptance s) where
   unfolding bufferFor
   declined-buffer h = ap (bufferWith s o) (sym h ∙ e)
 
-pub ruleset answering = (granted-answer, granted-buffer, declined-answer, declined-buffer)
+pub ruleset trim-by-branches = (granted-answer, granted-buffer, declined-answer, declined-buffer)

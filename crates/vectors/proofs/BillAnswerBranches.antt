@@ -51,4 +51,4 @@ module _ (code stored : ℕ) (room s : List ℕ) (e : stored ≡ le16 (drop 18 s
   unfolding sameAnswer codeAt writtenAt
   all-written r n h z d q = rw (← e, eq-eqb _ _ h, ne-eqb _ _ z, ← d) q
 
-pub ruleset answers = (tariff-read, numbers-read, billed-read, lent-most, lent-read, code-other, none-written, all-written)
+pub ruleset bill-answer-branches = (tariff-read, numbers-read, billed-read, lent-most, lent-read, code-other, none-written, all-written)

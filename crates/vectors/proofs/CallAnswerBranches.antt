@@ -68,4 +68,4 @@ module _ (code stored : ℕ) (after told s entries : List ℕ) (e : stored ≡ l
   unfolding sameAnswer codeAt
   table-same b r h q z p = rw (← e, eq-eqb _ _ h, ← q, z) p
 
-pub ruleset answers = (lent-most, lent-read, told-none, told-past, told-in, code-other, table-other, table-same)
+pub ruleset call-answer-branches = (lent-most, lent-read, told-none, told-past, told-in, code-other, table-other, table-same)

@@ -26,7 +26,7 @@ module _ (p : Filled) (n : ℕ) where
   unfolding nextBy
   next-failed e = rw e
 
-pub ruleset following = (next-full, next-ended, next-failed)
+pub ruleset next-by-branches = (next-full, next-ended, next-failed)
 
 pub next-fits : (p : Filled) (n : ℕ) (r : Next) (l : List ℕ) → n ≤ length l → r ≡ nextBy p n → Fits r l
 unfolding nextBy Fits

@@ -40,7 +40,7 @@ module _ (t q : Counters) (k : ℕ) (same : Bool) (e : q ≡ withKind t k) where
   unfolding withCase
   case-other r s d = rw (s, ← e) d
 
-pub ruleset tallying = (kind-past, kind-in, difference-later, difference-first, case-same, case-other)
+pub ruleset counters-branches = (kind-past, kind-in, difference-later, difference-first, case-same, case-other)
 
 module _ (e : End) (n : ℕ) where
   pub whole-all : e ≡ Whole → not (eqb n 0) ≡ isWhole e n
@@ -63,4 +63,4 @@ module _ (e : End) (n : ℕ) where
   unfolding isWhole
   whole-many h = rw h
 
-pub ruleset ends = (whole-all, whole-cut, whole-unread, whole-large, whole-many)
+pub ruleset is-whole-branches = (whole-all, whole-cut, whole-unread, whole-large, whole-many)

@@ -17,7 +17,7 @@ pub file-open : (fd : ℤ) (n : ℕ) (l : List ℕ) → Counts n l → Named (Op
 unfolding Named
 file-open fd n l h = h
 
-pub ruleset opening = (file-missing, file-open)
+pub ruleset open-argument-branches = (file-missing, file-open)
 
 -- the name of an open file is a part of the buffer
 module _ (fd : ℤ) (n : ℕ) (r : File) (l : List ℕ) (h : Named r l) (e : r ≡ Open fd n) where

@@ -15,4 +15,4 @@ pub long-in : (s : List ℕ) (at a b : ℕ) → a ≡ le16 (drop at s) → b ≡
 unfolding long
 long-in s at a b e d = rw (e, d, drop-drop 2 at s)
 
-pub ruleset longs = (long-past, long-in)
+pub ruleset u32-at-branches = (long-past, long-in)

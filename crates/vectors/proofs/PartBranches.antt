@@ -56,7 +56,7 @@ module _ (s body b r : List ℕ) (n : ℕ) where
   unfolding seventhOn
   seventh-from d q e = rw (← d, ← q) e
 
-pub ruleset parts = (
+pub ruleset parts-branches = (
   first-read,
   second-from,
   second-read,

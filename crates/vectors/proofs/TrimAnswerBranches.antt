@@ -34,4 +34,4 @@ module _ (code written stored : ℕ) (room s trimmed : List ℕ) (e : stored ≡
   unfolding sameAnswer codeAt
   room-compared r h z q = rw (← e, eq-eqb _ _ h, eq-eqb _ _ z) q
 
-pub ruleset answers = (lent-most, lent-read, code-other, length-other, room-compared)
+pub ruleset trim-answer-branches = (lent-most, lent-read, code-other, length-other, room-compared)

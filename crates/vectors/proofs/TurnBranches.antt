@@ -99,9 +99,9 @@ module _ (s : List ℕ) (n : ℕ) (e : n ≡ le16 (drop 0 s)) where
     ne-eqb _ _ k,
   )
 
-pub ruleset turn-kinds = (kind-open, deed-set, kind-check, kind-trim, kind-bill, kind-handover, kind-replay, kind-across, kind-other)
+pub ruleset turn-kind-at-branches = (kind-open, deed-set, kind-check, kind-trim, kind-bill, kind-handover, kind-replay, kind-across, kind-other)
 
-pub ruleset reads = (caller-read, lengths-read, set-read, tariff-read, bytes-most, bytes-read, numbers-most, numbers-read)
+pub ruleset turn-branches = (caller-read, lengths-read, set-read, tariff-read, bytes-most, bytes-read, numbers-most, numbers-read)
 
 module _ (code n : ℕ) (service s : List ℕ) (e : n ≡ le16 (drop 44 s)) where
   pub code-other : (code ≡ n → ⊥) → false ≡ sameService code service s
@@ -172,7 +172,7 @@ module _ (b r : Bool) (after told s : List ℕ) (e : b ≡ sameBytes after s) wh
   unfolding sameNumbers
   table-same h q = rw (← e, h) q
 
-pub ruleset sames = (
+pub ruleset turn-same-branches = (
   code-other,
   code-same,
   bytes-same,

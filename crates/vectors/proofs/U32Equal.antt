@@ -39,4 +39,4 @@ pub longs-next : (l s : List ℕ) (at i n : ℕ) → i < length l → Left l s a
 unfolding Left
 longs-next l s at i n h g e d = rw (add-one i, g, longs-one l s at i h, ← e, eq-eqb _ _ d)
 
-pub ruleset longs = (longs-miss, longs-all, longs-start, longs-next)
+pub ruleset turn-same-branches = (longs-miss, longs-all, longs-start, longs-next)

@@ -44,4 +44,4 @@ module _ (s r : List ℕ) (n : ℕ) (e : n ≡ lentAt s) (q : r ≡ room) where
   bill-counted image after t u code same w d g =
       record { code = code; after = after; called = rw (← e, ← q) w; counted = rw (← e, ← q, ← d) g }
 
-pub ruleset lending = (lent-fits, lent-front, lent-back, bill-counted)
+pub ruleset with-bill-branches = (lent-fits, lent-front, lent-back, bill-counted)

@@ -46,7 +46,7 @@ module _ (name : List ℕ) (a : Bool) (e : a ≡ begins name trimWord) where
           unfolding kindOf
           kind-verdicts o = rw (← e, h, ← f, i, ← g, j, ← k, l, ← n, o)
 
-pub ruleset kinds = (kind-trims, kind-bills, kind-replays, kind-handovers, kind-across, kind-verdicts)
+pub ruleset kind-of-branches = (kind-trims, kind-bills, kind-replays, kind-handovers, kind-across, kind-verdicts)
 
 module _ (kind : Kind) where
   pub tail-verdicts : kind ≡ Verdicts → 18 ≡ tailOf kind
@@ -73,7 +73,7 @@ module _ (kind : Kind) where
   unfolding tailOf
   tail-across e = rw e
 
-pub ruleset tails = (tail-verdicts, tail-trims, tail-bills, tail-replays, tail-handovers, tail-across)
+pub ruleset tail-of-branches = (tail-verdicts, tail-trims, tail-bills, tail-replays, tail-handovers, tail-across)
 
 module _ (kind : Kind) (body s : List ℕ) (t r : Counters) where
   pub counts-verdict : kind ≡ Verdicts → r ≡ withVerdict t body s → Counted kind body s t r
@@ -100,4 +100,4 @@ module _ (kind : Kind) (body s : List ℕ) (t r : Counters) where
   unfolding Counted
   counts-across e c = subst (λ k. Counted k body s t r) (sym e) c
 
-pub ruleset counts = (counts-verdict, counts-trim, counts-bill, counts-replay, counts-handover, counts-across)
+pub ruleset with-call-branches = (counts-verdict, counts-trim, counts-bill, counts-replay, counts-handover, counts-across)

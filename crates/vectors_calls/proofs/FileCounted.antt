@@ -59,4 +59,4 @@ module _ (kind : Kind) (n : ℕ) (e : n ≡ tailOf kind) (room : List ℕ) (q : 
   tail-back after l =
       let h = tail-fits in rw (length-append after (drop n room), l, length-drop n room, ← tail-front) (omega (arith, q))
 
-pub ruleset gathered = (running-none, running-call, running-over, tail-fits, tail-front, tail-back)
+pub ruleset judge-all-branches = (running-none, running-call, running-over, tail-fits, tail-front, tail-back)

@@ -47,4 +47,4 @@ trimmed-counted body s stored r image after trimmed t u n code written same z e 
       counted = rw (← z, ← e, ← q, ← v, ← d) g;
     }
 
-pub ruleset lending = (lent-fits, lent-front, lent-back, trimmed-counted)
+pub ruleset with-trimmed-branches = (lent-fits, lent-front, lent-back, trimmed-counted)

@@ -42,7 +42,7 @@ module _ (r : Reading) (k w : ℕ) where
     unfolding isAnswer
     fault-read e z = rw (e, eq-eqb _ _ z)
 
-pub ruleset answers = (kind-formula, kind-fault, formula-refused, formula-read, fault-accepted, fault-read)
+pub ruleset answer-branches = (kind-formula, kind-fault, formula-refused, formula-read, fault-accepted, fault-read)
 
 pub counts-read : (s : List ℕ) (a b c d : ℕ) → a ≡ getD s 0 0 → b ≡ getD s 1 0 → c ≡ getD s 2 0 → d ≡ getD s 3 0
     → record { threads = a; words = b; registers = c; values = d } ≡ countsAt s

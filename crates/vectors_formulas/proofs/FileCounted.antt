@@ -17,4 +17,4 @@ running-formula t q left body s h f e =
     running-more t q left (kindOf (readingOf body (countsAt s)))
     (isAnswer (readingOf body (countsAt s)) (le16 (drop 4 s)) (le16 (drop 6 s))) h f e
 
-pub ruleset gathered = (running-none, running-formula, running-over)
+pub ruleset judge-all-branches = (running-none, running-formula, running-over)

@@ -174,7 +174,7 @@ module _ (service body s left : List ℕ) (t u : Counters) (d : TurnKind) (e : d
   pub turn-other : d ≡ Other → u ≡ withCase t 8 false → Counted service body s t service u
   turn-other h c = other (rw (← e) h) refl c
 
-pub ruleset turns = (
+pub ruleset with-turn-branches = (
   turn-opened,
   turn-changed,
   turn-checked,
@@ -206,4 +206,4 @@ running-turn t r more service body s left h f (across d k c) =
     h f (c .counted)
 running-turn t r more service body s left h f (other d k c) = running-more t r more 8 false h f c
 
-pub ruleset gathered = (running-none, running-turn, running-over)
+pub ruleset judge-all-branches = (running-none, running-turn, running-over)

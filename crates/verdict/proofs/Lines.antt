@@ -33,7 +33,7 @@ pub line-failed : (how : Filled) (s : List ℕ) → how ≡ Failed → [] ≡ li
 unfolding lineFor
 line-failed how s e = rw e
 
-pub ruleset lines = (line-judged, line-full, line-ended, line-failed)
+pub ruleset line-branches = (line-judged, line-full, line-ended, line-failed)
 
 -- a text is a part of its bytes
 pub text-within : (t : Text) → t .len ≤ room → length (t .bytes) ≡ room → t .len ≤ length (t .bytes)

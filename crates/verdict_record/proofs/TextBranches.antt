@@ -44,7 +44,7 @@ module _ (t : Text) (l : length (t .bytes) ≡ room) where
         let m : t .len < length (t .bytes) = omega arith in
         rw (add-one, take-suc-set (t .bytes) (t .len) b m, take-all room (take (t .len) (t .bytes) ++ (b ∷ [])) k)
 
-pub ruleset putting = (byte-full, byte-more)
+pub ruleset put-byte-branches = (byte-full, byte-more)
 
 digits-step : (k n : ℕ) → (k ≡ 0 → ⊥) → digits k n ≡ cond (ltb n 10) (digit n ∷ []) (digits (k - 1) (n / 10) ++ (digit (n % 10) ∷ []))
 unfolding digits
@@ -65,7 +65,7 @@ module _ (t : Text) (n left : ℕ) where
         → written r ≡ added (written t) (digits left n)
     digits-more q h e d = rw (digits-step left n z, le-ltb _ _ h) (rw (d, e, added-both))
 
-pub ruleset spelling = (digits-none, digits-last, digits-more, lower)
+pub ruleset put-digits-branches = (digits-none, digits-last, digits-more, lower)
 
 pub number-put : (t q r : Text) (n b : ℕ) → written q ≡ added (written t) (decimal n) → written r ≡ added (written q) (b ∷ [])
     → written r ≡ added (written t) (numbered n b)

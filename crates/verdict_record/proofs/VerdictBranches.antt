@@ -35,7 +35,7 @@ module _ (o : Obligation) (t k : ℕ) where
   unfolding placeOf
   place-interference u j e = rw e
 
-pub ruleset placing = (place-start, place-step, place-taken, place-interference)
+pub ruleset place-of-branches = (place-start, place-step, place-taken, place-interference)
 
 module _ (v : Verdict) where
   pub fields-accepted : (n : ℕ) (r : Fields) → v ≡ Accepted n → r ≡ gathered 0 0 nowhere 0 n → r ≡ fieldsOf v
@@ -55,7 +55,7 @@ module _ (v : Verdict) where
   unfolding fieldsOf
   fields-denied i p l n r e d = rw (d, e)
 
-pub ruleset numbering = (fields-accepted, fields-refused, fields-failed, fields-denied)
+pub ruleset fields-of-branches = (fields-accepted, fields-refused, fields-failed, fields-denied)
 
 module _ (v : Verdict) (out : List ℕ) where
   pub short-code : length out < size → 1 ≡ codeFor v out
@@ -75,4 +75,4 @@ module _ (v : Verdict) (out : List ℕ) where
     unfolding bytesFor
     report-bytes b w d q = rw (le-ltb _ _ h, ← e, ← d) q
 
-pub ruleset reporting = (report-code, report-bytes)
+pub ruleset report-branches = (report-code, report-bytes)

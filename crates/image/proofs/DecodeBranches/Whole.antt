@@ -66,7 +66,7 @@ pub bodies-all : (t : ℕ) (z : Sizes) (l m : List (List ℕ)) (i n : ℕ) (g : 
 unfolding firstFault
 bodies-all t z l m i n g h e = let q : n + 1 - i ≡ 0 = omega arith in rw (e, q)
 
-pub ruleset walking = (bodies-start, bodies-stop, bodies-more, bodies-all)
+pub ruleset check-bodies-branches = (bodies-start, bodies-stop, bodies-more, bodies-all)
 
 -- one body
 
@@ -99,7 +99,7 @@ module _ (t : ℕ) (z : Sizes) (l : List (List ℕ)) (b : List ℕ) (p q : Place
   unfolding check
   is-claim h d = rw (← e, h) d
 
-pub ruleset placed = (is-header, is-formula, is-thread, is-outline, is-line, is-obligations, is-claim)
+pub ruleset check-body-branches = (is-header, is-formula, is-thread, is-outline, is-line, is-obligations, is-claim)
 
 -- frames, then bodies
 
@@ -113,4 +113,4 @@ pub frames-sound : (s : List ℕ) (g : Framing) (nf nt nl nc : ℕ) (h : List �
 unfolding decoded
 frames-sound s g nf nt nl nc h z d e q eh ez ed = rw (← e, q, ← eh, ← ez) ed
 
-pub ruleset opening = (sizes-are, frames-refused, frames-sound)
+pub ruleset decode-branches = (sizes-are, frames-refused, frames-sound)

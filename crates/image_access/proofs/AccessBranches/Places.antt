@@ -54,7 +54,7 @@ module _ (s : List ℕ) where
   unfolding formulaAt
   at-placed k p r z e d = rw (ne-eqb k 0 z, ← e) d
 
-pub ruleset positions = (start-past, start-in, at-none, at-placed)
+pub ruleset formula-position-branches = (start-past, start-in, at-none, at-placed)
 
 -- lines
 
@@ -84,7 +84,7 @@ pub line-is : (s b : List ℕ) (rule t p x y l r c : ℕ) → rule ≡ getD b 0 
 unfolding lineIn
 line-is s b rule t p x y l r c e₀ e₁ e₂ ex el ey er ec = rw (e₀, e₁, e₂, el, er, ec, ex, ey)
 
-pub ruleset lining = (line-past, line-there, line-read, premise-read, line-is)
+pub ruleset line-branches = (line-past, line-there, line-read, premise-read, line-is)
 
 -- instructions
 
@@ -107,7 +107,7 @@ module _ (s : List ℕ) (i : Instruction) where
 pub acts-at : (s : List ℕ) (i j : Instruction) (r : Acting) → i ≡ j → r ≡ actingOf s i → r ≡ actingOf s j
 acts-at s i j r e d = rw (← e) d
 
-pub ruleset acting = (acts-early, acts-writing, acts-not, acts-at)
+pub ruleset acting-instruction-branches = (acts-early, acts-writing, acts-not, acts-at)
 
 -- sums over the threads
 
@@ -207,9 +207,9 @@ set-long m t v e = length-set m t v ∙ e
 pub zeros-long : (m : List ℕ) → m ≡ replicate Limits.threads 0 → length m ≡ Limits.threads
 zeros-long m e = ap length e ∙ length-replicate {A = ℕ} Limits.threads 0
 
-pub ruleset filling = (below-none, below-more, below-all, set-long, zeros-long)
+pub ruleset fill-before-branches = (below-none, below-more, below-all, set-long, zeros-long)
 
-pub ruleset totals = (before-is, own-least, totals-are, before-known, known-length)
+pub ruleset totals-branches = (before-is, own-least, totals-are, before-known, known-length)
 
 -- the lines that obligations name
 
@@ -219,7 +219,7 @@ pub named-is : (s : List ℕ) (z : Sizes) (y : Totals) (b : List ℕ) (i r : ℕ
 unfolding namedLine totalsOf
 named-is s z y b i r ey eb d = rw (← eb) (d ∙ (rw ey))
 
-pub ruleset naming = (named-is)
+pub ruleset named-line-branches = (named-is)
 
 -- a thread's last point
 
@@ -232,7 +232,7 @@ module _ (s : List ℕ) (z : Sizes) (t : ℕ) (b : List ℕ) (r : ℕ) where
   unfolding threadBody
   last-there e d = d ∙ ap lastPoint e
 
-pub ruleset pointing = (last-past, last-there)
+pub ruleset last-point-of-branches = (last-past, last-there)
 
 -- the outline
 
@@ -270,7 +270,7 @@ module _ (z : Sizes) (l : List (List ℕ)) (t : ℕ) where
 pub found-at : (s : List ℕ) (k m r : ℕ) → k ≡ m → r ≡ formulaAt s k → r ≡ formulaAt s m
 found-at s k m r e d = rw (← e) d
 
-pub ruleset outlining = (number-none, number-absent, number-over, number-late, number-there, found-at)
+pub ruleset outline-point-branches = (number-none, number-absent, number-over, number-late, number-there, found-at)
 
 -- claims
 
@@ -287,4 +287,4 @@ module _ (z : Sizes) (l : List (List ℕ)) (i : ℕ) (b : List ℕ) where
   pub claim-at : (r : Claimed) → b ≡ claimBody z l i → r ≡ claimedIn b → r ≡ claimedIn (claimBody z l i)
   claim-at r e d = rw (← e) d
 
-pub ruleset claiming = (claimed-is, claim-body-is, claim-at)
+pub ruleset claim-branches = (claimed-is, claim-body-is, claim-at)

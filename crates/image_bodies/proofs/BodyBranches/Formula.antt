@@ -22,4 +22,4 @@ module _ (z : Sizes) (b : List ℕ) (n : Counts) (r : Reading) (en : n ≡ count
   unfolding read
   read-fault c f q e = rw (← en, ← er, q, e)
 
-pub ruleset read-so = (read-formula, read-fault)
+pub ruleset check-formula-branches = (read-formula, read-fault)

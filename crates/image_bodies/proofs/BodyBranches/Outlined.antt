@@ -41,7 +41,7 @@ entries-fit z n e = omega (arith, entries-low z)
 pub table-long : (a : List Bool) (k : ℕ) (u : Bool) (n : ℕ) → length a ≡ n → length (set a k u) ≡ n
 table-long a k u n e = length-set a k u ∙ e
 
-pub ruleset filling = (table-none, table-more, table-all, entries-fit, table-long)
+pub ruleset outlined-of-branches = (table-none, table-more, table-all, entries-fit, table-long)
 
 -- looked up
 
@@ -74,4 +74,4 @@ module _ (z : Sizes) (l : List (List ℕ)) (a : List Bool) (k n : ℕ) (e : a �
   unfolding outlinedOf
   entry-is = rw e (to-entry l (entries z) k (omega arith) (entries-low z))
 
-pub ruleset looking = (entry-in, entry-is)
+pub ruleset formula-outlined-branches = (entry-in, entry-is)

@@ -60,7 +60,7 @@ module _ (z : Sizes) (l : List (List ℕ)) (b : List ℕ) (n : ℕ) (c : Checked
     unfolding outline also unless
     outline-sound p = rw (← en, ← ec, q, ← eu, p)
 
-pub ruleset listed = (points-are, obligations-are, outline-numbers, outline-sort, outline-sound)
+pub ruleset list-body-branches = (points-are, obligations-are, outline-numbers, outline-sort, outline-sound)
 
 -- lines
 
@@ -95,4 +95,4 @@ module _ (l : List (List ℕ)) (b : List ℕ) (f : Form) (x : ℕ) (u : Bool) (e
   unfolding lineSorted
   left-on y r q ey d = rw (← ef, ← ex, ← eu, q, ← ey) d
 
-pub ruleset lined = (by-triple, by-implication, by-inclusion, by-pair, by-unlisted, left-off, left-on)
+pub ruleset line-body-branches = (by-triple, by-implication, by-inclusion, by-pair, by-unlisted, left-off, left-on)

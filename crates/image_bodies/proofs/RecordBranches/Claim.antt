@@ -25,4 +25,4 @@ pub different-is : (b : List ℕ) (x y : ℕ) → x ≡ getD b 0 0 → y ≡ get
 unfolding different
 different-is b x y ex ey = rw (ex, ey)
 
-pub ruleset claiming = (there-not, there-is, different-is)
+pub ruleset claim-branches = (there-not, there-is, different-is)

@@ -38,7 +38,7 @@ module _ (z : Sizes) (l : List (List ℕ)) (t p : ℕ) where
   unfolding instructionOf threadBody
   there-in r h g d = rw (ne-eqb _ _ h, le-ltb _ _ g) d
 
-pub ruleset placing = (there-not, there-past, there-in)
+pub ruleset instruction-of-branches = (there-not, there-past, there-in)
 
 -- branches of a thread
 
@@ -86,7 +86,7 @@ thread-small b m n e h g = record {
   own = omega (arith, small-product (m + 1) (m - n) 256 (omega arith) (omega arith));
 }
 
-pub ruleset tallying = (own-fits, thread-is, thread-small)
+pub ruleset thread-counts-branches = (own-fits, thread-is, thread-small)
 
 -- the pointCounts of all threads
 
@@ -142,7 +142,7 @@ product-fits c h = omega (arith, small-product (c .points) (c .actions) 65536 (o
 pub count-fits : (c : PointCounts) (n : ℕ) → n < 256 → Small 256 c → n + c .steps + (c .points * c .actions - c .own) < 2 ^ 64
 count-fits c n e h = omega (arith, small-product (c .points) (c .actions) 65536 (omega arith) (omega arith))
 
-pub ruleset numbering = (own-least, product-fits, count-fits, count-is)
+pub ruleset point-counts-branches = (own-least, product-fits, count-fits, count-is)
 
 -- a list of n numbers
 
@@ -164,4 +164,4 @@ module _ (n lo hi : ℕ) (b : List ℕ) where
     unfolding exactly unless
     list-on d = rw (← e, eq-eqb _ _ h, d)
 
-pub ruleset listing = (list-short, list-size, list-off, list-on)
+pub ruleset check-list-branches = (list-short, list-size, list-off, list-on)

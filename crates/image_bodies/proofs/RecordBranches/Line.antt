@@ -36,7 +36,7 @@ pub triple-is : (z : Sizes) (l : List (List ℕ)) (b : List ℕ) (t p : ℕ) (i 
 unfolding tripleAt
 triple-is z l b t p i et ep ei = rw (← et, ← ep, ← ei)
 
-pub ruleset lining = (form-is, size-is, premise-is, premises-are, triple-is)
+pub ruleset line-branches = (form-is, size-is, premise-is, premises-are, triple-is)
 
 -- where the line stands, by its form
 
@@ -61,4 +61,4 @@ pub placed-unlisted : (z : Sizes) (l : List (List ℕ)) (b : List ℕ) (f g : Fo
 unfolding placed
 placed-unlisted z l b f g e q = rw (← e, q)
 
-pub ruleset standing = (placed-triple, placed-implication, placed-inclusion, placed-pair, placed-unlisted)
+pub ruleset line-placed-branches = (placed-triple, placed-implication, placed-inclusion, placed-pair, placed-unlisted)

@@ -62,4 +62,4 @@ module _ (s : List ℕ) (at : ℕ) (c : Seen) where
         let q : 2 + n ≤ length (drop at s) = rw (length-drop at s) (omega arith) in
         rw (two, ← e, le-ltb _ _ g, has-all (2 + n) (drop at s) q, drop-drop 2 at s, ← ek, ← eo) ef
 
-pub ruleset framing = (frame-none, frame-short, frame-under, frame-past, frame-kind)
+pub ruleset frame-at-branches = (frame-none, frame-short, frame-under, frame-past, frame-kind)

@@ -74,7 +74,7 @@ pub walk-last : (s : List ℕ) (at i : ℕ) (c : Seen) (r : Framing) → length 
     → r ≡ ended i c → r ≡ frames s
 walk-last s at i c r h e d = let q : length s ≤ at = omega arith in rw (e, drop-of-length-le s q, walk-end) d
 
-pub ruleset walking = (frame-fits, kind-known, kind-room, walk-start, walk-stop, walk-more, walk-last)
+pub ruleset walk-frames-branches = (frame-fits, kind-known, kind-room, walk-start, walk-stop, walk-more, walk-last)
 
 pub long : (l : List ℕ) (i v n : ℕ) → length l ≡ n → length (set l i v) ≡ n
 long l i v n e = length-set l i v ∙ e

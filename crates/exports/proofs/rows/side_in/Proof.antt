@@ -1,4 +1,4 @@
-use Rattle.exports.proofs.RowsBranches.{truths}
+use Rattle.exports.proofs.RowsBranches.{rows-branches}
 use Rattle.limits.proofs.BranchTests.{tests}
 use borrow.Author.Needs.{needs}
 use Rattle.exports.proofs.rows.side_in.Statement.{statement}
@@ -13,4 +13,4 @@ side-in-spec =
     (λ c κs. search needs)
     (λ c κs. search needs)
     (λ c κs. search needs)
-    (λ c. search (truths, tests)))
+    (λ c. search (rows-branches, tests)))

@@ -1,4 +1,4 @@
-use Rattle.formula_compare.proofs.OccursBranches.{finds}
+use Rattle.formula_compare.proofs.OccursBranches.{find-at-branches}
 use Rattle.formula.proofs.BranchTests.{tests}
 use Prim.Native.Nat.{ℕ, _<_}
 use borrow.Fn.Kinds.{In}
@@ -34,17 +34,17 @@ pub +find-at-spec : {M : Type 1} → statement M
 +find-at-spec = close μ-find-at λ t. find-at-lts.spec (find-at-calls t)
     (find-at-at t)
     find-at.Post
-    (λ c. search (finds, tests))
-    (λ c κs. search (finds, tests))
-    (λ c κs. search (finds, tests))
-    (λ c. search (finds, tests))
-    (λ c. search (finds, tests))
-    (λ c. search (finds, tests))
-    (λ c κs. search (finds, tests))
-    (λ c. search (finds, tests))
-    (λ c. search (finds, tests))
-    (λ c. search (finds, tests))
-    (λ c. search (finds, tests))
-    (λ c κs. search (finds, tests))
-    (λ c. search (finds, tests))
-    (λ c. search (finds, tests))
+    (λ c. search (find-at-branches, tests))
+    (λ c κs. search (find-at-branches, tests))
+    (λ c κs. search (find-at-branches, tests))
+    (λ c. search (find-at-branches, tests))
+    (λ c. search (find-at-branches, tests))
+    (λ c. search (find-at-branches, tests))
+    (λ c κs. search (find-at-branches, tests))
+    (λ c. search (find-at-branches, tests))
+    (λ c. search (find-at-branches, tests))
+    (λ c. search (find-at-branches, tests))
+    (λ c. search (find-at-branches, tests))
+    (λ c κs. search (find-at-branches, tests))
+    (λ c. search (find-at-branches, tests))
+    (λ c. search (find-at-branches, tests))

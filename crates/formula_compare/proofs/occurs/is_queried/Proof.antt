@@ -1,4 +1,4 @@
-use Rattle.formula_compare.proofs.OccursBranches.{queries}
+use Rattle.formula_compare.proofs.OccursBranches.{is-queried-branches}
 use Rattle.formula.proofs.BranchTests.{tests}
 use borrow.Author.Needs.{needs}
 use Rattle.formula_compare.proofs.occurs.is_queried.Statement.{statement}
@@ -6,5 +6,5 @@ use Rattle.formula_compare.proofs.occurs.is_queried.Tie as tie
 
 pub is-queried-spec : {M : Type 1} → statement M
 is-queried-spec =
-    tie.close (tie.spec (λ c κs. search needs) (λ c. search (queries, tests)) (λ c. search (queries, tests)) (λ c κs. search needs)
-    (λ c. search (queries, tests)) (λ c. search (queries, tests)))
+    tie.close (tie.spec (λ c κs. search needs) (λ c. search (is-queried-branches, tests)) (λ c. search (is-queried-branches, tests)) (λ c κs. search needs)
+    (λ c. search (is-queried-branches, tests)) (λ c. search (is-queried-branches, tests)))

@@ -1,4 +1,4 @@
-use Rattle.formula_compare.proofs.ByPair.{stands}
+use Rattle.formula_compare.proofs.ByPair.{stands-at-branches}
 use Rattle.formula.proofs.BranchTests.{tests}
 use borrow.Author.Needs.{needs}
 use Rattle.formula_compare.proofs.replace.stands_at.Statement.{statement}
@@ -9,8 +9,8 @@ stands-at-spec =
     tie.close
     (tie.spec
     (λ c. search needs)
-    (λ c κs. search (stands, needs))
+    (λ c κs. search (stands-at-branches, needs))
     (λ c. search needs)
-    (λ c κs. search (stands, needs))
-    (λ c. search (stands, tests))
-    (λ c. search (stands, tests)))
+    (λ c κs. search (stands-at-branches, needs))
+    (λ c. search (stands-at-branches, tests))
+    (λ c. search (stands-at-branches, tests)))

@@ -1,4 +1,4 @@
-use Rattle.formula_compare.proofs.ByPair.{pairs}
+use Rattle.formula_compare.proofs.ByPair.{pair-at-branches}
 use Rattle.formula.proofs.BranchTests.{tests}
 use borrow.Author.Needs.{needs}
 use Rattle.formula_compare.proofs.same.pair_at.Statement.{statement}
@@ -8,10 +8,10 @@ pub pair-at-spec : {M : Type 1} → statement M
 pair-at-spec =
     tie.close
     (tie.spec
-    (λ c. search (pairs, tests))
-    (λ c. search (pairs, tests))
-    (λ c. search (pairs, tests))
+    (λ c. search (pair-at-branches, tests))
+    (λ c. search (pair-at-branches, tests))
+    (λ c. search (pair-at-branches, tests))
     (λ c κs. search needs)
     (λ c κs. search needs)
     (λ c κs. search needs)
-    (λ c. search (pairs, tests)))
+    (λ c. search (pair-at-branches, tests)))

@@ -1,4 +1,4 @@
-use Rattle.formula_match.proofs.MatchBranches.{holes}
+use Rattle.formula_match.proofs.MatchBranches.{bind-branches}
 use Rattle.limits.proofs.BranchTests.{tests}
 use borrow.Author.Needs.{needs}
 use Rattle.formula_match.proofs.bind.match_hole.Statement.{statement}
@@ -12,14 +12,14 @@ match-hole-spec =
     (λ c. search needs)
     (λ c. search needs)
     (λ c. search needs)
-    (λ c. search (holes, tests))
+    (λ c. search (bind-branches, tests))
     (λ c. search needs)
     (λ c. search needs)
     (λ c κs. search needs)
-    (λ c. search (holes, tests))
+    (λ c. search (bind-branches, tests))
     (λ c. search needs)
     (λ c κs. search needs)
     (λ c. search needs)
     (λ c. search needs)
-    (λ c. search (holes, tests))
-    (λ c. search (holes, tests)))
+    (λ c. search (bind-branches, tests))
+    (λ c. search (bind-branches, tests)))

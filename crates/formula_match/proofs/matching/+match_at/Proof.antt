@@ -1,4 +1,4 @@
-use Rattle.formula_match.proofs.MatchBranches.{matches}
+use Rattle.formula_match.proofs.MatchBranches.{match-at-branches}
 use Rattle.formula.proofs.BranchTests.{tests}
 use Prim.Native.Nat.{ℕ, _<_}
 use borrow.Fn.Kinds.{In}
@@ -35,16 +35,16 @@ pub +match-at-spec : {M : Type 1} → statement M
 +match-at-spec = close μ-match-at λ t. match-at-lts.spec (match-at-calls t)
     (match-at-at t)
     match-at.Post
-    (λ c κs. search (matches, tests))
-    (λ c. search (matches, tests))
-    (λ c κs. search (matches, tests))
-    (λ c. search (matches, tests))
-    (λ c. search (matches, tests))
-    (λ c κs. search (matches, tests))
-    (λ c. search (matches, tests))
-    (λ c κs. search (matches, tests))
-    (λ c. search (matches, tests))
-    (λ c. search (matches, tests))
-    (λ c κs. search (matches, tests))
-    (λ c. search (matches, tests))
-    (λ c. search (matches, tests))
+    (λ c κs. search (match-at-branches, tests))
+    (λ c. search (match-at-branches, tests))
+    (λ c κs. search (match-at-branches, tests))
+    (λ c. search (match-at-branches, tests))
+    (λ c. search (match-at-branches, tests))
+    (λ c κs. search (match-at-branches, tests))
+    (λ c. search (match-at-branches, tests))
+    (λ c κs. search (match-at-branches, tests))
+    (λ c. search (match-at-branches, tests))
+    (λ c. search (match-at-branches, tests))
+    (λ c κs. search (match-at-branches, tests))
+    (λ c. search (match-at-branches, tests))
+    (λ c. search (match-at-branches, tests))

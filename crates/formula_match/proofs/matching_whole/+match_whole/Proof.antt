@@ -1,4 +1,4 @@
-use Rattle.formula_match.proofs.MatchWholeBranches.{wholes}
+use Rattle.formula_match.proofs.MatchWholeBranches.{match-whole-branches}
 use Rattle.formula.proofs.BranchTests.{tests}
 use Prim.Native.Nat.{ℕ, _<_}
 use borrow.Fn.Kinds.{In}
@@ -36,14 +36,14 @@ pub +match-whole-spec : {M : Type 1} → statement M
 +match-whole-spec = close μ-match-whole λ t. match-whole-lts.spec (match-whole-calls t)
     (match-whole-at t)
     match-whole.Post
-    (λ c κs. search (wholes, tests))
-    (λ c. search (wholes, tests))
-    (λ c κs. search (wholes, tests))
-    (λ c. search (wholes, tests))
-    (λ c. search (wholes, tests))
-    (λ c κs. search (wholes, tests))
-    (λ c. search (wholes, tests))
-    (λ c κs. search (wholes, tests))
-    (λ c. search (wholes, tests))
-    (λ c. search (wholes, tests))
-    (λ c. search (wholes, tests))
+    (λ c κs. search (match-whole-branches, tests))
+    (λ c. search (match-whole-branches, tests))
+    (λ c κs. search (match-whole-branches, tests))
+    (λ c. search (match-whole-branches, tests))
+    (λ c. search (match-whole-branches, tests))
+    (λ c κs. search (match-whole-branches, tests))
+    (λ c. search (match-whole-branches, tests))
+    (λ c κs. search (match-whole-branches, tests))
+    (λ c. search (match-whole-branches, tests))
+    (λ c. search (match-whole-branches, tests))
+    (λ c. search (match-whole-branches, tests))

@@ -2,7 +2,7 @@ use Rattle.handover_spec.specs.Fits.{entriesFit}
 use mathlib.Core.Bool.{true}
 use mathlib.Core.Path.{_≡_}
 use Prim.Native.Nat.{_≤_, _-_}
-use Rattle.handover_spec.proofs.TableBranches.{fits, fit-none}
+use Rattle.handover_spec.proofs.TableBranches.{entries-fit-branches, fit-none}
 use Rattle.limits.proofs.BranchTests.{tests}
 use Rattle.handover_spec.proofs.entries.entries_fit.Statement.{statement}
 use Rattle.handover_spec.proofs.entries.entries_fit.Tie as tie
@@ -24,6 +24,6 @@ entries-fit-spec =
     (λ c κs. search tests)
     (λ c. search tests)
     (λ c. search tests)
-    (λ c. (search tests, search (fits, tests)))
-    (λ c. search (fits, tests))
-    (λ c. search (fits, tests)))
+    (λ c. (search tests, search (entries-fit-branches, tests)))
+    (λ c. search (entries-fit-branches, tests))
+    (λ c. search (entries-fit-branches, tests)))

@@ -5,7 +5,7 @@ use Rattle.rules_justified.specs.Marks.{asMarks}
 use mathlib.Core.Bool.{true}
 use mathlib.Core.Path.{_≡_}
 use Prim.Native.Nat.{_≤_, _-_}
-use Rattle.handover_spec.proofs.LineBranches.{serve-ways, serve-none}
+use Rattle.handover_spec.proofs.LineBranches.{entries-serve-branches, serve-none}
 use Rattle.limits.proofs.BranchTests.{tests}
 use Rattle.handover_spec.proofs.lines.entries_serve.Statement.{statement}
 use Rattle.handover_spec.proofs.lines.entries_serve.Tie as tie
@@ -30,6 +30,6 @@ entries-serve-spec =
     ))
     (λ c. search tests)
     (λ c. search tests)
-    (λ c. (search tests, search (serve-ways, tests)))
-    (λ c. search (serve-ways, tests))
-    (λ c. search (serve-ways, tests)))
+    (λ c. (search tests, search (entries-serve-branches, tests)))
+    (λ c. search (entries-serve-branches, tests))
+    (λ c. search (entries-serve-branches, tests)))

@@ -1,4 +1,4 @@
-use Rattle.handover_spec.proofs.LineBranches.{forms}
+use Rattle.handover_spec.proofs.LineBranches.{is-implication-branches}
 use Rattle.limits.proofs.BranchTests.{tests}
 use borrow.Author.Needs.{needs}
 use Rattle.handover_spec.proofs.lines.is_implication.Statement.{statement}
@@ -14,8 +14,8 @@ is-implication-spec =
     (λ c. search needs)
     (λ c. search needs)
     (λ c. search needs)
-    (λ c. search (forms, tests))
-    (λ c. search (forms, tests))
-    (λ c. search (forms, tests))
-    (λ c. search (forms, tests))
-    (λ c. search (forms, tests)))
+    (λ c. search (is-implication-branches, tests))
+    (λ c. search (is-implication-branches, tests))
+    (λ c. search (is-implication-branches, tests))
+    (λ c. search (is-implication-branches, tests))
+    (λ c. search (is-implication-branches, tests)))

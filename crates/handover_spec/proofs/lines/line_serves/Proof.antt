@@ -1,4 +1,4 @@
-use Rattle.handover_spec.proofs.LineBranches.{line-ways}
+use Rattle.handover_spec.proofs.LineBranches.{line-serves-branches}
 use Rattle.limits.proofs.BranchTests.{tests}
 use borrow.Author.Needs.{needs}
 use Rattle.handover_spec.proofs.lines.line_serves.Statement.{statement}
@@ -17,6 +17,6 @@ line-serves-spec =
     (λ c κs. search needs)
     (λ c κs. search needs)
     (λ c κs. search needs)
-    (λ c. search (line-ways, tests))
-    (λ c. search (line-ways, tests))
-    (λ c. search (line-ways, tests)))
+    (λ c. search (line-serves-branches, tests))
+    (λ c. search (line-serves-branches, tests))
+    (λ c. search (line-serves-branches, tests)))

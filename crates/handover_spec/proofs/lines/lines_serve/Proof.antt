@@ -4,7 +4,7 @@ use Rattle.rules_justified.specs.Marks.{asMarks}
 use mathlib.Core.Bool.{true}
 use mathlib.Core.Path.{_≡_}
 use Prim.Native.Nat.{_≤_, _-_}
-use Rattle.handover_spec.proofs.LineBranches.{all-ways, all-none}
+use Rattle.handover_spec.proofs.LineBranches.{lines-serve-branches, all-none}
 use Rattle.limits.proofs.BranchTests.{tests}
 use borrow.Author.Needs.{needs}
 use Rattle.handover_spec.proofs.lines.lines_serve.Statement.{statement}
@@ -32,6 +32,6 @@ lines-serve-spec =
     ))
     (λ c. search tests)
     (λ c. search tests)
-    (λ c. (search tests, (search tests, search (all-ways, tests))))
-    (λ c. search (all-ways, tests))
-    (λ c. search (all-ways, tests)))
+    (λ c. (search tests, (search tests, search (lines-serve-branches, tests))))
+    (λ c. search (lines-serve-branches, tests))
+    (λ c. search (lines-serve-branches, tests)))

@@ -1,4 +1,4 @@
-use Rattle.handover_spec.proofs.LineBranches.{side-ways}
+use Rattle.handover_spec.proofs.LineBranches.{sides-match-branches}
 use Rattle.limits.proofs.BranchTests.{tests}
 use borrow.Author.Needs.{needs}
 use Rattle.handover_spec.proofs.lines.sides_match.Statement.{statement}
@@ -14,5 +14,5 @@ sides-match-spec =
     (λ c κs. search needs)
     (λ c κs. search needs)
     (λ c κs. search needs)
-    (λ c. search (side-ways, tests))
-    (λ c. search (side-ways, tests)))
+    (λ c. search (sides-match-branches, tests))
+    (λ c. search (sides-match-branches, tests)))

@@ -6,7 +6,7 @@ use Rattle.image_frames.specs.Records.{bodies}
 use mathlib.Core.Bool.{true}
 use mathlib.Core.Path.{_≡_}
 use Prim.Native.Nat.{_≤_, _-_}
-use Rattle.handover_spec.proofs.TableBranches.{table-ways, threads-none}
+use Rattle.handover_spec.proofs.TableBranches.{threads-fit-branches, threads-none}
 use Rattle.limits.proofs.BranchTests.{tests}
 use Rattle.handover_spec.proofs.table.threads_fit.Statement.{statement}
 use Rattle.handover_spec.proofs.table.threads_fit.Tie as tie
@@ -30,6 +30,6 @@ threads-fit-spec =
     (λ c κs. ((search needs, search needs), ((search needs, search needs), (search tests, search tests))))
     (λ c. search tests)
     (λ c. search tests)
-    (λ c. (search tests, (search tests, search (table-ways, tests))))
-    (λ c. search (table-ways, tests))
-    (λ c. search (table-ways, tests)))
+    (λ c. (search tests, (search tests, search (threads-fit-branches, tests))))
+    (λ c. search (threads-fit-branches, tests))
+    (λ c. search (threads-fit-branches, tests)))

@@ -1,4 +1,4 @@
-use Rattle.image.proofs.DecodeBranches.Whole.{walking, bodies-start, bodies-more}
+use Rattle.image.proofs.DecodeBranches.Whole.{check-bodies-branches, bodies-start, bodies-more}
 use Rattle.image_frames.specs.Records.{bodies}
 use Rattle.image.specs.Decode.{recordCount, firstFault}
 use Prim.Native.Nat.{_≤_, _<_, _-_, _+_}
@@ -26,15 +26,15 @@ check-bodies-spec =
     (tie.spec
     Inv-loop
     μ-loop
-    (λ c κs. search (walking, tests))
+    (λ c κs. search (check-bodies-branches, tests))
     (λ c. (search tests, (search tests, (search tests, (search tests, search (bodies-start, tests))))))
-    (λ c. search (walking, tests))
-    (λ c κs. search (walking, tests))
-    (λ c κs. search (walking, tests))
-    (λ c. search (walking, tests))
-    (λ c. search (walking, tests))
-    (λ c. search (walking, tests))
-    (λ c. search (walking, tests))
-    (λ c. search (walking, tests))
+    (λ c. search (check-bodies-branches, tests))
+    (λ c κs. search (check-bodies-branches, tests))
+    (λ c κs. search (check-bodies-branches, tests))
+    (λ c. search (check-bodies-branches, tests))
+    (λ c. search (check-bodies-branches, tests))
+    (λ c. search (check-bodies-branches, tests))
+    (λ c. search (check-bodies-branches, tests))
+    (λ c. search (check-bodies-branches, tests))
     (λ c. (search tests, (search tests, (search tests, (search tests, search (bodies-more, tests))))))
-    (λ c. search (walking, tests)))
+    (λ c. search (check-bodies-branches, tests)))

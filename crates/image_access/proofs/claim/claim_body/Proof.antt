@@ -1,5 +1,5 @@
 use Rattle.limits.proofs.BranchTests.{tests}
-use Rattle.image_access.proofs.AccessBranches.Places.{claiming}
+use Rattle.image_access.proofs.AccessBranches.Places.{claim-branches}
 use borrow.Author.Needs.{needs}
 use Rattle.image_access.proofs.claim.claim_body.Statement.{statement}
 use Rattle.image_access.proofs.claim.claim_body.Tie as tie
@@ -17,4 +17,4 @@ claim-body-spec =
     (λ c. search needs)
     (λ c. search needs)
     (λ c κs. search needs)
-    (λ c. search (claiming, tests)))
+    (λ c. search (claim-branches, tests)))

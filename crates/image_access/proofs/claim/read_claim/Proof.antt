@@ -1,5 +1,5 @@
 use Rattle.limits.proofs.BranchTests.{tests}
-use Rattle.image_access.proofs.AccessBranches.Places.{claiming}
+use Rattle.image_access.proofs.AccessBranches.Places.{claim-branches}
 use borrow.Author.Needs.{needs}
 use Rattle.image_access.proofs.claim.read_claim.Statement.{statement}
 use Rattle.image_access.proofs.claim.read_claim.Tie as tie
@@ -13,4 +13,4 @@ read-claim-spec =
     (λ c κs. search needs)
     (λ c κs. search needs)
     (λ c κs. search needs)
-    (λ c. search (claiming, tests)))
+    (λ c. search (claim-branches, tests)))

@@ -1,4 +1,4 @@
-use Rattle.image_access.proofs.AccessBranches.Places.{positions}
+use Rattle.image_access.proofs.AccessBranches.Places.{formula-position-branches}
 use Rattle.limits.proofs.BranchTests.{tests}
 use borrow.Author.Needs.{needs}
 use Rattle.image_access.proofs.formula_position.formula_at.Statement.{statement}
@@ -7,4 +7,4 @@ use Rattle.image_access.proofs.formula_position.formula_at.Tie as tie
 pub formula-at-spec : {M : Type 1} → statement M
 formula-at-spec =
     tie.close
-    (tie.spec (λ c. search (positions, tests)) (λ c κs. search needs) (λ c κs. search needs) (λ c. search (positions, tests)))
+    (tie.spec (λ c. search (formula-position-branches, tests)) (λ c κs. search needs) (λ c κs. search needs) (λ c. search (formula-position-branches, tests)))

@@ -1,4 +1,4 @@
-use Rattle.image_access.proofs.AccessBranches.Places.{lining}
+use Rattle.image_access.proofs.AccessBranches.Places.{line-branches}
 use Rattle.limits.proofs.BranchTests.{tests}
 use borrow.Author.Needs.{needs}
 use Rattle.image_access.proofs.line.line_body.Statement.{statement}
@@ -9,11 +9,11 @@ line-body-spec =
     tie.close
     (tie.spec
     (λ c κs. search needs)
-    (λ c. search (lining, tests))
+    (λ c. search (line-branches, tests))
     (λ c. search needs)
     (λ c. search needs)
     (λ c. search needs)
     (λ c. search needs)
     (λ c. search needs)
     (λ c κs. search needs)
-    (λ c. search (lining, tests)))
+    (λ c. search (line-branches, tests)))

@@ -1,4 +1,4 @@
-use Rattle.image_access.proofs.AccessBranches.Places.{lining}
+use Rattle.image_access.proofs.AccessBranches.Places.{line-branches}
 use Rattle.formula.proofs.BranchTests.{tests}
 use borrow.Author.Needs.{needs}
 use Rattle.image_access.proofs.line.read_line.Statement.{statement}
@@ -20,4 +20,4 @@ read-line-spec =
     (λ c. search needs)
     (λ c κs. search needs)
     (λ c. search needs)
-    (λ c. search (lining, tests)))
+    (λ c. search (line-branches, tests)))

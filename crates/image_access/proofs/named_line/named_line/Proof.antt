@@ -1,4 +1,4 @@
-use Rattle.image_access.proofs.AccessBranches.Places.{naming}
+use Rattle.image_access.proofs.AccessBranches.Places.{named-line-branches}
 use Rattle.limits.proofs.BranchTests.{tests}
 use borrow.Author.Needs.{needs}
 use Rattle.image_access.proofs.named_line.named_line.Statement.{statement}
@@ -17,4 +17,4 @@ named-line-spec =
     (λ c. search needs)
     (λ c κs. search needs)
     (λ c κs. search needs)
-    (λ c. search (naming, tests)))
+    (λ c. search (named-line-branches, tests)))

@@ -1,4 +1,4 @@
-use Rattle.image_access.proofs.AccessBranches.Places.{pointing}
+use Rattle.image_access.proofs.AccessBranches.Places.{last-point-of-branches}
 use Rattle.limits.proofs.BranchTests.{tests}
 use borrow.Author.Needs.{needs}
 use Rattle.image_access.proofs.outline_point.last_point_of.Statement.{statement}
@@ -10,9 +10,9 @@ last-point-of-spec =
     (tie.spec
     (λ c κs. search needs)
     (λ c κs. search needs)
-    (λ c. search (pointing, tests))
+    (λ c. search (last-point-of-branches, tests))
     (λ c. search needs)
     (λ c. search needs)
     (λ c κs. search needs)
     (λ c κs. search needs)
-    (λ c. search (pointing, tests)))
+    (λ c. search (last-point-of-branches, tests)))

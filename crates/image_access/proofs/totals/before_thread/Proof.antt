@@ -1,4 +1,4 @@
-use Rattle.image_access.proofs.AccessBranches.Places.{totals}
+use Rattle.image_access.proofs.AccessBranches.Places.{totals-branches}
 use Rattle.limits.proofs.BranchTests.{tests}
 use borrow.Author.Needs.{needs}
 use Rattle.image_access.proofs.totals.before_thread.Statement.{statement}
@@ -11,6 +11,6 @@ before-thread-spec =
     (λ c. search needs)
     (λ c. search needs)
     (λ c. search needs)
-    (λ c. search (totals, tests))
+    (λ c. search (totals-branches, tests))
     (λ c κs. search needs)
     (λ c. search needs))

@@ -1,4 +1,4 @@
-use Rattle.image_access.proofs.AccessBranches.Places.{filling, below-more, below-none, points-none, points-more}
+use Rattle.image_access.proofs.AccessBranches.Places.{fill-before-branches, below-more, below-none, points-none, points-more}
 use Prim.Native.Nat.{_≤_, _-_, _*_}
 use mathlib.Core.Path.{_≡_}
 use lib.ListN.{length}
@@ -24,9 +24,9 @@ fill-before-spec =
     (tie.spec
     Inv-loop
     μ-loop
-    (λ c. (search tests, (search (below-none, tests), (search (filling, tests), (search (points-none, tests), search tests)))))
+    (λ c. (search tests, (search (below-none, tests), (search (fill-before-branches, tests), (search (points-none, tests), search tests)))))
     (λ c. search tests)
-    (λ c. search (filling, tests))
+    (λ c. search (fill-before-branches, tests))
     (λ c. search tests)
     (λ c. search tests)
     (λ c. search tests)
@@ -35,6 +35,6 @@ fill-before-spec =
     (λ c. search tests)
     (λ c. search tests)
     (λ c. search tests)
-    (λ c. (search tests, (search (below-more, tests), (search (filling, tests), (search (points-more, tests), search tests)))))
-    (λ c. search (filling, tests))
-    (λ c. search (filling, tests)))
+    (λ c. (search tests, (search (below-more, tests), (search (fill-before-branches, tests), (search (points-more, tests), search tests)))))
+    (λ c. search (fill-before-branches, tests))
+    (λ c. search (fill-before-branches, tests)))

@@ -1,4 +1,4 @@
-use Rattle.image_access.proofs.AccessBranches.Places.{totals}
+use Rattle.image_access.proofs.AccessBranches.Places.{totals-branches}
 use Rattle.limits.proofs.BranchTests.{tests}
 use borrow.Author.Needs.{needs}
 use Rattle.image_access.proofs.totals.totals_of.Statement.{statement}
@@ -7,5 +7,5 @@ use Rattle.image_access.proofs.totals.totals_of.Tie as tie
 pub totals-of-spec : {M : Type 1} → statement M
 totals-of-spec =
     tie.close
-    (tie.spec (λ c κs. search needs) (λ c. search needs) (λ c κs. search needs) (λ c κs. search (totals, tests))
-    (λ c. search (totals, tests)))
+    (tie.spec (λ c κs. search needs) (λ c. search needs) (λ c κs. search needs) (λ c κs. search (totals-branches, tests))
+    (λ c. search (totals-branches, tests)))

@@ -1,5 +1,5 @@
 use Rattle.limits.proofs.BranchTests.{tests}
-use Rattle.image_bodies.proofs.RecordBranches.Claim.{claiming}
+use Rattle.image_bodies.proofs.RecordBranches.Claim.{claim-branches}
 use borrow.Author.Needs.{needs}
 use Rattle.image_bodies.proofs.claim.point_there.Statement.{statement}
 use Rattle.image_bodies.proofs.claim.point_there.Tie as tie
@@ -18,5 +18,5 @@ point-there-spec =
     (λ c κs. search needs)
     (λ c κs. search needs)
     (λ c κs. search needs)
-    (λ c. search (claiming, tests))
-    (λ c. search (claiming, tests)))
+    (λ c. search (claim-branches, tests))
+    (λ c. search (claim-branches, tests)))

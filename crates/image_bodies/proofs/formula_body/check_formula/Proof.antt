@@ -1,6 +1,6 @@
 use Rattle.image_bodies.specs.FormulaBody.{formula}
 use Rattle.image_frames.proofs.Branches.Checks.{checking}
-use Rattle.image_bodies.proofs.BodyBranches.Formula.{read-so}
+use Rattle.image_bodies.proofs.BodyBranches.Formula.{check-formula-branches}
 use Rattle.limits.proofs.BranchTests.{tests}
 use borrow.Author.Needs.{needs}
 use Rattle.image_bodies.proofs.formula_body.check_formula.Statement.{statement}
@@ -17,6 +17,6 @@ check-formula-spec =
     (λ c. search needs)
     (λ c. search needs)
     (λ c κs. search needs)
-    (λ c. search (checking, read-so, tests))
-    (λ c. search (checking, read-so, tests))
-    (λ c. search (checking, read-so, tests)))
+    (λ c. search (checking, check-formula-branches, tests))
+    (λ c. search (checking, check-formula-branches, tests))
+    (λ c. search (checking, check-formula-branches, tests)))

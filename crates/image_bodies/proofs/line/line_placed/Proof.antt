@@ -1,5 +1,5 @@
 use Rattle.limits.proofs.BranchTests.{tests}
-use Rattle.image_bodies.proofs.RecordBranches.Line.{standing}
+use Rattle.image_bodies.proofs.RecordBranches.Line.{line-placed-branches}
 use borrow.Author.Needs.{needs}
 use Rattle.image_bodies.proofs.line.line_placed.Statement.{statement}
 use Rattle.image_bodies.proofs.line.line_placed.Tie as tie
@@ -18,8 +18,8 @@ line-placed-spec =
     (λ c. search needs)
     (λ c κs. search needs)
     (λ c. search needs)
-    (λ c. search (standing, tests))
-    (λ c. search (standing, tests))
-    (λ c. search (standing, tests))
-    (λ c. search (standing, tests))
-    (λ c. search (standing, tests)))
+    (λ c. search (line-placed-branches, tests))
+    (λ c. search (line-placed-branches, tests))
+    (λ c. search (line-placed-branches, tests))
+    (λ c. search (line-placed-branches, tests))
+    (λ c. search (line-placed-branches, tests)))

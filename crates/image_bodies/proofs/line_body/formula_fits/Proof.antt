@@ -1,5 +1,5 @@
 use Rattle.limits.proofs.BranchTests.{tests}
-use Rattle.image_bodies.proofs.BodyBranches.Uses.{lined}
+use Rattle.image_bodies.proofs.BodyBranches.Uses.{line-body-branches}
 use borrow.Author.Needs.{needs}
 use Rattle.image_bodies.proofs.line_body.formula_fits.Statement.{statement}
 use Rattle.image_bodies.proofs.line_body.formula_fits.Tie as tie
@@ -17,8 +17,8 @@ formula-fits-spec =
     (λ c. search needs)
     (λ c κs. search needs)
     (λ c. search needs)
-    (λ c. search (lined, tests))
-    (λ c. search (lined, tests))
-    (λ c. search (lined, tests))
-    (λ c. search (lined, tests))
-    (λ c. search (lined, tests)))
+    (λ c. search (line-body-branches, tests))
+    (λ c. search (line-body-branches, tests))
+    (λ c. search (line-body-branches, tests))
+    (λ c. search (line-body-branches, tests))
+    (λ c. search (line-body-branches, tests)))

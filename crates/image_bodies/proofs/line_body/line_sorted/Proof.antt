@@ -1,4 +1,4 @@
-use Rattle.image_bodies.proofs.BodyBranches.Uses.{lined}
+use Rattle.image_bodies.proofs.BodyBranches.Uses.{line-body-branches}
 use Rattle.limits.proofs.BranchTests.{tests}
 use borrow.Author.Needs.{needs}
 use Rattle.image_bodies.proofs.line_body.line_sorted.Statement.{statement}
@@ -13,5 +13,5 @@ line-sorted-spec =
     (λ c κs. search needs)
     (λ c κs. search needs)
     (λ c κs. search needs)
-    (λ c. search (lined, tests))
-    (λ c. search (lined, tests)))
+    (λ c. search (line-body-branches, tests))
+    (λ c. search (line-body-branches, tests)))

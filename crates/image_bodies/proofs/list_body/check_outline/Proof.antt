@@ -1,4 +1,4 @@
-use Rattle.image_bodies.proofs.BodyBranches.Uses.{listed}
+use Rattle.image_bodies.proofs.BodyBranches.Uses.{list-body-branches}
 use Rattle.limits.proofs.BranchTests.{tests}
 use borrow.Author.Needs.{needs}
 use Rattle.image_bodies.proofs.list_body.check_outline.Statement.{statement}
@@ -14,6 +14,6 @@ check-outline-spec =
     (λ c. search needs)
     (λ c. search needs)
     (λ c κs. search needs)
-    (λ c. search (listed, tests))
-    (λ c. search (listed, tests))
-    (λ c. search (listed, tests)))
+    (λ c. search (list-body-branches, tests))
+    (λ c. search (list-body-branches, tests))
+    (λ c. search (list-body-branches, tests)))

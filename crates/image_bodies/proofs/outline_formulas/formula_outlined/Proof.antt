@@ -1,4 +1,4 @@
-use Rattle.image_bodies.proofs.BodyBranches.Outlined.{looking}
+use Rattle.image_bodies.proofs.BodyBranches.Outlined.{formula-outlined-branches}
 use Rattle.image_bodies.proofs.BodyBranches.Uses.{numbered}
 use Rattle.limits.proofs.BranchTests.{tests}
 use borrow.Author.Needs.{needs}
@@ -10,8 +10,8 @@ formula-outlined-spec =
     tie.close
     (tie.spec
     (λ c κs. search needs)
-    (λ c. search (looking, numbered, tests))
-    (λ c. search (looking, numbered, tests))
+    (λ c. search (formula-outlined-branches, numbered, tests))
+    (λ c. search (formula-outlined-branches, numbered, tests))
     (λ c κs. search needs)
     (λ c κs. search needs)
-    (λ c. search (looking, numbered, tests)))
+    (λ c. search (formula-outlined-branches, numbered, tests)))

@@ -1,4 +1,4 @@
-use Rattle.image_bodies.proofs.BodyBranches.Outlined.{filling}
+use Rattle.image_bodies.proofs.BodyBranches.Outlined.{outlined-of-branches}
 use Rattle.limits.proofs.BranchTests.{tests}
 use Prim.Native.Nat.{_≤_, _-_, _+_}
 use mathlib.Core.Path.{_≡_}
@@ -22,12 +22,12 @@ outlined-of-spec =
     (tie.spec
     Inv-loop
     μ-loop
-    (λ c κs. search (filling, tests))
-    (λ c. search (filling, tests))
-    (λ c κs. search (filling, tests))
-    (λ c κs. search (filling, tests))
-    (λ c. search (filling, tests))
-    (λ c. search (filling, tests))
-    (λ c. search (filling, tests))
-    (λ c. (search tests, (search tests, (search (filling, tests), search (filling, tests)))))
-    (λ c. search (filling, tests)))
+    (λ c κs. search (outlined-of-branches, tests))
+    (λ c. search (outlined-of-branches, tests))
+    (λ c κs. search (outlined-of-branches, tests))
+    (λ c κs. search (outlined-of-branches, tests))
+    (λ c. search (outlined-of-branches, tests))
+    (λ c. search (outlined-of-branches, tests))
+    (λ c. search (outlined-of-branches, tests))
+    (λ c. (search tests, (search tests, (search (outlined-of-branches, tests), search (outlined-of-branches, tests)))))
+    (λ c. search (outlined-of-branches, tests)))

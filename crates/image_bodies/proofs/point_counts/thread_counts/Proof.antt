@@ -1,4 +1,4 @@
-use Rattle.image_bodies.proofs.RecordBranches.Counts.{tallying}
+use Rattle.image_bodies.proofs.RecordBranches.Counts.{thread-counts-branches}
 use Rattle.limits.proofs.BranchTests.{tests}
 use borrow.Author.Needs.{needs}
 use Rattle.image_bodies.proofs.point_counts.thread_counts.Statement.{statement}
@@ -15,5 +15,5 @@ thread-counts-spec =
     (λ c. search needs)
     (λ c. search needs)
     (λ c. search needs)
-    (λ c. search (tallying, tests))
-    (λ c. search (tallying, tests)))
+    (λ c. search (thread-counts-branches, tests))
+    (λ c. search (thread-counts-branches, tests)))

@@ -1,5 +1,5 @@
 use Rattle.limits.proofs.BranchTests.{tests}
-use Rattle.image_bodies.proofs.ThreadBodyBranches.{owning}
+use Rattle.image_bodies.proofs.ThreadBodyBranches.{thread-body-owning}
 use borrow.Author.Needs.{needs}
 use Rattle.image_bodies.proofs.thread_body.instruction_owned.Statement.{statement}
 use Rattle.image_bodies.proofs.thread_body.instruction_owned.Tie as tie
@@ -13,7 +13,7 @@ instruction-owned-spec =
     (λ c κs. search needs)
     (λ c κs. search needs)
     (λ c κs. search needs)
-    (λ c. search (owning, tests))
-    (λ c. search (owning, tests))
-    (λ c. search (owning, tests))
-    (λ c. search (owning, tests)))
+    (λ c. search (thread-body-owning, tests))
+    (λ c. search (thread-body-owning, tests))
+    (λ c. search (thread-body-owning, tests))
+    (λ c. search (thread-body-owning, tests)))

@@ -1,5 +1,5 @@
 use Rattle.limits.proofs.BranchTests.{tests}
-use Rattle.image_bodies.proofs.ThreadBodyBranches.{instructed}
+use Rattle.image_bodies.proofs.ThreadBodyBranches.{thread-body-instructed}
 use borrow.Author.Needs.{needs}
 use Rattle.image_bodies.proofs.thread_body.instruction_sorted.Statement.{statement}
 use Rattle.image_bodies.proofs.thread_body.instruction_sorted.Tie as tie
@@ -11,5 +11,5 @@ instruction-sorted-spec =
     (λ c κs. search needs)
     (λ c κs. search needs)
     (λ c κs. search needs)
-    (λ c. search (instructed, tests))
-    (λ c. search (instructed, tests)))
+    (λ c. search (thread-body-instructed, tests))
+    (λ c. search (thread-body-instructed, tests)))

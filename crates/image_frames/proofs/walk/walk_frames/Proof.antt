@@ -2,7 +2,7 @@ use Prim.Native.Nat.{_≤_, _-_, _+_}
 use mathlib.Core.Path.{_≡_}
 use lib.ListN.{length, drop}
 use Rattle.image_frames.specs.Frames.{frames, walk}
-use Rattle.image_frames.proofs.Branches.Walk.{walking, kind-known, frame-fits, walk-more, long}
+use Rattle.image_frames.proofs.Branches.Walk.{walk-frames-branches, kind-known, frame-fits, walk-more, long}
 use Rattle.limits.proofs.BranchTests.{tests}
 use Rattle.image_frames.proofs.walk.walk_frames.Statement.{statement}
 use Rattle.image_frames.proofs.walk.walk_frames.Tie as tie
@@ -20,25 +20,25 @@ walk-frames-spec =
     (tie.spec
     Inv-loop
     μ-loop
-    (λ c. search (walking, tests))
-    (λ c. search (walking, tests))
-    (λ c κs. search (walking, tests))
-    (λ c. search (walking, tests))
-    (λ c. search (walking, tests))
-    (λ c. search (walking, tests))
-    (λ c. search (walking, tests))
-    (λ c κs. search (walking, tests))
-    (λ c κs. search (walking, tests))
-    (λ c. search (walking, tests))
+    (λ c. search (walk-frames-branches, tests))
+    (λ c. search (walk-frames-branches, tests))
+    (λ c κs. search (walk-frames-branches, tests))
+    (λ c. search (walk-frames-branches, tests))
+    (λ c. search (walk-frames-branches, tests))
+    (λ c. search (walk-frames-branches, tests))
+    (λ c. search (walk-frames-branches, tests))
+    (λ c κs. search (walk-frames-branches, tests))
+    (λ c κs. search (walk-frames-branches, tests))
+    (λ c. search (walk-frames-branches, tests))
     (λ c. search (kind-known, tests))
-    (λ c. search (walking, tests))
-    (λ c. search (walking, tests))
+    (λ c. search (walk-frames-branches, tests))
+    (λ c. search (walk-frames-branches, tests))
     (λ c. search (kind-known, tests))
-    (λ c. search (walking, tests))
-    (λ c κs. search (walking, tests))
-    (λ c. search (walking, tests))
-    (λ c. search (walking, tests))
-    (λ c. search (walking, tests))
+    (λ c. search (walk-frames-branches, tests))
+    (λ c κs. search (walk-frames-branches, tests))
+    (λ c. search (walk-frames-branches, tests))
+    (λ c. search (walk-frames-branches, tests))
+    (λ c. search (walk-frames-branches, tests))
     (λ c. (search tests, (search tests, (search (frame-fits, tests), (search (walk-more, tests), search (long, tests))))))
-    (λ c κs. search (walking, tests))
-    (λ c. search (walking, tests)))
+    (λ c κs. search (walk-frames-branches, tests))
+    (λ c. search (walk-frames-branches, tests)))

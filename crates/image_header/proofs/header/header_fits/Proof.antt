@@ -1,6 +1,6 @@
 use Rattle.image_frames.proofs.Branches.Checks.{joining}
 use Rattle.limits.proofs.Numbers.{given}
-use Rattle.image_header.proofs.HeaderBranches.{heading}
+use Rattle.image_header.proofs.HeaderBranches.{header-branches}
 use Rattle.image_header.specs.Header.{headed}
 use Rattle.limits.proofs.BranchTests.{tests}
 use borrow.Author.Needs.{needs}
@@ -15,14 +15,14 @@ header-fits-spec =
     (λ c κs. search needs)
     (λ c κs. search needs)
     (λ c κs. search needs)
-    (λ c. search (heading, tests))
+    (λ c. search (header-branches, tests))
     (λ c κs. search needs)
     (λ c κs. search needs)
     (λ c κs. search needs)
     (λ c κs. search needs)
     (λ c κs. search needs)
     (λ c κs. search needs)
-    (λ c. search (joining, given, heading, tests))
-    (λ c. search (joining, given, heading, tests))
-    (λ c. search (joining, given, heading, tests))
-    (λ c. search (joining, given, heading, tests)))
+    (λ c. search (joining, given, header-branches, tests))
+    (λ c. search (joining, given, header-branches, tests))
+    (λ c. search (joining, given, header-branches, tests))
+    (λ c. search (joining, given, header-branches, tests)))

@@ -1,5 +1,5 @@
 use Rattle.limits.proofs.BranchTests.{tests}
-use Rattle.image_header.proofs.InstructionBranches.{halving}
+use Rattle.image_header.proofs.InstructionBranches.{instruction-branches}
 use borrow.Author.Needs.{needs}
 use Rattle.image_header.proofs.instruction.read_instruction.Statement.{statement}
 use Rattle.image_header.proofs.instruction.read_instruction.Tie as tie
@@ -13,4 +13,4 @@ read-instruction-spec =
     (λ c κs. search needs)
     (λ c κs. search needs)
     (λ c κs. search needs)
-    (λ c. search (halving, tests)))
+    (λ c. search (instruction-branches, tests)))

@@ -1,5 +1,5 @@
 use Rattle.limits.proofs.BranchTests.{tests}
-use Rattle.image_header.proofs.ThreadBranches.{walking}
+use Rattle.image_header.proofs.ThreadBranches.{begins-at-branches}
 use Rattle.image_header.specs.Thread.{begins}
 use Prim.Native.Nat.{_≤_, _<_, _-_, _*_}
 use mathlib.Core.Path.{_≡_}
@@ -18,11 +18,11 @@ begins-at-spec =
     (tie.spec
     Inv-loop
     μ-loop
-    (λ c. search (walking, tests))
-    (λ c κs. search (walking, tests))
-    (λ c κs. search (walking, tests))
-    (λ c. search (walking, tests))
-    (λ c. search (walking, tests))
-    (λ c. search (walking, tests))
-    (λ c. (search tests, (search tests, (search (walking, tests), search tests))))
-    (λ c. search (walking, tests)))
+    (λ c. search (begins-at-branches, tests))
+    (λ c κs. search (begins-at-branches, tests))
+    (λ c κs. search (begins-at-branches, tests))
+    (λ c. search (begins-at-branches, tests))
+    (λ c. search (begins-at-branches, tests))
+    (λ c. search (begins-at-branches, tests))
+    (λ c. (search tests, (search tests, (search (begins-at-branches, tests), search tests))))
+    (λ c. search (begins-at-branches, tests)))

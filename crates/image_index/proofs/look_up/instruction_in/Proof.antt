@@ -1,5 +1,5 @@
 use Rattle.limits.proofs.BranchTests.{tests}
-use Rattle.image_index.proofs.LookUps.{instructed}
+use Rattle.image_index.proofs.LookUps.{instruction-in-branches}
 use borrow.Author.Needs.{needs}
 use Rattle.image_index.proofs.look_up.instruction_in.Statement.{statement}
 use Rattle.image_index.proofs.look_up.instruction_in.Tie as tie
@@ -10,7 +10,7 @@ instruction-in-spec =
     (tie.spec
     (λ c κs. search needs)
     (λ c κs. search needs)
-    (λ c. search (instructed, tests))
+    (λ c. search (instruction-in-branches, tests))
     (λ c κs. search needs)
     (λ c κs. search needs)
-    (λ c. search (instructed, tests)))
+    (λ c. search (instruction-in-branches, tests)))

@@ -1,5 +1,5 @@
 use Rattle.limits.proofs.BranchTests.{tests}
-use Rattle.image_index.proofs.LookUps.{looking}
+use Rattle.image_index.proofs.LookUps.{look-up-branches}
 use borrow.Author.Needs.{needs}
 use Rattle.image_index.proofs.look_up.place_of.Statement.{statement}
 use Rattle.image_index.proofs.look_up.place_of.Tie as tie
@@ -7,5 +7,5 @@ use Rattle.image_index.proofs.look_up.place_of.Tie as tie
 pub place-of-spec : {M : Type 1} → statement M
 place-of-spec =
     tie.close
-    (tie.spec (λ c. search (looking, tests)) (λ c. search needs) (λ c. search needs) (λ c. search (looking, tests))
-    (λ c. search (looking, tests)) (λ c. search (looking, tests)))
+    (tie.spec (λ c. search (look-up-branches, tests)) (λ c. search needs) (λ c. search needs) (λ c. search (look-up-branches, tests))
+    (λ c. search (look-up-branches, tests)) (λ c. search (look-up-branches, tests)))

@@ -5,7 +5,7 @@ use Rattle.limits.proofs.BranchTests.{tests}
 use Rattle.image_header.specs.Thread.{lastPoint, begins}
 use Rattle.image_header.proofs.ThreadBranches.{from-start}
 use Rattle.image_index.specs.IndexTable.{rowTo}
-use Rattle.image_index.proofs.IndexBranches.{rowing, row-none, row-more, row-all, row-same}
+use Rattle.image_index.proofs.IndexBranches.{fill-row-branches, row-none, row-more, row-all, row-same}
 use Rattle.image_index.proofs.starts.fill_row.Statement.{statement}
 use Rattle.image_index.proofs.starts.fill_row.Tie as tie
 
@@ -25,9 +25,9 @@ fill-row-spec =
     μ-loop
     (λ c κs. search tests)
     (λ c. (search tests, (search tests, (search tests, (search tests, (search (from-start, tests), search (row-none, tests)))))))
-    (λ c. search (rowing, tests))
-    (λ c. search (rowing, tests))
-    (λ c. search (rowing, tests))
+    (λ c. search (fill-row-branches, tests))
+    (λ c. search (fill-row-branches, tests))
+    (λ c. search (fill-row-branches, tests))
     (λ c κs. search tests)
     (λ c. search tests)
     (λ c. search tests)

@@ -1,5 +1,5 @@
 use Rattle.limits.proofs.BranchTests.{tests}
-use Rattle.image_index.proofs.IndexBranches.{indexing, index-long}
+use Rattle.image_index.proofs.IndexBranches.{fill-index-branches, index-long}
 use borrow.Author.Needs.{needs}
 use Rattle.image_index.proofs.table.fill_index.Statement.{statement}
 use Rattle.image_index.proofs.table.fill_index.Tie as tie
@@ -12,8 +12,8 @@ fill-index-spec =
     (λ c κs. search needs)
     (λ c κs. search needs)
     (λ c. search needs)
-    (λ c. search (indexing, tests))
+    (λ c. search (fill-index-branches, tests))
     (λ c. search needs)
-    (λ c κs. search (indexing, tests))
+    (λ c κs. search (fill-index-branches, tests))
     (λ c. search (index-long, tests))
-    (λ c. search (indexing, tests)))
+    (λ c. search (fill-index-branches, tests)))

@@ -5,7 +5,7 @@ use Rattle.limits.proofs.BranchTests.{tests}
 use Rattle.image_frames.specs.Records.{startOf}
 use Rattle.image_frames.proofs.Branches.Walk.{long}
 use Rattle.image_index.specs.IndexTable.{room, tableSize, recordsTo}
-use Rattle.image_index.proofs.IndexBranches.{filling, room-most, start-more, records-more}
+use Rattle.image_index.proofs.IndexBranches.{fill-records-branches, room-most, start-more, records-more}
 use Rattle.image_index.proofs.table.fill_records.Statement.{statement}
 use Rattle.image_index.proofs.table.fill_records.Tie as tie
 
@@ -23,12 +23,12 @@ fill-records-spec =
     (tie.spec
     Inv-loop
     μ-loop
-    (λ c. search (room-most, filling, tests))
-    (λ c. search (filling, tests))
-    (λ c. search (filling, tests))
-    (λ c. search (filling, tests))
-    (λ c. search (filling, tests))
-    (λ c. search (filling, tests))
+    (λ c. search (room-most, fill-records-branches, tests))
+    (λ c. search (fill-records-branches, tests))
+    (λ c. search (fill-records-branches, tests))
+    (λ c. search (fill-records-branches, tests))
+    (λ c. search (fill-records-branches, tests))
+    (λ c. search (fill-records-branches, tests))
     (λ c κs. search tests)
     (λ c. search tests)
     (λ c. search tests)
@@ -42,5 +42,5 @@ fill-records-spec =
         ),
       ),
     ))
-    (λ c. search (filling, tests))
-    (λ c. search (filling, tests)))
+    (λ c. search (fill-records-branches, tests))
+    (λ c. search (fill-records-branches, tests)))

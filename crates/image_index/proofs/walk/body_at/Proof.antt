@@ -1,4 +1,4 @@
-use Rattle.image_index.proofs.IndexBranches.{bodied}
+use Rattle.image_index.proofs.IndexBranches.{body-at-branches}
 use Rattle.limits.proofs.BranchTests.{tests}
 use borrow.Author.Needs.{needs}
 use Rattle.image_index.proofs.walk.body_at.Statement.{statement}
@@ -9,10 +9,10 @@ body-at-spec =
     tie.close
     (tie.spec
     (λ c κs. search needs)
-    (λ c. search (bodied, tests))
+    (λ c. search (body-at-branches, tests))
     (λ c κs. search needs)
     (λ c κs. search needs)
-    (λ c. search (bodied, tests))
+    (λ c. search (body-at-branches, tests))
     (λ c. search needs)
     (λ c κs. search needs)
-    (λ c. search (bodied, tests)))
+    (λ c. search (body-at-branches, tests)))

@@ -1,5 +1,5 @@
 use Rattle.limits.proofs.BranchTests.{tests}
-use Rattle.image_index.proofs.IndexBranches.{stepping}
+use Rattle.image_index.proofs.IndexBranches.{next-start-branches}
 use borrow.Author.Needs.{needs}
 use Rattle.image_index.proofs.walk.next_start.Statement.{statement}
 use Rattle.image_index.proofs.walk.next_start.Tie as tie
@@ -8,13 +8,13 @@ pub next-start-spec : {M : Type 1} → statement M
 next-start-spec =
     tie.close
     (tie.spec
-    (λ c. search (stepping, tests))
+    (λ c. search (next-start-branches, tests))
     (λ c κs. search needs)
     (λ c. search needs)
-    (λ c. search (stepping, tests))
+    (λ c. search (next-start-branches, tests))
     (λ c. search needs)
     (λ c. search needs)
-    (λ c. search (stepping, tests))
+    (λ c. search (next-start-branches, tests))
     (λ c. search needs)
     (λ c. search needs)
-    (λ c. search (stepping, tests)))
+    (λ c. search (next-start-branches, tests)))

@@ -1,5 +1,5 @@
 use Rattle.limits.proofs.BranchTests.{tests}
-use Rattle.obligations.proofs.ConcludesBranches.{concluding}
+use Rattle.obligations.proofs.ConcludesBranches.{concludes-branches}
 use borrow.Author.Needs.{needs}
 use Rattle.obligations.proofs.concludes.is_said.Statement.{statement}
 use Rattle.obligations.proofs.concludes.is_said.Tie as tie
@@ -11,4 +11,4 @@ is-said-spec =
     (λ c κs. search needs)
     (λ c. search needs)
     (λ c κs. search needs)
-    (λ c. search (concluding, tests)))
+    (λ c. search (concludes-branches, tests)))

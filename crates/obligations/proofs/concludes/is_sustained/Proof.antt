@@ -1,5 +1,5 @@
 use Rattle.limits.proofs.BranchTests.{tests}
-use Rattle.obligations.proofs.ConcludesBranches.{sustaining}
+use Rattle.obligations.proofs.ConcludesBranches.{is-sustained-branches}
 use borrow.Author.Needs.{needs}
 use Rattle.obligations.proofs.concludes.is_sustained.Statement.{statement}
 use Rattle.obligations.proofs.concludes.is_sustained.Tie as tie
@@ -9,9 +9,9 @@ is-sustained-spec =
     tie.close
     (tie.spec
     (λ c κs. search needs)
-    (λ c. search (sustaining, tests))
+    (λ c. search (is-sustained-branches, tests))
     (λ c κs. search needs)
     (λ c κs. search needs)
     (λ c κs. search needs)
-    (λ c. search (sustaining, tests))
-    (λ c. search (sustaining, tests)))
+    (λ c. search (is-sustained-branches, tests))
+    (λ c. search (is-sustained-branches, tests)))

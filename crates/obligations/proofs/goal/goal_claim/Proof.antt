@@ -1,5 +1,5 @@
 use Rattle.limits.proofs.BranchTests.{tests}
-use Rattle.obligations.proofs.GoalBranches.{wanting}
+use Rattle.obligations.proofs.GoalBranches.{goal-branches}
 use borrow.Author.Needs.{needs}
 use Rattle.obligations.proofs.goal.goal_claim.Statement.{statement}
 use Rattle.obligations.proofs.goal.goal_claim.Tie as tie
@@ -15,6 +15,6 @@ goal-claim-spec =
     (λ c. search needs)
     (λ c κs. search needs)
     (λ c κs. search needs)
-    (λ c. search (wanting, tests))
+    (λ c. search (goal-branches, tests))
     (λ c κs. search needs)
-    (λ c. search (wanting, tests)))
+    (λ c. search (goal-branches, tests)))

@@ -1,4 +1,4 @@
-use Rattle.obligations.proofs.GoalBranches.{choosing}
+use Rattle.obligations.proofs.GoalBranches.{goal-of-branches}
 use Rattle.limits.proofs.BranchTests.{tests}
 use borrow.Author.Needs.{needs}
 use Rattle.obligations.proofs.goal.goal_of.Statement.{statement}
@@ -16,7 +16,7 @@ goal-of-spec =
     (λ c κs. search needs)
     (λ c. search needs)
     (λ c κs. search needs)
-    (λ c. search (choosing, tests))
-    (λ c. search (choosing, tests))
-    (λ c. search (choosing, tests))
-    (λ c. search (choosing, tests)))
+    (λ c. search (goal-of-branches, tests))
+    (λ c. search (goal-of-branches, tests))
+    (λ c. search (goal-of-branches, tests))
+    (λ c. search (goal-of-branches, tests)))

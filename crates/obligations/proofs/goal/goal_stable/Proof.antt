@@ -1,5 +1,5 @@
 use Rattle.formula.proofs.BranchTests.{tests}
-use Rattle.obligations.proofs.GoalBranches.{wanting}
+use Rattle.obligations.proofs.GoalBranches.{goal-branches}
 use borrow.Author.Needs.{needs}
 use Rattle.obligations.proofs.goal.goal_stable.Statement.{statement}
 use Rattle.obligations.proofs.goal.goal_stable.Tie as tie
@@ -13,4 +13,4 @@ goal-stable-spec =
     (λ c κs. search needs)
     (λ c κs. search needs)
     (λ c κs. search needs)
-    (λ c. search (wanting, tests)))
+    (λ c. search (goal-branches, tests)))

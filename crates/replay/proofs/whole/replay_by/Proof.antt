@@ -1,4 +1,4 @@
-use Rattle.replay.proofs.WholeBranches.{wholes}
+use Rattle.replay.proofs.WholeBranches.{replay-by-branches}
 use Rattle.limits.proofs.BranchTests.{tests}
 use borrow.Author.Needs.{needs}
 use Rattle.replay.proofs.whole.replay_by.Statement.{statement}
@@ -21,6 +21,6 @@ replay-by-spec =
     (λ c κs. search needs)
     (λ c κs. search needs)
     (λ c. search needs)
-    (λ c. search (wholes, tests))
+    (λ c. search (replay-by-branches, tests))
     (λ c. search needs)
-    (λ c. search (wholes, tests)))
+    (λ c. search (replay-by-branches, tests)))

@@ -1,4 +1,4 @@
-use Rattle.replay_machine.proofs.EvaluateBranches.{works}
+use Rattle.replay_machine.proofs.EvaluateBranches.{work-at-branches}
 use Rattle.formula.proofs.BranchTests.{tests}
 use Prim.Native.Nat.{ℕ, _<_}
 use borrow.Fn.Kinds.{In}
@@ -27,15 +27,15 @@ pub +work-at-spec : {M : Type 1} → statement M
 +work-at-spec = close μ-work-at λ t. work-at-lts.spec (work-at-calls t)
     (work-at-at t)
     work-at.Post
-    (λ c. search (works, tests))
-    (λ c κs. search (works, tests))
-    (λ c κs. search (works, tests))
-    (λ c. search (works, tests))
-    (λ c. search (works, tests))
-    (λ c κs. search (works, tests))
-    (λ c κs. search (works, tests))
-    (λ c. search (works, tests))
-    (λ c. search (works, tests))
-    (λ c κs. search (works, tests))
-    (λ c κs. search (works, tests))
-    (λ c. search (works, tests))
+    (λ c. search (work-at-branches, tests))
+    (λ c κs. search (work-at-branches, tests))
+    (λ c κs. search (work-at-branches, tests))
+    (λ c. search (work-at-branches, tests))
+    (λ c. search (work-at-branches, tests))
+    (λ c κs. search (work-at-branches, tests))
+    (λ c κs. search (work-at-branches, tests))
+    (λ c. search (work-at-branches, tests))
+    (λ c. search (work-at-branches, tests))
+    (λ c κs. search (work-at-branches, tests))
+    (λ c κs. search (work-at-branches, tests))
+    (λ c. search (work-at-branches, tests))

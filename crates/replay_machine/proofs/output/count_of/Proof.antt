@@ -1,5 +1,5 @@
 use Rattle.limits.proofs.BranchTests.{tests}
-use Rattle.replay_machine.proofs.OutputBranches.{counting}
+use Rattle.replay_machine.proofs.OutputBranches.{count-of-branches}
 use borrow.Author.Needs.{needs}
 use Rattle.replay_machine.proofs.output.count_of.Statement.{statement}
 use Rattle.replay_machine.proofs.output.count_of.Tie as tie
@@ -10,5 +10,5 @@ count-of-spec =
     (tie.spec
     (λ c κs. search needs)
     (λ c κs. search needs)
-    (λ c. (search (counting, tests), search tests))
-    (λ c. (search (counting, tests), search tests)))
+    (λ c. (search (count-of-branches, tests), search tests))
+    (λ c. (search (count-of-branches, tests), search tests)))

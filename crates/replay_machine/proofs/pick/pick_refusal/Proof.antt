@@ -1,4 +1,4 @@
-use Rattle.replay_machine.proofs.StepBranches.{picks}
+use Rattle.replay_machine.proofs.StepBranches.{pick-refusal-branches}
 use Rattle.limits.proofs.BranchTests.{tests}
 use borrow.Author.Needs.{needs}
 use Rattle.replay_machine.proofs.pick.pick_refusal.Statement.{statement}
@@ -12,7 +12,7 @@ pick-refusal-spec =
     (λ c κs. search needs)
     (λ c. search needs)
     (λ c κs. search needs)
-    (λ c. search (picks, tests))
-    (λ c. search (picks, tests))
-    (λ c. search (picks, tests))
-    (λ c. search (picks, tests)))
+    (λ c. search (pick-refusal-branches, tests))
+    (λ c. search (pick-refusal-branches, tests))
+    (λ c. search (pick-refusal-branches, tests))
+    (λ c. search (pick-refusal-branches, tests)))

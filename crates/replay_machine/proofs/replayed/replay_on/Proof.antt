@@ -1,4 +1,4 @@
-use Rattle.replay_machine.proofs.ReplayedBranches.{ons}
+use Rattle.replay_machine.proofs.ReplayedBranches.{replay-on-branches}
 use Rattle.limits.proofs.BranchTests.{tests}
 use borrow.Author.Needs.{needs}
 use Rattle.replay_machine.proofs.replayed.replay_on.Statement.{statement}
@@ -11,6 +11,6 @@ replay-on-spec =
     (λ c κs. search needs)
     (λ c κs. search needs)
     (λ c. search needs)
-    (λ c. search (ons, tests))
+    (λ c. search (replay-on-branches, tests))
     (λ c κs. search needs)
-    (λ c. search (ons, tests)))
+    (λ c. search (replay-on-branches, tests)))

@@ -1,4 +1,4 @@
-use Rattle.replay_machine.proofs.RunBranches.{runs}
+use Rattle.replay_machine.proofs.RunBranches.{run-on-branches}
 use Rattle.replay_machine.specs.Run.{ran}
 use Rattle.replay_machine.specs.State.{machineOf}
 use Rattle.limits.proofs.BranchTests.{tests}
@@ -22,16 +22,16 @@ run-on-spec =
     (tie.spec
     Inv-loop
     μ-loop
-    (λ c. (search tests, (search tests, (search (runs, tests), search tests))))
-    (λ c. search (runs, tests))
-    (λ c. search (runs, tests))
-    (λ c. search (runs, tests))
-    (λ c. search (runs, tests))
-    (λ c. search (runs, tests))
-    (λ c. search (runs, tests))
-    (λ c. search (runs, tests))
-    (λ c κs. search (runs, tests))
-    (λ c. search (runs, tests))
-    (λ c. search (runs, tests))
-    (λ c. (search tests, (search tests, (search (runs, tests), search tests))))
-    (λ c. search (runs, tests)))
+    (λ c. (search tests, (search tests, (search (run-on-branches, tests), search tests))))
+    (λ c. search (run-on-branches, tests))
+    (λ c. search (run-on-branches, tests))
+    (λ c. search (run-on-branches, tests))
+    (λ c. search (run-on-branches, tests))
+    (λ c. search (run-on-branches, tests))
+    (λ c. search (run-on-branches, tests))
+    (λ c. search (run-on-branches, tests))
+    (λ c κs. search (run-on-branches, tests))
+    (λ c. search (run-on-branches, tests))
+    (λ c. search (run-on-branches, tests))
+    (λ c. (search tests, (search tests, (search (run-on-branches, tests), search tests))))
+    (λ c. search (run-on-branches, tests)))

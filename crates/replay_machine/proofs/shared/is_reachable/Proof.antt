@@ -1,4 +1,4 @@
-use Rattle.replay_machine.proofs.EffectBranches.{reaches}
+use Rattle.replay_machine.proofs.EffectBranches.{is-reachable-branches}
 use Rattle.limits.proofs.BranchTests.{tests}
 use borrow.Author.Needs.{needs}
 use Rattle.replay_machine.proofs.shared.is_reachable.Statement.{statement}
@@ -12,5 +12,5 @@ is-reachable-spec =
     (λ c κs. search needs)
     (λ c κs. search needs)
     (λ c κs. search needs)
-    (λ c. search (reaches, tests))
-    (λ c. search (reaches, tests)))
+    (λ c. search (is-reachable-branches, tests))
+    (λ c. search (is-reachable-branches, tests)))

@@ -1,4 +1,4 @@
-use Rattle.replay_machine.proofs.EffectBranches.{uncovers}
+use Rattle.replay_machine.proofs.EffectBranches.{is-uncovered-branches}
 use Rattle.limits.proofs.BranchTests.{tests}
 use borrow.Author.Needs.{needs}
 use Rattle.replay_machine.proofs.shared.is_uncovered.Statement.{statement}
@@ -10,5 +10,5 @@ is-uncovered-spec =
     (tie.spec
     (λ c κs. search needs)
     (λ c κs. search needs)
-    (λ c. search (uncovers, tests))
-    (λ c. search (uncovers, tests)))
+    (λ c. search (is-uncovered-branches, tests))
+    (λ c. search (is-uncovered-branches, tests)))

@@ -1,4 +1,4 @@
-use Rattle.replay_machine.proofs.EffectBranches.{picks}
+use Rattle.replay_machine.proofs.EffectBranches.{may-pick-branches}
 use Rattle.replay_machine.specs.Shared.{mayPick}
 use Rattle.limits.proofs.BranchTests.{tests}
 use borrow.Author.Needs.{needs}
@@ -14,8 +14,8 @@ may-pick-spec =
     (λ c. search tests)
     (λ c. search tests)
     (λ c κs. search needs)
-    (λ c. search (picks, tests))
+    (λ c. search (may-pick-branches, tests))
     (λ c κs. search needs)
-    (λ c. search (picks, tests))
+    (λ c. search (may-pick-branches, tests))
     (λ c κs. search needs)
     (λ c. search tests))

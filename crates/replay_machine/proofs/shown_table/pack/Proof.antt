@@ -1,4 +1,4 @@
-use Rattle.replay_machine.proofs.ShownTableBranches.{packs}
+use Rattle.replay_machine.proofs.ShownTableBranches.{pack-branches}
 use Rattle.replay_machine.specs.ShownTable.{packedTo}
 use Rattle.limits.proofs.BranchTests.{tests}
 use Prim.Native.Nat.{_≤_, _-_}
@@ -19,15 +19,15 @@ pack-spec =
     (tie.spec
     Inv-loop
     μ-loop
-    (λ c κs. search (packs, tests))
-    (λ c κs. search (packs, tests))
-    (λ c. (search tests, (search (packs, tests), search (packs, tests))))
-    (λ c. search (packs, tests))
-    (λ c. search (packs, tests))
-    (λ c κs. search (packs, tests))
-    (λ c. search (packs, tests))
-    (λ c. search (packs, tests))
-    (λ c. search (packs, tests))
-    (λ c. search (packs, tests))
-    (λ c. (search tests, (search (packs, tests), search (packs, tests))))
-    (λ c. search (packs, tests)))
+    (λ c κs. search (pack-branches, tests))
+    (λ c κs. search (pack-branches, tests))
+    (λ c. (search tests, (search (pack-branches, tests), search (pack-branches, tests))))
+    (λ c. search (pack-branches, tests))
+    (λ c. search (pack-branches, tests))
+    (λ c κs. search (pack-branches, tests))
+    (λ c. search (pack-branches, tests))
+    (λ c. search (pack-branches, tests))
+    (λ c. search (pack-branches, tests))
+    (λ c. search (pack-branches, tests))
+    (λ c. (search tests, (search (pack-branches, tests), search (pack-branches, tests))))
+    (λ c. search (pack-branches, tests)))

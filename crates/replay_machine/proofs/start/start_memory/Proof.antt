@@ -1,4 +1,4 @@
-use Rattle.replay_machine.proofs.StartBranches.{writings}
+use Rattle.replay_machine.proofs.StartBranches.{start-memory-branches}
 use Rattle.replay_machine.specs.Start.{startWrites}
 use Rattle.limits.proofs.BranchTests.{tests}
 use Prim.Native.Nat.{_≤_, _-_}
@@ -19,15 +19,15 @@ start-memory-spec =
     (tie.spec
     Inv-loop
     μ-loop
-    (λ c κs. search (writings, tests))
-    (λ c κs. search (writings, tests))
-    (λ c. (search tests, (search (writings, tests), search (writings, tests))))
-    (λ c. search (writings, tests))
-    (λ c κs. search (writings, tests))
-    (λ c κs. search (writings, tests))
-    (λ c. search (writings, tests))
-    (λ c. search (writings, tests))
-    (λ c. search (writings, tests))
-    (λ c. search (writings, tests))
-    (λ c. (search tests, (search (writings, tests), search (writings, tests))))
-    (λ c. search (writings, tests)))
+    (λ c κs. search (start-memory-branches, tests))
+    (λ c κs. search (start-memory-branches, tests))
+    (λ c. (search tests, (search (start-memory-branches, tests), search (start-memory-branches, tests))))
+    (λ c. search (start-memory-branches, tests))
+    (λ c κs. search (start-memory-branches, tests))
+    (λ c κs. search (start-memory-branches, tests))
+    (λ c. search (start-memory-branches, tests))
+    (λ c. search (start-memory-branches, tests))
+    (λ c. search (start-memory-branches, tests))
+    (λ c. search (start-memory-branches, tests))
+    (λ c. (search tests, (search (start-memory-branches, tests), search (start-memory-branches, tests))))
+    (λ c. search (start-memory-branches, tests)))

@@ -1,4 +1,4 @@
-use Rattle.replay_machine.proofs.StartBranches.{register-ways}
+use Rattle.replay_machine.proofs.StartBranches.{start-register-branches}
 use Rattle.replay_machine.specs.Start.{startRegister}
 use Rattle.limits.proofs.BranchTests.{tests}
 use borrow.Author.Needs.{needs}
@@ -14,7 +14,7 @@ start-register-spec =
     (λ c. search tests)
     (λ c. search needs)
     (λ c κs. search needs)
-    (λ c. search (register-ways, tests))
+    (λ c. search (start-register-branches, tests))
     (λ c κs. search needs)
     (λ c. search needs)
-    (λ c. search (register-ways, tests)))
+    (λ c. search (start-register-branches, tests)))

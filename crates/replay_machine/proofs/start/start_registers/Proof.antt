@@ -1,4 +1,4 @@
-use Rattle.replay_machine.proofs.StartBranches.{valuings}
+use Rattle.replay_machine.proofs.StartBranches.{start-registers-branches}
 use Rattle.replay_machine.specs.Start.{startValuesTo}
 use Rattle.limits.proofs.BranchTests.{tests}
 use Prim.Native.Nat.{_≤_, _-_}
@@ -19,10 +19,10 @@ start-registers-spec =
     (tie.spec
     Inv-loop
     μ-loop
-    (λ c. (search tests, (search (valuings, tests), search (valuings, tests))))
-    (λ c κs. search (valuings, tests))
-    (λ c. search (valuings, tests))
-    (λ c. search (valuings, tests))
-    (λ c. search (valuings, tests))
-    (λ c. (search tests, (search (valuings, tests), search (valuings, tests))))
-    (λ c. search (valuings, tests)))
+    (λ c. (search tests, (search (start-registers-branches, tests), search (start-registers-branches, tests))))
+    (λ c κs. search (start-registers-branches, tests))
+    (λ c. search (start-registers-branches, tests))
+    (λ c. search (start-registers-branches, tests))
+    (λ c. search (start-registers-branches, tests))
+    (λ c. (search tests, (search (start-registers-branches, tests), search (start-registers-branches, tests))))
+    (λ c. search (start-registers-branches, tests)))

@@ -1,4 +1,4 @@
-use Rattle.replay_machine.proofs.StepBranches.{attempts}
+use Rattle.replay_machine.proofs.StepBranches.{attempt-branches}
 use Rattle.limits.proofs.BranchTests.{tests}
 use borrow.Author.Needs.{needs}
 use Rattle.replay_machine.proofs.step.attempt.Statement.{statement}
@@ -10,5 +10,5 @@ attempt-spec =
     (tie.spec
     (λ c κs. search needs)
     (λ c κs. search needs)
-    (λ c. (search (attempts, tests), search tests))
-    (λ c. (search (attempts, tests), search tests)))
+    (λ c. (search (attempt-branches, tests), search tests))
+    (λ c. (search (attempt-branches, tests), search tests)))

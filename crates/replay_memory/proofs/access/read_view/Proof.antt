@@ -1,4 +1,4 @@
-use Rattle.replay_memory.proofs.AccessBranches.{reads}
+use Rattle.replay_memory.proofs.AccessBranches.{read-view-branches}
 use Rattle.limits.proofs.BranchTests.{tests}
 use borrow.Author.Needs.{needs}
 use Rattle.replay_memory.proofs.access.read_view.Statement.{statement}
@@ -9,8 +9,8 @@ read-view-spec =
     tie.close
     (tie.spec
     (λ c κs. search needs)
-    (λ c. search (reads, tests))
+    (λ c. search (read-view-branches, tests))
     (λ c κs. search needs)
-    (λ c. search (reads, tests))
+    (λ c. search (read-view-branches, tests))
     (λ c κs. search needs)
-    (λ c. search (reads, tests)))
+    (λ c. search (read-view-branches, tests)))

@@ -1,4 +1,4 @@
-use Rattle.replay_memory.proofs.InsertBranches.{view-moves}
+use Rattle.replay_memory.proofs.InsertBranches.{grow-branches}
 use Rattle.replay_memory.specs.Insert.{viewsTo}
 use Rattle.limits.proofs.BranchTests.{tests}
 use Prim.Native.Nat.{_≤_, _-_}
@@ -19,18 +19,18 @@ grow-spec =
     (tie.spec
     Inv-loop
     μ-loop
-    (λ c κs. search (view-moves, tests))
-    (λ c. (search tests, (search (view-moves, tests), search (view-moves, tests))))
-    (λ c. search (view-moves, tests))
-    (λ c. search (view-moves, tests))
-    (λ c κs. search (view-moves, tests))
-    (λ c. search (view-moves, tests))
-    (λ c. search (view-moves, tests))
-    (λ c. search (view-moves, tests))
-    (λ c. search (view-moves, tests))
-    (λ c. (search tests, (search (view-moves, tests), search (view-moves, tests))))
-    (λ c. search (view-moves, tests))
-    (λ c. search (view-moves, tests))
-    (λ c κs. search (view-moves, tests))
-    (λ c. search (view-moves, tests))
-    (λ c. search (view-moves, tests)))
+    (λ c κs. search (grow-branches, tests))
+    (λ c. (search tests, (search (grow-branches, tests), search (grow-branches, tests))))
+    (λ c. search (grow-branches, tests))
+    (λ c. search (grow-branches, tests))
+    (λ c κs. search (grow-branches, tests))
+    (λ c. search (grow-branches, tests))
+    (λ c. search (grow-branches, tests))
+    (λ c. search (grow-branches, tests))
+    (λ c. search (grow-branches, tests))
+    (λ c. (search tests, (search (grow-branches, tests), search (grow-branches, tests))))
+    (λ c. search (grow-branches, tests))
+    (λ c. search (grow-branches, tests))
+    (λ c κs. search (grow-branches, tests))
+    (λ c. search (grow-branches, tests))
+    (λ c. search (grow-branches, tests)))

@@ -1,4 +1,4 @@
-use Rattle.replay_memory.proofs.LayoutBranches.{lays, length-mapped}
+use Rattle.replay_memory.proofs.LayoutBranches.{lay-out-branches, length-mapped}
 use Rattle.replay_memory.specs.WriteTable.{writesIn}
 use Rattle.limits.proofs.BranchTests.{tests}
 use Prim.Native.Nat.{_≤_, _-_}
@@ -20,11 +20,11 @@ lay-out-spec =
     (tie.spec
     Inv-loop
     μ-loop
-    (λ c. (search tests, (search (lays, tests), (search tests, search (length-mapped, tests)))))
-    (λ c. search (lays, tests))
-    (λ c. search (lays, tests))
-    (λ c κs. search (lays, tests))
-    (λ c. search (lays, tests))
-    (λ c. search (lays, tests))
-    (λ c. (search tests, (search (lays, tests), (search tests, search tests))))
-    (λ c. (search (lays, tests), search tests)))
+    (λ c. (search tests, (search (lay-out-branches, tests), (search tests, search (length-mapped, tests)))))
+    (λ c. search (lay-out-branches, tests))
+    (λ c. search (lay-out-branches, tests))
+    (λ c κs. search (lay-out-branches, tests))
+    (λ c. search (lay-out-branches, tests))
+    (λ c. search (lay-out-branches, tests))
+    (λ c. (search tests, (search (lay-out-branches, tests), (search tests, search tests))))
+    (λ c. (search (lay-out-branches, tests), search tests)))

@@ -1,4 +1,4 @@
-use Rattle.replay_memory.proofs.LayoutBranches.{readTo, readings}
+use Rattle.replay_memory.proofs.LayoutBranches.{readTo, memory-of-branches}
 use Rattle.limits.proofs.BranchTests.{tests}
 use Prim.Native.Nat.{_≤_, _-_}
 use mathlib.Core.Path.{_≡_}
@@ -18,12 +18,12 @@ memory-of-spec =
     (tie.spec
     Inv-loop
     μ-loop
-    (λ c κs. search (readings, tests))
-    (λ c. (search tests, (search (readings, tests), search (readings, tests))))
-    (λ c κs. search (readings, tests))
-    (λ c. search (readings, tests))
-    (λ c. search (readings, tests))
-    (λ c. search (readings, tests))
-    (λ c. search (readings, tests))
-    (λ c. (search tests, (search (readings, tests), search (readings, tests))))
-    (λ c. search (readings, tests)))
+    (λ c κs. search (memory-of-branches, tests))
+    (λ c. (search tests, (search (memory-of-branches, tests), search (memory-of-branches, tests))))
+    (λ c κs. search (memory-of-branches, tests))
+    (λ c. search (memory-of-branches, tests))
+    (λ c. search (memory-of-branches, tests))
+    (λ c. search (memory-of-branches, tests))
+    (λ c. search (memory-of-branches, tests))
+    (λ c. (search tests, (search (memory-of-branches, tests), search (memory-of-branches, tests))))
+    (λ c. search (memory-of-branches, tests)))

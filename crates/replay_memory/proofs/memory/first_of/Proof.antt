@@ -1,4 +1,4 @@
-use Rattle.replay_memory.proofs.OrderPlaces.{firsts}
+use Rattle.replay_memory.proofs.OrderPlaces.{first-of-branches}
 use Rattle.replay_memory.specs.Memory.{first}
 use Rattle.limits.proofs.BranchTests.{tests}
 use Prim.Native.Nat.{_≤_, _-_, _*_}
@@ -18,11 +18,11 @@ first-of-spec =
     (tie.spec
     Inv-loop
     μ-loop
-    (λ c. (search tests, (search (firsts, tests), search tests)))
-    (λ c. search (firsts, tests))
-    (λ c κs. search (firsts, tests))
-    (λ c. search (firsts, tests))
-    (λ c. search (firsts, tests))
-    (λ c. search (firsts, tests))
-    (λ c. (search tests, (search (firsts, tests), search tests)))
-    (λ c. (search (firsts, tests), search tests)))
+    (λ c. (search tests, (search (first-of-branches, tests), search tests)))
+    (λ c. search (first-of-branches, tests))
+    (λ c κs. search (first-of-branches, tests))
+    (λ c. search (first-of-branches, tests))
+    (λ c. search (first-of-branches, tests))
+    (λ c. search (first-of-branches, tests))
+    (λ c. (search tests, (search (first-of-branches, tests), search tests)))
+    (λ c. (search (first-of-branches, tests), search tests)))

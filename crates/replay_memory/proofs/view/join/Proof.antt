@@ -1,4 +1,4 @@
-use Rattle.replay_memory.proofs.ViewBranches.{joins}
+use Rattle.replay_memory.proofs.ViewBranches.{join-branches}
 use Rattle.limits.proofs.BranchTests.{tests}
 use Prim.Native.Nat.{_≤_, _-_}
 use mathlib.Core.Path.{_≡_}
@@ -19,12 +19,12 @@ join-spec =
     (tie.spec
     Inv-loop
     μ-loop
-    (λ c. search (joins, tests))
-    (λ c. search (joins, tests))
-    (λ c. search (joins, tests))
-    (λ c κs. search (joins, tests))
-    (λ c. search (joins, tests))
-    (λ c. search (joins, tests))
-    (λ c. search (joins, tests))
-    (λ c. (search tests, (search (joins, tests), search tests)))
-    (λ c. search (joins, tests)))
+    (λ c. search (join-branches, tests))
+    (λ c. search (join-branches, tests))
+    (λ c. search (join-branches, tests))
+    (λ c κs. search (join-branches, tests))
+    (λ c. search (join-branches, tests))
+    (λ c. search (join-branches, tests))
+    (λ c. search (join-branches, tests))
+    (λ c. (search tests, (search (join-branches, tests), search tests)))
+    (λ c. search (join-branches, tests)))

@@ -1,4 +1,4 @@
-use Rattle.replay_memory.proofs.TableBytes.{slid, slides}
+use Rattle.replay_memory.proofs.TableBytes.{slid, move-up-branches}
 use Rattle.limits.proofs.BranchTests.{tests}
 use Prim.Native.Nat.{_≤_, _-_, _*_}
 use mathlib.Core.Path.{_≡_}
@@ -18,14 +18,14 @@ move-up-spec =
     (tie.spec
     Inv-loop
     μ-loop
-    (λ c. search (slides, tests))
-    (λ c. search (slides, tests))
-    (λ c. (search tests, (search tests, (search (slides, tests), search tests))))
-    (λ c. search (slides, tests))
-    (λ c. search (slides, tests))
-    (λ c. search (slides, tests))
-    (λ c. search (slides, tests))
-    (λ c. search (slides, tests))
-    (λ c. search (slides, tests))
-    (λ c. (search tests, (search tests, (search (slides, tests), search tests))))
-    (λ c. (search (slides, tests), search tests)))
+    (λ c. search (move-up-branches, tests))
+    (λ c. search (move-up-branches, tests))
+    (λ c. (search tests, (search tests, (search (move-up-branches, tests), search tests))))
+    (λ c. search (move-up-branches, tests))
+    (λ c. search (move-up-branches, tests))
+    (λ c. search (move-up-branches, tests))
+    (λ c. search (move-up-branches, tests))
+    (λ c. search (move-up-branches, tests))
+    (λ c. search (move-up-branches, tests))
+    (λ c. (search tests, (search tests, (search (move-up-branches, tests), search tests))))
+    (λ c. (search (move-up-branches, tests), search tests)))

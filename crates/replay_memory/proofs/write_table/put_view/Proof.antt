@@ -1,4 +1,4 @@
-use Rattle.replay_memory.proofs.TableBytes.{puts}
+use Rattle.replay_memory.proofs.TableBytes.{put-view-branches}
 use Rattle.replay_memory.specs.WriteTable.{putView}
 use Rattle.limits.proofs.BranchTests.{tests}
 use Prim.Native.Nat.{_≤_, _-_, _*_, _+_}
@@ -19,13 +19,13 @@ put-view-spec =
     (tie.spec
     Inv-loop
     μ-loop
-    (λ c. search (puts, tests))
-    (λ c. search (puts, tests))
-    (λ c. (search tests, (search tests, (search (puts, tests), search tests))))
-    (λ c. search (puts, tests))
-    (λ c. search (puts, tests))
-    (λ c. search (puts, tests))
-    (λ c. search (puts, tests))
-    (λ c. search (puts, tests))
-    (λ c. (search tests, (search tests, (search (puts, tests), search tests))))
-    (λ c. ((search (puts, tests), search tests), search tests)))
+    (λ c. search (put-view-branches, tests))
+    (λ c. search (put-view-branches, tests))
+    (λ c. (search tests, (search tests, (search (put-view-branches, tests), search tests))))
+    (λ c. search (put-view-branches, tests))
+    (λ c. search (put-view-branches, tests))
+    (λ c. search (put-view-branches, tests))
+    (λ c. search (put-view-branches, tests))
+    (λ c. search (put-view-branches, tests))
+    (λ c. (search tests, (search tests, (search (put-view-branches, tests), search tests))))
+    (λ c. ((search (put-view-branches, tests), search tests), search tests)))

@@ -1,4 +1,4 @@
-use Rattle.replay_memory.proofs.TableBytes.{raised, raises}
+use Rattle.replay_memory.proofs.TableBytes.{raised, raise-all-branches}
 use Rattle.limits.proofs.BranchTests.{tests}
 use Prim.Native.Nat.{_≤_, _-_}
 use mathlib.Core.Path.{_≡_}
@@ -18,15 +18,15 @@ raise-all-spec =
     (tie.spec
     Inv-loop
     μ-loop
-    (λ c. search (raises, tests))
-    (λ c. search (raises, tests))
-    (λ c. (search tests, (search (raises, tests), search tests)))
-    (λ c. search (raises, tests))
-    (λ c. search (raises, tests))
-    (λ c. search (raises, tests))
-    (λ c κs. search (raises, tests))
-    (λ c. search (raises, tests))
-    (λ c. search (raises, tests))
-    (λ c. search (raises, tests))
-    (λ c. (search tests, (search (raises, tests), search tests)))
-    (λ c. (search (raises, tests), search tests)))
+    (λ c. search (raise-all-branches, tests))
+    (λ c. search (raise-all-branches, tests))
+    (λ c. (search tests, (search (raise-all-branches, tests), search tests)))
+    (λ c. search (raise-all-branches, tests))
+    (λ c. search (raise-all-branches, tests))
+    (λ c. search (raise-all-branches, tests))
+    (λ c κs. search (raise-all-branches, tests))
+    (λ c. search (raise-all-branches, tests))
+    (λ c. search (raise-all-branches, tests))
+    (λ c. search (raise-all-branches, tests))
+    (λ c. (search tests, (search (raise-all-branches, tests), search tests)))
+    (λ c. (search (raise-all-branches, tests), search tests)))

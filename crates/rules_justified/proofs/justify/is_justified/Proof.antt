@@ -1,4 +1,4 @@
-use Rattle.rules_justified.proofs.JustifyBranches.{justifying}
+use Rattle.rules_justified.proofs.JustifyBranches.{is-justified-branches}
 use Rattle.limits.proofs.BranchTests.{tests}
 use borrow.Author.Needs.{needs}
 use Rattle.rules_justified.proofs.justify.is_justified.Statement.{statement}
@@ -12,5 +12,5 @@ is-justified-spec =
     (λ c. search needs)
     (λ c κs. search needs)
     (λ c κs. search needs)
-    (λ c. search (justifying, tests))
-    (λ c. search (justifying, tests)))
+    (λ c. search (is-justified-branches, tests))
+    (λ c. search (is-justified-branches, tests)))

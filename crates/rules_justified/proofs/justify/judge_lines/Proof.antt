@@ -1,6 +1,6 @@
 use Rattle.rules_justified.specs.Marks.{asMarks}
 use Rattle.rules_table.specs.RuleTable.{templates}
-use Rattle.rules_justified.proofs.JustifyBranches.{marks-more, passing}
+use Rattle.rules_justified.proofs.JustifyBranches.{marks-more, judge-lines-branches}
 use Rattle.limits.proofs.BranchTests.{tests}
 use Rattle.limits.specs.Limits.{lines}
 use Rattle.rules_justified.specs.Justify.{marksTo}
@@ -22,15 +22,15 @@ judge-lines-spec =
     (tie.spec
     Inv-loop
     μ-loop
-    (λ c κs. search (passing, tests))
-    (λ c. search (passing, tests))
-    (λ c. search (passing, tests))
-    (λ c. search (passing, tests))
-    (λ c. search (passing, tests))
-    (λ c. search (passing, tests))
-    (λ c κs. search (passing, tests))
-    (λ c. search (passing, tests))
-    (λ c κs. search (passing, tests))
-    (λ c. search (passing, tests))
+    (λ c κs. search (judge-lines-branches, tests))
+    (λ c. search (judge-lines-branches, tests))
+    (λ c. search (judge-lines-branches, tests))
+    (λ c. search (judge-lines-branches, tests))
+    (λ c. search (judge-lines-branches, tests))
+    (λ c. search (judge-lines-branches, tests))
+    (λ c κs. search (judge-lines-branches, tests))
+    (λ c. search (judge-lines-branches, tests))
+    (λ c κs. search (judge-lines-branches, tests))
+    (λ c. search (judge-lines-branches, tests))
     (λ c. (search tests, (search tests, (search tests, search (marks-more, tests)))))
-    (λ c. search (passing, tests)))
+    (λ c. search (judge-lines-branches, tests)))

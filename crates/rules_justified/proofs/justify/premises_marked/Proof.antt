@@ -1,5 +1,5 @@
 use Rattle.rules_justified.specs.Marks.{asMarks}
-use Rattle.rules_justified.proofs.JustifyBranches.{premises-more, premising}
+use Rattle.rules_justified.proofs.JustifyBranches.{premises-more, premises-marked-branches}
 use Rattle.limits.proofs.BranchTests.{tests}
 use Rattle.rules_justified.specs.Justify.{premisesMarked}
 use mathlib.Core.Path.{_≡_}
@@ -20,11 +20,11 @@ premises-marked-spec =
     (tie.spec
     Inv-loop
     μ-loop
-    (λ c. (search (premising, tests), search tests))
-    (λ c κs. search (premising, tests))
-    (λ c κs. search (premising, tests))
-    (λ c. search (premising, tests))
-    (λ c. search (premising, tests))
+    (λ c. (search (premises-marked-branches, tests), search tests))
+    (λ c κs. search (premises-marked-branches, tests))
+    (λ c κs. search (premises-marked-branches, tests))
+    (λ c. search (premises-marked-branches, tests))
+    (λ c. search (premises-marked-branches, tests))
     (λ c. (search (premises-more, tests), search tests))
-    (λ c. search (premising, tests))
-    (λ c. search (premising, tests)))
+    (λ c. search (premises-marked-branches, tests))
+    (λ c. search (premises-marked-branches, tests)))

@@ -1,4 +1,4 @@
-use Rattle.rules_line.proofs.ConclusionBranches.{following}
+use Rattle.rules_line.proofs.ConclusionBranches.{match-from-branches}
 use Rattle.formula.proofs.BranchTests.{tests}
 use Prim.Native.Nat.{ℕ, _<_}
 use borrow.Fn.Kinds.{In}
@@ -35,11 +35,11 @@ pub +match-from-spec : {M : Type 1} → statement M
 +match-from-spec = close μ-match-from λ t. match-from-lts.spec (match-from-calls t)
     (match-from-at t)
     match-from.Post
-    (λ c. search (following, tests))
-    (λ c κs. search (following, tests))
-    (λ c κs. search (following, tests))
-    (λ c. search (following, tests))
-    (λ c. search (following, tests))
-    (λ c κs. search (following, tests))
-    (λ c. search (following, tests))
-    (λ c. search (following, tests))
+    (λ c. search (match-from-branches, tests))
+    (λ c κs. search (match-from-branches, tests))
+    (λ c κs. search (match-from-branches, tests))
+    (λ c. search (match-from-branches, tests))
+    (λ c. search (match-from-branches, tests))
+    (λ c κs. search (match-from-branches, tests))
+    (λ c. search (match-from-branches, tests))
+    (λ c. search (match-from-branches, tests))

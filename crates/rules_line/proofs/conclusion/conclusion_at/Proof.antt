@@ -1,4 +1,4 @@
-use Rattle.rules_line.proofs.ConclusionBranches.{conclusions}
+use Rattle.rules_line.proofs.ConclusionBranches.{conclusion-at-branches}
 use Rattle.formula.proofs.BranchTests.{tests}
 use borrow.Author.Needs.{needs}
 use Rattle.rules_line.proofs.conclusion.conclusion_at.Statement.{statement}
@@ -10,5 +10,5 @@ conclusion-at-spec =
     (tie.spec
     (λ c. search needs)
     (λ c. search needs)
-    (λ c. search (conclusions, tests))
-    (λ c. search (conclusions, tests)))
+    (λ c. search (conclusion-at-branches, tests))
+    (λ c. search (conclusion-at-branches, tests)))

@@ -1,4 +1,4 @@
-use Rattle.rules_line.proofs.ConclusionBranches.{placing-sides}
+use Rattle.rules_line.proofs.ConclusionBranches.{match-conclusion-branches}
 use Rattle.formula.proofs.BranchTests.{tests}
 use borrow.Author.Needs.{needs}
 use Rattle.rules_line.proofs.conclusion.match_conclusion.Statement.{statement}
@@ -11,6 +11,6 @@ match-conclusion-spec =
     (λ c κs. search needs)
     (λ c κs. search needs)
     (λ c κs. search needs)
-    (λ c. search (placing-sides, tests))
-    (λ c. search (placing-sides, tests))
-    (λ c. search (placing-sides, tests)))
+    (λ c. search (match-conclusion-branches, tests))
+    (λ c. search (match-conclusion-branches, tests))
+    (λ c. search (match-conclusion-branches, tests)))

@@ -1,5 +1,5 @@
 use Rattle.formula.proofs.BranchTests.{tests}
-use Rattle.rules_line.proofs.LineConclusionBranches.{lining}
+use Rattle.rules_line.proofs.LineConclusionBranches.{line-conclusion-branches}
 use borrow.Author.Needs.{needs}
 use Rattle.rules_line.proofs.line_conclusion.conclusion_of.Statement.{statement}
 use Rattle.rules_line.proofs.line_conclusion.conclusion_of.Tie as tie
@@ -14,6 +14,6 @@ conclusion-of-spec =
     (λ c. search needs)
     (λ c κs. search needs)
     (λ c κs. search needs)
-    (λ c. search (lining, tests))
+    (λ c. search (line-conclusion-branches, tests))
     (λ c κs. search needs)
-    (λ c. search (lining, tests)))
+    (λ c. search (line-conclusion-branches, tests)))

@@ -1,4 +1,4 @@
-use Rattle.rules_line.proofs.NewValueBranches.{comparing}
+use Rattle.rules_line.proofs.NewValueBranches.{new-value-branches}
 use Rattle.formula.proofs.BranchTests.{tests}
 use borrow.Author.Needs.{needs}
 use Rattle.rules_line.proofs.new_value.is_sum.Statement.{statement}
@@ -8,15 +8,15 @@ pub is-sum-spec : {M : Type 1} → statement M
 is-sum-spec =
     tie.close
     (tie.spec
-    (λ c. search (comparing, tests))
+    (λ c. search (new-value-branches, tests))
     (λ c κs. search needs)
-    (λ c. search (comparing, tests))
-    (λ c. search (comparing, tests))
+    (λ c. search (new-value-branches, tests))
+    (λ c. search (new-value-branches, tests))
     (λ c. search needs)
-    (λ c κs. search (comparing, tests))
+    (λ c κs. search (new-value-branches, tests))
     (λ c. search needs)
     (λ c. search needs)
     (λ c. search needs)
     (λ c κs. search needs)
-    (λ c. search (comparing, tests))
-    (λ c. search (comparing, tests)))
+    (λ c. search (new-value-branches, tests))
+    (λ c. search (new-value-branches, tests)))

@@ -1,4 +1,4 @@
-use Rattle.rules_line.proofs.PremiseBranches.{premising}
+use Rattle.rules_line.proofs.PremiseBranches.{premises-branches}
 use Rattle.limits.proofs.BranchTests.{tests}
 use borrow.Author.Needs.{needs}
 use Rattle.rules_line.proofs.premises.all_implications.Statement.{statement}
@@ -9,12 +9,12 @@ all-implications-spec =
     tie.close
     (tie.spec
     (λ c. search needs)
-    (λ c. search (premising, tests))
+    (λ c. search (premises-branches, tests))
     (λ c κs. search needs)
     (λ c κs. search needs)
     (λ c κs. search needs)
     (λ c κs. search needs)
-    (λ c. search (premising, tests))
-    (λ c. search (premising, tests))
-    (λ c. search (premising, tests))
-    (λ c. search (premising, tests)))
+    (λ c. search (premises-branches, tests))
+    (λ c. search (premises-branches, tests))
+    (λ c. search (premises-branches, tests))
+    (λ c. search (premises-branches, tests)))

@@ -1,4 +1,4 @@
-use Rattle.rules_line.proofs.PremiseBranches.{matching}
+use Rattle.rules_line.proofs.PremiseBranches.{match-premises-branches}
 use Rattle.limits.proofs.BranchTests.{tests}
 use borrow.Author.Needs.{needs}
 use Rattle.rules_line.proofs.premises.match_premises.Statement.{statement}
@@ -9,8 +9,8 @@ match-premises-spec =
     tie.close
     (tie.spec
     (λ c κs. search needs)
-    (λ c. search (matching, tests))
+    (λ c. search (match-premises-branches, tests))
     (λ c. search needs)
     (λ c κs. search needs)
-    (λ c. search (matching, tests))
-    (λ c. search (matching, tests)))
+    (λ c. search (match-premises-branches, tests))
+    (λ c. search (match-premises-branches, tests)))

@@ -1,4 +1,4 @@
-use Rattle.rules_line.proofs.PremiseBranches.{premising}
+use Rattle.rules_line.proofs.PremiseBranches.{premises-branches}
 use Rattle.limits.proofs.BranchTests.{tests}
 use borrow.Author.Needs.{needs}
 use Rattle.rules_line.proofs.premises.premises_of.Statement.{statement}
@@ -12,4 +12,4 @@ premises-of-spec =
     (λ c κs. search needs)
     (λ c κs. search needs)
     (λ c κs. search needs)
-    (λ c. search (premising, tests)))
+    (λ c. search (premises-branches, tests)))

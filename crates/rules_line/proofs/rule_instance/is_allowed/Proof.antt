@@ -1,5 +1,5 @@
 use Rattle.formula.proofs.BranchTests.{tests}
-use Rattle.rules_line.proofs.InstanceBranches.{allowing}
+use Rattle.rules_line.proofs.InstanceBranches.{rule-instance-allowing}
 use borrow.Author.Needs.{needs}
 use Rattle.rules_line.proofs.rule_instance.is_allowed.Statement.{statement}
 use Rattle.rules_line.proofs.rule_instance.is_allowed.Tie as tie
@@ -10,8 +10,8 @@ is-allowed-spec =
     (tie.spec
     (λ c. search needs)
     (λ c κs. search needs)
-    (λ c. search (allowing, tests))
+    (λ c. search (rule-instance-allowing, tests))
     (λ c. search needs)
     (λ c κs. search needs)
-    (λ c. search (allowing, tests))
-    (λ c. search (allowing, tests)))
+    (λ c. search (rule-instance-allowing, tests))
+    (λ c. search (rule-instance-allowing, tests)))

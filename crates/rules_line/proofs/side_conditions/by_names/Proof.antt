@@ -1,4 +1,4 @@
-use Rattle.rules_line.proofs.SideConditionBranches.{implying}
+use Rattle.rules_line.proofs.SideConditionBranches.{side-conditions-implying}
 use Rattle.limits.proofs.BranchTests.{tests}
 use borrow.Author.Needs.{needs}
 use Rattle.rules_line.proofs.side_conditions.by_names.Statement.{statement}
@@ -13,4 +13,4 @@ by-names-spec =
     (λ c κs. search needs)
     (λ c κs. search needs)
     (λ c κs. search needs)
-    (λ c. search (implying, tests)))
+    (λ c. search (side-conditions-implying, tests)))

@@ -1,5 +1,5 @@
 use Rattle.formula.proofs.BranchTests.{tests}
-use Rattle.rules_line.proofs.SideConditionBranches.{replacing}
+use Rattle.rules_line.proofs.SideConditionBranches.{side-conditions-replacing}
 use borrow.Author.Needs.{needs}
 use Rattle.rules_line.proofs.side_conditions.is_assigned.Statement.{statement}
 use Rattle.rules_line.proofs.side_conditions.is_assigned.Tie as tie
@@ -12,4 +12,4 @@ is-assigned-spec =
     (λ c κs. search needs)
     (λ c κs. search needs)
     (λ c κs. search needs)
-    (λ c. search (replacing, tests)))
+    (λ c. search (side-conditions-replacing, tests)))

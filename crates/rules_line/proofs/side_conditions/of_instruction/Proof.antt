@@ -1,4 +1,4 @@
-use Rattle.rules_line.proofs.SideConditionBranches.{instructing}
+use Rattle.rules_line.proofs.SideConditionBranches.{of-instruction-branches}
 use Rattle.limits.proofs.BranchTests.{tests}
 use borrow.Author.Needs.{needs}
 use Rattle.rules_line.proofs.side_conditions.of_instruction.Statement.{statement}
@@ -10,18 +10,18 @@ of-instruction-spec =
     (tie.spec
     (λ c κs. search needs)
     (λ c κs. search needs)
-    (λ c. search (instructing, tests))
+    (λ c. search (of-instruction-branches, tests))
     (λ c κs. search needs)
-    (λ c. search (instructing, tests))
+    (λ c. search (of-instruction-branches, tests))
     (λ c κs. search needs)
-    (λ c. search (instructing, tests))
-    (λ c κs. search needs)
-    (λ c κs. search needs)
-    (λ c κs. search needs)
-    (λ c. search (instructing, tests))
+    (λ c. search (of-instruction-branches, tests))
     (λ c κs. search needs)
     (λ c κs. search needs)
-    (λ c. search (instructing, tests))
+    (λ c κs. search needs)
+    (λ c. search (of-instruction-branches, tests))
     (λ c κs. search needs)
     (λ c κs. search needs)
-    (λ c. search (instructing, tests)))
+    (λ c. search (of-instruction-branches, tests))
+    (λ c κs. search needs)
+    (λ c κs. search needs)
+    (λ c. search (of-instruction-branches, tests)))

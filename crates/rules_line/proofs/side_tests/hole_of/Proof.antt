@@ -1,4 +1,4 @@
-use Rattle.rules_line.proofs.SideTestBranches.{keeping}
+use Rattle.rules_line.proofs.SideTestBranches.{side-tests-keeping}
 use Rattle.formula.proofs.BranchTests.{tests}
 use borrow.Author.Needs.{needs}
 use Rattle.rules_line.proofs.side_tests.hole_of.Statement.{statement}
@@ -12,4 +12,4 @@ hole-of-spec =
     (λ c. search needs)
     (λ c. search needs)
     (λ c. search needs)
-    (λ c. search (keeping, tests)))
+    (λ c. search (side-tests-keeping, tests)))

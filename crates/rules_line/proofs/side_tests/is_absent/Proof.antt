@@ -1,4 +1,4 @@
-use Rattle.rules_line.proofs.SideTestBranches.{parting}
+use Rattle.rules_line.proofs.SideTestBranches.{is-absent-branches}
 use Rattle.formula.proofs.BranchTests.{tests}
 use borrow.Author.Needs.{needs}
 use Rattle.rules_line.proofs.side_tests.is_absent.Statement.{statement}
@@ -7,5 +7,5 @@ use Rattle.rules_line.proofs.side_tests.is_absent.Tie as tie
 pub is-absent-spec : {M : Type 1} → statement M
 is-absent-spec =
     tie.close
-    (tie.spec (λ c κs. search needs) (λ c. search (parting, tests)) (λ c. search (parting, tests)) (λ c κs. search needs)
-    (λ c. search (parting, tests)) (λ c. search (parting, tests)))
+    (tie.spec (λ c κs. search needs) (λ c. search (is-absent-branches, tests)) (λ c. search (is-absent-branches, tests)) (λ c κs. search needs)
+    (λ c. search (is-absent-branches, tests)) (λ c. search (is-absent-branches, tests)))

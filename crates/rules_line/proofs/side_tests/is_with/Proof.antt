@@ -1,4 +1,4 @@
-use Rattle.rules_line.proofs.SideTestBranches.{withs}
+use Rattle.rules_line.proofs.SideTestBranches.{is-with-branches}
 use Rattle.formula.proofs.BranchTests.{tests}
 use borrow.Author.Needs.{needs}
 use Rattle.rules_line.proofs.side_tests.is_with.Statement.{statement}
@@ -11,5 +11,5 @@ is-with-spec =
     (λ c κs. search needs)
     (λ c. search needs)
     (λ c. search needs)
-    (λ c. search (withs, tests))
-    (λ c. search (withs, tests)))
+    (λ c. search (is-with-branches, tests))
+    (λ c. search (is-with-branches, tests)))

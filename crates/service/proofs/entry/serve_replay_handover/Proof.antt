@@ -1,5 +1,5 @@
 use Rattle.limits.proofs.BranchTests.{tests}
-use Rattle.service_spec.proofs.ReplyBranches.{replaying-ways}
+use Rattle.service_spec.proofs.ReplyBranches.{entry-replaying}
 use borrow.Author.Needs.{needs}
 use Rattle.service.proofs.entry.serve_replay_handover.Statement.{statement}
 use Rattle.service.proofs.entry.serve_replay_handover.Tie as tie
@@ -11,8 +11,8 @@ serve-replay-handover-spec =
     (λ c κs. search needs)
     (λ c κs. search needs)
     (λ c. search needs)
-    (λ c. search (replaying-ways, tests))
+    (λ c. search (entry-replaying, tests))
     (λ c κs. search needs)
     (λ c. search needs)
     (λ c. search needs)
-    (λ c. search (replaying-ways, tests)))
+    (λ c. search (entry-replaying, tests)))

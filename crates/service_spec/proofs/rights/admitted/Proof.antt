@@ -1,4 +1,4 @@
-use Rattle.service_spec.proofs.AdmissionBranches.{admitting}
+use Rattle.service_spec.proofs.AdmissionBranches.{admitted-branches}
 use borrow.Author.Needs.{needs}
 use Rattle.service_spec.proofs.rights.admitted.Statement.{statement}
 use Rattle.service_spec.proofs.rights.admitted.Tie as tie
@@ -7,12 +7,12 @@ pub admitted-spec : {M : Type 1} → statement M
 admitted-spec =
     tie.close
     (tie.spec
-    (λ c. search (admitting, needs))
-    (λ c. search (admitting, needs))
-    (λ c. search (admitting, needs))
+    (λ c. search (admitted-branches, needs))
+    (λ c. search (admitted-branches, needs))
+    (λ c. search (admitted-branches, needs))
     (λ c. search needs)
     (λ c. search needs)
     (λ c. search needs)
     (λ c κs. search needs)
-    (λ c. search (admitting, needs))
-    (λ c. search (admitting, needs)))
+    (λ c. search (admitted-branches, needs))
+    (λ c. search (admitted-branches, needs)))

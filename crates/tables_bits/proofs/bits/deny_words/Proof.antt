@@ -1,4 +1,4 @@
-use Rattle.tables_bits.proofs.BitBranches.{denies}
+use Rattle.tables_bits.proofs.BitBranches.{deny-words-branches}
 use Rattle.limits.proofs.BranchTests.{tests}
 use Prim.Native.Nat.{_≤_, _-_}
 use mathlib.Core.Path.{_≡_}
@@ -19,15 +19,15 @@ deny-words-spec =
     (tie.spec
     Inv-loop
     μ-loop
-    (λ c. search (denies, tests))
-    (λ c. search (denies, tests))
-    (λ c. search (denies, tests))
-    (λ c. search (denies, tests))
-    (λ c. search (denies, tests))
-    (λ c κs. search (denies, tests))
-    (λ c. search (denies, tests))
-    (λ c. search (denies, tests))
-    (λ c. search (denies, tests))
-    (λ c. search (denies, tests))
-    (λ c. (search tests, (search (denies, tests), (search (denies, tests), search tests))))
-    (λ c. search (denies, tests)))
+    (λ c. search (deny-words-branches, tests))
+    (λ c. search (deny-words-branches, tests))
+    (λ c. search (deny-words-branches, tests))
+    (λ c. search (deny-words-branches, tests))
+    (λ c. search (deny-words-branches, tests))
+    (λ c κs. search (deny-words-branches, tests))
+    (λ c. search (deny-words-branches, tests))
+    (λ c. search (deny-words-branches, tests))
+    (λ c. search (deny-words-branches, tests))
+    (λ c. search (deny-words-branches, tests))
+    (λ c. (search tests, (search (deny-words-branches, tests), (search (deny-words-branches, tests), search tests))))
+    (λ c. search (deny-words-branches, tests)))

@@ -1,4 +1,4 @@
-use Rattle.tables_bits.proofs.BitBranches.{fills}
+use Rattle.tables_bits.proofs.BitBranches.{fill-words-branches}
 use Rattle.limits.proofs.BranchTests.{tests}
 use Prim.Native.Nat.{_≤_, _-_}
 use mathlib.Core.Path.{_≡_}
@@ -19,10 +19,10 @@ fill-words-spec =
     (tie.spec
     Inv-loop
     μ-loop
-    (λ c. search (fills, tests))
-    (λ c. search (fills, tests))
-    (λ c. search (fills, tests))
-    (λ c. search (fills, tests))
-    (λ c. search (fills, tests))
-    (λ c. (search tests, (search (fills, tests), search tests)))
-    (λ c. search (fills, tests)))
+    (λ c. search (fill-words-branches, tests))
+    (λ c. search (fill-words-branches, tests))
+    (λ c. search (fill-words-branches, tests))
+    (λ c. search (fill-words-branches, tests))
+    (λ c. search (fill-words-branches, tests))
+    (λ c. (search tests, (search (fill-words-branches, tests), search tests)))
+    (λ c. search (fill-words-branches, tests)))

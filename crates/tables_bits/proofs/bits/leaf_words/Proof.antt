@@ -1,4 +1,4 @@
-use Rattle.tables_bits.proofs.BitBranches.{leafs}
+use Rattle.tables_bits.proofs.BitBranches.{leaf-words-branches}
 use Rattle.limits.proofs.BranchTests.{tests}
 use Prim.Native.Nat.{_≤_, _-_}
 use mathlib.Core.Path.{_≡_}
@@ -19,11 +19,11 @@ leaf-words-spec =
     (tie.spec
     Inv-loop
     μ-loop
-    (λ c. search (leafs, tests))
-    (λ c κs. search (leafs, tests))
-    (λ c. search (leafs, tests))
-    (λ c. search (leafs, tests))
-    (λ c. search (leafs, tests))
-    (λ c. search (leafs, tests))
-    (λ c. (search tests, (search (leafs, tests), search tests)))
-    (λ c. search (leafs, tests)))
+    (λ c. search (leaf-words-branches, tests))
+    (λ c κs. search (leaf-words-branches, tests))
+    (λ c. search (leaf-words-branches, tests))
+    (λ c. search (leaf-words-branches, tests))
+    (λ c. search (leaf-words-branches, tests))
+    (λ c. search (leaf-words-branches, tests))
+    (λ c. (search tests, (search (leaf-words-branches, tests), search tests)))
+    (λ c. search (leaf-words-branches, tests)))

@@ -1,4 +1,4 @@
-use Rattle.tables_bits.proofs.BitBranches.{masks}
+use Rattle.tables_bits.proofs.BitBranches.{mask-of-branches}
 use Rattle.limits.proofs.BranchTests.{tests}
 use borrow.Author.Needs.{needs}
 use Rattle.tables_bits.proofs.bits.mask_of.Statement.{statement}
@@ -7,5 +7,5 @@ use Rattle.tables_bits.proofs.bits.mask_of.Tie as tie
 pub mask-of-spec : {M : Type 1} → statement M
 mask-of-spec =
     tie.close
-    (tie.spec (λ c. search needs) (λ c. search needs) (λ c. search (masks, tests)) (λ c. search (masks, tests)) (λ c. search needs)
-    (λ c. search needs) (λ c. search (masks, tests)) (λ c. search (masks, tests)))
+    (tie.spec (λ c. search needs) (λ c. search needs) (λ c. search (mask-of-branches, tests)) (λ c. search (mask-of-branches, tests)) (λ c. search needs)
+    (λ c. search needs) (λ c. search (mask-of-branches, tests)) (λ c. search (mask-of-branches, tests)))

@@ -1,4 +1,4 @@
-use Rattle.tables_bits.proofs.BitBranches.{nones}
+use Rattle.tables_bits.proofs.BitBranches.{none-set-branches}
 use Rattle.limits.proofs.BranchTests.{tests}
 use Prim.Native.Nat.{_≤_, _-_}
 use mathlib.Core.Path.{_≡_}
@@ -19,12 +19,12 @@ none-set-spec =
     (tie.spec
     Inv-loop
     μ-loop
-    (λ c. search (nones, tests))
-    (λ c. search (nones, tests))
-    (λ c. search (nones, tests))
-    (λ c κs. search (nones, tests))
-    (λ c. search (nones, tests))
-    (λ c. search (nones, tests))
-    (λ c. search (nones, tests))
-    (λ c. search (nones, tests))
-    (λ c. search (nones, tests)))
+    (λ c. search (none-set-branches, tests))
+    (λ c. search (none-set-branches, tests))
+    (λ c. search (none-set-branches, tests))
+    (λ c κs. search (none-set-branches, tests))
+    (λ c. search (none-set-branches, tests))
+    (λ c. search (none-set-branches, tests))
+    (λ c. search (none-set-branches, tests))
+    (λ c. search (none-set-branches, tests))
+    (λ c. search (none-set-branches, tests)))

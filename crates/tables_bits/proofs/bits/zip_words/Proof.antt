@@ -1,4 +1,4 @@
-use Rattle.tables_bits.proofs.BitBranches.{zips}
+use Rattle.tables_bits.proofs.BitBranches.{zip-words-branches}
 use Rattle.limits.proofs.BranchTests.{tests}
 use Prim.Native.Nat.{_≤_, _-_}
 use mathlib.Core.Path.{_≡_}
@@ -19,15 +19,15 @@ zip-words-spec =
     (tie.spec
     Inv-loop
     μ-loop
-    (λ c. search (zips, tests))
-    (λ c. search (zips, tests))
-    (λ c. search (zips, tests))
-    (λ c. search (zips, tests))
-    (λ c. search (zips, tests))
-    (λ c κs. search (zips, tests))
-    (λ c. search (zips, tests))
-    (λ c. search (zips, tests))
-    (λ c. search (zips, tests))
-    (λ c. search (zips, tests))
-    (λ c. (search tests, (search (zips, tests), (search (zips, tests), search tests))))
-    (λ c. search (zips, tests)))
+    (λ c. search (zip-words-branches, tests))
+    (λ c. search (zip-words-branches, tests))
+    (λ c. search (zip-words-branches, tests))
+    (λ c. search (zip-words-branches, tests))
+    (λ c. search (zip-words-branches, tests))
+    (λ c κs. search (zip-words-branches, tests))
+    (λ c. search (zip-words-branches, tests))
+    (λ c. search (zip-words-branches, tests))
+    (λ c. search (zip-words-branches, tests))
+    (λ c. search (zip-words-branches, tests))
+    (λ c. (search tests, (search (zip-words-branches, tests), (search (zip-words-branches, tests), search tests))))
+    (λ c. search (zip-words-branches, tests)))

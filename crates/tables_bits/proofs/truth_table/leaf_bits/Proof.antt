@@ -1,4 +1,4 @@
-use Rattle.tables_bits.proofs.TruthTableBranches.{viewing, growing, showing, within-slots}
+use Rattle.tables_bits.proofs.TruthTableBranches.{leaf-bits-viewing, leaf-bits-growing, leaf-bits-showing, within-slots}
 use Rattle.limits.proofs.BranchTests.{tests}
 use borrow.Author.Needs.{needs}
 use Rattle.tables_bits.proofs.truth_table.leaf_bits.Statement.{statement}
@@ -8,10 +8,10 @@ pub leaf-bits-spec : {M : Type 1} → statement M
 leaf-bits-spec =
     tie.close
     (tie.spec
-    (λ c. (search (viewing, tests), (search (growing, tests), search (showing, tests))))
+    (λ c. (search (leaf-bits-viewing, tests), (search (leaf-bits-growing, tests), search (leaf-bits-showing, tests))))
     (λ c κs. search needs)
     (λ c κs. search (within-slots, tests))
-    (λ c. (search (viewing, tests), (search (growing, tests), search (showing, tests))))
+    (λ c. (search (leaf-bits-viewing, tests), (search (leaf-bits-growing, tests), search (leaf-bits-showing, tests))))
     (λ c κs. search needs)
     (λ c κs. search needs)
-    (λ c. (search (viewing, tests), (search (growing, tests), search (showing, tests)))))
+    (λ c. (search (leaf-bits-viewing, tests), (search (leaf-bits-growing, tests), search (leaf-bits-showing, tests)))))

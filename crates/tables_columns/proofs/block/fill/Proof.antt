@@ -1,4 +1,4 @@
-use Rattle.tables_columns.proofs.ColumnBranches.{fills}
+use Rattle.tables_columns.proofs.ColumnBranches.{fill-branches}
 use Prim.Native.Nat.{_≤_, _-_}
 use mathlib.Core.Path.{_≡_}
 use lib.ListN.{take, length}
@@ -19,10 +19,10 @@ fill-spec =
     (tie.spec
     Inv-loop
     μ-loop
-    (λ c. search (fills, tests))
-    (λ c. search (fills, tests))
-    (λ c. search (fills, tests))
-    (λ c. search (fills, tests))
-    (λ c. (search tests, (search (fills, tests), search tests)))
-    (λ c. search (fills, tests))
-    (λ c. search (fills, tests)))
+    (λ c. search (fill-branches, tests))
+    (λ c. search (fill-branches, tests))
+    (λ c. search (fill-branches, tests))
+    (λ c. search (fill-branches, tests))
+    (λ c. (search tests, (search (fill-branches, tests), search tests)))
+    (λ c. search (fill-branches, tests))
+    (λ c. search (fill-branches, tests)))

@@ -1,4 +1,4 @@
-use Rattle.tables_columns.proofs.ColumnBranches.{denies}
+use Rattle.tables_columns.proofs.ColumnBranches.{and-not-branches}
 use Prim.Native.Nat.{_≤_, _-_}
 use mathlib.Core.Path.{_≡_}
 use lib.ListN.{take, drop, length}
@@ -19,13 +19,13 @@ and-not-spec =
     (tie.spec
     Inv-loop
     μ-loop
-    (λ c. search (denies, tests))
-    (λ c. search (denies, tests))
-    (λ c. search (denies, tests))
-    (λ c κs. search (denies, tests))
-    (λ c. search (denies, tests))
-    (λ c. search (denies, tests))
-    (λ c. search (denies, tests))
-    (λ c. (search tests, (search (denies, tests), (search (denies, tests), search tests))))
-    (λ c. search (denies, tests))
-    (λ c. search (denies, tests)))
+    (λ c. search (and-not-branches, tests))
+    (λ c. search (and-not-branches, tests))
+    (λ c. search (and-not-branches, tests))
+    (λ c κs. search (and-not-branches, tests))
+    (λ c. search (and-not-branches, tests))
+    (λ c. search (and-not-branches, tests))
+    (λ c. search (and-not-branches, tests))
+    (λ c. (search tests, (search (and-not-branches, tests), (search (and-not-branches, tests), search tests))))
+    (λ c. search (and-not-branches, tests))
+    (λ c. search (and-not-branches, tests)))

@@ -1,4 +1,4 @@
-use Rattle.tables_columns.proofs.ColumnBranches.{nones}
+use Rattle.tables_columns.proofs.ColumnBranches.{none-below-branches}
 use Prim.Native.Nat.{_≤_, _-_}
 use mathlib.Core.Path.{_≡_}
 use mathlib.Core.Bool.{cond}
@@ -19,10 +19,10 @@ none-below-spec =
     (tie.spec
     Inv-loop
     μ-loop
-    (λ c. search (nones, tests))
-    (λ c. search (nones, tests))
-    (λ c κs. search (nones, tests))
-    (λ c. search (nones, tests))
-    (λ c. search (nones, tests))
-    (λ c. (search tests, search (nones, tests)))
-    (λ c. search (nones, tests)))
+    (λ c. search (none-below-branches, tests))
+    (λ c. search (none-below-branches, tests))
+    (λ c κs. search (none-below-branches, tests))
+    (λ c. search (none-below-branches, tests))
+    (λ c. search (none-below-branches, tests))
+    (λ c. (search tests, search (none-below-branches, tests)))
+    (λ c. search (none-below-branches, tests)))

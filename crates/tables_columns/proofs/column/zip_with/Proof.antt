@@ -1,4 +1,4 @@
-use Rattle.tables_columns.proofs.ColumnBranches.{zips}
+use Rattle.tables_columns.proofs.ColumnBranches.{zip-with-branches}
 use Prim.Native.Nat.{_≤_, _-_}
 use mathlib.Core.Path.{_≡_}
 use lib.ListN.{take, drop, length}
@@ -20,13 +20,13 @@ zip-with-spec =
     (tie.spec
     Inv-loop
     μ-loop
-    (λ c. search (zips, tests))
-    (λ c. search (zips, tests))
-    (λ c. search (zips, tests))
-    (λ c κs. search (zips, tests))
-    (λ c. search (zips, tests))
-    (λ c. search (zips, tests))
-    (λ c. search (zips, tests))
-    (λ c. (search tests, (search (zips, tests), (search (zips, tests), search tests))))
-    (λ c. search (zips, tests))
-    (λ c. search (zips, tests)))
+    (λ c. search (zip-with-branches, tests))
+    (λ c. search (zip-with-branches, tests))
+    (λ c. search (zip-with-branches, tests))
+    (λ c κs. search (zip-with-branches, tests))
+    (λ c. search (zip-with-branches, tests))
+    (λ c. search (zip-with-branches, tests))
+    (λ c. search (zip-with-branches, tests))
+    (λ c. (search tests, (search (zip-with-branches, tests), (search (zip-with-branches, tests), search tests))))
+    (λ c. search (zip-with-branches, tests))
+    (λ c. search (zip-with-branches, tests)))

@@ -1,4 +1,4 @@
-use Rattle.tables_columns.proofs.CountBranches.{choice}
+use Rattle.tables_columns.proofs.CountBranches.{choices-branches}
 use Rattle.formula.proofs.BranchTests.{tests}
 use Rattle.tables_columns.proofs.count.choices.Statement.{statement}
 use Rattle.tables_columns.proofs.count.choices.Tie as tie
@@ -7,9 +7,9 @@ pub choices-spec : {M : Type 1} → statement M
 choices-spec =
     tie.close
     (tie.spec
-    (λ c κs. search (choice, tests))
-    (λ c. search (choice, tests))
-    (λ c κs. search (choice, tests))
-    (λ c. search (choice, tests))
-    (λ c κs. search (choice, tests))
-    (λ c. search (choice, tests)))
+    (λ c κs. search (choices-branches, tests))
+    (λ c. search (choices-branches, tests))
+    (λ c κs. search (choices-branches, tests))
+    (λ c. search (choices-branches, tests))
+    (λ c κs. search (choices-branches, tests))
+    (λ c. search (choices-branches, tests)))

@@ -1,7 +1,7 @@
 use Rattle.tables_columns.specs.Count.{rowsUpTo}
 use mathlib.Core.Path.{_≡_}
 use Prim.Native.Nat.{_≤_, _-_}
-use Rattle.tables_columns.proofs.CountBranches.{counts}
+use Rattle.tables_columns.proofs.CountBranches.{count-rows-branches}
 use Rattle.formula.proofs.BranchTests.{tests}
 use Rattle.tables_columns.proofs.count.count_rows.Statement.{statement}
 use Rattle.tables_columns.proofs.count.count_rows.Tie as tie
@@ -18,11 +18,11 @@ count-rows-spec =
     (tie.spec
     Inv-loop
     μ-loop
-    (λ c. search (counts, tests))
-    (λ c κs. search (counts, tests))
-    (λ c κs. search (counts, tests))
-    (λ c κs. search (counts, tests))
-    (λ c. search (counts, tests))
-    (λ c. search (counts, tests))
-    (λ c. search (counts, tests))
-    (λ c. search (counts, tests)))
+    (λ c. search (count-rows-branches, tests))
+    (λ c κs. search (count-rows-branches, tests))
+    (λ c κs. search (count-rows-branches, tests))
+    (λ c κs. search (count-rows-branches, tests))
+    (λ c. search (count-rows-branches, tests))
+    (λ c. search (count-rows-branches, tests))
+    (λ c. search (count-rows-branches, tests))
+    (λ c. search (count-rows-branches, tests)))

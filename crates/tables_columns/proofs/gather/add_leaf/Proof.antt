@@ -1,4 +1,4 @@
-use Rattle.tables_columns.proofs.GatherBranches.{puts, put-there}
+use Rattle.tables_columns.proofs.GatherBranches.{add-leaf-branches, put-there}
 use Rattle.limits.proofs.BranchTests.{tests}
 use borrow.Author.Needs.{needs}
 use Rattle.tables_columns.proofs.gather.add_leaf.Statement.{statement}
@@ -8,8 +8,8 @@ pub add-leaf-spec : {M : Type 1} → statement M
 add-leaf-spec =
     tie.close
     (tie.spec
-    (λ c. search (puts, tests))
-    (λ c. search (puts, tests))
+    (λ c. search (add-leaf-branches, tests))
+    (λ c. search (add-leaf-branches, tests))
     (λ c κs. search needs)
     (λ c. (
       put-there _ _ _ _ _ (c .before .slot-within .result) (c .before .before .before .before .if1 .left)
@@ -18,4 +18,4 @@ add-leaf-spec =
     ))
     (λ c κs. search needs)
     (λ c κs. search needs)
-    (λ c. search (puts, tests)))
+    (λ c. search (add-leaf-branches, tests)))

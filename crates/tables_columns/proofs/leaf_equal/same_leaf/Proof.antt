@@ -1,4 +1,4 @@
-use Rattle.tables_columns.proofs.LeafEqualBranches.{Open, opening}
+use Rattle.tables_columns.proofs.LeafEqualBranches.{Open, same-leaf-branches}
 use Prim.Native.Nat.{_+_, _≤_}
 use Rattle.formula.proofs.BranchTests.{tests}
 use Rattle.tables_columns.proofs.leaf_equal.same_leaf.Statement.{statement}
@@ -16,13 +16,13 @@ same-leaf-spec =
     (tie.spec
     Inv-loop
     μ-loop
-    (λ c κs. search (opening, tests))
-    (λ c. (search (opening, tests), search (opening, tests)))
-    (λ c κs. search (opening, tests))
-    (λ c. search (opening, tests))
-    (λ c κs. search (opening, tests))
-    (λ c. search (opening, tests))
-    (λ c. search (opening, tests))
-    (λ c. search (opening, tests))
-    (λ c. (search (opening, tests), search (opening, tests)))
-    (λ c. search (opening, tests)))
+    (λ c κs. search (same-leaf-branches, tests))
+    (λ c. (search (same-leaf-branches, tests), search (same-leaf-branches, tests)))
+    (λ c κs. search (same-leaf-branches, tests))
+    (λ c. search (same-leaf-branches, tests))
+    (λ c κs. search (same-leaf-branches, tests))
+    (λ c. search (same-leaf-branches, tests))
+    (λ c. search (same-leaf-branches, tests))
+    (λ c. search (same-leaf-branches, tests))
+    (λ c. (search (same-leaf-branches, tests), search (same-leaf-branches, tests)))
+    (λ c. search (same-leaf-branches, tests)))

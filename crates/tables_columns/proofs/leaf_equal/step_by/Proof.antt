@@ -1,4 +1,4 @@
-use Rattle.tables_columns.proofs.LeafEqualBranches.{stepping}
+use Rattle.tables_columns.proofs.LeafEqualBranches.{step-by-branches}
 use Rattle.formula.proofs.BranchTests.{tests}
 use borrow.Author.Needs.{needs}
 use Rattle.tables_columns.proofs.leaf_equal.step_by.Statement.{statement}
@@ -14,7 +14,7 @@ step-by-spec =
     (λ c. search needs)
     (λ c. search needs)
     (λ c. search needs)
-    (λ c. search (stepping, tests))
-    (λ c. search (stepping, tests))
-    (λ c. search (stepping, tests))
-    (λ c. search (stepping, tests)))
+    (λ c. search (step-by-branches, tests))
+    (λ c. search (step-by-branches, tests))
+    (λ c. search (step-by-branches, tests))
+    (λ c. search (step-by-branches, tests)))

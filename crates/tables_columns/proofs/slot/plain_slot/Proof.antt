@@ -2,7 +2,7 @@ use Rattle.tables_columns.specs.Slots.{slotOf, slotFrom}
 use Rattle.formula.specs.Tree.{none, node}
 use mathlib.Core.Path.{_≡_}
 use Prim.Native.Nat.{_≤_, _-_}
-use Rattle.tables_columns.proofs.SlotBranches.{plainly}
+use Rattle.tables_columns.proofs.SlotBranches.{plain-slot-branches}
 use Rattle.formula.proofs.BranchTests.{tests}
 use Rattle.tables_columns.proofs.slot.plain_slot.Statement.{statement}
 use Rattle.tables_columns.proofs.slot.plain_slot.Tie as tie
@@ -20,11 +20,11 @@ plain-slot-spec =
     (tie.spec
     Inv-loop
     μ-loop
-    (λ c. search (plainly, tests))
-    (λ c κs. search (plainly, tests))
-    (λ c κs. search (plainly, tests))
-    (λ c. search (plainly, tests))
-    (λ c. search (plainly, tests))
-    (λ c. search (plainly, tests))
-    (λ c. search (plainly, tests))
-    (λ c. search (plainly, tests)))
+    (λ c. search (plain-slot-branches, tests))
+    (λ c κs. search (plain-slot-branches, tests))
+    (λ c κs. search (plain-slot-branches, tests))
+    (λ c. search (plain-slot-branches, tests))
+    (λ c. search (plain-slot-branches, tests))
+    (λ c. search (plain-slot-branches, tests))
+    (λ c. search (plain-slot-branches, tests))
+    (λ c. search (plain-slot-branches, tests)))

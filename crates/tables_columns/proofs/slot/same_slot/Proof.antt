@@ -1,4 +1,4 @@
-use Rattle.tables_columns.proofs.SlotBranches.{sames}
+use Rattle.tables_columns.proofs.SlotBranches.{same-slot-branches}
 use Rattle.formula.proofs.BranchTests.{tests}
 use borrow.Author.Needs.{needs}
 use Rattle.tables_columns.proofs.slot.same_slot.Statement.{statement}
@@ -10,10 +10,10 @@ same-slot-spec =
     (tie.spec
     (λ c κs. search needs)
     (λ c κs. search needs)
-    (λ c. search (sames, tests))
-    (λ c. search (sames, tests))
-    (λ c. search (sames, tests))
-    (λ c. search (sames, tests))
-    (λ c. search (sames, tests))
+    (λ c. search (same-slot-branches, tests))
+    (λ c. search (same-slot-branches, tests))
+    (λ c. search (same-slot-branches, tests))
+    (λ c. search (same-slot-branches, tests))
+    (λ c. search (same-slot-branches, tests))
     (λ c κs. search needs)
-    (λ c. search (sames, tests)))
+    (λ c. search (same-slot-branches, tests)))

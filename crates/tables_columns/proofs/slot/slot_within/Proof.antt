@@ -2,7 +2,7 @@ use Rattle.tables_columns.specs.Slots.{slotOf, slotFrom}
 use Rattle.formula.specs.Tree.{parseTree}
 use mathlib.Core.Path.{_≡_}
 use Prim.Native.Nat.{_≤_, _-_}
-use Rattle.tables_columns.proofs.SlotBranches.{finds}
+use Rattle.tables_columns.proofs.SlotBranches.{slot-within-branches}
 use Rattle.formula.proofs.BranchTests.{tests}
 use Rattle.tables_columns.proofs.slot.slot_within.Statement.{statement}
 use Rattle.tables_columns.proofs.slot.slot_within.Tie as tie
@@ -20,12 +20,12 @@ slot-within-spec =
     (tie.spec
     Inv-loop
     μ-loop
-    (λ c κs. search (finds, tests))
-    (λ c. search (finds, tests))
-    (λ c κs. search (finds, tests))
-    (λ c κs. search (finds, tests))
-    (λ c. search (finds, tests))
-    (λ c. search (finds, tests))
-    (λ c. search (finds, tests))
-    (λ c. (search tests, search (finds, tests)))
-    (λ c. search (finds, tests)))
+    (λ c κs. search (slot-within-branches, tests))
+    (λ c. search (slot-within-branches, tests))
+    (λ c κs. search (slot-within-branches, tests))
+    (λ c κs. search (slot-within-branches, tests))
+    (λ c. search (slot-within-branches, tests))
+    (λ c. search (slot-within-branches, tests))
+    (λ c. search (slot-within-branches, tests))
+    (λ c. (search tests, search (slot-within-branches, tests)))
+    (λ c. search (slot-within-branches, tests)))

@@ -1,4 +1,4 @@
-use Rattle.tables_digits.proofs.RunBranches.{fronts}
+use Rattle.tables_digits.proofs.RunBranches.{repeat-front-branches}
 use Prim.Native.Nat.{_+_, _≤_, _-_}
 use mathlib.Core.Path.{_≡_}
 use mathlib.Core.List.{_++_}
@@ -19,12 +19,12 @@ repeat-front-spec =
     (tie.spec
     Inv-loop
     μ-loop
-    (λ c. search (fronts, tests))
-    (λ c. search (fronts, tests))
-    (λ c. search (fronts, tests))
-    (λ c. search (fronts, tests))
-    (λ c. search (fronts, tests))
-    (λ c. search (fronts, tests))
-    (λ c. (search tests, (search (fronts, tests), search tests)))
-    (λ c. search (fronts, tests))
-    (λ c. search (fronts, tests)))
+    (λ c. search (repeat-front-branches, tests))
+    (λ c. search (repeat-front-branches, tests))
+    (λ c. search (repeat-front-branches, tests))
+    (λ c. search (repeat-front-branches, tests))
+    (λ c. search (repeat-front-branches, tests))
+    (λ c. search (repeat-front-branches, tests))
+    (λ c. (search tests, (search (repeat-front-branches, tests), search tests)))
+    (λ c. search (repeat-front-branches, tests))
+    (λ c. search (repeat-front-branches, tests)))

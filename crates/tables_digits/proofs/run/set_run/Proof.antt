@@ -1,4 +1,4 @@
-use Rattle.tables_digits.proofs.RunBranches.{settings}
+use Rattle.tables_digits.proofs.RunBranches.{set-run-branches}
 use Prim.Native.Nat.{_+_, _≤_, _-_}
 use mathlib.Core.Path.{_≡_}
 use mathlib.Core.List.{_++_}
@@ -21,11 +21,11 @@ set-run-spec =
     (tie.spec
     Inv-loop
     μ-loop
-    (λ c. search (settings, tests))
-    (λ c. search (settings, tests))
-    (λ c. search (settings, tests))
-    (λ c. search (settings, tests))
-    (λ c. search (settings, tests))
-    (λ c. (search tests, (search (settings, tests), search tests)))
-    (λ c. search (settings, tests))
-    (λ c. search (settings, tests)))
+    (λ c. search (set-run-branches, tests))
+    (λ c. search (set-run-branches, tests))
+    (λ c. search (set-run-branches, tests))
+    (λ c. search (set-run-branches, tests))
+    (λ c. search (set-run-branches, tests))
+    (λ c. (search tests, (search (set-run-branches, tests), search tests)))
+    (λ c. search (set-run-branches, tests))
+    (λ c. search (set-run-branches, tests)))

@@ -1,4 +1,4 @@
-use Rattle.tables_digits.proofs.RunBranches.{widening}
+use Rattle.tables_digits.proofs.RunBranches.{widen-branches}
 use Prim.Native.Nat.{_-_, _≤_}
 use mathlib.Core.Path.{_≡_}
 use lib.ListN.{length}
@@ -19,12 +19,12 @@ widen-spec =
     (tie.spec
     Inv-loop
     μ-loop
-    (λ c. search (widening, tests))
-    (λ c. search (widening, tests))
-    (λ c κs. search (widening, tests))
-    (λ c κs. search (widening, tests))
-    (λ c. search (widening, tests))
-    (λ c. search (widening, tests))
-    (λ c. (search tests, (search (widening, tests), (search (widening, tests), search tests))))
-    (λ c. search (widening, tests))
-    (λ c. search (widening, tests)))
+    (λ c. search (widen-branches, tests))
+    (λ c. search (widen-branches, tests))
+    (λ c κs. search (widen-branches, tests))
+    (λ c κs. search (widen-branches, tests))
+    (λ c. search (widen-branches, tests))
+    (λ c. search (widen-branches, tests))
+    (λ c. (search tests, (search (widen-branches, tests), (search (widen-branches, tests), search tests))))
+    (λ c. search (widen-branches, tests))
+    (λ c. search (widen-branches, tests)))

@@ -1,4 +1,4 @@
-use Rattle.tables_digits.proofs.RunBranches.{lengthening}
+use Rattle.tables_digits.proofs.RunBranches.{longer-branches}
 use borrow.Author.Needs.{needs}
 use Rattle.limits.proofs.BranchTests.{tests}
 use Rattle.tables_digits.proofs.slot_column.longer.Statement.{statement}
@@ -7,5 +7,5 @@ use Rattle.tables_digits.proofs.slot_column.longer.Tie as tie
 pub longer-spec : {M : Type 1} → statement M
 longer-spec =
     tie.close
-    (tie.spec (λ c κs. search needs) (λ c. search needs) (λ c. search (lengthening, tests)) (λ c. search (lengthening, tests))
-    (λ c. search (lengthening, tests)))
+    (tie.spec (λ c κs. search needs) (λ c. search needs) (λ c. search (longer-branches, tests)) (λ c. search (longer-branches, tests))
+    (λ c. search (longer-branches, tests)))

@@ -1,4 +1,4 @@
-use Rattle.tables_digits.proofs.RunBranches.{lengths}
+use Rattle.tables_digits.proofs.RunBranches.{run-of-branches}
 use Prim.Native.Nat.{_≤_, _-_}
 use mathlib.Core.Path.{_≡_}
 use Rattle.tables_digits.specs.SlotColumn.{runOf}
@@ -18,10 +18,10 @@ run-of-spec =
     (tie.spec
     Inv-loop
     μ-loop
-    (λ c. search (lengths, tests))
-    (λ c. search (lengths, tests))
-    (λ c κs. search (lengths, tests))
-    (λ c. search (lengths, tests))
-    (λ c. search (lengths, tests))
-    (λ c. (search tests, search (lengths, tests)))
-    (λ c. search (lengths, tests)))
+    (λ c. search (run-of-branches, tests))
+    (λ c. search (run-of-branches, tests))
+    (λ c κs. search (run-of-branches, tests))
+    (λ c. search (run-of-branches, tests))
+    (λ c. search (run-of-branches, tests))
+    (λ c. (search tests, search (run-of-branches, tests)))
+    (λ c. search (run-of-branches, tests)))

@@ -1,4 +1,4 @@
-use Rattle.tables_digits.proofs.RunBranches.{running}
+use Rattle.tables_digits.proofs.RunBranches.{set-runs-branches}
 use Prim.Native.Nat.{_+_, _-_, _*_, _≤_, _<_, min}
 use mathlib.Core.Path.{_≡_}
 use lib.ListN.{take, length, getD}
@@ -21,16 +21,16 @@ set-runs-spec =
     (tie.spec
     Inv-loop
     μ-loop
-    (λ c. search (running, tests))
-    (λ c κs. search (running, tests))
-    (λ c. (search tests, (search (running, tests), (search (running, tests), (search tests, (search tests, search tests))))))
-    (λ c. search (running, tests))
-    (λ c κs. search (running, tests))
-    (λ c. search (running, tests))
-    (λ c κs. search (running, tests))
-    (λ c. search (running, tests))
-    (λ c. search (running, tests))
-    (λ c. search (running, tests))
-    (λ c. (search tests, (search (running, tests), (search (running, tests), (search tests, (search tests, search tests))))))
-    (λ c. search (running, tests))
-    (λ c. search (running, tests)))
+    (λ c. search (set-runs-branches, tests))
+    (λ c κs. search (set-runs-branches, tests))
+    (λ c. (search tests, (search (set-runs-branches, tests), (search (set-runs-branches, tests), (search tests, (search tests, search tests))))))
+    (λ c. search (set-runs-branches, tests))
+    (λ c κs. search (set-runs-branches, tests))
+    (λ c. search (set-runs-branches, tests))
+    (λ c κs. search (set-runs-branches, tests))
+    (λ c. search (set-runs-branches, tests))
+    (λ c. search (set-runs-branches, tests))
+    (λ c. search (set-runs-branches, tests))
+    (λ c. (search tests, (search (set-runs-branches, tests), (search (set-runs-branches, tests), (search tests, (search tests, search tests))))))
+    (λ c. search (set-runs-branches, tests))
+    (λ c. search (set-runs-branches, tests)))

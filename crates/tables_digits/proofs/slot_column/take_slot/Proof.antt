@@ -1,4 +1,4 @@
-use Rattle.tables_digits.proofs.RunBranches.{taking}
+use Rattle.tables_digits.proofs.RunBranches.{take-slot-branches}
 use Rattle.limits.proofs.BranchTests.{tests}
 use borrow.Author.Needs.{needs}
 use Rattle.tables_digits.proofs.slot_column.take_slot.Statement.{statement}
@@ -12,8 +12,8 @@ take-slot-spec =
     (λ c κs. search needs)
     (λ c. search needs)
     (λ c. search needs)
-    (λ c. (search (taking, tests), search (taking, tests)))
+    (λ c. (search (take-slot-branches, tests), search (take-slot-branches, tests)))
     (λ c κs. search needs)
-    (λ c κs. search (taking, tests))
+    (λ c κs. search (take-slot-branches, tests))
     (λ c. search needs)
-    (λ c. (search (taking, tests), search (taking, tests))))
+    (λ c. (search (take-slot-branches, tests), search (take-slot-branches, tests))))

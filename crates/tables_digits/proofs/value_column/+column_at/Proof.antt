@@ -1,4 +1,4 @@
-use Rattle.tables_digits.proofs.ValueBranches.{values, reaches, reached-two, value-two, level-within}
+use Rattle.tables_digits.proofs.ValueBranches.{column-at-values, column-at-reaches, reached-two, value-two, level-within}
 use mathlib.Core.List.{[]}
 use native.Mathlib.Omega.{arith}
 use Rattle.limits.proofs.BranchTests.{tests}
@@ -44,49 +44,49 @@ column-at-calls t = (
 
 -- src/value.rt:185:9
 column-at-leaf-column-requires : (t : ℕ) → column-at-lts.Need-leaf-column-requires (column-at-calls t) (column-at-at t) column-at.Post
-column-at-leaf-column-requires t c κs = search (values, tests)
+column-at-leaf-column-requires t c κs = search (column-at-values, tests)
 
 -- src/value.rt:188:18
 column-at-end-at-requires : (t : ℕ) → column-at-lts.Need-end-at-requires (column-at-calls t) (column-at-at t) column-at.Post
-column-at-end-at-requires t c κs = search (values, tests)
+column-at-end-at-requires t c κs = search (column-at-values, tests)
 
 -- src/value.rt:187:9
 column-at-same-length : (t : ℕ) → column-at-lts.Need-same-length (column-at-calls t) (column-at-at t) column-at.Post
-column-at-same-length t c = search (values, tests)
+column-at-same-length t c = search (column-at-values, tests)
 
 -- src/value.rt:187:9
 column-at-returns : (t : ℕ) → column-at-lts.Need-returns (column-at-calls t) (column-at-at t) column-at.Post
-column-at-returns t c = (search (reaches, tests), search (values, tests))
+column-at-returns t c = (search (column-at-reaches, tests), search (column-at-values, tests))
 
 -- src/value.rt:192:9
 column-at-node-at-requires : (t : ℕ) → column-at-lts.Need-node-at-requires (column-at-calls t) (column-at-at t) column-at.Post
-column-at-node-at-requires t c κs = search (values, tests)
+column-at-node-at-requires t c κs = search (column-at-values, tests)
 
 -- src/value.rt:193:34
 column-at-sub-column-at : (t : ℕ) → column-at-lts.Need-sub-column-at (column-at-calls t) (column-at-at t) column-at.Post
-column-at-sub-column-at t c = search (values, tests)
+column-at-sub-column-at t c = search (column-at-values, tests)
 
 -- src/value.rt:193:9
 column-at-column-at-requires : (t : ℕ) → column-at-lts.Need-column-at-requires (column-at-calls t) (column-at-at t) column-at.Post
-column-at-column-at-requires t c κs = (search (values, tests), (search tests, search tests))
+column-at-column-at-requires t c κs = (search (column-at-values, tests), (search tests, search tests))
 
 -- src/value.rt:194:9
 column-at-second-left-requires : (t : ℕ) → column-at-lts.Need-second-left-requires (column-at-calls t) (column-at-at t) column-at.Post
-column-at-second-left-requires t c κs = search (values, tests)
+column-at-second-left-requires t c κs = search (column-at-values, tests)
 
 -- src/value.rt:197:63
 column-at-slice-aggregate-column-at : (t : ℕ) → column-at-lts.Need-slice-aggregate-column-at (column-at-calls t) (column-at-at t)
     column-at.Post
-column-at-slice-aggregate-column-at t c = search (values, tests)
+column-at-slice-aggregate-column-at t c = search (column-at-values, tests)
 
 -- src/value.rt:197:13
 column-at-column-at-requires-2 : (t : ℕ) → column-at-lts.Need-column-at-requires-2 (column-at-calls t) (column-at-at t) column-at.Post
-column-at-column-at-requires-2 t c κs = search (values, tests)
+column-at-column-at-requires-2 t c κs = search (column-at-values, tests)
 
 -- src/value.rt:198:73
 column-at-slice-aggregate-join-columns : (t : ℕ) → column-at-lts.Need-slice-aggregate-join-columns (column-at-calls t) (column-at-at t)
     column-at.Post
-column-at-slice-aggregate-join-columns t c = search (values, tests)
+column-at-slice-aggregate-join-columns t c = search (column-at-values, tests)
 
 -- src/value.rt:198:13
 column-at-join-columns-requires : (t : ℕ) → column-at-lts.Need-join-columns-requires (column-at-calls t) (column-at-at t) column-at.Post
@@ -118,7 +118,7 @@ column-at-join-columns-requires t c κs = (
 
 -- src/value.rt:199:9
 column-at-same-length-2 : (t : ℕ) → column-at-lts.Need-same-length-2 (column-at-calls t) (column-at-at t) column-at.Post
-column-at-same-length-2 t c = search (values, tests)
+column-at-same-length-2 t c = search (column-at-values, tests)
 
 -- src/value.rt:199:9
 column-at-returns-2 : (t : ℕ) → column-at-lts.Need-returns-2 (column-at-calls t) (column-at-at t) column-at.Post
@@ -147,11 +147,11 @@ column-at-returns-2 t c = (
 -- src/value.rt:202:59
 column-at-slice-aggregate-column-at-2 : (t : ℕ) → column-at-lts.Need-slice-aggregate-column-at-2 (column-at-calls t) (column-at-at t)
     column-at.Post
-column-at-slice-aggregate-column-at-2 t c = search (values, tests)
+column-at-slice-aggregate-column-at-2 t c = search (column-at-values, tests)
 
 -- src/value.rt:202:9
 column-at-column-at-requires-3 : (t : ℕ) → column-at-lts.Need-column-at-requires-3 (column-at-calls t) (column-at-at t) column-at.Post
-column-at-column-at-requires-3 t c κs = search (values, tests)
+column-at-column-at-requires-3 t c κs = search (column-at-values, tests)
 
 -- src/value.rt:203:69
 column-at-slice-aggregate-join-columns-2 :
@@ -169,7 +169,7 @@ column-at-slice-aggregate-join-columns-2 :
       join-columns-reads.Asked,
       join-columns-reads.Learnt,
     ) (column-at-at t) column-at.Post
-column-at-slice-aggregate-join-columns-2 t c = search (values, tests)
+column-at-slice-aggregate-join-columns-2 t c = search (column-at-values, tests)
 
 -- src/value.rt:203:9
 column-at-join-columns-requires-2 : (t : ℕ) → column-at-lts.Need-join-columns-requires-2 (column-at-calls t) (column-at-at t) column-at.Post
@@ -201,7 +201,7 @@ column-at-join-columns-requires-2 t c κs = (
 
 -- src/value.rt:171:1
 column-at-same-length-3 : (t : ℕ) → column-at-lts.Need-same-length-3 (column-at-calls t) (column-at-at t) column-at.Post
-column-at-same-length-3 t c = search (values, tests)
+column-at-same-length-3 t c = search (column-at-values, tests)
 
 -- src/value.rt:171:1
 column-at-returns-3 : (t : ℕ) → column-at-lts.Need-returns-3 (column-at-calls t) (column-at-at t) column-at.Post

@@ -1,4 +1,4 @@
-use Rattle.tables_digits.proofs.ValueBranches.{mets, leafs}
+use Rattle.tables_digits.proofs.ValueBranches.{leaf-column-mets, leaf-column-leafs}
 use Rattle.tables_digits.proofs.RunBranches.{span-fits}
 use Rattle.limits.proofs.BranchTests.{tests}
 use borrow.Author.Needs.{needs}
@@ -12,14 +12,14 @@ leaf-column-spec =
     (λ c κs. search needs)
     (λ c κs. search (span-fits, tests))
     (λ c. search needs)
-    (λ c. (search (mets, tests), search (leafs, tests)))
+    (λ c. (search (leaf-column-mets, tests), search (leaf-column-leafs, tests)))
     (λ c κs. search needs)
-    (λ c κs. search (leafs, tests))
+    (λ c κs. search (leaf-column-leafs, tests))
     (λ c. search needs)
-    (λ c. (search (mets, tests), search (leafs, tests)))
+    (λ c. (search (leaf-column-mets, tests), search (leaf-column-leafs, tests)))
     (λ c κs. search needs)
     (λ c κs. search needs)
     (λ c κs. search needs)
     (λ c. search needs)
-    (λ c. (search (mets, tests), search (leafs, tests)))
-    (λ c. (search (mets, tests), search (leafs, tests))))
+    (λ c. (search (leaf-column-mets, tests), search (leaf-column-leafs, tests)))
+    (λ c. (search (leaf-column-mets, tests), search (leaf-column-leafs, tests))))

@@ -1,4 +1,4 @@
-use Rattle.tables_digits.proofs.ValueBranches.{plains}
+use Rattle.tables_digits.proofs.ValueBranches.{plain-column-branches}
 use Rattle.tables_digits.proofs.RunBranches.{span-fits}
 use Rattle.limits.proofs.BranchTests.{tests}
 use borrow.Author.Needs.{needs}
@@ -13,9 +13,9 @@ plain-column-spec =
     (λ c κs. search needs)
     (λ c κs. search needs)
     (λ c. search needs)
-    (λ c. (search (plains, tests), search (plains, tests)))
+    (λ c. (search (plain-column-branches, tests), search (plain-column-branches, tests)))
     (λ c κs. search needs)
     (λ c κs. search needs)
     (λ c κs. search (span-fits, tests))
     (λ c. search needs)
-    (λ c. (search (plains, tests), search (plains, tests))))
+    (λ c. (search (plain-column-branches, tests), search (plain-column-branches, tests))))

@@ -1,4 +1,4 @@
-use Rattle.tables_rows.proofs.ByRowsBranches.{entries}
+use Rattle.tables_rows.proofs.ByRowsBranches.{by-rows-branches}
 use Rattle.limits.proofs.BranchTests.{tests}
 use borrow.Author.Needs.{needs}
 use Rattle.tables_rows.proofs.by_rows.by_table.Statement.{statement}
@@ -12,4 +12,4 @@ by-table-spec =
     (λ c. search needs)
     (λ c. search needs)
     (λ c κs. search needs)
-    (λ c. search (entries, tests)))
+    (λ c. search (by-rows-branches, tests)))

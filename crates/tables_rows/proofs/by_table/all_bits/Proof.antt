@@ -1,5 +1,5 @@
-use Rattle.tables_rows.proofs.ByTableBranches.{rowsets}
-use Rattle.tables_rows.proofs.EntailmentBranches.{gathered}
+use Rattle.tables_rows.proofs.ByTableBranches.{all-bits-rowsets}
+use Rattle.tables_rows.proofs.EntailmentBranches.{all-bits-gathered}
 use Prim.Native.Nat.{_≤_}
 use mathlib.Core.Path.{_≡_}
 use mathlib.Core.List.{[]}
@@ -26,12 +26,12 @@ all-bits-spec =
     (tie.spec
     Inv-loop
     μ-loop
-    (λ c. (search tests, (search (gathered, tests), (search tests, (search (rowsets, tests), search (rowsets, tests))))))
+    (λ c. (search tests, (search (all-bits-gathered, tests), (search tests, (search (all-bits-rowsets, tests), search (all-bits-rowsets, tests))))))
     (λ c κs. search tests)
     (λ c κs. search tests)
     (λ c. search tests)
     (λ c. search tests)
-    (λ c. (search tests, (search (gathered, tests), (search tests, (search (rowsets, tests), search (rowsets, tests))))))
+    (λ c. (search tests, (search (all-bits-gathered, tests), (search tests, (search (all-bits-rowsets, tests), search (all-bits-rowsets, tests))))))
     (λ c κs. search tests)
     (λ c κs. search tests)
-    (λ c. (search (gathered, tests), search (rowsets, tests))))
+    (λ c. (search (all-bits-gathered, tests), search (all-bits-rowsets, tests))))

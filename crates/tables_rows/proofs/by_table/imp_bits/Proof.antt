@@ -1,4 +1,4 @@
-use Rattle.tables_rows.proofs.ByTableBranches.{implied}
+use Rattle.tables_rows.proofs.ByTableBranches.{imp-bits-branches}
 use Rattle.tables_rows.proofs.EntailmentBranches.{gather-imp}
 use Rattle.limits.proofs.BranchTests.{tests}
 use borrow.Author.Needs.{needs}
@@ -14,4 +14,4 @@ imp-bits-spec =
     (λ c κs. search needs)
     (λ c κs. search needs)
     (λ c κs. search needs)
-    (λ c. (search (gather-imp, tests), (search (implied, tests), search (implied, tests)))))
+    (λ c. (search (gather-imp, tests), (search (imp-bits-branches, tests), search (imp-bits-branches, tests)))))

@@ -1,4 +1,4 @@
-use Rattle.tables_rows.proofs.EntailmentBranches.{implications}
+use Rattle.tables_rows.proofs.EntailmentBranches.{imp-fails-branches}
 use Rattle.limits.proofs.BranchTests.{tests}
 use borrow.Author.Needs.{needs}
 use Rattle.tables_rows.proofs.entailment.imp_fails.Statement.{statement}
@@ -15,4 +15,4 @@ imp-fails-spec =
     (λ c κs. search needs)
     (λ c. search needs)
     (λ c. search needs)
-    (λ c. search (implications, tests)))
+    (λ c. search (imp-fails-branches, tests)))

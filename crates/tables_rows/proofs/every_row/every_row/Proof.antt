@@ -1,4 +1,4 @@
-use Rattle.tables_rows.proofs.EveryRowBranches.{everys}
+use Rattle.tables_rows.proofs.EveryRowBranches.{every-row-everys}
 use Rattle.limits.proofs.BranchTests.{tests}
 use borrow.Author.Needs.{needs}
 use Rattle.tables_rows.proofs.every_row.every_row.Statement.{statement}
@@ -9,9 +9,9 @@ every-row-spec =
     tie.close
     (tie.spec
     (λ c κs. search needs)
-    (λ c. search (everys, tests))
+    (λ c. search (every-row-everys, tests))
     (λ c κs. search needs)
-    (λ c. search (everys, tests))
+    (λ c. search (every-row-everys, tests))
     (λ c. search needs)
-    (λ c κs. ((search tests, (search tests, search tests)), search (everys, tests)))
-    (λ c. search (everys, tests)))
+    (λ c κs. ((search tests, (search tests, search tests)), search (every-row-everys, tests)))
+    (λ c. search (every-row-everys, tests)))

@@ -1,4 +1,4 @@
-use Rattle.tables_rows.proofs.EveryRowBranches.{lasting}
+use Rattle.tables_rows.proofs.EveryRowBranches.{fill-lasts-branches}
 use Prim.Native.Nat.{_-_, _≤_}
 use mathlib.Core.Path.{_≡_}
 use lib.ListN.{length}
@@ -19,12 +19,12 @@ fill-lasts-spec =
     (tie.spec
     Inv-loop
     μ-loop
-    (λ c. (search tests, (search (lasting, tests), search (lasting, tests))))
-    (λ c κs. search (lasting, tests))
-    (λ c κs. search (lasting, tests))
-    (λ c κs. search (lasting, tests))
-    (λ c. search (lasting, tests))
-    (λ c. search (lasting, tests))
-    (λ c. search (lasting, tests))
-    (λ c. (search tests, (search (lasting, tests), search tests)))
-    (λ c. search (lasting, tests)))
+    (λ c. (search tests, (search (fill-lasts-branches, tests), search (fill-lasts-branches, tests))))
+    (λ c κs. search (fill-lasts-branches, tests))
+    (λ c κs. search (fill-lasts-branches, tests))
+    (λ c κs. search (fill-lasts-branches, tests))
+    (λ c. search (fill-lasts-branches, tests))
+    (λ c. search (fill-lasts-branches, tests))
+    (λ c. search (fill-lasts-branches, tests))
+    (λ c. (search tests, (search (fill-lasts-branches, tests), search tests)))
+    (λ c. search (fill-lasts-branches, tests)))

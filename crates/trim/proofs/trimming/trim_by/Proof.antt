@@ -1,6 +1,6 @@
 use native.Mathlib.Omega.{arith}
 use Rattle.limits.proofs.BranchTests.{tests}
-use Rattle.trim_encode.proofs.TrimBranches.{accepted-of, answering}
+use Rattle.trim_encode.proofs.TrimBranches.{accepted-of, trim-by-branches}
 use borrow.Author.Needs.{needs}
 use Rattle.trim.proofs.trimming.trim_by.Statement.{statement}
 use Rattle.trim.proofs.trimming.trim_by.Tie as tie
@@ -26,6 +26,6 @@ trim-by-spec =
     (λ c. search needs)
     (λ c. search needs)
     (λ c. search needs)
-    (λ c. (search (answering, tests), search (answering, tests)))
+    (λ c. (search (trim-by-branches, tests), search (trim-by-branches, tests)))
     (λ c. search needs)
-    (λ c. (search (answering, tests), search (answering, tests))))
+    (λ c. (search (trim-by-branches, tests), search (trim-by-branches, tests))))

@@ -2,7 +2,7 @@ use Rattle.trim_encode.specs.Overwritten.{overwritten}
 use lib.ListN.{length, take}
 use mathlib.Core.Path.{_≡_}
 use Prim.Native.Nat.{_≤_, _-_}
-use Rattle.trim_encode.proofs.ByteBranches.{copying}
+use Rattle.trim_encode.proofs.ByteBranches.{put-bytes-branches}
 use Rattle.limits.proofs.BranchTests.{tests}
 use Rattle.trim_encode.proofs.bytes.put_bytes.Statement.{statement}
 use Rattle.trim_encode.proofs.bytes.put_bytes.Tie as tie
@@ -19,13 +19,13 @@ put-bytes-spec =
     (tie.spec
     Inv-loop
     μ-loop
-    (λ c. search (copying, tests))
-    (λ c. search (copying, tests))
-    (λ c. search (copying, tests))
-    (λ c. search (copying, tests))
-    (λ c. search (copying, tests))
-    (λ c. search (copying, tests))
-    (λ c. search (copying, tests))
-    (λ c. search (copying, tests))
-    (λ c. search (copying, tests))
-    (λ c. search (copying, tests)))
+    (λ c. search (put-bytes-branches, tests))
+    (λ c. search (put-bytes-branches, tests))
+    (λ c. search (put-bytes-branches, tests))
+    (λ c. search (put-bytes-branches, tests))
+    (λ c. search (put-bytes-branches, tests))
+    (λ c. search (put-bytes-branches, tests))
+    (λ c. search (put-bytes-branches, tests))
+    (λ c. search (put-bytes-branches, tests))
+    (λ c. search (put-bytes-branches, tests))
+    (λ c. search (put-bytes-branches, tests)))

@@ -1,4 +1,4 @@
-use Rattle.trim_encode.proofs.LineRecordBranches.{claiming}
+use Rattle.trim_encode.proofs.LineRecordBranches.{put-claim-branches}
 use Rattle.limits.proofs.BranchTests.{tests}
 use borrow.Author.Needs.{needs}
 use Rattle.trim_encode.proofs.claim_record.put_claim.Statement.{statement}
@@ -11,10 +11,10 @@ put-claim-spec =
     (λ c κs. search needs)
     (λ c κs. search needs)
     (λ c κs. search needs)
-    (λ c κs. search (claiming, tests))
+    (λ c κs. search (put-claim-branches, tests))
     (λ c κs. search needs)
     (λ c κs. search needs)
     (λ c κs. search needs)
-    (λ c κs. search (claiming, tests))
+    (λ c κs. search (put-claim-branches, tests))
     (λ c. search needs)
-    (λ c. search (claiming, tests)))
+    (λ c. search (put-claim-branches, tests)))

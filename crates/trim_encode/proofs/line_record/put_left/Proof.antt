@@ -1,4 +1,4 @@
-use Rattle.trim_encode.proofs.LineRecordBranches.{siding}
+use Rattle.trim_encode.proofs.LineRecordBranches.{line-record-branches}
 use Rattle.limits.proofs.BranchTests.{tests}
 use borrow.Author.Needs.{needs}
 use Rattle.trim_encode.proofs.line_record.put_left.Statement.{statement}
@@ -13,6 +13,6 @@ put-left-spec =
     (λ c κs. search needs)
     (λ c κs. search needs)
     (λ c κs. search needs)
-    (λ c κs. search (siding, tests))
+    (λ c κs. search (line-record-branches, tests))
     (λ c. search needs)
-    (λ c. search (siding, tests)))
+    (λ c. search (line-record-branches, tests)))

@@ -1,4 +1,4 @@
-use Rattle.trim_encode.proofs.LineRecordBranches.{listing}
+use Rattle.trim_encode.proofs.LineRecordBranches.{put-premises-branches}
 use Rattle.limits.proofs.BranchTests.{tests}
 use borrow.Author.Needs.{needs}
 use Rattle.trim_encode.proofs.line_record.put_premises.Statement.{statement}
@@ -10,6 +10,6 @@ put-premises-spec =
     (tie.spec
     (λ c κs. search needs)
     (λ c κs. search needs)
-    (λ c κs. search (listing, tests))
+    (λ c κs. search (put-premises-branches, tests))
     (λ c. search needs)
-    (λ c. search (listing, tests)))
+    (λ c. search (put-premises-branches, tests)))

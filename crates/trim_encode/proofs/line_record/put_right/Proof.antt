@@ -1,4 +1,4 @@
-use Rattle.trim_encode.proofs.LineRecordBranches.{siding}
+use Rattle.trim_encode.proofs.LineRecordBranches.{line-record-branches}
 use Rattle.limits.proofs.BranchTests.{tests}
 use borrow.Author.Needs.{needs}
 use Rattle.trim_encode.proofs.line_record.put_right.Statement.{statement}
@@ -10,8 +10,8 @@ put-right-spec =
     (tie.spec
     (λ c κs. search needs)
     (λ c κs. search needs)
-    (λ c κs. search (siding, tests))
+    (λ c κs. search (line-record-branches, tests))
     (λ c κs. search needs)
-    (λ c κs. search (siding, tests))
+    (λ c κs. search (line-record-branches, tests))
     (λ c. search needs)
-    (λ c. search (siding, tests)))
+    (λ c. search (line-record-branches, tests)))

@@ -1,4 +1,4 @@
-use Rattle.trim_encode.proofs.LiveFormulaBranches.{siding}
+use Rattle.trim_encode.proofs.LiveFormulaBranches.{mark-line-branches}
 use Rattle.limits.proofs.BranchTests.{tests}
 use borrow.Author.Needs.{needs}
 use Rattle.trim_encode.proofs.live_formulas.mark_line.Statement.{statement}
@@ -17,5 +17,5 @@ mark-line-spec =
     (λ c κs. search needs)
     (λ c κs. search needs)
     (λ c. search needs)
-    (λ c. search (siding, tests))
-    (λ c. search (siding, tests)))
+    (λ c. search (mark-line-branches, tests))
+    (λ c. search (mark-line-branches, tests)))

@@ -1,4 +1,4 @@
-use Rattle.trim_encode.proofs.LiveFormulaBranches.{choosing, marked-more}
+use Rattle.trim_encode.proofs.LiveFormulaBranches.{mark-lines-branches, marked-more}
 use Rattle.trim_encode.specs.NamedNumbers.{markedFormulas}
 use Rattle.trim_spec.specs.Live.{markedBy}
 use Rattle.image_frames.specs.Records.{bodies}
@@ -22,11 +22,11 @@ mark-lines-spec =
     (tie.spec
     Inv-loop
     μ-loop
-    (λ c. search (choosing, tests))
+    (λ c. search (mark-lines-branches, tests))
     (λ c. (search tests, (refl, search tests)))
-    (λ c. search (choosing, tests))
+    (λ c. search (mark-lines-branches, tests))
     (λ c κs. (search tests, search tests))
-    (λ c. search (choosing, tests))
+    (λ c. search (mark-lines-branches, tests))
     (λ c. (search tests, (search (marked-more, tests), search tests)))
-    (λ c. search (choosing, tests))
-    (λ c. search (choosing, tests)))
+    (λ c. search (mark-lines-branches, tests))
+    (λ c. search (mark-lines-branches, tests)))

@@ -1,4 +1,4 @@
-use Rattle.trim_encode.proofs.LiveFormulaBranches.{threading, body-more}
+use Rattle.trim_encode.proofs.LiveFormulaBranches.{live-formulas-branches, body-more}
 use Rattle.trim_encode.specs.NamedNumbers.{bodyFormulas}
 use Rattle.trim_spec.specs.Live.{markedBy}
 use Prim.Native.Nat.{_≤_, _<_, _-_}
@@ -26,13 +26,13 @@ mark-thread-spec =
     (tie.spec
     Inv-loop
     μ-loop
-    (λ c κs. search (threading, tests))
+    (λ c κs. search (live-formulas-branches, tests))
     (λ c. (search tests, (search tests, (search (from-start, tests), (refl, search tests)))))
-    (λ c κs. search (threading, tests))
-    (λ c κs. search (threading, tests))
-    (λ c κs. search (threading, tests))
-    (λ c. search (threading, tests))
-    (λ c. search (threading, tests))
+    (λ c κs. search (live-formulas-branches, tests))
+    (λ c κs. search (live-formulas-branches, tests))
+    (λ c κs. search (live-formulas-branches, tests))
+    (λ c. search (live-formulas-branches, tests))
+    (λ c. search (live-formulas-branches, tests))
     (λ c. (search tests, (search tests, (search tests, (search (body-more, tests), search tests)))))
-    (λ c. search (threading, tests))
-    (λ c. search (threading, tests)))
+    (λ c. search (live-formulas-branches, tests))
+    (λ c. search (live-formulas-branches, tests)))

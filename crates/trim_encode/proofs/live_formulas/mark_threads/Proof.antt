@@ -1,4 +1,4 @@
-use Rattle.trim_encode.proofs.LiveFormulaBranches.{threading, threads-more}
+use Rattle.trim_encode.proofs.LiveFormulaBranches.{live-formulas-branches, threads-more}
 use Rattle.trim_encode.specs.NamedNumbers.{threadFormulas}
 use Rattle.trim_spec.specs.Live.{markedBy}
 use Rattle.image_frames.specs.Records.{bodies}
@@ -22,14 +22,14 @@ mark-threads-spec =
     (tie.spec
     Inv-loop
     μ-loop
-    (λ c. search (threading, tests))
+    (λ c. search (live-formulas-branches, tests))
     (λ c. (search tests, (refl, search tests)))
-    (λ c. search (threading, tests))
-    (λ c. search (threading, tests))
-    (λ c. search (threading, tests))
-    (λ c κs. search (threading, tests))
-    (λ c κs. search (threading, tests))
-    (λ c. search (threading, tests))
+    (λ c. search (live-formulas-branches, tests))
+    (λ c. search (live-formulas-branches, tests))
+    (λ c. search (live-formulas-branches, tests))
+    (λ c κs. search (live-formulas-branches, tests))
+    (λ c κs. search (live-formulas-branches, tests))
+    (λ c. search (live-formulas-branches, tests))
     (λ c. (search tests, (search (threads-more, tests), search tests)))
-    (λ c. search (threading, tests))
-    (λ c. search (threading, tests)))
+    (λ c. search (live-formulas-branches, tests))
+    (λ c. search (live-formulas-branches, tests)))

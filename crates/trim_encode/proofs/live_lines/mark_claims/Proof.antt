@@ -1,4 +1,4 @@
-use Rattle.trim_encode.proofs.LiveLineBranches.{claiming, claims-more}
+use Rattle.trim_encode.proofs.LiveLineBranches.{mark-claims-branches, claims-more}
 use Rattle.trim_encode.specs.NamedNumbers.{claimLines}
 use Rattle.trim_spec.specs.Live.{markedBy}
 use Rattle.image_frames.specs.Records.{bodies}
@@ -22,12 +22,12 @@ mark-claims-spec =
     (tie.spec
     Inv-loop
     μ-loop
-    (λ c. search (claiming, tests))
-    (λ c. search (claiming, tests))
+    (λ c. search (mark-claims-branches, tests))
+    (λ c. search (mark-claims-branches, tests))
     (λ c κs. (search tests, search tests))
-    (λ c κs. search (claiming, tests))
-    (λ c. search (claiming, tests))
-    (λ c. search (claiming, tests))
+    (λ c κs. search (mark-claims-branches, tests))
+    (λ c. search (mark-claims-branches, tests))
+    (λ c. search (mark-claims-branches, tests))
     (λ c. (search tests, (search (claims-more, tests), search tests)))
-    (λ c. search (claiming, tests))
-    (λ c. search (claiming, tests)))
+    (λ c. search (mark-claims-branches, tests))
+    (λ c. search (mark-claims-branches, tests)))

@@ -1,4 +1,4 @@
-use Rattle.trim_encode.proofs.LiveLineBranches.{lining}
+use Rattle.trim_encode.proofs.LiveLineBranches.{mark-line-branches}
 use Rattle.limits.proofs.BranchTests.{tests}
 use borrow.Author.Needs.{needs}
 use Rattle.trim_encode.proofs.live_lines.mark_line.Statement.{statement}
@@ -17,6 +17,6 @@ mark-line-spec =
     (λ c κs. search needs)
     (λ c κs. search needs)
     (λ c. search needs)
-    (λ c. search (lining, tests))
+    (λ c. search (mark-line-branches, tests))
     (λ c. search needs)
-    (λ c. search (lining, tests)))
+    (λ c. search (mark-line-branches, tests)))

@@ -1,4 +1,4 @@
-use Rattle.trim_encode.proofs.LiveLineBranches.{passing, down-more}
+use Rattle.trim_encode.proofs.LiveLineBranches.{mark-lines-branches, down-more}
 use Rattle.trim_spec.specs.Parse.{documentOf}
 use Rattle.trim_spec.specs.Live.{keptTo}
 use Rattle.image_frames.specs.Records.{bodies}
@@ -23,11 +23,11 @@ mark-lines-spec =
     (tie.spec
     Inv-loop
     μ-loop
-    (λ c. search (passing, tests))
-    (λ c. search (passing, tests))
+    (λ c. search (mark-lines-branches, tests))
+    (λ c. search (mark-lines-branches, tests))
     (λ c κs. (search tests, search tests))
-    (λ c. search (passing, tests))
-    (λ c. search (passing, tests))
+    (λ c. search (mark-lines-branches, tests))
+    (λ c. search (mark-lines-branches, tests))
     (λ c. (search tests, (search (down-more, tests), search tests)))
-    (λ c. search (passing, tests))
-    (λ c. search (passing, tests)))
+    (λ c. search (mark-lines-branches, tests))
+    (λ c. search (mark-lines-branches, tests)))

@@ -1,4 +1,4 @@
-use Rattle.trim_encode.proofs.MarkBranches.{numbering, numbers-more}
+use Rattle.trim_encode.proofs.MarkBranches.{mark-numbers-branches, numbers-more}
 use Rattle.trim_spec.specs.Live.{markedBy}
 use Rattle.limits.specs.Numbers.{numbers}
 use Prim.Native.Nat.{_≤_, _-_}
@@ -20,11 +20,11 @@ mark-numbers-spec =
     (tie.spec
     Inv-loop
     μ-loop
-    (λ c. search (numbering, tests))
-    (λ c κs. search (numbering, tests))
-    (λ c κs. search (numbering, tests))
-    (λ c. search (numbering, tests))
-    (λ c. search (numbering, tests))
+    (λ c. search (mark-numbers-branches, tests))
+    (λ c κs. search (mark-numbers-branches, tests))
+    (λ c κs. search (mark-numbers-branches, tests))
+    (λ c. search (mark-numbers-branches, tests))
+    (λ c. search (mark-numbers-branches, tests))
     (λ c. (search tests, (search (numbers-more, tests), search tests)))
-    (λ c. search (numbering, tests))
-    (λ c. search (numbering, tests)))
+    (λ c. search (mark-numbers-branches, tests))
+    (λ c. search (mark-numbers-branches, tests)))

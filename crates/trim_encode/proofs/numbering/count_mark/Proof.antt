@@ -1,4 +1,4 @@
-use Rattle.trim_encode.proofs.NumberingBranches.{counting}
+use Rattle.trim_encode.proofs.NumberingBranches.{count-mark-branches}
 use Rattle.limits.proofs.BranchTests.{tests}
 use borrow.Author.Needs.{needs}
 use Rattle.trim_encode.proofs.numbering.count_mark.Statement.{statement}
@@ -10,5 +10,5 @@ count-mark-spec =
     (tie.spec
     (λ c κs. search needs)
     (λ c. search needs)
-    (λ c. (search (counting, tests), search tests))
-    (λ c. (search (counting, tests), search tests)))
+    (λ c. (search (count-mark-branches, tests), search tests))
+    (λ c. (search (count-mark-branches, tests), search tests)))

@@ -1,4 +1,4 @@
-use Rattle.trim_encode.proofs.NumberingBranches.{Filled, filling, filled-more}
+use Rattle.trim_encode.proofs.NumberingBranches.{Filled, fill-numbers-branches, filled-more}
 use Prim.Native.Nat.{_≤_, _-_}
 use mathlib.Core.Path.{_≡_}
 use lib.ListN.{length}
@@ -18,7 +18,7 @@ fill-numbers-spec =
     (tie.spec
     Inv-loop
     μ-loop
-    (λ c. search (filling, tests))
+    (λ c. search (fill-numbers-branches, tests))
     (λ c. search tests)
     (λ c. search tests)
     (λ c. search tests)
@@ -26,4 +26,4 @@ fill-numbers-spec =
     (λ c. search tests)
     (λ c. (search tests, (search (filled-more, tests), search tests)))
     (λ c. search tests)
-    (λ c. search (filling, tests)))
+    (λ c. search (fill-numbers-branches, tests)))

@@ -1,4 +1,4 @@
-use Rattle.trim_encode.proofs.RecordFramed.{tabling}
+use Rattle.trim_encode.proofs.RecordFramed.{put-list-branches}
 use Rattle.limits.proofs.BranchTests.{tests}
 use borrow.Author.Needs.{needs}
 use Rattle.trim_encode.proofs.record.put_list.Statement.{statement}
@@ -10,7 +10,7 @@ put-list-spec =
     (tie.spec
     (λ c κs. search needs)
     (λ c. search needs)
-    (λ c κs. search (tabling, tests))
-    (λ c κs. (search tests, search (tabling, tests)))
+    (λ c κs. search (put-list-branches, tests))
+    (λ c κs. (search tests, search (put-list-branches, tests)))
     (λ c. search needs)
-    (λ c. search (tabling, tests)))
+    (λ c. search (put-list-branches, tests)))

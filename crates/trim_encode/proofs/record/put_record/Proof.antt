@@ -1,4 +1,4 @@
-use Rattle.trim_encode.proofs.RecordFramed.{recording}
+use Rattle.trim_encode.proofs.RecordFramed.{put-record-branches}
 use Rattle.limits.proofs.BranchTests.{tests}
 use borrow.Author.Needs.{needs}
 use Rattle.trim_encode.proofs.record.put_record.Statement.{statement}
@@ -10,7 +10,7 @@ put-record-spec =
     (tie.spec
     (λ c κs. search needs)
     (λ c. search needs)
-    (λ c κs. search (recording, tests))
-    (λ c κs. (search tests, search (recording, tests)))
+    (λ c κs. search (put-record-branches, tests))
+    (λ c κs. (search tests, search (put-record-branches, tests)))
     (λ c. search needs)
-    (λ c. search (recording, tests)))
+    (λ c. search (put-record-branches, tests)))

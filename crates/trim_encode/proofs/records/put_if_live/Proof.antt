@@ -1,4 +1,4 @@
-use Rattle.trim_encode.proofs.RecordsWritten.{keeping}
+use Rattle.trim_encode.proofs.RecordsWritten.{put-if-live-branches}
 use Rattle.limits.proofs.BranchTests.{tests}
 use borrow.Author.Needs.{needs}
 use Rattle.trim_encode.proofs.records.put_if_live.Statement.{statement}
@@ -11,7 +11,7 @@ put-if-live-spec =
     (λ c. search needs)
     (λ c κs. search needs)
     (λ c. search needs)
-    (λ c κs. search (keeping, tests))
+    (λ c κs. search (put-if-live-branches, tests))
     (λ c. search needs)
-    (λ c. search (keeping, tests))
-    (λ c. search (keeping, tests)))
+    (λ c. search (put-if-live-branches, tests))
+    (λ c. search (put-if-live-branches, tests)))

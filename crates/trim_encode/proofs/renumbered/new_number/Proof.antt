@@ -1,4 +1,4 @@
-use Rattle.trim_encode.proofs.RenumberedBranches.{renewing}
+use Rattle.trim_encode.proofs.RenumberedBranches.{new-number-branches}
 use Rattle.limits.proofs.BranchTests.{tests}
 use borrow.Author.Needs.{needs}
 use Rattle.trim_encode.proofs.renumbered.new_number.Statement.{statement}
@@ -10,9 +10,9 @@ new-number-spec =
     (tie.spec
     (λ c. search needs)
     (λ c. search needs)
-    (λ c. search (renewing, tests))
-    (λ c. search (renewing, tests))
+    (λ c. search (new-number-branches, tests))
+    (λ c. search (new-number-branches, tests))
     (λ c. search needs)
     (λ c. search needs)
     (λ c. search needs)
-    (λ c. search (renewing, tests)))
+    (λ c. search (new-number-branches, tests)))

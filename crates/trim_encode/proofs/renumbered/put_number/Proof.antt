@@ -1,5 +1,5 @@
 use Rattle.trim_encode.specs.Pieces.{numberPiece}
-use Rattle.trim_encode.proofs.RenumberedBranches.{numbering, number-put, number-size}
+use Rattle.trim_encode.proofs.RenumberedBranches.{renumbered-branches, number-put, number-size}
 use Rattle.limits.proofs.BranchTests.{tests}
 use borrow.Author.Needs.{needs}
 use Rattle.trim_encode.proofs.renumbered.put_number.Statement.{statement}
@@ -12,6 +12,6 @@ put-number-spec =
     (tie.spec
     (λ c κs. search needs)
     (λ c κs. search needs)
-    (λ c κs. search (numbering, tests))
+    (λ c κs. search (renumbered-branches, tests))
     (λ c. search needs)
     (λ c. (search (number-put, tests), search (number-size, tests))))

@@ -1,6 +1,6 @@
 use Rattle.trim_encode.specs.Pieces.{numberPiece}
 use Prim.Native.Nat.{_-_}
-use Rattle.trim_encode.proofs.RenumberedBranches.{numbering}
+use Rattle.trim_encode.proofs.RenumberedBranches.{renumbered-branches}
 use Rattle.trim_encode.proofs.PieceLoop.{joining, Partly}
 use Rattle.limits.proofs.BranchTests.{tests}
 use Rattle.trim_encode.proofs.renumbered.put_numbers.Statement.{statement}
@@ -21,13 +21,13 @@ put-numbers-spec =
     (λ c. (
       search tests,
       (
-        search (joining, numbering, tests),
-        (search (joining, numbering, tests), (search (joining, numbering, tests), search tests)),
+        search (joining, renumbered-branches, tests),
+        (search (joining, renumbered-branches, tests), (search (joining, renumbered-branches, tests), search tests)),
       ),
     ))
-    (λ c κs. search (joining, numbering, tests))
-    (λ c. search (joining, numbering, tests))
-    (λ c. search (joining, numbering, tests))
-    (λ c. (search tests, (search (joining, numbering, tests), (search (joining, numbering, tests), (search tests, search tests)))))
-    (λ c. search (joining, numbering, tests))
-    (λ c. search (joining, numbering, tests)))
+    (λ c κs. search (joining, renumbered-branches, tests))
+    (λ c. search (joining, renumbered-branches, tests))
+    (λ c. search (joining, renumbered-branches, tests))
+    (λ c. (search tests, (search (joining, renumbered-branches, tests), (search (joining, renumbered-branches, tests), (search tests, search tests)))))
+    (λ c. search (joining, renumbered-branches, tests))
+    (λ c. search (joining, renumbered-branches, tests)))

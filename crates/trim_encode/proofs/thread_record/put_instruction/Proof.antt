@@ -1,4 +1,4 @@
-use Rattle.trim_encode.proofs.ThreadRecordBranches.{instructing}
+use Rattle.trim_encode.proofs.ThreadRecordBranches.{put-instruction-branches}
 use Rattle.limits.proofs.BranchTests.{tests}
 use borrow.Author.Needs.{needs}
 use Rattle.trim_encode.proofs.thread_record.put_instruction.Statement.{statement}
@@ -9,7 +9,7 @@ put-instruction-spec =
     tie.close
     (tie.spec
     (λ c κs. search needs)
-    (λ c κs. search (instructing, tests))
-    (λ c κs. search (instructing, tests))
+    (λ c κs. search (put-instruction-branches, tests))
+    (λ c κs. search (put-instruction-branches, tests))
     (λ c. search needs)
-    (λ c. search (instructing, tests)))
+    (λ c. search (put-instruction-branches, tests)))

@@ -1,4 +1,4 @@
-use Rattle.trim_encode.proofs.ThreadRecordBranches.{seconds}
+use Rattle.trim_encode.proofs.ThreadRecordBranches.{put-second-branches}
 use Rattle.limits.proofs.BranchTests.{tests}
 use borrow.Author.Needs.{needs}
 use Rattle.trim_encode.proofs.thread_record.put_second.Statement.{statement}
@@ -10,7 +10,7 @@ put-second-spec =
     (tie.spec
     (λ c κs. search needs)
     (λ c κs. search needs)
-    (λ c κs. search (seconds, tests))
+    (λ c κs. search (put-second-branches, tests))
     (λ c. search needs)
-    (λ c. search (seconds, tests))
-    (λ c. search (seconds, tests)))
+    (λ c. search (put-second-branches, tests))
+    (λ c. search (put-second-branches, tests)))

@@ -1,7 +1,7 @@
 use Prim.Native.Nat.{_-_}
 use Rattle.trim_encode.specs.Pieces.{instructionPiece}
 use Rattle.trim_encode.proofs.PieceLoop.{joining, Partly}
-use Rattle.trim_encode.proofs.ThreadRecordBranches.{stepping}
+use Rattle.trim_encode.proofs.ThreadRecordBranches.{thread-record-branches}
 use Rattle.limits.proofs.BranchTests.{tests}
 use Rattle.trim_encode.proofs.thread_record.put_steps.Statement.{statement}
 use Rattle.trim_encode.proofs.thread_record.put_steps.Tie as tie
@@ -19,9 +19,9 @@ put-steps-spec =
     Inv-loop
     μ-loop
     (λ c. (search tests, (search (joining, tests), (search (joining, tests), (search (joining, tests), search tests)))))
-    (λ c κs. search (joining, stepping, tests))
-    (λ c. search (joining, stepping, tests))
-    (λ c. search (joining, stepping, tests))
+    (λ c κs. search (joining, thread-record-branches, tests))
+    (λ c. search (joining, thread-record-branches, tests))
+    (λ c. search (joining, thread-record-branches, tests))
     (λ c. (search tests, (search (joining, tests), (search (joining, tests), (search tests, search tests)))))
-    (λ c. search (joining, stepping, tests))
-    (λ c. search (joining, stepping, tests)))
+    (λ c. search (joining, thread-record-branches, tests))
+    (λ c. search (joining, thread-record-branches, tests)))

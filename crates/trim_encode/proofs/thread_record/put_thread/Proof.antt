@@ -1,4 +1,4 @@
-use Rattle.trim_encode.proofs.ThreadRecordBranches.{threading}
+use Rattle.trim_encode.proofs.ThreadRecordBranches.{put-thread-branches}
 use Rattle.limits.proofs.BranchTests.{tests}
 use borrow.Author.Needs.{needs}
 use Rattle.trim_encode.proofs.thread_record.put_thread.Statement.{statement}
@@ -9,8 +9,8 @@ put-thread-spec =
     tie.close
     (tie.spec
     (λ c κs. search needs)
-    (λ c κs. search (threading, tests))
+    (λ c κs. search (put-thread-branches, tests))
     (λ c κs. search needs)
-    (λ c κs. search (threading, tests))
+    (λ c κs. search (put-thread-branches, tests))
     (λ c. search needs)
-    (λ c. search (threading, tests)))
+    (λ c. search (put-thread-branches, tests)))

@@ -1,5 +1,5 @@
 use Rattle.limits.proofs.BranchTests.{tests}
-use Rattle.trim_encode.proofs.TrimBranches.{trimming-ways, room}
+use Rattle.trim_encode.proofs.TrimBranches.{trim-accepted-branches, room}
 use borrow.Author.Needs.{needs}
 use Rattle.trim_encode.proofs.trim_accepted.trim_accepted.Statement.{statement}
 use Rattle.trim_encode.proofs.trim_accepted.trim_accepted.Tie as tie
@@ -9,14 +9,14 @@ trim-accepted-spec =
     tie.close
     (tie.spec
     (λ c. search needs)
-    (λ c κs. search (trimming-ways, tests))
+    (λ c κs. search (trim-accepted-branches, tests))
     (λ c. search needs)
     (λ c. search needs)
-    (λ c κs. search (trimming-ways, tests))
+    (λ c κs. search (trim-accepted-branches, tests))
     (λ c. search needs)
     (λ c. search needs)
-    (λ c κs. search (trimming-ways, tests))
-    (λ c. search (trimming-ways, tests))
+    (λ c κs. search (trim-accepted-branches, tests))
+    (λ c. search (trim-accepted-branches, tests))
     (λ c. search needs)
     (λ c. search needs)
     (λ c κs. (
@@ -27,4 +27,4 @@ trim-accepted-spec =
       ),
     ))
     (λ c. search needs)
-    (λ c. search (trimming-ways, tests)))
+    (λ c. search (trim-accepted-branches, tests)))

@@ -1,4 +1,4 @@
-use Rattle.trim_encode.proofs.LeftOutBranches.{leaving, behind-start, behind-more, behind-all}
+use Rattle.trim_encode.proofs.LeftOutBranches.{left-out-branches, behind-start, behind-more, behind-all}
 use Rattle.trim_encode.specs.LeftOutBytes.{leftBehind}
 use Rattle.limits.specs.Limits as Limits
 use Rattle.image_frames.specs.Records.{bodies}
@@ -22,10 +22,10 @@ left-out-spec =
     Inv-loop
     μ-loop
     (λ c. (search tests, (search tests, search (behind-start, tests))))
-    (λ c. search (leaving, tests))
-    (λ c. search (leaving, tests))
+    (λ c. search (left-out-branches, tests))
+    (λ c. search (left-out-branches, tests))
     (λ c κs. (search tests, search tests))
-    (λ c. search (leaving, tests))
-    (λ c. search (leaving, tests))
+    (λ c. search (left-out-branches, tests))
+    (λ c. search (left-out-branches, tests))
     (λ c. (search tests, (search tests, search (behind-more, tests))))
     (λ c. (search (behind-all, tests), search tests)))

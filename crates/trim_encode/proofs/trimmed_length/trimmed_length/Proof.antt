@@ -1,4 +1,4 @@
-use Rattle.trim_encode.proofs.LengthTrimmed.{trimming}
+use Rattle.trim_encode.proofs.LengthTrimmed.{trimmed-length-branches}
 use Rattle.limits.proofs.BranchTests.{tests}
 use borrow.Author.Needs.{needs}
 use Rattle.trim_encode.proofs.trimmed_length.trimmed_length.Statement.{statement}
@@ -11,5 +11,5 @@ trimmed-length-spec =
     (λ c κs. search needs)
     (λ c κs. search needs)
     (λ c. search needs)
-    (λ c. search (trimming, tests))
-    (λ c. search (trimming, tests)))
+    (λ c. search (trimmed-length-branches, tests))
+    (λ c. search (trimmed-length-branches, tests)))

@@ -1,5 +1,5 @@
 use Rattle.limits.proofs.BranchTests.{tests}
-use Rattle.vectors.proofs.BillAnswerBranches.{answers}
+use Rattle.vectors.proofs.BillAnswerBranches.{bill-answer-branches}
 use borrow.Author.Needs.{needs}
 use Rattle.vectors.proofs.bill_answer.numbers_at.Statement.{statement}
 use Rattle.vectors.proofs.bill_answer.numbers_at.Tie as tie
@@ -20,4 +20,4 @@ numbers-at-spec =
     (λ c. search needs)
     (λ c κs. search needs)
     (λ c. search needs)
-    (λ c. search (answers, tests)))
+    (λ c. search (bill-answer-branches, tests)))

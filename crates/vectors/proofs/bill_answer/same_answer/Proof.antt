@@ -1,5 +1,5 @@
 use Rattle.limits.proofs.BranchTests.{tests}
-use Rattle.vectors.proofs.BillAnswerBranches.{answers}
+use Rattle.vectors.proofs.BillAnswerBranches.{bill-answer-branches}
 use borrow.Author.Needs.{needs}
 use Rattle.vectors.proofs.bill_answer.same_answer.Statement.{statement}
 use Rattle.vectors.proofs.bill_answer.same_answer.Tie as tie
@@ -9,12 +9,12 @@ same-answer-spec =
     tie.close
     (tie.spec
     (λ c κs. search needs)
-    (λ c. search (answers, tests))
+    (λ c. search (bill-answer-branches, tests))
     (λ c κs. search needs)
     (λ c. search needs)
     (λ c. search needs)
     (λ c κs. search needs)
-    (λ c. search (answers, tests))
+    (λ c. search (bill-answer-branches, tests))
     (λ c. search needs)
     (λ c κs. search needs)
-    (λ c. search (answers, tests)))
+    (λ c. search (bill-answer-branches, tests)))

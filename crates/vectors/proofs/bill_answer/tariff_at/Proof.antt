@@ -1,5 +1,5 @@
 use Rattle.limits.proofs.BranchTests.{tests}
-use Rattle.vectors.proofs.BillAnswerBranches.{answers}
+use Rattle.vectors.proofs.BillAnswerBranches.{bill-answer-branches}
 use borrow.Author.Needs.{needs}
 use Rattle.vectors.proofs.bill_answer.tariff_at.Statement.{statement}
 use Rattle.vectors.proofs.bill_answer.tariff_at.Tie as tie
@@ -18,4 +18,4 @@ tariff-at-spec =
     (λ c. search needs)
     (λ c κs. search needs)
     (λ c. search needs)
-    (λ c. search (answers, tests)))
+    (λ c. search (bill-answer-branches, tests)))

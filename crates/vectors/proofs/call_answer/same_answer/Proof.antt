@@ -1,5 +1,5 @@
 use Rattle.limits.proofs.BranchTests.{tests}
-use Rattle.vectors.proofs.CallAnswerBranches.{answers}
+use Rattle.vectors.proofs.CallAnswerBranches.{call-answer-branches}
 use borrow.Author.Needs.{needs}
 use Rattle.vectors.proofs.call_answer.same_answer.Statement.{statement}
 use Rattle.vectors.proofs.call_answer.same_answer.Tie as tie
@@ -9,8 +9,8 @@ same-answer-spec =
     tie.close
     (tie.spec
     (λ c κs. search needs)
-    (λ c. search (answers, tests))
+    (λ c. search (call-answer-branches, tests))
     (λ c κs. search needs)
     (λ c κs. search needs)
-    (λ c. search (answers, tests))
-    (λ c. search (answers, tests)))
+    (λ c. search (call-answer-branches, tests))
+    (λ c. search (call-answer-branches, tests)))

@@ -1,4 +1,4 @@
-use Rattle.vectors.proofs.CounterBranches.{tallying}
+use Rattle.vectors.proofs.CounterBranches.{counters-branches}
 use Rattle.limits.proofs.BranchTests.{tests}
 use borrow.Author.Needs.{needs}
 use Rattle.vectors.proofs.counters.with_kind.Statement.{statement}
@@ -9,10 +9,10 @@ with-kind-spec =
     tie.close
     (tie.spec
     (λ c κs. search needs)
-    (λ c. search (tallying, tests))
+    (λ c. search (counters-branches, tests))
     (λ c. search needs)
     (λ c. search needs)
     (λ c κs. search needs)
     (λ c. search needs)
     (λ c. search needs)
-    (λ c. search (tallying, tests)))
+    (λ c. search (counters-branches, tests)))

@@ -1,4 +1,4 @@
-use Rattle.vectors.proofs.CounterBranches.{ends}
+use Rattle.vectors.proofs.CounterBranches.{is-whole-branches}
 use Rattle.limits.proofs.BranchTests.{tests}
 use borrow.Author.Needs.{needs}
 use Rattle.vectors.proofs.end.is_whole.Statement.{statement}
@@ -13,8 +13,8 @@ is-whole-spec =
     (λ c. search needs)
     (λ c. search needs)
     (λ c. search needs)
-    (λ c. search (ends, tests))
-    (λ c. search (ends, tests))
-    (λ c. search (ends, tests))
-    (λ c. search (ends, tests))
-    (λ c. search (ends, tests)))
+    (λ c. search (is-whole-branches, tests))
+    (λ c. search (is-whole-branches, tests))
+    (λ c. search (is-whole-branches, tests))
+    (λ c. search (is-whole-branches, tests))
+    (λ c. search (is-whole-branches, tests)))

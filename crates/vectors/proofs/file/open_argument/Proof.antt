@@ -1,4 +1,4 @@
-use Rattle.vectors.proofs.FileBranches.{opening}
+use Rattle.vectors.proofs.FileBranches.{open-argument-branches}
 use Rattle.limits.proofs.BranchTests.{tests}
 use borrow.Author.Needs.{needs}
 use Rattle.vectors.proofs.file.open_argument.Statement.{statement}
@@ -13,7 +13,7 @@ open-argument-spec =
     (λ c. search needs)
     (λ c κs. search needs)
     (λ c. search needs)
-    (λ c. search (opening, tests))
+    (λ c. search (open-argument-branches, tests))
     (λ c. search needs)
     (λ c. search needs)
     (λ c κs. search needs)
@@ -21,6 +21,6 @@ open-argument-spec =
     (λ c. search needs)
     (λ c κs. search needs)
     (λ c. search needs)
-    (λ c. search (opening, tests))
+    (λ c. search (open-argument-branches, tests))
     (λ c. search needs)
-    (λ c. search (opening, tests)))
+    (λ c. search (open-argument-branches, tests)))

@@ -1,5 +1,5 @@
 use Rattle.limits.proofs.BranchTests.{tests}
-use Rattle.vectors.proofs.PartBranches.{parts}
+use Rattle.vectors.proofs.PartBranches.{parts-branches}
 use borrow.Author.Needs.{needs}
 use Rattle.vectors.proofs.parts.third_on.Statement.{statement}
 use Rattle.vectors.proofs.parts.third_on.Tie as tie
@@ -11,4 +11,4 @@ third-on-spec =
     (λ c κs. search needs)
     (λ c κs. search needs)
     (λ c κs. search needs)
-    (λ c. search (parts, tests)))
+    (λ c. search (parts-branches, tests)))

@@ -1,5 +1,5 @@
 use Rattle.limits.proofs.BranchTests.{tests}
-use Rattle.vectors.proofs.TurnBranches.{reads}
+use Rattle.vectors.proofs.TurnBranches.{turn-branches}
 use borrow.Author.Needs.{needs}
 use Rattle.vectors.proofs.turn.tariff_at.Statement.{statement}
 use Rattle.vectors.proofs.turn.tariff_at.Tie as tie
@@ -18,4 +18,4 @@ tariff-at-spec =
     (λ c. search needs)
     (λ c κs. search needs)
     (λ c. search needs)
-    (λ c. search (reads, tests)))
+    (λ c. search (turn-branches, tests)))

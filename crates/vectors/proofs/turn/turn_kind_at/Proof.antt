@@ -1,5 +1,5 @@
 use Rattle.limits.proofs.BranchTests.{tests}
-use Rattle.vectors.proofs.TurnBranches.{turn-kinds}
+use Rattle.vectors.proofs.TurnBranches.{turn-kind-at-branches}
 use borrow.Author.Needs.{needs}
 use Rattle.vectors.proofs.turn.turn_kind_at.Statement.{statement}
 use Rattle.vectors.proofs.turn.turn_kind_at.Tie as tie
@@ -9,12 +9,12 @@ turn-kind-at-spec =
     tie.close
     (tie.spec
     (λ c κs. search needs)
-    (λ c. search (turn-kinds, tests))
-    (λ c. search (turn-kinds, tests))
-    (λ c. search (turn-kinds, tests))
-    (λ c. search (turn-kinds, tests))
-    (λ c. search (turn-kinds, tests))
-    (λ c. search (turn-kinds, tests))
-    (λ c. search (turn-kinds, tests))
-    (λ c. search (turn-kinds, tests))
-    (λ c. search (turn-kinds, tests)))
+    (λ c. search (turn-kind-at-branches, tests))
+    (λ c. search (turn-kind-at-branches, tests))
+    (λ c. search (turn-kind-at-branches, tests))
+    (λ c. search (turn-kind-at-branches, tests))
+    (λ c. search (turn-kind-at-branches, tests))
+    (λ c. search (turn-kind-at-branches, tests))
+    (λ c. search (turn-kind-at-branches, tests))
+    (λ c. search (turn-kind-at-branches, tests))
+    (λ c. search (turn-kind-at-branches, tests)))

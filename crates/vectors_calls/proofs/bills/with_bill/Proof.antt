@@ -1,5 +1,5 @@
 use Rattle.limits.proofs.BranchTests.{tests}
-use Rattle.vectors_calls.proofs.Billed.{lending}
+use Rattle.vectors_calls.proofs.Billed.{with-bill-branches}
 use borrow.Author.Needs.{needs}
 use Rattle.vectors_calls.proofs.bills.with_bill.Statement.{statement}
 use Rattle.vectors_calls.proofs.bills.with_bill.Tie as tie
@@ -10,11 +10,11 @@ with-bill-spec =
     (tie.spec
     (λ c κs. search needs)
     (λ c κs. search needs)
-    (λ c. search (lending, tests))
-    (λ c. search (lending, tests))
+    (λ c. search (with-bill-branches, tests))
+    (λ c. search (with-bill-branches, tests))
     (λ c κs. search needs)
-    (λ c. search (lending, tests))
+    (λ c. search (with-bill-branches, tests))
     (λ c κs. search needs)
     (λ c. search needs)
     (λ c κs. search needs)
-    (λ c. search (lending, tests)))
+    (λ c. search (with-bill-branches, tests)))

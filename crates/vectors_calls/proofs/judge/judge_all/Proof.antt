@@ -4,7 +4,7 @@ use Rattle.vectors.specs.Space.{spaceBytes}
 use Rattle.vectors.proofs.CaseBranches.{bodies}
 use Rattle.vectors.proofs.CounterFacts.{Running}
 use Rattle.vectors_calls.specs.Kind.{tailOf}
-use Rattle.vectors_calls.proofs.FileCounted.{gathered}
+use Rattle.vectors_calls.proofs.FileCounted.{judge-all-branches}
 use borrow.Author.Needs.{needs}
 use Rattle.vectors_calls.proofs.judge.judge_all.Statement.{statement}
 use Rattle.vectors_calls.proofs.judge.judge_all.Tie as tie
@@ -22,24 +22,24 @@ judge-all-spec =
     (tie.spec
     Inv-loop
     μ-loop
-    (λ c κs. search (gathered, bodies, needs))
-    (λ c κs. search (gathered, bodies, needs))
-    (λ c κs. search (gathered, bodies, needs))
-    (λ c. search (gathered, bodies, needs))
-    (λ c. search (gathered, bodies, needs))
-    (λ c. search (gathered, bodies, needs))
-    (λ c. search (gathered, bodies, needs))
-    (λ c. search (gathered, bodies, needs))
-    (λ c κs. search (gathered, bodies, needs))
-    (λ c. search (gathered, bodies, needs))
-    (λ c. search (gathered, bodies, needs))
-    (λ c. search (gathered, bodies, needs))
-    (λ c. search (gathered, bodies, needs))
-    (λ c. search (gathered, bodies, needs))
-    (λ c κs. search (gathered, bodies, needs))
-    (λ c. search (gathered, bodies, needs))
-    (λ c. search (gathered, bodies, needs))
-    (λ c. search (gathered, bodies, needs))
-    (λ c. search (gathered, bodies, needs))
-    (λ c. search (gathered, bodies, needs))
-    (λ c. search (gathered, bodies, needs)))
+    (λ c κs. search (judge-all-branches, bodies, needs))
+    (λ c κs. search (judge-all-branches, bodies, needs))
+    (λ c κs. search (judge-all-branches, bodies, needs))
+    (λ c. search (judge-all-branches, bodies, needs))
+    (λ c. search (judge-all-branches, bodies, needs))
+    (λ c. search (judge-all-branches, bodies, needs))
+    (λ c. search (judge-all-branches, bodies, needs))
+    (λ c. search (judge-all-branches, bodies, needs))
+    (λ c κs. search (judge-all-branches, bodies, needs))
+    (λ c. search (judge-all-branches, bodies, needs))
+    (λ c. search (judge-all-branches, bodies, needs))
+    (λ c. search (judge-all-branches, bodies, needs))
+    (λ c. search (judge-all-branches, bodies, needs))
+    (λ c. search (judge-all-branches, bodies, needs))
+    (λ c κs. search (judge-all-branches, bodies, needs))
+    (λ c. search (judge-all-branches, bodies, needs))
+    (λ c. search (judge-all-branches, bodies, needs))
+    (λ c. search (judge-all-branches, bodies, needs))
+    (λ c. search (judge-all-branches, bodies, needs))
+    (λ c. search (judge-all-branches, bodies, needs))
+    (λ c. search (judge-all-branches, bodies, needs)))

@@ -1,5 +1,5 @@
 use Rattle.limits.proofs.BranchTests.{tests}
-use Rattle.vectors_calls.proofs.ByKind.{counts}
+use Rattle.vectors_calls.proofs.ByKind.{with-call-branches}
 use borrow.Author.Needs.{needs}
 use Rattle.vectors_calls.proofs.judge.with_call.Statement.{statement}
 use Rattle.vectors_calls.proofs.judge.with_call.Tie as tie
@@ -20,9 +20,9 @@ with-call-spec =
     (λ c κs. search needs)
     (λ c. search needs)
     (λ c κs. search needs)
-    (λ c. search (counts, tests))
-    (λ c. search (counts, tests))
-    (λ c. search (counts, tests))
-    (λ c. search (counts, tests))
-    (λ c. search (counts, tests))
-    (λ c. search (counts, tests)))
+    (λ c. search (with-call-branches, tests))
+    (λ c. search (with-call-branches, tests))
+    (λ c. search (with-call-branches, tests))
+    (λ c. search (with-call-branches, tests))
+    (λ c. search (with-call-branches, tests))
+    (λ c. search (with-call-branches, tests)))

@@ -1,5 +1,5 @@
 use Rattle.limits.proofs.BranchTests.{tests}
-use Rattle.vectors_calls.proofs.ByKind.{kinds}
+use Rattle.vectors_calls.proofs.ByKind.{kind-of-branches}
 use borrow.Author.Needs.{needs}
 use Rattle.vectors_calls.proofs.kind.kind_of.Statement.{statement}
 use Rattle.vectors_calls.proofs.kind.kind_of.Tie as tie
@@ -10,17 +10,17 @@ kind-of-spec =
     (tie.spec
     (λ c. search needs)
     (λ c κs. search needs)
-    (λ c. search (kinds, tests))
+    (λ c. search (kind-of-branches, tests))
     (λ c. search needs)
     (λ c κs. search needs)
-    (λ c. search (kinds, tests))
+    (λ c. search (kind-of-branches, tests))
     (λ c. search needs)
     (λ c κs. search needs)
-    (λ c. search (kinds, tests))
+    (λ c. search (kind-of-branches, tests))
     (λ c. search needs)
     (λ c κs. search needs)
-    (λ c. search (kinds, tests))
+    (λ c. search (kind-of-branches, tests))
     (λ c. search needs)
     (λ c κs. search needs)
-    (λ c. search (kinds, tests))
-    (λ c. search (kinds, tests)))
+    (λ c. search (kind-of-branches, tests))
+    (λ c. search (kind-of-branches, tests)))

@@ -1,5 +1,5 @@
 use Rattle.limits.proofs.BranchTests.{tests}
-use Rattle.vectors_calls.proofs.ByKind.{tails}
+use Rattle.vectors_calls.proofs.ByKind.{tail-of-branches}
 use borrow.Author.Needs.{needs}
 use Rattle.vectors_calls.proofs.kind.tail_of.Statement.{statement}
 use Rattle.vectors_calls.proofs.kind.tail_of.Tie as tie
@@ -14,9 +14,9 @@ tail-of-spec =
     (λ c. search needs)
     (λ c. search needs)
     (λ c. search needs)
-    (λ c. search (tails, tests))
-    (λ c. search (tails, tests))
-    (λ c. search (tails, tests))
-    (λ c. search (tails, tests))
-    (λ c. search (tails, tests))
-    (λ c. search (tails, tests)))
+    (λ c. search (tail-of-branches, tests))
+    (λ c. search (tail-of-branches, tests))
+    (λ c. search (tail-of-branches, tests))
+    (λ c. search (tail-of-branches, tests))
+    (λ c. search (tail-of-branches, tests))
+    (λ c. search (tail-of-branches, tests)))

@@ -1,5 +1,5 @@
 use Rattle.limits.proofs.BranchTests.{tests}
-use Rattle.vectors_calls.proofs.Trimmed.{lending}
+use Rattle.vectors_calls.proofs.Trimmed.{with-trimmed-branches}
 use borrow.Author.Needs.{needs}
 use Rattle.vectors_calls.proofs.trims.with_trimmed.Statement.{statement}
 use Rattle.vectors_calls.proofs.trims.with_trimmed.Tie as tie
@@ -12,12 +12,12 @@ with-trimmed-spec =
     (λ c κs. search needs)
     (λ c κs. search needs)
     (λ c κs. search needs)
-    (λ c. search (lending, tests))
-    (λ c. search (lending, tests))
+    (λ c. search (with-trimmed-branches, tests))
+    (λ c. search (with-trimmed-branches, tests))
     (λ c κs. search needs)
-    (λ c. search (lending, tests))
+    (λ c. search (with-trimmed-branches, tests))
     (λ c κs. search needs)
     (λ c κs. search needs)
     (λ c. search needs)
     (λ c κs. search needs)
-    (λ c. search (lending, tests)))
+    (λ c. search (with-trimmed-branches, tests)))

@@ -1,4 +1,4 @@
-use Rattle.vectors_formulas.proofs.AnswerBranches.{answers}
+use Rattle.vectors_formulas.proofs.AnswerBranches.{answer-branches}
 use Rattle.limits.proofs.BranchTests.{tests}
 use borrow.Author.Needs.{needs}
 use Rattle.vectors_formulas.proofs.answer.is_answer.Statement.{statement}
@@ -9,9 +9,9 @@ is-answer-spec =
     tie.close
     (tie.spec
     (λ c. search needs)
-    (λ c. search (answers, tests))
+    (λ c. search (answer-branches, tests))
     (λ c κs. search needs)
     (λ c. search needs)
-    (λ c. search (answers, tests))
-    (λ c. search (answers, tests))
-    (λ c. search (answers, tests)))
+    (λ c. search (answer-branches, tests))
+    (λ c. search (answer-branches, tests))
+    (λ c. search (answer-branches, tests)))

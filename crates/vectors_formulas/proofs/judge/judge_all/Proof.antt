@@ -3,7 +3,7 @@ use lib.ListN.{length}
 use borrow.Author.Needs.{needs}
 use Rattle.vectors.proofs.CaseBranches.{bodies}
 use Rattle.vectors.proofs.CounterFacts.{Running}
-use Rattle.vectors_formulas.proofs.FileCounted.{gathered}
+use Rattle.vectors_formulas.proofs.FileCounted.{judge-all-branches}
 use Rattle.vectors_formulas.proofs.judge.judge_all.Statement.{statement}
 use Rattle.vectors_formulas.proofs.judge.judge_all.Tie as tie
 
@@ -19,21 +19,21 @@ judge-all-spec =
     (tie.spec
     Inv-loop
     μ-loop
-    (λ c κs. search (gathered, bodies, needs))
-    (λ c κs. search (gathered, bodies, needs))
-    (λ c. search (gathered, bodies, needs))
-    (λ c. search (gathered, bodies, needs))
-    (λ c. search (gathered, bodies, needs))
-    (λ c. search (gathered, bodies, needs))
-    (λ c κs. search (gathered, bodies, needs))
-    (λ c. search (gathered, bodies, needs))
-    (λ c. search (gathered, bodies, needs))
-    (λ c. search (gathered, bodies, needs))
-    (λ c. search (gathered, bodies, needs))
-    (λ c κs. search (gathered, bodies, needs))
-    (λ c. search (gathered, bodies, needs))
-    (λ c. search (gathered, bodies, needs))
-    (λ c. search (gathered, bodies, needs))
-    (λ c. search (gathered, bodies, needs))
-    (λ c. search (gathered, bodies, needs))
-    (λ c. search (gathered, bodies, needs)))
+    (λ c κs. search (judge-all-branches, bodies, needs))
+    (λ c κs. search (judge-all-branches, bodies, needs))
+    (λ c. search (judge-all-branches, bodies, needs))
+    (λ c. search (judge-all-branches, bodies, needs))
+    (λ c. search (judge-all-branches, bodies, needs))
+    (λ c. search (judge-all-branches, bodies, needs))
+    (λ c κs. search (judge-all-branches, bodies, needs))
+    (λ c. search (judge-all-branches, bodies, needs))
+    (λ c. search (judge-all-branches, bodies, needs))
+    (λ c. search (judge-all-branches, bodies, needs))
+    (λ c. search (judge-all-branches, bodies, needs))
+    (λ c κs. search (judge-all-branches, bodies, needs))
+    (λ c. search (judge-all-branches, bodies, needs))
+    (λ c. search (judge-all-branches, bodies, needs))
+    (λ c. search (judge-all-branches, bodies, needs))
+    (λ c. search (judge-all-branches, bodies, needs))
+    (λ c. search (judge-all-branches, bodies, needs))
+    (λ c. search (judge-all-branches, bodies, needs)))

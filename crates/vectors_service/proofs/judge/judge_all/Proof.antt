@@ -4,7 +4,7 @@ use lib.ListN.{length}
 use Rattle.vectors.specs.Space.{spaceBytes}
 use Rattle.vectors.proofs.CaseBranches.{bodies}
 use Rattle.vectors.proofs.CounterFacts.{Running}
-use Rattle.vectors_service.proofs.FileCounted.{gathered, running-turn}
+use Rattle.vectors_service.proofs.FileCounted.{judge-all-branches, running-turn}
 use Rattle.vectors_service.proofs.judge.judge_all.Statement.{statement}
 use Rattle.vectors_service.proofs.judge.judge_all.Tie as tie
 
@@ -21,21 +21,21 @@ judge-all-spec =
     (tie.spec
     Inv-loop
     μ-loop
-    (λ c κs. search (gathered, bodies, needs))
-    (λ c κs. search (gathered, bodies, needs))
-    (λ c. search (gathered, bodies, needs))
-    (λ c. search (gathered, bodies, needs))
-    (λ c. search (gathered, bodies, needs))
-    (λ c. search (gathered, bodies, needs))
-    (λ c κs. search (gathered, bodies, needs))
-    (λ c. search (gathered, bodies, needs))
-    (λ c. search (gathered, bodies, needs))
-    (λ c. search (gathered, bodies, needs))
-    (λ c. search (gathered, bodies, needs))
-    (λ c. search (gathered, bodies, needs))
-    (λ c κs. search (gathered, bodies, needs))
-    (λ c. search (gathered, bodies, needs))
-    (λ c. search (gathered, bodies, needs))
+    (λ c κs. search (judge-all-branches, bodies, needs))
+    (λ c κs. search (judge-all-branches, bodies, needs))
+    (λ c. search (judge-all-branches, bodies, needs))
+    (λ c. search (judge-all-branches, bodies, needs))
+    (λ c. search (judge-all-branches, bodies, needs))
+    (λ c. search (judge-all-branches, bodies, needs))
+    (λ c κs. search (judge-all-branches, bodies, needs))
+    (λ c. search (judge-all-branches, bodies, needs))
+    (λ c. search (judge-all-branches, bodies, needs))
+    (λ c. search (judge-all-branches, bodies, needs))
+    (λ c. search (judge-all-branches, bodies, needs))
+    (λ c. search (judge-all-branches, bodies, needs))
+    (λ c κs. search (judge-all-branches, bodies, needs))
+    (λ c. search (judge-all-branches, bodies, needs))
+    (λ c. search (judge-all-branches, bodies, needs))
     (λ c. (
       search needs,
       (
@@ -44,13 +44,13 @@ judge-all-spec =
           search needs,
           running-turn _ _ _ _ _ _ _ (search needs)
               (search (
-                gathered,
+                judge-all-branches,
                 c .before .before .before .before .before .before .before .before .before .before .before .before .before
                     .before .loop,
               )) (c .before .with-turn .ensures),
         ),
       ),
     ))
-    (λ c. search (gathered, bodies, needs))
-    (λ c. search (gathered, bodies, needs))
-    (λ c. search (gathered, bodies, needs)))
+    (λ c. search (judge-all-branches, bodies, needs))
+    (λ c. search (judge-all-branches, bodies, needs))
+    (λ c. search (judge-all-branches, bodies, needs)))

@@ -1,5 +1,5 @@
 use Rattle.limits.proofs.BranchTests.{tests}
-use Rattle.vectors_service.proofs.FileCounted.{turns}
+use Rattle.vectors_service.proofs.FileCounted.{with-turn-branches}
 use borrow.Author.Needs.{needs}
 use Rattle.vectors_service.proofs.judge.with_turn.Statement.{statement}
 use Rattle.vectors_service.proofs.judge.with_turn.Tie as tie
@@ -28,19 +28,19 @@ with-turn-spec =
     (λ c. search needs)
     (λ c κs. search needs)
     (λ c. search needs)
-    (λ c. search (turns, tests))
+    (λ c. search (with-turn-branches, tests))
     (λ c. search needs)
-    (λ c. search (turns, tests))
+    (λ c. search (with-turn-branches, tests))
     (λ c. search needs)
-    (λ c. search (turns, tests))
+    (λ c. search (with-turn-branches, tests))
     (λ c. search needs)
-    (λ c. search (turns, tests))
+    (λ c. search (with-turn-branches, tests))
     (λ c. search needs)
-    (λ c. search (turns, tests))
+    (λ c. search (with-turn-branches, tests))
     (λ c. search needs)
-    (λ c. search (turns, tests))
+    (λ c. search (with-turn-branches, tests))
     (λ c. search needs)
-    (λ c. search (turns, tests))
+    (λ c. search (with-turn-branches, tests))
     (λ c. search needs)
-    (λ c. search (turns, tests))
-    (λ c. search (turns, tests)))
+    (λ c. search (with-turn-branches, tests))
+    (λ c. search (with-turn-branches, tests)))

@@ -1,4 +1,4 @@
-use Rattle.verdict_record.proofs.VerdictBranches.{placing}
+use Rattle.verdict_record.proofs.VerdictBranches.{place-of-branches}
 use borrow.Author.Needs.{needs}
 use Rattle.verdict_record.proofs.obligation.place_of.Statement.{statement}
 use Rattle.verdict_record.proofs.obligation.place_of.Tie as tie
@@ -11,7 +11,7 @@ place-of-spec =
     (λ c. search needs)
     (λ c. search needs)
     (λ c. search needs)
-    (λ c. search (placing, needs))
-    (λ c. search (placing, needs))
-    (λ c. search (placing, needs))
-    (λ c. search (placing, needs)))
+    (λ c. search (place-of-branches, needs))
+    (λ c. search (place-of-branches, needs))
+    (λ c. search (place-of-branches, needs))
+    (λ c. search (place-of-branches, needs)))

@@ -1,5 +1,5 @@
 use Rattle.limits.proofs.BranchTests.{tests}
-use Rattle.verdict_record.proofs.TextBranches.{spelling}
+use Rattle.verdict_record.proofs.TextBranches.{put-digits-branches}
 use Prim.Native.Nat.{ℕ, _<_}
 use borrow.Fn.Kinds.{In}
 use borrow.Fn.PlainCycle.{Measures, is, falls, and}
@@ -28,14 +28,14 @@ pub +put-digits-spec : {M : Type 1} → statement M
 +put-digits-spec = close μ-put-digits λ t. put-digits-lts.spec (put-digits-calls t)
     (put-digits-at t)
     put-digits.Post
-    (λ c. search (spelling, tests))
-    (λ c. search (spelling, tests))
-    (λ c. search (spelling, tests))
-    (λ c κs. search (spelling, tests))
-    (λ c. search (spelling, tests))
-    (λ c. search (spelling, tests))
-    (λ c κs. search (spelling, tests))
-    (λ c. search (spelling, tests))
-    (λ c. search (spelling, tests))
-    (λ c κs. search (spelling, tests))
-    (λ c. search (spelling, tests))
+    (λ c. search (put-digits-branches, tests))
+    (λ c. search (put-digits-branches, tests))
+    (λ c. search (put-digits-branches, tests))
+    (λ c κs. search (put-digits-branches, tests))
+    (λ c. search (put-digits-branches, tests))
+    (λ c. search (put-digits-branches, tests))
+    (λ c κs. search (put-digits-branches, tests))
+    (λ c. search (put-digits-branches, tests))
+    (λ c. search (put-digits-branches, tests))
+    (λ c κs. search (put-digits-branches, tests))
+    (λ c. search (put-digits-branches, tests))

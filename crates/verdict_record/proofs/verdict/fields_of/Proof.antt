@@ -1,5 +1,5 @@
 use Rattle.limits.proofs.BranchTests.{tests}
-use Rattle.verdict_record.proofs.VerdictBranches.{numbering}
+use Rattle.verdict_record.proofs.VerdictBranches.{fields-of-branches}
 use borrow.Author.Needs.{needs}
 use Rattle.verdict_record.proofs.verdict.fields_of.Statement.{statement}
 use Rattle.verdict_record.proofs.verdict.fields_of.Tie as tie
@@ -20,7 +20,7 @@ fields-of-spec =
     (λ c κs. search needs)
     (λ c. search needs)
     (λ c κs. search needs)
-    (λ c. search (numbering, tests))
-    (λ c. search (numbering, tests))
-    (λ c. search (numbering, tests))
-    (λ c. search (numbering, tests)))
+    (λ c. search (fields-of-branches, tests))
+    (λ c. search (fields-of-branches, tests))
+    (λ c. search (fields-of-branches, tests))
+    (λ c. search (fields-of-branches, tests)))
