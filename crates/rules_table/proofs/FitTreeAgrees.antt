@@ -326,7 +326,7 @@ module _ (P : Program) (i k : ℕ) (σ : Fill) (d : Holes) (two : 2 ≤ P .range
   flag-same : (p : Pattern Sort.test) (s : Statement) (ps : List Statement) → instT d (patternToTree p) ≡ toTree (inst g σ p)
       → Same s ps (no-flag p)
   flag-same p s ps e = ap (λ (u : Tree). not (occurs (flag (g .x)) [] u)) e
-      ∙ not-of (occurs (flag (g .x)) [] (toTree (inst g σ p))) (only (notFlag (g .x)) (inst g σ p)) (Occurs.no-flag (g .x) (inst g σ p))
+      ∙ not-of (occurs (flag (g .x)) [] (toTree (inst g σ p))) (only (notFlag (g .x)) (inst g σ p)) (OccursAgree.no-flag (g .x) (inst g σ p))
 
   rows-same : (p q : Pattern Sort.test) (s : Statement) (ps : List Statement) → instT d (patternToTree p) ≡ toTree (inst g σ p)
       → instT d (patternToTree q) ≡ toTree (inst g σ q)
