@@ -1,8 +1,8 @@
--- How much an image may hold. What the logic knows too is taken from there.
+-- The greatest counts and sizes that an image may have. A limit that the logic has too is taken from there.
 use Prim.Native.Nat.{ℕ, _+_}
 use Rattle.semantics.specs.Limits as Logic
 
--- values are 0 up to one below the range, which is one of these
+-- "a byte after the register count gives the range, 2 to 16 values"; values are 0 to one below the range
 abbrev pub fewestValues : ℕ
 fewestValues = 2
 
@@ -42,10 +42,10 @@ premises = Logic.premises
 abbrev pub imageBytes : ℕ
 imageBytes = 262144
 
--- the program takes no more
+-- "the program still refuses above 65,535"
 abbrev pub programBytes : ℕ
 programBytes = 65535
 
--- a header, an outline and an obligations record, and what there may be many of
+-- one header, one outline and one obligations record, and the greatest counts of the kinds that repeat
 abbrev pub records : ℕ
 records = 3 + formulas + threads + lines + claims
