@@ -1,4 +1,5 @@
 // Reads of the numbers in a slice of bytes.
+//
 // Each read is total: a byte past the end counts as 0, and a part ends at the latest where the bytes end. So each function equals its
 // definition at every argument, and its callers need no case for a short record.
 ghost use mathlib.Core.Path.{_≡_};
