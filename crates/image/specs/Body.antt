@@ -14,16 +14,19 @@ use Rattle.image_bodies.specs.LineBody as Lines
 use Rattle.image.specs.declared.body.Place.{Place}
 use Rattle.image.specs.declared.body.Place.the-variants.{Header, Formula, Thread, Outline, Line, Obligations, Claim}
 
--- the number of the last formula's record; then those of the last thread, the outline, the last line
+-- the number of the last formula's record
 abbrev pub formulasEnd : Sizes → ℕ
 formulasEnd z = 1 + z .formulas
 
+-- the number of the last thread's record
 abbrev pub threadsEnd : Sizes → ℕ
 threadsEnd z = formulasEnd z + z .threads
 
+-- the number of the outline's record
 abbrev pub outlineAt : Sizes → ℕ
 outlineAt z = threadsEnd z + 1
 
+-- the number of the last line's record
 abbrev pub linesEnd : Sizes → ℕ
 linesEnd z = outlineAt z + z .lines
 

@@ -12,13 +12,15 @@ use Rattle.image_frames.specs.declared.fault.Fault.the-variants.{Body, Number}
 use Rattle.image_frames.specs.declared.fault.Checked.{Checked}
 use Rattle.image_frames.specs.declared.fault.Checked.the-variants.{Passed}
 
--- the counts, a byte each
+-- the number of threads
 abbrev pub threadCount : List ℕ → ℕ
 threadCount b = getD b 0 0
 
+-- the number of words
 abbrev pub wordCount : List ℕ → ℕ
 wordCount b = getD b 1 0
 
+-- the number of registers
 abbrev pub registerCount : List ℕ → ℕ
 registerCount b = getD b 2 0
 

@@ -14,10 +14,11 @@ use Rattle.image_meaning.specs.Formulas.{formula}
 use Rattle.image_meaning.specs.RuleNumbers.{ruleOf}
 use Rattle.image_meaning.specs.Program.{programOf}
 
--- the numbers of a line's left and right formula
+-- the number of a line's left formula
 abbrev pub left : List ℕ → ℕ
 left b = le16 (drop 3 b)
 
+-- the number of a line's right formula
 abbrev pub right : List ℕ → ℕ
 right b = le16 (drop 5 b)
 
