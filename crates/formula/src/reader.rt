@@ -17,7 +17,7 @@ pub struct Counts {
     pub values: u8,
 }
 
-// The faults of a formula as numbers, which are the verdict's codes, and how a result is told from a fault.
+// The faults of a formula as numbers, which are the verdict's codes; and the bound that separates them from positions.
 pub struct Fault {}
 
 impl Fault {

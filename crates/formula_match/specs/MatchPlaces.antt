@@ -36,7 +36,7 @@ abbrev pub heldAt : Bind → ℕ → Same → Root
 heldAt b tpl No = refused b
 heldAt b tpl (Yes p q) = record { kind = 1; tpl = tpl; next = q; bind = b }
 
--- the same position, with the same nesting left
+-- two formulas are at one position, with the same nesting left
 unfoldable pub isThere : ℕ → ℕ → ℕ → ℕ → Bool
 isThere p m q k = cond (eqb p q) (eqb m k) false
 
@@ -83,7 +83,7 @@ rootAt s t i at k b =
 abbrev pub thenMatch : Match → (Match → Match) → Match
 thenMatch m f = cond (m .ok) (f m) m
 
--- from the roots, the parts matched by f one after the other; for a hole, the formula's end
+-- the match of the whole from that of the roots: the parts are matched by f one after the other; a hole ends where the formula does
 abbrev pub grown : (ℕ → ℕ → Bind → Match) → ℕ → Root → Match
 grown f end r =
     cond (eqb (r .kind) 2) (f (r .tpl) (r .next) (r .bind))

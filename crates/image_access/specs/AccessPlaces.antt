@@ -1,4 +1,4 @@
--- Where the code finds what an image says: a formula by its position in the image, a line and an instruction by their numbers and
+-- What an image says as the code finds it: a formula by its position in the image, a line and an instruction by their numbers and
 -- positions.
 use mathlib.Core.Bool.{Bool, true, cond}
 use mathlib.Core.List.{List}
@@ -15,7 +15,7 @@ use Rattle.image_access.specs.declared.line.Line.{Line}
 use Rattle.image_access.specs.declared.acting_instruction.Acting.{Acting}
 use Rattle.image_access.specs.declared.claim.Claimed.{Claimed}
 
--- where the body of the record at position p begins: after its length and its kind. Past the last record there is none
+-- the position of the body of the record at position p: after its length and its kind. Past the last record there is none
 unfoldable pub bodyStart : List ℕ → ℕ → ℕ
 bodyStart s p = cond (ltb p (length s)) (p + 4) (length s)
 

@@ -7,12 +7,12 @@ use Rattle.image_header.specs.declared.sizes.Sizes.{Sizes}
 use Rattle.image_bodies.specs.PointCounts.{pointCountsTo, pointCounts, obligationCount}
 use Rattle.image_access.specs.declared.totals.Totals.{Totals}
 
--- at index t the points of the threads 1 to t, for each t below n
+-- the points of the threads 1 to t at index t, for each t below n
 unfoldable pub pointsBelow : Sizes → List (List ℕ) → ℕ → List ℕ
 pointsBelow z l zero = replicate Limits.threads 0
 pointsBelow z l (suc t) = set (pointsBelow z l t) t (pointCountsTo z l t .points)
 
--- for each thread the points of the threads before it
+-- the points of the threads before each thread
 unfoldable pub pointsBefore : Sizes → List (List ℕ) → List ℕ
 pointsBefore z l = pointsBelow z l Limits.threads
 

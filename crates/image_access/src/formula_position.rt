@@ -4,7 +4,7 @@ ghost use mathlib.Core.Path.{_≡_};
 ghost use Rattle.image_index.specs.IndexTable.{indexOf};
 ghost use Rattle.image_access.specs.AccessPlaces.{bodyStart, formulaAt};
 
-// Where the body of the record at `at` begins: after its length and its kind; the image's end if there is no record.
+// The position of the body of the record at `at`: after its length and its kind; the image's end if there is no record.
 fn body_start(image: &[u8], at: usize) -> usize
     ensures { λ r. ⌜ r ≡ bodyStart (now (image .entry)) at ⌝ }
 {

@@ -19,7 +19,7 @@ cut (suc k) (x ∷ l) = body (x ∷ l) ∷ cut k (drop (2 + le16 (x ∷ l)) (x �
 unfoldable pub bodies : List ℕ → List (List ℕ)
 bodies s = cut Limits.records s
 
--- where the record starts that has i records before it; the image's end where there is none
+-- the position of the record that has i records before it; the image's end where there is none
 unfoldable pub startOf : List ℕ → ℕ → ℕ
 startOf s zero = 0
 startOf s (suc i) = min (length s) (startOf s i + 2 + le16 (drop (startOf s i) s))

@@ -1,9 +1,10 @@
+// The kinds of records, and their order.
 use limits::Limits;
 ghost use mathlib.Core.Path.{_≡_};
 ghost use Prim.Native.Nat.{_≤_};
 ghost use Rattle.image_frames.specs.Kinds.{order};
 
-// The kinds of records, in the order in which an image has them.
+// A kind's number, as a record has it behind its length, and its place in the order in which an image has its records.
 pub struct Kind;
 
 impl Kind {

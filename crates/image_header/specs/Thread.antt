@@ -24,7 +24,7 @@ unfoldable pub cut : ℕ → List ℕ → List Instruction
 cut zero l = []
 cut (suc n) l = instruction l ∷ cut n (drop (instructionSize (getD l 0 0)) l)
 
--- where instruction p begins: after those before it
+-- the position at which instruction p begins: after those before it
 unfoldable pub begins : List ℕ → ℕ → ℕ
 begins l zero = 0
 begins l (suc p) = begins l p + instructionSize (getD l (begins l p) 0)

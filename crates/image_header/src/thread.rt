@@ -30,7 +30,7 @@ pub fn last_point(body: &[u8]) -> usize
     n - 1
 }
 
-// Where the instruction at `point` begins in `body`, the bytes after the point count; found by a walk from the first instruction.
+// The position at which the instruction at `point` begins in `body`, the bytes after the point count; found by a walk from the first one.
 pub fn begins_at(body: &[u8], point: usize) -> usize
     requires { ⌜ point < 256 ⌝ }
     ensures { λ r. ⌜ (r ≡ begins (now (body .entry)) point) × (r ≤ 2560) ⌝ }
@@ -44,7 +44,7 @@ pub fn begins_at(body: &[u8], point: usize) -> usize
     at
 }
 
-// Where the instruction after the one at `point` begins, for a loop over the instructions; `at` and the result count from the first
+// The position at which the instruction after the one at `point` begins, for a loop; `at` and the result count from the first
 // instruction.
 pub fn begins_behind(body: &[u8], point: usize, at: usize) -> usize
     requires { ⌜ (point < 256) × (at ≡ begins (drop 1 (now body)) point) ⌝ }

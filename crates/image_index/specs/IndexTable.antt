@@ -23,7 +23,7 @@ unfoldable pub recordsTo : List ℕ → ℕ → List ℕ
 recordsTo s zero = replicate (tableSize s) 0
 recordsTo s (suc i) = set (recordsTo s i) i (length s - startOf s i)
 
--- where the record after the one at position p starts
+-- the position of the record after the one at position p
 unfoldable pub nextStart : List ℕ → ℕ → ℕ
 nextStart s p = min (length s) (p + 2 + le16 (drop p s))
 
@@ -31,7 +31,7 @@ nextStart s p = min (length s) (p + 2 + le16 (drop p s))
 unfoldable pub isThread : List ℕ → ℕ → Bool
 isThread s p = eqb (le16 (drop (p + 2) s)) 3
 
--- from record i at position p on, the first of n records that is a thread's; without one, the record after them or the image's end
+-- the first of n records, from record i at position p on, that is a thread's; without one, the record after them or the image's end
 unfoldable pub firstFrom : List ℕ → ℕ → ℕ → ℕ → FirstThread
 firstFrom s i p zero = record { number = i; position = p }
 firstFrom s i p (suc n) =
@@ -52,7 +52,7 @@ rowTo l from b (suc p) = set (rowTo l from b p) (from + p) (begins (drop 1 b) p)
 unfoldable pub rowOf : List ℕ → ℕ → List ℕ → List ℕ
 rowOf l from b = rowTo l from b (min Limits.points (lastPoint b))
 
--- where the j-th record after the one at position p starts
+-- the position of the j-th record after the one at position p
 unfoldable pub behind : List ℕ → ℕ → ℕ → ℕ
 behind s p zero = p
 behind s p (suc j) = nextStart s (behind s p j)
@@ -67,6 +67,6 @@ unfoldable pub indexOf : List ℕ → List ℕ
 indexOf s =
     rowsTo s (set (recordsTo s (room s)) (room s) (firstThread s .number)) (room s + 1) (firstThread s .position) Limits.threads
 
--- where the record starts that has i before it; the image's end past the last one that an image may have
+-- the position of the record that has i before it; the image's end past the last one that an image may have
 unfoldable pub placeOf : List ℕ → ℕ → ℕ
 placeOf s i = cond (ltb i Limits.records) (startOf s i) (length s)

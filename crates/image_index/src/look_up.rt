@@ -16,7 +16,7 @@ ghost use Rattle.image_frames.specs.Records.{bodies};
 ghost use Rattle.image_header.specs.Thread.{lastPoint, begins, instructions, nothing};
 ghost use Rattle.image_index.specs.IndexTable.{indexOf, placeOf};
 
-// Where the record starts that has `i` records before it; the image's end if there is none.
+// The position of the record that has `i` records before it; the image's end if there is none.
 pub fn place_of<'a, 'b>(image: &'a [u8], index: &'b [usize], i: usize) -> usize
     requires { ⌜ now index ≡ indexOf (now image) ⌝ }
     ensures { λ r. ⌜ r ≡ placeOf (now (image .entry)) i ⌝ }
@@ -35,7 +35,7 @@ pub fn body_of<'a, 'b>(image: &'a [u8], index: &'b [usize], i: usize) -> &'a [u8
     body_at(image, place_of(image, index, i))
 }
 
-// Where the instruction at `point` of the record `i` begins: from the table for a thread's record, else by a walk.
+// The position at which the instruction at `point` of record `i` begins: from the table for a thread's record, else by a walk.
 fn begins_in<'a, 'b, 'c>(
     image: &'a [u8],
     index: &'b [usize],

@@ -1,4 +1,4 @@
-// Where the instructions of each thread begin: an instruction has five or ten bytes, so its start depends on those before it.
+// The positions at which the instructions of each thread begin. An instruction has five or ten bytes, so they depend on those before it.
 use crate::walk::body_at;
 use crate::walk::next_start;
 use image_frames::kind::Kind;

@@ -6,7 +6,7 @@ ghost use lib.ListN.{drop};
 ghost use Rattle.image_frames.specs.Records.{body};
 ghost use Rattle.image_index.specs.IndexTable.{nextStart};
 
-// Where the record after the one at `at` starts; at most the image's end.
+// The position of the record after the one at `at`; at most the image's end.
 pub fn next_start(image: &[u8], at: usize) -> usize
     ensures { λ r. ⌜ r ≡ nextStart (now (image .entry)) at ⌝ }
 {
