@@ -25,7 +25,7 @@ malformed = 7
 abbrev pub limit : ℕ
 limit = 8
 
--- the fault, or the position end if there is none
+-- the fault, or the position end plus 8 if there is none
 abbrev pub answer : ℕ → ℕ → ℕ
 answer fault end = cond (eqb fault 0) (end + limit) fault
 

@@ -53,7 +53,7 @@ wordAnyRole x = record { codes = setOf (Code.word ∷ Code.unsync ∷ Code.cov �
 abbrev pub flag : ℕ → Query
 flag x = record { codes = setOf (Code.unsync ∷ Code.cov ∷ []); operand = equal; number = x }
 
--- start, "true of the start state only"
+-- start (27)
 abbrev pub start : Query
 start = record { codes = setOf (Code.start ∷ []); operand = any; number = 0 }
 

@@ -13,11 +13,11 @@ use Rattle.formula_compare.specs.Occurs.{occurs, start, shared}
 abbrev pub treeOf : List ℕ → Tree
 treeOf b = parseTree b nesting 0 .tree
 
--- 27 does not occur in it
+-- start (27) does not occur in the formula
 unfoldable pub startless : List ℕ → Bool
 startless b = not (occurs start [] (treeOf b))
 
--- 2, 14 and 15 do not occur in it; nor does 17, which no value or test has
+-- 2, 14 and 15 do not occur in the formula; nor does 17, which no value or test has
 unfoldable pub plain : List ℕ → Bool
 plain b = not (occurs shared [] (treeOf b))
 

@@ -10,7 +10,7 @@ ghost use Rattle.image_index.specs.IndexTable.{indexOf};
 ghost use Rattle.image_bodies.specs.ListBody.{outlinedAt};
 ghost use Rattle.image_bodies.specs.OutlineFormulas.{entries, outlinedOf};
 
-// Entry k says whether formula k is an assertion without start. Entry 0 is of the header, body 0.
+// Entry k says whether formula k is an assertion without start. Entry 0 belongs to the header, which is body 0.
 pub struct Outlined {
     pub on: [bool; Limits::FORMULAS + 1],
 }

@@ -6,7 +6,7 @@ use Rattle.image_frames.specs.declared.fault.Fault.the-variants.{Size, L
 use Rattle.image_frames.specs.declared.fault.Checked.{Checked}
 use Rattle.image_frames.specs.declared.fault.Checked.the-variants.{Passed, Faulty}
 
--- the verdict's code of each fault, as the page's table has it; 23 is the code of exchange and fetch-add
+-- the verdict's code of each fault, as the page's table has it; 23 is "operand names the result register"
 unfoldable pub codeOf : Fault → ℕ
 codeOf Size = 2
 codeOf Length = 3

@@ -32,7 +32,7 @@ claim = 8
 abbrev pub last : ℕ
 last = 7
 
--- the place of a kind in the order: its number, the last place for a claim, one past the last for an unknown kind
+-- the place of a kind in the order: its number up to 6, the last place for a claim, one past the last for any other
 unfoldable pub order : ℕ → ℕ
 order k = cond (eqb k claim) last (cond (ltb obligations k) (last + 1) k)
 

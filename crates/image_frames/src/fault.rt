@@ -1,4 +1,4 @@
-// Why an image is refused, a case for each code of the verdict; `specs/Fault.antt` has the numbers.
+// Why an image is refused: a case for each of the verdict's codes 2 to 9 and 23; `specs/Fault.antt` has the numbers.
 pub enum Fault {
     // The image is empty or longer than the limit.
     Size,

@@ -4,7 +4,7 @@ ghost use mathlib.Core.Path.{_≡_};
 ghost use Prim.Native.Nat.{_≤_};
 ghost use Rattle.image_frames.specs.Kinds.{order};
 
-// A kind's number, as a record has it behind its length, and its place in the order in which an image has its records.
+// The number of each kind, its place in the order in which an image has its records, and how many records there may be.
 pub struct Kind;
 
 impl Kind {
@@ -39,8 +39,8 @@ impl Kind {
     ];
 }
 
-// The place of a kind in the order; one past the last place for an unknown kind above 6. Kind 0 has place 0, of which no record is
-// admitted.
+// The place of a kind in the order: its number up to 6, LAST for a claim, LAST + 1 for any other. No record of kind 0 is admitted: MOST
+// is 0.
 pub fn order_of(kind: usize) -> usize
     ensures { λ r. ⌜ (r ≡ order kind) × (r ≤ 8) ⌝ }
 {

@@ -1,5 +1,4 @@
--- Record 1, the header: threads, words, registers and range, a byte each; "a start value per word; an owning thread per register"; start
--- marks.
+-- Record 1, the header: threads, words, registers, value range, start values, owners and start marks.
 use mathlib.Core.Bool.{Bool, true, cond, _&&_}
 use mathlib.Core.List.{List}
 use Prim.Native.Nat.{ℕ, _+_, _-_}
@@ -36,11 +35,11 @@ counted t b =
     && (within 1 Limits.words (wordCount b)
     && (within 0 Limits.registers (registerCount b) && within Limits.fewestValues Limits.mostValues (valueRange b))))
 
--- a start value per word
+-- "a start value per word"
 unfoldable pub startValues : List ℕ → List ℕ
 startValues b = take (wordCount b) (drop 4 b)
 
--- an owning thread per register
+-- "an owning thread per register"
 unfoldable pub owners : List ℕ → List ℕ
 owners b = take (registerCount b) (drop (4 + wordCount b) b)
 

@@ -90,7 +90,7 @@ pub fn owner_of(body: &[u8], r: usize) -> usize
     nth_byte(l, r)
 }
 
-// Whether register `r` starts at 0. A register that is not there counts as 0 too.
+// Whether register `r` starts at 0. A register that is not there counts as one that does.
 pub fn is_cleared(body: &[u8], r: usize) -> bool
     ensures { λ c. ⌜ c ≡ cleared (now (body .entry)) r ⌝ }
 {

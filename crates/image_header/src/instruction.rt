@@ -8,7 +8,7 @@ ghost use mathlib.Core.Path.{_≡_};
 ghost use Prim.Native.Nat.{_≤_};
 ghost use Rattle.image_header.specs.Instruction.{twofold, pairOperation, firstOperation, instructionSize, half, secondHalf, instruction, fieldsOf, fieldsFit, halfFits, secondFits, ranged};
 
-// The five bytes of a second half: the assignment that an instruction pair makes in the same step.
+// The five bytes of a second half: an assignment that is made in the same step as the first half.
 pub struct Half {
     pub operation: u8,
     pub a: u8,
@@ -34,44 +34,44 @@ pub struct Instruction {
 }
 
 impl Instruction {
-    // register a := formula
+    // Register a := formula.
     pub const ASSIGN: u8 = 0;
 
-    // relaxed load into register a of word b
+    // Relaxed load into register a of word b.
     pub const LOAD: u8 = 1;
 
-    // acquiring load into register a of word b
+    // Acquiring load into register a of word b.
     pub const ACQUIRE: u8 = 2;
 
-    // relaxed store of the formula to word a
+    // Relaxed store of the formula to word a.
     pub const STORE: u8 = 3;
 
-    // releasing store of the formula to word a
+    // Releasing store of the formula to word a.
     pub const RELEASE: u8 = 4;
 
-    // swap of the formula into word a
+    // Swap of the formula into word a.
     pub const SWAP: u8 = 5;
 
-    // branch on the formula to point a
+    // Branch on the formula to point a.
     pub const BRANCH: u8 = 6;
 
-    // swap of the formula into word a; the old value goes into register b
+    // Swap of the formula into word a; the old value goes into register b.
     pub const EXCHANGE: u8 = 7;
 
-    // store of the old value of word a plus the formula; the old value goes into register b
+    // Store of the old value of word a plus the formula; the old value goes into register b.
     pub const FETCH_ADD: u8 = 8;
 
-    // store, releasing store and swap, each with an assignment in the same step
+    // Store, releasing store and swap, each with an assignment in the same step.
     pub const PAIR_STORE: u8 = 9;
 
     pub const PAIR_RELEASE: u8 = 10;
 
     pub const PAIR_SWAP: u8 = 11;
 
-    // two assignments in one step
+    // Two assignments in one step.
     pub const ASSIGN_TWO: u8 = 12;
 
-    // the number of bytes of a half
+    // The number of bytes of a half.
     pub const HALF: usize = 5;
 }
 

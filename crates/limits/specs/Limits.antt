@@ -1,4 +1,4 @@
--- The greatest counts and sizes that an image may have. A limit that the logic has too is taken from there.
+-- The bounds of an image's counts and sizes. A bound that the logic has too is taken from there.
 use Prim.Native.Nat.{ℕ, _+_}
 use Rattle.semantics.specs.Limits as Logic
 

@@ -2,7 +2,7 @@
 pub mod range;
 pub mod read;
 
-// The greatest counts and sizes that an image may have.
+// The bounds of an image's counts and sizes, and of the rows and leaves that a rule may have.
 pub struct Limits;
 
 impl Limits {

@@ -15,7 +15,7 @@ ghost use Rattle.tables_columns.specs.LeafEqual.{stepOf};
 pub struct Walk {}
 
 impl Walk {
-    // The greatest number of nodes walked: the nesting of a formula, since a walk over n nodes uses up at most n levels.
+    // The greatest number of nodes walked. It is the nesting limit, since a walk over n nodes uses up at most n levels.
     pub const NODES: usize = 16;
 }
 

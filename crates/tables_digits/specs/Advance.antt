@@ -1,5 +1,4 @@
--- Rows that advance like digits. A row, "a value for each name .. and true or false for each unsync or cov", is what the field calls a
--- valuation.
+-- Rows that advance like digits. A row, "a value for each name" and flag, is what the field calls a valuation.
 use Prim.Native.Nat.{ℕ, zero, suc, _*_, _≤_, _<_}
 use mathlib.Core.Path.{_≡_}
 use mathlib.Core.List.{List, [], _∷_}

@@ -20,7 +20,7 @@ use Rattle.tables_rows.specs.declared.by_rows.Implications.{Implications
 abbrev pub byNames : ℕ → Reading
 byNames R = record { leaves = setOf (Code.reg ∷ Code.word ∷ Code.unsync ∷ Code.cov ∷ []); range = R }
 
--- "wherever the left test is true the right one must be. At most 4,096 rows". A range below 2 has no rows to try
+-- "wherever the left test is true the right one must be. At most 4,096 rows". A range below 2, which no image has, is refused
 unfoldable pub rowsT : ℕ → Tree → Tree → Bool
 rowsT R u v = cond (ltb R 2) false (everyT (byNames R) Limits.rows [] (record { left = u; right = v }))
 
@@ -32,10 +32,10 @@ tableT ps c = everyT byLeaves (2 ^ Limits.leaves) ps c
 abbrev pub taskOf : Implications → Task
 taskOf p = record { premises = p .count - 1; left = nesting; right = nesting }
 
--- the line
+-- the line, as trees
 abbrev pub lineOf : List ℕ → Implications → ImpT
 lineOf s p = impOf s (p .left) (p .right) (taskOf p) 0
 
--- its premises
+-- the premises of the line, as trees
 abbrev pub premisesOf : List ℕ → Implications → List ImpT
 premisesOf s p = premisesFrom s (p .left) (p .right) (taskOf p) 0

@@ -2,6 +2,6 @@
 pub mod entailment;
 pub mod every_row;
 
-// The two kinds of rules, by rows and by truth table. One fact on rows serves both.
+// What the rules call: by rows, and by truth table. One fact on rows serves both.
 pub mod by_rows;
 pub mod by_table;
