@@ -5,7 +5,7 @@ use limits::read::u8_at;
 ghost use mathlib.Core.Path.{_≡_};
 ghost use Rattle.formula.specs.Tree.{nodeAt};
 
-// A code and its operand (0 where it has none), how many parts it has, and the position past its own bytes.
+// A node: its code and operand (0 where it has none), the number of its parts, and the position past its own bytes.
 pub struct Node {
     pub code: u8,
     pub operand: u8,
@@ -13,7 +13,7 @@ pub struct Node {
     pub next: usize,
 }
 
-// Past the end, a leaf of no bytes.
+// The node at `at`. Past the end it is a leaf of no bytes, so that every walk over a formula is total.
 pub fn node_at(image: &[u8], at: usize) -> Node
     ensures { λ r. ⌜ r ≡ nodeAt (now (image .entry)) at ⌝ }
 {

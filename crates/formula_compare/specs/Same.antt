@@ -1,4 +1,4 @@
--- Comparison of two trees.
+-- Equality of two trees.
 use Prim.Native.Nat.{ℕ}
 use mathlib.Core.List.{List}
 use mathlib.Core.Bool.{Bool, true, false, cond, _&&_}
@@ -10,16 +10,18 @@ use Rattle.formula_compare.specs.declared.same.Pair.the-variants.{Differ
 use Rattle.formula_compare.specs.declared.same.Same.{Same}
 use Rattle.formula_compare.specs.declared.same.Same.the-variants.{Yes, No}
 
+-- the trees are equal: "formulas compared by bytes"
 unfoldable pub sameTree : Tree → Tree → Bool
 sameTree none none = true
 sameTree none (node d p m s) = false
 sameTree (node c o l r) none = false
 sameTree (node c o l r) (node d p m s) = eqb c d && (eqb o p && (sameTree l m && sameTree r s))
 
+-- whether two trees are equal, and the positions past them
 abbrev pub sameOf : ParsedTree → ParsedTree → Same
 sameOf u v = cond (sameTree (u .tree) (v .tree)) (Yes (u .end) (v .end)) No
 
--- two nodes side by side
+-- two nodes compared
 unfoldable pub pairOf : Node → Node → Pair
 pairOf x y =
     cond (eqb (x .code) (y .code))
@@ -28,5 +30,6 @@ pairOf x y =
     Differ)
     Differ
 
+-- the nodes at the positions a and b compared, with m and k levels of nesting left
 unfoldable pub pairAt : List ℕ → ℕ → ℕ → ℕ → ℕ → Pair
 pairAt s a m b k = cond (eqb m 0) (cond (eqb k 0) (Ended a b) Differ) (cond (eqb k 0) Differ (pairOf (nodeAt s a) (nodeAt s b)))

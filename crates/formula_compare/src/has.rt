@@ -1,4 +1,4 @@
-// What is asked of formulas: which names, and in which roles, and `start`.
+// What occurs in a formula: a name in a role, or `start`. Only a search by owners needs the list of owners; the others pass an empty one.
 use crate::occurs::Operand;
 use crate::occurs::Query;
 use crate::occurs::occurs_at;
@@ -18,6 +18,7 @@ impl Roles {
         + (1 << Code::ONE);
 }
 
+// Whether register `number` occurs in the formula at `at`.
 pub fn has_register(image: &[u8], at: usize, left: usize, number: u8) -> bool
     ensures { λ r. ⌜ r ≡ occurs (register number) [] (parseTree (now (image .entry)) left at .tree) ⌝ }
 {
@@ -29,7 +30,7 @@ pub fn has_register(image: &[u8], at: usize, left: usize, number: u8) -> bool
     occurs_at(image, at, left, query, &image[0..0])
 }
 
-// A word in any role.
+// Whether word `number` occurs in the formula at `at` in any role: its value, a flag, or one(x).
 pub fn has_word(image: &[u8], at: usize, left: usize, number: u8) -> bool
     ensures { λ r. ⌜ r ≡ occurs (wordAnyRole number) [] (parseTree (now (image .entry)) left at .tree) ⌝ }
 {
@@ -41,7 +42,7 @@ pub fn has_word(image: &[u8], at: usize, left: usize, number: u8) -> bool
     occurs_at(image, at, left, query, &image[0..0])
 }
 
-// A flag of a word.
+// Whether a flag of word `number`, unsync or cov, occurs in the formula at `at`.
 pub fn has_flag(image: &[u8], at: usize, left: usize, number: u8) -> bool
     ensures { λ r. ⌜ r ≡ occurs (flag number) [] (parseTree (now (image .entry)) left at .tree) ⌝ }
 {
@@ -53,6 +54,7 @@ pub fn has_flag(image: &[u8], at: usize, left: usize, number: u8) -> bool
     occurs_at(image, at, left, query, &image[0..0])
 }
 
+// Whether start occurs in the formula at `at`.
 pub fn has_start(image: &[u8], at: usize, left: usize) -> bool
     ensures { λ r. ⌜ r ≡ occurs start [] (parseTree (now (image .entry)) left at .tree) ⌝ }
 {
@@ -64,7 +66,7 @@ pub fn has_start(image: &[u8], at: usize, left: usize) -> bool
     occurs_at(image, at, left, query, &image[0..0])
 }
 
-// Any word in any role.
+// Whether any word occurs in the formula at `at`, in any role.
 pub fn has_shared(image: &[u8], at: usize, left: usize) -> bool
     ensures { λ r. ⌜ r ≡ occurs shared [] (parseTree (now (image .entry)) left at .tree) ⌝ }
 {
@@ -76,7 +78,7 @@ pub fn has_shared(image: &[u8], at: usize, left: usize) -> bool
     occurs_at(image, at, left, query, &image[0..0])
 }
 
-// A register that the thread does not own.
+// Whether a register that `thread` does not own occurs in the formula at `at`; `owners` has the owner of each register.
 pub fn has_foreign(image: &[u8], at: usize, left: usize, thread: u8, owners: &[u8]) -> bool
     ensures { λ r. ⌜ r ≡ occurs (foreign thread) (now (owners .entry)) (parseTree (now (image .entry)) left at .tree) ⌝ }
 {

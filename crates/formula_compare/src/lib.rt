@@ -1,4 +1,4 @@
-// Formulas of an image compared as they stand: equality and replacement.
+// Comparisons of formulas in an image, in place: equality, substitution, and what occurs in a formula.
 pub mod replace;
 pub mod same;
 

@@ -1,4 +1,4 @@
-// Whether something occurs in a formula.
+// Search for nodes in a formula.
 use formula::code::contains;
 use formula::node::node_at;
 use limits::read::u8_at;
@@ -6,14 +6,15 @@ ghost use mathlib.Core.Path.{_≡_};
 ghost use Rattle.formula.specs.Tree.{parseTree};
 ghost use Rattle.formula_compare.specs.Occurs.{ownerOf, isQueried, foundIn, occurs};
 
-// What is looked for: nodes of some codes, whose operand is anything, is a number, or is a register that a thread of
-// that number does not own.
+// What is looked for: nodes with one of some codes, whose operand is anything, is `number`, or is a register that thread `number` does
+// not own.
 pub struct Query {
     pub codes: u32,
     pub operand: u8,
     pub number: u8,
 }
 
+// Which operands a query looks for.
 pub struct Operand {}
 
 impl Operand {
@@ -24,7 +25,7 @@ impl Operand {
     pub const FOREIGN: u8 = 2;
 }
 
-// Whether it occurs; if not, the position past the formula.
+// The result of a search: found; or not, with the position past the formula.
 pub enum Found {
     Yes,
     No(usize),
@@ -40,6 +41,7 @@ pub fn owner(owners: &[u8], register: u8) -> u8
     u8_at(owners, (register - 1) as usize)
 }
 
+// Whether the query looks for a node with this code and operand.
 pub fn is_queried(query: Query, owners: &[u8], code: u8, operand: u8) -> bool
     ensures { λ r. ⌜ r ≡ isQueried query (now (owners .entry)) code operand ⌝ }
 {
@@ -55,6 +57,7 @@ pub fn is_queried(query: Query, owners: &[u8], code: u8, operand: u8) -> bool
     false
 }
 
+// Searches the formula at `at`, nested at most `left` deep, for a node of the query.
 pub fn find_at(image: &[u8], at: usize, left: usize, query: Query, owners: &[u8]) -> Found
     ensures { λ r. ⌜ r ≡ foundIn query (now (owners .entry)) (parseTree (now (image .entry)) left at) ⌝ }
 {
@@ -79,6 +82,7 @@ pub fn find_at(image: &[u8], at: usize, left: usize, query: Query, owners: &[u8]
     }
 }
 
+// Whether a node of the query occurs in the formula at `at`, nested at most `left` deep.
 pub fn occurs_at(image: &[u8], at: usize, left: usize, query: Query, owners: &[u8]) -> bool
     ensures { λ r. ⌜ r ≡ occurs query (now (owners .entry)) (parseTree (now (image .entry)) left at .tree) ⌝ }
 {

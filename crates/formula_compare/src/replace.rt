@@ -1,4 +1,4 @@
-// Replacement of names by formulas, all at once, compared with what stands there, and never built.
+// Substitution of formulas for names, all at once. Its result is compared with a formula of the image and never built.
 use crate::same::Pair;
 use crate::same::Same;
 use crate::same::pair_at;
@@ -12,13 +12,13 @@ ghost use Rattle.formula.specs.Tree.{parseTree};
 ghost use Rattle.formula_compare.specs.Same.{sameOf};
 ghost use Rattle.formula_compare.specs.Replace.{nameCode, secondAt, hitAt, leafOnly, standsFor, replacedOf};
 
-// What a name is replaced by: the formula at a position, nested at most so deep, or a word's value.
+// What a name is replaced by: the formula at a position, nested at most this deep, or a word's value.
 pub enum Replacing {
     Formula(usize, usize),
     Word(u8),
 }
 
-// The name that is replaced, a word's value or a register, by its number; if there are two, a register besides.
+// A substitution: one name, a word's value or a register, by its number; if `two`, the register `second` besides.
 pub struct Substitution {
     pub word: bool,
     pub number: u8,
@@ -28,19 +28,20 @@ pub struct Substitution {
     pub with: Replacing,
 }
 
-// Whether a node is a name that is replaced: the position past it, and what replaces it.
+// A node under a substitution: a replaced name, with the position past it and what replaces it; or any other node.
 pub enum Hit {
     Name(usize, Replacing),
     Other,
 }
 
+// The code of a name: a word's value or a register.
 pub fn name_code(word: bool) -> u8
     ensures { λ r. ⌜ r ≡ nameCode word ⌝ }
 {
     if word { Code::WORD } else { Code::REG }
 }
 
-// A node that is not the first name.
+// Whether a node that is not the first name of the substitution is the second.
 fn second_hit(node: Node, substitution: Substitution) -> Hit
     ensures { λ r. ⌜ r ≡ secondAt node substitution ⌝ }
 {
@@ -55,6 +56,7 @@ fn second_hit(node: Node, substitution: Substitution) -> Hit
     Hit::Other
 }
 
+// Whether the node at `at` is a name that the substitution replaces.
 pub fn hit_at(image: &[u8], at: usize, left: usize, substitution: Substitution) -> Hit
     ensures { λ r. ⌜ r ≡ hitAt (now (image .entry)) at left substitution ⌝ }
 {
@@ -72,7 +74,7 @@ pub fn hit_at(image: &[u8], at: usize, left: usize, substitution: Substitution) 
     second_hit(node, substitution)
 }
 
-// Whether the code stands at b with this operand. It is a code without parts.
+// Whether the formula at `other_at` is the leaf with this code, which has no parts, and this operand.
 pub fn leaf_stands(image: &[u8], code: u8, number: u8, other_at: usize, other_left: usize) -> Same
     requires { ⌜ partCount code ≡ 0 ⌝ }
     ensures { λ r. ⌜ r ≡ sameOf (leafOnly code number) (parseTree (now (image .entry)) «other_left» «other_at») ⌝ }
@@ -89,7 +91,7 @@ pub fn leaf_stands(image: &[u8], code: u8, number: u8, other_at: usize, other_le
     Same::No
 }
 
-// Whether what replaces the name stands at b.
+// Whether the formula at `other_at` is what replaces a name.
 pub fn stands_at(image: &[u8], replacing: Replacing, other_at: usize, other_left: usize) -> Same
     ensures { λ r. ⌜ r ≡ sameOf (standsFor (now (image .entry)) replacing) (parseTree (now (image .entry)) «other_left» «other_at») ⌝ }
 {
@@ -99,7 +101,7 @@ pub fn stands_at(image: &[u8], replacing: Replacing, other_at: usize, other_left
     }
 }
 
-// Whether the formula at b is the one at a with the names replaced.
+// Whether the formula at `other_at` is the one at `at` after the substitution; if so, the positions past both.
 pub fn replaced_at(
     image: &[u8],
     at: usize,

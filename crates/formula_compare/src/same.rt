@@ -1,11 +1,11 @@
-// Comparison of two formulas. By bytes and as trees is the same, since the bytes are the tree in prefix form.
+// Equality of two formulas. Equality of bytes and of trees is the same, since the bytes are the tree in prefix form.
 use formula::node::Node;
 use formula::node::node_at;
 ghost use mathlib.Core.Path.{_≡_};
 ghost use Rattle.formula.specs.Tree.{parseTree};
 ghost use Rattle.formula_compare.specs.Same.{pairOf, pairAt, sameOf};
 
-// Two nodes side by side: they differ; or they are the same, and where their parts begin.
+// Two nodes compared: they differ; or they are equal with no, one or two parts, and the positions past their own bytes.
 pub enum Pair {
     Differ,
     Ended(usize, usize),
@@ -13,12 +13,13 @@ pub enum Pair {
     Two(usize, usize),
 }
 
-// Whether two formulas are the same, and the positions past them if they are.
+// Whether two formulas are equal, and the positions past them if they are.
 pub enum Same {
     Yes(usize, usize),
     No,
 }
 
+// Compares two nodes.
 pub fn pair_nodes(node: Node, other: Node) -> Pair
     ensures { λ r. ⌜ r ≡ pairOf node other ⌝ }
 {
@@ -37,7 +38,7 @@ pub fn pair_nodes(node: Node, other: Node) -> Pair
     Pair::Two(node.next, other.next)
 }
 
-// The nodes at a and at b, where m and k levels of nesting are left.
+// Compares the nodes at `at` and `other_at`. With no nesting left there is no node, which equals no node alone.
 pub fn pair_at(image: &[u8], at: usize, left: usize, other_at: usize, other_left: usize) -> Pair
     ensures { λ r. ⌜ r ≡ pairAt (now (image .entry)) at left «other_at» «other_left» ⌝ }
 {
@@ -53,7 +54,7 @@ pub fn pair_at(image: &[u8], at: usize, left: usize, other_at: usize, other_left
     pair_nodes(node_at(image, at), node_at(image, other_at))
 }
 
-// Whether the formulas at a, nested at most m deep, and at b, nested at most k deep, are the same.
+// Whether the formulas at `at`, nested at most `left` deep, and at `other_at`, nested at most `other_left` deep, are equal.
 pub fn same_at(image: &[u8], at: usize, left: usize, other_at: usize, other_left: usize) -> Same
     ensures { λ r. ⌜ r ≡ sameOf (parseTree (now (image .entry)) left at) (parseTree (now (image .entry)) «other_left» «other_at») ⌝ }
 {

@@ -1,4 +1,4 @@
--- The matcher by positions: a template and a formula where they stand, the holes by position too.
+-- The matcher by positions: a template and a formula in their bytes, the holes bound to positions.
 use Prim.Native.Nat.{ℕ, zero, suc, _+_, _-_}
 use mathlib.Core.List.{List}
 use mathlib.Core.Bool.{Bool, true, false, _&&_, cond}
@@ -19,25 +19,28 @@ use Rattle.formula_match.specs.declared.bind.Taken.{Taken}
 use Rattle.formula_match.specs.declared.matching.Match.{Match}
 use Rattle.formula_match.specs.declared.matching_whole.Whole.{Whole}
 
--- how many holes there may be for formulas, and for numbers
+-- the number of holes for formulas, and of those for numbers
 abbrev pub holeCount : ℕ
 holeCount = 5
 
+-- the roots do not match
 abbrev pub refused : Bind → Root
 refused b = record { kind = 0; tpl = 0; next = 0; bind = b }
 
--- a hole has taken the formula; where it ends is not known yet
+-- a hole is bound to the formula; where it ends is not known yet
 abbrev pub opened : ℕ → Bind → Root
 opened tpl b = record { kind = 4; tpl = tpl; next = 0; bind = b }
 
+-- a bound hole, by the comparison of its formula with this one
 abbrev pub heldAt : Bind → ℕ → Same → Root
 heldAt b tpl No = refused b
 heldAt b tpl (Yes p q) = record { kind = 1; tpl = tpl; next = q; bind = b }
 
--- one formula at one place, with the same nesting left
+-- two formulas are at one position, with the same nesting left
 unfoldable pub isThere : ℕ → ℕ → ℕ → ℕ → Bool
 isThere p m q k = cond (eqb p q) (eqb m k) false
 
+-- the hole j with the formula at a position: bound if it is free, else compared
 unfoldable pub holeAt : List ℕ → ℕ → ℕ → ℕ → ℕ → Bind → Root
 holeAt s tpl j at k b =
     cond (eqb (getD (b .left) j 0) 0)
@@ -45,6 +48,7 @@ holeAt s tpl j at k b =
     (cond (isThere (getD (b .at) j 0) (getD (b .left) j 0) at k) (opened tpl b)
     (heldAt b tpl (sameOf (parseTree s (getD (b .left) j 0) (getD (b .at) j 0)) (parseTree s k at))))
 
+-- an operand of a template with one of a formula
 unfoldable pub operandOf : ℕ → ℕ → Bind → Taken
 operandOf want has b =
     cond (ltb want firstNumber)
@@ -55,9 +59,11 @@ operandOf want has b =
     (record { ok = false; bind = b }))
     (record { ok = eqb (want - firstNumber) has; bind = b })
 
+-- two equal nodes, and the parts that are left to match
 abbrev pub rooted : Node → Node → Bind → Root
 rooted h x b = record { kind = x .parts + 1; tpl = h .next; next = x .next; bind = b }
 
+-- a node of a template that is no hole with a node of a formula
 unfoldable pub nodeOf : Node → Node → Bind → Root
 nodeOf h x b =
     cond (eqb (h .code) (x .code))
@@ -66,16 +72,18 @@ nodeOf h x b =
     (rooted h x b))
     (refused b)
 
+-- the root of the template at i with the root of the formula at a position
 unfoldable pub rootAt : List ℕ → List ℕ → ℕ → ℕ → ℕ → Bind → Root
 rootAt s t i at k b =
     cond (eqb k 0) (record { kind = 1; tpl = i; next = at; bind = b })
     (cond (ltb (nodeAt t i .code) firstHole) (nodeOf (nodeAt t i) (nodeAt s at) b)
     (cond (ltb (nodeAt t i .code - firstHole) holeCount) (holeAt s (nodeAt t i .next) (nodeAt t i .code - firstHole) at k b) (refused b)))
 
+-- f, if the match succeeded
 abbrev pub thenMatch : Match → (Match → Match) → Match
 thenMatch m f = cond (m .ok) (f m) m
 
--- from the roots, the parts matched by f one after the other; the formula's end, for a hole
+-- the match of the whole from that of the roots: the parts are matched by f one after the other; a hole ends where the formula does
 abbrev pub grown : (ℕ → ℕ → Bind → Match) → ℕ → Root → Match
 grown f end r =
     cond (eqb (r .kind) 2) (f (r .tpl) (r .next) (r .bind))
@@ -83,28 +91,31 @@ grown f end r =
     (cond (eqb (r .kind) 4) (record { ok = true; tpl = r .tpl; next = end; bind = r .bind })
     (record { ok = ltb 0 (r .kind); tpl = r .tpl; next = r .next; bind = r .bind })))
 
+-- the template at i with the formula at a position, nested at most k deep
 unfoldable pub matchAt : List ℕ → List ℕ → ℕ → ℕ → ℕ → Bind → Match
 matchAt s t zero i at b = record { ok = true; tpl = i; next = at; bind = b }
 matchAt s t (suc k) i at b = grown (λ i' at' b'. matchAt s t k i' at' b') (parseTree s (suc k) at .end) (rootAt s t i at (suc k) b)
 
--- all but the formula's end
+-- a match without the formula's end
 abbrev pub wholeOf : Match → Whole
 wholeOf m = record { ok = m .ok; tpl = m .tpl; bind = m .bind }
 
+-- the template at i with the formula at a position, without the formula's end
 unfoldable pub wholeAt : List ℕ → List ℕ → ℕ → ℕ → ℕ → Bind → Whole
 wholeAt s t k i at b = wholeOf (matchAt s t k i at b)
 
+-- f, if the match succeeded
 abbrev pub thenWhole : Whole → (Whole → Whole) → Whole
 thenWhole m f = cond (m .ok) (f m) m
 
--- what the holes have taken, as trees and numbers
+-- the bindings as trees and numbers
 abbrev pub takenOf : List ℕ → Bind → Match.Taken
 takenOf s b = record {
   num = λ j. cond (eqb (getD (b .num) j 0) 0) none (some (getD (b .num) j 0 - 1));
   tree = λ j. cond (eqb (getD (b .left) j 0) 0) none (some (parseTree s (getD (b .left) j 0) (getD (b .at) j 0) .tree));
 }
 
--- a template whose holes are among those that there are
+-- a template has only holes that exist
 unfoldable pub proper : Tree → Bool
 proper Tree.none = true
 proper (Tree.node d o l r) =

@@ -1,5 +1,5 @@
--- Patterns as the code has them: trees with holes. A code from 64 on is a hole for a formula;
--- an operand below 8 is a hole for a number, and 8 + n is the number n.
+-- Templates: patterns of rule schemas as trees with holes, in the code's numbers. A code from 64 on is a hole for a formula; an operand
+-- below 8 is a hole for a number, and 8 + n is the number n.
 use mathlib.Core.Bool.{true, false}
 use mathlib.Core.List.{List, []}
 use Prim.Native.Nat.{ℕ, _+_, _-_}
@@ -13,17 +13,19 @@ use Rattle.formula.specs.Codes.{hasOperand}
 use Rattle.formula.specs.Tree.{Tree, none, node}
 use Rattle.formula_trees.specs.ToTree.{ofTree}
 
--- holes for formulas begin here; the hole for the instruction's formula
+-- the first code that is a hole for a formula
 abbrev pub firstHole : ℕ
 firstHole = 64
 
+-- the number of the hole for the instruction's formula
 abbrev pub formulaHole : ℕ
 formulaHole = 4
 
--- numbers begin here
+-- the operand of the fixed number 0
 abbrev pub firstNumber : ℕ
 firstNumber = 8
 
+-- the hole for each number of a pattern: the instruction's thread t, word x and register r, and u and y, which are any
 abbrev pub numHole : Num → ℕ
 numHole t = 0
 numHole x = 1
@@ -31,9 +33,11 @@ numHole r = 2
 numHole u = 3
 numHole y = 4
 
+-- a hole for a formula, as a tree
 abbrev pub hole : ℕ → Tree
 hole k = node (firstHole + k) 0 none none
 
+-- a pattern as a tree
 abbrev pub patternToTree : {s : Sort} → Pattern s → Tree
 patternToTree (anyA k) = hole k
 patternToTree (anyI k) = hole k
@@ -58,25 +62,26 @@ patternToTree (holds p) = node (byte Code.holds) 0 (patternToTree p) none
 patternToTree (sees n p) = node (byte Code.sees) (numHole n) (patternToTree p) none
 patternToTree start = node (byte Code.start) 0 none none
 
--- the premises of a rule; of rule 20 no shapes
+-- the premises of a rule as shapes; rule 20, which takes any implications, has none
 abbrev pub shapes : Premises → List Shape
 shapes (these l) = l
 shapes implications = []
 
--- what stands in the holes
+-- a value for each hole: a substitution for the schema's metavariables
 pub record Holes : Type 0 where
   pub num : ℕ → ℕ
   pub tree : ℕ → Tree
 
+-- an operand of a node with the code d, filled
 abbrev pub operandT : Holes → ℕ → ℕ → ℕ
 operandT c d o = elim (hasOperand d) [ false ↦ 0 | true ↦ elim (ltb o firstNumber) [ true ↦ c .num o | false ↦ o - firstNumber ] ]
 
--- the template filled
+-- the instance of a template: each hole replaced by its value
 abbrev pub instT : Holes → Tree → Tree
 instT c none = none
 instT c (node d o l m) = elim (leb firstHole d) [ true ↦ c .tree (d - firstHole) | false ↦ node d (operandT c d o) (instT c l) (instT c m) ]
 
--- the same filling for patterns: each hole read as a formula of its sort
+-- the substitution as one for patterns: each hole read as a formula of its sort
 abbrev pub fillOf : Holes → Fill
 fillOf c = record {
   u = c .num (numHole u);

@@ -1,4 +1,4 @@
-// What the holes of a template stand for, and how a hole takes a formula or a number.
+// The bindings of a template's holes, and how a hole takes a formula or a number.
 use formula_compare::same::Same;
 use formula_compare::same::same_at;
 use limits::Limits;
@@ -6,20 +6,20 @@ ghost use mathlib.Core.Path.{_≡_};
 ghost use Prim.Native.Nat.{_<_};
 ghost use Rattle.formula_match.specs.MatchPlaces.{isThere, holeAt, operandOf};
 
-// Codes and operands of templates that are holes.
+// The codes and operands of a template that are holes.
 pub struct Hole {}
 
 impl Hole {
-    // Holes for formulas have the codes from here on.
+    // Codes from this on are holes for formulas.
     pub const FORMULAS: u8 = 64;
-    // An operand below is a hole for a number; any other is the number and this.
+    // An operand below this is a hole for a number; any other is a fixed number plus this.
     pub const NUMBERS: u8 = 8;
-    // How many there may be of each.
+    // The number of holes for formulas, and of those for numbers.
     pub const COUNT: u8 = 5;
 }
 
-// Formulas by position, with the nesting that is left there (0: nothing taken yet), and numbers, each one more than it
-// is (0: nothing taken yet). It is handed on by value at each node, so it is kept small.
+// The bindings of the holes: formulas by position with the nesting left there (0: not bound yet), and numbers plus 1 (0: not bound yet).
+// It is passed by value at each node, so it is kept small.
 pub struct Bind {
     pub at: [usize; 5],
     pub left: [u8; 5],
@@ -27,12 +27,12 @@ pub struct Bind {
 }
 
 impl Bind {
-    // The nesting that is left at a whole formula.
+    // The nesting left at a whole formula.
     pub const WHOLE: u8 = Limits::NESTING as u8;
 }
 
-// What the roots of a template and a formula show. Kind: 0 they differ, 1 all is matched, 2 and 3 one and two parts are left,
-// 4 a hole has taken the formula, and where it ends is not known yet.
+// The result of matching the roots of a template and a formula. Kind: 0 they differ, 1 all is matched, 2 and 3 one and two parts are
+// left, 4 a hole is bound to the formula, whose end is not known yet.
 pub struct Root {
     pub kind: u8,
     pub tpl: usize,
@@ -40,7 +40,7 @@ pub struct Root {
     pub bind: Bind,
 }
 
-// One formula at one place, with the same nesting left: there is nothing to compare.
+// Whether a hole is bound to the formula at this very position with the same nesting left: then nothing has to be compared.
 fn is_there(place: usize, held: u8, at: usize, left: u8) -> bool
     ensures { λ r. ⌜ r ≡ isThere place held at left ⌝ }
 {
@@ -50,7 +50,7 @@ fn is_there(place: usize, held: u8, at: usize, left: u8) -> bool
     false
 }
 
-// A hole takes the formula that comes first, and is compared with those that come later.
+// Matches hole `j` with the formula at `at`: binds the hole if it is free, else compares. `tpl` is the position past the hole.
 pub fn match_hole(image: &[u8], tpl: usize, j: usize, at: usize, left: u8, bind: Bind) -> Root
     requires { ⌜ j < 5 ⌝ }
     ensures { λ r. ⌜ r ≡ holeAt (now (image .entry)) tpl j at left bind ⌝ }
@@ -92,12 +92,13 @@ pub fn match_hole(image: &[u8], tpl: usize, j: usize, at: usize, left: u8, bind:
     }
 }
 
+// Whether an operand fits, and the bindings then.
 pub struct Taken {
     pub ok: bool,
     pub bind: Bind,
 }
 
-// An operand of a template against one of a formula.
+// Matches an operand of a template, `want`, with one of a formula, `has`.
 pub fn match_operand(want: u8, has: u8, bind: Bind) -> Taken
     ensures { λ r. ⌜ r ≡ operandOf want has bind ⌝ }
 {

@@ -1,4 +1,4 @@
-// Formulas of an image matched against templates: formulas in prefix form with holes.
+// Matching of formulas with templates: the formulas of rule schemas in prefix form, with holes for their metavariables.
 pub mod bind;
 pub mod matching;
 pub mod matching_whole;

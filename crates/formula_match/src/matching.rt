@@ -1,4 +1,4 @@
-// The matcher: a template and a formula side by side.
+// The matcher: a template and a formula, node by node.
 use crate::bind::Bind;
 use crate::bind::Hole;
 use crate::bind::Root;
@@ -12,7 +12,7 @@ ghost use mathlib.Core.Path.{_≡_};
 ghost use Prim.Native.Nat.{_<_};
 ghost use Rattle.formula_match.specs.MatchPlaces.{nodeOf, rootAt, matchAt};
 
-// Whether a template fits, the positions past the template and the formula, and what the holes then stand for.
+// Whether a template fits, the positions past the template and the formula, and the bindings of the holes.
 pub struct Match {
     pub ok: bool,
     pub tpl: usize,
@@ -20,7 +20,7 @@ pub struct Match {
     pub bind: Bind,
 }
 
-// A node of a template against one of a formula.
+// Matches a node of a template that is no hole with a node of a formula.
 pub fn match_node(pattern: Node, node: Node, bind: Bind) -> Root
     requires { ⌜ node .parts < 3 ⌝ }
     ensures { λ r. ⌜ r ≡ nodeOf pattern node bind ⌝ }
@@ -59,6 +59,7 @@ pub fn match_node(pattern: Node, node: Node, bind: Bind) -> Root
     }
 }
 
+// Matches the root of the template at `i` with the root of the formula at `at`. With no nesting left there is nothing to match.
 pub fn match_root(image: &[u8], templates: &[u8], i: usize, at: usize, left: u8, bind: Bind) -> Root
     ensures { λ r. ⌜ r ≡ rootAt (now (image .entry)) (now (templates .entry)) i at left bind ⌝ }
 {
@@ -86,7 +87,7 @@ pub fn match_root(image: &[u8], templates: &[u8], i: usize, at: usize, left: u8,
     }
 }
 
-// The formula at a position against the template at i.
+// Matches the template at `i` with the formula at `at`, nested at most `left` deep.
 pub fn match_at(image: &[u8], templates: &[u8], i: usize, at: usize, left: u8, bind: Bind) -> Match
     ensures { λ r. ⌜ r ≡ matchAt (now (image .entry)) (now (templates .entry)) left i at bind ⌝ }
 {

@@ -1,18 +1,18 @@
-// The matcher where nobody asks for the formula's end, which is then not looked for.
+// The matcher for callers that do not need the formula's end, which is then not computed.
 use crate::bind::Bind;
 use crate::matching::match_at;
 use crate::matching::match_root;
 ghost use mathlib.Core.Path.{_≡_};
 ghost use Rattle.formula_match.specs.MatchPlaces.{wholeAt};
 
-// Whether a template fits, the position past it, and what the holes then stand for.
+// Whether a template fits, the position past it, and the bindings of the holes.
 pub struct Whole {
     pub ok: bool,
     pub tpl: usize,
     pub bind: Bind,
 }
 
-// The formula at a position against the template at i.
+// Matches the template at `i` with the formula at `at`, nested at most `left` deep, without the position past the formula.
 pub fn match_whole(
     image: &[u8],
     templates: &[u8],

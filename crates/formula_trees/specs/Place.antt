@@ -14,7 +14,7 @@ use Rattle.formula.specs.Tree.{parseTree}
 use Rattle.formula.specs.declared.reader.Counts.{Counts}
 use Rattle.formula_trees.specs.ToTree.{ofTree}
 
--- the sort of a place; where no code fits, any will do
+-- the sort of a place; where no code fits, any sort will do
 abbrev pub sortAt : ℕ → Sort
 sortAt p =
     cond (eqb p value) Sort.value (cond (eqb p test) Sort.test
@@ -27,11 +27,11 @@ place r Sort.test = cond r regTest test
 place r Sort.interval = interval
 place r Sort.assertion = assertion
 
--- the formula of the place's sort that stands at a position, down to the nesting k
+-- the formula of the place's sort at a position, down to the nesting k
 abbrev pub formulaAt : List ℕ → ℕ → (p : ℕ) → ℕ → Formula (sortAt p)
 formulaAt s k p at = ofTree (sortAt p) (parseTree s k at .tree)
 
--- the bytes from a position to the end of what stands there
+-- the bytes of what is at a position
 abbrev pub bytesAt : List ℕ → ℕ → ℕ → List ℕ
 bytesAt s k at = slice at (parseTree s k at .end) s
 
@@ -39,14 +39,14 @@ bytesAt s k at = slice at (parseTree s k at .end) s
 abbrev pub overRegs : ℕ → Bool
 overRegs p = cond (eqb p regValue) true (eqb p regTest)
 
--- registers alone: in a value or test if asked for, in an assertion under holds
+-- registers alone: in a value or test if r, in an assertion under holds ("test without 2, 14, 15")
 abbrev pub alone : {s : Sort} → Bool → Formula s → Bool
 alone {s = Sort.value} r f = cond r (only isReg f) true
 alone {s = Sort.test} r f = cond r (only isReg f) true
 alone {s = Sort.interval} r f = true
 alone {s = Sort.assertion} r f = plain f
 
--- constants are values; registers, words and threads from 1 to their counts
+-- constants are values; registers, words and threads are from 1 to their counts
 abbrev pub inCounts : {s : Sort} → Counts → Formula s → Bool
 inCounts n (const v) = ltb v (n .values)
 inCounts n (reg r) = within (n .registers) r

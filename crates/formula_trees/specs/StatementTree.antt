@@ -12,7 +12,7 @@ use Rattle.formula.specs.Tree.{Tree}
 use Rattle.formula_compare.specs.Replace.{NoteT}
 use Rattle.formula_trees.specs.ToTree.{toTree, noteT}
 
--- the form of a line, by number
+-- the form of a line, as a number
 abbrev pub inclusion : ℕ
 inclusion = 0
 
@@ -26,11 +26,11 @@ hoare = 2
 abbrev pub paired : ℕ
 paired = 3
 
--- it is about an instruction
+-- the form is about an instruction
 abbrev pub acted : ℕ → Bool
 acted f = leb hoare f
 
--- what a line says
+-- what a line says: its form, the thread and point of a triple, its two formulas
 pub record TreeConclusion : Type 0 where
   pub form : ℕ
   pub thread : ℕ
@@ -38,13 +38,15 @@ pub record TreeConclusion : Type 0 where
   pub left : Tree
   pub right : Tree
 
+-- a statement of the logic, on trees
 abbrev pub concluded : Statement → TreeConclusion
 concluded (Statement.inside i j) = record { form = inclusion; thread = 0; point = 0; left = toTree i; right = toTree j }
 concluded (Statement.implies a b) = record { form = implication; thread = 0; point = 0; left = toTree a; right = toTree b }
 concluded (Statement.triple t k a b) = record { form = hoare; thread = t; point = k; left = toTree a; right = toTree b }
 concluded (Statement.pair t k a b) = record { form = paired; thread = t; point = k; left = toTree a; right = toTree b }
 
--- the instruction of a line: its operation, of a pair the first half's, and that of the whole; notes: what rules 2 and 50 replace
+-- the instruction of a line: `operation` is the first half's of a pair, `whole` the pair's; `notes` are the assignments that rules 2 and
+-- 50 substitute
 pub record Acting : Type 0 where
   pub operation : ℕ
   pub whole : ℕ
@@ -53,6 +55,7 @@ pub record Acting : Type 0 where
   pub formula : Tree
   pub notes : List NoteT
 
+-- an instruction of the logic, on trees
 abbrev pub acting : Instr → Acting
 acting c = record {
   operation = opcode (first c);
@@ -63,13 +66,13 @@ acting c = record {
   notes = map noteT (notesOf c);
 }
 
--- the form of a shape that a rule asks for
+-- the form of a rule schema's shape
 abbrev pub formOf : Shape → ℕ
 formOf (inside p q) = inclusion
 formOf (implies p q) = implication
 formOf (triple p q) = hoare
 formOf (pair p q) = paired
 
--- a triple is for the same thread and point
+-- a line has the form f; if it is a triple, it is for thread i and point k ("premise triples are for c too")
 abbrev pub placed : ℕ → ℕ → ℕ → TreeConclusion → Bool
 placed f i k v = eqb (v .form) f && (not (acted f) || (eqb (v .thread) i && eqb (v .point) k))

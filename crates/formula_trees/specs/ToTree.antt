@@ -11,6 +11,7 @@ use Rattle.semantics.specs.Replace.{Note}
 use Rattle.formula.specs.Tree.{Tree, none, node}
 use Rattle.formula_compare.specs.Replace.{NoteT}
 
+-- a formula as a tree: its code, its operand (0 for none), its parts
 abbrev pub toTree : {s : Sort} → Formula s → Tree
 toTree (const n) = node (byte Code.const) n none none
 toTree (reg n) = node (byte Code.reg) n none none
@@ -35,9 +36,11 @@ toTree (eitherA f g) = node (byte Code.eitherA) 0 (toTree f) (toTree g)
 toTree start = node (byte Code.start) 0 none none
 toTree (holds f) = node (byte Code.holds) 0 (toTree f) none
 
+-- a if the code is k, else b
 abbrev pub case : {A : Type 0} → ℕ → ℕ → A → A → A
 case c k a b = elim (eqb c k) [ true ↦ a | false ↦ b ]
 
+-- a tree read as a formula of a sort. It is total: what does not fit is a constant, false, one or start
 abbrev pub ofTree : (s : Sort) → Tree → Formula s
 ofTree Sort.value none = const 0
 ofTree Sort.test none = Formula.false
@@ -66,6 +69,6 @@ ofTree Sort.assertion (node c o l r) =
 abbrev pub Sorted : Sort → Tree → Type 0
 Sorted s t = toTree (ofTree s t) ≡ t
 
--- what a register is given, as a tree
+-- an assignment, on trees
 abbrev pub noteT : Note → NoteT
 noteT n = record { to = n .to; by = toTree (n .by) }

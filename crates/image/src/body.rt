@@ -1,4 +1,4 @@
-// The body of one record, by its place among the records.
+// The body of one record, checked by its place among the records.
 use image_bodies::claim::check_claim;
 use image_bodies::formula_body::check_formula;
 use image_bodies::line_body::check_line;
@@ -14,7 +14,7 @@ ghost use Rattle.image_index.specs.IndexTable.{indexOf};
 ghost use Rattle.image_bodies.specs.OutlineFormulas.{outlinedOf};
 ghost use Rattle.image.specs.Body.{placeOf, check};
 
-// What a record is: thread t; the line that has so many lines before it.
+// What a record is: of a thread its number, of a line the number of lines before it.
 pub enum Place {
     Header,
     Formula,
@@ -25,7 +25,7 @@ pub enum Place {
     Claim,
 }
 
-// Record i, counted from 1.
+// What record `i` is, counted from 1.
 fn place_of(sizes: Sizes, i: usize) -> Place
     ensures { λ r. ⌜ r ≡ placeOf sizes i ⌝ }
 {
@@ -53,7 +53,7 @@ fn place_of(sizes: Sizes, i: usize) -> Place
     Place::Claim
 }
 
-// Where t thread records were counted.
+// Checks the body of record `i`; `threads` is the number of thread records that the frames counted.
 pub fn check_body<'a, 'b, 'c>(
     image: &'a [u8],
     index: &'b [usize],

@@ -1,4 +1,4 @@
-// All bodies, first to last, behind the frames.
+// The frames of an image, then all its bodies, first to last.
 use crate::body::check_body;
 use image_bodies::outline_formulas::outlined_of;
 use image_frames::fault::Checked;
@@ -17,12 +17,13 @@ ghost use Rattle.image_index.specs.IndexTable.{indexOf};
 ghost use Rattle.image_bodies.specs.OutlineFormulas.{outlinedOf};
 ghost use Rattle.image.specs.Decode.{recordCount, sizesOf, firstFault, decoded};
 
-// The first fault with its record, or how much there is.
+// The first fault of an image with its record, or its sizes.
 pub enum Decoded {
     Refused { fault: Fault, record: usize },
     Sound(Sizes),
 }
 
+// The number of records of an image with these sizes.
 fn record_count(sizes: Sizes) -> usize
     ensures { λ r. ⌜ (r ≡ recordCount sizes) × (r < 1000000) ⌝ }
 {
@@ -33,7 +34,7 @@ fn record_count(sizes: Sizes) -> usize
         + (sizes.claims as usize)
 }
 
-// By the header's bytes and what the frames counted.
+// The sizes of an image: from the header's bytes, and the records that the frames counted.
 fn sizes_of(header: &[u8], formulas: u16, lines: u16, claims: u16) -> Sizes
     ensures { λ r. ⌜ r ≡ sizesOf (now (header .entry)) formulas lines claims ⌝ }
 {
@@ -48,7 +49,7 @@ fn sizes_of(header: &[u8], formulas: u16, lines: u16, claims: u16) -> Sizes
     }
 }
 
-// With the table of formulas that may stand in an outline or a triple.
+// Checks all bodies, first to last; `outlined` says which formulas may be used in an outline or a triple.
 fn check_bodies<'a, 'b, 'c>(
     image: &'a [u8],
     index: &'b [usize],
@@ -75,7 +76,7 @@ fn check_bodies<'a, 'b, 'c>(
     Decoded::Sound(sizes)
 }
 
-// With the index of the records.
+// Checks a whole image, frames before bodies, up to the first fault; `index` is the image's index.
 pub fn decode_image<'a, 'b>(image: &'a [u8], index: &'b [usize]) -> Decoded
     requires { ⌜ now index ≡ indexOf (now image) ⌝ }
     ensures { λ r. ⌜ r ≡ decoded (now (image .entry)) ⌝ }

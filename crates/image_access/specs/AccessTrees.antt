@@ -1,4 +1,4 @@
--- What the code's lines and instructions say, as the trees that stand at their positions in the image.
+-- What the code's lines and instructions say, with the trees at their positions in the image.
 use mathlib.Core.Bool.{cond}
 use mathlib.Core.List.{List, [], _∷_}
 use Prim.Native.Nat.{ℕ}
@@ -19,10 +19,11 @@ use Rattle.formula_trees.specs.StatementTree.{TreeConclusion, inclusion, implic
 use Rattle.image_access.specs.declared.line.Line.{Line}
 use Rattle.image_access.specs.declared.acting_instruction.Acting.{Acting}
 
+-- the tree of the formula at position p
 abbrev pub treeAt : List ℕ → ℕ → Tree
 treeAt s p = parseTree s nesting p .tree
 
--- as in `saying`, an unlisted rule is taken for an inclusion
+-- the form of a line as a number; as in `saying`, an unlisted rule counts as an inclusion
 abbrev pub formNumber : Form → ℕ
 formNumber Triple = hoare
 formNumber Implication = implication
@@ -30,7 +31,7 @@ formNumber Inclusion = inclusion
 formNumber Pair = paired
 formNumber Unlisted = inclusion
 
--- a line of rule 50 where there is no pair is an ordinary triple
+-- the form of a line at an instruction with the operation op: a rule 50 line where there is no pair is an ordinary triple
 abbrev pub spoken : Form → ℕ → ℕ
 spoken Triple op = formNumber Triple
 spoken Implication op = formNumber Implication
@@ -38,6 +39,7 @@ spoken Inclusion op = formNumber Inclusion
 spoken Pair op = cond (pairOperation op) paired hoare
 spoken Unlisted op = formNumber Unlisted
 
+-- what a line concludes, on trees
 abbrev pub concludedAt : List ℕ → Sizes → Line → TreeConclusion
 concludedAt s z v = record {
   form = spoken (formOf (v .rule)) (instructionOf z (bodies s) (v .thread) (v .point) .operation);
@@ -47,16 +49,19 @@ concludedAt s z v = record {
   right = treeAt s (v .right);
 }
 
+-- the assignment of f to the register r, on trees
 abbrev pub givesT : ℕ → Tree → NoteT
 givesT r f = record { to = r; by = f }
 
--- the registers that are set to formulas: of an assignment, of two, of a pair
+-- the assignments of an instruction: of an assignment its own, of operation 12 both, of a pair the second half's
 unfoldable pub notesBy : ℕ → NoteT → NoteT → List NoteT
 notesBy op n m = cond (eqb op Opcode.assign) (n ∷ []) (cond (eqb op Opcode.assignTwo) (n ∷ m ∷ []) (cond (pairOperation op) (m ∷ []) []))
 
+-- the assignments of an instruction, on trees
 abbrev pub notesAt : List ℕ → Acting → List NoteT
 notesAt s a = notesBy (a .whole) (givesT (a .register) (treeAt s (a .formula))) (givesT (a .noted) (treeAt s (a .note)))
 
+-- an instruction of a line, on trees
 abbrev pub actingAt : List ℕ → Acting → Said.Acting
 actingAt s a = record {
   operation = a .operation;

@@ -1,4 +1,4 @@
-// The instruction of a triple: its operation, word and register, where its formula stands; and its second half.
+// The instruction of a triple: its operation, word and register, the position of its formula, and its second half.
 use crate::formula_position::formula_at;
 use image_bodies::instruction_at::instruction_of;
 use image_header::instruction::Instruction;
@@ -10,19 +10,20 @@ ghost use Rattle.image_index.specs.IndexTable.{indexOf};
 ghost use Rattle.image_bodies.specs.RecordPlaces.{instructionOf};
 ghost use Rattle.image_access.specs.AccessPlaces.{registerFirst, actingOf};
 
-// What an instruction has not is 0, and for a formula the end of the image. Of a pair, the operation is the first half's.
+// An instruction by the roles of its fields. A field that the operation does not use is 0, a formula that it lacks the end of the image.
+// Of a pair, `operation` is the first half's and `whole` the pair's.
 pub struct Acting {
     pub operation: u8,
     pub whole: u8,
     pub word: u8,
     pub register: u8,
     pub formula: usize,
-    // The register that is set besides, and what it is given.
+    // The register that the second half sets, and the position of the formula that it is set to.
     pub noted: u8,
     pub note: usize,
 }
 
-// Assignments and loads have their register first.
+// Whether the operation's field a is its register: so it is for assignments and loads.
 fn register_first(operation: u8) -> bool
     ensures { λ r. ⌜ r ≡ registerFirst operation ⌝ }
 {
@@ -32,6 +33,7 @@ fn register_first(operation: u8) -> bool
     operation == Instruction::ASSIGN_TWO
 }
 
+// An instruction with its fields by role and its formulas by position. A branch has neither here.
 fn read_acting<'a, 'b>(image: &'a [u8], index: &'b [usize], instruction: Instruction) -> Acting
     requires { ⌜ now index ≡ indexOf (now image) ⌝ }
     ensures { λ r. ⌜ r ≡ actingOf (now (image .entry)) instruction ⌝ }
@@ -71,7 +73,7 @@ fn read_acting<'a, 'b>(image: &'a [u8], index: &'b [usize], instruction: Instruc
     }
 }
 
-// Of the instruction at point p of thread t.
+// The instruction of thread `t` at `point`, with its fields by role.
 pub fn acting_of<'a, 'b>(
     image: &'a [u8],
     index: &'b [usize],

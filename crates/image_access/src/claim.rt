@@ -1,4 +1,4 @@
-// The claims, by their numbers, from 0.
+// The claims of an image, by their numbers from 0.
 use image_header::sizes::Sizes;
 use image_index::look_up::body_of;
 use limits::read::u8_at;
@@ -10,7 +10,7 @@ ghost use Rattle.image_index.specs.IndexTable.{indexOf};
 ghost use Rattle.image_meaning.specs.Image.{claimBody, claimPlace};
 ghost use Rattle.image_access.specs.AccessPlaces.{claimedIn};
 
-// Two threads with a point each, and the line that bears out that they are never there together.
+// Two threads with a point each, and the line that proves that they are never at these points together.
 pub struct Claimed {
     pub thread: u8,
     pub point: u8,
@@ -19,6 +19,7 @@ pub struct Claimed {
     pub line: usize,
 }
 
+// The body of claim `i`.
 fn claim_body<'a, 'b>(image: &'a [u8], index: &'b [usize], sizes: Sizes, i: usize) -> &'a [u8]
     requires { ⌜ (now index ≡ indexOf (now image)) × (i < 65536) ⌝ }
     ensures { λ r. ⌜ now r ≡ claimBody sizes (bodies (now (image .entry))) i ⌝ }
@@ -30,6 +31,7 @@ fn claim_body<'a, 'b>(image: &'a [u8], index: &'b [usize], sizes: Sizes, i: usiz
     )
 }
 
+// The claim in `body`.
 fn read_claim(body: &[u8]) -> Claimed
     ensures { λ r. ⌜ (r ≡ claimedIn (now (body .entry))) × (r .line < 65536) ⌝ }
 {
@@ -42,6 +44,7 @@ fn read_claim(body: &[u8]) -> Claimed
     }
 }
 
+// Claim `i`, counted from 0.
 pub fn claim_of<'a, 'b>(image: &'a [u8], index: &'b [usize], sizes: Sizes, i: usize) -> Claimed
     requires { ⌜ (now index ≡ indexOf (now image)) × (i < 65536) ⌝ }
     ensures { λ r. ⌜ (r ≡ claimedIn (claimBody sizes (bodies (now (image .entry))) i)) × (r .line < 65536) ⌝ }
@@ -50,7 +53,7 @@ pub fn claim_of<'a, 'b>(image: &'a [u8], index: &'b [usize], sizes: Sizes, i: us
     read_claim(b)
 }
 
-// The number of its record, counted from 1.
+// The record number of claim `i`, counted from 1.
 pub fn claim_place(sizes: Sizes, i: usize) -> usize
     requires { ⌜ i < 65536 ⌝ }
     ensures { λ r. ⌜ r ≡ claimPlace sizes i ⌝ }

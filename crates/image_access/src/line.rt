@@ -15,7 +15,7 @@ ghost use Rattle.image_bodies.specs.Line.{premises};
 ghost use Rattle.image_meaning.specs.Certificate.{lineBody};
 ghost use Rattle.image_access.specs.AccessPlaces.{lineIn};
 
-// What a line says: its rule, thread and point, the positions of its formulas, how many premises it has.
+// A line: its rule, thread and point, the positions of its formulas, and the number of its premises.
 pub struct Line {
     pub rule: u8,
     pub thread: u8,
@@ -25,7 +25,8 @@ pub struct Line {
     pub count: u8,
 }
 
-// The body of line n. An image has no record with such a number as is tested for.
+// The body of line `number`. The first test is never true for a line of an image, and no record has such a number, so that the body is
+// empty either way; it keeps the sum below from overflowing without a precondition.
 fn line_body<'a, 'b>(image: &'a [u8], index: &'b [usize], sizes: Sizes, number: usize) -> &'a [u8]
     requires { ⌜ now index ≡ indexOf (now image) ⌝ }
     ensures { λ r. ⌜ now r ≡ lineBody sizes (bodies (now (image .entry))) number ⌝ }
@@ -40,7 +41,7 @@ fn line_body<'a, 'b>(image: &'a [u8], index: &'b [usize], sizes: Sizes, number: 
     )
 }
 
-// The line in a body.
+// The line in `body`, with its formulas by position.
 fn read_line<'a, 'b>(image: &'a [u8], index: &'b [usize], body: &'a [u8]) -> Line
     requires { ⌜ now index ≡ indexOf (now image) ⌝ }
     ensures { λ r. ⌜ r ≡ lineIn (now (image .entry)) (now (body .entry)) ⌝ }
@@ -57,6 +58,7 @@ fn read_line<'a, 'b>(image: &'a [u8], index: &'b [usize], body: &'a [u8]) -> Lin
     }
 }
 
+// Line `number`, with its formulas by position.
 pub fn line_of<'a, 'b>(image: &'a [u8], index: &'b [usize], sizes: Sizes, number: usize) -> Line
     requires { ⌜ now index ≡ indexOf (now image) ⌝ }
     ensures { λ r. ⌜ r ≡ lineIn (now (image .entry)) (lineBody sizes (bodies (now (image .entry))) number) ⌝ }
@@ -65,7 +67,7 @@ pub fn line_of<'a, 'b>(image: &'a [u8], index: &'b [usize], sizes: Sizes, number
     read_line(image, index, body)
 }
 
-// The premise of line n at an index, from 0; 0 where there is none.
+// The premise of line `number` at index `j`, from 0; 0 where there is none.
 pub fn premise_of<'a, 'b>(
     image: &'a [u8],
     index: &'b [usize],

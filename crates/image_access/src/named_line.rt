@@ -10,7 +10,7 @@ ghost use Rattle.image_index.specs.IndexTable.{indexOf};
 ghost use Rattle.image_access.specs.Totals.{totalsOf};
 ghost use Rattle.image_meaning.specs.Image.{namedLine};
 
-// Obligations count from 0 here; 0 for no line.
+// The line that obligation `i`, counted from 0, names; 0 for no line.
 pub fn named_line<'a, 'b>(
     image: &'a [u8],
     index: &'b [usize],

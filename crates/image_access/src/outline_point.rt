@@ -1,4 +1,4 @@
-// The outline: where the formula of a point stands.
+// The outline: the position of the formula at a point.
 use crate::formula_position::formula_at;
 use crate::totals::Totals;
 use crate::totals::before_thread;
@@ -17,7 +17,8 @@ ghost use Rattle.image_access.specs.Totals.{totalsOf};
 ghost use Rattle.image_meaning.specs.Program.{outlineNumber};
 ghost use Rattle.image_access.specs.AccessPlaces.{formulaAt};
 
-// The last point of thread t. An image has no record with such a number as is tested for.
+// The last point of thread `t`. The first test is never true for a thread of an image, and no record has such a number; it keeps the sum
+// below from overflowing without a precondition.
 pub fn last_point_of<'a, 'b>(image: &'a [u8], index: &'b [usize], sizes: Sizes, t: usize) -> usize
     requires { ⌜ now index ≡ indexOf (now image) ⌝ }
     ensures { λ r. ⌜ (r ≡ lastPoint (threadBody sizes (bodies (now (image .entry))) t)) × (r < 256) ⌝ }
@@ -28,7 +29,8 @@ pub fn last_point_of<'a, 'b>(image: &'a [u8], index: &'b [usize], sizes: Sizes, 
     last_point(body_of(image, index, (sizes.formulas as usize) + t))
 }
 
-// The number of the formula at point p of thread t; 0 where there is none.
+// The number of the formula at `point` of thread `t`; 0 where there is none. The tests against `points` bound the sum without a
+// precondition.
 fn outline_number<'a, 'b>(
     image: &'a [u8],
     index: &'b [usize],
@@ -63,7 +65,7 @@ fn outline_number<'a, 'b>(
     number_at(body, points, k)
 }
 
-// Where that formula stands.
+// The position of the formula at `point` of thread `t`; the end of the image where there is none.
 pub fn outline_at<'a, 'b>(
     image: &'a [u8],
     index: &'b [usize],

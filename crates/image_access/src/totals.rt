@@ -1,4 +1,4 @@
-// Totals over the threads: worked out once, for all look-ups.
+// Totals over the threads of an image, computed once for all look-ups.
 use image_bodies::point_counts::obligations_by;
 use image_bodies::point_counts::point_counts_of;
 use image_header::sizes::Sizes;
@@ -14,14 +14,15 @@ ghost use Rattle.image_index.specs.IndexTable.{indexOf};
 ghost use Rattle.image_bodies.specs.PointCounts.{pointCountsTo};
 ghost use Rattle.image_access.specs.Totals.{pointsBefore, totalsOf};
 
+// The points of all threads, those before each thread, and the obligations.
 pub struct Totals {
     pub points: usize,
-    // The points of the threads before thread t, at t - 1.
+    // The points of the threads before thread t, at index t - 1.
     pub before: [usize; Limits::THREADS],
     pub obligations: usize,
 }
 
-// The points of the threads before thread t: a pointCounts with fewer threads.
+// The points of the threads before thread `t`: the point counts of an image with only those threads.
 fn points_before<'a, 'b>(image: &'a [u8], index: &'b [usize], sizes: Sizes, t: usize) -> usize
     requires { ⌜ (now index ≡ indexOf (now image)) × ((1 ≤ t) × (t ≤ 256)) ⌝ }
     ensures { λ r. ⌜ r ≡ pointCountsTo sizes (bodies (now (image .entry))) (t - 1) .points ⌝ }
@@ -39,7 +40,7 @@ fn points_before<'a, 'b>(image: &'a [u8], index: &'b [usize], sizes: Sizes, t: u
     counts.points
 }
 
-// For each thread that an image may have.
+// Writes, for each thread that an image may have, the points of the threads before it.
 fn fill_before<'a, 'b, 'c>(
     image: &'a [u8],
     index: &'b [usize],
@@ -59,6 +60,7 @@ fn fill_before<'a, 'b, 'c>(
     }
 }
 
+// The totals of an image.
 pub fn totals_of<'a, 'b>(image: &'a [u8], index: &'b [usize], sizes: Sizes) -> Totals
     requires { ⌜ now index ≡ indexOf (now image) ⌝ }
     ensures { λ r. ⌜ r ≡ totalsOf sizes (bodies (now (image .entry))) ⌝ }
@@ -73,7 +75,8 @@ pub fn totals_of<'a, 'b>(image: &'a [u8], index: &'b [usize], sizes: Sizes) -> T
     }
 }
 
-// The same as points_before, read from the totals. An image has no more threads than they know.
+// The points of the threads before thread `t`, from the totals. No image has more threads than the totals hold; the last line serves
+// sizes that no image has.
 pub fn before_thread<'a, 'b>(
     image: &'a [u8],
     index: &'b [usize],

@@ -17,6 +17,7 @@ use Rattle.image_bodies.specs.declared.line.Form.the-variants.{Triple, I
 use Rattle.image_bodies.specs.Line.{formOf, lineNumbers}
 use Rattle.image_bodies.specs.ListBody.{outlinedAt}
 
+-- formula k has the sort s
 unfoldable pub sortAt : List (List ℕ) → ℕ → ℕ → Bool
 sortAt l s k = eqb (sortOf (getD l k [])) s
 
@@ -28,9 +29,10 @@ sortedBy l Inclusion k = sortAt l Codes.interval k
 sortedBy l Pair k = outlinedAt l k
 sortedBy l Unlisted k = true
 
+-- both sides of the line have the sort that its form needs
 unfoldable pub lineSorted : List (List ℕ) → List ℕ → Bool
 lineSorted l b = sortedBy l (formOf (getD b 0 0)) (le16 (drop 3 b)) && sortedBy l (formOf (getD b 0 0)) (le16 (drop 5 b))
 
--- the line that has so many lines before it
+-- codes 5 and 6, then 8, for a line with this number of lines before it
 unfoldable pub line : Sizes → List (List ℕ) → ℕ → List ℕ → Checked
 line z l lower b = also (lineNumbers z l lower b) (unless (lineSorted l b) Sort Passed)

@@ -1,4 +1,4 @@
--- The numbers of rules, by the form of their lines.
+-- The rule numbers, by the form of their lines.
 use Prim.Native.Nat.{ℕ}
 
 abbrev pub firstTriple : ℕ
@@ -19,10 +19,10 @@ firstInclusion = 30
 abbrev pub lastInclusion : ℕ
 lastInclusion = 46
 
--- the triples of exchange and fetch-add follow the last inclusion
+-- the triples of exchange and fetch-add, 47 to 49, follow the last inclusion
 abbrev pub lastResult : ℕ
 lastResult = 49
 
--- the triple for a whole pair
+-- the rule of a triple for a whole pair
 abbrev pub pair : ℕ
 pair = 50

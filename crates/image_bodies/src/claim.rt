@@ -1,4 +1,4 @@
-// A claim: thread, point, other thread, other point (bytes), line (16 bits).
+// A claim record: thread, point, other thread, other point (bytes), line (16 bits).
 use image_frames::fault::Checked;
 use image_frames::fault::Fault;
 use image_header::sizes::Sizes;
@@ -13,7 +13,7 @@ ghost use Rattle.image_frames.specs.Records.{bodies};
 ghost use Rattle.image_index.specs.IndexTable.{indexOf};
 ghost use Rattle.image_bodies.specs.Claim.{pointThere, different, claimed, claim};
 
-// Where its numbers stand, and its length.
+// Positions in a claim's body, and its length.
 pub struct Claim;
 
 impl Claim {
@@ -26,7 +26,7 @@ impl Claim {
     pub const SIZE: usize = 6;
 }
 
-// The thread at an offset is there, and has the point behind it; the last one too.
+// Whether the byte at position `i` is a thread that the image has, and the byte after it one of its points, the last one included.
 fn point_there<'a, 'b>(
     image: &'a [u8],
     index: &'b [usize],
@@ -45,13 +45,14 @@ fn point_there<'a, 'b>(
     false
 }
 
+// Whether the two threads of a claim differ.
 fn are_different(body: &[u8]) -> bool
     ensures { λ r. ⌜ r ≡ different (now (body .entry)) ⌝ }
 {
     byte_at(body, Claim::FIRST) != byte_at(body, Claim::SECOND)
 }
 
-// Every number is in its range.
+// Whether every number of a claim is in its range. Line 0 passes here and fails when the claim is judged (code 26).
 fn claim_fits<'a, 'b>(image: &'a [u8], index: &'b [usize], sizes: Sizes, body: &'a [u8]) -> bool
     requires { ⌜ now index ≡ indexOf (now image) ⌝ }
     ensures { λ r. ⌜ r ≡ claimed sizes (bodies (now (image .entry))) (now (body .entry)) ⌝ }
@@ -66,6 +67,7 @@ fn claim_fits<'a, 'b>(image: &'a [u8], index: &'b [usize], sizes: Sizes, body: &
     false
 }
 
+// Checks the length of a claim's body, then its numbers.
 pub fn check_claim<'a, 'b>(
     image: &'a [u8],
     index: &'b [usize],

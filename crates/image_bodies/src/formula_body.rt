@@ -1,4 +1,4 @@
-// A formula's record: 1 to 255 bytes that the reader takes.
+// A formula's record: 1 to 255 bytes that the reader accepts.
 use formula::reader::Counts;
 use formula::reader::Reading;
 use formula::reader::read_formula;
@@ -10,7 +10,7 @@ use limits::range::in_range;
 ghost use mathlib.Core.Path.{_≡_};
 ghost use Rattle.image_bodies.specs.FormulaBody.{countsOf, faultOf, formula};
 
-// What the reader answers for a number out of range.
+// The fault for a code of the reader: 6 for an operand outside its range, else 7.
 fn fault_of(code: usize) -> Fault
     ensures { λ r. ⌜ r ≡ faultOf code ⌝ }
 {
@@ -20,6 +20,7 @@ fn fault_of(code: usize) -> Fault
     Fault::Formula
 }
 
+// The counts that the reader needs, from the sizes of the image.
 fn counts_of(sizes: Sizes) -> Counts
     ensures { λ r. ⌜ r ≡ countsOf sizes ⌝ }
 {
@@ -31,6 +32,7 @@ fn counts_of(sizes: Sizes) -> Counts
     }
 }
 
+// Checks the length of a formula's record, then its bytes up to the first fault from the left.
 pub fn check_formula(body: &[u8], sizes: Sizes) -> Checked
     ensures { λ r. ⌜ r ≡ formula sizes (now (body .entry)) ⌝ }
 {

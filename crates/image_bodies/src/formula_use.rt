@@ -1,4 +1,4 @@
-// What a formula has to be where it is used.
+// What a formula must be where it is used: its sort, and what must not occur in it.
 use formula::code::Code;
 use formula::code::Place;
 use formula_compare::has::has_shared;
@@ -10,13 +10,14 @@ ghost use lib.Dec.{eqb};
 ghost use Rattle.formula.specs.Reader.{sortOf};
 ghost use Rattle.image_bodies.specs.FormulaUse.{startless, plain, outlined, plainOf};
 
+// Whether the formula in `body` has the sort `sort`, which its first code determines.
 pub fn is_sort(body: &[u8], sort: u8) -> bool
     ensures { λ r. ⌜ r ≡ eqb (sortOf (now (body .entry))) sort ⌝ }
 {
     u8_at(body, 0) / Code::PER_SORT == sort
 }
 
-// Start does not occur in it.
+// Whether start (27) does not occur in the formula.
 fn is_startless(body: &[u8]) -> bool
     ensures { λ r. ⌜ r ≡ startless (now (body .entry)) ⌝ }
 {
@@ -26,7 +27,7 @@ fn is_startless(body: &[u8]) -> bool
     true
 }
 
-// No word's value and no flag occurs in it.
+// Whether no word occurs in the formula, as a value or in a flag (2, 14, 15).
 fn is_plain(body: &[u8]) -> bool
     ensures { λ r. ⌜ r ≡ plain (now (body .entry)) ⌝ }
 {
@@ -36,7 +37,7 @@ fn is_plain(body: &[u8]) -> bool
     true
 }
 
-// An assertion without start.
+// Whether the formula may be used in an outline or a triple: an assertion without start.
 pub fn is_outlined(body: &[u8]) -> bool
     ensures { λ r. ⌜ r ≡ outlined (now (body .entry)) ⌝ }
 {
@@ -46,7 +47,7 @@ pub fn is_outlined(body: &[u8]) -> bool
     false
 }
 
-// A formula of the sort over registers alone.
+// Whether the formula may be used in an instruction: one of this sort, over registers alone.
 pub fn is_plain_of(body: &[u8], sort: u8) -> bool
     ensures { λ r. ⌜ r ≡ plainOf sort (now (body .entry)) ⌝ }
 {

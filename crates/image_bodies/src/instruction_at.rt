@@ -1,4 +1,4 @@
-// The instruction at a thread's point, by the index of records.
+// The instruction at a thread's point, found by the index of the image.
 use image_header::instruction::Instruction;
 use image_header::instruction::NOTHING;
 use image_header::sizes::Sizes;
@@ -8,7 +8,7 @@ ghost use Rattle.image_frames.specs.Records.{bodies};
 ghost use Rattle.image_index.specs.IndexTable.{indexOf};
 ghost use Rattle.image_bodies.specs.RecordPlaces.{instructionOf};
 
-// Where there is none, a branch to point 0.
+// The instruction of thread `t` at `point`; NOTHING, a branch to point 0, where there is none.
 pub fn instruction_of<'a, 'b>(
     image: &'a [u8],
     index: &'b [usize],

@@ -1,4 +1,4 @@
-// A line: rule, thread, point, left and right formula, premise count, premises.
+// A line of the certificate: rule, thread, point, left and right formula, premise count, premises.
 use crate::instruction_at::instruction_of;
 use image_frames::fault::Checked;
 use image_frames::fault::Fault;
@@ -19,7 +19,8 @@ ghost use Rattle.image_index.specs.IndexTable.{indexOf};
 ghost use Rattle.limits.specs.Numbers.{within, every};
 ghost use Rattle.image_bodies.specs.Line.{formOf, premises, lineSize, tripleAt, nowhere, placed, numbered, lineNumbers};
 
-// What a line is: a triple, an implication, an inclusion of intervals, or a triple for a whole pair.
+// What a line says: a triple, an implication, an inclusion of intervals, or a triple for a whole pair; Unlisted if no rule has its
+// number.
 pub enum Form {
     Triple,
     Implication,
@@ -29,7 +30,7 @@ pub enum Form {
 }
 
 impl Form {
-    // The rules of each form.
+    // The rule numbers of each form.
     pub const FIRST_TRIPLE: usize = 1;
 
     pub const LAST_TRIPLE: usize = 16;
@@ -42,13 +43,14 @@ impl Form {
 
     pub const LAST_INCLUSION: usize = 46;
 
-    // Triples of exchange and fetch-add, directly behind.
+    // The last of the triples of exchange and fetch-add, which follow the inclusions.
     pub const LAST_RESULT: usize = 49;
 
-    // The triple for a whole pair.
+    // The rule of a triple for a whole pair.
     pub const PAIR: usize = 50;
 }
 
+// The form of a line, by its rule's number.
 fn form_of(rule: usize) -> Form
     ensures { λ r. ⌜ r ≡ formOf rule ⌝ }
 {
@@ -79,14 +81,14 @@ fn form_of(rule: usize) -> Form
     Form::Unlisted
 }
 
-// The form of the line in a body.
+// The form of the line in `body`.
 pub fn line_form(body: &[u8]) -> Form
     ensures { λ r. ⌜ r ≡ formOf (getD (now (body .entry)) 0 0) ⌝ }
 {
     form_of(byte_at(body, 0))
 }
 
-// The premise at an index, from 0; 0 where there is none.
+// The premise of the line at index `j`, from 0; 0 where there is none.
 pub fn premise(body: &[u8], j: usize) -> usize
     ensures { λ r. ⌜ (r ≡ getD (premises (now (body .entry))) j 0) × (r < 65536) ⌝ }
 {
@@ -94,13 +96,14 @@ pub fn premise(body: &[u8], j: usize) -> usize
     number_at(l, byte_at(body, 7), j)
 }
 
+// The length that the line has by its premise count as written.
 fn line_size(body: &[u8]) -> usize
     ensures { λ r. ⌜ r ≡ lineSize (now (body .entry)) ⌝ }
 {
     8 + 2 * byte_at(body, 7)
 }
 
-// Thread and point of the line have an instruction that is no branch.
+// Whether the line names an instruction that is no branch; a point without an instruction counts as a branch.
 fn triple_placed<'a, 'b>(image: &'a [u8], index: &'b [usize], sizes: Sizes, body: &'a [u8]) -> bool
     requires { ⌜ now index ≡ indexOf (now image) ⌝ }
     ensures { λ r. ⌜ r ≡ tripleAt sizes (bodies (now (image .entry))) (now (body .entry)) ⌝ }
@@ -109,7 +112,7 @@ fn triple_placed<'a, 'b>(image: &'a [u8], index: &'b [usize], sizes: Sizes, body
     instruction.operation != Instruction::BRANCH
 }
 
-// Thread and point of the line are 0.
+// Whether the line's thread and point are 0.
 fn nowhere_placed(body: &[u8]) -> bool
     ensures { λ r. ⌜ r ≡ nowhere (now (body .entry)) ⌝ }
 {
@@ -119,7 +122,7 @@ fn nowhere_placed(body: &[u8]) -> bool
     false
 }
 
-// Thread and point fit the line's form.
+// Whether the line's thread and point fit its form. A line of an unlisted rule fits nowhere.
 fn line_placed<'a, 'b>(image: &'a [u8], index: &'b [usize], sizes: Sizes, body: &'a [u8]) -> bool
     requires { ⌜ now index ≡ indexOf (now image) ⌝ }
     ensures { λ r. ⌜ r ≡ placed sizes (bodies (now (image .entry))) (formOf (getD (now (body .entry)) 0 0)) (now (body .entry)) ⌝ }
@@ -133,7 +136,7 @@ fn line_placed<'a, 'b>(image: &'a [u8], index: &'b [usize], sizes: Sizes, body: 
     }
 }
 
-// The premises have numbers from 1 to a greatest one.
+// Whether every premise is a line number from 1 to `lower`.
 fn premises_fit(body: &[u8], lower: usize) -> bool
     ensures { λ r. ⌜ r ≡ every (within 1 lower) (premises (now (body .entry))) ⌝ }
 {
@@ -141,7 +144,7 @@ fn premises_fit(body: &[u8], lower: usize) -> bool
     numbers_within(l, byte_at(body, 7), 1, lower)
 }
 
-// The formulas are there, and the premises are among the lines before this one.
+// Whether both formulas exist, and the premises, four at most, are among the `lower` lines before this one.
 fn line_numbered(body: &[u8], sizes: Sizes, lower: usize) -> bool
     ensures { λ r. ⌜ r ≡ numbered sizes lower (now (body .entry)) ⌝ }
 {
@@ -155,7 +158,7 @@ fn line_numbered(body: &[u8], sizes: Sizes, lower: usize) -> bool
     false
 }
 
-// The line that has so many lines before it.
+// Checks the length and the numbers of a line that has `lower` lines before it.
 pub fn check_line_numbers<'a, 'b>(
     image: &'a [u8],
     index: &'b [usize],

@@ -1,4 +1,4 @@
-// A line's record: its numbers, then its formulas.
+// A line's record: its numbers, then the sorts of its formulas.
 use crate::formula_use::is_sort;
 use crate::line::Form;
 use crate::line::check_line_numbers;
@@ -16,6 +16,7 @@ ghost use Rattle.image_index.specs.IndexTable.{indexOf};
 ghost use Rattle.image_bodies.specs.OutlineFormulas.{outlinedOf};
 ghost use Rattle.image_bodies.specs.LineBody.{sortAt, sortedBy, lineSorted, line};
 
+// Whether formula `number` has the sort `sort`.
 fn formula_of_sort<'a, 'b>(image: &'a [u8], index: &'b [usize], sort: u8, number: usize) -> bool
     requires { ⌜ now index ≡ indexOf (now image) ⌝ }
     ensures { λ r. ⌜ r ≡ sortAt (bodies (now (image .entry))) sort number ⌝ }
@@ -24,7 +25,7 @@ fn formula_of_sort<'a, 'b>(image: &'a [u8], index: &'b [usize], sort: u8, number
     is_sort(body, sort)
 }
 
-// Formula k may be a side of a line of this form.
+// Whether formula `number` may be a side of a line of this form. An unlisted rule is refused before, with code 6.
 fn formula_fits<'a, 'b, 'c>(
     image: &'a [u8],
     index: &'b [usize],
@@ -45,6 +46,7 @@ fn formula_fits<'a, 'b, 'c>(
     }
 }
 
+// Whether both sides of the line have the sort that its form needs.
 fn line_sorted<'a, 'b, 'c>(
     image: &'a [u8],
     index: &'b [usize],
@@ -64,7 +66,7 @@ fn line_sorted<'a, 'b, 'c>(
     false
 }
 
-// The line that has so many lines before it.
+// Checks a line that has `lower` lines before it: its numbers, then its formulas.
 pub fn check_line<'a, 'b, 'c>(
     image: &'a [u8],
     index: &'b [usize],

@@ -15,7 +15,7 @@ ghost use Rattle.image_bodies.specs.PointCounts.{pointCounts};
 ghost use Rattle.image_bodies.specs.ListBody.{outlinedAt, outline, obligations};
 ghost use Rattle.image_bodies.specs.OutlineFormulas.{outlinedOf};
 
-// Each of n formulas is an assertion without start.
+// Whether each of the `n` formulas that `body` names is an assertion without start.
 fn all_outlined<'a, 'b, 'c>(
     image: &'a [u8],
     index: &'b [usize],
@@ -39,6 +39,7 @@ fn all_outlined<'a, 'b, 'c>(
     true
 }
 
+// Checks the outline: its length and numbers, then that each formula is an assertion without start.
 pub fn check_outline<'a, 'b, 'c>(
     image: &'a [u8],
     index: &'b [usize],
@@ -61,7 +62,7 @@ pub fn check_outline<'a, 'b, 'c>(
     }
 }
 
-// The points of all threads.
+// The number of points of all threads.
 pub fn count_points<'a, 'b>(image: &'a [u8], index: &'b [usize], sizes: Sizes) -> usize
     requires { ⌜ now index ≡ indexOf (now image) ⌝ }
     ensures { λ r. ⌜ r ≡ pointCounts sizes (bodies (now (image .entry))) .points ⌝ }
@@ -70,6 +71,7 @@ pub fn count_points<'a, 'b>(image: &'a [u8], index: &'b [usize], sizes: Sizes) -
     counts.points
 }
 
+// Checks the obligations record: a line number, or 0 for none, per obligation.
 pub fn check_obligations<'a, 'b>(
     image: &'a [u8],
     index: &'b [usize],

@@ -1,5 +1,5 @@
-// Which formulas may stand in an outline or a triple. Many lines may name one formula, so this is found out once for
-// each formula, and a look-up costs the same however long the formula is.
+// Which formulas may be used in an outline or a triple. Many lines may name one formula, so the test is made once per formula, and a
+// look-up takes the same time however long the formula is.
 use crate::formula_use::is_outlined;
 use image_header::sizes::Sizes;
 use image_index::look_up::body_of;
@@ -10,12 +10,12 @@ ghost use Rattle.image_index.specs.IndexTable.{indexOf};
 ghost use Rattle.image_bodies.specs.ListBody.{outlinedAt};
 ghost use Rattle.image_bodies.specs.OutlineFormulas.{entries, outlinedOf};
 
-// Entry k: formula k is an assertion without start. Entry 0 is the header's.
+// Entry k says whether formula k is an assertion without start. Entry 0 belongs to the header, which is body 0.
 pub struct Outlined {
     pub on: [bool; Limits::FORMULAS + 1],
 }
 
-// How many entries are filled.
+// The number of entries that are filled: one per formula and the header's, at most as many as the table has.
 fn entry_count(sizes: Sizes) -> usize
     ensures { λ r. ⌜ r ≡ entries sizes ⌝ }
 {
@@ -25,6 +25,7 @@ fn entry_count(sizes: Sizes) -> usize
     (sizes.formulas as usize) + 1
 }
 
+// Tests every formula of the image once.
 pub fn outlined_of<'a, 'b>(image: &'a [u8], index: &'b [usize], sizes: Sizes) -> Outlined
     requires { ⌜ now index ≡ indexOf (now image) ⌝ }
     ensures { λ r. ⌜ r .on ≡ outlinedOf sizes (bodies (now (image .entry))) ⌝ }
@@ -42,7 +43,7 @@ pub fn outlined_of<'a, 'b>(image: &'a [u8], index: &'b [usize], sizes: Sizes) ->
     use_of
 }
 
-// Formula k. With a number that no formula has, the body is looked at.
+// Whether formula `number` is an assertion without start: from the table, or from the body for a number that has no entry.
 pub fn formula_outlined<'a, 'b, 'c>(
     image: &'a [u8],
     index: &'b [usize],

@@ -1,4 +1,4 @@
-// How many points and how many obligations there are.
+// The number of points and of obligations of an image.
 use image_header::instruction::Instruction;
 use image_header::sizes::Sizes;
 use image_header::thread::begins_behind;
@@ -12,7 +12,8 @@ ghost use Rattle.image_index.specs.IndexTable.{indexOf};
 ghost use Rattle.image_header.specs.Thread.{lastPoint, instructions};
 ghost use Rattle.image_bodies.specs.PointCounts.{isBranch, branches, threadCounts, plus, pointCounts, Small, obligationsBy, obligationCount};
 
-// Sums over threads: of points, of obligations by steps, of actions, and of a thread's points times its own actions.
+// Sums over threads: points, obligations by own steps (classes 2 and 3), actions (instructions that are no branch), and points times own
+// actions.
 pub struct PointCounts {
     pub points: usize,
     pub steps: usize,
@@ -20,6 +21,7 @@ pub struct PointCounts {
     pub own: usize,
 }
 
+// 1 for a branch, 0 for any other instruction: a summand of `branches_of`.
 fn is_branch(instruction: Instruction) -> usize
     ensures { λ r. ⌜ (r ≡ isBranch instruction) × (r ≤ 1) ⌝ }
 {
@@ -29,6 +31,7 @@ fn is_branch(instruction: Instruction) -> usize
     0
 }
 
+// The number of branches in a thread's body.
 fn branches_of(body: &[u8]) -> usize
     ensures { λ r. ⌜ (r ≡ branches (instructions (now (body .entry)))) × (r ≤ lastPoint (now (body .entry))) ⌝ }
 {
@@ -45,7 +48,7 @@ fn branches_of(body: &[u8]) -> usize
     n
 }
 
-// Of one thread.
+// The counts of one thread.
 pub fn thread_counts(body: &[u8]) -> PointCounts
     ensures { λ r. ⌜ (r ≡ threadCounts (now (body .entry))) × Small 1 r ⌝ }
 {
@@ -59,6 +62,7 @@ pub fn thread_counts(body: &[u8]) -> PointCounts
     }
 }
 
+// The sums of two counts, field by field.
 fn both(counts: PointCounts, other: PointCounts) -> PointCounts
     requires { ⌜ Small 256 counts × Small 1 other ⌝ }
     ensures { λ r. ⌜ r ≡ plus counts other ⌝ }
@@ -71,7 +75,7 @@ fn both(counts: PointCounts, other: PointCounts) -> PointCounts
     }
 }
 
-// Of all threads.
+// The counts of all threads of an image, summed.
 pub fn point_counts_of<'a, 'b>(image: &'a [u8], index: &'b [usize], sizes: Sizes) -> PointCounts
     requires { ⌜ now index ≡ indexOf (now image) ⌝ }
     ensures { λ r. ⌜ (r ≡ pointCounts sizes (bodies (now (image .entry)))) × Small 256 r ⌝ }
@@ -93,8 +97,8 @@ pub fn point_counts_of<'a, 'b>(image: &'a [u8], index: &'b [usize], sizes: Sizes
     c
 }
 
-// How many obligations so many threads with these sums have: for each thread its start; the steps; each point with each action of
-// another thread.
+// The number of obligations of `threads` threads with these counts: one start per thread (class 1), the steps (2 and 3), and each point
+// with each action of another thread (4).
 pub fn obligations_by(threads: u8, counts: PointCounts) -> usize
     requires { ⌜ Small 256 counts × (counts .own ≤ counts .points * counts .actions) ⌝ }
     ensures { λ r. ⌜ r ≡ obligationsBy threads counts ⌝ }
@@ -102,7 +106,7 @@ pub fn obligations_by(threads: u8, counts: PointCounts) -> usize
     (threads as usize) + counts.steps + (counts.points * counts.actions - counts.own)
 }
 
-// Of an image.
+// The number of obligations of an image.
 pub fn count_obligations<'a, 'b>(image: &'a [u8], index: &'b [usize], sizes: Sizes) -> usize
     requires { ⌜ now index ≡ indexOf (now image) ⌝ }
     ensures { λ r. ⌜ r ≡ obligationCount sizes (bodies (now (image .entry))) ⌝ }

@@ -22,7 +22,7 @@ ghost use Rattle.image_index.specs.IndexTable.{indexOf};
 ghost use Rattle.image_header.specs.Thread.{instructions};
 ghost use Rattle.image_bodies.specs.ThreadBody.{wanted, formulaSorted, sorted, target, registerOwned, formulaOwned, owned, resultAbsent, threadRegisters, thread};
 
-// The sort of an instruction's formula.
+// The sort that an operation's formula must have: a test for a branch, else a value.
 fn expected_sort(operation: u8) -> u8
     ensures { λ r. ⌜ r ≡ wanted operation ⌝ }
 {
@@ -32,7 +32,7 @@ fn expected_sort(operation: u8) -> u8
     Place::VALUE
 }
 
-// Formula k, if there is one, is of the sort over registers alone.
+// Whether formula `number` is one of this sort over registers alone; true for 0, which is no formula.
 fn formula_sorted<'a, 'b>(image: &'a [u8], index: &'b [usize], sort: u8, number: usize) -> bool
     requires { ⌜ now index ≡ indexOf (now image) ⌝ }
     ensures { λ r. ⌜ r ≡ formulaSorted (bodies (now (image .entry))) sort number ⌝ }
@@ -44,7 +44,7 @@ fn formula_sorted<'a, 'b>(image: &'a [u8], index: &'b [usize], sort: u8, number:
     is_plain_of(body, sort)
 }
 
-// The formulas of both halves.
+// Whether the formulas of both halves have the sort that their operation needs.
 fn instruction_sorted<'a, 'b>(image: &'a [u8], index: &'b [usize], instruction: Instruction) -> bool
     requires { ⌜ now index ≡ indexOf (now image) ⌝ }
     ensures { λ r. ⌜ r ≡ sorted (bodies (now (image .entry))) instruction ⌝ }
@@ -60,7 +60,7 @@ fn instruction_sorted<'a, 'b>(image: &'a [u8], index: &'b [usize], instruction: 
     false
 }
 
-// The register that an instruction sets by itself; 0 for none.
+// The register that an instruction sets by itself, not by its second half; 0 for none.
 fn target_of(instruction: Instruction) -> u8
     ensures { λ r. ⌜ r ≡ target instruction ⌝ }
 {
@@ -79,7 +79,7 @@ fn target_of(instruction: Instruction) -> u8
     instruction.a
 }
 
-// Register r, if there is one, is the thread's.
+// Whether thread `t` owns register `r`; true for 0, which is no register.
 fn register_owned<'a, 'b>(image: &'a [u8], index: &'b [usize], t: u8, r: u8) -> bool
     requires { ⌜ now index ≡ indexOf (now image) ⌝ }
     ensures { λ q. ⌜ q ≡ registerOwned (bodies (now (image .entry))) t r ⌝ }
@@ -91,7 +91,7 @@ fn register_owned<'a, 'b>(image: &'a [u8], index: &'b [usize], t: u8, r: u8) -> 
     owner_of(header, r as usize) == (t as usize)
 }
 
-// The registers of formula k, if there is one, are the thread's.
+// Whether thread `t` owns every register in formula `number`; true for 0, which is no formula.
 fn formula_owned<'a, 'b>(image: &'a [u8], index: &'b [usize], t: u8, number: usize) -> bool
     requires { ⌜ now index ≡ indexOf (now image) ⌝ }
     ensures { λ r. ⌜ r ≡ formulaOwned (bodies (now (image .entry))) t number ⌝ }
@@ -108,7 +108,7 @@ fn formula_owned<'a, 'b>(image: &'a [u8], index: &'b [usize], t: u8, number: usi
     true
 }
 
-// The registers of both halves.
+// Whether thread `t` owns every register that both halves name.
 fn instruction_owned<'a, 'b>(
     image: &'a [u8],
     index: &'b [usize],
@@ -128,7 +128,7 @@ fn instruction_owned<'a, 'b>(
     false
 }
 
-// The operand of an exchange or a fetch-add lacks its result register.
+// Whether the operand of an exchange or a fetch-add lacks its result register; true for any other operation.
 fn result_absent<'a, 'b>(image: &'a [u8], index: &'b [usize], instruction: Instruction) -> bool
     requires { ⌜ now index ≡ indexOf (now image) ⌝ }
     ensures { λ r. ⌜ r ≡ resultAbsent (bodies (now (image .entry))) instruction ⌝ }
@@ -146,6 +146,7 @@ fn result_absent<'a, 'b>(image: &'a [u8], index: &'b [usize], instruction: Instr
     true
 }
 
+// Whether the formulas of every instruction have the sort that they need.
 fn instructions_sorted<'a, 'b>(image: &'a [u8], index: &'b [usize], body: &'a [u8]) -> bool
     requires { ⌜ now index ≡ indexOf (now image) ⌝ }
     ensures { λ r. ⌜ r ≡ every (sorted (bodies (now (image .entry)))) (instructions (now (body .entry))) ⌝ }
@@ -165,6 +166,7 @@ fn instructions_sorted<'a, 'b>(image: &'a [u8], index: &'b [usize], body: &'a [u
     true
 }
 
+// Whether thread `t` owns every register that its instructions name.
 fn instructions_owned<'a, 'b>(image: &'a [u8], index: &'b [usize], t: u8, body: &'a [u8]) -> bool
     requires { ⌜ now index ≡ indexOf (now image) ⌝ }
     ensures { λ r. ⌜ r ≡ every (owned (bodies (now (image .entry))) t) (instructions (now (body .entry))) ⌝ }
@@ -184,6 +186,7 @@ fn instructions_owned<'a, 'b>(image: &'a [u8], index: &'b [usize], t: u8, body: 
     true
 }
 
+// Whether no exchange or fetch-add names its result register in its operand.
 fn results_absent<'a, 'b>(image: &'a [u8], index: &'b [usize], body: &'a [u8]) -> bool
     requires { ⌜ now index ≡ indexOf (now image) ⌝ }
     ensures { λ r. ⌜ r ≡ every (resultAbsent (bodies (now (image .entry)))) (instructions (now (body .entry))) ⌝ }
@@ -203,7 +206,7 @@ fn results_absent<'a, 'b>(image: &'a [u8], index: &'b [usize], body: &'a [u8]) -
     true
 }
 
-// The registers that the instructions name.
+// Checks the registers that the instructions name: another thread's is code 9, a result register in its own operand code 23.
 fn check_registers<'a, 'b>(image: &'a [u8], index: &'b [usize], t: u8, body: &'a [u8]) -> Checked
     requires { ⌜ now index ≡ indexOf (now image) ⌝ }
     ensures { λ r. ⌜ r ≡ threadRegisters (bodies (now (image .entry))) t (now (body .entry)) ⌝ }
@@ -217,7 +220,7 @@ fn check_registers<'a, 'b>(image: &'a [u8], index: &'b [usize], t: u8, body: &'a
     Checked::Faulty(Fault::Owner)
 }
 
-// Thread t.
+// Checks the record of thread `t`: its numbers (codes 5 and 6), the sorts of its formulas (8), its registers (9, then 23).
 pub fn check_thread<'a, 'b>(
     image: &'a [u8],
     index: &'b [usize],

@@ -1,4 +1,4 @@
--- Faults: their codes in the verdict, and checks one after the other.
+-- Faults: their codes in the verdict, and checks in sequence.
 use mathlib.Core.Bool.{Bool, true, false}
 use Prim.Native.Nat.{ℕ}
 use Rattle.image_frames.specs.declared.fault.Fault.{Fault}
@@ -6,6 +6,7 @@ use Rattle.image_frames.specs.declared.fault.Fault.the-variants.{Size, L
 use Rattle.image_frames.specs.declared.fault.Checked.{Checked}
 use Rattle.image_frames.specs.declared.fault.Checked.the-variants.{Passed, Faulty}
 
+-- the verdict's code of each fault, as the page's table has it; 23 is "operand names the result register"
 unfoldable pub codeOf : Fault → ℕ
 codeOf Size = 2
 codeOf Length = 3
@@ -17,7 +18,7 @@ codeOf Sort = 8
 codeOf Owner = 9
 codeOf Operand = 23
 
--- the fault, unless the test is passed
+-- c if the test is passed, else the fault f
 unfoldable pub unless : Bool → Fault → Checked → Checked
 unless true f c = c
 unless false f c = Faulty f

@@ -1,4 +1,4 @@
--- The kinds of records, in the order in which they come, and how many there may be of each.
+-- The kinds of records, in the order in which an image has them, and how many records there may be of each.
 use mathlib.Core.Bool.{cond}
 use mathlib.Core.List.{[], _∷_}
 use Prim.Native.Nat.{ℕ, _+_}
@@ -24,18 +24,18 @@ line = 5
 abbrev pub obligations : ℕ
 obligations = 6
 
--- claims come behind the obligations; there is no kind 7
+-- "claim records of kind 8 after the obligations"; kind 7 is the verdict's
 abbrev pub claim : ℕ
 claim = 8
 
--- their place in the order, which is the last one
+-- the place of claims in the order, which is the last one
 abbrev pub last : ℕ
 last = 7
 
--- the place of a kind in the order: its number, and of a claim the last one; past it for a kind that there is not
+-- the place of a kind in the order: its number up to 6, the last place for a claim, one past the last for any other
 unfoldable pub order : ℕ → ℕ
 order k = cond (eqb k claim) last (cond (ltb obligations k) (last + 1) k)
 
--- how many records there may be at each place; there is no kind 0
+-- the greatest number of records at each place; place 0 is no kind's
 unfoldable pub most : ℕ → ℕ
 most k = getD (0 ∷ 1 ∷ Limits.formulas ∷ Limits.threads ∷ 1 ∷ Limits.lines ∷ 1 ∷ Limits.claims ∷ []) k 0

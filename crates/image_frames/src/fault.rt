@@ -1,18 +1,18 @@
-// Why an image is refused. `specs/Fault.antt` gives the verdict's code for each.
+// Why an image is refused: a case for each of the verdict's codes 2 to 9 and 23; `specs/Fault.antt` has the numbers.
 pub enum Fault {
-    // The image is empty or too long.
+    // The image is empty or longer than the limit.
     Size,
-    // A record's length is cut short, too small or past the end.
+    // The length of a record is cut short, below 2 or past the end of the image.
     Length,
-    // A record's kind is unknown, misplaced, too often there or missing.
+    // The kind of a record is unknown, misplaced, repeated too often, or missing at the end of the image.
     Kind,
-    // A body is too short or too long.
+    // A body is too short or too long for its counts, or a formula has not 1 to 255 bytes.
     Body,
-    // A number is out of its range, or an unused field is not 0.
+    // A number is outside its range, an unused field is not 0, or the header's threads are not those of the thread records.
     Number,
     // The bytes of a formula are malformed.
     Formula,
-    // A formula is of the wrong sort where it is used.
+    // A formula has the wrong sort where it is used, or has start, a word or a flag where it may not.
     Sort,
     // An instruction names another thread's register.
     Owner,
@@ -20,7 +20,7 @@ pub enum Fault {
     Operand,
 }
 
-// What a check of a part of the image answers.
+// The result of checking a part of the image: passed, or its first fault.
 pub enum Checked {
     Passed,
     Faulty(Fault),

@@ -8,13 +8,13 @@ ghost use mathlib.Core.Path.{_≡_};
 ghost use lib.ListN.{length, drop};
 ghost use Rattle.image_frames.specs.Frames.{admit, frame};
 
-// The kind of the last record, by its place in the order, and how many there are of each.
+// What the walk over the frames has seen: the last record's kind, by its place in the order, and the number of records of each kind.
 pub struct Seen {
     pub last: usize,
     pub count: [u16; 8],
 }
 
-// A record of this place in the order comes: the last one once more or the next one, and not too often.
+// Checks that a record whose kind has place `kind` in the order may follow: the last kind again or the next one, and not too often.
 pub fn admit_kind(last: usize, count: &[u16], kind: usize) -> Checked
     requires { ⌜ length (now count) ≡ 8 ⌝ }
     ensures { λ r. ⌜ r ≡ admit (record { last = last; count = now (count .entry) }) kind ⌝ }
@@ -34,7 +34,7 @@ pub fn admit_kind(last: usize, count: &[u16], kind: usize) -> Checked
     Checked::Faulty(Fault::Kind)
 }
 
-// The frame of the record at a position.
+// Checks the frame of the record at position `at`: its length, then its kind after the records seen so far.
 pub fn frame_at<'a, 'b>(image: &'a [u8], at: usize, last: usize, count: &'b [u16]) -> Checked
     requires { ⌜ length (now count) ≡ 8 ⌝ }
     ensures { λ r. ⌜ r ≡ frame (record { last = last; count = now (count .entry) }) (drop at (now (image .entry))) ⌝ }

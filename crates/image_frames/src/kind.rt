@@ -1,9 +1,10 @@
+// The kinds of records, and their order.
 use limits::Limits;
 ghost use mathlib.Core.Path.{_≡_};
 ghost use Prim.Native.Nat.{_≤_};
 ghost use Rattle.image_frames.specs.Kinds.{order};
 
-// The kinds of records, in the order in which they come.
+// The number of each kind, its place in the order in which an image has its records, and how many records there may be.
 pub struct Kind;
 
 impl Kind {
@@ -19,13 +20,13 @@ impl Kind {
 
     pub const OBLIGATIONS: usize = 6;
 
-    // Claims come behind the obligations; there is no kind 7.
+    // Claim records follow the obligations record; kind 7 is the verdict's, so no record of an image has it.
     pub const CLAIM: usize = 8;
 
-    // Their place in the order, which is the last one; that of any other kind is its number.
+    // The place of claims in the order, which is the last one. The place of any other kind is its number.
     pub const LAST: usize = 7;
 
-    // How many records there may be at each place; there is no kind 0.
+    // The greatest number of records at each place in the order. Place 0 is no kind's.
     pub const MOST: [u16; 8] = [
         0,
         1,
@@ -38,7 +39,8 @@ impl Kind {
     ];
 }
 
-// The place of a kind in the order; past the last one for a kind that there is not.
+// The place of a kind in the order: its number up to 6, LAST for a claim, LAST + 1 for any other. No record of kind 0 is admitted: MOST
+// is 0.
 pub fn order_of(kind: usize) -> usize
     ensures { λ r. ⌜ (r ≡ order kind) × (r ≤ 8) ⌝ }
 {

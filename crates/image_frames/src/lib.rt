@@ -1,4 +1,4 @@
-// The frames of an image's records: codes 2 to 4 of the verdict, and where each record's body stands.
+// Record frames of an image: codes 2 to 4 of the verdict, and where each record's body is.
 pub mod fault;
 pub mod frame;
 pub mod kind;

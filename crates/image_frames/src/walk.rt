@@ -1,4 +1,4 @@
-// All frames of an image, first to last.
+// The walk over all frames of an image, first to last.
 use crate::fault::Checked;
 use crate::fault::Fault;
 use crate::frame::Seen;
@@ -10,7 +10,7 @@ use limits::read::u16_at;
 ghost use mathlib.Core.Path.{_≡_};
 ghost use Rattle.image_frames.specs.Frames.{ended, frames, wholeImage};
 
-// The first fault of the frames with its record, or how many records there are of the kinds that may repeat.
+// The first fault of the frames with its record, or the number of records of each kind that may repeat.
 pub enum Framing {
     Refused {
         fault: Fault,
@@ -24,7 +24,7 @@ pub enum Framing {
     },
 }
 
-// The image ends where record i would come.
+// The result where the image ends and record `i` would come next: a missing kind is a fault of that record.
 fn end_of(i: usize, seen: Seen) -> Framing
     ensures { λ r. ⌜ r ≡ ended i seen ⌝ }
 {
@@ -42,6 +42,7 @@ fn end_of(i: usize, seen: Seen) -> Framing
     }
 }
 
+// Checks all frames; record `i` is at position `at`.
 fn walk_frames(image: &[u8]) -> Framing
     ensures { λ r. ⌜ r ≡ frames (now (image .entry)) ⌝ }
 {
@@ -68,7 +69,7 @@ fn walk_frames(image: &[u8]) -> Framing
     end_of(i, c)
 }
 
-// The whole image's size, then its frames.
+// Checks the size of the image, then all its frames.
 pub fn read_frames(image: &[u8]) -> Framing
     ensures { λ r. ⌜ r ≡ wholeImage (now (image .entry)) ⌝ }
 {

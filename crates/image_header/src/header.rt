@@ -1,5 +1,5 @@
-// The header: how many threads, words and registers there are, how many values; a start value per word; an owning thread
-// and a start mark per register.
+// The header: the numbers of threads, words, registers and values; a start value per word; an owning thread and a start mark per
+// register.
 use image_frames::fault::Checked;
 use image_frames::fault::Fault;
 use limits::Limits;
@@ -14,7 +14,7 @@ ghost use mathlib.Core.Path.{_≡_};
 ghost use Rattle.limits.specs.Numbers.{nth};
 ghost use Rattle.image_header.specs.Header.{valueRange, headerSize, counted, startValues, owners, marks, cleared, headed, header};
 
-// Where its numbers stand, a byte each; the lists are behind them.
+// Positions in the header's body: four counts of a byte each, then the lists.
 pub struct Header;
 
 impl Header {
@@ -29,6 +29,7 @@ impl Header {
     pub const LISTS: usize = 4;
 }
 
+// The length that the header has by its counts as written.
 fn header_size(body: &[u8]) -> usize
     ensures { λ r. ⌜ r ≡ headerSize (now (body .entry)) ⌝ }
 {
@@ -36,12 +37,14 @@ fn header_size(body: &[u8]) -> usize
     Header::LISTS + byte_at(body, Header::WORDS) + registers + registers
 }
 
+// The list of start values, a byte per word.
 fn start_values(body: &[u8]) -> &[u8]
     ensures { λ r. ⌜ now r ≡ startValues (now (body .entry)) ⌝ }
 {
     part(body, Header::LISTS, byte_at(body, Header::WORDS))
 }
 
+// The list of owners: for each register the number of its thread.
 pub fn owners_of(body: &[u8]) -> &[u8]
     ensures { λ r. ⌜ now r ≡ owners (now (body .entry)) ⌝ }
 {
@@ -52,6 +55,7 @@ pub fn owners_of(body: &[u8]) -> &[u8]
     )
 }
 
+// The list of start marks, a byte per register: 1 if it starts at 0, 0 if it starts anywhere.
 fn marks_of(body: &[u8]) -> &[u8]
     ensures { λ r. ⌜ now r ≡ marks (now (body .entry)) ⌝ }
 {
@@ -63,14 +67,14 @@ fn marks_of(body: &[u8]) -> &[u8]
     )
 }
 
-// How many values there are.
+// The value range: values are 0 to one below it.
 pub fn range_of(body: &[u8]) -> u8
     ensures { λ r. ⌜ r ≡ valueRange (now (body .entry)) ⌝ }
 {
     u8_at(body, Header::RANGE)
 }
 
-// The start value of a word.
+// The start value of word `x`; 0 for a word that is not there.
 pub fn start_value(body: &[u8], x: usize) -> u8
     ensures { λ r. ⌜ r ≡ nth (startValues (now (body .entry))) x 0 ⌝ }
 {
@@ -78,7 +82,7 @@ pub fn start_value(body: &[u8], x: usize) -> u8
     nth_byte(values, x) as u8
 }
 
-// The thread that owns a register.
+// The thread that owns register `r`; 0 for a register that is not there.
 pub fn owner_of(body: &[u8], r: usize) -> usize
     ensures { λ t. ⌜ t ≡ nth (owners (now (body .entry))) r 0 ⌝ }
 {
@@ -86,7 +90,7 @@ pub fn owner_of(body: &[u8], r: usize) -> usize
     nth_byte(l, r)
 }
 
-// A register starts at 0: its mark says so, or it is not there.
+// Whether register `r` starts at 0. A register that is not there counts as one that does.
 pub fn is_cleared(body: &[u8], r: usize) -> bool
     ensures { λ c. ⌜ c ≡ cleared (now (body .entry)) r ⌝ }
 {
@@ -97,7 +101,7 @@ pub fn is_cleared(body: &[u8], r: usize) -> bool
     true
 }
 
-// The counts and the range; t thread records follow.
+// Whether the counts and the range are within the limits, with as many threads as there are thread records (`threads`).
 fn counts_fit(body: &[u8], threads: usize) -> bool
     ensures { λ r. ⌜ r ≡ counted threads (now (body .entry)) ⌝ }
 {
@@ -118,7 +122,7 @@ fn counts_fit(body: &[u8], threads: usize) -> bool
     false
 }
 
-// Every number of the header is in its range.
+// Whether every number of the header is in its range.
 fn header_fits(body: &[u8], threads: usize) -> bool
     ensures { λ r. ⌜ r ≡ headed threads (now (body .entry)) ⌝ }
 {
@@ -135,6 +139,7 @@ fn header_fits(body: &[u8], threads: usize) -> bool
     false
 }
 
+// Checks the header's length, then its numbers; `threads` is the number of thread records.
 pub fn check_header(body: &[u8], threads: usize) -> Checked
     ensures { λ r. ⌜ r ≡ header threads (now (body .entry)) ⌝ }
 {

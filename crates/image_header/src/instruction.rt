@@ -8,7 +8,7 @@ ghost use mathlib.Core.Path.{_≡_};
 ghost use Prim.Native.Nat.{_≤_};
 ghost use Rattle.image_header.specs.Instruction.{twofold, pairOperation, firstOperation, instructionSize, half, secondHalf, instruction, fieldsOf, fieldsFit, halfFits, secondFits, ranged};
 
-// Five bytes: the assignment that goes with an instruction.
+// The five bytes of a second half: an assignment that is made in the same step as the first half.
 pub struct Half {
     pub operation: u8,
     pub a: u8,
@@ -16,7 +16,7 @@ pub struct Half {
     pub formula: usize,
 }
 
-// For an instruction without one.
+// The second half of an instruction that has none.
 pub const NO_HALF: Half = Half {
     operation: 0,
     a: 0,
@@ -24,6 +24,7 @@ pub const NO_HALF: Half = Half {
     formula: 0,
 };
 
+// An instruction as the image has it; operations without a second half have NO_HALF.
 pub struct Instruction {
     pub operation: u8,
     pub a: u8,
@@ -33,46 +34,48 @@ pub struct Instruction {
 }
 
 impl Instruction {
-    // register a := formula
+    // Register a := formula.
     pub const ASSIGN: u8 = 0;
 
-    // load into register a of word b, the second one acquiring
+    // Relaxed load into register a of word b.
     pub const LOAD: u8 = 1;
 
+    // Acquiring load into register a of word b.
     pub const ACQUIRE: u8 = 2;
 
-    // store of the formula to word a, the second one releasing
+    // Relaxed store of the formula to word a.
     pub const STORE: u8 = 3;
 
+    // Releasing store of the formula to word a.
     pub const RELEASE: u8 = 4;
 
-    // swap of the formula into word a
+    // Swap of the formula into word a.
     pub const SWAP: u8 = 5;
 
-    // branch on the formula to point a
+    // Branch on the formula to point a.
     pub const BRANCH: u8 = 6;
 
-    // swap of the formula into word a, the old value into register b
+    // Swap of the formula into word a; the old value goes into register b.
     pub const EXCHANGE: u8 = 7;
 
-    // store of the old value of word a plus the formula, the old value into register b
+    // Store of the old value of word a plus the formula; the old value goes into register b.
     pub const FETCH_ADD: u8 = 8;
 
-    // store, releasing store, swap, each with an assignment in one step
+    // Store, releasing store and swap, each with an assignment in the same step.
     pub const PAIR_STORE: u8 = 9;
 
     pub const PAIR_RELEASE: u8 = 10;
 
     pub const PAIR_SWAP: u8 = 11;
 
-    // two assignments in one step
+    // Two assignments in one step.
     pub const ASSIGN_TWO: u8 = 12;
 
-    // the bytes of a half
+    // The number of bytes of a half.
     pub const HALF: usize = 5;
 }
 
-// What stands at a point without an instruction: a branch to point 0.
+// The instruction at a point that has none: a branch to point 0.
 pub const NOTHING: Instruction = Instruction {
     operation: Instruction::BRANCH,
     a: 0,
@@ -81,19 +84,20 @@ pub const NOTHING: Instruction = Instruction {
     second: NO_HALF,
 };
 
+// The range of a field, both ends included.
 pub struct Range {
     pub low: usize,
     pub high: usize,
 }
 
-// The range of each field.
+// The range of each field of an instruction.
 pub struct Fields {
     pub a: Range,
     pub b: Range,
     pub formula: Range,
 }
 
-// The operation has a second half.
+// Whether the operation has a second half: operations 9 to 12.
 pub fn is_twofold(operation: u8) -> bool
     ensures { λ r. ⌜ r ≡ twofold operation ⌝ }
 {
@@ -103,7 +107,7 @@ pub fn is_twofold(operation: u8) -> bool
     operation <= Instruction::ASSIGN_TWO
 }
 
-// A store, a releasing store or a swap with an assignment.
+// Whether the operation is a store, a releasing store or a swap paired with an assignment: operations 9 to 11.
 pub fn is_pair(operation: u8) -> bool
     ensures { λ r. ⌜ r ≡ pairOperation operation ⌝ }
 {
@@ -113,7 +117,7 @@ pub fn is_pair(operation: u8) -> bool
     operation <= Instruction::PAIR_SWAP
 }
 
-// The operation of a pair's first half; of any other instruction its own.
+// The operation of a pair's first half; any other operation is its own.
 pub fn first_operation(operation: u8) -> u8
     ensures { λ r. ⌜ r ≡ firstOperation operation ⌝ }
 {
@@ -129,7 +133,7 @@ pub fn first_operation(operation: u8) -> u8
     operation
 }
 
-// How many bytes an instruction has, by its operation; an unknown one is taken for one half.
+// The number of bytes of an instruction, by its operation; an unknown operation has five.
 pub fn instruction_size(operation: u8) -> usize
     ensures { λ r. ⌜ (r ≡ instructionSize operation) × (r ≤ 10) ⌝ }
 {
@@ -139,6 +143,7 @@ pub fn instruction_size(operation: u8) -> usize
     Instruction::HALF
 }
 
+// The half in the first five bytes of `body`.
 fn read_half(body: &[u8]) -> Half
     ensures { λ r. ⌜ r ≡ half (now (body .entry)) ⌝ }
 {
@@ -150,7 +155,7 @@ fn read_half(body: &[u8]) -> Half
     }
 }
 
-// What goes with the instruction in front of the bytes.
+// The second half of the instruction at the start of `body`; NO_HALF if its operation has none.
 fn second_half(operation: u8, body: &[u8]) -> Half
     ensures { λ r. ⌜ r ≡ secondHalf operation (now (body .entry)) ⌝ }
 {
@@ -161,7 +166,7 @@ fn second_half(operation: u8, body: &[u8]) -> Half
     NO_HALF
 }
 
-// The instruction in front of the bytes.
+// The instruction at the start of `body`.
 pub fn read_instruction(body: &[u8]) -> Instruction
     ensures { λ r. ⌜ r ≡ instruction (now (body .entry)) ⌝ }
 {
@@ -175,6 +180,7 @@ pub fn read_instruction(body: &[u8]) -> Instruction
     }
 }
 
+// The ranges of the fields a, b and formula, in this order.
 fn three(first: Range, second: Range, formula: Range) -> Fields
     ensures { λ r. ⌜ r ≡ record { a = first; b = second; formula = formula } ⌝ }
 {
@@ -185,7 +191,7 @@ fn three(first: Range, second: Range, formula: Range) -> Fields
     }
 }
 
-// The fields of an operation in a thread with this last point. An unknown operation has no field a that fits.
+// The ranges of an operation's fields in a thread whose last point is `last`. For an unknown operation field a has an empty range.
 pub fn fields_of(operation: u8, last: usize, sizes: Sizes) -> Fields
     ensures { λ r. ⌜ r ≡ fieldsOf operation last sizes ⌝ }
 {
@@ -228,6 +234,7 @@ pub fn fields_of(operation: u8, last: usize, sizes: Sizes) -> Fields
     three(nowhere, unused, formula)
 }
 
+// Whether the three fields are in their ranges.
 fn fields_fit(instruction: Instruction, fields: Fields) -> bool
     ensures { λ r. ⌜ r ≡ fieldsFit instruction fields ⌝ }
 {
@@ -239,7 +246,7 @@ fn fields_fit(instruction: Instruction, fields: Fields) -> bool
     false
 }
 
-// A second half is an assignment.
+// Whether a second half is an assignment with its fields in range.
 fn half_fits(half: Half, sizes: Sizes) -> bool
     ensures { λ r. ⌜ r ≡ halfFits sizes half ⌝ }
 {
@@ -254,7 +261,7 @@ fn half_fits(half: Half, sizes: Sizes) -> bool
     false
 }
 
-// The second half, if there is one. Two assignments are to different registers.
+// Whether the second half, if the operation has one, is in range; the registers of two assignments must differ.
 fn second_fits(instruction: Instruction, sizes: Sizes) -> bool
     ensures { λ r. ⌜ r ≡ secondFits sizes instruction ⌝ }
 {
@@ -271,7 +278,7 @@ fn second_fits(instruction: Instruction, sizes: Sizes) -> bool
     true
 }
 
-// Every field is in its range.
+// Whether every field of the instruction, and of its second half, is in its range.
 pub fn instruction_fits(instruction: Instruction, last: usize, sizes: Sizes) -> bool
     ensures { λ r. ⌜ r ≡ ranged last sizes instruction ⌝ }
 {

@@ -1,9 +1,9 @@
-// What the header of an image says: codes 5 and 6, and look-ups that are total.
+// The header and the thread records of an image: their numbers (codes 5 and 6), and total look-ups in them.
 pub mod header;
 
-// Instructions: their bytes, and the ranges of their numbers, code 6.
+// Instructions: their bytes, and the ranges of their fields (code 6).
 pub mod instruction;
 pub mod sizes;
 
-// The threads: their points, and their instructions one behind another; codes 5 and 6.
+// Thread records: the point count and the instructions in sequence (codes 5 and 6).
 pub mod thread;

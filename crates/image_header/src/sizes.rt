@@ -1,4 +1,4 @@
-// How much there is of what a body may name.
+// The counts of an image: threads, words and registers, the value range, and the records of each kind that may repeat.
 pub struct Sizes {
     pub threads: u8,
     pub words: u8,

@@ -1,4 +1,4 @@
-// A thread's record: points n, then n - 1 instructions, each of five or ten bytes. 0 points are counted as 1.
+// A thread's record: points n, then n - 1 instructions of five or ten bytes each. 0 points count as 1.
 use crate::instruction::Instruction;
 use crate::instruction::NOTHING;
 use crate::instruction::instruction_fits;
@@ -30,7 +30,7 @@ pub fn last_point(body: &[u8]) -> usize
     n - 1
 }
 
-// Where instruction p begins, walked from the first one on.
+// The position at which the instruction at `point` begins in `body`, the bytes after the point count; found by a walk from the first one.
 pub fn begins_at(body: &[u8], point: usize) -> usize
     requires { ⌜ point < 256 ⌝ }
     ensures { λ r. ⌜ (r ≡ begins (now (body .entry)) point) × (r ≤ 2560) ⌝ }
@@ -44,7 +44,8 @@ pub fn begins_at(body: &[u8], point: usize) -> usize
     at
 }
 
-// Where the instruction behind instruction p begins, for a loop that goes along.
+// The position at which the instruction after the one at `point` begins, for a loop; `at` and the result count from the first
+// instruction.
 pub fn begins_behind(body: &[u8], point: usize, at: usize) -> usize
     requires { ⌜ (point < 256) × (at ≡ begins (drop 1 (now body)) point) ⌝ }
     ensures { λ r. ⌜ r ≡ begins (drop 1 (now (body .entry))) (point + 1) ⌝ }
@@ -53,7 +54,7 @@ pub fn begins_behind(body: &[u8], point: usize, at: usize) -> usize
     at + instruction_size(u8_at(l, at))
 }
 
-// The instruction at a point that begins there; where there is none, a branch to point 0.
+// The instruction at `point`, which begins `at` bytes after the first one; NOTHING where the thread has none.
 pub fn instruction_from(body: &[u8], point: usize, at: usize) -> Instruction
     requires { ⌜ at ≡ begins (drop 1 (now body)) point ⌝ }
     ensures { λ r. ⌜ r ≡ getD (instructions (now (body .entry))) point nothing ⌝ }
@@ -66,7 +67,7 @@ pub fn instruction_from(body: &[u8], point: usize, at: usize) -> Instruction
     read_instruction(m)
 }
 
-// The instruction at a point, walked to.
+// The instruction at `point`, found by a walk from the first one; NOTHING where the thread has none.
 pub fn instruction_at(body: &[u8], point: usize) -> Instruction
     ensures { λ r. ⌜ r ≡ getD (instructions (now (body .entry))) point nothing ⌝ }
 {
@@ -77,7 +78,7 @@ pub fn instruction_at(body: &[u8], point: usize) -> Instruction
     instruction_from(body, point, begins_at(l, point))
 }
 
-// Every instruction has its fields in range.
+// Whether every instruction has its fields in range.
 fn instructions_fit(body: &[u8], sizes: Sizes) -> bool
     ensures { λ r. ⌜ r ≡ every (ranged (lastPoint (now (body .entry))) sizes) (instructions (now (body .entry))) ⌝ }
 {
@@ -96,6 +97,7 @@ fn instructions_fit(body: &[u8], sizes: Sizes) -> bool
     true
 }
 
+// The length that the record has by its point count and its operations as written.
 fn thread_size(body: &[u8]) -> usize
     ensures { λ r. ⌜ r ≡ threadSize (now (body .entry)) ⌝ }
 {
@@ -103,6 +105,7 @@ fn thread_size(body: &[u8]) -> usize
     1 + begins_at(l, last_point(body))
 }
 
+// Whether the point count and every field of an instruction are in range.
 fn thread_fits(body: &[u8], sizes: Sizes) -> bool
     ensures { λ r. ⌜ r ≡ numbered sizes (now (body .entry)) ⌝ }
 {
@@ -112,6 +115,7 @@ fn thread_fits(body: &[u8], sizes: Sizes) -> bool
     false
 }
 
+// Checks the length of a thread's record, then its numbers.
 pub fn check_thread_numbers(body: &[u8], sizes: Sizes) -> Checked
     ensures { λ r. ⌜ r ≡ threadNumbers sizes (now (body .entry)) ⌝ }
 {

@@ -1,7 +1,7 @@
-// Where the records of an image stand and where its instructions begin: a table for look-ups, filled once for an image.
+// The index of an image: a table of where its records start and where its instructions begin, filled once per image for fast look-ups.
 //
-// The table has a meaning for any bytes, sound frames or not. A record's entry counts the bytes from its start to the image's
-// end: it is 0 for a record that is not there, so that a table of zeros need be filled as far as there are records only.
+// The table has a meaning for any bytes, with sound frames or not. A record's entry is the number of bytes from its start to the image's
+// end, so it is 0 for a record that is not there, and only the entries of existing records need to be written into a zeroed table.
 pub mod look_up;
 pub mod starts;
 pub mod table;

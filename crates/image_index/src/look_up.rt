@@ -1,4 +1,4 @@
-// Look-ups: where a record starts, its body, and the instruction at a point of a thread's record.
+// Look-ups by the index: where a record starts, its body, and the instruction at a point of a thread's record.
 use crate::table::IndexSize;
 use crate::walk::body_at;
 use image_header::instruction::Instruction;
@@ -16,7 +16,7 @@ ghost use Rattle.image_frames.specs.Records.{bodies};
 ghost use Rattle.image_header.specs.Thread.{lastPoint, begins, instructions, nothing};
 ghost use Rattle.image_index.specs.IndexTable.{indexOf, placeOf};
 
-// Where the record starts that has i records before it; the image's end, if there is none.
+// The position of the record that has `i` records before it; the image's end if there is none.
 pub fn place_of<'a, 'b>(image: &'a [u8], index: &'b [usize], i: usize) -> usize
     requires { ⌜ now index ≡ indexOf (now image) ⌝ }
     ensures { λ r. ⌜ r ≡ placeOf (now (image .entry)) i ⌝ }
@@ -27,7 +27,7 @@ pub fn place_of<'a, 'b>(image: &'a [u8], index: &'b [usize], i: usize) -> usize
     image.len()
 }
 
-// The body of the record that has i records before it.
+// The body of the record that has `i` records before it; empty if there is none.
 pub fn body_of<'a, 'b>(image: &'a [u8], index: &'b [usize], i: usize) -> &'a [u8]
     requires { ⌜ now index ≡ indexOf (now image) ⌝ }
     ensures { λ r. ⌜ now r ≡ getD (bodies (now (image .entry))) i [] ⌝ }
@@ -35,7 +35,7 @@ pub fn body_of<'a, 'b>(image: &'a [u8], index: &'b [usize], i: usize) -> &'a [u8
     body_at(image, place_of(image, index, i))
 }
 
-// Where instruction p of record i begins: from the table, if the record is a thread's.
+// The position at which the instruction at `point` of record `i` begins: from the table for a thread's record, else by a walk.
 fn begins_in<'a, 'b, 'c>(
     image: &'a [u8],
     index: &'b [usize],
@@ -60,7 +60,7 @@ fn begins_in<'a, 'b, 'c>(
     begins_at(l, point)
 }
 
-// The instruction at point p of record i; where there is none, a branch to point 0.
+// The instruction at `point` of the record that has `i` records before it; NOTHING where there is none.
 pub fn instruction_in<'a, 'b>(
     image: &'a [u8],
     index: &'b [usize],

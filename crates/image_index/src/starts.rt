@@ -1,4 +1,4 @@
-// Where the instructions of each thread begin: an instruction has five bytes or ten, so each place rests on those before it.
+// The positions at which the instructions of each thread begin. An instruction has five or ten bytes, so they depend on those before it.
 use crate::walk::body_at;
 use crate::walk::next_start;
 use image_frames::kind::Kind;
@@ -12,13 +12,13 @@ ghost use lib.ListN.{length};
 ghost use Rattle.image_header.specs.Thread.{lastPoint};
 ghost use Rattle.image_index.specs.IndexTable.{isThread, firstFrom, rowOf, rowsTo};
 
-// The first record of a thread: how many records there are before it, and where it starts.
+// The first thread's record: how many records there are before it, and where it starts.
 pub struct FirstThread {
     pub number: usize,
     pub position: usize,
 }
 
-// The record at a position is a thread's.
+// Whether the record at `at` is a thread's.
 fn is_thread(image: &[u8], at: usize) -> bool
     requires { ⌜ at < length (now image) ⌝ }
     ensures { λ r. ⌜ r ≡ isThread (now (image .entry)) at ⌝ }
@@ -26,7 +26,7 @@ fn is_thread(image: &[u8], at: usize) -> bool
     u16_at(image, at + 2) == Kind::THREAD
 }
 
-// Of the first n records.
+// Finds the first thread's record among the first `n` records; without one, the record after them or the image's end.
 pub fn first_thread(image: &[u8], n: usize) -> FirstThread
     ensures { λ r. ⌜ r ≡ firstFrom (now (image .entry)) 0 0 n ⌝ }
 {
@@ -54,7 +54,7 @@ pub fn first_thread(image: &[u8], n: usize) -> FirstThread
     }
 }
 
-// How many instructions of a thread's body have a place.
+// The number of instructions of a thread's body that the table has entries for.
 fn row_length(body: &[u8]) -> usize
     ensures { λ r. ⌜ (r ≡ min 16 (lastPoint (now (body .entry)))) × (r ≤ 16) ⌝ }
 {
@@ -65,7 +65,7 @@ fn row_length(body: &[u8]) -> usize
     Limits::POINTS
 }
 
-// The places of one thread.
+// Writes where the instructions of one thread begin, into the 16 entries from `from` on.
 fn fill_row<'a, 'b>(body: &'a [u8], index: &'b mut [usize], from: usize)
     requires { ⌜ from + 16 ≤ length (now index) ⌝ }
     ensures { λ _. ⌜ now (index .exit) ≡ rowOf (now (index .entry)) from (now (body .entry)) ⌝ }
@@ -80,7 +80,7 @@ fn fill_row<'a, 'b>(body: &'a [u8], index: &'b mut [usize], from: usize)
     }
 }
 
-// The places of four threads, whose records follow one another from a position on.
+// Writes the entries of four threads, whose records follow one another from `position` on.
 pub fn fill_rows<'a, 'b>(image: &'a [u8], index: &'b mut [usize], from: usize, position: usize)
     requires { ⌜ from + 64 ≤ length (now index) ⌝ }
     ensures { λ _. ⌜ now (index .exit) ≡ rowsTo (now (image .entry)) (now (index .entry)) from position 4 ⌝ }

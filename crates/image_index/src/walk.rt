@@ -1,4 +1,4 @@
-// From record to record.
+// Steps from record to record.
 use limits::read::part;
 use limits::read::u16_at;
 ghost use mathlib.Core.Path.{_≡_};
@@ -6,7 +6,7 @@ ghost use lib.ListN.{drop};
 ghost use Rattle.image_frames.specs.Records.{body};
 ghost use Rattle.image_index.specs.IndexTable.{nextStart};
 
-// The start of the record behind the one at a position.
+// The position of the record after the one at `at`; at most the image's end.
 pub fn next_start(image: &[u8], at: usize) -> usize
     ensures { λ r. ⌜ r ≡ nextStart (now (image .entry)) at ⌝ }
 {
@@ -23,7 +23,7 @@ pub fn next_start(image: &[u8], at: usize) -> usize
     at + 2 + n
 }
 
-// The body of the record at a position.
+// The body of the record at `at`, without its length and its kind; empty past the end or for a length below 2.
 pub fn body_at(image: &[u8], at: usize) -> &[u8]
     ensures { λ r. ⌜ now r ≡ body (drop at (now (image .entry))) ⌝ }
 {

@@ -14,16 +14,17 @@ use Rattle.image_meaning.specs.Formulas.{formula}
 use Rattle.image_meaning.specs.RuleNumbers.{ruleOf}
 use Rattle.image_meaning.specs.Program.{programOf}
 
--- the numbers of a line's left and right formula
+-- the number of a line's left formula
 abbrev pub left : List ℕ → ℕ
 left b = le16 (drop 3 b)
 
+-- the number of a line's right formula
 abbrev pub right : List ℕ → ℕ
 right b = le16 (drop 5 b)
 
 module _ (z : Sizes) (l : List (List ℕ)) where
-  -- what a line of a form says: a triple is about the first half of a pair, a line of rule 50 about the whole, where there is one;
-  -- an unlisted rule is taken for an inclusion
+  -- what a line of a form says. At a pair's point a triple is about the first half, a rule 50 line about the whole pair; where there is
+  -- no pair a rule 50 line is an ordinary triple. An unlisted rule counts as an inclusion
   unfoldable pub saying : Form → List ℕ → Statement
   saying Triple b = triple (getD b 1 0) (getD b 2 0) (formula l Sort.assertion (left b)) (formula l Sort.assertion (right b))
   saying Implication b = implies (formula l Sort.assertion (left b)) (formula l Sort.assertion (right b))
@@ -33,13 +34,14 @@ module _ (z : Sizes) (l : List (List ℕ)) where
   saying Inclusion b = inside (formula l Sort.interval (left b)) (formula l Sort.interval (right b))
   saying Unlisted b = inside (formula l Sort.interval (left b)) (formula l Sort.interval (right b))
 
-  -- the line in a body; its rule comes first
+  -- the line in a body
   abbrev pub lineOf : List ℕ → Line
   lineOf b = record { rule = ruleOf (getD b 0 0); says = saying (formOf (getD b 0 0)) b; premises = premises b }
 
-  -- lines count from 1 and come after the outline
+  -- the body of line n: lines count from 1 and come after the outline
   unfoldable pub lineBody : ℕ → List ℕ
   lineBody n = getD l (z .formulas + z .threads + 1 + n) []
 
+  -- the certificate: all lines by their numbers
   abbrev pub certificateOf : Certificate
   certificateOf = record { count = z .lines; line = λ n. lineOf (lineBody n) }

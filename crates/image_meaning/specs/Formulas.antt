@@ -6,6 +6,6 @@ use Rattle.semantics.specs.Formula.{Sort, Formula}
 use Rattle.image_bodies.specs.FormulaUse.{treeOf}
 use Rattle.formula_trees.specs.ToTree.{ofTree}
 
--- formula k, read as one of a sort
+-- formula k, read as a formula of the sort s
 unfoldable pub formula : List (List ℕ) → (s : Sort) → ℕ → Formula s
 formula l s k = ofTree s (treeOf (getD l k []))

@@ -19,20 +19,20 @@ use Rattle.image_bodies.specs.RecordPlaces.{threadBody, instructionOf}
 use Rattle.image_bodies.specs.PointCounts.{pointCountsTo, pointCounts}
 use Rattle.image_meaning.specs.Formulas.{formula}
 
--- a register and what it is given
+-- the assignment of f to the register r
 abbrev pub gives : ℕ → Value → Note
 gives r f = record { to = r; by = f }
 
--- for an operation that is not there
+-- the instruction for an unknown operation; a well-formed image has none
 abbrev pub idle : Instr
 idle = act none (gives 0 (const 0) ∷ [])
 
 module _ (l : List (List ℕ)) where
-  -- the assignment of a second half
+  -- the assignment of a second half: a note, which the field calls an auxiliary assignment
   abbrev pub noteOf : Half → Note
   noteOf h = gives (h .a) (formula l Sort.value (h .formula))
 
-  -- an instruction as its operation says. An assignment is a note without an access; 9 to 11 are an access with a note, 12 is two notes
+  -- an instruction by its operation. An assignment is a note without an access; 9 to 11 are an access with a note, 12 is two notes
   unfoldable pub instr : Instruction → Instr
   instr i =
       cond (eqb (i .operation) Opcode.assign) (act none (gives (i .a) (formula l Sort.value (i .formula)) ∷ []))
@@ -53,11 +53,11 @@ module _ (l : List (List ℕ)) where
       idle))))))))))))
 
 module _ (z : Sizes) (l : List (List ℕ)) where
-  -- a thread's points, 0 to its last
+  -- the number of points of thread t
   unfoldable pub pointCount : ℕ → ℕ
   pointCount t = lastPoint (threadBody z l t) + 1
 
-  -- words that are not there start with 0
+  -- the program; words that are not there start with 0
   abbrev pub programOf : Program
   programOf = record {
     threads = z .threads;
@@ -69,15 +69,17 @@ module _ (z : Sizes) (l : List (List ℕ)) where
     code = λ t k. instr l (instructionOf z l t k);
   }
 
+  -- the outline's record, after the threads
   abbrev pub outlineBody : List ℕ
   outlineBody = getD l (z .formulas + z .threads + 1) []
 
-  -- the formula of point k of thread t: a formula per point, threads in order. 0 where there is none
+  -- the number of the formula at point k of thread t: "a formula per point, threads in order"; 0 where there is none
   unfoldable pub outlineNumber : ℕ → ℕ → ℕ
   outlineNumber t k =
       cond (eqb t 0) 0
       (cond (ltb (z .threads) t) 0
       (getD (numbers (pointCounts z l .points) outlineBody) (pointCountsTo z l (t - 1) .points + k) 0))
 
+  -- the assertion at point k of thread t
   abbrev pub outlineOf : Outline
   outlineOf t k = formula l Sort.assertion (outlineNumber t k)

@@ -4,7 +4,7 @@ use Prim.Native.Nat.{ℕ}
 use lib.ListN.{getD}
 use Rattle.logic.specs.Rule.{Rule, r1, r2, r3, r4, r5, r6, r7, r8, r9, r10, r11, r12, r13, r14, r15, r16, r20, r21, r22, r23, r24, r25, r26, r27, r30, r31, r32, r33, r34, r35, r36, r37, r38, r39, r40, r41, r42, r43, r44, r45, r46, r47, r48, r49, r50}
 
--- for a number that no rule has
+-- the rule for a number that no rule has; a line with such a number is refused before
 abbrev pub unlisted : Rule
 unlisted = r46
 
@@ -16,5 +16,6 @@ rules =
     ∷ unlisted ∷ unlisted ∷ r30 ∷ r31 ∷ r32 ∷ r33 ∷ r34 ∷ r35 ∷ r36 ∷ r37 ∷ r38 ∷ r39 ∷ r40 ∷ r41 ∷ r42 ∷ r43 ∷ r44 ∷ r45 ∷ r46
     ∷ r47 ∷ r48 ∷ r49 ∷ r50 ∷ []
 
+-- the rule with the number n
 unfoldable pub ruleOf : ℕ → Rule
 ruleOf n = getD rules n unlisted

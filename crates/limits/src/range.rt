@@ -1,4 +1,4 @@
-// Numbers from a least to a greatest one.
+// Whether numbers in bytes are in a range, both ends included.
 use crate::read::byte_at;
 use crate::read::number_at;
 use crate::read::u16_at;
@@ -6,6 +6,7 @@ ghost use mathlib.Core.Path.{_≡_};
 ghost use lib.ListN.{getD, drop};
 ghost use Rattle.limits.specs.Numbers.{le16, numbers, within, every};
 
+// Whether `number` is from `low` to `high`.
 pub fn in_range(number: usize, low: usize, high: usize) -> bool
     ensures { λ r. ⌜ r ≡ within low high number ⌝ }
 {
@@ -18,7 +19,7 @@ pub fn in_range(number: usize, low: usize, high: usize) -> bool
     true
 }
 
-// The byte at a position is in the range.
+// Whether the byte at `at` is from `low` to `high`.
 pub fn byte_within(bytes: &[u8], at: usize, low: usize, high: usize) -> bool
     ensures { λ r. ⌜ r ≡ within low high (getD (now (bytes .entry)) at 0) ⌝ }
 {
@@ -26,7 +27,7 @@ pub fn byte_within(bytes: &[u8], at: usize, low: usize, high: usize) -> bool
     in_range(x, low, high)
 }
 
-// The 16-bit number at a position is in the range.
+// Whether the 16-bit number at `at` is from `low` to `high`.
 pub fn u16_within(bytes: &[u8], at: usize, low: usize, high: usize) -> bool
     ensures { λ r. ⌜ r ≡ within low high (le16 (drop at (now (bytes .entry)))) ⌝ }
 {
@@ -34,7 +35,7 @@ pub fn u16_within(bytes: &[u8], at: usize, low: usize, high: usize) -> bool
     in_range(x, low, high)
 }
 
-// Every byte is in the range.
+// Whether every byte is from `low` to `high`.
 pub fn bytes_within(bytes: &[u8], low: usize, high: usize) -> bool
     ensures { λ r. ⌜ r ≡ every (within low high) (now (bytes .entry)) ⌝ }
 {
@@ -50,7 +51,7 @@ pub fn bytes_within(bytes: &[u8], low: usize, high: usize) -> bool
     true
 }
 
-// Each of n 16-bit numbers is in the range.
+// Whether each of the first `n` 16-bit numbers is from `low` to `high`.
 pub fn numbers_within(bytes: &[u8], n: usize, low: usize, high: usize) -> bool
     ensures { λ r. ⌜ r ≡ every (within low high) (numbers n (now (bytes .entry))) ⌝ }
 {

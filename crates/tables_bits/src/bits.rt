@@ -1,4 +1,4 @@
-// Words of a truth table. The bit at place i of word w is row 64 * w + i.
+// The machine words of a truth table. Bit i of word w is row 64 * w + i.
 use formula::code::Code;
 ghost use mathlib.Core.Path.{_≡_};
 ghost use Prim.Native.Nat.{_^_, _≤_, _<_};
@@ -6,14 +6,17 @@ ghost use lib.ListN.{getD, length};
 ghost use Rattle.tables_bits.specs.Bits.{patterns, wordOf, wordsOf, denyWord, denyWords, leafWord, leafWords, maskOf, noneSet};
 ghost use Rattle.tables_columns.specs.Column.{constant};
 
+// The size of a truth table, in words and rows.
 pub struct Words {}
 
 impl Words {
-    // 1,024 rows: ten leaves.
+    // Words for 1,024 rows, which ten leaves have.
     pub const COUNT: usize = 16;
 
+    // The rows of one word.
     pub const ROWS: usize = 64;
 
+    // A word in which every row is set.
     pub const ALL: u64 = 0xFFFF_FFFF_FFFF_FFFF;
 }
 
@@ -33,6 +36,7 @@ pub fn combine_word(code: u8, operand: u8, first: u64, second: u64) -> u64
     }
 }
 
+// Combines two tables word by word, in place of the first.
 fn zip_words(code: u8, operand: u8, bits: &mut [u64; Words::COUNT], other: &[u64; Words::COUNT])
     requires { ⌜ length (now bits) ≡ 16 ⌝ }
     ensures { λ _. ⌜ now (bits .exit) ≡ wordsOf code operand 16 (now (bits .entry)) (now (other .entry)) ⌝ }
@@ -44,7 +48,8 @@ fn zip_words(code: u8, operand: u8, bits: &mut [u64; Words::COUNT], other: &[u64
     }
 }
 
-// A node's words from the words of its parts, in the place of the first's. (Each code is named in its call: the loop is made for it alone.)
+// A node's table from the tables of its parts, in place of the first. Each code is named in a call of its own, so that the compiler makes
+// a loop for it alone.
 pub fn combine_words(
     code: u8,
     operand: u8,
@@ -64,13 +69,14 @@ pub fn combine_words(
     }
 }
 
+// The rows that are set in `first` and not in `second`.
 fn deny_word(first: u64, second: u64) -> u64
     ensures { λ r. ⌜ r ≡ denyWord first second ⌝ }
 {
     first & (second ^ Words::ALL)
 }
 
-// The rows that are in a and not in b.
+// Keeps the rows of `bits` that are not set in `other`.
 pub fn deny_words(bits: &mut [u64; Words::COUNT], other: &[u64; Words::COUNT])
     requires { ⌜ length (now bits) ≡ 16 ⌝ }
     ensures { λ _. ⌜ now (bits .exit) ≡ denyWords 16 (now (bits .entry)) (now (other .entry)) ⌝ }
@@ -82,7 +88,7 @@ pub fn deny_words(bits: &mut [u64; Words::COUNT], other: &[u64; Words::COUNT])
     }
 }
 
-// The same word for all rows.
+// Writes the same word to the whole table.
 pub fn fill_words(word: u64, out: &mut [u64; Words::COUNT])
     requires { ⌜ length (now out) ≡ 16 ⌝ }
     ensures { λ _. ⌜ now (out .exit) ≡ constant word 16 ⌝ }
@@ -94,7 +100,7 @@ pub fn fill_words(word: u64, out: &mut [u64; Words::COUNT])
     }
 }
 
-// The digits of the first six leaves in the rows of a word.
+// The digit of leaf `j`, one of the first six, at each of the 64 rows of a word; it is the same in every word.
 fn first_word(j: usize) -> u64
     requires { ⌜ j < 6 ⌝ }
     ensures { λ r. ⌜ r ≡ getD patterns j 0 ⌝ }
@@ -109,7 +115,8 @@ fn first_word(j: usize) -> u64
     }
 }
 
-// A leaf's word: its digit in each of 64 rows. The first six leaves go through their values in each word, the others from word to word.
+// The digit of leaf `j` at each of the 64 rows of a word. The first six leaves take all their values within a word, the others from word
+// to word.
 fn leaf_word(j: usize, word: usize) -> u64
     requires { ⌜ j < 64 ⌝ }
     ensures { λ r. ⌜ r ≡ leafWord j word ⌝ }
@@ -123,6 +130,7 @@ fn leaf_word(j: usize, word: usize) -> u64
     0
 }
 
+// Writes the table of leaf `j`.
 pub fn leaf_words(j: usize, out: &mut [u64; Words::COUNT])
     requires { ⌜ (j < 64) × (length (now out) ≡ 16) ⌝ }
     ensures { λ _. ⌜ now (out .exit) ≡ leafWords j 16 ⌝ }
@@ -134,7 +142,7 @@ pub fn leaf_words(j: usize, out: &mut [u64; Words::COUNT])
     }
 }
 
-// So many rows have k leaves.
+// The number of rows that `n` leaves have.
 pub fn rows_of(n: usize) -> usize
     requires { ⌜ n ≤ 10 ⌝ }
     ensures { λ r. ⌜ (r ≡ 2 ^ n) × (r ≤ 1024) ⌝ }
@@ -142,7 +150,7 @@ pub fn rows_of(n: usize) -> usize
     1 << n
 }
 
-// The rows of word w that are among the first n.
+// The rows of a word that are among the first `n` rows of the table.
 pub fn mask_of(n: usize, word: usize) -> u64
     requires { ⌜ (word < 16) × (n ≤ 1024) ⌝ }
     ensures { λ r. ⌜ r ≡ maskOf n word ⌝ }
@@ -157,7 +165,7 @@ pub fn mask_of(n: usize, word: usize) -> u64
     (1 << (n - first)) - 1
 }
 
-// Whether none of the first n rows is set.
+// Whether none of the first `n` rows is set.
 pub fn none_set(bits: &[u64; Words::COUNT], n: usize) -> bool
     requires { ⌜ n ≤ 1024 ⌝ }
     ensures { λ r. ⌜ r ≡ noneSet (now (bits .entry)) n 16 ⌝ }

@@ -1,5 +1,5 @@
-// Truth tables as bits: 64 rows in a word, 16 words at most.
+// Truth tables as bits: 64 rows in a machine word, at most 16 words.
 pub mod bits;
 
-// The truth table of a formula, as bits. Its leaves are gathered on the same walk, so that each is told apart once.
+// The truth table of a formula. Its leaves are gathered on the same walk, so that each is compared with the others once.
 pub mod truth_table;

@@ -21,10 +21,12 @@ ghost use Rattle.tables_columns.specs.Column.{constant};
 ghost use Rattle.tables_bits.specs.Bits.{wordOf, wordsOf};
 ghost use Rattle.tables_bits.specs.TruthTable.{byLeaves, Grown, LeafBits, TreeBits};
 
+// The codes that count as leaves of a truth table.
 pub struct TableCodes {}
 
 impl TableCodes {
-    // What a thread sees, start, comparisons. (Under `holds` no flags stand, and sums in comparisons alone.)
+    // Sees, start and comparisons. Flags and sums are listed so that every tree has a table; in an assertion, flags occur under sees
+    // alone and sums in comparisons, so they never come up.
     pub const LEAVES: u32 = (1 << Code::SEES)
         + (1 << Code::START)
         + (1 << Code::EQUAL)
@@ -34,7 +36,7 @@ impl TableCodes {
         + (1 << Code::SUM);
 }
 
-// With the leaf at a position, if it is not there yet; and its bits.
+// Writes the table of the leaf at `at`, and adds the leaf unless one of the first `n` slots has it; returns the number of leaves then.
 pub fn leaf_bits(
     image: &[u8],
     at: usize,
@@ -61,7 +63,7 @@ pub fn leaf_bits(
     put_slot(n, leaf_slot(image, at, left), slots)
 }
 
-// The bits of a node without parts.
+// Writes the table of a node without parts, which is the same at every row.
 fn plain_bits(code: u8, operand: u8, out: &mut [u64; Words::COUNT])
     requires { ⌜ length (now out) ≡ 16 ⌝ }
     ensures { λ _. ⌜ now (out .exit) ≡ constant (wordOf code operand 0 0) 16 ⌝ }
@@ -69,7 +71,7 @@ fn plain_bits(code: u8, operand: u8, out: &mut [u64; Words::COUNT])
     fill_words(combine_word(code, operand, 0, 0), out);
 }
 
-// The bits of a node with one part, in the place of the part's.
+// Computes the table of a node with one part, in place of the part's.
 fn single_bits(code: u8, operand: u8, out: &mut [u64; Words::COUNT])
     requires { ⌜ length (now out) ≡ 16 ⌝ }
     ensures { λ _. ⌜ now (out .exit) ≡ wordsOf code operand 16 (now (out .entry)) (replicate 16 0) ⌝ }
@@ -78,7 +80,7 @@ fn single_bits(code: u8, operand: u8, out: &mut [u64; Words::COUNT])
     combine_words(code, operand, out, &none);
 }
 
-// The bits of the formula at a position, nested at most `left` deep, with its leaves; answers how many leaves there are.
+// Writes the table of the formula at `at`, nested at most `left` deep, and adds its leaves; returns the number of leaves then.
 pub fn table_at(
     image: &[u8],
     at: usize,

@@ -5,10 +5,11 @@ use lib.Dec.{eqb, ltb}
 use Rattle.semantics.specs.Code
 use Rattle.semantics.specs.Code.{byte}
 
--- the sum modulo the range, of values below it
+-- the sum modulo the range R, of values below it
 unfoldable pub sumOf : ℕ → ℕ → ℕ → ℕ
 sumOf R a b = cond (ltb a (R - b)) (a + b) (a - (R - b))
 
+-- the value of a node with the code c and the operand o whose parts have the values a and b
 unfoldable pub combine : ℕ → ℕ → ℕ → ℕ → ℕ → ℕ
 combine R c o a b =
     cond (eqb c (byte Code.const)) o

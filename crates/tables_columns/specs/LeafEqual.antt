@@ -5,7 +5,7 @@ use Rattle.formula_compare.specs.declared.same.Pair.{Pair}
 use Rattle.formula_compare.specs.declared.same.Pair.the-variants.{Differ, Ended, One, Two}
 use Rattle.tables_columns.specs.declared.leaf_equal.Step.{Step}
 
--- behind two nodes: they differ; or where the next ones stand, and how many parts are still to be compared
+-- after two nodes: they differ; or the positions of the next two, and the number of parts still to be compared
 unfoldable pub stepOf : Pair → ℕ → Step
 stepOf Differ due = record { differ = true; first = 0; second = 0; due = 0 }
 stepOf (Ended p q) due = record { differ = false; first = p; second = q; due = due - 1 }

@@ -1,4 +1,4 @@
-// Columns combined, row by row.
+// Columns combined row by row.
 use crate::combine::combine_parts;
 use formula::code::Code;
 ghost use mathlib.Core.Path.{_≡_};
@@ -6,7 +6,7 @@ ghost use Prim.Native.Nat.{_≤_};
 ghost use lib.ListN.{length, take};
 ghost use Rattle.tables_columns.specs.Column.{combined, denyOf, denied, seenOf, noneBelow};
 
-// A loop with nothing in it but the one operation: the compiler makes it work on many rows at a time.
+// Combines two columns row by row, in place of the first. The loop holds nothing but the one operation, so the compiler vectorises it.
 fn zip_with(range: u8, code: u8, operand: u8, n: usize, column: &mut [u8], other: &[u8])
     requires { ⌜ (n ≤ length (now column)) × (n ≤ length (now other)) ⌝ }
     ensures { λ _. ⌜ take n (now (column .exit)) ≡ combined range code operand n (now (column .entry)) (now (other .entry)) ⌝ }
@@ -18,7 +18,8 @@ fn zip_with(range: u8, code: u8, operand: u8, n: usize, column: &mut [u8], other
     }
 }
 
-// A node's column from the columns of its parts. (Each code is named in its call, so that the loop is made for it alone.)
+// A node's column from the columns of its parts, in place of the first. Each code is named in a call of its own, so that the compiler
+// makes a loop for it alone.
 pub fn combine_columns(range: u8, code: u8, operand: u8, n: usize, column: &mut [u8], other: &[u8])
     requires { ⌜ (n ≤ length (now column)) × (n ≤ length (now other)) ⌝ }
     ensures { λ _. ⌜ take n (now (column .exit)) ≡ combined range code operand n (now (column .entry)) (now (other .entry)) ⌝ }
@@ -37,7 +38,7 @@ pub fn combine_columns(range: u8, code: u8, operand: u8, n: usize, column: &mut 
     }
 }
 
-// 1 if a is 1 and b is not.
+// 1 if `first` is 1 and `second` is not, else 0.
 fn deny(first: u8, second: u8) -> u8
     ensures { λ r. ⌜ r ≡ denyOf first second ⌝ }
 {
@@ -50,7 +51,7 @@ fn deny(first: u8, second: u8) -> u8
     0
 }
 
-// The rows that are 1 in a and not in b.
+// Sets each row of `column` to 1 if it is 1 and that of `other` is not, else to 0.
 pub fn and_not(n: usize, column: &mut [u8], other: &[u8])
     requires { ⌜ (n ≤ length (now column)) × (n ≤ length (now other)) ⌝ }
     ensures { λ _. ⌜ take n (now (column .exit)) ≡ denied n (now (column .entry)) (now (other .entry)) ⌝ }
@@ -62,14 +63,14 @@ pub fn and_not(n: usize, column: &mut [u8], other: &[u8])
     }
 }
 
-// 1 from the first 1 on.
+// 1 if `value` is 1, else `found`: over a column, 1 from the first 1 on.
 fn seen(found: u8, value: u8) -> u8
     ensures { λ r. ⌜ r ≡ seenOf found value ⌝ }
 {
     if value == 1 { 1 } else { found }
 }
 
-// Whether none of the first n rows is 1. (All are looked at: the compiler takes many at a time, which is quicker than to stop.)
+// Whether none of the first `n` rows is 1. The loop looks at all rows, because it is vectorised so and faster than one that stops.
 pub fn none_below(column: &[u8], n: usize) -> bool
     requires { ⌜ n ≤ length (now column) ⌝ }
     ensures { λ r. ⌜ r ≡ noneBelow (now (column .entry)) n ⌝ }

@@ -1,4 +1,4 @@
-// How many rows there are: every choice for each leaf.
+// The number of rows: the product of the choices for each leaf.
 use crate::slot::Slot;
 use crate::slot::Slots;
 use crate::slot::slot_at;
@@ -9,6 +9,7 @@ ghost use Prim.Native.Nat.{_≤_};
 ghost use Rattle.tables_columns.specs.Slots.{slotTree};
 ghost use Rattle.tables_columns.specs.Count.{choicesBy, choicesT, capped, rowsUpTo};
 
+// The choices for a leaf that is no name.
 pub struct Flag {}
 
 impl Flag {
@@ -16,6 +17,7 @@ impl Flag {
     pub const CHOICES: u8 = 2;
 }
 
+// The number of choices for a leaf with this code: the range for a register or a word, two for any other leaf.
 pub fn choices_by(range: u8, code: usize) -> u8
     ensures { λ r. ⌜ r ≡ choicesBy range code ⌝ }
 {
@@ -28,7 +30,7 @@ pub fn choices_by(range: u8, code: usize) -> u8
     Flag::CHOICES
 }
 
-// So many choices for a register or a word as there are values; two for any other leaf.
+// The number of choices for the leaf in a slot: the range for a register or a word, two for any other leaf.
 pub fn choices(image: &[u8], range: u8, slot: Slot) -> u8
     ensures { λ r. ⌜ r ≡ choicesT range (slotTree (now (image .entry)) slot) ⌝ }
 {
@@ -38,7 +40,7 @@ pub fn choices(image: &[u8], range: u8, slot: Slot) -> u8
     choices_by(range, node_at(image, slot.place).code as usize)
 }
 
-// The product, or the limit and 1 if it is above the limit.
+// The product of `n` and `rows`; the limit plus 1 if it is above the limit.
 pub fn capped_product(n: u8, rows: u32, limit: u16) -> u32
     ensures { λ r. ⌜ r ≡ capped limit n rows ⌝ }
 {
@@ -49,7 +51,7 @@ pub fn capped_product(n: u8, rows: u32, limit: u16) -> u32
     product as u32
 }
 
-// The number of rows of the first n slots; the limit and 1 if it is above the limit.
+// The number of rows of the first `n` slots; the limit plus 1 if it is above the limit.
 pub fn count_rows(
     image: &[u8],
     slots: &[usize; Slots::NUMBERS],

@@ -1,5 +1,5 @@
-// The leaves of formulas, each once. Formulas are walked from right to left, and the newest leaf is the first of the list.
-// The slots are written where they stand, and each function answers how many there are; above Slots::COUNT: too many.
+// The leaves of formulas, each once. Formulas are walked from right to left, and the newest leaf is the first of the list. The leaves are
+// written into `slots`, and each function returns how many there are; a number above Slots::COUNT means too many.
 use crate::slot::Slot;
 use crate::slot::Slots;
 use crate::slot::leaf_slot;
@@ -12,7 +12,7 @@ ghost use Rattle.formula.specs.Tree.{parseTree};
 ghost use lib.ListN.{length};
 ghost use Rattle.tables_columns.specs.Gather.{countPut, slotPut, view, putT, gatherT};
 
-// With a leaf in the next slot, if there is one.
+// Writes a leaf into slot `n` if there is such a slot; returns the number of leaves then.
 pub fn put_slot(n: usize, slot: Slot, slots: &mut [usize; Slots::NUMBERS]) -> usize
     ensures { λ r. ⌜ r ≡ countPut n ⌝ }
     ensures { λ _. ⌜ now (slots .exit) ≡ slotPut n slot (now (slots .entry)) ⌝ }
@@ -26,7 +26,7 @@ pub fn put_slot(n: usize, slot: Slot, slots: &mut [usize; Slots::NUMBERS]) -> us
     Slots::COUNT + 1
 }
 
-// With the leaf at a position, if it is not there yet.
+// Adds the leaf at `at` unless one of the first `n` slots has it; returns the number of leaves then.
 pub fn add_leaf(
     image: &[u8],
     at: usize,
@@ -51,7 +51,7 @@ pub fn add_leaf(
     put_slot(n, leaf_slot(image, at, left), slots)
 }
 
-// With the leaves of the formula at a position: the nodes whose code is in the set.
+// Adds the leaves of the formula at `at`, which are the nodes whose code is in `set`; returns the number of leaves then.
 pub fn gather_at(
     image: &[u8],
     at: usize,

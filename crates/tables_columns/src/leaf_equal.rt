@@ -1,4 +1,5 @@
-// Leaves told apart: two formulas node by node, from left to right, as long as their nesting cannot be used up. That is all of most leaves.
+// Equality of two leaves by an iterative walk, node by node from left to right. It needs no recursion up to NODES nodes, which is enough
+// for most leaves; larger ones are compared by `same_at`.
 use formula::node::node_at;
 use formula_compare::same::Pair;
 use formula_compare::same::Same;
@@ -10,14 +11,15 @@ ghost use Rattle.formula.specs.Tree.{nodeAt, parseTree};
 ghost use Rattle.formula_compare.specs.Same.{sameTree, pairOf};
 ghost use Rattle.tables_columns.specs.LeafEqual.{stepOf};
 
+// The bound of the walk.
 pub struct Walk {}
 
 impl Walk {
-    // So many nodes at most: as deep as formulas are nested.
+    // The greatest number of nodes walked. It is the nesting limit, since a walk over n nodes uses up at most n levels.
     pub const NODES: usize = 16;
 }
 
-// Behind two nodes: whether they differ, where the next ones stand, and how many parts are still to be compared.
+// After two nodes: whether they differ, the positions of the next two, and the number of parts still to be compared.
 pub struct Step {
     pub differ: bool,
     pub first: usize,
@@ -25,6 +27,7 @@ pub struct Step {
     pub due: usize,
 }
 
+// `n` - 1, or 0 for 0.
 fn one_fewer(n: usize) -> usize
     ensures { λ r. ⌜ r ≡ n - 1 ⌝ }
 {
@@ -34,6 +37,7 @@ fn one_fewer(n: usize) -> usize
     n - 1
 }
 
+// The step after a pair of nodes, where `due` parts, this one included, were to be compared.
 fn step_by(pair: Pair, due: usize) -> Step
     requires { ⌜ due ≤ 17 ⌝ }
     ensures { λ r. ⌜ r ≡ stepOf pair due ⌝ }
@@ -66,6 +70,7 @@ fn step_by(pair: Pair, due: usize) -> Step
     }
 }
 
+// The step after the nodes at `at` and `other_at`, where `due` parts were to be compared.
 fn step_at(image: &[u8], at: usize, other_at: usize, due: usize) -> Step
     requires { ⌜ due ≤ 17 ⌝ }
     ensures { λ r. ⌜ r ≡ stepOf (pairOf (nodeAt (now (image .entry)) at) (nodeAt (now (image .entry)) «other_at»)) due ⌝ }
@@ -76,7 +81,7 @@ fn step_at(image: &[u8], at: usize, other_at: usize, due: usize) -> Step
     )
 }
 
-// As many nodes as neither formula can use up its nesting with.
+// The number of nodes that can be walked without using up the nesting of either formula.
 fn nodes_within(left: usize, other_left: usize) -> usize
     ensures { λ r. ⌜ (r ≤ left) × ((r ≤ «other_left») × (r ≤ 16)) ⌝ }
 {
@@ -92,7 +97,7 @@ fn nodes_within(left: usize, other_left: usize) -> usize
     Walk::NODES
 }
 
-// The same by their parts, however many nodes there are.
+// Whether two formulas are equal, by recursion over their parts, however many nodes they have.
 fn same_parts(image: &[u8], at: usize, left: usize, other_at: usize, other_left: usize) -> bool
     ensures { λ r. ⌜ r ≡ sameTree (parseTree (now (image .entry)) left at .tree)
         (parseTree (now (image .entry)) «other_left» «other_at» .tree) ⌝ }
@@ -103,7 +108,7 @@ fn same_parts(image: &[u8], at: usize, left: usize, other_at: usize, other_left:
     }
 }
 
-// Whether the formulas at a, nested at most m deep, and at b, nested at most k deep, are the same.
+// Whether the formulas at `at`, nested at most `at_left` deep, and at `other_at`, nested at most `other_left` deep, are equal.
 pub fn same_leaf(
     image: &[u8],
     at: usize,

@@ -1,4 +1,4 @@
-// Slots: where leaves are kept.
+// Slots: the distinct leaves of some formulas, which are the variables of their rows.
 use crate::leaf_equal::same_leaf;
 use formula::node::Node;
 use formula::node::node_at;
@@ -8,30 +8,33 @@ ghost use Rattle.formula.specs.Codes.{partCount};
 ghost use Rattle.formula.specs.Tree.{none, node, parseTree};
 ghost use Rattle.tables_columns.specs.Slots.{leafSlot, numbers, samePlain, sameSlot, slotOf, slotWithin};
 
+// The sizes of the list of slots.
 pub struct Slots {}
 
 impl Slots {
-    // More leaves, of two choices each at least, have more than 4,096 rows.
+    // More leaves than this, with at least two choices each, have more than 4,096 rows.
     pub const COUNT: usize = 12;
 
-    // Three numbers for each.
+    // Three numbers for each slot.
     pub const NUMBERS: usize = 36;
 }
 
-// A leaf without parts by its code and its operand, with 0 for `left`; any other by its position, nested at most `left` deep.
+// A leaf. Without parts it is given by its code, in `place`, and its operand, with 0 for `left`; else by its position, nested at most
+// `left` deep.
 pub struct Slot {
     pub place: usize,
     pub operand: usize,
     pub left: usize,
 }
 
+// A byte widened to usize.
 fn wide(byte: u8) -> usize
     ensures { λ r. ⌜ r ≡ byte ⌝ }
 {
     byte as usize
 }
 
-// The slot for the formula at a position.
+// The slot for the leaf at `at`, nested at most `left` deep.
 pub fn leaf_slot(image: &[u8], at: usize, left: usize) -> Slot
     ensures { λ r. ⌜ r ≡ leafSlot (now (image .entry)) at left ⌝ }
 {
@@ -50,6 +53,7 @@ pub fn leaf_slot(image: &[u8], at: usize, left: usize) -> Slot
     }
 }
 
+// The leaf in slot `j`.
 pub fn slot_at(slots: &[usize; Slots::NUMBERS], j: usize) -> Slot
     requires { ⌜ j < 12 ⌝ }
     ensures { λ r. ⌜ r ≡ numbers (now (slots .entry)) j ⌝ }
@@ -61,7 +65,7 @@ pub fn slot_at(slots: &[usize; Slots::NUMBERS], j: usize) -> Slot
     }
 }
 
-// Whether the formula at a position, whose root is x, is the one in the slot.
+// Whether the formula at `at`, whose root is `node`, is the leaf in the slot. With one level of nesting left a node has no parts.
 pub fn same_slot(image: &[u8], at: usize, left: usize, node: Node, slot: Slot) -> bool
     ensures { λ r. ⌜ r ≡ sameSlot (now (image .entry)) at left node slot ⌝ }
 {
@@ -84,7 +88,7 @@ pub fn same_slot(image: &[u8], at: usize, left: usize, node: Node, slot: Slot) -
     same_leaf(image, at, left, slot.place, slot.left)
 }
 
-// Whether a leaf without parts is the one in the slot.
+// Whether the leaf without parts that has this code and operand is the one in the slot.
 pub fn same_plain(image: &[u8], code: u8, operand: u8, slot: Slot) -> bool
     ensures { λ r. ⌜ r ≡ samePlain (now (image .entry)) code operand slot ⌝ }
 {
@@ -101,7 +105,7 @@ pub fn same_plain(image: &[u8], code: u8, operand: u8, slot: Slot) -> bool
     false
 }
 
-// The first slot with a leaf without parts; Slots::COUNT if there is none.
+// The first slot that has the leaf without parts with this code and operand; Slots::COUNT if there is none.
 pub fn plain_slot(image: &[u8], code: u8, operand: u8, slots: &[usize; Slots::NUMBERS]) -> usize
     requires { ⌜ partCount code ≡ 0 ⌝ }
     ensures { λ r. ⌜ r ≡ slotOf (now (image .entry)) (now (slots .entry)) (node code operand none none) ⌝ }
@@ -117,7 +121,7 @@ pub fn plain_slot(image: &[u8], code: u8, operand: u8, slots: &[usize; Slots::NU
     Slots::COUNT
 }
 
-// The first of n slots with the formula at a position; n if there is none.
+// The first of `n` slots that has the formula at `at`; `n` if there is none.
 pub fn slot_within(
     image: &[u8],
     at: usize,
@@ -140,7 +144,7 @@ pub fn slot_within(
     n
 }
 
-// The first slot with the formula at a position; Slots::COUNT if there is none.
+// The first slot that has the formula at `at`; Slots::COUNT if there is none.
 pub fn slot_of(image: &[u8], at: usize, left: usize, slots: &[usize; Slots::NUMBERS]) -> usize
     ensures { λ r. ⌜ r ≡ slotOf (now (image .entry)) (now (slots .entry)) (parseTree (now (image .entry)) left at .tree) ⌝ }
 {

@@ -1,4 +1,4 @@
--- Rows advance like digits.
+-- Rows that advance like digits. A row, "a value for each name" and flag, is what the field calls a valuation.
 use Prim.Native.Nat.{ℕ, zero, suc, _*_, _≤_, _<_}
 use mathlib.Core.Path.{_≡_}
 use mathlib.Core.List.{List, [], _∷_}
@@ -13,17 +13,17 @@ advance [] r = r
 advance (m ∷ ms) [] = []
 advance (m ∷ ms) (d ∷ r) = cond (ltb d m) (suc d ∷ r) (0 ∷ advance ms r)
 
--- n rows from a row on, each the one after the last
+-- n rows from the row r on, each the one after the last
 unfoldable pub rowsFrom : List ℕ → ℕ → List ℕ → List (List ℕ)
 rowsFrom ms zero r = []
 rowsFrom ms (suc n) r = r ∷ rowsFrom ms n (advance ms r)
 
--- the row that is i rows behind a row
+-- the row that comes i rows after the row r
 unfoldable pub after : List ℕ → ℕ → List ℕ → List ℕ
 after ms zero r = r
 after ms (suc i) r = after ms i (advance ms r)
 
--- how many rows there are: the product of the choices
+-- the number of rows: the product of the choices
 unfoldable pub rowsOf : List ℕ → ℕ
 rowsOf [] = 1
 rowsOf (m ∷ ms) = suc m * rowsOf ms
@@ -35,7 +35,7 @@ Choice [] (d ∷ r) = ⊥
 Choice (m ∷ ms) [] = ⊥
 Choice (m ∷ ms) (d ∷ r) = (d ≤ m) × Choice ms r
 
--- every choice is in the list, exactly once, and nothing else is
+-- "every row is tried exactly once and no other"
 pub record EveryOnce (ms : List ℕ) (l : List (List ℕ)) : Type 0 where
   pub choices : (i : ℕ) → i < length l → Choice ms (getD l i [])
   pub tried : (r : List ℕ) → Choice ms r → (i : ℕ) × (i < length l) × (getD l i [] ≡ r)

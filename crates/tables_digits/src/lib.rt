@@ -1,4 +1,4 @@
-// Rows advance like digits: the column of a digit, for all rows from all zeros on.
+// Rows that advance like digits: the column of one digit, and the values of a formula at all rows, from the row of zeros on.
 pub mod run;
 pub mod slot_column;
 

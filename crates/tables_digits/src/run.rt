@@ -1,4 +1,4 @@
-// Runs of a value, and rows repeated.
+// Runs of a value in a column, and columns extended by repetition.
 ghost use mathlib.Core.Path.{_≡_};
 ghost use mathlib.Core.List.{_++_};
 ghost use Prim.Native.Nat.{_+_, _≤_, _<_, min};
@@ -6,19 +6,21 @@ ghost use lib.ListN.{length, take};
 ghost use Rattle.tables_columns.specs.Column.{constant};
 ghost use Rattle.tables_digits.specs.SlotColumn.{Widened};
 
+// A byte widened to usize.
 pub fn wide(byte: u8) -> usize
     ensures { λ r. ⌜ (r ≡ byte) × (r < 256) ⌝ }
 {
     byte as usize
 }
 
+// The lesser of two numbers.
 pub fn lesser(first: usize, second: usize) -> usize
     ensures { λ r. ⌜ r ≡ min first second ⌝ }
 {
     if first < second { first } else { second }
 }
 
-// A value behind the first rows, so many times.
+// Writes the value at `count` rows from row `from` on.
 pub fn set_run(value: u8, from: usize, count: usize, out: &mut [u8])
     requires { ⌜ from + count ≤ length (now out) ⌝ }
     ensures { λ _. ⌜ take (from + count) (now (out .exit)) ≡ take from (now (out .entry)) ++ constant value count ⌝ }
@@ -30,7 +32,7 @@ pub fn set_run(value: u8, from: usize, count: usize, out: &mut [u8])
     }
 }
 
-// The first rows once more, behind the first `from`.
+// Copies the first `count` rows to the rows from row `from` on.
 pub fn repeat_front(from: usize, count: usize, out: &mut [u8])
     requires { ⌜ (count ≤ from) × (from + count ≤ length (now out)) ⌝ }
     ensures { λ _. ⌜ take (from + count) (now (out .exit)) ≡ take from (now (out .entry)) ++ take count (now (out .entry)) ⌝ }
@@ -42,7 +44,7 @@ pub fn repeat_front(from: usize, count: usize, out: &mut [u8])
     }
 }
 
-// The first rows again and again, as far as n.
+// Extends a column whose period is `from` rows to `n` rows, by repetition.
 pub fn widen(from: usize, n: usize, out: &mut [u8])
     requires { ⌜ (from ≤ n) × ((min 1 n ≤ from) × (n ≤ length (now out))) ⌝ }
     ensures { λ _. ⌜ Widened from n (now (out .entry)) n (now (out .exit)) ⌝ }

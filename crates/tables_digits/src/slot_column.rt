@@ -1,4 +1,5 @@
-// The column of a slot: its digit in each row. A digit keeps its value for a run of rows, while those before it go through all of theirs.
+// The column of a slot: its digit in each row. A digit keeps its value for a run of rows, in which the digits before it take all their
+// values.
 use crate::run::lesser;
 use crate::run::set_run;
 use crate::run::wide;
@@ -9,7 +10,8 @@ ghost use Prim.Native.Nat.{_+_, _≤_, _<_};
 ghost use lib.ListN.{length, take};
 ghost use Rattle.tables_digits.specs.SlotColumn.{slotColumn, longerRun, runOf, spanOf, levelIn};
 
-// A run with so many times the rows; as it is where it has all n rows already.
+// The run of the next digit: `run` times the choices of a digit whose last value is `last`. A run of at least `n` rows stays as it is,
+// which bounds the product.
 fn longer(run: usize, last: u8, n: usize) -> usize
     requires { ⌜ n ≤ 4096 ⌝ }
     ensures { λ r. ⌜ r ≡ longerRun n last run ⌝ }
@@ -20,7 +22,7 @@ fn longer(run: usize, last: u8, n: usize) -> usize
     run
 }
 
-// How many rows a run of the digit j has, or no fewer than n.
+// The number of rows in a run of digit `j`, or some number from `n` on if it has at least `n` rows.
 fn run_of(lasts: &[u8; Slots::COUNT], j: usize, n: usize) -> usize
     requires { ⌜ (j ≤ 12) × (n ≤ 4096) ⌝ }
     ensures { λ r. ⌜ r ≡ runOf n (now (lasts .entry)) j ⌝ }
@@ -34,7 +36,7 @@ fn run_of(lasts: &[u8; Slots::COUNT], j: usize, n: usize) -> usize
     run
 }
 
-// The rows in which the first j digits go through all their values, n at most.
+// The period of the first `j` digits: the number of rows in which they take all their values, at most `n`.
 pub fn span_of(lasts: &[u8; Slots::COUNT], j: usize, n: usize) -> usize
     requires { ⌜ (j ≤ 12) × (n ≤ 4096) ⌝ }
     ensures { λ r. ⌜ r ≡ spanOf n (now (lasts .entry)) j ⌝ }
@@ -42,7 +44,7 @@ pub fn span_of(lasts: &[u8; Slots::COUNT], j: usize, n: usize) -> usize
     lesser(n, run_of(lasts, j, n))
 }
 
-// The runs of a digit, each value's behind the one before it, as far as there are rows.
+// Writes the runs of digit `j`, value after value, at most up to row `n`.
 fn set_runs(lasts: &[u8; Slots::COUNT], j: usize, run: usize, n: usize, out: &mut [u8])
     requires { ⌜ (j < 12) × (run ≡ runOf n (now lasts) j) ⌝ }
     requires { ⌜ n ≤ length (now out) ⌝ }
@@ -60,8 +62,7 @@ fn set_runs(lasts: &[u8; Slots::COUNT], j: usize, run: usize, n: usize, out: &mu
     }
 }
 
-// The column of a slot, for the rows in which its digit goes through all its values; answers how many digits it goes by. Past the last
-// slot all is 0.
+// Writes the column of slot `j` for one period; returns the number of digits that it depends on. For a slot that is not there all is 0.
 pub fn take_slot(lasts: &[u8; Slots::COUNT], j: usize, n: usize, out: &mut [u8]) -> usize
     requires { ⌜ (n ≤ 4096) × (n ≤ length (now out)) ⌝ }
     ensures { λ r. ⌜ r ≡ levelIn j ⌝ }

@@ -1,4 +1,5 @@
 // The values of a formula at all rows. A test's value is 1 for true.
+// A column is computed up to its period only: after it the same values repeat. Its level says how many of the first slots it depends on.
 use crate::run::widen;
 use crate::slot_column::span_of;
 use crate::slot_column::take_slot;
@@ -22,25 +23,25 @@ ghost use Rattle.tables_columns.specs.Column.{combined};
 ghost use Rattle.tables_digits.specs.SlotColumn.{spanOf, Widened};
 ghost use Rattle.tables_digits.specs.ValueColumn.{columnOf, levelOf, spanT, leafColumn, metAt, reachedAt, Joined, secondLeft};
 
-// The codes that stand as leaves, and how many values there are.
+// The codes that count as leaves, and the number of values.
 pub struct Reading {
     pub leaves: u32,
     pub range: u8,
 }
 
-// Whether there is nothing to combine at a position; if so, how many of the first slots its values go by.
+// Whether there is nothing to combine at a position, and the level of the column there if so.
 pub struct Met {
     pub leaf: bool,
     pub level: usize,
 }
 
-// The position past a formula, and how many of the first slots its values go by.
+// The position past a formula, and the level of its column.
 pub struct Reached {
     pub end: usize,
     pub level: usize,
 }
 
-// The column of a formula without parts, as far as its values come again; answers how many slots they go by.
+// Writes the column of a formula without parts, up to its period; returns its level.
 fn plain_column(
     image: &[u8],
     code: u8,
@@ -71,7 +72,7 @@ fn plain_column(
     0
 }
 
-// Whether there is nothing to combine at a position: no nesting is left, a formula without parts, or a leaf. If so, its column.
+// Writes the column of the formula at `at` if there is nothing to combine: no nesting is left, it has no parts, or it is a leaf.
 fn leaf_column(
     image: &[u8],
     at: usize,
@@ -121,7 +122,7 @@ fn leaf_column(
     }
 }
 
-// A node's column, in the place of its first part's.
+// Computes a node's column from those of its parts, in place of the first.
 fn combine_node(reading: Reading, node: Node, n: usize, column: &mut [u8], other: &[u8])
     requires { ⌜ (n ≤ length (now column)) × (n ≤ length (now other)) ⌝ }
     ensures { λ _. ⌜ take n (now (column .exit)) ≡ combined (reading .range) (node .code) (node .operand) n (now (column .entry))
@@ -130,13 +131,14 @@ fn combine_node(reading: Reading, node: Node, n: usize, column: &mut [u8], other
     combine_columns(reading.range, node.code, node.operand, n, column, other);
 }
 
+// The greater of two numbers.
 fn greater(i: usize, j: usize) -> usize
     ensures { λ r. ⌜ r ≡ max i j ⌝ }
 {
     if i < j { j } else { i }
 }
 
-// A column of which i slots decide, as far as the values of so many slots come again.
+// Extends a column of level `i` to the period of the first `level` slots, by repetition.
 fn widen_level(lasts: &[u8; Slots::COUNT], i: usize, level: usize, n: usize, out: &mut [u8])
     requires { ⌜ (i ≤ level) × ((level ≤ 12) × ((n ≤ 4096) × (n ≤ length (now out)))) ⌝ }
     ensures { λ _. ⌜ Widened (spanOf n (now (lasts .entry)) i) (spanOf n (now (lasts .entry)) level) (now (out .entry))
@@ -148,7 +150,7 @@ fn widen_level(lasts: &[u8; Slots::COUNT], i: usize, level: usize, n: usize, out
     widen(span_of(lasts, i, n), span_of(lasts, level, n), out);
 }
 
-// A node's column from those of its parts, of which i and j slots decide: as far as the values of both come again.
+// Computes a node's column, up to its period, from those of its parts, which have the levels `i` and `j`; returns its level.
 fn join_columns(
     reading: Reading,
     node: Node,
@@ -172,7 +174,7 @@ fn join_columns(
     level
 }
 
-// How deep a node's second part may be nested: not at all if there is none.
+// The nesting left for a node's second part; 0 if it has none.
 fn second_left(parts: u8, left: usize) -> usize
     ensures { λ r. ⌜ r ≡ secondLeft parts left ⌝ }
 {
@@ -185,7 +187,7 @@ fn second_left(parts: u8, left: usize) -> usize
     left - 1
 }
 
-// The column of the formula at a position, nested at most `left` deep, as far as its values come again.
+// Writes the column of the formula at `at`, nested at most `left` deep, up to its period.
 fn column_at(
     image: &[u8],
     at: usize,
@@ -226,7 +228,7 @@ fn column_at(
     Reached { end: e.end, level }
 }
 
-// The column of the formula at a position, for all rows.
+// Writes the column of the formula at `at`, nested at most `left` deep, for all `n` rows.
 pub fn whole_column(
     image: &[u8],
     at: usize,

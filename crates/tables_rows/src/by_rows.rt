@@ -1,4 +1,4 @@
-// By rows, and by truth table.
+// Tests by rows, and assertions by truth table.
 use crate::by_table::by_bits;
 use crate::entailment::Sizes;
 use crate::entailment::Task;
@@ -11,24 +11,26 @@ ghost use Prim.Native.Nat.{_-_};
 ghost use Rattle.formula.specs.Tree.{parseTree};
 ghost use Rattle.tables_rows.specs.ByRows.{rowsT, tableT, lineOf, premisesOf};
 
-// Implications between formulas by their positions: the first is the line, the others, as far as the count goes, are its premises.
+// Implications between formulas by their positions. The first is the line, the others are its premises; `count` counts all of them.
 pub struct Implications {
     pub count: usize,
     pub left: [usize; Sizes::IMPLICATIONS],
     pub right: [usize; Sizes::IMPLICATIONS],
 }
 
+// The codes that count as leaves by rows.
 pub struct LeafCodes {}
 
 impl LeafCodes {
-    // By rows: names.
+    // The names, which are registers and words, and the flags.
     pub const NAMES: u32 = (1 << Code::REG)
         + (1 << Code::WORD)
         + (1 << Code::UNSYNC)
         + (1 << Code::COV);
 }
 
-// Whether the test at b is true wherever the one at a is.
+// Whether the test at `other_at` is true at every row at which the one at `at` is, with at most 4,096 rows. No image has a range below 2;
+// the first test is there because `every_row` needs two values.
 pub fn by_rows(
     image: &[u8],
     at: usize,
@@ -57,6 +59,7 @@ pub fn by_rows(
     every_row(image, &lefts, &rights, task, reading, Limits::ROWS as u16)
 }
 
+// `n` - 1, or 0 for 0.
 fn one_less(n: usize) -> usize
     ensures { λ r. ⌜ r ≡ n - 1 ⌝ }
 {
@@ -66,7 +69,7 @@ fn one_less(n: usize) -> usize
     n - 1
 }
 
-// Whether the line is true in each row of the truth table in which every premise is.
+// Whether the line is true at each row of the truth table at which every premise is, with at most ten leaves.
 pub fn by_table(image: &[u8], imps: Implications) -> bool
     ensures { λ r. ⌜ r ≡ tableT (premisesOf (now (image .entry)) imps) (lineOf (now (image .entry)) imps) ⌝ }
 {

@@ -1,4 +1,4 @@
-// By truth table: the line and its premises as bits, their leaves gathered on the same walk.
+// The check by truth table: the line and its premises as bits, with their leaves gathered on the same walk.
 use crate::entailment::Task;
 use crate::entailment::number_at;
 use formula::code::Code;
@@ -20,7 +20,7 @@ ghost use Rattle.tables_rows.specs.Entailment.{impOf, gatherImp, gatherA
 ghost use Rattle.tables_rows.specs.EveryRow.{lastsOf, triedRows, rowsHold, everyOf};
 ghost use Rattle.tables_rows.specs.ByTable.{ImpBits, FailBits};
 
-// The rows at which an implication fails, with its leaves; answers how many leaves there are.
+// Writes the rows at which implication `i` fails, and adds its leaves; returns the number of leaves then.
 fn imp_bits(
     image: &[u8],
     lefts: &[usize],
@@ -47,7 +47,7 @@ fn imp_bits(
     k
 }
 
-// The rows at which the entailment fails, with its leaves: the line does, and every premise is true.
+// Writes the rows at which the entailment fails: every premise is true there, and the line is not. Returns the number of leaves.
 fn all_bits(
     image: &[u8],
     lefts: &[usize],
@@ -77,7 +77,7 @@ fn all_bits(
     k
 }
 
-// Whether the entailment fails at no row: every choice for the first k slots is tried exactly once, and no other row.
+// Whether the entailment fails at no row: every choice for the first `n` slots is tried exactly once, and no other row.
 fn bits_hold(
     image: &[u8],
     lefts: &[usize],
@@ -97,7 +97,7 @@ fn bits_hold(
     none_set(fails, rows_of(n))
 }
 
-// Whether there are ten leaves at most, and the line is true in each row in which every premise is.
+// Whether there are at most ten leaves, and the line is true at each row at which every premise is.
 pub fn by_bits(image: &[u8], lefts: &[usize], rights: &[usize], task: Task) -> bool
     ensures { λ r. ⌜ r ≡ everyOf (now (image .entry)) (now (lefts .entry)) (now (rights .entry)) task byLeaves 1024 ⌝ }
 {

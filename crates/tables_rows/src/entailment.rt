@@ -10,28 +10,29 @@ ghost use lib.ListN.{getD, length, take};
 ghost use Rattle.tables_columns.specs.Gather.{view};
 ghost use Rattle.tables_rows.specs.Entailment.{impOf, impFails, gatherImp, gatherAll};
 
+// The sizes of a task.
 pub struct Sizes {}
 
 impl Sizes {
-    // A line and its premises.
+    // A line and its four premises.
     pub const IMPLICATIONS: usize = 5;
 }
 
-// How many premises stand behind the line, and how deep the left and the right sides are nested at most.
+// The number of premises after the line, and the greatest nesting of the left and the right sides.
 pub struct Task {
     pub premises: usize,
     pub left: usize,
     pub right: usize,
 }
 
-// 0 past the end.
+// The number at index `i`; 0 past the end.
 pub fn number_at(numbers: &[usize], i: usize) -> usize
     ensures { λ r. ⌜ r ≡ getD (now (numbers .entry)) i 0 ⌝ }
 {
     if i < numbers.len() { numbers[i] } else { 0 }
 }
 
-// The rows at which an implication fails: 1 there, 0 elsewhere. (Room for one more column is lent.)
+// Writes the rows at which implication `i` fails: 1 there, 0 elsewhere. `room` is scratch space for another column.
 pub fn imp_fails(
     image: &[u8],
     lefts: &[usize],
@@ -72,7 +73,7 @@ pub fn imp_fails(
     and_not(n, out, room);
 }
 
-// With the leaves of an implication.
+// Adds the leaves of implication `i`; returns the number of leaves then.
 pub fn gather_imp(
     image: &[u8],
     lefts: &[usize],
@@ -93,7 +94,7 @@ pub fn gather_imp(
     gather_at(image, number_at(lefts, i), task.left, set, m, slots)
 }
 
-// The leaves of a line without premises.
+// Gathers the leaves of a line without premises; returns their number.
 pub fn gather_line(
     image: &[u8],
     lefts: &[usize],

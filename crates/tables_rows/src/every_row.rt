@@ -1,4 +1,4 @@
-// Every row tried, from all zeros on: of an implication without premises.
+// An implication without premises tried at every row, from the row of zeros on.
 use crate::entailment::Task;
 use crate::entailment::gather_line;
 use crate::entailment::imp_fails;
@@ -15,6 +15,7 @@ ghost use lib.ListN.{length, replicate};
 ghost use Rattle.tables_digits.specs.Advance.{rowsOf, EveryOnce};
 ghost use Rattle.tables_rows.specs.EveryRow.{lastsOf, triedRows, holdFrom, rowsHold, everyOf};
 
+// The last of `choices` values, counted from 0; 0 if there is none.
 fn last_of(choices: u8) -> u8
     ensures { λ r. ⌜ r ≡ choices - 1 ⌝ }
 {
@@ -24,7 +25,7 @@ fn last_of(choices: u8) -> u8
     choices - 1
 }
 
-// The last values of the first k slots; the others are 0.
+// Writes the last values of the first `n` slots into a zeroed array; the others stay 0.
 pub fn fill_lasts(
     image: &[u8],
     range: u8,
@@ -42,7 +43,7 @@ pub fn fill_lasts(
     }
 }
 
-// Whether the implication fails at none of the rows from all zeros on.
+// Whether the implication fails at none of the first `n` rows; `fails` and `room` are scratch space for two columns.
 fn none_fails(
     image: &[u8],
     lefts: &[usize],
@@ -77,7 +78,7 @@ fn none_fails(
     none_below(fails, n)
 }
 
-// The same, with room for as many rows as there are.
+// Whether the implication fails at none of the first `n` rows, with scratch space as large as `n` needs.
 fn try_rows(
     image: &[u8],
     lefts: &[usize],
@@ -125,7 +126,7 @@ fn try_rows(
     )
 }
 
-// Whether the implication holds at each row: every choice for the first k slots is tried exactly once, and no other row.
+// Whether the implication holds at each row: every choice for the first `n` slots is tried exactly once, and no other row.
 pub fn rows_hold(
     image: &[u8],
     lefts: &[usize],
@@ -148,7 +149,7 @@ pub fn rows_hold(
     try_rows(image, lefts, rights, task, reading, slots, &lasts, rows)
 }
 
-// Whether there are at most so many rows, and the implication holds at each.
+// Whether there are at most `limit` rows, and the implication holds at each.
 pub fn every_row(
     image: &[u8],
     lefts: &[usize],

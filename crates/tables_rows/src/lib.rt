@@ -1,7 +1,7 @@
-// Whether a test follows from others, row by row.
+// Entailment between formulas at every row: tests by rows (rules 21, 23, 24 and 30) and assertions by truth table (rule 20).
 pub mod entailment;
 pub mod every_row;
 
-// Tests by rows, and truth tables: every row tried, from all zeros on. One fact on rows for both.
+// What the rules call: by rows, and by truth table. One fact on rows serves both.
 pub mod by_rows;
 pub mod by_table;
