@@ -1,4 +1,4 @@
--- The program logic, in the order of the scope page.
+-- The program logic, in the order of paper 01.
 -- what the rules give
 pub mod Rows
 pub mod Table
@@ -8,6 +8,6 @@ pub mod Rule
 pub mod Inference
 pub mod Obligations
 pub mod Claims
--- what acceptance comes from
+-- what soundness needs of a program, and a certificate's statements as derivations
 pub mod WellFormed
 pub mod Derivation

@@ -6,6 +6,7 @@ use lib.Dec.{eqb}
 use Rattle.semantics.specs.Code
 use Rattle.semantics.specs.Code.{byte}
 
+-- the paper's four sorts of formulas
 pub data Sort : Type 0 where
   value test interval assertion : Sort
 
@@ -63,7 +64,7 @@ encode (eitherA a b) l = byte Code.eitherA ∷ encode a (encode b l)
 encode start l = byte Code.start ∷ l
 encode (holds e) l = byte Code.holds ∷ encode e l
 
--- a formula without a sub-formula has 1
+-- the nesting of a formula: "a formula without a sub-formula has 1"
 abbrev pub nesting : {s : Sort} → Formula s → ℕ
 nesting (const n) = 1
 nesting (reg r) = 1
@@ -88,12 +89,13 @@ nesting (eitherA a b) = suc (max (nesting a) (nesting b))
 nesting start = 1
 nesting (holds e) = suc (nesting e)
 
--- formulas are compared by bytes
+-- two lists of bytes are equal
 abbrev pub sameBytes : List ℕ → List ℕ → Bool
 sameBytes [] [] = Bool.true
 sameBytes [] (y ∷ m) = Bool.false
 sameBytes (x ∷ l) [] = Bool.false
 sameBytes (x ∷ l) (y ∷ m) = eqb x y && sameBytes l m
 
+-- "formulas compared by bytes"
 unfoldable pub same : {s : Sort} → Formula s → Formula s → Bool
 same f g = sameBytes (encode f []) (encode g [])

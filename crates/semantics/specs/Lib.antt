@@ -1,4 +1,4 @@
--- What demand 3 says, in the order of the scope page: formulas, machine, truth, every run.
+-- What demand 3 says, in the order of paper 01: formulas, machine, truth, every run.
 pub mod Base
 pub mod Limits
 pub mod Code
@@ -8,5 +8,5 @@ pub mod Eval
 pub mod Machine
 pub mod Truth
 pub mod EveryRun
--- which names occur in a formula
+-- which names occur in a formula: what the side conditions of rules ask for
 pub mod Names
