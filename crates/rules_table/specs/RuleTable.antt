@@ -1,13 +1,14 @@
--- The table of rules as the code has it.
+-- The table of rules as the code has it: what `rule_at` and `all_templates` return.
 use mathlib.Core.List.{List, [], _∷_}
 use Prim.Native.Nat.{ℕ}
 use lib.ListN.{getD}
 use Rattle.rules_table.specs.declared.rule.Rule.{Rule}
 
--- forms of lines, and what is asked besides, by number
+-- the form of a number that no rule has
 abbrev pub unlistedForm : ℕ
 unlistedForm = 4
 
+-- the numbers of the side conditions; `nothing`: the rule has none
 abbrev pub nothing : ℕ
 nothing = 0
 
@@ -41,17 +42,20 @@ newValue = 9
 abbrev pub startsAtZero : ℕ
 startsAtZero = 10
 
--- rule 20: 0 to 4 implications
+-- the premise count of rule 20, which has 0 to 4 implications
 abbrev pub anyImplications : ℕ
 anyImplications = 5
 
+-- a row of the table
 abbrev pub rule : ℕ → ℕ → ℕ → ℕ → ℕ → ℕ → Rule
 rule form template premises forms operations side =
     record { form = form; template = template; premises = premises; forms = forms; operations = operations; side = side }
 
+-- the row of a number that no rule has
 abbrev pub unlisted : Rule
 unlisted = rule unlistedForm 0 0 0 0 nothing
 
+-- the rows by rule number, from 0
 abbrev pub rows : List Rule
 rows =
     unlisted ∷
@@ -107,9 +111,11 @@ rows =
     rule 3 440 1 2 3584 assigned ∷
     []
 
+-- the row of the rule with number n
 unfoldable pub ruleRow : ℕ → Rule
 ruleRow n = getD rows n unlisted
 
+-- the templates of all rules as bytes, one after another
 abbrev pub templates : List ℕ
 templates =
     64 ∷ 64 ∷ 64 ∷ 65 ∷ 24 ∷ 0 ∷ 16 ∷ 67 ∷ 28 ∷ 66 ∷ 24 ∷ 0 ∷ 18 ∷ 16 ∷ 67 ∷ 64 ∷ 26 ∷ 28 ∷ 66 ∷ 65 ∷ 24 ∷ 0 ∷ 64 ∷ 65 ∷
