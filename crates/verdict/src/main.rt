@@ -6,7 +6,7 @@ use libc::STDOUT_FILENO;
 use line::answer;
 
 fn main() {
-    // More bytes than an image may have: what does not fit is too long whatever follows.
+    // The buffer is longer than the program's limit, so an input that fills it is too long whatever follows.
     let mut space = io::large_buffer();
     let text = answer(STDIN_FILENO, &mut space);
     let n = text.len;
@@ -15,7 +15,7 @@ fn main() {
         os::fail(b"standard input");
         return;
     }
-    // In one call.
+    // The line is written in one call.
     if io::write_all(STDOUT_FILENO, &line[..n]) {
         return;
     }
