@@ -36,7 +36,7 @@ pub record Judged (content : Image) (v : Verdict) (buffer : List ℕ) (code : �
   pub right : Outline.Judged content finding
   pub answer : v ≡ judged content finding
 
--- for an image and a buffer: the code returned, and the buffer afterwards
+-- what holds for an image and a buffer: the code returned, and the buffer afterwards
 pub record Promise (image buffer : List ℕ) (code : ℕ) (after : List ℕ) : Type 0 where
   -- the code of the verdict; 1 for a buffer that is too short
   pub returned : code ≡ codeFor (verdict image) buffer

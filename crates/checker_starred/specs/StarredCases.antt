@@ -1,4 +1,4 @@
--- The starred cases of paper 01, a row each.
+-- The starred cases of the scope page, a row each.
 use mathlib.Core.Bool.{Bool, _&&_}
 use mathlib.Core.List.{List, [], _∷_, _++_}
 use Prim.Native.Nat.{ℕ}
@@ -43,7 +43,7 @@ reported l = 20 ∷ 0 ∷ 7 ∷ 0 ∷ numbers l
 abbrev pub answer : List ℕ → List ℕ → Case
 answer s l = record { image = s; buffer = room 25; code = getD l 0 0; written = reported l ++ room 3 }
 
--- the paper's small image with the range byte of Change 14; n is its last line number
+-- the page's small image with the range byte of Change 14; n is its last line number
 abbrev pub small : ℕ → List ℕ
 small n =
     7 ∷ 0 ∷ 1 ∷ 0 ∷ 1 ∷ 1 ∷ 0 ∷ 8 ∷ 0 ∷ 5 ∷ 0 ∷ 2 ∷ 0 ∷ 28 ∷ 11 ∷ 8 ∷ 3 ∷ 0 ∷ 2 ∷ 0 ∷ 27 ∷ 3 ∷ 0 ∷ 3 ∷ 0 ∷ 1 ∷ 4 ∷ 0 ∷ 4 ∷ 0 ∷ 1 ∷ 0

@@ -1,4 +1,4 @@
--- The program logic, in the order of paper 01.
+-- The program logic, in the order of the scope page.
 -- what the rules give
 pub mod Rows
 pub mod Table

@@ -1,4 +1,4 @@
--- The operations of instructions, by their numbers in the image: 0 to 6 of paper 01, 7 and 8 of Change 1, 9 to 12 of Change 6.
+-- The operations of instructions, by their numbers in the image: 0 to 6 of the scope page, 7 and 8 of Change 1, 9 to 12 of Change 6.
 use Prim.Native.Nat.{ℕ}
 
 -- register a := f

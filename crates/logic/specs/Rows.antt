@@ -1,4 +1,4 @@
--- Valuations (the paper's rows): every choice of a value for each key of a list. By rows the keys are names, by truth table leaves.
+-- Valuations (the page's rows): every choice of a value for each key of a list. By rows the keys are names, by truth table leaves.
 use mathlib.Core.Bool.{Bool, true, false, cond, not, _&&_, _||_}
 use mathlib.Core.List.{List, [], _∷_, _++_}
 use Prim.Native.Nat.{ℕ, zero, suc, _*_}

@@ -15,7 +15,7 @@ pub data Pattern : Sort → Type 0 where
   anyV : ℕ → Pattern Sort.value
   -- the instruction's formula
   f : Pattern Sort.value
-  -- as in formulas
+  -- the constructors of formulas, with schematic numbers
   const : ℕ → Pattern Sort.value
   reg word : Num → Pattern Sort.value
   equal : Pattern Sort.value → Pattern Sort.value → Pattern Sort.test

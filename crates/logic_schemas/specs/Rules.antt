@@ -44,47 +44,55 @@ pub record Row : Type 0 where
   pub operations : List ℕ
   pub sides : List Side
 
--- the operations that rules allow, at a pair's point those of its first half. "Store" covers 3 and 4, "load" 1 and 2
+-- the operations that rules allow, at a pair's point those of its first half; rule 2: assignments
 abbrev pub assigns : List ℕ
 assigns = Opcode.assign ∷ Opcode.assignTwo ∷ []
 
+-- "load" covers 1 and 2
 abbrev pub loads : List ℕ
 loads = Opcode.load ∷ Opcode.acquire ∷ []
 
+-- "Store" covers 3 and 4
 abbrev pub stores : List ℕ
 stores = Opcode.store ∷ Opcode.release ∷ []
 
+-- rules 11 and 12: swap alone
 abbrev pub swaps : List ℕ
 swaps = Opcode.swap ∷ []
 
--- those that return the old value in a register
+-- the operations that return the old value in a register (rules 47 to 49)
 abbrev pub returning : List ℕ
 returning = Opcode.exchange ∷ Opcode.fetchAdd ∷ []
 
--- those that cover the write they pick: the read-modify-writes
+-- the operations that cover the write they pick: the read-modify-writes (rule 13)
 abbrev pub covering : List ℕ
 covering = Opcode.swap ∷ returning
 
--- rule 5: those that acquire
+-- the operations that acquire (rule 5)
 abbrev pub acquiring : List ℕ
 acquiring = Opcode.acquire ∷ covering
 
+-- rule 8: releasing store
 abbrev pub releasing : List ℕ
 releasing = Opcode.release ∷ []
 
+-- rule 9: stores and swap, which return no old value
 abbrev pub storesSwaps : List ℕ
 storesSwaps = Opcode.store ∷ Opcode.release ∷ Opcode.swap ∷ []
 
+-- the operations that add a write (rule 10)
 abbrev pub writes : List ℕ
 writes = Opcode.store ∷ Opcode.release ∷ covering
 
+-- the operations that touch a shared word (rule 1)
 abbrev pub accesses : List ℕ
 accesses = Opcode.load ∷ Opcode.acquire ∷ writes
 
+-- the pairs (rule 50)
 abbrev pub pairs : List ℕ
 pairs = Opcode.pairStore ∷ Opcode.pairRelease ∷ Opcode.pairSwap ∷ []
 
--- rules 14 to 16: all but branches
+-- all but branches (rules 14 to 16)
 abbrev pub actions : List ℕ
 actions = Opcode.assign ∷ Opcode.assignTwo ∷ accesses
 

@@ -34,22 +34,27 @@ goalBytes =
     ∷ byte Code.bothA ∷ firstHole ∷ (firstHole + 1) ∷ byte Code.holds ∷ byte Code.false
     ∷ []
 
--- where each template begins
+-- the position of the template for class 1: start gives an assertion
 abbrev pub startAt : ℕ
 startAt = 0
 
+-- class 2: one assertion is taken to another
 abbrev pub stepAt : ℕ
 stepAt = 2
 
+-- class 2 for a branch: an assertion and the negated test give another
 abbrev pub nextAt : ℕ
 nextAt = 4
 
+-- class 3: an assertion and the test give another
 abbrev pub targetAt : ℕ
 targetAt = 10
 
+-- class 4: two assertions are taken to the first
 abbrev pub keptAt : ℕ
 keptAt = 15
 
+-- a claim: false from two assertions
 abbrev pub claimAt : ℕ
 claimAt = 19
 
@@ -82,7 +87,7 @@ abbrev pub kept : ℕ → ℕ → ℕ → ℕ → Bind → Goal
 kept f t k i b = record { form = f; thread = t; point = k; template = i; bind = b }
 
 module _ (s : List ℕ) (z : Sizes) where
-  -- where the assertion at point k of t begins in the image
+  -- the position of the assertion at point k of t
   abbrev pub assertedAt : ℕ → ℕ → ℕ
   assertedAt t k = formulaAt s (outlineNumber z (bodies s) t k)
 

@@ -1,5 +1,5 @@
-// The caller's table as a slice of write structs, the form that paper 01 names. A function over such a slice is proved by a walk of its
-// code, by hand, so there are two, and they are thin: what is shown is worked out by functions on values and bytes.
+// The caller's table as a slice of write structs, the form that the scope page names. A function over such a slice is proved by a walk of
+// its code, by hand, so there are two, and they are thin: what is shown is worked out by functions on values and bytes.
 use crate::whole::shown_of;
 use replay_machine::answer::Answer;
 use replay_machine::output::Shown;

@@ -12,7 +12,7 @@ pub struct Effect {
     pub word: u8,
     pub register: u8,
     pub value: u8,
-    // The register of the auxiliary assignment (the paper's note), or of the second assignment, and its value.
+    // The register of the auxiliary assignment (Change 6's note), or of the second assignment, and its value.
     pub noted: u8,
     pub note: u8,
     // The point that a branch goes to.

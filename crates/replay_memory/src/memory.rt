@@ -1,4 +1,4 @@
-// The memory: one table of writes, word by word in modification order (the paper's row order), with the sizes of eight rows, and the
+// The memory: one table of writes, word by word in modification order (the page's row order), with the sizes of eight rows, and the
 // views of four threads. Words, threads and positions count from 0 here; a number past the last one is taken modulo eight, four or
 // 72, which bounds each index without a precondition.
 use crate::view::View;

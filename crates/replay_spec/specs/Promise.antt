@@ -61,28 +61,30 @@ module _ (s : List ℕ) (z : Sizes) (trace given : List ℕ) (room : ℕ) (a : A
     pub answer : AnswerStands (z .threads) (z .registers) a (outcome .state)
     pub table : TableStands (z .words) shown (outcome .state)
     pub fits : length shown ≤ room
-    -- in each state on the way, and in the one reached, each thread's assertion at its point is true
+    -- each thread's assertion at its point is true in each state on the way, and in the one reached
     pub on-the-way : (k : ℕ) → k ≤ a .steps → Holds P O (run P first (take k (stepsIn trace)))
     pub holds : Holds P O (outcome .state)
     -- an assertion at a point of the answer that is made of 25, 26 and 28 alone evaluates to true at the answer's registers
     pub plain : (t : ℕ) → t < z .threads → T (ofRegs (O (suc t) (getD (a .points) t 0)))
         → plainTrue (P .range) (λ r. nth (a .registers) r 0) (O (suc t) (getD (a .points) t 0)) ≡ true
 
--- for every byte string, trace, given registers and number of entries in the caller's table
+-- what holds for every byte string, trace, given registers and number of entries in the caller's table
 pub record Promise (image trace given : List ℕ) (lent : ℕ) (a : Answer) (shown : List Write) : Type 0 where
+  -- the answer and the writes shown are those of the replay on numbers
   pub answer : a ≡ answerOf (replayOf image trace given lent)
   pub table : shown ≡ shownOf (replayOf image trace given lent) lent
+  -- an image that is not accepted; one whose start writes do not fit; one whose start writes fit
   pub refused : acceptance image ≡ Declined → (a ≡ declined) × (shown ≡ [])
   pub unfit : (z : Sizes) → acceptance image ≡ Granted z → roomOf lent < z .words → Unfit image z trace given (roomOf lent) a shown
   pub replays : (z : Sizes) → acceptance image ≡ Granted z → z .words ≤ roomOf lent → Replays image z trace given (roomOf lent) a shown
 
--- for a table of write structs: what it holds afterwards
+-- what holds for a table of write structs: its contents afterwards
 pub record Into (image trace given : List ℕ) (table : List Write) (a : Answer) (after : List Write) : Type 0 where
   pub shown : List Write
   pub right : Promise image trace given (length table) a shown
   pub writes : after ≡ placed shown table
 
--- for a table of bytes and `room` for the answer's numbers: the code returned, and what both hold afterwards
+-- what holds for a table of bytes and `room` for the answer's numbers: the code returned, and the contents of both afterwards
 pub record Written (image trace given table room : List ℕ) (code : ℕ) (after told : List ℕ) : Type 0 where
   pub answer : Answer
   pub shown : List Write

@@ -16,7 +16,7 @@ ghost use mathlib.Core.Path.{_≡_};
 ghost use Prim.Native.Nat.{_<_};
 ghost use Rattle.rules_line.specs.SideTests.{holeOf, numberIn, treeOf, apart, keeps, oneBy, isWith, storedBy, isStart};
 
-// Where a formula begins in the image, and the nesting that is left there.
+// A formula in the image: where it begins, and the nesting that is left there.
 pub struct Position {
     pub at: usize,
     pub left: usize,

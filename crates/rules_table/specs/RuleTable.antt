@@ -8,37 +8,47 @@ use Rattle.rules_table.specs.declared.rule.Rule.{Rule}
 abbrev pub unlistedForm : ℕ
 unlistedForm = 4
 
--- the numbers of the side conditions; `nothing`: the rule has none
+-- the number of a rule without a side condition
 abbrev pub nothing : ℕ
 nothing = 0
 
+-- rule 1: the instruction preserves the assertion
 abbrev pub isKept : ℕ
 isKept = 1
 
+-- rules 2 and 50: substitution for assigned registers
 abbrev pub assigned : ℕ
 assigned = 2
 
+-- rules 3, 4 and 47: the register replaced by the word
 abbrev pub loaded : ℕ
 loaded = 3
 
+-- rules 8 and 13: neither the word nor the result register occurs in J
 abbrev pub wordAbsent : ℕ
 wordAbsent = 4
 
+-- rule 9: the word replaced by the formula, and no flag of the word
 abbrev pub stored : ℕ
 stored = 5
 
+-- rules 21, 23, 24 and 30
 abbrev pub byRows : ℕ
 byRows = 6
 
+-- rule 20
 abbrev pub byTable : ℕ
 byTable = 7
 
+-- rule 26: the start value of a word
 abbrev pub startValue : ℕ
 startValue = 8
 
+-- rules 48 and 49: the value of the new write
 abbrev pub newValue : ℕ
 newValue = 9
 
+-- rule 27: the register starts at 0
 abbrev pub startsAtZero : ℕ
 startsAtZero = 10
 

@@ -1,7 +1,7 @@
 -- The formula bytes: a code for each kind of formula, by sort.
 use Prim.Native.Nat.{ℕ}
 
--- the paper's "formula bytes (decimal)", a line for each sort: values, tests, intervals, assertions
+-- the page's "formula bytes (decimal)", a line for each sort: values, tests, intervals, assertions
 pub data Code : Type 0 where
   const reg word sum : Code
   false equal less not and or unsync cov : Code

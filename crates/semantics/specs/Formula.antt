@@ -6,7 +6,7 @@ use lib.Dec.{eqb}
 use Rattle.semantics.specs.Code
 use Rattle.semantics.specs.Code.{byte}
 
--- the paper's four sorts of formulas
+-- the page's four sorts of formulas
 pub data Sort : Type 0 where
   value test interval assertion : Sort
 

@@ -1,4 +1,4 @@
--- What demand 3 says, in the order of paper 01: formulas, machine, truth, every run.
+-- What demand 3 says, in the order of the scope page: formulas, machine, truth, every run.
 pub mod Base
 pub mod Limits
 pub mod Code

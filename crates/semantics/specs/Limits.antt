@@ -1,4 +1,4 @@
--- The limits of paper 01 that the logic knows. Counts of threads, words, registers, points and values are the program's.
+-- The limits of the scope page that the logic knows. Counts of threads, words, registers, points and values are the program's.
 use Prim.Native.Nat.{ℕ}
 
 -- by rows: at most this many rows

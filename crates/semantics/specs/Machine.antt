@@ -1,4 +1,4 @@
--- The machine: a modification order for each word (the paper's row of writes), views, threads with registers and points; what each
+-- The machine: a modification order for each word (the page's row of writes), views, threads with registers and points; what each
 -- instruction does; steps, refused ones among them; runs.
 use mathlib.Core.Path.{_≡_}
 use mathlib.Core.Bool.{Bool, true, false, cond, not, _&&_}

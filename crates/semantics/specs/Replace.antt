@@ -38,7 +38,7 @@ replace σ (holds e) = holds (replace σ e)
 abbrev pub regBy : ℕ → Value → Sub
 regBy r f = record { reg = upd reg r f; word = word }
 
--- the paper's "note" of a pair, an auxiliary assignment: a register and the value that it is given
+-- the "note" of a pair (Change 6), an auxiliary assignment: a register and the value that it is given
 pub record Note : Type 0 where
   pub to : ℕ
   pub by : Value

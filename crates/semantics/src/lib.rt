@@ -1,2 +1,1 @@
-// The semantics of C11 release-acquire-relaxed programs and of assertions about them;
-// definitions (specs/) and guards on them (proofs/), no code.
+// The semantics of C11 release-acquire-relaxed programs and of assertions about them (specs/), guarded by examples (proofs/); no code.

@@ -1,4 +1,4 @@
-// Reads an image from standard input and writes the nine fields of its verdict to standard output.
+// The program `verdict`: reads an image from standard input and writes the nine fields of its verdict to standard output.
 mod line;
 
 use libc::STDIN_FILENO;
@@ -11,6 +11,7 @@ fn main() {
     let text = answer(STDIN_FILENO, &mut space);
     let n = text.len;
     let line = text.bytes;
+    // An empty text says that a read failed; no verdict is empty.
     if n == 0 {
         os::fail(b"standard input");
         return;

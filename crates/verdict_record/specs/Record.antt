@@ -3,9 +3,11 @@ use mathlib.Core.List.{List, [], _∷_, _++_}
 use Prim.Native.Nat.{ℕ, _-_, _/_, _%_}
 use Rattle.verdict_record.specs.declared.verdict.Fields.{Fields}
 
+-- the bytes of the record
 abbrev pub size : ℕ
 size = 22
 
+-- the kind of the record
 abbrev pub kind : ℕ
 kind = 7
 
