@@ -33,8 +33,7 @@ fn granted_by(verdict: Verdict, sizes: Sizes) -> Acceptance
     }
 }
 
-// Whether the image is accepted, and the counts of its records. Fills `index`, which the caller passes as
-// tableSize(image) zeros, with where its records are.
+// Whether the image is accepted, and the counts of its records. `index`, tableSize(image) zeros, is filled with where its records are.
 pub fn accept_image<'a, 'b>(image: &'a [u8], index: &'b mut [usize]) -> Acceptance
     requires { ⌜ now index ≡ replicate (tableSize (now image)) 0 ⌝ }
     ensures { λ r. ⌜ (r ≡ acceptance (now (image .entry))) × (now (index .exit) ≡ indexOf (now (image .entry))) ⌝ }

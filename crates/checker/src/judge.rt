@@ -1,5 +1,4 @@
-// The verdict on an image: the first fault of its bytes, or the first obligation that is
-// not met, or the first claim that fails, or accepted.
+// The verdict on an image: the first fault of its bytes, or the first obligation that is not met, or the first failing claim, or accepted.
 use image::decode::Decoded;
 use image::decode::decode_image;
 use image_access::claim::Claimed;

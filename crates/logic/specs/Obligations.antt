@@ -68,8 +68,7 @@ module _ (P : Program) where
     wantsNext t k (act A ns) = taking t k (act A ns) (O t k) (O t (suc k))
     wantsNext t k (branch e a) = implies (bothA (O t k) (holds (Formula.not e))) (O t (suc k))
 
-    -- what gives the target's assertion: the implication from assertion and test of a branch. An action has no target and
-    -- no obligation `taken`; its value here is arbitrary
+    -- what gives the target's assertion: the implication from assertion and test of a branch; for an action, which has no target, arbitrary
     abbrev pub wantsTarget : ℕ → ℕ → Instr → Statement
     wantsTarget t k (act A ns) = wantsNext t k (act A ns)
     wantsTarget t k (branch e a) = implies (bothA (O t k) (holds e)) (O t a)

@@ -1,5 +1,4 @@
--- The verdict on a well-formed image: its obligations in order, each met by the line that
--- it names, or the first that is not; then its claims.
+-- The verdict on a well-formed image: its obligations in order, each met by the line that it names, or the first that is not; then claims.
 use mathlib.Core.Path.{_≡_}
 use mathlib.Core.Bool.{Bool, true, false}
 use mathlib.Core.List.{List, [], _∷_}
@@ -33,14 +32,12 @@ pub record Image : Type 0 where
   pub named : ℕ → ℕ
   pub claims : Claims
 
--- met n: all n obligations are met; failed c o l n: obligation o is the first that is not
--- met, with its code c and its line l, after n met ones
+-- met n: all n obligations are met; failed c o l n: obligation o is the first that is not met, with code c and line l, after n met ones
 pub data Judgement : Type 0 where
   met : ℕ → Judgement
   failed : ℕ → Obligation → ℕ → ℕ → Judgement
 
--- the code of a line, by whether it is absent, states what is wanted, is justified: "20 no line; 21 line concludes
--- something else; 22 line unjustified"; 0 if it serves
+-- "20 no line; 21 line concludes something else; 22 line unjustified"; 0 if there is a line, it states what is wanted and is justified
 abbrev pub codeOf : Bool → Bool → Bool → ℕ
 codeOf true says just = 20
 codeOf false false just = 21

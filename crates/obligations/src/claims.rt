@@ -34,8 +34,7 @@ fn denied_of<'a, 'b, 'c>(
     i
 }
 
-// The number of the first claim that its line does not prove, from 0; if there is none, how many there are. An image without claims
-// is answered at once, because `totals_of` takes time.
+// The number of the first claim that its line does not prove, from 0; if there is none such, how many claims there are.
 pub fn first_denied<'a, 'b, 'c>(
     image: &'a [u8],
     index: &'b [usize],
@@ -45,6 +44,7 @@ pub fn first_denied<'a, 'b, 'c>(
     requires { ⌜ now index ≡ indexOf (now image) ⌝ }
     ensures { λ r. ⌜ (r ≡ firstDenied (now (image .entry)) sizes (asMarks (now (marks .entry))) (sizes .claims) 0) × (r ≤ sizes .claims) ⌝ }
 {
+    // Without claims nothing has to be counted.
     if sizes.claims == 0 {
         return 0;
     }

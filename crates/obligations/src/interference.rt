@@ -54,8 +54,7 @@ fn judge_assertion<'a, 'b, 'c>(
     )
 }
 
-// Judges every assertion of thread `u`, the last one too, under the instruction at one point of
-// thread `t`. A thread does not interfere with itself.
+// Judges every assertion of thread `u`, the last too, under one instruction of thread `t`. A thread does not interfere with itself.
 fn judge_asserting<'a, 'b, 'c>(
     image: &'a [u8],
     index: &'b [usize],

@@ -32,8 +32,7 @@ fn put_shown(shown: Shown, table: &mut [Write]) -> Answer
     shown.answer
 }
 
-// Replays a trace on the machine of an accepted image. The answer has the code, the steps, points and registers; the
-// table ends holding the writes of the state reached.
+// Replays a trace on the machine of an accepted image and returns the answer; the table ends holding the writes of the state reached.
 pub fn replay_into<'a, 'b, 'c, 'd>(
     image: &'a [u8],
     trace: &'b [u8],

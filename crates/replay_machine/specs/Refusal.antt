@@ -1,5 +1,4 @@
--- Why a step is refused: "27 thread absent, at its last point, or half a step; 28 pick not
--- permitted; 29 no entry left for a write"; 0 if it is taken.
+-- The code of a refused step: "27 thread absent, at its last point, or half a step; 28 pick not permitted; 29 no entry left for a write".
 use Prim.Native.Nat.{ℕ}
 use mathlib.Core.Bool.{Bool, false, not, cond}
 use lib.Dec.{eqb, ltb, leb}

@@ -24,8 +24,7 @@ reachable m t k p = reachableBy (record { sizes = m .sizes; views = m .views }) 
 unfoldable pub uncovered : Memory → ℕ → ℕ → ℕ → Bool
 uncovered m t k p = cond (reachable m t k p) (not (writeAt m k p .covered)) false
 
--- a load reads any reachable write, "covered or not"; a store or swap "picks an uncovered
--- write"; for assignment and branch the position is 0
+-- a load reads any reachable write, "covered or not"; a store or swap "picks an uncovered write"; assignment and branch have position 0
 unfoldable pub mayPick : Memory → Effect → ℕ → ℕ → Bool
 mayPick m d t p =
     cond (eqb (d .operation) Opcode.assign) (eqb p 0)

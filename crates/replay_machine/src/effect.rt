@@ -5,8 +5,7 @@ ghost use Prim.Native.Nat.{_-_};
 ghost use Rattle.image_access.specs.AccessPlaces.{registerFirst};
 ghost use Rattle.replay_machine.specs.Effect.{effectOf};
 
-// An instruction with values for its formulas. The word counts from 0, registers from 1.
-// Fields that the operation does not use are ignored.
+// An instruction with values for its formulas. The word counts from 0, registers from 1. Fields that an operation does not use are ignored.
 pub struct Effect {
     pub operation: u8,
     pub word: u8,

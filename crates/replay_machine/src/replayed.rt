@@ -40,8 +40,7 @@ pub fn room_of(lent: usize) -> usize
     }
 }
 
-// Replays the trace on an accepted image, whose index and sizes these are; `room` is how many writes there may
-// be. If the start writes do not fit, no step is taken.
+// Replays the trace on an accepted image; `room` is how many writes there may be. If the start writes do not fit, no step is taken.
 pub fn replay_on<'a, 'b, 'c, 'd>(
     image: &'a [u8],
     index: &'b [usize],

@@ -1,5 +1,4 @@
--- The memory as the code has it: all writes in one list, word by word in modification order (the page's row order);
--- the sizes of eight rows; the views of four threads.
+-- The memory as the code has it: all writes in one list, word by word in modification order; the sizes of eight rows; four views.
 use Prim.Native.Nat.{ℕ, zero, suc, _+_, _%_}
 use mathlib.Core.List.{List}
 use lib.ListN.{getD, set}

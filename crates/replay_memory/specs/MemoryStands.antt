@@ -21,8 +21,8 @@ pub record SameWrite (a : Write) (b : Logic.Write) : Type 0 where
   pub covered : a .covered ≡ b .covered
   pub stored : SameView (a .stored) (b .stored)
 
--- the memory represents the shared memory and the views of the state. All rows together have at most
--- 72 writes; of the places after them nothing is said
+-- the memory represents that of the state, and its views. All rows have at most 72 writes
+-- together; of the places after them nothing is said
 pub record Stands (m : Memory) (s : State) : Type 0 where
   pub rows : length (m .sizes) ≡ 8
   pub places : length (m .writes) ≡ 72

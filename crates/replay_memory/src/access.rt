@@ -17,8 +17,7 @@ ghost use lib.ListN.{length};
 ghost use Rattle.replay_memory.specs.Memory.{memoryOf};
 ghost use Rattle.replay_memory.specs.Access.{readFrom, loaded, put, stored, swapFrom, swapped};
 
-// The view after a load of `write`: if the load acquires and the write is releasing, the stored
-// view is joined in; otherwise only that word moves.
+// The view after a load of `write`: if it acquires and the write is releasing, the stored view is joined in; else only that word moves.
 fn read_view(write: Write, view: View, acquires: bool, x: u8, position: u8) -> View
     ensures { λ r. ⌜ r ≡ readFrom write view acquires x position ⌝ }
 {
@@ -51,8 +50,7 @@ pub fn load(
     )
 }
 
-// Inserts a new write behind `position` of word `x`, by thread `t` from `view`: the thread's
-// view moves to it, and that view is stored with it.
+// Inserts a write behind `position` of word `x`, by thread `t` from `view`: the view moves to it, and that view is stored with it.
 fn put(
     shape: MemoryShape,
     releasing: bool,

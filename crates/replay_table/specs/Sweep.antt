@@ -10,7 +10,7 @@ use Rattle.replay_table.specs.declared.Order.{Order}
 use Rattle.replay_table.specs.declared.Run.{Run}
 use Rattle.replay_table.specs.declared.Turn.{Turn}
 
--- the turn of entry e, which has `old`: before the place the entry stays, and from it on each takes the write of the one before
+-- the turn of entry e, which has `old`: before the place it keeps its write, from it on it takes the carried one; from `count` on it stays
 unfoldable pub turnOf : Order → ℕ → Write → Write → Turn
 turnOf o e carried old =
     cond (ltb e (o .count))

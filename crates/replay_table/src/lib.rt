@@ -25,7 +25,7 @@ pub fn put(table: &mut [Write], i: usize, write: Write)
     }
 }
 
-// An insertion: `write` goes to entry `at` of a table with `count` entries in use, behind position `behind` of word `word`.
+// An insertion: `write` goes to entry `at`, behind position `behind` of word `word`; `count` is how many entries are in use afterwards.
 pub struct Order {
     pub count: usize,
     pub at: usize,
@@ -54,8 +54,8 @@ fn raised(write: Write, x: u8, position: u8) -> Write
     }
 }
 
-// The turn of entry `i`, which has `old`, in a sweep that carries `carried`: entries before the place stay, from it on each takes the write
-// of the one before; entries that are not in use stay.
+// The turn of entry `i`, which has `old`, in a sweep that carries `carried`: before the place it keeps its write, from it on it takes the
+// carried one; stored views keep their writes. Entries from `count` on stay as they are.
 pub fn turn_at(order: Order, i: usize, carried: Write, old: Write) -> Turn
     ensures { λ r. ⌜ r ≡ turnOf order i carried old ⌝ }
 {

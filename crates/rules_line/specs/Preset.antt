@@ -4,8 +4,7 @@ use Prim.Native.Nat.{ℕ, _+_}
 use Rattle.limits.specs.Limits.{nesting}
 use Rattle.formula_match.specs.declared.bind.Bind.{Bind}
 
--- thread, word and register in the first three holes for numbers, each plus 1 (0: empty);
--- the instruction's formula in the last for formulas
+-- thread, word and register in the first three holes for numbers, each plus 1 (0: empty); the formula in the last hole for formulas
 unfoldable pub presetAt : ℕ → ℕ → ℕ → ℕ → Bind
 presetAt t x r f = record {
   at = 0 ∷ 0 ∷ 0 ∷ 0 ∷ f ∷ [];

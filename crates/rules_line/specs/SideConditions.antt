@@ -44,8 +44,7 @@ assignedBy s b a = isWith s (substitutionOf a) (treeOf s (holeOf b 0)) (treeOf s
 unfoldable pub loadedBy : List ℕ → Bind → Acting → Bool
 loadedBy s b a = isWith s (oneBy false (a .register) (Word (a .word))) (treeOf s (holeOf b 3)) (treeOf s (holeOf b 2))
 
--- side conditions that depend on the instruction; the default case is that of rules 8 and
--- 13: neither the word nor the result register is in J
+-- side conditions that depend on the instruction; the default is that of rules 8 and 13: neither the word nor the result register is in J
 unfoldable pub ofInstruction : List ℕ → ℕ → Bind → Acting → Bool
 ofInstruction s side b a =
     cond (eqb side isKept) (keeps (a .operation) (a .word) (a .register) (treeOf s (holeOf b 0)))

@@ -22,8 +22,7 @@ ghost use mathlib.Core.Path.{_≡_};
 ghost use Rattle.image_index.specs.IndexTable.{indexOf};
 ghost use Rattle.rules_line.specs.RuleInstance.{isAllowed, restAt, lineMatch, fitsRow, fitsLine};
 
-// The operation is one that the rule allows: for triples that of the first half, for rule
-// 50 that of the whole pair. Other rules ask for none.
+// The rule allows the operation: for triples that of the first half, for rule 50 that of the whole pair. Other rules ask for none.
 fn is_allowed(rule: Rule, acting: Acting) -> bool
     ensures { λ r. ⌜ r ≡ isAllowed rule acting ⌝ }
 {

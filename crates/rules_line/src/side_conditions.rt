@@ -66,8 +66,7 @@ fn is_loaded(image: &[u8], bind: Bind, acting: Acting) -> bool
     is_with(image, hole_of(bind, 3), hole_of(bind, 2), substitution)
 }
 
-// Side conditions that depend on the instruction. The default case is that of rules 8 and 13: neither the
-// word, in any role, nor the result register occurs in J.
+// Side conditions that depend on the instruction. The default is that of rules 8 and 13: neither the word nor the result register is in J.
 fn of_instruction(image: &[u8], side: u8, bind: Bind, acting: Acting) -> bool
     ensures { λ r. ⌜ r ≡ ofInstruction (now (image .entry)) side bind acting ⌝ }
 {
@@ -139,8 +138,7 @@ fn by_names<'a, 'b>(image: &'a [u8], index: &'b [usize], bind: Bind) -> bool
     by_rows(image, p.at, p.left, q.at, q.left, range_of(header))
 }
 
-// Whether the side condition with number `side` holds: by rows, by truth table, by the
-// header's start values and marks, or of the instruction.
+// Whether the side condition `side` holds: by rows, by truth table, by the header's start values and marks, or of the instruction.
 pub fn is_asked<'a, 'b>(
     image: &'a [u8],
     index: &'b [usize],

@@ -25,8 +25,7 @@ impl Side {
     pub const NONE: u8 = 0;
     // Rule 1: the instruction preserves the assertion.
     pub const KEPT: u8 = 1;
-    // Rules 2 and 50: the left side, of rule 50 the right side of the premise, is the line's right side
-    // with each assigned register replaced by its formula.
+    // Rules 2 and 50: P is Q with each assigned register replaced by its formula; P is the left side, of rule 50 the premise's right side.
     pub const ASSIGNED: u8 = 2;
     // Rules 3, 4 and 47: the left test is the right one with the register replaced by the word.
     pub const LOADED: u8 = 3;

@@ -6,8 +6,7 @@ pub struct Templates {
     pub bytes: [u8; 444],
 }
 
-// The bytes of the templates: formula codes, from 64 on holes for formulas; operands, below 8 holes
-// for numbers (t, x, r, u, y), else the number plus 8.
+// The bytes: formula codes, from 64 on holes for formulas; operands, below 8 holes for numbers (t, x, r, u, y), else the number plus 8.
 pub const TEMPLATES: [u8; 444] = [
     64,
     64,

@@ -27,6 +27,7 @@ pub data Formula : Sort → Type 0 where
   start : Formula assertion
   holds : Formula test → Formula assertion
 
+-- the four sorts by name
 abbrev pub Value : Type 0
 Value = Formula value
 

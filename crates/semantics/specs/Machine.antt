@@ -26,7 +26,7 @@ pub record Write : Type 0 where
 
 -- a configuration: shared memory, each thread's view, the registers, each thread's point
 pub record State : Type 0 where
-  -- how many writes the row of a word has, and the write at a position of it; the row has no meaning at positions from `size` on
+  -- a word's row is its modification order: how many writes it has, and the write at a position, which has no meaning from `size` on
   pub size : ℕ → ℕ
   pub row : ℕ → ℕ → Write
   -- each thread's view; each register's value; each thread's point
@@ -175,8 +175,7 @@ withPoint s t k = record { size = s .size; row = s .row; view = s .view; reg = s
 abbrev pub readView : State → Bool → ℕ → ℕ → ℕ → View
 readView s acquires t x p = cond (acquires && s .row x p .releasing) (join (s .view t) (s .row x p .stored)) (upd (s .view t) x p)
 
--- the view from which a swap, an exchange or a fetch-add writes: "If the picked write is releasing, its
--- stored view is joined in before the view is stored"
+-- the view from which a swap writes: "If the picked write is releasing, its stored view is joined in before the view is stored"
 abbrev pub swapView : State → ℕ → ℕ → ℕ → View
 swapView s t x p = cond (s .row x p .releasing) (join (s .view t) (s .row x p .stored)) (s .view t)
 

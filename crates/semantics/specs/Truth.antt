@@ -23,13 +23,14 @@ Sat R ρ (either i j) l = Sat R ρ i l ⊎ Sat R ρ j l
 abbrev pub Names : (ℕ → ℕ) → View → Type 0
 Names size v = (x : ℕ) → v x < size x
 
--- "none before" v "in any word and none before its predecessor in any word"
+-- none before v in any word, none before its predecessor in any word, and all name writes that are there
 abbrev pub From : (ℕ → ℕ) → View → List View → Type 0
 From size v [] = Unit {0}
 From size v (w ∷ l) = Names size w × ((x : ℕ) → v x ≤ w x) × From size w l
 
--- a prospect of a thread whose view is v (the field's possible future views): "a non-empty list of views". Every number counts as a word
--- here: a word that the program has not keeps its one write for ever
+-- a prospect of a thread whose view is v, in the field one list of views of its potential: "a non-empty list of views, none
+-- before the thread's view in any word and none before its predecessor in any word". Every number counts as a word here: one
+-- that the program has not keeps its one write for ever
 abbrev pub Prospect : (ℕ → ℕ) → View → List View → Type 0
 Prospect size v [] = ⊥
 Prospect size v (w ∷ l) = From size v (w ∷ l)

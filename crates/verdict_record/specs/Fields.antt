@@ -26,8 +26,7 @@ gathered c i p l n =
       count = n;
     }
 
--- code 0 for an accepted image; the fault's code and record; the code, place, line and
--- count of an obligation; 26 with the record of a claim
+-- code 0 for an accepted image; a fault's code and record; an obligation's code, place, line and count; 26 with the record of a claim
 unfoldable pub fieldsOf : Verdict → Fields
 fieldsOf (Accepted n) = gathered 0 0 nowhere 0 n
 fieldsOf (Refused f i) = gathered (codeOf f) i nowhere 0 0
