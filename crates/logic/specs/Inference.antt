@@ -17,7 +17,7 @@ use Rattle.semantics.specs.Machine.{Program, Mode, Mode.store, Mode.swap, Mode.
 use Rattle.logic.specs.Statement.{Statement, inside, implies, triple, pair, isBranch, half, isImp, impOf}
 use Rattle.logic.specs.Rule.{Rule, r1, r2, r3, r4, r5, r6, r7, r8, r9, r10, r11, r12, r13, r14, r15, r16, r20, r21, r22, r23, r24, r25, r26, r27, r30, r31, r32, r33, r34, r35, r36, r37, r38, r39, r40, r41, r42, r43, r44, r45, r46, r47, r48, r49, r50}
 
--- both(one x, [x = f]): what rules 6, 7, 11, 12, 26, 48 and 49 conclude of the new write
+-- both(one x, [x = f]): all views name one write of x, with the value f
 abbrev pub newest : ℕ → Value → Interval
 newest x f = both (one x) (box (equal (word x) f))
 

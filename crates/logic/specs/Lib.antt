@@ -1,4 +1,4 @@
--- The program logic, in the order of the scope page: rules, obligations and claims
+-- The program logic, in the order of the scope page: rules, obligations and claims.
 pub mod Rows
 pub mod Table
 pub mod Statement

@@ -38,7 +38,7 @@ module _ (P : Program) where
   abbrev pub instructed : ℕ → List ℕ
   instructed t = below (P .points t - 1)
 
-  -- the points of u that have an assertion: all, the last one too
+  -- how many points of u have an assertion: all, the last one too
   abbrev pub asserted : ℕ → ℕ
   asserted u = P .points u
 

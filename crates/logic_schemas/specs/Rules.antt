@@ -108,7 +108,7 @@ imp p q l sides = record { says = implies p q; premises = these l; operations = 
 abbrev pub inc : Pattern Sort.interval → Pattern Sort.interval → List Shape → List Side → Row
 inc p q l sides = record { says = inside p q; premises = these l; operations = []; sides = sides }
 
--- holes for any assertions, intervals, tests, values. No two holes of one rule have one number
+-- holes for any assertions, intervals, tests, values. No two holes of one rule, of whatever sorts, have one number
 abbrev pub P : Pattern Sort.assertion
 P = anyA 0
 
@@ -142,11 +142,11 @@ F = anyE 3
 abbrev pub N : Pattern Sort.value
 N = anyV 0
 
--- both(one x, [x = f])
+-- both(one x, [x = f]): the new write is the only one seen, with the instruction's formula as its value
 abbrev pub newest : Pattern Sort.interval
 newest = both (one x) (box (equal (word x) f))
 
--- both(one x, [x = N])
+-- both(one x, [x = N]): the same with any value N, which a side condition fixes (rules 48 and 49)
 abbrev pub newestN : Pattern Sort.interval
 newestN = both (one x) (box (equal (word x) N))
 

@@ -16,7 +16,7 @@ use Rattle.replay_machine.specs.declared.effect.Effect.{Effect}
 unfoldable pub reachableBy : MemoryShape → ℕ → ℕ → ℕ → Bool
 reachableBy g t k p = cond (ltb p (getD (g .sizes) (k % 8) 0)) (leb (positionIn (seenBy g t) k) p) false
 
--- the same of a whole memory
+-- position p of word k is reachable for thread t, in a whole memory
 unfoldable pub reachable : Memory → ℕ → ℕ → ℕ → Bool
 reachable m t k p = reachableBy (record { sizes = m .sizes; views = m .views }) t k p
 

@@ -6,7 +6,7 @@ use lib.Dec.{eqb}
 use Rattle.semantics.specs.Code
 use Rattle.semantics.specs.Code.{byte}
 
--- the page's four sorts of formulas
+-- the sorts of the scope page: values, tests, intervals, assertions
 pub data Sort : Type 0 where
   value test interval assertion : Sort
 
@@ -97,6 +97,6 @@ sameBytes [] (y ∷ m) = Bool.false
 sameBytes (x ∷ l) [] = Bool.false
 sameBytes (x ∷ l) (y ∷ m) = eqb x y && sameBytes l m
 
--- "formulas compared by bytes"
+-- two formulas are the same: "formulas compared by bytes"
 unfoldable pub same : {s : Sort} → Formula s → Formula s → Bool
 same f g = sameBytes (encode f []) (encode g [])

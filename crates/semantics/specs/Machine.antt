@@ -121,7 +121,7 @@ down p i = cond (leb i p) i (i - 1)
 abbrev pub upView : ℕ → ℕ → View → View
 upView x p v = upd v x (up p (v x))
 
--- the write w after that insertion: its stored view keeps its writes
+-- the write w after an insertion behind position p of x: its stored view keeps its writes
 abbrev pub upWrite : ℕ → ℕ → Write → Write
 upWrite x p w = record { value = w .value; releasing = w .releasing; covered = w .covered; stored = upView x p (w .stored) }
 
@@ -271,7 +271,7 @@ permitted P m s =
     (within (P .threads) (m .thread) && ltb (suc (s .point (m .thread))) (P .points (m .thread)))
     && allowed (instrAt P s (m .thread)) (m .thread) (m .position) s
 
--- a refused step leaves "the state as it was"
+-- the state after a step; after a refused one "the state stays as it was"
 abbrev pub step : Program → State → Step → State
 step P s m = cond (permitted P m s) (exec P (instrAt P s (m .thread)) (m .thread) (m .position) s) s
 
