@@ -34,7 +34,7 @@ goalBytes =
     ∷ byte Code.bothA ∷ firstHole ∷ (firstHole + 1) ∷ byte Code.holds ∷ byte Code.false
     ∷ []
 
--- the position of the template for class 1: start gives an assertion
+-- where the template of each goal begins. Class 1: start gives an assertion
 abbrev pub startAt : ℕ
 startAt = 0
 

@@ -28,7 +28,7 @@ conclusionBy l op = record {
   right = l .right;
 }
 
--- line n
+-- line n of the certificate
 unfoldable pub lineAt : List ℕ → Sizes → ℕ → Line
 lineAt s z n = lineIn s (lineBody z (bodies s) n)
 

@@ -32,11 +32,11 @@ wordAbsent = 4
 abbrev pub stored : ℕ
 stored = 5
 
--- rules 21, 23, 24 and 30
+-- rules 21, 23, 24 and 30: by rows
 abbrev pub byRows : ℕ
 byRows = 6
 
--- rule 20
+-- rule 20: by truth table
 abbrev pub byTable : ℕ
 byTable = 7
 

@@ -3,7 +3,7 @@ use mathlib.Core.List.{List, [], _∷_, _++_}
 use Prim.Native.Nat.{ℕ, _-_, _/_, _%_}
 use Rattle.verdict_record.specs.declared.verdict.Fields.{Fields}
 
--- the bytes of the record
+-- how many bytes the record has
 abbrev pub size : ℕ
 size = 22
 
