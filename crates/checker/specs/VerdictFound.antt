@@ -1,4 +1,4 @@
--- The verdict on sound bytes as the code finds it: the marks of all lines, then the obligations and the claims by positions.
+-- The verdict on a well-formed image as the code finds it: the marks of all lines, then the obligations and the claims.
 use mathlib.Core.Bool.{cond}
 use mathlib.Core.List.{List}
 use Prim.Native.Nat.{ℕ}
@@ -20,23 +20,26 @@ use Rattle.verdict_record.specs.declared.obligation.Place.{Place}
 use Rattle.verdict_record.specs.declared.verdict.Verdict.{Verdict}
 use Rattle.verdict_record.specs.declared.verdict.Verdict.the-variants as Verdict
 
+-- the place of a claim in a verdict: claims have class 0
 unfoldable pub pointsOf : Claimed → Place
 pointsOf c = record { class = 0; thread = c .thread; point = c .point; «other_thread» = c .other; «other_point» = c .«other_point» }
 
 module _ (s : List ℕ) (z : Sizes) where
-  -- claim i fails, behind so many obligations
+  -- the verdict that claim i fails, after n met obligations
   unfoldable pub deniedAt : ℕ → ℕ → Verdict
   deniedAt i n = Verdict.Denied (claimPlace z i) (pointsOf (claimedIn (claimBody z (bodies s) i)))
       (claimedIn (claimBody z (bodies s) i) .line) n
 
-  -- the claims, behind so many obligations
+  -- the verdict by the claims, after n met obligations
   unfoldable pub claimsVerdict : Marks → ℕ → Verdict
   claimsVerdict m n = cond (eqb (firstDenied s z m (z .claims) 0) (z .claims)) (Verdict.Accepted n)
       (deniedAt (firstDenied s z m (z .claims) 0) n)
 
+  -- the verdict by the judgement on the obligations
   abbrev pub verdictOf : Marks → Judgement → Verdict
   verdictOf m (Met n) = claimsVerdict m n
   verdictOf m (Failed o c l n) = Verdict.Failed o c l n
 
+  -- the verdict on a well-formed image with sizes z
   unfoldable pub soundVerdict : Verdict
   soundVerdict = verdictOf (marksTo s z (z .lines)) (judgeAt s z (marksTo s z (z .lines)) (obligations (programOf z (bodies s))) 0)

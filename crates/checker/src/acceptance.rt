@@ -1,4 +1,4 @@
-// What an accepted image holds, for calls that go on from there: trimming, bills.
+// Whether an image is accepted, for the calls that need an accepted image: trimming, bills, replay, handover.
 use crate::judge::judge_sound;
 use checker_spec::acceptance::Acceptance;
 use image::decode::Decoded;
@@ -11,7 +11,7 @@ ghost use lib.ListN.{replicate};
 ghost use Rattle.image_index.specs.IndexTable.{tableSize, indexOf};
 ghost use Rattle.checker_spec.specs.Acceptance.{grantedBy, acceptance};
 
-// By the verdict on sound bytes.
+// Acceptance of an image with these sizes, by its verdict.
 fn granted_by(verdict: Verdict, sizes: Sizes) -> Acceptance
     ensures { λ r. ⌜ r ≡ grantedBy sizes verdict ⌝ }
 {
@@ -33,7 +33,7 @@ fn granted_by(verdict: Verdict, sizes: Sizes) -> Acceptance
     }
 }
 
-// How much an image holds, if it is accepted. Fills the index of its records, a table of zeros as long as the image asks for.
+// Whether the image is accepted, and the counts of its records. `index`, tableSize(image) zeros, is filled with where its records are.
 pub fn accept_image<'a, 'b>(image: &'a [u8], index: &'b mut [usize]) -> Acceptance
     requires { ⌜ now index ≡ replicate (tableSize (now image)) 0 ⌝ }
     ensures { λ r. ⌜ (r ≡ acceptance (now (image .entry))) × (now (index .exit) ≡ indexOf (now (image .entry))) ⌝ }

@@ -1,5 +1,4 @@
-// The verdict on an image: the first fault of its bytes, or the first obligation that is not met, or the first claim that fails, or
-// accepted.
+// The verdict on an image: the first fault of its bytes, or the first obligation that is not met, or the first failing claim, or accepted.
 use image::decode::Decoded;
 use image::decode::decode_image;
 use image_access::claim::Claimed;
@@ -23,7 +22,7 @@ ghost use Rattle.checker.specs.VerdictFound.{pointsOf, deniedAt, claimsV
 ghost use Rattle.rules_justified.specs.Marks.{asMarks};
 ghost use Prim.Native.Nat.{_<_};
 
-// A claim is of no class of obligations.
+// The place of a claim in a verdict: claims have class 0.
 fn points_of(claim: Claimed) -> Place
     ensures { λ r. ⌜ r ≡ pointsOf claim ⌝ }
 {
@@ -36,7 +35,7 @@ fn points_of(claim: Claimed) -> Place
     }
 }
 
-// Claim i fails, behind so many obligations.
+// The verdict that claim `i` fails; `count` obligations are met.
 fn deny<'a, 'b>(
     image: &'a [u8],
     index: &'b [usize],
@@ -56,7 +55,7 @@ fn deny<'a, 'b>(
     }
 }
 
-// The claims, behind so many obligations, all met.
+// The verdict by the claims, once all obligations, `count` of them, are met.
 fn judge_claims<'a, 'b, 'c>(
     image: &'a [u8],
     index: &'b [usize],
@@ -74,7 +73,7 @@ fn judge_claims<'a, 'b, 'c>(
     deny(image, index, sizes, i, count)
 }
 
-// On an image whose bytes are sound.
+// The verdict on a well-formed image, by its obligations and claims.
 pub fn judge_sound<'a, 'b>(image: &'a [u8], index: &'b [usize], sizes: Sizes) -> Verdict
     requires { ⌜ now index ≡ indexOf (now image) ⌝ }
     ensures { λ r. ⌜ r ≡ soundVerdict (now (image .entry)) sizes ⌝ }
@@ -96,7 +95,7 @@ pub fn judge_sound<'a, 'b>(image: &'a [u8], index: &'b [usize], sizes: Sizes) ->
     }
 }
 
-// With a table of zeros, as long as the image asks for.
+// The verdict on the image; `index` is scratch memory that the caller passes as tableSize(image) zeros.
 fn judge_by<'a, 'b>(image: &'a [u8], index: &'b mut [usize]) -> Verdict
     requires { ⌜ now index ≡ replicate (tableSize (now image)) 0 ⌝ }
     ensures { λ r. ⌜ r ≡ verdict (now (image .entry)) ⌝ }
@@ -108,6 +107,7 @@ fn judge_by<'a, 'b>(image: &'a [u8], index: &'b mut [usize]) -> Verdict
     }
 }
 
+// The verdict on the image. A short image gets a short index, which is cleared sooner.
 pub fn judge(image: &[u8]) -> Verdict
     ensures { λ r. ⌜ r ≡ verdict (now (image .entry)) ⌝ }
 {
@@ -119,7 +119,7 @@ pub fn judge(image: &[u8]) -> Verdict
     judge_by(image, &mut index)
 }
 
-// For a caller that takes images of so many bytes at most.
+// The verdict for a caller that takes images of at most `most` bytes; a longer one is refused with code 2.
 pub fn judge_within(image: &[u8], most: usize) -> Verdict
     ensures { λ r. ⌜ r ≡ verdictWithin most (now (image .entry)) ⌝ }
 {

@@ -1,4 +1,4 @@
--- THE PROMISE of the entry point, whole.
+-- THE PROMISE of the entry point `check_image`, whole.
 use mathlib.Core.Path.{_≡_}
 use mathlib.Core.List.{List}
 use Prim.Native.Nat.{ℕ, _≤_, _<_}
@@ -16,37 +16,35 @@ use Rattle.verdict_record.specs.declared.verdict.Verdict.{Verdict}
 use Rattle.checker_spec.specs.ImageVerdict.{judged, verdict}
 use Rattle.checker_spec.specs.Uncut.{Uncut}
 
--- the image says what `content` has, and after every finite list of steps of that program, refused ones among them, each thread's
--- assertion at its point is true
--- and no claim's threads are at its points together
+-- demand 3 for an image that says `content`: after every finite list of steps of its program, refused ones among them, each thread's
+-- assertion at its point is true, and no claim's threads are at its points together
 pub record TrueInEveryRun (image : List ℕ) : Type 0 where
   pub content : Image
   pub says : decode image ≡ read content
   pub holds : EveryRun (content .program) (content .outline)
   pub never : (i : ℕ) → i < content .claims .count → NeverBoth (content .program) (content .claims .claim i)
 
--- of what the image says, the verdict, the buffer and the code that is answered
+-- demand 2 for an image that says `content`, its verdict v, the caller's buffer and the code returned
 pub record Judged (content : Image) (v : Verdict) (buffer : List ℕ) (code : ℕ) : Type 0 where
-  -- code 0 exactly if every obligation and every claim names a line whose statement is the wanted one and that is justified, to its
-  -- last premise
+  -- code 0 exactly if every obligation and every claim names a line that states what is wanted and that is justified, to its last premise
   pub only-if : code ≡ 0 → EachMet content × EachSustained content
   pub if-met : size ≤ length buffer → EachMet content → EachSustained content → code ≡ 0
   -- the verdict is that of a finding, and the finding is right: all are met; or the first obligation that is not is named, with 20 for
-  -- no line, 21 for a line whose statement is another, 22 for the wanted statement on a line that is not justified; or, where every
-  -- obligation is met, the first claim that its line does not bear out
+  -- no line, 21 for a line that states something else, 22 for a line that states it and is not justified; or, where every obligation
+  -- is met, the first claim that its line does not prove
   pub finding : Finding
   pub right : Outline.Judged content finding
   pub answer : v ≡ judged content finding
 
--- of an image and a buffer: the code that is answered, and the buffer afterwards
+-- what holds for an image and a buffer: the code returned, and the buffer afterwards
 pub record Promise (image buffer : List ℕ) (code : ℕ) (after : List ℕ) : Type 0 where
   -- the code of the verdict; 1 for a buffer that is too short
   pub returned : code ≡ codeFor (verdict image) buffer
-  -- the verdict's record, and behind it the bytes that were there; a buffer that is too short stays
+  -- the verdict's record, and after it the bytes that were there; a buffer that is too short stays
   pub written : after ≡ bytesFor (verdict image) buffer
-  -- of an image whose bytes are sound
+  -- demand 2, for an image that is well formed
   pub judged : (content : Image) → decode image ≡ read content → Judged content (verdict image) buffer code
-  -- accepted
+  -- demand 3, for an accepted image
   pub accepted : code ≡ 0 → TrueInEveryRun image
   -- the record and the line of text have each number of the verdict whole
   pub uncut : Uncut (fieldsOf (verdict image))

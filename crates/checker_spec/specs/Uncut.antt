@@ -1,11 +1,12 @@
--- The numbers of a verdict have 16 bits each in its record and in its line of text; they lose nothing there.
+-- The numbers of a verdict fit the 16 bits that each has in its record and in its line of text.
 use Prim.Native.Nat.{ℕ, _<_}
 use Rattle.verdict_record.specs.declared.verdict.Fields.{Fields}
 
--- numbers of 16 bits are below it
+-- the least number that 16 bits do not hold
 abbrev pub beyond : ℕ
 beyond = 65536
 
+-- each of the nine numbers has at most 16 bits
 pub record Uncut (f : Fields) : Type 0 where
   pub code : f .code < beyond
   pub «record» : f .«record» < beyond

@@ -1,2 +1,2 @@
-// What an accepted image holds, as a type; the definitions behind the entry point, and what follows from them.
+// The verdict on an image and the promise of the checker (specs/), what follows from them (proofs/), and acceptance as a type.
 pub mod acceptance;

@@ -1,1 +1,1 @@
-// The scope page's starred cases, as rows of one table: they hold of the definitions. No code.
+// The starred cases of the scope page, as rows of one table that holds of the definitions; no code.

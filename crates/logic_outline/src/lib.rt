@@ -1,3 +1,1 @@
-// Certificates: no code yet; the definitions are under specs/, what follows from them under proofs/.
-
-// The verdict on obligations: no code yet; the definitions are under specs/, what follows from them under proofs/.
+// Certificates and the verdict on obligations and claims (specs/); an accepted outline is true in every run (proofs/); no code.

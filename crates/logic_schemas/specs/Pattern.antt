@@ -1,11 +1,12 @@
--- Patterns: formulas with holes, by sort; what stands in the holes; a pattern filled.
+-- Schemas (patterns): formulas with holes, by sort; what fills the holes; a pattern filled.
 use Prim.Native.Nat.{ℕ}
 use Rattle.semantics.specs.Formula.{Sort, Formula, Value, Test, Interval, Assertion}
 
--- numbers: the thread, word and register of the instruction; u and y are any
+-- schematic numbers: the thread, word and register of the instruction; u and y stand for any
 pub data Num : Type 0 where
   t x r u y : Num
 
+-- a formula with holes
 pub data Pattern : Sort → Type 0 where
   -- any formula of the sort, by the hole's number
   anyA : ℕ → Pattern Sort.assertion
@@ -14,7 +15,7 @@ pub data Pattern : Sort → Type 0 where
   anyV : ℕ → Pattern Sort.value
   -- the instruction's formula
   f : Pattern Sort.value
-  -- as in formulas
+  -- the constructors of formulas, with schematic numbers
   const : ℕ → Pattern Sort.value
   reg word : Num → Pattern Sort.value
   equal : Pattern Sort.value → Pattern Sort.value → Pattern Sort.test
@@ -35,7 +36,7 @@ pub record Given : Type 0 where
   pub r : ℕ
   pub f : Value
 
--- what stands in the holes
+-- what fills the holes, a formula for each hole number of each sort: the matching substitution
 pub record Fill : Type 0 where
   pub u : ℕ
   pub y : ℕ
@@ -45,6 +46,7 @@ pub record Fill : Type 0 where
   pub value : ℕ → Value
 
 module _ (g : Given) (σ : Fill) where
+  -- the number that a schematic number stands for
   abbrev pub number : Num → ℕ
   number t = g .t
   number x = g .x
@@ -52,7 +54,7 @@ module _ (g : Given) (σ : Fill) where
   number u = σ .u
   number y = σ .y
 
-  -- the pattern with its holes filled
+  -- the instance of the pattern: its holes filled
   abbrev pub inst : {s : Sort} → Pattern s → Formula s
   inst (anyA k) = σ .assertion k
   inst (anyI k) = σ .interval k

@@ -1,4 +1,4 @@
--- The table of rules: for each rule number what a line of it says, its premises, the operations allowed and what is asked besides.
+-- The table of rules: for each rule number the schema of its lines, its premises, the operations allowed and its side conditions.
 use mathlib.Core.List.{List, [], _∷_}
 use Prim.Native.Nat.{ℕ}
 use Rattle.semantics.specs.Formula.{Sort}
@@ -6,26 +6,26 @@ use Rattle.logic.specs.Opcode
 use Rattle.logic.specs.Rule.{Rule, r1, r2, r3, r4, r5, r6, r7, r8, r9, r10, r11, r12, r13, r14, r15, r16, r20, r21, r22, r23, r24, r25, r26, r27, r30, r31, r32, r33, r34, r35, r36, r37, r38, r39, r40, r41, r42, r43, r44, r45, r46, r47, r48, r49, r50}
 use Rattle.logic_schemas.specs.Pattern.{Num, Pattern, t, x, u, y, anyA, anyI, anyE, anyV, f, const, reg, word, equal, and, unsync, cov, box, one, chop, both, either, sees, bothA, eitherA, start, holds}
 
--- a line's form, its left and its right side
+-- the schema of a line: its form, its left and its right side
 pub data Shape : Type 0 where
   inside : Pattern Sort.interval → Pattern Sort.interval → Shape
   implies triple pair : Pattern Sort.assertion → Pattern Sort.assertion → Shape
 
--- the lines that the rule rests on, in order, triples for the same instruction; rule 20: 0 to 4 implications
+-- the schemas of the premises, in order, triples for the same instruction; rule 20: "0 to 4 implications as premises"
 pub data Premises : Type 0 where
   these : List Shape → Premises
   implications : Premises
 
--- the replacements that rules name: by-notes replaces each noted register by its formula, all at once
+-- the substitutions that rules name: by-notes replaces each noted register by its formula, all at once; r-by-x the instruction's
+-- register by its word; x-by-f its word by its formula
 pub data By : Type 0 where
   by-notes r-by-x x-by-f : By
 
 infix 30 _is_with_
--- what is asked besides. The first is the second with something replaced; it is the start value of the word; the register starts at 0; it
--- is the new write's value (freshValue);
--- kept: a load's register is not in it, or else the word in no role nor the result register; lacks-x: the word x in no role nor the
--- result register;
--- no-flag: neither unsync x nor cov x; wherever the one test is true the other is, by rows; by truth table
+-- side conditions. p is q with b: p is q after the substitution; start-of: it is the start value of the word; starts-at-0: the register
+-- starts at 0; is-new: it is the new write's value (freshValue);
+-- kept: rule 1's condition (keeps); lacks-x: it has neither the word x, in any role, nor the result register; no-flag: it has neither
+-- unsync x nor cov x; by-rows: wherever the left test is true the right one is; by-table: rule 20's truth table
 pub data Side : Type 0 where
   _is_with_ : {s : Sort} → Pattern s → Pattern s → By → Side
   start-of : Num → Pattern Sort.value → Side
@@ -37,65 +37,78 @@ pub data Side : Type 0 where
   by-rows : Pattern Sort.test → Pattern Sort.test → Side
   by-table : Side
 
+-- "Each table row is fixed per rule": the schema of a line, its premises, the allowed operations, the side conditions
 pub record Row : Type 0 where
   pub says : Shape
   pub premises : Premises
   pub operations : List ℕ
   pub sides : List Side
 
--- the operations that rules allow, at a pair's point those of its first half. "Load" covers 1 and 2, "store" 3 and 4
+-- the operations that rules allow, at a pair's point those of its first half; rule 2: assignments
 abbrev pub assigns : List ℕ
 assigns = Opcode.assign ∷ Opcode.assignTwo ∷ []
 
+-- "load" covers 1 and 2
 abbrev pub loads : List ℕ
 loads = Opcode.load ∷ Opcode.acquire ∷ []
 
+-- "Store" covers 3 and 4
 abbrev pub stores : List ℕ
 stores = Opcode.store ∷ Opcode.release ∷ []
 
+-- rules 11 and 12: swap alone
 abbrev pub swaps : List ℕ
 swaps = Opcode.swap ∷ []
 
--- the old value into a register
+-- the operations that return the old value in a register (rules 47 to 49)
 abbrev pub returning : List ℕ
 returning = Opcode.exchange ∷ Opcode.fetchAdd ∷ []
 
--- all that cover what they pick
+-- the operations that cover the write they pick: the read-modify-writes (rule 13)
 abbrev pub covering : List ℕ
 covering = Opcode.swap ∷ returning
 
+-- the operations that acquire (rule 5)
 abbrev pub acquiring : List ℕ
 acquiring = Opcode.acquire ∷ covering
 
+-- rule 8: releasing store
 abbrev pub releasing : List ℕ
 releasing = Opcode.release ∷ []
 
+-- rule 9: stores and swap, which return no old value
 abbrev pub storesSwaps : List ℕ
 storesSwaps = Opcode.store ∷ Opcode.release ∷ Opcode.swap ∷ []
 
+-- the operations that add a write (rule 10)
 abbrev pub writes : List ℕ
 writes = Opcode.store ∷ Opcode.release ∷ covering
 
+-- the operations that touch a shared word (rule 1)
 abbrev pub accesses : List ℕ
 accesses = Opcode.load ∷ Opcode.acquire ∷ writes
 
+-- the pairs (rule 50)
 abbrev pub pairs : List ℕ
 pairs = Opcode.pairStore ∷ Opcode.pairRelease ∷ Opcode.pairSwap ∷ []
 
+-- all but branches (rules 14 to 16)
 abbrev pub actions : List ℕ
 actions = Opcode.assign ∷ Opcode.assignTwo ∷ accesses
 
--- a triple for these operations; an implication; an interval in an interval
+-- a row whose lines are triples for these operations
 abbrev pub tri : List ℕ → Pattern Sort.assertion → Pattern Sort.assertion → List Shape → List Side → Row
 tri ops p q l sides = record { says = triple p q; premises = these l; operations = ops; sides = sides }
 
+-- a row whose lines are implications
 abbrev pub imp : Pattern Sort.assertion → Pattern Sort.assertion → List Shape → List Side → Row
 imp p q l sides = record { says = implies p q; premises = these l; operations = []; sides = sides }
 
+-- a row whose lines state an interval in an interval
 abbrev pub inc : Pattern Sort.interval → Pattern Sort.interval → List Shape → List Side → Row
 inc p q l sides = record { says = inside p q; premises = these l; operations = []; sides = sides }
 
--- any assertions, intervals, tests, values. No two holes of one rule have one number
+-- holes for any assertions, intervals, tests, values. No two holes of one rule, of whatever sorts, have one number
 abbrev pub P : Pattern Sort.assertion
 P = anyA 0
 
@@ -129,18 +142,19 @@ F = anyE 3
 abbrev pub N : Pattern Sort.value
 N = anyV 0
 
--- one x, and x = f
+-- both(one x, [x = f]): the new write is the only one seen, with the instruction's formula as its value
 abbrev pub newest : Pattern Sort.interval
 newest = both (one x) (box (equal (word x) f))
 
--- one x, and x = N
+-- both(one x, [x = N]): the same with any value N, which a side condition fixes (rules 48 and 49)
 abbrev pub newestN : Pattern Sort.interval
 newestN = both (one x) (box (equal (word x) N))
 
--- rules 11 to 13, 48, 49: [cov x];one x
+-- rules 11 to 13, 48 and 49: "C = [cov x];one x"
 abbrev pub C : Pattern Sort.interval
 C = chop (box (cov x)) (one x)
 
+-- the row of each rule
 abbrev pub row : Rule → Row
 row r1 = tri accesses P P [] (kept P ∷ [])
 row r2 = tri assigns P Q [] ((P is Q with by-notes) ∷ [])

@@ -1,1 +1,1 @@
-// The table of rules as patterns has no code: its definitions are under specs/, its theorems under proofs/.
+// The rules as a table of schemas with a test that computes (specs/), proved equal to the rules of the logic (proofs/); no code.

@@ -1,4 +1,4 @@
--- The judgement after groups of obligations, in the order of the logic.
+-- The judgement after groups of obligations, in the order of the logic: what each loop of the code has done.
 use mathlib.Core.List.{List, map}
 use Prim.Native.Nat.{ℕ}
 use Rattle.semantics.specs.Machine.{Program}
@@ -11,6 +11,7 @@ use Rattle.rules_justified.specs.declared.marks.Marks.{Marks}
 use Rattle.obligations.specs.declared.judgement.Judgement.{Judgement}
 use Rattle.obligations.specs.Judgement.{judged}
 
+-- the program of the image
 abbrev pub program : List ℕ → Sizes → Program
 program s z = programOf z (bodies s)
 
@@ -18,38 +19,43 @@ module _ (s : List ℕ) (z : Sizes) (m : Marks) where
   abbrev P : Program
   P = program s z
 
-  -- the starts of threads 1 to n
+  -- the judgement after the starts of threads 1 to n
   unfoldable pub startsTo : ℕ → Judgement → Judgement
   startsTo n r = judged s z m (map start (upTo n)) r
 
-  -- the instruction at point k of thread t; those at points below n; those of threads 1 to n
+  -- the judgement after the instruction at point k of thread t
   unfoldable pub ownAt : ℕ → ℕ → Judgement → Judgement
   ownAt t k r = judged s z m (own P t k (P .code t k)) r
 
+  -- the judgement after the instructions of thread t at points below n
   unfoldable pub ownTo : ℕ → ℕ → Judgement → Judgement
   ownTo t n r = judged s z m (flat (λ k. own P t k (P .code t k)) (below n)) r
 
+  -- the judgement after the instructions of threads 1 to n
   unfoldable pub stepsTo : ℕ → Judgement → Judgement
   stepsTo n r = judged s z m (flat (λ t. flat (λ k. own P t k (P .code t k)) (instructed P t)) (upTo n)) r
 
-  -- the assertion at point j of thread u under the instruction at point k of thread t
+  -- the judgement after the assertion at point j of thread u under the instruction at point k of thread t
   unfoldable pub actingAt : ℕ → ℕ → ℕ → ℕ → Judgement → Judgement
   actingAt u j t k r = judged s z m (acting P u j t k (P .code t k)) r
 
-  -- under the instruction at point k of thread t: the assertions of u at its points below n; all of u; those of threads 1 to n
+  -- the judgement after the assertions of u at points below n under the instruction at point k of thread t
   unfoldable pub assertedTo : ℕ → ℕ → ℕ → ℕ → Judgement → Judgement
   assertedTo t k u n r = judged s z m (flat (λ j. acting P u j t k (P .code t k)) (below n)) r
 
+  -- the judgement after all assertions of u under the instruction at point k of thread t
   unfoldable pub assertionsAt : ℕ → ℕ → ℕ → Judgement → Judgement
   assertionsAt t k u r = judged s z m (assertions P t k u) r
 
+  -- the judgement after the assertions of threads 1 to n under the instruction at point k of thread t
   unfoldable pub assertionsTo : ℕ → ℕ → ℕ → Judgement → Judgement
   assertionsTo t k n r = judged s z m (flat (λ u. assertions P t k u) (upTo n)) r
 
-  -- under the instructions of t at its points below n; under those of threads 1 to n
+  -- the judgement after all assertions under the instructions of t at points below n
   unfoldable pub actionsTo : ℕ → ℕ → Judgement → Judgement
   actionsTo t n r = judged s z m (flat (λ k. flat (λ u. assertions P t k u) (upTo (P .threads))) (below n)) r
 
+  -- the judgement after all assertions under the instructions of threads 1 to n
   unfoldable pub interferencesTo : ℕ → Judgement → Judgement
   interferencesTo n r = judged s z m (flat (λ t. flat (λ k. flat (λ u. assertions P t k u) (upTo (P .threads))) (instructed P t))
       (upTo n)) r

@@ -13,6 +13,7 @@ ghost use Rattle.image_meaning.specs.Program.{programOf};
 ghost use Rattle.rules_justified.specs.Marks.{asMarks};
 ghost use Rattle.obligations.specs.Judgement.{judgeAt};
 
+// Judges all obligations in order: how many are met, or the first that is not. `marks` tells which lines are justified.
 pub fn judge_obligations<'a, 'b, 'c>(
     image: &'a [u8],
     index: &'b [usize],

@@ -11,6 +11,7 @@ ghost use Rattle.image_access.specs.Totals.{totalsOf};
 ghost use Rattle.rules_justified.specs.Marks.{asMarks};
 ghost use Rattle.obligations.specs.Claims.{firstDenied};
 
+// The number of the first claim that is not sustained, from 0, or how many claims there are; `totals` has been counted already.
 fn denied_of<'a, 'b, 'c>(
     image: &'a [u8],
     index: &'b [usize],
@@ -33,7 +34,7 @@ fn denied_of<'a, 'b, 'c>(
     i
 }
 
-// The number of the first claim that its line does not bear out, from 0; if there is none, how many there are.
+// The number of the first claim that its line does not prove, from 0; if there is none such, how many claims there are.
 pub fn first_denied<'a, 'b, 'c>(
     image: &'a [u8],
     index: &'b [usize],
@@ -43,6 +44,7 @@ pub fn first_denied<'a, 'b, 'c>(
     requires { ⌜ now index ≡ indexOf (now image) ⌝ }
     ensures { λ r. ⌜ (r ≡ firstDenied (now (image .entry)) sizes (asMarks (now (marks .entry))) (sizes .claims) 0) × (r ≤ sizes .claims) ⌝ }
 {
+    // Without claims nothing has to be counted.
     if sizes.claims == 0 {
         return 0;
     }

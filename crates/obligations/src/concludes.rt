@@ -1,4 +1,4 @@
-// Whether a line concludes what an obligation wants, and the code of what is wrong with it.
+// Whether a line concludes the goal of an obligation, and the code of what is wrong with it.
 use crate::goal::GOALS;
 use crate::goal::Goal;
 use crate::goal::goal_claim;
@@ -18,6 +18,7 @@ ghost use Rattle.rules_justified.specs.Marks.{asMarks};
 ghost use Rattle.obligations.specs.Concludes.{meets, concludesAt, sustainedAt, codeAt};
 ghost use Prim.Native.Nat.{_<_};
 
+// Codes 20 to 22 of an obligation that is not met; 0 for one that is.
 pub struct Unmet {}
 
 impl Unmet {
@@ -30,7 +31,7 @@ impl Unmet {
     pub const UNJUSTIFIED: u8 = 22;
 }
 
-// Line n says what is wanted.
+// Line `number` concludes the goal.
 fn is_said<'a, 'b>(
     image: &'a [u8],
     index: &'b [usize],
@@ -57,7 +58,7 @@ fn is_said<'a, 'b>(
     m.ok
 }
 
-// Line n says what the obligation wants.
+// Line `number` concludes the goal of the obligation.
 pub fn concludes<'a, 'b>(
     image: &'a [u8],
     index: &'b [usize],
@@ -73,7 +74,7 @@ pub fn concludes<'a, 'b>(
     is_said(image, index, sizes, goal, number)
 }
 
-// Claim i is borne out by its line: that is there, says that false follows from both assertions, and is justified.
+// The line of claim `i` proves it: the line is there, concludes that false follows from both assertions, and is justified.
 pub fn is_sustained<'a, 'b, 'c>(
     image: &'a [u8],
     index: &'b [usize],
@@ -96,7 +97,7 @@ pub fn is_sustained<'a, 'b, 'c>(
     false
 }
 
-// What is wrong with line n, first of all; 0 for nothing.
+// The lowest code of what is wrong with line `number` as the line of the obligation; 0 for nothing.
 pub fn code_at<'a, 'b, 'c>(
     image: &'a [u8],
     index: &'b [usize],

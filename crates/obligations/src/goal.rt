@@ -1,4 +1,4 @@
-// What an obligation wants of a line: a template with every hole set.
+// The goal of an obligation, what it wants of a line: a template with every hole filled.
 use formula::code::Code;
 use formula_match::bind::Bind;
 use formula_match::bind::Hole;
@@ -19,7 +19,7 @@ ghost use Rattle.image_index.specs.IndexTable.{indexOf};
 ghost use Rattle.image_access.specs.Totals.{totalsOf};
 ghost use Rattle.obligations.specs.Goal.{oneHole, twoHoles, threeHoles, nextPoint, actingForm, goalStart, goalAction, goalNext, goalStep, goalTarget, goalStable, goalClaim, goalAt};
 
-// The form of the line, the thread and the point of a triple, where the template begins and what its holes stand for.
+// The form of the line, of a triple the thread and point, where the template begins in GOALS, and what fills its holes.
 pub struct Goal {
     pub form: u8,
     pub thread: usize,
@@ -29,21 +29,21 @@ pub struct Goal {
 }
 
 impl Goal {
-    // Start gives an assertion.
+    // Class 1: start implies an assertion.
     pub const START: usize = 0;
-    // An instruction takes one assertion to another.
+    // Class 2: an instruction takes one assertion to another.
     pub const STEP: usize = 2;
-    // An assertion and a negated test give another assertion.
+    // Class 2 for a branch: an assertion and the negated test imply another assertion.
     pub const NEXT: usize = 4;
-    // An assertion and a test give another assertion.
+    // Class 3: an assertion and the test imply another assertion.
     pub const TARGET: usize = 10;
-    // Two assertions, of which the first is kept.
+    // Class 4: an instruction takes two assertions to the first of them.
     pub const KEPT: usize = 15;
-    // False from two assertions.
+    // A claim: two assertions imply false.
     pub const CLAIM: usize = 19;
 }
 
-// Left and right side of each, with holes for the formulas that are wanted there.
+// The templates of the goals: of each its left and right side, with holes for the assertions and tests.
 pub const GOALS: [u8; 24] = [
     Code::START,
     Hole::FORMULAS,
@@ -71,6 +71,7 @@ pub const GOALS: [u8; 24] = [
     Code::FALSE,
 ];
 
+// Holes of which the first is filled by the whole formula at a position.
 fn one_hole(first: usize) -> Bind
     ensures { λ r. ⌜ r ≡ oneHole first ⌝ }
 {
@@ -81,6 +82,7 @@ fn one_hole(first: usize) -> Bind
     }
 }
 
+// Holes of which the first two are filled by whole formulas.
 fn two_holes(first: usize, second: usize) -> Bind
     ensures { λ r. ⌜ r ≡ twoHoles first second ⌝ }
 {
@@ -91,6 +93,7 @@ fn two_holes(first: usize, second: usize) -> Bind
     }
 }
 
+// Holes of which the first three are filled by whole formulas.
 fn three_holes(first: usize, second: usize, third: usize) -> Bind
     ensures { λ r. ⌜ r ≡ threeHoles first second third ⌝ }
 {
@@ -101,7 +104,7 @@ fn three_holes(first: usize, second: usize, third: usize) -> Bind
     }
 }
 
-// A thread has no point behind the limit.
+// The point after `point`. No thread has a point past the limit; the test bounds the sum without a precondition.
 fn next_point(point: usize) -> usize
     ensures { λ r. ⌜ r ≡ nextPoint point ⌝ }
 {
@@ -111,6 +114,7 @@ fn next_point(point: usize) -> usize
     point
 }
 
+// Class 1: start implies the assertion at point 0 of thread `t`.
 fn goal_start<'a, 'b>(
     image: &'a [u8],
     index: &'b [usize],
@@ -131,7 +135,7 @@ fn goal_start<'a, 'b>(
     }
 }
 
-// A triple; for a pair, one of the whole.
+// The form of a line about an instruction: a triple, for a pair a triple of the whole pair.
 fn acting_form(operation: u8) -> u8
     ensures { λ r. ⌜ r ≡ actingForm operation ⌝ }
 {
@@ -141,6 +145,7 @@ fn acting_form(operation: u8) -> u8
     Form::TRIPLE
 }
 
+// Class 2: the instruction takes its point's assertion to the next point's.
 fn goal_action<'a, 'b>(
     image: &'a [u8],
     index: &'b [usize],
@@ -164,6 +169,7 @@ fn goal_action<'a, 'b>(
     }
 }
 
+// Class 2 for a branch: its point's assertion and the negated test imply the next point's assertion.
 fn goal_next<'a, 'b>(
     image: &'a [u8],
     index: &'b [usize],
@@ -188,6 +194,7 @@ fn goal_next<'a, 'b>(
     }
 }
 
+// Class 2 for the instruction at `point` of thread `t`, which may be a branch.
 fn goal_step<'a, 'b>(
     image: &'a [u8],
     index: &'b [usize],
@@ -206,6 +213,7 @@ fn goal_step<'a, 'b>(
     goal_action(image, index, sizes, totals, t, point, instruction)
 }
 
+// Class 3: the assertion at the branch's point and its test imply the target's assertion.
 fn goal_target<'a, 'b>(
     image: &'a [u8],
     index: &'b [usize],
@@ -230,7 +238,7 @@ fn goal_target<'a, 'b>(
     }
 }
 
-// The asserting side first.
+// Class 4: the assertion of `u` is stable under the instruction of `t`: both(its assertion, the actor's) is taken to its assertion.
 fn goal_stable<'a, 'b>(
     image: &'a [u8],
     index: &'b [usize],
@@ -256,7 +264,7 @@ fn goal_stable<'a, 'b>(
     }
 }
 
-// False from the assertions of a claim's points, the lower thread's first.
+// The goal of a claim: the assertions at its two points, the lower thread's first, imply false.
 pub fn goal_claim<'a, 'b>(
     image: &'a [u8],
     index: &'b [usize],
@@ -301,6 +309,7 @@ pub fn goal_claim<'a, 'b>(
     }
 }
 
+// The goal of an obligation.
 pub fn goal_of<'a, 'b>(
     image: &'a [u8],
     index: &'b [usize],

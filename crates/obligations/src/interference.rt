@@ -1,4 +1,5 @@
-// Each assertion under the actions of the other threads: by acting thread, acting point, asserting thread, asserting point.
+// Interference freedom: each assertion under the actions of the other threads, by acting thread, acting point, asserting thread, asserting
+// point. Every function takes the judgement so far and returns the one after its obligations.
 use crate::judgement::Judgement;
 use crate::judgement::judge_next;
 use image_access::outline_point::last_point_of;
@@ -16,7 +17,7 @@ ghost use Rattle.image_bodies.specs.RecordPlaces.{threadBody};
 ghost use Rattle.rules_justified.specs.Marks.{asMarks};
 ghost use Rattle.obligations.specs.JudgementOrder.{actingAt, assertionsAt, assertionsTo, actionsTo, interferencesTo};
 
-// One assertion under one instruction. A branch is no action.
+// Judges one assertion, of thread `u`, under one instruction, of thread `t`. A branch is no action, so it has no obligation.
 fn judge_assertion<'a, 'b, 'c>(
     image: &'a [u8],
     index: &'b [usize],
@@ -53,8 +54,7 @@ fn judge_assertion<'a, 'b, 'c>(
     )
 }
 
-// The assertions of thread u, the last one too, under the instruction at point k of thread t. A thread does not interfere with
-// itself.
+// Judges every assertion of thread `u`, the last too, under one instruction of thread `t`. A thread does not interfere with itself.
 fn judge_asserting<'a, 'b, 'c>(
     image: &'a [u8],
     index: &'b [usize],
@@ -82,7 +82,7 @@ fn judge_asserting<'a, 'b, 'c>(
     q
 }
 
-// Those of all threads under one instruction.
+// Judges the assertions of all other threads under the instruction at one point of thread `t`.
 fn judge_action<'a, 'b, 'c>(
     image: &'a [u8],
     index: &'b [usize],
@@ -107,7 +107,7 @@ fn judge_action<'a, 'b, 'c>(
     q
 }
 
-// Under the instructions of thread t.
+// Judges the assertions of all other threads under each instruction of thread `t`.
 fn judge_actor<'a, 'b, 'c>(
     image: &'a [u8],
     index: &'b [usize],
@@ -132,7 +132,7 @@ fn judge_actor<'a, 'b, 'c>(
     q
 }
 
-// Under those of all threads.
+// Judges all obligations of class 4.
 pub fn judge_interferences<'a, 'b, 'c>(
     image: &'a [u8],
     index: &'b [usize],

@@ -1,4 +1,4 @@
-// The judgement so far, and one obligation more.
+// The judgement on obligations, taken one by one.
 use crate::concludes::Unmet;
 use crate::concludes::code_at;
 use image_access::named_line::named_line;
@@ -12,7 +12,7 @@ ghost use Rattle.image_access.specs.Totals.{totalsOf};
 ghost use Rattle.rules_justified.specs.Marks.{asMarks};
 ghost use Rattle.obligations.specs.Judgement.{judgeOne, next};
 
-// How many are met; or the first that is not, its code and line, and how many are met before it.
+// How many obligations are met; or the first that is not, its code and line, and how many are met before it.
 pub enum Judgement {
     Met(usize),
     Failed {
@@ -23,7 +23,8 @@ pub enum Judgement {
     },
 }
 
-// The obligation with number c, from 0. Past the last there is no line, so that the count stays in its bounds.
+// Judges the obligation with number `count`, from 0. If there is no such number, which no well-formed image has, the obligation counts as
+// unmet; this bounds the count without a precondition.
 fn judge_one<'a, 'b, 'c>(
     image: &'a [u8],
     index: &'b [usize],
@@ -57,7 +58,7 @@ fn judge_one<'a, 'b, 'c>(
     }
 }
 
-// Once an obligation is not met, the judgement stays.
+// Judges one obligation more; once an obligation is not met, the judgement stays.
 pub fn judge_next<'a, 'b, 'c>(
     image: &'a [u8],
     index: &'b [usize],

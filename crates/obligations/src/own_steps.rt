@@ -1,4 +1,5 @@
-// Starts, steps and branches taken, thread by thread.
+// The obligations of classes 1 to 3: starts, then steps and branches taken, by thread and point. Every function takes the
+// judgement so far and returns the one after its obligations.
 use crate::judgement::Judgement;
 use crate::judgement::judge_next;
 use image_access::outline_point::last_point_of;
@@ -16,7 +17,7 @@ ghost use Rattle.image_bodies.specs.RecordPlaces.{threadBody};
 ghost use Rattle.rules_justified.specs.Marks.{asMarks};
 ghost use Rattle.obligations.specs.JudgementOrder.{startsTo, ownAt, ownTo, stepsTo};
 
-// Each thread's start.
+// Judges the obligations of class 1: start gives each thread's point 0.
 pub fn judge_starts<'a, 'b, 'c>(
     image: &'a [u8],
     index: &'b [usize],
@@ -46,7 +47,7 @@ pub fn judge_starts<'a, 'b, 'c>(
     q
 }
 
-// An instruction leads to the next point; a branch first to its target.
+// Judges the obligations of one instruction: it leads to the next point; a branch first leads to its target.
 fn judge_own<'a, 'b, 'c>(
     image: &'a [u8],
     index: &'b [usize],
@@ -76,7 +77,7 @@ fn judge_own<'a, 'b, 'c>(
     judge_next(image, index, sizes, totals, marks, step, judgement)
 }
 
-// The instructions of thread t.
+// Judges the obligations of the instructions of thread `t`.
 fn judge_thread<'a, 'b, 'c>(
     image: &'a [u8],
     index: &'b [usize],
@@ -100,7 +101,7 @@ fn judge_thread<'a, 'b, 'c>(
     q
 }
 
-// Those of all threads.
+// Judges the obligations of classes 2 and 3, of all threads.
 pub fn judge_steps<'a, 'b, 'c>(
     image: &'a [u8],
     index: &'b [usize],

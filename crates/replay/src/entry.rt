@@ -7,8 +7,8 @@ use replay_machine::table_bytes::write_shown;
 use verdict_record::output::Output;
 ghost use Rattle.replay_spec.specs.Promise.{Written};
 
-// Replays a trace on the machine of an accepted image, and writes the state reached: the steps, points and registers to `answer`,
-// the writes to `table`. Room for fewer than 21 numbers is left as it is, and so is the table, and the answer is 1.
+// Replays a trace on the machine of an accepted image, and writes the state reached: the steps, points and registers to `answer`, the
+// writes to `table`; the code is returned. If `answer` has room for fewer than 21 numbers, it and the table stay, and 1 is returned.
 #[no_mangle]
 pub extern "C" fn replay_trace<'a, 'b, 'c, 'd, 'e>(
     image: &'a [u8],

@@ -1,5 +1,5 @@
-// The table as a slice of write structs, the form that the page names. A function over such a slice is proved by a walk of its code,
-// by hand, so there are two, and they are thin: what is shown is worked out by functions on values and bytes.
+// The caller's table as a slice of write structs, the form that the scope page names. A function over such a slice is proved by a walk of
+// its code, by hand, so there are two, and they are thin: what is shown is worked out by functions on values and bytes.
 use crate::whole::shown_of;
 use replay_machine::answer::Answer;
 use replay_machine::output::Shown;
@@ -10,7 +10,7 @@ ghost use lib.ListN.{length};
 ghost use Rattle.replay_machine.specs.OutputTable.{writeIn, putTo};
 ghost use Rattle.replay_spec.specs.Promise.{Into};
 
-// The write for an entry.
+// The write for entry `place`. Entries are below 64; the remainder bounds the index without a precondition.
 fn write_in(shown: Shown, place: usize) -> Write
     ensures { λ r. ⌜ r ≡ writeIn shown place ⌝ }
 {
@@ -18,7 +18,7 @@ fn write_in(shown: Shown, place: usize) -> Write
     shown.writes[i]
 }
 
-// The entries that are not used stay.
+// Writes the shown writes to the table and returns the answer; entries that are not used stay.
 fn put_shown(shown: Shown, table: &mut [Write]) -> Answer
     requires { ⌜ shown .count ≤ length (now table) ⌝ }
     ensures { λ r. ⌜ (r ≡ shown .answer) × (now (table .exit) ≡ putTo shown (shown .count) (now (table .entry))) ⌝ }
@@ -32,8 +32,7 @@ fn put_shown(shown: Shown, table: &mut [Write]) -> Answer
     shown.answer
 }
 
-// Replays a trace on the machine of an accepted image. The answer has the code, the steps, points and registers; the table ends
-// holding the writes of the state reached.
+// Replays a trace on the machine of an accepted image and returns the answer; the table ends holding the writes of the state reached.
 pub fn replay_into<'a, 'b, 'c, 'd>(
     image: &'a [u8],
     trace: &'b [u8],

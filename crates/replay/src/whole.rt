@@ -1,4 +1,4 @@
-// A replay: acceptance, the start, the run; and what it shows.
+// A whole replay: acceptance, the start, the run; and what is shown of it.
 use checker::acceptance::accept_image;
 use checker_spec::acceptance::Acceptance;
 use image_index::table::IndexSize;
@@ -16,7 +16,7 @@ ghost use Rattle.image_index.specs.IndexTable.{tableSize};
 ghost use Rattle.replay_spec.specs.ReplayNumbers.{replayOf};
 ghost use Rattle.replay_machine.specs.OutputTable.{shownBy};
 
-// With a table of zeros, as long as the image asks for.
+// Replays the trace; `index` is scratch memory that the caller passes as tableSize(image) zeros, `lent` is how many entries its table has.
 fn replay_by<'a, 'b, 'c, 'd>(
     image: &'a [u8],
     index: &'b mut [usize],
@@ -39,7 +39,7 @@ fn replay_by<'a, 'b, 'c, 'd>(
     }
 }
 
-// A replay with so many entries lent.
+// Replays the trace; `lent` is how many entries the caller's table has. A short image gets a short index, which is cleared sooner.
 fn replay<'a, 'b, 'c>(image: &'a [u8], trace: &'b [u8], given: &'c [u8], lent: usize) -> Replayed
     ensures { λ r. ⌜ r ≡ replayOf (now (image .entry)) (now (trace .entry)) (now (given .entry)) lent ⌝ }
 {
@@ -51,7 +51,7 @@ fn replay<'a, 'b, 'c>(image: &'a [u8], trace: &'b [u8], given: &'c [u8], lent: u
     replay_by(image, &mut index, trace, given, lent)
 }
 
-// What a replay with so many entries lent shows.
+// What a replay shows to a caller whose table has `lent` entries.
 pub fn shown_of<'a, 'b, 'c>(image: &'a [u8], trace: &'b [u8], given: &'c [u8], lent: usize) -> Shown
     ensures { λ s. ⌜ (s ≡ shownBy (replayOf (now (image .entry)) (now (trace .entry)) (now (given .entry)) lent) lent)
         × ((s .count ≤ min lent 64) × (length (s .writes) ≡ 64)) ⌝ }

@@ -1,4 +1,4 @@
--- What a replay answers, and the same as numbers.
+-- The answer of a replay, and the same as numbers.
 use mathlib.Core.Bool.{cond}
 use mathlib.Core.List.{List, _∷_, _++_}
 use Prim.Native.Nat.{ℕ}
@@ -8,9 +8,11 @@ use Rattle.tables_columns.specs.Column.{column}
 use Rattle.replay_machine.specs.declared.replayed.Replayed.{Replayed}
 use Rattle.replay_machine.specs.declared.answer.Answer.{Answer}
 
+-- how many numbers the answer has, besides the code
 abbrev pub size : ℕ
 size = 21
 
+-- the answer of a replay
 unfoldable pub answerOf : Replayed → Answer
 answerOf r = record { code = r .code; steps = r .steps; points = r .machine .points; registers = r .machine .registers .at }
 
@@ -18,10 +20,10 @@ answerOf r = record { code = r .code; steps = r .steps; points = r .machine .poi
 unfoldable pub numbersOf : Answer → List ℕ
 numbersOf a = a .steps ∷ column (λ t. getD (a .points) t 0) 4 ++ column (λ r. getD (a .registers) r 0) 16
 
--- 1 where there is too little room for the numbers, else the answer's own
+-- the code returned: 1 where `room` is too short for the numbers, else the answer's own
 unfoldable pub codeFor : Answer → List ℕ → ℕ
 codeFor a room = cond (ltb (length room) size) 1 (a .code)
 
--- too little room stays as it is, and so do the numbers behind
+-- `room` afterwards: the numbers, and after them what was there; where it is too short it stays as it is
 unfoldable pub numbersFor : Answer → List ℕ → List ℕ
 numbersFor a room = cond (ltb (length room) size) room (numbersOf a ++ drop size room)

@@ -1,11 +1,11 @@
--- An instruction whose formulas are worked out.
+-- Instructions with their formulas worked out.
 use mathlib.Core.Bool.{cond}
 use Prim.Native.Nat.{ℕ, _-_}
 use Rattle.image_header.specs.declared.instruction.Instruction.{Instruction}
 use Rattle.image_access.specs.AccessPlaces.{registerFirst}
 use Rattle.replay_machine.specs.declared.effect.Effect.{Effect}
 
--- v and g: the values of the formula and of the second one. Words count from 0 here
+-- the effect of an instruction; v and g are the values of its formula and of its second half's. Words count from 0 here
 unfoldable pub effectOf : Instruction → ℕ → ℕ → Effect
 effectOf i v g =
     cond (registerFirst (i .operation))

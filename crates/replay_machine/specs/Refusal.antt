@@ -1,4 +1,4 @@
--- Why a step is refused: 27 thread absent or at its last point, 28 position not permitted, 29 no entry left for a write; 0 if it is taken.
+-- The code of a refused step: "27 thread absent, at its last point, or half a step; 28 pick not permitted; 29 no entry left for a write".
 use Prim.Native.Nat.{ℕ}
 use mathlib.Core.Bool.{Bool, false, not, cond}
 use lib.Dec.{eqb, ltb, leb}
@@ -16,5 +16,6 @@ total m n = first (m .sizes) n
 unfoldable pub adding : ℕ → Bool
 adding op = cond (leb op Opcode.acquire) false (cond (eqb op Opcode.branch) false (not (eqb op Opcode.assignTwo)))
 
+-- why thread t may not take a step with effect d at position p: 28, 29, or 0 if it may
 unfoldable pub pickRefusal : Memory → ℕ → ℕ → Effect → ℕ → ℕ → ℕ
 pickRefusal m words room d t p = cond (mayPick m d t p) (cond (adding (d .operation)) (cond (ltb (total m words) room) 0 29) 0) 28

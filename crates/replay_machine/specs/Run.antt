@@ -1,4 +1,4 @@
--- The steps of a trace, two bytes each, until one is refused; half a step is 27.
+-- The steps of a trace, two bytes each, until one is refused; "half a step" is 27.
 use Prim.Native.Nat.{ℕ, _+_}
 use mathlib.Core.Bool.{true, false}
 use mathlib.Core.List.{List, [], _∷_}
@@ -10,7 +10,7 @@ use Rattle.replay_machine.specs.declared.state.Machine.{Machine}
 use Rattle.replay_machine.specs.declared.run.Run.{Run}
 use Rattle.replay_machine.specs.declared.run.Reached.{Reached}
 
--- from the state n on, k steps having been taken
+-- the run of a trace from the state n on, after k steps
 unfoldable pub ran : List ℕ → Sizes → ℕ → Machine → ℕ → List ℕ → Run
 ran s z room n k [] = record { code = 0; steps = k; machine = n }
 ran s z room n k (t ∷ []) = record { code = 27; steps = k; machine = n }
@@ -20,6 +20,6 @@ ran s z room n k (t ∷ p ∷ l) =
       | false ↦ record { code = stepped s z room n t p .code; steps = k; machine = n }
     ]
 
--- apart from a table of bytes
+-- the run, its writes read from the bytes b
 unfoldable pub runOf : Reached → List ℕ → Run
 runOf r b = record { code = r .code; steps = r .steps; machine = machineOf (r .threads) b }

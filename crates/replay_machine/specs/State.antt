@@ -1,4 +1,4 @@
--- A state of the machine, as the code has it, and a step on it. Threads count from 0 here.
+-- A state of the machine as the code has it, and a step on it. Threads count from 0 here.
 use Prim.Native.Nat.{ℕ, _%_}
 use lib.ListN.{getD, set}
 use mathlib.Core.List.{List}
@@ -9,10 +9,11 @@ use Rattle.replay_machine.specs.declared.effect.Effect.{Effect}
 use Rattle.replay_machine.specs.declared.state.Machine.{Machine}
 use Rattle.replay_machine.specs.declared.state.Threads.{Threads}
 
+-- the point of thread t
 unfoldable pub pointOf : Machine → ℕ → ℕ
 pointOf n t = getD (n .points) (t % 4) 0
 
--- thread t does the effect at position p
+-- the state after a step of thread t with effect d at position p
 unfoldable pub performed : Machine → ℕ → Effect → ℕ → ℕ → Machine
 performed n R d t p = record {
   memory = memoryAfter (n .memory) R d t p;
@@ -22,8 +23,10 @@ performed n R d t p = record {
 
 -- APART FROM A TABLE OF BYTES
 
+-- the state, its writes read from the bytes b
 unfoldable pub machineOf : Threads → List ℕ → Machine
 machineOf h b = record { memory = memoryOf (h .sight) b; registers = h .registers; points = h .points }
 
+-- the state without its writes
 unfoldable pub threadsOf : Machine → Threads
 threadsOf n = record { sight = record { sizes = n .memory .sizes; views = n .memory .views }; registers = n .registers; points = n .points }

@@ -20,36 +20,39 @@ use Rattle.replay_machine.specs.Refusal.{pickRefusal}
 use Rattle.replay_machine.specs.declared.state.Machine.{Machine}
 use Rattle.replay_machine.specs.declared.step.Taken.{Taken}
 
--- the state after a step, and why it was refused
+-- the state after a step, and the code: 0 if it was taken, else why it was refused
 pub record Stepped : Type 0 where
   pub code : ℕ
   pub machine : Machine
 
--- apart from a table of bytes
+-- the step's result, its writes read from the bytes b
 unfoldable pub takenOf : Taken → List ℕ → Stepped
 takenOf r b = record { code = r .code; machine = machineOf (r .threads) b }
 
+-- a refused step: the state stays
 abbrev pub refused : ℕ → Machine → Stepped
 refused code n = record { code = code; machine = n }
 
--- a effect of thread t, counted from 0
+-- a step of thread t, counted from 0, with effect d at position p
 unfoldable pub attempted : Sizes → ℕ → Machine → Effect → ℕ → ℕ → Stepped
 attempted z room n d t p =
     cond (eqb (pickRefusal (n .memory) (z .words) room d t p) 0) (record { code = 0; machine = performed n (z .range) d t p })
     (refused (pickRefusal (n .memory) (z .words) room d t p) n)
 
 module _ (s : List ℕ) (z : Sizes) where
-  -- the value of the formula with a number
+  -- the value of formula k at the registers
   abbrev pub valueAt : Registers → ℕ → ℕ
   valueAt h k = workedT (z .range) (h .at) (parseTree s nesting (formulaAt s k) .tree)
 
-  -- an instruction with its formulas worked out
+  -- the effect of an instruction, its formulas worked out at the registers
   abbrev pub workedOut : Registers → Instruction → Effect
   workedOut h i = effectOf i (valueAt h (i .formula)) (valueAt h (i .second .formula))
 
+  -- the effect of the instruction at point k of thread t
   unfoldable pub effectAt : Registers → ℕ → ℕ → Effect
   effectAt h t k = workedOut h (instructionOf z (bodies s) t k)
 
+  -- the last point of thread t
   unfoldable pub lastOf : ℕ → ℕ
   lastOf t = lastPoint (threadBody z (bodies s) t)
 

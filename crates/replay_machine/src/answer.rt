@@ -1,4 +1,4 @@
-// What a replay answers, and the same as numbers.
+// The answer of a replay, and the same as numbers.
 use crate::replayed::Replayed;
 ghost use mathlib.Core.Path.{_≡_};
 ghost use mathlib.Core.List.{_++_};
@@ -15,10 +15,11 @@ pub struct Answer {
 }
 
 impl Answer {
-    // How many numbers it has, besides the code.
+    // How many numbers the answer has, besides the code.
     pub const SIZE: usize = 21;
 }
 
+// The answer of a replay.
 pub fn answer_of(replayed: Replayed) -> Answer
     ensures { λ a. ⌜ a ≡ answerOf replayed ⌝ }
 {
@@ -34,7 +35,7 @@ pub fn answer_of(replayed: Replayed) -> Answer
     }
 }
 
-// The steps, then the points, then the registers.
+// Number `i` of the answer: the steps, then the points, then the registers.
 fn number_at(answer: Answer, i: usize) -> usize
     ensures { λ r. ⌜ r ≡ getD (numbersOf answer) i 0 ⌝ }
 {
@@ -50,7 +51,7 @@ fn number_at(answer: Answer, i: usize) -> usize
     0
 }
 
-// The numbers behind stay.
+// Writes the answer's numbers to the front of `room`; the numbers after them stay.
 pub fn write_numbers(answer: Answer, room: &mut [usize])
     requires { ⌜ size ≤ length (now room) ⌝ }
     ensures { λ _. ⌜ now (room .exit) ≡ numbersOf answer ++ drop size (now (room .entry)) ⌝ }

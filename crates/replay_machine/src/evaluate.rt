@@ -9,7 +9,7 @@ ghost use Rattle.limits.specs.Limits.{nesting};
 ghost use Rattle.formula.specs.Tree.{parseTree};
 ghost use Rattle.replay_machine.specs.Evaluate.{workedHere, workedT, workedAt};
 
-// A formula's value, and the position past it.
+// A formula's value, and the position after it.
 pub struct Worked {
     pub value: u8,
     pub end: usize,
@@ -25,7 +25,7 @@ fn work_here(range: u8, code: u8, operand: u8, registers: &[u8], first: u8, seco
     combine_parts(range, code, operand, first, second)
 }
 
-// The value of what stands at a position, nested at most `left` deep.
+// The value of the formula at `at`, nested at most `left` deep, and the position after it.
 pub fn work_at(image: &[u8], at: usize, left: usize, range: u8, registers: &[u8]) -> Worked
     ensures { λ r. ⌜ r ≡ workedAt range (now (registers .entry)) (parseTree (now (image .entry)) left at) ⌝ }
 {
@@ -50,7 +50,7 @@ pub fn work_at(image: &[u8], at: usize, left: usize, range: u8, registers: &[u8]
     Worked { value, end: b.end }
 }
 
-// The value of the formula at a position.
+// The value of the formula at `at`.
 pub fn work(image: &[u8], at: usize, range: u8, registers: &[u8]) -> u8
     ensures { λ r. ⌜ r ≡ workedT range (now (registers .entry)) (parseTree (now (image .entry)) nesting at .tree) ⌝ }
 {

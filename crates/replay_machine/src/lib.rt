@@ -1,17 +1,19 @@
+// The machine of a replay, on numbers: a trace of steps from the start on, until one is refused, and what is shown of the state reached.
+
 // Formulas over registers, worked out at given values.
 pub mod evaluate;
 
-// One step of the machine, on numbers: an instruction whose formulas are worked out, by a thread, at a position.
+// One step: an instruction whose formulas are worked out, by a thread, at a position.
 pub mod effect;
 pub mod locals;
 pub mod shared;
 
-// One step of a replay: refused, or taken.
+// One step of a trace: refused, or taken.
 pub mod pick;
 pub mod state;
 pub mod step;
 
-// A trace of steps on the machine, from the start on.
+// A trace of steps, from the start on.
 pub mod replayed;
 pub mod run;
 pub mod shown_table;

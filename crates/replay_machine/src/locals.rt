@@ -1,16 +1,16 @@
-// Registers and points.
+// Registers and points after a step.
 use crate::effect::Effect;
 use image_header::instruction::Instruction;
 use replay_memory::view::next;
 ghost use mathlib.Core.Path.{_≡_};
 ghost use Rattle.replay_machine.specs.Locals.{withRegister, withBoth, registersAfter, pointAfter};
 
-// Registers count from 1.
+// The values of sixteen registers; register r is entry r - 1.
 pub struct Registers {
     pub at: [u8; 16],
 }
 
-// A register that is not there is not set.
+// The registers with `value` for register `r`; a number that no register has sets none.
 fn with_register(registers: Registers, r: u8, value: u8) -> Registers
     ensures { λ q. ⌜ q ≡ withRegister registers r value ⌝ }
 {
@@ -26,7 +26,7 @@ fn with_register(registers: Registers, r: u8, value: u8) -> Registers
     n
 }
 
-// Both registers of two assignments.
+// The registers after two assignments in one step.
 fn with_both(registers: Registers, effect: Effect) -> Registers
     ensures { λ r. ⌜ r ≡ withBoth registers effect ⌝ }
 {
@@ -34,7 +34,7 @@ fn with_both(registers: Registers, effect: Effect) -> Registers
     with_register(n, effect.register, effect.value)
 }
 
-// The registers after a step; old is the value of the write that it picks.
+// The registers after a step; `old` is the value of the write that it picks.
 pub fn registers_after(registers: Registers, old: u8, effect: Effect) -> Registers
     ensures { λ r. ⌜ r ≡ registersAfter registers old effect ⌝ }
 {
@@ -69,7 +69,7 @@ pub fn registers_after(registers: Registers, old: u8, effect: Effect) -> Registe
     registers
 }
 
-// The point after a step: the next one, or where a branch goes whose test is true.
+// The point after a step: the next one, or the target of a branch whose test is true.
 pub fn point_after(point: u8, effect: Effect) -> u8
     ensures { λ r. ⌜ r ≡ pointAfter point effect ⌝ }
 {

@@ -1,4 +1,4 @@
-// What a replay shows: the answer, and the writes for the table.
+// What a replay shows: the answer, and the writes for the caller's table.
 use crate::answer::Answer;
 use crate::answer::answer_of;
 use crate::pick::total_of;
@@ -11,14 +11,14 @@ ghost use Prim.Native.Nat.{_≤_, min};
 ghost use lib.ListN.{length};
 ghost use Rattle.replay_machine.specs.OutputTable.{shownOf, shownBy};
 
-// So many writes are for the table, the first ones; those behind them are not.
+// The answer, and the writes for the table: the first `count` of `writes`.
 pub struct Shown {
     pub answer: Answer,
     pub count: usize,
     pub writes: [Write; Table::MOST],
 }
 
-// How many entries are used, of so many writes and entries lent.
+// How many entries are used: no more than there are writes, entries in the caller's table (`lent`), or 64.
 fn least(writes: usize, lent: usize) -> usize
     ensures { λ r. ⌜ r ≡ min writes (min lent 64) ⌝ }
 {
@@ -34,7 +34,7 @@ fn least(writes: usize, lent: usize) -> usize
     Table::MOST
 }
 
-// None where the table stays as it is.
+// How many writes go to a table of `lent` entries; none where the table stays as it is.
 fn count_of(replayed: Replayed, lent: usize) -> usize
     ensures { λ n. ⌜ (n ≡ length (shownOf replayed lent)) × (n ≤ min lent 64) ⌝ }
 {
@@ -46,7 +46,7 @@ fn count_of(replayed: Replayed, lent: usize) -> usize
     0
 }
 
-// What is shown of a replay with so many entries lent.
+// What is shown of a replay to a caller whose table has `lent` entries.
 pub fn shown_by(replayed: Replayed, lent: usize) -> Shown
     ensures { λ s. ⌜ (s ≡ shownBy replayed lent) × ((s .count ≤ min lent 64) × (length (s .writes) ≡ 64)) ⌝ }
 {

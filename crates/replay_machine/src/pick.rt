@@ -11,22 +11,23 @@ ghost use Prim.Native.Nat.{_≤_, _*_};
 ghost use Rattle.replay_memory.specs.Memory.{memoryOf};
 ghost use Rattle.replay_machine.specs.Refusal.{total, adding, pickRefusal};
 
+// Codes of refused steps; 0 for one that is taken.
 pub struct Refusal {}
 
 impl Refusal {
     pub const ACCEPTED: u8 = 0;
 
-    // Thread absent or at its last point, or half a step.
+    // The thread is absent or at its last point, or the trace ends with half a step.
     pub const THREAD: u8 = 27;
 
-    // Position not permitted.
+    // The position is not permitted.
     pub const PICK: u8 = 28;
 
-    // No entry left for a write.
+    // No entry is left for a write.
     pub const ROOM: u8 = 29;
 }
 
-// How many writes the first n rows have.
+// How many writes the first `words` rows have.
 pub fn total_of(memory: Memory, words: u8) -> usize
     ensures { λ r. ⌜ (r ≡ total memory words) × (r ≤ words * 255) ⌝ }
 {
@@ -47,7 +48,7 @@ fn is_adding(operation: u8) -> bool
     operation != Instruction::ASSIGN_TWO
 }
 
-// Why thread t may not do the effect at position p; 0 if it may.
+// Why thread `t` may not take a step with this effect at `position`; 0 if it may. `room` is how many writes there may be.
 pub fn pick_refusal(
     table: &[u8; Places::BYTES],
     shape: MemoryShape,

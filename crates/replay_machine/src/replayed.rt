@@ -1,4 +1,4 @@
-// A replay on an accepted image: the start, the run.
+// A replay on an accepted image: the start, then the run.
 use crate::pick::Refusal;
 use crate::run::run_trace;
 use crate::start::start_machine;
@@ -9,17 +9,18 @@ ghost use mathlib.Core.Path.{_≡_};
 ghost use Rattle.image_index.specs.IndexTable.{indexOf};
 ghost use Rattle.replay_machine.specs.Replayed.{roomOf, replayOn};
 
+// Numbers of the caller's table, and the code of an image that is not accepted.
 pub struct Table {}
 
 impl Table {
-    // Entries past these are never used.
+    // Entries past the 64th are never used.
     pub const MOST: usize = 64;
 
     // The image is not accepted.
     pub const DECLINED: u8 = 24;
 }
 
-// Why it ended, the steps taken and the state reached; whether the table is to hold its writes, and of how many words.
+// Why the replay ended, the steps taken and the state reached; whether the table is to be written, and how many words have rows there.
 pub struct Replayed {
     pub code: u8,
     pub steps: usize,
@@ -28,7 +29,7 @@ pub struct Replayed {
     pub machine: Machine,
 }
 
-// How many entries are used at most, of so many lent.
+// How many entries are used at most, of a table that has `lent`.
 pub fn room_of(lent: usize) -> usize
     ensures { λ r. ⌜ r ≡ roomOf lent ⌝ }
 {
@@ -39,7 +40,7 @@ pub fn room_of(lent: usize) -> usize
     }
 }
 
-// The index is that of the image, and so are the sizes.
+// Replays the trace on an accepted image; `room` is how many writes there may be. If the start writes do not fit, no step is taken.
 pub fn replay_on<'a, 'b, 'c, 'd>(
     image: &'a [u8],
     index: &'b [usize],

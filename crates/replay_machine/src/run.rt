@@ -21,14 +21,14 @@ pub struct Run {
     pub machine: Machine,
 }
 
-// The same without the writes.
+// A run without its writes, which are in a table of bytes.
 pub struct Reached {
     pub code: u8,
     pub steps: usize,
     pub threads: Threads,
 }
 
-// On a table that is lent.
+// Runs the trace from the state `from`, whose writes are in `table`; that is changed in place.
 fn run_on<'a, 'b, 'c, 'd>(
     image: &'a [u8],
     index: &'b [usize],
@@ -75,6 +75,7 @@ fn run_on<'a, 'b, 'c, 'd>(
     }
 }
 
+// Runs the trace from the state `from`; `room` is how many writes there may be.
 pub fn run_trace(
     image: &[u8],
     index: &[usize],

@@ -1,4 +1,4 @@
-// What a step does to shared words and views, and whether it may pick a position.
+// What a step does to shared words and views, and which positions it may pick.
 use crate::effect::Effect;
 use image_header::instruction::Instruction;
 use replay_memory::access::load;
@@ -16,7 +16,7 @@ ghost use lib.ListN.{length};
 ghost use Rattle.replay_memory.specs.Memory.{memoryOf};
 ghost use Rattle.replay_machine.specs.Shared.{reachableBy, uncovered, mayPick, fetchAdded, memoryAfter};
 
-// The position is there, at or after the thread's own.
+// The position is in the row of word `x`, at or after the one that the view of thread `t` names.
 fn is_reachable(shape: MemoryShape, t: u8, x: u8, position: u8) -> bool
     ensures { λ r. ⌜ r ≡ reachableBy shape t x position ⌝ }
 {
@@ -27,7 +27,7 @@ fn is_reachable(shape: MemoryShape, t: u8, x: u8, position: u8) -> bool
     false
 }
 
-// A write is put behind an uncovered one.
+// The position is reachable and its write is not covered: a new write may be put behind it.
 fn is_uncovered(table: &[u8; Places::BYTES], shape: MemoryShape, t: u8, x: u8, position: u8) -> bool
     ensures { λ r. ⌜ r ≡ uncovered (memoryOf shape (now (table .entry))) t x position ⌝ }
 {
@@ -37,7 +37,7 @@ fn is_uncovered(table: &[u8; Places::BYTES], shape: MemoryShape, t: u8, x: u8, p
     false
 }
 
-// An instruction that picks no write has position 0.
+// Whether thread `t` may pick `position`: a load any reachable write, a store or swap an uncovered one; other instructions have position 0.
 pub fn may_pick(
     table: &[u8; Places::BYTES],
     shape: MemoryShape,
@@ -66,7 +66,7 @@ pub fn may_pick(
     is_uncovered(table, shape, t, effect.word, position)
 }
 
-// A swap that stores the old value plus the formula's.
+// A swap that stores the old value plus the formula's, modulo the range.
 fn fetch_add(
     shape: MemoryShape,
     range: u8,
@@ -87,7 +87,7 @@ fn fetch_add(
     swap(shape, effect.word, sum, t, position, table)
 }
 
-// What thread t does to shared words and views at position p.
+// The memory after a step of thread `t` at `position`; the writes are changed in `table`.
 pub fn memory_after(
     shape: MemoryShape,
     range: u8,

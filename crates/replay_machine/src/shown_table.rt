@@ -1,4 +1,4 @@
-// The table that the caller sees: the writes word by word, in row order.
+// The table that the caller sees: the writes word by word, in modification order.
 use crate::pick::total_of;
 use replay_memory::memory::Memory;
 use replay_memory::write::Write;
@@ -9,12 +9,12 @@ ghost use lib.Dec.{ltb};
 ghost use Rattle.replay_memory.specs.Write.{startWrite};
 ghost use Rattle.replay_machine.specs.ShownTable.{packed};
 
-// The first 64 entries; behind the last write, writes of 0.
+// The first 64 entries; after the last write there are start writes of 0.
 pub struct Packed {
     pub writes: [Write; 64],
 }
 
-// The write at entry e, of so many.
+// The write of entry `i`, of `n` entries; after the last a start write of 0.
 fn shown(write: Write, i: usize, n: usize) -> Write
     ensures { λ r. ⌜ r ≡ cond (ltb i n) write (startWrite 0) ⌝ }
 {
@@ -24,7 +24,7 @@ fn shown(write: Write, i: usize, n: usize) -> Write
     start_write(0)
 }
 
-// The writes of the first words.
+// The table for the first `words` words of the memory.
 pub fn pack(memory: Memory, words: u8) -> Packed
     ensures { λ r. ⌜ r ≡ packed memory words ⌝ }
 {

@@ -1,4 +1,4 @@
-// The start: a write for each word, all views on these, registers that start at 0 or as they are given, every thread at point 0.
+// The start state: a write for each word, all views on these, registers at 0 or as the caller gives them, every thread at point 0.
 use crate::locals::Registers;
 use crate::state::Machine;
 use image_header::header::is_cleared;
@@ -10,7 +10,7 @@ use replay_memory::write::start_write;
 ghost use mathlib.Core.Path.{_≡_};
 ghost use Rattle.replay_machine.specs.Start.{startMemory, startRegister, startRegisters, started};
 
-// b is the header. Each row has one write; behind the last row nothing is looked at.
+// The memory at the start; `body` is that of the header. Each row has one write; the places after the eight rows are not read.
 fn start_memory(body: &[u8]) -> Memory
     ensures { λ r. ⌜ r ≡ startMemory (now (body .entry)) ⌝ }
 {
@@ -29,7 +29,8 @@ fn start_memory(body: &[u8]) -> Memory
     }
 }
 
-// The register at index i: 0, or what is given, modulo the range.
+// The value of the register with index `i`: 0 if it starts there, else what is given, modulo the range. With range 0, which stands for an
+// image that is not accepted, it is 0. No index is above 255; that test bounds the sum without a precondition.
 fn start_register(body: &[u8], range: u8, given: &[u8], i: usize) -> u8
     ensures { λ r. ⌜ r ≡ startRegister (now (body .entry)) range (now (given .entry)) i ⌝ }
 {
@@ -45,6 +46,7 @@ fn start_register(body: &[u8], range: u8, given: &[u8], i: usize) -> u8
     u8_at(given, i) % range
 }
 
+// All registers at the start.
 fn start_registers(body: &[u8], range: u8, given: &[u8]) -> Registers
     ensures { λ r. ⌜ r ≡ startRegisters (now (body .entry)) range (now (given .entry)) ⌝ }
 {
@@ -57,6 +59,7 @@ fn start_registers(body: &[u8], range: u8, given: &[u8]) -> Registers
     Registers { at }
 }
 
+// The start state by the header's body; `given` has a byte for each register.
 pub fn start_machine(body: &[u8], range: u8, given: &[u8]) -> Machine
     ensures { λ r. ⌜ r ≡ started (now (body .entry)) range (now (given .entry)) ⌝ }
 {

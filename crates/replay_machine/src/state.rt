@@ -1,4 +1,4 @@
-// A state of the machine: shared words and views, registers, points. Threads count from 0 here.
+// A state of the machine: shared memory and views, registers, points. Threads count from 0 here.
 use crate::effect::Effect;
 use crate::locals::Registers;
 use crate::locals::point_after;
@@ -14,19 +14,21 @@ ghost use Prim.Native.Nat.{_%_};
 ghost use lib.ListN.{length, getD};
 ghost use Rattle.replay_machine.specs.State.{performed, machineOf, threadsOf};
 
+// A state as a value.
 pub struct Machine {
     pub memory: Memory,
     pub registers: Registers,
     pub points: [u8; 4],
 }
 
-// The same without the writes: what a step hands on by value.
+// A state without its writes, which are in a table of bytes: what a step passes on by value.
 pub struct Threads {
     pub sight: MemoryShape,
     pub registers: Registers,
     pub points: [u8; 4],
 }
 
+// The state without its writes.
 pub fn threads_of(machine: Machine) -> Threads
     ensures { λ r. ⌜ r ≡ threadsOf machine ⌝ }
 {
@@ -42,6 +44,7 @@ pub fn threads_of(machine: Machine) -> Threads
     }
 }
 
+// The state with its writes, read from the table.
 pub fn machine_of(threads: Threads, table: &[u8; Places::BYTES]) -> Machine
     ensures { λ r. ⌜ r ≡ machineOf threads (now (table .entry)) ⌝ }
 {
@@ -54,6 +57,7 @@ pub fn machine_of(threads: Threads, table: &[u8; Places::BYTES]) -> Machine
     }
 }
 
+// The point of thread `t`.
 pub fn point_of(threads: Threads, t: u8) -> u8
     ensures { λ r. ⌜ r ≡ getD (threads .points) (t % 4) 0 ⌝ }
 {
@@ -61,7 +65,7 @@ pub fn point_of(threads: Threads, t: u8) -> u8
     threads.points[i]
 }
 
-// The state after a step of thread t at position p.
+// The state after a step of thread `t` with this effect at `position`; the writes are changed in `table`.
 pub fn perform(
     threads: Threads,
     range: u8,

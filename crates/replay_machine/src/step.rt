@@ -21,13 +21,13 @@ ghost use Rattle.image_index.specs.IndexTable.{indexOf};
 ghost use Rattle.replay_machine.specs.State.{machineOf};
 ghost use Rattle.replay_machine.specs.Step.{valueAt, effectAt, lastOf, attempted, stepped, takenOf};
 
-// The state after a step, and why it was refused: then the state stays.
+// The state after a step, and the code: 0 if it was taken, else why it was refused; then the state is as before.
 pub struct Taken {
     pub code: u8,
     pub threads: Threads,
 }
 
-// The value of formula k at the registers.
+// The value of formula `number` at the registers.
 fn value_at<'a, 'b>(
     image: &'a [u8],
     index: &'b [usize],
@@ -43,7 +43,7 @@ fn value_at<'a, 'b>(
     work(image, at, sizes.range, &g)
 }
 
-// The instruction at point k of thread t, its formulas worked out at the registers.
+// The effect of the instruction at `point` of thread `t`, its formulas worked out at the registers before the step.
 fn effect_at<'a, 'b>(
     image: &'a [u8],
     index: &'b [usize],
@@ -62,7 +62,7 @@ fn effect_at<'a, 'b>(
     effect_of(instruction, value, note)
 }
 
-// The last point of thread t.
+// The last point of thread `t`, counted from 1.
 fn last_of<'a, 'b>(image: &'a [u8], index: &'b [usize], sizes: Sizes, t: u8) -> usize
     requires { ⌜ now index ≡ indexOf (now image) ⌝ }
     ensures { λ r. ⌜ r ≡ lastOf (now (image .entry)) sizes t ⌝ }
@@ -71,7 +71,7 @@ fn last_of<'a, 'b>(image: &'a [u8], index: &'b [usize], sizes: Sizes, t: u8) -> 
     last_point(body)
 }
 
-// A effect of thread t, counted from 0, at position p.
+// A step of thread `t`, counted from 0, with this effect at `position`: refused, or taken.
 fn attempt(
     sizes: Sizes,
     room: usize,
@@ -98,7 +98,7 @@ fn attempt(
     }
 }
 
-// A step of thread t at position p, with so many places for writes.
+// A step of thread `t`, counted from 1, at `position`; `room` is how many writes there may be.
 pub fn step<'a, 'b, 'c>(
     image: &'a [u8],
     index: &'b [usize],

@@ -1,4 +1,4 @@
-// The table of writes as bytes: an entry of eleven for each write.
+// The caller's table of writes as bytes: an entry of eleven for each write.
 use crate::output::Shown;
 use replay_memory::write::Write;
 use replay_memory::write_table::bit;
@@ -8,6 +8,7 @@ ghost use Prim.Native.Nat.{_≤_, _*_};
 ghost use lib.ListN.{length, getD, take, drop};
 ghost use Rattle.replay_machine.specs.OutputTable.{entryBytes, laid};
 
+// The layout of an entry.
 pub struct Entry {}
 
 impl Entry {
@@ -15,7 +16,7 @@ impl Entry {
     pub const SIZE: usize = 11;
 }
 
-// A byte of an entry.
+// Byte `j` of a write's entry.
 fn entry_byte(write: Write, j: usize) -> u8
     ensures { λ r. ⌜ r ≡ getD (entryBytes write) j 0 ⌝ }
 {
@@ -35,7 +36,7 @@ fn entry_byte(write: Write, j: usize) -> u8
     0
 }
 
-// The bytes behind stay.
+// Writes an entry to the front of `out`; the bytes after it stay.
 fn write_entry(write: Write, out: &mut [u8])
     requires { ⌜ 11 ≤ length (now out) ⌝ }
     ensures { λ _. ⌜ now (out .exit) ≡ entryBytes write ++ drop 11 (now (out .entry)) ⌝ }
@@ -47,7 +48,7 @@ fn write_entry(write: Write, out: &mut [u8])
     }
 }
 
-// The entries that are not used stay, and so do bytes behind the last whole one.
+// Writes the shown writes to the table; entries that are not used stay, and so do bytes after the last whole entry.
 pub fn write_shown(shown: Shown, table: &mut [u8])
     requires { ⌜ (shown .count * 11 ≤ length (now table)) × ((shown .count ≤ 64) × (length (shown .writes) ≡ 64)) ⌝ }
     ensures { λ _. ⌜ now (table .exit) ≡ laid (take (shown .count) (shown .writes)) (now (table .entry)) ⌝ }

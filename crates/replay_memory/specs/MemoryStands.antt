@@ -1,4 +1,4 @@
--- What the numbers stand for: a state of the logic, whose words and threads count from 1.
+-- Which state of the logic the numbers of a memory represent. Words and threads count from 0 in the memory, from 1 in the state.
 use mathlib.Core.Path.{_≡_}
 use Prim.Native.Nat.{ℕ, suc, _≤_, _<_}
 use lib.ListN.{length, getD}
@@ -9,17 +9,20 @@ use Rattle.replay_memory.specs.declared.view.View.{View}
 use Rattle.replay_memory.specs.declared.write.Write.{Write}
 use Rattle.replay_memory.specs.declared.memory.Memory.{Memory}
 
+-- a view of the code represents a view of the logic
 pub record SameView (v : View) (w : Logic.View) : Type 0 where
   pub eight : length (v .at) ≡ 8
   pub same : (k : ℕ) → k < 8 → getD (v .at) k 0 ≡ w (suc k)
 
+-- a write of the code represents a write of the logic
 pub record SameWrite (a : Write) (b : Logic.Write) : Type 0 where
   pub value : a .value ≡ b .value
   pub releasing : a .releasing ≡ b .releasing
   pub covered : a .covered ≡ b .covered
   pub stored : SameView (a .stored) (b .stored)
 
--- all rows together have at most 72 writes; of what stands behind them nothing is said
+-- the memory represents that of the state, and its views. All rows have at most 72 writes
+-- together; of the places after them nothing is said
 pub record Stands (m : Memory) (s : State) : Type 0 where
   pub rows : length (m .sizes) ≡ 8
   pub places : length (m .writes) ≡ 72

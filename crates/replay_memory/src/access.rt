@@ -1,4 +1,4 @@
-// What loads, stores and swaps do to rows and views: thread t, at position p of word k, all counted from 0.
+// What loads, stores and swaps do to the memory. Threads (`t`), words (`x`) and positions count from 0.
 use crate::insert::insert;
 use crate::memory::MemoryShape;
 use crate::memory::cover;
@@ -17,8 +17,7 @@ ghost use lib.ListN.{length};
 ghost use Rattle.replay_memory.specs.Memory.{memoryOf};
 ghost use Rattle.replay_memory.specs.Access.{readFrom, loaded, put, stored, swapFrom, swapped};
 
-// The view after a load of w from the view v: if it acquires and the write is releasing, word by word the later of v and the stored one.
-// Otherwise only that word moves.
+// The view after a load of `write`: if it acquires and the write is releasing, the stored view is joined in; else only that word moves.
 fn read_view(write: Write, view: View, acquires: bool, x: u8, position: u8) -> View
     ensures { λ r. ⌜ r ≡ readFrom write view acquires x position ⌝ }
 {
@@ -32,6 +31,7 @@ fn read_view(write: Write, view: View, acquires: bool, x: u8, position: u8) -> V
     with_position(view, x, position)
 }
 
+// Thread `t` loads the write at `position` of word `x`: only its view changes.
 pub fn load(
     table: &[u8; Places::BYTES],
     shape: MemoryShape,
@@ -50,7 +50,7 @@ pub fn load(
     )
 }
 
-// A new write of value n from the view v: the view moves to it, and that view is stored with it.
+// Inserts a write behind `position` of word `x`, by thread `t` from `view`: the view moves to it, and that view is stored with it.
 fn put(
     shape: MemoryShape,
     releasing: bool,
@@ -75,6 +75,7 @@ fn put(
     with_view(insert(shape, x, position, write, table), t, u)
 }
 
+// Thread `t` stores `value` behind `position` of word `x`, from its own view.
 pub fn store(
     shape: MemoryShape,
     releasing: bool,
@@ -100,7 +101,7 @@ pub fn store(
     )
 }
 
-// The view from which a swap of w writes: if w is releasing, its stored view is joined in.
+// The view from which a swap that picks `write` writes: if the write is releasing, its stored view is joined in.
 fn swap_view(write: Write, view: View) -> View
     ensures { λ r. ⌜ r ≡ swapFrom write view ⌝ }
 {
@@ -111,7 +112,7 @@ fn swap_view(write: Write, view: View) -> View
     view
 }
 
-// A releasing store that also covers the picked write.
+// Thread `t` swaps `value` into word `x`: a releasing store that also covers the picked write.
 pub fn swap(
     shape: MemoryShape,
     x: u8,

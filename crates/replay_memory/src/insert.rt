@@ -1,4 +1,4 @@
-// A write inserted behind another: those behind it in the table move up by one, and every view keeps its writes.
+// Insertion of a write directly behind another: the writes after it in the table move up by one, and every view keeps its writes.
 use crate::memory::MemoryShape;
 use crate::memory::index_of;
 use crate::view::next;
@@ -14,7 +14,7 @@ ghost use lib.ListN.{length};
 ghost use Rattle.replay_memory.specs.Memory.{memoryOf};
 ghost use Rattle.replay_memory.specs.Insert.{grown, inserted};
 
-// One more write of word k, behind position p: the threads' views keep their writes.
+// The sizes and views after one more write of word `x`, behind `position`: threads' views keep their writes.
 fn grow(shape: MemoryShape, x: u8, position: u8) -> MemoryShape
     ensures { λ r. ⌜ r ≡ grown shape x position ⌝ }
 {
@@ -31,7 +31,7 @@ fn grow(shape: MemoryShape, x: u8, position: u8) -> MemoryShape
     MemoryShape { sizes, views }
 }
 
-// The write w directly behind position p of word k.
+// Inserts the write directly behind `position` of word `x`.
 pub fn insert(
     shape: MemoryShape,
     x: u8,

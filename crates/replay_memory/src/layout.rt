@@ -1,4 +1,4 @@
-// A memory's writes laid out as bytes, and taken from there.
+// A memory as a value, and its writes as a table of bytes.
 use crate::memory::Memory;
 use crate::memory::MemoryShape;
 use crate::write::start_write;
@@ -10,6 +10,7 @@ ghost use lib.ListN.{length};
 ghost use Rattle.replay_memory.specs.WriteTable.{writesIn};
 ghost use Rattle.replay_memory.specs.Memory.{memoryOf};
 
+// Writes all 72 places of the memory to the table.
 pub fn lay_out(memory: Memory, table: &mut [u8; Places::BYTES])
     requires { ⌜ length (now table) ≡ 792 ⌝ }
     ensures { λ _. ⌜ writesIn (now (table .exit)) ≡ memory .writes ⌝ }
@@ -22,6 +23,7 @@ pub fn lay_out(memory: Memory, table: &mut [u8; Places::BYTES])
     }
 }
 
+// The memory with these sizes and views, its writes read from the table.
 pub fn memory_of(shape: MemoryShape, table: &[u8; Places::BYTES]) -> Memory
     ensures { λ r. ⌜ r ≡ memoryOf shape (now (table .entry)) ⌝ }
 {

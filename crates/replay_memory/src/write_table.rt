@@ -1,4 +1,4 @@
-// The table of writes as bytes, eleven for each of 72 places. It is lent and changed where it stands.
+// The table of writes as bytes, eleven for each of 72 places, changed in place.
 use crate::view::View;
 use crate::view::up;
 use crate::write::Write;
@@ -7,6 +7,7 @@ ghost use Prim.Native.Nat.{_<_};
 ghost use lib.ListN.{length, set};
 ghost use Rattle.replay_memory.specs.WriteTable.{bit, viewAt, readAt, writesIn, putView, coveredAt, raisedAll, movedUp};
 
+// The dimensions of the table.
 pub struct Places {}
 
 impl Places {
@@ -18,6 +19,7 @@ impl Places {
     pub const BYTES: usize = 792;
 }
 
+// The stored view of the write at place `i`.
 fn view_at(table: &[u8; Places::BYTES], i: usize) -> View
     requires { ⌜ i < 72 ⌝ }
     ensures { λ r. ⌜ r ≡ viewAt (now (table .entry)) i ⌝ }
@@ -37,7 +39,7 @@ fn view_at(table: &[u8; Places::BYTES], i: usize) -> View
     }
 }
 
-// The write at a place.
+// The write at place `i`.
 pub fn read_at(table: &[u8; Places::BYTES], i: usize) -> Write
     requires { ⌜ i < 72 ⌝ }
     ensures { λ r. ⌜ r ≡ readAt (now (table .entry)) i ⌝ }
@@ -51,12 +53,14 @@ pub fn read_at(table: &[u8; Places::BYTES], i: usize) -> Write
     }
 }
 
+// A mark as a byte: 1 if it is set.
 pub fn bit(mark: bool) -> u8
     ensures { λ r. ⌜ r ≡ bit mark ⌝ }
 {
     if mark { 1 } else { 0 }
 }
 
+// Writes the stored view of place `i`.
 fn put_view(view: View, i: usize, table: &mut [u8; Places::BYTES])
     requires { ⌜ (i < 72) × (length (now table) ≡ 792) ⌝ }
     ensures { λ _. ⌜ (now (table .exit) ≡ putView (now (table .entry)) i view 8) × (length (view .at) ≡ 8) ⌝ }
@@ -70,7 +74,7 @@ fn put_view(view: View, i: usize, table: &mut [u8; Places::BYTES])
     }
 }
 
-// A write put at a place.
+// Writes a write to place `i`.
 pub fn put_at(write: Write, i: usize, table: &mut [u8; Places::BYTES])
     requires { ⌜ (i < 72) × (length (now table) ≡ 792) ⌝ }
     ensures { λ _. ⌜ writesIn (now (table .exit)) ≡ set (writesIn (now (table .entry))) i write ⌝ }
@@ -83,7 +87,7 @@ pub fn put_at(write: Write, i: usize, table: &mut [u8; Places::BYTES])
     put_view(write.stored, i, table);
 }
 
-// The write at a place covered.
+// Sets the covered mark of the write at place `i`.
 pub fn cover_at(i: usize, table: &mut [u8; Places::BYTES])
     requires { ⌜ (i < 72) × (length (now table) ≡ 792) ⌝ }
     ensures { λ _. ⌜ writesIn (now (table .exit)) ≡ coveredAt (writesIn (now (table .entry))) i ⌝ }
@@ -92,7 +96,7 @@ pub fn cover_at(i: usize, table: &mut [u8; Places::BYTES])
     table[i * Places::WIDTH + 2] = 1;
 }
 
-// Stored views keep their writes when another is inserted behind position p of word k.
+// Adjusts every stored view to an insertion behind `position` of word `x`, so that it keeps its write.
 pub fn raise_all(x: u8, position: u8, table: &mut [u8; Places::BYTES])
     requires { ⌜ length (now table) ≡ 792 ⌝ }
     ensures { λ _. ⌜ writesIn (now (table .exit)) ≡ raisedAll (writesIn (now (table .entry))) x position ⌝ }
@@ -107,7 +111,8 @@ pub fn raise_all(x: u8, position: u8, table: &mut [u8; Places::BYTES])
     }
 }
 
-// The writes behind a place, up by one: byte by byte, from byte 791, the last of place 71, down.
+// Moves the writes after place `picked` up by one, byte by byte from the end: byte 791 is the last of place 71. Place `picked` + 1 is then
+// free for a new write; the write in the last place is dropped.
 pub fn move_up(picked: usize, table: &mut [u8; Places::BYTES])
     requires { ⌜ (picked < 72) × (length (now table) ≡ 792) ⌝ }
     ensures { λ _. ⌜ writesIn (now (table .exit)) ≡ movedUp (writesIn (now (table .entry))) picked ⌝ }

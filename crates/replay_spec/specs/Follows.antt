@@ -1,4 +1,4 @@
--- What a replay of an accepted image, whose start writes fit, promises.
+-- A replay on numbers follows the logic's machine. s: an accepted image whose start writes fit; z: its sizes.
 use mathlib.Core.Path.{_≡_}
 use mathlib.Core.Bool.{true}
 use mathlib.Core.List.{List}
@@ -15,17 +15,19 @@ use Rattle.replay_spec.specs.StateStands.{StandsFor}
 use Rattle.replay_machine.specs.declared.replayed.Replayed.{Replayed}
 
 module _ (s : List ℕ) (z : Sizes) (trace given : List ℕ) (room : ℕ) where
+  -- the image's program
   abbrev pub P : Program
   P = programOf z (bodies s)
 
-  -- the start with the given registers, which count from 1
+  -- the start state with the registers that the caller gives, which count from 1
   abbrev pub first : State
   first = begin P (λ r. nth given r 0)
 
-  -- what the logic's machine comes to
+  -- the replay on the logic's machine
   abbrev pub outcome : ReplayResult
   outcome = replayed P room first 0 trace
 
+  -- the replay r has the outcome's code and steps, and its numbers represent the outcome's state
   pub record Follows (r : Replayed) : Type 0 where
     pub code : r .code ≡ outcome .code
     pub steps : r .steps ≡ outcome .steps

@@ -1,10 +1,10 @@
--- What the points and registers of an answer tell: an assertion made of 25, 26 and 28 alone is read from the registers.
+-- What an answer's points and registers tell: an assertion "made of 25, 26 and 28 alone" is evaluated from the registers.
 use mathlib.Core.Bool.{Bool, true, false, _&&_, _||_}
 use Prim.Native.Nat.{ℕ}
 use Rattle.semantics.specs.Formula.{Assertion, Formula.sees, Formula.bothA, Formula.eitherA, Formula.start, Formula.holds}
 use Rattle.semantics.specs.Eval.{test, onRegs}
 
--- made of 25, 26 and 28 alone
+-- the assertion is made of 25, 26 and 28 alone
 abbrev pub ofRegs : Assertion → Bool
 ofRegs (sees t i) = false
 ofRegs (bothA a b) = ofRegs a && ofRegs b
@@ -12,7 +12,7 @@ ofRegs (eitherA a b) = ofRegs a && ofRegs b
 ofRegs start = false
 ofRegs (holds e) = true
 
--- its truth, worked out from the registers g; R: how many values there are. What registers do not tell is not taken for true
+-- the truth of such an assertion at the registers g; R: the range. What registers do not tell is not taken for true
 abbrev pub plainTrue : ℕ → (ℕ → ℕ) → Assertion → Bool
 plainTrue R g (sees t i) = false
 plainTrue R g (bothA a b) = plainTrue R g a && plainTrue R g b

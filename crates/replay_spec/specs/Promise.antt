@@ -1,4 +1,4 @@
--- THE PROMISE of a replay, whole, and of both entry points.
+-- THE PROMISE of a replay, whole, for both entry points.
 use mathlib.Core.Path.{_≡_}
 use mathlib.Core.Bool.{true}
 use mathlib.Core.List.{List, []}
@@ -24,11 +24,11 @@ use Rattle.replay_machine.specs.OutputTable.{shownOf, placed, entriesIn, tableF
 use Rattle.replay_spec.specs.Plain.{ofRegs, plainTrue}
 use Rattle.replay_spec.specs.AnswerStands.{AnswerStands, TableStands}
 
--- an image that is not accepted
+-- the answer for an image that is not accepted: code 24, the rest 0
 abbrev pub declined : Answer
 declined = record { code = 24; steps = 0; points = replicate 4 0; registers = replicate 16 0 }
 
--- of an accepted image that holds so much, with room for so many writes: the answer, and the writes that the table is given
+-- s: an accepted image, z: its sizes; room: how many writes there may be; a: the answer; shown: the writes that go to the table
 module _ (s : List ℕ) (z : Sizes) (trace given : List ℕ) (room : ℕ) (a : Answer) (shown : List Write) where
   abbrev P : Program
   P = programOf z (bodies s)
@@ -36,57 +36,60 @@ module _ (s : List ℕ) (z : Sizes) (trace given : List ℕ) (room : ℕ) (a : A
   abbrev O : Outline
   O = outlineOf z (bodies s)
 
-  -- the start, and what the logic's machine comes to
+  -- the start state
   abbrev first : State
   first = Replay.first s z trace given room
 
+  -- the replay on the logic's machine
   abbrev outcome : ReplayResult
   outcome = Replay.outcome s z trace given room
 
-  -- the start writes do not fit
+  -- the start writes do not fit: "no entry is written, points and registers are as at the start and the steps are 0"
   pub record Unfit : Type 0 where
     pub code : a .code ≡ 29
     pub steps : a .steps ≡ 0
     pub answer : AnswerStands (z .threads) (z .registers) a first
     pub table : shown ≡ []
 
-  -- they do
+  -- the start writes fit, and the trace is run
   pub record Replays : Type 0 where
     -- each step of the trace in turn, until one is refused, and why
     pub code : a .code ≡ outcome .code
     pub steps : a .steps ≡ outcome .steps
-    -- the state reached is that of a run over the steps taken; answer and table stand for it, and all its writes have room
+    -- the state reached is that of a run over the steps taken; answer and table represent it, and all its writes have room
     pub state : outcome .state ≡ run P first (take (a .steps) (stepsIn trace))
     pub answer : AnswerStands (z .threads) (z .registers) a (outcome .state)
     pub table : TableStands (z .words) shown (outcome .state)
     pub fits : length shown ≤ room
-    -- in each state on the way, and in the one reached, each thread's assertion at its point is true
+    -- each thread's assertion at its point is true in each state on the way, and in the one reached
     pub on-the-way : (k : ℕ) → k ≤ a .steps → Holds P O (run P first (take k (stepsIn trace)))
     pub holds : Holds P O (outcome .state)
-    -- at a point of the answer, made of 25, 26 and 28 alone, it is worked out to be true from the answer's registers
+    -- an assertion at a point of the answer that is made of 25, 26 and 28 alone evaluates to true at the answer's registers
     pub plain : (t : ℕ) → t < z .threads → T (ofRegs (O (suc t) (getD (a .points) t 0)))
         → plainTrue (P .range) (λ r. nth (a .registers) r 0) (O (suc t) (getD (a .points) t 0)) ≡ true
 
--- of every byte string, trace, given registers and number of entries lent
+-- what holds for every byte string, trace, given registers and number of entries in the caller's table
 pub record Promise (image trace given : List ℕ) (lent : ℕ) (a : Answer) (shown : List Write) : Type 0 where
+  -- the answer and the writes shown are those of the replay on numbers
   pub answer : a ≡ answerOf (replayOf image trace given lent)
   pub table : shown ≡ shownOf (replayOf image trace given lent) lent
+  -- an image that is not accepted; one whose start writes do not fit; one whose start writes fit
   pub refused : acceptance image ≡ Declined → (a ≡ declined) × (shown ≡ [])
   pub unfit : (z : Sizes) → acceptance image ≡ Granted z → roomOf lent < z .words → Unfit image z trace given (roomOf lent) a shown
   pub replays : (z : Sizes) → acceptance image ≡ Granted z → z .words ≤ roomOf lent → Replays image z trace given (roomOf lent) a shown
 
--- and of a table of write structs: what it holds afterwards
+-- what holds for a table of write structs: its contents afterwards
 pub record Into (image trace given : List ℕ) (table : List Write) (a : Answer) (after : List Write) : Type 0 where
   pub shown : List Write
   pub right : Promise image trace given (length table) a shown
   pub writes : after ≡ placed shown table
 
--- or of a table of bytes and the room for the answer's numbers: the code that is answered, and what both hold afterwards
+-- what holds for a table of bytes and `room` for the answer's numbers: the code returned, and the contents of both afterwards
 pub record Written (image trace given table room : List ℕ) (code : ℕ) (after told : List ℕ) : Type 0 where
   pub answer : Answer
   pub shown : List Write
   pub right : Promise image trace given (entriesIn table) answer shown
-  -- 1 where there is too little room for the numbers: then both stay
+  -- 1 where `room` is too short for the numbers: then both stay
   pub returned : code ≡ codeFor answer room
   pub numbers : told ≡ numbersFor answer room
   pub bytes : after ≡ tableFor shown room table

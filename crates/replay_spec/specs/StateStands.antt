@@ -1,4 +1,4 @@
--- The numbers of a machine and the state that they stand for.
+-- Which state of the logic the numbers of a machine represent.
 use mathlib.Core.Path.{_≡_}
 use Prim.Native.Nat.{ℕ, suc, _<_}
 use lib.ListN.{length, getD}
@@ -7,6 +7,7 @@ use Rattle.replay_memory.specs.MemoryStands.{Stands}
 use Rattle.replay_machine.specs.RegistersStand.{SameRegs}
 use Rattle.replay_machine.specs.declared.state.Machine.{Machine}
 
+-- memory, registers and points of n represent those of s; threads count from 0 in n, from 1 in s
 pub record StandsFor (n : Machine) (s : State) : Type 0 where
   pub memory : Stands (n .memory) s
   pub registers : SameRegs (n .registers) (s .reg)

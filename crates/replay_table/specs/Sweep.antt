@@ -1,4 +1,4 @@
--- A write inserted into a table of writes, by one sweep of its entries.
+-- Insertion of a write into a table of writes, by one sweep of its entries.
 use Prim.Native.Nat.{ℕ, zero, suc}
 use mathlib.Core.Bool.{cond}
 use mathlib.Core.List.{List}
@@ -10,7 +10,7 @@ use Rattle.replay_table.specs.declared.Order.{Order}
 use Rattle.replay_table.specs.declared.Run.{Run}
 use Rattle.replay_table.specs.declared.Turn.{Turn}
 
--- before the place an entry stays, and from it on each has the write of the one before
+-- the turn of entry e, which has `old`: before the place it keeps its write, from it on it takes the carried one; from `count` on it stays
 unfoldable pub turnOf : Order → ℕ → Write → Write → Turn
 turnOf o e carried old =
     cond (ltb e (o .count))
@@ -19,22 +19,23 @@ turnOf o e carried old =
     (record { put = carried; next = upWrite (o .word) (o .behind) old }))
     (record { put = old; next = carried })
 
--- the table and the write that goes on, when entry e is swept
+-- the table and the write carried on, after the turn of entry e
 abbrev pub sweepAt : Order → ℕ → List Write × Write → List Write × Write
 sweepAt o e s =
     (set (s .0) e (turnOf o e (s .1) (getD (s .0) e noWrite) .put), turnOf o e (s .1) (getD (s .0) e noWrite) .next)
 
--- the same, when the first n are swept
+-- the table and the write carried on, after the first n entries
 unfoldable pub sweepTo : Order → ℕ → List Write → List Write × Write
 sweepTo o zero l = (l, o .write)
 sweepTo o (suc n) l = sweepAt o n (sweepTo o n l)
 
--- the table, when all are swept
+-- the table after the sweep
 unfoldable pub sweptOf : Order → List Write → List Write
 sweptOf o l = sweepTo o (length l) l .0
 
 -- A MACHINE
 
+-- one step on values: the write w that was read is to be inserted in front of its own entry
 unfoldable pub stepOf : Run → Write → Run
 stepOf r w =
     record {
@@ -47,6 +48,7 @@ abbrev pub stepAt : Write → List Write × Run → List Write × Run
 stepAt none s =
     (sweptOf (stepOf (s .1) (getD (s .0) (s .1 .at) none) .order) (s .0), stepOf (s .1) (getD (s .0) (s .1 .at) none))
 
+-- n steps
 unfoldable pub stepsTo : Write → ℕ → List Write × Run → List Write × Run
 stepsTo none zero s = s
 stepsTo none (suc n) s = stepAt none (stepsTo none n s)

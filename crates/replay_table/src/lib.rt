@@ -1,4 +1,4 @@
-// A table of writes, lent by the caller as a slice of structs: an entry read, an entry put, and a write inserted.
+// A table of writes as a slice of structs, which the caller passes: an entry read or put, a write inserted in place.
 use replay_memory::view::up_view;
 use replay_memory::write::Write;
 ghost use mathlib.Core.Path.{_≡_};
@@ -6,7 +6,7 @@ ghost use lib.ListN.{getD, set};
 ghost use Rattle.replay_memory.specs.Write.{upWrite};
 ghost use Rattle.replay_table.specs.Sweep.{turnOf, sweptOf, stepOf, stepsTo};
 
-// The write of an entry; past the end another.
+// The write of entry `i`; `none` past the end.
 pub fn read(table: &[Write], i: usize, none: Write) -> Write
     ensures { λ r. ⌜ r ≡ getD (now (table .entry)) i none ⌝ }
 {
@@ -16,7 +16,7 @@ pub fn read(table: &[Write], i: usize, none: Write) -> Write
     none
 }
 
-// Past the end nothing is stored.
+// Puts the write at entry `i`; past the end nothing changes.
 pub fn put(table: &mut [Write], i: usize, write: Write)
     ensures { λ r. ⌜ now (table .exit) ≡ set (now (table .entry)) i write ⌝ }
 {
@@ -25,7 +25,7 @@ pub fn put(table: &mut [Write], i: usize, write: Write)
     }
 }
 
-// What a sweep is to do: with so many entries the write is inserted at one of them, behind a position of a word.
+// An insertion: `write` goes to entry `at`, behind position `behind` of word `word`; `count` is how many entries are in use afterwards.
 pub struct Order {
     pub count: usize,
     pub at: usize,
@@ -34,12 +34,13 @@ pub struct Order {
     pub write: Write,
 }
 
-// What an entry is given, and the write that goes on to the next entry.
+// What one entry is given, and the write that is carried on to the next entry.
 pub struct Turn {
     pub put: Write,
     pub next: Write,
 }
 
+// The write after an insertion behind `position` of word `x`: its stored view keeps its writes.
 fn raised(write: Write, x: u8, position: u8) -> Write
     ensures { λ r. ⌜ r ≡ upWrite x position write ⌝ }
 {
@@ -53,6 +54,8 @@ fn raised(write: Write, x: u8, position: u8) -> Write
     }
 }
 
+// The turn of entry `i`, which has `old`, in a sweep that carries `carried`: before the place it keeps its write, from it on it takes the
+// carried one; stored views keep their writes. Entries from `count` on stay as they are.
 pub fn turn_at(order: Order, i: usize, carried: Write, old: Write) -> Turn
     ensures { λ r. ⌜ r ≡ turnOf order i carried old ⌝ }
 {
@@ -75,7 +78,7 @@ pub fn turn_at(order: Order, i: usize, carried: Write, old: Write) -> Turn
     }
 }
 
-// The entries from the write's place move up by one, and every stored view keeps its write.
+// Inserts a write in one sweep: the entries from its place on move up by one, and every stored view keeps its writes.
 pub fn insert(order: Order, table: &mut [Write])
     ensures { λ r. ⌜ now (table .exit) ≡ sweptOf order (now (table .entry)) ⌝ }
 {
@@ -90,13 +93,13 @@ pub fn insert(order: Order, table: &mut [Write])
     }
 }
 
-// A machine by value: where it reads, and what it inserts then.
+// A machine by value: the entry that it reads next, and its last insertion.
 pub struct Run {
     pub at: usize,
     pub order: Order,
 }
 
-// A step on values alone: here the write that was read is inserted in front of its entry.
+// One step on values alone: the write that was read is to be inserted in front of its own entry.
 pub fn step(run: Run, write: Write) -> Run
     ensures { λ q. ⌜ q ≡ stepOf run write ⌝ }
 {
@@ -113,7 +116,7 @@ pub fn step(run: Run, write: Write) -> Run
     }
 }
 
-// So many steps: each reads one entry and inserts one write.
+// Takes `turns` steps: each reads one entry and inserts one write.
 pub fn steps(turns: usize, start: Run, none: Write, table: &mut [Write]) -> Run
     ensures { λ q. ⌜ (now (table .exit), q) ≡ stepsTo none turns (now (table .entry), start) ⌝ }
 {
@@ -128,7 +131,7 @@ pub fn steps(turns: usize, start: Run, none: Write, table: &mut [Write]) -> Run
     r
 }
 
-// A table of numbers, changed where it stands, and read.
+// Sets the first number of a table of numbers to 1.
 fn mark(index: &mut [usize])
     ensures { λ _. ⌜ now (index .exit) ≡ set (now (index .entry)) 0 1 ⌝ }
 {
@@ -137,6 +140,7 @@ fn mark(index: &mut [usize])
     }
 }
 
+// The first number of a table of numbers; 0 if it is empty.
 fn marked(index: &[usize]) -> usize
     ensures { λ r. ⌜ r ≡ getD (now (index .entry)) 0 0 ⌝ }
 {
@@ -146,7 +150,7 @@ fn marked(index: &[usize]) -> usize
     0
 }
 
-// A local array is lent, and the caller's table is passed on.
+// One step, counted by a local array: it shows that a function may have an array of its own and pass the caller's table on.
 pub fn whole(start: Run, none: Write, table: &mut [Write]) -> Run
     ensures { λ q. ⌜ (now (table .exit), q) ≡ stepsTo none 1 (now (table .entry), start) ⌝ }
 {

@@ -1,4 +1,4 @@
-// One pass over the lines. A line rests on lower lines alone, whose marks are set by then.
+// One pass over the lines. A line's premises have lower numbers, so their marks are set before it is judged.
 use crate::marks::Marks;
 use crate::marks::is_marked;
 use crate::marks::set_mark;
@@ -13,7 +13,7 @@ ghost use Rattle.image_index.specs.IndexTable.{indexOf};
 ghost use Rattle.rules_justified.specs.Marks.{asMarks};
 ghost use Rattle.rules_justified.specs.Justify.{premisesMarked, isJustified, marksTo};
 
-// The first so many premises of line n have marks.
+// The first `count` premises of line `number` have marks.
 fn premises_marked<'a, 'b, 'c>(
     image: &'a [u8],
     index: &'b [usize],
@@ -36,7 +36,7 @@ fn premises_marked<'a, 'b, 'c>(
     true
 }
 
-// Line n fits its rule, and all its premises have marks. (These are asked first: it is quicker.)
+// Line `number` is an instance of its rule, and all its premises have marks. (The marks are asked for first, because that is quicker.)
 fn is_justified<'a, 'b, 'c, 'd>(
     image: &'a [u8],
     index: &'b [usize],
@@ -55,7 +55,7 @@ fn is_justified<'a, 'b, 'c, 'd>(
     false
 }
 
-// The marks of all lines, which are set where they stand.
+// The marks of all lines: a line is marked if it is justified. They are set in place, in one array.
 pub fn judge_lines<'a, 'b>(image: &'a [u8], index: &'b [usize], sizes: Sizes) -> Marks
     requires { ⌜ now index ≡ indexOf (now image) ⌝ }
     ensures { λ r. ⌜ r ≡ marksTo (now (image .entry)) sizes (sizes .lines) ⌝ }

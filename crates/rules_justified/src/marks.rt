@@ -1,14 +1,14 @@
-// Which lines are justified: a mark for each line that an image may have.
+// Marks of justified lines: one for each line that an image may have.
 use limits::Limits;
 ghost use mathlib.Core.Path.{_≡_};
 ghost use Rattle.rules_justified.specs.Marks.{asMarks, isMarked, withMark};
 
-// The mark of line n stands at n - 1.
+// The mark of line n is entry n - 1.
 pub struct Marks {
     pub on: [bool; Limits::LINES],
 }
 
-// A line that there cannot be is not marked.
+// Whether line `number` has a mark; a number that no line can have has none.
 pub fn is_marked(marks: &[bool], number: usize) -> bool
     ensures { λ r. ⌜ r ≡ isMarked (asMarks (now (marks .entry))) number ⌝ }
 {
@@ -21,7 +21,7 @@ pub fn is_marked(marks: &[bool], number: usize) -> bool
     marks[number - 1]
 }
 
-// For a line that there cannot be, the marks stay.
+// Sets the mark of line `number`; for a number that no line can have, nothing changes.
 pub fn set_mark(marks: &mut [bool], number: usize, mark: bool)
     ensures { λ r. ⌜ now (marks .exit) ≡ withMark (asMarks (now (marks .entry))) number mark .on ⌝ }
 {

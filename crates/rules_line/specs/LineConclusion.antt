@@ -1,4 +1,4 @@
--- What the lines of a certificate conclude, by positions.
+-- What the lines of a certificate conclude, their formulas by position.
 use mathlib.Core.Bool.{cond}
 use mathlib.Core.List.{List}
 use Prim.Native.Nat.{ℕ}
@@ -14,11 +14,11 @@ use Rattle.image_access.specs.declared.line.Line.{Line}
 use Rattle.rules_table.specs.RuleTable.{ruleRow}
 use Rattle.rules_line.specs.declared.conclusion.Conclusion.{Conclusion}
 
--- the form is that of the line's rule; a line for a whole pair is an ordinary triple where there is none
+-- the form is that of the line's rule; a line of rule 50 at a point that has no pair counts as an ordinary triple
 unfoldable pub spokenForm : ℕ → ℕ → ℕ
 spokenForm f op = cond (eqb f paired) (cond (pairOperation op) paired hoare) f
 
--- with the operation at its thread and point
+-- what the line concludes, given the operation at its thread and point
 unfoldable pub conclusionBy : Line → ℕ → Conclusion
 conclusionBy l op = record {
   form = spokenForm (ruleRow (l .rule) .form) op;
@@ -28,12 +28,14 @@ conclusionBy l op = record {
   right = l .right;
 }
 
--- line n
+-- line n of the certificate
 unfoldable pub lineAt : List ℕ → Sizes → ℕ → Line
 lineAt s z n = lineIn s (lineBody z (bodies s) n)
 
+-- the operation at the line's thread and point
 abbrev pub operationAt : List ℕ → Sizes → Line → ℕ
 operationAt s z l = instructionOf z (bodies s) (l .thread) (l .point) .operation
 
+-- what line n concludes
 unfoldable pub conclusionOf : List ℕ → Sizes → ℕ → Conclusion
 conclusionOf s z n = conclusionBy (lineAt s z n) (operationAt s z (lineAt s z n))

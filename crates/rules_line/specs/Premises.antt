@@ -1,4 +1,4 @@
--- What a line's premises conclude, and whether they are what its rule rests on.
+-- What a line's premises conclude, and whether they are the premises that its rule asks for.
 use mathlib.Core.Bool.{Bool, true, false, cond}
 use mathlib.Core.List.{List, [], _∷_}
 use Prim.Native.Nat.{ℕ}
@@ -19,10 +19,11 @@ use Rattle.rules_line.specs.LineConclusion.{conclusionOf}
 use Rattle.rules_line.specs.declared.conclusion.Conclusion.{Conclusion}
 use Rattle.rules_line.specs.declared.conclusion.Premises.{Premises}
 
--- premise j of line n, of so many
+-- what premise j of line n, which has `count` premises, concludes
 unfoldable pub premiseConclusion : List ℕ → Sizes → ℕ → ℕ → ℕ → Conclusion
 premiseConclusion s z n count j = cond (leb count j) noConclusion (conclusionOf s z (getD (Lines.premises (lineBody z (bodies s) n)) j 0))
 
+-- what the premises of line n conclude
 unfoldable pub premisesOf : List ℕ → Sizes → ℕ → ℕ → Premises
 premisesOf s z n count =
     record {
@@ -35,13 +36,13 @@ premisesOf s z n count =
 unfoldable pub isImplicationAt : Premises → ℕ → Bool
 isImplicationAt p j = cond (leb (p .count) j) true (eqb (conclusionAt p j .form) implication)
 
--- at most four premises, implications all of them
+-- rule 20: there are at most four premises, and all are implications
 unfoldable pub allImplications : Premises → Bool
 allImplications p =
     cond (ltb Limits.premises (p .count)) false
     (cond (isImplicationAt p 0) (cond (isImplicationAt p 1) (cond (isImplicationAt p 2) (isImplicationAt p 3) false) false) false)
 
--- against the templates from i on: as many as the rule has, each of its form; or any implications
+-- the match of the premises with the templates from i on: as many as the rule has, each of its form; of rule 20 any implications
 unfoldable pub matchPremises : List ℕ → List ℕ → ℕ → Rule → ℕ → ℕ → Premises → Bind → Whole
 matchPremises s t i w thread point p b =
     cond (eqb (w .premises) anyImplications) (record { ok = allImplications p; tpl = i; bind = b })

@@ -1,4 +1,4 @@
--- What a rule asks besides its templates, by the number in its row; which holes it speaks of.
+-- The side conditions of rules, by their number in the rule's row, and the holes that each speaks of.
 use mathlib.Core.Bool.{Bool, true, false, cond}
 use mathlib.Core.List.{List, [], _∷_}
 use Prim.Native.Nat.{ℕ, _+_}
@@ -21,7 +21,7 @@ use Rattle.rules_line.specs.SideTests.{holeOf, numberIn, treeOf, apart, 
 use Rattle.rules_line.specs.declared.conclusion.Conclusion.{Conclusion}
 use Rattle.rules_line.specs.declared.conclusion.Premises.{Premises}
 
--- the registers that an instruction sets to formulas, by these: of an assignment, of two at once, of a pair
+-- the substitution that an instruction's assignments denote: one register, two at once, or the second half of a pair
 unfoldable pub substitutionOf : Acting → Substitution
 substitutionOf a =
     cond (eqb (a .whole) Opcode.assign) (oneBy false (a .register) (Formula (a .formula) nesting))
@@ -36,15 +36,15 @@ substitutionOf a =
     })
     (oneBy false (a .noted) (Formula (a .note) nesting)))
 
--- the formula in hole 0 is the one in hole 1 with these registers replaced
+-- rules 2 and 50: the formula in hole 0 is the one in hole 1 after that substitution
 unfoldable pub assignedBy : List ℕ → Bind → Acting → Bool
 assignedBy s b a = isWith s (substitutionOf a) (treeOf s (holeOf b 0)) (treeOf s (holeOf b 1))
 
--- the left test is the right one with the instruction's register replaced by its word
+-- rules 3, 4 and 47: the test in hole 3 is the one in hole 2 with the instruction's register replaced by its word
 unfoldable pub loadedBy : List ℕ → Bind → Acting → Bool
 loadedBy s b a = isWith s (oneBy false (a .register) (Word (a .word))) (treeOf s (holeOf b 3)) (treeOf s (holeOf b 2))
 
--- of the instruction; the last one left is that its word is absent, and its result register
+-- side conditions that depend on the instruction; the default is that of rules 8 and 13: neither the word nor the result register is in J
 unfoldable pub ofInstruction : List ℕ → ℕ → Bind → Acting → Bool
 ofInstruction s side b a =
     cond (eqb side isKept) (keeps (a .operation) (a .word) (a .register) (treeOf s (holeOf b 0)))
@@ -54,7 +54,7 @@ ofInstruction s side b a =
     (cond (eqb side newValue) (freshIs s (a .operation) (a .register) (a .formula) (treeOf s (holeOf b 0)))
     (apart (a .operation) (a .word) (a .register) (treeOf s (holeOf b 1)))))))
 
--- a line and its premises, as implications
+-- the line and its premises as implications, the line first
 unfoldable pub implicationsOf : Conclusion → Premises → Implications
 implicationsOf c p = record {
   count = p .count + 1;
@@ -62,11 +62,11 @@ implicationsOf c p = record {
   right = c .right ∷ conclusionAt p 0 .right ∷ conclusionAt p 1 .right ∷ conclusionAt p 2 .right ∷ conclusionAt p 3 .right ∷ [];
 }
 
--- by rows, of the tests in holes 2 and 3, over the values that the header gives
+-- rules 21, 23, 24 and 30: the test in hole 2 implies the one in hole 3, by rows over the range in the header
 unfoldable pub ofNames : List ℕ → Bind → Bool
 ofNames s b = rowsT (valueRange (getD (bodies s) 0 [])) (treeOf s (holeOf b 2)) (treeOf s (holeOf b 3))
 
--- by rows, by truth table, by the start values and marks; else of the instruction
+-- the side condition holds: by rows, by truth table, by the header's start values and marks, or of the instruction
 unfoldable pub asked : List ℕ → ℕ → Bind → Acting → Conclusion → Premises → Bool
 asked s side b a c p =
     cond (eqb side nothing) true

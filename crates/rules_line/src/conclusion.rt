@@ -1,4 +1,4 @@
-// What lines say, with their formulas by position, against a rule's templates.
+// What lines conclude, with their formulas by position in the image, matched against a rule's templates.
 use formula_match::bind::Bind;
 use formula_match::matching_whole::Whole;
 use formula_match::matching_whole::match_whole;
@@ -8,6 +8,7 @@ ghost use mathlib.Core.Path.{_≡_};
 ghost use Prim.Native.Nat.{_+_, _<_};
 ghost use Rattle.rules_line.specs.Conclusion.{placedAt, matchConclusion, conclusionAt, matchFrom};
 
+// What a line concludes: its form, of a triple the thread and point, the positions of the left and the right formula.
 pub struct Conclusion {
     pub form: u8,
     pub thread: usize,
@@ -16,7 +17,7 @@ pub struct Conclusion {
     pub right: usize,
 }
 
-// Of the form that is wanted; a Hoare triple, of a pair too, is for the same thread and point.
+// The conclusion has the wanted form; a Hoare triple, of a pair too, is for the same thread and point.
 pub fn is_placed(form: u8, thread: usize, point: usize, conclusion: Conclusion) -> bool
     ensures { λ r. ⌜ r ≡ placedAt form thread point conclusion ⌝ }
 {
@@ -32,7 +33,7 @@ pub fn is_placed(form: u8, thread: usize, point: usize, conclusion: Conclusion) 
     false
 }
 
-// The left side against the template at i, then the right side against the one behind it.
+// Matches a conclusion: its form and place, its left side against the template at `i`, its right side against the template after that.
 pub fn match_conclusion(
     image: &[u8],
     templates: &[u8],
@@ -62,13 +63,13 @@ pub fn match_conclusion(
     }
 }
 
-// What a line's premises conclude.
+// What a line's premises conclude; past `count` there is NO_CONCLUSION.
 pub struct Premises {
     pub count: u8,
     pub conclusions: [Conclusion; Limits::PREMISES],
 }
 
-// For a premise that is not there.
+// The conclusion of a premise that is not there.
 pub const NO_CONCLUSION: Conclusion = Conclusion {
     form: 0,
     thread: 0,
@@ -77,6 +78,7 @@ pub const NO_CONCLUSION: Conclusion = Conclusion {
     right: 0,
 };
 
+// What premise `j` concludes; NO_CONCLUSION if a line cannot have a premise `j`.
 pub fn conclusion_at(premises: Premises, j: usize) -> Conclusion
     ensures { λ r. ⌜ r ≡ conclusionAt premises j ⌝ }
 {
@@ -86,8 +88,8 @@ pub fn conclusion_at(premises: Premises, j: usize) -> Conclusion
     NO_CONCLUSION
 }
 
-// Premises from number j on, so many as are left, each against the templates behind those of the one before; their forms,
-// two bits each from the lowest.
+// Matches `left` premises from premise `j` on, each against the templates that follow those of the one before; `forms` has their forms, two
+// bits each from the lowest. The bound on `j + left` keeps the sum from overflowing.
 pub fn match_from(
     image: &[u8],
     templates: &[u8],

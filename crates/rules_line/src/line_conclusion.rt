@@ -12,7 +12,7 @@ ghost use Rattle.image_index.specs.IndexTable.{indexOf};
 ghost use Rattle.rules_line.specs.LineConclusion.{spokenForm, conclusionBy, conclusionOf};
 ghost use Rattle.rules_table.specs.RuleTable.{ruleRow};
 
-// The form of a line is that of its rule; a line for a whole pair is an ordinary triple where there is none.
+// The form of a line is that of its rule; a line of rule 50 at a point that has no pair counts as an ordinary triple.
 fn spoken_form(rule: u8, operation: u8) -> u8
     ensures { λ r. ⌜ r ≡ spokenForm (ruleRow rule .form) operation ⌝ }
 {
@@ -26,7 +26,7 @@ fn spoken_form(rule: u8, operation: u8) -> u8
     form
 }
 
-// With the operation at its thread and point.
+// What the line concludes, given the operation at its thread and point.
 pub fn conclusion_by(line: Line, operation: u8) -> Conclusion
     ensures { λ r. ⌜ r ≡ conclusionBy line operation ⌝ }
 {
@@ -39,7 +39,7 @@ pub fn conclusion_by(line: Line, operation: u8) -> Conclusion
     }
 }
 
-// What line n concludes. Only a line for a whole pair asks for the instruction.
+// What line `number` concludes. The instruction is looked up for a line of rule 50 alone; for others it makes no difference.
 pub fn conclusion_of<'a, 'b>(
     image: &'a [u8],
     index: &'b [usize],

@@ -1,4 +1,4 @@
-// Rules 48 and 49: a value is that of the new write, read after the step.
+// The side condition of rules 48 and 49: a value is that of the new write, as it reads after the step.
 use crate::side_tests::Position;
 use formula::code::Code;
 use formula::node::node_at;
@@ -12,6 +12,7 @@ ghost use Rattle.formula.specs.Tree.{parseTree};
 ghost use Rattle.rules_line.specs.NewValue.{formulaIs, sumIs, freshIs};
 ghost use Rattle.rules_line.specs.SideTests.{treeOf};
 
+// The formula at `at`, with nesting `left`, is the one at `formula`.
 fn is_formula(image: &[u8], formula: usize, at: usize, left: usize) -> bool
     ensures { λ r. ⌜ r ≡ formulaIs (now (image .entry)) formula (parseTree (now (image .entry)) left at .tree) ⌝ }
 {
@@ -21,7 +22,7 @@ fn is_formula(image: &[u8], formula: usize, at: usize, left: usize) -> bool
     }
 }
 
-// Register plus formula.
+// The formula at `at`, with nesting `left`, is the sum of the register and the formula at `formula`.
 fn is_sum(image: &[u8], register: u8, formula: usize, at: usize, left: usize) -> bool
     ensures { λ r. ⌜ r ≡ sumIs (now (image .entry)) register formula (parseTree (now (image .entry)) left at .tree) ⌝ }
 {
@@ -41,6 +42,7 @@ fn is_sum(image: &[u8], register: u8, formula: usize, at: usize, left: usize) ->
     }
 }
 
+// The formula at `position` is the new write's value: for fetch-add the result register plus the operand, else the operand.
 pub fn is_new_value(
     image: &[u8],
     operation: u8,

@@ -1,4 +1,4 @@
-// What a line's premises conclude, and whether they are what its rule rests on.
+// What a line's premises conclude, and whether they are the premises that its rule asks for.
 use crate::conclusion::Conclusion;
 use crate::conclusion::NO_CONCLUSION;
 use crate::conclusion::Premises;
@@ -17,7 +17,7 @@ ghost use mathlib.Core.Path.{_≡_};
 ghost use Rattle.image_index.specs.IndexTable.{indexOf};
 ghost use Rattle.rules_line.specs.Premises.{premiseConclusion, premisesOf, isImplicationAt, allImplications, matchPremises};
 
-// What premise j of line n concludes, of so many.
+// What premise `j` of line `number` concludes; NO_CONCLUSION if the line, which has `count` premises, has no such premise.
 fn premise_conclusion<'a, 'b>(
     image: &'a [u8],
     index: &'b [usize],
@@ -40,7 +40,7 @@ fn premise_conclusion<'a, 'b>(
     )
 }
 
-// The premises of line n, of which there are so many.
+// What the premises of line `number` conclude; `count` is how many it has.
 pub fn premises_of<'a, 'b>(
     image: &'a [u8],
     index: &'b [usize],
@@ -61,7 +61,7 @@ pub fn premises_of<'a, 'b>(
     }
 }
 
-// Premise j is an implication, or there is no such premise.
+// Premise `j` is an implication, or there is no such premise.
 fn is_implication(premises: Premises, j: usize) -> bool
     ensures { λ r. ⌜ r ≡ isImplicationAt premises j ⌝ }
 {
@@ -72,7 +72,7 @@ fn is_implication(premises: Premises, j: usize) -> bool
     c.form == Form::IMPLICATION
 }
 
-// At most four premises, implications all of them.
+// Rule 20: there are at most four premises, and all are implications.
 fn all_implications(premises: Premises) -> bool
     ensures { λ r. ⌜ r ≡ allImplications premises ⌝ }
 {
@@ -89,7 +89,7 @@ fn all_implications(premises: Premises) -> bool
     false
 }
 
-// Against the templates from i on: as many as the rule has, each of its form; or any implications.
+// Matches the premises against the templates from `i` on: as many as the rule has, each of its form; of rule 20 any implications.
 pub fn match_premises(
     image: &[u8],
     templates: &[u8],

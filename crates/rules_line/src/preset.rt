@@ -1,8 +1,9 @@
-// What is known of a line's holes before its templates are read: its thread, and its instruction's word, register and formula.
+// The holes that a line's instruction fills before its templates are matched.
 use formula_match::bind::Bind;
 ghost use mathlib.Core.Path.{_≡_};
 ghost use Rattle.rules_line.specs.Preset.{presetAt};
 
+// The holes before the match: thread, word and register in the first three for numbers, the instruction's formula in the last for formulas.
 pub fn preset_at(thread: u8, word: u8, register: u8, formula: usize) -> Bind
     ensures { λ r. ⌜ r ≡ presetAt thread word register formula ⌝ }
 {

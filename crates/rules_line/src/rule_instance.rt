@@ -1,4 +1,4 @@
-// Whether a line fits its rule.
+// Whether a line is an instance of its rule.
 use crate::conclusion::Conclusion;
 use crate::conclusion::Premises;
 use crate::conclusion::match_conclusion;
@@ -22,7 +22,7 @@ ghost use mathlib.Core.Path.{_≡_};
 ghost use Rattle.image_index.specs.IndexTable.{indexOf};
 ghost use Rattle.rules_line.specs.RuleInstance.{isAllowed, restAt, lineMatch, fitsRow, fitsLine};
 
-// A triple's rule has the operation among its own; a rule for pairs, that of the whole.
+// The rule allows the operation: for triples that of the first half, for rule 50 that of the whole pair. Other rules ask for none.
 fn is_allowed(rule: Rule, acting: Acting) -> bool
     ensures { λ r. ⌜ r ≡ isAllowed rule acting ⌝ }
 {
@@ -35,7 +35,7 @@ fn is_allowed(rule: Rule, acting: Acting) -> bool
     true
 }
 
-// What is left to ask once the templates are matched.
+// What remains once the templates are matched: the operation and the side condition.
 fn fits_rest<'a, 'b>(
     image: &'a [u8],
     index: &'b [usize],
@@ -54,7 +54,7 @@ fn fits_rest<'a, 'b>(
     false
 }
 
-// The line's own conclusion against its rule's templates, with what is known of their holes.
+// Matches the line's conclusion against its rule's templates, with the holes that its instruction fills.
 fn match_line(
     image: &[u8],
     templates: &[u8],
@@ -78,7 +78,7 @@ fn match_line(
     )
 }
 
-// Line, premises, then the rest, with the templates t.
+// The line is an instance of its rule: its conclusion matches, then its premises, then operation and side condition are right.
 fn fits_row<'a, 'b, 'c>(
     image: &'a [u8],
     index: &'b [usize],
@@ -113,7 +113,7 @@ fn fits_row<'a, 'b, 'c>(
     false
 }
 
-// Whether line n fits its rule.
+// Whether line `number` is an instance of its rule.
 pub fn fits_line<'a, 'b, 'c>(
     image: &'a [u8],
     index: &'b [usize],

@@ -1,4 +1,4 @@
-// What a rule asks besides its templates, by the number in its row.
+// The side conditions of rules, by their number in the rule's row.
 use crate::conclusion::Conclusion;
 use crate::conclusion::Premises;
 use crate::conclusion::conclusion_at;
@@ -28,7 +28,7 @@ ghost use mathlib.Core.Path.{_≡_};
 ghost use Rattle.image_index.specs.IndexTable.{indexOf};
 ghost use Rattle.rules_line.specs.SideConditions.{substitutionOf, assignedBy, loadedBy, ofInstruction, implicationsOf, ofNames, asked};
 
-// The registers that an instruction sets to formulas, by these: of an assignment, of two at once, of a pair.
+// The substitution that an instruction's assignments denote: one register, two at once, or the second half of a pair.
 fn substitution_of(acting: Acting) -> Substitution
     ensures { λ r. ⌜ r ≡ substitutionOf acting ⌝ }
 {
@@ -50,7 +50,7 @@ fn substitution_of(acting: Acting) -> Substitution
     one_name(false, acting.noted, note)
 }
 
-// The formula in hole 0 is the one in hole 1 with these registers replaced.
+// Rules 2 and 50: the formula in hole 0 is the one in hole 1 after that substitution.
 fn is_assigned(image: &[u8], bind: Bind, acting: Acting) -> bool
     ensures { λ r. ⌜ r ≡ assignedBy (now (image .entry)) bind acting ⌝ }
 {
@@ -58,7 +58,7 @@ fn is_assigned(image: &[u8], bind: Bind, acting: Acting) -> bool
     is_with(image, hole_of(bind, 0), hole_of(bind, 1), substitution)
 }
 
-// The left test is the right one with the instruction's register replaced by its word.
+// Rules 3, 4 and 47: the test in hole 3 is the one in hole 2 with the instruction's register replaced by its word.
 fn is_loaded(image: &[u8], bind: Bind, acting: Acting) -> bool
     ensures { λ r. ⌜ r ≡ loadedBy (now (image .entry)) bind acting ⌝ }
 {
@@ -66,7 +66,7 @@ fn is_loaded(image: &[u8], bind: Bind, acting: Acting) -> bool
     is_with(image, hole_of(bind, 3), hole_of(bind, 2), substitution)
 }
 
-// Of the instruction; the last one left is that its word is absent, and its result register.
+// Side conditions that depend on the instruction. The default is that of rules 8 and 13: neither the word nor the result register is in J.
 fn of_instruction(image: &[u8], side: u8, bind: Bind, acting: Acting) -> bool
     ensures { λ r. ⌜ r ≡ ofInstruction (now (image .entry)) side bind acting ⌝ }
 {
@@ -112,7 +112,7 @@ fn of_instruction(image: &[u8], side: u8, bind: Bind, acting: Acting) -> bool
     )
 }
 
-// A line and its premises, as implications.
+// The line and its premises as implications, the line first: the input of a truth table.
 fn implications_of(conclusion: Conclusion, premises: Premises) -> Implications
     ensures { λ r. ⌜ r ≡ implicationsOf conclusion premises ⌝ }
 {
@@ -127,7 +127,7 @@ fn implications_of(conclusion: Conclusion, premises: Premises) -> Implications
     }
 }
 
-// By rows, of the tests in holes 2 and 3, over the values that the header gives.
+// Rules 21, 23, 24 and 30: the test in hole 2 implies the one in hole 3, by rows over the range in the header.
 fn by_names<'a, 'b>(image: &'a [u8], index: &'b [usize], bind: Bind) -> bool
     requires { ⌜ now index ≡ indexOf (now image) ⌝ }
     ensures { λ r. ⌜ r ≡ ofNames (now (image .entry)) bind ⌝ }
@@ -138,7 +138,7 @@ fn by_names<'a, 'b>(image: &'a [u8], index: &'b [usize], bind: Bind) -> bool
     by_rows(image, p.at, p.left, q.at, q.left, range_of(header))
 }
 
-// By rows, by truth table, by the start values and marks; else of the instruction.
+// Whether the side condition `side` holds: by rows, by truth table, by the header's start values and marks, or of the instruction.
 pub fn is_asked<'a, 'b>(
     image: &'a [u8],
     index: &'b [usize],

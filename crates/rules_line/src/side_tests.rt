@@ -1,4 +1,4 @@
-// What rules ask besides their templates, of the formulas that the holes stand for.
+// The tests that side conditions are made of, on the formulas that fill the holes.
 use formula::code::Code;
 use formula_compare::has::has_flag;
 use formula_compare::has::has_register;
@@ -16,12 +16,13 @@ ghost use mathlib.Core.Path.{_≡_};
 ghost use Prim.Native.Nat.{_<_};
 ghost use Rattle.rules_line.specs.SideTests.{holeOf, numberIn, treeOf, apart, keeps, oneBy, isWith, storedBy, isStart};
 
-// Where a formula stands, with the nesting that is left there.
+// A formula in the image: where it begins, and the nesting that is left there.
 pub struct Position {
     pub at: usize,
     pub left: usize,
 }
 
+// The position of the formula in hole `j`; its nesting is 0 where the hole has taken none.
 pub fn hole_of(bind: Bind, j: usize) -> Position
     requires { ⌜ j < 5 ⌝ }
     ensures { λ r. ⌜ r ≡ holeOf bind j ⌝ }
@@ -32,7 +33,7 @@ pub fn hole_of(bind: Bind, j: usize) -> Position
     }
 }
 
-// The word is in no role in it, nor the result register of an exchange or a fetch-add.
+// Neither the word, in any role, nor the result register of an exchange or a fetch-add occurs in the formula.
 pub fn is_absent(image: &[u8], operation: u8, word: u8, register: u8, position: Position) -> bool
     ensures { λ r. ⌜ r ≡ apart operation word register (treeOf (now (image .entry)) position) ⌝ }
 {
@@ -48,7 +49,7 @@ pub fn is_absent(image: &[u8], operation: u8, word: u8, register: u8, position: 
     true
 }
 
-// A load keeps what has not its register; a write what is apart from it.
+// Rule 1: a load preserves P if its register does not occur in P; a store or swap, if its word and its result register do not.
 pub fn is_preserved(image: &[u8], operation: u8, word: u8, register: u8, position: Position) -> bool
     ensures { λ r. ⌜ r ≡ keeps operation word register (treeOf (now (image .entry)) position) ⌝ }
 {
@@ -67,7 +68,7 @@ pub fn is_preserved(image: &[u8], operation: u8, word: u8, register: u8, positio
     false
 }
 
-// One name alone, by what replaces it.
+// The substitution for one name alone, a word or a register.
 pub fn one_name(word: bool, number: u8, replacing: Replacing) -> Substitution
     ensures { λ r. ⌜ r ≡ oneBy word number replacing ⌝ }
 {
@@ -81,7 +82,7 @@ pub fn one_name(word: bool, number: u8, replacing: Replacing) -> Substitution
     }
 }
 
-// The first formula is the second with names replaced.
+// The formula at `position` is the one at `other` after the substitution.
 pub fn is_with(
     image: &[u8],
     position: Position,
@@ -104,7 +105,7 @@ pub fn is_with(
     }
 }
 
-// The first test is the second with the word replaced by the formula, and no flag of the word is in the second.
+// Rule 9: the test at `position` is the one at `other` with the word replaced by the formula, and neither flag of the word is in that one.
 pub fn is_substituted(
     image: &[u8],
     position: Position,
@@ -122,7 +123,7 @@ pub fn is_substituted(
     is_with(image, position, other, substitution)
 }
 
-// The number in a hole; 0 where it has taken none.
+// The number in hole `j`; 0 where the hole has taken none.
 pub fn number_in(bind: Bind, j: usize) -> usize
     requires { ⌜ j < 5 ⌝ }
     ensures { λ r. ⌜ r ≡ numberIn bind j ⌝ }
@@ -134,7 +135,7 @@ pub fn number_in(bind: Bind, j: usize) -> usize
     n - 1
 }
 
-// The formula is the constant with which the word starts, by the header's body.
+// Rule 26: the formula is the constant that the header gives as the word's start value.
 pub fn is_start(image: &[u8], header: &[u8], position: Position, word: usize) -> bool
     ensures { λ r. ⌜ r ≡ isStart (now (header .entry)) word (treeOf (now (image .entry)) position) ⌝ }
 {

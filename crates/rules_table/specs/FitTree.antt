@@ -1,4 +1,4 @@
--- Whether a line fits its rule, on trees: what the code works out.
+-- Whether a line is an instance of its rule, on trees: what the code works out.
 use mathlib.Core.Bool.{Bool, true, false, not, cond, _&&_, _||_}
 use mathlib.Core.List.{List, [], _∷_, map}
 use mathlib.Core.Option.{Option, none, some}
@@ -26,39 +26,45 @@ use Rattle.tables_rows.specs.ByRows.{rowsT, tableT}
 use Rattle.formula_match.specs.Template.{numHole, formulaHole, patternToTree, Holes, instT}
 use Rattle.formula_match.specs.Match.{Taken, andThen, when, matchT}
 
+-- the tree of a schema's left side
 abbrev pub leftOf : Shape → Tree
 leftOf (inside p q) = patternToTree p
 leftOf (implies p q) = patternToTree p
 leftOf (triple p q) = patternToTree p
 leftOf (pair p q) = patternToTree p
 
+-- the tree of a schema's right side
 abbrev pub rightOf : Shape → Tree
 rightOf (inside p q) = patternToTree q
 rightOf (implies p q) = patternToTree q
 rightOf (triple p q) = patternToTree q
 rightOf (pair p q) = patternToTree q
 
--- a form, and templates for the left side and the right side
+-- the conclusion v has the form f, for thread i and point k if it is a triple, and its sides match the templates p and q
 abbrev pub matchSides : ℕ → ℕ → ℕ → Tree → Tree → TreeConclusion → Taken → Option Taken
 matchSides i k f p q v b = andThen (when (placed f i k v) b) (λ b₀. andThen (matchT p (v .left) b₀) (matchT q (v .right)))
 
+-- the conclusion v matches the schema m
 abbrev pub matchLine : ℕ → ℕ → Shape → TreeConclusion → Taken → Option Taken
 matchLine i k m v b = matchSides i k (formOf m) (leftOf m) (rightOf m) v b
 
+-- the conclusions match the schemas, one for one
 abbrev pub matchAll : ℕ → ℕ → List Shape → List TreeConclusion → Taken → Option Taken
 matchAll i k [] [] b = some b
 matchAll i k [] (v ∷ vs) b = none
 matchAll i k (p ∷ l) [] b = none
 matchAll i k (p ∷ l) (v ∷ vs) b = andThen (matchLine i k p v b) (matchAll i k l vs)
 
+-- the conclusion is an implication
 abbrev pub isImplication : TreeConclusion → Bool
 isImplication v = eqb (v .form) implication
 
+-- the conclusions of the premises match the rule's; of rule 20 they are at most four implications
 abbrev pub matchPremises : ℕ → ℕ → Premises → List TreeConclusion → Taken → Option Taken
 matchPremises i k (these l) vs b = matchAll i k l vs b
 matchPremises i k implications vs b = when (leb (length vs) Limits.premises && all isImplication vs) b
 
--- before the match: the thread, the word, the register and the formula of the instruction are set
+-- the holes before the match: thread, word, register and formula of the instruction are set
 abbrev pub preset : ℕ → Acting → Taken
 preset t c = record {
   num = λ j. elim (eqb j (numHole Pattern.t)) [
@@ -69,60 +75,67 @@ preset t c = record {
   tree = λ j. elim (eqb j formulaHole) [ true ↦ some (c .formula) | false ↦ none ];
 }
 
+-- the value, or d where there is none
 abbrev pub orElse : {A : Type 0} → A → Option A → A
 orElse d none = d
 orElse d (some a) = a
 
+-- the contents of the holes after the match; where a hole took nothing, 0 or no tree
 abbrev pub holesFrom : Taken → Holes
 holesFrom b = record { num = λ j. orElse 0 (b .num j); tree = λ j. orElse Tree.none (b .tree j) }
 
+-- the conclusion as an implication
 abbrev pub impOf : TreeConclusion → ImpT
 impOf v = record { left = v .left; right = v .right }
 
--- what rules ask of the program besides its instructions: how many values there are, what words start with, and which registers start at 0
+-- what side conditions ask of the program besides its instructions: the range, the start values of words, which registers start at 0
 pub record Setup : Type 0 where
   pub range : ℕ
   pub init : ℕ → ℕ
   pub cleared : ℕ → Bool
 
+-- the setup of a program
 abbrev pub setup : Program → Setup
 setup P = record { range = P .range; init = P .init; cleared = P .cleared }
 
+-- the match succeeds, and its holes pass the test
 abbrev pub answer : Option Taken → (Taken → Bool) → Bool
 answer none f = false
 answer (some b) f = f b
 
 -- a: the instruction
 module _ (a : Acting) where
-  -- what is replaced by what
+  -- the substitution that a rule names, on trees
   abbrev pub replacing : By → ℕ → ℕ → Tree
   replacing by-notes = named (a .notes)
   replacing r-by-x = oneName false (a .register) (node (byte Code.word) (a .word) Tree.none Tree.none)
   replacing x-by-f = oneName true (a .word) (a .formula)
 
-  -- the word in no role, nor the result register of an exchange or a fetch-add
+  -- neither the word, in any role, nor the result register of an exchange or a fetch-add occurs in the tree
   abbrev pub apartT : Tree → Bool
   apartT u = not (occurs (wordAnyRole (a .word)) [] u)
       && (not (isAmong (a .operation) Rules.returning) || not (occurs (register (a .register)) [] u))
 
+  -- rule 1's side condition: the instruction preserves the assertion
   abbrev pub keepsT : Tree → Bool
   keepsT u = elim (isAmong (a .operation) Rules.loads) [
     | true ↦ not (occurs (register (a .register)) [] u)
     | false ↦ elim (isAmong (a .operation) Rules.writes) [ true ↦ apartT u | false ↦ false ]
   ]
 
-  -- what the new write holds, read after the step
+  -- the value of the new write, as it reads after the step
   abbrev pub freshT : Tree
   freshT = elim (eqb (a .operation) Opcode.fetchAdd) [
     | true ↦ node (byte Code.sum) 0 (node (byte Code.reg) (a .register) Tree.none Tree.none) (a .formula)
     | false ↦ a .formula
   ]
 
-  -- of a triple the first half's operation is among those allowed, of a statement about a pair that of the whole
+  -- the operation is among those allowed: of a triple that of the first half, of a triple of a whole pair that of the whole
   abbrev pub operationT : ℕ → List ℕ → Bool
   operationT f ops = cond (eqb f hoare) (isAmong (a .operation) ops) (cond (eqb f paired) (isAmong (a .whole) ops) true)
 
 module _ (h : Setup) (a : Acting) where
+  -- the side condition holds
   abbrev pub sideT : Holes → TreeConclusion → List TreeConclusion → Side → Bool
   sideT c v vs (p is q with b) = sameTree (replaceT (replacing a b) (instT c (patternToTree q))) (instT c (patternToTree p))
   sideT c v vs (start-of n p) = sameTree (instT c (patternToTree p))
@@ -135,12 +148,14 @@ module _ (h : Setup) (a : Acting) where
   sideT c v vs (by-rows p q) = rowsT (h .range) (instT c (patternToTree p)) (instT c (patternToTree q))
   sideT c v vs by-table = tableT (map impOf vs) (impOf v)
 
+  -- what remains once the templates match: the operation and the side conditions
   abbrev pub restT : Row → TreeConclusion → List TreeConclusion → Taken → Bool
   restT W v vs b = operationT a (formOf (W .says)) (W .operations) && all (sideT (holesFrom b) v vs) (W .sides)
 
-  -- for the instruction at the point k of thread i
+  -- the conclusion, with these premises, is an instance of the row, for the instruction at point k of thread i
   abbrev pub fitsAt : ℕ → ℕ → Row → TreeConclusion → List TreeConclusion → Bool
   fitsAt i k W v vs = answer (andThen (matchLine i k (W .says) v (preset i a)) (matchPremises i k (W .premises) vs)) (restT W v vs)
 
+  -- the conclusion, with these premises, is an instance of the rule
   abbrev pub fitsT : Rule → TreeConclusion → List TreeConclusion → Bool
   fitsT n v vs = fitsAt (v .thread) (v .point) (row n) v vs

@@ -1,57 +1,71 @@
--- The table of rules as the code has it.
+-- The table of rules as the code has it: what `rule_at` and `all_templates` return.
 use mathlib.Core.List.{List, [], _∷_}
 use Prim.Native.Nat.{ℕ}
 use lib.ListN.{getD}
 use Rattle.rules_table.specs.declared.rule.Rule.{Rule}
 
--- forms of lines, and what is asked besides, by number
+-- the form of a number that no rule has
 abbrev pub unlistedForm : ℕ
 unlistedForm = 4
 
+-- the number of a rule without a side condition
 abbrev pub nothing : ℕ
 nothing = 0
 
+-- rule 1: the instruction preserves the assertion
 abbrev pub isKept : ℕ
 isKept = 1
 
+-- rules 2 and 50: substitution for assigned registers
 abbrev pub assigned : ℕ
 assigned = 2
 
+-- rules 3, 4 and 47: the register replaced by the word
 abbrev pub loaded : ℕ
 loaded = 3
 
+-- rules 8 and 13: neither the word nor the result register occurs in J
 abbrev pub wordAbsent : ℕ
 wordAbsent = 4
 
+-- rule 9: the word replaced by the formula, and no flag of the word
 abbrev pub stored : ℕ
 stored = 5
 
+-- rules 21, 23, 24 and 30: by rows
 abbrev pub byRows : ℕ
 byRows = 6
 
+-- rule 20: by truth table
 abbrev pub byTable : ℕ
 byTable = 7
 
+-- rule 26: the start value of a word
 abbrev pub startValue : ℕ
 startValue = 8
 
+-- rules 48 and 49: the value of the new write
 abbrev pub newValue : ℕ
 newValue = 9
 
+-- rule 27: the register starts at 0
 abbrev pub startsAtZero : ℕ
 startsAtZero = 10
 
--- rule 20: 0 to 4 implications
+-- the premise count of rule 20, which has 0 to 4 implications
 abbrev pub anyImplications : ℕ
 anyImplications = 5
 
+-- a row of the table
 abbrev pub rule : ℕ → ℕ → ℕ → ℕ → ℕ → ℕ → Rule
 rule form template premises forms operations side =
     record { form = form; template = template; premises = premises; forms = forms; operations = operations; side = side }
 
+-- the row of a number that no rule has
 abbrev pub unlisted : Rule
 unlisted = rule unlistedForm 0 0 0 0 nothing
 
+-- the rows by rule number, from 0
 abbrev pub rows : List Rule
 rows =
     unlisted ∷
@@ -107,9 +121,11 @@ rows =
     rule 3 440 1 2 3584 assigned ∷
     []
 
+-- the row of the rule with number n
 unfoldable pub ruleRow : ℕ → Rule
 ruleRow n = getD rows n unlisted
 
+-- the templates of all rules as bytes, one after another
 abbrev pub templates : List ℕ
 templates =
     64 ∷ 64 ∷ 64 ∷ 65 ∷ 24 ∷ 0 ∷ 16 ∷ 67 ∷ 28 ∷ 66 ∷ 24 ∷ 0 ∷ 18 ∷ 16 ∷ 67 ∷ 64 ∷ 26 ∷ 28 ∷ 66 ∷ 65 ∷ 24 ∷ 0 ∷ 64 ∷ 65 ∷

@@ -1,4 +1,4 @@
--- The code's table against the table of rules: one test for each rule, which computes.
+-- The code's table against the logic's table of rules: one test for each rule, which computes.
 use mathlib.Core.Bool.{Bool, true, false, _&&_}
 use mathlib.Core.List.{List, [], _∷_}
 use Prim.Native.Nat.{ℕ, _+_, _*_, _^_, _/_, _%_}
@@ -19,6 +19,7 @@ use Rattle.formula_trees.specs.StatementTree.{formOf}
 use Rattle.rules_table.specs.FitTree.{leftOf, rightOf}
 use Rattle.rules_table.specs.RuleTable.{nothing, isKept, assigned, loaded, wordAbsent, stored, byRows, byTable, startValue, startsAtZero, newValue, anyImplications, ruleRow, templates}
 
+-- the number of a rule
 abbrev pub numberOf : Rule → ℕ
 numberOf r1 = 1
 numberOf r2 = 2
@@ -66,11 +67,12 @@ numberOf r48 = 48
 numberOf r49 = 49
 numberOf r50 = 50
 
--- the trees of shapes, and whether they stand in the templates one after the other from a position on
+-- the trees of schemas, left side and right side of each
 abbrev pub trees : List Shape → List Tree
 trees [] = []
 trees (m ∷ l) = leftOf m ∷ rightOf m ∷ trees l
 
+-- the trees are in the templates, one after another from position i on
 abbrev pub standAt : ℕ → List Tree → Bool
 standAt i [] = true
 standAt i (t ∷ ts) = (sameTree (parseTree templates nesting i .tree) t && proper t) && standAt (parseTree templates nesting i .end) ts
@@ -80,26 +82,29 @@ abbrev pub packed : List Shape → ℕ
 packed [] = 0
 packed (m ∷ l) = formOf m + 4 * packed l
 
+-- the premise count in the code's row
 abbrev pub premiseCount : Premises → ℕ
 premiseCount (these l) = length l
 premiseCount implications = anyImplications
 
--- a set of operations as a number with a bit for each
+-- the operation is in the set, which is a number with a bit for each
 abbrev pub allows : ℕ → ℕ → Bool
 allows set op = eqb ((set / (2 ^ op)) % 2) 1
 
+-- two Booleans are equal
 abbrev pub sameBit : Bool → Bool → Bool
 sameBit true b = b
 sameBit false true = false
 sameBit false false = true
 
+-- all operations
 abbrev pub operations : List ℕ
 operations =
     Opcode.assign ∷ Opcode.load ∷ Opcode.acquire ∷ Opcode.store ∷ Opcode.release ∷ Opcode.swap ∷ Opcode.branch ∷ Opcode.exchange
     ∷ Opcode.fetchAdd
     ∷ Opcode.pairStore ∷ Opcode.pairRelease ∷ Opcode.pairSwap ∷ Opcode.assignTwo ∷ []
 
--- what is asked besides, by number
+-- the number of a rule's side conditions; rule 9, which has two, has one number for both
 abbrev pub sideNumber : List Side → ℕ
 sideNumber [] = nothing
 sideNumber (_is_with_ p q by-notes ∷ l) = assigned
@@ -114,7 +119,7 @@ sideNumber (no-flag p ∷ l) = nothing
 sideNumber (by-rows p q ∷ l) = byRows
 sideNumber (by-table ∷ l) = byTable
 
--- the number of premises, no more than a line may have
+-- the premise count is right, and no more than a line may have
 abbrev pub premisesRight : Rule → Bool
 premisesRight n = eqb (ruleRow (numberOf n) .premises) (premiseCount (row n .premises))
     && leb (length (shapes (row n .premises))) Limits.premises

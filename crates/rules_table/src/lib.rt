@@ -1,6 +1,6 @@
-// Whether a line fits its rule, on trees: definitions that compute, and their agreement with the table of patterns.
+// The rules as a constant table, proved to be the table of the logic, and whether a line is an instance of a rule, on trees.
 
-// The rules as a constant table: for each rule number the form of its lines, its premises, the operations that it allows, and
-// its shapes as templates, formulas in prefix form with holes. That this is the table of the logic is one computed test.
+// The row of each rule: the form of its lines, its premises, the allowed operations, its side condition, where its templates begin.
 pub mod rule;
+// The templates of all rules: schemas as bytes, formulas in prefix form with holes.
 pub mod template;

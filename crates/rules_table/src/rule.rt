@@ -1,9 +1,8 @@
-// A rule's row, by its number.
+// The rows of the rule table, by rule number.
 ghost use mathlib.Core.Path.{_≡_};
 ghost use Rattle.rules_table.specs.RuleTable.{ruleRow};
 
-// What a line says: an interval in an interval, an implication, a Hoare triple, a Hoare triple of a whole pair; or a number that
-// no rule has.
+// What a line states, a number for each form: an interval in an interval, an implication, a Hoare triple, a Hoare triple of a whole pair.
 pub struct Form {}
 
 impl Form {
@@ -15,40 +14,43 @@ impl Form {
 
     pub const PAIR: u8 = 3;
 
+    // The form of a number that no rule has.
     pub const UNLISTED: u8 = 4;
 }
 
-// What a rule asks besides its shapes.
+// The side conditions of rules, a number for each; a rule has one of them.
 pub struct Side {}
 
 impl Side {
     pub const NONE: u8 = 0;
-    // Its assertion keeps clear of what the instruction changes.
+    // Rule 1: the instruction preserves the assertion.
     pub const KEPT: u8 = 1;
-    // A rule 2 line's left side, or the right side of a rule 50 line's premise, is the line's right side with the registers
-    // that are set replaced by their formulas.
+    // Rules 2 and 50: P is Q with each assigned register replaced by its formula; P is the left side, of rule 50 the premise's right side.
     pub const ASSIGNED: u8 = 2;
-    // The left test is the right one with the register replaced by the word.
+    // Rules 3, 4 and 47: the left test is the right one with the register replaced by the word.
     pub const LOADED: u8 = 3;
-    // The word is in no role in the interval that is handed on, and the result register is not in it.
+    // Rules 8 and 13: neither the word, in any role, nor the result register occurs in J.
     pub const WORD_ABSENT: u8 = 4;
-    // The second test is the first with the word replaced by the formula; no flag of the word is in it.
+    // Rule 9: the second test is the first with the word replaced by the formula; neither flag of the word occurs in the first.
     pub const STORED: u8 = 5;
 
+    // Rules 21, 23, 24 and 30: the left test implies the right one, by rows.
     pub const BY_ROWS: u8 = 6;
 
+    // Rule 20: the premises imply the line, by truth table.
     pub const BY_TABLE: u8 = 7;
 
+    // Rule 26: the constant is the word's start value.
     pub const START_VALUE: u8 = 8;
-    // The value is that of the new write, read after the step.
+    // Rules 48 and 49: the value is that of the new write, as it reads after the step.
     pub const NEW_VALUE: u8 = 9;
-    // The register starts at 0.
+    // Rule 27: the register starts at 0.
     pub const STARTS_AT_ZERO: u8 = 10;
 }
 
-// Where a rule's template begins; the operations that it allows, a bit each; the form of its lines; how many premises, and
-// their forms, two bits each from the lowest (rule 20 has any number up to four, here 5); what is asked besides. A row has
-// eight bytes and no gap: the table is made anew for each look-up.
+// A row: where the rule's templates begin; the operations that it allows, a bit each; the form of its lines; how many premises, and their
+// forms, two bits each from the lowest (rule 20 has 5 here and any number up to four); its side condition. A row has eight bytes and no
+// gap, because the table is made anew for each look-up.
 pub struct Rule {
     pub template: u16,
     pub operations: u16,
@@ -58,14 +60,16 @@ pub struct Rule {
     pub side: u8,
 }
 
+// Numbers of the table.
 pub struct Rules {}
 
 impl Rules {
     pub const COUNT: u8 = 51;
-    // Rule 20: 0 to 4 implications.
+    // The premise count of rule 20, which has 0 to 4 implications.
     pub const IMPLICATIONS: u8 = 5;
 }
 
+// The row of a number that no rule has.
 const UNLISTED: Rule = Rule {
     form: Form::UNLISTED,
     template: 0,
@@ -75,6 +79,7 @@ const UNLISTED: Rule = Rule {
     side: Side::NONE,
 };
 
+// The row of each rule, by its number.
 pub const RULES: [Rule; 51] = [
     UNLISTED,
     Rule {
@@ -444,7 +449,7 @@ pub const RULES: [Rule; 51] = [
     },
 ];
 
-// A number that no rule has gives the row of an unlisted rule.
+// The row of the rule with this number; for a number that no rule has, the row of an unlisted rule.
 pub fn rule_at(number: u8) -> Rule
     ensures { λ r. ⌜ r ≡ ruleRow number ⌝ }
 {
@@ -455,8 +460,8 @@ pub fn rule_at(number: u8) -> Rule
     UNLISTED
 }
 
-// The form alone, quicker than by the table: rules 1 to 16 are of triples, 20 to 27 of implications, 30 to 46 of inclusions,
-// 47 to 49 of triples, 50 of triples of whole pairs.
+// The form of a rule's lines, by comparisons, which are quicker than the table: rules 1 to 16 are of triples, 20 to 27 of implications, 30
+// to 46 of inclusions, 47 to 49 of triples, 50 of triples of whole pairs.
 pub fn form_at(number: u8) -> u8
     ensures { λ r. ⌜ r ≡ ruleRow number .form ⌝ }
 {

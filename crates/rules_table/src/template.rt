@@ -1,11 +1,12 @@
 ghost use mathlib.Core.Path.{_≡_};
 ghost use Rattle.rules_table.specs.RuleTable.{templates};
 
-// The templates of all rules, one after the other: of each rule its left and right side, then those of its premises.
+// The templates of all rules, one after another: of each rule its left and right side, then those of its premises.
 pub struct Templates {
     pub bytes: [u8; 444],
 }
 
+// The bytes: formula codes, from 64 on holes for formulas; operands, below 8 holes for numbers (t, x, r, u, y), else the number plus 8.
 pub const TEMPLATES: [u8; 444] = [
     64,
     64,
@@ -453,6 +454,7 @@ pub const TEMPLATES: [u8; 444] = [
     64,
 ];
 
+// The templates of all rules, as a value.
 pub fn all_templates() -> Templates
     ensures { λ r. ⌜ r .bytes ≡ templates ⌝ }
 {

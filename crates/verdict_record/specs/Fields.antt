@@ -1,4 +1,4 @@
--- The nine numbers of a verdict.
+-- The nine numbers of a verdict. "Fields that don't apply are 0".
 use Prim.Native.Nat.{ℕ}
 use Rattle.image_frames.specs.Fault.{codeOf}
 use Rattle.verdict_record.specs.ObligationPlace.{placeOf}
@@ -7,10 +7,11 @@ use Rattle.verdict_record.specs.declared.verdict.Verdict.{Verdict}
 use Rattle.verdict_record.specs.declared.verdict.Verdict.the-variants.{Accepted, Refused, Failed, Denied}
 use Rattle.verdict_record.specs.declared.verdict.Fields.{Fields}
 
--- of a verdict that names no obligation
+-- the place of a verdict that names no obligation and no claim
 abbrev pub nowhere : Place
 nowhere = record { class = 0; thread = 0; point = 0; «other_thread» = 0; «other_point» = 0 }
 
+-- code, record, place, line and count as nine numbers
 unfoldable pub gathered : ℕ → ℕ → Place → ℕ → ℕ → Fields
 gathered c i p l n =
     record {
@@ -25,6 +26,7 @@ gathered c i p l n =
       count = n;
     }
 
+-- code 0 for an accepted image; a fault's code and record; an obligation's code, place, line and count; 26 with the record of a claim
 unfoldable pub fieldsOf : Verdict → Fields
 fieldsOf (Accepted n) = gathered 0 0 nowhere 0 n
 fieldsOf (Refused f i) = gathered (codeOf f) i nowhere 0 0

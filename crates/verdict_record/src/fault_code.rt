@@ -4,6 +4,7 @@ ghost use mathlib.Core.Path.{_≡_};
 ghost use Prim.Native.Nat.{_<_};
 ghost use Rattle.image_frames.specs.Fault.{codeOf};
 
+// The code of a fault in the bytes of an image: the page's codes 2 to 9, and 23 of Change 1.
 pub fn code_of(fault: Fault) -> usize
     ensures { λ r. ⌜ (r ≡ codeOf fault) × (r < 24) ⌝ }
 {

@@ -1,7 +1,8 @@
-// What a proof outline has to show; threads count from 1, points from 0.
+// The obligations of a proof outline, and how a verdict names them; threads count from 1, points from 0.
 ghost use mathlib.Core.Path.{_≡_};
 ghost use Rattle.verdict_record.specs.ObligationPlace.{placeOf};
 
+// The four kinds of obligations, classes 1 to 4.
 pub enum Obligation {
     Start {
         thread: usize,
@@ -14,7 +15,7 @@ pub enum Obligation {
         thread: usize,
         point: usize,
     },
-    // The asserting side first, then the acting one.
+    // The asserting thread and point first, then the acting ones.
     Interference {
         thread: usize,
         point: usize,
@@ -23,7 +24,7 @@ pub enum Obligation {
     },
 }
 
-// The numbers by which a verdict names an obligation; those that don't apply are 0.
+// The numbers by which a verdict names an obligation or a claim; those that don't apply are 0.
 pub struct Place {
     pub class: usize,
     pub thread: usize,
@@ -32,7 +33,7 @@ pub struct Place {
     pub other_point: usize,
 }
 
-// Of a verdict that names no obligation.
+// The place of a verdict that names no obligation and no claim.
 pub const NOWHERE: Place = Place {
     class: 0,
     thread: 0,
@@ -41,6 +42,7 @@ pub const NOWHERE: Place = Place {
     other_point: 0,
 };
 
+// The numbers by which a verdict names the obligation.
 pub fn place_of(what: Obligation) -> Place
     ensures { λ r. ⌜ r ≡ placeOf what ⌝ }
 {

@@ -1,4 +1,4 @@
-// The verdict into a buffer that the caller lends.
+// The verdict written into the caller's buffer.
 use crate::record::Record;
 use crate::record::VerdictRecord;
 use crate::record::record_of;
@@ -11,14 +11,15 @@ ghost use lib.ListN.{length, drop};
 ghost use Rattle.verdict_record.specs.Record.{size};
 ghost use Rattle.verdict_record.specs.Output.{codeFor, bytesFor};
 
+// The code that stands in for a verdict that cannot be written.
 pub struct Output;
 
 impl Output {
-    // The code of a buffer that is shorter than the record.
+    // Code 1: the buffer is shorter than the record.
     pub const SHORT: u16 = 1;
 }
 
-// The bytes behind the record stay.
+// Writes the record to the front of the buffer; the bytes after it stay.
 fn write_record(bytes: Record, out: &mut [u8])
     requires { ⌜ size ≤ length (now out) ⌝ }
     ensures { λ _. ⌜ now (out .exit) ≡ bytes .bytes ++ drop size (now (out .entry)) ⌝ }
@@ -30,7 +31,7 @@ fn write_record(bytes: Record, out: &mut [u8])
     }
 }
 
-// Answers the code of the verdict, with a buffer that has room for the record.
+// Writes the verdict's record to the buffer, which has room for it, and returns the verdict's code.
 pub fn report(verdict: Verdict, out: &mut [u8]) -> u16
     requires { ⌜ size ≤ length (now out) ⌝ }
     ensures { λ r. ⌜ (r ≡ codeFor verdict (now (out .entry))) × (now (out .exit) ≡ bytesFor verdict (now (out .entry))) ⌝ }

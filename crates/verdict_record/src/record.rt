@@ -1,23 +1,26 @@
-// The record of a verdict.
+// The record of a verdict: 22 bytes, kind 7.
 use crate::verdict::Fields;
 ghost use mathlib.Core.Path.{_≡_};
 ghost use Rattle.verdict_record.specs.Record.{recordBytes};
 
+// The numbers of its frame.
 pub struct VerdictRecord;
 
 impl VerdictRecord {
     pub const SIZE: usize = 22;
 
-    // What the length field counts: all that follows it.
+    // The value of the length field, which counts all that follows it.
     pub const LENGTH: u8 = 20;
 
     pub const KIND: u8 = 7;
 }
 
+// The bytes of the record.
 pub struct Record {
     pub bytes: [u8; VerdictRecord::SIZE],
 }
 
+// The record with these nine numbers, 16 bits each, little-endian.
 pub fn record_of(fields: Fields) -> Record
     ensures { λ r. ⌜ r .bytes ≡ recordBytes fields ⌝ }
 {

@@ -6,13 +6,14 @@ ghost use Prim.Native.Nat.{_≤_};
 ghost use lib.ListN.{take};
 ghost use Rattle.verdict_record.specs.Text.{room, written, added, digits, numbered, placeText, textOf};
 
+// The numbers and bytes of a line.
 pub struct Line;
 
 impl Line {
-    // More than nine numbers of five digits with a byte behind each.
+    // More than nine numbers of five digits with a byte after each.
     pub const ROOM: usize = 64;
 
-    // The numbers are those of the record: 16 bits each.
+    // Numbers are below this: those of the record have 16 bits each.
     pub const NUMBERS: usize = 65536;
 
     pub const DIGITS: usize = 5;
@@ -24,12 +25,13 @@ impl Line {
     pub const NEWLINE: u8 = 10;
 }
 
+// A text in a fixed buffer, of which the first `len` bytes are written.
 pub struct Text {
     pub bytes: [u8; Line::ROOM],
     pub len: usize,
 }
 
-// A full text takes no more.
+// Appends a byte; a text that is full stays as it is. This bounds the index without a precondition; a line never fills the buffer.
 fn put_byte(text: Text, byte: u8) -> Text
     ensures { λ r. ⌜ (written r ≡ added (written text) (byte ∷ [])) × (r .len ≤ room) ⌝ }
 {
@@ -47,7 +49,7 @@ fn put_byte(text: Text, byte: u8) -> Text
     next
 }
 
-// A number with so many digits at most.
+// Appends the last `left` decimal digits of a number, without zeros in front if it has fewer.
 fn put_digits(text: Text, number: usize, left: usize) -> Text
     ensures { λ r. ⌜ written r ≡ added (written text) (digits left number) ⌝ }
 {
@@ -61,7 +63,7 @@ fn put_digits(text: Text, number: usize, left: usize) -> Text
     put_byte(front, Line::ZERO + (number % 10) as u8)
 }
 
-// A number and the byte behind it.
+// Appends a number of 16 bits in decimal and the byte after it.
 fn put_number(text: Text, value: usize, behind: u8) -> Text
     ensures { λ r. ⌜ (written r ≡ added (written text) (numbered value behind)) × (r .len ≤ room) ⌝ }
 {
@@ -69,7 +71,7 @@ fn put_number(text: Text, value: usize, behind: u8) -> Text
     put_byte(number, behind)
 }
 
-// From the class to the other point.
+// Appends the five numbers from the class to the other point.
 fn put_place(text: Text, fields: Fields) -> Text
     ensures { λ r. ⌜ written r ≡ added (written text) (placeText fields) ⌝ }
 {
@@ -80,6 +82,7 @@ fn put_place(text: Text, fields: Fields) -> Text
     put_number(other, fields.other_point, Line::SPACE)
 }
 
+// The nine numbers in decimal, one space between, a newline.
 pub fn text_of(fields: Fields) -> Text
     ensures { λ r. ⌜ (take (r .len) (r .bytes) ≡ textOf fields) × (r .len ≤ room) ⌝ }
 {

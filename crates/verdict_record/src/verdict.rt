@@ -1,4 +1,4 @@
-// The verdict on an image, and the nine numbers that it is published as.
+// The verdict on an image, and the nine numbers of its record.
 use crate::fault_code::code_of;
 use crate::obligation::NOWHERE;
 use crate::obligation::Obligation;
@@ -8,23 +8,25 @@ use image_frames::fault::Fault;
 ghost use mathlib.Core.Path.{_≡_};
 ghost use Rattle.verdict_record.specs.Fields.{gathered, fieldsOf};
 
+// The four kinds of verdicts.
 pub enum Verdict {
-    // So many obligations are met.
+    // All obligations, `count` of them, are met, and every claim is sustained.
     Accepted {
         count: usize,
     },
+    // The image is not well formed: its first fault, and the record that has it.
     Refused {
         fault: Fault,
         record: usize,
     },
-    // The first obligation that is not met: why, the line that it names, and how many are met before it.
+    // The first obligation that is not met: the code that says why, the line that it names, and how many are met before it.
     Failed {
         what: Obligation,
         code: u8,
         line: usize,
         count: usize,
     },
-    // Every obligation is met, and this is the first claim that its line does not bear out: its record, threads and points.
+    // Every obligation is met, and this is the first claim that its line does not prove: its record, threads and points.
     Denied {
         record: usize,
         place: Place,
@@ -34,10 +36,11 @@ pub enum Verdict {
 }
 
 impl Verdict {
+    // The code of a claim whose line is 0, unjustified or concludes something else.
     pub const DENIED: u16 = 26;
 }
 
-// In the order of the record; those that don't apply are 0.
+// The nine numbers, in the order of the record; those that don't apply are 0.
 pub struct Fields {
     pub code: u16,
     pub record: usize,
@@ -50,6 +53,7 @@ pub struct Fields {
     pub count: usize,
 }
 
+// The nine numbers, with the place of an obligation or a claim taken apart.
 fn gather(code: u16, record: usize, place: Place, line: usize, count: usize) -> Fields
     ensures { λ r. ⌜ r ≡ gathered code «record» place line count ⌝ }
 {
@@ -66,6 +70,7 @@ fn gather(code: u16, record: usize, place: Place, line: usize, count: usize) -> 
     }
 }
 
+// The nine numbers of a verdict.
 pub fn fields_of(verdict: Verdict) -> Fields
     ensures { λ r. ⌜ r ≡ fieldsOf verdict ⌝ }
 {
