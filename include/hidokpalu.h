@@ -39,10 +39,12 @@ enum hidokpalu_code {
     HIDOKPALU_OPERAND = 23,       /* the operand of an exchange or a fetch-add names its result register */
     /* The first obligation that is not met. */
     HIDOKPALU_NO_LINE = 20,       /* it names no line of the certificate */
-    HIDOKPALU_OTHER_CLAIM = 21,   /* its line concludes something else */
+    HIDOKPALU_OTHER_CONCLUSION = 21, /* its line concludes something else */
     HIDOKPALU_UNJUSTIFIED = 22,   /* its line is not justified */
     /* Every obligation is met, and a claim is not borne out. */
-    HIDOKPALU_CLAIM = 26          /* the first whose line is missing, concludes something else or is not justified */
+    HIDOKPALU_CLAIM = 26,         /* the first whose line is missing, concludes something else or is not justified */
+    /* Deprecated: the former name of HIDOKPALU_OTHER_CONCLUSION, which speaks of no claim. It stays for callers that have it. */
+    HIDOKPALU_OTHER_CLAIM = HIDOKPALU_OTHER_CONCLUSION
 };
 
 /* The class of an obligation. */

@@ -7,7 +7,7 @@ const FURTHER: [(&str, &str, &str); 7] = [
     ("replay", "replay_trace", "proved_replay"),
     ("handover", "check_handover", "proved_handover"),
     ("handover_replay", "replay_handover", "proved_across"),
-    ("service", "serve_bill", "proved_desks"),
+    ("service", "serve_bill", "proved_service"),
     ("service", "serve_replay", "proved_replays"),
     ("service", "serve_replay_handover", "proved_crossings"),
 ];

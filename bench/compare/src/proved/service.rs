@@ -1,20 +1,20 @@
-//! The proved service of several desks, from the crate `desks`.
+//! The proved service of several callers, from the crate `service`.
 
-use super::Desks;
+use super::Service;
 
 /// The calls; none if their archive was not there.
-#[cfg(not(proved_desks))]
-pub const DESKS: Option<Desks> = None;
+#[cfg(not(proved_service))]
+pub const SERVICE: Option<Service> = None;
 
-#[cfg(proved_desks)]
-pub const DESKS: Option<Desks> =
-    Some(Desks { open: linked::open, serve: linked::serve, kinds: super::replays::KINDS });
+#[cfg(proved_service)]
+pub const SERVICE: Option<Service> =
+    Some(Service { open: linked::open, serve: linked::serve, kinds: super::replays::KINDS });
 
-#[cfg(proved_desks)]
+#[cfg(proved_service)]
 mod linked {
     use super::super::replays::{handover, replay, replay_handover};
     use reference::bill::Tariff;
-    use reference::desks::{Call, Lent, Request, Run};
+    use reference::service::{Call, Lent, Request, Run};
 
     // include/hidokpalu.h says what the calls do.
     extern "C" {

@@ -1,7 +1,7 @@
-//! Stored calls of several desks, in the order in which one service answers them. In front how many bytes follow (32 bits)
+//! Stored turns of several callers, in the order in which one service answers them. In front how many bytes follow (32 bits)
 //! of what is read, all parts of it in a row; then
 //!
-//! - what is done (16 bits, [`Deed`]), and by whom (32 bits);
+//! - what is done (16 bits, [`TurnKind`]), and by whom (32 bits);
 //! - how many bytes each of the first five parts has (32 bits each); the sixth has the rest;
 //! - how many bytes and how many numbers are lent (32 bits each), or the number that is set;
 //! - the prices of the classes 1 to 4 and the least charge (16 bits each);
@@ -11,11 +11,11 @@
 
 use super::{length, number, take};
 use crate::bill::Tariff;
-use crate::desks::{open_service, serve, Call, Lent, Request, Rooms, Update, CALLERS, SERVICE};
+use crate::service::{open_service, serve, Call, Lent, Request, Rooms, Update, CALLERS, SERVICE};
 
 /// What is done: the service is opened, a number is set by the host, or a call is made.
 #[derive(Clone, Copy, Debug, PartialEq, Eq)]
-pub enum Deed {
+pub enum TurnKind {
     Open = 0,
     Set = 1,
     Check = 2,
@@ -27,15 +27,15 @@ pub enum Deed {
 }
 
 /// All of them, in the order of their numbers.
-pub const DEEDS: [Deed; 8] = [
-    Deed::Open,
-    Deed::Set,
-    Deed::Check,
-    Deed::Trim,
-    Deed::Bill,
-    Deed::Handover,
-    Deed::Replay,
-    Deed::ReplayHandover,
+pub const TURN_KINDS: [TurnKind; 8] = [
+    TurnKind::Open,
+    TurnKind::Set,
+    TurnKind::Check,
+    TurnKind::Trim,
+    TurnKind::Bill,
+    TurnKind::Handover,
+    TurnKind::Replay,
+    TurnKind::ReplayHandover,
 ];
 
 /// How many parts are read, numbers and bytes of which the front is lent, and what stands in these before.
@@ -48,7 +48,7 @@ const BYTE_BEFORE: u8 = 0xAA;
 /// What is done, with all that it is given. A part that is not there is empty.
 #[derive(Clone, Debug, PartialEq, Eq)]
 pub struct Turn {
-    pub deed: Deed,
+    pub kind: TurnKind,
     pub caller: usize,
     pub parts: [Vec<u8>; PARTS],
     pub bytes: usize,
@@ -81,15 +81,15 @@ impl Turn {
             bill: vec![NUMBER_BEFORE; NUMBERS],
             replay: vec![NUMBER_BEFORE as usize; NUMBERS],
         };
-        let code = match (self.deed, self.request()) {
+        let code = match (self.kind, self.request()) {
             (_, Some(request)) => serve(service, &Call { caller: self.caller, request }, &mut lent),
-            (Deed::Open, None) => open_service(&self.parts[0], service),
+            (TurnKind::Open, None) => open_service(&self.parts[0], service),
             (_, None) => {
                 service[CALLERS + self.caller - 1] = self.numbers as u32;
                 0
             }
         };
-        let replays = matches!(self.deed, Deed::Replay | Deed::ReplayHandover);
+        let replays = matches!(self.kind, TurnKind::Replay | TurnKind::ReplayHandover);
         let numbers = match replays {
             true => lent.replay.iter().map(|&number| number as u32).collect(),
             false => lent.bill,
@@ -107,18 +107,20 @@ impl Turn {
         let part = |number: usize| self.parts[number].clone();
         let image = |number: usize| part(number).into();
         let rooms = Rooms { table: self.bytes, answer: self.numbers };
-        Some(match self.deed {
-            Deed::Open | Deed::Set => return None,
-            Deed::Check => Request::Check { image: image(0), room: self.bytes },
-            Deed::Trim => Request::Trim { image: image(0), room: self.bytes },
-            Deed::Bill => {
+        Some(match self.kind {
+            TurnKind::Open | TurnKind::Set => return None,
+            TurnKind::Check => Request::Check { image: image(0), room: self.bytes },
+            TurnKind::Trim => Request::Trim { image: image(0), room: self.bytes },
+            TurnKind::Bill => {
                 Request::Bill { image: image(0), tariff: self.tariff, room: self.numbers }
             }
-            Deed::Handover => Request::Handover { old: image(0), new: image(1), points: part(2) },
-            Deed::Replay => {
+            TurnKind::Handover => {
+                Request::Handover { old: image(0), new: image(1), points: part(2) }
+            }
+            TurnKind::Replay => {
                 Request::Replay { image: image(0), trace: part(1), given: part(2), rooms }
             }
-            Deed::ReplayHandover => {
+            TurnKind::ReplayHandover => {
                 let across = Update {
                     old: image(0),
                     new: image(1),
@@ -145,7 +147,7 @@ pub fn cases(mut bytes: &[u8]) -> Option<Vec<Case>> {
 fn case(bytes: &mut &[u8]) -> Option<Case> {
     let all = length(bytes)?;
     let mut rest = take(bytes, all)?;
-    let deed = *DEEDS.get(usize::from(number(bytes)?))?;
+    let kind = *TURN_KINDS.get(usize::from(number(bytes)?))?;
     let caller = length(bytes)?;
     let mut parts: [Vec<u8>; PARTS] = Default::default();
     for part in &mut parts[..PARTS - 1] {
@@ -161,7 +163,7 @@ fn case(bytes: &mut &[u8]) -> Option<Case> {
         interference: number(bytes)?,
         least: number(bytes)?,
     };
-    let turn = Turn { deed, caller, parts, bytes: lent, numbers, tariff };
+    let turn = Turn { kind, caller, parts, bytes: lent, numbers, tariff };
     let (code, written) = (number(bytes)?, length(bytes)?);
     let service = longs(bytes)?;
     let numbers = longs(bytes)?;

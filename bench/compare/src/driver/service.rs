@@ -1,10 +1,10 @@
-//! Sessions of several desks on both sides: every reply and every number of the service has to be the same; and what a
+//! Sessions of several callers on both sides: every reply and every number of the service has to be the same; and what a
 //! caller is told does not go by the others.
 
 use super::tally::Tally;
 use super::MANY;
-use crate::proved::Desks;
-use reference::desks::{open_service, serve, Call, Kind, Lent, Request, CALLERS};
+use crate::proved::Service;
+use reference::service::{open_service, serve, Call, Kind, Lent, Request, CALLERS};
 use sets::generate::calls::{session, Session, AROUND, CALLS, SPARE};
 use sets::generate::random::Random;
 use std::collections::{BTreeMap, BTreeSet};
@@ -17,7 +17,7 @@ struct Reply {
     number: Option<u32>,
 }
 
-type Service = [u32; AROUND];
+type Numbers = [u32; AROUND];
 type Serve = fn(&mut [u32], &Call, &mut Lent) -> u16;
 
 /// Replies by what was asked.
@@ -57,12 +57,12 @@ impl Tallies {
 }
 
 /// Compares on sessions with at least so many calls together; false if a reply or a service differs.
-pub fn run(desks: &Desks, calls: u64, first: u64) -> bool {
+pub fn run(proved: &Service, calls: u64, first: u64) -> bool {
     let sessions = calls.div_ceil(CALLS as u64);
     let mut tallies = Tallies::default();
     for offset in 0..sessions {
         let seed = first.wrapping_add(offset);
-        let compared = compare(desks, &session(seed, desks.kinds), seed, &mut tallies);
+        let compared = compare(proved, &session(seed, proved.kinds), seed, &mut tallies);
         if let Err(found) = compared {
             println!("DIFFERENCE: session of seed {seed}\n{found}");
             return false;
@@ -74,12 +74,12 @@ pub fn run(desks: &Desks, calls: u64, first: u64) -> bool {
 
 /// All calls of a session on both sides, and then those of each caller alone on the proved side.
 fn compare(
-    desks: &Desks,
+    proved: &Service,
     session: &Session,
     seed: u64,
     tallies: &mut Tallies,
 ) -> Result<(), String> {
-    let (opened, apart) = (session.opened(desks.open), session.opened(open_service));
+    let (opened, apart) = (session.opened(proved.open), session.opened(open_service));
     if opened != apart {
         return Err(format!("opened: proved {opened:?}\nindependent {apart:?}"));
     }
@@ -87,7 +87,7 @@ fn compare(
     let mut replies = Vec::new();
     for (index, call) in session.calls.iter().enumerate() {
         let before = blank(call, seed ^ index as u64);
-        let by_proof = reply(desks.serve, &mut ours, session.lent, call, before.clone());
+        let by_proof = reply(proved.serve, &mut ours, session.lent, call, before.clone());
         let by_other = reply(serve, &mut theirs, session.lent, call, before);
         if (&by_proof, ours) != (&by_other, theirs) {
             return Err(difference(index, call, (&by_proof, &ours), (&by_other, &theirs)));
@@ -98,14 +98,14 @@ fn compare(
     let callers: BTreeSet<usize> = session.calls.iter().map(|call| call.caller).collect();
     callers
         .into_iter()
-        .try_for_each(|caller| alone(desks, session, opened.numbers, seed, (caller, &replies)))
+        .try_for_each(|caller| alone(proved, session, opened.numbers, seed, (caller, &replies)))
 }
 
 /// The calls of one caller, without the others and with other rights and numbers for them: the replies are the same.
 fn alone(
-    desks: &Desks,
+    proved: &Service,
     session: &Session,
-    mut service: Service,
+    mut service: Numbers,
     seed: u64,
     (caller, replies): (usize, &[Reply]),
 ) -> Result<(), String> {
@@ -116,7 +116,7 @@ fn alone(
     }
     for (index, call) in session.calls.iter().enumerate().filter(|(_, c)| c.caller == caller) {
         let before = blank(call, seed ^ index as u64);
-        let reply = reply(desks.serve, &mut service, session.lent, call, before);
+        let reply = reply(proved.serve, &mut service, session.lent, call, before);
         if reply != replies[index] {
             let among = &replies[index];
             return Err(format!(
@@ -146,7 +146,7 @@ fn blank(call: &Call, seed: u64) -> Lent {
     }
 }
 
-fn reply(serve: Serve, service: &mut Service, lent: usize, call: &Call, before: Lent) -> Reply {
+fn reply(serve: Serve, service: &mut Numbers, lent: usize, call: &Call, before: Lent) -> Reply {
     let mut after = before;
     let code = serve(&mut service[..lent], call, &mut after);
     let place = call.caller.checked_sub(1).filter(|&place| place < CALLERS);
@@ -156,8 +156,8 @@ fn reply(serve: Serve, service: &mut Service, lent: usize, call: &Call, before: 
 fn difference(
     index: usize,
     call: &Call,
-    proved: (&Reply, &Service),
-    independent: (&Reply, &Service),
+    proved: (&Reply, &Numbers),
+    independent: (&Reply, &Numbers),
 ) -> String {
     format!("call {index}, {call:?}\nproved: {proved:?}\nindependent: {independent:?}")
 }
@@ -166,10 +166,10 @@ fn difference(
 mod tests {
     use super::*;
     use crate::proved::KINDS;
-    use reference::desks::{admitted, Right};
+    use reference::service::{admitted, Right};
 
     fn with(serve: Serve) -> bool {
-        run(&Desks { open: open_service, serve, kinds: &KINDS }, 4000, 1)
+        run(&Service { open: open_service, serve, kinds: &KINDS }, 4000, 1)
     }
 
     #[test]

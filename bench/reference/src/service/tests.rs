@@ -1,4 +1,4 @@
-//! Calls of several desks, worked out by hand.
+//! Calls of several callers, worked out by hand.
 use super::*;
 use crate::bill::ANSWER;
 use crate::handover::Traces;

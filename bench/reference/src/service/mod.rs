@@ -1,5 +1,4 @@
-//! Desks of the till makers: one service for up to eight callers, each with rights of its own and a number of billed
-//! images of its own.
+//! One service for up to eight callers, each with rights of its own and a number of billed images of its own.
 //!
 //! A service is sixteen numbers: the rights of callers 1 to 8, then their numbers.
 
