@@ -41,6 +41,6 @@ pub fn accept_image<'a, 'b>(image: &'a [u8], index: &'b mut [usize]) -> Acceptan
     fill_index(image, index);
     match decode_image(image, index) {
         Decoded::Refused { fault, record } => Acceptance::Declined,
-        Decoded::Sound(z) => granted_by(judge_sound(image, index, z), z),
+        Decoded::Sound(sizes) => granted_by(judge_sound(image, index, sizes), sizes),
     }
 }

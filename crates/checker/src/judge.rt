@@ -103,7 +103,7 @@ fn judge_by<'a, 'b>(image: &'a [u8], index: &'b mut [usize]) -> Verdict
     fill_index(image, index);
     match decode_image(image, index) {
         Decoded::Refused { fault, record } => Verdict::Refused { fault, record },
-        Decoded::Sound(z) => judge_sound(image, index, z),
+        Decoded::Sound(sizes) => judge_sound(image, index, sizes),
     }
 }
 

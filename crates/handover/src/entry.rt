@@ -31,7 +31,15 @@ fn code_by<'a, 'b, 'c, 'd, 'e>(
 {
     match accept_image(new, new_index) {
         Acceptance::Declined => Handover::UNLIKE,
-        Acceptance::Granted(y) => handover_code(old, old_index, sizes, new, new_index, y, table),
+        Acceptance::Granted(new_sizes) => handover_code(
+            old,
+            old_index,
+            sizes,
+            new,
+            new_index,
+            new_sizes,
+            table,
+        ),
     }
 }
 
@@ -48,11 +56,11 @@ fn code_from<'a, 'b, 'c, 'd>(
         (acceptance (now (new .entry))) ⌝ }
 {
     if new.len() <= IndexSize::SHORT_IMAGE {
-        let mut nx = [0usize; IndexSize::SHORT];
-        return code_by(old, old_index, sizes, new, &mut nx, table);
+        let mut new_index = [0usize; IndexSize::SHORT];
+        return code_by(old, old_index, sizes, new, &mut new_index, table);
     }
-    let mut nx = [0usize; IndexSize::LONG];
-    code_by(old, old_index, sizes, new, &mut nx, table)
+    let mut new_index = [0usize; IndexSize::LONG];
+    code_by(old, old_index, sizes, new, &mut new_index, table)
 }
 
 // The code of a handover, with `old_index` as scratch memory: zeros, tableSize(old) of them.
@@ -67,7 +75,7 @@ fn permit_by<'a, 'b, 'c, 'd>(
 {
     match accept_image(old, old_index) {
         Acceptance::Declined => Handover::UNLIKE,
-        Acceptance::Granted(z) => code_from(old, old_index, z, new, table),
+        Acceptance::Granted(sizes) => code_from(old, old_index, sizes, new, table),
     }
 }
 
@@ -80,9 +88,9 @@ pub extern "C" fn check_handover(old: &[u8], new: &[u8], table: &[u8]) -> u16
     ensures { λ r. ⌜ Promise (now (old .entry)) (now (new .entry)) (now (table .entry)) r ⌝ }
 {
     if old.len() <= IndexSize::SHORT_IMAGE {
-        let mut ox = [0usize; IndexSize::SHORT];
-        return permit_by(old, &mut ox, new, table);
+        let mut old_index = [0usize; IndexSize::SHORT];
+        return permit_by(old, &mut old_index, new, table);
     }
-    let mut ox = [0usize; IndexSize::LONG];
-    permit_by(old, &mut ox, new, table)
+    let mut old_index = [0usize; IndexSize::LONG];
+    permit_by(old, &mut old_index, new, table)
 }

@@ -150,14 +150,14 @@ fn replay_from_by<'a, 'b, 'c, 'd, 'e, 'f, 'g, 'h>(
 {
     match accept_image(new, new_index) {
         Acceptance::Declined => refuse(new, Handover::UNLIKE as u8),
-        Acceptance::Granted(y) => {
+        Acceptance::Granted(new_sizes) => {
             replay_between(
                 old,
                 old_index,
                 sizes,
                 new,
                 new_index,
-                y,
+                new_sizes,
                 points,
                 first,
                 second,
@@ -185,13 +185,13 @@ fn replay_from<'a, 'b, 'c, 'd, 'e, 'f, 'g>(
         (now (given .entry)) room (Granted sizes) (acceptance (now (new .entry))) ⌝ }
 {
     if new.len() <= IndexSize::SHORT_IMAGE {
-        let mut nx = [0usize; IndexSize::SHORT];
+        let mut new_index = [0usize; IndexSize::SHORT];
         return replay_from_by(
             old,
             old_index,
             sizes,
             new,
-            &mut nx,
+            &mut new_index,
             points,
             first,
             second,
@@ -199,13 +199,13 @@ fn replay_from<'a, 'b, 'c, 'd, 'e, 'f, 'g>(
             room,
         );
     }
-    let mut nx = [0usize; IndexSize::LONG];
+    let mut new_index = [0usize; IndexSize::LONG];
     replay_from_by(
         old,
         old_index,
         sizes,
         new,
-        &mut nx,
+        &mut new_index,
         points,
         first,
         second,
@@ -231,11 +231,11 @@ fn replay_across_by<'a, 'b, 'c, 'd, 'e, 'f, 'g>(
 {
     match accept_image(old, old_index) {
         Acceptance::Declined => refuse(old, Handover::UNLIKE as u8),
-        Acceptance::Granted(z) => {
+        Acceptance::Granted(sizes) => {
             replay_from(
                 old,
                 old_index,
-                z,
+                sizes,
                 new,
                 points,
                 first,
@@ -261,11 +261,11 @@ pub fn replay_across<'a, 'b, 'c, 'd, 'e, 'f>(
         (now (given .entry)) lent ⌝ }
 {
     if old.len() <= IndexSize::SHORT_IMAGE {
-        let mut ox = [0usize; IndexSize::SHORT];
-        return replay_across_by(old, &mut ox, new, points, first, second, given, lent);
+        let mut old_index = [0usize; IndexSize::SHORT];
+        return replay_across_by(old, &mut old_index, new, points, first, second, given, lent);
     }
-    let mut ox = [0usize; IndexSize::LONG];
-    replay_across_by(old, &mut ox, new, points, first, second, given, lent)
+    let mut old_index = [0usize; IndexSize::LONG];
+    replay_across_by(old, &mut old_index, new, points, first, second, given, lent)
 }
 
 // The answer of the replay, and the writes for the caller's table of `lent` entries.

@@ -14,21 +14,21 @@ pub struct Seen {
     pub count: [u16; 8],
 }
 
-// Checks that a record whose kind has place `kind` in the order may follow: the last kind again or the next one, and not too often.
-pub fn admit_kind(last: usize, count: &[u16], kind: usize) -> Checked
+// Checks that a record whose kind has place `place` in the order may follow: the last kind again or the next one, and not too often.
+pub fn admit_kind(last: usize, count: &[u16], place: usize) -> Checked
     requires { ⌜ length (now count) ≡ 8 ⌝ }
-    ensures { λ r. ⌜ r ≡ admit (record { last = last; count = now (count .entry) }) kind ⌝ }
+    ensures { λ r. ⌜ r ≡ admit (record { last = last; count = now (count .entry) }) place ⌝ }
 {
-    if Kind::LAST < kind {
+    if Kind::LAST < place {
         return Checked::Faulty(Fault::Kind);
     }
-    if kind < last {
+    if place < last {
         return Checked::Faulty(Fault::Kind);
     }
-    if 1 < kind - last {
+    if 1 < place - last {
         return Checked::Faulty(Fault::Kind);
     }
-    if count[kind] < Kind::MOST[kind] {
+    if count[place] < Kind::MOST[place] {
         return Checked::Passed;
     }
     Checked::Faulty(Fault::Kind)

@@ -85,12 +85,12 @@ pub fn fill_rows<'a, 'b>(image: &'a [u8], index: &'b mut [usize], from: usize, p
     requires { ⌜ from + 64 ≤ length (now index) ⌝ }
     ensures { λ _. ⌜ now (index .exit) ≡ rowsTo (now (image .entry)) (now (index .entry)) from position 4 ⌝ }
 {
-    let mut other = position;
+    let mut at = position;
     let mut j: usize = 0;
     while j < Limits::THREADS {
-        let b = body_at(image, other);
+        let b = body_at(image, at);
         fill_row(b, index, from + 16 * j);
-        other = next_start(image, other);
+        at = next_start(image, at);
         j += 1;
     }
 }

@@ -35,7 +35,7 @@ fn replay_by<'a, 'b, 'c, 'd>(
             words: 0,
             machine: start_machine(&image[0..0], 0, &image[0..0]),
         },
-        Acceptance::Granted(z) => replay_on(image, index, z, trace, given, room_of(lent)),
+        Acceptance::Granted(sizes) => replay_on(image, index, sizes, trace, given, room_of(lent)),
     }
 }
 

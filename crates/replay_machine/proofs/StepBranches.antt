@@ -57,13 +57,13 @@ module _ (g : MemoryShape) (l : List ℕ) (words room t p : ℕ) (d : Effect) (b
 pub ruleset pick-refusal-branches = (pick-not, pick-plain, pick-room, pick-full)
 
 pub perform-made : (n : Threads) (b c : List ℕ) (R t p k : ℕ) (d : Effect) (old : Write) (g : MemoryShape) (h : Registers)
-    → old ≡ writeAt (memoryOf (n .sight) b) (d .word) p → k ≡ pointAfter (getD (n .points) (t % 4) 0) d
-    → memoryOf g c ≡ memoryAfter (memoryOf (n .sight) b) R d t p → h ≡ registersAfter (n .registers) (old .value) d
-    → machineOf (record { sight = g; registers = h; points = set (n .points) (t % 4) k }) c ≡ performed (machineOf n b) R d t p
+    → old ≡ writeAt (memoryOf (n .shape) b) (d .word) p → k ≡ pointAfter (getD (n .points) (t % 4) 0) d
+    → memoryOf g c ≡ memoryAfter (memoryOf (n .shape) b) R d t p → h ≡ registersAfter (n .registers) (old .value) d
+    → machineOf (record { shape = g; registers = h; points = set (n .points) (t % 4) k }) c ≡ performed (machineOf n b) R d t p
 unfolding performed pointOf machineOf
 perform-made n b c R t p k d old g h eo ek em eh = rw (em, eh, eo, ek)
 
-pub machine-made : (h : Threads) (b : List ℕ) (m : Memory) → m ≡ memoryOf (h .sight) b
+pub machine-made : (h : Threads) (b : List ℕ) (m : Memory) → m ≡ memoryOf (h .shape) b
     → record { memory = m; registers = h .registers; points = h .points } ≡ machineOf h b
 unfolding machineOf
 machine-made h b m e = rw e
@@ -115,7 +115,7 @@ module _ (s : List ℕ) (z : Sizes) (room : ℕ) (n : Threads) (b : List ℕ) (t
           rw (ne-eqb _ _ a, le-ltb _ _ c, ← eu, ← point-is n b u, ← ek, ← el, lt-ltb _ _ h, ← q) er
 
 module _ (z : Sizes) (room : ℕ) (n : Threads) (b : List ℕ) (d : Effect) (t p c : ℕ)
-    (e : c ≡ pickRefusal (memoryOf (n .sight) b) (z .words) room d t p) where
+    (e : c ≡ pickRefusal (memoryOf (n .shape) b) (z .words) room d t p) where
   refusal-is : c ≡ pickRefusal (machineOf n b .memory) (z .words) room d t p
   unfolding machineOf
   refusal-is = e

@@ -25,8 +25,8 @@ performed n R d t p = record {
 
 -- the state, its writes read from the bytes b
 unfoldable pub machineOf : Threads → List ℕ → Machine
-machineOf h b = record { memory = memoryOf (h .sight) b; registers = h .registers; points = h .points }
+machineOf h b = record { memory = memoryOf (h .shape) b; registers = h .registers; points = h .points }
 
 -- the state without its writes
 unfoldable pub threadsOf : Machine → Threads
-threadsOf n = record { sight = record { sizes = n .memory .sizes; views = n .memory .views }; registers = n .registers; points = n .points }
+threadsOf n = record { shape = record { sizes = n .memory .sizes; views = n .memory .views }; registers = n .registers; points = n .points }

@@ -23,7 +23,7 @@ pub struct Machine {
 
 // A state without its writes, which are in a table of bytes: what a step passes on by value.
 pub struct Threads {
-    pub sight: MemoryShape,
+    pub shape: MemoryShape,
     pub registers: Registers,
     pub points: [u8; 4],
 }
@@ -38,7 +38,7 @@ pub fn threads_of(machine: Machine) -> Threads
     let registers = machine.registers;
     let points = machine.points;
     Threads {
-        sight: MemoryShape { sizes, views },
+        shape: MemoryShape { sizes, views },
         registers,
         points,
     }
@@ -51,7 +51,7 @@ pub fn machine_of(threads: Threads, table: &[u8; Places::BYTES]) -> Machine
     let registers = threads.registers;
     let points = threads.points;
     Machine {
-        memory: memory_of(threads.sight, table),
+        memory: memory_of(threads.shape, table),
         registers,
         points,
     }
@@ -78,14 +78,14 @@ pub fn perform(
     ensures { λ r. ⌜ machineOf r (now (table .exit)) ≡ performed (machineOf threads (now (table .entry))) range effect t position ⌝ }
     ensures { λ _. ⌜ length (now (table .exit)) ≡ 792 ⌝ }
 {
-    let g = threads.sight;
+    let g = threads.shape;
     let h = threads.registers;
     let mut points = threads.points;
     let i = (t % 4) as usize;
     let old = write_at(table, g, effect.word, position);
     points[i] = point_after(points[i], effect);
     Threads {
-        sight: memory_after(g, range, effect, t, position, table),
+        shape: memory_after(g, range, effect, t, position, table),
         registers: registers_after(h, old.value, effect),
         points,
     }

@@ -85,7 +85,7 @@ fn attempt(
     ensures { λ r. ⌜ takenOf r (now (table .exit)) ≡ attempted sizes room (machineOf threads (now (table .entry))) effect t position ⌝ }
     ensures { λ _. ⌜ length (now (table .exit)) ≡ 792 ⌝ }
 {
-    let code = pick_refusal(table, threads.sight, sizes.words, room, effect, t, position);
+    let code = pick_refusal(table, threads.shape, sizes.words, room, effect, t, position);
     if code == Refusal::ACCEPTED {
         return Taken {
             code,

@@ -16,7 +16,7 @@ fn trim_by<'a, 'b, 'c>(image: &'a [u8], index: &'b mut [usize], out: &'c mut [u8
         × (now (out .exit) ≡ bufferFor (now (image .entry)) (now (out .entry))) ⌝ }
 {
     match accept_image(image, index) {
-        Acceptance::Granted(z) => trim_accepted(image, index, z, out),
+        Acceptance::Granted(sizes) => trim_accepted(image, index, sizes, out),
         Acceptance::Declined => Answer {
             code: Answer::NOT_ACCEPTED,
             length: Answer::NOTHING,

@@ -16,13 +16,13 @@ pub fn mark_number(marks: &mut [bool], number: usize)
     marks[number] = true;
 }
 
-// Sets the marks of the first `number` 16-bit numbers in `body`.
-pub fn mark_numbers<'a, 'b>(body: &'a [u8], number: usize, marks: &'b mut [bool])
-    ensures { λ _. ⌜ now (marks .exit) ≡ markedBy (now (marks .entry)) (numbers number (now (body .entry))) ⌝ }
+// Sets the marks of the first `n` 16-bit numbers in `body`.
+pub fn mark_numbers<'a, 'b>(body: &'a [u8], n: usize, marks: &'b mut [bool])
+    ensures { λ _. ⌜ now (marks .exit) ≡ markedBy (now (marks .entry)) (numbers n (now (body .entry))) ⌝ }
 {
     let mut i: usize = 0;
-    while i < number {
-        let x = number_at(body, number, i);
+    while i < n {
+        let x = number_at(body, n, i);
         mark_number(marks, x);
         i += 1;
     }

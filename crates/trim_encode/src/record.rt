@@ -43,50 +43,50 @@ fn put_body<'a, 'b, 'c, 'd>(
     put_bytes(body, out, at)
 }
 
-// Writes the record with index `number`, counted from 0, as one of kind `kind`.
+// Writes the record with index `place`, counted from 0, as one of kind `kind`.
 pub fn put_record<'a, 'b, 'c, 'd, 'e>(
     image: &'a [u8],
     index: &'b [usize],
     formula_numbers: &'c [usize],
     line_numbers: &'d [usize],
     kind: usize,
-    number: usize,
+    place: usize,
     out: &'e mut [u8],
     at: usize,
 ) -> usize
     requires { ⌜ now index ≡ indexOf (now image) ⌝ }
-    requires { ⌜ at + length (recordBytes (now «formula_numbers») (now «line_numbers») (bodies (now image)) kind number) ≤ length
+    requires { ⌜ at + length (recordBytes (now «formula_numbers») (now «line_numbers») (bodies (now image)) kind place) ≤ length
         (now out) ⌝ }
     ensures { λ r. ⌜ now (out .exit)
         ≡ overwritten (now (out .entry)) at (recordBytes (now («formula_numbers» .entry)) (now («line_numbers» .entry))
-        (bodies (now (image .entry))) kind number) ⌝ }
+        (bodies (now (image .entry))) kind place) ⌝ }
     ensures { λ r. ⌜ r ≡ at + length (recordBytes (now («formula_numbers» .entry)) (now («line_numbers» .entry))
         (bodies (now (image .entry)))
-        kind number) ⌝ }
+        kind place) ⌝ }
 {
-    let body = body_of(image, index, number);
+    let body = body_of(image, index, place);
     let end = put_body(formula_numbers, line_numbers, kind, body, out, at + 4);
     put_frame(kind, out, at, end)
 }
 
-// Writes the record with index `number`, counted from 0, whose body is a list of `count` numbers, renumbered by one table.
+// Writes the record with index `place`, counted from 0, whose body is a list of `count` numbers, renumbered by one table.
 pub fn put_list<'a, 'b, 'c, 'd>(
     image: &'a [u8],
     index: &'b [usize],
     new_numbers: &'c [usize],
     kind: usize,
-    number: usize,
+    place: usize,
     count: usize,
     out: &'d mut [u8],
     at: usize,
 ) -> usize
     requires { ⌜ now index ≡ indexOf (now image) ⌝ }
-    requires { ⌜ at + length (listBytes (now «new_numbers») (bodies (now image)) kind number count) ≤ length (now out) ⌝ }
+    requires { ⌜ at + length (listBytes (now «new_numbers») (bodies (now image)) kind place count) ≤ length (now out) ⌝ }
     ensures { λ r. ⌜ now (out .exit) ≡ overwritten (now (out .entry)) at
-        (listBytes (now («new_numbers» .entry)) (bodies (now (image .entry))) kind number count) ⌝ }
-    ensures { λ r. ⌜ r ≡ at + length (listBytes (now («new_numbers» .entry)) (bodies (now (image .entry))) kind number count) ⌝ }
+        (listBytes (now («new_numbers» .entry)) (bodies (now (image .entry))) kind place count) ⌝ }
+    ensures { λ r. ⌜ r ≡ at + length (listBytes (now («new_numbers» .entry)) (bodies (now (image .entry))) kind place count) ⌝ }
 {
-    let body = body_of(image, index, number);
+    let body = body_of(image, index, place);
     let end = put_numbers(new_numbers, body, count, out, at + 4);
     put_frame(kind, out, at, end)
 }

@@ -33,11 +33,20 @@ fn write_numbered<'a, 'b, 'c, 'd, 'e>(
     requires { ⌜ length (trimmedBytes sizes (now image)) ≤ length (now out) ⌝ }
     ensures { λ _. ⌜ now (out .exit) ≡ bufferBy (trimmedBytes sizes (now (image .entry))) (now (out .entry)) ⌝ }
 {
-    let mut f = [0usize; Limits::FORMULAS + 1];
-    fill_numbers(live_formulas, &mut f);
-    let mut g = [0usize; Limits::LINES + 1];
-    fill_numbers(live_lines, &mut g);
-    write_trimmed(image, index, sizes, &f, &g, live_formulas, live_lines, out);
+    let mut formula_numbers = [0usize; Limits::FORMULAS + 1];
+    fill_numbers(live_formulas, &mut formula_numbers);
+    let mut line_numbers = [0usize; Limits::LINES + 1];
+    fill_numbers(live_lines, &mut line_numbers);
+    write_trimmed(
+        image,
+        index,
+        sizes,
+        &formula_numbers,
+        &line_numbers,
+        live_formulas,
+        live_lines,
+        out,
+    );
 }
 
 // Writes the trimmed image and returns its length; if the buffer is too short, it stays and the code is 25.
@@ -51,18 +60,18 @@ pub fn trim_accepted<'a, 'b, 'c>(
     ensures { λ r. ⌜ (r ≡ answeredBy (trimmedBytes sizes (now (image .entry))) (now (out .entry)))
         × (now (out .exit) ≡ bufferBy (trimmedBytes sizes (now (image .entry))) (now (out .entry))) ⌝ }
 {
-    let mut k = [false; Limits::LINES + 1];
-    mark_live_lines(image, index, sizes, &mut k);
-    let mut u = [false; Limits::FORMULAS + 1];
-    mark_live_formulas(image, index, sizes, &k, &mut u);
-    let length = trimmed_length(image, index, sizes, &k, &u);
+    let mut live_lines = [false; Limits::LINES + 1];
+    mark_live_lines(image, index, sizes, &mut live_lines);
+    let mut live_formulas = [false; Limits::FORMULAS + 1];
+    mark_live_formulas(image, index, sizes, &live_lines, &mut live_formulas);
+    let length = trimmed_length(image, index, sizes, &live_lines, &live_formulas);
     if out.len() < length {
         return Answer {
             code: Answer::SHORT,
             length: Answer::NOTHING,
         };
     }
-    write_numbered(image, index, sizes, &u, &k, out);
+    write_numbered(image, index, sizes, &live_formulas, &live_lines, out);
     Answer {
         code: Answer::DONE,
         length: length,
