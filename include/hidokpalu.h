@@ -4,11 +4,11 @@
  * Link target/staticlib/libchecker.a, which `rt staticlib checker` writes (x86-64 Linux). Besides `check_image` it
  * needs memcpy and memset of the C library, and nothing else: no heap, no files, no state from one call to the next.
  * So any number of threads may call it at once. It needs 51 KB of stack on the smallest image; the most that was measured,
- * over all stored images, is 129 KB, for a test nested as deep as it may be. Give it 192 KB. `trim_image` is in libtrimming.a
- * (`rt staticlib trimming`) and takes 44 KB more: give it 256 KB. `replay_trace` is in libreplaying.a (`rt staticlib replaying`)
+ * over all stored images, is 129 KB, for a test nested as deep as it may be. Give it 192 KB. `trim_image` is in libtrim.a
+ * (`rt staticlib trim`) and takes 44 KB more: give it 256 KB. `replay_trace` is in libreplay.a (`rt staticlib replay`)
  * and takes 10 KB more than `check_image`. `check_handover` is in libhandover.a (`rt staticlib handover`) and takes 46 KB more,
- * `replay_handover` in libreplay_across.a (`rt staticlib replay_across`) 53 KB more: give them 256 KB. `open_service` and the
- * `serve_` calls are in libdesks.a (`rt staticlib desks`) and take at most 5 KB more than the calls without a service,
+ * `replay_handover` in libhandover_replay.a (`rt staticlib handover_replay`) 53 KB more: give them 256 KB. `open_service` and the
+ * `serve_` calls are in libservice.a (`rt staticlib service`) and take at most 5 KB more than the calls without a service,
  * `serve_bill` than `check_image`; what a service remembers stands in numbers that the host lends. All may be linked together.
  */
 #ifndef HIDOKPALU_H
@@ -39,10 +39,12 @@ enum hidokpalu_code {
     HIDOKPALU_OPERAND = 23,       /* the operand of an exchange or a fetch-add names its result register */
     /* The first obligation that is not met. */
     HIDOKPALU_NO_LINE = 20,       /* it names no line of the certificate */
-    HIDOKPALU_OTHER_CLAIM = 21,   /* its line concludes something else */
+    HIDOKPALU_OTHER_CONCLUSION = 21, /* its line concludes something else */
     HIDOKPALU_UNJUSTIFIED = 22,   /* its line is not justified */
     /* Every obligation is met, and a claim is not borne out. */
-    HIDOKPALU_CLAIM = 26          /* the first whose line is missing, concludes something else or is not justified */
+    HIDOKPALU_CLAIM = 26,         /* the first whose line is missing, concludes something else or is not justified */
+    /* Deprecated: the former name of HIDOKPALU_OTHER_CONCLUSION, which speaks of no claim. It stays for callers that have it. */
+    HIDOKPALU_OTHER_CLAIM = HIDOKPALU_OTHER_CONCLUSION
 };
 
 /* The class of an obligation. */

@@ -3,13 +3,13 @@
 
 /// Archives that may be missing, a call of each, and what the program is told if it is there.
 const FURTHER: [(&str, &str, &str); 7] = [
-    ("trimming", "trim_image", "proved_trim"),
-    ("replaying", "replay_trace", "proved_replay"),
+    ("trim", "trim_image", "proved_trim"),
+    ("replay", "replay_trace", "proved_replay"),
     ("handover", "check_handover", "proved_handover"),
-    ("replay_across", "replay_handover", "proved_across"),
-    ("desks", "serve_bill", "proved_desks"),
-    ("desks", "serve_replay", "proved_replays"),
-    ("desks", "serve_replay_handover", "proved_crossings"),
+    ("handover_replay", "replay_handover", "proved_across"),
+    ("service", "serve_bill", "proved_service"),
+    ("service", "serve_replay", "proved_replays"),
+    ("service", "serve_replay_handover", "proved_crossings"),
 ];
 
 fn main() {

@@ -6,9 +6,9 @@ use std::process::Command;
 
 /// Archives that may be missing, and what the program is told if they are there.
 const FURTHER: [(&str, &str); 4] = [
-    ("trimming", "proved_trim"),
-    ("desks", "proved_desks"),
-    ("replaying", "proved_replay"),
+    ("trim", "proved_trim"),
+    ("service", "proved_service"),
+    ("replay", "proved_replay"),
     ("handover", "proved_handover"),
 ];
 

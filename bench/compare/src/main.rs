@@ -26,7 +26,7 @@ fn main() -> ExitCode {
         ["handover", ref numbers @ ..] => {
             linked(proved::HANDOVER.is_some(), "handover").and_then(|()| handovers(numbers))
         }
-        ["desks", ref numbers @ ..] => desks(numbers),
+        ["desks", ref numbers @ ..] => sessions(numbers),
         ["files", ref paths @ ..] => Ok(driver::files(&driver::CHECK, paths)),
         ["trim-files", ref paths @ ..] => trimming().map(|task| driver::files(&task, paths)),
         ["bill-files", ref paths @ ..] => billing().map(|task| driver::files(&task, paths)),
@@ -61,10 +61,10 @@ fn handovers(numbers: &[&str]) -> Result<bool, String> {
     count_and_seed(numbers).map(|(pairs, seed)| driver::handover::run(pairs, seed))
 }
 
-/// The same on sessions of several desks with so many calls together.
-fn desks(numbers: &[&str]) -> Result<bool, String> {
-    let desks = proved::DESKS.ok_or_else(|| missing("desks"))?;
-    count_and_seed(numbers).map(|(calls, seed)| driver::desks::run(&desks, calls, seed))
+/// The same on sessions of several callers with so many calls together.
+fn sessions(numbers: &[&str]) -> Result<bool, String> {
+    let service = proved::SERVICE.ok_or_else(|| missing("service"))?;
+    count_and_seed(numbers).map(|(calls, seed)| driver::service::run(&service, calls, seed))
 }
 
 /// How many, and the seed of the first: 1, or the one given.
@@ -78,15 +78,15 @@ fn count_and_seed(numbers: &[&str]) -> Result<(u64, u64), String> {
 }
 
 fn trimming() -> Result<Task, String> {
-    linked(proved::TRIM.is_some(), "trimming").map(|()| driver::TRIM)
+    linked(proved::TRIM.is_some(), "trim").map(|()| driver::TRIM)
 }
 
 fn billing() -> Result<Task, String> {
-    linked(proved::BILL.is_some(), "desks").map(|()| driver::BILL)
+    linked(proved::BILL.is_some(), "service").map(|()| driver::BILL)
 }
 
 fn replaying() -> Result<Replay, String> {
-    linked(proved::REPLAY.is_some(), "replaying")?;
+    linked(proved::REPLAY.is_some(), "replay")?;
     Ok(proved::REPLAY.expect("it is linked"))
 }
 

@@ -6,7 +6,6 @@
 pub mod assemble;
 pub mod bill;
 pub mod checker;
-pub mod desks;
 pub mod explore;
 pub mod formula;
 pub mod handover;
@@ -14,5 +13,6 @@ pub mod image;
 pub mod machine;
 pub mod proof;
 pub mod replay;
+pub mod service;
 pub mod stored;
 pub mod trim;

@@ -1,2 +1,2 @@
-pub mod Verdicts
-pub mod Granted
+pub mod JudgeBranches
+pub mod AcceptanceBranches

@@ -1,22 +1,22 @@
-// What an accepted image holds, for calls that go on from there: trimming, bills.
+// Whether an image is accepted, for the calls that need an accepted image: trimming, bills, replay, handover.
 use crate::judge::judge_sound;
+use checker_spec::acceptance::Acceptance;
 use image::decode::Decoded;
 use image::decode::decode_image;
-use index::table::fill_index;
-use program::sizes::Sizes;
-use promise::acceptance::Acceptance;
-use report::verdict::Verdict;
+use image_header::sizes::Sizes;
+use image_index::table::fill_index;
+use verdict_record::verdict::Verdict;
 ghost use mathlib.Core.Path.{_≡_};
 ghost use lib.ListN.{replicate};
-ghost use Rattle.index.specs.Table.{tableSize, indexOf};
-ghost use Rattle.promise.specs.Acceptance.{grantedBy, acceptance};
+ghost use Rattle.image_index.specs.IndexTable.{tableSize, indexOf};
+ghost use Rattle.checker_spec.specs.Acceptance.{grantedBy, acceptance};
 
-// By the verdict on sound bytes.
-fn granted_by(v: Verdict, z: Sizes) -> Acceptance
-    ensures { λ r. ⌜ r ≡ grantedBy z v ⌝ }
+// Acceptance of an image with these sizes, by its verdict.
+fn granted_by(verdict: Verdict, sizes: Sizes) -> Acceptance
+    ensures { λ r. ⌜ r ≡ grantedBy sizes verdict ⌝ }
 {
-    match v {
-        Verdict::Accepted { count } => Acceptance::Granted(z),
+    match verdict {
+        Verdict::Accepted { count } => Acceptance::Granted(sizes),
         Verdict::Refused { fault, record } => Acceptance::Declined,
         Verdict::Failed {
             what,
@@ -33,7 +33,7 @@ fn granted_by(v: Verdict, z: Sizes) -> Acceptance
     }
 }
 
-// How much an image holds, if it is accepted. Fills the index of its records, a table of zeros as long as the image asks for.
+// Whether the image is accepted, and the counts of its records. `index`, tableSize(image) zeros, is filled with where its records are.
 pub fn accept_image<'a, 'b>(image: &'a [u8], index: &'b mut [usize]) -> Acceptance
     requires { ⌜ now index ≡ replicate (tableSize (now image)) 0 ⌝ }
     ensures { λ r. ⌜ (r ≡ acceptance (now (image .entry))) × (now (index .exit) ≡ indexOf (now (image .entry))) ⌝ }
@@ -41,6 +41,6 @@ pub fn accept_image<'a, 'b>(image: &'a [u8], index: &'b mut [usize]) -> Acceptan
     fill_index(image, index);
     match decode_image(image, index) {
         Decoded::Refused { fault, record } => Acceptance::Declined,
-        Decoded::Sound(z) => granted_by(judge_sound(image, index, z), z),
+        Decoded::Sound(sizes) => granted_by(judge_sound(image, index, sizes), sizes),
     }
 }

@@ -1,82 +1,87 @@
-// The verdict on an image: the first fault of its bytes, or the first obligation that is not met, or the first claim that fails, or
-// accepted.
-use frames::fault::Fault;
+// The verdict on an image: the first fault of its bytes, or the first obligation that is not met, or the first failing claim, or accepted.
 use image::decode::Decoded;
 use image::decode::decode_image;
-use index::table::IndexSize;
-use index::table::fill_index;
-use judging::judge::judge_obligations;
-use justify::pass::judge_lines;
-use lookups::claim::Claimed;
-use lookups::claim::claim_of;
-use lookups::claim::claim_place;
-use outcomes::claims::first_denied;
-use outcomes::outcome::Outcome;
-use program::sizes::Sizes;
-use report::obligation::Place;
-use report::verdict::Verdict;
+use image_access::claim::Claimed;
+use image_access::claim::claim_of;
+use image_access::claim::claim_place;
+use image_frames::fault::Fault;
+use image_header::sizes::Sizes;
+use image_index::table::IndexSize;
+use image_index::table::fill_index;
+use obligations::all_obligations::judge_obligations;
+use obligations::claims::first_denied;
+use obligations::judgement::Judgement;
+use rules_justified::justify::judge_lines;
+use verdict_record::obligation::Place;
+use verdict_record::verdict::Verdict;
 ghost use mathlib.Core.Path.{_≡_};
 ghost use lib.ListN.{replicate};
-ghost use Rattle.index.specs.Table.{tableSize, indexOf};
-ghost use Rattle.promise.specs.Answer.{verdict, verdictWithin};
-ghost use Rattle.checker.specs.Found.{pointsOf, deniedAt, claimsVerdict, soundVerdict};
-ghost use Rattle.marks.specs.Marks.{asMarks};
+ghost use Rattle.image_index.specs.IndexTable.{tableSize, indexOf};
+ghost use Rattle.checker_spec.specs.ImageVerdict.{verdict, verdictWithin};
+ghost use Rattle.checker.specs.VerdictFound.{pointsOf, deniedAt, claimsVerdict, soundVerdict};
+ghost use Rattle.rules_justified.specs.Marks.{asMarks};
 ghost use Prim.Native.Nat.{_<_};
 
-// A claim is of no class of obligations.
-fn points_of(c: Claimed) -> Place
-    ensures { λ r. ⌜ r ≡ pointsOf c ⌝ }
+// The place of a claim in a verdict: claims have class 0.
+fn points_of(claim: Claimed) -> Place
+    ensures { λ r. ⌜ r ≡ pointsOf claim ⌝ }
 {
     Place {
         class: 0,
-        thread: c.thread as usize,
-        point: c.point as usize,
-        other_thread: c.other as usize,
-        other_point: c.other_point as usize,
+        thread: claim.thread as usize,
+        point: claim.point as usize,
+        other_thread: claim.other as usize,
+        other_point: claim.other_point as usize,
     }
 }
 
-// Claim i fails, behind so many obligations.
-fn deny<'a, 'b>(s: &'a [u8], ix: &'b [usize], z: Sizes, i: usize, count: usize) -> Verdict
-    requires { ⌜ (now ix ≡ indexOf (now s)) × (i < 65536) ⌝ }
-    ensures { λ r. ⌜ r ≡ deniedAt (now (s .entry)) z i count ⌝ }
+// The verdict that claim `i` fails; `count` obligations are met.
+fn deny<'a, 'b>(
+    image: &'a [u8],
+    index: &'b [usize],
+    sizes: Sizes,
+    i: usize,
+    count: usize,
+) -> Verdict
+    requires { ⌜ (now index ≡ indexOf (now image)) × (i < 65536) ⌝ }
+    ensures { λ r. ⌜ r ≡ deniedAt (now (image .entry)) sizes i count ⌝ }
 {
-    let c = claim_of(s, ix, z, i);
+    let claim = claim_of(image, index, sizes, i);
     Verdict::Denied {
-        record: claim_place(z, i),
-        place: points_of(c),
-        line: c.line,
+        record: claim_place(sizes, i),
+        place: points_of(claim),
+        line: claim.line,
         count,
     }
 }
 
-// The claims, behind so many obligations, all met.
+// The verdict by the claims, once all obligations, `count` of them, are met.
 fn judge_claims<'a, 'b, 'c>(
-    s: &'a [u8],
-    ix: &'b [usize],
-    z: Sizes,
-    m: &'c [bool],
+    image: &'a [u8],
+    index: &'b [usize],
+    sizes: Sizes,
+    marks: &'c [bool],
     count: usize,
 ) -> Verdict
-    requires { ⌜ now ix ≡ indexOf (now s) ⌝ }
-    ensures { λ r. ⌜ r ≡ claimsVerdict (now (s .entry)) z (asMarks (now (m .entry))) count ⌝ }
+    requires { ⌜ now index ≡ indexOf (now image) ⌝ }
+    ensures { λ r. ⌜ r ≡ claimsVerdict (now (image .entry)) sizes (asMarks (now (marks .entry))) count ⌝ }
 {
-    let i = first_denied(s, ix, z, m);
-    if i == z.claims as usize {
+    let i = first_denied(image, index, sizes, marks);
+    if i == sizes.claims as usize {
         return Verdict::Accepted { count };
     }
-    deny(s, ix, z, i, count)
+    deny(image, index, sizes, i, count)
 }
 
-// On an image whose bytes are sound.
-pub fn judge_sound<'a, 'b>(s: &'a [u8], ix: &'b [usize], z: Sizes) -> Verdict
-    requires { ⌜ now ix ≡ indexOf (now s) ⌝ }
-    ensures { λ r. ⌜ r ≡ soundVerdict (now (s .entry)) z ⌝ }
+// The verdict on a well-formed image, by its obligations and claims.
+pub fn judge_sound<'a, 'b>(image: &'a [u8], index: &'b [usize], sizes: Sizes) -> Verdict
+    requires { ⌜ now index ≡ indexOf (now image) ⌝ }
+    ensures { λ r. ⌜ r ≡ soundVerdict (now (image .entry)) sizes ⌝ }
 {
-    let m = judge_lines(s, ix, z);
-    match judge_obligations(s, ix, z, &m.on) {
-        Outcome::Met(count) => judge_claims(s, ix, z, &m.on, count),
-        Outcome::Failed {
+    let marks = judge_lines(image, index, sizes);
+    match judge_obligations(image, index, sizes, &marks.on) {
+        Judgement::Met(count) => judge_claims(image, index, sizes, &marks.on, count),
+        Judgement::Failed {
             what,
             code,
             line,
@@ -90,7 +95,7 @@ pub fn judge_sound<'a, 'b>(s: &'a [u8], ix: &'b [usize], z: Sizes) -> Verdict
     }
 }
 
-// With a table of zeros, as long as the image asks for.
+// The verdict on the image; `index` is scratch memory that the caller passes as tableSize(image) zeros.
 fn judge_by<'a, 'b>(image: &'a [u8], index: &'b mut [usize]) -> Verdict
     requires { ⌜ now index ≡ replicate (tableSize (now image)) 0 ⌝ }
     ensures { λ r. ⌜ r ≡ verdict (now (image .entry)) ⌝ }
@@ -98,10 +103,11 @@ fn judge_by<'a, 'b>(image: &'a [u8], index: &'b mut [usize]) -> Verdict
     fill_index(image, index);
     match decode_image(image, index) {
         Decoded::Refused { fault, record } => Verdict::Refused { fault, record },
-        Decoded::Sound(z) => judge_sound(image, index, z),
+        Decoded::Sound(sizes) => judge_sound(image, index, sizes),
     }
 }
 
+// The verdict on the image. A short image gets a short index, which is cleared sooner.
 pub fn judge(image: &[u8]) -> Verdict
     ensures { λ r. ⌜ r ≡ verdict (now (image .entry)) ⌝ }
 {
@@ -113,7 +119,7 @@ pub fn judge(image: &[u8]) -> Verdict
     judge_by(image, &mut index)
 }
 
-// For a caller that takes images of so many bytes at most.
+// The verdict for a caller that takes images of at most `most` bytes; a longer one is refused with code 2.
 pub fn judge_within(image: &[u8], most: usize) -> Verdict
     ensures { λ r. ⌜ r ≡ verdictWithin most (now (image .entry)) ⌝ }
 {

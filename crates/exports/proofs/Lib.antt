@@ -1,2 +1,2 @@
-pub mod Numbers
-pub mod Truths
+pub mod ExportBranches
+pub mod RowsBranches

@@ -1,5 +1,5 @@
-// Functions for Rust to call, in benchmarks.
-pub mod trying;
+// Functions for the benchmarks, which call them from Rust: each result is one number.
+pub mod rows;
 
 use formula::reader::Counts;
 use formula::reader::Fault;
@@ -7,25 +7,25 @@ use formula::reader::Reading;
 use formula::reader::read_formula;
 use image::decode::Decoded;
 use image::decode::decode_image;
-use index::table::IndexSize;
-use index::table::fill_index;
-use report::code::code_of;
+use image_index::table::IndexSize;
+use image_index::table::fill_index;
+use verdict_record::fault_code::code_of;
 ghost use mathlib.Core.Path.{_≡_};
 ghost use Prim.Native.Nat.{_+_};
 ghost use lib.ListN.{replicate};
 ghost use Rattle.formula.specs.Reader.{limit, readingOf};
-ghost use Rattle.index.specs.Table.{tableSize};
+ghost use Rattle.image_index.specs.IndexTable.{tableSize};
 ghost use Rattle.image.specs.Decode.{decoded};
 ghost use Rattle.exports.specs.Answers.{ofReading, ofDecoded};
 
-// The number of a sort, past those of the faults.
+// The number of a sort, behind the numbers of the faults.
 fn past_faults(sort: u8) -> usize
     ensures { λ r. ⌜ r ≡ limit + sort ⌝ }
 {
     Fault::LIMIT + sort as usize
 }
 
-// The answer of `read_formula` as one number: a fault, or a sort and `Fault::LIMIT`.
+// The result of `read_formula` as one number: a fault, or the sort plus `Fault::LIMIT`.
 #[no_mangle]
 pub extern "C" fn formula_answer(
     body: &[u8],
@@ -38,19 +38,19 @@ pub extern "C" fn formula_answer(
         ⌜ r ≡ ofReading (readingOf (now (body .entry))
         (record { threads = threads; words = words; registers = registers; values = values })) ⌝ }
 {
-    let n = Counts {
+    let counts = Counts {
         threads,
         words,
         registers,
         values,
     };
-    match read_formula(body, n) {
+    match read_formula(body, counts) {
         Reading::Formula(sort) => past_faults(sort),
         Reading::Fault(fault) => fault,
     }
 }
 
-// With a table of zeros, as long as the image asks for. (No image has 65,536 records; the remainder spares a proof of that.)
+// Decodes with `index` as scratch memory: zeros, tableSize(image) of them. No image has 65,536 records; `%` spares a proof of that.
 fn answer_by<'a, 'b>(image: &'a [u8], index: &'b mut [usize]) -> usize
     requires { ⌜ now index ≡ replicate (tableSize (now image)) 0 ⌝ }
     ensures { λ r. ⌜ r ≡ ofDecoded (decoded (now (image .entry))) ⌝ }
@@ -62,7 +62,7 @@ fn answer_by<'a, 'b>(image: &'a [u8], index: &'b mut [usize]) -> usize
     }
 }
 
-// The answer of `decode_image` as one number: 0 for a sound image, else the code times 65,536 and the record.
+// The result of `decode_image` as one number: 0 for a well-formed image, else the code times 65,536, plus the record.
 #[no_mangle]
 pub extern "C" fn image_answer(image: &[u8]) -> usize
     ensures { λ r. ⌜ r ≡ ofDecoded (decoded (now (image .entry))) ⌝ }

@@ -1,5 +1,5 @@
-pub mod Auto
-pub mod Codes
-pub mod Nodes
-pub mod Faults
-pub mod Ends
+pub mod BranchTests
+pub mod CodeSets
+pub mod NodeBranches
+pub mod ReaderBranches
+pub mod EndBranches

@@ -13,17 +13,19 @@ use Rattle.formula.specs.declared.reader.Counts.{Counts}
 use Rattle.formula.specs.declared.reader.Reading.{Reading}
 use Rattle.formula.specs.declared.reader.Reading.the-variants.{Formula, Fault}
 
--- a number outside its range; a code unknown or unfit at its place, nesting, bytes missing or left over
+-- code 6, a number outside its range
 abbrev pub range : ℕ
 range = 6
 
+-- code 7, "code unknown or unfit at its place, nesting, cut short, left over"
 abbrev pub malformed : ℕ
 malformed = 7
 
--- an answer is a fault, or a position and 8
+-- a result is a fault, or a position plus 8
 abbrev pub limit : ℕ
 limit = 8
 
+-- the fault, or the position end plus 8 if there is none
 abbrev pub answer : ℕ → ℕ → ℕ
 answer fault end = cond (eqb fault 0) (end + limit) fault
 
@@ -34,9 +36,11 @@ inRange n c o =
     (cond (eqb o 0) false
     (cond (eqb c (byte Code.reg)) (leb o (n .registers)) (cond (eqb c (byte Code.sees)) (leb o (n .threads)) (leb o (n .words)))))
 
+-- the fault of the operand at a position, of the code c
 unfoldable pub operandFault : List ℕ → Counts → ℕ → ℕ → ℕ
 operandFault s n c at = cond (ltb at (length s)) (cond (inRange n c (getD s at 0)) 0 range) malformed
 
+-- the fault of an operand, or the position past it
 unfoldable pub operandAnswer : List ℕ → Counts → ℕ → ℕ → ℕ
 operandAnswer s n c at = answer (operandFault s n c at) (at + 1)
 
@@ -47,13 +51,15 @@ headFault s n place at =
     (cond (fitsAt (getD s at 0) place) (cond (hasOperand (getD s at 0)) (operandFault s n (getD s at 0) (at + 1)) 0) malformed)
     malformed
 
+-- the fault of a node's own bytes, or the position past them
 unfoldable pub headAnswer : List ℕ → Counts → ℕ → ℕ → ℕ
 headAnswer s n place at = answer (headFault s n place at) (nodeAt s at .next)
 
+-- the first fault of two
 abbrev pub first : ℕ → ℕ → ℕ
 first a b = cond (eqb a 0) b a
 
--- the fault of a part, if it is there
+-- the fault of a part, if there is one
 abbrev pub partFault : (ℕ → ℕ) → Bool → ℕ → ℕ
 partFault f true at = f at
 partFault f false at = 0
@@ -67,10 +73,11 @@ faultAt s n (suc k) place at =
     (partFault (λ p. faultAt s n k (partPlace (nodeAt s at .code) place) (parseTree s k p .end)) (ltb 1 (nodeAt s at .parts))
     (nodeAt s at .next)))
 
+-- the first fault of the formula at a position, or the position past it
 unfoldable pub readAnswer : List ℕ → Counts → ℕ → ℕ → ℕ → ℕ
 readAnswer s n k place at = answer (faultAt s n k place at) (parseTree s k at .end)
 
--- a code's sort is its eighth
+-- a code's sort is the code divided by 8
 abbrev pub sortFrom : List ℕ → ℕ → ℕ
 sortFrom s at = getD s at 0 / 8
 
@@ -81,9 +88,10 @@ readingFrom s n at =
     (cond (eqb (parseTree s nesting at .end) (length s)) (Formula (sortFrom s at)) (Fault malformed))
     (Fault (faultAt s n nesting (sortFrom s at) at))
 
--- a whole body
+-- the sort of the formula that a body is
 abbrev pub sortOf : List ℕ → ℕ
 sortOf s = sortFrom s 0
 
+-- a whole body
 unfoldable pub readingOf : List ℕ → Counts → Reading
 readingOf s n = readingFrom s n 0

@@ -1,11 +1,12 @@
-// Formula codes, and what goes by the code alone. A set of codes is a number with a bit for each.
+// Formula codes, and what a code alone determines: where it fits, its operand, its parts. A set of codes is a number with a bit for each.
 ghost use mathlib.Core.Path.{_≡_};
 ghost use Rattle.formula.specs.Codes.{member, setAt, fitsAt, hasOperand, partCount, partPlace};
 
+// The code of each formula: the first byte of its node.
 pub struct Code {}
 
 impl Code {
-    // A code's sort is its eighth.
+    // A code divided by this is its sort.
     pub const PER_SORT: u8 = 8;
 
     // Values.
@@ -57,7 +58,7 @@ impl Code {
     pub const HOLDS: u8 = 28;
 }
 
-// What may stand at a place: a formula of a sort, or one over registers alone, as under `holds`.
+// What may be used at a place: a formula of a sort, or one over registers alone, as under `holds`.
 pub struct Place {}
 
 impl Place {
@@ -74,6 +75,7 @@ impl Place {
     pub const REG_TEST: u8 = 5;
 }
 
+// Sets of codes.
 pub struct Codes {}
 
 impl Codes {
@@ -102,7 +104,7 @@ impl Codes {
         + (1 << Code::START)
         + (1 << Code::HOLDS);
 
-    // Those with an operand byte.
+    // The codes that an operand byte follows.
     pub const OPERAND: u32 = (1 << Code::CONST)
         + (1 << Code::REG)
         + (1 << Code::WORD)
@@ -111,11 +113,13 @@ impl Codes {
         + (1 << Code::ONE)
         + (1 << Code::SEES);
 
+    // The codes with one sub-formula.
     pub const ONE_PART: u32 = (1 << Code::NOT)
         + (1 << Code::BOX)
         + (1 << Code::SEES)
         + (1 << Code::HOLDS);
 
+    // The codes with two sub-formulas.
     pub const TWO_PARTS: u32 = (1 << Code::SUM)
         + (1 << Code::EQUAL)
         + (1 << Code::LESS)
@@ -127,13 +131,14 @@ impl Codes {
         + (1 << Code::BOTH_A)
         + (1 << Code::EITHER_A);
 
-    // Those whose parts are of the sort below their own.
+    // The codes whose parts are of the sort below their own.
     pub const LOWER_PARTS: u32 = (1 << Code::EQUAL)
         + (1 << Code::LESS)
         + (1 << Code::BOX)
         + (1 << Code::SEES);
 }
 
+// Whether `code` is in the set. No set has a code of 32 or more.
 pub fn contains(set: u32, code: u8) -> bool
     ensures { λ r. ⌜ r ≡ member set code ⌝ }
 {
@@ -143,12 +148,14 @@ pub fn contains(set: u32, code: u8) -> bool
     (set >> code) % 2 == 1
 }
 
+// Whether an operand byte follows the code.
 pub fn has_operand(code: u8) -> bool
     ensures { λ r. ⌜ r ≡ hasOperand code ⌝ }
 {
     contains(Codes::OPERAND, code)
 }
 
+// The number of parts, that is sub-formulas, of a node with this code.
 pub fn parts(code: u8) -> u8
     ensures { λ r. ⌜ r ≡ partCount code ⌝ }
 {
@@ -161,7 +168,7 @@ pub fn parts(code: u8) -> u8
     0
 }
 
-// The codes that may stand at the place.
+// The set of codes that fit at the place.
 pub fn codes_at(place: u8) -> u32
     ensures { λ r. ⌜ r ≡ setAt place ⌝ }
 {
@@ -176,13 +183,15 @@ pub fn codes_at(place: u8) -> u32
     }
 }
 
+// Whether the code fits at the place.
 pub fn fits(code: u8, place: u8) -> bool
     ensures { λ r. ⌜ r ≡ fitsAt code place ⌝ }
 {
     contains(codes_at(place), code)
 }
 
-// The place of a code's parts. Registers alone stay so.
+// The place of a node's parts: below a place over registers alone it is over registers alone too. Place 0 has no code in LOWER_PARTS; the
+// test for it keeps the subtraction defined.
 pub fn part_place(code: u8, place: u8) -> u8
     ensures { λ r. ⌜ r ≡ partPlace code place ⌝ }
 {

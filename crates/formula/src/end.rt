@@ -1,21 +1,22 @@
-// Where a formula ends.
+// The end of a formula.
 use crate::node::node_at;
 ghost use mathlib.Core.Path.{_≡_};
 ghost use Rattle.formula.specs.Tree.{parseTree};
 
-pub fn end_at(s: &[u8], at: usize, left: usize) -> usize
-    ensures { λ r. ⌜ r ≡ parseTree (now (s .entry)) left at .end ⌝ }
+// The position past the formula at `at`, nested at most `left` deep; its bytes are not checked.
+pub fn end_at(image: &[u8], at: usize, left: usize) -> usize
+    ensures { λ r. ⌜ r ≡ parseTree (now (image .entry)) left at .end ⌝ }
 {
     if left == 0 {
         return at;
     }
-    let x = node_at(s, at);
-    if x.parts == 0 {
-        return x.next;
+    let node = node_at(image, at);
+    if node.parts == 0 {
+        return node.next;
     }
-    let m = end_at(s, x.next, left - 1);
-    if x.parts == 1 {
+    let m = end_at(image, node.next, left - 1);
+    if node.parts == 1 {
         return m;
     }
-    end_at(s, m, left - 1)
+    end_at(image, m, left - 1)
 }

@@ -1,4 +1,4 @@
-// Formulas of an image, in prefix form: their codes, their nodes, where they end, and the reader.
+// Formulas of an image in prefix form: their codes, their nodes, where they end, and the reader that checks them.
 pub mod code;
 pub mod cursor;
 pub mod end;

@@ -1,11 +1,11 @@
 // The nodes of formulas, by their positions.
 use crate::code::has_operand;
 use crate::code::parts;
-use limits::read::octet_at;
+use limits::read::u8_at;
 ghost use mathlib.Core.Path.{_≡_};
 ghost use Rattle.formula.specs.Tree.{nodeAt};
 
-// A code and its operand (0 where it has none), how many parts it has, and the position past its own bytes.
+// A node: its code and operand (0 where it has none), the number of its parts, and the position past its own bytes.
 pub struct Node {
     pub code: u8,
     pub operand: u8,
@@ -13,11 +13,11 @@ pub struct Node {
     pub next: usize,
 }
 
-// Past the end, a leaf of no bytes.
-pub fn node_at(s: &[u8], at: usize) -> Node
-    ensures { λ r. ⌜ r ≡ nodeAt (now (s .entry)) at ⌝ }
+// The node at `at`. Past the end it is a leaf of no bytes, so that every walk over a formula is total.
+pub fn node_at(image: &[u8], at: usize) -> Node
+    ensures { λ r. ⌜ r ≡ nodeAt (now (image .entry)) at ⌝ }
 {
-    if s.len() <= at {
+    if image.len() <= at {
         return Node {
             code: 0,
             operand: 0,
@@ -25,11 +25,11 @@ pub fn node_at(s: &[u8], at: usize) -> Node
             next: at,
         };
     }
-    let code = s[at];
+    let code = image[at];
     if has_operand(code) {
         return Node {
             code,
-            operand: octet_at(s, at + 1),
+            operand: u8_at(image, at + 1),
             parts: parts(code),
             next: at + 2,
         };

@@ -1,27 +1,29 @@
 // The code of a handover between accepted images.
-use handover_lines::lines::lines_serve;
-use handover_table::bytes::same_bytes;
-use handover_table::table::table_fits;
-use index::look::body_of;
-use justify::pass::judge_lines;
-use lookups::totals::Totals;
-use lookups::totals::totals_of;
-use program::sizes::Sizes;
+use handover_spec::lines::lines_serve;
+use handover_spec::same_bytes::same_bytes;
+use handover_spec::table::table_fits;
+use image_access::totals::Totals;
+use image_access::totals::totals_of;
+use image_header::sizes::Sizes;
+use image_index::look_up::body_of;
+use rules_justified::justify::judge_lines;
 ghost use mathlib.Core.Path.{_≡_};
 ghost use Prim.Native.Nat.{_≤_};
-ghost use Rattle.frames.specs.Records.{bodies};
-ghost use Rattle.index.specs.Table.{indexOf};
+ghost use Rattle.image_frames.specs.Records.{bodies};
+ghost use Rattle.image_index.specs.IndexTable.{indexOf};
 ghost use Rattle.image.specs.Decode.{decoded};
 ghost use Rattle.image.specs.declared.decode.Decoded.the-variants.{Sound};
-ghost use Rattle.content.specs.Image.{imageOf};
-ghost use Rattle.lookups.specs.Totals.{totalsOf};
-ghost use Rattle.justify.specs.Pass.{marksTo};
-ghost use Rattle.handover_promise.specs.Code.{codeBetween, codeOf};
-ghost use Rattle.handover_lines.specs.Found.{threadsServe};
+ghost use Rattle.image_meaning.specs.Image.{imageOf};
+ghost use Rattle.image_access.specs.Totals.{totalsOf};
+ghost use Rattle.rules_justified.specs.Justify.{marksTo};
+ghost use Rattle.handover_spec.specs.Code.{codeBetween, codeOf};
+ghost use Rattle.handover_spec.specs.LinesFound.{threadsServe};
 
+// The codes of a handover.
 pub struct Handover;
 
 impl Handover {
+    // The handover is permitted.
     pub const PERMITTED: u16 = 0;
 
     // An image is not accepted, or the two are unlike.
@@ -34,44 +36,78 @@ impl Handover {
     pub const UNSERVED: u16 = 34;
 }
 
-// Every line that the table names serves, in images with as many threads.
+// Whether every line that the table names serves, in images with equally many threads.
 fn all_serve<'a, 'b, 'c, 'd, 'e>(
     old: &'a [u8],
-    ox: &'b [usize],
-    z: Sizes,
-    c: Totals,
+    old_index: &'b [usize],
+    old_sizes: Sizes,
+    old_totals: Totals,
     new: &'c [u8],
-    nx: &'d [usize],
-    y: Sizes,
+    new_index: &'d [usize],
+    new_sizes: Sizes,
     table: &'e [u8],
 ) -> bool
-    requires { ⌜ (((now ox ≡ indexOf (now old)) × ((decoded (now old) ≡ Sound z) × (c ≡ totalsOf z (bodies (now old)))))
-        × ((now nx ≡ indexOf (now new)) × (decoded (now new) ≡ Sound y))) × (z .threads ≡ y .threads) ⌝ }
-    ensures { λ r. ⌜ r ≡ threadsServe (now (old .entry)) z (now (new .entry)) y (marksTo (now (new .entry)) y (y .lines))
-        (now (table .entry)) (z .threads) ⌝ }
+    requires { ⌜ (((now «old_index» ≡ indexOf (now old)) × ((decoded (now old) ≡ Sound «old_sizes»)
+        × («old_totals» ≡ totalsOf «old_sizes» (bodies (now old)))))
+        × ((now «new_index» ≡ indexOf (now new)) × (decoded (now new) ≡ Sound «new_sizes»)))
+        × («old_sizes» .threads ≡ «new_sizes» .threads) ⌝ }
+    ensures { λ r. ⌜ r ≡ threadsServe (now (old .entry)) «old_sizes» (now (new .entry)) «new_sizes»
+        (marksTo (now (new .entry)) «new_sizes» («new_sizes» .lines))
+        (now (table .entry)) («old_sizes» .threads) ⌝ }
 {
-    let d = totals_of(new, nx, y);
-    let m = judge_lines(new, nx, y);
-    lines_serve(old, ox, z, c, new, nx, y, d, &m.on, table)
+    let d = totals_of(new, new_index, new_sizes);
+    let marks = judge_lines(new, new_index, new_sizes);
+    lines_serve(
+        old,
+        old_index,
+        old_sizes,
+        old_totals,
+        new,
+        new_index,
+        new_sizes,
+        d,
+        &marks.on,
+        table,
+    )
 }
 
+// The code for two images that are alike: 33 comes before any 34.
 fn code_between<'a, 'b, 'c, 'd, 'e>(
     old: &'a [u8],
-    ox: &'b [usize],
-    z: Sizes,
+    old_index: &'b [usize],
+    old_sizes: Sizes,
     new: &'c [u8],
-    nx: &'d [usize],
-    y: Sizes,
+    new_index: &'d [usize],
+    new_sizes: Sizes,
     table: &'e [u8],
 ) -> u16
-    requires { ⌜ (((now ox ≡ indexOf (now old)) × (decoded (now old) ≡ Sound z))
-        × ((now nx ≡ indexOf (now new)) × (decoded (now new) ≡ Sound y))) × (z .threads ≡ y .threads) ⌝ }
-    ensures { λ r. ⌜ (r ≡ codeBetween (imageOf z (bodies (now (old .entry)))) (imageOf y (bodies (now (new .entry))))
+    requires { ⌜ (((now «old_index» ≡ indexOf (now old)) × (decoded (now old) ≡ Sound «old_sizes»))
+        × ((now «new_index» ≡ indexOf (now new)) × (decoded (now new) ≡ Sound «new_sizes»)))
+        × («old_sizes» .threads ≡ «new_sizes» .threads) ⌝ }
+    ensures { λ r. ⌜ (r ≡ codeBetween (imageOf «old_sizes» (bodies (now (old .entry)))) (imageOf «new_sizes» (bodies (now (new .entry))))
         (now (table .entry))) × (r ≤ 34) ⌝ }
 {
-    let c = totals_of(old, ox, z);
-    if table_fits(old, ox, z, c, new, nx, y, table) {
-        if all_serve(old, ox, z, c, new, nx, y, table) {
+    let totals = totals_of(old, old_index, old_sizes);
+    if table_fits(
+        old,
+        old_index,
+        old_sizes,
+        totals,
+        new,
+        new_index,
+        new_sizes,
+        table,
+    ) {
+        if all_serve(
+            old,
+            old_index,
+            old_sizes,
+            totals,
+            new,
+            new_index,
+            new_sizes,
+            table,
+        ) {
             return Handover::PERMITTED;
         }
         return Handover::UNSERVED;
@@ -79,24 +115,25 @@ fn code_between<'a, 'b, 'c, 'd, 'e>(
     Handover::OUT_OF_RANGE
 }
 
-// The bodies of the header records have threads, words, registers, range, start values, owners and start marks, and nothing else.
+// The code for two accepted images. They are alike if the bodies of their headers are equal: these have threads, words, registers, range,
+// start values, owners and start marks, and nothing else.
 pub fn handover_code<'a, 'b, 'c, 'd, 'e>(
     old: &'a [u8],
-    ox: &'b [usize],
-    z: Sizes,
+    old_index: &'b [usize],
+    old_sizes: Sizes,
     new: &'c [u8],
-    nx: &'d [usize],
-    y: Sizes,
+    new_index: &'d [usize],
+    new_sizes: Sizes,
     table: &'e [u8],
 ) -> u16
-    requires { ⌜ ((now ox ≡ indexOf (now old)) × (decoded (now old) ≡ Sound z))
-        × ((now nx ≡ indexOf (now new)) × (decoded (now new) ≡ Sound y)) ⌝ }
-    ensures { λ r. ⌜ (r ≡ codeOf (now (old .entry)) z (now (new .entry)) y (now (table .entry))) × (r ≤ 34) ⌝ }
+    requires { ⌜ ((now «old_index» ≡ indexOf (now old)) × (decoded (now old) ≡ Sound «old_sizes»))
+        × ((now «new_index» ≡ indexOf (now new)) × (decoded (now new) ≡ Sound «new_sizes»)) ⌝ }
+    ensures { λ r. ⌜ (r ≡ codeOf (now (old .entry)) «old_sizes» (now (new .entry)) «new_sizes» (now (table .entry))) × (r ≤ 34) ⌝ }
 {
-    let a = body_of(old, ox, 0);
-    let b = body_of(new, nx, 0);
-    if same_bytes(a, b) {
-        return code_between(old, ox, z, new, nx, y, table);
+    let a = body_of(old, old_index, 0);
+    let body = body_of(new, new_index, 0);
+    if same_bytes(a, body) {
+        return code_between(old, old_index, old_sizes, new, new_index, new_sizes, table);
     }
     Handover::UNLIKE
 }

@@ -3,31 +3,34 @@ use mathlib.Core.Bool.{cond}
 use mathlib.Core.List.{List}
 use Prim.Native.Nat.{ℕ, _+_, _-_}
 use lib.Dec.{eqb, leb}
-use Rattle.frames.specs.declared.fault.Checked.{Checked}
-use Rattle.program.specs.declared.sizes.Sizes.{Sizes}
-use Rattle.header.specs.Header.{header}
-use Rattle.records.specs.Claim as Claims
-use Rattle.bodies.specs.Formula as Formulas
-use Rattle.thread_bodies.specs.Thread as Threads
-use Rattle.bodies.specs.Lists as Lists
-use Rattle.bodies.specs.Line as Lines
+use Rattle.image_frames.specs.declared.fault.Checked.{Checked}
+use Rattle.image_header.specs.declared.sizes.Sizes.{Sizes}
+use Rattle.image_header.specs.Header.{header}
+use Rattle.image_bodies.specs.Claim as Claims
+use Rattle.image_bodies.specs.FormulaBody as Formulas
+use Rattle.image_bodies.specs.ThreadBody as Threads
+use Rattle.image_bodies.specs.ListBody as Lists
+use Rattle.image_bodies.specs.LineBody as Lines
 use Rattle.image.specs.declared.body.Place.{Place}
 use Rattle.image.specs.declared.body.Place.the-variants.{Header, Formula, Thread, Outline, Line, Obligations, Claim}
 
--- the last formula, the last thread, the outline, the last line
+-- the number of the last formula's record
 abbrev pub formulasEnd : Sizes → ℕ
 formulasEnd z = 1 + z .formulas
 
+-- the number of the last thread's record
 abbrev pub threadsEnd : Sizes → ℕ
 threadsEnd z = formulasEnd z + z .threads
 
+-- the number of the outline's record
 abbrev pub outlineAt : Sizes → ℕ
 outlineAt z = threadsEnd z + 1
 
+-- the number of the last line's record
 abbrev pub linesEnd : Sizes → ℕ
 linesEnd z = outlineAt z + z .lines
 
--- record i, counted from 1: with a thread its number, with a line how many lines stand before it
+-- what record i is, counted from 1: a thread by its number, a line by the number of lines before it
 unfoldable pub placeOf : Sizes → ℕ → Place
 placeOf z i =
     cond (eqb i 1) Header
@@ -38,7 +41,7 @@ placeOf z i =
     (cond (leb i (linesEnd z + 1)) Obligations
     Claim)))))
 
--- in an image with bodies l, where t thread records were counted
+-- the check of a body, in an image with the bodies l whose frames counted t thread records
 unfoldable pub check : ℕ → Sizes → List (List ℕ) → Place → List ℕ → Checked
 check t z l Header b = header t b
 check t z l Formula b = Formulas.formula z b

@@ -1,65 +1,70 @@
-// All bodies, first to last, behind the frames.
+// The frames of an image, then all its bodies, first to last.
 use crate::body::check_body;
-use bodies::outlined::outlined_of;
-use frames::fault::Checked;
-use frames::fault::Fault;
-use frames::walk::Framing;
-use frames::walk::read_frames;
-use header::header::Header;
-use header::header::range_of;
-use index::look::body_of;
+use image_bodies::outline_formulas::outlined_of;
+use image_frames::fault::Checked;
+use image_frames::fault::Fault;
+use image_frames::walk::Framing;
+use image_frames::walk::read_frames;
+use image_header::header::Header;
+use image_header::header::range_of;
+use image_header::sizes::Sizes;
+use image_index::look_up::body_of;
 use limits::read::byte_at;
-use program::sizes::Sizes;
 ghost use mathlib.Core.Path.{_≡_};
 ghost use Prim.Native.Nat.{_<_};
-ghost use Rattle.frames.specs.Records.{bodies};
-ghost use Rattle.index.specs.Table.{indexOf};
-ghost use Rattle.bodies.specs.Outlined.{outlinedOf};
+ghost use Rattle.image_frames.specs.Records.{bodies};
+ghost use Rattle.image_index.specs.IndexTable.{indexOf};
+ghost use Rattle.image_bodies.specs.OutlineFormulas.{outlinedOf};
 ghost use Rattle.image.specs.Decode.{recordCount, sizesOf, firstFault, decoded};
 
-// The first fault with its record, or how much there is.
+// The first fault of an image with its record, or its sizes.
 pub enum Decoded {
     Refused { fault: Fault, record: usize },
     Sound(Sizes),
 }
 
-fn record_count(z: Sizes) -> usize
-    ensures { λ r. ⌜ (r ≡ recordCount z) × (r < 1000000) ⌝ }
+// The number of records of an image with these sizes.
+fn record_count(sizes: Sizes) -> usize
+    ensures { λ r. ⌜ (r ≡ recordCount sizes) × (r < 1000000) ⌝ }
 {
-    3 + (z.formulas as usize) + (z.threads as usize) + (z.lines as usize) + (z.claims as usize)
+    3
+        + (sizes.formulas as usize)
+        + (sizes.threads as usize)
+        + (sizes.lines as usize)
+        + (sizes.claims as usize)
 }
 
-// By the header's bytes and what the frames counted.
-fn sizes_of(h: &[u8], formulas: u16, lines: u16, claims: u16) -> Sizes
-    ensures { λ r. ⌜ r ≡ sizesOf (now (h .entry)) formulas lines claims ⌝ }
+// The sizes of an image: from the header's bytes, and the records that the frames counted.
+fn sizes_of(header: &[u8], formulas: u16, lines: u16, claims: u16) -> Sizes
+    ensures { λ r. ⌜ r ≡ sizesOf (now (header .entry)) formulas lines claims ⌝ }
 {
     Sizes {
-        threads: byte_at(h, Header::THREADS) as u8,
-        words: byte_at(h, Header::WORDS) as u8,
-        registers: byte_at(h, Header::REGISTERS) as u8,
-        range: range_of(h),
+        threads: byte_at(header, Header::THREADS) as u8,
+        words: byte_at(header, Header::WORDS) as u8,
+        registers: byte_at(header, Header::REGISTERS) as u8,
+        range: range_of(header),
         formulas,
         lines,
         claims,
     }
 }
 
-// With the table of formulas that may stand in an outline or a triple.
+// Checks all bodies, first to last; `outlined` says which formulas may be used in an outline or a triple.
 fn check_bodies<'a, 'b, 'c>(
-    s: &'a [u8],
-    ix: &'b [usize],
-    on: &'c [bool],
-    t: usize,
-    z: Sizes,
+    image: &'a [u8],
+    index: &'b [usize],
+    outlined: &'c [bool],
+    threads: usize,
+    sizes: Sizes,
 ) -> Decoded
-    requires { ⌜ (now ix ≡ indexOf (now s)) × (now on ≡ outlinedOf z (bodies (now s))) ⌝ }
-    ensures { λ r. ⌜ r ≡ firstFault t z (bodies (now (s .entry))) 1 (recordCount z) (bodies (now (s .entry))) ⌝ }
+    requires { ⌜ (now index ≡ indexOf (now image)) × (now outlined ≡ outlinedOf sizes (bodies (now image))) ⌝ }
+    ensures { λ r. ⌜ r ≡ firstFault threads sizes (bodies (now (image .entry))) 1 (recordCount sizes) (bodies (now (image .entry))) ⌝ }
 {
-    let n = record_count(z);
+    let n = record_count(sizes);
     let mut i: usize = 1;
     while i <= n {
-        let b = body_of(s, ix, i - 1);
-        match check_body(s, ix, on, t, z, i, b) {
+        let body = body_of(image, index, i - 1);
+        match check_body(image, index, outlined, threads, sizes, i, body) {
             Checked::Faulty(fault) => {
                 return Decoded::Refused { fault, record: i };
             }
@@ -68,15 +73,15 @@ fn check_bodies<'a, 'b, 'c>(
             }
         }
     }
-    Decoded::Sound(z)
+    Decoded::Sound(sizes)
 }
 
-// With the index of the records.
-pub fn decode_image<'a, 'b>(s: &'a [u8], ix: &'b [usize]) -> Decoded
-    requires { ⌜ now ix ≡ indexOf (now s) ⌝ }
-    ensures { λ r. ⌜ r ≡ decoded (now (s .entry)) ⌝ }
+// Checks a whole image, frames before bodies, up to the first fault; `index` is the image's index.
+pub fn decode_image<'a, 'b>(image: &'a [u8], index: &'b [usize]) -> Decoded
+    requires { ⌜ now index ≡ indexOf (now image) ⌝ }
+    ensures { λ r. ⌜ r ≡ decoded (now (image .entry)) ⌝ }
 {
-    match read_frames(s) {
+    match read_frames(image) {
         Framing::Refused { fault, record } => Decoded::Refused { fault, record },
         Framing::Sound {
             formulas,
@@ -84,10 +89,10 @@ pub fn decode_image<'a, 'b>(s: &'a [u8], ix: &'b [usize]) -> Decoded
             lines,
             claims,
         } => {
-            let h = body_of(s, ix, 0);
-            let z = sizes_of(h, formulas, lines, claims);
-            let outlined = outlined_of(s, ix, z);
-            check_bodies(s, ix, &outlined.on, threads as usize, z)
+            let header = body_of(image, index, 0);
+            let sizes = sizes_of(header, formulas, lines, claims);
+            let outlined = outlined_of(image, index, sizes);
+            check_bodies(image, index, &outlined.on, threads as usize, sizes)
         }
     }
 }

@@ -1,3 +1,3 @@
-// The whole image: the first fault with its record, or what the image says.
+// The check of a whole image: its first fault with the record, or the sizes of a well-formed image.
 pub mod body;
 pub mod decode;

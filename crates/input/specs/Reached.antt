@@ -1,4 +1,4 @@
--- What one read came to.
+-- What one read has led to.
 use mathlib.Core.Path.{_≡_}
 use mathlib.Core.Bool.{Bool, cond}
 use Prim.Native.Nat.{ℕ, _+_, _≤_, _<_}
@@ -7,11 +7,11 @@ use Rattle.input.specs.declared.Filled.the-variants.{Full, Ended, Failed
 use Rattle.input.specs.declared.Reached.{Reached}
 use Rattle.input.specs.declared.Reached.the-variants.{More, Over}
 
--- by how many bytes the read brought, behind those that were there before it; none at the input's end
+-- the read brought `more` bytes, behind `done` bytes that were there before it; none at the input's end
 unfoldable pub reachedBy : Bool → ℕ → ℕ → Reached
 reachedBy failed more done = cond failed (Over Failed) (cond (eqb more 0) (Over (Ended done)) (More (done + more)))
 
--- from so many bytes in a buffer of that length: more than before, and within it; or all of them stay as they are
+-- `done` bytes in a buffer of `room` bytes become more within it, or stay the same at the input's end
 unfoldable pub Goes : Reached → ℕ → ℕ → Type 0
 Goes (More end) done room = (done < end) × (end ≤ room)
 Goes (Over Full) done room = ⊥

@@ -1,30 +1,30 @@
-// Reading, with an input that ends told apart from a read that fails.
+// Reading into a buffer, with an input that ends told apart from a read that fails.
 //
-// A contract cannot speak of what an operating system call read: those here say how much of a buffer was filled and
-// which of its bytes stay. What is made of a read's answer is left to functions on numbers, which equal their
-// definitions.
+// A contract cannot speak of what an operating system call read: those here say how much of a buffer was filled and which of its bytes
+// stay. What follows from a read's result is left to functions on numbers, which equal their definitions.
 ghost use mathlib.Core.Path.{_≡_};
 ghost use Prim.Native.Nat.{_+_, _≤_};
 ghost use lib.ListN.{length, take};
 ghost use Rattle.input.specs.Filled.{Fits};
 ghost use Rattle.input.specs.Reached.{reachedBy, Goes};
 
+// How a buffer was filled.
 pub enum Filled {
     Full,
-    // The input ends here; so many bytes came before.
+    // The input ended after this many bytes.
     Ended(usize),
     Failed,
 }
 
-// What one read came to.
+// What one read has led to.
 enum Reached {
-    // More bytes came, and so many are there now.
+    // More bytes came; this many are there now.
     More(usize),
     // There is nothing more to read.
     Over(Filled),
 }
 
-// By how many bytes the read brought, behind those that were there before it.
+// What a read of `more` bytes behind `done` bytes has led to; none come at the input's end. `room` bounds the sum.
 fn reached_by(failed: bool, more: usize, done: usize, room: usize) -> Reached
     requires { ⌜ done + more ≤ room ⌝ }
     ensures { λ r. ⌜ r ≡ reachedBy failed more done ⌝ }
@@ -38,7 +38,7 @@ fn reached_by(failed: bool, more: usize, done: usize, room: usize) -> Reached
     Reached::More(done + more)
 }
 
-// One read, to the part of the buffer behind the bytes that are there; these stay.
+// Reads once, to the part of the buffer behind the first `done` bytes, which stay.
 fn read_behind(fd: i32, buf: &mut [u8], done: usize) -> Reached
     requires { ⌜ done ≤ length (now buf) ⌝ }
     ensures kept { λ r. ⌜ take done (now (buf .exit)) ≡ take done (now (buf .entry)) ⌝ }

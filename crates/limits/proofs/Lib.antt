@@ -1,3 +1,3 @@
-pub mod Auto
+pub mod BranchTests
 pub mod Numbers
-pub mod Inverse
+pub mod PassedTests

@@ -8,17 +8,17 @@ use native.Mathlib.Numerals.{add-one, sub-one}
 use native.Mathlib.Omega.{arith}
 use lib.ListN.{length, getD, drop, take, drop-of-length-le, length-drop, List·getD-eq-default}
 use lib.Seq.{getD-drop, drop-drop, drop-cons, take-nil, take-all}
-use Rattle.limits.specs.Numbers.{word, has, numbers, within, every, nth}
+use Rattle.limits.specs.Numbers.{le16, has, numbers, within, every, nth}
 
 pub byte-past : (s : List ℕ) (at : ℕ) → length s ≤ at → 0 ≡ getD s at 0
 byte-past s at h = sym (List·getD-eq-default s 0 h)
 
-pub word-past : (s : List ℕ) (at : ℕ) → length s ≤ at → 0 ≡ word (drop at s)
-unfolding word
+pub word-past : (s : List ℕ) (at : ℕ) → length s ≤ at → 0 ≡ le16 (drop at s)
+unfolding le16
 word-past s at h = rw (drop-of-length-le s h)
 
-pub word-in : (s : List ℕ) (at a b : ℕ) → a ≡ getD s at 0 → b ≡ getD s (at + 1) 0 → a + 256 * b ≡ word (drop at s)
-unfolding word
+pub word-in : (s : List ℕ) (at a b : ℕ) → a ≡ getD s at 0 → b ≡ getD s (at + 1) 0 → a + 256 * b ≡ le16 (drop at s)
+unfolding le16
 word-in s at a b ea eb = rw (ea, eb, getD-drop at s 0 0, getD-drop at s 1 0, add-zero at)
 
 module _ (s : List ℕ) (from n : ℕ) where
@@ -47,7 +47,7 @@ unfolding nth
 nth-in l zero d r h e = absurd (h refl)
 nth-in l (suc k) d r h e = rw (sub-one (suc k)) at e
 
-pub ruleset reads = (rest-all, nth-none, nth-in, byte-past, word-past, word-in, part-past, part-rest, part-in)
+pub ruleset read-branches = (rest-all, nth-none, nth-in, byte-past, word-past, word-in, part-past, part-rest, part-in)
 
 -- there are n bytes, or not
 
@@ -76,7 +76,7 @@ unfolding numbers
 numbers-length zero l = refl
 numbers-length (suc n) l = ap suc (numbers-length n (drop 2 l))
 
-numbers-at : (n : ℕ) (l : List ℕ) (j : ℕ) → j < n → getD (numbers n l) j 0 ≡ word (drop (2 * j) l)
+numbers-at : (n : ℕ) (l : List ℕ) (j : ℕ) → j < n → getD (numbers n l) j 0 ≡ le16 (drop (2 * j) l)
 unfolding numbers
 numbers-at zero l j h = absurd (omega arith)
 numbers-at (suc n) l zero h = refl
@@ -88,13 +88,13 @@ pub number-past : (n : ℕ) (l : List ℕ) (j : ℕ) → n ≤ j → 0 ≡ getD 
 number-past n l j h = sym (List·getD-eq-default (numbers n l) 0 (rw (numbers-length n l) h))
 
 pub number-none : (n : ℕ) (l : List ℕ) (j : ℕ) → j < n → length l ≤ j → 0 ≡ getD (numbers n l) j 0
-unfolding word
+unfolding le16
 number-none n l j h g = let q : length l ≤ 2 * j = omega arith in rw (numbers-at n l j h, drop-of-length-le l q)
 
-pub number-in : (n : ℕ) (l : List ℕ) (j r : ℕ) → j < n → r ≡ word (drop (2 * j) l) → r ≡ getD (numbers n l) j 0
+pub number-in : (n : ℕ) (l : List ℕ) (j r : ℕ) → j < n → r ≡ le16 (drop (2 * j) l) → r ≡ getD (numbers n l) j 0
 number-in n l j r h e = e ∙ sym (numbers-at n l j h)
 
-pub ruleset numbering = (number-past, number-none, number-in)
+pub ruleset number-at-branches = (number-past, number-none, number-in)
 
 -- a test of a number, or of numbers, that a call gave
 
@@ -133,4 +133,4 @@ pub each-all : {A : Type 0} (f : A → Bool) (i n : ℕ) (l : List A) (g : Bool)
 unfolding every
 each-all f i n l g h len e = let q : length l ≤ i = rw len h in rw (e, drop-of-length-le l q)
 
-pub ruleset ranging = (each-start, each-off, each-more, each-all, numbers-length)
+pub ruleset range-branches = (each-start, each-off, each-more, each-all, numbers-length)

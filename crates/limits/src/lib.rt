@@ -1,8 +1,8 @@
-// The limits of an image, reads of the numbers that it is made of, and their ranges.
+// The limits of an image, total reads of its numbers, and range tests on them.
 pub mod range;
 pub mod read;
 
-// How much an image may hold.
+// The bounds of an image's counts and sizes, and of the rows and leaves that a rule may have.
 pub struct Limits;
 
 impl Limits {
@@ -36,10 +36,10 @@ impl Limits {
 
     pub const IMAGE_BYTES: usize = 262144;
 
-    // The program takes no more.
+    // The program `verdict` refuses longer images; the library takes IMAGE_BYTES.
     pub const PROGRAM_BYTES: usize = 65535;
 
-    // A header, an outline and an obligations record, and what there may be many of.
+    // One header, one outline and one obligations record, and the greatest counts of the kinds that repeat.
     pub const RECORDS: usize = 3
         + Limits::FORMULAS
         + Limits::THREADS

@@ -1,46 +1,47 @@
-// Numbers from a least to a greatest one.
+// Whether numbers in bytes are in a range, both ends included.
 use crate::read::byte_at;
 use crate::read::number_at;
-use crate::read::word_at;
+use crate::read::u16_at;
 ghost use mathlib.Core.Path.{_≡_};
 ghost use lib.ListN.{getD, drop};
-ghost use Rattle.limits.specs.Numbers.{word, numbers, within, every};
+ghost use Rattle.limits.specs.Numbers.{le16, numbers, within, every};
 
-pub fn in_range(x: usize, low: usize, high: usize) -> bool
-    ensures { λ r. ⌜ r ≡ within low high x ⌝ }
+// Whether `number` is from `low` to `high`.
+pub fn in_range(number: usize, low: usize, high: usize) -> bool
+    ensures { λ r. ⌜ r ≡ within low high number ⌝ }
 {
-    if x < low {
+    if number < low {
         return false;
     }
-    if high < x {
+    if high < number {
         return false;
     }
     true
 }
 
-// The byte at a position is in the range.
-pub fn byte_within(s: &[u8], at: usize, low: usize, high: usize) -> bool
-    ensures { λ r. ⌜ r ≡ within low high (getD (now (s .entry)) at 0) ⌝ }
+// Whether the byte at `at` is from `low` to `high`.
+pub fn byte_within(bytes: &[u8], at: usize, low: usize, high: usize) -> bool
+    ensures { λ r. ⌜ r ≡ within low high (getD (now (bytes .entry)) at 0) ⌝ }
 {
-    let x = byte_at(s, at);
+    let x = byte_at(bytes, at);
     in_range(x, low, high)
 }
 
-// The 16-bit number at a position is in the range.
-pub fn word_within(s: &[u8], at: usize, low: usize, high: usize) -> bool
-    ensures { λ r. ⌜ r ≡ within low high (word (drop at (now (s .entry)))) ⌝ }
+// Whether the 16-bit number at `at` is from `low` to `high`.
+pub fn u16_within(bytes: &[u8], at: usize, low: usize, high: usize) -> bool
+    ensures { λ r. ⌜ r ≡ within low high (le16 (drop at (now (bytes .entry)))) ⌝ }
 {
-    let x = word_at(s, at);
+    let x = u16_at(bytes, at);
     in_range(x, low, high)
 }
 
-// Every byte is in the range.
-pub fn bytes_within(s: &[u8], low: usize, high: usize) -> bool
-    ensures { λ r. ⌜ r ≡ every (within low high) (now (s .entry)) ⌝ }
+// Whether every byte is from `low` to `high`.
+pub fn bytes_within(bytes: &[u8], low: usize, high: usize) -> bool
+    ensures { λ r. ⌜ r ≡ every (within low high) (now (bytes .entry)) ⌝ }
 {
     let mut i: usize = 0;
-    while i < s.len() {
-        let x = byte_at(s, i);
+    while i < bytes.len() {
+        let x = byte_at(bytes, i);
         if in_range(x, low, high) {
             i += 1;
         } else {
@@ -50,13 +51,13 @@ pub fn bytes_within(s: &[u8], low: usize, high: usize) -> bool
     true
 }
 
-// Each of n 16-bit numbers is in the range.
-pub fn numbers_within(s: &[u8], n: usize, low: usize, high: usize) -> bool
-    ensures { λ r. ⌜ r ≡ every (within low high) (numbers n (now (s .entry))) ⌝ }
+// Whether each of the first `n` 16-bit numbers is from `low` to `high`.
+pub fn numbers_within(bytes: &[u8], n: usize, low: usize, high: usize) -> bool
+    ensures { λ r. ⌜ r ≡ every (within low high) (numbers n (now (bytes .entry))) ⌝ }
 {
     let mut i: usize = 0;
     while i < n {
-        let x = number_at(s, n, i);
+        let x = number_at(bytes, n, i);
         if in_range(x, low, high) {
             i += 1;
         } else {

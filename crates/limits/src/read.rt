@@ -1,86 +1,86 @@
-// Reads of numbers.
+// Reads of the numbers in a slice of bytes.
 //
-// A read is total: what stands past the end of the bytes is 0, and a part of them ends where they do. So each function
-// equals a definition at every argument, and its callers need no case for a short record.
+// Each read is total: a byte past the end counts as 0, and a part ends at the latest where the bytes end. So each function equals its
+// definition at every argument, and its callers need no case for a short record.
 ghost use mathlib.Core.Path.{_≡_};
 ghost use Prim.Native.Nat.{_<_};
 ghost use lib.ListN.{getD, take, drop};
-ghost use Rattle.limits.specs.Numbers.{word, numbers, nth};
+ghost use Rattle.limits.specs.Numbers.{le16, numbers, nth};
 
-// A byte as a number that sums may take further.
-fn wide(x: u8) -> usize
-    ensures { λ r. ⌜ (r ≡ x) × (r < 256) ⌝ }
+// A byte widened to usize, so that sums of it do not overflow.
+fn wide(byte: u8) -> usize
+    ensures { λ r. ⌜ (r ≡ byte) × (r < 256) ⌝ }
 {
-    x as usize
+    byte as usize
 }
 
-// The byte at a position.
-pub fn octet_at(s: &[u8], at: usize) -> u8
-    ensures { λ r. ⌜ r ≡ getD (now (s .entry)) at 0 ⌝ }
+// The byte at position `at`, from 0; 0 past the end.
+pub fn u8_at(bytes: &[u8], at: usize) -> u8
+    ensures { λ r. ⌜ r ≡ getD (now (bytes .entry)) at 0 ⌝ }
 {
-    if s.len() <= at {
+    if bytes.len() <= at {
         return 0;
     }
-    s[at]
+    bytes[at]
 }
 
-// The same, as a number that sums may take further.
-pub fn byte_at(s: &[u8], at: usize) -> usize
-    ensures { λ r. ⌜ (r ≡ getD (now (s .entry)) at 0) × (r < 256) ⌝ }
+// The byte at a position, widened to usize.
+pub fn byte_at(bytes: &[u8], at: usize) -> usize
+    ensures { λ r. ⌜ (r ≡ getD (now (bytes .entry)) at 0) × (r < 256) ⌝ }
 {
-    wide(octet_at(s, at))
+    wide(u8_at(bytes, at))
 }
 
-// The 16-bit number at a position.
-pub fn word_at(s: &[u8], at: usize) -> usize
-    ensures { λ r. ⌜ (r ≡ word (drop at (now (s .entry)))) × (r < 65536) ⌝ }
+// The 16-bit little-endian number at position `at`.
+pub fn u16_at(bytes: &[u8], at: usize) -> usize
+    ensures { λ r. ⌜ (r ≡ le16 (drop at (now (bytes .entry)))) × (r < 65536) ⌝ }
 {
-    if s.len() <= at {
+    if bytes.len() <= at {
         return 0;
     }
-    byte_at(s, at) + 256 * byte_at(s, at + 1)
+    byte_at(bytes, at) + 256 * byte_at(bytes, at + 1)
 }
 
-// The bytes from a position on, n of them.
-pub fn part(s: &[u8], from: usize, n: usize) -> &[u8]
-    ensures { λ r. ⌜ now r ≡ take n (drop from (now (s .entry))) ⌝ }
+// The `n` bytes from position `from` on; fewer where the bytes end before.
+pub fn part(bytes: &[u8], from: usize, n: usize) -> &[u8]
+    ensures { λ r. ⌜ now r ≡ take n (drop from (now (bytes .entry))) ⌝ }
 {
-    if s.len() <= from {
-        return &s[0..0];
+    if bytes.len() <= from {
+        return &bytes[0..0];
     }
-    if s.len() - from <= n {
-        return &s[from..];
+    if bytes.len() - from <= n {
+        return &bytes[from..];
     }
     let end = from + n;
-    &s[from..end]
+    &bytes[from..end]
 }
 
-// The bytes from a position on.
-pub fn rest(s: &[u8], from: usize) -> &[u8]
-    ensures { λ r. ⌜ now r ≡ drop from (now (s .entry)) ⌝ }
+// All bytes from position `from` on.
+pub fn rest(bytes: &[u8], from: usize) -> &[u8]
+    ensures { λ r. ⌜ now r ≡ drop from (now (bytes .entry)) ⌝ }
 {
-    part(s, from, s.len())
+    part(bytes, from, bytes.len())
 }
 
-// The byte with a number, counted from 1.
-pub fn nth_byte(s: &[u8], k: usize) -> usize
-    ensures { λ r. ⌜ (r ≡ nth (now (s .entry)) k 0) × (r < 256) ⌝ }
+// Byte number `i`, counted from 1; 0 for number 0 and past the end.
+pub fn nth_byte(bytes: &[u8], i: usize) -> usize
+    ensures { λ r. ⌜ (r ≡ nth (now (bytes .entry)) i 0) × (r < 256) ⌝ }
 {
-    if k == 0 {
+    if i == 0 {
         return 0;
     }
-    byte_at(s, k - 1)
+    byte_at(bytes, i - 1)
 }
 
-// The number at an index, from 0, of n 16-bit numbers.
-pub fn number_at(s: &[u8], n: usize, i: usize) -> usize
-    ensures { λ r. ⌜ (r ≡ getD (numbers n (now (s .entry))) i 0) × (r < 65536) ⌝ }
+// The number at index `i`, from 0, of a list of `n` 16-bit numbers; 0 outside the list.
+pub fn number_at(bytes: &[u8], n: usize, i: usize) -> usize
+    ensures { λ r. ⌜ (r ≡ getD (numbers n (now (bytes .entry))) i 0) × (r < 65536) ⌝ }
 {
     if n <= i {
         return 0;
     }
-    if s.len() <= i {
+    if bytes.len() <= i {
         return 0;
     }
-    word_at(s, 2 * i)
+    u16_at(bytes, 2 * i)
 }

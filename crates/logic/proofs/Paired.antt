@@ -83,7 +83,7 @@ at-once : replace (notes (note 1 (reg 2) ∷ note 2 (reg 1) ∷ [])) (holds (les
 unfolding note upd
 at-once = refl
 
--- WHAT IS WANTED: of a pair, a statement about its whole; of two assignments, a triple
+-- WHAT IS GOALS: of a pair, a statement about its whole; of two assignments, a triple
 pair-wanted : (O : Outline) → wants paired O (step 1 1) ≡ pair 1 1 (O 1 1) (O 1 2)
 unfolding nothing at-points note trader swapper paired upd
 pair-wanted O = refl

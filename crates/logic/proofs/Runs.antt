@@ -116,8 +116,8 @@ pub record Inv (P : Program) (O : Outline) (s : State) : Type 0 where
   pub true-there : Holds P O s
 
 module _ (P : Program) (O : Outline) (W : WellFormed P O) (D : Proved P O) where
-  abbrev Wanted : Obligation → Type 0
-  Wanted o = Derived P (wants P O o)
+  abbrev Goal : Obligation → Type 0
+  Goal o = Derived P (wants P O o)
 
   -- the points change, and nothing else
   moved-on : (s : State) (t k : ℕ) (a : Assertion) → T (startless a) → True P s a → True P (withPoint s t k) a
@@ -179,13 +179,13 @@ module _ (P : Program) (O : Outline) (W : WellFormed P O) (D : Proved P O) where
       }
         where
           next : Derived P (taking t (s .point t) (act A ns) (O t (s .point t)) (O t (suc (s .point t))))
-          next = rw e at (rw e at (each-step P Wanted D t (s .point t) t-in more)) .0
+          next = rw e at (rw e at (each-step P Goal D t (s .point t) t-in more)) .0
 
           kept : (u : ℕ) → Within (P .threads) u → u ≢ t
               → Derived P (taking t (s .point t) (act A ns) (bothA (O u (s .point u)) (O t (s .point t))) (O u (s .point u)))
           kept u b n =
-              let all = rw e at (each-other P Wanted D u (s .point u) t (s .point t) b (inv .point u b) t-in more n) in
-              rw e at (subst (All Wanted) (every-action P u (s .point u) t (s .point t) A ns) all .0)
+              let all = rw e at (each-other P Goal D u (s .point u) t (s .point t) b (inv .point u b) t-in more n) in
+              rw e at (subst (All Goal) (every-action P u (s .point u) t (s .point t) A ns) all .0)
 
     -- a branch that goes to the point k
     goes : (k : ℕ) → k < P .points t → True P s (O t k) → Inv P O (withPoint s t k)
@@ -206,8 +206,8 @@ module _ (P : Program) (O : Outline) (W : WellFormed P O) (D : Proved P O) where
     branched : (e : Test) (a : ℕ) → instrAt P s t ≡ branch e a → (p : ℕ) → Inv P O (exec P (branch e a) t p s)
     branched e a q p = go (test (P .range) (onRegs (s .reg)) e) refl
       where
-        obs : All Wanted (own P t (s .point t) (branch e a))
-        obs = subst (λ (i : Instr). All Wanted (own P t (s .point t) i)) q (each-step P Wanted D t (s .point t) t-in more)
+        obs : All Goal (own P t (s .point t) (branch e a))
+        obs = subst (λ (i : Instr). All Goal (own P t (s .point t) i)) q (each-step P Goal D t (s .point t) t-in more)
 
         target : a < P .points t
         target = ltb→lt a (P .points t) (and-right (only isReg e) (ltb a (P .points t))
@@ -254,7 +254,7 @@ module _ (P : Program) (O : Outline) (W : WellFormed P O) (D : Proved P O) where
       record {
         wf = wf;
         point = λ t b. omega (arith, st .points t, W .some-point t b);
-        true-there = λ t b. rw (st .points t) (derived-valid P (W .instructions) (each-start P Wanted D t b) s wf st);
+        true-there = λ t b. rw (st .points t) (derived-valid P (W .instructions) (each-start P Goal D t b) s wf st);
       }
 
 -- the theorem

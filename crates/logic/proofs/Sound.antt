@@ -3,13 +3,13 @@ use mathlib.Core.Path.{_≡_, refl, ap, ap₂, sym, _∙_, subst}
 use mathlib.Core.Bool.{Bool, true, false, not, _&&_}
 use mathlib.Core.List.{List, [], _∷_, map}
 use mathlib.Core.Logic.{_⊎_, inl, inr}
-use Prim.Native.Nat.{ℕ, suc, _+_, _%_, _≤_, _<_}
+use Prim.Native.Nat.{ℕ, suc, _+_, _%_, _<_}
 use native.Mathlib.Omega.{arith}
 use lib.Dec.{T, eqb, ltb, ltb→lt, leb→le}
 use borrow.Author.Tests.{eq-eqb}
 use lib.ListN.{take, drop}
 use Rattle.semantics.specs.Base.{All, all, Within, within}
-use Rattle.semantics.specs.Formula.{Value, Test, Interval, Assertion, Formula.const, Formula.reg, Formula.word, Formula.sum, Formula.and, Formula.unsync, Formula.cov, Formula.box, Formula.one, Formula.chop, Formula.sees, Formula.bothA, Formula.eitherA, Formula.holds}
+use Rattle.semantics.specs.Formula.{Value, Test, Interval, Assertion, Formula.const, Formula.reg, Formula.word, Formula.sum, Formula.and, Formula.unsync, Formula.cov, Formula.box, Formula.chop, Formula.sees, Formula.bothA, Formula.eitherA, Formula.holds}
 use Rattle.semantics.specs.Names.{Name, n-reg, n-word, n-unsync, n-cov, names, only, isReg, regsIn, notReg, notWord, notFlag, startless, plain}
 use Rattle.semantics.specs.Eval.{Env, value, test, onRegs, bounded}
 use Rattle.semantics.specs.Replace.{Note, replace, notes, regBy, wordBy}

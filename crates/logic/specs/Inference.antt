@@ -1,5 +1,5 @@
--- The rules: what follows from which premises. One constructor for each rule number; rule 5 has one for loads and one for swaps.
--- The table of rules says the same (proofs/Rules.antt).
+-- The rules: what follows from which premises. One constructor for each rule number; rule 5 has one for loads and one for swaps. The table
+-- of schemas says the same (crate logic_schemas, proofs/Rules.antt). t is the acting thread, k its point, x the word, f the formula.
 use mathlib.Core.Path.{_≡_}
 use mathlib.Core.Bool.{Bool, true, false, not, _&&_}
 use mathlib.Core.List.{List, [], _∷_, map}
@@ -17,36 +17,36 @@ use Rattle.semantics.specs.Machine.{Program, Mode, Mode.store, Mode.swap, Mode.
 use Rattle.logic.specs.Statement.{Statement, inside, implies, triple, pair, isBranch, half, isImp, impOf}
 use Rattle.logic.specs.Rule.{Rule, r1, r2, r3, r4, r5, r6, r7, r8, r9, r10, r11, r12, r13, r14, r15, r16, r20, r21, r22, r23, r24, r25, r26, r27, r30, r31, r32, r33, r34, r35, r36, r37, r38, r39, r40, r41, r42, r43, r44, r45, r46, r47, r48, r49, r50}
 
--- one x, and x = f
+-- both(one x, [x = f]): all views name one write of x, with the value f
 abbrev pub newest : ℕ → Value → Interval
 newest x f = both (one x) (box (equal (word x) f))
 
--- the new write's value, read after the step: f; for fetch-add the result register plus f
+-- the new write's value, as it reads after the step: f; for fetch-add the result register plus f
 abbrev pub freshValue : Mode → Value → Value
 freshValue (store releasing) f = f
 freshValue swap f = f
 freshValue (exchange r) f = f
 freshValue (fetchAdd r) f = sum (reg r) f
 
--- rules 11 to 13: [cov x];one x
+-- rules 11 to 13, 48 and 49: "C = [cov x];one x"
 abbrev pub C : ℕ → Interval
 C x = chop (box (cov x)) (one x)
 
--- the word x in no role, nor the result register
+-- the name is neither the word x, in any role, nor the result register
 abbrev pub apart : Mode → ℕ → Name → Bool
 apart (store releasing) x n = notWord x n
 apart swap x n = notWord x n
 apart (exchange r) x n = notWord x n && notReg r n
 apart (fetchAdd r) x n = notWord x n && notReg r n
 
--- rule 1: load: r absent; others: x absent in any role, and the result register
+-- rule 1: "load: r absent; others: x absent in any role", and the result register of an exchange or a fetch-add too
 abbrev pub keeps : Instr → Assertion → Bool
 keeps (act none ns) a = false
 keeps (act (load acquires r x) ns) a = only (notReg r) a
 keeps (act (write m x f) ns) a = only (apart m x) a
 keeps (branch e k) a = false
 
--- by the rule, from the premises: the statement
+-- the rule gives the statement from the premises
 pub data Inference (P : Program) : Rule → List Statement → Statement → Type 0 where
   i1 : {t k : ℕ} {p : Assertion} → T (keeps (half P t k) p) → Inference P r1 [] (triple t k p p)
   i2 : {t k : ℕ} {ns : List Note} {q : Assertion} → P .code t k ≡ act none ns → Inference P r2 [] (triple t k (replace (notes ns) q) q)
@@ -88,6 +88,7 @@ pub data Inference (P : Program) : Rule → List Statement → Statement → Typ
       → Inference P r48 [] (triple t k (sees t (C x)) (sees t (newest x (freshValue m f))))
   i49 : {t k x u : ℕ} {m : Mode} {f : Value} → half P t k ≡ act (write m x f) [] → T (returns m)
       → Inference P r49 [] (triple t k (bothA (sees t (C x)) (sees u (C x))) (sees u (chop (box (cov x)) (newest x (freshValue m f)))))
+  -- a pair's first half is a store, a releasing store or a swap: none of them returns the old value
   i50 : {t k x : ℕ} {m : Mode} {f : Value} {n : Note} {ns : List Note} {p q : Assertion} → P .code t k ≡ act (write m x f) (n ∷ ns)
       → T (not (returns m))
       → Inference P r50 (triple t k p (replace (notes (n ∷ ns)) q) ∷ []) (pair t k p q)

@@ -1,5 +1,4 @@
--- The program logic, in the order of the scope page.
--- what the rules give
+-- The program logic, in the order of the scope page: rules, obligations and claims.
 pub mod Rows
 pub mod Table
 pub mod Statement
@@ -8,6 +7,6 @@ pub mod Rule
 pub mod Inference
 pub mod Obligations
 pub mod Claims
--- what acceptance comes from
+-- what soundness needs of a program, and a certificate's statements as derivations
 pub mod WellFormed
 pub mod Derivation

@@ -1,1 +1,1 @@
-// The program logic has no code: its definitions are under specs/, its theorems under proofs/.
+// The program logic: rules, derivations, obligations and claims (specs/), with its soundness for every run (proofs/); no code.

@@ -1,4 +1,1 @@
-pub mod Following
-pub mod Followed
-pub mod Begun
-pub mod Promised
+pub mod WholeBranches

@@ -1,1 +1,4 @@
-// A replay on numbers: it follows the machine of the logic, step by step. No code.
+// Replay of a trace on an accepted image; `replay_trace` and `replay_into` are the entry points.
+pub mod entry;
+pub mod into;
+pub mod whole;

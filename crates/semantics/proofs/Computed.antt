@@ -8,7 +8,7 @@ use Prim.Native.Nat.{ℕ, zero, suc}
 use lib.Dec.{eqb}
 use Rattle.semantics.specs.Base.{upd, below, upTo}
 use Rattle.semantics.specs.Formula.{Formula.const, Formula.reg, Formula.sum, Formula.equal}
-use Rattle.semantics.specs.Machine.{View, Write, State, Program, Mode.store, Mode.swap, Mode.exchange, Mode.fetchAdd, Access.none, Access.load, Access.write, Instr, Instr.act, Instr.branch, Step, begin, run, up, down}
+use Rattle.semantics.specs.Machine.{Write, State, Program, Mode.store, Mode.swap, Mode.exchange, Mode.fetchAdd, Access.none, Access.load, Access.write, Instr, Instr.act, Instr.branch, Step, begin, run, up, down}
 
 -- the start with 0 in every register
 abbrev pub begun : Program → State

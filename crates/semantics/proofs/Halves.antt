@@ -2,8 +2,8 @@
 -- change.
 -- What is done to shared words is a touch; what the registers are given, the result register among them, is notes, all at a time,
 -- worked out where the thread has arrived: a load into r of x gives r the value of the word x.
-use mathlib.Core.Bool.{Bool, true, false, cond, not, _&&_}
-use mathlib.Core.List.{List, [], _∷_}
+use mathlib.Core.Bool.{Bool, true, cond, not, _&&_}
+use mathlib.Core.List.{List, _∷_}
 use Prim.Native.Nat.{ℕ, suc}
 use lib.Dec.{T, eqb}
 use Rattle.semantics.specs.Base.{upd, all, Within}

@@ -1,10 +1,9 @@
 -- Values and replacements worked out by hand.
 use mathlib.Core.Path.{_≡_, refl}
-use mathlib.Core.Bool.{Bool, true, false}
+use mathlib.Core.Bool.{true, false}
 use mathlib.Core.List.{[], _∷_}
-use Prim.Native.Nat.{ℕ}
 use Rattle.semantics.specs.Base.{upd}
-use Rattle.semantics.specs.Formula.{Value, Test, Formula.const, Formula.reg, Formula.word, Formula.sum, Formula.equal, Formula.less}
+use Rattle.semantics.specs.Formula.{Value, Formula.const, Formula.reg, Formula.word, Formula.sum, Formula.equal, Formula.less}
 use Rattle.semantics.specs.Eval.{Env, onRegs, value, test}
 use Rattle.semantics.specs.Replace.{replace, regBy, wordBy, notes}
 

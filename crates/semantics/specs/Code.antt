@@ -1,12 +1,14 @@
 -- The formula bytes: a code for each kind of formula, by sort.
 use Prim.Native.Nat.{ℕ}
 
+-- the page's "formula bytes (decimal)", a line for each sort: values, tests, intervals, assertions
 pub data Code : Type 0 where
   const reg word sum : Code
   false equal less not and or unsync cov : Code
   box one chop both either : Code
   sees bothA eitherA start holds : Code
 
+-- the byte that a formula of the kind begins with
 abbrev pub byte : Code → ℕ
 byte const = 0
 byte reg = 1

@@ -1,29 +1,30 @@
--- Values and tests are read plainly, over what the names stand for.
+-- "Values and tests are read plainly, registers from the state, words from the view": here over any environment for the names.
 use mathlib.Core.Bool.{Bool, true, false, not, _&&_, _||_}
 use Prim.Native.Nat.{ℕ, _+_, _%_}
 use lib.Dec.{eqb, ltb}
 use Rattle.semantics.specs.Formula.{Sort, Formula, Value, Test, Formula.const, Formula.reg, Formula.word, Formula.sum, Formula.equal, Formula.less, Formula.and, Formula.or, Formula.unsync, Formula.cov, Formula.box, Formula.one, Formula.chop, Formula.both, Formula.either, Formula.sees, Formula.bothA, Formula.eitherA, Formula.start, Formula.holds}
 
--- what the names stand for
+-- an environment: the value of each register and word, the truth of unsync and cov for each word
 pub record Env : Type 0 where
   pub reg : ℕ → ℕ
   pub word : ℕ → ℕ
   pub unsync : ℕ → Bool
   pub cov : ℕ → Bool
 
--- registers alone: what `holds` and the formulas of instructions are read over
+-- the environment of registers alone, over which `holds` and the formulas of instructions are read
 abbrev pub onRegs : (ℕ → ℕ) → Env
 onRegs g = record { reg = g; word = λ x. 0; unsync = λ x. false; cov = λ x. false }
 
--- R: how many values there are
+-- R: how many values there are, the range of the program
 module _ (R : ℕ) where
-  -- sums are modulo R
+  -- the value of a formula; sums are modulo R
   abbrev pub value : Env → Value → ℕ
   value ρ (const n) = n
   value ρ (reg r) = ρ .reg r
   value ρ (word x) = ρ .word x
   value ρ (sum a b) = (value ρ a + value ρ b) % R
 
+  -- whether a test is true
   abbrev pub test : Env → Test → Bool
   test ρ Formula.false = false
   test ρ (equal a b) = eqb (value ρ a) (value ρ b)
@@ -34,7 +35,7 @@ module _ (R : ℕ) where
   test ρ (unsync x) = ρ .unsync x
   test ρ (cov x) = ρ .cov x
 
-  -- its constants are values
+  -- every constant in the formula is below R
   abbrev pub bounded : {s : Sort} → Formula s → Bool
   bounded (const n) = ltb n R
   bounded (reg r) = true

@@ -1,5 +1,4 @@
 -- DEMAND 3: the claim about every run of a program and its outline.
-use mathlib.Core.Bool.{true}
 use mathlib.Core.List.{List}
 use Prim.Native.Nat.{ℕ}
 use Rattle.semantics.specs.Base.{Within}
@@ -11,10 +10,10 @@ use Rattle.semantics.specs.Truth.{True}
 abbrev pub Outline : Type 0
 Outline = ℕ → ℕ → Assertion
 
--- each thread's assertion at its point is true
+-- each thread's assertion at its point is true in the state
 abbrev pub Holds : Program → Outline → State → Type 0
 Holds P O s = (t : ℕ) → Within (P .threads) t → True P s (O t (s .point t))
 
--- from every start state, after every finite list of steps, refused ones among them
+-- each thread's assertion is true from every start state, after every finite list of steps, refused ones among them
 pub record EveryRun (P : Program) (O : Outline) : Type 0 where
   pub holds : (s : State) → Start P s → (l : List Step) → Holds P O (run P s l)

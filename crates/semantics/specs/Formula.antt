@@ -6,6 +6,7 @@ use lib.Dec.{eqb}
 use Rattle.semantics.specs.Code
 use Rattle.semantics.specs.Code.{byte}
 
+-- the sorts of the scope page: values, tests, intervals, assertions
 pub data Sort : Type 0 where
   value test interval assertion : Sort
 
@@ -26,6 +27,7 @@ pub data Formula : Sort → Type 0 where
   start : Formula assertion
   holds : Formula test → Formula assertion
 
+-- the four sorts by name
 abbrev pub Value : Type 0
 Value = Formula value
 
@@ -63,7 +65,7 @@ encode (eitherA a b) l = byte Code.eitherA ∷ encode a (encode b l)
 encode start l = byte Code.start ∷ l
 encode (holds e) l = byte Code.holds ∷ encode e l
 
--- a formula without a sub-formula has 1
+-- the nesting of a formula: "a formula without a sub-formula has 1"
 abbrev pub nesting : {s : Sort} → Formula s → ℕ
 nesting (const n) = 1
 nesting (reg r) = 1
@@ -88,12 +90,13 @@ nesting (eitherA a b) = suc (max (nesting a) (nesting b))
 nesting start = 1
 nesting (holds e) = suc (nesting e)
 
--- formulas are compared by bytes
+-- two lists of bytes are equal
 abbrev pub sameBytes : List ℕ → List ℕ → Bool
 sameBytes [] [] = Bool.true
 sameBytes [] (y ∷ m) = Bool.false
 sameBytes (x ∷ l) [] = Bool.false
 sameBytes (x ∷ l) (y ∷ m) = eqb x y && sameBytes l m
 
+-- two formulas are the same: "formulas compared by bytes"
 unfoldable pub same : {s : Sort} → Formula s → Formula s → Bool
 same f g = sameBytes (encode f []) (encode g [])

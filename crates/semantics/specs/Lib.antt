@@ -8,5 +8,5 @@ pub mod Eval
 pub mod Machine
 pub mod Truth
 pub mod EveryRun
--- which names occur in a formula
+-- which names occur in a formula: what the side conditions of rules ask for
 pub mod Names

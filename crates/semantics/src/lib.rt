@@ -1,1 +1,1 @@
-// The semantics has no code: its definitions are under specs/, what guards them against a slip under proofs/.
+// The semantics of C11 release-acquire-relaxed programs and of assertions about them (specs/), guarded by examples (proofs/); no code.

@@ -1,6 +1,3 @@
-pub mod Bodies
-pub mod Encoding
-pub mod Framing
-pub mod Keeping
-pub mod Sequence
-pub mod Tables
+pub mod TrimmedSound
+pub mod TrimmedKeeps
+pub mod TrimPromised

@@ -1,5 +1,3 @@
-// The trimmed image, written to a buffer that the caller lends.
-pub mod kept;
-pub mod parts;
-pub mod record;
-pub mod whole;
+// Trimming for the archive (Change 2): `trim_image` is the entry point, specs/Promise.antt what it promises.
+pub mod entry;
+pub mod trimming;

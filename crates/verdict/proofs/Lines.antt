@@ -7,12 +7,12 @@ use lib.ListN.{length, take, drop}
 use Rattle.limits.specs.Limits as Limits
 use Rattle.input.specs.declared.Filled.{Filled}
 use Rattle.input.specs.declared.Filled.the-variants.{Full, Ended, Failed}
-use Rattle.report.specs.Fields.{fieldsOf}
-use Rattle.verdict_text.specs.Text.{room, textOf}
-use Rattle.verdict_text.specs.declared.text.Text.{Text}
-use Rattle.report.specs.declared.verdict.Fields.{Fields}
-use Rattle.report.specs.declared.verdict.Verdict.{Verdict}
-use Rattle.promise.specs.Answer.{verdictWithin}
+use Rattle.verdict_record.specs.Fields.{fieldsOf}
+use Rattle.verdict_record.specs.Text.{room, textOf}
+use Rattle.verdict_record.specs.declared.text.Text.{Text}
+use Rattle.verdict_record.specs.declared.verdict.Fields.{Fields}
+use Rattle.verdict_record.specs.declared.verdict.Verdict.{Verdict}
+use Rattle.checker_spec.specs.ImageVerdict.{verdictWithin}
 use Rattle.verdict.specs.Line.{lineOf, lineFor}
 
 pub line-judged : (s x : List ℕ) (v : Verdict) (f : Fields) → v ≡ verdictWithin Limits.programBytes s → f ≡ fieldsOf v → x ≡ textOf f
@@ -33,7 +33,7 @@ pub line-failed : (how : Filled) (s : List ℕ) → how ≡ Failed → [] ≡ li
 unfolding lineFor
 line-failed how s e = rw e
 
-pub ruleset lines = (line-judged, line-full, line-ended, line-failed)
+pub ruleset line-branches = (line-judged, line-full, line-ended, line-failed)
 
 -- a text is a part of its bytes
 pub text-within : (t : Text) → t .len ≤ room → length (t .bytes) ≡ room → t .len ≤ length (t .bytes)

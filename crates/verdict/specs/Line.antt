@@ -1,4 +1,4 @@
--- The line that is written for what was read.
+-- The line of text for what was read from the input.
 use mathlib.Core.Path.{_≡_}
 use mathlib.Core.List.{List, []}
 use Prim.Native.Nat.{ℕ}
@@ -7,22 +7,21 @@ use Rattle.limits.specs.Limits as Limits
 use Rattle.input.specs.Filled.{Fits}
 use Rattle.input.specs.declared.Filled.{Filled}
 use Rattle.input.specs.declared.Filled.the-variants.{Full, Ended, Failed}
-use Rattle.report.specs.Fields.{fieldsOf}
-use Rattle.verdict_text.specs.Text.{textOf}
-use Rattle.promise.specs.Answer.{verdictWithin}
+use Rattle.verdict_record.specs.Fields.{fieldsOf}
+use Rattle.verdict_record.specs.Text.{textOf}
+use Rattle.checker_spec.specs.ImageVerdict.{verdictWithin}
 
--- the nine fields of the verdict on an image, which for the program is shorter than for the library
+-- the line of the verdict on the image; "the program still refuses above 65,535" bytes
 unfoldable pub lineOf : List ℕ → List ℕ
 lineOf image = textOf (fieldsOf (verdictWithin Limits.programBytes image))
 
--- of exactly what came: all of the buffer, or what stands before the input's end
--- where a read failed nothing is judged, and there is no line
+-- the line for exactly what came: all of the buffer, or what precedes the end of the input; where a read failed, none
 unfoldable pub lineFor : Filled → List ℕ → List ℕ
 lineFor Full buffer = lineOf buffer
 lineFor (Ended n) buffer = lineOf (take n buffer)
 lineFor Failed buffer = []
 
--- the line is the one for what filled the buffer
+-- the line is the one for what filled the buffer, whatever that was
 pub record Answers (buffer line : List ℕ) : Type 0 where
   pub filled : Filled
   pub fits : Fits filled buffer

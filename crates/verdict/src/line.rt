@@ -1,27 +1,27 @@
-// The line for what was read.
+// The line of text for what was read from the input.
 use checker::judge::judge_within;
 use input::Filled;
 use input::fill;
 use limits::Limits;
 use limits::read::part;
-use report::verdict::fields_of;
-use verdict_text::text::Line;
-use verdict_text::text::Text;
-use verdict_text::text::text_of;
+use verdict_record::text::Line;
+use verdict_record::text::Text;
+use verdict_record::text::text_of;
+use verdict_record::verdict::fields_of;
 ghost use mathlib.Core.Path.{_≡_};
 ghost use Prim.Native.Nat.{_≤_};
 ghost use lib.ListN.{take};
-ghost use Rattle.verdict_text.specs.Text.{room};
+ghost use Rattle.verdict_record.specs.Text.{room};
 ghost use Rattle.verdict.specs.Line.{lineOf, lineFor, Answers};
 
-// The nine fields of the verdict on an image, which for the program is shorter than for the library.
+// The line of the verdict on the image. The program refuses images above 65,535 bytes, a lower limit than the library's.
 fn line_of(image: &[u8]) -> Text
     ensures { λ r. ⌜ (take (r .len) (r .bytes) ≡ lineOf (now (image .entry))) × (r .len ≤ room) ⌝ }
 {
     text_of(fields_of(judge_within(image, Limits::PROGRAM_BYTES)))
 }
 
-// Of exactly the bytes that came. Where a read failed nothing is judged, and there is no line.
+// The line for exactly the bytes that came. Where a read failed nothing is judged, and the text is empty.
 fn line_for(filled: Filled, buf: &[u8]) -> Text
     ensures { λ r. ⌜ (take (r .len) (r .bytes) ≡ lineFor filled (now (buf .entry))) × (r .len ≤ room) ⌝ }
 {
@@ -35,7 +35,7 @@ fn line_for(filled: Filled, buf: &[u8]) -> Text
     }
 }
 
-// The line for an input, which is read into the buffer.
+// Reads the input into the buffer and returns the line for it.
 pub fn answer(fd: i32, buf: &mut [u8]) -> Text
     ensures { λ r. ⌜ Answers (now (buf .exit)) (take (r .len) (r .bytes)) × (r .len ≤ room) ⌝ }
 {

@@ -165,7 +165,7 @@ fn what_is_not_written_whole_is_not_written() {
 }
 
 #[test]
-fn calls_of_desks_write_over_no_file_of_theirs() {
+fn calls_of_callers_write_over_no_file_of_theirs() {
     let (folder, _, image) = prepared("calls-over");
     let calls = |targets: [&str; 2]| {
         let [one, other] = targets;

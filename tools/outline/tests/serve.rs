@@ -8,7 +8,7 @@ use std::process::Command;
 
 /// The calls of the example, and who served them.
 fn served(args: &[&str]) -> (i32, String, String, String) {
-    let calls = example("two-desks").replace(".outline", ".calls");
+    let calls = example("two-callers").replace(".outline", ".calls");
     let (status, out, err) = run(&[&["serve", &calls], args].concat());
     let by = ["independent service", "proved service"].into_iter().find(|by| out.contains(by));
     let by = by.unwrap_or_else(|| panic!("{out}{err}"));

@@ -118,7 +118,7 @@ impl Both {
         match self.across {
             Some(_) => println!("{name}: {}", self.crossings),
             None => {
-                println!("{name}: no replays, target/staticlib/libreplay_across.a was not there")
+                println!("{name}: no replays, target/staticlib/libhandover_replay.a was not there")
             }
         }
     }

@@ -2,9 +2,9 @@
 
 mod bill;
 mod check;
-pub mod desks;
 pub mod handover;
 mod replay;
+pub mod service;
 pub mod sources;
 mod tally;
 mod trim;

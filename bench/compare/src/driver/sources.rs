@@ -25,7 +25,7 @@ pub fn sets() -> [Source; 4] {
 
 /// The sets that lie in the repository.
 pub fn stored() -> Source {
-    let folder = Path::new(env!("CARGO_MANIFEST_DIR")).join("../../crates/cases/data");
+    let folder = Path::new(env!("CARGO_MANIFEST_DIR")).join("../../crates/vectors_calls/data");
     let mut labelled = Vec::new();
     for name in ["images", "rules", "examples", "formulas"] {
         let path = folder.join(name).with_extension("bin");

@@ -1,4 +1,4 @@
-//! The proved handover, from the crate `handover`, and the replay across one, from the crate `replay_across`.
+//! The proved handover, from the crate `handover`, and the replay across one, from the crate `handover_replay`.
 
 use super::{Across, Handover};
 

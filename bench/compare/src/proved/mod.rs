@@ -2,21 +2,21 @@
 
 mod bills;
 mod check;
-mod desks;
 mod handover;
 mod replay;
 mod replays;
+mod service;
 mod trim;
 
 pub use bills::BILL;
 pub use check::check_into;
-pub use desks::DESKS;
 pub use handover::{ACROSS, HANDOVER};
 pub use replay::REPLAY;
+pub use service::SERVICE;
 pub use trim::TRIM;
 
 use reference::bill::Tariff;
-use reference::desks::{Call, Kind, Lent};
+use reference::service::{Call, Kind, Lent};
 use reference::trim::Answer;
 
 /// Trims an image into a buffer.
@@ -32,7 +32,7 @@ pub type Across = fn(&reference::handover::Across, &mut [u8], &mut [usize]) -> u
 
 /// A service: how it is opened, and how it serves a call.
 #[derive(Clone, Copy)]
-pub struct Desks {
+pub struct Service {
     pub open: fn(&[u8], &mut [u32]) -> u16,
     pub serve: fn(&mut [u32], &Call, &mut Lent) -> u16,
     /// What it can be asked for.

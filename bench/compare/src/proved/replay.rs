@@ -1,4 +1,4 @@
-//! The proved replay, from the crate `replaying`.
+//! The proved replay, from the crate `replay`.
 
 use super::Replay;
 

@@ -1,6 +1,6 @@
 //! Of the proved service the calls about handovers and traces, which an archive may lack.
 
-use reference::desks::Kind;
+use reference::service::Kind;
 
 /// What the service can be asked for: those come first that came first.
 pub const KINDS: &[Kind] = super::KINDS
@@ -21,7 +21,7 @@ const MISSING: &str = "the archive has no such call";
 #[cfg(not(proved_replays))]
 mod linked {
     use super::MISSING;
-    use reference::desks::Run;
+    use reference::service::Run;
 
     pub fn handover(_: &[u32], _: usize, _: &[u8], _: &[u8], _: &[u8]) -> u16 {
         panic!("{MISSING}")
@@ -35,7 +35,7 @@ mod linked {
 #[cfg(proved_replays)]
 mod linked {
     use super::parts;
-    use reference::desks::Run;
+    use reference::service::Run;
 
     // include/hidokpalu.h says what the calls do.
     extern "C" {

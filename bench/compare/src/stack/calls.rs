@@ -1,10 +1,10 @@
 //! The calls whose stack is measured, each made of an image.
 
-use crate::proved::{self, ACROSS, DESKS, HANDOVER, REPLAY, TRIM};
+use crate::proved::{self, ACROSS, HANDOVER, REPLAY, TRIM};
 use reference::bill::{self, Tariff};
 use reference::checker::decode;
-use reference::desks::{self, Kind, Lent, Request, Right, Rooms, Update, SERVICE};
 use reference::replay::{ANSWER, MOST_WRITES, WRITE_BYTES};
+use reference::service::{self, Kind, Lent, Request, Right, Rooms, Update, SERVICE};
 use sets::generate::handovers::Pair;
 use sets::generate::random::Random;
 use sets::generate::traces;
@@ -63,7 +63,7 @@ pub fn linked() -> impl Iterator<Item = Measured> {
 impl Measured {
     fn is_linked(&self) -> bool {
         match (self.served, self.kind) {
-            (true, kind) => DESKS.is_some_and(|desks| desks.kinds.contains(&kind)),
+            (true, kind) => proved::SERVICE.is_some_and(|proved| proved.kinds.contains(&kind)),
             (false, Kind::Check) => true,
             (false, Kind::Trim) => TRIM.is_some(),
             (false, Kind::Replay) => REPLAY.is_some(),
@@ -75,13 +75,13 @@ impl Measured {
 
     /// The call on an image, to be made later; it answers with the code.
     pub fn on(&self, image: &[u8]) -> impl FnMut() -> u16 {
-        let call = desks::Call { caller: CALLER, request: request(self.kind, image) };
+        let call = service::Call { caller: CALLER, request: request(self.kind, image) };
         let mut lent = lent(image.len());
         let mut service = [0; SERVICE];
         service[CALLER - 1] = Right::Check as u32 | Right::Replay as u32 | Right::Bill as u32;
         let is_served = self.served;
-        move || match DESKS {
-            Some(desks) if is_served => (desks.serve)(&mut service, &call, &mut lent),
+        move || match proved::SERVICE {
+            Some(proved) if is_served => (proved.serve)(&mut service, &call, &mut lent),
             _ => make(&call.request, &mut lent),
         }
     }

@@ -2,7 +2,7 @@
 //!
 //! Usage: recheck FOLDER [SET...], where without a SET those that `vectors` writes are judged
 
-use reference::stored::{bills, crossings, desks, formulas, handovers, images, replays, trims};
+use reference::stored::{bills, crossings, formulas, handovers, images, replays, service, trims};
 use std::path::Path;
 use std::process::ExitCode;
 
@@ -16,23 +16,12 @@ const BILLS: &str = "bills";
 const REPLAYS: &str = "replay";
 const HANDOVERS: &str = "handover";
 const CROSSINGS: &str = "across";
-const DESKS: &str = "desks";
-const SETS: [&str; 11] = [
-    FORMULAS,
-    "formulas",
-    "images",
-    "rules",
-    TRIMS,
-    BILLS,
-    REPLAYS,
-    HANDOVERS,
-    CROSSINGS,
-    DESKS,
-    "desks-all",
-];
+const SERVICE: &str = "service";
+const SETS: [&str; 10] =
+    [FORMULAS, "formulas", "images", "rules", TRIMS, BILLS, REPLAYS, HANDOVERS, CROSSINGS, SERVICE];
 
 /// A set of formulas; by the front of its name of images trimmed, billed, replayed, handed over or replayed across a
-/// handover, or of calls of desks; by any other name of images judged.
+/// handover, or of calls of a service; by any other name of images judged.
 fn judge_of(name: &str) -> Judge {
     match name {
         FORMULAS => formulas,
@@ -41,7 +30,7 @@ fn judge_of(name: &str) -> Judge {
         _ if name.starts_with(REPLAYS) => replays::judged,
         _ if name.starts_with(HANDOVERS) => handovers::judged,
         _ if name.starts_with(CROSSINGS) => crossings::judged,
-        _ if name.starts_with(DESKS) => desks::judged,
+        _ if name.starts_with(SERVICE) => service::judged,
         _ => images,
     }
 }

@@ -1,4 +1,4 @@
-//! Replay of a crash trace: the machine runs the steps that a pad left, each two bytes, thread and position.
+//! Replay of a crash trace: the machine runs the steps that were noted, each two bytes, thread and position.
 
 use crate::checker::accepted;
 use crate::image::{Header, Program, Thread};

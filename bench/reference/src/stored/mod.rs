@@ -1,6 +1,6 @@
 //! Stored sets read back and judged again.
 //!
-//! Those of trimming, of bills, of replay and of desks are in [`trims`], [`bills`], [`replays`] and [`desks`].
+//! Those of trimming, of bills, of replay and of a service are in [`trims`], [`bills`], [`replays`] and [`service`].
 //!
 //! A container of images has for each case its length (32 bits), the image, the nine fields of its
 //! verdict (16 bits each); one of formulas their length (32 bits), bytes, threads, words, registers and
@@ -8,9 +8,9 @@
 
 pub mod bills;
 pub mod crossings;
-pub mod desks;
 pub mod handovers;
 pub mod replays;
+pub mod service;
 pub mod trims;
 
 use crate::checker::check;

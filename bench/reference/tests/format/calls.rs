@@ -5,10 +5,10 @@ use crate::header::functions;
 use crate::images::small;
 use crate::page::{number, numbers, spans, table};
 use reference::bill::Tariff;
-use reference::desks::{
+use reference::service::{
     open_service, serve, Call, Lent, Request, Rooms, Update, NO_RIGHT, SERVICE,
 };
-use reference::{bill, checker, desks, handover, replay, trim};
+use reference::{bill, checker, handover, replay, service, trim};
 use std::rc::Rc;
 
 /// A row: the call, the right that it needs, its codes in groups.
@@ -47,14 +47,14 @@ fn groups_of(call: &str) -> Vec<Vec<u16>> {
 /// The codes of a call by its name in the header.
 fn known(call: &str) -> Vec<Vec<u32>> {
     let groups = match (call, call.strip_prefix("serve_")) {
-        ("open_service", _) => vec![vec![desks::SERVICE_TOO_SHORT]],
+        ("open_service", _) => vec![vec![service::SERVICE_TOO_SHORT]],
         ("check_image", _) => groups_of("check"),
         ("trim_image", _) => groups_of("trim"),
         ("replay_trace", _) => groups_of("replay"),
         ("check_handover", _) => groups_of("handover"),
         ("replay_handover", _) => groups_of("replay_handover"),
         (_, Some(served)) => {
-            let first = vec![vec![desks::NO_SUCH_CALLER], vec![NO_RIGHT]];
+            let first = vec![vec![service::NO_SUCH_CALLER], vec![NO_RIGHT]];
             [first, groups_of(served)].concat()
         }
         _ => panic!("no call {call}"),
@@ -138,11 +138,11 @@ fn of_two_codes_the_first_group_is_told() {
     assert_eq!(handover::check_handover(&accepted, &accepted, &[0, 1, 0]), 34);
     let mut service = [7, 0, 0, 0, 0, 0, 0, 0, u32::MAX];
     let tariff = Tariff::default();
-    assert_eq!(desks::serve_bill(&mut service, 9, not_accepted, &tariff, &mut []), 35);
-    assert_eq!(desks::serve_bill(&mut service, 2, not_accepted, &tariff, &mut []), 36);
-    assert_eq!(desks::serve_bill(&mut service, 1, not_accepted, &tariff, &mut [0; 5]), 1);
-    assert_eq!(desks::serve_bill(&mut service[..8], 1, &accepted, &tariff, &mut [0; 6]), 1);
-    assert_eq!(desks::serve_bill(&mut service, 1, not_accepted, &tariff, &mut [0; 6]), 30);
-    assert_eq!(desks::serve_bill(&mut service, 1, &accepted, &tariff, &mut [0; 6]), 31);
+    assert_eq!(service::serve_bill(&mut service, 9, not_accepted, &tariff, &mut []), 35);
+    assert_eq!(service::serve_bill(&mut service, 2, not_accepted, &tariff, &mut []), 36);
+    assert_eq!(service::serve_bill(&mut service, 1, not_accepted, &tariff, &mut [0; 5]), 1);
+    assert_eq!(service::serve_bill(&mut service[..8], 1, &accepted, &tariff, &mut [0; 6]), 1);
+    assert_eq!(service::serve_bill(&mut service, 1, not_accepted, &tariff, &mut [0; 6]), 30);
+    assert_eq!(service::serve_bill(&mut service, 1, &accepted, &tariff, &mut [0; 6]), 31);
     assert_eq!(open_service(&[], &mut service), 1);
 }

@@ -5,9 +5,9 @@ use crate::page::{number, numbers, spans, table};
 use reference::bill::{self, Tariff};
 use reference::checker::verdict::{Verdict, OUTPUT_TOO_SHORT, RECORD_BYTES};
 use reference::checker::{check, check_into};
-use reference::desks::{admitted, Right, NO_RIGHT, NO_SUCH_CALLER, SERVICE};
 use reference::image::written::{image_bytes, Written};
 use reference::image::{Claim, Meeting};
+use reference::service::{admitted, Right, NO_RIGHT, NO_SUCH_CALLER, SERVICE};
 use reference::{handover, replay, trim};
 
 /// The small image with one change.

@@ -7,7 +7,7 @@ use reference::checker::{check, check_within, decode, frames, limits, rules, ver
 use reference::formula::nesting;
 use reference::image::written::{image_bytes, Written};
 use reference::image::{Claim, Meeting};
-use reference::{bill, desks, handover, replay};
+use reference::{bill, handover, replay, service};
 
 /// What is asked of a limit: does it permit this number? None where there is no such image at all.
 type Permits = fn(usize) -> Option<bool>;
@@ -34,7 +34,7 @@ const LIMITS: [(&str, Option<usize>, Permits); 17] = [
     ("rows of a test by rows", Some(MOST_ROWS), rows),
     ("leaves of a truth table", Some(MOST_LEAVES), leaves),
     ("writes of a replay", Some(replay::MOST_WRITES), writes),
-    ("callers of a service", Some(desks::CALLERS), callers),
+    ("callers of a service", Some(service::CALLERS), callers),
 ];
 
 #[test]
@@ -62,7 +62,7 @@ fn sizes_are_those_of_the_page() {
         ("numbers of a replay's answer", replay::ANSWER),
         ("bytes of a write in a table", replay::WRITE_BYTES),
         ("bytes of an entry of a handover table", handover::ENTRY_BYTES),
-        ("numbers of a service", desks::SERVICE),
+        ("numbers of a service", service::SERVICE),
         ("numbers of a bill", bill::ANSWER),
     ];
     let told = table(["Size", "Number", "Name in the header"]).into_iter();
@@ -237,5 +237,8 @@ fn writes(count: usize) -> Option<bool> {
 
 /// Whether there is such a caller; none of them has a right.
 fn callers(count: usize) -> Option<bool> {
-    Some(desks::admitted(&[0; desks::SERVICE], count, desks::Right::Check) == desks::NO_RIGHT)
+    Some(
+        service::admitted(&[0; service::SERVICE], count, service::Right::Check)
+            == service::NO_RIGHT,
+    )
 }

@@ -3,7 +3,7 @@
 //! Usage: vectors FOLDER
 
 use sets::examples::{largest, message_passing, two_writes};
-use sets::vectors::{bills, desks, formulas, handovers, images, replays, rules, store, trims};
+use sets::vectors::{bills, formulas, handovers, images, replays, rules, service, store, trims};
 use std::io::{Error, Result};
 use std::path::Path;
 
@@ -33,9 +33,9 @@ fn main() -> Result<()> {
     store::write(folder, "handover", store::handovers(&handovers))?;
     store::write(folder, "across", store::crossings(&crossings))?;
     println!("handover: {} cases\nacross: {} cases", handovers.len(), crossings.len());
-    let desks = desks::cases();
-    store::write(folder, "desks-all", store::desks(&desks))?;
-    println!("desks-all: {} cases", desks.len());
+    let turns = service::cases();
+    store::write(folder, "service", store::service(&turns))?;
+    println!("service: {} cases", turns.len());
     std::fs::write(folder.join("message-passing.image"), message_passing().bytes())?;
     std::fs::write(folder.join("two-writes.image"), two_writes().bytes())?;
     std::fs::write(folder.join("largest.image"), largest())?;

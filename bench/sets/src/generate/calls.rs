@@ -1,4 +1,4 @@
-//! Calls of several desks: a service and what its callers ask, one after another.
+//! Calls of several callers: a service and what its callers ask, one after another.
 
 use super::random::Random;
 use super::{clutter, handovers, image as any_image, tariffs, traces};
@@ -6,8 +6,8 @@ use crate::examples::message_passing;
 use reference::bill::ANSWER;
 use reference::checker::accepted;
 use reference::checker::verdict::RECORD_BYTES;
-use reference::desks::{Call, Kind, Request, Rooms, Update, CALLERS, SERVICE};
 use reference::image::Program;
+use reference::service::{Call, Kind, Request, Rooms, Update, CALLERS, SERVICE};
 use reference::trim::trimmed;
 use std::rc::Rc;
 

@@ -1,17 +1,17 @@
 //! What the proved programs over stored sets write if no answer differs.
 
-use reference::stored::{bills, crossings, desks, handovers, replays, stored_images, trims};
+use reference::stored::{bills, crossings, handovers, replays, service, stored_images, trims};
 use std::collections::BTreeMap;
 
 /// The words for what is done at a service, in the order of their numbers.
-const DEEDS: [&str; 8] =
+const DONE: [&str; 8] =
     ["opened", "set", "checked", "trimmed", "billed", "handed over", "replayed", "replayed across"];
 
 /// The line for a container, by its name of images trimmed, billed, replayed, handed over or judged, counted from what is
 /// stored; none if it is cut short.
 pub fn line(name: &str, bytes: &[u8]) -> Option<String> {
-    if name.starts_with("desks") {
-        return desk_line(name, bytes);
+    if name.starts_with("service") {
+        return service_line(name, bytes);
     }
     let stored: Vec<u16> = match name {
         _ if name.starts_with("trim") => {
@@ -43,11 +43,11 @@ fn by_code(codes: &[u16]) -> String {
     counts.iter().map(|(code, count)| format!(", {count} of code {code}")).collect()
 }
 
-/// The line for calls of desks, counted by what is done.
-fn desk_line(name: &str, bytes: &[u8]) -> Option<String> {
-    let cases = desks::cases(bytes)?;
-    let of_deed = |deed| cases.iter().filter(|case| case.turn.deed as usize == deed).count();
-    let counts = DEEDS.iter().enumerate().map(|(deed, word)| format!("{} {word}", of_deed(deed)));
+/// The line for turns at a service, counted by what is done.
+fn service_line(name: &str, bytes: &[u8]) -> Option<String> {
+    let cases = service::cases(bytes)?;
+    let of_kind = |kind| cases.iter().filter(|case| case.turn.kind as usize == kind).count();
+    let counts = DONE.iter().enumerate().map(|(kind, word)| format!("{} {word}", of_kind(kind)));
     let counts: Vec<String> = counts.collect();
     Some(format!("{name}: {} cases: {}; 0 differ", cases.len(), counts.join(", ")))
 }

@@ -4,7 +4,6 @@
 //! the clause of the scope page that it tests.
 
 pub mod bills;
-pub mod desks;
 pub mod edits;
 pub mod expected;
 pub mod formulas;
@@ -15,6 +14,7 @@ pub mod precedence;
 mod refused;
 pub mod replays;
 pub mod rules;
+pub mod service;
 pub mod store;
 pub mod tour;
 pub mod trims;

@@ -1,22 +1,22 @@
 //! The files of a set: a container of images and verdicts, as `reference::stored` reads it, and a text index.
 
 use super::bills::BillCase;
-use super::desks::DeskCase;
 use super::formulas::FormulaCase;
 use super::handovers::{CrossingCase, HandoverCase};
 use super::replays::ReplayCase;
+use super::service::TurnCase;
 use super::trims::TrimCase;
 use super::Case;
 use crate::generate::handovers::Crossing;
 use crate::generate::traces::Call;
 use reference::bill::{bill_into, Tariff, ANSWER};
 use reference::checker::{accepted, check};
-use reference::desks::SERVICE;
 use reference::formula::parse::Counts;
 use reference::handover::{check_handover, permitted, replayed_across, Traces};
 use reference::replay::{self, replayed, Replay, ANSWER_TOO_SHORT, WRITE_BYTES};
+use reference::service::SERVICE;
 use reference::stored::answer;
-use reference::stored::desks::PARTS;
+use reference::stored::service::PARTS;
 use reference::trim::trim_into;
 use std::fmt::Write as _;
 use std::io::Result;
@@ -183,14 +183,14 @@ pub fn handovers(cases: &[HandoverCase]) -> (Vec<u8>, String) {
     (bytes, text)
 }
 
-/// The container and the index of calls of desks: number, label, code of each.
-pub fn desks(cases: &[DeskCase]) -> (Vec<u8>, String) {
+/// The container and the index of turns at a service: number, label, code of each.
+pub fn service(cases: &[TurnCase]) -> (Vec<u8>, String) {
     let (mut bytes, mut text) = (Vec::new(), String::new());
     let mut service = [0; SERVICE];
-    for (number, DeskCase { label, turn }) in (1..).zip(cases) {
+    for (number, TurnCase { label, turn }) in (1..).zip(cases) {
         let left = turn.take(&mut service);
         push_counted(&mut bytes, &turn.parts.concat());
-        bytes.extend((turn.deed as u16).to_le_bytes());
+        bytes.extend((turn.kind as u16).to_le_bytes());
         push_length(&mut bytes, turn.caller);
         turn.parts[..PARTS - 1].iter().for_each(|part| push_length(&mut bytes, part.len()));
         push_length(&mut bytes, turn.bytes);

@@ -1,11 +1,11 @@
 //! Labels that name a code agree with the verdict.
-use super::{bills, desks, formulas, handovers, images, replays, rules, store, trims, Case};
+use super::{bills, formulas, handovers, images, replays, rules, service, store, trims, Case};
 use crate::examples::{message_passing, two_writes};
 use reference::checker::check;
 use reference::image::written::Written;
 use reference::replay::replayed;
 use reference::stored;
-use reference::stored::desks::Deed;
+use reference::stored::service::TurnKind;
 use std::collections::BTreeMap;
 
 /// The code that a label names: "6: ...", "6 before 8 ...", "accepted: ...".
@@ -47,10 +47,10 @@ fn labels_are_distinct() {
     let replays = replays::cases().into_iter().map(|case| case.label).collect();
     let handovers = handovers::cases().into_iter().map(|case| case.label).collect();
     let crossings = handovers::crossings().into_iter().map(|case| case.label).collect();
-    let desks = desks::cases().into_iter().map(|case| case.label).collect();
+    let turns = service::cases().into_iter().map(|case| case.label).collect();
     let [images, rules] = [images::cases(), rules::cases()].map(labels);
     let mut sets: [Vec<String>; 8] =
-        [images, rules, trims, bills, replays, handovers, crossings, desks];
+        [images, rules, trims, bills, replays, handovers, crossings, turns];
     for labels in &mut sets {
         labels.sort_unstable();
         let twice = labels.windows(2).find(|pair| pair[0] == pair[1]);
@@ -102,12 +102,12 @@ fn bills_are_read_back() {
 }
 
 #[test]
-fn calls_of_desks_are_read_back() {
-    let (bytes, text) = store::desks(&desks::cases());
-    let cases = stored::desks::cases(&bytes).expect("whole");
-    assert!(cases.iter().map(|case| &case.turn).eq(desks::cases().iter().map(|case| &case.turn)));
-    assert!(stored::desks::judged(&bytes).expect("whole").iter().all(|&same| same));
-    assert!(stored::desks::cases(&bytes[..bytes.len() - 1]).is_none());
+fn turns_at_a_service_are_read_back() {
+    let (bytes, text) = store::service(&service::cases());
+    let cases = stored::service::cases(&bytes).expect("whole");
+    assert!(cases.iter().map(|case| &case.turn).eq(service::cases().iter().map(|case| &case.turn)));
+    assert!(stored::service::judged(&bytes).expect("whole").iter().all(|&same| same));
+    assert!(stored::service::cases(&bytes[..bytes.len() - 1]).is_none());
     for (case, line) in cases.iter().zip(text.lines()) {
         let label = line.split('\t').nth(1).expect("a label");
         let named = named_code(label).filter(|_| (1..=8).contains(&case.turn.caller));
@@ -118,20 +118,20 @@ fn calls_of_desks_are_read_back() {
 
 /// Every code that a call can answer is answered to somebody, and each of the eight is served and refused.
 #[test]
-fn calls_of_desks_have_every_code() {
-    let (bytes, _) = store::desks(&desks::cases());
-    let cases = stored::desks::cases(&bytes).expect("whole");
-    let of = |deed: Deed| {
-        let codes = cases.iter().filter(|case| case.turn.deed == deed).map(|case| case.left.code);
+fn turns_at_a_service_have_every_code() {
+    let (bytes, _) = store::service(&service::cases());
+    let cases = stored::service::cases(&bytes).expect("whole");
+    let of = |kind: TurnKind| {
+        let codes = cases.iter().filter(|case| case.turn.kind == kind).map(|case| case.left.code);
         by_code(codes).into_keys().collect::<Vec<u16>>()
     };
-    assert_eq!(of(Deed::Open), [0]);
-    assert_eq!(of(Deed::Check), [0, 1, 2, 3, 4, 5, 6, 7, 8, 9, 20, 21, 22, 23, 26, 35, 36]);
-    assert_eq!(of(Deed::Trim), [0, 24, 25, 35, 36]);
-    assert_eq!(of(Deed::Bill), [0, 1, 30, 31, 35, 36]);
-    assert_eq!(of(Deed::Handover), [0, 32, 33, 34, 35, 36]);
-    assert_eq!(of(Deed::Replay), [0, 1, 24, 27, 28, 29, 35, 36]);
-    assert_eq!(of(Deed::ReplayHandover), [0, 1, 27, 28, 29, 32, 33, 34, 35, 36]);
+    assert_eq!(of(TurnKind::Open), [0]);
+    assert_eq!(of(TurnKind::Check), [0, 1, 2, 3, 4, 5, 6, 7, 8, 9, 20, 21, 22, 23, 26, 35, 36]);
+    assert_eq!(of(TurnKind::Trim), [0, 24, 25, 35, 36]);
+    assert_eq!(of(TurnKind::Bill), [0, 1, 30, 31, 35, 36]);
+    assert_eq!(of(TurnKind::Handover), [0, 32, 33, 34, 35, 36]);
+    assert_eq!(of(TurnKind::Replay), [0, 1, 24, 27, 28, 29, 35, 36]);
+    assert_eq!(of(TurnKind::ReplayHandover), [0, 1, 27, 28, 29, 32, 33, 34, 35, 36]);
     for caller in 1..=8 {
         let codes = cases.iter().filter(|case| case.turn.caller == caller);
         let codes = by_code(codes.map(|case| case.left.code));

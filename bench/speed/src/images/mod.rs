@@ -1,4 +1,4 @@
-//! Whole images: `open_image` beside two Rust readers.
+//! Whole images: `decode_image` beside two Rust readers.
 
 pub mod answer;
 mod build;

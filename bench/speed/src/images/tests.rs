@@ -218,10 +218,10 @@ fn the_first_record_and_in_it_the_lowest_code_is_named() {
     expect(&bytes(&two), refused(4, 11));
 }
 
-/// The set `images` of `cases`.
+/// The set `images` of `crates/vectors_calls`.
 #[test]
 fn stored_verdicts_are_met() {
-    let path = concat!(env!("CARGO_MANIFEST_DIR"), "/../../crates/cases/data/images.bin");
+    let path = concat!(env!("CARGO_MANIFEST_DIR"), "/../../crates/vectors_calls/data/images.bin");
     let stored = std::fs::read(path).expect("the stored set is there");
     let cases = stored_images(&stored).expect("the set is whole");
     for case in &cases {

@@ -1,4 +1,4 @@
-use Rattle.exports.proofs.Numbers.{answers}
+use Rattle.exports.proofs.ExportBranches.{main-branches}
 use borrow.Author.Needs.{needs}
 use Rattle.exports.proofs.answer_by.Statement.{statement}
 use Rattle.exports.proofs.answer_by.Tie as tie
@@ -15,6 +15,6 @@ answer-by-spec =
     (λ c. search needs)
     (λ c. search needs)
     (λ c. search needs)
-    (λ c. search (answers, needs))
+    (λ c. search (main-branches, needs))
     (λ c. search needs)
-    (λ c. search (answers, needs)))
+    (λ c. search (main-branches, needs)))

@@ -1,4 +1,4 @@
-use Rattle.exports.proofs.Numbers.{answers}
+use Rattle.exports.proofs.ExportBranches.{main-branches}
 use borrow.Author.Needs.{needs}
 use Rattle.exports.proofs.formula_answer.Statement.{statement}
 use Rattle.exports.proofs.formula_answer.Tie as tie
@@ -11,5 +11,5 @@ formula-answer-spec =
     (λ c. search needs)
     (λ c κs. search needs)
     (λ c. search needs)
-    (λ c. search (answers, needs))
-    (λ c. search (answers, needs)))
+    (λ c. search (main-branches, needs))
+    (λ c. search (main-branches, needs)))

@@ -3,7 +3,7 @@ use Prim.Native.Nat.{_≤_, _-_}
 use lib.ListN.{length}
 use borrow.Author.Needs.{needs}
 use Rattle.input.specs.Filled.{Fits}
-use Rattle.input.proofs.Reaching.{filling}
+use Rattle.input.proofs.ReadBranches.{fill-branches}
 use Rattle.input.proofs.fill.Statement.{statement}
 use Rattle.input.proofs.fill.Tie as tie
 
@@ -20,13 +20,13 @@ fill-spec =
     (tie.spec
     Inv-loop
     μ-loop
-    (λ c. search (filling, needs))
-    (λ c κs. search (filling, needs))
-    (λ c. search (filling, needs))
-    (λ c. search (filling, needs))
-    (λ c. search (filling, needs))
-    (λ c. search (filling, needs))
-    (λ c. search (filling, needs))
-    (λ c. search (filling, needs))
-    (λ c. search (filling, needs))
+    (λ c. search (fill-branches, needs))
+    (λ c κs. search (fill-branches, needs))
+    (λ c. search (fill-branches, needs))
+    (λ c. search (fill-branches, needs))
+    (λ c. search (fill-branches, needs))
+    (λ c. search (fill-branches, needs))
+    (λ c. search (fill-branches, needs))
+    (λ c. search (fill-branches, needs))
+    (λ c. search (fill-branches, needs))
     (λ c. search needs))

@@ -1,4 +1,4 @@
-use Rattle.input.proofs.Reaching.{front-kept, goes}
+use Rattle.input.proofs.ReadBranches.{front-kept, goes}
 use borrow.Author.Needs.{needs}
 use Rattle.input.proofs.read_behind.Statement.{statement}
 use Rattle.input.proofs.read_behind.Tie as tie

@@ -9,7 +9,7 @@ use crate::command::{json, print, words, Done, Status};
 use crate::text::parse_tariff::tariff;
 use reference::bill::{Bill, Tariff, NOT_ACCEPTED};
 use reference::checker::accepted;
-use reference::desks::CALLERS;
+use reference::service::CALLERS;
 
 /// One file: its bill with the names of its threads and a word about it, or why there is none.
 type Billed = Result<(Bill, Vec<String>, String), String>;

@@ -108,7 +108,7 @@ const COMMANDS: [Command; 13] = [
     Command {
         name: "serve",
         usage: &["serve FILE"],
-        about: "calls of several desks to one service, in their order",
+        about: "calls of several callers to one service, in their order",
         options: &[],
         run: serve::run,
     },

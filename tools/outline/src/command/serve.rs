@@ -1,4 +1,4 @@
-//! `serve`: calls of several desks to one service, in their order.
+//! `serve`: calls of several callers to one service, in their order.
 
 use crate::command::input::{called, mistake, mistakes, read, read_bytes, Input, Subject};
 use crate::command::options::Options;
@@ -16,9 +16,9 @@ use crate::text::parse_session::{session, Asked, Session, Wish};
 use crate::text::print::Names;
 use reference::checker::verdict::{Verdict, RECORD_BYTES};
 use reference::checker::{accepted, decode};
-use reference::desks::{Run, CALLERS, NO_RIGHT, NO_SUCH_CALLER, SERVICE};
 use reference::handover::{permitted, Across, Traces};
 use reference::replay::{start, ANSWER, MOST_WRITES, WRITE_BYTES};
+use reference::service::{Run, CALLERS, NO_RIGHT, NO_SUCH_CALLER, SERVICE};
 use std::path::Path;
 
 /// What a call came to.

@@ -3,15 +3,15 @@
 /// Who serves where no archive is linked.
 pub const INDEPENDENT: &str = "independent service";
 
-#[cfg(not(proved_desks))]
+#[cfg(not(proved_service))]
 mod linked {
     pub const SERVER: &str = super::INDEPENDENT;
     pub const BILLER: &str = "independent billing";
 
-    pub use reference::desks::{open_service, serve_bill, serve_check, serve_trim};
+    pub use reference::service::{open_service, serve_bill, serve_check, serve_trim};
 }
 
-#[cfg(proved_desks)]
+#[cfg(proved_service)]
 mod linked {
     use reference::bill::Tariff;
     use reference::trim::Answer;
@@ -123,10 +123,10 @@ mod linked {
 
 pub use linked::{open_service, serve_bill, serve_check, serve_trim, BILLER, SERVER};
 // The calls about handovers and traces are the independent ones in any case, and the answers say so.
-pub use reference::desks::{serve_handover, serve_replay, serve_replay_handover};
+pub use reference::service::{serve_handover, serve_replay, serve_replay_handover};
 
 use reference::bill::{Bill, Tariff, ANSWER};
-use reference::desks::{Right, CALLERS, SERVICE};
+use reference::service::{Right, CALLERS, SERVICE};
 
 /// The bill of an image for a caller.
 pub fn bill_for(service: &mut [u32], caller: usize, image: &[u8], tariff: &Tariff) -> Bill {

@@ -4,7 +4,7 @@ use super::lex::{Mistake, Place};
 use super::lines::{fault, mistake, number, words, Fault};
 use super::parse_tariff::{cents, NO_PRICE};
 use reference::bill::Tariff;
-use reference::desks::{Right, CALLERS};
+use reference::service::{Right, CALLERS};
 
 /// A service as it is opened, and the calls to it in their order.
 #[derive(Debug, Default, PartialEq, Eq)]
@@ -200,7 +200,7 @@ mod tests {
 
     #[test]
     fn rights_then_calls() {
-        let text = "# two desks\ncaller 1 may check, bill\ncaller 2 may replay\ncaller 2 billed 41\n\
+        let text = "# two callers\ncaller 1 may check, bill\ncaller 2 may replay\ncaller 2 billed 41\n\
                     1 check a.image\n  9 trim b.image c.image # kept\n2 bill a.image 1 2 3 4 65535\n";
         let found = session(text).expect("a session");
         assert_eq!(found.rights, [5, 2, 0, 0, 0, 0, 0, 0]);

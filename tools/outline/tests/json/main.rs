@@ -85,7 +85,10 @@ fn commands_that_accept_fit_the_schema() {
     for args in commands {
         answers(args);
     }
-    assert_eq!(answers(&["serve", &format!("{}/two-desks.calls", folder_of_examples())]).len(), 9);
+    assert_eq!(
+        answers(&["serve", &format!("{}/two-callers.calls", folder_of_examples())]).len(),
+        9
+    );
 }
 
 fn folder_of_examples() -> String {

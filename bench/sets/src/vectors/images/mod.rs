@@ -5,11 +5,11 @@ mod claims;
 mod formula;
 mod frames;
 mod header;
+mod limits;
 mod line;
 mod numbers;
 mod obligations;
 mod outline;
-mod pads;
 mod pairs;
 mod thread;
 
@@ -35,7 +35,7 @@ pub fn cases() -> Vec<Case> {
         numbers::cases(),
         obligations::cases(),
         claims::cases(),
-        pads::cases(),
+        limits::cases(),
         precedence::cases(),
     ]
     .concat()

@@ -1,5 +1,5 @@
-use Rattle.limits.proofs.Auto.{tests}
-use Rattle.checker.proofs.Granted.{accepting}
+use Rattle.limits.proofs.BranchTests.{tests}
+use Rattle.checker.proofs.AcceptanceBranches.{accept-image-branches}
 use borrow.Author.Needs.{needs}
 use Rattle.checker.proofs.acceptance.accept_image.Statement.{statement}
 use Rattle.checker.proofs.acceptance.accept_image.Tie as tie
@@ -15,6 +15,6 @@ accept-image-spec =
     (λ c κs. search needs)
     (λ c κs. search needs)
     (λ c. search needs)
-    (λ c. (search (accepting, tests), search tests))
+    (λ c. (search (accept-image-branches, tests), search tests))
     (λ c. search needs)
-    (λ c. (search (accepting, tests), search tests)))
+    (λ c. (search (accept-image-branches, tests), search tests)))

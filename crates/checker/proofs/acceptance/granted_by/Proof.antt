@@ -1,5 +1,5 @@
-use Rattle.limits.proofs.Auto.{tests}
-use Rattle.checker.proofs.Granted.{granting}
+use Rattle.limits.proofs.BranchTests.{tests}
+use Rattle.checker.proofs.AcceptanceBranches.{granted-by-branches}
 use borrow.Author.Needs.{needs}
 use Rattle.checker.proofs.acceptance.granted_by.Statement.{statement}
 use Rattle.checker.proofs.acceptance.granted_by.Tie as tie
@@ -12,7 +12,7 @@ granted-by-spec =
     (λ c. search needs)
     (λ c. search needs)
     (λ c. search needs)
-    (λ c. search (granting, tests))
+    (λ c. search (granted-by-branches, tests))
     (λ c. search needs)
-    (λ c. search (granting, tests))
-    (λ c. search (granting, tests)))
+    (λ c. search (granted-by-branches, tests))
+    (λ c. search (granted-by-branches, tests)))

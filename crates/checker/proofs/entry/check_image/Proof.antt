@@ -1,5 +1,5 @@
-use Rattle.promise.proofs.Accepted.{promised, promised-short}
-use Rattle.limits.proofs.Auto.{tests}
+use Rattle.checker_spec.proofs.AcceptedRuns.{promised, promised-short}
+use Rattle.limits.proofs.BranchTests.{tests}
 use borrow.Author.Needs.{needs}
 use Rattle.checker.proofs.entry.check_image.Statement.{statement}
 use Rattle.checker.proofs.entry.check_image.Tie as tie

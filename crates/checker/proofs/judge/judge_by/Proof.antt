@@ -1,5 +1,5 @@
-use Rattle.limits.proofs.Auto.{tests}
-use Rattle.checker.proofs.Verdicts.{judging}
+use Rattle.limits.proofs.BranchTests.{tests}
+use Rattle.checker.proofs.JudgeBranches.{judge-by-branches}
 use borrow.Author.Needs.{needs}
 use Rattle.checker.proofs.judge.judge_by.Statement.{statement}
 use Rattle.checker.proofs.judge.judge_by.Tie as tie
@@ -14,6 +14,6 @@ judge-by-spec =
     (λ c. search needs)
     (λ c κs. search needs)
     (λ c. search needs)
-    (λ c. search (judging, tests))
+    (λ c. search (judge-by-branches, tests))
     (λ c. search needs)
-    (λ c. search (judging, tests)))
+    (λ c. search (judge-by-branches, tests)))

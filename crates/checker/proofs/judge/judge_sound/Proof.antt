@@ -1,5 +1,5 @@
-use Rattle.limits.proofs.Auto.{tests}
-use Rattle.checker.proofs.Verdicts.{sound}
+use Rattle.limits.proofs.BranchTests.{tests}
+use Rattle.checker.proofs.JudgeBranches.{judge-sound-branches}
 use borrow.Author.Needs.{needs}
 use Rattle.checker.proofs.judge.judge_sound.Statement.{statement}
 use Rattle.checker.proofs.judge.judge_sound.Tie as tie
@@ -13,5 +13,5 @@ judge-sound-spec =
     (λ c. search needs)
     (λ c κs. search needs)
     (λ c. search needs)
-    (λ c. search (sound, tests))
-    (λ c. search (sound, tests)))
+    (λ c. search (judge-sound-branches, tests))
+    (λ c. search (judge-sound-branches, tests)))

@@ -1,5 +1,5 @@
-use Rattle.checker.specs.Found.{pointsOf}
-use Rattle.limits.proofs.Auto.{tests}
+use Rattle.checker.specs.VerdictFound.{pointsOf}
+use Rattle.limits.proofs.BranchTests.{tests}
 use borrow.Author.Needs.{needs}
 use Rattle.checker.proofs.judge.points_of.Statement.{statement}
 use Rattle.checker.proofs.judge.points_of.Tie as tie

@@ -1,5 +1,5 @@
-use Rattle.formula.proofs.Ends.{ends}
-use Rattle.formula.proofs.Auto.{tests}
+use Rattle.formula.proofs.EndBranches.{end-at-branches}
+use Rattle.formula.proofs.BranchTests.{tests}
 use Prim.Native.Nat.{ℕ, _<_}
 use borrow.Fn.Kinds.{In}
 use borrow.Fn.PlainCycle.{Measures, is, falls, and}
@@ -26,12 +26,12 @@ pub +end-at-spec : {M : Type 1} → statement M
 +end-at-spec = close μ-end-at λ t. end-at-lts.spec (end-at-calls t)
     (end-at-at t)
     end-at.Post
-    (λ c. search (ends, tests))
-    (λ c κs. search (ends, tests))
-    (λ c. search (ends, tests))
-    (λ c. search (ends, tests))
-    (λ c κs. search (ends, tests))
-    (λ c. search (ends, tests))
-    (λ c. search (ends, tests))
-    (λ c κs. search (ends, tests))
-    (λ c. search (ends, tests))
+    (λ c. search (end-at-branches, tests))
+    (λ c κs. search (end-at-branches, tests))
+    (λ c. search (end-at-branches, tests))
+    (λ c. search (end-at-branches, tests))
+    (λ c κs. search (end-at-branches, tests))
+    (λ c. search (end-at-branches, tests))
+    (λ c. search (end-at-branches, tests))
+    (λ c κs. search (end-at-branches, tests))
+    (λ c. search (end-at-branches, tests))

@@ -1,5 +1,5 @@
-use Rattle.formula.proofs.Auto.{tests}
-use Rattle.formula.proofs.Nodes.{nodes}
+use Rattle.formula.proofs.BranchTests.{tests}
+use Rattle.formula.proofs.NodeBranches.{node-at-branches}
 use borrow.Author.Needs.{needs}
 use Rattle.formula.proofs.node.node_at.Statement.{statement}
 use Rattle.formula.proofs.node.node_at.Tie as tie
@@ -8,14 +8,14 @@ pub node-at-spec : {M : Type 1} → statement M
 node-at-spec =
     tie.close
     (tie.spec
-    (λ c. search (nodes, tests))
+    (λ c. search (node-at-branches, tests))
     (λ c. search needs)
     (λ c κs. search needs)
     (λ c. search needs)
     (λ c κs. search needs)
     (λ c κs. search needs)
     (λ c. search needs)
-    (λ c. search (nodes, tests))
+    (λ c. search (node-at-branches, tests))
     (λ c κs. search needs)
     (λ c. search needs)
-    (λ c. search (nodes, tests)))
+    (λ c. search (node-at-branches, tests)))

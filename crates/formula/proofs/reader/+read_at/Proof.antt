@@ -1,5 +1,5 @@
-use Rattle.formula.proofs.Faults.{reads}
-use Rattle.formula.proofs.Auto.{tests}
+use Rattle.formula.proofs.ReaderBranches.{read-at-branches}
+use Rattle.formula.proofs.BranchTests.{tests}
 use Prim.Native.Nat.{ℕ, _<_}
 use borrow.Fn.Kinds.{In}
 use borrow.Fn.PlainCycle.{Measures, is, falls, and}
@@ -37,19 +37,19 @@ pub +read-at-spec : {M : Type 1} → statement M
 +read-at-spec = close μ-read-at λ t. read-at-lts.spec (read-at-calls t)
     (read-at-at t)
     read-at.Post
-    (λ c. search (reads, tests))
-    (λ c κs. search (reads, tests))
-    (λ c. search (reads, tests))
-    (λ c. search (reads, tests))
-    (λ c κs. search (reads, tests))
-    (λ c. search (reads, tests))
-    (λ c κs. search (reads, tests))
-    (λ c. search (reads, tests))
-    (λ c κs. search (reads, tests))
-    (λ c. search (reads, tests))
-    (λ c. search (reads, tests))
-    (λ c κs. search (reads, tests))
-    (λ c. search (reads, tests))
-    (λ c. search (reads, tests))
-    (λ c κs. search (reads, tests))
-    (λ c. search (reads, tests))
+    (λ c. search (read-at-branches, tests))
+    (λ c κs. search (read-at-branches, tests))
+    (λ c. search (read-at-branches, tests))
+    (λ c. search (read-at-branches, tests))
+    (λ c κs. search (read-at-branches, tests))
+    (λ c. search (read-at-branches, tests))
+    (λ c κs. search (read-at-branches, tests))
+    (λ c. search (read-at-branches, tests))
+    (λ c κs. search (read-at-branches, tests))
+    (λ c. search (read-at-branches, tests))
+    (λ c. search (read-at-branches, tests))
+    (λ c κs. search (read-at-branches, tests))
+    (λ c. search (read-at-branches, tests))
+    (λ c. search (read-at-branches, tests))
+    (λ c κs. search (read-at-branches, tests))
+    (λ c. search (read-at-branches, tests))

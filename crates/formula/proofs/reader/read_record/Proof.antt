@@ -1,5 +1,5 @@
-use Rattle.formula.proofs.Faults.{body-reads}
-use Rattle.formula.proofs.Auto.{tests}
+use Rattle.formula.proofs.ReaderBranches.{read-record-branches}
+use Rattle.formula.proofs.BranchTests.{tests}
 use borrow.Author.Needs.{needs}
 use Rattle.formula.proofs.reader.read_record.Statement.{statement}
 use Rattle.formula.proofs.reader.read_record.Tie as tie
@@ -7,5 +7,5 @@ use Rattle.formula.proofs.reader.read_record.Tie as tie
 pub read-record-spec : {M : Type 1} → statement M
 read-record-spec =
     tie.close
-    (tie.spec (λ c. search (body-reads, tests)) (λ c. search needs) (λ c κs. search needs) (λ c. search (body-reads, tests))
-    (λ c. search (body-reads, tests)) (λ c. search (body-reads, tests)))
+    (tie.spec (λ c. search (read-record-branches, tests)) (λ c. search needs) (λ c κs. search needs) (λ c. search (read-record-branches, tests))
+    (λ c. search (read-record-branches, tests)) (λ c. search (read-record-branches, tests)))

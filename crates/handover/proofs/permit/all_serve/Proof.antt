@@ -1,5 +1,5 @@
-use Rattle.handover_promise.proofs.Decided.{marks-found}
-use Rattle.limits.proofs.Auto.{tests}
+use Rattle.handover_spec.proofs.Decided.{marks-found}
+use Rattle.limits.proofs.BranchTests.{tests}
 use borrow.Author.Needs.{needs}
 use Rattle.handover.proofs.permit.all_serve.Statement.{statement}
 use Rattle.handover.proofs.permit.all_serve.Tie as tie

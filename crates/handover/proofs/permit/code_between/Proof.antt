@@ -1,5 +1,5 @@
-use Rattle.handover_promise.proofs.Decided.{between-out, between-served, between-unserved}
-use Rattle.limits.proofs.Auto.{tests}
+use Rattle.handover_spec.proofs.Decided.{between-out, between-served, between-unserved}
+use Rattle.limits.proofs.BranchTests.{tests}
 use borrow.Author.Needs.{needs}
 use Rattle.handover.proofs.permit.code_between.Statement.{statement}
 use Rattle.handover.proofs.permit.code_between.Tie as tie

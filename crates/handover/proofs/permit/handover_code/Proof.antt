@@ -1,5 +1,5 @@
-use Rattle.handover_promise.proofs.Decided.{headers-threads, headers-same, headers-differ}
-use Rattle.limits.proofs.Auto.{tests}
+use Rattle.handover_spec.proofs.Decided.{headers-threads, headers-same, headers-differ}
+use Rattle.limits.proofs.BranchTests.{tests}
 use borrow.Author.Needs.{needs}
 use Rattle.handover.proofs.permit.handover_code.Statement.{statement}
 use Rattle.handover.proofs.permit.handover_code.Tie as tie

@@ -1,5 +1,5 @@
-use Rattle.limits.proofs.Auto.{tests}
-use Rattle.image.proofs.Laws.Whole.{placed}
+use Rattle.limits.proofs.BranchTests.{tests}
+use Rattle.image.proofs.DecodeBranches.Whole.{check-body-branches}
 use borrow.Author.Needs.{needs}
 use Rattle.image.proofs.body.check_body.Statement.{statement}
 use Rattle.image.proofs.body.check_body.Tie as tie
@@ -23,10 +23,10 @@ check-body-spec =
     (λ c κs. search needs)
     (λ c. search needs)
     (λ c κs. search needs)
-    (λ c. search (placed, tests))
-    (λ c. search (placed, tests))
-    (λ c. search (placed, tests))
-    (λ c. search (placed, tests))
-    (λ c. search (placed, tests))
-    (λ c. search (placed, tests))
-    (λ c. search (placed, tests)))
+    (λ c. search (check-body-branches, tests))
+    (λ c. search (check-body-branches, tests))
+    (λ c. search (check-body-branches, tests))
+    (λ c. search (check-body-branches, tests))
+    (λ c. search (check-body-branches, tests))
+    (λ c. search (check-body-branches, tests))
+    (λ c. search (check-body-branches, tests)))

@@ -1,10 +1,10 @@
-use Rattle.image.proofs.Laws.Whole.{walking, bodies-start, bodies-more}
-use Rattle.frames.specs.Records.{bodies}
+use Rattle.image.proofs.DecodeBranches.Whole.{check-bodies-branches, bodies-start, bodies-more}
+use Rattle.image_frames.specs.Records.{bodies}
 use Rattle.image.specs.Decode.{recordCount, firstFault}
 use Prim.Native.Nat.{_≤_, _<_, _-_, _+_}
 use mathlib.Core.Path.{_≡_}
 use lib.ListN.{drop}
-use Rattle.limits.proofs.Auto.{tests}
+use Rattle.limits.proofs.BranchTests.{tests}
 use Rattle.image.proofs.decode.check_bodies.Statement.{statement}
 use Rattle.image.proofs.decode.check_bodies.Tie as tie
 
@@ -26,15 +26,15 @@ check-bodies-spec =
     (tie.spec
     Inv-loop
     μ-loop
-    (λ c κs. search (walking, tests))
+    (λ c κs. search (check-bodies-branches, tests))
     (λ c. (search tests, (search tests, (search tests, (search tests, search (bodies-start, tests))))))
-    (λ c. search (walking, tests))
-    (λ c κs. search (walking, tests))
-    (λ c κs. search (walking, tests))
-    (λ c. search (walking, tests))
-    (λ c. search (walking, tests))
-    (λ c. search (walking, tests))
-    (λ c. search (walking, tests))
-    (λ c. search (walking, tests))
+    (λ c. search (check-bodies-branches, tests))
+    (λ c κs. search (check-bodies-branches, tests))
+    (λ c κs. search (check-bodies-branches, tests))
+    (λ c. search (check-bodies-branches, tests))
+    (λ c. search (check-bodies-branches, tests))
+    (λ c. search (check-bodies-branches, tests))
+    (λ c. search (check-bodies-branches, tests))
+    (λ c. search (check-bodies-branches, tests))
     (λ c. (search tests, (search tests, (search tests, (search tests, search (bodies-more, tests))))))
-    (λ c. search (walking, tests)))
+    (λ c. search (check-bodies-branches, tests)))

@@ -1,5 +1,5 @@
-use Rattle.image.proofs.Laws.Whole.{opening}
-use Rattle.limits.proofs.Auto.{tests}
+use Rattle.image.proofs.DecodeBranches.Whole.{decode-branches}
+use Rattle.limits.proofs.BranchTests.{tests}
 use borrow.Author.Needs.{needs}
 use Rattle.image.proofs.decode.decode_image.Statement.{statement}
 use Rattle.image.proofs.decode.decode_image.Tie as tie
@@ -16,5 +16,5 @@ decode-image-spec =
     (λ c κs. search needs)
     (λ c. search needs)
     (λ c κs. search needs)
-    (λ c. search (opening, tests))
-    (λ c. search (opening, tests)))
+    (λ c. search (decode-branches, tests))
+    (λ c. search (decode-branches, tests)))

@@ -1,4 +1,4 @@
-use Rattle.limits.proofs.Auto.{tests}
+use Rattle.limits.proofs.BranchTests.{tests}
 use Rattle.image.specs.Decode.{recordCount}
 use borrow.Author.Needs.{needs}
 use Rattle.image.proofs.decode.record_count.Statement.{statement}

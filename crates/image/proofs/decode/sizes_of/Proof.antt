@@ -1,5 +1,5 @@
-use Rattle.limits.proofs.Auto.{tests}
-use Rattle.image.proofs.Laws.Whole.{opening}
+use Rattle.limits.proofs.BranchTests.{tests}
+use Rattle.image.proofs.DecodeBranches.Whole.{decode-branches}
 use borrow.Author.Needs.{needs}
 use Rattle.image.proofs.decode.sizes_of.Statement.{statement}
 use Rattle.image.proofs.decode.sizes_of.Tie as tie
@@ -15,4 +15,4 @@ sizes-of-spec =
     (λ c κs. search needs)
     (λ c. search needs)
     (λ c κs. search needs)
-    (λ c. search (opening, tests)))
+    (λ c. search (decode-branches, tests)))

@@ -1,5 +1,5 @@
 use Rattle.limits.proofs.Numbers.{given}
-use Rattle.limits.proofs.Auto.{tests}
+use Rattle.limits.proofs.BranchTests.{tests}
 use borrow.Author.Needs.{needs}
 use Rattle.limits.proofs.range.byte_within.Statement.{statement}
 use Rattle.limits.proofs.range.byte_within.Tie as tie

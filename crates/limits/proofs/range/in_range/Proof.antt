@@ -1,5 +1,5 @@
 use Rattle.limits.specs.Numbers.{within}
-use Rattle.limits.proofs.Auto.{tests}
+use Rattle.limits.proofs.BranchTests.{tests}
 use Rattle.limits.proofs.range.in_range.Statement.{statement}
 use Rattle.limits.proofs.range.in_range.Tie as tie
 

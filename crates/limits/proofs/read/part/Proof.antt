@@ -1,5 +1,5 @@
-use Rattle.limits.proofs.Numbers.{reads}
-use Rattle.limits.proofs.Auto.{tests}
+use Rattle.limits.proofs.Numbers.{read-branches}
+use Rattle.limits.proofs.BranchTests.{tests}
 use borrow.Author.Needs.{needs}
 use Rattle.limits.proofs.read.part.Statement.{statement}
 use Rattle.limits.proofs.read.part.Tie as tie
@@ -11,14 +11,14 @@ part-spec =
     (λ c. search needs)
     (λ c. search needs)
     (λ c. search needs)
-    (λ c. search (reads, tests))
+    (λ c. search (read-branches, tests))
     (λ c. search needs)
     (λ c. search needs)
     (λ c. search needs)
     (λ c. search needs)
-    (λ c. search (reads, tests))
+    (λ c. search (read-branches, tests))
     (λ c. search needs)
     (λ c. search needs)
     (λ c. search needs)
     (λ c. search needs)
-    (λ c. search (reads, tests)))
+    (λ c. search (read-branches, tests)))

@@ -1,4 +1,4 @@
-use Rattle.verdict.proofs.Lines.{lines}
+use Rattle.verdict.proofs.Lines.{line-branches}
 use borrow.Author.Needs.{needs}
 use Rattle.verdict.proofs.line.line_for.Statement.{statement}
 use Rattle.verdict.proofs.line.line_for.Tie as tie
@@ -13,6 +13,6 @@ line-for-spec =
     (λ c κs. search needs)
     (λ c κs. search needs)
     (λ c. search needs)
-    (λ c. search (lines, needs))
-    (λ c. search (lines, needs))
-    (λ c. search (lines, needs)))
+    (λ c. search (line-branches, needs))
+    (λ c. search (line-branches, needs))
+    (λ c. search (line-branches, needs)))

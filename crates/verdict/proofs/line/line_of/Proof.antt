@@ -1,7 +1,7 @@
-use Rattle.verdict.proofs.Lines.{lines}
+use Rattle.verdict.proofs.Lines.{line-branches}
 use borrow.Author.Needs.{needs}
 use Rattle.verdict.proofs.line.line_of.Statement.{statement}
 use Rattle.verdict.proofs.line.line_of.Tie as tie
 
 pub line-of-spec : {M : Type 1} → statement M
-line-of-spec = tie.close (tie.spec (λ c κs. search needs) (λ c κs. search needs) (λ c κs. search needs) (λ c. search (lines, needs)))
+line-of-spec = tie.close (tie.spec (λ c κs. search needs) (λ c κs. search needs) (λ c κs. search needs) (λ c. search (line-branches, needs)))

@@ -1,3 +1,0 @@
-pub mod Handover
-pub mod Update
-pub mod Computed

@@ -1,3 +1,0 @@
-pub mod Trimmed
-pub mod Accepted
-pub mod Answer

@@ -1,2 +1,0 @@
-// Stored bills, and answers compared with them.
-pub mod answer;

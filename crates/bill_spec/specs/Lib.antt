@@ -1,0 +1,9 @@
+pub mod Sums
+pub mod Price
+pub mod Charge
+pub mod Most
+pub mod Count
+pub mod Accounts
+pub mod Bill
+pub mod Output
+pub mod Promise

@@ -1,9 +1,0 @@
-use Rattle.bodies.proofs.Laws.Uses.{listed}
-use Rattle.limits.proofs.Auto.{tests}
-use borrow.Author.Needs.{needs}
-use Rattle.bodies.proofs.list_body.check_obligations.Statement.{statement}
-use Rattle.bodies.proofs.list_body.check_obligations.Tie as tie
-
-pub check-obligations-spec : {M : Type 1} → statement M
-check-obligations-spec =
-    tie.close (tie.spec (λ c κs. search needs) (λ c. search needs) (λ c κs. search needs) (λ c. search (listed, tests)))

@@ -1,8 +1,0 @@
-use Rattle.bodies.proofs.Laws.Uses.{listed}
-use Rattle.limits.proofs.Auto.{tests}
-use borrow.Author.Needs.{needs}
-use Rattle.bodies.proofs.list_body.count_points.Statement.{statement}
-use Rattle.bodies.proofs.list_body.count_points.Tie as tie
-
-pub count-points-spec : {M : Type 1} → statement M
-count-points-spec = tie.close (tie.spec (λ c κs. search needs) (λ c. search (listed, tests)))

@@ -1,4 +1,0 @@
-pub mod Formula
-pub mod Lists
-pub mod Line
-pub mod Outlined

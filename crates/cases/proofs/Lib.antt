@@ -1,9 +1,0 @@
-pub mod Billed
-pub mod ByKind
-pub mod Gathered
-pub mod HandedOver
-pub mod Replayed
-pub mod ReplayedAcross
-pub mod Same
-pub mod Trimmed
-pub mod Ways

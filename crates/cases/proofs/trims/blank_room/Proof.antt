@@ -1,8 +1,0 @@
-use mathlib.Core.Path.{refl}
-use Rattle.trim_answers.specs.Answer.{room}
-use Rattle.cases.proofs.trims.blank_room.Statement.{statement}
-use Rattle.cases.proofs.trims.blank_room.Tie as tie
-
-pub blank-room-spec : {M : Type 1} → statement M
-unfolding room
-blank-room-spec = tie.close (tie.spec (λ c. refl))

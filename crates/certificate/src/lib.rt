@@ -1,1 +1,0 @@
-// Certificates: no code yet; the definitions are under specs/, what follows from them under proofs/.

@@ -1,0 +1,4 @@
+pub mod ImageVerdict
+pub mod Promise
+pub mod Uncut
+pub mod Acceptance

@@ -1,0 +1,2 @@
+pub mod StarredImage
+pub mod StarredCases

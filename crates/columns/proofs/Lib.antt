@@ -1,3 +1,0 @@
-pub mod Listed
-pub mod Combining
-pub mod Writing

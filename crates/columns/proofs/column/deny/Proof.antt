@@ -1,8 +1,0 @@
-use Rattle.columns.specs.Column.{denyOf}
-use Rattle.limits.proofs.Auto.{tests}
-use Rattle.columns.proofs.column.deny.Statement.{statement}
-use Rattle.columns.proofs.column.deny.Tie as tie
-
-pub deny-spec : {M : Type 1} → statement M
-unfolding denyOf
-deny-spec = tie.close (tie.spec (λ c. search tests) (λ c. search tests) (λ c. search tests))

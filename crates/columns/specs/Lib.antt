@@ -1,2 +1,0 @@
-pub mod Combine
-pub mod Column

@@ -1,9 +1,0 @@
-use Rattle.compare.proofs.Pairs.{leaves}
-use Rattle.formula.proofs.Auto.{tests}
-use borrow.Author.Needs.{needs}
-use Rattle.compare.proofs.replace.leaf_stands.Statement.{statement}
-use Rattle.compare.proofs.replace.leaf_stands.Tie as tie
-
-pub leaf-stands-spec : {M : Type 1} → statement M
-leaf-stands-spec = tie.close (tie.spec (λ c. search (leaves, tests)) (λ c κs. search needs) (λ c. search (leaves, tests))
-    (λ c. search (leaves, tests)) (λ c. search (leaves, tests)))

@@ -1,8 +1,0 @@
-use Rattle.formula.proofs.Auto.{tests}
-use Rattle.conclusions.proofs.LineConclusions.{lining}
-use borrow.Author.Needs.{needs}
-use Rattle.conclusions.proofs.line_conclusion.conclusion_by.Statement.{statement}
-use Rattle.conclusions.proofs.line_conclusion.conclusion_by.Tie as tie
-
-pub conclusion-by-spec : {M : Type 1} → statement M
-conclusion-by-spec = tie.close (tie.spec (λ c κs. search needs) (λ c. search needs) (λ c. search needs) (λ c. search (lining, tests)))

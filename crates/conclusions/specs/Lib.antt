@@ -1,3 +1,0 @@
-pub mod Conclusion
-pub mod LineConclusion
-pub mod Premises

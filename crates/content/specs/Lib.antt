@@ -1,5 +1,0 @@
-pub mod Formula
-pub mod Rule
-pub mod Program
-pub mod Certificate
-pub mod Image

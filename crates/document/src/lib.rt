@@ -1,1 +1,0 @@
-// An image as typed records has no code: its definitions are under specs/, its theorems under proofs/.

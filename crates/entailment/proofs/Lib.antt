@@ -1,4 +1,0 @@
-pub mod Entailing
-pub mod Distinct
-pub mod Choices
-pub mod RowsTried

@@ -1,8 +1,0 @@
-use Rattle.entailment.proofs.Entailing.{all-alone}
-use Rattle.limits.proofs.Auto.{tests}
-use borrow.Author.Needs.{needs}
-use Rattle.entailment.proofs.entailment.gather_line.Statement.{statement}
-use Rattle.entailment.proofs.entailment.gather_line.Tie as tie
-
-pub gather-line-spec : {M : Type 1} → statement M
-gather-line-spec = tie.close (tie.spec (λ c κs. search needs) (λ c. search (all-alone, tests)))

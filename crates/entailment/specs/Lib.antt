@@ -1,2 +1,0 @@
-pub mod Entailment
-pub mod Every

@@ -1,2 +1,0 @@
-// Formulas over registers, worked out at given values.
-pub mod work;

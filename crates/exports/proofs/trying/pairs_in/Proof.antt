@@ -1,8 +1,0 @@
-use Rattle.exports.specs.Places.{pairsIn}
-use Rattle.limits.proofs.Auto.{tests}
-use Rattle.exports.proofs.trying.pairs_in.Statement.{statement}
-use Rattle.exports.proofs.trying.pairs_in.Tie as tie
-
-pub pairs-in-spec : {M : Type 1} → statement M
-unfolding pairsIn
-pairs-in-spec = tie.close (tie.spec (λ c. search tests) (λ c. search tests))

@@ -1,4 +1,0 @@
-pub mod Presets
-pub mod Fits
-pub mod FitLink
-pub mod Fitted

@@ -1,2 +1,0 @@
-pub mod Preset
-pub mod Fit

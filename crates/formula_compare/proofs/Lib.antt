@@ -1,0 +1,2 @@
+pub mod ByPair
+pub mod OccursBranches

@@ -1,0 +1,5 @@
+pub mod MatchFills
+pub mod TemplateFilled
+pub mod MatchBranches
+pub mod MatchWholeBranches
+pub mod TreesAgree

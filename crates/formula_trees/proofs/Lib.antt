@@ -1,0 +1,12 @@
+pub mod TreeAgree
+pub mod ReplaceAgree
+pub mod OccursAgree
+pub mod Constructors
+pub mod NodeBytes
+pub mod ReadFormula
+pub mod ReadWithin
+pub mod EncodedTree
+pub mod ReaderAccepts
+pub mod ReadableBody
+pub mod ReadInPart
+pub mod EqualBytes

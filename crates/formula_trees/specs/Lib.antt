@@ -1,0 +1,3 @@
+pub mod ToTree
+pub mod Place
+pub mod StatementTree

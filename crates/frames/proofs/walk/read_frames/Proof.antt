@@ -1,9 +1,0 @@
-use Rattle.frames.specs.Frames.{wholeImage}
-use Rattle.limits.proofs.Auto.{tests}
-use borrow.Author.Needs.{needs}
-use Rattle.frames.proofs.walk.read_frames.Statement.{statement}
-use Rattle.frames.proofs.walk.read_frames.Tie as tie
-
-pub read-frames-spec : {M : Type 1} → statement M
-unfolding wholeImage
-read-frames-spec = tie.close (tie.spec (λ c. search tests) (λ c. search tests) (λ c κs. search needs) (λ c. search tests))

@@ -1,3 +1,0 @@
-pub mod Served
-pub mod Decided
-pub mod Across

@@ -1,1 +1,0 @@
-// What a permitted handover promises: definitions, and what follows from them.

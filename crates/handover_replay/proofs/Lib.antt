@@ -1,0 +1,3 @@
+pub mod JoinedBranches
+pub mod AcrossBranches
+pub mod AcrossPromised

@@ -1,0 +1,3 @@
+pub mod JoinedRun
+pub mod ReplayAcross
+pub mod Promise

@@ -1,0 +1,11 @@
+pub mod RunsAcross
+pub mod SmallUpdate
+pub mod ComputedHandover
+pub mod BytesAgree
+pub mod EachBelow
+pub mod FewPoints
+pub mod TableBranches
+pub mod LineBranches
+pub mod LineServes
+pub mod Decided
+pub mod PermittedRuns

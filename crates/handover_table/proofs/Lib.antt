@@ -1,4 +1,0 @@
-pub mod Agreeing
-pub mod Each
-pub mod Few
-pub mod Ways

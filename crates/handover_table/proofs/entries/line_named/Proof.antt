@@ -1,8 +1,0 @@
-use Rattle.handover_table.proofs.Ways.{entry-ways}
-use Rattle.limits.proofs.Auto.{tests}
-use borrow.Author.Needs.{needs}
-use Rattle.handover_table.proofs.entries.line_named.Statement.{statement}
-use Rattle.handover_table.proofs.entries.line_named.Tie as tie
-
-pub line-named-spec : {M : Type 1} → statement M
-line-named-spec = tie.close (tie.spec (λ c. search needs) (λ c. search needs) (λ c κs. search needs) (λ c. search (entry-ways, tests)))

@@ -1,8 +1,0 @@
-use Rattle.handover_table.proofs.Few.{few-before}
-use Rattle.limits.proofs.Auto.{tests}
-use borrow.Author.Needs.{needs}
-use Rattle.handover_table.proofs.points.points_before.Statement.{statement}
-use Rattle.handover_table.proofs.points.points_before.Tie as tie
-
-pub points-before-spec : {M : Type 1} → statement M
-points-before-spec = tie.close (tie.spec (λ c κs. search needs) (λ c. (search tests, search (few-before, tests))))

@@ -1,7 +1,0 @@
-use Rattle.handover_table.proofs.Few.{few-in-all}
-use Rattle.limits.proofs.Auto.{tests}
-use Rattle.handover_table.proofs.points.points_in.Statement.{statement}
-use Rattle.handover_table.proofs.points.points_in.Tie as tie
-
-pub points-in-spec : {M : Type 1} → statement M
-points-in-spec = tie.close (tie.spec (λ c. (search tests, search (few-in-all, tests))))

@@ -1,8 +1,0 @@
-use Rattle.limits.proofs.Numbers.{given}
-use Rattle.limits.proofs.Auto.{tests}
-use borrow.Author.Needs.{needs}
-use Rattle.header.proofs.header.owner_of.Statement.{statement}
-use Rattle.header.proofs.header.owner_of.Tie as tie
-
-pub owner-of-spec : {M : Type 1} → statement M
-owner-of-spec = tie.close (tie.spec (λ c κs. search needs) (λ c κs. search needs) (λ c. search (given, tests)))

@@ -1,0 +1,4 @@
+pub mod AccessBranches
+pub mod PositionTrees
+pub mod RuleForm
+pub mod AccessAgree

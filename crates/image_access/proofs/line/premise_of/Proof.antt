@@ -1,0 +1,8 @@
+use Rattle.image_access.proofs.AccessBranches.Places.{line-branches}
+use Rattle.limits.proofs.BranchTests.{tests}
+use borrow.Author.Needs.{needs}
+use Rattle.image_access.proofs.line.premise_of.Statement.{statement}
+use Rattle.image_access.proofs.line.premise_of.Tie as tie
+
+pub premise-of-spec : {M : Type 1} → statement M
+premise-of-spec = tie.close (tie.spec (λ c κs. search needs) (λ c κs. search needs) (λ c. search (line-branches, tests)))

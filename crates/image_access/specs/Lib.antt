@@ -1,0 +1,3 @@
+pub mod AccessPlaces
+pub mod Totals
+pub mod AccessTrees

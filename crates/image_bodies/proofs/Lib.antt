@@ -1,0 +1,3 @@
+pub mod RecordBranches
+pub mod ThreadBodyBranches
+pub mod BodyBranches

@@ -1,0 +1,8 @@
+use Rattle.image_bodies.proofs.RecordBranches.Line.{line-branches}
+use Rattle.limits.proofs.BranchTests.{tests}
+use borrow.Author.Needs.{needs}
+use Rattle.image_bodies.proofs.line.premise.Statement.{statement}
+use Rattle.image_bodies.proofs.line.premise.Tie as tie
+
+pub premise-spec : {M : Type 1} → statement M
+premise-spec = tie.close (tie.spec (λ c κs. search needs) (λ c κs. search needs) (λ c κs. search needs) (λ c. search (line-branches, tests)))

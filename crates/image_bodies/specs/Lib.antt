@@ -1,0 +1,12 @@
+pub mod RecordPlaces
+pub mod PointCounts
+pub mod NumberList
+pub mod RuleForms
+pub mod Line
+pub mod Claim
+pub mod FormulaUse
+pub mod ThreadBody
+pub mod FormulaBody
+pub mod ListBody
+pub mod LineBody
+pub mod OutlineFormulas

@@ -1,0 +1,3 @@
+pub mod PassedFrame
+pub mod Branches
+pub mod KindCounts

@@ -1,0 +1,3 @@
+pub mod HeaderBranches
+pub mod InstructionBranches
+pub mod ThreadBranches

@@ -1,0 +1,16 @@
+use Rattle.limits.proofs.BranchTests.{tests}
+use Rattle.image_header.proofs.InstructionBranches.{instruction-branches}
+use borrow.Author.Needs.{needs}
+use Rattle.image_header.proofs.instruction.read_instruction.Statement.{statement}
+use Rattle.image_header.proofs.instruction.read_instruction.Tie as tie
+
+pub read-instruction-spec : {M : Type 1} → statement M
+read-instruction-spec =
+    tie.close
+    (tie.spec
+    (λ c κs. search needs)
+    (λ c κs. search needs)
+    (λ c κs. search needs)
+    (λ c κs. search needs)
+    (λ c κs. search needs)
+    (λ c. search (instruction-branches, tests)))

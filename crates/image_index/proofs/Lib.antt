@@ -1,0 +1,2 @@
+pub mod IndexBranches
+pub mod LookUps

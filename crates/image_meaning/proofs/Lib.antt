@@ -1,0 +1,10 @@
+pub mod Sums
+pub mod Instructions
+pub mod ObligationCount
+pub mod PassedChecks
+pub mod RecordsChecked
+pub mod FormulaSorts
+pub mod WellFormedProgram
+pub mod LinesAdmitted
+pub mod Admitted
+pub mod Worked

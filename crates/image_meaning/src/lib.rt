@@ -1,0 +1,1 @@
+// What a well-formed image means: a program, an outline, a certificate and claims of the logic. Definitions and proofs only.

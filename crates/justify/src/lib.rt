@@ -1,2 +1,0 @@
-// Which lines of a certificate are justified: each line is judged once, in order.
-pub mod pass;

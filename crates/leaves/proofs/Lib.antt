@@ -1,4 +1,0 @@
-pub mod Telling
-pub mod Slots
-pub mod Counts
-pub mod Gathering

@@ -1,8 +1,0 @@
-use Rattle.leaves.specs.Count.{choicesBy}
-use Rattle.formula.proofs.Auto.{tests}
-use Rattle.leaves.proofs.count.choices_by.Statement.{statement}
-use Rattle.leaves.proofs.count.choices_by.Tie as tie
-
-pub choices-by-spec : {M : Type 1} → statement M
-unfolding choicesBy
-choices-by-spec = tie.close (tie.spec (λ c. search tests) (λ c. search tests) (λ c. search tests) (λ c. search tests) (λ c. search tests))

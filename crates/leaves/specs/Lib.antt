@@ -1,4 +1,0 @@
-pub mod Slots
-pub mod Gather
-pub mod Count
-pub mod Told

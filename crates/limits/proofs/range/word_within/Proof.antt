@@ -1,8 +1,0 @@
-use Rattle.limits.proofs.Numbers.{given}
-use Rattle.limits.proofs.Auto.{tests}
-use borrow.Author.Needs.{needs}
-use Rattle.limits.proofs.range.word_within.Statement.{statement}
-use Rattle.limits.proofs.range.word_within.Tie as tie
-
-pub word-within-spec : {M : Type 1} → statement M
-word-within-spec = tie.close (tie.spec (λ c κs. search needs) (λ c κs. search needs) (λ c. search (given, tests)))

@@ -1,0 +1,17 @@
+use Rattle.limits.proofs.Numbers.{read-branches}
+use Rattle.limits.proofs.BranchTests.{tests}
+use borrow.Author.Needs.{needs}
+use Rattle.limits.proofs.read.u16_at.Statement.{statement}
+use Rattle.limits.proofs.read.u16_at.Tie as tie
+
+pub u16-at-spec : {M : Type 1} → statement M
+u16-at-spec =
+    tie.close
+    (tie.spec
+    (λ c. search (read-branches, tests))
+    (λ c κs. search needs)
+    (λ c. search needs)
+    (λ c κs. search needs)
+    (λ c. search needs)
+    (λ c. search needs)
+    (λ c. search (read-branches, tests)))

@@ -1,0 +1,6 @@
+pub mod Marks
+pub mod Bounded
+pub mod Accept
+pub mod Judged
+pub mod Moved
+pub mod Ranged

@@ -1,8 +1,0 @@
-use Rattle.limits.proofs.Auto.{tests}
-use Rattle.lookups.proofs.Laws.Places.{claiming}
-use borrow.Author.Needs.{needs}
-use Rattle.lookups.proofs.claim.claim_of.Statement.{statement}
-use Rattle.lookups.proofs.claim.claim_of.Tie as tie
-
-pub claim-of-spec : {M : Type 1} → statement M
-claim-of-spec = tie.close (tie.spec (λ c κs. search needs) (λ c κs. search needs) (λ c. search (claiming, tests)))

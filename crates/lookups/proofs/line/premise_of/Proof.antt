@@ -1,8 +1,0 @@
-use Rattle.lookups.proofs.Laws.Places.{lining}
-use Rattle.limits.proofs.Auto.{tests}
-use borrow.Author.Needs.{needs}
-use Rattle.lookups.proofs.line.premise_of.Statement.{statement}
-use Rattle.lookups.proofs.line.premise_of.Tie as tie
-
-pub premise-of-spec : {M : Type 1} → statement M
-premise-of-spec = tie.close (tie.spec (λ c κs. search needs) (λ c κs. search needs) (λ c. search (lining, tests)))

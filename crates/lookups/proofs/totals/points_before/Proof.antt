@@ -1,8 +1,0 @@
-use Rattle.lookups.proofs.Laws.Places.{totals}
-use Rattle.limits.proofs.Auto.{tests}
-use borrow.Author.Needs.{needs}
-use Rattle.lookups.proofs.totals.points_before.Statement.{statement}
-use Rattle.lookups.proofs.totals.points_before.Tie as tie
-
-pub points-before-spec : {M : Type 1} → statement M
-points-before-spec = tie.close (tie.spec (λ c. search needs) (λ c. search needs) (λ c κs. search needs) (λ c. search (totals, tests)))

@@ -1,4 +1,0 @@
-pub mod Ways
-pub mod Alike
-pub mod Instructions
-pub mod Worked

@@ -1,4 +1,0 @@
-pub mod Deed
-pub mod Locals
-pub mod Shared
-pub mod Stands

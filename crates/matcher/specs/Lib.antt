@@ -1,3 +1,0 @@
-pub mod Template
-pub mod Match
-pub mod Places

@@ -1,4 +1,0 @@
-// Formulas of an image matched against templates: formulas in prefix form with holes.
-pub mod bind;
-pub mod matching;
-pub mod whole;

@@ -1,8 +1,0 @@
-use Rattle.memory.proofs.Accesses.{store-made}
-use Rattle.limits.proofs.Auto.{tests}
-use borrow.Author.Needs.{needs}
-use Rattle.memory.proofs.access.store.Statement.{statement}
-use Rattle.memory.proofs.access.store.Tie as tie
-
-pub store-spec : {M : Type 1} → statement M
-store-spec = tie.close (tie.spec (λ c κs. search needs) (λ c κs. search needs) (λ c. (search (store-made, tests), search tests)))

@@ -1,4 +1,0 @@
-pub mod Memory
-pub mod Insert
-pub mod Stands
-pub mod Access

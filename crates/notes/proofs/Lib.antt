@@ -1,6 +1,0 @@
-pub mod Noted
-pub mod Parts
-pub mod Renumbered
-pub mod LeftOut
-pub mod TrimmedLength
-pub mod Measured

@@ -1,0 +1,9 @@
+pub mod GoalBranches
+pub mod GoalFilled
+pub mod GoalCompared
+pub mod ConcludesBranches
+pub mod ConcludesAgrees
+pub mod ClaimBranches
+pub mod JudgementBranches
+pub mod GroupBranches
+pub mod JudgementAgrees

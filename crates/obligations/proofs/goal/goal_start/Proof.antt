@@ -1,0 +1,8 @@
+use Rattle.obligations.proofs.GoalBranches.{goal-branches}
+use Rattle.limits.proofs.BranchTests.{tests}
+use borrow.Author.Needs.{needs}
+use Rattle.obligations.proofs.goal.goal_start.Statement.{statement}
+use Rattle.obligations.proofs.goal.goal_start.Tie as tie
+
+pub goal-start-spec : {M : Type 1} → statement M
+goal-start-spec = tie.close (tie.spec (λ c κs. search needs) (λ c κs. search needs) (λ c. search (goal-branches, tests)))

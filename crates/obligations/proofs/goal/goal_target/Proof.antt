@@ -1,0 +1,17 @@
+use Rattle.obligations.proofs.GoalBranches.{goal-branches}
+use Rattle.limits.proofs.BranchTests.{tests}
+use borrow.Author.Needs.{needs}
+use Rattle.obligations.proofs.goal.goal_target.Statement.{statement}
+use Rattle.obligations.proofs.goal.goal_target.Tie as tie
+
+pub goal-target-spec : {M : Type 1} → statement M
+goal-target-spec =
+    tie.close
+    (tie.spec
+    (λ c κs. search needs)
+    (λ c κs. search needs)
+    (λ c κs. search needs)
+    (λ c. search needs)
+    (λ c κs. search needs)
+    (λ c κs. search needs)
+    (λ c. search (goal-branches, tests)))

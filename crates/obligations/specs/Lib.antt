@@ -1,0 +1,5 @@
+pub mod Goal
+pub mod Concludes
+pub mod Claims
+pub mod Judgement
+pub mod JudgementOrder

@@ -1,3 +1,0 @@
-// What occurs in a formula of an image.
-pub mod find;
-pub mod has;

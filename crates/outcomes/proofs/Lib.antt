@@ -1,3 +1,0 @@
-pub mod Borne
-pub mod Outcomes
-pub mod Groups

@@ -1,8 +1,0 @@
-use Rattle.limits.proofs.Auto.{tests}
-use Rattle.outcomes.proofs.Borne.{none-first}
-use borrow.Author.Needs.{needs}
-use Rattle.outcomes.proofs.claims.first_denied.Statement.{statement}
-use Rattle.outcomes.proofs.claims.first_denied.Tie as tie
-
-pub first-denied-spec : {M : Type 1} → statement M
-first-denied-spec = tie.close (tie.spec (λ c. search (none-first, tests)) (λ c κs. search needs) (λ c κs. search needs) (λ c. search needs))

@@ -1,4 +1,0 @@
-pub mod Accept
-pub mod Judged
-pub mod Moved
-pub mod Ranged

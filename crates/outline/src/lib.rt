@@ -1,1 +1,0 @@
-// The verdict on obligations: no code yet; the definitions are under specs/, what follows from them under proofs/.

@@ -1,3 +1,0 @@
-pub mod Bill
-pub mod Output
-pub mod Promise

@@ -1,8 +1,0 @@
-use Rattle.limits.proofs.Auto.{tests}
-use Rattle.program.specs.Instruction.{firstOperation}
-use Rattle.program.proofs.instruction.first_operation.Statement.{statement}
-use Rattle.program.proofs.instruction.first_operation.Tie as tie
-
-pub first-operation-spec : {M : Type 1} → statement M
-unfolding firstOperation
-first-operation-spec = tie.close (tie.spec (λ c. search tests) (λ c. search tests) (λ c. search tests) (λ c. search tests))

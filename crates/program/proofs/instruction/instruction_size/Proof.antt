@@ -1,9 +1,0 @@
-use Rattle.limits.proofs.Auto.{tests}
-use Rattle.program.proofs.Instructed.{halving}
-use borrow.Author.Needs.{needs}
-use Rattle.program.proofs.instruction.instruction_size.Statement.{statement}
-use Rattle.program.proofs.instruction.instruction_size.Tie as tie
-
-pub instruction-size-spec : {M : Type 1} → statement M
-instruction-size-spec = tie.close (tie.spec (λ c κs. search needs) (λ c. search needs) (λ c. search (halving, tests))
-    (λ c. search (halving, tests)))

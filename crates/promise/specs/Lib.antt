@@ -1,4 +1,0 @@
-pub mod Answer
-pub mod Promise
-pub mod Uncut
-pub mod Acceptance

@@ -1,3 +1,0 @@
-pub mod Overwritten
-pub mod Pieces
-pub mod Renewed

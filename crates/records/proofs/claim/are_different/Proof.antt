@@ -1,8 +1,0 @@
-use Rattle.limits.proofs.Auto.{tests}
-use Rattle.records.proofs.Laws.Claim.{claiming}
-use borrow.Author.Needs.{needs}
-use Rattle.records.proofs.claim.are_different.Statement.{statement}
-use Rattle.records.proofs.claim.are_different.Tie as tie
-
-pub are-different-spec : {M : Type 1} → statement M
-are-different-spec = tie.close (tie.spec (λ c κs. search needs) (λ c κs. search needs) (λ c. search (claiming, tests)))

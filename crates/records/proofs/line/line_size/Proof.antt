@@ -1,8 +1,0 @@
-use Rattle.records.proofs.Laws.Line.{lining}
-use Rattle.limits.proofs.Auto.{tests}
-use borrow.Author.Needs.{needs}
-use Rattle.records.proofs.line.line_size.Statement.{statement}
-use Rattle.records.proofs.line.line_size.Tie as tie
-
-pub line-size-spec : {M : Type 1} → statement M
-line-size-spec = tie.close (tie.spec (λ c κs. search needs) (λ c. search needs) (λ c. search needs) (λ c. search (lining, tests)))

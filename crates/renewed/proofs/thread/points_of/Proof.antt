@@ -1,8 +1,0 @@
-use Rattle.renewed.proofs.Threads.{points-none, points-some}
-use Rattle.limits.proofs.Auto.{tests}
-use borrow.Author.Needs.{needs}
-use Rattle.renewed.proofs.thread.points_of.Statement.{statement}
-use Rattle.renewed.proofs.thread.points_of.Tie as tie
-
-pub points-of-spec : {M : Type 1} → statement M
-points-of-spec = tie.close (tie.spec (λ c κs. search needs) (λ c. search (points-none, tests)) (λ c. search (points-some, tests)))

@@ -1,9 +1,0 @@
-use Rattle.renewed.proofs.Threads.{stepping}
-use Rattle.limits.proofs.Auto.{tests}
-use borrow.Author.Needs.{needs}
-use Rattle.renewed.proofs.thread.put_step.Statement.{statement}
-use Rattle.renewed.proofs.thread.put_step.Tie as tie
-
-pub put-step-spec : {M : Type 1} → statement M
-put-step-spec =
-    tie.close (tie.spec (λ c κs. search needs) (λ c κs. search (stepping, tests)) (λ c. search needs) (λ c. search (stepping, tests)))

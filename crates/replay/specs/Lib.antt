@@ -1,4 +1,0 @@
-pub mod Outcome
-pub mod Stands
-pub mod Whole
-pub mod Promise

@@ -1,0 +1,12 @@
+pub mod EvaluateBranches
+pub mod EvaluateAgrees
+pub mod EffectBranches
+pub mod StateAgrees
+pub mod EffectAgrees
+pub mod InstructionEffect
+pub mod StepBranches
+pub mod RunBranches
+pub mod StartBranches
+pub mod ShownTableBranches
+pub mod ReplayedBranches
+pub mod OutputBranches

@@ -1,0 +1,14 @@
+pub mod Evaluate
+pub mod Effect
+pub mod Locals
+pub mod Shared
+pub mod RegistersStand
+pub mod Refusal
+pub mod State
+pub mod Step
+pub mod Run
+pub mod Start
+pub mod ShownTable
+pub mod Replayed
+pub mod Answer
+pub mod OutputTable

@@ -1,0 +1,10 @@
+pub mod ViewBranches
+pub mod TableBytes
+pub mod WriteBranches
+pub mod InsertBranches
+pub mod OrderPlaces
+pub mod SameAsLogic
+pub mod StandsAfterInsert
+pub mod AccessBranches
+pub mod StandsAfterAccess
+pub mod LayoutBranches

@@ -1,4 +1,0 @@
-pub mod Absent
-pub mod Plain
-pub mod Room
-pub mod Promised

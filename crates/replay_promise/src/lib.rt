@@ -1,1 +1,0 @@
-// What a replay promises to its callers. No code.

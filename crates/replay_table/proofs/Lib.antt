@@ -1,0 +1,4 @@
+pub mod Inserted
+pub mod LentSlice
+pub mod LocalArray
+pub mod SweepBranches

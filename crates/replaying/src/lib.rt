@@ -1,4 +1,0 @@
-// Replay of a trace for callers: `replay_trace` and `replay_into` are the entry points.
-pub mod entry;
-pub mod into;
-pub mod whole;

@@ -1,4 +1,0 @@
-pub mod Fields
-pub mod Output
-pub mod Place
-pub mod Record

@@ -1,3 +1,0 @@
-pub mod Isolated
-pub mod Served
-pub mod Replies

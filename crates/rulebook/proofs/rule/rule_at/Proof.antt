@@ -1,9 +1,0 @@
-use Rattle.rulebook.proofs.Rows.{row-listed, listed}
-use Rattle.formula.proofs.Auto.{tests}
-use borrow.Author.Needs.{needs}
-use Rattle.rulebook.proofs.rule.rule_at.Statement.{statement}
-use Rattle.rulebook.proofs.rule.rule_at.Tie as tie
-
-pub rule-at-spec : {M : Type 1} → statement M
-rule-at-spec = tie.close (tie.spec (λ c. search needs) (λ c. search needs) (λ c. row-listed _ _ (search tests))
-    (λ c. search (listed, tests)))

@@ -1,2 +1,0 @@
-pub mod Rulebook
-pub mod Listed

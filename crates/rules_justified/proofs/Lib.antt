@@ -1,0 +1,3 @@
+pub mod MarkBranches
+pub mod JustifyBranches
+pub mod JustifiedAgree

@@ -1,0 +1,14 @@
+pub mod ConclusionBranches
+pub mod ConclusionAgrees
+pub mod LineConclusionBranches
+pub mod RuleRow
+pub mod LineStatements
+pub mod PremiseBranches
+pub mod SideTestBranches
+pub mod NewValueBranches
+pub mod SideConditionBranches
+pub mod SideConditionsAgree
+pub mod Presets
+pub mod InstanceBranches
+pub mod InstanceAgrees
+pub mod InstanceInLogic

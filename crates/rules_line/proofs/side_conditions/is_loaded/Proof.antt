@@ -1,0 +1,10 @@
+use Rattle.formula.proofs.BranchTests.{tests}
+use Rattle.rules_line.proofs.SideConditionBranches.{side-conditions-replacing}
+use borrow.Author.Needs.{needs}
+use Rattle.rules_line.proofs.side_conditions.is_loaded.Statement.{statement}
+use Rattle.rules_line.proofs.side_conditions.is_loaded.Tie as tie
+
+pub is-loaded-spec : {M : Type 1} → statement M
+is-loaded-spec =
+    tie.close
+    (tie.spec (λ c κs. search needs) (λ c κs. search needs) (λ c κs. search needs) (λ c κs. search needs) (λ c. search (side-conditions-replacing, tests)))

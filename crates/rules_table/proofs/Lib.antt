@@ -1,0 +1,4 @@
+pub mod FitTreeAgrees
+pub mod TableRows
+pub mod RuleForms
+pub mod TableAgrees

@@ -1,0 +1,3 @@
+pub mod FitTree
+pub mod RuleTable
+pub mod TableTest

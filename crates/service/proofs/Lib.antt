@@ -1,4 +1,0 @@
-pub mod Admitting
-pub mod Desks
-pub mod Opening
-pub mod Isolation

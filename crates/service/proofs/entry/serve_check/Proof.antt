@@ -1,0 +1,10 @@
+use Rattle.limits.proofs.BranchTests.{tests}
+use Rattle.service_spec.proofs.ReplyBranches.{entry-serving}
+use borrow.Author.Needs.{needs}
+use Rattle.service.proofs.entry.serve_check.Statement.{statement}
+use Rattle.service.proofs.entry.serve_check.Tie as tie
+
+pub serve-check-spec : {M : Type 1} → statement M
+serve-check-spec =
+    tie.close (tie.spec (λ c κs. search needs) (λ c. search (entry-serving, tests)) (λ c κs. search needs) (λ c. search needs)
+    (λ c. search (entry-serving, tests)))

@@ -1,8 +1,0 @@
-use Rattle.service.proofs.Admitting.{rights}
-use borrow.Author.Needs.{needs}
-use Rattle.service.proofs.rights.has_right.Statement.{statement}
-use Rattle.service.proofs.rights.has_right.Tie as tie
-
-pub has-right-spec : {M : Type 1} → statement M
-has-right-spec = tie.close (tie.spec (λ c. search needs) (λ c. search needs) (λ c. search needs) (λ c. search (rights, needs))
-    (λ c. search (rights, needs)) (λ c. search (rights, needs)))

@@ -1,4 +1,0 @@
-pub mod Desk
-pub mod Opening
-pub mod Serving
-pub mod Isolation

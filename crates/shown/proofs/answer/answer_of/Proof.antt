@@ -1,9 +1,0 @@
-use Rattle.limits.proofs.Auto.{tests}
-use Rattle.shown.specs.Answer.{answerOf}
-use borrow.Author.Needs.{needs}
-use Rattle.shown.proofs.answer.answer_of.Statement.{statement}
-use Rattle.shown.proofs.answer.answer_of.Tie as tie
-
-pub answer-of-spec : {M : Type 1} → statement M
-unfolding answerOf
-answer-of-spec = tie.close (tie.spec (λ c. search needs) (λ c. search tests))

@@ -1,2 +1,0 @@
-pub mod SidesByNumber
-pub mod SidesLink

@@ -1,2 +1,0 @@
-// What a rule asks besides its templates.
-pub mod asked;

@@ -1,0 +1,10 @@
+pub mod InstructionWritten
+pub mod DocumentWritten
+pub mod HeaderWritten
+pub mod ImageWritten
+pub mod FormulasMean
+pub mod SourceLookUps
+pub mod MeaningAgrees
+pub mod PointsThere
+pub mod PromiseOfSource
+pub mod Theorem

@@ -1,2 +1,0 @@
-pub mod Image
-pub mod Table

@@ -1,8 +1,0 @@
-use Rattle.steps.proofs.Ways.{value-made}
-use Rattle.limits.proofs.Auto.{tests}
-use borrow.Author.Needs.{needs}
-use Rattle.steps.proofs.step.value_at.Statement.{statement}
-use Rattle.steps.proofs.step.value_at.Tie as tie
-
-pub value-at-spec : {M : Type 1} → statement M
-value-at-spec = tie.close (tie.spec (λ c κs. search needs) (λ c. search needs) (λ c κs. search needs) (λ c. search (value-made, tests)))

@@ -1,3 +1,0 @@
-pub mod Refusal
-pub mod State
-pub mod Step

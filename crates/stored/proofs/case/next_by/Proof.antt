@@ -1,9 +1,0 @@
-use Rattle.stored.proofs.Cases.{following}
-use Rattle.limits.proofs.Auto.{tests}
-use borrow.Author.Needs.{needs}
-use Rattle.stored.proofs.case.next_by.Statement.{statement}
-use Rattle.stored.proofs.case.next_by.Tie as tie
-
-pub next-by-spec : {M : Type 1} → statement M
-next-by-spec = tie.close (tie.spec (λ c. search needs) (λ c. search needs) (λ c. search needs) (λ c. search (following, tests))
-    (λ c. search (following, tests)) (λ c. search (following, tests)))

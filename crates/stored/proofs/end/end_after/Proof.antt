@@ -1,8 +1,0 @@
-use Rattle.limits.proofs.Auto.{tests}
-use Rattle.stored.specs.End.{endAfter}
-use Rattle.stored.proofs.end.end_after.Statement.{statement}
-use Rattle.stored.proofs.end.end_after.Tie as tie
-
-pub end-after-spec : {M : Type 1} → statement M
-unfolding endAfter
-end-after-spec = tie.close (tie.spec (λ c. search tests) (λ c. search tests))

@@ -1,9 +1,0 @@
-use mathlib.Core.Path.{sym}
-use Prim.Native.Nat.{ℕ}
-use lib.ListN.{length-replicate}
-use Rattle.stored.specs.Space.{spaceBytes}
-use Rattle.stored.proofs.space.space_for_body.Statement.{statement}
-use Rattle.stored.proofs.space.space_for_body.Tie as tie
-
-pub space-for-body-spec : {M : Type 1} → statement M
-space-for-body-spec = tie.close (tie.spec (λ c. sym (length-replicate {A = ℕ} spaceBytes 0)))

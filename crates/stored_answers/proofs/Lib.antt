@@ -1,4 +1,0 @@
-pub mod Lent
-pub mod Parted
-pub mod Same
-pub mod Ways

@@ -1,2 +1,0 @@
-pub mod Longs
-pub mod Ways

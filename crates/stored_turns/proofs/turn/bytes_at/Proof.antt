@@ -1,8 +1,0 @@
-use Rattle.limits.proofs.Auto.{tests}
-use Rattle.stored_turns.proofs.Ways.{reads}
-use borrow.Author.Needs.{needs}
-use Rattle.stored_turns.proofs.turn.bytes_at.Statement.{statement}
-use Rattle.stored_turns.proofs.turn.bytes_at.Tie as tie
-
-pub bytes-at-spec : {M : Type 1} → statement M
-bytes-at-spec = tie.close (tie.spec (λ c κs. search needs) (λ c. search (reads, tests)) (λ c. search (reads, tests)))

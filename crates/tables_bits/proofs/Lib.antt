@@ -1,0 +1,4 @@
+pub mod BitBranches
+pub mod BitFacts
+pub mod BitsShow
+pub mod TruthTableBranches

@@ -1,0 +1,3 @@
+pub mod EachRowOnce
+pub mod RunBranches
+pub mod ValueBranches

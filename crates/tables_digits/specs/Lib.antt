@@ -1,0 +1,3 @@
+pub mod Advance
+pub mod SlotColumn
+pub mod ValueColumn

@@ -1,0 +1,4 @@
+pub mod Entailment
+pub mod EveryRow
+pub mod ByRows
+pub mod ByTable

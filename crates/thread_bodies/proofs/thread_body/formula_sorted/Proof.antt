@@ -1,9 +1,0 @@
-use Rattle.limits.proofs.Auto.{tests}
-use Rattle.thread_bodies.proofs.Instructed.{instructed}
-use borrow.Author.Needs.{needs}
-use Rattle.thread_bodies.proofs.thread_body.formula_sorted.Statement.{statement}
-use Rattle.thread_bodies.proofs.thread_body.formula_sorted.Tie as tie
-
-pub formula-sorted-spec : {M : Type 1} → statement M
-formula-sorted-spec = tie.close (tie.spec (λ c. search (instructed, tests)) (λ c κs. search needs) (λ c κs. search needs)
-    (λ c. search (instructed, tests)))

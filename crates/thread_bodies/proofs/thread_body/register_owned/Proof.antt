@@ -1,9 +1,0 @@
-use Rattle.limits.proofs.Auto.{tests}
-use Rattle.thread_bodies.proofs.Instructed.{owning}
-use borrow.Author.Needs.{needs}
-use Rattle.thread_bodies.proofs.thread_body.register_owned.Statement.{statement}
-use Rattle.thread_bodies.proofs.thread_body.register_owned.Tie as tie
-
-pub register-owned-spec : {M : Type 1} → statement M
-register-owned-spec = tie.close (tie.spec (λ c. search (owning, tests)) (λ c κs. search needs) (λ c κs. search needs)
-    (λ c. search (owning, tests)))

@@ -1,4 +1,0 @@
-pub mod Running
-pub mod Starting
-pub mod Tables
-pub mod Replaying

@@ -1,8 +1,0 @@
-use Rattle.traces.proofs.Starting.{machine-made}
-use Rattle.limits.proofs.Auto.{tests}
-use borrow.Author.Needs.{needs}
-use Rattle.traces.proofs.start.start_machine.Statement.{statement}
-use Rattle.traces.proofs.start.start_machine.Tie as tie
-
-pub start-machine-spec : {M : Type 1} → statement M
-start-machine-spec = tie.close (tie.spec (λ c κs. search needs) (λ c κs. search needs) (λ c. search (machine-made, tests)))

@@ -1,4 +1,0 @@
-pub mod Run
-pub mod Start
-pub mod Table
-pub mod Replayed

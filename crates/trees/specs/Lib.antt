@@ -1,3 +1,0 @@
-pub mod ToTree
-pub mod Place
-pub mod Said

@@ -1,1 +1,0 @@
-// The link between the trees that the code's contracts speak of and the formulas of the logic: no code.

@@ -1,2 +1,0 @@
-// Images trimmed before, and answers compared with them.
-pub mod answer;

@@ -1,0 +1,11 @@
+pub mod NamedNumbers
+pub mod LeftOutBytes
+pub mod Overwritten
+pub mod Pieces
+pub mod Renumbered
+pub mod RecordParts
+pub mod Records
+pub mod WholeImage
+pub mod Trimmed
+pub mod TrimAccepted
+pub mod Answer

@@ -1,1 +1,0 @@
-// What trimming promises: definitions, and what follows from them.

@@ -1,4 +1,0 @@
-pub mod Kept
-pub mod Trim
-pub mod Rests
-pub mod Closed

@@ -1,3 +1,0 @@
-// Trimming for the archive: `trim_image` is the entry point.
-pub mod archive;
-pub mod entry;

@@ -1,2 +1,0 @@
-// The values of a formula at all rows, a column at a time.
-pub mod value;

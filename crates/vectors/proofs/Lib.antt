@@ -1,0 +1,16 @@
+pub mod CaseBranches
+pub mod FileBranches
+pub mod NumberBranches
+pub mod RoomBranches
+pub mod CounterFacts
+pub mod CounterBranches
+pub mod LentFront
+pub mod PartBranches
+pub mod CallAnswerSame
+pub mod CallAnswerBranches
+pub mod BillAnswerSame
+pub mod BillAnswerBranches
+pub mod TrimAnswerSame
+pub mod TrimAnswerBranches
+pub mod U32Equal
+pub mod TurnBranches

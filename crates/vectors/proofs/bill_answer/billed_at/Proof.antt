@@ -1,0 +1,8 @@
+use Rattle.limits.proofs.BranchTests.{tests}
+use Rattle.vectors.proofs.BillAnswerBranches.{bill-answer-branches}
+use borrow.Author.Needs.{needs}
+use Rattle.vectors.proofs.bill_answer.billed_at.Statement.{statement}
+use Rattle.vectors.proofs.bill_answer.billed_at.Tie as tie
+
+pub billed-at-spec : {M : Type 1} → statement M
+billed-at-spec = tie.close (tie.spec (λ c κs. search needs) (λ c. search needs) (λ c. search (bill-answer-branches, tests)))

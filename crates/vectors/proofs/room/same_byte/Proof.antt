@@ -1,0 +1,8 @@
+use Rattle.limits.proofs.BranchTests.{tests}
+use Rattle.vectors.proofs.RoomBranches.{rooms}
+use borrow.Author.Needs.{needs}
+use Rattle.vectors.proofs.room.same_byte.Statement.{statement}
+use Rattle.vectors.proofs.room.same_byte.Tie as tie
+
+pub same-byte-spec : {M : Type 1} → statement M
+same-byte-spec = tie.close (tie.spec (λ c. search needs) (λ c κs. search needs) (λ c. search (rooms, tests)))

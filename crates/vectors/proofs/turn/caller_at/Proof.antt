@@ -1,0 +1,8 @@
+use Rattle.limits.proofs.BranchTests.{tests}
+use Rattle.vectors.proofs.TurnBranches.{turn-branches}
+use borrow.Author.Needs.{needs}
+use Rattle.vectors.proofs.turn.caller_at.Statement.{statement}
+use Rattle.vectors.proofs.turn.caller_at.Tie as tie
+
+pub caller-at-spec : {M : Type 1} → statement M
+caller-at-spec = tie.close (tie.spec (λ c κs. search needs) (λ c. search (turn-branches, tests)))

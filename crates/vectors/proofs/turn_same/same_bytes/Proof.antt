@@ -1,0 +1,8 @@
+use Rattle.limits.proofs.BranchTests.{tests}
+use Rattle.vectors.proofs.TurnBranches.{turn-same-branches}
+use borrow.Author.Needs.{needs}
+use Rattle.vectors.proofs.turn_same.same_bytes.Statement.{statement}
+use Rattle.vectors.proofs.turn_same.same_bytes.Tie as tie
+
+pub same-bytes-spec : {M : Type 1} → statement M
+same-bytes-spec = tie.close (tie.spec (λ c κs. search needs) (λ c κs. search needs) (λ c. search (turn-same-branches, tests)))

@@ -1,0 +1,14 @@
+pub mod End
+pub mod File
+pub mod Next
+pub mod Number
+pub mod Room
+pub mod Space
+pub mod Counters
+pub mod CasesCounted
+pub mod CallAnswer
+pub mod Parts
+pub mod BillAnswer
+pub mod TrimAnswer
+pub mod TurnSame
+pub mod Turn

@@ -1,0 +1,9 @@
+pub mod Billed
+pub mod ByKind
+pub mod FileCounted
+pub mod HandedOver
+pub mod Replayed
+pub mod ReplayedAcross
+pub mod VerdictSame
+pub mod Trimmed
+pub mod VerdictBranches

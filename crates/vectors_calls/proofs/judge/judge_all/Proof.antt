@@ -1,0 +1,45 @@
+use mathlib.Core.Path.{_≡_}
+use lib.ListN.{length}
+use Rattle.vectors.specs.Space.{spaceBytes}
+use Rattle.vectors.proofs.CaseBranches.{bodies}
+use Rattle.vectors.proofs.CounterFacts.{Running}
+use Rattle.vectors_calls.specs.Kind.{tailOf}
+use Rattle.vectors_calls.proofs.FileCounted.{judge-all-branches}
+use borrow.Author.Needs.{needs}
+use Rattle.vectors_calls.proofs.judge.judge_all.Statement.{statement}
+use Rattle.vectors_calls.proofs.judge.judge_all.Tie as tie
+
+abbrev Inv-loop : tie.InvT-loop
+Inv-loop fd kind space₀ stored₀ tail tally₀ left₀ space stored tally left =
+    (spaceBytes ≡ length space) × ((118 ≡ length stored) × ((tail ≡ tailOf kind) × Running tally left))
+
+abbrev μ-loop : tie.MeasureT-loop
+μ-loop fd kind space₀ stored₀ tail tally₀ left₀ space stored tally left = left
+
+pub judge-all-spec : {M : Type 1} → statement M
+judge-all-spec =
+    tie.close
+    (tie.spec
+    Inv-loop
+    μ-loop
+    (λ c κs. search (judge-all-branches, bodies, needs))
+    (λ c κs. search (judge-all-branches, bodies, needs))
+    (λ c κs. search (judge-all-branches, bodies, needs))
+    (λ c. search (judge-all-branches, bodies, needs))
+    (λ c. search (judge-all-branches, bodies, needs))
+    (λ c. search (judge-all-branches, bodies, needs))
+    (λ c. search (judge-all-branches, bodies, needs))
+    (λ c. search (judge-all-branches, bodies, needs))
+    (λ c κs. search (judge-all-branches, bodies, needs))
+    (λ c. search (judge-all-branches, bodies, needs))
+    (λ c. search (judge-all-branches, bodies, needs))
+    (λ c. search (judge-all-branches, bodies, needs))
+    (λ c. search (judge-all-branches, bodies, needs))
+    (λ c. search (judge-all-branches, bodies, needs))
+    (λ c κs. search (judge-all-branches, bodies, needs))
+    (λ c. search (judge-all-branches, bodies, needs))
+    (λ c. search (judge-all-branches, bodies, needs))
+    (λ c. search (judge-all-branches, bodies, needs))
+    (λ c. search (judge-all-branches, bodies, needs))
+    (λ c. search (judge-all-branches, bodies, needs))
+    (λ c. search (judge-all-branches, bodies, needs)))

@@ -1,0 +1,2 @@
+pub mod FileCounted
+pub mod AnswerBranches

@@ -1,0 +1,20 @@
+use Rattle.vectors.proofs.FileBranches.{names}
+use borrow.Author.Needs.{needs}
+use Rattle.vectors_formulas.proofs.main.Statement.{statement}
+use Rattle.vectors_formulas.proofs.main.Tie as tie
+
+pub main-spec : {M : Type 1} → statement M
+main-spec =
+    tie.close
+    (tie.spec
+    (λ c κs. search needs)
+    (λ c. search needs)
+    (λ c κs. search needs)
+    (λ c. search needs)
+    (λ c. search (names, needs))
+    (λ c. search (names, needs))
+    (λ c κs. search needs)
+    (λ c κs. search needs)
+    (λ c. search needs)
+    (λ c. search needs)
+    (λ c. search needs))

@@ -1,0 +1,40 @@
+// Makes the turns at a service that the files named by the arguments hold, one after the other, and writes a line for each file: how many
+// there are of each kind, and how many leave something else than what is stored. A fault of a file is reported on standard error, and then
+// there is no line for it.
+mod judge;
+mod line;
+mod replays;
+
+use judge::judge_all;
+use line::write_line;
+use vectors::complaint::passes;
+use vectors::file::File;
+use vectors::file::open_argument;
+
+fn judge_file(path: &[u8], fd: i32) {
+    let judged = judge_all(fd);
+    let tally = judged.tally;
+    let end = judged.end;
+    if passes(path, end, tally.cases) {
+        write_line(path, tally);
+    }
+}
+
+fn judge_argument(number: usize) {
+    let mut path = io::buffer();
+    match open_argument(number, &mut path) {
+        File::Open { fd, name } => {
+            judge_file(&path[..name], fd);
+            libc::close(fd);
+        }
+        File::Missing => {}
+    }
+}
+
+fn main() {
+    // The first argument is asked for even where there is none, so that this is reported.
+    judge_argument(1);
+    for number in 2..os::arg_count() {
+        judge_argument(number);
+    }
+}

@@ -1,0 +1,5 @@
+pub mod Fields
+pub mod Output
+pub mod ObligationPlace
+pub mod Record
+pub mod Text

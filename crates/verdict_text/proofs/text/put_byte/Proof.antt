@@ -1,8 +1,0 @@
-use Rattle.limits.proofs.Auto.{tests}
-use Rattle.verdict_text.proofs.Texts.{putting}
-use borrow.Author.Needs.{needs}
-use Rattle.verdict_text.proofs.text.put_byte.Statement.{statement}
-use Rattle.verdict_text.proofs.text.put_byte.Tie as tie
-
-pub put-byte-spec : {M : Type 1} → statement M
-put-byte-spec = tie.close (tie.spec (λ c. search (putting, tests)) (λ c. search needs) (λ c. search needs) (λ c. search (putting, tests)))

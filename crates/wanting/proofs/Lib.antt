@@ -1,3 +1,0 @@
-pub mod Wants
-pub mod Filled
-pub mod Compared

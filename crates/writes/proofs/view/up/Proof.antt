@@ -1,9 +1,0 @@
-use Rattle.writes.specs.View.{up}
-use Rattle.limits.proofs.Auto.{tests}
-use borrow.Author.Needs.{needs}
-use Rattle.writes.proofs.view.up.Statement.{statement}
-use Rattle.writes.proofs.view.up.Tie as tie
-
-pub up-spec : {M : Type 1} → statement M
-unfolding up
-up-spec = tie.close (tie.spec (λ c. search tests) (λ c κs. search needs) (λ c. search tests))

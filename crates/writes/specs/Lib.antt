@@ -1,3 +1,0 @@
-pub mod View
-pub mod Write
-pub mod Table
