@@ -35,7 +35,7 @@ use Rattle.formula.specs.Tree.{nodeAt, parseTree}
 use Rattle.logic_outline.specs.Verdict.{lineCode, judge, judgeClaims}
 use Rattle.logic_outline.specs.Lines.{marked}
 use Rattle.image_meaning.specs.Formulas.{formula}
-use Rattle.image_meaning.specs.RuleNumbers.{ruleOf}
+use Rattle.logic.specs.RuleNumbers.{ruleOf}
 use Rattle.image_meaning.specs.Program.{pointCount, outlineNumber}
 use Rattle.image_meaning.specs.Certificate.{saying, lineBody}
 use Rattle.image_meaning.specs.Image.{namedLine, decode}

@@ -7,7 +7,7 @@ use borrow.Author.Tests.{lt-ltb}
 use Rattle.formula.specs.Tree.{nodeAt, parseTree}
 use Rattle.formula.specs.declared.node.Node.{Node}
 use Rattle.formula.proofs.NodeBranches.{parse-zero, parse-step}
-use Rattle.formula.proofs.BranchTests.{lower}
+use Rattle.limits.proofs.BranchTests.{lower}
 
 pub end-zero : (s : List ℕ) (at k : ℕ) → k ≡ 0 → at ≡ parseTree s k at .end
 end-zero s at k e = rw (parse-zero s k at e)

@@ -1,4 +1,3 @@
-pub mod BranchTests
 pub mod CodeSets
 pub mod NodeBranches
 pub mod ReaderBranches

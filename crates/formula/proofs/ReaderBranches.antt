@@ -16,7 +16,7 @@ use Rattle.formula.specs.declared.node.Node.{Node}
 use Rattle.formula.specs.declared.reader.Counts.{Counts}
 use Rattle.formula.specs.declared.reader.Reading.the-variants.{Formula, Fault}
 use Rattle.formula.proofs.NodeBranches.{parse-step}
-use Rattle.formula.proofs.BranchTests.{lower}
+use Rattle.limits.proofs.BranchTests.{lower}
 
 module _ (s : List ℕ) (n : Counts) (c at : ℕ) where
   pub operand-past : length s ≤ at → malformed ≡ operandAnswer s n c at

@@ -10,7 +10,7 @@ use Rattle.formula.specs.Codes.{member}
 use Rattle.formula.specs.Tree.{Tree, none, node, ParsedTree, nodeAt, parseTree}
 use Rattle.formula.specs.declared.node.Node.{Node}
 use Rattle.formula.proofs.NodeBranches.{parse-zero, parse-step}
-use Rattle.formula.proofs.BranchTests.{lower}
+use Rattle.limits.proofs.BranchTests.{lower}
 use Rattle.formula_compare.specs.Occurs.{ownerOf, any, equal, isQueried, occurs, foundIn}
 use Rattle.formula_compare.specs.declared.occurs.Query.{Query}
 use Rattle.formula_compare.specs.declared.occurs.Found.{Found}

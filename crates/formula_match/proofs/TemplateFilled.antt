@@ -16,7 +16,7 @@ use Rattle.formula_trees.proofs.TreeAgree.{ofTree-toTree}
 use Rattle.formula_match.specs.Template.{firstHole, firstNumber, formulaHole, numHole, hole, patternToTree, Holes, operandT, instT, fillOf}
 
 -- what stands in a hole
-hole-at : (c : Holes) (k : ℕ) → instT c (hole k) ≡ c .tree k
+pub hole-at : (c : Holes) (k : ℕ) → instT c (hole k) ≡ c .tree k
 hole-at c k = go (leb firstHole (firstHole + k)) (le-leb firstHole (firstHole + k) (omega arith))
   where
     go : (b : Bool) → b ≡ true → _≡_ {A = Tree} (elim b
@@ -26,7 +26,7 @@ hole-at c k = go (leb firstHole (firstHole + k)) (le-leb firstHole (firstHole + 
     go false e = let z : _≡_ {A = ℕ} 0 1 = cc in absurd (omega arith)
 
 -- a number as an operand
-literal : (c : Holes) (n : ℕ) → operandT c (byte Code.const) (firstNumber + n) ≡ n
+pub literal : (c : Holes) (n : ℕ) → operandT c (byte Code.const) (firstNumber + n) ≡ n
 unfolding hasOperand
 literal c n = go (ltb (firstNumber + n) firstNumber) (le-ltb (firstNumber + n) firstNumber (omega arith))
   where

@@ -11,7 +11,7 @@ use Rattle.logic.specs.Rows.{allBelow}
 use Rattle.logic.proofs.Rows.{allBelow-at}
 use Rattle.image_bodies.specs.Line.{formOf}
 use Rattle.formula_trees.specs.StatementTree as Said
-use Rattle.image_meaning.specs.RuleNumbers.{unlisted, rules, ruleOf}
+use Rattle.logic.specs.RuleNumbers.{unlisted, rules, ruleOf}
 use Rattle.image_access.specs.AccessTrees.{formNumber}
 
 abbrev pub rowForm : ℕ → ℕ

@@ -11,7 +11,7 @@ use Rattle.image_bodies.specs.declared.line.Form.the-variants.{Triple, Implicat
 use Rattle.image_bodies.specs.Line.{formOf, premises}
 use Rattle.logic_outline.specs.Lines.{Line, Certificate}
 use Rattle.image_meaning.specs.Formulas.{formula}
-use Rattle.image_meaning.specs.RuleNumbers.{ruleOf}
+use Rattle.logic.specs.RuleNumbers.{ruleOf}
 use Rattle.image_meaning.specs.Program.{programOf}
 
 -- the number of a line's left formula

@@ -17,3 +17,4 @@ pub mod Reordered
 pub mod Order
 pub mod Acting
 pub mod Paired
+pub mod EachRule

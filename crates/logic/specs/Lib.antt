@@ -4,6 +4,7 @@ pub mod Table
 pub mod Statement
 pub mod Opcode
 pub mod Rule
+pub mod RuleNumbers
 pub mod Inference
 pub mod Obligations
 pub mod Claims

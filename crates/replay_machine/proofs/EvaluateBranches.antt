@@ -7,7 +7,7 @@ use borrow.Author.Tests.{lt-ltb}
 use Rattle.formula.specs.Tree.{Tree, none, node, nodeAt, parseTree}
 use Rattle.formula.specs.declared.node.Node.{Node}
 use Rattle.formula.proofs.NodeBranches.{parse-zero, parse-step}
-use Rattle.formula.proofs.BranchTests.{lower}
+use Rattle.limits.proofs.BranchTests.{lower}
 use Rattle.replay_machine.specs.Evaluate.{workedHere, workedT, workedAt}
 use Rattle.replay_machine.specs.declared.evaluate.Worked.{Worked}
 

@@ -8,7 +8,7 @@ use lib.ListN.{getD}
 use lib.Dec.{eqb}
 use borrow.Author.Tests.{lt-ltb, le-ltb, le-leb, lt-leb, eq-eqb, ne-eqb}
 use Rattle.limits.specs.Limits.{nesting, premises}
-use Rattle.formula.proofs.BranchTests.{lower}
+use Rattle.limits.proofs.BranchTests.{lower}
 use Rattle.formula_match.specs.MatchPlaces.{wholeAt, thenWhole}
 use Rattle.formula_match.specs.declared.bind.Bind.{Bind}
 use Rattle.formula_match.specs.declared.matching_whole.Whole.{Whole}

@@ -30,7 +30,8 @@ use Rattle.image_access.specs.AccessTrees.{actingAt}
 use Rattle.image_access.specs.declared.line.Line.{Line}
 use Rattle.image_access.specs.declared.acting_instruction.Acting.{Acting}
 use Rattle.rules_table.specs.RuleTable.{anyImplications, ruleRow, templates}
-use Rattle.rules_table.specs.TableTest.{numberOf, packed, premiseCount, allows}
+use Rattle.rules_table.specs.TableTest.{packed, premiseCount, allows}
+use Rattle.logic.specs.RuleNumbers.{numberOf}
 use Rattle.rules_table.specs.declared.rule.Rule as Code
 use Rattle.rules_line.specs.Conclusion.{concludedAt, conclusionAt, conclusionsFrom, matchConclusion, matchFrom}
 use Rattle.rules_line.specs.LineConclusion.{conclusionBy}

@@ -24,7 +24,7 @@ use Rattle.rules_table.proofs.FitTreeAgrees.{bridge}
 use Rattle.image_meaning.specs.Certificate.{lineBody, certificateOf}
 use Rattle.image_access.specs.AccessPlaces.{lineIn}
 use Rattle.image_meaning.specs.Program.{programOf}
-use Rattle.image_meaning.specs.RuleNumbers.{ruleOf}
+use Rattle.logic.specs.RuleNumbers.{ruleOf}
 use Rattle.image_access.specs.AccessTrees.{actingAt}
 use Rattle.image_access.specs.declared.line.Line.{Line}
 use Rattle.image_access.specs.declared.acting_instruction.Acting.{Acting}

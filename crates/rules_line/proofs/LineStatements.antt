@@ -18,14 +18,13 @@ use Rattle.image_bodies.specs.Line.{formOf, placed}
 use Rattle.formula_trees.specs.StatementTree.{concluded}
 use Rattle.image_meaning.specs.Certificate.{lineBody, certificateOf}
 use Rattle.image_access.specs.AccessPlaces.{lineIn}
-use Rattle.image_meaning.specs.RuleNumbers.{ruleOf}
 use Rattle.image_access.specs.AccessTrees.{treeAt, formNumber, spoken}
 use Rattle.image_meaning.proofs.RecordsChecked.{Checks}
 use Rattle.image_meaning.proofs.LinesAdmitted.{numbers-passed}
 use Rattle.image_access.proofs.RuleForm.{rule-form}
 use Rattle.image_access.proofs.AccessAgree.{line-is}
 use Rattle.rules_table.specs.RuleTable.{ruleRow}
-use Rattle.rules_table.specs.TableTest.{numberOf}
+use Rattle.logic.specs.RuleNumbers.{ruleOf, numberOf}
 use Rattle.rules_line.specs.Conclusion.{concludedAt}
 use Rattle.rules_line.specs.LineConclusion.{spokenForm, conclusionBy, lineAt, operationAt, conclusionOf}
 use Rattle.rules_line.proofs.RuleRow.{row-form}

@@ -23,7 +23,8 @@ use Rattle.formula_match.specs.MatchPlaces.{proper}
 use Rattle.formula_trees.specs.StatementTree.{formOf}
 use Rattle.rules_table.specs.FitTree.{leftOf, rightOf}
 use Rattle.rules_table.specs.RuleTable.{ruleRow, templates}
-use Rattle.rules_table.specs.TableTest.{numberOf, trees, standAt, packed, premiseCount, premisesRight, allows, sameBit, operations, sideNumber}
+use Rattle.rules_table.specs.TableTest.{trees, standAt, packed, premiseCount, premisesRight, allows, sameBit, operations, sideNumber}
+use Rattle.logic.specs.RuleNumbers.{numberOf}
 use Rattle.rules_table.proofs.TableAgrees.{listed-right}
 use Rattle.rules_line.proofs.ConclusionAgrees.{StandAll}
 

@@ -1,7 +1,7 @@
 -- What the code works out on trees is whether the line fits its rule.
 use mathlib.Core.Path.{_≡_, refl, ap, ap₂, sym, _∙_, subst, subst₂}
 use mathlib.Core.Bool.{Bool, true, false, not, _&&_}
-use mathlib.Core.List.{List, [], _∷_, map}
+use mathlib.Core.List.{List, [], _∷_, _++_, map}
 use mathlib.Core.Option.{Option, none, some}
 use Prim.Native.Nat.{ℕ, suc, _-_, _≤_}
 use native.Mathlib.Omega.{arith}
@@ -18,10 +18,10 @@ use Rattle.semantics.specs.Machine.{Program, Mode.store, Mode.swap, Mode.exchan
 use Rattle.logic.specs.Statement
 use Rattle.logic.specs.Statement.{Statement, half, isImp}
 use Rattle.logic_schemas.specs.Pattern
-use Rattle.logic_schemas.specs.Pattern.{Pattern, Given, Fill, inst}
+use Rattle.logic_schemas.specs.Pattern.{Pattern, Given, Fill, number, inst}
 use Rattle.logic_schemas.specs.Rules
-use Rattle.logic.specs.Rule.{Rule, r1, r2, r3, r4, r5, r6, r7, r8, r9, r10, r11, r12, r13, r14, r15, r16, r20, r21, r22, r23, r24, r25, r26, r27, r30, r31, r32, r33, r34, r35, r36, r37, r38, r39, r40, r41, r42, r43, r44, r45, r46, r47, r48, r49, r50}
-use Rattle.logic_schemas.specs.Rules.{Shape, Shape.inside, Shape.implies, Shape.triple, Shape.pair, Premises, these, implications, By, by-notes, r-by-x, x-by-f, Side, _is_with_, is-new, kept, lacks-x, no-flag, by-rows, row}
+use Rattle.logic.specs.Rule.{Rule}
+use Rattle.logic_schemas.specs.Rules.{Shape, Shape.inside, Shape.implies, Shape.triple, Shape.pair, Premises, these, implications, By, by-notes, r-by-x, x-by-f, Side, _is_with_, start-of, starts-at-0, is-new, kept, lacks-x, no-flag, by-rows, by-table, Row, row}
 use Rattle.logic.specs.Inference.{keeps}
 use Rattle.logic_schemas.specs.Fits.{wordOf, regOf, formulaOf, apartOf, freshOf, notesOf, threadOf, pointOf, given, by, filled, filledAll, sideHolds, operationFits, found, fits}
 use Rattle.semantics.proofs.Base.{bool-ext, and-left, and-right, and-both, all-All}
@@ -46,6 +46,8 @@ use Rattle.formula_match.specs.Match.{Taken, andThen, when, matchT}
 use Rattle.rules_table.specs.FitTree as FitT
 use Rattle.formula_trees.specs.StatementTree.{TreeConclusion, concluded, Acting, acting, placed, formOf}
 use Rattle.rules_table.specs.FitTree.{leftOf, rightOf, matchSides, matchLine, matchAll, isImplication, matchPremises, preset, orElse, holesFrom, replacing, apartT, keepsT, freshT, sideT, operationT, setup, restT, answer, fitsAt, fitsT}
+use Rattle.rules_table.proofs.HolesAgree.{Hole, holes, all-left, all-right, all-join, fillAt, At, same-filled, agree-at}
+use Rattle.rules_table.proofs.RowHoles.{isIn, all-in, shapeHoles, premiseHoles, rowHoles, single, isTestHole, isImplies, isAny, sideRight, rowRight, filledHoles, all-filled, rows-right}
 use Rattle.logic_outline.proofs.Bounded.{boundedSides}
 use Rattle.formula_match.proofs.MatchFills.{Has, match-sound, then-some, when-some, Goes, goes-then, goes-when, match-goes}
 use Rattle.formula_match.proofs.TemplateFilled.{Agrees, from-tree}
@@ -337,310 +339,178 @@ module _ (P : Program) (i k : ℕ) (σ : Fill) (d : Holes) (two : 2 ≤ P .range
   abbrev Line : Shape → Type 0
   Line m = (instT d (leftOf m) ≡ concluded (filled P i k σ m) .left) × (instT d (rightOf m) ≡ concluded (filled P i k σ m) .right)
 
-  abbrev Sides : Rule → List Statement → Type 0
-  Sides n ps = All (Same (filled P i k σ (row n .says)) ps) (row n .sides)
+  -- a line that is a shape filled, and its premises, agree at the holes of their shapes
+  line-at : (m : Shape) → Line m → All (At g σ d) (shapeHoles m)
+  line-at (inside p q) e = all-join (At g σ d) (holes p) (holes q) (agree-at g σ d p (e .0)) (agree-at g σ d q (e .1))
+  line-at (implies p q) e = all-join (At g σ d) (holes p) (holes q) (agree-at g σ d p (e .0)) (agree-at g σ d q (e .1))
+  line-at (triple p q) e = all-join (At g σ d) (holes p) (holes q) (agree-at g σ d p (e .0)) (agree-at g σ d q (e .1))
+  line-at (pair p q) e = all-join (At g σ d) (holes p) (holes q) (agree-at g σ d p (e .0)) (agree-at g σ d q (e .1))
 
-  -- by rule: what stands in the holes that are asked about
-  sides-same : (n : Rule) (ps : List Statement) → Line (row n .says) → PremisesFit P i k σ (row n .premises) ps
-      → FitPremises d i k (row n .premises) (map concluded ps)
-      → T (boundedSides (P .range) (filled P i k σ (row n .says))) → Sides n ps
-  unfolding hasOperand
-  sides-same r1 ps (e₁, e₂) f g h = let q0 : d .tree 0 ≡ toTree (σ .assertion 0) = cc in
-      (kept-same Rules.P (filled P i k σ (row r1 .says)) ps q0, tt)
-  sides-same r2 ps (e₁, e₂) f g h = let q0 : d .tree 0 ≡ toTree (σ .assertion 0) = cc in
-      let q1 : d .tree 1 ≡ toTree (σ .assertion 1) = cc in (is-same Rules.P Rules.Q by-notes (filled P i k σ (row r2 .says)) ps q0 q1, tt)
-  sides-same r3 ps (e₁, e₂) f g h = let q3 : d .tree 3 ≡ toTree (σ .test 3) = cc in let q2 : d .tree 2 ≡ toTree (σ .test 2) = cc in
-      (is-same Rules.F Rules.E r-by-x (filled P i k σ (row r3 .says)) ps q3 q2, tt)
-  sides-same r4 ps (e₁, e₂) f g h = let q3 : d .tree 3 ≡ toTree (σ .test 3) = cc in let q2 : d .tree 2 ≡ toTree (σ .test 2) = cc in
-      (is-same Rules.F Rules.E r-by-x (filled P i k σ (row r4 .says)) ps q3 q2, tt)
-  sides-same r5 ps e f g h = tt
-  sides-same r6 ps e f g h = tt
-  sides-same r7 ps e f g h = tt
-  sides-same r8 ps (e₁, e₂) f g h = let q1 : d .tree 1 ≡ toTree (σ .interval 1) = cc in
-      (lacks-same Rules.J (filled P i k σ (row r8 .says)) ps q1, tt)
-  sides-same r9 ps (e₁, e₂) f g h = let q3 : d .tree 3 ≡ toTree (σ .test 3) = cc in let q2 : d .tree 2 ≡ toTree (σ .test 2) = cc in (
-    is-same Rules.F Rules.E x-by-f (filled P i k σ (row r9 .says)) ps q3 q2,
-    (flag-same Rules.E (filled P i k σ (row r9 .says)) ps q2, tt),
-  )
-  sides-same r10 ps e f g h = tt
-  sides-same r11 ps e f g h = tt
-  sides-same r12 ps e f g h = tt
-  sides-same r13 ps (e₁, e₂) f g h = let q1 : d .tree 1 ≡ toTree (σ .interval 1) = cc in
-      (lacks-same Rules.J (filled P i k σ (row r13 .says)) ps q1, tt)
-  sides-same r14 ps e f g h = tt
-  sides-same r15 ps e f g h = tt
-  sides-same r16 ps e f g h = tt
-  sides-same r20 ps (e₁, e₂) f g h = (
-    ap (λ (l : List ImpT). tableT l (impToTree (record { left = σ .assertion 0; right = σ .assertion 1 })))
-        (imps-concluded ps (and-right (leb (length ps) Limits.premises) (all isImp ps) f))
-        ∙ toTree-table (map Statement.impOf ps) (record { left = σ .assertion 0; right = σ .assertion 1 }),
-    tt,
-  )
-  sides-same r21 ps (e₁, e₂) f g h = let q2 : d .tree 2 ≡ toTree (σ .test 2) = cc in let q3 : d .tree 3 ≡ toTree (σ .test 3) = cc in
-      (rows-same Rules.E Rules.F (filled P i k σ (row r21 .says)) ps q2 q3 (search and-left) (search and-right), tt)
-  sides-same r22 ps e f g h = tt
-  sides-same r23 ps (e₁, e₂) f g h = let q2 : d .tree 2 ≡ toTree (σ .test 2) = cc in let q3 : d .tree 3 ≡ toTree (σ .test 3) = cc in
-      (rows-same Rules.E Rules.F (filled P i k σ (row r23 .says)) ps q2 q3 (search and-left) (search and-right), tt)
-  sides-same r24 ps (e₁, e₂) f g h = let q2 : d .tree 2 ≡ toTree (σ .test 2) = cc in let q3 : d .tree 3 ≡ toTree (σ .test 3) = cc in
-      (rows-same Rules.E Rules.F (filled P i k σ (row r24 .says)) ps q2 q3 (search and-left) (search and-right), tt)
-  sides-same r25 ps e f g h = tt
-  sides-same r26 ps (e₁, e₂) f g h = let q0 : d .tree 0 ≡ toTree (σ .value 0) = cc in let qy : d .num 4 ≡ σ .y = cc in
-      (ap₂ (λ (u : Tree) (y : ℕ). sameTree u (toTree (const (P .init y)))) q0 qy ∙ toTree-same (σ .value 0) (const (P .init (σ .y))), tt)
-  sides-same r27 ps (e₁, e₂) f g h = let qy : d .num 4 ≡ σ .y = cc in (ap (P .cleared) qy, tt)
-  sides-same r30 ps (e₁, e₂) f g h = let q2 : d .tree 2 ≡ toTree (σ .test 2) = cc in let q3 : d .tree 3 ≡ toTree (σ .test 3) = cc in
-      (rows-same Rules.E Rules.F (filled P i k σ (row r30 .says)) ps q2 q3 (search and-left) (search and-right), tt)
-  sides-same r31 ps e f g h = tt
-  sides-same r32 ps e f g h = tt
-  sides-same r33 ps e f g h = tt
-  sides-same r34 ps e f g h = tt
-  sides-same r35 ps e f g h = tt
-  sides-same r36 ps e f g h = tt
-  sides-same r37 ps e f g h = tt
-  sides-same r38 ps e f g h = tt
-  sides-same r39 ps e f g h = tt
-  sides-same r40 ps e f g h = tt
-  sides-same r41 ps e f g h = tt
-  sides-same r42 ps e f g h = tt
-  sides-same r43 ps e f g h = tt
-  sides-same r44 ps e f g h = tt
-  sides-same r45 ps e f g h = tt
-  sides-same r46 ps e f g h = tt
-  sides-same r47 ps (e₁, e₂) f g h = let q3 : d .tree 3 ≡ toTree (σ .test 3) = cc in let q2 : d .tree 2 ≡ toTree (σ .test 2) = cc in
-      (is-same Rules.F Rules.E r-by-x (filled P i k σ (row r47 .says)) ps q3 q2, tt)
-  sides-same r48 ps (e₁, e₂) f g h = let q0 : d .tree 0 ≡ toTree (σ .value 0) = cc in
-      (new-same Rules.N (filled P i k σ (row r48 .says)) ps q0, tt)
-  sides-same r49 ps (e₁, e₂) f g h = let q0 : d .tree 0 ≡ toTree (σ .value 0) = cc in
-      (new-same Rules.N (filled P i k σ (row r49 .says)) ps q0, tt)
-  sides-same r50 ps (e₁, e₂) f g h =
-      let q1 : d .tree 1 ≡ toTree (σ .assertion 1) = cc in
-      let q0 : d .tree 0 ≡ toTree (σ .assertion 0) =
-      subst (λ (qs : List Statement). FitAll d i k (shapes (row r50 .premises)) (map concluded qs)) (sym f) g .0 .right in
-      (is-same Rules.P Rules.Q by-notes (filled P i k σ (row r50 .says)) ps q0 q1, tt)
+  premises-at : (W : Premises) (ps : List Statement) → PremisesFit P i k σ W ps → FitPremises d i k W (map concluded ps)
+      → All (At g σ d) (premiseHoles (shapes W))
+  premises-at (these l) ps e f = go l (subst (λ (qs : List Statement). FitAll d i k l (map concluded qs)) (sym e) f)
+    where
+      go : (l : List Shape) → FitAll d i k l (map concluded (filledAll P i k σ l)) → All (At g σ d) (premiseHoles l)
+      go [] h = tt
+      go (m ∷ l) h = all-join (At g σ d) (shapeHoles m) (premiseHoles l) (line-at m (h .0 .left, h .0 .right)) (go l (h .1))
+  premises-at implications ps e f = tt
 
--- WHAT STANDS IN THE HOLES of a line, found in it
-abbrev leftPart : Tree → Tree
-leftPart Tree.none = Tree.none
-leftPart (node d o l r) = l
+  -- the constants of what stands in a hole are values
+  abbrev Small : Hole → Type 0
+  Small (Hole.formula s j) = T (bounded (P .range) (fillAt σ s j))
+  Small (Hole.num n) = Unit {0}
+  Small Hole.operand = Unit {0}
 
-abbrev rightPart : Tree → Tree
-rightPart Tree.none = Tree.none
-rightPart (node d o l r) = r
+  small-holes : {s : Sort} (p : Pattern s) → T (bounded (P .range) (inst g σ p)) → All Small (holes p)
+  small-holes (Pattern.anyA j) h = (h, tt)
+  small-holes (Pattern.anyI j) h = (h, tt)
+  small-holes (Pattern.anyE j) h = (h, tt)
+  small-holes (Pattern.anyV j) h = (h, tt)
+  small-holes Pattern.f h = (tt, tt)
+  small-holes (Pattern.const n) h = tt
+  small-holes (Pattern.reg n) h = (tt, tt)
+  small-holes (Pattern.word n) h = (tt, tt)
+  small-holes (Pattern.unsync n) h = (tt, tt)
+  small-holes (Pattern.cov n) h = (tt, tt)
+  small-holes (Pattern.one n) h = (tt, tt)
+  small-holes (Pattern.equal p q) h = all-join Small (holes p) (holes q) (small-holes p (search and-left)) (small-holes q (search and-right))
+  small-holes (Pattern.and p q) h = all-join Small (holes p) (holes q) (small-holes p (search and-left)) (small-holes q (search and-right))
+  small-holes (Pattern.chop p q) h = all-join Small (holes p) (holes q) (small-holes p (search and-left)) (small-holes q (search and-right))
+  small-holes (Pattern.both p q) h = all-join Small (holes p) (holes q) (small-holes p (search and-left)) (small-holes q (search and-right))
+  small-holes (Pattern.either p q) h = all-join Small (holes p) (holes q) (small-holes p (search and-left)) (small-holes q (search and-right))
+  small-holes (Pattern.bothA p q) h = all-join Small (holes p) (holes q) (small-holes p (search and-left)) (small-holes q (search and-right))
+  small-holes (Pattern.eitherA p q) h = all-join Small (holes p) (holes q) (small-holes p (search and-left)) (small-holes q (search and-right))
+  small-holes (Pattern.box p) h = small-holes p h
+  small-holes (Pattern.holds p) h = small-holes p h
+  small-holes (Pattern.sees n p) h = (tt, small-holes p h)
+  small-holes Pattern.start h = tt
 
-abbrev operandOf : Tree → ℕ
-operandOf Tree.none = 0
-operandOf (node d o l r) = o
+  small-line : (m : Shape) → T (boundedSides (P .range) (filled P i k σ m)) → All Small (shapeHoles m)
+  small-line (inside p q) h = all-join Small (holes p) (holes q) (small-holes p (search and-left)) (small-holes q (search and-right))
+  small-line (implies p q) h = all-join Small (holes p) (holes q) (small-holes p (search and-left)) (small-holes q (search and-right))
+  small-line (triple p q) h = all-join Small (holes p) (holes q) (small-holes p (search and-left)) (small-holes q (search and-right))
+  small-line (pair p q) h = all-join Small (holes p) (holes q) (small-holes p (search and-left)) (small-holes q (search and-right))
 
--- what is set before the match stays
-abbrev findNum : ℕ → ℕ → Holes → Holes
-findNum o n c = elim (ltb o (numHole Pattern.u)) [ true ↦ c | false ↦ record { num = upd (c .num) o n; tree = c .tree } ]
+  small-test : (p : Pattern Sort.test) → T (isTestHole p) → All Small (holes p) → T (bounded (P .range) (inst g σ p))
+  small-test (Pattern.anyE j) h a = a .0
+  small-test (Pattern.equal p q) h a = absurd h
+  small-test (Pattern.and p q) h a = absurd h
+  small-test (Pattern.unsync n) h a = absurd h
+  small-test (Pattern.cov n) h a = absurd h
 
-abbrev findTree : ℕ → Tree → Holes → Holes
-findTree j u c = elim (eqb j formulaHole) [ true ↦ c | false ↦ record { num = c .num; tree = upd (c .tree) j u } ]
+  table-same : (m : Shape) (W : Premises) (ps : List Statement) → T (isImplies m) → T (isAny W) → PremisesFit P i k σ W ps
+      → Same (filled P i k σ m) ps by-table
+  table-same (inside p q) W ps h a f = absurd h
+  table-same (implies p q) (these l) ps h a f = absurd a
+  table-same (implies p q) implications ps h a f =
+      ap (λ (l : List ImpT). tableT l (impToTree (record { left = inst g σ p; right = inst g σ q })))
+      (imps-concluded ps (and-right (leb (length ps) Limits.premises) (all isImp ps) f))
+      ∙ toTree-table (map Statement.impOf ps) (record { left = inst g σ p; right = inst g σ q })
+  table-same (triple p q) W ps h a f = absurd h
+  table-same (pair p q) W ps h a f = absurd h
 
-abbrev findT : Tree → Tree → Holes → Holes
-findT Tree.none u c = c
-findT (node d o l r) u c = elim (leb firstHole d) [
-  | true ↦ findTree (d - firstHole) u c
-  | false ↦ findT r (rightPart u) (findT l (leftPart u)
-      (elim (ltb o firstNumber) [ true ↦ elim (hasOperand d) [ true ↦ findNum o (operandOf u) c | false ↦ c ] | false ↦ c ]))
-]
+  -- of a row that passes the test each side condition is the same
+  module _ (W : Row) (ps : List Statement) (line : Line (W .says)) (f : PremisesFit P i k σ (W .premises) ps)
+      (h : FitPremises d i k (W .premises) (map concluded ps)) (b : T (boundedSides (P .range) (filled P i k σ (W .says)))) where
+    row-at : All (At g σ d) (rowHoles W)
+    row-at = all-join (At g σ d) (shapeHoles (W .says)) (premiseHoles (shapes (W .premises))) (line-at (W .says) line)
+        (premises-at (W .premises) ps f h)
 
-abbrev findLine : Shape → TreeConclusion → Holes → Holes
-findLine m v c = findT (rightOf m) (v .right) (findT (leftOf m) (v .left) c)
+    one-same : {s : Sort} (p : Pattern s) → T (all (isIn (rowHoles W)) (holes p)) → instT d (patternToTree p) ≡ toTree (inst g σ p)
+    one-same p a = same-filled g σ d p (all-in (At g σ d) (rowHoles W) (holes p) row-at a)
 
-abbrev findAll : List Shape → List TreeConclusion → Holes → Holes
-findAll [] vs c = c
-findAll (m ∷ l) [] c = c
-findAll (m ∷ l) (v ∷ vs) c = findAll l vs (findLine m v c)
+    side-same : (c : Side) → T (sideRight W c) → Same (filled P i k σ (W .says)) ps c
+    side-same (p is q with m) a =
+        let e : All (At g σ d) (holes p ++ holes q) = all-in (At g σ d) (rowHoles W) (holes p ++ holes q) row-at a in
+        is-same p q m (filled P i k σ (W .says)) ps (same-filled g σ d p (all-left (At g σ d) (holes p) (holes q) e))
+        (same-filled g σ d q (all-right (At g σ d) (holes p) (holes q) e))
+    side-same (start-of n p) a =
+        let e : All (At g σ d) (Hole.num n ∷ holes p) = all-in (At g σ d) (rowHoles W) (Hole.num n ∷ holes p) row-at a in
+        ap₂ (λ (u : Tree) (y : ℕ). sameTree u (toTree (const (P .init y)))) (same-filled g σ d p (e .1)) (e .0)
+        ∙ toTree-same (inst g σ p) (const (P .init (number g σ n)))
+    side-same (starts-at-0 n) a = ap (P .cleared) (all-in (At g σ d) (rowHoles W) (Hole.num n ∷ []) row-at a .0)
+    side-same (is-new p) a = new-same p (filled P i k σ (W .says)) ps (one-same p a)
+    side-same (kept p) a = kept-same p (filled P i k σ (W .says)) ps (one-same p a)
+    side-same (lacks-x p) a = lacks-same p (filled P i k σ (W .says)) ps (one-same p a)
+    side-same (no-flag p) a = flag-same p (filled P i k σ (W .says)) ps (one-same p a)
+    side-same (by-rows p q) a =
+        let l : List Hole = shapeHoles (W .says) in
+        let o : T (isTestHole p && isTestHole q) = and-left (isTestHole p && isTestHole q) (all (isIn l) (holes p ++ holes q)) a in
+        let m : T (all (isIn l) (holes p ++ holes q)) = and-right (isTestHole p && isTestHole q) (all (isIn l) (holes p ++ holes q)) a in
+        let e : All (At g σ d) (holes p ++ holes q) = all-in (At g σ d) l (holes p ++ holes q) (line-at (W .says) line) m in
+        let v : All Small (holes p ++ holes q) = all-in Small l (holes p ++ holes q) (small-line (W .says) b) m in
+        rows-same p q (filled P i k σ (W .says)) ps (same-filled g σ d p (all-left (At g σ d) (holes p) (holes q) e))
+        (same-filled g σ d q (all-right (At g σ d) (holes p) (holes q) e))
+        (small-test p (and-left (isTestHole p) (isTestHole q) o) (all-left Small (holes p) (holes q) v))
+        (small-test q (and-right (isTestHole p) (isTestHole q) o) (all-right Small (holes p) (holes q) v))
+    side-same by-table a =
+        table-same (W .says) (W .premises) ps (and-left (isImplies (W .says)) (isAny (W .premises)) a)
+        (and-right (isImplies (W .says)) (isAny (W .premises)) a) f
 
-abbrev findPremises : Premises → List TreeConclusion → Holes → Holes
-findPremises (these l) vs c = findAll l vs c
-findPremises implications vs c = c
+    pub sides-same : T (rowRight W) → All (Same (filled P i k σ (W .says)) ps) (W .sides)
+    sides-same a = go (W .sides) (and-right (all (single (rowHoles W)) (rowHoles W)) (all (sideRight W) (W .sides)) a)
+      where
+        go : (l : List Side) → T (all (sideRight W) l) → All (Same (filled P i k σ (W .says)) ps) l
+        go [] a = tt
+        go (c ∷ l) a = (side-same c (and-left (sideRight W c) (all (sideRight W) l) a), go l (and-right (sideRight W c) (all (sideRight W) l) a))
 
+-- WHAT STANDS IN THE HOLES of a line that is a row's shape filled
 module _ (P : Program) (i k : ℕ) (σ : Fill) where
-  abbrev first : Holes
-  first = record {
-    num = λ j. elim (eqb j (numHole Pattern.t)) [
-      | true ↦ i
-      | false ↦ elim (eqb j (numHole Pattern.x))
-          [ true ↦ wordOf (half P i k) | false ↦ regOf (half P i k) ]
-    ];
-    tree = λ j. toTree (formulaOf (half P i k));
-  }
-
   abbrev premisesOf : Premises → List Statement
   premisesOf (these l) = filledAll P i k σ l
   premisesOf implications = []
 
-  abbrev holes : Rule → Holes
-  holes n = findPremises (row n .premises) (map concluded (premisesOf (row n .premises)))
-      (findLine (row n .says) (concluded (filled P i k σ (row n .says))) first)
-
-  -- the line and its premises are the templates filled with them
-  record Filled (n : Rule) : Type 0 where
-    left : instT (holes n) (leftOf (row n .says)) ≡ concluded (filled P i k σ (row n .says)) .left
-    right : instT (holes n) (rightOf (row n .says)) ≡ concluded (filled P i k σ (row n .says)) .right
-    premises : FitPremises (holes n) i k (row n .premises) (map concluded (premisesOf (row n .premises)))
-    t : holes n .num (numHole Pattern.t) ≡ i
-    x : holes n .num (numHole Pattern.x) ≡ wordOf (half P i k)
-    r : holes n .num (numHole Pattern.r) ≡ regOf (half P i k)
-    f : holes n .tree formulaHole ≡ toTree (formulaOf (half P i k))
+  abbrev its : Rule → Holes
+  its n = filledHoles (given P i k) σ (rowHoles (row n))
 
   same-place : T (eqb i i && eqb k k)
   same-place = and-both (eqb i i) (eqb k k) (eqb-refl i) (eqb-refl k)
 
-  filled-of : (n : Rule) → Filled n
-  unfolding upd hasOperand
-  filled-of r1 = record { left = refl; right = refl; premises = tt; t = refl; x = refl; r = refl; f = refl }
-  filled-of r2 = record { left = refl; right = refl; premises = tt; t = refl; x = refl; r = refl; f = refl }
-  filled-of r3 = record { left = refl; right = refl; premises = tt; t = refl; x = refl; r = refl; f = refl }
-  filled-of r4 = record {
-    left = refl;
-    right = refl;
-    premises = (record { placed = same-place; left = refl; right = refl }, tt);
-    t = refl;
-    x = refl;
-    r = refl;
-    f = refl;
-  }
-  filled-of r5 = record {
-    left = refl;
-    right = refl;
-    premises = (record { placed = same-place; left = refl; right = refl }, tt);
-    t = refl;
-    x = refl;
-    r = refl;
-    f = refl;
-  }
-  filled-of r6 = record { left = refl; right = refl; premises = tt; t = refl; x = refl; r = refl; f = refl }
-  filled-of r7 = record { left = refl; right = refl; premises = tt; t = refl; x = refl; r = refl; f = refl }
-  filled-of r8 = record { left = refl; right = refl; premises = tt; t = refl; x = refl; r = refl; f = refl }
-  filled-of r9 = record { left = refl; right = refl; premises = tt; t = refl; x = refl; r = refl; f = refl }
-  filled-of r10 = record {
-    left = refl;
-    right = refl;
-    premises = (record { placed = same-place; left = refl; right = refl }, tt);
-    t = refl;
-    x = refl;
-    r = refl;
-    f = refl;
-  }
-  filled-of r11 = record { left = refl; right = refl; premises = tt; t = refl; x = refl; r = refl; f = refl }
-  filled-of r12 = record { left = refl; right = refl; premises = tt; t = refl; x = refl; r = refl; f = refl }
-  filled-of r13 = record { left = refl; right = refl; premises = tt; t = refl; x = refl; r = refl; f = refl }
-  filled-of r14 = record {
-    left = refl;
-    right = refl;
-    premises =
-        (record { placed = same-place; left = refl; right = refl }, (record { placed = same-place; left = refl; right = refl }, tt));
-    t = refl;
-    x = refl;
-    r = refl;
-    f = refl;
-  }
-  filled-of r15 = record {
-    left = refl;
-    right = refl;
-    premises =
-        (record { placed = same-place; left = refl; right = refl }, (record { placed = same-place; left = refl; right = refl }, tt));
-    t = refl;
-    x = refl;
-    r = refl;
-    f = refl;
-  }
-  filled-of r16 = record {
-    left = refl;
-    right = refl;
-    premises = (
-      record { placed = tt; left = refl; right = refl },
-      (record { placed = same-place; left = refl; right = refl }, (record { placed = tt; left = refl; right = refl }, tt)),
-    );
-    t = refl;
-    x = refl;
-    r = refl;
-    f = refl;
-  }
-  filled-of r20 = record { left = refl; right = refl; premises = tt; t = refl; x = refl; r = refl; f = refl }
-  filled-of r21 = record { left = refl; right = refl; premises = tt; t = refl; x = refl; r = refl; f = refl }
-  filled-of r22 = record {
-    left = refl;
-    right = refl;
-    premises = (record { placed = tt; left = refl; right = refl }, tt);
-    t = refl;
-    x = refl;
-    r = refl;
-    f = refl;
-  }
-  filled-of r23 = record { left = refl; right = refl; premises = tt; t = refl; x = refl; r = refl; f = refl }
-  filled-of r24 = record { left = refl; right = refl; premises = tt; t = refl; x = refl; r = refl; f = refl }
-  filled-of r25 = record { left = refl; right = refl; premises = tt; t = refl; x = refl; r = refl; f = refl }
-  filled-of r26 = record { left = refl; right = refl; premises = tt; t = refl; x = refl; r = refl; f = refl }
-  filled-of r27 = record { left = refl; right = refl; premises = tt; t = refl; x = refl; r = refl; f = refl }
-  filled-of r30 = record { left = refl; right = refl; premises = tt; t = refl; x = refl; r = refl; f = refl }
-  filled-of r31 = record {
-    left = refl;
-    right = refl;
-    premises =
-        (record { placed = tt; left = refl; right = refl }, (record { placed = tt; left = refl; right = refl }, tt));
-    t = refl;
-    x = refl;
-    r = refl;
-    f = refl;
-  }
-  filled-of r32 = record {
-    left = refl;
-    right = refl;
-    premises =
-        (record { placed = tt; left = refl; right = refl }, (record { placed = tt; left = refl; right = refl }, tt));
-    t = refl;
-    x = refl;
-    r = refl;
-    f = refl;
-  }
-  filled-of r33 = record { left = refl; right = refl; premises = tt; t = refl; x = refl; r = refl; f = refl }
-  filled-of r34 = record { left = refl; right = refl; premises = tt; t = refl; x = refl; r = refl; f = refl }
-  filled-of r35 = record { left = refl; right = refl; premises = tt; t = refl; x = refl; r = refl; f = refl }
-  filled-of r36 = record { left = refl; right = refl; premises = tt; t = refl; x = refl; r = refl; f = refl }
-  filled-of r37 = record { left = refl; right = refl; premises = tt; t = refl; x = refl; r = refl; f = refl }
-  filled-of r38 = record { left = refl; right = refl; premises = tt; t = refl; x = refl; r = refl; f = refl }
-  filled-of r39 = record { left = refl; right = refl; premises = tt; t = refl; x = refl; r = refl; f = refl }
-  filled-of r40 = record { left = refl; right = refl; premises = tt; t = refl; x = refl; r = refl; f = refl }
-  filled-of r41 = record {
-    left = refl;
-    right = refl;
-    premises =
-        (record { placed = tt; left = refl; right = refl }, (record { placed = tt; left = refl; right = refl }, tt));
-    t = refl;
-    x = refl;
-    r = refl;
-    f = refl;
-  }
-  filled-of r42 = record { left = refl; right = refl; premises = tt; t = refl; x = refl; r = refl; f = refl }
-  filled-of r43 = record { left = refl; right = refl; premises = tt; t = refl; x = refl; r = refl; f = refl }
-  filled-of r44 = record {
-    left = refl;
-    right = refl;
-    premises =
-        (record { placed = tt; left = refl; right = refl }, (record { placed = tt; left = refl; right = refl }, tt));
-    t = refl;
-    x = refl;
-    r = refl;
-    f = refl;
-  }
-  filled-of r45 = record { left = refl; right = refl; premises = tt; t = refl; x = refl; r = refl; f = refl }
-  filled-of r46 = record { left = refl; right = refl; premises = tt; t = refl; x = refl; r = refl; f = refl }
-  filled-of r47 = record { left = refl; right = refl; premises = tt; t = refl; x = refl; r = refl; f = refl }
-  filled-of r48 = record { left = refl; right = refl; premises = tt; t = refl; x = refl; r = refl; f = refl }
-  filled-of r49 = record { left = refl; right = refl; premises = tt; t = refl; x = refl; r = refl; f = refl }
-  filled-of r50 = record {
-    left = refl;
-    right = refl;
-    premises = (record { placed = same-place; left = refl; right = refl }, tt);
-    t = refl;
-    x = refl;
-    r = refl;
-    f = refl;
-  }
+  -- a filled shape stands in its place
+  its-place : (m : Shape) → T (placed (formOf m) i k (concluded (filled P i k σ m)))
+  its-place (inside p q) = tt
+  its-place (implies p q) = tt
+  its-place (triple p q) = same-place
+  its-place (pair p q) = same-place
+
+  module _ (c : Holes) where
+    abbrev A : Hole → Type 0
+    A = At (given P i k) σ c
+
+    sides-of : {s : Sort} (p q : Pattern s) → All A (holes p ++ holes q)
+        → (instT c (patternToTree p) ≡ toTree (inst (given P i k) σ p)) × (instT c (patternToTree q) ≡ toTree (inst (given P i k) σ q))
+    sides-of p q a = (
+      same-filled (given P i k) σ c p (all-left A (holes p) (holes q) a),
+      same-filled (given P i k) σ c q (all-right A (holes p) (holes q) a),
+    )
+
+    -- where the fillings agree at its holes, a shape filled fits the shape
+    shape-fits : (m : Shape) → All A (shapeHoles m) → Fits c i k m (concluded (filled P i k σ m))
+    shape-fits (inside p q) a = record { placed = tt; left = sides-of p q a .0; right = sides-of p q a .1 }
+    shape-fits (implies p q) a = record { placed = tt; left = sides-of p q a .0; right = sides-of p q a .1 }
+    shape-fits (triple p q) a = record { placed = same-place; left = sides-of p q a .0; right = sides-of p q a .1 }
+    shape-fits (pair p q) a = record { placed = same-place; left = sides-of p q a .0; right = sides-of p q a .1 }
+
+    all-fit : (l : List Shape) → All A (premiseHoles l) → FitAll c i k l (map concluded (filledAll P i k σ l))
+    all-fit [] a = tt
+    all-fit (m ∷ l) a =
+        (shape-fits m (all-left A (shapeHoles m) (premiseHoles l) a), all-fit l (all-right A (shapeHoles m) (premiseHoles l) a))
+
+    premises-fit : (W : Premises) → All A (premiseHoles (shapes W)) → FitPremises c i k W (map concluded (premisesOf W))
+    premises-fit (these l) a = all-fit l a
+    premises-fit implications a = tt
+
+  its-holes : (n : Rule) → All (At (given P i k) σ (its n)) (rowHoles (row n))
+  its-holes n = all-filled (given P i k) σ (rowHoles (row n)) (rowHoles (row n))
+      (and-left (all (single (rowHoles (row n))) (rowHoles (row n))) (all (sideRight (row n)) (row n .sides)) (rows-right n))
+
+  line-filled : (n : Rule) → Fits (its n) i k (row n .says) (concluded (filled P i k σ (row n .says)))
+  line-filled n = shape-fits (its n) (row n .says)
+      (all-left (At (given P i k) σ (its n)) (shapeHoles (row n .says)) (premiseHoles (shapes (row n .premises))) (its-holes n))
+
+  premises-filled : (n : Rule) → FitPremises (its n) i k (row n .premises) (map concluded (premisesOf (row n .premises)))
+  premises-filled n = premises-fit (its n) (row n .premises)
+      (all-right (At (given P i k) σ (its n)) (shapeHoles (row n .says)) (premiseHoles (shapes (row n .premises))) (its-holes n))
 
 -- BOTH WAYS
 answer-some : {Z : Type 0} (o : Option Taken) (f : Taken → Bool) → T (answer o f) → ((z : Taken) → o ≡ some z → T (f z) → Z) → Z
@@ -665,8 +535,8 @@ module _ (P : Program) (two : 2 ≤ P .range) (i k : ℕ) (n : Rule) (s : Statem
     line-fits = line-sound (holesFrom z) i k (row n .says) (concluded s) (preset i c₀) b e
         (premises-sound (holesFrom z) i k (row n .premises) (map concluded ps) b z e′ (has-from z) .0)
 
-    premises-fit : FitPremises (holesFrom z) i k (row n .premises) (map concluded ps)
-    premises-fit = premises-sound (holesFrom z) i k (row n .premises) (map concluded ps) b z e′ (has-from z) .1
+    premises-found : FitPremises (holesFrom z) i k (row n .premises) (map concluded ps)
+    premises-found = premises-sound (holesFrom z) i k (row n .premises) (map concluded ps) b z e′ (has-from z) .1
 
     -- the side conditions are the same, for any filling that the line is
     sides-at : filled P i k σ (row n .says) ≡ s → PremisesFit P i k σ (row n .premises) ps
@@ -675,12 +545,12 @@ module _ (P : Program) (two : 2 ≤ P .range) (i k : ℕ) (n : Rule) (s : Statem
         subst
         (λ (w : Statement). All (λ d. sideT (setup P) c₀ (holesFrom z) (concluded w) (map concluded ps) d ≡ sideHolds P i k σ w ps d)
         (row n .sides)) q
-        (sides-same P i k σ (holesFrom z) two n ps (
+        (sides-same P i k σ (holesFrom z) two (row n) ps (
           line-fits .1 .left ∙ ap (λ (w : Statement). concluded w .left) (sym q),
           line-fits .1 .right
               ∙ ap (λ (w : Statement). concluded w .right) (sym q),
-        ) f premises-fit
-        (subst (λ (w : Statement). T (boundedSides (P .range) w)) (sym q) values))
+        ) f premises-found
+        (subst (λ (w : Statement). T (boundedSides (P .range) w)) (sym q) values) (rows-right n))
 
   all-over : (f h : Side → Bool) (l : List Side) → All (λ d. f d ≡ h d) l → All (λ d. T (f d)) l → All (λ d. T (h d)) l
   all-over f h [] e t = tt
@@ -715,7 +585,7 @@ module _ (P : Program) (two : 2 ≤ P .range) (i k : ℕ) (n : Rule) (s : Statem
           } in
           let says : filled P i k (fillOf c) (row n .says) ≡ s = says-from P i k c ag (row n .says) s (x .1) in
           let premises : PremisesFit P i k (fillOf c) (row n .premises) ps =
-          premises-from P i k c ag (row n .premises) ps (premises-fit (fillOf c) z b eb kb) in
+          premises-from P i k c ag (row n .premises) ps (premises-found (fillOf c) z b eb kb) in
           let ops : Bool = operationT c₀ (formOf (row n .says)) (row n .operations) in
           let sides : Bool = all (sideT (setup P) c₀ c (concluded s) (map concluded ps)) (row n .sides) in
           record {
@@ -727,11 +597,11 @@ module _ (P : Program) (two : 2 ≤ P .range) (i k : ℕ) (n : Rule) (s : Statem
           }
 
   -- what is set before the match is in the holes
-  has-preset : (σ : Fill) → Has (holes P i k σ n) (preset i c₀)
+  has-preset : (σ : Fill) → Has (its P i k σ n) (preset i c₀)
   has-preset σ = record { num = nums; tree = trees }
     where
       c : Holes
-      c = holes P i k σ n
+      c = its P i k σ n
 
       nums : (j m : ℕ) → preset i c₀ .num j ≡ some m → c .num j ≡ m
       nums j m e = go (eqb j (numHole Pattern.t)) (eqb j (numHole Pattern.x)) (eqb j (numHole Pattern.r)) refl refl refl e
@@ -746,10 +616,10 @@ module _ (P : Program) (two : 2 ≤ P .range) (i k : ℕ) (n : Rule) (s : Statem
                       [ true ↦ some (regOf (half P i k)) | false ↦ none ]
                 ]
               ]) (some m) → c .num j ≡ m
-          go true d f p q r e = ap (c .num) (eqb-true j (numHole Pattern.t) p) ∙ filled-of P i k σ n .t ∙ (let z : i ≡ m = cc in z)
-          go false true f p q r e = ap (c .num) (eqb-true j (numHole Pattern.x) q) ∙ filled-of P i k σ n .x
+          go true d f p q r e = ap (c .num) (eqb-true j (numHole Pattern.t) p) ∙ (let z : i ≡ m = cc in z)
+          go false true f p q r e = ap (c .num) (eqb-true j (numHole Pattern.x) q)
               ∙ (let z : wordOf (half P i k) ≡ m = cc in z)
-          go false false true p q r e = ap (c .num) (eqb-true j (numHole Pattern.r) r) ∙ filled-of P i k σ n .r
+          go false false true p q r e = ap (c .num) (eqb-true j (numHole Pattern.r) r)
               ∙ (let z : regOf (half P i k) ≡ m = cc in z)
           go false false false p q r e = let z : _≡_ {A = ℕ} 0 1 = cc in absurd (omega arith)
 
@@ -758,16 +628,9 @@ module _ (P : Program) (two : 2 ≤ P .range) (i k : ℕ) (n : Rule) (s : Statem
         where
           go : (b : Bool) → eqb j formulaHole ≡ b → _≡_ {A = Option Tree}
               (elim b [ true ↦ some (toTree (formulaOf (half P i k))) | false ↦ none ]) (some u) → c .tree j ≡ u
-          go true q e = ap (c .tree) (eqb-true j formulaHole q) ∙ filled-of P i k σ n .f
+          go true q e = ap (c .tree) (eqb-true j formulaHole q)
               ∙ (let d : toTree (formulaOf (half P i k)) ≡ u = cc in d)
           go false q e = let q : _≡_ {A = ℕ} 0 1 = cc in absurd (omega arith)
-
-  -- a filled shape stands in its place
-  its-place : (σ : Fill) (m : Shape) → T (placed (formOf m) i k (concluded (filled P i k σ m)))
-  its-place σ (inside p q) = tt
-  its-place σ (implies p q) = tt
-  its-place σ (triple p q) = same-place P i k σ
-  its-place σ (pair p q) = same-place P i k σ
 
   premises-to : (c : Holes) (σ : Fill) (W : Premises) → FitPremises c i k W (map concluded (premisesOf P i k σ W))
       → PremisesFit P i k σ W ps → FitPremises c i k W (map concluded ps)
@@ -777,16 +640,14 @@ module _ (P : Program) (two : 2 ≤ P .range) (i k : ℕ) (n : Rule) (s : Statem
   -- the row's shapes filled: fits on trees
   pub fit-tree : (σ : Fill) → Fit P i k σ (row n) s ps → T (fitsAt (setup P) c₀ i k (row n) (concluded s) (map concluded ps))
   fit-tree σ f =
-      let c : Holes = holes P i k σ n in
-      let fl : Filled P i k σ n = filled-of P i k σ n in
+      let c : Holes = its P i k σ n in
       let here : Fits c i k (row n .says) (concluded s) =
-      subst (λ (w : Statement). Fits c i k (row n .says) (concluded w)) (f .says)
-      (record { placed = its-place σ (row n .says); left = fl .left; right = fl .right }) in
+      subst (λ (w : Statement). Fits c i k (row n .says) (concluded w)) (f .says) (line-filled P i k σ n) in
       let ga : Goes c (andThen (matchLine i k (row n .says) (concluded s) (preset i c₀))
       (matchPremises i k (row n .premises) (map concluded ps))) =
       goes-then c (matchLine i k (row n .says) (concluded s) (preset i c₀)) (matchPremises i k (row n .premises) (map concluded ps))
       (line-goes c i k (row n .says) (concluded s) (preset i c₀) here (has-preset σ))
-      (λ z hz. premises-goes c i k (row n .premises) (map concluded ps) z (premises-to c σ (row n .premises) (fl .premises) (f .premises))
+      (λ z hz. premises-goes c i k (row n .premises) (map concluded ps) z (premises-to c σ (row n .premises) (premises-filled P i k σ n) (f .premises))
       hz) in
       subst (λ (o : Option Taken). T (answer o (restT (setup P) c₀ (row n) (concluded s) (map concluded ps)))) (sym (ga .is))
       (rest (ga .to) (ga .is))

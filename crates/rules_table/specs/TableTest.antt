@@ -6,7 +6,8 @@ use lib.Dec.{eqb, leb}
 use lib.ListN.{length}
 use Rattle.semantics.specs.Base.{all}
 use Rattle.logic.specs.Opcode
-use Rattle.logic.specs.Rule.{Rule, r1, r2, r3, r4, r5, r6, r7, r8, r9, r10, r11, r12, r13, r14, r15, r16, r20, r21, r22, r23, r24, r25, r26, r27, r30, r31, r32, r33, r34, r35, r36, r37, r38, r39, r40, r41, r42, r43, r44, r45, r46, r47, r48, r49, r50}
+use Rattle.logic.specs.Rule.{Rule}
+use Rattle.logic.specs.RuleNumbers.{numberOf}
 use Rattle.logic_schemas.specs.Rules.{Shape, Premises, these, implications, by-notes, r-by-x, x-by-f, Side, _is_with_, start-of, starts-at-0, is-new, kept, lacks-x, no-flag, by-rows, by-table, row}
 use Rattle.logic_schemas.specs.Fits.{isAmong}
 use Rattle.limits.specs.Limits as Limits
@@ -18,54 +19,6 @@ use Rattle.formula_match.specs.MatchPlaces.{proper}
 use Rattle.formula_trees.specs.StatementTree.{formOf}
 use Rattle.rules_table.specs.FitTree.{leftOf, rightOf}
 use Rattle.rules_table.specs.RuleTable.{nothing, isKept, assigned, loaded, wordAbsent, stored, byRows, byTable, startValue, startsAtZero, newValue, anyImplications, ruleRow, templates}
-
--- the number of a rule
-abbrev pub numberOf : Rule → ℕ
-numberOf r1 = 1
-numberOf r2 = 2
-numberOf r3 = 3
-numberOf r4 = 4
-numberOf r5 = 5
-numberOf r6 = 6
-numberOf r7 = 7
-numberOf r8 = 8
-numberOf r9 = 9
-numberOf r10 = 10
-numberOf r11 = 11
-numberOf r12 = 12
-numberOf r13 = 13
-numberOf r14 = 14
-numberOf r15 = 15
-numberOf r16 = 16
-numberOf r20 = 20
-numberOf r21 = 21
-numberOf r22 = 22
-numberOf r23 = 23
-numberOf r24 = 24
-numberOf r25 = 25
-numberOf r26 = 26
-numberOf r27 = 27
-numberOf r30 = 30
-numberOf r31 = 31
-numberOf r32 = 32
-numberOf r33 = 33
-numberOf r34 = 34
-numberOf r35 = 35
-numberOf r36 = 36
-numberOf r37 = 37
-numberOf r38 = 38
-numberOf r39 = 39
-numberOf r40 = 40
-numberOf r41 = 41
-numberOf r42 = 42
-numberOf r43 = 43
-numberOf r44 = 44
-numberOf r45 = 45
-numberOf r46 = 46
-numberOf r47 = 47
-numberOf r48 = 48
-numberOf r49 = 49
-numberOf r50 = 50
 
 -- the trees of schemas, left side and right side of each
 abbrev pub trees : List Shape → List Tree

@@ -11,7 +11,7 @@ use Rattle.formula.specs.Codes.{member}
 use Rattle.formula.specs.Tree.{Tree, none, nodeAt, parseTree, ParsedTree, grow}
 use Rattle.formula.specs.declared.node.Node.{Node}
 use Rattle.formula.proofs.NodeBranches.{parse-zero, parse-step}
-use Rattle.formula.proofs.BranchTests.{lower}
+use Rattle.limits.proofs.BranchTests.{lower}
 use Rattle.tables_columns.specs.Slots.{slots, leafSlot, slotOf, slotWithin}
 use Rattle.tables_columns.specs.Gather.{putT, view, countPut, slotPut}
 use Rattle.tables_columns.specs.declared.slot.Slot.{Slot}

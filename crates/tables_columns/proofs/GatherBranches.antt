@@ -13,7 +13,7 @@ use Rattle.formula.specs.Codes.{member}
 use Rattle.formula.specs.Tree.{Tree, none, node, nodeAt, parseTree, ParsedTree}
 use Rattle.formula.specs.declared.node.Node.{Node}
 use Rattle.formula.proofs.NodeBranches.{parse-zero, parse-step}
-use Rattle.formula.proofs.BranchTests.{lower}
+use Rattle.limits.proofs.BranchTests.{lower}
 use Rattle.formula_compare.specs.Same.{sameTree}
 use Rattle.tables_columns.specs.Slots.{slots, slotTree, leafSlot, numbers, slotAt, slotFrom, slotOf, slotWithin, kept}
 use Rattle.tables_columns.specs.Gather.{Gathered, many, keys, putT, gatherT, view, countPut, slotPut}

@@ -9,7 +9,8 @@ use Rattle.semantics.specs.Base.{Within, below, upTo}
 use Rattle.semantics.specs.Machine.{Program, Instr, Instr.act, Instr.branch}
 use Rattle.logic.specs.Rule.{Rule}
 use Rattle.logic.specs.Statement.{Statement}
-use Rattle.logic.specs.Inference.{Inference, i1, i2, i3, i4, i5-load, i5-swap, i6, i7, i8, i9, i10, i11, i12, i13, i14, i15, i16, i47, i48, i49, i50, i20, i21, i22, i23, i24, i25, i26, i27, i30, i31, i32, i33, i34, i35, i36, i37, i38, i39, i40, i41, i42, i43, i44, i45, i46}
+use Rattle.logic.specs.Inference.{Inference}
+use Rattle.logic_schemas.proofs.Rules.{fits-rule, rule-fits}
 use Rattle.logic.specs.Obligations.{Obligation, flat, own, acting, instructed, assertions, steps, interferences, obligations}
 
 -- the same program, but for points
@@ -24,54 +25,10 @@ withPoints P p = record {
   code = P .code;
 }
 
-module _ (P : Program) (p : ℕ → ℕ) where
-  pub repointed : {r : Rule} {ps : List Statement} {s : Statement} → Inference P r ps s → Inference (withPoints P p) r ps s
-  repointed (i1 a) = i1 a
-  repointed (i2 {q = q} a) = i2 {q = q} a
-  repointed (i3 {e = e} a) = i3 {e = e} a
-  repointed (i4 {e = e} a) = i4 {e = e} a
-  repointed (i5-load a) = i5-load a
-  repointed (i5-swap a b) = i5-swap a b
-  repointed (i6 a) = i6 a
-  repointed (i7 a) = i7 a
-  repointed (i8 a b) = i8 a b
-  repointed (i9 a b c) = i9 a b c
-  repointed (i10 a) = i10 a
-  repointed (i11 a) = i11 a
-  repointed (i12 a) = i12 a
-  repointed (i13 a b c) = i13 a b c
-  repointed (i14 a) = i14 a
-  repointed (i15 a) = i15 a
-  repointed (i16 a) = i16 a
-  repointed (i47 {e = e} a b) = i47 {e = e} a b
-  repointed (i48 a b) = i48 a b
-  repointed (i49 a b) = i49 a b
-  repointed (i50 a b) = i50 a b
-  repointed (i20 a b c) = i20 a b c
-  repointed (i21 a) = i21 a
-  repointed i22 = i22
-  repointed (i23 a) = i23 a
-  repointed (i24 a) = i24 a
-  repointed i25 = i25
-  repointed i26 = i26
-  repointed (i27 a) = i27 a
-  repointed (i30 a) = i30 a
-  repointed i31 = i31
-  repointed i32 = i32
-  repointed i33 = i33
-  repointed i34 = i34
-  repointed i35 = i35
-  repointed i36 = i36
-  repointed i37 = i37
-  repointed i38 = i38
-  repointed i39 = i39
-  repointed i40 = i40
-  repointed i41 = i41
-  repointed i42 = i42
-  repointed i43 = i43
-  repointed i44 = i44
-  repointed i45 = i45
-  repointed i46 = i46
+-- whether a line fits its rule does not go by points
+pub repointed : (P : Program) (p : ℕ → ℕ) {r : Rule} {ps : List Statement} {s : Statement} → Inference P r ps s
+    → Inference (withPoints P p) r ps s
+repointed P p {r} {ps} {s} d = fits-rule (withPoints P p) r s ps (rule-fits P r s ps d)
 
 -- a list for each of 1 to n
 

@@ -9,7 +9,7 @@ use lib.Dec.{ltb}
 use lib.ListN.{length, set, take, length-take, length-append}
 use lib.Seq.{take-all, take-append-le, take-suc-set}
 use borrow.Author.Tests.{lt-ltb, le-ltb}
-use Rattle.formula.proofs.BranchTests.{lower}
+use Rattle.limits.proofs.BranchTests.{lower}
 use Rattle.verdict_record.specs.Text.{room, written, added, digit, digits, decimal, numbered, space, newline, placeText, textOf}
 use Rattle.verdict_record.specs.declared.verdict.Fields.{Fields}
 use Rattle.verdict_record.specs.declared.text.Text.{Text}

@@ -1,5 +1,5 @@
 use Rattle.formula.proofs.CodeSets.{codes-at-branches}
-use Rattle.formula.proofs.BranchTests.{tests}
+use Rattle.limits.proofs.BranchTests.{tests}
 use Rattle.formula.proofs.code.codes_at.Statement.{statement}
 use Rattle.formula.proofs.code.codes_at.Tie as tie
 

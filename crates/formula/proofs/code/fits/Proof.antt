@@ -1,5 +1,5 @@
 use Rattle.formula.proofs.CodeSets.{code-branches}
-use Rattle.formula.proofs.BranchTests.{tests}
+use Rattle.limits.proofs.BranchTests.{tests}
 use borrow.Author.Needs.{needs}
 use Rattle.formula.proofs.code.fits.Statement.{statement}
 use Rattle.formula.proofs.code.fits.Tie as tie

@@ -1,4 +1,4 @@
-use Rattle.formula.proofs.BranchTests.{tests}
+use Rattle.limits.proofs.BranchTests.{tests}
 use Rattle.formula.specs.Reader.{inRange}
 use Rattle.formula.proofs.reader.in_range.Statement.{statement}
 use Rattle.formula.proofs.reader.in_range.Tie as tie

@@ -1,5 +1,5 @@
 use Rattle.formula.proofs.ReaderBranches.{reader-branches}
-use Rattle.formula.proofs.BranchTests.{tests}
+use Rattle.limits.proofs.BranchTests.{tests}
 use borrow.Author.Needs.{needs}
 use Rattle.formula.proofs.reader.read_operand.Statement.{statement}
 use Rattle.formula.proofs.reader.read_operand.Tie as tie

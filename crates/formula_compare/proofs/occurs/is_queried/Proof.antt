@@ -1,5 +1,5 @@
 use Rattle.formula_compare.proofs.OccursBranches.{is-queried-branches}
-use Rattle.formula.proofs.BranchTests.{tests}
+use Rattle.limits.proofs.BranchTests.{tests}
 use borrow.Author.Needs.{needs}
 use Rattle.formula_compare.proofs.occurs.is_queried.Statement.{statement}
 use Rattle.formula_compare.proofs.occurs.is_queried.Tie as tie

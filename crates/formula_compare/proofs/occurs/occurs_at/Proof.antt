@@ -1,5 +1,5 @@
 use Rattle.formula_compare.proofs.OccursBranches.{occurs-at-branches}
-use Rattle.formula.proofs.BranchTests.{tests}
+use Rattle.limits.proofs.BranchTests.{tests}
 use borrow.Author.Needs.{needs}
 use Rattle.formula_compare.proofs.occurs.occurs_at.Statement.{statement}
 use Rattle.formula_compare.proofs.occurs.occurs_at.Tie as tie

@@ -1,5 +1,5 @@
 use Rattle.formula_compare.specs.Occurs.{ownerOf}
-use Rattle.formula.proofs.BranchTests.{tests}
+use Rattle.limits.proofs.BranchTests.{tests}
 use borrow.Author.Needs.{needs}
 use Rattle.formula_compare.proofs.occurs.owner.Statement.{statement}
 use Rattle.formula_compare.proofs.occurs.owner.Tie as tie

@@ -1,5 +1,5 @@
 use Rattle.formula_compare.specs.Replace.{nameCode}
-use Rattle.formula.proofs.BranchTests.{tests}
+use Rattle.limits.proofs.BranchTests.{tests}
 use Rattle.formula_compare.proofs.replace.name_code.Statement.{statement}
 use Rattle.formula_compare.proofs.replace.name_code.Tie as tie
 

@@ -1,5 +1,5 @@
 use Rattle.formula_compare.proofs.ByPair.{second-hit-branches}
-use Rattle.formula.proofs.BranchTests.{tests}
+use Rattle.limits.proofs.BranchTests.{tests}
 use Rattle.formula_compare.proofs.replace.second_hit.Statement.{statement}
 use Rattle.formula_compare.proofs.replace.second_hit.Tie as tie
 

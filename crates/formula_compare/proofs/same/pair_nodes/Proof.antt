@@ -1,5 +1,5 @@
 use Rattle.formula_compare.specs.Same.{pairOf}
-use Rattle.formula.proofs.BranchTests.{tests}
+use Rattle.limits.proofs.BranchTests.{tests}
 use Rattle.formula_compare.proofs.same.pair_nodes.Statement.{statement}
 use Rattle.formula_compare.proofs.same.pair_nodes.Tie as tie
 

@@ -1,5 +1,5 @@
 use Rattle.formula_match.specs.MatchPlaces.{operandOf}
-use Rattle.formula.proofs.BranchTests.{tests}
+use Rattle.limits.proofs.BranchTests.{tests}
 use borrow.Author.Needs.{needs}
 use Rattle.formula_match.proofs.bind.match_operand.Statement.{statement}
 use Rattle.formula_match.proofs.bind.match_operand.Tie as tie

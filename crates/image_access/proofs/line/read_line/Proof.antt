@@ -1,5 +1,5 @@
 use Rattle.image_access.proofs.AccessBranches.Places.{line-branches}
-use Rattle.formula.proofs.BranchTests.{tests}
+use Rattle.limits.proofs.BranchTests.{tests}
 use borrow.Author.Needs.{needs}
 use Rattle.image_access.proofs.line.read_line.Statement.{statement}
 use Rattle.image_access.proofs.line.read_line.Tie as tie

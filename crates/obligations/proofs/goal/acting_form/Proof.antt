@@ -1,4 +1,4 @@
-use Rattle.formula.proofs.BranchTests.{tests}
+use Rattle.limits.proofs.BranchTests.{tests}
 use Rattle.obligations.proofs.GoalBranches.{acting-form-branches}
 use borrow.Author.Needs.{needs}
 use Rattle.obligations.proofs.goal.acting_form.Statement.{statement}

@@ -1,5 +1,5 @@
 use Rattle.replay_machine.proofs.EvaluateBranches.{work-whole}
-use Rattle.formula.proofs.BranchTests.{tests}
+use Rattle.limits.proofs.BranchTests.{tests}
 use borrow.Author.Needs.{needs}
 use Rattle.replay_machine.proofs.evaluate.work.Statement.{statement}
 use Rattle.replay_machine.proofs.evaluate.work.Tie as tie

@@ -1,5 +1,5 @@
 use Rattle.replay_machine.specs.Evaluate.{workedHere}
-use Rattle.formula.proofs.BranchTests.{tests}
+use Rattle.limits.proofs.BranchTests.{tests}
 use borrow.Author.Needs.{needs}
 use Rattle.replay_machine.proofs.evaluate.work_here.Statement.{statement}
 use Rattle.replay_machine.proofs.evaluate.work_here.Tie as tie

@@ -1,5 +1,5 @@
 use Rattle.rules_line.proofs.ConclusionBranches.{conclusion-at-branches}
-use Rattle.formula.proofs.BranchTests.{tests}
+use Rattle.limits.proofs.BranchTests.{tests}
 use borrow.Author.Needs.{needs}
 use Rattle.rules_line.proofs.conclusion.conclusion_at.Statement.{statement}
 use Rattle.rules_line.proofs.conclusion.conclusion_at.Tie as tie

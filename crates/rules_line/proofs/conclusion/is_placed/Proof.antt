@@ -1,5 +1,5 @@
 use Rattle.rules_line.proofs.ConclusionBranches.{is-placed-branches}
-use Rattle.formula.proofs.BranchTests.{tests}
+use Rattle.limits.proofs.BranchTests.{tests}
 use Rattle.rules_line.proofs.conclusion.is_placed.Statement.{statement}
 use Rattle.rules_line.proofs.conclusion.is_placed.Tie as tie
 

@@ -1,5 +1,5 @@
 use Rattle.rules_line.proofs.ConclusionBranches.{match-conclusion-branches}
-use Rattle.formula.proofs.BranchTests.{tests}
+use Rattle.limits.proofs.BranchTests.{tests}
 use borrow.Author.Needs.{needs}
 use Rattle.rules_line.proofs.conclusion.match_conclusion.Statement.{statement}
 use Rattle.rules_line.proofs.conclusion.match_conclusion.Tie as tie

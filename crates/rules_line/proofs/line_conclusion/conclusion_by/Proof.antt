@@ -1,4 +1,4 @@
-use Rattle.formula.proofs.BranchTests.{tests}
+use Rattle.limits.proofs.BranchTests.{tests}
 use Rattle.rules_line.proofs.LineConclusionBranches.{line-conclusion-branches}
 use borrow.Author.Needs.{needs}
 use Rattle.rules_line.proofs.line_conclusion.conclusion_by.Statement.{statement}

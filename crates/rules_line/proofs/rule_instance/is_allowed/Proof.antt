@@ -1,4 +1,4 @@
-use Rattle.formula.proofs.BranchTests.{tests}
+use Rattle.limits.proofs.BranchTests.{tests}
 use Rattle.rules_line.proofs.InstanceBranches.{rule-instance-allowing}
 use borrow.Author.Needs.{needs}
 use Rattle.rules_line.proofs.rule_instance.is_allowed.Statement.{statement}

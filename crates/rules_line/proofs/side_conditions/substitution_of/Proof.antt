@@ -1,4 +1,4 @@
-use Rattle.formula.proofs.BranchTests.{tests}
+use Rattle.limits.proofs.BranchTests.{tests}
 use Rattle.rules_line.proofs.SideConditionBranches.{substitution-of-branches}
 use borrow.Author.Needs.{needs}
 use Rattle.rules_line.proofs.side_conditions.substitution_of.Statement.{statement}

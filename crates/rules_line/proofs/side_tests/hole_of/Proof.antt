@@ -1,5 +1,5 @@
 use Rattle.rules_line.proofs.SideTestBranches.{side-tests-keeping}
-use Rattle.formula.proofs.BranchTests.{tests}
+use Rattle.limits.proofs.BranchTests.{tests}
 use borrow.Author.Needs.{needs}
 use Rattle.rules_line.proofs.side_tests.hole_of.Statement.{statement}
 use Rattle.rules_line.proofs.side_tests.hole_of.Tie as tie

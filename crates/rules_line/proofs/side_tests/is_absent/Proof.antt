@@ -1,5 +1,5 @@
 use Rattle.rules_line.proofs.SideTestBranches.{is-absent-branches}
-use Rattle.formula.proofs.BranchTests.{tests}
+use Rattle.limits.proofs.BranchTests.{tests}
 use borrow.Author.Needs.{needs}
 use Rattle.rules_line.proofs.side_tests.is_absent.Statement.{statement}
 use Rattle.rules_line.proofs.side_tests.is_absent.Tie as tie

@@ -1,4 +1,4 @@
-use Rattle.formula.proofs.BranchTests.{tests}
+use Rattle.limits.proofs.BranchTests.{tests}
 use Rattle.rules_line.proofs.SideTestBranches.{is-substituted-branches}
 use borrow.Author.Needs.{needs}
 use Rattle.rules_line.proofs.side_tests.is_substituted.Statement.{statement}

@@ -1,5 +1,5 @@
 use Rattle.rules_table.proofs.RuleForms.{formBy, form-known}
-use Rattle.formula.proofs.BranchTests.{tests}
+use Rattle.limits.proofs.BranchTests.{tests}
 use Rattle.rules_table.proofs.rule.form_at.Statement.{statement}
 use Rattle.rules_table.proofs.rule.form_at.Tie as tie
 

@@ -1,5 +1,5 @@
 use Rattle.rules_table.proofs.TableRows.{row-listed, rule-at-branches}
-use Rattle.formula.proofs.BranchTests.{tests}
+use Rattle.limits.proofs.BranchTests.{tests}
 use borrow.Author.Needs.{needs}
 use Rattle.rules_table.proofs.rule.rule_at.Statement.{statement}
 use Rattle.rules_table.proofs.rule.rule_at.Tie as tie

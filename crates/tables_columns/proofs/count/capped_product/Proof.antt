@@ -1,6 +1,6 @@
 use Rattle.tables_columns.specs.Count.{capped}
 use Rattle.tables_columns.proofs.CountBranches.{capped-product-branches}
-use Rattle.formula.proofs.BranchTests.{tests}
+use Rattle.limits.proofs.BranchTests.{tests}
 use Rattle.tables_columns.proofs.count.capped_product.Statement.{statement}
 use Rattle.tables_columns.proofs.count.capped_product.Tie as tie
 

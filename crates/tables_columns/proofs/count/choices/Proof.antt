@@ -1,5 +1,5 @@
 use Rattle.tables_columns.proofs.CountBranches.{choices-branches}
-use Rattle.formula.proofs.BranchTests.{tests}
+use Rattle.limits.proofs.BranchTests.{tests}
 use Rattle.tables_columns.proofs.count.choices.Statement.{statement}
 use Rattle.tables_columns.proofs.count.choices.Tie as tie
 

@@ -1,5 +1,5 @@
 use Rattle.tables_columns.specs.Count.{choicesBy}
-use Rattle.formula.proofs.BranchTests.{tests}
+use Rattle.limits.proofs.BranchTests.{tests}
 use Rattle.tables_columns.proofs.count.choices_by.Statement.{statement}
 use Rattle.tables_columns.proofs.count.choices_by.Tie as tie
 

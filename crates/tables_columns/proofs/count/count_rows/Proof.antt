@@ -2,7 +2,7 @@ use Rattle.tables_columns.specs.Count.{rowsUpTo}
 use mathlib.Core.Path.{_≡_}
 use Prim.Native.Nat.{_≤_, _-_}
 use Rattle.tables_columns.proofs.CountBranches.{count-rows-branches}
-use Rattle.formula.proofs.BranchTests.{tests}
+use Rattle.limits.proofs.BranchTests.{tests}
 use Rattle.tables_columns.proofs.count.count_rows.Statement.{statement}
 use Rattle.tables_columns.proofs.count.count_rows.Tie as tie
 

@@ -1,6 +1,6 @@
 use Rattle.tables_columns.proofs.LeafEqualBranches.{Open, same-leaf-branches}
 use Prim.Native.Nat.{_+_, _≤_}
-use Rattle.formula.proofs.BranchTests.{tests}
+use Rattle.limits.proofs.BranchTests.{tests}
 use Rattle.tables_columns.proofs.leaf_equal.same_leaf.Statement.{statement}
 use Rattle.tables_columns.proofs.leaf_equal.same_leaf.Tie as tie
 

@@ -1,5 +1,5 @@
 use Rattle.tables_columns.proofs.LeafEqualBranches.{step-by-branches}
-use Rattle.formula.proofs.BranchTests.{tests}
+use Rattle.limits.proofs.BranchTests.{tests}
 use borrow.Author.Needs.{needs}
 use Rattle.tables_columns.proofs.leaf_equal.step_by.Statement.{statement}
 use Rattle.tables_columns.proofs.leaf_equal.step_by.Tie as tie

@@ -1,5 +1,5 @@
 use Rattle.tables_columns.proofs.SlotBranches.{leaf-slot-branches}
-use Rattle.formula.proofs.BranchTests.{tests}
+use Rattle.limits.proofs.BranchTests.{tests}
 use Rattle.tables_columns.proofs.slot.leaf_slot.Statement.{statement}
 use Rattle.tables_columns.proofs.slot.leaf_slot.Tie as tie
 

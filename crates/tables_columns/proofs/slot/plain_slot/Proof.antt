@@ -3,7 +3,7 @@ use Rattle.formula.specs.Tree.{none, node}
 use mathlib.Core.Path.{_≡_}
 use Prim.Native.Nat.{_≤_, _-_}
 use Rattle.tables_columns.proofs.SlotBranches.{plain-slot-branches}
-use Rattle.formula.proofs.BranchTests.{tests}
+use Rattle.limits.proofs.BranchTests.{tests}
 use Rattle.tables_columns.proofs.slot.plain_slot.Statement.{statement}
 use Rattle.tables_columns.proofs.slot.plain_slot.Tie as tie
 

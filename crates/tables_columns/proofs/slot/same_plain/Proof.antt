@@ -1,5 +1,5 @@
 use Rattle.tables_columns.proofs.SlotBranches.{same-plain-branches}
-use Rattle.formula.proofs.BranchTests.{tests}
+use Rattle.limits.proofs.BranchTests.{tests}
 use Rattle.tables_columns.proofs.slot.same_plain.Statement.{statement}
 use Rattle.tables_columns.proofs.slot.same_plain.Tie as tie
 

@@ -1,5 +1,5 @@
 use Rattle.tables_columns.specs.Slots.{numbers}
-use Rattle.formula.proofs.BranchTests.{tests}
+use Rattle.limits.proofs.BranchTests.{tests}
 use Rattle.tables_columns.proofs.slot.slot_at.Statement.{statement}
 use Rattle.tables_columns.proofs.slot.slot_at.Tie as tie
 

@@ -3,7 +3,7 @@ use Rattle.formula.specs.Tree.{parseTree}
 use mathlib.Core.Path.{_≡_}
 use Prim.Native.Nat.{_≤_, _-_}
 use Rattle.tables_columns.proofs.SlotBranches.{slot-within-branches}
-use Rattle.formula.proofs.BranchTests.{tests}
+use Rattle.limits.proofs.BranchTests.{tests}
 use Rattle.tables_columns.proofs.slot.slot_within.Statement.{statement}
 use Rattle.tables_columns.proofs.slot.slot_within.Tie as tie
 

@@ -1,5 +1,5 @@
 use Rattle.tables_rows.proofs.ByRowsBranches.{by-rows-branches}
-use Rattle.formula.proofs.BranchTests.{tests}
+use Rattle.limits.proofs.BranchTests.{tests}
 use Rattle.tables_rows.proofs.by_rows.by_rows.Statement.{statement}
 use Rattle.tables_rows.proofs.by_rows.by_rows.Tie as tie
 

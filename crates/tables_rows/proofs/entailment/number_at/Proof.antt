@@ -1,5 +1,5 @@
 use Rattle.tables_rows.proofs.EntailmentBranches.{number-at-branches}
-use Rattle.formula.proofs.BranchTests.{tests}
+use Rattle.limits.proofs.BranchTests.{tests}
 use Rattle.tables_rows.proofs.entailment.number_at.Statement.{statement}
 use Rattle.tables_rows.proofs.entailment.number_at.Tie as tie
 
