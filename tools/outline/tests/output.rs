@@ -206,3 +206,17 @@ fn standard_output_and_devices_stay_places() {
         assert!(out.starts_with("<!DOCTYPE html>"), "{out}");
     }
 }
+
+/// A folder of files in memory stands behind /dev too.
+#[test]
+fn a_file_in_shared_memory_is_written_like_others() {
+    if !Path::new("/dev/shm").is_dir() {
+        return;
+    }
+    let image = format!("/dev/shm/outline-{}.image", std::process::id());
+    let (status, _, err) = run(&["build", &example("polling"), "-o", &image]);
+    let written = std::fs::metadata(&image).map_or(0, |file| file.len());
+    let _ = std::fs::remove_file(&image);
+    assert_eq!((status, err.as_str()), (0, ""));
+    assert!(written > 0, "an image is there");
+}

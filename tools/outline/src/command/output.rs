@@ -173,7 +173,9 @@ impl Drop for Beside {
 
 fn prepared<'a>(name: &Path, bytes: &'a [u8]) -> io::Result<Prepared<'a>> {
     let found = fs::metadata(name).ok();
-    if name.starts_with("/dev") || found.as_ref().is_some_and(|found| !found.is_file()) {
+    // What is open already, as standard output behind /dev, is written as it stands. /dev/shm is a folder like others.
+    let is_open = name.starts_with("/dev") && !name.starts_with("/dev/shm");
+    if found.as_ref().is_some_and(|found| is_open || !found.is_file()) {
         return Ok(Prepared::Direct(name.into(), bytes));
     }
     let place = followed(name)?;
