@@ -452,7 +452,7 @@ fn wrong_use_and_full_disks_are_never_0() {
     let (status, out, _) = run(&["--help"]);
     assert!(status == 0 && out.starts_with("outline build FILE.outline -o FILE.image"), "{out}");
     let (status, out, _) = run(&["--version"]);
-    assert_eq!((status, out.as_str()), (0, "outline 0.1.0\n"));
+    assert_eq!((status, out.as_str()), (0, "outline 1.0.0\n"));
     if Path::new("/dev/full").exists() {
         let (status, ..) = run(&["build", &example("polling"), "-o", "/dev/full"]);
         assert_eq!(status, 2);
