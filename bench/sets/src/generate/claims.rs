@@ -17,7 +17,8 @@ pub fn excluding(random: &mut Random) -> Plan {
     for thread in 1..=header.counts.threads {
         let points = random.between(2, 4);
         let mut code = programs::thread(random, &header, thread, points);
-        let mut outline = vec![Rc::new(Assertion::truth()); code.len() + 1];
+        let mut outline: Vec<Rc<Assertion>> =
+            (0..=code.len()).map(|_| Rc::new(Assertion::truth())).collect();
         if thread == 1 || random.chance(40) {
             let last = random.between(0, points - 2);
             spin(&mut code, last);

@@ -38,11 +38,14 @@ const MOST_BUILT: usize = 4_000;
 /// Whether an input was read, or refused with a message; or what is wrong.
 pub type Judged = Result<bool, String>;
 
+/// What an input is held to.
+type Judge = fn(&[u8]) -> Judged;
+
 /// The run of a seed: whether its input was read.
 pub fn run(seeds: &Seeds, seed: u64) -> Result<bool, Failure> {
     let mut dice = Dice::of(seed);
     let pick = dice.below(100);
-    let (input, judge): (Vec<u8>, fn(&[u8]) -> Judged) = if pick < 45 {
+    let (input, judge): (Vec<u8>, Judge) = if pick < 45 {
         (changed_text(&mut dice, &seeds.texts).into_bytes(), text)
     } else if pick < 60 {
         let bytes = changed_text(&mut dice, &seeds.texts).into_bytes();

@@ -87,7 +87,7 @@ fn in_rows(tests: &[T]) -> Vec<T> {
     let names = |e: &T| registers_of(e.as_ref()).len() + words_of(e.as_ref()).len();
     let mut joined: Vec<Vec<T>> = Vec::new();
     for e in tests {
-        let with = |list: &Vec<T>| fold_right(&[&list[..], &[e.clone()]].concat(), and);
+        let with = |list: &Vec<T>| fold_right(&[&list[..], std::slice::from_ref(e)].concat(), and);
         let room = |list: &&mut Vec<T>| with(list).is_some_and(|e| names(&e) <= MOST_NAMES);
         match joined.iter_mut().find(room) {
             Some(list) => list.push(e.clone()),

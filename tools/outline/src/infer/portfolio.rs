@@ -73,7 +73,7 @@ const RUNS: [(Width, Taste, usize, u64); 18] = [
 pub enum Answer {
     Found(Box<Found>),
     False(explore::Run, Breach),
-    NotFound(NotFound),
+    NotFound(Box<NotFound>),
 }
 
 /// An outline that the checker accepts.
@@ -139,7 +139,12 @@ pub fn infer(source: &Source, wish: &Wish, most: u64, watch: Watch) -> Answer {
         }
         None => {
             let stopped = !watch(search.effort(), most);
-            Answer::NotFound(NotFound { tried, stopped, stuck: search.stuck, best: search.best })
+            Answer::NotFound(Box::new(NotFound {
+                tried,
+                stopped,
+                stuck: search.stuck,
+                best: search.best,
+            }))
         }
     }
 }

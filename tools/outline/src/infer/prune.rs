@@ -38,7 +38,7 @@ impl Fixpoint<'_, '_> {
                 break;
             }
             self.restore(&saved);
-            let begin = if order % 2 == 0 { self.reached_nodes() } else { alive.clone() };
+            let begin = if order.is_multiple_of(2) { self.reached_nodes() } else { alive.clone() };
             self.prune_in_order(begin, &web, order, until);
             let load = self.load(&self.reached());
             if load < least {
@@ -95,7 +95,7 @@ impl Fixpoint<'_, '_> {
                     for (m, k, o) in changes {
                         self.nodes[m].obligations[k].chosen = Some(o);
                     }
-                    if order % 2 == 0 {
+                    if order.is_multiple_of(2) {
                         rest = self.reached_nodes();
                     }
                 }

@@ -70,7 +70,7 @@ fn lets_before_threads(
 fn offset(text: &str, place: Place) -> usize {
     let lines = text.split_inclusive('\n');
     let before: usize = lines.clone().take(place.line - 1).map(str::len).sum();
-    let line = lines.skip(place.line - 1).next().unwrap_or("");
+    let line = lines.clone().nth(place.line - 1).unwrap_or("");
     let within =
         line.char_indices().nth(place.column.saturating_sub(1)).map_or(line.len(), |c| c.0);
     before + within

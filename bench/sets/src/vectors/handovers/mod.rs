@@ -129,7 +129,7 @@ fn out_of_range() -> Vec<HandoverCase> {
     let lines = new_written().lines.len() as u16;
     let points = [2, 2, 2, 3, 3];
     let mut cases = Vec::new();
-    for entry in 0..5 {
+    for (entry, &behind) in points.iter().enumerate() {
         let (point, line) = (3 * entry, 3 * entry + 1);
         let with_line = |number: u16| {
             let [low, high] = number.to_le_bytes();
@@ -139,7 +139,7 @@ fn out_of_range() -> Vec<HandoverCase> {
         let mut both = with_line(0);
         both[3 * other + 1] = lines as u8;
         let all = [
-            ("point behind the last", table_with(&[(point, points[entry])])),
+            ("point behind the last", table_with(&[(point, behind)])),
             ("point 255", table_with(&[(point, 255)])),
             ("line 0", with_line(0)),
             ("line behind the last", with_line(lines + 1)),
