@@ -5,10 +5,10 @@ use mathlib.Core.List.{List, [], _∷_, _++_, map}
 use mathlib.Core.Option.{Option, none, some}
 use Prim.Native.Nat.{ℕ, suc, _-_, _≤_}
 use native.Mathlib.Omega.{arith}
-use lib.Dec.{T, eqb, ltb, leb, eqb→eq, eqb-refl}
+use lib.Dec.{T, eqb, leb, eqb→eq, eqb-refl}
 use borrow.Author.Tests.{eqb-true}
 use lib.ListN.{length}
-use Rattle.semantics.specs.Base.{upd, all, All}
+use Rattle.semantics.specs.Base.{all, All}
 use Rattle.semantics.specs.Limits
 use Rattle.semantics.specs.Formula.{Sort, Formula, Assertion, Formula.const, Formula.word, same}
 use Rattle.semantics.specs.Names.{Name, names, only, notReg, notWord, notFlag}
@@ -28,8 +28,7 @@ use Rattle.semantics.proofs.Base.{bool-ext, and-left, and-right, and-both, all-
 use Rattle.semantics.proofs.Encoding.{same-eq, same-refl}
 use Rattle.logic_schemas.proofs.Fit.{All-all, Fit, PremisesFit, fit}
 use Rattle.logic_schemas.proofs.Rules.{rule-of, rule-fits}
-use Rattle.formula.specs.Codes.{hasOperand}
-use Rattle.formula.specs.Tree.{Tree, Tree.node}
+use Rattle.formula.specs.Tree.{Tree}
 use Rattle.formula_compare.specs.Same.{sameTree}
 use Rattle.formula_compare.specs.Replace.{replaceT}
 use Rattle.formula_compare.specs.Occurs.{occurs, register, wordAnyRole, flag}
@@ -41,7 +40,7 @@ use Rattle.formula_trees.proofs.ReplaceAgree.{toTree-reg, toTree-word, toTree-n
 use Rattle.formula_trees.proofs.OccursAgree
 use Rattle.formula_trees.proofs.OccursAgree.{no-register, no-word}
 use Rattle.tables_rows.proofs.LogicAgrees.{impToTree, toTree-rows, toTree-table}
-use Rattle.formula_match.specs.Template.{shapes, firstHole, firstNumber, formulaHole, numHole, patternToTree, Holes, instT, fillOf}
+use Rattle.formula_match.specs.Template.{shapes, formulaHole, numHole, patternToTree, Holes, instT, fillOf}
 use Rattle.formula_match.specs.Match.{Taken, andThen, when, matchT}
 use Rattle.rules_table.specs.FitTree as FitT
 use Rattle.formula_trees.specs.StatementTree.{TreeConclusion, concluded, Acting, acting, placed, formOf}

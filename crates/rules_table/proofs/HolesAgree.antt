@@ -1,18 +1,14 @@
 -- The holes of patterns. Two fillings, one of templates and one of patterns, make the same formula of a pattern exactly if they agree at
 -- its holes. What a row of the table may ask of its holes is one test that computes.
-use mathlib.Core.Path.{_≡_, refl, ap, ap₂, sym, _∙_, subst}
-use mathlib.Core.Bool.{Bool, true, false, not, _&&_, _||_}
+use mathlib.Core.Path.{_≡_, refl, ap, ap₂, sym, _∙_}
+use mathlib.Core.Bool.{true, false}
 use mathlib.Core.List.{List, [], _∷_, _++_}
-use Prim.Native.Nat.{ℕ, zero, suc, _-_}
-use lib.Dec.{T, eqb, ltb, eqb→eq}
-use lib.ListN.{getD}
-use borrow.Author.Tests.{eqb-true}
-use Rattle.semantics.specs.Base.{all, All}
+use Prim.Native.Nat.{ℕ, _-_}
+use lib.Dec.{ltb}
+use Rattle.semantics.specs.Base.{All}
 use Rattle.semantics.specs.Code
 use Rattle.semantics.specs.Code.{byte}
-use Rattle.semantics.specs.Eval.{bounded}
 use Rattle.semantics.specs.Formula.{Sort, Formula}
-use Rattle.semantics.proofs.Base.{and-left, and-right}
 use Rattle.logic_schemas.specs.Pattern
 use Rattle.logic_schemas.specs.Pattern.{Num, Pattern, Given, Fill, number, inst}
 use Rattle.formula.specs.Codes.{hasOperand}
