@@ -10,7 +10,7 @@ ghost use Rattle.vectors.specs.Turn.{turnKindOf, callerAt, lengthsAt, se
 pub struct Stored;
 
 impl Stored {
-    // `bench/README.md` has the layout.
+    // `rust/README.md` has the layout.
     pub const BYTES: usize = 274;
 }
 

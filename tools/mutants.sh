@@ -4,7 +4,7 @@
 #
 # Usage: mutants.sh [EDIT-FILE...]
 #
-# An edit file has lines "file PATH", a path in reference/src, and pairs of lines
+# An edit file has lines "file PATH", a path in rust/reference/src, and pairs of lines
 # "- OLD" and "+ NEW": OLD occurs in the file, its first occurrence becomes NEW.
 # A line "sets NAME.." says which sets are judged again; without it all are.
 set -euo pipefail
@@ -15,13 +15,13 @@ if [ $# -eq 0 ]; then
 fi
 work=$(mktemp -d)
 trap 'rm -rf "$work"' EXIT
-mkdir "$work/bench" "$work/lists"
+mkdir "$work/rust" "$work/lists"
 # Copies, so that lists and sources may be changed meanwhile.
 cp "$@" "$work/lists"
-cp -r "$here/reference" "$here/sets" "$work/bench/"
-cp -r "$here/reference/src" "$work/original"
+cp -r "$here/../rust/reference" "$here/../rust/sets" "$work/rust/"
+cp -r "$here/../rust/reference/src" "$work/original"
 # The workspace without the members that are not needed here.
-sed -e 's|^members = .*|members = ["bench/reference", "bench/sets"]|' -e '/^default-members/d' \
+sed -e 's|^members = .*|members = ["rust/reference", "rust/sets"]|' -e '/^default-members/d' \
     "$here/../Cargo.toml" >"$work/Cargo.toml"
 cd "$work"
 export CARGO_TARGET_DIR="$work/target" CARGO_PROFILE_DEV_DEBUG=0 RUSTFLAGS="-Awarnings"
@@ -53,9 +53,9 @@ try_edit() {
         unfit=$((unfit + 1))
         return
     fi
-    printf '%s\n' "${content/"$old"/"$new"}" >"bench/reference/src/$file"
+    printf '%s\n' "${content/"$old"/"$new"}" >"rust/reference/src/$file"
     judge "$file: $old -> $new"
-    printf '%s\n' "$content" >"bench/reference/src/$file"
+    printf '%s\n' "$content" >"rust/reference/src/$file"
 }
 
 for edits in "$work"/lists/*; do

@@ -1,5 +1,5 @@
 // Tries the pages of `outline report` in a real browser:
-//   node tools/outline/browser/check.mjs [--outline PROGRAM] [--chromium PROGRAM] [--pictures FOLDER]
+//   node rust/outline/browser/check.mjs [--outline PROGRAM] [--chromium PROGRAM] [--pictures FOLDER]
 // Each page, at two widths and in both colour schemes: nothing overflows, tables and drawing are there, nothing is
 // loaded, letters keep to the drawing's boxes, keyboard and links work, and it prints. The status is 0 if all is so.
 
@@ -17,7 +17,7 @@ const PAGES = [
   { name: "message-passing-wrong-2", accepted: false },
   { name: "three-threads-wrong-1", accepted: false },
   { name: "peterson-claim-wrong-2", accepted: false },
-  { name: "both-inside", accepted: false, folder: "tools/outline/tests/outlines" },
+  { name: "both-inside", accepted: false, folder: "rust/outline/tests/outlines" },
 ];
 const WINDOWS = [
   { width: 1200, scheme: "light" },

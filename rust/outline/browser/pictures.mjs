@@ -1,5 +1,5 @@
 // Makes the pictures of docs/: an accepted page and a refused one.
-//   node tools/outline/browser/pictures.mjs [OUTLINE [CHROMIUM]]
+//   node rust/outline/browser/pictures.mjs [OUTLINE [CHROMIUM]]
 
 import { mkdtempSync, rmSync, writeFileSync } from "node:fs";
 import { tmpdir } from "node:os";
