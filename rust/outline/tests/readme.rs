@@ -59,6 +59,11 @@ fn printed(command: &str) -> String {
     String::from_utf8([output.stdout, output.stderr].concat()).expect("text")
 }
 
+/// Whether a line of the page is a line of the output; ` ..` at its end stands for the rest of it.
+fn is_line(shown: &str, line: &str) -> bool {
+    shown.strip_suffix(" ..").map_or(shown == line, |front| line.starts_with(front))
+}
+
 /// Whether the block is the output; a line `..` stands for any number of lines.
 fn is_shortened(block: &[&str], output: &str) -> bool {
     let mut left: Vec<&str> = output.lines().collect();
@@ -68,7 +73,7 @@ fn is_shortened(block: &[&str], output: &str) -> bool {
             gap = true;
             continue;
         }
-        match left.iter().position(|printed| printed == line) {
+        match left.iter().position(|printed| is_line(line, printed)) {
             Some(place) if gap || place == 0 => left.drain(..=place),
             _ => return false,
         };
@@ -91,5 +96,5 @@ fn the_tool_prints_what_the_page_shows() {
             shown += 1;
         }
     }
-    assert_eq!(shown, 2, "an accepted outline and a refused one");
+    assert_eq!(shown, 3, "an accepted outline, a refused one, and the run that breaks it");
 }
