@@ -281,7 +281,8 @@ def picture(text):
     rooms = read_rooms(text)
     cited = reduced(cited_rooms(rooms))
     boxes, passes, height = boxes_of(rooms, arranged(layers_of(cited), cited))
-    parts = [f'<svg xmlns="http://www.w3.org/2000/svg" viewBox="0 0 {WIDTH} {height + LEGEND}" role="img">']
+    view = f'viewBox="0 0 {WIDTH} {height + LEGEND}"'
+    parts = [f'<svg xmlns="http://www.w3.org/2000/svg" width="{WIDTH}" height="{height + LEGEND}" {view} role="img">']
     parts += ["  <title>The rooms of Hidokpalu, each with its crates</title>", f"  <style>{STYLE}  </style>"]
     parts += [f'  <rect class="ground" width="{WIDTH}" height="{height + LEGEND}" rx="8"/>']
     parts += drawn_arrows(boxes, passes, cited)
