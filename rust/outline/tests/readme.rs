@@ -1,5 +1,6 @@
-//! What `README.md` shows is what the tool prints; it is one page, and no document has long lines.
+//! What `README.md` shows is what the tool prints, its figures are counted, it is one page; no document has long lines.
 
+use std::collections::{BTreeMap, BTreeSet};
 use std::path::{Path, PathBuf};
 use std::process::Command;
 
@@ -97,4 +98,49 @@ fn the_tool_prints_what_the_page_shows() {
         }
     }
     assert_eq!(shown, 3, "an accepted outline, a refused one, and the run that breaks it");
+}
+
+/// How many lines the named definitions of a crate have.
+fn definitions(crate_name: &str, names: &[&str]) -> usize {
+    let folder = root().join("crates").join(crate_name).join("specs");
+    names.iter().map(|name| text(&folder.join(format!("{name}.antt"))).lines().count()).sum()
+}
+
+/// How many crates stand under one, by `crates.txt`; what the kit has is not counted.
+fn crates_under(name: &str) -> usize {
+    let list = text(&root().join("crates.txt"));
+    let lines = list.lines().filter(|line| !line.starts_with('#'));
+    let cited: BTreeMap<&str, Vec<&str>> = lines
+        .filter_map(|line| line.split_once(':'))
+        .map(|(name, cites)| (name, cites.split_whitespace().collect()))
+        .collect();
+    let (mut found, mut left) = (BTreeSet::new(), vec![name]);
+    while let Some(next) = left.pop() {
+        let new =
+            cited[next].iter().filter(|name| cited.contains_key(*name) && found.insert(**name));
+        left.extend(new.copied().collect::<Vec<&str>>());
+    }
+    found.len()
+}
+
+/// What is said of how much there is to prove and to believe is counted; two pages say it.
+#[test]
+fn the_figures_are_counted() {
+    let runs = definitions(
+        "semantics",
+        &["Base", "Code", "Eval", "EveryRun", "Formula", "Limits", "Machine", "Replace", "Truth"],
+    ) + definitions("logic", &["Claims"]);
+    let rules = definitions("semantics", &["Names"])
+        + definitions(
+            "logic",
+            &["Rows", "Table", "Statement", "Opcode", "Rule", "Inference", "Obligations"],
+        );
+    for page in ["README.md", "docs/PROOFS.md"] {
+        let page = text(&root().join(page));
+        assert!(page.contains(&format!("{runs} lines with")), "{runs} lines for every run");
+        assert!(page.contains(&format!("{rules} lines")), "{rules} lines of rules");
+    }
+    let under = crates_under("verdict");
+    let readme = text(&root().join("README.md"));
+    assert!(readme.contains(&format!("the {under} crates under the program")), "{under} crates");
 }
