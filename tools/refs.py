@@ -17,10 +17,10 @@ SOURCES = ('.rt', '.antt', '.rs', '.sh', '.py', '.c', '.h', '.toml', '.edit', '.
 # What commands of a document write, and what stands for a name.
 WRITTEN = ('target/', '/', 'http')
 PLACEHOLDER = re.compile(r'[*<>{}()$…]|\.\.\.|\b[A-Z]{3,}\b')
-# Names of C, of the Linux kernel and of litmus tests, which are no names of this repository.
+# Names of C, of Rust's library, of the Linux kernel and of litmus tests, which are no names of this repository.
 FOREIGN = re.compile(
-    r'memory_order_\w+|atomic_\w+|(READ|WRITE)_ONCE|smp_\w+|xchg|_relaxed|_acquire|_release'
-    r'|sb|iriw|relaxed-behind|fetch-add-behind|two-adds')
+    r'memory_order_\w+|atomic_\w+|_(relaxed|acquire|release|weak|or|and|xor)|Atomic\w+::\w+|SeqCst|UnsafeCell'
+    r'|compare_exchange(_weak)?|fetch_\w+|(READ|WRITE)_ONCE|smp_\w+|xchg|sb|iriw|relaxed-behind|fetch-add-behind|two-adds')
 PROVER = ('check', 'dev', 'staticlib', 'must-fail', 'try', 'goals', 'mir')
 
 
