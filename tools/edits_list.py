@@ -1,11 +1,13 @@
 #!/usr/bin/env python3
-"""Writes docs/EDITS.md: which edits each run of the gate tries, and which are tried a tenth at a time. With --check: it is up to date."""
+"""Writes docs/EDITS.md: which edits each run of the gate tries, and which are tried a tenth at a time; and marks in docs/REVIEW.md each edit
+that stands outside of the gate with a degree sign. With --check: says whether both are up to date; status 1 if not."""
 import os
 import re
 import sys
 import textwrap
 
 PAGE = 'docs/EDITS.md'
+REVIEW = 'docs/REVIEW.md'
 WIDTH = 136
 HEAD = '''# Edits that the prover must refuse
 
@@ -55,18 +57,40 @@ def page():
     return HEAD + section('In the gate', 'must-fail') + section('Outside of the gate', 'also-refused')
 
 
+def marked():
+    """The page for reviewers with a mark behind each edit outside of the gate, and behind no other. A name alone is of the crate before it."""
+    folders = {f'{crate}/{name}': folder for folder in ('must-fail', 'also-refused') for crate in crates() for name, _ in edits(crate, folder)}
+    known, last = set(crates()), ''
+
+    def mark(match):
+        nonlocal last
+        name, sign = match.group(1), match.group(2)
+        first = name.split('/')[0].split('::')[0]
+        if first in known:
+            last = first
+        folder = folders.get(name) or folders.get(f'{last}/{name}')
+        if folder is None:
+            return match.group(0)
+        return f'`{name}`' + ('°' if folder == 'also-refused' else '')
+
+    with open(REVIEW, encoding='utf8') as file:
+        return re.sub('`([^`\\n]+)`(°?)', mark, file.read())
+
+
 def main():
     os.chdir(os.path.join(os.path.dirname(os.path.abspath(__file__)), '..'))
-    text = page()
-    if sys.argv[1:] == ['--check']:
-        with open(PAGE, encoding='utf8') as file:
+    status = 0
+    for name, text in ((PAGE, page()), (REVIEW, marked())):
+        with open(name, encoding='utf8') as file:
             same = file.read() == text
-        if not same:
-            print(f'{PAGE} is not what tools/edits_list.py writes')
-        return 0 if same else 1
-    with open(PAGE, 'w', encoding='utf8') as file:
-        file.write(text)
-    return 0
+        if sys.argv[1:] == ['--check']:
+            if not same:
+                print(f'{name} is not what tools/edits_list.py writes')
+                status = 1
+        elif not same:
+            with open(name, 'w', encoding='utf8') as file:
+                file.write(text)
+    return status
 
 
 if __name__ == '__main__':
