@@ -23,14 +23,17 @@ pub fn cases() -> Vec<Case> {
         high_lines().case("accepted: premise 257, obligation with line 258"),
         high_claim(HIGH).case("accepted: claim with line 257"),
         high_claim(LINES).case("accepted: claim with line 4,000"),
-        high_claim(LINES).set_number(CLAIM, 0, 4, LINES as u16 + 1).case("6: claim with line 4,001"),
+        high_claim(LINES)
+            .set_number(CLAIM, 0, 4, LINES as u16 + 1)
+            .case("6: claim with line 4,001"),
     ];
     for (what, kind, n, place) in places {
         for number in [HIGH, FORMULAS] {
             let label = format!("accepted: {what} has number {number}");
             cases.push(moved(number, kind, n, place).case(label));
         }
-        let beyond = moved(FORMULAS, kind, n, place).set_number(kind, n, place, FORMULAS as u16 + 1);
+        let beyond =
+            moved(FORMULAS, kind, n, place).set_number(kind, n, place, FORMULAS as u16 + 1);
         cases.push(beyond.case(format!("6: {what} has number 501")));
     }
     cases
