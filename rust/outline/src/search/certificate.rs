@@ -1,9 +1,9 @@
 //! The lines found so far, each conclusion once.
 
+use crate::search::hash::Table;
 use reference::checker::rules::{follows, MOST_PREMISES, OF_PAIR};
 use reference::formula::nesting::Nesting;
 use reference::image::{Program, Statement};
-use std::collections::HashMap;
 
 /// One line with formulas in full; premises are places in the list.
 #[derive(Debug, Clone)]
@@ -17,9 +17,9 @@ pub struct Entry {
 #[derive(Debug, Default)]
 pub struct Certificate {
     pub entries: Vec<Entry>,
-    known: HashMap<Statement, usize>,
+    known: Table<Statement, usize>,
     /// What is known of whole pairs: the same words mean something else of a first half.
-    pairs: HashMap<Statement, usize>,
+    pairs: Table<Statement, usize>,
 }
 
 impl Certificate {
@@ -29,7 +29,7 @@ impl Certificate {
     }
 
     /// The conclusions by this rule and those that mean the same by their words.
-    fn known_by(&mut self, rule: u8) -> &mut HashMap<Statement, usize> {
+    fn known_by(&mut self, rule: u8) -> &mut Table<Statement, usize> {
         match rule {
             OF_PAIR => &mut self.pairs,
             _ => &mut self.known,

@@ -47,14 +47,22 @@ impl Prover<'_> {
         }
         let key = (i.clone(), j.clone());
         let kind = usize::from(self.linking);
-        let missed = self.missed[kind].get(&key).is_some_and(|d| *d >= depth);
-        if depth == 0 || missed || !self.budget.spend() {
+        let missed = self.missed[kind].get(&key).copied().filter(|d| *d >= depth);
+        if let Some(tried) = missed {
+            self.cut_short |= tried != Prover::WHATEVER_DEPTH;
             return None;
         }
+        if depth == 0 || !self.budget.spend() {
+            self.cut_short = true;
+            return None;
+        }
+        let before = std::mem::replace(&mut self.cut_short, false);
         let found = self.include_by_shape(i, j, depth - 1).or_else(|| self.by_linked_part(i, j));
         if found.is_none() && !self.budget.is_spent() {
-            self.missed[kind].insert(key, depth);
+            let tried = if self.cut_short { depth } else { Prover::WHATEVER_DEPTH };
+            self.missed[kind].insert(key, tried);
         }
+        self.cut_short |= before;
         found
     }
 
