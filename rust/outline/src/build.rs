@@ -2,12 +2,15 @@
 
 use crate::infer::{Before, Wanting};
 use crate::search::budget::{Budget, BEYOND, SHARE, TRIES};
+use crate::search::certificate::Certificate;
 use crate::search::kept::Kept;
 use crate::search::prover::{At, Prover};
+use crate::search::shorten::Shortened;
 use crate::search::tried::Lacking;
 use crate::text::lex::Mistake;
 use crate::text::source::{Hint, Source};
 use reference::assemble::Assembly;
+use reference::checker::limits::FORMULAS;
 use reference::checker::obligations::{duties, Duty};
 use reference::checker::rules::table::Leaves;
 use reference::formula::nesting::Nesting;
@@ -150,7 +153,10 @@ fn search(source: &Source, kept: Kept, tries: u64, watch: Watch) -> Built {
     let open = sought.left_open(&mut prover);
     let found: Vec<(Goal, Option<usize>)> =
         sought.goals.iter().map(|one| (one.goal, one.line)).collect();
-    let image = assemble(&program, &prover, kept, &found);
+    let mut image = assemble(&program, &prover.lines, kept, &found);
+    if image.formulas.len() > FORMULAS {
+        image = shorter(&program, &prover.lines, &found);
+    }
     Built { image, open, failed, untried, tries, most_tries }
 }
 
@@ -335,19 +341,31 @@ fn hint_words(prover: &mut Prover) -> Vec<String> {
     lines
 }
 
+/// The image with as few formulas as leaving out lines gives.
+fn shorter(program: &Program, found: &Certificate, goals: &[(Goal, Option<usize>)]) -> Written {
+    let roots: Vec<usize> = goals.iter().filter_map(|(_, line)| *line).collect();
+    let mut shortened = Shortened::of(program, found, &roots);
+    shortened.run();
+    let (lines, roots) = shortened.lines();
+    let mut roots = roots.into_iter();
+    let goals: Vec<(Goal, Option<usize>)> =
+        goals.iter().map(|(goal, line)| (*goal, line.and_then(|_| roots.next()))).collect();
+    assemble(program, &lines, Kept::Needed, &goals)
+}
+
 /// Numbers formulas and lines.
 fn assemble(
     program: &Program,
-    prover: &Prover,
+    lines: &Certificate,
     kept: Kept,
     found: &[(Goal, Option<usize>)],
 ) -> Written {
     let mut image = Assembly::of(program);
     let roots: Vec<usize> = found.iter().filter_map(|(_, line)| *line).collect();
-    let kept = kept.places(&prover.lines, program, &roots);
+    let kept = kept.places(lines, program, &roots);
     let place = |at: usize| kept.binary_search(&at).map_or(0, |i| i as u16 + 1);
     for at in &kept {
-        let entry = &prover.lines.entries[*at];
+        let entry = &lines.entries[*at];
         let premises = entry.premises.iter().map(|p| place(*p)).collect();
         image.line(entry.rule, &entry.statement, premises);
     }

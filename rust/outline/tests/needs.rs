@@ -24,7 +24,7 @@ fn said(text: &str) -> String {
 
 #[test]
 fn right_outlines_are_found() {
-    for name in ["unfound", "unfound-named", "given-up", "given-up-ten-leaves"] {
+    for name in ["unfound", "unfound-named", "given-up", "given-up-ten-leaves", "three-tickets"] {
         let source = parse(&case(name)).expect("an outline");
         let built = build_past_failures(&source, TRIES).expect("built");
         assert_eq!((built.open.len(), built.failed.len()), (0, 0), "{name}");

@@ -121,3 +121,18 @@ fn one_point_in_other_words_is_found() {
     let failed: Vec<String> = NAMES.iter().flat_map(|name| open(name)).collect();
     assert!(failed.is_empty(), "{}", failed.join("\n"));
 }
+
+#[test]
+fn a_certificate_over_the_limit_is_shortened() {
+    let source = example("ticket-lock");
+    for (how, words) in [WORDS[0], WORDS[2], WORDS[3]] {
+        let mut other = source.clone();
+        let point = &mut other.points[0][1];
+        point.assertion = assertion(&point.assertion, words);
+        // As it is found it has more than 500 formulas.
+        let built = build(&other).expect("built");
+        let found = built.image.formulas.len();
+        assert!(built.open.is_empty() && found <= 500, "{how}: {found} formulas");
+        assert_eq!(check(&built.image.bytes()).code, 0, "{how}");
+    }
+}

@@ -14,7 +14,7 @@ pub struct Entry {
 }
 
 /// A growing list of justified lines.
-#[derive(Debug, Default)]
+#[derive(Debug, Clone, Default)]
 pub struct Certificate {
     pub entries: Vec<Entry>,
     known: Table<Statement, usize>,
@@ -23,6 +23,11 @@ pub struct Certificate {
 }
 
 impl Certificate {
+    /// These lines, to be written down.
+    pub fn of(entries: Vec<Entry>) -> Certificate {
+        Certificate { entries, ..Certificate::default() }
+    }
+
     /// The place of a line that says this, at a pair's point of the first half.
     pub fn find(&self, statement: &Statement) -> Option<usize> {
         self.known.get(statement).copied()

@@ -21,6 +21,7 @@ mod pair;
 pub mod plan;
 pub mod prover;
 mod released;
+pub mod shorten;
 mod steps;
 pub mod support;
 mod support_sees;

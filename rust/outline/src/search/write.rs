@@ -143,12 +143,16 @@ impl Prover<'_> {
         if !self.wide || self.include(k, j).is_some() {
             return;
         }
-        let known = holds(&passed);
-        let Some(last) = self.implied(&both(&sees(u, k), &known), &sees(u, j)) else { return };
-        if let Some(line) = self.step(at, rule, before, &sees(u, k), &[]) {
-            let values = self.plan(context, &known);
-            let all = Plan::All(Plan::Ready(line).into(), values.into());
-            ways.push(Plan::Then(all.into(), last));
+        // In a view a test of many comparisons is one leaf.
+        for known in [holds(&passed), sees(u, &all(&passed))] {
+            let joined = both(&sees(u, k), &known);
+            let Some(last) = self.implied(&joined, &sees(u, j)) else { continue };
+            if let Some(line) = self.step(at, rule, before, &sees(u, k), &[]) {
+                let values = self.plan(context, &known);
+                let all = Plan::All(Plan::Ready(line).into(), values.into());
+                ways.push(Plan::Then(all.into(), last));
+            }
+            return;
         }
     }
 
