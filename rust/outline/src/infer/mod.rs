@@ -2,7 +2,7 @@
 //!
 //! `sample` has states of the program, `clauses` and `ground` what is true in them, `backward` the rules read
 //! backwards, `have` and `options` what an obligation may rest on, `fixpoint` and `claims` choose, `prune` leaves out,
-//! `assemble` writes assertions (`packed`, `modes`), `minimise` shortens, `wish` tells what is asked, `portfolio` tries
+//! `assemble` writes assertions (`packed`, `modes`, `mixed`), `minimise` shortens, `wish` tells what is asked, `portfolio` tries
 //! one width after another, and `wanting` tells what an open obligation of any outline would need. The search certifies, and the checker judges.
 
 mod assemble;
@@ -16,6 +16,7 @@ mod ground;
 mod have;
 mod lets;
 mod minimise;
+mod mixed;
 mod modes;
 mod options;
 mod packed;
