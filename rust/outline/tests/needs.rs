@@ -136,7 +136,7 @@ fn leaves_are_counted_and_named_with_what_brings_them_down() {
         assert!(told.contains(leaf), "{leaf}: {told}");
     }
     assert!(told.contains("as one     t sees [w1 = 0] & [w2 = 0] & "), "{told}");
-    assert!(told.contains(": 7 leaves then\n"), "{told}");
+    assert!(told.contains(": then 7 of 10\n"), "{told}");
 }
 
 #[test]
@@ -145,7 +145,7 @@ fn two_wordings_of_one_test_are_told() {
     let told = said(&text);
     assert!(told.contains("nothing: there are 14 leaves"), "{told}");
     assert!(
-        told.contains("as one     equal tests that stand here in two wordings: 12 leaves then"),
+        told.contains("as one     equal tests that stand here in two wordings: then 12 of 10"),
         "{told}"
     );
 }

@@ -35,7 +35,7 @@ impl Prover<'_> {
         if count(&one) < all {
             let then = count(&one);
             self.tried.push(format!(
-                "  as one     equal tests that stand here in two wordings: {then} leaves then"
+                "  as one     equal tests that stand here in two wordings: then {then} of {MOST_LEAVES}"
             ));
         }
         let mut left = conjuncts(&one);
@@ -44,7 +44,7 @@ impl Prover<'_> {
             left.push(shorter.instead.clone());
             let then = fold_right(&left, both).map_or(0, |p| count(&p));
             let text = self.names.assertion(&shorter.instead);
-            self.tried.push(format!("  as one     {text}: {then} leaves then"));
+            self.tried.push(format!("  as one     {text}: then {then} of {MOST_LEAVES}"));
         }
         let fewest = fold_right(&left, both).map_or(0, |p| count(&p));
         if fewest > MOST_LEAVES {
@@ -61,7 +61,7 @@ fn count(p: &A) -> usize {
     leaves.len()
 }
 
-/// What each thread sees, in one view; and each disjunction of tests, in a view.
+/// What each thread sees, in one view; and the tests of registers, in a view.
 fn shorter_forms(parts: &[A]) -> Vec<Shorter> {
     let mut found = Vec::new();
     let threads = unique(parts.iter().filter_map(|a| a.as_sees()).map(|(u, _)| u));
@@ -75,10 +75,11 @@ fn shorter_forms(parts: &[A]) -> Vec<Shorter> {
         }
     }
     let u = parts.iter().find_map(|a| a.as_sees()).map_or(1, |(u, _)| u);
-    for part in parts.iter().filter(|part| count(part) > 1) {
-        if let Some(e) = as_test(part) {
-            found.push(Shorter { parts: vec![part.clone()], instead: sees(u, &all(&e)) });
-        }
+    let tests: Vec<A> = parts.iter().filter(|part| as_test(part).is_some()).cloned().collect();
+    let joined: Vec<T> = tests.iter().filter_map(as_test).collect();
+    let whole = fold_right(&tests, both).map_or(0, |p| count(&p));
+    if let (true, Some(e)) = (whole > 1, fold_right(&joined, and)) {
+        found.push(Shorter { parts: tests, instead: sees(u, &all(&e)) });
     }
     found
 }
