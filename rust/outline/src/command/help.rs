@@ -55,9 +55,12 @@ const COMMANDS: [Command; 13] = [
     },
     Command {
         name: "explore",
-        usage: &["explore FILE [BOUNDS] [--claims | --outcome \"a = 1 and b = 0\"]"],
-        about: "every run within the bounds: is something false in one, can an outcome happen?",
-        options: &["--claims", "--outcome", BOUNDS[0], BOUNDS[1], BOUNDS[2], BOUNDS[3]],
+        usage: &[
+            "explore FILE [BOUNDS] [--claims | --outcome \"a = 1 and b = 0\"]",
+            "explore FILE [BOUNDS] --outcomes [--runs]",
+        ],
+        about: "every run within the bounds: is something false in one, can an outcome happen, which final states are there?",
+        options: &["--claims", "--outcome", "--outcomes", "--runs", BOUNDS[0], BOUNDS[1], BOUNDS[2], BOUNDS[3]],
         run: explore::run,
     },
     Command {
@@ -114,7 +117,7 @@ const COMMANDS: [Command; 13] = [
     },
 ];
 
-const OPTIONS: [(&str, &str); 19] = [
+const OPTIONS: [(&str, &str); 21] = [
     ("--image", "writes the image that the page is about, or of what was inferred, too"),
     ("--tries", "N, a bound: ends the inference after so many tries; 2000000"),
     ("--date", "the page's date; else that of SOURCE_DATE_EPOCH, else the clock's, in UTC"),
@@ -123,7 +126,13 @@ const OPTIONS: [(&str, &str); 19] = [
     ("--all-lines", "writes every line that the search found, dead ones too"),
     ("--at", "tells in full what is open at this point, by its number or its label"),
     ("--claims", "looks at the claims alone, whatever the assertions say"),
-    ("--outcome", "can the registers be so when all threads have ended?"),
+    (
+        "--outcome",
+        "can it be so when all threads have ended? Registers, also as THREAD:REGISTER, and words for their last\n              \
+         values; and or /\\, or or \\/, not or ~; with exists, ~exists or forall in front",
+    ),
+    ("--outcomes", "all final states: registers, and the last value of each word"),
+    ("--runs", "tells a shortest run to each of them"),
     ("--steps", "N, a bound: steps of a run; 24 [24], at most 10000"),
     ("--writes", "N, a bound: writes in a word's row, the first among them; 6 [6], at most 200"),
     ("--starts", "N, a bound: start states, where registers are open; 4096 [64], at most 1048576"),

@@ -18,6 +18,7 @@ pub mod json;
 pub mod judge;
 pub mod names;
 pub mod options;
+pub mod outcomes;
 pub mod output;
 pub mod permit;
 pub mod progress;

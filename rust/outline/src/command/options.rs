@@ -21,6 +21,8 @@ pub struct Options {
     pub claims: bool,
     pub at: Option<String>,
     pub outcome: Option<String>,
+    pub outcomes: bool,
+    pub runs: bool,
     pub steps: Option<usize>,
     pub writes: Option<usize>,
     pub starts: Option<usize>,
@@ -76,6 +78,8 @@ impl Options {
                 "--all-lines" => options.all_lines = true,
                 "--json" => options.json = true,
                 "--claims" => options.claims = true,
+                "--outcomes" => options.outcomes = true,
+                "--runs" => options.runs = true,
                 file => options.files.push(file.into()),
             }
         }

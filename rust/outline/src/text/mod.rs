@@ -2,6 +2,7 @@
 
 pub mod answer;
 pub mod compare;
+pub mod condition;
 pub mod contract;
 pub mod cursor;
 pub mod lex;

@@ -67,7 +67,7 @@ fn commands_that_accept_fit_the_schema() {
     let (old, new) = (example("update/old"), example("update/new"));
     let (handed, table) = (folder.file("new.image"), folder.file("new.table"));
     let asked = folder.with("asked.program", ASKED);
-    let commands: [&[&str]; 13] = [
+    let commands: [&[&str]; 15] = [
         &["build", &text, "-o", &image],
         &["infer", &asked, "-o", &folder.file("found.outline")],
         &["check", &text, &image],
@@ -75,6 +75,8 @@ fn commands_that_accept_fit_the_schema() {
         &["explain", &text],
         &["explore", &text],
         &["explore", &text, "--outcome", "b = 1"],
+        &["explore", &text, "--outcome", "forall (b = 1)"],
+        &["explore", &text, "--outcomes", "--runs"],
         &["report", &text, "-o", &page],
         &["draw", &text, "-o", &folder.file("r.svg")],
         &["trim", &image, "-o", &small],
