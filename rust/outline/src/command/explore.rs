@@ -88,14 +88,14 @@ impl Answer {
 }
 
 /// What is run: a program with its outline and claims. No certificate is needed for it.
-struct Subject {
-    program: Program,
+pub struct Subject {
+    pub program: Program,
     claims: Vec<Meeting>,
-    names: Names,
+    pub names: Names,
 }
 
 impl Subject {
-    fn of(file: &str) -> Result<Subject, String> {
+    pub fn of(file: &str) -> Result<Subject, String> {
         match read(file)? {
             Input::Text(text) => {
                 let source = parse_all(&text).map_err(|all| mistakes(file, &text, &all))?;

@@ -1,8 +1,8 @@
 //! The commands by their names, and what is said of them.
 
 use crate::command::{
-    bill, build, check, draw, explain, explore, handover, infer, print, replay, report, serve,
-    show, trim, Done, Status,
+    bill, build, check, draw, explain, explore, export, handover, import, infer, litmus, print,
+    replay, report, same, serve, show, trim, Done, Status,
 };
 use crate::text::nearest::nearest;
 
@@ -17,7 +17,7 @@ struct Command {
 
 const BOUNDS: [&str; 4] = ["--steps", "--writes", "--starts", "--states"];
 
-const COMMANDS: [Command; 13] = [
+const COMMANDS: [Command; 17] = [
     Command {
         name: "build",
         usage: &["build FILE.outline -o FILE.image [--partial] [--all] [--at THREAD:POINT] [--all-lines] [BOUNDS]"],
@@ -62,6 +62,34 @@ const COMMANDS: [Command; 13] = [
         about: "every run within the bounds: is something false in one, can an outcome happen, which final states are there?",
         options: &["--claims", "--outcome", "--outcomes", "--runs", BOUNDS[0], BOUNDS[1], BOUNDS[2], BOUNDS[3]],
         run: explore::run,
+    },
+    Command {
+        name: "litmus",
+        usage: &["litmus FILE.litmus.. [--prove [-o OUTLINE] [--tries N]] [--runs] [--svg FILE.svg] [BOUNDS]"],
+        about: "litmus tests of C: all final states and whether the condition is so, in herd7's form",
+        options: &["--prove", "--runs", "--svg", "--tries", BOUNDS[0], BOUNDS[1], BOUNDS[2], BOUNDS[3]],
+        run: litmus::run,
+    },
+    Command {
+        name: "import",
+        usage: &["import FILE.c -o OUTLINE [--threads NAME,NAME] [--cpp \"-DN=2 -Iinclude\"] [BOUNDS]"],
+        about: "the threads of a C file as an outline with holes, labels from its lines and assertions from its comments",
+        options: &["--threads", "--cpp", BOUNDS[0], BOUNDS[1], BOUNDS[2], BOUNDS[3]],
+        run: import::run,
+    },
+    Command {
+        name: "same",
+        usage: &["same FILE.c IMAGE [--threads NAME,NAME] [--cpp \"-DN=2 -Iinclude\"] [BOUNDS]"],
+        about: "is the image's program the program of the C file, instruction by instruction?",
+        options: &["--threads", "--cpp", BOUNDS[0], BOUNDS[1], BOUNDS[2], BOUNDS[3]],
+        run: same::run,
+    },
+    Command {
+        name: "export",
+        usage: &["export --litmus FILE [-o FILE.litmus] [--outcome \"a = 1 and x = 0\"] [BOUNDS]"],
+        about: "the program as a litmus test that herd7 reads",
+        options: &["--litmus", "--outcome", BOUNDS[0], BOUNDS[1], BOUNDS[2], BOUNDS[3]],
+        run: export::run,
     },
     Command {
         name: "report",
@@ -117,7 +145,7 @@ const COMMANDS: [Command; 13] = [
     },
 ];
 
-const OPTIONS: [(&str, &str); 21] = [
+const OPTIONS: [(&str, &str); 26] = [
     ("--image", "writes the image that the page is about, or of what was inferred, too"),
     ("--tries", "N, a bound: ends the inference after so many tries; 2000000"),
     ("--date", "the page's date; else that of SOURCE_DATE_EPOCH, else the clock's, in UTC"),
@@ -132,7 +160,12 @@ const OPTIONS: [(&str, &str); 21] = [
          values; and or /\\, or or \\/, not or ~; with exists, ~exists or forall in front",
     ),
     ("--outcomes", "all final states: registers, and the last value of each word"),
-    ("--runs", "tells a shortest run to each of them"),
+    ("--runs", "tells a shortest run to each final state"),
+    ("--prove", "infers and judges an outline for what never happens, or always; -o writes it"),
+    ("--threads", "the functions that are threads, in their order; else all but main that name an atomic word"),
+    ("--cpp", "words for the C compiler's preprocessor"),
+    ("--litmus", "as a litmus test of C, in herd7's form"),
+    ("--svg", "draws the run that decides the condition"),
     ("--steps", "N, a bound: steps of a run; 24 [24], at most 10000"),
     ("--writes", "N, a bound: writes in a word's row, the first among them; 6 [6], at most 200"),
     ("--starts", "N, a bound: start states, where registers are open; 4096 [64], at most 1048576"),
@@ -140,7 +173,7 @@ const OPTIONS: [(&str, &str); 21] = [
         "--states",
         "N, a bound: states that are kept; 2000000 [30000], at most 8000000. Of bytes of states, 40 or so for each and for\n              \
          each write one more than there are words, 512 MiB are kept and no more: memory stays under 1 GB.\n              \
-         Each number is for explore and draw --outcome, in brackets for a run that breaks something",
+         Each number is for explore and draw --outcome (litmus, import, same: 100, 8, 1, 2000000), in brackets for a run that breaks something",
     ),
     ("--tariff", "lines `start 10`, `step 25`, `taken 25`, `interference 40`, `least 500`, in cents; # begins a comment"),
     ("--billed", "how many images are billed already (0)"),

@@ -23,6 +23,11 @@ pub struct Options {
     pub outcome: Option<String>,
     pub outcomes: bool,
     pub runs: bool,
+    pub prove: bool,
+    pub litmus: bool,
+    pub threads: Option<String>,
+    pub cpp: Option<String>,
+    pub svg: Option<String>,
     pub steps: Option<usize>,
     pub writes: Option<usize>,
     pub starts: Option<usize>,
@@ -80,6 +85,11 @@ impl Options {
                 "--claims" => options.claims = true,
                 "--outcomes" => options.outcomes = true,
                 "--runs" => options.runs = true,
+                "--prove" => options.prove = true,
+                "--litmus" => options.litmus = true,
+                "--threads" => options.threads = Some(value()?.into()),
+                "--cpp" => options.cpp = Some(value()?.into()),
+                "--svg" => options.svg = Some(value()?.into()),
                 file => options.files.push(file.into()),
             }
         }

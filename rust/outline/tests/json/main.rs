@@ -67,7 +67,7 @@ fn commands_that_accept_fit_the_schema() {
     let (old, new) = (example("update/old"), example("update/new"));
     let (handed, table) = (folder.file("new.image"), folder.file("new.table"));
     let asked = folder.with("asked.program", ASKED);
-    let commands: [&[&str]; 15] = [
+    let commands: [&[&str]; 18] = [
         &["build", &text, "-o", &image],
         &["infer", &asked, "-o", &folder.file("found.outline")],
         &["check", &text, &image],
@@ -77,6 +77,9 @@ fn commands_that_accept_fit_the_schema() {
         &["explore", &text, "--outcome", "b = 1"],
         &["explore", &text, "--outcome", "forall (b = 1)"],
         &["explore", &text, "--outcomes", "--runs"],
+        &["litmus", &litmus("MP+ra"), "--prove", "--runs"],
+        &["litmus", &litmus("CoWW")],
+        &["export", "--litmus", &text],
         &["report", &text, "-o", &page],
         &["draw", &text, "-o", &folder.file("r.svg")],
         &["trim", &image, "-o", &small],
@@ -93,6 +96,10 @@ fn commands_that_accept_fit_the_schema() {
     );
 }
 
+fn litmus(name: &str) -> String {
+    format!("{}/litmus/{name}.litmus", folder_of_examples())
+}
+
 fn folder_of_examples() -> String {
     concat!(env!("CARGO_MANIFEST_DIR"), "/../../examples").into()
 }
@@ -104,7 +111,10 @@ fn commands_that_refuse_fit_the_schema() {
     let tariff = folder.with("tariff", "start 1\nstep 2\ntaken 3\ninterference 4\nleast 5\n");
     let cut = folder.with("cut.image", "\0");
     let broken = folder.with("broken.program", &ASKED.replace("flag :=rel 1", "flag := 1"));
-    let commands: [&[&str]; 14] = [
+    let damaged = folder.with("damaged.litmus", "C damaged\n{}\nP0 (atomic_int* x) { x = ");
+    let commands: [&[&str]; 16] = [
+        &["litmus", &litmus("SB")],
+        &["litmus", &litmus("MP+ra"), &damaged],
         &["infer", &broken, "-o", &folder.file("none.outline")],
         &["build", &broken, "-o", &folder.file("none.image")],
         &["build", &wrong, "-o", &image],
