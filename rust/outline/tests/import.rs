@@ -110,7 +110,19 @@ fn auxiliary_registers_are_left_out() {
 }
 
 /// A body, and the line and the reason of its refusal. The body begins at line 5.
-const REFUSED: [(&str, usize, &str); 19] = [
+const REFUSED: [(&str, usize, &str); 23] = [
+    ("static int r = 0; r = 1;", 5, "`r` is no number of this function's own"),
+    (
+        "int x = 1; int r = atomic_load_explicit(&x, memory_order_relaxed);",
+        5,
+        "`x` is a variable of this function here",
+    ),
+    ("int memory_order_relaxed = 0;", 5, "the name of an access or an order"),
+    (
+        "int r = READ_ONCE(x); atomic_store_explicit(&x, r, memory_order_release);",
+        5,
+        "by a dependency or not at all",
+    ),
     ("x = 1;", 5, "a plain access to `x`"),
     ("int r = x;", 5, "a plain access to `x`"),
     ("plain = 1;", 5, "`plain` is no variable of this function"),
@@ -195,6 +207,15 @@ fn threads_are_those_that_are_named() {
     );
     let (status, _, err) = run(&["import", &file, "-o", &folder.file("none"), "--threads", "d"]);
     assert!(status == 2 && err.contains("there is no function `d` with a body"), "{err}");
+    // A function that two threads run is named twice.
+    let (status, told, _) = run(&["import", &file, "-o", &out, "--threads", "c,c"]);
+    assert!(status == 0 && told.contains("2 threads (c, c)"), "{told}");
+    let text = std::fs::read_to_string(&out).expect("written");
+    assert!(text.contains("\nthread c\n") && text.contains("\nthread c_2\n"), "{text}");
+    assert_eq!(run(&["same", &file, &out, "--threads", "c,c"]).0, 0);
+    let own = folder.with("own.c", "int atomic_load_explicit(int *p, int o);\n");
+    let (status, _, err) = run(&["import", &own, "-o", &folder.file("none")]);
+    assert!(status == 2 && err.contains("the name of an access or an order"), "{err}");
     let none = folder.with("n.c", "int main(void) { return 0; }\n");
     let (status, _, err) = run(&["import", &none, "-o", &folder.file("none")]);
     assert!(status == 2 && err.contains("there is no thread"), "{err}");

@@ -105,7 +105,8 @@ fn a_proof_is_an_outline_that_is_accepted() {
 }
 
 /// A body of P0, and where and why it is refused.
-const REFUSED: [(&str, &str, &str); 23] = [
+const REFUSED: [(&str, &str, &str); 24] = [
+    ("int r; if (r) atomic_store_explicit(x, 1, memory_order_relaxed);", "r)", "`r` may be read here before it has a value"),
     ("atomic_store_explicit(x, 1, memory_order_seq_cst);", "memory_order_seq_cst", "seq_cst accesses have no counterpart"),
     ("atomic_store(x, 1);", "atomic_store", "is seq_cst"),
     ("int r = atomic_fetch_add(x, 1);", "atomic_fetch_add", "is seq_cst"),

@@ -140,6 +140,13 @@ const REASONS: [(&[&str], &str); 6] = [
     ),
 ];
 
+/// Is this a name that C or the kernel gives to an access or an order, so that nothing else may have it?
+pub fn is_reserved(name: &str) -> bool {
+    let starts = ["atomic_", "memory_order_", "__atomic_"];
+    starts.iter().any(|start| name.starts_with(start))
+        || FUNCTIONS.iter().any(|function| function.name == name)
+}
+
 /// The access that a call is, or why it is none.
 pub fn call<'e>(words: &[Word], name: &str, parts: &'e [Expression], at: At) -> Read<Call<'e>> {
     let Some(function) = FUNCTIONS.iter().find(|function| function.name == name) else {

@@ -245,8 +245,11 @@ impl Lowering<'_> {
     }
 
     fn declare(&mut self, one: &Declaration) -> Read<()> {
-        if !one.of.is_register() || one.of.is_extern {
+        if !one.of.is_register() || one.of.is_extern || one.of.is_static {
             return refuse(one.at, format!("`{}` is no number of this function's own", one.name));
+        }
+        if access::is_reserved(&one.name) {
+            return refuse(one.at, format!("`{}` is the name of an access or an order", one.name));
         }
         let scope = self.scopes.last().is_some_and(|scope| scope.contains_key(&one.name));
         if scope {
@@ -276,9 +279,16 @@ impl Lowering<'_> {
     fn call<'e>(&self, name: &str, parts: &'e [Expression], at: At) -> Read<Call<'e>> {
         let call = access::call(self.words, name, parts, at)?;
         let word = &self.words[usize::from(call.word) - 1];
-        match word.is_pointer && !self.parameters.contains(&word.name) {
-            true => refuse(parts[0].at, format!("`{}` is no parameter of this thread", word.name)),
-            false => Ok(call),
+        let (name, at) = (&word.name, parts[0].at);
+        match (word.is_pointer, self.parameters.contains(name)) {
+            _ if self.register(name).is_some() => {
+                refuse(at, format!("`{name}` is a variable of this function here, and no word"))
+            }
+            (true, false) => refuse(at, format!("`{name}` is no parameter of this thread")),
+            (false, true) => {
+                refuse(at, format!("`{name}` is a parameter of this function, and no word"))
+            }
+            _ => Ok(call),
         }
     }
 

@@ -1,11 +1,12 @@
 //! C as far as programs of the machine go: thread functions with atomic accesses, and nothing that is only nearly like them.
 //!
-//! `lex` has the tokens, `tree` what they say, `types` and `parse` read them, `access` knows the functions that access words,
-//! `lower` turns a function into instructions, `order` asks whether a read-modify-write fits, `program` puts threads
-//! together, `text` writes them as an outline, and `values` asks whether values stay in a range. What is not known is refused
-//! at its place.
+//! `lex` has the tokens, `tree` what they say, `types`, `parse` and `statement` read them, `access` knows the functions that
+//! access words, `lower` turns a function into instructions, `assigned` asks whether variables have values where they are
+//! read, `order` whether a read-modify-write fits, `values` whether values stay in a range; `program` puts threads together,
+//! and `text` writes them as an outline. What is not known is refused at its place.
 
 pub mod access;
+pub mod assigned;
 pub mod lex;
 pub mod lower;
 pub mod order;

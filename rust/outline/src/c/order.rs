@@ -76,11 +76,13 @@ fn kernel_load(code: &Code, point: usize) -> Read<()> {
     if placed.order != Some((Order::Relaxed, true)) {
         return Ok(());
     }
-    let writes_other = |other: &&usize| match code.placed[**other].instruction.access() {
+    let is_ordered_otherwise = |other: &&usize| match code.placed[**other].instruction.access() {
         None | Some(Access::Load { .. }) => false,
-        Some(access) => access.word() != *word,
+        // Coherence keeps a relaxed store to the same word behind, in both models.
+        Some(Access::Store { word: other, releasing: false, .. }) => other != word,
+        Some(_) => true,
     };
-    match behind(code, point).iter().find(writes_other) {
+    match behind(code, point).iter().find(is_ordered_otherwise) {
         None => Ok(()),
         Some(other) => refuse(
             code.placed[*other].at,
@@ -90,5 +92,70 @@ fn kernel_load(code: &Code, point: usize) -> Read<()> {
                 placed.at.place.line
             ),
         ),
+    }
+}
+
+#[cfg(test)]
+mod tests {
+    use crate::litmus::read::read;
+    use reference::explore::Bounds;
+
+    fn refused(body: &str) -> Option<String> {
+        let text =
+            format!("C t\n{{}}\nP0 (atomic_int* x, atomic_int* y) {{ {body} }}\nexists (true)\n");
+        read(&text, Bounds::DEFAULT).err().map(|refusal| refusal.text)
+    }
+
+    const LOAD: &str = "int a = atomic_load_explicit(y, memory_order_relaxed);";
+
+    /// An exchange of this order.
+    fn exchange(order: &str) -> String {
+        format!("int r = atomic_exchange_explicit(x, 1, memory_order_{order});")
+    }
+
+    #[test]
+    fn weaker_read_modify_writes_fit_at_the_ends_of_a_thread() {
+        for (order, before, behind) in [
+            ("acq_rel", true, true),
+            ("acquire", false, true),
+            ("release", true, false),
+            ("relaxed", false, false),
+        ] {
+            let one = exchange(order);
+            assert_eq!(refused(&one), None, "{order} alone");
+            assert_eq!(
+                refused(&format!("{LOAD} {one}")).is_none(),
+                before,
+                "{order} behind a load"
+            );
+            assert_eq!(
+                refused(&format!("{one} {LOAD}")).is_none(),
+                behind,
+                "{order} before a load"
+            );
+        }
+        // In a loop it comes before and behind itself.
+        let spin = "while (atomic_exchange_explicit(x, 1, memory_order_acquire)) { }";
+        assert!(refused(spin).is_some_and(|why| why.contains("only acquires")));
+        assert!(refused(&spin.replace("acquire", "acq_rel")).is_none());
+    }
+
+    #[test]
+    fn a_store_behind_read_once_is_refused_but_for_a_relaxed_one_to_the_same_word() {
+        let behind = |store: &str| refused(&format!("int r = READ_ONCE(*x); {store}"));
+        assert_eq!(behind("WRITE_ONCE(*x, 2);"), None);
+        for store in [
+            "WRITE_ONCE(*y, 1);",
+            "if (r) WRITE_ONCE(*y, 1);",
+            "smp_store_release(x, 2);",
+            "xchg_release(x, 1);",
+        ] {
+            assert!(
+                behind(store).is_some_and(|why| why.contains("by a dependency or not at all")),
+                "{store}"
+            );
+        }
+        assert_eq!(refused("int r = smp_load_acquire(x); WRITE_ONCE(*y, 1);"), None);
+        assert_eq!(refused("WRITE_ONCE(*y, 1); int r = READ_ONCE(*x);"), None);
     }
 }

@@ -14,6 +14,8 @@ pub struct Type {
     pub most: Option<u8>,
     /// Is it declared elsewhere, so that nothing says where it begins?
     pub is_extern: bool,
+    /// Does it outlive its function's calls?
+    pub is_static: bool,
 }
 
 impl Type {
@@ -122,8 +124,14 @@ pub fn is_type(name: &str) -> bool {
 /// Reads a type with its `*`s.
 pub fn of(parser: &mut Parser) -> Read<Type> {
     let at = parser.here();
-    let mut found =
-        Type { name: String::new(), is_atomic: false, pointers: 0, most: None, is_extern: false };
+    let mut found = Type {
+        name: String::new(),
+        is_atomic: false,
+        pointers: 0,
+        most: None,
+        is_extern: false,
+        is_static: false,
+    };
     let mut is_named = false;
     while let Kind::Name(name) = parser.peek().clone() {
         if !is_type(&name) {
@@ -146,6 +154,7 @@ pub fn of(parser: &mut Parser) -> Read<Type> {
 /// What one name says of a type; does it name one?
 fn specified(parser: &mut Parser, found: &mut Type, name: &str) -> Read<bool> {
     if PASSED.contains(&name) {
+        found.is_static |= name == "static";
         return Ok(false);
     }
     if REFUSED.contains(&name) {

@@ -207,27 +207,31 @@ fn too_great(whole: &Whole, program: &Program, state: &State, most: &Cell<u8>) -
     let kept = words.find(|(word, value)| over((*value, word.most)));
     let at = local.map(|(local, _)| local.at).or(kept.map(|(word, _)| word.at));
     at.or_else(|| {
-        program.thread_numbers().find_map(|thread| sum_too_great(whole, program, state, thread))
+        let worked = program.thread_numbers().zip(&whole.functions).map(|(thread, function)| {
+            let value = greatest_worked(program, state, thread);
+            most.set(most.get().max(value.min(u32::from(MOST)) as u8));
+            (value, function, usize::from(state.points[usize::from(thread) - 1]))
+        });
+        let mut great = worked.filter(|(value, ..)| *value > u32::from(MOST));
+        great.next().map(|(_, function, point)| function.code.placed[point].at)
     })
 }
 
-/// Where the next step of a thread works out a sum that is too great.
-fn sum_too_great(whole: &Whole, program: &Program, state: &State, thread: u8) -> Option<At> {
-    let index = usize::from(thread) - 1;
-    let point = state.points[index];
-    let instruction = program.instruction(thread, point)?;
-    let mut worked = values_of(instruction).into_iter().map(|value| exact(&value, state));
-    let is_sum = match instruction.access() {
+/// The greatest value that the next step of a thread may work out.
+fn greatest_worked(program: &Program, state: &State, thread: u8) -> u32 {
+    let point = state.points[usize::from(thread) - 1];
+    let Some(instruction) = program.instruction(thread, point) else { return 0 };
+    let sum = match instruction.access() {
         Some(Access::FetchAdd { word, value, .. }) => {
             let from = usize::from(state.view(thread).at(*word));
             let free = state.row(*word)[from..].iter().filter(|write| !write.covered);
             let old = free.map(|write| u32::from(write.value)).max();
-            old.unwrap_or(0) + exact(value, state) > u32::from(MOST)
+            old.unwrap_or(0) + exact(value, state)
         }
-        _ => false,
+        _ => 0,
     };
-    let is_great = is_sum || worked.any(|value| value > u32::from(MOST));
-    is_great.then(|| whole.functions[index].code.placed[usize::from(point)].at)
+    let worked = values_of(instruction).into_iter().map(|value| exact(&value, state));
+    worked.chain([sum]).max().unwrap_or(0)
 }
 
 /// A value without wrapping round.
@@ -237,5 +241,58 @@ fn exact(value: &Value, state: &State) -> u32 {
         Value::Register(number) => u32::from(state.registers[usize::from(*number) - 1]),
         Value::Word(_) => 0,
         Value::Sum(a, b) => exact(a, state) + exact(b, state),
+    }
+}
+
+#[cfg(test)]
+mod tests {
+    use super::*;
+    use crate::litmus::read::read;
+
+    const BOUNDS: Bounds = Bounds { steps: 60, writes: 6, starts: 1, states: 100_000 };
+
+    fn fits(body: &str) -> Result<Fits, String> {
+        let text = format!(
+            "C t\n{{ [x]=0; }}\nP0 (atomic_int* x) {{ {body} }}\n\
+             P1 (atomic_int* x) {{ int s = atomic_load_explicit(x, memory_order_relaxed); }}\nexists (true)\n"
+        );
+        read(&text, BOUNDS).map(|test| test.fits).map_err(|refusal| refusal.text)
+    }
+
+    #[test]
+    fn the_range_is_the_least_that_holds_all_values() {
+        let by_values = |range| Ok(Fits { range, by: By::Values });
+        assert_eq!(fits("atomic_store_explicit(x, 3, memory_order_relaxed);"), by_values(4));
+        assert_eq!(fits("int r = 1; r = r + 1;").map(|fits| fits.range), Ok(3));
+        // The sum of a test counts too: with a range of 5 it would be 0.
+        let tested =
+            "int r = 0; if (atomic_load_explicit(x, memory_order_relaxed) + 4 == 5) r = 1;";
+        assert_eq!(
+            fits(&format!("atomic_store_explicit(x, 1, memory_order_relaxed); {tested}")),
+            by_values(6)
+        );
+        let counted = "int i = 0; while (i < 3) { i++; } if (i + 4 == 5) i = 0;";
+        let found = fits(counted).expect("all states are seen");
+        assert!(found.range == 8 && matches!(found.by, By::States(_)), "{found:?}");
+    }
+
+    #[test]
+    fn what_gets_too_great_or_is_not_known_is_refused() {
+        let great = fits("int i = 1; while (i < 15) { i = i + i; }").expect_err("16 is reached");
+        assert!(great.contains("does not hold"), "{great}");
+        let bool_2 = fits("bool b = 0; b = 2;").expect_err("a bool holds 1 at most");
+        assert!(bool_2.contains("does not hold"), "{bool_2}");
+        let spin =
+            "for (;;) { atomic_store_explicit(x, 1, memory_order_relaxed); int i = 1; i++; }";
+        let not_known = fits(spin).expect_err("rows grow without end");
+        assert!(not_known.contains("is not known"), "{not_known}");
+    }
+
+    #[test]
+    fn sums_of_sets_are_sums_of_their_values() {
+        assert_eq!(sums(0b11, 0b100), 0b1100);
+        assert_eq!(sums(1 << 15, 0b10), TOO_GREAT);
+        assert_eq!(sums(TOO_GREAT, 1), TOO_GREAT);
+        assert_eq!(sums(0, 0b10), 0);
     }
 }

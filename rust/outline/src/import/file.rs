@@ -1,6 +1,6 @@
 //! A C file: its words, its functions, and what stands behind `//@` outside of them.
 
-use crate::c::access::Word;
+use crate::c::access::{is_reserved, Word};
 use crate::c::lex::{Kind, Token};
 use crate::c::parse::Parser;
 use crate::c::tree::{self, Declaration, Expression, Node};
@@ -125,6 +125,9 @@ impl File {
 
     fn function(&mut self, parser: &mut Parser, name: String, at: At) -> Read<()> {
         let parameters = parameters(parser)?;
+        if is_reserved(&name) {
+            return refuse(at, format!("`{name}` is the name of an access or an order"));
+        }
         if parser.take(";") {
             return Ok(());
         }
@@ -139,6 +142,9 @@ impl File {
 
     /// An atomic number is a word; what else there is may not be accessed by threads.
     fn global(&mut self, one: Declaration) -> Read<()> {
+        if is_reserved(&one.name) {
+            return refuse(one.at, format!("`{}` is the name of an access or an order", one.name));
+        }
         let Some(most) = one.of.most.filter(|_| one.of.is_atomic && one.of.pointers == 0) else {
             return Ok(());
         };

@@ -1,6 +1,5 @@
 //! C files: preprocessed by the C compiler, read by the grammar of the subset, and written as an outline with holes.
 
-pub mod assigned;
 pub mod file;
 pub mod points;
 pub mod preprocess;
@@ -8,7 +7,7 @@ pub mod preprocess;
 use crate::c::lower::lower;
 use crate::c::program::{Function, Whole};
 use crate::c::values::{fitting, Fits};
-use crate::c::{order, refuse, Read};
+use crate::c::{assigned, order, refuse, Read};
 use file::File;
 use reference::explore::Bounds;
 

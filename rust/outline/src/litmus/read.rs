@@ -9,7 +9,7 @@ use crate::c::parse::Parser;
 use crate::c::program::{Function, Whole};
 use crate::c::tree::{self, Declaration};
 use crate::c::types::{self, MOST};
-use crate::c::{lower, order, refuse, values, At, Read};
+use crate::c::{assigned, lower, order, refuse, values, At, Read};
 use crate::text::lex::Place;
 use reference::explore::Bounds;
 
@@ -25,6 +25,7 @@ pub fn read(text: &str, bounds: Bounds) -> Read<Litmus> {
         let before = functions.iter().map(|f| f.code.locals.len()).sum();
         let code = lower::lower(&words, before, &thread)?;
         order::check(&code)?;
+        assigned::check(&code, before)?;
         functions.push(Function { name: thread.name, code, at: thread.at });
     }
     let behind = parser.here();

@@ -1,7 +1,7 @@
 //! Is every variable given a value before it is read? In C one that is not holds anything, in the machine 0.
 
-use crate::c::lower::Code;
-use crate::c::{refuse, Read};
+use super::lower::Code;
+use super::{refuse, Read};
 use crate::terms::registers_of;
 use reference::formula::Formula;
 use reference::image::Instruction;
