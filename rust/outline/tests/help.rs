@@ -4,9 +4,9 @@ mod program;
 
 use program::{run, Folder};
 
-const COMMANDS: [&str; 12] = [
+const COMMANDS: [&str; 18] = [
     "build", "check", "show", "explain", "explore", "report", "draw", "trim", "bill", "replay",
-    "handover", "serve",
+    "handover", "serve", "infer", "litmus", "import", "same", "export", "watch",
 ];
 
 #[test]

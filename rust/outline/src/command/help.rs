@@ -2,7 +2,7 @@
 
 use crate::command::{
     bill, build, check, draw, explain, explore, export, handover, import, infer, litmus, print,
-    replay, report, same, serve, show, trim, Done, Status,
+    replay, report, same, serve, show, trim, watch, Done, Status,
 };
 use crate::text::nearest::nearest;
 
@@ -17,7 +17,7 @@ struct Command {
 
 const BOUNDS: [&str; 4] = ["--steps", "--writes", "--starts", "--states"];
 
-const COMMANDS: [Command; 17] = [
+const COMMANDS: [Command; 18] = [
     Command {
         name: "build",
         usage: &["build FILE.outline -o FILE.image [--partial] [--all] [--at THREAD:POINT] [--all-lines] [BOUNDS]"],
@@ -38,6 +38,13 @@ const COMMANDS: [Command; 17] = [
         about: "judges images and outlines, each by itself; of a folder those that are named .image or .outline",
         options: &[],
         run: check::run,
+    },
+    Command {
+        name: "watch",
+        usage: &["watch FILE.."],
+        about: "judges outlines and images again at each save, what is to be looked at first on top; until an interrupt",
+        options: &[],
+        run: watch::run,
     },
     Command {
         name: "show",
@@ -184,7 +191,7 @@ const OPTIONS: [(&str, &str); 26] = [
 ];
 
 const NOTES: &str = "\
-FILE, OLD and NEW are outlines or images; `-` is standard input, behind -o standard output. All take --json.
+FILE, OLD and NEW are outlines or images; `-` is standard input, behind -o standard output. All but watch take --json.
 What is written replaces a file of its own kind, never an input. Behind -- every word is a file.
 Status: 0 accepted; true or never in all states. 1 refused, open, false or happens. 2 wrong use, or a file that cannot be
 read or written. 3 no run was found, and a bound kept some state from being looked at; or nothing was inferred.

@@ -36,6 +36,7 @@ pub mod spread;
 pub mod trim;
 pub mod trimmer;
 pub mod truth;
+pub mod watch;
 pub mod words;
 
 use std::io::Write;
