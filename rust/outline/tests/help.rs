@@ -4,9 +4,9 @@ mod program;
 
 use program::{run, Folder};
 
-const COMMANDS: [&str; 18] = [
+const COMMANDS: [&str; 19] = [
     "build", "check", "show", "explain", "explore", "report", "draw", "trim", "bill", "replay",
-    "handover", "serve", "infer", "litmus", "import", "same", "export", "watch",
+    "handover", "serve", "infer", "litmus", "import", "same", "export", "watch", "fmt",
 ];
 
 #[test]

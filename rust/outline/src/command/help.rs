@@ -1,8 +1,8 @@
 //! The commands by their names, and what is said of them.
 
 use crate::command::{
-    bill, build, check, draw, explain, explore, export, handover, import, infer, litmus, print,
-    replay, report, same, serve, show, trim, watch, Done, Status,
+    bill, build, check, draw, explain, explore, export, fmt, handover, import, infer, litmus,
+    print, replay, report, same, serve, show, trim, watch, Done, Status,
 };
 use crate::text::nearest::nearest;
 
@@ -17,7 +17,7 @@ struct Command {
 
 const BOUNDS: [&str; 4] = ["--steps", "--writes", "--starts", "--states"];
 
-const COMMANDS: [Command; 18] = [
+const COMMANDS: [Command; 19] = [
     Command {
         name: "build",
         usage: &["build FILE.outline -o FILE.image [--partial] [--all] [--at THREAD:POINT] [--all-lines] [BOUNDS]"],
@@ -45,6 +45,13 @@ const COMMANDS: [Command; 18] = [
         about: "judges outlines and images again at each save, what is to be looked at first on top; until an interrupt",
         options: &[],
         run: watch::run,
+    },
+    Command {
+        name: "fmt",
+        usage: &["fmt FILE.outline [-o OUTLINE]", "fmt FILE.outline --check"],
+        about: "the layout of an outline's text; its words and comments stay",
+        options: &["--check"],
+        run: fmt::run,
     },
     Command {
         name: "show",
@@ -152,7 +159,7 @@ const COMMANDS: [Command; 18] = [
     },
 ];
 
-const OPTIONS: [(&str, &str); 26] = [
+const OPTIONS: [(&str, &str); 27] = [
     ("--image", "writes the image that the page is about, or of what was inferred, too"),
     ("--tries", "N, a bound: ends the inference after so many tries; 2000000"),
     ("--date", "the page's date; else that of SOURCE_DATE_EPOCH, else the clock's, in UTC"),
@@ -171,6 +178,7 @@ const OPTIONS: [(&str, &str); 26] = [
     ("--prove", "infers and judges an outline for what never happens, or always; -o writes it"),
     ("--threads", "the functions that are threads, in their order; else all but main that name an atomic word"),
     ("--cpp", "words for the C compiler's preprocessor"),
+    ("--check", "says whether the text has its layout, and writes nothing"),
     ("--litmus", "as a litmus test of C, in herd7's form"),
     ("--svg", "draws the run that decides the condition"),
     ("--steps", "N, a bound: steps of a run; 24 [24], at most 10000"),

@@ -9,6 +9,7 @@ pub mod explain;
 pub mod explore;
 pub mod export;
 pub mod finding;
+pub mod fmt;
 pub mod gather;
 pub mod handover;
 pub mod help;

@@ -67,7 +67,10 @@ fn commands_that_accept_fit_the_schema() {
     let (old, new) = (example("update/old"), example("update/new"));
     let (handed, table) = (folder.file("new.image"), folder.file("new.table"));
     let asked = folder.with("asked.program", ASKED);
-    let commands: [&[&str]; 18] = [
+    let code =
+        "atomic_int x;\nvoid t(void) { atomic_store_explicit(&x, 1, memory_order_relaxed); }\n";
+    let code = folder.with("code.c", code);
+    let commands: [&[&str]; 21] = [
         &["build", &text, "-o", &image],
         &["infer", &asked, "-o", &folder.file("found.outline")],
         &["check", &text, &image],
@@ -80,6 +83,9 @@ fn commands_that_accept_fit_the_schema() {
         &["litmus", &litmus("MP+ra"), "--prove", "--runs"],
         &["litmus", &litmus("CoWW")],
         &["export", "--litmus", &text],
+        &["import", &code, "-o", &folder.file("code.program")],
+        &["same", &code, &folder.file("code.program")],
+        &["fmt", &text],
         &["report", &text, "-o", &page],
         &["draw", &text, "-o", &folder.file("r.svg")],
         &["trim", &image, "-o", &small],
@@ -112,9 +118,13 @@ fn commands_that_refuse_fit_the_schema() {
     let cut = folder.with("cut.image", "\0");
     let broken = folder.with("broken.program", &ASKED.replace("flag :=rel 1", "flag := 1"));
     let damaged = folder.with("damaged.litmus", "C damaged\n{}\nP0 (atomic_int* x) { x = ");
-    let commands: [&[&str]; 16] = [
+    let code =
+        "atomic_int x;\nvoid t(void) { atomic_store_explicit(&x, 1, memory_order_relaxed); }\n";
+    let (code, text) = (folder.with("code.c", code), example("polling"));
+    let commands: [&[&str]; 17] = [
         &["litmus", &litmus("SB")],
         &["litmus", &litmus("MP+ra"), &damaged],
+        &["same", &code, &text],
         &["infer", &broken, "-o", &folder.file("none.outline")],
         &["build", &broken, "-o", &folder.file("none.image")],
         &["build", &wrong, "-o", &image],
