@@ -4,9 +4,9 @@ mod program;
 
 use program::{run, Folder};
 
-const COMMANDS: [&str; 19] = [
-    "build", "check", "show", "explain", "explore", "report", "draw", "trim", "bill", "replay",
-    "handover", "serve", "infer", "litmus", "import", "same", "export", "watch", "fmt",
+const COMMANDS: [&str; 20] = [
+    "build", "infer", "check", "show", "explain", "explore", "report", "draw", "trim", "bill",
+    "replay", "handover", "serve", "migrate", "litmus", "import", "same", "export", "watch", "fmt",
 ];
 
 #[test]

@@ -2,7 +2,7 @@
 
 use crate::command::{
     bill, build, check, draw, explain, explore, export, fmt, handover, import, infer, litmus,
-    print, replay, report, same, serve, show, trim, watch, Done, Status,
+    migrate, print, replay, report, same, serve, show, trim, watch, Done, Status,
 };
 use crate::text::nearest::nearest;
 
@@ -17,7 +17,7 @@ struct Command {
 
 const BOUNDS: [&str; 4] = ["--steps", "--writes", "--starts", "--states"];
 
-const COMMANDS: [Command; 19] = [
+const COMMANDS: [Command; 20] = [
     Command {
         name: "build",
         usage: &["build FILE.outline -o FILE.image [--partial] [--all] [--at THREAD:POINT] [--all-lines] [BOUNDS]"],
@@ -157,11 +157,18 @@ const COMMANDS: [Command; 19] = [
         options: &[],
         run: serve::run,
     },
+    Command {
+        name: "migrate",
+        usage: &["migrate STEP FILE.image -o FILE.image", "migrate STEP --set SET -o SET"],
+        about: "an image of an earlier layout in the next one; steps, in their order: range, marks, actors; of a set also lengths",
+        options: &["--set"],
+        run: migrate::run,
+    },
 ];
 
-const OPTIONS: [(&str, &str); 27] = [
+const OPTIONS: [(&str, &str); 28] = [
     ("--image", "writes the image that the page is about, or of what was inferred, too"),
-    ("--tries", "N, a bound: ends the inference after so many tries; 2000000"),
+    ("--tries", "N, a bound: ends the inference after so many tries; 1200000"),
     ("--date", "the page's date; else that of SOURCE_DATE_EPOCH, else the clock's, in UTC"),
     ("--partial", "writes an image with open obligations and claims too"),
     ("--all", "tells all open obligations and claims in full"),
@@ -195,6 +202,7 @@ const OPTIONS: [(&str, &str); 27] = [
     ("--given", "what open registers hold at the start (0)"),
     ("--entries", "room for so many writes (64)"),
     ("--table", "for each old point a new point and a line of the new image, three bytes"),
+    ("--set", "the file is a stored set of images with their verdicts"),
     ("--map", "where an old point goes on, points by number or label; the others are proposed"),
 ];
 
@@ -273,6 +281,6 @@ mod tests {
             );
         }
         let told = |name: &&str| OPTIONS.iter().any(|(other, _)| other == name);
-        assert!(COMMANDS.iter().all(|command| command.options.iter().all(|name| told(name))));
+        assert!(COMMANDS.iter().all(|command| command.options.iter().all(told)));
     }
 }

@@ -42,6 +42,7 @@ pub struct Options {
     pub date: Option<String>,
     pub map: Vec<String>,
     pub tries: Option<u64>,
+    pub set: bool,
 }
 
 impl Options {
@@ -92,6 +93,7 @@ impl Options {
                 "--threads" => options.threads = Some(value()?.into()),
                 "--cpp" => options.cpp = Some(value()?.into()),
                 "--svg" => options.svg = Some(value()?.into()),
+                "--set" => options.set = true,
                 file => options.files.push(file.into()),
             }
         }

@@ -70,7 +70,7 @@ fn commands_that_accept_fit_the_schema() {
     let code =
         "atomic_int x;\nvoid t(void) { atomic_store_explicit(&x, 1, memory_order_relaxed); }\n";
     let code = folder.with("code.c", code);
-    let commands: [&[&str]; 21] = [
+    let commands: [&[&str]; 22] = [
         &["build", &text, "-o", &image],
         &["infer", &asked, "-o", &folder.file("found.outline")],
         &["check", &text, &image],
@@ -92,6 +92,7 @@ fn commands_that_accept_fit_the_schema() {
         &["bill", &text, "--tariff", &tariff],
         &["replay", &text, &trace],
         &["handover", &old, &new, "-o", &handed, "--table", &table],
+        &["migrate", "actors", &image, "-o", &folder.file("m.image")],
     ];
     for args in commands {
         answers(args);
