@@ -1,5 +1,5 @@
 //! The program `outline`: builds, infers, judges, shows, explains, explores, draws, trims, bills, replays, hands over
-//! and serves proof outlines.
+//! and serves proof outlines, and reads litmus tests and C.
 
 use outline::command::{complain, help, json, names, Status};
 use std::process::ExitCode;

@@ -15,6 +15,7 @@ pub enum Kind {
     Drawing,
     Table,
     Outline,
+    Litmus,
     Set,
 }
 
@@ -26,6 +27,7 @@ impl Kind {
             Kind::Drawing => "drawing",
             Kind::Table => "table",
             Kind::Outline => "outline",
+            Kind::Litmus => "litmus test",
             Kind::Set => "stored set",
         }
     }
@@ -39,6 +41,7 @@ impl Kind {
             Kind::Image => front.get(2..4) == Some(&[1, 0]),
             Kind::Page => text().starts_with("<!doctype html") || text().starts_with("<html"),
             Kind::Drawing => text().starts_with("<svg"),
+            Kind::Litmus => text().starts_with("c "),
             // A text that is neither a page nor a drawing.
             Kind::Outline => {
                 let is_text = !front.contains(&0) && !Kind::Page.fits(front);
