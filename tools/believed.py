@@ -13,13 +13,27 @@ library (numbers, lists, Booleans, paths) are not followed.
 import os
 import re
 import sys
+import textwrap
 
 ROOT = os.path.dirname(os.path.dirname(os.path.abspath(__file__)))
 TABLE = os.path.join(ROOT, "docs", "BELIEVED.md")
 
+# the records by which the contracts of the service's entry points speak
+SERVED = ("CheckServed", "TrimServed", "BillServed", "HandoverServed", "ReplayServed", "AcrossServed")
+SERVICE = [("service_spec", "Promise", name) for name in SERVED] + [("service_spec", "Opening", "serviceFor")]
+
 # a statement: what it is called, and the definitions that a contract states it by
 STATEMENTS = [
-    ("Demand 3, `check_image`: an accepted image is true in every run", [("source", "TrueFor", "TrueFor")]),
+    ("Demand 3: an accepted image is true in every run, format included", [("source", "TrueFor", "TrueFor")]),
+    ("Demand 2: obligations, rules and claims", [("source", "Means", "Means"), ("logic_outline", "Judged", "Judged")]),
+    ("The verdict's words for them", [("checker_spec", "Promise", "SourceJudged")]),
+    ("Demand 1: faults in form, the record's bytes, and demands 2 and 3 by decoding", [("checker_spec", "Promise", "Promise")]),
+    ("Bills", [("bill_spec", "Promise", "Promise"), ("bill_spec", "Promise", "Written")]),
+    ("`trim_image`", [("trim", "Promise", "Promise")]),
+    ("`replay_trace` and `replay_into`", [("replay_spec", "Promise", "Written"), ("replay_spec", "Promise", "Into")]),
+    ("`check_handover`", [("handover_spec", "Promise", "Promise")]),
+    ("`replay_handover`", [("handover_replay", "Promise", "Written")]),
+    ("The calls of a service", SERVICE),
 ]
 
 SPLIT = re.compile(r"[\s(){}\[\],;]+")
@@ -347,21 +361,33 @@ def rows(modules):
         yield title, names, reached, numbers
 
 
+def named_by(names):
+    """The definitions of a statement, by their files."""
+    places = {}
+    for crate, module, name in names:
+        places.setdefault("%s/specs/%s" % (crate, module), []).append("`%s`" % name)
+    return "; ".join("%s (`crates/%s`)" % (", ".join(found), place) for place, found in places.items())
+
+
+INTRODUCTION = """# What must be believed, counted
+
+`tools/believed.py` writes this page, and `tools/believed.py --check` fails if it is not what the definitions give. Names are followed, not
+files: from the definitions by which a contract states something to all that they name, to the last. Lines are those of the definitions
+reached, without imports, blank lines and comments; comments are counted apart. Each row is besides the rows above it. What the kit's
+library defines (numbers, lists, Booleans, paths) is not counted.
+
+| Statement | definitions | lines | comments | files |
+|---|---|---|---|---|
+"""
+
+
 def page(modules):
-    lines = [
-        "# What must be believed, counted",
-        "",
-        "`tools/believed.py` writes this page and `tools/believed.py --check` holds it to the definitions. It follows names from the statement",
-        "that a contract makes: definitions, their lines without imports, blank lines and comments, and their comments. Each row is besides the",
-        "rows above it. Names of the kit's library (numbers, lists, Booleans, paths) are not counted.",
-        "",
-        "| Statement | named by | definitions | lines | comments | files |",
-        "|---|---|---|---|---|---|",
-    ]
+    """The page: a row for each statement, and the definitions from which it is followed."""
+    table, places = [], []
     for title, names, _, numbers in rows(modules):
-        places = ", ".join("`%s/%s`: `%s`" % name for name in names)
-        lines.append("| %s | %s | %d | %d | %d | %d |" % ((title, places) + numbers))
-    return "\n".join(lines) + "\n"
+        table.append("| %s | %d | %d | %d | %d |" % ((title,) + numbers))
+        places += textwrap.wrap("- %s: %s" % (title, named_by(names)), 138, subsequent_indent="  ", break_long_words=False)
+    return INTRODUCTION + "\n".join(table) + "\n\nFollowed from:\n\n" + "\n".join(places) + "\n"
 
 
 def main():

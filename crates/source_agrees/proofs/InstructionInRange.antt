@@ -118,23 +118,21 @@ module _ (z : Sizes) (l : List (List ℕ)) (c : Checks z l) (t : Source)
 
   value-in : (k : ℕ) → There k → formulaSorted l Codes.value k ≡ true → formulaOwned l u k ≡ true → Val t u k
   value-in k w s o =
-      let p = formula-sorted z l c Codes.value k (w .0) s in
-      (
+      let p = formula-sorted z l c Codes.value k (w .0) s in (
         is-sorted Codes.value k w (p .0),
         subst (λ (f : Value). Numbers (Local t u) f) (sym (value-same z l c t same k (w .0) (w .1) (p .0)))
-        (value-local t (owners (getD l 0 [])) owns u thread (formula l Sort.value k) (value-regs z l c k (w .0) (w .1) (p .0) (p .1))
-        (not-foreign Codes.value k w (p .0) o)),
+            (value-local t (owners (getD l 0 [])) owns u thread (formula l Sort.value k) (value-regs z l c k (w .0) (w .1) (p .0) (p .1))
+            (not-foreign Codes.value k w (p .0) o)),
       )
 
   test-in : (k : ℕ) → There k → formulaSorted l Codes.test k ≡ true → formulaOwned l u k ≡ true
       → Is t Sort.test k × Numbers (Local t u) (test t k)
   test-in k w s o =
-      let p = formula-sorted z l c Codes.test k (w .0) s in
-      (
+      let p = formula-sorted z l c Codes.test k (w .0) s in (
         is-sorted Codes.test k w (p .0),
         subst (λ (f : Test). Numbers (Local t u) f) (sym (test-same z l c t same k (w .0) (w .1) (p .0)))
-        (test-local t (owners (getD l 0 [])) owns u thread (formula l Sort.test k) (test-regs z l c k (w .0) (w .1) (p .0) (p .1))
-        (not-foreign Codes.test k w (p .0) o)),
+            (test-local t (owners (getD l 0 [])) owns u thread (formula l Sort.test k) (test-regs z l c k (w .0) (w .1) (p .0) (p .1))
+            (not-foreign Codes.test k w (p .0) o)),
       )
 
   -- the result register is not in the operand
@@ -161,9 +159,10 @@ module _ (z : Sizes) (l : List (List ℕ)) (c : Checks z l) (t : Source)
 
       assigns-second : twofold (i .operation) ≡ true → Assigns t u (secondOf (i .second))
       assigns-second q =
-          let e = second z i q (ranged-both last z i (h .ranges) .1) in
-          (register-in (i .second .a) (e .register) (own .to),
-            value-in (i .second .formula) (e .formula) (sorted-both z l c i (h .sorts) .1) (own .by))
+          let e = second z i q (ranged-both last z i (h .ranges) .1) in (
+            register-in (i .second .a) (e .register) (own .to),
+            value-in (i .second .formula) (e .formula) (sorted-both z l c i (h .sorts) .1) (own .by),
+          )
 
       -- an assignment in the first half
       assigns-first : fieldsOf (i .operation) last z ≡ fieldsOf Opcode.assign last z → wanted (i .operation) ≡ Codes.value
@@ -191,8 +190,7 @@ module _ (z : Sizes) (l : List (List ℕ)) (c : Checks z l) (t : Source)
       unfolding fieldsOf
       returns q w e a =
           let g = fields-in i (fieldsOf Opcode.exchange last z) (fields (fieldsOf Opcode.exchange last z) q) in
-          let s = ap (λ (s : ℕ). formulaSorted l s (i .formula)) (sym w) ∙ sorted-both z l c i (h .sorts) .0 in
-          (
+          let s = ap (λ (s : ℕ). formulaSorted l s (i .formula)) (sym w) ∙ sorted-both z l c i (h .sorts) .0 in (
             (g .0 .0, omega (arith, g .0 .1, words)),
             register-in (i .b) (g .1 .0) (ap (registerOwned l u) (sym e) ∙ own .target),
             first-value w (g .2),
@@ -225,8 +223,7 @@ module _ (z : Sizes) (l : List (List ℕ)) (c : Checks z l) (t : Source)
         (w .0, w .1, assigns-second (made 11 a b f h) p refl)
     proper-at (suc (suc (suc (suc (suc (suc (suc (suc (suc (suc (suc (suc zero)))))))))))) a b f h p =
         let i : Coded = made 12 a b f h in
-        let e = second z i refl (ranged-both last z i (p .ranges) .1) in
-        (
+        let e = second z i refl (ranged-both last z i (p .ranges) .1) in (
           assigns-first i p refl refl refl,
           assigns-second i p refl,
           eqb-false a (h .a) (not-true (eqb a (h .a)) (e .differs)),

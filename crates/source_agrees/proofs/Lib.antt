@@ -11,4 +11,5 @@ pub mod OwnRegisters
 pub mod InstructionInRange
 pub mod PromiseOfSource
 pub mod SourceInRange
+pub mod CertificateAgrees
 pub mod Theorem

@@ -37,7 +37,8 @@ use Rattle.trim_spec.specs.Parse.{documentOf, part}
 use Rattle.source.specs.Source.{Source}
 use Rattle.source.specs.Written as W
 use Rattle.source.specs.Meaning.{noFormula, noPoint, listed, assertion, instr, threadAt, programOf, outlineOf}
-use Rattle.source.proofs.SameRuns.{Alike, every-alike, never-alike}
+use Rattle.source.specs.Means.{Alike}
+use Rattle.source.proofs.SameRuns.{every-alike, never-alike}
 use Rattle.source_agrees.specs.SourceOf.{listedOf, typedOf, sourceOf}
 use Rattle.source_agrees.proofs.DocumentWritten.{total}
 use Rattle.source_agrees.proofs.FormulasMean.{assertion-same, instr-same}

@@ -201,13 +201,12 @@ module _ (s : List ℕ) (z : Sizes) (bs : Bytes s) (ok : decoded s ≡ Sound z) 
         let n : ℕ = Content.outlineNumber z b (suc u) j in
         let r = outline-range z b K (suc u) j v d in
         let f = outline-fine z b K (suc u) j v d in
-        subst (λ (x : ℕ). Is (t s z bs ok) Sort.assertion x × Outlined (assertion (t s z bs ok) x)) (number-is s z bs ok u j w d)
-        (
+        subst (λ (x : ℕ). Is (t s z bs ok) Sort.assertion x × Outlined (assertion (t s z bs ok) x)) (number-is s z bs ok u j w d) (
           is-sorted z b K (t s z bs ok) (listed-is s z bs ok) (words-are s z bs ok) formulas-are owners-are (suc u) (omega arith)
-          Codes.assertion n r (f .0),
+              Codes.assertion n r (f .0),
           subst Outlined (sym (assertion-same z b K (t s z bs ok) (listed-is s z bs ok) n (r .0) (r .1) (f .0)))
-          (outlined (formula b Sort.assertion n) (assertion-plain z b K n (r .0) (r .1) (f .0))
-          (assertion-startless z b K n (r .0) (r .1) (f .0) (f .1))),
+              (outlined (formula b Sort.assertion n) (assertion-plain z b K n (r .0) (r .1) (f .0))
+              (assertion-startless z b K n (r .0) (r .1) (f .0) (f .1))),
         )
 
     point-at : (j : ℕ) → j ≤ lastPoint (threadBody z b (suc u)) → At (t s z bs ok) (suc u) j
