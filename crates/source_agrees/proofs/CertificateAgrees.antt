@@ -146,7 +146,8 @@ module _ (s : List ℕ) (z : Sizes) (bs : Bytes s) (ok : decoded s ≡ Sound z) 
         λ i. inside (sym e i) (sym d i)
 
     pair-same : Sorts Pair → saying z m Pair b
-        ≡ taking (getD b 1 0) (getD b 2 0) (programOf src .code (getD b 1 0) (getD b 2 0)) (assertion src (left b)) (assertion src (right b))
+        ≡ taking (getD b 1 0) (getD b 2 0) (programOf src .code (getD b 1 0) (getD b 2 0)) (assertion src (left b))
+        (assertion src (right b))
     unfolding saying sortedBy placed
     pair-same h =
         let e = left-assertion (outlined-fine z m (k s z bs ok) (left b) (h .1) .0) in
@@ -170,7 +171,8 @@ module _ (s : List ℕ) (z : Sizes) (bs : Bytes s) (ok : decoded s ≡ Sound z) 
         cond a2 (hoare src line) (cond a4 (implies (assertion src (left b)) (assertion src (right b)))
         (cond a6 (inside (interval src (left b)) (interval src (right b)))
         (cond a7 (hoare src line)
-        (taking (getD b 1 0) (getD b 2 0) (programOf src .code (getD b 1 0) (getD b 2 0)) (assertion src (left b)) (assertion src (right b))))))
+        (taking (getD b 1 0) (getD b 2 0) (programOf src .code (getD b 1 0) (getD b 2 0)) (assertion src (left b))
+        (assertion src (right b))))))
 
     by-tests : (a1 a2 a3 a4 a5 a6 a7 a8 : Bool) → Sorts (formBy a1 a2 a3 a4 a5 a6 a7 a8)
         → saying z m (formBy a1 a2 a3 a4 a5 a6 a7 a8) b ≡ stated a2 a4 a6 a7

@@ -78,7 +78,8 @@ outlined (eitherA a b) p q = (
 )
 outlined start p q = q
 outlined (holds e) p q =
-    test-numbers isReg (λ c n. (c ≡ 0) ⊎ (c ≡ 1)) (λ n. inl refl) (λ r h. inr refl) (λ x h. absurd h) (λ x h. absurd h) (λ x h. absurd h) e p
+    test-numbers isReg (λ c n. (c ≡ 0) ⊎ (c ≡ 1)) (λ n. inl refl) (λ r h. inr refl) (λ x h. absurd h) (λ x h. absurd h)
+    (λ x h. absurd h) e p
 
 -- the constants of a formula that is bounded
 module _ (R : ℕ) where

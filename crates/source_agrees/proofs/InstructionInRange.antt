@@ -141,7 +141,8 @@ module _ (z : Sizes) (l : List (List ℕ)) (c : Checks z l) (t : Source)
   lacks-in k r w s o =
       let p = formula-sorted z l c Codes.value k (w .0) s in
       subst (λ (f : Value). Numbers (λ d n. d ≡ 1 → n ≢ r) f) (sym (value-same z l c t same k (w .0) (w .1) (p .0)))
-      (value-numbers (notReg r) (λ d n. d ≡ 1 → n ≢ r) (λ n e. absurd (omega arith)) (λ q h e. not-eqb q r h) (λ x h e. absurd (omega arith))
+      (value-numbers (notReg r) (λ d n. d ≡ 1 → n ≢ r) (λ n e. absurd (omega arith)) (λ q h e. not-eqb q r h)
+      (λ x h e. absurd (omega arith))
       (formula l Sort.value k) (value-lacks z l c k (w .0) (w .1) r (p .0) o))
 
   module _ (last : ℕ) where

@@ -80,7 +80,9 @@ owners-within n (o ∷ os) ms h = (h .0, owners-within n os (drop 1 ms) (h .1))
 
 assertions-count : (ps : List Point) (a : ℕ) → length (assertions (record { points = ps; last = a })) ≡ length ps + 1
 unfolding assertions
-assertions-count ps a = length-append (map (λ (p : Point). p .assertion) ps) (a ∷ []) ∙ ap (λ (n : ℕ). n + 1) (length-map ps (λ (p : Point). p .assertion))
+assertions-count ps a =
+    length-append (map (λ (p : Point). p .assertion) ps) (a ∷ [])
+    ∙ ap (λ (n : ℕ). n + 1) (length-map ps (λ (p : Point). p .assertion))
 
 module _ (s : List ℕ) (z : Sizes) (bs : Bytes s) (ok : decoded s ≡ Sound z) where
   abbrev b : List (List ℕ)
@@ -154,7 +156,8 @@ module _ (s : List ℕ) (z : Sizes) (bs : Bytes s) (ok : decoded s ≡ Sound z) 
     passes j c = record {
       ranges =
           rw (instructions-length (threadBody z b (suc u)))
-          (every-at (ranged (lastPoint (threadBody z b (suc u))) z) is j nothing (thread-ranged z b (k s z bs ok) (suc u) (omega arith) (omega arith)) c);
+          (every-at (ranged (lastPoint (threadBody z b (suc u))) z) is j nothing
+          (thread-ranged z b (k s z bs ok) (suc u) (omega arith) (omega arith)) c);
       sorts = sorted-at s z bs ok u j w c;
       owners = every-at (owned b (suc u)) is j nothing (registers-passed .0) c;
       result = every-at (resultAbsent b) is j nothing (registers-passed .1) c;
@@ -257,7 +260,8 @@ module _ (s : List ℕ) (z : Sizes) (bs : Bytes s) (ok : decoded s ≡ Sound z) 
         fewest = g .range .0;
         most = g .range .1;
         start-values =
-            all-then (λ x. (0 ≤ x) × (x ≤ valueRange h - 1)) (λ v. v < valueRange h) (λ x q. omega (arith, q .1, g .range .0)) (startValues h)
+            all-then (λ x. (0 ≤ x) × (x ≤ valueRange h - 1)) (λ v. v < valueRange h) (λ x q. omega (arith, q .1, g .range .0))
+            (startValues h)
             (all-within 0 (valueRange h - 1) (startValues h) (header-rest .0));
         constants = constants-in;
         owners =
@@ -265,7 +269,8 @@ module _ (s : List ℕ) (z : Sizes) (bs : Bytes s) (ok : decoded s ≡ Sound z) 
             (subst (λ (n : ℕ). All (λ x. (1 ≤ x) × (x ≤ n)) (owners h)) (threads-header ∙ threads-are s z bs ok)
             (all-within 1 (threadCount h) (owners h) (and-true owning marked (header-rest .1) .0)));
         instructions = λ u j w c. by-number s z bs ok (λ u. j < length (threadAt (t s z bs ok) u .points)
-            → Proper (t s z bs ok) u (length (assertions (threadAt (t s z bs ok) u))) (getD (threadAt (t s z bs ok) u .points) j noPoint .instruction))
+            → Proper (t s z bs ok) u (length (assertions (threadAt (t s z bs ok) u)))
+            (getD (threadAt (t s z bs ok) u .points) j noPoint .instruction))
             (λ u w c. instruction-in u w j c) u (w .0, omega (arith, w .1, threads-are s z bs ok)) c;
         outline = λ u j w. by-number s z bs ok (λ u. j < length (assertions (threadAt (t s z bs ok) u))
             → Is (t s z bs ok) Sort.assertion (getD (assertions (threadAt (t s z bs ok) u)) j 0)
