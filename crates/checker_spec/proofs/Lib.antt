@@ -6,3 +6,4 @@ pub mod NumbersUncut
 pub mod ShorterLimit
 pub mod AcceptedHolds
 pub mod Worked
+pub mod Consequences

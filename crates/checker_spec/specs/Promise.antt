@@ -14,7 +14,7 @@ use Rattle.verdict_record.specs.Output.{codeFor, bytesFor}
 use Rattle.verdict_record.specs.Record.{size}
 use Rattle.verdict_record.specs.declared.verdict.Verdict.{Verdict}
 use Rattle.checker_spec.specs.ImageVerdict.{judged, verdict}
-use Rattle.checker_spec.specs.Uncut.{Uncut}
+use Rattle.verdict_record.specs.Uncut.{Uncut}
 
 -- demand 3 for an image that says `content`: after every finite list of steps of its program, refused ones among them, each thread's
 -- assertion at its point is true, and no claim's threads are at its points together
