@@ -40,7 +40,7 @@ PROMISES = [
 USERS = ("Consequences", "Starts", "Refuted", "ReadBack", "Worked")
 
 # types of fields that are given and promise nothing
-GIVEN = {"Image", "Finding", "Document", "Answer", "Bill", "List Write", "ℕ", "Program"}
+GIVEN = {"Image", "Finding", "Document", "Answer", "Bill", "List Write"}
 
 
 def split_arrows(text):
@@ -70,13 +70,12 @@ def weaker(kind):
     """The weaker types of a field, each with a word for what was done."""
     parts = split_arrows(kind)
     said = split_relation(parts[-1])
-    if kind in GIVEN or (len(parts) == 1 and kind == "Sizes"):
+    if kind in GIVEN:
         return
     if said is None:
         yield "of nothing", " → ".join(parts[:-1] + ["⊥", parts[-1]])
     elif said[1] == "≡":
-        other = said[2] if said[0] == said[2] else said[0]
-        yield "equal to itself", " → ".join(parts[:-1] + [f"{said[0]} ≡ {other}"])
+        yield "equal to itself", " → ".join(parts[:-1] + [f"{said[0]} ≡ {said[0]}"])
     else:
         more = said[0] if said[1] == "≤" else f"suc ({said[0]})"
         yield "no bound", " → ".join(parts[:-1] + [f"{said[0]} {said[1]} {more}"])
@@ -176,7 +175,8 @@ def main():
         return
     with tempfile.TemporaryDirectory() as copy:
         shutil.copy(os.path.join(root, "crates.txt"), copy)
-        shutil.copytree(os.path.join(root, "crates"), os.path.join(copy, "crates"), ignore=shutil.ignore_patterns("must-fail", "also-refused"))
+        left_out = shutil.ignore_patterns("must-fail", "also-refused")
+        shutil.copytree(os.path.join(root, "crates"), os.path.join(copy, "crates"), ignore=left_out)
         for part in ("rlib", "stamp", "bin", "log"):
             if os.path.isdir(os.path.join(root, "target", part)):
                 shutil.copytree(os.path.join(root, "target", part), os.path.join(copy, "target", part))
