@@ -10,8 +10,8 @@ use lib.Dec.{eqb}
 use lib.ListN.{getD, getElem?, set, take}
 use borrow.Author.Tests.{le-leb, lt-leb, eq-eqb, ne-eqb}
 use Rattle.service_spec.specs.Account.{Account, holds, accountOf, admission}
-use Rattle.service_spec.specs.Opening.{given, opened}
-use Rattle.service_spec.specs.Serving.{Call, raised, serveBy, requestsOf, seenBy}
+use Rattle.service_spec.specs.Opening.{rightsGiven, opened}
+use Rattle.service_spec.specs.Serving.{Call, raised, serveBy, requestsOf, observedBy}
 use Rattle.service_spec.specs.Isolation.{Isolated}
 use Rattle.service_spec.specs.Request.{Request, toCheck, toTrim, toBill, toHandOver, toReplay, toReplayAcross, Reply, rightFor, isBill, refused, answered, conduct, serve, serveAll}
 use Rattle.service_spec.specs.Promise.{Promise}
@@ -108,15 +108,15 @@ module _ (service : List ℕ) (caller : ℕ) (q : Request) (after : List ℕ) (r
 module _ (v : Isolated conduct) where
   -- "In two runs from the opening that give a caller the same rights and the same calls in the same order, its bills and numbers are the
   -- same, whoever else calls between them": r and g are the rights given, x and y what the buffers hold behind the sixteen numbers
-  pub same-from-opening : (c : ℕ) (r g x y : List ℕ) (l m : List (Call Request)) → given r (c - 1) ≡ given g (c - 1)
+  pub same-from-opening : (c : ℕ) (r g x y : List ℕ) (l m : List (Call Request)) → rightsGiven r (c - 1) ≡ rightsGiven g (c - 1)
       → requestsOf c l ≡ requestsOf c m
-      → seenBy c (serveAll (opened r ++ x) l) ≡ seenBy c (serveAll (opened g ++ y) m)
+      → observedBy c (serveAll (opened r ++ x) l) ≡ observedBy c (serveAll (opened g ++ y) m)
   same-from-opening = v .opening
 
   -- and from any two services with the same account of the caller
   pub same-from-account : (c : ℕ) (s t : List ℕ) (l m : List (Call Request)) → accountOf s c ≡ accountOf t c
       → requestsOf c l ≡ requestsOf c m
-      → seenBy c (serveAll s l) ≡ seenBy c (serveAll t m)
+      → observedBy c (serveAll s l) ≡ observedBy c (serveAll t m)
   same-from-account = v .same
 
   -- another caller's call leaves the account of c
