@@ -3,6 +3,8 @@
 
     tools/fields.py                  lists the weaker fields, a line each
     tools/fields.py --try [CRATE..]  makes each change in a copy of the tree, of every crate or of those that are named, and runs `rt dev`
+    tools/fields.py --all [CRATE..]  makes one change to every field of a file at once, which is quicker, and says which fields have a
+                                     consequence of their own that fails
 
 A weaker field has the same shape and says less: `a ≡ b` becomes `a ≡ a`, a bound in a hypothesis becomes 0, and what is no equation is
 said of nothing. A change counts as refused by a consequence if a file of consequences or of facts worked out by hand has an error of its
@@ -164,11 +166,44 @@ def attempt(copy, crate, file, changed):
     return ("accepted" if proved else "not told"), ("", (run.stdout + run.stderr)[-200:])
 
 
+def together(copy, crate, file, names):
+    """Every field of a file weaker at once: the fields, each with the consequences that cite it and fail."""
+    path = os.path.join(copy, "crates", crate, file)
+    kept = open(path, encoding="utf-8").read()
+    lines, weakened = kept.split("\n"), []
+    for name in names:
+        data = re.search(r"pub data " + re.escape(name) + r"\b", kept)
+        for at, end, field, kind in [] if data else fields(kept, name):
+            for done, new in list(weaker(kind))[:1]:
+                weakened.append((at, end, name, field, lines[at].split(" : ")[0] + " : " + new))
+    for at, end, _, _, new in sorted(weakened, reverse=True):
+        lines[at:end] = [new]
+    if any("suc (" in change[4] for change in weakened) and not re.search(r"Prim\.Native\.Nat\.\{[^}]*\bsuc\b", kept):
+        lines.insert(0, "use Prim.Native.Nat.{suc}")
+    open(path, "w", encoding="utf-8").write("\n".join(lines))
+    try:
+        run = subprocess.run(["rt", "dev", crate], cwd=copy, capture_output=True, text=True)
+    finally:
+        open(path, "w", encoding="utf-8").write(kept)
+    errors = re.findall(r"crates/[^/]+/(\S+?):\d+:\d+: error: `(\S+?)`: (.*)", run.stdout + run.stderr)
+    failing = {}
+    for at, theorem, what in errors:
+        if any(user in at for user in USERS) and "was not admitted" not in what:
+            text = open(os.path.join(copy, "crates", crate, at), encoding="utf-8").read()
+            body = re.search(r"^ *" + re.escape(theorem) + r" [^:\n]*=(.*?)(?=\n *\n|\Z)", text, re.M | re.S)
+            body = body or re.search(r"^ *" + re.escape(theorem) + r" =(.*?)(?=\n *\n|\Z)", text, re.M | re.S)
+            failing[theorem] = body.group(1) if body else ""
+    for _, _, name, field, _ in weakened:
+        cited = [theorem for theorem, body in failing.items() if re.search(r"\." + re.escape(field) + r"(?![\w-])", body)]
+        yield name, field, cited
+
+
 def main():
     root = os.path.dirname(os.path.dirname(os.path.abspath(__file__)))
-    trying = sys.argv[1:2] == ["--try"]
-    found = list(changes(root, sys.argv[2:] if trying else sys.argv[1:]))
-    if not trying:
+    trying, at_once = sys.argv[1:2] == ["--try"], sys.argv[1:2] == ["--all"]
+    chosen = sys.argv[2:] if trying or at_once else sys.argv[1:]
+    found = list(changes(root, chosen))
+    if not trying and not at_once:
         for crate, file, name, field, done, _, new in found:
             print(f"{crate} {name}.{field}: {done}: {new}")
         print(f"{len(found)} weaker fields")
@@ -180,12 +215,16 @@ def main():
         for part in ("rlib", "stamp", "bin", "log"):
             if os.path.isdir(os.path.join(root, "target", part)):
                 shutil.copytree(os.path.join(root, "target", part), os.path.join(copy, "target", part))
+        for crate, file, names in PROMISES if at_once else []:
+            for name, field, cited in together(copy, crate, file, names) if not chosen or crate in chosen else []:
+                print(f"{'consequence' if cited else 'not cited':12} {crate} {name}.{field} {' '.join(cited)}", flush=True)
         counts = {}
-        for crate, file, name, field, done, changed, _ in found:
+        for crate, file, name, field, done, changed, _ in [] if at_once else found:
             verdict, (at, what) = attempt(copy, crate, file, changed)
             counts[verdict] = counts.get(verdict, 0) + 1
             print(f"{verdict:12} {crate} {name}.{field} ({done}) {at} {what[:90]}", flush=True)
-        print(f"{len(found)} tried: " + ", ".join(f"{count} {verdict}" for verdict, count in sorted(counts.items())))
+        if trying:
+            print(f"{len(found)} tried: " + ", ".join(f"{count} {verdict}" for verdict, count in sorted(counts.items())))
 
 
 if __name__ == "__main__":
