@@ -7,3 +7,4 @@ pub mod ShorterLimit
 pub mod AcceptedHolds
 pub mod Worked
 pub mod AcceptedSource
+pub mod Consequences

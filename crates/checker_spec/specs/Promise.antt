@@ -21,7 +21,7 @@ use Rattle.source.specs.Written as Written
 use Rattle.source.specs.Means.{Means}
 use Rattle.source.specs.TrueFor.{TrueFor}
 use Rattle.checker_spec.specs.ImageVerdict.{judged, verdict}
-use Rattle.checker_spec.specs.Uncut.{Uncut}
+use Rattle.verdict_record.specs.Uncut.{Uncut}
 
 -- demand 3 for an image that says `content`: after every finite list of steps of its program, refused ones among them, each thread's
 -- assertion at its point is true, and no claim's threads are at its points together
