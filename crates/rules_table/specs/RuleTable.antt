@@ -1,6 +1,6 @@
 -- The table of rules as the code has it: what `rule_at` and `all_templates` return.
 use mathlib.Core.List.{List, [], _∷_}
-use Prim.Native.Nat.{ℕ}
+use Prim.Native.Nat.{ℕ, _+_}
 use lib.ListN.{getD}
 use Rattle.rules_table.specs.declared.rule.Rule.{Rule}
 
@@ -56,6 +56,62 @@ startsAtZero = 10
 abbrev pub anyImplications : ℕ
 anyImplications = 5
 
+-- implications and inclusions are about no instruction
+abbrev pub none : ℕ
+none = 0
+
+-- sets of operations, bit k for operation k: 0 and 12, an assignment and two at once
+abbrev pub assignments : ℕ
+assignments = 1 + 4096
+
+-- operation 2
+abbrev pub acquiringLoad : ℕ
+acquiringLoad = 4
+
+-- operations 1 and 2
+abbrev pub loads : ℕ
+loads = 2 + acquiringLoad
+
+-- operation 4
+abbrev pub releasingStore : ℕ
+releasingStore = 16
+
+-- operations 3 and 4
+abbrev pub stores : ℕ
+stores = 8 + releasingStore
+
+-- operation 5, which drops the old value
+abbrev pub swap : ℕ
+swap = 32
+
+-- operations 7 and 8: exchange and fetch-add
+abbrev pub updates : ℕ
+updates = 128 + 256
+
+-- operations 9, 10 and 11: a store or a swap, and an assignment in the same step
+abbrev pub pairs : ℕ
+pairs = 512 + (1024 + 2048)
+
+abbrev pub readModifyWrites : ℕ
+readModifyWrites = swap + updates
+
+-- what joins the stored view of a releasing write
+abbrev pub acquires : ℕ
+acquires = acquiringLoad + readModifyWrites
+
+abbrev pub storesAndSwap : ℕ
+storesAndSwap = stores + swap
+
+abbrev pub writes : ℕ
+writes = stores + readModifyWrites
+
+-- what touches a shared word
+abbrev pub accesses : ℕ
+accesses = loads + writes
+
+abbrev pub allButPairs : ℕ
+allButPairs = assignments + accesses
+
 -- a row of the table
 abbrev pub rule : ℕ → ℕ → ℕ → ℕ → ℕ → ℕ → Rule
 rule form template premises forms operations side =
@@ -63,62 +119,62 @@ rule form template premises forms operations side =
 
 -- the row of a number that no rule has
 abbrev pub unlisted : Rule
-unlisted = rule unlistedForm 0 0 0 0 nothing
+unlisted = rule unlistedForm 0 0 0 none nothing
 
 -- the rows by rule number, from 0
 abbrev pub rows : List Rule
 rows =
     unlisted ∷
-    rule 2 0 0 0 446 isKept ∷
-    rule 2 2 0 0 4097 assigned ∷
-    rule 2 4 0 0 6 loaded ∷
-    rule 2 10 1 2 6 loaded ∷
-    rule 2 24 1 2 420 nothing ∷
-    rule 2 36 0 0 24 nothing ∷
-    rule 2 50 0 0 24 nothing ∷
-    rule 2 70 0 0 16 wordAbsent ∷
-    rule 2 91 0 0 56 stored ∷
-    rule 2 104 1 2 440 nothing ∷
-    rule 2 116 0 0 32 nothing ∷
-    rule 2 134 0 0 32 nothing ∷
-    rule 2 165 0 0 416 wordAbsent ∷
-    rule 2 197 2 10 4543 nothing ∷
-    rule 2 207 2 10 4543 nothing ∷
-    rule 2 217 3 25 4543 nothing ∷
+    rule 2 0 0 0 accesses isKept ∷
+    rule 2 2 0 0 assignments assigned ∷
+    rule 2 4 0 0 loads loaded ∷
+    rule 2 10 1 2 loads loaded ∷
+    rule 2 24 1 2 acquires nothing ∷
+    rule 2 36 0 0 stores nothing ∷
+    rule 2 50 0 0 stores nothing ∷
+    rule 2 70 0 0 releasingStore wordAbsent ∷
+    rule 2 91 0 0 storesAndSwap stored ∷
+    rule 2 104 1 2 writes nothing ∷
+    rule 2 116 0 0 swap nothing ∷
+    rule 2 134 0 0 swap nothing ∷
+    rule 2 165 0 0 readModifyWrites wordAbsent ∷
+    rule 2 197 2 10 allButPairs nothing ∷
+    rule 2 207 2 10 allButPairs nothing ∷
+    rule 2 217 3 25 allButPairs nothing ∷
     unlisted ∷
     unlisted ∷
     unlisted ∷
-    rule 1 225 anyImplications 0 0 byTable ∷
-    rule 1 227 0 0 0 byRows ∷
-    rule 1 231 1 0 0 nothing ∷
-    rule 1 239 0 0 0 byRows ∷
-    rule 1 245 0 0 0 byRows ∷
-    rule 1 251 0 0 0 nothing ∷
-    rule 1 263 0 0 0 startValue ∷
-    rule 1 274 0 0 0 startsAtZero ∷
+    rule 1 225 anyImplications 0 none byTable ∷
+    rule 1 227 0 0 none byRows ∷
+    rule 1 231 1 0 none nothing ∷
+    rule 1 239 0 0 none byRows ∷
+    rule 1 245 0 0 none byRows ∷
+    rule 1 251 0 0 none nothing ∷
+    rule 1 263 0 0 none startValue ∷
+    rule 1 274 0 0 none startsAtZero ∷
     unlisted ∷
     unlisted ∷
-    rule 0 281 0 0 0 byRows ∷
-    rule 0 285 2 0 0 nothing ∷
-    rule 0 291 2 0 0 nothing ∷
-    rule 0 301 0 0 0 nothing ∷
-    rule 0 311 0 0 0 nothing ∷
-    rule 0 321 0 0 0 nothing ∷
-    rule 0 325 0 0 0 nothing ∷
-    rule 0 329 0 0 0 nothing ∷
-    rule 0 336 0 0 0 nothing ∷
-    rule 0 348 0 0 0 nothing ∷
-    rule 0 352 0 0 0 nothing ∷
-    rule 0 356 2 0 0 nothing ∷
-    rule 0 364 0 0 0 nothing ∷
-    rule 0 368 0 0 0 nothing ∷
-    rule 0 372 2 0 0 nothing ∷
-    rule 0 380 0 0 0 nothing ∷
-    rule 0 389 0 0 0 nothing ∷
-    rule 2 4 0 0 384 loaded ∷
-    rule 2 391 0 0 384 newValue ∷
-    rule 2 409 0 0 384 newValue ∷
-    rule 3 440 1 2 3584 assigned ∷
+    rule 0 281 0 0 none byRows ∷
+    rule 0 285 2 0 none nothing ∷
+    rule 0 291 2 0 none nothing ∷
+    rule 0 301 0 0 none nothing ∷
+    rule 0 311 0 0 none nothing ∷
+    rule 0 321 0 0 none nothing ∷
+    rule 0 325 0 0 none nothing ∷
+    rule 0 329 0 0 none nothing ∷
+    rule 0 336 0 0 none nothing ∷
+    rule 0 348 0 0 none nothing ∷
+    rule 0 352 0 0 none nothing ∷
+    rule 0 356 2 0 none nothing ∷
+    rule 0 364 0 0 none nothing ∷
+    rule 0 368 0 0 none nothing ∷
+    rule 0 372 2 0 none nothing ∷
+    rule 0 380 0 0 none nothing ∷
+    rule 0 389 0 0 none nothing ∷
+    rule 2 4 0 0 updates loaded ∷
+    rule 2 391 0 0 updates newValue ∷
+    rule 2 409 0 0 updates newValue ∷
+    rule 3 440 1 2 pairs assigned ∷
     []
 
 -- the row of the rule with number n

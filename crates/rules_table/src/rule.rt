@@ -48,6 +48,42 @@ impl Side {
     pub const STARTS_AT_ZERO: u8 = 10;
 }
 
+// The operations that a rule allows: bit k stands for operation k. Each set is named by what its operations do.
+pub struct Operations {}
+
+impl Operations {
+    // Implications and inclusions are about no instruction.
+    pub const NONE: u16 = 0;
+    // Operations 0 and 12: an assignment, and two at once.
+    pub const ASSIGNMENTS: u16 = 1 + 4096;
+    // Operations 1 and 2: relaxed and acquiring.
+    pub const LOADS: u16 = 2 + Self::ACQUIRING_LOAD;
+
+    pub const ACQUIRING_LOAD: u16 = 4;
+    // Operations 3 and 4: relaxed and releasing.
+    pub const STORES: u16 = 8 + Self::RELEASING_STORE;
+
+    pub const RELEASING_STORE: u16 = 16;
+    // Operation 5, which drops the old value.
+    pub const SWAP: u16 = 32;
+    // Operations 7 and 8: exchange and fetch-add, which put the old value into a register.
+    pub const UPDATES: u16 = 128 + 256;
+    // Operations 9, 10 and 11: a store or a swap, and an assignment in the same step.
+    pub const PAIRS: u16 = 512 + 1024 + 2048;
+
+    pub const READ_MODIFY_WRITES: u16 = Self::SWAP + Self::UPDATES;
+    // What joins the stored view of a releasing write.
+    pub const ACQUIRES: u16 = Self::ACQUIRING_LOAD + Self::READ_MODIFY_WRITES;
+
+    pub const STORES_AND_SWAP: u16 = Self::STORES + Self::SWAP;
+
+    pub const WRITES: u16 = Self::STORES + Self::READ_MODIFY_WRITES;
+    // What touches a shared word.
+    pub const ACCESSES: u16 = Self::LOADS + Self::WRITES;
+
+    pub const ALL_BUT_PAIRS: u16 = Self::ASSIGNMENTS + Self::ACCESSES;
+}
+
 // A row: where the rule's templates begin; the operations that it allows, a bit each; the form of its lines; how many premises, and their
 // forms, two bits each from the lowest (rule 20 has 5 here and any number up to four); its side condition. A row has eight bytes and no
 // gap, because the table is made anew for each look-up.
@@ -75,7 +111,7 @@ const UNLISTED: Rule = Rule {
     template: 0,
     premises: 0,
     forms: 0,
-    operations: 0,
+    operations: Operations::NONE,
     side: Side::NONE,
 };
 
@@ -87,7 +123,7 @@ pub const RULES: [Rule; 51] = [
         template: 0,
         premises: 0,
         forms: 0,
-        operations: 446,
+        operations: Operations::ACCESSES,
         side: Side::KEPT,
     },
     Rule {
@@ -95,7 +131,7 @@ pub const RULES: [Rule; 51] = [
         template: 2,
         premises: 0,
         forms: 0,
-        operations: 4097,
+        operations: Operations::ASSIGNMENTS,
         side: Side::ASSIGNED,
     },
     Rule {
@@ -103,7 +139,7 @@ pub const RULES: [Rule; 51] = [
         template: 4,
         premises: 0,
         forms: 0,
-        operations: 6,
+        operations: Operations::LOADS,
         side: Side::LOADED,
     },
     Rule {
@@ -111,7 +147,7 @@ pub const RULES: [Rule; 51] = [
         template: 10,
         premises: 1,
         forms: 2,
-        operations: 6,
+        operations: Operations::LOADS,
         side: Side::LOADED,
     },
     Rule {
@@ -119,7 +155,7 @@ pub const RULES: [Rule; 51] = [
         template: 24,
         premises: 1,
         forms: 2,
-        operations: 420,
+        operations: Operations::ACQUIRES,
         side: Side::NONE,
     },
     Rule {
@@ -127,7 +163,7 @@ pub const RULES: [Rule; 51] = [
         template: 36,
         premises: 0,
         forms: 0,
-        operations: 24,
+        operations: Operations::STORES,
         side: Side::NONE,
     },
     Rule {
@@ -135,7 +171,7 @@ pub const RULES: [Rule; 51] = [
         template: 50,
         premises: 0,
         forms: 0,
-        operations: 24,
+        operations: Operations::STORES,
         side: Side::NONE,
     },
     Rule {
@@ -143,7 +179,7 @@ pub const RULES: [Rule; 51] = [
         template: 70,
         premises: 0,
         forms: 0,
-        operations: 16,
+        operations: Operations::RELEASING_STORE,
         side: Side::WORD_ABSENT,
     },
     Rule {
@@ -151,7 +187,7 @@ pub const RULES: [Rule; 51] = [
         template: 91,
         premises: 0,
         forms: 0,
-        operations: 56,
+        operations: Operations::STORES_AND_SWAP,
         side: Side::STORED,
     },
     Rule {
@@ -159,7 +195,7 @@ pub const RULES: [Rule; 51] = [
         template: 104,
         premises: 1,
         forms: 2,
-        operations: 440,
+        operations: Operations::WRITES,
         side: Side::NONE,
     },
     Rule {
@@ -167,7 +203,7 @@ pub const RULES: [Rule; 51] = [
         template: 116,
         premises: 0,
         forms: 0,
-        operations: 32,
+        operations: Operations::SWAP,
         side: Side::NONE,
     },
     Rule {
@@ -175,7 +211,7 @@ pub const RULES: [Rule; 51] = [
         template: 134,
         premises: 0,
         forms: 0,
-        operations: 32,
+        operations: Operations::SWAP,
         side: Side::NONE,
     },
     Rule {
@@ -183,7 +219,7 @@ pub const RULES: [Rule; 51] = [
         template: 165,
         premises: 0,
         forms: 0,
-        operations: 416,
+        operations: Operations::READ_MODIFY_WRITES,
         side: Side::WORD_ABSENT,
     },
     Rule {
@@ -191,7 +227,7 @@ pub const RULES: [Rule; 51] = [
         template: 197,
         premises: 2,
         forms: 10,
-        operations: 4543,
+        operations: Operations::ALL_BUT_PAIRS,
         side: Side::NONE,
     },
     Rule {
@@ -199,7 +235,7 @@ pub const RULES: [Rule; 51] = [
         template: 207,
         premises: 2,
         forms: 10,
-        operations: 4543,
+        operations: Operations::ALL_BUT_PAIRS,
         side: Side::NONE,
     },
     Rule {
@@ -207,7 +243,7 @@ pub const RULES: [Rule; 51] = [
         template: 217,
         premises: 3,
         forms: 25,
-        operations: 4543,
+        operations: Operations::ALL_BUT_PAIRS,
         side: Side::NONE,
     },
     UNLISTED,
@@ -218,7 +254,7 @@ pub const RULES: [Rule; 51] = [
         template: 225,
         premises: Rules::IMPLICATIONS,
         forms: 0,
-        operations: 0,
+        operations: Operations::NONE,
         side: Side::BY_TABLE,
     },
     Rule {
@@ -226,7 +262,7 @@ pub const RULES: [Rule; 51] = [
         template: 227,
         premises: 0,
         forms: 0,
-        operations: 0,
+        operations: Operations::NONE,
         side: Side::BY_ROWS,
     },
     Rule {
@@ -234,7 +270,7 @@ pub const RULES: [Rule; 51] = [
         template: 231,
         premises: 1,
         forms: 0,
-        operations: 0,
+        operations: Operations::NONE,
         side: Side::NONE,
     },
     Rule {
@@ -242,7 +278,7 @@ pub const RULES: [Rule; 51] = [
         template: 239,
         premises: 0,
         forms: 0,
-        operations: 0,
+        operations: Operations::NONE,
         side: Side::BY_ROWS,
     },
     Rule {
@@ -250,7 +286,7 @@ pub const RULES: [Rule; 51] = [
         template: 245,
         premises: 0,
         forms: 0,
-        operations: 0,
+        operations: Operations::NONE,
         side: Side::BY_ROWS,
     },
     Rule {
@@ -258,7 +294,7 @@ pub const RULES: [Rule; 51] = [
         template: 251,
         premises: 0,
         forms: 0,
-        operations: 0,
+        operations: Operations::NONE,
         side: Side::NONE,
     },
     Rule {
@@ -266,7 +302,7 @@ pub const RULES: [Rule; 51] = [
         template: 263,
         premises: 0,
         forms: 0,
-        operations: 0,
+        operations: Operations::NONE,
         side: Side::START_VALUE,
     },
     Rule {
@@ -274,7 +310,7 @@ pub const RULES: [Rule; 51] = [
         template: 274,
         premises: 0,
         forms: 0,
-        operations: 0,
+        operations: Operations::NONE,
         side: Side::STARTS_AT_ZERO,
     },
     UNLISTED,
@@ -284,7 +320,7 @@ pub const RULES: [Rule; 51] = [
         template: 281,
         premises: 0,
         forms: 0,
-        operations: 0,
+        operations: Operations::NONE,
         side: Side::BY_ROWS,
     },
     Rule {
@@ -292,7 +328,7 @@ pub const RULES: [Rule; 51] = [
         template: 285,
         premises: 2,
         forms: 0,
-        operations: 0,
+        operations: Operations::NONE,
         side: Side::NONE,
     },
     Rule {
@@ -300,7 +336,7 @@ pub const RULES: [Rule; 51] = [
         template: 291,
         premises: 2,
         forms: 0,
-        operations: 0,
+        operations: Operations::NONE,
         side: Side::NONE,
     },
     Rule {
@@ -308,7 +344,7 @@ pub const RULES: [Rule; 51] = [
         template: 301,
         premises: 0,
         forms: 0,
-        operations: 0,
+        operations: Operations::NONE,
         side: Side::NONE,
     },
     Rule {
@@ -316,7 +352,7 @@ pub const RULES: [Rule; 51] = [
         template: 311,
         premises: 0,
         forms: 0,
-        operations: 0,
+        operations: Operations::NONE,
         side: Side::NONE,
     },
     Rule {
@@ -324,7 +360,7 @@ pub const RULES: [Rule; 51] = [
         template: 321,
         premises: 0,
         forms: 0,
-        operations: 0,
+        operations: Operations::NONE,
         side: Side::NONE,
     },
     Rule {
@@ -332,7 +368,7 @@ pub const RULES: [Rule; 51] = [
         template: 325,
         premises: 0,
         forms: 0,
-        operations: 0,
+        operations: Operations::NONE,
         side: Side::NONE,
     },
     Rule {
@@ -340,7 +376,7 @@ pub const RULES: [Rule; 51] = [
         template: 329,
         premises: 0,
         forms: 0,
-        operations: 0,
+        operations: Operations::NONE,
         side: Side::NONE,
     },
     Rule {
@@ -348,7 +384,7 @@ pub const RULES: [Rule; 51] = [
         template: 336,
         premises: 0,
         forms: 0,
-        operations: 0,
+        operations: Operations::NONE,
         side: Side::NONE,
     },
     Rule {
@@ -356,7 +392,7 @@ pub const RULES: [Rule; 51] = [
         template: 348,
         premises: 0,
         forms: 0,
-        operations: 0,
+        operations: Operations::NONE,
         side: Side::NONE,
     },
     Rule {
@@ -364,7 +400,7 @@ pub const RULES: [Rule; 51] = [
         template: 352,
         premises: 0,
         forms: 0,
-        operations: 0,
+        operations: Operations::NONE,
         side: Side::NONE,
     },
     Rule {
@@ -372,7 +408,7 @@ pub const RULES: [Rule; 51] = [
         template: 356,
         premises: 2,
         forms: 0,
-        operations: 0,
+        operations: Operations::NONE,
         side: Side::NONE,
     },
     Rule {
@@ -380,7 +416,7 @@ pub const RULES: [Rule; 51] = [
         template: 364,
         premises: 0,
         forms: 0,
-        operations: 0,
+        operations: Operations::NONE,
         side: Side::NONE,
     },
     Rule {
@@ -388,7 +424,7 @@ pub const RULES: [Rule; 51] = [
         template: 368,
         premises: 0,
         forms: 0,
-        operations: 0,
+        operations: Operations::NONE,
         side: Side::NONE,
     },
     Rule {
@@ -396,7 +432,7 @@ pub const RULES: [Rule; 51] = [
         template: 372,
         premises: 2,
         forms: 0,
-        operations: 0,
+        operations: Operations::NONE,
         side: Side::NONE,
     },
     Rule {
@@ -404,7 +440,7 @@ pub const RULES: [Rule; 51] = [
         template: 380,
         premises: 0,
         forms: 0,
-        operations: 0,
+        operations: Operations::NONE,
         side: Side::NONE,
     },
     Rule {
@@ -412,7 +448,7 @@ pub const RULES: [Rule; 51] = [
         template: 389,
         premises: 0,
         forms: 0,
-        operations: 0,
+        operations: Operations::NONE,
         side: Side::NONE,
     },
     Rule {
@@ -420,7 +456,7 @@ pub const RULES: [Rule; 51] = [
         template: 4,
         premises: 0,
         forms: 0,
-        operations: 384,
+        operations: Operations::UPDATES,
         side: Side::LOADED,
     },
     Rule {
@@ -428,7 +464,7 @@ pub const RULES: [Rule; 51] = [
         template: 391,
         premises: 0,
         forms: 0,
-        operations: 384,
+        operations: Operations::UPDATES,
         side: Side::NEW_VALUE,
     },
     Rule {
@@ -436,7 +472,7 @@ pub const RULES: [Rule; 51] = [
         template: 409,
         premises: 0,
         forms: 0,
-        operations: 384,
+        operations: Operations::UPDATES,
         side: Side::NEW_VALUE,
     },
     Rule {
@@ -444,7 +480,7 @@ pub const RULES: [Rule; 51] = [
         template: 440,
         premises: 1,
         forms: 2,
-        operations: 3584,
+        operations: Operations::PAIRS,
         side: Side::ASSIGNED,
     },
 ];
