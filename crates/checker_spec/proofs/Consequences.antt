@@ -6,7 +6,7 @@ use Prim.Native.Nat.{ℕ, _≤_, _<_}
 use native.Mathlib.Omega.{arith}
 use lib.ListN.{length, take, drop, length-append, length-drop}
 use borrow.Author.Tests.{lt-ltb, le-ltb}
-use Rattle.semantics.specs.Base.{Within}
+use Rattle.semantics.specs.Base.{All, Within}
 use Rattle.semantics.specs.Machine.{State, Start, Step, run}
 use Rattle.semantics.specs.Truth.{True}
 use Rattle.semantics.specs.EveryRun.{EveryRun}
@@ -25,7 +25,13 @@ use Rattle.verdict_record.specs.Record.{size, recordBytes}
 use Rattle.verdict_record.specs.declared.verdict.Fields.{Fields}
 use Rattle.verdict_record.proofs.ReadBack.{fieldsIn, record-size, record-length, record-kind, record-read}
 use Rattle.checker_spec.specs.ImageVerdict.{claimed, judged, answered, verdict}
-use Rattle.checker_spec.specs.Promise.{Promise}
+use Rattle.verdict_record.specs.declared.verdict.Verdict.the-variants.{Refused}
+use Rattle.source.specs.Source.{Source}
+use Rattle.source.specs.Written as Written
+use Rattle.source.specs.Meaning.{programOf, outlineOf, claimsOf}
+use Rattle.source.specs.InRange.{InRange}
+use Rattle.source.specs.Means.{Means}
+use Rattle.checker_spec.specs.Promise.{Promise, SourceJudged}
 
 -- the first obligation that is not met, in the nine numbers of a verdict: its code, class, threads and points, its line, and as count how
 -- many are met before it
@@ -145,6 +151,23 @@ module _ (image buffer : List ℕ) (code : ℕ) (after : List ℕ) (p : Promise 
       pub accepted-only-if : code ≡ 0 → EachMet D × EachSustained D
       accepted-only-if = p .judged D says .only-if
 
+    -- THE SAME BY THE SOURCE s that is written as the image: it is refused for its form, or what is judged is what s means
+    module _ (s : Source) (writes : Written.written s ≡ image) where
+      -- a fault of the form with its code and record; or a content that s means, of which all are met, or the first that is not is named
+      abbrev ByMeaning : Type 0
+      ByMeaning =
+          ((f : Fault) × (i : ℕ) × (fieldsIn after ≡ gathered (codeOf f) i nowhere 0 0))
+          ⊎ ((D : Image) × Means s D × (AllMet D (fieldsIn after) ⊎ (FirstUnmet D (fieldsIn after) ⊎ FirstDenied D (fieldsIn after))))
+
+      pub first-named-by-source : ByMeaning
+      unfolding fieldsOf
+      first-named-by-source = go (p .by-source) where
+        go : ((f : Fault) × (i : ℕ) × (verdict image ≡ Refused f i)) ⊎ SourceJudged image (verdict image) buffer code → ByMeaning
+        go (inl (f, i, e)) = inl (f, i, numbers-read ∙ ap fieldsOf e)
+        go (inr j) =
+            inr (j .content, j .means s writes, found (j .content) (j .right .finding) (j .right .right) (fieldsIn after)
+            (numbers-read ∙ ap fieldsOf (j .right .answer)))
+
   -- DEMAND 3: code 0
 
   module _ (accepted : code ≡ 0) where
@@ -168,3 +191,22 @@ module _ (image buffer : List ℕ) (code : ℕ) (after : List ℕ) (p : Promise 
           → run (D .program) s l .point (D .claims .claim i .other) ≡ D .claims .claim i .otherPoint → ⊥
       never-both i h = subst (λ (E : Image). (j : ℕ) → j < E .claims .count → NeverBoth (E .program) (E .claims .claim j)) content-is
           (p .accepted accepted .never) i h .never
+
+    -- an accepted image has a source
+    pub has-source : (s : Source) × (Written.written s ≡ image)
+    has-source = let t = p .true-for accepted in (t .source, t .bytes)
+
+    -- and of whichever source is written as the image
+    module _ (s : Source) (writes : Written.written s ≡ image) where
+      -- every number is in range
+      pub source-ranged : InRange s
+      source-ranged = p .true-for accepted .kept s writes .in-range
+
+      -- each thread's assertion at its point is true in every run
+      pub source-every-run : (x : State) → Start (programOf s) x → (l : List Step) → (t : ℕ) → Within (programOf s .threads) t
+          → True (programOf s) (run (programOf s) x l) (outlineOf s t (run (programOf s) x l .point t))
+      source-every-run = p .true-for accepted .kept s writes .holds .holds
+
+      -- no claim's threads are at its points together
+      pub source-never-both : All (NeverBoth (programOf s)) (claimsOf s)
+      source-never-both = p .true-for accepted .kept s writes .never
