@@ -147,7 +147,7 @@ fn search(source: &Source, kept: Kept, tries: u64, watch: Watch) -> Built {
 }
 
 /// What is told of a goal for which no line was found.
-fn left_open(prover: &mut Prover, goal: Goal, wanted: Statement) -> Open {
+pub(crate) fn left_open(prover: &mut Prover, goal: Goal, wanted: Statement) -> Open {
     let given_up = prover.budget.is_spent().then(|| prover.budget.most());
     if let Some(most) = given_up {
         prover.tried.push(format!("given up     after {most} tries"));
@@ -175,7 +175,7 @@ pub fn prove(prover: &mut Prover, wanted: &Statement) -> Option<usize> {
 }
 
 /// Proves what the writer named, by the rule named or by search, and keeps it in mind.
-fn take_hint(prover: &mut Prover, hint: &Hint) -> Result<(), Mistake> {
+pub(crate) fn take_hint(prover: &mut Prover, hint: &Hint) -> Result<(), Mistake> {
     let fail = |text: String| Err(Mistake { line: hint.line, text });
     if let Statement::Triple { thread, point, .. } = hint.statement {
         if prover.program.instruction(thread, point).is_none_or(Instruction::is_branch) {
@@ -200,7 +200,7 @@ fn take_hint(prover: &mut Prover, hint: &Hint) -> Result<(), Mistake> {
 }
 
 /// Numbers formulas and lines.
-fn assemble(
+pub(crate) fn assemble(
     program: &Program,
     prover: &Prover,
     kept: Kept,

@@ -4,9 +4,9 @@ mod program;
 
 use program::{run, Folder};
 
-const COMMANDS: [&str; 12] = [
+const COMMANDS: [&str; 14] = [
     "build", "check", "show", "explain", "explore", "report", "draw", "trim", "bill", "replay",
-    "handover", "serve",
+    "handover", "serve", "fmt", "watch",
 ];
 
 #[test]

@@ -5,6 +5,7 @@ use crate::command::{
     show, trim, Done, Status,
 };
 use crate::text::nearest::nearest;
+use crate::{fmt, watch};
 
 /// A command: how it is called, what it does, and the options that are its own.
 struct Command {
@@ -17,7 +18,7 @@ struct Command {
 
 const BOUNDS: [&str; 4] = ["--steps", "--writes", "--starts", "--states"];
 
-const COMMANDS: [Command; 13] = [
+const COMMANDS: [Command; 15] = [
     Command {
         name: "build",
         usage: &["build FILE.outline -o FILE.image [--partial] [--all] [--at THREAD:POINT] [--all-lines] [BOUNDS]"],
@@ -112,9 +113,23 @@ const COMMANDS: [Command; 13] = [
         options: &[],
         run: serve::run,
     },
+    Command {
+        name: "fmt",
+        usage: &["fmt FILE.. [--check]"],
+        about: "the usual layout of outlines, in place; comments stay, and a second time changes nothing",
+        options: &["--check"],
+        run: fmt::run,
+    },
+    Command {
+        name: "watch",
+        usage: &["watch FILE.. [--once]"],
+        about: "judges outlines again at each save, the first thing to look at on top; ends on an interrupt",
+        options: &["--once"],
+        run: watch::run,
+    },
 ];
 
-const OPTIONS: [(&str, &str); 19] = [
+const OPTIONS: [(&str, &str); 21] = [
     ("--image", "writes the image that the page is about, or of what was inferred, too"),
     ("--tries", "N, a bound: ends the inference after so many tries; 2000000"),
     ("--date", "the page's date; else that of SOURCE_DATE_EPOCH, else the clock's, in UTC"),
@@ -138,6 +153,8 @@ const OPTIONS: [(&str, &str); 19] = [
     ("--given", "what open registers hold at the start (0)"),
     ("--entries", "room for so many writes (64)"),
     ("--table", "for each old point a new point and a line of the new image, three bytes"),
+    ("--check", "writes nothing: the status is 1 if a file would change"),
+    ("--once", "judges once and ends"),
     ("--map", "where an old point goes on, points by number or label; the others are proposed"),
 ];
 

@@ -19,6 +19,8 @@ pub struct Options {
     pub all_lines: bool,
     pub json: bool,
     pub claims: bool,
+    pub check: bool,
+    pub once: bool,
     pub at: Option<String>,
     pub outcome: Option<String>,
     pub steps: Option<usize>,
@@ -76,6 +78,8 @@ impl Options {
                 "--all-lines" => options.all_lines = true,
                 "--json" => options.json = true,
                 "--claims" => options.claims = true,
+                "--check" => options.check = true,
+                "--once" => options.once = true,
                 file => options.files.push(file.into()),
             }
         }

@@ -67,7 +67,9 @@ fn commands_that_accept_fit_the_schema() {
     let (old, new) = (example("update/old"), example("update/new"));
     let (handed, table) = (folder.file("new.image"), folder.file("new.table"));
     let asked = folder.with("asked.program", ASKED);
-    let commands: [&[&str]; 13] = [
+    let commands: [&[&str]; 15] = [
+        &["fmt", &asked],
+        &["watch", "--once", &text],
         &["build", &text, "-o", &image],
         &["infer", &asked, "-o", &folder.file("found.outline")],
         &["check", &text, &image],
@@ -102,7 +104,9 @@ fn commands_that_refuse_fit_the_schema() {
     let tariff = folder.with("tariff", "start 1\nstep 2\ntaken 3\ninterference 4\nleast 5\n");
     let cut = folder.with("cut.image", "\0");
     let broken = folder.with("broken.program", &ASKED.replace("flag :=rel 1", "flag := 1"));
-    let commands: [&[&str]; 14] = [
+    let commands: [&[&str]; 16] = [
+        &["fmt", "--check", &broken],
+        &["watch", "--once", &wrong],
         &["infer", &broken, "-o", &folder.file("none.outline")],
         &["build", &broken, "-o", &folder.file("none.image")],
         &["build", &wrong, "-o", &image],
