@@ -17,6 +17,7 @@ pub mod handover;
 pub mod image;
 pub mod infer;
 pub mod judged;
+pub mod lsp;
 pub mod markup;
 pub mod refuted;
 pub mod report;

@@ -4,9 +4,9 @@ mod program;
 
 use program::{run, Folder};
 
-const COMMANDS: [&str; 14] = [
+const COMMANDS: [&str; 15] = [
     "build", "check", "show", "explain", "explore", "report", "draw", "trim", "bill", "replay",
-    "handover", "serve", "fmt", "watch",
+    "handover", "serve", "fmt", "watch", "lsp",
 ];
 
 #[test]

@@ -5,7 +5,7 @@ use crate::command::{
     show, trim, Done, Status,
 };
 use crate::text::nearest::nearest;
-use crate::{fmt, watch};
+use crate::{fmt, lsp, watch};
 
 /// A command: how it is called, what it does, and the options that are its own.
 struct Command {
@@ -18,7 +18,7 @@ struct Command {
 
 const BOUNDS: [&str; 4] = ["--steps", "--writes", "--starts", "--states"];
 
-const COMMANDS: [Command; 15] = [
+const COMMANDS: [Command; 16] = [
     Command {
         name: "build",
         usage: &["build FILE.outline -o FILE.image [--partial] [--all] [--at THREAD:POINT] [--all-lines] [BOUNDS]"],
@@ -127,11 +127,18 @@ const COMMANDS: [Command; 15] = [
         options: &["--once"],
         run: watch::run,
     },
+    Command {
+        name: "lsp",
+        usage: &["lsp [--tries N]"],
+        about: "a language server on standard input and output, for editors",
+        options: &["--tries"],
+        run: lsp::run,
+    },
 ];
 
 const OPTIONS: [(&str, &str); 21] = [
     ("--image", "writes the image that the page is about, or of what was inferred, too"),
-    ("--tries", "N, a bound: ends the inference after so many tries; 2000000"),
+    ("--tries", "N, a bound: ends the inference after so many tries; 2000000. Of lsp: the tries for each obligation; 20000"),
     ("--date", "the page's date; else that of SOURCE_DATE_EPOCH, else the clock's, in UTC"),
     ("--partial", "writes an image with open obligations and claims too"),
     ("--all", "tells all open obligations and claims in full"),
