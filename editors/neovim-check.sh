@@ -17,8 +17,6 @@ end
 local published = 0
 local usual = vim.lsp.handlers["textDocument/publishDiagnostics"]
 vim.lsp.handlers["textDocument/publishDiagnostics"] = function(...) published = published + 1 return usual(...) end
-vim.opt.runtimepath:append("$folder/editors/vim")
-vim.cmd("filetype plugin on")
 vim.cmd("syntax on")
 vim.cmd("edit $work/m.outline")
 if vim.bo.filetype ~= "outline" then fail("the file type is " .. vim.bo.filetype) end
@@ -52,4 +50,4 @@ wait_for("the layout is back", function() return vim.fn.getline(line) == "    fl
 io.stdout:write("all as wanted\n")
 vim.cmd("quitall!")
 LUA
-nvim --headless --clean -u NONE -S "$work/check.lua" </dev/null
+nvim --headless --clean --cmd "set runtimepath+=$folder/editors/vim" -S "$work/check.lua" </dev/null

@@ -21,21 +21,24 @@ pub struct Piece {
 /// The pieces of a text, and its tokens alone; the end of the text is a token, and no piece.
 pub fn pieces(text: &str) -> (Vec<Piece>, Vec<(Token, Place)>) {
     let list = tokens(text).list;
-    let (mut all, mut token, mut last) = (Vec::new(), 0, 1);
-    for (line, content) in (1..).zip(text.lines()) {
-        while token + 1 < list.len() && list[token].1.line == line {
-            all.push(Piece {
-                what: What::Token(list[token].0.clone()),
-                breaks: line - last,
-                token,
-            });
-            (last, token) = (line, token + 1);
-        }
-        if let Some(at) = content.find('#') {
-            let comment = content[at..].trim_end().to_string();
-            all.push(Piece { what: What::Comment(comment), breaks: line - last, token });
-            last = line;
-        }
-    }
-    (all, list)
+    let ends = list.len() - 1;
+    let token = |(at, (token, place)): (usize, &(Token, Place))| {
+        (place.line, at, What::Token(token.clone()))
+    };
+    let mut all: Vec<(usize, usize, What)> = list[..ends].iter().enumerate().map(token).collect();
+    // A comment stands behind all tokens of its line.
+    let behind = |line: usize| list[..ends].partition_point(|(_, place)| place.line <= line);
+    let comment = |(line, content): (usize, &str)| {
+        let comment = content[content.find('#')?..].trim_end().to_string();
+        Some((line, behind(line), What::Comment(comment)))
+    };
+    all.extend((1..).zip(text.lines()).filter_map(comment));
+    all.sort_by_key(|(line, _, what)| (*line, matches!(what, What::Comment(_))));
+    let mut last = 1;
+    let piece = |(line, token, what): (usize, usize, What)| {
+        let breaks = line - last;
+        last = line;
+        Piece { what, breaks, token }
+    };
+    (all.into_iter().map(piece).collect(), list)
 }

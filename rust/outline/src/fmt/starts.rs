@@ -17,9 +17,8 @@ pub fn starts(list: &[(Token, Place)], source: &Source) -> Vec<Option<usize>> {
             of_point(list, at, point, &mut starts);
         }
     }
-    for hint in &source.hints {
-        places.get(&hint.line).into_iter().for_each(|&at| starts[at] = Some(INNER));
-    }
+    let named = source.hints.iter().filter_map(|hint| places.get(&hint.line));
+    named.for_each(|&at| starts[at] = Some(INNER));
     let certificate = list.iter().position(|(token, _)| is(token, "certificate"));
     if let (Some(from), Some(_)) = (certificate, &source.certificate) {
         let ends = (from + 1..list.len()).find(|&at| starts[at].is_some());

@@ -5,7 +5,7 @@ use super::position::Range;
 use crate::command::json::{list, object, quoted};
 use crate::fmt::formatted;
 use crate::infer::{written, Answer, Found};
-use crate::text::source::Source;
+use crate::text::source::{Point, Source};
 
 fn edit(range: Range, text: &str) -> String {
     object(&[("range", range.json()), ("newText", quoted(text))])
@@ -42,16 +42,15 @@ pub fn actions(document: &mut Document, range: Range) -> String {
 /// The hole that a range touches; thread and point count from 0.
 fn hole_at(document: &Document, range: Range) -> Option<(usize, usize)> {
     let (source, lines) = (document.source()?, document.lines());
-    for (t, points) in source.points.iter().enumerate() {
-        for (p, point) in points.iter().enumerate() {
-            let span = document.places.points.get(t)?.get(p)?.point;
-            let own = Range::of_tokens(&lines, &document.list, span.0, span.1);
-            if point.hole && own.touches(&range) {
-                return Some((t, p));
-            }
-        }
-    }
-    None
+    let points = source.points.iter().enumerate();
+    let mut points =
+        points.flat_map(|(t, all)| all.iter().enumerate().map(move |(p, point)| (t, p, point)));
+    let touched = |(t, p, point): &(usize, usize, &Point)| {
+        let spans = document.places.points.get(*t).and_then(|all| all.get(*p));
+        let own = spans.map(|s| Range::of_tokens(&lines, &document.list, s.point.0, s.point.1));
+        point.hole && own.is_some_and(|own| own.touches(&range))
+    };
+    points.find(touched).map(|(t, p, _)| (t, p))
 }
 
 fn found_actions(

@@ -45,23 +45,24 @@ fn is(list: &List, at: usize, text: &str) -> bool {
     }
 }
 
+/// The thread in which each token stands.
+fn threads(list: &List) -> Vec<Option<String>> {
+    let mut thread = None;
+    let of_token = |at: usize| {
+        if is(list, at, "thread") {
+            thread = name(list, at + 1).map(String::from);
+        }
+        thread.clone()
+    };
+    (0..list.len()).map(of_token).collect()
+}
+
 impl Index {
     pub fn of(list: &List) -> Index {
         let mut index = Index::default();
-        let mut thread = None;
-        for at in 0..list.len() {
-            if is(list, at, "thread") {
-                thread = name(list, at + 1).map(String::from);
-            }
-            index.declare(list, at, &thread);
-        }
-        let mut thread = None;
-        for at in 0..list.len() {
-            if is(list, at, "thread") {
-                thread = name(list, at + 1).map(String::from);
-            }
-            index.refer(list, at, &thread);
-        }
+        let threads = threads(list);
+        (0..list.len()).for_each(|at| index.declare(list, at, &threads[at]));
+        (0..list.len()).for_each(|at| index.refer(list, at, &threads[at]));
         index
     }
 

@@ -1,7 +1,7 @@
 //! Which tokens are a point, its instruction, or a claim.
 
 use crate::text::lex::{Place, Token};
-use crate::text::source::Source;
+use crate::text::source::{Claim, Point, Source};
 
 /// The first and the last token.
 pub type Span = (usize, usize);
@@ -20,42 +20,60 @@ pub struct Places {
     pub claims: Vec<Span>,
 }
 
+/// The tokens in which points are looked for.
+struct Tokens<'a>(&'a [(Token, Place)]);
+
+impl Tokens<'_> {
+    fn at(&self, place: Place) -> usize {
+        self.0.iter().position(|(_, at)| *at == place).unwrap_or(0)
+    }
+
+    fn is(&self, at: usize, text: &str) -> bool {
+        matches!(&self.0.get(at), Some((Token::Mark(mark), _)) if *mark == text)
+    }
+
+    /// Where a point begins, its label included; its brace is here, or what a thread without assertions has.
+    fn begin(&self, first: usize) -> usize {
+        let labelled = self.is(first, "{") && first >= 2 && self.is(first - 1, ":");
+        if labelled {
+            first - 2
+        } else {
+            first
+        }
+    }
+
+    /// Where a point ends: its brace, its label, or nothing but the instruction itself.
+    fn end(&self, first: usize) -> usize {
+        match (self.is(first, "{"), self.is(first + 1, ":")) {
+            (true, _) => (first..self.0.len()).find(|&end| self.is(end, "}")).unwrap_or(first),
+            (_, true) => first + 1,
+            _ => first,
+        }
+    }
+
+    /// The points of a thread, whose places are these.
+    fn spans(&self, firsts: &[usize]) -> Vec<Spans> {
+        let span = |(n, &first): (usize, &usize)| {
+            let last = self.end(first);
+            let numbered = if self.is(last + 1, "@") { 2 } else { 0 };
+            let from = if last == first { first } else { last + 1 + numbered };
+            let to = firsts.get(n + 1).map(|next| self.begin(*next).max(1) - 1);
+            let instruction = to.filter(|to| from <= *to).map(|to| (from, to));
+            Spans { point: (self.begin(first), last), instruction }
+        };
+        firsts.iter().enumerate().map(span).collect()
+    }
+}
+
 impl Places {
     pub fn of(list: &[(Token, Place)], source: &Source) -> Places {
-        let at = |place: Place| list.iter().position(|(_, at)| *at == place).unwrap_or(0);
-        let mark = |at: usize, text: &str| matches!(&list.get(at), Some((Token::Mark(m), _)) if *m == text);
-        let thread = |points: &Vec<crate::text::source::Point>| {
-            let firsts: Vec<usize> = points.iter().map(|point| at(point.line)).collect();
-            let begin = |n: usize| {
-                let first = firsts[n];
-                let labelled = mark(first, "{") && first >= 2 && mark(first - 1, ":");
-                if labelled {
-                    first - 2
-                } else {
-                    first
-                }
-            };
-            let spans = |n: usize| {
-                let first = firsts[n];
-                let mut last = first;
-                if mark(first, "{") {
-                    last = (first..list.len()).find(|&end| mark(end, "}")).unwrap_or(first);
-                } else if mark(first + 1, ":") {
-                    last = first + 1;
-                }
-                // Without assertions a point is no token of its own: the instruction is.
-                let bare = last == first;
-                let from =
-                    if bare { first } else { last + 1 + if mark(last + 1, "@") { 2 } else { 0 } };
-                let instruction = (n + 1 < firsts.len()).then(|| (from, begin(n + 1).max(1) - 1));
-                Spans {
-                    point: (begin(n), last),
-                    instruction: instruction.filter(|(from, to)| from <= to),
-                }
-            };
-            (0..firsts.len()).map(spans).collect()
+        let tokens = Tokens(list);
+        let thread = |points: &Vec<Point>| {
+            let firsts: Vec<usize> = points.iter().map(|point| tokens.at(point.line)).collect();
+            tokens.spans(&firsts)
         };
-        let claim = |claim: &crate::text::source::Claim| (at(claim.line), at(claim.line) + 5);
+        // `never THREAD POINT and THREAD POINT`
+        let claim = |claim: &Claim| (tokens.at(claim.line), tokens.at(claim.line) + 5);
         Places {
             points: source.points.iter().map(thread).collect(),
             claims: source.claims.iter().map(claim).collect(),
@@ -69,16 +87,11 @@ impl Places {
     /// The thread and point at a token, and whether the token is of the instruction.
     pub fn at(&self, token: usize) -> Option<(u8, u8, bool)> {
         let within = |span: Span| (span.0..=span.1).contains(&token);
-        for (t, points) in (1..).zip(&self.points) {
-            for (p, spans) in (0..).zip(points) {
-                if spans.instruction.is_some_and(within) {
-                    return Some((t, p, true));
-                }
-                if within(spans.point) {
-                    return Some((t, p, false));
-                }
-            }
-        }
-        None
+        let all = (1..).zip(&self.points);
+        let mut all = all.flat_map(|(t, points)| (0..).zip(points).map(move |(p, s)| (t, p, s)));
+        all.find_map(|(t, p, spans)| {
+            let instruction = spans.instruction.is_some_and(within);
+            (instruction || within(spans.point)).then_some((t, p, instruction))
+        })
     }
 }

@@ -72,7 +72,13 @@ mod tests {
 
     #[test]
     fn garbage_is_passed_over() {
-        let mut input = &b"hello\r\n\r\nContent-Type: x\r\ncontent-length: 2\r\n\r\n{}Content-Length: x\r\n\r\nxxContent-Length: 1\r\n\r\n\xffContent-Length: 9\r\n\r\n{"[..];
+        let wire = [
+            &b"hello\r\n\r\nContent-Type: x\r\ncontent-length: 2\r\n\r\n{}"[..],
+            b"Content-Length: x\r\n\r\nxxContent-Length: 1\r\n\r\n\xff",
+            b"Content-Length: 9\r\n\r\n{",
+        ];
+        let wire = wire.concat();
+        let mut input = &wire[..];
         assert!(matches!(receive(&mut input), Incoming::Garbage(_)));
         assert_eq!(receive(&mut input), Incoming::Message("{}".into()));
         assert!(matches!(receive(&mut input), Incoming::Garbage(_)));
