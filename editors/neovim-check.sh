@@ -47,6 +47,24 @@ vim.api.nvim_buf_set_lines(0, line - 1, line, true, { "flag:=rel   1" })
 wait_for("mended, the diagnosis is gone", function() return #told() == 0 end)
 if vim.lsp.buf.format then vim.lsp.buf.format({ timeout_ms = 10000 }) else vim.lsp.buf.formatting_sync(nil, 10000) end
 wait_for("the layout is back", function() return vim.fn.getline(line) == "    flag :=rel 1" end)
+-- Comments, marks, brackets and numbers of all examples have their groups.
+local wanted = { ["#"] = "Comment", ["["] = "Bracket", ["("] = "Bracket", ["+"] = "Mark", ["&"] = "Mark", [";"] = "Mark" }
+local seen = 0
+for _, file in ipairs(vim.fn.glob("$folder/examples/*.outline", false, true)) do
+  vim.cmd("silent edit! " .. file)
+  for number, content in ipairs(vim.fn.getline(1, "\$")) do
+    local code = content:match("^[^#]*")
+    for column = 1, math.min(#code + 1, #content) do
+      local group = wanted[content:sub(column, column)]
+      if group then
+        local found = vim.fn.synIDattr(vim.fn.synID(number, column, 1), "name")
+        if found ~= "outline" .. group then fail(file .. ":" .. number .. ":" .. column .. ": " .. found) end
+        seen = seen + 1
+      end
+    end
+  end
+end
+io.stdout:write("ok: " .. seen .. " places of all examples have their groups\n")
 io.stdout:write("all as wanted\n")
 vim.cmd("quitall!")
 LUA
