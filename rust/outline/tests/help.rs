@@ -4,9 +4,9 @@ mod program;
 
 use program::{run, Folder};
 
-const COMMANDS: [&str; 15] = [
-    "build", "check", "show", "explain", "explore", "report", "draw", "trim", "bill", "replay",
-    "handover", "serve", "fmt", "watch", "lsp",
+const COMMANDS: [&str; 17] = [
+    "build", "infer", "check", "show", "explain", "explore", "report", "draw", "trim", "bill",
+    "replay", "handover", "serve", "migrate", "fmt", "watch", "lsp",
 ];
 
 #[test]

@@ -1,8 +1,8 @@
 //! The commands by their names, and what is said of them.
 
 use crate::command::{
-    bill, build, check, draw, explain, explore, handover, infer, print, replay, report, serve,
-    show, trim, Done, Status,
+    bill, build, check, draw, explain, explore, handover, infer, migrate, print, replay, report,
+    serve, show, trim, Done, Status,
 };
 use crate::text::nearest::nearest;
 use crate::{fmt, lsp, watch};
@@ -18,7 +18,7 @@ struct Command {
 
 const BOUNDS: [&str; 4] = ["--steps", "--writes", "--starts", "--states"];
 
-const COMMANDS: [Command; 16] = [
+const COMMANDS: [Command; 17] = [
     Command {
         name: "build",
         usage: &["build FILE.outline -o FILE.image [--partial] [--all] [--at THREAD:POINT] [--all-lines] [BOUNDS]"],
@@ -134,11 +134,18 @@ const COMMANDS: [Command; 16] = [
         options: &["--tries"],
         run: lsp::run,
     },
+    Command {
+        name: "migrate",
+        usage: &["migrate STEP FILE.image -o FILE.image", "migrate STEP --set SET -o SET"],
+        about: "an image of an earlier layout in the next one; steps, in their order: range, marks, actors; of a set also lengths",
+        options: &["--set"],
+        run: migrate::run,
+    },
 ];
 
-const OPTIONS: [(&str, &str); 21] = [
+const OPTIONS: [(&str, &str); 22] = [
     ("--image", "writes the image that the page is about, or of what was inferred, too"),
-    ("--tries", "N, a bound: ends the inference after so many tries; 2000000. Of lsp: the tries for each obligation; 20000"),
+    ("--tries", "N, a bound: ends the inference after so many tries; 1200000. Of lsp: the tries for each obligation; 20000"),
     ("--date", "the page's date; else that of SOURCE_DATE_EPOCH, else the clock's, in UTC"),
     ("--partial", "writes an image with open obligations and claims too"),
     ("--all", "tells all open obligations and claims in full"),
@@ -162,6 +169,7 @@ const OPTIONS: [(&str, &str); 21] = [
     ("--table", "for each old point a new point and a line of the new image, three bytes"),
     ("--check", "writes nothing: the status is 1 if a file would change"),
     ("--once", "judges once and ends"),
+    ("--set", "the file is a stored set of images with their verdicts"),
     ("--map", "where an old point goes on, points by number or label; the others are proposed"),
 ];
 
@@ -240,6 +248,6 @@ mod tests {
             );
         }
         let told = |name: &&str| OPTIONS.iter().any(|(other, _)| other == name);
-        assert!(COMMANDS.iter().all(|command| command.options.iter().all(|name| told(name))));
+        assert!(COMMANDS.iter().all(|command| command.options.iter().all(told)));
     }
 }

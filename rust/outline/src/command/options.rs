@@ -36,6 +36,7 @@ pub struct Options {
     pub date: Option<String>,
     pub map: Vec<String>,
     pub tries: Option<u64>,
+    pub set: bool,
 }
 
 impl Options {
@@ -80,6 +81,7 @@ impl Options {
                 "--claims" => options.claims = true,
                 "--check" => options.check = true,
                 "--once" => options.once = true,
+                "--set" => options.set = true,
                 file => options.files.push(file.into()),
             }
         }

@@ -1,14 +1,16 @@
 //! Building the same outline again and again: lines that were found for an obligation serve as long as the program, the
 //! named steps and what the obligation says are the same.
 
-use crate::build::{assemble, left_open, prove, take_hint, Built, Goal, Open, Watch};
+use crate::build::{assemble, shorter, take_hint, Built, Goal, One, Sought, Watch};
 use crate::explicit;
-use crate::search::budget::Budget;
+use crate::search::budget::{Budget, BEYOND, TRIES};
 use crate::search::certificate::Certificate;
 use crate::search::kept::Kept;
 use crate::search::prover::{Line, Prover};
+use crate::search::tried::Lacking;
 use crate::text::lex::Mistake;
 use crate::text::source::Source;
+use reference::checker::limits::FORMULAS;
 use reference::image::{Header, Statement, Thread};
 use std::collections::HashMap;
 use std::mem::take;
@@ -47,6 +49,13 @@ struct Named {
     parts: Vec<Line>,
 }
 
+/// What was told of a goal that was not found, and the tries after which it was given up, if it was.
+#[derive(Debug, Clone)]
+struct Missed {
+    given_up: Option<u64>,
+    told: (Vec<String>, Option<Lacking>),
+}
+
 /// What was found and what was not, of one outline.
 #[derive(Debug, Default)]
 pub struct Memory {
@@ -54,7 +63,7 @@ pub struct Memory {
     lines: Certificate,
     named: Option<Named>,
     proved: HashMap<Statement, Line>,
-    open: HashMap<Statement, Open>,
+    open: HashMap<Statement, Missed>,
     /// The names in which open obligations were told.
     names: String,
 }
@@ -70,6 +79,31 @@ impl Memory {
         if self.names != names {
             self.open.clear();
             self.names = names;
+        }
+    }
+
+    /// What is known of a goal.
+    fn recall(&self, one: &mut One) {
+        if let Some(line) = self.proved.get(&one.wanted) {
+            (one.line, one.tried) = (Some(*line), true);
+        } else if let Some(missed) = self.open.get(&one.wanted) {
+            (one.tried, one.known) = (true, true);
+            (one.given_up, one.told) = (missed.given_up, missed.told.clone());
+        }
+    }
+
+    /// Keeps what was found out about a goal.
+    fn keep(&mut self, one: &One) {
+        let wanted = || one.wanted.clone();
+        match one.line {
+            Some(line) => {
+                self.proved.insert(wanted(), line);
+            }
+            None if one.tried => {
+                let missed = Missed { given_up: one.given_up, told: one.told.clone() };
+                self.open.insert(wanted(), missed);
+            }
+            None => {}
         }
     }
 }
@@ -89,80 +123,44 @@ pub fn build_again(
     let mut prover = Prover::new(&program, source.names.clone());
     prover.budget = Budget::of(tries);
     prover.lines = take(&mut memory.lines);
-    let failed = name_steps(&mut prover, memory, source);
-    let mut sought = Sought { found: Vec::new(), open: Vec::new(), untried: 0 };
-    let goals = Goal::all(source);
-    for (done, goal) in goals.iter().enumerate() {
-        sought.seek(&mut prover, memory, *goal, || watch(done, goals.len()));
-    }
+    // Whoever bounds the tries of each obligation wants no more of them for all together.
+    let mut beyond = if tries < TRIES { 0 } else { BEYOND };
+    let failed = name_steps(&mut prover, memory, source, &mut beyond);
+    let mut sought = Sought::of(&Goal::all(source), &program);
+    sought.goals.iter_mut().for_each(|one| memory.recall(one));
+    let untried = sought.in_turn(&mut prover, watch);
+    sought.again(&mut prover, beyond, watch);
+    sought.goals.iter().for_each(|one| memory.keep(one));
     let (tries, most_tries) = prover.budget.made();
-    let image = assemble(&program, &prover, Kept::Needed, &sought.found);
+    let open = sought.left_open(&mut prover);
+    let found: Vec<(Goal, Option<Line>)> =
+        sought.goals.iter().map(|one| (one.goal, one.line)).collect();
+    let mut image = assemble(&program, &prover.lines, Kept::Needed, &found);
+    if image.formulas.len() > FORMULAS {
+        image = shorter(&program, &prover.lines, &found);
+    }
     memory.lines = take(&mut prover.lines);
-    let Sought { open, untried, .. } = sought;
     Ok(Built { image, open, failed, untried, tries, most_tries })
 }
 
 /// What was named is in force: from before, or found now.
-fn name_steps(prover: &mut Prover, memory: &mut Memory, source: &Source) -> Vec<Mistake> {
+fn name_steps(
+    prover: &mut Prover,
+    memory: &mut Memory,
+    source: &Source,
+    beyond: &mut u64,
+) -> Vec<Mistake> {
     if let Some(named) = &memory.named {
         prover.steps = named.steps.clone();
         prover.facts = named.facts.clone();
         prover.parts = named.parts.clone();
         return Vec::new();
     }
-    let taken = source.hints.iter().map(|hint| take_hint(prover, hint));
+    let taken = source.hints.iter().map(|hint| take_hint(prover, hint, beyond));
     let failed: Vec<Mistake> = taken.filter_map(Result::err).collect();
     if failed.is_empty() {
         let (steps, facts) = (prover.steps.clone(), prover.facts.clone());
         memory.named = Some(Named { steps, facts, parts: prover.parts.clone() });
     }
     failed
-}
-
-/// What has come of the goals so far.
-struct Sought {
-    found: Vec<(Goal, Option<Line>)>,
-    open: Vec<Open>,
-    untried: usize,
-}
-
-impl Sought {
-    /// One more goal, from memory or by search if that goes on.
-    fn seek(
-        &mut self,
-        prover: &mut Prover,
-        memory: &mut Memory,
-        goal: Goal,
-        go_on: impl Fn() -> bool,
-    ) {
-        let wanted = goal.wanted(prover.program);
-        if let Some(&line) = memory.proved.get(&wanted) {
-            self.found.push((goal, Some(line)));
-            return;
-        }
-        if let Some(open) = memory.open.get(&wanted) {
-            self.open.push(Open { goal, ..open.clone() });
-            self.found.push((goal, None));
-            return;
-        }
-        if !go_on() {
-            self.untried += 1;
-            self.found.push((goal, None));
-            return;
-        }
-        prover.tried.clear();
-        prover.budget.renew();
-        let line = prove(prover, &wanted);
-        match line {
-            Some(line) => {
-                memory.proved.insert(wanted, line);
-            }
-            None => {
-                let open = left_open(prover, goal, wanted.clone());
-                memory.open.insert(wanted, open.clone());
-                self.open.push(open);
-            }
-        }
-        self.found.push((goal, line));
-    }
 }

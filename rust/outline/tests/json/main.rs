@@ -67,7 +67,7 @@ fn commands_that_accept_fit_the_schema() {
     let (old, new) = (example("update/old"), example("update/new"));
     let (handed, table) = (folder.file("new.image"), folder.file("new.table"));
     let asked = folder.with("asked.program", ASKED);
-    let commands: [&[&str]; 15] = [
+    let commands: [&[&str]; 16] = [
         &["fmt", &asked],
         &["watch", "--once", &text],
         &["build", &text, "-o", &image],
@@ -83,6 +83,7 @@ fn commands_that_accept_fit_the_schema() {
         &["bill", &text, "--tariff", &tariff],
         &["replay", &text, &trace],
         &["handover", &old, &new, "-o", &handed, "--table", &table],
+        &["migrate", "actors", &image, "-o", &folder.file("m.image")],
     ];
     for args in commands {
         answers(args);
