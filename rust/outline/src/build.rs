@@ -161,29 +161,32 @@ fn search(source: &Source, kept: Kept, tries: u64, watch: Watch) -> Built {
 }
 
 /// A goal, and what the search has found for it so far.
-struct One {
-    goal: Goal,
-    wanted: Statement,
-    line: Option<usize>,
-    tried: bool,
+pub(crate) struct One {
+    pub goal: Goal,
+    pub wanted: Statement,
+    pub line: Option<usize>,
+    pub tried: bool,
+    /// Whether it was sought before, in vain, and is not sought again.
+    pub known: bool,
     /// The tries after which it was given up, if it was.
-    given_up: Option<u64>,
-    told: (Vec<String>, Option<Lacking>),
+    pub given_up: Option<u64>,
+    pub told: (Vec<String>, Option<Lacking>),
 }
 
 /// All goals of an outline.
-struct Sought<'p> {
+pub(crate) struct Sought<'p> {
     program: &'p Program,
-    goals: Vec<One>,
+    pub goals: Vec<One>,
 }
 
 impl<'p> Sought<'p> {
-    fn of(goals: &[Goal], program: &'p Program) -> Sought<'p> {
+    pub fn of(goals: &[Goal], program: &'p Program) -> Sought<'p> {
         let one = |goal: &Goal| One {
             goal: *goal,
             wanted: goal.wanted(program),
             line: None,
             tried: false,
+            known: false,
             given_up: None,
             told: Default::default(),
         };
@@ -191,10 +194,10 @@ impl<'p> Sought<'p> {
     }
 
     /// Each goal within its share, so that none keeps the others from their turn; how many were not tried.
-    fn in_turn(&mut self, prover: &mut Prover, watch: Watch) -> usize {
+    pub fn in_turn(&mut self, prover: &mut Prover, watch: Watch) -> usize {
         let all = self.goals.len();
         for (done, one) in self.goals.iter_mut().enumerate() {
-            if watch(done, all) {
+            if !one.tried && watch(done, all) {
                 one.seek(prover, SHARE);
             }
         }
@@ -202,10 +205,10 @@ impl<'p> Sought<'p> {
     }
 
     /// Those that were given up, the likeliest first, with what is left for all of them.
-    fn again(&mut self, prover: &mut Prover, mut beyond: u64, watch: Watch) {
+    pub fn again(&mut self, prover: &mut Prover, mut beyond: u64, watch: Watch) {
         let all = self.goals.len();
         let mut open: Vec<&mut One> =
-            self.goals.iter_mut().filter(|one| one.given_up.is_some()).collect();
+            self.goals.iter_mut().filter(|one| one.given_up.is_some() && !one.known).collect();
         open.sort_by_key(|one| unlikely(prover, &one.wanted));
         let closed = all - open.len();
         for (done, one) in open.into_iter().enumerate() {
@@ -219,7 +222,7 @@ impl<'p> Sought<'p> {
     }
 
     /// What is told of each goal without a line.
-    fn left_open(&self, prover: &mut Prover) -> Vec<Open> {
+    pub fn left_open(&self, prover: &mut Prover) -> Vec<Open> {
         let tried = |one: &&One| one.line.is_none() && one.tried;
         let mut wanting = None;
         let mut open = Vec::new();
@@ -301,7 +304,7 @@ pub fn prove(prover: &mut Prover, wanted: &Statement) -> Option<usize> {
 }
 
 /// Proves what the writer named, by the rule named or by search, and keeps it in mind.
-fn take_hint(prover: &mut Prover, hint: &Hint, beyond: &mut u64) -> Result<(), Mistake> {
+pub(crate) fn take_hint(prover: &mut Prover, hint: &Hint, beyond: &mut u64) -> Result<(), Mistake> {
     let fail = |text: String| Err(Mistake { line: hint.line, text });
     if let Statement::Triple { thread, point, .. } = hint.statement {
         if prover.program.instruction(thread, point).is_none_or(Instruction::is_branch) {
@@ -342,7 +345,11 @@ fn hint_words(prover: &mut Prover) -> Vec<String> {
 }
 
 /// The image with as few formulas as leaving out lines gives.
-fn shorter(program: &Program, found: &Certificate, goals: &[(Goal, Option<usize>)]) -> Written {
+pub(crate) fn shorter(
+    program: &Program,
+    found: &Certificate,
+    goals: &[(Goal, Option<usize>)],
+) -> Written {
     let roots: Vec<usize> = goals.iter().filter_map(|(_, line)| *line).collect();
     let mut shortened = Shortened::of(program, found, &roots);
     shortened.run();
@@ -354,7 +361,7 @@ fn shorter(program: &Program, found: &Certificate, goals: &[(Goal, Option<usize>
 }
 
 /// Numbers formulas and lines.
-fn assemble(
+pub(crate) fn assemble(
     program: &Program,
     lines: &Certificate,
     kept: Kept,

@@ -4,9 +4,10 @@ mod program;
 
 use program::{run, Folder};
 
-const COMMANDS: [&str; 20] = [
+const COMMANDS: [&str; 21] = [
     "build", "infer", "check", "show", "explain", "explore", "report", "draw", "trim", "bill",
-    "replay", "handover", "serve", "migrate", "litmus", "import", "same", "export", "watch", "fmt",
+    "replay", "handover", "serve", "migrate", "litmus", "import", "same", "export", "fmt", "watch",
+    "lsp",
 ];
 
 #[test]

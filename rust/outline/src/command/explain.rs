@@ -71,7 +71,7 @@ impl Explained {
 }
 
 /// What a line rests on; nothing for line 0.
-fn tree(image: &Image, names: &Names, line: u16, told: &mut BTreeSet<u16>) -> String {
+pub(crate) fn tree(image: &Image, names: &Names, line: u16, told: &mut BTreeSet<u16>) -> String {
     let mut text = String::new();
     if line > 0 {
         branch(image, names, line, 1, told, &mut text);

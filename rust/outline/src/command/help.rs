@@ -1,10 +1,11 @@
 //! The commands by their names, and what is said of them.
 
 use crate::command::{
-    bill, build, check, draw, explain, explore, export, fmt, handover, import, infer, litmus,
-    migrate, print, replay, report, same, serve, show, trim, watch, Done, Status,
+    bill, build, check, draw, explain, explore, export, handover, import, infer, litmus,
+    migrate, print, replay, report, same, serve, show, trim, Done, Status,
 };
 use crate::text::nearest::nearest;
+use crate::{fmt, lsp, watch};
 
 /// A command: how it is called, what it does, and the options that are its own.
 struct Command {
@@ -17,7 +18,7 @@ struct Command {
 
 const BOUNDS: [&str; 4] = ["--steps", "--writes", "--starts", "--states"];
 
-const COMMANDS: [Command; 20] = [
+const COMMANDS: [Command; 21] = [
     Command {
         name: "build",
         usage: &["build FILE.outline -o FILE.image [--partial] [--all] [--at THREAD:POINT] [--all-lines] [BOUNDS]"],
@@ -38,20 +39,6 @@ const COMMANDS: [Command; 20] = [
         about: "judges images and outlines, each by itself; of a folder those that are named .image or .outline",
         options: &[],
         run: check::run,
-    },
-    Command {
-        name: "watch",
-        usage: &["watch FILE.."],
-        about: "judges outlines and images again at each save, what is to be looked at first on top; until an interrupt",
-        options: &[],
-        run: watch::run,
-    },
-    Command {
-        name: "fmt",
-        usage: &["fmt FILE.outline [-o OUTLINE]", "fmt FILE.outline --check"],
-        about: "the layout of an outline's text; its words and comments stay",
-        options: &["--check"],
-        run: fmt::run,
     },
     Command {
         name: "show",
@@ -158,6 +145,27 @@ const COMMANDS: [Command; 20] = [
         run: serve::run,
     },
     Command {
+        name: "fmt",
+        usage: &["fmt FILE.. [--check]"],
+        about: "the usual layout of outlines, in place; comments stay, and a second time changes nothing",
+        options: &["--check"],
+        run: fmt::run,
+    },
+    Command {
+        name: "watch",
+        usage: &["watch FILE.. [--once]"],
+        about: "judges outlines again at each save, the first thing to look at on top; ends on an interrupt",
+        options: &["--once"],
+        run: watch::run,
+    },
+    Command {
+        name: "lsp",
+        usage: &["lsp [--tries N]"],
+        about: "a language server on standard input and output, for editors",
+        options: &["--tries"],
+        run: lsp::run,
+    },
+    Command {
         name: "migrate",
         usage: &["migrate STEP FILE.image -o FILE.image", "migrate STEP --set SET -o SET"],
         about: "an image of an earlier layout in the next one; steps, in their order: range, marks, actors; of a set also lengths",
@@ -166,9 +174,9 @@ const COMMANDS: [Command; 20] = [
     },
 ];
 
-const OPTIONS: [(&str, &str); 28] = [
+const OPTIONS: [(&str, &str); 29] = [
     ("--image", "writes the image that the page is about, or of what was inferred, too"),
-    ("--tries", "N, a bound: ends the inference after so many tries; 1200000"),
+    ("--tries", "N, a bound: ends the inference after so many tries; 1200000. Of lsp: the tries for each obligation; 20000"),
     ("--date", "the page's date; else that of SOURCE_DATE_EPOCH, else the clock's, in UTC"),
     ("--partial", "writes an image with open obligations and claims too"),
     ("--all", "tells all open obligations and claims in full"),
@@ -185,7 +193,6 @@ const OPTIONS: [(&str, &str); 28] = [
     ("--prove", "infers and judges an outline for what never happens, or always; -o writes it"),
     ("--threads", "the functions that are threads, in their order; else all but main that name an atomic word"),
     ("--cpp", "words for the C compiler's preprocessor"),
-    ("--check", "says whether the text has its layout, and writes nothing"),
     ("--litmus", "as a litmus test of C, in herd7's form"),
     ("--svg", "draws the run that decides the condition"),
     ("--steps", "N, a bound: steps of a run; 24 [24], at most 10000"),
@@ -202,13 +209,15 @@ const OPTIONS: [(&str, &str); 28] = [
     ("--given", "what open registers hold at the start (0)"),
     ("--entries", "room for so many writes (64)"),
     ("--table", "for each old point a new point and a line of the new image, three bytes"),
+    ("--check", "writes nothing: the status is 1 if a file would change"),
+    ("--once", "judges once and ends"),
     ("--set", "the file is a stored set of images with their verdicts"),
     ("--map", "where an old point goes on, points by number or label; the others are proposed"),
 ];
 
 const NOTES: &str = "\
-FILE, OLD and NEW are outlines or images; `-` is standard input, behind -o standard output. All but watch take --json.
-What is written replaces a file of its own kind, never an input. Behind -- every word is a file.
+FILE, OLD and NEW are outlines or images; `-` is standard input, behind -o standard output. All but lsp take --json.
+What is written replaces a file of its own kind, never an input but of fmt. Behind -- every word is a file.
 Status: 0 accepted; true or never in all states. 1 refused, open, false or happens. 2 wrong use, or a file that cannot be
 read or written. 3 no run was found, and a bound kept some state from being looked at; or nothing was inferred.
 `outline COMMAND --help` tells of one command.

@@ -122,10 +122,15 @@ pub fn ended(words: &[&str], done: Done) -> Done {
     }
 }
 
-/// A text as JSON.
+/// A text as JSON, in which names of files may stand.
 pub fn text(s: &str) -> String {
+    quoted(&names::shown(s))
+}
+
+/// A text as JSON, as it is.
+pub fn quoted(s: &str) -> String {
     let mut out = String::from("\"");
-    for c in names::shown(s).chars() {
+    for c in s.chars() {
         match c {
             '"' => out += "\\\"",
             '\\' => out += "\\\\",

@@ -9,7 +9,6 @@ pub mod explain;
 pub mod explore;
 pub mod export;
 pub mod finding;
-pub mod fmt;
 pub mod gather;
 pub mod handover;
 pub mod help;
@@ -38,7 +37,6 @@ pub mod spread;
 pub mod trim;
 pub mod trimmer;
 pub mod truth;
-pub mod watch;
 pub mod words;
 
 use std::io::Write;

@@ -26,6 +26,11 @@ impl Looked<'_> {
         Looked { source, program, diagnosis }
     }
 
+    /// A source with what was found out about it before.
+    pub fn again(source: &Source, diagnosis: Diagnosis) -> Looked<'_> {
+        Looked { source, program: source.program(), diagnosis }
+    }
+
     fn telling<T>(&self, tell: impl Fn(&Telling) -> T) -> T {
         let (program, names) = (&self.program, &self.source.names);
         let assertion = |t: u8, p: u8| names.assertion(program.assertion(t, p));

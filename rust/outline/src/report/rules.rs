@@ -20,6 +20,15 @@ fn titles() -> BTreeMap<u8, &'static str> {
     parts.filter_map(|(number, words)| Some((number.parse().ok()?, words))).collect()
 }
 
+/// What the manual says of a rule, its heading first.
+pub fn text(rule: u8) -> Option<&'static str> {
+    let heading = format!("#### {rule}. ");
+    let from = MANUAL.find(&format!("\n{heading}"))? + 1;
+    let rest = &MANUAL[from + heading.len()..];
+    let length = rest.find("\n##").unwrap_or(rest.len());
+    Some(MANUAL[from..from + heading.len() + length].trim_end())
+}
+
 /// Which rules there are, and the digest of the manual's chapter that states them.
 pub fn version() -> String {
     let mut ranges: Vec<(u8, u8)> = Vec::new();
@@ -41,7 +50,7 @@ pub fn version() -> String {
 
 #[cfg(test)]
 mod tests {
-    use super::{title, version};
+    use super::{text, title, version};
 
     #[test]
     fn the_version_has_every_rule() {
@@ -53,5 +62,10 @@ mod tests {
         assert_eq!(title(8), "A releasing store hands over");
         assert!((1..=16).chain(20..=27).chain(30..=49).all(|rule| !title(rule).is_empty()));
         assert_eq!(title(19), "");
+        let told = text(8).expect("a rule");
+        assert!(
+            told.starts_with("#### 8. A releasing store hands over\n") && !told.contains("#### 9")
+        );
+        assert!((1..=16).chain(20..=27).chain(30..=50).all(|rule| text(rule).is_some()));
     }
 }

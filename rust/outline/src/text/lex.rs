@@ -58,8 +58,8 @@ impl Token {
     }
 }
 
-/// Longest first, so that `:=rel` is not read as `:=`.
-const MARKS: [&str; 25] = [
+/// The marks of the language. Longest first, so that `:=rel` is not read as `:=`.
+pub const MARKS: [&str; 25] = [
     ":=rel", "<-acq", ":=", "<-", "=>", "!=", "<=", ">=", "=", "<", ">", "+", "(", ")", "[", "]",
     "{", "}", ";", "&", "|", ",", ":", "@", "?",
 ];

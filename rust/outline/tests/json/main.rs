@@ -70,7 +70,9 @@ fn commands_that_accept_fit_the_schema() {
     let code =
         "atomic_int x;\nvoid t(void) { atomic_store_explicit(&x, 1, memory_order_relaxed); }\n";
     let code = folder.with("code.c", code);
-    let commands: [&[&str]; 22] = [
+    let commands: [&[&str]; 24] = [
+        &["fmt", &asked],
+        &["watch", "--once", &text],
         &["build", &text, "-o", &image],
         &["infer", &asked, "-o", &folder.file("found.outline")],
         &["check", &text, &image],
@@ -122,7 +124,9 @@ fn commands_that_refuse_fit_the_schema() {
     let code =
         "atomic_int x;\nvoid t(void) { atomic_store_explicit(&x, 1, memory_order_relaxed); }\n";
     let (code, text) = (folder.with("code.c", code), example("polling"));
-    let commands: [&[&str]; 17] = [
+    let commands: [&[&str]; 19] = [
+        &["fmt", "--check", &broken],
+        &["watch", "--once", &wrong],
         &["litmus", &litmus("SB")],
         &["litmus", &litmus("MP+ra"), &damaged],
         &["same", &code, &text],
