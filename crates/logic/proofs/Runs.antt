@@ -59,13 +59,13 @@ map-in : {A B : Type 0} (Q : B → Type 0) (f : A → B) (l : List A) → All Q 
 map-in Q f [] h = tt
 map-in Q f (a ∷ l) h = (h .0, map-in Q f l (h .1))
 
-below-in : (Q : ℕ → Type 0) (n : ℕ) → All Q (below n) → (k : ℕ) → k < n → Q k
+pub below-in : (Q : ℕ → Type 0) (n : ℕ) → All Q (below n) → (k : ℕ) → k < n → Q k
 below-in Q zero h k b = absurd (omega arith)
 below-in Q (suc n) h k b =
     by-word n (λ k. k < suc n → Q k) (λ b. All-right Q (below n) (n ∷ []) h .0)
     (λ k q b. below-in Q n (All-left Q (below n) (n ∷ []) h) k (omega arith)) k b
 
-up-in : (Q : ℕ → Type 0) (n : ℕ) → All Q (upTo n) → (k : ℕ) → Within n k → Q k
+pub up-in : (Q : ℕ → Type 0) (n : ℕ) → All Q (upTo n) → (k : ℕ) → Within n k → Q k
 up-in Q n h zero w = absurd (omega (arith, w .0))
 up-in Q n h (suc k) w = below-in (λ k. Q (suc k)) n (map-in Q suc (below n) h) k (omega (arith, w .1))
 
