@@ -13,6 +13,7 @@ use Rattle.semantics.specs.EveryRun.{Outline, EveryRun}
 use Rattle.logic.specs.Statement.{Statement, inside, admitted}
 use Rattle.logic.specs.Obligations.{Obligation, obligations, wants}
 use Rattle.logic.specs.WellFormed.{proper, WellFormed}
+use Rattle.logic.specs.Claims.{Claim, NeverBoth, threadsIn, claims}
 use Rattle.logic_schemas.specs.Fits.{fits, sameStatement, sameAll}
 use Rattle.semantics.proofs.Base.{and-left, and-right, all-All, is-true}
 use Rattle.logic.proofs.Runs.{below-in, up-in}
@@ -21,7 +22,7 @@ use Rattle.logic_schemas.proofs.Rules.{fits-rule}
 use Rattle.logic_further.specs.Union.{DerivedFurther, by-published, by-further, ProvedFurther}
 use Rattle.logic_further.specs.Example.{nth, Example, programOf, outlineOf, wellFormed}
 use Rattle.logic_further.specs.Certificate.{Line, by, further, says, named, isThere, follows, checked, statements, states, meets, certified}
-use Rattle.logic_further.proofs.Sound.{every-run-further}
+use Rattle.logic_further.proofs.Sound.{every-run-further, never-both-further}
 
 -- WELL-FORMED by its test
 
@@ -126,3 +127,12 @@ pub certified-run : (E : Example) (ls : List (Line (programOf E))) (ks : List �
     → T (certified (programOf E) (outlineOf E) ls ks) → EveryRun (programOf E) (outlineOf E)
 certified-run E ls ks w h =
     every-run-further (programOf E) (outlineOf E) (well-formed E w) (certified-proved (programOf E) (outlineOf E) ls ks h)
+
+-- and a claim that line k of it states
+pub certified-never : (E : Example) (ls : List (Line (programOf E))) (ks : List ℕ) (c : Claim) (k : ℕ) → T (wellFormed E)
+    → T (certified (programOf E) (outlineOf E) ls ks) → threadsIn (programOf E) c
+    → T (states (programOf E) (statements (programOf E) [] ls) (claims (outlineOf E) c) k) → NeverBoth (programOf E) c
+certified-never E ls ks c k w h b g =
+    never-both-further (programOf E) (outlineOf E) (well-formed E w) (certified-proved (programOf E) (outlineOf E) ls ks h) c b
+    (states-derived (programOf E) (statements (programOf E) [] ls) (claims (outlineOf E) c) k g
+    (checked-derived (programOf E) (outlineOf E) ls (and-left (checked (programOf E) [] ls) _ h)))

@@ -6,3 +6,4 @@ pub mod Decided
 pub mod Landing
 pub mod Sound
 pub mod Certified
+pub mod RrcTwoWriters

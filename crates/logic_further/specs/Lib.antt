@@ -5,3 +5,5 @@ pub mod Union
 -- programs as lists, and certificates for them with a test that computes
 pub mod Example
 pub mod Certificate
+-- the programs
+pub mod Programs
