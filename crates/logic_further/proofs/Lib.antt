@@ -7,3 +7,5 @@ pub mod Landing
 pub mod Sound
 pub mod Certified
 pub mod RrcTwoWriters
+pub mod TicketWait
+pub mod Neighbours

@@ -3,7 +3,7 @@
 use mathlib.Core.Bool.{true, false}
 use mathlib.Core.List.{List, [], _∷_}
 use Prim.Native.Nat.{ℕ, suc}
-use Rattle.semantics.specs.Formula.{Formula, Test, Interval, Assertion, Formula.const, Formula.reg, Formula.word, Formula.sum, Formula.equal, Formula.less, Formula.and, Formula.unsync, Formula.cov, Formula.box, Formula.one, Formula.chop, Formula.both, Formula.sees, Formula.bothA, Formula.eitherA, Formula.holds}
+use Rattle.semantics.specs.Formula.{Formula, Test, Interval, Assertion, Formula.const, Formula.reg, Formula.word, Formula.sum, Formula.equal, Formula.less, Formula.and, Formula.or, Formula.unsync, Formula.cov, Formula.box, Formula.one, Formula.chop, Formula.both, Formula.sees, Formula.bothA, Formula.eitherA, Formula.holds}
 use Rattle.semantics.specs.Machine.{Mode.store, Mode.swap, Mode.fetchAdd, Access.load, Access.write, Instr, Instr.act, Instr.branch}
 use Rattle.logic.specs.Claims.{Claim}
 use Rattle.logic.specs.Inference.{newest}
@@ -136,3 +136,65 @@ peterson-joint = record {
 -- both are inside
 abbrev pub both-inside : Claim
 both-inside = record { thread = 1; point = 5; other = 2; otherPoint = 5 }
+
+-- TWO WRITERS, TWO READERS (threads 3 and 4; registers 1 to 4 are a, b, c, d): examples/corr2.outline
+
+-- a writer's first assertion: registers r, q do not have the values m, n, and both readers see 0 and then f
+abbrev pub writes : ℕ → ℕ → ℕ → ℕ → ℕ → Assertion
+writes r m q n f =
+    bothA (holds (hasNot r m))
+    (bothA (holds (hasNot q n)) (bothA (sees 3 (chop (only 0) (only f))) (sees 4 (chop (only 0) (only f)))))
+
+-- the order of x in which a reader sees the two writes is one or the other
+abbrev pub ordered : ℕ → Assertion
+ordered t = eitherA (sees t (chop (only 0) (chop (only 1) (only 2)))) (sees t (chop (only 0) (chop (only 2) (only 1))))
+
+-- if r has m, and q has n, then t sees n alone from now on
+abbrev pub firstRead : ℕ → ℕ → ℕ → ℕ → Assertion
+firstRead t r m n = eitherA (holds (hasNot r m)) (sees t (chop (only m) (only n)))
+
+abbrev pub bothRead : ℕ → ℕ → ℕ → ℕ → ℕ → Assertion
+bothRead t r m q n = eitherA (holds (Formula.not (and (has r m) (has q n)))) (sees t (only n))
+
+-- the readers do not see the writes in two orders
+abbrev pub agreed : Assertion
+agreed = holds (or (hasNot 1 1) (or (hasNot 2 2) (or (hasNot 3 2) (hasNot 4 1))))
+
+-- the threads
+abbrev pub corr2Threads : List (List Instr)
+corr2Threads =
+    (act (write (store false) 1 (const 1)) [] ∷ [])
+    ∷ (act (write (store false) 1 (const 2)) [] ∷ [])
+    ∷ (act (load false 1 1) [] ∷ act (load false 2 1) [] ∷ [])
+    ∷ (act (load false 3 1) [] ∷ act (load false 4 1) [] ∷ [])
+    ∷ []
+
+abbrev pub corr2 : Example
+corr2 = record {
+  range = 8;
+  start = 0 ∷ [];
+  threads = corr2Threads;
+  assertions =
+      (writes 1 1 4 1 2 ∷ true-assertion ∷ [])
+      ∷ (writes 2 2 3 2 1 ∷ true-assertion ∷ [])
+      ∷ (ordered 3 ∷ firstRead 3 1 1 2 ∷ bothA (bothRead 3 1 1 2 2) agreed ∷ [])
+      ∷ (ordered 4 ∷ firstRead 4 3 2 1 ∷ bothRead 4 3 2 4 1 ∷ [])
+      ∷ [];
+}
+
+-- the same with more said: the step of the left reader (3) needs what the right one (4) knows
+abbrev pub rightKnows : Assertion
+rightKnows = eitherA (holds (hasNot 3 2)) (eitherA (holds (hasNot 4 1)) (sees 4 (only 1)))
+
+abbrev pub corr2-stronger : Example
+corr2-stronger = record {
+  range = 8;
+  start = 0 ∷ [];
+  threads = corr2Threads;
+  assertions =
+      (writes 1 1 4 1 2 ∷ true-assertion ∷ [])
+      ∷ (writes 2 2 3 2 1 ∷ true-assertion ∷ [])
+      ∷ (bothA (ordered 3) rightKnows ∷ bothA (firstRead 3 1 1 2) rightKnows ∷ bothA (bothRead 3 1 1 2 2) agreed ∷ [])
+      ∷ (bothA (ordered 4) (holds (hasNot 4 1)) ∷ bothA (firstRead 4 3 2 1) (holds (hasNot 4 1)) ∷ bothRead 4 3 2 4 1 ∷ [])
+      ∷ [];
+}
