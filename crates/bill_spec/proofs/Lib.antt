@@ -5,3 +5,4 @@ pub mod AccountBranches
 pub mod BillUncut
 pub mod ThreadsLoop
 pub mod BillBranches
+pub mod Consequences

@@ -2,7 +2,7 @@
 use mathlib.Core.Path.{_≡_, refl, ap, sym, _∙_, subst}
 use mathlib.Core.Bool.{Bool, true, false, cond}
 use mathlib.Core.List.{List}
-use mathlib.Core.Logic.{_≢_}
+use mathlib.Core.Logic.{_≢_, _⊎_, inl, inr}
 use Prim.Native.Nat.{ℕ, _<_}
 use native.Mathlib.Omega.{arith}
 use lib.Dec.{ltb}
@@ -21,9 +21,13 @@ use Rattle.verdict_record.specs.Fields.{gathered, fieldsOf}
 use Rattle.verdict_record.specs.Output.{codeFor, bytesFor}
 use Rattle.verdict_record.specs.Record.{size}
 use Rattle.verdict_record.specs.declared.verdict.Verdict.{Verdict}
+use Rattle.verdict_record.specs.declared.verdict.Verdict.the-variants.{Accepted, Refused}
 use Rattle.verdict_record.proofs.VerdictBranches.{short-code, short-bytes}
+use Rattle.trim_spec.specs.Canonical.{Bytes}
+use Rattle.source.specs.TrueFor.{TrueFor}
+use Rattle.source_agrees.proofs.Theorem.{true-for, source-for}
 use Rattle.checker_spec.specs.ImageVerdict.{judged, answered, verdict}
-use Rattle.checker_spec.specs.Promise.{TrueInEveryRun, Judged, Promise}
+use Rattle.checker_spec.specs.Promise.{TrueInEveryRun, Judged, SourceJudged, Promise}
 use Rattle.checker_spec.proofs.NumbersUncut.{verdict-uncut}
 
 fault-code : (f : Fault) → codeOf f ≢ 0
@@ -68,6 +72,27 @@ module _ (s : List ℕ) where
       go true h = absurd (omega arith)
       go false h = read-true (decode s) refl h
 
+  -- an accepted image, whatever buffer is given
+  verdict-code : (n : ℕ) → verdict s ≡ Accepted n → fieldsOf (verdict s) .code ≡ 0
+  unfolding fieldsOf gathered
+  verdict-code n e = ap (λ (v : Verdict). fieldsOf v .code) e
+
+  -- the same of its source; an image is bytes
+  pub run-true : Bytes s → TrueInEveryRun s → TrueFor s
+  run-true k h = true-for s k (h .content) (h .says) (h .holds, h .never)
+
+  pub accepted-runs : (n : ℕ) → verdict s ≡ Accepted n → TrueInEveryRun s
+  unfolding verdict
+  accepted-runs n e = read-true (decode s) refl (verdict-code n e)
+
+  verdict-by : (d : Result) → decode s ≡ d → verdict s ≡ answered d
+  unfolding verdict
+  verdict-by d e = ap answered e
+
+  -- a fault in form, or what its source means is judged
+  abbrev BySource : List ℕ → ℕ → Type 0
+  BySource b c = ((f : Fault) × (i : ℕ) × (verdict s ≡ Refused f i)) ⊎ SourceJudged s (verdict s) b c
+
   met-code : (D : Image) (n : ℕ) → fieldsOf (judged D (accepted n)) .code ≡ 0
   unfolding fieldsOf gathered
   met-code D n = refl
@@ -96,19 +121,31 @@ module _ (s : List ℕ) where
       coded true h = absurd (omega arith)
       coded false h = subst (λ (v : Verdict). fieldsOf v .code ≡ 0) answer h
 
+  -- demand 2 by the source
+  source-judged : Bytes s → (b : List ℕ) → BySource b (codeFor (verdict s) b)
+  source-judged k b = go (decode s) refl
+    where
+      go : (d : Result) → decode s ≡ d → BySource b (codeFor (verdict s) b)
+      go (refused f i) e = inl (f, i, verdict-by (refused f i) e)
+      go (read D) e =
+          let q = source-for s k D e in
+          inr (record { source = q .source; bytes = q .bytes; content = D; means = q .means; right = judged-right b D e })
+
   -- DEMANDS 1, 2 AND 3, of what the code answers and leaves in the buffer
-  pub promised : (b : List ℕ) (v : Verdict) (c : ℕ) (after : List ℕ) → v ≡ verdict s → c ≡ codeFor v b → after ≡ bytesFor v b
+  pub promised : Bytes s → (b : List ℕ) (v : Verdict) (c : ℕ) (after : List ℕ) → v ≡ verdict s → c ≡ codeFor v b → after ≡ bytesFor v b
       → Promise s b c after
-  promised b v c after e f g =
+  promised k b v c after e f g =
       let q : c ≡ codeFor (verdict s) b = f ∙ ap (λ (w : Verdict). codeFor w b) e in
       record {
         returned = q;
         written = g ∙ ap (λ (w : Verdict). bytesFor w b) e;
         judged = λ D d. subst (Judged D (verdict s) b) (sym q) (judged-right b D d);
         accepted = λ h. accepted-true b (sym q ∙ h);
+        by-source = subst (λ (x : ℕ). BySource b x) (sym q) (source-judged k b);
+        true-for = λ h. run-true k (accepted-true b (sym q ∙ h));
         uncut = verdict-uncut s;
       }
 
   -- a buffer that is too short: the answer is 1 whatever the image holds
-  pub promised-short : (b : List ℕ) → length b < size → Promise s b 1 b
-  promised-short b h = promised b (verdict s) 1 b refl (short-code (verdict s) b h) (short-bytes (verdict s) b h)
+  pub promised-short : Bytes s → (b : List ℕ) → length b < size → Promise s b 1 b
+  promised-short k b h = promised k b (verdict s) 1 b refl (short-code (verdict s) b h) (short-bytes (verdict s) b h)

@@ -6,3 +6,5 @@ pub mod NumbersUncut
 pub mod ShorterLimit
 pub mod AcceptedHolds
 pub mod Worked
+pub mod AcceptedSource
+pub mod Consequences

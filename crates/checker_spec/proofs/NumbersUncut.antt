@@ -42,7 +42,7 @@ use Rattle.verdict_record.specs.ObligationPlace.{placeOf, obligation}
 use Rattle.verdict_record.specs.Fields.{gathered, fieldsOf}
 use Rattle.verdict_record.specs.declared.verdict.Verdict.the-variants.{Accepted, Refused, Failed}
 use Rattle.checker_spec.specs.ImageVerdict.{judged, answered, verdict}
-use Rattle.checker_spec.specs.Uncut.{beyond, Uncut}
+use Rattle.verdict_record.specs.Uncut.{beyond, Uncut}
 use Rattle.checker_spec.proofs.RefusedRecord.{header-threads, lastNamed, refused-within}
 use Rattle.checker_spec.proofs.ObligationsCounted.{mostObligations, obligations-few}
 

@@ -1,4 +1,3 @@
 pub mod ImageVerdict
 pub mod Promise
-pub mod Uncut
 pub mod Acceptance

@@ -1,6 +1,6 @@
 -- The starred cases of the scope page, a row each.
 use mathlib.Core.Bool.{Bool, _&&_}
-use mathlib.Core.List.{List, [], _∷_, _++_}
+use mathlib.Core.List.{List, [], _∷_, _++_, map}
 use Prim.Native.Nat.{ℕ}
 use lib.Dec.{eqb}
 use lib.ListN.{getD, replicate}
@@ -57,23 +57,53 @@ accepted = 0 ∷ 0 ∷ 0 ∷ 0 ∷ 0 ∷ 0 ∷ 0 ∷ 0 ∷ 1 ∷ []
 abbrev pub tooMany : List ℕ
 tooMany = 22 ∷ 0 ∷ 1 ∷ 1 ∷ 0 ∷ 0 ∷ 0 ∷ 2 ∷ 0 ∷ []
 
--- the two small images; the empty image; outputs of 21 and 22 bytes; nesting 16 and 17; 10 and 11 leaves, start among them; by rows four
--- names, and four with a flag; with 16 values three names, and three with a flag; with 2 values twelve names and thirteen
-abbrev pub table : List Case
-table =
-    answer (small 1) accepted
-    ∷ answer (small 0) (20 ∷ 0 ∷ 1 ∷ 1 ∷ 0 ∷ 0 ∷ 0 ∷ 0 ∷ 0 ∷ [])
-    ∷ answer [] (2 ∷ 0 ∷ 0 ∷ 0 ∷ 0 ∷ 0 ∷ 0 ∷ 0 ∷ 0 ∷ [])
-    ∷ record { image = small 1; buffer = room 21; code = 1; written = room 21 }
-    ∷ record { image = small 1; buffer = room 22; code = 0; written = reported accepted }
-    ∷ answer (byTable (nested 16)) accepted
-    ∷ answer (byTable (nested 17)) (7 ∷ 2 ∷ 0 ∷ 0 ∷ 0 ∷ 0 ∷ 0 ∷ 0 ∷ 0 ∷ [])
-    ∷ answer (byTable (28 ∷ compared 9)) accepted
-    ∷ answer (byTable (28 ∷ compared 10)) (22 ∷ 0 ∷ 1 ∷ 1 ∷ 0 ∷ 0 ∷ 0 ∷ 1 ∷ 0 ∷ [])
-    ∷ answer (byRows 8 2 2 (named 2 2)) accepted
-    ∷ answer (byRows 8 2 2 (flagged (named 2 2))) tooMany
-    ∷ answer (byRows 16 2 1 (named 2 1)) accepted
-    ∷ answer (byRows 16 2 1 (flagged (named 2 1))) tooMany
-    ∷ answer (byRows 2 8 4 (named 8 4)) accepted
-    ∷ answer (byRows 2 8 5 (named 8 5)) tooMany
+-- the starred cases by name: the page's eleven, and the four of Change 14 ("Rows are counted from the range, still at most 4,096")
+pub data Name : Type 0 where
+  -- "these two"; "empty image"; "output of 21 and 22"
+  small-image small-without-line empty-image output-21 output-22 : Name
+  -- "nesting 16 and 17"; "10 and 11 leaves", start among them; "four names and four with a flag by rows"
+  nesting-16 nesting-17 leaves-10 leaves-11 four-names four-with-flag : Name
+  -- with 16 values three names, and three with a flag; with 2 values twelve names and thirteen
+  three-of-16 three-of-16-with-flag twelve-of-2 thirteen-of-2 : Name
+
+-- each case with its wanted answer
+abbrev pub caseOf : Name → Case
+caseOf small-image = answer (small 1) accepted
+caseOf small-without-line = answer (small 0) (20 ∷ 0 ∷ 1 ∷ 1 ∷ 0 ∷ 0 ∷ 0 ∷ 0 ∷ 0 ∷ [])
+caseOf empty-image = answer [] (2 ∷ 0 ∷ 0 ∷ 0 ∷ 0 ∷ 0 ∷ 0 ∷ 0 ∷ 0 ∷ [])
+caseOf output-21 = record { image = small 1; buffer = room 21; code = 1; written = room 21 }
+caseOf output-22 = record { image = small 1; buffer = room 22; code = 0; written = reported accepted }
+caseOf nesting-16 = answer (byTable (nested 16)) accepted
+caseOf nesting-17 = answer (byTable (nested 17)) (7 ∷ 2 ∷ 0 ∷ 0 ∷ 0 ∷ 0 ∷ 0 ∷ 0 ∷ 0 ∷ [])
+caseOf leaves-10 = answer (byTable (28 ∷ compared 9)) accepted
+caseOf leaves-11 = answer (byTable (28 ∷ compared 10)) (22 ∷ 0 ∷ 1 ∷ 1 ∷ 0 ∷ 0 ∷ 0 ∷ 1 ∷ 0 ∷ [])
+caseOf four-names = answer (byRows 8 2 2 (named 2 2)) accepted
+caseOf four-with-flag = answer (byRows 8 2 2 (flagged (named 2 2))) tooMany
+caseOf three-of-16 = answer (byRows 16 2 1 (named 2 1)) accepted
+caseOf three-of-16-with-flag = answer (byRows 16 2 1 (flagged (named 2 1))) tooMany
+caseOf twelve-of-2 = answer (byRows 2 8 4 (named 8 4)) accepted
+caseOf thirteen-of-2 = answer (byRows 2 8 5 (named 8 5)) tooMany
+
+-- the names in the page's order
+abbrev pub names : List Name
+names =
+    small-image
+    ∷ small-without-line
+    ∷ empty-image
+    ∷ output-21
+    ∷ output-22
+    ∷ nesting-16
+    ∷ nesting-17
+    ∷ leaves-10
+    ∷ leaves-11
+    ∷ four-names
+    ∷ four-with-flag
+    ∷ three-of-16
+    ∷ three-of-16-with-flag
+    ∷ twelve-of-2
+    ∷ thirteen-of-2
     ∷ []
+
+-- the case of each name
+abbrev pub table : List Case
+table = map caseOf names

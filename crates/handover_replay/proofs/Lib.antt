@@ -1,3 +1,4 @@
 pub mod JoinedBranches
 pub mod AcrossBranches
 pub mod AcrossPromised
+pub mod Consequences

@@ -9,3 +9,5 @@ pub mod LineBranches
 pub mod LineServes
 pub mod Decided
 pub mod PermittedRuns
+pub mod RefutedAcross
+pub mod Consequences

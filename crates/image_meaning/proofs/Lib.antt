@@ -8,3 +8,4 @@ pub mod WellFormedProgram
 pub mod LinesAdmitted
 pub mod Admitted
 pub mod Worked
+pub mod WholeImage

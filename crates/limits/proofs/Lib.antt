@@ -1,3 +1,4 @@
 pub mod BranchTests
 pub mod Numbers
 pub mod PassedTests
+pub mod PaperLimits

@@ -18,3 +18,4 @@ pub mod Order
 pub mod Acting
 pub mod Paired
 pub mod EachRule
+pub mod RefutedClaims

@@ -4,3 +4,4 @@ pub mod Accept
 pub mod Judged
 pub mod Moved
 pub mod Ranged
+pub mod JudgedConsequences

@@ -6,3 +6,5 @@ pub mod AbsentThreads
 pub mod PlainWorked
 pub mod RoomEnough
 pub mod ReplayPromised
+pub mod ToldNumbers
+pub mod Consequences

@@ -3,7 +3,7 @@ use mathlib.Core.Path.{_≡_, refl, ap, sym, _∙_, subst}
 use mathlib.Core.List.{List, []}
 use Prim.Native.Nat.{ℕ, _≤_}
 use native.Mathlib.Omega.{arith}
-use lib.ListN.{getD, take, replicate}
+use lib.ListN.{getD, take}
 use borrow.Author.Tests.{le-ltb}
 use Rattle.semantics.specs.Machine.{State, run}
 use Rattle.semantics.specs.EveryRun.{Holds, EveryRun}
@@ -16,14 +16,11 @@ use Rattle.image_meaning.specs.Image.{read, imageOf}
 use Rattle.image_meaning.specs.Program.{programOf, outlineOf}
 use Rattle.image_meaning.proofs.RecordsChecked.{Checks, sound-checks}
 use Rattle.image_meaning.proofs.WellFormedProgram.{range-two}
-use Rattle.verdict_record.specs.Fields.{gathered, fieldsOf}
-use Rattle.verdict_record.specs.Output.{codeFor, bytesFor}
-use Rattle.verdict_record.specs.declared.verdict.Verdict.the-variants.{Accepted}
 use Rattle.checker_spec.specs.Acceptance.{acceptance}
 use Rattle.checker_spec.specs.Promise.{TrueInEveryRun}
 use Rattle.checker_spec.specs.declared.acceptance.Acceptance.the-variants.{Granted}
 use Rattle.checker_spec.proofs.AcceptedHolds.{granted-holds}
-use Rattle.checker_spec.proofs.AcceptedRuns.{promised}
+use Rattle.checker_spec.proofs.AcceptedRuns.{accepted-runs}
 use Rattle.replay_machine.specs.Start.{started}
 use Rattle.replay_machine.specs.Run.{ran}
 use Rattle.replay_spec.specs.MachineReplay.{stepsIn}
@@ -38,12 +35,9 @@ same-content D E e = cc
 
 -- demand 3, of what the image says
 pub every : (s : List ℕ) (z : Sizes) → acceptance s ≡ Granted z → EveryRun (programOf z (bodies s)) (outlineOf z (bodies s))
-unfolding codeFor fieldsOf gathered
 every s z e =
     let g = granted-holds s z e in
-    let b : List ℕ = replicate 22 0 in
-    let v = Accepted (g .count) in
-    let t : TrueInEveryRun s = promised s b v (codeFor v b) (bytesFor v b) (sym (g .verdict)) refl refl .accepted refl in
+    let t : TrueInEveryRun s = accepted-runs s (g .count) (g .verdict) in
     subst (λ (D : Image). EveryRun (D .program) (D .outline)) (same-content (t .content) (imageOf z (bodies s)) (sym (t .says) ∙ g .says))
     (t .holds)
 

@@ -13,3 +13,4 @@ pub mod Meaning
 pub mod Facts
 pub mod Effects
 pub mod Worked
+pub mod Refuted

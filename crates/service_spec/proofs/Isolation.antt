@@ -12,7 +12,7 @@ use lib.Seq.{getD-set-other, take-set-le}
 use borrow.Author.Tests.{eqb-true, eqb-false}
 use Rattle.service_spec.specs.Account.{Account, callers, isCaller, numberPlace, accountAt, accountOf}
 use Rattle.service_spec.specs.Opening.{opened}
-use Rattle.service_spec.specs.Serving.{Call, Conduct, raised, replyFrom, countedFrom, serveBy, serveAllBy, requestsOf, seenBy}
+use Rattle.service_spec.specs.Serving.{Call, Conduct, raised, replyFrom, countedFrom, serveBy, serveAllBy, requestsOf, observedBy}
 use Rattle.service_spec.specs.Isolation.{Isolated}
 use Rattle.service_spec.proofs.AccountNumbers.{caller-first, caller-last, has-account, no-account}
 use Rattle.service_spec.proofs.OpeningBranches.{opened-alike}
@@ -111,7 +111,7 @@ module _ {Q R : Type 0} (v : Conduct Q R) where
   alone d [] = []
   alone d (q ∷ l) = (replyFrom v d q, next d q) ∷ alone (next d q) l
 
-  seen-alone : (c : ℕ) (s : List ℕ) (l : List (Call Q)) → seenBy c (serveAllBy v s l) ≡ alone (accountOf s c) (requestsOf c l)
+  seen-alone : (c : ℕ) (s : List ℕ) (l : List (Call Q)) → observedBy c (serveAllBy v s l) ≡ alone (accountOf s c) (requestsOf c l)
   unfolding alone serveBy
   seen-alone c s [] = refl
   seen-alone c s (k ∷ l) = go (eqb (k .caller) c) refl (seen-alone c (serveBy v s k .service) l)
@@ -120,7 +120,7 @@ module _ {Q R : Type 0} (v : Conduct Q R) where
       after = serveBy v s k .service
 
       rest : List (R × Option Account)
-      rest = seenBy c (serveAllBy v after l)
+      rest = observedBy c (serveAllBy v after l)
 
       go : (b : Bool) → eqb (k .caller) c ≡ b → rest ≡ alone (accountOf after c) (requestsOf c l)
           → cond b ((serveBy v s k .reply, accountOf after c) ∷ rest) rest ≡ alone (accountOf s c)
@@ -135,7 +135,7 @@ module _ {Q R : Type 0} (v : Conduct Q R) where
       go false e h = h ∙ ap (λ (d : Option Account). alone d (requestsOf c l)) (elsewhere c s k (eqb-false (k .caller) c e))
 
   alike : (c : ℕ) (s t : List ℕ) (l m : List (Call Q)) → accountOf s c ≡ accountOf t c → requestsOf c l ≡ requestsOf c m
-      → seenBy c (serveAllBy v s l) ≡ seenBy c (serveAllBy v t m)
+      → observedBy c (serveAllBy v s l) ≡ observedBy c (serveAllBy v t m)
   alike c s t l m d r = seen-alone c s l ∙ ap₂ alone d r ∙ sym (seen-alone c t m)
 
   pub isolated : Isolated v

@@ -5,3 +5,4 @@ pub mod Isolation
 pub mod Isolated
 pub mod ServedByAdmission
 pub mod ReplyBranches
+pub mod Consequences

@@ -11,13 +11,13 @@ abbrev pub places : ℕ
 places = 2 * callers
 
 -- the rights of the caller at index i: three bits of its byte, none if the byte is missing
-abbrev pub given : List ℕ → ℕ → ℕ
-given r i = getD r i 0 % 8
+abbrev pub rightsGiven : List ℕ → ℕ → ℕ
+rightsGiven r i = getD r i 0 % 8
 
 -- the rights of n callers, from the one at index i on
 abbrev pub givenFrom : List ℕ → ℕ → ℕ → List ℕ
 givenFrom r i zero = []
-givenFrom r i (suc n) = given r i ∷ givenFrom r (suc i) n
+givenFrom r i (suc n) = rightsGiven r i ∷ givenFrom r (suc i) n
 
 -- the rights of all callers, then their numbers, "starting at 0"
 unfoldable pub opened : List ℕ → List ℕ

@@ -64,6 +64,6 @@ requestsOf c [] = []
 requestsOf c (k ∷ l) = cond (eqb (k .caller) c) (k .request ∷ requestsOf c l) (requestsOf c l)
 
 -- what caller c sees: the reply to each of its calls, and its account after it
-abbrev pub seenBy : {R : Type 0} → ℕ → List (Turn R) → List (R × Option Account)
-seenBy c [] = []
-seenBy c (t ∷ l) = cond (eqb (t .caller) c) ((t .served .reply, accountOf (t .served .service) c) ∷ seenBy c l) (seenBy c l)
+abbrev pub observedBy : {R : Type 0} → ℕ → List (Turn R) → List (R × Option Account)
+observedBy c [] = []
+observedBy c (t ∷ l) = cond (eqb (t .caller) c) ((t .served .reply, accountOf (t .served .service) c) ∷ observedBy c l) (observedBy c l)

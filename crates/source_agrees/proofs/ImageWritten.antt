@@ -43,6 +43,7 @@ use Rattle.trim_spec.proofs.BodyPlaces.{map-itself, bodies-are, fromThreads, fr
 use Rattle.trim_spec.proofs.DocumentInverse.{Documented, documented}
 use Rattle.source.specs.Written as W
 use Rattle.source.specs.Written.{written}
+use Rattle.source.proofs.PrefixForm.{formula-encode}
 use Rattle.source_agrees.specs.SourceOf.{listedOf, threadsOf, lineOf, claimOf, sourceOf}
 use Rattle.source_agrees.proofs.DocumentWritten.{twos-same, line-same, claim-same, framed-same, alike, mapped, total, outline-same, threads-same}
 use Rattle.source_agrees.proofs.HeaderWritten as Head
@@ -101,11 +102,11 @@ module _ (s : List ℕ) (z : Sizes) (bs : Bytes s) (ok : decoded s ≡ Sound z) 
   all-framable = subst (Each Framable []) (sym (doc .describes .body) ∙ bodies-are D) (doc .framable)
 
   formulas-written : map W.formula (map listedOf (D .formulas)) ≡ map itself (D .formulas)
-  unfolding documentOf W.formula listedOf
+  unfolding documentOf listedOf
   formulas-written =
       mapped (λ (b : List ℕ). W.formula (listedOf b) ≡ b) [] W.formula itself listedOf (λ x h. h) (D .formulas)
       (part-each (λ (b : List ℕ). W.formula (listedOf b) ≡ b) [] 1 (z .formulas) l (λ k b.
-      sym (reading-bytes (getD l (1 + k) []) (countsOf z) (sortOf (getD l (1 + k) []))
+      formula-encode (listedOf (getD l (1 + k) [])) ∙ sym (reading-bytes (getD l (1 + k) []) (countsOf z) (sortOf (getD l (1 + k) []))
       (formula-read z l c (1 + k) (omega arith) (omega arith) (sortOf (getD l (1 + k) [])) refl))))
 
   thread-ranged : (k : ℕ) → k < z .threads

@@ -6,5 +6,10 @@ pub mod FormulasMean
 pub mod SourceLookUps
 pub mod MeaningAgrees
 pub mod PointsThere
+pub mod FormulaNumbers
+pub mod OwnRegisters
+pub mod InstructionInRange
 pub mod PromiseOfSource
+pub mod SourceInRange
+pub mod CertificateAgrees
 pub mod Theorem

@@ -37,7 +37,8 @@ use Rattle.trim_spec.specs.Parse.{documentOf, part}
 use Rattle.source.specs.Source.{Source}
 use Rattle.source.specs.Written as W
 use Rattle.source.specs.Meaning.{noFormula, noPoint, listed, assertion, instr, threadAt, programOf, outlineOf}
-use Rattle.source.proofs.SameRuns.{Alike, every-alike, never-alike}
+use Rattle.source.specs.Means.{Alike}
+use Rattle.source.proofs.SameRuns.{every-alike, never-alike}
 use Rattle.source_agrees.specs.SourceOf.{listedOf, typedOf, sourceOf}
 use Rattle.source_agrees.proofs.DocumentWritten.{total}
 use Rattle.source_agrees.proofs.FormulasMean.{assertion-same, instr-same}
@@ -45,7 +46,7 @@ use Rattle.source_agrees.proofs.SourceLookUps.{before, threadFrom, thre
 use Rattle.source_agrees.proofs.HeaderWritten.{marks-even}
 use Rattle.source_agrees.proofs.ImageWritten.{threads-length, doc, c, many, tallied, header-written, all-ranged, points-total}
 
-getD-map : {A B : Type 0} (f : A → B) (m : List A) (k : ℕ) (d : B) (e : A) → k < length m → getD (map f m) k d ≡ f (getD m k e)
+pub getD-map : {A B : Type 0} (f : A → B) (m : List A) (k : ℕ) (d : B) (e : A) → k < length m → getD (map f m) k d ≡ f (getD m k e)
 getD-map f [] k d e h = absurd (omega arith)
 getD-map f (x ∷ m) zero d e h = refl
 getD-map f (x ∷ m) (suc k) d e h = getD-map f m k d e (omega arith)
@@ -57,32 +58,32 @@ before-within (is ∷ r) zero h = omega arith
 before-within (is ∷ r) (suc u) h = omega (arith, before-within r u (omega arith))
 
 module _ (s : List ℕ) (z : Sizes) (bs : Bytes s) (ok : decoded s ≡ Sound z) where
-  abbrev l : List (List ℕ)
+  abbrev pub l : List (List ℕ)
   l = bodies s
 
-  abbrev D : Document
+  abbrev pub D : Document
   D = documentOf z l
 
-  abbrev t : Source
+  abbrev pub t : Source
   t = sourceOf D
 
-  k : Checks z l
+  pub k : Checks z l
   k = c s z bs ok
 
-  counted : z .threads ≡ length (D .threads)
+  pub counted : z .threads ≡ length (D .threads)
   unfolding sizesOf documentOf
   counted = ap (λ (y : Sizes). y .threads) (k .sizes) ∙ doc s z bs ok .describes .threads
 
-  threads-are : z .threads ≡ length (t .threads)
+  pub threads-are : z .threads ≡ length (t .threads)
   unfolding sourceOf
   threads-are = counted ∙ sym (threads-length (D .threads) (D .outline))
 
-  words-are : z .words ≡ length (t .startValues)
+  pub words-are : z .words ≡ length (t .startValues)
   unfolding sizesOf documentOf W.header
   words-are = ap (λ (y : Sizes). y .words) (k .sizes) ∙ sym (ap (λ (b : List ℕ). getD b 1 0) (header-written s z bs ok))
 
   -- the instructions of a thread
-  thread-is : (u : ℕ) → u < z .threads → getD (D .threads) u [] ≡ instructions (threadBody z l (suc u))
+  pub thread-is : (u : ℕ) → u < z .threads → getD (D .threads) u [] ≡ instructions (threadBody z l (suc u))
   unfolding documentOf threadBody
   thread-is u h =
       let q : z .formulas + 1 + u ≡ z .formulas + suc u = omega arith in
@@ -92,12 +93,12 @@ module _ (s : List ℕ) (z : Sizes) (bs : Bytes s) (ok : decoded s ≡ Sound z) 
       ∙ ap instructions (getD-take (z .threads) (drop (z .formulas + 1) l) u [] h ∙ getD-drop (z .formulas + 1) l u []
       ∙ ap (λ (n : ℕ). getD l n []) q)
 
-  thread-found-is : (u : ℕ) → u < z .threads
+  pub thread-found-is : (u : ℕ) → u < z .threads
       → threadAt t (suc u) ≡ threadFrom (getD (D .threads) u []) (drop (before (D .threads) u) (D .outline))
   unfolding threadAt sourceOf
   thread-found-is u h = thread-found (D .threads) (D .outline) u (omega (arith, counted))
 
-  points-are : (u : ℕ) → u < z .threads → Content.pointCount z l (suc u) ≡ length (threadAt t (suc u) .points) + 1
+  pub points-are : (u : ℕ) → u < z .threads → Content.pointCount z l (suc u) ≡ length (threadAt t (suc u) .points) + 1
   unfolding Content.pointCount threadFrom
   points-are u h =
       let p = ap (λ x. length (x .points)) (thread-found-is u h) in
@@ -106,7 +107,7 @@ module _ (s : List ℕ) (z : Sizes) (bs : Bytes s) (ok : decoded s ≡ Sound z) 
       omega (arith, p, q, r, instructions-length (threadBody z l (suc u)))
 
   -- formulas
-  listed-is : (n : ℕ) → 1 ≤ n → n ≤ z .formulas → listed t n ≡ listedOf (getD l n [])
+  pub listed-is : (n : ℕ) → 1 ≤ n → n ≤ z .formulas → listed t n ≡ listedOf (getD l n [])
   unfolding listed sourceOf documentOf nth
   listed-is zero a b = absurd (omega arith)
   listed-is (suc n) a b =
@@ -122,7 +123,7 @@ module _ (s : List ℕ) (z : Sizes) (bs : Bytes s) (ok : decoded s ≡ Sound z) 
       ))
       ∙ ap listedOf (getD-take (z .formulas) (drop 1 l) n [] (omega arith) ∙ getD-drop 1 l n [] ∙ ap (λ (i : ℕ). getD l i []) q)
 
-  sorted-at : (u j : ℕ) → u < z .threads → j < length (instructions (threadBody z l (suc u)))
+  pub sorted-at : (u j : ℕ) → u < z .threads → j < length (instructions (threadBody z l (suc u)))
       → sorted l (getD (instructions (threadBody z l (suc u))) j nothing) ≡ true
   unfolding Threads.thread
   sorted-at u j h b =
@@ -145,7 +146,7 @@ module _ (s : List ℕ) (z : Sizes) (bs : Bytes s) (ok : decoded s ≡ Sound z) 
       ∙ instr-same z l k t listed-is (length is) (getD (instructions (threadBody z l (suc u))) j nothing) g (sorted-at u j h b)
       ∙ ap (instr t) (sym p)
 
-  marks-many : length (owners (D .header)) ≡ length (marks (D .header))
+  pub marks-many : length (owners (D .header)) ≡ length (marks (D .header))
   unfolding header documentOf
   marks-many =
       let h : List ℕ = getD l 0 [] in
@@ -154,7 +155,7 @@ module _ (s : List ℕ) (z : Sizes) (bs : Bytes s) (ok : decoded s ≡ Sound z) 
       marks-even h (p .0) (eqb-true (length h) (headerSize h) (q .0))
 
   -- of a thread by its number, from 1
-  by-number : (F : ℕ → Type 0) → ((u : ℕ) → u < z .threads → F (suc u)) → (u : ℕ) → Within (z .threads) u → F u
+  pub by-number : (F : ℕ → Type 0) → ((u : ℕ) → u < z .threads → F (suc u)) → (u : ℕ) → Within (z .threads) u → F u
   by-number F f zero w = absurd (omega (arith, w .0))
   by-number F f (suc u) w = f u (omega (arith, w .1))
 
@@ -185,7 +186,7 @@ module _ (s : List ℕ) (z : Sizes) (bs : Bytes s) (ok : decoded s ≡ Sound z) 
       ∙ ap (λ (m : List (List ℕ)). total (map instructions m)) (take-take u (z .threads) (drop (z .formulas + 1) l) h)
       ∙ sym (tallied s z bs ok u h)
 
-  number-is : (u j : ℕ) → u < z .threads → j < Content.pointCount z l (suc u)
+  pub number-is : (u j : ℕ) → u < z .threads → j < Content.pointCount z l (suc u)
       → Content.outlineNumber z l (suc u) j ≡ getD (W.assertions (threadAt t (suc u))) j 0
   unfolding Content.outlineNumber Content.pointCount documentOf
   number-is u j h b =

@@ -26,7 +26,7 @@ use Rattle.source_agrees.proofs.ImageWritten.{c, written-document}
 use Rattle.source_agrees.proofs.MeaningAgrees.{every-run, never-both}
 
 -- of each member, by its place
-all-of : (F : Claim → Type 0) (bs : List (List ℕ)) → Each (λ (b : List ℕ). F (claimIn b)) [] bs
+pub all-of : (F : Claim → Type 0) (bs : List (List ℕ)) → Each (λ (b : List ℕ). F (claimIn b)) [] bs
     → All F (map (λ (x : Claimed). x .claim) (map claimOf (map claimRecord bs)))
 unfolding claimRecord
 all-of F [] h = tt

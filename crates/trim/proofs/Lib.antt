@@ -1,3 +1,4 @@
 pub mod TrimmedSound
 pub mod TrimmedKeeps
 pub mod TrimPromised
+pub mod Consequences

@@ -39,6 +39,7 @@ use Rattle.trim_spec.proofs.Renumbered.{claims-length}
 use Rattle.trim_spec.proofs.AbsentPoints.{withPoints}
 use Rattle.semantics.specs.Machine.{Program}
 use Rattle.trim_encode.specs.Trimmed.{trimmedBytes, SameContent, Trimmed}
+use Rattle.trim_encode.proofs.LengthTrimmed.{trimmed-and-left}
 use Rattle.trim.proofs.TrimmedSound.{Whole, named, written, trimming, encodable}
 
 -- accepted: each obligation is met and each claim borne out
@@ -180,10 +181,14 @@ module _ (s : List ℕ) (z : Sizes) (b : Bytes s) (H : Holds s z) where
     same = same;
     accepted = accepted-again;
     document = E;
+    parsed = λ y e.
+        let q : sizes E ≡ y = granted-same (sizes E) y (sym (trimmed-again .0) ∙ e) in
+        sym (subst (λ (x : Sizes). documentOf x (bodies trimmed) ≡ E) q trimmed-document);
     bytes = refl;
     rests = each-rests D (named D whole) (written D whole);
     uses = each-used D (named D whole) (written D whole);
     again = λ y e.
         let q : sizes E ≡ y = granted-same (sizes E) y (sym (trimmed-again .0) ∙ e) in
         subst (λ (x : Sizes). trimmedBytes x (trimmedBytes z s) ≡ trimmedBytes z s) q (trimmed-again .1);
+    no-longer = let q = trimmed-and-left (used D) (kept D) D in let e = ap length (d .encodes) in omega arith;
   }

@@ -20,3 +20,4 @@ pub mod RecordsWritten
 pub mod PartsWritten
 pub mod NumberTables
 pub mod TrimBranches
+pub mod TrimmedConsequences

@@ -52,6 +52,10 @@ pub record Trimmed (image trimmed : List ℕ) : Type 0 where
   pub again : (z : Sizes) → acceptance trimmed ≡ Granted z → trimmedBytes z trimmed ≡ trimmed
   -- "only the lines on which some obligation rests, and only the formulas that are still used"; claims count as obligations do (Change 5)
   pub document : Document
+  -- the document is what the records of the trimmed image say, and its records are the trimmed image
+  pub parsed : (z : Sizes) → acceptance trimmed ≡ Granted z → document ≡ documentOf z (bodies trimmed)
   pub bytes : encode document ≡ trimmed
   pub rests : (n : ℕ) → 1 ≤ n → n ≤ length (document .lines) → Rests document n
   pub uses : (n : ℕ) → 1 ≤ n → n ≤ length (document .formulas) → Uses document n
+  -- nothing is added
+  pub no-longer : length trimmed ≤ length image

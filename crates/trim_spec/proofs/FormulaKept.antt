@@ -20,7 +20,7 @@ use Rattle.trim_spec.specs.Parse.{sizes}
 use Rattle.trim_spec.proofs.BodyPlaces.{header-at, formula-at}
 use Rattle.trim_spec.specs.Live.{renumbered}
 use Rattle.trim_spec.specs.Trim.{trimmedBy}
-use Rattle.trim_spec.specs.Closed.{Stays}
+use Rattle.trim_spec.proofs.Closed.{Stays}
 use Rattle.trim_spec.proofs.MarkCounts.{renumbered-0, renumbered-low, renumbered-high, selected-nth}
 use Rattle.trim_spec.proofs.TrimPremises.{Trimming, threads-kept}
 

@@ -25,7 +25,7 @@ use Rattle.trim_spec.specs.Encode.{bodiesOf}
 use Rattle.trim_spec.specs.Parse.{sizes}
 use Rattle.trim_spec.specs.Live.{renumbered}
 use Rattle.trim_spec.specs.Trim.{halfBy, instructionBy, trimmedBy}
-use Rattle.trim_spec.specs.Closed.{Stays}
+use Rattle.trim_spec.proofs.Closed.{Stays}
 use Rattle.trim_spec.proofs.MarkCounts.{renumbered-0}
 use Rattle.trim_spec.proofs.ChecksPassed.{and-in, and-then}
 use Rattle.trim_spec.proofs.TrimPremises.{Trimming}

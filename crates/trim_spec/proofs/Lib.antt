@@ -43,3 +43,4 @@ pub mod AbsentPoints
 pub mod JustifiedTransfer
 pub mod ContentKept
 pub mod AcceptedKept
+pub mod Closed

@@ -26,7 +26,7 @@ use Rattle.trim_spec.proofs.LineBytes.{line-rule, line-thread, line-poi
 use Rattle.trim_spec.proofs.BodyPlaces as Places
 use Rattle.trim_spec.specs.Live.{renumbered}
 use Rattle.trim_spec.specs.Trim.{lineBy, trimmedBy}
-use Rattle.trim_spec.specs.Closed.{Stays}
+use Rattle.trim_spec.proofs.Closed.{Stays}
 use Rattle.trim_spec.proofs.MarkCounts.{renumbered-low, renumbered-mono}
 use Rattle.trim_spec.proofs.Renumbered.{line-at, line-from, line-there}
 use Rattle.trim_spec.proofs.CanonicalKept.{line-fits}

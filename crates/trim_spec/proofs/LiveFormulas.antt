@@ -15,7 +15,7 @@ use Rattle.trim_spec.specs.Document.{Document, LineRecord}
 use Rattle.trim_spec.specs.Canonical.{noLine}
 use Rattle.trim_spec.specs.Live.{markedBy, selected, renumbered, kept, namedFormulas, used, instructionFormulas, lineFormulas}
 use Rattle.trim_spec.specs.Rests.{Rests, obligation, claim, premise, Uses, instruction, second, outline, left, right}
-use Rattle.trim_spec.specs.Closed.{Closed}
+use Rattle.trim_spec.proofs.Closed.{Closed}
 use Rattle.trim_spec.proofs.MarkCounts.{noted-length, noted-sets, noted-from, renumbered-low, renumbered-high, selected-nth, Selected, selected-from, Found}
 use Rattle.trim_spec.proofs.ListMembers.{Within, found-at, found-left, found-right, found-either, found-flat, flat-found}
 use Rattle.trim_spec.proofs.LiveLines.{none-set, replicate-length, Named, kept-length, kept-rests, rests-kept}

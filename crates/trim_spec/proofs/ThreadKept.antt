@@ -27,7 +27,7 @@ use Rattle.trim_spec.proofs.ThreadBytes.{thread-last, thread-instructio
 use Rattle.trim_spec.proofs.BodyPlaces.{thread-at}
 use Rattle.trim_spec.specs.Live.{renumbered}
 use Rattle.trim_spec.specs.Trim.{instructionBy, trimmedBy}
-use Rattle.trim_spec.specs.Closed.{Stays}
+use Rattle.trim_spec.proofs.Closed.{Stays}
 use Rattle.trim_spec.proofs.Renumbered.{map-nth, threads-length}
 use Rattle.trim_spec.proofs.CanonicalKept.{thread-fits}
 use Rattle.trim_spec.proofs.ChecksPassed.{and-in, unless-in, also-in, every-made}

@@ -10,7 +10,7 @@ use Rattle.trim_spec.specs.Canonical.{Canonical}
 use Rattle.trim_spec.specs.Encode.{bodiesOf}
 use Rattle.trim_spec.specs.Parse.{sizes}
 use Rattle.trim_spec.specs.Trim.{trimmedBy}
-use Rattle.trim_spec.specs.Closed.{Closed}
+use Rattle.trim_spec.proofs.Closed.{Closed}
 use Rattle.trim_spec.proofs.Renumbered.{threads-length}
 
 pub record Trimming (u k : List Bool) (D : Document) : Type 0 where

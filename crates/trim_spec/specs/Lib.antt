@@ -6,4 +6,3 @@ pub mod Framed
 pub mod Live
 pub mod Trim
 pub mod Rests
-pub mod Closed

@@ -3,3 +3,4 @@ pub mod Output
 pub mod ObligationPlace
 pub mod Record
 pub mod Text
+pub mod Uncut

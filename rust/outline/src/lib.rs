@@ -2,10 +2,12 @@
 //!
 //! `text` reads sources and writes texts, `search` finds certificate lines, `build` and `explicit`
 //! put images together, `handover` finds the table of a handover, `gallery` makes the tables of the
-//! examples, `report` and `draw` make pages and drawings. What an image is and which lines are justified
+//! examples, `report` and `draw` make pages and drawings, `migrate` rewrites images of earlier layouts,
+//! `c` reads C, `litmus` and `import` what is written in it, and `same` compares. What an image is and which lines are justified
 //! is the library `reference`'s.
 
 pub mod build;
+pub mod c;
 pub mod command;
 pub mod diagnosis;
 pub mod draw;
@@ -14,11 +16,15 @@ pub mod fuzz;
 pub mod gallery;
 pub mod handover;
 pub mod image;
+pub mod import;
 pub mod infer;
 pub mod judged;
+pub mod litmus;
 pub mod markup;
+pub mod migrate;
 pub mod refuted;
 pub mod report;
+pub mod same;
 pub mod search;
 pub mod terms;
 pub mod text;

@@ -1,6 +1,6 @@
 //! `draw`: a run as SVG, one that breaks the outline or one that has an outcome.
 
-use crate::command::explore::{outcome_run, outcome_told};
+use crate::command::explore::{condition_of, outcome_run, outcome_told};
 use crate::command::finding::Finding;
 use crate::command::input::called;
 use crate::command::judge::judge;
@@ -12,6 +12,7 @@ use crate::diagnosis::BOUNDS;
 use crate::draw::{Ending, Picture};
 use crate::markup::Element;
 use crate::report::{picture, Content};
+use crate::text::condition::Quantifier;
 use reference::explore::Bounds;
 
 pub fn run(args: &[&str]) -> Done {
@@ -67,12 +68,16 @@ fn breaking(content: &Content) -> Drawn {
 /// A run at whose end the registers are as asked.
 fn with_outcome(options: &Options, content: &Content, outcome: &str) -> Result<Drawn, String> {
     let (program, names) = (&content.image.program, &content.words.names);
-    let sought = outcome_run(program, names, options.bounds(Bounds::DEFAULT), outcome)?;
-    let text = outcome_told(&sought, outcome);
+    let condition = condition_of(program, names, outcome)?;
+    let sought = outcome_run(program, options.bounds(Bounds::DEFAULT), &condition);
+    let text = outcome_told(&sought, &condition, outcome);
     let Some(run) = &sought.runs[0] else {
         return Ok(Drawn::nothing(Finding::of_one(&sought), text));
     };
-    let ending = Ending::Outcome(outcome.into());
+    let ending = Ending::Outcome(match condition.quantifier {
+        Quantifier::Forall => format!("not {outcome}"),
+        _ => outcome.into(),
+    });
     Ok(Drawn::run(text, Picture { program, names, run, ending }.svg()))
 }
 

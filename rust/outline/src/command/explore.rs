@@ -2,31 +2,43 @@
 
 use crate::command::finding::Finding;
 use crate::command::input::{called, mistakes, read, Input};
-use crate::command::options::Options;
-use crate::command::{json, print, Done};
-use crate::text::parse_source::{parse_all, parse_test};
+use crate::command::options::{Options, BOUND_OPTIONS};
+use crate::command::{json, outcomes, print, Done};
+use crate::text::condition::{parse_condition, Condition};
+use crate::text::parse_source::parse_all;
 use crate::text::print::Names;
 use crate::text::reach::{all, cut_by, not_all};
 use crate::text::{counted, run};
 use reference::checker::decode;
 use reference::explore::truth::violation;
-use reference::explore::{explore, find, Bounds, Break, Cut, Fault, Found, Outcome, Run, Sought};
+use reference::explore::{self, explore, find, has_ended};
+use reference::explore::{Bounds, Break, Cut, Fault, Found, Outcome, Run, Sought};
 use reference::formula::Assertion;
 use reference::image::{Meeting, Program};
 use reference::machine::{take, State, View};
 
 pub fn run(args: &[&str]) -> Done {
-    let allowed =
-        ["--steps", "--writes", "--starts", "--states", "--claims", "--outcome", "--json"];
-    let options = Options::read(args, &allowed)?;
+    let questions = ["--claims", "--outcome", "--outcomes", "--runs", "--json"];
+    let options = Options::read(args, &[&BOUND_OPTIONS[..], &questions].concat())?;
     let file = options.file()?;
-    if options.claims && options.outcome.is_some() {
-        return Err("`--claims` and `--outcome` are two questions: ask one".into());
+    let asked = [
+        (options.claims, "`--claims`"),
+        (options.outcome.is_some(), "`--outcome`"),
+        (options.outcomes, "`--outcomes`"),
+    ];
+    let asked: Vec<&str> =
+        asked.iter().filter(|(asked, _)| *asked).map(|(_, name)| *name).collect();
+    if asked.len() > 1 {
+        return Err(format!("{} are {} questions: ask one", asked.join(" and "), number(&asked)));
+    }
+    if options.runs && !options.outcomes {
+        return Err("`--runs` goes with `--outcomes`".into());
     }
     let subject = Subject::of(file)?;
     let bounds = options.bounds(Bounds::DEFAULT);
     let answer = match &options.outcome {
         Some(outcome) => can_happen(&subject, bounds, outcome)?,
+        None if options.outcomes => all_outcomes(&subject, bounds, options.runs),
         None if options.claims && subject.claims.is_empty() => {
             return Err(format!("{}: it makes no claim", called(file)));
         }
@@ -41,6 +53,14 @@ pub fn run(args: &[&str]) -> Done {
     Ok(answer.finding.status())
 }
 
+fn number(questions: &[&str]) -> &'static str {
+    if questions.len() == 2 {
+        "two"
+    } else {
+        "three"
+    }
+}
+
 /// What is answered, in a word and in lines, and how many states were looked at.
 struct Answer {
     finding: Finding,
@@ -48,34 +68,34 @@ struct Answer {
     said: Vec<String>,
     states: usize,
     cut: Cut,
+    /// The final states as JSON, where they are asked for.
+    outcomes: Option<String>,
 }
 
 impl Answer {
     fn json(&self, file: &str, bounds: &Bounds) -> String {
         let cut = cut_by(&self.cut, bounds).into_iter();
-        json::answer(
-            "explore",
-            self.finding.status(),
-            &[
-                ("file", json::text(called(file))),
-                ("answer", json::text(self.word)),
-                ("states", self.states.to_string()),
-                ("cut", json::list(cut.map(|(name, _)| json::text(name)))),
-                ("told", json::texts(&self.said)),
-            ],
-        )
+        let mut members = vec![
+            ("file", json::text(called(file))),
+            ("answer", json::text(self.word)),
+            ("states", self.states.to_string()),
+            ("cut", json::list(cut.map(|(name, _)| json::text(name)))),
+        ];
+        members.extend(self.outcomes.clone().map(|all| ("outcomes", all)));
+        members.push(("told", json::texts(&self.said)));
+        json::answer("explore", self.finding.status(), &members)
     }
 }
 
 /// What is run: a program with its outline and claims. No certificate is needed for it.
-struct Subject {
-    program: Program,
+pub struct Subject {
+    pub program: Program,
     claims: Vec<Meeting>,
-    names: Names,
+    pub names: Names,
 }
 
 impl Subject {
-    fn of(file: &str) -> Result<Subject, String> {
+    pub fn of(file: &str) -> Result<Subject, String> {
         match read(file)? {
             Input::Text(text) => {
                 let source = parse_all(&text).map_err(|all| mistakes(file, &text, &all))?;
@@ -118,7 +138,7 @@ impl Subject {
             }
             _ => [vec![format!("holds in {}", all(states))], self.claimed("never")].concat(),
         });
-        Answer { finding, word: finding.of_truth(), said, states, cut }
+        Answer { finding, word: finding.of_truth(), said, states, cut, outcomes: None }
     }
 }
 
@@ -203,39 +223,46 @@ fn view(names: &Names, state: &State, view: &View) -> String {
     format!("({})", words.collect::<Vec<String>>().join(", "))
 }
 
-/// Can the test of registers be true when all threads are at their last points?
+/// All final states. That some were not looked at is the answer of a search that a bound has cut.
+fn all_outcomes(subject: &Subject, bounds: Bounds, runs: bool) -> Answer {
+    let found = explore::outcomes(&subject.program, bounds);
+    let finding = Finding::of(false, &found.cut);
+    let said = outcomes::told(&subject.program, &subject.names, &found, runs);
+    let listed = outcomes::as_json(&subject.program, &subject.names, &found, runs);
+    let (states, cut) = (found.states, found.cut);
+    Answer { finding, word: "outcomes", said, states, cut, outcomes: Some(listed) }
+}
+
+/// Can the condition be so when all threads are at their last points?
 fn can_happen(subject: &Subject, bounds: Bounds, outcome: &str) -> Result<Answer, String> {
-    let sought = outcome_run(&subject.program, &subject.names, bounds, outcome)?;
+    let condition = condition_of(&subject.program, &subject.names, outcome)?;
+    let sought = outcome_run(&subject.program, bounds, &condition);
     let finding = Finding::of_one(&sought);
     let run = sought.runs[0].iter().flat_map(|run| subject.run(run));
-    let said = [outcome_told(&sought, outcome)].into_iter().chain(run).collect();
+    let said = [outcome_told(&sought, &condition, outcome)].into_iter().chain(run).collect();
+    let word = finding.of_condition(condition.quantifier);
     let Sought { states, cut, .. } = sought;
-    Ok(Answer { finding, word: finding.of_outcome(), said, states, cut })
+    Ok(Answer { finding, word, said, states, cut, outcomes: None })
+}
+
+/// What stands behind `--outcome`.
+pub fn condition_of(program: &Program, names: &Names, outcome: &str) -> Result<Condition, String> {
+    let read = parse_condition(names, &program.header, outcome);
+    read.map_err(|e| format!("--outcome: {}", e.text))
 }
 
 /// What a search for an outcome comes to, in a line.
-pub fn outcome_told(sought: &Sought, outcome: &str) -> String {
+pub fn outcome_told(sought: &Sought, condition: &Condition, outcome: &str) -> String {
     let Sought { states, cut, bounds, .. } = sought;
     let far = match &sought.runs[0] {
         Some(run) => format!("after {}", counted(run.steps.len(), "step")),
         None if cut.any() => format!("in {}", not_all(*states, cut, bounds)),
         None => format!("in {}", all(*states)),
     };
-    format!("{}: {outcome}, {far}", Finding::of_one(sought).of_outcome())
+    format!("{}: {outcome}, {far}", Finding::of_one(sought).of_condition(condition.quantifier))
 }
 
-/// Looks for a shortest run at whose end all threads are at their last points and the registers pass the test.
-pub fn outcome_run(
-    program: &Program,
-    names: &Names,
-    bounds: Bounds,
-    outcome: &str,
-) -> Result<Sought, String> {
-    let test = parse_test(names, &program.header, outcome)
-        .map_err(|e| format!("--outcome: {}", e.text))?;
-    let ended = |state: &State| {
-        state.points.iter().zip(&program.threads).all(|(p, code)| usize::from(*p) == code.len())
-    };
-    let wanted = |state: &State| ended(state) && test.evaluate(&state.seen_at(View::default()));
-    Ok(find(program, bounds, &wanted))
+/// Looks for a shortest run at whose end all threads are at their last points and the condition is decided.
+pub fn outcome_run(program: &Program, bounds: Bounds, condition: &Condition) -> Sought {
+    find(program, bounds, &|state| has_ended(program, state) && condition.decides(state))
 }

@@ -1,6 +1,7 @@
 //! What a search through the runs comes to: one of three answers, each with a status of its own.
 
 use crate::command::Status;
+use crate::text::condition::Quantifier;
 use reference::explore::{Cut, Sought};
 
 #[derive(Debug, Clone, Copy, PartialEq, Eq)]
@@ -35,9 +36,12 @@ impl Finding {
         }
     }
 
-    /// Its word where an outcome is asked for.
-    pub fn of_outcome(self) -> &'static str {
+    /// Its word where a condition of final states is asked for: a run shows that it happens, or that not all are so.
+    pub fn of_condition(self, quantifier: Quantifier) -> &'static str {
+        let forall = quantifier == Quantifier::Forall;
         match self {
+            Finding::Happens if forall => "not always",
+            Finding::Never if forall => "always",
             Finding::Happens => "happens",
             Finding::Never => "never",
             Finding::NotFound => "not found",

@@ -1,8 +1,8 @@
 //! The commands by their names, and what is said of them.
 
 use crate::command::{
-    bill, build, check, draw, explain, explore, handover, infer, print, replay, report, serve,
-    show, trim, Done, Status,
+    bill, build, check, draw, explain, explore, export, fmt, handover, import, infer, litmus,
+    migrate, print, replay, report, same, serve, show, trim, watch, Done, Status,
 };
 use crate::text::nearest::nearest;
 
@@ -17,7 +17,7 @@ struct Command {
 
 const BOUNDS: [&str; 4] = ["--steps", "--writes", "--starts", "--states"];
 
-const COMMANDS: [Command; 13] = [
+const COMMANDS: [Command; 20] = [
     Command {
         name: "build",
         usage: &["build FILE.outline -o FILE.image [--partial] [--all] [--at THREAD:POINT] [--all-lines] [BOUNDS]"],
@@ -40,6 +40,20 @@ const COMMANDS: [Command; 13] = [
         run: check::run,
     },
     Command {
+        name: "watch",
+        usage: &["watch FILE.."],
+        about: "judges outlines and images again at each save, what is to be looked at first on top; until an interrupt",
+        options: &[],
+        run: watch::run,
+    },
+    Command {
+        name: "fmt",
+        usage: &["fmt FILE.outline [-o OUTLINE]", "fmt FILE.outline --check"],
+        about: "the layout of an outline's text; its words and comments stay",
+        options: &["--check"],
+        run: fmt::run,
+    },
+    Command {
         name: "show",
         usage: &["show FILE"],
         about: "an image as text, its verdict first",
@@ -55,10 +69,41 @@ const COMMANDS: [Command; 13] = [
     },
     Command {
         name: "explore",
-        usage: &["explore FILE [BOUNDS] [--claims | --outcome \"a = 1 and b = 0\"]"],
-        about: "every run within the bounds: is something false in one, can an outcome happen?",
-        options: &["--claims", "--outcome", BOUNDS[0], BOUNDS[1], BOUNDS[2], BOUNDS[3]],
+        usage: &[
+            "explore FILE [BOUNDS] [--claims | --outcome \"a = 1 and b = 0\"]",
+            "explore FILE [BOUNDS] --outcomes [--runs]",
+        ],
+        about: "every run within the bounds: is something false in one, can an outcome happen, which final states are there?",
+        options: &["--claims", "--outcome", "--outcomes", "--runs", BOUNDS[0], BOUNDS[1], BOUNDS[2], BOUNDS[3]],
         run: explore::run,
+    },
+    Command {
+        name: "litmus",
+        usage: &["litmus FILE.litmus.. [--prove [-o OUTLINE] [--tries N]] [--runs] [--svg FILE.svg] [BOUNDS]"],
+        about: "litmus tests of C: all final states and whether the condition is so, in herd7's form",
+        options: &["--prove", "--runs", "--svg", "--tries", BOUNDS[0], BOUNDS[1], BOUNDS[2], BOUNDS[3]],
+        run: litmus::run,
+    },
+    Command {
+        name: "import",
+        usage: &["import FILE.c -o OUTLINE [--threads NAME,NAME] [--cpp \"-DN=2 -Iinclude\"] [BOUNDS]"],
+        about: "the threads of a C file as an outline with holes, labels from its lines and assertions from its comments",
+        options: &["--threads", "--cpp", BOUNDS[0], BOUNDS[1], BOUNDS[2], BOUNDS[3]],
+        run: import::run,
+    },
+    Command {
+        name: "same",
+        usage: &["same FILE.c IMAGE [--threads NAME,NAME] [--cpp \"-DN=2 -Iinclude\"] [BOUNDS]"],
+        about: "is the image's program the program of the C file, instruction by instruction?",
+        options: &["--threads", "--cpp", BOUNDS[0], BOUNDS[1], BOUNDS[2], BOUNDS[3]],
+        run: same::run,
+    },
+    Command {
+        name: "export",
+        usage: &["export --litmus FILE [-o FILE.litmus] [--outcome \"a = 1 and x = 0\"] [BOUNDS]"],
+        about: "the program as a litmus test that herd7 reads",
+        options: &["--litmus", "--outcome", BOUNDS[0], BOUNDS[1], BOUNDS[2], BOUNDS[3]],
+        run: export::run,
     },
     Command {
         name: "report",
@@ -112,18 +157,37 @@ const COMMANDS: [Command; 13] = [
         options: &[],
         run: serve::run,
     },
+    Command {
+        name: "migrate",
+        usage: &["migrate STEP FILE.image -o FILE.image", "migrate STEP --set SET -o SET"],
+        about: "an image of an earlier layout in the next one; steps, in their order: range, marks, actors; of a set also lengths",
+        options: &["--set"],
+        run: migrate::run,
+    },
 ];
 
-const OPTIONS: [(&str, &str); 19] = [
+const OPTIONS: [(&str, &str); 28] = [
     ("--image", "writes the image that the page is about, or of what was inferred, too"),
-    ("--tries", "N, a bound: ends the inference after so many tries; 2000000"),
+    ("--tries", "N, a bound: ends the inference after so many tries; 1200000"),
     ("--date", "the page's date; else that of SOURCE_DATE_EPOCH, else the clock's, in UTC"),
     ("--partial", "writes an image with open obligations and claims too"),
     ("--all", "tells all open obligations and claims in full"),
     ("--all-lines", "writes every line that the search found, dead ones too"),
     ("--at", "tells in full what is open at this point, by its number or its label"),
     ("--claims", "looks at the claims alone, whatever the assertions say"),
-    ("--outcome", "can the registers be so when all threads have ended?"),
+    (
+        "--outcome",
+        "can it be so when all threads have ended? Registers, also as THREAD:REGISTER, and words for their last\n              \
+         values; and or /\\, or or \\/, not or ~; with exists, ~exists or forall in front",
+    ),
+    ("--outcomes", "all final states: registers, and the last value of each word"),
+    ("--runs", "tells a shortest run to each final state"),
+    ("--prove", "infers and judges an outline for what never happens, or always; -o writes it"),
+    ("--threads", "the functions that are threads, in their order; else all but main that name an atomic word"),
+    ("--cpp", "words for the C compiler's preprocessor"),
+    ("--check", "says whether the text has its layout, and writes nothing"),
+    ("--litmus", "as a litmus test of C, in herd7's form"),
+    ("--svg", "draws the run that decides the condition"),
     ("--steps", "N, a bound: steps of a run; 24 [24], at most 10000"),
     ("--writes", "N, a bound: writes in a word's row, the first among them; 6 [6], at most 200"),
     ("--starts", "N, a bound: start states, where registers are open; 4096 [64], at most 1048576"),
@@ -131,18 +195,19 @@ const OPTIONS: [(&str, &str); 19] = [
         "--states",
         "N, a bound: states that are kept; 2000000 [30000], at most 8000000. Of bytes of states, 40 or so for each and for\n              \
          each write one more than there are words, 512 MiB are kept and no more: memory stays under 1 GB.\n              \
-         Each number is for explore and draw --outcome, in brackets for a run that breaks something",
+         Each number is for explore and draw --outcome (litmus, import, same: 100, 8, 1, 2000000), in brackets for a run that breaks something",
     ),
     ("--tariff", "lines `start 10`, `step 25`, `taken 25`, `interference 40`, `least 500`, in cents; # begins a comment"),
     ("--billed", "how many images are billed already (0)"),
     ("--given", "what open registers hold at the start (0)"),
     ("--entries", "room for so many writes (64)"),
     ("--table", "for each old point a new point and a line of the new image, three bytes"),
+    ("--set", "the file is a stored set of images with their verdicts"),
     ("--map", "where an old point goes on, points by number or label; the others are proposed"),
 ];
 
 const NOTES: &str = "\
-FILE, OLD and NEW are outlines or images; `-` is standard input, behind -o standard output. All take --json.
+FILE, OLD and NEW are outlines or images; `-` is standard input, behind -o standard output. All but watch take --json.
 What is written replaces a file of its own kind, never an input. Behind -- every word is a file.
 Status: 0 accepted; true or never in all states. 1 refused, open, false or happens. 2 wrong use, or a file that cannot be
 read or written. 3 no run was found, and a bound kept some state from being looked at; or nothing was inferred.
@@ -216,6 +281,6 @@ mod tests {
             );
         }
         let told = |name: &&str| OPTIONS.iter().any(|(other, _)| other == name);
-        assert!(COMMANDS.iter().all(|command| command.options.iter().all(|name| told(name))));
+        assert!(COMMANDS.iter().all(|command| command.options.iter().all(told)));
     }
 }

@@ -21,6 +21,14 @@ pub struct Options {
     pub claims: bool,
     pub at: Option<String>,
     pub outcome: Option<String>,
+    pub outcomes: bool,
+    pub runs: bool,
+    pub prove: bool,
+    pub litmus: bool,
+    pub check: bool,
+    pub threads: Option<String>,
+    pub cpp: Option<String>,
+    pub svg: Option<String>,
     pub steps: Option<usize>,
     pub writes: Option<usize>,
     pub starts: Option<usize>,
@@ -34,6 +42,7 @@ pub struct Options {
     pub date: Option<String>,
     pub map: Vec<String>,
     pub tries: Option<u64>,
+    pub set: bool,
 }
 
 impl Options {
@@ -76,6 +85,15 @@ impl Options {
                 "--all-lines" => options.all_lines = true,
                 "--json" => options.json = true,
                 "--claims" => options.claims = true,
+                "--outcomes" => options.outcomes = true,
+                "--runs" => options.runs = true,
+                "--prove" => options.prove = true,
+                "--litmus" => options.litmus = true,
+                "--check" => options.check = true,
+                "--threads" => options.threads = Some(value()?.into()),
+                "--cpp" => options.cpp = Some(value()?.into()),
+                "--svg" => options.svg = Some(value()?.into()),
+                "--set" => options.set = true,
                 file => options.files.push(file.into()),
             }
         }

@@ -15,6 +15,8 @@ pub enum Kind {
     Drawing,
     Table,
     Outline,
+    Litmus,
+    Set,
 }
 
 impl Kind {
@@ -25,6 +27,8 @@ impl Kind {
             Kind::Drawing => "drawing",
             Kind::Table => "table",
             Kind::Outline => "outline",
+            Kind::Litmus => "litmus test",
+            Kind::Set => "stored set",
         }
     }
 
@@ -37,10 +41,16 @@ impl Kind {
             Kind::Image => front.get(2..4) == Some(&[1, 0]),
             Kind::Page => text().starts_with("<!doctype html") || text().starts_with("<html"),
             Kind::Drawing => text().starts_with("<svg"),
+            Kind::Litmus => text().starts_with("c "),
             // A text that is neither a page nor a drawing.
             Kind::Outline => {
                 let is_text = !front.contains(&0) && !Kind::Page.fits(front);
                 is_text && !Kind::Drawing.fits(front)
+            }
+            // The length of an image has 32 bits or 16, and what follows is none of the others.
+            Kind::Set => {
+                let others = [Kind::Image, Kind::Page, Kind::Drawing, Kind::Outline, Kind::Table];
+                !others.into_iter().any(|other| other.fits(front))
             }
             // Three bytes for each point, of which the first is a point's number.
             Kind::Table => {

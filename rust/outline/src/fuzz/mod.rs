@@ -3,7 +3,7 @@
 //! Each run is made from a seed alone, so what was found once is found again.
 
 mod change;
-mod dice;
+pub mod dice;
 
 use crate::build::build_within;
 use crate::command::input::{of_bytes, Input};

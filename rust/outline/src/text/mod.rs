@@ -2,8 +2,10 @@
 
 pub mod answer;
 pub mod compare;
+pub mod condition;
 pub mod contract;
 pub mod cursor;
+pub mod layout;
 pub mod lex;
 pub mod lines;
 pub mod nearest;

@@ -6,7 +6,6 @@ use crate::text::parse_claim::{claim, point_of, Unplaced};
 use crate::text::parse_formula::Cursor;
 use crate::text::parse_instruction::instruction;
 use crate::text::parse_proof::proof;
-use crate::text::print::Names;
 use crate::text::scope::Scope;
 use crate::text::sort_name;
 use crate::text::source::{Labels, Point, Source};
@@ -14,7 +13,7 @@ use reference::checker::limits;
 use reference::formula::atoms::{Atom, Atoms};
 use reference::formula::nesting::{Nesting, BYTES, NESTING};
 use reference::formula::{Formula, Sort};
-use reference::image::{Header, Instruction};
+use reference::image::Instruction;
 
 /// Reads a whole source text, or finds its first mistake.
 pub fn parse(text: &str) -> Result<Source, Mistake> {
@@ -25,11 +24,13 @@ pub fn parse(text: &str) -> Result<Source, Mistake> {
 pub fn parse_all(text: &str) -> Result<Source, Vec<Mistake>> {
     let Tokens { list, mistakes } = tokens(text);
     let (scope, scanned) = Scope::scan(&list);
+    let list = scope.with_qualified(list, false);
     let mut draft = Draft::of(&scope);
     draft.mistakes.first = [mistakes, scanned].concat();
     let mut cursor = Cursor::of(&list, scope);
     while *cursor.peek() != Token::End {
         let start = cursor.at;
+        cursor.scope.within = None;
         if let Err(mistake) = item(&mut cursor, &mut draft) {
             draft.mistakes.add(mistake);
             draft.mistakes.missing.extend(name_behind(&list, start));
@@ -147,30 +148,6 @@ fn name_behind(list: &[(Token, Place)], at: usize) -> Option<String> {
     }
 }
 
-/// A test of registers by these names, for a program with this header.
-pub fn parse_test(names: &Names, header: &Header, text: &str) -> Result<T, Mistake> {
-    let mut declared = format!("range {}\n", header.counts.range);
-    names.words.iter().for_each(|name| declared += &format!("word {name} = 0\n"));
-    for (name, owner) in names.registers.iter().zip(&header.owners) {
-        declared += &format!("register {name} of {}\n", names.thread(*owner));
-    }
-    names.threads.iter().for_each(|name| declared += &format!("thread {name}\n"));
-    let (scope, _) = Scope::scan(&tokens(&declared).list);
-    let Tokens { list, mistakes } = tokens(text);
-    if let Some(mistake) = mistakes.into_iter().next() {
-        return Err(mistake);
-    }
-    let mut cursor = Cursor::of(&list, scope);
-    let test = cursor.test()?;
-    if *cursor.peek() != Token::End {
-        return cursor.wanted("the end of the test");
-    }
-    if !registers_only(test.as_ref()) {
-        return Err(Mistake { line: 1.into(), text: "an outcome is a test of registers".into() });
-    }
-    Ok(test)
-}
-
 fn item(c: &mut Cursor, draft: &mut Draft) -> Result<(), Mistake> {
     if c.take("range") {
         c.number()?;
@@ -271,6 +248,7 @@ fn thread(c: &mut Cursor, draft: &mut Draft) -> Result<(), Mistake> {
     let name = c.name()?;
     let number = c.scope.thread(&name, line)?;
     registers(c)?;
+    c.scope.within = Some(number);
     let mut labels = Vec::new();
     let bare = is_bare(c);
     let next = |c: &mut Cursor, labels: &mut Labels, mistakes: &mut Mistakes| match bare {

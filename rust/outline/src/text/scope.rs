@@ -16,6 +16,8 @@ pub enum Meaning {
     Register(u8),
     Thread(u8),
     Short(Formula),
+    /// A register of several threads: `THREAD:NAME` says which is meant, and inside of a thread its own is.
+    Alike,
 }
 
 /// The range of a source that names none.
@@ -32,16 +34,90 @@ pub struct Scope {
     pub owners: Vec<u8>,
     /// For each register 1 if it starts at 0, 0 if it is open.
     pub marks: Vec<u8>,
+    /// The thread that is being read.
+    pub within: Option<u8>,
+    /// For each register its name and its thread's.
+    plain: Vec<(String, String)>,
+}
+
+/// A register's name behind its thread's.
+fn qualified(thread: &str, name: &str) -> String {
+    format!("{thread}:{name}")
 }
 
 impl Scope {
     pub fn get(&self, name: &str) -> Option<&Meaning> {
-        self.meanings.get(name)
+        let found = self.meanings.get(name);
+        let own = match (found, self.within) {
+            (Some(Meaning::Alike), Some(thread)) => {
+                self.meanings.get(&qualified(self.names.thread(thread), name))
+            }
+            _ => None,
+        };
+        own.or(found)
     }
 
     /// The names that are declared so far.
     pub fn declared(&self) -> impl Iterator<Item = &str> {
-        self.meanings.keys().map(String::as_str)
+        self.meanings.keys().map(String::as_str).filter(|name| !name.contains(':'))
+    }
+
+    /// The names of a program.
+    pub fn of(names: &Names, header: &Header) -> Scope {
+        let mut scope = Scope { range: header.counts.range, ..Scope::default() };
+        scope.names.threads.clone_from(&names.threads);
+        for (number, name) in (1..).zip(&names.words) {
+            scope.meanings.insert(name.clone(), Meaning::Word(number));
+        }
+        for (number, name) in (1..).zip(&names.threads) {
+            scope.meanings.insert(name.clone(), Meaning::Thread(number));
+        }
+        for (name, owner) in names.registers.iter().zip(&header.owners) {
+            let thread = names.thread(*owner);
+            let plain = name.strip_prefix(&qualified(thread, "")).unwrap_or(name);
+            scope.name_register(plain, thread);
+        }
+        scope
+    }
+
+    /// The tokens with `THREAD:REGISTER` as one name: of every register, or of those that are named alike.
+    pub fn with_qualified(&self, list: Vec<(Token, Place)>, all: bool) -> Vec<(Token, Place)> {
+        let mut joined: Vec<(Token, Place)> = Vec::with_capacity(list.len());
+        for (token, place) in list {
+            let name = match (&joined[..], &token) {
+                ([.., (Token::Name(thread), _), (Token::Mark(":"), _)], Token::Name(name)) => {
+                    let alike = matches!(self.meanings.get(name), Some(Meaning::Alike));
+                    Some(qualified(thread, name)).filter(|_| all || alike)
+                }
+                _ => None,
+            };
+            match name.filter(|name| self.meanings.contains_key(name)) {
+                Some(name) => {
+                    joined.pop();
+                    let place = joined.pop().map_or(place, |(_, place)| place);
+                    joined.push((Token::Name(name), place));
+                }
+                None => joined.push((token, place)),
+            }
+        }
+        joined
+    }
+
+    /// One more register, of this thread. A name that another thread has given to one of its own is told behind the
+    /// thread's from then on.
+    fn name_register(&mut self, name: &str, thread: &str) {
+        let number = self.names.registers.len() as u8 + 1;
+        let own = qualified(thread, name);
+        let first = self.plain.iter().position(|(plain, _)| plain == name);
+        if let Some(first) = first {
+            self.names.registers[first] = qualified(&self.plain[first].1, name);
+            self.meanings.insert(name.into(), Meaning::Alike);
+        } else {
+            self.meanings.insert(name.into(), Meaning::Register(number));
+        }
+        self.names.registers.push(first.map_or(name.into(), |_| own.clone()));
+        self.meanings.insert(own, Meaning::Register(number));
+        self.plain.push((name.into(), thread.into()));
     }
 
     /// What `let` has named so far.
@@ -59,6 +135,13 @@ impl Scope {
     }
 
     fn add(&mut self, name: &str, meaning: Meaning, line: Place) -> Result<(), Mistake> {
+        self.is_free(name, line)?;
+        self.meanings.insert(name.to_string(), meaning);
+        Ok(())
+    }
+
+    /// May this name be given to something?
+    fn is_free(&self, name: &str, line: Place) -> Result<(), Mistake> {
         let fault = |text: String| Err(Mistake { line, text });
         if KEYWORDS.contains(&name) {
             return fault(format!("`{name}` is a word of the language and cannot be a name"));
@@ -66,7 +149,6 @@ impl Scope {
         if self.meanings.contains_key(name) {
             return fault(format!("the name `{name}` is given twice"));
         }
-        self.meanings.insert(name.to_string(), meaning);
         Ok(())
     }
 
@@ -109,8 +191,10 @@ impl Scope {
         owners: &mut Vec<(usize, (String, Place))>,
     ) -> Result<(), Mistake> {
         let (name, line) = name_at(tokens, i + 1)?;
-        self.add_register(&name, 0, mark(tokens, i), line)?;
-        owners.push((self.owners.len() - 1, name_at(tokens, i + 3)?));
+        let owner = name_at(tokens, i + 3);
+        let thread = owner.as_ref().map_or("", |(thread, _)| thread);
+        self.add_register(&name, thread, 0, (mark(tokens, i), line))?;
+        owners.push((self.owners.len() - 1, owner?));
         Ok(())
     }
 
@@ -142,10 +226,11 @@ impl Scope {
 
     fn scan_registers(&mut self, tokens: &[(Token, Place)], i: usize) -> Result<(), Mistake> {
         let owner = self.names.threads.len() as u8;
+        let thread = self.names.threads.last().cloned().unwrap_or_default();
         let mut at = i + 1;
         loop {
             let (name, line) = name_at(tokens, at)?;
-            self.add_register(&name, owner, mark(tokens, i), line)?;
+            self.add_register(&name, &thread, owner, (mark(tokens, i), line))?;
             if tokens.get(at + 1).map(|t| &t.0) != Some(&Token::Mark(",")) {
                 return Ok(());
             }
@@ -153,18 +238,29 @@ impl Scope {
         }
     }
 
+    /// One more register, with its start mark and its place, if an image has room for it and its thread has none of this name.
     fn add_register(
         &mut self,
         name: &str,
+        thread: &str,
         owner: u8,
-        mark: u8,
-        line: Place,
+        (mark, line): (u8, Place),
     ) -> Result<(), Mistake> {
-        let most = limits::REGISTERS;
-        let number = numbered("registers", &mut self.names.registers, name, most, line)?;
+        let count = self.names.registers.len() + 1;
+        if count > usize::from(limits::REGISTERS) {
+            let text = format!("{count} registers; an image has at most {}", limits::REGISTERS);
+            return Err(Mistake { line, text });
+        }
+        let is_other =
+            matches!(self.meanings.get(name), Some(Meaning::Register(_) | Meaning::Alike))
+                && !self.meanings.contains_key(&qualified(thread, name));
+        if !is_other {
+            self.is_free(name, line)?;
+        }
         self.owners.push(owner);
         self.marks.push(mark);
-        self.add(name, Meaning::Register(number), line)
+        self.name_register(name, thread);
+        Ok(())
     }
 
     /// The values there are, for messages.
@@ -255,6 +351,7 @@ pub fn describe(meaning: Option<&Meaning>) -> String {
         Some(Meaning::Word(_)) => "is a word".into(),
         Some(Meaning::Register(_)) => "is a register".into(),
         Some(Meaning::Thread(_)) => "is a thread".into(),
+        Some(Meaning::Alike) => "is a register of several threads: `THREAD:NAME` says which".into(),
         Some(Meaning::Short(a)) => match a.sort() {
             Sort::Assertion => "stands for an assertion".into(),
             sort => format!("stands for a {}", sort_name(sort)),

@@ -67,7 +67,10 @@ fn commands_that_accept_fit_the_schema() {
     let (old, new) = (example("update/old"), example("update/new"));
     let (handed, table) = (folder.file("new.image"), folder.file("new.table"));
     let asked = folder.with("asked.program", ASKED);
-    let commands: [&[&str]; 13] = [
+    let code =
+        "atomic_int x;\nvoid t(void) { atomic_store_explicit(&x, 1, memory_order_relaxed); }\n";
+    let code = folder.with("code.c", code);
+    let commands: [&[&str]; 22] = [
         &["build", &text, "-o", &image],
         &["infer", &asked, "-o", &folder.file("found.outline")],
         &["check", &text, &image],
@@ -75,12 +78,21 @@ fn commands_that_accept_fit_the_schema() {
         &["explain", &text],
         &["explore", &text],
         &["explore", &text, "--outcome", "b = 1"],
+        &["explore", &text, "--outcome", "forall (b = 1)"],
+        &["explore", &text, "--outcomes", "--runs"],
+        &["litmus", &litmus("MP+ra"), "--prove", "--runs"],
+        &["litmus", &litmus("CoWW")],
+        &["export", "--litmus", &text],
+        &["import", &code, "-o", &folder.file("code.program")],
+        &["same", &code, &folder.file("code.program")],
+        &["fmt", &text],
         &["report", &text, "-o", &page],
         &["draw", &text, "-o", &folder.file("r.svg")],
         &["trim", &image, "-o", &small],
         &["bill", &text, "--tariff", &tariff],
         &["replay", &text, &trace],
         &["handover", &old, &new, "-o", &handed, "--table", &table],
+        &["migrate", "actors", &image, "-o", &folder.file("m.image")],
     ];
     for args in commands {
         answers(args);
@@ -89,6 +101,10 @@ fn commands_that_accept_fit_the_schema() {
         answers(&["serve", &format!("{}/two-callers.calls", folder_of_examples())]).len(),
         9
     );
+}
+
+fn litmus(name: &str) -> String {
+    format!("{}/litmus/{name}.litmus", folder_of_examples())
 }
 
 fn folder_of_examples() -> String {
@@ -102,7 +118,14 @@ fn commands_that_refuse_fit_the_schema() {
     let tariff = folder.with("tariff", "start 1\nstep 2\ntaken 3\ninterference 4\nleast 5\n");
     let cut = folder.with("cut.image", "\0");
     let broken = folder.with("broken.program", &ASKED.replace("flag :=rel 1", "flag := 1"));
-    let commands: [&[&str]; 14] = [
+    let damaged = folder.with("damaged.litmus", "C damaged\n{}\nP0 (atomic_int* x) { x = ");
+    let code =
+        "atomic_int x;\nvoid t(void) { atomic_store_explicit(&x, 1, memory_order_relaxed); }\n";
+    let (code, text) = (folder.with("code.c", code), example("polling"));
+    let commands: [&[&str]; 17] = [
+        &["litmus", &litmus("SB")],
+        &["litmus", &litmus("MP+ra"), &damaged],
+        &["same", &code, &text],
         &["infer", &broken, "-o", &folder.file("none.outline")],
         &["build", &broken, "-o", &folder.file("none.image")],
         &["build", &wrong, "-o", &image],

@@ -2,6 +2,7 @@
 
 mod across;
 mod duties;
+mod outcomes;
 mod search;
 mod show;
 mod store;
@@ -9,6 +10,7 @@ pub mod truth;
 
 pub use across::{across, BreakAcross, FoundAcross};
 pub use duties::{find, seek, Run, Sought};
+pub use outcomes::{has_ended, last_values, last_view, outcomes, Final, Outcomes};
 pub use search::{explore, reachable, Bounds, Break, Cut, Fault, Found, Outcome};
 pub use show::describe;
 pub use store::ROOM;
