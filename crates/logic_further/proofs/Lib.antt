@@ -8,4 +8,7 @@ pub mod Sound
 pub mod Certified
 pub mod RrcTwoWriters
 pub mod TicketWait
+pub mod PetersonJoint
+pub mod Corr2
+pub mod Weaker
 pub mod Neighbours
