@@ -32,7 +32,7 @@ all-weaken f g h [] c = tt
 all-weaken f g h (n ∷ l) c = and-both (g n) (all g l) (h n (search and-left)) (all-weaken f g h l (search and-right))
 
 -- a covered write: only the flag cov of x changes
-cover-same : (P : Program) (b : Bool) (x p : ℕ) (s : State) (v : View) → Agree (notFlag x) (at P s v) (at P (coverIf b x p s) v)
+pub cover-same : (P : Program) (b : Bool) (x p : ℕ) (s : State) (v : View) → Agree (notFlag x) (at P s v) (at P (coverIf b x p s) v)
 cover-same P false x p s v = agree-refl
 cover-same P true x p s v = record { same = go }
   where

@@ -75,12 +75,12 @@ pub All-back : (F P Q : View → Type 0) (g : View → View) → ((v : View) →
 All-back F P Q g f [] k h = tt
 All-back F P Q g f (v ∷ l) k h = (f v (k .0) (h .0), All-back F P Q g f l (k .1) (h .1))
 
-take-map : (g : View → View) (k : ℕ) (l : List View) → take k (map g l) ≡ map g (take k l)
+pub take-map : (g : View → View) (k : ℕ) (l : List View) → take k (map g l) ≡ map g (take k l)
 take-map g zero l = refl
 take-map g (suc k) [] = refl
 take-map g (suc k) (v ∷ l) = ap (λ (r : List View). g v ∷ r) (take-map g k l)
 
-drop-map : (g : View → View) (k : ℕ) (l : List View) → drop k (map g l) ≡ map g (drop k l)
+pub drop-map : (g : View → View) (k : ℕ) (l : List View) → drop k (map g l) ≡ map g (drop k l)
 drop-map g zero l = refl
 drop-map g (suc k) [] = refl
 drop-map g (suc k) (v ∷ l) = drop-map g k l

@@ -1,4 +1,5 @@
--- Demand 3: a well-formed program whose obligations are derived is true to its outline in every run. One induction over the list of steps.
+-- Demand 3: a well-formed program whose obligations are derived is true to its outline in every run. One induction over the list of steps,
+-- over any rules that are sound: it asks that the obligations are valid, by whatever rules they were derived.
 use mathlib.Core.Path.{_≡_, refl, ap, sym, _∙_, subst}
 use mathlib.Core.Bool.{Bool, true, false, cond, not}
 use mathlib.Core.List.{List, [], _∷_, _++_, map}
@@ -23,6 +24,7 @@ use Rattle.logic.specs.Claims.{Claim, NeverBoth, threadsIn, impossible, 
 use Rattle.logic.specs.WellFormed.{proper, WellFormed}
 use Rattle.logic.specs.Derivation.{Derived, by-rule, Proved}
 use Rattle.semantics.proofs.Base.{by-word, upds, and-left, and-right, and-both, is-true, All-left, All-right}
+use Rattle.semantics.proofs.Cuts.{All-map}
 use Rattle.logic.proofs.Agreement.{keep, agree-refl, only-any}
 use Rattle.semantics.proofs.Invariant.{Wf, start-wf}
 use Rattle.semantics.proofs.Halves.{touch, allNotes, pick, finish}
@@ -39,14 +41,14 @@ module _ (P : Program) (ok : (t k : ℕ) → Within (P .threads) t → suc k < P
   pub derived-valid : {s : Statement} → Derived P s → Valid P s
   derived-valid (by-rule {n = n} {ps = ps} {s = s} d a f) = sound P ok n s ps d a (all-of (Valid P) s ps (λ i b. derived-valid (f i b)))
 
-  -- of an instruction that is no pair by the triple, of a pair by the statement about the whole
-  derived-triple : (t k : ℕ) (c : Instr) → P .code t k ≡ c → (a b : Assertion) → Derived P (taking t k c a b) → ValidTriple P t c a b
-  derived-triple t k c e a b = go (isPair c) refl
-    where
-      go : (p : Bool) → isPair c ≡ p → Derived P (elim p [ true ↦ pair t k a b | false ↦ triple t k a b ]) → ValidTriple P t c a b
-      go true q d = subst (λ (i : Instr). ValidTriple P t i a b) e (derived-valid d)
-      go false q d = subst (λ (i : Instr). ValidTriple P t i a b)
-          (ap first e ∙ first-alone c (subst (λ (p : Bool). T (not p)) (sym q) tt)) (derived-valid d)
+-- of an instruction that is no pair the triple, of a pair the statement about the whole
+taken-triple : (P : Program) (t k : ℕ) (c : Instr) → P .code t k ≡ c → (a b : Assertion) → Valid P (taking t k c a b) → ValidTriple P t c a b
+taken-triple P t k c e a b = go (isPair c) refl
+  where
+    go : (p : Bool) → isPair c ≡ p → Valid P (elim p [ true ↦ pair t k a b | false ↦ triple t k a b ]) → ValidTriple P t c a b
+    go true q d = subst (λ (i : Instr). ValidTriple P t i a b) e d
+    go false q d = subst (λ (i : Instr). ValidTriple P t i a b)
+        (ap first e ∙ first-alone c (subst (λ (p : Bool). T (not p)) (sym q) tt)) d
 
 -- members of the list of obligations
 flat-in : {A B : Type 0} (Q : B → Type 0) (f : A → List B) (l : List A) → All Q (flat f l) → All (λ a. All Q (f a)) l
@@ -57,13 +59,13 @@ map-in : {A B : Type 0} (Q : B → Type 0) (f : A → B) (l : List A) → All Q 
 map-in Q f [] h = tt
 map-in Q f (a ∷ l) h = (h .0, map-in Q f l (h .1))
 
-below-in : (Q : ℕ → Type 0) (n : ℕ) → All Q (below n) → (k : ℕ) → k < n → Q k
+pub below-in : (Q : ℕ → Type 0) (n : ℕ) → All Q (below n) → (k : ℕ) → k < n → Q k
 below-in Q zero h k b = absurd (omega arith)
 below-in Q (suc n) h k b =
     by-word n (λ k. k < suc n → Q k) (λ b. All-right Q (below n) (n ∷ []) h .0)
     (λ k q b. below-in Q n (All-left Q (below n) (n ∷ []) h) k (omega arith)) k b
 
-up-in : (Q : ℕ → Type 0) (n : ℕ) → All Q (upTo n) → (k : ℕ) → Within n k → Q k
+pub up-in : (Q : ℕ → Type 0) (n : ℕ) → All Q (upTo n) → (k : ℕ) → Within n k → Q k
 up-in Q n h zero w = absurd (omega (arith, w .0))
 up-in Q n h (suc k) w = below-in (λ k. Q (suc k)) n (map-in Q suc (below n) h) k (omega (arith, w .1))
 
@@ -115,9 +117,13 @@ pub record Inv (P : Program) (O : Outline) (s : State) : Type 0 where
   pub point : (t : ℕ) → Within (P .threads) t → s .point t < P .points t
   pub true-there : Holds P O s
 
-module _ (P : Program) (O : Outline) (W : WellFormed P O) (D : Proved P O) where
+-- the statement of each obligation is valid
+abbrev pub AllValid : Program → Outline → Type 0
+AllValid P O = All (λ o. Valid P (wants P O o)) (obligations P)
+
+module _ (P : Program) (O : Outline) (W : WellFormed P O) (D : AllValid P O) where
   abbrev Goal : Obligation → Type 0
-  Goal o = Derived P (wants P O o)
+  Goal o = Valid P (wants P O o)
 
   -- the points change, and nothing else
   moved-on : (s : State) (t k : ℕ) (a : Assertion) → T (startless a) → True P s a → True P (withPoint s t k) a
@@ -140,10 +146,10 @@ module _ (P : Program) (O : Outline) (W : WellFormed P O) (D : Proved P O) where
           subst (λ (s : State). True P s b) halves
           (triple-moved (inv .wf) t p (touch A) (allNotes A ns) a b v z (may-pick A ns t p s may) h)
 
-      -- so does what is derived of it
-      goes-on : (a b : Assertion) → Derived P (taking t (s .point t) (act A ns) a b) → T (startless a) → True P s a
+      -- so does what its statement says
+      goes-on : (a b : Assertion) → Valid P (taking t (s .point t) (act A ns) a b) → T (startless a) → True P s a
           → True P (exec P (act A ns) t p s) b
-      goes-on a b d = moves-on a b (derived-triple P (W .instructions) t (s .point t) (act A ns) e a b d)
+      goes-on a b d = moves-on a b (taken-triple P t (s .point t) (act A ns) e a b d)
 
       acted-wf : Wf P (exec P (act A ns) t p s)
       acted-wf =
@@ -178,11 +184,11 @@ module _ (P : Program) (O : Outline) (W : WellFormed P O) (D : Proved P O) where
             u b);
       }
         where
-          next : Derived P (taking t (s .point t) (act A ns) (O t (s .point t)) (O t (suc (s .point t))))
+          next : Valid P (taking t (s .point t) (act A ns) (O t (s .point t)) (O t (suc (s .point t))))
           next = rw e at (rw e at (each-step P Goal D t (s .point t) t-in more)) .0
 
           kept : (u : ℕ) → Within (P .threads) u → u ≢ t
-              → Derived P (taking t (s .point t) (act A ns) (bothA (O u (s .point u)) (O t (s .point t))) (O u (s .point u)))
+              → Valid P (taking t (s .point t) (act A ns) (bothA (O u (s .point u)) (O t (s .point t))) (O u (s .point u)))
           kept u b n =
               let all = rw e at (each-other P Goal D u (s .point u) t (s .point t) b (inv .point u b) t-in more n) in
               rw e at (subst (All Goal) (every-action P u (s .point u) t (s .point t) A ns) all .0)
@@ -213,15 +219,15 @@ module _ (P : Program) (O : Outline) (W : WellFormed P O) (D : Proved P O) where
         target = ltb→lt a (P .points t) (and-right (only isReg e) (ltb a (P .points t))
             (subst (λ (i : Instr). T (proper P (P .points t) i)) q (W .instructions t (s .point t) t-in more)))
 
-        to-target : Derived P (implies (bothA (O t (s .point t)) (holds e)) (O t a))
+        to-target : Valid P (implies (bothA (O t (s .point t)) (holds e)) (O t a))
         to-target = rw q at (obs .0)
 
-        to-next : Derived P (implies (bothA (O t (s .point t)) (holds (Formula.not e))) (O t (suc (s .point t))))
+        to-next : Valid P (implies (bothA (O t (s .point t)) (holds (Formula.not e))) (O t (suc (s .point t))))
         to-next = rw q at (obs .1 .0)
 
         go : (b : Bool) → test (P .range) (onRegs (s .reg)) e ≡ b → Inv P O (withPoint s t (cond b a (suc (s .point t))))
-        go true z = goes a target (derived-valid P (W .instructions) to-target s (inv .wf) (inv .true-there t t-in, is-true z))
-        go false z = goes (suc (s .point t)) more (derived-valid P (W .instructions) to-next s (inv .wf)
+        go true z = goes a target (to-target s (inv .wf) (inv .true-there t t-in, is-true z))
+        go false z = goes (suc (s .point t)) more (to-next s (inv .wf)
             (inv .true-there t t-in, subst (λ (b : Bool). T (not b)) (sym z) tt))
 
     stepped : (c : Instr) → instrAt P s t ≡ c → (p : ℕ) → T (allowed c t p s) → Inv P O (exec P c t p s)
@@ -244,34 +250,64 @@ module _ (P : Program) (O : Outline) (W : WellFormed P O) (D : Proved P O) where
           stepped s inv (m .thread) t-in more (instrAt P s (m .thread)) refl (m .position) (search (and-left, and-right))
       go false e = inv
 
-  pub run-keeps : (l : List Step) (s : State) → Inv P O s → Inv P O (run P s l)
-  run-keeps [] s inv = inv
-  run-keeps (m ∷ l) s inv = run-keeps l (step P s m) (step-keeps s inv m)
+  pub valid-keeps : (l : List Step) (s : State) → Inv P O s → Inv P O (run P s l)
+  valid-keeps [] s inv = inv
+  valid-keeps (m ∷ l) s inv = valid-keeps l (step P s m) (step-keeps s inv m)
 
-  pub start-inv : (s : State) → Start P s → Inv P O s
-  start-inv s st =
+  pub valid-start : (s : State) → Start P s → Inv P O s
+  valid-start s st =
       let wf : Wf P s = start-wf (W .start-values) st in
       record {
         wf = wf;
         point = λ t b. omega (arith, st .points t, W .some-point t b);
-        true-there = λ t b. rw (st .points t) (derived-valid P (W .instructions) (each-start P Goal D t b) s wf st);
+        true-there = λ t b. rw (st .points t) (each-start P Goal D t b s wf st);
       }
 
--- the theorem
-pub every-run : (P : Program) (O : Outline) → WellFormed P O → Proved P O → EveryRun P O
-every-run P O W D = record { holds = λ s st l. run-keeps P O W D l s (start-inv P O W D s st) .true-there }
+  -- the theorem, of valid obligations
+  pub valid-every-run : EveryRun P O
+  valid-every-run = record { holds = λ s st l. valid-keeps l s (valid-start s st) .true-there }
 
--- a claim: its assertions are true of a run's state, and false together
-module _ (P : Program) (O : Outline) (W : WellFormed P O) (D : Proved P O) where
-  not-together : (lower : Bool) (a b : Assertion) → Derived P (impossible lower a b) → (s : State) → Wf P s → True P s a → True P s b → ⊥
-  not-together true a b d s wf h g = derived-valid P (W .instructions) d s wf (h, g)
-  not-together false a b d s wf h g = derived-valid P (W .instructions) d s wf (g, h)
+  -- a claim: its assertions are true of a run's state, and false together
+  not-together : (lower : Bool) (a b : Assertion) → Valid P (impossible lower a b) → (s : State) → Wf P s → True P s a → True P s b → ⊥
+  not-together true a b d s wf h g = d s wf (h, g)
+  not-together false a b d s wf h g = d s wf (g, h)
 
-  pub never-both : (c : Claim) → threadsIn P c → Derived P (claims O c) → NeverBoth P c
-  never-both c w d = record { never = λ s st l. go (run P s l) (run-keeps P O W D l s (start-inv P O W D s st)) }
+  pub valid-never-both : (c : Claim) → threadsIn P c → Valid P (claims O c) → NeverBoth P c
+  valid-never-both c w d = record { never = λ s st l. go (run P s l) (valid-keeps l s (valid-start s st)) }
     where
       go : (s : State) → Inv P O s → s .point (c .thread) ≡ c .point → s .point (c .other) ≡ c .otherPoint → ⊥
       go s inv p q =
           not-together (ltb (c .thread) (c .other)) (O (c .thread) (c .point)) (O (c .other) (c .otherPoint)) d s (inv .wf)
           (subst (λ (k : ℕ). True P s (O (c .thread) k)) p (inv .true-there (c .thread) (w .0)))
           (subst (λ (k : ℕ). True P s (O (c .other) k)) q (inv .true-there (c .other) (w .1)))
+
+-- ANY SET OF SOUND RULES: what is derivable by it is valid
+module _ (P : Program) (O : Outline) (W : WellFormed P O) (Derivable : Statement → Type 0)
+    (valid : (s : Statement) → Derivable s → Valid P s) (D : All (λ o. Derivable (wants P O o)) (obligations P)) where
+  pub derivable-valid : AllValid P O
+  derivable-valid = All-map (λ o. Derivable (wants P O o)) (λ o. Valid P (wants P O o)) (λ o. valid (wants P O o)) (obligations P) D
+
+  pub every-run-by : EveryRun P O
+  every-run-by = valid-every-run P O W derivable-valid
+
+  pub never-both-by : (c : Claim) → threadsIn P c → Derivable (claims O c) → NeverBoth P c
+  never-both-by c w d = valid-never-both P O W derivable-valid c w (valid (claims O c) d)
+
+-- THE PUBLISHED RULES are one such set
+module _ (P : Program) (O : Outline) (W : WellFormed P O) (D : Proved P O) where
+  proved-valid : AllValid P O
+  proved-valid = derivable-valid P O W (Derived P) (λ s. derived-valid P (W .instructions)) D
+
+  pub run-keeps : (l : List Step) (s : State) → Inv P O s → Inv P O (run P s l)
+  run-keeps = valid-keeps P O W proved-valid
+
+  pub start-inv : (s : State) → Start P s → Inv P O s
+  start-inv = valid-start P O W proved-valid
+
+-- the theorem
+pub every-run : (P : Program) (O : Outline) → WellFormed P O → Proved P O → EveryRun P O
+every-run P O W D = every-run-by P O W (Derived P) (λ s. derived-valid P (W .instructions)) D
+
+pub never-both : (P : Program) (O : Outline) (W : WellFormed P O) (D : Proved P O) (c : Claim) → threadsIn P c → Derived P (claims O c)
+    → NeverBoth P c
+never-both P O W D = never-both-by P O W (Derived P) (λ s. derived-valid P (W .instructions)) D

@@ -115,7 +115,7 @@ first-alone (branch e a) h = refl
 
 -- WHAT VALUES VIEWS HAVE
 module _ {P : Program} {s : State} (wf : Wf P s) where
-  small-at : (v : View) → Names (s .size) v → Small (P .range) (at P s v)
+  pub small-at : (v : View) → Names (s .size) v → Small (P .range) (at P s v)
   small-at v h = record { reg = wf .reg-small; word = λ x. wf .small x (v x) (h x) }
 
   small-held : Small (P .range) (onRegs (s .reg))
@@ -125,7 +125,7 @@ module _ {P : Program} {s : State} (wf : Wf P s) where
   small-all t (v ∷ l) pr = All-map _ _ (λ w h. small-at w (h .0)) (v ∷ l) (from-all (s .size) (s .view t) (v ∷ l) pr)
 
   -- a test of registers is the same at every view
-  at-held : (v : View) (e : Test) → T (only isReg e) → test (P .range) (at P s v) e ≡ test (P .range) (onRegs (s .reg)) e
+  pub at-held : (v : View) (e : Test) → T (only isReg e) → test (P .range) (at P s v) e ≡ test (P .range) (onRegs (s .reg)) e
   at-held v e c = test-agree (P .range) (regs-same refl) e c
 
 -- INTERVALS: 30, 45
@@ -330,7 +330,7 @@ module _ (P : Program) where
   -- every instruction is proper
   module _ (ok : (t k : ℕ) → Within (P .threads) t → suc k < P .points t → T (proper P (P .points t) (P .code t k))) where
     -- the instruction of an admitted triple
-    abbrev Proper : Statement → Type 0
+    abbrev pub Proper : Statement → Type 0
     Proper (inside i j) = Unit {0}
     Proper (implies a b) = Unit {0}
     Proper (triple t k a b) = T (proper P (P .points t) (half P t k))
@@ -341,18 +341,18 @@ module _ (P : Program) where
         ok t k (leb→le 1 t (search (and-left, and-right)), leb→le t (P .threads) (search (and-left, and-right)))
         (ltb→lt (suc k) (P .points t) (search (and-left, and-right)))
 
-    its-proper : (s : Statement) → T (admitted P s) → Proper s
+    pub its-proper : (s : Statement) → T (admitted P s) → Proper s
     its-proper (inside i j) h = tt
     its-proper (implies a b) h = tt
     its-proper (triple t k a b) h = first-proper P (P .points t) (P .code t k) (at-proper t k a b h)
     its-proper (pair t k a b) h = at-proper t k a b h
 
-    its-good : (t k : ℕ) (A : Access) (ns : List Note) → half P t k ≡ act A ns → T (proper P (P .points t) (half P t k))
+    pub its-good : (t k : ℕ) (A : Access) (ns : List Note) → half P t k ≡ act A ns → T (proper P (P .points t) (half P t k))
         → Good P (touch A) (allNotes A ns)
     its-good t k A ns e h = good P (P .points t) A ns (subst (λ (z : Instr). T (proper P (P .points t) z)) e h)
 
     -- its formula is over registers
-    written : (t k : ℕ) (m : Mode) (x : ℕ) (f : Value) → half P t k ≡ act (Machine.write m x f) []
+    pub written : (t k : ℕ) (m : Mode) (x : ℕ) (f : Value) → half P t k ≡ act (Machine.write m x f) []
         → T (proper P (P .points t) (half P t k)) → T (only isReg f)
     written t k m x f e h =
         let g : T (properAccess P (Machine.write m x f)) =
@@ -360,7 +360,7 @@ module _ (P : Program) where
         search (and-left, and-right)
 
     -- it lacks the result register
-    unnamed : (t k : ℕ) (m : Mode) (x : ℕ) (f : Value) → half P t k ≡ act (Machine.write m x f) []
+    pub unnamed : (t k : ℕ) (m : Mode) (x : ℕ) (f : Value) → half P t k ≡ act (Machine.write m x f) []
         → T (proper P (P .points t) (half P t k)) → T (lacksResult m f)
     unnamed t k m x f e h =
         let g : T (properAccess P (Machine.write m x f)) =

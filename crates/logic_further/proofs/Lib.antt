@@ -1,0 +1,14 @@
+pub mod Emptied
+pub mod Together
+pub mod Sums
+pub mod Divided
+pub mod Decided
+pub mod Landing
+pub mod Sound
+pub mod Certified
+pub mod RrcTwoWriters
+pub mod TicketWait
+pub mod PetersonJoint
+pub mod Corr2
+pub mod Weaker
+pub mod Neighbours
