@@ -1,8 +1,8 @@
 //! The commands by their names, and what is said of them.
 
 use crate::command::{
-    bill, build, check, draw, explain, explore, export, handover, import, infer, litmus,
-    migrate, print, replay, report, same, serve, show, trim, Done, Status,
+    bill, build, check, draw, explain, explore, export, handover, import, infer, litmus, migrate,
+    print, replay, report, same, serve, show, trim, Done, Status,
 };
 use crate::text::nearest::nearest;
 use crate::{fmt, lsp, watch};
