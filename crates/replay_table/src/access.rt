@@ -77,7 +77,8 @@ fn insertion(
     }
 }
 
-// Thread `t` inserts a write behind `position` of word `x`: its view is the one stored with the write, and the other views keep their writes.
+// Thread `t` inserts a write behind `position` of word `x`: its view is the one stored with the write, and the other views keep their
+// writes.
 fn grow_by(
     shape: MemoryShape,
     words: u8,
